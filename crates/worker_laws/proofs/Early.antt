@@ -1,19 +1,15 @@
 -- The calls that a driver made so far, from where its start saw both sides off on.
 use Rattle.std.proofs.Common.{◌≡◌, ℕ, Bool, true, false, List, [], ◌∷◌, ◌++◌, ap, ◌∙◌, append_assoc}
 use Rattle.nic_device.specs.DmaArena.Numbers.{Numbers}
-use Rattle.nic_device.specs.DmaArena.Block.{Block}
 use Rattle.nic_device.specs.RegTable.declared.rows.RowId.TheVariants.{Rxdctl}
 use Rattle.nic_device.specs.DmaRing.declared.dir.Dir.{Dir}
 use Rattle.nic_device.specs.DmaRing.declared.dir.Dir.TheVariants.{Rx, Tx}
-use Rattle.nic_device.specs.declared.event.Event.{Event}
-use Rattle.nic_device.specs.declared.event.Reply.{Reply}
-use Rattle.workers.specs.DeviceLock.Pass.{call_of}
 use Rattle.workers.specs.DeviceLock.declared.entry.Call.{Call}
 use Rattle.pmd.specs.PmdSeam.Both.{IsSwitched, both_quiet, receive_polled}
-use Rattle.pmd.specs.PmdSeam.Made.{Adds}
 use Rattle.pmd.specs.PmdSeam.Named.{AtPort}
 use Rattle.pmd.specs.PmdSeam.QueueMade.{AreMade, Sees, Sets}
 use Rattle.pmd.specs.PmdSeam.Sides.{polled, quiet, ring_words}
+use Rattle.pmd.specs.PmdSeam.Slots.{ring_blocks}
 use Rattle.pmd.specs.PmdRx.Plays.{Plays}
 use Rattle.pmd.specs.PmdRx.Receive.{Receive}
 use Rattle.pmd.specs.Halves.{Drives, Halves}
@@ -21,6 +17,7 @@ use Rattle.pmd.specs.Running.{Running}
 use Rattle.pmd.specs.Started.{AreUp}
 use Rattle.pmd.specs.Starting.{IsPrepared}
 use Rattle.start_laws.proofs.Made.{extends}
+use Rattle.start_laws.proofs.Prepared.{lends_extend}
 
 -- some calls were made
 abbrev pub GoesOn : List Call → List Call → Type 0
@@ -30,13 +27,11 @@ pub goes_on : (old mid new : List Call) → GoesOn old mid → GoesOn mid new �
 goes_on old mid new (cs, one) (ds, two) =
     (cs ++ ds, two ∙ ap (λ (l : List Call). l ++ ds) one ∙ append_assoc old cs ds)
 
-adds_goes : (old new : List Call) (e : Event Block) (r : Reply Block) → Adds old new e r → GoesOn old new
-adds_goes old new e r (before, is, stepped) = (before ++ call_of e r ∷ [], is)
-
 prepared_goes : (q : AtPort) (side : Dir) (size : ℕ) (old : List Call) (a : Numbers) (new : List Call) (b : Numbers)
     (ring : ℕ) → IsPrepared q side size old a new b ring → GoesOn old new
 prepared_goes q side size old a new b ring x =
-    goes_on old x.mid new (extends q (ring_words side ring size) old x.mid x.words) (adds_goes x.mid new _ _ x.lent)
+    goes_on old x.mid new (extends q (ring_words side ring size) old x.mid x.words)
+    (lends_extend (ring_blocks ring size) x.mid new x.lent)
 
 switched_goes : (q : AtPort) (old new : List Call) (on : Bool) (polls : ℕ) → IsSwitched q old new on polls
     → GoesOn old new

@@ -10,7 +10,7 @@ use nic_device::{Buf, Event, OutOfMemory};
 /// Why a call of the driver fails.
 #[derive(Debug, Drop)]
 pub enum PmdFault {
-    /// A ring's size is no multiple of 8 from 8 to 128, or a packet's length is 0 or above 1,514.
+    /// A ring's size is no multiple of 8 from 8 to 1,024, or a packet's length is 0 or above 1,514.
     BadSize,
     /// A packet's block can't go home to the driver's arena.
     ForeignBlock,

@@ -18,7 +18,8 @@ returns-then-is_err-clause-failed g c = (
 
 pub returns-in-Err-clause-failed : goal.returns-in-Err-clause-failed
 returns-in-Err-clause-failed g c =
-    (c.args.ring, c.requires.free, inl (c.in-Err.ensures.failed, refl, c.reserve.ensures.items ∙ c.new-lent.ensures.items))
+    let none = c.reserve.ensures.items ∙ c.new-lent.ensures.items in
+    (c.args.ring, c.requires.free, inl (c.in-Err.ensures.failed, refl, none))
 
 pub returns-in-Err-lend_run-clause-failed : goal.returns-in-Err-lend_run-clause-failed
 returns-in-Err-lend_run-clause-failed g c = (

@@ -147,7 +147,7 @@ const STARTS: [(&str, Steps, u16, (u32, u32), Why, bool); 7] = [
     ("a ring of twelve is of no size", Steps::OnQueue(0), 12, (4, 32), Why::BadSize, false),
     ("a ring of 1,032 is of no size", Steps::OnQueue(0), 1032, (0, 2048), Why::BadSize, false),
     ("258 blocks are too few for a ring of 256", Steps::OnQueue(0), 256, (0, 258), Why::NoBuffer, false),
-    ("a long ring on a queue beside which another is stepped on", Steps::OnQueue(5), 256, (0, 259), Why::StartTimeout, true),
+    ("long rings beside which another queue is stepped on", Steps::OnQueue(5), 256, (0, 259), Why::StartTimeout, true),
     ("eight blocks are too few for a ring of eight", Steps::OnQueue(0), 8, (0, 8), Why::NoBuffer, false),
     ("a queue beside which another is stepped on", Steps::OnQueue(5), 8, (4, 32), Why::StartTimeout, true),
     ("a queue that is never stepped", Steps::Nothing, 8, (4, 32), Why::StartTimeout, true),

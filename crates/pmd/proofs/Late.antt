@@ -49,8 +49,8 @@ lending_late (fault.Call refusal) old new block fails = tt
 
 pub preparing_late : (f : PmdFault) (q : AtPort) (side : Dir) (size : ℕ) (old : List Call) (a : Numbers)
     (new : List Call) (b : Numbers) (out : List ℕ) → PreparingFails f q side size old a new b out → ComesLate f
-preparing_late f q side size old a new b out (ring, inl (stops, same, none)) = stops_late f q old new _ stops
-preparing_late f q side size old a new b out (ring, inr (mid, words, stops)) =
+preparing_late f q side size old a new b out (ring, free, inl (stops, same, none)) = stops_late f q old new _ stops
+preparing_late f q side size old a new b out (ring, free, inr (mid, words, stops)) =
     lending_late f stops.mid new _ stops.fails
 
 pub receive_late : (f : PmdFault) (q : AtPort) (size : ℕ) (old : List Call) (a : Numbers) (new : List Call)

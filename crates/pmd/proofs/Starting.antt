@@ -82,9 +82,9 @@ filled_rings q size old mid new a b d e v w s ready also keeps =
 
 pub preparing_drawn : (f : PmdFault) (q : AtPort) (side : Dir) (size : ℕ) (old : List Call) (a : Numbers)
     (new : List Call) (b : Numbers) (out : List ℕ) → PreparingFails f q side size old a new b out → IsDrawn a out b
-preparing_drawn f q side size old a new b out (ring, inl (stops, same, none)) =
+preparing_drawn f q side size old a new b out (ring, free, inl (stops, same, none)) =
     subst (λ (l : List ℕ). IsDrawn a l b) (sym none) same
-preparing_drawn f q side size old a new b out (ring, inr (mid, words, stops)) = stops.drawn
+preparing_drawn f q side size old a new b out (ring, free, inr (mid, words, stops)) = stops.drawn
 
 pub receive_drawn : (f : PmdFault) (q : AtPort) (size : ℕ) (old : List Call) (a : Numbers) (new : List Call)
     (b : Numbers) (out : List ℕ) → ReceiveFails f q size old a new b out → IsDrawn a out b

@@ -15,13 +15,14 @@ use Rattle.pmd_rx.specs.PmdSeam.QueueMade.{AreMade, StopsBy}
 use Rattle.pmd_rx.specs.PmdSeam.Home.{IsDrawn}
 use Rattle.pmd_rx.specs.PmdSeam.Named.{AtPort, IsNumberOf}
 use Rattle.pmd_rx.specs.PmdSeam.Sides.{ring_words}
-use Rattle.pmd_rx.specs.PmdSeam.Slots.{ring_blocks}
+use Rattle.pmd_rx.specs.PmdSeam.Slots.{blocks_for, ring_blocks}
 use Rattle.pmd_rx.specs.Filling.{Fills, StopsFilling}
 use Rattle.pmd_rx.specs.Plays.{PlaysFrom}
 use Rattle.pmd_rx.specs.Receive.{Receive}
 use Rattle.pmd_rx.specs.Receive as receive
 use Rattle.pmd_tx.specs.Sending.{Sender}
 use Rattle.pmd_tx.specs.Sending as transmit
+use Rattle.pmd.specs.Runs.{IsFreeRun}
 
 -- a fault that comes once events are made
 abbrev pub ComesLate : PmdFault → Type 0
@@ -66,10 +67,12 @@ pub record StopsLending (f : PmdFault) (all : List ℕ) (old : List Call) (a : N
   pub lent : LendsEach old mid out
   pub fails : LendingFails f mid new (zero_block next)
 
--- a ring wasn't prepared: one of its words wasn't written, or one of its blocks wasn't lent. These blocks are out then
+-- a ring wasn't prepared, whose blocks are free: one of its words wasn't written, or one of its blocks wasn't lent.
+-- These blocks are out then
 abbrev pub PreparingFails : PmdFault → AtPort → Dir → ℕ → List Call → Numbers → List Call → Numbers → List ℕ → Type 0
 PreparingFails f q side size old a new b out =
-    (ring : ℕ) × ((StopsBy f q old new (ring_words side ring size) × (b ≡ a) × (out ≡ []))
+    (ring : ℕ) × IsFreeRun a ring (blocks_for size)
+    × ((StopsBy f q old new (ring_words side ring size) × (b ≡ a) × (out ≡ []))
     ⊎ ((mid : List Call) × AreMade q old mid (ring_words side ring size)
     × StopsLending f (ring_blocks ring size) mid a new b out))
 

@@ -85,10 +85,10 @@ module _ (q : AtPort) where
   pub receive_fails : (f : PmdFault) (size : ℕ) (old : List Call) (a : Numbers) (new : List Call) (b : Numbers)
       (out : List ℕ) → ReceiveFails f q size old a new b out → Stay Off old new
   receive_fails f size old a new b out (inl (stops, same, none)) = stopped_stay f both_quiet old new quiet_keep stops
-  receive_fails f size old a new b out (inr (mid, made, (ring, inl (stops, same, none)))) =
+  receive_fails f size old a new b out (inr (mid, made, (ring, free, inl (stops, same, none)))) =
       then_made (Stays q Off) old mid new (accesses_stay both_quiet old mid quiet_keep made)
       (stopped_stay f (ring_words Rx ring size) mid new (words_keep ring size) stops)
-  receive_fails f size old a new b out (inr (mid, made, (ring, inr (laid, words, stops)))) =
+  receive_fails f size old a new b out (inr (mid, made, (ring, free, inr (laid, words, stops)))) =
       then_made (Stays q Off) old mid new (accesses_stay both_quiet old mid quiet_keep made)
       (then_made (Stays q Off) mid laid new
       (accesses_stay (ring_words Rx ring size) mid laid (words_keep ring size) words)

@@ -29,10 +29,10 @@ module _ (q : AtPort) (size : ℕ) (is : is_size size ≡ true) where
 
   transmit_fails : (f : PmdFault) (old : List Call) (a : Numbers) (new : List Call) (b : Numbers) (out : List ℕ)
       → PreparingFails f q Tx size old a new b out → LaysSome q Off old new
-  transmit_fails f old a new b out (ring, inl (stops, same, none)) =
+  transmit_fails f old a new b out (ring, free, inl (stops, same, none)) =
       let size_is = sized size is in
       words_stop q ring size size_is.0 size_is.1 size_is.2 f old new stops
-  transmit_fails f old a new b out (ring, inr (mid, words, stops)) =
+  transmit_fails f old a new b out (ring, free, inr (mid, words, stops)) =
       let size_is = sized size is in (
         Empty,
         then_between q Off Empty Empty old mid new

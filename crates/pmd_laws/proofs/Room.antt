@@ -57,7 +57,8 @@ run_finds : (a : Numbers) (count from n : ℕ) → 0 < count → from ≤ n → 
     → Finds a count from (a.first + count_of a - from) n
 run_finds a count from n some low free =
     let within = own_within a n (is_own-of_free a n (first_free a n count some free)) in
-    among_finds a count from (a.first + count_of a - from) n low (omega (arith, low, within.1)) (all_free a n count free)
+    among_finds a count from (a.first + count_of a - from) n low (omega (arith, low, within.1))
+    (all_free a n count free)
 
 there_are : (a : Numbers) (count : ℕ) → 0 < count → HasTwoRuns a count → is_some (second_run a count) ≡ true
 there_are a count some x =

@@ -82,12 +82,12 @@ module _ (q : AtPort) (lent : Blocks) (first : List Call) where
       (out : List ℕ) → ((n : ℕ) → 0 < times_in_hand out n → lent n ≡ true) → Rises q lent first old
       → PreparingFails DeviceFault q side size old a new b out → RisesToLast q lent first new
   preparing_rise side size old a new b out each rises
-      (ring, inl ((done, access, rest, mid, is, made, fails), same, none)) =
+      (ring, free, inl ((done, access, rest, mid, is, made, fails), same, none)) =
       let driven = writes_driven (ring_words side ring size) (words_are_writes side ring size) in
       let are = all_before IsDriven done access rest (subst (AllAre IsDriven) is driven) in
       otherwise_rise mid new access
       (then_made (IsRising q lent) first old mid rises (all_rise q lent done old mid are.0 made)) fails
-  preparing_rise side size old a new b out each rises (ring, inr (mid, made, stops)) =
+  preparing_rise side size old a new b out each rises (ring, free, inr (mid, made, stops)) =
       let (back, lends) = stops.fails in
       let driven = writes_driven (ring_words side ring size) (words_are_writes side ring size) in
       adds_rise stops.mid new _ _

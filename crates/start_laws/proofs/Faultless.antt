@@ -59,10 +59,10 @@ module _ (w : Watched) (q : AtPort) (fifo : ℕ) (h : List Entry) (along : IsAlo
   preparing_never_fails : (side : Dir) (size : ℕ) (old : List Call) (a : Numbers) (new : List Call) (b : Numbers)
       (out : List ℕ) → old ≢ [] → Grounded old → PreparingFails DeviceFault q side size old a new b out
       → NoneIsLent w fifo h new b → Never w fifo h new
-  preparing_never_fails side size old a new b out some at (ring, inl (stops, same, empty)) none =
+  preparing_never_fails side size old a new b out some at (ring, free, inl (stops, same, empty)) none =
       writes_never_stop w q fifo h along (ring_words side ring size) old new (words_are_writes side ring size) stops
       some at
-  preparing_never_fails side size old a new b out some at (ring, inr (mid, made, stops)) none =
+  preparing_never_fails side size old a new b out some at (ring, free, inr (mid, made, stops)) none =
       let (back, lent) = stops.fails in
       lending_is_done stops.next stops.mid new lent.0 back lent.1 (none stops.next stops.free)
 

@@ -70,8 +70,8 @@ module _ (q : AtPort) (size : ℕ) where
 
   never_preparing : (side : Dir) (old : List Call) (a : Numbers) (new : List Call) (b : Numbers) (out : List ℕ)
       → PreparingFails StartTimeout q side size old a new b out → ⊥
-  never_preparing side old a new b out (ring, inl (stops, same, empty)) = stops.6
-  never_preparing side old a new b out (ring, inr (mid, made, stops)) = stops.fails
+  never_preparing side old a new b out (ring, free, inl (stops, same, empty)) = stops.6
+  never_preparing side old a new b out (ring, free, inr (mid, made, stops)) = stops.fails
 
   never_receiving : (old : List Call) (a : Numbers) (new : List Call) (b : Numbers) (out : List ℕ)
       → ReceiveFails StartTimeout q size old a new b out → ⊥

@@ -8,6 +8,7 @@ use Rattle.pmd.proofs.rings.prepare.Goals as goal
 pub returns-then-is_err-clause-failed : goal.returns-then-is_err-clause-failed
 returns-then-is_err-clause-failed g c = (
   c.args.ring,
+  c.requires.free,
   inl (
     unwritten c.args.queue.now c.args.side c.args.ring c.args.size (g.N.Nic.made c.args.nic.now) (OutOfMemory tt),
     refl,
@@ -17,11 +18,13 @@ returns-then-is_err-clause-failed g c = (
 
 pub returns-in-Err-clause-failed : goal.returns-in-Err-clause-failed
 returns-in-Err-clause-failed g c =
-    (c.args.ring, inl (c.in-Err.ensures.failed, refl, c.reserve.ensures.items ∙ c.new-lent.ensures.items))
+    let none = c.reserve.ensures.items ∙ c.new-lent.ensures.items in
+    (c.args.ring, c.requires.free, inl (c.in-Err.ensures.failed, refl, none))
 
 pub returns-in-Err-lend_run-clause-failed : goal.returns-in-Err-lend_run-clause-failed
 returns-in-Err-lend_run-clause-failed g c = (
   c.args.ring,
+  c.requires.free,
   inr (
     g.N.Nic.made c.lay_out.new.nic,
     c.in-Ok.ensures.made,

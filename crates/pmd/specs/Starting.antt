@@ -22,7 +22,7 @@ use Rattle.pmd_rx.specs.Receive.{Receive}
 use Rattle.pmd_rx.specs.Receive as receive
 use Rattle.pmd_tx.specs.Sending.{Sender}
 use Rattle.pmd_tx.specs.Sending as transmit
-use Rattle.pmd.specs.Runs.{IsFreeRun}
+use Rattle.nic_device.specs.DmaArena.Run.{IsFreeRun}
 
 -- a fault that comes once events are made
 abbrev pub ComesLate : PmdFault → Type 0

@@ -12,6 +12,7 @@
 
 mod accesses;
 mod both;
+mod bufs;
 mod direct;
 mod fault;
 mod handled;
@@ -27,13 +28,14 @@ mod through_lock;
 
 pub use accesses::{lend, peek, poke, read, take, write};
 pub use device_lock::{CallFault, Calls, Made};
+pub use bufs::{Bufs, MOST_BUFS};
 pub use direct::Direct;
 pub use fault::PmdFault;
 pub use home::{Reclaim, give_back};
 pub use interleaved::{Finished, Interleaved};
 pub use names::Queue;
 pub use nic::Nic;
-pub use packet::{Packet, Record, fresh_packet, give_packet};
+pub use packet::{Packet, Record, fresh_packet, give_bufs, give_packet};
 pub use setup::{Setting, Setup, pf_setup, set};
 pub use sides::POLLS;
 pub use slots::{blocks_for, descriptor_address, is_ring_block, next_slot, slot_after};

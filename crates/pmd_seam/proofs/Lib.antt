@@ -1,5 +1,6 @@
 pub mod Amid
 pub mod Bringing
+pub mod Copying
 pub mod Drawing
 pub mod Exchanging
 pub mod LockStepping

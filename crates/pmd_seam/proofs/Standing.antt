@@ -1,5 +1,6 @@
 -- Bufs of a packet, in their places.
 use Rattle.std.proofs.Common.{◌≡◌, ℕ, zero, suc, ◌+◌, ◌<◌, ◌≤◌, List, [], ◌∷◌, ◌++◌, length, get_or, set, drop, take, ◌-◌, Option, Some, None, refl, subst, sym, ap, ◌∙◌, arith}
+use Rattle.std.proofs.lemmas.List.{length_push}
 use Rattle.nic_device.specs.DmaArena.Block.{Block}
 use Rattle.pmd_seam.specs.Bufs.{blocks_in, StandFirst}
 
@@ -91,3 +92,7 @@ rest_of (suc n) (Some b ∷ places) first d is some there =
       ap (λ (x : Block). x ∷ blocks_in places) same
           ∙ ap (λ (bs : List Block). first ∷ bs) (sym (blocks_same places)),
     )
+
+pub rotated_length : {A : Type 0} (xs : List A) → length xs ≡ 5 → length (drop 1 xs ++ take 1 xs) ≡ 5
+rotated_length [] five = five
+rotated_length (x ∷ xs) five = length_push xs x ∙ (let e : length xs + 1 ≡ 5 = omega (arith, five) in e)

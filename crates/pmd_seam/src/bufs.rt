@@ -1,7 +1,8 @@
 //! The Bufs that a packet is in: five at most, one after the other.
 
-ghost use Rattle.pmd_seam.specs.Bufs.{blocks_in};
-ghost use Rattle.std.specs.Prelude.{◌≡◌, ◌≤◌, ◌<◌, ◌++◌, ◌∷◌, [], length, slice_index_or, option_to_list, IfNone, IsNone};
+ghost use Rattle.pmd_seam.specs.Bufs.{blocks_in, numbers_of};
+ghost use Rattle.nic_device.specs.DmaArena.Whereabouts.{times_in_hand};
+ghost use Rattle.std.specs.Prelude.{◌≡◌, ◌≤◌, ◌<◌, ◌↔◌, true, ◌++◌, ◌∷◌, [], length, slice_index_or, option_to_list, IfNone, IsNone};
 
 use nic_device::Buf;
 use std::marker::Model;
@@ -66,6 +67,18 @@ impl Bufs {
             Some(buf) => buf,
             None => unreachable!(),
         }
+    }
+
+    /// Whether the block of this number is one of them.
+    pub fn has(&self, block: u32) -> bool
+        ensures { (result ≡ true) ↔ (0 < times_in_hand (numbers_of self.now) block) }
+    {
+        for number in 0..self.count() {
+            if self.get(number).block() == block {
+                return true;
+            }
+        }
+        false
     }
 
     /// Adds a Buf behind the others.

@@ -10,4 +10,3 @@ pub mod Looking
 pub mod Own
 pub mod Playing
 pub mod Refilling
-pub mod Stages

@@ -63,6 +63,7 @@ IsAmid v (Named b) = 0 < length v.held.bufs
 
 -- a driver that was started: all slots but one are posted, or all but two where one is to be refilled
 pub record IsRunning (v : Receive) : Type 0 where
+  pub part : 0 < v.layout.most
   pub some : v.layout.most < v.layout.size
   pub full : length v.layout.blocks + vacated v.stage + 1 ≡ v.layout.size
   pub stage : IsAmid v v.stage

@@ -52,6 +52,9 @@ pub record IsInStep (l : Layout) (seen : List Told) (held : Packet) (s : Stage) 
   pub parts : All FitsBlock seen
   pub within : length seen ≤ length l.blocks
 
+abbrev pub IsSteady : Layout → List Told → Packet → Stage → Type 0
+IsSteady l seen held s = IsLaidOut l × IsInStep l seen held s
+
 -- the tail of the receive ring was moved on by one, or the port has no such register
 abbrev pub IsTailWritten : List Call → List Call → Layout → Bool → Type 0
 IsTailWritten old new l known = IsWritten old new l.port l.tail (slot_at l (vacant l + 1)) known

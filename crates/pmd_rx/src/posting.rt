@@ -63,7 +63,7 @@ impl ReceiveRing {
         ensures kept { OnErr result (self.new.handed ≡ self.old.handed) }
         ensures fails { IfErr result (λ f.
             FailsBy f (N.made nic.old) arena.old self.old (N.made nic.new) arena.new self.new) }
-        ensures same { result ≡ Err PmdFault.NoBuffer → self.new ≡ self.old }
+        ensures none { result ≡ Err PmdFault.NoBuffer → free_count arena.old ≡ 0 }
         ensures keeps { Keeps arena.old self.old arena.new self.new (handed_blocks result) }
         ensures who { N.who nic.new ≡ N.who nic.old }
         ensures refuses { N.refuses nic.new ≡ N.refuses nic.old }
@@ -100,8 +100,8 @@ impl ReceiveRing {
         ensures refuses { N.refuses nic.new ≡ N.refuses nic.old }
         ensures refusal { IfErr result (λ f. CanFail (N.refuses nic.new) f) }
     {
-        for _look in 0..5 {
-            if !matches!(self.stage, Stage::Looks) {
+        for _look in 0..self.most_parts() {
+            if self.waits() {
                 return Ok(true);
             }
             match self.look(alloc, nic) {
@@ -112,6 +112,24 @@ impl ReceiveRing {
             }
         }
         Ok(true)
+    }
+
+    /// The most parts that a packet has.
+    fn most_parts(&self) -> u16
+        ensures { result ≡ self.now.layout.most }
+    {
+        self.most
+    }
+
+    /// Whether a packet waits.
+    fn waits(&self) -> bool
+        ensures yes { result ≡ true → PacketWaits self.now.stage }
+        ensures no { result ≡ false → self.now.stage ≡ stage.Looks }
+    {
+        match self.stage {
+            Stage::Looks => false,
+            Stage::Takes | Stage::Owes | Stage::Lent(_) | Stage::Named(_) => true,
+        }
     }
 
     /// Makes the next step of a refill: takes a part where none is owed a block, and posts a fresh block in its place. The
@@ -222,11 +240,12 @@ impl ReceiveRing {
         arena: &mut Arena,
     ) -> Result<(), PmdFault>
         requires stage { self.old.stage ≡ stage.Looks }
-        requires none { (self.old.seen ≡ []) × (self.old.held ≡ no_packet) }
+        requires empty { (self.old.seen ≡ []) × (self.old.held ≡ no_packet) }
         requires room { length self.old.layout.blocks + 1 < self.old.layout.size }
         requires home { AreOut arena.old (blocks_out self.old) }
         ensures plays { PlaysFrom arena.old (N.made nic.old) self.old (N.made nic.new) self.new }
         ensures posted { OnOk result (Posts arena.old self.old arena.new self.new) }
+        ensures none { result ≡ Err PmdFault.NoBuffer → free_count arena.old ≡ 0 }
         ensures handed { self.new.handed ≡ self.old.handed }
         ensures fails { IfErr result (λ f.
             FailsBy f (N.made nic.old) arena.old self.old (N.made nic.new) arena.new self.new) }
@@ -254,7 +273,7 @@ impl ReceiveRing {
     ) -> Result<(), PmdFault>
         requires empty { self.old.layout.blocks ≡ [] }
         requires stage { self.old.stage ≡ stage.Looks }
-        requires none { (self.old.seen ≡ []) × (self.old.held ≡ no_packet) }
+        requires unseen { (self.old.seen ≡ []) × (self.old.held ≡ no_packet) }
         requires home { AreOut arena.old (blocks_out self.old) }
         ensures plays { PlaysFrom arena.old (N.made nic.old) self.old (N.made nic.new) self.new }
         ensures filled { OnOk result (Fills arena.old self.old arena.new self.new) }
@@ -278,7 +297,7 @@ impl ReceiveRing {
     /// How many slots can be posted: all but one.
     fn spare_slots(&self) -> u16
         ensures all { result + 1 ≡ self.now.layout.size }
-        ensures some { 7 ≤ result }
+        ensures some { (0 < self.now.layout.most) × (self.now.layout.most < self.now.layout.size) }
     {
         self.size - 1
     }

@@ -1,6 +1,6 @@
 //! The receive side of the driver: one step for each of its calls, from one stage to the next.
 
-ghost use Rattle.std.specs.Prelude.{◌≡◌, ◌<◌, ◌≤◌, ◌+◌, ◌*◌, ◌++◌, length, IsFalse, ◌×◌, if◌then◌else◌, Ok, true, false, IfOk, IfErr, OnOk, OnErr, [], min, vec_len};
+ghost use Rattle.std.specs.Prelude.{◌≡◌, ◌<◌, ◌≤◌, ◌+◌, ◌*◌, ◌++◌, length, IsFalse, if◌then◌else◌, Ok, true, false, IfOk, IfErr, OnOk, OnErr, [], min, vec_len};
 ghost use Rattle.std.specs.Vec.{vec_capacity};
 ghost use Rattle.nic_device.specs.DmaArena.Numbers.{Numbers, is_free};
 ghost use Rattle.nic_device.specs.DmaRing.Receive.{is_done, ends_packet};

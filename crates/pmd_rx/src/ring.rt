@@ -57,7 +57,7 @@ pub struct ReceiveRing {
 
 impl Model for ReceiveRing {
     ghost use Rattle.pmd_rx.specs.Receive.{Receive};
-    ghost use Rattle.pmd_rx.specs.Shown.{IsInStep, IsLaidOut};
+    ghost use Rattle.pmd_rx.specs.Shown.{IsSteady};
 
     ghost Value = { Receive };
 
@@ -77,16 +77,15 @@ impl Model for ReceiveRing {
       stage = r.stage;
     } };
 
-    ghost invariant = { λ r.
-      let l = record {
-        port = r.port;
-        tail = r.tail;
-        ring = r.ring;
-        size = r.size;
-        most = r.most;
-        next = r.next;
-        blocks = r.blocks.items;
-      } in IsLaidOut l × IsInStep l r.seen.items r.held r.stage };
+    ghost invariant = { λ r. IsSteady (record {
+      port = r.port;
+      tail = r.tail;
+      ring = r.ring;
+      size = r.size;
+      most = r.most;
+      next = r.next;
+      blocks = r.blocks.items;
+    }) r.seen.items r.held r.stage };
 }
 
 impl ReceiveRing {

@@ -16,7 +16,7 @@ drawn_next a [] b n d is free then = (
 )
 drawn_next a (k ∷ ns) b n d (first, is) free then = (first, drawn_next (with_free a k false) ns b n d is free then)
 
-numbers-more : (bs : List Block) (c : Block) → numbers_of (bs ++ c ∷ []) ≡ numbers_of bs ++ c.number ∷ []
+pub numbers-more : (bs : List Block) (c : Block) → numbers_of (bs ++ c ∷ []) ≡ numbers_of bs ++ c.number ∷ []
 numbers-more [] c = refl
 numbers-more (b ∷ bs) c = ap (λ (ns : List ℕ). b.number ∷ ns) (numbers-more bs c)
 

@@ -77,3 +77,14 @@ pub lent_same : {A E : Type 0} (r : Result A E) (v w x : Receive) (n : ℕ) → 
     → OnErr r (x.handed ≡ w.handed) → OnErr r (x.handed ≡ v.handed)
 lent_same (Ok o) v w x n is same = tt
 lent_same (Err e) v w x n is same = same ∙ ap (λ (y : Receive). y.handed) is
+
+-- a driver that runs has room for the block that it owes
+pub owes_room : (v : Receive) → IsRunning v → v.stage ≡ Owes → length v.layout.blocks + 1 < v.layout.size
+owes_room v runs owes =
+    let full : length v.layout.blocks + 1 + 1 ≡ v.layout.size =
+    subst (λ (s : Stage). length v.layout.blocks + vacated s + 1 ≡ v.layout.size) owes runs.full in
+    omega (arith, full)
+
+-- a part that is seen wants a free block
+pub owed_some : (v : Receive) (a : Numbers) → 0 < length v.seen → wanted v ≤ free_count a → free_count a ≡ 0 → ⊥
+owed_some v a some free none = omega (arith, some, free, none)

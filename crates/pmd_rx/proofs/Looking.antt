@@ -1,5 +1,5 @@
 -- A look at the slot behind those that were seen.
-use Rattle.std.proofs.Common.{◌≡◌, ℕ, ◌<◌, ◌+◌, true, false, List, length, Option, Some, None, Result, Ok, Err, IfOk, IfErr, OnErr, refl, sym, ap, subst, inl, inr, arith}
+use Rattle.std.proofs.Common.{◌≡◌, ℕ, ◌<◌, ◌+◌, ◌≤◌, ◌∙◌, true, false, List, length, Option, Some, None, Result, Ok, Err, IfOk, IfErr, OnErr, refl, sym, ap, subst, inl, inr, arith}
 use Rattle.std.specs.Prelude.{◌∷◌, []}
 use Rattle.std.proofs.lemmas.List.{length_push}
 use Rattle.nic_device.specs.DmaRing.Descriptor.{second_half}
@@ -10,14 +10,15 @@ use Rattle.pmd_seam.specs.DeviceLock.declared.entry.Call.{Call}
 use Rattle.pmd_seam.specs.Accesses.{IsPeeked}
 use Rattle.pmd_seam.specs.declared.fault.PmdFault.{PmdFault}
 use Rattle.pmd_seam.specs.declared.fault.PmdFault.TheVariants as fault
-use Rattle.pmd_rx.specs.Plays.{PlaysFrom}
-use Rattle.pmd_rx.specs.Receive.{Receive, IsOwn, looked, saw, told_by, descriptor_at}
+use Rattle.pmd_rx.specs.Plays.{PlaysFrom, LooksInVain}
+use Rattle.pmd_rx.specs.Receive.{Receive, IsOwn, looked, saw, told_by, descriptor_at, no_packet}
 use Rattle.pmd_rx.specs.Shown.{IsLook, LooksOnce, LooksAtPart, LooksAtWrong, IsRefused}
 use Rattle.pmd_rx.specs.Wrong.{AsksNext, EndsWrong, IsFault}
 use Rattle.pmd_rx.specs.declared.receive.Look.{Look}
 use Rattle.pmd_rx.specs.declared.receive.Look.TheVariants as look
+use Rattle.pmd_rx.specs.declared.ring.Stage.{Stage}
 use Rattle.pmd_rx.specs.declared.ring.Stage.TheVariants.{Looks}
-use Rattle.pmd_rx.specs.Keeping.{Keeps}
+use Rattle.pmd_rx.specs.Keeping.{Keeps, IsRunning, IsAmid, vacated}
 use Rattle.pmd_rx.proofs.Failing.{wrong_here}
 use Rattle.pmd_rx.proofs.Keeping.{keeps_none, keeps_to, look_keeps}
 use Rattle.pmd_rx.proofs.Playing.{plays_adds, plays_some}
@@ -134,3 +135,39 @@ pub looks_same : (r : Result Look PmdFault) (old new : List Call) (v w : Receive
     → IfOk r (λ l. IsLook l old v new w) → OnErr r (w ≡ v) → w ≡ record v { seen = w.seen; stage = w.stage }
 looks_same (Ok l) old new v w looked same = look_kept l old new v w looked
 looks_same (Err f) old new v w looked same = rw same refl
+
+-- a driver that runs and looks has a slot to look at
+pub posted_more : (v : Receive) → IsRunning v → v.stage ≡ Looks → length v.seen < length v.layout.blocks
+posted_more v runs looks =
+    let amid : length v.seen < v.layout.most = subst (λ (s : Stage). IsAmid v s) looks runs.stage in
+    let full : length v.layout.blocks + 0 + 1 ≡ v.layout.size =
+    subst (λ (s : Stage). length v.layout.blocks + vacated s + 1 ≡ v.layout.size) looks runs.full in
+    omega (arith, amid, full, runs.some)
+
+-- it doesn't look at more than a packet has
+pub looked_enough : (v : Receive) → IsRunning v → v.stage ≡ Looks → v.layout.most ≤ length v.seen → ⊥
+looked_enough v runs looks many =
+    let amid : length v.seen < v.layout.most = subst (λ (s : Stage). IsAmid v s) looks runs.stage in
+    omega (arith, amid, many)
+
+pub looks_vainly : (old mid new : List Call) (v w x : Receive) → PlaysFrom (record { first = 0; free = [] }) old v mid w
+    → w ≡ record v { seen = w.seen; stage = w.stage } → v.stage ≡ Looks → w.stage ≡ Looks → IsRunning w
+    → w.held ≡ no_packet → LooksOnce mid w new x → LooksInVain old v new x
+looks_vainly old mid new v w x plays kept from looks runs none once =
+    let same : LooksInVain old v new w = record {
+      mid = mid;
+      looks = plays.plays;
+      bytes = once.bytes;
+      last = once.made;
+      waits = once.waits;
+      stage = looks;
+      posted = posted_more w runs looks;
+      holds_none = none;
+      left = kept ∙ ap (λ (s : Stage). let y : Receive = record v { seen = w.seen; stage = s } in y) (looks ∙ sym from);
+    } in
+    subst (LooksInVain old v new) (sym once.left) same
+
+pub kept_both : (v w x : Receive) → w ≡ record v { seen = w.seen; stage = w.stage }
+    → x ≡ record w { seen = x.seen; stage = x.stage } → x ≡ record v { seen = x.seen; stage = x.stage }
+kept_both v w x first then =
+    then ∙ ap (λ (y : Receive). let z : Receive = record y { seen = x.seen; stage = x.stage } in z) first

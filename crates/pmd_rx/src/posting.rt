@@ -125,6 +125,7 @@ impl ReceiveRing {
     fn waits(&self) -> bool
         ensures yes { result ≡ true → PacketWaits self.now.stage }
         ensures no { result ≡ false → self.now.stage ≡ stage.Looks }
+        ensures none { result ≡ false → self.now.held ≡ no_packet }
     {
         match self.stage {
             Stage::Looks => false,

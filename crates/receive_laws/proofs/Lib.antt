@@ -23,6 +23,7 @@ pub mod Moving
 pub mod Naming
 pub mod Own
 pub mod Places
+pub mod Parts
 pub mod Prefix
 pub mod Received
 pub mod Receiving

@@ -6,7 +6,7 @@
 //! `pmd_rx` says it follows from the driver's own calls.
 #![tactic(auto)]
 
-ghost use Rattle.receive_laws.specs.Healthy.{OwnRepliesAreHealthy, LooksTellPackets};
+ghost use Rattle.receive_laws.specs.Healthy.{OwnRepliesAreHealthy};
 ghost use Rattle.receive_laws.specs.Histories.{HandedIsPrefix, NoneIsAll};
 ghost use Rattle.receive_laws.specs.Inside.{PieceIsInside};
 ghost use Rattle.receive_laws.specs.Lent.{OwnLendsAreKnown};
@@ -52,7 +52,7 @@ pub fn queue_up_stays_up()
 {}
 
 /// Each event of the driver's own keeps what they agree on, with the driver that it leads to: a look, the block of a
-/// seen packet taken, a fresh block lent, the vacant descriptor written, the tail moved on.
+/// part taken, a fresh block lent, the vacant descriptor written, the tail moved on.
 pub fn own_event_keeps_the_agreement()
     ensures { OwnEventKeeps }
 {}
@@ -77,12 +77,12 @@ pub fn fresh_ring_agrees()
     ensures { StartAgrees }
 {}
 
-/// Each event of the driver's own gets the reply of a healthy queue where the two agree, each piece that was written
-/// ends its frame, and a block that is lent isn't lent yet: a look tells a descriptor, of a whole packet where it is
-/// done, the block of a seen packet is taken, a fresh one lent, its descriptor written and the tail moved on.
+/// Each event of the driver's own gets the reply of a healthy queue where the two agree, the packets that were written
+/// have no more pieces than the driver takes, each but its last of 2,048 bytes, and a block that is lent isn't lent yet:
+/// a look tells a descriptor, of a part of a packet where it is done, the block of a part is taken, a fresh one lent,
+/// its descriptor written and the tail moved on.
 pub fn own_replies_are_healthy()
-    ensures replies { OwnRepliesAreHealthy }
-    ensures packets { LooksTellPackets }
+    ensures { OwnRepliesAreHealthy }
 {}
 
 /// Where the frames that wait for the queue have at most 2,048 bytes, and longer ones aren't let in, it stays so over

@@ -64,7 +64,7 @@ module _ (s : State) (queue : ℕ) (sent : List (List ℕ)) (v : Sender) (f : �
         let ready = h.shows.ready end known in
         let x = segment_at v end in
         let low = small_of_lent s.memory x.block h.based.sound.blocks.whole ready.lent in
-        rw (h.shows.done end before last) (done-sent x low ready.short ready.whole)
+        rw (h.shows.done end before last) (done-sent x ready.short ready.whole low)
 
     pub look-waits : f ≤ end → is_sent descriptor ≡ false
     look-waits none =

@@ -1,5 +1,5 @@
 -- A packet that is padded with zero bytes to 60.
-use Rattle.std.specs.Prelude.{ℕ, ◌-◌, nat_lt, List, [], ◌∷◌, replicate, if◌then◌else◌}
+use Rattle.std.specs.Prelude.{ℕ, ◌-◌, nat_lt, List, [], ◌∷◌, take, replicate, if◌then◌else◌}
 use Rattle.nic_device.specs.DmaArena.Block.{Block}
 use Rattle.nic_device.specs.DmaArena.Memory.{put_bytes}
 use Rattle.pmd_seam.specs.declared.packet.Packet.{Packet}
@@ -17,3 +17,8 @@ padded_packet p =
 -- a packet with these first bytes, and of this length, where that is below 60
 abbrev pub unpadded : Packet → ℕ → List ℕ → Packet
 unpadded p len start = if nat_lt len 60 then record p { bufs = with_first p.bufs 0 start; len = len } else p
+
+-- the bytes of the first block that a padding may write over
+abbrev pub first_bytes : List Block → List ℕ
+first_bytes [] = []
+first_bytes (b ∷ blocks) = take 60 b.bytes

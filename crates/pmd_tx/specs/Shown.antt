@@ -1,10 +1,15 @@
 -- The driver's transmit ring as its code keeps it.
-use Rattle.std.specs.Prelude.{ℕ, ◌≡◌, ◌+◌, ◌-◌, ◌*◌, ◌<◌, ◌≤◌, ⊤, nat_eq, true, false, List, [], ◌∷◌, ◌++◌, length, take, drop, All}
+use Rattle.std.specs.Prelude.{ℕ, ◌≡◌, ◌+◌, ◌-◌, ◌*◌, ◌<◌, ◌≤◌, ⊤, nat_eq, true, false, List, [], ◌∷◌, ◌++◌, length, take, drop, All, Option, Some}
 use Rattle.std.specs.List.{IsDistinct}
 use Rattle.nic_device.specs.DmaArena.Block.{Block, IsBlock}
+use Rattle.pmd_seam.specs.Accesses.{IsLent}
 use Rattle.pmd_seam.specs.Bufs.{numbers_of}
+use Rattle.pmd_seam.specs.DeviceLock.declared.entry.Call.{Call}
+use Rattle.pmd_seam.specs.Made.{AddsSome}
 use Rattle.pmd_seam.specs.Packet.{Kept, kept_of}
 use Rattle.pmd_seam.specs.Slots.{blocks_for, is_ring_block}
+use Rattle.pmd_seam.specs.declared.fault.PmdFault.{PmdFault}
+use Rattle.pmd_seam.specs.declared.fault.PmdFault.TheVariants as fault
 use Rattle.pmd_seam.specs.declared.packet.Packet.{Packet}
 use Rattle.pmd_tx.specs.Sending.{Sender, Layout, Outgoing, Part, Segment, keeps, paired, parts_for, parts_of}
 use Rattle.pmd_tx.specs.Pieces.{ends_packet, places_of}
@@ -97,3 +102,15 @@ pub record MaySend (v : Sender) (p : Packet) : Type 0 where
   pub held : p.len ≤ 2048 * length p.bufs
   pub room : length v.outstanding + parts_for p.len < v.layout.size
   pub loose : AreLoose v p
+
+-- the first of some blocks was lent, or one of its number was lent already
+abbrev pub LendsFirst : List Call → List Call → List Block → Option Block → Type 0
+LendsFirst old new [] twice = ⊥
+LendsFirst old new (b ∷ blocks) twice = IsLent old new b twice
+
+-- no block was lent: one of the first block's number was lent already, or the call was refused and the packet came back
+abbrev pub IsUnlent : PmdFault → List Call → List Call → Packet → Packet → Type 0
+IsUnlent fault.DeviceFault old new given back =
+    (twice : Block) × LendsFirst old new given.bufs (Some twice) × (numbers_of back.bufs ≡ numbers_of given.bufs)
+IsUnlent (fault.Call f) old new given back = AddsSome old new × (back ≡ given)
+IsUnlent other old new given back = ⊥

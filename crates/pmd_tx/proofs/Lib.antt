@@ -1,4 +1,10 @@
 pub use Rattle.pmd_seam.proofs as PmdSeam
+pub mod Distinct
 pub mod Ending
+pub mod Fields
+pub mod Freeing
+pub mod Loop
 pub mod Outstanding
+pub mod Own
 pub mod Playing
+pub mod Starting

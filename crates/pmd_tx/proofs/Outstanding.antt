@@ -37,9 +37,15 @@ tell-drop (p ∷ ps) (q ∷ qs) all = all.1
 
 -- segments by their blocks and parts
 
-length-places : (ps : List Piece) → length (places_of ps) ≡ length ps
+pub length-places : (ps : List Piece) → length (places_of ps) ≡ length ps
 length-places [] = refl
 length-places (p ∷ ps) = ap suc (length-places ps)
+
+pub place-at : (ps : List Piece) (i : ℕ) → i < length ps → (d : Piece) (e : ℕ)
+    → get_or (places_of ps) i e ≡ (get_or ps i d).block
+place-at [] i below d e = absurd (omega arith)
+place-at (p ∷ ps) zero below d e = refl
+place-at (p ∷ ps) (suc i) below d e = place-at ps i (omega arith) d e
 
 places-append : (ps xs : List Piece) → places_of (ps ++ xs) ≡ places_of ps ++ places_of xs
 places-append [] xs = refl
@@ -120,7 +126,7 @@ module _ (ps : List Piece) (ks : List Kept) (tells : AllTell ps (latest (length 
   -- the oldest left out
   latest-drop : (n : ℕ) → n + 1 ≡ length ps → latest n ks ≡ drop 1 (latest (length ps) ks)
   latest-drop n one =
-      let at : length parts - n ≡ 1 + (length parts - length ps) = omega (arith, pieces-known) in
+      let at : length parts - n ≡ (length parts - length ps) + 1 = omega (arith, pieces-known) in
       ap (λ (m : ℕ). drop m parts) at ∙ sym (drop-drop 1 (length parts - length ps) parts)
 
   module _ (some : 0 < length ps) where

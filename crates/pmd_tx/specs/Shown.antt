@@ -1,6 +1,6 @@
 -- The driver's transmit ring as its code keeps it.
-use Rattle.std.specs.Prelude.{ℕ, ◌≡◌, ◌+◌, ◌-◌, ◌*◌, ◌<◌, ◌≤◌, ⊤, nat_eq, true, false, List, [], ◌∷◌, ◌++◌, length, take, drop, All, Option, Some}
-use Rattle.std.specs.List.{IsDistinct}
+use Rattle.std.specs.Prelude.{ℕ, ◌≡◌, ◌+◌, ◌-◌, ◌*◌, ◌<◌, ◌≤◌, ◌==◌, ⊤, true, false, List, [], ◌∷◌, ◌++◌, length, take, drop, All, Option, Some}
+use Rattle.std.specs.List.{list_any}
 use Rattle.nic_device.specs.DmaArena.Block.{Block, IsBlock}
 use Rattle.pmd_seam.specs.Accesses.{IsLent}
 use Rattle.pmd_seam.specs.Bufs.{numbers_of}
@@ -52,7 +52,8 @@ AllHold (s ∷ segments) (b ∷ blocks) = Holds s b × AllHold segments blocks
 
 -- blocks of which no two are alike
 abbrev pub AreDistinct : List ℕ → Type 0
-AreDistinct blocks = IsDistinct nat_eq blocks
+AreDistinct [] = ⊤
+AreDistinct (b ∷ blocks) = (list_any (λ n. b == n) blocks ≡ false) × AreDistinct blocks
 
 -- a ring of at most 1,024 slots, in blocks of bus memory that follow one another, and how far the pieces have come; the
 -- blocks that aren't lent yet are in hand

@@ -6,6 +6,7 @@ ghost use Rattle.pmd_tx.specs.Padding.{first_bytes, padded_packet, unpadded, wit
 
 use nic_device::Buf;
 use pmd_seam::{Bufs, Packet};
+use std::mem;
 
 /// How many bytes a packet has at least, as it is sent.
 const SHORTEST: u16 = 60;
@@ -98,6 +99,16 @@ pub(crate) fn behind(first: Buf, others: Bufs) -> Bufs
     }
     left.finish();
     all
+}
+
+/// Puts a Buf back before the others.
+pub(crate) fn put_back(bufs: &mut Bufs, first: Buf)
+    requires { length bufs.old < 5 }
+    ensures { bufs.new ≡ first ∷ bufs.old }
+{
+    let others = mem::replace(bufs, Bufs::none());
+    let none = mem::replace(bufs, behind(first, others));
+    none.finish()
 }
 
 /// Bufs in two parts: so many of them, the first ones, and the others.

@@ -1,6 +1,6 @@
 //! The parts of packets, as descriptors ask for them.
 
-ghost use Rattle.std.specs.Prelude.{◌≡◌, ◌<◌, ◌≤◌, ◌+◌, ◌*◌, ◌++◌, ◌∷◌, length, option_map};
+ghost use Rattle.std.specs.Prelude.{◌≡◌, ◌<◌, ◌≤◌, ◌+◌, ◌*◌, ◌++◌, ◌∷◌, length, true};
 ghost use Rattle.std.specs.VecDeque.{deque_len, deque_capacity};
 ghost use Rattle.pmd_seam.specs.Bufs.{numbers_of};
 ghost use Rattle.pmd_tx.specs.Pieces.{pieces_in, first_last, ends_packet};
@@ -43,7 +43,8 @@ pub(crate) fn add_pieces(pieces: &mut VecDeque<Piece>, first: u32, others: &Bufs
 {
     let mut block = first;
     let mut left = whole;
-    for number in 0..others.count() {
+    let count = others.count();
+    for number in 0..count {
         pieces.push_back_reserved(Piece {
             block,
             len: FULL,

@@ -17,7 +17,7 @@ ghost use Rattle.pmd_tx.specs.Sends.{IsLate, IsBack};
 ghost use Rattle.pmd_tx.specs.Shown.{MayStart, sent_as, IsUnlent, LendsFirst};
 ghost use Rattle.pmd_seam.specs.Refusals.{CanFail, CanRefuse};
 
-use crate::padding::{behind, split};
+use crate::padding::{behind, put_back, split};
 use crate::piece::{Piece, add_pieces, first_last, parts_for};
 use nic_device::{Buf, Port, data_descriptor_word, is_sent, of_halves, second_half};
 use pmd_seam::{
@@ -374,18 +374,20 @@ impl TransmitRing {
             None => unreachable!(),
         };
         let _whole = buf.bytes();
-        let (fault, buf) = match lend(alloc, nic, buf) {
+        match lend(alloc, nic, buf) {
             Ok(None) => {
                 self.lent += 1;
-                return Ok(());
+                Ok(())
             }
-            Ok(Some(buf)) => (PmdFault::DeviceFault, buf),
-            Err((fault, buf)) => (PmdFault::Call(fault), buf),
-        };
-        let others = mem::replace(&mut self.waiting, Bufs::none());
-        let none = mem::replace(&mut self.waiting, behind(buf, others));
-        none.finish();
-        Err(fault)
+            Ok(Some(buf)) => {
+                put_back(&mut self.waiting, buf);
+                Err(PmdFault::DeviceFault)
+            }
+            Err((fault, buf)) => {
+                put_back(&mut self.waiting, buf);
+                Err(PmdFault::Call(fault))
+            }
+        }
     }
 }
 
@@ -431,10 +433,15 @@ impl TransmitRing {
         requires { self.now.poked < self.now.lent }
         ensures { result ≡ asking (segment_at self.now self.now.poked) }
     {
-        let piece = self.pieces[usize::from(self.poked)];
+        let Piece {
+            block,
+            len,
+            whole,
+            last,
+        } = self.pieces[usize::from(self.poked)];
         of_halves(
-            2048 * u64::from(piece.block),
-            data_descriptor_word(piece.len, piece.last, u32::from(piece.whole)),
+            2048 * u64::from(block),
+            data_descriptor_word(len, last, u32::from(whole)),
         )
     }
 
@@ -540,7 +547,8 @@ impl TransmitRing {
         requires { 0 < length self.now.outstanding }
         ensures end { result ≡ first_end self.now.outstanding }
         ensures below { result < length self.now.outstanding }
-        ensures small { result ≤ self.now.layout.size }
+        ensures slot { result ≤ self.now.layout.size }
+        ensures small { result < 1024 }
     {
         first_last(&self.pieces)
     }
@@ -549,6 +557,7 @@ impl TransmitRing {
     fn see(&mut self, end: u16, bytes: &[u8; 16]) -> bool
         requires end { end ≡ first_end self.old.outstanding }
         requires posted { end < self.old.posted }
+        requires small { end < 1024 }
         ensures looked { self.new ≡ looked self.old bytes.now }
         ensures sent { result ≡ is_sent bytes.now }
     {

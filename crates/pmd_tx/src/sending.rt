@@ -37,7 +37,8 @@ fn comes_again(bufs: &Bufs, number: usize, block: u32) -> bool
     requires { number < length bufs.now }
     ensures { result ≡ list_any (λ b. block == b) (drop (number + 1) (numbers_of bufs.now)) }
 {
-    for later in number + 1..bufs.count() {
+    let count = bufs.count();
+    for later in number + 1..count {
         if bufs.get(later).block() == block {
             return true;
         }

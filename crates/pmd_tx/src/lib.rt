@@ -7,6 +7,7 @@
 
 mod answer;
 mod padding;
+mod piece;
 mod reaping;
 mod ring;
 mod sending;

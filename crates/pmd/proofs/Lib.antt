@@ -15,6 +15,7 @@ pub mod HaltedBlocks
 pub mod HaltedBoth
 pub mod Handing
 pub mod Homecoming
+pub mod Kept
 pub mod Late
 pub mod Leaving
 pub mod Lending
@@ -24,5 +25,6 @@ pub mod Rising
 pub mod Sending
 pub mod Sent
 pub mod SentCounted
+pub mod Several
 pub mod Starting
 pub mod Whole

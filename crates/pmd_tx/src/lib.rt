@@ -14,3 +14,4 @@ mod sending;
 
 pub use answer::{Reaped, TxAnswer, TxFault};
 pub use ring::TransmitRing;
+pub use sending::are_out;

@@ -8,6 +8,7 @@ pub mod Each
 pub mod Entries
 pub mod Examples
 pub mod Filled
+pub mod Fitting
 pub mod Foreign
 pub mod HasLent
 pub mod Healthy

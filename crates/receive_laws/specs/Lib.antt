@@ -1,6 +1,7 @@
 pub use Rattle.history_laws.specs.DeviceLaws
 pub use Rattle.history_laws.specs as HistoryLaws
 pub mod Delivered
+pub mod Fitting
 pub mod Healthy
 pub mod Histories
 pub mod Inside

@@ -6,6 +6,7 @@
 //! `pmd_rx` says it follows from the driver's own calls.
 #![tactic(auto)]
 
+ghost use Rattle.receive_laws.specs.Fitting.{FramesStayFitting};
 ghost use Rattle.receive_laws.specs.Healthy.{OwnRepliesAreHealthy};
 ghost use Rattle.receive_laws.specs.Histories.{HandedIsPrefix, NoneIsAll};
 ghost use Rattle.receive_laws.specs.Inside.{PieceIsInside};
@@ -91,6 +92,13 @@ pub fn own_replies_are_healthy()
 pub fn short_frames_end_where_they_are_written()
     ensures stay { FramesStayShort }
     ensures end { ShortFramesEnd }
+{}
+
+/// Where the frames that wait for the queue fit as many slots as the driver takes for a packet, longer ones aren't let in,
+/// and so do the packets that were written, it stays so over every event that writes no setting and resets not the
+/// queue's pool, while the side is up: each piece that is written but the last of its frame fills its block.
+pub fn fitting_frames_stay_fitting()
+    ensures { FramesStayFitting }
 {}
 
 /// Where of some numbers, as an arena's, only those are lent that the driver has lent for receiving or others have,

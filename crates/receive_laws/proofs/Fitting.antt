@@ -13,6 +13,7 @@ use Rattle.nic_device.specs.RegTable.declared.place.Place.{Place}
 use Rattle.nic_device.specs.VfMap.Owner.{has_queue}
 use Rattle.nic_device.specs.RegisterFile.Access.{asks_pool_reset}
 use Rattle.nic_device.specs.RegisterFile.Pools.{mode_in}
+use Rattle.nic_device.specs.RegisterFile.Queue.{is_on}
 use Rattle.nic_device.specs.RegisterFile.Registers.{is_wanted}
 use Rattle.nic_device.specs.RegisterFile.Settings.{can_receive, frame_limit, drops}
 use Rattle.nic_device.specs.RegisterLaws.Sides.{receive_queue_of}
@@ -29,7 +30,7 @@ use Rattle.nic_device.specs.Named.{named}
 use Rattle.nic_device.specs.Outcome.{Outcome, gives}
 use Rattle.nic_device.specs.Receive as receive
 use Rattle.nic_device.specs.Receive.{rest_of}
-use Rattle.nic_device.specs.Sound.{IsSound, AreWaiting, IsUnbegun}
+use Rattle.nic_device.specs.Sound.{IsSound, AreWaiting, IsUnbegun, IsBegunWhileOn}
 use Rattle.nic_device.specs.State.{State, Waiting}
 use Rattle.nic_device.specs.Step.{step_of, after}
 use Rattle.nic_device.specs.Switching.{without_part}
@@ -47,7 +48,7 @@ use Rattle.history_laws.proofs.DeviceLaws.Settings.{no_reset}
 use Rattle.history_laws.proofs.DeviceLaws.Standing.{stays_within}
 use Rattle.history_laws.proofs.DeviceLaws.StandingAccesses.{read_rest}
 use Rattle.pmd_rx.specs.Receive.{Receive}
-use Rattle.receive_laws.specs.Fitting.{FitsBlocks, begun_on, AreFitting, ResetsNoPool, FramesStayFitting}
+use Rattle.receive_laws.specs.Fitting.{FitsBlocks, begun_on, AreFitting, ResetsNoPool, FramesStayFitting, NoneBegunWhileOff}
 use Rattle.receive_laws.specs.Joint.{Holds, Agree}
 use Rattle.receive_laws.specs.Pieces.{Piece, Fits, AllFit, open_after, first_of, pieces, pieces_told}
 use Rattle.receive_laws.specs.Up.{IsUp}
@@ -363,3 +364,25 @@ frames_stay_fitting queue most s out v e sound (gone, here, h) up fit none spare
       begun = goes.0;
       pieces = goes.1;
     }
+
+-- while the side is off
+
+off_first : (queue : ℕ) (s : State) (w : Waiting) → IsBegunWhileOn s.registers w
+    → is_on s.registers Rx queue ≡ false → (ours : Bool) → (w.queue == queue) ≡ ours → cond ours w.offset 0 ≡ 0
+off_first queue s w begun off true is = elim (cases_lt 0 w.offset) [
+  | inl some ↦
+      let own = eqb-true w.queue queue is in
+      absurd (both_ways (is_on s.registers Rx queue) off
+      (subst (λ (q : ℕ). is_on s.registers Rx q ≡ true) own (begun some)))
+  | inr none ↦ omega (arith, none)
+]
+off_first queue s w begun off false is = refl
+
+off_begun : (queue : ℕ) (s : State) (ws : List Waiting) → All (IsBegunWhileOn s.registers) ws
+    → is_on s.registers Rx queue ≡ false → begun_on queue ws ≡ 0
+off_begun queue s [] since off = refl
+off_begun queue s (w ∷ others) since off =
+    off_first queue s w (All-head (IsBegunWhileOn s.registers) w others since) off (w.queue == queue) refl
+
+pub none_begun_while_off : NoneBegunWhileOff
+none_begun_while_off queue s sound off = off_begun queue s s.waiting sound.begun off

@@ -28,7 +28,6 @@ pub mod Parts
 pub mod Prefix
 pub mod Received
 pub mod Receiving
-pub mod Short
 pub mod Starting
 pub mod Switching
 pub mod Tail

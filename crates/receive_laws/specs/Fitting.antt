@@ -5,6 +5,8 @@ use Rattle.nic_device.specs.RegTable.Rows.{row_of}
 use Rattle.nic_device.specs.RegTable.declared.place.Place.{Place}
 use Rattle.nic_device.specs.RegisterFile.Access.{asks_pool_reset}
 use Rattle.nic_device.specs.RegisterFile.Pools.{mode_in}
+use Rattle.nic_device.specs.RegisterFile.Queue.{is_on}
+use Rattle.nic_device.specs.DmaRing.declared.dir.Dir.TheVariants.{Rx}
 use Rattle.nic_device.specs.RegisterFile.Settings.{frame_limit}
 use Rattle.nic_device.specs.VfMap.Owner.{has_queue}
 use Rattle.nic_device.specs.Named.{named}
@@ -51,3 +53,8 @@ FramesStayFitting =
     (queue most : ℕ) (s : State) (out : List Piece) (v : Receive) (e : Event Block) → IsSound s →
     Agree queue s out v → IsUp queue s → AreFitting queue most s out → WritesNoSetting s e → ResetsNoPool queue s e →
     AreFitting queue most (after s e) (out ++ pieces queue s e)
+
+-- while the side is off nothing is written of a frame that waits for the queue
+abbrev pub NoneBegunWhileOff : Type 0
+NoneBegunWhileOff =
+    (queue : ℕ) (s : State) → IsSound s → IsFalse (is_on s.registers Rx queue) → begun_on queue s.waiting ≡ 0

@@ -8,7 +8,6 @@ pub mod Inside
 pub mod Joint
 pub mod Lent
 pub mod Pieces
-pub mod Short
 pub mod Starting
 pub mod Steps
 pub mod Up

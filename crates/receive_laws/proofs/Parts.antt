@@ -108,7 +108,7 @@ any_pushed : (bs : List Block) (b : Block) (p : Packet) → if_any (bs ++ b ∷ 
 any_pushed [] b p = refl
 any_pushed (c ∷ bs) b p = refl
 
-open_pushed : (n : ℕ) (ps : List Piece) (p : Piece) → open_after n (ps ++ p ∷ []) ≡ cond p.end 0 (open_after n ps + 1)
+pub open_pushed : (n : ℕ) (ps : List Piece) (p : Piece) → open_after n (ps ++ p ∷ []) ≡ cond p.end 0 (open_after n ps + 1)
 open_pushed n [] p = refl
 open_pushed n (q ∷ ps) p = open_pushed (cond q.end 0 (n + 1)) ps p
 

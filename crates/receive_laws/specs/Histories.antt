@@ -88,3 +88,14 @@ NoneIsAll =
     IsDriven w fifo start rest v marks →
     FindsNone (leads_to (new_state w.vfs fifo) (start ++ rest)) (played_by v marks (calls_of w.pass rest)) →
     (played_by v marks (calls_of w.pass rest)).handed ≡ delivered w.queue (new_state w.vfs fifo) (start ++ rest)
+
+-- and so it was at an earlier place of the history, where nothing was handed out since
+abbrev pub NoneIsAllBefore : Type 0
+NoneIsAllBefore =
+    (w : Watched) (fifo : ℕ) (start before rest : List Entry) (v : Receive) (early marks : List Bool) →
+    IsDriven w fifo start before v early → IsDriven w fifo start (before ++ rest) v marks →
+    FindsNone (leads_to (new_state w.vfs fifo) (start ++ (before ++ rest)))
+    (played_by v marks (calls_of w.pass (before ++ rest))) →
+    (played_by v marks (calls_of w.pass (before ++ rest))).handed
+    ≡ (played_by v early (calls_of w.pass before)).handed →
+    (played_by v early (calls_of w.pass before)).handed ≡ delivered w.queue (new_state w.vfs fifo) (start ++ before)

@@ -1,5 +1,5 @@
 -- The packets that the pieces make that were written on a queue.
-use Rattle.std.specs.Prelude.{ℕ, ◌≡◌, ◌+◌, ◌<◌, true, false, length, List, [], ◌∷◌, ◌++◌, slice_index_or, if◌then◌else◌, ⊤}
+use Rattle.std.specs.Prelude.{ℕ, ◌≡◌, ◌+◌, ◌<◌, false, length, List, [], ◌∷◌, ◌++◌, slice_index_or, if◌then◌else◌, ⊤}
 use Rattle.nic_device.specs.DmaRing.Driver.{rss_in, hash_in}
 pub use Rattle.history_laws.specs.Segments.{Piece, no_piece, first_of, pieces_told, pieces}
 use Rattle.pmd_rx.specs.PmdSeam.Packet.{Kept}
@@ -32,11 +32,6 @@ pub record Fits (most before : ℕ) (p : Piece) : Type 0 where
 abbrev pub AllFit : ℕ → ℕ → List Piece → Type 0
 AllFit most before [] = ⊤
 AllFit most before (p ∷ ps) = Fits most before p × AllFit most (if p.end then 0 else before + 1) ps
-
--- each piece ends its frame
-abbrev pub AllEnd : List Piece → Type 0
-AllEnd [] = ⊤
-AllEnd (p ∷ ps) = (p.end ≡ true) × AllEnd ps
 
 abbrev pub piece_at : List Piece → ℕ → Piece
 piece_at ps k = slice_index_or ps k no_piece

@@ -6,11 +6,11 @@
 //! `pmd_rx` says it follows from the driver's own calls.
 #![tactic(auto)]
 
+ghost use Rattle.receive_laws.specs.Fitting.{FramesStayFitting, NoneBegunWhileOff};
 ghost use Rattle.receive_laws.specs.Healthy.{OwnRepliesAreHealthy};
-ghost use Rattle.receive_laws.specs.Histories.{HandedIsPrefix, NoneIsAll};
+ghost use Rattle.receive_laws.specs.Histories.{HandedIsPrefix, NoneIsAll, NoneIsAllBefore};
 ghost use Rattle.receive_laws.specs.Inside.{PieceIsInside};
 ghost use Rattle.receive_laws.specs.Lent.{OwnLendsAreKnown};
-ghost use Rattle.receive_laws.specs.Short.{FramesStayShort, ShortFramesEnd};
 ghost use Rattle.receive_laws.specs.Starting.{StartAgrees};
 ghost use Rattle.receive_laws.specs.Steps.{LookTellsSlot, ReceiveStepKeeps, EnableStepKeeps, LeavingKeeps, SwitchingKeeps, OwnEventKeeps, ForeignEntryKeeps, DeviceStepKeeps};
 ghost use Rattle.receive_laws.specs.Up.{LeavingStaysUp, EnableStepChangesNothing, ReceiveStepStaysUp, OwnEventStaysUp, EntryStaysUp};
@@ -70,6 +70,7 @@ pub fn foreign_entry_keeps_the_agreement()
 pub fn handed_packets_are_a_prefix_of_those_delivered()
     ensures prefix { HandedIsPrefix }
     ensures all { NoneIsAll }
+    ensures before { NoneIsAllBefore }
 {}
 
 /// As the side goes on with its ring lent and its words written, the device and a driver that posted nothing agree.
@@ -85,12 +86,13 @@ pub fn own_replies_are_healthy()
     ensures { OwnRepliesAreHealthy }
 {}
 
-/// Where the frames that wait for the queue have at most 2,048 bytes, and longer ones aren't let in, it stays so over
-/// every event that writes no setting; and where the device and the driver agree, each piece that is written on the
-/// queue then ends its frame.
-pub fn short_frames_end_where_they_are_written()
-    ensures stay { FramesStayShort }
-    ensures end { ShortFramesEnd }
+/// Where the frames that wait for the queue fit as many slots as the driver takes for a packet, longer ones aren't let in,
+/// and so do the packets that were written, it stays so over every event that writes no setting and resets not the
+/// queue's pool, while the side is up: each piece that is written but the last of its frame fills its block. While the
+/// side is off nothing is written of a frame that waits for the queue.
+pub fn fitting_frames_stay_fitting()
+    ensures stay { FramesStayFitting }
+    ensures off { NoneBegunWhileOff }
 {}
 
 /// Where of some numbers, as an arena's, only those are lent that the driver has lent for receiving or others have,

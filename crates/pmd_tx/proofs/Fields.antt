@@ -4,11 +4,12 @@ use Rattle.std.proofs.lemmas.List.{length-drop, drop-drop, drop_more, get_or-dro
 use Rattle.std.proofs.lemmas.List.Elements.{All-drop}
 use Rattle.nic_device.specs.DmaArena.Block.{Block, IsBlock}
 use Rattle.nic_device.specs.DmaRing.Ring.{next_of}
+use Rattle.pmd_seam.specs.Bufs.{numbers_of}
 use Rattle.pmd_seam.specs.Packet.{Kept}
 use Rattle.pmd_seam.specs.Slots.{blocks_for, is_ring_block}
 use Rattle.pmd_seam.proofs.Places.{next_below}
 use Rattle.pmd_tx.specs.Pieces.{ends_packet, places_of}
-use Rattle.pmd_tx.specs.Sending.{Sender, Layout, Part, Segment, no_segment}
+use Rattle.pmd_tx.specs.Sending.{Sender, Layout, Part, Segment, blocks_of, no_segment}
 use Rattle.pmd_tx.specs.Shown.{AllHold, AllTell, AreDistinct, Holds, IsRing, latest, outstanding_of}
 use Rattle.pmd_tx.specs.declared.piece.Piece.{Piece}
 use Rattle.pmd_tx.proofs.Outstanding.{ends-drop, length-outstanding, outstanding-drop, outstanding-none, tells-drop}
@@ -30,6 +31,14 @@ hold-length [] [] all = refl
 hold-length [] (b ∷ bs) all = absurd all
 hold-length (s ∷ ss) [] all = absurd all
 hold-length (s ∷ ss) (b ∷ bs) all = ap suc (hold-length ss bs all.1)
+
+pub hold-numbers : (ss : List Segment) (bs : List Block) → AllHold ss bs → blocks_of ss ≡ numbers_of bs
+hold-numbers [] [] all = refl
+hold-numbers [] (b ∷ bs) all = absurd all
+hold-numbers (s ∷ ss) [] all = absurd all
+hold-numbers (s ∷ ss) (b ∷ bs) all =
+    ap (λ (n : ℕ). n ∷ blocks_of ss) (sym all.0.number)
+    ∙ ap (λ (l : List ℕ). b.number ∷ l) (hold-numbers ss bs all.1)
 
 places-rest : (ps : List Piece) → AreDistinct (places_of ps) → AreDistinct (places_of (drop 1 ps))
 places-rest [] apart = apart
@@ -61,6 +70,33 @@ module _ (l : Layout) (ps : List Piece) (waiting : List Block) (lent poked poste
         (subst (λ (x : List Segment). AllHold x waiting) split h.held) in
         (both.0, both.1)
 
+    -- another block, of the same number, that begins with the bytes
+    pub held_anew : (b d : Block) (bs : List Block) → waiting ≡ b ∷ bs → Holds (get_or outs lent no_segment) d
+        → IsRing l ps (d ∷ bs) lent poked posted done ks
+    held_anew b d bs is holds =
+        let some = in_hand in
+        let below : lent < length outs = omega (arith, some, ap length is, count) in
+        record {
+          some = h.some;
+          few = h.few;
+          next = h.next;
+          ring = h.ring;
+          limit = h.limit;
+          room = h.room;
+          done_posted = h.done_posted;
+          posted_poked = h.posted_poked;
+          poked_lent = h.poked_lent;
+          lent_known = h.lent_known;
+          tells = h.tells;
+          newest = h.newest;
+          held = rw (drop_more outs lent no_segment below) (holds, (next_held b bs is).1);
+          ends = h.ends;
+          short = h.short;
+          kept = h.kept;
+          beside = h.beside;
+          apart = h.apart;
+        }
+
     -- one more is lent
     pub lent_ring : (b : Block) (bs : List Block) → waiting ≡ b ∷ bs → IsRing l ps bs (lent + 1) poked posted done ks
     lent_ring b bs is = record {
@@ -75,9 +111,11 @@ module _ (l : Layout) (ps : List Piece) (waiting : List Block) (lent poked poste
       poked_lent = omega (arith, h.poked_lent);
       lent_known = omega (arith, in_hand, ap length is);
       tells = h.tells;
+      newest = omega (arith, h.newest);
       held = (next_held b bs is).1;
       ends = h.ends;
       short = h.short;
+      kept = h.kept;
       beside = h.beside;
       apart = h.apart;
     }
@@ -106,9 +144,11 @@ module _ (l : Layout) (ps : List Piece) (waiting : List Block) (lent poked poste
           poked_lent = omega (arith, h.poked_lent);
           lent_known = omega (arith, h.lent_known);
           tells = rw are (tells-drop ps ks h.tells more);
+          newest = omega (arith, h.newest);
           held = rw same h.held;
           ends = rw are (ends-drop ps h.ends);
           short = rw (are, limit) (All-drop (λ (p : Piece). p.whole ≤ l.limit) 1 ps h.short);
+          kept = h.kept;
           beside = rw (are, ring, size)
               (All-drop (λ (p : Piece). is_ring_block l.ring l.size p.block ≡ false) 1 ps h.beside);
           apart = rw are (places-rest ps h.apart);
@@ -129,9 +169,11 @@ fresh_ring l some few next ring limit = record {
   poked_lent = omega arith;
   lent_known = omega arith;
   tells = tt;
+  newest = omega arith;
   held = rw (outstanding-none []) tt;
   ends = refl;
   short = λ k d below. absurd (omega arith);
+  kept = λ k d below. absurd (omega arith);
   beside = λ k d below. absurd (omega arith);
   apart = tt;
 }

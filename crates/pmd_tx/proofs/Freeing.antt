@@ -24,7 +24,7 @@ taken-both xs m n =
     ∙ take-append-drop m (take (m + n) xs)
 
 ends-append : (xs ys : List Segment) → ends_in (xs ++ ys) ≡ ends_in xs + ends_in ys
-ends-append [] ys = refl
+ends-append [] ys = omega arith
 ends-append (x ∷ xs) ys = omega (arith, ends-append xs ys)
 
 ends-both : (xs : List Segment) (m n : ℕ) → ends_in (take (m + n) xs) ≡ ends_in (take m xs) + ends_in (take n (drop m xs))
@@ -109,4 +109,4 @@ freed_after (Err e) v w x a b same f = tt
 pub some_after : {R E : Type 0} → (r : Result R E) (v w x : Sender) (a b : Numbers) → w.outstanding ≡ v.outstanding
     → OnErr r ((i : ℕ) × FreesSome w x a b i) → OnErr r ((i : ℕ) × FreesSome v x a b i)
 some_after (Ok d) v w x a b same f = tt
-some_after (Err e) v w x a b same (i, n, f) = (i, n, frees_from v w x a b n i same f)
+some_after (Err e) v w x a b same (i, (n, f)) = (i, (n, frees_from v w x a b n i same f))

@@ -23,6 +23,17 @@ all_parts (k ∷ kept) = parts_of k.bytes ++ all_parts kept
 abbrev pub latest : ℕ → List Kept → List Part
 latest count kept = drop (length (all_parts kept) - count) (all_parts kept)
 
+-- how many parts the newest packet has, and the bytes of one with which so many are left
+abbrev pub newest_parts : List Kept → ℕ
+newest_parts [] = 0
+newest_parts (k ∷ []) = parts_for (length k.bytes)
+newest_parts (k ∷ l ∷ kept) = newest_parts (l ∷ kept)
+
+abbrev pub newest_part : List Kept → ℕ → List ℕ
+newest_part [] left = []
+newest_part (k ∷ []) left = take 2048 (drop (2048 * (parts_for (length k.bytes) - left)) k.bytes)
+newest_part (k ∷ l ∷ kept) left = newest_part (l ∷ kept) left
+
 -- the outstanding segments: the latest parts of what was accepted are in these blocks
 unfoldable pub outstanding_of : List Piece → List Kept → List Segment
 outstanding_of pieces accepted = paired (places_of pieces) (latest (length pieces) accepted)
@@ -70,9 +81,11 @@ pub record IsRing (l : Layout) (pieces : List Piece) (waiting : List Block) (len
   pub poked_lent : poked ≤ lent
   pub lent_known : lent ≤ length pieces
   pub tells : AllTell pieces (latest (length pieces) accepted)
+  pub newest : length pieces ≤ lent + newest_parts accepted
   pub held : AllHold (drop lent (outstanding_of pieces accepted)) waiting
   pub ends : ends_packet pieces ≡ true
   pub short : All (λ (p : Piece). p.whole ≤ l.limit) pieces
+  pub kept : All (λ (k : Kept). length k.bytes ≤ 10240) accepted
   pub beside : All (λ (p : Piece). is_ring_block l.ring l.size p.block ≡ false) pieces
   pub apart : AreDistinct (places_of pieces)
 

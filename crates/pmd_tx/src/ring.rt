@@ -14,7 +14,7 @@ ghost use Rattle.pmd_seam.specs.Packet.{Kept};
 ghost use Rattle.pmd_seam.specs.Slots.{blocks_for, ring_blocks};
 ghost use Rattle.std.specs.VecDeque.{deque_len, deque_capacity};
 ghost use Rattle.pmd_tx.specs.Sends.{IsLate, IsBack};
-ghost use Rattle.pmd_tx.specs.Shown.{MayStart, sent_as, IsUnlent, LendsFirst};
+ghost use Rattle.pmd_tx.specs.Shown.{MayStart, sent_as, IsUnlent, LendsFirst, newest_part, newest_parts};
 ghost use Rattle.pmd_seam.specs.Refusals.{CanFail, CanRefuse};
 
 use crate::padding::{behind, put_back, split};
@@ -207,7 +207,8 @@ impl TransmitRing {
 
     /// Whether the block of the next segment whose descriptor isn't written is lent.
     pub(crate) fn is_next_lent(&self) -> bool
-        ensures { (result ≡ true) ↔ (self.now.poked < self.now.lent) }
+        ensures told { (result ≡ true) ↔ (self.now.poked < self.now.lent) }
+        ensures order { self.now.poked ≤ self.now.lent }
     {
         self.poked < self.lent
     }
@@ -215,7 +216,10 @@ impl TransmitRing {
     /// Whether the tail has passed all segments.
     #[tactic(auto, using(crate::proofs::Outstanding::outstanding))]
     pub(crate) fn is_settled(&self) -> bool
-        ensures { (result ≡ true) ↔ (self.now.posted ≡ length self.now.outstanding) }
+        ensures told { (result ≡ true) ↔ (self.now.posted ≡ length self.now.outstanding) }
+        ensures posted { self.now.posted ≤ self.now.poked }
+        ensures poked { self.now.poked ≤ self.now.lent }
+        ensures lent { self.now.lent ≤ length self.now.outstanding }
     {
         usize::from(self.posted) == self.pieces.len()
     }
@@ -324,13 +328,14 @@ impl TransmitRing {
             rss,
             hash,
         } = packet;
+        let _few = bufs.count();
         let mut others = bufs;
         let first = match others.take_first() {
             Some(first) => first,
             None => unreachable!(),
         };
         let block = first.block();
-        let (fault, first) = match lend(alloc, nic, first) {
+        match lend(alloc, nic, first) {
             Ok(None) => {
                 let (waiting, rest) = split(others, usize::from(parts) - 1);
                 add_pieces(&mut self.pieces, block, &waiting, len);
@@ -338,18 +343,27 @@ impl TransmitRing {
                 self.lent += 1;
                 let none = mem::replace(&mut self.waiting, waiting);
                 none.finish();
-                return Ok(rest);
+                Ok(rest)
             }
-            Ok(Some(first)) => (PmdFault::DeviceFault, first),
-            Err((fault, first)) => (PmdFault::Call(fault), first),
-        };
-        let back = Packet {
-            bufs: behind(first, others),
-            len,
-            rss,
-            hash,
-        };
-        Err((fault, back))
+            Ok(Some(first)) => {
+                let back = Packet {
+                    bufs: behind(first, others),
+                    len,
+                    rss,
+                    hash,
+                };
+                Err((PmdFault::DeviceFault, back))
+            }
+            Err((fault, first)) => {
+                let back = Packet {
+                    bufs: behind(first, others),
+                    len,
+                    rss,
+                    hash,
+                };
+                Err((PmdFault::Call(fault), back))
+            }
+        }
     }
 }
 
@@ -369,6 +383,7 @@ impl TransmitRing {
         ensures refuses { N.refuses nic.new ≡ N.refuses nic.old }
         ensures refusal { IfErr result (λ f. CanFail (N.refuses nic.new) f) }
     {
+        let _few = self.waiting.count();
         let buf = match self.waiting.take_first() {
             Some(buf) => buf,
             None => unreachable!(),
@@ -379,7 +394,9 @@ impl TransmitRing {
                 self.lent += 1;
                 Ok(())
             }
-            Ok(Some(buf)) => {
+            Ok(Some(mut buf)) => {
+                let left = self.pieces.len() - usize::from(self.lent);
+                buf.put(0, newest_part(&self.accepted, left));
                 put_back(&mut self.waiting, buf);
                 Err(PmdFault::DeviceFault)
             }
@@ -638,9 +655,22 @@ fn with_ring(blocks: VecDeque<u32>, ring: u32, size: u16) -> VecDeque<u32>
     lent
 }
 
+/// The bytes of a part of the newest packet, with which so many parts are left.
+fn newest_part(accepted: &[Record], left: usize) -> &[u8]
+    requires some { 0 < left }
+    requires few { left ≤ newest_parts accepted.now }
+    requires short { All (λ (kept : Kept). length kept.bytes ≤ 10240) accepted.now }
+    ensures { result.now ≡ newest_part accepted.now left }
+{
+    let bytes = accepted[accepted.len() - 1].bytes();
+    let start = 2048 * ((bytes.len() + 2047) / 2048 - left);
+    let rest = &bytes[start..];
+    &rest[..rest.len().min(2048)]
+}
+
 /// Whether a block of this number is that of one of these.
 fn holds(pieces: &VecDeque<Piece>, block: u32) -> bool
-    ensures { result ≡ list_any (λ lent. block == lent) (places_of pieces.now.items) }
+    ensures { result ≡ list_any (λ piece. block == piece.block) pieces.now.items }
 {
     pieces.iter().any(|piece| block == piece.block)
 }

@@ -20,6 +20,7 @@ pub mod Late
 pub mod Leaving
 pub mod Lending
 pub mod Living
+pub mod Placed
 pub mod ReapedCounted
 pub mod Rising
 pub mod Sending

@@ -7,8 +7,8 @@ use Rattle.nic_device.specs.DmaArena.Whereabouts.{times_in_hand}
 use Rattle.nic_device.proofs.DmaArena.Arenas.{is_own-with_free}
 use Rattle.pmd_rx.specs.PmdSeam.Bufs.{with_all_free}
 use Rattle.pmd_rx.specs.PmdSeam.Home.{AreOut}
-use Rattle.pmd_rx.proofs.PmdSeam.Outside.{times-append, out_fewer, out_first, out_given}
-use Rattle.pmd_rx.proofs.PmdSeam.Rings.{among_times}
+use Rattle.pmd_rx.proofs.PmdSeam.Outside.{times-cons, times-append, out_fewer, out_first, out_given}
+use Rattle.pmd_rx.proofs.PmdSeam.Rings.{among_times, times_among}
 use Rattle.pmd_tx.specs.Sends.{are_out}
 use Rattle.pmd.specs.Blocks.{KeepsEach}
 use Rattle.pmd.proofs.Blocks.{out_joined}
@@ -87,3 +87,34 @@ all_joined a xs (n ∷ ns) are away out =
     let (own, here, alone, rest) = four (is_own a n) (is_free a n) (list_any (λ b. n == b) ns) (are_out a ns) are in
     out_joined a (ns ++ xs) n own here
     (omega (arith, times-append ns xs n, none_among ns n alone, away.0)) (all_joined a xs ns rest away.1 out)
+
+-- and the other way round: blocks that are out beside others
+
+pub out_are : (a : Numbers) (ns xs : List ℕ) → AreOut a (ns ++ xs) → are_out a ns ≡ true
+out_are a [] xs out = refl
+out_are a (n ∷ ns) xs out =
+    let here = out_first a (ns ++ xs) n out in
+    let alone : list_any (λ b. n == b) ns ≡ false = times_among ns n (omega (arith, here.2, times-append ns xs n)) in
+    let rest : are_out a ns ≡ true =
+    out_are a ns xs (out_fewer a (n ∷ (ns ++ xs)) (ns ++ xs) out (λ k. omega (arith, times-cons n (ns ++ xs) k))) in
+    rw (here.0, here.1, alone, rest) refl
+
+pub out_away : (a : Numbers) (ns xs : List ℕ) → AreOut a (ns ++ xs) → AreAway xs ns
+out_away a [] xs out = tt
+out_away a (n ∷ ns) xs out =
+    let here = out_first a (ns ++ xs) n out in (
+      omega (arith, here.2, times-append ns xs n),
+      out_away a ns xs
+          (out_fewer a (n ∷ (ns ++ xs)) (ns ++ xs) out (λ k. omega (arith, times-cons n (ns ++ xs) k))),
+    )
+
+pub none_by : (f : ℕ → Bool) (xs ns : List ℕ) → ((n : ℕ) → times_in_hand xs n ≡ 0 → f n ≡ false)
+    → AreAway xs ns → list_any f ns ≡ false
+none_by f xs [] none away = refl
+none_by f xs (n ∷ ns) none away = rw (none n away.0, none_by f xs ns none away.1) refl
+
+pub away_part : (xs ys ns : List ℕ) → ((n : ℕ) → times_in_hand ys n ≤ times_in_hand xs n) → AreAway xs ns
+    → AreAway ys ns
+away_part xs ys [] fewer away = tt
+away_part xs ys (n ∷ ns) fewer away =
+    (omega (arith, fewer n, away.0), away_part xs ys ns fewer away.1)

@@ -21,7 +21,6 @@ pub mod Leaving
 pub mod Lending
 pub mod Living
 pub mod Placed
-pub mod ReapedCounted
 pub mod Rising
 pub mod Sending
 pub mod Sent

@@ -8,6 +8,7 @@ ghost use Rattle.pmd_rx.specs.PmdSeam.Home.{AreOut};
 ghost use Rattle.pmd_rx.specs.PmdSeam.Fresh.{IsFresh, bufs_for};
 ghost use Rattle.pmd_rx.specs.Keeping.{blocks_out};
 ghost use Rattle.pmd.specs.Running.{kept_out};
+ghost use Rattle.pmd.specs.Blocks.{KeepsEach};
 ghost use Rattle.pmd.specs.Halted.{IsHalted, all_out, is_out, goes_back, is_free_or_out, with_rings, with_receive_ring, with_blocks};
 ghost use Rattle.pmd.specs.Stopping.{Stops, StopFails, IsInPart, IsUnclosed, closed};
 ghost use Rattle.pmd.specs.Leaving.{leaving_as};
@@ -149,6 +150,8 @@ impl Halted {
         ensures ok { IsOk result ↔ (goes_back self.old packet ≡ true) }
         ensures released { OnOk result
             (self.new ≡ record self.old { arena = with_all_free self.old.arena (numbers_of packet.bufs) }) }
+        ensures blocks { OnOk result (KeepsEach self.old.arena (all_out self.old ++ numbers_of packet.bufs)
+            self.new.arena (all_out self.new ++ [])) }
         ensures back { IfErr result (λ back. back ≡ packet) }
         ensures kept { OnErr result (self.new ≡ self.old) }
     {

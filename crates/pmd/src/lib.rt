@@ -25,6 +25,6 @@ pub use pmd_rx::{
     Bufs, Calls, Direct, Finished, Interleaved, LONGEST_FRAME, Made, Nic, POLLS, Packet, PmdFault, Queue, Record,
     SHORTEST_FRAME, Setup, ThroughLock, pf_setup,
 };
-pub use pmd_tx::{Reaped, TxAnswer, TxFault};
+pub use pmd_tx::{Reaped, TxAnswer, TxFault, bytes_in};
 pub use running::Running;
 pub use start::{Rest, StartRefused};

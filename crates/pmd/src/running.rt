@@ -17,7 +17,7 @@ ghost use Rattle.pmd_rx.specs.PmdSeam.Refusals.{CanFail};
 
 use nic_device::Arena;
 use pmd_rx::{Bufs, Nic, Packet, PmdFault, ReceiveRing, Record, fresh_packet, give_packet};
-use pmd_tx::{Reaped, TransmitRing, TxAnswer, TxFault};
+use pmd_tx::{Reaped, TransmitRing, TxAnswer, TxFault, bytes_in};
 use std::alloc::Global;
 use std::marker::Model;
 
@@ -120,6 +120,7 @@ impl Running {
         ensures refuses { N.refuses nic.new ≡ N.refuses nic.old }
         ensures refusal { IfErr result (λ failed. CanFail (N.refuses nic.new) failed.fault) }
     {
+        let _whole = bytes_in(&packet.bufs);
         let elsewhere = self.receives(&packet.bufs);
         self.transmit
             .send(alloc, nic, &mut self.arena, elsewhere, packet)

@@ -130,7 +130,7 @@ pub(crate) fn split(bufs: Bufs, count: usize) -> (Bufs, Bufs)
 }
 
 /// How many bytes Bufs have.
-pub(crate) fn bytes_in(bufs: &Bufs) -> usize
+pub fn bytes_in(bufs: &Bufs) -> usize
     ensures sum { result ≡ 2048 * length bufs.now }
     ensures whole { All (λ b. IsBlock b) bufs.now }
 {

@@ -7,7 +7,7 @@ use crate::bench::{
 use crate::interleaved::{unstepped, without_blocks};
 use crate::outcome::{Hand, done, none, refused, some};
 use nic_device::{Arena, Event, Mode, Port, Reply};
-use workers::{Direct, Home, Nic, Packet, Pmd, PmdFault, Rest, Setup, StartRefused, TxFault};
+use workers::{Bufs, Direct, Home, Nic, Packet, Pmd, PmdFault, Rest, Setup, StartRefused, TxFault};
 
 #[test]
 fn a_frame_is_received_and_sent_again(rt: HostRuntime) {

@@ -145,6 +145,10 @@ module _ (own : Blocks) (v : Receive) where
       both_may s.outstanding (segments_of p) all
       (paired_may p.blocks (parts_of p.kept.bytes) (subst (λ (ns : List ℕ). AllMaySend own v ns) (sym is) some))
   moved_may blocks s some all Reaps (reply.Buf b) is = rest_may s.outstanding all
+  moved_may blocks s some all Lends reply.Done is = all
+  moved_may blocks s some all Asks reply.Done is = all
+  moved_may blocks s some all Advances reply.Done is = all
+  moved_may blocks s some all Looks (reply.Bytes d) is = all
   moved_may blocks s some all m r is = all
 
   pub played_may : (blocks : List ℕ) (s : Sender) → AllMaySend own v blocks → May s.outstanding → (moves : List Move)

@@ -88,7 +88,7 @@ module _ (a : Numbers) (lent gone kept : List ℕ) (out : AreOut a (lent ++ (gon
 
 by_sum : (f : Bool) (t : ℕ) → (f || nat_lt 0 t) ≡ nat_lt 0 (cond f 1 0 + t)
 by_sum true t = grind (arith, nat_tests)
-by_sum false t = refl
+by_sum false t = let e : t ≡ 0 + t = omega arith in ap (λ (k : ℕ). nat_lt 0 k) e
 
 module _ (a : Numbers) (lent held : List ℕ) (out : AreOut a (lent ++ held)) where
   first : AreOut a (held ++ lent)

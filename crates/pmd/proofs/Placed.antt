@@ -49,7 +49,7 @@ module _ (p : Packet) (whole : All (λ (b : Block). IsBlock b) p.bufs) (some : 0
           kept,
           some,
           length-append bytes (replicate (60 - length bytes) 0),
-          length-replicate (60 - length bytes) 0,
+          length-replicate {A = ℕ} (60 - length bytes) 0,
         )
 
     pub placed : blocks_of (segments_of (outgoing_of p)) ≡ take (parts_for p.len) (numbers_of p.bufs)

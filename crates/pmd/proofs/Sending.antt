@@ -8,7 +8,6 @@ use Rattle.nic_device.specs.DmaArena.Whereabouts.{times_in_hand}
 use Rattle.pmd_rx.specs.PmdSeam.Bufs.{numbers_of, with_all_free}
 use Rattle.pmd_rx.specs.PmdSeam.Home.{AreOut}
 use Rattle.pmd_rx.specs.PmdSeam.declared.fault.PmdFault.{PmdFault}
-use Rattle.pmd_rx.specs.PmdSeam.declared.fault.PmdFault.TheVariants.{BadSize, ForeignBlock}
 use Rattle.pmd_rx.specs.PmdSeam.declared.packet.Packet.{Packet}
 use Rattle.pmd_rx.specs.PmdSeam.Slots.{ring_blocks}
 use Rattle.pmd_rx.proofs.PmdSeam.Outside.{times-append, out_fewer}
@@ -16,8 +15,6 @@ use Rattle.pmd_rx.specs.Keeping.{blocks_out, numbers_in}
 use Rattle.pmd_rx.specs.Receive.{Receive}
 use Rattle.pmd_tx.specs.Sending.{Sender, Layout, Segment, blocks_of, parts_for}
 use Rattle.pmd_tx.specs.Sends.{Frees, FreesSome, gate_of, goes_home, is_bad_size, is_full, returned, IsAnswer, IsAccepted, IsNoneAccepted, IsShut, SendsHome}
-use Rattle.pmd_tx.specs.declared.answer.Gate.{Gate}
-use Rattle.pmd_tx.specs.declared.answer.Gate.TheVariants.{Refused, Full, Open}
 use Rattle.pmd_tx.specs.declared.answer.Reaped.{Reaped}
 use Rattle.pmd_tx.specs.declared.answer.TxAnswer.{TxAnswer}
 use Rattle.pmd_tx.specs.declared.answer.TxFault.{TxFault}
@@ -155,23 +152,37 @@ module _ (r s : Running) (none : IsNoneAccepted r.transmit s.transmit)
       );
     }
 
+-- what a packet meets, by the tests
+
+pub by_gate : {G : Type 0} (F : G → Type 0) (T : Type 0) (bad full wide foreign : G) (is_bad is_home is_full : Bool)
+    → (F bad → T) → (F full → T) → (F wide → T) → (F foreign → T)
+    → F (if is_bad then bad else if is_home then (if is_full then full else wide) else foreign) → T
+by_gate F T bad full wide foreign true home is_full first second third last f = first f
+by_gate F T bad full wide foreign false true true first second third last f = second f
+by_gate F T bad full wide foreign false true false first second third last f = third f
+by_gate F T bad full wide foreign false false is_full first second third last f = last f
+
+by_open : {G : Type 0} (F : G → Type 0) (bad full wide foreign : G) (is_bad is_home is_full : Bool)
+    → (F bad → ⊥) → (F full → ⊥) → (F foreign → ⊥)
+    → F (if is_bad then bad else if is_home then (if is_full then full else wide) else foreign)
+    → (is_bad ≡ false) × (is_home ≡ true)
+by_open F bad full wide foreign true home is_full first second last f = absurd (first f)
+by_open F bad full wide foreign false true true first second last f = absurd (second f)
+by_open F bad full wide foreign false true false first second last f = (refl, refl)
+by_open F bad full wide foreign false false is_full first second last f = absurd (last f)
+
 -- where no packet comes back, the way was open
 
 back_none : (p : Packet) (o : Option Packet) → o ≡ Some p → o ≡ None → ⊥
 back_none p o is none = let e : Some p ≡ None = sym is ∙ none in cc
 
-by_way : (p : Packet) (x : Result TxAnswer TxFault) (bad home full : Bool)
-    → IsAnswer (if bad then Refused BadSize else if home then (if full then Full else Open) else Refused ForeignBlock)
-    p x → returned x ≡ None → (bad ≡ false) × (home ≡ true)
-by_way p x true home full answer none = absurd (back_none p (returned x) (ap returned answer) none)
-by_way p x false true full answer none = (refl, refl)
-by_way p x false false full answer none = absurd (back_none p (returned x) (ap returned answer) none)
-
 pub open_way : (v : Sender) (a : Numbers) (elsewhere : Bool) (p : Packet) (x : Result TxAnswer TxFault)
     → IsAnswer (gate_of v a elsewhere p) p x → returned x ≡ None
     → (is_bad_size v p ≡ false) × ((goes_home v a p && not elsewhere) ≡ true)
 open_way v a elsewhere p x answer none =
-    by_way p x (is_bad_size v p) (goes_home v a p && not elsewhere) (is_full v p) answer none
+    by_open (λ g. IsAnswer g p x) _ _ _ _ (is_bad_size v p) (goes_home v a p && not elsewhere) (is_full v p)
+    (λ e. back_none p (returned x) (ap returned e) none) (λ e. back_none p (returned x) (ap returned e) none)
+    (λ e. back_none p (returned x) (ap returned e) none) answer
 
 pub way_out : (r : Running) (p : Packet) → IsUp r → (goes_home r.transmit r.arena p && not (receives r p)) ≡ true
     → AreOut r.arena (numbers_of p.bufs ++ rings_out r)
@@ -179,13 +190,17 @@ way_out r p up goes = home_goes r p up (grind (arith, nat_tests, goes)) (grind (
 
 -- and where it wasn't, nothing went home
 
-pub shut_home : (g : Gate) (p : Packet) (x : Result TxAnswer TxFault) (a b : Numbers) → IsAnswer g p x → IsShut g
-    → SendsHome (returned x) p a b → b ≡ a
-shut_home (Refused f) p x a b answer shut home =
-    subst (λ (y : Result TxAnswer TxFault). SendsHome (returned y) p a b) answer home
-shut_home Full p x a b answer shut home =
-    subst (λ (y : Result TxAnswer TxFault). SendsHome (returned y) p a b) answer home
-shut_home Open p x a b answer shut home = absurd shut
+gave_all : (p : Packet) (x y : Result TxAnswer TxFault) (a b : Numbers) → x ≡ y → SendsHome (returned x) p a b
+    → SendsHome (returned y) p a b
+gave_all p x y a b is home = subst (λ (z : Result TxAnswer TxFault). SendsHome (returned z) p a b) is home
+
+pub shut_home : (v : Sender) (a : Numbers) (elsewhere : Bool) (p : Packet) (x : Result TxAnswer TxFault) (b : Numbers)
+    → IsAnswer (gate_of v a elsewhere p) p x → IsShut (gate_of v a elsewhere p) → SendsHome (returned x) p a b → b ≡ a
+shut_home v a elsewhere p x b answer shut home =
+    by_gate (λ g. IsAnswer g p x × IsShut g) (b ≡ a) _ _ _ _ (is_bad_size v p) (goes_home v a p && not elsewhere)
+    (is_full v p)
+    (λ e. gave_all p x _ a b e.0 home) (λ e. gave_all p x _ a b e.0 home) (λ e. absurd e.1)
+    (λ e. gave_all p x _ a b e.0 home) (answer, shut)
 
 pub home_owns : (o : Option Packet) (p : Packet) (a b : Numbers) → SendsHome o p a b → OwnsSame a b
 home_owns None p a b home n =

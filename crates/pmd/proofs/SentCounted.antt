@@ -14,7 +14,7 @@ use Rattle.pmd_tx.specs.declared.answer.TxAnswer.TheVariants.{Taken, RingFull}
 use Rattle.pmd_tx.specs.declared.answer.TxFault.{TxFault}
 use Rattle.pmd.specs.Blocks.{KeepsUp}
 use Rattle.pmd.specs.Running.{Running, IsUp, receives}
-use Rattle.pmd.proofs.Sending.{by_return}
+use Rattle.pmd.proofs.Sending.{by_gate, by_return}
 
 pub fault_blocks : (f : PmdFault) (p back : Packet) → IsBack f p back → numbers_of back.bufs ≡ numbers_of p.bufs
 fault_blocks fault.DeviceFault p back is = is
@@ -36,14 +36,6 @@ some_fault : (f : PmdFault) (p : Packet) (o : Option Packet) → IfSome o (λ (q
     → IfSome o (λ (q : Packet). HasSame p q)
 some_fault f p None is = tt
 some_fault f p (Some q) is = fault_blocks f p q is
-
-by_gate : {G : Type 0} (F : G → Type 0) (T : Type 0) (bad full wide foreign : G) (is_bad is_home is_full : Bool)
-    → (F bad → T) → (F full → T) → (F wide → T) → (F foreign → T)
-    → F (if is_bad then bad else if is_home then (if is_full then full else wide) else foreign) → T
-by_gate F T bad full wide foreign true home is_full first second third last f = first f
-by_gate F T bad full wide foreign false true true first second third last f = second f
-by_gate F T bad full wide foreign false true false first second third last f = third f
-by_gate F T bad full wide foreign false false is_full first second third last f = last f
 
 full_back : (v : Sender) (a : Numbers) (elsewhere : Bool) (p q : Packet)
     → IsAnswer (gate_of v a elsewhere p) p (Ok (RingFull q)) → Some q ≡ Some p

@@ -84,6 +84,25 @@ module _ (a : Numbers) (lent gone kept : List ℕ) (out : AreOut a (lent ++ (gon
   pub part_out : AreOut (with_all_free a gone) (lent ++ kept)
   part_out = out_all_given a gone (lent ++ kept) turned
 
+-- what each half needs as it is closed, the receive half first
+module _ (a : Numbers) (lent sent held waiting : List ℕ) (out : AreOut a ((lent ++ sent) ++ (held ++ waiting))) where
+  pub first_half : AreOut a (lent ++ held)
+  first_half =
+      out_fewer a ((lent ++ sent) ++ (held ++ waiting)) (lent ++ held) out
+      (λ k. omega (
+        arith,
+        times-append (lent ++ sent) (held ++ waiting) k,
+        times-append lent sent k,
+        times-append held waiting k,
+        times-append lent held k,
+      ))
+
+  pub second_half : AreOut (with_all_free a held) waiting
+  second_half =
+      out_all_given a held waiting
+      (out_fewer a ((lent ++ sent) ++ (held ++ waiting)) (held ++ waiting) out
+      (λ k. omega (arith, times-append (lent ++ sent) (held ++ waiting) k)))
+
 -- whether a block is free or out, by a count
 
 by_sum : (f : Bool) (t : ℕ) → (f || nat_lt 0 t) ≡ nat_lt 0 (cond f 1 0 + t)

@@ -1,5 +1,5 @@
 -- The blocks that a transmit ring keeps: lent, or in hand until they are.
-use Rattle.std.proofs.Common.{◌≡◌, ℕ, ◌+◌, ◌<◌, ◌≤◌, ◌==◌, Bool, true, false, List, ◌++◌, take, drop, refl, sym, ap, ◌∙◌, arith}
+use Rattle.std.proofs.Common.{◌≡◌, ℕ, zero, suc, ◌+◌, ◌<◌, ◌≤◌, ◌==◌, nat_lt, Bool, true, false, List, ◌++◌, take, drop, refl, sym, ap, ◌∙◌, arith}
 use Rattle.std.specs.List.{list_any}
 use Rattle.std.proofs.lemmas.Bool.{or_from}
 use Rattle.std.proofs.lemmas.Bool.Decides.{nat_tests}
@@ -17,6 +17,13 @@ use Rattle.pmd_tx.specs.Sending.{Sender, Segment, blocks_of, has_lent, keeps}
 use Rattle.pmd_tx.specs.Sends.{are_out, goes_home}
 use Rattle.pmd.specs.Running.{Running, IsUp, kept_out, receives, rings_out}
 use Rattle.pmd.proofs.Several.{AreAway, all_joined, away_both, away_by, neither, none_among, uncounted}
+
+-- a test by a count
+is_tested : (b : Bool) (t : ℕ) → (b ≡ false → t ≡ 0) → (t ≡ 0 → b ≡ false) → b ≡ nat_lt 0 t
+is_tested true zero f g = absurd (let e : true ≡ false = g refl in cc)
+is_tested true (suc t) f g = grind (arith, nat_tests)
+is_tested false zero f g = refl
+is_tested false (suc t) f g = absurd (omega (arith, f refl))
 
 module _ (v : Sender) (n : ℕ) where
   abbrev ends : List ℕ
@@ -65,6 +72,14 @@ module _ (v : Sender) (n : ℕ) where
       or_from (is_ring_block v.layout.ring v.layout.size n) (list_any (λ b. n == b) blocks)
       (ring_away (omega (arith, none, parts)))
       (times_among blocks n (omega (arith, none, parts)))
+
+  -- all of them, counted
+  pub keeps_is : keeps v n ≡ nat_lt 0 (times_in_hand (lent_of v ++ waiting_of v) n)
+  keeps_is =
+      let all = times-append (lent_of v) (waiting_of v) n in
+      is_tested (keeps v n) (times_in_hand (lent_of v ++ waiting_of v) n)
+      (λ away. omega (arith, none_kept away, kept_parted, all))
+      (λ none. away_kept (omega (arith, none, kept_parted, all)))
 
 -- the blocks of a packet that go back come to those that are out
 

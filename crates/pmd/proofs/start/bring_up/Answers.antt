@@ -122,7 +122,7 @@ go_on-requires-clause-enough g c =
     omega (
       arith,
       c.requires.enough,
-      size.2.0,
+      size.2,
       prepared_count _ _ _ _ _ _ _ _ ready.prepared,
       prepared_count _ _ _ _ _ _ _ _ also.prepared,
     )

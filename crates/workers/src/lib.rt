@@ -47,7 +47,7 @@ pub use hosted::run;
 pub use job::{Job, overlap};
 pub use meeting::{Lockstep, MAX_MEMBERS};
 pub use pmd::{
-    Direct, Finished, Home, Interleaved, Nic, POLLS, Packet, Pmd, PmdFault, Queue, Record, Rest,
+    Bufs, Direct, Finished, Home, Interleaved, Nic, POLLS, Packet, Pmd, PmdFault, Queue, Record, Rest,
     Setup, StartRefused, StopRefused, ThroughLock, TxAnswer, TxFault, pf_setup,
 };
 pub use reports::{Collector, Report};

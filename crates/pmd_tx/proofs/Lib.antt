@@ -4,6 +4,8 @@ pub mod Ending
 pub mod Fields
 pub mod Freeing
 pub mod Loop
+pub mod Newest
+pub mod Numbering
 pub mod Outstanding
 pub mod Own
 pub mod Playing

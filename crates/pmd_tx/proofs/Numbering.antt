@@ -1,0 +1,21 @@
+-- The numbers of Bufs, one after the other.
+use Rattle.std.proofs.Common.{◌≡◌, ◌∙◌, ℕ, zero, suc, ◌+◌, ◌<◌, List, [], ◌∷◌, length, drop, get_or, refl, sym, ap, arith}
+use Rattle.std.proofs.lemmas.List.{drop_more}
+use Rattle.nic_device.specs.DmaArena.Block.{Block}
+use Rattle.pmd_seam.specs.Bufs.{numbers_of}
+
+pub number-at : (bs : List Block) (k : ℕ) (b : Block) (d : ℕ) → k < length bs → b ≡ get_or bs k b
+    → get_or (numbers_of bs) k d ≡ b.number
+number-at [] k b d below at = absurd (omega arith)
+number-at (c ∷ bs) zero b d below at = ap (λ (x : Block). x.number) (sym at)
+number-at (c ∷ bs) (suc k) b d below at = number-at bs k b d (omega arith) at
+
+pub count-numbers : (bs : List Block) → length (numbers_of bs) ≡ length bs
+count-numbers [] = refl
+count-numbers (b ∷ bs) = ap suc (count-numbers bs)
+
+pub numbers-left : (bs : List Block) (k : ℕ) (b : Block) → k < length bs → b ≡ get_or bs k b
+    → drop k (numbers_of bs) ≡ b.number ∷ drop (k + 1) (numbers_of bs)
+numbers-left bs k b below at =
+    drop_more (numbers_of bs) k 0 (omega (arith, below, count-numbers bs))
+    ∙ ap (λ (n : ℕ). n ∷ drop (k + 1) (numbers_of bs)) (number-at bs k b 0 below at)

@@ -9,6 +9,7 @@ pub mod Newest
 pub mod Numbering
 pub mod Outstanding
 pub mod Own
+pub mod Padded
 pub mod Passing
 pub mod Playing
 pub mod Starting

@@ -247,6 +247,7 @@ module _ (l : Layout) (ps : List Piece) (waiting : List Block) (lent poked poste
       few = h.few;
       next = h.next;
       ring = h.ring;
+      least = h.least;
       limit = h.limit;
       room = omega (arith, length-append ps new, news, outs, may.room);
       done_posted = h.done_posted;

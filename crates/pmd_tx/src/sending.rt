@@ -250,6 +250,7 @@ impl TransmitRing {
         ensures refuses { N.refuses nic.new ≡ N.refuses nic.old }
         ensures refusal { IfErr result (λ refused. CanFail (N.refuses nic.new) refused.0) }
     {
+        let _least = self.limit();
         let start = start_of(&packet);
         let len = packet.len;
         match self.accept(alloc, nic, pad(packet)) {

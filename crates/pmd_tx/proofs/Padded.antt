@@ -61,6 +61,12 @@ numbers-first : (bs : List Block) (at : ℕ) (bytes : List ℕ) → numbers_of (
 numbers-first [] at bytes = refl
 numbers-first (b ∷ bs) at bytes = refl
 
+pub numbers-drop : (n : ℕ) (bs : List Block) → numbers_of (drop n bs) ≡ drop n (numbers_of bs)
+numbers-drop zero [] = refl
+numbers-drop (suc n) [] = refl
+numbers-drop zero (b ∷ bs) = refl
+numbers-drop (suc n) (b ∷ bs) = numbers-drop n bs
+
 count-first : (bs : List Block) (at : ℕ) (bytes : List ℕ) → length (with_first bs at bytes) ≡ length bs
 count-first [] at bytes = refl
 count-first (b ∷ bs) at bytes = refl
@@ -125,7 +131,7 @@ module _ (p : Packet) (whole : All (λ (b : Block). IsBlock b) p.bufs) (some : 0
 
     whole-first : (bs : List Block) → p.len < 60 → All (λ (b : Block). IsBlock b) bs
         → All (λ (b : Block). IsBlock b) (with_first bs p.len (zeros p.len))
-    whole-first [] short are = are
+    whole-first [] short are k d below = absurd (omega arith)
     whole-first (b ∷ bs) short are zero d below =
         let at = are 0 b (omega arith) in
         record { size = long-put b.bytes p.len at.size short; small = at.small }

@@ -106,7 +106,7 @@ newest-push [] k = refl
 newest-push (x ∷ []) k = refl
 newest-push (x ∷ y ∷ ks) k = newest-push (y ∷ ks) k
 
-length-blocks : (bs : List Block) → All (λ (b : Block). IsBlock b) bs → length (bytes_of bs) ≡ 2048 * length bs
+pub length-blocks : (bs : List Block) → All (λ (b : Block). IsBlock b) bs → length (bytes_of bs) ≡ 2048 * length bs
 length-blocks [] are = omega arith
 length-blocks (b ∷ bs) are =
     omega (arith, length-append b.bytes (bytes_of bs), (are 0 b (omega arith)).size,

@@ -1,0 +1,38 @@
+use Rattle.std.proofs.Common.{◌≡◌, ◌∙◌, ◌+◌, ◌≤◌, ℕ, Bool, true, false, [], length, if◌then◌else◌, refl, ap, subst, sym, arith}
+use Rattle.pmd_tx.specs.Sends.{Frees}
+use Rattle.pmd_tx.proofs.Loop.{left_over, reaped_none, reaped_more, reaped_same}
+use Rattle.pmd_tx.proofs.Ending.{by_after, looks_after}
+use Rattle.pmd_tx.proofs.Playing.{plays_both}
+use Rattle.pmd_tx.proofs.ring.TransmitRing.reap_sent.Goals as goal
+
+pub loop-reaped-init : goal.loop-reaped-init
+loop-reaped-init g c = record {
+  reaped = reaped_none (g.N.Nic.made c.args.nic.now) c.args.self.now c.args.arena.now c.requires.settled c.requires.home;
+  few = omega arith;
+  who = refl;
+  refuses = refl;
+}
+
+pub returns-in-Ok-None-clause-plays : goal.returns-in-Ok-None-clause-plays
+returns-in-Ok-None-clause-plays g c blocks =
+    plays_both blocks (g.N.Nic.made c.args.nic.now) (g.N.Nic.made c.loop-reaped.nic) (g.N.Nic.made c.reap_oldest.new.nic)
+    c.args.self.now c.loop-reaped.self c.reap_oldest.new.self (c.loop-reaped.invariant.reaped.plays blocks)
+    (c.reap_oldest.ensures.plays blocks)
+
+pub returns-in-Ok-None-clause-waits : goal.returns-in-Ok-None-clause-waits
+returns-in-Ok-None-clause-waits g c = λ is.
+    looks_after (g.N.Nic.made c.args.nic.now) (g.N.Nic.made c.loop-reaped.nic) (g.N.Nic.made c.reap_oldest.new.nic)
+    c.args.self.now c.loop-reaped.self c.reap_oldest.new.self (c.loop-reaped.invariant.reaped.plays []).plays
+    c.loop-reaped.invariant.reaped.accepted (c.in-Ok-None.ensures.waits (rw c.in-Ok-None.field-0-is refl))
+
+pub returns-in-Err-clause-plays : goal.returns-in-Err-clause-plays
+returns-in-Err-clause-plays g c blocks =
+    plays_both blocks (g.N.Nic.made c.args.nic.now) (g.N.Nic.made c.loop-reaped.nic) (g.N.Nic.made c.reap_oldest.new.nic)
+    c.args.self.now c.loop-reaped.self c.reap_oldest.new.self (c.loop-reaped.invariant.reaped.plays blocks)
+    (c.reap_oldest.ensures.plays blocks)
+
+pub returns-in-Err-clause-faults : goal.returns-in-Err-clause-faults
+returns-in-Err-clause-faults g c blocks =
+    by_after c.in-Err.fault blocks (g.N.Nic.made c.args.nic.now) (g.N.Nic.made c.loop-reaped.nic)
+    (g.N.Nic.made c.reap_oldest.new.nic) c.args.self.now c.loop-reaped.self
+    (c.loop-reaped.invariant.reaped.plays blocks) (c.in-Err.ensures.faults blocks)

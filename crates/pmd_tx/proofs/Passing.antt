@@ -1,5 +1,5 @@
 -- What a packet meets, and what comes of it.
-use Rattle.std.proofs.Common.{◌≡◌, ◌≢◌, ℕ, zero, suc, ◌+◌, ◌<◌, ◌≤◌, ◌==◌, ◌||◌, inl, inr, Bool, true, false, All, List, [], ◌∷◌, ◌++◌, length, Option, Some, None, Result, Ok, Err, IfSome, IfNone, IfErr, not, ◌&&◌, if◌then◌else◌, refl, sym, ap, ◌∙◌, subst, arith}
+use Rattle.std.proofs.Common.{◌≡◌, ◌≢◌, ℕ, zero, suc, ◌+◌, ◌<◌, ◌≤◌, ◌==◌, ◌||◌, inl, inr, Bool, true, false, All, List, [], ◌∷◌, ◌++◌, length, take, drop, Option, Some, None, Result, Ok, Err, IfSome, IfNone, IfErr, not, ◌&&◌, if◌then◌else◌, refl, sym, ap, ◌∙◌, subst, arith}
 use Rattle.std.proofs.lemmas.Bool.{both_ways, cases_Bool, cases_eq, eq-eqb}
 use Rattle.std.proofs.lemmas.Bool.Decides.{nat_tests}
 use Rattle.std.specs.List.{list_any}
@@ -9,7 +9,8 @@ use Rattle.nic_device.specs.DmaArena.Whereabouts.{times_in_hand}
 use Rattle.nic_device.proofs.DmaArena.Arenas.{is_own-of_free}
 use Rattle.pmd_seam.specs.Bufs.{numbers_of}
 use Rattle.pmd_seam.specs.Home.{AreOut}
-use Rattle.pmd_seam.proofs.Outside.{times-cons, times_first, times_rest}
+use Rattle.pmd_seam.proofs.Outside.{out_fewer, times-append, times-cons, times_first, times_rest}
+use Rattle.std.proofs.lemmas.List.{take-append-drop}
 use Rattle.pmd_seam.specs.Packet.{Kept}
 use Rattle.pmd_seam.specs.declared.fault.PmdFault.{PmdFault}
 use Rattle.pmd_seam.specs.declared.fault.PmdFault.TheVariants.{BadSize, ForeignBlock, DeviceFault}
@@ -183,3 +184,12 @@ none_back (Err f) p none = rw none tt
 pub back_itself : (f : PmdFault) (p : Packet) → IsBack f p p
 back_itself DeviceFault p = refl
 back_itself other p = refl
+
+-- those that hold none of its bytes are out too
+pub out_drop : (a : Numbers) (n : ℕ) (ns ms : List ℕ) → AreOut a ns → ms ≡ drop n ns → AreOut a ms
+out_drop a n ns ms out is =
+    rw is
+    (out_fewer a ns (drop n ns) out (λ k.
+    let split = ap (λ (l : List ℕ). times_in_hand l k) (take-append-drop n ns) in
+    let both = times-append (take n ns) (drop n ns) k in
+    omega (arith, split, both)))

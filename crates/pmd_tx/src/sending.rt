@@ -26,10 +26,9 @@ pub fn are_out(arena: &Arena, bufs: &Bufs) -> bool
 {
     for number in 0..bufs.count() {
         let block = bufs.get(number).block();
-        if is_out(arena, bufs, number, block) {
-            continue;
+        if !is_out(arena, bufs, number, block) {
+            return false;
         }
-        return false;
     }
     true
 }

@@ -6,8 +6,8 @@ use Rattle.pmd_tx.specs.Sends.{are_out}
 use Rattle.pmd_tx.proofs.Numbering.{out-left}
 use Rattle.pmd_tx.proofs.sending.are_out.Goals as goal
 
-pub returns-else-is_out : goal.returns-else-is_out
-returns-else-is_out c =
+pub returns-then-not-is_out : goal.returns-then-not-is_out
+returns-then-not-is_out c =
     let a = c.args.arena.now in
     let bs = c.args.bufs.now in
     let k = c.loop-number.number in
@@ -19,7 +19,7 @@ returns-else-is_out c =
     ∙ ap (λ (n : ℕ). is_own a n && not (is_free a n) && not (list_any (λ b. n == b) rest)) c.block-block.ensures.number in
     sym (c.loop-number.invariant
     ∙ out-left a bs k c.get.result.now (omega (arith, count, end, test)) c.get.ensures c.is_out.result told
-    ∙ ap (λ (t : Bool). t && are_out a rest) c.if-is_out.false)
+    ∙ ap (λ (t : Bool). t && are_out a rest) c.if-not-is_out.true)
 
 pub loop-number-preserved : goal.loop-number-preserved
 loop-number-preserved c =
@@ -34,4 +34,4 @@ loop-number-preserved c =
     ∙ ap (λ (n : ℕ). is_own a n && not (is_free a n) && not (list_any (λ b. n == b) rest)) c.block-block.ensures.number in
     c.loop-number.invariant
     ∙ out-left a bs k c.get.result.now (omega (arith, count, end, test)) c.get.ensures c.is_out.result told
-    ∙ ap (λ (t : Bool). t && are_out a rest) c.if-is_out.true
+    ∙ ap (λ (t : Bool). t && are_out a rest) c.if-not-is_out.false

@@ -1,8 +1,9 @@
 use Rattle.std.proofs.Common.{ap, ◌∙◌}
-use Rattle.pmd_tx.specs.Sending.{Sender}
+use Rattle.pmd_seam.specs.Bufs.{numbers_of}
+use Rattle.pmd_tx.specs.Sending.{Sender, parts_for}
 use Rattle.pmd_tx.specs.Sends.{outgoing_of}
 use Rattle.pmd_tx.specs.declared.answer.TxFault.{TxFault}
-use Rattle.pmd_tx.proofs.Passing.{accepted_then, none_back}
+use Rattle.pmd_tx.proofs.Passing.{accepted_then, none_back, out_drop}
 use Rattle.pmd_tx.proofs.Ending.{after_all}
 use Rattle.pmd_tx.proofs.Playing.{plays_both}
 use Rattle.pmd_tx.proofs.ring.TransmitRing.accept_and_post.Goals as goal
@@ -34,3 +35,8 @@ returns-in-Ok-clause-faults g c =
 pub returns-in-Ok-clause-layout : goal.returns-in-Ok-clause-layout
 returns-in-Ok-clause-layout g c =
     c.post_accepted.ensures.layout ∙ ap (λ (v : Sender). v.layout) c.in-Ok.ensures.accepted
+
+pub give_bufs-requires : goal.give_bufs-requires
+give_bufs-requires g c =
+    out_drop c.args.arena.now (parts_for c.args.packet.len) (numbers_of c.args.packet.bufs) (numbers_of c.in-Ok.rest)
+    c.requires.home c.in-Ok.ensures.rest

@@ -3,6 +3,7 @@ use Rattle.nic_device.specs.DmaArena.Block.{Block}
 use Rattle.pmd_seam.specs.Bufs.{numbers_of}
 use Rattle.pmd_seam.specs.declared.packet.Packet.{Packet}
 use Rattle.pmd_tx.specs.Padding.{padded_packet}
+use Rattle.pmd_tx.specs.Plays.{FaultsBy, PlaysWith}
 use Rattle.pmd_tx.specs.Sending.{Outgoing, accepted_by, parts_for}
 use Rattle.pmd_tx.proofs.Padded.{back_undone, numbers-drop, numbers_padded, padded_may, parts_padded, sent_padded}
 use Rattle.pmd_tx.proofs.ring.TransmitRing.accept_padded.Goals as goal
@@ -30,17 +31,23 @@ returns-in-Err-clause-back g c =
 pub returns-in-Ok-clause-plays : goal.returns-in-Ok-clause-plays
 returns-in-Ok-clause-plays g c =
     let may = c.requires.may in
-    rw (← sent_padded c.args.packet may.loose.whole may.some may.held) (rw c.pad.ensures at c.accept.ensures.plays)
+    subst (λ (o : Outgoing). PlaysWith o.blocks (g.N.Nic.made c.args.nic.now) c.args.self.now
+    (g.N.Nic.made c.accept.new.nic) c.accept.new.self)
+    (sent_padded c.args.packet may.loose.whole may.some may.held) (rw c.pad.ensures at c.accept.ensures.plays)
 
 pub returns-in-Err-clause-plays : goal.returns-in-Err-clause-plays
 returns-in-Err-clause-plays g c =
     let may = c.requires.may in
-    rw (← sent_padded c.args.packet may.loose.whole may.some may.held) (rw c.pad.ensures at c.accept.ensures.plays)
+    subst (λ (o : Outgoing). PlaysWith o.blocks (g.N.Nic.made c.args.nic.now) c.args.self.now
+    (g.N.Nic.made c.accept.new.nic) c.accept.new.self)
+    (sent_padded c.args.packet may.loose.whole may.some may.held) (rw c.pad.ensures at c.accept.ensures.plays)
 
 pub returns-in-Err-clause-faults : goal.returns-in-Err-clause-faults
 returns-in-Err-clause-faults g c =
     let may = c.requires.may in
-    rw (← sent_padded c.args.packet may.loose.whole may.some may.held) (rw c.pad.ensures at c.in-Err.ensures.faults)
+    subst (λ (o : Outgoing). FaultsBy c.in-Err.fault o.blocks (g.N.Nic.made c.args.nic.now) c.args.self.now
+    (g.N.Nic.made c.accept.new.nic))
+    (sent_padded c.args.packet may.loose.whole may.some may.held) (rw c.pad.ensures at c.in-Err.ensures.faults)
 
 pub returns-in-Ok-clause-rest : goal.returns-in-Ok-clause-rest
 returns-in-Ok-clause-rest g c =

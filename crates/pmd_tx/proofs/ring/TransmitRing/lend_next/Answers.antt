@@ -1,7 +1,10 @@
 use Rattle.std.proofs.Common.{◌≡◌, ◌∙◌, ◌+◌, ◌-◌, ◌<◌, ◌≤◌, ℕ, ◌∷◌, List, length, sym, ap, subst, arith}
 use Rattle.nic_device.specs.DmaArena.Block.{Block}
+use Rattle.nic_device.specs.DmaArena.Memory.{put_bytes}
+use Rattle.pmd_seam.specs.Packet.{Kept}
 use Rattle.pmd_tx.specs.Plays.{PlaysWith}
 use Rattle.pmd_tx.specs.Sending.{Sender, lent_more}
+use Rattle.pmd_tx.specs.Shown.{newest_part}
 use Rattle.pmd_tx.proofs.Fields.{count, held_anew, in_hand, lent_ring}
 use Rattle.pmd_tx.proofs.Own.{lend_plays, lend_misses, lend_faults, lend_refused}
 use Rattle.pmd_tx.proofs.Playing.{plays_some}
@@ -29,16 +32,35 @@ newest_part-requires-clause-some g c =
 
 pub put-requires : goal.put-requires
 put-requires g c =
+    let ks = c.self.inside.accepted.items in
+    let ps = c.self.inside.pieces.items in
+    let len = c.len.ensures in
+    let from = c.from.ensures in
+    let left : c.len.result - c.from.result ≡ length ps - c.self.inside.lent = omega (arith, len, from) in
+    let value : c.deref.result.now ≡ ks = c.deref.ensures.value in
+    let part : c.newest_part.result.now ≡ newest_part ks (length ps - c.self.inside.lent) =
+    c.newest_part.ensures ∙ ap (λ (l : List Kept). newest_part l (c.len.result - c.from.result)) value
+    ∙ ap (λ (n : ℕ). newest_part ks n) left in
     let short = next_short _ _ _ _ _ _ _ _ c.self.invariant c.in-Some.buf c.take_first.new.self
     c.in-Some.ensures.first c.bytes-whole.ensures.whole in
-    rw (c.newest_part.ensures, c.deref.ensures.value, c.len.ensures, c.from.ensures) (omega (arith, short))
+    rw part (omega (arith, short))
 
 pub invariant_of-self-in-Ok-Some : goal.invariant_of-self-in-Ok-Some
 invariant_of-self-in-Ok-Some g c =
+    let ks = c.self.inside.accepted.items in
+    let ps = c.self.inside.pieces.items in
+    let len = c.len.ensures in
+    let from = c.from.ensures in
+    let left : c.len.result - c.from.result ≡ length ps - c.self.inside.lent = omega (arith, len, from) in
+    let value : c.deref.result.now ≡ ks = c.deref.ensures.value in
+    let part : c.newest_part.result.now ≡ newest_part ks (length ps - c.self.inside.lent) =
+    c.newest_part.ensures ∙ ap (λ (l : List Kept). newest_part l (c.len.result - c.from.result)) value
+    ∙ ap (λ (n : ℕ). newest_part ks n) left in
     let h = c.self.invariant in
     let first = c.in-Some.ensures.first in
     let number = rw c.in-Ok-Some.field-0-is at c.in-Ok-Some.ensures.number in
-    let put = rw (c.newest_part.ensures, c.deref.ensures.value, c.len.ensures, c.from.ensures) at c.put.ensures in
+    let put = c.put.ensures
+    ∙ ap (λ (l : List ℕ). record c.in-Ok-Some.buf { bytes = put_bytes c.in-Ok-Some.buf.bytes 0 l }) part in
     rw c.put_back.ensures
     (held_anew _ _ _ _ _ _ _ _ h c.in-Some.buf c.put.new.self c.take_first.new.self first
     (next_put _ _ _ _ _ _ _ _ h c.in-Some.buf c.take_first.new.self first c.in-Ok-Some.buf c.put.new.self number put))

@@ -36,3 +36,19 @@ returns-in-Err-clause-faults g c blocks =
     by_after c.in-Err.fault blocks (g.N.Nic.made c.args.nic.now) (g.N.Nic.made c.loop-reaped.nic)
     (g.N.Nic.made c.reap_oldest.new.nic) c.args.self.now c.loop-reaped.self
     (c.loop-reaped.invariant.reaped.plays blocks) (c.in-Err.ensures.faults blocks)
+
+pub loop-reaped-preserved : goal.loop-reaped-preserved
+loop-reaped-preserved g c =
+    let from : c.from-freed.result ≡ (if c.in-Ok-Some.end then 1 else 0) = c.from-freed.ensures in
+    let one : (b : Bool) → (if b then 1 else 0) ≤ 1 = λ b. elim b [ true ↦ omega arith | false ↦ omega arith ] in
+    let few = c.loop-reaped.invariant.few in
+    record {
+      reaped = rw from (reaped_more _ _ _ _ _ _ _ _ c.loop-reaped.invariant.reaped (g.N.Nic.made c.reap_oldest.new.nic)
+          c.reap_oldest.new.self c.reap_oldest.new.arena c.reap_oldest.ensures.plays c.reap_oldest.ensures.accepted
+          c.reap_oldest.ensures.layout (if c.in-Ok-Some.end then 1 else 0)
+          (rw c.in-Ok-Some.field-0-is at c.in-Ok-Some.ensures.posted)
+          (rw c.in-Ok-Some.field-0-is at c.in-Ok-Some.ensures.freed) c.reap_oldest.ensures.out);
+      few = rw from (omega (arith, few, one c.in-Ok-Some.end));
+      who = c.reap_oldest.ensures.who ∙ c.loop-reaped.invariant.who;
+      refuses = c.reap_oldest.ensures.refuses ∙ c.loop-reaped.invariant.refuses;
+    }

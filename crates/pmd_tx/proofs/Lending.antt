@@ -109,7 +109,7 @@ module _ (old new : List Call) (v : Sender) (p : Packet) (may : MayStart v p) wh
 
   unlent : (f : PmdFault) (back : Packet) → IsUnlent f old new p back → PlaysWith blocks old v new v
   unlent fault.DeviceFault back (twice, made, numbers) = twice_plays p.bufs twice refl made
-  unlent (fault.Call f) back (some, same) = plays_some blocks old new v some
+  unlent (fault.Call f) back (adds, same) = plays_some blocks old new v adds
   unlent other back failed = absurd failed
 
   pub lend_plays : {R : Type 0} → (r : Result R (PmdFault × Packet)) (w : Sender)
@@ -127,8 +127,8 @@ module _ (old new : List Call) (v : Sender) (p : Packet) (may : MayStart v p) wh
 
   lend_faults : (f : PmdFault) (back : Packet) → IsUnlent f old new p back → FaultsBy f blocks old v new
   lend_faults fault.DeviceFault back (twice, made, numbers) = twice_faults p.bufs twice refl made
-  lend_faults (fault.Call f) back (some, same) =
-      asks_refused p.bufs refl (omega (arith, may.long, may.held)) some
+  lend_faults (fault.Call f) back (adds, same) =
+      asks_refused p.bufs refl (omega (arith, may.long, may.held)) adds
   lend_faults other back failed = absurd failed
 
   pub faults_of : {R : Type 0} → (r : Result R (PmdFault × Packet)) → IfErr r (λ x. IsUnlent x.0 old new p x.1)
@@ -140,7 +140,7 @@ module _ (old new : List Call) (v : Sender) (p : Packet) (may : MayStart v p) wh
       → IfErr r (λ x. IsBack x.0 p x.1)
   back_of (Ok x) failed = tt
   back_of (Err (fault.DeviceFault, back)) (twice, made, numbers) = numbers
-  back_of (Err (fault.Call f, back)) (some, same) = same
+  back_of (Err (fault.Call f, back)) (adds, same) = same
   back_of (Err (other, back)) failed = absurd failed
 
   pub late_of : {R : Type 0} → (r : Result R (PmdFault × Packet)) → IfErr r (λ x. IsUnlent x.0 old new p x.1)

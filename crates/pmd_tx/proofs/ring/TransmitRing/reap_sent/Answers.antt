@@ -1,4 +1,5 @@
-use Rattle.std.proofs.Common.{◌≡◌, ◌∙◌, ◌+◌, ◌≤◌, ℕ, Bool, true, false, [], length, if◌then◌else◌, refl, ap, subst, sym, arith}
+use Rattle.std.proofs.Common.{◌≡◌, ◌∙◌, ◌+◌, ◌≤◌, ℕ, Bool, true, false, inl, inr, [], length, if◌then◌else◌, refl, ap, subst, sym, arith}
+use Rattle.std.proofs.lemmas.Bool.{cases_Bool}
 use Rattle.pmd_tx.specs.Sends.{Frees}
 use Rattle.pmd_tx.proofs.Loop.{left_over, reaped_none, reaped_more, reaped_same}
 use Rattle.pmd_tx.proofs.Ending.{by_after, looks_after}
@@ -39,7 +40,10 @@ returns-in-Err-clause-faults g c blocks =
 
 pub loop-reaped-preserved : goal.loop-reaped-preserved
 loop-reaped-preserved g c =
-    let from : c.from-freed.result ≡ (if c.in-Ok-Some.end then 1 else 0) = c.from-freed.ensures in
+    let from : c.from-freed.result ≡ (if c.in-Ok-Some.end then 1 else 0) = elim (cases_Bool c.in-Ok-Some.end) [
+      | inl is ↦ rw is (rw is at c.from-freed.ensures)
+      | inr is ↦ rw is (rw is at c.from-freed.ensures)
+    ] in
     let one : (b : Bool) → (if b then 1 else 0) ≤ 1 = λ b. elim b [ true ↦ omega arith | false ↦ omega arith ] in
     let few = c.loop-reaped.invariant.few in
     record {

@@ -6,6 +6,10 @@ use Rattle.pmd_tx.proofs.Ending.{by_after, looks_after}
 use Rattle.pmd_tx.proofs.Playing.{plays_both}
 use Rattle.pmd_tx.proofs.ring.TransmitRing.reap_sent.Goals as goal
 
+at_most_one : (b : Bool) → (if b then 1 else 0) ≤ 1
+at_most_one true = omega arith
+at_most_one false = omega arith
+
 pub loop-reaped-init : goal.loop-reaped-init
 loop-reaped-init g c = record {
   reaped = reaped_none (g.N.Nic.made c.args.nic.now) c.args.self.now c.args.arena.now c.requires.settled c.requires.home;
@@ -44,7 +48,6 @@ loop-reaped-preserved g c =
       | inl is ↦ rw is (rw is at c.from-freed.ensures)
       | inr is ↦ rw is (rw is at c.from-freed.ensures)
     ] in
-    let one : (b : Bool) → (if b then 1 else 0) ≤ 1 = λ b. elim b [ true ↦ omega arith | false ↦ omega arith ] in
     let few = c.loop-reaped.invariant.few in
     record {
       reaped = rw from (reaped_more _ _ _ _ _ _ _ _ c.loop-reaped.invariant.reaped (g.N.Nic.made c.reap_oldest.new.nic)
@@ -52,7 +55,7 @@ loop-reaped-preserved g c =
           c.reap_oldest.ensures.layout (if c.in-Ok-Some.end then 1 else 0)
           (rw c.in-Ok-Some.field-0-is at c.in-Ok-Some.ensures.posted)
           (rw c.in-Ok-Some.field-0-is at c.in-Ok-Some.ensures.freed) c.reap_oldest.ensures.out);
-      few = rw from (omega (arith, few, one c.in-Ok-Some.end));
+      few = rw from (omega (arith, few, at_most_one c.in-Ok-Some.end));
       who = c.reap_oldest.ensures.who ∙ c.loop-reaped.invariant.who;
       refuses = c.reap_oldest.ensures.refuses ∙ c.loop-reaped.invariant.refuses;
     }

@@ -82,7 +82,7 @@ module _ (l : Layout) (ps : List Piece) (waiting : List Block) (lent poked poste
           next = h.next;
           ring = h.ring;
           least = h.least;
-      limit = h.limit;
+          limit = h.limit;
           room = h.room;
           done_posted = h.done_posted;
           posted_poked = h.posted_poked;

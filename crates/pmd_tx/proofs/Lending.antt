@@ -71,9 +71,13 @@ module _ (v : Sender) (p : Packet) (may : MayStart v p) (b : Block) (bs : List B
     lent = may.lent;
     settled = may.settled;
     first = record {
-      short = omega (arith, may.short, len,
-          whole-first (length (sent_as p).kept.bytes) (parts_for (length (sent_as p).kept.bytes)) (sent_as p).blocks
-          (sent_as p).kept.bytes (rw len some) (omega (arith, count, some)));
+      short = omega (
+        arith,
+        may.short,
+        len,
+        whole-first (length (sent_as p).kept.bytes) (parts_for (length (sent_as p).kept.bytes)) (sent_as p).blocks
+            (sent_as p).kept.bytes (rw len some) (omega (arith, count, some)),
+      );
       number = holds.number;
       bytes = holds.bytes;
       whole = block.size;

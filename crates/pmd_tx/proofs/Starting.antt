@@ -50,10 +50,11 @@ all-hold whole (suc (suc n)) (b ∷ bs) others len count some full fits are =
     let rest : drop 2048 (b.bytes ++ take (len - 2048) (bytes_of (bs ++ others)))
     ≡ take (len - 2048) (bytes_of (bs ++ others)) =
     drop_at b.bytes (take (len - 2048) (bytes_of (bs ++ others))) 2048 size in
-    rw (all, first, rest)
-    (record { number = refl; bytes = take-whole (length b.bytes) b.bytes (omega arith) },
-    all-hold whole (suc n) bs others (len - 2048) (omega arith) (omega arith) (omega arith) (omega arith)
-    (λ k d below. are (suc k) d (omega arith)))
+    rw (all, first, rest) (
+      record { number = refl; bytes = take-whole (length b.bytes) b.bytes (omega arith) },
+      all-hold whole (suc n) bs others (len - 2048) (omega arith) (omega arith) (omega arith) (omega arith)
+          (λ k d below. are (suc k) d (omega arith)),
+    )
   where
     take-whole : (k : ℕ) (xs : List ℕ) → length xs ≤ k → take k xs ≡ xs
     take-whole k xs low = take_all k xs low
@@ -109,8 +110,12 @@ newest-push (x ∷ y ∷ ks) k = newest-push (y ∷ ks) k
 pub length-blocks : (bs : List Block) → All (λ (b : Block). IsBlock b) bs → length (bytes_of bs) ≡ 2048 * length bs
 length-blocks [] are = omega arith
 length-blocks (b ∷ bs) are =
-    omega (arith, length-append b.bytes (bytes_of bs), (are 0 b (omega arith)).size,
-    length-blocks bs (λ k d below. are (suc k) d (omega arith)))
+    omega (
+      arith,
+      length-append b.bytes (bytes_of bs),
+      (are 0 b (omega arith)).size,
+      length-blocks bs (λ k d below. are (suc k) d (omega arith)),
+    )
 
 numbers-take : (n : ℕ) (bs : List Block) → numbers_of (take n bs) ≡ take n (numbers_of bs)
 numbers-take zero [] = refl

@@ -86,8 +86,13 @@ module _ (l : Layout) (ps : List Piece) (waiting : List Block) (lent poked poste
     pub next_short : IsBlock b → length (newest_part ks (length ps - lent)) ≤ 2048
     next_short block =
         let holds = (next_held l ps waiting lent poked posted done ks h b bs is).0 in
-        omega (arith, ap length next_bytes, ap length holds.bytes, length-take (length next.part.bytes) b.bytes,
-        block.size)
+        omega (
+          arith,
+          ap length next_bytes,
+          ap length holds.bytes,
+          length-take (length next.part.bytes) b.bytes,
+          block.size,
+        )
 
     -- a block of its number holds them, once they are put into it
     pub next_put : (d e : Block) → d.number ≡ b.number

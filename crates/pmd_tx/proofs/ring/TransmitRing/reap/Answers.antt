@@ -48,8 +48,11 @@ returns-in-Ok-clause-faults g c blocks =
 pub returns-in-Err-clause-some : goal.returns-in-Err-clause-some
 returns-in-Err-clause-some g c = (
   0,
-  (0, frees_none c.args.self.now c.post_waiting.new.self c.args.arena.now c.args.arena.now
-      c.post_waiting.ensures.kept.outstanding refl),
+  (
+    0,
+    frees_none c.args.self.now c.post_waiting.new.self c.args.arena.now c.args.arena.now
+        c.post_waiting.ensures.kept.outstanding refl,
+  ),
 )
 
 pub returns-in-Err-clause-out : goal.returns-in-Err-clause-out

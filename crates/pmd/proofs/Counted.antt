@@ -9,6 +9,7 @@ use Rattle.pmd_rx.specs.PmdSeam.Fresh.{IsFresh}
 use Rattle.pmd_rx.specs.PmdSeam.Home.{AreOut}
 use Rattle.pmd_rx.specs.PmdSeam.declared.packet.Packet.{Packet}
 use Rattle.pmd_rx.proofs.PmdSeam.Outside.{times-append}
+use Rattle.pmd_rx.proofs.PmdSeam.Outside.{all_drawn as drawn_out}
 use Rattle.pmd_rx.specs.Keeping.{Keeps, blocks_out, lent_of, numbers_in}
 use Rattle.pmd_tx.specs.Leaving as transmit
 use Rattle.pmd_tx.specs.Sending.{Sender}
@@ -86,6 +87,13 @@ fresh_kept a b out len (Some p) (draws, is) =
     keeps_counted a b (out ++ []) (ns ++ (out ++ [])) (out ++ ns)
     (λ k. omega (arith, times-append out ns k, times-append out [] k, times-append ns (out ++ []) k))
     (all_drawn a ns b (out ++ []) draws.drawn)
+
+pub fresh_out : (a b : Numbers) (out : List ℕ) (len : ℕ) (made : Option Packet) → IsFresh a len made b → AreOut a out
+    → AreOut b out
+fresh_out a b out len None is are = subst (λ (x : Numbers). AreOut x out) (sym is) are
+fresh_out a b out len (Some p) (draws, is) are =
+    drawn_out a (numbers_of p.bufs) b out out draws.drawn are
+    (λ k. omega (arith, times-append (numbers_of p.bufs) out k))
 
 -- and one is released
 pub released_kept : (a : Numbers) (out ns : List ℕ) → AreOut a (ns ++ out)

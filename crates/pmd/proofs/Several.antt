@@ -1,12 +1,13 @@
 -- Several blocks at once: those of a packet that go home, and those that are kept in hand.
-use Rattle.std.proofs.Common.{◌≡◌, ℕ, zero, suc, ◌+◌, ◌<◌, ◌≤◌, ◌==◌, ◌&&◌, ◌||◌, nat_lt, not, Bool, true, false, cond, List, [], ◌∷◌, ◌++◌, refl, sym, ap, subst, ◌∙◌, arith}
+use Rattle.std.proofs.Common.{◌≡◌, ℕ, zero, suc, ◌+◌, ◌<◌, ◌≤◌, ◌==◌, ◌&&◌, ◌||◌, nat_lt, not, Bool, true, false, cond, List, [], ◌∷◌, ◌++◌, length, get_or, refl, sym, ap, subst, ◌∙◌, arith}
 use Rattle.std.specs.Prelude.{⊤}
 use Rattle.std.specs.List.{list_any}
 use Rattle.std.proofs.lemmas.Bool.Decides.{nat_tests}
+use Rattle.nic_device.specs.DmaArena.Block.{Block}
 use Rattle.nic_device.specs.DmaArena.Numbers.{Numbers, is_own, is_free, with_free}
 use Rattle.nic_device.specs.DmaArena.Whereabouts.{times_in_hand}
 use Rattle.nic_device.proofs.DmaArena.Arenas.{is_own-with_free}
-use Rattle.pmd_rx.specs.PmdSeam.Bufs.{with_all_free}
+use Rattle.pmd_rx.specs.PmdSeam.Bufs.{numbers_of, with_all_free}
 use Rattle.pmd_rx.specs.PmdSeam.Home.{AreOut}
 use Rattle.pmd_rx.proofs.PmdSeam.Outside.{times-cons, times-append, out_fewer, out_first, out_given}
 use Rattle.pmd_rx.proofs.PmdSeam.Rings.{among_times, times_among}
@@ -119,3 +120,20 @@ pub away_part : (xs ys ns : List ℕ) → ((n : ℕ) → times_in_hand ys n ≤ 
 away_part xs ys [] fewer away = tt
 away_part xs ys (n ∷ ns) fewer away =
     (omega (arith, fewer n, away.0), away_part xs ys ns fewer away.1)
+
+-- one of a packet's blocks that meets a test
+
+any_more : (x y : Bool) → y ≡ true → (x || y) ≡ true
+any_more true y is = refl
+any_more false y is = is
+
+pub found : (f : ℕ → Bool) (bs : List Block) (k : ℕ) (b : Block) → k < length bs → b ≡ get_or bs k b
+    → f b.number ≡ true → list_any f (numbers_of bs) ≡ true
+found f [] k b below is meets = absurd (omega (arith, below))
+found f (c ∷ bs) zero b below is meets =
+    let here : f c.number ≡ true = subst (λ (x : Block). f x.number ≡ true) is meets in rw here refl
+found f (c ∷ bs) (suc k) b below is meets =
+    any_more (f c.number) (list_any f (numbers_of bs)) (found f bs k b (omega (arith, below)) is meets)
+
+pub counts : (t : ℕ) → 0 < t → nat_lt 0 t ≡ true
+counts t some = grind (arith, nat_tests, some)

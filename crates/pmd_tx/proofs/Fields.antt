@@ -81,6 +81,7 @@ module _ (l : Layout) (ps : List Piece) (waiting : List Block) (lent poked poste
           few = h.few;
           next = h.next;
           ring = h.ring;
+          least = h.least;
           limit = h.limit;
           room = h.room;
           done_posted = h.done_posted;
@@ -104,6 +105,7 @@ module _ (l : Layout) (ps : List Piece) (waiting : List Block) (lent poked poste
       few = h.few;
       next = h.next;
       ring = h.ring;
+      least = h.least;
       limit = h.limit;
       room = h.room;
       done_posted = h.done_posted;
@@ -137,6 +139,7 @@ module _ (l : Layout) (ps : List Piece) (waiting : List Block) (lent poked poste
           few = rw size h.few;
           next = rw (size, next) (next_below l.size l.next h.next);
           ring = rw (ring, size) h.ring;
+          least = rw limit h.least;
           limit = rw limit h.limit;
           room = rw size (omega (arith, h.room));
           done_posted = omega (arith, h.done_posted);
@@ -156,12 +159,13 @@ module _ (l : Layout) (ps : List Piece) (waiting : List Block) (lent poked poste
 
 -- nothing is outstanding at first
 pub fresh_ring : (l : Layout) → 0 < l.size → l.size ≤ 1024 → l.next ≡ 0 → l.ring + blocks_for l.size ≤ 65536
-    → l.limit ≤ 10240 → IsRing l [] [] 0 0 0 0 []
-fresh_ring l some few next ring limit = record {
+    → 60 ≤ l.limit → l.limit ≤ 10240 → IsRing l [] [] 0 0 0 0 []
+fresh_ring l some few next ring least limit = record {
   some = some;
   few = few;
   next = omega arith;
   ring = ring;
+  least = least;
   limit = limit;
   room = some;
   done_posted = omega arith;

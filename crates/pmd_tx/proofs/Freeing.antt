@@ -48,8 +48,13 @@ frees_both u v w a b d m n i j f g =
           ∙ ap (λ (x : Numbers). with_all_free x (take n (drop m bs))) f.home
           ∙ free-append a (take m bs) (take n (drop m bs)) ∙ ap (with_all_free a) (taken-both bs m n);
       packets_are =
-          omega (arith, f.packets_are, ends-both xs m n, g.packets_are,
-          ap (λ (l : List Segment). ends_in (take n l)) f.left);
+          omega (
+            arith,
+            f.packets_are,
+            ends-both xs m n,
+            g.packets_are,
+            ap (λ (l : List Segment). ends_in (take n l)) f.left,
+          );
     }
 
 -- the oldest

@@ -1,5 +1,6 @@
 -- The outstanding segments, by the driver's pieces and by what was accepted.
-use Rattle.std.proofs.Common.{◌≡◌, ℕ, zero, suc, ◌+◌, ◌-◌, ◌*◌, ◌<◌, ◌≤◌, inl, inr, Bool, true, false, List, [], ◌∷◌, ◌++◌, length, take, drop, get_or, if◌then◌else◌, refl, sym, ap, ◌∙◌, subst, arith, append_assoc}
+use Rattle.std.proofs.Common.{◌≡◌, ℕ, zero, suc, ◌+◌, ◌-◌, ◌*◌, ◌<◌, ◌≤◌, ◌==◌, ◌||◌, inl, inr, Bool, true, false, List, [], ◌∷◌, ◌++◌, length, take, drop, get_or, if◌then◌else◌, refl, sym, ap, ◌∙◌, subst, arith, append_assoc}
+use Rattle.std.specs.List.{list_any}
 use Rattle.std.proofs.lemmas.List.{append-nil, length-append, length-drop, length-take, length-take-le, get_or-drop, drop-drop, drop-append-le}
 use Rattle.pmd_seam.specs.Packet.{Kept}
 use Rattle.pmd_tx.specs.Pieces.{ends_packet, first_last, pieces_in, places_of}
@@ -47,7 +48,7 @@ place-at [] i below d e = absurd (omega arith)
 place-at (p ∷ ps) zero below d e = refl
 place-at (p ∷ ps) (suc i) below d e = place-at ps i (omega arith) d e
 
-places-append : (ps xs : List Piece) → places_of (ps ++ xs) ≡ places_of ps ++ places_of xs
+pub places-append : (ps xs : List Piece) → places_of (ps ++ xs) ≡ places_of ps ++ places_of xs
 places-append [] xs = refl
 places-append (p ∷ ps) xs = ap (λ (l : List ℕ). p.block ∷ l) (places-append ps xs)
 
@@ -230,6 +231,12 @@ tell-pieces whole (b ∷ c ∷ bs) bytes some full = (
       (length-drop 2048 bytes)
       (tell-pieces whole (c ∷ bs) (drop 2048 bytes) (omega arith) (omega (arith, length-drop 2048 bytes))),
 )
+
+-- whether a piece is in a block
+pub any-places : (n : ℕ) (ps : List Piece) → list_any (λ (p : Piece). n == p.block) ps
+    ≡ list_any (λ b. n == b) (places_of ps)
+any-places n [] = refl
+any-places n (p ∷ ps) = ap (λ (b : Bool). n == p.block || b) (any-places n ps)
 
 pub ruleset outstanding = (
   blocks-outstanding,

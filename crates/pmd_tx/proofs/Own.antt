@@ -54,75 +54,75 @@ module _ (blocks : List ℕ) (old new : List Call) (v : Sender) where
   module _ (word : ℕ) (all : v.poked ≡ length v.outstanding) (some : v.posted < v.poked)
       (is : word ≡ slot_at v.layout v.poked)
     where
-    tail_own : IsOwn v Advances (event.Write v.layout.port v.layout.tail word)
-    tail_own = (all, some, refl, refl, is)
+      tail_own : IsOwn v Advances (event.Write v.layout.port v.layout.tail word)
+      tail_own = (all, some, refl, refl, is)
 
-    pub tail_plays : (w : Sender) → IsWritten old new v.layout.port v.layout.tail word true → w ≡ advanced v
-        → PlaysWith blocks old v new w
-    tail_plays w made done =
-        subst (PlaysWith blocks old v new) (sym done)
-        (plays_adds blocks old new v Advances refl (event.Write v.layout.port v.layout.tail word) reply.Done tail_own
-        tt made)
+      pub tail_plays : (w : Sender) → IsWritten old new v.layout.port v.layout.tail word true → w ≡ advanced v
+          → PlaysWith blocks old v new w
+      tail_plays w made done =
+          subst (PlaysWith blocks old v new) (sym done)
+          (plays_adds blocks old new v Advances refl (event.Write v.layout.port v.layout.tail word) reply.Done tail_own
+          tt made)
 
-    pub tail_misses : IsWritten old new v.layout.port v.layout.tail word false → PlaysWith blocks old v new v
-    tail_misses (seen, made) =
-        plays_adds blocks old new v Advances refl (event.Write v.layout.port v.layout.tail word) (reply.Stray seen)
-        tail_own tt made
+      pub tail_misses : IsWritten old new v.layout.port v.layout.tail word false → PlaysWith blocks old v new v
+      tail_misses (seen, made) =
+          plays_adds blocks old new v Advances refl (event.Write v.layout.port v.layout.tail word) (reply.Stray seen)
+          tail_own tt made
 
-    pub tail_faults : IsWritten old new v.layout.port v.layout.tail word false → Faults blocks old v new
-    tail_faults (seen, made) =
-        faults_at blocks old new v Advances (event.Write v.layout.port v.layout.tail word) (reply.Stray seen) tail_own
-        tt made
-        refl
+      pub tail_faults : IsWritten old new v.layout.port v.layout.tail word false → Faults blocks old v new
+      tail_faults (seen, made) =
+          faults_at blocks old new v Advances (event.Write v.layout.port v.layout.tail word) (reply.Stray seen) tail_own
+          tt made
+          refl
 
-    pub tail_refused : AddsSome old new → AsksNext blocks old v new
-    tail_refused some =
-        asks_at blocks old new v Advances (event.Write v.layout.port v.layout.tail word) tail_own refl tt some
+      pub tail_refused : AddsSome old new → AsksNext blocks old v new
+      tail_refused some =
+          asks_at blocks old new v Advances (event.Write v.layout.port v.layout.tail word) tail_own refl tt some
 
   -- looking at the end of the oldest packet
 
   module _ (a end : ℕ) (is_end : end ≡ first_end v.outstanding) (posted : end < v.posted)
       (at : a ≡ descriptor_at v.layout end)
     where
-    look_own : IsOwn v Looks (event.Peek16 a)
-    look_own = (rw (← is_end) posted, at ∙ ap (descriptor_at v.layout) is_end)
+      look_own : IsOwn v Looks (event.Peek16 a)
+      look_own = (rw (← is_end) posted, at ∙ ap (descriptor_at v.layout) is_end)
 
-    pub look_plays : (w : Sender) (d : List ℕ) → IsPeeked old new a (Some d) → w ≡ looked v d
-        → PlaysWith blocks old v new w
-    look_plays w d made is =
-        subst (PlaysWith blocks old v new) (sym is)
-        (plays_adds blocks old new v Looks refl (event.Peek16 a) (reply.Bytes d) look_own
-        tt made)
+      pub look_plays : (w : Sender) (d : List ℕ) → IsPeeked old new a (Some d) → w ≡ looked v d
+          → PlaysWith blocks old v new w
+      look_plays w d made is =
+          subst (PlaysWith blocks old v new) (sym is)
+          (plays_adds blocks old new v Looks refl (event.Peek16 a) (reply.Bytes d) look_own
+          tt made)
 
-    pub look_waits : (w : Sender) (d : List ℕ) → IsPeeked old new a (Some d) → w ≡ looked v d
-        → is_sent d ≡ false → LooksLast old v new w
-    look_waits w d made is waits = record {
-      mid = old;
-      before = v;
-      bytes = d;
-      plays = (plays_none blocks old v).plays;
-      looks = subst (λ (n : ℕ). Adds old new (event.Peek16 n) (reply.Bytes d)) look_own.1 made;
-      waits = waits;
-      posted = look_own.0;
-      accepted = refl;
-      left = is ∙ ap (λ (b : Bool). record v { done = if b then first_end v.outstanding + 1 else 0 }) waits;
-    }
+      pub look_waits : (w : Sender) (d : List ℕ) → IsPeeked old new a (Some d) → w ≡ looked v d
+          → is_sent d ≡ false → LooksLast old v new w
+      look_waits w d made is waits = record {
+        mid = old;
+        before = v;
+        bytes = d;
+        plays = (plays_none blocks old v).plays;
+        looks = subst (λ (n : ℕ). Adds old new (event.Peek16 n) (reply.Bytes d)) look_own.1 made;
+        waits = waits;
+        posted = look_own.0;
+        accepted = refl;
+        left = is ∙ ap (λ (b : Bool). record v { done = if b then first_end v.outstanding + 1 else 0 }) waits;
+      }
 
-    pub look_misses : IsPeeked old new a None → PlaysWith blocks old v new v
-    look_misses (inl made) =
-        plays_adds blocks old new v Looks refl (event.Peek16 a) reply.NotLent look_own tt made
-    look_misses (inr made) =
-        plays_adds blocks old new v Looks refl (event.Peek16 a) reply.Misaligned look_own
-        tt made
+      pub look_misses : IsPeeked old new a None → PlaysWith blocks old v new v
+      look_misses (inl made) =
+          plays_adds blocks old new v Looks refl (event.Peek16 a) reply.NotLent look_own tt made
+      look_misses (inr made) =
+          plays_adds blocks old new v Looks refl (event.Peek16 a) reply.Misaligned look_own
+          tt made
 
-    pub look_faults : IsPeeked old new a None → Faults blocks old v new
-    look_faults (inl made) =
-        faults_at blocks old new v Looks (event.Peek16 a) reply.NotLent look_own tt made refl
-    look_faults (inr made) =
-        faults_at blocks old new v Looks (event.Peek16 a) reply.Misaligned look_own tt made refl
+      pub look_faults : IsPeeked old new a None → Faults blocks old v new
+      look_faults (inl made) =
+          faults_at blocks old new v Looks (event.Peek16 a) reply.NotLent look_own tt made refl
+      look_faults (inr made) =
+          faults_at blocks old new v Looks (event.Peek16 a) reply.Misaligned look_own tt made refl
 
-    pub look_refused : AddsSome old new → AsksNext blocks old v new
-    look_refused some = asks_at blocks old new v Looks (event.Peek16 a) look_own refl tt some
+      pub look_refused : AddsSome old new → AsksNext blocks old v new
+      look_refused some = asks_at blocks old new v Looks (event.Peek16 a) look_own refl tt some
 
   -- taking the oldest
 

@@ -1,8 +1,8 @@
 -- A packet that is accepted: its pieces join those that are outstanding, and the blocks of the others are in hand.
 use Rattle.std.proofs.Common.{◌≡◌, ℕ, zero, suc, ◌+◌, ◌-◌, ◌*◌, ◌/◌, ◌<◌, ◌≤◌, ◌==◌, ◌||◌, true, false, All, List, [], ◌∷◌, ◌++◌, length, take, drop, get_or, map, refl, sym, ap, ◌∙◌, subst, arith, append_assoc}
 use Rattle.std.specs.List.{list_any}
-use Rattle.std.proofs.lemmas.List.{append-nil, length-append, length-drop, length-take, length-take-le, take-take, take-append-drop, take-append-le, drop_all, drop_at, take_all, drop-append-le, get_or-take}
-use Rattle.std.proofs.lemmas.List.Elements.{All-append}
+use Rattle.std.proofs.lemmas.List.{append-nil, length-append, length-drop, length-take, length-take-le, take-take, take-append-drop, take-append-le, drop_at, drop-drop, take_all, drop-append-le, get_or-take}
+use Rattle.std.proofs.lemmas.List.Elements.{All-append, All-push, All-take}
 use Rattle.nic_device.specs.DmaArena.Block.{Block, IsBlock}
 use Rattle.pmd_seam.specs.Bufs.{bytes_of, numbers_of}
 use Rattle.pmd_seam.specs.Packet.{Kept, kept_of}
@@ -10,12 +10,12 @@ use Rattle.pmd_seam.specs.Slots.{is_ring_block}
 use Rattle.pmd_seam.specs.declared.packet.Packet.{Packet}
 use Rattle.pmd_seam.proofs.Copying.{take-append}
 use Rattle.pmd_tx.specs.Pieces.{ends_packet, pieces_in, places_of}
-use Rattle.pmd_tx.specs.Sending.{Sender, Layout, Outgoing, Part, Segment, keeps, paired, parts_for, parts_in, parts_of, segments_of, accepted_by}
+use Rattle.pmd_tx.specs.Sending.{Sender, Layout, blocks_of, Outgoing, Part, Segment, keeps, paired, parts_for, parts_in, parts_of, segments_of, accepted_by}
 use Rattle.pmd_tx.specs.Shown.{AllHold, AllTell, AreDistinct, AreLoose, Holds, IsRing, MayStart, latest, newest_parts, outstanding_of, sent_as}
 use Rattle.pmd_tx.specs.declared.piece.Piece.{Piece}
 use Rattle.pmd_tx.proofs.Distinct.{Absent, distinct-append, neither, none_of}
 use Rattle.pmd_tx.proofs.Fields.{shown}
-use Rattle.pmd_tx.proofs.Outstanding.{blocks-outstanding, length-outstanding, outstanding-push, places-pieces, tell-pieces, tells-push, ends-append, ends-pieces}
+use Rattle.pmd_tx.proofs.Outstanding.{blocks-outstanding, places-append, length-outstanding, outstanding-push, places-pieces, tell-pieces, tells-push, ends-append, ends-pieces}
 
 -- blocks hold the parts of the bytes that they begin with
 pub all-hold : (whole n : ℕ) (bs others : List Block) (len : ℕ) → length bs ≡ n → 0 < n → 2048 * (n - 1) ≤ len
@@ -50,10 +50,11 @@ all-hold whole (suc (suc n)) (b ∷ bs) others len count some full fits are =
     let rest : drop 2048 (b.bytes ++ take (len - 2048) (bytes_of (bs ++ others)))
     ≡ take (len - 2048) (bytes_of (bs ++ others)) =
     drop_at b.bytes (take (len - 2048) (bytes_of (bs ++ others))) 2048 size in
-    rw (all, first, rest)
-    (record { number = refl; bytes = take-whole (length b.bytes) b.bytes (omega arith) },
-    all-hold whole (suc n) bs others (len - 2048) (omega arith) (omega arith) (omega arith) (omega arith)
-    (λ k d below. are (suc k) d (omega arith)))
+    rw (all, first, rest) (
+      record { number = refl; bytes = take-whole (length b.bytes) b.bytes (omega arith) },
+      all-hold whole (suc n) bs others (len - 2048) (omega arith) (omega arith) (omega arith) (omega arith)
+          (λ k d below. are (suc k) d (omega arith)),
+    )
   where
     take-whole : (k : ℕ) (xs : List ℕ) → length xs ≤ k → take k xs ≡ xs
     take-whole k xs low = take_all k xs low
@@ -106,11 +107,15 @@ newest-push [] k = refl
 newest-push (x ∷ []) k = refl
 newest-push (x ∷ y ∷ ks) k = newest-push (y ∷ ks) k
 
-length-blocks : (bs : List Block) → All (λ (b : Block). IsBlock b) bs → length (bytes_of bs) ≡ 2048 * length bs
+pub length-blocks : (bs : List Block) → All (λ (b : Block). IsBlock b) bs → length (bytes_of bs) ≡ 2048 * length bs
 length-blocks [] are = omega arith
 length-blocks (b ∷ bs) are =
-    omega (arith, length-append b.bytes (bytes_of bs), (are 0 b (omega arith)).size,
-    length-blocks bs (λ k d below. are (suc k) d (omega arith)))
+    omega (
+      arith,
+      length-append b.bytes (bytes_of bs),
+      (are 0 b (omega arith)).size,
+      length-blocks bs (λ k d below. are (suc k) d (omega arith)),
+    )
 
 numbers-take : (n : ℕ) (bs : List Block) → numbers_of (take n bs) ≡ take n (numbers_of bs)
 numbers-take zero [] = refl
@@ -171,3 +176,120 @@ module _ (p : Packet) (whole : All (λ (b : Block). IsBlock b) p.bufs) (held : p
         (λ k d below. rw (get_or-take n p.bufs k d (omega (arith, length-firsts)))
         (whole k d (omega (arith, length-firsts, enough)))) in
         rw (length-kept, ← numbers-take n p.bufs) (rw (take-append-drop n p.bufs) at at)
+
+-- it joins those that are outstanding
+module _ (l : Layout) (ps : List Piece) (waiting : List Block) (lent poked posted done : ℕ) (ks : List Kept)
+    (h : IsRing l ps waiting lent poked posted done ks) (v : Sender)
+    (is : shown l ps lent poked posted done ks ≡ v) (p : Packet) (given : MayStart v p)
+  where
+    may : MayStart (shown l ps lent poked posted done ks) p
+    may = subst (λ (x : Sender). MayStart x p) (sym is) given
+
+    abbrev ns : List ℕ
+    ns = take (parts_for p.len) (numbers_of p.bufs)
+
+    abbrev pub new : List Piece
+    new = pieces_in p.len ns p.len
+
+    abbrev k : Kept
+    k = kept_of p
+
+    outs : length (outstanding_of ps ks) ≡ length ps
+    outs = length-outstanding ps ks h.tells
+
+    tells : AllTell new (parts_of k.bytes)
+    tells = packet-tells p may.loose.whole may.held may.long
+
+    count : length ns ≡ parts_for p.len
+    count = length-numbers p may.loose.whole may.held may.long
+
+    news : length new ≡ parts_for p.len
+    news = length-pieces p.len ns p.len ∙ count
+
+    some : 0 < parts_for p.len
+    some = some-parts p may.loose.whole may.held may.long
+
+    len : length k.bytes ≡ p.len
+    len = length-kept p may.loose.whole may.held may.long
+
+    more : outstanding_of (ps ++ new) (ks ++ k ∷ []) ≡ outstanding_of ps ks ++ segments_of (sent_as p)
+    more =
+        outstanding-push ps ks h.tells new k tells
+        ∙ ap (λ (bs : List ℕ). outstanding_of ps ks ++ paired bs (parts_of k.bytes)) (places-pieces p.len ns p.len)
+
+    -- none of its blocks is kept
+    kept_none : (n : ℕ) → keeps (shown l ps lent poked posted done ks) n ≡ false
+        → (is_ring_block l.ring l.size n ≡ false) × Absent n (places_of ps)
+    kept_none n none =
+        let both = neither (is_ring_block l.ring l.size n)
+        (list_any (λ b. n == b) (blocks_of (outstanding_of ps ks))) none in (
+          both.0,
+          subst (λ (bs : List ℕ). Absent n bs) (blocks-outstanding ps ks h.tells) both.1,
+        )
+
+    away : All (λ (n : ℕ). keeps (shown l ps lent poked posted done ks) n ≡ false) ns
+    away =
+        All-take (λ (n : ℕ). keeps (shown l ps lent poked posted done ks) n ≡ false) (parts_for p.len)
+        (numbers_of p.bufs) may.loose.away
+
+    -- those that aren't lent by it are in hand
+    rest_held : drop (lent + 1) (outstanding_of ps ks ++ segments_of (sent_as p)) ≡ drop 1 (segments_of (sent_as p))
+    rest_held =
+        sym (drop-drop 1 lent (outstanding_of ps ks ++ segments_of (sent_as p)))
+        ∙ ap (λ (ss : List Segment). drop 1 ss)
+        (drop_at (outstanding_of ps ks) (segments_of (sent_as p)) lent (sym may.lent))
+
+    hold-rest : (ss : List Segment) (bs : List Block) → AllHold ss bs → AllHold (drop 1 ss) (drop 1 bs)
+    hold-rest [] [] all = tt
+    hold-rest [] (b ∷ bs) all = absurd all
+    hold-rest (s ∷ ss) [] all = absurd all
+    hold-rest (s ∷ ss) (b ∷ bs) all = all.1
+
+    pub started_ring : IsRing l (ps ++ new) (drop 1 (take (parts_for p.len) p.bufs)) (lent + 1) poked posted done
+        (ks ++ k ∷ [])
+    started_ring = record {
+      some = h.some;
+      few = h.few;
+      next = h.next;
+      ring = h.ring;
+      least = h.least;
+      limit = h.limit;
+      room = omega (arith, length-append ps new, news, outs, may.room);
+      done_posted = h.done_posted;
+      posted_poked = h.posted_poked;
+      poked_lent = omega (arith, h.poked_lent);
+      lent_known = omega (arith, length-append ps new, news, outs, may.lent, some);
+      tells = tells-push ps ks h.tells new k tells;
+      newest = omega (arith, length-append ps new, news, outs, may.lent, newest-push ks k, len);
+      held = rw (more, rest_held)
+          (hold-rest (segments_of (sent_as p)) (take (parts_for p.len) p.bufs)
+          (packet-held p may.loose.whole may.held may.long));
+      ends = ends-behind ps new (omega (arith, news, some)) (ends-pieces p.len ns p.len);
+      short = All-append (λ (q : Piece). q.whole ≤ l.limit) ps new h.short
+          (whole-pieces l.limit p.len ns p.len may.short);
+      kept = All-push (λ (x : Kept). length x.bytes ≤ 10240) ks k h.kept (omega (arith, len, may.short, h.limit));
+      beside = All-append (λ (q : Piece). is_ring_block l.ring l.size q.block ≡ false) ps new h.beside
+          (places-are l.ring l.size p.len ns p.len
+          (λ i d below. (kept_none (get_or ns i d) (away i d below)).0));
+      apart = rw (places-append ps new, places-pieces p.len ns p.len)
+          (distinct-append (places_of ps) ns h.apart
+          (distinct-take (parts_for p.len) (numbers_of p.bufs) may.loose.apart)
+          (λ i d below. (kept_none (get_or ns i d) (away i d below)).1));
+    }
+
+    pub started_shown : shown l (ps ++ new) (lent + 1) poked posted done (ks ++ k ∷ []) ≡ accepted_by v (sent_as p)
+    started_shown = rw more refl ∙ ap (λ (x : Sender). accepted_by x (sent_as p)) is
+
+-- the blocks of a packet, by the first and the others
+
+pub firsts-split : (count : ℕ) (bs others : List Block) (first : Block) → bs ≡ first ∷ others → 0 < count
+    → take count bs ≡ first ∷ take (count - 1) others
+firsts-split zero bs others first is some = absurd (omega arith)
+firsts-split (suc n) bs others first is some =
+    let e : n ≡ suc n - 1 = omega arith in
+    ap (λ (l : List Block). take (suc n) l) is ∙ ap (λ (k : ℕ). first ∷ take k others) e
+
+pub numbers-split : (count : ℕ) (bs others : List Block) (first : Block) → bs ≡ first ∷ others → 0 < count
+    → take count (numbers_of bs) ≡ first.number ∷ numbers_of (take (count - 1) others)
+numbers-split count bs others first is some =
+    sym (numbers-take count bs) ∙ ap numbers_of (firsts-split count bs others first is some)

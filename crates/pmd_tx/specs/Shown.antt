@@ -74,6 +74,7 @@ pub record IsRing (l : Layout) (pieces : List Piece) (waiting : List Block) (len
   pub few : l.size ≤ 1024
   pub next : l.next < l.size
   pub ring : l.ring + blocks_for l.size ≤ 65536
+  pub least : 60 ≤ l.limit
   pub limit : l.limit ≤ 10240
   pub room : length pieces < l.size
   pub done_posted : done ≤ posted

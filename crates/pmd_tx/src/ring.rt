@@ -82,7 +82,7 @@ impl Model for TransmitRing {
 impl TransmitRing {
     /// A ring whose queue goes on: of 1 to 1,024 slots, in blocks that follow one another from that of the number
     /// `ring` on, all below 65,536. `tail` is the number that the tail's register has at the port, and `limit` how many
-    /// bytes a packet has at most. Nothing is outstanding. It takes no memory.
+    /// bytes a packet has at most, 60 to 10,240. Nothing is outstanding. It takes no memory.
     #[tactic(auto, using(crate::proofs::Outstanding::outstanding))]
     pub fn new(
         alloc: Global,
@@ -95,6 +95,7 @@ impl TransmitRing {
         requires some { 0 < size }
         requires few { size ≤ 1024 }
         requires ring { ring + blocks_for size ≤ 65536 }
+        requires least { 60 ≤ limit }
         requires limit { limit ≤ 10240 }
         ensures { result ≡ at_start port tail ring size limit }
     {
@@ -165,6 +166,7 @@ impl TransmitRing {
     /// How many bytes a packet has at most.
     pub(crate) fn limit(&self) -> u16
         ensures limit { result ≡ self.now.layout.limit }
+        ensures least { 60 ≤ result }
         ensures few { result ≤ 10240 }
     {
         self.limit

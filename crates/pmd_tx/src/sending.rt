@@ -1,8 +1,9 @@
 //! How a packet is sent: its blocks are lent and its descriptors written, and the tail is moved on.
 
-ghost use Rattle.std.specs.Prelude.{◌≡◌, ◌==◌, ◌<◌, ◌≤◌, ◌+◌, ℕ, List, None, All, drop, length, IfOk, IfErr, OnOk, OnErr, IfSome, IfNone};
+ghost use Rattle.std.specs.Prelude.{◌≡◌, ◌==◌, ◌&&◌, not, ◌<◌, ◌≤◌, ◌+◌, ℕ, List, None, All, drop, length, IfOk, IfErr, OnOk, OnErr, IfSome, IfNone};
 ghost use Rattle.std.specs.List.{list_any};
 ghost use Rattle.nic_device.specs.DmaArena.Block.{IsBlock};
+ghost use Rattle.nic_device.specs.DmaArena.Numbers.{is_own, is_free};
 ghost use Rattle.pmd_seam.specs.Bufs.{numbers_of};
 ghost use Rattle.pmd_seam.specs.Home.{AreOut};
 ghost use Rattle.pmd_seam.specs.Refusals.{CanFail};
@@ -25,11 +26,20 @@ pub fn are_out(arena: &Arena, bufs: &Bufs) -> bool
 {
     for number in 0..bufs.count() {
         let block = bufs.get(number).block();
-        if !arena.owns(block) || arena.is_free(block) || comes_again(bufs, number, block) {
+        if !is_out(arena, bufs, number, block) {
             return false;
         }
     }
     true
+}
+
+/// Whether a block can go home, and no Buf behind this one has its number.
+fn is_out(arena: &Arena, bufs: &Bufs, number: usize, block: u32) -> bool
+    requires { number < length bufs.now }
+    ensures { result ≡ (is_own arena.now block && not (is_free arena.now block)
+        && not (list_any (λ b. block == b) (drop (number + 1) (numbers_of bufs.now)))) }
+{
+    arena.owns(block) && !arena.is_free(block) && !comes_again(bufs, number, block)
 }
 
 /// Whether a Buf behind the one of this number has this block's number.
@@ -250,6 +260,7 @@ impl TransmitRing {
         ensures refuses { N.refuses nic.new ≡ N.refuses nic.old }
         ensures refusal { IfErr result (λ refused. CanFail (N.refuses nic.new) refused.0) }
     {
+        let _least = self.limit();
         let start = start_of(&packet);
         let len = packet.len;
         match self.accept(alloc, nic, pad(packet)) {

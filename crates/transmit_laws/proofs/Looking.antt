@@ -55,7 +55,7 @@ module _ (s : State) (queue : ℕ) (sent : List (List ℕ)) (v : Sender) (f : �
         rw (
           eq-eqb (descriptor_at v.layout end % 16) 0 (slot-even v h.based.layout end),
           slot-lent v h.based.layout s.memory end (omega (arith, known, h.counted.lent_known, h.counted.room))
-          h.shows.ring,
+              h.shows.ring,
         ) refl
 
     -- and tells whether it was fetched

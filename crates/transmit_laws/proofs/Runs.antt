@@ -72,8 +72,12 @@ some_unsent : (s : State) (queue : ℕ) (sent : List (List ℕ)) (limit : ℕ) (
     → SendsInOrder s queue sent limit left ks → (k : ℕ) → k < length left
     → (slice_index_or left k no_segment).part.last ≡ true → length sent < length (bytes_of ks)
 some_unsent s queue sent limit left ks (inl x) k below end =
-    omega (arith, ap length x.in_order, length-append sent (frames_from (staged_by s queue) left),
-    frame_of_end (staged_by s queue) left k below end)
+    omega (
+      arith,
+      ap length x.in_order,
+      length-append sent (frames_from (staged_by s queue) left),
+      frame_of_end (staged_by s queue) left k below end,
+    )
 some_unsent s queue sent limit left ks (inr x) k below end =
     omega (arith, ap length x.in_order, length-append sent (x.frame ∷ x.rest))
 

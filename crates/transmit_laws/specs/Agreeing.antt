@@ -112,12 +112,12 @@ pub record IsInTurn (limit : ℕ) (staged : List ℕ) (sent : List (List ℕ)) (
 -- the side went off amid a packet, and isn't wanted on: not all packets are sent that were accepted
 pub record IsCutOff (side : TransmitQueue) (sent : List (List ℕ)) (left : List Segment) (accepted : List Kept) : Type 0
   where
-  pub off : IsFalse side.on
-  pub unwanted : IsFalse side.wanted
-  pub more : 0 < length left
-  pub frame : List ℕ
-  pub rest : List (List ℕ)
-  pub in_order : bytes_of accepted ≡ sent ++ frame ∷ rest
+    pub off : IsFalse side.on
+    pub unwanted : IsFalse side.wanted
+    pub more : 0 < length left
+    pub frame : List ℕ
+    pub rest : List (List ℕ)
+    pub in_order : bytes_of accepted ≡ sent ++ frame ∷ rest
 
 -- the frames sent are the first of those of the accepted packets, where these segments are left
 abbrev pub SendsInOrder : State → ℕ → List (List ℕ) → ℕ → List Segment → List Kept → Type 0

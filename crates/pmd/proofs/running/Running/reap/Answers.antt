@@ -14,7 +14,8 @@ reap-requires g c = outstanding_out _ c.self.invariant
 pub invariant_of-self : goal.invariant_of-self
 invariant_of-self g c =
     let e = c.reap.ensures in
-    let (packets, count, frees) = some_freed c.reap.result _ _ _ _ e.freed e.some in
+    let (packets, some) = some_freed c.reap.result _ _ _ _ e.freed e.some in
+    let (count, frees) = some in
     reaped_up _ _ count packets frees e.layout refl c.self.invariant
 
 pub returns : goal.returns
@@ -28,7 +29,8 @@ returns g c =
     let old = g.N.Nic.made c.args.nic.now in
     let new = g.N.Nic.made c.reap.new.nic in
     let e = c.reap.ensures in
-    let (packets, count, frees) = some_freed c.reap.result q.transmit s.transmit q.arena s.arena e.freed e.some in
+    let (packets, some) = some_freed c.reap.result q.transmit s.transmit q.arena s.arena e.freed e.some in
+    let (count, frees) = some in
     rw (← c.self.view_is) (record {
       drives = transmit_drives old new [] q s c.self.invariant tt (e.plays [])
           (freed_owns q s count packets frees e.layout refl) refl;

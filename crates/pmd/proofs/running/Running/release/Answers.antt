@@ -1,4 +1,4 @@
-use Rattle.std.proofs.Common.{◌≡◌, ℕ, true, List, ◌++◌, sym, subst}
+use Rattle.std.proofs.Common.{◌≡◌, ℕ, true, List, ◌++◌, refl, sym, subst}
 use Rattle.nic_device.specs.DmaArena.Numbers.{Numbers}
 use Rattle.pmd_rx.specs.PmdSeam.Bufs.{numbers_of}
 use Rattle.pmd_rx.specs.PmdSeam.Home.{AreOut}
@@ -6,7 +6,7 @@ use Rattle.pmd.specs.Running.{Running, IsUp, goes_back, rings_out}
 use Rattle.pmd.proofs.Counted.{released_kept}
 use Rattle.pmd.proofs.HaltedBlocks.{never_back}
 use Rattle.pmd.proofs.Sending.{way_out}
-use Rattle.pmd.proofs.Several.{out_all_given}
+use Rattle.pmd.proofs.Several.{all_own_same, out_all_given}
 use Rattle.pmd.proofs.Starting.{one_out}
 use Rattle.pmd.proofs.running.Running.release.Goals as goal
 
@@ -50,3 +50,8 @@ returns-then-goes_back-clause-blocks c =
     rw (← c.self.view_is, c.give_packet.ensures)
     (released_kept q.arena (rings_out q) (numbers_of c.args.packet.bufs)
     (way_out q c.args.packet c.self.invariant goes))
+
+pub returns-then-goes_back-clause-halves : goal.returns-then-goes_back-clause-halves
+returns-then-goes_back-clause-halves c =
+    rw (← c.self.view_is, c.give_packet.ensures)
+    (refl, λ n. all_own_same c.self.inside.arena (numbers_of c.args.packet.bufs) n)

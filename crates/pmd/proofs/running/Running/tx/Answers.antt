@@ -1,4 +1,4 @@
-use Rattle.std.proofs.Common.{◌≡◌, refl, ◌∙◌, ap}
+use Rattle.std.proofs.Common.{◌≡◌, refl, sym, ◌∙◌, ap}
 use Rattle.nic_device.specs.DmaArena.Numbers.{Numbers}
 use Rattle.pmd_rx.specs.PmdSeam.declared.packet.Packet.{Packet}
 use Rattle.pmd_tx.specs.Sending.{Sender}
@@ -19,9 +19,11 @@ invariant_of-self g c =
     } in
     let s : Running = record q { arena = c.send.new.arena; transmit = c.send.new.self } in
     let p : Packet = c.args.packet in
-    let is : c.receives-elsewhere.result ≡ receives q p = cc in
+    let is : c.receives-elsewhere.result ≡ receives q p =
+    c.receives-elsewhere.ensures ∙ ap (λ (x : Running). receives x p) (sym c.self.view_is) in
     let e = c.send.ensures in
-    (sent_up_kept q s p c.send.result (rw (← is) e.answer) c.bytes_in.ensures.whole e.accepted e.kept e.home e.back
+    let answer : IsAnswer (gate_of q.transmit q.arena (receives q p) p) p c.send.result = rw (← is) e.answer in
+    (sent_up_kept q s p c.send.result answer c.bytes_in-whole.ensures.whole e.accepted e.kept e.home e.back
     e.layout refl c.self.invariant).0
 
 pub returns : goal.returns
@@ -33,7 +35,8 @@ returns g c =
     } in
     let s : Running = record q { arena = c.send.new.arena; transmit = c.send.new.self } in
     let p : Packet = c.args.packet in
-    let is : c.receives-elsewhere.result ≡ receives q p = cc in
+    let is : c.receives-elsewhere.result ≡ receives q p =
+    c.receives-elsewhere.ensures ∙ ap (λ (x : Running). receives x p) (sym c.self.view_is) in
     let old = g.N.Nic.made c.args.nic.now in
     let new = g.N.Nic.made c.send.new.nic in
     let e = c.send.ensures in
@@ -41,7 +44,9 @@ returns g c =
     let owns = home_owns (returned c.send.result) p q.arena s.arena e.home in
     let shut : IsShut (gate_of q.transmit q.arena (receives q p) p) → (new ≡ old) × (s ≡ q) =
     λ way.
-        let still : (new ≡ old) × (c.send.new.self ≡ q.transmit) = (rw (← is) e.shut) way in
+        let by : IsShut (gate_of q.transmit q.arena (receives q p) p) → (new ≡ old) × (c.send.new.self ≡ q.transmit) =
+        rw (← is) e.shut in
+        let still = by way in
         let arena = shut_home q.transmit q.arena (receives q p) p c.send.result s.arena answer way e.home in
         (still.0, λ i. record q { arena = arena i; transmit = still.1 i }) in
     rw (← c.self.view_is) (record {
@@ -63,7 +68,7 @@ returns g c =
         layout = e.layout;
         receive = refl;
       };
-      blocks = (sent_up_kept q s p c.send.result answer c.bytes_in.ensures.whole e.accepted e.kept e.home e.back
+      blocks = (sent_up_kept q s p c.send.result answer c.bytes_in-whole.ensures.whole e.accepted e.kept e.home e.back
           e.layout refl c.self.invariant).1;
       who = e.who;
       refuses = e.refuses;

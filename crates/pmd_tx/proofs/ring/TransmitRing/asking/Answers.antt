@@ -19,5 +19,15 @@ returns c =
     let tells = tell-at ps (latest (length ps) ks) h.tells k below piece no_segment.part in
     let from : c.from.result ≡ k = c.from.ensures in
     let here : piece ≡ get_or ps k piece = c.index.ensures ∙ ap (λ (n : ℕ). get_or ps n piece) from in
-    rw (c.of_halves.ensures, c.from-2.ensures, c.data_descriptor_word.ensures, c.from-3.ensures, ← c.self.view_is, at,
-        ← tells.len, ← tells.whole, ← tells.last, ← here) refl
+    rw (
+      c.of_halves.ensures,
+      c.from-2.ensures,
+      c.data_descriptor_word.ensures,
+      c.from-3.ensures,
+      ← c.self.view_is,
+      at,
+      ← tells.len,
+      ← tells.whole,
+      ← tells.last,
+      ← here,
+    ) refl

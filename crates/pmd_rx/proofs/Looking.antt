@@ -1,8 +1,7 @@
 -- A look at the slot behind those that were seen.
-use Rattle.std.proofs.Common.{◌≡◌, ℕ, ◌<◌, ◌+◌, ◌≤◌, ◌∙◌, true, false, List, length, Option, Some, None, Result, Ok, Err, IfOk, IfErr, OnErr, refl, sym, ap, subst, inl, inr, arith}
-use Rattle.std.specs.Prelude.{◌∷◌, []}
+use Rattle.std.proofs.Common.{◌≡◌, ℕ, ◌<◌, ◌+◌, ◌≤◌, ◌∙◌, List, length, Option, Some, None, Result, Ok, Err, IfOk, IfErr, OnErr, refl, sym, ap, subst, inl, inr, arith}
+use Rattle.std.specs.Prelude.{[]}
 use Rattle.std.proofs.lemmas.List.{length_push}
-use Rattle.nic_device.specs.DmaRing.Descriptor.{second_half}
 use Rattle.nic_device.specs.declared.event.Event.TheVariants as event
 use Rattle.nic_device.specs.declared.event.Reply.TheVariants as reply
 use Rattle.nic_device.specs.DmaArena.Numbers.{Numbers}
@@ -11,7 +10,7 @@ use Rattle.pmd_seam.specs.Accesses.{IsPeeked}
 use Rattle.pmd_seam.specs.declared.fault.PmdFault.{PmdFault}
 use Rattle.pmd_seam.specs.declared.fault.PmdFault.TheVariants as fault
 use Rattle.pmd_rx.specs.Plays.{PlaysFrom, LooksInVain}
-use Rattle.pmd_rx.specs.Receive.{Receive, IsOwn, looked, saw, told_by, descriptor_at, no_packet}
+use Rattle.pmd_rx.specs.Receive.{Receive, IsOwn, looked, told_by, descriptor_at, no_packet}
 use Rattle.pmd_rx.specs.Shown.{IsLook, LooksOnce, LooksAtPart, LooksAtWrong, IsRefused}
 use Rattle.pmd_rx.specs.Wrong.{AsksNext, EndsWrong, IsFault}
 use Rattle.pmd_rx.specs.declared.receive.Look.{Look}

@@ -27,8 +27,8 @@ mod slots;
 mod through_lock;
 
 pub use accesses::{lend, peek, poke, read, take, write};
+pub use bufs::{Bufs, MOST_BUFS, most_bufs};
 pub use device_lock::{CallFault, Calls, Made};
-pub use bufs::{Bufs, MOST_BUFS};
 pub use direct::Direct;
 pub use fault::PmdFault;
 pub use home::{Reclaim, give_back};

@@ -67,7 +67,8 @@ module _ (arena : Numbers) (old new : List Call) (v : Receive) (can : v.stage �
   misses_wrong (inl adds) =
       wrong_here arena old new v (event.Peek16 (descriptor_at v.layout (length v.seen))) reply.NotLent own tt adds refl
   misses_wrong (inr adds) =
-      wrong_here arena old new v (event.Peek16 (descriptor_at v.layout (length v.seen))) reply.Misaligned own tt adds refl
+      wrong_here arena old new v (event.Peek16 (descriptor_at v.layout (length v.seen))) reply.Misaligned own tt adds
+      refl
 
   ends_wrong : (o : Option (List ℕ)) (w : Receive) → (p : LooksAtWrong old v new w) → p.bytes ≡ o
       → EndsWrong arena old v new v

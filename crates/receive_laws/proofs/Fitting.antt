@@ -141,7 +141,8 @@ module _ (queue most : ℕ) (s : State) (out : List Piece) (v : Receive) (gone h
     -- the frame goes where nothing is written of it for the queue
     leaves : begun_on queue (w ∷ others) ≡ 0 → Goes others []
     leaves none =
-        none_written others (unbegun_none queue others are.1 ∙ sym none ∙ ap (λ (ws : List Waiting). begun_on queue ws) (sym e))
+        none_written others
+        (unbegun_none queue others are.1 ∙ sym none ∙ ap (λ (ws : List Waiting). begun_on queue ws) (sym e))
 
     not_ours : w.queue ≢ queue → begun_on queue (w ∷ others) ≡ 0
     not_ours ne = other_first queue w others (ne_eqb w.queue queue ne)
@@ -284,7 +285,8 @@ module _ (queue most : ℕ) (s : State) (out : List Piece) (v : Receive) (gone h
       → begun_on queue (filter (λ (w : Waiting). not (has_queue (mode_in s.registers) p.index w.queue)) s.waiting)
       ≡ begun_on queue s.waiting
   filtered p none =
-      begun-filter queue (λ (w : Waiting). not (has_queue (mode_in s.registers) p.index w.queue)) s.waiting sound.waiting
+      begun-filter queue (λ (w : Waiting). not (has_queue (mode_in s.registers) p.index w.queue)) s.waiting
+      sound.waiting
       (λ x own. ap not (ap (λ (q : ℕ). has_queue (mode_in s.registers) p.index q) own ∙ none))
 
   written : (word : ℕ) (m : Named) → ((p : Place) (view : ℕ) → m ≡ Register p view → IsOfNoSetting p)

@@ -107,7 +107,8 @@ any_pushed : (bs : List Block) (b : Block) (p : Packet) → if_any (bs ++ b ∷ 
 any_pushed [] b p = refl
 any_pushed (c ∷ bs) b p = refl
 
-pub open_pushed : (n : ℕ) (ps : List Piece) (p : Piece) → open_after n (ps ++ p ∷ []) ≡ cond p.end 0 (open_after n ps + 1)
+pub open_pushed : (n : ℕ) (ps : List Piece) (p : Piece)
+    → open_after n (ps ++ p ∷ []) ≡ cond p.end 0 (open_after n ps + 1)
 open_pushed n [] p = refl
 open_pushed n (q ∷ ps) p = open_pushed (cond q.end 0 (n + 1)) ps p
 
@@ -184,8 +185,8 @@ module _ (out gone ps : List Piece) (v : Receive) (p : Piece) (t : Told) (b : Bl
           order = order ∙ sym (append_assoc gone (p ∷ []) ps);
         }
 
-pub order_on : (out gone here : List Piece) (v : Receive) (t : Told) (ts : List Told) (b : Block) → InOrder out v gone here
-    → v.seen ≡ t ∷ ts → v.stage ≡ Takes → 0 < length here
+pub order_on : (out gone here : List Piece) (v : Receive) (t : Told) (ts : List Told) (b : Block)
+    → InOrder out v gone here → v.seen ≡ t ∷ ts → v.stage ≡ Takes → 0 < length here
     → take (bytes_in t.second) b.bytes ≡ (piece_at here 0).bytes → length b.bytes ≡ 2048
     → InOrder out (took v (t ∷ ts) b) (gone ++ piece_at here 0 ∷ []) (drop 1 here)
 order_on out gone [] v t ts b o is takes some bytes whole = absurd (omega (arith, some))
@@ -228,10 +229,12 @@ none_held out gone here v w o none still same seen stage =
     ∙ sym (ap (λ (p : Packet). listed (out_of w.seen p)) still ∙ none_out w.seen) in
     record {
       cut = λ rest. o.cut rest
-          ∙ ap (λ (ks : List Kept). (v.handed ++ ks) ++ packets_behind (kept_of (left_of v.seen v.held)).bytes rest) outs
+          ∙ ap (λ (ks : List Kept). (v.handed ++ ks) ++ packets_behind (kept_of (left_of v.seen v.held)).bytes rest)
+          outs
           ∙ ap (λ (hs : List Kept). (hs ++ listed (out_of w.seen w.held))
           ++ packets_behind (kept_of (left_of v.seen v.held)).bytes rest) (sym same)
-          ∙ ap (λ (p : Packet). (w.handed ++ listed (out_of w.seen w.held)) ++ packets_behind (kept_of p).bytes rest) both;
+          ∙ ap (λ (p : Packet). (w.handed ++ listed (out_of w.seen w.held)) ++ packets_behind (kept_of p).bytes rest)
+          both;
       parts = o.parts ∙ ap (λ (p : Packet). length p.bufs) both;
       full = ap (λ (p : Packet). length (bytes_of p.bufs)) (sym both) ∙ o.full ∙ ap (λ (p : Packet). p.len) both;
       seen = seen;

@@ -7,7 +7,8 @@ use Rattle.pmd_seam.proofs.bufs.Bufs.has.Goals as goal
 
 at_first : (c b : Block) (ns : List ℕ) → b ≡ c → 0 < times_in_hand (c.number ∷ ns) b.number
 at_first c b ns same =
-    subst (λ (x : Block). 0 < times_in_hand (c.number ∷ ns) x.number) (sym same) (omega (arith, times_first ns c.number))
+    subst (λ (x : Block). 0 < times_in_hand (c.number ∷ ns) x.number) (sym same)
+    (omega (arith, times_first ns c.number))
 
 has_at : (bs : List Block) (k : ℕ) (b : Block) → k < length bs → b ≡ get_or bs k b
     → 0 < times_in_hand (numbers_of bs) b.number

@@ -1,9 +1,7 @@
 -- A ring that is closed: where its blocks are then.
-use Rattle.std.proofs.Common.{◌≡◌, ◌≤◌, ℕ, List, [], ◌∷◌, ◌++◌, true, sym, ap, ◌∙◌, arith}
+use Rattle.std.proofs.Common.{◌≡◌, ℕ, List, [], ◌∷◌, ◌++◌, true, ap, ◌∙◌, arith}
 use Rattle.std.specs.List.{range_with_len}
-use Rattle.nic_device.specs.DmaArena.Block.{Block}
 use Rattle.nic_device.specs.DmaArena.Numbers.{Numbers, with_free}
-use Rattle.nic_device.specs.DmaArena.Whereabouts.{times_in_hand}
 use Rattle.pmd_seam.specs.Bufs.{numbers_of, with_all_free}
 use Rattle.pmd_seam.specs.Home.{AreOut}
 use Rattle.pmd_seam.specs.Slots.{blocks_for}

@@ -1,7 +1,7 @@
 -- A ring that is filled, block by block.
-use Rattle.std.proofs.Common.{◌≡◌, ℕ, ◌+◌, ◌<◌, true, false, List, [], ◌∷◌, ◌++◌, length, refl, sym, ap, subst, ◌∙◌, append_assoc, arith}
+use Rattle.std.proofs.Common.{◌≡◌, ℕ, ◌+◌, ◌<◌, false, List, [], ◌∷◌, ◌++◌, length, refl, sym, ap, ◌∙◌, append_assoc, arith}
 use Rattle.std.proofs.lemmas.List.{append-nil, length_push}
-use Rattle.nic_device.specs.DmaArena.Numbers.{Numbers, free_count, is_free, with_free}
+use Rattle.nic_device.specs.DmaArena.Numbers.{Numbers, free_count, with_free}
 use Rattle.nic_device.proofs.DmaArena.Arenas.{free_count_taken}
 use Rattle.pmd_seam.specs.DeviceLock.declared.entry.Call.{Call}
 use Rattle.pmd_seam.specs.Home.{IsDrawn}

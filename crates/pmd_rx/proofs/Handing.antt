@@ -1,17 +1,15 @@
 -- What the calls of a driver hand out.
-use Rattle.std.proofs.Common.{◌≡◌, ◌≢◌, ℕ, ◌+◌, ◌<◌, ◌≤◌, true, false, List, [], ◌∷◌, ◌++◌, length, Option, Some, None, Result, Ok, Err, IfOk, OnOk, OnErr, refl, sym, ap, subst, ◌∙◌, arith}
-use Rattle.std.specs.Prelude.{IsSome, IfSome, IfNone}
+use Rattle.std.proofs.Common.{◌≡◌, ℕ, ◌+◌, ◌<◌, ◌≤◌, true, false, List, [], ◌∷◌, ◌++◌, length, Option, Some, None, Result, Ok, Err, IfOk, OnOk, OnErr, refl, sym, ap, subst, ◌∙◌, arith}
+use Rattle.std.specs.Prelude.{IfSome}
 use Rattle.nic_device.specs.DmaArena.Block.{Block}
 use Rattle.nic_device.specs.DmaArena.Numbers.{Numbers, free_count, is_free, with_free}
-use Rattle.nic_device.proofs.DmaArena.Arenas.{free_count_taken}
 use Rattle.pmd_seam.specs.Packet.{kept_of}
 use Rattle.pmd_seam.specs.declared.packet.Packet.{Packet}
-use Rattle.pmd_rx.specs.Keeping.{IsRunning, IsAmid, vacated}
-use Rattle.pmd_rx.specs.Receive.{Receive, moved, refilled, out_of, if_any, listed, next_stage, fresh_of, named, lent_one, CanLend, HasLent, HasNamed}
-use Rattle.pmd_rx.specs.Shown.{IsOneLess, rounds}
-use Rattle.pmd_rx.specs.Wrong.{PacketWaits, wanted, owed}
+use Rattle.pmd_rx.specs.Keeping.{IsRunning, vacated}
+use Rattle.pmd_rx.specs.Receive.{Receive, moved, refilled, out_of, if_any, listed, next_stage, fresh_of, named, lent_one}
+use Rattle.pmd_rx.specs.Wrong.{wanted}
 use Rattle.pmd_rx.specs.declared.ring.Stage.{Stage}
-use Rattle.pmd_rx.specs.declared.ring.Stage.TheVariants.{Looks, Takes, Owes, Lent, Named}
+use Rattle.pmd_rx.specs.declared.ring.Stage.TheVariants.{Takes, Owes}
 use Rattle.pmd_rx.specs.declared.ring.Told.{Told}
 
 -- a packet is handed out where one is held and no part of it is left, and nothing where a part is left

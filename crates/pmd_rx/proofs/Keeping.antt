@@ -1,11 +1,11 @@
 -- What each step keeps: where the blocks are, the ring, and that the driver runs.
-use Rattle.std.proofs.Common.{◌≡◌, ℕ, ◌+◌, ◌<◌, Bool, true, false, List, [], ◌∷◌, ◌++◌, length, map, get_or, drop, refl, sym, ap, subst, ◌∙◌, arith, cond}
+use Rattle.std.proofs.Common.{◌≡◌, ℕ, ◌+◌, ◌<◌, Bool, true, false, List, [], ◌∷◌, ◌++◌, length, get_or, drop, refl, sym, ap, subst, ◌∙◌, arith, cond}
 use Rattle.std.specs.Prelude.{◌==◌, ◌&&◌, nat_lt}
 use Rattle.std.proofs.lemmas.Bool.{and_parts}
 use Rattle.std.proofs.lemmas.Bool.Decides.{nat_tests}
-use Rattle.std.proofs.lemmas.List.{length_push, append-nil}
+use Rattle.std.proofs.lemmas.List.{length_push}
 use Rattle.nic_device.specs.DmaArena.Block.{Block}
-use Rattle.nic_device.specs.DmaArena.Numbers.{Numbers, is_free, with_free}
+use Rattle.nic_device.specs.DmaArena.Numbers.{Numbers}
 use Rattle.nic_device.specs.DmaArena.Whereabouts.{times_in_hand}
 use Rattle.nic_device.specs.DmaRing.Descriptor.{second_half}
 use Rattle.nic_device.specs.DmaRing.Receive.{ends_packet, bytes_in}
@@ -15,13 +15,13 @@ use Rattle.pmd_seam.specs.Slots.{ring_blocks}
 use Rattle.pmd_seam.proofs.Exchanging.{exchanges_both}
 use Rattle.pmd_seam.proofs.Drawing.{numbers-more}
 use Rattle.pmd_seam.proofs.Outside.{times-append, times-cons}
-use Rattle.pmd_rx.specs.Keeping.{Keeps, IsRunning, IsAmid, IsSameRing, fresh_block, vacated, lent_of, blocks_out}
-use Rattle.pmd_rx.specs.Receive.{Receive, Layout, TakesNext, block_at, saw, told_by, took, joined, is_part}
-use Rattle.pmd_rx.specs.Shown.{IsLook, LooksAtPart}
+use Rattle.pmd_rx.specs.Keeping.{Keeps, IsAmid, IsSameRing, fresh_block, vacated, lent_of, blocks_out}
+use Rattle.pmd_rx.specs.Receive.{Receive, Layout, TakesNext, block_at, saw, told_by, took, is_part}
+use Rattle.pmd_rx.specs.Shown.{IsLook}
 use Rattle.pmd_rx.specs.declared.receive.Look.{Look}
 use Rattle.pmd_rx.specs.declared.receive.Look.TheVariants as look
 use Rattle.pmd_rx.specs.declared.ring.Stage.{Stage}
-use Rattle.pmd_rx.specs.declared.ring.Stage.TheVariants.{Looks, Takes, Owes, Lent, Named}
+use Rattle.pmd_rx.specs.declared.ring.Stage.TheVariants.{Looks, Takes, Owes}
 use Rattle.pmd_rx.specs.declared.ring.Told.{Told}
 
 -- how often a block is out, by where it is
@@ -111,7 +111,8 @@ saw_keeps a v d looks part =
       );
       ring = same_ring v.layout;
       running = λ runs. record {
-        part = runs.part; some = runs.some;
+        part = runs.part;
+        some = runs.some;
         full = omega (arith, runs.full, vacated_after ends, ap vacated looks);
         stage = amid_after v d ends (part_more v.layout.most (length v.seen) (second_half d) part);
       };
@@ -163,7 +164,8 @@ took_keeps_at a v (t ∷ seen) b takes parts some is =
       );
       ring = record { port = refl; tail = refl; ring = refl; size = refl; most = refl };
       running = λ runs. record {
-        part = runs.part; some = runs.some;
+        part = runs.part;
+        some = runs.some;
         full = omega (arith, runs.full, first_less l.blocks some, ap vacated takes);
         stage = omega (arith, length_push v.held.bufs b);
       };

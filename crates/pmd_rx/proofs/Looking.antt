@@ -1,8 +1,7 @@
 -- A look at the slot behind those that were seen.
-use Rattle.std.proofs.Common.{◌≡◌, ℕ, ◌<◌, ◌+◌, ◌≤◌, ◌∙◌, true, false, List, length, Option, Some, None, Result, Ok, Err, IfOk, IfErr, OnErr, refl, sym, ap, subst, inl, inr, arith}
-use Rattle.std.specs.Prelude.{◌∷◌, []}
+use Rattle.std.proofs.Common.{◌≡◌, ℕ, ◌<◌, ◌+◌, ◌≤◌, ◌∙◌, List, length, Option, Some, None, Result, Ok, Err, IfOk, IfErr, OnErr, refl, sym, ap, subst, inl, inr, arith}
+use Rattle.std.specs.Prelude.{[]}
 use Rattle.std.proofs.lemmas.List.{length_push}
-use Rattle.nic_device.specs.DmaRing.Descriptor.{second_half}
 use Rattle.nic_device.specs.declared.event.Event.TheVariants as event
 use Rattle.nic_device.specs.declared.event.Reply.TheVariants as reply
 use Rattle.nic_device.specs.DmaArena.Numbers.{Numbers}
@@ -11,7 +10,7 @@ use Rattle.pmd_seam.specs.Accesses.{IsPeeked}
 use Rattle.pmd_seam.specs.declared.fault.PmdFault.{PmdFault}
 use Rattle.pmd_seam.specs.declared.fault.PmdFault.TheVariants as fault
 use Rattle.pmd_rx.specs.Plays.{PlaysFrom, LooksInVain}
-use Rattle.pmd_rx.specs.Receive.{Receive, IsOwn, looked, saw, told_by, descriptor_at, no_packet}
+use Rattle.pmd_rx.specs.Receive.{Receive, IsOwn, looked, told_by, descriptor_at, no_packet}
 use Rattle.pmd_rx.specs.Shown.{IsLook, LooksOnce, LooksAtPart, LooksAtWrong, IsRefused}
 use Rattle.pmd_rx.specs.Wrong.{AsksNext, EndsWrong, IsFault}
 use Rattle.pmd_rx.specs.declared.receive.Look.{Look}
@@ -68,7 +67,8 @@ module _ (arena : Numbers) (old new : List Call) (v : Receive) (can : v.stage �
   misses_wrong (inl adds) =
       wrong_here arena old new v (event.Peek16 (descriptor_at v.layout (length v.seen))) reply.NotLent own tt adds refl
   misses_wrong (inr adds) =
-      wrong_here arena old new v (event.Peek16 (descriptor_at v.layout (length v.seen))) reply.Misaligned own tt adds refl
+      wrong_here arena old new v (event.Peek16 (descriptor_at v.layout (length v.seen))) reply.Misaligned own tt adds
+      refl
 
   ends_wrong : (o : Option (List ℕ)) (w : Receive) → (p : LooksAtWrong old v new w) → p.bytes ≡ o
       → EndsWrong arena old v new v

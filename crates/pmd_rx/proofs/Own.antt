@@ -1,5 +1,5 @@
 -- Taking a part's block, and posting a fresh one.
-use Rattle.std.proofs.Common.{◌≡◌, ℕ, ◌+◌, ◌<◌, true, false, List, length, Option, Some, None, Result, Ok, Err, IfErr, OnOk, OnErr, refl, sym, subst, inl, inr}
+use Rattle.std.proofs.Common.{◌≡◌, ℕ, ◌+◌, true, false, List, Option, Some, None, Result, Ok, Err, IfErr, OnOk, OnErr, refl, sym, subst, inl, inr}
 use Rattle.nic_device.specs.DmaArena.Block.{Block}
 use Rattle.nic_device.specs.DmaArena.Numbers.{Numbers, is_free}
 use Rattle.nic_device.specs.declared.event.Event.TheVariants as event
@@ -9,10 +9,9 @@ use Rattle.pmd_seam.specs.Accesses.{IsTaken, IsLent, IsPoked}
 use Rattle.pmd_seam.specs.declared.fault.PmdFault.{PmdFault}
 use Rattle.pmd_seam.specs.declared.fault.PmdFault.TheVariants as fault
 use Rattle.pmd_rx.specs.Plays.{PlaysFrom}
-use Rattle.pmd_rx.specs.Receive.{Receive, TakesNext, LendsNext, NamesNext, MovesNext, MayLend, CanLend, HasLent, HasNamed, took, lent_one, named, moved, naming, fresh_of, slot_at, block_at, vacant, descriptor_at}
+use Rattle.pmd_rx.specs.Receive.{Receive, TakesNext, LendsNext, NamesNext, MovesNext, HasNamed, took, lent_one, named, moved, slot_at, vacant}
 use Rattle.pmd_rx.specs.Shown.{IsTailWritten, IsUnwritten}
 use Rattle.pmd_rx.specs.Wrong.{AsksNext, EndsWrong, IsFault}
-use Rattle.pmd_rx.specs.declared.ring.Stage.TheVariants.{Takes}
 use Rattle.pmd_seam.specs.declared.packet.Packet.{Packet}
 use Rattle.pmd_rx.proofs.Failing.{wrong_here}
 use Rattle.pmd_rx.proofs.Playing.{plays_adds, plays_some}

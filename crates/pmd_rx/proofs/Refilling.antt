@@ -1,6 +1,6 @@
 -- What the steps of a refill keep.
-use Rattle.std.proofs.Common.{◌≡◌, ◌≢◌, ℕ, ◌+◌, ◌<◌, true, false, [], ◌∷◌, ◌++◌, List, length, Option, Some, None, Result, Ok, Err, IfOk, OnOk, OnErr, refl, sym, ap, subst, ◌∙◌, arith}
-use Rattle.std.proofs.lemmas.List.{length_push, append-nil}
+use Rattle.std.proofs.Common.{◌≡◌, ℕ, ◌+◌, ◌<◌, true, false, [], ◌∷◌, List, length, Option, Result, Ok, Err, IfOk, OnOk, OnErr, refl, sym, ap, subst, arith}
+use Rattle.std.proofs.lemmas.List.{length_push}
 use Rattle.nic_device.specs.DmaArena.Block.{Block}
 use Rattle.nic_device.specs.DmaArena.Numbers.{Numbers, is_free, with_free}
 use Rattle.nic_device.specs.DmaArena.Whereabouts.{times_in_hand}
@@ -9,7 +9,7 @@ use Rattle.pmd_seam.specs.declared.fault.PmdFault.{PmdFault}
 use Rattle.pmd_seam.specs.declared.packet.Packet.{Packet}
 use Rattle.pmd_seam.proofs.Outside.{times-append, times-cons}
 use Rattle.pmd_rx.specs.Keeping.{Keeps, IsRunning, IsAmid, vacated, fresh_block, blocks_out, numbers_in, handed_blocks}
-use Rattle.pmd_rx.specs.Receive.{Receive, lent_one, named, moved, out_of, if_any, left_of, next_stage, listed, fresh_of, CanLend, HasLent, HasNamed}
+use Rattle.pmd_rx.specs.Receive.{Receive, lent_one, named, moved, out_of, left_of, next_stage, fresh_of, CanLend, HasLent, HasNamed}
 use Rattle.pmd_rx.specs.declared.ring.Stage.{Stage}
 use Rattle.pmd_rx.specs.declared.ring.Stage.TheVariants.{Looks, Takes, Owes, Lent, Named}
 use Rattle.pmd_rx.specs.declared.ring.Told.{Told}
@@ -146,9 +146,15 @@ moved_keeps a v done =
       running = λ runs.
           let here = named_amid v v.stage done runs.stage in
           record {
-            part = runs.part; some = runs.some;
+            part = runs.part;
+            some = runs.some;
             full = omega (
-              arith, runs.full, here.0, (next_fresh v.seen).1, length_push l.blocks (fresh_of v.stage));
+              arith,
+              runs.full,
+              here.0,
+              (next_fresh v.seen).1,
+              length_push l.blocks (fresh_of v.stage),
+            );
             stage = next_amid v v.seen refl runs;
           };
     }

@@ -1,12 +1,12 @@
 -- What the ring keeps as a part joins the packet that is held.
-use Rattle.std.proofs.Common.{◌≡◌, ℕ, suc, ◌+◌, ◌<◌, ◌≤◌, List, [], ◌∷◌, ◌++◌, length, drop, refl, ap, subst, sym, ◌∙◌, arith}
+use Rattle.std.proofs.Common.{◌≡◌, ℕ, suc, ◌+◌, ◌<◌, ◌≤◌, List, [], ◌∷◌, ◌++◌, length, drop, ap, subst, ◌∙◌, arith}
 use Rattle.std.proofs.lemmas.List.{length_push, length-drop}
 use Rattle.std.specs.Prelude.{All}
 use Rattle.nic_device.specs.DmaArena.Block.{Block}
 use Rattle.nic_device.specs.DmaRing.Receive.{bytes_in}
 use Rattle.pmd_seam.specs.declared.packet.Packet.{Packet}
 use Rattle.pmd_rx.specs.Receive.{Layout}
-use Rattle.pmd_rx.specs.Shown.{FitsBlock, IsLaidOut, IsInStep, IsSteady}
+use Rattle.pmd_rx.specs.Shown.{FitsBlock, IsSteady}
 use Rattle.pmd_rx.specs.declared.ring.Stage.{Stage}
 use Rattle.pmd_rx.specs.declared.ring.Stage.TheVariants.{Owes}
 use Rattle.pmd_rx.specs.declared.ring.Told.{Told}
@@ -23,8 +23,7 @@ joined_steady l seen p s t rest next blocks bs b len rss hash (laid, step) is be
     let both : All FitsBlock (t ∷ rest) = subst (λ (ts : List Told). All FitsBlock ts) is step.parts in
     let fits : bytes_in t.second ≤ 2048 = both 0 t (omega arith) in
     let less : length blocks ≡ length (drop 1 l.blocks) = ap (λ (xs : List ℕ). length xs) drops in
-    let many : length bs ≡ length p.bufs + 1 = ap (λ (xs : List Block). length xs) joins ∙ length_push p.bufs b in
-    (
+    let many : length bs ≡ length p.bufs + 1 = ap (λ (xs : List Block). length xs) joins ∙ length_push p.bufs b in (
       record {
         some = laid.some;
         few = laid.few;

@@ -31,8 +31,8 @@ pub record IsLaidOut (l : Layout) : Type 0 where
   pub ring : l.ring + blocks_for l.size ≤ 65536
   pub room : length l.blocks < l.size
 
--- nothing is held while it looks, and fewer slots are seen than a packet may have; there is a part to take; a block that
--- is lent has a slot to go to, and one is vacant still
+-- nothing is held while it looks, and fewer slots are seen than a packet may have; there is a part to take; a block
+-- that is lent has a slot to go to, and one is vacant still
 abbrev pub StandsAt : Stage → Layout → List Told → Packet → Type 0
 StandsAt Looks l seen held = (held ≡ no_packet) × (length seen < l.most)
 StandsAt Takes l seen held = 0 < length seen

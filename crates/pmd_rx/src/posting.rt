@@ -133,8 +133,8 @@ impl ReceiveRing {
         }
     }
 
-    /// Makes the next step of a refill: takes a part where none is owed a block, and posts a fresh block in its place. The
-    /// packet that is held is handed out behind its last part.
+    /// Makes the next step of a refill: takes a part where none is owed a block, and posts a fresh block in its place.
+    /// The packet that is held is handed out behind its last part.
     fn refill_next<N: Nic>(
         &mut self,
         alloc: Global,
@@ -306,8 +306,8 @@ impl ReceiveRing {
     /// The next packet that came in, in order: fresh blocks of the arena take the places of its blocks. None where the
     /// slot behind those that were seen isn't done.
     ///
-    /// Where parts of a packet are taken, since a call after it was refused, only this packet is handed out, and no slot
-    /// is looked at.
+    /// Where parts of a packet are taken, since a call after it was refused, only this packet is handed out, and no
+    /// slot is looked at.
     ///
     /// `NoBuffer` where a packet waits and too few blocks are free; the driver is unchanged but for what it saw.
     /// `DeviceFault` where a reply is none that a healthy queue gives. `Call` where a call was refused, or there was no

@@ -279,8 +279,8 @@ impl ReceiveRing {
         descriptor_address(self.ring, self.slot(self.blocks.len() as u16))
     }
 
-    /// Moves the tail on, so that the device has the block that is named. The packet that is held is handed out, where it
-    /// is whole: None where it isn't, or none is held.
+    /// Moves the tail on, so that the device has the block that is named. The packet that is held is handed out, where
+    /// it is whole: None where it isn't, or none is held.
     ///
     /// `DeviceFault` where the port has no such register.
     pub(crate) fn move_tail<N: Nic>(
@@ -362,7 +362,11 @@ impl ReceiveRing {
 fn stage_after(second: u64) -> Stage
     ensures { result ≡ (if ends_packet second then stage.Takes else stage.Looks) }
 {
-    if is_last(second) { Stage::Takes } else { Stage::Looks }
+    if is_last(second) {
+        Stage::Takes
+    } else {
+        Stage::Looks
+    }
 }
 
 /// Hands out a packet, and keeps its record. None where it has no part.

@@ -1,6 +1,6 @@
 -- Blocks that are drawn from an arena, and given back to it.
-use Rattle.std.proofs.Common.{◌≡◌, ℕ, ◌+◌, true, false, List, [], ◌∷◌, ◌++◌, length, map, refl, sym, ap, ◌∙◌, subst, arith}
-use Rattle.std.proofs.lemmas.List.{length_push, map-append}
+use Rattle.std.proofs.Common.{◌≡◌, ℕ, ◌+◌, true, false, List, [], ◌∷◌, ◌++◌, map, refl, sym, ap, ◌∙◌, subst, arith}
+use Rattle.std.proofs.lemmas.List.{length_push}
 use Rattle.nic_device.specs.DmaArena.Block.{Block, zero_block}
 use Rattle.nic_device.specs.DmaArena.Numbers.{Numbers, is_free, with_free}
 use Rattle.pmd_seam.specs.Bufs.{numbers_of}

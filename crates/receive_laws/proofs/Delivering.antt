@@ -145,7 +145,7 @@ pub none_is_all_before : NoneIsAllBefore
 none_is_all_before w fifo start before rest v early marks d e finds same =
     let here = leads_to (new_state w.vfs fifo) start in
     let whole : pieces_in w.queue here (before ++ rest)
-        ≡ pieces_in w.queue here before ++ pieces_in w.queue (leads_to here before) rest =
+    ≡ pieces_in w.queue here before ++ pieces_in w.queue (leads_to here before) rest =
     pieces-append w.queue here before rest in
     between (played_by v early (calls_of w.pass before)).handed
     (delivered w.queue (new_state w.vfs fifo) (start ++ before))

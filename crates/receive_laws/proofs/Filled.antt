@@ -1,5 +1,5 @@
 -- What filling a slot does to memory: the slot gets a piece, and the others stay.
-use Rattle.std.proofs.Common.{◌≡◌, ◌≢◌, ℕ, ◌+◌, ◌*◌, ◌^◌, ◌<◌, ◌≤◌, true, false, List, [], ◌∷◌, ◌++◌, length, take, sym, ap, ◌∙◌, subst, arith, Ok}
+use Rattle.std.proofs.Common.{◌≡◌, ◌≢◌, ℕ, ◌+◌, ◌*◌, ◌^◌, ◌<◌, ◌≤◌, true, false, length, take, sym, ◌∙◌, subst, arith, Ok}
 use Rattle.std.proofs.lemmas.List.{length-take-le}
 use Rattle.nic_device.specs.DmaArena.Memory.{Memory, has_block, read_at, IsWhole, SameLent, AreApart}
 use Rattle.nic_device.specs.DmaRing.declared.ring.Ring.{Ring}

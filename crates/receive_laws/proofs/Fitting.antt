@@ -1,9 +1,9 @@
 -- Frames that fit as many slots as the driver takes for a packet stay so, and the pieces that are written of them fit.
-use Rattle.std.proofs.Common.{◌≡◌, ◌≢◌, ℕ, ◌+◌, ◌*◌, ◌-◌, ◌<◌, ◌≤◌, ◌⊎◌, inl, inr, Bool, true, false, ◌&&◌, min, cond, List, [], ◌∷◌, ◌++◌, length, take, drop, refl, sym, ap, ◌∙◌, subst, arith, nat_lt, Ok, Err}
+use Rattle.std.proofs.Common.{◌≡◌, ◌≢◌, ℕ, ◌+◌, ◌*◌, ◌-◌, ◌<◌, ◌≤◌, inl, inr, Bool, true, false, ◌&&◌, min, cond, List, [], ◌∷◌, ◌++◌, length, take, drop, refl, sym, ap, ◌∙◌, subst, arith, nat_lt, Ok, Err}
 use Rattle.std.specs.Prelude.{◌==◌, Result, All, filter, not}
-use Rattle.std.proofs.lemmas.Bool.{cond_both, cases_Bool, cases_eq, cases_lt, and_parts, eqb-true, eq-eqb, ne_eqb, ltb-false, both_ways}
+use Rattle.std.proofs.lemmas.Bool.{cond_both, cases_eq, cases_lt, and_parts, eqb-true, eq-eqb, ne_eqb, both_ways}
 use Rattle.std.proofs.lemmas.List.{append-nil, length-take, length-drop}
-use Rattle.std.proofs.lemmas.List.Elements.{All-head, All-tail, All-filter}
+use Rattle.std.proofs.lemmas.List.Elements.{All-head, All-filter}
 use Rattle.nic_device.specs.DmaArena.Block.{Block}
 use Rattle.nic_device.specs.DmaArena.Memory.{Memory}
 use Rattle.nic_device.specs.DmaRing.declared.fault.RingFault.{RingFault}
@@ -22,12 +22,11 @@ use Rattle.nic_device.specs.RxFilter.declared.target.Target.{Target}
 use Rattle.nic_device.specs.RxFilter.declared.unwanted.Unwanted.{Unwanted}
 use Rattle.nic_device.specs.RxRing.declared.filled.Filled.{Filled}
 use Rattle.nic_device.specs.RxRing.Control.{buffer_size_of}
-use Rattle.nic_device.specs.RxRing.Fill.{Rest}
 use Rattle.nic_device.proofs.RxRing.Fills.{takes_piece}
 use Rattle.nic_device.specs.Access.{named_written}
 use Rattle.nic_device.specs.Arrival.{let_in, sorted_in}
 use Rattle.nic_device.specs.Named.{named}
-use Rattle.nic_device.specs.Outcome.{Outcome, gives}
+use Rattle.nic_device.specs.Outcome.{Outcome}
 use Rattle.nic_device.specs.Receive as receive
 use Rattle.nic_device.specs.Receive.{rest_of}
 use Rattle.nic_device.specs.Sound.{IsSound, AreWaiting, IsUnbegun, IsBegunWhileOn}
@@ -49,7 +48,7 @@ use Rattle.history_laws.proofs.DeviceLaws.Standing.{stays_within}
 use Rattle.history_laws.proofs.DeviceLaws.StandingAccesses.{read_rest}
 use Rattle.pmd_rx.specs.Receive.{Receive}
 use Rattle.receive_laws.specs.Fitting.{FitsBlocks, begun_on, AreFitting, ResetsNoPool, FramesStayFitting, NoneBegunWhileOff}
-use Rattle.receive_laws.specs.Joint.{Holds, Agree}
+use Rattle.receive_laws.specs.Joint.{Holds}
 use Rattle.receive_laws.specs.Pieces.{Piece, Fits, AllFit, open_after, first_of, pieces, pieces_told}
 use Rattle.receive_laws.specs.Up.{IsUp}
 use Rattle.receive_laws.proofs.Parts.{open_pushed}
@@ -98,9 +97,9 @@ begun-parted queue on (w ∷ others) are ne =
     cond_both (w.queue == on && not (w.offset == 0)) others (w ∷ others)
     (λ (xs : List Waiting). begun_on queue xs ≡ begun_on queue (w ∷ others))
     (λ is.
-        let own : w.queue ≡ on = eqb-true w.queue on (and_parts _ _ is).0 in
-        unbegun_none queue others are.1
-        ∙ sym (other_first queue w others (ne_eqb w.queue queue (λ e. ne (sym own ∙ e)))))
+    let own : w.queue ≡ on = eqb-true w.queue on (and_parts _ _ is).0 in
+    unbegun_none queue others are.1
+    ∙ sym (other_first queue w others (ne_eqb w.queue queue (λ e. ne (sym own ∙ e)))))
     (λ no. refl)
 
 -- one piece more fits
@@ -142,7 +141,8 @@ module _ (queue most : ℕ) (s : State) (out : List Piece) (v : Receive) (gone h
     -- the frame goes where nothing is written of it for the queue
     leaves : begun_on queue (w ∷ others) ≡ 0 → Goes others []
     leaves none =
-        none_written others (unbegun_none queue others are.1 ∙ sym none ∙ ap (λ (ws : List Waiting). begun_on queue ws) (sym e))
+        none_written others
+        (unbegun_none queue others are.1 ∙ sym none ∙ ap (λ (ws : List Waiting). begun_on queue ws) (sym e))
 
     not_ours : w.queue ≢ queue → begun_on queue (w ∷ others) ≡ 0
     not_ours ne = other_first queue w others (ne_eqb w.queue queue ne)
@@ -150,7 +150,7 @@ module _ (queue most : ℕ) (s : State) (out : List Piece) (v : Receive) (gone h
     off_leaves : (receive_queue_of s.registers w.queue).on ≡ false → Goes others []
     off_leaves off =
         leaves (not_ours (λ own.
-            both_ways _ (subst (λ (q : ℕ). (receive_queue_of s.registers q).on ≡ false) own off) up.on))
+        both_ways _ (subst (λ (q : ℕ). (receive_queue_of s.registers q).on ≡ false) own off) up.on))
 
     dropped_leaves : (drops s.registers w.queue && w.offset == 0) ≡ true → Goes others []
     dropped_leaves is =
@@ -161,11 +161,11 @@ module _ (queue most : ℕ) (s : State) (out : List Piece) (v : Receive) (gone h
         → receive.is_empty (receive_queue_of s.registers w.queue).ring ≡ false → Goes others []
     fault_leaves fault is some =
         leaves (not_ours (λ own.
-            let open_ring : receive.is_empty (receive_queue_of s.registers queue).ring ≡ false =
-            subst (λ (q : ℕ). receive.is_empty (receive_queue_of s.registers q).ring ≡ false) own some in
-            let room = room_left s queue v.layout here h.ring h.side h.slots open_ring
-            (cases_lt (length here) (length v.layout.blocks)) in
-            no_fault s queue v.layout here h.ring h.side h.slots room (rest_of w) fault (rw own at is)))
+        let open_ring : receive.is_empty (receive_queue_of s.registers queue).ring ≡ false =
+        subst (λ (q : ℕ). receive.is_empty (receive_queue_of s.registers q).ring ≡ false) own some in
+        let room = room_left s queue v.layout here h.ring h.side h.slots open_ring
+        (cases_lt (length here) (length v.layout.blocks)) in
+        no_fault s queue v.layout here h.ring h.side h.slots room (rest_of w) fault (rw own at is)))
 
     -- a piece of a frame of the queue is written
     module _ (f : Filled) (is : (filled_by s w).answer ≡ Ok f) (own : w.queue ≡ queue) where
@@ -245,7 +245,10 @@ module _ (queue most : ℕ) (s : State) (out : List Piece) (v : Receive) (gone h
       | inr ne ↦
           subst (λ (ps : List Piece). Goes (receive.after_piece w others f) ps)
           (sym (ap (λ (b : Bool). cond b (record {
-            bytes = piece_of s.waiting f.len; first = first_of s.waiting; end = f.end } ∷ []) []) (ne_eqb w.queue queue ne)))
+            bytes = piece_of s.waiting f.len;
+            first = first_of s.waiting;
+            end = f.end;
+          } ∷ []) []) (ne_eqb w.queue queue ne)))
           (writes_other f ne)
     ]
 
@@ -282,7 +285,8 @@ module _ (queue most : ℕ) (s : State) (out : List Piece) (v : Receive) (gone h
       → begun_on queue (filter (λ (w : Waiting). not (has_queue (mode_in s.registers) p.index w.queue)) s.waiting)
       ≡ begun_on queue s.waiting
   filtered p none =
-      begun-filter queue (λ (w : Waiting). not (has_queue (mode_in s.registers) p.index w.queue)) s.waiting sound.waiting
+      begun-filter queue (λ (w : Waiting). not (has_queue (mode_in s.registers) p.index w.queue)) s.waiting
+      sound.waiting
       (λ x own. ap not (ap (λ (q : ℕ). has_queue (mode_in s.registers) p.index q) own ∙ none))
 
   written : (word : ℕ) (m : Named) → ((p : Place) (view : ℕ) → m ≡ Register p view → IsOfNoSetting p)
@@ -359,7 +363,7 @@ frames_stay_fitting queue most s out v e sound (gone, here, h) up fit none spare
       limit = subst (λ n. n ≤ 2048 * most) (sym (settings_stand s e none).limit) limit;
       waiting = waiting_after (FitsBlocks queue most) s fit.waiting (λ frame t low own. omega (arith, low, limit))
           (λ w others f is fills.
-              All-head (FitsBlocks queue most) w others (subst (All (FitsBlocks queue most)) is fit.waiting))
+          All-head (FitsBlocks queue most) w others (subst (All (FitsBlocks queue most)) is fit.waiting))
           e none;
       begun = goes.0;
       pieces = goes.1;

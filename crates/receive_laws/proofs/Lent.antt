@@ -1,5 +1,5 @@
 -- Of some numbers only known ones stay lent over the driver's own events.
-use Rattle.std.proofs.Common.{◌≡◌, ℕ, false, List, refl, ap}
+use Rattle.std.proofs.Common.{◌≡◌, ℕ, false, List}
 use Rattle.std.proofs.lemmas.Bool.{or_from}
 use Rattle.nic_device.specs.DmaArena.Block.{Block}
 use Rattle.nic_device.specs.DmaArena.Memory.{Memory}

@@ -5,7 +5,7 @@ use Rattle.std.proofs.lemmas.Bool.{cases_lt, both_ways, and_parts, eqb-true}
 use Rattle.nic_device.specs.DmaArena.Block.{Block}
 use Rattle.nic_device.specs.DmaArena.Memory.{Memory, has_block, is_lent, read_at}
 use Rattle.nic_device.proofs.DmaArena.Blocks.{is_lent_in}
-use Rattle.nic_device.specs.DmaRing.Descriptor.{first_half, second_half}
+use Rattle.nic_device.specs.DmaRing.Descriptor.{second_half}
 use Rattle.nic_device.specs.DmaRing.Receive.{is_done, ends_packet, bytes_in}
 use Rattle.nic_device.specs.State.{State}
 use Rattle.nic_device.specs.Outcome.{Outcome, gives}

@@ -1,5 +1,5 @@
 -- The blocks that the driver has lent stay among those that its pass lends.
-use Rattle.std.proofs.Common.{◌≡◌, ℕ, ◌+◌, Bool, true, false, ◌&&◌, length, refl, sym, subst, arith, cond, List, [], ◌∷◌}
+use Rattle.std.proofs.Common.{◌≡◌, ℕ, ◌+◌, Bool, true, false, ◌&&◌, length, sym, subst, arith, cond, List, [], ◌∷◌}
 use Rattle.std.specs.Prelude.{if◌then◌else◌, IsTrue, ⊤}
 use Rattle.std.proofs.lemmas.Bool.{cases_lt}
 use Rattle.std.proofs.lemmas.List.{get_or-drop, length-drop}
@@ -11,7 +11,7 @@ use Rattle.nic_device.specs.declared.event.Event.TheVariants as event
 use Rattle.nic_device.specs.declared.event.Reply.{Reply}
 use Rattle.nic_device.specs.declared.event.Reply.TheVariants as reply
 use Rattle.device_lock.specs.Alone.{Blocks}
-use Rattle.pmd_rx.specs.Receive.{Receive, IsOwn, HasLent, HasNamed, fresh_of, is_part, next_stage, drive, lent_one, moved, named, saw, took}
+use Rattle.pmd_rx.specs.Receive.{Receive, IsOwn, HasLent, HasNamed, fresh_of, is_part, next_stage, drive, moved, saw, took}
 use Rattle.pmd_rx.specs.declared.ring.Stage.{Stage}
 use Rattle.pmd_rx.specs.declared.ring.Stage.TheVariants.{Looks, Takes, Owes, Lent, Named}
 use Rattle.pmd_rx.specs.declared.ring.Told.{Told}

@@ -1,5 +1,5 @@
 -- The descriptor at the vacant slot names the block that was lent.
-use Rattle.std.proofs.Common.{◌≡◌, ℕ, ◌+◌, ◌*◌, ◌<◌, ◌≤◌, true, false, List, [], ◌++◌, length, sym, ap, ◌∙◌, subst, arith}
+use Rattle.std.proofs.Common.{◌≡◌, ℕ, ◌+◌, ◌*◌, ◌<◌, ◌≤◌, true, false, List, [], length, sym, ap, ◌∙◌, subst, arith}
 use Rattle.nic_device.specs.DmaArena.Memory.{Memory, is_lent, read_at, write_at, IsWhole, SameLent, AreApart}
 use Rattle.nic_device.proofs.DmaArena.Bus.{SameLent-write_at, read_at-write_at_same, read_at-write_at_apart}
 use Rattle.nic_device.specs.DmaRing.Descriptor.{first_half, second_half}
@@ -13,7 +13,7 @@ use Rattle.nic_device.specs.Step.{after, reply_to}
 use Rattle.nic_device.specs.declared.event.Event.TheVariants as event
 use Rattle.history_laws.proofs.Calls.{poked_is}
 use Rattle.pmd_rx.specs.PmdSeam.Slots.{is_ring_block}
-use Rattle.pmd_rx.specs.Receive.{Layout, Receive, NamesNext, HasLent, fresh_of, slot_at, descriptor_at, block_at, vacant, naming, named, drive}
+use Rattle.pmd_rx.specs.Receive.{Layout, Receive, NamesNext, HasLent, fresh_of, slot_at, descriptor_at, block_at, vacant, naming, drive}
 use Rattle.pmd_rx.specs.declared.ring.Stage.{Stage}
 use Rattle.pmd_rx.specs.declared.ring.Stage.TheVariants.{Looks, Takes, Owes, Lent, Named}
 use Rattle.pmd_rx.specs.declared.ring.Told.{Told}

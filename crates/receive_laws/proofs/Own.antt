@@ -1,14 +1,11 @@
 -- Each event of the driver's own keeps the agreement.
-use Rattle.std.proofs.Common.{◌≡◌, ℕ, ◌<◌, List, [], ◌++◌, length, refl, sym, subst}
+use Rattle.std.proofs.Common.{ℕ, List, [], ◌++◌, refl, sym, subst}
 use Rattle.std.proofs.lemmas.List.{append-nil}
 use Rattle.nic_device.specs.DmaArena.Block.{Block}
-use Rattle.nic_device.specs.DmaArena.Memory.{IsWhole}
-use Rattle.nic_device.specs.Sound.{IsSound}
 use Rattle.nic_device.specs.State.{State}
 use Rattle.nic_device.specs.Step.{after, reply_to}
 use Rattle.nic_device.specs.declared.event.Event.{Event}
 use Rattle.nic_device.specs.declared.event.Event.TheVariants as event
-use Rattle.nic_device.specs.declared.event.Port.{Port}
 use Rattle.pmd_rx.specs.Receive.{Receive, drive}
 use Rattle.receive_laws.specs.Joint.{Agree}
 use Rattle.receive_laws.specs.Pieces.{Piece}

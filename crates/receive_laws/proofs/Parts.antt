@@ -1,8 +1,7 @@
 -- Parts of packets: what the driver saw of them, and how the pieces are cut behind those that were consumed.
-use Rattle.std.proofs.Common.{◌≡◌, ℕ, zero, suc, ◌+◌, ◌*◌, ◌-◌, ◌<◌, ◌≤◌, Bool, true, false, cond, List, [], ◌∷◌, ◌++◌, length, take, drop, get_or, Option, Some, None, refl, sym, ap, ◌∙◌, subst, arith, append_assoc}
+use Rattle.std.proofs.Common.{◌≡◌, ℕ, suc, ◌+◌, ◌<◌, ◌≤◌, Bool, true, false, cond, List, [], ◌∷◌, ◌++◌, length, take, drop, Option, Some, refl, sym, ap, ◌∙◌, subst, arith, append_assoc}
 use Rattle.std.proofs.lemmas.List.{append-nil, length_push, length-append}
 use Rattle.nic_device.specs.DmaArena.Block.{Block}
-use Rattle.nic_device.specs.DmaRing.Driver.{rss_in, hash_in}
 use Rattle.nic_device.specs.DmaRing.Receive.{ends_packet, bytes_in}
 use Rattle.pmd_rx.specs.PmdSeam.Bufs.{bytes_of}
 use Rattle.pmd_rx.specs.PmdSeam.Packet.{Kept, kept_of}
@@ -13,7 +12,7 @@ use Rattle.pmd_rx.specs.declared.ring.Stage.{Stage}
 use Rattle.pmd_rx.specs.declared.ring.Stage.TheVariants.{Looks, Takes, Owes, Lent, Named}
 use Rattle.pmd_rx.specs.declared.ring.Told.{Told}
 use Rattle.receive_laws.specs.Joint.{Saw, AreSeen, IsOpen, AreOpen, EndLast, IsAt, AreCut, InOrder}
-use Rattle.receive_laws.specs.Pieces.{Piece, no_piece, packet_told, packets_of, packets_behind, open_after, piece_at}
+use Rattle.receive_laws.specs.Pieces.{Piece, packet_told, packets_of, packets_behind, open_after, piece_at}
 
 -- what was seen stays so as a piece more is written
 pub seen_longer : (seen : List Told) (here : List Piece) (p : Piece) → AreSeen seen here
@@ -108,7 +107,8 @@ any_pushed : (bs : List Block) (b : Block) (p : Packet) → if_any (bs ++ b ∷ 
 any_pushed [] b p = refl
 any_pushed (c ∷ bs) b p = refl
 
-pub open_pushed : (n : ℕ) (ps : List Piece) (p : Piece) → open_after n (ps ++ p ∷ []) ≡ cond p.end 0 (open_after n ps + 1)
+pub open_pushed : (n : ℕ) (ps : List Piece) (p : Piece)
+    → open_after n (ps ++ p ∷ []) ≡ cond p.end 0 (open_after n ps + 1)
 open_pushed n [] p = refl
 open_pushed n (q ∷ ps) p = open_pushed (cond q.end 0 (n + 1)) ps p
 
@@ -185,8 +185,8 @@ module _ (out gone ps : List Piece) (v : Receive) (p : Piece) (t : Told) (b : Bl
           order = order ∙ sym (append_assoc gone (p ∷ []) ps);
         }
 
-pub order_on : (out gone here : List Piece) (v : Receive) (t : Told) (ts : List Told) (b : Block) → InOrder out v gone here
-    → v.seen ≡ t ∷ ts → v.stage ≡ Takes → 0 < length here
+pub order_on : (out gone here : List Piece) (v : Receive) (t : Told) (ts : List Told) (b : Block)
+    → InOrder out v gone here → v.seen ≡ t ∷ ts → v.stage ≡ Takes → 0 < length here
     → take (bytes_in t.second) b.bytes ≡ (piece_at here 0).bytes → length b.bytes ≡ 2048
     → InOrder out (took v (t ∷ ts) b) (gone ++ piece_at here 0 ∷ []) (drop 1 here)
 order_on out gone [] v t ts b o is takes some bytes whole = absurd (omega (arith, some))
@@ -196,10 +196,10 @@ order_on out gone (p ∷ ps) v t ts b o is takes some bytes whole =
     subst (λ (xs : List Told). EndLast xs) is
     (subst (λ (s : Stage). IsAt s v.seen v.held) takes o.stage) in
     let cut : (rest : List Piece)
-        → packets_of (gone ++ rest) ≡ (v.handed ++ []) ++ packets_behind (kept_of v.held).bytes rest =
+    → packets_of (gone ++ rest) ≡ (v.handed ++ []) ++ packets_behind (kept_of v.held).bytes rest =
     λ rest. o.cut rest
-        ∙ ap (λ (xs : List Told). (v.handed ++ listed (out_of xs v.held))
-        ++ packets_behind (kept_of (left_of xs v.held)).bytes rest) is in
+    ∙ ap (λ (xs : List Told). (v.handed ++ listed (out_of xs v.held))
+    ++ packets_behind (kept_of (left_of xs v.held)).bytes rest) is in
     taken out gone ps v p t b bytes whole cut
     (o.parts ∙ ap (λ (xs : List Told). length (left_of xs v.held).bufs) is)
     (ap (λ (xs : List Told). length (bytes_of (left_of xs v.held).bufs)) (sym is) ∙ o.full
@@ -229,10 +229,12 @@ none_held out gone here v w o none still same seen stage =
     ∙ sym (ap (λ (p : Packet). listed (out_of w.seen p)) still ∙ none_out w.seen) in
     record {
       cut = λ rest. o.cut rest
-          ∙ ap (λ (ks : List Kept). (v.handed ++ ks) ++ packets_behind (kept_of (left_of v.seen v.held)).bytes rest) outs
+          ∙ ap (λ (ks : List Kept). (v.handed ++ ks) ++ packets_behind (kept_of (left_of v.seen v.held)).bytes rest)
+          outs
           ∙ ap (λ (hs : List Kept). (hs ++ listed (out_of w.seen w.held))
           ++ packets_behind (kept_of (left_of v.seen v.held)).bytes rest) (sym same)
-          ∙ ap (λ (p : Packet). (w.handed ++ listed (out_of w.seen w.held)) ++ packets_behind (kept_of p).bytes rest) both;
+          ∙ ap (λ (p : Packet). (w.handed ++ listed (out_of w.seen w.held)) ++ packets_behind (kept_of p).bytes rest)
+          both;
       parts = o.parts ∙ ap (λ (p : Packet). length p.bufs) both;
       full = ap (λ (p : Packet). length (bytes_of p.bufs)) (sym both) ∙ o.full ∙ ap (λ (p : Packet). p.len) both;
       seen = seen;

@@ -1,5 +1,5 @@
 -- The block of the next slot is taken: its piece is the oldest that was written and not consumed.
-use Rattle.std.proofs.Common.{◌≡◌, ℕ, List, [], ◌∷◌, ◌++◌, drop, refl, sym, ap, subst, ◌*◌, ◌<◌, true, length, take, ◌∙◌, arith, append_assoc, Some}
+use Rattle.std.proofs.Common.{◌≡◌, ℕ, List, [], ◌∷◌, ◌++◌, drop, refl, sym, ap, subst, ◌*◌, ◌<◌, length, take, ◌∙◌, arith, Some}
 use Rattle.std.specs.FinMap as map
 use Rattle.nic_device.specs.DmaArena.Block.{Block}
 use Rattle.nic_device.specs.DmaArena.Memory.{IsWhole, Memory, part}

@@ -124,8 +124,8 @@ IsAt (Named b) seen held = EndLast seen
 abbrev pub still_held : Receive → Packet
 still_held v = left_of v.seen v.held
 
--- the pieces that were consumed are the packets that were handed out or are to be as the tail moves on, and the parts of
--- one that is held: whatever comes behind them is cut as behind those parts
+-- the pieces that were consumed are the packets that were handed out or are to be as the tail moves on, and the parts
+-- of one that is held: whatever comes behind them is cut as behind those parts
 abbrev pub AreCut : List Piece → Receive → Type 0
 AreCut gone v =
     (rest : List Piece)

@@ -79,15 +79,15 @@ pub fn fresh_ring_agrees()
 {}
 
 /// Each event of the driver's own gets the reply of a healthy queue where the two agree, the packets that were written
-/// have no more pieces than the driver takes, each but its last of 2,048 bytes, and a block that is lent isn't lent yet:
-/// a look tells a descriptor, of a part of a packet where it is done, the block of a part is taken, a fresh one lent,
-/// its descriptor written and the tail moved on.
+/// have no more pieces than the driver takes, each but its last of 2,048 bytes, and a block that is lent isn't lent
+/// yet: a look tells a descriptor, of a part of a packet where it is done, the block of a part is taken, a fresh one
+/// lent, its descriptor written and the tail moved on.
 pub fn own_replies_are_healthy()
     ensures { OwnRepliesAreHealthy }
 {}
 
-/// Where the frames that wait for the queue fit as many slots as the driver takes for a packet, longer ones aren't let in,
-/// and so do the packets that were written, it stays so over every event that writes no setting and resets not the
+/// Where the frames that wait for the queue fit as many slots as the driver takes for a packet, longer ones aren't let
+/// in, and so do the packets that were written, it stays so over every event that writes no setting and resets not the
 /// queue's pool, while the side is up: each piece that is written but the last of its frame fills its block. While the
 /// side is off nothing is written of a frame that waits for the queue.
 pub fn fitting_frames_stay_fitting()

@@ -1,5 +1,4 @@
-use Rattle.std.proofs.Common.{◌≡◌, ◌∙◌, ◌++◌, ◌+◌, ◌≤◌, ◌*◌, ◌-◌, ◌<◌, ℕ, min, List, length, take, ap, sym, subst, arith}
-use Rattle.nic_device.specs.DmaArena.Block.{Block}
+use Rattle.std.proofs.Common.{◌≡◌, ◌∙◌, ◌++◌, ◌+◌, ◌*◌, ◌-◌, ℕ, min, List, length, take, ap, sym, arith}
 use Rattle.pmd_seam.proofs.Copying.{copies_more, many_more}
 use Rattle.pmd_seam.proofs.packet.copied.Goals as goal
 

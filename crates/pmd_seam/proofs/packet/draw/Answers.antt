@@ -1,9 +1,6 @@
-use Rattle.std.proofs.Common.{◌≡◌, ◌++◌, ◌∷◌, [], ◌∙◌, ℕ, ◌+◌, List, length, true, false, sym, ap, map, arith}
-use Rattle.std.proofs.lemmas.List.{length_push}
-use Rattle.nic_device.specs.DmaArena.Block.{Block, zero_block}
-use Rattle.nic_device.specs.DmaArena.Numbers.{Numbers, free_count, is_free, with_free}
+use Rattle.std.proofs.Common.{ap, arith}
+use Rattle.nic_device.specs.DmaArena.Numbers.{free_count}
 use Rattle.nic_device.proofs.DmaArena.Arenas.{free_count_taken}
-use Rattle.pmd_seam.specs.Fresh.{IsDrawnAs}
 use Rattle.pmd_seam.proofs.Drawing.{draws_one}
 use Rattle.pmd_seam.proofs.packet.draw.Goals as goal
 

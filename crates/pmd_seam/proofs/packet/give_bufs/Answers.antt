@@ -1,4 +1,4 @@
-use Rattle.std.proofs.Common.{ap, sym, arith, length, List}
+use Rattle.std.proofs.Common.{ap, arith, length, List}
 use Rattle.nic_device.specs.DmaArena.Block.{Block}
 use Rattle.pmd_seam.proofs.packet.give_bufs.Goals as goal
 

@@ -83,7 +83,8 @@ returns-in_err-post-clause-fails g c =
       made = posts_then c.loop-count._count c.args.arena.now c.loop-count.arena (g.N.Nic.made c.args.nic.now)
           (g.N.Nic.made c.loop-count.nic) (g.N.Nic.made c.post.new.nic) c.args.self.now c.loop-count.self
           c.post.new.self c.loop-count.invariant.plays c.loop-count.invariant.posts c.post.ensures.plays;
-      none = λ short. c.in_err-post.ensures.none (ap (λ (f : PmdFault). let r : Result Unit PmdFault = Err f in r) short);
+      none = λ short.
+          c.in_err-post.ensures.none (ap (λ (f : PmdFault). let r : Result Unit PmdFault = Err f in r) short);
     } in
     rw (p.1, p.2) stops
 
@@ -104,7 +105,8 @@ returns-in_err-post-clause-short g c is =
       made = posts_then c.loop-count._count c.args.arena.now c.loop-count.arena (g.N.Nic.made c.args.nic.now)
           (g.N.Nic.made c.loop-count.nic) (g.N.Nic.made c.post.new.nic) c.args.self.now c.loop-count.self
           c.post.new.self c.loop-count.invariant.plays c.loop-count.invariant.posts c.post.ensures.plays;
-      none = λ short. c.in_err-post.ensures.none (ap (λ (f : PmdFault). let r : Result Unit PmdFault = Err f in r) short);
+      none = λ short.
+          c.in_err-post.ensures.none (ap (λ (f : PmdFault). let r : Result Unit PmdFault = Err f in r) short);
     } in
     short_of c.in_err-post.field-0.0 (g.N.Nic.made c.args.nic.now) (g.N.Nic.made c.post.new.nic) c.args.arena.now
     c.post.new.arena c.args.self.now c.post.new.self (sym p.2 ∙ err_same (sym p.1 ∙ is)) stops

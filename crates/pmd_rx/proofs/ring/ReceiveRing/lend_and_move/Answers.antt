@@ -3,7 +3,7 @@ use Rattle.nic_device.specs.DmaArena.Numbers.{Numbers}
 use Rattle.pmd_rx.specs.Keeping.{Keeps, handed_blocks}
 use Rattle.pmd_rx.specs.Receive.{lent_one}
 use Rattle.pmd_rx.proofs.Failing.{faults_after, fails_all, fails_of, never_short, no_short, err_same}
-use Rattle.pmd_rx.proofs.Handing.{lent_moved, lent_out, lent_same}
+use Rattle.pmd_rx.proofs.Handing.{lent_moved, lent_out}
 use Rattle.pmd_rx.proofs.Fresh.{may_lend, own_after, away_after, back_home}
 use Rattle.pmd_rx.proofs.Keeping.{keeps_to, keeps_both, keeps_still}
 use Rattle.pmd_rx.proofs.Playing.{plays_both, plays_none}

@@ -10,7 +10,8 @@ returns-in-Ok-None-clause-plays g c arena free =
     let lent : ℕ → Type 0 = λ n. c.keep_lent.new.self ≡ lent_one v n in
     lend_plays arena (g.N.Nic.made c.args.nic.now) (g.N.Nic.made c.lend.new.nic) v c.keep_lent.new.self c.args.buf
     (record { stage = c.requires.stage; may = c.requires.fresh }) free
-    (rw c.in-Ok-None.field-0-is at c.in-Ok-None.ensures.made) (subst lent c.block-block.ensures.number c.keep_lent.ensures)
+    (rw c.in-Ok-None.field-0-is at c.in-Ok-None.ensures.made)
+    (subst lent c.block-block.ensures.number c.keep_lent.ensures)
 
 pub returns-in-Ok-Some-clause-plays : goal.returns-in-Ok-Some-clause-plays
 returns-in-Ok-Some-clause-plays g c arena free =

@@ -1,13 +1,9 @@
-use Rattle.std.proofs.Common.{◌≡◌, ◌≤◌, ◌∙◌, ℕ, [], Ok, length, refl, sym, ap, subst, arith}
+use Rattle.std.proofs.Common.{◌∙◌, [], Ok, refl, ap, arith}
 use Rattle.nic_device.specs.DmaArena.Numbers.{Numbers}
-use Rattle.pmd_rx.specs.Receive.{Receive}
-use Rattle.pmd_rx.specs.Wrong.{PacketWaits}
 use Rattle.pmd_rx.specs.declared.receive.Look.{Look}
-use Rattle.pmd_rx.specs.declared.ring.Stage.{Stage}
-use Rattle.pmd_rx.specs.declared.ring.Stage.TheVariants.{Looks}
 use Rattle.pmd_rx.proofs.Failing.{wrong_after, fault_after}
 use Rattle.pmd_rx.proofs.Keeping.{keeps_none, keeps_both}
-use Rattle.pmd_rx.proofs.Looking.{posted_more, looked_enough, looks_vainly, kept_both}
+use Rattle.pmd_rx.proofs.Looking.{posted_more, looks_vainly, kept_both}
 use Rattle.pmd_rx.proofs.Playing.{plays_none, plays_both}
 use Rattle.pmd_rx.proofs.ring.ReceiveRing.look_whole.Goals as goal
 

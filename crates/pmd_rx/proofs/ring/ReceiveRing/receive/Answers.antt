@@ -1,4 +1,3 @@
-use Rattle.std.proofs.Common.{◌≡◌, ◌∙◌, [], Ok, true, false, sym, ap, subst}
 use Rattle.pmd_seam.proofs.Exchanging.{out_kept}
 use Rattle.pmd_rx.specs.Keeping.{blocks_out, handed_blocks}
 use Rattle.pmd_rx.proofs.Failing.{fails_behind, fails_of, no_short, err_same}

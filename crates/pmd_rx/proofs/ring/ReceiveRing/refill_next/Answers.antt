@@ -1,8 +1,6 @@
-use Rattle.std.proofs.Common.{[], ◌∙◌, refl, sym, ap, subst, arith}
+use Rattle.std.proofs.Common.{arith}
 use Rattle.pmd_seam.proofs.Exchanging.{out_kept}
 use Rattle.pmd_rx.specs.Keeping.{blocks_out, handed_blocks}
-use Rattle.pmd_rx.specs.Receive.{Receive}
-use Rattle.pmd_rx.specs.declared.ring.Stage.{Stage}
 use Rattle.pmd_rx.proofs.Failing.{faults_after, faults_of}
 use Rattle.pmd_rx.proofs.Handing.{owes_room, owed_some}
 use Rattle.pmd_rx.proofs.Keeping.{keeps_both}

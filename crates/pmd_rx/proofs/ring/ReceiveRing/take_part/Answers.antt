@@ -1,4 +1,4 @@
-use Rattle.std.proofs.Common.{◌≡◌, ℕ, [], ◌∙◌, sym, subst}
+use Rattle.std.proofs.Common.{[], ◌∙◌}
 use Rattle.pmd_rx.specs.Receive.{TakesNext, took}
 use Rattle.pmd_rx.proofs.Keeping.{keeps_none, keeps_to, took_keeps, took_owes, took_handed}
 use Rattle.pmd_rx.proofs.Own.{take_asks, take_plays, take_misses, take_wrong}
@@ -8,7 +8,10 @@ use Rattle.pmd_rx.proofs.ring.ReceiveRing.take_part.Goals as goal
 pub returns-in-Ok-Some-clause-plays : goal.returns-in-Ok-Some-clause-plays
 returns-in-Ok-Some-clause-plays g c arena =
     let own : TakesNext c.args.self.now c.next_block-block.result = record {
-      stage = c.requires.stage; block = c.next_block-block.ensures.block; some = c.requires.some } in
+      stage = c.requires.stage;
+      block = c.next_block-block.ensures.block;
+      some = c.requires.some;
+    } in
     take_plays arena (g.N.Nic.made c.args.nic.now) (g.N.Nic.made c.take.new.nic) c.args.self.now c.hold.new.self
     c.next_block-block.result c.in-Ok-Some.buf own (rw c.in-Ok-Some.field-0-is at c.in-Ok-Some.ensures.made)
     c.hold.ensures
@@ -16,7 +19,10 @@ returns-in-Ok-Some-clause-plays g c arena =
 pub returns-in-Ok-None-clause-plays : goal.returns-in-Ok-None-clause-plays
 returns-in-Ok-None-clause-plays g c arena =
     let own : TakesNext c.args.self.now c.next_block-block.result = record {
-      stage = c.requires.stage; block = c.next_block-block.ensures.block; some = c.requires.some } in
+      stage = c.requires.stage;
+      block = c.next_block-block.ensures.block;
+      some = c.requires.some;
+    } in
     take_misses arena (g.N.Nic.made c.args.nic.now) (g.N.Nic.made c.take.new.nic) c.args.self.now
     c.next_block-block.result own (rw c.in-Ok-None.field-0-is at c.in-Ok-None.ensures.made)
 
@@ -35,7 +41,10 @@ returns-in-Ok-Some-clause-taken g c =
 pub returns-in-Ok-None-clause-fault : goal.returns-in-Ok-None-clause-fault
 returns-in-Ok-None-clause-fault g c arena =
     let own : TakesNext c.args.self.now c.next_block-block.result = record {
-      stage = c.requires.stage; block = c.next_block-block.ensures.block; some = c.requires.some } in
+      stage = c.requires.stage;
+      block = c.next_block-block.ensures.block;
+      some = c.requires.some;
+    } in
     take_wrong arena (g.N.Nic.made c.args.nic.now) (g.N.Nic.made c.take.new.nic) c.args.self.now
     c.next_block-block.result own (rw c.in-Ok-None.field-0-is at c.in-Ok-None.ensures.made)
 

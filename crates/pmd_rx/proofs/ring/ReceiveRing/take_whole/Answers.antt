@@ -1,4 +1,4 @@
-use Rattle.std.proofs.Common.{◌∙◌, [], Err, refl, sym, ap, subst, arith}
+use Rattle.std.proofs.Common.{◌∙◌, [], refl, arith}
 use Rattle.pmd_seam.proofs.Exchanging.{out_kept}
 use Rattle.pmd_rx.specs.Keeping.{blocks_out}
 use Rattle.pmd_seam.specs.Bufs.{numbers_of}

@@ -1,4 +1,4 @@
-use Rattle.std.proofs.Common.{◌≡◌, ◌<◌, ℕ, zero, suc, List, [], ◌∷◌, length, get_or, ap, subst, sym, ◌∙◌, refl, arith}
+use Rattle.std.proofs.Common.{◌≡◌, ◌<◌, ℕ, zero, suc, List, [], ◌∷◌, length, get_or, subst, sym, ◌∙◌, refl, arith}
 use Rattle.nic_device.specs.DmaArena.Block.{Block}
 use Rattle.nic_device.specs.DmaArena.Whereabouts.{times_in_hand}
 use Rattle.pmd_seam.specs.Bufs.{numbers_of}
@@ -7,7 +7,8 @@ use Rattle.pmd_seam.proofs.bufs.Bufs.has.Goals as goal
 
 at_first : (c b : Block) (ns : List ℕ) → b ≡ c → 0 < times_in_hand (c.number ∷ ns) b.number
 at_first c b ns same =
-    subst (λ (x : Block). 0 < times_in_hand (c.number ∷ ns) x.number) (sym same) (omega (arith, times_first ns c.number))
+    subst (λ (x : Block). 0 < times_in_hand (c.number ∷ ns) x.number) (sym same)
+    (omega (arith, times_first ns c.number))
 
 has_at : (bs : List Block) (k : ℕ) (b : Block) → k < length bs → b ≡ get_or bs k b
     → 0 < times_in_hand (numbers_of bs) b.number
@@ -24,8 +25,7 @@ returns-then-block c =
     let test = c.loop-number-test.true in
     let some = has_at c.args.self.now c.loop-number.number c.get.result.now (omega (arith, count, end, test))
     c.get.ensures in
-    let same : c.get.result.now.number ≡ c.args.block = sym c.block.ensures.number ∙ c.if-block.true in
-    (
+    let same : c.get.result.now.number ≡ c.args.block = sym c.block.ensures.number ∙ c.if-block.true in (
       λ is. subst (λ (n : ℕ). 0 < times_in_hand (numbers_of c.args.self.now) n) same some,
       λ is. refl,
     )

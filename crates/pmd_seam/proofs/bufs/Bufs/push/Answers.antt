@@ -12,21 +12,25 @@ below n places bs is same i =
 
 pub offset_bounds-self-inside-self-inside : goal.offset_bounds-self-inside-self-inside
 offset_bounds-self-inside-self-inside c =
-    let i = below c.self.inside.count c.self.inside.places c.args.self.now c.self.invariant.0 c.self.view_is c.requires in
+    let i = below c.self.inside.count c.self.inside.places c.args.self.now c.self.invariant.0 c.self.view_is
+    c.requires in
     omega (arith, i)
 
 pub listed : goal.listed
 listed c =
-    let i = below c.self.inside.count c.self.inside.places c.args.self.now c.self.invariant.0 c.self.view_is c.requires in
+    let i = below c.self.inside.count c.self.inside.places c.args.self.now c.self.invariant.0 c.self.view_is
+    c.requires in
     let told = c.self.invariant.1 in
     omega (arith, i, told)
 
 pub bounds-self-inside-self-inside : goal.bounds-self-inside-self-inside
 bounds-self-inside-self-inside c =
-    let i = below c.self.inside.count c.self.inside.places c.args.self.now c.self.invariant.0 c.self.view_is c.requires in
+    let i = below c.self.inside.count c.self.inside.places c.args.self.now c.self.invariant.0 c.self.view_is
+    c.requires in
     omega (arith, i)
 
 pub overflow_add-self : goal.overflow_add-self
 overflow_add-self c =
-    let i = below c.self.inside.count c.self.inside.places c.args.self.now c.self.invariant.0 c.self.view_is c.requires in
+    let i = below c.self.inside.count c.self.inside.places c.args.self.now c.self.invariant.0 c.self.view_is
+    c.requires in
     omega (arith, i)

@@ -1,4 +1,4 @@
-use Rattle.std.proofs.Common.{◌≡◌, ◌++◌, ◌∷◌, ◌∙◌, ℕ, ◌<◌, ◌-◌, List, Option, Some, None, length, get_or, set, drop, take, sym, ap, subst, arith}
+use Rattle.std.proofs.Common.{◌≡◌, ◌++◌, ◌∷◌, ◌∙◌, ℕ, ◌-◌, List, Option, Some, None, length, get_or, set, drop, take, sym, arith}
 use Rattle.std.proofs.lemmas.List.{length-set}
 use Rattle.nic_device.specs.DmaArena.Block.{Block}
 use Rattle.pmd_seam.specs.Bufs.{StandFirst, blocks_in}

@@ -1,16 +1,16 @@
 -- What the fields of a ring keep, as segments come and go.
-use Rattle.std.proofs.Common.{◌≡◌, ℕ, suc, ◌+◌, ◌-◌, ◌*◌, ◌<◌, ◌≤◌, Bool, true, false, ◌||◌, nat_eq, All, List, [], ◌∷◌, ◌++◌, length, take, drop, get_or, refl, sym, ap, ◌∙◌, subst, arith}
-use Rattle.std.proofs.lemmas.List.{length-drop, drop-drop, drop_more, get_or-drop}
+use Rattle.std.proofs.Common.{◌≡◌, ℕ, suc, ◌+◌, ◌<◌, ◌≤◌, false, List, [], ◌∷◌, length, drop, get_or, refl, sym, ap, ◌∙◌, subst, arith}
+use Rattle.std.proofs.lemmas.List.{length-drop, drop-drop, drop_more}
 use Rattle.std.proofs.lemmas.List.Elements.{All-drop}
-use Rattle.nic_device.specs.DmaArena.Block.{Block, IsBlock}
+use Rattle.nic_device.specs.DmaArena.Block.{Block}
 use Rattle.nic_device.specs.DmaRing.Ring.{next_of}
 use Rattle.pmd_seam.specs.Bufs.{numbers_of}
 use Rattle.pmd_seam.specs.Packet.{Kept}
 use Rattle.pmd_seam.specs.Slots.{blocks_for, is_ring_block}
 use Rattle.pmd_seam.proofs.Places.{next_below}
-use Rattle.pmd_tx.specs.Pieces.{ends_packet, places_of}
-use Rattle.pmd_tx.specs.Sending.{Sender, Layout, Part, Segment, blocks_of, no_segment}
-use Rattle.pmd_tx.specs.Shown.{AllHold, AllTell, AreDistinct, Holds, IsRing, latest, outstanding_of}
+use Rattle.pmd_tx.specs.Pieces.{places_of}
+use Rattle.pmd_tx.specs.Sending.{Sender, Layout, Segment, blocks_of, no_segment}
+use Rattle.pmd_tx.specs.Shown.{AllHold, AreDistinct, Holds, IsRing, outstanding_of}
 use Rattle.pmd_tx.specs.declared.piece.Piece.{Piece}
 use Rattle.pmd_tx.proofs.Outstanding.{ends-drop, length-outstanding, outstanding-drop, outstanding-none, tells-drop}
 

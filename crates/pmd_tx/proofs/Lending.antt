@@ -1,5 +1,5 @@
 -- Lending the first block of a packet, by what is made.
-use Rattle.std.proofs.Common.{◌≡◌, ℕ, zero, suc, ◌+◌, ◌-◌, ◌*◌, ◌<◌, ◌≤◌, false, All, List, [], ◌∷◌, length, take, get_or, None, Some, Result, Ok, Err, OnOk, OnErr, IfErr, refl, sym, ap, ◌∙◌, subst, arith}
+use Rattle.std.proofs.Common.{◌≡◌, ℕ, zero, suc, ◌-◌, ◌<◌, false, All, List, [], ◌∷◌, length, take, get_or, None, Some, Result, Ok, Err, OnOk, OnErr, IfErr, refl, sym, ap, ◌∙◌, subst, arith}
 use Rattle.std.proofs.lemmas.List.{take_all}
 use Rattle.nic_device.specs.DmaArena.Block.{Block, IsBlock}
 use Rattle.nic_device.specs.declared.event.Event.TheVariants as event
@@ -12,7 +12,7 @@ use Rattle.pmd_seam.specs.declared.packet.Packet.{Packet}
 use Rattle.pmd_seam.specs.Made.{AddsSome}
 use Rattle.pmd_tx.specs.Plays.{AsksNext, PlaysWith, FaultsBy}
 use Rattle.pmd_tx.specs.Sends.{IsBack, IsLate}
-use Rattle.pmd_tx.specs.Sending.{Sender, Part, Segment, Accepts, MayAccept, MayLend, accepted_by, has_lent, is_among, keeps, no_segment, paired, parts_for, parts_in, segments_of}
+use Rattle.pmd_tx.specs.Sending.{Sender, Segment, Accepts, MayAccept, accepted_by, has_lent, is_among, keeps, no_segment, paired, parts_for, parts_in, segments_of}
 use Rattle.pmd_tx.specs.Shown.{AllHold, Holds, MayStart, sent_as, IsUnlent, LendsFirst}
 use Rattle.pmd_tx.proofs.Playing.{plays_adds, plays_some, faults_at, asks_at}
 use Rattle.pmd_tx.proofs.Starting.{firsts-split, length-kept, length-numbers, packet-held, some-parts}

@@ -1,7 +1,7 @@
 -- The outstanding segments, by the driver's pieces and by what was accepted.
-use Rattle.std.proofs.Common.{◌≡◌, ℕ, zero, suc, ◌+◌, ◌-◌, ◌*◌, ◌<◌, ◌≤◌, ◌==◌, ◌||◌, inl, inr, Bool, true, false, List, [], ◌∷◌, ◌++◌, length, take, drop, get_or, if◌then◌else◌, refl, sym, ap, ◌∙◌, subst, arith, append_assoc}
+use Rattle.std.proofs.Common.{◌≡◌, ℕ, zero, suc, ◌+◌, ◌-◌, ◌*◌, ◌<◌, ◌≤◌, ◌==◌, ◌||◌, Bool, true, false, List, [], ◌∷◌, ◌++◌, length, drop, get_or, if◌then◌else◌, refl, sym, ap, ◌∙◌, subst, arith, append_assoc}
 use Rattle.std.specs.List.{list_any}
-use Rattle.std.proofs.lemmas.List.{append-nil, length-append, length-drop, length-take, length-take-le, get_or-drop, drop-drop, drop-append-le}
+use Rattle.std.proofs.lemmas.List.{append-nil, length-append, length-drop, length-take-le, drop-drop, drop-append-le}
 use Rattle.pmd_seam.specs.Packet.{Kept}
 use Rattle.pmd_tx.specs.Pieces.{ends_packet, first_last, pieces_in, places_of}
 use Rattle.pmd_tx.specs.Sending.{Part, Segment, no_segment, blocks_of, first_end, paired, parts_in, parts_of}

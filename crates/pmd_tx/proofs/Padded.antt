@@ -1,20 +1,20 @@
 -- What padding a packet does to its bytes.
-use Rattle.std.proofs.Common.{◌≡◌, ℕ, zero, suc, ◌+◌, ◌-◌, ◌*◌, ◌/◌, ◌<◌, ◌≤◌, true, false, nat_lt, All, List, [], ◌∷◌, ◌++◌, length, take, drop, replicate, refl, sym, ap, ◌∙◌, subst, arith, inl, inr}
+use Rattle.std.proofs.Common.{◌≡◌, ℕ, zero, suc, ◌+◌, ◌-◌, ◌*◌, ◌<◌, ◌≤◌, nat_lt, All, List, [], ◌∷◌, ◌++◌, length, take, drop, replicate, refl, sym, ap, ◌∙◌, subst, arith, inl, inr}
 use Rattle.std.proofs.lemmas.Bool.{cases_Bool}
 use Rattle.std.proofs.lemmas.Bool.Decides.{nat_tests}
-use Rattle.std.proofs.lemmas.List.{append-nil, length-append, length-take-le, length-replicate, take-replicate, take_at, take_all, take-append-le, drop_at, take-append-drop}
-use Rattle.nic_device.proofs.DmaArena.Bytes.{length-put_bytes, put_bytes-none}
+use Rattle.std.proofs.lemmas.List.{append-nil, length-append, length-take-le, length-replicate, take_at, take-append-le, drop_at, take-append-drop}
+use Rattle.nic_device.proofs.DmaArena.Bytes.{length-put_bytes}
 use Rattle.nic_device.specs.DmaArena.Block.{Block, IsBlock}
 use Rattle.nic_device.specs.DmaArena.Memory.{put_bytes}
 use Rattle.pmd_seam.specs.Bufs.{bytes_of, numbers_of}
-use Rattle.pmd_seam.specs.Packet.{Kept, kept_of}
+use Rattle.pmd_seam.specs.Packet.{kept_of}
 use Rattle.pmd_seam.specs.declared.packet.Packet.{Packet}
 use Rattle.pmd_seam.specs.declared.fault.PmdFault.{PmdFault}
 use Rattle.pmd_seam.specs.declared.fault.PmdFault.TheVariants.{DeviceFault}
 use Rattle.pmd_tx.specs.Padding.{first_bytes, padded_packet, unpadded, with_first}
-use Rattle.pmd_tx.specs.Sending.{Sender, Outgoing, keeps, parts_for}
+use Rattle.pmd_tx.specs.Sending.{Sender, parts_for}
 use Rattle.pmd_tx.specs.Sends.{accepted_of, outgoing_of, padded, IsBack}
-use Rattle.pmd_tx.specs.Shown.{AreDistinct, sent_as, MaySend, MayStart}
+use Rattle.pmd_tx.specs.Shown.{sent_as, MaySend, MayStart}
 use Rattle.pmd_tx.proofs.Starting.{length-blocks}
 
 abbrev zeros : ℕ → List ℕ

@@ -1,7 +1,7 @@
 -- A packet that is accepted: its pieces join those that are outstanding, and the blocks of the others are in hand.
-use Rattle.std.proofs.Common.{◌≡◌, ℕ, zero, suc, ◌+◌, ◌-◌, ◌*◌, ◌/◌, ◌<◌, ◌≤◌, ◌==◌, ◌||◌, true, false, All, List, [], ◌∷◌, ◌++◌, length, take, drop, get_or, map, refl, sym, ap, ◌∙◌, subst, arith, append_assoc}
+use Rattle.std.proofs.Common.{◌≡◌, ℕ, zero, suc, ◌+◌, ◌-◌, ◌*◌, ◌<◌, ◌≤◌, ◌==◌, true, false, All, List, [], ◌∷◌, ◌++◌, length, take, drop, get_or, refl, sym, ap, ◌∙◌, subst, arith}
 use Rattle.std.specs.List.{list_any}
-use Rattle.std.proofs.lemmas.List.{append-nil, length-append, length-drop, length-take, length-take-le, take-take, take-append-drop, take-append-le, drop_at, drop-drop, take_all, drop-append-le, get_or-take}
+use Rattle.std.proofs.lemmas.List.{length-append, length-take-le, take-append-drop, take-append-le, drop_at, drop-drop, take_all, get_or-take}
 use Rattle.std.proofs.lemmas.List.Elements.{All-append, All-push, All-take}
 use Rattle.nic_device.specs.DmaArena.Block.{Block, IsBlock}
 use Rattle.pmd_seam.specs.Bufs.{bytes_of, numbers_of}
@@ -10,8 +10,8 @@ use Rattle.pmd_seam.specs.Slots.{is_ring_block}
 use Rattle.pmd_seam.specs.declared.packet.Packet.{Packet}
 use Rattle.pmd_seam.proofs.Copying.{take-append}
 use Rattle.pmd_tx.specs.Pieces.{ends_packet, pieces_in, places_of}
-use Rattle.pmd_tx.specs.Sending.{Sender, Layout, blocks_of, Outgoing, Part, Segment, keeps, paired, parts_for, parts_in, parts_of, segments_of, accepted_by}
-use Rattle.pmd_tx.specs.Shown.{AllHold, AllTell, AreDistinct, AreLoose, Holds, IsRing, MayStart, latest, newest_parts, outstanding_of, sent_as}
+use Rattle.pmd_tx.specs.Sending.{Sender, Layout, blocks_of, Segment, keeps, paired, parts_for, parts_in, parts_of, segments_of, accepted_by}
+use Rattle.pmd_tx.specs.Shown.{AllHold, AllTell, AreDistinct, IsRing, MayStart, newest_parts, outstanding_of, sent_as}
 use Rattle.pmd_tx.specs.declared.piece.Piece.{Piece}
 use Rattle.pmd_tx.proofs.Distinct.{Absent, distinct-append, neither, none_of}
 use Rattle.pmd_tx.proofs.Fields.{shown}

@@ -1,5 +1,5 @@
 -- A block that is lent for a segment: that of a packet that is accepted by it, or of the next one of a packet.
-use Rattle.std.proofs.Common.{◌≡◌, ◌≢◌, ℕ, ◌+◌, ◌*◌, ◌<◌, ◌≤◌, inl, inr, true, false, List, [], ◌∷◌, ◌++◌, length, drop, take, refl, ap, sym, ◌∙◌, subst, arith, append_assoc, Some}
+use Rattle.std.proofs.Common.{◌≡◌, ◌≢◌, ℕ, ◌+◌, ◌*◌, ◌<◌, ◌≤◌, inl, inr, true, false, List, [], ◌∷◌, ◌++◌, length, drop, ap, sym, ◌∙◌, subst, arith, append_assoc, Some}
 use Rattle.std.specs.Prelude.{is_some, slice_index_or}
 use Rattle.std.specs.FinMap as fin
 use Rattle.std.proofs.lemmas.Bool.{cases_lt}
@@ -17,7 +17,6 @@ use Rattle.pmd_tx.proofs.PmdSeam.Rings.{ring_block_none}
 use Rattle.pmd_tx.specs.Sending.{Outgoing, Segment, Sender, MayAccept, MayLend, no_segment, segment_at, segments_of, accepted_by}
 use Rattle.transmit_laws.specs.Agreeing.{IsLayout, IsReady, IsCounted, Shows, IsInTurn, IsCutOff, SendsInOrder, bytes_of, frames_from}
 use Rattle.transmit_laws.proofs.Blocks.{has_lent-ring, has_lent-segment, unlike, shows-same}
-use Rattle.transmit_laws.proofs.HasLent.{first_at}
 use Rattle.transmit_laws.proofs.Packets.{frames-append, frames-segments, length-segments, packets-append, packets-segments, some-parts}
 
 -- a segment's block, among segments that begin with those that are lent, and go on with it

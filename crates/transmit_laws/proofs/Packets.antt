@@ -1,8 +1,8 @@
 -- Segments of whole packets, behind what is staged, and the frames that they become.
-use Rattle.std.proofs.Common.{◌≡◌, ℕ, zero, suc, ◌+◌, ◌-◌, ◌<◌, ◌≤◌, inl, inr, true, false, List, [], ◌∷◌, ◌++◌, length, take, drop, refl, sym, ap, ◌∙◌, subst, arith, append_assoc}
+use Rattle.std.proofs.Common.{◌≡◌, ℕ, zero, suc, ◌+◌, ◌<◌, ◌≤◌, inl, inr, true, false, List, [], ◌∷◌, ◌++◌, length, take, drop, refl, sym, ap, ◌∙◌, subst, arith, append_assoc}
 use Rattle.std.specs.Prelude.{slice_index_or}
 use Rattle.std.proofs.lemmas.Bool.{cases_Bool}
-use Rattle.std.proofs.lemmas.List.{length-append, length-drop, take-append-drop, append-nil}
+use Rattle.std.proofs.lemmas.List.{length-append, take-append-drop}
 use Rattle.pmd_tx.specs.Sending.{Outgoing, Part, Segment, no_segment, paired, parts_for, parts_in, parts_of, segments_of}
 use Rattle.transmit_laws.specs.Agreeing.{ArePackets, frame_ended, frames_from, staged_behind}
 

@@ -1,12 +1,11 @@
 -- A step of transmitting of the driver's own queue that fetches the next segment.
-use Rattle.std.proofs.Common.{◌≡◌, ℕ, ◌+◌, ◌<◌, inl, inr, true, List, [], ◌∷◌, ◌++◌, drop, length, refl, sym, ap, ◌∙◌, subst, arith, append_assoc, Ok}
-use Rattle.std.specs.Prelude.{◌==◌, if◌then◌else◌, Result}
+use Rattle.std.proofs.Common.{◌≡◌, ℕ, ◌+◌, ◌<◌, inl, inr, true, List, [], ◌∷◌, ◌++◌, drop, refl, sym, ap, ◌∙◌, subst, arith, append_assoc, Ok}
+use Rattle.std.specs.Prelude.{◌==◌, if◌then◌else◌}
 use Rattle.std.proofs.lemmas.Bool.{both_ways, eq-eqb}
 use Rattle.std.proofs.lemmas.List.{drop_more, get_or-set_same}
 use Rattle.nic_device.specs.DmaArena.Block.{Block}
-use Rattle.nic_device.specs.DmaArena.Memory.{Memory, write_at}
+use Rattle.nic_device.specs.DmaArena.Memory.{write_at}
 use Rattle.nic_device.specs.DmaRing.declared.dir.Dir.TheVariants.{Tx}
-use Rattle.nic_device.specs.DmaRing.declared.fault.RingFault.{RingFault}
 use Rattle.nic_device.specs.TxRing.Fetch.{Outcome as Fetch}
 use Rattle.nic_device.specs.TxRing.Report.{done_descriptor}
 use Rattle.nic_device.specs.TxRing.declared.fetched.Fetched.{Fetched}
@@ -14,7 +13,7 @@ use Rattle.nic_device.specs.RegisterLaws.Sides.{TransmitQueue, transmit_queue_of
 use Rattle.nic_device.specs.Outcome.{Outcome}
 use Rattle.nic_device.specs.Sound.{IsEvent}
 use Rattle.nic_device.specs.State.{State}
-use Rattle.nic_device.specs.Step.{step_of, after}
+use Rattle.nic_device.specs.Step.{after}
 use Rattle.nic_device.specs.Transmit.{sending_of, staged_by, with_frame}
 use Rattle.nic_device.specs.declared.event.Event.{Event}
 use Rattle.nic_device.specs.declared.event.Event.TheVariants as event
@@ -22,7 +21,7 @@ use Rattle.history_laws.specs.DeviceLaws.Laws.{WritesNoSetting}
 use Rattle.history_laws.specs.Left.{Shuts, Takes, fetch_on}
 use Rattle.history_laws.specs.Sides.{IsTried, Side, side_of}
 use Rattle.pmd_tx.specs.Sending.{Segment, Sender, no_segment, segment_at, slot_at, descriptor_at, asking}
-use Rattle.transmit_laws.specs.Agreeing.{ArePackets, IsSetUp, IsCounted, IsInTurn, IsCutOff, SendsInOrder, Shows, AgreesAt, Agrees, frame_ended, frames_from, staged_behind}
+use Rattle.transmit_laws.specs.Agreeing.{ArePackets, IsInTurn, SendsInOrder, AgreesAt, Agrees, frame_ended, frames_from, staged_behind}
 use Rattle.transmit_laws.specs.Sent.{frames_added, sent_by}
 use Rattle.transmit_laws.proofs.Basing.{based-after}
 use Rattle.transmit_laws.proofs.Done.{shows-fetched}

@@ -1,4 +1,4 @@
-use Rattle.std.proofs.Common.{◌≡◌, ◌+◌, ◌++◌, length}
+use Rattle.std.proofs.Common.{◌≡◌, ◌++◌, length}
 use Rattle.pmd_tx.proofs.padding.split.Given as goal
 
 abbrev pub invariant-loop-moved : goal.invariant-loop-moved

@@ -1,4 +1,4 @@
-use Rattle.std.proofs.Common.{◌≡◌, ◌+◌, ◌-◌, ◌*◌, ◌++◌, ◌∷◌, length, drop}
+use Rattle.std.proofs.Common.{◌≡◌, ◌+◌, ◌*◌, ◌++◌, ◌∷◌, drop}
 use Rattle.std.specs.VecDeque.{deque_len, deque_capacity}
 use Rattle.pmd_seam.specs.Bufs.{numbers_of}
 use Rattle.pmd_tx.specs.Pieces.{pieces_in}

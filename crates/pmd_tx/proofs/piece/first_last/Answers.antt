@@ -1,7 +1,4 @@
-use Rattle.std.proofs.Common.{◌≡◌, ◌∙◌, ◌<◌, ◌≤◌, ◌+◌, ap, length, drop, List, arith}
-use Rattle.std.proofs.lemmas.List.{drop_all}
-use Rattle.pmd_tx.specs.Pieces.{first_last}
-use Rattle.pmd_tx.specs.declared.piece.Piece.{Piece}
+use Rattle.std.proofs.Common.{arith}
 use Rattle.pmd_tx.proofs.Outstanding.{first-below}
 use Rattle.pmd_tx.proofs.piece.first_last.Goals as goal
 

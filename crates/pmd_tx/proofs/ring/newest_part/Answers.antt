@@ -1,4 +1,4 @@
-use Rattle.std.proofs.Common.{◌≡◌, ◌∙◌, ◌+◌, ◌-◌, ◌*◌, ◌/◌, ◌<◌, ◌≤◌, ℕ, List, length, take, drop, min, get_or, sym, ap, refl, arith}
+use Rattle.std.proofs.Common.{◌≡◌, ◌∙◌, ◌+◌, ◌-◌, ◌*◌, ◌/◌, ℕ, List, length, take, drop, min, get_or, sym, ap, arith}
 use Rattle.std.proofs.lemmas.List.{length-drop, take_all, take_min}
 use Rattle.pmd_seam.specs.Packet.{Kept}
 use Rattle.pmd_tx.specs.Sending.{parts_for}

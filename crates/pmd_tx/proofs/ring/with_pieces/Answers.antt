@@ -1,4 +1,4 @@
-use Rattle.std.proofs.Common.{◌≡◌, ◌∙◌, ◌+◌, ◌<◌, ◌≤◌, ◌++◌, ◌∷◌, [], ℕ, List, length, take, sym, ap, arith, append_assoc}
+use Rattle.std.proofs.Common.{◌∙◌, ◌<◌, ◌++◌, ◌∷◌, [], ℕ, List, length, take, sym, ap, arith, append_assoc}
 use Rattle.std.proofs.lemmas.List.{take_more}
 use Rattle.pmd_tx.specs.Pieces.{places_of}
 use Rattle.pmd_tx.specs.declared.piece.Piece.{Piece}

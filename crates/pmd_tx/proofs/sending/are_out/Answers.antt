@@ -1,4 +1,4 @@
-use Rattle.std.proofs.Common.{◌≡◌, ◌∙◌, ◌==◌, ◌&&◌, not, ◌+◌, ◌<◌, ◌≤◌, ℕ, Bool, true, false, List, length, drop, sym, ap, arith}
+use Rattle.std.proofs.Common.{◌∙◌, ◌==◌, ◌&&◌, not, ◌+◌, ℕ, Bool, drop, sym, ap, arith}
 use Rattle.std.specs.List.{list_any}
 use Rattle.nic_device.specs.DmaArena.Numbers.{is_own, is_free}
 use Rattle.pmd_seam.specs.Bufs.{numbers_of}

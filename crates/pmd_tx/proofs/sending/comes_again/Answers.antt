@@ -1,9 +1,9 @@
-use Rattle.std.proofs.Common.{◌≡◌, ◌∙◌, ◌+◌, ◌<◌, ◌≤◌, ◌==◌, ◌||◌, ◌∷◌, true, false, ℕ, Bool, List, length, drop, get_or, sym, ap, refl, arith}
+use Rattle.std.proofs.Common.{◌≡◌, ◌∙◌, ◌+◌, ◌==◌, ◌||◌, true, false, Bool, drop, sym, ap, arith}
 use Rattle.std.specs.List.{list_any}
 use Rattle.std.proofs.lemmas.Bool.{eq-eqb}
 use Rattle.std.proofs.lemmas.Bool.Decides.{nat_tests}
 use Rattle.pmd_seam.specs.Bufs.{numbers_of}
-use Rattle.pmd_tx.proofs.Numbering.{number-at, numbers-left}
+use Rattle.pmd_tx.proofs.Numbering.{numbers-left}
 use Rattle.pmd_tx.proofs.sending.comes_again.Goals as goal
 
 pub returns-then-block : goal.returns-then-block

@@ -1,5 +1,4 @@
-use Rattle.std.proofs.Common.{◌≡◌, ◌∙◌, ◌<◌, ◌≤◌, ℕ, List, length, drop, ap, sym, subst, arith}
-use Rattle.nic_device.specs.DmaArena.Block.{Block}
+use Rattle.std.proofs.Common.{◌∙◌, ℕ, List, drop, ap, subst}
 use Rattle.pmd_seam.specs.Bufs.{numbers_of}
 use Rattle.pmd_seam.specs.declared.packet.Packet.{Packet}
 use Rattle.pmd_tx.specs.Padding.{padded_packet}

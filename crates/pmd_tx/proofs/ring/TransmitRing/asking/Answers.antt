@@ -1,7 +1,6 @@
-use Rattle.std.proofs.Common.{◌≡◌, ◌∙◌, ◌<◌, ◌*◌, ℕ, Bool, length, get_or, sym, ap, refl, arith}
-use Rattle.pmd_tx.specs.Sending.{Segment, asking, no_segment}
+use Rattle.std.proofs.Common.{◌≡◌, ◌∙◌, ◌<◌, ℕ, length, get_or, ap, refl, arith}
+use Rattle.pmd_tx.specs.Sending.{no_segment}
 use Rattle.pmd_tx.specs.Shown.{latest}
-use Rattle.pmd_tx.specs.declared.piece.Piece.{Piece}
 use Rattle.pmd_tx.proofs.Outstanding.{segment-outstanding, tell-at}
 use Rattle.pmd_tx.proofs.ring.TransmitRing.asking.Goals as goal
 

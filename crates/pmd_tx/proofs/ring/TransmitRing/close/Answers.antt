@@ -1,12 +1,9 @@
-use Rattle.std.proofs.Common.{◌≡◌, ◌∙◌, ◌+◌, ◌++◌, ℕ, [], List, length, take, drop, sym, ap, refl, subst, arith}
-use Rattle.std.proofs.lemmas.List.{take-map, drop-map}
-use Rattle.nic_device.specs.DmaArena.Block.{Block}
-use Rattle.pmd_seam.specs.Bufs.{numbers_of}
-use Rattle.pmd_seam.specs.Home.{Homebound}
+use Rattle.std.proofs.Common.{◌≡◌, ◌∙◌, ◌++◌, ℕ, List, take, drop, sym, ap}
+use Rattle.std.proofs.lemmas.List.{take-map}
 use Rattle.pmd_seam.specs.Slots.{ring_blocks}
 use Rattle.pmd_tx.specs.Leaving.{lent_of, waiting_of}
 use Rattle.pmd_tx.specs.Pieces.{places_of}
-use Rattle.pmd_tx.specs.Sending.{Segment, Sender, blocks_of}
+use Rattle.pmd_tx.specs.Sending.{Segment, blocks_of}
 use Rattle.pmd_tx.specs.Shown.{outstanding_of}
 use Rattle.pmd_tx.proofs.Fields.{hold-numbers}
 use Rattle.pmd_tx.proofs.Outstanding.{blocks-outstanding}

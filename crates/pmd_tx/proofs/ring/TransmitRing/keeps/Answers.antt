@@ -1,4 +1,4 @@
-use Rattle.std.proofs.Common.{◌≡◌, ◌∙◌, ◌==◌, ◌||◌, ℕ, Bool, false, List, sym, ap, refl}
+use Rattle.std.proofs.Common.{◌≡◌, ◌∙◌, ◌==◌, ◌||◌, ℕ, Bool, false, sym, ap}
 use Rattle.std.specs.List.{list_any}
 use Rattle.pmd_seam.specs.Slots.{is_ring_block}
 use Rattle.pmd_tx.specs.Sending.{Sender, blocks_of, keeps}

@@ -1,4 +1,4 @@
-use Rattle.std.proofs.Common.{◌≡◌, ◌∙◌, ◌||◌, ◌+◌, ◌<◌, ◌≤◌, ℕ, Bool, true, List, length, drop, sym, ap, arith}
+use Rattle.std.proofs.Common.{◌≡◌, ◌∙◌, ◌||◌, ◌+◌, ℕ, Bool, true, drop, sym, ap, arith}
 use Rattle.std.specs.List.{list_any}
 use Rattle.pmd_seam.specs.Bufs.{numbers_of}
 use Rattle.pmd_tx.specs.Sending.{keeps}

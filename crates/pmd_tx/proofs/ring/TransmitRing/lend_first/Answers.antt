@@ -1,4 +1,4 @@
-use Rattle.std.proofs.Common.{◌≡◌, ◌∙◌, ◌+◌, ◌-◌, ◌<◌, ◌++◌, ◌∷◌, [], ℕ, List, take, drop, sym, ap, refl, rules, arith}
+use Rattle.std.proofs.Common.{◌≡◌, ◌∙◌, ◌-◌, ◌<◌, ◌++◌, ◌∷◌, [], ℕ, List, take, drop, sym, ap, rules, arith}
 use Rattle.nic_device.specs.DmaArena.Block.{Block}
 use Rattle.pmd_seam.specs.Bufs.{numbers_of}
 use Rattle.pmd_tx.specs.Pieces.{pieces_in}

@@ -1,9 +1,8 @@
-use Rattle.std.proofs.Common.{◌≡◌, ◌∙◌, ◌+◌, ◌-◌, ◌<◌, ◌≤◌, ℕ, ◌∷◌, List, length, sym, ap, subst, arith}
-use Rattle.nic_device.specs.DmaArena.Block.{Block}
+use Rattle.std.proofs.Common.{◌≡◌, ◌∙◌, ◌-◌, ℕ, List, length, sym, ap, subst, arith}
 use Rattle.nic_device.specs.DmaArena.Memory.{put_bytes}
 use Rattle.pmd_seam.specs.Packet.{Kept}
 use Rattle.pmd_tx.specs.Plays.{PlaysWith}
-use Rattle.pmd_tx.specs.Sending.{Sender, lent_more}
+use Rattle.pmd_tx.specs.Sending.{lent_more}
 use Rattle.pmd_tx.specs.Shown.{newest_part}
 use Rattle.pmd_tx.proofs.Fields.{count, held_anew, in_hand, lent_ring}
 use Rattle.pmd_tx.proofs.Own.{lend_plays, lend_misses, lend_faults, lend_refused}

@@ -1,4 +1,4 @@
-use Rattle.std.proofs.Common.{◌≡◌, ◌<◌, ℕ, false, [], Some, None, subst, sym}
+use Rattle.std.proofs.Common.{◌≡◌, false, []}
 use Rattle.pmd_tx.specs.Sending.{is_sent}
 use Rattle.pmd_tx.proofs.Own.{look_plays, look_waits, look_misses, look_faults, look_refused}
 use Rattle.pmd_tx.proofs.Playing.{plays_some}

@@ -1,4 +1,3 @@
-use Rattle.std.proofs.Common.{◌≡◌, ◌<◌, refl, arith}
 use Rattle.pmd_tx.proofs.Playing.{plays_none}
 use Rattle.pmd_tx.proofs.ring.TransmitRing.post.Goals as goal
 

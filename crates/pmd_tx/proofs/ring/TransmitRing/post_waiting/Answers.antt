@@ -1,4 +1,4 @@
-use Rattle.std.proofs.Common.{◌≡◌, ◌∙◌, ◌+◌, ap, refl, sym, arith}
+use Rattle.std.proofs.Common.{◌∙◌, ◌+◌, ap, refl, sym}
 use Rattle.pmd_tx.proofs.Ending.{after_all, by_after}
 use Rattle.pmd_tx.proofs.Passing.{none_both}
 use Rattle.pmd_tx.proofs.Playing.{plays_both, plays_none}

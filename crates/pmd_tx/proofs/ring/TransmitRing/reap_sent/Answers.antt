@@ -1,7 +1,6 @@
-use Rattle.std.proofs.Common.{◌≡◌, ◌∙◌, ◌+◌, ◌≤◌, ℕ, Bool, true, false, inl, inr, [], length, if◌then◌else◌, refl, ap, subst, sym, arith}
+use Rattle.std.proofs.Common.{◌≡◌, ◌∙◌, ◌≤◌, Bool, true, false, inl, inr, [], if◌then◌else◌, refl, arith}
 use Rattle.std.proofs.lemmas.Bool.{cases_Bool}
-use Rattle.pmd_tx.specs.Sends.{Frees}
-use Rattle.pmd_tx.proofs.Loop.{left_over, reaped_none, reaped_more, reaped_same}
+use Rattle.pmd_tx.proofs.Loop.{reaped_none, reaped_more}
 use Rattle.pmd_tx.proofs.Ending.{by_after, looks_after}
 use Rattle.pmd_tx.proofs.Playing.{plays_both}
 use Rattle.pmd_tx.proofs.ring.TransmitRing.reap_sent.Goals as goal

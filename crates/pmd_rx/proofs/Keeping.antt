@@ -111,7 +111,8 @@ saw_keeps a v d looks part =
       );
       ring = same_ring v.layout;
       running = λ runs. record {
-        part = runs.part; some = runs.some;
+        part = runs.part;
+        some = runs.some;
         full = omega (arith, runs.full, vacated_after ends, ap vacated looks);
         stage = amid_after v d ends (part_more v.layout.most (length v.seen) (second_half d) part);
       };
@@ -163,7 +164,8 @@ took_keeps_at a v (t ∷ seen) b takes parts some is =
       );
       ring = record { port = refl; tail = refl; ring = refl; size = refl; most = refl };
       running = λ runs. record {
-        part = runs.part; some = runs.some;
+        part = runs.part;
+        some = runs.some;
         full = omega (arith, runs.full, first_less l.blocks some, ap vacated takes);
         stage = omega (arith, length_push v.held.bufs b);
       };

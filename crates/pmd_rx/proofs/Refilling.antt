@@ -146,9 +146,15 @@ moved_keeps a v done =
       running = λ runs.
           let here = named_amid v v.stage done runs.stage in
           record {
-            part = runs.part; some = runs.some;
+            part = runs.part;
+            some = runs.some;
             full = omega (
-              arith, runs.full, here.0, (next_fresh v.seen).1, length_push l.blocks (fresh_of v.stage));
+              arith,
+              runs.full,
+              here.0,
+              (next_fresh v.seen).1,
+              length_push l.blocks (fresh_of v.stage),
+            );
             stage = next_amid v v.seen refl runs;
           };
     }

@@ -23,8 +23,7 @@ joined_steady l seen p s t rest next blocks bs b len rss hash (laid, step) is be
     let both : All FitsBlock (t ∷ rest) = subst (λ (ts : List Told). All FitsBlock ts) is step.parts in
     let fits : bytes_in t.second ≤ 2048 = both 0 t (omega arith) in
     let less : length blocks ≡ length (drop 1 l.blocks) = ap (λ (xs : List ℕ). length xs) drops in
-    let many : length bs ≡ length p.bufs + 1 = ap (λ (xs : List Block). length xs) joins ∙ length_push p.bufs b in
-    (
+    let many : length bs ≡ length p.bufs + 1 = ap (λ (xs : List Block). length xs) joins ∙ length_push p.bufs b in (
       record {
         some = laid.some;
         few = laid.few;

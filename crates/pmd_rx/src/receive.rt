@@ -362,7 +362,11 @@ impl ReceiveRing {
 fn stage_after(second: u64) -> Stage
     ensures { result ≡ (if ends_packet second then stage.Takes else stage.Looks) }
 {
-    if is_last(second) { Stage::Takes } else { Stage::Looks }
+    if is_last(second) {
+        Stage::Takes
+    } else {
+        Stage::Looks
+    }
 }
 
 /// Hands out a packet, and keeps its record. None where it has no part.

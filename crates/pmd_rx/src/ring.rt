@@ -91,14 +91,7 @@ impl Model for ReceiveRing {
 impl ReceiveRing {
     /// A ring of 8 to 1,024 slots, in blocks that are lent, from the block `ring` on, as its queue goes on: nothing is
     /// posted. `tail` is the number of the tail's register at the port, and `most` the most slots that a packet has.
-    pub fn new(
-        alloc: Global,
-        port: Port,
-        tail: u32,
-        ring: u32,
-        size: u16,
-        most: u16,
-    ) -> ReceiveRing
+    pub fn new(alloc: Global, port: Port, tail: u32, ring: u32, size: u16, most: u16) -> ReceiveRing
         requires some { 8 ≤ size }
         requires few { size ≤ 1024 }
         requires ring { ring + blocks_for size ≤ 65536 }

@@ -85,8 +85,7 @@ rest_of n [] first d is some there = absurd (omega (arith, some))
 rest_of n (None ∷ places) first d is some there = cc
 rest_of zero (Some b ∷ places) first d is some there = cc
 rest_of (suc n) (Some b ∷ places) first d is some there =
-    let same : b ≡ first = cc in
-    (
+    let same : b ≡ first = cc in (
       subst (λ (m : ℕ). StandFirst m (places ++ None ∷ [])) (let e : n ≡ suc n - 1 = omega arith in e)
           (stand_same n places is),
       ap (λ (x : Block). x ∷ blocks_in places) same

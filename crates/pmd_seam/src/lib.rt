@@ -28,8 +28,8 @@ mod slots;
 mod through_lock;
 
 pub use accesses::{lend, peek, poke, read, take, write};
-pub use device_lock::{CallFault, Calls, Made};
 pub use bufs::{Bufs, MOST_BUFS};
+pub use device_lock::{CallFault, Calls, Made};
 pub use direct::Direct;
 pub use fault::PmdFault;
 pub use frames::{LONGEST_FRAME, SHORTEST_FRAME, is_frame, most_blocks, packet_limit};

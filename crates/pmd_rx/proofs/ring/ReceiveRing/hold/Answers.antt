@@ -8,7 +8,14 @@ pub invariant_of-self : goal.invariant_of-self
 invariant_of-self c =
     let r = c.self.inside in
     let l : Layout = record {
-      port = r.port; tail = r.tail; ring = r.ring; size = r.size; most = r.most; next = r.next; blocks = r.blocks.items } in
+      port = r.port;
+      tail = r.tail;
+      ring = r.ring;
+      size = r.size;
+      most = r.most;
+      next = r.next;
+      blocks = r.blocks.items;
+    } in
     joined_steady l r.seen.items r.held r.stage c.in-Some.told c.pop_front.new.self.items c.next_slot-self-inside.result
     c.pop_front-consumed.new.self.items c.push.new.self c.args.buf c.length_told.result c.rss_told-self-inside.result
     c.hash_told-self-inside.result c.self.invariant c.in-Some.ensures.items

@@ -8,7 +8,10 @@ use Rattle.pmd_rx.proofs.ring.ReceiveRing.take_part.Goals as goal
 pub returns-in-Ok-Some-clause-plays : goal.returns-in-Ok-Some-clause-plays
 returns-in-Ok-Some-clause-plays g c arena =
     let own : TakesNext c.args.self.now c.next_block-block.result = record {
-      stage = c.requires.stage; block = c.next_block-block.ensures.block; some = c.requires.some } in
+      stage = c.requires.stage;
+      block = c.next_block-block.ensures.block;
+      some = c.requires.some;
+    } in
     take_plays arena (g.N.Nic.made c.args.nic.now) (g.N.Nic.made c.take.new.nic) c.args.self.now c.hold.new.self
     c.next_block-block.result c.in-Ok-Some.buf own (rw c.in-Ok-Some.field-0-is at c.in-Ok-Some.ensures.made)
     c.hold.ensures
@@ -16,7 +19,10 @@ returns-in-Ok-Some-clause-plays g c arena =
 pub returns-in-Ok-None-clause-plays : goal.returns-in-Ok-None-clause-plays
 returns-in-Ok-None-clause-plays g c arena =
     let own : TakesNext c.args.self.now c.next_block-block.result = record {
-      stage = c.requires.stage; block = c.next_block-block.ensures.block; some = c.requires.some } in
+      stage = c.requires.stage;
+      block = c.next_block-block.ensures.block;
+      some = c.requires.some;
+    } in
     take_misses arena (g.N.Nic.made c.args.nic.now) (g.N.Nic.made c.take.new.nic) c.args.self.now
     c.next_block-block.result own (rw c.in-Ok-None.field-0-is at c.in-Ok-None.ensures.made)
 
@@ -35,7 +41,10 @@ returns-in-Ok-Some-clause-taken g c =
 pub returns-in-Ok-None-clause-fault : goal.returns-in-Ok-None-clause-fault
 returns-in-Ok-None-clause-fault g c arena =
     let own : TakesNext c.args.self.now c.next_block-block.result = record {
-      stage = c.requires.stage; block = c.next_block-block.ensures.block; some = c.requires.some } in
+      stage = c.requires.stage;
+      block = c.next_block-block.ensures.block;
+      some = c.requires.some;
+    } in
     take_wrong arena (g.N.Nic.made c.args.nic.now) (g.N.Nic.made c.take.new.nic) c.args.self.now
     c.next_block-block.result own (rw c.in-Ok-None.field-0-is at c.in-Ok-None.ensures.made)
 

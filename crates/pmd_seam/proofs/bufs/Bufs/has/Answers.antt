@@ -24,8 +24,7 @@ returns-then-block c =
     let test = c.loop-number-test.true in
     let some = has_at c.args.self.now c.loop-number.number c.get.result.now (omega (arith, count, end, test))
     c.get.ensures in
-    let same : c.get.result.now.number ≡ c.args.block = sym c.block.ensures.number ∙ c.if-block.true in
-    (
+    let same : c.get.result.now.number ≡ c.args.block = sym c.block.ensures.number ∙ c.if-block.true in (
       λ is. subst (λ (n : ℕ). 0 < times_in_hand (numbers_of c.args.self.now) n) same some,
       λ is. refl,
     )

@@ -233,6 +233,7 @@ module _ (r s : Running) (p : Packet) (x : Result TxAnswer TxFault)
       still_up r s kept layout home receive up,
       still_kept r s kept layout home receive (numbers_of p.bufs) (numbers_of q.bufs) same,
     )
+
 -- packets are reaped
 
 pub outstanding_out : (r : Running) → IsUp r → AreOut r.arena (blocks_of r.transmit.outstanding)

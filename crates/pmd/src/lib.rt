@@ -22,8 +22,8 @@ pub use driver::{Pmd, StopRefused};
 pub use halted::Halted;
 pub use home::{Home, StopFailed};
 pub use pmd_rx::{
-    Bufs, Calls, Direct, Finished, Interleaved, LONGEST_FRAME, Made, Nic, POLLS, Packet, PmdFault, Queue, Record,
-    SHORTEST_FRAME, Setup, ThroughLock, pf_setup,
+    Bufs, Calls, Direct, Finished, Interleaved, LONGEST_FRAME, Made, Nic, POLLS, Packet, PmdFault,
+    Queue, Record, SHORTEST_FRAME, Setup, ThroughLock, pf_setup,
 };
 pub use pmd_tx::{Reaped, TxAnswer, TxFault, bytes_in};
 pub use running::Running;

@@ -19,7 +19,8 @@ ghost use Rattle.pmd_rx.specs.PmdSeam.Refusals.{CanFail};
 
 use nic_device::{Arena, Dir};
 use pmd_rx::{
-    CallFault, Nic, PmdFault, Queue, ReceiveRing, blocks_for, give_back, lend, most_blocks, packet_limit,
+    CallFault, Nic, PmdFault, Queue, ReceiveRing, blocks_for, give_back, lend, most_blocks,
+    packet_limit,
 };
 use pmd_tx::TransmitRing;
 use std::alloc::Global;
@@ -170,14 +171,7 @@ pub(crate) fn receive_ring<N: Nic>(
     match prepare(alloc, nic, queue, arena, Dir::Rx, ring, size) {
         Ok(()) => {
             let tail = queue.tail_number(Dir::Rx);
-            Ok(ReceiveRing::new(
-                alloc,
-                queue.port(),
-                tail,
-                ring,
-                size,
-                most_blocks(frame),
-            ))
+            Ok(ReceiveRing::new(alloc, queue.port(), tail, ring, size, most_blocks(frame)))
         }
         Err(unprepared) => Err(unprepared),
     }
@@ -210,14 +204,7 @@ pub(crate) fn transmit_ring<N: Nic>(
     match prepare(alloc, nic, queue, arena, Dir::Tx, ring, size) {
         Ok(()) => {
             let tail = queue.tail_number(Dir::Tx);
-            Ok(TransmitRing::new(
-                alloc,
-                queue.port(),
-                tail,
-                ring,
-                size,
-                packet_limit(frame),
-            ))
+            Ok(TransmitRing::new(alloc, queue.port(), tail, ring, size, packet_limit(frame)))
         }
         Err(unprepared) => Err(unprepared),
     }

@@ -191,11 +191,27 @@ fn bring_up<N: Nic>(
     ensures refusal { IfErr result (λ e. CanFail (N.refuses nic.new) e.fault) }
 {
     let mut arena = arena;
-    let mut receive = match receive_ring(alloc, nic, &queue, &mut arena, places.receive, size, frame) {
+    let mut receive = match receive_ring(
+        alloc,
+        nic,
+        &queue,
+        &mut arena,
+        places.receive,
+        size,
+        frame,
+    ) {
         Ok(receive) => receive,
         Err(unprepared) => return Err(left_before_one(alloc, queue, arena, unprepared)),
     };
-    let transmit = match transmit_ring(alloc, nic, &queue, &mut arena, places.transmit, size, frame) {
+    let transmit = match transmit_ring(
+        alloc,
+        nic,
+        &queue,
+        &mut arena,
+        places.transmit,
+        size,
+        frame,
+    ) {
         Ok(transmit) => transmit,
         Err(unprepared) => return Err(left_after_one(alloc, queue, arena, receive, unprepared)),
     };

@@ -216,12 +216,7 @@ fn setting_of(row: RowId, index: u16, word: u32) -> Setting
 }
 
 /// Says what passes and how long a frame may be, and opens the device.
-fn open<N: Nic>(
-    alloc: Global,
-    nic: &mut N,
-    frame: u16,
-    promiscuous: bool,
-) -> Result<(), PmdFault>
+fn open<N: Nic>(alloc: Global, nic: &mut N, frame: u16, promiscuous: bool) -> Result<(), PmdFault>
     ensures set { OnOk result (AreSet (N.made nic.old) (N.made nic.new) (opening frame promiscuous)) }
     ensures who { N.who nic.new ≡ N.who nic.old }
     ensures refuses { N.refuses nic.new ≡ N.refuses nic.old }

@@ -44,11 +44,11 @@ returns g c =
     let owns = home_owns (returned c.send.result) p q.arena s.arena e.home in
     let shut : IsShut (gate_of q.transmit q.arena (receives q p) p) → (new ≡ old) × (s ≡ q) =
     λ way.
-        let by : IsShut (gate_of q.transmit q.arena (receives q p) p) → (new ≡ old) × (c.send.new.self ≡ q.transmit) =
-        rw (← is) e.shut in
-        let still = by way in
-        let arena = shut_home q.transmit q.arena (receives q p) p c.send.result s.arena answer way e.home in
-        (still.0, λ i. record q { arena = arena i; transmit = still.1 i }) in
+    let by : IsShut (gate_of q.transmit q.arena (receives q p) p) → (new ≡ old) × (c.send.new.self ≡ q.transmit) =
+    rw (← is) e.shut in
+    let still = by way in
+    let arena = shut_home q.transmit q.arena (receives q p) p c.send.result s.arena answer way e.home in
+    (still.0, λ i. record q { arena = arena i; transmit = still.1 i }) in
     rw (← c.self.view_is) (record {
       drives = sent_drives old new q p c.send.new.self c.send.new.arena c.self.invariant shut owns e.plays;
       sent = record {

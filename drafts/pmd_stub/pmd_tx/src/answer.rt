@@ -1,0 +1,39 @@
+//! What a driver answers that sends.
+
+use pmd_seam::{Packet, PmdFault};
+
+/// What the driver answers to a packet.
+pub enum TxAnswer {
+    /// It is accepted.
+    Taken,
+    /// As many packets are outstanding as the ring has room for. This one comes back.
+    RingFull(Packet),
+}
+
+/// Why a packet is not sent now. It comes back where its block wasn't lent; else it is accepted.
+pub struct TxFault {
+    /// Why.
+    pub fault: PmdFault,
+    /// The packet. None where it is accepted: the next call goes on with it.
+    pub packet: Option<Packet>,
+}
+
+/// What was reaped.
+#[derive(Clone, Copy, Debug, PartialEq, Eq)]
+pub struct Reaped {
+    /// How many packets were sent and their blocks freed.
+    pub freed: u16,
+    /// No packet is outstanding.
+    pub idle: bool,
+}
+
+/// What a packet meets before any event is made.
+#[derive(Drop)]
+pub(crate) enum Gate {
+    /// It is refused.
+    Refused(PmdFault),
+    /// The ring is full.
+    Full,
+    /// The way is open.
+    Open,
+}

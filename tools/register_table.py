@@ -228,6 +228,7 @@ macro_rules! entry {{
 
 /// What the table says of a row: name, number of indices, kind, bank, mask, word after a reset.
 #[rattlefmt::skip]
+#[inline(always)]
 pub(crate) fn entry_of(row: RowId) -> Entry
     ensures {{ row_in result ≡ row_of row }}
 {{

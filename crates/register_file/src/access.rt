@@ -1,12 +1,11 @@
 //! Register accesses, by the kind of the row.
 
-ghost use Rattle.std.specs.Prelude.{ℕ, ◌≡◌, ◌<◌, ◌-◌, IfSome, IsTrue, bit_and, bit_or};
+ghost use Rattle.std.specs.Prelude.{◌≡◌, ◌<◌, IfSome, IsTrue, bit_and};
 ghost use Rattle.reg_table.specs.Rows.{row_of};
 ghost use Rattle.reg_table.specs.declared.kind.Kind.TheVariants.{Held, Enable, W1c, Ctrlext};
 ghost use Rattle.register_file.specs.Groups.{index_of};
 ghost use Rattle.register_file.specs.Owner.{owner_of, IsThere};
-ghost use Rattle.register_file.specs.Registers.{word_of};
-ghost use Rattle.register_file.specs.Storing.{is_stored, IsWordOf};
+ghost use Rattle.register_file.specs.Storing.{is_stored};
 ghost use Rattle.register_file.specs.Access.{read_word, after_read, written, stored, ones_cleared, calculated, group_in, is_running, asked, asks_reset, asks_pool_reset};
 
 use crate::bits::has_bit;
@@ -318,23 +317,7 @@ impl RegisterFile {
         ensures { self.new ≡ stored self.old place view word }
     {
         let mask = mask_of(place.row) & view;
-        let kept = self.kept_beside(place, view);
-        self.set_word(place.row, place.index, kept | (word & mask));
-    }
-
-    /// The bits that a word keeps where one is stored. Where all of its bits are taken, it isn't looked up.
-    #[inline(always)]
-    fn kept_beside(&self, place: Place, view: u32) -> u32
-        requires { place.index < (row_of place.row).count }
-        ensures kept { result ≡ bit_and (word_of self.now place.row place.index)
-            (0xFFFFFFFF - bit_and (row_of place.row).mask view) }
-        ensures holds { (word : ℕ) → IsWordOf place.row place.index
-            (bit_or result (bit_and word (bit_and (row_of place.row).mask view))) }
-    {
-        let mask = mask_of(place.row) & view;
-        if mask == u32::MAX {
-            return 0;
-        }
-        self.row_word(place.row, place.index) & !mask
+        let old = self.row_word(place.row, place.index);
+        self.set_word(place.row, place.index, (old & !mask) | (word & mask));
     }
 }

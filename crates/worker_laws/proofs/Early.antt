@@ -48,8 +48,8 @@ drives_goes old new h k (doers, since, is, own, last, stepped) = (since, is)
 pub quieted_goes : (q : AtPort) (old new : List Call) (made : AreMade q old new both_quiet) → GoesOn made.0 new
 quieted_goes q old new made = extends q (Sets Rxdctl 0 ∷ Sees Rxdctl false ∷ quiet Tx) made.0 new made.2
 
-module _ (q : AtPort) (size : ℕ) (old : List Call) (a : Numbers) (new : List Call) (r : Running)
-    (up : AreUp q size old a new r) where
+module _ (q : AtPort) (size frame : ℕ) (old : List Call) (a : Numbers) (new : List Call) (r : Running)
+    (up : AreUp q size frame old a new r) where
   -- up to where both sides are on
   pub rising_goes : GoesOn up.receive.mid up.on.mid
   rising_goes =

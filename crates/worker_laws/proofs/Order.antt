@@ -74,24 +74,24 @@ some_isnt_none (d ∷ cs) c more is = cc
 
 -- a worker with a thread
 
-module _ (w : Watched) (fifo : ℕ) (h : List Entry) (q : AtPort) (size : ℕ) (old : List Call) (a : Numbers)
+module _ (w : Watched) (fifo : ℕ) (h : List Entry) (q : AtPort) (size frame : ℕ) (old : List Call) (a : Numbers)
     (new : List Call) (left : Rest) (fault : Option WorkerFault) (made : calls_of w.pass h ≡ new) where
-  run_starts : HasRun q size old a new left fault → Starts w.pass old h ⊎ NothingLeft left
-  run_starts (inl (worked, late, is, lived)) = inl (starts w fifo h q size old a new left late lived made)
+  run_starts : HasRun q size frame old a new left fault → Starts w.pass old h ⊎ NothingLeft left
+  run_starts (inl (worked, late, is, lived)) = inl (starts w fifo h q size frame old a new left late lived made)
   run_starts (inr (e, is, never)) = inr (never.handed, never.accepted)
 
   module _ (along : IsAlong w fifo h) (sized : is_size size ≡ true)
-      (ground : JustBefore w.vfs fifo w.pass old h (HasGround w.queue q)) (x : Starts w.pass old h) where
-    run_in_order : HasRun q size old a new left fault
-        → (fault ≡ None) ⊎ IsQuiet w.queue q (leads_to (new_state w.vfs fifo) x.before)
+      (ground : JustBefore w.vfs fifo w.pass old h (HasGround w.queue q frame)) (x : Starts w.pass old h) where
+    run_in_order : HasRun q size frame old a new left fault
+        → (fault ≡ None) ⊎ IsQuiet w.queue q frame (leads_to (new_state w.vfs fifo) x.before)
         → InOrder w.queue w.vfs fifo w.pass old h x left
     run_in_order (inl (worked, late, is, lived)) quiet = (
-      handed_since w fifo h q size old a new left late lived made along sized ground x,
-      sent_on w fifo h q size old a new left late lived made along sized ground x,
+      handed_since w fifo h q size frame old a new left late lived made along sized ground x,
+      sent_on w fifo h q size frame old a new left late lived made along sized ground x,
     )
     run_in_order (inr (e, is, never)) (inl none) = cc
     run_in_order (inr (e, is, never)) (inr quiet) =
-        nothing_left w fifo h q size old a e new left never made along x quiet
+        nothing_left w fifo h q size frame old a e new left never made along x quiet
 
 module _ (vfs fifo : ℕ) (h : List Entry) (j : Job) (e : WorkerEnd) (x : IsEndIn vfs fifo h j e)
     (u : UpTo e.pass.tag h e.pass.calls) where
@@ -121,7 +121,7 @@ module _ (vfs fifo : ℕ) (h : List Entry) (j : Job) (e : WorkerEnd) (x : IsEndI
       elim (threads e.fault) as (λ _. Starts e.pass.tag old u.done ⊎ NothingLeft e.rest) [
         | inl none ↦ inr (home_left j.arena e.rest (ends.idle none).1)
         | inr some ↦
-            run_starts w fifo u.done q j.size old j.arena e.pass.calls e.rest e.fault u.made (ends.lived some)
+            run_starts w fifo u.done q j.size j.frame old j.arena e.pass.calls e.rest e.fault u.made (ends.lived some)
       ]
 
   module _ (s : Starts e.pass.tag old u.done) where
@@ -162,7 +162,7 @@ module _ (vfs fifo : ℕ) (h : List Entry) (j : Job) (e : WorkerEnd) (x : IsEndI
         elim (threads e.fault) as (λ _. InOrder j.pf_queue vfs fifo e.pass.tag old u.done s e.rest) [
           | inl none ↦ absurd (never_idle none)
           | inr some ↦
-              run_in_order w fifo u.done q j.size old j.arena e.pass.calls e.rest e.fault u.made along x.sized ground_so_far s
+              run_in_order w fifo u.done q j.size j.frame old j.arena e.pass.calls e.rest e.fault u.made along x.sized ground_so_far s
               (ends.lived some) quiet
         ]
 

@@ -1,5 +1,5 @@
 -- Each block that a half lends is one of the driver's own numbers, and isn't lent by the other half.
-use Rattle.std.proofs.Common.{◌≡◌, ℕ, zero, suc, ◌+◌, ◌<◌, ◌/◌, Bool, true, false, List, [], ◌∷◌, ◌++◌, length, take, drop, refl, sym, ◌∙◌, subst, arith}
+use Rattle.std.proofs.Common.{◌≡◌, ℕ, zero, suc, ◌<◌, Bool, true, false, List, [], ◌∷◌, ◌++◌, length, take, drop, refl, sym, subst, arith}
 use Rattle.std.specs.Prelude.{IsTrue, IsFalse, slice_index_or, ⊤}
 use Rattle.nic_device.specs.DmaArena.Block.{Block}
 use Rattle.nic_device.specs.DmaArena.Numbers.{Numbers, is_free}

@@ -1,5 +1,5 @@
 -- Where the blocks of a driver are that isn't running.
-use Rattle.std.proofs.Common.{◌≡◌, ℕ, ◌+◌, ◌<◌, ◌||◌, nat_lt, Bool, true, false, cond, List, [], ◌++◌, length, length-append, refl, sym, ap, ◌∙◌, subst, arith}
+use Rattle.std.proofs.Common.{◌≡◌, ℕ, ◌+◌, ◌<◌, ◌||◌, nat_lt, Bool, true, false, cond, List, [], ◌++◌, length, length-append, sym, ap, ◌∙◌, subst, arith}
 use Rattle.std.proofs.lemmas.Bool.Decides.{nat_tests}
 use Rattle.nic_device.specs.DmaArena.Numbers.{Numbers, is_own, is_free}
 use Rattle.nic_device.specs.DmaArena.Whereabouts.{times_in_hand}
@@ -20,7 +20,7 @@ use Rattle.pmd.specs.declared.home.Home.{Home}
 use Rattle.pmd.proofs.Bringing.{all_free_again, all_own}
 use Rattle.pmd.proofs.Few.{out_few}
 use Rattle.pmd.proofs.Kept.{kept_parted}
-use Rattle.pmd.proofs.Several.{all_given, all_own_same, free_both, out_all_given}
+use Rattle.pmd.proofs.Several.{all_given, all_own_same, out_all_given}
 
 -- a driver begins not to run
 

@@ -1,5 +1,5 @@
 -- The blocks that a transmit ring keeps: lent, or in hand until they are.
-use Rattle.std.proofs.Common.{◌≡◌, ℕ, zero, suc, ◌+◌, ◌<◌, ◌≤◌, ◌==◌, nat_lt, Bool, true, false, List, ◌++◌, take, drop, refl, sym, ap, ◌∙◌, arith}
+use Rattle.std.proofs.Common.{◌≡◌, ℕ, zero, suc, ◌+◌, ◌==◌, nat_lt, Bool, true, false, List, ◌++◌, take, drop, refl, sym, ap, ◌∙◌, arith}
 use Rattle.std.specs.List.{list_any}
 use Rattle.std.proofs.lemmas.Bool.{or_from}
 use Rattle.std.proofs.lemmas.Bool.Decides.{nat_tests}
@@ -10,13 +10,13 @@ use Rattle.pmd_rx.specs.PmdSeam.Home.{AreOut}
 use Rattle.pmd_rx.specs.PmdSeam.Slots.{is_ring_block, ring_blocks}
 use Rattle.pmd_rx.specs.PmdSeam.declared.packet.Packet.{Packet}
 use Rattle.pmd_rx.proofs.PmdSeam.Outside.{times-append}
-use Rattle.pmd_rx.proofs.PmdSeam.Rings.{among_times, ring_block_among, times_among}
+use Rattle.pmd_rx.proofs.PmdSeam.Rings.{ring_block_among, times_among}
 use Rattle.pmd_rx.specs.Keeping.{blocks_out}
 use Rattle.pmd_tx.specs.Leaving.{lent_of, waiting_of}
 use Rattle.pmd_tx.specs.Sending.{Sender, Segment, blocks_of, has_lent, keeps}
 use Rattle.pmd_tx.specs.Sends.{are_out, goes_home}
 use Rattle.pmd.specs.Running.{Running, IsUp, kept_out, receives, rings_out}
-use Rattle.pmd.proofs.Several.{AreAway, all_joined, away_both, away_by, neither, none_among, uncounted}
+use Rattle.pmd.proofs.Several.{all_joined, away_both, away_by, neither, none_among, uncounted}
 
 -- a test by a count
 is_tested : (b : Bool) (t : ℕ) → (b ≡ false → t ≡ 0) → (t ≡ 0 → b ≡ false) → b ≡ nat_lt 0 t

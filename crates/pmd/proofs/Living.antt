@@ -45,7 +45,8 @@ runs_kept old new (Down h) then last one kept = tt
 lived_up : (q : AtPort) (size frame : ℕ) (old : List Call) (a : Numbers) (made mid new : List Call) (p : Driver)
     (rings : Rings) (left : Rest) (late : Option PmdFault) → HasStarted q size frame old a made p
     → RunsOn made p.rings mid rings → IsStopped q mid (halted_of rings) new left late
-    → left_handed left ≡ handed_of rings → left_accepted left ≡ accepted_of rings → HasLived q size frame old a new left late
+    → left_handed left ≡ handed_of rings → left_accepted left ≡ accepted_of rings
+    → HasLived q size frame old a new left late
 lived_up q size frame old a made mid new p (Up s) left late (r, is, up) runs stopped handed accepted = record {
   made = mid;
   last = s;

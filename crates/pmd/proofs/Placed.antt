@@ -1,5 +1,5 @@
 -- The blocks of a packet that is accepted: one for each of its parts.
-use Rattle.std.proofs.Common.{◌≡◌, ℕ, zero, suc, ◌+◌, ◌-◌, ◌*◌, ◌/◌, ◌<◌, ◌≤◌, All, List, [], ◌∷◌, ◌++◌, length, take, drop, replicate, refl, sym, ap, ◌∙◌, arith}
+use Rattle.std.proofs.Common.{◌≡◌, ℕ, zero, suc, ◌-◌, ◌*◌, ◌<◌, ◌≤◌, All, List, [], ◌∷◌, ◌++◌, length, take, drop, replicate, refl, ap, ◌∙◌, arith}
 use Rattle.std.proofs.lemmas.List.{length-append, length-replicate, length-take-le, map-append}
 use Rattle.nic_device.specs.DmaArena.Block.{Block, IsBlock}
 use Rattle.pmd_rx.specs.PmdSeam.Bufs.{bytes_of, numbers_of}

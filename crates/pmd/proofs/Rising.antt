@@ -30,21 +30,22 @@ drawn_behind a drawn b out is =
     keeps_counted a b out (drawn ++ out) (out ++ drawn)
     (λ k. omega (arith, times-append drawn out k, times-append out drawn k)) (all_drawn a drawn b out is)
 
-pub receive_has : (q : AtPort) (size frame : ℕ) (old : List Call) (a : Numbers) (new : List Call) (b : Numbers) (v : Receive)
-    → IsReceiveReady q size frame old a new b v → KeepsEach a [] b (blocks_out v)
+pub receive_has : (q : AtPort) (size frame : ℕ) (old : List Call) (a : Numbers) (new : List Call) (b : Numbers)
+    (v : Receive) → IsReceiveReady q size frame old a new b v → KeepsEach a [] b (blocks_out v)
 receive_has q size frame old a new b v ready =
     subst (λ (x : Receive). KeepsEach a [] b (blocks_out x)) (sym ready.fresh)
     (all_drawn a (ring_blocks ready.ring size) b [] ready.prepared.drawn)
 
-transmit_has : (q : AtPort) (size frame : ℕ) (old : List Call) (a : Numbers) (new : List Call) (b : Numbers) (s : Sender)
-    (out : List ℕ) → IsTransmitReady q size frame old a new b s → KeepsEach a out b (out ++ kept_out s)
+transmit_has : (q : AtPort) (size frame : ℕ) (old : List Call) (a : Numbers) (new : List Call) (b : Numbers)
+    (s : Sender) (out : List ℕ) → IsTransmitReady q size frame old a new b s → KeepsEach a out b (out ++ kept_out s)
 transmit_has q size frame old a new b s out ready =
     let ends : List ℕ = ring_blocks ready.ring size in
     subst (λ (x : Sender). KeepsEach a out b (out ++ kept_out x)) (sym ready.fresh)
     (drawn_behind a ends b out ready.prepared.drawn)
 
 -- both rings are lent, and the receive ring was filled
-pub filled_has : (q : AtPort) (size frame : ℕ) (old mid new : List Call) (a b d e : Numbers) (v w : Receive) (s : Sender)
+pub filled_has : (q : AtPort) (size frame : ℕ) (old mid new : List Call) (a b d e : Numbers) (v w : Receive)
+    (s : Sender)
     → IsReceiveReady q size frame old a mid b v → IsTransmitReady q size frame mid b new d s → Keeps d v e w []
     → KeepsEach a [] e (blocks_out w ++ kept_out s)
 filled_has q size frame old mid new a b d e v w s ready also keeps =
@@ -108,7 +109,8 @@ both_rings a b v s hand keeps =
     ))
     keeps
 
-pub filled_all : (q : AtPort) (size frame : ℕ) (old mid new : List Call) (a b d e : Numbers) (v w : Receive) (s : Sender)
+pub filled_all : (q : AtPort) (size frame : ℕ) (old mid new : List Call) (a b d e : Numbers) (v w : Receive)
+    (s : Sender)
     → IsReceiveReady q size frame old a mid b v → IsTransmitReady q size frame mid b new d s → Keeps d v e w []
     → HasAll a (with_rings e w s) []
 filled_all q size frame old mid new a b d e v w s ready also keeps =

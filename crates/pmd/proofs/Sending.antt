@@ -1,5 +1,5 @@
 -- Where the blocks of a driver are once a packet is sent, and once packets are reaped.
-use Rattle.std.proofs.Common.{◌≡◌, ℕ, ◌+◌, ◌<◌, ◌≤◌, ◌*◌, ◌==◌, ◌||◌, ◌&&◌, nat_lt, not, if◌then◌else◌, Bool, true, false, cond, All, List, [], ◌++◌, length, take, drop, Option, Some, None, Result, Ok, Err, IfSome, IfNone, IfOk, OnErr, refl, sym, ap, subst, ◌∙◌, arith}
+use Rattle.std.proofs.Common.{◌≡◌, ℕ, ◌+◌, ◌<◌, ◌≤◌, ◌*◌, ◌&&◌, not, if◌then◌else◌, Bool, true, false, cond, All, List, [], ◌++◌, length, take, drop, Option, Some, None, Result, Ok, Err, IfSome, IfNone, IfOk, OnErr, refl, sym, ap, subst, ◌∙◌, arith}
 use Rattle.std.proofs.lemmas.Bool.Decides.{nat_tests}
 use Rattle.std.proofs.lemmas.List.{drop-map, take-append-drop}
 use Rattle.nic_device.specs.DmaArena.Block.{Block, IsBlock}
@@ -19,7 +19,7 @@ use Rattle.pmd_tx.specs.declared.answer.Reaped.{Reaped}
 use Rattle.pmd_tx.specs.declared.answer.TxAnswer.{TxAnswer}
 use Rattle.pmd_tx.specs.declared.answer.TxFault.{TxFault}
 use Rattle.pmd.specs.Apart.{OwnsSame}
-use Rattle.pmd.specs.Blocks.{KeepsEach, KeepsUp}
+use Rattle.pmd.specs.Blocks.{KeepsUp}
 use Rattle.pmd.specs.Running.{Running, IsUp, kept_out, receives, rings_out}
 use Rattle.pmd.proofs.Blocks.{first_out, second_out}
 use Rattle.pmd.proofs.Kept.{home_goes}

@@ -1,5 +1,5 @@
 -- A packet that is sent drives the halves on, and is lent in blocks of the driver's own.
-use Rattle.std.proofs.Common.{◌≡◌, ◌⊎◌, ℕ, inl, inr, Bool, true, false, ◌&&◌, not, List, ◌++◌, take, refl, sym, subst}
+use Rattle.std.proofs.Common.{◌≡◌, ◌⊎◌, inl, inr, Bool, true, false, ◌&&◌, not, List, ◌++◌, refl, sym, subst}
 use Rattle.nic_device.specs.DmaArena.Numbers.{Numbers, is_own}
 use Rattle.pmd_rx.specs.PmdSeam.Bufs.{numbers_of}
 use Rattle.pmd_rx.specs.PmdSeam.Home.{AreOut}
@@ -40,7 +40,8 @@ module _ (q : Running) (p : Packet) (up : IsUp q) where
       (packet_may q (numbers_of p.bufs) goes)
 
 module _ (old new : List Call) (q : Running) (p : Packet) (w : Sender) (b : Numbers) (up : IsUp q)
-    (shut : IsShut (gate_of q.transmit q.arena (receives q p) p) → (new ≡ old) × (record q { arena = b; transmit = w } ≡ q))
+    (shut : IsShut (gate_of q.transmit q.arena (receives q p) p)
+    → (new ≡ old) × (record q { arena = b; transmit = w } ≡ q))
     (owns : OwnsSame q.arena b)
   where
     abbrev sent : Running

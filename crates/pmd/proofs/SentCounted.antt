@@ -1,5 +1,5 @@
 -- Where the blocks of a driver are once a packet was to be sent.
-use Rattle.std.proofs.Common.{◌≡◌, ℕ, ◌&&◌, not, if◌then◌else◌, Bool, true, false, All, List, Option, Some, None, Result, Ok, Err, IfErr, IfSome, IfNone, refl, sym, ap, subst}
+use Rattle.std.proofs.Common.{◌≡◌, ◌&&◌, not, Bool, All, Option, Some, None, Result, Ok, Err, IfErr, IfSome, IfNone, refl, sym, ap, subst}
 use Rattle.nic_device.specs.DmaArena.Block.{Block, IsBlock}
 use Rattle.nic_device.specs.DmaArena.Numbers.{Numbers}
 use Rattle.pmd_rx.specs.PmdSeam.Bufs.{numbers_of}

@@ -1,5 +1,5 @@
 -- Several blocks at once: those of a packet that go home, and those that are kept in hand.
-use Rattle.std.proofs.Common.{◌≡◌, ℕ, zero, suc, ◌+◌, ◌<◌, ◌≤◌, ◌==◌, ◌&&◌, ◌||◌, nat_lt, not, Bool, true, false, cond, List, [], ◌∷◌, ◌++◌, length, get_or, refl, sym, ap, subst, ◌∙◌, arith}
+use Rattle.std.proofs.Common.{◌≡◌, ℕ, zero, suc, ◌+◌, ◌<◌, ◌≤◌, ◌==◌, ◌&&◌, ◌||◌, nat_lt, not, Bool, true, false, List, [], ◌∷◌, ◌++◌, length, drop, get_or, refl, sym, ap, subst, ◌∙◌, arith}
 use Rattle.std.specs.Prelude.{⊤}
 use Rattle.std.specs.List.{list_any}
 use Rattle.std.proofs.lemmas.Bool.Decides.{nat_tests}
@@ -12,6 +12,7 @@ use Rattle.pmd_rx.specs.PmdSeam.Home.{AreOut}
 use Rattle.pmd_rx.proofs.PmdSeam.Outside.{times-cons, times-append, out_fewer, out_first, out_given}
 use Rattle.pmd_rx.proofs.PmdSeam.Rings.{among_times, times_among}
 use Rattle.pmd_tx.specs.Sends.{are_out}
+use Rattle.pmd_tx.proofs.Numbering.{numbers-left}
 use Rattle.pmd.specs.Blocks.{KeepsEach}
 use Rattle.pmd.proofs.Blocks.{out_joined}
 use Rattle.pmd.proofs.Whole.{keeps_then, one_given}
@@ -83,7 +84,8 @@ four true false true d is = cc
 four true true c d is = cc
 four false b c d is = cc
 
-pub all_joined : (a : Numbers) (xs ns : List ℕ) → are_out a ns ≡ true → AreAway xs ns → AreOut a xs → AreOut a (ns ++ xs)
+pub all_joined : (a : Numbers) (xs ns : List ℕ) → are_out a ns ≡ true → AreAway xs ns → AreOut a xs
+    → AreOut a (ns ++ xs)
 all_joined a xs [] are away out = out
 all_joined a xs (n ∷ ns) are away out =
     let (own, here, alone, rest) = four (is_own a n) (is_free a n) (list_any (λ b. n == b) ns) (are_out a ns) are in
@@ -137,3 +139,14 @@ found f (c ∷ bs) (suc k) b below is meets =
 
 pub counts : (t : ℕ) → 0 < t → nat_lt 0 t ≡ true
 counts t some = grind (arith, nat_tests, some)
+
+pub missed : (f : ℕ → Bool) (bs : List Block) (k : ℕ) (b : Block) → k < length bs → b ≡ get_or bs k b
+    → f b.number ≡ false → list_any f (numbers_of bs) ≡ list_any f (drop k (numbers_of bs))
+    → list_any f (numbers_of bs) ≡ list_any f (drop (k + 1) (numbers_of bs))
+missed f bs k b below is away so =
+    so ∙ ap (list_any f) (numbers-left bs k b below is)
+    ∙ ap (λ (t : Bool). t || list_any f (drop (k + 1) (numbers_of bs))) away
+
+pub counts_none : (t : ℕ) → (0 < t → false ≡ true) → nat_lt 0 t ≡ false
+counts_none zero none = refl
+counts_none (suc t) none = absurd (let e : false ≡ true = none (omega arith) in cc)

@@ -45,14 +45,15 @@ none_at false o owns = omega arith
 none_out : (a : Numbers) → AreOut a []
 none_out a k = none_at (is_free a k) (is_own a k) (is_own-of_free a k)
 
-pub receive_out : (q : AtPort) (size frame : ℕ) (old : List Call) (a : Numbers) (new : List Call) (b : Numbers) (v : Receive)
-    → IsReceiveReady q size frame old a new b v → AreOut b (blocks_out v)
+pub receive_out : (q : AtPort) (size frame : ℕ) (old : List Call) (a : Numbers) (new : List Call) (b : Numbers)
+    (v : Receive) → IsReceiveReady q size frame old a new b v → AreOut b (blocks_out v)
 receive_out q size frame old a new b v ready =
     let ends : List ℕ = ring_blocks ready.ring size in
     subst (λ (x : Receive). AreOut b (blocks_out x)) (sym ready.fresh)
     (all_drawn a ends b [] (ends ++ []) ready.prepared.drawn (none_out a) (λ k. omega (arith, times-append ends [] k)))
 
-transmit_out : (q : AtPort) (size frame : ℕ) (old : List Call) (a : Numbers) (new : List Call) (b : Numbers) (v : Sender)
+transmit_out : (q : AtPort) (size frame : ℕ) (old : List Call) (a : Numbers) (new : List Call) (b : Numbers)
+    (v : Sender)
     (out : List ℕ) → IsTransmitReady q size frame old a new b v → AreOut a out → AreOut b (out ++ kept_out v)
 transmit_out q size frame old a new b v out ready are =
     let ends : List ℕ = ring_blocks ready.ring size in
@@ -61,7 +62,8 @@ transmit_out q size frame old a new b v out ready are =
 
 -- both rings are lent
 pub rings_out : (q : AtPort) (size frame : ℕ) (old mid new : List Call) (a b d : Numbers) (v : Receive) (s : Sender)
-    → IsReceiveReady q size frame old a mid b v → IsTransmitReady q size frame mid b new d s → AreOut d (blocks_out v ++ kept_out s)
+    → IsReceiveReady q size frame old a mid b v → IsTransmitReady q size frame mid b new d s
+    → AreOut d (blocks_out v ++ kept_out s)
 rings_out q size frame old mid new a b d v s ready also =
     transmit_out q size frame mid b new d s (blocks_out v) also (receive_out q size frame old a mid b v ready)
 
@@ -73,7 +75,8 @@ filled_out : (a b : Numbers) (v w : Receive) (others : List ℕ) → AreOut a (b
 filled_out a b v w others are keeps = out_exchanged a (blocks_out v) b (blocks_out w) others are keeps.arena
 
 -- both rings are lent, and the receive ring was filled
-pub filled_rings : (q : AtPort) (size frame : ℕ) (old mid new : List Call) (a b d e : Numbers) (v w : Receive) (s : Sender)
+pub filled_rings : (q : AtPort) (size frame : ℕ) (old mid new : List Call) (a b d e : Numbers) (v w : Receive)
+    (s : Sender)
     → IsReceiveReady q size frame old a mid b v → IsTransmitReady q size frame mid b new d s → Keeps d v e w []
     → AreOut e (blocks_out w ++ kept_out s)
 filled_rings q size frame old mid new a b d e v w s ready also keeps =
@@ -135,8 +138,8 @@ still_free a ring size b other count drawn apart free k below =
     (none_behind (blocks_for size) ring (other + k) (omega (arith, apart)))
 
 -- the ring is empty
-pub ready_empty : (q : AtPort) (size frame : ℕ) (old : List Call) (a : Numbers) (new : List Call) (b : Numbers) (v : Receive)
-    → IsReceiveReady q size frame old a new b v
+pub ready_empty : (q : AtPort) (size frame : ℕ) (old : List Call) (a : Numbers) (new : List Call) (b : Numbers)
+    (v : Receive) → IsReceiveReady q size frame old a new b v
     → (v.layout.blocks ≡ []) × (v.stage ≡ Looks) × (v.layout.size ≡ size) × (v.seen ≡ []) × (v.held ≡ no_packet)
 ready_empty q size frame old a new b v ready = (
   ap (λ (x : Receive). x.layout.blocks) ready.fresh,

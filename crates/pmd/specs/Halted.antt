@@ -35,8 +35,8 @@ pub record IsHalted (h : Halted) : Type 0 where
 abbrev pub is_out : Halted → ℕ → Bool
 is_out h n = nat_lt 0 (times_in_hand (all_out h) n)
 
--- whether a packet's blocks can go back: their numbers are the arena's, aren't free there, no two are alike, and none is
--- out
+-- whether a packet's blocks can go back: their numbers are the arena's, aren't free there, no two are alike, and none
+-- is out
 abbrev pub goes_back : Halted → Packet → Bool
 goes_back h p = are_out h.arena (numbers_of p.bufs) && not (list_any (λ n. is_out h n) (numbers_of p.bufs))
 

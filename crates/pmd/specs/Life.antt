@@ -27,7 +27,8 @@ KeepsHalves rings after = WhereUp rings after (λ r s. (halves_of s ≡ halves_o
 
 -- a driver of this queue lives: after the calls that were made before, its rings came up, with so many descriptors each
 -- and the blocks of this arena; and then its halves were driven on, up to where they are
-pub record Lives (q : AtPort) (size frame : ℕ) (old : List Call) (a : Numbers) (new : List Call) (r : Running) : Type 0 where
+pub record Lives (q : AtPort) (size frame : ℕ) (old : List Call) (a : Numbers) (new : List Call) (r : Running) :
+    Type 0 where
   -- the calls that were made once it ran, and the driver there
   pub made : List Call
   pub fresh : Running

@@ -62,7 +62,8 @@ IsShut (Some f) a old new (Ok p) = ⊥
 IsShut (Some f) a old new (Err e) = (e.fault ≡ f) × IsHome a e.rest × (new ≡ old)
 
 -- the rings came up one after the other: both are lent, both sides are on, and the receive ring is filled
-pub record AreUp (q : AtPort) (size frame : ℕ) (old : List Call) (a : Numbers) (new : List Call) (r : Running) : Type 0 where
+pub record AreUp (q : AtPort) (size frame : ℕ) (old : List Call) (a : Numbers) (new : List Call) (r : Running) :
+    Type 0 where
   pub ready_made : List Call
   pub both_made : List Call
   pub ready_arena : Numbers
@@ -95,8 +96,8 @@ pub record StopsBeforeOne (q : AtPort) (size : ℕ) (old : List Call) (a : Numbe
   pub left : IsLeftWith q arena out e.rest
 
 -- the transmit ring wasn't prepared, and the empty receive ring is left, with the blocks of the other that were lent
-pub record StopsAfterOne (q : AtPort) (size frame : ℕ) (old : List Call) (a : Numbers) (new : List Call) (e : StartRefused) :
-    Type 0 where
+pub record StopsAfterOne (q : AtPort) (size frame : ℕ) (old : List Call) (a : Numbers) (new : List Call)
+    (e : StartRefused) : Type 0 where
   pub made : List Call
   pub ready_arena : Numbers
   pub arena : Numbers
@@ -107,8 +108,8 @@ pub record StopsAfterOne (q : AtPort) (size frame : ℕ) (old : List Call) (a : 
   pub left : IsHalfStarted q (with_receive_ring arena empty out) e.rest
 
 -- a side didn't go on, or the receive ring was filled in part, and both rings are left
-pub record StopsAfterBoth (q : AtPort) (size frame : ℕ) (old : List Call) (a : Numbers) (new : List Call) (e : StartRefused) :
-    Type 0 where
+pub record StopsAfterBoth (q : AtPort) (size frame : ℕ) (old : List Call) (a : Numbers) (new : List Call)
+    (e : StartRefused) : Type 0 where
   pub ready_made : List Call
   pub both_made : List Call
   pub ready_arena : Numbers

@@ -85,9 +85,9 @@ impl Pmd {
 impl Pmd {
     /// The next packet that came in, in order. None where one of its slots isn't done.
     ///
-    /// `NoBuffer` where a packet waits and too few blocks are free for it, `DeviceFault` where a reply is none that a healthy queue
-    /// gives, `Call` where a call was refused, or there was no memory for the packet's record: the driver keeps where
-    /// it was, and the next call goes on. `DeviceFault` without any event where the driver doesn't run.
+    /// `NoBuffer` where a packet waits and too few blocks are free for it, `DeviceFault` where a reply is none that a
+    /// healthy queue gives, `Call` where a call was refused, or there was no memory for the packet's record: the driver
+    /// keeps where it was, and the next call goes on. `DeviceFault` without any event where the driver doesn't run.
     pub fn rx<N: Nic>(&mut self, alloc: Global, nic: &mut N) -> Result<Option<Packet>, PmdFault>
         ensures drives { RunsOn (N.made nic.old) self.old.rings (N.made nic.new) self.new.rings }
         ensures received { WhereUp self.old.rings self.new.rings (λ r s.

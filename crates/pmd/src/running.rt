@@ -85,9 +85,9 @@ impl Running {
 impl Running {
     /// The next packet that came in, in order. None where one of its slots isn't done.
     ///
-    /// `NoBuffer` where a packet waits and too few blocks are free for it, `DeviceFault` where a reply is none that a healthy queue
-    /// gives, `Call` where a call was refused, or there was no memory for the packet's record: the driver keeps where
-    /// it was, and the next call goes on.
+    /// `NoBuffer` where a packet waits and too few blocks are free for it, `DeviceFault` where a reply is none that a
+    /// healthy queue gives, `Call` where a call was refused, or there was no memory for the packet's record: the driver
+    /// keeps where it was, and the next call goes on.
     pub fn rx<N: Nic>(&mut self, alloc: Global, nic: &mut N) -> Result<Option<Packet>, PmdFault>
         ensures drives { DrivesRings (N.made nic.old) self.old (N.made nic.new) self.new }
         ensures received { IsReceiveCall result (N.made nic.old) self.old (N.made nic.new) self.new }
@@ -158,7 +158,8 @@ impl Running {
 
     /// Whether the receive ring has one of these blocks.
     fn receives(&self, bufs: &Bufs) -> bool
-        ensures { result ≡ list_any (λ n. nat_lt 0 (times_in_hand (blocks_out self.now.receive) n)) (numbers_of bufs.now) }
+        ensures { result
+            ≡ list_any (λ n. nat_lt 0 (times_in_hand (blocks_out self.now.receive) n)) (numbers_of bufs.now) }
     {
         for number in 0..bufs.count() {
             if self.receive.has(bufs.get(number).block()) {

@@ -78,7 +78,8 @@ fn named(
     frame: u16,
 ) -> Result<(Queue, Places), PmdFault>
     ensures open { OnOk result (start_gate arena.now (record { port = port; queue = queue }) size frame ≡ None) }
-    ensures shut { IfErr result (λ f. start_gate arena.now (record { port = port; queue = queue }) size frame ≡ Some f) }
+    ensures shut { IfErr result (λ f.
+        start_gate arena.now (record { port = port; queue = queue }) size frame ≡ Some f) }
     ensures queue { IfOk result (λ n. n.0 ≡ record { port = port; queue = queue }) }
     ensures size { OnOk result ((8 ≤ size) × (size ≤ 1024)) }
     ensures frame { OnOk result (is_frame frame ≡ true) }
@@ -232,10 +233,10 @@ impl Pmd {
     /// Each ring takes a run of blocks of the arena, one for every 128 descriptors, and `size` - 1 blocks are posted
     /// for frames to come, of `frame` bytes at most, with their frame check sequence: 1,518 to 9,728.
     ///
-    /// Before any event: `BadSize` where the size or that length is another, `NoBuffer` where fewer blocks are free than that, or no
-    /// two such runs, and `DeviceFault` where the port can't name the queue. Then `DeviceFault` where a side of the
-    /// queue is on or the device answers what it can't on a healthy queue, `StartTimeout` where 1,000 polls show a side
-    /// off, and `Call` where a call was refused. Once a block was lent, the driver is left as it came.
+    /// Before any event: `BadSize` where the size or that length is another, `NoBuffer` where fewer blocks are free
+    /// than that, or no two such runs, and `DeviceFault` where the port can't name the queue. Then `DeviceFault` where
+    /// a side of the queue is on or the device answers what it can't on a healthy queue, `StartTimeout` where 1,000 polls
+    /// show a side off, and `Call` where a call was refused. Once a block was lent, the driver is left as it came.
     pub fn start<N: Nic>(
         alloc: Global,
         nic: &mut N,
@@ -250,7 +251,8 @@ impl Pmd {
         ensures started { IfOk result (λ p. HasStarted (record { port = port; queue = queue }) size frame
             (N.made nic.old) arena (N.made nic.new) p) }
         ensures stops { IfErr result (λ e. start_gate arena (record { port = port; queue = queue }) size frame ≡ None
-            → StopsStarting (record { port = port; queue = queue }) size frame (N.made nic.old) arena (N.made nic.new) e) }
+            → StopsStarting (record { port = port; queue = queue }) size frame (N.made nic.old) arena
+            (N.made nic.new) e) }
         ensures late { IfErr result (λ e. start_gate arena (record { port = port; queue = queue }) size frame ≡ None
             → ComesLate e.fault) }
         ensures none { IfOk result (λ p. handed_of p.rings ≡ []) }

@@ -176,8 +176,8 @@ pub fn run_worker<G: Gate, N: Nic>(
 ) -> (Rest, Option<WorkerFault>)
     requires fresh { sent producer.old ≡ [] }
     requires room { order.rounds ≤ known_free producer.old }
-    ensures lived { HasRun (record { port = order.port; queue = order.queue }) order.size order.frame (N.made nic.old) arena
-        (N.made nic.new) result.0 result.1 }
+    ensures lived { HasRun (record { port = order.port; queue = order.queue }) order.size order.frame
+        (N.made nic.old) arena (N.made nic.new) result.0 result.1 }
     ensures told { sent producer.new ≡ reports_of order.queue (left_handed result.0) }
     ensures few { length (sent producer.new) ≤ order.rounds }
     ensures ring { SameProducer producer.old producer.new }
@@ -187,7 +187,15 @@ pub fn run_worker<G: Gate, N: Nic>(
     ensures whole { IsWhole arena result.0 }
     ensures who { N.who nic.new ≡ N.who nic.old }
 {
-    match Pmd::start(alloc, nic, order.port, order.queue, order.size, order.frame, arena) {
+    match Pmd::start(
+        alloc,
+        nic,
+        order.port,
+        order.queue,
+        order.size,
+        order.frame,
+        arena,
+    ) {
         Ok(pmd) => drive(alloc, nic, gate, order, pmd, producer),
         Err(StartRefused { fault, rest }) => {
             gate.leave(order.worker);

@@ -47,8 +47,8 @@ pub use hosted::run;
 pub use job::{Job, overlap};
 pub use meeting::{Lockstep, MAX_MEMBERS};
 pub use pmd::{
-    Bufs, Direct, Finished, Home, Interleaved, Nic, POLLS, Packet, Pmd, PmdFault, Queue, Record, Rest,
-    Setup, StartRefused, StopRefused, ThroughLock, TxAnswer, TxFault, pf_setup,
+    Bufs, Direct, Finished, Home, Interleaved, Nic, POLLS, Packet, Pmd, PmdFault, Queue, Record,
+    Rest, Setup, StartRefused, StopRefused, ThroughLock, TxAnswer, TxFault, pf_setup,
 };
 pub use reports::{Collector, Report};
 pub use seat::{Seat, Task};

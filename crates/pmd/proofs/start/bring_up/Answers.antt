@@ -174,7 +174,8 @@ returns-in-Ok-go_on-clause-blocks g c =
     subst (λ (d : Driver). HasAll c.args.arena (halted_of d.rings) [])
     (sym (c.of.ensures
     ∙ ap (λ (x : Running). let d : Driver = record { queue = c.args.queue; rings = Up x } in d) c.new-running.ensures))
-    (filled_all _ _ _ _ _ _ _ _ _ _ _ _ _ c.in-Ok.ensures.ready c.in-Ok-transmit_ring.ensures.ready c.go_on.ensures.keeps)
+    (filled_all _ _ _ _ _ _ _ _ _ _ _ _ _ c.in-Ok.ensures.ready c.in-Ok-transmit_ring.ensures.ready
+    c.go_on.ensures.keeps)
 
 pub returns-in-Err-go_on-clause-whole : goal.returns-in-Err-go_on-clause-whole
 returns-in-Err-go_on-clause-whole g c =

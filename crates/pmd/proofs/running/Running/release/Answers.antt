@@ -1,7 +1,6 @@
-use Rattle.std.proofs.Common.{◌≡◌, ℕ, true, List, ◌++◌, refl, sym, subst}
+use Rattle.std.proofs.Common.{◌≡◌, ℕ, true, List, refl, sym, subst}
 use Rattle.nic_device.specs.DmaArena.Numbers.{Numbers}
 use Rattle.pmd_rx.specs.PmdSeam.Bufs.{numbers_of}
-use Rattle.pmd_rx.specs.PmdSeam.Home.{AreOut}
 use Rattle.pmd.specs.Running.{Running, IsUp, goes_back, rings_out}
 use Rattle.pmd.proofs.Counted.{released_kept}
 use Rattle.pmd.proofs.HaltedBlocks.{never_back}

@@ -43,15 +43,15 @@ pub record FaultsAfterOne (q : AtPort) (size frame : ℕ) (old : List Call) (a :
 -- after both were, the sides aren't switched on
 pub record FaultsSwitching (q : AtPort) (size frame : ℕ) (old : List Call) (a : Numbers) (new : List Call) : Type 0
   where
-  pub ready_made : List Call
-  pub both_made : List Call
-  pub ready_arena : Numbers
-  pub both_arena : Numbers
-  pub empty : Receive
-  pub sender : Sender
-  pub receive : IsReceiveReady q size frame old a ready_made ready_arena empty
-  pub transmit : IsTransmitReady q size frame ready_made ready_arena both_made both_arena sender
-  pub fails : SwitchFails DeviceFault q both_made new true 1000
+    pub ready_made : List Call
+    pub both_made : List Call
+    pub ready_arena : Numbers
+    pub both_arena : Numbers
+    pub empty : Receive
+    pub sender : Sender
+    pub receive : IsReceiveReady q size frame old a ready_made ready_arena empty
+    pub transmit : IsTransmitReady q size frame ready_made ready_arena both_made both_arena sender
+    pub fails : SwitchFails DeviceFault q both_made new true 1000
 
 -- after both sides went on, the receive ring is filled in part
 pub record FaultsFilling (q : AtPort) (size frame : ℕ) (old : List Call) (a : Numbers) (new : List Call) : Type 0 where

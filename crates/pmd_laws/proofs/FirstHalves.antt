@@ -17,8 +17,8 @@ use Rattle.start_laws.specs.On.{AreOn}
 use Rattle.pmd_laws.proofs.Begun.{at_first, first_apart, first_lent, ring_free, ring_gone}
 
 -- as both sides are on the receive ring is empty
-module _ (q : AtPort) (size : ℕ) (old : List Call) (a : Numbers) (new : List Call) (v : Receive) (t : Sender)
-    (up : AreOn q size old a new v t) where
+module _ (q : AtPort) (size frame : ℕ) (old : List Call) (a : Numbers) (new : List Call) (v : Receive) (t : Sender)
+    (up : AreOn q size frame old a new v t) where
   abbrev pub first_halves : Halves
   first_halves = record { receive = v; transmit = t }
 

@@ -35,8 +35,8 @@ played_size h (d ∷ doers) [] = refl
 played_size h (d ∷ doers) (n ∷ calls) = played_size (after_call h d n) doers calls ∙ call_size h d n
 
 pub full_is_all_but_one : FullIsAllButOne
-full_is_all_but_one q size old a m later n p x tells =
-    let goes = runs q size old a m later x in
+full_is_all_but_one q size frame old a m later n p x tells =
+    let goes = runs q size frame old a m later x in
     let (s, up, full) = up_next (λ r s. IsFullWhereTold r.transmit (Ok (RingFull p))) (last m later).driver.rings
     n.driver.rings goes.rings goes.up tells in
     let (doers, since, made, own, is, steps) = goes.leads.apart.leads in

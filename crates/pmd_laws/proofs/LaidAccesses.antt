@@ -77,7 +77,7 @@ module _ (q : AtPort) where
       (lends_stay Off (ring_blocks ring size) x.mid new x.lent)
 
   pub receive_ready : (size : ℕ) (old : List Call) (a : Numbers) (new : List Call) (b : Numbers) (v : Receive)
-      → IsReceiveReady q size old a new b v → Stay Off old new
+      → IsReceiveReady q size frame old a new b v → Stay Off old new
   receive_ready size old a new b v x =
       then_made (Stays q Off) old x.mid new (accesses_stay both_quiet old x.mid quiet_keep x.quiet)
       (receive_prepared size x.mid a new b x.ring x.prepared)

@@ -55,29 +55,29 @@ module _ (w : Watched) (fifo : ℕ) (h before rest : List Entry) (all : before +
     alone = beginning_alone w before rest (subst (LeavesAlone w) (sym all) x.alone);
   }
 
-  pub begins_before : (q : AtPort) (size : ℕ) (old : List Call) (a : Numbers) (new : List Call) (r : Running)
-      (up : AreUp q size old a new r) → BeginsWell w fifo h q size old a new r up
-      → BeginsWell w fifo before q size old a new r up
-  begins_before q size old a new r up x = record {
+  pub begins_before : (q : AtPort) (size frame : ℕ) (old : List Call) (a : Numbers) (new : List Call) (r : Running)
+      (up : AreUp q size frame old a new r) → BeginsWell w fifo h q size frame old a new r up
+      → BeginsWell w fifo before q size frame old a new r up
+  begins_before q size frame old a new r up x = record {
     ground = λ done more e both own is.
         x.ground done (more ++ rest) e
         (sym (append_assoc done (e ∷ more) rest) ∙ ap (λ (l : List Entry). l ++ rest) both ∙ all) own is;
   }
 
   -- and a life up to there, where its calls lead to these halves
-  abbrev pub lived_before : (q : AtPort) (size : ℕ) (old : List Call) (a : Numbers) (started : List Call)
-      (r : Running) (made calls : List Call) (j k : Halves) (life : IsLife q size old a started r made j)
-      → IsAlong w fifo h → BeginsWell w fifo h q size old a started r life.up
+  abbrev pub lived_before : (q : AtPort) (size frame : ℕ) (old : List Call) (a : Numbers) (started : List Call)
+      (r : Running) (made calls : List Call) (j k : Halves) (life : IsLife q size frame old a started r made j)
+      → IsAlong w fifo h → BeginsWell w fifo h q size frame old a started r life.up
       → Leads started (halves_of r) calls k → calls_of w.pass before ≡ calls
-      → IsLived w fifo before q size old a started r k
-  lived_before q size old a started r made calls j k life along begins goes is = record {
+      → IsLived w fifo before q size frame old a started r k
+  lived_before q size frame old a started r made calls j k life along begins goes is = record {
     along = along_before along;
     life = record {
       sized = life.sized;
       up = life.up;
       since = subst (λ (cs : List Call). Leads started (halves_of r) cs k) (sym is) goes;
     };
-    begins = begins_before q size old a started r life.up begins;
+    begins = begins_before q size frame old a started r life.up begins;
   }
 
 -- a call is answered by the device
@@ -98,9 +98,9 @@ ends_with pass h old more calls c is at =
     same_from_push (calls_of pass at.before) (old ++ more) (call_in at.entry) c
     (at.made ∙ is ∙ sym (append_assoc old more (c ∷ [])))
 
-module _ (w : Watched) (fifo : ℕ) (h : List Entry) (q : AtPort) (size : ℕ) (old : List Call) (a : Numbers)
+module _ (w : Watched) (fifo : ℕ) (h : List Entry) (q : AtPort) (size frame : ℕ) (old : List Call) (a : Numbers)
     (started : List Call) (r : Running) (made : List Call) (k : Halves) (new : List Call) (v : Receive)
-    (x : LooksInVain w fifo h q size old a started r made k new v) where
+    (x : LooksInVain w fifo h q size frame old a started r made k new v) where
   abbrev looking : Call
   looking = call_of (event.Peek16 (descriptor_at k.receive.layout 0)) (reply.Bytes x.looks.1)
 
@@ -123,8 +123,8 @@ module _ (w : Watched) (fifo : ℕ) (h : List Entry) (q : AtPort) (size : ℕ) (
 
   all_before : k.receive.handed ≡ delivered w.queue (new_state w.vfs fifo) x.look.before
   all_before =
-      none_of_life w fifo x.look.before q size old a started r k
-      (lived_before w fifo h x.look.before (x.look.entry ∷ x.look.behind) x.look.all q size old a started r made
+      none_of_life w fifo x.look.before q size frame old a started r k
+      (lived_before w fifo h x.look.before (x.look.entry ∷ x.look.behind) x.look.all q size frame old a started r made
       (made ++ x.looks.0) k k x.life x.along x.begins goes_on ends.0) finds
 
 pub none_before_look : NoneIsAllBefore

@@ -34,18 +34,18 @@ use Rattle.pmd_laws.proofs.PassLends.{others_behind}
 use Rattle.pmd_laws.proofs.RiseCalls.{Rises, on_rises}
 use Rattle.pmd_laws.proofs.SickCall.{made, made_is, others_step, own_all}
 
-module _ (w : Watched) (fifo : ℕ) (h : List Entry) (q : AtPort) (size : ℕ) (old : List Call) (a : Numbers)
-    (on : List Call) (v : Receive) (t : Sender) (up : AreOn q size old a on v t) (along : IsAlong w fifo h)
+module _ (w : Watched) (fifo : ℕ) (h : List Entry) (q : AtPort) (size frame : ℕ) (old : List Call) (a : Numbers)
+    (on : List Call) (v : Receive) (t : Sender) (up : AreOn q size frame old a on v t) (along : IsAlong w fifo h)
     (sized : is_size size ≡ true) (well : BeforeLast w fifo h up.receive.quiet.0 (HasGround w.queue q)) (own : Blocks)
     (fresh : BeforeLast w fifo h up.receive.quiet.0 (IsFresh w.queue own)) (others : OnlyPassLends w.pass own h)
   where
     abbrev first : Halves
-    first = first_halves q size old a on v t up
+    first = first_halves q size frame old a on v t up
 
     rises : Rises q (lent_by first) up.receive.quiet.0 on
     rises =
-        on_rises q (lent_by first) size old a on v t up (receive_lent q size old a on v t up)
-        (transmit_lent q size old a on v t up)
+        on_rises q (lent_by first) size old a on v t up (receive_lent q size frame old a on v t up)
+        (transmit_lent q size frame old a on v t up)
 
     -- the history in three parts: the sides went on, the halves were led on, and then came that call
     module _ (front rest more : List Entry) (all : front ++ (rest ++ more) ≡ h) (fronts : calls_of w.pass front ≡ on)
@@ -85,18 +85,18 @@ module _ (w : Watched) (fifo : ℕ) (h : List Entry) (q : AtPort) (size : ℕ) (
 
       unshared : IsUnshared w fifo front (rest ++ more) first (doers ++ ends) own
       unshared =
-          let short = short_at w fifo h q size old a on v t up along well own (lent_by first) fresh rises front
+          let short = short_at w fifo h q size frame old a on v t up along well own (lent_by first) fresh rises front
           (rest ++ more) all fronts in
           record {
             driven =
-                driven_by w fifo h q size old a on v t up along sized well (calls_of w.pass (rest ++ more)) p
+                driven_by w fifo h q size frame old a on v t up along sized well (calls_of w.pass (rest ++ more)) p
                 (doers ++ ends) own_both others_both;
             short = record {
               limit = subst (λ (n : ℕ). n ≤ 2048) (sym short.0.limit) (omega arith);
               waiting = short.1;
             };
             known =
-                known_at w fifo h q size old a on v t up along well own (lent_by first) fresh rises others front
+                known_at w fifo h q size frame old a on v t up along well own (lent_by first) fresh rises others front
                 (rest ++ more) all fronts;
             others =
                 others_behind w.pass own front (rest ++ more) (subst (OnlyPassLends w.pass own) (sym all) others);

@@ -35,8 +35,8 @@ use Rattle.pmd_laws.specs.Faultless.{IsFresh}
 use Rattle.pmd_laws.proofs.LentSince.{lent_at}
 use Rattle.pmd_laws.proofs.RiseCalls.{Rises, rising_are_plain}
 
-module _ (w : Watched) (fifo : ℕ) (h : List Entry) (q : AtPort) (size : ℕ) (old : List Call) (a : Numbers)
-    (new : List Call) (v : Receive) (t : Sender) (up : AreOn q size old a new v t) (along : IsAlong w fifo h)
+module _ (w : Watched) (fifo : ℕ) (h : List Entry) (q : AtPort) (size frame : ℕ) (old : List Call) (a : Numbers)
+    (new : List Call) (v : Receive) (t : Sender) (up : AreOn q size frame old a new v t) (along : IsAlong w fifo h)
     (well : BeforeLast w fifo h up.receive.quiet.0 (HasGround w.queue q)) (own lent : Blocks)
     (fresh : BeforeLast w fifo h up.receive.quiet.0 (IsFresh w.queue own))
     (rises : Rises q lent up.receive.quiet.0 new)

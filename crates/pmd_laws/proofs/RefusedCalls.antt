@@ -64,13 +64,13 @@ left_lays : (q : AtPort) (l : Laid) (a : Numbers) (out : List ℕ) (r : Rest) (o
 left_lays q l a [] r old new left is down = home_lays q l a r old new left is down
 left_lays q l a (n ∷ ns) r old new left is down = half_lays q l _ r old new left is down
 
-stopping_lays : (q : AtPort) (size : ℕ) (old : List Call) (a : Numbers) (made : List Call) (e : StartRefused)
-    (new : List Call) (left : Rest) (l : Laid) → StopsStarting q size old a made e → ComesDown made e.rest new left
+stopping_lays : (q : AtPort) (size frame : ℕ) (old : List Call) (a : Numbers) (made : List Call) (e : StartRefused)
+    (new : List Call) (left : Rest) (l : Laid) → StopsStarting q size frame old a made e → ComesDown made e.rest new left
     → LaysBetween q l made new l
-stopping_lays q size old a made e new left l (inl x) down =
+stopping_lays q size frame old a made e new left l (inl x) down =
     left_lays q l x.arena x.out e.rest made new left x.left down
-stopping_lays q size old a made e new left l (inr (inl x)) down = half_lays q l _ e.rest made new left x.left down
-stopping_lays q size old a made e new left l (inr (inr x)) down = half_lays q l _ e.rest made new left x.left down
+stopping_lays q size frame old a made e new left l (inr (inl x)) down = half_lays q l _ e.rest made new left x.left down
+stopping_lays q size frame old a made e new left l (inr (inr x)) down = half_lays q l _ e.rest made new left x.left down
 
 -- a start that isn't refused before any event has a size
 
@@ -78,12 +78,12 @@ is_passed : (b : Bool) (more : Option PmdFault) (f : PmdFault) → cond b more (
 is_passed true more f none = refl
 is_passed false more f none = cc
 
-gate_sized : (a : Numbers) (q : AtPort) (size : ℕ) → start_gate a q size ≡ None → is_size size ≡ true
-gate_sized a q size none = is_passed (is_size size) _ BadSize none
+gate_sized : (a : Numbers) (q : AtPort) (size frame : ℕ) → start_gate a q size frame ≡ None → is_size size ≡ true
+gate_sized a q size frame none = is_passed (is_size size) _ BadSize none
 
-module _ (q : AtPort) (size : ℕ) (old : List Call) (a : Numbers) (e : StartRefused) (new : List Call) (left : Rest)
-    (x : NeverLived q size old a e new left) where
-  shut_lays : (f : PmdFault) → start_gate a q size ≡ Some f → LaysSome q Off old new
+module _ (q : AtPort) (size frame : ℕ) (old : List Call) (a : Numbers) (e : StartRefused) (new : List Call) (left : Rest)
+    (x : NeverLived q size frame old a e new left) where
+  shut_lays : (f : PmdFault) → start_gate a q size frame ≡ Some f → LaysSome q Off old new
   shut_lays f is =
       let (why, home, none) = subst (λ (g : Option PmdFault). IsShut g a old x.made (Err e)) is x.shut in (
         Off,
@@ -91,15 +91,15 @@ module _ (q : AtPort) (size : ℕ) (old : List Call) (a : Numbers) (e : StartRef
             (home_lays q Off a e.rest x.made new left home x.down),
       )
 
-  amid_lays : start_gate a q size ≡ None → LaysSome q Off old new
+  amid_lays : start_gate a q size frame ≡ None → LaysSome q Off old new
   amid_lays is =
       let stops = x.stops is in
-      let (l, so_far) = starting_lays q size (gate_sized a q size is) old a x.made e stops in
-      (l, then_between q Off l l old x.made new so_far (stopping_lays q size old a x.made e new left l stops x.down))
+      let (l, so_far) = starting_lays q size frame (gate_sized a q size frame is) old a x.made e stops in
+      (l, then_between q Off l l old x.made new so_far (stopping_lays q size frame old a x.made e new left l stops x.down))
 
-  by_gate : (g : Option PmdFault) → start_gate a q size ≡ g → LaysSome q Off old new
+  by_gate : (g : Option PmdFault) → start_gate a q size frame ≡ g → LaysSome q Off old new
   by_gate None is = amid_lays is
   by_gate (Some f) is = shut_lays f is
 
   pub never_lays : LaysSome q Off old new
-  never_lays = by_gate (start_gate a q size) refl
+  never_lays = by_gate (start_gate a q size frame) refl

@@ -89,14 +89,14 @@ module _ (q : AtPort) (lent : Blocks) where
   quieted_rises old new made = all_rise off made.0 new off_driven made.2
 
   pub ready_rises : (size : ℕ) (old : List Call) (a : Numbers) (new : List Call) (b : Numbers) (v : Receive)
-      → (x : IsReceiveReady q size old a new b v) → EachRingBlock x.ring size (λ n. IsTrue (lent n))
+      → (x : IsReceiveReady q size frame old a new b v) → EachRingBlock x.ring size (λ n. IsTrue (lent n))
       → Rises x.quiet.0 new
   ready_rises size old a new b v x own =
       then_made IsRising x.quiet.0 x.mid new (quieted_rises old x.mid x.quiet)
       (prepared_rises Rx size x.mid a new b x.ring own x.prepared)
 
   pub on_rises : (size : ℕ) (old : List Call) (a : Numbers) (new : List Call) (v : Receive) (t : Sender)
-      → (up : AreOn q size old a new v t) → EachRingBlock up.receive.ring size (λ n. IsTrue (lent n))
+      → (up : AreOn q size frame old a new v t) → EachRingBlock up.receive.ring size (λ n. IsTrue (lent n))
       → EachRingBlock up.transmit.ring size (λ n. IsTrue (lent n)) → Rises up.receive.quiet.0 new
   on_rises size old a new v t up one two =
       let first : ℕ = up.switched.0 in

@@ -96,8 +96,8 @@ module _ (q : AtPort) (lent : Blocks) (first : List Call) where
       (all_rise q lent (ring_words side ring size) old mid driven made))
       (lends_rise q lent out mid stops.mid each stops.lent)) lends
 
-module _ (w : Watched) (fifo : ℕ) (h : List Entry) (q : AtPort) (size : ℕ) (old : List Call) (a : Numbers)
-    (new : List Call) (x : BeginsApart w fifo h q size old a new) where
+module _ (w : Watched) (fifo : ℕ) (h : List Entry) (q : AtPort) (size frame : ℕ) (old : List Call) (a : Numbers)
+    (new : List Call) (x : BeginsApart w fifo h q size frame old a new) where
   abbrev AtFirst : State → Type 0
   AtFirst = IsQuietAndFresh w.queue q (is_own a)
 
@@ -145,7 +145,7 @@ module _ (w : Watched) (fifo : ℕ) (h : List Entry) (q : AtPort) (size : ℕ) (
       number (is_own-of_free a number (free_before a out b drawn number free))
       (λ is. both_ways (lent number) (times_among out number (drawn_gone a out b number drawn free)) is)
 
-  pub none_early : (early : FaultsEarly q size old a new) → LendsFresh w fifo h q size old a new early
+  pub none_early : (early : FaultsEarly q size frame old a new) → LendsFresh w fifo h q size frame old a new early
   none_early (inl y) = none_before y.arena y.out y.fails
   none_early (inr (inl y)) = λ number free.
       let ring = y.receive.ring in

@@ -50,25 +50,25 @@ more_lent pass g h k x = record {
 }
 
 -- at the end of a life
-module _ (w : Watched) (fifo : ℕ) (h rest : List Entry) (q : AtPort) (size : ℕ) (old : List Call) (a : Numbers)
-    (started : List Call) (r : Running) (k : Halves) (x : IsLived w fifo h q size old a started r k) where
-  keeps_by : Parts w.pass h (up w fifo h q size old a started r k x).on.mid
-      (whole w fifo h q size old a started r k x).1 → Keeps w fifo q (lent_by w.pass (h ++ rest)) k h
+module _ (w : Watched) (fifo : ℕ) (h rest : List Entry) (q : AtPort) (size frame : ℕ) (old : List Call) (a : Numbers)
+    (started : List Call) (r : Running) (k : Halves) (x : IsLived w fifo h q size frame old a started r k) where
+  keeps_by : Parts w.pass h (up w fifo h q size frame old a started r k x).on.mid
+      (whole w fifo h q size frame old a started r k x).1 → Keeps w fifo q (lent_by w.pass (h ++ rest)) k h
   keeps_by p =
       let new : State = new_state w.vfs fifo in
-      let d = driven w fifo h q size old a started r k x p in
-      let l = led w fifo p.front p.back (first w fifo h q size old a started r k x)
-      (whole w fifo h q size old a started r k x).0 d in
-      let is = last w fifo h q size old a started r k x p in
+      let d = driven w fifo h q size frame old a started r k x p in
+      let l = led w fifo p.front p.back (first w fifo h q size frame old a started r k x)
+      (whole w fifo h q size frame old a started r k x).0 d in
+      let is = last w fifo h q size frame old a started r k x p in
       let at = sym (leads-append new p.front p.back) ∙ ap (leads_to new) p.both in
       let out : List Piece = pieces_in w.queue (leads_to new p.front) p.back in
       record {
-        ground = ground_lived w fifo h q size old a started r k x;
+        ground = ground_lived w fifo h q size frame old a started r k x;
         out = out;
         both =
             subst (λ (s : State). BothAgree w.queue s out (sent_since w.queue new [] h) k) at
             (subst (λ (xs : List (List ℕ)). BothAgree w.queue (leads_to (leads_to new p.front) p.back) out xs k)
-            (sym (counted w fifo h q size old a started r k x p))
+            (sym (counted w fifo h q size frame old a started r k x p))
             (subst (λ (z : Halves). BothAgree w.queue (leads_to (leads_to new p.front) p.back) out
             (sent_in w.queue (leads_to new p.front) p.back) z) is l.both));
         lent =
@@ -76,15 +76,15 @@ module _ (w : Watched) (fifo : ℕ) (h rest : List Entry) (q : AtPort) (size : �
             (subst (λ (g : List Entry). AreLent (lent_by w.pass g) k) p.both
             (subst (AreLent (lent_by w.pass (p.front ++ p.back))) is l.lent));
         settled =
-            inl (subst (IsUp w.queue) at (l.sends (went_on w fifo h q size old a started r k x p).sends)).on;
+            inl (subst (IsUp w.queue) at (l.sends (went_on w fifo h q size frame old a started r k x p).sends)).on;
       }
 
   pub keeps_lived : Keeps w fifo q (lent_by w.pass (h ++ rest)) k h
-  keeps_lived = keeps_by (in_parts w fifo h q size old a started r k x)
+  keeps_lived = keeps_by (in_parts w fifo h q size frame old a started r k x)
 
-module _ (w : Watched) (fifo : ℕ) (h : List Entry) (q : AtPort) (size : ℕ) (old : List Call) (a : Numbers)
+module _ (w : Watched) (fifo : ℕ) (h : List Entry) (q : AtPort) (size frame : ℕ) (old : List Call) (a : Numbers)
     (started : List Call) (r : Running) (made : List Call) (k : Halves) (new : List Call)
-    (x : IsStopping w fifo h q size old a started r made k new) where
+    (x : IsStopping w fifo h q size frame old a started r made k new) where
   abbrev Here : List Entry → Type 0
   Here done = Keeps w fifo q (lent_by w.pass h) k done
 
@@ -92,13 +92,13 @@ module _ (w : Watched) (fifo : ℕ) (h : List Entry) (q : AtPort) (size : ℕ) (
   sent done = sent_since w.queue (new_state w.vfs fifo) [] done
 
   made_some : made ≢ []
-  made_some = life_some w fifo h q size old a started r made k x.along x.life x.begins
+  made_some = life_some w fifo h q size frame old a started r made k x.along x.life x.begins
 
   lived_at : AtEntries w h made Here
   lived_at done rest all calls =
       subst (λ (g : List Entry). Keeps w fifo q (lent_by w.pass g) k done) all
-      (keeps_lived w fifo done rest q size old a started r k
-      (lived_before w fifo h done rest all q size old a started r made made k k x.life x.along x.begins x.life.since
+      (keeps_lived w fifo done rest q size frame old a started r k
+      (lived_before w fifo h done rest all q size frame old a started r made made k k x.life x.along x.begins x.life.since
       calls))
 
   over_asks : (now : List Call) → Asks q made now → AtEntries w h now Here
@@ -139,5 +139,5 @@ module _ (w : Watched) (fifo : ℕ) (h : List Entry) (q : AtPort) (size : ℕ) (
   over_stop (inr off) = once_off off
 
 pub sent_over_stop : SentIsPrefix
-sent_over_stop w fifo h q size old a started r made k new x takes =
-    over_stop w fifo h q size old a started r made k new x takes
+sent_over_stop w fifo h q size frame old a started r made k new x takes =
+    over_stop w fifo h q size frame old a started r made k new x takes

@@ -28,8 +28,8 @@ use Rattle.pmd_laws.proofs.Order.{handed_of_life, idle_of_life, sent_of_life}
 use Rattle.pmd_laws.proofs.RunsOn.{RunsOn, all_follow, open_size, up_next}
 
 -- so it is a life
-module _ (q : AtPort) (size : ℕ) (old : List Call) (a : Numbers) (m : Moment) (later : List Moment)
-    (x : IsTold q size old a m later) where
+module _ (q : AtPort) (size frame : ℕ) (old : List Call) (a : Numbers) (m : Moment) (later : List Moment)
+    (x : IsTold q size frame old a m later) where
   abbrev pub first : Running
   first = x.started.0
 
@@ -43,29 +43,29 @@ module _ (q : AtPort) (size : ℕ) (old : List Call) (a : Numbers) (m : Moment) 
   led = runs.leads.apart.leads
 
   abbrev pub life : (calls : List Call) → Leads m.made (halves_of first) calls now
-      → IsLife q size old a m.made first calls now
+      → IsLife q size frame old a m.made first calls now
   life calls since = record {
     sized = open_size size a old m.made m.driver (is_size size) _ x.shut;
     up = x.started.2;
     since = since;
   }
 
-module _ (w : Watched) (fifo : ℕ) (h : List Entry) (q : AtPort) (size : ℕ) (old : List Call) (a : Numbers)
+module _ (w : Watched) (fifo : ℕ) (h : List Entry) (q : AtPort) (size frame : ℕ) (old : List Call) (a : Numbers)
     (m : Moment) (later : List Moment) where
-  module _ (x : IsToldOf w fifo h q size old a m later) where
+  module _ (x : IsToldOf w fifo h q size frame old a m later) where
     abbrev k : Halves
-    k = now q size old a m later x.told
+    k = now q size frame old a m later x.told
 
-    abbrev up : (last m later).driver.rings ≡ Up (runs q size old a m later x.told).rings
-    up = (runs q size old a m later x.told).up
+    abbrev up : (last m later).driver.rings ≡ Up (runs q size frame old a m later x.told).rings
+    up = (runs q size frame old a m later x.told).up
 
-    lived : IsLived w fifo h q size old a m.made x.told.started.0 k
+    lived : IsLived w fifo h q size frame old a m.made x.told.started.0 k
     lived =
-        let goes = led q size old a m later x.told in
+        let goes = led q size frame old a m later x.told in
         record {
           along = x.along;
           life =
-              life q size old a m later x.told (calls_of w.pass h)
+              life q size frame old a m later x.told (calls_of w.pass h)
               (subst (λ (calls : List Call). Leads m.made (halves_of x.told.started.0) calls k) (sym x.made) goes);
           begins = x.begins;
         }
@@ -73,7 +73,7 @@ module _ (w : Watched) (fifo : ℕ) (h : List Entry) (q : AtPort) (size : ℕ) (
     handed : receive.IsPrefixOf (handed_of (last m later).driver.rings) (delivered w.queue (new_state w.vfs fifo) h)
     handed =
         subst (λ (z : Rings). receive.IsPrefixOf (handed_of z) (delivered w.queue (new_state w.vfs fifo) h)) (sym up)
-        (handed_of_life w fifo h q size old a m.made x.told.started.0 k lived)
+        (handed_of_life w fifo h q size frame old a m.made x.told.started.0 k lived)
 
     sends : transmit.IsPrefixOf (sent_since w.queue (new_state w.vfs fifo) [] h)
         (bytes_of (accepted_of (last m later).driver.rings))
@@ -81,25 +81,25 @@ module _ (w : Watched) (fifo : ℕ) (h : List Entry) (q : AtPort) (size : ℕ) (
         subst
         (λ (z : Rings).
         transmit.IsPrefixOf (sent_since w.queue (new_state w.vfs fifo) [] h) (bytes_of (accepted_of z)))
-        (sym up) (sent_of_life w fifo h q size old a m.made x.told.started.0 k lived)
+        (sym up) (sent_of_life w fifo h q size frame old a m.made x.told.started.0 k lived)
 
     idle : HasNoneOut (last m later).driver.rings
         → bytes_of (accepted_of (last m later).driver.rings) ≡ sent_since w.queue (new_state w.vfs fifo) [] h
     idle none =
         ap (λ (z : Rings). bytes_of (accepted_of z)) up
-        ∙ idle_of_life w fifo h q size old a m.made x.told.started.0 k lived (subst HasNoneOut up none)
+        ∙ idle_of_life w fifo h q size frame old a m.made x.told.started.0 k lived (subst HasNoneOut up none)
 
-  module _ (n : Moment) (x : IsToldToLook w fifo h q size old a m later n) where
+  module _ (n : Moment) (x : IsToldToLook w fifo h q size frame old a m later n) where
     looked : handed_of (last m later).driver.rings ≡ delivered w.queue (new_state w.vfs fifo) x.look.before
     looked =
-        let runs = runs q size old a m later x.told in
+        let runs = runs q size frame old a m later x.told in
         let (s, after, looks) = up_next _ (last m later).driver.rings n.driver.rings runs.rings runs.up x.looks in
         ap handed_of runs.up
-        ∙ none_before_look w fifo h q size old a m.made x.told.started.0 (last m later).made (halves_of runs.rings)
+        ∙ none_before_look w fifo h q size frame old a m.made x.told.started.0 (last m later).made (halves_of runs.rings)
         n.made s.receive
         (record {
           along = x.along;
-          life = life q size old a m later x.told (last m later).made (led q size old a m later x.told);
+          life = life q size frame old a m later x.told (last m later).made (led q size frame old a m later x.told);
           begins = x.begins;
           looks = looks;
           look = x.look;

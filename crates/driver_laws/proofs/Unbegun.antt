@@ -1,5 +1,5 @@
 -- Since a receive side last went on nothing is written of a frame that waits for its queue, where no piece was.
-use Rattle.std.proofs.Common.{◌≡◌, ℕ, ◌+◌, inl, inr, Bool, true, false, not, List, [], ◌∷◌, ◌++◌, length, cond, refl, sym, ap, ◌∙◌, subst, arith, nat_lt, Ok, Err, Option, Some, None}
+use Rattle.std.proofs.Common.{◌≡◌, ℕ, ◌+◌, inl, inr, Bool, true, false, not, List, [], ◌∷◌, ◌++◌, length, cond, refl, ap, ◌∙◌, subst, arith, nat_lt, Ok, Err, Option, Some, None}
 use Rattle.std.specs.Prelude.{◌==◌, Result, All, filter, option_map}
 use Rattle.std.proofs.lemmas.Bool.{cond_both, cases_Bool, and_parts, both_ways}
 use Rattle.std.proofs.lemmas.List.{length-append, nil_from_length}
@@ -32,7 +32,7 @@ use Rattle.nic_device.specs.declared.event.Port.{Port}
 use Rattle.nic_device.specs.declared.named.Named.{Named}
 use Rattle.nic_device.specs.declared.named.Named.TheVariants.{Nothing, Register}
 use Rattle.nic_device.proofs.Cases.{either_way, switched_cases}
-use Rattle.nic_device.proofs.QueueCases.{filled_by, received_cases}
+use Rattle.nic_device.proofs.QueueCases.{received_cases}
 use Rattle.nic_device.proofs.Steps.{keeps_sound}
 use Rattle.device_lock.specs.History.{AreEvents, leads_to}
 use Rattle.device_lock.specs.declared.entry.Entry.{Entry}
@@ -91,12 +91,12 @@ module _ (queue : ℕ) (s : State) (sound : IsSound s) (none : begun_on queue s.
   received : pieces queue s event.RxStep ≡ [] → Unwritten (step_of s event.RxStep)
   unfolding step_of
   received = received_cases (λ o. pieces_told queue s.waiting o.reply ≡ [] → Unwritten o) s (record {
-    idle = λ no. none;
-    dropped = λ w others e why no. others_none w others e;
-    slotless = λ w others e no. others_none w others e;
-    fault = λ w others e fault no. others_none w others e;
-    filled = λ w others e f is no. elim (cases_Bool (w.queue == queue)) [
-      | inl own ↦ absurd (let none : _ ∷ [] ≡ [] = rw own at no in cc)
+    idle = λ empty. none;
+    dropped = λ w others e why empty. others_none w others e;
+    slotless = λ w others e empty. others_none w others e;
+    fault = λ w others e fault empty. others_none w others e;
+    filled = λ w others e f is empty. elim (cases_Bool (w.queue == queue)) [
+      | inl own ↦ absurd (let one = rw own at empty in cc)
       | inr other ↦ other_piece w others e f other
     ];
   })
@@ -142,14 +142,14 @@ module _ (queue : ℕ) (s : State) (sound : IsSound s) (none : begun_on queue s.
   same e is = ap (λ (ws : List Waiting). begun_on queue ws) is ∙ none
 
   stays : (e : Event Block) → pieces queue s e ≡ [] → Unwritten (step_of s e)
-  stays event.RxStep no = received no
-  stays (event.Read port n) no = same (event.Read port n) (read_rest s port n).frames.waiting
-  stays (event.Write port n word) no = written_here port n word
-  stays (event.Arrive frame) no = arrived frame
-  stays (event.QueueStep Rx on) no = switched on
-  stays (event.QueueStep Tx on) no =
+  stays event.RxStep empty = received empty
+  stays (event.Read port n) empty = same (event.Read port n) (read_rest s port n).frames.waiting
+  stays (event.Write port n word) empty = written_here port n word
+  stays (event.Arrive frame) empty = arrived frame
+  stays (event.QueueStep Rx on) empty = switched on
+  stays (event.QueueStep Tx on) empty =
       same (event.QueueStep Tx on) ((stays_within s (event.QueueStep Tx on)).waiting refl)
-  stays e no = same e ((stays_within s e).waiting refl)
+  stays e empty = same e ((stays_within s e).waiting refl)
 
 -- while the side is off no piece is written
 
@@ -173,8 +173,8 @@ abbrev Unbegun : ℕ → State → Option (List Piece) → Type 0
 Unbegun queue s so_far = so_far ≡ Some [] → begun_on queue s.waiting ≡ 0
 
 none_more : (qs ps : List Piece) → qs ++ ps ≡ [] → (qs ≡ []) × (ps ≡ [])
-none_more qs ps no =
-    let long = ap (λ (xs : List Piece). length xs) no in
+none_more qs ps empty =
+    let long = ap (λ (xs : List Piece). length xs) empty in
     let both = length-append qs ps in
     (nil_from_length qs (omega (arith, long, both)), nil_from_length ps (omega (arith, long, both)))
 
@@ -188,8 +188,8 @@ module _ (queue : ℕ) (s : State) (e : Event Block) (sound : IsSound s) where
       → Unbegun queue (after s e) (option_map (λ (qs : List Piece). qs ++ pieces queue s e) so_far)
   stayed None before is = cc
   stayed (Some qs) before is =
-      let no : qs ++ pieces queue s e ≡ [] = cc in
-      let both = none_more qs (pieces queue s e) no in
+      let empty : qs ++ pieces queue s e ≡ [] = cc in
+      let both = none_more qs (pieces queue s e) empty in
       stays queue s sound (before (ap (λ (xs : List Piece). Some xs) both.0)) e both.1
 
   one_on : (so_far : Option (List Piece)) → Unbegun queue s so_far
@@ -197,7 +197,7 @@ module _ (queue : ℕ) (s : State) (e : Event Block) (sound : IsSound s) where
   one_on so_far before =
       cond_both (goes_on queue s (after s e)) (Some [])
       (option_map (λ (qs : List Piece). qs ++ pieces queue s e) so_far) (Unbegun queue (after s e))
-      (λ goes is. went_on goes) (λ no. stayed so_far before)
+      (λ goes is. went_on goes) (λ empty. stayed so_far before)
 
 unbegun_on : (queue : ℕ) (s : State) (so_far : Option (List Piece)) (es : List Entry) → IsSound s → AreEvents es
     → Unbegun queue s so_far → pieces_since queue s so_far es ≡ Some [] → begun_on queue (leads_to s es).waiting ≡ 0

@@ -10,6 +10,7 @@ use Rattle.device_lock.specs.declared.entry.Call.{Call}
 use Rattle.device_lock.specs.declared.entry.Entry.{Entry}
 use Rattle.pmd.specs.Halves.{AllOwn, Doer, Halves}
 use Rattle.pmd.specs.Started.{is_size}
+use Rattle.pmd.specs.PmdSeam.Frames.{is_frame}
 use Rattle.pmd.specs.PmdSeam.Named.{AtPort}
 use Rattle.pmd.specs.PmdSeam.Slots.{EachRingBlock}
 use Rattle.pmd.specs.PmdRx.Receive.{Receive}
@@ -31,8 +32,8 @@ use Rattle.pmd_laws.proofs.FirstHalves.{first_halves, halves_apart, halves_lent}
 
 module _ (w : Watched) (fifo : ℕ) (h : List Entry) (q : AtPort) (size frame : ℕ) (old : List Call) (a : Numbers)
     (on : List Call) (v : Receive) (t : Sender) (up : AreOn q size frame old a on v t) (along : IsAlong w fifo h)
-    (sized : is_size size ≡ true) (well : BeforeLast w fifo h up.receive.quiet.0 (HasGround w.queue q))
-    (ys : List Call) (p : Parts w.pass h on ys) where
+    (sized : is_size size ≡ true) (framed : is_frame frame ≡ true)
+    (well : BeforeLast w fifo h up.receive.quiet.0 (HasGround w.queue q frame)) (ys : List Call) (p : Parts w.pass h on ys) where
   abbrev new : State
   new = new_state w.vfs fifo
 
@@ -41,7 +42,7 @@ module _ (w : Watched) (fifo : ℕ) (h : List Entry) (q : AtPort) (size frame : 
 
   agrees : Agree w.queue (leads_to new p.front) [] v × Agrees (leads_to new p.front) w.queue [] t
   agrees =
-      switched_sides_agree w fifo h q size frame old a on v t up along sized well p.front p.back p.both p.fronts
+      switched_sides_agree w fifo h q size frame old a on v t up along sized framed well p.front p.back p.both p.fronts
 
   pub went_on : WentOn w.queue new p.front
   went_on =

@@ -20,7 +20,7 @@ use Rattle.pmd_laws.specs.Faultless as faultless
 use Rattle.pmd_laws.specs.Faultless.{IsFresh, IsToldApart, NoCallFindsFault}
 use Rattle.pmd_laws.specs.Told.{Moment, last}
 use Rattle.pmd_laws.proofs.LedApart.{led, owns_still}
-use Rattle.pmd_laws.proofs.Looks.{along_before, begins_before}
+use Rattle.pmd_laws.proofs.Lived.{along_before, begins_before}
 use Rattle.pmd_laws.proofs.NoFault.{no_fault_led_on}
 use Rattle.pmd_laws.proofs.PassLends.{others_before}
 use Rattle.pmd_laws.proofs.RunsOn.{RunsOn, open_size, up_next}
@@ -70,11 +70,12 @@ module _ (w : Watched) (fifo : ℕ) (h : List Entry) (q : AtPort) (size frame : 
   refuted : Parts w.pass h n.made x.more → ⊥
   refuted p =
       let along = along_before w fifo h p.front p.back p.both x.along in
-      let sized = open_size size a old m.made m.driver (is_size size) _ x.told.shut in
+      let (sized, framed) = open_size a q size frame old m.made m.driver x.told.shut in
       let well = begins_before w fifo h p.front p.back p.both q size frame old a m.made fresh x.told.started.2 x.begins in
       no_fault_led_on w fifo p.front q size frame old a x.told.started.2.on.mid x.told.started.2.empty fresh.transmit
-      (on w fifo p.front q size frame old a m.made fresh x.told.started.2 along sized well) along sized well.ground (is_own a)
-      (last_before w fifo h p.front p.back x.told.started.2.receive.quiet.0 (IsFresh w.queue (is_own a)) p.both x.fresh)
+      (on w fifo p.front q size frame old a m.made fresh x.told.started.2 along sized well) along sized framed
+      well.ground (is_own a)
+      (last_before w fifo h p.front p.back x.told.started.2.receive.quiet.0 (IsFresh w.queue frame (is_own a)) p.both x.fresh)
       (others_before w.pass (is_own a) p.front p.back (subst (OnlyPassLends w.pass (is_own a)) (sym p.both) x.others))
       (last m later).made there (led q size frame old a m later x.told)
       (subst (FindsFault (is_own a) (last m later).made there) (sym p.fronts) found)

@@ -4,6 +4,7 @@ use Rattle.nic_device.specs.DmaArena.Numbers.{Numbers}
 use Rattle.nic_device.specs.DmaRing.declared.dir.Dir.TheVariants.{Tx}
 use Rattle.device_lock.specs.declared.entry.Call.{Call}
 use Rattle.pmd.specs.PmdSeam.declared.fault.PmdFault.{PmdFault}
+use Rattle.pmd.specs.PmdSeam.Frames.{most_blocks}
 use Rattle.pmd.specs.PmdSeam.Named.{AtPort}
 use Rattle.pmd.specs.PmdSeam.Slots.{ring_blocks}
 use Rattle.pmd.specs.PmdRx.Receive.{Receive}
@@ -68,8 +69,8 @@ module _ (q : AtPort) (size frame : ℕ) (is : is_size size ≡ true) where
             (transmit_prepared x.ready_made x.ready_arena x.both_made x.both_arena x.transmit.ring
             x.transmit.prepared)
             (stays_between q Empty x.both_made new
-            (going_on_fails q e.fault x.both_made x.both_arena x.receive.tail ring size new x.arena x.filled
-            x.receive.named fails))),
+            (going_on_fails q e.fault x.both_made x.both_arena x.receive.tail ring size (most_blocks frame) new x.arena
+            x.filled x.receive.named fails))),
       )
 
   pub starting_lays : (old : List Call) (a : Numbers) (new : List Call) (e : StartRefused)

@@ -13,6 +13,7 @@ use Rattle.pmd.specs.Started.{AreUp}
 use Rattle.pmd.specs.Starting.{IsReceiveReady, IsTransmitReady}
 use Rattle.pmd.proofs.Apart.{apart_on, receiving_apart}
 use Rattle.pmd.proofs.Whole.{all_drawn, all_exchanged}
+use Rattle.pmd.specs.PmdSeam.Frames.{packet_limit}
 use Rattle.pmd.specs.PmdSeam.Named.{AtPort}
 use Rattle.pmd.specs.PmdSeam.Slots.{is_ring_block, ring_blocks}
 use Rattle.pmd.specs.PmdRx.Receive.{Receive}
@@ -45,7 +46,7 @@ module _ (q : AtPort) (size frame : ℕ) (old : List Call) (a : Numbers) (ready_
       (λ has.
       both_ways (is_ring_block transmit.ring size n)
       (ring_gone ready_arena transmit.ring size both_arena n transmit.prepared.drawn free)
-      (lent_at_start q.port transmit.tail transmit.ring size n
+      (lent_at_start q.port transmit.tail transmit.ring size (packet_limit frame) n
       (subst (λ (v : Sender). has_lent v n ≡ true) transmit.fresh has)))
 
   pub may : (n : ℕ) → is_free both_arena n ≡ true

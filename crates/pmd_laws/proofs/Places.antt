@@ -15,6 +15,7 @@ use Rattle.pmd.specs.Halves.{Doer, Halves, halves_of, played_by}
 use Rattle.pmd.specs.Running.{Running}
 use Rattle.pmd.specs.Started.{AreUp, is_size}
 use Rattle.pmd.specs.declared.driver.Rings.{Rings}
+use Rattle.pmd.specs.PmdSeam.Frames.{is_frame}
 use Rattle.pmd.specs.PmdSeam.Named.{AtPort}
 use Rattle.start_laws.proofs.ReceiveLaws.Delivering.{leads-append}
 use Rattle.start_laws.specs.On.{AreOn}
@@ -52,11 +53,11 @@ module _ (w : Watched) (fifo : ℕ) (h : List Entry) (q : AtPort) (size frame : 
   abbrev up : AreUp q size frame old a m.made fresh
   up = x.told.started.2
 
-  sized : is_size size ≡ true
-  sized = open_size size a old m.made m.driver (is_size size) _ x.told.shut
+  fitting : (is_size size ≡ true) × (is_frame frame ≡ true)
+  fitting = open_size a q size frame old m.made m.driver x.told.shut
 
   abbrev begun : AreOn q size frame old a up.on.mid up.empty fresh.transmit
-  begun = on w fifo h q size frame old a m.made fresh up x.along sized x.begins
+  begun = on w fifo h q size frame old a m.made fresh up x.along fitting.0 x.begins
 
   -- the calls from there on
   apart : LeadsApart (is_own a) up.on.mid begins (last m later).made (halves_of goes.rings)
@@ -73,7 +74,8 @@ module _ (w : Watched) (fifo : ℕ) (h : List Entry) (q : AtPort) (size frame : 
 
   driven : IsDriven w fifo parted.front parted.back begins doers
   driven =
-      driven_by w fifo h q size frame old a up.on.mid up.empty fresh.transmit begun x.along sized x.begins.ground calls parted
+      driven_by w fifo h q size frame old a up.on.mid up.empty fresh.transmit begun x.along fitting.0 fitting.1
+      x.begins.ground calls parted
       doers apart.leads.3 apart.leads.5
 
   -- where they lead
@@ -118,7 +120,7 @@ module _ (w : Watched) (fifo : ℕ) (h : List Entry) (q : AtPort) (size frame : 
 
   rises : Rises q (lent_by first_known) on_there.receive.quiet.0 t.told.started.2.on.mid
   rises =
-      on_rises q (lent_by first_known) size old a t.told.started.2.on.mid t.told.started.2.empty
+      on_rises q (lent_by first_known) size frame old a t.told.started.2.on.mid t.told.started.2.empty
       t.told.started.0.transmit on_there
       (receive_lent q size frame old a t.told.started.2.on.mid t.told.started.2.empty t.told.started.0.transmit on_there)
       (transmit_lent q size frame old a t.told.started.2.on.mid t.told.started.2.empty t.told.started.0.transmit on_there)

@@ -50,7 +50,7 @@ since_none queue s (e ∷ h) none =
 
 module _ (w : Watched) (fifo : ℕ) (h : List Entry) (q : AtPort) (size frame : ℕ) (old : List Call) (a : Numbers)
     (e : StartRefused) (new : List Call) (left : Rest) (before : List Entry) (first : Entry) (behind : List Entry)
-    (never : NeverLived q size frame old a e new left) (x : IsRefused w fifo h q old new before first behind) where
+    (never : NeverLived q size frame old a e new left) (x : IsRefused w fifo h q frame old new before first behind) where
   abbrev here : State
   here = leads_to (new_state w.vfs fifo) before
 
@@ -79,7 +79,7 @@ module _ (w : Watched) (fifo : ℕ) (h : List Entry) (q : AtPort) (size frame : 
 
   none_sent : sent_in w.queue here (first ∷ behind) ≡ []
   none_sent =
-      laid_queue_is_silent w q fifo h before behind first lays.0 x.along x.begins.all x.begins.own
+      laid_queue_is_silent w q frame fifo h before behind first lays.0 x.along x.begins.all x.begins.own
       x.begins.quiet.ground x.begins.quiet.transmit lays.1
 
   none_handed : receive.IsPrefixOf [] (delivered w.queue here (first ∷ behind))

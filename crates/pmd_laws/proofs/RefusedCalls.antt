@@ -1,5 +1,6 @@
 -- The calls of a driver whose start was refused lay out an empty transmit ring so far, up to where it came down.
-use Rattle.std.proofs.Common.{◌≡◌, inl, inr, ℕ, Bool, true, false, List, [], ◌∷◌, Option, Some, None, Err, refl, sym, ◌∙◌, subst, cond}
+use Rattle.std.proofs.Common.{◌≡◌, inl, inr, ℕ, Bool, true, false, ◌&&◌, List, [], ◌∷◌, Option, Some, None, Err, refl, sym, ◌∙◌, subst, cond}
+use Rattle.std.proofs.lemmas.Bool.{and_parts}
 use Rattle.std.proofs.lemmas.List.{append-nil}
 use Rattle.nic_device.specs.DmaArena.Block.{Block}
 use Rattle.nic_device.specs.DmaArena.Numbers.{Numbers}
@@ -12,6 +13,7 @@ use Rattle.device_lock.specs.declared.entry.Call.{Call}
 use Rattle.pmd.specs.PmdSeam.declared.fault.PmdFault.{PmdFault}
 use Rattle.pmd.specs.PmdSeam.declared.fault.PmdFault.TheVariants.{BadSize}
 use Rattle.pmd.specs.Halted.{Halted}
+use Rattle.pmd.specs.PmdSeam.Frames.{is_frame}
 use Rattle.pmd.specs.PmdSeam.Named.{AtPort}
 use Rattle.pmd.specs.Life.{ComesDown, NeverLived}
 use Rattle.pmd.specs.Started.{IsHalfStarted, IsHome, IsLeftWith, IsShut, StopsStarting, is_size, start_gate}
@@ -79,7 +81,8 @@ is_passed true more f none = refl
 is_passed false more f none = cc
 
 gate_sized : (a : Numbers) (q : AtPort) (size frame : ℕ) → start_gate a q size frame ≡ None → is_size size ≡ true
-gate_sized a q size frame none = is_passed (is_size size) _ BadSize none
+gate_sized a q size frame none =
+    (and_parts _ _ (is_passed (is_size size && is_frame frame) _ BadSize none)).0
 
 module _ (q : AtPort) (size frame : ℕ) (old : List Call) (a : Numbers) (e : StartRefused) (new : List Call) (left : Rest)
     (x : NeverLived q size frame old a e new left) where

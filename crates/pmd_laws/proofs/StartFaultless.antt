@@ -18,7 +18,7 @@ use Rattle.driver_laws.specs.Before.{OnlyPassLends}
 use Rattle.pmd_laws.specs.Faultless.{BeginsApart, IsQuietAndFresh, NoFillingFindsFault, NoStartFindsFault}
 use Rattle.pmd_laws.proofs.Faultless.{found_on, last_before}
 use Rattle.pmd_laws.proofs.Lends.{may}
-use Rattle.pmd_laws.proofs.Looks.{along_before}
+use Rattle.pmd_laws.proofs.Lived.{along_before}
 use Rattle.pmd_laws.proofs.NoFault.{no_fault_once_on}
 use Rattle.pmd_laws.proofs.PassLends.{others_before}
 use Rattle.pmd_laws.proofs.StartLends.{first_read, none_early}
@@ -50,10 +50,10 @@ module _ (w : Watched) (fifo : ℕ) (h : List Entry) (q : AtPort) (size frame : 
   refuted : Parts w.pass h new x.more → ⊥
   refuted p =
       let quiet = f.on.receive.quiet in
-      let at = last_before w fifo h p.front p.back quiet.0 (IsQuietAndFresh w.queue q (is_own a)) p.both
-      (first_read w q fifo h (IsQuietAndFresh w.queue q (is_own a)) old quiet.0 x.begins quiet.1) in
+      let at = last_before w fifo h p.front p.back quiet.0 (IsQuietAndFresh w.queue q frame (is_own a)) p.both
+      (first_read w q fifo h (IsQuietAndFresh w.queue q frame (is_own a)) old quiet.0 x.begins quiet.1) in
       no_fault_once_on w fifo p.front q size frame old a f.mid f.empty f.sender f.on
-      (along_before w fifo h p.front p.back p.both x.along) x.sized
+      (along_before w fifo h p.front p.back p.both x.along) x.sized x.framed
       (λ done more e both own is. (at done more e both own is).0.ground) (is_own a)
       (λ done more e both own is. (at done more e both own is).1)
       (others_before w.pass (is_own a) p.front p.back
@@ -69,7 +69,7 @@ module _ (w : Watched) (fifo : ℕ) (h : List Entry) (q : AtPort) (size frame : 
     (new : List Call) (x : BeginsApart w fifo h q size frame old a new) where
   never_early : FaultsEarly q size frame old a new → Parts w.pass h new x.more → ⊥
   never_early early p =
-      no_fault_is_early w q fifo h size old a new x.along
+      no_fault_is_early w q fifo h size frame old a new x.along
       (λ before c steps apart done rest e all own is. (x.begins before c steps apart done rest e all own is).0) early
       (none_early w fifo h q size frame old a new x early) p.front p.back p.both p.fronts
 

@@ -29,7 +29,7 @@ use Rattle.driver_laws.proofs.InOrder.{led}
 use Rattle.pmd_laws.specs.Life.{IsLife}
 use Rattle.pmd_laws.specs.Order.{IsLived}
 use Rattle.pmd_laws.specs.Stopped.{HandedIsPrefix, IsStopping}
-use Rattle.pmd_laws.proofs.Looks.{lived_before}
+use Rattle.pmd_laws.proofs.Lived.{lived_before}
 use Rattle.pmd_laws.proofs.Order.{driven, first, handed_of_life, in_parts, up, whole}
 use Rattle.pmd_laws.proofs.Plain.{ArePlaced, all_plain}
 use Rattle.pmd_laws.proofs.HandedOn.{Keeps, ending_keeps, others_keep}
@@ -50,16 +50,16 @@ module _ (w : Watched) (fifo : ℕ) (h : List Entry) (q : AtPort) (size frame : 
       }
 
   -- port and queue name the queue there
-  pub ground_lived : HasGround w.queue q (leads_to (new_state w.vfs fifo) h)
+  pub ground_lived : HasGround w.queue q frame (leads_to (new_state w.vfs fifo) h)
   ground_lived =
       let u = up w fifo h q size frame old a started r k x in
       let goes = whole w fifo h q size frame old a started r k x in
       let at = ground_at w fifo h q size frame old a started r u x.along x.life.sized x.begins in
-      all_lead w fifo h (λ done. HasGround w.queue q (reached w fifo done)) (λ c. IsPlain q c.event) x.along
-      (state_kept w fifo (lent_by w.pass h) (HasGround w.queue q) (ground_kept w (lent_by w.pass h) q))
+      all_lead w fifo h (λ done. HasGround w.queue q frame (reached w fifo done)) (λ c. IsPlain q c.event) x.along
+      (state_kept w fifo (lent_by w.pass h) (HasGround w.queue q frame) (ground_kept w (lent_by w.pass h) q frame))
       (λ c own.
-      state_leads w fifo (lent_by w.pass h) c (HasGround w.queue q) (HasGround w.queue q)
-      (λ s met made told g. plain_keeps w.queue q s c.event own g))
+      state_leads w fifo (lent_by w.pass h) c (HasGround w.queue q frame) (HasGround w.queue q frame)
+      (λ s met made told g. plain_keeps w.queue q frame s c.event own g))
       goes.1 u.on.mid
       (all_plain q (first w fifo h q size frame old a started r k x) goes.0 goes.1 goes.3 goes.5 placed)
       (on_some w fifo h q size frame old a started r u x.along x.life.sized x.begins) at
@@ -101,7 +101,7 @@ module _ (w : Watched) (fifo : ℕ) (h : List Entry) (q : AtPort) (size frame : 
   made_some : made ≢ []
   made_some = life_some w fifo h q size frame old a started r made k x.along x.life x.begins
 
-  lived_at : AtEntries w h made (Keeps w fifo q k.receive.handed)
+  lived_at : AtEntries w h made (Keeps w fifo q frame k.receive.handed)
   lived_at done rest all calls =
       let l = lived_before w fifo h done rest all q size frame old a started r made made k k x.life x.along x.begins
       x.life.since calls in
@@ -111,11 +111,11 @@ module _ (w : Watched) (fifo : ℕ) (h : List Entry) (q : AtPort) (size frame : 
         first = handed_of_life w fifo done q size frame old a started r k l;
       }
 
-  over_stop : Keeps w fifo q k.receive.handed h
+  over_stop : Keeps w fifo q frame k.receive.handed h
   over_stop =
-      all_lead w fifo h (Keeps w fifo q k.receive.handed) (λ c. IsEnding q c.event) x.along
-      (others_keep w fifo q k.receive.handed (lent_by w.pass h))
-      (ending_keeps w fifo q k.receive.handed (lent_by w.pass h)) x.ends.0
+      all_lead w fifo h (Keeps w fifo q frame k.receive.handed) (λ c. IsEnding q c.event) x.along
+      (others_keep w fifo q frame k.receive.handed (lent_by w.pass h))
+      (ending_keeps w fifo q frame k.receive.handed (lent_by w.pass h)) x.ends.0
       made x.ends.2 made_some lived_at h [] (append-nil h) (x.calls ∙ x.ends.1)
 
 pub handed_over_stop : HandedIsPrefix

@@ -1,5 +1,5 @@
 -- A driver's life as its calls tell it is a life.
-use Rattle.std.proofs.Common.{◌≡◌, ℕ, List, [], sym, ap, ◌∙◌, subst}
+use Rattle.std.proofs.Common.{◌≡◌, ℕ, List, [], ◌++◌, sym, ap, ◌∙◌, subst}
 use Rattle.nic_device.specs.DmaArena.Numbers.{Numbers}
 use Rattle.nic_device.specs.State.{new_state}
 use Rattle.device_lock.specs.History.{calls_of}
@@ -8,22 +8,23 @@ use Rattle.device_lock.specs.declared.entry.Call.{Call}
 use Rattle.device_lock.specs.declared.entry.Entry.{Entry}
 use Rattle.pmd.specs.Driver.{Driver, accepted_of, handed_of}
 use Rattle.pmd.specs.Running.{Running}
-use Rattle.pmd.specs.Started.{is_size}
 use Rattle.pmd.specs.declared.driver.Rings.{Rings}
 use Rattle.pmd.specs.declared.driver.Rings.TheVariants.{Up}
 use Rattle.pmd.specs.PmdSeam.Named.{AtPort}
+use Rattle.pmd.specs.PmdRx.Plays.{LooksInVain}
 use Rattle.start_laws.specs.ReceiveLaws.Delivered as receive
 use Rattle.start_laws.specs.ReceiveLaws.Delivered.{delivered}
 use Rattle.start_laws.specs.TransmitLaws.Agreeing.{bytes_of}
 use Rattle.start_laws.specs.TransmitLaws.Laws as transmit
 use Rattle.start_laws.specs.TransmitLaws.Sent.{sent_since}
 use Rattle.pmd.specs.Halves.{Halves, halves_of}
-use Rattle.driver_laws.specs.Beside.{Leads}
+use Rattle.driver_laws.specs.Beside.{AddsHarmless, Leads}
 use Rattle.pmd_laws.specs.Life.{IsLife}
+use Rattle.pmd_laws.specs.Looks as looks
 use Rattle.pmd_laws.specs.Order.{IsLived}
 use Rattle.pmd_laws.specs.Told as told
 use Rattle.pmd_laws.specs.Told.{HasNoneOut, IsTold, IsToldOf, IsToldToLook, Moment, last}
-use Rattle.pmd_laws.proofs.Looks.{none_before_look}
+use Rattle.pmd_laws.proofs.Looks.{none_at_first, none_before_look}
 use Rattle.pmd_laws.proofs.Order.{handed_of_life, idle_of_life, sent_of_life}
 use Rattle.pmd_laws.proofs.RunsOn.{RunsOn, all_follow, open_size, up_next}
 
@@ -45,7 +46,8 @@ module _ (q : AtPort) (size frame : ℕ) (old : List Call) (a : Numbers) (m : Mo
   abbrev pub life : (calls : List Call) → Leads m.made (halves_of first) calls now
       → IsLife q size frame old a m.made first calls now
   life calls since = record {
-    sized = open_size size a old m.made m.driver (is_size size) _ x.shut;
+    sized = (open_size a q size frame old m.made m.driver x.shut).0;
+    framed = (open_size a q size frame old m.made m.driver x.shut).1;
     up = x.started.2;
     since = since;
   }
@@ -90,20 +92,38 @@ module _ (w : Watched) (fifo : ℕ) (h : List Entry) (q : AtPort) (size frame : 
         ∙ idle_of_life w fifo h q size frame old a m.made x.told.started.0 k lived (subst HasNoneOut up none)
 
   module _ (n : Moment) (x : IsToldToLook w fifo h q size frame old a m later n) where
+    abbrev made : List Call
+    made = (last m later).made
+
+    abbrev rings : Running
+    rings = (runs q size frame old a m later x.told).rings
+
+    next : (s : Running) × (n.driver.rings ≡ Up s) × LooksInVain made rings.receive n.made s.receive
+    next =
+        up_next _ (last m later).driver.rings n.driver.rings rings (runs q size frame old a m later x.told).up x.looks
+
+    in_vain : looks.LooksInVain w fifo h q size frame old a m.made x.told.started.0 made (halves_of rings) n.made
+        next.0.receive
+    in_vain = record {
+      along = x.along;
+      life = life q size frame old a m later x.told made (led q size frame old a m later x.told);
+      begins = x.begins;
+      looks = next.2;
+      look = x.look;
+    }
+
     looked : handed_of (last m later).driver.rings ≡ delivered w.queue (new_state w.vfs fifo) x.look.before
     looked =
-        let runs = runs q size frame old a m later x.told in
-        let (s, after, looks) = up_next _ (last m later).driver.rings n.driver.rings runs.rings runs.up x.looks in
-        ap handed_of runs.up
-        ∙ none_before_look w fifo h q size frame old a m.made x.told.started.0 (last m later).made (halves_of runs.rings)
-        n.made s.receive
-        (record {
-          along = x.along;
-          life = life q size frame old a m later x.told (last m later).made (led q size frame old a m later x.told);
-          begins = x.begins;
-          looks = looks;
-          look = x.look;
-        })
+        ap handed_of (runs q size frame old a m later x.told).up
+        ∙ none_before_look w fifo h q size frame old a m.made x.told.started.0 made (halves_of rings) n.made
+        next.0.receive in_vain
+
+    at_first : (before more : List Entry) → before ++ more ≡ x.look.before → AddsHarmless made (calls_of w.pass before)
+        → handed_of (last m later).driver.rings ≡ delivered w.queue (new_state w.vfs fifo) before
+    at_first before more all is =
+        ap handed_of (runs q size frame old a m later x.told).up
+        ∙ none_at_first w fifo h q size frame old a m.made x.told.started.0 made (halves_of rings) n.made next.0.receive
+        in_vain before more all is
 
 pub handed_as_told : told.HandedIsPrefix
 handed_as_told = handed
@@ -116,3 +136,6 @@ idle_as_told = idle
 
 pub none_as_told : told.NoneIsAllBefore
 none_as_told = looked
+
+pub none_at_first_as_told : told.NoneIsAllAtFirst
+none_at_first_as_told = at_first

@@ -33,7 +33,8 @@ use Rattle.pmd_laws.proofs.FirstHalves.{first_halves, halves_apart, halves_lent}
 module _ (w : Watched) (fifo : ℕ) (h : List Entry) (q : AtPort) (size frame : ℕ) (old : List Call) (a : Numbers)
     (on : List Call) (v : Receive) (t : Sender) (up : AreOn q size frame old a on v t) (along : IsAlong w fifo h)
     (sized : is_size size ≡ true) (framed : is_frame frame ≡ true)
-    (well : BeforeLast w fifo h up.receive.quiet.0 (HasGround w.queue q frame)) (ys : List Call) (p : Parts w.pass h on ys) where
+    (well : BeforeLast w fifo h up.receive.quiet.0 (HasGround w.queue q frame)) (ys : List Call)
+    (p : Parts w.pass h on ys) where
   abbrev new : State
   new = new_state w.vfs fifo
 

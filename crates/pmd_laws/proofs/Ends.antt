@@ -41,6 +41,7 @@ module _ (w : Watched) (fifo : ℕ) (h : List Entry) (q : AtPort) (size frame : 
     along = x.along;
     life = record {
       sized = x.sized;
+      framed = x.framed;
       up = lived.lives.up;
       since =
           subst (λ (cs : List Call). Leads lived.lives.made (halves_of lived.lives.fresh) cs (halves_of lived.last))
@@ -93,6 +94,7 @@ module _ (w : Watched) (fifo : ℕ) (h : List Entry) (q : AtPort) (size frame : 
     along = x.along;
     life = record {
       sized = x.sized;
+      framed = x.framed;
       up = lived.lives.up;
       since = drives_lead _ _ _ _ lived.lives.drives.apart.drives;
     };
@@ -110,14 +112,14 @@ module _ (w : Watched) (fifo : ℕ) (h : List Entry) (q : AtPort) (size frame : 
 
   handed_so_far : receive.IsPrefixOf lived.last.receive.handed (delivered w.queue (new_state w.vfs fifo) h)
   handed_so_far =
-      handed_over_stop w fifo h q size frame old a lived.lives.made lived.lives.fresh lived.made (halves_of lived.last) now
-      is_stopping
+      handed_over_stop w fifo h q size frame old a lived.lives.made lived.lives.fresh lived.made (halves_of lived.last)
+      now is_stopping
 
   sent_so_far : transmit.IsPrefixOf (sent_since w.queue (new_state w.vfs fifo) [] h)
       (bytes_of lived.last.transmit.accepted)
   sent_so_far =
-      sent_over_stop w fifo h q size frame old a lived.lives.made lived.lives.fresh lived.made (halves_of lived.last) now
-      is_stopping takes
+      sent_over_stop w fifo h q size frame old a lived.lives.made lived.lives.fresh lived.made (halves_of lived.last)
+      now is_stopping takes
 
 pub left_handed_over_stop : HandedOverStop
 left_handed_over_stop w fifo h q size frame old a new left late lived x =

@@ -9,7 +9,6 @@ use Rattle.device_lock.specs.declared.entry.Entry.{Entry}
 use Rattle.pmd.specs.Apart.{DrivesApart, FindsFault}
 use Rattle.pmd.specs.Halves.{Halves, halves_of}
 use Rattle.pmd.specs.Running.{Running}
-use Rattle.pmd.specs.Started.{is_size}
 use Rattle.pmd.proofs.Apart.{apart_on}
 use Rattle.pmd.specs.PmdSeam.Named.{AtPort}
 use Rattle.start_laws.specs.Along.{BeforeLast}
@@ -71,11 +70,13 @@ module _ (w : Watched) (fifo : ℕ) (h : List Entry) (q : AtPort) (size frame : 
   refuted p =
       let along = along_before w fifo h p.front p.back p.both x.along in
       let (sized, framed) = open_size a q size frame old m.made m.driver x.told.shut in
-      let well = begins_before w fifo h p.front p.back p.both q size frame old a m.made fresh x.told.started.2 x.begins in
+      let well = begins_before w fifo h p.front p.back p.both q size frame old a m.made fresh x.told.started.2
+      x.begins in
       no_fault_led_on w fifo p.front q size frame old a x.told.started.2.on.mid x.told.started.2.empty fresh.transmit
       (on w fifo p.front q size frame old a m.made fresh x.told.started.2 along sized well) along sized framed
       well.ground (is_own a)
-      (last_before w fifo h p.front p.back x.told.started.2.receive.quiet.0 (IsFresh w.queue frame (is_own a)) p.both x.fresh)
+      (last_before w fifo h p.front p.back x.told.started.2.receive.quiet.0 (IsFresh w.queue frame (is_own a)) p.both
+      x.fresh)
       (others_before w.pass (is_own a) p.front p.back (subst (OnlyPassLends w.pass (is_own a)) (sym p.both) x.others))
       (last m later).made there (led q size frame old a m later x.told)
       (subst (FindsFault (is_own a) (last m later).made there) (sym p.fronts) found)

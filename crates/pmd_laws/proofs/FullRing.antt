@@ -1,5 +1,5 @@
 -- A driver's transmit ring has as many slots as its start was given, and a slot that no part of a packet is in.
-use Rattle.std.proofs.Common.{◌≡◌, ℕ, ◌+◌, ◌<◌, ◌≤◌, List, [], ◌∷◌, length, drop, Ok, refl, sym, ap, ◌∙◌, subst, arith}
+use Rattle.std.proofs.Common.{◌≡◌, ◌<◌, List, [], ◌∷◌, length, Ok, refl, sym, ap, ◌∙◌, subst, arith}
 use Rattle.std.proofs.lemmas.List.{length-append, length-drop}
 use Rattle.nic_device.specs.DmaArena.Block.{Block}
 use Rattle.nic_device.specs.declared.event.Event.{Event}
@@ -8,9 +8,7 @@ use Rattle.nic_device.specs.declared.event.Reply.{Reply}
 use Rattle.nic_device.specs.declared.event.Reply.TheVariants as reply
 use Rattle.device_lock.specs.declared.entry.Call.{Call}
 use Rattle.pmd.specs.Halves.{AllOwn, Doer, Halves, OwnCall, Receives, Sends, after_call, played_by}
-use Rattle.pmd.specs.declared.driver.Rings.{Rings}
-use Rattle.pmd.specs.declared.driver.Rings.TheVariants.{Up}
-use Rattle.pmd.specs.PmdTx.Sending.{Accepts, Advances, Asks, Lends, Looks, Move, Outgoing, Reaps, Segment, Sender, IsOwn, MayAccept, moved, accepted_by, parts_for, reaped, segments_of}
+use Rattle.pmd.specs.PmdTx.Sending.{Accepts, Advances, Asks, Lends, Looks, Move, Outgoing, Reaps, Sender, IsOwn, MayAccept, moved, accepted_by, reaped, segments_of}
 use Rattle.pmd.specs.PmdTx.Sends.{IsFullWhereTold}
 use Rattle.pmd.specs.PmdTx.declared.answer.TxAnswer.TheVariants.{RingFull}
 use Rattle.start_laws.proofs.Rising.{sized}

@@ -1,5 +1,5 @@
 -- The calls by which a receive ring is filled lay out no more of a transmit ring.
-use Rattle.std.proofs.Common.{◌≡◌, ℕ, Bool, true, false, List, [], ◌∷◌, refl, sym, ◌∙◌, subst}
+use Rattle.std.proofs.Common.{◌≡◌, Bool, true, false, List, [], ◌∷◌, refl, sym, ◌∙◌, subst}
 use Rattle.nic_device.specs.DmaArena.Block.{Block}
 use Rattle.nic_device.specs.RegTable.declared.rows.RowId.TheVariants.{Rdt}
 use Rattle.nic_device.specs.declared.event.Event.{Event}

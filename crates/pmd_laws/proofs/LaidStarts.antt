@@ -51,7 +51,8 @@ module _ (q : AtPort) (size frame : ℕ) (is : is_size size ≡ true) where
       let (last, more) = transmit_fails e.fault x.made x.ready_arena new x.arena x.out x.fails in (
         last,
         then_between q Off Off last old x.made new
-            (stays_between q Off old x.made (receive_ready q size frame old a x.made x.ready_arena x.empty x.receive)) more,
+            (stays_between q Off old x.made (receive_ready q size frame old a x.made x.ready_arena x.empty x.receive))
+            more,
       )
 
   after_both : (old : List Call) (a : Numbers) (new : List Call) (e : StartRefused)

@@ -71,8 +71,8 @@ module _ (q : AtPort) (size frame : ℕ) (old : List Call) (a : Numbers) (new : 
   filled : DrivesApart (is_own a) up.on.mid first x.made (halves_of x.fresh)
   filled =
       receiving_apart (is_own a) up.both_arena up.on.mid x.made first (halves_of x.fresh)
-      (may q size frame old a up.ready_made up.ready_arena up.both_made up.both_arena up.empty x.fresh.transmit up.receive
-      up.transmit)
+      (may q size frame old a up.ready_made up.ready_arena up.both_made up.both_arena up.empty x.fresh.transmit
+      up.receive up.transmit)
       up.on.plays refl
 
   all_apart : DrivesApart (is_own a) up.on.mid first new (halves_of r)

@@ -128,19 +128,19 @@ module _ (w : Watched) (fifo : ℕ) (h : List Entry) (q : AtPort) (size frame : 
       abbrev p : Parts w.pass early x.life.up.on.mid
           (order.whole w fifo early q size frame old a started r k lived_here).1
       p =
-          early_parts w fifo h q size frame old a started r made k x.life x.along x.begins late rest x.look.all calls then
-          goes_on ends.0 early more all is
+          early_parts w fifo h q size frame old a started r made k x.life x.along x.begins late rest x.look.all calls
+          then goes_on ends.0 early more all is
 
       abbrev p_late : Parts w.pass late x.life.up.on.mid
           (order.whole w fifo late q size frame old a started r then lived).1
       p_late =
-          late_parts w fifo h q size frame old a started r made k x.life x.along x.begins late rest x.look.all calls then
-          goes_on ends.0 early more all is
+          late_parts w fifo h q size frame old a started r made k x.life x.along x.begins late rest x.look.all calls
+          then goes_on ends.0 early more all is
 
       abbrev both : p.front ++ (p.back ++ more) ≡ late
       both =
-          parts_join w fifo h q size frame old a started r made k x.life x.along x.begins late rest x.look.all calls then
-          goes_on ends.0 early more all is
+          parts_join w fifo h q size frame old a started r made k x.life x.along x.begins late rest x.look.all calls
+          then goes_on ends.0 early more all is
 
       all_at_first : k.receive.handed ≡ delivered w.queue begun early
       all_at_first =

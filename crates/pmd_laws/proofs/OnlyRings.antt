@@ -1,5 +1,5 @@
 -- Of an arena's blocks only the rings' are lent as both sides are on, and the frames that wait fit a buffer.
-use Rattle.std.proofs.Common.{ℕ, false, List, ◌∙◌, subst, arith}
+use Rattle.std.proofs.Common.{ℕ, false, List, ◌∙◌, arith}
 use Rattle.std.specs.Prelude.{All}
 use Rattle.nic_device.specs.DmaArena.Block.{Block}
 use Rattle.nic_device.specs.DmaArena.Numbers.{Numbers}

@@ -122,8 +122,10 @@ module _ (w : Watched) (fifo : ℕ) (h : List Entry) (q : AtPort) (size frame : 
   rises =
       on_rises q (lent_by first_known) size frame old a t.told.started.2.on.mid t.told.started.2.empty
       t.told.started.0.transmit on_there
-      (receive_lent q size frame old a t.told.started.2.on.mid t.told.started.2.empty t.told.started.0.transmit on_there)
-      (transmit_lent q size frame old a t.told.started.2.on.mid t.told.started.2.empty t.told.started.0.transmit on_there)
+      (receive_lent q size frame old a t.told.started.2.on.mid t.told.started.2.empty t.told.started.0.transmit
+      on_there)
+      (transmit_lent q size frame old a t.told.started.2.on.mid t.told.started.2.empty t.told.started.0.transmit
+      on_there)
 
   at_first : OnlyLent (is_own a) (lent_by first_known) (leads_to (new_state w.vfs fifo) p.front).memory
   at_first =
@@ -134,8 +136,8 @@ module _ (w : Watched) (fifo : ℕ) (h : List Entry) (q : AtPort) (size frame : 
   known =
       let far = apart w fifo h q size frame old a m later t in
       at_last w fifo h q size frame old a m later t (λ out s. OnlyLent (is_own a) out s.memory)
-      (known_along w fifo p.front p.back first_known far.leads.0 (is_own a) (driven w fifo h q size frame old a m later t)
-      at_first
+      (known_along w fifo p.front p.back first_known far.leads.0 (is_own a)
+      (driven w fifo h q size frame old a m later t) at_first
       (others_behind w.pass (is_own a) p.front p.back (subst (OnlyPassLends w.pass (is_own a)) (sym p.both) x.others))
       (subst (AllLendApart (is_own a) first_known far.leads.0) (sym p.backs) far.apart))
 

@@ -50,7 +50,8 @@ since_none queue s (e ∷ h) none =
 
 module _ (w : Watched) (fifo : ℕ) (h : List Entry) (q : AtPort) (size frame : ℕ) (old : List Call) (a : Numbers)
     (e : StartRefused) (new : List Call) (left : Rest) (before : List Entry) (first : Entry) (behind : List Entry)
-    (never : NeverLived q size frame old a e new left) (x : IsRefused w fifo h q frame old new before first behind) where
+    (never : NeverLived q size frame old a e new left)
+    (x : IsRefused w fifo h q frame old new before first behind) where
   abbrev here : State
   here = leads_to (new_state w.vfs fifo) before
 

@@ -67,8 +67,8 @@ left_lays q l a [] r old new left is down = home_lays q l a r old new left is do
 left_lays q l a (n ∷ ns) r old new left is down = half_lays q l _ r old new left is down
 
 stopping_lays : (q : AtPort) (size frame : ℕ) (old : List Call) (a : Numbers) (made : List Call) (e : StartRefused)
-    (new : List Call) (left : Rest) (l : Laid) → StopsStarting q size frame old a made e → ComesDown made e.rest new left
-    → LaysBetween q l made new l
+    (new : List Call) (left : Rest) (l : Laid) → StopsStarting q size frame old a made e
+    → ComesDown made e.rest new left → LaysBetween q l made new l
 stopping_lays q size frame old a made e new left l (inl x) down =
     left_lays q l x.arena x.out e.rest made new left x.left down
 stopping_lays q size frame old a made e new left l (inr (inl x)) down = half_lays q l _ e.rest made new left x.left down
@@ -84,8 +84,8 @@ gate_sized : (a : Numbers) (q : AtPort) (size frame : ℕ) → start_gate a q si
 gate_sized a q size frame none =
     (and_parts _ _ (is_passed (is_size size && is_frame frame) _ BadSize none)).0
 
-module _ (q : AtPort) (size frame : ℕ) (old : List Call) (a : Numbers) (e : StartRefused) (new : List Call) (left : Rest)
-    (x : NeverLived q size frame old a e new left) where
+module _ (q : AtPort) (size frame : ℕ) (old : List Call) (a : Numbers) (e : StartRefused) (new : List Call)
+    (left : Rest) (x : NeverLived q size frame old a e new left) where
   shut_lays : (f : PmdFault) → start_gate a q size frame ≡ Some f → LaysSome q Off old new
   shut_lays f is =
       let (why, home, none) = subst (λ (g : Option PmdFault). IsShut g a old x.made (Err e)) is x.shut in (
@@ -97,8 +97,11 @@ module _ (q : AtPort) (size frame : ℕ) (old : List Call) (a : Numbers) (e : St
   amid_lays : start_gate a q size frame ≡ None → LaysSome q Off old new
   amid_lays is =
       let stops = x.stops is in
-      let (l, so_far) = starting_lays q size frame (gate_sized a q size frame is) old a x.made e stops in
-      (l, then_between q Off l l old x.made new so_far (stopping_lays q size frame old a x.made e new left l stops x.down))
+      let (l, so_far) = starting_lays q size frame (gate_sized a q size frame is) old a x.made e stops in (
+        l,
+        then_between q Off l l old x.made new so_far
+            (stopping_lays q size frame old a x.made e new left l stops x.down),
+      )
 
   by_gate : (g : Option PmdFault) → start_gate a q size frame ≡ g → LaysSome q Off old new
   by_gate None is = amid_lays is

@@ -33,8 +33,8 @@ module _ (w : Watched) (fifo : ℕ) (h : List Entry) (q : AtPort) (size frame : 
 
   may_first : (n : ℕ) → is_free f.on.both_arena n ≡ true → MayLend (is_own a) first Receives n
   may_first =
-      may q size frame old a f.on.ready_made f.on.ready_arena f.on.both_made f.on.both_arena f.empty f.sender f.on.receive
-      f.on.transmit
+      may q size frame old a f.on.ready_made f.on.ready_arena f.on.both_made f.on.both_arena f.empty f.sender
+      f.on.receive f.on.transmit
 
   -- the slots that were filled, and the call that wasn't answered well
   found : FindsFault (is_own a) f.mid first new

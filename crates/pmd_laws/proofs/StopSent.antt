@@ -29,6 +29,7 @@ use Rattle.start_laws.specs.Silent.{IsSilent}
 use Rattle.start_laws.specs.Stopping.{Asks, EndsOnceOff, TakesOnceOff}
 use Rattle.start_laws.proofs.Ending.{all_lead}
 use Rattle.start_laws.proofs.Parts.{Parts, parts}
+use Rattle.start_laws.proofs.Reached.{reached}
 use Rattle.start_laws.proofs.Silent.{quiet_queue_is_silent}
 use Rattle.start_laws.proofs.SwitchedOff.{switching_off_leads}
 use Rattle.pmd.specs.Halves.{Halves}
@@ -99,8 +100,8 @@ module _ (w : Watched) (fifo : ℕ) (h : List Entry) (q : AtPort) (size frame : 
   lived_at done rest all calls =
       subst (λ (g : List Entry). Keeps w fifo q frame (lent_by w.pass g) k done) all
       (keeps_lived w fifo done rest q size frame old a started r k
-      (lived_before w fifo h done rest all q size frame old a started r made made k k x.life x.along x.begins x.life.since
-      calls))
+      (lived_before w fifo h done rest all q size frame old a started r made made k k x.life x.along x.begins
+      x.life.since calls))
 
   over_asks : (now : List Call) → Asks q made now → AtEntries w h now Here
   over_asks now (calls, is, each) =
@@ -125,8 +126,8 @@ module _ (w : Watched) (fifo : ℕ) (h : List Entry) (q : AtPort) (size frame : 
       λ so_far behind both made. (over_asks y.mid y.asks so_far behind both made).ground in
       let quiet : AtCalls w fifo h y.off (IsQuiet w.queue q frame) =
       switching_off_leads w q frame fifo h y.mid y.off x.along y.switched (some_asked y.mid y.asks) grounded in
-      quiet_queue_is_silent w q frame fifo h done rest y.off new x.along (some_asked y.off (off_asks q made new y)) quiet
-      y.ends x.calls
+      quiet_queue_is_silent w q frame fifo h done rest y.off new x.along (some_asked y.off (off_asks q made new y))
+      quiet y.ends x.calls
       all calls
 
   once_off : EndsOnceOff q made new → IsPrefixOf (sent h) (bytes_of k.transmit.accepted)

@@ -86,7 +86,8 @@ some_more (x ∷ xs) ys some none = cc
 -- a life made some calls
 pub life_some : (w : Watched) (fifo : ℕ) (h : List Entry) (q : AtPort) (size frame : ℕ) (old : List Call) (a : Numbers)
     (started : List Call) (r : Running) (made : List Call) (k : Halves) → IsAlong w fifo h
-    → (life : IsLife q size frame old a started r made k) → BeginsWell w fifo h q size frame old a started r life.up → made ≢ []
+    → (life : IsLife q size frame old a started r made k) → BeginsWell w fifo h q size frame old a started r life.up
+    → made ≢ []
 life_some w fifo h q size frame old a started r made k along life begins none =
     some_more started life.since.1
     (λ first.

@@ -102,7 +102,7 @@ module _ (w : Watched) (fifo : ℕ) (h : List Entry) (q : AtPort) (size frame : 
     next =
         up_next _ (last m later).driver.rings n.driver.rings rings (runs q size frame old a m later x.told).up x.looks
 
-    in_vain : looks.LooksInVain w fifo h q size frame old a m.made x.told.started.0 made (halves_of rings) n.made
+    abbrev in_vain : looks.LooksInVain w fifo h q size frame old a m.made x.told.started.0 made (halves_of rings) n.made
         next.0.receive
     in_vain = record {
       along = x.along;

@@ -1,5 +1,5 @@
 -- Before a call of the driver that ends with a packet outstanding not all that was accepted was sent.
-use Rattle.std.proofs.Common.{◌≡◌, ◌≢◌, ℕ, List, [], ◌∷◌, ◌++◌, refl, sym, ap, ◌∙◌, subst, append_assoc}
+use Rattle.std.proofs.Common.{◌≡◌, ◌≢◌, ℕ, List, [], ◌∷◌, ◌++◌, refl, sym, ap, ◌∙◌, subst}
 use Rattle.nic_device.specs.DmaArena.Numbers.{Numbers}
 use Rattle.nic_device.specs.State.{State, new_state}
 use Rattle.nic_device.specs.declared.event.Event.TheVariants as event
@@ -51,7 +51,8 @@ module _ (w : Watched) (fifo : ℕ) (h : List Entry) (q : AtPort) (size frame : 
   sender = x.looks.before
 
   abbrev looking : Call
-  looking = call_of (event.Peek16 (descriptor_at sender.layout (first_end sender.outstanding))) (reply.Bytes x.looks.bytes)
+  looking =
+      call_of (event.Peek16 (descriptor_at sender.layout (first_end sender.outstanding))) (reply.Bytes x.looks.bytes)
 
   -- the halves at the look
 
@@ -132,7 +133,8 @@ waiting_as_told w fifo h q size frame old a m later n x before more all is same 
     let made = (last m later).made in
     let runs = runs q size frame old a m later x.told in
     let (s, after, looks) = up_next _ (last m later).driver.rings n.driver.rings runs.rings runs.up x.waits in
-    waiting_before_look w fifo h q size frame old a m.made x.told.started.0 made (halves_of runs.rings) n.made s.transmit
+    waiting_before_look w fifo h q size frame old a m.made x.told.started.0 made (halves_of runs.rings) n.made
+    s.transmit
     (record {
       along = x.along;
       life = life q size frame old a m later x.told made (led q size frame old a m later x.told);

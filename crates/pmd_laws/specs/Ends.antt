@@ -21,8 +21,9 @@ use Rattle.start_laws.specs.Along.{IsAlong}
 use Rattle.start_laws.specs.Start.{BeginsWell}
 
 -- a legal history of a new device that leaves the queue alone, up to where a driver that lived was to stop
-pub record IsToStop (w : Watched) (fifo : ℕ) (h : List Entry) (q : AtPort) (size frame : ℕ) (old : List Call) (a : Numbers)
-    (new : List Call) (left : Rest) (late : Option PmdFault) (life : HasLived q size frame old a new left late) : Type 0 where
+pub record IsToStop (w : Watched) (fifo : ℕ) (h : List Entry) (q : AtPort) (size frame : ℕ) (old : List Call)
+    (a : Numbers) (new : List Call) (left : Rest) (late : Option PmdFault)
+    (life : HasLived q size frame old a new left late) : Type 0 where
   pub along : IsAlong w fifo h
   pub sized : is_size size ≡ true
   pub framed : is_frame frame ≡ true
@@ -30,8 +31,9 @@ pub record IsToStop (w : Watched) (fifo : ℕ) (h : List Entry) (q : AtPort) (si
   pub begins : BeginsWell w fifo h q size frame old a life.lives.made life.lives.fresh life.lives.up
 
 -- such a history on to some place amid its stop, or where this ended, well or not: these of its calls were made so far
-pub record IsOver (w : Watched) (fifo : ℕ) (h : List Entry) (q : AtPort) (size frame : ℕ) (old : List Call) (a : Numbers)
-    (new : List Call) (left : Rest) (late : Option PmdFault) (life : HasLived q size frame old a new left late) : Type 0 where
+pub record IsOver (w : Watched) (fifo : ℕ) (h : List Entry) (q : AtPort) (size frame : ℕ) (old : List Call)
+    (a : Numbers) (new : List Call) (left : Rest) (late : Option PmdFault)
+    (life : HasLived q size frame old a new left late) : Type 0 where
   pub along : IsAlong w fifo h
   pub sized : is_size size ≡ true
   pub framed : is_frame frame ≡ true

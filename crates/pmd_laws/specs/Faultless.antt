@@ -29,8 +29,8 @@ use Rattle.pmd_laws.specs.Told.{IsTold, Moment, last}
 abbrev pub NoneLent : Blocks → State → Type 0
 NoneLent own s = (number : ℕ) → IsTrue (own number) → IsFalse (has_block s.memory number)
 
--- the frames that wait for a queue fit as many blocks as a packet of the driver has at most, and none of these blocks is
--- lent
+-- the frames that wait for a queue fit as many blocks as a packet of the driver has at most, and none of these blocks
+-- is lent
 pub record IsFresh (queue frame : ℕ) (own : Blocks) (s : State) : Type 0 where
   pub short : All (FitsBlocks queue (most_blocks frame)) s.waiting
   pub none : NoneLent own s
@@ -44,8 +44,8 @@ FindsFault m n =
 -- a legal history of a new device that leaves the queue alone. In it the pass made the calls up to this last moment,
 -- and maybe more behind them. Just before the driver's first access frames were short and none of its arena's blocks
 -- was lent; and no other pass lends any of them
-pub record IsToldApart (w : Watched) (fifo : ℕ) (h : List Entry) (q : AtPort) (size frame : ℕ) (old : List Call) (a : Numbers)
-    (m : Moment) (later : List Moment) (n : Moment) : Type 0 where
+pub record IsToldApart (w : Watched) (fifo : ℕ) (h : List Entry) (q : AtPort) (size frame : ℕ) (old : List Call)
+    (a : Numbers) (m : Moment) (later : List Moment) (n : Moment) : Type 0 where
   pub along : IsAlong w fifo h
   pub told : IsTold q size frame old a m later
   pub begins : BeginsWell w fifo h q size frame old a m.made told.started.0 told.started.2
@@ -67,8 +67,8 @@ IsQuietAndFresh queue q frame own s = IsQuiet queue q frame s × IsFresh queue f
 
 -- such a history, in which a start made these calls, and maybe more came behind them. Just before its first access both
 -- sides were off, frames were short and none of its arena's blocks was lent; and no other pass lends any of them
-pub record BeginsApart (w : Watched) (fifo : ℕ) (h : List Entry) (q : AtPort) (size frame : ℕ) (old : List Call) (a : Numbers)
-    (new : List Call) : Type 0 where
+pub record BeginsApart (w : Watched) (fifo : ℕ) (h : List Entry) (q : AtPort) (size frame : ℕ) (old : List Call)
+    (a : Numbers) (new : List Call) : Type 0 where
   pub along : IsAlong w fifo h
   pub sized : is_size size ≡ true
   pub framed : is_frame frame ≡ true

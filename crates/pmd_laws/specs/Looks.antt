@@ -33,8 +33,9 @@ CallsEnd =
 
 -- a legal history of a new device that leaves the queue alone. In it the pass made the calls of this life, and then one
 -- call of the driver looked at the slots of a packet, and found the last of these not done
-pub record LooksInVain (w : Watched) (fifo : ℕ) (h : List Entry) (q : AtPort) (size frame : ℕ) (old : List Call) (a : Numbers)
-    (started : List Call) (r : Running) (made : List Call) (k : Halves) (new : List Call) (v : Receive) : Type 0 where
+pub record LooksInVain (w : Watched) (fifo : ℕ) (h : List Entry) (q : AtPort) (size frame : ℕ) (old : List Call)
+    (a : Numbers) (started : List Call) (r : Running) (made : List Call) (k : Halves) (new : List Call) (v : Receive) :
+    Type 0 where
   pub along : IsAlong w fifo h
   pub life : IsLife q size frame old a started r made k
   pub begins : BeginsWell w fifo h q size frame old a started r life.up

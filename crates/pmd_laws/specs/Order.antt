@@ -20,8 +20,8 @@ use Rattle.pmd.specs.Halves.{Halves}
 use Rattle.pmd_laws.specs.Life.{IsLife}
 
 -- a legal history of a new device that leaves the queue alone, in which the pass made just the calls of this life
-pub record IsLived (w : Watched) (fifo : ℕ) (h : List Entry) (q : AtPort) (size frame : ℕ) (old : List Call) (a : Numbers)
-    (started : List Call) (r : Running) (k : Halves) : Type 0 where
+pub record IsLived (w : Watched) (fifo : ℕ) (h : List Entry) (q : AtPort) (size frame : ℕ) (old : List Call)
+    (a : Numbers) (started : List Call) (r : Running) (k : Halves) : Type 0 where
   pub along : IsAlong w fifo h
   pub life : IsLife q size frame old a started r (calls_of w.pass h) k
   pub begins : BeginsWell w fifo h q size frame old a started r life.up

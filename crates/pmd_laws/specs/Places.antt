@@ -41,8 +41,8 @@ OutIsLent =
 
 -- such a history. Just before the driver's first access none of its arena's blocks was lent; and no other pass lends
 -- any of them
-pub record IsToldAlone (w : Watched) (fifo : ℕ) (h : List Entry) (q : AtPort) (size frame : ℕ) (old : List Call) (a : Numbers)
-    (m : Moment) (later : List Moment) : Type 0 where
+pub record IsToldAlone (w : Watched) (fifo : ℕ) (h : List Entry) (q : AtPort) (size frame : ℕ) (old : List Call)
+    (a : Numbers) (m : Moment) (later : List Moment) : Type 0 where
   pub told : IsToldOf w fifo h q size frame old a m later
   pub fresh : BeforeLast w fifo h told.told.started.2.receive.quiet.0 (NoneLent (is_own a))
   pub others : OnlyPassLends w.pass (is_own a) h

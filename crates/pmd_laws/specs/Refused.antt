@@ -45,8 +45,8 @@ pub record IsRefused (w : Watched) (fifo : ℕ) (h : List Entry) (q : AtPort) (f
 -- from its start's first event on nothing is sent on the queue
 abbrev pub RefusedSendsNothing : Type 0
 RefusedSendsNothing =
-    (w : Watched) (fifo : ℕ) (h : List Entry) (q : AtPort) (size frame : ℕ) (old : List Call) (a : Numbers) (e : StartRefused)
-    (new : List Call) (left : Rest) (before : List Entry) (first : Entry) (behind : List Entry) →
+    (w : Watched) (fifo : ℕ) (h : List Entry) (q : AtPort) (size frame : ℕ) (old : List Call) (a : Numbers)
+    (e : StartRefused) (new : List Call) (left : Rest) (before : List Entry) (first : Entry) (behind : List Entry) →
     NeverLived q size frame old a e new left → IsRefused w fifo h q frame old new before first behind →
     sent_in w.queue (leads_to (new_state w.vfs fifo) before) (first ∷ behind) ≡ []
 
@@ -54,8 +54,8 @@ RefusedSendsNothing =
 -- on, and what was sent from there on, counted so too, a prefix of what is left as accepted: both lists left are empty
 abbrev pub LeftOfRefusedIsPrefix : Type 0
 LeftOfRefusedIsPrefix =
-    (w : Watched) (fifo : ℕ) (h : List Entry) (q : AtPort) (size frame : ℕ) (old : List Call) (a : Numbers) (e : StartRefused)
-    (new : List Call) (left : Rest) (before : List Entry) (first : Entry) (behind : List Entry) →
+    (w : Watched) (fifo : ℕ) (h : List Entry) (q : AtPort) (size frame : ℕ) (old : List Call) (a : Numbers)
+    (e : StartRefused) (new : List Call) (left : Rest) (before : List Entry) (first : Entry) (behind : List Entry) →
     NeverLived q size frame old a e new left → IsRefused w fifo h q frame old new before first behind →
     let s = leads_to (new_state w.vfs fifo) before in
     receive.IsPrefixOf (left_handed left) (delivered w.queue s (first ∷ behind))

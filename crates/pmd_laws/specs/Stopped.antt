@@ -25,8 +25,8 @@ use Rattle.pmd_laws.specs.Life.{IsLife}
 
 -- a legal history of a new device that leaves the queue alone, in which the pass made just the calls of this life, and
 -- behind them those of a stop: none writes the queue's enable words with bit 25
-pub record IsStopping (w : Watched) (fifo : ℕ) (h : List Entry) (q : AtPort) (size frame : ℕ) (old : List Call) (a : Numbers)
-    (started : List Call) (r : Running) (made : List Call) (k : Halves) (new : List Call) : Type 0 where
+pub record IsStopping (w : Watched) (fifo : ℕ) (h : List Entry) (q : AtPort) (size frame : ℕ) (old : List Call)
+    (a : Numbers) (started : List Call) (r : Running) (made : List Call) (k : Halves) (new : List Call) : Type 0 where
   pub along : IsAlong w fifo h
   pub life : IsLife q size frame old a started r made k
   pub begins : BeginsWell w fifo h q size frame old a started r life.up

@@ -53,16 +53,16 @@ last m (n ∷ later) = last n later
 
 -- a `start` brought the driver up, as its clauses `shut` and `started` tell; and the other moments follow on the one
 -- when it returned
-pub record IsTold (q : AtPort) (size frame : ℕ) (old : List Call) (a : Numbers) (m : Moment) (later : List Moment) : Type 0
-  where
-    pub shut : IsShut (start_gate a q size frame) a old m.made (Ok m.driver)
-    pub started : HasStarted q size frame old a m.made m.driver
-    pub since : AllFollow m later
+pub record IsTold (q : AtPort) (size frame : ℕ) (old : List Call) (a : Numbers) (m : Moment) (later : List Moment) :
+    Type 0 where
+  pub shut : IsShut (start_gate a q size frame) a old m.made (Ok m.driver)
+  pub started : HasStarted q size frame old a m.made m.driver
+  pub since : AllFollow m later
 
 -- a legal history of a new device that leaves the queue alone, in which the pass has made just the calls of the last
 -- moment
-pub record IsToldOf (w : Watched) (fifo : ℕ) (h : List Entry) (q : AtPort) (size frame : ℕ) (old : List Call) (a : Numbers)
-    (m : Moment) (later : List Moment) : Type 0 where
+pub record IsToldOf (w : Watched) (fifo : ℕ) (h : List Entry) (q : AtPort) (size frame : ℕ) (old : List Call)
+    (a : Numbers) (m : Moment) (later : List Moment) : Type 0 where
   pub along : IsAlong w fifo h
   pub told : IsTold q size frame old a m later
   pub begins : BeginsWell w fifo h q size frame old a m.made told.started.0 told.started.2

@@ -62,6 +62,7 @@ pub record IsToldToWait (w : Watched) (fifo : ℕ) (h : List Entry) (q : AtPort)
 abbrev pub WaitingIsNotAllAsTold : Type 0
 WaitingIsNotAllAsTold =
     (w : Watched) (fifo : ℕ) (h : List Entry) (q : AtPort) (size frame : ℕ) (old : List Call) (a : Numbers) (m : Moment)
-    (later : List Moment) (n : Moment) (x : IsToldToWait w fifo h q size frame old a m later n) (before more : List Entry) →
+    (later : List Moment) (n : Moment) (x : IsToldToWait w fifo h q size frame old a m later n)
+    (before more : List Entry) →
     before ++ more ≡ x.look.before → AddsHarmless (last m later).made (calls_of w.pass before) →
     bytes_of (accepted_of (last m later).driver.rings) ≢ sent_since w.queue (new_state w.vfs fifo) [] before

@@ -42,10 +42,10 @@ pub fn lives_lend_apart()
     ensures { LifeLendsApart }
 {}
 
-/// Where the frames that wait for the queue fit a packet of the driver just before its first access, none of its arena's
-/// blocks is lent there, and no other pass lends any of them: no call of `rx`, `tx` or `reap` that comes after its start
-/// ends with the device at fault, over a legal history that leaves the queue alone, whatever harmless calls its author
-/// makes between through the same pass.
+/// Where the frames that wait for the queue fit a packet of the driver just before its first access, none of its
+/// arena's blocks is lent there, and no other pass lends any of them: no call of `rx`, `tx` or `reap` that comes after
+/// its start ends with the device at fault, over a legal history that leaves the queue alone, whatever harmless calls
+/// its author makes between through the same pass.
 pub fn no_call_finds_the_device_at_fault()
     ensures { NoCallFindsFault }
 {}

@@ -2,6 +2,7 @@ pub mod Asked
 pub mod Begun
 pub mod Books
 pub mod Driven
+pub mod Earlier
 pub mod Ends
 pub mod Faultless
 pub mod FirstHalves
@@ -17,6 +18,7 @@ pub mod LaidWords
 pub mod LedApart
 pub mod Lends
 pub mod LentSince
+pub mod Lived
 pub mod Looks
 pub mod NoFault
 pub mod OnePlace

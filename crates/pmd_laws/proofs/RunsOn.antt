@@ -1,13 +1,16 @@
 -- A driver that runs runs on, over calls as they are told, and harmless ones between.
-use Rattle.std.proofs.Common.{◌≡◌, ℕ, inl, inr, Bool, true, false, List, [], ◌∷◌, Option, Some, Ok, if◌then◌else◌, refl, sym, ◌∙◌, subst}
+use Rattle.std.proofs.Common.{◌≡◌, ℕ, inl, inr, Bool, true, false, ◌&&◌, List, [], ◌∷◌, Option, Some, Ok, if◌then◌else◌, refl, sym, ◌∙◌, subst}
+use Rattle.std.proofs.lemmas.Bool.{and_parts}
 use Rattle.nic_device.specs.DmaArena.Numbers.{Numbers, is_own}
 use Rattle.device_lock.specs.Alone.{Blocks}
 use Rattle.device_lock.specs.declared.entry.Call.{Call}
 use Rattle.pmd.specs.Driver.{Driver, WhereUp}
 use Rattle.pmd.specs.Running.{Running}
-use Rattle.pmd.specs.Started.{IsShut}
+use Rattle.pmd.specs.Started.{IsShut, is_size, start_gate}
 use Rattle.pmd.specs.declared.driver.Rings.{Rings}
 use Rattle.pmd.specs.declared.driver.Rings.TheVariants.{Up, Down}
+use Rattle.pmd.specs.PmdSeam.Frames.{is_frame}
+use Rattle.pmd.specs.PmdSeam.Named.{AtPort}
 use Rattle.pmd.specs.PmdSeam.declared.fault.PmdFault.{PmdFault}
 use Rattle.pmd.specs.PmdSeam.declared.fault.PmdFault.TheVariants.{BadSize}
 use Rattle.pmd.specs.Apart.{DrivesRings, OwnsSame}
@@ -88,8 +91,13 @@ all_follow m (n ∷ later) r is x =
           rings_led_on m.made n.made (last n later).made r one.rings more.rings one.leads more.leads;
     }
 
--- a start that isn't shut has a size that rings may have
-pub open_size : (size : ℕ) (a : Numbers) (old new : List Call) (p : Driver) (b : Bool) (rest : Option PmdFault)
+-- a start that isn't shut has a size that rings may have, and a length that frames may have
+
+open_gate : (a : Numbers) (old new : List Call) (p : Driver) (b : Bool) (rest : Option PmdFault)
     → IsShut (if b then rest else Some BadSize) a old new (Ok p) → b ≡ true
-open_size size a old new p true rest x = refl
-open_size size a old new p false rest x = absurd x
+open_gate a old new p true rest x = refl
+open_gate a old new p false rest x = absurd x
+
+pub open_size : (a : Numbers) (q : AtPort) (size frame : ℕ) (old new : List Call) (p : Driver)
+    → IsShut (start_gate a q size frame) a old new (Ok p) → (is_size size ≡ true) × (is_frame frame ≡ true)
+open_size a q size frame old new p x = and_parts _ _ (open_gate a old new p (is_size size && is_frame frame) _ x)

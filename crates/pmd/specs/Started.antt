@@ -1,5 +1,5 @@
 -- What a start leaves, and why it is refused.
-use Rattle.std.specs.Prelude.{ℕ, ◌≡◌, ◌⊎◌, ◌&&◌, ◌==◌, ◌+◌, ◌-◌, ◌*◌, ◌%◌, nat_le, nat_lt, is_some, Bool, List, [], ◌∷◌, Option, Some, None, Result, Ok, Err, ⊤, if◌then◌else◌}
+use Rattle.std.specs.Prelude.{true, ℕ, ◌≡◌, ◌⊎◌, ◌&&◌, ◌==◌, ◌+◌, ◌-◌, ◌*◌, ◌%◌, nat_le, nat_lt, is_some, Bool, List, [], ◌∷◌, Option, Some, None, Result, Ok, Err, ⊤, if◌then◌else◌}
 use Rattle.nic_device.specs.DmaArena.Numbers.{Numbers, free_count}
 use Rattle.pmd_rx.specs.DeviceLock.declared.entry.Call.{Call}
 use Rattle.nic_device.specs.DmaRing.declared.dir.Dir.TheVariants.{Tx}
@@ -64,6 +64,8 @@ IsShut (Some f) a old new (Err e) = (e.fault ≡ f) × IsHome a e.rest × (new �
 -- the rings came up one after the other: both are lent, both sides are on, and the receive ring is filled
 pub record AreUp (q : AtPort) (size frame : ℕ) (old : List Call) (a : Numbers) (new : List Call) (r : Running) :
     Type 0 where
+  pub sized : is_size size ≡ true
+  pub framed : is_frame frame ≡ true
   pub ready_made : List Call
   pub both_made : List Call
   pub ready_arena : Numbers
@@ -110,6 +112,8 @@ pub record StopsAfterOne (q : AtPort) (size frame : ℕ) (old : List Call) (a : 
 -- a side didn't go on, or the receive ring was filled in part, and both rings are left
 pub record StopsAfterBoth (q : AtPort) (size frame : ℕ) (old : List Call) (a : Numbers) (new : List Call)
     (e : StartRefused) : Type 0 where
+  pub sized : is_size size ≡ true
+  pub framed : is_frame frame ≡ true
   pub ready_made : List Call
   pub both_made : List Call
   pub ready_arena : Numbers

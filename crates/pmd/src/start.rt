@@ -82,6 +82,7 @@ fn named(
         start_gate arena.now (record { port = port; queue = queue }) size frame ≡ Some f) }
     ensures queue { IfOk result (λ n. n.0 ≡ record { port = port; queue = queue }) }
     ensures size { OnOk result ((8 ≤ size) × (size ≤ 1024)) }
+    ensures sized { OnOk result (is_size size ≡ true) }
     ensures frame { OnOk result (is_frame frame ≡ true) }
     ensures runs { IfOk result (λ n. AreRuns arena.now (blocks_for size) n.1.receive n.1.transmit) }
     ensures enough { OnOk result (size - 1 + 2 * blocks_for size ≤ free_count arena.now) }
@@ -177,6 +178,7 @@ fn bring_up<N: Nic>(
 ) -> Result<Pmd, StartRefused>
     requires some { 8 ≤ size }
     requires few { size ≤ 1024 }
+    requires sized { is_size size ≡ true }
     requires frame { is_frame frame ≡ true }
     requires runs { AreRuns arena (blocks_for size) places.receive places.transmit }
     requires enough { size - 1 + 2 * blocks_for size ≤ free_count arena }

@@ -32,7 +32,6 @@ use Rattle.pmd_laws.proofs.FirstHalves.{first_halves, halves_apart, halves_lent}
 
 module _ (w : Watched) (fifo : ℕ) (h : List Entry) (q : AtPort) (size frame : ℕ) (old : List Call) (a : Numbers)
     (on : List Call) (v : Receive) (t : Sender) (up : AreOn q size frame old a on v t) (along : IsAlong w fifo h)
-    (sized : is_size size ≡ true) (framed : is_frame frame ≡ true)
     (well : BeforeLast w fifo h up.receive.quiet.0 (HasGround w.queue q frame)) (ys : List Call)
     (p : Parts w.pass h on ys) where
   abbrev new : State
@@ -43,17 +42,17 @@ module _ (w : Watched) (fifo : ℕ) (h : List Entry) (q : AtPort) (size frame : 
 
   agrees : Agree w.queue (leads_to new p.front) [] v × Agrees (leads_to new p.front) w.queue [] t
   agrees =
-      switched_sides_agree w fifo h q size frame old a on v t up along sized framed well p.front p.back p.both p.fronts
+      switched_sides_agree w fifo h q size frame old a on v t up along well p.front p.back p.both p.fronts
 
   pub went_on : WentOn w.queue new p.front
   went_on =
-      switched_sides_go_on w fifo h q size frame old a on v t up along sized well p.front p.back p.both p.fronts
+      switched_sides_go_on w fifo h q size frame old a on v t up along well p.front p.back p.both p.fronts
 
   one : EachRingBlock up.receive.ring size (λ n. IsLentBy w.pass n h)
-  one = ring_lent w fifo h q size frame old a on v t up along sized well p.front p.back p.both p.fronts
+  one = ring_lent w fifo h q size frame old a on v t up along up.sized well p.front p.back p.both p.fronts
 
   two : EachRingBlock up.transmit.ring size (λ n. IsLentBy w.pass n h)
-  two = other_lent w fifo h q size frame old a on v t up along sized well p.front p.back p.both p.fronts
+  two = other_lent w fifo h q size frame old a on v t up along up.sized well p.front p.back p.both p.fronts
 
   -- by the doers of the calls behind it
   pub driven_by : (doers : List Doer) → AllOwn first doers ys → OthersHarmless doers ys
@@ -67,7 +66,7 @@ module _ (w : Watched) (fifo : ℕ) (h : List Entry) (q : AtPort) (size frame : 
         alone = subst (LeavesAlone w) all along.alone;
         begun =
             begun w.pass p.front
-            (λ none. on_some w fifo h q size frame old a on v t up along sized well (sym p.fronts ∙ none));
+            (λ none. on_some w fifo h q size frame old a on v t up along up.sized well (sym p.fronts ∙ none));
         on = went_on.received;
         up = went_on.receives;
         agree = record { receive = agrees.0; transmit = agrees.1; apart = halves_apart q size frame old a on v t up };

@@ -40,8 +40,6 @@ module _ (w : Watched) (fifo : ℕ) (h : List Entry) (q : AtPort) (size frame : 
   is_lived = record {
     along = x.along;
     life = record {
-      sized = x.sized;
-      framed = x.framed;
       up = lived.lives.up;
       since =
           subst (λ (cs : List Call). Leads lived.lives.made (halves_of lived.lives.fresh) cs (halves_of lived.last))
@@ -93,8 +91,6 @@ module _ (w : Watched) (fifo : ℕ) (h : List Entry) (q : AtPort) (size frame : 
   is_stopping = record {
     along = x.along;
     life = record {
-      sized = x.sized;
-      framed = x.framed;
       up = lived.lives.up;
       since = drives_lead _ _ _ _ lived.lives.drives.apart.drives;
     };

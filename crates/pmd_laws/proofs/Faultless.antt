@@ -22,7 +22,7 @@ use Rattle.pmd_laws.proofs.LedApart.{led, owns_still}
 use Rattle.pmd_laws.proofs.Lived.{along_before, begins_before}
 use Rattle.pmd_laws.proofs.NoFault.{no_fault_led_on}
 use Rattle.pmd_laws.proofs.PassLends.{others_before}
-use Rattle.pmd_laws.proofs.RunsOn.{RunsOn, open_size, up_next}
+use Rattle.pmd_laws.proofs.RunsOn.{RunsOn, up_next}
 use Rattle.pmd_laws.proofs.Told.{first, runs}
 
 -- calls that lead to such a call are part of it
@@ -69,11 +69,10 @@ module _ (w : Watched) (fifo : ℕ) (h : List Entry) (q : AtPort) (size frame : 
   refuted : Parts w.pass h n.made x.more → ⊥
   refuted p =
       let along = along_before w fifo h p.front p.back p.both x.along in
-      let (sized, framed) = open_size a q size frame old m.made m.driver x.told.shut in
       let well = begins_before w fifo h p.front p.back p.both q size frame old a m.made fresh x.told.started.2
       x.begins in
       no_fault_led_on w fifo p.front q size frame old a x.told.started.2.on.mid x.told.started.2.empty fresh.transmit
-      (on w fifo p.front q size frame old a m.made fresh x.told.started.2 along sized well) along sized framed
+      (on w fifo p.front q size frame old a m.made fresh x.told.started.2 along well) along
       well.ground (is_own a)
       (last_before w fifo h p.front p.back x.told.started.2.receive.quiet.0 (IsFresh w.queue frame (is_own a)) p.both
       x.fresh)

@@ -15,7 +15,7 @@ use Rattle.start_laws.proofs.Rising.{sized}
 use Rattle.start_laws.proofs.TransmitLaws.Packets.{length-segments}
 use Rattle.pmd_laws.specs.FullRing.{FullHasNoRoom, outstanding}
 use Rattle.pmd_laws.specs.Told.{last}
-use Rattle.pmd_laws.proofs.RunsOn.{open_size, up_next}
+use Rattle.pmd_laws.proofs.RunsOn.{up_next}
 use Rattle.pmd_laws.proofs.Told.{runs}
 
 -- how many slots the ring has, behind calls of the halves
@@ -85,7 +85,7 @@ full_has_no_room q size frame old a m later n p x tells =
     let (s, up, full) = up_next (λ r s. IsFullWhereTold r.transmit p (Ok (RingFull p))) (last m later).driver.rings
     n.driver.rings goes.rings goes.up tells in
     let (doers, since, made, own, is, steps) = goes.leads.apart.leads in
-    let some = (sized size (open_size a q size frame old m.made m.driver x.shut).0).0 in
+    let some = (sized size x.started.2.sized).0 in
     let fresh = x.started.2.transmit.fresh in
     let begun : HasRoom x.started.0.transmit = subst HasRoom (sym fresh) some in
     let room = subst (λ (h : Halves). HasRoom h.transmit) (sym is) (played_room _ doers since own begun) in

@@ -1,3 +1,4 @@
+pub use Rattle.start_laws.proofs as StartLaws
 pub mod Asked
 pub mod Begun
 pub mod Books

@@ -48,8 +48,6 @@ module _ (w : Watched) (fifo : ℕ) (h before rest : List Entry) (all : before +
   lived_before q size frame old a started r made calls j k life along begins goes is = record {
     along = along_before along;
     life = record {
-      sized = life.sized;
-      framed = life.framed;
       up = life.up;
       since = subst (λ (cs : List Call). Leads started (halves_of r) cs k) (sym is) goes;
     };

@@ -38,7 +38,6 @@ use Rattle.pmd_laws.proofs.SickCall.{made, made_is, others_step, own_all}
 
 module _ (w : Watched) (fifo : ℕ) (h : List Entry) (q : AtPort) (size frame : ℕ) (old : List Call) (a : Numbers)
     (on : List Call) (v : Receive) (t : Sender) (up : AreOn q size frame old a on v t) (along : IsAlong w fifo h)
-    (sized : is_size size ≡ true) (framed : is_frame frame ≡ true)
     (well : BeforeLast w fifo h up.receive.quiet.0 (HasGround w.queue q frame)) (own : Blocks)
     (fresh : BeforeLast w fifo h up.receive.quiet.0 (IsFresh w.queue frame own)) (others : OnlyPassLends w.pass own h)
   where
@@ -96,7 +95,7 @@ module _ (w : Watched) (fifo : ℕ) (h : List Entry) (q : AtPort) (size frame : 
           (rest ++ more) all fronts in
           record {
             driven =
-                driven_by w fifo h q size frame old a on v t up along sized framed well
+                driven_by w fifo h q size frame old a on v t up along well
                 (calls_of w.pass (rest ++ more)) p
                 (doers ++ ends) own_both others_both;
             short =

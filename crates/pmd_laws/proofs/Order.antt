@@ -39,7 +39,7 @@ module _ (w : Watched) (fifo : ℕ) (h : List Entry) (q : AtPort) (size frame : 
   up = x.life.up
 
   abbrev pub begun : AreOn q size frame old a up.on.mid up.empty r.transmit
-  begun = on w fifo h q size frame old a started r up x.along x.life.sized x.begins
+  begun = on w fifo h q size frame old a started r up x.along x.begins
 
   abbrev pub first : Halves
   first = first_halves q size frame old a up.on.mid up.empty r.transmit begun
@@ -60,13 +60,13 @@ module _ (w : Watched) (fifo : ℕ) (h : List Entry) (q : AtPort) (size frame : 
 
     pub went_on : WentOn w.queue new p.front
     went_on =
-        begun_on.went_on w fifo h q size frame old a up.on.mid up.empty r.transmit begun x.along x.life.sized
-        x.life.framed x.begins.ground whole.1 p
+        begun_on.went_on w fifo h q size frame old a up.on.mid up.empty r.transmit begun x.along
+        x.begins.ground whole.1 p
 
     pub driven : IsDriven w fifo p.front p.back first whole.0
     driven =
-        driven_by w fifo h q size frame old a up.on.mid up.empty r.transmit begun x.along x.life.sized
-        x.life.framed x.begins.ground whole.1 p whole.0 whole.3 whole.5
+        driven_by w fifo h q size frame old a up.on.mid up.empty r.transmit begun x.along
+        x.begins.ground whole.1 p whole.0 whole.3 whole.5
 
     pub last : played_by first whole.0 (calls_of w.pass p.back) ≡ k
     last = ap (played_by first whole.0) p.backs ∙ sym whole.4

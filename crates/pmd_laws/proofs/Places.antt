@@ -36,7 +36,7 @@ use Rattle.pmd_laws.proofs.LedApart as led_apart
 use Rattle.pmd_laws.proofs.LentSince.{lent_at}
 use Rattle.pmd_laws.proofs.PassLends.{others_behind}
 use Rattle.pmd_laws.proofs.RiseCalls.{Rises, on_rises}
-use Rattle.pmd_laws.proofs.RunsOn.{RunsOn, open_size}
+use Rattle.pmd_laws.proofs.RunsOn.{RunsOn}
 use Rattle.pmd_laws.proofs.Told.{first, runs}
 
 module _ (w : Watched) (fifo : ℕ) (h : List Entry) (q : AtPort) (size frame : ℕ) (old : List Call) (a : Numbers)
@@ -53,11 +53,8 @@ module _ (w : Watched) (fifo : ℕ) (h : List Entry) (q : AtPort) (size frame : 
   abbrev up : AreUp q size frame old a m.made fresh
   up = x.told.started.2
 
-  fitting : (is_size size ≡ true) × (is_frame frame ≡ true)
-  fitting = open_size a q size frame old m.made m.driver x.told.shut
-
   abbrev begun : AreOn q size frame old a up.on.mid up.empty fresh.transmit
-  begun = on w fifo h q size frame old a m.made fresh up x.along fitting.0 x.begins
+  begun = on w fifo h q size frame old a m.made fresh up x.along x.begins
 
   -- the calls from there on
   apart : LeadsApart (is_own a) up.on.mid begins (last m later).made (halves_of goes.rings)
@@ -74,7 +71,7 @@ module _ (w : Watched) (fifo : ℕ) (h : List Entry) (q : AtPort) (size frame : 
 
   driven : IsDriven w fifo parted.front parted.back begins doers
   driven =
-      driven_by w fifo h q size frame old a up.on.mid up.empty fresh.transmit begun x.along fitting.0 fitting.1
+      driven_by w fifo h q size frame old a up.on.mid up.empty fresh.transmit begun x.along
       x.begins.ground calls parted
       doers apart.leads.3 apart.leads.5
 

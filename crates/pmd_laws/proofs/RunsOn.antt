@@ -90,14 +90,3 @@ all_follow m (n ∷ later) r is x =
       leads =
           rings_led_on m.made n.made (last n later).made r one.rings more.rings one.leads more.leads;
     }
-
--- a start that isn't shut has a size that rings may have, and a length that frames may have
-
-open_gate : (a : Numbers) (old new : List Call) (p : Driver) (b : Bool) (rest : Option PmdFault)
-    → IsShut (if b then rest else Some BadSize) a old new (Ok p) → b ≡ true
-open_gate a old new p true rest x = refl
-open_gate a old new p false rest x = absurd x
-
-pub open_size : (a : Numbers) (q : AtPort) (size frame : ℕ) (old new : List Call) (p : Driver)
-    → IsShut (start_gate a q size frame) a old new (Ok p) → (is_size size ≡ true) × (is_frame frame ≡ true)
-open_size a q size frame old new p x = and_parts _ _ (open_gate a old new p (is_size size && is_frame frame) _ x)

@@ -53,7 +53,7 @@ module _ (w : Watched) (fifo : ℕ) (h : List Entry) (q : AtPort) (size frame : 
       let at = last_before w fifo h p.front p.back quiet.0 (IsQuietAndFresh w.queue q frame (is_own a)) p.both
       (first_read w q fifo h (IsQuietAndFresh w.queue q frame (is_own a)) old quiet.0 x.begins quiet.1) in
       no_fault_once_on w fifo p.front q size frame old a f.mid f.empty f.sender f.on
-      (along_before w fifo h p.front p.back p.both x.along) x.sized x.framed
+      (along_before w fifo h p.front p.back p.both x.along)
       (λ done more e both own is. (at done more e both own is).0.ground) (is_own a)
       (λ done more e both own is. (at done more e both own is).1)
       (others_before w.pass (is_own a) p.front p.back

@@ -54,7 +54,7 @@ module _ (w : Watched) (fifo : ℕ) (h : List Entry) (q : AtPort) (size frame : 
   ground_lived =
       let u = up w fifo h q size frame old a started r k x in
       let goes = whole w fifo h q size frame old a started r k x in
-      let at = ground_at w fifo h q size frame old a started r u x.along x.life.sized x.begins in
+      let at = ground_at w fifo h q size frame old a started r u x.along x.begins in
       all_lead w fifo h (λ done. HasGround w.queue q frame (reached w fifo done)) (λ c. IsPlain q c.event) x.along
       (state_kept w fifo (lent_by w.pass h) (HasGround w.queue q frame) (ground_kept w (lent_by w.pass h) q frame))
       (λ c own.
@@ -62,7 +62,7 @@ module _ (w : Watched) (fifo : ℕ) (h : List Entry) (q : AtPort) (size frame : 
       (λ s met made told g. plain_keeps w.queue q frame s c.event own g))
       goes.1 u.on.mid
       (all_plain q (first w fifo h q size frame old a started r k x) goes.0 goes.1 goes.3 goes.5 placed)
-      (on_some w fifo h q size frame old a started r u x.along x.life.sized x.begins) at
+      (on_some w fifo h q size frame old a started r u x.along x.begins) at
       h [] (append-nil h) goes.2
 
   settled_by : Parts w.pass h (up w fifo h q size frame old a started r k x).on.mid
@@ -92,7 +92,7 @@ life_some w fifo h q size frame old a started r made k along life begins none =
     some_more started life.since.1
     (λ first.
     some_more life.up.on.mid life.up.on.plays.plays.1
-    (on_some w fifo h q size frame old a started r life.up along life.sized begins)
+    (on_some w fifo h q size frame old a started r life.up along begins)
     (sym life.up.on.plays.plays.2 ∙ first))
     (sym life.since.2 ∙ none)
 

@@ -26,7 +26,7 @@ use Rattle.pmd_laws.specs.Told as told
 use Rattle.pmd_laws.specs.Told.{HasNoneOut, IsTold, IsToldOf, IsToldToLook, Moment, last}
 use Rattle.pmd_laws.proofs.Looks.{none_at_first, none_before_look}
 use Rattle.pmd_laws.proofs.Order.{handed_of_life, idle_of_life, sent_of_life}
-use Rattle.pmd_laws.proofs.RunsOn.{RunsOn, all_follow, open_size, up_next}
+use Rattle.pmd_laws.proofs.RunsOn.{RunsOn, all_follow, up_next}
 
 -- so it is a life
 module _ (q : AtPort) (size frame : ℕ) (old : List Call) (a : Numbers) (m : Moment) (later : List Moment)
@@ -46,8 +46,6 @@ module _ (q : AtPort) (size frame : ℕ) (old : List Call) (a : Numbers) (m : Mo
   abbrev pub life : (calls : List Call) → Leads m.made (halves_of first) calls now
       → IsLife q size frame old a m.made first calls now
   life calls since = record {
-    sized = (open_size a q size frame old m.made m.driver x.shut).0;
-    framed = (open_size a q size frame old m.made m.driver x.shut).1;
     up = x.started.2;
     since = since;
   }

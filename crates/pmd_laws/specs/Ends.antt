@@ -25,8 +25,6 @@ pub record IsToStop (w : Watched) (fifo : ℕ) (h : List Entry) (q : AtPort) (si
     (a : Numbers) (new : List Call) (left : Rest) (late : Option PmdFault)
     (life : HasLived q size frame old a new left late) : Type 0 where
   pub along : IsAlong w fifo h
-  pub sized : is_size size ≡ true
-  pub framed : is_frame frame ≡ true
   pub calls : calls_of w.pass h ≡ life.made
   pub begins : BeginsWell w fifo h q size frame old a life.lives.made life.lives.fresh life.lives.up
 
@@ -35,8 +33,6 @@ pub record IsOver (w : Watched) (fifo : ℕ) (h : List Entry) (q : AtPort) (size
     (a : Numbers) (new : List Call) (left : Rest) (late : Option PmdFault)
     (life : HasLived q size frame old a new left late) : Type 0 where
   pub along : IsAlong w fifo h
-  pub sized : is_size size ≡ true
-  pub framed : is_frame frame ≡ true
   pub since : List Call
   pub rest : List Call
   pub all : new ≡ (life.made ++ since) ++ rest

@@ -70,8 +70,6 @@ IsQuietAndFresh queue q frame own s = IsQuiet queue q frame s × IsFresh queue f
 pub record BeginsApart (w : Watched) (fifo : ℕ) (h : List Entry) (q : AtPort) (size frame : ℕ) (old : List Call)
     (a : Numbers) (new : List Call) : Type 0 where
   pub along : IsAlong w fifo h
-  pub sized : is_size size ≡ true
-  pub framed : is_frame frame ≡ true
   pub begins : BeforeNext w fifo h old (IsQuietAndFresh w.queue q frame (is_own a))
   pub others : OnlyPassLends w.pass (is_own a) h
   pub more : List Call

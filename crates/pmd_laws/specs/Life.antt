@@ -13,7 +13,5 @@ use Rattle.driver_laws.specs.Beside.{Leads}
 -- rings up; and since then its halves were led on, beside calls that are harmless
 pub record IsLife (q : AtPort) (size frame : ℕ) (old : List Call) (a : Numbers) (started : List Call) (r : Running)
     (calls : List Call) (k : Halves) : Type 0 where
-  pub sized : is_size size ≡ true
-  pub framed : is_frame frame ≡ true
   pub up : AreUp q size frame old a started r
   pub since : Leads started (halves_of r) calls k

@@ -9,7 +9,7 @@ use Rattle.device_lock.specs.declared.entry.Call.{Call}
 use Rattle.device_lock.specs.declared.entry.Entry.{Entry}
 use Rattle.pmd.specs.Driver.{Driver, WhereUp, accepted_of, handed_of}
 use Rattle.pmd.specs.Life.{RunsOn, KeepsHalves}
-use Rattle.pmd.specs.Started.{HasStarted, IsShut, start_gate}
+use Rattle.pmd.specs.Started.{HasStarted}
 use Rattle.pmd.specs.declared.driver.Rings.{Rings}
 use Rattle.pmd.specs.declared.driver.Rings.TheVariants.{Up, Down}
 use Rattle.pmd.specs.PmdSeam.Named.{AtPort}
@@ -51,11 +51,10 @@ abbrev pub last : Moment → List Moment → Moment
 last m [] = m
 last m (n ∷ later) = last n later
 
--- a `start` brought the driver up, as its clauses `shut` and `started` tell; and the other moments follow on the one
--- when it returned
+-- a `start` brought the driver up, as its clause `started` tells; and the other moments follow on the one when it
+-- returned
 pub record IsTold (q : AtPort) (size frame : ℕ) (old : List Call) (a : Numbers) (m : Moment) (later : List Moment) :
     Type 0 where
-  pub shut : IsShut (start_gate a q size frame) a old m.made (Ok m.driver)
   pub started : HasStarted q size frame old a m.made m.driver
   pub since : AllFollow m later
 

@@ -59,6 +59,8 @@ faults_are_early_or_filling q size frame old a new e (inr (inr x)) is =
       empty = x.empty;
       sender = x.sender;
       on = record {
+        sized = x.sized;
+        framed = x.framed;
         ready_made = x.ready_made;
         both_made = x.both_made;
         ready_arena = x.ready_arena;
@@ -92,11 +94,11 @@ first_ground w q frame fifo h row on old new at (number, word, named, is, (befor
     (at before (call_of (event.Read q.port number) (reply.Word word)) steps refl done rest e all own calls).ground)
 
 pub filling_begins_well : FillingBeginsWell
-filling_begins_well w q fifo h size frame old a new along sized long at x done rest all calls =
+filling_begins_well w q fifo h size frame old a new along at x done rest all calls =
     let quiet = x.on.receive.quiet in
     let well = first_ground w q frame fifo h Rxdctl false old quiet.0 at quiet.1 in
-    let on = switched_sides_go_on w fifo h q size frame old a x.mid x.empty x.sender x.on along sized well done rest
+    let on = switched_sides_go_on w fifo h q size frame old a x.mid x.empty x.sender x.on along well done rest
     all calls in
-    let agree = switched_sides_agree w fifo h q size frame old a x.mid x.empty x.sender x.on along sized long well done
+    let agree = switched_sides_agree w fifo h q size frame old a x.mid x.empty x.sender x.on along well done
     rest all calls in
     (on.receives, agree.0, agree.1)

@@ -146,13 +146,13 @@ module _ (w : Watched) (fifo : ℕ) (h : List Entry) (q : AtPort) (size frame : 
         (prepared_some q Tx size up.ready_made up.ready_arena up.both_made up.both_arena other up.transmit.prepared)
 
 pub switched_sides_agree : SwitchedSidesAgree
-switched_sides_agree w fifo h q size frame old a new v t up along is long well =
-    agrees_at w fifo h q size frame old a new v t up along is well long
+switched_sides_agree w fifo h q size frame old a new v t up along well =
+    agrees_at w fifo h q size frame old a new v t up along up.sized well up.framed
 
 pub switched_sides_go_on : SwitchedSidesGoOn
-switched_sides_go_on w fifo h q size frame old a new v t up along is well =
-    goes_on_at w fifo h q size frame old a new v t up along is well
+switched_sides_go_on w fifo h q size frame old a new v t up along well =
+    goes_on_at w fifo h q size frame old a new v t up along up.sized well
 
 pub switched_sides_begin_none : SwitchedSidesBeginNone
-switched_sides_begin_none w fifo h q size frame old a new v t up along is well =
-    begun_at w fifo h q size frame old a new v t up along is well
+switched_sides_begin_none w fifo h q size frame old a new v t up along well =
+    begun_at w fifo h q size frame old a new v t up along up.sized well

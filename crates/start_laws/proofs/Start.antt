@@ -17,12 +17,14 @@ use Rattle.start_laws.proofs.On.{ground_at as ground_is_at, on_some as once_on_s
 
 module _ (w : Watched) (fifo : ℕ) (h : List Entry) (q : AtPort) (size frame : ℕ) (old : List Call) (a : Numbers)
     (new : List Call) (r : Running) (up : AreUp q size frame old a new r) (along : IsAlong w fifo h)
-    (is : is_size size ≡ true) (well : BeginsWell w fifo h q size frame old a new r up)
+    (well : BeginsWell w fifo h q size frame old a new r up)
   where
     -- before the receive ring is filled both sides are on
 
     abbrev pub on : AreOn q size frame old a up.on.mid up.empty r.transmit
     on = record {
+      sized = up.sized;
+      framed = up.framed;
       ready_made = up.ready_made;
       both_made = up.both_made;
       ready_arena = up.ready_arena;
@@ -35,29 +37,29 @@ module _ (w : Watched) (fifo : ℕ) (h : List Entry) (q : AtPort) (size frame : 
     pub ring_lent : AtEntries w h up.on.mid
         (λ done. EachRingBlock up.receive.ring size (λ n. IsLentBy w.pass n h))
     ring_lent =
-        ring_is_lent w fifo h q size frame old a up.on.mid up.empty r.transmit on along is well.ground
+        ring_is_lent w fifo h q size frame old a up.on.mid up.empty r.transmit on along up.sized well.ground
 
     pub other_lent : AtEntries w h up.on.mid
         (λ done. EachRingBlock up.transmit.ring size (λ n. IsLentBy w.pass n h))
     other_lent =
-        other_is_lent w fifo h q size frame old a up.on.mid up.empty r.transmit on along is well.ground
+        other_is_lent w fifo h q size frame old a up.on.mid up.empty r.transmit on along up.sized well.ground
 
     -- port and queue name this queue there
     pub ground_at : AtCalls w fifo h up.on.mid (HasGround w.queue q frame)
     ground_at =
-        ground_is_at w fifo h q size frame old a up.on.mid up.empty r.transmit on along is well.ground
+        ground_is_at w fifo h q size frame old a up.on.mid up.empty r.transmit on along up.sized well.ground
 
     -- some calls were made before both were on
     pub on_some : up.on.mid ≢ []
     on_some =
-        once_on_some w fifo h q size frame old a up.on.mid up.empty r.transmit on along is well.ground
+        once_on_some w fifo h q size frame old a up.on.mid up.empty r.transmit on along up.sized well.ground
 
 pub start_agrees : StartAgrees
-start_agrees w fifo h q size frame old a new r up along is long well =
+start_agrees w fifo h q size frame old a new r up along well =
     switched_sides_agree w fifo h q size frame old a up.on.mid up.empty r.transmit
-    (on w fifo h q size frame old a new r up along is well) along is long well.ground
+    (on w fifo h q size frame old a new r up along well) along well.ground
 
 pub start_goes_on : StartGoesOn
-start_goes_on w fifo h q size frame old a new r up along is well =
+start_goes_on w fifo h q size frame old a new r up along well =
     switched_sides_go_on w fifo h q size frame old a up.on.mid up.empty r.transmit
-    (on w fifo h q size frame old a new r up along is well) along is well.ground
+    (on w fifo h q size frame old a new r up along well) along well.ground

@@ -93,6 +93,6 @@ NoFaultIsEarly =
 abbrev pub FillingBeginsWell : Type 0
 FillingBeginsWell =
     (w : Watched) (q : AtPort) (fifo : ℕ) (h : List Entry) (size frame : ℕ) (old : List Call) (a : Numbers)
-    (new : List Call) → IsAlong w fifo h → is_size size ≡ true → is_frame frame ≡ true →
+    (new : List Call) → IsAlong w fifo h →
     BeforeNext w fifo h old (IsQuiet w.queue q frame) → (x : FaultsFilling q size frame old a new) →
     AtCalls w fifo h x.mid (λ s. IsUp w.queue s × Agree w.queue s [] x.empty × Agrees s w.queue [] x.sender)

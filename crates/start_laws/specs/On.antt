@@ -22,6 +22,8 @@ use Rattle.start_laws.specs.Unused.{WentOn}
 -- the rings came up one after the other, and then both sides went on
 pub record AreOn (q : AtPort) (size frame : ℕ) (old : List Call) (a : Numbers) (new : List Call) (v : Receive)
     (t : Sender) : Type 0 where
+  pub sized : is_size size ≡ true
+  pub framed : is_frame frame ≡ true
   pub ready_made : List Call
   pub both_made : List Call
   pub ready_arena : Numbers
@@ -36,7 +38,6 @@ abbrev pub SwitchedSidesAgree : Type 0
 SwitchedSidesAgree =
     (w : Watched) (fifo : ℕ) (h : List Entry) (q : AtPort) (size frame : ℕ) (old : List Call) (a : Numbers)
     (new : List Call) (v : Receive) (t : Sender) (up : AreOn q size frame old a new v t) → IsAlong w fifo h →
-    is_size size ≡ true → is_frame frame ≡ true →
     BeforeLast w fifo h up.receive.quiet.0 (HasGround w.queue q frame) →
     AtCalls w fifo h new (λ s. Agree w.queue s [] v × Agrees s w.queue [] t)
 
@@ -45,7 +46,7 @@ abbrev pub SwitchedSidesGoOn : Type 0
 SwitchedSidesGoOn =
     (w : Watched) (fifo : ℕ) (h : List Entry) (q : AtPort) (size frame : ℕ) (old : List Call) (a : Numbers)
     (new : List Call) (v : Receive) (t : Sender) (up : AreOn q size frame old a new v t) → IsAlong w fifo h →
-    is_size size ≡ true → BeforeLast w fifo h up.receive.quiet.0 (HasGround w.queue q frame) →
+    BeforeLast w fifo h up.receive.quiet.0 (HasGround w.queue q frame) →
     AtEntries w h new (WentOn w.queue (new_state w.vfs fifo))
 
 -- and nothing is written there yet of a frame that waits for the queue
@@ -53,5 +54,5 @@ abbrev pub SwitchedSidesBeginNone : Type 0
 SwitchedSidesBeginNone =
     (w : Watched) (fifo : ℕ) (h : List Entry) (q : AtPort) (size frame : ℕ) (old : List Call) (a : Numbers)
     (new : List Call) (v : Receive) (t : Sender) (up : AreOn q size frame old a new v t) → IsAlong w fifo h →
-    is_size size ≡ true → BeforeLast w fifo h up.receive.quiet.0 (HasGround w.queue q frame) →
+    BeforeLast w fifo h up.receive.quiet.0 (HasGround w.queue q frame) →
     AtCalls w fifo h new (λ s. begun_on w.queue s.waiting ≡ 0)

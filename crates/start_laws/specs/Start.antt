@@ -26,14 +26,14 @@ pub record BeginsWell (w : Watched) (fifo : ℕ) (h : List Entry) (q : AtPort) (
 abbrev pub StartAgrees : Type 0
 StartAgrees =
     (w : Watched) (fifo : ℕ) (h : List Entry) (q : AtPort) (size frame : ℕ) (old : List Call) (a : Numbers)
-    (new : List Call) (r : Running) (up : AreUp q size frame old a new r) → IsAlong w fifo h → is_size size ≡ true →
-    is_frame frame ≡ true → BeginsWell w fifo h q size frame old a new r up →
+    (new : List Call) (r : Running) (up : AreUp q size frame old a new r) → IsAlong w fifo h →
+    BeginsWell w fifo h q size frame old a new r up →
     AtCalls w fifo h up.on.mid (λ s. Agree w.queue s [] up.empty × Agrees s w.queue [] r.transmit)
 
 -- and both sides are on there, with nothing received or sent since they went on
 abbrev pub StartGoesOn : Type 0
 StartGoesOn =
     (w : Watched) (fifo : ℕ) (h : List Entry) (q : AtPort) (size frame : ℕ) (old : List Call) (a : Numbers)
-    (new : List Call) (r : Running) (up : AreUp q size frame old a new r) → IsAlong w fifo h → is_size size ≡ true →
+    (new : List Call) (r : Running) (up : AreUp q size frame old a new r) → IsAlong w fifo h →
     BeginsWell w fifo h q size frame old a new r up →
     AtEntries w h up.on.mid (WentOn w.queue (new_state w.vfs fifo))

@@ -16,8 +16,8 @@ use Rattle.pmd.specs.Halves.{Drives, Halves}
 use Rattle.pmd.specs.Running.{Running}
 use Rattle.pmd.specs.Started.{AreUp}
 use Rattle.pmd.specs.Starting.{IsPrepared}
-use Rattle.start_laws.proofs.Made.{extends}
-use Rattle.start_laws.proofs.Prepared.{lends_extend}
+use Rattle.pmd_laws.proofs.StartLaws.Made.{extends}
+use Rattle.pmd_laws.proofs.StartLaws.Prepared.{lends_extend}
 
 -- some calls were made
 abbrev pub GoesOn : List Call → List Call → Type 0

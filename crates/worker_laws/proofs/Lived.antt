@@ -19,27 +19,27 @@ use Rattle.pmd.specs.PmdSeam.declared.fault.PmdFault.{PmdFault}
 use Rattle.pmd.specs.Driver.{halted_of}
 use Rattle.pmd.specs.Halves.{halves_of}
 use Rattle.pmd.specs.Life.{HasLived}
-use Rattle.pmd.specs.Started.{AreUp, is_size, left_accepted, left_handed}
+use Rattle.pmd.specs.Started.{AreUp, left_accepted, left_handed}
 use Rattle.pmd.specs.declared.driver.Rings.TheVariants.{Up}
 use Rattle.pmd.specs.declared.start.Rest.{Rest}
-use Rattle.start_laws.specs.ReceiveLaws.Delivered as receive
-use Rattle.start_laws.specs.ReceiveLaws.Delivered.{delivered}
-use Rattle.start_laws.proofs.ReceiveLaws.Delivering.{leads-append}
-use Rattle.start_laws.specs.TransmitLaws.Agreeing.{bytes_of}
-use Rattle.start_laws.specs.TransmitLaws.Laws as transmit
-use Rattle.start_laws.specs.TransmitLaws.Sent.{sent_since}
-use Rattle.start_laws.specs.Along.{IsAlong}
-use Rattle.start_laws.specs.Points.{HasGround}
-use Rattle.start_laws.specs.Quieting.{IsQuiet}
-use Rattle.start_laws.specs.Start.{BeginsWell}
-use Rattle.start_laws.specs.Unused.{WentOn}
-use Rattle.start_laws.proofs.Parts.{Begins, Parts, around, calls_joined, one_begins, parts}
-use Rattle.start_laws.proofs.Quieting.{quieting_leads}
-use Rattle.start_laws.proofs.Start.{start_goes_on}
+use Rattle.pmd_laws.specs.StartLaws.ReceiveLaws.Delivered as receive
+use Rattle.pmd_laws.specs.StartLaws.ReceiveLaws.Delivered.{delivered}
+use Rattle.pmd_laws.proofs.StartLaws.ReceiveLaws.Delivering.{leads-append}
+use Rattle.pmd_laws.specs.StartLaws.TransmitLaws.Agreeing.{bytes_of}
+use Rattle.pmd_laws.specs.StartLaws.TransmitLaws.Laws as transmit
+use Rattle.pmd_laws.specs.StartLaws.TransmitLaws.Sent.{sent_since}
+use Rattle.pmd_laws.specs.StartLaws.Along.{IsAlong}
+use Rattle.pmd_laws.specs.StartLaws.Points.{HasGround}
+use Rattle.pmd_laws.specs.StartLaws.Quieting.{IsQuiet}
+use Rattle.pmd_laws.specs.StartLaws.Start.{BeginsWell}
+use Rattle.pmd_laws.specs.StartLaws.Unused.{WentOn}
+use Rattle.pmd_laws.proofs.StartLaws.Parts.{Begins, Parts, around, calls_joined, one_begins, parts}
+use Rattle.pmd_laws.proofs.StartLaws.Quieting.{quieting_leads}
+use Rattle.pmd_laws.proofs.StartLaws.Start.{start_goes_on}
 use Rattle.pmd_laws.specs.Ends.{IsOver}
 use Rattle.pmd_laws.proofs.Ends.{left_handed_over_stop, left_sent_over_stop, stopped_ends}
 use Rattle.worker_laws.specs.Starts.{JustBefore, Starts}
-use Rattle.worker_laws.proofs.Beginning.{FirstCall, first_read, more_behind, steps_have}
+use Rattle.worker_laws.proofs.FirstCalls.{FirstCall, first_read, more_behind, steps_have}
 use Rattle.worker_laws.proofs.Counted.{delivered_from, sent_from}
 use Rattle.worker_laws.proofs.Early.{GoesOn, drives_goes, filling_goes, goes_on, quieted_goes, rising_goes}
 
@@ -97,7 +97,7 @@ module _ (w : Watched) (fifo : ℕ) (h : List Entry) (q : AtPort) (size frame : 
         calls = x.made;
       }
 
-  module _ (along : IsAlong w fifo h) (sized : is_size size ≡ true)
+  module _ (along : IsAlong w fifo h)
       (ground : JustBefore w.vfs fifo w.pass old h (HasGround w.queue q frame)) where
     abbrev origin : State
     origin = new_state w.vfs fifo
@@ -124,7 +124,6 @@ module _ (w : Watched) (fifo : ℕ) (h : List Entry) (q : AtPort) (size frame : 
     over : IsOver w fifo h q size frame old a new left late lived
     over = record {
       along = along;
-      sized = sized;
       since = stop_goes.0;
       rest = [];
       all = stop_goes.1 ∙ sym (append-nil (lived.made ++ stop_goes.0));
@@ -155,7 +154,7 @@ module _ (w : Watched) (fifo : ℕ) (h : List Entry) (q : AtPort) (size frame : 
 
     went_on : WentOn w.queue origin both_on.front
     went_on =
-        start_goes_on w fifo h q size frame old a lived.lives.made lived.lives.fresh up along sized begins both_on.front
+        start_goes_on w fifo h q size frame old a lived.lives.made lived.lives.fresh up along begins both_on.front
         both_on.back both_on.both both_on.fronts
 
     module _ (x : Starts w.pass old h) where

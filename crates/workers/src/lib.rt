@@ -35,8 +35,8 @@ mod widening;
 mod worker_task;
 
 pub use device_lock::{
-    Call, CallFault, Calls, CloseFault, CloseRefused, Closed, Entry, Made, NewFault, Pass, Shared,
-    Watched, left_alone,
+    Call, CallFault, Calls, CloseFault, CloseRefused, Closed, Entry, Made, NewFault, Pass,
+    Settings, Shared, Watched, left_alone,
 };
 pub use driving::{Order, run_worker};
 pub use ends::{Ran, RunFault, RunRefused, WorkerEnd};

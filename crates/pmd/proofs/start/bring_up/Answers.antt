@@ -86,6 +86,8 @@ returns-in-Ok-go_on-clause-started g c =
           ∙ ap (λ (x : Running). let d : Driver = record { queue = c.args.queue; rings = Up x } in d)
           c.new-running.ensures,
       record {
+        sized = c.requires.sized;
+        framed = c.requires.frame;
         ready_made = g.N.Nic.made c.receive_ring.new.nic;
         both_made = g.N.Nic.made c.transmit_ring.new.nic;
         ready_arena = c.receive_ring.new.arena;
@@ -99,6 +101,8 @@ returns-in-Ok-go_on-clause-started g c =
 
 pub returns-in-Err-go_on-clause-stops : goal.returns-in-Err-go_on-clause-stops
 returns-in-Err-go_on-clause-stops g c = inr (inr (record {
+  sized = c.requires.sized;
+  framed = c.requires.frame;
   ready_made = g.N.Nic.made c.receive_ring.new.nic;
   both_made = g.N.Nic.made c.transmit_ring.new.nic;
   ready_arena = c.receive_ring.new.arena;

@@ -13,8 +13,8 @@ use Rattle.pmd.specs.PmdSeam.Events.{is_step}
 use Rattle.pmd.specs.PmdSeam.Made.{AreSteps}
 use Rattle.pmd.specs.PmdSeam.Named.{AtPort}
 use Rattle.pmd.specs.PmdSeam.QueueMade.{IsMade, Sees}
-use Rattle.start_laws.proofs.ReceiveLaws.Histories.{calls_own}
-use Rattle.start_laws.proofs.Parts.{calls_joined}
+use Rattle.pmd_laws.proofs.StartLaws.ReceiveLaws.Histories.{calls_own}
+use Rattle.pmd_laws.proofs.StartLaws.Parts.{calls_joined}
 use Rattle.worker_laws.specs.Starts.{Starts}
 
 -- each of some steps of the device is one

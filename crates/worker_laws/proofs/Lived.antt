@@ -149,7 +149,7 @@ module _ (w : Watched) (fifo : ℕ) (h : List Entry) (q : AtPort) (size frame : 
 
     quiet : IsQuiet w.queue q frame (leads_to origin both_off.front)
     quiet =
-        quieting_leads w q fifo h old up.receive.mid along up.receive.quiet begins.ground both_off.front rest whole
+        quieting_leads w q frame fifo h old up.receive.mid along up.receive.quiet begins.ground both_off.front rest whole
         both_off.fronts
 
     went_on : WentOn w.queue origin both_on.front

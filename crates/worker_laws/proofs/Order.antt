@@ -21,7 +21,7 @@ use Rattle.pmd_laws.specs.StartLaws.Along.{IsAlong}
 use Rattle.pmd_laws.specs.StartLaws.Points.{HasGround}
 use Rattle.pmd_laws.specs.StartLaws.Quieting.{IsQuiet}
 use Rattle.pmd_laws.proofs.StartLaws.Parts.{none_behind}
-use Rattle.pmd_laws.proofs.Looks.{along_before}
+use Rattle.pmd_laws.proofs.Lived.{along_before}
 use Rattle.workers.specs.Ends.{AreEnds, IsEnd}
 use Rattle.workers.specs.Lived.{HasRun}
 use Rattle.workers.specs.declared.ends.WorkerEnd.{WorkerEnd}

@@ -31,7 +31,7 @@ module _ (w : Watched) (fifo : ℕ) (h : List Entry) (q : AtPort) (size frame : 
   abbrev since : List Call
   since = x.steps ++ call_in x.first ∷ calls_of w.pass x.behind
 
-  refused : IsRefused w fifo h q old new x.before x.first x.behind
+  refused : IsRefused w fifo h q frame old new x.before x.first x.behind
   refused = record {
     along = along;
     begins = record {

@@ -3,7 +3,7 @@ use Rattle.worker_laws.proofs.Walks.{rest_here, rest_last, rest_there}
 use Rattle.worker_laws.proofs.beginning.rest_begins.Goals as goal
 
 pub loop-entry-init : goal.loop-entry-init
-loop-entry-init c = refl
+loop-entry-init c = rw c.new-settings.ensures refl
 
 pub returns-then-is_first : goal.returns-then-is_first
 returns-then-is_first c =

@@ -1,5 +1,5 @@
 -- From the place on where both sides of a driver's queue are on, no call of its finds the device at fault.
-use Rattle.std.proofs.Common.{◌≡◌, ℕ, true, List, ◌++◌, refl, sym, ap, ◌∙◌, subst, append_assoc}
+use Rattle.std.proofs.Common.{◌≡◌, ℕ, List, ◌++◌, refl, sym, ap, ◌∙◌, subst, append_assoc}
 use Rattle.std.proofs.lemmas.List.{append_cancel_left}
 use Rattle.nic_device.specs.DmaArena.Numbers.{Numbers}
 use Rattle.nic_device.specs.State.{new_state}
@@ -10,10 +10,9 @@ use Rattle.device_lock.specs.declared.entry.Call.{Call}
 use Rattle.device_lock.specs.declared.entry.Entry.{Entry}
 use Rattle.pmd.specs.Apart.{AllLendApart, FindsFault}
 use Rattle.pmd.specs.Halves.{AllOwn, Doer, Halves, played_by}
-use Rattle.pmd.specs.Started.{is_size}
 use Rattle.pmd.proofs.Apart.{apart_none}
 use Rattle.pmd.proofs.Followed.{both_own, own_length}
-use Rattle.pmd.specs.PmdSeam.Frames.{is_frame, most_blocks}
+use Rattle.pmd.specs.PmdSeam.Frames.{most_blocks}
 use Rattle.pmd.specs.PmdSeam.Named.{AtPort}
 use Rattle.pmd.specs.PmdRx.Receive.{Receive}
 use Rattle.pmd.specs.PmdTx.Sending.{Sender}

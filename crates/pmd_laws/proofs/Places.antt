@@ -1,5 +1,5 @@
 -- Of an arena's blocks those are lent at the device that its driver has out with its halves.
-use Rattle.std.proofs.Common.{◌≡◌, ℕ, true, List, sym, ap, ◌∙◌, subst}
+use Rattle.std.proofs.Common.{◌≡◌, ℕ, List, sym, ap, ◌∙◌, subst}
 use Rattle.std.specs.Prelude.{IsTrue}
 use Rattle.nic_device.specs.DmaArena.Memory.{has_block}
 use Rattle.nic_device.specs.DmaArena.Numbers.{Numbers, is_own}
@@ -13,9 +13,8 @@ use Rattle.start_laws.specs.HistoryLaws.Lent.{OnlyLent}
 use Rattle.pmd.specs.Apart.{AllLendApart}
 use Rattle.pmd.specs.Halves.{Doer, Halves, halves_of, played_by}
 use Rattle.pmd.specs.Running.{Running}
-use Rattle.pmd.specs.Started.{AreUp, is_size}
+use Rattle.pmd.specs.Started.{AreUp}
 use Rattle.pmd.specs.declared.driver.Rings.{Rings}
-use Rattle.pmd.specs.PmdSeam.Frames.{is_frame}
 use Rattle.pmd.specs.PmdSeam.Named.{AtPort}
 use Rattle.start_laws.proofs.ReceiveLaws.Delivering.{leads-append}
 use Rattle.start_laws.specs.On.{AreOn}

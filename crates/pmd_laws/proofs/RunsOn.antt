@@ -1,18 +1,12 @@
 -- A driver that runs runs on, over calls as they are told, and harmless ones between.
-use Rattle.std.proofs.Common.{◌≡◌, ℕ, inl, inr, Bool, true, false, ◌&&◌, List, [], ◌∷◌, Option, Some, Ok, if◌then◌else◌, refl, sym, ◌∙◌, subst}
-use Rattle.std.proofs.lemmas.Bool.{and_parts}
-use Rattle.nic_device.specs.DmaArena.Numbers.{Numbers, is_own}
+use Rattle.std.proofs.Common.{◌≡◌, inl, inr, List, [], ◌∷◌, refl, sym, ◌∙◌, subst}
+use Rattle.nic_device.specs.DmaArena.Numbers.{is_own}
 use Rattle.device_lock.specs.Alone.{Blocks}
 use Rattle.device_lock.specs.declared.entry.Call.{Call}
-use Rattle.pmd.specs.Driver.{Driver, WhereUp}
+use Rattle.pmd.specs.Driver.{WhereUp}
 use Rattle.pmd.specs.Running.{Running}
-use Rattle.pmd.specs.Started.{IsShut, is_size, start_gate}
 use Rattle.pmd.specs.declared.driver.Rings.{Rings}
 use Rattle.pmd.specs.declared.driver.Rings.TheVariants.{Up, Down}
-use Rattle.pmd.specs.PmdSeam.Frames.{is_frame}
-use Rattle.pmd.specs.PmdSeam.Named.{AtPort}
-use Rattle.pmd.specs.PmdSeam.declared.fault.PmdFault.{PmdFault}
-use Rattle.pmd.specs.PmdSeam.declared.fault.PmdFault.TheVariants.{BadSize}
 use Rattle.pmd.specs.Apart.{DrivesRings, OwnsSame}
 use Rattle.pmd.specs.Halves.{Halves, halves_of}
 use Rattle.pmd.proofs.Both.{rings_still}

@@ -1,5 +1,5 @@
 -- A driver whose blocks nobody else lends: no call of its finds the device at fault, and nor does its start.
-use Rattle.std.specs.Prelude.{ℕ, true, IsTrue, IsFalse, List, ◌≡◌, ◌≢◌, ◌++◌, All}
+use Rattle.std.specs.Prelude.{ℕ, IsTrue, IsFalse, List, ◌≡◌, ◌≢◌, ◌++◌, All}
 use Rattle.nic_device.specs.DmaArena.Memory.{has_block}
 use Rattle.nic_device.specs.DmaArena.Numbers.{Numbers, is_own}
 use Rattle.nic_device.specs.State.{State}
@@ -11,9 +11,9 @@ use Rattle.device_lock.specs.declared.entry.Entry.{Entry}
 use Rattle.pmd.specs.Apart.{FindsBy}
 use Rattle.pmd.specs.Driver.{WhereUp}
 use Rattle.pmd.specs.Halves.{halves_of}
-use Rattle.pmd.specs.Started.{StopsStarting, is_size}
+use Rattle.pmd.specs.Started.{StopsStarting}
 use Rattle.pmd.specs.declared.start.StartRefused.{StartRefused}
-use Rattle.pmd.specs.PmdSeam.Frames.{is_frame, most_blocks}
+use Rattle.pmd.specs.PmdSeam.Frames.{most_blocks}
 use Rattle.pmd.specs.PmdSeam.declared.fault.PmdFault.TheVariants.{DeviceFault}
 use Rattle.pmd.specs.PmdSeam.Named.{AtPort}
 use Rattle.start_laws.specs.ReceiveLaws.Fitting.{FitsBlocks}

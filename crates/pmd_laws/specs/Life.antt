@@ -1,11 +1,10 @@
 -- A driver's life, by the calls that its pass made: a start that brought both rings up, and then those of its halves.
-use Rattle.std.specs.Prelude.{ℕ, ◌≡◌, true, List}
+use Rattle.std.specs.Prelude.{ℕ, List}
 use Rattle.nic_device.specs.DmaArena.Numbers.{Numbers}
 use Rattle.device_lock.specs.declared.entry.Call.{Call}
 use Rattle.pmd.specs.Halves.{Halves, halves_of}
 use Rattle.pmd.specs.Running.{Running}
-use Rattle.pmd.specs.Started.{AreUp, is_size}
-use Rattle.pmd.specs.PmdSeam.Frames.{is_frame}
+use Rattle.pmd.specs.Started.{AreUp}
 use Rattle.pmd.specs.PmdSeam.Named.{AtPort}
 use Rattle.driver_laws.specs.Beside.{Leads}
 

@@ -1,6 +1,6 @@
 -- A driver's life as its calls tell it: what the clauses of `start`, `rx`, `tx`, `reap`, `packet` and `release` say of
 -- the driver, and of the calls that its pass made.
-use Rattle.std.specs.Prelude.{ℕ, ◌≡◌, ◌⊎◌, ⊤, List, [], ◌∷◌, ◌++◌, Ok}
+use Rattle.std.specs.Prelude.{ℕ, ◌≡◌, ◌⊎◌, ⊤, List, [], ◌∷◌, ◌++◌}
 use Rattle.nic_device.specs.DmaArena.Numbers.{Numbers}
 use Rattle.nic_device.specs.State.{new_state}
 use Rattle.device_lock.specs.History.{calls_of}

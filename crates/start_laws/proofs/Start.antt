@@ -1,11 +1,11 @@
 -- A start of the driver leaves a state where the device and the driver agree on both sides.
-use Rattle.std.proofs.Common.{◌≡◌, ◌≢◌, ℕ, true, List, []}
+use Rattle.std.proofs.Common.{◌≢◌, ℕ, List, []}
 use Rattle.nic_device.specs.DmaArena.Numbers.{Numbers}
 use Rattle.device_lock.specs.declared.alone.Watched.{Watched}
 use Rattle.device_lock.specs.declared.entry.Call.{Call}
 use Rattle.device_lock.specs.declared.entry.Entry.{Entry}
 use Rattle.pmd.specs.Running.{Running}
-use Rattle.pmd.specs.Started.{AreUp, is_size}
+use Rattle.pmd.specs.Started.{AreUp}
 use Rattle.pmd.specs.PmdSeam.Named.{AtPort}
 use Rattle.pmd.specs.PmdSeam.Slots.{EachRingBlock}
 use Rattle.start_laws.specs.Along.{AtCalls, AtEntries, IsAlong}

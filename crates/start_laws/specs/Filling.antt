@@ -8,12 +8,11 @@ use Rattle.device_lock.specs.declared.entry.Call.{Call}
 use Rattle.device_lock.specs.declared.entry.Entry.{Entry}
 use Rattle.pmd.specs.PmdSeam.declared.fault.PmdFault.TheVariants.{DeviceFault}
 use Rattle.pmd.specs.PmdSeam.Both.{SwitchFails}
-use Rattle.pmd.specs.PmdSeam.Frames.{is_frame}
 use Rattle.pmd.specs.PmdSeam.Named.{AtPort}
 use Rattle.pmd.specs.PmdRx.Filling.{StopsFilling}
 use Rattle.pmd.specs.PmdRx.Receive.{Receive}
 use Rattle.pmd.specs.PmdTx.Sending.{Sender}
-use Rattle.pmd.specs.Started.{StopsStarting, is_size}
+use Rattle.pmd.specs.Started.{StopsStarting}
 use Rattle.pmd.specs.Starting.{IsReceiveReady, IsTransmitReady, PreparingFails, ReceiveFails}
 use Rattle.pmd.specs.declared.start.StartRefused.{StartRefused}
 use Rattle.receive_laws.specs.Joint.{Agree}

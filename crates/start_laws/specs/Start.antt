@@ -1,13 +1,12 @@
 -- What a start of the driver leaves, over a legal history that leaves its queue alone.
-use Rattle.std.specs.Prelude.{ℕ, ◌≡◌, true, List, []}
+use Rattle.std.specs.Prelude.{ℕ, List, []}
 use Rattle.nic_device.specs.DmaArena.Numbers.{Numbers}
 use Rattle.nic_device.specs.State.{new_state}
 use Rattle.device_lock.specs.declared.alone.Watched.{Watched}
 use Rattle.device_lock.specs.declared.entry.Call.{Call}
 use Rattle.device_lock.specs.declared.entry.Entry.{Entry}
 use Rattle.pmd.specs.Running.{Running}
-use Rattle.pmd.specs.Started.{AreUp, is_size}
-use Rattle.pmd.specs.PmdSeam.Frames.{is_frame}
+use Rattle.pmd.specs.Started.{AreUp}
 use Rattle.pmd.specs.PmdSeam.Named.{AtPort}
 use Rattle.receive_laws.specs.Joint.{Agree}
 use Rattle.transmit_laws.specs.Agreeing.{Agrees}

@@ -29,7 +29,7 @@ pub struct Watched {
 }
 
 /// The register that a number names at a port, while the queues are parted by a mode.
-fn place_at(mode: Mode, vfs: u8, port: Port, number: u32) -> Option<Place>
+pub(crate) fn place_at(mode: Mode, vfs: u8, port: Port, number: u32) -> Option<Place>
     ensures { result ≡ place_at mode vfs port number }
 {
     match port {
@@ -63,7 +63,7 @@ fn mode_set(mode: Mode, place: Place, word: u32) -> Mode
 }
 
 /// The mode after an event.
-fn mode_after(vfs: u8, mode: Mode, event: &EventNote) -> Mode
+pub(crate) fn mode_after(vfs: u8, mode: Mode, event: &EventNote) -> Mode
     ensures { result ≡ mode_after vfs mode event.now }
 {
     match event {

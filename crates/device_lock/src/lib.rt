@@ -21,6 +21,7 @@ mod positions;
 mod resting;
 mod shared;
 mod stepping;
+mod told;
 
 pub use alone::{Watched, left_alone};
 pub use calls::{Calls, Made};
@@ -30,3 +31,4 @@ pub use fault::{CallFault, CloseFault, NewFault};
 pub use locked::Locked;
 pub use pass::Pass;
 pub use shared::{CloseRefused, MAX_LIMIT, MAX_PASSES, Shared};
+pub use told::{Frames, Settings};

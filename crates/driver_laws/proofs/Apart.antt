@@ -1,5 +1,5 @@
 -- No block is lent by both halves, and all are among those that the pass lends, whatever their calls.
-use Rattle.std.proofs.Common.{◌≡◌, ◌≢◌, ℕ, Bool, true, false, not, refl, sym, ap, subst}
+use Rattle.std.proofs.Common.{◌≡◌, ◌≢◌, ℕ, Bool, true, false, not, refl, sym, ap}
 use Rattle.std.specs.Prelude.{◌==◌, IsTrue}
 use Rattle.std.proofs.lemmas.Bool.{eqb-false, ne_eqb}
 use Rattle.nic_device.specs.DmaArena.Block.{Block}
@@ -11,8 +11,9 @@ use Rattle.nic_device.specs.declared.event.Event.TheVariants as event
 use Rattle.nic_device.specs.declared.event.Reply.{Reply}
 use Rattle.nic_device.specs.declared.event.Reply.TheVariants as reply
 use Rattle.device_lock.specs.Alone.{Blocks}
+use Rattle.pmd.specs.PmdRx.Receive as receiving
 use Rattle.pmd.specs.PmdRx.Receive.{Receive, drive}
-use Rattle.pmd.specs.PmdTx.Sending.{Sender, Move, Accepts, IsOwn, has_lent, moved}
+use Rattle.pmd.specs.PmdTx.Sending.{Sender, Move, IsOwn, has_lent, moved}
 use Rattle.receive_laws.specs.Steps.{Each}
 use Rattle.receive_laws.proofs.Each.{each_map}
 use Rattle.receive_laws.proofs.Mine.{LendsMine, mine_driven}
@@ -42,22 +43,20 @@ module _ (s : State) where
   lends_other (event.Lend b) reply.Done is n has = off b.number n (lent_apart s b n has is)
   lends_other e r is n has = tt
 
-  moves_other : (u : Sender) (m : Move) (e : Event Block) (r : Reply Block) → IsOwn u m e → reply_to s e ≡ r → (n : ℕ)
-      → has_block s.memory n ≡ true → LendsOneOf (but n) m r
-  moves_other u (Accepts p) (event.Lend b) reply.Done own is n has =
-      off p.block n (subst (λ x. x ≢ n) own.number (lent_apart s b n has is))
-  moves_other u (Accepts p) e reply.Done own is n has = absurd own
-  moves_other u m e r own is n has = tt
+  moves_other : (e : Event Block) (r : Reply Block) → reply_to s e ≡ r → (n : ℕ) → has_block s.memory n ≡ true
+      → LendsOneOf (but n) e r
+  moves_other (event.Lend b) reply.Done is n has = off b.number n (lent_apart s b n has is)
+  moves_other e r is n has = tt
 
   -- the receive half's own
-  pub receives_apart : (v : Receive) (u : Sender) (e : Event Block)
+  pub receives_apart : (v : Receive) (u : Sender) (e : Event Block) → receiving.IsOwn v e
       → ((n : ℕ) → IsTrue (has_lent u n) → has_block s.memory n ≡ true)
       → ((n : ℕ) → IsTrue (has_lent u n) → Each v (λ b. b ≢ n))
       → (n : ℕ) → IsTrue (has_lent u n) → Each (drive v e (reply_to s e)) (λ b. b ≢ n)
-  receives_apart v u e lent apart n is =
+  receives_apart v u e own lent apart n is =
       let r = reply_to s e in
       each_map (drive v e r) (λ b. IsTrue (but n b)) (λ b. b ≢ n) (λ b i. on b n i)
-      (mine_driven (but n) v (each_map v (λ b. b ≢ n) (λ b. IsTrue (but n b)) (λ b ne. off b n ne) (apart n is)) e r
+      (mine_driven (but n) v (each_map v (λ b. b ≢ n) (λ b. IsTrue (but n b)) (λ b ne. off b n ne) (apart n is)) e r own
       (lends_other e r refl n (lent n is)))
 
   -- the transmit half's
@@ -69,14 +68,12 @@ module _ (s : State) where
       each_map v (λ b. (has_block s.memory b ≡ true) × ((k : ℕ) → IsTrue (has_lent u k) → b ≢ k)) (λ b. b ≢ n)
       (λ b both same.
       on n b
-      (mine-moved (but b) u (λ k i. off k b (λ e. both.1 k i (sym e))) m r (moves_other u m e r own refl b both.0) n is)
+      (mine-moved (but b) u (λ k i. off k b (λ e. both.1 k i (sym e))) m e r own (moves_other e r refl b both.0) n is)
       (sym same))
       (each_both v (λ b. has_block s.memory b ≡ true) (λ b. (k : ℕ) → IsTrue (has_lent u k) → b ≢ k) lent
       (each_all v (λ k. IsTrue (has_lent u k)) (λ b k. b ≢ k) apart))
 
 -- a block that the pass lends by a move of the transmit half
-pub lends_one : (mine : Blocks) (u : Sender) (m : Move) (e : Event Block) (r : Reply Block) → IsOwn u m e
-    → LendsMine mine e r → LendsOneOf mine m r
-lends_one mine u (Accepts p) (event.Lend b) reply.Done own is = subst (λ n. IsTrue (mine n)) own.number is
-lends_one mine u (Accepts p) e reply.Done own is = absurd own
-lends_one mine u m e r own is = tt
+pub lends_one : (mine : Blocks) (e : Event Block) (r : Reply Block) → LendsMine mine e r → LendsOneOf mine e r
+lends_one mine (event.Lend b) reply.Done is = is
+lends_one mine e r is = tt

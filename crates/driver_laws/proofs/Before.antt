@@ -1,7 +1,8 @@
 -- Entries ahead of the place where the device agrees with both halves.
-use Rattle.std.proofs.Common.{◌≡◌, ◌≢◌, ℕ, inl, inr, Bool, true, false, ◌||◌, ◌&&◌, ◌<◌, [], ◌∷◌, refl, sym, subst, nat_lt}
-use Rattle.std.specs.Prelude.{◌==◌}
+use Rattle.std.proofs.Common.{◌≡◌, ◌≢◌, ℕ, inl, inr, ◌*◌, Bool, true, false, ◌||◌, ◌&&◌, ◌<◌, ◌≤◌, [], ◌∷◌, refl, sym, subst, arith, nat_lt}
+use Rattle.std.specs.Prelude.{◌==◌, All}
 use Rattle.std.proofs.lemmas.Bool.{or_cases, or_left, or_right, and_from, eqb-false, eqb-true, eq-eqb, lt-ltb}
+use Rattle.std.proofs.lemmas.List.Elements.{All-head}
 use Rattle.nic_device.specs.DmaArena.Block.{Block}
 use Rattle.nic_device.specs.Sound.{IsEvent}
 use Rattle.nic_device.specs.State.{State}
@@ -15,13 +16,29 @@ use Rattle.device_lock.specs.Alone.{Blocks, lends, lent_by, lent_in}
 use Rattle.device_lock.specs.declared.entry.Entry.{Entry}
 use Rattle.receive_laws.specs.HistoryLaws.Lent.{OnlyLent, LendsNone, either, with_lent}
 use Rattle.receive_laws.proofs.HistoryLaws.Lent.{only_lent_stays}
-use Rattle.receive_laws.proofs.Short.{frames_stay_short}
-use Rattle.driver_laws.specs.Before.{FramesStayShortAlong, OnlyPassLent}
+use Rattle.receive_laws.specs.DeviceLaws.Laws.{WritesNoSetting}
+use Rattle.receive_laws.specs.Fitting.{FitsBlocks}
+use Rattle.receive_laws.proofs.DeviceLaws.KeptSettings.{settings_stand}
+use Rattle.receive_laws.proofs.Waiting.{waiting_after}
+use Rattle.driver_laws.specs.Before.{AreShort, FramesStayShortAlong, OnlyPassLent}
+
+-- the frames that wait stay short over one event
+pub frames_stay_short : (queue most : ℕ) (s : State) (e : Event Block) → AreShort queue most s → WritesNoSetting s e
+    → AreShort queue most (after s e)
+frames_stay_short queue most s e h none =
+    let limit = h.limit in
+    record {
+      limit = subst (λ n. n ≤ 2048 * most) (sym (settings_stand s e none).limit) limit;
+      waiting = waiting_after (FitsBlocks queue most) s h.waiting (λ frame t low own. omega (arith, low, limit))
+          (λ w others f is fills.
+          All-head (FitsBlocks queue most) w others (subst (All (FitsBlocks queue most)) is h.waiting))
+          e none;
+    }
 
 pub frames_stay_short_along : FramesStayShortAlong
-frames_stay_short_along queue s [] h none = h
-frames_stay_short_along queue s (e ∷ es) h none =
-    frames_stay_short_along queue (after s e.event) es (frames_stay_short queue s e.event h none.0) none.1
+frames_stay_short_along queue most s [] h none = h
+frames_stay_short_along queue most s (e ∷ es) h none =
+    frames_stay_short_along queue most (after s e.event) es (frames_stay_short queue most s e.event h none.0) none.1
 
 pub lends_is : (b : Block) (r : Reply Block) (n : ℕ) → lends (event.Lend b) r n ≡ true → b.number ≡ n
 lends_is b reply.Done n is = eqb-true b.number n is

@@ -1,10 +1,11 @@
 -- A word that is written to an enable register of the driver's queue keeps what the device and both halves agree on.
-use Rattle.std.proofs.Common.{◌≡◌, ℕ, List, refl, ap, subst}
+use Rattle.std.proofs.Common.{◌≡◌, ℕ, true, List, [], refl, ap, subst}
 use Rattle.std.specs.FinMap as map
 use Rattle.std.proofs.lemmas.List.{append-nil}
 use Rattle.nic_device.specs.DmaArena.Block.{Block}
 use Rattle.nic_device.specs.DmaArena.Memory.{Memory}
 use Rattle.nic_device.specs.RegTable.declared.rows.RowId.TheVariants.{Rxdctl, Txdctl}
+use Rattle.nic_device.specs.RegisterFile.Bits.{has_bit}
 use Rattle.nic_device.specs.RegisterFile.Columns.{place}
 use Rattle.nic_device.specs.DmaRing.declared.dir.Dir.TheVariants.{Rx, Tx}
 use Rattle.nic_device.specs.Named.{named}
@@ -71,7 +72,8 @@ module _ (queue : ℕ) (s : State) (port : Port) (n word : ℕ) (out : List Piec
           apart = both.apart;
         }
 
-  module _ (names : named s port n ≡ Register (place Txdctl queue) 0xFFFFFFFF) where
+  module _ (names : named s port n ≡ Register (place Txdctl queue) 0xFFFFFFFF)
+      (rests : has_bit 25 word ≡ true → h.transmit.outstanding ≡ []) where
     transmit_word : BothAgree queue t out sent h
     transmit_word = record {
       receive =
@@ -82,12 +84,12 @@ module _ (queue : ℕ) (s : State) (port : Port) (n word : ℕ) (out : List Piec
             vfs = (stays_within s e).vfs;
             blocks = each_of h.receive (λ b. LeavesBlock b s t) block_stays;
           }) both.receive;
-      transmit = transmit_word_keeps s queue sent h.transmit port n word made names both.transmit;
+      transmit = transmit_word_keeps s queue sent h.transmit port n word made names rests both.transmit;
       apart = both.apart;
     }
 
 pub enable_words_keep : EnableWordsKeep
-enable_words_keep queue s Rx port n word out sent h made names both =
+enable_words_keep queue s Rx port n word out sent h made names may both =
     receive_word queue s port n word out sent h made both names
-enable_words_keep queue s Tx port n word out sent h made names both =
-    transmit_word queue s port n word out sent h made both names
+enable_words_keep queue s Tx port n word out sent h made names may both =
+    transmit_word queue s port n word out sent h made both names may

@@ -17,7 +17,7 @@ use Rattle.device_lock.specs.declared.alone.Watched.{Watched}
 use Rattle.pmd.specs.PmdRx.Receive as receiving
 use Rattle.pmd.specs.PmdRx.Receive.{drive}
 use Rattle.pmd.specs.PmdTx.Sending as sending
-use Rattle.pmd.specs.PmdTx.Sending.{Move, Accepts, Asks, Advances, Looks, Reaps, Elsewhere, has_lent, moved}
+use Rattle.pmd.specs.PmdTx.Sending.{Move, Accepts, Lends, Asks, Advances, Looks, Reaps, Elsewhere, has_lent, moved}
 use Rattle.receive_laws.proofs.HistoryLaws.Modes.{event_told}
 use Rattle.receive_laws.specs.Joint.{Agree}
 use Rattle.receive_laws.specs.Pieces.{Piece, pieces}
@@ -41,6 +41,7 @@ use Rattle.driver_laws.proofs.Sending.{is_elsewhere, move_spares, sender_lent}
 no_pieces : (queue : ℕ) (s : State) (h : Halves) (m : Move) (e : Event Block) → is_elsewhere m ≡ false
     → sending.IsOwn h.transmit m e → pieces queue s e ≡ []
 no_pieces queue s h (Accepts p) (event.Lend b) real own = refl
+no_pieces queue s h Lends (event.Lend b) real own = refl
 no_pieces queue s h Asks (event.Poke16 a bytes) real own = refl
 no_pieces queue s h Advances (event.Write port n word) real own = refl
 no_pieces queue s h Looks (event.Peek16 a) real own = refl
@@ -52,6 +53,7 @@ pub may_move : (queue : ℕ) (s : State) (h : Halves) (m : Move) (e : Event Bloc
     → sending.IsOwn h.transmit m e → IsEvent e → MayMove queue h.transmit s e m
 may_move queue s h Elsewhere e real own made = cc
 may_move queue s h (Accepts p) e real own made = (own, made)
+may_move queue s h Lends e real own made = (own, made)
 may_move queue s h Asks e real own made = (own, made)
 may_move queue s h Advances e real own made = (own, made)
 may_move queue s h Looks e real own made = (own, made)
@@ -80,10 +82,10 @@ module _ (w : Watched) (mine : Blocks) (mode : Mode) (s : State) (out : List Pie
           transmit =
               sparing_events_keep s w.queue sent h.transmit e m.both.transmit
               (own_spares w.queue s out h.receive gone here holds h.transmit sender_blocks m.both.apart e made own);
-          apart = receives_apart s h.receive h.transmit e sender_blocks m.both.apart;
+          apart = receives_apart s h.receive h.transmit e own sender_blocks m.both.apart;
         },
         record {
-          receive = mine_driven mine h.receive m.lent.receive e (reply_to s e) lends;
+          receive = mine_driven mine h.receive m.lent.receive e (reply_to s e) own lends;
           transmit = m.lent.transmit;
         },
       )
@@ -109,8 +111,8 @@ module _ (w : Watched) (mine : Blocks) (mode : Mode) (s : State) (out : List Pie
         record {
           receive = m.lent.receive;
           transmit =
-              mine-moved mine h.transmit m.lent.transmit move (reply_to s e)
-              (lends_one mine h.transmit move e (reply_to s e) own lends);
+              mine-moved mine h.transmit m.lent.transmit move e (reply_to s e) own
+              (lends_one mine e (reply_to s e) lends);
         },
       )
 

@@ -20,16 +20,16 @@ use Rattle.driver_laws.proofs.Healthy.{own_replies_are_healthy}
 -- the calls behind some, and the one behind calls of neither half
 
 healthy_behind : (h : Halves) (ds es : List Doer) (ms ns : List Call) → AllOwn h ds ms
-    → AreHealthy (ds ++ es) (ms ++ ns) → AreHealthy es ns
+    → AreHealthy h (ds ++ es) (ms ++ ns) → AreHealthy (played_by h ds ms) es ns
 healthy_behind h [] es [] ns own are = are
 healthy_behind h [] es (m ∷ ms) ns own are = absurd own
 healthy_behind h (d ∷ ds) es [] ns own are = absurd own
 healthy_behind h (d ∷ ds) es (m ∷ ms) ns own are = healthy_behind (after_call h d m) ds es ms ns own.1 are.1
 
-last_healthy : (before : List Call) (d : Doer) (n : Call) → AreHealthy (doers_other before ++ d ∷ []) (before ++ n ∷ [])
-    → IsHealthy d n
-last_healthy [] d n are = are.0
-last_healthy (m ∷ before) d n are = last_healthy before d n are.1
+last_healthy : (h : Halves) (before : List Call) (d : Doer) (n : Call)
+    → AreHealthy h (doers_other before ++ d ∷ []) (before ++ n ∷ []) → IsHealthy h d n
+last_healthy h [] d n are = are.0
+last_healthy h (m ∷ before) d n are = last_healthy h before d n are.1
 
 -- steps of the device lend nothing, and then comes a call
 last_apart : (own : Blocks) (h : Halves) (before : List Call) (d : Doer) (n : Call) → AreSteps before
@@ -81,17 +81,18 @@ module _ (w : Watched) (fifo : ℕ) (start rest more : List Entry) (h : Halves) 
         end_apart)))
 
     -- the last call's reply is healthy
-    last_is : IsHealthy f.doer last
+    last_is : IsHealthy f.there f.doer last
     last_is =
-        let all = subst (AreHealthy (doers ++ (f.drives.drives.0 ++ ends))) joined
+        let all = subst (AreHealthy h (doers ++ (f.drives.drives.0 ++ ends))) joined
         (own_replies_are_healthy w fifo start (rest ++ more) h (doers ++ (f.drives.drives.0 ++ ends)) own x all_apart)
         in
-        let here = subst (AreHealthy (f.drives.drives.0 ++ ends)) made_last
+        let here = subst (AreHealthy there (f.drives.drives.0 ++ ends)) made_last
         (healthy_behind h doers (f.drives.drives.0 ++ ends) (calls_of w.pass rest) (calls_of w.pass more) did all) in
-        last_healthy f.adds.0 f.doer last
-        (healthy_behind there f.drives.drives.0 ends since (f.adds.0 ++ last ∷ []) f.drives.drives.3 here)
+        last_healthy f.there f.adds.0 f.doer last
+        (subst (λ (k : Halves). AreHealthy k ends (f.adds.0 ++ last ∷ [])) (sym f.drives.drives.4)
+        (healthy_behind there f.drives.drives.0 ends since (f.adds.0 ++ last ∷ []) f.drives.drives.3 here))
 
 pub no_fault : NoFault
 no_fault w fifo start rest more h doers own old new f did apart made x =
-    both_ways (is_healthy f.doer (call_of f.event f.reply)) f.sick
+    both_ways (is_healthy f.there f.doer (call_of f.event f.reply)) f.sick
     (last_is w fifo start rest more h doers own old new f did apart made x)

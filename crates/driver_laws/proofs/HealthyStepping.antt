@@ -14,13 +14,13 @@ use Rattle.device_lock.specs.Pass.{call_of}
 use Rattle.device_lock.specs.declared.alone.Watched.{Watched}
 use Rattle.receive_laws.specs.DeviceLaws.Laws.{WritesNoSetting}
 use Rattle.pmd.specs.PmdTx.Sending as sending
-use Rattle.pmd.specs.PmdTx.Sending.{Outgoing, Move, Accepts, Asks, Advances, Looks, Reaps, Elsewhere}
+use Rattle.pmd.specs.PmdTx.Sending.{Move, Accepts, Lends, Asks, Advances, Looks, Reaps, Elsewhere}
 use Rattle.receive_laws.specs.HistoryLaws.Lent.{OnlyLent, LendsNone, LendsOwn, either}
 use Rattle.pmd.specs.PmdRx.Keeping as received
-use Rattle.receive_laws.specs.Pieces.{Piece, AllEnd}
+use Rattle.receive_laws.specs.Pieces.{Piece, AllFit}
 use Rattle.receive_laws.proofs.Healthy as receive
 use Rattle.receive_laws.proofs.Lent as receive_lent
-use Rattle.transmit_laws.specs.Healthy.{AcceptsAnew}
+use Rattle.transmit_laws.specs.Healthy.{LendsAnew}
 use Rattle.transmit_laws.specs.Lent.{SparesNumbers}
 use Rattle.transmit_laws.proofs.Advancing.{setting_kept}
 use Rattle.transmit_laws.proofs.Healthy as transmit
@@ -40,10 +40,11 @@ lends_received : (own : Blocks) (h : Halves) (e : Event Block) → LendsApart ow
 lends_received own h (event.Lend b) apart = apart
 lends_received own h e apart = tt
 
-lends_sent : (own : Blocks) (h : Halves) (p : Outgoing) (e : Event Block) → LendsApart own h (Sends (Accepts p)) e
-    → LendsOwn own (received.has_lent h.receive) e
-lends_sent own h p (event.Lend b) apart = apart
-lends_sent own h p e apart = tt
+lends_sent : (own : Blocks) (h : Halves) (m : Move) (e : Event Block) → is_elsewhere m ≡ false
+    → LendsApart own h (Sends m) e → LendsOwn own (received.has_lent h.receive) e
+lends_sent own h Elsewhere e real apart = cc
+lends_sent own h m (event.Lend b) real apart = apart
+lends_sent own h m e real apart = tt
 
 lends_none : (own : Blocks) (h : Halves) (e : Event Block) → LendsApart own h (Sends Elsewhere) e → LendsNone own e
 lends_none own h (event.Lend b) apart = apart
@@ -73,22 +74,18 @@ module _ (w : Watched) (mine own : Blocks) (mode : Mode) (s : State) (out : List
     other_first = swapped own rx tx s.memory known
 
     -- a move lends a block anew
-    anew : (move : Move) → sending.IsOwn h.transmit move e → LendsApart own h (Sends move) e → AcceptsAnew s move
-    anew (Accepts p) mine apart =
-        transmit_lent.own_lends_are_known.anew own rx s h.transmit (Accepts p) e other_first mine
-        (lends_sent own h p e apart)
-    anew Asks mine apart = tt
-    anew Advances mine apart = tt
-    anew Looks mine apart = tt
-    anew Reaps mine apart = tt
+    anew : (move : Move) → sending.IsOwn h.transmit move e → LendsApart own h (Sends move) e → LendsAnew s move e
     anew Elsewhere mine apart = tt
+    anew move mine apart =
+        transmit_lent.own_lends_are_known.anew own rx s h.transmit move e other_first mine
+        (lends_sent own h move e refl apart)
 
-    pub healthy_call : (d : Doer) → OwnCall h d (call_of e (reply_to s e)) → LendsApart own h d e → AllEnd out
-        → IsHealthy d (call_of e (reply_to s e))
-    healthy_call Receives mine apart ends =
-        receive.own_replies_are_healthy w.queue s out h.receive e m.both.receive ends mine
+    pub healthy_call : (d : Doer) → OwnCall h d (call_of e (reply_to s e)) → LendsApart own h d e
+        → AllFit h.receive.layout.most 0 out → IsHealthy h d (call_of e (reply_to s e))
+    healthy_call Receives mine apart fit =
+        receive.own_replies_are_healthy w.queue s out h.receive e m.both.receive fit mine
         (receive_lent.own_lends_are_known.anew own tx s h.receive e known mine (lends_received own h e apart))
-    healthy_call (Sends move) mine apart ends =
+    healthy_call (Sends move) mine apart fit =
         transmit.own_replies_are_healthy s w.queue sent h.transmit move e m.both.transmit mine (anew move mine apart)
 
     -- only blocks are lent that the halves have lent
@@ -102,6 +99,7 @@ module _ (w : Watched) (mine own : Blocks) (mode : Mode) (s : State) (out : List
         → OnlyLent own (lent_by (after_call h d (call_of e (reply_to s e)))) (after s e).memory
     known_after Receives mine apart = receive_lent.own_lends_are_known.kept own tx s h.receive e known mine
     known_after (Sends (Accepts p)) mine apart = move_known (Accepts p) mine tt
+    known_after (Sends Lends) mine apart = move_known Lends mine tt
     known_after (Sends Asks) mine apart = move_known Asks mine tt
     known_after (Sends Advances) mine apart = move_known Advances mine tt
     known_after (Sends Looks) mine apart = move_known Looks mine tt
@@ -112,6 +110,7 @@ module _ (w : Watched) (mine own : Blocks) (mode : Mode) (s : State) (out : List
     move_setting : (move : Move) (e : Event Block) → is_elsewhere move ≡ false → sending.IsOwn h.transmit move e
         → WritesNoSetting s e
     move_setting (Accepts p) (event.Lend b) real mine = tt
+    move_setting Lends (event.Lend b) real mine = tt
     move_setting Asks (event.Poke16 a bytes) real mine = tt
     move_setting Advances (event.Write port n word) real mine =
         setting_kept s w.queue sent h.transmit m.both.transmit.0 m.both.transmit.1 port n word mine

@@ -15,12 +15,12 @@ use Rattle.receive_laws.specs.Histories.{FindsNone}
 use Rattle.receive_laws.specs.Pieces.{packets_of}
 use Rattle.receive_laws.proofs.Delivering.{events_before, events_behind, image_stays, leads-append, legal_behind, lent_behind, since-append, vfs_stays}
 use Rattle.receive_laws.proofs.Prefix.{drained, handed_first}
-use Rattle.transmit_laws.specs.Agreeing.{bytes_of, kept_in}
+use Rattle.transmit_laws.specs.Agreeing.{bytes_of}
 use Rattle.transmit_laws.specs.Laws as transmit
 use Rattle.transmit_laws.specs.Sent.{sent_in, sent_since}
 use Rattle.transmit_laws.specs.Up.{IsUp}
 use Rattle.transmit_laws.proofs.Counting.{sent_is_counted}
-use Rattle.transmit_laws.proofs.Runs.{idle-all}
+use Rattle.transmit_laws.proofs.Runs.{first_sent, idle-all}
 use Rattle.pmd.specs.Halves.{Halves, Doer, played_by}
 use Rattle.driver_laws.specs.Histories.{IsDriven, HandedIsPrefix, NoneIsAll, SentIsPrefix, IdleIsAllSent, CountedWhereUp}
 use Rattle.driver_laws.proofs.Led.{Led}
@@ -52,7 +52,7 @@ module _ (w : Watched) (fifo : ℕ) (start rest : List Entry) (h : Halves) (doer
       (legal_behind new start rest d.legal) (events_behind start rest d.events)
       (alone_by_entries w start rest d.alone d.begun) d.own d.others (λ n is. lent_behind w.pass n start rest is)
 
-  delivered_is : delivered w.queue new (start ++ rest) ≡ packets_of (pieces_in w.queue here rest)
+  pub delivered_is : delivered w.queue new (start ++ rest) ≡ packets_of (pieces_in w.queue here rest)
   delivered_is =
       ap packets_if_any (since-append w.queue new None start rest
       ∙ ap (λ so_far. pieces_since w.queue here so_far rest) d.on ∙ led.since d.up [])
@@ -72,7 +72,8 @@ module _ (w : Watched) (fifo : ℕ) (start rest : List Entry) (h : Halves) (doer
   sent : transmit.IsPrefixOf (sent_in w.queue here rest) (bytes_of last.transmit.accepted)
   sent =
       let (f, agrees) = led.both.transmit in
-      (bytes_of (kept_in (drop f last.transmit.outstanding)), agrees.in_order)
+      first_sent (leads_to here rest) w.queue (sent_in w.queue here rest) last.transmit.layout.limit
+      (drop f last.transmit.outstanding) last.transmit.accepted agrees.sends
 
   idle : last.transmit.outstanding ≡ [] → bytes_of last.transmit.accepted ≡ sent_in w.queue here rest
   idle none =

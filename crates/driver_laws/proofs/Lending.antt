@@ -10,20 +10,22 @@ use Rattle.nic_device.specs.declared.event.Event.TheVariants as event
 use Rattle.nic_device.specs.declared.event.Reply.TheVariants.{Done, Twice}
 use Rattle.receive_laws.specs.DeviceLaws.Leaving.{LeavesBlock}
 use Rattle.receive_laws.proofs.DeviceLaws.Standing.{memory_blocks}
-use Rattle.pmd.specs.PmdRx.Receive.{Layout, Stage, Looks, Sees, Holding, Lent, Named, Receive, block_at}
+use Rattle.pmd.specs.PmdRx.Receive.{Layout, Receive, block_at}
+use Rattle.pmd.specs.PmdRx.declared.ring.Stage.{Stage}
+use Rattle.pmd.specs.PmdRx.declared.ring.Stage.TheVariants.{Looks, Takes, Owes, Lent, Named}
 use Rattle.receive_laws.specs.Joint.{StageHolds, HasSlots, Agree}
 use Rattle.receive_laws.specs.Pieces.{Piece}
 use Rattle.receive_laws.specs.Steps.{Each, IfFresh}
 
 -- the blocks of the receive half are lent
 
-fresh_lent : (m : Memory) (l : Layout) (here : List Piece) (stage : Stage) → StageHolds m l here stage
+fresh_lent : (m : Memory) (l : Layout) (stage : Stage) → StageHolds m l stage
     → IfFresh stage (λ b. has_block m b ≡ true)
-fresh_lent m l here Looks h = tt
-fresh_lent m l here (Sees first second) h = tt
-fresh_lent m l here (Holding p) h = tt
-fresh_lent m l here (Lent o b) h = h.there
-fresh_lent m l here (Named o b) h = h.0.there
+fresh_lent m l Looks h = tt
+fresh_lent m l Takes h = tt
+fresh_lent m l Owes h = tt
+fresh_lent m l (Lent b) h = h.there
+fresh_lent m l (Named b) h = h.0.there
 
 slot_lent : (m : Memory) (l : Layout) (here : List Piece) → HasSlots m l here → (k : ℕ) → k < length l.blocks
     → has_block m (block_at l k) ≡ true
@@ -38,7 +40,7 @@ pub receive_lent : (queue : ℕ) (s : State) (out : List Piece) (v : Receive) �
 receive_lent queue s out v (gone, here, h) = record {
   ring = h.slots.there;
   blocks = slot_lent s.memory v.layout here h.slots;
-  fresh = fresh_lent s.memory v.layout here v.stage h.stage;
+  fresh = fresh_lent s.memory v.layout v.stage h.stage;
 }
 
 -- a block is lent

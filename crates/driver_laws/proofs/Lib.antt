@@ -2,9 +2,11 @@ pub mod Apart
 pub mod Before
 pub mod Beside
 pub mod Each
+pub mod Earlier
 pub mod Enabling
 pub mod Entries
 pub mod Faults
+pub mod Fitting
 pub mod Healthy
 pub mod HealthyApart
 pub mod HealthyStepping
@@ -19,4 +21,5 @@ pub mod Runs
 pub mod Sending
 pub mod StaysUp
 pub mod Stepping
+pub mod Unbegun
 pub mod Waiting

@@ -21,27 +21,23 @@ use Rattle.receive_laws.specs.DeviceLaws.Laws.{WritesNoSetting}
 use Rattle.receive_laws.specs.DeviceLaws.Leaving.{LeavesBlock, LeavesTransmit}
 use Rattle.receive_laws.proofs.DeviceLaws.Standing.{memory_blocks, memory_rest, stays_within}
 use Rattle.receive_laws.proofs.DeviceLaws.StandingAccesses.{write_memory, write_rest}
-use Rattle.pmd.specs.PmdRx.Receive.{Layout, Stage, Looks, Sees, Holding, Lent, Named, Receive, IsOwn, TakesNext, NamesNext, MovesNext, slot_at, vacant}
+use Rattle.pmd.specs.PmdRx.Receive.{Receive, IsOwn, TakesNext, NamesNext, MovesNext, fresh_of, slot_at, vacant}
 use Rattle.pmd.specs.PmdTx.Sending.{Sender, has_lent}
-use Rattle.receive_laws.specs.Joint.{IsNamed, StageHolds, Holds}
+use Rattle.receive_laws.specs.Joint.{IsNamed, Holds}
 use Rattle.receive_laws.specs.Pieces.{Piece}
 use Rattle.receive_laws.specs.Steps.{Each}
 use Rattle.pmd.proofs.PmdSeam.Rings.{slot_block, slot_lies}
 use Rattle.receive_laws.proofs.Kept.{slot_below}
+use Rattle.receive_laws.proofs.Parts.{seen_within}
 use Rattle.receive_laws.proofs.HistoryLaws.SideNames.{plain-write}
 use Rattle.transmit_laws.specs.Sparing.{Spares}
 use Rattle.driver_laws.proofs.Lending.{lend_leaves}
 
 -- the register of a write of the receive half's
 
-module _ (s : State) (queue : ℕ) (l : Layout) (name : IsNamed s queue l) (port : Port) (number word : ℕ) where
-  writes_tail : (stage : Stage) → MovesNext l stage port number word
-      → named s port number ≡ Register (place Rdt queue) 0xFFFFFFFF
-  writes_tail (Named o b) own = rw (own.0, own.1) name.tail
-  writes_tail Looks own = absurd own
-  writes_tail (Sees first second) own = absurd own
-  writes_tail (Holding p) own = absurd own
-  writes_tail (Lent o b) own = absurd own
+module _ (s : State) (queue : ℕ) (v : Receive) (name : IsNamed s queue v.layout) (port : Port) (number word : ℕ) where
+  pub writes_tail : MovesNext v port number word → named s port number ≡ Register (place Rdt queue) 0xFFFFFFFF
+  writes_tail own = rw (own.port_is, own.number_is) name.tail
 
   transmit_left : named s port number ≡ Register (place Rdt queue) 0xFFFFFFFF
       → LeavesTransmit queue s (after s (event.Write port number word))
@@ -53,38 +49,31 @@ module _ (queue : ℕ) (s : State) (out : List Piece) (v : Receive) (gone here :
   -- blocks
 
   module _ (number : ℕ) (has : has_block s.memory number ≡ true) (away : Each v (λ b. b ≢ number)) where
-    take_leaves : (n : ℕ) (stage : Stage) → StageHolds s.memory v.layout here stage → TakesNext v.layout stage n
-        → LeavesBlock number s (after s (event.Take n))
-    take_leaves n (Sees first second) saw own =
-        let some = saw.some in
+    take_leaves : (n : ℕ) → TakesNext v n → LeavesBlock number s (after s (event.Take n))
+    take_leaves n own =
+        let some = own.some in
+        let seen = seen_within v.seen here h.order.seen in
         let within = h.slots.within in
-        memory_blocks.take s n number (λ e. away.blocks 0 (omega (arith, some, within)) (sym (e ∙ own)))
-    take_leaves n Looks saw own = absurd own
-    take_leaves n (Holding p) saw own = absurd own
-    take_leaves n (Lent o b) saw own = absurd own
-    take_leaves n (Named o b) saw own = absurd own
+        memory_blocks.take s n number
+        (λ e. away.blocks 0 (omega (arith, some, seen, within)) (sym (e ∙ own.block)))
 
-    name_leaves : (a : ℕ) (bytes : List ℕ) (stage : Stage) → NamesNext v.layout stage a bytes
-        → LeavesBlock number s (after s (event.Poke16 a bytes))
-    name_leaves a bytes (Lent o b) own =
+    name_leaves : (a : ℕ) (bytes : List ℕ) → NamesNext v a bytes → LeavesBlock number s (after s (event.Poke16 a bytes))
+    name_leaves a bytes own =
         let l = v.layout in
         let slot : ℕ = slot_at l (vacant l) in
-        let size : length bytes ≡ 16 = ap length own.1 ∙ (halves_come_back (posted (2048 * b)) 0).size in
+        let size : length bytes ≡ 16 =
+        ap length own.bytes_are ∙ (halves_come_back (posted (2048 * fresh_of v.stage)) 0).size in
         memory_blocks.poke s a bytes number
         (subst (Avoids number a) (sym size)
-        (inside_avoids (l.ring + slot / 128) number a 16 (rw own.0 (slot_lies l.ring slot))
+        (inside_avoids (l.ring + slot / 128) number a 16 (rw own.address (slot_lies l.ring slot))
         (λ e.
         away.ring (slot / 128) (slot_block l.size slot (slot_below l (vacant l) h.ring (omega arith))) (sym e))))
-    name_leaves a bytes Looks own = absurd own
-    name_leaves a bytes (Sees first second) own = absurd own
-    name_leaves a bytes (Holding p) own = absurd own
-    name_leaves a bytes (Named o b) own = absurd own
 
     own_leaves : (e : Event Block) → IsOwn v e → LeavesBlock number s (after s e)
     own_leaves (event.Peek16 a) own = (stays_within s (event.Peek16 a)).blocks number refl
-    own_leaves (event.Take n) own = take_leaves n v.stage h.stage own
+    own_leaves (event.Take n) own = take_leaves n own
     own_leaves (event.Lend b) own = lend_leaves s b number has
-    own_leaves (event.Poke16 a bytes) own = name_leaves a bytes v.stage own
+    own_leaves (event.Poke16 a bytes) own = name_leaves a bytes own
     own_leaves (event.Write port n word) own = ap (λ m. map.get m number) (write_memory s port n word)
     own_leaves e own = absurd own
 
@@ -92,8 +81,7 @@ module _ (queue : ℕ) (s : State) (out : List Piece) (v : Receive) (gone here :
 
   own_setting : (e : Event Block) → IsOwn v e → WritesNoSetting s e
   own_setting (event.Write port n word) own =
-      plain-write s port n word (place Rdt queue) 0xFFFFFFFF
-      (writes_tail s queue v.layout h.named port n word v.stage own) refl
+      plain-write s port n word (place Rdt queue) 0xFFFFFFFF (writes_tail s queue v h.named port n word own) refl
   own_setting (event.Peek16 a) own = tt
   own_setting (event.Take n) own = tt
   own_setting (event.Lend b) own = tt
@@ -102,8 +90,7 @@ module _ (queue : ℕ) (s : State) (out : List Piece) (v : Receive) (gone here :
 
   own_side : (e : Event Block) → IsOwn v e → LeavesTransmit queue s (after s e)
   own_side (event.Write port n word) own =
-      transmit_left s queue v.layout h.named port n word
-      (writes_tail s queue v.layout h.named port n word v.stage own)
+      transmit_left s queue v h.named port n word (writes_tail s queue v h.named port n word own)
   own_side (event.Peek16 a) own = (memory_rest.peek s a).queues.transmit queue
   own_side (event.Take n) own = (memory_rest.take s n).queues.transmit queue
   own_side (event.Lend b) own = (memory_rest.lend s b).queues.transmit queue

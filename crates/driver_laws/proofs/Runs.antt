@@ -64,7 +64,7 @@ module _ (w : Watched) (mine : Blocks) where
       (goes_on w mine mode s out sent h m e.event made steps (after_call h d (call_of e.event (reply_to s e.event)))
       keeps)
 
-  one_receives_up : (mode : Mode) (s : State) (out : List Piece) (sent : List (List ℕ)) (h : Halves)
+  pub one_receives_up : (mode : Mode) (s : State) (out : List Piece) (sent : List (List ℕ)) (h : Halves)
       (doers : List Doer) (e : Entry) (b : Bool) → (e.pass == w.pass) ≡ b → Meets w mine mode s out sent h
       → e.reply ≡ reply_to s e.event → IsEvent e.event → EntryLeavesAlone w mine mode e
       → (e.pass ≡ w.pass → IsTrue (is_neither (doer_of true doers))

@@ -92,8 +92,9 @@ reports_spare s queue sent u f h v apart back told =
     ap (λ b. cond b (word_of r Tdwbah queue * 2 ^ 32 + 4 * (word_of r Tdwbal queue / 4))
     (descriptor_address ring ring.head)) low
     ∙ head_is s queue sent u f h in
+    let c = h.counted in
     let below = slot-below l h.based.layout f
-    (omega (arith, h.counted.fetched_posted, h.counted.posted_known, h.counted.room)) in
+    (omega (arith, c.fetched_posted, c.posted_poked, c.poked_lent, c.lent_known, c.room)) in
     let part : ℕ = l.ring + slot_at l f / 128 in
     let here : back / 2048 ≡ part = ap (λ a. a / 2048) (at ∙ head) ∙ in_block l.ring (slot_at l f) in
     each_map v (λ b. b ≢ part) (λ b. b ≢ back / 2048) (λ b ne e. ne (e ∙ here))

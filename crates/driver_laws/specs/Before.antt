@@ -1,5 +1,6 @@
 -- Entries ahead of the place where the device agrees with both halves, as those of a driver's start.
-use Rattle.std.specs.Prelude.{ℕ, ◌≢◌, List, [], ◌∷◌, ⊤}
+use Rattle.std.specs.Prelude.{ℕ, ◌≢◌, ◌*◌, ◌≤◌, List, [], ◌∷◌, All, ⊤}
+use Rattle.nic_device.specs.RegisterFile.Settings.{frame_limit}
 use Rattle.nic_device.specs.State.{State}
 use Rattle.nic_device.specs.Step.{after}
 use Rattle.receive_laws.specs.DeviceLaws.Laws.{WritesNoSetting}
@@ -7,7 +8,12 @@ use Rattle.device_lock.specs.Alone.{Blocks, lent_by}
 use Rattle.device_lock.specs.History.{IsLegal, AreEvents, leads_to}
 use Rattle.device_lock.specs.declared.entry.Entry.{Entry}
 use Rattle.receive_laws.specs.HistoryLaws.Lent.{OnlyLent, LendsNone, either}
-use Rattle.receive_laws.specs.Short.{AreShort}
+use Rattle.receive_laws.specs.Fitting.{FitsBlocks}
+
+-- the frames that wait for a queue fit so many blocks, and longer ones aren't let in
+pub record AreShort (queue most : ℕ) (s : State) : Type 0 where
+  pub limit : frame_limit s.registers ≤ 2048 * most
+  pub waiting : All (FitsBlocks queue most) s.waiting
 
 -- each entry writes no setting
 abbrev pub NoneSets : State → List Entry → Type 0
@@ -19,10 +25,11 @@ abbrev pub OnlyPassLends : ℕ → Blocks → List Entry → Type 0
 OnlyPassLends pass own [] = ⊤
 OnlyPassLends pass own (e ∷ es) = (e.pass ≢ pass → LendsNone own e.event) × OnlyPassLends pass own es
 
--- over such entries the frames that wait for a queue stay as short as a buffer
+-- over such entries the frames that wait for a queue stay as short as so many blocks
 abbrev pub FramesStayShortAlong : Type 0
 FramesStayShortAlong =
-    (queue : ℕ) (s : State) (es : List Entry) → AreShort queue s → NoneSets s es → AreShort queue (leads_to s es)
+    (queue most : ℕ) (s : State) (es : List Entry) → AreShort queue most s → NoneSets s es →
+    AreShort queue most (leads_to s es)
 
 -- and of the numbers only those are lent that were before, and those that the pass lent
 abbrev pub OnlyPassLent : Type 0

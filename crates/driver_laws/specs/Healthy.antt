@@ -9,33 +9,32 @@ use Rattle.device_lock.specs.declared.entry.Entry.{Entry}
 use Rattle.pmd.specs.PmdRx.Keeping as received
 use Rattle.pmd.specs.PmdTx.Sending as sending
 use Rattle.receive_laws.specs.HistoryLaws.Lent.{OnlyLent, either}
-use Rattle.receive_laws.specs.Short.{AreShort}
 use Rattle.pmd.specs.Apart.{AllLendApart, is_healthy}
-use Rattle.pmd.specs.Halves.{Halves, Doer}
+use Rattle.pmd.specs.Halves.{Halves, Doer, after_call}
 use Rattle.driver_laws.specs.Histories.{IsDriven}
-use Rattle.driver_laws.specs.Before.{OnlyPassLends}
+use Rattle.driver_laws.specs.Before.{AreShort, OnlyPassLends}
 
 -- the reply to a call is one that a healthy queue gives
-abbrev pub IsHealthy : Doer → Call → Type 0
-IsHealthy d n = IsTrue (is_healthy d n)
+abbrev pub IsHealthy : Halves → Doer → Call → Type 0
+IsHealthy h d n = IsTrue (is_healthy h d n)
 
 -- so it is with each of these calls
-abbrev pub AreHealthy : List Doer → List Call → Type 0
-AreHealthy [] calls = ⊤
-AreHealthy (d ∷ doers) [] = ⊤
-AreHealthy (d ∷ doers) (n ∷ calls) = IsHealthy d n × AreHealthy doers calls
+abbrev pub AreHealthy : Halves → List Doer → List Call → Type 0
+AreHealthy h [] calls = ⊤
+AreHealthy h (d ∷ doers) [] = ⊤
+AreHealthy h (d ∷ doers) (n ∷ calls) = IsHealthy h d n × AreHealthy (after_call h d n) doers calls
 
 -- the blocks that either half has lent
 abbrev pub lent_by : Halves → Blocks
 lent_by h = either (received.has_lent h.receive) (sending.has_lent h.transmit)
 
 -- a history that drives the halves, and shares these numbers with no other: no other pass lends a block of them. As its
--- first entries end, the frames that wait for the queue fit a buffer, and of the numbers only those are lent that the
--- halves have lent
+-- first entries end, the frames that wait for the queue fit as many blocks as the driver takes for a packet, and of the
+-- numbers only those are lent that the halves have lent
 pub record IsUnshared (w : Watched) (fifo : ℕ) (start rest : List Entry) (h : Halves) (doers : List Doer)
     (own : Blocks) : Type 0 where
   pub driven : IsDriven w fifo start rest h doers
-  pub short : AreShort w.queue (leads_to (new_state w.vfs fifo) start)
+  pub short : AreShort w.queue h.receive.layout.most (leads_to (new_state w.vfs fifo) start)
   pub known : OnlyLent own (lent_by h) (leads_to (new_state w.vfs fifo) start).memory
   pub others : OnlyPassLends w.pass own rest
 
@@ -45,4 +44,4 @@ abbrev pub OwnRepliesAreHealthy : Type 0
 OwnRepliesAreHealthy =
     (w : Watched) (fifo : ℕ) (start rest : List Entry) (h : Halves) (doers : List Doer) (own : Blocks) →
     IsUnshared w fifo start rest h doers own → AllLendApart own h doers (calls_of w.pass rest) →
-    AreHealthy doers (calls_of w.pass rest)
+    AreHealthy h doers (calls_of w.pass rest)

@@ -73,6 +73,18 @@ NoneIsAll =
     (played_by h doers (calls_of w.pass rest)).receive.handed
     ≡ delivered w.queue (new_state w.vfs fifo) (start ++ rest)
 
+-- and so it was at an earlier place of the history, where nothing was handed out since
+abbrev pub NoneIsAllBefore : Type 0
+NoneIsAllBefore =
+    (w : Watched) (fifo : ℕ) (start before rest : List Entry) (h : Halves) (early doers : List Doer) →
+    IsDriven w fifo start before h early → IsDriven w fifo start (before ++ rest) h doers →
+    FindsNone (leads_to (new_state w.vfs fifo) (start ++ (before ++ rest)))
+    (played_by h doers (calls_of w.pass (before ++ rest))).receive →
+    (played_by h doers (calls_of w.pass (before ++ rest))).receive.handed
+    ≡ (played_by h early (calls_of w.pass before)).receive.handed →
+    (played_by h early (calls_of w.pass before)).receive.handed
+    ≡ delivered w.queue (new_state w.vfs fifo) (start ++ before)
+
 -- what was sent on the queue since then is a prefix of what the driver accepted, and it is all of that where none is
 -- outstanding
 abbrev pub SentIsPrefix : Type 0

@@ -11,7 +11,7 @@ ghost use Rattle.driver_laws.specs.Beside.{CallsAddHarmless, StepsAddHarmless, D
 ghost use Rattle.driver_laws.specs.Enabling.{EnableWordsKeep};
 ghost use Rattle.driver_laws.specs.Faults.{NoFault};
 ghost use Rattle.driver_laws.specs.Healthy.{OwnRepliesAreHealthy};
-ghost use Rattle.driver_laws.specs.Histories.{HandedIsPrefix, NoneIsAll, SentIsPrefix, IdleIsAllSent, CountedWhereUp};
+ghost use Rattle.driver_laws.specs.Histories.{HandedIsPrefix, NoneIsAll, NoneIsAllBefore, SentIsPrefix, IdleIsAllSent, CountedWhereUp};
 ghost use Rattle.driver_laws.specs.Waiting.{WaitingIsNotAll};
 ghost use Rattle.pmd.specs.Halves.{ReceivingDrives, SendingDrives, OthersDrive, DrivesOn};
 
@@ -27,19 +27,22 @@ pub fn calls_lead_both_halves()
 
 /// Over a history of a new device that leaves the driver's queue alone, from a place on where the device agrees with
 /// both halves and the receive side has gone on: the packets that the driver handed out are a prefix of those that were
-/// delivered since, and all of them where a look that comes next finds none; and the frames that were sent since are a
-/// prefix of those that it accepted, and all of them where none is outstanding. Where the transmit side is up at that
-/// place, all of these are counted since it went on.
+/// delivered since, and all of them where a look that comes next finds none, as they were at each place before since
+/// which none was handed out; and the frames that were sent since are a prefix of those that it accepted, and all of
+/// them where none is outstanding. Where the transmit side is up at that place, all of these are counted since it went
+/// on.
 pub fn both_sides_in_order()
     ensures handed { HandedIsPrefix }
     ensures none { NoneIsAll }
+    ensures before { NoneIsAllBefore }
     ensures sent { SentIsPrefix }
     ensures idle { IdleIsAllSent }
     ensures counted { CountedWhereUp }
 {}
 
 /// Behind a word that is written to the enable register of either side of the driver's queue, as a driver that stops
-/// writes one, the device agrees with both halves as before it, whatever the word.
+/// writes one, the device agrees with both halves as before it. The word may be any, but that nothing is outstanding
+/// where it asks for the transmit side to be on.
 pub fn enable_words_keep_the_agreement()
     ensures { EnableWordsKeep }
 {}
@@ -66,9 +69,10 @@ pub fn waiting_packets_are_not_all_sent()
 
 /// Over a history of a new device that leaves the driver's queue alone, from a place on where the device agrees with
 /// both halves and the receive side has gone on: each call of either half gets a reply that a healthy queue gives.
-/// There the frames that wait for the queue fit a buffer, as do those that are let in; and of the driver's arena only
-/// blocks are lent that the driver has lent, and no other pass lends any. What the halves lend is as the clause
-/// `drives` of a driver's calls says: blocks of the arena alone, and none that the other half has lent.
+/// There the frames that wait for the queue fit as many blocks as the driver takes for a packet, as do those that are
+/// let in; and of the driver's arena only blocks are lent that the driver has lent, and no other pass lends any. What
+/// the halves lend is as the clause `drives` of a driver's calls says: blocks of the arena alone, and none that the
+/// other half has lent.
 pub fn own_replies_are_healthy()
     ensures { OwnRepliesAreHealthy }
 {}
@@ -80,8 +84,8 @@ pub fn no_call_finds_the_device_at_fault()
 {}
 
 /// What such a history begins with leads there from the driver's start: over entries that write no setting the frames
-/// that wait for the queue stay as short as a buffer; and where no other pass lends a block of the driver's arena, only
-/// those are lent that were before, and those that the pass lent.
+/// that wait for the queue stay as short as so many blocks; and where no other pass lends a block of the driver's
+/// arena, only those are lent that were before, and those that the pass lent.
 pub fn entries_before_lead_there()
     ensures short { FramesStayShortAlong }
     ensures lent { OnlyPassLent }

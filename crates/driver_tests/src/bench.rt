@@ -13,6 +13,7 @@ pub const PLAIN: Setup = Setup {
     key: [0; 40],
     reta: [0; 128],
     promiscuous: true,
+    frame: 1518,
 };
 
 /// How many calls there are, with those of idle steps.
@@ -87,7 +88,7 @@ pub fn blocks(rt: &impl Hand) -> Arena {
 
 /// A driver of queue 0 with rings of 8.
 pub fn started<N: Nic>(rt: &impl Hand, nic: &mut N) -> Pmd {
-    done(rt, Pmd::start(rt.alloc(), nic, Port::Pf, 0, 8, blocks(rt)))
+    done(rt, Pmd::start(rt.alloc(), nic, Port::Pf, 0, 8, 1518, blocks(rt)))
 }
 
 /// Ends a device. Answers what was lent to it, and its frames out.
@@ -157,8 +158,16 @@ pub fn segment(rt: &impl Hand, number: u8) -> Vec<u8> {
 
 /// Whether these are the packet's bytes.
 pub fn has_bytes(packet: &Packet, frame: &[u8]) -> bool {
-    let bytes: &[u8] = packet.buf.bytes();
-    &bytes[..usize::from(packet.len).min(2048)] == frame
+    let mut rest = frame;
+    for number in 0..packet.bufs.count() {
+        let bytes: &[u8] = packet.bufs.get(number).bytes();
+        let more = rest.len().min(2048);
+        if bytes[..more] != rest[..more] {
+            return false;
+        }
+        rest = &rest[more..];
+    }
+    rest.is_empty() && usize::from(packet.len) == frame.len()
 }
 
 /// The next packet, where one waits.

@@ -7,7 +7,7 @@ use crate::bench::{
 use crate::interleaved::{unstepped, without_blocks};
 use crate::outcome::{Hand, done, none, refused, some};
 use nic_device::{Arena, Event, Mode, Port, Reply};
-use workers::{Direct, Home, Nic, Packet, Pmd, PmdFault, Rest, Setup, StartRefused, TxFault};
+use workers::{Bufs, Direct, Home, Nic, Packet, Pmd, PmdFault, Rest, Setup, StartRefused, TxFault};
 
 #[test]
 fn a_frame_is_received_and_sent_again(rt: HostRuntime) {
@@ -44,7 +44,7 @@ fn the_sixth_queue_of_a_function_receives_by_the_hash(rt: HostRuntime) {
         ..PLAIN
     };
     let mut direct = set_up(&rt, 64, 5, &setup);
-    let start = Pmd::start(rt.alloc(), &mut direct, Port::Vf(0), 5, 8, blocks(&rt));
+    let start = Pmd::start(rt.alloc(), &mut direct, Port::Vf(0), 5, 8, 1518, blocks(&rt));
     let mut pmd = done(&rt, start);
     let frame = done(&rt, Vec::from_array(rt.alloc(), TCP_FRAME));
     arrive(&rt, &mut direct, frame);
@@ -105,7 +105,7 @@ fn free_blocks(rt: &impl Hand, pmd: &mut Pmd, most: u32) -> u32 {
 fn six_hundred_frames_go_through_a_ring_of_256(rt: HostRuntime) {
     let mut direct = opened(&rt, 64, 0);
     let arena = done(&rt, Arena::new(rt.alloc(), 0, 320));
-    let start = Pmd::start(rt.alloc(), &mut direct, Port::Pf, 0, 256, arena);
+    let start = Pmd::start(rt.alloc(), &mut direct, Port::Pf, 0, 256, 1518, arena);
     let mut pmd = done(&rt, start);
     assert_eq!(rt; free_blocks(&rt, &mut pmd, 100), 61);
     for first in (0..600_u16).step_by(5) {
@@ -125,7 +125,7 @@ fn six_hundred_frames_go_through_a_ring_of_256(rt: HostRuntime) {
 fn five_frames_go_through_a_ring_of_1024(rt: HostRuntime) {
     let mut direct = opened(&rt, 64, 0);
     let arena = done(&rt, Arena::new(rt.alloc(), 0, 1048));
-    let start = Pmd::start(rt.alloc(), &mut direct, Port::Pf, 0, 1024, arena);
+    let start = Pmd::start(rt.alloc(), &mut direct, Port::Pf, 0, 1024, 1518, arena);
     let mut pmd = done(&rt, start);
     assert_eq!(rt; free_blocks(&rt, &mut pmd, 100), 9);
     five_frames(&rt, &mut direct, &mut pmd, 0);
@@ -161,7 +161,7 @@ fn refused_start<N: Nic>(
     (first, count): (u32, u32),
 ) -> (PmdFault, bool) {
     let arena = done(rt, Arena::new(rt.alloc(), first, count));
-    let start = Pmd::start(rt.alloc(), nic, Port::Pf, 0, size, arena);
+    let start = Pmd::start(rt.alloc(), nic, Port::Pf, 0, size, 1518, arena);
     let StartRefused { fault, rest } = refused(rt, start);
     let (home, is_lent) = match rest {
         Rest::Home(home) => (home, false),
@@ -198,7 +198,7 @@ fn a_packet_of_another_arena_comes_back(rt: HostRuntime) {
     let mut pmd = started(&rt, &mut direct);
     let mut other = done(&rt, Arena::new(rt.alloc(), 100, 1));
     let packet = Packet {
-        buf: some(&rt, other.take()),
+        bufs: Bufs::of(some(&rt, other.take())),
         len: 60,
         rss: 0,
         hash: 0,
@@ -206,12 +206,13 @@ fn a_packet_of_another_arena_comes_back(rt: HostRuntime) {
     let TxFault { fault, packet } = refused(&rt, pmd.tx(rt.alloc(), &mut direct, packet));
     assert!(rt; reason(&fault) == Why::ForeignBlock);
     let Packet {
-        buf,
+        mut bufs,
         len: _,
         rss: _,
         hash: _,
     } = refused(&rt, pmd.release(some(&rt, packet)));
-    done(&rt, other.give(buf));
+    done(&rt, other.give(some(&rt, bufs.take_first())));
+    bufs.finish();
     done(&rt, other.close());
     assert!(rt; stop(&rt, &mut direct, pmd) == (0, 0));
     end(&rt, in_hand(direct));

@@ -65,7 +65,7 @@ impl Driver {
             return;
         };
         let mut nic = ThroughLock::new(rt, bench, some(rt, self.pass.take()), self.queue);
-        match Pmd::start(rt.alloc(), &mut nic, Port::Pf, self.queue, 8, arena) {
+        match Pmd::start(rt.alloc(), &mut nic, Port::Pf, self.queue, 8, 1518, arena) {
             Ok(pmd) => put(rt, &mut self.pmd, pmd),
             Err(StartRefused { fault: _, rest }) => match rest {
                 Rest::Home(home) => self.come_home(rt, home),

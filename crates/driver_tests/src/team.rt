@@ -45,6 +45,7 @@ pub fn parting(mode: Mode, mrqc: u32) -> Setup {
         key: [0x6D; 40],
         reta,
         promiscuous: true,
+        frame: 1518,
     }
 }
 
@@ -74,6 +75,7 @@ fn jobs(rt: &impl Hand, passes: Vec<Pass>, rounds: u32) -> Vec<Job> {
             queue,
             pf_queue: queue,
             size: 8,
+            frame: 1518,
             arena: blocks_of(rt, queue),
             rounds,
         };

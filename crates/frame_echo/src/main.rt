@@ -36,6 +36,7 @@ const SETUP: Setup = Setup {
     key: KEY,
     reta: [0; 128],
     promiscuous: true,
+    frame: 1518,
 };
 
 fn main(rt: HostRuntime) -> Result<(), Failure> {
@@ -58,7 +59,7 @@ fn drive(rt: &HostRuntime, nic: &mut Direct) -> Result<(), Failure> {
     let Ok(arena) = Arena::new(alloc, 4, 32) else {
         return Err(Failure::NoArena);
     };
-    match Pmd::start(alloc, nic, Port::Pf, 0, 8, arena) {
+    match Pmd::start(alloc, nic, Port::Pf, 0, 8, SETUP.frame, arena) {
         Ok(mut pmd) => {
             let echoed = echo(rt, nic, &mut pmd);
             stop(rt, nic, pmd)?;

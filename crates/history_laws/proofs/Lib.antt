@@ -10,6 +10,7 @@ pub mod Filling
 pub mod HalfLent
 pub mod Leaving
 pub mod Lent
+pub mod Limits
 pub mod Modes
 pub mod Naming
 pub mod Parting

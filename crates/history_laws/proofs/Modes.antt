@@ -52,7 +52,7 @@ module _ (s : State) (sound : IsSound s) (image : s.image ≡ blank) (port : Por
       ∙ ap (λ b. mode_in (cond b (reset s) (written_below_reset s (place Ctrl index) view word)).registers) asks
       ∙ mode_of_reset s image)
   control_written index view false found asks =
-      sym (ap mode_of (control_stands s port n word index view found asks))
+      sym (ap mode_of (control_stands GcrExt setting (λ e. cc) s port n word index view found asks))
 
   register_written : (p : Place) (view : ℕ) → named s port n ≡ Register p view → IsReal p view
       → (number_of p.row ≡ number_of GcrExt) ⊎ (number_of p.row ≢ number_of GcrExt)
@@ -76,7 +76,7 @@ module _ (s : State) (sound : IsSound s) (image : s.image ≡ blank) (port : Por
       let other : p.row ≢ GcrExt = λ e. own (ap number_of e) in
       let no_control : p.row ≢ Ctrl = λ e. control (ap number_of e) in
       other_mode (mode_in s.registers) p.row word other no_control
-      ∙ sym (other_stands s port n word p view found other no_control)
+      ∙ sym (ap mode_of (other_stands GcrExt setting s port n word p view found other no_control))
 
   named_mode : (m : Named) → named s port n ≡ m → AreReal m
       → mode_written (mode_in s.registers) (place_in m) word ≡ mode_in t.registers

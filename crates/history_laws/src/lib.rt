@@ -5,14 +5,15 @@
 #![tactic(auto)]
 
 ghost use Rattle.history_laws.specs.Lent.{OnlyLentStays, AnewIsDone};
-ghost use Rattle.history_laws.specs.Laws.{ModeIsTold, AloneByEntries, BeginningIsAlone, HistoriesKeepSound};
+ghost use Rattle.history_laws.specs.Laws.{ModeIsTold, SettingsAreTold, AloneByEntries, BeginningIsAlone, HistoriesKeepSound};
 ghost use Rattle.history_laws.specs.Reports.{ReportsLieInBlocks};
 ghost use Rattle.history_laws.specs.Left.{LeftDid, SidesDo};
 
 /// The mode by which the queues are parted among pools, read off the entries of a history, is the device's own: what
-/// its register GCR_EXT says.
-pub fn mode_is_told()
-    ensures { ModeIsTold }
+/// its register GCR_EXT says. So is the frame limit, which HLREG0 and MAXFRS say.
+pub fn settings_are_told()
+    ensures mode { ModeIsTold }
+    ensures settings { SettingsAreTold }
 {}
 
 /// A history that leaves a queue alone does so entry by entry, from any place behind the pass's first entry on; and

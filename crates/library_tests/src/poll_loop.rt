@@ -29,6 +29,7 @@ fn two_queues() -> Setup {
         key: KEY,
         reta,
         promiscuous: true,
+        frame: 1518,
     }
 }
 
@@ -44,7 +45,7 @@ fn drive<R: Abort + Wait>(
 ) -> Pass {
     let arena = done(rt, Arena::new(alloc, 16 * u32::from(queue), 16));
     let mut nic = ThroughLock::new(rt, bench, pass, queue);
-    let mut pmd = done(rt, Pmd::start(alloc, &mut nic, Port::Pf, queue, 8, arena));
+    let mut pmd = done(rt, Pmd::start(alloc, &mut nic, Port::Pf, queue, 8, 1518, arena));
     for _frame in 0..FRAMES {
         let bytes = frame.to_vec(alloc).expect(rt, "memory");
         match done(rt, nic.call(alloc, Event::Arrive(Octets::of(bytes)))) {

@@ -42,7 +42,7 @@ pub use event::{Event, EventNote, Note, OutOfMemory, Port, Reply, ReplyNote, Why
 pub use named::Named;
 pub use register_file::{
     Bank, Group, Key, Located, MAX_VFS, Mode, Place, QUEUES, RowId, addr_of, asks_pool_reset,
-    asks_reset, bank_of, has_queue, hash, locate, mode_of, place_of,
+    asks_reset, bank_of, has_queue, hash, locate, mode_of, place_of, queues_of,
 };
 pub use runs::RunStop;
 pub use rx_ring::{

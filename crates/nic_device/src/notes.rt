@@ -1,14 +1,13 @@
 //! Notes: an event and a reply as they can be kept, with what a packet buffer holds in its place. Contracts see an
 //! event and its note as one, and so a reply and its note.
 
-ghost use Rattle.std.specs.Prelude.{◌≡◌, ◌≤◌, ◌<◌, ◌↔◌, IsTrue, IfOk, OnOk, [], length, false};
-ghost use Rattle.std.specs.Vec.{vec_len, vec_capacity};
+ghost use Rattle.std.specs.Prelude.{◌≡◌, ◌≤◌, ◌↔◌, IsTrue, IfOk, [], length, false};
+ghost use Rattle.std.specs.Vec.{vec_capacity};
 ghost use Rattle.std.specs.Result.{result_err};
 ghost use Rattle.nic_device.specs.Answering.{note_length};
-ghost use Rattle.nic_device.specs.Step.{step_of, handed_block};
+ghost use Rattle.nic_device.specs.Step.{handed_block};
 ghost use Rattle.nic_device.specs.Trimming.{kept_len};
 
-use crate::device::Device;
 use crate::event::{Event, EventNote, Note, Reply, ReplyNote};
 use crate::trimming::kept_len;
 use rx_ring::{Buf, Octets};
@@ -248,28 +247,6 @@ impl Reply {
         ensures { result ≡ handed_block self }
     {
         self.into_note().err()
-    }
-}
-
-impl Device {
-    /// What a list of calls takes for an event that is to be made: room for one entry more, the event's note, and room
-    /// for the note of the reply.
-    pub fn ready_notes<T>(
-        &self,
-        alloc: Global,
-        calls: &mut Vec<T>,
-        event: &Event,
-    ) -> Result<(EventNote, Vec<u8>), AllocError>
-        ensures same { calls.new.items ≡ calls.old.items }
-        ensures spare { OnOk result (vec_len calls.new < vec_capacity calls.new) }
-        ensures note { IfOk result (λ ready. ready.0 ≡ event.now) }
-        ensures empty { IfOk result (λ ready. ready.1.items ≡ []) }
-        ensures room { IfOk result (λ ready. note_length (step_of self.now event.now).reply ≤ vec_capacity ready.1) }
-    {
-        calls.reserve(1)?;
-        let note = event.note(alloc)?;
-        let room = Vec::with_capacity(alloc, self.note_room(event))?;
-        Ok((note, room))
     }
 }
 

@@ -2,16 +2,12 @@
 use Rattle.std.proofs.Common.{◌≡◌, ◌≢◌, ℕ, zero, suc, ◌+◌, ◌<◌, ◌≤◌, ◌⊎◌, ◌↔◌, inl, inr, nat_lt, Bool, true, false, cond, List, ◌∷◌, ◌++◌, refl, sym, subst, arith}
 use Rattle.std.proofs.lemmas.Bool.{cases_eq}
 use Rattle.std.proofs.lemmas.Bool.Decides.{nat_tests}
-use Rattle.nic_device.specs.DmaArena.Numbers.{Numbers, is_own, is_free, with_free}
+use Rattle.nic_device.specs.DmaArena.Numbers.{Numbers, is_own, is_free}
 use Rattle.nic_device.specs.DmaArena.Whereabouts.{times_in_hand}
 use Rattle.pmd_rx.specs.PmdSeam.Home.{AreOut}
-use Rattle.pmd_rx.proofs.PmdSeam.Outside.{times_first, times_rest, times-append, out_fewer, out_given, out_exchanged}
+use Rattle.pmd_rx.proofs.PmdSeam.Outside.{times_first, times_rest, times-append, out_fewer, out_exchanged}
 use Rattle.pmd_rx.specs.Keeping.{Keeps, blocks_out}
-use Rattle.pmd_tx.specs.Leaving.{lent_of}
-use Rattle.pmd_tx.proofs.Counting.{not_lent}
-use Rattle.pmd_tx.specs.Sending.{has_lent}
-use Rattle.pmd_tx.specs.Sends.{goes_home}
-use Rattle.pmd.specs.Running.{Running, IsUp, rings_out, receives, goes_back}
+use Rattle.pmd.specs.Running.{Running, IsUp, kept_out}
 
 -- a part of what is out
 
@@ -39,16 +35,16 @@ out_joined a xs n own away none out k = joined_at a xs n own away none out k (ca
 pub received_up : (r s : Running) (out : List ℕ) → IsUp r → Keeps r.arena r.receive s.arena s.receive out
     → s.transmit ≡ r.transmit → IsUp s
 received_up r s out up keeps same =
-    let lent : List ℕ = lent_of r.transmit in
-    let all : AreOut s.arena ((out ++ blocks_out s.receive) ++ lent) =
-    out_exchanged r.arena (blocks_out r.receive) s.arena (out ++ blocks_out s.receive) lent up.home keeps.arena in
+    let kept : List ℕ = kept_out r.transmit in
+    let all : AreOut s.arena ((out ++ blocks_out s.receive) ++ kept) =
+    out_exchanged r.arena (blocks_out r.receive) s.arena (out ++ blocks_out s.receive) kept up.home keeps.arena in
     record {
-      home = rw same (out_fewer s.arena ((out ++ blocks_out s.receive) ++ lent) (blocks_out s.receive ++ lent) all
+      home = rw same (out_fewer s.arena ((out ++ blocks_out s.receive) ++ kept) (blocks_out s.receive ++ kept) all
           (λ k. omega (
             arith,
-            times-append (out ++ blocks_out s.receive) lent k,
+            times-append (out ++ blocks_out s.receive) kept k,
             times-append out (blocks_out s.receive) k,
-            times-append (blocks_out s.receive) lent k,
+            times-append (blocks_out s.receive) kept k,
           )));
       filled = keeps.running up.filled;
       some = rw same up.some;
@@ -60,35 +56,3 @@ pub has_is : (b : Bool) (t : ℕ) → (b ≡ true) ↔ (0 < t) → b ≡ nat_lt 
 has_is true t has = grind (arith, nat_tests, has.0 refl)
 has_is false zero has = refl
 has_is false (suc t) has = absurd (let e : false ≡ true = has.1 (omega arith) in cc)
-
--- a block that goes back
-
-pub record GoesBack (r : Running) (n : ℕ) : Type 0 where
-  pub own : is_own r.arena n ≡ true
-  pub away : is_free r.arena n ≡ false
-  pub none : times_in_hand (rings_out r) n ≡ 0
-
-pub home_goes : (r : Running) (n : ℕ) → goes_home r.transmit r.arena n ≡ true → receives r n ≡ false → GoesBack r n
-home_goes r n home elsewhere =
-    let away : has_lent r.transmit n ≡ false = grind (arith, nat_tests, home) in
-    let none : times_in_hand (blocks_out r.receive) n ≡ 0 = grind (arith, nat_tests, elsewhere) in
-    record {
-      own = grind (arith, nat_tests, home);
-      away = grind (arith, nat_tests, home);
-      none = omega (
-        arith,
-        times-append (blocks_out r.receive) (lent_of r.transmit) n,
-        none,
-        not_lent r.transmit n away,
-      );
-    }
-
-pub back_goes : (r : Running) (n : ℕ) → goes_back r n ≡ true → GoesBack r n
-back_goes r n goes = home_goes r n (grind (arith, nat_tests, goes)) (grind (arith, nat_tests, goes))
-
-pub released_up : (r : Running) (n : ℕ) → GoesBack r n → IsUp r → IsUp (record r { arena = with_free r.arena n true })
-released_up r n goes up = record {
-  home = out_given r.arena (rings_out r) n (out_joined r.arena (rings_out r) n goes.own goes.away goes.none up.home);
-  filled = up.filled;
-  some = up.some;
-}

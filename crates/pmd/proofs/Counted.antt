@@ -1,34 +1,44 @@
 -- Where the blocks of a driver are, counted: after a look for a packet, one that was made, and one that was released.
-use Rattle.std.proofs.Common.{◌≡◌, ℕ, true, false, List, [], ◌∷◌, ◌++◌, Option, Some, None, Result, Ok, Err, IsOk, OnOk, ◌↔◌, refl, ap, subst, sym, arith}
+use Rattle.std.proofs.Common.{◌≡◌, ℕ, ◌&&◌, not, true, List, [], ◌++◌, Option, Some, None, Result, Ok, Err, OnOk, refl, ap, subst, sym, arith}
+use Rattle.std.specs.List.{list_any}
 use Rattle.std.proofs.lemmas.Bool.Decides.{nat_tests}
-use Rattle.nic_device.specs.DmaArena.Numbers.{Numbers, is_free, is_own, with_free}
+use Rattle.nic_device.specs.DmaArena.Numbers.{Numbers}
 use Rattle.nic_device.specs.DmaArena.Whereabouts.{times_in_hand}
+use Rattle.pmd_rx.specs.PmdSeam.Bufs.{numbers_of, with_all_free}
 use Rattle.pmd_rx.specs.PmdSeam.Fresh.{IsFresh}
+use Rattle.pmd_rx.specs.PmdSeam.Home.{AreOut}
 use Rattle.pmd_rx.specs.PmdSeam.declared.packet.Packet.{Packet}
-use Rattle.pmd_rx.proofs.PmdSeam.Outside.{times-cons, times-append}
-use Rattle.pmd_rx.specs.Keeping.{Keeps, blocks_out, lent_of, block_in}
-use Rattle.pmd_rx.specs.Receive.{held_by}
+use Rattle.pmd_rx.proofs.PmdSeam.Outside.{times-append}
+use Rattle.pmd_rx.proofs.PmdSeam.Outside.{all_drawn as drawn_out}
+use Rattle.pmd_rx.specs.Keeping.{Keeps, blocks_out, lent_of, numbers_in}
 use Rattle.pmd_tx.specs.Leaving as transmit
-use Rattle.pmd.specs.Halted.{Halted, all_out, goes_back}
+use Rattle.pmd_tx.specs.Sending.{Sender}
+use Rattle.pmd_tx.specs.Sends.{are_out}
+use Rattle.pmd.specs.Halted.{Halted, all_out, is_out}
 use Rattle.pmd.specs.Blocks.{KeepsBlocks, KeepsEach, KeepsUp}
 use Rattle.pmd.specs.Driver.{halted_of}
-use Rattle.pmd.specs.Running.{Running, rings_out}
+use Rattle.pmd.specs.Running.{Running, kept_out, rings_out}
 use Rattle.pmd.specs.declared.driver.Rings.TheVariants.{Up, Down}
-use Rattle.pmd.proofs.Whole.{keeps_counted, all_exchanged, one_drawn, one_given}
+use Rattle.pmd.proofs.Kept.{kept_parted}
+use Rattle.pmd.proofs.Several.{all_given, all_joined, away_by, uncounted}
+use Rattle.pmd.proofs.Whole.{keeps_counted, all_drawn, all_exchanged}
 
 -- the blocks of a driver whose rings are up, ring by ring
 pub up_out : (r : Running) (n : ℕ)
     → times_in_hand (all_out (halted_of (Up r))) n ≡ times_in_hand (rings_out r) n
 up_out r n =
     let lent : List ℕ = lent_of r.receive in
-    let held : List ℕ = block_in (held_by r.receive.stage) in
+    let held : List ℕ = numbers_of r.receive.held.bufs in
     let sent : List ℕ = transmit.lent_of r.transmit in
+    let waiting : List ℕ = transmit.waiting_of r.transmit in
     omega (
       arith,
-      times-append (lent ++ held) sent n,
+      kept_parted r.transmit n,
+      times-append (lent ++ held) (kept_out r.transmit) n,
       times-append lent held n,
-      times-append (lent ++ sent) held n,
+      times-append (lent ++ sent) (held ++ waiting) n,
       times-append lent sent n,
+      times-append held waiting n,
     )
 
 pub up_kept : (r s : Running) (given back : List ℕ) → KeepsUp r given s back → KeepsBlocks (Up r) given (Up s) back
@@ -50,76 +60,71 @@ up_kept r s given back keeps = record {
 pub received_kept : (r s : Running) (out : List ℕ) → Keeps r.arena r.receive s.arena s.receive out
     → s.transmit ≡ r.transmit → KeepsUp r [] s out
 received_kept r s out keeps same =
-    let sent : List ℕ = transmit.lent_of r.transmit in
-    let lent : transmit.lent_of s.transmit ≡ sent = ap transmit.lent_of same in
-    keeps_counted r.arena s.arena (rings_out r ++ []) ((out ++ blocks_out s.receive) ++ sent) (rings_out s ++ out)
-    (λ n. omega (
-      arith,
-      ap (λ (l : List ℕ). times_in_hand l n) lent,
-      times-append (out ++ blocks_out s.receive) sent n,
-      times-append out (blocks_out s.receive) n,
-      times-append (rings_out s) out n,
-      times-append (blocks_out s.receive) (transmit.lent_of s.transmit) n,
-    ))
-    (record {
-      owns = (all_exchanged r.arena (blocks_out r.receive) s.arena (out ++ blocks_out s.receive) keeps.arena).owns;
+    let kept : List ℕ = kept_out r.transmit in
+    let all = all_exchanged r.arena (blocks_out r.receive) s.arena (out ++ blocks_out s.receive) keeps.arena in
+    record {
+      owns = all.owns;
       each = λ n. omega (
         arith,
-        (all_exchanged r.arena (blocks_out r.receive) s.arena (out ++ blocks_out s.receive) keeps.arena).each n,
-        times-append (out ++ blocks_out s.receive) sent n,
+        all.each n,
+        ap (λ (v : Sender). times_in_hand (kept_out v) n) same,
+        times-append out (blocks_out s.receive) n,
+        times-append (rings_out s) out n,
+        times-append (blocks_out s.receive) (kept_out s.transmit) n,
         times-append (rings_out r) [] n,
-        times-append (blocks_out r.receive) sent n,
+        times-append (blocks_out r.receive) kept n,
       );
-    })
+    }
 
--- a packet is made of a free block
+-- a packet is made of free blocks
 pub fresh_kept : (a b : Numbers) (out : List ℕ) (len : ℕ) (made : Option Packet) → IsFresh a len made b
-    → KeepsEach a (out ++ []) b (out ++ block_in made)
+    → KeepsEach a (out ++ []) b (out ++ numbers_in made)
 fresh_kept a b out len None is =
     subst (λ (x : Numbers). KeepsEach a (out ++ []) x (out ++ [])) (sym is)
     (record { owns = λ n. refl; each = λ n. refl })
-fresh_kept a b out len (Some p) (free, made, is) =
-    let n : ℕ = p.buf.number in
-    subst (λ (x : Numbers). KeepsEach a (out ++ []) x (out ++ n ∷ [])) (sym is)
-    (keeps_counted a (with_free a n false) (out ++ []) (n ∷ (out ++ [])) (out ++ n ∷ [])
-    (λ k. omega (arith, times-append out (n ∷ []) k, times-append out [] k, times-cons n (out ++ []) k))
-    (one_drawn a (out ++ []) n free))
+fresh_kept a b out len (Some p) (draws, is) =
+    let ns : List ℕ = numbers_of p.bufs in
+    keeps_counted a b (out ++ []) (ns ++ (out ++ [])) (out ++ ns)
+    (λ k. omega (arith, times-append out ns k, times-append out [] k, times-append ns (out ++ []) k))
+    (all_drawn a ns b (out ++ []) draws.drawn)
+
+pub fresh_out : (a b : Numbers) (out : List ℕ) (len : ℕ) (made : Option Packet) → IsFresh a len made b → AreOut a out
+    → AreOut b out
+fresh_out a b out len None is are = subst (λ (x : Numbers). AreOut x out) (sym is) are
+fresh_out a b out len (Some p) (draws, is) are =
+    drawn_out a (numbers_of p.bufs) b out out draws.drawn are
+    (λ k. omega (arith, times-append (numbers_of p.bufs) out k))
 
 -- and one is released
-pub released_kept : (a : Numbers) (out : List ℕ) (n : ℕ) → is_own a n ≡ true → is_free a n ≡ false
-    → KeepsEach a (out ++ n ∷ []) (with_free a n true) (out ++ [])
-released_kept a out n own away =
-    let one = one_given a (out ++ []) n own away in
+pub released_kept : (a : Numbers) (out ns : List ℕ) → AreOut a (ns ++ out)
+    → KeepsEach a (out ++ ns) (with_all_free a ns) (out ++ [])
+released_kept a out ns are =
+    let given = all_given a ns out are in
     record {
-      owns = one.owns;
+      owns = given.owns;
       each = λ k. omega (
         arith,
-        one.each k,
-        times-append out (n ∷ []) k,
+        given.each k,
+        times-append ns out k,
+        times-append out ns k,
         times-append out [] k,
-        times-cons n (out ++ []) k,
       );
     }
 
 -- so it is of a driver that doesn't run
 
 pub fresh_down : (h k : Halted) (len : ℕ) (made : Option Packet) → IsFresh h.arena len made k.arena
-    → k ≡ record h { arena = k.arena } → KeepsBlocks (Down h) [] (Down k) (block_in made)
+    → k ≡ record h { arena = k.arena } → KeepsBlocks (Down h) [] (Down k) (numbers_in made)
 fresh_down h k len made is rest =
-    subst (λ (x : List ℕ). KeepsEach h.arena (all_out h ++ []) k.arena (x ++ block_in made)) (sym (ap all_out rest))
+    subst (λ (x : List ℕ). KeepsEach h.arena (all_out h ++ []) k.arena (x ++ numbers_in made)) (sym (ap all_out rest))
     (fresh_kept h.arena k.arena (all_out h) len made is)
 
-free_down : (h k : Halted) (n : ℕ) → goes_back h n ≡ true → k ≡ record h { arena = with_free h.arena n true }
-    → KeepsBlocks (Down h) (n ∷ []) (Down k) []
-free_down h k n goes is =
-    subst (λ (x : Halted). KeepsBlocks (Down h) (n ∷ []) (Down x) []) (sym is)
-    (released_kept h.arena (all_out h) n (grind (arith, nat_tests, goes)) (grind (arith, nat_tests, goes)))
-
-pub released_down : {U E : Type 0} (r : Result U E) (h k : Halted) (n : ℕ) → IsOk r ↔ (goes_back h n ≡ true)
-    → OnOk r (k ≡ record h { arena = with_free h.arena n true })
-    → OnOk r (KeepsBlocks (Down h) (n ∷ []) (Down k) [])
-released_down (Ok u) h k n ok is = free_down h k n (ok.0 refl) is
-released_down (Err e) h k n ok is = tt
+-- a packet whose blocks go back, of such a driver
+pub down_out : (h : Halted) (ns : List ℕ) → AreOut h.arena (all_out h)
+    → (are_out h.arena ns && not (list_any (λ n. is_out h n) ns)) ≡ true → AreOut h.arena (ns ++ all_out h)
+down_out h ns out goes =
+    all_joined h.arena (all_out h) ns (grind (arith, nat_tests, goes))
+    (away_by _ (all_out h) ns (λ n is. uncounted (times_in_hand (all_out h) n) is) (grind (arith, nat_tests, goes))) out
 
 -- what follows of a success
 pub ok_later : {U E : Type 0} {P Q : Type 0} (r : Result U E) → (P → Q) → OnOk r P → OnOk r Q

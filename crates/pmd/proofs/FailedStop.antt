@@ -1,52 +1,57 @@
 -- Where the blocks of a driver are whose stop failed.
-use Rattle.std.proofs.Common.{◌≡◌, ℕ, zero, suc, inl, inr, true, cond, List, [], ◌∷◌, ◌++◌, Option, Some, None, refl, sym, ap, subst, ◌∙◌, arith}
-use Rattle.nic_device.specs.DmaArena.Numbers.{Numbers, is_own, is_free, with_free}
+use Rattle.std.proofs.Common.{◌≡◌, ℕ, zero, suc, inl, inr, cond, List, [], ◌++◌, refl, sym, ap, subst, ◌∙◌, arith}
+use Rattle.std.proofs.lemmas.List.{append-nil}
+use Rattle.nic_device.specs.DmaArena.Numbers.{Numbers, is_free}
 use Rattle.nic_device.specs.DmaArena.Whereabouts.{times_in_hand}
-use Rattle.nic_device.proofs.DmaArena.Arenas.{is_own-with_free}
 use Rattle.pmd_rx.specs.DeviceLock.declared.entry.Call.{Call}
+use Rattle.pmd_rx.specs.PmdSeam.Bufs.{with_all_free}
 use Rattle.pmd_rx.specs.PmdSeam.Home.{AreOut, Bringing, BringsOne, Brings}
 use Rattle.pmd_rx.specs.PmdSeam.declared.fault.PmdFault.{PmdFault}
-use Rattle.pmd_rx.specs.PmdSeam.declared.packet.Packet.{Packet}
-use Rattle.pmd_rx.proofs.PmdSeam.Outside.{times-cons, times-append, out_fewer, out_first}
+use Rattle.pmd_rx.proofs.PmdSeam.Outside.{times-append, out_fewer, out_first}
 use Rattle.pmd_rx.specs.PmdSeam.Named.{AtPort}
-use Rattle.pmd_rx.specs.Keeping.{block_in, with_home}
 use Rattle.pmd.specs.Halted.{Halted, all_out}
-use Rattle.pmd.specs.Stopping.{StopFails, IsLeft, IsLeftAmid, bringing, closed}
+use Rattle.pmd.specs.Stopping.{StopFails, IsInPart, IsLeft, IsLeftAmid, bringing, closed}
 use Rattle.pmd.proofs.Bringing.{brings_out, brings_own, brings_few}
 use Rattle.pmd.specs.Blocks.{KeepsEach, HasAll, LosesNone}
+use Rattle.pmd.proofs.Several.{all_given, all_own_same}
 use Rattle.pmd.proofs.Whole.{has_out, keeps_then, keeps_counted, one_given}
 
--- the rings are closed
+-- blocks in hand go home, some of them
 
-closed_has : (a : Numbers) (arena : Numbers) (lent : List ℕ) (held : Option Packet)
-    → KeepsEach a [] arena ((lent ++ block_in held) ++ []) → AreOut arena ((lent ++ block_in held) ++ [])
-    → KeepsEach a [] (with_home arena held) ((lent ++ []) ++ [])
-closed_has a arena lent None has out = has
-closed_has a arena lent (Some p) has out =
-    let n : ℕ = p.buf.number in
-    let all : List ℕ = (lent ++ n ∷ []) ++ [] in
-    let first : (k : ℕ) → times_in_hand (n ∷ lent) k ≡ times_in_hand all k =
-    λ k. omega (
+part_has : (a : Numbers) (h : Halted) (gone kept : List ℕ) → gone ++ kept ≡ h.held → HasAll a h []
+    → HasAll a (record h { arena = with_all_free h.arena gone; held = kept }) []
+part_has a h gone kept is has =
+    let lent : List ℕ = h.way.lent in
+    let same : (n : ℕ) → times_in_hand (gone ++ (lent ++ kept)) n ≡ times_in_hand (all_out h ++ []) n =
+    λ n. omega (
       arith,
-      times-cons n lent k,
-      times-append (lent ++ n ∷ []) [] k,
-      times-append lent (n ∷ []) k,
+      ap (λ (l : List ℕ). times_in_hand l n) is,
+      times-append gone kept n,
+      times-append gone (lent ++ kept) n,
+      times-append lent kept n,
+      times-append (all_out h) [] n,
+      times-append lent h.held n,
     ) in
-    let here = out_first arena lent n (out_fewer arena all (n ∷ lent) out (λ k. omega (arith, first k))) in
-    keeps_counted a (with_free arena n true) [] lent ((lent ++ []) ++ [])
-    (λ k. omega (arith, times-append (lent ++ []) [] k, times-append lent [] k))
-    (keeps_then a arena (with_free arena n true) [] (n ∷ lent) lent
-    (keeps_counted a arena [] all (n ∷ lent) first has) (one_given arena lent n here.0 here.1))
+    let out : AreOut h.arena (gone ++ (lent ++ kept)) =
+    out_fewer h.arena (all_out h ++ []) (gone ++ (lent ++ kept)) (has_out a h [] has)
+    (λ n. omega (arith, same n)) in
+    keeps_counted a (with_all_free h.arena gone) [] (lent ++ kept) ((lent ++ kept) ++ [])
+    (λ n. omega (arith, times-append (lent ++ kept) [] n))
+    (keeps_then a h.arena (with_all_free h.arena gone) [] (gone ++ (lent ++ kept)) (lent ++ kept)
+    (keeps_counted a h.arena [] (all_out h ++ []) (gone ++ (lent ++ kept)) same has)
+    (all_given h.arena gone (lent ++ kept) out))
 
-own_home : (a : Numbers) (held : Option Packet) (n : ℕ) → is_own (with_home a held) n ≡ is_own a n
-own_home a None n = refl
-own_home a (Some p) n = is_own-with_free a p.buf.number true n
+pub part_loses : (a : Numbers) (h left : Halted) → IsInPart h left → LosesNone a h → LosesNone a left
+part_loses a h left part (owns, has) =
+    subst (λ (x : Halted). LosesNone a x) (sym part.left_is) (
+      λ n. all_own_same h.arena part.gone n ∙ owns n,
+      λ none. part_has a h part.gone part.kept part.parts (has none),
+    )
 
 closed_loses : (a : Numbers) (h : Halted) → LosesNone a h → LosesNone a (closed h)
-closed_loses a h (owns, has) = (
-  λ n. own_home h.arena h.held n ∙ owns n,
-  λ none. closed_has a h.arena h.way.lent h.held (has none) (has_out a h [] (has none)),
-)
+closed_loses a h loses =
+    part_loses a h (closed h)
+    (record { gone = h.held; kept = []; parts = append-nil h.held; left_is = refl }) loses
 
 -- blocks are brought home
 
@@ -74,7 +79,7 @@ brings_keeps (suc count) s t (mid, before, one) out none =
 unheld : (xs : List ℕ) (n : ℕ) → times_in_hand ((xs ++ []) ++ []) n ≡ times_in_hand xs n
 unheld xs n = omega (arith, times-append (xs ++ []) [] n, times-append xs [] n)
 
-left_has : (a : Numbers) (k left : Halted) (count : ℕ) (s t : Bringing) → k.held ≡ None → left.held ≡ None
+left_has : (a : Numbers) (k left : Halted) (count : ℕ) (s t : Bringing) → k.held ≡ [] → left.held ≡ []
     → s.arena ≡ k.arena → s.way ≡ k.way → left.arena ≡ t.arena → left.way ≡ t.way → Brings count s t
     → t.way.lost ≡ s.way.lost → HasAll a k [] → HasAll a left []
 left_has a k left count s t none unheld_left is way arena same brings lost has =
@@ -83,7 +88,7 @@ left_has a k left count s t none unheld_left is way arena same brings lost has =
     (λ n. omega (
       arith,
       times-append (all_out k) [] n,
-      times-append k.way.lent (block_in k.held) n,
+      times-append k.way.lent k.held n,
     ))) in
     let keeps = brings_keeps count s t brings out lost in
     record {
@@ -96,9 +101,9 @@ left_has a k left count s t none unheld_left is way arena same brings lost has =
         ap {B = ℕ} (λ (x : Numbers). cond (is_free x n) 1 0) arena,
         ap (λ x. times_in_hand x.lent n) way,
         ap (λ x. times_in_hand x.lent n) same,
-        ap (λ (o : Option Packet). times_in_hand ((k.way.lent ++ block_in o) ++ []) n) none,
+        ap (λ (o : List ℕ). times_in_hand ((k.way.lent ++ o) ++ []) n) none,
         unheld k.way.lent n,
-        ap (λ (o : Option Packet). times_in_hand ((left.way.lent ++ block_in o) ++ []) n) unheld_left,
+        ap (λ (o : List ℕ). times_in_hand ((left.way.lent ++ o) ++ []) n) unheld_left,
         unheld left.way.lent n,
       );
     }
@@ -125,9 +130,6 @@ left_loses a f q old new h left (inr (mid, off, amid)) loses = amid_loses a f mi
 
 pub fails_after : (a : Numbers) (f : PmdFault) (q : AtPort) (old new : List Call) (h left : Halted)
     → StopFails f q old h new left → LosesNone a h → LosesNone a left
-fails_after a f q old new h left (inl (is, made, inl same)) loses =
-    subst (λ (x : Halted). LosesNone a x) (sym same) loses
-fails_after a f q old new h left (inl (is, made, inr same)) loses =
-    subst (λ (x : Halted). LosesNone a x) (sym same) (closed_loses a h loses)
+fails_after a f q old new h left (inl (is, made, part)) loses = part_loses a h left part loses
 fails_after a f q old new h left (inr left_at) loses =
     left_loses a f q old new h left left_at (closed_loses a h loses)

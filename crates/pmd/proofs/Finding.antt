@@ -1,5 +1,5 @@
 -- A call of a half whose reply isn't that of a healthy queue.
-use Rattle.std.proofs.Common.{◌≡◌, ℕ, true, false, List, [], ◌∷◌, ◌++◌, length, length-append, refl, sym, ap, ◌∙◌, arith}
+use Rattle.std.proofs.Common.{◌≡◌, ℕ, true, false, List, [], ◌∷◌, ◌++◌, length, length-append, refl, sym, ap, ◌∙◌, subst, arith}
 use Rattle.std.specs.Prelude.{IsTrue}
 use Rattle.nic_device.specs.DmaArena.Block.{Block}
 use Rattle.nic_device.specs.DmaArena.Numbers.{Numbers, is_free}
@@ -15,10 +15,10 @@ use Rattle.pmd_rx.specs.Receive.{Receive}
 use Rattle.pmd_rx.specs.Wrong.{EndsWrong, FailsBy}
 use Rattle.pmd_tx.specs.Plays.{Faults, FaultsBy, is_elsewhere}
 use Rattle.pmd_tx.specs.Sending as sending
-use Rattle.pmd_tx.specs.Sending.{Move, Elsewhere}
+use Rattle.pmd_tx.specs.Sending.{Sender, Move, Elsewhere, blocks_of}
 use Rattle.pmd.specs.Apart.{MayLend, FindsFault, FindsBy}
 use Rattle.pmd.specs.Halves.{Halves, Receives, Sends}
-use Rattle.pmd.proofs.Apart.{MaySend, receiving_apart, received_apart, sending_apart, moved_apart}
+use Rattle.pmd.proofs.Apart.{AllMaySend, OutstandingMay, played_may, receiving_apart, received_apart, sending_apart, moved_apart}
 
 -- of the receive half
 
@@ -53,33 +53,38 @@ real_step : (m : Move) (r : Reply Block) (e : Event Block) → sending.is_health
 real_step Elsewhere r e sick is = cc
 real_step m r e sick is = cc
 
-finds_fault : (own : Blocks) (block : ℕ) (old new : List Call) (h : Halves) → MaySend own h block
-    → Faults block old h.transmit new → FindsFault own old h new
-finds_fault own block old new h may f =
+finds_fault : (own : Blocks) (blocks : List ℕ) (old new : List Call) (h : Halves) → AllMaySend own h.receive blocks
+    → OutstandingMay own h → Faults blocks old h.transmit new → FindsFault own old h new
+finds_fault own blocks old new h some all f =
     let there : Halves = record h { transmit = f.before } in
+    let (moves, since, made, mine, is, steps) = f.plays.plays in
+    let then : OutstandingMay own there =
+    subst (λ (v : Sender). AllMaySend own h.receive (blocks_of v.outstanding)) (sym is)
+    (played_may own h.receive blocks h.transmit some all moves since f.plays.accepts) in
     record {
       mid = f.mid;
       there = there;
       doer = Sends f.move;
       event = f.event;
       reply = f.reply;
-      drives = sending_apart own block old f.mid h there may f.plays refl;
+      drives = sending_apart own blocks old f.mid h there some all f.plays refl;
       mine = f.own;
-      apart = moved_apart own block there may f.move f.event f.own f.accepts
+      apart = moved_apart own blocks there some then f.move f.event f.own f.accepts
           (real_step f.move f.reply f.event f.sick);
       adds = f.adds;
       sick = f.sick;
     }
 
-pub fault_by : (f : PmdFault) (own : Blocks) (block : ℕ) (old new : List Call) (h : Halves) → MaySend own h block
-    → FaultsBy f block old h.transmit new → FindsBy f own old h new
-fault_by DeviceFault own block old new h may faults = finds_fault own block old new h may faults
-fault_by f own block old new h may faults = tt
+pub fault_by : (f : PmdFault) (own : Blocks) (blocks : List ℕ) (old new : List Call) (h : Halves)
+    → AllMaySend own h.receive blocks → OutstandingMay own h → FaultsBy f blocks old h.transmit new
+    → FindsBy f own old h new
+fault_by DeviceFault own blocks old new h some all faults = finds_fault own blocks old new h some all faults
+fault_by f own blocks old new h some all faults = tt
 
 -- where no call was made, none was such
 
-none_made : (block : ℕ) (old new : List Call) (h : Halves) → new ≡ old → Faults block old h.transmit new → ⊥
-none_made block old new h same f =
+none_made : (blocks : List ℕ) (old new : List Call) (h : Halves) → new ≡ old → Faults blocks old h.transmit new → ⊥
+none_made blocks old new h same f =
     let last : List Call = f.adds.0 ++ call_of f.event f.reply ∷ [] in
     let is : new ≡ (old ++ f.plays.plays.1) ++ last =
     f.adds.1 ∙ ap (λ (calls : List Call). calls ++ last) f.plays.plays.2 in
@@ -91,7 +96,7 @@ none_made block old new h same f =
       length-append f.adds.0 (call_of f.event f.reply ∷ []),
     ))
 
-pub still_by : (f : PmdFault) (own : Blocks) (block : ℕ) (old new : List Call) (h : Halves) → new ≡ old
-    → FaultsBy f block old h.transmit new → FindsBy f own old h new
-still_by DeviceFault own block old new h same faults = absurd (none_made block old new h same faults)
-still_by f own block old new h same faults = tt
+pub still_by : (f : PmdFault) (own : Blocks) (blocks : List ℕ) (old new : List Call) (h : Halves) → new ≡ old
+    → FaultsBy f blocks old h.transmit new → FindsBy f own old h new
+still_by DeviceFault own blocks old new h same faults = absurd (none_made blocks old new h same faults)
+still_by f own blocks old new h same faults = tt

@@ -1,49 +1,58 @@
 -- A packet that is handed out can go home.
-use Rattle.std.proofs.Common.{◌≡◌, ℕ, ◌==◌, true, false, List, [], ◌∷◌, ◌++◌, Option, Some, None, Result, Ok, Err, IfOk, IfSome, refl, sym, ◌∙◌, subst, arith}
+use Rattle.std.proofs.Common.{◌≡◌, ℕ, nat_lt, true, false, List, ◌++◌, Option, Some, None, Result, Ok, Err, IfOk, IfSome, refl, sym, subst, arith}
 use Rattle.std.specs.List.{list_any}
-use Rattle.std.proofs.lemmas.Bool.{or_from}
 use Rattle.nic_device.specs.DmaArena.Whereabouts.{times_in_hand}
+use Rattle.pmd_rx.specs.PmdSeam.Bufs.{numbers_of}
 use Rattle.pmd_rx.specs.PmdSeam.Home.{AreOut}
 use Rattle.pmd_rx.specs.PmdSeam.declared.fault.PmdFault.{PmdFault}
 use Rattle.pmd_rx.specs.PmdSeam.declared.packet.Packet.{Packet}
-use Rattle.pmd_rx.specs.PmdSeam.Slots.{is_ring_block, ring_blocks}
-use Rattle.pmd_rx.proofs.PmdSeam.Outside.{times-append, out_first, out_exchanged}
-use Rattle.pmd_rx.proofs.PmdSeam.Rings.{ring_block_among, times_among}
-use Rattle.pmd_rx.specs.Keeping.{Keeps, blocks_out, handed_block}
-use Rattle.pmd_tx.specs.Leaving.{lent_of}
-use Rattle.pmd_tx.specs.Sending.{Sender, blocks_of, has_lent}
-use Rattle.pmd.specs.Running.{Running, IsUp, goes_back}
+use Rattle.pmd_rx.proofs.PmdSeam.Outside.{times-append, out_fewer, out_exchanged}
+use Rattle.pmd_rx.specs.Keeping.{Keeps, blocks_out, handed_blocks}
+use Rattle.pmd_tx.specs.Sending.{Sender, keeps}
+use Rattle.pmd_tx.specs.Sends.{are_out}
+use Rattle.pmd.specs.Running.{Running, IsUp, goes_back, kept_out, receives, rings_out}
+use Rattle.pmd.proofs.Kept.{away_kept}
+use Rattle.pmd.proofs.Several.{away_part, none_by, out_are, out_away}
 
--- a block that isn't among those that are lent
-pub away_lent : (v : Sender) (n : ℕ) → times_in_hand (lent_of v) n ≡ 0 → has_lent v n ≡ false
-away_lent v n none =
-    let ends : List ℕ = ring_blocks v.layout.ring v.layout.size in
-    let parts = times-append (blocks_of v.outstanding) ends n in
-    let other : is_ring_block v.layout.ring v.layout.size n ≡ false =
-    sym (ring_block_among v.layout.ring v.layout.size n) ∙ times_among ends n (omega (arith, none, parts)) in
-    let rest : list_any (λ b. n == b) (blocks_of v.outstanding) ≡ false =
-    times_among (blocks_of v.outstanding) n (omega (arith, none, parts)) in
-    or_from (is_ring_block v.layout.ring v.layout.size n) (list_any (λ b. n == b) (blocks_of v.outstanding)) other rest
+unseen : (t : ℕ) → t ≡ 0 → nat_lt 0 t ≡ false
+unseen t is = rw is refl
 
-goes : (r : Running) (n : ℕ) → AreOut r.arena (n ∷ (blocks_out r.receive ++ lent_of r.transmit)) → goes_back r n ≡ true
-goes r n out =
-    let first = out_first r.arena (blocks_out r.receive ++ lent_of r.transmit) n out in
-    let parts = times-append (blocks_out r.receive) (lent_of r.transmit) n in
-    let received : times_in_hand (blocks_out r.receive) n ≡ 0 = omega (arith, first.2, parts) in
-    let lent : has_lent r.transmit n ≡ false = away_lent r.transmit n (omega (arith, first.2, parts)) in
-    rw (first.0, first.1, lent, received) refl
+goes : (r : Running) (p : Packet) → AreOut r.arena (numbers_of p.bufs ++ rings_out r) → goes_back r p ≡ true
+goes r p out =
+    let ns : List ℕ = numbers_of p.bufs in
+    let away = out_away r.arena ns (rings_out r) out in
+    let own : are_out r.arena ns ≡ true = out_are r.arena ns (rings_out r) out in
+    let kept : list_any (λ n. keeps r.transmit n) ns ≡ false =
+    none_by _ (kept_out r.transmit) ns (λ n none. away_kept r.transmit n none)
+    (away_part (rings_out r) (kept_out r.transmit) ns
+    (λ n. omega (arith, times-append (blocks_out r.receive) (kept_out r.transmit) n)) away) in
+    let received : receives r p ≡ false =
+    none_by _ (blocks_out r.receive) ns (λ n none. unseen (times_in_hand (blocks_out r.receive) n) none)
+    (away_part (rings_out r) (blocks_out r.receive) ns
+    (λ n. omega (arith, times-append (blocks_out r.receive) (kept_out r.transmit) n)) away) in
+    rw (own, kept, received) refl
 
-received_home : (r s : Running) (n : ℕ) → IsUp r → Keeps r.arena r.receive s.arena s.receive (n ∷ [])
-    → s.transmit ≡ r.transmit → goes_back s n ≡ true
-received_home r s n up keeps same =
-    let all : AreOut s.arena (n ∷ (blocks_out s.receive ++ lent_of r.transmit)) =
-    out_exchanged r.arena (blocks_out r.receive) s.arena (n ∷ blocks_out s.receive) (lent_of r.transmit) up.home
-    keeps.arena in
-    goes s n (subst (λ (t : Sender). AreOut s.arena (n ∷ (blocks_out s.receive ++ lent_of t))) (sym same) all)
+received_home : (r s : Running) (p : Packet) → IsUp r → Keeps r.arena r.receive s.arena s.receive (numbers_of p.bufs)
+    → s.transmit ≡ r.transmit → goes_back s p ≡ true
+received_home r s p up keeps same =
+    let ns : List ℕ = numbers_of p.bufs in
+    let kept : List ℕ = kept_out r.transmit in
+    let all : AreOut s.arena ((ns ++ blocks_out s.receive) ++ kept) =
+    out_exchanged r.arena (blocks_out r.receive) s.arena (ns ++ blocks_out s.receive) kept up.home keeps.arena in
+    let here : AreOut s.arena (ns ++ (blocks_out s.receive ++ kept)) =
+    out_fewer s.arena ((ns ++ blocks_out s.receive) ++ kept) (ns ++ (blocks_out s.receive ++ kept)) all
+    (λ k. omega (
+      arith,
+      times-append (ns ++ blocks_out s.receive) kept k,
+      times-append ns (blocks_out s.receive) k,
+      times-append ns (blocks_out s.receive ++ kept) k,
+      times-append (blocks_out s.receive) kept k,
+    )) in
+    goes s p (subst (λ (t : Sender). AreOut s.arena (ns ++ (blocks_out s.receive ++ kept_out t))) (sym same) here)
 
 pub received_goes : (o : Result (Option Packet) PmdFault) (r s : Running) → IsUp r
-    → Keeps r.arena r.receive s.arena s.receive (handed_block o) → s.transmit ≡ r.transmit
-    → IfOk o (λ out. IfSome out (λ packet. goes_back s packet.buf.number ≡ true))
+    → Keeps r.arena r.receive s.arena s.receive (handed_blocks o) → s.transmit ≡ r.transmit
+    → IfOk o (λ out. IfSome out (λ packet. goes_back s packet ≡ true))
 received_goes (Ok None) r s up keeps same = tt
-received_goes (Ok (Some packet)) r s up keeps same = received_home r s packet.buf.number up keeps same
+received_goes (Ok (Some packet)) r s up keeps same = received_home r s packet up keeps same
 received_goes (Err f) r s up keeps same = tt

@@ -26,9 +26,9 @@ half_handed q h r none is = ap left_handed is ∙ none
 half_accepted : (q : AtPort) (h : Halted) (r : Rest) → h.accepted ≡ [] → IsHalfStarted q h r → left_accepted r ≡ []
 half_accepted q h r none is = ap left_accepted is ∙ none
 
-pub ready_handed : (q : AtPort) (size : ℕ) (old : List Call) (a : Numbers) (new : List Call) (b : Numbers)
-    (v : Receive) → IsReceiveReady q size old a new b v → v.handed ≡ []
-ready_handed q size old a new b v ready = ap (λ (x : Receive). x.handed) ready.fresh
+pub ready_handed : (q : AtPort) (size frame : ℕ) (old : List Call) (a : Numbers) (new : List Call) (b : Numbers)
+    (v : Receive) → IsReceiveReady q size frame old a new b v → v.handed ≡ []
+ready_handed q size frame old a new b v ready = ap (λ (x : Receive). x.handed) ready.fresh
 
 -- where no ring was prepared
 pub before_handed : (q : AtPort) (a : Numbers) (out : List ℕ) (r : Rest) → IsLeftWith q a out r → left_handed r ≡ []
@@ -40,9 +40,9 @@ before_accepted q a [] r is = home_accepted a r is
 before_accepted q a (n ∷ ns) r is = half_accepted q _ r refl is
 
 -- a start that is refused amid its events leaves a driver that accepted nothing
-pub stops_accepted : (q : AtPort) (size : ℕ) (old : List Call) (a : Numbers) (new : List Call) (e : StartRefused)
-    → StopsStarting q size old a new e → left_accepted e.rest ≡ []
-stops_accepted q size old a new e (inl none) = before_accepted q none.arena none.out e.rest none.left
-stops_accepted q size old a new e (inr (inl one)) = half_accepted q _ e.rest refl one.left
-stops_accepted q size old a new e (inr (inr both)) =
+pub stops_accepted : (q : AtPort) (size frame : ℕ) (old : List Call) (a : Numbers) (new : List Call) (e : StartRefused)
+    → StopsStarting q size frame old a new e → left_accepted e.rest ≡ []
+stops_accepted q size frame old a new e (inl none) = before_accepted q none.arena none.out e.rest none.left
+stops_accepted q size frame old a new e (inr (inl one)) = half_accepted q _ e.rest refl one.left
+stops_accepted q size frame old a new e (inr (inr both)) =
     half_accepted q _ e.rest (ap (λ (x : Sender). x.accepted) both.transmit.fresh) both.left

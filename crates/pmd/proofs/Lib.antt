@@ -15,14 +15,16 @@ pub mod HaltedBlocks
 pub mod HaltedBoth
 pub mod Handing
 pub mod Homecoming
+pub mod Kept
 pub mod Late
 pub mod Leaving
 pub mod Lending
 pub mod Living
-pub mod ReapedCounted
+pub mod Placed
 pub mod Rising
 pub mod Sending
 pub mod Sent
 pub mod SentCounted
+pub mod Several
 pub mod Starting
 pub mod Whole

@@ -42,11 +42,12 @@ runs_kept old new (Down h) then last one kept = tt
 
 -- from its start to its end
 
-lived_up : (q : AtPort) (size : ℕ) (old : List Call) (a : Numbers) (made mid new : List Call) (p : Driver)
-    (rings : Rings) (left : Rest) (late : Option PmdFault) → HasStarted q size old a made p
+lived_up : (q : AtPort) (size frame : ℕ) (old : List Call) (a : Numbers) (made mid new : List Call) (p : Driver)
+    (rings : Rings) (left : Rest) (late : Option PmdFault) → HasStarted q size frame old a made p
     → RunsOn made p.rings mid rings → IsStopped q mid (halted_of rings) new left late
-    → left_handed left ≡ handed_of rings → left_accepted left ≡ accepted_of rings → HasLived q size old a new left late
-lived_up q size old a made mid new p (Up s) left late (r, is, up) runs stopped handed accepted = record {
+    → left_handed left ≡ handed_of rings → left_accepted left ≡ accepted_of rings
+    → HasLived q size frame old a new left late
+lived_up q size frame old a made mid new p (Up s) left late (r, is, up) runs stopped handed accepted = record {
   made = mid;
   last = s;
   lives = record {
@@ -59,16 +60,16 @@ lived_up q size old a made mid new p (Up s) left late (r, is, up) runs stopped h
   handed = handed;
   accepted = accepted;
 }
-lived_up q size old a made mid new p (Down h) left late (r, is, up) runs stopped handed accepted =
+lived_up q size frame old a made mid new p (Down h) left late (r, is, up) runs stopped handed accepted =
     absurd (subst (λ (d : Driver). RunsOn made d.rings mid (Down h)) is runs)
 
-pub has_lived : (q : AtPort) (size : ℕ) (old : List Call) (a : Numbers) (made mid new : List Call) (p d : Driver)
-    (left : Rest) (late : Option PmdFault) → HasStarted q size old a made p → RunsOn made p.rings mid d.rings
+pub has_lived : (q : AtPort) (size frame : ℕ) (old : List Call) (a : Numbers) (made mid new : List Call) (p d : Driver)
+    (left : Rest) (late : Option PmdFault) → HasStarted q size frame old a made p → RunsOn made p.rings mid d.rings
     → d.queue ≡ p.queue → IsStopped d.queue mid (halted_of d.rings) new left late
     → left_handed left ≡ handed_of d.rings → left_accepted left ≡ accepted_of d.rings
-    → HasLived q size old a new left late
-has_lived q size old a made mid new p d left late (r, is, up) runs same stopped handed accepted =
-    lived_up q size old a made mid new p d.rings left late (r, is, up) runs
+    → HasLived q size frame old a new left late
+has_lived q size frame old a made mid new p d left late (r, is, up) runs same stopped handed accepted =
+    lived_up q size frame old a made mid new p d.rings left late (r, is, up) runs
     (subst (λ (x : AtPort). IsStopped x mid (halted_of d.rings) new left late)
     (same ∙ ap (λ (x : Driver). x.queue) is) stopped)
     handed accepted

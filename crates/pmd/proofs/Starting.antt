@@ -15,10 +15,11 @@ use Rattle.pmd_rx.proofs.PmdSeam.Outside.{times_first, times_rest, times-append,
 use Rattle.pmd_rx.proofs.PmdSeam.Rings.{ring_blocks_many}
 use Rattle.pmd_rx.specs.PmdSeam.Named.{AtPort}
 use Rattle.pmd_rx.specs.Keeping.{Keeps, blocks_out}
-use Rattle.pmd_rx.specs.Receive.{Receive, Looks}
-use Rattle.pmd_tx.specs.Leaving.{lent_of}
+use Rattle.pmd_rx.specs.Receive.{Receive, no_packet}
+use Rattle.pmd_rx.specs.declared.ring.Stage.TheVariants.{Looks}
 use Rattle.pmd_tx.specs.Sending.{Sender}
 use Rattle.nic_device.specs.DmaArena.Run.{IsFreeRun}
+use Rattle.pmd.specs.Running.{kept_out}
 use Rattle.pmd.specs.Starting.{IsPrepared, IsReceiveReady, IsTransmitReady, PreparingFails, ReceiveFails}
 
 -- how many blocks are free once a ring is prepared
@@ -44,25 +45,27 @@ none_at false o owns = omega arith
 none_out : (a : Numbers) → AreOut a []
 none_out a k = none_at (is_free a k) (is_own a k) (is_own-of_free a k)
 
-pub receive_out : (q : AtPort) (size : ℕ) (old : List Call) (a : Numbers) (new : List Call) (b : Numbers) (v : Receive)
-    → IsReceiveReady q size old a new b v → AreOut b (blocks_out v)
-receive_out q size old a new b v ready =
+pub receive_out : (q : AtPort) (size frame : ℕ) (old : List Call) (a : Numbers) (new : List Call) (b : Numbers)
+    (v : Receive) → IsReceiveReady q size frame old a new b v → AreOut b (blocks_out v)
+receive_out q size frame old a new b v ready =
     let ends : List ℕ = ring_blocks ready.ring size in
     subst (λ (x : Receive). AreOut b (blocks_out x)) (sym ready.fresh)
     (all_drawn a ends b [] (ends ++ []) ready.prepared.drawn (none_out a) (λ k. omega (arith, times-append ends [] k)))
 
-transmit_out : (q : AtPort) (size : ℕ) (old : List Call) (a : Numbers) (new : List Call) (b : Numbers) (v : Sender)
-    (out : List ℕ) → IsTransmitReady q size old a new b v → AreOut a out → AreOut b (out ++ lent_of v)
-transmit_out q size old a new b v out ready are =
+transmit_out : (q : AtPort) (size frame : ℕ) (old : List Call) (a : Numbers) (new : List Call) (b : Numbers)
+    (v : Sender)
+    (out : List ℕ) → IsTransmitReady q size frame old a new b v → AreOut a out → AreOut b (out ++ kept_out v)
+transmit_out q size frame old a new b v out ready are =
     let ends : List ℕ = ring_blocks ready.ring size in
-    subst (λ (x : Sender). AreOut b (out ++ lent_of x)) (sym ready.fresh)
+    subst (λ (x : Sender). AreOut b (out ++ kept_out x)) (sym ready.fresh)
     (all_drawn a ends b out (out ++ ends) ready.prepared.drawn are (λ k. omega (arith, times-append out ends k)))
 
 -- both rings are lent
-pub rings_out : (q : AtPort) (size : ℕ) (old mid new : List Call) (a b d : Numbers) (v : Receive) (s : Sender)
-    → IsReceiveReady q size old a mid b v → IsTransmitReady q size mid b new d s → AreOut d (blocks_out v ++ lent_of s)
-rings_out q size old mid new a b d v s ready also =
-    transmit_out q size mid b new d s (blocks_out v) also (receive_out q size old a mid b v ready)
+pub rings_out : (q : AtPort) (size frame : ℕ) (old mid new : List Call) (a b d : Numbers) (v : Receive) (s : Sender)
+    → IsReceiveReady q size frame old a mid b v → IsTransmitReady q size frame mid b new d s
+    → AreOut d (blocks_out v ++ kept_out s)
+rings_out q size frame old mid new a b d v s ready also =
+    transmit_out q size frame mid b new d s (blocks_out v) also (receive_out q size frame old a mid b v ready)
 
 pub one_out : (a : Numbers) (out others : List ℕ) → AreOut a (out ++ others) → AreOut a out
 one_out a out others are = out_fewer a (out ++ others) out are (λ k. omega (arith, times-append out others k))
@@ -72,11 +75,12 @@ filled_out : (a b : Numbers) (v w : Receive) (others : List ℕ) → AreOut a (b
 filled_out a b v w others are keeps = out_exchanged a (blocks_out v) b (blocks_out w) others are keeps.arena
 
 -- both rings are lent, and the receive ring was filled
-pub filled_rings : (q : AtPort) (size : ℕ) (old mid new : List Call) (a b d e : Numbers) (v w : Receive) (s : Sender)
-    → IsReceiveReady q size old a mid b v → IsTransmitReady q size mid b new d s → Keeps d v e w []
-    → AreOut e (blocks_out w ++ lent_of s)
-filled_rings q size old mid new a b d e v w s ready also keeps =
-    filled_out d e v w (lent_of s) (rings_out q size old mid new a b d v s ready also) keeps
+pub filled_rings : (q : AtPort) (size frame : ℕ) (old mid new : List Call) (a b d e : Numbers) (v w : Receive)
+    (s : Sender)
+    → IsReceiveReady q size frame old a mid b v → IsTransmitReady q size frame mid b new d s → Keeps d v e w []
+    → AreOut e (blocks_out w ++ kept_out s)
+filled_rings q size frame old mid new a b d e v w s ready also keeps =
+    filled_out d e v w (kept_out s) (rings_out q size frame old mid new a b d v s ready also) keeps
 
 -- where a ring wasn't prepared, the blocks that are out were drawn
 
@@ -97,12 +101,12 @@ pub before_out : (f : PmdFault) (q : AtPort) (size : ℕ) (old : List Call) (a :
 before_out f q size old a new b out fails =
     all_drawn a out b [] out (receive_drawn f q size old a new b out fails) (none_out a) (λ k. omega arith)
 
-pub after_out : (f : PmdFault) (q : AtPort) (size : ℕ) (old mid new : List Call) (a b d : Numbers) (v : Receive)
-    (out : List ℕ) → IsReceiveReady q size old a mid b v → PreparingFails f q Tx size mid b new d out
+pub after_out : (f : PmdFault) (q : AtPort) (size frame : ℕ) (old mid new : List Call) (a b d : Numbers) (v : Receive)
+    (out : List ℕ) → IsReceiveReady q size frame old a mid b v → PreparingFails f q Tx size mid b new d out
     → AreOut d (blocks_out v ++ out)
-after_out f q size old mid new a b d v out ready fails =
+after_out f q size frame old mid new a b d v out ready fails =
     all_drawn b out d (blocks_out v) (blocks_out v ++ out) (preparing_drawn f q Tx size mid b new d out fails)
-    (receive_out q size old a mid b v ready) (λ k. omega (arith, times-append (blocks_out v) out k))
+    (receive_out q size frame old a mid b v ready) (λ k. omega (arith, times-append (blocks_out v) out k))
 
 -- what is free stays so where others are drawn
 
@@ -134,11 +138,13 @@ still_free a ring size b other count drawn apart free k below =
     (none_behind (blocks_for size) ring (other + k) (omega (arith, apart)))
 
 -- the ring is empty
-pub ready_empty : (q : AtPort) (size : ℕ) (old : List Call) (a : Numbers) (new : List Call) (b : Numbers) (v : Receive)
-    → IsReceiveReady q size old a new b v
-    → (v.layout.blocks ≡ []) × (v.stage ≡ Looks) × (v.layout.size ≡ size)
-ready_empty q size old a new b v ready = (
+pub ready_empty : (q : AtPort) (size frame : ℕ) (old : List Call) (a : Numbers) (new : List Call) (b : Numbers)
+    (v : Receive) → IsReceiveReady q size frame old a new b v
+    → (v.layout.blocks ≡ []) × (v.stage ≡ Looks) × (v.layout.size ≡ size) × (v.seen ≡ []) × (v.held ≡ no_packet)
+ready_empty q size frame old a new b v ready = (
   ap (λ (x : Receive). x.layout.blocks) ready.fresh,
   ap (λ (x : Receive). x.stage) ready.fresh,
   ap (λ (x : Receive). x.layout.size) ready.fresh,
+  ap (λ (x : Receive). x.seen) ready.fresh,
+  ap (λ (x : Receive). x.held) ready.fresh,
 )

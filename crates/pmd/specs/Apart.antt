@@ -51,9 +51,9 @@ pub record DrivesRings (old : List Call) (r : Running) (new : List Call) (s : Ru
   pub owns : OwnsSame r.arena s.arena
 
 -- whether the reply to a half's call is one that a healthy queue gives
-abbrev pub is_healthy : Doer → Call → Bool
-is_healthy Receives n = looking.is_healthy n.event n.reply
-is_healthy (Sends m) n = sending.is_healthy m n.reply
+abbrev pub is_healthy : Halves → Doer → Call → Bool
+is_healthy h Receives n = looking.is_healthy h.receive n.event n.reply
+is_healthy h (Sends m) n = sending.is_healthy m n.reply
 
 -- the halves were driven on so, and then came a call like that, whose reply isn't that of a healthy queue
 pub record FindsFault (own : Blocks) (old : List Call) (h : Halves) (new : List Call) : Type 0 where
@@ -66,7 +66,7 @@ pub record FindsFault (own : Blocks) (old : List Call) (h : Halves) (new : List 
   pub mine : OwnCall there doer (call_of event reply)
   pub apart : LendsApart own there doer event
   pub adds : Adds mid new event reply
-  pub sick : IsFalse (is_healthy doer (call_of event reply))
+  pub sick : IsFalse (is_healthy there doer (call_of event reply))
 
 -- where the device failed, so it is
 abbrev pub FindsBy : PmdFault → Blocks → List Call → Halves → List Call → Type 0

@@ -1,8 +1,9 @@
 -- A driver of one queue, which runs or doesn't.
-use Rattle.std.specs.Prelude.{ℕ, Bool, List, ⊤}
+use Rattle.std.specs.Prelude.{Bool, List, ⊤}
 use Rattle.nic_device.specs.DmaArena.Numbers.{Numbers}
 use Rattle.pmd_rx.specs.PmdSeam.Packet.{Kept}
 use Rattle.pmd_rx.specs.PmdSeam.Named.{AtPort}
+use Rattle.pmd_rx.specs.PmdSeam.declared.packet.Packet.{Packet}
 use Rattle.pmd.specs.Halted as halted
 use Rattle.pmd.specs.Halted.{Halted, with_rings}
 use Rattle.pmd.specs.Running as running
@@ -29,10 +30,10 @@ abbrev pub accepted_of : Rings → List Kept
 accepted_of (Up r) = r.transmit.accepted
 accepted_of (Down h) = h.accepted
 
--- whether a packet's block can go back to the arena
-abbrev pub goes_back_to : Rings → ℕ → Bool
-goes_back_to (Up r) n = running.goes_back r n
-goes_back_to (Down h) n = halted.goes_back h n
+-- whether a packet's blocks can go back to the arena
+abbrev pub goes_back_to : Rings → Packet → Bool
+goes_back_to (Up r) p = running.goes_back r p
+goes_back_to (Down h) p = halted.goes_back h p
 
 -- the same driver with another arena
 abbrev pub with_arena : Rings → Numbers → Rings

@@ -1,10 +1,9 @@
 -- The two halves of a driver that isn't running: a ring, or its blocks on their way home with its records.
-use Rattle.std.specs.Prelude.{List, Option, None}
+use Rattle.std.specs.Prelude.{ℕ, List, [], ◌++◌}
+use Rattle.pmd_rx.specs.PmdSeam.Bufs.{numbers_of}
 use Rattle.pmd_rx.specs.PmdSeam.Home.{Homebound}
 use Rattle.pmd_rx.specs.PmdSeam.Packet.{Kept}
-use Rattle.pmd_rx.specs.PmdSeam.declared.packet.Packet.{Packet}
 use Rattle.pmd_rx.specs.Keeping as receive
-use Rattle.pmd_rx.specs.Receive.{held_by}
 use Rattle.pmd_tx.specs.Leaving as transmit
 use Rattle.nic_device.specs.DmaArena.Numbers.{Numbers}
 use Rattle.pmd.specs.Halted.{Halted, both_ways, way_of}
@@ -17,9 +16,10 @@ abbrev pub received_way : Receiving → Homebound
 received_way (received.Ring v) = way_of (receive.lent_of v)
 received_way (received.Leaves way records) = way
 
-abbrev pub held_of : Receiving → Option Packet
-held_of (received.Ring v) = held_by v.stage
-held_of (received.Leaves way records) = None
+-- the blocks that it has in hand
+abbrev pub held_of : Receiving → List ℕ
+held_of (received.Ring v) = numbers_of v.held.bufs
+held_of (received.Leaves way records) = []
 
 abbrev pub handed_of : Receiving → List Kept
 handed_of (received.Ring v) = v.handed
@@ -29,6 +29,11 @@ abbrev pub sent_way : Sending → Homebound
 sent_way (sent.Ring v) = way_of (transmit.lent_of v)
 sent_way (sent.Leaves way records) = way
 
+-- the blocks that it has in hand
+abbrev pub waiting_of : Sending → List ℕ
+waiting_of (sent.Ring v) = transmit.waiting_of v
+waiting_of (sent.Leaves way records) = []
+
 abbrev pub accepted_of : Sending → List Kept
 accepted_of (sent.Ring v) = v.accepted
 accepted_of (sent.Leaves way records) = records.items
@@ -37,7 +42,7 @@ accepted_of (sent.Leaves way records) = records.items
 abbrev pub halted_as : Numbers → Receiving → Sending → Halted
 halted_as a r t = record {
   arena = a;
-  held = held_of r;
+  held = held_of r ++ waiting_of t;
   way = both_ways (received_way r) (sent_way t);
   handed = handed_of r;
   accepted = accepted_of t;

@@ -1,27 +1,30 @@
 -- A driver that isn't running: its blocks are on their way home.
-use Rattle.std.specs.Prelude.{ℕ, ◌+◌, ◌<◌, ◌&&◌, ◌||◌, nat_lt, not, Bool, List, [], ◌++◌, length, Option, None}
-use Rattle.nic_device.specs.DmaArena.Numbers.{Numbers, is_own, is_free}
+use Rattle.std.specs.Prelude.{ℕ, ◌+◌, ◌<◌, ◌&&◌, ◌||◌, nat_lt, not, Bool, List, [], ◌++◌, length}
+use Rattle.std.specs.List.{list_any}
+use Rattle.nic_device.specs.DmaArena.Numbers.{Numbers, is_free}
 use Rattle.nic_device.specs.DmaArena.Whereabouts.{times_in_hand}
+use Rattle.pmd_rx.specs.PmdSeam.Bufs.{numbers_of}
 use Rattle.pmd_rx.specs.PmdSeam.Home.{AreOut, Homebound}
 use Rattle.pmd_rx.specs.PmdSeam.Packet.{Kept}
 use Rattle.pmd_rx.specs.PmdSeam.declared.packet.Packet.{Packet}
 use Rattle.pmd_rx.specs.Keeping as receive
-use Rattle.pmd_rx.specs.Receive.{Receive, held_by}
+use Rattle.pmd_rx.specs.Receive.{Receive}
 use Rattle.pmd_tx.specs.Leaving as transmit
 use Rattle.pmd_tx.specs.Sending.{Sender}
+use Rattle.pmd_tx.specs.Sends.{are_out}
 
--- the driver's arena; the packet that its receive ring took and didn't hand out; its other blocks, on their way home;
--- and what it handed out and accepted
+-- the driver's arena; the blocks that it has in hand, of a packet that its receive ring didn't hand out yet, and of one
+-- that its transmit ring didn't lend yet; its other blocks, on their way home; and what it handed out and accepted
 pub record Halted : Type 0 where
   pub arena : Numbers
-  pub held : Option Packet
+  pub held : List ℕ
   pub way : Homebound
   pub handed : List Kept
   pub accepted : List Kept
 
 -- all blocks that the driver has out of its arena
 abbrev pub all_out : Halted → List ℕ
-all_out h = h.way.lent ++ receive.block_in h.held
+all_out h = h.way.lent ++ h.held
 
 -- each block is in one place, and the lost ones can be counted
 pub record IsHalted (h : Halted) : Type 0 where
@@ -32,9 +35,10 @@ pub record IsHalted (h : Halted) : Type 0 where
 abbrev pub is_out : Halted → ℕ → Bool
 is_out h n = nat_lt 0 (times_in_hand (all_out h) n)
 
--- whether a packet's block can go back: its number is one of the arena's, isn't free there, and isn't out
-abbrev pub goes_back : Halted → ℕ → Bool
-goes_back h n = is_own h.arena n && not (is_free h.arena n) && not (is_out h n)
+-- whether a packet's blocks can go back: their numbers are the arena's, aren't free there, no two are alike, and none
+-- is out
+abbrev pub goes_back : Halted → Packet → Bool
+goes_back h p = are_out h.arena (numbers_of p.bufs) && not (list_any (λ n. is_out h n) (numbers_of p.bufs))
 
 -- whether a number is free in the arena, or one of those that are out
 abbrev pub is_free_or_out : Numbers → List ℕ → ℕ → Bool
@@ -52,7 +56,7 @@ way_of lent = record { lent = lent; lost = 0 }
 abbrev pub with_rings : Numbers → Receive → Sender → Halted
 with_rings a v w = record {
   arena = a;
-  held = held_by v.stage;
+  held = numbers_of v.held.bufs ++ transmit.waiting_of w;
   way = both_ways (way_of (receive.lent_of v)) (way_of (transmit.lent_of w));
   handed = v.handed;
   accepted = w.accepted;
@@ -62,7 +66,7 @@ with_rings a v w = record {
 abbrev pub with_receive_ring : Numbers → Receive → List ℕ → Halted
 with_receive_ring a v out = record {
   arena = a;
-  held = held_by v.stage;
+  held = numbers_of v.held.bufs ++ [];
   way = both_ways (way_of (receive.lent_of v)) (way_of out);
   handed = v.handed;
   accepted = [];
@@ -72,7 +76,7 @@ with_receive_ring a v out = record {
 abbrev pub with_blocks : Numbers → List ℕ → Halted
 with_blocks a out = record {
   arena = a;
-  held = None;
+  held = [];
   way = both_ways (way_of out) (way_of []);
   handed = [];
   accepted = [];

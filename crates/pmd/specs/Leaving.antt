@@ -1,5 +1,5 @@
 -- A driver whose rings are closed.
-use Rattle.std.specs.Prelude.{List, None}
+use Rattle.std.specs.Prelude.{List, []}
 use Rattle.nic_device.specs.DmaArena.Numbers.{Numbers}
 use Rattle.pmd_rx.specs.DeviceLock.declared.entry.Call.{Call}
 use Rattle.pmd_rx.specs.PmdSeam.Home.{Homebound, Bringing}
@@ -10,7 +10,7 @@ use Rattle.pmd.specs.declared.stopping.Leaving.{Leaving}
 abbrev pub leaving_as : Leaving → Halted
 leaving_as l = record {
   arena = l.arena;
-  held = None;
+  held = [];
   way = both_ways l.receive l.transmit;
   handed = l.handed.items;
   accepted = l.accepted.items;

@@ -27,11 +27,12 @@ KeepsHalves rings after = WhereUp rings after (λ r s. (halves_of s ≡ halves_o
 
 -- a driver of this queue lives: after the calls that were made before, its rings came up, with so many descriptors each
 -- and the blocks of this arena; and then its halves were driven on, up to where they are
-pub record Lives (q : AtPort) (size : ℕ) (old : List Call) (a : Numbers) (new : List Call) (r : Running) : Type 0 where
+pub record Lives (q : AtPort) (size frame : ℕ) (old : List Call) (a : Numbers) (new : List Call) (r : Running) :
+    Type 0 where
   -- the calls that were made once it ran, and the driver there
   pub made : List Call
   pub fresh : Running
-  pub up : AreUp q size old a made fresh
+  pub up : AreUp q size frame old a made fresh
   pub drives : DrivesRings made fresh new r
 
 -- a driver of this queue was stopped, once: it is home; or the stop was refused for this fault, and the driver is left,
@@ -43,12 +44,12 @@ IsStopped q old h new (rest.Running p) (Some f) =
 IsStopped q old h new left late = ⊥
 
 -- a driver lived, and was stopped. What it handed out and accepted is what its halves did up to there
-pub record HasLived (q : AtPort) (size : ℕ) (old : List Call) (a : Numbers) (new : List Call) (left : Rest)
+pub record HasLived (q : AtPort) (size frame : ℕ) (old : List Call) (a : Numbers) (new : List Call) (left : Rest)
     (late : Option PmdFault) : Type 0 where
   -- the calls that were made as it was to stop, and the driver there
   pub made : List Call
   pub last : Running
-  pub lives : Lives q size old a made last
+  pub lives : Lives q size frame old a made last
   pub stopped : IsStopped q made (halted_of (Up last)) new left late
   pub handed : left_handed left ≡ last.receive.handed
   pub accepted : left_accepted left ≡ last.transmit.accepted
@@ -60,12 +61,12 @@ ComesDown old (rest.Running p) new left =
     (late : Option PmdFault) × IsStopped p.queue old (halted_of p.rings) new left late
 
 -- a driver's start was refused, and what it left came down. Nothing was handed out or accepted
-pub record NeverLived (q : AtPort) (size : ℕ) (old : List Call) (a : Numbers) (e : StartRefused) (new : List Call)
+pub record NeverLived (q : AtPort) (size frame : ℕ) (old : List Call) (a : Numbers) (e : StartRefused) (new : List Call)
     (left : Rest) : Type 0 where
   -- the calls that were made as the start was refused
   pub made : List Call
-  pub shut : IsShut (start_gate a q size) a old made (Err e)
-  pub stops : start_gate a q size ≡ None → StopsStarting q size old a made e
+  pub shut : IsShut (start_gate a q size frame) a old made (Err e)
+  pub stops : start_gate a q size frame ≡ None → StopsStarting q size frame old a made e
   pub down : ComesDown made e.rest new left
   pub handed : left_handed left ≡ []
   pub accepted : left_accepted left ≡ []

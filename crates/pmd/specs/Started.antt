@@ -1,11 +1,12 @@
 -- What a start leaves, and why it is refused.
-use Rattle.std.specs.Prelude.{ℕ, ◌≡◌, ◌⊎◌, ◌&&◌, ◌==◌, ◌+◌, ◌-◌, ◌*◌, ◌%◌, nat_le, nat_lt, is_some, Bool, List, [], ◌∷◌, Option, Some, None, Result, Ok, Err, ⊤, if◌then◌else◌}
+use Rattle.std.specs.Prelude.{true, ℕ, ◌≡◌, ◌⊎◌, ◌&&◌, ◌==◌, ◌+◌, ◌-◌, ◌*◌, ◌%◌, nat_le, nat_lt, is_some, Bool, List, [], ◌∷◌, Option, Some, None, Result, Ok, Err, ⊤, if◌then◌else◌}
 use Rattle.nic_device.specs.DmaArena.Numbers.{Numbers, free_count}
 use Rattle.pmd_rx.specs.DeviceLock.declared.entry.Call.{Call}
 use Rattle.nic_device.specs.DmaRing.declared.dir.Dir.TheVariants.{Tx}
 use Rattle.pmd_rx.specs.PmdSeam.Packet.{Kept}
 use Rattle.pmd_rx.specs.PmdSeam.declared.fault.PmdFault.{PmdFault}
 use Rattle.pmd_rx.specs.PmdSeam.declared.fault.PmdFault.TheVariants.{BadSize, NoBuffer, DeviceFault}
+use Rattle.pmd_rx.specs.PmdSeam.Frames.{is_frame}
 use Rattle.pmd_rx.specs.PmdSeam.Named.{AtPort, queues_named}
 use Rattle.pmd_rx.specs.PmdSeam.Slots.{blocks_for}
 use Rattle.pmd_rx.specs.Receive.{Receive}
@@ -31,9 +32,9 @@ has_room a size =
     nat_le (size - 1 + 2 * blocks_for size) (free_count a) && is_some (second_run a (blocks_for size))
 
 -- why a start is refused before any event, where it is
-abbrev pub start_gate : Numbers → AtPort → ℕ → Option PmdFault
-start_gate a q size =
-    if is_size size
+abbrev pub start_gate : Numbers → AtPort → ℕ → ℕ → Option PmdFault
+start_gate a q size frame =
+    if is_size size && is_frame frame
     then (if has_room a size
     then (if nat_lt q.queue (queues_named q.port) then None else Some DeviceFault)
     else Some NoBuffer)
@@ -61,20 +62,23 @@ IsShut (Some f) a old new (Ok p) = ⊥
 IsShut (Some f) a old new (Err e) = (e.fault ≡ f) × IsHome a e.rest × (new ≡ old)
 
 -- the rings came up one after the other: both are lent, both sides are on, and the receive ring is filled
-pub record AreUp (q : AtPort) (size : ℕ) (old : List Call) (a : Numbers) (new : List Call) (r : Running) : Type 0 where
+pub record AreUp (q : AtPort) (size frame : ℕ) (old : List Call) (a : Numbers) (new : List Call) (r : Running) :
+    Type 0 where
+  pub sized : is_size size ≡ true
+  pub framed : is_frame frame ≡ true
   pub ready_made : List Call
   pub both_made : List Call
   pub ready_arena : Numbers
   pub both_arena : Numbers
   pub empty : Receive
-  pub receive : IsReceiveReady q size old a ready_made ready_arena empty
-  pub transmit : IsTransmitReady q size ready_made ready_arena both_made both_arena r.transmit
+  pub receive : IsReceiveReady q size frame old a ready_made ready_arena empty
+  pub transmit : IsTransmitReady q size frame ready_made ready_arena both_made both_arena r.transmit
   pub on : GoesOn q both_made both_arena empty new r.arena r.receive
 
 -- the driver runs, and nothing was handed out or accepted
-abbrev pub HasStarted : AtPort → ℕ → List Call → Numbers → List Call → Driver → Type 0
-HasStarted q size old a new p =
-    (r : Running) × (p ≡ record { queue = q; rings = Up r }) × AreUp q size old a new r
+abbrev pub HasStarted : AtPort → ℕ → ℕ → List Call → Numbers → List Call → Driver → Type 0
+HasStarted q size frame old a new p =
+    (r : Running) × (p ≡ record { queue = q; rings = Up r }) × AreUp q size frame old a new r
 
 -- the driver is left with what was lent
 abbrev pub IsHalfStarted : AtPort → Halted → Rest → Type 0
@@ -94,20 +98,22 @@ pub record StopsBeforeOne (q : AtPort) (size : ℕ) (old : List Call) (a : Numbe
   pub left : IsLeftWith q arena out e.rest
 
 -- the transmit ring wasn't prepared, and the empty receive ring is left, with the blocks of the other that were lent
-pub record StopsAfterOne (q : AtPort) (size : ℕ) (old : List Call) (a : Numbers) (new : List Call) (e : StartRefused) :
-    Type 0 where
+pub record StopsAfterOne (q : AtPort) (size frame : ℕ) (old : List Call) (a : Numbers) (new : List Call)
+    (e : StartRefused) : Type 0 where
   pub made : List Call
   pub ready_arena : Numbers
   pub arena : Numbers
   pub empty : Receive
   pub out : List ℕ
-  pub receive : IsReceiveReady q size old a made ready_arena empty
+  pub receive : IsReceiveReady q size frame old a made ready_arena empty
   pub fails : PreparingFails e.fault q Tx size made ready_arena new arena out
   pub left : IsHalfStarted q (with_receive_ring arena empty out) e.rest
 
 -- a side didn't go on, or the receive ring was filled in part, and both rings are left
-pub record StopsAfterBoth (q : AtPort) (size : ℕ) (old : List Call) (a : Numbers) (new : List Call) (e : StartRefused) :
-    Type 0 where
+pub record StopsAfterBoth (q : AtPort) (size frame : ℕ) (old : List Call) (a : Numbers) (new : List Call)
+    (e : StartRefused) : Type 0 where
+  pub sized : is_size size ≡ true
+  pub framed : is_frame frame ≡ true
   pub ready_made : List Call
   pub both_made : List Call
   pub ready_arena : Numbers
@@ -116,12 +122,12 @@ pub record StopsAfterBoth (q : AtPort) (size : ℕ) (old : List Call) (a : Numbe
   pub empty : Receive
   pub filled : Receive
   pub sender : Sender
-  pub receive : IsReceiveReady q size old a ready_made ready_arena empty
-  pub transmit : IsTransmitReady q size ready_made ready_arena both_made both_arena sender
+  pub receive : IsReceiveReady q size frame old a ready_made ready_arena empty
+  pub transmit : IsTransmitReady q size frame ready_made ready_arena both_made both_arena sender
   pub fails : GoingOnFails e.fault q both_made both_arena empty new arena filled
   pub left : IsHalfStarted q (with_rings arena filled sender) e.rest
 
 -- it was refused amid its events
-abbrev pub StopsStarting : AtPort → ℕ → List Call → Numbers → List Call → StartRefused → Type 0
-StopsStarting q size old a new e =
-    StopsBeforeOne q size old a new e ⊎ StopsAfterOne q size old a new e ⊎ StopsAfterBoth q size old a new e
+abbrev pub StopsStarting : AtPort → ℕ → ℕ → List Call → Numbers → List Call → StartRefused → Type 0
+StopsStarting q size frame old a new e =
+    StopsBeforeOne q size old a new e ⊎ StopsAfterOne q size frame old a new e ⊎ StopsAfterBoth q size frame old a new e

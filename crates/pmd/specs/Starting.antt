@@ -12,6 +12,7 @@ use Rattle.pmd_rx.specs.PmdSeam.declared.fault.PmdFault.{PmdFault}
 use Rattle.pmd_rx.specs.PmdSeam.declared.fault.PmdFault.TheVariants as fault
 use Rattle.pmd_rx.specs.PmdSeam.Both.{both_quiet, IsSwitched, SwitchFails}
 use Rattle.pmd_rx.specs.PmdSeam.QueueMade.{AreMade, StopsBy}
+use Rattle.pmd_rx.specs.PmdSeam.Frames.{most_blocks, packet_limit}
 use Rattle.pmd_rx.specs.PmdSeam.Home.{IsDrawn}
 use Rattle.pmd_rx.specs.PmdSeam.Named.{AtPort, IsNumberOf}
 use Rattle.pmd_rx.specs.PmdSeam.Sides.{ring_words}
@@ -77,7 +78,7 @@ PreparingFails f q side size old a new b out =
     × StopsLending f (ring_blocks ring size) mid a new b out))
 
 -- both sides are off and stay so, and an empty receive ring is lent
-pub record IsReceiveReady (q : AtPort) (size : ℕ) (old : List Call) (a : Numbers) (new : List Call) (b : Numbers)
+pub record IsReceiveReady (q : AtPort) (size frame : ℕ) (old : List Call) (a : Numbers) (new : List Call) (b : Numbers)
     (v : Receive) : Type 0 where
   pub mid : List Call
   pub quiet : AreMade q old mid both_quiet
@@ -85,7 +86,7 @@ pub record IsReceiveReady (q : AtPort) (size : ℕ) (old : List Call) (a : Numbe
   pub prepared : IsPrepared q Rx size mid a new b ring
   pub tail : ℕ
   pub named : IsNumberOf q.port (tail_row Rx) q.queue tail
-  pub fresh : v ≡ receive.at_start q.port tail ring size
+  pub fresh : v ≡ receive.at_start q.port tail ring size (most_blocks frame)
 
 -- a side is on, or the receive ring isn't prepared
 abbrev pub ReceiveFails : PmdFault → AtPort → ℕ → List Call → Numbers → List Call → Numbers → List ℕ → Type 0
@@ -94,13 +95,13 @@ ReceiveFails f q size old a new b out =
     ⊎ ((mid : List Call) × AreMade q old mid both_quiet × PreparingFails f q Rx size mid a new b out)
 
 -- an empty transmit ring is lent
-pub record IsTransmitReady (q : AtPort) (size : ℕ) (old : List Call) (a : Numbers) (new : List Call) (b : Numbers)
+pub record IsTransmitReady (q : AtPort) (size frame : ℕ) (old : List Call) (a : Numbers) (new : List Call) (b : Numbers)
     (v : Sender) : Type 0 where
   pub ring : ℕ
   pub prepared : IsPrepared q Tx size old a new b ring
   pub tail : ℕ
   pub named : IsNumberOf q.port (tail_row Tx) q.queue tail
-  pub fresh : v ≡ transmit.at_start q.port tail ring size
+  pub fresh : v ≡ transmit.at_start q.port tail ring size (packet_limit frame)
 
 -- both sides went on, and then the receive ring was filled, with blocks that were free in the arena
 pub record GoesOn (q : AtPort) (old : List Call) (a : Numbers) (v : Receive) (new : List Call) (b : Numbers)

@@ -1,20 +1,20 @@
 -- How a driver stops: both sides of its queue go off, and its blocks come home.
-use Rattle.std.specs.Prelude.{◌≡◌, ◌⊎◌, false, List, [], None}
+use Rattle.std.specs.Prelude.{ℕ, ◌≡◌, ◌⊎◌, false, List, [], ◌++◌}
 use Rattle.pmd_rx.specs.DeviceLock.declared.entry.Call.{Call}
 use Rattle.pmd_rx.specs.DeviceLock.declared.fault.CallFault.{CallFault}
 use Rattle.pmd_rx.specs.DeviceLock.declared.fault.CallFault.TheVariants as refused
+use Rattle.pmd_rx.specs.PmdSeam.Bufs.{with_all_free}
 use Rattle.pmd_rx.specs.PmdSeam.Home.{Bringing, BringsAll, StopsBringing}
 use Rattle.pmd_rx.specs.PmdSeam.declared.fault.PmdFault.{PmdFault}
 use Rattle.pmd_rx.specs.PmdSeam.declared.fault.PmdFault.TheVariants as fault
 use Rattle.pmd_rx.specs.PmdSeam.Both.{IsSwitched, SwitchFails}
 use Rattle.pmd_rx.specs.PmdSeam.Named.{AtPort}
-use Rattle.pmd_rx.specs.Keeping.{with_home}
 use Rattle.pmd.specs.Halted.{Halted}
 use Rattle.pmd.specs.declared.home.Home.{Home}
 
--- the driver once its rings are closed: the block of the packet that it held is home
+-- the driver once its rings are closed: the blocks that it had in hand are home
 abbrev pub closed : Halted → Halted
-closed h = record h { arena = with_home h.arena h.held; held = None }
+closed h = record h { arena = with_all_free h.arena h.held; held = [] }
 
 -- where its blocks are on their way
 abbrev pub bringing : List Call → Halted → Bringing
@@ -50,10 +50,17 @@ IsLeft f q old h new left =
     (SwitchFails f q old new false 1000 × (left ≡ h))
     ⊎ ((mid : List Call) × IsSwitched q old mid false 1000 × IsLeftAmid f mid h new left)
 
--- the rings couldn't be closed for want of memory: no event was made, and the packet that was held may have gone home
+-- some of the blocks in hand went home, the first ones
+pub record IsInPart (h left : Halted) : Type 0 where
+  pub gone : List ℕ
+  pub kept : List ℕ
+  pub parts : gone ++ kept ≡ h.held
+  pub left_is : left ≡ record h { arena = with_all_free h.arena gone; held = kept }
+
+-- the rings couldn't be closed for want of memory: no event was made, and blocks in hand may have gone home
 abbrev pub IsUnclosed : PmdFault → List Call → Halted → List Call → Halted → Type 0
 IsUnclosed f old h new left =
-    (f ≡ fault.Call (refused.OutOfMemory tt)) × (new ≡ old) × ((left ≡ h) ⊎ (left ≡ closed h))
+    (f ≡ fault.Call (refused.OutOfMemory tt)) × (new ≡ old) × IsInPart h left
 
 -- why a driver didn't stop, and where it is left
 abbrev pub StopFails : PmdFault → AtPort → List Call → Halted → List Call → Halted → Type 0

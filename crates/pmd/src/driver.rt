@@ -1,10 +1,11 @@
 //! A driver of one queue.
 
 ghost use Rattle.std.specs.Prelude.{ℕ, ◌≡◌, ◌<◌, ◌⊎◌, ◌++◌, ◌∷◌, ◌↔◌, [], true, Some, Err, IfOk, IfErr, IfSome, IsNone, IsOk, OnOk, OnErr};
-ghost use Rattle.nic_device.specs.DmaArena.Numbers.{free_count, is_own, is_free, with_free};
-ghost use Rattle.pmd_rx.specs.PmdSeam.Fresh.{IsFresh};
+ghost use Rattle.nic_device.specs.DmaArena.Numbers.{free_count, is_own, is_free};
+ghost use Rattle.pmd_rx.specs.PmdSeam.Bufs.{numbers_of, with_all_free};
+ghost use Rattle.pmd_rx.specs.PmdSeam.Fresh.{IsFresh, bufs_for};
 ghost use Rattle.pmd_rx.specs.PmdSeam.Packet.{kept_of};
-ghost use Rattle.pmd_rx.specs.Keeping.{block_in, handed_block};
+ghost use Rattle.pmd_rx.specs.Keeping.{handed_blocks, numbers_in};
 ghost use Rattle.pmd_tx.specs.Sends.{returned};
 ghost use Rattle.pmd.specs.Halted.{Halted, all_out, is_free_or_out};
 ghost use Rattle.pmd.specs.Stopping.{Stops, StopFails};
@@ -82,18 +83,18 @@ impl Pmd {
 }
 
 impl Pmd {
-    /// The next packet that came in, in order. None where the next slot isn't done.
+    /// The next packet that came in, in order. None where one of its slots isn't done.
     ///
-    /// `NoBuffer` where a packet waits and no block is free, `DeviceFault` where a reply is none that a healthy queue
-    /// gives, `Call` where a call was refused, or there was no memory for the packet's record: the driver keeps where
-    /// it was, and the next call goes on. `DeviceFault` without any event where the driver doesn't run.
+    /// `NoBuffer` where a packet waits and too few blocks are free for it, `DeviceFault` where a reply is none that a
+    /// healthy queue gives, `Call` where a call was refused, or there was no memory for the packet's record: the driver
+    /// keeps where it was, and the next call goes on. `DeviceFault` without any event where the driver doesn't run.
     pub fn rx<N: Nic>(&mut self, alloc: Global, nic: &mut N) -> Result<Option<Packet>, PmdFault>
         ensures drives { RunsOn (N.made nic.old) self.old.rings (N.made nic.new) self.new.rings }
         ensures received { WhereUp self.old.rings self.new.rings (λ r s.
             IsReceiveCall result (N.made nic.old) r (N.made nic.new) s) }
-        ensures blocks { KeepsBlocks self.old.rings [] self.new.rings (handed_block result) }
+        ensures blocks { KeepsBlocks self.old.rings [] self.new.rings (handed_blocks result) }
         ensures home { IfOk result (λ out. IfSome out (λ packet.
-            goes_back_to self.new.rings packet.buf.number ≡ true)) }
+            goes_back_to self.new.rings packet ≡ true)) }
         ensures given { IfOk result (λ out. IfSome out (λ packet.
             handed_of self.new.rings ≡ handed_of self.old.rings ++ kept_of packet ∷ [])) }
         ensures down { IsDown self.old.rings → (result ≡ Err PmdFault.DeviceFault)
@@ -109,13 +110,14 @@ impl Pmd {
         }
     }
 
-    /// Sends a packet of 1 to 1,514 bytes, which is padded with zero bytes to 60.
+    /// Sends a packet, which is padded with zero bytes to 60: one descriptor for each Buf that holds bytes of it.
     ///
-    /// Before any event: `BadSize` where its length is another, `ForeignBlock` where `release` would hand it back, and
-    /// `RingFull` where as many packets are outstanding as the ring has slots but one. Then `DeviceFault` where the
-    /// device answers what it can't on a healthy queue, and `Call` where a call was refused, or there was no memory for
-    /// the record. The packet comes back where its block wasn't lent yet; else it is accepted, and the next call goes
-    /// on with it. Where the driver doesn't run, `DeviceFault` without any event, and the packet comes back.
+    /// Before any event: `BadSize` where its length is 0, above the frame limit less 4, or above what its Bufs hold,
+    /// `ForeignBlock` where `release` would hand it back, and `RingFull` where the descriptors that are outstanding and
+    /// the packet's are more than the ring has slots but one. Then `DeviceFault` where the device answers what it can't
+    /// on a healthy queue, and `Call` where a call was refused, or there was no memory for the record. The packet comes
+    /// back where none of its blocks was lent yet; else it is accepted, and the next call goes on with it. Where the
+    /// driver doesn't run, `DeviceFault` without any event, and the packet comes back.
     pub fn tx<N: Nic>(
         &mut self,
         alloc: Global,
@@ -125,8 +127,8 @@ impl Pmd {
         ensures drives { RunsOn (N.made nic.old) self.old.rings (N.made nic.new) self.new.rings }
         ensures sent { WhereUp self.old.rings self.new.rings (λ r s.
             IsSendCall packet result (N.made nic.old) r (N.made nic.new) s) }
-        ensures blocks { KeepsBlocks self.old.rings (packet.buf.number ∷ []) self.new.rings
-            (block_in (returned result)) }
+        ensures blocks { KeepsBlocks self.old.rings (numbers_of packet.bufs) self.new.rings
+            (numbers_in (returned result)) }
         ensures handed { handed_of self.new.rings ≡ handed_of self.old.rings }
         ensures down { IsDown self.old.rings
             → (result ≡ Err (record { fault = PmdFault.DeviceFault; packet = Some packet }))
@@ -171,12 +173,13 @@ impl Pmd {
 }
 
 impl Pmd {
-    /// A packet of `len` bytes in a free block, all zero. None where no block is free, or the length is above 2,048.
+    /// A packet of `len` bytes in free blocks, all zero. None where too few blocks are free, or the length is above
+    /// 10,240: nothing is taken then.
     pub fn packet(&mut self, len: u16) -> Option<Packet>
-        ensures none { IsNone result ↔ ((2048 < len) ⊎ (free_count (arena_of self.old.rings) ≡ 0)) }
+        ensures none { IsNone result ↔ ((10240 < len) ⊎ (free_count (arena_of self.old.rings) < bufs_for len)) }
         ensures made { IsFresh (arena_of self.old.rings) len result (arena_of self.new.rings) }
         ensures rings { self.new.rings ≡ with_arena self.old.rings (arena_of self.new.rings) }
-        ensures blocks { KeepsBlocks self.old.rings [] self.new.rings (block_in result) }
+        ensures blocks { KeepsBlocks self.old.rings [] self.new.rings (numbers_in result) }
         ensures halves { KeepsHalves self.old.rings self.new.rings }
         ensures queue { self.new.queue ≡ self.old.queue }
     {
@@ -186,13 +189,13 @@ impl Pmd {
         }
     }
 
-    /// Gives a packet's block back to the arena. The packet comes back where its block can't go home: its number is
-    /// none of the arena's, or is free there, or this driver has it lent.
+    /// Gives a packet's blocks back to the arena. The packet comes back where one of them can't go home: its number is
+    /// none of the arena's, or is free there, or comes twice, or this driver has it lent.
     pub fn release(&mut self, packet: Packet) -> Result<(), Packet>
-        ensures ok { IsOk result ↔ (goes_back_to self.old.rings packet.buf.number ≡ true) }
+        ensures ok { IsOk result ↔ (goes_back_to self.old.rings packet ≡ true) }
         ensures released { OnOk result (self.new.rings
-            ≡ with_arena self.old.rings (with_free (arena_of self.old.rings) packet.buf.number true)) }
-        ensures blocks { OnOk result (KeepsBlocks self.old.rings (packet.buf.number ∷ []) self.new.rings []) }
+            ≡ with_arena self.old.rings (with_all_free (arena_of self.old.rings) (numbers_of packet.bufs))) }
+        ensures blocks { OnOk result (KeepsBlocks self.old.rings (numbers_of packet.bufs) self.new.rings []) }
         ensures back { IfErr result (λ back. back ≡ packet) }
         ensures kept { OnErr result (self.new.rings ≡ self.old.rings) }
         ensures halves { KeepsHalves self.old.rings self.new.rings }

@@ -3,12 +3,13 @@
 ghost use Rattle.std.specs.Prelude.{◌≡◌, ◌<◌, ◌↔◌, ◌++◌, true, None, IfOk, IfErr, OnOk, OnErr};
 ghost use Rattle.nic_device.specs.DmaArena.Whereabouts.{times_in_hand};
 ghost use Rattle.pmd_rx.specs.PmdSeam.Home.{AreOut};
-ghost use Rattle.pmd_rx.specs.Keeping.{block_in, with_home};
-ghost use Rattle.pmd.specs.Ends.{received_way, held_of, handed_of, sent_way, accepted_of};
+ghost use Rattle.pmd_rx.specs.PmdSeam.Bufs.{with_all_free};
+ghost use Rattle.pmd.specs.Ends.{received_way, held_of, handed_of, sent_way, waiting_of, accepted_of};
 
 use nic_device::Arena;
-use pmd_rx::{ReceiveRing, Reclaim, Record};
+use pmd_rx::{ReceiveRing, Reclaim, Record, give_bufs};
 use pmd_tx::TransmitRing;
+use std::alloc::Global;
 
 /// The receive half: its ring, or its blocks on their way home with the packets that were handed out.
 pub(crate) enum Receiving {
@@ -36,7 +37,7 @@ impl Receiving {
     /// Whether the block of this number is out.
     pub(crate) fn has(&self, block: u32) -> bool
         ensures { (result ≡ true) ↔
-            (0 < times_in_hand ((received_way self.now).lent ++ block_in (held_of self.now)) block) }
+            (0 < times_in_hand ((received_way self.now).lent ++ held_of self.now) block) }
     {
         match self {
             Receiving::Ring(ring) => ring.has(block),
@@ -44,12 +45,12 @@ impl Receiving {
         }
     }
 
-    /// Closes the ring, where it isn't closed yet: the block of a packet that it holds is given to the arena.
+    /// Closes the ring, where it isn't closed yet: the blocks of a packet that it holds are given to the arena.
     pub(crate) fn close(self, arena: &mut Arena) -> Result<(Reclaim, Vec<Record>), Receiving>
-        requires { AreOut arena.old ((received_way self).lent ++ block_in (held_of self)) }
+        requires { AreOut arena.old ((received_way self).lent ++ held_of self) }
         ensures way { IfOk result (λ ends. ends.0 ≡ received_way self) }
         ensures records { IfOk result (λ ends. ends.1.items ≡ handed_of self) }
-        ensures home { OnOk result (arena.new ≡ with_home arena.old (held_of self)) }
+        ensures home { OnOk result (arena.new ≡ with_all_free arena.old (held_of self)) }
         ensures back { IfErr result (λ half. half ≡ self) }
         ensures kept { OnErr result (arena.new ≡ arena.old) }
     {
@@ -76,23 +77,34 @@ impl Sending {
 
     /// Whether the block of this number is out.
     pub(crate) fn has(&self, block: u32) -> bool
-        ensures { (result ≡ true) ↔ (0 < times_in_hand (sent_way self.now).lent block) }
+        ensures { (result ≡ true) ↔
+            (0 < times_in_hand ((sent_way self.now).lent ++ waiting_of self.now) block) }
     {
         match self {
-            Sending::Ring(ring) => ring.has_lent(block),
+            Sending::Ring(ring) => ring.keeps(block),
             Sending::Leaves(way, _) => way.has(block),
         }
     }
 
-    /// Closes the ring, where it isn't closed yet.
-    pub(crate) fn close(self) -> Result<(Reclaim, Vec<Record>), Sending>
+    /// Closes the ring, where it isn't closed yet: the blocks that wait are given to the arena.
+    pub(crate) fn close(
+        self,
+        alloc: Global,
+        arena: &mut Arena,
+    ) -> Result<(Reclaim, Vec<Record>), Sending>
+        requires { AreOut arena.old (waiting_of self) }
         ensures way { IfOk result (λ ends. ends.0 ≡ sent_way self) }
         ensures records { IfOk result (λ ends. ends.1.items ≡ accepted_of self) }
+        ensures home { OnOk result (arena.new ≡ with_all_free arena.old (waiting_of self)) }
         ensures back { IfErr result (λ half. half ≡ self) }
+        ensures kept { OnErr result (arena.new ≡ arena.old) }
     {
         match self {
-            Sending::Ring(ring) => match ring.close() {
-                Ok(ends) => Ok(ends),
+            Sending::Ring(ring) => match ring.close(alloc) {
+                Ok((way, waiting, accepted)) => {
+                    give_bufs(arena, waiting);
+                    Ok((way, accepted))
+                }
                 Err(ring) => Err(Sending::Ring(ring)),
             },
             Sending::Leaves(way, accepted) => Ok((way, accepted)),

@@ -1,13 +1,16 @@
 //! A driver that isn't running.
 
 ghost use Rattle.std.specs.Prelude.{◌≡◌, ◌↔◌, ◌<◌, ◌++◌, ◌⊎◌, ℕ, [], true, None, IfOk, IfErr, IsOk, IsNone, OnOk, OnErr};
-ghost use Rattle.nic_device.specs.DmaArena.Numbers.{free_count, is_own, is_free, with_free};
+ghost use Rattle.std.specs.List.{list_any};
+ghost use Rattle.nic_device.specs.DmaArena.Numbers.{free_count, is_own, is_free};
+ghost use Rattle.pmd_rx.specs.PmdSeam.Bufs.{numbers_of, with_all_free};
 ghost use Rattle.pmd_rx.specs.PmdSeam.Home.{AreOut};
-ghost use Rattle.pmd_rx.specs.PmdSeam.Fresh.{IsFresh};
+ghost use Rattle.pmd_rx.specs.PmdSeam.Fresh.{IsFresh, bufs_for};
 ghost use Rattle.pmd_rx.specs.Keeping.{blocks_out};
-ghost use Rattle.pmd_tx.specs.Leaving.{lent_of};
+ghost use Rattle.pmd.specs.Running.{kept_out};
+ghost use Rattle.pmd.specs.Blocks.{KeepsEach};
 ghost use Rattle.pmd.specs.Halted.{IsHalted, all_out, is_out, goes_back, is_free_or_out, with_rings, with_receive_ring, with_blocks};
-ghost use Rattle.pmd.specs.Stopping.{Stops, StopFails, IsUnclosed, closed};
+ghost use Rattle.pmd.specs.Stopping.{Stops, StopFails, IsInPart, IsUnclosed, closed};
 ghost use Rattle.pmd.specs.Leaving.{leaving_as};
 ghost use Rattle.pmd_rx.specs.PmdSeam.Refusals.{CanFail};
 
@@ -16,10 +19,10 @@ use crate::home::{Home, StopFailed};
 use crate::stopping::Leaving;
 use nic_device::Arena;
 use pmd_rx::{
-    CallFault, Nic, Packet, PmdFault, Queue, ReceiveRing, Reclaim, Record, fresh_packet,
+    Bufs, CallFault, Nic, Packet, PmdFault, Queue, ReceiveRing, Reclaim, Record, fresh_packet,
     give_packet,
 };
-use pmd_tx::TransmitRing;
+use pmd_tx::{TransmitRing, are_out};
 use std::alloc::Global;
 use std::collections::VecDeque;
 use std::marker::Model;
@@ -46,7 +49,7 @@ impl Model for Halted {
 impl Halted {
     /// A driver of two rings of one queue, whose blocks are out of the arena. It takes no memory.
     pub fn of_rings(arena: Arena, receive: ReceiveRing, transmit: TransmitRing) -> Halted
-        requires { AreOut arena (blocks_out receive ++ lent_of transmit) }
+        requires { AreOut arena (blocks_out receive ++ kept_out transmit) }
         ensures { result ≡ with_rings arena receive transmit }
     {
         let _count = arena.count();
@@ -105,9 +108,10 @@ impl Halted {
 }
 
 impl Halted {
-    /// A packet of `len` bytes in a free block, all zero. None where no block is free, or the length is above 2,048.
+    /// A packet of `len` bytes in free blocks, all zero. None where too few blocks are free, or the length is above
+    /// 10,240: nothing is taken then.
     pub fn packet(&mut self, len: u16) -> Option<Packet>
-        ensures none { IsNone result ↔ ((2048 < len) ⊎ (free_count self.old.arena ≡ 0)) }
+        ensures none { IsNone result ↔ ((10240 < len) ⊎ (free_count self.old.arena < bufs_for len)) }
         ensures made { IsFresh self.old.arena len result self.new.arena }
         ensures rest { self.new ≡ record self.old { arena = self.new.arena } }
     {
@@ -121,24 +125,37 @@ impl Halted {
         self.receive.has(block) || self.transmit.has(block)
     }
 
-    /// Whether a block of this number can go back to the arena.
-    fn goes_back(&self, block: u32) -> bool
-        ensures { result ≡ goes_back self.now block }
+    /// Whether the driver has one of these blocks out.
+    fn has_one(&self, bufs: &Bufs) -> bool
+        ensures { result ≡ list_any (λ n. is_out self.now n) (numbers_of bufs.now) }
     {
-        self.arena.owns(block) && !self.arena.is_free(block) && !self.is_out(block)
+        for number in 0..bufs.count() {
+            if self.is_out(bufs.get(number).block()) {
+                return true;
+            }
+        }
+        false
     }
 
-    /// Gives a packet's block back to the arena. The packet comes back where its block can't go home: its number is
-    /// none of the arena's, or is free there, or this driver has it out.
+    /// Whether the blocks of a packet can go back to the arena.
+    fn goes_back(&self, packet: &Packet) -> bool
+        ensures { result ≡ goes_back self.now packet.now }
+    {
+        are_out(&self.arena, &packet.bufs) && !self.has_one(&packet.bufs)
+    }
+
+    /// Gives a packet's blocks back to the arena. The packet comes back where one of them can't go home: its number is
+    /// none of the arena's, or is free there, or comes twice, or this driver has it out.
     pub fn release(&mut self, packet: Packet) -> Result<(), Packet>
-        ensures ok { IsOk result ↔ (goes_back self.old packet.buf.number ≡ true) }
+        ensures ok { IsOk result ↔ (goes_back self.old packet ≡ true) }
         ensures released { OnOk result
-            (self.new ≡ record self.old { arena = with_free self.old.arena packet.buf.number true }) }
+            (self.new ≡ record self.old { arena = with_all_free self.old.arena (numbers_of packet.bufs) }) }
+        ensures blocks { OnOk result (KeepsEach self.old.arena (all_out self.old ++ numbers_of packet.bufs)
+            self.new.arena (all_out self.new ++ [])) }
         ensures back { IfErr result (λ back. back ≡ packet) }
         ensures kept { OnErr result (self.new ≡ self.old) }
     {
-        let block = packet.buf.block();
-        if self.goes_back(block) {
+        if self.goes_back(&packet) {
             give_packet(&mut self.arena, packet);
             return Ok(());
         }
@@ -164,7 +181,7 @@ impl Halted {
         ensures refuses { N.refuses nic.new ≡ N.refuses nic.old }
         ensures refusal { IfErr result (λ failed. CanFail (N.refuses nic.new) failed.fault) }
     {
-        match self.close() {
+        match self.close(alloc) {
             Ok(leaving) => leaving.go_home(alloc, nic, queue),
             Err(halted) => Err(StopFailed {
                 fault: PmdFault::Call(CallFault::OutOfMemory(())),
@@ -174,10 +191,10 @@ impl Halted {
     }
 
     /// Closes the rings. Where there is no memory, one of them may be closed.
-    fn close(self) -> Result<Leaving, Halted>
+    fn close(self, alloc: Global) -> Result<Leaving, Halted>
         ensures closed { IfOk result (λ leaving. leaving_as leaving ≡ closed self) }
         ensures out { IsHalted self }
-        ensures left { IfErr result (λ halted. (halted ≡ self) ⊎ (halted ≡ closed self)) }
+        ensures left { IfErr result (λ halted. IsInPart self halted) }
     {
         let Halted {
             arena,
@@ -186,7 +203,7 @@ impl Halted {
         } = self;
         let mut arena = arena;
         match receive.close(&mut arena) {
-            Ok((receive, handed)) => match transmit.close() {
+            Ok((receive, handed)) => match transmit.close(alloc, &mut arena) {
                 Ok((transmit, accepted)) => Ok(Leaving {
                     arena,
                     receive,

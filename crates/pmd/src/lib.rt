@@ -1,8 +1,8 @@
 //! The poll-mode driver of one queue, put together from its two halves.
 //!
 //! `running.rt` has a driver whose two rings are up: what it receives and sends, and where each block is. `rings.rt`
-//! has the steps by which they come up, `runs.rt` looks for the blocks that they take, `start.rt` has these steps in
-//! order, and `driver.rt` the driver as a whole, `Pmd`: started, running, and stopped.
+//! has the steps by which they come up, `start.rt` looks for the blocks that they take and has these steps in order,
+//! and `driver.rt` is the driver as a whole, `Pmd`: started, running, and stopped.
 //!
 //! `Halted` is a driver whose start went wrong with a block lent, or whose stop has begun. `Halted::stop` switches
 //! both sides of its queue off and takes its blocks home; it may be tried again. `ends.rt` has its two halves, each
@@ -22,9 +22,9 @@ pub use driver::{Pmd, StopRefused};
 pub use halted::Halted;
 pub use home::{Home, StopFailed};
 pub use pmd_rx::{
-    Calls, Direct, Finished, Interleaved, Made, Nic, POLLS, Packet, PmdFault, Queue, Record, Setup,
-    ThroughLock, pf_setup,
+    Bufs, Calls, Direct, Finished, Interleaved, LONGEST_FRAME, Made, Nic, POLLS, Packet, PmdFault,
+    Queue, Record, SHORTEST_FRAME, Setup, ThroughLock, pf_setup,
 };
-pub use pmd_tx::{Reaped, TxAnswer, TxFault};
+pub use pmd_tx::{Reaped, TxAnswer, TxFault, bytes_in};
 pub use running::Running;
 pub use start::{Rest, StartRefused};

@@ -10,13 +10,18 @@ ghost use Rattle.pmd_rx.specs.PmdSeam.Accesses.{IsLent};
 ghost use Rattle.pmd_rx.specs.PmdSeam.Home.{AreOut, IsDrawn};
 ghost use Rattle.pmd_rx.specs.PmdSeam.Slots.{blocks_for, ring_blocks};
 ghost use Rattle.pmd_rx.specs.Keeping.{blocks_out, IsRunning, Keeps};
-ghost use Rattle.pmd_rx.specs.Receive.{Looks};
+ghost use Rattle.pmd_rx.specs.Receive.{no_packet};
+ghost use Rattle.pmd_rx.specs.PmdSeam.Frames.{is_frame};
+ghost use Rattle.pmd_rx.specs.declared.ring.Stage.TheVariants.{Looks};
 ghost use Rattle.nic_device.specs.DmaArena.Run.{IsFreeRun};
 ghost use Rattle.pmd.specs.Starting.{ComesLate, LendsEach, LendingFails, StopsLending, IsPrepared, PreparingFails, IsReceiveReady, ReceiveFails, IsTransmitReady, GoesOn, GoingOnFails};
 ghost use Rattle.pmd_rx.specs.PmdSeam.Refusals.{CanFail};
 
 use nic_device::{Arena, Dir};
-use pmd_rx::{CallFault, Nic, PmdFault, Queue, ReceiveRing, blocks_for, give_back, lend};
+use pmd_rx::{
+    CallFault, Nic, PmdFault, Queue, ReceiveRing, blocks_for, give_back, lend, most_blocks,
+    packet_limit,
+};
 use pmd_tx::TransmitRing;
 use std::alloc::Global;
 use std::collections::VecDeque;
@@ -140,13 +145,15 @@ pub(crate) fn receive_ring<N: Nic>(
     arena: &mut Arena,
     ring: u32,
     size: u16,
+    frame: u16,
 ) -> Result<ReceiveRing, Unprepared>
     requires some { 8 ≤ size }
     requires few { size ≤ 1024 }
+    requires frame { is_frame frame ≡ true }
     requires low { ring + blocks_for size ≤ 65536 }
     requires free { IsFreeRun arena.old ring (blocks_for size) }
     ensures ready { IfOk result (λ receive.
-        IsReceiveReady queue.now size (N.made nic.old) arena.old (N.made nic.new) arena.new receive) }
+        IsReceiveReady queue.now size frame (N.made nic.old) arena.old (N.made nic.new) arena.new receive) }
     ensures drawn { OnOk result (IsDrawn arena.old (ring_blocks ring size) arena.new) }
     ensures failed { IfErr result (λ e.
         ReceiveFails e.fault queue.now size (N.made nic.old) arena.old (N.made nic.new) arena.new e.lent.items) }
@@ -164,7 +171,7 @@ pub(crate) fn receive_ring<N: Nic>(
     match prepare(alloc, nic, queue, arena, Dir::Rx, ring, size) {
         Ok(()) => {
             let tail = queue.tail_number(Dir::Rx);
-            Ok(ReceiveRing::new(alloc, queue.port(), tail, ring, size))
+            Ok(ReceiveRing::new(alloc, queue.port(), tail, ring, size, most_blocks(frame)))
         }
         Err(unprepared) => Err(unprepared),
     }
@@ -179,13 +186,15 @@ pub(crate) fn transmit_ring<N: Nic>(
     arena: &mut Arena,
     ring: u32,
     size: u16,
+    frame: u16,
 ) -> Result<TransmitRing, Unprepared>
     requires some { 8 ≤ size }
     requires few { size ≤ 1024 }
+    requires frame { is_frame frame ≡ true }
     requires low { ring + blocks_for size ≤ 65536 }
     requires free { IsFreeRun arena.old ring (blocks_for size) }
     ensures ready { IfOk result (λ transmit.
-        IsTransmitReady queue.now size (N.made nic.old) arena.old (N.made nic.new) arena.new transmit) }
+        IsTransmitReady queue.now size frame (N.made nic.old) arena.old (N.made nic.new) arena.new transmit) }
     ensures failed { IfErr result (λ e. PreparingFails e.fault queue.now Dir.Tx size (N.made nic.old) arena.old
         (N.made nic.new) arena.new e.lent.items) }
     ensures who { N.who nic.new ≡ N.who nic.old }
@@ -195,7 +204,7 @@ pub(crate) fn transmit_ring<N: Nic>(
     match prepare(alloc, nic, queue, arena, Dir::Tx, ring, size) {
         Ok(()) => {
             let tail = queue.tail_number(Dir::Tx);
-            Ok(TransmitRing::new(alloc, queue.port(), tail, ring, size))
+            Ok(TransmitRing::new(alloc, queue.port(), tail, ring, size, packet_limit(frame)))
         }
         Err(unprepared) => Err(unprepared),
     }
@@ -211,6 +220,7 @@ pub(crate) fn go_on<N: Nic>(
 ) -> Result<(), PmdFault>
     requires empty { receive.old.layout.blocks ≡ [] }
     requires stage { receive.old.stage ≡ Looks }
+    requires unseen { (receive.old.seen ≡ []) × (receive.old.held ≡ no_packet) }
     requires home { AreOut arena.old (blocks_out receive.old) }
     requires enough { receive.old.layout.size ≤ free_count arena.old + 1 }
     ensures on { OnOk result

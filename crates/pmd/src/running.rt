@@ -1,9 +1,12 @@
 //! A driver whose two rings are up.
 
-ghost use Rattle.std.specs.Prelude.{◌≡◌, ◌<◌, ◌⊎◌, ◌∷◌, ◌↔◌, [], true, IfOk, IfErr, IfSome, IsNone, IsOk, OnOk, OnErr};
+ghost use Rattle.std.specs.Prelude.{◌≡◌, ◌<◌, ◌⊎◌, ◌↔◌, [], nat_lt, true, IfOk, IfErr, IfSome, IsNone, IsOk, OnOk, OnErr};
+ghost use Rattle.std.specs.List.{list_any};
 ghost use Rattle.nic_device.specs.DmaArena.Numbers.{free_count};
-ghost use Rattle.pmd_rx.specs.PmdSeam.Fresh.{IsFresh};
-ghost use Rattle.pmd_rx.specs.Keeping.{block_in, handed_block};
+ghost use Rattle.nic_device.specs.DmaArena.Whereabouts.{times_in_hand};
+ghost use Rattle.pmd_rx.specs.PmdSeam.Bufs.{numbers_of};
+ghost use Rattle.pmd_rx.specs.PmdSeam.Fresh.{IsFresh, bufs_for};
+ghost use Rattle.pmd_rx.specs.Keeping.{blocks_out, handed_blocks, numbers_in};
 ghost use Rattle.pmd_tx.specs.Sends.{returned};
 ghost use Rattle.pmd.specs.Apart.{DrivesRings, OwnsSame};
 ghost use Rattle.pmd.specs.Blocks.{KeepsUp};
@@ -13,8 +16,8 @@ ghost use Rattle.pmd.specs.Running.{IsUp, IsReleased, goes_back, receives};
 ghost use Rattle.pmd_rx.specs.PmdSeam.Refusals.{CanFail};
 
 use nic_device::Arena;
-use pmd_rx::{Nic, Packet, PmdFault, ReceiveRing, Record, fresh_packet, give_packet};
-use pmd_tx::{Reaped, TransmitRing, TxAnswer, TxFault};
+use pmd_rx::{Bufs, Nic, Packet, PmdFault, ReceiveRing, Record, fresh_packet, give_packet};
+use pmd_tx::{Reaped, TransmitRing, TxAnswer, TxFault, bytes_in};
 use std::alloc::Global;
 use std::marker::Model;
 
@@ -80,16 +83,16 @@ impl Running {
 }
 
 impl Running {
-    /// The next packet that came in, in order. None where the next slot isn't done.
+    /// The next packet that came in, in order. None where one of its slots isn't done.
     ///
-    /// `NoBuffer` where a packet waits and no block is free, `DeviceFault` where a reply is none that a healthy queue
-    /// gives, `Call` where a call was refused, or there was no memory for the packet's record: the driver keeps where
-    /// it was, and the next call goes on.
+    /// `NoBuffer` where a packet waits and too few blocks are free for it, `DeviceFault` where a reply is none that a
+    /// healthy queue gives, `Call` where a call was refused, or there was no memory for the packet's record: the driver
+    /// keeps where it was, and the next call goes on.
     pub fn rx<N: Nic>(&mut self, alloc: Global, nic: &mut N) -> Result<Option<Packet>, PmdFault>
         ensures drives { DrivesRings (N.made nic.old) self.old (N.made nic.new) self.new }
         ensures received { IsReceiveCall result (N.made nic.old) self.old (N.made nic.new) self.new }
-        ensures home { IfOk result (λ out. IfSome out (λ packet. goes_back self.new packet.buf.number ≡ true)) }
-        ensures blocks { KeepsUp self.old [] self.new (handed_block result) }
+        ensures home { IfOk result (λ out. IfSome out (λ packet. goes_back self.new packet ≡ true)) }
+        ensures blocks { KeepsUp self.old [] self.new (handed_blocks result) }
         ensures who { N.who nic.new ≡ N.who nic.old }
         ensures refuses { N.refuses nic.new ≡ N.refuses nic.old }
         ensures refusal { IfErr result (λ f. CanFail (N.refuses nic.new) f) }
@@ -97,13 +100,13 @@ impl Running {
         self.receive.receive(alloc, nic, &mut self.arena)
     }
 
-    /// Sends a packet of 1 to 1,514 bytes, which is padded with zero bytes to 60.
+    /// Sends a packet, which is padded with zero bytes to 60: one descriptor for each Buf that holds bytes of it.
     ///
-    /// Before any event: `BadSize` where its length is another, `ForeignBlock` where `release` would hand it back, and
-    /// `RingFull` where as many packets are outstanding as the ring has slots but one. Then `DeviceFault` where the
-    /// device answers what it can't on a healthy queue, and `Call` where a call was refused, or there was no memory for
-    /// the record. The packet comes back where its block wasn't lent yet; else it is accepted, and the next call goes
-    /// on with it.
+    /// Before any event: `BadSize` where its length is 0, above the frame limit less 4, or above what its Bufs hold,
+    /// `ForeignBlock` where `release` would hand it back, and `RingFull` where the descriptors that are outstanding and
+    /// the packet's are more than the ring has slots but one. Then `DeviceFault` where the device answers what it can't
+    /// on a healthy queue, and `Call` where a call was refused, or there was no memory for the record. The packet comes
+    /// back where none of its blocks was lent yet; else it is accepted, and the next call goes on with it.
     pub fn tx<N: Nic>(
         &mut self,
         alloc: Global,
@@ -112,14 +115,15 @@ impl Running {
     ) -> Result<TxAnswer, TxFault>
         ensures drives { DrivesRings (N.made nic.old) self.old (N.made nic.new) self.new }
         ensures sent { IsSendCall packet result (N.made nic.old) self.old (N.made nic.new) self.new }
-        ensures blocks { KeepsUp self.old (packet.buf.number ∷ []) self.new (block_in (returned result)) }
+        ensures blocks { KeepsUp self.old (numbers_of packet.bufs) self.new (numbers_in (returned result)) }
         ensures who { N.who nic.new ≡ N.who nic.old }
         ensures refuses { N.refuses nic.new ≡ N.refuses nic.old }
         ensures refusal { IfErr result (λ failed. CanFail (N.refuses nic.new) failed.fault) }
     {
-        let elsewhere = self.receives(packet.buf.block());
+        let _whole = bytes_in(&packet.bufs);
+        let elsewhere = self.receives(&packet.bufs);
         self.transmit
-            .send(alloc, nic, &self.arena, elsewhere, packet)
+            .send(alloc, nic, &mut self.arena, elsewhere, packet)
     }
 
     /// Frees the blocks of the packets that were sent, the oldest first. First it goes on with the packet that waits
@@ -140,43 +144,49 @@ impl Running {
 }
 
 impl Running {
-    /// A packet of `len` bytes in a free block, all zero. None where no block is free, or the length is above 2,048.
+    /// A packet of `len` bytes in free blocks, all zero. None where too few blocks are free, or the length is above
+    /// 10,240: nothing is taken then.
     pub fn packet(&mut self, len: u16) -> Option<Packet>
-        ensures none { IsNone result ↔ ((2048 < len) ⊎ (free_count self.old.arena ≡ 0)) }
+        ensures none { IsNone result ↔ ((10240 < len) ⊎ (free_count self.old.arena < bufs_for len)) }
         ensures made { IsFresh self.old.arena len result self.new.arena }
         ensures rest { self.new ≡ record self.old { arena = self.new.arena } }
         ensures owns { OwnsSame self.old.arena self.new.arena }
-        ensures blocks { KeepsUp self.old [] self.new (block_in result) }
+        ensures blocks { KeepsUp self.old [] self.new (numbers_in result) }
     {
         fresh_packet(&mut self.arena, len)
     }
 
-    /// Whether the receive ring has the block of this number.
-    fn receives(&self, block: u32) -> bool
-        ensures { result ≡ receives self.now block }
+    /// Whether the receive ring has one of these blocks.
+    fn receives(&self, bufs: &Bufs) -> bool
+        ensures { result
+            ≡ list_any (λ n. nat_lt 0 (times_in_hand (blocks_out self.now.receive) n)) (numbers_of bufs.now) }
     {
-        self.receive.has(block)
+        for number in 0..bufs.count() {
+            if self.receive.has(bufs.get(number).block()) {
+                return true;
+            }
+        }
+        false
     }
 
-    /// Whether a block of this number can go back to the arena.
-    fn goes_back(&self, block: u32) -> bool
-        ensures { result ≡ goes_back self.now block }
+    /// Whether the blocks of a packet can go back to the arena.
+    fn goes_back(&self, packet: &Packet) -> bool
+        ensures { result ≡ goes_back self.now packet.now }
     {
-        self.transmit.goes_home(&self.arena, block) && !self.receives(block)
+        self.transmit.goes_home(&self.arena, packet) && !self.receives(&packet.bufs)
     }
 
-    /// Gives a packet's block back to the arena. The packet comes back where its block can't go home: its number is
-    /// none of the arena's, or is free there, or this driver has it lent.
+    /// Gives a packet's blocks back to the arena. The packet comes back where one of them can't go home: its number is
+    /// none of the arena's, or is free there, or comes twice, or this driver has it lent.
     pub fn release(&mut self, packet: Packet) -> Result<(), Packet>
-        ensures ok { IsOk result ↔ (goes_back self.old packet.buf.number ≡ true) }
-        ensures released { OnOk result (IsReleased self.old packet.buf.number self.new) }
-        ensures blocks { OnOk result (KeepsUp self.old (packet.buf.number ∷ []) self.new []) }
+        ensures ok { IsOk result ↔ (goes_back self.old packet ≡ true) }
+        ensures released { OnOk result (IsReleased self.old packet self.new) }
+        ensures blocks { OnOk result (KeepsUp self.old (numbers_of packet.bufs) self.new []) }
         ensures back { IfErr result (λ back. back ≡ packet) }
         ensures kept { OnErr result (self.new ≡ self.old) }
         ensures halves { (halves_of self.new ≡ halves_of self.old) × OwnsSame self.old.arena self.new.arena }
     {
-        let block = packet.buf.block();
-        if self.goes_back(block) {
+        if self.goes_back(&packet) {
             give_packet(&mut self.arena, packet);
             return Ok(());
         }

@@ -9,6 +9,7 @@ ghost use Rattle.pmd.specs.Blocks.{HasAll, IsWhole};
 ghost use Rattle.pmd.specs.Driver.{handed_of, halted_of};
 ghost use Rattle.pmd.specs.Runs.{AreRuns};
 ghost use Rattle.pmd.specs.Started.{is_size, has_room, start_gate, left_accepted, left_handed, IsHome, IsShut, HasStarted, IsHalfStarted, IsLeftWith, StopsStarting};
+ghost use Rattle.pmd_rx.specs.PmdSeam.Frames.{is_frame};
 ghost use Rattle.pmd_rx.specs.PmdSeam.Home.{AreOut};
 ghost use Rattle.pmd_rx.specs.PmdSeam.Slots.{blocks_for};
 ghost use Rattle.pmd_rx.specs.PmdSeam.Refusals.{Refusals, CanFail};
@@ -19,7 +20,7 @@ use crate::home::Home;
 use crate::rings::{Unprepared, go_on, receive_ring, transmit_ring};
 use crate::running::Running;
 use nic_device::{Arena, Port};
-use pmd_rx::{Nic, PmdFault, Queue, ReceiveRing, blocks_for};
+use pmd_rx::{Nic, PmdFault, Queue, ReceiveRing, blocks_for, is_frame};
 use std::alloc::Global;
 
 /// What a start leaves that is refused.
@@ -69,16 +70,25 @@ fn find_places(arena: &Arena, size: u16) -> Option<Places>
 }
 
 /// The queue and where its rings are made, where a start with it isn't refused before any event.
-fn named(arena: &Arena, port: Port, queue: u16, size: u16) -> Result<(Queue, Places), PmdFault>
-    ensures open { OnOk result (start_gate arena.now (record { port = port; queue = queue }) size ≡ None) }
-    ensures shut { IfErr result (λ f. start_gate arena.now (record { port = port; queue = queue }) size ≡ Some f) }
+fn named(
+    arena: &Arena,
+    port: Port,
+    queue: u16,
+    size: u16,
+    frame: u16,
+) -> Result<(Queue, Places), PmdFault>
+    ensures open { OnOk result (start_gate arena.now (record { port = port; queue = queue }) size frame ≡ None) }
+    ensures shut { IfErr result (λ f.
+        start_gate arena.now (record { port = port; queue = queue }) size frame ≡ Some f) }
     ensures queue { IfOk result (λ n. n.0 ≡ record { port = port; queue = queue }) }
     ensures size { OnOk result ((8 ≤ size) × (size ≤ 1024)) }
+    ensures sized { OnOk result (is_size size ≡ true) }
+    ensures frame { OnOk result (is_frame frame ≡ true) }
     ensures runs { IfOk result (λ n. AreRuns arena.now (blocks_for size) n.1.receive n.1.transmit) }
     ensures enough { OnOk result (size - 1 + 2 * blocks_for size ≤ free_count arena.now) }
     ensures refusal { (way : Refusals) → IfErr result (λ f. CanFail way f) }
 {
-    if !is_size(size) {
+    if !is_size(size) || !is_frame(frame) {
         return Err(PmdFault::BadSize);
     }
     let Some(places) = find_places(arena, size) else {
@@ -162,15 +172,18 @@ fn bring_up<N: Nic>(
     nic: &mut N,
     queue: Queue,
     size: u16,
+    frame: u16,
     arena: Arena,
     places: Places,
 ) -> Result<Pmd, StartRefused>
     requires some { 8 ≤ size }
     requires few { size ≤ 1024 }
+    requires sized { is_size size ≡ true }
+    requires frame { is_frame frame ≡ true }
     requires runs { AreRuns arena (blocks_for size) places.receive places.transmit }
     requires enough { size - 1 + 2 * blocks_for size ≤ free_count arena }
-    ensures started { IfOk result (λ p. HasStarted queue size (N.made nic.old) arena (N.made nic.new) p) }
-    ensures stops { IfErr result (λ e. StopsStarting queue size (N.made nic.old) arena (N.made nic.new) e) }
+    ensures started { IfOk result (λ p. HasStarted queue size frame (N.made nic.old) arena (N.made nic.new) p) }
+    ensures stops { IfErr result (λ e. StopsStarting queue size frame (N.made nic.old) arena (N.made nic.new) e) }
     ensures late { IfErr result (λ e. ComesLate e.fault) }
     ensures none { IfOk result (λ p. handed_of p.rings ≡ []) }
     ensures left { IfErr result (λ e. left_handed e.rest ≡ []) }
@@ -181,11 +194,27 @@ fn bring_up<N: Nic>(
     ensures refusal { IfErr result (λ e. CanFail (N.refuses nic.new) e.fault) }
 {
     let mut arena = arena;
-    let mut receive = match receive_ring(alloc, nic, &queue, &mut arena, places.receive, size) {
+    let mut receive = match receive_ring(
+        alloc,
+        nic,
+        &queue,
+        &mut arena,
+        places.receive,
+        size,
+        frame,
+    ) {
         Ok(receive) => receive,
         Err(unprepared) => return Err(left_before_one(alloc, queue, arena, unprepared)),
     };
-    let transmit = match transmit_ring(alloc, nic, &queue, &mut arena, places.transmit, size) {
+    let transmit = match transmit_ring(
+        alloc,
+        nic,
+        &queue,
+        &mut arena,
+        places.transmit,
+        size,
+        frame,
+    ) {
         Ok(transmit) => transmit,
         Err(unprepared) => return Err(left_after_one(alloc, queue, arena, receive, unprepared)),
     };
@@ -204,27 +233,29 @@ fn bring_up<N: Nic>(
 impl Pmd {
     /// Starts a driver of a queue, which is off: `size` descriptors for each ring, a multiple of 8 from 8 to 1,024.
     /// Each ring takes a run of blocks of the arena, one for every 128 descriptors, and `size` - 1 blocks are posted
-    /// for frames to come.
+    /// for frames to come, of `frame` bytes at most, with their frame check sequence: 1,518 to 9,728.
     ///
-    /// Before any event: `BadSize` where the size is another, `NoBuffer` where fewer blocks are free than that, or no
-    /// two such runs, and `DeviceFault` where the port can't name the queue. Then `DeviceFault` where a side of the
-    /// queue is on or the device answers what it can't on a healthy queue, `StartTimeout` where 1,000 polls show a side
-    /// off, and `Call` where a call was refused. Once a block was lent, the driver is left as it came.
+    /// Before any event: `BadSize` where the size or that length is another, `NoBuffer` where fewer blocks are free
+    /// than that, or no two such runs, and `DeviceFault` where the port can't name the queue. Then `DeviceFault` where
+    /// a side of the queue is on or the device answers what it can't on a healthy queue, `StartTimeout` where 1,000 polls
+    /// show a side off, and `Call` where a call was refused. Once a block was lent, the driver is left as it came.
     pub fn start<N: Nic>(
         alloc: Global,
         nic: &mut N,
         port: Port,
         queue: u16,
         size: u16,
+        frame: u16,
         arena: Arena,
     ) -> Result<Pmd, StartRefused>
-        ensures shut { IsShut (start_gate arena (record { port = port; queue = queue }) size) arena
+        ensures shut { IsShut (start_gate arena (record { port = port; queue = queue }) size frame) arena
             (N.made nic.old) (N.made nic.new) result }
-        ensures started { IfOk result (λ p. HasStarted (record { port = port; queue = queue }) size
+        ensures started { IfOk result (λ p. HasStarted (record { port = port; queue = queue }) size frame
             (N.made nic.old) arena (N.made nic.new) p) }
-        ensures stops { IfErr result (λ e. start_gate arena (record { port = port; queue = queue }) size ≡ None
-            → StopsStarting (record { port = port; queue = queue }) size (N.made nic.old) arena (N.made nic.new) e) }
-        ensures late { IfErr result (λ e. start_gate arena (record { port = port; queue = queue }) size ≡ None
+        ensures stops { IfErr result (λ e. start_gate arena (record { port = port; queue = queue }) size frame ≡ None
+            → StopsStarting (record { port = port; queue = queue }) size frame (N.made nic.old) arena
+            (N.made nic.new) e) }
+        ensures late { IfErr result (λ e. start_gate arena (record { port = port; queue = queue }) size frame ≡ None
             → ComesLate e.fault) }
         ensures none { IfOk result (λ p. handed_of p.rings ≡ []) }
         ensures left { IfErr result (λ e. left_handed e.rest ≡ []) }
@@ -235,8 +266,8 @@ impl Pmd {
         ensures refuses { N.refuses nic.new ≡ N.refuses nic.old }
         ensures refusal { IfErr result (λ e. CanFail (N.refuses nic.new) e.fault) }
     {
-        match named(&arena, port, queue, size) {
-            Ok((queue, places)) => bring_up(alloc, nic, queue, size, arena, places),
+        match named(&arena, port, queue, size, frame) {
+            Ok((queue, places)) => bring_up(alloc, nic, queue, size, frame, arena, places),
             Err(fault) => Err(at_home(alloc, fault, arena)),
         }
     }

@@ -1,13 +1,14 @@
 -- What the device and both halves of a driver agree on stands while the driver asks for its sides to be off.
-use Rattle.std.proofs.Common.{◌≡◌, ℕ, List, [], ◌∷◌, ◌++◌, refl, sym, ap, ◌∙◌, subst, cond}
+use Rattle.std.proofs.Common.{◌≡◌, ℕ, false, List, [], ◌∷◌, ◌++◌, refl, sym, ap, ◌∙◌, subst, cond}
 use Rattle.std.specs.Prelude.{IsFalse}
+use Rattle.std.proofs.lemmas.Bool.{both_ways}
 use Rattle.std.proofs.lemmas.List.{append-nil}
 use Rattle.nic_device.specs.DmaArena.Block.{Block}
 use Rattle.nic_device.specs.RegisterFile.Bits.{has_bit}
 use Rattle.nic_device.specs.RegisterFile.Pools.{mode_in}
 use Rattle.nic_device.specs.RegisterFile.Queue.{enable_row}
 use Rattle.nic_device.specs.DmaRing.declared.dir.Dir.{Dir}
-use Rattle.nic_device.specs.DmaRing.declared.dir.Dir.TheVariants.{Tx}
+use Rattle.nic_device.specs.DmaRing.declared.dir.Dir.TheVariants.{Rx, Tx}
 use Rattle.nic_device.specs.Sound.{IsEvent}
 use Rattle.nic_device.specs.State.{State, new_state}
 use Rattle.nic_device.specs.Step.{after, reply_to}
@@ -35,10 +36,16 @@ use Rattle.start_laws.proofs.Reached.{KeptOver, LeadsOver, reached, reached_next
 use Rattle.start_laws.proofs.Settled.{IsSettled, Settles, left_settles, word_settles}
 use Rattle.pmd.specs.Halves.{Halves}
 use Rattle.driver_laws.specs.Agreeing.{AreLent, BothAgree}
+use Rattle.driver_laws.specs.Enabling.{MayAsk}
 use Rattle.driver_laws.proofs.Enabling.{enable_words_keep}
 use Rattle.driver_laws.proofs.Meeting.{Meets, neither_keeps}
 
-module _ (w : Watched) (fifo : ℕ) (q : AtPort) (mine : Blocks) (k : Halves) where
+-- a word without bit 25 asks for no side
+none_asks : (side : Dir) (word : ℕ) (k : Halves) → has_bit 25 word ≡ false → MayAsk side word k
+none_asks Rx word k none = tt
+none_asks Tx word k none = λ asks. absurd (both_ways (has_bit 25 word) none asks)
+
+module _ (w : Watched) (fifo : ℕ) (q : AtPort) (frame : ℕ) (mine : Blocks) (k : Halves) where
   abbrev new : State
   new = new_state w.vfs fifo
 
@@ -47,7 +54,7 @@ module _ (w : Watched) (fifo : ℕ) (q : AtPort) (mine : Blocks) (k : Halves) wh
 
   -- they agree, with the frames that were sent since the transmit side went on, and it doesn't go on again
   pub record Keeps (done : List Entry) : Type 0 where
-    pub ground : HasGround w.queue q (reached w fifo done)
+    pub ground : HasGround w.queue q frame (reached w fifo done)
     pub out : List Piece
     pub both : BothAgree w.queue (reached w fifo done) out (sent done) k
     pub lent : AreLent mine k
@@ -55,7 +62,7 @@ module _ (w : Watched) (fifo : ℕ) (q : AtPort) (mine : Blocks) (k : Halves) wh
 
   -- the same behind an event
   record Next (done : List Entry) (e : Event Block) : Type 0 where
-    ground : HasGround w.queue q (after (reached w fifo done) e)
+    ground : HasGround w.queue q frame (after (reached w fifo done) e)
     out : List Piece
     both : BothAgree w.queue (after (reached w fifo done) e) out
         (sent done ++ sent_by w.queue (reached w fifo done) e) k
@@ -71,7 +78,7 @@ module _ (w : Watched) (fifo : ℕ) (q : AtPort) (mine : Blocks) (k : Halves) wh
       sent_is_counted.joined w.queue new [] done (e ∷ [])
       ∙ ap (λ b. cond b [] (sent done ++ sent_by w.queue s e.event)) x.settles.never in
       record {
-        ground = subst (HasGround w.queue q) there x.ground;
+        ground = subst (HasGround w.queue q frame) there x.ground;
         out = x.out;
         both =
             subst (λ (u : State). BothAgree w.queue u x.out (sent now) k) there
@@ -94,7 +101,7 @@ module _ (w : Watched) (fifo : ℕ) (q : AtPort) (mine : Blocks) (k : Halves) wh
       } in
       let kept = neither_keeps w mine mode s x.out (sent done) k m e left.made left.steps left.registers left.blocks in
       record {
-        ground = ground_kept w mine q s e left x.ground;
+        ground = ground_kept w mine q frame s e left x.ground;
         out = x.out ++ pieces w.queue s e;
         both = kept.0;
         settles = left_settles Tx w mine s e left x.settled;
@@ -106,13 +113,14 @@ module _ (w : Watched) (fifo : ℕ) (q : AtPort) (mine : Blocks) (k : Halves) wh
   word_next done side number word met made none named x =
       let s = reached w fifo done in
       let t = after s (event.Write q.port number word) in
-      let names = ground_names w.queue q s x.ground (enable_row side) number (side_driven side) named in record {
-        ground = write_ground w.queue q s (enable_row side) word number (side_driven side) named x.ground;
+      let names = ground_names w.queue q frame s x.ground (enable_row side) number (side_driven side) named in record {
+        ground = write_ground w.queue q frame s (enable_row side) word number (side_driven side) named x.ground;
         out = x.out;
         both =
             subst (λ (xs : List (List ℕ)). BothAgree w.queue t x.out xs k) (sym (append-nil (sent done)))
-            (enable_words_keep w.queue s side q.port number word x.out (sent done) k made names x.both);
-        settles = word_settles Tx w.queue q s number word met none x.ground side named x.settled;
+            (enable_words_keep w.queue s side q.port number word x.out (sent done) k made names
+            (none_asks side word k none) x.both);
+        settles = word_settles Tx w.queue q frame s number word met none x.ground side named x.settled;
       }
 
   asked_next : (done : List Entry) (e : Event Block) → IsMet w.queue (reached w fifo done) → IsEvent e → IsAsking q e

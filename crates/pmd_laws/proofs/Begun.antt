@@ -62,34 +62,34 @@ pub ring_free : (a : Numbers) (ring size : ℕ) (b : Numbers) (n : ℕ) → IsDr
 ring_free a ring size b n drawn is =
     drawn_free a (ring_blocks ring size) b n drawn ((ring_block_out ring size n).0 is)
 
-each_at_start : (port : Port) (tail ring size : ℕ) (P : ℕ → Type 0) → EachRingBlock ring size P
-    → Each (receive.at_start port tail ring size) P
-each_at_start port tail ring size P is =
+each_at_start : (port : Port) (tail ring size most : ℕ) (P : ℕ → Type 0) → EachRingBlock ring size P
+    → Each (receive.at_start port tail ring size most) P
+each_at_start port tail ring size most P is =
     record { ring = is; blocks = λ k low. absurd (omega (arith, low)); fresh = tt }
 
-pub lent_at_start : (port : Port) (tail ring size n : ℕ) → has_lent (transmit.at_start port tail ring size) n ≡ true
-    → is_ring_block ring size n ≡ true
-lent_at_start port tail ring size n is = elim (or_cases (is_ring_block ring size n) false is) [
+pub lent_at_start : (port : Port) (tail ring size limit n : ℕ)
+    → has_lent (transmit.at_start port tail ring size limit) n ≡ true → is_ring_block ring size n ≡ true
+lent_at_start port tail ring size limit n is = elim (or_cases (is_ring_block ring size n) false is) [
   | inl own ↦ own
   | inr none ↦ cc
 ]
 
-module _ (port : Port) (size ring tail other end : ℕ) where
+module _ (port : Port) (size most limit ring tail other end : ℕ) where
   abbrev pub at_first : Halves
   at_first = record {
-    receive = receive.at_start port tail ring size;
-    transmit = transmit.at_start port end other size;
+    receive = receive.at_start port tail ring size most;
+    transmit = transmit.at_start port end other size limit;
   }
 
   pub first_apart : ((n : ℕ) → is_ring_block other size n ≡ true → EachRingBlock ring size (λ b. b ≢ n))
       → AreApart at_first
   first_apart apart n is =
-      each_at_start port tail ring size (λ b. b ≢ n) (apart n (lent_at_start port end other size n is))
+      each_at_start port tail ring size most (λ b. b ≢ n) (apart n (lent_at_start port end other size limit n is))
 
   pub first_lent : (mine : Blocks) → EachRingBlock ring size (λ n. IsTrue (mine n))
       → EachRingBlock other size (λ n. IsTrue (mine n)) → AreLent mine at_first
   first_lent mine one two = record {
-    receive = each_at_start port tail ring size (λ b. IsTrue (mine b)) one;
+    receive = each_at_start port tail ring size most (λ b. IsTrue (mine b)) one;
     transmit = λ n is.
-        each_ring_block other size (λ b. IsTrue (mine b)) two n (lent_at_start port end other size n is);
+        each_ring_block other size (λ b. IsTrue (mine b)) two n (lent_at_start port end other size limit n is);
   }

@@ -1,5 +1,5 @@
 -- From the place on where both sides of a driver's queue are on, a history drives its halves.
-use Rattle.std.proofs.Common.{◌≡◌, ℕ, true, List, [], ◌++◌, sym, ◌∙◌, subst}
+use Rattle.std.proofs.Common.{ℕ, List, [], ◌++◌, sym, ◌∙◌, subst}
 use Rattle.nic_device.specs.DmaArena.Numbers.{Numbers}
 use Rattle.nic_device.specs.VfMap.declared.mode.Mode.TheVariants.{Off}
 use Rattle.nic_device.specs.State.{State, new_state}
@@ -9,7 +9,6 @@ use Rattle.device_lock.specs.declared.alone.Watched.{Watched}
 use Rattle.device_lock.specs.declared.entry.Call.{Call}
 use Rattle.device_lock.specs.declared.entry.Entry.{Entry}
 use Rattle.pmd.specs.Halves.{AllOwn, Doer, Halves}
-use Rattle.pmd.specs.Started.{is_size}
 use Rattle.pmd.specs.PmdSeam.Named.{AtPort}
 use Rattle.pmd.specs.PmdSeam.Slots.{EachRingBlock}
 use Rattle.pmd.specs.PmdRx.Receive.{Receive}
@@ -29,29 +28,29 @@ use Rattle.driver_laws.specs.Beside.{OthersHarmless}
 use Rattle.driver_laws.proofs.Beside.{harmless_leave_alone}
 use Rattle.pmd_laws.proofs.FirstHalves.{first_halves, halves_apart, halves_lent}
 
-module _ (w : Watched) (fifo : ℕ) (h : List Entry) (q : AtPort) (size : ℕ) (old : List Call) (a : Numbers)
-    (on : List Call) (v : Receive) (t : Sender) (up : AreOn q size old a on v t) (along : IsAlong w fifo h)
-    (sized : is_size size ≡ true) (well : BeforeLast w fifo h up.receive.quiet.0 (HasGround w.queue q))
-    (ys : List Call) (p : Parts w.pass h on ys) where
+module _ (w : Watched) (fifo : ℕ) (h : List Entry) (q : AtPort) (size frame : ℕ) (old : List Call) (a : Numbers)
+    (on : List Call) (v : Receive) (t : Sender) (up : AreOn q size frame old a on v t) (along : IsAlong w fifo h)
+    (well : BeforeLast w fifo h up.receive.quiet.0 (HasGround w.queue q frame)) (ys : List Call)
+    (p : Parts w.pass h on ys) where
   abbrev new : State
   new = new_state w.vfs fifo
 
   abbrev first : Halves
-  first = first_halves q size old a on v t up
+  first = first_halves q size frame old a on v t up
 
   agrees : Agree w.queue (leads_to new p.front) [] v × Agrees (leads_to new p.front) w.queue [] t
   agrees =
-      switched_sides_agree w fifo h q size old a on v t up along sized well p.front p.back p.both p.fronts
+      switched_sides_agree w fifo h q size frame old a on v t up along well p.front p.back p.both p.fronts
 
   pub went_on : WentOn w.queue new p.front
   went_on =
-      switched_sides_go_on w fifo h q size old a on v t up along sized well p.front p.back p.both p.fronts
+      switched_sides_go_on w fifo h q size frame old a on v t up along well p.front p.back p.both p.fronts
 
   one : EachRingBlock up.receive.ring size (λ n. IsLentBy w.pass n h)
-  one = ring_lent w fifo h q size old a on v t up along sized well p.front p.back p.both p.fronts
+  one = ring_lent w fifo h q size frame old a on v t up along up.sized well p.front p.back p.both p.fronts
 
   two : EachRingBlock up.transmit.ring size (λ n. IsLentBy w.pass n h)
-  two = other_lent w fifo h q size old a on v t up along sized well p.front p.back p.both p.fronts
+  two = other_lent w fifo h q size frame old a on v t up along up.sized well p.front p.back p.both p.fronts
 
   -- by the doers of the calls behind it
   pub driven_by : (doers : List Doer) → AllOwn first doers ys → OthersHarmless doers ys
@@ -65,13 +64,13 @@ module _ (w : Watched) (fifo : ℕ) (h : List Entry) (q : AtPort) (size : ℕ) (
         alone = subst (LeavesAlone w) all along.alone;
         begun =
             begun w.pass p.front
-            (λ none. on_some w fifo h q size old a on v t up along sized well (sym p.fronts ∙ none));
+            (λ none. on_some w fifo h q size frame old a on v t up along up.sized well (sym p.fronts ∙ none));
         on = went_on.received;
         up = went_on.receives;
-        agree = record { receive = agrees.0; transmit = agrees.1; apart = halves_apart q size old a on v t up };
+        agree = record { receive = agrees.0; transmit = agrees.1; apart = halves_apart q size frame old a on v t up };
         lent =
             subst (λ (l : List Entry). AreLent (lent_by w.pass l) first) all
-            (halves_lent q size old a on v t up (lent_by w.pass h) (λ k below. (one k below).mine)
+            (halves_lent q size frame old a on v t up (lent_by w.pass h) (λ k below. (one k below).mine)
             (λ k below. (two k below).mine));
         own = subst (AllOwn first doers) (sym p.backs) own;
         others =

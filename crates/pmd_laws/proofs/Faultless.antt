@@ -9,7 +9,6 @@ use Rattle.device_lock.specs.declared.entry.Entry.{Entry}
 use Rattle.pmd.specs.Apart.{DrivesApart, FindsFault}
 use Rattle.pmd.specs.Halves.{Halves, halves_of}
 use Rattle.pmd.specs.Running.{Running}
-use Rattle.pmd.specs.Started.{is_size}
 use Rattle.pmd.proofs.Apart.{apart_on}
 use Rattle.pmd.specs.PmdSeam.Named.{AtPort}
 use Rattle.start_laws.specs.Along.{BeforeLast}
@@ -20,10 +19,10 @@ use Rattle.pmd_laws.specs.Faultless as faultless
 use Rattle.pmd_laws.specs.Faultless.{IsFresh, IsToldApart, NoCallFindsFault}
 use Rattle.pmd_laws.specs.Told.{Moment, last}
 use Rattle.pmd_laws.proofs.LedApart.{led, owns_still}
-use Rattle.pmd_laws.proofs.Looks.{along_before, begins_before}
+use Rattle.pmd_laws.proofs.Lived.{along_before, begins_before}
 use Rattle.pmd_laws.proofs.NoFault.{no_fault_led_on}
 use Rattle.pmd_laws.proofs.PassLends.{others_before}
-use Rattle.pmd_laws.proofs.RunsOn.{RunsOn, open_size, up_next}
+use Rattle.pmd_laws.proofs.RunsOn.{RunsOn, up_next}
 use Rattle.pmd_laws.proofs.Told.{first, runs}
 
 -- calls that lead to such a call are part of it
@@ -49,14 +48,14 @@ last_before w fifo h before rest calls P all at done more e both own is =
     at done (more ++ rest) e
     (sym (append_assoc done (e ∷ more) rest) ∙ ap (λ (l : List Entry). l ++ rest) both ∙ all) own is
 
-module _ (w : Watched) (fifo : ℕ) (h : List Entry) (q : AtPort) (size : ℕ) (old : List Call) (a : Numbers)
+module _ (w : Watched) (fifo : ℕ) (h : List Entry) (q : AtPort) (size frame : ℕ) (old : List Call) (a : Numbers)
     (m : Moment) (later : List Moment) (n : Moment) (finds : faultless.FindsFault (last m later) n)
-    (x : IsToldApart w fifo h q size old a m later n) where
+    (x : IsToldApart w fifo h q size frame old a m later n) where
   abbrev fresh : Running
-  fresh = first q size old a m later x.told
+  fresh = first q size frame old a m later x.told
 
   abbrev goes : RunsOn m fresh (last m later)
-  goes = runs q size old a m later x.told
+  goes = runs q size frame old a m later x.told
 
   abbrev there : Halves
   there = halves_of goes.rings
@@ -65,20 +64,22 @@ module _ (w : Watched) (fifo : ℕ) (h : List Entry) (q : AtPort) (size : ℕ) (
   found =
       let (s, after, f) = up_next _ (last m later).driver.rings n.driver.rings goes.rings goes.up finds in
       subst (λ (own : Blocks). FindsFault own (last m later).made there n.made)
-      (λ i k. owns_still q size old a m later x.told k i) f
+      (λ i k. owns_still q size frame old a m later x.told k i) f
 
   refuted : Parts w.pass h n.made x.more → ⊥
   refuted p =
       let along = along_before w fifo h p.front p.back p.both x.along in
-      let sized = open_size size a old m.made m.driver (is_size size) _ x.told.shut in
-      let well = begins_before w fifo h p.front p.back p.both q size old a m.made fresh x.told.started.2 x.begins in
-      no_fault_led_on w fifo p.front q size old a x.told.started.2.on.mid x.told.started.2.empty fresh.transmit
-      (on w fifo p.front q size old a m.made fresh x.told.started.2 along sized well) along sized well.ground (is_own a)
-      (last_before w fifo h p.front p.back x.told.started.2.receive.quiet.0 (IsFresh w.queue (is_own a)) p.both x.fresh)
+      let well = begins_before w fifo h p.front p.back p.both q size frame old a m.made fresh x.told.started.2
+      x.begins in
+      no_fault_led_on w fifo p.front q size frame old a x.told.started.2.on.mid x.told.started.2.empty fresh.transmit
+      (on w fifo p.front q size frame old a m.made fresh x.told.started.2 along well) along
+      well.ground (is_own a)
+      (last_before w fifo h p.front p.back x.told.started.2.receive.quiet.0 (IsFresh w.queue frame (is_own a)) p.both
+      x.fresh)
       (others_before w.pass (is_own a) p.front p.back (subst (OnlyPassLends w.pass (is_own a)) (sym p.both) x.others))
-      (last m later).made there (led q size old a m later x.told)
+      (last m later).made there (led q size frame old a m later x.told)
       (subst (FindsFault (is_own a) (last m later).made there) (sym p.fronts) found)
 
 pub no_call_finds_fault : NoCallFindsFault
-no_call_finds_fault w fifo h q size old a m later n finds x =
-    refuted w fifo h q size old a m later n finds x (parts w.pass h n.made x.more x.made)
+no_call_finds_fault w fifo h q size frame old a m later n finds x =
+    refuted w fifo h q size frame old a m later n finds x (parts w.pass h n.made x.more x.made)

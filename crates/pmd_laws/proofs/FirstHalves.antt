@@ -5,6 +5,7 @@ use Rattle.std.proofs.lemmas.Bool.{both_ways, or_left, or_right}
 use Rattle.nic_device.specs.DmaArena.Numbers.{Numbers}
 use Rattle.device_lock.specs.Alone.{Blocks}
 use Rattle.device_lock.specs.declared.entry.Call.{Call}
+use Rattle.pmd.specs.PmdSeam.Frames.{most_blocks, packet_limit}
 use Rattle.pmd.specs.PmdSeam.Named.{AtPort}
 use Rattle.pmd.specs.PmdSeam.Slots.{is_ring_block, EachRingBlock}
 use Rattle.pmd.proofs.PmdSeam.Rings.{ring_block_among, ring_block_is}
@@ -17,13 +18,15 @@ use Rattle.start_laws.specs.On.{AreOn}
 use Rattle.pmd_laws.proofs.Begun.{at_first, first_apart, first_lent, ring_free, ring_gone}
 
 -- as both sides are on the receive ring is empty
-module _ (q : AtPort) (size : ℕ) (old : List Call) (a : Numbers) (new : List Call) (v : Receive) (t : Sender)
-    (up : AreOn q size old a new v t) where
+module _ (q : AtPort) (size frame : ℕ) (old : List Call) (a : Numbers) (new : List Call) (v : Receive) (t : Sender)
+    (up : AreOn q size frame old a new v t) where
   abbrev pub first_halves : Halves
   first_halves = record { receive = v; transmit = t }
 
   abbrev begun : Halves
-  begun = at_first q.port size up.receive.ring up.receive.tail up.transmit.ring up.transmit.tail
+  begun =
+      at_first q.port size (most_blocks frame) (packet_limit frame) up.receive.ring up.receive.tail up.transmit.ring
+      up.transmit.tail
 
   first_is : first_halves ≡ begun
   first_is = λ i. record { receive = up.receive.fresh i; transmit = up.transmit.fresh i }
@@ -31,7 +34,8 @@ module _ (q : AtPort) (size : ℕ) (old : List Call) (a : Numbers) (new : List C
   pub halves_apart : AreApart first_halves
   halves_apart =
       subst AreApart (sym first_is)
-      (first_apart q.port size up.receive.ring up.receive.tail up.transmit.ring up.transmit.tail
+      (first_apart q.port size (most_blocks frame) (packet_limit frame) up.receive.ring up.receive.tail
+      up.transmit.ring up.transmit.tail
       (λ n is k below same.
       both_ways (is_ring_block up.receive.ring size n)
       (ring_gone a up.receive.ring size up.ready_arena n up.receive.prepared.drawn
@@ -43,7 +47,8 @@ module _ (q : AtPort) (size : ℕ) (old : List Call) (a : Numbers) (new : List C
       → EachRingBlock up.transmit.ring size (λ n. IsTrue (mine n)) → AreLent mine first_halves
   halves_lent mine one two =
       subst (AreLent mine) (sym first_is)
-      (first_lent q.port size up.receive.ring up.receive.tail up.transmit.ring up.transmit.tail mine one two)
+      (first_lent q.port size (most_blocks frame) (packet_limit frame) up.receive.ring up.receive.tail
+      up.transmit.ring up.transmit.tail mine one two)
 
   -- both rings are lent
 

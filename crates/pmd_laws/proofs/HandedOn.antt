@@ -49,16 +49,16 @@ then_prefix xs ys zs (one, is) (two, more) =
 
 -- from where the receive side is settled on it doesn't go on
 
-module _ (w : Watched) (fifo : ℕ) (q : AtPort) (handed : List Kept) where
+module _ (w : Watched) (fifo : ℕ) (q : AtPort) (frame : ℕ) (handed : List Kept) where
   abbrev new : State
   new = new_state w.vfs fifo
 
   pub record Keeps (done : List Entry) : Type 0 where
-    pub ground : HasGround w.queue q (reached w fifo done)
+    pub ground : HasGround w.queue q frame (reached w fifo done)
     pub settled : IsSettled Rx w.queue (reached w fifo done)
     pub first : IsPrefixOf handed (delivered w.queue new done)
 
-  keeps_on : (done : List Entry) (e : Entry) → HasGround w.queue q (after (reached w fifo done) e.event)
+  keeps_on : (done : List Entry) (e : Entry) → HasGround w.queue q frame (after (reached w fifo done) e.event)
       → Settles Rx w.queue (reached w fifo done) (after (reached w fifo done) e.event) → Keeps done
       → Keeps (done ++ e ∷ [])
   keeps_on done e g on kept =
@@ -69,7 +69,7 @@ module _ (w : Watched) (fifo : ℕ) (q : AtPort) (handed : List Kept) where
       ap packets_if_any (since-append w.queue new None done (e ∷ []))
       ∙ ap (λ b. packets_if_any (cond b (Some []) (option_map (λ qs. qs ++ ps) so_far))) on.never in
       record {
-        ground = subst (HasGround w.queue q) (sym (reached_next w fifo done e)) g;
+        ground = subst (HasGround w.queue q frame) (sym (reached_next w fifo done e)) g;
         settled = subst (IsSettled Rx w.queue) (sym (reached_next w fifo done e)) on.settled;
         first =
             subst (IsPrefixOf handed) (sym more)
@@ -78,12 +78,12 @@ module _ (w : Watched) (fifo : ℕ) (q : AtPort) (handed : List Kept) where
 
   pub others_keep : (mine : Blocks) → KeptOver w fifo mine Keeps
   others_keep mine done e left kept =
-      keeps_on done e (ground_kept w mine q (reached w fifo done) e.event left kept.ground)
+      keeps_on done e (ground_kept w mine q frame (reached w fifo done) e.event left kept.ground)
       (left_settles Rx w mine (reached w fifo done) e.event left kept.settled) kept
 
   pub ending_keeps : (mine : Blocks) (c : Call) → IsEnding q c.event → LeadsOver w fifo mine c Keeps Keeps
   ending_keeps mine c own done e same met made told steps kept =
       let s = reached w fifo done in
       let ends : IsEnding q e.event = subst (λ (n : Call). IsEnding q n.event) (sym same) own in
-      keeps_on done e (plain_keeps w.queue q s e.event (ending_plain q e.event ends) kept.ground)
-      (ending_settles w.queue q s e.event met made ends kept.ground kept.settled) kept
+      keeps_on done e (plain_keeps w.queue q frame s e.event (ending_plain q e.event ends) kept.ground)
+      (ending_settles w.queue q frame s e.event met made ends kept.ground kept.settled) kept

@@ -11,7 +11,9 @@ use Rattle.pmd.specs.PmdSeam.Slots.{ring_blocks}
 use Rattle.pmd.proofs.PmdSeam.Rings.{each_ring_block, ring_block_among}
 use Rattle.pmd.specs.PmdRx.Keeping as received
 use Rattle.pmd.specs.PmdRx.Keeping.{fresh_block}
-use Rattle.pmd.specs.PmdRx.Receive.{Receive, Stage, Looks, Sees, Holding, Lent, Named}
+use Rattle.pmd.specs.PmdRx.Receive.{Receive}
+use Rattle.pmd.specs.PmdRx.declared.ring.Stage.{Stage}
+use Rattle.pmd.specs.PmdRx.declared.ring.Stage.TheVariants.{Looks, Takes, Owes, Lent, Named}
 use Rattle.pmd.specs.PmdTx.Sending as sending
 use Rattle.start_laws.specs.ReceiveLaws.Pieces.{Piece}
 use Rattle.start_laws.specs.ReceiveLaws.Steps.{Each, IfFresh}
@@ -39,10 +41,10 @@ only P n b is has = elim (or_cases (n == b) false is) as (λ _. P n) [
 fresh_has : (P : ℕ → Type 0) (n : ℕ) (stage : Stage) → IfFresh stage P
     → list_any (λ b. n == b) (fresh_block stage) ≡ true → P n
 fresh_has P n Looks has is = cc
-fresh_has P n (Sees first second) has is = cc
-fresh_has P n (Holding p) has is = cc
-fresh_has P n (Lent o b) has is = only P n b is has
-fresh_has P n (Named o b) has is = only P n b is has
+fresh_has P n Takes has is = cc
+fresh_has P n Owes has is = cc
+fresh_has P n (Lent b) has is = only P n b is has
+fresh_has P n (Named b) has is = only P n b is has
 
 part : (P : ℕ → Type 0) (n : ℕ) (xs ys : List ℕ) → (list_any (λ b. n == b) xs ≡ true → P n)
     → (list_any (λ b. n == b) ys ≡ true → P n) → list_any (λ b. n == b) (xs ++ ys) ≡ true → P n

@@ -76,9 +76,9 @@ module _ (q : AtPort) where
       (accesses_stay (ring_words Rx ring size) old x.mid (words_keep ring size) x.words)
       (lends_stay Off (ring_blocks ring size) x.mid new x.lent)
 
-  pub receive_ready : (size : ℕ) (old : List Call) (a : Numbers) (new : List Call) (b : Numbers) (v : Receive)
-      → IsReceiveReady q size old a new b v → Stay Off old new
-  receive_ready size old a new b v x =
+  pub receive_ready : (size frame : ℕ) (old : List Call) (a : Numbers) (new : List Call) (b : Numbers) (v : Receive)
+      → IsReceiveReady q size frame old a new b v → Stay Off old new
+  receive_ready size frame old a new b v x =
       then_made (Stays q Off) old x.mid new (accesses_stay both_quiet old x.mid quiet_keep x.quiet)
       (receive_prepared size x.mid a new b x.ring x.prepared)
 
@@ -96,14 +96,14 @@ module _ (q : AtPort) where
       (lending_stays Off f stops.mid new _ stops.fails)))
 
   -- both sides go on, and the receive ring is filled
-  pub going_on_fails : (f : PmdFault) (old : List Call) (a : Numbers) (tail ring size : ℕ) (new : List Call)
+  pub going_on_fails : (f : PmdFault) (old : List Call) (a : Numbers) (tail ring size most : ℕ) (new : List Call)
       (b : Numbers) (w : Receive) → IsNumberOf q.port Rdt q.queue tail
-      → GoingOnFails f q old a (at_start q.port tail ring size) new b w → Stay Empty old new
-  going_on_fails f old a tail ring size new b w named (inl (fails, same, is)) =
+      → GoingOnFails f q old a (at_start q.port tail ring size most) new b w → Stay Empty old new
+  going_on_fails f old a tail ring size most new b w named (inl (fails, same, is)) =
       unswitched_are q (Stays q Empty) (Keeps Empty) (step_stays q Empty) (λ port number. refl) (keeps_write q Empty)
       true (λ side seen. tt) asked_keep f old new fails
-  going_on_fails f old a tail ring size new b w named (inr (mid, switched, stops)) =
+  going_on_fails f old a tail ring size most new b w named (inr (mid, switched, stops)) =
       then_made (Stays q Empty) old mid new
       (switched_are q (Stays q Empty) (Keeps Empty) (step_stays q Empty) (λ port number. refl) (keeps_write q Empty)
       true (λ side seen. tt) asked_keep old mid switched)
-      (plays_stay q Empty mid (at_start q.port tail ring size) new w (refl, named) stops.made.plays)
+      (plays_stay q Empty mid (at_start q.port tail ring size most) new w (refl, named) stops.made.plays)

@@ -1,14 +1,13 @@
 -- The calls by which a receive ring is filled lay out no more of a transmit ring.
-use Rattle.std.proofs.Common.{◌≡◌, ℕ, Bool, true, false, List, [], ◌∷◌, refl, sym, ◌∙◌, subst}
+use Rattle.std.proofs.Common.{◌≡◌, Bool, true, false, List, [], ◌∷◌, refl, sym, ◌∙◌, subst}
 use Rattle.nic_device.specs.DmaArena.Block.{Block}
 use Rattle.nic_device.specs.RegTable.declared.rows.RowId.TheVariants.{Rdt}
 use Rattle.nic_device.specs.declared.event.Event.{Event}
 use Rattle.nic_device.specs.declared.event.Event.TheVariants as event
-use Rattle.nic_device.specs.declared.event.Port.{Port}
 use Rattle.device_lock.specs.declared.entry.Call.{Call}
 use Rattle.pmd.specs.PmdSeam.Named.{AtPort, IsNumberOf}
 use Rattle.pmd.specs.PmdRx.Plays.{AllOwn, OthersStep, Plays}
-use Rattle.pmd.specs.PmdRx.Receive.{IsOwn, Layout, MovesNext, Named, Receive, Stage, drive}
+use Rattle.pmd.specs.PmdRx.Receive.{IsOwn, Receive, drive}
 use Rattle.start_laws.specs.Ending.{Each}
 use Rattle.start_laws.specs.Laid.{Laid}
 use Rattle.start_laws.specs.Stopping.{AreMadeOf}
@@ -20,14 +19,15 @@ module _ (q : AtPort) (l : Laid) where
   abbrev pub AtTail : Receive → Type 0
   AtTail v = (v.layout.port ≡ q.port) × IsNumberOf q.port Rdt q.queue v.layout.tail
 
-  moves_stay : (y : Layout) (s : Stage) (port : Port) (number word : ℕ) → MovesNext y s port number word
-      → y.port ≡ q.port → IsNumberOf q.port Rdt q.queue y.tail → Stays q l (event.Write port number word)
-  moves_stay y (Named o b) port number word (to, is, what) same named =
-      (Rdt, to ∙ same, refl, subst (λ n. IsNumberOf q.port Rdt q.queue n) (sym is) named, tt, refl)
-  moves_stay y other port number word own same named = absurd own
-
   own_stays : (v : Receive) (e : Event Block) → IsOwn v e → AtTail v → Stays q l e
-  own_stays v (event.Write port number word) own at = moves_stay v.layout v.stage port number word own at.0 at.1
+  own_stays v (event.Write port number word) own at = (
+    Rdt,
+    own.port_is ∙ at.0,
+    refl,
+    subst (λ n. IsNumberOf q.port Rdt q.queue n) (sym own.number_is) at.1,
+    tt,
+    refl,
+  )
   own_stays v e own at = refl
 
   all_stay : (v : Receive) (marks : List Bool) (calls : List Call) → AllOwn v marks calls → OthersStep marks calls

@@ -4,6 +4,7 @@ use Rattle.nic_device.specs.DmaArena.Numbers.{Numbers}
 use Rattle.nic_device.specs.DmaRing.declared.dir.Dir.TheVariants.{Tx}
 use Rattle.device_lock.specs.declared.entry.Call.{Call}
 use Rattle.pmd.specs.PmdSeam.declared.fault.PmdFault.{PmdFault}
+use Rattle.pmd.specs.PmdSeam.Frames.{most_blocks}
 use Rattle.pmd.specs.PmdSeam.Named.{AtPort}
 use Rattle.pmd.specs.PmdSeam.Slots.{ring_blocks}
 use Rattle.pmd.specs.PmdRx.Receive.{Receive}
@@ -16,7 +17,7 @@ use Rattle.pmd_laws.proofs.LaidAccesses.{going_on_fails, lending_stays, lends_st
 use Rattle.pmd_laws.proofs.LaidCalls.{LaysBetween, stays_between, then_between}
 use Rattle.pmd_laws.proofs.LaidWords.{LaysSome, words_lay, words_stop}
 
-module _ (q : AtPort) (size : ℕ) (is : is_size size ≡ true) where
+module _ (q : AtPort) (size frame : ℕ) (is : is_size size ≡ true) where
   -- the transmit ring
 
   transmit_prepared : (old : List Call) (a : Numbers) (new : List Call) (b : Numbers) (ring : ℕ)
@@ -45,16 +46,17 @@ module _ (q : AtPort) (size : ℕ) (is : is_size size ≡ true) where
   -- a start that was refused amid its events
 
   after_one : (old : List Call) (a : Numbers) (new : List Call) (e : StartRefused)
-      → StopsAfterOne q size old a new e → LaysSome q Off old new
+      → StopsAfterOne q size frame old a new e → LaysSome q Off old new
   after_one old a new e x =
       let (last, more) = transmit_fails e.fault x.made x.ready_arena new x.arena x.out x.fails in (
         last,
         then_between q Off Off last old x.made new
-            (stays_between q Off old x.made (receive_ready q size old a x.made x.ready_arena x.empty x.receive)) more,
+            (stays_between q Off old x.made (receive_ready q size frame old a x.made x.ready_arena x.empty x.receive))
+            more,
       )
 
   after_both : (old : List Call) (a : Numbers) (new : List Call) (e : StartRefused)
-      → StopsAfterBoth q size old a new e → LaysSome q Off old new
+      → StopsAfterBoth q size frame old a new e → LaysSome q Off old new
   after_both old a new e x =
       let ring = x.receive.ring in
       let fails = subst
@@ -63,17 +65,17 @@ module _ (q : AtPort) (size : ℕ) (is : is_size size ≡ true) where
         Empty,
         then_between q Off Off Empty old x.ready_made new
             (stays_between q Off old x.ready_made
-            (receive_ready q size old a x.ready_made x.ready_arena x.empty x.receive))
+            (receive_ready q size frame old a x.ready_made x.ready_arena x.empty x.receive))
             (then_between q Off Empty Empty x.ready_made x.both_made new
             (transmit_prepared x.ready_made x.ready_arena x.both_made x.both_arena x.transmit.ring
             x.transmit.prepared)
             (stays_between q Empty x.both_made new
-            (going_on_fails q e.fault x.both_made x.both_arena x.receive.tail ring size new x.arena x.filled
-            x.receive.named fails))),
+            (going_on_fails q e.fault x.both_made x.both_arena x.receive.tail ring size (most_blocks frame) new x.arena
+            x.filled x.receive.named fails))),
       )
 
   pub starting_lays : (old : List Call) (a : Numbers) (new : List Call) (e : StartRefused)
-      → StopsStarting q size old a new e → LaysSome q Off old new
+      → StopsStarting q size frame old a new e → LaysSome q Off old new
   starting_lays old a new e (inl x) =
       (Off, stays_between q Off old new (receive_fails q e.fault size old a new x.arena x.out x.fails))
   starting_lays old a new e (inr (inl x)) = after_one old a new e x

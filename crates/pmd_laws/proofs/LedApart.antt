@@ -16,20 +16,20 @@ use Rattle.pmd_laws.proofs.Lends.{fresh_own, life_lends_apart}
 use Rattle.pmd_laws.proofs.RunsOn.{RunsOn}
 use Rattle.pmd_laws.proofs.Told.{first, runs}
 
-module _ (q : AtPort) (size : ℕ) (old : List Call) (a : Numbers) (m : Moment) (later : List Moment)
-    (x : IsTold q size old a m later) where
+module _ (q : AtPort) (size frame : ℕ) (old : List Call) (a : Numbers) (m : Moment) (later : List Moment)
+    (x : IsTold q size frame old a m later) where
   abbrev fresh : Running
-  fresh = first q size old a m later x
+  fresh = first q size frame old a m later x
 
   abbrev goes : RunsOn m fresh (last m later)
-  goes = runs q size old a m later x
+  goes = runs q size frame old a m later x
 
   -- as its start answered it, it lived
-  abbrev lives : Lives q size old a m.made fresh
+  abbrev lives : Lives q size frame old a m.made fresh
   lives = record { made = m.made; fresh = fresh; up = x.started.2; drives = rings_still m.made fresh }
 
   abbrev pub begins : Halves
-  begins = first_of q size old a m.made fresh lives
+  begins = first_of q size frame old a m.made fresh lives
 
   abbrev there : Halves
   there = halves_of goes.rings
@@ -38,10 +38,10 @@ module _ (q : AtPort) (size : ℕ) (old : List Call) (a : Numbers) (m : Moment) 
   led =
       apart_leads_on (is_own a) x.started.2.on.mid m.made (last m later).made begins (halves_of fresh) there
       (driven_apart (is_own a) x.started.2.on.mid m.made begins (halves_of fresh)
-      (life_lends_apart q size old a m.made fresh lives))
+      (life_lends_apart q size frame old a m.made fresh lives))
       (subst (λ (own : Blocks). LeadsApart own m.made (halves_of fresh) (last m later).made there)
-      (λ i k. fresh_own q size old a m.made fresh lives k i) goes.leads.apart)
+      (λ i k. fresh_own q size frame old a m.made fresh lives k i) goes.leads.apart)
 
   -- its arena keeps its numbers
   pub owns_still : OwnsSame a goes.rings.arena
-  owns_still k = goes.leads.owns k ∙ fresh_own q size old a m.made fresh lives k
+  owns_still k = goes.leads.owns k ∙ fresh_own q size frame old a m.made fresh lives k

@@ -1,7 +1,9 @@
+pub use Rattle.start_laws.proofs as StartLaws
 pub mod Asked
 pub mod Begun
 pub mod Books
 pub mod Driven
+pub mod Earlier
 pub mod Ends
 pub mod Faultless
 pub mod FirstHalves
@@ -17,6 +19,7 @@ pub mod LaidWords
 pub mod LedApart
 pub mod Lends
 pub mod LentSince
+pub mod Lived
 pub mod Looks
 pub mod NoFault
 pub mod OnePlace

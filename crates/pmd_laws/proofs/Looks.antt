@@ -1,35 +1,33 @@
 -- A look that finds no packet, within a longer history.
-use Rattle.std.proofs.Common.{◌≡◌, ℕ, List, [], ◌∷◌, ◌++◌, refl, sym, ap, ◌∙◌, subst, append_assoc}
+use Rattle.std.proofs.Common.{◌≡◌, ℕ, List, [], ◌∷◌, ◌++◌, length, refl, sym, ap, ◌∙◌, subst, append_assoc}
 use Rattle.std.proofs.lemmas.List.{same_from_push}
 use Rattle.nic_device.specs.DmaArena.Numbers.{Numbers}
-use Rattle.nic_device.specs.State.{new_state}
+use Rattle.nic_device.specs.State.{State, new_state}
 use Rattle.nic_device.specs.Step.{reply_to}
 use Rattle.nic_device.specs.declared.event.Event.TheVariants as event
 use Rattle.nic_device.specs.declared.event.Reply.TheVariants as reply
-use Rattle.device_lock.specs.Alone.{LeavesAlone}
-use Rattle.device_lock.specs.History.{IsLegal, AreEvents, call_in, calls_of, leads_to}
+use Rattle.device_lock.specs.History.{IsLegal, call_in, calls_of, leads_to}
 use Rattle.device_lock.specs.Pass.{call_of}
 use Rattle.device_lock.specs.declared.alone.Watched.{Watched}
 use Rattle.device_lock.specs.declared.entry.Call.{Call}
 use Rattle.device_lock.specs.declared.entry.Entry.{Entry}
-use Rattle.start_laws.proofs.HistoryLaws.Beginning.{beginning_alone}
 use Rattle.pmd.specs.Running.{Running}
-use Rattle.pmd.specs.Started.{AreUp}
 use Rattle.pmd.specs.PmdSeam.Named.{AtPort}
 use Rattle.pmd.specs.PmdRx.Receive.{Receive, descriptor_at}
 use Rattle.start_laws.specs.ReceiveLaws.Delivered.{delivered}
 use Rattle.start_laws.specs.ReceiveLaws.Histories.{FindsNone}
-use Rattle.start_laws.proofs.ReceiveLaws.Delivering.{events_before, legal_behind}
+use Rattle.start_laws.proofs.ReceiveLaws.Delivering.{legal_behind}
 use Rattle.start_laws.specs.Along.{IsAlong}
-use Rattle.start_laws.specs.Start.{BeginsWell}
-use Rattle.start_laws.proofs.Along.{legal_before}
-use Rattle.start_laws.proofs.Parts.{around}
+use Rattle.start_laws.proofs.Parts.{Parts, around}
 use Rattle.pmd.specs.Halves.{Halves, halves_of}
-use Rattle.driver_laws.specs.Beside.{Leads}
-use Rattle.driver_laws.proofs.Beside.{harmless_lead, leads_on, steps_harmless}
-use Rattle.pmd_laws.specs.Life.{IsLife}
-use Rattle.pmd_laws.specs.Looks.{CallsEnd, EndsAt, LooksInVain, NoneIsAllBefore}
+use Rattle.pmd.proofs.Followed.{receiving_drives}
+use Rattle.driver_laws.specs.Beside.{AddsHarmless, Leads}
+use Rattle.driver_laws.proofs.Beside.{drives_lead, harmless_lead, leads_on, steps_harmless}
+use Rattle.driver_laws.proofs.Earlier.{none_is_all_before}
+use Rattle.pmd_laws.specs.Looks.{CallsEnd, EndsAt, LooksInVain, NoneIsAllAtFirst, NoneIsAllBefore}
 use Rattle.pmd_laws.specs.Order.{IsLived}
+use Rattle.pmd_laws.proofs.Earlier.{early_parts, late_parts, lived_early, lived_then, parts_join}
+use Rattle.pmd_laws.proofs.Order as order
 use Rattle.pmd_laws.proofs.Order.{none_of_life}
 
 -- the entry of a call that the pass made
@@ -42,43 +40,6 @@ calls_end pass h calls more c is =
       all = x.all;
       made = λ i. x.made i ++ x.call i ∷ [];
     }
-
--- what begins a history is one too
-
-module _ (w : Watched) (fifo : ℕ) (h before rest : List Entry) (all : before ++ rest ≡ h) where
-  pub along_before : IsAlong w fifo h → IsAlong w fifo before
-  along_before x = record {
-    small = x.small;
-    new = x.new;
-    events = events_before before rest (subst AreEvents (sym all) x.events);
-    legal = legal_before (new_state w.vfs fifo) before rest (subst (IsLegal (new_state w.vfs fifo)) (sym all) x.legal);
-    alone = beginning_alone w before rest (subst (LeavesAlone w) (sym all) x.alone);
-  }
-
-  pub begins_before : (q : AtPort) (size : ℕ) (old : List Call) (a : Numbers) (new : List Call) (r : Running)
-      (up : AreUp q size old a new r) → BeginsWell w fifo h q size old a new r up
-      → BeginsWell w fifo before q size old a new r up
-  begins_before q size old a new r up x = record {
-    ground = λ done more e both own is.
-        x.ground done (more ++ rest) e
-        (sym (append_assoc done (e ∷ more) rest) ∙ ap (λ (l : List Entry). l ++ rest) both ∙ all) own is;
-  }
-
-  -- and a life up to there, where its calls lead to these halves
-  abbrev pub lived_before : (q : AtPort) (size : ℕ) (old : List Call) (a : Numbers) (started : List Call)
-      (r : Running) (made calls : List Call) (j k : Halves) (life : IsLife q size old a started r made j)
-      → IsAlong w fifo h → BeginsWell w fifo h q size old a started r life.up
-      → Leads started (halves_of r) calls k → calls_of w.pass before ≡ calls
-      → IsLived w fifo before q size old a started r k
-  lived_before q size old a started r made calls j k life along begins goes is = record {
-    along = along_before along;
-    life = record {
-      sized = life.sized;
-      up = life.up;
-      since = subst (λ (cs : List Call). Leads started (halves_of r) cs k) (sym is) goes;
-    };
-    begins = begins_before q size old a started r life.up begins;
-  }
 
 -- a call is answered by the device
 pub answered : (w : Watched) (fifo : ℕ) (h : List Entry) (calls : List Call) (c : Call) → IsAlong w fifo h
@@ -98,34 +59,107 @@ ends_with pass h old more calls c is at =
     same_from_push (calls_of pass at.before) (old ++ more) (call_in at.entry) c
     (at.made ∙ is ∙ sym (append_assoc old more (c ∷ [])))
 
-module _ (w : Watched) (fifo : ℕ) (h : List Entry) (q : AtPort) (size : ℕ) (old : List Call) (a : Numbers)
+module _ (w : Watched) (fifo : ℕ) (h : List Entry) (q : AtPort) (size frame : ℕ) (old : List Call) (a : Numbers)
     (started : List Call) (r : Running) (made : List Call) (k : Halves) (new : List Call) (v : Receive)
-    (x : LooksInVain w fifo h q size old a started r made k new v) where
+    (x : LooksInVain w fifo h q size frame old a started r made k new v) where
+  abbrev begun : State
+  begun = new_state w.vfs fifo
+
+  abbrev late : List Entry
+  late = x.look.before
+
+  abbrev rest : List Entry
+  rest = x.look.entry ∷ x.look.behind
+
+  abbrev others : List Call
+  others = x.looks.last.0
+
+  abbrev calls : List Call
+  calls = x.looks.mid ++ others
+
   abbrev looking : Call
-  looking = call_of (event.Peek16 (descriptor_at k.receive.layout 0)) (reply.Bytes x.looks.1)
+  looking = call_of (event.Peek16 (descriptor_at v.layout (length v.seen))) (reply.Bytes x.looks.bytes)
 
-  ends : (calls_of w.pass x.look.before ≡ made ++ x.looks.0) × (call_in x.look.entry ≡ looking)
-  ends = ends_with w.pass h made x.looks.0 new looking x.looks.2 x.look
+  -- the halves at the last look
 
-  goes_on : Leads started (halves_of r) (made ++ x.looks.0) k
+  abbrev then : Halves
+  then = record k { receive = v }
+
+  ends : (calls_of w.pass late ≡ calls) × (call_in x.look.entry ≡ looking)
+  ends = ends_with w.pass h x.looks.mid others new looking x.looks.last.1 x.look
+
+  goes_on : Leads started (halves_of r) calls then
   goes_on =
-      leads_on started made (made ++ x.looks.0) (halves_of r) k k x.life.since
-      (harmless_lead made (made ++ x.looks.0) k (x.looks.0, refl, steps_harmless x.looks.0 x.looks.7))
+      leads_on started x.looks.mid calls (halves_of r) then then
+      (leads_on started made x.looks.mid (halves_of r) k then x.life.since
+      (drives_lead made x.looks.mid k then (receiving_drives made x.looks.mid k then x.looks.looks refl)))
+      (harmless_lead x.looks.mid calls then (others, refl, steps_harmless others x.looks.last.2))
 
-  finds : FindsNone (leads_to (new_state w.vfs fifo) x.look.before) k.receive
+  abbrev lived : IsLived w fifo late q size frame old a started r then
+  lived =
+      lived_then w fifo h q size frame old a started r made k x.life x.along x.begins late rest x.look.all calls then
+      goes_on ends.0
+
+  finds : FindsNone (leads_to begun late) v
   finds = record {
-    holds_none = x.looks.4;
-    posted = x.looks.5;
-    bytes = x.looks.1;
+    looks = x.looks.stage;
+    posted = x.looks.posted;
+    bytes = x.looks.bytes;
     reply = answered w fifo h new looking x.along x.look ends.1;
-    waits = x.looks.3;
+    waits = x.looks.waits;
   }
 
-  all_before : k.receive.handed ≡ delivered w.queue (new_state w.vfs fifo) x.look.before
-  all_before =
-      none_of_life w fifo x.look.before q size old a started r k
-      (lived_before w fifo h x.look.before (x.look.entry ∷ x.look.behind) x.look.all q size old a started r made
-      (made ++ x.looks.0) k k x.life x.along x.begins goes_on ends.0) finds
+  -- looks hand out nothing
+  same : v.handed ≡ k.receive.handed
+  same = ap (λ (z : Receive). z.handed) x.looks.left
+
+  all_before : k.receive.handed ≡ delivered w.queue begun late
+  all_before = sym same ∙ none_of_life w fifo late q size frame old a started r then lived finds
+
+  module _ (early more : List Entry) (all : early ++ more ≡ late) (is : AddsHarmless made (calls_of w.pass early))
+    where
+      abbrev lived_here : IsLived w fifo early q size frame old a started r k
+      lived_here =
+          lived_early w fifo h q size frame old a started r made k x.life x.along x.begins late rest x.look.all calls
+          then goes_on ends.0 early more all is
+
+      -- both places, from where the sides went on
+
+      abbrev p : Parts w.pass early x.life.up.on.mid
+          (order.whole w fifo early q size frame old a started r k lived_here).1
+      p =
+          early_parts w fifo h q size frame old a started r made k x.life x.along x.begins late rest x.look.all calls
+          then goes_on ends.0 early more all is
+
+      abbrev p_late : Parts w.pass late x.life.up.on.mid
+          (order.whole w fifo late q size frame old a started r then lived).1
+      p_late =
+          late_parts w fifo h q size frame old a started r made k x.life x.along x.begins late rest x.look.all calls
+          then goes_on ends.0 early more all is
+
+      abbrev both : p.front ++ (p.back ++ more) ≡ late
+      both =
+          parts_join w fifo h q size frame old a started r made k x.life x.along x.begins late rest x.look.all calls
+          then goes_on ends.0 early more all is
+
+      all_at_first : k.receive.handed ≡ delivered w.queue begun early
+      all_at_first =
+          let here = order.last w fifo early q size frame old a started r k lived_here p in
+          let there = order.last w fifo late q size frame old a started r then lived p_late in
+          ap (λ (z : Halves). z.receive.handed) (sym here)
+          ∙ none_is_all_before w fifo p.front p.back more
+          (order.first w fifo late q size frame old a started r then lived)
+          (order.whole w fifo early q size frame old a started r k lived_here).0
+          (order.whole w fifo late q size frame old a started r then lived).0
+          (order.driven w fifo early q size frame old a started r k lived_here p)
+          (order.driven w fifo late q size frame old a started r then lived p_late)
+          (subst (λ (z : Halves). FindsNone (leads_to begun (p.front ++ (p.back ++ more))) z.receive) (sym there)
+          (subst (λ (l : List Entry). FindsNone (leads_to begun l) v) (sym both) finds))
+          (ap (λ (z : Halves). z.receive.handed) there ∙ same ∙ ap (λ (z : Halves). z.receive.handed) (sym here))
+          ∙ ap (delivered w.queue begun) p.both
 
 pub none_before_look : NoneIsAllBefore
 none_before_look = all_before
+
+pub none_at_first : NoneIsAllAtFirst
+none_at_first = all_at_first

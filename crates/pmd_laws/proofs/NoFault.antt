@@ -1,17 +1,18 @@
 -- From the place on where both sides of a driver's queue are on, no call of its finds the device at fault.
-use Rattle.std.proofs.Common.{◌≡◌, ◌≤◌, ℕ, true, List, ◌++◌, refl, sym, ap, ◌∙◌, subst, append_assoc, arith}
+use Rattle.std.proofs.Common.{◌≡◌, ℕ, List, ◌++◌, refl, sym, ap, ◌∙◌, subst, append_assoc}
 use Rattle.std.proofs.lemmas.List.{append_cancel_left}
 use Rattle.nic_device.specs.DmaArena.Numbers.{Numbers}
+use Rattle.nic_device.specs.State.{new_state}
 use Rattle.device_lock.specs.Alone.{Blocks}
-use Rattle.device_lock.specs.History.{calls_of}
+use Rattle.device_lock.specs.History.{calls_of, leads_to}
 use Rattle.device_lock.specs.declared.alone.Watched.{Watched}
 use Rattle.device_lock.specs.declared.entry.Call.{Call}
 use Rattle.device_lock.specs.declared.entry.Entry.{Entry}
 use Rattle.pmd.specs.Apart.{AllLendApart, FindsFault}
 use Rattle.pmd.specs.Halves.{AllOwn, Doer, Halves, played_by}
-use Rattle.pmd.specs.Started.{is_size}
 use Rattle.pmd.proofs.Apart.{apart_none}
 use Rattle.pmd.proofs.Followed.{both_own, own_length}
+use Rattle.pmd.specs.PmdSeam.Frames.{most_blocks}
 use Rattle.pmd.specs.PmdSeam.Named.{AtPort}
 use Rattle.pmd.specs.PmdRx.Receive.{Receive}
 use Rattle.pmd.specs.PmdTx.Sending.{Sender}
@@ -22,30 +23,34 @@ use Rattle.start_laws.proofs.Parts.{Parts, calls_joined, parts}
 use Rattle.driver_laws.specs.Beside.{OthersHarmless}
 use Rattle.driver_laws.proofs.Beside.{harmless_both, others_harmless}
 use Rattle.driver_laws.proofs.LeadsApart.{LeadsApart, driven_apart}
-use Rattle.driver_laws.specs.Before.{OnlyPassLends}
+use Rattle.driver_laws.specs.Before.{AreShort, OnlyPassLends}
 use Rattle.driver_laws.specs.Faults.{doers_of}
 use Rattle.driver_laws.specs.Healthy.{IsUnshared, lent_by}
 use Rattle.driver_laws.proofs.Faults.{no_fault}
 use Rattle.pmd_laws.specs.Faultless.{IsFresh}
 use Rattle.pmd_laws.proofs.Driven.{driven_by}
 use Rattle.pmd_laws.proofs.FirstHalves.{first_halves, receive_lent, transmit_lent}
-use Rattle.pmd_laws.proofs.OnlyRings.{known_at, short_at}
+use Rattle.pmd_laws.proofs.OnlyRings.{known_at, short_at, short_by}
 use Rattle.pmd_laws.proofs.PassLends.{others_behind}
 use Rattle.pmd_laws.proofs.RiseCalls.{Rises, on_rises}
 use Rattle.pmd_laws.proofs.SickCall.{made, made_is, others_step, own_all}
 
-module _ (w : Watched) (fifo : ℕ) (h : List Entry) (q : AtPort) (size : ℕ) (old : List Call) (a : Numbers)
-    (on : List Call) (v : Receive) (t : Sender) (up : AreOn q size old a on v t) (along : IsAlong w fifo h)
-    (sized : is_size size ≡ true) (well : BeforeLast w fifo h up.receive.quiet.0 (HasGround w.queue q)) (own : Blocks)
-    (fresh : BeforeLast w fifo h up.receive.quiet.0 (IsFresh w.queue own)) (others : OnlyPassLends w.pass own h)
+module _ (w : Watched) (fifo : ℕ) (h : List Entry) (q : AtPort) (size frame : ℕ) (old : List Call) (a : Numbers)
+    (on : List Call) (v : Receive) (t : Sender) (up : AreOn q size frame old a on v t) (along : IsAlong w fifo h)
+    (well : BeforeLast w fifo h up.receive.quiet.0 (HasGround w.queue q frame)) (own : Blocks)
+    (fresh : BeforeLast w fifo h up.receive.quiet.0 (IsFresh w.queue frame own)) (others : OnlyPassLends w.pass own h)
   where
     abbrev first : Halves
-    first = first_halves q size old a on v t up
+    first = first_halves q size frame old a on v t up
+
+    -- the driver takes as many blocks for a packet as its start was told
+    most_is : first.receive.layout.most ≡ most_blocks frame
+    most_is = ap (λ (r : Receive). r.layout.most) up.receive.fresh
 
     rises : Rises q (lent_by first) up.receive.quiet.0 on
     rises =
-        on_rises q (lent_by first) size old a on v t up (receive_lent q size old a on v t up)
-        (transmit_lent q size old a on v t up)
+        on_rises q (lent_by first) size frame old a on v t up (receive_lent q size frame old a on v t up)
+        (transmit_lent q size frame old a on v t up)
 
     -- the history in three parts: the sides went on, the halves were led on, and then came that call
     module _ (front rest more : List Entry) (all : front ++ (rest ++ more) ≡ h) (fronts : calls_of w.pass front ≡ on)
@@ -85,18 +90,18 @@ module _ (w : Watched) (fifo : ℕ) (h : List Entry) (q : AtPort) (size : ℕ) (
 
       unshared : IsUnshared w fifo front (rest ++ more) first (doers ++ ends) own
       unshared =
-          let short = short_at w fifo h q size old a on v t up along well own (lent_by first) fresh rises front
+          let short = short_at w fifo h q size frame old a on v t up along well own (lent_by first) fresh rises front
           (rest ++ more) all fronts in
           record {
             driven =
-                driven_by w fifo h q size old a on v t up along sized well (calls_of w.pass (rest ++ more)) p
+                driven_by w fifo h q size frame old a on v t up along well
+                (calls_of w.pass (rest ++ more)) p
                 (doers ++ ends) own_both others_both;
-            short = record {
-              limit = subst (λ (n : ℕ). n ≤ 2048) (sym short.0.limit) (omega arith);
-              waiting = short.1;
-            };
+            short =
+                subst (λ (most : ℕ). AreShort w.queue most (leads_to (new_state w.vfs fifo) front)) (sym most_is)
+                (short_by w.queue q frame (leads_to (new_state w.vfs fifo) front) short.0 short.1);
             known =
-                known_at w fifo h q size old a on v t up along well own (lent_by first) fresh rises others front
+                known_at w fifo h q size frame old a on v t up along well own (lent_by first) fresh rises others front
                 (rest ++ more) all fronts;
             others =
                 others_behind w.pass own front (rest ++ more) (subst (OnlyPassLends w.pass own) (sym all) others);

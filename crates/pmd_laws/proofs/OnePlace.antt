@@ -1,26 +1,24 @@
 -- Each block of a driver's arena is in one place: free there, in hand, or lent to the device.
-use Rattle.std.proofs.Common.{◌≡◌, ℕ, zero, suc, ◌+◌, ◌<◌, Bool, true, false, cond, List, [], ◌∷◌, ◌++◌, refl, sym, subst, ◌∙◌, arith}
+use Rattle.std.proofs.Common.{◌≡◌, ℕ, zero, suc, ◌+◌, ◌<◌, Bool, true, false, cond, List, [], ◌∷◌, ◌++◌, take, refl, sym, subst, ◌∙◌, arith}
 use Rattle.std.specs.Prelude.{◌==◌}
 use Rattle.std.specs.List.{list_any}
 use Rattle.std.proofs.lemmas.Bool.{both_ways, eqb-false, or_from, or_parts, true_from_ne_false}
 use Rattle.nic_device.specs.DmaArena.Memory.{Memory, has_block}
 use Rattle.nic_device.specs.DmaArena.Numbers.{Numbers, is_free}
 use Rattle.nic_device.specs.DmaArena.Whereabouts.{places_of, times_in_hand}
+use Rattle.pmd.specs.PmdSeam.Bufs.{numbers_of}
+use Rattle.pmd.specs.PmdSeam.Slots.{is_ring_block, ring_blocks}
 use Rattle.pmd.proofs.PmdSeam.Outside.{times-append, times_rest}
-use Rattle.pmd.proofs.PmdSeam.Rings.{times_among}
+use Rattle.pmd.proofs.PmdSeam.Rings.{ring_block_among, times_among}
 use Rattle.pmd.specs.PmdRx.Keeping as received
-use Rattle.pmd.specs.PmdRx.Keeping.{block_in}
-use Rattle.pmd.specs.PmdRx.Receive.{held_by}
 use Rattle.pmd.specs.PmdTx.Leaving as sending
-use Rattle.pmd.specs.PmdTx.Sending.{has_lent}
-use Rattle.pmd.proofs.PmdTx.Counting.{not_lent}
+use Rattle.pmd.specs.PmdTx.Sending.{Sender, blocks_of, has_lent}
 use Rattle.pmd.specs.Blocks.{HasAll}
 use Rattle.pmd.specs.Driver.{arena_of, halted_of}
 use Rattle.pmd.specs.Halves.{Halves, halves_of}
 use Rattle.pmd.specs.Running.{Running}
 use Rattle.pmd.specs.declared.driver.Rings.{Rings}
 use Rattle.pmd.specs.declared.driver.Rings.TheVariants.{Up}
-use Rattle.pmd.proofs.Handing.{away_lent}
 use Rattle.driver_laws.specs.Healthy.{lent_by}
 use Rattle.pmd_laws.specs.Places.{EachInOnePlace, is_out, memory_after}
 use Rattle.pmd_laws.proofs.Places.{lent_is_out, out_is_lent}
@@ -38,6 +36,28 @@ some_where : (b : Bool) (t : ℕ) → (t ≡ 0 → b ≡ false) → b ≡ true �
 some_where b zero none is = absurd (both_ways b (none refl) is)
 some_where b (suc t) none is = omega arith
 
+-- where a block of the transmit half isn't lent it isn't counted
+
+module _ (v : Sender) (n : ℕ) where
+  abbrev ends : List ℕ
+  ends = ring_blocks v.layout.ring v.layout.size
+
+  abbrev parts : List ℕ
+  parts = blocks_of (take v.lent v.outstanding)
+
+  uncounted_lent : times_in_hand (sending.lent_of v) n ≡ 0 → has_lent v n ≡ false
+  uncounted_lent none =
+      let both = times-append parts ends n in
+      or_from (is_ring_block v.layout.ring v.layout.size n) (list_any (λ b. n == b) parts)
+      (sym (ring_block_among v.layout.ring v.layout.size n) ∙ times_among ends n (omega (arith, none, both)))
+      (times_among parts n (omega (arith, none, both)))
+
+  unlent_none : has_lent v n ≡ false → times_in_hand (sending.lent_of v) n ≡ 0
+  unlent_none is =
+      let both = or_parts (is_ring_block v.layout.ring v.layout.size n) (list_any (λ b. n == b) parts) is in
+      let ring : list_any (λ b. n == b) ends ≡ false = ring_block_among v.layout.ring v.layout.size n ∙ both.0 in
+      omega (arith, times-append parts ends n, any_none parts n both.1, any_none ends n ring)
+
 module _ (h : Halves) (n : ℕ) where
   abbrev pub lent : List ℕ
   lent = received.lent_of h.receive ++ sending.lent_of h.transmit
@@ -50,12 +70,12 @@ module _ (h : Halves) (n : ℕ) where
   none_out none =
       or_from (received.has_lent h.receive n) (has_lent h.transmit n)
       (times_among (received.lent_of h.receive) n (omega (arith, none, both)))
-      (away_lent h.transmit n (omega (arith, none, both)))
+      (uncounted_lent h.transmit n (omega (arith, none, both)))
 
   out_none : lent_by h n ≡ false → times_in_hand lent n ≡ 0
   out_none is =
       let parts = or_parts (received.has_lent h.receive n) (has_lent h.transmit n) is in
-      omega (arith, both, any_none (received.lent_of h.receive) n parts.0, not_lent h.transmit n parts.1)
+      omega (arith, both, any_none (received.lent_of h.receive) n parts.0, unlent_none h.transmit n parts.1)
 
   out_some : lent_by h n ≡ true → 0 < times_in_hand lent n
   out_some = some_where (lent_by h n) (times_in_hand lent n) none_out
@@ -76,12 +96,12 @@ module _ (a : Numbers) (hand : List ℕ) (mem : Memory) (n : ℕ) where
   InPlace z =
       HasAll a (halted_of z) hand → (is_out z n ≡ true → has_block mem n ≡ true)
       → (has_block mem n ≡ true → is_out z n ≡ true)
-      → places_of (arena_of z) (block_in (halted_of z).held ++ hand) mem n ≡ cond (is_free a n) 1 0
+      → places_of (arena_of z) ((halted_of z).held ++ hand) mem n ≡ cond (is_free a n) 1 0
 
   up_in_place : (r : Running) → InPlace (Up r)
   up_in_place r all out known =
       let h : Halves = halves_of r in
-      let held : List ℕ = block_in (held_by r.receive.stage) in
+      let held : List ℕ = numbers_of r.receive.held.bufs ++ sending.waiting_of r.transmit in
       placed (has_block mem n) (is_free r.arena n) (is_free a n) (times_in_hand (lent h n) n)
       (times_in_hand (held ++ hand) n) (λ has. out_some h n (known has)) (λ some. out (some_out h n some))
       (omega (
@@ -93,8 +113,8 @@ module _ (a : Numbers) (hand : List ℕ) (mem : Memory) (n : ℕ) where
       ))
 
 pub each_in_one_place : EachInOnePlace
-each_in_one_place w fifo h q size old a m later x hand all n own =
+each_in_one_place w fifo h q size frame old a m later x hand all n own =
     let mem : Memory = memory_after w fifo h in
-    subst (InPlace a hand mem n) (sym (runs q size old a m later x.told.told).up)
-    (up_in_place a hand mem n (runs q size old a m later x.told.told).rings) all
-    (out_is_lent w fifo h q size old a m later x.told n) (lent_is_out w fifo h q size old a m later x n own)
+    subst (InPlace a hand mem n) (sym (runs q size frame old a m later x.told.told).up)
+    (up_in_place a hand mem n (runs q size frame old a m later x.told.told).rings) all
+    (out_is_lent w fifo h q size frame old a m later x.told n) (lent_is_out w fifo h q size frame old a m later x n own)

@@ -1,5 +1,5 @@
 -- Of an arena's blocks only the rings' are lent as both sides are on, and the frames that wait fit a buffer.
-use Rattle.std.proofs.Common.{ℕ, ◌≤◌, false, List, sym, ◌∙◌, subst, arith}
+use Rattle.std.proofs.Common.{ℕ, false, List, ◌∙◌, arith}
 use Rattle.std.specs.Prelude.{All}
 use Rattle.nic_device.specs.DmaArena.Block.{Block}
 use Rattle.nic_device.specs.DmaArena.Numbers.{Numbers}
@@ -14,11 +14,11 @@ use Rattle.device_lock.specs.declared.entry.Call.{Call}
 use Rattle.device_lock.specs.declared.entry.Entry.{Entry}
 use Rattle.start_laws.specs.DeviceLaws.Laws.{WritesNoSetting}
 use Rattle.start_laws.specs.HistoryLaws.Lent.{OnlyLent}
+use Rattle.pmd.specs.PmdSeam.Frames.{most_blocks}
 use Rattle.pmd.specs.PmdSeam.Named.{AtPort}
 use Rattle.pmd.specs.PmdRx.Receive.{Receive}
 use Rattle.pmd.specs.PmdTx.Sending.{Sender}
-use Rattle.start_laws.specs.ReceiveLaws.Short.{IsShortFor}
-use Rattle.start_laws.proofs.ReceiveLaws.Short.{frames_stay_short}
+use Rattle.start_laws.specs.ReceiveLaws.Fitting.{FitsBlocks}
 use Rattle.start_laws.proofs.HistoryLaws.Leaving.{left-setting}
 use Rattle.start_laws.specs.Along.{AtCalls, BeforeLast, IsAlong, IsKept}
 use Rattle.start_laws.specs.Ending.{IsPlain}
@@ -30,37 +30,47 @@ use Rattle.start_laws.proofs.Ground.{ground_kept, plain_keeps, plain_setting}
 use Rattle.start_laws.proofs.Made.{made_some}
 use Rattle.start_laws.proofs.Reached.{reached, state_kept, state_leads}
 use Rattle.pmd.specs.PmdSeam.QueueMade.{Sees}
-use Rattle.driver_laws.specs.Before.{OnlyPassLends}
+use Rattle.driver_laws.specs.Before.{AreShort, OnlyPassLends}
+use Rattle.driver_laws.proofs.Before.{frames_stay_short}
 use Rattle.pmd_laws.specs.Faultless.{IsFresh}
 use Rattle.pmd_laws.proofs.LentSince.{lent_at}
 use Rattle.pmd_laws.proofs.RiseCalls.{Rises, rising_are_plain}
 
-module _ (w : Watched) (fifo : ℕ) (h : List Entry) (q : AtPort) (size : ℕ) (old : List Call) (a : Numbers)
-    (new : List Call) (v : Receive) (t : Sender) (up : AreOn q size old a new v t) (along : IsAlong w fifo h)
-    (well : BeforeLast w fifo h up.receive.quiet.0 (HasGround w.queue q)) (own lent : Blocks)
-    (fresh : BeforeLast w fifo h up.receive.quiet.0 (IsFresh w.queue own))
+-- frames of such a length fit as many blocks as a packet has at most
+pub short_by : (queue : ℕ) (q : AtPort) (frame : ℕ) (s : State) → HasGround queue q frame s
+    → All (FitsBlocks queue (most_blocks frame)) s.waiting → AreShort queue (most_blocks frame) s
+short_by queue q frame s g short = record {
+  limit =
+      let limit = g.limit in
+      omega (arith, limit);
+  waiting = short;
+}
+
+module _ (w : Watched) (fifo : ℕ) (h : List Entry) (q : AtPort) (size frame : ℕ) (old : List Call) (a : Numbers)
+    (new : List Call) (v : Receive) (t : Sender) (up : AreOn q size frame old a new v t) (along : IsAlong w fifo h)
+    (well : BeforeLast w fifo h up.receive.quiet.0 (HasGround w.queue q frame)) (own lent : Blocks)
+    (fresh : BeforeLast w fifo h up.receive.quiet.0 (IsFresh w.queue frame own))
     (rises : Rises q lent up.receive.quiet.0 new)
   where
     -- the frames that wait
 
     abbrev pub Short : State → Type 0
-    Short s = HasGround w.queue q s × All (IsShortFor w.queue) s.waiting
+    Short s = HasGround w.queue q frame s × All (FitsBlocks w.queue (most_blocks frame)) s.waiting
 
     short_after : (s : State) (e : Event Block) → Short s → WritesNoSetting s e
-        → All (IsShortFor w.queue) (after s e).waiting
+        → All (FitsBlocks w.queue (most_blocks frame)) (after s e).waiting
     short_after s e (g, short) none =
-        (frames_stay_short w.queue s e
-        (record { limit = subst (λ (n : ℕ). n ≤ 2048) (sym g.limit) (omega arith); waiting = short }) none).waiting
+        (frames_stay_short w.queue (most_blocks frame) s e (short_by w.queue q frame s g short) none).waiting
 
     short_kept : IsKept w (lent_by w.pass h) Short
     short_kept s e left x = (
-      ground_kept w (lent_by w.pass h) q s e left x.0,
+      ground_kept w (lent_by w.pass h) q frame s e left x.0,
       short_after s e x (left-setting w s left.vfs e left.registers),
     )
 
     plain_short : (s : State) (e : Event Block) → IsPlain q e → Short s → Short (after s e)
     plain_short s e plain x =
-        (plain_keeps w.queue q s e plain x.0, short_after s e x (plain_setting w.queue q s e plain x.0))
+        (plain_keeps w.queue q frame s e plain x.0, short_after s e x (plain_setting w.queue q frame s e plain x.0))
 
     pub short_at : AtCalls w fifo h new Short
     short_at done rest all calls =

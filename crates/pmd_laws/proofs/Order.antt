@@ -30,19 +30,19 @@ use Rattle.pmd_laws.proofs.Driven as begun_on
 use Rattle.pmd_laws.proofs.Driven.{driven_by}
 use Rattle.pmd_laws.proofs.FirstHalves.{first_halves}
 
-module _ (w : Watched) (fifo : ℕ) (h : List Entry) (q : AtPort) (size : ℕ) (old : List Call) (a : Numbers)
-    (started : List Call) (r : Running) (k : Halves) (x : order.IsLived w fifo h q size old a started r k) where
+module _ (w : Watched) (fifo : ℕ) (h : List Entry) (q : AtPort) (size frame : ℕ) (old : List Call) (a : Numbers)
+    (started : List Call) (r : Running) (k : Halves) (x : order.IsLived w fifo h q size frame old a started r k) where
   abbrev new : State
   new = new_state w.vfs fifo
 
-  abbrev pub up : AreUp q size old a started r
+  abbrev pub up : AreUp q size frame old a started r
   up = x.life.up
 
-  abbrev pub begun : AreOn q size old a up.on.mid up.empty r.transmit
-  begun = on w fifo h q size old a started r up x.along x.life.sized x.begins
+  abbrev pub begun : AreOn q size frame old a up.on.mid up.empty r.transmit
+  begun = on w fifo h q size frame old a started r up x.along x.begins
 
   abbrev pub first : Halves
-  first = first_halves q size old a up.on.mid up.empty r.transmit begun
+  first = first_halves q size frame old a up.on.mid up.empty r.transmit begun
 
   pub whole : Leads up.on.mid first (calls_of w.pass h) k
   whole = leads_on up.on.mid started (calls_of w.pass h) first (halves_of r) k
@@ -60,13 +60,13 @@ module _ (w : Watched) (fifo : ℕ) (h : List Entry) (q : AtPort) (size : ℕ) (
 
     pub went_on : WentOn w.queue new p.front
     went_on =
-        begun_on.went_on w fifo h q size old a up.on.mid up.empty r.transmit begun x.along x.life.sized x.begins.ground
-        whole.1 p
+        begun_on.went_on w fifo h q size frame old a up.on.mid up.empty r.transmit begun x.along
+        x.begins.ground whole.1 p
 
     pub driven : IsDriven w fifo p.front p.back first whole.0
     driven =
-        driven_by w fifo h q size old a up.on.mid up.empty r.transmit begun x.along x.life.sized x.begins.ground whole.1
-        p whole.0 whole.3 whole.5
+        driven_by w fifo h q size frame old a up.on.mid up.empty r.transmit begun x.along
+        x.begins.ground whole.1 p whole.0 whole.3 whole.5
 
     pub last : played_by first whole.0 (calls_of w.pass p.back) ≡ k
     last = ap (played_by first whole.0) p.backs ∙ sym whole.4
@@ -106,17 +106,17 @@ module _ (w : Watched) (fifo : ℕ) (h : List Entry) (q : AtPort) (size : ℕ) (
         ∙ idle_is_all_sent w fifo p.front p.back first whole.0 driven then ∙ sym counted
 
 pub handed_of_life : order.HandedIsPrefix
-handed_of_life w fifo h q size old a started r k x =
-    handed w fifo h q size old a started r k x (in_parts w fifo h q size old a started r k x)
+handed_of_life w fifo h q size frame old a started r k x =
+    handed w fifo h q size frame old a started r k x (in_parts w fifo h q size frame old a started r k x)
 
 pub none_of_life : order.NoneIsAll
-none_of_life w fifo h q size old a started r k x =
-    none_left w fifo h q size old a started r k x (in_parts w fifo h q size old a started r k x)
+none_of_life w fifo h q size frame old a started r k x =
+    none_left w fifo h q size frame old a started r k x (in_parts w fifo h q size frame old a started r k x)
 
 pub sent_of_life : order.SentIsPrefix
-sent_of_life w fifo h q size old a started r k x =
-    sent w fifo h q size old a started r k x (in_parts w fifo h q size old a started r k x)
+sent_of_life w fifo h q size frame old a started r k x =
+    sent w fifo h q size frame old a started r k x (in_parts w fifo h q size frame old a started r k x)
 
 pub idle_of_life : order.IdleIsAllSent
-idle_of_life w fifo h q size old a started r k x =
-    idle w fifo h q size old a started r k x (in_parts w fifo h q size old a started r k x)
+idle_of_life w fifo h q size frame old a started r k x =
+    idle w fifo h q size frame old a started r k x (in_parts w fifo h q size frame old a started r k x)

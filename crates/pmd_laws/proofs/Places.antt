@@ -1,5 +1,5 @@
 -- Of an arena's blocks those are lent at the device that its driver has out with its halves.
-use Rattle.std.proofs.Common.{◌≡◌, ℕ, true, List, sym, ap, ◌∙◌, subst}
+use Rattle.std.proofs.Common.{◌≡◌, ℕ, List, sym, ap, ◌∙◌, subst}
 use Rattle.std.specs.Prelude.{IsTrue}
 use Rattle.nic_device.specs.DmaArena.Memory.{has_block}
 use Rattle.nic_device.specs.DmaArena.Numbers.{Numbers, is_own}
@@ -13,7 +13,7 @@ use Rattle.start_laws.specs.HistoryLaws.Lent.{OnlyLent}
 use Rattle.pmd.specs.Apart.{AllLendApart}
 use Rattle.pmd.specs.Halves.{Doer, Halves, halves_of, played_by}
 use Rattle.pmd.specs.Running.{Running}
-use Rattle.pmd.specs.Started.{AreUp, is_size}
+use Rattle.pmd.specs.Started.{AreUp}
 use Rattle.pmd.specs.declared.driver.Rings.{Rings}
 use Rattle.pmd.specs.PmdSeam.Named.{AtPort}
 use Rattle.start_laws.proofs.ReceiveLaws.Delivering.{leads-append}
@@ -35,32 +35,29 @@ use Rattle.pmd_laws.proofs.LedApart as led_apart
 use Rattle.pmd_laws.proofs.LentSince.{lent_at}
 use Rattle.pmd_laws.proofs.PassLends.{others_behind}
 use Rattle.pmd_laws.proofs.RiseCalls.{Rises, on_rises}
-use Rattle.pmd_laws.proofs.RunsOn.{RunsOn, open_size}
+use Rattle.pmd_laws.proofs.RunsOn.{RunsOn}
 use Rattle.pmd_laws.proofs.Told.{first, runs}
 
-module _ (w : Watched) (fifo : ℕ) (h : List Entry) (q : AtPort) (size : ℕ) (old : List Call) (a : Numbers)
-    (m : Moment) (later : List Moment) (x : IsToldOf w fifo h q size old a m later) where
+module _ (w : Watched) (fifo : ℕ) (h : List Entry) (q : AtPort) (size frame : ℕ) (old : List Call) (a : Numbers)
+    (m : Moment) (later : List Moment) (x : IsToldOf w fifo h q size frame old a m later) where
   abbrev fresh : Running
-  fresh = first q size old a m later x.told
+  fresh = first q size frame old a m later x.told
 
   abbrev goes : RunsOn m fresh (last m later)
-  goes = runs q size old a m later x.told
+  goes = runs q size frame old a m later x.told
 
   abbrev begins : Halves
-  begins = led_apart.begins q size old a m later x.told
+  begins = led_apart.begins q size frame old a m later x.told
 
-  abbrev up : AreUp q size old a m.made fresh
+  abbrev up : AreUp q size frame old a m.made fresh
   up = x.told.started.2
 
-  sized : is_size size ≡ true
-  sized = open_size size a old m.made m.driver (is_size size) _ x.told.shut
-
-  abbrev begun : AreOn q size old a up.on.mid up.empty fresh.transmit
-  begun = on w fifo h q size old a m.made fresh up x.along sized x.begins
+  abbrev begun : AreOn q size frame old a up.on.mid up.empty fresh.transmit
+  begun = on w fifo h q size frame old a m.made fresh up x.along x.begins
 
   -- the calls from there on
   apart : LeadsApart (is_own a) up.on.mid begins (last m later).made (halves_of goes.rings)
-  apart = led_apart.led q size old a m later x.told
+  apart = led_apart.led q size frame old a m later x.told
 
   abbrev doers : List Doer
   doers = apart.leads.0
@@ -73,7 +70,8 @@ module _ (w : Watched) (fifo : ℕ) (h : List Entry) (q : AtPort) (size : ℕ) (
 
   driven : IsDriven w fifo parted.front parted.back begins doers
   driven =
-      driven_by w fifo h q size old a up.on.mid up.empty fresh.transmit begun x.along sized x.begins.ground calls parted
+      driven_by w fifo h q size frame old a up.on.mid up.empty fresh.transmit begun x.along
+      x.begins.ground calls parted
       doers apart.leads.3 apart.leads.5
 
   -- where they lead
@@ -102,26 +100,28 @@ module _ (w : Watched) (fifo : ℕ) (h : List Entry) (q : AtPort) (size : ℕ) (
       at_last (λ out s. (n : ℕ) → IsTrue (out n) → IsTrue (has_block s.memory n))
       (both_lent w.queue _ _ _ ends (led w fifo parted.front parted.back begins doers driven).both)
 
-module _ (w : Watched) (fifo : ℕ) (h : List Entry) (q : AtPort) (size : ℕ) (old : List Call) (a : Numbers)
-    (m : Moment) (later : List Moment) (x : IsToldAlone w fifo h q size old a m later) where
-  abbrev t : IsToldOf w fifo h q size old a m later
+module _ (w : Watched) (fifo : ℕ) (h : List Entry) (q : AtPort) (size frame : ℕ) (old : List Call) (a : Numbers)
+    (m : Moment) (later : List Moment) (x : IsToldAlone w fifo h q size frame old a m later) where
+  abbrev t : IsToldOf w fifo h q size frame old a m later
   t = x.told
 
-  abbrev p : Parts w.pass h t.told.started.2.on.mid (calls w fifo h q size old a m later t)
-  p = parted w fifo h q size old a m later t
+  abbrev p : Parts w.pass h t.told.started.2.on.mid (calls w fifo h q size frame old a m later t)
+  p = parted w fifo h q size frame old a m later t
 
   abbrev first_known : Halves
-  first_known = begins w fifo h q size old a m later t
+  first_known = begins w fifo h q size frame old a m later t
 
-  abbrev on_there : AreOn q size old a t.told.started.2.on.mid t.told.started.2.empty t.told.started.0.transmit
-  on_there = begun w fifo h q size old a m later t
+  abbrev on_there : AreOn q size frame old a t.told.started.2.on.mid t.told.started.2.empty t.told.started.0.transmit
+  on_there = begun w fifo h q size frame old a m later t
 
   rises : Rises q (lent_by first_known) on_there.receive.quiet.0 t.told.started.2.on.mid
   rises =
-      on_rises q (lent_by first_known) size old a t.told.started.2.on.mid t.told.started.2.empty
+      on_rises q (lent_by first_known) size frame old a t.told.started.2.on.mid t.told.started.2.empty
       t.told.started.0.transmit on_there
-      (receive_lent q size old a t.told.started.2.on.mid t.told.started.2.empty t.told.started.0.transmit on_there)
-      (transmit_lent q size old a t.told.started.2.on.mid t.told.started.2.empty t.told.started.0.transmit on_there)
+      (receive_lent q size frame old a t.told.started.2.on.mid t.told.started.2.empty t.told.started.0.transmit
+      on_there)
+      (transmit_lent q size frame old a t.told.started.2.on.mid t.told.started.2.empty t.told.started.0.transmit
+      on_there)
 
   at_first : OnlyLent (is_own a) (lent_by first_known) (leads_to (new_state w.vfs fifo) p.front).memory
   at_first =
@@ -130,10 +130,10 @@ module _ (w : Watched) (fifo : ℕ) (h : List Entry) (q : AtPort) (size : ℕ) (
 
   known : OnlyLent (is_own a) (is_out (last m later).driver.rings) (memory_after w fifo h)
   known =
-      let far = apart w fifo h q size old a m later t in
-      at_last w fifo h q size old a m later t (λ out s. OnlyLent (is_own a) out s.memory)
-      (known_along w fifo p.front p.back first_known far.leads.0 (is_own a) (driven w fifo h q size old a m later t)
-      at_first
+      let far = apart w fifo h q size frame old a m later t in
+      at_last w fifo h q size frame old a m later t (λ out s. OnlyLent (is_own a) out s.memory)
+      (known_along w fifo p.front p.back first_known far.leads.0 (is_own a)
+      (driven w fifo h q size frame old a m later t) at_first
       (others_behind w.pass (is_own a) p.front p.back (subst (OnlyPassLends w.pass (is_own a)) (sym p.both) x.others))
       (subst (AllLendApart (is_own a) first_known far.leads.0) (sym p.backs) far.apart))
 

@@ -11,9 +11,10 @@ use Rattle.nic_device.proofs.Cases.{either_way}
 use Rattle.device_lock.specs.declared.entry.Call.{Call}
 use Rattle.pmd.specs.PmdSeam.Named.{AtPort}
 use Rattle.pmd.specs.PmdRx.Receive as receiving
-use Rattle.pmd.specs.PmdRx.Receive.{Layout, Receive, Stage, Looks, Sees, Holding, Lent, Named, MovesNext, looked, took, lent_one, named, moved, drive}
+use Rattle.pmd.specs.PmdRx.Receive.{Receive, looked, took, drive}
+use Rattle.pmd.specs.PmdRx.declared.ring.Told.{Told}
 use Rattle.pmd.specs.PmdTx.Sending as sending
-use Rattle.pmd.specs.PmdTx.Sending.{Sender, Move, Accepts, Asks, Advances, Reaps, Elsewhere}
+use Rattle.pmd.specs.PmdTx.Sending.{Sender, Move, Accepts, Lends, Asks, Advances, Reaps, Elsewhere}
 use Rattle.start_laws.specs.Ending.{Each, IsPlain, NamesDriven}
 use Rattle.pmd.specs.Halves.{AllOwn, Doer, Halves, OwnCall, Receives, Sends, after_call, is_neither}
 use Rattle.driver_laws.specs.Beside.{OthersHarmless, is_harmless}
@@ -26,34 +27,22 @@ SameTail v u = (u.layout.port ≡ v.layout.port) × (u.layout.tail ≡ v.layout.
 looked_same : (v : Receive) (d : List ℕ) → SameTail v (looked v d)
 looked_same v d = either_way (SameTail v) _ _ v (refl, refl) (refl, refl)
 
-took_same : (v : Receive) (s : Stage) (b : Block) → SameTail v (took v s b)
-took_same v (Sees first second) b = (refl, refl)
-took_same v other b = (refl, refl)
-
-lent_same : (v : Receive) (s : Stage) (b : ℕ) → SameTail v (lent_one v s b)
-lent_same v Looks b = (refl, refl)
-lent_same v (Holding p) b = (refl, refl)
-lent_same v other b = (refl, refl)
-
-named_same : (v : Receive) (s : Stage) → SameTail v (named v s)
-named_same v (Lent o b) = (refl, refl)
-named_same v other = (refl, refl)
-
-moved_same : (v : Receive) (s : Stage) → SameTail v (moved v s)
-moved_same v (Named o b) = (refl, refl)
-moved_same v other = (refl, refl)
+took_same : (v : Receive) (seen : List Told) (b : Block) → SameTail v (took v seen b)
+took_same v [] b = (refl, refl)
+took_same v (t ∷ seen) b = (refl, refl)
 
 pub drive_same : (v : Receive) (e : Event Block) (r : Reply Block) → SameTail v (drive v e r)
 drive_same v (event.Peek16 a) (reply.Bytes d) = looked_same v d
-drive_same v (event.Take n) (reply.Buf b) = took_same v v.stage b
-drive_same v (event.Lend b) reply.Done = lent_same v v.stage b.number
-drive_same v (event.Poke16 a bytes) reply.Done = named_same v v.stage
-drive_same v (event.Write port number word) reply.Done = moved_same v v.stage
+drive_same v (event.Take n) (reply.Buf b) = took_same v v.seen b
+drive_same v (event.Lend b) reply.Done = (refl, refl)
+drive_same v (event.Poke16 a bytes) reply.Done = (refl, refl)
+drive_same v (event.Write port number word) reply.Done = (refl, refl)
 drive_same v e r = (refl, refl)
 
 sent_same : (v : Sender) (m : Move) (r : Reply Block)
     → ((sending.moved v m r).layout.port ≡ v.layout.port) × ((sending.moved v m r).layout.tail ≡ v.layout.tail)
 sent_same v (Accepts p) reply.Done = (refl, refl)
+sent_same v Lends reply.Done = (refl, refl)
 sent_same v Asks reply.Done = (refl, refl)
 sent_same v Advances reply.Done = (refl, refl)
 sent_same v sending.Looks (reply.Bytes d) = (refl, refl)
@@ -82,14 +71,10 @@ module _ (q : AtPort) where
       let same = sent_same k.transmit m c.reply in
       record { receive = x.receive; transmit = same_named _ _ _ _ same.0 same.1 x.transmit }
 
-  moves_named : (l : Layout) (s : Stage) (port : Port) (number word : ℕ) → MovesNext l s port number word
-      → NamesDriven q l.port l.tail → NamesDriven q port number
-  moves_named l (Named o b) port number word (to, is, what) at = same_named port l.port number l.tail to is at
-  moves_named l other port number word own at = absurd own
-
   receive_plain : (v : Receive) (e : Event Block) → receiving.IsOwn v e → NamesDriven q v.layout.port v.layout.tail
       → IsPlain q e
-  receive_plain v (event.Write port number word) own at = moves_named v.layout v.stage port number word own at
+  receive_plain v (event.Write port number word) own at =
+      same_named port v.layout.port number v.layout.tail own.port_is own.number_is at
   receive_plain v e own at = tt
 
   harmless_plain : (e : Event Block) → is_harmless e ≡ true → IsPlain q e
@@ -100,7 +85,7 @@ module _ (q : AtPort) where
       → sending.IsOwn v m (event.Write port number word)
       → (IsTrue (is_neither (Sends m)) → IsTrue (is_harmless (event.Write port number word)))
       → NamesDriven q v.layout.port v.layout.tail → NamesDriven q port number
-  write_plain v Advances port number word (poked, to, is, what) harmless at =
+  write_plain v Advances port number word (all, some, to, is, what) harmless at =
       same_named port v.layout.port number v.layout.tail to is at
   write_plain v Elsewhere port number word own harmless at =
       harmless_plain (event.Write port number word) (harmless refl)

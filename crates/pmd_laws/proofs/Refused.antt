@@ -48,9 +48,10 @@ since_none queue s (e ∷ h) none =
     ap (λ (sent : List (List ℕ)). sent_since queue t sent h) here
     ∙ since_none queue t h (rest_none (sent_by queue s e.event) (sent_in queue t h) none)
 
-module _ (w : Watched) (fifo : ℕ) (h : List Entry) (q : AtPort) (size : ℕ) (old : List Call) (a : Numbers)
+module _ (w : Watched) (fifo : ℕ) (h : List Entry) (q : AtPort) (size frame : ℕ) (old : List Call) (a : Numbers)
     (e : StartRefused) (new : List Call) (left : Rest) (before : List Entry) (first : Entry) (behind : List Entry)
-    (never : NeverLived q size old a e new left) (x : IsRefused w fifo h q old new before first behind) where
+    (never : NeverLived q size frame old a e new left)
+    (x : IsRefused w fifo h q frame old new before first behind) where
   abbrev here : State
   here = leads_to (new_state w.vfs fifo) before
 
@@ -67,7 +68,7 @@ module _ (w : Watched) (fifo : ℕ) (h : List Entry) (q : AtPort) (size : ℕ) (
 
   lays : (last : Laid) × LaysOn q Off calls last
   lays =
-      let (end, (made, is, all)) = never_lays q size old a e new left never in
+      let (end, (made, is, all)) = never_lays q size frame old a e new left never in
       let both : made ≡ x.since ++ x.rest =
       append_cancel_left old made (x.since ++ x.rest) (sym is ∙ x.all ∙ append_assoc old x.since x.rest) in
       let (last, so_far, more) = first_lays q Off end x.since x.rest
@@ -79,7 +80,7 @@ module _ (w : Watched) (fifo : ℕ) (h : List Entry) (q : AtPort) (size : ℕ) (
 
   none_sent : sent_in w.queue here (first ∷ behind) ≡ []
   none_sent =
-      laid_queue_is_silent w q fifo h before behind first lays.0 x.along x.begins.all x.begins.own
+      laid_queue_is_silent w q frame fifo h before behind first lays.0 x.along x.begins.all x.begins.own
       x.begins.quiet.ground x.begins.quiet.transmit lays.1
 
   none_handed : receive.IsPrefixOf [] (delivered w.queue here (first ∷ behind))
@@ -92,16 +93,16 @@ module _ (w : Watched) (fifo : ℕ) (h : List Entry) (q : AtPort) (size : ℕ) (
   )
 
 pub refused_sends_nothing : RefusedSendsNothing
-refused_sends_nothing w fifo h q size old a e new left before first behind never x =
-    none_sent w fifo h q size old a e new left before first behind never x
+refused_sends_nothing w fifo h q size frame old a e new left before first behind never x =
+    none_sent w fifo h q size frame old a e new left before first behind never x
 
 pub left_of_refused_is_prefix : LeftOfRefusedIsPrefix
-left_of_refused_is_prefix w fifo h q size old a e new left before first behind never x =
+left_of_refused_is_prefix w fifo h q size frame old a e new left before first behind never x =
     let s = leads_to (new_state w.vfs fifo) before in (
       subst (λ (kept : List Kept). receive.IsPrefixOf kept (delivered w.queue s (first ∷ behind))) (sym never.handed)
-          (none_handed w fifo h q size old a e new left before first behind never x),
+          (none_handed w fifo h q size frame old a e new left before first behind never x),
       subst
           (λ (kept : List Kept).
           transmit.IsPrefixOf (sent_since w.queue s [] (first ∷ behind)) (bytes_of kept)) (sym never.accepted)
-          (none_accepted w fifo h q size old a e new left before first behind never x),
+          (none_accepted w fifo h q size frame old a e new left before first behind never x),
     )

@@ -1,5 +1,6 @@
 -- The calls of a driver whose start was refused lay out an empty transmit ring so far, up to where it came down.
-use Rattle.std.proofs.Common.{◌≡◌, inl, inr, ℕ, Bool, true, false, List, [], ◌∷◌, Option, Some, None, Err, refl, sym, ◌∙◌, subst, cond}
+use Rattle.std.proofs.Common.{◌≡◌, inl, inr, ℕ, Bool, true, false, ◌&&◌, List, [], ◌∷◌, Option, Some, None, Err, refl, sym, ◌∙◌, subst, cond}
+use Rattle.std.proofs.lemmas.Bool.{and_parts}
 use Rattle.std.proofs.lemmas.List.{append-nil}
 use Rattle.nic_device.specs.DmaArena.Block.{Block}
 use Rattle.nic_device.specs.DmaArena.Numbers.{Numbers}
@@ -12,6 +13,7 @@ use Rattle.device_lock.specs.declared.entry.Call.{Call}
 use Rattle.pmd.specs.PmdSeam.declared.fault.PmdFault.{PmdFault}
 use Rattle.pmd.specs.PmdSeam.declared.fault.PmdFault.TheVariants.{BadSize}
 use Rattle.pmd.specs.Halted.{Halted}
+use Rattle.pmd.specs.PmdSeam.Frames.{is_frame}
 use Rattle.pmd.specs.PmdSeam.Named.{AtPort}
 use Rattle.pmd.specs.Life.{ComesDown, NeverLived}
 use Rattle.pmd.specs.Started.{IsHalfStarted, IsHome, IsLeftWith, IsShut, StopsStarting, is_size, start_gate}
@@ -64,13 +66,13 @@ left_lays : (q : AtPort) (l : Laid) (a : Numbers) (out : List ℕ) (r : Rest) (o
 left_lays q l a [] r old new left is down = home_lays q l a r old new left is down
 left_lays q l a (n ∷ ns) r old new left is down = half_lays q l _ r old new left is down
 
-stopping_lays : (q : AtPort) (size : ℕ) (old : List Call) (a : Numbers) (made : List Call) (e : StartRefused)
-    (new : List Call) (left : Rest) (l : Laid) → StopsStarting q size old a made e → ComesDown made e.rest new left
-    → LaysBetween q l made new l
-stopping_lays q size old a made e new left l (inl x) down =
+stopping_lays : (q : AtPort) (size frame : ℕ) (old : List Call) (a : Numbers) (made : List Call) (e : StartRefused)
+    (new : List Call) (left : Rest) (l : Laid) → StopsStarting q size frame old a made e
+    → ComesDown made e.rest new left → LaysBetween q l made new l
+stopping_lays q size frame old a made e new left l (inl x) down =
     left_lays q l x.arena x.out e.rest made new left x.left down
-stopping_lays q size old a made e new left l (inr (inl x)) down = half_lays q l _ e.rest made new left x.left down
-stopping_lays q size old a made e new left l (inr (inr x)) down = half_lays q l _ e.rest made new left x.left down
+stopping_lays q size frame old a made e new left l (inr (inl x)) down = half_lays q l _ e.rest made new left x.left down
+stopping_lays q size frame old a made e new left l (inr (inr x)) down = half_lays q l _ e.rest made new left x.left down
 
 -- a start that isn't refused before any event has a size
 
@@ -78,12 +80,13 @@ is_passed : (b : Bool) (more : Option PmdFault) (f : PmdFault) → cond b more (
 is_passed true more f none = refl
 is_passed false more f none = cc
 
-gate_sized : (a : Numbers) (q : AtPort) (size : ℕ) → start_gate a q size ≡ None → is_size size ≡ true
-gate_sized a q size none = is_passed (is_size size) _ BadSize none
+gate_sized : (a : Numbers) (q : AtPort) (size frame : ℕ) → start_gate a q size frame ≡ None → is_size size ≡ true
+gate_sized a q size frame none =
+    (and_parts _ _ (is_passed (is_size size && is_frame frame) _ BadSize none)).0
 
-module _ (q : AtPort) (size : ℕ) (old : List Call) (a : Numbers) (e : StartRefused) (new : List Call) (left : Rest)
-    (x : NeverLived q size old a e new left) where
-  shut_lays : (f : PmdFault) → start_gate a q size ≡ Some f → LaysSome q Off old new
+module _ (q : AtPort) (size frame : ℕ) (old : List Call) (a : Numbers) (e : StartRefused) (new : List Call)
+    (left : Rest) (x : NeverLived q size frame old a e new left) where
+  shut_lays : (f : PmdFault) → start_gate a q size frame ≡ Some f → LaysSome q Off old new
   shut_lays f is =
       let (why, home, none) = subst (λ (g : Option PmdFault). IsShut g a old x.made (Err e)) is x.shut in (
         Off,
@@ -91,15 +94,18 @@ module _ (q : AtPort) (size : ℕ) (old : List Call) (a : Numbers) (e : StartRef
             (home_lays q Off a e.rest x.made new left home x.down),
       )
 
-  amid_lays : start_gate a q size ≡ None → LaysSome q Off old new
+  amid_lays : start_gate a q size frame ≡ None → LaysSome q Off old new
   amid_lays is =
       let stops = x.stops is in
-      let (l, so_far) = starting_lays q size (gate_sized a q size is) old a x.made e stops in
-      (l, then_between q Off l l old x.made new so_far (stopping_lays q size old a x.made e new left l stops x.down))
+      let (l, so_far) = starting_lays q size frame (gate_sized a q size frame is) old a x.made e stops in (
+        l,
+        then_between q Off l l old x.made new so_far
+            (stopping_lays q size frame old a x.made e new left l stops x.down),
+      )
 
-  by_gate : (g : Option PmdFault) → start_gate a q size ≡ g → LaysSome q Off old new
+  by_gate : (g : Option PmdFault) → start_gate a q size frame ≡ g → LaysSome q Off old new
   by_gate None is = amid_lays is
   by_gate (Some f) is = shut_lays f is
 
   pub never_lays : LaysSome q Off old new
-  never_lays = by_gate (start_gate a q size) refl
+  never_lays = by_gate (start_gate a q size frame) refl

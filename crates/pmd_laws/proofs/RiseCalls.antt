@@ -88,17 +88,17 @@ module _ (q : AtPort) (lent : Blocks) where
   pub quieted_rises : (old new : List Call) → (made : AreMade q old new both_quiet) → Rises made.0 new
   quieted_rises old new made = all_rise off made.0 new off_driven made.2
 
-  pub ready_rises : (size : ℕ) (old : List Call) (a : Numbers) (new : List Call) (b : Numbers) (v : Receive)
-      → (x : IsReceiveReady q size old a new b v) → EachRingBlock x.ring size (λ n. IsTrue (lent n))
+  pub ready_rises : (size frame : ℕ) (old : List Call) (a : Numbers) (new : List Call) (b : Numbers) (v : Receive)
+      → (x : IsReceiveReady q size frame old a new b v) → EachRingBlock x.ring size (λ n. IsTrue (lent n))
       → Rises x.quiet.0 new
-  ready_rises size old a new b v x own =
+  ready_rises size frame old a new b v x own =
       then_made IsRising x.quiet.0 x.mid new (quieted_rises old x.mid x.quiet)
       (prepared_rises Rx size x.mid a new b x.ring own x.prepared)
 
-  pub on_rises : (size : ℕ) (old : List Call) (a : Numbers) (new : List Call) (v : Receive) (t : Sender)
-      → (up : AreOn q size old a new v t) → EachRingBlock up.receive.ring size (λ n. IsTrue (lent n))
+  pub on_rises : (size frame : ℕ) (old : List Call) (a : Numbers) (new : List Call) (v : Receive) (t : Sender)
+      → (up : AreOn q size frame old a new v t) → EachRingBlock up.receive.ring size (λ n. IsTrue (lent n))
       → EachRingBlock up.transmit.ring size (λ n. IsTrue (lent n)) → Rises up.receive.quiet.0 new
-  on_rises size old a new v t up one two =
+  on_rises size frame old a new v t up one two =
       let first : ℕ = up.switched.0 in
       let second : ℕ = up.switched.1 in
       let switched = all_rise (receive_polled true first ++ polled Tx true second) up.both_made new
@@ -106,7 +106,7 @@ module _ (q : AtPort) (lent : Blocks) where
       (all_polled IsDriven true reads_driven Tx second))
       up.switched.3 in
       then_made IsRising up.receive.quiet.0 up.ready_made new
-      (ready_rises size old a up.ready_made up.ready_arena v up.receive one)
+      (ready_rises size frame old a up.ready_made up.ready_arena v up.receive one)
       (then_made IsRising up.ready_made up.both_made new
       (prepared_rises Tx size up.ready_made up.ready_arena up.both_made up.both_arena up.transmit.ring two
       up.transmit.prepared)

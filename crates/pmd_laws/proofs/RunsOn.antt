@@ -1,15 +1,12 @@
 -- A driver that runs runs on, over calls as they are told, and harmless ones between.
-use Rattle.std.proofs.Common.{◌≡◌, ℕ, inl, inr, Bool, true, false, List, [], ◌∷◌, Option, Some, Ok, if◌then◌else◌, refl, sym, ◌∙◌, subst}
-use Rattle.nic_device.specs.DmaArena.Numbers.{Numbers, is_own}
+use Rattle.std.proofs.Common.{◌≡◌, inl, inr, List, [], ◌∷◌, refl, sym, ◌∙◌, subst}
+use Rattle.nic_device.specs.DmaArena.Numbers.{is_own}
 use Rattle.device_lock.specs.Alone.{Blocks}
 use Rattle.device_lock.specs.declared.entry.Call.{Call}
-use Rattle.pmd.specs.Driver.{Driver, WhereUp}
+use Rattle.pmd.specs.Driver.{WhereUp}
 use Rattle.pmd.specs.Running.{Running}
-use Rattle.pmd.specs.Started.{IsShut}
 use Rattle.pmd.specs.declared.driver.Rings.{Rings}
 use Rattle.pmd.specs.declared.driver.Rings.TheVariants.{Up, Down}
-use Rattle.pmd.specs.PmdSeam.declared.fault.PmdFault.{PmdFault}
-use Rattle.pmd.specs.PmdSeam.declared.fault.PmdFault.TheVariants.{BadSize}
 use Rattle.pmd.specs.Apart.{DrivesRings, OwnsSame}
 use Rattle.pmd.specs.Halves.{Halves, halves_of}
 use Rattle.pmd.proofs.Both.{rings_still}
@@ -87,9 +84,3 @@ all_follow m (n ∷ later) r is x =
       leads =
           rings_led_on m.made n.made (last n later).made r one.rings more.rings one.leads more.leads;
     }
-
--- a start that isn't shut has a size that rings may have
-pub open_size : (size : ℕ) (a : Numbers) (old new : List Call) (p : Driver) (b : Bool) (rest : Option PmdFault)
-    → IsShut (if b then rest else Some BadSize) a old new (Ok p) → b ≡ true
-open_size size a old new p true rest x = refl
-open_size size a old new p false rest x = absurd x

@@ -11,10 +11,10 @@ use Rattle.pmd.specs.PmdTx.Sending.{Elsewhere}
 use Rattle.driver_laws.specs.Faults.{doers_of}
 
 -- a call whose reply no healthy queue gives is a half's
-sick_own : (d : Doer) (n : Call) → is_healthy d n ≡ false → is_neither d ≡ false
-sick_own Receives n sick = refl
-sick_own (Sends Elsewhere) n sick = cc
-sick_own (Sends m) n sick = refl
+sick_own : (h : Halves) (d : Doer) (n : Call) → is_healthy h d n ≡ false → is_neither d ≡ false
+sick_own h Receives n sick = refl
+sick_own h (Sends Elsewhere) n sick = cc
+sick_own h (Sends m) n sick = refl
 
 -- all of these calls, and whose they are
 module _ (own : Blocks) (on : List Call) (h : Halves) (new : List Call) (f : FindsFault own on h new) where
@@ -51,4 +51,4 @@ module _ (own : Blocks) (on : List Call) (h : Halves) (new : List Call) (f : Fin
   others_step =
       steps_both is_neither f.drives.drives.0 (doers_other before ++ f.doer ∷ []) since (before ++ last ∷ [])
       (own_length h f.drives.drives.0 since f.drives.drives.3) f.drives.drives.5
-      (steps_last is_neither (Sends Elsewhere) f.doer before last (sick_own f.doer last f.sick) f.adds.2)
+      (steps_last is_neither (Sends Elsewhere) f.doer before last (sick_own f.there f.doer last f.sick) f.adds.2)

@@ -18,13 +18,13 @@ use Rattle.driver_laws.specs.Before.{OnlyPassLends}
 use Rattle.pmd_laws.specs.Faultless.{BeginsApart, IsQuietAndFresh, NoFillingFindsFault, NoStartFindsFault}
 use Rattle.pmd_laws.proofs.Faultless.{found_on, last_before}
 use Rattle.pmd_laws.proofs.Lends.{may}
-use Rattle.pmd_laws.proofs.Looks.{along_before}
+use Rattle.pmd_laws.proofs.Lived.{along_before}
 use Rattle.pmd_laws.proofs.NoFault.{no_fault_once_on}
 use Rattle.pmd_laws.proofs.PassLends.{others_before}
 use Rattle.pmd_laws.proofs.StartLends.{first_read, none_early}
 
-module _ (w : Watched) (fifo : ℕ) (h : List Entry) (q : AtPort) (size : ℕ) (old : List Call) (a : Numbers)
-    (new : List Call) (f : FaultsFilling q size old a new) (x : BeginsApart w fifo h q size old a new) where
+module _ (w : Watched) (fifo : ℕ) (h : List Entry) (q : AtPort) (size frame : ℕ) (old : List Call) (a : Numbers)
+    (new : List Call) (f : FaultsFilling q size frame old a new) (x : BeginsApart w fifo h q size frame old a new) where
   abbrev first : Halves
   first = record { receive = f.empty; transmit = f.sender }
 
@@ -33,8 +33,8 @@ module _ (w : Watched) (fifo : ℕ) (h : List Entry) (q : AtPort) (size : ℕ) (
 
   may_first : (n : ℕ) → is_free f.on.both_arena n ≡ true → MayLend (is_own a) first Receives n
   may_first =
-      may q size old a f.on.ready_made f.on.ready_arena f.on.both_made f.on.both_arena f.empty f.sender f.on.receive
-      f.on.transmit
+      may q size frame old a f.on.ready_made f.on.ready_arena f.on.both_made f.on.both_arena f.empty f.sender
+      f.on.receive f.on.transmit
 
   -- the slots that were filled, and the call that wasn't answered well
   found : FindsFault (is_own a) f.mid first new
@@ -50,10 +50,10 @@ module _ (w : Watched) (fifo : ℕ) (h : List Entry) (q : AtPort) (size : ℕ) (
   refuted : Parts w.pass h new x.more → ⊥
   refuted p =
       let quiet = f.on.receive.quiet in
-      let at = last_before w fifo h p.front p.back quiet.0 (IsQuietAndFresh w.queue q (is_own a)) p.both
-      (first_read w q fifo h (IsQuietAndFresh w.queue q (is_own a)) old quiet.0 x.begins quiet.1) in
-      no_fault_once_on w fifo p.front q size old a f.mid f.empty f.sender f.on
-      (along_before w fifo h p.front p.back p.both x.along) x.sized
+      let at = last_before w fifo h p.front p.back quiet.0 (IsQuietAndFresh w.queue q frame (is_own a)) p.both
+      (first_read w q fifo h (IsQuietAndFresh w.queue q frame (is_own a)) old quiet.0 x.begins quiet.1) in
+      no_fault_once_on w fifo p.front q size frame old a f.mid f.empty f.sender f.on
+      (along_before w fifo h p.front p.back p.both x.along)
       (λ done more e both own is. (at done more e both own is).0.ground) (is_own a)
       (λ done more e both own is. (at done more e both own is).1)
       (others_before w.pass (is_own a) p.front p.back
@@ -61,22 +61,22 @@ module _ (w : Watched) (fifo : ℕ) (h : List Entry) (q : AtPort) (size : ℕ) (
       (subst (FindsFault (is_own a) f.mid first) (sym p.fronts) found)
 
 pub no_filling_finds_fault : NoFillingFindsFault
-no_filling_finds_fault w fifo h q size old a new f x =
-    refuted w fifo h q size old a new f x (parts w.pass h new x.more x.made)
+no_filling_finds_fault w fifo h q size frame old a new f x =
+    refuted w fifo h q size frame old a new f x (parts w.pass h new x.more x.made)
 
 -- nor amid its events at all
-module _ (w : Watched) (fifo : ℕ) (h : List Entry) (q : AtPort) (size : ℕ) (old : List Call) (a : Numbers)
-    (new : List Call) (x : BeginsApart w fifo h q size old a new) where
-  never_early : FaultsEarly q size old a new → Parts w.pass h new x.more → ⊥
+module _ (w : Watched) (fifo : ℕ) (h : List Entry) (q : AtPort) (size frame : ℕ) (old : List Call) (a : Numbers)
+    (new : List Call) (x : BeginsApart w fifo h q size frame old a new) where
+  never_early : FaultsEarly q size frame old a new → Parts w.pass h new x.more → ⊥
   never_early early p =
-      no_fault_is_early w q fifo h size old a new x.along
+      no_fault_is_early w q fifo h size frame old a new x.along
       (λ before c steps apart done rest e all own is. (x.begins before c steps apart done rest e all own is).0) early
-      (none_early w fifo h q size old a new x early) p.front p.back p.both p.fronts
+      (none_early w fifo h q size frame old a new x early) p.front p.back p.both p.fronts
 
-  never_at_fault : FaultsEarly q size old a new ⊎ FaultsFilling q size old a new → ⊥
+  never_at_fault : FaultsEarly q size frame old a new ⊎ FaultsFilling q size frame old a new → ⊥
   never_at_fault (inl early) = never_early early (parts w.pass h new x.more x.made)
-  never_at_fault (inr filling) = no_filling_finds_fault w fifo h q size old a new filling x
+  never_at_fault (inr filling) = no_filling_finds_fault w fifo h q size frame old a new filling x
 
 pub no_start_finds_fault : NoStartFindsFault
-no_start_finds_fault w fifo h q size old a new e x stops is =
-    never_at_fault w fifo h q size old a new x (faults_are_early_or_filling q size old a new e stops is)
+no_start_finds_fault w fifo h q size frame old a new e x stops is =
+    never_at_fault w fifo h q size frame old a new x (faults_are_early_or_filling q size frame old a new e stops is)

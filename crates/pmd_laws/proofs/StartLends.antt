@@ -96,10 +96,10 @@ module _ (q : AtPort) (lent : Blocks) (first : List Call) where
       (all_rise q lent (ring_words side ring size) old mid driven made))
       (lends_rise q lent out mid stops.mid each stops.lent)) lends
 
-module _ (w : Watched) (fifo : ℕ) (h : List Entry) (q : AtPort) (size : ℕ) (old : List Call) (a : Numbers)
-    (new : List Call) (x : BeginsApart w fifo h q size old a new) where
+module _ (w : Watched) (fifo : ℕ) (h : List Entry) (q : AtPort) (size frame : ℕ) (old : List Call) (a : Numbers)
+    (new : List Call) (x : BeginsApart w fifo h q size frame old a new) where
   abbrev AtFirst : State → Type 0
-  AtFirst = IsQuietAndFresh w.queue q (is_own a)
+  AtFirst = IsQuietAndFresh w.queue q frame (is_own a)
 
   -- behind the first access
   unlent : (lent : Blocks) (first : List Call) → IsMade q old first (Sees Rxdctl false)
@@ -145,7 +145,7 @@ module _ (w : Watched) (fifo : ℕ) (h : List Entry) (q : AtPort) (size : ℕ) (
       number (is_own-of_free a number (free_before a out b drawn number free))
       (λ is. both_ways (lent number) (times_among out number (drawn_gone a out b number drawn free)) is)
 
-  pub none_early : (early : FaultsEarly q size old a new) → LendsFresh w fifo h q size old a new early
+  pub none_early : (early : FaultsEarly q size frame old a new) → LendsFresh w fifo h q size frame old a new early
   none_early (inl y) = none_before y.arena y.out y.fails
   none_early (inr (inl y)) = λ number free.
       let ring = y.receive.ring in
@@ -157,7 +157,7 @@ module _ (w : Watched) (fifo : ℕ) (h : List Entry) (q : AtPort) (size : ℕ) (
       unlent lent y.receive.quiet.0 y.receive.quiet.1
       (preparing_rise q lent y.receive.quiet.0 Tx size y.made y.ready_arena new y.arena y.out
       (λ n some. among_times all n (omega (arith, some, times-append (ring_blocks ring size) y.out n)))
-      (ready_rises q lent size old a y.made y.ready_arena y.empty y.receive
+      (ready_rises q lent size frame old a y.made y.ready_arena y.empty y.receive
       (λ k below.
       let n : ℕ = ring + k in
       let some = (ring_block_out ring size n).0 (ring_block_is ring size k below) in

@@ -1,6 +1,5 @@
 -- Before a call of the driver that ends with a packet outstanding not all that was accepted was sent.
-use Rattle.std.proofs.Common.{◌≡◌, ◌≢◌, ℕ, List, [], ◌∷◌, ◌++◌, refl, sym, ap, ◌∙◌, subst, append_assoc}
-use Rattle.std.proofs.lemmas.List.{append_cancel_left}
+use Rattle.std.proofs.Common.{◌≡◌, ◌≢◌, ℕ, List, [], ◌∷◌, ◌++◌, refl, sym, ap, ◌∙◌, subst}
 use Rattle.nic_device.specs.DmaArena.Numbers.{Numbers}
 use Rattle.nic_device.specs.State.{State, new_state}
 use Rattle.nic_device.specs.declared.event.Event.TheVariants as event
@@ -14,11 +13,11 @@ use Rattle.pmd.specs.Driver.{accepted_of}
 use Rattle.pmd.specs.Running.{Running}
 use Rattle.pmd.specs.declared.driver.Rings.{Rings}
 use Rattle.pmd.specs.PmdSeam.Named.{AtPort}
-use Rattle.pmd.specs.PmdTx.Sending.{Sender, descriptor_at}
+use Rattle.pmd.specs.PmdTx.Sending.{Sender, descriptor_at, first_end}
 use Rattle.start_laws.specs.TransmitLaws.Agreeing.{bytes_of}
 use Rattle.start_laws.specs.TransmitLaws.Laws.{FindsWaiting}
 use Rattle.start_laws.specs.TransmitLaws.Sent.{sent_since}
-use Rattle.start_laws.proofs.Parts.{Parts, calls_joined}
+use Rattle.start_laws.proofs.Parts.{Parts}
 use Rattle.pmd.specs.Halves.{Halves, halves_of}
 use Rattle.pmd.proofs.Followed.{sending_drives}
 use Rattle.driver_laws.specs.Beside.{AddsHarmless, Leads}
@@ -27,15 +26,15 @@ use Rattle.driver_laws.proofs.Waiting.{waiting_is_not_all}
 use Rattle.pmd_laws.specs.Order.{IsLived}
 use Rattle.pmd_laws.specs.Told.{last}
 use Rattle.pmd_laws.specs.Waits.{LooksAtWaiting, WaitingIsNotAllBefore, WaitingIsNotAllAsTold}
-use Rattle.pmd_laws.proofs.Looks.{answered, ends_with, lived_before}
+use Rattle.pmd_laws.proofs.Earlier.{early_parts, late_parts, lived_early, lived_then, parts_join}
+use Rattle.pmd_laws.proofs.Looks.{answered, ends_with}
 use Rattle.pmd_laws.proofs.Order as order
-use Rattle.pmd_laws.proofs.Order.{in_parts}
 use Rattle.pmd_laws.proofs.RunsOn.{up_next}
 use Rattle.pmd_laws.proofs.Told.{led, life, runs}
 
-module _ (w : Watched) (fifo : ℕ) (h : List Entry) (q : AtPort) (size : ℕ) (old : List Call) (a : Numbers)
+module _ (w : Watched) (fifo : ℕ) (h : List Entry) (q : AtPort) (size frame : ℕ) (old : List Call) (a : Numbers)
     (started : List Call) (r : Running) (made : List Call) (k : Halves) (made_then : List Call) (v : Sender)
-    (x : LooksAtWaiting w fifo h q size old a started r made k made_then v) where
+    (x : LooksAtWaiting w fifo h q size frame old a started r made k made_then v) where
   abbrev new : State
   new = new_state w.vfs fifo
 
@@ -52,7 +51,8 @@ module _ (w : Watched) (fifo : ℕ) (h : List Entry) (q : AtPort) (size : ℕ) (
   sender = x.looks.before
 
   abbrev looking : Call
-  looking = call_of (event.Peek16 (descriptor_at sender.layout 0)) (reply.Bytes x.looks.bytes)
+  looking =
+      call_of (event.Peek16 (descriptor_at sender.layout (first_end sender.outstanding))) (reply.Bytes x.looks.bytes)
 
   -- the halves at the look
 
@@ -70,10 +70,13 @@ module _ (w : Watched) (fifo : ℕ) (h : List Entry) (q : AtPort) (size : ℕ) (
       (harmless_lead x.looks.mid (x.looks.mid ++ others) then
       (others, refl, steps_harmless others x.looks.looks.2))
 
-  abbrev lived_then : IsLived w fifo late q size old a started r then
-  lived_then =
-      lived_before w fifo h late (x.look.entry ∷ x.look.behind) x.look.all q size old a started r made
-      (x.looks.mid ++ others) k then x.life x.along x.begins goes_on ends.0
+  abbrev rest : List Entry
+  rest = x.look.entry ∷ x.look.behind
+
+  abbrev lived : IsLived w fifo late q size frame old a started r then
+  lived =
+      lived_then w fifo h q size frame old a started r made k x.life x.along x.begins late rest x.look.all
+      (x.looks.mid ++ others) then goes_on ends.0
 
   finds : FindsWaiting (leads_to new late) sender
   finds = record {
@@ -85,62 +88,56 @@ module _ (w : Watched) (fifo : ℕ) (h : List Entry) (q : AtPort) (size : ℕ) (
 
   module _ (early more : List Entry) (all : early ++ more ≡ late) (is : AddsHarmless made (calls_of w.pass early))
     where
-      abbrev lived_early : IsLived w fifo early q size old a started r k
-      lived_early =
-          let rest = x.look.entry ∷ x.look.behind in
-          lived_before w fifo h early (more ++ rest)
-          (sym (append_assoc early more rest) ∙ ap (λ (l : List Entry). l ++ rest) all ∙ x.look.all) q size old a
-          started r made (calls_of w.pass early) k k x.life x.along x.begins
-          (leads_on started made (calls_of w.pass early) (halves_of r) k k x.life.since
-          (harmless_lead made (calls_of w.pass early) k is)) refl
+      abbrev lived_here : IsLived w fifo early q size frame old a started r k
+      lived_here =
+          lived_early w fifo h q size frame old a started r made k x.life x.along x.begins late rest x.look.all
+          (x.looks.mid ++ others) then goes_on ends.0 early more all is
 
-      p : Parts w.pass early x.life.up.on.mid (order.whole w fifo early q size old a started r k lived_early).1
-      p = in_parts w fifo early q size old a started r k lived_early
+      -- both places, from where the sides went on
 
-      abbrev calls : List Call
-      calls = (order.whole w fifo late q size old a started r then lived_then).1
+      abbrev p : Parts w.pass early x.life.up.on.mid
+          (order.whole w fifo early q size frame old a started r k lived_here).1
+      p =
+          early_parts w fifo h q size frame old a started r made k x.life x.along x.begins late rest x.look.all
+          (x.looks.mid ++ others) then goes_on ends.0 early more all is
 
-      both : p.front ++ (p.back ++ more) ≡ late
-      both = sym (append_assoc p.front p.back more) ∙ ap (λ (l : List Entry). l ++ more) p.both ∙ all
+      abbrev p_late : Parts w.pass late x.life.up.on.mid
+          (order.whole w fifo late q size frame old a started r then lived).1
+      p_late =
+          late_parts w fifo h q size frame old a started r made k x.life x.along x.begins late rest x.look.all
+          (x.looks.mid ++ others) then goes_on ends.0 early more all is
 
-      abbrev p_then : Parts w.pass late x.life.up.on.mid calls
-      p_then = record {
-        front = p.front;
-        back = p.back ++ more;
-        both = both;
-        fronts = p.fronts;
-        backs =
-            append_cancel_left x.life.up.on.mid (calls_of w.pass (p.back ++ more)) calls
-            (ap (λ (l : List Call). l ++ calls_of w.pass (p.back ++ more)) (sym p.fronts)
-            ∙ sym (calls_joined w.pass p.front (p.back ++ more)) ∙ ap (calls_of w.pass) both
-            ∙ (order.whole w fifo late q size old a started r then lived_then).2);
-      }
+      abbrev both : p.front ++ (p.back ++ more) ≡ late
+      both =
+          parts_join w fifo h q size frame old a started r made k x.life x.along x.begins late rest x.look.all
+          (x.looks.mid ++ others) then goes_on ends.0 early more all is
 
       not_all : bytes_of k.transmit.accepted ≢ sent_since w.queue new [] early
       not_all same =
-          let last = order.last w fifo late q size old a started r then lived_then p_then in
+          let last = order.last w fifo late q size frame old a started r then lived p_late in
           waiting_is_not_all w fifo p.front p.back more
-          (order.first w fifo late q size old a started r then lived_then)
-          (order.whole w fifo late q size old a started r then lived_then).0
-          (order.driven w fifo late q size old a started r then lived_then p_then)
+          (order.first w fifo late q size frame old a started r then lived)
+          (order.whole w fifo late q size frame old a started r then lived).0
+          (order.driven w fifo late q size frame old a started r then lived p_late)
           (subst (λ (z : Halves). FindsWaiting (leads_to new (p.front ++ (p.back ++ more))) z.transmit) (sym last)
           (subst (λ (l : List Entry). FindsWaiting (leads_to new l) sender) (sym both) finds))
           (ap (λ (z : Halves). bytes_of z.transmit.accepted) last ∙ ap bytes_of x.looks.accepted ∙ same
-          ∙ order.counted w fifo early q size old a started r k lived_early p)
+          ∙ order.counted w fifo early q size frame old a started r k lived_here p)
 
 pub waiting_before_look : WaitingIsNotAllBefore
 waiting_before_look = not_all
 
 -- the same by what the calls tell
 pub waiting_as_told : WaitingIsNotAllAsTold
-waiting_as_told w fifo h q size old a m later n x before more all is same =
+waiting_as_told w fifo h q size frame old a m later n x before more all is same =
     let made = (last m later).made in
-    let runs = runs q size old a m later x.told in
+    let runs = runs q size frame old a m later x.told in
     let (s, after, looks) = up_next _ (last m later).driver.rings n.driver.rings runs.rings runs.up x.waits in
-    waiting_before_look w fifo h q size old a m.made x.told.started.0 made (halves_of runs.rings) n.made s.transmit
+    waiting_before_look w fifo h q size frame old a m.made x.told.started.0 made (halves_of runs.rings) n.made
+    s.transmit
     (record {
       along = x.along;
-      life = life q size old a m later x.told made (led q size old a m later x.told);
+      life = life q size frame old a m later x.told made (led q size frame old a m later x.told);
       begins = x.begins;
       looks = looks;
       look = x.look;

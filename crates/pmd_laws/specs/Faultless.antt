@@ -1,5 +1,5 @@
 -- A driver whose blocks nobody else lends: no call of its finds the device at fault, and nor does its start.
-use Rattle.std.specs.Prelude.{ℕ, true, IsTrue, IsFalse, List, ◌≡◌, ◌≢◌, ◌++◌, All}
+use Rattle.std.specs.Prelude.{ℕ, IsTrue, IsFalse, List, ◌≡◌, ◌≢◌, ◌++◌, All}
 use Rattle.nic_device.specs.DmaArena.Memory.{has_block}
 use Rattle.nic_device.specs.DmaArena.Numbers.{Numbers, is_own}
 use Rattle.nic_device.specs.State.{State}
@@ -11,11 +11,12 @@ use Rattle.device_lock.specs.declared.entry.Entry.{Entry}
 use Rattle.pmd.specs.Apart.{FindsBy}
 use Rattle.pmd.specs.Driver.{WhereUp}
 use Rattle.pmd.specs.Halves.{halves_of}
-use Rattle.pmd.specs.Started.{StopsStarting, is_size}
+use Rattle.pmd.specs.Started.{StopsStarting}
 use Rattle.pmd.specs.declared.start.StartRefused.{StartRefused}
+use Rattle.pmd.specs.PmdSeam.Frames.{most_blocks}
 use Rattle.pmd.specs.PmdSeam.declared.fault.PmdFault.TheVariants.{DeviceFault}
 use Rattle.pmd.specs.PmdSeam.Named.{AtPort}
-use Rattle.start_laws.specs.ReceiveLaws.Short.{IsShortFor}
+use Rattle.start_laws.specs.ReceiveLaws.Fitting.{FitsBlocks}
 use Rattle.start_laws.specs.Along.{BeforeLast, IsAlong}
 use Rattle.start_laws.specs.Quieting.{IsQuiet}
 use Rattle.start_laws.specs.Start.{BeginsWell}
@@ -28,9 +29,10 @@ use Rattle.pmd_laws.specs.Told.{IsTold, Moment, last}
 abbrev pub NoneLent : Blocks → State → Type 0
 NoneLent own s = (number : ℕ) → IsTrue (own number) → IsFalse (has_block s.memory number)
 
--- the frames that wait for a queue fit a buffer, and none of these blocks is lent
-pub record IsFresh (queue : ℕ) (own : Blocks) (s : State) : Type 0 where
-  pub short : All (IsShortFor queue) s.waiting
+-- the frames that wait for a queue fit as many blocks as a packet of the driver has at most, and none of these blocks
+-- is lent
+pub record IsFresh (queue frame : ℕ) (own : Blocks) (s : State) : Type 0 where
+  pub short : All (FitsBlocks queue (most_blocks frame)) s.waiting
   pub none : NoneLent own s
 
 -- a call of `rx`, `tx` or `reap` ended with the device at fault, as `finds` in its clauses tells
@@ -42,12 +44,12 @@ FindsFault m n =
 -- a legal history of a new device that leaves the queue alone. In it the pass made the calls up to this last moment,
 -- and maybe more behind them. Just before the driver's first access frames were short and none of its arena's blocks
 -- was lent; and no other pass lends any of them
-pub record IsToldApart (w : Watched) (fifo : ℕ) (h : List Entry) (q : AtPort) (size : ℕ) (old : List Call) (a : Numbers)
-    (m : Moment) (later : List Moment) (n : Moment) : Type 0 where
+pub record IsToldApart (w : Watched) (fifo : ℕ) (h : List Entry) (q : AtPort) (size frame : ℕ) (old : List Call)
+    (a : Numbers) (m : Moment) (later : List Moment) (n : Moment) : Type 0 where
   pub along : IsAlong w fifo h
-  pub told : IsTold q size old a m later
-  pub begins : BeginsWell w fifo h q size old a m.made told.started.0 told.started.2
-  pub fresh : BeforeLast w fifo h told.started.2.receive.quiet.0 (IsFresh w.queue (is_own a))
+  pub told : IsTold q size frame old a m later
+  pub begins : BeginsWell w fifo h q size frame old a m.made told.started.0 told.started.2
+  pub fresh : BeforeLast w fifo h told.started.2.receive.quiet.0 (IsFresh w.queue frame (is_own a))
   pub others : OnlyPassLends w.pass (is_own a) h
   pub more : List Call
   pub made : calls_of w.pass h ≡ n.made ++ more
@@ -55,21 +57,20 @@ pub record IsToldApart (w : Watched) (fifo : ℕ) (h : List Entry) (q : AtPort) 
 -- no such history has such a call
 abbrev pub NoCallFindsFault : Type 0
 NoCallFindsFault =
-    (w : Watched) (fifo : ℕ) (h : List Entry) (q : AtPort) (size : ℕ) (old : List Call) (a : Numbers) (m : Moment)
+    (w : Watched) (fifo : ℕ) (h : List Entry) (q : AtPort) (size frame : ℕ) (old : List Call) (a : Numbers) (m : Moment)
     (later : List Moment) (n : Moment) → FindsFault (last m later) n →
-    ¬ IsToldApart w fifo h q size old a m later n
+    ¬ IsToldApart w fifo h q size frame old a m later n
 
 -- both sides of the queue are off, and so it begins
-abbrev pub IsQuietAndFresh : ℕ → AtPort → Blocks → State → Type 0
-IsQuietAndFresh queue q own s = IsQuiet queue q s × IsFresh queue own s
+abbrev pub IsQuietAndFresh : ℕ → AtPort → ℕ → Blocks → State → Type 0
+IsQuietAndFresh queue q frame own s = IsQuiet queue q frame s × IsFresh queue frame own s
 
 -- such a history, in which a start made these calls, and maybe more came behind them. Just before its first access both
 -- sides were off, frames were short and none of its arena's blocks was lent; and no other pass lends any of them
-pub record BeginsApart (w : Watched) (fifo : ℕ) (h : List Entry) (q : AtPort) (size : ℕ) (old : List Call) (a : Numbers)
-    (new : List Call) : Type 0 where
+pub record BeginsApart (w : Watched) (fifo : ℕ) (h : List Entry) (q : AtPort) (size frame : ℕ) (old : List Call)
+    (a : Numbers) (new : List Call) : Type 0 where
   pub along : IsAlong w fifo h
-  pub sized : is_size size ≡ true
-  pub begins : BeforeNext w fifo h old (IsQuietAndFresh w.queue q (is_own a))
+  pub begins : BeforeNext w fifo h old (IsQuietAndFresh w.queue q frame (is_own a))
   pub others : OnlyPassLends w.pass (is_own a) h
   pub more : List Call
   pub made : calls_of w.pass h ≡ new ++ more
@@ -77,12 +78,12 @@ pub record BeginsApart (w : Watched) (fifo : ℕ) (h : List Entry) (q : AtPort) 
 -- no such start ends with the device at fault as it fills its receive ring
 abbrev pub NoFillingFindsFault : Type 0
 NoFillingFindsFault =
-    (w : Watched) (fifo : ℕ) (h : List Entry) (q : AtPort) (size : ℕ) (old : List Call) (a : Numbers)
-    (new : List Call) → FaultsFilling q size old a new → ¬ BeginsApart w fifo h q size old a new
+    (w : Watched) (fifo : ℕ) (h : List Entry) (q : AtPort) (size frame : ℕ) (old : List Call) (a : Numbers)
+    (new : List Call) → FaultsFilling q size frame old a new → ¬ BeginsApart w fifo h q size frame old a new
 
 -- nor does it end so amid its events at all
 abbrev pub NoStartFindsFault : Type 0
 NoStartFindsFault =
-    (w : Watched) (fifo : ℕ) (h : List Entry) (q : AtPort) (size : ℕ) (old : List Call) (a : Numbers)
-    (new : List Call) (e : StartRefused) → BeginsApart w fifo h q size old a new →
-    StopsStarting q size old a new e → e.fault ≢ DeviceFault
+    (w : Watched) (fifo : ℕ) (h : List Entry) (q : AtPort) (size frame : ℕ) (old : List Call) (a : Numbers)
+    (new : List Call) (e : StartRefused) → BeginsApart w fifo h q size frame old a new →
+    StopsStarting q size frame old a new e → e.fault ≢ DeviceFault

@@ -1,5 +1,5 @@
--- How many packets are outstanding where a driver's ring is told to be full.
-use Rattle.std.specs.Prelude.{ℕ, ◌≡◌, ◌+◌, List, Ok, length}
+-- How many slots are taken where a driver's ring is told to be full.
+use Rattle.std.specs.Prelude.{ℕ, ◌+◌, ◌<◌, ◌≤◌, List, Ok, length}
 use Rattle.nic_device.specs.DmaArena.Numbers.{Numbers}
 use Rattle.device_lock.specs.declared.entry.Call.{Call}
 use Rattle.pmd.specs.Driver.{WhereUp}
@@ -7,6 +7,7 @@ use Rattle.pmd.specs.declared.driver.Rings.{Rings}
 use Rattle.pmd.specs.declared.driver.Rings.TheVariants.{Up, Down}
 use Rattle.pmd.specs.PmdSeam.declared.packet.Packet.{Packet}
 use Rattle.pmd.specs.PmdSeam.Named.{AtPort}
+use Rattle.pmd.specs.PmdTx.Sending.{parts_for}
 use Rattle.pmd.specs.PmdTx.Sends.{IsFullWhereTold}
 use Rattle.pmd.specs.PmdTx.declared.answer.TxAnswer.TheVariants.{RingFull}
 use Rattle.pmd_laws.specs.Told.{IsTold, Moment, last}
@@ -14,16 +15,18 @@ use Rattle.pmd_laws.specs.Told.{IsTold, Moment, last}
 -- a call of `tx` answered that the ring is full, as `full` in its clause `sent` tells
 abbrev pub TellsFull : Moment → Moment → Packet → Type 0
 TellsFull m n p =
-    WhereUp m.driver.rings n.driver.rings (λ r s. IsFullWhereTold r.transmit (Ok (RingFull p)))
+    WhereUp m.driver.rings n.driver.rings (λ r s. IsFullWhereTold r.transmit p (Ok (RingFull p)))
 
--- how many packets of a driver that runs are outstanding
+-- how many parts of packets of a driver that runs are outstanding, each in a slot
 abbrev pub outstanding : Rings → ℕ
 outstanding (Up r) = length r.transmit.outstanding
 outstanding (Down h) = 0
 
--- as many are outstanding as its start was given descriptors, but one
-abbrev pub FullIsAllButOne : Type 0
-FullIsAllButOne =
-    (q : AtPort) (size : ℕ) (old : List Call) (a : Numbers) (m : Moment) (later : List Moment) (n : Moment)
-    (p : Packet) → IsTold q size old a m later → TellsFull (last m later) n p →
-    outstanding (last m later).driver.rings + 1 ≡ size
+-- fewer are outstanding than its start was given descriptors, and with those of the packet that was given there are no
+-- fewer: so all slots but one are taken where that has one part
+abbrev pub FullHasNoRoom : Type 0
+FullHasNoRoom =
+    (q : AtPort) (size frame : ℕ) (old : List Call) (a : Numbers) (m : Moment) (later : List Moment) (n : Moment)
+    (p : Packet) → IsTold q size frame old a m later → TellsFull (last m later) n p →
+    (outstanding (last m later).driver.rings < size)
+    × (size ≤ outstanding (last m later).driver.rings + parts_for p.len)

@@ -9,13 +9,13 @@ use Rattle.pmd.specs.Running.{Running}
 use Rattle.pmd.specs.PmdSeam.Named.{AtPort}
 
 -- the halves as both sides are on: nothing is posted yet
-abbrev pub first_of : (q : AtPort) (size : ℕ) (old : List Call) (a : Numbers) (new : List Call) (r : Running)
-    → Lives q size old a new r → Halves
-first_of q size old a new r x = record { receive = x.up.empty; transmit = x.fresh.transmit }
+abbrev pub first_of : (q : AtPort) (size frame : ℕ) (old : List Call) (a : Numbers) (new : List Call) (r : Running)
+    → Lives q size frame old a new r → Halves
+first_of q size frame old a new r x = record { receive = x.up.empty; transmit = x.fresh.transmit }
 
 -- from there on the halves are driven on so, by the numbers of that arena
 abbrev pub LifeLendsApart : Type 0
 LifeLendsApart =
-    (q : AtPort) (size : ℕ) (old : List Call) (a : Numbers) (new : List Call) (r : Running)
-    (x : Lives q size old a new r) →
-    DrivesApart (is_own a) x.up.on.mid (first_of q size old a new r x) new (halves_of r)
+    (q : AtPort) (size frame : ℕ) (old : List Call) (a : Numbers) (new : List Call) (r : Running)
+    (x : Lives q size frame old a new r) →
+    DrivesApart (is_own a) x.up.on.mid (first_of q size frame old a new r x) new (halves_of r)

@@ -1,3 +1,4 @@
+pub use Rattle.start_laws.specs as StartLaws
 pub mod Ends
 pub mod Faultless
 pub mod FullRing

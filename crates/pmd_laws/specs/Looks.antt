@@ -1,4 +1,4 @@
--- A call of a driver that looks once and finds no packet.
+-- A call of a driver that looks in vain: it finds no packet that is whole.
 use Rattle.std.specs.Prelude.{ℕ, ◌≡◌, List, [], ◌∷◌, ◌++◌}
 use Rattle.nic_device.specs.DmaArena.Numbers.{Numbers}
 use Rattle.nic_device.specs.State.{new_state}
@@ -8,9 +8,10 @@ use Rattle.device_lock.specs.declared.entry.Call.{Call}
 use Rattle.device_lock.specs.declared.entry.Entry.{Entry}
 use Rattle.pmd.specs.Running.{Running}
 use Rattle.pmd.specs.PmdSeam.Named.{AtPort}
-use Rattle.pmd.specs.PmdRx.Plays.{LooksOnce}
+use Rattle.pmd.specs.PmdRx.Plays as receiving
 use Rattle.pmd.specs.PmdRx.Receive.{Receive}
 use Rattle.start_laws.specs.ReceiveLaws.Delivered.{delivered}
+use Rattle.driver_laws.specs.Beside.{AddsHarmless}
 use Rattle.start_laws.specs.Along.{IsAlong}
 use Rattle.start_laws.specs.Start.{BeginsWell}
 use Rattle.pmd.specs.Halves.{Halves}
@@ -31,19 +32,29 @@ CallsEnd =
     calls_of pass h ≡ (calls ++ c ∷ []) ++ more → EndsAt pass h (calls ++ c ∷ [])
 
 -- a legal history of a new device that leaves the queue alone. In it the pass made the calls of this life, and then one
--- call of the driver looked once and found no packet
-pub record LooksInVain (w : Watched) (fifo : ℕ) (h : List Entry) (q : AtPort) (size : ℕ) (old : List Call) (a : Numbers)
-    (started : List Call) (r : Running) (made : List Call) (k : Halves) (new : List Call) (v : Receive) : Type 0 where
+-- call of the driver looked at the slots of a packet, and found the last of these not done
+pub record LooksInVain (w : Watched) (fifo : ℕ) (h : List Entry) (q : AtPort) (size frame : ℕ) (old : List Call)
+    (a : Numbers) (started : List Call) (r : Running) (made : List Call) (k : Halves) (new : List Call) (v : Receive) :
+    Type 0 where
   pub along : IsAlong w fifo h
-  pub life : IsLife q size old a started r made k
-  pub begins : BeginsWell w fifo h q size old a started r life.up
-  pub looks : LooksOnce made k.receive new v
+  pub life : IsLife q size frame old a started r made k
+  pub begins : BeginsWell w fifo h q size frame old a started r life.up
+  pub looks : receiving.LooksInVain made k.receive new v
   pub look : EndsAt w.pass h new
 
--- what the driver had handed out is all that was delivered before the entry of that look, whatever came behind it
+-- what the driver had handed out is all that was delivered before the entry of that last look, whatever came behind it
 abbrev pub NoneIsAllBefore : Type 0
 NoneIsAllBefore =
-    (w : Watched) (fifo : ℕ) (h : List Entry) (q : AtPort) (size : ℕ) (old : List Call) (a : Numbers)
+    (w : Watched) (fifo : ℕ) (h : List Entry) (q : AtPort) (size frame : ℕ) (old : List Call) (a : Numbers)
     (started : List Call) (r : Running) (made : List Call) (k : Halves) (new : List Call) (v : Receive)
-    (looked : LooksInVain w fifo h q size old a started r made k new v) →
+    (looked : LooksInVain w fifo h q size frame old a started r made k new v) →
     k.receive.handed ≡ delivered w.queue (new_state w.vfs fifo) looked.look.before
+
+-- and it is all that was delivered before the first event of that call's own, harmless calls ahead of it included
+abbrev pub NoneIsAllAtFirst : Type 0
+NoneIsAllAtFirst =
+    (w : Watched) (fifo : ℕ) (h : List Entry) (q : AtPort) (size frame : ℕ) (old : List Call) (a : Numbers)
+    (started : List Call) (r : Running) (made : List Call) (k : Halves) (new : List Call) (v : Receive)
+    (looked : LooksInVain w fifo h q size frame old a started r made k new v) (before more : List Entry) →
+    before ++ more ≡ looked.look.before → AddsHarmless made (calls_of w.pass before) →
+    k.receive.handed ≡ delivered w.queue (new_state w.vfs fifo) before

@@ -20,24 +20,24 @@ use Rattle.pmd.specs.Halves.{Halves}
 use Rattle.pmd_laws.specs.Life.{IsLife}
 
 -- a legal history of a new device that leaves the queue alone, in which the pass made just the calls of this life
-pub record IsLived (w : Watched) (fifo : ℕ) (h : List Entry) (q : AtPort) (size : ℕ) (old : List Call) (a : Numbers)
-    (started : List Call) (r : Running) (k : Halves) : Type 0 where
+pub record IsLived (w : Watched) (fifo : ℕ) (h : List Entry) (q : AtPort) (size frame : ℕ) (old : List Call)
+    (a : Numbers) (started : List Call) (r : Running) (k : Halves) : Type 0 where
   pub along : IsAlong w fifo h
-  pub life : IsLife q size old a started r (calls_of w.pass h) k
-  pub begins : BeginsWell w fifo h q size old a started r life.up
+  pub life : IsLife q size frame old a started r (calls_of w.pass h) k
+  pub begins : BeginsWell w fifo h q size frame old a started r life.up
 
 -- what the driver handed out is a prefix of what was delivered on its queue since the receive side went on, and it is
 -- all of that where a look that comes next finds none
 abbrev pub HandedIsPrefix : Type 0
 HandedIsPrefix =
-    (w : Watched) (fifo : ℕ) (h : List Entry) (q : AtPort) (size : ℕ) (old : List Call) (a : Numbers)
-    (started : List Call) (r : Running) (k : Halves) → IsLived w fifo h q size old a started r k →
+    (w : Watched) (fifo : ℕ) (h : List Entry) (q : AtPort) (size frame : ℕ) (old : List Call) (a : Numbers)
+    (started : List Call) (r : Running) (k : Halves) → IsLived w fifo h q size frame old a started r k →
     receive.IsPrefixOf k.receive.handed (delivered w.queue (new_state w.vfs fifo) h)
 
 abbrev pub NoneIsAll : Type 0
 NoneIsAll =
-    (w : Watched) (fifo : ℕ) (h : List Entry) (q : AtPort) (size : ℕ) (old : List Call) (a : Numbers)
-    (started : List Call) (r : Running) (k : Halves) → IsLived w fifo h q size old a started r k →
+    (w : Watched) (fifo : ℕ) (h : List Entry) (q : AtPort) (size frame : ℕ) (old : List Call) (a : Numbers)
+    (started : List Call) (r : Running) (k : Halves) → IsLived w fifo h q size frame old a started r k →
     FindsNone (leads_to (new_state w.vfs fifo) h) k.receive →
     k.receive.handed ≡ delivered w.queue (new_state w.vfs fifo) h
 
@@ -45,12 +45,12 @@ NoneIsAll =
 -- that where none is outstanding
 abbrev pub SentIsPrefix : Type 0
 SentIsPrefix =
-    (w : Watched) (fifo : ℕ) (h : List Entry) (q : AtPort) (size : ℕ) (old : List Call) (a : Numbers)
-    (started : List Call) (r : Running) (k : Halves) → IsLived w fifo h q size old a started r k →
+    (w : Watched) (fifo : ℕ) (h : List Entry) (q : AtPort) (size frame : ℕ) (old : List Call) (a : Numbers)
+    (started : List Call) (r : Running) (k : Halves) → IsLived w fifo h q size frame old a started r k →
     transmit.IsPrefixOf (sent_since w.queue (new_state w.vfs fifo) [] h) (bytes_of k.transmit.accepted)
 
 abbrev pub IdleIsAllSent : Type 0
 IdleIsAllSent =
-    (w : Watched) (fifo : ℕ) (h : List Entry) (q : AtPort) (size : ℕ) (old : List Call) (a : Numbers)
-    (started : List Call) (r : Running) (k : Halves) → IsLived w fifo h q size old a started r k →
+    (w : Watched) (fifo : ℕ) (h : List Entry) (q : AtPort) (size frame : ℕ) (old : List Call) (a : Numbers)
+    (started : List Call) (r : Running) (k : Halves) → IsLived w fifo h q size frame old a started r k →
     k.transmit.outstanding ≡ [] → bytes_of k.transmit.accepted ≡ sent_since w.queue (new_state w.vfs fifo) [] h

@@ -16,7 +16,6 @@ use Rattle.pmd.specs.declared.driver.Rings.{Rings}
 use Rattle.pmd.specs.declared.driver.Rings.TheVariants.{Up, Down}
 use Rattle.pmd.specs.Halted.{Halted}
 use Rattle.pmd.specs.PmdSeam.Named.{AtPort}
-use Rattle.pmd.specs.PmdRx.Keeping.{block_in}
 use Rattle.start_laws.specs.Along.{BeforeLast}
 use Rattle.driver_laws.specs.Before.{OnlyPassLends}
 use Rattle.driver_laws.specs.Healthy.{lent_by}
@@ -24,7 +23,7 @@ use Rattle.pmd_laws.specs.Faultless.{NoneLent}
 use Rattle.pmd_laws.specs.Told.{IsToldOf, Moment, last}
 
 -- whether a driver that runs has the block of this number out with a half: it is a ring's own, one that is posted or
--- about to be, or that of an outstanding packet
+-- about to be, or that of a part of an outstanding packet which is lent
 abbrev pub is_out : Rings → ℕ → Bool
 is_out (Up r) n = lent_by (halves_of r) n
 is_out (Down h) n = false
@@ -36,23 +35,23 @@ memory_after w fifo h = (leads_to (new_state w.vfs fifo) h).memory
 -- each block that is out is lent there
 abbrev pub OutIsLent : Type 0
 OutIsLent =
-    (w : Watched) (fifo : ℕ) (h : List Entry) (q : AtPort) (size : ℕ) (old : List Call) (a : Numbers) (m : Moment)
-    (later : List Moment) → IsToldOf w fifo h q size old a m later → (number : ℕ) →
+    (w : Watched) (fifo : ℕ) (h : List Entry) (q : AtPort) (size frame : ℕ) (old : List Call) (a : Numbers) (m : Moment)
+    (later : List Moment) → IsToldOf w fifo h q size frame old a m later → (number : ℕ) →
     IsTrue (is_out (last m later).driver.rings number) → IsTrue (has_block (memory_after w fifo h) number)
 
 -- such a history. Just before the driver's first access none of its arena's blocks was lent; and no other pass lends
 -- any of them
-pub record IsToldAlone (w : Watched) (fifo : ℕ) (h : List Entry) (q : AtPort) (size : ℕ) (old : List Call) (a : Numbers)
-    (m : Moment) (later : List Moment) : Type 0 where
-  pub told : IsToldOf w fifo h q size old a m later
+pub record IsToldAlone (w : Watched) (fifo : ℕ) (h : List Entry) (q : AtPort) (size frame : ℕ) (old : List Call)
+    (a : Numbers) (m : Moment) (later : List Moment) : Type 0 where
+  pub told : IsToldOf w fifo h q size frame old a m later
   pub fresh : BeforeLast w fifo h told.told.started.2.receive.quiet.0 (NoneLent (is_own a))
   pub others : OnlyPassLends w.pass (is_own a) h
 
 -- each of the arena's blocks that is lent there is out
 abbrev pub LentIsOut : Type 0
 LentIsOut =
-    (w : Watched) (fifo : ℕ) (h : List Entry) (q : AtPort) (size : ℕ) (old : List Call) (a : Numbers) (m : Moment)
-    (later : List Moment) → IsToldAlone w fifo h q size old a m later → (number : ℕ) → IsTrue (is_own a number) →
+    (w : Watched) (fifo : ℕ) (h : List Entry) (q : AtPort) (size frame : ℕ) (old : List Call) (a : Numbers) (m : Moment)
+    (later : List Moment) → IsToldAlone w fifo h q size frame old a m later → (number : ℕ) → IsTrue (is_own a number) →
     IsTrue (has_block (memory_after w fifo h) number) → IsTrue (is_out (last m later).driver.rings number)
 
 -- where a driver has all blocks of an arena but those in hand, it has them so after a call, as its clause `blocks`
@@ -67,12 +66,13 @@ pub record BooksGoOn : Type 0 where
       → ((number : ℕ) → times_in_hand hand number ≡ times_in_hand other number) → HasAll a h hand → HasAll a h other
 
 -- so each block that was free in the arena that came to the driver is in one place: free there, in hand, or lent to the
--- device; and no other block of the arena is in any of them. The block of a packet that the driver holds is in hand too
+-- device; and no other block of the arena is in any of them. The blocks of a packet that the driver holds are in hand
+-- too, and those of parts that wait to be lent
 abbrev pub EachInOnePlace : Type 0
 EachInOnePlace =
-    (w : Watched) (fifo : ℕ) (h : List Entry) (q : AtPort) (size : ℕ) (old : List Call) (a : Numbers) (m : Moment)
-    (later : List Moment) → IsToldAlone w fifo h q size old a m later → (hand : List ℕ) →
+    (w : Watched) (fifo : ℕ) (h : List Entry) (q : AtPort) (size frame : ℕ) (old : List Call) (a : Numbers) (m : Moment)
+    (later : List Moment) → IsToldAlone w fifo h q size frame old a m later → (hand : List ℕ) →
     HasAll a (halted_of (last m later).driver.rings) hand → (number : ℕ) → IsTrue (is_own a number) →
-    places_of (arena_of (last m later).driver.rings) (block_in (halted_of (last m later).driver.rings).held ++ hand)
+    places_of (arena_of (last m later).driver.rings) ((halted_of (last m later).driver.rings).held ++ hand)
     (memory_after w fifo h) number
     ≡ (if is_free a number then 1 else 0)

@@ -25,11 +25,11 @@ use Rattle.pmd_laws.specs.Life.{IsLife}
 
 -- a legal history of a new device that leaves the queue alone, in which the pass made just the calls of this life, and
 -- behind them those of a stop: none writes the queue's enable words with bit 25
-pub record IsStopping (w : Watched) (fifo : ℕ) (h : List Entry) (q : AtPort) (size : ℕ) (old : List Call) (a : Numbers)
-    (started : List Call) (r : Running) (made : List Call) (k : Halves) (new : List Call) : Type 0 where
+pub record IsStopping (w : Watched) (fifo : ℕ) (h : List Entry) (q : AtPort) (size frame : ℕ) (old : List Call)
+    (a : Numbers) (started : List Call) (r : Running) (made : List Call) (k : Halves) (new : List Call) : Type 0 where
   pub along : IsAlong w fifo h
-  pub life : IsLife q size old a started r made k
-  pub begins : BeginsWell w fifo h q size old a started r life.up
+  pub life : IsLife q size frame old a started r made k
+  pub begins : BeginsWell w fifo h q size frame old a started r life.up
   pub ends : Ends q made new
   pub calls : calls_of w.pass h ≡ new
 
@@ -37,18 +37,18 @@ pub record IsStopping (w : Watched) (fifo : ℕ) (h : List Entry) (q : AtPort) (
 -- whole history
 abbrev pub HandedIsPrefix : Type 0
 HandedIsPrefix =
-    (w : Watched) (fifo : ℕ) (h : List Entry) (q : AtPort) (size : ℕ) (old : List Call) (a : Numbers)
+    (w : Watched) (fifo : ℕ) (h : List Entry) (q : AtPort) (size frame : ℕ) (old : List Call) (a : Numbers)
     (started : List Call) (r : Running) (made : List Call) (k : Halves) (new : List Call) →
-    IsStopping w fifo h q size old a started r made k new →
+    IsStopping w fifo h q size frame old a started r made k new →
     receive.IsPrefixOf k.receive.handed (delivered w.queue (new_state w.vfs fifo) h)
 
 -- where the stop takes blocks back only once both sides were seen off, what was sent on the queue since its transmit
 -- side went on is a prefix of what the driver accepted, over the whole history
 abbrev pub SentIsPrefix : Type 0
 SentIsPrefix =
-    (w : Watched) (fifo : ℕ) (h : List Entry) (q : AtPort) (size : ℕ) (old : List Call) (a : Numbers)
+    (w : Watched) (fifo : ℕ) (h : List Entry) (q : AtPort) (size frame : ℕ) (old : List Call) (a : Numbers)
     (started : List Call) (r : Running) (made : List Call) (k : Halves) (new : List Call) →
-    IsStopping w fifo h q size old a started r made k new → TakesOnceOff q made new →
+    IsStopping w fifo h q size frame old a started r made k new → TakesOnceOff q made new →
     transmit.IsPrefixOf (sent_since w.queue (new_state w.vfs fifo) [] h) (bytes_of k.transmit.accepted)
 
 -- the calls of a driver's stop are such, and so are those of one that fails

@@ -1,6 +1,6 @@
 -- A driver's life as its calls tell it: what the clauses of `start`, `rx`, `tx`, `reap`, `packet` and `release` say of
 -- the driver, and of the calls that its pass made.
-use Rattle.std.specs.Prelude.{ℕ, ◌≡◌, ◌⊎◌, ⊤, List, [], ◌∷◌, Ok}
+use Rattle.std.specs.Prelude.{ℕ, ◌≡◌, ◌⊎◌, ⊤, List, [], ◌∷◌, ◌++◌}
 use Rattle.nic_device.specs.DmaArena.Numbers.{Numbers}
 use Rattle.nic_device.specs.State.{new_state}
 use Rattle.device_lock.specs.History.{calls_of}
@@ -9,11 +9,11 @@ use Rattle.device_lock.specs.declared.entry.Call.{Call}
 use Rattle.device_lock.specs.declared.entry.Entry.{Entry}
 use Rattle.pmd.specs.Driver.{Driver, WhereUp, accepted_of, handed_of}
 use Rattle.pmd.specs.Life.{RunsOn, KeepsHalves}
-use Rattle.pmd.specs.Started.{HasStarted, IsShut, start_gate}
+use Rattle.pmd.specs.Started.{HasStarted}
 use Rattle.pmd.specs.declared.driver.Rings.{Rings}
 use Rattle.pmd.specs.declared.driver.Rings.TheVariants.{Up, Down}
 use Rattle.pmd.specs.PmdSeam.Named.{AtPort}
-use Rattle.pmd.specs.PmdRx.Plays.{LooksOnce}
+use Rattle.pmd.specs.PmdRx.Plays as receiving
 use Rattle.start_laws.specs.ReceiveLaws.Delivered as receive
 use Rattle.start_laws.specs.ReceiveLaws.Delivered.{delivered}
 use Rattle.start_laws.specs.TransmitLaws.Agreeing.{bytes_of}
@@ -51,28 +51,27 @@ abbrev pub last : Moment → List Moment → Moment
 last m [] = m
 last m (n ∷ later) = last n later
 
--- a `start` brought the driver up, as its clauses `shut` and `started` tell; and the other moments follow on the one
--- when it returned
-pub record IsTold (q : AtPort) (size : ℕ) (old : List Call) (a : Numbers) (m : Moment) (later : List Moment) : Type 0
-  where
-    pub shut : IsShut (start_gate a q size) a old m.made (Ok m.driver)
-    pub started : HasStarted q size old a m.made m.driver
-    pub since : AllFollow m later
+-- a `start` brought the driver up, as its clause `started` tells; and the other moments follow on the one when it
+-- returned
+pub record IsTold (q : AtPort) (size frame : ℕ) (old : List Call) (a : Numbers) (m : Moment) (later : List Moment) :
+    Type 0 where
+  pub started : HasStarted q size frame old a m.made m.driver
+  pub since : AllFollow m later
 
 -- a legal history of a new device that leaves the queue alone, in which the pass has made just the calls of the last
 -- moment
-pub record IsToldOf (w : Watched) (fifo : ℕ) (h : List Entry) (q : AtPort) (size : ℕ) (old : List Call) (a : Numbers)
-    (m : Moment) (later : List Moment) : Type 0 where
+pub record IsToldOf (w : Watched) (fifo : ℕ) (h : List Entry) (q : AtPort) (size frame : ℕ) (old : List Call)
+    (a : Numbers) (m : Moment) (later : List Moment) : Type 0 where
   pub along : IsAlong w fifo h
-  pub told : IsTold q size old a m later
-  pub begins : BeginsWell w fifo h q size old a m.made told.started.0 told.started.2
+  pub told : IsTold q size frame old a m later
+  pub begins : BeginsWell w fifo h q size frame old a m.made told.started.0 told.started.2
   pub made : calls_of w.pass h ≡ (last m later).made
 
 -- what the driver handed out is a prefix of what was delivered
 abbrev pub HandedIsPrefix : Type 0
 HandedIsPrefix =
-    (w : Watched) (fifo : ℕ) (h : List Entry) (q : AtPort) (size : ℕ) (old : List Call) (a : Numbers) (m : Moment)
-    (later : List Moment) → IsToldOf w fifo h q size old a m later →
+    (w : Watched) (fifo : ℕ) (h : List Entry) (q : AtPort) (size frame : ℕ) (old : List Call) (a : Numbers) (m : Moment)
+    (later : List Moment) → IsToldOf w fifo h q size frame old a m later →
     receive.IsPrefixOf (handed_of (last m later).driver.rings) (delivered w.queue (new_state w.vfs fifo) h)
 
 -- what was sent is a prefix of what the driver accepted, and it is all of that where no packet is outstanding, as where
@@ -80,8 +79,8 @@ HandedIsPrefix =
 
 abbrev pub SentIsPrefix : Type 0
 SentIsPrefix =
-    (w : Watched) (fifo : ℕ) (h : List Entry) (q : AtPort) (size : ℕ) (old : List Call) (a : Numbers) (m : Moment)
-    (later : List Moment) → IsToldOf w fifo h q size old a m later →
+    (w : Watched) (fifo : ℕ) (h : List Entry) (q : AtPort) (size frame : ℕ) (old : List Call) (a : Numbers) (m : Moment)
+    (later : List Moment) → IsToldOf w fifo h q size frame old a m later →
     transmit.IsPrefixOf (sent_since w.queue (new_state w.vfs fifo) [] h)
     (bytes_of (accepted_of (last m later).driver.rings))
 
@@ -91,27 +90,36 @@ HasNoneOut (Down h) = ⊥
 
 abbrev pub IdleIsAllSent : Type 0
 IdleIsAllSent =
-    (w : Watched) (fifo : ℕ) (h : List Entry) (q : AtPort) (size : ℕ) (old : List Call) (a : Numbers) (m : Moment)
-    (later : List Moment) → IsToldOf w fifo h q size old a m later → HasNoneOut (last m later).driver.rings →
+    (w : Watched) (fifo : ℕ) (h : List Entry) (q : AtPort) (size frame : ℕ) (old : List Call) (a : Numbers) (m : Moment)
+    (later : List Moment) → IsToldOf w fifo h q size frame old a m later → HasNoneOut (last m later).driver.rings →
     bytes_of (accepted_of (last m later).driver.rings) ≡ sent_since w.queue (new_state w.vfs fifo) [] h
 
 -- a call of `rx` answered none, as `none` in its clause `received` tells
 abbrev pub LooksInVain : Moment → Moment → Type 0
 LooksInVain m n =
-    WhereUp m.driver.rings n.driver.rings (λ r s. LooksOnce m.made r.receive n.made s.receive)
+    WhereUp m.driver.rings n.driver.rings (λ r s. receiving.LooksInVain m.made r.receive n.made s.receive)
 
 -- in a legal history of a new device that leaves the queue alone, such a call comes after the last moment
-pub record IsToldToLook (w : Watched) (fifo : ℕ) (h : List Entry) (q : AtPort) (size : ℕ) (old : List Call)
+pub record IsToldToLook (w : Watched) (fifo : ℕ) (h : List Entry) (q : AtPort) (size frame : ℕ) (old : List Call)
     (a : Numbers) (m : Moment) (later : List Moment) (n : Moment) : Type 0 where
   pub along : IsAlong w fifo h
-  pub told : IsTold q size old a m later
-  pub begins : BeginsWell w fifo h q size old a m.made told.started.0 told.started.2
+  pub told : IsTold q size frame old a m later
+  pub begins : BeginsWell w fifo h q size frame old a m.made told.started.0 told.started.2
   pub looks : LooksInVain (last m later) n
   pub look : EndsAt w.pass h n.made
 
--- what the driver had handed out is all that was delivered before the entry of the call's look
+-- what the driver had handed out is all that was delivered before the entry of the call's last look
 abbrev pub NoneIsAllBefore : Type 0
 NoneIsAllBefore =
-    (w : Watched) (fifo : ℕ) (h : List Entry) (q : AtPort) (size : ℕ) (old : List Call) (a : Numbers) (m : Moment)
-    (later : List Moment) (n : Moment) (x : IsToldToLook w fifo h q size old a m later n) →
+    (w : Watched) (fifo : ℕ) (h : List Entry) (q : AtPort) (size frame : ℕ) (old : List Call) (a : Numbers) (m : Moment)
+    (later : List Moment) (n : Moment) (x : IsToldToLook w fifo h q size frame old a m later n) →
     handed_of (last m later).driver.rings ≡ delivered w.queue (new_state w.vfs fifo) x.look.before
+
+-- and it is all that was delivered before the first event of that call's own, harmless calls ahead of it included
+abbrev pub NoneIsAllAtFirst : Type 0
+NoneIsAllAtFirst =
+    (w : Watched) (fifo : ℕ) (h : List Entry) (q : AtPort) (size frame : ℕ) (old : List Call) (a : Numbers) (m : Moment)
+    (later : List Moment) (n : Moment) (x : IsToldToLook w fifo h q size frame old a m later n)
+    (before more : List Entry) → before ++ more ≡ x.look.before →
+    AddsHarmless (last m later).made (calls_of w.pass before) →
+    handed_of (last m later).driver.rings ≡ delivered w.queue (new_state w.vfs fifo) before

@@ -23,12 +23,12 @@ use Rattle.pmd_laws.specs.Told.{IsTold, Moment, last}
 
 -- a legal history of a new device that leaves the queue alone. In it the pass made the calls of this life, and then one
 -- call of the driver accepted none, and looked at last at the oldest outstanding packet, which wasn't done
-pub record LooksAtWaiting (w : Watched) (fifo : ℕ) (h : List Entry) (q : AtPort) (size : ℕ) (old : List Call)
+pub record LooksAtWaiting (w : Watched) (fifo : ℕ) (h : List Entry) (q : AtPort) (size frame : ℕ) (old : List Call)
     (a : Numbers) (started : List Call) (r : Running) (made : List Call) (k : Halves) (new : List Call) (v : Sender) :
     Type 0 where
   pub along : IsAlong w fifo h
-  pub life : IsLife q size old a started r made k
-  pub begins : BeginsWell w fifo h q size old a started r life.up
+  pub life : IsLife q size frame old a started r made k
+  pub begins : BeginsWell w fifo h q size frame old a started r life.up
   pub looks : LooksLast made k.transmit new v
   pub look : EndsAt w.pass h new
 
@@ -36,9 +36,9 @@ pub record LooksAtWaiting (w : Watched) (fifo : ℕ) (h : List Entry) (q : AtPor
 -- accepted was sent
 abbrev pub WaitingIsNotAllBefore : Type 0
 WaitingIsNotAllBefore =
-    (w : Watched) (fifo : ℕ) (h : List Entry) (q : AtPort) (size : ℕ) (old : List Call) (a : Numbers)
+    (w : Watched) (fifo : ℕ) (h : List Entry) (q : AtPort) (size frame : ℕ) (old : List Call) (a : Numbers)
     (started : List Call) (r : Running) (made : List Call) (k : Halves) (new : List Call) (v : Sender)
-    (looked : LooksAtWaiting w fifo h q size old a started r made k new v) (before more : List Entry) →
+    (looked : LooksAtWaiting w fifo h q size frame old a started r made k new v) (before more : List Entry) →
     before ++ more ≡ looked.look.before → AddsHarmless made (calls_of w.pass before) →
     bytes_of k.transmit.accepted ≢ sent_since w.queue (new_state w.vfs fifo) [] before
 
@@ -49,11 +49,11 @@ Waits m n =
     WhereUp m.driver.rings n.driver.rings (λ r s. LooksLast m.made r.transmit n.made s.transmit)
 
 -- in a legal history of a new device that leaves the queue alone, such a call comes after the last moment
-pub record IsToldToWait (w : Watched) (fifo : ℕ) (h : List Entry) (q : AtPort) (size : ℕ) (old : List Call)
+pub record IsToldToWait (w : Watched) (fifo : ℕ) (h : List Entry) (q : AtPort) (size frame : ℕ) (old : List Call)
     (a : Numbers) (m : Moment) (later : List Moment) (n : Moment) : Type 0 where
   pub along : IsAlong w fifo h
-  pub told : IsTold q size old a m later
-  pub begins : BeginsWell w fifo h q size old a m.made told.started.0 told.started.2
+  pub told : IsTold q size frame old a m later
+  pub begins : BeginsWell w fifo h q size frame old a m.made told.started.0 told.started.2
   pub waits : Waits (last m later) n
   pub look : EndsAt w.pass h n.made
 
@@ -61,7 +61,8 @@ pub record IsToldToWait (w : Watched) (fifo : ℕ) (h : List Entry) (q : AtPort)
 -- accepted was sent
 abbrev pub WaitingIsNotAllAsTold : Type 0
 WaitingIsNotAllAsTold =
-    (w : Watched) (fifo : ℕ) (h : List Entry) (q : AtPort) (size : ℕ) (old : List Call) (a : Numbers) (m : Moment)
-    (later : List Moment) (n : Moment) (x : IsToldToWait w fifo h q size old a m later n) (before more : List Entry) →
+    (w : Watched) (fifo : ℕ) (h : List Entry) (q : AtPort) (size frame : ℕ) (old : List Call) (a : Numbers) (m : Moment)
+    (later : List Moment) (n : Moment) (x : IsToldToWait w fifo h q size frame old a m later n)
+    (before more : List Entry) →
     before ++ more ≡ x.look.before → AddsHarmless (last m later).made (calls_of w.pass before) →
     bytes_of (accepted_of (last m later).driver.rings) ≢ sent_since w.queue (new_state w.vfs fifo) [] before

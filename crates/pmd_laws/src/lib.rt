@@ -5,16 +5,16 @@
 //! `specs/Order` says what holds of it over a history of a shared device, `specs/Faultless` that neither its start nor
 //! a call of its finds the device at fault, `specs/Looks` what holds where a look finds no packet, and `specs/Waits`
 //! where it finds one waiting; `specs/Places` says where its blocks are at the device, and `specs/FullRing` how many
-//! packets are outstanding where its ring is full. `specs/Ends` says what holds of what a stopped driver left,
+//! slots are taken where its ring is full. `specs/Ends` says what holds of what a stopped driver left,
 //! `specs/Stopped` what over the calls of its stop, and `specs/Silent` once these have switched its queue off;
 //! `specs/Refused` what holds where its start was refused, and `specs/Room` where an arena has room for its rings.
 #![tactic(auto)]
 
 ghost use Rattle.pmd_laws.specs.Ends.{HandedOverStop, LeftIsPrefix, SentOverStop};
 ghost use Rattle.pmd_laws.specs.Faultless.{NoCallFindsFault, NoFillingFindsFault, NoStartFindsFault};
-ghost use Rattle.pmd_laws.specs.FullRing.{FullIsAllButOne};
+ghost use Rattle.pmd_laws.specs.FullRing.{FullHasNoRoom};
 ghost use Rattle.pmd_laws.specs.Lends.{LifeLendsApart};
-ghost use Rattle.pmd_laws.specs.Looks.{CallsEnd, NoneIsAllBefore};
+ghost use Rattle.pmd_laws.specs.Looks.{CallsEnd, NoneIsAllAtFirst, NoneIsAllBefore};
 ghost use Rattle.pmd_laws.specs.Order.{HandedIsPrefix, NoneIsAll, SentIsPrefix, IdleIsAllSent};
 ghost use Rattle.pmd_laws.specs.Places.{BooksGoOn, EachInOnePlace, LentIsOut, OutIsLent};
 ghost use Rattle.pmd_laws.specs.Refused.{LeftOfRefusedIsPrefix, RefusedSendsNothing};
@@ -42,10 +42,10 @@ pub fn lives_lend_apart()
     ensures { LifeLendsApart }
 {}
 
-/// Where the frames that wait for the queue are short just before the driver's first access, none of its arena's blocks
-/// is lent there, and no other pass lends any of them: no call of `rx`, `tx` or `reap` that comes after its start ends
-/// with the device at fault, over a legal history that leaves the queue alone, whatever harmless calls its author makes
-/// between through the same pass.
+/// Where the frames that wait for the queue fit a packet of the driver just before its first access, none of its
+/// arena's blocks is lent there, and no other pass lends any of them: no call of `rx`, `tx` or `reap` that comes after
+/// its start ends with the device at fault, over a legal history that leaves the queue alone, whatever harmless calls
+/// its author makes between through the same pass.
 pub fn no_call_finds_the_device_at_fault()
     ensures { NoCallFindsFault }
 {}
@@ -74,10 +74,11 @@ pub fn calls_keep_the_books()
     ensures { BooksGoOn }
 {}
 
-/// Where a `start` answered a driver and its calls came since, and `tx` answers that the ring is full, as many packets
-/// are outstanding as the start was given descriptors, but one.
-pub fn full_ring_has_one_slot_left()
-    ensures { FullIsAllButOne }
+/// Where a `start` answered a driver and its calls came since, and `tx` answers that the ring is full, the outstanding
+/// packets have fewer parts than the start was given descriptors, and with those of the packet that was given no fewer:
+/// where that has one part all slots but one are taken.
+pub fn full_ring_has_no_room()
+    ensures { FullHasNoRoom }
 {}
 
 /// Where a pass made some calls, and maybe more behind them, an entry of the history is the last of these.
@@ -85,10 +86,12 @@ pub fn calls_end_at_an_entry()
     ensures { CallsEnd }
 {}
 
-/// Where a call of the driver looks once and finds no packet, as `rx` does where it answers none, what it had handed
-/// out is all that was delivered before the entry of that look, also within a longer history.
+/// Where a call of the driver looks in vain, as `rx` does where it answers none, what it had handed out is all that was
+/// delivered before the entry of its last look, also within a longer history; and so it is before the first event of
+/// that call's own, whatever the others, and harmless calls of its own pass, did ahead of it.
 pub fn empty_look_leaves_nothing()
-    ensures { NoneIsAllBefore }
+    ensures before { NoneIsAllBefore }
+    ensures first { NoneIsAllAtFirst }
 {}
 
 /// Where a call of such a driver ends with a packet outstanding, as `reap` does that isn't idle, it looked at last; and
@@ -102,11 +105,13 @@ pub fn waiting_look_leaves_some_unsent()
 /// The same of a `pmd::Pmd` by what its calls tell alone: `start` answered it, and then came calls of `rx`, `tx`,
 /// `reap`, `packet` and `release`, in any order and with whatever answers, and between them harmless calls through the
 /// same pass, as those by which its author lets frames arrive. The packets that it handed out are a prefix of those
-/// delivered, and where `rx` answers none, all of those that were delivered before its look; and the frames sent are a
-/// prefix of those that it accepted, and all of them where none is outstanding, as where `reap` answers so.
+/// delivered, and where `rx` answers none, all of those that were delivered before its last look, and so before its
+/// first event; and the frames sent are a prefix of those that it accepted, and all of them where none is outstanding,
+/// as where `reap` answers so.
 pub fn driver_in_order()
     ensures handed { told.HandedIsPrefix }
     ensures none { told.NoneIsAllBefore }
+    ensures first { told.NoneIsAllAtFirst }
     ensures sent { told.SentIsPrefix }
     ensures idle { told.IdleIsAllSent }
 {}

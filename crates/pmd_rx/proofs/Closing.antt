@@ -1,50 +1,32 @@
 -- A ring that is closed: where its blocks are then.
-use Rattle.std.proofs.Common.{◌≡◌, ℕ, true, false, List, ◌∷◌, ◌++◌, Option, Some, None, refl, sym, ap, ◌∙◌, arith}
-use Rattle.std.specs.Prelude.{IfSome}
+use Rattle.std.proofs.Common.{◌≡◌, ℕ, List, [], ◌∷◌, ◌++◌, true, ap, ◌∙◌, arith}
 use Rattle.std.specs.List.{range_with_len}
-use Rattle.nic_device.specs.DmaArena.Numbers.{Numbers, is_own, is_free}
-use Rattle.nic_device.specs.DmaArena.Whereabouts.{times_in_hand}
+use Rattle.nic_device.specs.DmaArena.Numbers.{Numbers, with_free}
+use Rattle.pmd_seam.specs.Bufs.{numbers_of, with_all_free}
 use Rattle.pmd_seam.specs.Home.{AreOut}
 use Rattle.pmd_seam.specs.Slots.{blocks_for}
-use Rattle.pmd_seam.specs.declared.packet.Packet.{Packet}
-use Rattle.pmd_seam.proofs.Outside.{times-append, times-cons, out_fewer, out_first, out_given}
-use Rattle.pmd_rx.specs.Keeping.{fresh_block, lent_at, lent_of, out_at, block_in, with_home}
-use Rattle.pmd_rx.specs.Receive.{Receive, Layout, Stage, held_by}
-use Rattle.pmd_rx.specs.Shown.{stage_of, HoldsRight}
-use Rattle.pmd_rx.specs.declared.ring.At.{At}
-use Rattle.pmd_rx.specs.declared.ring.At.TheVariants as at
+use Rattle.pmd_seam.proofs.Outside.{times-append, out_fewer, out_given}
+use Rattle.pmd_rx.specs.Keeping.{fresh_block, lent_of, blocks_out}
+use Rattle.pmd_rx.specs.Receive.{Receive}
 
--- the block of the packet that is held comes first
-to_first : (a : Numbers) (l : Layout) (s : Stage) (p : Packet) → held_by s ≡ Some p → AreOut a (out_at l s)
-    → AreOut a (p.buf.number ∷ lent_at l s)
-to_first a l s p is out =
-    out_fewer a (out_at l s) (p.buf.number ∷ lent_at l s) out
-    (λ k. omega (
-      arith,
-      times-cons p.buf.number (lent_at l s) k,
-      times-append (lent_at l s) (block_in (held_by s)) k,
-      ap (λ (o : Option Packet). times_in_hand (block_in o) k) is,
-    ))
+-- the blocks of the packet that is held are out
+pub held_out : (a : Numbers) (v : Receive) → AreOut a (blocks_out v) → AreOut a (numbers_of v.held.bufs)
+held_out a v out =
+    out_fewer a (blocks_out v) (numbers_of v.held.bufs) out
+    (λ k. omega (arith, times-append (lent_of v) (numbers_of v.held.bufs) k))
 
-pub held_out : (a : Numbers) (l : Layout) (s : Stage) (o : Option Packet) → held_by s ≡ o → AreOut a (out_at l s)
-    → IfSome o (λ p. (is_own a p.buf.number ≡ true) × (is_free a p.buf.number ≡ false))
-held_out a l s None is out = tt
-held_out a l s (Some p) is out =
-    let here = out_first a (lent_at l s) p.buf.number (to_first a l s p is out) in (here.0, here.1)
+-- blocks come home, and the others stay out
+all_given : (a : Numbers) (ns others : List ℕ) → AreOut a (ns ++ others) → AreOut (with_all_free a ns) others
+all_given a [] others out = out
+all_given a (n ∷ ns) others out = all_given (with_free a n true) ns others (out_given a (ns ++ others) n out)
 
-pub closed_out : (a : Numbers) (l : Layout) (s : Stage) (o : Option Packet) → held_by s ≡ o → AreOut a (out_at l s)
-    → AreOut (with_home a o) (lent_at l s)
-closed_out a l s None is out =
-    out_fewer a (out_at l s) (lent_at l s) out (λ k. omega (arith, times-append (lent_at l s) (block_in (held_by s)) k))
-closed_out a l s (Some p) is out = out_given a (lent_at l s) p.buf.number (to_first a l s p is out)
-
-pub held_same : (here : At) (o : Option Packet) → HoldsRight here o → held_by (stage_of here o) ≡ o
-held_same at.Looks o right = sym right
-held_same (at.Sees f g) o right = sym right
-held_same at.Refills None right = cc
-held_same at.Refills (Some p) right = refl
-held_same (at.Lent b) o right = refl
-held_same (at.Named b) o right = refl
+pub closed_out : (a : Numbers) (v : Receive) → AreOut a (blocks_out v)
+    → AreOut (with_all_free a (numbers_of v.held.bufs)) (lent_of v)
+closed_out a v out =
+    let ns = numbers_of v.held.bufs in
+    all_given a ns (lent_of v)
+    (out_fewer a (blocks_out v) (ns ++ lent_of v) out
+    (λ k. omega (arith, times-append (lent_of v) ns k, times-append ns (lent_of v) k)))
 
 -- the blocks of a ring, told by its parts
 pub lent_is : (v : Receive) (lent kept blocks fresh : List ℕ) (ring many size : ℕ)

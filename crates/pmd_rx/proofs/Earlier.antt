@@ -8,6 +8,10 @@ use Rattle.pmd_seam.specs.Home.{IsDrawn}
 use Rattle.pmd_rx.specs.Filling.{PostsSome}
 use Rattle.pmd_rx.specs.Plays.{PlaysFrom}
 use Rattle.pmd_rx.specs.Receive.{Receive}
+use Rattle.pmd_rx.specs.Keeping.{Keeps}
+use Rattle.pmd_rx.specs.Wrong.{IsFault, FailsBy}
+use Rattle.pmd_seam.specs.declared.fault.PmdFault.{PmdFault}
+use Rattle.pmd_rx.proofs.Failing.{fails_of, fault_after, fault_in}
 use Rattle.pmd_rx.proofs.Playing.{plays_both, plays_in}
 
 -- a block that is free once others were taken was free before
@@ -31,3 +35,18 @@ pub posts_then : (count : ℕ) (a b : Numbers) (old mid new : List Call) (v w x 
 posts_then count a b old mid new v w x plays posts more =
     plays_both a old mid new v w x plays
     (plays_in a b (free_before a posts.blocks b posts.drawn) mid new w x more)
+
+-- calls that exchanged blocks with an arena, and then more
+
+pub plays_then : (a b : Numbers) (old mid new : List Call) (v w x : Receive) → PlaysFrom a old v mid w
+    → Keeps a v b w [] → PlaysFrom b mid w new x → PlaysFrom a old v new x
+plays_then a b old mid new v w x plays keeps more =
+    plays_both a old mid new v w x plays
+    (plays_in a b (free_before a keeps.arena.0 b keeps.arena.1) mid new w x more)
+
+pub fails_then : (f : PmdFault) (a b d : Numbers) (old mid new : List Call) (v w x : Receive) → PlaysFrom a old v mid w
+    → Keeps a v b w [] → IsFault f b mid w new x → FailsBy f old a v new d x
+fails_then f a b d old mid new v w x plays keeps is =
+    fails_of f old new a d v x
+    (fault_after f a old mid new v w x plays
+    (fault_in f a b mid new w x (free_before a keeps.arena.0 b keeps.arena.1) is))

@@ -1,8 +1,8 @@
 -- Why calls fail.
-use Rattle.std.proofs.Common.{◌≡◌, ◌<◌, Bool, true, List, Result, Ok, Err, IfErr, subst, ◌∙◌, arith}
+use Rattle.std.proofs.Common.{◌≡◌, ℕ, true, List, Result, Ok, Err, IfErr, refl, ap, subst, ◌∙◌}
 use Rattle.std.specs.Prelude.{IsFalse}
 use Rattle.nic_device.specs.DmaArena.Block.{Block}
-use Rattle.nic_device.specs.DmaArena.Numbers.{Numbers, free_count}
+use Rattle.nic_device.specs.DmaArena.Numbers.{Numbers, is_free}
 use Rattle.nic_device.specs.declared.event.Event.{Event}
 use Rattle.nic_device.specs.declared.event.Reply.{Reply}
 use Rattle.pmd_seam.specs.DeviceLock.declared.entry.Call.{Call}
@@ -11,11 +11,11 @@ use Rattle.pmd_seam.specs.declared.fault.PmdFault.{PmdFault}
 use Rattle.pmd_seam.specs.declared.fault.PmdFault.TheVariants as fault
 use Rattle.pmd_rx.specs.Plays.{LendsFree, PlaysFrom}
 use Rattle.pmd_rx.specs.Receive.{Receive, IsOwn}
-use Rattle.pmd_rx.specs.Wrong.{is_healthy, EndsWrong, IsFault, FailsBy}
-use Rattle.pmd_rx.proofs.Playing.{plays_none, plays_both}
+use Rattle.pmd_rx.specs.Wrong.{is_healthy, AsksNext, EndsWrong, IsFault, FailsBy}
+use Rattle.pmd_rx.proofs.Playing.{plays_none, plays_both, plays_in, free-in}
 
 pub wrong_here : (arena : Numbers) (old new : List Call) (v : Receive) (e : Event Block) (r : Reply Block) → IsOwn v e
-    → LendsFree arena true e → Adds old new e r → IsFalse (is_healthy e r) → EndsWrong arena old v new v
+    → LendsFree arena true e → Adds old new e r → IsFalse (is_healthy v e r) → EndsWrong arena old v new v
 wrong_here arena old new v e r own free adds bad = (old, e, r, plays_none arena old v, own, free, adds, bad)
 
 pub wrong_after : (arena : Numbers) (a b d : List Call) (v w x : Receive) → PlaysFrom arena a v b w
@@ -44,36 +44,53 @@ fails_of (fault.Call refusal) old new a b v w is = is
 
 -- after calls that left ring and records as they were
 pub fails_after : (f : PmdFault) (old mid new : List Call) (a b : Numbers) (v w x : Receive) → PlaysFrom a old v mid w
-    → w.layout ≡ v.layout → w.handed ≡ v.handed → FailsBy f mid a w new b x → FailsBy f old a v new b x
-fails_after fault.BadSize old mid new a b v w x plays l h is = is
-fails_after fault.ForeignBlock old mid new a b v w x plays l h is = is
-fails_after fault.StartTimeout old mid new a b v w x plays l h is = is
-fails_after fault.NoBuffer old mid new a b v w x plays l h is = record {
-  none = is.none;
+    → w ≡ record v { seen = w.seen; stage = w.stage } → FailsBy f mid a w new b x → FailsBy f old a v new b x
+fails_after fault.BadSize old mid new a b v w x plays l is = is
+fails_after fault.ForeignBlock old mid new a b v w x plays l is = is
+fails_after fault.StartTimeout old mid new a b v w x plays l is = is
+fails_after fault.NoBuffer old mid new a b v w x plays l is = record {
+  few = is.few;
   arena = is.arena;
-  layout = is.layout ∙ l;
-  handed = is.handed ∙ h;
+  layout = is.layout ∙ ap (λ (y : Receive). y.layout) l;
+  handed = is.handed ∙ ap (λ (y : Receive). y.handed) l;
+  held = is.held ∙ ap (λ (y : Receive). y.held) l;
 }
-fails_after fault.DeviceFault old mid new a b v w x plays l h is = wrong_after a old mid new v w x plays is
-fails_after (fault.Call refusal) old mid new a b v w x plays l h is = is
+fails_after fault.DeviceFault old mid new a b v w x plays l is = wrong_after a old mid new v w x plays is
+fails_after (fault.Call refusal) old mid new a b v w x plays l is = is
 
--- after calls of which the last found that a block is free
-pub fails_free : (f : PmdFault) (old mid new : List Call) (a b : Numbers) (v w x : Receive) → PlaysFrom a old v mid w
-    → 0 < free_count a → FailsBy f mid a w new b x → FailsBy f old a v new b x
-fails_free fault.BadSize old mid new a b v w x plays free is = is
-fails_free fault.ForeignBlock old mid new a b v w x plays free is = is
-fails_free fault.StartTimeout old mid new a b v w x plays free is = is
-fails_free fault.NoBuffer old mid new a b v w x plays free is = absurd (omega (arith, free, is.none))
-fails_free fault.DeviceFault old mid new a b v w x plays free is = wrong_after a old mid new v w x plays is
-fails_free (fault.Call refusal) old mid new a b v w x plays free is = is
+-- what is asked of one arena may be asked of another that has more free blocks
+asks_in : (a b : Numbers) (v : Receive) → ((n : ℕ) → is_free b n ≡ true → is_free a n ≡ true) → AsksNext b v
+    → AsksNext a v
+asks_in a b v all (e, own, free) = (e, own, free-in a b all true e free)
+
+wrong_in : (a b : Numbers) (old new : List Call) (v w : Receive) → ((n : ℕ) → is_free b n ≡ true → is_free a n ≡ true)
+    → EndsWrong b old v new w → EndsWrong a old v new w
+wrong_in a b old new v w all (mid, e, r, on, own, free, adds, bad) =
+    (mid, e, r, plays_in a b all old mid v w on, own, free-in a b all true e free, adds, bad)
+
+pub fault_in : (f : PmdFault) (a b : Numbers) (old new : List Call) (v w : Receive)
+    → ((n : ℕ) → is_free b n ≡ true → is_free a n ≡ true) → IsFault f b old v new w → IsFault f a old v new w
+fault_in fault.BadSize a b old new v w all is = is
+fault_in fault.ForeignBlock a b old new v w all is = is
+fault_in fault.StartTimeout a b old new v w all is = is
+fault_in fault.NoBuffer a b old new v w all is = is
+fault_in fault.DeviceFault a b old new v w all is = wrong_in a b old new v w all is
+fault_in (fault.Call refusal) a b old new v w all is = asks_in a b w all is
+
+-- what fails where as many blocks are free as are wanted is at fault
+pub fault_of : (f : PmdFault) (old new : List Call) (a b : Numbers) (v w : Receive) → (f ≡ fault.NoBuffer → ⊥)
+    → FailsBy f old a v new b w → IsFault f a old v new w
+fault_of fault.BadSize old new a b v w enough is = is
+fault_of fault.ForeignBlock old new a b v w enough is = is
+fault_of fault.StartTimeout old new a b v w enough is = is
+fault_of fault.NoBuffer old new a b v w enough is = absurd (enough refl)
+fault_of fault.DeviceFault old new a b v w enough is = is
+fault_of (fault.Call refusal) old new a b v w enough is = is
 
 -- the same of a result
 
 pub ok_same : {A E : Type 0} {x y : A} → (let r : Result A E = Ok x in r) ≡ Ok y → x ≡ y
 ok_same is = cc
-
-pub ok_true : {E : Type 0} (r : Result Bool E) (b : Bool) → r ≡ Ok b → b ≡ true → r ≡ Ok true
-ok_true r b is set = cc
 
 pub err_same : {A E : Type 0} {x y : E} → (let r : Result A E = Err x in r) ≡ Err y → x ≡ y
 err_same is = cc
@@ -88,17 +105,17 @@ pub fails_all : {A : Type 0} (r : Result A PmdFault) (old new : List Call) (a b 
 fails_all (Ok o) old new a b v w is = tt
 fails_all (Err f) old new a b v w is = fails_of f old new a b v w is
 
-pub fails_later : {A : Type 0} (r : Result A PmdFault) (old mid new : List Call) (a b : Numbers) (v w x : Receive)
-    → PlaysFrom a old v mid w → 0 < free_count a → IfErr r (λ f. FailsBy f mid a w new b x)
-    → IfErr r (λ f. FailsBy f old a v new b x)
-fails_later (Ok o) old mid new a b v w x plays free is = tt
-fails_later (Err f) old mid new a b v w x plays free is = fails_free f old mid new a b v w x plays free is
-
 pub fails_behind : {A : Type 0} (r : Result A PmdFault) (old mid new : List Call) (a b : Numbers) (v w x : Receive)
-    → PlaysFrom a old v mid w → w.layout ≡ v.layout → w.handed ≡ v.handed → IfErr r (λ f. FailsBy f mid a w new b x)
-    → IfErr r (λ f. FailsBy f old a v new b x)
-fails_behind (Ok o) old mid new a b v w x plays l h is = tt
-fails_behind (Err f) old mid new a b v w x plays l h is = fails_after f old mid new a b v w x plays l h is
+    → PlaysFrom a old v mid w → w ≡ record v { seen = w.seen; stage = w.stage }
+    → IfErr r (λ f. FailsBy f mid a w new b x) → IfErr r (λ f. FailsBy f old a v new b x)
+fails_behind (Ok o) old mid new a b v w x plays l is = tt
+fails_behind (Err f) old mid new a b v w x plays l is = fails_after f old mid new a b v w x plays l is
+
+pub faults_of : {A : Type 0} (r : Result A PmdFault) (old new : List Call) (a b : Numbers) (v w : Receive)
+    → (r ≡ Err fault.NoBuffer → ⊥) → IfErr r (λ f. FailsBy f old a v new b w) → IfErr r (λ f. IsFault f a old v new w)
+faults_of (Ok o) old new a b v w enough is = tt
+faults_of (Err f) old new a b v w enough is =
+    fault_of f old new a b v w (λ same. enough (ap (λ (g : PmdFault). let r : Result _ PmdFault = Err g in r) same)) is
 
 -- a device's fault is no want of a block
 pub no_short : (f : PmdFault) (a : Numbers) (old new : List Call) (v w : Receive) → IsFault f a old v new w

@@ -1,26 +1,19 @@
 -- A ring that is filled, block by block.
-use Rattle.std.proofs.Common.{◌≡◌, ℕ, ◌+◌, ◌<◌, true, false, List, [], ◌∷◌, ◌++◌, length, refl, sym, ap, subst, ◌∙◌, append_assoc, arith}
+use Rattle.std.proofs.Common.{◌≡◌, ℕ, ◌+◌, ◌<◌, false, List, [], ◌∷◌, ◌++◌, length, refl, sym, ap, ◌∙◌, append_assoc, arith}
 use Rattle.std.proofs.lemmas.List.{append-nil, length_push}
-use Rattle.nic_device.specs.DmaArena.Numbers.{Numbers, free_count, is_free, with_free}
+use Rattle.nic_device.specs.DmaArena.Numbers.{Numbers, free_count, with_free}
 use Rattle.nic_device.proofs.DmaArena.Arenas.{free_count_taken}
 use Rattle.pmd_seam.specs.DeviceLock.declared.entry.Call.{Call}
 use Rattle.pmd_seam.specs.Home.{IsDrawn}
+use Rattle.pmd_seam.proofs.Drawing.{drawn_next}
 use Rattle.pmd_seam.specs.declared.fault.PmdFault.{PmdFault}
 use Rattle.pmd_seam.specs.declared.fault.PmdFault.TheVariants as fault
 use Rattle.pmd_rx.specs.Filling.{PostsSome, StopsFilling}
 use Rattle.pmd_rx.specs.Keeping.{IsRunning, Posts}
-use Rattle.pmd_rx.specs.Receive.{Receive, Looks, extended}
-use Rattle.pmd_rx.specs.Wrong.{FailsBy}
+use Rattle.pmd_rx.specs.Receive.{Receive, extended, no_packet}
+use Rattle.pmd_rx.specs.declared.ring.Stage.TheVariants.{Looks}
 
 -- blocks that are drawn
-
-drawn_next : (a : Numbers) (ns : List ℕ) (b : Numbers) (n : ℕ) (d : Numbers) → IsDrawn a ns b → is_free b n ≡ true
-    → d ≡ with_free b n false → IsDrawn a (ns ++ n ∷ []) d
-drawn_next a [] b n d is free then = (
-  subst (λ (x : Numbers). is_free x n ≡ true) is free,
-  subst (λ (x : Numbers). d ≡ with_free x n false) is then,
-)
-drawn_next a (k ∷ ns) b n d (first, is) free then = (first, drawn_next (with_free a k false) ns b n d is free then)
 
 pub drawn_count : (a : Numbers) (ns : List ℕ) (b : Numbers) → IsDrawn a ns b → free_count a ≡ free_count b + length ns
 drawn_count a [] b is = omega (arith, ap free_count is)
@@ -55,6 +48,11 @@ pub posts_stage : (count : ℕ) (a b : Numbers) (v w : Receive) → PostsSome co
     → w.stage ≡ Looks
 posts_stage count a b v w posts looks = ap (λ (y : Receive). y.stage) posts.left ∙ looks
 
+pub posts_none_seen : (count : ℕ) (a b : Numbers) (v w : Receive) → PostsSome count a v b w
+    → (v.seen ≡ []) × (v.held ≡ no_packet) → (w.seen ≡ []) × (w.held ≡ no_packet)
+posts_none_seen count a b v w posts none =
+    (ap (λ (y : Receive). y.seen) posts.left ∙ none.0, ap (λ (y : Receive). y.held) posts.left ∙ none.1)
+
 pub posts_handed : (count : ℕ) (a b : Numbers) (v w : Receive) → PostsSome count a v b w → w.handed ≡ v.handed
 posts_handed count a b v w posts = ap (λ (y : Receive). y.handed) posts.left
 
@@ -73,25 +71,29 @@ posts_room count a b v w posts empty few =
     omega (arith, few, posts_length count a b v w posts empty, posts_size count a b v w posts)
 
 pub filled_runs : (count : ℕ) (a b : Numbers) (v w : Receive) → PostsSome count a v b w → v.layout.blocks ≡ []
-    → v.stage ≡ Looks → 1 < v.layout.size → count + 1 ≡ v.layout.size → IsRunning w
-filled_runs count a b v w posts empty looks some all =
+    → v.stage ≡ Looks → v.seen ≡ [] → 0 < v.layout.most → v.layout.most < v.layout.size → count + 1 ≡ v.layout.size
+    → IsRunning w
+filled_runs count a b v w posts empty looks none part some all =
     let size = posts_size count a b v w posts in
+    let most = ap (λ (y : Receive). y.layout.most) posts.left in
+    let seen : length w.seen ≡ 0 = ap (λ (y : Receive). length y.seen) posts.left ∙ ap length none in
     let here : w.stage ≡ Looks = posts_stage count a b v w posts looks in
     record {
-      some = omega (arith, some, size);
+      part = omega (arith, most, part);
+      some = omega (arith, some, size, most);
       full = rw here (omega (arith, all, size, posts_length count a b v w posts empty));
-      stage = rw here tt;
+      stage = rw here (omega (arith, seen, most, part));
     }
 
 -- no block is free only where fewer were than are to be posted
 pub short_of : (f : PmdFault) (old new : List Call) (a b : Numbers) (v w : Receive) → f ≡ fault.NoBuffer
     → StopsFilling f old a v new b w → free_count a + 1 < v.layout.size
 short_of f old new a b v w is stops =
-    let short = subst (λ (g : PmdFault). FailsBy g stops.mid stops.arena stops.ring new b w) is stops.fails in
+    let none = stops.none is in
     omega (
       arith,
       stops.few,
-      short.none,
+      none,
       stops.posts.many,
       drawn_count a stops.posts.blocks stops.arena stops.posts.drawn,
     )

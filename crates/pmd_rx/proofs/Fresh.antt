@@ -1,5 +1,5 @@
 -- Blocks that are taken from the driver's arena.
-use Rattle.std.proofs.Common.{◌≡◌, ◌≢◌, inl, inr, ℕ, ◌+◌, ◌<◌, true, false, List, length, get_or, refl, subst, ◌∙◌, arith}
+use Rattle.std.proofs.Common.{◌≡◌, ◌≢◌, inl, inr, ℕ, ◌+◌, ◌<◌, true, false, List, length, get_or, subst, ◌∙◌, arith}
 use Rattle.std.proofs.lemmas.Bool.{cases_Bool}
 use Rattle.nic_device.specs.DmaArena.Block.{Block}
 use Rattle.nic_device.specs.DmaArena.Numbers.{Numbers, is_own, is_free, with_free}
@@ -11,8 +11,7 @@ use Rattle.pmd_seam.specs.Slots.{ring_blocks, is_ring_block}
 use Rattle.pmd_seam.proofs.Outside.{times_at, out_free}
 use Rattle.pmd_seam.proofs.Rings.{ring_block_times}
 use Rattle.pmd_rx.specs.Keeping.{blocks_out}
-use Rattle.pmd_rx.specs.Receive.{Receive, Stage, Looks, Sees, Holding, Lent, Named, MayLend, lent_one, held_by}
-use Rattle.pmd_rx.specs.Shown.{CanLend, HasLent}
+use Rattle.pmd_rx.specs.Receive.{Receive, MayLend}
 use Rattle.pmd_rx.proofs.Keeping.{times_out}
 
 -- a block that isn't out is none of those that are
@@ -33,7 +32,7 @@ pub may_lend : (a : Numbers) (v : Receive) (b : Block) → is_free a b.number �
 may_lend a v b free out low room whole =
     let l = v.layout in
     let none : times_in_hand (blocks_out v) b.number ≡ 0 = out_free a (blocks_out v) b.number out free in
-    let parts = times_out l v.stage b.number in
+    let parts = times_out v b.number in
     let slots : times_in_hand l.blocks b.number ≡ 0 = omega (arith, none, parts) in
     let ring : times_in_hand (ring_blocks l.ring l.size) b.number ≡ 0 = omega (arith, none, parts) in
     record {
@@ -43,37 +42,6 @@ may_lend a v b free out low room whole =
       room = room;
       whole = whole;
     }
-
--- a block that is lent is to be named, and what is held stays held
-lent_stage_of : (v : Receive) (s : Stage) (n : ℕ) → CanLend s → HasLent (lent_one v s n).stage
-lent_stage_of v Looks n can = tt
-lent_stage_of v (Sees first second) n can = absurd can
-lent_stage_of v (Holding p) n can = tt
-lent_stage_of v (Lent o b) n can = absurd can
-lent_stage_of v (Named o b) n can = absurd can
-
-pub lent_stage : (v : Receive) (n : ℕ) → CanLend v.stage → HasLent (lent_one v v.stage n).stage
-lent_stage v n can = lent_stage_of v v.stage n can
-
-lent_held_of : (v : Receive) (s : Stage) (n : ℕ) → CanLend s → held_by (lent_one v s n).stage ≡ held_by s
-lent_held_of v Looks n can = refl
-lent_held_of v (Sees first second) n can = absurd can
-lent_held_of v (Holding p) n can = refl
-lent_held_of v (Lent o b) n can = absurd can
-lent_held_of v (Named o b) n can = absurd can
-
-pub lent_held : (v : Receive) (n : ℕ) → CanLend v.stage → held_by (lent_one v v.stage n).stage ≡ held_by v.stage
-lent_held v n can = lent_held_of v v.stage n can
-
-lent_keeps : (v : Receive) (s : Stage) (n : ℕ) → (lent_one v s n).handed ≡ v.handed
-lent_keeps v Looks n = refl
-lent_keeps v (Sees first second) n = refl
-lent_keeps v (Holding p) n = refl
-lent_keeps v (Lent o b) n = refl
-lent_keeps v (Named o b) n = refl
-
-pub lent_handed : (v : Receive) (n : ℕ) → (lent_one v v.stage n).handed ≡ v.handed
-lent_handed v n = lent_keeps v v.stage n
 
 -- a block that was taken and comes back
 pub own_after : (a b : Numbers) (n m : ℕ) → is_free a n ≡ true → b ≡ with_free a n false → m ≡ n → is_own b m ≡ true

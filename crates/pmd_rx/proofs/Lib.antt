@@ -10,4 +10,4 @@ pub mod Looking
 pub mod Own
 pub mod Playing
 pub mod Refilling
-pub mod Stages
+pub mod Steady

@@ -126,7 +126,7 @@ plays_none arena old v = plays_some arena old old v ([], sym (append-nil old), t
 -- what is free in one arena is free in another
 
 module _ (a b : Numbers) (all : (n : ℕ) → is_free b n ≡ true → is_free a n ≡ true) where
-  free-in : (m : Bool) (e : Event Block) → LendsFree b m e → LendsFree a m e
+  pub free-in : (m : Bool) (e : Event Block) → LendsFree b m e → LendsFree a m e
   free-in true (event.Lend block) free = all block.number free
   free-in m e free = tt
 

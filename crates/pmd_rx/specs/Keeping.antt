@@ -1,33 +1,32 @@
 -- What the calls of the driver keep: its ring, the slots that are posted, and where each block is.
-use Rattle.std.specs.Prelude.{ℕ, ◌≡◌, ◌==◌, ◌+◌, ◌<◌, Bool, true, false, List, [], ◌∷◌, ◌++◌, length, Option, Some, None, IsSome, ⊤, Result, Ok, Err}
+use Rattle.std.specs.Prelude.{ℕ, ◌≡◌, ◌==◌, ◌+◌, ◌<◌, Bool, true, false, List, [], ◌∷◌, ◌++◌, length, Option, Some, None, Result, Ok, Err}
 use Rattle.std.specs.List.{list_any}
 use Rattle.nic_device.specs.DmaArena.Numbers.{Numbers, is_free, with_free}
+use Rattle.pmd_seam.specs.Bufs.{numbers_of}
 use Rattle.pmd_seam.specs.Home.{Exchanges}
 use Rattle.pmd_seam.specs.Slots.{ring_blocks}
 use Rattle.pmd_seam.specs.declared.fault.PmdFault.{PmdFault}
 use Rattle.pmd_seam.specs.declared.packet.Packet.{Packet}
-use Rattle.pmd_rx.specs.Receive.{Receive, Layout, Stage, Looks, Sees, Holding, Lent, Named, held, held_by, extended}
+use Rattle.pmd_rx.specs.Receive.{Receive, Layout, extended}
+use Rattle.pmd_rx.specs.declared.ring.Stage.{Stage}
+use Rattle.pmd_rx.specs.declared.ring.Stage.TheVariants.{Looks, Takes, Owes, Lent, Named}
 
 -- the block that is lent and not posted yet
 abbrev pub fresh_block : Stage → List ℕ
 fresh_block Looks = []
-fresh_block (Sees first second) = []
-fresh_block (Holding p) = []
-fresh_block (Lent o b) = b ∷ []
-fresh_block (Named o b) = b ∷ []
+fresh_block Takes = []
+fresh_block Owes = []
+fresh_block (Lent b) = b ∷ []
+fresh_block (Named b) = b ∷ []
 
--- the block of a packet, where there is one
-abbrev pub block_in : Option Packet → List ℕ
-block_in None = []
-block_in (Some p) = p.buf.number ∷ []
+-- the blocks of a packet, where there is one
+abbrev pub numbers_in : Option Packet → List ℕ
+numbers_in None = []
+numbers_in (Some p) = numbers_of p.bufs
 
 -- the blocks that the driver has lent: those that stand in the ring, a fresh one, and those that the ring is in
 abbrev pub lent_at : Layout → Stage → List ℕ
 lent_at l s = l.blocks ++ (fresh_block s ++ ring_blocks l.ring l.size)
-
--- all that it has: those, and the block of the packet that it holds
-abbrev pub out_at : Layout → Stage → List ℕ
-out_at l s = lent_at l s ++ block_in (held_by s)
 
 abbrev pub lent_of : Receive → List ℕ
 lent_of v = lent_at v.layout v.stage
@@ -36,36 +35,38 @@ lent_of v = lent_at v.layout v.stage
 abbrev pub has_lent : Receive → ℕ → Bool
 has_lent v number = list_any (λ b. number == b) (lent_of v)
 
+-- all that it has: those, and the blocks of the packet that it holds
 abbrev pub blocks_out : Receive → List ℕ
-blocks_out v = out_at v.layout v.stage
+blocks_out v = lent_of v ++ numbers_of v.held.bufs
 
--- the arena once the block of a packet, where there is one, is given to it
-abbrev pub with_home : Numbers → Option Packet → Numbers
-with_home a None = a
-with_home a (Some p) = with_free a p.buf.number true
+-- the blocks of the packet that a call hands out
+abbrev pub handed_blocks : Result (Option Packet) PmdFault → List ℕ
+handed_blocks (Ok o) = numbers_in o
+handed_blocks (Err fault) = []
 
--- the block of the packet that a call hands out
-abbrev pub handed_block : Result (Option Packet) PmdFault → List ℕ
-handed_block (Ok o) = block_in o
-handed_block (Err fault) = []
+-- how many slots are vacant beside the one that always is
+abbrev pub vacated : Stage → ℕ
+vacated Looks = 0
+vacated Takes = 0
+vacated Owes = 1
+vacated (Lent b) = 1
+vacated (Named b) = 1
 
--- a block is lent to be posted only where a packet is held
-abbrev pub HoldsOne : Stage → Type 0
-HoldsOne Looks = ⊤
-HoldsOne (Sees first second) = ⊤
-HoldsOne (Holding p) = ⊤
-HoldsOne (Lent o b) = IsSome o
-HoldsOne (Named o b) = IsSome o
+-- where it looks, fewer slots are seen than a packet may have, and there is a part to take where it takes; a block is
+-- lent to be posted only where a part is held
+abbrev pub IsAmid : Receive → Stage → Type 0
+IsAmid v Looks = length v.seen < v.layout.most
+IsAmid v Takes = 0 < length v.seen
+IsAmid v Owes = 0 < length v.held.bufs
+IsAmid v (Lent b) = 0 < length v.held.bufs
+IsAmid v (Named b) = 0 < length v.held.bufs
 
--- all slots but one are posted, or all but two while a packet is held
-pub record RunsAt (l : Layout) (s : Stage) : Type 0 where
-  pub some : 1 < l.size
-  pub full : length l.blocks + length (held s) + 1 ≡ l.size
-  pub stage : HoldsOne s
-
--- a driver that was started
-abbrev pub IsRunning : Receive → Type 0
-IsRunning v = RunsAt v.layout v.stage
+-- a driver that was started: all slots but one are posted, or all but two where one is to be refilled
+pub record IsRunning (v : Receive) : Type 0 where
+  pub part : 0 < v.layout.most
+  pub some : v.layout.most < v.layout.size
+  pub full : length v.layout.blocks + vacated v.stage + 1 ≡ v.layout.size
+  pub stage : IsAmid v v.stage
 
 -- the same ring at the same port
 pub record IsSameRing (l m : Layout) : Type 0 where
@@ -73,16 +74,14 @@ pub record IsSameRing (l m : Layout) : Type 0 where
   pub tail : m.tail ≡ l.tail
   pub ring : m.ring ≡ l.ring
   pub size : m.size ≡ l.size
+  pub most : m.most ≡ l.most
 
 -- what a call keeps that hands these blocks out, with the arena before and after: each block is in one place, the ring
 -- is the same, and a driver that was started stays so
-pub record KeepsAt (a : Numbers) (l : Layout) (s : Stage) (b : Numbers) (w : Receive) (out : List ℕ) : Type 0 where
-  pub arena : Exchanges a (out_at l s) b (out ++ blocks_out w)
-  pub ring : IsSameRing l w.layout
-  pub running : RunsAt l s → IsRunning w
-
-abbrev pub Keeps : Numbers → Receive → Numbers → Receive → List ℕ → Type 0
-Keeps a v b w out = KeepsAt a v.layout v.stage b w out
+pub record Keeps (a : Numbers) (v : Receive) (b : Numbers) (w : Receive) (out : List ℕ) : Type 0 where
+  pub arena : Exchanges a (blocks_out v) b (out ++ blocks_out w)
+  pub ring : IsSameRing v.layout w.layout
+  pub running : IsRunning v → IsRunning w
 
 -- a free block of the arena was posted, and nothing else changed
 abbrev pub Posts : Numbers → Receive → Numbers → Receive → Type 0

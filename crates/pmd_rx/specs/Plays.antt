@@ -8,9 +8,9 @@ use Rattle.nic_device.specs.declared.event.Event.{Event}
 use Rattle.nic_device.specs.declared.event.Event.TheVariants as event
 use Rattle.nic_device.specs.declared.event.Reply.TheVariants as reply
 use Rattle.pmd_seam.specs.DeviceLock.declared.entry.Call.{Call}
-use Rattle.pmd_seam.specs.DeviceLock.Pass.{call_of}
-use Rattle.pmd_seam.specs.Made.{AreSteps, StepsWhere}
-use Rattle.pmd_rx.specs.Receive.{Receive, IsOwn, drive, held, descriptor_at}
+use Rattle.pmd_seam.specs.Made.{Adds, StepsWhere}
+use Rattle.pmd_rx.specs.Receive.{Receive, IsOwn, drive, descriptor_at, no_packet}
+use Rattle.pmd_rx.specs.declared.ring.Stage.TheVariants.{Looks}
 
 -- the driver after one call, where it is its own
 abbrev pub after_call : Receive → Bool → Call → Receive
@@ -60,11 +60,15 @@ pub record PlaysFrom (a : Numbers) (old : List Call) (v : Receive) (new : List C
   pub plays : Plays old v new w
   pub free : AllLendFree a plays.0 plays.1
 
--- behind steps of the device the driver's one own call was a look at the next slot, which isn't done. It holds no
--- packet
-abbrev pub LooksOnce : List Call → Receive → List Call → Receive → Type 0
-LooksOnce old v new w =
-    (before : List Call) × (d : List ℕ)
-    × (new ≡ old ++ (before ++ call_of (event.Peek16 (descriptor_at v.layout 0)) (reply.Bytes d) ∷ []))
-    × IsFalse (is_done (second_half d)) × (held v.stage ≡ []) × (0 < length v.layout.blocks) × (w ≡ v)
-    × AreSteps before
+-- it looked at the slots of a packet from the next one on, and the slot behind those that it has seen isn't done. It
+-- holds nothing, and nothing else changed
+pub record LooksInVain (old : List Call) (v : Receive) (new : List Call) (w : Receive) : Type 0 where
+  pub mid : List Call
+  pub looks : Plays old v mid w
+  pub bytes : List ℕ
+  pub last : Adds mid new (event.Peek16 (descriptor_at w.layout (length w.seen))) (reply.Bytes bytes)
+  pub waits : IsFalse (is_done (second_half bytes))
+  pub stage : w.stage ≡ Looks
+  pub posted : length w.seen < length w.layout.blocks
+  pub holds_none : w.held ≡ no_packet
+  pub left : w ≡ record v { seen = w.seen }

@@ -1,5 +1,5 @@
 -- What a driver knows of its receive ring, and how that follows from its own calls.
-use Rattle.std.specs.Prelude.{ℕ, ◌≡◌, ◌≢◌, ◌+◌, ◌*◌, ◌<◌, ◌&&◌, false, List, [], ◌∷◌, ◌++◌, length, drop, slice_index, Option, Some, None, if◌then◌else◌}
+use Rattle.std.specs.Prelude.{ℕ, ◌≡◌, ◌≢◌, ◌+◌, ◌*◌, ◌<◌, ◌==◌, ◌&&◌, Bool, false, nat_le, nat_lt, List, [], ◌∷◌, ◌++◌, length, drop, slice_index, Option, Some, None, if◌then◌else◌, ⊤}
 use Rattle.nic_device.specs.DmaArena.Block.{Block}
 use Rattle.nic_device.specs.DmaRing.Descriptor.{second_half, first_half, of_halves}
 use Rattle.nic_device.specs.DmaRing.Driver.{posted, rss_in, hash_in}
@@ -13,35 +13,29 @@ use Rattle.nic_device.specs.declared.event.Reply.TheVariants as reply
 use Rattle.pmd_seam.specs.Packet.{Kept, kept_of}
 use Rattle.pmd_seam.specs.Slots.{wrapped, descriptor_in, is_ring_block}
 use Rattle.pmd_seam.specs.declared.packet.Packet.{Packet}
-
--- the packet in a block, with what the two halves of its descriptor tell
-abbrev pub told : Block → ℕ → ℕ → Packet
-told b first second = record { buf = b; len = bytes_in second; rss = rss_in first; hash = hash_in first }
-
--- where a driver is between two of its calls: it looks at the next slot; it saw there a packet whose descriptor has
--- these halves; it has the packet's block and holds the packet; it lent a fresh block; the descriptor of the vacant
--- slot names that block. A packet that is held is handed out as the tail moves on
-pub data Stage : Type 0 where
-  Looks : Stage
-  Sees : ℕ → ℕ → Stage
-  Holding : Packet → Stage
-  Lent : Option Packet → ℕ → Stage
-  Named : Option Packet → ℕ → Stage
+use Rattle.pmd_rx.specs.declared.ring.Stage.{Stage}
+use Rattle.pmd_rx.specs.declared.ring.Stage.TheVariants.{Looks, Takes, Owes, Lent, Named}
+use Rattle.pmd_rx.specs.declared.ring.Told.{Told}
 
 -- the ring: the port, the number that the tail's register has there, the block that the ring begins with, its number
--- of slots, the slot to look at next, and the blocks of the slots from there on up to the tail
+-- of slots, the most slots that a packet has, the slot to look at next, and the blocks of the slots from there on up to
+-- the tail
 pub record Layout : Type 0 where
   pub port : Port
   pub tail : ℕ
   pub ring : ℕ
   pub size : ℕ
+  pub most : ℕ
   pub next : ℕ
   pub blocks : List ℕ
 
--- the ring, what was handed out, and the stage
+-- the ring, what was handed out, what descriptors from the next slot on told, the packet of which parts were taken, and
+-- the stage. That packet is handed out as the tail moves on behind its last part
 pub record Receive : Type 0 where
   pub layout : Layout
   pub handed : List Kept
+  pub seen : List Told
+  pub held : Packet
   pub stage : Stage
 
 -- the slot that comes so many after the next one, where its descriptor is, and its block
@@ -58,34 +52,37 @@ block_at l k = slice_index l.blocks k
 abbrev pub vacant : Layout → ℕ
 vacant l = length l.blocks
 
--- what is kept of a packet, where there is one
-abbrev pub listed : Option Packet → List Kept
-listed None = []
-listed (Some p) = kept_of p ∷ []
+-- a packet of no part
+abbrev pub no_packet : Packet
+no_packet = record { bufs = []; len = 0; rss = 0; hash = 0 }
 
--- what is held and not handed out
-abbrev pub held : Stage → List Kept
-held Looks = []
-held (Sees first second) = []
-held (Holding p) = kept_of p ∷ []
-held (Lent o b) = listed o
-held (Named o b) = listed o
+-- a packet with one more part, whose block is this: the last part's descriptor tells the RSS type and hash
+abbrev pub joined : Packet → Block → Told → Packet
+joined p b t = record {
+  bufs = p.bufs ++ b ∷ [];
+  len = p.len + bytes_in t.second;
+  rss = rss_in t.first;
+  hash = hash_in t.first;
+}
 
--- the packet that is held, where one is
-abbrev pub held_by : Stage → Option Packet
-held_by Looks = None
-held_by (Sees first second) = None
-held_by (Holding p) = Some p
-held_by (Lent o b) = o
-held_by (Named o b) = o
+-- what a descriptor tells by its halves
+abbrev pub told_by : List ℕ → Told
+told_by d = record { first = first_half d; second = second_half d }
+
+-- whether a done descriptor tells of a part of a packet, behind so many others: it has no more bytes than a block, and
+-- one that doesn't end the packet fills its block, and is followed by another
+abbrev pub is_part : ℕ → ℕ → ℕ → Bool
+is_part most before second =
+    if ends_packet second then nat_le (bytes_in second) 2048
+    else (bytes_in second == 2048) && nat_lt (before + 1) most
 
 -- the block that is lent and not posted yet
 abbrev pub fresh_of : Stage → ℕ
 fresh_of Looks = 0
-fresh_of (Sees first second) = 0
-fresh_of (Holding p) = 0
-fresh_of (Lent o b) = b
-fresh_of (Named o b) = b
+fresh_of Takes = 0
+fresh_of Owes = 0
+fresh_of (Lent b) = b
+fresh_of (Named b) = b
 
 -- the descriptor that names a block
 abbrev pub naming : ℕ → List ℕ
@@ -93,48 +90,77 @@ naming block = of_halves (posted (2048 * block)) 0
 
 -- the driver after each of its calls
 
--- a look: a descriptor that is done and ends its packet is seen
+-- a look: a part that is there is seen, and once the packet ends its blocks are to be taken
+abbrev pub saw : Receive → List ℕ → Receive
+saw v d = record v {
+  seen = v.seen ++ told_by d ∷ [];
+  stage = if ends_packet (second_half d) then Takes else Looks;
+}
+
 abbrev pub looked : Receive → List ℕ → Receive
 looked v d =
-    if is_done (second_half d) && ends_packet (second_half d)
-    then record v { stage = Sees (first_half d) (second_half d) }
-    else v
+    if is_done (second_half d) && is_part v.layout.most (length v.seen) (second_half d) then saw v d else v
 
--- the slot is consumed, and its packet held
+-- the slot is consumed, and its part joins the packet that is held
 abbrev pub consumed : Layout → Layout
 consumed l = record l { next = next_of l.size l.next; blocks = drop 1 l.blocks }
 
-abbrev pub took : Receive → Stage → Block → Receive
-took v (Sees first second) b = record v {
+abbrev pub took : Receive → List Told → Block → Receive
+took v [] b = v
+took v (t ∷ seen) b = record v {
   layout = consumed v.layout;
-  stage = Holding (told b first second);
+  seen = seen;
+  held = joined v.held b t;
+  stage = Owes;
 }
-took v other b = v
 
-abbrev pub lent_one : Receive → Stage → ℕ → Receive
-lent_one v Looks b = record v { stage = Lent None b }
-lent_one v (Holding p) b = record v { stage = Lent (Some p) b }
-lent_one v other b = v
+abbrev pub lent_one : Receive → ℕ → Receive
+lent_one v b = record v { stage = Lent b }
 
-abbrev pub named : Receive → Stage → Receive
-named v (Lent o b) = record v { stage = Named o b }
-named v other = v
+abbrev pub named : Receive → Receive
+named v = record v { stage = Named (fresh_of v.stage) }
 
--- the tail moves on: the block is posted, and what was held is handed out
+-- the packet that is handed out as the tail moves on: the one that is held, where no part of it is to be taken still
+abbrev pub if_any : List Block → Packet → Option Packet
+if_any [] p = None
+if_any (b ∷ bs) p = Some p
+
+abbrev pub out_of : List Told → Packet → Option Packet
+out_of [] p = if_any p.bufs p
+out_of (t ∷ seen) p = None
+
+-- what is held then
+abbrev pub left_of : List Told → Packet → Packet
+left_of [] p = no_packet
+left_of (t ∷ seen) p = p
+
+abbrev pub next_stage : List Told → Stage
+next_stage [] = Looks
+next_stage (t ∷ seen) = Takes
+
+-- what is kept of a packet, where there is one
+abbrev pub listed : Option Packet → List Kept
+listed None = []
+listed (Some p) = kept_of p ∷ []
+
+-- the tail moves on: the block is posted
 abbrev pub extended : Layout → ℕ → Layout
 extended l b = record l { blocks = l.blocks ++ b ∷ [] }
 
-abbrev pub moved : Receive → Stage → Receive
-moved v (Named o b) =
-    record v { layout = extended v.layout b; handed = v.handed ++ listed o; stage = Looks }
-moved v other = v
+abbrev pub moved : Receive → Receive
+moved v = record v {
+  layout = extended v.layout (fresh_of v.stage);
+  handed = v.handed ++ listed (out_of v.seen v.held);
+  held = left_of v.seen v.held;
+  stage = next_stage v.seen;
+}
 
 abbrev pub drive : Receive → Event Block → Reply Block → Receive
 drive v (event.Peek16 a) (reply.Bytes d) = looked v d
-drive v (event.Take n) (reply.Buf b) = took v v.stage b
-drive v (event.Lend b) reply.Done = lent_one v v.stage b.number
-drive v (event.Poke16 a bytes) reply.Done = named v v.stage
-drive v (event.Write port number word) reply.Done = moved v v.stage
+drive v (event.Take n) (reply.Buf b) = took v v.seen b
+drive v (event.Lend b) reply.Done = lent_one v b.number
+drive v (event.Poke16 a bytes) reply.Done = named v
+drive v (event.Write port number word) reply.Done = moved v
 drive v e r = v
 
 -- what the driver may do next: each event belongs to a stage, and reads nothing of the device
@@ -148,50 +174,75 @@ pub record MayLend (l : Layout) (b : Block) : Type 0 where
   pub room : length l.blocks + 1 < l.size
   pub whole : length b.bytes ≡ 2048
 
-abbrev pub LendsNext : Layout → Stage → Block → Type 0
-LendsNext l Looks b = MayLend l b
-LendsNext l (Holding p) b = MayLend l b
-LendsNext l other b = ⊥
+-- a fresh block is lent in the place of one that was taken, or while the ring is filled and no part was seen
+abbrev pub CanLend : Stage → List Told → Type 0
+CanLend Looks seen = seen ≡ []
+CanLend Takes seen = ⊥
+CanLend Owes seen = ⊤
+CanLend (Lent b) seen = ⊥
+CanLend (Named b) seen = ⊥
 
-abbrev pub TakesNext : Layout → Stage → ℕ → Type 0
-TakesNext l (Sees first second) n = n ≡ block_at l 0
-TakesNext l other n = ⊥
+-- it lent a block that no descriptor names yet
+abbrev pub HasLent : Stage → Type 0
+HasLent Looks = ⊥
+HasLent Takes = ⊥
+HasLent Owes = ⊥
+HasLent (Lent b) = ⊤
+HasLent (Named b) = ⊥
 
-abbrev pub NamesNext : Layout → Stage → ℕ → List ℕ → Type 0
-NamesNext l (Lent o b) a bytes =
-    (a ≡ descriptor_at l (vacant l)) × (bytes ≡ naming b)
-NamesNext l other a bytes = ⊥
+-- a descriptor names the block that it lent
+abbrev pub HasNamed : Stage → Type 0
+HasNamed Looks = ⊥
+HasNamed Takes = ⊥
+HasNamed Owes = ⊥
+HasNamed (Lent b) = ⊥
+HasNamed (Named b) = ⊤
 
-abbrev pub MovesNext : Layout → Stage → Port → ℕ → ℕ → Type 0
-MovesNext l (Named o b) port number word =
-    (port ≡ l.port) × (number ≡ l.tail) × (word ≡ slot_at l (vacant l + 1))
-MovesNext l other port number word = ⊥
+-- it looks at the slot behind those that it saw
+pub record PeeksNext (v : Receive) (a : ℕ) : Type 0 where
+  pub stage : v.stage ≡ Looks
+  pub address : a ≡ descriptor_at v.layout (length v.seen)
+  pub posted : length v.seen < length v.layout.blocks
 
-abbrev pub PeeksNext : Layout → Stage → ℕ → Type 0
-PeeksNext l Looks a = (a ≡ descriptor_at l 0) × (0 < length l.blocks)
-PeeksNext l (Sees first second) a = (a ≡ descriptor_at l 0) × (0 < length l.blocks)
-PeeksNext l other a = ⊥
+-- it takes the block of the next slot, of which it has seen what it holds
+pub record TakesNext (v : Receive) (n : ℕ) : Type 0 where
+  pub stage : v.stage ≡ Takes
+  pub block : n ≡ block_at v.layout 0
+  pub some : 0 < length v.seen
+
+pub record LendsNext (v : Receive) (b : Block) : Type 0 where
+  pub stage : CanLend v.stage v.seen
+  pub may : MayLend v.layout b
+
+pub record NamesNext (v : Receive) (a : ℕ) (bytes : List ℕ) : Type 0 where
+  pub stage : HasLent v.stage
+  pub address : a ≡ descriptor_at v.layout (vacant v.layout)
+  pub bytes_are : bytes ≡ naming (fresh_of v.stage)
+
+pub record MovesNext (v : Receive) (port : Port) (number word : ℕ) : Type 0 where
+  pub stage : HasNamed v.stage
+  pub port_is : port ≡ v.layout.port
+  pub number_is : number ≡ v.layout.tail
+  pub word_is : word ≡ slot_at v.layout (vacant v.layout + 1)
 
 abbrev pub IsOwn : Receive → Event Block → Type 0
-IsOwn v (event.Peek16 a) = PeeksNext v.layout v.stage a
-IsOwn v (event.Take n) = TakesNext v.layout v.stage n
-IsOwn v (event.Lend b) = LendsNext v.layout v.stage b
-IsOwn v (event.Poke16 a bytes) = NamesNext v.layout v.stage a bytes
-IsOwn v (event.Write port number word) = MovesNext v.layout v.stage port number word
+IsOwn v (event.Peek16 a) = PeeksNext v a
+IsOwn v (event.Take n) = TakesNext v n
+IsOwn v (event.Lend b) = LendsNext v b
+IsOwn v (event.Poke16 a bytes) = NamesNext v a bytes
+IsOwn v (event.Write port number word) = MovesNext v port number word
 IsOwn v e = ⊥
 
--- the tail moved on from any of these stages, with this block
+-- the tail moved on with this block
 abbrev pub refilled : Receive → ℕ → Receive
-refilled v b = record v {
-  layout = extended v.layout b;
-  handed = v.handed ++ listed (held_by v.stage);
-  stage = Looks;
-}
+refilled v b = moved (record v { stage = Named b })
 
 -- a driver as its queue goes on: no slot is posted
-abbrev pub at_start : Port → ℕ → ℕ → ℕ → Receive
-at_start port tail ring size = record {
-  layout = record { port = port; tail = tail; ring = ring; size = size; next = 0; blocks = [] };
+abbrev pub at_start : Port → ℕ → ℕ → ℕ → ℕ → Receive
+at_start port tail ring size most = record {
+  layout = record { port = port; tail = tail; ring = ring; size = size; most = most; next = 0; blocks = [] };
   handed = [];
+  seen = [];
+  held = no_packet;
   stage = Looks;
 }

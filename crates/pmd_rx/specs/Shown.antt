@@ -1,96 +1,59 @@
 -- The driver's receive ring as its code keeps it.
-use Rattle.std.specs.Prelude.{ℕ, ◌≡◌, ◌+◌, ◌<◌, ◌≤◌, List, Bool, false, length, Option, Some, None, IsSome, ⊤}
-use Rattle.pmd_seam.specs.Accesses.{IsWritten}
+use Rattle.std.specs.Prelude.{ℕ, ◌≡◌, ◌+◌, ◌*◌, ◌<◌, ◌≤◌, List, Bool, true, false, IsFalse, Option, IfSome, length, All, ⊤}
+use Rattle.nic_device.specs.DmaArena.Numbers.{Numbers, free_count}
+use Rattle.nic_device.specs.DmaRing.Descriptor.{second_half}
+use Rattle.nic_device.specs.DmaRing.Receive.{is_done, bytes_in}
+use Rattle.nic_device.specs.declared.event.Event.TheVariants as event
+use Rattle.nic_device.specs.declared.event.Reply.TheVariants as reply
+use Rattle.pmd_seam.specs.Accesses.{IsPeeked, IsWritten}
 use Rattle.pmd_seam.specs.Slots.{blocks_for}
-use Rattle.pmd_seam.specs.Made.{AddsSome}
+use Rattle.pmd_seam.specs.Made.{Adds, AddsSome}
 use Rattle.pmd_seam.specs.declared.fault.PmdFault.{PmdFault}
 use Rattle.pmd_seam.specs.declared.fault.PmdFault.TheVariants as fault
 use Rattle.pmd_seam.specs.DeviceLock.declared.entry.Call.{Call}
-use Rattle.pmd_rx.specs.Receive.{slot_at, vacant, Layout, Stage, Looks, Sees, Holding, Lent, Named}
 use Rattle.pmd_seam.specs.declared.packet.Packet.{Packet}
-use Rattle.pmd_rx.specs.declared.ring.At.{At}
-use Rattle.pmd_rx.specs.declared.ring.At.TheVariants as at
-
--- the stage, with what is held
-abbrev pub stage_of : At → Option Packet → Stage
-stage_of at.Looks o = Looks
-stage_of (at.Sees first second) o = Sees first second
-stage_of at.Refills None = Looks
-stage_of at.Refills (Some p) = Holding p
-stage_of (at.Lent block) o = Lent o block
-stage_of (at.Named block) o = Named o block
-
--- nothing is held while it looks, and a packet is as it is to be refilled
-abbrev pub HoldsRight : At → Option Packet → Type 0
-HoldsRight at.Looks o = o ≡ None
-HoldsRight (at.Sees first second) o = o ≡ None
-HoldsRight at.Refills o = IsSome o
-HoldsRight (at.Lent block) o = ⊤
-HoldsRight (at.Named block) o = ⊤
-
--- a block that is lent has a slot to go to, and one is vacant still
-abbrev pub HasRoom : At → ℕ → List ℕ → Type 0
-HasRoom at.Looks size blocks = ⊤
-HasRoom (at.Sees first second) size blocks = ⊤
-HasRoom at.Refills size blocks = ⊤
-HasRoom (at.Lent block) size blocks = (length blocks + 1 < size) × (block < 65536)
-HasRoom (at.Named block) size blocks = (length blocks + 1 < size) × (block < 65536)
+use Rattle.pmd_rx.specs.Receive.{Receive, slot_at, descriptor_at, vacant, Layout, no_packet, is_part, saw}
+use Rattle.pmd_rx.specs.Keeping.{vacated}
+use Rattle.pmd_rx.specs.Wrong.{PacketWaits, wanted}
+use Rattle.pmd_rx.specs.declared.receive.Look.{Look}
+use Rattle.pmd_rx.specs.declared.receive.Look.TheVariants as look
+use Rattle.pmd_rx.specs.declared.ring.Stage.{Stage}
+use Rattle.pmd_rx.specs.declared.ring.Stage.TheVariants.{Looks, Takes, Owes, Lent, Named}
+use Rattle.pmd_rx.specs.declared.ring.Told.{Told}
 
 -- a ring of 8 to 1,024 slots, in blocks of bus memory that follow one another
 pub record IsLaidOut (l : Layout) : Type 0 where
   pub some : 8 ≤ l.size
   pub few : l.size ≤ 1024
+  pub one_part : 1 ≤ l.most
+  pub few_parts : l.most ≤ 5
   pub next : l.next < l.size
   pub ring : l.ring + blocks_for l.size ≤ 65536
   pub room : length l.blocks < l.size
 
--- the driver looks at the next slot
-abbrev pub CanLook : Stage → Type 0
-CanLook Looks = ⊤
-CanLook (Sees first second) = ⊤
-CanLook (Holding p) = ⊥
-CanLook (Lent o b) = ⊥
-CanLook (Named o b) = ⊥
+-- nothing is held while it looks, and fewer slots are seen than a packet may have; there is a part to take; a block
+-- that is lent has a slot to go to, and one is vacant still
+abbrev pub StandsAt : Stage → Layout → List Told → Packet → Type 0
+StandsAt Looks l seen held = (held ≡ no_packet) × (length seen < l.most)
+StandsAt Takes l seen held = 0 < length seen
+StandsAt Owes l seen held = ⊤
+StandsAt (Lent b) l seen held = (length l.blocks + 1 < l.size) × (b < 65536)
+StandsAt (Named b) l seen held = (length l.blocks + 1 < l.size) × (b < 65536)
 
--- it saw a packet there
-abbrev pub HasSeen : Stage → Type 0
-HasSeen Looks = ⊥
-HasSeen (Sees first second) = ⊤
-HasSeen (Holding p) = ⊥
-HasSeen (Lent o b) = ⊥
-HasSeen (Named o b) = ⊥
+-- a part has no more bytes than a block
+abbrev pub FitsBlock : Told → Type 0
+FitsBlock t = bytes_in t.second ≤ 2048
 
--- it holds a packet, and no fresh block is lent for it yet
-abbrev pub IsHolding : Stage → Type 0
-IsHolding Looks = ⊥
-IsHolding (Sees first second) = ⊥
-IsHolding (Holding p) = ⊤
-IsHolding (Lent o b) = ⊥
-IsHolding (Named o b) = ⊥
+-- the parts that are held and seen are at most those of a packet, and the seen ones stand in posted slots
+pub record IsInStep (l : Layout) (seen : List Told) (held : Packet) (s : Stage) : Type 0 where
+  pub stage : StandsAt s l seen held
+  pub few : length held.bufs + length seen ≤ l.most
+  pub bytes : held.len ≤ 2048 * length held.bufs
+  pub parts : All FitsBlock seen
+  pub within : length seen ≤ length l.blocks
 
--- it may lend a fresh block
-abbrev pub CanLend : Stage → Type 0
-CanLend Looks = ⊤
-CanLend (Sees first second) = ⊥
-CanLend (Holding p) = ⊤
-CanLend (Lent o b) = ⊥
-CanLend (Named o b) = ⊥
-
--- it lent a block that no descriptor names yet
-abbrev pub HasLent : Stage → Type 0
-HasLent Looks = ⊥
-HasLent (Sees first second) = ⊥
-HasLent (Holding p) = ⊥
-HasLent (Lent o b) = ⊤
-HasLent (Named o b) = ⊥
-
--- a descriptor names the block that it lent
-abbrev pub HasNamed : Stage → Type 0
-HasNamed Looks = ⊥
-HasNamed (Sees first second) = ⊥
-HasNamed (Holding p) = ⊥
-HasNamed (Lent o b) = ⊥
-HasNamed (Named o b) = ⊤
+abbrev pub IsSteady : Layout → List Told → Packet → Stage → Type 0
+IsSteady l seen held s = IsLaidOut l × IsInStep l seen held s
 
 -- the tail of the receive ring was moved on by one, or the port has no such register
 abbrev pub IsTailWritten : List Call → List Call → Layout → Bool → Type 0
@@ -104,3 +67,51 @@ IsUnwritten fault.BadSize old new l = ⊥
 IsUnwritten fault.ForeignBlock old new l = ⊥
 IsUnwritten fault.StartTimeout old new l = ⊥
 IsUnwritten fault.NoBuffer old new l = ⊥
+
+-- a look found its slot not done
+pub record LooksOnce (old : List Call) (v : Receive) (new : List Call) (w : Receive) : Type 0 where
+  pub bytes : List ℕ
+  pub made : Adds old new (event.Peek16 (descriptor_at v.layout (length v.seen))) (reply.Bytes bytes)
+  pub waits : IsFalse (is_done (second_half bytes))
+  pub left : w ≡ v
+
+-- a look found a part
+pub record LooksAtPart (old : List Call) (v : Receive) (new : List Call) (w : Receive) : Type 0 where
+  pub bytes : List ℕ
+  pub made : Adds old new (event.Peek16 (descriptor_at v.layout (length v.seen))) (reply.Bytes bytes)
+  pub done : is_done (second_half bytes) ≡ true
+  pub part : is_part v.layout.most (length v.seen) (second_half bytes) ≡ true
+  pub left : w ≡ saw v bytes
+
+-- a look found what no healthy queue shows
+pub record LooksAtWrong (old : List Call) (v : Receive) (new : List Call) (w : Receive) : Type 0 where
+  pub bytes : Option (List ℕ)
+  pub made : IsPeeked old new (descriptor_at v.layout (length v.seen)) bytes
+  pub wrong : IfSome bytes (λ d. (is_done (second_half d) ≡ true)
+      × IsFalse (is_part v.layout.most (length v.seen) (second_half d)))
+  pub left : w ≡ v
+
+abbrev pub IsLook : Look → List Call → Receive → List Call → Receive → Type 0
+IsLook look.Nothing old v new w = LooksOnce old v new w
+IsLook look.Part old v new w = LooksAtPart old v new w
+IsLook look.Wrong old v new w = LooksAtWrong old v new w
+
+-- a call was refused
+abbrev pub IsRefused : PmdFault → List Call → List Call → Type 0
+IsRefused (fault.Call refusal) old new = AddsSome old new
+IsRefused fault.DeviceFault old new = ⊥
+IsRefused fault.BadSize old new = ⊥
+IsRefused fault.ForeignBlock old new = ⊥
+IsRefused fault.StartTimeout old new = ⊥
+IsRefused fault.NoBuffer old new = ⊥
+
+-- how often a fresh block is to be posted until the packet is taken whole
+abbrev pub rounds : Receive → ℕ
+rounds v = length v.seen + vacated v.stage
+
+-- a part of it was taken, and a fresh block posted in its place
+pub record IsOneLess (a : Numbers) (v : Receive) (b : Numbers) (w : Receive) : Type 0 where
+  pub rounds_are : rounds w + 1 ≡ rounds v
+  pub waits : PacketWaits w.stage
+  pub free : wanted v ≤ free_count a → wanted w ≤ free_count b
+  pub handed : w.handed ≡ v.handed

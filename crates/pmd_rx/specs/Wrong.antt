@@ -1,9 +1,9 @@
 -- Why a call of the driver fails.
-use Rattle.std.specs.Prelude.{ℕ, ◌≡◌, ◌||◌, not, Bool, true, false, List, IsFalse, ⊤}
+use Rattle.std.specs.Prelude.{ℕ, ◌≡◌, ◌+◌, ◌<◌, ◌||◌, not, Bool, true, false, List, length, IsFalse, ⊤}
 use Rattle.nic_device.specs.DmaArena.Block.{Block}
 use Rattle.nic_device.specs.DmaArena.Numbers.{Numbers, free_count}
 use Rattle.nic_device.specs.DmaRing.Descriptor.{second_half}
-use Rattle.nic_device.specs.DmaRing.Receive.{is_done, ends_packet}
+use Rattle.nic_device.specs.DmaRing.Receive.{is_done}
 use Rattle.nic_device.specs.declared.event.Event.{Event}
 use Rattle.nic_device.specs.declared.event.Event.TheVariants as event
 use Rattle.nic_device.specs.declared.event.Reply.{Reply}
@@ -13,42 +13,56 @@ use Rattle.pmd_seam.specs.Made.{Adds}
 use Rattle.pmd_seam.specs.declared.fault.PmdFault.{PmdFault}
 use Rattle.pmd_seam.specs.declared.fault.PmdFault.TheVariants as fault
 use Rattle.pmd_rx.specs.Plays.{LendsFree, PlaysFrom}
-use Rattle.pmd_rx.specs.Receive.{Receive, Stage, Looks, Sees, Holding, Lent, Named, IsOwn}
+use Rattle.pmd_rx.specs.Receive.{Receive, IsOwn, is_part}
+use Rattle.pmd_rx.specs.declared.ring.Stage.{Stage}
+use Rattle.pmd_rx.specs.declared.ring.Stage.TheVariants.{Looks, Takes, Owes, Lent, Named}
 
--- a descriptor that isn't done, or ends its packet: a packet ends where it begins
-abbrev pub is_whole : List ℕ → Bool
-is_whole d = not (is_done (second_half d)) || ends_packet (second_half d)
+-- a descriptor that isn't done, or tells of a part of a packet that comes behind those that were seen
+abbrev pub is_whole : Receive → List ℕ → Bool
+is_whole v d = not (is_done (second_half d)) || is_part v.layout.most (length v.seen) (second_half d)
 
 -- the replies that the driver's events have on a healthy queue
-abbrev pub is_healthy : Event Block → Reply Block → Bool
-is_healthy (event.Peek16 address) (reply.Bytes d) = is_whole d
-is_healthy (event.Take number) (reply.Buf block) = true
-is_healthy (event.Lend block) reply.Done = true
-is_healthy (event.Poke16 address bytes) reply.Done = true
-is_healthy (event.Write port number word) reply.Done = true
-is_healthy e r = false
+abbrev pub is_healthy : Receive → Event Block → Reply Block → Bool
+is_healthy v (event.Peek16 address) (reply.Bytes d) = is_whole v d
+is_healthy v (event.Take number) (reply.Buf block) = true
+is_healthy v (event.Lend block) reply.Done = true
+is_healthy v (event.Poke16 address bytes) reply.Done = true
+is_healthy v (event.Write port number word) reply.Done = true
+is_healthy v e r = false
 
 -- the last call was the driver's own, and its reply is none of these. It left the driver as it was, and each block that
 -- was lent up to there, or was to be, was free in an arena
 abbrev pub EndsWrong : Numbers → List Call → Receive → List Call → Receive → Type 0
 EndsWrong a old v new w =
     (mid : List Call) × (e : Event Block) × (r : Reply Block)
-    × PlaysFrom a old v mid w × IsOwn w e × LendsFree a true e × Adds mid new e r × IsFalse (is_healthy e r)
+    × PlaysFrom a old v mid w × IsOwn w e × LendsFree a true e × Adds mid new e r × IsFalse (is_healthy w e r)
 
--- a packet waits: one was seen, or one is held and no block is lent in its place
+-- a packet waits: it was seen, or parts of it are taken
 abbrev pub PacketWaits : Stage → Type 0
 PacketWaits Looks = ⊥
-PacketWaits (Sees first second) = ⊤
-PacketWaits (Holding p) = ⊤
-PacketWaits (Lent o b) = ⊥
-PacketWaits (Named o b) = ⊥
+PacketWaits Takes = ⊤
+PacketWaits Owes = ⊤
+PacketWaits (Lent b) = ⊤
+PacketWaits (Named b) = ⊤
 
--- no block is free, and the driver is unchanged but for what it saw
+-- how many free blocks are wanted: one in the place of each part that was seen, and one where a block is to be lent
+abbrev pub owed : Stage → ℕ
+owed Looks = 1
+owed Takes = 0
+owed Owes = 1
+owed (Lent b) = 0
+owed (Named b) = 0
+
+abbrev pub wanted : Receive → ℕ
+wanted v = length v.seen + owed v.stage
+
+-- too few blocks are free, and the driver is unchanged but for what it saw
 pub record IsShort (a : Numbers) (v : Receive) (b : Numbers) (w : Receive) : Type 0 where
-  pub none : free_count a ≡ 0
+  pub few : free_count a < wanted w
   pub arena : b ≡ a
   pub layout : w.layout ≡ v.layout
   pub handed : w.handed ≡ v.handed
+  pub held : w.held ≡ v.held
 
 -- the event that was refused is one that the driver may make next: a look at the next slot, a take of the block there,
 -- a lend of a block that is free in an arena, the name of one in the vacant slot, or a move of the tail
@@ -65,7 +79,7 @@ IsFault fault.ForeignBlock a old v new w = ⊥
 IsFault fault.StartTimeout a old v new w = ⊥
 IsFault fault.NoBuffer a old v new w = ⊥
 
--- the same, with the arena before and after, which may have no free block
+-- the same, with the arena before and after, which may have too few free blocks
 abbrev pub FailsBy : PmdFault → List Call → Numbers → Receive → List Call → Numbers → Receive → Type 0
 FailsBy fault.NoBuffer old a v new b w = IsShort a v b w
 FailsBy fault.DeviceFault old a v new b w = EndsWrong a old v new w

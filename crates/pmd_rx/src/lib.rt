@@ -10,8 +10,8 @@ mod receive;
 mod ring;
 
 pub use pmd_seam::{
-    CallFault, Calls, Direct, Finished, Interleaved, Made, Nic, POLLS, Packet, PmdFault, Queue,
-    Reclaim, Record, Setup, ThroughLock, blocks_for, fresh_packet, give_back, give_packet, lend,
-    pf_setup,
+    Bufs, CallFault, Calls, Direct, Finished, Interleaved, LONGEST_FRAME, Made, Nic, POLLS, Packet,
+    PmdFault, Queue, Reclaim, Record, SHORTEST_FRAME, Setup, ThroughLock, blocks_for, fresh_packet,
+    give_back, give_bufs, give_packet, is_frame, lend, most_blocks, packet_limit, pf_setup,
 };
 pub use ring::ReceiveRing;

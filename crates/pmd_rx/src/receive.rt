@@ -1,101 +1,133 @@
 //! The receive side of the driver: one step for each of its calls, from one stage to the next.
 
-ghost use Rattle.std.specs.Prelude.{◌≡◌, ◌<◌, ◌≤◌, ◌+◌, ◌++◌, length, IsFalse, Ok, true, false, IfOk, IfErr, IfSome, OnOk, OnErr, [], min, vec_len};
+ghost use Rattle.std.specs.Prelude.{◌≡◌, ◌<◌, ◌≤◌, ◌+◌, ◌*◌, ◌++◌, length, IsFalse, if◌then◌else◌, Ok, true, false, IfOk, IfErr, OnOk, OnErr, [], min, vec_len};
 ghost use Rattle.std.specs.Vec.{vec_capacity};
 ghost use Rattle.nic_device.specs.DmaArena.Numbers.{Numbers, is_free};
-ghost use Rattle.nic_device.specs.DmaRing.Descriptor.{second_half};
-ghost use Rattle.nic_device.specs.DmaRing.Receive.{is_done};
-ghost use Rattle.pmd_rx.specs.Plays.{PlaysFrom, LooksOnce};
-ghost use Rattle.pmd_rx.specs.Receive.{looked, took, lent_one, named, moved, descriptor_at, slot_at, block_at, vacant, naming, fresh_of, held_by, listed, MayLend};
-ghost use Rattle.pmd_rx.specs.Wrong.{EndsWrong, IsFault, is_whole};
-ghost use Rattle.pmd_rx.specs.Keeping.{Keeps, handed_block};
-ghost use Rattle.pmd_rx.specs.Shown.{CanLook, HasSeen, IsHolding, CanLend, HasLent, HasNamed, IsTailWritten, IsUnwritten};
+ghost use Rattle.nic_device.specs.DmaRing.Receive.{is_done, ends_packet};
+ghost use Rattle.pmd_rx.specs.Plays.{PlaysFrom};
+ghost use Rattle.pmd_rx.specs.Receive.{looked, took, lent_one, named, moved, out_of, if_any, listed, is_part, descriptor_at, slot_at, block_at, vacant, naming, fresh_of, MayLend, CanLend, HasLent, HasNamed};
+ghost use Rattle.pmd_rx.specs.Wrong.{EndsWrong, IsFault};
+ghost use Rattle.pmd_rx.specs.Keeping.{Keeps, handed_blocks};
+ghost use Rattle.pmd_rx.specs.Shown.{LooksOnce, IsLook, IsRefused, IsTailWritten, IsUnwritten};
+ghost use Rattle.pmd_rx.specs.declared.ring.Stage.TheVariants as stage;
 ghost use Rattle.pmd_seam.specs.Refusals.{CanFail};
 
-use crate::ring::{At, ReceiveRing};
+use crate::ring::{ReceiveRing, Stage, Told, no_packet};
 use nic_device::{
-    Buf, first_half, hash_told, is_last, is_written_back, length_told, of_halves, posted_word,
-    rss_told, second_half,
+    BLOCK_BYTES, Buf, first_half, hash_told, is_last, is_written_back, length_told, of_halves,
+    posted_word, rss_told, second_half,
 };
 use pmd_seam::{
     CallFault, Nic, Packet, PmdFault, Record, descriptor_address, lend, next_slot, peek, poke,
     slot_after, take, write,
 };
 use std::alloc::Global;
+use std::mem;
 
-/// What a look at the next slot tells.
+/// What a look at a slot tells.
 #[derive(Clone, Copy)]
 pub enum Look {
     /// The slot isn't done.
     Nothing,
-    /// A packet is there.
-    Packet,
-    /// What no healthy queue shows: a packet that doesn't end there, or a ring that isn't lent.
+    /// A part of a packet is there.
+    Part,
+    /// What no healthy queue shows: a part that is too long or too short, or one too many, or a ring that isn't lent.
     Wrong,
 }
 
+/// What a descriptor tells, by its second half, of a part behind so many others of a packet of at most `most` parts.
+fn look_told(most: u16, before: usize, second: u64) -> Look
+    requires { before < 65536 }
+    ensures nothing { result ≡ Look.Nothing → IsFalse (is_done second) }
+    ensures part { result ≡ Look.Part → (is_done second ≡ true) × (is_part most before second ≡ true) }
+    ensures wrong { result ≡ Look.Wrong → (is_done second ≡ true) × IsFalse (is_part most before second) }
+{
+    if !is_written_back(second) {
+        return Look::Nothing;
+    }
+    let len = usize::from(length_told(second));
+    let fits = if is_last(second) {
+        len <= BLOCK_BYTES
+    } else {
+        len == BLOCK_BYTES && before + 1 < usize::from(most)
+    };
+    if fits { Look::Part } else { Look::Wrong }
+}
+
 impl ReceiveRing {
-    /// The bus address of the next slot's descriptor.
+    /// The bus address of the descriptor of the slot behind those that were seen.
     fn next_descriptor(&self) -> u32
-        ensures { result ≡ descriptor_at self.now.layout 0 }
+        requires { length self.now.seen < length self.now.layout.blocks }
+        ensures { result ≡ descriptor_at self.now.layout (length self.now.seen) }
     {
-        descriptor_address(self.ring, self.next)
+        descriptor_address(self.ring, self.slot(self.seen.len() as u16))
     }
 
-    /// Keeps what a descriptor tells.
-    fn see(&mut self, bytes: &[u8; 16]) -> Look
-        requires { CanLook self.old.stage }
-        ensures saw { self.new ≡ looked self.old bytes.now }
-        ensures nothing { result ≡ Look.Nothing → IsFalse (is_done (second_half bytes.now)) × (self.new ≡ self.old) }
-        ensures packet { result ≡ Look.Packet → HasSeen self.new.stage }
-        ensures wrong { result ≡ Look.Wrong → IsFalse (is_whole bytes.now) × (self.new ≡ self.old) }
-        ensures kept { (self.new.layout ≡ self.old.layout) × (self.new.handed ≡ self.old.handed) }
-    {
-        let second = second_half(bytes);
-        if !is_written_back(second) {
-            return Look::Nothing;
-        }
-        if !is_last(second) {
-            return Look::Wrong;
-        }
-        self.at = At::Sees(first_half(bytes), second);
-        Look::Packet
-    }
-
-    /// Looks at the next slot.
+    /// Looks at the slot behind those that were seen.
+    ///
+    /// `Call` where a call was refused, or there was no memory to keep what is seen.
     pub(crate) fn look<N: Nic>(&mut self, alloc: Global, nic: &mut N) -> Result<Look, PmdFault>
-        requires some { 0 < length self.old.layout.blocks }
-        requires stage { CanLook self.old.stage }
+        requires some { length self.old.seen < length self.old.layout.blocks }
+        requires stage { self.old.stage ≡ stage.Looks }
         ensures plays { (a : Numbers) → PlaysFrom a (N.made nic.old) self.old (N.made nic.new) self.new }
         ensures nothing { result ≡ Ok Look.Nothing → LooksOnce (N.made nic.old) self.old (N.made nic.new) self.new }
-        ensures packet { result ≡ Ok Look.Packet → HasSeen self.new.stage }
+        ensures part { result ≡ Ok Look.Part → length self.new.seen ≡ length self.old.seen + 1 }
         ensures wrong { result ≡ Ok Look.Wrong
             → (a : Numbers) → EndsWrong a (N.made nic.old) self.old (N.made nic.new) self.new }
         ensures fault { (a : Numbers) → IfErr result (λ f.
             IsFault f a (N.made nic.old) self.old (N.made nic.new) self.new) }
-        ensures kept { (self.new.layout ≡ self.old.layout) × (self.new.handed ≡ self.old.handed) }
+        ensures kept { self.new ≡ record self.old { seen = self.new.seen; stage = self.new.stage } }
         ensures keeps { (a : Numbers) → Keeps a self.old a self.new [] }
         ensures who { N.who nic.new ≡ N.who nic.old }
         ensures refuses { N.refuses nic.new ≡ N.refuses nic.old }
         ensures refusal { IfErr result (λ f. CanFail (N.refuses nic.new) f) }
     {
+        self.peek_next(alloc, nic)
+    }
+
+    /// The same, by what is made.
+    fn peek_next<N: Nic>(&mut self, alloc: Global, nic: &mut N) -> Result<Look, PmdFault>
+        requires some { length self.old.seen < length self.old.layout.blocks }
+        requires stage { self.old.stage ≡ stage.Looks }
+        ensures looked { IfOk result (λ look. IsLook look (N.made nic.old) self.old (N.made nic.new) self.new) }
+        ensures unseen { OnErr result (self.new ≡ self.old) }
+        ensures refused { IfErr result (λ f. IsRefused f (N.made nic.old) (N.made nic.new)) }
+        ensures who { N.who nic.new ≡ N.who nic.old }
+        ensures refuses { N.refuses nic.new ≡ N.refuses nic.old }
+        ensures refusal { IfErr result (λ f. CanFail (N.refuses nic.new) f) }
+    {
+        if self.seen.reserve(1).is_err() {
+            return Err(PmdFault::Call(CallFault::OutOfMemory(())));
+        }
         let address = self.next_descriptor();
         match peek(alloc, nic, address) {
-            Ok(Some(bytes)) => Ok(self.see(&bytes)),
+            Ok(Some(bytes)) => {
+                let told = Told {
+                    first: first_half(&bytes),
+                    second: second_half(&bytes),
+                };
+                let look = look_told(self.most, self.seen.len(), told.second);
+                if matches!(look, Look::Part) {
+                    self.seen.push_back_reserved(told);
+                    self.stage = stage_after(told.second);
+                }
+                Ok(look)
+            }
             Ok(None) => Ok(Look::Wrong),
             Err(fault) => Err(PmdFault::Call(fault)),
         }
     }
 
-    /// Takes the block of the packet that was seen, and holds the packet.
+    /// Takes the block of the next slot, whose part joins the packet that is held.
     ///
     /// `DeviceFault` where the block isn't lent any more.
-    pub(crate) fn take_packet<N: Nic>(&mut self, alloc: Global, nic: &mut N) -> Result<(), PmdFault>
-        requires some { 0 < length self.old.layout.blocks }
-        requires stage { HasSeen self.old.stage }
+    pub(crate) fn take_part<N: Nic>(&mut self, alloc: Global, nic: &mut N) -> Result<(), PmdFault>
+        requires stage { self.old.stage ≡ stage.Takes }
+        requires some { 0 < length self.old.seen }
         ensures plays { (a : Numbers) → PlaysFrom a (N.made nic.old) self.old (N.made nic.new) self.new }
         ensures handed { self.new.handed ≡ self.old.handed }
-        ensures holds { OnOk result (IsHolding self.new.stage) }
+        ensures taken { OnOk result ((self.new.stage ≡ stage.Owes)
+            × (length self.new.seen + 1 ≡ length self.old.seen) × (0 < length self.new.held.bufs)) }
         ensures kept { OnErr result (self.new ≡ self.old) }
         ensures fault { (a : Numbers) → IfErr result (λ f.
             IsFault f a (N.made nic.old) self.old (N.made nic.new) self.new) }
@@ -117,33 +149,28 @@ impl ReceiveRing {
 
     /// The block of the next slot.
     fn next_block(&self) -> u32
-        requires { 0 < length self.now.layout.blocks }
-        ensures { result ≡ block_at self.now.layout 0 }
+        requires { 0 < length self.now.seen }
+        ensures block { result ≡ block_at self.now.layout 0 }
+        ensures some { 0 < length self.now.layout.blocks }
     {
         self.blocks[0]
     }
 
-    /// Consumes the next slot, and holds the packet in its block.
+    /// Consumes the next slot, whose part, in its block, joins the packet that is held.
     fn hold(&mut self, buf: Buf)
-        requires { HasSeen self.old.stage }
-        ensures { self.new ≡ took self.old self.old.stage buf }
+        requires { 0 < length self.old.seen }
+        ensures { self.new ≡ took self.old self.old.seen buf }
     {
-        let At::Sees(first, second) = self.at else {
+        let Some(told) = self.seen.pop_front() else {
             unreachable!()
         };
-        let packet = Packet {
-            buf,
-            len: length_told(second),
-            rss: rss_told(first),
-            hash: hash_told(first),
-        };
+        self.held.bufs.push(buf);
+        self.held.len += length_told(told.second);
+        self.held.rss = rss_told(told.first);
+        self.held.hash = hash_told(told.first);
         self.next = next_slot(self.size, self.next);
         let _consumed = self.blocks.pop_front();
-        self.at = At::Refills;
-        match self.held.replace(packet) {
-            None => {}
-            Some(_packet) => unreachable!(),
-        }
+        self.stage = Stage::Owes;
     }
 
     /// The slot that comes so many after the next one.
@@ -163,11 +190,11 @@ impl ReceiveRing {
         nic: &mut N,
         buf: Buf,
     ) -> Result<(), (PmdFault, Buf)>
-        requires stage { CanLend self.old.stage }
+        requires stage { CanLend self.old.stage self.old.seen }
         requires fresh { MayLend self.old.layout buf }
         ensures plays { (a : Numbers) → is_free a buf.number ≡ true
             → PlaysFrom a (N.made nic.old) self.old (N.made nic.new) self.new }
-        ensures lent { OnOk result (self.new ≡ lent_one self.old self.old.stage buf.number) }
+        ensures lent { OnOk result (self.new ≡ lent_one self.old buf.number) }
         ensures kept { OnErr result (self.new ≡ self.old) }
         ensures back { IfErr result (λ refused. refused.1.number ≡ buf.number) }
         ensures fault { (a : Numbers) → is_free a buf.number ≡ true → IfErr result (λ refused.
@@ -189,12 +216,12 @@ impl ReceiveRing {
 
     /// Keeps that the block is lent.
     fn keep_lent(&mut self, block: u32)
-        requires stage { CanLend self.old.stage }
+        requires stage { CanLend self.old.stage self.old.seen }
         requires room { length self.old.layout.blocks + 1 < self.old.layout.size }
         requires small { block < 65536 }
-        ensures { self.new ≡ lent_one self.old self.old.stage block }
+        ensures { self.new ≡ lent_one self.old block }
     {
-        self.at = At::Lent(block);
+        self.stage = Stage::Lent(block);
     }
 
     /// Names the fresh block in the descriptor of the vacant slot.
@@ -203,7 +230,7 @@ impl ReceiveRing {
     pub(crate) fn name_fresh<N: Nic>(&mut self, alloc: Global, nic: &mut N) -> Result<(), PmdFault>
         requires { HasLent self.old.stage }
         ensures plays { (a : Numbers) → PlaysFrom a (N.made nic.old) self.old (N.made nic.new) self.new }
-        ensures named { OnOk result (self.new ≡ named self.old self.old.stage) }
+        ensures named { OnOk result (self.new ≡ named self.old) }
         ensures kept { OnErr result (self.new ≡ self.old) }
         ensures fault { (a : Numbers) → IfErr result (λ f.
             IsFault f a (N.made nic.old) self.old (N.made nic.new) self.new) }
@@ -228,7 +255,7 @@ impl ReceiveRing {
         requires { HasLent self.now.stage }
         ensures { result ≡ naming (fresh_of self.now.stage) }
     {
-        let At::Lent(block) = self.at else {
+        let Stage::Lent(block) = self.stage else {
             unreachable!()
         };
         of_halves(posted_word(2048 * u64::from(block)), 0)
@@ -237,12 +264,12 @@ impl ReceiveRing {
     /// Keeps that a descriptor names the block.
     fn keep_named(&mut self)
         requires { HasLent self.old.stage }
-        ensures { self.new ≡ named self.old self.old.stage }
+        ensures { self.new ≡ named self.old }
     {
-        let At::Lent(block) = self.at else {
+        let Stage::Lent(block) = self.stage else {
             unreachable!()
         };
-        self.at = At::Named(block);
+        self.stage = Stage::Named(block);
     }
 
     /// The bus address of the vacant slot's descriptor.
@@ -252,8 +279,8 @@ impl ReceiveRing {
         descriptor_address(self.ring, self.slot(self.blocks.len() as u16))
     }
 
-    /// Moves the tail on, so that the device has the block that is named. What was held is handed out: None where
-    /// nothing was.
+    /// Moves the tail on, so that the device has the block that is named. The packet that is held is handed out, where
+    /// it is whole: None where it isn't, or none is held.
     ///
     /// `DeviceFault` where the port has no such register.
     pub(crate) fn move_tail<N: Nic>(
@@ -263,12 +290,12 @@ impl ReceiveRing {
     ) -> Result<Option<Packet>, PmdFault>
         requires { HasNamed self.old.stage }
         ensures plays { (a : Numbers) → PlaysFrom a (N.made nic.old) self.old (N.made nic.new) self.new }
-        ensures moved { OnOk result (self.new ≡ moved self.old self.old.stage) }
-        ensures out { IfOk result (λ out. out ≡ held_by self.old.stage) }
+        ensures moved { OnOk result (self.new ≡ moved self.old) }
+        ensures out { IfOk result (λ out. out ≡ out_of self.old.seen self.old.held) }
         ensures kept { OnErr result (self.new ≡ self.old) }
         ensures fault { (a : Numbers) → IfErr result (λ f.
             IsFault f a (N.made nic.old) self.old (N.made nic.new) self.new) }
-        ensures keeps { (a : Numbers) → Keeps a self.old a self.new (handed_block result) }
+        ensures keeps { (a : Numbers) → Keeps a self.old a self.new (handed_blocks result) }
         ensures who { N.who nic.new ≡ N.who nic.old }
         ensures refuses { N.refuses nic.new ≡ N.refuses nic.old }
         ensures refusal { IfErr result (λ f. CanFail (N.refuses nic.new) f) }
@@ -280,8 +307,8 @@ impl ReceiveRing {
     fn write_tail<N: Nic>(&mut self, alloc: Global, nic: &mut N) -> Result<Option<Packet>, PmdFault>
         requires { HasNamed self.old.stage }
         ensures made { OnOk result (IsTailWritten (N.made nic.old) (N.made nic.new) self.old.layout true) }
-        ensures moved { OnOk result (self.new ≡ moved self.old self.old.stage) }
-        ensures out { IfOk result (λ out. out ≡ held_by self.old.stage) }
+        ensures moved { OnOk result (self.new ≡ moved self.old) }
+        ensures out { IfOk result (λ out. out ≡ out_of self.old.seen self.old.held) }
         ensures kept { OnErr result (self.new ≡ self.old) }
         ensures failed { IfErr result (λ f.
             IsUnwritten f (N.made nic.old) (N.made nic.new) self.old.layout) }
@@ -289,7 +316,7 @@ impl ReceiveRing {
         ensures refuses { N.refuses nic.new ≡ N.refuses nic.old }
         ensures refusal { IfErr result (λ f. CanFail (N.refuses nic.new) f) }
     {
-        let At::Named(block) = self.at else {
+        let Stage::Named(block) = self.stage else {
             unreachable!()
         };
         let no_memory = PmdFault::Call(CallFault::OutOfMemory(()));
@@ -299,46 +326,67 @@ impl ReceiveRing {
         if self.handed.reserve(1).is_err() {
             return Err(no_memory);
         }
-        let Ok(room) = Vec::with_capacity(alloc, record_room(&self.held)) else {
+        let Ok(room) = Vec::with_capacity(alloc, self.record_room()) else {
             return Err(no_memory);
         };
         let word = u32::from(self.slot(self.blocks.len() as u16 + 1));
         match write(alloc, nic, self.port, self.tail, word) {
             Ok(true) => {
                 self.blocks.push_back_reserved(block);
-                self.at = At::Looks;
-                Ok(hand_out(&mut self.held, &mut self.handed, room))
+                if !self.seen.is_empty() {
+                    self.stage = Stage::Takes;
+                    return Ok(None);
+                }
+                self.stage = Stage::Looks;
+                let packet = mem::replace(&mut self.held, no_packet());
+                Ok(hand_out(packet, &mut self.handed, room))
             }
             Ok(false) => Err(PmdFault::DeviceFault),
             Err(fault) => Err(PmdFault::Call(fault)),
         }
     }
-}
 
-/// How many bytes the record of the packet that is held keeps.
-fn record_room(held: &Option<Packet>) -> usize
-    ensures { IfSome held.now (λ packet. min packet.len 2048 ≤ result) }
-{
-    match held {
-        Some(packet) => packet.record_room(),
-        None => 0,
-    }
-}
-
-/// Hands out the packet that is held, and keeps its record.
-fn hand_out(held: &mut Option<Packet>, handed: &mut Vec<Record>, room: Vec<u8>) -> Option<Packet>
-    requires empty { room.items ≡ [] }
-    requires bytes { IfSome held.old (λ packet. min packet.len 2048 ≤ vec_capacity room) }
-    requires record { vec_len handed.old < vec_capacity handed.old }
-    ensures out { result ≡ held.old }
-    ensures none { held.new ≡ None }
-    ensures kept { handed.new.items ≡ handed.old.items ++ listed held.old }
-{
-    match held.take() {
-        None => None,
-        Some(packet) => {
-            handed.push_reserved(Record::of(&packet, room));
-            Some(packet)
+    /// How many bytes the record of the packet that is held keeps, where no part of it is to be taken still.
+    fn record_room(&self) -> usize
+        ensures { length self.now.seen ≡ 0 → min self.now.held.len (2048 * length self.now.held.bufs) ≤ result }
+    {
+        if self.seen.is_empty() {
+            self.held.record_room()
+        } else {
+            0
         }
     }
+}
+
+/// The stage behind a look that found a part of a packet, by the second half that it told.
+fn stage_after(second: u64) -> Stage
+    ensures { result ≡ (if ends_packet second then stage.Takes else stage.Looks) }
+{
+    if is_last(second) {
+        Stage::Takes
+    } else {
+        Stage::Looks
+    }
+}
+
+/// Hands out a packet, and keeps its record. None where it has no part.
+fn hand_out(packet: Packet, handed: &mut Vec<Record>, room: Vec<u8>) -> Option<Packet>
+    requires empty { room.items ≡ [] }
+    requires bytes { min packet.len (2048 * length packet.bufs) ≤ vec_capacity room }
+    requires record { vec_len handed.old < vec_capacity handed.old }
+    ensures out { result ≡ if_any packet.bufs packet }
+    ensures kept { handed.new.items ≡ handed.old.items ++ listed (if_any packet.bufs packet) }
+{
+    if packet.bufs.count() == 0 {
+        let Packet {
+            bufs,
+            len: _,
+            rss: _,
+            hash: _,
+        } = packet;
+        bufs.finish();
+        return None;
+    }
+    handed.push_reserved(Record::of(&packet, room));
+    Some(packet)
 }

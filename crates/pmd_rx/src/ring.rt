@@ -1,48 +1,43 @@
 //! The receive ring as the driver keeps it: where it is between two of its calls, and which blocks it has.
 
-ghost use Rattle.std.specs.Prelude.{◌≡◌, ◌<◌, ◌≤◌, ◌+◌, ◌++◌, ◌∷◌, [], ◌↔◌, true, false, length, option_to_list, IfOk, IfErr, IfSome, OnOk, OnErr};
+ghost use Rattle.std.specs.Prelude.{◌≡◌, ◌<◌, ◌≤◌, ◌+◌, ◌++◌, ◌∷◌, [], ◌↔◌, true, false, length, option_to_list, IfOk, IfErr, OnOk, OnErr};
 ghost use Rattle.std.specs.List.{range_with_len};
 ghost use Rattle.std.specs.VecDeque.{deque_len, deque_capacity};
-ghost use Rattle.nic_device.specs.DmaArena.Numbers.{is_own, is_free};
+ghost use Rattle.pmd_seam.specs.Bufs.{numbers_of, with_all_free};
 ghost use Rattle.pmd_seam.specs.Home.{AreOut};
 ghost use Rattle.pmd_seam.specs.Slots.{blocks_for, ring_blocks};
 ghost use Rattle.nic_device.specs.DmaArena.Whereabouts.{times_in_hand};
-ghost use Rattle.pmd_rx.specs.Keeping.{blocks_out, lent_of, fresh_block, block_in, with_home};
-ghost use Rattle.pmd_rx.specs.Receive.{at_start, held_by};
-ghost use Rattle.pmd_rx.specs.Shown.{CanLook, IsHolding, HasLent, HasNamed};
+ghost use Rattle.pmd_rx.specs.Keeping.{blocks_out, lent_of, fresh_block};
+ghost use Rattle.pmd_rx.specs.Receive.{at_start, no_packet};
 
 use nic_device::{Arena, Port};
-use pmd_seam::{Packet, Reclaim, Record, blocks_for, give_packet, is_ring_block};
+use pmd_seam::{Bufs, Packet, Reclaim, Record, blocks_for, give_packet, is_ring_block};
 use std::alloc::Global;
 use std::collections::VecDeque;
 use std::marker::Model;
 
 /// Where the driver is between two of its calls.
 #[derive(Clone, Copy)]
-pub enum At {
-    /// It looks at the next slot.
+pub enum Stage {
+    /// It looks at the slots of a packet, one after the other.
     Looks,
-    /// It saw a packet there, whose descriptor has these halves.
-    Sees(u64, u64),
-    /// It has taken the slot's block, holds its packet, and is to lend a fresh block.
-    Refills,
+    /// It saw where the packet ends, and takes the block of the next slot.
+    Takes,
+    /// It has taken the slot's block, and is to lend a fresh block.
+    Owes,
     /// It lent this block.
     Lent(u32),
     /// The descriptor of the vacant slot names this block.
     Named(u32),
 }
 
-/// What is to be done next.
+/// What a descriptor tells of a part of a packet, by its halves.
 #[derive(Clone, Copy)]
-pub enum Due {
-    /// To look at the next slot.
-    Look,
-    /// To lend a fresh block.
-    Lend,
-    /// To name the block that is lent.
-    Name,
-    /// To move the tail on.
-    Move,
+pub struct Told {
+    /// The first half: the RSS type and hash.
+    pub first: u64,
+    /// The second half: the length, and whether the packet ends there.
+    pub second: u64,
 }
 
 /// The receive ring of a driver, and what it handed out.
@@ -51,16 +46,18 @@ pub struct ReceiveRing {
     pub(crate) tail: u32,
     pub(crate) ring: u32,
     pub(crate) size: u16,
+    pub(crate) most: u16,
     pub(crate) next: u16,
     pub(crate) blocks: VecDeque<u32>,
     pub(crate) handed: Vec<Record>,
-    pub(crate) at: At,
-    pub(crate) held: Option<Packet>,
+    pub(crate) seen: VecDeque<Told>,
+    pub(crate) held: Packet,
+    pub(crate) stage: Stage,
 }
 
 impl Model for ReceiveRing {
     ghost use Rattle.pmd_rx.specs.Receive.{Receive};
-    ghost use Rattle.pmd_rx.specs.Shown.{stage_of, HoldsRight, HasRoom, IsLaidOut};
+    ghost use Rattle.pmd_rx.specs.Shown.{IsSteady};
 
     ghost Value = { Receive };
 
@@ -70,42 +67,49 @@ impl Model for ReceiveRing {
         tail = r.tail;
         ring = r.ring;
         size = r.size;
+        most = r.most;
         next = r.next;
         blocks = r.blocks.items;
       };
       handed = r.handed.items;
-      stage = stage_of r.at r.held;
+      seen = r.seen.items;
+      held = r.held;
+      stage = r.stage;
     } };
 
-    ghost invariant = { λ r. HoldsRight r.at r.held × HasRoom r.at r.size r.blocks.items × IsLaidOut (record {
+    ghost invariant = { λ r. IsSteady (record {
       port = r.port;
       tail = r.tail;
       ring = r.ring;
       size = r.size;
+      most = r.most;
       next = r.next;
       blocks = r.blocks.items;
-    }) };
+    }) r.seen.items r.held r.stage };
 }
 
 impl ReceiveRing {
     /// A ring of 8 to 1,024 slots, in blocks that are lent, from the block `ring` on, as its queue goes on: nothing is
-    /// posted. `tail` is the number of the tail's register at the port.
-    pub fn new(alloc: Global, port: Port, tail: u32, ring: u32, size: u16) -> ReceiveRing
+    /// posted. `tail` is the number of the tail's register at the port, and `most` the most slots that a packet has.
+    pub fn new(alloc: Global, port: Port, tail: u32, ring: u32, size: u16, most: u16) -> ReceiveRing
         requires some { 8 ≤ size }
         requires few { size ≤ 1024 }
         requires ring { ring + blocks_for size ≤ 65536 }
-        ensures { result ≡ at_start port tail ring size }
+        requires parts { (1 ≤ most) × (most ≤ 5) }
+        ensures { result ≡ at_start port tail ring size most }
     {
         ReceiveRing {
             port,
             tail,
             ring,
             size,
+            most,
             next: 0,
             blocks: VecDeque::new(alloc),
             handed: Vec::new(alloc),
-            at: At::Looks,
-            held: None,
+            seen: VecDeque::new(alloc),
+            held: no_packet(),
+            stage: Stage::Looks,
         }
     }
 
@@ -115,26 +119,23 @@ impl ReceiveRing {
     {
         self.handed.as_slice()
     }
+}
 
-    /// What is to be done next.
-    pub(crate) fn due(&self) -> Due
-        ensures look { result ≡ Due.Look → CanLook self.now.stage }
-        ensures lend { result ≡ Due.Lend → IsHolding self.now.stage }
-        ensures name { result ≡ Due.Name → HasLent self.now.stage }
-        ensures move_on { result ≡ Due.Move → HasNamed self.now.stage }
-    {
-        match self.at {
-            At::Looks | At::Sees(_, _) => Due::Look,
-            At::Refills => Due::Lend,
-            At::Lent(_) => Due::Name,
-            At::Named(_) => Due::Move,
-        }
+/// A packet of no part.
+pub(crate) fn no_packet() -> Packet
+    ensures { result ≡ no_packet }
+{
+    Packet {
+        bufs: Bufs::none(),
+        len: 0,
+        rss: 0,
+        hash: 0,
     }
 }
 
 impl ReceiveRing {
     /// Whether the ring has the block of this number: one that the ring is in, one that stands in it, a fresh one that
-    /// is lent, or that of the packet that is held.
+    /// is lent, or that of a part of the packet that is held.
     pub fn has(&self, block: u32) -> bool
         ensures { (result ≡ true) ↔ (0 < times_in_hand (blocks_out self.now) block) }
     {
@@ -160,31 +161,28 @@ impl ReceiveRing {
     fn lends(&self, block: u32) -> bool
         ensures { (result ≡ true) ↔ (0 < times_in_hand (fresh_block self.now.stage) block) }
     {
-        match self.at {
-            At::Lent(fresh) | At::Named(fresh) => fresh == block,
-            At::Looks | At::Sees(_, _) | At::Refills => false,
+        match self.stage {
+            Stage::Lent(fresh) | Stage::Named(fresh) => fresh == block,
+            Stage::Looks | Stage::Takes | Stage::Owes => false,
         }
     }
 
-    /// Whether the packet that is held is in the block.
+    /// Whether a part of the packet that is held is in the block.
     fn holds(&self, block: u32) -> bool
-        ensures { (result ≡ true) ↔ (0 < times_in_hand (block_in (held_by self.now.stage)) block) }
+        ensures { (result ≡ true) ↔ (0 < times_in_hand (numbers_of self.now.held.bufs) block) }
     {
-        match &self.held {
-            Some(packet) => packet.buf.block() == block,
-            None => false,
-        }
+        self.held.bufs.has(block)
     }
 }
 
 impl ReceiveRing {
-    /// Ends the ring: its blocks are on their way home, the block of a packet that is held is given to the arena, and
-    /// the records are handed out. Where there is no memory, the ring comes back as it was.
+    /// Ends the ring: its blocks are on their way home, those of a packet that is held are given to the arena, and the
+    /// records are handed out. Where there is no memory, the ring comes back as it was.
     pub fn close(self, arena: &mut Arena) -> Result<(Reclaim, Vec<Record>), ReceiveRing>
         requires { AreOut arena.old (blocks_out self) }
         ensures way { IfOk result (λ ends. ends.0 ≡ record { lent = lent_of self; lost = 0 }) }
         ensures records { IfOk result (λ ends. ends.1.items ≡ self.handed) }
-        ensures home { OnOk result (arena.new ≡ with_home arena.old (held_by self.stage)) }
+        ensures home { OnOk result (arena.new ≡ with_all_free arena.old (numbers_of self.held.bufs)) }
         ensures out { OnOk result (AreOut arena.new (lent_of self)) }
         ensures back { IfErr result (λ ring. ring ≡ self) }
         ensures kept { OnErr result (arena.new ≡ arena.old) }
@@ -200,14 +198,16 @@ impl ReceiveRing {
             tail: _,
             ring,
             size: _,
+            most: _,
             next: _,
             blocks,
             handed,
-            at: _,
+            seen: _,
             held,
+            stage: _,
         } = ended;
         let lent = with_ring(blocks, fresh, ring, many);
-        give_held(arena, held);
+        give_packet(arena, held);
         Ok((Reclaim::of(lent), handed))
     }
 
@@ -215,9 +215,9 @@ impl ReceiveRing {
     fn fresh(&self) -> Option<u32>
         ensures { option_to_list result ≡ fresh_block self.now.stage }
     {
-        match self.at {
-            At::Lent(fresh) | At::Named(fresh) => Some(fresh),
-            At::Looks | At::Sees(_, _) | At::Refills => None,
+        match self.stage {
+            Stage::Lent(fresh) | Stage::Named(fresh) => Some(fresh),
+            Stage::Looks | Stage::Takes | Stage::Owes => None,
         }
     }
 }
@@ -250,16 +250,4 @@ fn with_fresh(blocks: VecDeque<u32>, fresh: Option<u32>) -> VecDeque<u32>
         lent.push_back_reserved(block);
     }
     lent
-}
-
-/// Gives the block of the packet that is held, where one is, to the arena.
-fn give_held(arena: &mut Arena, held: Option<Packet>)
-    requires { IfSome held (λ packet.
-        (is_own arena.old packet.buf.number ≡ true) × (is_free arena.old packet.buf.number ≡ false)) }
-    ensures { arena.new ≡ with_home arena.old held }
-{
-    match held {
-        Some(packet) => give_packet(arena, packet),
-        None => {}
-    }
 }

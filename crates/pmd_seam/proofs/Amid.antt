@@ -1,8 +1,8 @@
 -- The parts of the set-up, one after the other.
-use Rattle.std.proofs.Common.{ℕ, Bool, List, [], ◌∷◌, ◌++◌, All, if◌then◌else◌, rules, Result, Ok, Err, OnErr}
+use Rattle.std.proofs.Common.{ℕ, Bool, List, [], ◌∷◌, ◌++◌, All, ◌*◌, rules, Result, Ok, Err, OnErr}
 use Rattle.device_lock.specs.declared.entry.Call.{Call}
-use Rattle.nic_device.specs.RegTable.declared.rows.RowId.TheVariants.{Rxcsum, Fctrl, Hlreg0, Dmatxctl, Rxctrl}
-use Rattle.pmd_seam.specs.Setup.{AreSet, StopsSetting, IsInRow, setting, opening}
+use Rattle.nic_device.specs.RegTable.declared.rows.RowId.TheVariants.{Rxcsum, Fctrl, Maxfrs, Hlreg0, Dmatxctl, Rxctrl}
+use Rattle.pmd_seam.specs.Setup.{AreSet, StopsSetting, IsInRow, setting, fctrl_word, opening_short, opening_long}
 use Rattle.pmd_seam.specs.declared.fault.PmdFault.{PmdFault}
 use Rattle.pmd_seam.specs.declared.setup.Setting.{Setting}
 use Rattle.pmd_seam.proofs.Sequences.{set_both, stops_first, stops_second}
@@ -13,14 +13,24 @@ on_err (Ok x) p = tt
 on_err (Err e) p = p
 
 -- the registers by which the device is opened are in the table
-known : (passing : ℕ)
+known_short : (passing : ℕ)
     → All (λ (s : Setting). IsInRow s.place)
     (setting Rxcsum 0 0x2000 ∷ setting Fctrl 0 passing ∷ setting Hlreg0 0 0x403 ∷ setting Dmatxctl 0 1
     ∷ setting Rxctrl 0 1 ∷ [])
-known passing = search rules
+known_short passing = search rules
 
-pub opening_known : (promiscuous : Bool) → All (λ (s : Setting). IsInRow s.place) (opening promiscuous)
-opening_known promiscuous = known (if promiscuous then 0x700 else 0x400)
+pub short_known : (promiscuous : Bool) → All (λ (s : Setting). IsInRow s.place) (opening_short promiscuous)
+short_known promiscuous = known_short (fctrl_word promiscuous)
+
+known_long : (passing longest : ℕ)
+    → All (λ (s : Setting). IsInRow s.place)
+    (setting Rxcsum 0 0x2000 ∷ setting Fctrl 0 passing ∷ setting Maxfrs 0 longest ∷ setting Hlreg0 0 0x407
+    ∷ setting Dmatxctl 0 1 ∷ setting Rxctrl 0 1 ∷ [])
+known_long passing longest = search rules
+
+pub long_known : (frame : ℕ) → (promiscuous : Bool)
+    → All (λ (s : Setting). IsInRow s.place) (opening_long frame promiscuous)
+long_known frame promiscuous = known_long (fctrl_word promiscuous) (65536 * frame)
 
 module _ (old : List Call) (a b c d e : List Setting) where
   pub up_to_fourth : (i j k l : List Call) → AreSet old i a → AreSet i j b → AreSet j k c → AreSet k l d

@@ -1,5 +1,7 @@
 pub mod Amid
 pub mod Bringing
+pub mod Copying
+pub mod Drawing
 pub mod Exchanging
 pub mod LockStepping
 pub mod Making
@@ -10,6 +12,7 @@ pub mod QueueSequences
 pub mod Refusals
 pub mod Rings
 pub mod Sequences
+pub mod Standing
 pub mod Stepping
 pub mod Steps
 pub mod Words

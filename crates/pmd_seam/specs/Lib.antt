@@ -2,6 +2,8 @@ pub use Rattle.device_lock.specs as DeviceLock
 pub use Rattle.device_lock.specs.Events
 pub mod Accesses
 pub mod Both
+pub mod Bufs
+pub mod Frames
 pub mod Fresh
 pub mod Home
 pub mod Made

@@ -1,5 +1,5 @@
 -- The set-up of the whole device.
-use Rattle.std.specs.Prelude.{ℕ, zero, suc, ◌≡◌, ◌+◌, ◌*◌, ◌<◌, List, [], ◌∷◌, ◌++◌, Bool, Some, if◌then◌else◌, slice_range}
+use Rattle.std.specs.Prelude.{ℕ, zero, suc, ◌≡◌, ◌+◌, ◌*◌, ◌<◌, List, [], ◌∷◌, ◌++◌, Bool, nat_lt, Some, if◌then◌else◌, slice_range}
 use Rattle.std.specs.Int.{w32, from_le_bytes}
 use Rattle.nic_device.specs.declared.event.Event.TheVariants as event
 use Rattle.nic_device.specs.declared.event.Port.TheVariants.{Pf}
@@ -9,11 +9,12 @@ use Rattle.nic_device.specs.RegTable.Rows.{row_of}
 use Rattle.nic_device.specs.RegTable.Runs.{runs}
 use Rattle.nic_device.specs.RegTable.declared.place.Place.{Place}
 use Rattle.nic_device.specs.RegTable.declared.rows.RowId.{RowId}
-use Rattle.nic_device.specs.RegTable.declared.rows.RowId.TheVariants.{GcrExt, VtCtl, Vfre, Vfte, Mrqc, Rssrk, Reta, Rxcsum, Fctrl, Hlreg0, Dmatxctl, Rxctrl}
+use Rattle.nic_device.specs.RegTable.declared.rows.RowId.TheVariants.{GcrExt, VtCtl, Vfre, Vfte, Mrqc, Rssrk, Reta, Rxcsum, Fctrl, Maxfrs, Hlreg0, Dmatxctl, Rxctrl}
 use Rattle.nic_device.specs.RegisterFile.Columns.{place}
 use Rattle.nic_device.specs.VfMap.declared.mode.Mode.{Mode}
 use Rattle.nic_device.specs.VfMap.declared.mode.Mode.TheVariants.{Off, Pools16, Pools32, Pools64}
 use Rattle.device_lock.specs.declared.entry.Call.{Call}
+use Rattle.pmd_seam.specs.Frames.{shortest_frame}
 use Rattle.pmd_seam.specs.Made.{Adds, AddsSome}
 use Rattle.pmd_seam.specs.declared.fault.PmdFault.{PmdFault}
 use Rattle.pmd_seam.specs.declared.fault.PmdFault.TheVariants as fault
@@ -89,14 +90,27 @@ unfoldable pub packed : RowId → List ℕ → ℕ → List Setting
 packed row bytes zero = []
 packed row bytes (suc count) = packed row bytes count ++ setting row count (word_in bytes count) ∷ []
 
--- what passes, and that receiving and transmitting are on
-abbrev pub opening : Bool → List Setting
-opening promiscuous =
-    setting Rxcsum 0 0x2000 ∷ setting Fctrl 0 (if promiscuous then 0x700 else 0x400) ∷ setting Hlreg0 0 0x403
+-- what passes, how long a frame may be, and that receiving and transmitting are on: by HLREG0 frames of 1,518 bytes
+-- pass, and where longer ones are to, it has its bit 2, and MAXFRS the length
+abbrev pub fctrl_word : Bool → ℕ
+fctrl_word promiscuous = if promiscuous then 0x700 else 0x400
+
+abbrev pub opening_short : Bool → List Setting
+opening_short promiscuous =
+    setting Rxcsum 0 0x2000 ∷ setting Fctrl 0 (fctrl_word promiscuous) ∷ setting Hlreg0 0 0x403
     ∷ setting Dmatxctl 0 1 ∷ setting Rxctrl 0 1 ∷ []
+
+abbrev pub opening_long : ℕ → Bool → List Setting
+opening_long frame promiscuous =
+    setting Rxcsum 0 0x2000 ∷ setting Fctrl 0 (fctrl_word promiscuous) ∷ setting Maxfrs 0 (65536 * frame)
+    ∷ setting Hlreg0 0 0x407 ∷ setting Dmatxctl 0 1 ∷ setting Rxctrl 0 1 ∷ []
+
+abbrev pub opening : ℕ → Bool → List Setting
+opening frame promiscuous =
+    if nat_lt shortest_frame frame then opening_long frame promiscuous else opening_short promiscuous
 
 -- all registers of the set-up, in order
 abbrev pub settings_of : Setup → List Setting
 settings_of s =
     pool_settings s.mode ++ (setting Mrqc 0 s.mrqc ∷ []) ++ packed Rssrk s.key 10 ++ packed Reta s.reta 32
-    ++ opening s.promiscuous
+    ++ opening s.frame s.promiscuous

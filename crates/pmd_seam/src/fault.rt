@@ -10,9 +10,10 @@ use nic_device::{Buf, Event, OutOfMemory};
 /// Why a call of the driver fails.
 #[derive(Debug, Drop)]
 pub enum PmdFault {
-    /// A ring's size is no multiple of 8 from 8 to 1,024, or a packet's length is 0 or above 1,514.
+    /// A ring's size is no multiple of 8 from 8 to 1,024, frames can't be of so many bytes, or a packet's length is 0,
+    /// above that of a frame without its check sequence, or above what its Bufs hold.
     BadSize,
-    /// A packet's block can't go home to the driver's arena.
+    /// A block of a packet can't go home to the driver's arena.
     ForeignBlock,
     /// The queue didn't go on or off within the polls that were made.
     StartTimeout,

@@ -7,13 +7,15 @@
 //!
 //! On it stand the accesses that a driver makes, each with the replies that it can have (`accesses.rt`), the set-up of
 //! the whole device (`pf_setup`), a queue with the numbers of its registers at a port, its sides made ready and
-//! switched (`Queue`), the slots of a ring (`slots.rt`) and the way of blocks home (`Reclaim`).
+//! switched (`Queue`), the slots of a ring (`slots.rt`), the Bufs of a packet (`Bufs`) and the way of blocks home (`Reclaim`).
 #![tactic(auto)]
 
 mod accesses;
 mod both;
+mod bufs;
 mod direct;
 mod fault;
+mod frames;
 mod handled;
 mod home;
 mod interleaved;
@@ -26,14 +28,16 @@ mod slots;
 mod through_lock;
 
 pub use accesses::{lend, peek, poke, read, take, write};
+pub use bufs::{Bufs, MOST_BUFS};
 pub use device_lock::{CallFault, Calls, Made};
 pub use direct::Direct;
 pub use fault::PmdFault;
+pub use frames::{LONGEST_FRAME, SHORTEST_FRAME, is_frame, most_blocks, packet_limit};
 pub use home::{Reclaim, give_back};
 pub use interleaved::{Finished, Interleaved};
 pub use names::Queue;
 pub use nic::Nic;
-pub use packet::{Packet, Record, fresh_packet, give_packet};
+pub use packet::{Packet, Record, fresh_packet, give_bufs, give_packet};
 pub use setup::{Setting, Setup, pf_setup, set};
 pub use sides::POLLS;
 pub use slots::{blocks_for, descriptor_address, is_ring_block, next_slot, slot_after};

@@ -1,19 +1,22 @@
 //! Packets in hand, and the records of them.
 
-ghost use Rattle.std.specs.Prelude.{◌≡◌, ◌<◌, ◌≤◌, ◌⊎◌, ◌↔◌, [], true, false, min, IsNone};
+ghost use Rattle.std.specs.Prelude.{◌≡◌, ◌<◌, ◌≤◌, ◌*◌, ◌⊎◌, ◌↔◌, [], length, take, min, IsNone};
 ghost use Rattle.std.specs.Vec.{vec_capacity};
-ghost use Rattle.nic_device.specs.DmaArena.Numbers.{free_count, is_own, is_free, with_free};
-ghost use Rattle.pmd_seam.specs.Fresh.{IsFresh};
+ghost use Rattle.nic_device.specs.DmaArena.Numbers.{free_count};
+ghost use Rattle.pmd_seam.specs.Bufs.{bytes_of, numbers_of, with_all_free};
+ghost use Rattle.pmd_seam.specs.Fresh.{IsFresh, IsDrawnAs, bufs_for};
+ghost use Rattle.pmd_seam.specs.Home.{AreOut};
 ghost use Rattle.pmd_seam.specs.Packet.{kept_of};
 
+use crate::bufs::{Bufs, MOST_BUFS};
 use crate::home::give_back;
-use nic_device::{Arena, BLOCK_BYTES, Buf, Octets};
+use nic_device::{Arena, BLOCK_BYTES, Octets};
 use std::marker::Model;
 
-/// A packet in hand. Its bytes are the first `len` of the block's.
+/// A packet in hand. Its bytes are the first `len` of its Bufs', one Buf after the other.
 pub struct Packet {
-    /// The block that it is in.
-    pub buf: Buf,
+    /// The Bufs that it is in.
+    pub bufs: Bufs,
     /// How many bytes it has.
     pub len: u16,
     /// The number of its RSS type, below 16.
@@ -22,37 +25,77 @@ pub struct Packet {
     pub hash: u32,
 }
 
-/// A packet of `len` bytes in a free block of the arena, all zero. None where no block is free, or the length is above
-/// 2,048.
+/// How many Bufs a packet of so many bytes is in: one at least.
+fn bufs_for(len: u16) -> u32
+    ensures { result ≡ bufs_for len }
+{
+    ((u32::from(len) + 2047) / 2048).max(1)
+}
+
+/// A packet of `len` bytes in free blocks of the arena, all zero. None where too few blocks are free, or the length is
+/// above 10,240: nothing is taken then.
 pub fn fresh_packet(arena: &mut Arena, len: u16) -> Option<Packet>
-    ensures none { IsNone result ↔ ((2048 < len) ⊎ (free_count arena.old ≡ 0)) }
+    ensures none { IsNone result ↔ ((10240 < len) ⊎ (free_count arena.old < bufs_for len)) }
     ensures made { IsFresh arena.old len result arena.new }
 {
-    if usize::from(len) > BLOCK_BYTES {
+    if usize::from(len) > MOST_BUFS * BLOCK_BYTES {
         return None;
     }
-    let buf = arena.take()?;
+    let count = bufs_for(len);
+    if arena.free_blocks() < count {
+        return None;
+    }
     Some(Packet {
-        buf,
+        bufs: draw(arena, count),
         len,
         rss: 0,
         hash: 0,
     })
 }
 
-/// Gives a packet's block back to the arena that it was taken from.
+/// So many free blocks of the arena, five at most, each byte 0.
+fn draw(arena: &mut Arena, count: u32) -> Bufs
+    requires few { count ≤ 5 }
+    requires free { count ≤ free_count arena.old }
+    ensures { IsDrawnAs count arena.old result arena.new }
+{
+    let mut bufs = Bufs::none();
+    for _drawn in 0..count {
+        match arena.take() {
+            Some(buf) => bufs.push(buf),
+            None => unreachable!(),
+        }
+    }
+    bufs
+}
+
+/// Gives a packet's blocks back to the arena that they were taken from.
 pub fn give_packet(arena: &mut Arena, packet: Packet)
-    requires own { is_own arena.old packet.buf.number ≡ true }
-    requires away { is_free arena.old packet.buf.number ≡ false }
-    ensures { arena.new ≡ with_free arena.old packet.buf.number true }
+    requires { AreOut arena.old (numbers_of packet.bufs) }
+    ensures { arena.new ≡ with_all_free arena.old (numbers_of packet.bufs) }
 {
     let Packet {
-        buf,
+        bufs,
         len: _,
         rss: _,
         hash: _,
     } = packet;
-    give_back(arena, buf)
+    give_bufs(arena, bufs)
+}
+
+/// Gives Bufs back to the arena that they were taken from.
+pub fn give_bufs(arena: &mut Arena, bufs: Bufs)
+    requires { AreOut arena.old (numbers_of bufs) }
+    ensures { arena.new ≡ with_all_free arena.old (numbers_of bufs) }
+{
+    let mut left = bufs;
+    for _given in 0..left.count() {
+        match left.take_first() {
+            Some(buf) => give_back(arena, buf),
+            None => unreachable!(),
+        }
+    }
+    left.finish()
 }
 
 /// What is kept of a packet that was handed out or accepted.
@@ -72,11 +115,11 @@ impl Model for Record {
 }
 
 impl Packet {
-    /// How many bytes a record of the packet keeps: the packet's, and no more than a block has.
+    /// How many bytes a record of the packet keeps: the packet's, and no more than its Bufs have.
     pub fn record_room(&self) -> usize
-        ensures { result ≡ min self.now.len 2048 }
+        ensures { result ≡ min self.now.len (2048 * length self.now.bufs) }
     {
-        usize::from(self.len).min(BLOCK_BYTES)
+        usize::from(self.len).min(BLOCK_BYTES * self.bufs.count())
     }
 }
 
@@ -84,13 +127,11 @@ impl Record {
     /// The record of a packet. Its bytes are copied into a vector that has room for them.
     pub fn of(packet: &Packet, room: Vec<u8>) -> Record
         requires empty { room.items ≡ [] }
-        requires room { min packet.now.len 2048 ≤ vec_capacity room }
+        requires room { min packet.now.len (2048 * length packet.now.bufs) ≤ vec_capacity room }
         ensures { result ≡ kept_of packet.now }
     {
-        let bytes: &[u8] = packet.buf.bytes();
-        let count = packet.record_room();
         Record {
-            bytes: Octets::copied(&bytes[..count], room),
+            bytes: Octets::of(copied(&packet.bufs, usize::from(packet.len), room)),
             rss: packet.rss,
             hash: packet.hash,
         }
@@ -116,4 +157,23 @@ impl Record {
     {
         self.hash
     }
+}
+
+/// The first `len` bytes of Bufs, as many as there are, in a vector that has room for them.
+fn copied(bufs: &Bufs, len: usize, room: Vec<u8>) -> Vec<u8>
+    requires empty { room.items ≡ [] }
+    requires len { len < 65536 }
+    requires room { min len (2048 * length bufs.now) ≤ vec_capacity room }
+    ensures { result.items ≡ take len (bytes_of bufs.now) }
+{
+    let mut bytes = room;
+    for number in 0..bufs.count() {
+        let block: &[u8] = bufs.get(number).bytes();
+        let more = (len - bytes.len()).min(BLOCK_BYTES);
+        match bytes.extend_from_slice(&block[..more]) {
+            Ok(()) => {}
+            Err(_) => unreachable!(),
+        }
+    }
+    bytes
 }

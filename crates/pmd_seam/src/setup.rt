@@ -1,12 +1,14 @@
 //! The set-up of the whole device, before any queue is started.
 
-ghost use Rattle.std.specs.Prelude.{◌≡◌, ◌+◌, ◌*◌, ◌/◌, ◌<◌, ◌≤◌, [], ◌∷◌, All, length, OnOk, IfErr};
+ghost use Rattle.std.specs.Prelude.{◌≡◌, ◌+◌, ◌*◌, ◌/◌, ◌<◌, ◌≤◌, [], ◌∷◌, All, length, Err, IsTrue, IsFalse, OnOk, IfErr};
 ghost use Rattle.nic_device.specs.RegTable.Rows.{row_of};
-ghost use Rattle.pmd_seam.specs.Setup.{AreSet, SettingFails, StopsSetting, IsAddressOf, IsInRow, mode_word, pools_word, pool_settings, opening, setting, word_in, packed, settings_of};
+ghost use Rattle.pmd_seam.specs.Frames.{is_frame};
+ghost use Rattle.pmd_seam.specs.Setup.{AreSet, SettingFails, StopsSetting, IsAddressOf, IsInRow, mode_word, pools_word, pool_settings, fctrl_word, opening, opening_short, opening_long, setting, word_in, packed, settings_of};
 ghost use Rattle.pmd_seam.specs.Refusals.{CanFail};
 
 use crate::accesses::write;
 use crate::fault::PmdFault;
+use crate::frames::{SHORTEST_FRAME, is_frame};
 use crate::nic::Nic;
 use nic_device::{Mode, Place, Port, RowId, addr_of};
 use std::alloc::Global;
@@ -28,6 +30,9 @@ const PROMISCUOUS: u32 = 0x700;
 /// HLREG0: the frame check sequence is added and stripped, and short frames are padded.
 const PAD_AND_CHECK: u32 = 0x403;
 
+/// The same, and MAXFRS tells how long a frame may be.
+const PAD_CHECK_AND_JUMBO: u32 = 0x407;
+
 /// Bit 0 of DMATXCTL and RXCTRL: transmitting and receiving are on.
 const ENABLE: u32 = 1;
 
@@ -44,6 +49,8 @@ pub struct Setup {
     pub reta: [u8; 128],
     /// Frames to any address pass.
     pub promiscuous: bool,
+    /// How many bytes a frame may have, with its frame check sequence: 1,518 to 9,728.
+    pub frame: u16,
 }
 
 /// A register and the word that it is to have.
@@ -165,15 +172,35 @@ fn pool_settings(mode: Mode) -> [Setting; 6]
     ]
 }
 
-/// What passes, and that receiving and transmitting are on.
-fn opening(promiscuous: bool) -> [Setting; 5]
-    ensures { result ≡ opening promiscuous }
+/// FCTRL: which frames pass.
+fn fctrl_word(promiscuous: bool) -> u32
+    ensures { result ≡ fctrl_word promiscuous }
 {
-    let passing = if promiscuous { PROMISCUOUS } else { BROADCASTS };
+    if promiscuous { PROMISCUOUS } else { BROADCASTS }
+}
+
+/// What passes, and that receiving and transmitting are on: frames of 1,518 bytes at most.
+fn opening_short(promiscuous: bool) -> [Setting; 5]
+    ensures { result ≡ opening_short promiscuous }
+{
     [
         setting_of(RowId::Rxcsum, 0, TELL_HASH),
-        setting_of(RowId::Fctrl, 0, passing),
+        setting_of(RowId::Fctrl, 0, fctrl_word(promiscuous)),
         setting_of(RowId::Hlreg0, 0, PAD_AND_CHECK),
+        setting_of(RowId::Dmatxctl, 0, ENABLE),
+        setting_of(RowId::Rxctrl, 0, ENABLE),
+    ]
+}
+
+/// The same with frames of so many bytes at most.
+fn opening_long(frame: u16, promiscuous: bool) -> [Setting; 6]
+    ensures { result ≡ opening_long frame promiscuous }
+{
+    [
+        setting_of(RowId::Rxcsum, 0, TELL_HASH),
+        setting_of(RowId::Fctrl, 0, fctrl_word(promiscuous)),
+        setting_of(RowId::Maxfrs, 0, 65_536 * u32::from(frame)),
+        setting_of(RowId::Hlreg0, 0, PAD_CHECK_AND_JUMBO),
         setting_of(RowId::Dmatxctl, 0, ENABLE),
         setting_of(RowId::Rxctrl, 0, ENABLE),
     ]
@@ -188,12 +215,23 @@ fn setting_of(row: RowId, index: u16, word: u32) -> Setting
     }
 }
 
-/// Sets the whole device up, through the physical function: GCR_EXT, VT_CTL, VFRE, VFTE, MRQC, RSSRK, RETA, RXCSUM,
-/// FCTRL, HLREG0, DMATXCTL and RXCTRL, in this order.
-///
-/// `DeviceFault` where the device knows one of them not, `Call` where a write was refused. The writes before it are
-/// made.
-pub fn pf_setup<N: Nic>(alloc: Global, nic: &mut N, setup: &Setup) -> Result<(), PmdFault>
+/// Says what passes and how long a frame may be, and opens the device.
+fn open<N: Nic>(alloc: Global, nic: &mut N, frame: u16, promiscuous: bool) -> Result<(), PmdFault>
+    ensures set { OnOk result (AreSet (N.made nic.old) (N.made nic.new) (opening frame promiscuous)) }
+    ensures who { N.who nic.new ≡ N.who nic.old }
+    ensures refuses { N.refuses nic.new ≡ N.refuses nic.old }
+    ensures refusal { IfErr result (λ f. CanFail (N.refuses nic.new) f) }
+    ensures failed { IfErr result (λ f.
+        StopsSetting f (N.made nic.old) (N.made nic.new) (opening frame promiscuous)) }
+{
+    if frame > SHORTEST_FRAME {
+        return set_all(alloc, nic, &opening_long(frame, promiscuous));
+    }
+    set_all(alloc, nic, &opening_short(promiscuous))
+}
+
+/// Sets the whole device up, with frames of a length that may be.
+fn set_up<N: Nic>(alloc: Global, nic: &mut N, setup: &Setup) -> Result<(), PmdFault>
     ensures set { OnOk result (AreSet (N.made nic.old) (N.made nic.new) (settings_of setup.now)) }
     ensures who { N.who nic.new ≡ N.who nic.old }
     ensures refuses { N.refuses nic.new ≡ N.refuses nic.old }
@@ -204,6 +242,27 @@ pub fn pf_setup<N: Nic>(alloc: Global, nic: &mut N, setup: &Setup) -> Result<(),
     set_all(alloc, nic, &[setting_of(RowId::Mrqc, 0, setup.mrqc)])?;
     set_packed(alloc, nic, RowId::Rssrk, &setup.key, 10)?;
     set_packed(alloc, nic, RowId::Reta, &setup.reta, 32)?;
-    set_all(alloc, nic, &opening(setup.promiscuous))?;
+    open(alloc, nic, setup.frame, setup.promiscuous)?;
     Ok(())
+}
+
+/// Sets the whole device up, through the physical function: GCR_EXT, VT_CTL, VFRE, VFTE, MRQC, RSSRK, RETA, RXCSUM,
+/// FCTRL, MAXFRS where frames may have more than 1,518 bytes, HLREG0, DMATXCTL and RXCTRL, in this order.
+///
+/// `BadSize` where frames can't be of so many bytes: nothing is written. `DeviceFault` where the device knows one of the
+/// registers not, `Call` where a write was refused. The writes before it are made.
+pub fn pf_setup<N: Nic>(alloc: Global, nic: &mut N, setup: &Setup) -> Result<(), PmdFault>
+    ensures set { OnOk result (AreSet (N.made nic.old) (N.made nic.new) (settings_of setup.now)) }
+    ensures bad { IsFalse (is_frame setup.now.frame)
+        → (result ≡ Err PmdFault.BadSize) × (N.made nic.new ≡ N.made nic.old) }
+    ensures who { N.who nic.new ≡ N.who nic.old }
+    ensures refuses { N.refuses nic.new ≡ N.refuses nic.old }
+    ensures refusal { IfErr result (λ f. CanFail (N.refuses nic.new) f) }
+    ensures failed { IfErr result (λ f. IsTrue (is_frame setup.now.frame)
+        → StopsSetting f (N.made nic.old) (N.made nic.new) (settings_of setup.now)) }
+{
+    if !is_frame(setup.frame) {
+        return Err(PmdFault::BadSize);
+    }
+    set_up(alloc, nic, setup)
 }

@@ -8,11 +8,11 @@ use Rattle.pmd_tx.specs.Plays.{Plays, PlaysWith, FaultsBy, LooksLast}
 use Rattle.pmd_tx.specs.Sending.{Sender}
 use Rattle.pmd_tx.proofs.Playing.{all_both, faults_after, asks_after}
 
-pub by_after : (f : PmdFault) (block : ℕ) (a b d : List Call) (v w : Sender) → PlaysWith block a v b w
-    → FaultsBy f block b w d → FaultsBy f block a v d
-by_after fault.DeviceFault block a b d v w plays f = faults_after block a b d v w plays f
-by_after (fault.Call refusal) block a b d v w plays f = asks_after block a b d v w plays f
-by_after other block a b d v w plays f = tt
+pub by_after : (f : PmdFault) (blocks : List ℕ) (a b d : List Call) (v w : Sender) → PlaysWith blocks a v b w
+    → FaultsBy f blocks b w d → FaultsBy f blocks a v d
+by_after fault.DeviceFault blocks a b d v w plays f = faults_after blocks a b d v w plays f
+by_after (fault.Call refusal) blocks a b d v w plays f = asks_after blocks a b d v w plays f
+by_after other blocks a b d v w plays f = tt
 
 pub looks_after : (a b d : List Call) (v w x : Sender) → Plays a v b w → w.accepted ≡ v.accepted → LooksLast b w d x
     → LooksLast a v d x
@@ -29,11 +29,11 @@ looks_after a b d v w x plays same l = record {
 }
 
 -- the same of a result
-pub after_all : {R E : Type 0} → (which : E → PmdFault) (r : Result R E) (block : ℕ) (a b d : List Call) (v w : Sender)
-    → PlaysWith block a v b w → IfErr r (λ e. FaultsBy (which e) block b w d)
-    → IfErr r (λ e. FaultsBy (which e) block a v d)
-after_all which (Ok x) block a b d v w plays f = tt
-after_all which (Err e) block a b d v w plays f = by_after (which e) block a b d v w plays f
+pub after_all : {R E : Type 0} → (which : E → PmdFault) (r : Result R E) (blocks : List ℕ) (a b d : List Call) (v w : Sender)
+    → PlaysWith blocks a v b w → IfErr r (λ e. FaultsBy (which e) blocks b w d)
+    → IfErr r (λ e. FaultsBy (which e) blocks a v d)
+after_all which (Ok x) blocks a b d v w plays f = tt
+after_all which (Err e) blocks a b d v w plays f = by_after (which e) blocks a b d v w plays f
 
 pub waits_after : {E : Type 0} → (r : Result Reaped E) (a b d : List Call) (v w x : Sender) → Plays a v b w
     → w.accepted ≡ v.accepted → IfOk r (λ done. done.idle ≡ false → LooksLast b w d x)

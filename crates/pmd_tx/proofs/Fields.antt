@@ -1,137 +1,183 @@
--- What the fields of a ring keep, as packets come and go.
-use Rattle.std.proofs.Common.{◌≡◌, ℕ, ◌+◌, ◌-◌, ◌<◌, ◌≤◌, Bool, true, false, ◌||◌, nat_eq, List, [], ◌∷◌, ◌++◌, length, drop, sym, ap, ◌∙◌, subst, arith}
-use Rattle.std.proofs.lemmas.Cmp.{nat_eq_equiv}
-use Rattle.std.proofs.lemmas.List.{length-drop, length-take, length_push}
-use Rattle.std.proofs.lemmas.List.Elements.{All-push}
-use Rattle.std.proofs.lemmas.Map.Keys.{IsDistinct-tail, IsDistinct-push, IsDistinct-from_apart}
-use Rattle.std.specs.List.{list_any}
+-- What the fields of a ring keep, as segments come and go.
+use Rattle.std.proofs.Common.{◌≡◌, ℕ, suc, ◌+◌, ◌<◌, ◌≤◌, false, List, [], ◌∷◌, length, drop, get_or, refl, sym, ap, ◌∙◌, subst, arith}
+use Rattle.std.proofs.lemmas.List.{length-drop, drop-drop, drop_more}
+use Rattle.std.proofs.lemmas.List.Elements.{All-drop}
+use Rattle.nic_device.specs.DmaArena.Block.{Block}
 use Rattle.nic_device.specs.DmaRing.Ring.{next_of}
-use Rattle.pmd_seam.specs.Packet.{Kept, kept_of}
+use Rattle.pmd_seam.specs.Bufs.{numbers_of}
+use Rattle.pmd_seam.specs.Packet.{Kept}
 use Rattle.pmd_seam.specs.Slots.{blocks_for, is_ring_block}
-use Rattle.pmd_seam.specs.declared.packet.Packet.{Packet}
 use Rattle.pmd_seam.proofs.Places.{next_below}
-use Rattle.pmd_tx.specs.Sending.{Sender, Layout, blocks_of, has_lent}
-use Rattle.pmd_tx.specs.Shown.{MayLend, IsRing, AreDistinct, outstanding_of}
-use Rattle.pmd_tx.proofs.Outstanding.{blocks-outstanding, length-outstanding}
+use Rattle.pmd_tx.specs.Pieces.{places_of}
+use Rattle.pmd_tx.specs.Sending.{Sender, Layout, Segment, blocks_of, no_segment}
+use Rattle.pmd_tx.specs.Shown.{AllHold, AreDistinct, Holds, IsRing, outstanding_of}
+use Rattle.pmd_tx.specs.declared.piece.Piece.{Piece}
+use Rattle.pmd_tx.proofs.Outstanding.{ends-drop, length-outstanding, outstanding-drop, outstanding-none, tells-drop}
 
 -- what contracts see of the fields
-abbrev pub shown : Layout → List ℕ → ℕ → Bool → Bool → List Kept → Sender
-shown l bs posted poked seen ks = record {
+abbrev pub shown : Layout → List Piece → ℕ → ℕ → ℕ → ℕ → List Kept → Sender
+shown l ps lent poked posted done ks = record {
   layout = l;
-  outstanding = outstanding_of bs ks;
-  posted = posted;
+  outstanding = outstanding_of ps ks;
+  lent = lent;
   poked = poked;
-  seen = seen;
+  posted = posted;
+  done = done;
   accepted = ks;
 }
 
-distinct_rest : (bs : List ℕ) → AreDistinct bs → AreDistinct (drop 1 bs)
-distinct_rest [] apart = apart
-distinct_rest (b ∷ bs) apart = IsDistinct-tail nat_eq b bs apart
+pub hold-length : (ss : List Segment) (bs : List Block) → AllHold ss bs → length ss ≡ length bs
+hold-length [] [] all = refl
+hold-length [] (b ∷ bs) all = absurd all
+hold-length (s ∷ ss) [] all = absurd all
+hold-length (s ∷ ss) (b ∷ bs) all = ap suc (hold-length ss bs all.1)
 
-second_false : (a b : Bool) → (a || b) ≡ false → b ≡ false
-second_false true b is = cc
-second_false false b is = is
+pub hold-numbers : (ss : List Segment) (bs : List Block) → AllHold ss bs → blocks_of ss ≡ numbers_of bs
+hold-numbers [] [] all = refl
+hold-numbers [] (b ∷ bs) all = absurd all
+hold-numbers (s ∷ ss) [] all = absurd all
+hold-numbers (s ∷ ss) (b ∷ bs) all =
+    ap (λ (n : ℕ). n ∷ blocks_of ss) (sym all.0.number)
+    ∙ ap (λ (l : List ℕ). b.number ∷ l) (hold-numbers ss bs all.1)
 
-module _ (l : Layout) (bs : List ℕ) (posted : ℕ) (poked seen : Bool) (ks : List Kept)
-    (h : IsRing l bs posted poked seen ks)
+places-rest : (ps : List Piece) → AreDistinct (places_of ps) → AreDistinct (places_of (drop 1 ps))
+places-rest [] apart = apart
+places-rest (p ∷ ps) apart = apart.1
+
+module _ (l : Layout) (ps : List Piece) (waiting : List Block) (lent poked posted done : ℕ) (ks : List Kept)
+    (h : IsRing l ps waiting lent poked posted done ks)
   where
-    pub waits_below : posted < length (outstanding_of bs ks) → posted < length bs
-    waits_below below = subst (λ (n : ℕ). posted < n) (length-outstanding bs ks h.known) below
+    abbrev outs : List Segment
+    outs = outstanding_of ps ks
 
-    pub some_blocks : 0 < length (outstanding_of bs ks) → 0 < length bs
-    some_blocks some = subst (λ (n : ℕ). 0 < n) (length-outstanding bs ks h.known) some
+    pub count : length outs ≡ length ps
+    count = length-outstanding ps ks h.tells
 
-    -- a descriptor is written
-    pub asked_ring : posted < length (outstanding_of bs ks) → IsRing l bs posted true seen ks
-    asked_ring below = record {
-      some = h.some;
-      few = h.few;
-      next = h.next;
-      ring = h.ring;
-      room = h.room;
-      below = h.below;
-      waiting = h.waiting;
-      asked = λ is. waits_below below;
-      done = h.done;
-      known = h.known;
-      short = h.short;
-      apart = h.apart;
-    }
+    pub in_hand : length waiting + lent ≡ length ps
+    in_hand =
+        omega (arith, hold-length (drop lent outs) waiting h.held, length-drop lent outs, count, h.lent_known)
 
-    -- the oldest goes
-    pub dropped_ring : (m : Layout) (cs : List ℕ) (q : Bool) (p : ℕ) → m.size ≡ l.size → m.ring ≡ l.ring
-        → m.next ≡ next_of l.size l.next → cs ≡ drop 1 bs → 0 < length bs → p ≡ posted - 1
-        → (q ≡ true → (poked ≡ true) × (0 < posted))
-        → IsRing m cs p q false ks
-    dropped_ring m cs q p size ring next are some is asks =
-        let fewer : length cs + 1 ≡ length bs = omega (arith, ap length are, length-drop 1 bs) in
-        record {
-          some = rw size h.some;
-          few = rw size h.few;
-          next = rw (size, next) (next_below l.size l.next h.next);
-          ring = rw (ring, size) h.ring;
-          room = rw size (omega (arith, h.room));
-          below = omega (arith, h.below);
-          waiting = omega (arith, h.waiting);
-          asked = λ yes. let was = asks yes in let low = h.asked was.0 in omega (arith, was.1);
-          done = λ never. absurd (let e : false ≡ true = never in cc);
-          known = omega (arith, h.known);
-          short = h.short;
-          apart = rw are (distinct_rest bs h.apart);
-        }
+    -- the first block in hand is that of the next segment
+    pub next_held : (b : Block) (bs : List Block) → waiting ≡ b ∷ bs
+        → Holds (get_or outs lent no_segment) b × AllHold (drop (lent + 1) outs) bs
+    next_held b bs is =
+        let some = in_hand in
+        let below : lent < length outs = omega (arith, some, ap length is, count) in
+        let split : drop lent outs ≡ get_or outs lent no_segment ∷ drop (lent + 1) outs =
+        drop_more outs lent no_segment below in
+        let both : AllHold (get_or outs lent no_segment ∷ drop (lent + 1) outs) (b ∷ bs) =
+        subst (λ (x : List Block). AllHold (get_or outs lent no_segment ∷ drop (lent + 1) outs) x) is
+        (subst (λ (x : List Segment). AllHold x waiting) split h.held) in
+        (both.0, both.1)
 
-    -- one more
-    pub pushed_ring : (b : ℕ) (k : Kept) → length bs + 1 < l.size → posted ≡ length bs → length k.bytes ≤ 1514
-        → list_any (nat_eq b) bs ≡ false → IsRing l (bs ++ b ∷ []) posted poked seen (ks ++ k ∷ [])
-    pushed_ring b k room settled short none =
-        let more = length_push bs b in
-        let kept = length_push ks k in
+    -- another block, of the same number, that begins with the bytes
+    pub held_anew : (b d : Block) (bs : List Block) → waiting ≡ b ∷ bs → Holds (get_or outs lent no_segment) d
+        → IsRing l ps (d ∷ bs) lent poked posted done ks
+    held_anew b d bs is holds =
+        let some = in_hand in
+        let below : lent < length outs = omega (arith, some, ap length is, count) in
         record {
           some = h.some;
           few = h.few;
           next = h.next;
           ring = h.ring;
-          room = omega arith;
-          below = omega arith;
-          waiting = omega arith;
-          asked = λ yes. omega arith;
-          done = h.done;
-          known = omega (arith, h.known);
-          short = All-push (λ (x : Kept). length x.bytes ≤ 1514) ks k h.short short;
-          apart = IsDistinct-push nat_eq_equiv bs b h.apart none;
+          least = h.least;
+          limit = h.limit;
+          room = h.room;
+          done_posted = h.done_posted;
+          posted_poked = h.posted_poked;
+          poked_lent = h.poked_lent;
+          lent_known = h.lent_known;
+          tells = h.tells;
+          newest = h.newest;
+          held = rw (drop_more outs lent no_segment below) (holds, (next_held b bs is).1);
+          ends = h.ends;
+          short = h.short;
+          kept = h.kept;
+          beside = h.beside;
+          apart = h.apart;
         }
 
-    -- none of the blocks has the number
-    pub not_lent : (n : ℕ) → has_lent (shown l bs posted poked seen ks) n ≡ false → list_any (nat_eq n) bs ≡ false
-    not_lent n none =
-        subst (λ (xs : List ℕ). list_any (nat_eq n) xs ≡ false) (blocks-outstanding bs ks h.known)
-        (second_false (is_ring_block l.ring l.size n) (list_any (nat_eq n) (blocks_of (outstanding_of bs ks))) none)
+    -- one more is lent
+    pub lent_ring : (b : Block) (bs : List Block) → waiting ≡ b ∷ bs → IsRing l ps bs (lent + 1) poked posted done ks
+    lent_ring b bs is = record {
+      some = h.some;
+      few = h.few;
+      next = h.next;
+      ring = h.ring;
+      least = h.least;
+      limit = h.limit;
+      room = h.room;
+      done_posted = h.done_posted;
+      posted_poked = h.posted_poked;
+      poked_lent = omega (arith, h.poked_lent);
+      lent_known = omega (arith, in_hand, ap length is);
+      tells = h.tells;
+      newest = omega (arith, h.newest);
+      held = (next_held b bs is).1;
+      ends = h.ends;
+      short = h.short;
+      kept = h.kept;
+      beside = h.beside;
+      apart = h.apart;
+    }
 
-    -- one more, as its block is lent
-    pub pushed_by : (v : Sender) (p : Packet) → shown l bs posted poked seen ks ≡ v → MayLend v p → (k : Kept)
-        → k ≡ kept_of p → IsRing l (bs ++ p.buf.number ∷ []) posted poked seen (ks ++ k ∷ [])
-    pushed_by v p is may k kept =
-        let here : MayLend (shown l bs posted poked seen ks) p = subst (λ (x : Sender). MayLend x p) (sym is) may in
-        let count = length-outstanding bs ks h.known in
-        let short : length (kept_of p).bytes ≤ 1514 = omega (arith, length-take p.len p.buf.bytes, may.short) in
-        pushed_ring p.buf.number k (omega (arith, count, here.room)) (here.settled ∙ count) (rw kept short)
-        (not_lent p.buf.number here.away)
+    -- the oldest goes
+    pub dropped_ring : (m : Layout) (qs : List Piece) (a b c d : ℕ) → m.size ≡ l.size → m.ring ≡ l.ring
+        → m.limit ≡ l.limit → m.next ≡ next_of l.size l.next → qs ≡ drop 1 ps → 0 < done → a + 1 ≡ lent
+        → b + 1 ≡ poked → c + 1 ≡ posted → d + 1 ≡ done → IsRing m qs waiting a b c d ks
+    dropped_ring m qs a b c d size ring limit next are some lents pokes posts dones =
+        let more : 0 < length ps =
+        omega (arith, h.done_posted, h.posted_poked, h.poked_lent, h.lent_known) in
+        let fewer : length qs + 1 ≡ length ps = omega (arith, ap length are, length-drop 1 ps) in
+        let same : drop a (outstanding_of qs ks) ≡ drop lent outs =
+        ap (λ (x : List Piece). drop a (outstanding_of x ks)) are
+        ∙ ap (λ (x : List Segment). drop a x) (outstanding-drop ps ks h.tells more)
+        ∙ drop-drop a 1 outs ∙ ap (λ (k : ℕ). drop k outs) (let e : 1 + a ≡ lent = omega arith in e) in
+        record {
+          some = rw size h.some;
+          few = rw size h.few;
+          next = rw (size, next) (next_below l.size l.next h.next);
+          ring = rw (ring, size) h.ring;
+          least = rw limit h.least;
+          limit = rw limit h.limit;
+          room = rw size (omega (arith, h.room));
+          done_posted = omega (arith, h.done_posted);
+          posted_poked = omega (arith, h.posted_poked);
+          poked_lent = omega (arith, h.poked_lent);
+          lent_known = omega (arith, h.lent_known);
+          tells = rw are (tells-drop ps ks h.tells more);
+          newest = omega (arith, h.newest);
+          held = rw same h.held;
+          ends = rw are (ends-drop ps h.ends);
+          short = rw (are, limit) (All-drop (λ (p : Piece). p.whole ≤ l.limit) 1 ps h.short);
+          kept = h.kept;
+          beside = rw (are, ring, size)
+              (All-drop (λ (p : Piece). is_ring_block l.ring l.size p.block ≡ false) 1 ps h.beside);
+          apart = rw are (places-rest ps h.apart);
+        }
 
 -- nothing is outstanding at first
 pub fresh_ring : (l : Layout) → 0 < l.size → l.size ≤ 1024 → l.next ≡ 0 → l.ring + blocks_for l.size ≤ 65536
-    → IsRing l [] 0 false false []
-fresh_ring l some few next ring = record {
+    → 60 ≤ l.limit → l.limit ≤ 10240 → IsRing l [] [] 0 0 0 0 []
+fresh_ring l some few next ring least limit = record {
   some = some;
   few = few;
   next = omega arith;
   ring = ring;
+  least = least;
+  limit = limit;
   room = some;
-  below = omega arith;
-  waiting = omega arith;
-  asked = λ never. absurd (let e : false ≡ true = never in cc);
-  done = λ never. absurd (let e : false ≡ true = never in cc);
-  known = omega arith;
+  done_posted = omega arith;
+  posted_poked = omega arith;
+  poked_lent = omega arith;
+  lent_known = omega arith;
+  tells = tt;
+  newest = omega arith;
+  held = rw (outstanding-none []) tt;
+  ends = refl;
   short = λ k d below. absurd (omega arith);
-  apart = IsDistinct-from_apart nat_eq [] (λ i j d less below. absurd (omega arith));
+  kept = λ k d below. absurd (omega arith);
+  beside = λ k d below. absurd (omega arith);
+  apart = tt;
 }

@@ -1,13 +1,16 @@
 pub use Rattle.pmd_seam.proofs as PmdSeam
-pub mod Counting
+pub mod Distinct
 pub mod Ending
 pub mod Fields
 pub mod Freeing
 pub mod Lending
 pub mod Loop
+pub mod Newest
+pub mod Numbering
 pub mod Outstanding
 pub mod Own
 pub mod Padded
 pub mod Passing
 pub mod Playing
-pub mod Viewed
+pub mod Starting
+pub mod Waiting

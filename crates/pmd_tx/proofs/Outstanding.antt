@@ -1,113 +1,249 @@
--- The outstanding packets, by their blocks and by what was accepted.
-use Rattle.std.proofs.Common.{◌≡◌, ℕ, zero, suc, ◌+◌, ◌-◌, ◌<◌, ◌≤◌, List, [], ◌∷◌, ◌++◌, length, drop, get_or, refl, sym, ap, ◌∙◌, arith}
-use Rattle.std.proofs.lemmas.List.{length-drop, length_push, get_or-drop, drop-drop, drop-append-le}
+-- The outstanding segments, by the driver's pieces and by what was accepted.
+use Rattle.std.proofs.Common.{◌≡◌, ℕ, zero, suc, ◌+◌, ◌-◌, ◌*◌, ◌<◌, ◌≤◌, ◌==◌, ◌||◌, Bool, true, false, List, [], ◌∷◌, ◌++◌, length, drop, get_or, if◌then◌else◌, refl, sym, ap, ◌∙◌, subst, arith, append_assoc}
+use Rattle.std.specs.List.{list_any}
+use Rattle.std.proofs.lemmas.List.{append-nil, length-append, length-drop, length-take-le, drop-drop, drop-append-le}
 use Rattle.pmd_seam.specs.Packet.{Kept}
-use Rattle.pmd_tx.specs.Sending.{Outgoing, no_packet, blocks_of}
-use Rattle.pmd_tx.specs.Shown.{paired, outstanding_of}
+use Rattle.pmd_tx.specs.Pieces.{ends_packet, first_last, pieces_in, places_of}
+use Rattle.pmd_tx.specs.Sending.{Part, Segment, no_segment, blocks_of, first_end, paired, parts_in, parts_of}
+use Rattle.pmd_tx.specs.Shown.{AllTell, Tells, all_parts, latest, outstanding_of}
+use Rattle.pmd_tx.specs.declared.piece.Piece.{Piece}
 
-abbrev pub packet : ℕ → Kept → Outgoing
-packet block kept = record { block = block; kept = kept }
+-- pieces and the parts that they tell
 
--- lists of one length
+pub tell-length : (ps : List Piece) (qs : List Part) → AllTell ps qs → length ps ≡ length qs
+tell-length [] [] all = refl
+tell-length [] (q ∷ qs) all = absurd all
+tell-length (p ∷ ps) [] all = absurd all
+tell-length (p ∷ ps) (q ∷ qs) all = ap suc (tell-length ps qs all.1)
 
-blocks-paired : (bs : List ℕ) (ks : List Kept) → length bs ≡ length ks → blocks_of (paired bs ks) ≡ bs
-blocks-paired [] ks same = refl
+pub tell-at : (ps : List Piece) (qs : List Part) → AllTell ps qs → (i : ℕ) → i < length ps → (d : Piece) (e : Part)
+    → Tells (get_or ps i d) (get_or qs i e)
+tell-at [] qs all i below d e = absurd (omega arith)
+tell-at (p ∷ ps) [] all i below d e = absurd all
+tell-at (p ∷ ps) (q ∷ qs) all zero below d e = all.0
+tell-at (p ∷ ps) (q ∷ qs) all (suc i) below d e = tell-at ps qs all.1 i (omega arith) d e
+
+pub tell-append : (ps xs : List Piece) (qs ys : List Part) → AllTell ps qs → AllTell xs ys
+    → AllTell (ps ++ xs) (qs ++ ys)
+tell-append [] xs [] ys all more = more
+tell-append [] xs (q ∷ qs) ys all more = absurd all
+tell-append (p ∷ ps) xs [] ys all more = absurd all
+tell-append (p ∷ ps) xs (q ∷ qs) ys all more = (all.0, tell-append ps xs qs ys all.1 more)
+
+pub tell-drop : (ps : List Piece) (qs : List Part) → AllTell ps qs → AllTell (drop 1 ps) (drop 1 qs)
+tell-drop [] [] all = tt
+tell-drop [] (q ∷ qs) all = absurd all
+tell-drop (p ∷ ps) [] all = absurd all
+tell-drop (p ∷ ps) (q ∷ qs) all = all.1
+
+-- segments by their blocks and parts
+
+pub length-places : (ps : List Piece) → length (places_of ps) ≡ length ps
+length-places [] = refl
+length-places (p ∷ ps) = ap suc (length-places ps)
+
+pub place-at : (ps : List Piece) (i : ℕ) → i < length ps → (d : Piece) (e : ℕ)
+    → get_or (places_of ps) i e ≡ (get_or ps i d).block
+place-at [] i below d e = absurd (omega arith)
+place-at (p ∷ ps) zero below d e = refl
+place-at (p ∷ ps) (suc i) below d e = place-at ps i (omega arith) d e
+
+pub places-append : (ps xs : List Piece) → places_of (ps ++ xs) ≡ places_of ps ++ places_of xs
+places-append [] xs = refl
+places-append (p ∷ ps) xs = ap (λ (l : List ℕ). p.block ∷ l) (places-append ps xs)
+
+places-drop : (ps : List Piece) → places_of (drop 1 ps) ≡ drop 1 (places_of ps)
+places-drop [] = refl
+places-drop (p ∷ ps) = refl
+
+blocks-paired : (bs : List ℕ) (qs : List Part) → length bs ≡ length qs → blocks_of (paired bs qs) ≡ bs
+blocks-paired [] qs same = refl
 blocks-paired (b ∷ bs) [] same = absurd (omega arith)
-blocks-paired (b ∷ bs) (k ∷ ks) same = ap (λ (l : List ℕ). b ∷ l) (blocks-paired bs ks (omega arith))
+blocks-paired (b ∷ bs) (q ∷ qs) same = ap (λ (l : List ℕ). b ∷ l) (blocks-paired bs qs (omega arith))
 
-length-paired : (bs : List ℕ) (ks : List Kept) → length bs ≡ length ks → length (paired bs ks) ≡ length bs
-length-paired [] ks same = refl
+length-paired : (bs : List ℕ) (qs : List Part) → length bs ≡ length qs → length (paired bs qs) ≡ length bs
+length-paired [] qs same = refl
 length-paired (b ∷ bs) [] same = absurd (omega arith)
-length-paired (b ∷ bs) (k ∷ ks) same = let rest = length-paired bs ks (omega arith) in omega arith
+length-paired (b ∷ bs) (q ∷ qs) same = ap suc (length-paired bs qs (omega arith))
 
-packet-paired : (bs : List ℕ) (ks : List Kept) (i : ℕ) → length bs ≡ length ks → i < length bs
-    → get_or (paired bs ks) i no_packet ≡ packet (get_or bs i 0) (get_or ks i no_packet.kept)
-packet-paired [] ks i same below = absurd (omega arith)
-packet-paired (b ∷ bs) [] i same below = absurd (omega arith)
-packet-paired (b ∷ bs) (k ∷ ks) zero same below = refl
-packet-paired (b ∷ bs) (k ∷ ks) (suc i) same below = packet-paired bs ks i (omega arith) (omega arith)
+at-paired : (ps : List Piece) (qs : List Part) (i : ℕ) → length ps ≡ length qs → i < length ps → (d : Piece)
+    → get_or (paired (places_of ps) qs) i no_segment
+    ≡ record { block = (get_or ps i d).block; part = get_or qs i no_segment.part }
+at-paired [] qs i same below d = absurd (omega arith)
+at-paired (p ∷ ps) [] i same below d = absurd (omega arith)
+at-paired (p ∷ ps) (q ∷ qs) zero same below d = refl
+at-paired (p ∷ ps) (q ∷ qs) (suc i) same below d = at-paired ps qs i (omega arith) (omega arith) d
 
-paired-push : (bs : List ℕ) (ks : List Kept) (b : ℕ) (k : Kept) → length bs ≡ length ks
-    → paired (bs ++ b ∷ []) (ks ++ k ∷ []) ≡ paired bs ks ++ packet b k ∷ []
-paired-push [] [] b k same = refl
-paired-push [] (x ∷ ks) b k same = absurd (omega arith)
-paired-push (x ∷ bs) [] b k same = absurd (omega arith)
-paired-push (x ∷ bs) (y ∷ ks) b k same =
-    ap (λ (l : List Outgoing). packet x y ∷ l) (paired-push bs ks b k (omega arith))
+paired-append : (bs cs : List ℕ) (qs rs : List Part) → length bs ≡ length qs
+    → paired (bs ++ cs) (qs ++ rs) ≡ paired bs qs ++ paired cs rs
+paired-append [] cs [] rs same = refl
+paired-append [] cs (q ∷ qs) rs same = absurd (omega arith)
+paired-append (b ∷ bs) cs [] rs same = absurd (omega arith)
+paired-append (b ∷ bs) cs (q ∷ qs) rs same =
+    ap (λ (l : List Segment). record { block = b; part = q } ∷ l) (paired-append bs cs qs rs (omega arith))
 
-paired-drop : (bs : List ℕ) (ks : List Kept) → length bs ≡ length ks
-    → paired (drop 1 bs) (drop 1 ks) ≡ drop 1 (paired bs ks)
+paired-drop : (bs : List ℕ) (qs : List Part) → length bs ≡ length qs → paired (drop 1 bs) (drop 1 qs) ≡ drop 1 (paired bs qs)
 paired-drop [] [] same = refl
-paired-drop [] (x ∷ ks) same = absurd (omega arith)
-paired-drop (x ∷ bs) [] same = absurd (omega arith)
-paired-drop (x ∷ bs) (y ∷ ks) same = refl
+paired-drop [] (q ∷ qs) same = absurd (omega arith)
+paired-drop (b ∷ bs) [] same = absurd (omega arith)
+paired-drop (b ∷ bs) (q ∷ qs) same = refl
 
--- the packets that were accepted last
+-- the latest parts
 
-abbrev pub before : List ℕ → List Kept → ℕ
-before bs ks = length ks - length bs
+all_parts-push : (ks : List Kept) (k : Kept) → all_parts (ks ++ k ∷ []) ≡ all_parts ks ++ parts_of k.bytes
+all_parts-push [] k = append-nil (parts_of k.bytes)
+all_parts-push (x ∷ ks) k =
+    ap (λ (l : List Part). parts_of x.bytes ++ l) (all_parts-push ks k)
+    ∙ sym (append_assoc (parts_of x.bytes) (all_parts ks) (parts_of k.bytes))
 
-latest-length : (bs : List ℕ) (ks : List Kept) → length bs ≤ length ks → length bs ≡ length (drop (before bs ks) ks)
-latest-length bs ks known = omega (arith, length-drop (before bs ks) ks)
+module _ (ps : List Piece) (ks : List Kept) (tells : AllTell ps (latest (length ps) ks)) where
+  abbrev parts : List Part
+  parts = all_parts ks
 
-pub blocks-outstanding : (bs : List ℕ) (ks : List Kept) → length bs ≤ length ks → blocks_of (outstanding_of bs ks) ≡ bs
-unfolding outstanding_of
-blocks-outstanding bs ks known = blocks-paired bs (drop (before bs ks) ks) (latest-length bs ks known)
+  same : length ps ≡ length (latest (length ps) ks)
+  same = tell-length ps (latest (length ps) ks) tells
 
-pub length-outstanding : (bs : List ℕ) (ks : List Kept) → length bs ≤ length ks
-    → length (outstanding_of bs ks) ≡ length bs
-unfolding outstanding_of
-length-outstanding bs ks known = length-paired bs (drop (before bs ks) ks) (latest-length bs ks known)
+  -- all of them are known
+  pub pieces-known : length ps ≤ length parts
+  pieces-known = omega (arith, same, length-drop (length parts - length ps) parts)
 
-pub packet-outstanding : (bs : List ℕ) (ks : List Kept) (i : ℕ) → length bs ≤ length ks → i < length bs
-    → get_or (outstanding_of bs ks) i no_packet ≡ packet (get_or bs i 0) (get_or ks (before bs ks + i) no_packet.kept)
-unfolding outstanding_of
-packet-outstanding bs ks i known below =
-    packet-paired bs (drop (before bs ks) ks) i (latest-length bs ks known) below
-    ∙ ap (λ (k : Kept). packet (get_or bs i 0) k) (get_or-drop (before bs ks) ks i no_packet.kept)
+  places-count : length (places_of ps) ≡ length (latest (length ps) ks)
+  places-count = length-places ps ∙ same
 
--- the newest was accepted last
-pub newest-outstanding : (bs : List ℕ) (ks : List Kept) (i : ℕ) → length bs ≤ length ks → i + 1 ≡ length bs
-    → get_or (outstanding_of bs ks) i no_packet ≡ packet (get_or bs i 0) (get_or ks (length ks - 1) no_packet.kept)
-newest-outstanding bs ks i known last =
-    let at : before bs ks + i ≡ length ks - 1 = omega arith in
-    packet-outstanding bs ks i known (omega arith)
-    ∙ ap (λ (n : ℕ). packet (get_or bs i 0) (get_or ks n no_packet.kept)) at
+  pub blocks-outstanding : blocks_of (outstanding_of ps ks) ≡ places_of ps
+  unfolding outstanding_of
+  blocks-outstanding = blocks-paired (places_of ps) (latest (length ps) ks) places-count
 
--- one more
-pub outstanding-push : (bs : List ℕ) (ks : List Kept) (b : ℕ) (k : Kept) → length bs ≤ length ks
-    → outstanding_of (bs ++ b ∷ []) (ks ++ k ∷ []) ≡ outstanding_of bs ks ++ packet b k ∷ []
-unfolding outstanding_of
-outstanding-push bs ks b k known =
-    let n = before bs ks in
-    let same : before (bs ++ b ∷ []) (ks ++ k ∷ []) ≡ n = omega (arith, length_push ks k, length_push bs b) in
-    let le : n ≤ length ks = omega arith in
-    ap (λ (m : ℕ). paired (bs ++ b ∷ []) (drop m (ks ++ k ∷ []))) same
-    ∙ ap (λ (l : List Kept). paired (bs ++ b ∷ []) l) (drop-append-le n ks (k ∷ []) le)
-    ∙ paired-push bs (drop n ks) b k (latest-length bs ks known)
+  pub length-outstanding : length (outstanding_of ps ks) ≡ length ps
+  unfolding outstanding_of
+  length-outstanding = length-paired (places_of ps) (latest (length ps) ks) places-count ∙ length-places ps
 
--- the oldest left out
-pub outstanding-drop : (bs : List ℕ) (ks : List Kept) → length bs ≤ length ks → 0 < length bs
-    → outstanding_of (drop 1 bs) ks ≡ drop 1 (outstanding_of bs ks)
-unfolding outstanding_of
-outstanding-drop bs ks known some =
-    let n = before bs ks in
-    let same : before (drop 1 bs) ks ≡ n + 1 = omega (arith, length-drop 1 bs) in
-    ap (λ (m : ℕ). paired (drop 1 bs) (drop m ks)) same
-    ∙ ap (λ (l : List Kept). paired (drop 1 bs) l) (sym (drop-drop 1 n ks))
-    ∙ paired-drop bs (drop n ks) (latest-length bs ks known)
+  pub segment-outstanding : (i : ℕ) → i < length ps → (d : Piece)
+      → get_or (outstanding_of ps ks) i no_segment
+      ≡ record { block = (get_or ps i d).block; part = get_or (latest (length ps) ks) i no_segment.part }
+  unfolding outstanding_of
+  segment-outstanding i below d = at-paired ps (latest (length ps) ks) i same below d
 
--- none where no block is
+  -- the oldest left out
+  latest-drop : (n : ℕ) → n + 1 ≡ length ps → latest n ks ≡ drop 1 (latest (length ps) ks)
+  latest-drop n one =
+      let at : length parts - n ≡ (length parts - length ps) + 1 = omega (arith, pieces-known) in
+      ap (λ (m : ℕ). drop m parts) at ∙ sym (drop-drop 1 (length parts - length ps) parts)
+
+  module _ (some : 0 < length ps) where
+    fewer : length (drop 1 ps) + 1 ≡ length ps
+    fewer = omega (arith, length-drop 1 ps)
+
+    pub tells-drop : AllTell (drop 1 ps) (latest (length (drop 1 ps)) ks)
+    tells-drop = rw (latest-drop (length (drop 1 ps)) fewer) (tell-drop ps (latest (length ps) ks) tells)
+
+    pub outstanding-drop : outstanding_of (drop 1 ps) ks ≡ drop 1 (outstanding_of ps ks)
+    unfolding outstanding_of
+    outstanding-drop =
+        rw (latest-drop (length (drop 1 ps)) fewer, places-drop ps)
+        (paired-drop (places_of ps) (latest (length ps) ks) places-count)
+
+  -- a packet more
+  module _ (xs : List Piece) (k : Kept) (more : AllTell xs (parts_of k.bytes)) where
+    latest-push : latest (length (ps ++ xs)) (ks ++ k ∷ []) ≡ latest (length ps) ks ++ parts_of k.bytes
+    latest-push =
+        let all = all_parts-push ks k in
+        let count = tell-length xs (parts_of k.bytes) more in
+        let at : length (all_parts (ks ++ k ∷ [])) - length (ps ++ xs) ≡ length parts - length ps =
+        omega (arith, ap length all, length-append parts (parts_of k.bytes), length-append ps xs, count) in
+        let low : length parts - length ps ≤ length parts = omega arith in
+        ap (λ (n : ℕ). drop n (all_parts (ks ++ k ∷ []))) at
+        ∙ ap (λ (l : List Part). drop (length parts - length ps) l) all
+        ∙ drop-append-le (length parts - length ps) parts (parts_of k.bytes) low
+
+    pub tells-push : AllTell (ps ++ xs) (latest (length (ps ++ xs)) (ks ++ k ∷ []))
+    tells-push = rw latest-push (tell-append ps xs (latest (length ps) ks) (parts_of k.bytes) tells more)
+
+    pub outstanding-push : outstanding_of (ps ++ xs) (ks ++ k ∷ [])
+        ≡ outstanding_of ps ks ++ paired (places_of xs) (parts_of k.bytes)
+    unfolding outstanding_of
+    outstanding-push =
+        rw (latest-push, places-append ps xs)
+        (paired-append (places_of ps) (places_of xs) (latest (length ps) ks) (parts_of k.bytes) places-count)
+
+-- none where no piece is
 pub outstanding-none : (ks : List Kept) → outstanding_of [] ks ≡ []
 unfolding outstanding_of
 outstanding-none ks = refl
 
+-- the first end of a packet
+
+first-paired : (ps : List Piece) (qs : List Part) → AllTell ps qs → first_end (paired (places_of ps) qs) ≡ first_last ps
+first-paired [] [] all = refl
+first-paired [] (q ∷ qs) all = absurd all
+first-paired (p ∷ ps) [] all = absurd all
+first-paired (p ∷ ps) (q ∷ qs) all =
+    ap (λ (b : Bool). if b then 0 else first_end (paired (places_of ps) qs) + 1) (sym all.0.last)
+    ∙ ap (λ (n : ℕ). if p.last then 0 else n + 1) (first-paired ps qs all.1)
+
+pub first-outstanding : (ps : List Piece) (ks : List Kept) → AllTell ps (latest (length ps) ks)
+    → first_end (outstanding_of ps ks) ≡ first_last ps
+unfolding outstanding_of
+first-outstanding ps ks all = first-paired ps (latest (length ps) ks) all
+
+last-of : (p q : Piece) (ps : List Piece) (b : Bool) → first_last (q ∷ ps) < suc (length ps)
+    → (if b then 0 else first_last (q ∷ ps) + 1) < suc (suc (length ps))
+last-of p q ps true below = omega arith
+last-of p q ps false below = omega arith
+
+pub first-below : (ps : List Piece) → ends_packet ps ≡ true → 0 < length ps → first_last ps < length ps
+first-below [] ends some = absurd (omega arith)
+first-below (p ∷ []) ends some = rw ends (omega arith)
+first-below (p ∷ q ∷ ps) ends some = last-of p q ps p.last (first-below (q ∷ ps) ends (omega arith))
+
+pub ends-drop : (ps : List Piece) → ends_packet ps ≡ true → ends_packet (drop 1 ps) ≡ true
+ends-drop [] ends = refl
+ends-drop (p ∷ []) ends = refl
+ends-drop (p ∷ q ∷ ps) ends = ends
+
+pub ends-append : (ps : List Piece) (x : Piece) (xs : List Piece) → ends_packet (x ∷ xs) ≡ true
+    → ends_packet (ps ++ x ∷ xs) ≡ true
+ends-append [] x xs ends = ends
+ends-append (p ∷ []) x xs ends = ends
+ends-append (p ∷ q ∷ ps) x xs ends = ends-append (q ∷ ps) x xs ends
+
+-- the pieces of a packet
+
+pub places-pieces : (whole : ℕ) (bs : List ℕ) (len : ℕ) → places_of (pieces_in whole bs len) ≡ bs
+places-pieces whole [] len = refl
+places-pieces whole (b ∷ []) len = refl
+places-pieces whole (b ∷ c ∷ bs) len = ap (λ (l : List ℕ). b ∷ l) (places-pieces whole (c ∷ bs) (len - 2048))
+
+pub ends-pieces : (whole : ℕ) (bs : List ℕ) (len : ℕ) → ends_packet (pieces_in whole bs len) ≡ true
+ends-pieces whole [] len = refl
+ends-pieces whole (b ∷ []) len = refl
+ends-pieces whole (b ∷ c ∷ []) len = refl
+ends-pieces whole (b ∷ c ∷ d ∷ bs) len = ends-pieces whole (c ∷ d ∷ bs) (len - 2048)
+
+pub tell-pieces : (whole : ℕ) (bs : List ℕ) (bytes : List ℕ) → 0 < length bs
+    → 2048 * (length bs - 1) ≤ length bytes
+    → AllTell (pieces_in whole bs (length bytes)) (parts_in whole (length bs) bytes)
+tell-pieces whole [] bytes some full = absurd (omega arith)
+tell-pieces whole (b ∷ []) bytes some full = (record { len = refl; whole = refl; last = refl }, tt)
+tell-pieces whole (b ∷ c ∷ bs) bytes some full = (
+  record { len = sym (length-take-le 2048 bytes (omega arith)); whole = refl; last = refl },
+  subst (λ (n : ℕ). AllTell (pieces_in whole (c ∷ bs) n) (parts_in whole (suc (length bs)) (drop 2048 bytes)))
+      (length-drop 2048 bytes)
+      (tell-pieces whole (c ∷ bs) (drop 2048 bytes) (omega arith) (omega (arith, length-drop 2048 bytes))),
+)
+
+-- whether a piece is in a block
+pub any-places : (n : ℕ) (ps : List Piece) → list_any (λ (p : Piece). n == p.block) ps
+    ≡ list_any (λ b. n == b) (places_of ps)
+any-places n [] = refl
+any-places n (p ∷ ps) = ap (λ (b : Bool). n == p.block || b) (any-places n ps)
+
 pub ruleset outstanding = (
   blocks-outstanding,
   length-outstanding,
-  packet-outstanding,
-  newest-outstanding,
-  outstanding-push,
+  segment-outstanding,
+  first-outstanding,
+  first-below,
   outstanding-drop,
   outstanding-none,
 )

@@ -1,7 +1,16 @@
 -- What a packet meets, and what comes of it.
-use Rattle.std.proofs.Common.{◌≡◌, Bool, true, false, List, [], ◌∷◌, ◌++◌, Option, Some, None, Result, Ok, Err, IfSome, IfNone, IfErr, not, ◌&&◌, if◌then◌else◌, refl, sym, ap, ◌∙◌, arith}
+use Rattle.std.proofs.Common.{◌≡◌, ◌≢◌, ℕ, zero, suc, ◌+◌, ◌≤◌, ◌==◌, inl, inr, Bool, true, false, All, List, [], ◌∷◌, ◌++◌, take, drop, Option, Some, None, Result, Ok, Err, IfSome, IfNone, IfErr, not, ◌&&◌, if◌then◌else◌, refl, sym, ap, ◌∙◌, subst, arith}
+use Rattle.std.proofs.lemmas.Bool.{both_ways, cases_Bool, cases_eq, eq-eqb}
 use Rattle.std.proofs.lemmas.Bool.Decides.{nat_tests}
-use Rattle.nic_device.specs.DmaArena.Numbers.{Numbers}
+use Rattle.std.specs.List.{list_any}
+use Rattle.nic_device.specs.DmaArena.Block.{Block, IsBlock}
+use Rattle.nic_device.specs.DmaArena.Numbers.{Numbers, is_own, is_free}
+use Rattle.nic_device.specs.DmaArena.Whereabouts.{times_in_hand}
+use Rattle.nic_device.proofs.DmaArena.Arenas.{is_own-of_free}
+use Rattle.pmd_seam.specs.Bufs.{numbers_of}
+use Rattle.pmd_seam.specs.Home.{AreOut}
+use Rattle.pmd_seam.proofs.Outside.{out_fewer, times-append, times-cons, times_first, times_rest}
+use Rattle.std.proofs.lemmas.List.{take-append-drop}
 use Rattle.pmd_seam.specs.Packet.{Kept}
 use Rattle.pmd_seam.specs.declared.fault.PmdFault.{PmdFault}
 use Rattle.pmd_seam.specs.declared.fault.PmdFault.TheVariants.{BadSize, ForeignBlock, DeviceFault}
@@ -10,9 +19,10 @@ use Rattle.pmd_tx.specs.declared.answer.Gate.{Gate}
 use Rattle.pmd_tx.specs.declared.answer.Gate.TheVariants.{Refused, Full, Open}
 use Rattle.pmd_tx.specs.declared.answer.TxAnswer.{TxAnswer}
 use Rattle.pmd_tx.specs.declared.answer.TxFault.{TxFault}
-use Rattle.pmd_tx.specs.Sending.{Sender, Outgoing, accepted_by}
-use Rattle.pmd_tx.specs.Sends.{gate_of, outgoing_of, accepted_of, is_bad_size, is_full, goes_home, returned, IsAnswer, IsAccepted, IsNoneAccepted, IsBack}
-use Rattle.pmd_tx.specs.Shown.{MaySend}
+use Rattle.pmd_tx.specs.Sending.{Sender, Segment, accepted_by, keeps, segments_of}
+use Rattle.pmd_tx.specs.Sends.{gate_of, outgoing_of, accepted_of, is_bad_size, is_full, are_out, goes_home, returned, IsAnswer, IsAccepted, IsNoneAccepted, IsBack}
+use Rattle.pmd_tx.specs.Shown.{AreDistinct, MaySend}
+use Rattle.pmd_tx.proofs.Distinct.{neither}
 
 opened : (bad home full : Bool)
     → Open ≡ (if bad then Refused BadSize else if home then (if full then Full else Open) else Refused ForeignBlock)
@@ -22,18 +32,92 @@ opened false false full is = cc
 opened false true true is = cc
 opened false true false is = (refl, refl, refl)
 
+-- blocks that can go home are out of the arena, each once
+
+parts_of_out : (own free again rest : Bool) → (own && not free && not again && rest) ≡ true
+    → (own ≡ true) × (free ≡ false) × (again ≡ false) × (rest ≡ true)
+parts_of_out true false false true is = (refl, refl, refl, refl)
+parts_of_out true false false false is = cc
+parts_of_out true false true rest is = cc
+parts_of_out true true again rest is = cc
+parts_of_out false free again rest is = cc
+
+pub out_distinct : (a : Numbers) (ns : List ℕ) → are_out a ns ≡ true → AreDistinct ns
+out_distinct a [] out = tt
+out_distinct a (n ∷ ns) out =
+    let parts = parts_of_out (is_own a n) (is_free a n) (list_any (λ b. n == b) ns) (are_out a ns) out in
+    (parts.2, out_distinct a ns parts.3)
+
+none_counted : (n : ℕ) (xs : List ℕ) → list_any (λ b. n == b) xs ≡ false → times_in_hand xs n ≡ 0
+none_counted n [] none = refl
+none_counted n (x ∷ xs) none =
+    let both = neither (n == x) (list_any (λ b. n == b) xs) none in
+    let rest = none_counted n xs both.1 in
+    let other : x ≢ n = λ e. both_ways (n == x) both.0 (eq-eqb n x (sym e)) in
+    omega (arith, times-cons x xs n, times_other x n other, rest)
+  where
+    times_other : (x n : ℕ) → x ≢ n → times_in_hand (x ∷ []) n ≡ 0
+    times_other x n ne = times_rest [] x n (λ e. ne (sym e))
+
+none_out : (a : Numbers) → AreOut a []
+none_out a k = elim (cases_Bool (is_free a k)) [
+  | inl free ↦ rw (free, is_own-of_free a k free) (omega arith)
+  | inr taken ↦ rw taken (omega arith)
+]
+
+out_more : (a : Numbers) (n : ℕ) (ns : List ℕ) → is_own a n ≡ true → is_free a n ≡ false → times_in_hand ns n ≡ 0
+    → AreOut a ns → AreOut a (n ∷ ns)
+out_more a n ns own free none out k = elim (cases_eq k n) [
+  | inl e ↦
+      let P : ℕ → Type 0 = λ x. (if is_free a x then 1 else 0) + times_in_hand (n ∷ ns) x
+      ≤ (if is_own a x then 1 else 0) in
+      subst P (sym e) (rw (own, free, times_first ns n, none) (omega arith))
+  | inr ne ↦ rw (times_rest ns n k ne) (out k)
+]
+
+pub out_are : (a : Numbers) (ns : List ℕ) → are_out a ns ≡ true → AreOut a ns
+out_are a [] out = none_out a
+out_are a (n ∷ ns) out =
+    let parts = parts_of_out (is_own a n) (is_free a n) (list_any (λ b. n == b) ns) (are_out a ns) out in
+    out_more a n ns parts.0 parts.1 (none_counted n ns parts.2) (out_are a ns parts.3)
+
+none_kept : (v : Sender) (ns : List ℕ) → list_any (λ n. keeps v n) ns ≡ false → All (λ (n : ℕ). keeps v n ≡ false) ns
+none_kept v [] none k d below = absurd (omega arith)
+none_kept v (n ∷ ns) none zero d below = (neither (keeps v n) (list_any (λ k. keeps v k) ns) none).0
+none_kept v (n ∷ ns) none (suc k) d below =
+    none_kept v ns (neither (keeps v n) (list_any (λ i. keeps v i) ns) none).1 k d (omega arith)
+
 -- an open way
-pub open_may : (v : Sender) (a : Numbers) (elsewhere : Bool) (p : Packet) → Open ≡ gate_of v a elsewhere p → MaySend v p
-open_may v a elsewhere p is =
-    let tests = opened (is_bad_size p) (goes_home v a p.buf.number && not elsewhere) (is_full v) is in
-    let bad = tests.0 in
-    let home = tests.1 in
-    let full = tests.2 in
-    record {
-      short = grind (arith, nat_tests, bad);
-      room = grind (arith, nat_tests, full);
-      away = grind (arith, nat_tests, home);
-    }
+module _ (v : Sender) (a : Numbers) (elsewhere : Bool) (p : Packet) (is : Open ≡ gate_of v a elsewhere p) where
+  tests : (is_bad_size v p ≡ false) × ((goes_home v a p && not elsewhere) ≡ true) × (is_full v p ≡ false)
+  tests = opened (is_bad_size v p) (goes_home v a p && not elsewhere) (is_full v p) is
+
+  homely : (x y z : Bool) → ((x && not y) && not z) ≡ true → (x ≡ true) × (y ≡ false)
+  homely true false z h = (refl, refl)
+  homely true true z h = cc
+  homely false y z h = cc
+
+  home : (are_out a (numbers_of p.bufs) ≡ true) × (list_any (λ n. keeps v n) (numbers_of p.bufs) ≡ false)
+  home = homely (are_out a (numbers_of p.bufs)) (list_any (λ n. keeps v n) (numbers_of p.bufs)) elsewhere tests.1
+
+  pub open_out : AreOut a (numbers_of p.bufs)
+  open_out = out_are a (numbers_of p.bufs) home.0
+
+  pub open_may : All (λ (b : Block). IsBlock b) p.bufs → MaySend v p
+  open_may whole =
+      let bad = tests.0 in
+      let full = tests.2 in
+      record {
+        some = grind (arith, nat_tests, bad);
+        short = grind (arith, nat_tests, bad);
+        held = grind (arith, nat_tests, bad);
+        room = grind (arith, nat_tests, full);
+        loose = record {
+          whole = whole;
+          apart = out_distinct a (numbers_of p.bufs) home.0;
+          away = none_kept v (numbers_of p.bufs) home.1;
+        };
+      }
 
 -- a packet that doesn't come back met an open way
 
@@ -44,9 +128,9 @@ gone_open Open p x answer none = refl
 
 pub gone_home : (v : Sender) (a : Numbers) (elsewhere : Bool) (p : Packet) (x : Result TxAnswer TxFault)
     → IsAnswer (gate_of v a elsewhere p) p x → returned x ≡ None
-    → (goes_home v a p.buf.number ≡ true) × (elsewhere ≡ false)
+    → (goes_home v a p ≡ true) × (elsewhere ≡ false)
 gone_home v a elsewhere p x answer none =
-    let tests = opened (is_bad_size p) (goes_home v a p.buf.number && not elsewhere) (is_full v)
+    let tests = opened (is_bad_size v p) (goes_home v a p && not elsewhere) (is_full v p)
     (gone_open (gate_of v a elsewhere p) p x answer none) in
     let home = tests.1 in
     (grind (arith, nat_tests, home), grind (arith, nat_tests, home))
@@ -54,9 +138,15 @@ gone_home v a elsewhere p x answer none =
 -- it may be sent still after what accepts nothing
 pub may_after : (v w : Sender) (p : Packet) → MaySend v p → IsNoneAccepted v w → w.layout ≡ v.layout → MaySend w p
 may_after v w p may none same = record {
-  short = may.short;
+  some = may.some;
+  short = rw same may.short;
+  held = may.held;
   room = rw (none.outstanding, same) may.room;
-  away = rw (none.outstanding, same) may.away;
+  loose = record {
+    whole = may.loose.whole;
+    apart = may.loose.apart;
+    away = rw (none.outstanding, same) may.loose.away;
+  };
 }
 
 -- a packet that was accepted stays so
@@ -76,7 +166,7 @@ pub accepted_after : (o : Option Packet) (v w x : Sender) (p : Packet) → IsNon
     → IfNone o (IsAccepted v p x)
 accepted_after None v w x p none is = record {
   accepted = is.accepted ∙ ap (λ (l : List Kept). l ++ accepted_of p ∷ []) none.accepted;
-  outstanding = is.outstanding ∙ ap (λ (l : List Outgoing). l ++ outgoing_of p ∷ []) none.outstanding;
+  outstanding = is.outstanding ∙ ap (λ (l : List Segment). l ++ segments_of (outgoing_of p)) none.outstanding;
 }
 accepted_after (Some q) v w x p none is = tt
 
@@ -94,3 +184,12 @@ none_back (Err f) p none = rw none tt
 pub back_itself : (f : PmdFault) (p : Packet) → IsBack f p p
 back_itself DeviceFault p = refl
 back_itself other p = refl
+
+-- those that hold none of its bytes are out too
+pub out_drop : (a : Numbers) (n : ℕ) (ns ms : List ℕ) → AreOut a ns → ms ≡ drop n ns → AreOut a ms
+out_drop a n ns ms out is =
+    rw is
+    (out_fewer a ns (drop n ns) out (λ k.
+    let split = ap (λ (l : List ℕ). times_in_hand l k) (take-append-drop n ns) in
+    let both = times-append (take n ns) (drop n ns) k in
+    omega (arith, split, both)))

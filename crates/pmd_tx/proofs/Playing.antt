@@ -32,19 +32,19 @@ played-last : (v : Sender) (before : List Call) (m : Move) (e : Event Block) (r 
 played-last v [] m e r = refl
 played-last v (n ∷ before) m e r = played-last v before m e r
 
-accepts-elsewhere : (block : ℕ) (calls : List Call) → AllAcceptIn block (elsewhere calls)
-accepts-elsewhere block [] = tt
-accepts-elsewhere block (n ∷ calls) = (tt, accepts-elsewhere block calls)
+accepts-elsewhere : (blocks : List ℕ) (calls : List Call) → AllAcceptIn blocks (elsewhere calls)
+accepts-elsewhere blocks [] = tt
+accepts-elsewhere blocks (n ∷ calls) = (tt, accepts-elsewhere blocks calls)
 
-accepts-last : (block : ℕ) (before : List Call) (m : Move) → AcceptsIn block m
-    → AllAcceptIn block (elsewhere before ++ m ∷ [])
-accepts-last block [] m accepts = (accepts, tt)
-accepts-last block (n ∷ before) m accepts = (tt, accepts-last block before m accepts)
+accepts-last : (blocks : List ℕ) (before : List Call) (m : Move) → AcceptsIn blocks m
+    → AllAcceptIn blocks (elsewhere before ++ m ∷ [])
+accepts-last blocks [] m accepts = (accepts, tt)
+accepts-last blocks (n ∷ before) m accepts = (tt, accepts-last blocks before m accepts)
 
 -- an own event after calls that aren't own
-pub plays_adds : (block : ℕ) (old new : List Call) (v : Sender) (m : Move) → is_elsewhere m ≡ false → (e : Event Block)
-    (r : Reply Block) → IsOwn v m e → AcceptsIn block m → Adds old new e r → PlaysWith block old v new (moved v m r)
-plays_adds block old new v m mine e r own accepts (before, is, steps) = record {
+pub plays_adds : (blocks : List ℕ) (old new : List Call) (v : Sender) (m : Move) → is_elsewhere m ≡ false → (e : Event Block)
+    (r : Reply Block) → IsOwn v m e → AcceptsIn blocks m → Adds old new e r → PlaysWith blocks old v new (moved v m r)
+plays_adds blocks old new v m mine e r own accepts (before, is, steps) = record {
   plays = (
     elsewhere before ++ m ∷ [],
     before ++ call_of e r ∷ [],
@@ -53,11 +53,11 @@ plays_adds block old new v m mine e r own accepts (before, is, steps) = record {
     sym (played-last v before m e r),
     steps_last is_elsewhere Elsewhere m before (call_of e r) mine steps,
   );
-  accepts = accepts-last block before m accepts;
+  accepts = accepts-last blocks before m accepts;
 }
 
-pub plays_some : (block : ℕ) (old new : List Call) (v : Sender) → AddsSome old new → PlaysWith block old v new v
-plays_some block old new v (before, is, steps) = record {
+pub plays_some : (blocks : List ℕ) (old new : List Call) (v : Sender) → AddsSome old new → PlaysWith blocks old v new v
+plays_some blocks old new v (before, is, steps) = record {
   plays = (
     elsewhere before,
     before,
@@ -66,12 +66,12 @@ plays_some block old new v (before, is, steps) = record {
     sym (played-elsewhere v before),
     steps_marked is_elsewhere Elsewhere before steps,
   );
-  accepts = accepts-elsewhere block before;
+  accepts = accepts-elsewhere blocks before;
 }
 
 -- nothing was made
-pub plays_none : (block : ℕ) (old : List Call) (v : Sender) → PlaysWith block old v old v
-plays_none block old v = plays_some block old old v ([], sym (append-nil old), tt)
+pub plays_none : (blocks : List ℕ) (old : List Call) (v : Sender) → PlaysWith blocks old v old v
+plays_none blocks old v = plays_some blocks old old v ([], sym (append-nil old), tt)
 
 -- plays follow each other
 
@@ -105,28 +105,28 @@ all_both a b d v w x (m, s, is, own, by, steps) (n, t, then, also, on, more) = (
   steps_both is_elsewhere m n s t (own-length v m s own) steps more,
 )
 
-accepts-both : (block : ℕ) (m n : List Move) → AllAcceptIn block m → AllAcceptIn block n → AllAcceptIn block (m ++ n)
-accepts-both block [] n a b = b
-accepts-both block (k ∷ m) n a b = (a.0, accepts-both block m n a.1 b)
+accepts-both : (blocks : List ℕ) (m n : List Move) → AllAcceptIn blocks m → AllAcceptIn blocks n → AllAcceptIn blocks (m ++ n)
+accepts-both blocks [] n a b = b
+accepts-both blocks (k ∷ m) n a b = (a.0, accepts-both blocks m n a.1 b)
 
-pub plays_both : (block : ℕ) (a b d : List Call) (v w x : Sender) → PlaysWith block a v b w
-    → PlaysWith block b w d x → PlaysWith block a v d x
+pub plays_both : (blocks : List ℕ) (a b d : List Call) (v w x : Sender) → PlaysWith blocks a v b w
+    → PlaysWith blocks b w d x → PlaysWith blocks a v d x
 unfolding all_both
-plays_both block a b d v w x p q = record {
+plays_both blocks a b d v w x p q = record {
   plays = all_both a b d v w x p.plays q.plays;
-  accepts = accepts-both block p.plays.0 q.plays.0 p.accepts q.accepts;
+  accepts = accepts-both blocks p.plays.0 q.plays.0 p.accepts q.accepts;
 }
 
 -- a reply that no healthy queue gives
-pub faults_at : (block : ℕ) (old new : List Call) (v : Sender) (m : Move) (e : Event Block) (r : Reply Block)
-    → IsOwn v m e → AcceptsIn block m → Adds old new e r → is_healthy m r ≡ false → Faults block old v new
-faults_at block old new v m e r own accepts adds sick = record {
+pub faults_at : (blocks : List ℕ) (old new : List Call) (v : Sender) (m : Move) (e : Event Block) (r : Reply Block)
+    → IsOwn v m e → AcceptsIn blocks m → Adds old new e r → is_healthy m r ≡ false → Faults blocks old v new
+faults_at blocks old new v m e r own accepts adds sick = record {
   mid = old;
   before = v;
   move = m;
   event = e;
   reply = r;
-  plays = plays_none block old v;
+  plays = plays_none blocks old v;
   own = own;
   accepts = accepts;
   adds = adds;
@@ -134,15 +134,15 @@ faults_at block old new v m e r own accepts adds sick = record {
 }
 
 -- after other plays
-pub faults_after : (block : ℕ) (a b d : List Call) (v w : Sender) → PlaysWith block a v b w → Faults block b w d
-    → Faults block a v d
-faults_after block a b d v w plays f = record {
+pub faults_after : (blocks : List ℕ) (a b d : List Call) (v w : Sender) → PlaysWith blocks a v b w → Faults blocks b w d
+    → Faults blocks a v d
+faults_after blocks a b d v w plays f = record {
   mid = f.mid;
   before = f.before;
   move = f.move;
   event = f.event;
   reply = f.reply;
-  plays = plays_both block a b f.mid v w f.before plays f.plays;
+  plays = plays_both blocks a b f.mid v w f.before plays f.plays;
   own = f.own;
   accepts = f.accepts;
   adds = f.adds;
@@ -150,25 +150,25 @@ faults_after block a b d v w plays f = record {
 }
 
 -- a call that was refused
-pub asks_at : (block : ℕ) (old new : List Call) (v : Sender) (m : Move) (e : Event Block) → IsOwn v m e
-    → is_elsewhere m ≡ false → AcceptsIn block m → AddsSome old new → AsksNext block old v new
-asks_at block old new v m e own mine accepts some = record {
+pub asks_at : (blocks : List ℕ) (old new : List Call) (v : Sender) (m : Move) (e : Event Block) → IsOwn v m e
+    → is_elsewhere m ≡ false → AcceptsIn blocks m → AddsSome old new → AsksNext blocks old v new
+asks_at blocks old new v m e own mine accepts some = record {
   before = v;
   move = m;
   event = e;
-  plays = plays_some block old new v some;
+  plays = plays_some blocks old new v some;
   own = own;
   mine = mine;
   accepts = accepts;
 }
 
-pub asks_after : (block : ℕ) (a b d : List Call) (v w : Sender) → PlaysWith block a v b w → AsksNext block b w d
-    → AsksNext block a v d
-asks_after block a b d v w plays f = record {
+pub asks_after : (blocks : List ℕ) (a b d : List Call) (v w : Sender) → PlaysWith blocks a v b w → AsksNext blocks b w d
+    → AsksNext blocks a v d
+asks_after blocks a b d v w plays f = record {
   before = f.before;
   move = f.move;
   event = f.event;
-  plays = plays_both block a b d v w f.before plays f.plays;
+  plays = plays_both blocks a b d v w f.before plays f.plays;
   own = f.own;
   mine = f.mine;
   accepts = f.accepts;

@@ -9,7 +9,7 @@ use Rattle.pmd_seam.specs.DeviceLock.declared.entry.Call.{Call}
 use Rattle.pmd_seam.specs.Made.{Adds, StepsWhere}
 use Rattle.pmd_seam.specs.declared.fault.PmdFault.{PmdFault}
 use Rattle.pmd_seam.specs.declared.fault.PmdFault.TheVariants as fault
-use Rattle.pmd_tx.specs.Sending.{Sender, Move, Accepts, Elsewhere, IsOwn, moved, is_healthy, is_sent, descriptor_at}
+use Rattle.pmd_tx.specs.Sending.{Sender, Move, Accepts, Elsewhere, IsOwn, moved, is_healthy, is_sent, descriptor_at, first_end}
 
 -- the driver after these moves, with the replies of these calls: all that its code knows
 abbrev pub played_by : Sender → List Move → List Call → Sender
@@ -39,60 +39,60 @@ Plays old v new w =
     (moves : List Move) × (since : List Call) × (new ≡ old ++ since) × AllOwn v moves since
     × (w ≡ played_by v moves since) × OthersStep moves since
 
--- a packet that a move accepts is in the block of this number
-abbrev pub AcceptsIn : ℕ → Move → Type 0
-AcceptsIn block (Accepts p) = p.block ≡ block
-AcceptsIn block m = ⊤
+-- a packet that a move accepts is in the blocks of these numbers
+abbrev pub AcceptsIn : List ℕ → Move → Type 0
+AcceptsIn blocks (Accepts p) = p.blocks ≡ blocks
+AcceptsIn blocks m = ⊤
 
 -- so is each that these moves accept
-abbrev pub AllAcceptIn : ℕ → List Move → Type 0
-AllAcceptIn block [] = ⊤
-AllAcceptIn block (m ∷ moves) = AcceptsIn block m × AllAcceptIn block moves
+abbrev pub AllAcceptIn : List ℕ → List Move → Type 0
+AllAcceptIn blocks [] = ⊤
+AllAcceptIn blocks (m ∷ moves) = AcceptsIn blocks m × AllAcceptIn blocks moves
 
--- some calls were made so, and each packet that they accept is in the block of this number
-pub record PlaysWith (block : ℕ) (old : List Call) (v : Sender) (new : List Call) (w : Sender) : Type 0 where
+-- some calls were made so, and each packet that they accept is in the blocks of these numbers
+pub record PlaysWith (blocks : List ℕ) (old : List Call) (v : Sender) (new : List Call) (w : Sender) : Type 0 where
   pub plays : Plays old v new w
-  pub accepts : AllAcceptIn block plays.0
+  pub accepts : AllAcceptIn blocks plays.0
 
--- the last call was a look at the oldest outstanding packet, which isn't done; nothing was accepted before it
+-- the last call was a look at the end of the oldest outstanding packet, which isn't done; nothing was accepted before it
 pub record LooksLast (old : List Call) (v : Sender) (new : List Call) (w : Sender) : Type 0 where
   pub mid : List Call
   pub before : Sender
   pub bytes : List ℕ
   pub plays : Plays old v mid before
-  pub looks : Adds mid new (event.Peek16 (descriptor_at before.layout 0)) (reply.Bytes bytes)
+  pub looks : Adds mid new (event.Peek16 (descriptor_at before.layout (first_end before.outstanding))) (reply.Bytes bytes)
   pub waits : is_sent bytes ≡ false
-  pub posted : 0 < before.posted
+  pub posted : first_end before.outstanding < before.posted
   pub accepted : before.accepted ≡ v.accepted
-  pub left : w ≡ record before { seen = false }
+  pub left : w ≡ record before { done = 0 }
 
 -- the last call was a move of the driver's, whose reply isn't that of a healthy queue. Each packet that was accepted up
--- to there, or was to be, is in the block of this number
-pub record Faults (block : ℕ) (old : List Call) (v : Sender) (new : List Call) : Type 0 where
+-- to there, or was to be, is in the blocks of these numbers
+pub record Faults (blocks : List ℕ) (old : List Call) (v : Sender) (new : List Call) : Type 0 where
   pub mid : List Call
   pub before : Sender
   pub move : Move
   pub event : Event Block
   pub reply : Reply Block
-  pub plays : PlaysWith block old v mid before
+  pub plays : PlaysWith blocks old v mid before
   pub own : IsOwn before move event
-  pub accepts : AcceptsIn block move
+  pub accepts : AcceptsIn blocks move
   pub adds : Adds mid new event reply
   pub sick : is_healthy move reply ≡ false
 
 -- the event that was refused is a move that the driver may make next, after these calls. Each packet that was accepted
--- up to there, or was to be, is in the block of this number
-pub record AsksNext (block : ℕ) (old : List Call) (v : Sender) (new : List Call) : Type 0 where
+-- up to there, or was to be, is in the blocks of these numbers
+pub record AsksNext (blocks : List ℕ) (old : List Call) (v : Sender) (new : List Call) : Type 0 where
   pub before : Sender
   pub move : Move
   pub event : Event Block
-  pub plays : PlaysWith block old v new before
+  pub plays : PlaysWith blocks old v new before
   pub own : IsOwn before move event
   pub mine : is_elsewhere move ≡ false
-  pub accepts : AcceptsIn block move
+  pub accepts : AcceptsIn blocks move
 
 -- where the device failed, or a call was refused, so it is
-abbrev pub FaultsBy : PmdFault → ℕ → List Call → Sender → List Call → Type 0
-FaultsBy fault.DeviceFault block old v new = Faults block old v new
-FaultsBy (fault.Call refusal) block old v new = AsksNext block old v new
-FaultsBy other block old v new = ⊤
+abbrev pub FaultsBy : PmdFault → List ℕ → List Call → Sender → List Call → Type 0
+FaultsBy fault.DeviceFault blocks old v new = Faults blocks old v new
+FaultsBy (fault.Call refusal) blocks old v new = AsksNext blocks old v new
+FaultsBy other blocks old v new = ⊤

@@ -1,7 +1,8 @@
 -- What a driver that sends promises of one packet, and of the blocks that it frees.
-use Rattle.std.specs.Prelude.{ℕ, ◌≡◌, ◌-◌, ◌+◌, ◌==◌, ◌||◌, ◌&&◌, ◌≤◌, not, nat_lt, Bool, true, false, ⊤, List, [], ◌∷◌, ◌++◌, length, take, drop, replicate, Option, Some, None, Result, Ok, Err, if◌then◌else◌}
-use Rattle.nic_device.specs.DmaArena.Numbers.{Numbers, is_own, is_free, with_free}
-use Rattle.nic_device.specs.DmaRing.Ring.{next_of}
+use Rattle.std.specs.Prelude.{ℕ, ◌≡◌, ◌-◌, ◌+◌, ◌*◌, ◌==◌, ◌||◌, ◌&&◌, ◌≤◌, not, nat_lt, Bool, true, ⊤, List, [], ◌∷◌, ◌++◌, length, take, drop, replicate, Option, Some, None, Result, Ok, Err, if◌then◌else◌}
+use Rattle.std.specs.List.{list_any}
+use Rattle.nic_device.specs.DmaArena.Numbers.{Numbers, is_own, is_free}
+use Rattle.pmd_seam.specs.Bufs.{bytes_of, numbers_of, with_all_free}
 use Rattle.pmd_seam.specs.Packet.{Kept}
 use Rattle.pmd_seam.specs.declared.fault.PmdFault.{PmdFault}
 use Rattle.pmd_seam.specs.declared.fault.PmdFault.TheVariants.{BadSize, ForeignBlock, DeviceFault, Call}
@@ -11,37 +12,44 @@ use Rattle.pmd_tx.specs.declared.answer.Gate.TheVariants.{Refused, Full, Open}
 use Rattle.pmd_tx.specs.declared.answer.TxAnswer.{TxAnswer}
 use Rattle.pmd_tx.specs.declared.answer.TxAnswer.TheVariants.{Taken, RingFull}
 use Rattle.pmd_tx.specs.declared.answer.TxFault.{TxFault}
-use Rattle.pmd_tx.specs.Sending.{Sender, Outgoing, has_lent, blocks_of}
+use Rattle.pmd_tx.specs.Sending.{Sender, Outgoing, Segment, blocks_of, keeps, parts_for, segments_of}
 
 -- a packet as it is accepted: padded with zero bytes to 60
 abbrev pub padded : List ℕ → List ℕ
 padded bytes = bytes ++ replicate (60 - length bytes) 0
 
 abbrev pub accepted_of : Packet → Kept
-accepted_of p = record { bytes = padded (take p.len p.buf.bytes); rss = p.rss; hash = p.hash }
+accepted_of p = record { bytes = padded (take p.len (bytes_of p.bufs)); rss = p.rss; hash = p.hash }
 
+-- it is sent in as many of its blocks, the first ones, as it has parts
 abbrev pub outgoing_of : Packet → Outgoing
-outgoing_of p = record { block = p.buf.number; kept = accepted_of p }
+outgoing_of p = record { blocks = take (parts_for p.len) (numbers_of p.bufs); kept = accepted_of p }
 
--- no packet is empty or longer than 1,514 bytes
-abbrev pub is_bad_size : Packet → Bool
-is_bad_size p = p.len == 0 || nat_lt 1514 p.len
+-- no packet is empty, longer than so many bytes, or longer than its blocks
+abbrev pub is_bad_size : Sender → Packet → Bool
+is_bad_size v p = p.len == 0 || nat_lt v.layout.limit p.len || nat_lt (2048 * length p.bufs) p.len
 
--- whether a block can go home: its number is one of the arena's, isn't free there, and isn't lent for this ring
-abbrev pub goes_home : Sender → Numbers → ℕ → Bool
-goes_home v a n = is_own a n && not (is_free a n) && not (has_lent v n)
+-- whether blocks can go home: their numbers are the arena's, aren't free there, and no two are alike
+abbrev pub are_out : Numbers → List ℕ → Bool
+are_out a [] = true
+are_out a (n ∷ numbers) =
+    is_own a n && not (is_free a n) && not (list_any (λ b. n == b) numbers) && are_out a numbers
 
--- whether one more packet has room: as many as the slots but one may be outstanding
-abbrev pub is_full : Sender → Bool
-is_full v = not (nat_lt (length v.outstanding + 1) v.layout.size)
+-- whether the blocks of a packet can go home: none of them is kept for this ring
+abbrev pub goes_home : Sender → Numbers → Packet → Bool
+goes_home v a p = are_out a (numbers_of p.bufs) && not (list_any (λ n. keeps v n) (numbers_of p.bufs))
+
+-- whether a packet has no room: as many segments as the slots but one may be outstanding
+abbrev pub is_full : Sender → Packet → Bool
+is_full v p = not (nat_lt (length v.outstanding + parts_for p.len) v.layout.size)
 
 -- what a packet meets before any event is made: a refusal, a full ring, or an open way.
--- `elsewhere`: another ring of the driver has a block of its number lent
+-- `elsewhere`: another ring of the driver has a block of one of its numbers lent
 abbrev pub gate_of : Sender → Numbers → Bool → Packet → Gate
 gate_of v a elsewhere p =
-    if is_bad_size p then Refused BadSize
-    else if goes_home v a p.buf.number && not elsewhere
-    then (if is_full v then Full else Open)
+    if is_bad_size v p then Refused BadSize
+    else if goes_home v a p && not elsewhere
+    then (if is_full v p then Full else Open)
     else Refused ForeignBlock
 
 -- a fault that comes once the way is open
@@ -67,11 +75,11 @@ IsShut (Refused f) = ⊤
 IsShut Full = ⊤
 IsShut Open = ⊥
 
--- where the ring is told to be full, as many packets are outstanding as it has slots but one
-abbrev pub IsFullWhereTold : Sender → Result TxAnswer TxFault → Type 0
-IsFullWhereTold v (Ok (RingFull p)) = length v.outstanding + 1 ≡ v.layout.size
-IsFullWhereTold v (Ok Taken) = ⊤
-IsFullWhereTold v (Err f) = ⊤
+-- where the ring is told to be full, the segments that are outstanding and the packet's are above its slots but one
+abbrev pub IsFullWhereTold : Sender → Packet → Result TxAnswer TxFault → Type 0
+IsFullWhereTold v given (Ok (RingFull p)) = v.layout.size ≤ length v.outstanding + parts_for given.len
+IsFullWhereTold v given (Ok Taken) = ⊤
+IsFullWhereTold v given (Err f) = ⊤
 
 -- the packet that comes back, where one does: one that doesn't was accepted
 abbrev pub returned : Result TxAnswer TxFault → Option Packet
@@ -82,35 +90,36 @@ returned (Err f) = f.packet
 -- the packet was accepted, as the last
 pub record IsAccepted (v : Sender) (p : Packet) (w : Sender) : Type 0 where
   pub accepted : w.accepted ≡ v.accepted ++ accepted_of p ∷ []
-  pub outstanding : w.outstanding ≡ v.outstanding ++ outgoing_of p ∷ []
+  pub outstanding : w.outstanding ≡ v.outstanding ++ segments_of (outgoing_of p)
 
 -- none was
 pub record IsNoneAccepted (v w : Sender) : Type 0 where
   pub accepted : w.accepted ≡ v.accepted
   pub outstanding : w.outstanding ≡ v.outstanding
 
--- a packet came back: it is the one that was given. Where the device fails, a block of its number came back
+-- a packet came back: it is the one that was given. Where the device fails, blocks of its numbers came back
 abbrev pub IsBack : PmdFault → Packet → Packet → Type 0
-IsBack DeviceFault given back = back.buf.number ≡ given.buf.number
+IsBack DeviceFault given back = numbers_of back.bufs ≡ numbers_of given.bufs
 IsBack fault given back = back ≡ given
 
--- the oldest outstanding packet is let go
-abbrev pub forgotten : Sender → Sender
-forgotten v = record v {
-  layout = record v.layout { next = next_of v.layout.size v.layout.next };
-  outstanding = drop 1 v.outstanding;
-  posted = v.posted - 1;
-  poked = false;
-  seen = false;
-}
+-- where the packet was accepted, the blocks that hold none of its bytes went home; else all stay
+abbrev pub SendsHome : Option Packet → Packet → Numbers → Numbers → Type 0
+SendsHome None p a b = b ≡ with_all_free a (drop (parts_for p.len) (numbers_of p.bufs))
+SendsHome (Some back) p a b = b ≡ a
 
--- an arena after these blocks were given to it
-abbrev pub given : Numbers → List ℕ → Numbers
-given a [] = a
-given a (n ∷ numbers) = given (with_free a n true) numbers
+-- how many packets end with segments
+abbrev pub ends_in : List Segment → ℕ
+ends_in [] = 0
+ends_in (s ∷ segments) = (if s.part.last then 1 else 0) + ends_in segments
 
--- the oldest outstanding packets were reaped, so many, and their blocks are free in the arena
-pub record Frees (v w : Sender) (a b : Numbers) (count : ℕ) : Type 0 where
-  pub few : count ≤ length v.outstanding
-  pub left : w.outstanding ≡ drop count v.outstanding
-  pub home : b ≡ given a (take count (blocks_of v.outstanding))
+-- the oldest outstanding segments were reaped, so many, with which so many packets end, and their blocks are free in the
+-- arena
+pub record Frees (v w : Sender) (a b : Numbers) (parts packets : ℕ) : Type 0 where
+  pub few : parts ≤ length v.outstanding
+  pub left : w.outstanding ≡ drop parts v.outstanding
+  pub home : b ≡ with_all_free a (take parts (blocks_of v.outstanding))
+  pub packets_are : packets ≡ ends_in (take parts v.outstanding)
+
+-- some of them were
+abbrev pub FreesSome : Sender → Sender → Numbers → Numbers → ℕ → Type 0
+FreesSome v w a b packets = (parts : ℕ) × Frees v w a b parts packets

@@ -1,82 +1,131 @@
 -- The driver's transmit ring as its code keeps it.
-use Rattle.std.specs.Prelude.{ℕ, ◌≡◌, ◌+◌, ◌-◌, ◌<◌, ◌≤◌, nat_eq, Bool, true, false, List, [], ◌∷◌, length, drop, replicate, All, Some}
-use Rattle.std.specs.List.{IsDistinct}
-use Rattle.nic_device.specs.DmaArena.Memory.{put_bytes}
-use Rattle.pmd_seam.specs.DeviceLock.declared.entry.Call.{Call}
+use Rattle.std.specs.Prelude.{ℕ, ◌≡◌, ◌+◌, ◌-◌, ◌*◌, ◌<◌, ◌≤◌, ◌==◌, ⊤, true, false, List, [], ◌∷◌, ◌++◌, length, take, drop, All, Option, Some}
+use Rattle.std.specs.List.{list_any}
+use Rattle.nic_device.specs.DmaArena.Block.{Block, IsBlock}
 use Rattle.pmd_seam.specs.Accesses.{IsLent}
+use Rattle.pmd_seam.specs.Bufs.{numbers_of}
+use Rattle.pmd_seam.specs.DeviceLock.declared.entry.Call.{Call}
 use Rattle.pmd_seam.specs.Made.{AddsSome}
 use Rattle.pmd_seam.specs.Packet.{Kept, kept_of}
-use Rattle.pmd_seam.specs.Slots.{blocks_for}
+use Rattle.pmd_seam.specs.Slots.{blocks_for, is_ring_block}
 use Rattle.pmd_seam.specs.declared.fault.PmdFault.{PmdFault}
 use Rattle.pmd_seam.specs.declared.fault.PmdFault.TheVariants as fault
 use Rattle.pmd_seam.specs.declared.packet.Packet.{Packet}
-use Rattle.pmd_tx.specs.Sending.{Sender, Layout, Outgoing, has_lent}
+use Rattle.pmd_tx.specs.Sending.{Sender, Layout, Outgoing, Part, Segment, keeps, paired, parts_for, parts_of}
+use Rattle.pmd_tx.specs.Pieces.{ends_packet, places_of}
+use Rattle.pmd_tx.specs.declared.piece.Piece.{Piece}
 
--- packets in blocks, each with what is kept of it
-abbrev pub paired : List ℕ → List Kept → List Outgoing
-paired [] kept = []
-paired (b ∷ blocks) [] = []
-paired (b ∷ blocks) (k ∷ kept) = record { block = b; kept = k } ∷ paired blocks kept
+-- the parts of packets, and the last of them, so many
+abbrev pub all_parts : List Kept → List Part
+all_parts [] = []
+all_parts (k ∷ kept) = parts_of k.bytes ++ all_parts kept
 
--- the outstanding packets: those that were accepted last are in these blocks
-unfoldable pub outstanding_of : List ℕ → List Kept → List Outgoing
-outstanding_of blocks accepted = paired blocks (drop (length accepted - length blocks) accepted)
+abbrev pub latest : ℕ → List Kept → List Part
+latest count kept = drop (length (all_parts kept) - count) (all_parts kept)
+
+-- how many parts the newest packet has, and the bytes of one with which so many are left
+abbrev pub newest_parts : List Kept → ℕ
+newest_parts [] = 0
+newest_parts (k ∷ []) = parts_for (length k.bytes)
+newest_parts (k ∷ l ∷ kept) = newest_parts (l ∷ kept)
+
+abbrev pub newest_part : List Kept → ℕ → List ℕ
+newest_part [] left = []
+newest_part (k ∷ []) left = take 2048 (drop (2048 * (parts_for (length k.bytes) - left)) k.bytes)
+newest_part (k ∷ l ∷ kept) left = newest_part (l ∷ kept) left
+
+-- the outstanding segments: the latest parts of what was accepted are in these blocks
+unfoldable pub outstanding_of : List Piece → List Kept → List Segment
+outstanding_of pieces accepted = paired (places_of pieces) (latest (length pieces) accepted)
+
+-- a piece tells what a descriptor says of a part
+pub record Tells (p : Piece) (q : Part) : Type 0 where
+  pub len : p.len ≡ length q.bytes
+  pub whole : p.whole ≡ q.whole
+  pub last : p.last ≡ q.last
+
+abbrev pub AllTell : List Piece → List Part → Type 0
+AllTell [] [] = ⊤
+AllTell [] (q ∷ parts) = ⊥
+AllTell (p ∷ pieces) [] = ⊥
+AllTell (p ∷ pieces) (q ∷ parts) = Tells p q × AllTell pieces parts
+
+-- a block in hand begins with the bytes of a segment
+pub record Holds (s : Segment) (b : Block) : Type 0 where
+  pub number : b.number ≡ s.block
+  pub bytes : take (length s.part.bytes) b.bytes ≡ s.part.bytes
+
+abbrev pub AllHold : List Segment → List Block → Type 0
+AllHold [] [] = ⊤
+AllHold [] (b ∷ blocks) = ⊥
+AllHold (s ∷ segments) [] = ⊥
+AllHold (s ∷ segments) (b ∷ blocks) = Holds s b × AllHold segments blocks
 
 -- blocks of which no two are alike
 abbrev pub AreDistinct : List ℕ → Type 0
-AreDistinct blocks = IsDistinct nat_eq blocks
+AreDistinct [] = ⊤
+AreDistinct (b ∷ blocks) = (list_any (λ n. b == n) blocks ≡ false) × AreDistinct blocks
 
--- a ring of at most 1,024 slots, in blocks of bus memory that follow one another. At most one packet waits for the
--- tail, and each packet has at most 1,514 bytes
-pub record IsRing (l : Layout) (blocks : List ℕ) (posted : ℕ) (poked seen : Bool) (accepted : List Kept) : Type 0 where
+-- a ring of at most 1,024 slots, in blocks of bus memory that follow one another, and how far the pieces have come; the
+-- blocks that aren't lent yet are in hand
+pub record IsRing (l : Layout) (pieces : List Piece) (waiting : List Block) (lent poked posted done : ℕ)
+    (accepted : List Kept) : Type 0 where
   pub some : 0 < l.size
   pub few : l.size ≤ 1024
   pub next : l.next < l.size
   pub ring : l.ring + blocks_for l.size ≤ 65536
-  pub room : length blocks < l.size
-  pub below : posted ≤ length blocks
-  pub waiting : length blocks ≤ posted + 1
-  pub asked : poked ≡ true → posted < length blocks
-  pub done : seen ≡ true → 0 < posted
-  pub known : length blocks ≤ length accepted
-  pub short : All (λ (k : Kept). length k.bytes ≤ 1514) accepted
-  pub apart : AreDistinct blocks
+  pub least : 60 ≤ l.limit
+  pub limit : l.limit ≤ 10240
+  pub room : length pieces < l.size
+  pub done_posted : done ≤ posted
+  pub posted_poked : posted ≤ poked
+  pub poked_lent : poked ≤ lent
+  pub lent_known : lent ≤ length pieces
+  pub tells : AllTell pieces (latest (length pieces) accepted)
+  pub newest : length pieces ≤ lent + newest_parts accepted
+  pub held : AllHold (drop lent (outstanding_of pieces accepted)) waiting
+  pub ends : ends_packet pieces ≡ true
+  pub short : All (λ (p : Piece). p.whole ≤ l.limit) pieces
+  pub kept : All (λ (k : Kept). length k.bytes ≤ 10240) accepted
+  pub beside : All (λ (p : Piece). is_ring_block l.ring l.size p.block ≡ false) pieces
+  pub apart : AreDistinct (places_of pieces)
 
--- a packet after its padding, in the same block
-abbrev pub padded_packet : Packet → Packet
-padded_packet p = record p {
-  buf = record { number = p.buf.number; bytes = put_bytes p.buf.bytes p.len (replicate (60 - p.len) 0) };
-  len = p.len + (60 - p.len);
-}
-
--- a packet with these first bytes, and of this length
-abbrev pub unpadded : Packet → ℕ → List ℕ → Packet
-unpadded p len start = record p {
-  buf = record { number = p.buf.number; bytes = put_bytes p.buf.bytes 0 start };
-  len = len;
-}
-
--- a packet in hand, as it is accepted by lending its block
+-- a packet in hand, as it is accepted by lending its first block
 abbrev pub sent_as : Packet → Outgoing
-sent_as p = record { block = p.buf.number; kept = kept_of p }
+sent_as p = record { blocks = take (parts_for p.len) (numbers_of p.bufs); kept = kept_of p }
+
+-- a packet whose blocks may be lent: no two are alike, and none is kept for the ring
+pub record AreLoose (v : Sender) (p : Packet) : Type 0 where
+  pub whole : All IsBlock p.bufs
+  pub apart : AreDistinct (numbers_of p.bufs)
+  pub away : All (λ (n : ℕ). keeps v n ≡ false) (numbers_of p.bufs)
 
 -- a packet that may be accepted, which was padded
-pub record MayLend (v : Sender) (p : Packet) : Type 0 where
+pub record MayStart (v : Sender) (p : Packet) : Type 0 where
   pub long : 60 ≤ p.len
-  pub short : p.len ≤ 1514
-  pub room : length v.outstanding + 1 < v.layout.size
+  pub short : p.len ≤ v.layout.limit
+  pub held : p.len ≤ 2048 * length p.bufs
+  pub room : length v.outstanding + parts_for p.len < v.layout.size
+  pub lent : v.lent ≡ length v.outstanding
   pub settled : v.posted ≡ length v.outstanding
-  pub away : has_lent v p.buf.number ≡ false
+  pub loose : AreLoose v p
 
 -- a packet that may be sent, before it is padded
 pub record MaySend (v : Sender) (p : Packet) : Type 0 where
-  pub short : p.len ≤ 1514
-  pub room : length v.outstanding + 1 < v.layout.size
-  pub away : has_lent v p.buf.number ≡ false
+  pub some : 0 < p.len
+  pub short : p.len ≤ v.layout.limit
+  pub held : p.len ≤ 2048 * length p.bufs
+  pub room : length v.outstanding + parts_for p.len < v.layout.size
+  pub loose : AreLoose v p
 
--- a block wasn't lent: one of its number was lent already, or the call was refused and the packet came back
+-- the first of some blocks was lent, or one of its number was lent already
+abbrev pub LendsFirst : List Call → List Call → List Block → Option Block → Type 0
+LendsFirst old new [] twice = ⊥
+LendsFirst old new (b ∷ blocks) twice = IsLent old new b twice
+
+-- no block was lent: one of the first block's number was lent already, or the call was refused and the packet came back
 abbrev pub IsUnlent : PmdFault → List Call → List Call → Packet → Packet → Type 0
 IsUnlent fault.DeviceFault old new given back =
-    IsLent old new given.buf (Some back.buf) × (back.buf.number ≡ given.buf.number)
+    (twice : Block) × LendsFirst old new given.bufs (Some twice) × (numbers_of back.bufs ≡ numbers_of given.bufs)
 IsUnlent (fault.Call f) old new given back = AddsSome old new × (back ≡ given)
 IsUnlent other old new given back = ⊥

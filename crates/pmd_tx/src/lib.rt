@@ -7,9 +7,12 @@
 
 mod answer;
 mod padding;
+mod piece;
 mod reaping;
 mod ring;
 mod sending;
 
 pub use answer::{Reaped, TxAnswer, TxFault};
+pub use padding::bytes_in;
 pub use ring::TransmitRing;
+pub use sending::are_out;

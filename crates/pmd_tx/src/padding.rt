@@ -1,40 +1,142 @@
 //! Padding: a packet is sent with 60 bytes at least.
 
-ghost use Rattle.std.specs.Prelude.{◌≡◌, ◌≤◌, take};
+ghost use Rattle.std.specs.Prelude.{◌≡◌, ◌≤◌, ◌<◌, ◌∷◌, ◌+◌, ◌*◌, length, take, drop, All};
 ghost use Rattle.nic_device.specs.DmaArena.Block.{IsBlock};
-ghost use Rattle.pmd_tx.specs.Shown.{padded_packet, unpadded};
+ghost use Rattle.pmd_tx.specs.Padding.{first_bytes, padded_packet, unpadded, with_first};
 
-use pmd_seam::Packet;
+use nic_device::Buf;
+use pmd_seam::{Bufs, Packet};
+use std::mem;
 
 /// How many bytes a packet has at least, as it is sent.
-const SHORTEST: usize = 60;
+const SHORTEST: u16 = 60;
 
-/// Pads a packet with zero bytes to 60.
-pub(crate) fn pad(packet: &mut Packet)
-    requires { packet.old.len ≤ 1514 }
-    ensures { packet.new ≡ padded_packet packet.old }
+/// A packet padded with zero bytes to 60.
+pub(crate) fn pad(packet: Packet) -> Packet
+    requires { 0 < length packet.bufs }
+    ensures { result ≡ padded_packet packet }
 {
-    let len = usize::from(packet.len);
-    let missing = SHORTEST.saturating_sub(len);
-    let zeros = [0; SHORTEST];
-    packet.buf.put(len, &zeros[..missing]);
-    packet.len += missing as u16;
+    if packet.len >= SHORTEST {
+        return packet;
+    }
+    let Packet {
+        bufs,
+        len,
+        rss,
+        hash,
+    } = packet;
+    let zeros = [0; 60];
+    let len = usize::from(len);
+    Packet {
+        bufs: put_first(bufs, len, &zeros[..60 - len]),
+        len: SHORTEST,
+        rss,
+        hash,
+    }
 }
 
 /// The bytes that a padding may write over.
 pub(crate) fn start_of(packet: &Packet) -> [u8; 60]
-    ensures bytes { result ≡ take 60 packet.now.buf.bytes }
-    ensures whole { IsBlock packet.now.buf }
+    requires { 0 < length packet.now.bufs }
+    ensures { result ≡ first_bytes packet.now.bufs }
 {
-    let mut start = [0; SHORTEST];
-    start.copy_from_slice(&packet.buf.bytes()[..SHORTEST]);
+    let mut start = [0; 60];
+    start.copy_from_slice(&packet.bufs.get(0).bytes()[..60]);
     start
 }
 
 /// Undoes a padding.
-pub(crate) fn unpad(packet: &mut Packet, len: u16, start: &[u8; 60])
-    ensures { packet.new ≡ unpadded packet.old len start.now }
+pub(crate) fn unpad(packet: Packet, len: u16, start: &[u8; 60]) -> Packet
+    requires { 0 < length packet.bufs }
+    ensures { result ≡ unpadded packet len start.now }
 {
-    packet.buf.put(0, start);
-    packet.len = len;
+    if len >= SHORTEST {
+        return packet;
+    }
+    let Packet {
+        bufs,
+        len: _,
+        rss,
+        hash,
+    } = packet;
+    Packet {
+        bufs: put_first(bufs, 0, start),
+        len,
+        rss,
+        hash,
+    }
+}
+
+/// Bufs with these bytes put into the first, from one of its bytes on.
+fn put_first(bufs: Bufs, at: usize, bytes: &[u8]) -> Bufs
+    requires some { 0 < length bufs }
+    requires room { at + length bytes.now ≤ 2048 }
+    ensures { result ≡ with_first bufs at bytes.now }
+{
+    let count = bufs.count();
+    let mut others = bufs;
+    match others.take_first() {
+        Some(mut first) => {
+            first.put(at, bytes);
+            behind(first, others)
+        }
+        None => unreachable!(),
+    }
+}
+
+/// A Buf, and others behind it.
+pub(crate) fn behind(first: Buf, others: Bufs) -> Bufs
+    requires { length others < 5 }
+    ensures { result ≡ first ∷ others }
+{
+    let mut all = Bufs::of(first);
+    let mut left = others;
+    for _moved in 0..left.count() {
+        match left.take_first() {
+            Some(buf) => all.push(buf),
+            None => unreachable!(),
+        }
+    }
+    left.finish();
+    all
+}
+
+/// Puts a Buf back before the others.
+pub(crate) fn put_back(bufs: &mut Bufs, first: Buf)
+    requires { length bufs.old < 5 }
+    ensures { bufs.new ≡ first ∷ bufs.old }
+{
+    let others = mem::replace(bufs, Bufs::none());
+    let none = mem::replace(bufs, behind(first, others));
+    none.finish()
+}
+
+/// Bufs in two parts: so many of them, the first ones, and the others.
+pub(crate) fn split(bufs: Bufs, count: usize) -> (Bufs, Bufs)
+    requires { count ≤ length bufs }
+    ensures first { result.0 ≡ take count bufs }
+    ensures rest { result.1 ≡ drop count bufs }
+{
+    let most = bufs.count();
+    let mut first = Bufs::none();
+    let mut rest = bufs;
+    for _moved in 0..count {
+        match rest.take_first() {
+            Some(buf) => first.push(buf),
+            None => unreachable!(),
+        }
+    }
+    (first, rest)
+}
+
+/// How many bytes Bufs have.
+pub fn bytes_in(bufs: &Bufs) -> usize
+    ensures sum { result ≡ 2048 * length bufs.now }
+    ensures whole { All (λ b. IsBlock b) bufs.now }
+{
+    let mut sum = 0;
+    for number in 0..bufs.count() {
+        sum += bufs.get(number).bytes().len();
+    }
+    sum
 }

@@ -1,53 +1,48 @@
 //! The transmit ring of the driver: one step for each of its moves.
 
-ghost use Rattle.std.specs.Prelude.{[], ◌≡◌, ◌==◌, ◌≢◌, ◌↔◌, ◌<◌, ◌≤◌, ◌+◌, ◌-◌, ◌++◌, ℕ, None, All, length, slice_index_or, true, false, Ok, IfOk, IfErr, OnOk, OnErr, IfSome, IsNone};
+ghost use Rattle.std.specs.Prelude.{[], ◌≡◌, ◌==◌, ◌≢◌, ◌↔◌, ◌<◌, ◌≤◌, ◌+◌, ◌-◌, ◌++◌, ℕ, None, All, length, take, drop, slice_index_or, true, false, Ok, IfOk, IfErr, OnOk, OnErr, IfSome, IsNone, if◌then◌else◌, List, not, nat_lt};
 ghost use Rattle.pmd_seam.specs.Accesses.{IsLent, IsWritten};
+ghost use Rattle.pmd_seam.specs.Bufs.{numbers_of};
 ghost use Rattle.pmd_seam.specs.Made.{AddsSome};
 ghost use Rattle.pmd_tx.specs.Plays.{PlaysWith, LooksLast, FaultsBy};
-ghost use Rattle.pmd_tx.specs.Leaving.{lent_of};
-ghost use Rattle.pmd_tx.specs.Sending.{at_start, blocks_of, no_packet, packet_at, slot_at, descriptor_at, has_lent, asking, asked, is_sent, looked, advanced, reaped, accepted_by};
+ghost use Rattle.pmd_tx.specs.Leaving.{lent_of, waiting_of};
+ghost use Rattle.pmd_tx.specs.Pieces.{first_last, places_of};
+ghost use Rattle.pmd_tx.specs.Sending.{at_start, blocks_of, no_segment, segment_at, slot_at, descriptor_at, first_end, keeps, asking, asked, is_sent, looked, lent_more, advanced, reaped, accepted_by, parts_for};
 ghost use Rattle.std.specs.List.{list_any};
 ghost use Rattle.nic_device.specs.DmaRing.Ring.{next_of};
 ghost use Rattle.pmd_seam.specs.Packet.{Kept};
 ghost use Rattle.pmd_seam.specs.Slots.{blocks_for, ring_blocks};
 ghost use Rattle.std.specs.VecDeque.{deque_len, deque_capacity};
-ghost use Rattle.pmd_tx.specs.Sends.{is_full, forgotten, IsLate, IsBack};
-ghost use Rattle.pmd_tx.specs.Stages.{IsAt};
-ghost use Rattle.pmd_tx.specs.Shown.{MayLend, sent_as, IsUnlent};
+ghost use Rattle.pmd_tx.specs.Sends.{IsLate, IsBack};
+ghost use Rattle.pmd_tx.specs.Shown.{MayStart, sent_as, IsUnlent, LendsFirst, newest_part, newest_parts};
 ghost use Rattle.pmd_seam.specs.Refusals.{CanFail, CanRefuse};
 
+use crate::padding::{behind, put_back, split};
+use crate::piece::{Piece, add_pieces, first_last, parts_for};
 use nic_device::{Buf, Port, data_descriptor_word, is_sent, of_halves, second_half};
 use pmd_seam::{
-    CallFault, Nic, Packet, PmdFault, Reclaim, Record, blocks_for, descriptor_address,
+    Bufs, CallFault, Nic, Packet, PmdFault, Reclaim, Record, blocks_for, descriptor_address,
     is_ring_block, lend, next_slot, peek, poke, slot_after, take, write,
 };
 use std::alloc::Global;
 use std::collections::VecDeque;
 use std::marker::Model;
-
-/// How far the newest packet has come.
-#[derive(Clone, Copy)]
-pub(crate) enum Stage {
-    /// The tail has passed it, or none is outstanding.
-    Settled,
-    /// Its block is lent.
-    Lent,
-    /// Its descriptor is written.
-    Asked,
-}
+use std::mem;
 
 /// The transmit ring of a driver, and what it accepted.
-#[derive(Drop)]
 pub struct TransmitRing {
     port: Port,
     tail: u32,
     ring: u16,
     size: u16,
     next: u16,
-    blocks: VecDeque<u32>,
+    limit: u16,
+    pieces: VecDeque<Piece>,
+    waiting: Bufs,
+    lent: u16,
+    poked: u16,
     posted: u16,
-    poked: bool,
-    seen: bool,
+    done: u16,
     accepted: Vec<Record>,
 }
 
@@ -64,11 +59,13 @@ impl Model for TransmitRing {
         ring = r.ring;
         size = r.size;
         next = r.next;
+        limit = r.limit;
       };
-      outstanding = outstanding_of r.blocks.items r.accepted.items;
-      posted = r.posted;
+      outstanding = outstanding_of r.pieces.items r.accepted.items;
+      lent = r.lent;
       poked = r.poked;
-      seen = r.seen;
+      posted = r.posted;
+      done = r.done;
       accepted = r.accepted.items;
     } };
 
@@ -78,19 +75,29 @@ impl Model for TransmitRing {
       ring = r.ring;
       size = r.size;
       next = r.next;
-    }) r.blocks.items r.posted r.poked r.seen r.accepted.items };
+      limit = r.limit;
+    }) r.pieces.items r.waiting r.lent r.poked r.posted r.done r.accepted.items };
 }
 
 impl TransmitRing {
     /// A ring whose queue goes on: of 1 to 1,024 slots, in blocks that follow one another from that of the number
-    /// `ring` on, all below 65,536. `tail` is the number that the tail's register has at the port. Nothing is
-    /// outstanding. It takes no memory.
+    /// `ring` on, all below 65,536. `tail` is the number that the tail's register has at the port, and `limit` how many
+    /// bytes a packet has at most, 60 to 10,240. Nothing is outstanding. It takes no memory.
     #[tactic(auto, using(crate::proofs::Outstanding::outstanding))]
-    pub fn new(alloc: Global, port: Port, tail: u32, ring: u32, size: u16) -> TransmitRing
+    pub fn new(
+        alloc: Global,
+        port: Port,
+        tail: u32,
+        ring: u32,
+        size: u16,
+        limit: u16,
+    ) -> TransmitRing
         requires some { 0 < size }
         requires few { size ≤ 1024 }
         requires ring { ring + blocks_for size ≤ 65536 }
-        ensures { result ≡ at_start port tail ring size }
+        requires least { 60 ≤ limit }
+        requires limit { limit ≤ 10240 }
+        ensures { result ≡ at_start port tail ring size limit }
     {
         TransmitRing {
             port,
@@ -98,10 +105,13 @@ impl TransmitRing {
             ring: ring as u16,
             size,
             next: 0,
-            blocks: VecDeque::new(alloc),
+            limit,
+            pieces: VecDeque::new(alloc),
+            waiting: Bufs::none(),
+            lent: 0,
+            poked: 0,
             posted: 0,
-            poked: false,
-            seen: false,
+            done: 0,
             accepted: Vec::new(alloc),
         }
     }
@@ -113,36 +123,36 @@ impl TransmitRing {
         self.accepted.as_slice()
     }
 
-    /// Ends the ring: its blocks are on their way home, and what was accepted is given away, the oldest first. Where
-    /// there is no memory, the ring comes back as it was.
+    /// Ends the ring: the blocks that are lent are on their way home, those of segments that wait come back, and what
+    /// was accepted is given away, the oldest first. Where there is no memory, the ring comes back as it was.
     #[tactic(auto, using(crate::proofs::Outstanding::outstanding))]
-    pub fn close(self) -> Result<(Reclaim, Vec<Record>), TransmitRing>
+    pub fn close(self, alloc: Global) -> Result<(Reclaim, Bufs, Vec<Record>), TransmitRing>
         ensures way { IfOk result (λ ends. ends.0 ≡ record { lent = lent_of self; lost = 0 }) }
-        ensures records { IfOk result (λ ends. ends.1.items ≡ self.accepted) }
+        ensures waiting { IfOk result (λ ends. numbers_of ends.1 ≡ waiting_of self) }
+        ensures records { IfOk result (λ ends. ends.2.items ≡ self.accepted) }
         ensures back { IfErr result (λ ring. ring ≡ self) }
     {
-        let mut ended = self;
-        if ended
-            .blocks
-            .reserve(blocks_for(ended.size) as usize)
-            .is_err()
-        {
-            return Err(ended);
-        }
+        let room = usize::from(self.lent) + blocks_for(self.size) as usize;
+        let Ok(blocks) = VecDeque::with_capacity(alloc, room) else {
+            return Err(self);
+        };
         let TransmitRing {
             port: _,
             tail: _,
             ring,
             size,
             next: _,
-            blocks,
-            posted: _,
+            limit: _,
+            pieces,
+            waiting,
+            lent,
             poked: _,
-            seen: _,
+            posted: _,
+            done: _,
             accepted,
-        } = ended;
-        let lent = with_ring(blocks, u32::from(ring), size);
-        Ok((Reclaim::of(lent), accepted))
+        } = self;
+        let lent = with_ring(with_pieces(blocks, &pieces, lent), u32::from(ring), size);
+        Ok((Reclaim::of(lent), waiting, accepted))
     }
 
     /// The number of the first block that the ring is in, below 65,536.
@@ -153,66 +163,93 @@ impl TransmitRing {
         u32::from(self.ring)
     }
 
-    /// Whether the block of this number is lent for the ring: one of its own, or that of an outstanding packet.
-    #[tactic(auto, using(crate::proofs::Outstanding::outstanding))]
-    pub fn has_lent(&self, block: u32) -> bool
-        ensures { result ≡ has_lent self.now block }
+    /// How many bytes a packet has at most.
+    pub(crate) fn limit(&self) -> u16
+        ensures limit { result ≡ self.now.layout.limit }
+        ensures least { 60 ≤ result }
+        ensures few { result ≤ 10240 }
     {
-        is_ring_block(self.ring_block(), self.size, block) || holds(&self.blocks, block)
+        self.limit
     }
 
-    /// Whether as many packets are outstanding as the ring has slots, but one.
+    /// Whether the ring keeps the block of this number: one of its own, or that of an outstanding segment.
     #[tactic(auto, using(crate::proofs::Outstanding::outstanding))]
-    pub(crate) fn is_full(&self) -> bool
-        ensures told { result ≡ is_full self.now }
-        ensures full { result ≡ true → length self.now.outstanding + 1 ≡ self.now.layout.size }
+    pub fn keeps(&self, block: u32) -> bool
+        ensures { result ≡ keeps self.now block }
     {
-        self.blocks.len() + 1 >= usize::from(self.size)
+        is_ring_block(self.ring_block(), self.size, block) || holds(&self.pieces, block)
     }
 
-    /// How far the newest packet has come.
+    /// Whether so many more segments have no room: as many may be outstanding as the ring has slots, but one.
     #[tactic(auto, using(crate::proofs::Outstanding::outstanding))]
-    pub(crate) fn stage(&self) -> Stage
-        ensures { IsAt result self.now }
+    pub(crate) fn is_full(&self, more: u16) -> bool
+        requires { more ≤ 32 }
+        ensures { result ≡ not (nat_lt (length self.now.outstanding + more) self.now.layout.size) }
     {
-        if usize::from(self.posted) == self.blocks.len() {
-            Stage::Settled
-        } else if self.poked {
-            Stage::Asked
-        } else {
-            Stage::Lent
-        }
+        self.count() + more >= self.size
     }
 
-    /// How many packets are outstanding.
+    /// How many segments are outstanding.
     #[tactic(auto, using(crate::proofs::Outstanding::outstanding))]
     pub(crate) fn count(&self) -> u16
-        ensures { result ≡ length self.now.outstanding }
+        ensures count { result ≡ length self.now.outstanding }
+        ensures few { result < 1024 }
     {
-        self.blocks.len() as u16
+        self.pieces.len() as u16
     }
 
-    /// Lets the oldest outstanding packet go, whose block is taken back or lost.
+    /// How many of them have their descriptor written.
     #[tactic(auto, using(crate::proofs::Outstanding::outstanding))]
-    pub fn forget_oldest(&mut self)
-        requires { 0 < length self.old.outstanding }
-        ensures { self.new ≡ forgotten self.old }
+    pub(crate) fn asked(&self) -> u16
+        ensures asked { result ≡ self.now.poked }
+        ensures few { result ≤ length self.now.outstanding }
     {
-        self.next = self.following();
-        let _forgotten = self.blocks.pop_front();
-        self.posted = self.posted.saturating_sub(1);
-        self.poked = false;
-        self.seen = false;
+        self.poked
     }
 
-    /// The slot after the oldest packet's.
+    /// Whether the block of the next segment whose descriptor isn't written is lent.
+    pub(crate) fn is_next_lent(&self) -> bool
+        ensures told { (result ≡ true) ↔ (self.now.poked < self.now.lent) }
+        ensures order { self.now.poked ≤ self.now.lent }
+    {
+        self.poked < self.lent
+    }
+
+    /// Whether the tail has passed all segments.
+    #[tactic(auto, using(crate::proofs::Outstanding::outstanding))]
+    pub(crate) fn is_settled(&self) -> bool
+        ensures told { (result ≡ true) ↔ (self.now.posted ≡ length self.now.outstanding) }
+        ensures posted { self.now.posted ≤ self.now.poked }
+        ensures poked { self.now.poked ≤ self.now.lent }
+        ensures lent { self.now.lent ≤ length self.now.outstanding }
+    {
+        usize::from(self.posted) == self.pieces.len()
+    }
+
+    /// Whether the oldest segment was seen to be done.
+    pub(crate) fn has_done(&self) -> bool
+        ensures { (result ≡ true) ↔ (0 < self.now.done) }
+    {
+        self.done > 0
+    }
+
+    /// Whether the oldest segment is the last of its packet.
+    #[tactic(auto, using(crate::proofs::Outstanding::outstanding))]
+    pub(crate) fn oldest_ends(&self) -> bool
+        requires { 0 < length self.now.outstanding }
+        ensures { result ≡ (segment_at self.now 0).part.last }
+    {
+        self.pieces[0].last
+    }
+
+    /// The slot after the oldest segment's.
     fn following(&self) -> u16
         ensures { result ≡ next_of self.now.layout.size self.now.layout.next }
     {
         next_slot(self.size, self.next)
     }
 
-    /// The slot that comes so many after the oldest packet's.
+    /// The slot that comes so many after the oldest segment's.
     fn slot(&self, after: u16) -> u16
         requires { after ≤ self.now.layout.size }
         ensures { result ≡ slot_at self.now.layout after }
@@ -220,7 +257,7 @@ impl TransmitRing {
         slot_after(self.size, self.next, after)
     }
 
-    /// The bus address of the descriptor that comes so many after the oldest packet's.
+    /// The bus address of the descriptor that comes so many after the oldest segment's.
     fn descriptor(&self, after: u16) -> u32
         requires { after ≤ self.now.layout.size }
         ensures { result ≡ descriptor_at self.now.layout after }
@@ -230,7 +267,8 @@ impl TransmitRing {
 }
 
 impl TransmitRing {
-    /// Lends the block of a packet, which is accepted by that. It comes back where it can't be lent.
+    /// Lends the first block of a packet, which is accepted by that. Gives the Bufs that hold none of its bytes. It
+    /// comes back where its block can't be lent.
     ///
     /// `DeviceFault` where one of its number is lent already.
     pub(crate) fn accept<N: Nic>(
@@ -238,34 +276,35 @@ impl TransmitRing {
         alloc: Global,
         nic: &mut N,
         packet: Packet,
-    ) -> Result<(), (PmdFault, Packet)>
-        requires { MayLend self.old packet }
-        ensures plays { PlaysWith packet.buf.number (N.made nic.old) self.old (N.made nic.new) self.new }
+    ) -> Result<Bufs, (PmdFault, Packet)>
+        requires { MayStart self.old packet }
+        ensures plays { PlaysWith (sent_as packet).blocks (N.made nic.old) self.old (N.made nic.new) self.new }
         ensures accepted { OnOk result (self.new ≡ accepted_by self.old (sent_as packet)) }
+        ensures rest { IfOk result (λ rest. rest ≡ drop (parts_for packet.len) packet.bufs) }
         ensures kept { OnErr result (self.new ≡ self.old) }
         ensures back { IfErr result (λ refused. IsBack refused.0 packet refused.1) }
         ensures late { IfErr result (λ refused. IsLate refused.0) }
         ensures faults { IfErr result (λ refused.
-            FaultsBy refused.0 packet.buf.number (N.made nic.old) self.old (N.made nic.new)) }
+            FaultsBy refused.0 (sent_as packet).blocks (N.made nic.old) self.old (N.made nic.new)) }
         ensures who { N.who nic.new ≡ N.who nic.old }
         ensures refuses { N.refuses nic.new ≡ N.refuses nic.old }
         ensures refusal { IfErr result (λ refused. CanFail (N.refuses nic.new) refused.0) }
     {
-        let _whole = packet.buf.bytes();
-        self.lend_packet(alloc, nic, packet)
+        self.lend_first(alloc, nic, packet)
     }
 
     /// The same, by what is made.
     #[tactic(auto, using(crate::proofs::Outstanding::outstanding))]
-    fn lend_packet<N: Nic>(
+    fn lend_first<N: Nic>(
         &mut self,
         alloc: Global,
         nic: &mut N,
         packet: Packet,
-    ) -> Result<(), (PmdFault, Packet)>
-        requires { MayLend self.old packet }
-        ensures made { OnOk result (IsLent (N.made nic.old) (N.made nic.new) packet.buf None) }
+    ) -> Result<Bufs, (PmdFault, Packet)>
+        requires { MayStart self.old packet }
+        ensures made { OnOk result (LendsFirst (N.made nic.old) (N.made nic.new) packet.bufs None) }
         ensures accepted { OnOk result (self.new ≡ accepted_by self.old (sent_as packet)) }
+        ensures rest { IfOk result (λ rest. rest ≡ drop (parts_for packet.len) packet.bufs) }
         ensures kept { OnErr result (self.new ≡ self.old) }
         ensures failed { IfErr result (λ refused.
             IsUnlent refused.0 (N.made nic.old) (N.made nic.new) packet refused.1) }
@@ -274,7 +313,8 @@ impl TransmitRing {
         ensures refusal { IfErr result (λ refused. CanFail (N.refuses nic.new) refused.0) }
     {
         let no_memory = PmdFault::Call(CallFault::OutOfMemory(()));
-        if self.blocks.reserve(1).is_err() {
+        let parts = parts_for(packet.len);
+        if self.pieces.reserve(usize::from(parts)).is_err() {
             return Err((no_memory, packet));
         }
         if self.accepted.reserve(1).is_err() {
@@ -285,48 +325,108 @@ impl TransmitRing {
         };
         let record = Record::of(&packet, room);
         let Packet {
-            buf,
+            bufs,
             len,
             rss,
             hash,
         } = packet;
-        let block = buf.block();
-        let (fault, buf) = match lend(alloc, nic, buf) {
+        let _few = bufs.count();
+        let mut others = bufs;
+        let first = match others.take_first() {
+            Some(first) => first,
+            None => unreachable!(),
+        };
+        let block = first.block();
+        match lend(alloc, nic, first) {
             Ok(None) => {
-                self.blocks.push_back_reserved(block);
+                let (waiting, rest) = split(others, usize::from(parts) - 1);
+                add_pieces(&mut self.pieces, block, &waiting, len);
                 self.accepted.push_reserved(record);
-                return Ok(());
+                self.lent += 1;
+                let none = mem::replace(&mut self.waiting, waiting);
+                none.finish();
+                Ok(rest)
             }
-            Ok(Some(buf)) => (PmdFault::DeviceFault, buf),
-            Err((fault, buf)) => (PmdFault::Call(fault), buf),
-        };
-        let back = Packet {
-            buf,
-            len,
-            rss,
-            hash,
-        };
-        Err((fault, back))
+            Ok(Some(first)) => {
+                let back = Packet {
+                    bufs: behind(first, others),
+                    len,
+                    rss,
+                    hash,
+                };
+                Err((PmdFault::DeviceFault, back))
+            }
+            Err((fault, first)) => {
+                let back = Packet {
+                    bufs: behind(first, others),
+                    len,
+                    rss,
+                    hash,
+                };
+                Err((PmdFault::Call(fault), back))
+            }
+        }
     }
 }
 
 impl TransmitRing {
-    /// Writes the descriptor of the packet that waits.
+    /// Lends the block of the next segment that isn't lent.
     ///
-    /// `DeviceFault` where the ring isn't lent any more.
-    pub(crate) fn ask<N: Nic>(&mut self, alloc: Global, nic: &mut N) -> Result<(), PmdFault>
-        requires { self.old.posted < length self.old.outstanding }
-        ensures plays { (block : ℕ) → PlaysWith block (N.made nic.old) self.old (N.made nic.new) self.new }
-        ensures asked { OnOk result (self.new ≡ asked self.old) }
+    /// `DeviceFault` where one of its number is lent already.
+    pub(crate) fn lend_next<N: Nic>(&mut self, alloc: Global, nic: &mut N) -> Result<(), PmdFault>
+        requires { self.old.lent < length self.old.outstanding }
+        ensures plays { (blocks : List ℕ) → PlaysWith blocks (N.made nic.old) self.old (N.made nic.new) self.new }
+        ensures lent { OnOk result (self.new ≡ lent_more self.old) }
         ensures kept { OnErr result (self.new ≡ self.old) }
         ensures late { IfErr result (λ fault. IsLate fault) }
-        ensures faults { (block : ℕ) → IfErr result (λ fault.
-            FaultsBy fault block (N.made nic.old) self.old (N.made nic.new)) }
+        ensures faults { (blocks : List ℕ) → IfErr result (λ fault.
+            FaultsBy fault blocks (N.made nic.old) self.old (N.made nic.new)) }
         ensures who { N.who nic.new ≡ N.who nic.old }
         ensures refuses { N.refuses nic.new ≡ N.refuses nic.old }
         ensures refusal { IfErr result (λ f. CanFail (N.refuses nic.new) f) }
     {
-        let address = self.waiting_descriptor();
+        let _few = self.waiting.count();
+        let buf = match self.waiting.take_first() {
+            Some(buf) => buf,
+            None => unreachable!(),
+        };
+        let _whole = buf.bytes();
+        match lend(alloc, nic, buf) {
+            Ok(None) => {
+                self.lent += 1;
+                Ok(())
+            }
+            Ok(Some(mut buf)) => {
+                let left = self.pieces.len() - usize::from(self.lent);
+                buf.put(0, newest_part(&self.accepted, left));
+                put_back(&mut self.waiting, buf);
+                Err(PmdFault::DeviceFault)
+            }
+            Err((fault, buf)) => {
+                put_back(&mut self.waiting, buf);
+                Err(PmdFault::Call(fault))
+            }
+        }
+    }
+}
+
+impl TransmitRing {
+    /// Writes the descriptor of the next segment.
+    ///
+    /// `DeviceFault` where the ring isn't lent any more.
+    pub(crate) fn ask<N: Nic>(&mut self, alloc: Global, nic: &mut N) -> Result<(), PmdFault>
+        requires { self.old.poked < self.old.lent }
+        ensures plays { (blocks : List ℕ) → PlaysWith blocks (N.made nic.old) self.old (N.made nic.new) self.new }
+        ensures asked { OnOk result (self.new ≡ asked self.old) }
+        ensures kept { OnErr result (self.new ≡ self.old) }
+        ensures late { IfErr result (λ fault. IsLate fault) }
+        ensures faults { (blocks : List ℕ) → IfErr result (λ fault.
+            FaultsBy fault blocks (N.made nic.old) self.old (N.made nic.new)) }
+        ensures who { N.who nic.new ≡ N.who nic.old }
+        ensures refuses { N.refuses nic.new ≡ N.refuses nic.old }
+        ensures refusal { IfErr result (λ f. CanFail (N.refuses nic.new) f) }
+    {
+        let address = self.next_descriptor();
         let bytes = self.asking();
         match poke(alloc, nic, address, bytes) {
             Ok(true) => {
@@ -338,47 +438,52 @@ impl TransmitRing {
         }
     }
 
-    /// The bus address of the descriptor of the packet that waits.
-    fn waiting_descriptor(&self) -> u32
-        ensures { result ≡ descriptor_at self.now.layout self.now.posted }
+    /// The bus address of the next segment's descriptor.
+    #[tactic(auto, using(crate::proofs::Outstanding::outstanding))]
+    fn next_descriptor(&self) -> u32
+        ensures { result ≡ descriptor_at self.now.layout self.now.poked }
     {
-        self.descriptor(self.posted)
+        self.descriptor(self.poked)
     }
 
-    /// The descriptor that asks for the packet that waits.
+    /// The descriptor that asks for the next segment.
     #[tactic(auto, using(crate::proofs::Outstanding::outstanding))]
     fn asking(&self) -> [u8; 16]
-        requires { self.now.posted < length self.now.outstanding }
-        ensures { result ≡ asking (packet_at self.now self.now.posted) }
+        requires { self.now.poked < self.now.lent }
+        ensures { result ≡ asking (segment_at self.now self.now.poked) }
     {
-        let block = self.blocks[usize::from(self.posted)];
-        let len = newest_length(&self.accepted);
+        let Piece {
+            block,
+            len,
+            whole,
+            last,
+        } = self.pieces[usize::from(self.poked)];
         of_halves(
             2048 * u64::from(block),
-            data_descriptor_word(len, true, u32::from(len)),
+            data_descriptor_word(len, last, u32::from(whole)),
         )
     }
 
     /// Keeps that the descriptor is written.
-    #[tactic(auto, using(crate::proofs::Outstanding::outstanding))]
     fn keep_asked(&mut self)
-        requires { self.old.posted < length self.old.outstanding }
+        requires { self.old.poked < self.old.lent }
         ensures { self.new ≡ asked self.old }
     {
-        self.poked = true;
+        self.poked += 1;
     }
 
-    /// Moves the tail on, so that the device has the packet whose descriptor is written.
+    /// Moves the tail on, so that the device has all segments.
     ///
     /// `DeviceFault` where the port has no such register.
     pub(crate) fn advance<N: Nic>(&mut self, alloc: Global, nic: &mut N) -> Result<(), PmdFault>
-        requires { self.old.poked ≡ true }
-        ensures plays { (block : ℕ) → PlaysWith block (N.made nic.old) self.old (N.made nic.new) self.new }
+        requires all { self.old.poked ≡ length self.old.outstanding }
+        requires some { self.old.posted < self.old.poked }
+        ensures plays { (blocks : List ℕ) → PlaysWith blocks (N.made nic.old) self.old (N.made nic.new) self.new }
         ensures advanced { OnOk result (self.new ≡ advanced self.old) }
         ensures kept { OnErr result (self.new ≡ self.old) }
         ensures late { IfErr result (λ fault. IsLate fault) }
-        ensures faults { (block : ℕ) → IfErr result (λ fault.
-            FaultsBy fault block (N.made nic.old) self.old (N.made nic.new)) }
+        ensures faults { (blocks : List ℕ) → IfErr result (λ fault.
+            FaultsBy fault blocks (N.made nic.old) self.old (N.made nic.new)) }
         ensures who { N.who nic.new ≡ N.who nic.old }
         ensures refuses { N.refuses nic.new ≡ N.refuses nic.old }
         ensures refusal { IfErr result (λ f. CanFail (N.refuses nic.new) f) }
@@ -394,12 +499,12 @@ impl TransmitRing {
         }
     }
 
-    /// The tail once it has passed the packet that waits.
+    /// The tail once it has passed the segments whose descriptors are written.
+    #[tactic(auto, using(crate::proofs::Outstanding::outstanding))]
     fn next_tail(&self) -> u32
-        requires { self.now.poked ≡ true }
-        ensures { result ≡ slot_at self.now.layout (self.now.posted + 1) }
+        ensures { result ≡ slot_at self.now.layout self.now.poked }
     {
-        u32::from(self.slot(self.posted + 1))
+        u32::from(self.slot(self.poked))
     }
 
     /// Writes the tail's register. Answers whether the port has one.
@@ -419,59 +524,68 @@ impl TransmitRing {
         write(alloc, nic, self.port, self.tail, word)
     }
 
-    /// Keeps that the tail has passed the packet.
+    /// Keeps that the tail has passed them.
     fn keep_advanced(&mut self)
-        requires { self.old.poked ≡ true }
         ensures { self.new ≡ advanced self.old }
     {
-        self.posted += 1;
-        self.poked = false;
+        self.posted = self.poked;
     }
 }
 
 impl TransmitRing {
-    /// Looks at the oldest packet. Answers whether it was sent.
+    /// Looks at the end of the oldest packet. Answers whether it was sent.
     ///
     /// `DeviceFault` where the ring isn't lent any more.
     pub(crate) fn look<N: Nic>(&mut self, alloc: Global, nic: &mut N) -> Result<bool, PmdFault>
-        requires { 0 < self.old.posted }
-        ensures plays { (block : ℕ) → PlaysWith block (N.made nic.old) self.old (N.made nic.new) self.new }
-        ensures seen { IfOk result (λ sent. self.new ≡ record self.old { seen = sent }) }
+        requires some { 0 < length self.old.outstanding }
+        requires settled { self.old.posted ≡ length self.old.outstanding }
+        ensures plays { (blocks : List ℕ) → PlaysWith blocks (N.made nic.old) self.old (N.made nic.new) self.new }
+        ensures seen { IfOk result (λ sent.
+            self.new ≡ record self.old { done = if sent then first_end self.old.outstanding + 1 else 0 }) }
         ensures waits { result ≡ Ok false → LooksLast (N.made nic.old) self.old (N.made nic.new) self.new }
         ensures kept { OnErr result (self.new ≡ self.old) }
         ensures late { IfErr result (λ fault. IsLate fault) }
-        ensures faults { (block : ℕ) → IfErr result (λ fault.
-            FaultsBy fault block (N.made nic.old) self.old (N.made nic.new)) }
+        ensures faults { (blocks : List ℕ) → IfErr result (λ fault.
+            FaultsBy fault blocks (N.made nic.old) self.old (N.made nic.new)) }
         ensures who { N.who nic.new ≡ N.who nic.old }
         ensures refuses { N.refuses nic.new ≡ N.refuses nic.old }
         ensures refusal { IfErr result (λ f. CanFail (N.refuses nic.new) f) }
     {
-        let address = self.oldest_descriptor();
+        let end = self.oldest_end();
+        let address = self.descriptor(end);
         match peek(alloc, nic, address) {
-            Ok(Some(bytes)) => Ok(self.see(&bytes)),
+            Ok(Some(bytes)) => Ok(self.see(end, &bytes)),
             Ok(None) => Err(PmdFault::DeviceFault),
             Err(fault) => Err(PmdFault::Call(fault)),
         }
     }
 
-    /// The bus address of the oldest packet's descriptor.
-    fn oldest_descriptor(&self) -> u32
-        ensures { result ≡ descriptor_at self.now.layout 0 }
+    /// The number of the oldest packet's last segment.
+    #[tactic(auto, using(crate::proofs::Outstanding::outstanding))]
+    fn oldest_end(&self) -> u16
+        requires { 0 < length self.now.outstanding }
+        ensures end { result ≡ first_end self.now.outstanding }
+        ensures below { result < length self.now.outstanding }
+        ensures slot { result ≤ self.now.layout.size }
+        ensures small { result < 1024 }
     {
-        self.descriptor(0)
+        first_last(&self.pieces)
     }
 
-    /// Keeps whether the oldest packet was sent, by its descriptor.
-    fn see(&mut self, bytes: &[u8; 16]) -> bool
-        requires { 0 < self.old.posted }
+    /// Keeps whether the oldest packet was sent, by the descriptor of its last segment.
+    fn see(&mut self, end: u16, bytes: &[u8; 16]) -> bool
+        requires end { end ≡ first_end self.old.outstanding }
+        requires posted { end < self.old.posted }
+        requires small { end < 1024 }
         ensures looked { self.new ≡ looked self.old bytes.now }
         ensures sent { result ≡ is_sent bytes.now }
     {
-        self.seen = is_sent(second_half(bytes));
-        self.seen
+        let sent = is_sent(second_half(bytes));
+        self.done = if sent { end + 1 } else { 0 };
+        sent
     }
 
-    /// Takes the block of the oldest packet, which was seen to be sent. It is outstanding no more.
+    /// Takes the block of the oldest segment, which was seen to be done. It is outstanding no more.
     ///
     /// `DeviceFault` where the block isn't lent any more.
     pub(crate) fn take_oldest<N: Nic>(
@@ -479,15 +593,15 @@ impl TransmitRing {
         alloc: Global,
         nic: &mut N,
     ) -> Result<Buf, PmdFault>
-        requires { self.old.seen ≡ true }
-        ensures plays { (block : ℕ) → PlaysWith block (N.made nic.old) self.old (N.made nic.new) self.new }
+        requires { 0 < self.old.done }
+        ensures plays { (blocks : List ℕ) → PlaysWith blocks (N.made nic.old) self.old (N.made nic.new) self.new }
         ensures reaped { OnOk result (self.new ≡ reaped self.old) }
-        ensures block { IfOk result (λ buf. buf.number ≡ (packet_at self.old 0).block) }
+        ensures block { IfOk result (λ buf. buf.number ≡ (segment_at self.old 0).block) }
         ensures some { 0 < length self.old.outstanding }
         ensures kept { OnErr result (self.new ≡ self.old) }
         ensures late { IfErr result (λ fault. IsLate fault) }
-        ensures faults { (block : ℕ) → IfErr result (λ fault.
-            FaultsBy fault block (N.made nic.old) self.old (N.made nic.new)) }
+        ensures faults { (blocks : List ℕ) → IfErr result (λ fault.
+            FaultsBy fault blocks (N.made nic.old) self.old (N.made nic.new)) }
         ensures who { N.who nic.new ≡ N.who nic.old }
         ensures refuses { N.refuses nic.new ≡ N.refuses nic.old }
         ensures refusal { IfErr result (λ f. CanFail (N.refuses nic.new) f) }
@@ -503,30 +617,32 @@ impl TransmitRing {
         }
     }
 
-    /// The block of the oldest packet, which was seen to be sent.
+    /// The block of the oldest segment, which was seen to be done.
     #[tactic(auto, using(crate::proofs::Outstanding::outstanding))]
     fn oldest_block(&self) -> u32
-        requires { self.now.seen ≡ true }
-        ensures block { result ≡ (packet_at self.now 0).block }
+        requires { 0 < self.now.done }
+        ensures block { result ≡ (segment_at self.now 0).block }
         ensures some { 0 < length self.now.outstanding }
     {
-        self.blocks[0]
+        self.pieces[0].block
     }
 
-    /// Keeps that the oldest packet is outstanding no more.
+    /// Keeps that the oldest segment is outstanding no more.
     #[tactic(auto, using(crate::proofs::Outstanding::outstanding))]
     fn keep_reaped(&mut self)
-        requires { self.old.seen ≡ true }
+        requires { 0 < self.old.done }
         ensures { self.new ≡ reaped self.old }
     {
         self.next = self.following();
-        let _reaped = self.blocks.pop_front();
+        let _reaped = self.pieces.pop_front();
+        self.lent -= 1;
+        self.poked -= 1;
         self.posted -= 1;
-        self.seen = false;
+        self.done -= 1;
     }
 }
 
-/// The blocks of packets, and then those of a ring. There is room for them.
+/// Blocks, and then those of a ring. There is room for them.
 fn with_ring(blocks: VecDeque<u32>, ring: u32, size: u16) -> VecDeque<u32>
     requires few { size ≤ 1024 }
     requires ring { ring + blocks_for size ≤ 65536 }
@@ -541,20 +657,37 @@ fn with_ring(blocks: VecDeque<u32>, ring: u32, size: u16) -> VecDeque<u32>
     lent
 }
 
-/// Whether a block of this number is among these.
-fn holds(blocks: &VecDeque<u32>, block: u32) -> bool
-    ensures { result ≡ list_any (λ lent. block == lent) blocks.now.items }
+/// The bytes of a part of the newest packet, with which so many parts are left.
+fn newest_part(accepted: &[Record], left: usize) -> &[u8]
+    requires some { 0 < left }
+    requires few { left ≤ newest_parts accepted.now }
+    requires short { All (λ (kept : Kept). length kept.bytes ≤ 10240) accepted.now }
+    ensures { result.now ≡ newest_part accepted.now left }
 {
-    blocks.iter().any(|lent| block == *lent)
+    let bytes = accepted[accepted.len() - 1].bytes();
+    let start = 2048 * ((bytes.len() + 2047) / 2048 - left);
+    let rest = &bytes[start..];
+    &rest[..rest.len().min(2048)]
 }
 
-/// How many bytes the newest packet has.
-fn newest_length(accepted: &[Record]) -> u16
-    requires some { 0 < length accepted.now }
-    requires short { All (λ (kept : Kept). length kept.bytes ≤ 1514) accepted.now }
-    ensures value { result ≡ length (slice_index_or accepted.now (length accepted.now - 1) no_packet.kept).bytes }
-    ensures small { result ≤ 1514 }
+/// Whether a block of this number is that of one of these.
+fn holds(pieces: &VecDeque<Piece>, block: u32) -> bool
+    ensures { result ≡ list_any (λ piece. block == piece.block) pieces.now.items }
 {
-    let newest = &accepted[accepted.len() - 1];
-    newest.bytes().len() as u16
+    pieces.iter().any(|piece| block == piece.block)
+}
+
+/// The blocks of the first pieces, so many, behind these. There is room for them.
+fn with_pieces(blocks: VecDeque<u32>, pieces: &VecDeque<Piece>, count: u16) -> VecDeque<u32>
+    requires some { count ≤ length pieces.now.items }
+    requires room { deque_len blocks + count ≤ deque_capacity blocks }
+    ensures items { result.items ≡ blocks.items ++ take count (places_of pieces.now.items) }
+    ensures len { deque_len result ≡ deque_len blocks + count }
+    ensures capacity { deque_capacity result ≡ deque_capacity blocks }
+{
+    let mut lent = blocks;
+    for number in 0..usize::from(count) {
+        lent.push_back_reserved(pieces[number].block);
+    }
+    lent
 }

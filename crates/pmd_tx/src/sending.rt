@@ -1,59 +1,112 @@
-//! How a packet is sent: its block is lent, its descriptor written, and the tail moved on.
+//! How a packet is sent: its blocks are lent and its descriptors written, and the tail is moved on.
 
-ghost use Rattle.std.specs.Prelude.{◌≡◌, ◌<◌, ◌+◌, ℕ, None, length, IfOk, IfErr, OnOk, OnErr, IfSome, IfNone};
-ghost use Rattle.pmd_tx.specs.Plays.{PlaysWith, FaultsBy};
-ghost use Rattle.pmd_tx.specs.Sending.{accepted_by};
-ghost use Rattle.pmd_tx.specs.Sends.{gate_of, goes_home, outgoing_of, returned, IsAnswer, IsFullWhereTold, IsShut, IsTried, IsAccepted, IsNoneAccepted, IsBack, IsLate};
-ghost use Rattle.pmd_tx.specs.Shown.{MaySend};
+ghost use Rattle.std.specs.Prelude.{◌≡◌, ◌==◌, ◌&&◌, not, ◌<◌, ◌≤◌, ◌+◌, ℕ, List, None, All, drop, length, IfOk, IfErr, OnOk, OnErr, IfSome, IfNone};
+ghost use Rattle.std.specs.List.{list_any};
+ghost use Rattle.nic_device.specs.DmaArena.Block.{IsBlock};
+ghost use Rattle.nic_device.specs.DmaArena.Numbers.{is_own, is_free};
+ghost use Rattle.pmd_seam.specs.Bufs.{numbers_of};
+ghost use Rattle.pmd_seam.specs.Home.{AreOut};
 ghost use Rattle.pmd_seam.specs.Refusals.{CanFail};
+ghost use Rattle.pmd_tx.specs.Plays.{PlaysWith, FaultsBy};
+ghost use Rattle.pmd_tx.specs.Sending.{accepted_by, keeps, parts_for};
+ghost use Rattle.pmd_tx.specs.Sends.{are_out, gate_of, goes_home, outgoing_of, returned, IsAnswer, IsFullWhereTold, IsShut, IsTried, IsAccepted, IsNoneAccepted, IsBack, IsLate, SendsHome};
+ghost use Rattle.pmd_tx.specs.Shown.{MaySend};
 
 use crate::answer::{Gate, TxAnswer, TxFault};
-use crate::padding::{pad, start_of, unpad};
-use crate::ring::{Stage, TransmitRing};
+use crate::padding::{bytes_in, pad, start_of, unpad};
+use crate::piece::parts_for;
+use crate::ring::TransmitRing;
 use nic_device::Arena;
-use pmd_seam::{Nic, Packet, PmdFault};
+use pmd_seam::{Bufs, Nic, Packet, PmdFault, give_bufs};
 use std::alloc::Global;
 
-/// How many bytes a packet has at most.
-const LONGEST: u16 = 1514;
+/// Whether Bufs can go home to the arena: their numbers are the arena's, aren't free there, and no two are alike.
+pub fn are_out(arena: &Arena, bufs: &Bufs) -> bool
+    ensures { result ≡ are_out arena.now (numbers_of bufs.now) }
+{
+    for number in 0..bufs.count() {
+        let block = bufs.get(number).block();
+        if !is_out(arena, bufs, number, block) {
+            return false;
+        }
+    }
+    true
+}
+
+/// Whether a block can go home, and no Buf behind this one has its number.
+fn is_out(arena: &Arena, bufs: &Bufs, number: usize, block: u32) -> bool
+    requires { number < length bufs.now }
+    ensures { result ≡ (is_own arena.now block && not (is_free arena.now block)
+        && not (list_any (λ b. block == b) (drop (number + 1) (numbers_of bufs.now)))) }
+{
+    arena.owns(block) && !arena.is_free(block) && !comes_again(bufs, number, block)
+}
+
+/// Whether a Buf behind the one of this number has this block's number.
+fn comes_again(bufs: &Bufs, number: usize, block: u32) -> bool
+    requires { number < length bufs.now }
+    ensures { result ≡ list_any (λ b. block == b) (drop (number + 1) (numbers_of bufs.now)) }
+{
+    let count = bufs.count();
+    for later in number + 1..count {
+        if bufs.get(later).block() == block {
+            return true;
+        }
+    }
+    false
+}
 
 impl TransmitRing {
-    /// Whether a block can go home to the arena: its number is one of the arena's, isn't free there, and isn't lent
-    /// for this ring.
-    pub fn goes_home(&self, arena: &Arena, block: u32) -> bool
-        ensures { result ≡ goes_home self.now arena.now block }
+    /// Whether the blocks of a packet can go home to the arena, and none of them is kept for this ring.
+    pub fn goes_home(&self, arena: &Arena, packet: &Packet) -> bool
+        ensures { result ≡ goes_home self.now arena.now packet.now }
     {
-        arena.owns(block) && !arena.is_free(block) && !self.has_lent(block)
+        are_out(arena, &packet.bufs) && !self.keeps_one(&packet.bufs)
     }
 
-    /// Sends a packet of 1 to 1,514 bytes, which is padded with zero bytes to 60: lends its block, writes its
-    /// descriptor and moves the tail on. First it goes on with the packet that waits since an earlier call, where one
-    /// does. `elsewhere` says whether another ring of the driver has a block of its number lent.
+    /// Whether one of these blocks is kept for the ring.
+    pub fn keeps_one(&self, bufs: &Bufs) -> bool
+        ensures { result ≡ list_any (λ n. keeps self.now n) (numbers_of bufs.now) }
+    {
+        for number in 0..bufs.count() {
+            if self.keeps(bufs.get(number).block()) {
+                return true;
+            }
+        }
+        false
+    }
+
+    /// Sends a packet of 1 byte to the limit, which is padded with zero bytes to 60: for each of its parts it lends the
+    /// block and writes the descriptor, and then it moves the tail on. First it goes on with the packet that waits since
+    /// an earlier call, where one does. `elsewhere` says whether another ring of the driver has a block of one of its
+    /// numbers lent.
     ///
-    /// Before any event: `BadSize` where its length is another, `ForeignBlock` where its block can't go home or is lent
-    /// elsewhere, and `RingFull` where as many packets are outstanding as the ring has slots but one. Then
-    /// `DeviceFault` where the device answers what it can't on a healthy queue, and `Call` where a call was refused, or
-    /// there was no memory for the record. The packet comes back where its block wasn't lent yet; else it is accepted,
-    /// and the next call goes on with it.
+    /// Before any event: `BadSize` where its length is another, or above that of its blocks, `ForeignBlock` where its
+    /// blocks can't go home or one is lent elsewhere, and `RingFull` where the outstanding segments and this packet's
+    /// are above the ring's slots but one. Then `DeviceFault` where the device answers what it can't on a healthy queue,
+    /// and `Call` where a call was refused, or there was no memory for the record. The packet comes back where none of
+    /// its blocks was lent yet; else it is accepted, and the next call goes on with it. Blocks that hold none of the
+    /// bytes of an accepted packet go home.
     pub fn send<N: Nic>(
         &mut self,
         alloc: Global,
         nic: &mut N,
-        arena: &Arena,
+        arena: &mut Arena,
         elsewhere: bool,
         packet: Packet,
     ) -> Result<TxAnswer, TxFault>
-        ensures plays { PlaysWith packet.buf.number (N.made nic.old) self.old (N.made nic.new) self.new }
-        ensures answer { IsAnswer (gate_of self.old arena.now elsewhere packet) packet result }
-        ensures full { IsFullWhereTold self.old result }
-        ensures shut { IsShut (gate_of self.old arena.now elsewhere packet)
+        ensures plays { PlaysWith (outgoing_of packet).blocks (N.made nic.old) self.old (N.made nic.new) self.new }
+        ensures answer { IsAnswer (gate_of self.old arena.old elsewhere packet) packet result }
+        ensures full { IsFullWhereTold self.old packet result }
+        ensures shut { IsShut (gate_of self.old arena.old elsewhere packet)
             → (N.made nic.new ≡ N.made nic.old) × (self.new ≡ self.old) }
         ensures accepted { IfNone (returned result) (IsAccepted self.old packet self.new) }
         ensures kept { IfSome (returned result) (λ back. IsNoneAccepted self.old self.new) }
+        ensures home { SendsHome (returned result) packet arena.old arena.new }
         ensures back { IfErr result (λ failed. IfSome failed.packet (λ back. IsBack failed.fault packet back)) }
         ensures settled { result ≡ Ok TxAnswer.Taken → self.new.posted ≡ length self.new.outstanding }
         ensures faults { IfErr result (λ failed.
-            FaultsBy failed.fault packet.buf.number (N.made nic.old) self.old (N.made nic.new)) }
+            FaultsBy failed.fault (outgoing_of packet).blocks (N.made nic.old) self.old (N.made nic.new)) }
         ensures layout { self.new.layout ≡ self.old.layout }
         ensures who { N.who nic.new ≡ N.who nic.old }
         ensures refuses { N.refuses nic.new ≡ N.refuses nic.old }
@@ -65,22 +118,25 @@ impl TransmitRing {
                 packet: Some(packet),
             }),
             Gate::Full => Ok(TxAnswer::RingFull(packet)),
-            Gate::Open => self.send_through(alloc, nic, packet),
+            Gate::Open => self.send_through(alloc, nic, arena, packet),
         }
     }
 
     /// What the packet meets before any event.
     fn gate(&self, arena: &Arena, elsewhere: bool, packet: &Packet) -> Gate
         ensures told { result ≡ gate_of self.now arena.now elsewhere packet.now }
-        ensures full { result ≡ Gate.Full → length self.now.outstanding + 1 ≡ self.now.layout.size }
+        ensures full { result ≡ Gate.Full
+            → self.now.layout.size ≤ length self.now.outstanding + parts_for packet.now.len }
+        ensures whole { All (λ b. IsBlock b) packet.now.bufs }
     {
-        if packet.len == 0 || packet.len > LONGEST {
+        let room = bytes_in(&packet.bufs);
+        if packet.len == 0 || packet.len > self.limit() || usize::from(packet.len) > room {
             return Gate::Refused(PmdFault::BadSize);
         }
-        if elsewhere || !self.goes_home(arena, packet.buf.block()) {
+        if elsewhere || !self.goes_home(arena, packet) {
             return Gate::Refused(PmdFault::ForeignBlock);
         }
-        if self.is_full() {
+        if self.is_full(parts_for(packet.len)) {
             return Gate::Full;
         }
         Gate::Open
@@ -91,24 +147,27 @@ impl TransmitRing {
         &mut self,
         alloc: Global,
         nic: &mut N,
+        arena: &mut Arena,
         packet: Packet,
     ) -> Result<TxAnswer, TxFault>
-        requires { MaySend self.old packet }
-        ensures plays { PlaysWith packet.buf.number (N.made nic.old) self.old (N.made nic.new) self.new }
+        requires may { MaySend self.old packet }
+        requires home { AreOut arena.old (numbers_of packet.bufs) }
+        ensures plays { PlaysWith (outgoing_of packet).blocks (N.made nic.old) self.old (N.made nic.new) self.new }
         ensures tried { IsTried result }
         ensures accepted { IfNone (returned result) (IsAccepted self.old packet self.new) }
         ensures kept { IfSome (returned result) (λ back. IsNoneAccepted self.old self.new) }
+        ensures home { SendsHome (returned result) packet arena.old arena.new }
         ensures back { IfErr result (λ failed. IfSome failed.packet (λ back. IsBack failed.fault packet back)) }
         ensures settled { result ≡ Ok TxAnswer.Taken → self.new.posted ≡ length self.new.outstanding }
         ensures faults { IfErr result (λ failed.
-            FaultsBy failed.fault packet.buf.number (N.made nic.old) self.old (N.made nic.new)) }
+            FaultsBy failed.fault (outgoing_of packet).blocks (N.made nic.old) self.old (N.made nic.new)) }
         ensures layout { self.new.layout ≡ self.old.layout }
         ensures who { N.who nic.new ≡ N.who nic.old }
         ensures refuses { N.refuses nic.new ≡ N.refuses nic.old }
         ensures refusal { IfErr result (λ failed. CanFail (N.refuses nic.new) failed.fault) }
     {
         match self.post_waiting(alloc, nic) {
-            Ok(()) => self.accept_and_post(alloc, nic, packet),
+            Ok(()) => self.accept_and_post(alloc, nic, arena, packet),
             Err(fault) => Err(TxFault {
                 fault,
                 packet: Some(packet),
@@ -121,25 +180,32 @@ impl TransmitRing {
         &mut self,
         alloc: Global,
         nic: &mut N,
+        arena: &mut Arena,
         packet: Packet,
     ) -> Result<TxAnswer, TxFault>
         requires may { MaySend self.old packet }
+        requires lent { self.old.lent ≡ length self.old.outstanding }
         requires settled { self.old.posted ≡ length self.old.outstanding }
-        ensures plays { PlaysWith packet.buf.number (N.made nic.old) self.old (N.made nic.new) self.new }
+        requires home { AreOut arena.old (numbers_of packet.bufs) }
+        ensures plays { PlaysWith (outgoing_of packet).blocks (N.made nic.old) self.old (N.made nic.new) self.new }
         ensures tried { IsTried result }
         ensures accepted { IfNone (returned result) (IsAccepted self.old packet self.new) }
         ensures kept { IfSome (returned result) (λ back. IsNoneAccepted self.old self.new) }
+        ensures home { SendsHome (returned result) packet arena.old arena.new }
         ensures back { IfErr result (λ failed. IfSome failed.packet (λ back. IsBack failed.fault packet back)) }
         ensures settled { result ≡ Ok TxAnswer.Taken → self.new.posted ≡ length self.new.outstanding }
         ensures faults { IfErr result (λ failed.
-            FaultsBy failed.fault packet.buf.number (N.made nic.old) self.old (N.made nic.new)) }
+            FaultsBy failed.fault (outgoing_of packet).blocks (N.made nic.old) self.old (N.made nic.new)) }
         ensures layout { self.new.layout ≡ self.old.layout }
         ensures who { N.who nic.new ≡ N.who nic.old }
         ensures refuses { N.refuses nic.new ≡ N.refuses nic.old }
         ensures refusal { IfErr result (λ failed. CanFail (N.refuses nic.new) failed.fault) }
     {
         match self.accept_padded(alloc, nic, packet) {
-            Ok(()) => self.post_accepted(alloc, nic),
+            Ok(rest) => {
+                give_bufs(arena, rest);
+                self.post_accepted(alloc, nic)
+            }
             Err((fault, packet)) => Err(TxFault {
                 fault,
                 packet: Some(packet),
@@ -149,14 +215,14 @@ impl TransmitRing {
 
     /// Goes on with the packet that was just accepted.
     fn post_accepted<N: Nic>(&mut self, alloc: Global, nic: &mut N) -> Result<TxAnswer, TxFault>
-        ensures plays { (block : ℕ) → PlaysWith block (N.made nic.old) self.old (N.made nic.new) self.new }
+        ensures plays { (blocks : List ℕ) → PlaysWith blocks (N.made nic.old) self.old (N.made nic.new) self.new }
         ensures tried { IsTried result }
         ensures kept { IsNoneAccepted self.old self.new }
         ensures none { returned result ≡ None }
         ensures taken { IfErr result (λ failed. failed.packet ≡ None) }
         ensures settled { result ≡ Ok TxAnswer.Taken → self.new.posted ≡ length self.new.outstanding }
-        ensures faults { (block : ℕ) → IfErr result (λ failed.
-            FaultsBy failed.fault block (N.made nic.old) self.old (N.made nic.new)) }
+        ensures faults { (blocks : List ℕ) → IfErr result (λ failed.
+            FaultsBy failed.fault blocks (N.made nic.old) self.old (N.made nic.new)) }
         ensures layout { self.new.layout ≡ self.old.layout }
         ensures who { N.who nic.new ≡ N.who nic.old }
         ensures refuses { N.refuses nic.new ≡ N.refuses nic.old }
@@ -171,81 +237,127 @@ impl TransmitRing {
         }
     }
 
-    /// Pads a packet and lends its block. It comes back as it was where it can't be lent.
+    /// Pads a packet and lends its first block. Gives the Bufs that hold none of its bytes. It comes back as it was
+    /// where that can't be lent.
     fn accept_padded<N: Nic>(
         &mut self,
         alloc: Global,
         nic: &mut N,
-        mut packet: Packet,
-    ) -> Result<(), (PmdFault, Packet)>
+        packet: Packet,
+    ) -> Result<Bufs, (PmdFault, Packet)>
         requires may { MaySend self.old packet }
+        requires lent { self.old.lent ≡ length self.old.outstanding }
         requires settled { self.old.posted ≡ length self.old.outstanding }
-        ensures plays { PlaysWith packet.buf.number (N.made nic.old) self.old (N.made nic.new) self.new }
+        ensures plays { PlaysWith (outgoing_of packet).blocks (N.made nic.old) self.old (N.made nic.new) self.new }
         ensures accepted { OnOk result (self.new ≡ accepted_by self.old (outgoing_of packet)) }
+        ensures rest { IfOk result (λ rest. numbers_of rest ≡ drop (parts_for packet.len) (numbers_of packet.bufs)) }
         ensures kept { OnErr result (self.new ≡ self.old) }
         ensures back { IfErr result (λ refused. IsBack refused.0 packet refused.1) }
         ensures late { IfErr result (λ refused. IsLate refused.0) }
         ensures faults { IfErr result (λ refused.
-            FaultsBy refused.0 packet.buf.number (N.made nic.old) self.old (N.made nic.new)) }
+            FaultsBy refused.0 (outgoing_of packet).blocks (N.made nic.old) self.old (N.made nic.new)) }
         ensures who { N.who nic.new ≡ N.who nic.old }
         ensures refuses { N.refuses nic.new ≡ N.refuses nic.old }
         ensures refusal { IfErr result (λ refused. CanFail (N.refuses nic.new) refused.0) }
     {
+        let _least = self.limit();
         let start = start_of(&packet);
         let len = packet.len;
-        pad(&mut packet);
-        match self.accept(alloc, nic, packet) {
-            Ok(()) => Ok(()),
-            Err((fault, mut packet)) => {
-                unpad(&mut packet, len, &start);
-                Err((fault, packet))
-            }
+        match self.accept(alloc, nic, pad(packet)) {
+            Ok(rest) => Ok(rest),
+            Err((fault, packet)) => Err((fault, unpad(packet, len, &start))),
         }
     }
 }
 
 impl TransmitRing {
-    /// Goes on with the packet that was accepted and that the tail hasn't passed, where there is one.
+    /// Goes on with the packet that was accepted and that the tail hasn't passed, where there is one: lends the blocks
+    /// and writes the descriptors that are left, and moves the tail on.
     pub(crate) fn post_waiting<N: Nic>(
         &mut self,
         alloc: Global,
         nic: &mut N,
     ) -> Result<(), PmdFault>
-        ensures plays { (block : ℕ) → PlaysWith block (N.made nic.old) self.old (N.made nic.new) self.new }
+        ensures plays { (blocks : List ℕ) → PlaysWith blocks (N.made nic.old) self.old (N.made nic.new) self.new }
+        ensures lent { OnOk result (self.new.lent ≡ length self.new.outstanding) }
         ensures settled { OnOk result (self.new.posted ≡ length self.new.outstanding) }
         ensures kept { IsNoneAccepted self.old self.new }
         ensures layout { self.new.layout ≡ self.old.layout }
         ensures late { IfErr result (λ fault. IsLate fault) }
-        ensures faults { (block : ℕ) → IfErr result (λ fault.
-            FaultsBy fault block (N.made nic.old) self.old (N.made nic.new)) }
+        ensures faults { (blocks : List ℕ) → IfErr result (λ fault.
+            FaultsBy fault blocks (N.made nic.old) self.old (N.made nic.new)) }
         ensures who { N.who nic.new ≡ N.who nic.old }
         ensures refuses { N.refuses nic.new ≡ N.refuses nic.old }
         ensures refusal { IfErr result (λ f. CanFail (N.refuses nic.new) f) }
     {
-        match self.stage() {
-            Stage::Settled => Ok(()),
-            Stage::Lent => self.ask_and_advance(alloc, nic),
-            Stage::Asked => self.advance(alloc, nic),
+        for _asked in self.asked()..self.count() {
+            match self.ask_next(alloc, nic) {
+                Ok(()) => {}
+                Err(fault) => return Err(fault),
+            }
         }
+        self.post(alloc, nic)
     }
 
-    /// Writes the descriptor of the packet that waits, and moves the tail on.
-    fn ask_and_advance<N: Nic>(&mut self, alloc: Global, nic: &mut N) -> Result<(), PmdFault>
-        requires { self.old.posted < length self.old.outstanding }
-        ensures plays { (block : ℕ) → PlaysWith block (N.made nic.old) self.old (N.made nic.new) self.new }
-        ensures settled { OnOk result (self.new.posted ≡ self.old.posted + 1) }
+    /// Lends the block of the next segment, where it isn't lent yet, and writes the segment's descriptor.
+    fn ask_next<N: Nic>(&mut self, alloc: Global, nic: &mut N) -> Result<(), PmdFault>
+        requires { self.old.poked < length self.old.outstanding }
+        ensures plays { (blocks : List ℕ) → PlaysWith blocks (N.made nic.old) self.old (N.made nic.new) self.new }
+        ensures asked { OnOk result (self.new.poked ≡ self.old.poked + 1) }
         ensures kept { IsNoneAccepted self.old self.new }
         ensures layout { self.new.layout ≡ self.old.layout }
         ensures late { IfErr result (λ fault. IsLate fault) }
-        ensures faults { (block : ℕ) → IfErr result (λ fault.
-            FaultsBy fault block (N.made nic.old) self.old (N.made nic.new)) }
+        ensures faults { (blocks : List ℕ) → IfErr result (λ fault.
+            FaultsBy fault blocks (N.made nic.old) self.old (N.made nic.new)) }
         ensures who { N.who nic.new ≡ N.who nic.old }
         ensures refuses { N.refuses nic.new ≡ N.refuses nic.old }
         ensures refusal { IfErr result (λ f. CanFail (N.refuses nic.new) f) }
     {
-        match self.ask(alloc, nic) {
-            Ok(()) => self.advance(alloc, nic),
+        match self.lend_waiting(alloc, nic) {
+            Ok(()) => self.ask(alloc, nic),
             Err(fault) => Err(fault),
         }
+    }
+
+    /// Lends the block of the next segment, where it isn't lent yet.
+    fn lend_waiting<N: Nic>(&mut self, alloc: Global, nic: &mut N) -> Result<(), PmdFault>
+        requires { self.old.poked < length self.old.outstanding }
+        ensures plays { (blocks : List ℕ) → PlaysWith blocks (N.made nic.old) self.old (N.made nic.new) self.new }
+        ensures lent { OnOk result (self.new.poked < self.new.lent) }
+        ensures poked { self.new.poked ≡ self.old.poked }
+        ensures kept { IsNoneAccepted self.old self.new }
+        ensures layout { self.new.layout ≡ self.old.layout }
+        ensures late { IfErr result (λ fault. IsLate fault) }
+        ensures faults { (blocks : List ℕ) → IfErr result (λ fault.
+            FaultsBy fault blocks (N.made nic.old) self.old (N.made nic.new)) }
+        ensures who { N.who nic.new ≡ N.who nic.old }
+        ensures refuses { N.refuses nic.new ≡ N.refuses nic.old }
+        ensures refusal { IfErr result (λ f. CanFail (N.refuses nic.new) f) }
+    {
+        if self.is_next_lent() {
+            return Ok(());
+        }
+        self.lend_next(alloc, nic)
+    }
+
+    /// Moves the tail on, where it hasn't passed all segments.
+    fn post<N: Nic>(&mut self, alloc: Global, nic: &mut N) -> Result<(), PmdFault>
+        requires { self.old.poked ≡ length self.old.outstanding }
+        ensures plays { (blocks : List ℕ) → PlaysWith blocks (N.made nic.old) self.old (N.made nic.new) self.new }
+        ensures lent { OnOk result (self.new.lent ≡ length self.new.outstanding) }
+        ensures settled { OnOk result (self.new.posted ≡ length self.new.outstanding) }
+        ensures kept { IsNoneAccepted self.old self.new }
+        ensures layout { self.new.layout ≡ self.old.layout }
+        ensures late { IfErr result (λ fault. IsLate fault) }
+        ensures faults { (blocks : List ℕ) → IfErr result (λ fault.
+            FaultsBy fault blocks (N.made nic.old) self.old (N.made nic.new)) }
+        ensures who { N.who nic.new ≡ N.who nic.old }
+        ensures refuses { N.refuses nic.new ≡ N.refuses nic.old }
+        ensures refusal { IfErr result (λ f. CanFail (N.refuses nic.new) f) }
+    {
+        if self.is_settled() {
+            return Ok(());
+        }
+        self.advance(alloc, nic)
     }
 }

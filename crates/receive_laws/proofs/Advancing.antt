@@ -20,6 +20,7 @@ use Rattle.receive_laws.specs.Joint.{IsSetUp, StageHolds, HasSlots, Holds}
 use Rattle.receive_laws.specs.Pieces.{Piece}
 use Rattle.receive_laws.proofs.Filled.{Fills, stage_beside}
 use Rattle.receive_laws.proofs.Kept.{named_kept}
+use Rattle.receive_laws.proofs.Parts.{seen_longer}
 use Rattle.receive_laws.proofs.Receiving.{fills_here, head_on, slots_more}
 
 -- a side whose head moved on from the first slot that wasn't filled
@@ -61,11 +62,14 @@ module _ (queue : ℕ) (s : State) (out : List Piece) (v : Receive) (sound : IsS
             (sym taken.head ∙ head.0));
         slots = subst (λ m. HasSlots m l (here ++ p ∷ [])) (sym memory)
             (slots_more s.memory n l here p h.ring h.slots room fill);
-        stage = subst (λ m. StageHolds m l (here ++ p ∷ []) v.stage) (sym memory)
-            (stage_beside l h.ring s.memory n (length here) p room fill here p v.stage h.stage);
+        stage = subst (λ m. StageHolds m l v.stage) (sym memory)
+            (stage_beside l h.ring s.memory n (length here) p room fill v.stage h.stage);
         order = record {
-          ended = h.order.ended;
-          taken = h.order.taken;
+          cut = h.order.cut;
+          parts = h.order.parts;
+          full = h.order.full;
+          seen = seen_longer v.seen here p h.order.seen;
+          stage = h.order.stage;
           order = ap (λ xs. xs ++ p ∷ []) h.order.order ∙ append_assoc gone here (p ∷ []);
         };
       }

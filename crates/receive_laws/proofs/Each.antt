@@ -1,23 +1,25 @@
 -- Facts of each block that the driver has lent for receiving.
 use Rattle.std.proofs.Common.{ℕ, ◌+◌}
-use Rattle.pmd_rx.specs.Receive.{Stage, Looks, Sees, Holding, Lent, Named, Receive, block_at}
+use Rattle.pmd_rx.specs.Receive.{Receive, block_at}
+use Rattle.pmd_rx.specs.declared.ring.Stage.{Stage}
+use Rattle.pmd_rx.specs.declared.ring.Stage.TheVariants.{Looks, Takes, Owes, Lent, Named}
 use Rattle.receive_laws.specs.Steps.{Each, IfFresh}
 
 -- the blocks that the driver has lent
 
 fresh_map : (stage : Stage) (P Q : ℕ → Type 0) → ((b : ℕ) → P b → Q b) → IfFresh stage P → IfFresh stage Q
 fresh_map Looks P Q f h = tt
-fresh_map (Sees first second) P Q f h = tt
-fresh_map (Holding p) P Q f h = tt
-fresh_map (Lent o b) P Q f h = f b h
-fresh_map (Named o b) P Q f h = f b h
+fresh_map Takes P Q f h = tt
+fresh_map Owes P Q f h = tt
+fresh_map (Lent b) P Q f h = f b h
+fresh_map (Named b) P Q f h = f b h
 
 fresh_of : (stage : Stage) (P : ℕ → Type 0) → ((b : ℕ) → P b) → IfFresh stage P
 fresh_of Looks P f = tt
-fresh_of (Sees first second) P f = tt
-fresh_of (Holding p) P f = tt
-fresh_of (Lent o b) P f = f b
-fresh_of (Named o b) P f = f b
+fresh_of Takes P f = tt
+fresh_of Owes P f = tt
+fresh_of (Lent b) P f = f b
+fresh_of (Named b) P f = f b
 
 pub each_map : (v : Receive) (P Q : ℕ → Type 0) → ((b : ℕ) → P b → Q b) → Each v P → Each v Q
 each_map v P Q f e = record {

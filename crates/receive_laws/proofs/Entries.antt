@@ -1,5 +1,5 @@
 -- One entry of a history that leaves the driver's queue alone.
-use Rattle.std.proofs.Common.{◌≡◌, ◌≢◌, ℕ, ◌<◌, Bool, true, false, ◌&&◌, inl, inr, List, [], ◌++◌, refl, sym, ◌∙◌, subst, nat_lt}
+use Rattle.std.proofs.Common.{◌≡◌, ◌≢◌, ℕ, Bool, true, false, ◌&&◌, inl, inr, List, [], ◌++◌, refl, sym, ◌∙◌, subst, nat_lt}
 use Rattle.std.specs.Prelude.{◌==◌, IsTrue, IsFalse}
 use Rattle.std.proofs.lemmas.Bool.{and_from, eq-eqb, lt-ltb}
 use Rattle.std.proofs.lemmas.List.{append-nil}
@@ -21,7 +21,7 @@ use Rattle.device_lock.specs.declared.alone.Watched.{Watched}
 use Rattle.device_lock.specs.declared.entry.Entry.{Entry}
 use Rattle.pmd_rx.specs.PmdSeam.Events.{is_step}
 use Rattle.pmd_rx.specs.Plays.{OwnCall, after_call}
-use Rattle.pmd_rx.specs.Receive.{Receive, Layout, Stage, Looks, Sees, Holding, Lent, Named, IsOwn, LendsNext, drive}
+use Rattle.pmd_rx.specs.Receive.{Receive, IsOwn, drive}
 use Rattle.history_laws.proofs.Modes.{event_told}
 use Rattle.receive_laws.specs.Histories.{SparesReceive}
 use Rattle.receive_laws.specs.Joint.{Agree}
@@ -51,19 +51,12 @@ none_written queue s event.RxStep no_step = cc
 none_written queue s e no_step = refl
 
 -- the blocks that an entry of the pass lends are among these
-lends_low : (l : Layout) (stage : Stage) (b : Block) → LendsNext l stage b → b.number < 65536
-lends_low l Looks b may = may.low
-lends_low l (Holding p) b may = may.low
-lends_low l (Sees first second) b may = absurd may
-lends_low l (Lent o c) b may = absurd may
-lends_low l (Named o c) b may = absurd may
-
 lends_mine : (pass : ℕ) (mine : Blocks) (v : Receive) (own : ℕ) (e : Event Block) (r : Reply Block) → own ≡ pass
     → IsOwn v e
     → ((n : ℕ) → IsTrue (nat_lt n 65536 && ((own == pass) && lends e r n)) → IsTrue (mine n))
     → LendsMine mine e r
 lends_mine pass mine v own (event.Lend b) reply.Done same may all =
-    all b.number (and_from _ _ (lt-ltb b.number 65536 (lends_low v.layout v.stage b may))
+    all b.number (and_from _ _ (lt-ltb b.number 65536 may.may.low)
     (and_from _ _ (eq-eqb own pass same) (eq-eqb b.number b.number refl)))
 lends_mine pass mine v own e r same may all = tt
 
@@ -101,7 +94,7 @@ module _ (w : Watched) (mine : Blocks) (mode : Mode) (s : State) (out : List Pie
       (subst (λ r. Agree w.queue t (out ++ pieces w.queue s e.event) (drive v e.event r)) (sym legal)
       (own_keeps w.queue s out v e.event m.sound m.agree own))
       (own_stays_up w.queue s out v e.event m.sound m.agree own m.up)
-      (mine_driven mine v m.lent e.event e.reply
+      (mine_driven mine v m.lent e.event e.reply own
       (lends_mine w.pass mine v e.pass e.event e.reply same own covers))
 
   spared : SparesReceive w.queue v s e → OwnReportsSpare w.queue v s

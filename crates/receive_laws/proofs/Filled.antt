@@ -1,6 +1,6 @@
 -- What filling a slot does to memory: the slot gets a piece, and the others stay.
-use Rattle.std.proofs.Common.{◌≡◌, ◌≢◌, ℕ, ◌+◌, ◌*◌, ◌^◌, ◌<◌, ◌≤◌, true, false, List, [], ◌∷◌, ◌++◌, length, take, sym, ap, ◌∙◌, subst, arith, Ok}
-use Rattle.std.proofs.lemmas.List.{length-take-le, length_push, get_or_append_left}
+use Rattle.std.proofs.Common.{◌≡◌, ◌≢◌, ℕ, ◌+◌, ◌*◌, ◌^◌, ◌<◌, ◌≤◌, true, false, length, take, sym, ◌∙◌, subst, arith, Ok}
+use Rattle.std.proofs.lemmas.List.{length-take-le}
 use Rattle.nic_device.specs.DmaArena.Memory.{Memory, has_block, read_at, IsWhole, SameLent, AreApart}
 use Rattle.nic_device.specs.DmaRing.declared.ring.Ring.{Ring}
 use Rattle.nic_device.specs.DmaRing.Descriptor.{first_half, second_half}
@@ -12,9 +12,11 @@ use Rattle.nic_device.specs.RxRing.Laws.{TakesPiece}
 use Rattle.nic_device.proofs.RxRing.Fills.{takes_piece, driver_reads, writes_inside_slot, fill_keeps_blocks}
 use Rattle.history_laws.specs.Segments.{piece_in}
 use Rattle.pmd_rx.specs.PmdSeam.Slots.{is_ring_block}
-use Rattle.pmd_rx.specs.Receive.{Layout, Stage, Looks, Sees, Holding, Lent, Named, slot_at, descriptor_at, block_at, vacant}
+use Rattle.pmd_rx.specs.Receive.{Layout, slot_at, descriptor_at, block_at, vacant}
+use Rattle.pmd_rx.specs.declared.ring.Stage.{Stage}
+use Rattle.pmd_rx.specs.declared.ring.Stage.TheVariants.{Looks, Takes, Owes, Lent, Named}
 use Rattle.receive_laws.specs.Joint.{IsPosted, IsFilled, IsRing, StageHolds}
-use Rattle.receive_laws.specs.Pieces.{Piece, no_piece, piece_at}
+use Rattle.receive_laws.specs.Pieces.{Piece}
 use Rattle.receive_laws.proofs.Kept.{IsPosted-kept, IsFilled-kept, IsLoose-kept, slot_below}
 use Rattle.pmd_rx.proofs.PmdSeam.Places.{wrapped_apart}
 use Rattle.receive_laws.proofs.Places.{slots_apart, buffer_and_slot, slot_and_buffer, buffers_apart, less_apart}
@@ -93,21 +95,12 @@ module _ (l : Layout) (ring : IsRing l) (m n : Memory) (at : ℕ) (p : Piece) (r
       IsFilled-kept m n (descriptor_at l k) b q (other_slot k within ne)
       (other_bytes b (length q.bytes) not_ring apart h.short) (f.lent b) h
 
-  pub stage_beside : (here : List Piece) (q : Piece) (stage : Stage) → StageHolds m l here stage
-      → StageHolds n l (here ++ q ∷ []) stage
-  stage_beside here q Looks h = tt
-  stage_beside here q (Sees first second) h =
-      let some = h.some in
-      let same : piece_at (here ++ q ∷ []) 0 ≡ piece_at here 0 = get_or_append_left here (q ∷ []) no_piece 0 some in
-      record {
-        some = omega (arith, some, length_push here q);
-        first_is = h.first_is ∙ sym (ap (λ (x : Piece). x.first) same);
-        len_is = h.len_is ∙ sym (ap (λ (x : Piece). length x.bytes) same);
-        ended = ap (λ (x : Piece). x.end) same ∙ h.ended;
-      }
-  stage_beside here q (Holding o) h = tt
-  stage_beside here q (Lent o b) h = IsLoose-kept m n l b (f.lent b) h
-  stage_beside here q (Named o b) h = (
+  pub stage_beside : (stage : Stage) → StageHolds m l stage → StageHolds n l stage
+  stage_beside Looks h = tt
+  stage_beside Takes h = tt
+  stage_beside Owes h = tt
+  stage_beside (Lent b) h = IsLoose-kept m n l b (f.lent b) h
+  stage_beside (Named b) h = (
     IsLoose-kept m n l b (f.lent b) h.0,
     posted_beside (vacant l) b (omega arith) (λ e. absurd (omega (arith, room, e))) h.1,
   )

@@ -1,18 +1,21 @@
 -- Which blocks the driver has lent for receiving, after each of its calls.
-use Rattle.std.proofs.Common.{◌≡◌, ◌≢◌, ℕ, ◌<◌, ◌⊎◌, inl, inr, Bool, true, false, ◌||◌, ◌&&◌, List, [], ◌∷◌, ◌++◌, length, drop, refl, sym, ap, ◌∙◌, subst, arith, append_assoc, Option, Some, None}
+use Rattle.std.proofs.Common.{◌≡◌, ◌≢◌, ℕ, ◌<◌, ◌⊎◌, inl, inr, Bool, true, false, ◌||◌, ◌&&◌, List, [], ◌∷◌, ◌++◌, length, drop, refl, sym, ap, ◌∙◌, subst, arith, append_assoc, cond}
 use Rattle.std.specs.Prelude.{suc, ◌==◌, slice_index}
 use Rattle.std.specs.List.{list_any}
 use Rattle.std.proofs.lemmas.Bool.{or_cases, or_left, or_right, or_from, eqb-true, ne_eqb}
 use Rattle.std.proofs.lemmas.List.Folds.{list_any-append}
 use Rattle.nic_device.specs.DmaArena.Block.{Block}
-use Rattle.nic_device.specs.DmaRing.Descriptor.{first_half, second_half}
+use Rattle.nic_device.specs.DmaRing.Descriptor.{second_half}
 use Rattle.nic_device.specs.DmaRing.Receive.{is_done, ends_packet}
 use Rattle.nic_device.proofs.Cases.{either_way}
-use Rattle.pmd_rx.specs.PmdSeam.declared.packet.Packet.{Packet}
 use Rattle.pmd_rx.specs.PmdSeam.Slots.{ring_blocks}
 use Rattle.pmd_rx.specs.Keeping.{fresh_block, has_lent}
 use Rattle.pmd_rx.proofs.PmdSeam.Rings.{ring_block_among}
-use Rattle.pmd_rx.specs.Receive.{Receive, Stage, Looks, Sees, Holding, Lent, Named, MayLend, LendsNext, PeeksNext, TakesNext, looked, took, lent_one, named, moved}
+use Rattle.pmd_rx.specs.Receive.{Receive, MayLend, CanLend, HasLent, HasNamed, LendsNext, PeeksNext, TakesNext, NamesNext, MovesNext, fresh_of, is_part, next_stage, looked, took, lent_one, named, moved}
+use Rattle.pmd_rx.specs.declared.ring.Stage.{Stage}
+use Rattle.pmd_rx.specs.declared.ring.Stage.TheVariants.{Looks, Takes, Owes, Lent, Named}
+use Rattle.pmd_rx.specs.declared.ring.Told.{Told}
+use Rattle.nic_device.specs.declared.event.Port.{Port}
 
 -- numbers among some
 
@@ -57,52 +60,63 @@ module _ (v : Receive) (n : ℕ) where
   same_stage stage e is =
       subst (λ (fresh : List ℕ). among (v.layout.blocks ++ (fresh ++ ring_of v)) n ≡ true) e is
 
-  pub has_looked : (stage : Stage) (a : ℕ) → v.stage ≡ stage → PeeksNext v.layout stage a → (d : List ℕ)
-      → Has (looked v d)
-  has_looked Looks a is own d =
-      either_way Has (is_done (second_half d) && ends_packet (second_half d)) _ _
-      (same_stage (Sees (first_half d) (second_half d)) (ap fresh_block is)) (λ has. has)
-  has_looked (Sees first second) a is own d =
-      either_way Has (is_done (second_half d) && ends_packet (second_half d)) _ _
-      (same_stage (Sees (first_half d) (second_half d)) (ap fresh_block is)) (λ has. has)
-  has_looked (Holding p) a is own d = absurd own
-  has_looked (Lent o b) a is own d = absurd own
-  has_looked (Named o b) a is own d = absurd own
+  looked_fresh : (ends : Bool) → fresh_block (cond ends Takes Looks) ≡ []
+  looked_fresh true = refl
+  looked_fresh false = refl
 
-  pub has_named : (stage : Stage) → v.stage ≡ stage → Has (named v stage)
-  has_named (Lent o b) is = same_stage (Named o b) (ap fresh_block is)
-  has_named Looks is = λ has. has
-  has_named (Sees first second) is = λ has. has
-  has_named (Holding p) is = λ has. has
-  has_named (Named o b) is = λ has. has
+  pub has_looked : (a : ℕ) → PeeksNext v a → (d : List ℕ) → Has (looked v d)
+  has_looked a own d =
+      either_way Has (is_done (second_half d) && is_part v.layout.most (length v.seen) (second_half d)) _ _
+      (same_stage (cond (ends_packet (second_half d)) Takes Looks)
+      (ap fresh_block own.stage ∙ sym (looked_fresh (ends_packet (second_half d))))) (λ has. has)
 
-  pub has_moved : (stage : Stage) → v.stage ≡ stage → Has (moved v stage)
-  has_moved (Named o b) is has =
-      subst (λ (xs : List ℕ). among xs n ≡ true) (sym (append_assoc v.layout.blocks (b ∷ []) (ring_of v)))
-      (same_stage (Named o b) (ap fresh_block is) has)
-  has_moved Looks is has = has
-  has_moved (Sees first second) is has = has
-  has_moved (Holding p) is has = has
-  has_moved (Lent o b) is has = has
+  lent_block : (stage : Stage) → HasLent stage → fresh_block stage ≡ fresh_of stage ∷ []
+  lent_block Looks lent = absurd lent
+  lent_block Takes lent = absurd lent
+  lent_block Owes lent = absurd lent
+  lent_block (Lent b) lent = refl
+  lent_block (Named b) lent = absurd lent
 
-  pub has_took : (stage : Stage) (taken : ℕ) (b : Block) → v.stage ≡ stage → TakesNext v.layout stage taken → n ≢ taken
-      → Has (took v stage b)
-  has_took (Sees first second) taken b is own ne has =
+  pub has_named : (a : ℕ) (bytes : List ℕ) → NamesNext v a bytes → Has (named v)
+  has_named a bytes own = same_stage (Named (fresh_of v.stage)) (lent_block v.stage own.stage)
+
+  named_block : (stage : Stage) → HasNamed stage → fresh_block stage ≡ fresh_of stage ∷ []
+  named_block Looks done = absurd done
+  named_block Takes done = absurd done
+  named_block Owes done = absurd done
+  named_block (Lent b) done = absurd done
+  named_block (Named b) done = refl
+
+  next_fresh : (seen : List Told) → fresh_block (next_stage seen) ≡ []
+  next_fresh [] = refl
+  next_fresh (t ∷ seen) = refl
+
+  pub has_moved : (port : Port) (number word : ℕ) → MovesNext v port number word → Has (moved v)
+  has_moved port number word own has =
+      let b = fresh_of v.stage in
+      subst (λ (fresh : List ℕ). among ((v.layout.blocks ++ b ∷ []) ++ (fresh ++ ring_of v)) n ≡ true)
+      (sym (next_fresh v.seen))
+      (subst (λ (xs : List ℕ). among xs n ≡ true) (sym (append_assoc v.layout.blocks (b ∷ []) (ring_of v)))
+      (same_stage (Named b) (named_block v.stage own.stage) has))
+
+  took_has : (seen : List Told) (taken : ℕ) (b : Block) → v.stage ≡ Takes → taken ≡ slice_index v.layout.blocks 0
+      → n ≢ taken → Has (took v seen b)
+  took_has [] taken b is own ne has = has
+  took_has (t ∷ seen) taken b is own ne has =
       elim (in_either v.layout.blocks (ring_of v) n (same_stage Looks (ap fresh_block is) has)) [
         | inl slot ↦
             in_first (drop 1 v.layout.blocks) (ring_of v) n
             (in_later v.layout.blocks n (λ e. ne (e ∙ sym own)) slot)
         | inr ring ↦ in_last (drop 1 v.layout.blocks) (ring_of v) n ring
       ]
-  has_took Looks taken b is own ne has = absurd own
-  has_took (Holding p) taken b is own ne has = absurd own
-  has_took (Lent o c) taken b is own ne has = absurd own
-  has_took (Named o c) taken b is own ne has = absurd own
+
+  pub has_took : (taken : ℕ) (b : Block) → TakesNext v taken → n ≢ taken → Has (took v v.seen b)
+  has_took taken b own ne = took_has v.seen taken b own.stage own.block ne
 
   -- a fresh block is lent
-  lends_one : (b : ℕ) (o : Option Packet) → fresh_block v.stage ≡ [] → (n == b || has_lent v n) ≡ true
-      → has_lent (record v { stage = Lent o b }) n ≡ true
-  lends_one b o none is = elim (or_cases (n == b) (has_lent v n) is) [
+  lends_one : (b : ℕ) → fresh_block v.stage ≡ [] → (n == b || has_lent v n) ≡ true
+      → has_lent (record v { stage = Lent b }) n ≡ true
+  lends_one b none is = elim (or_cases (n == b) (has_lent v n) is) [
     | inl same ↦
         in_last v.layout.blocks (b ∷ ring_of v) n (or_left (n == b) (among (ring_of v) n) same)
     | inr has ↦ elim (in_either v.layout.blocks (ring_of v) n (same_stage Looks none has)) [
@@ -112,13 +126,16 @@ module _ (v : Receive) (n : ℕ) where
     ]
   ]
 
-  pub has_lent_one : (stage : Stage) (b : Block) → v.stage ≡ stage → LendsNext v.layout stage b
-      → (n == b.number || has_lent v n) ≡ true → has_lent (lent_one v stage b.number) n ≡ true
-  has_lent_one Looks b is may = lends_one b.number None (ap fresh_block is)
-  has_lent_one (Holding p) b is may = lends_one b.number (Some p) (ap fresh_block is)
-  has_lent_one (Sees first second) b is may = absurd may
-  has_lent_one (Lent o c) b is may = absurd may
-  has_lent_one (Named o c) b is may = absurd may
+  pub lend_block : (stage : Stage) (seen : List Told) → CanLend stage seen → fresh_block stage ≡ []
+  lend_block Looks seen can = refl
+  lend_block Takes seen can = absurd can
+  lend_block Owes seen can = refl
+  lend_block (Lent b) seen can = absurd can
+  lend_block (Named b) seen can = absurd can
+
+  pub has_lent_one : (b : Block) → LendsNext v b → (n == b.number || has_lent v n) ≡ true
+      → has_lent (lent_one v b.number) n ≡ true
+  has_lent_one b own = lends_one b.number (lend_block v.stage v.seen own.stage)
 
 -- a block that may be lent isn't lent yet
 pub unknown : (v : Receive) (b : Block) → fresh_block v.stage ≡ [] → MayLend v.layout b → has_lent v b.number ≡ false

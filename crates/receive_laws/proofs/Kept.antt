@@ -10,7 +10,9 @@ use Rattle.nic_device.specs.State.{State}
 use Rattle.nic_device.specs.RegisterFile.Pools.{mode_in}
 use Rattle.history_laws.proofs.SideNames.{named-same}
 use Rattle.pmd_rx.specs.PmdSeam.Slots.{EachRingBlock}
-use Rattle.pmd_rx.specs.Receive.{Layout, Stage, Looks, Sees, Holding, Lent, Named, slot_at, descriptor_at, block_at, vacant}
+use Rattle.pmd_rx.specs.Receive.{Layout, slot_at, descriptor_at, block_at, vacant}
+use Rattle.pmd_rx.specs.declared.ring.Stage.{Stage}
+use Rattle.pmd_rx.specs.declared.ring.Stage.TheVariants.{Looks, Takes, Owes, Lent, Named}
 use Rattle.receive_laws.specs.Joint.{IsPosted, IsFilled, IsRing, IsNamed, IsLoose, StageHolds, HasSlots}
 use Rattle.receive_laws.specs.Pieces.{Piece, piece_at}
 use Rattle.receive_laws.specs.Steps.{IfFresh}
@@ -107,13 +109,13 @@ module _ (l : Layout) (m n : Memory) (ring : IsRing l) (same : SameRing l m n) w
         posted = λ k i j. posted_kept k (block_at l k) (omega arith) (blocks k j) (h.posted k i j);
       }
 
-  pub stage_kept : (here : List Piece) (stage : Stage) → IfFresh stage (λ b. map.get n b ≡ map.get m b)
-      → StageHolds m l here stage → StageHolds n l here stage
-  stage_kept here Looks fresh h = tt
-  stage_kept here (Sees first second) fresh h = h
-  stage_kept here (Holding p) fresh h = tt
-  stage_kept here (Lent o b) fresh h = IsLoose-kept m n l b (same_has m n b fresh) h
-  stage_kept here (Named o b) fresh h = (
+  pub stage_kept : (stage : Stage) → IfFresh stage (λ b. map.get n b ≡ map.get m b) → StageHolds m l stage
+      → StageHolds n l stage
+  stage_kept Looks fresh h = tt
+  stage_kept Takes fresh h = tt
+  stage_kept Owes fresh h = tt
+  stage_kept (Lent b) fresh h = IsLoose-kept m n l b (same_has m n b fresh) h
+  stage_kept (Named b) fresh h = (
     IsLoose-kept m n l b (same_has m n b fresh) h.0,
     posted_kept (vacant l) b (omega arith) fresh h.1,
   )

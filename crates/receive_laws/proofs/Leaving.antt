@@ -30,7 +30,7 @@ switching_holds queue s t out v gone here l h = record {
   side = set_up_kept (receive_queue_of s.registers queue) (receive_queue_of t.registers queue) v.layout (length here)
       l.ring l.control h.side;
   slots = slots_kept v.layout s.memory t.memory h.ring l.blocks.ring here l.blocks.blocks h.slots;
-  stage = stage_kept v.layout s.memory t.memory h.ring l.blocks.ring here v.stage l.blocks.fresh h.stage;
+  stage = stage_kept v.layout s.memory t.memory h.ring l.blocks.ring v.stage l.blocks.fresh h.stage;
   order = h.order;
 }
 

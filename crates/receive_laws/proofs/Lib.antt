@@ -8,6 +8,7 @@ pub mod Each
 pub mod Entries
 pub mod Examples
 pub mod Filled
+pub mod Fitting
 pub mod Foreign
 pub mod HasLent
 pub mod Healthy
@@ -23,10 +24,10 @@ pub mod Moving
 pub mod Naming
 pub mod Own
 pub mod Places
+pub mod Parts
 pub mod Prefix
 pub mod Received
 pub mod Receiving
-pub mod Short
 pub mod Starting
 pub mod Switching
 pub mod Tail

@@ -1,5 +1,5 @@
--- The tail moves on over the slot that names a fresh block: the block is posted, and what was held is handed out.
-use Rattle.std.proofs.Common.{◌≡◌, ◌≢◌, ℕ, ◌+◌, ◌<◌, ◌≤◌, ◌⊎◌, inl, inr, false, List, [], ◌∷◌, ◌++◌, length, refl, sym, ap, ◌∙◌, subst, arith, Option}
+-- The tail moves on over the slot that names a fresh block: the block is posted, and a packet that is whole handed out.
+use Rattle.std.proofs.Common.{◌≡◌, ◌≢◌, ℕ, ◌+◌, ◌<◌, ◌≤◌, ◌⊎◌, inl, inr, false, List, [], ◌∷◌, ◌++◌, length, refl, sym, ap, ◌∙◌, subst, arith}
 use Rattle.std.specs.Prelude.{slice_index}
 use Rattle.std.proofs.lemmas.Bool.{cases_lt}
 use Rattle.std.proofs.lemmas.List.{append-nil, length_push, get_or_push, get_or_append_left}
@@ -16,10 +16,17 @@ use Rattle.nic_device.specs.declared.event.Event.TheVariants as event
 use Rattle.history_laws.proofs.Tails.{receive_with_tail, receive-tail}
 use Rattle.pmd_rx.specs.PmdSeam.Slots.{is_ring_block}
 use Rattle.pmd_rx.specs.PmdSeam.declared.packet.Packet.{Packet}
-use Rattle.pmd_rx.specs.Receive.{Layout, Receive, Named, slot_at, descriptor_at, block_at, vacant, extended, held, listed, moved, drive}
-use Rattle.receive_laws.specs.Joint.{IsPosted, IsFilled, IsRing, IsSetUp, IsLoose, StageHolds, HasSlots, Agree}
-use Rattle.receive_laws.specs.Pieces.{Piece, piece_at}
+use Rattle.pmd_rx.specs.Receive.{Layout, Receive, MovesNext, HasNamed, fresh_of, slot_at, descriptor_at, block_at, vacant, extended, listed, out_of, left_of, next_stage, moved, drive}
+use Rattle.pmd_rx.specs.declared.ring.Stage.{Stage}
+use Rattle.pmd_rx.specs.declared.ring.Stage.TheVariants.{Looks, Takes, Owes, Lent, Named}
+use Rattle.pmd_rx.specs.declared.ring.Told.{Told}
+use Rattle.nic_device.specs.declared.event.Port.{Port}
+use Rattle.pmd_rx.specs.PmdSeam.Bufs.{bytes_of}
+use Rattle.pmd_rx.specs.PmdSeam.Packet.{Kept, kept_of}
+use Rattle.receive_laws.specs.Joint.{IsPosted, IsFilled, IsRing, IsSetUp, IsLoose, StageHolds, HasSlots, InOrder, Agree}
+use Rattle.receive_laws.specs.Pieces.{Piece, packets_behind, piece_at}
 use Rattle.receive_laws.proofs.Kept.{named_kept}
+use Rattle.receive_laws.proofs.Parts.{none_twice, left_twice, end_last, next_at}
 use Rattle.pmd_rx.proofs.PmdSeam.Places.{wrapped_below}
 use Rattle.receive_laws.proofs.Tail.{tail_written, mode_after_tail}
 
@@ -93,36 +100,76 @@ low_tail l ring room =
     wrapped_below l.size (l.next + (length l.blocks + 1)) (omega (arith, room, next)) in
     omega (arith, below, few)
 
-pub move_keeps : (queue : ℕ) (s : State) (out : List Piece) (v : Receive) (o : Option Packet) (b : ℕ)
-    → HasShape s.registers → Agree queue s out v → v.stage ≡ Named o b
-    → Agree queue (after s (event.Write v.layout.port v.layout.tail (slot_at v.layout (vacant v.layout + 1)))) out
-    (drive v (event.Write v.layout.port v.layout.tail (slot_at v.layout (vacant v.layout + 1)))
-    (reply_to s (event.Write v.layout.port v.layout.tail (slot_at v.layout (vacant v.layout + 1)))))
-move_keeps queue s out v o b shape (gone, here, h) is =
+-- what stands behind a tail that moved on
+
+pub both_of : (m : Memory) (l : Layout) (stage : Stage) → HasNamed stage → StageHolds m l stage
+    → IsLoose m l (fresh_of stage) × IsPosted m (descriptor_at l (vacant l)) (fresh_of stage)
+both_of m l Looks done h = absurd done
+both_of m l Takes done h = absurd done
+both_of m l Owes done h = absurd done
+both_of m l (Lent b) done h = absurd done
+both_of m l (Named b) done h = h
+
+not_looks : (stage : Stage) (seen : List Told) → HasNamed stage → stage ≡ Looks → seen ≡ []
+not_looks Looks seen done is = absurd done
+not_looks Takes seen done is = absurd done
+not_looks Owes seen done is = absurd done
+not_looks (Lent b) seen done is = absurd done
+not_looks (Named b) seen done is = cc
+
+next_holds : (m : Memory) (l : Layout) (seen : List Told) → StageHolds m l (next_stage seen)
+next_holds m l [] = tt
+next_holds m l (t ∷ ts) = tt
+
+order_moved : (out gone here : List Piece) (v : Receive) → HasNamed v.stage → InOrder out v gone here
+    → InOrder out (moved v) gone here
+order_moved out gone here v done o =
+    let left = left_twice v.seen v.held in
+    let hs = v.handed ++ listed (out_of v.seen v.held) in
+    record {
+      cut = λ rest. o.cut rest
+          ∙ ap (λ (xs : List Kept). xs ++ packets_behind (kept_of (left_of v.seen v.held)).bytes rest)
+          (sym (append-nil hs) ∙ ap (λ (ks : List Kept). hs ++ ks) (sym (none_twice v.seen v.held)))
+          ∙ ap (λ (p : Packet). (hs ++ listed (out_of v.seen (left_of v.seen v.held)))
+          ++ packets_behind (kept_of p).bytes rest) (sym left);
+      parts = o.parts ∙ ap (λ (p : Packet). length p.bufs) (sym left);
+      full = ap (λ (p : Packet). length (bytes_of p.bufs)) left ∙ o.full ∙ ap (λ (p : Packet). p.len) (sym left);
+      seen = o.seen;
+      stage = next_at v.seen v.held (end_last v.stage v.seen v.held (not_looks v.stage v.seen done) o.stage);
+      order = o.order;
+    }
+
+pub move_keeps : (queue : ℕ) (s : State) (out : List Piece) (v : Receive) (port : Port) (number word : ℕ)
+    → HasShape s.registers → Agree queue s out v → MovesNext v port number word
+    → Agree queue (after s (event.Write port number word)) out
+    (drive v (event.Write port number word) (reply_to s (event.Write port number word)))
+move_keeps queue s out v port number word shape (gone, here, h) own =
     let l = v.layout in
-    let word = slot_at l (vacant l + 1) in
-    let e = event.Write l.port l.tail word in
-    let t : State = record s { registers = after_write s.registers (place Rdt queue) 0xFFFFFFFF word } in
-    let both : StageHolds s.memory l here (Named o b) = subst (StageHolds s.memory l here) is h.stage in
-    subst (λ (x : Outcome). Agree queue x.state out (drive v e x.reply)) (sym (tail_written s queue l word h.named))
-    (subst (λ stage. Agree queue t out (moved v stage)) (sym is) (
+    let b = fresh_of v.stage in
+    let to = slot_at l (vacant l + 1) in
+    let t : State = record s { registers = after_write s.registers (place Rdt queue) 0xFFFFFFFF to } in
+    let both = both_of s.memory l v.stage own.stage h.stage in
+    subst (λ x. Agree queue (after s (event.Write x number word)) out
+    (drive v (event.Write x number word) (reply_to s (event.Write x number word)))) (sym own.port_is)
+    (subst (λ x. Agree queue (after s (event.Write l.port x word)) out
+    (drive v (event.Write l.port x word) (reply_to s (event.Write l.port x word)))) (sym own.number_is)
+    (subst (λ x. Agree queue (after s (event.Write l.port l.tail x)) out
+    (drive v (event.Write l.port l.tail x) (reply_to s (event.Write l.port l.tail x)))) (sym own.word_is)
+    (subst (λ (x : Outcome). Agree queue x.state out (drive v (event.Write l.port l.tail to) x.reply))
+    (sym (tail_written s queue l to h.named)) (
       gone,
       here,
       record {
         named = record {
           low = h.named.low;
-          tail = (named_kept s t queue l (mode_after_tail s.registers queue word) refl h.named).tail;
+          tail = (named_kept s t queue l (mode_after_tail s.registers queue to) refl h.named).tail;
         };
         ring = ring_more s.memory l here b h.ring h.slots both.0 both.1;
         side = subst (λ q. IsSetUp q (extended l b) (length here))
-            (sym (receive-tail s.registers queue word shape h.named.low (low_tail l h.ring both.0.room)))
+            (sym (receive-tail s.registers queue to shape h.named.low (low_tail l h.ring both.0.room)))
             (set_up_more s.memory l here b h.ring h.slots both.0 both.1 (receive_queue_of s.registers queue) h.side);
         slots = slots_more s.memory l here b h.ring h.slots both.0 both.1;
-        stage = tt;
-        order = record {
-          ended = h.order.ended;
-          taken = h.order.taken ∙ ap (λ stage. v.handed ++ held stage) is ∙ sym (append-nil (v.handed ++ listed o));
-          order = h.order.order;
-        };
+        stage = next_holds s.memory (extended l b) v.seen;
+        order = order_moved out gone here v own.stage h.order;
       },
-    ))
+    ))))

@@ -1,5 +1,5 @@
 -- The descriptor at the vacant slot names the block that was lent.
-use Rattle.std.proofs.Common.{◌≡◌, ℕ, ◌+◌, ◌*◌, ◌<◌, ◌≤◌, true, false, List, ◌++◌, length, sym, ap, ◌∙◌, subst, arith, Option}
+use Rattle.std.proofs.Common.{◌≡◌, ℕ, ◌+◌, ◌*◌, ◌<◌, ◌≤◌, true, false, List, [], length, sym, ap, ◌∙◌, subst, arith}
 use Rattle.nic_device.specs.DmaArena.Memory.{Memory, is_lent, read_at, write_at, IsWhole, SameLent, AreApart}
 use Rattle.nic_device.proofs.DmaArena.Bus.{SameLent-write_at, read_at-write_at_same, read_at-write_at_apart}
 use Rattle.nic_device.specs.DmaRing.Descriptor.{first_half, second_half}
@@ -13,12 +13,15 @@ use Rattle.nic_device.specs.Step.{after, reply_to}
 use Rattle.nic_device.specs.declared.event.Event.TheVariants as event
 use Rattle.history_laws.proofs.Calls.{poked_is}
 use Rattle.pmd_rx.specs.PmdSeam.Slots.{is_ring_block}
-use Rattle.pmd_rx.specs.PmdSeam.declared.packet.Packet.{Packet}
-use Rattle.pmd_rx.specs.Receive.{Layout, Lent, Receive, slot_at, descriptor_at, block_at, vacant, held, naming, named, drive}
+use Rattle.pmd_rx.specs.Receive.{Layout, Receive, NamesNext, HasLent, fresh_of, slot_at, descriptor_at, block_at, vacant, naming, drive}
+use Rattle.pmd_rx.specs.declared.ring.Stage.{Stage}
+use Rattle.pmd_rx.specs.declared.ring.Stage.TheVariants.{Looks, Takes, Owes, Lent, Named}
+use Rattle.pmd_rx.specs.declared.ring.Told.{Told}
 use Rattle.receive_laws.specs.Joint.{IsPosted, IsRing, IsLoose, StageHolds, HasSlots, Agree}
 use Rattle.receive_laws.specs.Pieces.{Piece, piece_at}
 use Rattle.receive_laws.proofs.Kept.{IsPosted-kept, IsFilled-kept, IsLoose-kept, slot_below}
 use Rattle.receive_laws.proofs.Looking.{descriptor_lent}
+use Rattle.receive_laws.proofs.Parts.{staged, end_last}
 use Rattle.pmd_rx.proofs.PmdSeam.Places.{wrapped_apart}
 use Rattle.receive_laws.proofs.Places.{aligned, slots_apart, buffer_and_slot}
 
@@ -85,20 +88,38 @@ module _ (m : Memory) (l : Layout) (here : List Piece) (ring : IsRing l) (h : Ha
   named_stage : IsLoose n l b × IsPosted n (descriptor_at l (vacant l)) b
   named_stage = (IsLoose-kept m n l b (same b) loose, posted_here)
 
-pub name_keeps : (queue : ℕ) (s : State) (out : List Piece) (v : Receive) (o : Option Packet) (b : ℕ)
-    → IsWhole s.memory → Agree queue s out v → v.stage ≡ Lent o b
-    → Agree queue (after s (event.Poke16 (descriptor_at v.layout (vacant v.layout)) (naming b))) out
-    (drive v (event.Poke16 (descriptor_at v.layout (vacant v.layout)) (naming b))
-    (reply_to s (event.Poke16 (descriptor_at v.layout (vacant v.layout)) (naming b))))
-name_keeps queue s out v o b whole (gone, here, h) is =
+loose_of : (m : Memory) (l : Layout) (stage : Stage) → HasLent stage → StageHolds m l stage
+    → IsLoose m l (fresh_of stage)
+loose_of m l Looks lent h = absurd lent
+loose_of m l Takes lent h = absurd lent
+loose_of m l Owes lent h = absurd lent
+loose_of m l (Lent b) lent h = h
+loose_of m l (Named b) lent h = absurd lent
+
+not_looks : (stage : Stage) (seen : List Told) → HasLent stage → stage ≡ Looks → seen ≡ []
+not_looks Looks seen lent is = absurd lent
+not_looks Takes seen lent is = absurd lent
+not_looks Owes seen lent is = absurd lent
+not_looks (Lent b) seen lent is = cc
+not_looks (Named b) seen lent is = absurd lent
+
+pub name_keeps : (queue : ℕ) (s : State) (out : List Piece) (v : Receive) (a : ℕ) (bytes : List ℕ) → IsWhole s.memory
+    → Agree queue s out v → NamesNext v a bytes
+    → Agree queue (after s (event.Poke16 a bytes)) out
+    (drive v (event.Poke16 a bytes) (reply_to s (event.Poke16 a bytes)))
+name_keeps queue s out v a bytes whole (gone, here, h) own =
     let l = v.layout in
-    let a = descriptor_at l (vacant l) in
-    let t : State = record s { memory = write_at s.memory a (naming b) } in
-    let loose : IsLoose s.memory l b = subst (StageHolds s.memory l here) is h.stage in
-    subst (λ (x : Outcome). Agree queue x.state out (drive v (event.Poke16 a (naming b)) x.reply))
-    (sym (poked_is s a (naming b) (aligned l.ring (slot_at l (vacant l)))
-    (descriptor_lent s.memory l here h.ring h.slots (vacant l) (omega arith))))
-    (subst (λ stage. Agree queue t out (named v stage)) (sym is) (
+    let b = fresh_of v.stage in
+    let at = descriptor_at l (vacant l) in
+    let t : State = record s { memory = write_at s.memory at (naming b) } in
+    let loose : IsLoose s.memory l b = loose_of s.memory l v.stage own.stage h.stage in
+    subst (λ x. Agree queue (after s (event.Poke16 x bytes)) out
+    (drive v (event.Poke16 x bytes) (reply_to s (event.Poke16 x bytes)))) (sym own.address)
+    (subst (λ x. Agree queue (after s (event.Poke16 at x)) out
+    (drive v (event.Poke16 at x) (reply_to s (event.Poke16 at x)))) (sym own.bytes_are)
+    (subst (λ (x : Outcome). Agree queue x.state out (drive v (event.Poke16 at (naming b)) x.reply))
+    (sym (poked_is s at (naming b) (aligned l.ring (slot_at l (vacant l)))
+    (descriptor_lent s.memory l here h.ring h.slots (vacant l) (omega arith)))) (
       gone,
       here,
       record {
@@ -107,10 +128,7 @@ name_keeps queue s out v o b whole (gone, here, h) is =
         side = h.side;
         slots = named_slots s.memory l here h.ring h.slots whole b loose;
         stage = named_stage s.memory l here h.ring h.slots whole b loose;
-        order = record {
-          ended = h.order.ended;
-          taken = h.order.taken ∙ ap (λ xs. v.handed ++ xs) (ap held is);
-          order = h.order.order;
-        };
+        order = staged out gone here v (Named b) h.order
+            (end_last v.stage v.seen v.held (not_looks v.stage v.seen own.stage) h.order.stage);
       },
-    ))
+    )))

@@ -1,47 +1,63 @@
 -- What the agreement says of the packets that were handed out.
-use Rattle.std.proofs.Common.{◌≡◌, ℕ, ◌<◌, ◌≤◌, ◌⊎◌, inl, inr, true, false, List, [], ◌∷◌, ◌++◌, length, map, refl, sym, ap, ◌∙◌, arith, append_assoc}
+use Rattle.std.proofs.Common.{◌≡◌, ℕ, ◌<◌, ◌≤◌, ◌⊎◌, inl, inr, true, false, List, [], ◌∷◌, ◌++◌, length, refl, sym, ap, subst, ◌∙◌, arith, append_assoc}
 use Rattle.std.proofs.lemmas.Bool.{cases_lt, both_ways}
-use Rattle.std.proofs.lemmas.List.{append-nil, nil_from_length}
+use Rattle.std.proofs.lemmas.List.{append-nil}
 use Rattle.nic_device.specs.DmaRing.Descriptor.{second_half}
 use Rattle.nic_device.specs.DmaRing.Receive.{is_done}
 use Rattle.nic_device.specs.State.{State}
-use Rattle.pmd_rx.specs.Receive.{Receive, held}
+use Rattle.pmd_rx.specs.Receive.{Receive, listed, out_of}
+use Rattle.pmd_rx.specs.PmdSeam.Packet.{Kept, kept_of}
+use Rattle.pmd_rx.specs.PmdSeam.declared.packet.Packet.{Packet}
+use Rattle.pmd_rx.specs.declared.ring.Stage.{Stage}
+use Rattle.pmd_rx.specs.declared.ring.Stage.TheVariants.{Looks}
+use Rattle.pmd_rx.specs.declared.ring.Told.{Told}
 use Rattle.receive_laws.specs.Delivered.{IsPrefixOf}
 use Rattle.receive_laws.specs.Histories.{FindsNone}
-use Rattle.receive_laws.specs.Joint.{InOrder, Agree}
-use Rattle.receive_laws.specs.Pieces.{Piece, AllEnd, packets_of, whole_packet}
+use Rattle.receive_laws.specs.Joint.{AreSeen, AreOpen, IsAt, InOrder, Agree, still_held}
+use Rattle.receive_laws.specs.Pieces.{Piece, packets_of, packets_behind}
 use Rattle.receive_laws.proofs.Looking.{look_tells}
-
-packets-gone : (gone here : List Piece) → AllEnd gone
-    → packets_of (gone ++ here) ≡ map whole_packet gone ++ packets_of here
-packets-gone [] here a = refl
-packets-gone (p ∷ ps) here a = rw (a.0, packets-gone ps here a.1) refl
+use Rattle.receive_laws.proofs.Parts.{none_out}
 
 packets_held : (out : List Piece) (v : Receive) (gone here : List Piece) → InOrder out v gone here
-    → packets_of out ≡ (v.handed ++ held v.stage) ++ packets_of here
-packets_held out v gone here o =
-    ap packets_of o.order ∙ packets-gone gone here o.ended ∙ ap (λ xs. xs ++ packets_of here) o.taken
+    → packets_of out
+    ≡ (v.handed ++ listed (out_of v.seen v.held)) ++ packets_behind (kept_of (still_held v)).bytes here
+packets_held out v gone here o = ap packets_of o.order ∙ o.cut here
 
--- what was handed out, with what is held, is a beginning of what was delivered
+-- what was handed out is a beginning of what was delivered
 pub handed_first : (queue : ℕ) (s : State) (out : List Piece) (v : Receive) → Agree queue s out v
     → IsPrefixOf v.handed (packets_of out)
-handed_first queue s out v (gone, here, h) = (
-  held v.stage ++ packets_of here,
-  sym (packets_held out v gone here h.order ∙ append_assoc v.handed (held v.stage) (packets_of here)),
-)
+handed_first queue s out v (gone, here, h) =
+    let next = listed (out_of v.seen v.held) in
+    let behind = packets_behind (kept_of (still_held v)).bytes here in
+    (next ++ behind, sym (packets_held out v gone here h.order ∙ append_assoc v.handed next behind))
 
-none_left : (here : List Piece) (d : List ℕ) → is_done (second_half d) ≡ false
-    → ((0 < length here) → is_done (second_half d) ≡ true) → (0 < length here) ⊎ (length here ≤ 0) → here ≡ []
-none_left here d none some (inl is) = absurd (both_ways _ none (some is))
-none_left here d none some (inr no_more) = nil_from_length here (omega (arith, no_more))
+-- pieces of which none ends its packet make none
+none_whole : (front : List ℕ) (seen : List Told) (here : List Piece) → AreOpen seen → AreSeen seen here
+    → length here ≤ length seen → packets_behind front here ≡ []
+none_whole front seen [] opens are all = refl
+none_whole front [] (p ∷ here) opens are all = absurd (omega (arith, all))
+none_whole front (t ∷ ts) (p ∷ here) opens are all =
+    let on : p.end ≡ false = sym are.0.end_is ∙ opens.0.goes_on in
+    let rest = none_whole (front ++ p.bytes) ts here opens.1 are.1 (omega (arith, all)) in
+    rw on rest
 
--- where a look at the next slot finds none, all that was delivered was handed out
+none_more : (here : List Piece) (k : ℕ) (d : List ℕ) → is_done (second_half d) ≡ false
+    → ((k < length here) → is_done (second_half d) ≡ true) → (k < length here) ⊎ (length here ≤ k) → length here ≤ k
+none_more here k d none some (inl is) = absurd (both_ways _ none (some is))
+none_more here k d none some (inr no_more) = no_more
+
+-- where a look at the slot behind those that were seen finds it not done, all that was delivered was handed out
 pub drained : (queue : ℕ) (s : State) (out : List Piece) (v : Receive) → Agree queue s out v → FindsNone s v
     → packets_of out ≡ v.handed
 drained queue s out v (gone, here, h) f =
-    let t = look_tells queue s out v gone here h f.posted f.bytes f.reply in
-    let nil : here ≡ [] = none_left here f.bytes f.waits t.done.1 (cases_lt 0 (length here)) in
+    let k = length v.seen in
+    let t = look_tells queue s out v gone here k h f.posted f.bytes f.reply in
+    let all : length here ≤ k = none_more here k f.bytes f.waits t.done.1 (cases_lt k (length here)) in
+    let at : IsAt Looks v.seen v.held = subst (λ (x : Stage). IsAt x v.seen v.held) f.looks h.order.stage in
+    let none : listed (out_of v.seen v.held) ≡ [] =
+    ap (λ (p : Packet). listed (out_of v.seen p)) at.0 ∙ none_out v.seen in
     packets_held out v gone here h.order
-    ∙ ap (λ xs. (v.handed ++ xs) ++ packets_of here) f.holds_none
-    ∙ ap (λ xs. (v.handed ++ []) ++ packets_of xs) nil
+    ∙ ap (λ (xs : List Kept). (v.handed ++ xs) ++ packets_behind (kept_of (still_held v)).bytes here) none
+    ∙ ap (λ (xs : List Kept). (v.handed ++ []) ++ xs)
+    (none_whole (kept_of (still_held v)).bytes v.seen here at.1 h.order.seen all)
     ∙ append-nil (v.handed ++ []) ∙ append-nil v.handed

@@ -4,7 +4,7 @@ use Rattle.receive_laws.specs.Starting.{StartAgrees}
 use Rattle.receive_laws.proofs.Places.{first_place}
 
 pub start_agrees : StartAgrees
-start_agrees queue port tail ring size s r = (
+start_agrees queue port tail ring size most s r = (
   [],
   [],
   record {
@@ -34,6 +34,13 @@ start_agrees queue port tail ring size s r = (
       posted = λ k i j. absurd (omega (arith, j));
     };
     stage = tt;
-    order = record { ended = tt; taken = refl; order = refl };
+    order = record {
+      cut = λ rest. refl;
+      parts = refl;
+      full = refl;
+      seen = tt;
+      stage = (refl, tt);
+      order = refl;
+    };
   },
 )

@@ -1,5 +1,5 @@
--- The block of the next slot is taken: its packet is the oldest that was delivered and is neither held nor handed out.
-use Rattle.std.proofs.Common.{◌≡◌, ℕ, List, [], ◌∷◌, ◌++◌, drop, refl, sym, ap, subst, ◌*◌, ◌<◌, true, length, take, ◌∙◌, arith, append_assoc, Some}
+-- The block of the next slot is taken: its piece is the oldest that was written and not consumed.
+use Rattle.std.proofs.Common.{◌≡◌, ℕ, List, [], ◌∷◌, ◌++◌, drop, refl, sym, ap, subst, ◌*◌, ◌<◌, length, take, ◌∙◌, arith, Some}
 use Rattle.std.specs.FinMap as map
 use Rattle.nic_device.specs.DmaArena.Block.{Block}
 use Rattle.nic_device.specs.DmaArena.Memory.{IsWhole, Memory, part}
@@ -10,16 +10,15 @@ use Rattle.nic_device.specs.State.{State}
 use Rattle.nic_device.specs.Outcome.{Outcome}
 use Rattle.nic_device.specs.Step.{after, reply_to}
 use Rattle.nic_device.specs.declared.event.Event.TheVariants as event
-use Rattle.pmd_rx.specs.PmdSeam.Packet.{kept_of}
 use Rattle.history_laws.proofs.Calls.{taken_is}
-use Rattle.pmd_rx.specs.Receive.{Receive, Sees, told, took, drive, held, descriptor_at, block_at, Holding, consumed}
-use Rattle.receive_laws.specs.Joint.{IsFilled, Saw, StageHolds, Agree, InOrder}
-use Rattle.receive_laws.specs.Pieces.{Piece, piece_at, packet_told, whole_packet, no_piece, AllEnd}
+use Rattle.pmd_rx.specs.Receive.{Receive, TakesNext, took, drive, descriptor_at, block_at}
+use Rattle.pmd_rx.specs.declared.ring.Told.{Told}
+use Rattle.receive_laws.specs.Joint.{IsFilled, Saw, AreSeen, Agree}
+use Rattle.receive_laws.specs.Pieces.{Piece, piece_at}
 use Rattle.receive_laws.proofs.Kept.{named_kept}
+use Rattle.receive_laws.proofs.Parts.{seen_within, first_seen, order_on}
 use Rattle.receive_laws.proofs.Consuming.{ring_on, slots_on, set_up_on}
-use Rattle.std.proofs.lemmas.List.{append-nil, map-append, drop_more}
 use Rattle.nic_device.proofs.DmaArena.Blocks.{read_at_in}
-use Rattle.pmd_rx.specs.PmdSeam.declared.packet.Packet.{Packet}
 
 part_front : (xs : List ℕ) (n : ℕ) → part xs 0 n ≡ take n xs
 unfolding part
@@ -33,57 +32,44 @@ packet_bytes m b bytes a p len is whole f e =
     ap (λ n. take n bytes) e ∙ sym (part_front bytes (length p.bytes))
     ∙ sym (read_at_in m (2048 * b) (length p.bytes) b 0 bytes is whole (omega arith) (omega (arith, short))) ∙ f.bytes
 
-AllEnd-push : (ps : List Piece) (p : Piece) → AllEnd ps → p.end ≡ true → AllEnd (ps ++ p ∷ [])
-AllEnd-push [] p a e = (e, tt)
-AllEnd-push (q ∷ ps) p a e = (a.0, AllEnd-push ps p a.1 e)
+some_here : (seen : List Told) (here : List Piece) → AreSeen seen here → 0 < length seen → 0 < length here
+some_here seen here are some = let within = seen_within seen here are in omega (arith, within, some)
 
-front : (ps : List Piece) → 0 < length ps → ps ≡ piece_at ps 0 ∷ drop 1 ps
-front ps some = drop_more ps 0 no_piece some
-
--- the piece was consumed, and its packet is held
-order_on : (out : List Piece) (v : Receive) (gone here : List Piece) (packet : Packet) → InOrder out v gone here
-    → 0 < length here → held v.stage ≡ [] → (piece_at here 0).end ≡ true
-    → whole_packet (piece_at here 0) ≡ kept_of packet
-    → InOrder out (record { layout = consumed v.layout; handed = v.handed; stage = Holding packet })
-    (gone ++ piece_at here 0 ∷ []) (drop 1 here)
-order_on out v gone here packet o some none end is = record {
-  ended = AllEnd-push gone (piece_at here 0) o.ended end;
-  taken = map-append whole_packet gone (piece_at here 0 ∷ [])
-      ∙ ap (λ xs. xs ++ whole_packet (piece_at here 0) ∷ [])
-      (o.taken ∙ ap (λ xs. v.handed ++ xs) none ∙ append-nil v.handed)
-      ∙ ap (λ x. v.handed ++ x ∷ []) is;
-  order = o.order ∙ ap (λ xs. gone ++ xs) (front here some)
-      ∙ sym (append_assoc gone (piece_at here 0 ∷ []) (drop 1 here));
-}
-
-pub take_keeps : (queue : ℕ) (s : State) (out : List Piece) (v : Receive) (first second : ℕ) → IsWhole s.memory
-    → Agree queue s out v → v.stage ≡ Sees first second
-    → Agree queue (after s (event.Take (block_at v.layout 0))) out
-    (drive v (event.Take (block_at v.layout 0)) (reply_to s (event.Take (block_at v.layout 0))))
-take_keeps queue s out v first second whole (gone, here, h) is =
+pub take_keeps : (queue : ℕ) (s : State) (out : List Piece) (v : Receive) (n : ℕ) (seen : List Told) → IsWhole s.memory
+    → Agree queue s out v → TakesNext v n → v.seen ≡ seen
+    → Agree queue (after s (event.Take n)) out (drive v (event.Take n) (reply_to s (event.Take n)))
+take_keeps queue s out v n [] whole j own is =
+    let some = own.some in
+    let none = ap (λ (xs : List Told). length xs) is in
+    absurd (omega (arith, some, none))
+take_keeps queue s out v n (t ∷ ts) whole (gone, here, h) own is =
     let l = v.layout in
-    let seen : Saw here first second = subst (StageHolds s.memory l here) is h.stage in
-    let f : IsFilled s.memory (descriptor_at l 0) (block_at l 0) (piece_at here 0) = h.slots.filled 0 seen.some in
+    let some = some_here v.seen here h.order.seen own.some in
+    let saw : Saw t (piece_at here 0) = first_seen v.seen here t ts h.order.seen is in
+    let f : IsFilled s.memory (descriptor_at l 0) (block_at l 0) (piece_at here 0) = h.slots.filled 0 some in
     let there = of_some (map.get s.memory (block_at l 0)) f.there in
     let bytes : List ℕ = there.0 in
     let b : Block = record { number = block_at l 0; bytes = bytes } in
     let size = (whole.block (block_at l 0) bytes there.1) in
-    let t : State = record s { memory = map.remove s.memory (block_at l 0) } in
-    let same : whole_packet (piece_at here 0) ≡ kept_of (told b first second) =
-    λ k. packet_told
-    (sym (packet_bytes s.memory (block_at l 0) bytes (descriptor_at l 0) (piece_at here 0) (bytes_in second) there.1
-    size.size f seen.len_is) k) (sym seen.first_is k) in
-    subst (λ (o : Outcome). Agree queue o.state out (drive v (event.Take (block_at l 0)) o.reply))
-    (sym (taken_is s (block_at l 0) bytes there.1))
-    (subst (λ stage. Agree queue t out (took v stage b)) (sym is) (
+    let u : State = record s { memory = map.remove s.memory (block_at l 0) } in
+    let w : Receive = took v (t ∷ ts) b in
+    let here_is : take (bytes_in t.second) b.bytes ≡ (piece_at here 0).bytes =
+    packet_bytes s.memory (block_at l 0) bytes (descriptor_at l 0) (piece_at here 0) (bytes_in t.second) there.1
+    size.size f saw.len_is in
+    let after_it : Agree queue u out w = (
       gone ++ piece_at here 0 ∷ [],
       drop 1 here,
       record {
-        named = record { low = h.named.low; tail = (named_kept s t queue l refl refl h.named).tail };
-        ring = ring_on s.memory l here h.ring h.slots seen.some;
-        side = set_up_on s.memory l here h.ring h.slots seen.some (receive_queue_of s.registers queue) h.side;
-        slots = slots_on s.memory l here h.ring h.slots seen.some;
+        named = record { low = h.named.low; tail = (named_kept s u queue l refl refl h.named).tail };
+        ring = ring_on s.memory l here h.ring h.slots some;
+        side = set_up_on s.memory l here h.ring h.slots some (receive_queue_of s.registers queue) h.side;
+        slots = slots_on s.memory l here h.ring h.slots some;
         stage = tt;
-        order = order_on out v gone here (told b first second) h.order seen.some (ap held is) seen.ended same;
+        order = order_on out gone here v t ts b h.order is own.stage some here_is size.size;
       },
-    ))
+    ) in
+    subst (λ x. Agree queue (after s (event.Take x)) out (drive v (event.Take x) (reply_to s (event.Take x))))
+    (sym own.block)
+    (subst (λ (o : Outcome). Agree queue o.state out (drive v (event.Take (block_at l 0)) o.reply))
+    (sym (taken_is s (block_at l 0) bytes there.1))
+    (subst (λ (xs : List Told). Agree queue u out (took v xs b)) (sym is) after_it))

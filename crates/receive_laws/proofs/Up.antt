@@ -1,5 +1,5 @@
 -- A receive side that is on and wanted on stays so, where device and driver agree.
-use Rattle.std.proofs.Common.{◌≡◌, ℕ, ◌+◌, inl, inr, List, refl, sym, ap, subst}
+use Rattle.std.proofs.Common.{◌≡◌, ℕ, ◌+◌, inl, inr, List, sym, ap, subst}
 use Rattle.nic_device.specs.DmaArena.Block.{Block}
 use Rattle.nic_device.specs.RegisterFile.Pools.{mode_in}
 use Rattle.nic_device.specs.DmaRing.declared.dir.Dir.TheVariants.{Rx}
@@ -22,12 +22,12 @@ use Rattle.history_laws.proofs.Leaving.{left-side}
 use Rattle.history_laws.proofs.Sides.{receive_left}
 use Rattle.history_laws.proofs.Steady.{up_kept}
 use Rattle.history_laws.proofs.Tails.{receive-tail}
-use Rattle.pmd_rx.specs.Receive.{MovesNext, Receive, Stage, Looks, Sees, Holding, Lent, Named, slot_at, vacant}
-use Rattle.receive_laws.specs.Joint.{Agree, StageHolds}
+use Rattle.pmd_rx.specs.Receive.{MovesNext, Receive, slot_at, vacant}
+use Rattle.receive_laws.specs.Joint.{Agree}
 use Rattle.receive_laws.specs.Pieces.{Piece}
 use Rattle.receive_laws.specs.Up.{IsUp, LeavingStaysUp, EnableStepChangesNothing, EntryStaysUp, OwnEventStaysUp, ReceiveStepStaysUp}
 use Rattle.receive_laws.proofs.Clear.{no_registers}
-use Rattle.receive_laws.proofs.Moving.{low_tail}
+use Rattle.receive_laws.proofs.Moving.{low_tail, both_of}
 use Rattle.receive_laws.proofs.Received.{never_shuts}
 use Rattle.receive_laws.proofs.Switching.{switched_same}
 use Rattle.receive_laws.proofs.Tail.{tail_written}
@@ -48,20 +48,16 @@ receive_stays_up queue s out v sound j up = deed_up queue s out v event.RxStep j
 
 -- the driver's own
 
-move_up : (queue : ℕ) (s : State) (out : List Piece) (v : Receive) (port : Port) (number word : ℕ) (stage : Stage)
-    → IsSound s → Agree queue s out v → v.stage ≡ stage → MovesNext v.layout stage port number word → IsUp queue s
+move_up : (queue : ℕ) (s : State) (out : List Piece) (v : Receive) (port : Port) (number word : ℕ)
+    → IsSound s → Agree queue s out v → MovesNext v port number word → IsUp queue s
     → IsUp queue (after s (event.Write port number word))
-move_up queue s out v port number word Looks i j is own up = absurd own
-move_up queue s out v port number word (Sees first second) i j is own up = absurd own
-move_up queue s out v port number word (Holding p) i j is own up = absurd own
-move_up queue s out v port number word (Lent o b) i j is own up = absurd own
-move_up queue s out v port number word (Named o b) i (gone, here, h) is own up =
+move_up queue s out v port number word i (gone, here, h) own up =
     let l = v.layout in
-    let both : StageHolds s.memory l here (Named o b) = subst (StageHolds s.memory l here) is h.stage in
+    let both = both_of s.memory l v.stage own.stage h.stage in
     let tail = slot_at l (vacant l + 1) in
     let side = receive-tail s.registers queue tail i.registers.shape h.named.low
     (low_tail l h.ring both.0.room) in
-    rw (own.0, own.1, own.2)
+    rw (own.port_is, own.number_is, own.word_is)
     (subst (λ (x : Outcome). IsUp queue x.state) (sym (tail_written s queue l tail h.named))
     (subst sides.IsUp (sym (ap receive_side side)) (record { on = up.on; wanted = up.wanted })))
 
@@ -75,7 +71,7 @@ own_stays_up queue s out v (event.Lend b) i j own up =
 own_stays_up queue s out v (event.Poke16 a bytes) i j own up =
     left_up queue s (after s (event.Poke16 a bytes)) ((memory_rest.poke s a bytes).queues.receive queue) up
 own_stays_up queue s out v (event.Write port number word) i j own up =
-    move_up queue s out v port number word v.stage i j refl own up
+    move_up queue s out v port number word i j own up
 own_stays_up queue s out v e i j own up = absurd own
 
 -- an event that leaves the queue's registers alone

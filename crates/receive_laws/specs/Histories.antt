@@ -13,7 +13,8 @@ use Rattle.device_lock.specs.declared.alone.Watched.{Watched}
 use Rattle.device_lock.specs.declared.entry.Entry.{Entry}
 use Rattle.pmd_rx.specs.PmdSeam.Events.{is_step}
 use Rattle.pmd_rx.specs.Plays.{AllOwn, after_call, played_by}
-use Rattle.pmd_rx.specs.Receive.{Receive, held, descriptor_at}
+use Rattle.pmd_rx.specs.Receive.{Receive, descriptor_at}
+use Rattle.pmd_rx.specs.declared.ring.Stage.TheVariants.{Looks}
 use Rattle.receive_laws.specs.Delivered.{IsPrefixOf, delivered, pieces_since}
 use Rattle.receive_laws.specs.Joint.{Agree}
 use Rattle.receive_laws.specs.Steps.{Each, Leaves, OwnReportsSpare}
@@ -72,18 +73,29 @@ HandedIsPrefix =
     IsPrefixOf (played_by v marks (calls_of w.pass rest)).handed
     (delivered w.queue (new_state w.vfs fifo) (start ++ rest))
 
--- a look at a driver's next slot, from a state on, would find it not done, while the driver holds no packet
+-- a look at the slot behind those that a driver saw, from a state on, would find it not done
 pub record FindsNone (s : State) (v : Receive) : Type 0 where
-  pub holds_none : held v.stage ≡ []
-  pub posted : 0 < length v.layout.blocks
+  pub looks : v.stage ≡ Looks
+  pub posted : length v.seen < length v.layout.blocks
   pub bytes : List ℕ
-  pub reply : reply_to s (event.Peek16 (descriptor_at v.layout 0)) ≡ Bytes bytes
+  pub reply : reply_to s (event.Peek16 (descriptor_at v.layout (length v.seen))) ≡ Bytes bytes
   pub waits : IsFalse (is_done (second_half bytes))
 
--- where a look that comes next finds no packet, all that was delivered was handed out
+-- where a look that comes next finds its slot not done, all that was delivered was handed out
 abbrev pub NoneIsAll : Type 0
 NoneIsAll =
     (w : Watched) (fifo : ℕ) (start rest : List Entry) (v : Receive) (marks : List Bool) →
     IsDriven w fifo start rest v marks →
     FindsNone (leads_to (new_state w.vfs fifo) (start ++ rest)) (played_by v marks (calls_of w.pass rest)) →
     (played_by v marks (calls_of w.pass rest)).handed ≡ delivered w.queue (new_state w.vfs fifo) (start ++ rest)
+
+-- and so it was at an earlier place of the history, where nothing was handed out since
+abbrev pub NoneIsAllBefore : Type 0
+NoneIsAllBefore =
+    (w : Watched) (fifo : ℕ) (start before rest : List Entry) (v : Receive) (early marks : List Bool) →
+    IsDriven w fifo start before v early → IsDriven w fifo start (before ++ rest) v marks →
+    FindsNone (leads_to (new_state w.vfs fifo) (start ++ (before ++ rest)))
+    (played_by v marks (calls_of w.pass (before ++ rest))) →
+    (played_by v marks (calls_of w.pass (before ++ rest))).handed
+    ≡ (played_by v early (calls_of w.pass before)).handed →
+    (played_by v early (calls_of w.pass before)).handed ≡ delivered w.queue (new_state w.vfs fifo) (start ++ before)

@@ -1,5 +1,5 @@
 -- What the device and a driver agree on, between two events, of the receive side of the driver's queue.
-use Rattle.std.specs.Prelude.{ℕ, ◌≡◌, ◌≢◌, ◌+◌, ◌*◌, ◌<◌, ◌≤◌, false, List, ◌++◌, length, map, ⊤, IsTrue, IsFalse}
+use Rattle.std.specs.Prelude.{ℕ, ◌≡◌, ◌≢◌, ◌+◌, ◌*◌, ◌<◌, ◌≤◌, true, false, List, [], ◌∷◌, ◌++◌, length, ⊤, IsTrue, IsFalse}
 use Rattle.nic_device.specs.DmaArena.Memory.{Memory, has_block, read_at}
 use Rattle.nic_device.specs.DmaRing.Descriptor.{first_half, second_half}
 use Rattle.nic_device.specs.DmaRing.Receive.{is_done, ends_packet, bytes_in}
@@ -11,8 +11,14 @@ use Rattle.nic_device.specs.Named.{named}
 use Rattle.nic_device.specs.State.{State}
 use Rattle.nic_device.specs.declared.named.Named.TheVariants.{Register}
 use Rattle.pmd_rx.specs.PmdSeam.Slots.{blocks_for, is_ring_block, EachRingBlock}
-use Rattle.pmd_rx.specs.Receive.{Layout, Stage, Looks, Sees, Holding, Lent, Named, Receive, slot_at, descriptor_at, block_at, vacant, held}
-use Rattle.receive_laws.specs.Pieces.{Piece, whole_packet, AllEnd, piece_at}
+use Rattle.pmd_rx.specs.PmdSeam.Bufs.{bytes_of}
+use Rattle.pmd_rx.specs.PmdSeam.Packet.{kept_of}
+use Rattle.pmd_rx.specs.PmdSeam.declared.packet.Packet.{Packet}
+use Rattle.pmd_rx.specs.Receive.{Layout, Receive, slot_at, descriptor_at, block_at, vacant, no_packet, left_of, out_of, listed}
+use Rattle.pmd_rx.specs.declared.ring.Stage.{Stage}
+use Rattle.pmd_rx.specs.declared.ring.Stage.TheVariants.{Looks, Takes, Owes, Lent, Named}
+use Rattle.pmd_rx.specs.declared.ring.Told.{Told}
+use Rattle.receive_laws.specs.Pieces.{Piece, packets_behind, packets_of, open_after, piece_at}
 
 -- a descriptor that waits: it names its block, and isn't done
 pub record IsPosted (m : Memory) (a block : ℕ) : Type 0 where
@@ -65,19 +71,12 @@ pub record IsLoose (m : Memory) (l : Layout) (block : ℕ) : Type 0 where
   pub room : length l.blocks + 1 < l.size
   pub there : IsTrue (has_block m block)
 
--- what a driver saw of the next slot
-pub record Saw (ps : List Piece) (first second : ℕ) : Type 0 where
-  pub some : 0 < length ps
-  pub first_is : first ≡ (piece_at ps 0).first
-  pub len_is : bytes_in second ≡ length (piece_at ps 0).bytes
-  pub ended : IsTrue (piece_at ps 0).end
-
-abbrev pub StageHolds : Memory → Layout → List Piece → Stage → Type 0
-StageHolds m l ps Looks = ⊤
-StageHolds m l ps (Sees first second) = Saw ps first second
-StageHolds m l ps (Holding p) = ⊤
-StageHolds m l ps (Lent o b) = IsLoose m l b
-StageHolds m l ps (Named o b) = IsLoose m l b × IsPosted m (descriptor_at l (vacant l)) b
+abbrev pub StageHolds : Memory → Layout → Stage → Type 0
+StageHolds m l Looks = ⊤
+StageHolds m l Takes = ⊤
+StageHolds m l Owes = ⊤
+StageHolds m l (Lent b) = IsLoose m l b
+StageHolds m l (Named b) = IsLoose m l b × IsPosted m (descriptor_at l (vacant l)) b
 
 -- the slots from the next one on: the first are filled with these pieces, those behind them up to the tail are posted,
 -- and of all others, which are consumed or vacant, nothing is said
@@ -87,11 +86,60 @@ pub record HasSlots (m : Memory) (l : Layout) (here : List Piece) : Type 0 where
   pub filled : (k : ℕ) → k < length here → IsFilled m (descriptor_at l k) (block_at l k) (piece_at here k)
   pub posted : (k : ℕ) → length here ≤ k → k < length l.blocks → IsPosted m (descriptor_at l k) (block_at l k)
 
--- the pieces that were written on the queue since its side went on: those that were consumed, each a whole packet that
--- is held or handed out, and then those that stand in slots
+-- what the driver saw of the first pieces that stand in slots
+pub record Saw (t : Told) (p : Piece) : Type 0 where
+  pub first_is : t.first ≡ p.first
+  pub len_is : bytes_in t.second ≡ length p.bytes
+  pub end_is : ends_packet t.second ≡ p.end
+
+abbrev pub AreSeen : List Told → List Piece → Type 0
+AreSeen [] ps = ⊤
+AreSeen (t ∷ ts) [] = ⊥
+AreSeen (t ∷ ts) (p ∷ ps) = Saw t p × AreSeen ts ps
+
+-- a part that fills its block and doesn't end its packet
+pub record IsOpen (t : Told) : Type 0 where
+  pub goes_on : ends_packet t.second ≡ false
+  pub full : bytes_in t.second ≡ 2048
+
+abbrev pub AreOpen : List Told → Type 0
+AreOpen [] = ⊤
+AreOpen (t ∷ ts) = IsOpen t × AreOpen ts
+
+-- the last parts of a packet, of which the last alone ends it. There may be none
+abbrev pub EndLast : List Told → Type 0
+EndLast [] = ⊤
+EndLast (t ∷ []) = ends_packet t.second ≡ true
+EndLast (t ∷ u ∷ ts) = IsOpen t × EndLast (u ∷ ts)
+
+-- while the driver looks, it holds nothing and saw no end; else it saw where the packet ends
+abbrev pub IsAt : Stage → List Told → Packet → Type 0
+IsAt Looks seen held = (held ≡ no_packet) × AreOpen seen
+IsAt Takes seen held = EndLast seen
+IsAt Owes seen held = EndLast seen
+IsAt (Lent b) seen held = EndLast seen
+IsAt (Named b) seen held = EndLast seen
+
+-- what is left of a driver's packet once the tail moves on
+abbrev pub still_held : Receive → Packet
+still_held v = left_of v.seen v.held
+
+-- the pieces that were consumed are the packets that were handed out or are to be as the tail moves on, and the parts
+-- of one that is held: whatever comes behind them is cut as behind those parts
+abbrev pub AreCut : List Piece → Receive → Type 0
+AreCut gone v =
+    (rest : List Piece)
+    → packets_of (gone ++ rest)
+    ≡ (v.handed ++ listed (out_of v.seen v.held)) ++ packets_behind (kept_of (still_held v)).bytes rest
+
+-- the pieces that were written on the queue since its side went on: those that were consumed, and then those that
+-- stand in slots, of which the driver saw the first. A packet that isn't whole fills its blocks
 pub record InOrder (out : List Piece) (v : Receive) (gone here : List Piece) : Type 0 where
-  pub ended : AllEnd gone
-  pub taken : map whole_packet gone ≡ v.handed ++ held v.stage
+  pub cut : AreCut gone v
+  pub parts : open_after 0 gone ≡ length (still_held v).bufs
+  pub full : length (bytes_of (still_held v).bufs) ≡ (still_held v).len
+  pub seen : AreSeen v.seen here
+  pub stage : IsAt v.stage v.seen v.held
   pub order : out ≡ gone ++ here
 
 -- the device and the driver agree, where these pieces were consumed and these stand in slots
@@ -100,7 +148,7 @@ pub record Holds (queue : ℕ) (s : State) (out : List Piece) (v : Receive) (gon
   pub ring : IsRing v.layout
   pub side : IsSetUp (receive_queue_of s.registers queue) v.layout (length here)
   pub slots : HasSlots s.memory v.layout here
-  pub stage : StageHolds s.memory v.layout here v.stage
+  pub stage : StageHolds s.memory v.layout v.stage
   pub order : InOrder out v gone here
 
 -- the device and the driver agree on the queue, since whose receive side went on these pieces were written

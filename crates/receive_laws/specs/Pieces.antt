@@ -1,5 +1,5 @@
 -- The packets that the pieces make that were written on a queue.
-use Rattle.std.specs.Prelude.{ℕ, ◌≡◌, true, List, [], ◌∷◌, ◌++◌, slice_index_or, if◌then◌else◌, ⊤}
+use Rattle.std.specs.Prelude.{ℕ, ◌≡◌, ◌+◌, ◌<◌, false, length, List, [], ◌∷◌, ◌++◌, slice_index_or, if◌then◌else◌, ⊤}
 use Rattle.nic_device.specs.DmaRing.Driver.{rss_in, hash_in}
 pub use Rattle.history_laws.specs.Segments.{Piece, no_piece, first_of, pieces_told, pieces}
 use Rattle.pmd_rx.specs.PmdSeam.Packet.{Kept}
@@ -19,14 +19,19 @@ packets_behind front (p ∷ ps) =
 abbrev pub packets_of : List Piece → List Kept
 packets_of ps = packets_behind [] ps
 
--- a piece that is a whole packet
-abbrev pub whole_packet : Piece → Kept
-whole_packet p = packet_told p.bytes p.first
+-- how many pieces there are of a packet that doesn't end yet, behind so many of it and these
+abbrev pub open_after : ℕ → List Piece → ℕ
+open_after n [] = n
+open_after n (p ∷ ps) = open_after (if p.end then 0 else n + 1) ps
 
--- each piece ends its frame
-abbrev pub AllEnd : List Piece → Type 0
-AllEnd [] = ⊤
-AllEnd (p ∷ ps) = (p.end ≡ true) × AllEnd ps
+-- a packet has at most so many pieces, and each but its last has 2,048 bytes: this one comes behind so many of it
+pub record Fits (most before : ℕ) (p : Piece) : Type 0 where
+  pub full : p.end ≡ false → length p.bytes ≡ 2048
+  pub more : p.end ≡ false → before + 1 < most
+
+abbrev pub AllFit : ℕ → ℕ → List Piece → Type 0
+AllFit most before [] = ⊤
+AllFit most before (p ∷ ps) = Fits most before p × AllFit most (if p.end then 0 else before + 1) ps
 
 abbrev pub piece_at : List Piece → ℕ → Piece
 piece_at ps k = slice_index_or ps k no_piece

@@ -20,16 +20,16 @@ pub record IsFreshSide (q : ReceiveQueue) (ring size : ℕ) : Type 0 where
   pub tail : q.ring.tail ≡ 0
 
 -- the ring is lent, its words are written, and the driver's number names the queue's tail
-pub record IsReady (queue : ℕ) (port : Port) (tail ring size : ℕ) (s : State) : Type 0 where
+pub record IsReady (queue : ℕ) (port : Port) (tail ring size most : ℕ) (s : State) : Type 0 where
   pub some : 0 < size
   pub few : size ≤ 1024
   pub low : ring + blocks_for size ≤ 65536
-  pub named : IsNamed s queue (at_start port tail ring size).layout
+  pub named : IsNamed s queue (at_start port tail ring size most).layout
   pub side : IsFreshSide (receive_queue_of s.registers queue) ring size
   pub there : EachRingBlock ring size (λ b. IsTrue (has_block s.memory b))
 
 -- there the device and a driver that posted nothing yet agree
 abbrev pub StartAgrees : Type 0
 StartAgrees =
-    (queue : ℕ) (port : Port) (tail ring size : ℕ) (s : State) → IsReady queue port tail ring size s →
-    Agree queue s [] (at_start port tail ring size)
+    (queue : ℕ) (port : Port) (tail ring size most : ℕ) (s : State) → IsReady queue port tail ring size most s →
+    Agree queue s [] (at_start port tail ring size most)

@@ -22,31 +22,33 @@ use Rattle.nic_device.specs.declared.event.Reply.TheVariants.{Bytes, Wrote}
 use Rattle.history_laws.specs.DeviceLaws.Leaving.{LeavesReceive, LeavesBlock}
 pub use Rattle.history_laws.specs.Left.{IsOutside}
 use Rattle.pmd_rx.specs.PmdSeam.Slots.{EachRingBlock}
-use Rattle.pmd_rx.specs.Receive.{Receive, Stage, Looks, Sees, Holding, Lent, Named, IsOwn, drive, descriptor_at, block_at}
+use Rattle.pmd_rx.specs.Receive.{Receive, IsOwn, drive, descriptor_at, block_at}
+use Rattle.pmd_rx.specs.declared.ring.Stage.{Stage}
+use Rattle.pmd_rx.specs.declared.ring.Stage.TheVariants.{Looks, Takes, Owes, Lent, Named}
 use Rattle.receive_laws.specs.Joint.{Holds, Agree}
 use Rattle.receive_laws.specs.Pieces.{Piece, pieces, piece_at}
 
--- what a look at the next slot tells: its descriptor is done exactly where the slot is filled, and then tells of the
--- slot's piece
-pub record TellsSlot (here : List Piece) (d : List ℕ) : Type 0 where
-  pub done : IsTrue (is_done (second_half d)) ↔ (0 < length here)
-  pub end : 0 < length here → ends_packet (second_half d) ≡ (piece_at here 0).end
-  pub len : 0 < length here → bytes_in (second_half d) ≡ length (piece_at here 0).bytes
-  pub first : 0 < length here → first_half d ≡ (piece_at here 0).first
+-- what a look at a slot tells: its descriptor is done exactly where the slot is filled, and then tells of the slot's
+-- piece
+pub record TellsSlot (here : List Piece) (k : ℕ) (d : List ℕ) : Type 0 where
+  pub done : IsTrue (is_done (second_half d)) ↔ (k < length here)
+  pub end : k < length here → ends_packet (second_half d) ≡ (piece_at here k).end
+  pub len : k < length here → bytes_in (second_half d) ≡ length (piece_at here k).bytes
+  pub first : k < length here → first_half d ≡ (piece_at here k).first
 
 abbrev pub LookTellsSlot : Type 0
 LookTellsSlot =
-    (queue : ℕ) (s : State) (out : List Piece) (v : Receive) (gone here : List Piece) →
-    Holds queue s out v gone here → 0 < length v.layout.blocks → (d : List ℕ) →
-    reply_to s (event.Peek16 (descriptor_at v.layout 0)) ≡ Bytes d → TellsSlot here d
+    (queue : ℕ) (s : State) (out : List Piece) (v : Receive) (gone here : List Piece) (k : ℕ) →
+    Holds queue s out v gone here → k < length v.layout.blocks → (d : List ℕ) →
+    reply_to s (event.Peek16 (descriptor_at v.layout k)) ≡ Bytes d → TellsSlot here k d
 
 -- of a block that is lent and not posted yet, where there is one
 abbrev pub IfFresh : Stage → (ℕ → Type 0) → Type 0
 IfFresh Looks P = ⊤
-IfFresh (Sees first second) P = ⊤
-IfFresh (Holding p) P = ⊤
-IfFresh (Lent o b) P = P b
-IfFresh (Named o b) P = P b
+IfFresh Takes P = ⊤
+IfFresh Owes P = ⊤
+IfFresh (Lent b) P = P b
+IfFresh (Named b) P = P b
 
 -- each block that the driver has lent for receiving: those that the ring is in, those of its slots, and a fresh one
 pub record Each (v : Receive) (P : ℕ → Type 0) : Type 0 where

@@ -6,11 +6,11 @@
 //! `pmd_rx` says it follows from the driver's own calls.
 #![tactic(auto)]
 
-ghost use Rattle.receive_laws.specs.Healthy.{OwnRepliesAreHealthy, LooksTellPackets};
-ghost use Rattle.receive_laws.specs.Histories.{HandedIsPrefix, NoneIsAll};
+ghost use Rattle.receive_laws.specs.Fitting.{FramesStayFitting, NoneBegunWhileOff};
+ghost use Rattle.receive_laws.specs.Healthy.{OwnRepliesAreHealthy};
+ghost use Rattle.receive_laws.specs.Histories.{HandedIsPrefix, NoneIsAll, NoneIsAllBefore};
 ghost use Rattle.receive_laws.specs.Inside.{PieceIsInside};
 ghost use Rattle.receive_laws.specs.Lent.{OwnLendsAreKnown};
-ghost use Rattle.receive_laws.specs.Short.{FramesStayShort, ShortFramesEnd};
 ghost use Rattle.receive_laws.specs.Starting.{StartAgrees};
 ghost use Rattle.receive_laws.specs.Steps.{LookTellsSlot, ReceiveStepKeeps, EnableStepKeeps, LeavingKeeps, SwitchingKeeps, OwnEventKeeps, ForeignEntryKeeps, DeviceStepKeeps};
 ghost use Rattle.receive_laws.specs.Up.{LeavingStaysUp, EnableStepChangesNothing, ReceiveStepStaysUp, OwnEventStaysUp, EntryStaysUp};
@@ -52,7 +52,7 @@ pub fn queue_up_stays_up()
 {}
 
 /// Each event of the driver's own keeps what they agree on, with the driver that it leads to: a look, the block of a
-/// seen packet taken, a fresh block lent, the vacant descriptor written, the tail moved on.
+/// part taken, a fresh block lent, the vacant descriptor written, the tail moved on.
 pub fn own_event_keeps_the_agreement()
     ensures { OwnEventKeeps }
 {}
@@ -70,6 +70,7 @@ pub fn foreign_entry_keeps_the_agreement()
 pub fn handed_packets_are_a_prefix_of_those_delivered()
     ensures prefix { HandedIsPrefix }
     ensures all { NoneIsAll }
+    ensures before { NoneIsAllBefore }
 {}
 
 /// As the side goes on with its ring lent and its words written, the device and a driver that posted nothing agree.
@@ -77,20 +78,21 @@ pub fn fresh_ring_agrees()
     ensures { StartAgrees }
 {}
 
-/// Each event of the driver's own gets the reply of a healthy queue where the two agree, each piece that was written
-/// ends its frame, and a block that is lent isn't lent yet: a look tells a descriptor, of a whole packet where it is
-/// done, the block of a seen packet is taken, a fresh one lent, its descriptor written and the tail moved on.
+/// Each event of the driver's own gets the reply of a healthy queue where the two agree, the packets that were written
+/// have no more pieces than the driver takes, each but its last of 2,048 bytes, and a block that is lent isn't lent
+/// yet: a look tells a descriptor, of a part of a packet where it is done, the block of a part is taken, a fresh one
+/// lent, its descriptor written and the tail moved on.
 pub fn own_replies_are_healthy()
-    ensures replies { OwnRepliesAreHealthy }
-    ensures packets { LooksTellPackets }
+    ensures { OwnRepliesAreHealthy }
 {}
 
-/// Where the frames that wait for the queue have at most 2,048 bytes, and longer ones aren't let in, it stays so over
-/// every event that writes no setting; and where the device and the driver agree, each piece that is written on the
-/// queue then ends its frame.
-pub fn short_frames_end_where_they_are_written()
-    ensures stay { FramesStayShort }
-    ensures end { ShortFramesEnd }
+/// Where the frames that wait for the queue fit as many slots as the driver takes for a packet, longer ones aren't let
+/// in, and so do the packets that were written, it stays so over every event that writes no setting and resets not the
+/// queue's pool, while the side is up: each piece that is written but the last of its frame fills its block. While the
+/// side is off nothing is written of a frame that waits for the queue.
+pub fn fitting_frames_stay_fitting()
+    ensures stay { FramesStayFitting }
+    ensures off { NoneBegunWhileOff }
 {}
 
 /// Where of some numbers, as an arena's, only those are lent that the driver has lent for receiving or others have,

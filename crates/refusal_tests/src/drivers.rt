@@ -21,6 +21,7 @@ pub const PLAIN: Setup = Setup {
     key: [0x6D; 40],
     reta: [0; 128],
     promiscuous: true,
+    frame: 1518,
 };
 
 /// A new device in hand.
@@ -173,7 +174,7 @@ impl Driving {
     /// What is left of a start that was refused is its arena, all of whose blocks are free, once it is stopped.
     fn start<R: Abort>(&mut self, rt: &R, alloc: Global) -> bool {
         let arena = in_turn(rt, some(rt, self.arena.take()));
-        match Pmd::start(alloc, &mut self.nic, Port::Pf, 0, 8, arena) {
+        match Pmd::start(alloc, &mut self.nic, Port::Pf, 0, 8, 1518, arena) {
             Ok(pmd) => {
                 put(rt, &mut self.pmd, pmd);
                 true

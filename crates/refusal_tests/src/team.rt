@@ -28,6 +28,7 @@ fn jobs<R: Abort>(rt: &R, alloc: Global, passes: Vec<Pass>) -> Vec<Job> {
             queue,
             pf_queue: queue,
             size: 8,
+            frame: 1518,
             arena: done(rt, Arena::new(alloc, 32 * u32::from(queue), 32)),
             rounds: 4,
         };

@@ -31,6 +31,7 @@ pub enum Owner {
 }
 
 /// Whose register a place is, by its row's bank and its index, which is below the row's count.
+#[inline(always)]
 pub fn owner_of(place: Place) -> Owner
     requires { place.index < (row_of place.row).count }
     ensures owner { result ≡ owner_of place }

@@ -46,11 +46,14 @@ impl HashKey {
         &self.words
     }
 
-    /// A word is written.
+    /// A word is written. One that is there already leaves the tables as they are.
     pub fn set_word(&mut self, index: usize, word: u32)
         requires { index < 10 }
         ensures { self.new ≡ slice_set self.old index word }
     {
+        if self.words[index] == word {
+            return;
+        }
         self.words[index] = word;
         refill_tables(&mut self.tables, &self.words, index);
     }

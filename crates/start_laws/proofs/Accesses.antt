@@ -1,5 +1,5 @@
 -- A driver's reads of enable words, and the block that it lends, where sides stand still.
-use Rattle.std.proofs.Common.{◌≡◌, ℕ, inl, inr, Bool, true, false, ◌||◌, [], refl, sym, ap, ◌∙◌, subst}
+use Rattle.std.proofs.Common.{◌≡◌, ℕ, inl, inr, Bool, true, false, ◌||◌, List, [], refl, sym, ap, ◌∙◌, subst}
 use Rattle.std.specs.Prelude.{◌==◌, IsTrue}
 use Rattle.std.specs.FinMap as map
 use Rattle.std.proofs.lemmas.Bool.{cases_Bool, eqb-true, eqb-false, or_cases}
@@ -10,7 +10,7 @@ use Rattle.nic_device.specs.RegisterFile.Bits.{has_bit}
 use Rattle.nic_device.specs.DmaRing.declared.dir.Dir.TheVariants.{Rx, Tx}
 use Rattle.nic_device.specs.RegisterLaws.Sides.{ReceiveQueue, TransmitQueue}
 use Rattle.nic_device.specs.Outcome.{Outcome}
-use Rattle.nic_device.specs.State.{State}
+use Rattle.nic_device.specs.State.{State, Waiting}
 use Rattle.nic_device.specs.Step.{step_of, after}
 use Rattle.nic_device.specs.declared.event.Event.TheVariants as event
 use Rattle.nic_device.specs.declared.event.Port.{Port}
@@ -21,6 +21,7 @@ use Rattle.device_lock.specs.Alone.{Blocks}
 use Rattle.receive_laws.specs.HistoryLaws.Sides.{Side, receive_side, transmit_side}
 use Rattle.receive_laws.proofs.HistoryLaws.Asking.{told_on}
 use Rattle.receive_laws.proofs.HistoryLaws.Sides.{queues_left}
+use Rattle.receive_laws.specs.Fitting.{begun_on}
 use Rattle.start_laws.specs.Moves.{and_one, receive_seen, transmit_seen, ReceiveReadStands, TransmitReadStands, LendStands}
 use Rattle.start_laws.specs.Standing.{IsZero, Stand, Stands}
 
@@ -47,6 +48,7 @@ read_stands queue s rx tx rings port n stand =
           stand.receives;
       transmits = subst (λ (z : Side). Stands z (transmit_side tx [])) (sym (queues_left queue s _ Tx rest.queues))
           stand.transmits;
+      begun = ap (λ (ws : List Waiting). begun_on queue ws) rest.frames.waiting ∙ stand.begun;
       zero = λ b is. ap (λ (m : Memory). map.get m b) rest.memory ∙ stand.zero b is;
     }
 
@@ -55,6 +57,7 @@ receive_read_stands queue s rx tx rings port n word stand names told =
     read_stands queue s (receive_seen (has_bit 25 word) rx) tx rings port n (record {
       receives = seen_stands _ _ (has_bit 25 word) stand.receives (told_on queue s port n word told Rx names);
       transmits = stand.transmits;
+      begun = stand.begun;
       zero = stand.zero;
     })
 
@@ -63,6 +66,7 @@ transmit_read_stands queue s rx tx rings port n word stand names told =
     read_stands queue s rx (transmit_seen (has_bit 25 word) tx) rings port n (record {
       receives = stand.receives;
       transmits = seen_stands _ _ (has_bit 25 word) stand.transmits (told_on queue s port n word told Tx names);
+      begun = stand.begun;
       zero = stand.zero;
     })
 
@@ -89,5 +93,6 @@ lend_stands queue s rx tx rings ring stand =
     (λ e. record {
       receives = stand.receives;
       transmits = stand.transmits;
+      begun = stand.begun;
       zero = λ b is. zero_in s.memory ring b rings stand.zero is;
     })

@@ -53,38 +53,40 @@ ByWrite queue q P Q number = Leads queue (call_of (event.Write q.port number 0) 
 
 module _ (P Q : Side → Type 0) where
   -- events that leave the queue alone keep what stays of each side whatever the device does
-  pub both_kept : IsSteady P → IsSteady Q → (w : Watched) (mine : Blocks) (q : AtPort)
-      → IsKept w mine (Both P Q w.queue q)
-  both_kept p r w mine q s e x b = record {
-    ground = ground_kept w mine q s e x b.ground;
+  pub both_kept : IsSteady P → IsSteady Q → (w : Watched) (mine : Blocks) (q : AtPort) (frame : ℕ)
+      → IsKept w mine (Both P Q w.queue q frame)
+  both_kept p r w mine q frame s e x b = record {
+    ground = ground_kept w mine q frame s e x b.ground;
     receive = steady_kept Rx w.queue s e P b.receive p (left_deed Rx w mine s e x);
     transmit = steady_kept Tx w.queue s e Q b.transmit r (left_deed Tx w mine s e x);
   }
 
-  module _ (queue : ℕ) (q : AtPort) where
-    both_same : (s : State) (e : Event Block) → IsPlain q e → LeavesQueues s (after s e) → Both P Q queue q s
-        → Both P Q queue q (after s e)
+  module _ (queue : ℕ) (q : AtPort) (frame : ℕ) where
+    both_same : (s : State) (e : Event Block) → IsPlain q e → LeavesQueues s (after s e) → Both P Q queue q frame s
+        → Both P Q queue q frame (after s e)
     both_same s e plain left b = record {
-      ground = plain_keeps queue q s e plain b.ground;
+      ground = plain_keeps queue q frame s e plain b.ground;
       receive = subst P (sym (queues_left queue s (after s e) Rx left)) b.receive;
       transmit = subst Q (sym (queues_left queue s (after s e) Tx left)) b.transmit;
     }
 
-    pub both_read : (s : State) (port : Port) (number : ℕ) → Both P Q queue q s
-        → Both P Q queue q (after s (event.Read port number))
+    pub both_read : (s : State) (port : Port) (number : ℕ) → Both P Q queue q frame s
+        → Both P Q queue q frame (after s (event.Read port number))
     both_read s port number b = both_same s (event.Read port number) tt (read_rest s port number).queues b
 
-    pub both_take : (s : State) (number : ℕ) → Both P Q queue q s → Both P Q queue q (after s (event.Take number))
+    pub both_take : (s : State) (number : ℕ) → Both P Q queue q frame s
+        → Both P Q queue q frame (after s (event.Take number))
     both_take s number b = both_same s (event.Take number) tt (memory_rest.take s number).queues b
 
     -- a side is asked off, and one that was asked is seen off
 
     pub asks_receive : (N : Side → Type 0) → ((x : Side) → P x → N (record x { wanted = false })) → (number : ℕ)
-        → IsNumberOf q.port Rxdctl q.queue number → ByWrite queue q (Both P Q queue q) (Both N Q queue q) number
+        → IsNumberOf q.port Rxdctl q.queue number
+        → ByWrite queue q (Both P Q queue q frame) (Both N Q queue q frame) number
     asks_receive N then number named s met made told b =
-        let names = ground_names queue q s b.ground Rxdctl number refl named in
+        let names = ground_names queue q frame s b.ground Rxdctl number refl named in
         record {
-          ground = write_ground queue q s Rxdctl 0 number refl named b.ground;
+          ground = write_ground queue q frame s Rxdctl 0 number refl named b.ground;
           receive =
               subst N (sym (asked queue s met.sound met.small q.port number 0 Rx names))
               (then (side_of Rx queue s) b.receive);
@@ -92,11 +94,12 @@ module _ (P Q : Side → Type 0) where
         }
 
     pub asks_transmit : (N : Side → Type 0) → ((x : Side) → Q x → N (record x { wanted = false })) → (number : ℕ)
-        → IsNumberOf q.port Txdctl q.queue number → ByWrite queue q (Both P Q queue q) (Both P N queue q) number
+        → IsNumberOf q.port Txdctl q.queue number
+        → ByWrite queue q (Both P Q queue q frame) (Both P N queue q frame) number
     asks_transmit N then number named s met made told b =
-        let names = ground_names queue q s b.ground Txdctl number refl named in
+        let names = ground_names queue q frame s b.ground Txdctl number refl named in
         record {
-          ground = write_ground queue q s Txdctl 0 number refl named b.ground;
+          ground = write_ground queue q frame s Txdctl 0 number refl named b.ground;
           receive = subst P (sym (other_left queue s met.sound met.small q.port number 0 Tx names)) b.receive;
           transmit =
               subst N (sym (asked queue s met.sound met.small q.port number 0 Tx names))
@@ -105,38 +108,38 @@ module _ (P Q : Side → Type 0) where
 
     pub sees_receive : ((x : Side) → P x → IsUnwanted x) → (number word : ℕ)
         → IsNumberOf q.port Rxdctl q.queue number → has_bit 25 word ≡ false
-        → ByRead queue q (Both P Q queue q) (Both IsOff Q queue q) number word
+        → ByRead queue q (Both P Q queue q frame) (Both IsOff Q queue q frame) number word
     sees_receive none number word named zero s met made told b = record {
-      ground = read_ground queue q s number b.ground;
+      ground = read_ground queue q frame s number b.ground;
       receive =
-          seen_off queue s q.port number word (sym told) Rx (ground_names queue q s b.ground Rxdctl number refl named)
-          zero (none (side_of Rx queue s) b.receive);
+          seen_off queue s q.port number word (sym told) Rx
+          (ground_names queue q frame s b.ground Rxdctl number refl named) zero (none (side_of Rx queue s) b.receive);
       transmit = (both_read s q.port number b).transmit;
     }
 
     pub sees_transmit : ((x : Side) → Q x → IsUnwanted x) → (number word : ℕ)
         → IsNumberOf q.port Txdctl q.queue number → has_bit 25 word ≡ false
-        → ByRead queue q (Both P Q queue q) (Both P IsOff queue q) number word
+        → ByRead queue q (Both P Q queue q frame) (Both P IsOff queue q frame) number word
     sees_transmit none number word named zero s met made told b = record {
-      ground = read_ground queue q s number b.ground;
+      ground = read_ground queue q frame s number b.ground;
       receive = (both_read s q.port number b).receive;
       transmit =
-          seen_off queue s q.port number word (sym told) Tx (ground_names queue q s b.ground Txdctl number refl named)
-          zero (none (side_of Tx queue s) b.transmit);
+          seen_off queue s q.port number word (sym told) Tx
+          (ground_names queue q frame s b.ground Txdctl number refl named) zero (none (side_of Tx queue s) b.transmit);
     }
 
 -- both sides stay off
 
-pub quiet_kept : (w : Watched) (mine : Blocks) (q : AtPort) → IsKept w mine (IsQuiet w.queue q)
-quiet_kept w mine q = both_kept IsOff IsOff off_steady off_steady w mine q
+pub quiet_kept : (w : Watched) (mine : Blocks) (q : AtPort) (frame : ℕ) → IsKept w mine (IsQuiet w.queue q frame)
+quiet_kept w mine q frame = both_kept IsOff IsOff off_steady off_steady w mine q frame
 
-pub write_quiet : (queue : ℕ) (q : AtPort) (s : State) → IsQuiet queue q s → (port : Port) (number word : ℕ)
-    → IsMet queue s → IsEnding q (event.Write port number word)
-    → IsQuiet queue q (after s (event.Write port number word))
-write_quiet queue q s x port number word met (side, same, none, named) =
-    let names = ground_names queue q s x.ground (enable_row side) number (side_driven side) named in
-    subst (λ p. IsQuiet queue q (after s (event.Write p number word))) (sym same) (record {
-      ground = write_ground queue q s (enable_row side) word number (side_driven side) named x.ground;
+pub write_quiet : (queue : ℕ) (q : AtPort) (frame : ℕ) (s : State) → IsQuiet queue q frame s → (port : Port)
+    (number word : ℕ) → IsMet queue s → IsEnding q (event.Write port number word)
+    → IsQuiet queue q frame (after s (event.Write port number word))
+write_quiet queue q frame s x port number word met (side, same, none, named) =
+    let names = ground_names queue q frame s x.ground (enable_row side) number (side_driven side) named in
+    subst (λ p. IsQuiet queue q frame (after s (event.Write p number word))) (sym same) (record {
+      ground = write_ground queue q frame s (enable_row side) word number (side_driven side) named x.ground;
       receive = word_off queue s met.sound met.small q.port number word side Rx names none x.receive;
       transmit = word_off queue s met.sound met.small q.port number word side Tx names none x.transmit;
     })

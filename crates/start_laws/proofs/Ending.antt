@@ -77,12 +77,12 @@ step_left queue s e met made is =
     (no_registers (watching queue s) (mode_in s.registers) no_block e is)
 
 -- what a stop's events write keeps the receive side settled
-module _ (queue : ℕ) (q : AtPort) (s : State) where
-  pub ending_settles : (e : Event Block) → IsMet queue s → IsEvent e → IsEnding q e → HasGround queue q s
+module _ (queue : ℕ) (q : AtPort) (frame : ℕ) (s : State) where
+  pub ending_settles : (e : Event Block) → IsMet queue s → IsEvent e → IsEnding q e → HasGround queue q frame s
       → IsSettled Rx queue s → Settles Rx queue s (after s e)
   ending_settles (event.Write port number word) met made (side, same, none, named) g is =
       subst (λ p. Settles Rx queue s (after s (event.Write p number word))) (sym same)
-      (word_settles Rx queue q s number word met none g side named is)
+      (word_settles Rx queue q frame s number word met none g side named is)
   ending_settles (event.Read port number) met made ending g is =
       leaving_settles Rx queue s (after s (event.Read port number))
       (queues_left queue s _ Rx (read_rest s port number).queues) is

@@ -23,12 +23,12 @@ use Rattle.start_laws.specs.Filling.{FaultsEarly, FaultsFilling, FaultsAreEarlyO
 use Rattle.start_laws.proofs.Faultless.{receive_is_ready, switching_is_never_stray, transmit_is_ready}
 
 pub faults_are_early_or_filling : FaultsAreEarlyOrFilling
-faults_are_early_or_filling q size old a new e (inl x) is = inl (inl (record {
+faults_are_early_or_filling q size frame old a new e (inl x) is = inl (inl (record {
   arena = x.arena;
   out = x.out;
   fails = subst (λ (f : PmdFault). ReceiveFails f q size old a new x.arena x.out) is x.fails;
 }))
-faults_are_early_or_filling q size old a new e (inr (inl x)) is = inl (inr (inl (record {
+faults_are_early_or_filling q size frame old a new e (inr (inl x)) is = inl (inr (inl (record {
   made = x.made;
   ready_arena = x.ready_arena;
   arena = x.arena;
@@ -37,12 +37,12 @@ faults_are_early_or_filling q size old a new e (inr (inl x)) is = inl (inr (inl 
   receive = x.receive;
   fails = subst (λ (f : PmdFault). PreparingFails f q Tx size x.made x.ready_arena new x.arena x.out) is x.fails;
 })))
-faults_are_early_or_filling q size old a new e (inr (inr x)) is =
+faults_are_early_or_filling q size frame old a new e (inr (inr x)) is =
     by_going
     (subst (λ (f : PmdFault). GoingOnFails f q x.both_made x.both_arena x.empty new x.arena x.filled) is x.fails)
   where
     by_going : GoingOnFails DeviceFault q x.both_made x.both_arena x.empty new x.arena x.filled
-        → FaultsEarly q size old a new ⊎ FaultsFilling q size old a new
+        → FaultsEarly q size frame old a new ⊎ FaultsFilling q size frame old a new
     by_going (inl (fails, same, left)) = inl (inr (inr (record {
       ready_made = x.ready_made;
       both_made = x.both_made;
@@ -59,6 +59,8 @@ faults_are_early_or_filling q size old a new e (inr (inr x)) is =
       empty = x.empty;
       sender = x.sender;
       on = record {
+        sized = x.sized;
+        framed = x.framed;
         ready_made = x.ready_made;
         both_made = x.both_made;
         ready_arena = x.ready_arena;
@@ -73,30 +75,30 @@ faults_are_early_or_filling q size old a new e (inr (inr x)) is =
     })
 
 pub no_fault_is_early : NoFaultIsEarly
-no_fault_is_early w q fifo h size old a new along at (inl x) fresh =
-    receive_is_ready w q fifo h size old a new x.arena x.out along at x.fails fresh
-no_fault_is_early w q fifo h size old a new along at (inr (inl x)) fresh =
-    transmit_is_ready w q fifo h size old a x.made x.ready_arena x.empty new x.arena x.out along at x.receive x.fails
-    fresh
-no_fault_is_early w q fifo h size old a new along at (inr (inr x)) fresh =
-    switching_is_never_stray w q fifo h size old a x.ready_made x.ready_arena x.empty x.both_made x.both_arena x.sender
-    new along at x.receive x.transmit x.fails
+no_fault_is_early w q fifo h size frame old a new along at (inl x) fresh =
+    receive_is_ready w q fifo h size frame old a new x.arena x.out along at x.fails fresh
+no_fault_is_early w q fifo h size frame old a new along at (inr (inl x)) fresh =
+    transmit_is_ready w q fifo h size frame old a x.made x.ready_arena x.empty new x.arena x.out along at x.receive
+    x.fails fresh
+no_fault_is_early w q fifo h size frame old a new along at (inr (inr x)) fresh =
+    switching_is_never_stray w q fifo h size frame old a x.ready_made x.ready_arena x.empty x.both_made x.both_arena
+    x.sender new along at x.receive x.transmit x.fails
 
 -- just before the first read the queue is named
-first_ground : (w : Watched) (q : AtPort) (fifo : ℕ) (h : List Entry) (row : RowId) (on : Bool) (old new : List Call)
-    → BeforeNext w fifo h old (IsQuiet w.queue q) → IsMade q old new (Sees row on)
-    → BeforeLast w fifo h new (HasGround w.queue q)
-first_ground w q fifo h row on old new at (number, word, named, is, (before, added, steps)) =
-    subst (λ (calls : List Call). BeforeLast w fifo h calls (HasGround w.queue q)) (sym added)
+first_ground : (w : Watched) (q : AtPort) (frame fifo : ℕ) (h : List Entry) (row : RowId) (on : Bool)
+    (old new : List Call) → BeforeNext w fifo h old (IsQuiet w.queue q frame) → IsMade q old new (Sees row on)
+    → BeforeLast w fifo h new (HasGround w.queue q frame)
+first_ground w q frame fifo h row on old new at (number, word, named, is, (before, added, steps)) =
+    subst (λ (calls : List Call). BeforeLast w fifo h calls (HasGround w.queue q frame)) (sym added)
     (λ done rest e all own calls.
     (at before (call_of (event.Read q.port number) (reply.Word word)) steps refl done rest e all own calls).ground)
 
 pub filling_begins_well : FillingBeginsWell
-filling_begins_well w q fifo h size old a new along sized at x done rest all calls =
+filling_begins_well w q fifo h size frame old a new along at x done rest all calls =
     let quiet = x.on.receive.quiet in
-    let well = first_ground w q fifo h Rxdctl false old quiet.0 at quiet.1 in
-    let on = switched_sides_go_on w fifo h q size old a x.mid x.empty x.sender x.on along sized well done rest all
-    calls in
-    let agree = switched_sides_agree w fifo h q size old a x.mid x.empty x.sender x.on along sized well done rest
+    let well = first_ground w q frame fifo h Rxdctl false old quiet.0 at quiet.1 in
+    let on = switched_sides_go_on w fifo h q size frame old a x.mid x.empty x.sender x.on along well done rest
     all calls in
+    let agree = switched_sides_agree w fifo h q size frame old a x.mid x.empty x.sender x.on along well done
+    rest all calls in
     (on.receives, agree.0, agree.1)

@@ -1,6 +1,9 @@
 -- Where fresh sides stand whose rings are lent, device and driver agree.
-use Rattle.std.proofs.Common.{◌≡◌, ℕ, ◌+◌, ◌*◌, ◌/◌, ◌%◌, ◌^◌, true, refl, ap, ◌∙◌, arith}
+use Rattle.std.proofs.Common.{◌≡◌, ℕ, ◌+◌, ◌*◌, ◌/◌, ◌%◌, ◌^◌, ◌≤◌, inl, true, refl, ap, ◌∙◌, arith}
+use Rattle.std.specs.Prelude.{nat_le}
+use Rattle.std.proofs.lemmas.Bool.{and_parts, leb-true}
 use Rattle.nic_device.specs.DmaArena.Memory.{Memory, has_block}
+use Rattle.pmd.specs.PmdSeam.Frames.{is_frame, longest_frame, packet_limit, shortest_frame}
 use Rattle.receive_laws.specs.HistoryLaws.Sides.{Side}
 use Rattle.receive_laws.proofs.Places.{first_place}
 use Rattle.receive_laws.proofs.Starting.{start_agrees}
@@ -11,9 +14,9 @@ zero_lent : (m : Memory) (b : ℕ) → IsZero m b → has_block m b ≡ true
 zero_lent m b is = rw is refl
 
 pub fresh_receive_agrees : FreshReceiveAgrees
-fresh_receive_agrees queue s tx rings on wanted port tail ring size sized names lent stand =
+fresh_receive_agrees queue s tx rings on wanted port tail ring size most sized names lent stand =
     let x = stand.receives in
-    start_agrees queue port tail ring size s (record {
+    start_agrees queue port tail ring size most s (record {
       some = sized.some;
       few = sized.few;
       low = sized.low;
@@ -29,15 +32,22 @@ fresh_receive_agrees queue s tx rings on wanted port tail ring size sized names 
       there = λ k below. zero_lent s.memory (ring + k) (stand.zero (ring + k) (lent k below));
     })
 
+-- how long a driver's packets are at most
+few_bytes : (frame : ℕ) → is_frame frame ≡ true → packet_limit frame ≤ 10240
+few_bytes frame is =
+    let both = and_parts (nat_le shortest_frame frame) (nat_le frame longest_frame) is in
+    let most : frame ≤ 9728 = leb-true frame longest_frame both.1 in
+    omega (arith, most)
+
 pub fresh_transmit_agrees : FreshTransmitAgrees
-fresh_transmit_agrees queue s rx rings on wanted port tail ring size small sound sized names limit lent stand =
+fresh_transmit_agrees queue s rx rings on wanted port tail ring size frame small sound sized names is limit lent stand =
     let same = stand.transmits.same in (
       0,
       record {
         based = record {
           sound = sound;
           small = small;
-          layout = record { some = sized.some; few = sized.few; next = sized.some };
+          layout = record { some = sized.some; few = sized.few; next = sized.some; limit = few_bytes frame is };
           tail = names;
           limit = limit;
         };
@@ -48,12 +58,13 @@ fresh_transmit_agrees queue s rx rings on wanted port tail ring size small sound
           tail = ap (λ (q : Side). q.ring.tail) same ∙ first_place size sized.some;
           writeback = ap (λ (q : Side). q.writeback) same;
         };
-        staged = ap (λ (q : Side). q.staged) same;
         counted = record {
           room = sized.some;
+          done_fetched = omega arith;
           fetched_posted = omega arith;
-          posted_known = omega arith;
-          seen = λ e. cc;
+          posted_poked = omega arith;
+          poked_lent = omega arith;
+          lent_known = omega arith;
           apart = λ i j a b ne. absurd (omega (arith, a));
         };
         shows = record {
@@ -61,8 +72,7 @@ fresh_transmit_agrees queue s rx rings on wanted port tail ring size small sound
           ready = λ k a. absurd (omega (arith, a));
           done = λ k a. absurd (omega (arith, a));
           waits = λ k a b. absurd (omega (arith, b));
-          next = λ e. cc;
         };
-        in_order = refl;
+        sends = inl (record { packets = ap (λ (q : Side). q.staged) same; in_order = refl });
       },
     )

@@ -1,6 +1,6 @@
 -- A port can name each queue that port and queue name.
 use Rattle.std.proofs.Common.{◌≡◌, ◌≢◌, ℕ, true, Some, arith}
-use Rattle.std.specs.Prelude.{nat_lt, Option}
+use Rattle.std.specs.Prelude.{◌&&◌, nat_lt, Option}
 use Rattle.std.proofs.lemmas.Bool.{both_ways, cond_both, lt-ltb}
 use Rattle.nic_device.specs.VfMap.Pools.{queues_of}
 use Rattle.nic_device.proofs.VfMap.Queues.{few_queues}
@@ -11,6 +11,7 @@ use Rattle.nic_device.specs.declared.event.Port.TheVariants.{Pf, Vf}
 use Rattle.pmd.specs.Started.{has_room, is_size}
 use Rattle.pmd.specs.PmdSeam.declared.fault.PmdFault.{PmdFault}
 use Rattle.pmd.specs.PmdSeam.declared.fault.PmdFault.TheVariants.{DeviceFault}
+use Rattle.pmd.specs.PmdSeam.Frames.{is_frame}
 use Rattle.pmd.specs.PmdSeam.Named.{queues_named}
 use Rattle.start_laws.specs.Numbers.{queue_at, queue_in}
 use Rattle.start_laws.proofs.QueueIn.{is_in, some_where}
@@ -31,8 +32,8 @@ abbrev Passes : Option PmdFault → Type 0
 Passes g = g ≢ Some DeviceFault
 
 pub named_queues_pass : NamedQueuesPass
-named_queues_pass s a q size queue names =
-    cond_both (is_size size) _ _ Passes
+named_queues_pass s a q size frame queue names =
+    cond_both (is_size size && is_frame frame) _ _ Passes
     (λ sized. cond_both (has_room a size) _ _ Passes
     (λ some. cond_both (nat_lt q.queue (queues_named q.port)) _ _ Passes (λ named is. cc)
     (λ none. absurd (both_ways (nat_lt q.queue (queues_named q.port)) none (named_below s q.port q.queue queue names))))

@@ -26,20 +26,21 @@ use Rattle.start_laws.proofs.Last.{RefutesNext, then_refuted}
 use Rattle.start_laws.proofs.Replies.{named_registers_reply}
 use Rattle.start_laws.proofs.DrivenAccesses.{IsDriven, IsWrite, writes_driven}
 
-module _ (w : Watched) (q : AtPort) (fifo : ℕ) (h : List Entry) (along : IsAlong w fifo h) where
+module _ (w : Watched) (q : AtPort) (frame fifo : ℕ) (h : List Entry) (along : IsAlong w fifo h) where
   abbrev Grounded : List Call → Type 0
-  Grounded calls = AtCalls w fifo h calls (HasGround w.queue q)
+  Grounded calls = AtCalls w fifo h calls (HasGround w.queue q frame)
 
   access_grounded : (old new : List Call) (a : Access) → IsDriven a → IsMade q old new a → old ≢ [] → Grounded old
       → Grounded new
   access_grounded old new (Sees row on) driven made some at =
-      seen w q fifo h along (HasGround w.queue q) (HasGround w.queue q) row on (ground_kept w (lent_by w.pass h) q)
-      (ground_kept w (lent_by w.pass h) q)
-      (λ number word named is s met can told g. read_ground w.queue q s number g) old new made some at
+      seen w q fifo h along (HasGround w.queue q frame) (HasGround w.queue q frame) row on
+      (ground_kept w (lent_by w.pass h) q frame) (ground_kept w (lent_by w.pass h) q frame)
+      (λ number word named is s met can told g. read_ground w.queue q frame s number g) old new made some at
   access_grounded old new (Sets row word) driven made some at =
-      set w q fifo h along (HasGround w.queue q) (HasGround w.queue q) row word (ground_kept w (lent_by w.pass h) q)
-      (ground_kept w (lent_by w.pass h) q)
-      (λ number named s met can told g. write_ground w.queue q s row word number driven named g) old new made some at
+      set w q fifo h along (HasGround w.queue q frame) (HasGround w.queue q frame) row word
+      (ground_kept w (lent_by w.pass h) q frame) (ground_kept w (lent_by w.pass h) q frame)
+      (λ number named s met can told g. write_ground w.queue q frame s row word number driven named g) old new made some
+      at
 
   pub accesses_grounded : (all : List Access) (old new : List Call) → AllAre IsDriven all
       → AreMade q old new all → old ≢ [] → Grounded old → Grounded new
@@ -52,14 +53,14 @@ module _ (w : Watched) (q : AtPort) (fifo : ℕ) (h : List Entry) (along : IsAlo
   pub lend_grounded : (ring : ℕ) (old before : List Call) → AreSteps before → old ≢ [] → Grounded old
       → Grounded (old ++ (before ++ lending ring ∷ []))
   lend_grounded ring old before steps some at =
-      calls_lead w fifo h (HasGround w.queue q) (HasGround w.queue q) old before (lending ring) along
-      (ground_kept w (lent_by w.pass h) q) (ground_kept w (lent_by w.pass h) q)
-      (λ s met can told g. plain_keeps w.queue q s (event.Lend (zero_block ring)) tt g) steps some at
+      calls_lead w fifo h (HasGround w.queue q frame) (HasGround w.queue q frame) old before (lending ring) along
+      (ground_kept w (lent_by w.pass h) q frame) (ground_kept w (lent_by w.pass h) q frame)
+      (λ s met can told g. plain_keeps w.queue q frame s (event.Lend (zero_block ring)) tt g) steps some at
 
   -- no access is stray
 
   abbrev pub NextOnGround : List Call → Type 0
-  NextOnGround old = RefutesNext w fifo h along (HasGround w.queue q) old
+  NextOnGround old = RefutesNext w fifo h along (HasGround w.queue q frame) old
 
   pub read_never_stray : (old new : List Call) (row : RowId) → is_driven row ≡ true → NextOnGround old
       → IsStrayRead q old new row → Never w fifo h new
@@ -67,7 +68,7 @@ module _ (w : Watched) (q : AtPort) (fifo : ℕ) (h : List Entry) (along : IsAlo
       subst (Never w fifo h) (sym added)
       (next before (call_of (event.Read q.port number) (reply.Stray word)) steps refl
       (λ s g told.
-      let is = (named_registers_reply w.queue q s row number g driven named).read in
+      let is = (named_registers_reply w.queue q frame s row number g driven named).read in
       let no_such : reply.Stray word ≡ reply.Word is.0 = told ∙ is.1 in
       cc))
 
@@ -77,13 +78,13 @@ module _ (w : Watched) (q : AtPort) (fifo : ℕ) (h : List Entry) (along : IsAlo
       subst (Never w fifo h) (sym added)
       (next before (call_of (event.Write q.port number word) (reply.Stray seen)) steps refl
       (λ s g told.
-      let is = (named_registers_reply w.queue q s row number g driven named).write word in
+      let is = (named_registers_reply w.queue q frame s row number g driven named).write word in
       let no_such : reply.Stray seen ≡ reply.Done = told ∙ is in
       cc))
 
   pub next_on_ground : (old : List Call) → old ≢ [] → Grounded old → NextOnGround old
   next_on_ground old some at =
-      then_refuted w fifo h along (HasGround w.queue q) old (ground_kept w (lent_by w.pass h) q) some at
+      then_refuted w fifo h along (HasGround w.queue q frame) old (ground_kept w (lent_by w.pass h) q frame) some at
 
   write_never_fails : (old new : List Call) (a : Access) → IsWrite a → NextOnGround old
       → IsOtherwise q old new a → Never w fifo h new

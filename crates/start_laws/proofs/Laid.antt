@@ -29,14 +29,14 @@ use Rattle.start_laws.proofs.Made.{ends_some}
 use Rattle.start_laws.proofs.Parts.{calls_joined}
 use Rattle.start_laws.proofs.Walk.{Between, foreign_left, met_in, next}
 
-module _ (w : Watched) (q : AtPort) (mine : Blocks) where
+module _ (w : Watched) (q : AtPort) (frame : ℕ) (mine : Blocks) where
   -- entry by entry
   silent : (mode : Mode) (s : State) (h : List Entry) (l last : Laid) → Between w mode s → AreEvents h → IsLegal s h
-      → AllAlone w mine mode h → LaidTo w.queue q l s → LaysOn q l (calls_of w.pass h) last
+      → AllAlone w mine mode h → LaidTo w.queue q frame l s → LaysOn q l (calls_of w.pass h) last
       → sent_in w.queue s h ≡ []
   silent mode s [] l last b events legal alone x lays = refl
   silent mode s (e ∷ h) l last b events legal alone x lays =
-      let on : (m : Laid) → LeadsTo w.queue q m s e.event → LaysOn q m (calls_of w.pass h) last
+      let on : (m : Laid) → LeadsTo w.queue q frame m s e.event → LaysOn q m (calls_of w.pass h) last
       → sent_in w.queue s (e ∷ h) ≡ [] =
       λ m leads more.
       ap (λ sent. sent ++ sent_in w.queue (after s e.event) h) leads.none
@@ -45,15 +45,15 @@ module _ (w : Watched) (q : AtPort) (mine : Blocks) where
       elim (cases_Bool (e.pass == w.pass)) as (λ _. sent_in w.queue s (e ∷ h) ≡ []) [
         | inl own ↦
             let (m, lay, more) = subst (λ (cs : List Call). LaysOn q l cs last) (calls_own w.pass e h own) lays in
-            on m (own_lays w.queue q l m s (met_in w mode s b) x e.event events.0 lay) more
+            on m (own_lays w.queue q frame l m s (met_in w mode s b) x e.event events.0 lay) more
         | inr other ↦
             on l
-            (left_lays w mine q l s e.event
+            (left_lays w mine q frame l s e.event
             (foreign_left w mine mode s e b events.0 legal.0 alone.0 (eqb-false e.pass w.pass other)) x)
             (subst (λ (cs : List Call). LaysOn q l cs last) (calls_other w.pass e h other) lays)
       ]
 
-module _ (w : Watched) (q : AtPort) (fifo : ℕ) (h done rest : List Entry) (e : Entry) (along : IsAlong w fifo h)
+module _ (w : Watched) (q : AtPort) (frame fifo : ℕ) (h done rest : List Entry) (e : Entry) (along : IsAlong w fifo h)
     (all : done ++ e ∷ rest ≡ h) (own : e.pass ≡ w.pass) where
   abbrev new : State
   new = new_state w.vfs fifo
@@ -86,31 +86,31 @@ module _ (w : Watched) (q : AtPort) (fifo : ℕ) (h done rest : List Entry) (e :
     sound = histories_sound new done along.new early;
   }
 
-  off_there : HasGround w.queue q here → transmit.IsOff w.queue here → LaidTo w.queue q Off here
+  off_there : HasGround w.queue q frame here → transmit.IsOff w.queue here → LaidTo w.queue q frame Off here
   off_there ground off = record {
     ground = ground;
     side = ((off.off, off.unwanted), met.sound.bare w.queue off.off);
   }
 
-  behind : (m last : Laid) → LaidTo w.queue q m (after here e.event) → LaysOn q m (calls_of w.pass rest) last
+  behind : (m last : Laid) → LaidTo w.queue q frame m (after here e.event) → LaysOn q m (calls_of w.pass rest) last
       → sent_in w.queue (after here e.event) rest ≡ []
   behind m last x lays =
       let same : leads_to new front ≡ after here e.event = leads-append new done (e ∷ []) in
       subst (λ (s : State). sent_in w.queue s rest ≡ []) same
-      (silent w q (lent_by w.pass h) (mode_through w.vfs mode.Off front) (leads_to new front) rest m last
+      (silent w q frame (lent_by w.pass h) (mode_through w.vfs mode.Off front) (leads_to new front) rest m last
       (along_of.there w fifo h along front [] rest whole some) now.1
       (legal_behind new front rest
       (subst (IsLegal new) (ap (λ (l : List Entry). l ++ rest) (append-nil front))
       (along_of.legal w fifo h along front [] rest whole some)))
       (along_of.alone w fifo h along front [] rest whole some)
-      (subst (LaidTo w.queue q m) (sym same) x) lays)
+      (subst (LaidTo w.queue q frame m) (sym same) x) lays)
 
-  pub silent_from : (last : Laid) → HasGround w.queue q here → transmit.IsOff w.queue here
+  pub silent_from : (last : Laid) → HasGround w.queue q frame here → transmit.IsOff w.queue here
       → LaysOn q Off (call_in e ∷ calls_of w.pass rest) last → sent_in w.queue here (e ∷ rest) ≡ []
   silent_from last ground off (m, lay, more) =
-      let leads = own_lays w.queue q Off m here met (off_there ground off) e.event now.0 lay in
+      let leads = own_lays w.queue q frame Off m here met (off_there ground off) e.event now.0 lay in
       ap (λ sent. sent ++ sent_in w.queue (after here e.event) rest) leads.none ∙ behind m last leads.then more
 
 pub laid_queue_is_silent : LaidQueueIsSilent
-laid_queue_is_silent w q fifo h done rest e last along all own ground off lays =
-    silent_from w q fifo h done rest e along all own last ground off lays
+laid_queue_is_silent w q frame fifo h done rest e last along all own ground off lays =
+    silent_from w q frame fifo h done rest e along all own last ground off lays

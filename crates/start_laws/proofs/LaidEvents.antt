@@ -41,8 +41,8 @@ use Rattle.start_laws.proofs.Numbers.{ground_names}
 use Rattle.start_laws.proofs.TransmitWords.{transmit_words_taken}
 
 -- port and queue name the queue, and its transmit side is laid out so far
-pub record LaidTo (queue : ℕ) (q : AtPort) (l : Laid) (s : State) : Type 0 where
-  pub ground : HasGround queue q s
+pub record LaidTo (queue : ℕ) (q : AtPort) (frame : ℕ) (l : Laid) (s : State) : Type 0 where
+  pub ground : HasGround queue q frame s
   pub side : SideLaid l (side_of Tx queue s)
 
 -- a word that the driver writes
@@ -98,19 +98,20 @@ module _ (w : Watched) (mine : Blocks) (s : State) (e : Event Block) (left : IsL
   left_sends_none = (idle_silent Tx w.queue s e (SideLaid l) x (laid_idle l) (left_deed Tx w mine s e left)).sent
 
 -- an event of the driver's own, which sends nothing
-pub record LeadsTo (queue : ℕ) (q : AtPort) (l : Laid) (s : State) (e : Event Block) : Type 0 where
-  pub then : LaidTo queue q l (after s e)
+pub record LeadsTo (queue : ℕ) (q : AtPort) (frame : ℕ) (l : Laid) (s : State) (e : Event Block) : Type 0 where
+  pub then : LaidTo queue q frame l (after s e)
   pub none : sent_by queue s e ≡ []
 
-module _ (queue : ℕ) (q : AtPort) (l m : Laid) (s : State) (met : IsMet queue s) (x : LaidTo queue q l s) where
+module _ (queue : ℕ) (q : AtPort) (frame : ℕ) (l m : Laid) (s : State) (met : IsMet queue s)
+    (x : LaidTo queue q frame l s) where
   write_lays : (port : Port) (n word : ℕ) → IsEvent (event.Write port n word) → Lays q l (event.Write port n word) m
-      → LeadsTo queue q m s (event.Write port n word)
+      → LeadsTo queue q frame m s (event.Write port n word)
   write_lays port n word made (row, same, driven, named, may, is) =
       let names = subst (λ p. NamesRow s p n row queue) (sym same)
-      (ground_names queue q s x.ground row n driven named) in
+      (ground_names queue q frame s x.ground row n driven named) in
       record {
         then = record {
-          ground = plain_keeps queue q s (event.Write port n word) (row, same, driven, named) x.ground;
+          ground = plain_keeps queue q frame s (event.Write port n word) (row, same, driven, named) x.ground;
           side = subst (λ (k : Laid). SideLaid k (side_of Tx queue (after s (event.Write port n word)))) (sym is)
               (written queue s met l x.side port n word made.2 row may names);
         };
@@ -119,20 +120,21 @@ module _ (queue : ℕ) (q : AtPort) (l m : Laid) (s : State) (met : IsMet queue 
 
   -- one that writes no register
   free_lays : (e : Event Block) → IsEvent e → IsPlain q e → m ≡ l
-      → LeavesRegisters (watching queue s) (mode_in s.registers) e × LeavesBlocks no_block e → LeadsTo queue q m s e
+      → LeavesRegisters (watching queue s) (mode_in s.registers) e × LeavesBlocks no_block e
+      → LeadsTo queue q frame m s e
   free_lays e made plain is free =
       let left = free_left (watching queue s) no_block s e met made refl
       (outside_none queue (reply_to s e)) free in
       record {
         then = record {
-          ground = plain_keeps queue q s e plain x.ground;
+          ground = plain_keeps queue q frame s e plain x.ground;
           side = subst (λ (k : Laid). SideLaid k (side_of Tx queue (after s e))) (sym is)
               (left_laid (watching queue s) no_block s e left l x.side);
         };
         none = left_sends_none (watching queue s) no_block s e left l x.side;
       }
 
-  pub own_lays : (e : Event Block) → IsEvent e → Lays q l e m → LeadsTo queue q m s e
+  pub own_lays : (e : Event Block) → IsEvent e → Lays q l e m → LeadsTo queue q frame m s e
   own_lays (event.Write port n word) made lays = write_lays port n word made lays
   own_lays (event.Lend b) made lays = free_lays (event.Lend b) made tt lays (tt, refl)
   own_lays (event.Take n) made lays = free_lays (event.Take n) made tt lays (tt, refl)
@@ -140,11 +142,11 @@ module _ (queue : ℕ) (q : AtPort) (l m : Laid) (s : State) (met : IsMet queue 
   own_lays e made lays = free_lays e made tt lays (tt, tt)
 
 -- an event that leaves the queue alone
-pub left_lays : (w : Watched) (mine : Blocks) (q : AtPort) (l : Laid) (s : State) (e : Event Block) → IsLeft w mine s e
-    → LaidTo w.queue q l s → LeadsTo w.queue q l s e
-left_lays w mine q l s e left x = record {
+pub left_lays : (w : Watched) (mine : Blocks) (q : AtPort) (frame : ℕ) (l : Laid) (s : State) (e : Event Block)
+    → IsLeft w mine s e → LaidTo w.queue q frame l s → LeadsTo w.queue q frame l s e
+left_lays w mine q frame l s e left x = record {
   then = record {
-    ground = ground_kept w mine q s e left x.ground;
+    ground = ground_kept w mine q frame s e left x.ground;
     side = left_laid w mine s e left l x.side;
   };
   none = left_sends_none w mine s e left l x.side;

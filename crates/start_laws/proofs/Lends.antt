@@ -59,12 +59,13 @@ one_more P ring n rings own all is = elim (or_cases (n == ring) (rings n) is) [
   | inr old ↦ all n old
 ]
 
-pub lend_leads : (queue : ℕ) (mine : Blocks) (q : AtPort) (p : Sides) (ring : ℕ) → mine ring ≡ true → ring < 65536
-    → Leads queue (lending ring) (Point queue mine q p) (Point queue mine q (with_ring ring p))
-lend_leads queue mine q p ring is low s met made told x =
+pub lend_leads : (queue : ℕ) (mine : Blocks) (q : AtPort) (frame : ℕ) (p : Sides) (ring : ℕ) → mine ring ≡ true
+    → ring < 65536
+    → Leads queue (lending ring) (Point queue mine q frame p) (Point queue mine q frame (with_ring ring p))
+lend_leads queue mine q frame p ring is low s met made told x =
     record {
       stand = lend_stands queue s p.rx p.tx p.rings ring x.stand (sym told);
-      ground = plain_keeps queue q s (event.Lend (zero_block ring)) tt x.ground;
+      ground = plain_keeps queue q frame s (event.Lend (zero_block ring)) tt x.ground;
       covers = λ n one. one_more (λ k. mine k ≡ true) ring n p.rings is x.covers one;
       low = λ n one. one_more (λ k. k < 65536) ring n p.rings low x.low one;
     }

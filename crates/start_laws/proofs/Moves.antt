@@ -15,6 +15,7 @@ use Rattle.receive_laws.proofs.HistoryLaws.Sides.{receive_left, receive_of, tran
 use Rattle.start_laws.specs.Moves.{ReceiveWriteStands, TransmitWriteStands}
 use Rattle.start_laws.specs.Standing.{Stands}
 use Rattle.start_laws.specs.Words.{receive_with, transmit_with, FitsReceive, FitsTransmit}
+use Rattle.start_laws.proofs.Begun.{begun_stays}
 use Rattle.start_laws.proofs.ReceiveWords.{receive_words_taken}
 use Rattle.start_laws.proofs.TransmitWords.{transmit_words_taken}
 
@@ -86,6 +87,7 @@ receive_write_stands queue s rx tx rings port n word row met stand unwanted fits
           (receive_on_same row word rx fits ∙ seen_off rx.on _ x.seen off) goes;
       transmits = subst (λ (z : Side). Stands z (transmit_side tx []))
           (sym (transmit_left queue s (after s (event.Write port n word)) t.other)) stand.transmits;
+      begun = begun_stays queue s met.sound stand.begun (event.Write port n word) refl;
       zero = λ b is. ap (λ (m : Memory). map.get m b) t.ground.memory ∙ stand.zero b is;
     }
 
@@ -102,5 +104,6 @@ transmit_write_stands queue s rx tx rings port n word row met stand unwanted fit
           (sym (receive_left queue s (after s (event.Write port n word)) t.other)) stand.receives;
       transmits = stands_off _ _ (λ k. transmit_side (side k) (staged k))
           (transmit_on_same row word tx fits ∙ seen_off tx.on _ x.seen off) goes;
+      begun = begun_stays queue s met.sound stand.begun (event.Write port n word) refl;
       zero = λ b is. ap (λ (m : Memory). map.get m b) t.ground.memory ∙ stand.zero b is;
     }

@@ -70,5 +70,5 @@ pub named_queue_has_the_numbers : NamedQueueHasTheNumbers
 named_queue_has_the_numbers s q queue is row number driven of_row =
     named_at s q.port q.queue queue is row number driven of_row
 
-pub ground_names : (queue : ℕ) (q : AtPort) (s : State) → HasGround queue q s → NumbersName s q queue
-ground_names queue q s g = named_queue_has_the_numbers s q queue g.names
+pub ground_names : (queue : ℕ) (q : AtPort) (frame : ℕ) (s : State) → HasGround queue q frame s → NumbersName s q queue
+ground_names queue q frame s g = named_queue_has_the_numbers s q queue g.names

@@ -12,17 +12,19 @@ use Rattle.device_lock.specs.declared.entry.Call.{Call}
 use Rattle.device_lock.specs.declared.entry.Entry.{Entry}
 use Rattle.receive_laws.proofs.HistoryLaws.Sound.{histories_sound}
 use Rattle.receive_laws.specs.HistoryLaws.Sides.{Side}
+use Rattle.pmd.specs.PmdSeam.Frames.{is_frame, most_blocks}
 use Rattle.pmd.specs.PmdSeam.Named.{AtPort}
 use Rattle.pmd.specs.PmdSeam.Sides.{ring_words}
 use Rattle.pmd.specs.PmdSeam.Slots.{ring_blocks, EachRingBlock}
 use Rattle.pmd.specs.PmdRx.Receive.{Receive}
 use Rattle.pmd.specs.PmdTx.Sending.{Sender}
 use Rattle.pmd.specs.Started.{is_size}
+use Rattle.receive_laws.specs.Fitting.{begun_on}
 use Rattle.receive_laws.specs.Joint.{Agree}
 use Rattle.receive_laws.proofs.Delivering.{events_before}
 use Rattle.transmit_laws.specs.Agreeing.{Agrees}
 use Rattle.start_laws.specs.Along.{AtCalls, AtEntries, BeforeLast, IsAlong}
-use Rattle.start_laws.specs.On.{AreOn, SwitchedSidesAgree, SwitchedSidesGoOn}
+use Rattle.start_laws.specs.On.{AreOn, SwitchedSidesAgree, SwitchedSidesBeginNone, SwitchedSidesGoOn}
 use Rattle.start_laws.specs.Points.{HasGround, Point, Sides}
 use Rattle.start_laws.specs.Unused.{AreUnused, WentOn}
 use Rattle.start_laws.proofs.Reached.{reached}
@@ -35,10 +37,10 @@ use Rattle.start_laws.proofs.Made.{some_made}
 use Rattle.start_laws.proofs.Rising.{came_up_at, sized_ring}
 use Rattle.start_laws.proofs.Prepared.{lends_extend, prepared_some, prepared_has}
 
-module _ (w : Watched) (fifo : ℕ) (h : List Entry) (q : AtPort) (size : ℕ) (old : List Call) (a : Numbers)
-    (new : List Call) (v : Receive) (t : Sender) (up : AreOn q size old a new v t)
+module _ (w : Watched) (fifo : ℕ) (h : List Entry) (q : AtPort) (size frame : ℕ) (old : List Call) (a : Numbers)
+    (new : List Call) (v : Receive) (t : Sender) (up : AreOn q size frame old a new v t)
     (along : IsAlong w fifo h) (is : is_size size ≡ true)
-    (well : BeforeLast w fifo h up.receive.quiet.0 (HasGround w.queue q))
+    (well : BeforeLast w fifo h up.receive.quiet.0 (HasGround w.queue q frame))
   where
     abbrev ring : ℕ
     ring = up.receive.ring
@@ -74,41 +76,42 @@ module _ (w : Watched) (fifo : ℕ) (h : List Entry) (q : AtPort) (size : ℕ) (
 
     abbrev CameUp : List Entry → Type 0
     CameUp done =
-        (p : Sides) × Point w.queue (lent_by w.pass h) q (came_up ring size other p) (reached w fifo done)
+        (p : Sides) × Point w.queue (lent_by w.pass h) q frame (came_up ring size other p) (reached w fifo done)
         × AreUnused w.queue (new_state w.vfs fifo) done
 
     up_at : AtEntries w h new CameUp
     up_at done rest all calls =
-        came_up_at w fifo h q size old a new v t up along is well (ring_lent done rest all calls)
+        came_up_at w fifo h q size frame old a new v t up along is well (ring_lent done rest all calls)
         (other_lent done rest all calls) done rest all calls
 
     -- there they are fresh, and so device and driver agree
-    agrees : EachRingBlock ring size (λ n. IsLentBy w.pass n h) → EachRingBlock other size (λ n. IsLentBy w.pass n h)
-        → (s : State) → IsSound s → (p : Sides) → Point w.queue (lent_by w.pass h) q (came_up ring size other p) s
+    agrees : is_frame frame ≡ true → EachRingBlock ring size (λ n. IsLentBy w.pass n h)
+        → EachRingBlock other size (λ n. IsLentBy w.pass n h) → (s : State) → IsSound s → (p : Sides)
+        → Point w.queue (lent_by w.pass h) q frame (came_up ring size other p) s
         → Agree w.queue s [] v × Agrees s w.queue [] t
-    agrees one two s sound p x =
+    agrees long one two s sound p x =
         let rings = (came_up ring size other p).rings in (
           subst (λ (v : Receive). Agree w.queue s [] v) (sym up.receive.fresh)
-              (fresh_receive_agrees w.queue s _ rings true true q.port up.receive.tail ring size
+              (fresh_receive_agrees w.queue s _ rings true true q.port up.receive.tail ring size (most_blocks frame)
               (sized_ring w.pass h size ring is one)
               (record {
                 low = along.small;
-                tail = ground_names w.queue q s x.ground Rdt up.receive.tail refl up.receive.named;
+                tail = ground_names w.queue q frame s x.ground Rdt up.receive.tail refl up.receive.named;
               })
               (λ k below. stays_in (ring_blocks other size) _ (ring + k) (ring_in ring size p.rings k below)) x.stand),
           subst (λ (v : Sender). Agrees s w.queue [] v) (sym up.transmit.fresh)
-              (fresh_transmit_agrees w.queue s _ rings true true q.port up.transmit.tail other size along.small sound
-              (sized_ring w.pass h size other is two)
-              (ground_names w.queue q s x.ground Tdt up.transmit.tail refl up.transmit.named) x.ground.limit
+              (fresh_transmit_agrees w.queue s _ rings true true q.port up.transmit.tail other size frame along.small
+              sound (sized_ring w.pass h size other is two)
+              (ground_names w.queue q frame s x.ground Tdt up.transmit.tail refl up.transmit.named) long x.ground.limit
               (ring_in other size _) x.stand),
         )
 
-    agrees_at : AtCalls w fifo h new (λ s. Agree w.queue s [] v × Agrees s w.queue [] t)
-    agrees_at done rest all calls =
+    agrees_at : is_frame frame ≡ true → AtCalls w fifo h new (λ s. Agree w.queue s [] v × Agrees s w.queue [] t)
+    agrees_at long done rest all calls =
         let sound = histories_sound (new_state w.vfs fifo) done along.new
         (events_before done rest (subst AreEvents (sym all) along.events)) in
         let (p, x, unused) = up_at done rest all calls in
-        agrees (ring_lent done rest all calls) (other_lent done rest all calls) (reached w fifo done) sound p x
+        agrees long (ring_lent done rest all calls) (other_lent done rest all calls) (reached w fifo done) sound p x
 
     -- and nothing went over them since they went on
     goes_on_at : AtEntries w h new (WentOn w.queue (new_state w.vfs fifo))
@@ -128,8 +131,12 @@ module _ (w : Watched) (fifo : ℕ) (h : List Entry) (q : AtPort) (size : ℕ) (
           };
         }
 
+    -- nothing is written of a frame that waits
+    begun_at : AtCalls w fifo h new (λ s. begun_on w.queue s.waiting ≡ 0)
+    begun_at done rest all calls = let (p, x, unused) = up_at done rest all calls in x.stand.begun
+
     -- and port and queue name this queue
-    pub ground_at : AtCalls w fifo h new (HasGround w.queue q)
+    pub ground_at : AtCalls w fifo h new (HasGround w.queue q frame)
     ground_at done rest all calls = let (p, x, unused) = up_at done rest all calls in x.ground
 
     -- some calls were made before both were on
@@ -139,9 +146,13 @@ module _ (w : Watched) (fifo : ℕ) (h : List Entry) (q : AtPort) (size : ℕ) (
         (prepared_some q Tx size up.ready_made up.ready_arena up.both_made up.both_arena other up.transmit.prepared)
 
 pub switched_sides_agree : SwitchedSidesAgree
-switched_sides_agree w fifo h q size old a new v t up along is well =
-    agrees_at w fifo h q size old a new v t up along is well
+switched_sides_agree w fifo h q size frame old a new v t up along well =
+    agrees_at w fifo h q size frame old a new v t up along up.sized well up.framed
 
 pub switched_sides_go_on : SwitchedSidesGoOn
-switched_sides_go_on w fifo h q size old a new v t up along is well =
-    goes_on_at w fifo h q size old a new v t up along is well
+switched_sides_go_on w fifo h q size frame old a new v t up along well =
+    goes_on_at w fifo h q size frame old a new v t up along up.sized well
+
+pub switched_sides_begin_none : SwitchedSidesBeginNone
+switched_sides_begin_none w fifo h q size frame old a new v t up along well =
+    begun_at w fifo h q size frame old a new v t up along up.sized well

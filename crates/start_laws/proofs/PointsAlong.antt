@@ -32,21 +32,21 @@ use Rattle.start_laws.proofs.Points.{point_kept, read_leads, write_leads}
 
 -- an access, and accesses in order, from sides of which this is known, while the entries so far keep what those keep by
 -- which nothing is received or sent
-module _ (w : Watched) (q : AtPort) (fifo : ℕ) (h : List Entry) (along : IsAlong w fifo h) (C : Sides → Type 0)
+module _ (w : Watched) (q : AtPort) (frame fifo : ℕ) (h : List Entry) (along : IsAlong w fifo h) (C : Sides → Type 0)
     (N : List Entry → Type 0) (idle : IdleKeeps w fifo N) where
   abbrev mine : Blocks
   mine = lent_by w.pass h
 
   abbrev pub SomePoint : (Sides → Sides) → List Entry → Type 0
-  SomePoint F done = (p : Sides) × C p × Point w.queue mine q (F p) (reached w fifo done) × N done
+  SomePoint F done = (p : Sides) × C p × Point w.queue mine q frame (F p) (reached w fifo done) × N done
 
   abbrev pub At : List Call → (Sides → Sides) → Type 0
   At calls F = AtEntries w h calls (SomePoint F)
 
   point_next : (p : Sides) (done : List Entry) (e : Entry)
-      → Point w.queue mine q p (after (reached w fifo done) e.event)
-      → Point w.queue mine q p (reached w fifo (done ++ e ∷ []))
-  point_next p done e x = subst (Point w.queue mine q p) (sym (reached_next w fifo done e)) x
+      → Point w.queue mine q frame p (after (reached w fifo done) e.event)
+      → Point w.queue mine q frame p (reached w fifo (done ++ e ∷ []))
+  point_next p done e x = subst (Point w.queue mine q frame p) (sym (reached_next w fifo done e)) x
 
   some_kept : (F : Sides → Sides) → KeptOver w fifo mine (SomePoint F)
   some_kept F done e left (p, known, x, n) =
@@ -55,12 +55,12 @@ module _ (w : Watched) (q : AtPort) (fifo : ℕ) (h : List Entry) (along : IsAlo
       let kept = standing_sides_are_left w mine z.rings s e.event z.rx z.tx left x.covers x.stand in (
         p,
         known,
-        point_next z done e (point_kept w mine q z s e.event left x),
+        point_next z done e (point_kept w mine q frame z s e.event left x),
         idle done e kept.received kept.sent n,
       )
 
   call_leads : (F G : Sides → Sides) (old before : List Call) (c : Call) → IsIdle w.queue c
-      → ((p : Sides) → C p → Leads w.queue c (Point w.queue mine q (F p)) (Point w.queue mine q (G p)))
+      → ((p : Sides) → C p → Leads w.queue c (Point w.queue mine q frame (F p)) (Point w.queue mine q frame (G p)))
       → AreSteps before → old ≢ [] → At old F → At (old ++ (before ++ c ∷ [])) G
   call_leads F G old before c none leads steps some at =
       entries_lead w fifo h (SomePoint F) (SomePoint G) old before c along (some_kept F) (some_kept G)
@@ -68,8 +68,8 @@ module _ (w : Watched) (q : AtPort) (fifo : ℕ) (h : List Entry) (along : IsAlo
       let here : IsIdle w.queue (call_in e) = subst (IsIdle w.queue) (sym same) none in (
         p,
         known,
-        state_leads w fifo mine c (Point w.queue mine q (F p)) (Point w.queue mine q (G p)) (leads p known) done e
-            same met made told outside x,
+        state_leads w fifo mine c (Point w.queue mine q frame (F p)) (Point w.queue mine q frame (G p)) (leads p known)
+            done e same met made told outside x,
         idle done e (here (reached w fifo done)).0 (here (reached w fifo done)).1 n,
       )) steps some at
 
@@ -80,12 +80,12 @@ module _ (w : Watched) (q : AtPort) (fifo : ℕ) (h : List Entry) (along : IsAlo
       subst (λ (calls : List Call). At calls (λ p. seen_by row on (F p))) (sym added)
       (call_leads F (λ p. seen_by row on (F p)) old before (call_of (event.Read q.port number) (reply.Word word))
       (λ s. (refl, refl))
-      (λ p known. read_leads w mine q (F p) row on word number named is (may p known)) steps some at)
+      (λ p known. read_leads w mine q frame (F p) row on word number named is (may p known)) steps some at)
   access_at F old new (Sets row word) may (number, named, (before, added, steps)) some at =
       subst (λ (calls : List Call). At calls (λ p. after_access (Sets row word) (F p))) (sym added)
       (call_leads F (λ p. after_access (Sets row word) (F p)) old before
       (call_of (event.Write q.port number word) reply.Done) (λ s. (refl, refl))
-      (λ p known. write_leads w mine q (F p) row word number named (may p known)) steps some at)
+      (λ p known. write_leads w mine q frame (F p) row word number named (may p known)) steps some at)
 
   pub accesses_at : (all : List Access) (F : Sides → Sides) (old new : List Call)
       → ((p : Sides) → C p → AllMay all (F p)) → AreMade q old new all → old ≢ [] → At old F
@@ -111,7 +111,7 @@ module _ (w : Watched) (q : AtPort) (fifo : ℕ) (h : List Entry) (along : IsAlo
       (λ none. ends_some old one.0 (lending first) (sym one.1 ∙ none))
       (subst (λ (calls : List Call). At calls (λ p. with_ring first (F p))) (sym one.1)
       (call_leads F (λ p. with_ring first (F p)) old one.0 (lending first) (λ s. (refl, refl))
-      (λ p known. lend_leads w.queue mine q (F p) first own.mine own.low) one.2 some at))
+      (λ p known. lend_leads w.queue mine q frame (F p) first own.mine own.low) one.2 some at))
 
   -- a ring is prepared: its words are written and its blocks are lent
   pub prepared_at : (side : Dir) (size : ℕ) (F : Sides → Sides) (old : List Call) (a : Numbers) (new : List Call)
@@ -124,8 +124,8 @@ module _ (w : Watched) (q : AtPort) (fifo : ℕ) (h : List Entry) (along : IsAlo
       (accesses_at (ring_words side ring size) F old x.mid may x.words some at)
 
 pub accesses_lead : AccessesLead
-accesses_lead w q fifo h known F all old new along may made some at done rest whole calls =
-    let (p, is, x, n) = accesses_at w q fifo h along (λ p. IsTrue (known p)) (λ so_far. ⊤)
+accesses_lead w q frame fifo h known F all old new along may made some at done rest whole calls =
+    let (p, is, x, n) = accesses_at w q frame fifo h along (λ p. IsTrue (known p)) (λ so_far. ⊤)
     (λ so_far e received sent n. tt) all F old new may made some
     (λ before behind split there. let (z, so, y) = at before behind split there in (z, so, y, tt)) done rest whole calls
     in (p, is, x)

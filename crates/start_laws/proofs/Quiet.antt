@@ -7,6 +7,7 @@ use Rattle.receive_laws.specs.HistoryLaws.Sides.{IsOff, IsUnwanted, Side, side_o
 use Rattle.receive_laws.proofs.HistoryLaws.Asking.{asked, seen_off}
 use Rattle.receive_laws.proofs.HistoryLaws.Deeds.{left_deed}
 use Rattle.receive_laws.proofs.HistoryLaws.Steady.{steady_kept, unwanted_steady}
+use Rattle.receive_laws.proofs.Fitting.{none_begun_while_off}
 use Rattle.start_laws.specs.Quiet.{ReceiveGuardIsOff, OffSidesStand}
 use Rattle.start_laws.specs.Standing.{Stands}
 
@@ -35,5 +36,6 @@ off_sides_stand queue s sound off transmit_off = record {
       subst
       (λ (staged : List ℕ). Stands (side_of Tx queue s) (transmit_side (transmit_queue_of s.registers queue) staged))
       (sound.bare queue transmit_off.off) (off_stands (side_of Tx queue s) transmit_off);
+  begun = none_begun_while_off queue s sound off.off;
   zero = λ b is. cc;
 }

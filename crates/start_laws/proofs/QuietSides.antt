@@ -1,5 +1,5 @@
 -- Two sides that are seen off stand as they are, with no block lent.
-use Rattle.std.proofs.Common.{◌≡◌, Bool, true, false, not, ◌&&◌, List, refl, sym, subst}
+use Rattle.std.proofs.Common.{◌≡◌, ℕ, Bool, true, false, not, ◌&&◌, List, refl, sym, subst}
 use Rattle.std.specs.Prelude.{IsTrue}
 use Rattle.nic_device.specs.RegisterLaws.Sides.{receive_queue_of, transmit_queue_of}
 use Rattle.nic_device.specs.Sound.{IsSound}
@@ -20,9 +20,9 @@ all_off : (a b c d : Bool) → a ≡ false → b ≡ false → c ≡ false → d
     → ((not a && not b) && (not c && not d)) ≡ true
 all_off a b c d e f g i = rw (e, f, g, i) refl
 
-quiet_stand : (w : Watched) (q : AtPort) (h : List Entry) (s : State) → IsSound s → IsQuiet w.queue q s
-    → (p : Sides) × IsTrue (are_off p) × Point w.queue (lent_by w.pass h) q p s
-quiet_stand w q h s sound quiet = (
+quiet_stand : (w : Watched) (q : AtPort) (frame : ℕ) (h : List Entry) (s : State) → IsSound s
+    → IsQuiet w.queue q frame s → (p : Sides) × IsTrue (are_off p) × Point w.queue (lent_by w.pass h) q frame p s
+quiet_stand w q frame h s sound quiet = (
   record {
     rx = receive_queue_of s.registers w.queue;
     tx = transmit_queue_of s.registers w.queue;
@@ -40,7 +40,7 @@ quiet_stand w q h s sound quiet = (
 )
 
 pub quiet_sides_stand : QuietSidesStand
-quiet_sides_stand w q fifo h calls along quiet done rest all is =
+quiet_sides_stand w q frame fifo h calls along quiet done rest all is =
     let new = new_state w.vfs fifo in
     let events = events_before done rest (subst AreEvents (sym all) along.events) in
-    quiet_stand w q h (leads_to new done) (histories_sound new done along.new events) (quiet done rest all is)
+    quiet_stand w q frame h (leads_to new done) (histories_sound new done along.new events) (quiet done rest all is)

@@ -31,12 +31,12 @@ use Rattle.start_laws.specs.Faultless.{BeforeNext, Never}
 use Rattle.start_laws.proofs.Last.{next_refuted, then_refuted}
 use Rattle.start_laws.proofs.SeenOff.{IsQuieting, Next, never_otherwise}
 
-module _ (w : Watched) (q : AtPort) (fifo : ℕ) (h : List Entry) (along : IsAlong w fifo h) where
+module _ (w : Watched) (q : AtPort) (frame fifo : ℕ) (h : List Entry) (along : IsAlong w fifo h) where
   abbrev Off : State → Type 0
-  Off = IsQuiet w.queue q
+  Off = IsQuiet w.queue q frame
 
   off_stays : IsKept w (lent_by w.pass h) Off
-  off_stays = quiet_kept w (lent_by w.pass h) q
+  off_stays = quiet_kept w (lent_by w.pass h) q frame
 
   abbrev AtOff : List Call → Type 0
   AtOff calls = AtCalls w fifo h calls Off
@@ -47,14 +47,16 @@ module _ (w : Watched) (q : AtPort) (fifo : ℕ) (h : List Entry) (along : IsAlo
       → AtOff new
   see row on old new made some at =
       seen w q fifo h along Off Off row on off_stays off_stays
-      (λ number word named is s met can told x. both_read IsOff IsOff w.queue q s q.port number x) old new made some at
+      (λ number word named is s met can told x. both_read IsOff IsOff w.queue q frame s q.port number x) old new made
+      some at
 
   ask : (side : Dir) (word : ℕ) (old new : List Call) → word ≡ 0
       → IsMade q old new (Sets (enable_row side) word) → old ≢ [] → AtOff old → AtOff new
   ask side word old new is made some at =
       set w q fifo h along Off Off (enable_row side) word off_stays off_stays
       (λ number named s met can told x.
-      write_quiet w.queue q s x q.port number word met (side, refl, ap (has_bit 25) is, named)) old new made some at
+      write_quiet w.queue q frame s x q.port number word met (side, refl, ap (has_bit 25) is, named)) old new made some
+      at
 
   access_off : (old new : List Call) (a : Access) → IsQuieting a → IsMade q old new a → old ≢ [] → AtOff old → AtOff new
   access_off old new (Sees row on) is made some at = see row on old new made some at
@@ -74,7 +76,7 @@ module _ (w : Watched) (q : AtPort) (fifo : ℕ) (h : List Entry) (along : IsAlo
       → BeforeNext w fifo h old Off → AtOff new
   first_off row on old new (number, word, named, is, (before, added, steps)) at =
       first_seen w q fifo h Off along off_stays
-      (λ s number x. both_read IsOff IsOff w.queue q s q.port number x) row on old new
+      (λ s number x. both_read IsOff IsOff w.queue q frame s q.port number x) row on old new
       (number, word, named, is, (before, added, steps))
       (subst (λ (calls : List Call). BeforeLast w fifo h calls Off) (sym added)
       (at before (call_of (event.Read q.port number) (reply.Word word)) steps refl))
@@ -99,11 +101,11 @@ module _ (w : Watched) (q : AtPort) (fifo : ℕ) (h : List Entry) (along : IsAlo
       → StopsBy DeviceFault q old new both_quiet → Never w fifo h new
   quieting_never_stops old new at ([], a, rest, mid, is, made, fails) =
       let both = all_before IsQuieting [] a rest (subst (AllAre IsQuieting) is quieting) in
-      never_otherwise w q fifo h along mid new a both.1
-      (subst (Next w q fifo h along) (sym made) (next_refuted w fifo h along Off old at)) fails
+      never_otherwise w q frame fifo h along mid new a both.1
+      (subst (Next w q frame fifo h along) (sym made) (next_refuted w fifo h along Off old at)) fails
   quieting_never_stops old new at (d ∷ done, a, rest, mid, is, made, fails) =
       let both = all_before IsQuieting (d ∷ done) a rest (subst (AllAre IsQuieting) is quieting) in
       let some : mid ≢ [] = some_made q done made.0 mid made.2 (made_some q old made.0 d made.1) in
       let there = begun_off d done (done ++ a ∷ rest) old mid is both.0.1 made at in
-      never_otherwise w q fifo h along mid new a both.1
+      never_otherwise w q frame fifo h along mid new a both.1
       (then_refuted w fifo h along Off mid off_stays some there) fails

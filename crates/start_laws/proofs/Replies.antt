@@ -25,16 +25,16 @@ module _ (queue : ℕ) (s : State) (port : Port) (number : ℕ) (row : RowId) (n
     write_done word = ap (λ m. (named_written s m word).reply) names
 
 pub named_registers_reply : NamedRegistersReply
-named_registers_reply queue q s row number g is named =
-    let names = ground_names queue q s g row number is named in record {
+named_registers_reply queue q frame s row number g is named =
+    let names = ground_names queue q frame s g row number is named in record {
       read = read_told queue s q.port number row names;
       write = write_done queue s q.port number row names;
     }
 
 pub off_sides_are_seen_off : OffSidesAreSeenOff
-off_sides_are_seen_off queue q s number word quiet (inl named) told =
-    told_on queue s q.port number word told Rx (ground_names queue q s quiet.ground Rxdctl number refl named)
+off_sides_are_seen_off queue q frame s number word quiet (inl named) told =
+    told_on queue s q.port number word told Rx (ground_names queue q frame s quiet.ground Rxdctl number refl named)
     ∙ quiet.receive.off
-off_sides_are_seen_off queue q s number word quiet (inr named) told =
-    told_on queue s q.port number word told Tx (ground_names queue q s quiet.ground Txdctl number refl named)
+off_sides_are_seen_off queue q frame s number word quiet (inr named) told =
+    told_on queue s q.port number word told Tx (ground_names queue q frame s quiet.ground Txdctl number refl named)
     ∙ quiet.transmit.off

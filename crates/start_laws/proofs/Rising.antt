@@ -68,10 +68,10 @@ unwanted false false true d is = cc
 unwanted false false false true is = cc
 unwanted false false false false is = (refl, refl)
 
-module _ (w : Watched) (fifo : ℕ) (h : List Entry) (q : AtPort) (size : ℕ) (old : List Call) (a : Numbers)
-    (new : List Call) (v : Receive) (t : Sender) (up : AreOn q size old a new v t)
+module _ (w : Watched) (fifo : ℕ) (h : List Entry) (q : AtPort) (size frame : ℕ) (old : List Call) (a : Numbers)
+    (new : List Call) (v : Receive) (t : Sender) (up : AreOn q size frame old a new v t)
     (along : IsAlong w fifo h) (is : is_size size ≡ true)
-    (well : BeforeLast w fifo h up.receive.quiet.0 (HasGround w.queue q))
+    (well : BeforeLast w fifo h up.receive.quiet.0 (HasGround w.queue q frame))
   where
     abbrev pub ring : ℕ
     ring = up.receive.ring
@@ -86,14 +86,14 @@ module _ (w : Watched) (fifo : ℕ) (h : List Entry) (q : AtPort) (size : ℕ) (
     Known p = IsTrue (are_off p)
 
     abbrev Reaches : List Call → (Sides → Sides) → Type 0
-    Reaches = At w q fifo h along Known Unused (unused_kept w fifo)
+    Reaches = At w q frame fifo h along Known Unused (unused_kept w fifo)
 
     -- both sides are quiet, and stand
     quiet_at : Reaches up.receive.mid (λ p. p)
     quiet_at done rest all calls =
-        let off = quieting_leads w q fifo h old up.receive.mid along up.receive.quiet well in
+        let off = quieting_leads w q frame fifo h old up.receive.mid along up.receive.quiet well in
         let quiet = off done rest all calls in
-        let (p, known, x) = quiet_sides_stand w q fifo h up.receive.mid along off done rest all calls in (
+        let (p, known, x) = quiet_sides_stand w q frame fifo h up.receive.mid along off done rest all calls in (
           p,
           known,
           x,
@@ -118,8 +118,8 @@ module _ (w : Watched) (fifo : ℕ) (h : List Entry) (q : AtPort) (size : ℕ) (
       ready_at : Reaches up.ready_made
           (λ p. with_all (ring_blocks ring size) (after_accesses (ring_words Rx ring size) p))
       ready_at =
-          prepared_at w q fifo h along Known Unused (unused_kept w fifo) Rx size (λ p. p) up.receive.mid a up.ready_made
-          up.ready_arena ring
+          prepared_at w q frame fifo h along Known Unused (unused_kept w fifo) Rx size (λ p. p) up.receive.mid a
+          up.ready_made up.ready_arena ring
           (λ p known.
           may_lay_receive ring size other (of_size ring one) (of_size other two) even p (off p known).0)
           one up.receive.prepared
@@ -128,7 +128,7 @@ module _ (w : Watched) (fifo : ℕ) (h : List Entry) (q : AtPort) (size : ℕ) (
 
       both_at : Reaches up.both_made (laid ring size other)
       both_at =
-          prepared_at w q fifo h along Known Unused (unused_kept w fifo) Tx size
+          prepared_at w q frame fifo h along Known Unused (unused_kept w fifo) Tx size
           (λ p. with_all (ring_blocks ring size) (after_accesses (ring_words Rx ring size) p)) up.ready_made
           up.ready_arena up.both_made up.both_arena other
           (λ p known.
@@ -138,7 +138,7 @@ module _ (w : Watched) (fifo : ℕ) (h : List Entry) (q : AtPort) (size : ℕ) (
 
       on_at : Reaches new (λ p. after_accesses (switching up.switched.0 up.switched.1) (laid ring size other p))
       on_at =
-          accesses_at w q fifo h along Known Unused (unused_kept w fifo) (switching up.switched.0 up.switched.1)
+          accesses_at w q frame fifo h along Known Unused (unused_kept w fifo) (switching up.switched.0 up.switched.1)
           (laid ring size other) up.both_made new
           (λ p known.
           may_switch ring size other (of_size ring one) (of_size other two) p (off p known).0 (off p known).1
@@ -147,12 +147,13 @@ module _ (w : Watched) (fifo : ℕ) (h : List Entry) (q : AtPort) (size : ℕ) (
           both_at
 
       pub came_up_at : AtEntries w h new
-          (λ done. (p : Sides) × Point w.queue (lent_by w.pass h) q (came_up ring size other p) (reached w fifo done)
+          (λ done.
+          (p : Sides) × Point w.queue (lent_by w.pass h) q frame (came_up ring size other p) (reached w fifo done)
           × Unused done)
       came_up_at done rest all calls =
           let (p, known, x, unused) = on_at done rest all calls in (
             p,
-            subst (λ (z : Sides). Point w.queue (lent_by w.pass h) q z (reached w fifo done))
+            subst (λ (z : Sides). Point w.queue (lent_by w.pass h) q frame z (reached w fifo done))
                 (comes_up ring size other (of_size ring one) (of_size other two) p (off p known).0 (off p known).1
                 up.switched.0 up.switched.1) x,
             unused,

@@ -39,10 +39,10 @@ pub leaving_settles : (dir : Dir) (queue : ℕ) (s t : State) → LeavesSide dir
     → Settles dir queue s t
 leaving_settles dir queue s t left is = same_settles (side_of dir queue s) (side_of dir queue t) left is
 
-pub word_settles : (dir : Dir) (queue : ℕ) (q : AtPort) (s : State) (number word : ℕ) → IsMet queue s
-    → IsFalse (has_bit 25 word) → HasGround queue q s → (side : Dir)
+pub word_settles : (dir : Dir) (queue : ℕ) (q : AtPort) (frame : ℕ) (s : State) (number word : ℕ) → IsMet queue s
+    → IsFalse (has_bit 25 word) → HasGround queue q frame s → (side : Dir)
     → IsNumberOf q.port (enable_row side) q.queue number → IsSettled dir queue s
     → Settles dir queue s (after s (event.Write q.port number word))
-word_settles dir queue q s number word met none g side named is =
+word_settles dir queue q frame s number word met none g side named is =
     asking.word_settles queue s met.sound met.small q.port number word side dir
-    (ground_names queue q s g (enable_row side) number (side_driven side) named) none is
+    (ground_names queue q frame s g (enable_row side) number (side_driven side) named) none is

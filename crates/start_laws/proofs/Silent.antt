@@ -32,16 +32,16 @@ none_more : (so_far : Option (List Piece)) → packets_if_any (option_map (λ qs
 none_more None = refl
 none_more (Some qs) = ap packets_of (append-nil qs)
 
-module _ (w : Watched) (q : AtPort) (fifo : ℕ) (done : List Entry) where
+module _ (w : Watched) (q : AtPort) (frame fifo : ℕ) (done : List Entry) where
   abbrev new : State
   new = new_state w.vfs fifo
 
   -- the sides are off, and no more was received or sent than before
   record Silent (now : List Entry) : Type 0 where
-    quiet : IsQuiet w.queue q (reached w fifo now)
+    quiet : IsQuiet w.queue q frame (reached w fifo now)
     same : IsSilent w fifo now done
 
-  silent_on : (now : List Entry) (e : Entry) → StaysQuiet w.queue q (reached w fifo now) e.event → Silent now
+  silent_on : (now : List Entry) (e : Entry) → StaysQuiet w.queue q frame (reached w fifo now) e.event → Silent now
       → Silent (now ++ e ∷ [])
   silent_on now e stays x =
       let s = reached w fifo now in
@@ -52,7 +52,7 @@ module _ (w : Watched) (q : AtPort) (fifo : ℕ) (done : List Entry) where
       let tx = not_again (is_on s.registers Tx w.queue) (is_on t.registers Tx w.queue)
       (inr stays.quiet.transmit.off) in
       record {
-        quiet = subst (IsQuiet w.queue q) (sym (reached_next w fifo now e)) stays.quiet;
+        quiet = subst (IsQuiet w.queue q frame) (sym (reached_next w fifo now e)) stays.quiet;
         same = record {
           delivered =
               ap packets_if_any (since-append w.queue new None now (e ∷ []))
@@ -69,18 +69,18 @@ module _ (w : Watched) (q : AtPort) (fifo : ℕ) (done : List Entry) where
 
   others_silent : (mine : Blocks) → KeptOver w fifo mine Silent
   others_silent mine now e left x =
-      silent_on now e (left_stays w mine q (reached w fifo now) e.event left x.quiet) x
+      silent_on now e (left_stays w mine q frame (reached w fifo now) e.event left x.quiet) x
 
   ending_silent : (mine : Blocks) (c : Call) → IsEnding q c.event → LeadsOver w fifo mine c Silent Silent
   ending_silent mine c own now e same met made told steps x =
       let ends = subst (λ (n : Call). IsEnding q n.event) (sym same) own in
-      silent_on now e (ending_stays w.queue q (reached w fifo now) e.event met made ends x.quiet) x
+      silent_on now e (ending_stays w.queue q frame (reached w fifo now) e.event met made ends x.quiet) x
 
-module _ (w : Watched) (q : AtPort) (fifo : ℕ) (h done rest : List Entry) (old : List Call) (along : IsAlong w fifo h)
-    (some : old ≢ []) (at : AtCalls w fifo h old (IsQuiet w.queue q)) (all : done ++ rest ≡ h)
-    (calls : calls_of w.pass done ≡ old) where
+module _ (w : Watched) (q : AtPort) (frame fifo : ℕ) (h done rest : List Entry) (old : List Call)
+    (along : IsAlong w fifo h) (some : old ≢ []) (at : AtCalls w fifo h old (IsQuiet w.queue q frame))
+    (all : done ++ rest ≡ h) (calls : calls_of w.pass done ≡ old) where
   here : (base now after : List Entry) → now ++ after ≡ h → calls_of w.pass now ≡ old → IsSilent w fifo now base
-      → Silent w q fifo base now
+      → Silent w q frame fifo base now
   here base now after both made same = record { quiet = at now after both made; same = same }
 
   itself : (now : List Entry) → IsSilent w fifo now now
@@ -97,10 +97,10 @@ module _ (w : Watched) (q : AtPort) (fifo : ℕ) (h done rest : List Entry) (old
       let whole : (one ++ back) ++ after ≡ h = ap (λ (l : List Entry). l ++ after) is ∙ both in
       let first = here one one (back ++ after) (sym (append_assoc one back after) ∙ whole) made (itself one) in
       subst (λ (l : List Entry). IsSilent w fifo l one) is
-      (kept_on w fifo h along (Silent w q fifo one) (others_silent w q fifo one (lent_by w.pass h)) one back after whole
-      (λ nil. some (sym made ∙ nil)) none first).same
+      (kept_on w fifo h along (Silent w q frame fifo one) (others_silent w q frame fifo one (lent_by w.pass h)) one
+      back after whole (λ nil. some (sym made ∙ nil)) none first).same
 
-  silent_at : AtEntries w h old (Silent w q fifo done)
+  silent_at : AtEntries w h old (Silent w q frame fifo done)
   silent_at now after both made =
       here done now after both made
       (elim (one_begins done rest now after (all ∙ sym both)) as (λ _. IsSilent w fifo now done) [
@@ -112,11 +112,11 @@ module _ (w : Watched) (q : AtPort) (fifo : ℕ) (h done rest : List Entry) (old
 
   pub silent_whole : (made : List Call) → Ends q old made → calls_of w.pass h ≡ made → IsSilent w fifo h done
   silent_whole whole (ends, is, own) made =
-      (all_lead w fifo h (Silent w q fifo done) (λ c. IsEnding q c.event) along
-      (others_silent w q fifo done (lent_by w.pass h)) (ending_silent w q fifo done (lent_by w.pass h))
+      (all_lead w fifo h (Silent w q frame fifo done) (λ c. IsEnding q c.event) along
+      (others_silent w q frame fifo done (lent_by w.pass h)) (ending_silent w q frame fifo done (lent_by w.pass h))
       ends old own some silent_at h []
       (append-nil h) (made ∙ is)).same
 
 pub quiet_queue_is_silent : QuietQueueIsSilent
-quiet_queue_is_silent w q fifo h done rest old new along some at ends made all calls =
-    silent_whole w q fifo h done rest old along some at all calls new ends made
+quiet_queue_is_silent w q frame fifo h done rest old new along some at ends made all calls =
+    silent_whole w q frame fifo h done rest old along some at all calls new ends made

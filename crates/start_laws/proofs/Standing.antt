@@ -7,6 +7,7 @@ use Rattle.receive_laws.specs.HistoryLaws.Sides.{Side, receive_side, transmit_si
 use Rattle.receive_laws.proofs.HistoryLaws.Deeds.{left_did}
 use Rattle.receive_laws.proofs.HistoryLaws.Steady.{IsIdle, idle_silent, idle_steady, none_staged, steady_kept}
 use Rattle.start_laws.specs.Standing.{Stands, StandingSidesAreLeft}
+use Rattle.start_laws.proofs.Begun.{begun_stays}
 
 -- a side that stands so is off, or its ring is empty
 stands_idle : (side : Side) → side.staged ≡ [] → IsIdle (λ x. Stands x side)
@@ -38,6 +39,7 @@ standing_sides_are_left w mine rings s e rx tx left covers stand =
             (idle_steady (λ z. Stands z x) (stands_idle x refl)) did.receive;
         transmits = steady_kept Tx w.queue s e (λ z. Stands z y) stand.transmits
             (idle_steady (λ z. Stands z y) (stands_idle y refl)) did.transmit;
+        begun = begun_stays w.queue s left.sound stand.begun e none;
         zero = λ b is. did.blocks none quiet b (covers b is) ∙ stand.zero b is;
       };
       received = none;

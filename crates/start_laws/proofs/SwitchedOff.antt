@@ -53,27 +53,28 @@ module _ (w : Watched) (q : AtPort) (fifo : ℕ) (h : List Entry) (along : IsAlo
         here some at)
 
 pub switching_off_leads : SwitchingOffLeads
-switching_off_leads w q fifo h old new along (first, second, few, (m1, a1, (m2, a2, more))) some at =
+switching_off_leads w q frame fifo h old new along (first, second, few, (m1, a1, (m2, a2, more))) some at =
     let mine = lent_by w.pass h in
-    let Named = Both Anything Anything w.queue q in
-    let Asked = Both IsUnwanted Anything w.queue q in
-    let BothAsked = Both IsUnwanted IsUnwanted w.queue q in
-    let OffAsked = Both IsOff IsUnwanted w.queue q in
-    let named = both_kept Anything Anything anything_steady anything_steady w mine q in
-    let asked = both_kept IsUnwanted Anything unwanted_steady anything_steady w mine q in
-    let both = both_kept IsUnwanted IsUnwanted unwanted_steady unwanted_steady w mine q in
-    let one = both_kept IsOff IsUnwanted off_steady unwanted_steady w mine q in
+    let Named = Both Anything Anything w.queue q frame in
+    let Asked = Both IsUnwanted Anything w.queue q frame in
+    let BothAsked = Both IsUnwanted IsUnwanted w.queue q frame in
+    let OffAsked = Both IsOff IsUnwanted w.queue q frame in
+    let named = both_kept Anything Anything anything_steady anything_steady w mine q frame in
+    let asked = both_kept IsUnwanted Anything unwanted_steady anything_steady w mine q frame in
+    let both = both_kept IsUnwanted IsUnwanted unwanted_steady unwanted_steady w mine q frame in
+    let one = both_kept IsOff IsUnwanted off_steady unwanted_steady w mine q frame in
     let asked_at = set w q fifo h along Named Asked Rxdctl 0 named asked
-    (asks_receive Anything Anything w.queue q IsUnwanted (λ x p. refl)) old m1 a1 some
+    (asks_receive Anything Anything w.queue q frame IsUnwanted (λ x p. refl)) old m1 a1 some
     (λ done rest all calls. record { ground = at done rest all calls; receive = tt; transmit = tt }) in
     let both_at = set w q fifo h along Asked BothAsked Txdctl 0 asked both
-    (asks_transmit IsUnwanted Anything w.queue q IsUnwanted (λ x p. refl)) m1 m2 a2
+    (asks_transmit IsUnwanted Anything w.queue q frame IsUnwanted (λ x p. refl)) m1 m2 a2
     (made_some q old m1 (Sets Rxdctl 0) a1) asked_at in
-    polled_lead w q fifo h along BothAsked OffAsked (IsQuiet w.queue q) both one Rx
-    (λ number word s met made told b. both_read IsUnwanted IsUnwanted w.queue q s q.port number b)
-    (sees_receive IsUnwanted IsUnwanted w.queue q (λ x none. none)) first (polled Tx false second) m2 new more
+    polled_lead w q fifo h along BothAsked OffAsked (IsQuiet w.queue q frame) both one Rx
+    (λ number word s met made told b. both_read IsUnwanted IsUnwanted w.queue q frame s q.port number b)
+    (sees_receive IsUnwanted IsUnwanted w.queue q frame (λ x none. none)) first (polled Tx false second) m2 new more
     (made_some q m1 m2 (Sets Txdctl 0) a2) both_at
     (λ mid rest some_mid one_at.
-    polled_end w q fifo h along OffAsked (IsQuiet w.queue q) (IsQuiet w.queue q) one (quiet_kept w mine q) Tx
-    (λ number word s met made told b. both_read IsOff IsUnwanted w.queue q s q.port number b)
-    (sees_transmit IsOff IsUnwanted w.queue q (λ x none. none)) second mid new rest some_mid one_at)
+    polled_end w q fifo h along OffAsked (IsQuiet w.queue q frame) (IsQuiet w.queue q frame) one
+    (quiet_kept w mine q frame) Tx
+    (λ number word s met made told b. both_read IsOff IsUnwanted w.queue q frame s q.port number b)
+    (sees_transmit IsOff IsUnwanted w.queue q frame (λ x none. none)) second mid new rest some_mid one_at)

@@ -1,6 +1,6 @@
 -- A start that times out polled 1,000 times.
 use Rattle.std.proofs.Common.{◌≡◌, ℕ, ◌-◌, inl, inr, true, ◌≢◌, List, [], ◌++◌, refl, sym, ap, ◌∙◌, subst, append_assoc}
-use Rattle.std.specs.Prelude.{nat_lt, Option, None, Err}
+use Rattle.std.specs.Prelude.{◌&&◌, nat_lt, Option, None, Err}
 use Rattle.std.proofs.lemmas.Bool.{cond_both}
 use Rattle.std.proofs.lemmas.List.{append-nil}
 use Rattle.nic_device.specs.DmaArena.Numbers.{Numbers}
@@ -11,6 +11,7 @@ use Rattle.pmd.specs.PmdSeam.declared.fault.PmdFault.{PmdFault}
 use Rattle.pmd.specs.PmdSeam.declared.fault.PmdFault.TheVariants.{StartTimeout, BadSize, NoBuffer, DeviceFault}
 use Rattle.pmd.specs.PmdSeam.Both.{both_asked, both_quiet, receive_polled, SwitchFails}
 use Rattle.pmd.specs.PmdSeam.QueueMade.{AreMade}
+use Rattle.pmd.specs.PmdSeam.Frames.{is_frame}
 use Rattle.pmd.specs.PmdSeam.Named.{AtPort, queues_named}
 use Rattle.pmd.specs.PmdSeam.Sides.{missed, ring_words}
 use Rattle.pmd.proofs.PmdSeam.QueueSequences.{both_made as made_after}
@@ -33,7 +34,7 @@ adds_more : (old mid new : List Call) → Adds old mid → Adds mid new → Adds
 adds_more old mid new (xs, first) (ys, then) =
     (xs ++ ys, then ∙ ap (λ (l : List Call). l ++ ys) first ∙ append_assoc old xs ys)
 
-module _ (q : AtPort) (size : ℕ) where
+module _ (q : AtPort) (size frame : ℕ) where
   prepared_adds : (side : Dir) (old : List Call) (a : Numbers) (new : List Call) (b : Numbers) (ring : ℕ)
       → IsPrepared q side size old a new b ring → Adds old new
   prepared_adds side old a new b ring x =
@@ -41,7 +42,7 @@ module _ (q : AtPort) (size : ℕ) where
       (lends_extend (ring_blocks ring size) x.mid new x.lent)
 
   receive_adds : (old : List Call) (a : Numbers) (new : List Call) (b : Numbers) (v : Receive)
-      → IsReceiveReady q size old a new b v → Adds old new
+      → IsReceiveReady q size frame old a new b v → Adds old new
   receive_adds old a new b v x =
       adds_more old x.mid new (extends q both_quiet old x.mid x.quiet)
       (prepared_adds Rx x.mid a new b x.ring x.prepared)
@@ -83,7 +84,7 @@ module _ (q : AtPort) (size : ℕ) where
   going_on old mid a v new b w before (inl (fails, same, left)) = switching_times_out old mid new before fails
   going_on old mid a v new b w before (inr (on, switched, filling)) = absurd filling.fails
 
-  amid : (old : List Call) (a : Numbers) (new : List Call) (e : StartRefused) → StopsStarting q size old a new e
+  amid : (old : List Call) (a : Numbers) (new : List Call) (e : StartRefused) → StopsStarting q size frame old a new e
       → e.fault ≡ StartTimeout → TimesOut q old new
   amid old a new e (inl x) is =
       absurd
@@ -106,9 +107,9 @@ module _ (q : AtPort) (size : ℕ) where
       → e.fault ≡ StartTimeout → TimesOut q old new
 
   by_gate : (old : List Call) (a : Numbers) (new : List Call) (e : StartRefused)
-      → IsEarly old a new e (start_gate a q size)
+      → IsEarly old a new e (start_gate a q size frame)
   by_gate old a new e =
-      cond_both (is_size size) _ _ (IsEarly old a new e)
+      cond_both (is_size size && is_frame frame) _ _ (IsEarly old a new e)
       (λ sized. cond_both (has_room a size) _ _ (IsEarly old a new e)
       (λ some. cond_both (nat_lt q.queue (queues_named q.port)) _ _ (IsEarly old a new e)
       (λ named shut late is. late refl is) (λ none shut late timed. other DeviceFault (λ d. cc) shut.0 timed))
@@ -119,5 +120,5 @@ module _ (q : AtPort) (size : ℕ) where
       other f apart is timed = absurd (apart (sym is ∙ timed))
 
 pub timeouts_poll : TimeoutsPoll
-timeouts_poll q size old a new e shut stops =
-    by_gate q size old a new e shut (λ none timed. amid q size old a new e (stops none) timed)
+timeouts_poll q size frame old a new e shut stops =
+    by_gate q size frame old a new e shut (λ none timed. amid q size frame old a new e (stops none) timed)

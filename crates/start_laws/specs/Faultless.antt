@@ -37,22 +37,23 @@ NoneIsLent w fifo h calls a =
 -- and so is each of its blocks
 abbrev pub ReceiveIsReady : Type 0
 ReceiveIsReady =
-    (w : Watched) (q : AtPort) (fifo : ℕ) (h : List Entry) (size : ℕ) (old : List Call) (a : Numbers)
-    (new : List Call) (b : Numbers) (out : List ℕ) → IsAlong w fifo h → BeforeNext w fifo h old (IsQuiet w.queue q) →
-    ReceiveFails DeviceFault q size old a new b out → NoneIsLent w fifo h new b → Never w fifo h new
+    (w : Watched) (q : AtPort) (fifo : ℕ) (h : List Entry) (size frame : ℕ) (old : List Call) (a : Numbers)
+    (new : List Call) (b : Numbers) (out : List ℕ) → IsAlong w fifo h →
+    BeforeNext w fifo h old (IsQuiet w.queue q frame) → ReceiveFails DeviceFault q size old a new b out →
+    NoneIsLent w fifo h new b → Never w fifo h new
 
 -- then each word of the transmit ring is, and each of its blocks
 abbrev pub TransmitIsReady : Type 0
 TransmitIsReady =
-    (w : Watched) (q : AtPort) (fifo : ℕ) (h : List Entry) (size : ℕ) (old : List Call) (a : Numbers)
+    (w : Watched) (q : AtPort) (fifo : ℕ) (h : List Entry) (size frame : ℕ) (old : List Call) (a : Numbers)
     (mid : List Call) (b : Numbers) (v : Receive) (new : List Call) (c : Numbers) (out : List ℕ) →
-    IsAlong w fifo h → BeforeNext w fifo h old (IsQuiet w.queue q) → IsReceiveReady q size old a mid b v →
+    IsAlong w fifo h → BeforeNext w fifo h old (IsQuiet w.queue q frame) → IsReceiveReady q size frame old a mid b v →
     PreparingFails DeviceFault q Tx size mid b new c out → NoneIsLent w fifo h new c → Never w fifo h new
 
 -- and both sides are asked on and polled without a stray access
 abbrev pub SwitchingIsNeverStray : Type 0
 SwitchingIsNeverStray =
-    (w : Watched) (q : AtPort) (fifo : ℕ) (h : List Entry) (size : ℕ) (old : List Call) (a : Numbers)
+    (w : Watched) (q : AtPort) (fifo : ℕ) (h : List Entry) (size frame : ℕ) (old : List Call) (a : Numbers)
     (mid : List Call) (b : Numbers) (v : Receive) (both : List Call) (c : Numbers) (t : Sender) (new : List Call) →
-    IsAlong w fifo h → BeforeNext w fifo h old (IsQuiet w.queue q) → IsReceiveReady q size old a mid b v →
-    IsTransmitReady q size mid b both c t → SwitchFails DeviceFault q both new true 1000 → Never w fifo h new
+    IsAlong w fifo h → BeforeNext w fifo h old (IsQuiet w.queue q frame) → IsReceiveReady q size frame old a mid b v →
+    IsTransmitReady q size frame mid b both c t → SwitchFails DeviceFault q both new true 1000 → Never w fifo h new

@@ -12,7 +12,7 @@ use Rattle.pmd.specs.PmdSeam.Named.{AtPort}
 use Rattle.pmd.specs.PmdRx.Filling.{StopsFilling}
 use Rattle.pmd.specs.PmdRx.Receive.{Receive}
 use Rattle.pmd.specs.PmdTx.Sending.{Sender}
-use Rattle.pmd.specs.Started.{StopsStarting, is_size}
+use Rattle.pmd.specs.Started.{StopsStarting}
 use Rattle.pmd.specs.Starting.{IsReceiveReady, IsTransmitReady, PreparingFails, ReceiveFails}
 use Rattle.pmd.specs.declared.start.StartRefused.{StartRefused}
 use Rattle.receive_laws.specs.Joint.{Agree}
@@ -30,67 +30,68 @@ pub record FaultsBeforeOne (q : AtPort) (size : ℕ) (old : List Call) (a : Numb
   pub fails : ReceiveFails DeviceFault q size old a new arena out
 
 -- after the receive ring was made ready, the transmit ring isn't
-pub record FaultsAfterOne (q : AtPort) (size : ℕ) (old : List Call) (a : Numbers) (new : List Call) : Type 0 where
+pub record FaultsAfterOne (q : AtPort) (size frame : ℕ) (old : List Call) (a : Numbers) (new : List Call) : Type 0 where
   pub made : List Call
   pub ready_arena : Numbers
   pub arena : Numbers
   pub empty : Receive
   pub out : List ℕ
-  pub receive : IsReceiveReady q size old a made ready_arena empty
+  pub receive : IsReceiveReady q size frame old a made ready_arena empty
   pub fails : PreparingFails DeviceFault q Tx size made ready_arena new arena out
 
 -- after both were, the sides aren't switched on
-pub record FaultsSwitching (q : AtPort) (size : ℕ) (old : List Call) (a : Numbers) (new : List Call) : Type 0 where
-  pub ready_made : List Call
-  pub both_made : List Call
-  pub ready_arena : Numbers
-  pub both_arena : Numbers
-  pub empty : Receive
-  pub sender : Sender
-  pub receive : IsReceiveReady q size old a ready_made ready_arena empty
-  pub transmit : IsTransmitReady q size ready_made ready_arena both_made both_arena sender
-  pub fails : SwitchFails DeviceFault q both_made new true 1000
+pub record FaultsSwitching (q : AtPort) (size frame : ℕ) (old : List Call) (a : Numbers) (new : List Call) : Type 0
+  where
+    pub ready_made : List Call
+    pub both_made : List Call
+    pub ready_arena : Numbers
+    pub both_arena : Numbers
+    pub empty : Receive
+    pub sender : Sender
+    pub receive : IsReceiveReady q size frame old a ready_made ready_arena empty
+    pub transmit : IsTransmitReady q size frame ready_made ready_arena both_made both_arena sender
+    pub fails : SwitchFails DeviceFault q both_made new true 1000
 
 -- after both sides went on, the receive ring is filled in part
-pub record FaultsFilling (q : AtPort) (size : ℕ) (old : List Call) (a : Numbers) (new : List Call) : Type 0 where
+pub record FaultsFilling (q : AtPort) (size frame : ℕ) (old : List Call) (a : Numbers) (new : List Call) : Type 0 where
   pub mid : List Call
   pub empty : Receive
   pub sender : Sender
-  pub on : AreOn q size old a mid empty sender
+  pub on : AreOn q size frame old a mid empty sender
   pub arena : Numbers
   pub filled : Receive
   pub fails : StopsFilling DeviceFault mid on.both_arena empty new arena filled
 
 -- before both sides are on
-abbrev pub FaultsEarly : AtPort → ℕ → List Call → Numbers → List Call → Type 0
-FaultsEarly q size old a new =
-    FaultsBeforeOne q size old a new ⊎ FaultsAfterOne q size old a new ⊎ FaultsSwitching q size old a new
+abbrev pub FaultsEarly : AtPort → ℕ → ℕ → List Call → Numbers → List Call → Type 0
+FaultsEarly q size frame old a new =
+    FaultsBeforeOne q size old a new ⊎ FaultsAfterOne q size frame old a new ⊎ FaultsSwitching q size frame old a new
 
 -- as a block of a ring is lent, none of the blocks is that are free then
-abbrev pub LendsFresh : (w : Watched) (fifo : ℕ) (h : List Entry) (q : AtPort) (size : ℕ) (old : List Call)
-    (a : Numbers) (new : List Call) → FaultsEarly q size old a new → Type 0
-LendsFresh w fifo h q size old a new (inl x) = NoneIsLent w fifo h new x.arena
-LendsFresh w fifo h q size old a new (inr (inl x)) = NoneIsLent w fifo h new x.arena
-LendsFresh w fifo h q size old a new (inr (inr x)) = ⊤
+abbrev pub LendsFresh : (w : Watched) (fifo : ℕ) (h : List Entry) (q : AtPort) (size frame : ℕ) (old : List Call)
+    (a : Numbers) (new : List Call) → FaultsEarly q size frame old a new → Type 0
+LendsFresh w fifo h q size frame old a new (inl x) = NoneIsLent w fifo h new x.arena
+LendsFresh w fifo h q size frame old a new (inr (inl x)) = NoneIsLent w fifo h new x.arena
+LendsFresh w fifo h q size frame old a new (inr (inr x)) = ⊤
 
 -- a start that answers `DeviceFault` amid its events ends in one of these ways
 abbrev pub FaultsAreEarlyOrFilling : Type 0
 FaultsAreEarlyOrFilling =
-    (q : AtPort) (size : ℕ) (old : List Call) (a : Numbers) (new : List Call) (e : StartRefused) →
-    StopsStarting q size old a new e → e.fault ≡ DeviceFault →
-    FaultsEarly q size old a new ⊎ FaultsFilling q size old a new
+    (q : AtPort) (size frame : ℕ) (old : List Call) (a : Numbers) (new : List Call) (e : StartRefused) →
+    StopsStarting q size frame old a new e → e.fault ≡ DeviceFault →
+    FaultsEarly q size frame old a new ⊎ FaultsFilling q size frame old a new
 
 -- early it never does where its queue is off just before its first call
 abbrev pub NoFaultIsEarly : Type 0
 NoFaultIsEarly =
-    (w : Watched) (q : AtPort) (fifo : ℕ) (h : List Entry) (size : ℕ) (old : List Call) (a : Numbers)
-    (new : List Call) → IsAlong w fifo h → BeforeNext w fifo h old (IsQuiet w.queue q) →
-    (x : FaultsEarly q size old a new) → LendsFresh w fifo h q size old a new x → Never w fifo h new
+    (w : Watched) (q : AtPort) (fifo : ℕ) (h : List Entry) (size frame : ℕ) (old : List Call) (a : Numbers)
+    (new : List Call) → IsAlong w fifo h → BeforeNext w fifo h old (IsQuiet w.queue q frame) →
+    (x : FaultsEarly q size frame old a new) → LendsFresh w fifo h q size frame old a new x → Never w fifo h new
 
 -- and as it began to fill the ring the device and the driver agreed on both sides, and the receive side was up
 abbrev pub FillingBeginsWell : Type 0
 FillingBeginsWell =
-    (w : Watched) (q : AtPort) (fifo : ℕ) (h : List Entry) (size : ℕ) (old : List Call) (a : Numbers)
-    (new : List Call) → IsAlong w fifo h → is_size size ≡ true → BeforeNext w fifo h old (IsQuiet w.queue q) →
-    (x : FaultsFilling q size old a new) →
+    (w : Watched) (q : AtPort) (fifo : ℕ) (h : List Entry) (size frame : ℕ) (old : List Call) (a : Numbers)
+    (new : List Call) → IsAlong w fifo h →
+    BeforeNext w fifo h old (IsQuiet w.queue q frame) → (x : FaultsFilling q size frame old a new) →
     AtCalls w fifo h x.mid (λ s. IsUp w.queue s × Agree w.queue s [] x.empty × Agrees s w.queue [] x.sender)

@@ -10,5 +10,5 @@ use Rattle.start_laws.specs.Numbers.{NamesQueue}
 -- it isn't for a queue that the port can't name
 abbrev pub NamedQueuesPass : Type 0
 NamedQueuesPass =
-    (s : State) (a : Numbers) (q : AtPort) (size queue : ℕ) → NamesQueue s q queue →
-    start_gate a q size ≢ Some DeviceFault
+    (s : State) (a : Numbers) (q : AtPort) (size frame queue : ℕ) → NamesQueue s q queue →
+    start_gate a q size frame ≢ Some DeviceFault

@@ -74,8 +74,9 @@ LaysOn q l (c ∷ cs) last = (m : Laid) × Lays q l c.event m × LaysOn q m cs l
 -- and queue name it and its transmit side is off, where this and the pass's calls behind it are such
 abbrev pub LaidQueueIsSilent : Type 0
 LaidQueueIsSilent =
-    (w : Watched) (q : AtPort) (fifo : ℕ) (h done rest : List Entry) (e : Entry) (last : Laid) → IsAlong w fifo h →
-    done ++ e ∷ rest ≡ h → e.pass ≡ w.pass → HasGround w.queue q (leads_to (new_state w.vfs fifo) done) →
+    (w : Watched) (q : AtPort) (frame fifo : ℕ) (h done rest : List Entry) (e : Entry) (last : Laid) →
+    IsAlong w fifo h → done ++ e ∷ rest ≡ h → e.pass ≡ w.pass →
+    HasGround w.queue q frame (leads_to (new_state w.vfs fifo) done) →
     transmit.IsOff w.queue (leads_to (new_state w.vfs fifo) done) →
     LaysOn q Off (call_in e ∷ calls_of w.pass rest) last →
     sent_in w.queue (leads_to (new_state w.vfs fifo) done) (e ∷ rest) ≡ []

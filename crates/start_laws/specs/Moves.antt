@@ -18,6 +18,7 @@ use Rattle.nic_device.specs.declared.event.Reply.TheVariants as reply
 use Rattle.nic_device.specs.declared.named.Named.TheVariants.{Register}
 use Rattle.device_lock.specs.Alone.{Blocks}
 use Rattle.pmd.specs.PmdRx.Receive as receive
+use Rattle.pmd.specs.PmdSeam.Frames.{is_frame, packet_limit}
 use Rattle.pmd.specs.PmdSeam.Slots.{blocks_for, EachRingBlock}
 use Rattle.pmd.specs.PmdTx.Sending as transmit
 use Rattle.receive_laws.specs.Joint.{IsNamed, Agree}
@@ -117,17 +118,18 @@ pub record IsSized (ring size : ℕ) : Type 0 where
 abbrev pub FreshReceiveAgrees : Type 0
 FreshReceiveAgrees =
     (queue : ℕ) (s : State) (tx : TransmitQueue) (rings : Blocks) (on wanted : Bool) (port : Port)
-    (tail ring size : ℕ) →
-    IsSized ring size → IsNamed s queue (receive.at_start port tail ring size).layout →
+    (tail ring size most : ℕ) →
+    IsSized ring size → IsNamed s queue (receive.at_start port tail ring size most).layout →
     EachRingBlock ring size (λ n. IsTrue (rings n)) →
     Stand queue (fresh_receive ring size on wanted) tx rings s →
-    Agree queue s [] (receive.at_start port tail ring size)
+    Agree queue s [] (receive.at_start port tail ring size most)
 
 abbrev pub FreshTransmitAgrees : Type 0
 FreshTransmitAgrees =
     (queue : ℕ) (s : State) (rx : ReceiveQueue) (rings : Blocks) (on wanted : Bool) (port : Port)
-    (tail ring size : ℕ) →
+    (tail ring size frame : ℕ) →
     queue < 128 → IsSound s → IsSized ring size → named s port tail ≡ Register (place Tdt queue) 0xFFFFFFFF →
-    frame_limit s.registers ≡ 1514 → EachRingBlock ring size (λ n. IsTrue (rings n)) →
+    is_frame frame ≡ true → frame_limit s.registers ≡ packet_limit frame →
+    EachRingBlock ring size (λ n. IsTrue (rings n)) →
     Stand queue rx (fresh_transmit ring size on wanted) rings s →
-    Agrees s queue [] (transmit.at_start port tail ring size)
+    Agrees s queue [] (transmit.at_start port tail ring size (packet_limit frame))

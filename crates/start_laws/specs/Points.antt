@@ -10,6 +10,7 @@ use Rattle.device_lock.specs.declared.alone.Watched.{Watched}
 use Rattle.device_lock.specs.declared.entry.Entry.{Entry}
 use Rattle.device_lock.specs.declared.entry.Call.{Call}
 use Rattle.pmd.specs.PmdSeam.QueueMade.{Access, Sees, Sets, AreMade}
+use Rattle.pmd.specs.PmdSeam.Frames.{packet_limit}
 use Rattle.pmd.specs.PmdSeam.Named.{AtPort}
 use Rattle.start_laws.specs.Along.{AtCalls, IsAlong}
 use Rattle.start_laws.specs.Moves.{MayGoOnReceive, MayGoOnTransmit, receive_seen, transmit_seen}
@@ -17,10 +18,11 @@ use Rattle.start_laws.specs.Numbers.{NamesQueue}
 use Rattle.start_laws.specs.Standing.{Stand}
 use Rattle.start_laws.specs.Words.{receive_with, transmit_with, FitsReceive, FitsTransmit}
 
--- what a driver rests on beside its sides: port and queue name this queue, and frames have at most 1,514 bytes
-pub record HasGround (queue : ℕ) (q : AtPort) (s : State) : Type 0 where
+-- what a driver rests on beside its sides: port and queue name this queue, and frames have at most as many bytes as
+-- the driver's packets
+pub record HasGround (queue : ℕ) (q : AtPort) (frame : ℕ) (s : State) : Type 0 where
   pub names : NamesQueue s q queue
-  pub limit : frame_limit s.registers ≡ 1514
+  pub limit : frame_limit s.registers ≡ packet_limit frame
 
 -- the two sides and the lent blocks
 pub record Sides : Type 0 where
@@ -29,9 +31,9 @@ pub record Sides : Type 0 where
   pub rings : Blocks
 
 -- they stand so, and the blocks are among these
-pub record Point (queue : ℕ) (mine : Blocks) (q : AtPort) (p : Sides) (s : State) : Type 0 where
+pub record Point (queue : ℕ) (mine : Blocks) (q : AtPort) (frame : ℕ) (p : Sides) (s : State) : Type 0 where
   pub stand : Stand queue p.rx p.tx p.rings s
-  pub ground : HasGround queue q s
+  pub ground : HasGround queue q frame s
   pub covers : (number : ℕ) → IsTrue (p.rings number) → IsTrue (mine number)
   pub low : (number : ℕ) → IsTrue (p.rings number) → number < 65536
 
@@ -79,9 +81,9 @@ AllMay (a ∷ rest) p = May a p × AllMay rest (after_access a p)
 -- known; then, where it has made accesses that keep them standing, they stand as after these
 abbrev pub AccessesLead : Type 0
 AccessesLead =
-    (w : Watched) (q : AtPort) (fifo : ℕ) (h : List Entry) (known : Sides → Bool) (F : Sides → Sides)
+    (w : Watched) (q : AtPort) (frame fifo : ℕ) (h : List Entry) (known : Sides → Bool) (F : Sides → Sides)
     (all : List Access) (old new : List Call) → IsAlong w fifo h → ((p : Sides) → IsTrue (known p) → AllMay all (F p)) →
     AreMade q old new all → old ≢ [] →
-    AtCalls w fifo h old (λ s. (p : Sides) × IsTrue (known p) × Point w.queue (lent_by w.pass h) q (F p) s) →
+    AtCalls w fifo h old (λ s. (p : Sides) × IsTrue (known p) × Point w.queue (lent_by w.pass h) q frame (F p) s) →
     AtCalls w fifo h new
-    (λ s. (p : Sides) × IsTrue (known p) × Point w.queue (lent_by w.pass h) q (after_accesses all (F p)) s)
+    (λ s. (p : Sides) × IsTrue (known p) × Point w.queue (lent_by w.pass h) q frame (after_accesses all (F p)) s)

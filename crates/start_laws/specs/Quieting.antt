@@ -14,22 +14,22 @@ use Rattle.start_laws.specs.Along.{AtCalls, BeforeLast, IsAlong}
 use Rattle.start_laws.specs.Points.{HasGround, Point, Sides}
 
 -- port and queue name the queue, and of each of its sides something holds
-pub record Both (P Q : Side → Type 0) (queue : ℕ) (q : AtPort) (s : State) : Type 0 where
-  pub ground : HasGround queue q s
+pub record Both (P Q : Side → Type 0) (queue : ℕ) (q : AtPort) (frame : ℕ) (s : State) : Type 0 where
+  pub ground : HasGround queue q frame s
   pub receive : P (side_of Rx queue s)
   pub transmit : Q (side_of Tx queue s)
 
 -- both sides are off and not wanted on
-abbrev pub IsQuiet : ℕ → AtPort → State → Type 0
-IsQuiet queue q s = Both IsOff IsOff queue q s
+abbrev pub IsQuiet : ℕ → AtPort → ℕ → State → Type 0
+IsQuiet queue q frame s = Both IsOff IsOff queue q frame s
 
 -- so it is wherever the pass has made the accesses that see them off, where the driver's port and queue name this queue
 -- just before the first of these
 abbrev pub QuietingLeads : Type 0
 QuietingLeads =
-    (w : Watched) (q : AtPort) (fifo : ℕ) (h : List Entry) (old new : List Call) → IsAlong w fifo h →
-    (made : AreMade q old new both_quiet) → BeforeLast w fifo h made.0 (HasGround w.queue q) →
-    AtCalls w fifo h new (IsQuiet w.queue q)
+    (w : Watched) (q : AtPort) (frame fifo : ℕ) (h : List Entry) (old new : List Call) → IsAlong w fifo h →
+    (made : AreMade q old new both_quiet) → BeforeLast w fifo h made.0 (HasGround w.queue q frame) →
+    AtCalls w fifo h new (IsQuiet w.queue q frame)
 
 -- the sides are off, and not wanted on
 abbrev pub are_off : Sides → Bool
@@ -38,6 +38,6 @@ are_off p = (not p.rx.on && not p.rx.wanted) && (not p.tx.on && not p.tx.wanted)
 -- and so they stand as they are, with no block lent
 abbrev pub QuietSidesStand : Type 0
 QuietSidesStand =
-    (w : Watched) (q : AtPort) (fifo : ℕ) (h : List Entry) (calls : List Call) → IsAlong w fifo h →
-    AtCalls w fifo h calls (IsQuiet w.queue q) →
-    AtCalls w fifo h calls (λ s. (p : Sides) × IsTrue (are_off p) × Point w.queue (lent_by w.pass h) q p s)
+    (w : Watched) (q : AtPort) (frame fifo : ℕ) (h : List Entry) (calls : List Call) → IsAlong w fifo h →
+    AtCalls w fifo h calls (IsQuiet w.queue q frame) →
+    AtCalls w fifo h calls (λ s. (p : Sides) × IsTrue (are_off p) × Point w.queue (lent_by w.pass h) q frame p s)

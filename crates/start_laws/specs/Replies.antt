@@ -19,12 +19,13 @@ pub record RegistersReply (queue : ℕ) (q : AtPort) (s : State) (row : RowId) (
 
 abbrev pub NamedRegistersReply : Type 0
 NamedRegistersReply =
-    (queue : ℕ) (q : AtPort) (s : State) (row : RowId) (number : ℕ) → HasGround queue q s → is_driven row ≡ true →
+    (queue : ℕ) (q : AtPort) (frame : ℕ) (s : State) (row : RowId) (number : ℕ) →
+    HasGround queue q frame s → is_driven row ≡ true →
     IsNumberOf q.port row q.queue number → RegistersReply queue q s row number
 
 -- the enable word of a side that is off is read without bit 25
 abbrev pub OffSidesAreSeenOff : Type 0
 OffSidesAreSeenOff =
-    (queue : ℕ) (q : AtPort) (s : State) (number word : ℕ) → IsQuiet queue q s →
+    (queue : ℕ) (q : AtPort) (frame : ℕ) (s : State) (number word : ℕ) → IsQuiet queue q frame s →
     IsNumberOf q.port Rxdctl q.queue number ⊎ IsNumberOf q.port Txdctl q.queue number →
     reply_to s (event.Read q.port number) ≡ reply.Word word → IsFalse (has_bit 25 word)

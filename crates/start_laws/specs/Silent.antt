@@ -18,9 +18,9 @@ use Rattle.start_laws.specs.Stopping.{Ends}
 -- this queue before
 abbrev pub SwitchingOffLeads : Type 0
 SwitchingOffLeads =
-    (w : Watched) (q : AtPort) (fifo : ℕ) (h : List Entry) (old new : List Call) → IsAlong w fifo h →
+    (w : Watched) (q : AtPort) (frame fifo : ℕ) (h : List Entry) (old new : List Call) → IsAlong w fifo h →
     IsSwitched q old new false 1000 → old ≢ [] →
-    AtCalls w fifo h old (HasGround w.queue q) → AtCalls w fifo h new (IsQuiet w.queue q)
+    AtCalls w fifo h old (HasGround w.queue q frame) → AtCalls w fifo h new (IsQuiet w.queue q frame)
 
 -- and from then on nothing is delivered or sent there, where the calls of the pass are those of a stop
 pub record IsSilent (w : Watched) (fifo : ℕ) (h done : List Entry) : Type 0 where
@@ -30,6 +30,6 @@ pub record IsSilent (w : Watched) (fifo : ℕ) (h done : List Entry) : Type 0 wh
 
 abbrev pub QuietQueueIsSilent : Type 0
 QuietQueueIsSilent =
-    (w : Watched) (q : AtPort) (fifo : ℕ) (h done rest : List Entry) (old new : List Call) → IsAlong w fifo h →
-    old ≢ [] → AtCalls w fifo h old (IsQuiet w.queue q) → Ends q old new → calls_of w.pass h ≡ new →
+    (w : Watched) (q : AtPort) (frame fifo : ℕ) (h done rest : List Entry) (old new : List Call) → IsAlong w fifo h →
+    old ≢ [] → AtCalls w fifo h old (IsQuiet w.queue q frame) → Ends q old new → calls_of w.pass h ≡ new →
     done ++ rest ≡ h → calls_of w.pass done ≡ old → IsSilent w fifo h done

@@ -15,6 +15,7 @@ use Rattle.device_lock.specs.Alone.{Blocks}
 use Rattle.device_lock.specs.declared.alone.Watched.{Watched}
 pub use Rattle.receive_laws.specs.HistoryLaws.Left.{IsLeft}
 use Rattle.receive_laws.specs.HistoryLaws.Sides.{Side, receive_side, side_of, transmit_side}
+use Rattle.receive_laws.specs.Fitting.{begun_on}
 use Rattle.receive_laws.specs.Pieces.{pieces}
 use Rattle.transmit_laws.specs.Sent.{sent_by}
 
@@ -30,11 +31,13 @@ pub record Stands (x side : Side) : Type 0 where
 abbrev pub IsZero : Memory → ℕ → Type 0
 IsZero m number = map.get m number ≡ Some (zero_block number).bytes
 
--- both sides stand so, nothing is staged, and these blocks are lent, all zero
+-- both sides stand so, nothing is staged, nothing is written yet of a frame that waits for the queue, and these blocks
+-- are lent, all zero
 pub record Stand (queue : ℕ) (receive : ReceiveQueue) (transmit : TransmitQueue) (rings : Blocks) (s : State) : Type 0
   where
     pub receives : Stands (side_of Rx queue s) (receive_side receive)
     pub transmits : Stands (side_of Tx queue s) (transmit_side transmit [])
+    pub begun : begun_on queue s.waiting ≡ 0
     pub zero : (number : ℕ) → IsTrue (rings number) → IsZero s.memory number
 
 -- an event that leaves the queue and these blocks alone keeps both sides as they stand; it receives and sends nothing

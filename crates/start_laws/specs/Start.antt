@@ -1,12 +1,12 @@
 -- What a start of the driver leaves, over a legal history that leaves its queue alone.
-use Rattle.std.specs.Prelude.{ℕ, ◌≡◌, true, List, []}
+use Rattle.std.specs.Prelude.{ℕ, List, []}
 use Rattle.nic_device.specs.DmaArena.Numbers.{Numbers}
 use Rattle.nic_device.specs.State.{new_state}
 use Rattle.device_lock.specs.declared.alone.Watched.{Watched}
 use Rattle.device_lock.specs.declared.entry.Call.{Call}
 use Rattle.device_lock.specs.declared.entry.Entry.{Entry}
 use Rattle.pmd.specs.Running.{Running}
-use Rattle.pmd.specs.Started.{AreUp, is_size}
+use Rattle.pmd.specs.Started.{AreUp}
 use Rattle.pmd.specs.PmdSeam.Named.{AtPort}
 use Rattle.receive_laws.specs.Joint.{Agree}
 use Rattle.transmit_laws.specs.Agreeing.{Agrees}
@@ -14,24 +14,25 @@ use Rattle.start_laws.specs.Along.{AtCalls, AtEntries, BeforeLast, IsAlong}
 use Rattle.start_laws.specs.Points.{HasGround}
 use Rattle.start_laws.specs.Unused.{WentOn}
 
--- just before the driver's first access its port and queue name this queue, and frames are short
-pub record BeginsWell (w : Watched) (fifo : ℕ) (h : List Entry) (q : AtPort) (size : ℕ) (old : List Call) (a : Numbers)
-    (new : List Call) (r : Running) (up : AreUp q size old a new r) : Type 0 where
-  pub ground : BeforeLast w fifo h up.receive.quiet.0 (HasGround w.queue q)
+-- just before the driver's first access its port and queue name this queue, and frames have at most as many bytes as
+-- its packets
+pub record BeginsWell (w : Watched) (fifo : ℕ) (h : List Entry) (q : AtPort) (size frame : ℕ) (old : List Call)
+    (a : Numbers) (new : List Call) (r : Running) (up : AreUp q size frame old a new r) : Type 0 where
+  pub ground : BeforeLast w fifo h up.receive.quiet.0 (HasGround w.queue q frame)
 
 -- wherever the pass has made the calls by which both sides came up, device and driver agree on both: nothing is posted
 -- yet, and nothing is sent
 abbrev pub StartAgrees : Type 0
 StartAgrees =
-    (w : Watched) (fifo : ℕ) (h : List Entry) (q : AtPort) (size : ℕ) (old : List Call) (a : Numbers)
-    (new : List Call) (r : Running) (up : AreUp q size old a new r) → IsAlong w fifo h → is_size size ≡ true →
-    BeginsWell w fifo h q size old a new r up →
+    (w : Watched) (fifo : ℕ) (h : List Entry) (q : AtPort) (size frame : ℕ) (old : List Call) (a : Numbers)
+    (new : List Call) (r : Running) (up : AreUp q size frame old a new r) → IsAlong w fifo h →
+    BeginsWell w fifo h q size frame old a new r up →
     AtCalls w fifo h up.on.mid (λ s. Agree w.queue s [] up.empty × Agrees s w.queue [] r.transmit)
 
 -- and both sides are on there, with nothing received or sent since they went on
 abbrev pub StartGoesOn : Type 0
 StartGoesOn =
-    (w : Watched) (fifo : ℕ) (h : List Entry) (q : AtPort) (size : ℕ) (old : List Call) (a : Numbers)
-    (new : List Call) (r : Running) (up : AreUp q size old a new r) → IsAlong w fifo h → is_size size ≡ true →
-    BeginsWell w fifo h q size old a new r up →
+    (w : Watched) (fifo : ℕ) (h : List Entry) (q : AtPort) (size frame : ℕ) (old : List Call) (a : Numbers)
+    (new : List Call) (r : Running) (up : AreUp q size frame old a new r) → IsAlong w fifo h →
+    BeginsWell w fifo h q size frame old a new r up →
     AtEntries w h up.on.mid (WentOn w.queue (new_state w.vfs fifo))

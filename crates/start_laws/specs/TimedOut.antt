@@ -60,7 +60,7 @@ pub record TimesOut (q : AtPort) (old new : List Call) : Type 0 where
 -- a start that is refused, before any event or amid its events, times out so where it answers that it does
 abbrev pub TimeoutsPoll : Type 0
 TimeoutsPoll =
-    (q : AtPort) (size : ℕ) (old : List Call) (a : Numbers) (new : List Call) (e : StartRefused) →
-    IsShut (start_gate a q size) a old new (Err e) →
-    (start_gate a q size ≡ None → StopsStarting q size old a new e) →
+    (q : AtPort) (size frame : ℕ) (old : List Call) (a : Numbers) (new : List Call) (e : StartRefused) →
+    IsShut (start_gate a q size frame) a old new (Err e) →
+    (start_gate a q size frame ≡ None → StopsStarting q size frame old a new e) →
     e.fault ≡ StartTimeout → TimesOut q old new

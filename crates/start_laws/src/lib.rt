@@ -11,7 +11,7 @@ ghost use Rattle.start_laws.specs.Gate.{NamedQueuesPass};
 ghost use Rattle.start_laws.specs.Laid.{LaidQueueIsSilent};
 ghost use Rattle.start_laws.specs.Moves.{ReceiveWriteStands, TransmitWriteStands, ReceiveReadStands, TransmitReadStands, LendStands, FreshReceiveAgrees, FreshTransmitAgrees};
 ghost use Rattle.start_laws.specs.Numbers.{NamedQueueHasTheNumbers};
-ghost use Rattle.start_laws.specs.On.{SwitchedSidesAgree, SwitchedSidesGoOn};
+ghost use Rattle.start_laws.specs.On.{SwitchedSidesAgree, SwitchedSidesBeginNone, SwitchedSidesGoOn};
 ghost use Rattle.start_laws.specs.Points.{AccessesLead};
 ghost use Rattle.start_laws.specs.Polls.{PollsAreTold};
 ghost use Rattle.start_laws.specs.Quiet.{ReceiveGuardIsOff, OffSidesStand};
@@ -89,16 +89,19 @@ pub fn accesses_lead_over_a_history()
 {}
 
 /// Over such a history, wherever the driver's pass has made the calls by which both rings came up and both sides went
-/// on, the device and the driver agree on both, with nothing posted or sent yet; both are on, and nothing was received
-/// or sent since they went on. That holds whether or not the receive ring is filled next.
+/// on, the device and the driver agree on both, with nothing posted or sent yet; both are on, nothing was received or
+/// sent since they went on, and nothing is written yet of a frame that waits for the queue. That holds whether or not
+/// the receive ring is filled next.
 pub fn switched_sides_agree()
     ensures agree { SwitchedSidesAgree }
     ensures on { SwitchedSidesGoOn }
+    ensures begun { SwitchedSidesBeginNone }
 {}
 
 /// Over such a history, wherever the driver's pass has made the calls by which a start of it brought both sides up, the
 /// device and the driver agree on both: nothing is posted or sent yet. Both are on there, and nothing was received or
-/// sent since they went on. Just before its first access its port and queue name this queue, and frames are short.
+/// sent since they went on. Just before its first access its port and queue name this queue, and frames have at most as
+/// many bytes as its packets.
 pub fn start_leaves_sides_that_agree()
     ensures agree { StartAgrees }
     ensures on { StartGoesOn }

@@ -33,6 +33,7 @@ pub(crate) fn end_jobs(jobs: Vec<Job>) {
             queue: _,
             pf_queue: _,
             size: _,
+            frame: _,
             arena,
             rounds: _,
         } = job;

@@ -37,6 +37,7 @@ pub(crate) fn setup(workers: u8) -> Setup {
         key: KEY,
         reta,
         promiscuous: true,
+        frame: 1518,
     }
 }
 
@@ -51,6 +52,7 @@ fn job(alloc: Global, pass: Pass, worker: u8, frames: u8) -> Result<Job, AllocEr
         queue: u16::from(worker),
         pf_queue: u16::from(worker),
         size: SIZE,
+        frame: 1518,
         arena,
         rounds: 2 * u32::from(frames) + 2,
     })

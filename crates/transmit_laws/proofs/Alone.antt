@@ -8,9 +8,9 @@ use Rattle.device_lock.specs.Alone.{Blocks}
 use Rattle.device_lock.specs.History.{IsLegal}
 use Rattle.device_lock.specs.declared.alone.Watched.{Watched}
 use Rattle.history_laws.proofs.DeviceLaws.Standing.{stays_within}
-use Rattle.pmd_tx.specs.Sending.{Sender, Move, Accepts, Asks, Advances, Looks, Reaps, Elsewhere, has_lent}
+use Rattle.pmd_tx.specs.Sending.{Sender, Move, Accepts, Lends, Asks, Advances, Looks, Reaps, Elsewhere, has_lent, moved}
 use Rattle.transmit_laws.specs.Agreeing.{Agrees}
-use Rattle.transmit_laws.specs.Alone.{IsAlone, LendsOneOf, MayMoveAlone, MayComeAlone, MayRunAlone}
+use Rattle.transmit_laws.specs.Alone.{IsAlone, MayMoveAlone, MayComeAlone, MayRunAlone}
 use Rattle.transmit_laws.specs.Laws.{AloneMayRun, SentIsPrefixWhereAlone}
 use Rattle.transmit_laws.specs.Sent.{sent_by}
 use Rattle.transmit_laws.specs.Turns.{Turn, entries_of, known, MayMove, MayCome, MayRun}
@@ -36,6 +36,7 @@ module _ (w : Watched) (mine : Blocks) (s : State) (sent : List (List ℕ)) (v :
     move_may : (m : Move) → MayMoveAlone w mine v s e m → MayMove w.queue v s e m
     move_may Elsewhere a = spared (has_lent v) (λ number is. is) a
     move_may (Accepts p) a = (a.0, a.1)
+    move_may Lends a = (a.0, a.1)
     move_may Asks a = (a.0, a.1)
     move_may Advances a = (a.0, a.1)
     move_may Looks a = (a.0, a.1)
@@ -45,17 +46,18 @@ module _ (w : Watched) (mine : Blocks) (s : State) (sent : List (List ℕ)) (v :
     may None a = spared mine all a
     may (Some m) a = move_may m a
 
-    lends : (m : Move) → MayMoveAlone w mine v s e m → LendsOneOf mine m (reply_to s e)
-    lends Elsewhere a = tt
-    lends (Accepts p) a = a.2
-    lends Asks a = a.2
-    lends Advances a = a.2
-    lends Looks a = a.2
-    lends Reaps a = a.2
+    moved_mine : (m : Move) → MayMoveAlone w mine v s e m → AreMine mine (moved v m (reply_to s e))
+    moved_mine Elsewhere a = all
+    moved_mine (Accepts p) a = mine-moved mine v all (Accepts p) e (reply_to s e) a.0 a.2
+    moved_mine Lends a = mine-moved mine v all Lends e (reply_to s e) a.0 a.2
+    moved_mine Asks a = mine-moved mine v all Asks e (reply_to s e) a.0 a.2
+    moved_mine Advances a = mine-moved mine v all Advances e (reply_to s e) a.0 a.2
+    moved_mine Looks a = mine-moved mine v all Looks e (reply_to s e) a.0 a.2
+    moved_mine Reaps a = mine-moved mine v all Reaps e (reply_to s e) a.0 a.2
 
     mine_after : (o : Option Move) → MayComeAlone w mine v s e o → AreMine mine (known v o (reply_to s e))
     mine_after None a = all
-    mine_after (Some m) a = mine-moved mine v all m (reply_to s e) (lends m a)
+    mine_after (Some m) a = moved_mine m a
 
 run : (w : Watched) (mine : Blocks) (s : State) (sent : List (List ℕ)) (v : Sender) (ts : List Turn)
     → Agrees s w.queue sent v → w.vfs ≡ s.vfs → AreMine mine v → IsLegal s (entries_of ts)

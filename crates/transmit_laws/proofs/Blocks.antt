@@ -1,38 +1,45 @@
--- The blocks of a driver that sends, and where its descriptors and packets are in them.
-use Rattle.std.proofs.Common.{◌≡◌, ◌≢◌, ℕ, ◌+◌, ◌*◌, ◌/◌, ◌%◌, ◌<◌, ◌≤◌, inl, inr, true, false, length, refl, ap, ◌∙◌, subst, arith}
+-- The blocks of a driver that sends, and where its descriptors and segments are in them.
+use Rattle.std.proofs.Common.{◌≡◌, ◌≢◌, ℕ, ◌+◌, ◌*◌, ◌/◌, ◌%◌, ◌<◌, ◌≤◌, inl, inr, true, false, length, take, refl, ap, ◌∙◌, subst, arith}
 use Rattle.std.specs.Prelude.{◌==◌, zero, suc, List, [], ◌∷◌, slice_index_or, is_some, IsTrue}
 use Rattle.std.specs.List.{list_any}
 use Rattle.std.specs.FinMap as map
 use Rattle.std.proofs.lemmas.Bool.{cases_lt, eq-eqb, both_ways, or_left, or_right}
+use Rattle.std.proofs.lemmas.List.{get_or-take, length-take-le}
 use Rattle.nic_device.specs.DmaArena.Memory.{Memory, has_block, is_lent, read_at, AreApart, LiesIn}
 use Rattle.nic_device.proofs.DmaArena.Blocks.{is_lent_in}
 use Rattle.nic_device.proofs.DmaArena.Inside.{reads_its_block}
 use Rattle.pmd_tx.specs.PmdSeam.Slots.{blocks_for, is_ring_block, EachRingBlock}
 use Rattle.pmd_tx.proofs.PmdSeam.Rings.{slot_block, slot_lies, ring_block_is, ring_block_apart}
-use Rattle.pmd_tx.specs.Sending.{Outgoing, Sender, no_packet, packet_at, slot_at, descriptor_at, has_lent, blocks_of}
+use Rattle.pmd_tx.specs.Sending.{Segment, Sender, no_segment, segment_at, slot_at, descriptor_at, has_lent, blocks_of}
 use Rattle.transmit_laws.specs.Agreeing.{IsLayout, IsReady, IsCounted, Shows}
 use Rattle.transmit_laws.proofs.Slots.{slot-below, slot-apart}
 
 -- which blocks are lent
 
-any_at : (ps : List Outgoing) (k : ℕ) → k < length ps
-    → list_any (λ b. (slice_index_or ps k no_packet).block == b) (blocks_of ps) ≡ true
+any_at : (ss : List Segment) (k : ℕ) → k < length ss
+    → list_any (λ b. (slice_index_or ss k no_segment).block == b) (blocks_of ss) ≡ true
 any_at [] k h = absurd (omega arith)
-any_at (p ∷ ps) zero h = rw (eq-eqb p.block p.block refl) refl
-any_at (p ∷ ps) (suc k) h =
-    or_right ((slice_index_or ps k no_packet).block == p.block)
-    (list_any (λ b. (slice_index_or ps k no_packet).block == b) (blocks_of ps)) (any_at ps k (omega arith))
+any_at (x ∷ ss) zero h = rw (eq-eqb x.block x.block refl) refl
+any_at (x ∷ ss) (suc k) h =
+    or_right ((slice_index_or ss k no_segment).block == x.block)
+    (list_any (λ b. (slice_index_or ss k no_segment).block == b) (blocks_of ss)) (any_at ss k (omega arith))
 
 pub has_lent-ring : (v : Sender) (k : ℕ) → k < blocks_for v.layout.size → has_lent v (v.layout.ring + k) ≡ true
 has_lent-ring v k below =
     let n = v.layout.ring + k in
-    or_left (is_ring_block v.layout.ring v.layout.size n) (list_any (λ b. n == b) (blocks_of v.outstanding))
+    or_left (is_ring_block v.layout.ring v.layout.size n)
+    (list_any (λ b. n == b) (blocks_of (take v.lent v.outstanding)))
     (ring_block_is v.layout.ring v.layout.size k below)
 
-pub has_lent-packet : (v : Sender) (k : ℕ) → k < length v.outstanding → has_lent v (packet_at v k).block ≡ true
-has_lent-packet v k known =
-    or_right (is_ring_block v.layout.ring v.layout.size (packet_at v k).block)
-    (list_any (λ b. (packet_at v k).block == b) (blocks_of v.outstanding)) (any_at v.outstanding k known)
+pub has_lent-segment : (v : Sender) (k : ℕ) → v.lent ≤ length v.outstanding → k < v.lent
+    → has_lent v (segment_at v k).block ≡ true
+has_lent-segment v k known lent =
+    let ss = take v.lent v.outstanding in
+    let same : slice_index_or ss k no_segment ≡ segment_at v k = get_or-take v.lent v.outstanding k no_segment lent in
+    let below : k < length ss = omega (arith, length-take-le v.lent v.outstanding known) in
+    or_right (is_ring_block v.layout.ring v.layout.size (segment_at v k).block)
+    (list_any (λ b. (segment_at v k).block == b) (blocks_of ss))
+    (subst (λ (x : Segment). list_any (λ b. x.block == b) (blocks_of ss) ≡ true) same (any_at ss k below))
 
 -- a block that isn't lent is none of them
 pub unlike : (v : Sender) (n b : ℕ) → has_lent v n ≡ false → has_lent v b ≡ true → b ≢ n
@@ -81,27 +88,28 @@ module _ (v : Sender) (l : IsLayout v.layout) where
         | inr le ↦ inr (omega (arith, differs))
       ]
 
-  pub packet-apart : (m : Memory) (p : Outgoing) (k : ℕ) → IsReady m v.layout.ring v.layout.size p → k ≤ v.layout.size
-      → AreApart (2048 * p.block) (length p.kept.bytes) (descriptor_at v.layout k) 16
-  packet-apart m p k ready h =
+  pub segment-apart : (m : Memory) (x : Segment) (k : ℕ) → IsReady m v.layout.ring v.layout.size x
+      → k ≤ v.layout.size
+      → AreApart (2048 * x.block) (length x.part.bytes) (descriptor_at v.layout k) 16
+  segment-apart m x k ready h =
       let inside = slot-inside k in
-      let other : p.block ≢ block k =
-      ring_block_apart v.layout.ring v.layout.size p.block ready.apart (part k) (slot-part k h) in
-      elim (cases_lt p.block (block k)) [
+      let other : x.block ≢ block k =
+      ring_block_apart v.layout.ring v.layout.size x.block ready.apart (part k) (slot-part k h) in
+      elim (cases_lt x.block (block k)) [
         | inl lt ↦ inl (omega (arith, ready.short, inside.0))
-        | inr le ↦ let gt : block k < p.block = omega (arith, other) in inr (omega (arith, inside.1))
+        | inr le ↦ let gt : block k < x.block = omega (arith, other) in inr (omega (arith, inside.1))
       ]
 
--- what a packet's block has stays where the block does
-pub ready-same : (m n : Memory) (ring size : ℕ) (p : Outgoing) → map.get n p.block ≡ map.get m p.block
-    → IsReady m ring size p → IsReady n ring size p
-ready-same m n ring size p same ready = record {
-  long = ready.long;
+-- what a segment's block has stays where the block does
+pub ready-same : (m n : Memory) (ring size : ℕ) (x : Segment) → map.get n x.block ≡ map.get m x.block
+    → IsReady m ring size x → IsReady n ring size x
+ready-same m n ring size x same ready = record {
   short = ready.short;
+  whole = ready.whole;
   lent = ap is_some same ∙ ready.lent;
   apart = ready.apart;
   bytes =
-      (reads_its_block n m p.block (2048 * p.block) (length p.kept.bytes) same
+      (reads_its_block n m x.block (2048 * x.block) (length x.part.bytes) same
       (omega arith, omega (arith, ready.short))).0
       ∙ ready.bytes;
 }
@@ -121,9 +129,10 @@ module _ (m n : Memory) (v : Sender) (f : ℕ) (l : IsLayout v.layout) (c : IsCo
     shows-same = record {
       ring = λ k below. ap is_some (ring-same k below) ∙ h.ring k below;
       ready = λ k i.
-          ready-same m n v.layout.ring v.layout.size (packet_at v k)
-          (same (packet_at v k).block (has_lent-packet v k i)) (h.ready k i);
-      done = λ k i. stays k (omega (arith, c.room, c.posted_known, c.fetched_posted)) ∙ h.done k i;
-      waits = λ k i j. stays k (omega (arith, c.room, c.posted_known)) ∙ h.waits k i j;
-      next = λ e. ((h.next e).0, stays v.posted (omega (arith, c.room, c.posted_known)) ∙ (h.next e).1);
+          ready-same m n v.layout.ring v.layout.size (segment_at v k)
+          (same (segment_at v k).block (has_lent-segment v k c.lent_known i)) (h.ready k i);
+      done = λ k i end.
+          stays k (omega (arith, c.room, c.lent_known, c.poked_lent, c.posted_poked, c.fetched_posted))
+          ∙ h.done k i end;
+      waits = λ k i j. stays k (omega (arith, c.room, c.lent_known, c.poked_lent)) ∙ h.waits k i j;
     }

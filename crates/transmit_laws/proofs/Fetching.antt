@@ -1,6 +1,8 @@
--- A posted slot that is fetched: its packet goes out, and its descriptor is done.
-use Rattle.std.proofs.Common.{◌≡◌, ℕ, ◌-◌, ◌*◌, ◌<◌, ◌≤◌, ◌^◌, Bool, true, false, List, [], length, refl, ap, ◌∙◌, arith, Some, None, Ok}
-use Rattle.std.proofs.lemmas.List.{append-nil}
+-- A posted slot that is fetched: its segment is staged, and at the end of a packet that goes out, and the descriptor is
+-- done.
+use Rattle.std.proofs.Common.{◌≡◌, ℕ, ◌-◌, ◌*◌, ◌<◌, ◌≤◌, ◌^◌, Bool, true, false, not, inl, inr, List, ◌++◌, length, if◌then◌else◌, refl, ap, ◌∙◌, arith, Some, None, Ok}
+use Rattle.std.proofs.lemmas.Bool.{cases_Bool, or_right}
+use Rattle.std.proofs.lemmas.List.{append-nil, length-append}
 use Rattle.nic_device.specs.DmaArena.Memory.{Memory, has_block, is_lent, read_at, write_at}
 use Rattle.nic_device.proofs.DmaArena.Blocks.{is_lent_in}
 use Rattle.nic_device.specs.DmaRing.Descriptor.{first_half, second_half}
@@ -19,73 +21,72 @@ use Rattle.nic_device.specs.TxRing.declared.fetched.Fetched.{Fetched}
 use Rattle.nic_device.specs.TxRing.declared.tx.Tx.{Tx}
 use Rattle.nic_device.proofs.TxRing.Reports.{done_changes_done_alone}
 use Rattle.nic_device.proofs.TxRing.Tests.{tests_in_order}
-use Rattle.pmd_tx.specs.Sending.{Outgoing, asking, is_sent}
-use Rattle.transmit_laws.specs.Agreeing.{IsPosted}
+use Rattle.pmd_tx.specs.Sending.{Segment, asking, is_sent}
+use Rattle.transmit_laws.specs.Agreeing.{IsPosted, staged_behind}
 
--- what a packet's descriptor asks for
+-- what a segment's descriptor asks for
 
-abbrev word_of : Outgoing → ℕ
-word_of p = data_word (length p.kept.bytes) true (length p.kept.bytes)
+abbrev word_of : Segment → ℕ
+word_of x = data_word (length x.part.bytes) x.part.last x.part.whole
 
-word-asked : (p : Outgoing) → length p.kept.bytes ≤ 1514
-    → IsDataWord (word_of p) (length p.kept.bytes) true (length p.kept.bytes)
-word-asked p short = data_is_asked (length p.kept.bytes) true (length p.kept.bytes) (omega arith) (omega arith)
+module _ (x : Segment) (short : length x.part.bytes ≤ 2048) (whole : x.part.whole ≤ 10240) where
+  word-asked : IsDataWord (word_of x) (length x.part.bytes) x.part.last x.part.whole
+  word-asked = data_is_asked (length x.part.bytes) x.part.last x.part.whole (omega arith) (omega arith)
 
-second-asking : (p : Outgoing) → length p.kept.bytes ≤ 1514 → second_half (asking p) ≡ word_of p
-second-asking p short = (halves_come_back (2048 * p.block) (word_of p)).second (word-asked p short).fits
+  second-asking : second_half (asking x) ≡ word_of x
+  second-asking = (halves_come_back (2048 * x.block) (word_of x)).second word-asked.fits
 
-command-asking : (p : Outgoing) → length p.kept.bytes ≤ 1514
-    → command_in (asking p) ≡ data_command (length p.kept.bytes) true
-command-asking p short = rw (second-asking p short) (word-asked p short).command
+  command-asking : command_in (asking x) ≡ data_command (length x.part.bytes) x.part.last
+  command-asking = rw second-asking word-asked.command
 
-buffer-asking : (p : Outgoing) → p.block < 65536 → buffer_in (asking p) ≡ 2048 * p.block
-buffer-asking p low = (halves_come_back (2048 * p.block) (word_of p)).first (omega arith)
+  buffer-asking : x.block < 65536 → buffer_in (asking x) ≡ 2048 * x.block
+  buffer-asking low = (halves_come_back (2048 * x.block) (word_of x)).first (omega arith)
 
-pub length-asking : (p : Outgoing) → length (asking p) ≡ 16
-length-asking p = (halves_come_back (2048 * p.block) (word_of p)).size
+  -- it isn't done; once it is, it tells so
+  pub asking-waits : is_sent (asking x) ≡ false
+  asking-waits = rw second-asking word-asked.waits
+
+  pub done-sent : x.block < 65536 → is_sent (done_descriptor (asking x)) ≡ true
+  done-sent low =
+      let first : first_half (asking x) < 2 ^ 64 = rw (buffer-asking low) (omega arith) in
+      let second : second_half (asking x) < 2 ^ 64 = rw second-asking word-asked.fits in
+      (done_changes_done_alone (asking x) first second).1.done
+
+pub length-asking : (x : Segment) → length (asking x) ≡ 16
+length-asking x = (halves_come_back (2048 * x.block) (word_of x)).size
 
 pub length-done : (d : List ℕ) → length (done_descriptor d) ≡ 16
 length-done d = (halves_come_back (first_half d) (with_done (second_half d))).size
 
--- it isn't done; once it is, it tells so
-pub asking-waits : (p : Outgoing) → length p.kept.bytes ≤ 1514 → is_sent (asking p) ≡ false
-asking-waits p short = rw (second-asking p short) (word-asked p short).waits
-
-pub done-sent : (p : Outgoing) → p.block < 65536 → length p.kept.bytes ≤ 1514
-    → is_sent (done_descriptor (asking p)) ≡ true
-done-sent p low short =
-    let first : first_half (asking p) < 2 ^ 64 = rw (buffer-asking p low) (omega arith) in
-    let second : second_half (asking p) < 2 ^ 64 = rw (second-asking p short) (word-asked p short).fits in
-    (done_changes_done_alone (asking p) first second).1.done
-
--- the slot at the head asks for a packet that can be sent
-pub record IsToSend (m : Memory) (r : Ring) (tx : Tx) (p : Outgoing) : Type 0 where
+-- the slot at the head asks for a segment that can be sent behind what is staged
+pub record IsToSend (m : Memory) (r : Ring) (tx : Tx) (staged : List ℕ) (x : Segment) : Type 0 where
   pub inside : is_outside r ≡ false
   pub lent : is_lent m (head_address r) 16 ≡ true
-  pub posted : IsPosted m (head_address r) p
-  pub bytes : read_at m (2048 * p.block) (length p.kept.bytes) ≡ p.kept.bytes
-  pub buffer : has_block m p.block ≡ true
-  pub low : p.block < 65536
-  pub long : 60 ≤ length p.kept.bytes
-  pub short : length p.kept.bytes ≤ 1514
-  pub limit : tx.limit ≡ 1514
+  pub posted : IsPosted m (head_address r) x
+  pub bytes : read_at m (2048 * x.block) (length x.part.bytes) ≡ x.part.bytes
+  pub buffer : has_block m x.block ≡ true
+  pub low : x.block < 65536
+  pub short : length x.part.bytes ≤ 2048
+  pub whole : x.part.whole ≤ 10240
+  pub fits : length (staged ++ x.part.bytes) ≤ tx.limit
+  pub long : x.part.last ≡ true → 60 ≤ length (staged ++ x.part.bytes)
   pub writeback : tx.writeback ≡ None
 
 -- what is told of the slot, and what fetching it leaves
-abbrev pub packet_fetched : Ring → Outgoing → Fetched
-packet_fetched r p = record {
+abbrev pub segment_fetched : Ring → List ℕ → Segment → Fetched
+segment_fetched r staged x = record {
   slot = r.head;
   head = new_head r;
-  back = Some (head_address r);
-  rs = true;
-  frame = Some p.kept.bytes;
+  back = if x.part.last then Some (head_address r) else None;
+  rs = x.part.last;
+  frame = if x.part.last then Some (staged ++ x.part.bytes) else None;
 }
 
-abbrev pub packet_outcome : Memory → Ring → Outgoing → Outcome
-packet_outcome m r p = record {
-  answer = Ok (packet_fetched r p);
-  memory = write_at m (head_address r) (done_descriptor (asking p));
-  staged = [];
+abbrev pub segment_outcome : Memory → Ring → List ℕ → Segment → Outcome
+segment_outcome m r staged x = record {
+  answer = Ok (segment_fetched r staged x);
+  memory = if x.part.last then write_at m (head_address r) (done_descriptor (asking x)) else m;
+  staged = staged_behind staged x;
 }
 
 -- a frame of 60 bytes isn't padded
@@ -93,33 +94,39 @@ frame-long : (pad : Bool) (bytes : List ℕ) → 60 ≤ length bytes → frame_o
 frame-long true bytes long = let none : 60 - length bytes ≡ 0 = omega arith in rw none (append-nil bytes)
 frame-long false bytes long = refl
 
-outcome-packet : (m : Memory) (r : Ring) (tx : Tx) (p : Outgoing) → IsToSend m r tx p
-    → data_outcome m [] r tx (asking p) ≡ packet_outcome m r p
-outcome-packet m r tx p h =
-    let named : buffer_bytes m (asking p) ≡ p.kept.bytes =
-    rw (command-asking p h.short, buffer-asking p h.low) h.bytes in
-    rw (named, command-asking p h.short, h.writeback, frame-long tx.pad p.kept.bytes h.long) refl
+module _ (m : Memory) (r : Ring) (tx : Tx) (staged : List ℕ) (x : Segment) (h : IsToSend m r tx staged x) where
+  command : command_in (asking x) ≡ data_command (length x.part.bytes) x.part.last
+  command = command-asking x h.short h.whole
 
-pub fetch-packet : (m : Memory) (r : Ring) (tx : Tx) (p : Outgoing) → IsToSend m r tx p
-    → fetch_of m [] r tx ≡ packet_outcome m r p
-fetch-packet m r tx p h =
-    let d : descriptor_of m r ≡ asking p = h.posted in
-    let c : command_at m r ≡ data_command (length p.kept.bytes) true = ap command_in d ∙ command-asking p h.short in
-    let b : buffer_in (descriptor_of m r) ≡ 2048 * p.block = ap buffer_in d ∙ buffer-asking p h.low in
-    let len : (command_at m r).len ≡ length p.kept.bytes = ap (λ (x : Command). x.len) c in
-    let report : (command_at m r).report ≡ true = ap (λ (x : Command). x.report) c in
-    let full : HasData m r = record {
-      descriptor = record { inside = h.inside; lent = h.lent };
-      extended = ap (λ (x : Command). x.extended) c;
-      type = ap (λ (x : Command). x.kind) c;
-    } in
-    let can : CanSend m r tx 0 (descriptor_of m r) = record {
-      no_offload = ap (λ (x : Command). x.offload) c;
-      room = omega (arith, len, h.limit, h.short);
-      buffer =
-          rw (b, len)
-          (is_lent_in m (2048 * p.block) (length p.kept.bytes) p.block 0 h.buffer (omega arith)
-          (omega (arith, h.short)));
-      report = rw (report, h.writeback) h.lent;
-    } in
-    (tests_in_order m [] r tx).sent full can ∙ ap (data_outcome m [] r tx) d ∙ outcome-packet m r tx p h
+  named : buffer_bytes m (asking x) ≡ x.part.bytes
+  named = rw (command, buffer-asking x h.short h.whole h.low) h.bytes
+
+  outcome-segment : data_outcome m staged r tx (asking x) ≡ segment_outcome m r staged x
+  outcome-segment = elim (cases_Bool x.part.last) [
+    | inl last ↦ rw (named, command, last, h.writeback, frame-long tx.pad (staged ++ x.part.bytes) (h.long last)) refl
+    | inr other ↦ rw (named, command, other) refl
+  ]
+
+  pub fetch-segment : fetch_of m staged r tx ≡ segment_outcome m r staged x
+  fetch-segment =
+      let d : descriptor_of m r ≡ asking x = h.posted in
+      let c : command_at m r ≡ data_command (length x.part.bytes) x.part.last = ap command_in d ∙ command in
+      let b : buffer_in (descriptor_of m r) ≡ 2048 * x.block =
+      ap buffer_in d ∙ buffer-asking x h.short h.whole h.low in
+      let len : (command_at m r).len ≡ length x.part.bytes = ap (λ (y : Command). y.len) c in
+      let report : (command_at m r).report ≡ x.part.last = ap (λ (y : Command). y.report) c in
+      let full : HasData m r = record {
+        descriptor = record { inside = h.inside; lent = h.lent };
+        extended = ap (λ (y : Command). y.extended) c;
+        type = ap (λ (y : Command). y.kind) c;
+      } in
+      let can : CanSend m r tx (length staged) (descriptor_of m r) = record {
+        no_offload = ap (λ (y : Command). y.offload) c;
+        room = omega (arith, len, h.fits, length-append staged x.part.bytes);
+        buffer =
+            rw (b, len)
+            (is_lent_in m (2048 * x.block) (length x.part.bytes) x.block 0 h.buffer (omega arith)
+            (omega (arith, h.short)));
+        report = rw (report, h.writeback) (or_right (not x.part.last) (is_lent m (head_address r) 16) h.lent);
+      } in
+      (tests_in_order m staged r tx).sent full can ∙ ap (data_outcome m staged r tx) d ∙ outcome-segment

@@ -19,6 +19,7 @@ pub mod Looking
 pub mod Mine
 pub mod Moving
 pub mod Off
+pub mod Packets
 pub mod Playing
 pub mod Reaping
 pub mod Runs

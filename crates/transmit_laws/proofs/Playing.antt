@@ -6,7 +6,7 @@ use Rattle.nic_device.specs.State.{State}
 use Rattle.nic_device.specs.Step.{after, reply_to}
 use Rattle.nic_device.specs.declared.event.Event.{Event}
 use Rattle.nic_device.specs.declared.event.Event.TheVariants as event
-use Rattle.pmd_tx.specs.Sending.{Sender, Move, Accepts, Asks, Advances, Looks, Reaps, Elsewhere, moved}
+use Rattle.pmd_tx.specs.Sending.{Sender, Move, Accepts, Lends, Asks, Advances, Looks, Reaps, Elsewhere, moved}
 use Rattle.transmit_laws.specs.Agreeing.{AgreesAt, Agrees}
 use Rattle.transmit_laws.specs.Laws.{MovesKeep}
 use Rattle.transmit_laws.specs.Sent.{sent_by}
@@ -14,7 +14,7 @@ use Rattle.transmit_laws.specs.Turns.{MayMove}
 use Rattle.transmit_laws.proofs.Advancing.{advance_one}
 use Rattle.transmit_laws.proofs.Looking.{look_one}
 use Rattle.transmit_laws.proofs.Asking.{ask_one}
-use Rattle.transmit_laws.proofs.Moving.{accept_one, reap_one}
+use Rattle.transmit_laws.proofs.Moving.{accept_one, lend_one, reap_one}
 use Rattle.transmit_laws.proofs.Sparing.{spares-keeps}
 
 module _ (s : State) (queue : ℕ) (sent : List (List ℕ)) (v : Sender) (f : ℕ) (h : AgreesAt s queue sent v f) where
@@ -29,6 +29,8 @@ module _ (s : State) (queue : ℕ) (sent : List (List ℕ)) (v : Sender) (f : �
   pub move-keeps : (m : Move) (e : Event Block) → MayMove queue v s e m → Kept m e
   move-keeps (Accepts p) (event.Lend b) may =
       quiet (Accepts p) (event.Lend b) refl (accept_one s queue sent v f h p b may.0 may.1)
+  move-keeps Lends (event.Lend b) may =
+      quiet Lends (event.Lend b) refl (lend_one s queue sent v f h b may.0 may.1)
   move-keeps Asks (event.Poke16 a bytes) may =
       quiet Asks (event.Poke16 a bytes) refl (ask_one s queue sent v f h a bytes may.0 may.1)
   move-keeps Advances (event.Write port n word) may =

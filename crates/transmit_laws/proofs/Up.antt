@@ -11,7 +11,7 @@ use Rattle.history_laws.proofs.DeviceLaws.Standing.{memory_rest}
 use Rattle.history_laws.specs.Sides as sides
 use Rattle.history_laws.proofs.Sides.{transmit_left}
 use Rattle.history_laws.proofs.Steady.{up_kept}
-use Rattle.pmd_tx.specs.Sending.{Sender, Move, Accepts, Asks, Advances, Looks, Reaps, Elsewhere}
+use Rattle.pmd_tx.specs.Sending.{Sender, Move, Accepts, Lends, Asks, Advances, Looks, Reaps, Elsewhere}
 use Rattle.transmit_laws.specs.Agreeing.{AgreesAt}
 use Rattle.transmit_laws.specs.Turns.{MayMove}
 use Rattle.transmit_laws.specs.Up.{IsUp, UpStays}
@@ -26,6 +26,8 @@ module _ (s : State) (queue : ℕ) (sent : List (List ℕ)) (v : Sender) (f : �
     (up : IsUp queue s) where
   pub moved-stays-up : (m : Move) (e : Event Block) → MayMove queue v s e m → IsUp queue (after s e)
   moved-stays-up (Accepts p) (event.Lend b) may =
+      left_up queue s (after s (event.Lend b)) ((memory_rest.lend s b).queues.transmit queue) up
+  moved-stays-up Lends (event.Lend b) may =
       left_up queue s (after s (event.Lend b)) ((memory_rest.lend s b).queues.transmit queue) up
   moved-stays-up Asks (event.Poke16 a bytes) may =
       left_up queue s (after s (event.Poke16 a bytes)) ((memory_rest.poke s a bytes).queues.transmit queue) up

@@ -1,12 +1,12 @@
--- A descriptor of the ring that is written: the others and the packets stay.
+-- A descriptor of the ring that is written: the others and the segments stay.
 use Rattle.std.proofs.Common.{◌≡◌, ◌≢◌, ℕ, ◌*◌, ◌<◌, true, List, length, ◌∙◌, arith}
 use Rattle.std.specs.Prelude.{IsTrue}
 use Rattle.nic_device.specs.DmaArena.Memory.{Memory, has_block, read_at, write_at, AreApart, IsWhole}
 use Rattle.nic_device.proofs.DmaArena.Bus.{read_at-write_at_same, read_at-write_at_apart, SameLent-write_at}
 use Rattle.pmd_tx.specs.PmdSeam.Slots.{EachRingBlock}
-use Rattle.pmd_tx.specs.Sending.{Outgoing, Sender, descriptor_at}
+use Rattle.pmd_tx.specs.Sending.{Segment, Sender, descriptor_at}
 use Rattle.transmit_laws.specs.Agreeing.{IsLayout, IsReady}
-use Rattle.transmit_laws.proofs.Blocks.{slot-lent, slots-apart, packet-apart}
+use Rattle.transmit_laws.proofs.Blocks.{slot-lent, slots-apart, segment-apart}
 
 module _ (m : Memory) (whole : IsWhole m) (v : Sender) (l : IsLayout v.layout)
     (has : EachRingBlock v.layout.ring v.layout.size (λ n. IsTrue (has_block m n)))
@@ -31,13 +31,13 @@ module _ (m : Memory) (whole : IsWhole m) (v : Sender) (l : IsLayout v.layout)
     pub lent-still : (b : ℕ) → has_block m b ≡ true → has_block written b ≡ true
     lent-still b is = SameLent-write_at m (descriptor_at v.layout k) bytes b ∙ is
 
-    pub ready-still : (p : Outgoing) → IsReady m v.layout.ring v.layout.size p
-        → IsReady written v.layout.ring v.layout.size p
-    ready-still p ready = record {
-      long = ready.long;
+    pub ready-still : (x : Segment) → IsReady m v.layout.ring v.layout.size x
+        → IsReady written v.layout.ring v.layout.size x
+    ready-still x ready = record {
       short = ready.short;
-      lent = lent-still p.block ready.lent;
+      whole = ready.whole;
+      lent = lent-still x.block ready.lent;
       apart = ready.apart;
       bytes =
-          reads (2048 * p.block) (length p.kept.bytes) (packet-apart v l m p k ready (omega arith)) ∙ ready.bytes;
+          reads (2048 * x.block) (length x.part.bytes) (segment-apart v l m x k ready (omega arith)) ∙ ready.bytes;
     }

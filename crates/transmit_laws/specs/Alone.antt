@@ -6,11 +6,12 @@ use Rattle.nic_device.specs.Sound.{IsEvent}
 use Rattle.nic_device.specs.State.{State}
 use Rattle.nic_device.specs.Step.{after, reply_to}
 use Rattle.nic_device.specs.declared.event.Event.{Event}
+use Rattle.nic_device.specs.declared.event.Event.TheVariants as event
 use Rattle.nic_device.specs.declared.event.Reply.{Reply}
 use Rattle.nic_device.specs.declared.event.Reply.TheVariants as reply
 use Rattle.device_lock.specs.Alone.{Blocks, LeavesRegisters, LeavesBlocks, WritesOutside}
 use Rattle.device_lock.specs.declared.alone.Watched.{Watched}
-use Rattle.pmd_tx.specs.Sending.{Sender, Move, Accepts, Elsewhere, IsOwn, has_lent}
+use Rattle.pmd_tx.specs.Sending.{Sender, Move, Elsewhere, IsOwn, has_lent}
 use Rattle.transmit_laws.specs.Sparing.{Owes}
 use Rattle.transmit_laws.specs.Turns.{Turn, known}
 
@@ -24,15 +25,15 @@ pub record IsAlone (w : Watched) (mine : Blocks) (v : Sender) (s : State) (e : E
   pub owed : Owes w.queue v s e
 
 -- a block that is lent is one of these
-abbrev pub LendsOneOf : Blocks → Move → Reply Block → Type 0
-LendsOneOf mine (Accepts p) reply.Done = IsTrue (mine p.block)
-LendsOneOf mine m other = ⊤
+abbrev pub LendsOneOf : Blocks → Event Block → Reply Block → Type 0
+LendsOneOf mine (event.Lend b) reply.Done = IsTrue (mine b.number)
+LendsOneOf mine e other = ⊤
 
 -- a turn is the driver's next move, or leaves alone: another pass's all of these blocks, and one of the driver's own
 -- pass that is no move of the sender's the blocks that the sender has lent now
 abbrev pub MayMoveAlone : Watched → Blocks → Sender → State → Event Block → Move → Type 0
 MayMoveAlone w mine v s e Elsewhere = IsAlone w (has_lent v) v s e
-MayMoveAlone w mine v s e m = IsOwn v m e × IsEvent e × LendsOneOf mine m (reply_to s e)
+MayMoveAlone w mine v s e m = IsOwn v m e × IsEvent e × LendsOneOf mine e (reply_to s e)
 
 abbrev pub MayComeAlone : Watched → Blocks → Sender → State → Event Block → Option Move → Type 0
 MayComeAlone w mine v s e None = IsAlone w mine v s e

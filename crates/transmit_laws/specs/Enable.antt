@@ -1,5 +1,6 @@
 -- Words that are written to the enable register of a queue's transmit side.
-use Rattle.std.specs.Prelude.{ℕ, List}
+use Rattle.std.specs.Prelude.{ℕ, ◌≡◌, true, List, []}
+use Rattle.nic_device.specs.RegisterFile.Bits.{has_bit}
 use Rattle.nic_device.specs.Sound.{IsEvent}
 use Rattle.nic_device.specs.State.{State}
 use Rattle.nic_device.specs.Step.{after}
@@ -9,9 +10,11 @@ use Rattle.pmd_tx.specs.Sending.{Sender}
 use Rattle.transmit_laws.specs.Agreeing.{Agrees}
 use Rattle.transmit_laws.specs.Off.{NamesEnable}
 
--- device and driver agree on behind such a word as before it, whether or not it asks for the side to be on
+-- device and driver agree on behind such a word as before it, where it doesn't ask for the side to be on, or nothing is
+-- outstanding
 abbrev pub EnableWordsKeep : Type 0
 EnableWordsKeep =
     (s : State) (queue : ℕ) (sent : List (List ℕ)) (v : Sender) (port : Port) (number word : ℕ) →
-    IsEvent (event.Write port number word) → NamesEnable queue s port number → Agrees s queue sent v →
+    IsEvent (event.Write port number word) → NamesEnable queue s port number →
+    (has_bit 25 word ≡ true → v.outstanding ≡ []) → Agrees s queue sent v →
     Agrees (after s (event.Write port number word)) queue sent v

@@ -10,7 +10,7 @@ use Rattle.device_lock.specs.Alone.{Blocks}
 use Rattle.device_lock.specs.declared.alone.Watched.{Watched}
 use Rattle.device_lock.specs.History.{IsLegal, leads_to, calls_of}
 use Rattle.pmd_tx.specs.Plays.{played_by}
-use Rattle.pmd_tx.specs.Sending.{Sender, Move, is_sent, descriptor_at, has_lent, moved}
+use Rattle.pmd_tx.specs.Sending.{Sender, Move, is_sent, descriptor_at, first_end, has_lent, moved}
 use Rattle.nic_device.specs.declared.event.Reply.TheVariants as reply
 use Rattle.transmit_laws.specs.Agreeing.{Agrees, bytes_of}
 use Rattle.transmit_laws.specs.Alone.{MayRunAlone}
@@ -58,11 +58,11 @@ IdleIsAllSent =
     (queue : ℕ) (s : State) (v : Sender) (ts : List Turn) → IsOver queue s v ts →
     (sender_after v ts).outstanding ≡ [] → bytes_of (sender_after v ts).accepted ≡ sent_in queue s (entries_of ts)
 
--- a look at the oldest outstanding packet, from a state on, would find it not done
+-- a look at the end of the oldest outstanding packet, from a state on, would find it not done
 pub record FindsWaiting (s : State) (v : Sender) : Type 0 where
   pub bytes : List ℕ
-  pub posted : 0 < v.posted
-  pub told : reply_to s (event.Peek16 (descriptor_at v.layout 0)) ≡ reply.Bytes bytes
+  pub posted : first_end v.outstanding < v.posted
+  pub told : reply_to s (event.Peek16 (descriptor_at v.layout (first_end v.outstanding))) ≡ reply.Bytes bytes
   pub waits : is_sent bytes ≡ false
 
 -- where a look that comes next does, and none was accepted since some turn, then before that turn not all of those

@@ -7,7 +7,7 @@ use Rattle.nic_device.specs.Step.{after, reply_to}
 use Rattle.nic_device.specs.declared.event.Event.{Event}
 use Rattle.history_laws.specs.Lent.{OnlyLent, LendsNone, LendsOwn, either}
 use Rattle.pmd_tx.specs.Sending.{Sender, Move, Elsewhere, IsOwn, has_lent, moved}
-use Rattle.transmit_laws.specs.Healthy.{AcceptsAnew}
+use Rattle.transmit_laws.specs.Healthy.{LendsAnew}
 
 -- a call that is none of the sender's lends none of these numbers
 abbrev pub SparesNumbers : Blocks → Move → Event Block → Type 0
@@ -15,7 +15,7 @@ SparesNumbers own Elsewhere e = LendsNone own e
 SparesNumbers own other e = ⊤
 
 -- where of some numbers only those are lent that the sender has lent, or others have, each move of the driver's own
--- leaves it so; and a packet whose block is of these numbers, and others haven't lent, is lent anew
+-- leaves it so; and a block of these numbers, which others haven't lent, is lent anew
 pub record OwnLendsAreKnown : Type 0 where
   pub kept :
       (own others : Blocks) (s : State) (v : Sender) (m : Move) (e : Event Block)
@@ -23,4 +23,4 @@ pub record OwnLendsAreKnown : Type 0 where
       → OnlyLent own (either (has_lent (moved v m (reply_to s e))) others) (after s e).memory
   pub anew :
       (own others : Blocks) (s : State) (v : Sender) (m : Move) (e : Event Block)
-      → OnlyLent own (either (has_lent v) others) s.memory → IsOwn v m e → LendsOwn own others e → AcceptsAnew s m
+      → OnlyLent own (either (has_lent v) others) s.memory → IsOwn v m e → LendsOwn own others e → LendsAnew s m e

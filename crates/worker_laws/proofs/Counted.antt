@@ -8,11 +8,11 @@ use Rattle.nic_device.specs.State.{State}
 use Rattle.nic_device.specs.Step.{after}
 use Rattle.workers.specs.DeviceLock.History.{leads_to}
 use Rattle.workers.specs.DeviceLock.declared.entry.Entry.{Entry}
-use Rattle.start_laws.specs.ReceiveLaws.Delivered.{delivered, gathered, packets_if_any, pieces_since}
-use Rattle.start_laws.specs.ReceiveLaws.Pieces.{Piece, pieces}
-use Rattle.start_laws.proofs.ReceiveLaws.Delivering.{leads-append, since-append}
-use Rattle.start_laws.specs.TransmitLaws.Sent.{counted_by, sent_by, sent_since}
-use Rattle.start_laws.proofs.TransmitLaws.Counting.{sent_is_counted}
+use Rattle.pmd_laws.specs.StartLaws.ReceiveLaws.Delivered.{delivered, gathered, packets_if_any, pieces_since}
+use Rattle.pmd_laws.specs.StartLaws.ReceiveLaws.Pieces.{Piece, pieces}
+use Rattle.pmd_laws.proofs.StartLaws.ReceiveLaws.Delivering.{leads-append, since-append}
+use Rattle.pmd_laws.specs.StartLaws.TransmitLaws.Sent.{counted_by, sent_by, sent_since}
+use Rattle.pmd_laws.proofs.StartLaws.TransmitLaws.Counting.{sent_is_counted}
 
 -- where a side goes on what was before doesn't count
 anew : {A : Type 0} (was is : Bool) (x y z : A) → was ≡ false → is ≡ true

@@ -1,5 +1,5 @@
 -- The calls that a driver made so far, from where its start saw both sides off on.
-use Rattle.std.proofs.Common.{◌≡◌, ℕ, Bool, true, false, List, [], ◌∷◌, ◌++◌, ap, ◌∙◌, append_assoc}
+use Rattle.std.proofs.Common.{◌≡◌, ℕ, Bool, true, false, List, ◌∷◌, ◌++◌, ap, ◌∙◌, append_assoc}
 use Rattle.nic_device.specs.DmaArena.Numbers.{Numbers}
 use Rattle.nic_device.specs.RegTable.declared.rows.RowId.TheVariants.{Rxdctl}
 use Rattle.nic_device.specs.DmaRing.declared.dir.Dir.{Dir}
@@ -16,8 +16,8 @@ use Rattle.pmd.specs.Halves.{Drives, Halves}
 use Rattle.pmd.specs.Running.{Running}
 use Rattle.pmd.specs.Started.{AreUp}
 use Rattle.pmd.specs.Starting.{IsPrepared}
-use Rattle.start_laws.proofs.Made.{extends}
-use Rattle.start_laws.proofs.Prepared.{lends_extend}
+use Rattle.pmd_laws.proofs.StartLaws.Made.{extends}
+use Rattle.pmd_laws.proofs.StartLaws.Prepared.{lends_extend}
 
 -- some calls were made
 abbrev pub GoesOn : List Call → List Call → Type 0
@@ -48,8 +48,8 @@ drives_goes old new h k (doers, since, is, own, last, stepped) = (since, is)
 pub quieted_goes : (q : AtPort) (old new : List Call) (made : AreMade q old new both_quiet) → GoesOn made.0 new
 quieted_goes q old new made = extends q (Sets Rxdctl 0 ∷ Sees Rxdctl false ∷ quiet Tx) made.0 new made.2
 
-module _ (q : AtPort) (size : ℕ) (old : List Call) (a : Numbers) (new : List Call) (r : Running)
-    (up : AreUp q size old a new r) where
+module _ (q : AtPort) (size frame : ℕ) (old : List Call) (a : Numbers) (new : List Call) (r : Running)
+    (up : AreUp q size frame old a new r) where
   -- up to where both sides are on
   pub rising_goes : GoesOn up.receive.mid up.on.mid
   rising_goes =

@@ -3,28 +3,35 @@ use Rattle.std.proofs.Common.{◌≡◌, ℕ, List, ◌∷◌, length, refl, sym
 use Rattle.nic_device.specs.Sound.{IsSound}
 use Rattle.nic_device.specs.State.{State, new_state}
 use Rattle.nic_device.specs.VfMap.declared.mode.Mode.{Mode}
-use Rattle.nic_device.specs.VfMap.declared.mode.Mode.TheVariants.{Off}
-use Rattle.nic_device.specs.RegisterFile.Pools.{mode_in}
-use Rattle.workers.specs.DeviceLock.Alone.{mode_through}
 use Rattle.workers.specs.DeviceLock.History.{AreEvents, leads_to}
+use Rattle.workers.specs.DeviceLock.Told.{first_settings, settings_through}
 use Rattle.workers.specs.DeviceLock.declared.alone.Watched.{Watched}
 use Rattle.workers.specs.DeviceLock.declared.entry.Call.{Call}
 use Rattle.workers.specs.DeviceLock.declared.entry.Entry.{Entry}
-use Rattle.pmd.specs.PmdSeam.Named.{AtPort}
-use Rattle.start_laws.specs.Numbers.{NamesQueue, queue_at}
-use Rattle.start_laws.proofs.HistoryLaws.Modes.{mode_told}
-use Rattle.start_laws.proofs.ReceiveLaws.Delivering.{events_before, vfs_stays}
-use Rattle.worker_laws.specs.Naming.{NamesAtStart}
+use Rattle.workers.specs.DeviceLock.declared.told.Settings.{Settings}
+use Rattle.pmd_laws.specs.StartLaws.Numbers.{queue_at}
+use Rattle.pmd_laws.specs.StartLaws.Points.{HasGround}
+use Rattle.pmd_laws.proofs.StartLaws.HistoryLaws.Limits.{settings_told}
+use Rattle.pmd_laws.proofs.StartLaws.ReceiveLaws.Delivering.{events_before, vfs_stays}
+use Rattle.worker_laws.specs.Beginning.{BeginsWell}
 use Rattle.worker_laws.specs.Starts.{Starts}
+use Rattle.worker_laws.specs.declared.beginning.Given.{Given}
 
--- port and queue name the watched queue there
-pub named_there : (w : Watched) (fifo : ℕ) (old : List Call) (q : AtPort) (h : List Entry)
-    → IsSound (new_state w.vfs fifo) → AreEvents h → NamesAtStart w (length old) q.port q.queue h
-    → (x : Starts w.pass old h) → NamesQueue (leads_to (new_state w.vfs fifo) x.before) q w.queue
-named_there w fifo old q h sound events names x =
+-- port and queue name the watched queue there, and frames are as long as the driver was told
+pub ground_there : (w : Watched) (fifo : ℕ) (old : List Call) (given : Given) (h : List Entry)
+    → IsSound (new_state w.vfs fifo) → AreEvents h → BeginsWell w (length old) given h → (x : Starts w.pass old h)
+    → HasGround w.queue (record { port = given.port; queue = given.queue }) given.frame
+    (leads_to (new_state w.vfs fifo) x.before)
+ground_there w fifo old given h sound events well x =
     let s : State = leads_to (new_state w.vfs fifo) x.before in
     let early = events_before x.before (x.first ∷ x.behind) (subst AreEvents (sym x.all) events) in
-    let mode : mode_through w.vfs Off x.before ≡ mode_in s.registers = mode_told w.vfs fifo x.before sound early in
+    let told : Settings = settings_through w.vfs first_settings x.before in
+    let is = settings_told w.vfs fifo x.before sound early in
     let vfs : s.vfs ≡ w.vfs = vfs_stays (new_state w.vfs fifo) x.before in
-    ap (λ (m : Mode). queue_at m s.vfs q.port q.queue) (sym mode)
-    ∙ ap (λ (v : ℕ). queue_at (mode_through w.vfs Off x.before) v q.port q.queue) vfs ∙ names old refl x
+    let fits = well old refl x in
+    record {
+      names =
+          ap (λ (m : Mode). queue_at m s.vfs given.port given.queue) (sym is.0)
+          ∙ ap (λ (v : ℕ). queue_at told.mode v given.port given.queue) vfs ∙ fits.names;
+      limit = sym is.1 ∙ fits.limit;
+    }

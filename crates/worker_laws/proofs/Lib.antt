@@ -1,6 +1,6 @@
-pub mod Beginning
 pub mod Counted
 pub mod Early
+pub mod FirstCalls
 pub mod Grounded
 pub mod Lived
 pub mod Named

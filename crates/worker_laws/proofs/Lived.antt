@@ -1,5 +1,5 @@
 -- A driver that lived: what it left, counted from its first event on.
-use Rattle.std.proofs.Common.{◌≡◌, ℕ, inl, inr, true, false, List, [], ◌∷◌, ◌++◌, Option, sym, ap, ◌∙◌, subst, append_assoc}
+use Rattle.std.proofs.Common.{◌≡◌, ℕ, inl, inr, false, List, [], ◌∷◌, ◌++◌, Option, sym, ap, ◌∙◌, subst, append_assoc}
 use Rattle.std.specs.Prelude.{IsTrue, IsFalse}
 use Rattle.std.proofs.lemmas.Bool.{both_ways}
 use Rattle.std.proofs.lemmas.List.{append-nil, append_cancel_left, same_from_push}
@@ -19,34 +19,34 @@ use Rattle.pmd.specs.PmdSeam.declared.fault.PmdFault.{PmdFault}
 use Rattle.pmd.specs.Driver.{halted_of}
 use Rattle.pmd.specs.Halves.{halves_of}
 use Rattle.pmd.specs.Life.{HasLived}
-use Rattle.pmd.specs.Started.{AreUp, is_size, left_accepted, left_handed}
+use Rattle.pmd.specs.Started.{AreUp, left_accepted, left_handed}
 use Rattle.pmd.specs.declared.driver.Rings.TheVariants.{Up}
 use Rattle.pmd.specs.declared.start.Rest.{Rest}
-use Rattle.start_laws.specs.ReceiveLaws.Delivered as receive
-use Rattle.start_laws.specs.ReceiveLaws.Delivered.{delivered}
-use Rattle.start_laws.proofs.ReceiveLaws.Delivering.{leads-append}
-use Rattle.start_laws.specs.TransmitLaws.Agreeing.{bytes_of}
-use Rattle.start_laws.specs.TransmitLaws.Laws as transmit
-use Rattle.start_laws.specs.TransmitLaws.Sent.{sent_since}
-use Rattle.start_laws.specs.Along.{IsAlong}
-use Rattle.start_laws.specs.Points.{HasGround}
-use Rattle.start_laws.specs.Quieting.{IsQuiet}
-use Rattle.start_laws.specs.Start.{BeginsWell}
-use Rattle.start_laws.specs.Unused.{WentOn}
-use Rattle.start_laws.proofs.Parts.{Begins, Parts, around, calls_joined, one_begins, parts}
-use Rattle.start_laws.proofs.Quieting.{quieting_leads}
-use Rattle.start_laws.proofs.Start.{start_goes_on}
+use Rattle.pmd_laws.specs.StartLaws.ReceiveLaws.Delivered as receive
+use Rattle.pmd_laws.specs.StartLaws.ReceiveLaws.Delivered.{delivered}
+use Rattle.pmd_laws.proofs.StartLaws.ReceiveLaws.Delivering.{leads-append}
+use Rattle.pmd_laws.specs.StartLaws.TransmitLaws.Agreeing.{bytes_of}
+use Rattle.pmd_laws.specs.StartLaws.TransmitLaws.Laws as transmit
+use Rattle.pmd_laws.specs.StartLaws.TransmitLaws.Sent.{sent_since}
+use Rattle.pmd_laws.specs.StartLaws.Along.{IsAlong}
+use Rattle.pmd_laws.specs.StartLaws.Points.{HasGround}
+use Rattle.pmd_laws.specs.StartLaws.Quieting.{IsQuiet}
+use Rattle.pmd_laws.specs.StartLaws.Start.{BeginsWell}
+use Rattle.pmd_laws.specs.StartLaws.Unused.{WentOn}
+use Rattle.pmd_laws.proofs.StartLaws.Parts.{Begins, Parts, around, calls_joined, one_begins, parts}
+use Rattle.pmd_laws.proofs.StartLaws.Quieting.{quieting_leads}
+use Rattle.pmd_laws.proofs.StartLaws.Start.{start_goes_on}
 use Rattle.pmd_laws.specs.Ends.{IsOver}
 use Rattle.pmd_laws.proofs.Ends.{left_handed_over_stop, left_sent_over_stop, stopped_ends}
 use Rattle.worker_laws.specs.Starts.{JustBefore, Starts}
-use Rattle.worker_laws.proofs.Beginning.{FirstCall, first_read, more_behind, steps_have}
+use Rattle.worker_laws.proofs.FirstCalls.{FirstCall, first_read, more_behind, steps_have}
 use Rattle.worker_laws.proofs.Counted.{delivered_from, sent_from}
 use Rattle.worker_laws.proofs.Early.{GoesOn, drives_goes, filling_goes, goes_on, quieted_goes, rising_goes}
 
-module _ (w : Watched) (fifo : ℕ) (h : List Entry) (q : AtPort) (size : ℕ) (old : List Call) (a : Numbers)
-    (new : List Call) (left : Rest) (late : Option PmdFault) (lived : HasLived q size old a new left late)
+module _ (w : Watched) (fifo : ℕ) (h : List Entry) (q : AtPort) (size frame : ℕ) (old : List Call) (a : Numbers)
+    (new : List Call) (left : Rest) (late : Option PmdFault) (lived : HasLived q size frame old a new left late)
     (made : calls_of w.pass h ≡ new) where
-  abbrev up : AreUp q size old a lived.lives.made lived.lives.fresh
+  abbrev up : AreUp q size frame old a lived.lives.made lived.lives.fresh
   up = lived.lives.up
 
   first : FirstCall old up.receive.quiet.0
@@ -61,13 +61,13 @@ module _ (w : Watched) (fifo : ℕ) (h : List Entry) (q : AtPort) (size : ℕ) (
 
   on_goes : GoesOn up.on.mid new
   on_goes =
-      goes_on up.on.mid lived.lives.made new (filling_goes q size old a lived.lives.made lived.lives.fresh up)
+      goes_on up.on.mid lived.lives.made new (filling_goes q size frame old a lived.lives.made lived.lives.fresh up)
       (goes_on lived.lives.made lived.made new
       (drives_goes lived.lives.made lived.made (halves_of lived.lives.fresh) (halves_of lived.last)
       lived.lives.drives.apart.drives) stop_goes)
 
   up_goes : GoesOn up.receive.mid up.on.mid
-  up_goes = rising_goes q size old a lived.lives.made lived.lives.fresh up
+  up_goes = rising_goes q size frame old a lived.lives.made lived.lives.fresh up
 
   off_goes : GoesOn up.receive.quiet.0 up.receive.mid
   off_goes = quieted_goes q old up.receive.mid up.receive.quiet
@@ -97,12 +97,12 @@ module _ (w : Watched) (fifo : ℕ) (h : List Entry) (q : AtPort) (size : ℕ) (
         calls = x.made;
       }
 
-  module _ (along : IsAlong w fifo h) (sized : is_size size ≡ true)
-      (ground : JustBefore w.vfs fifo w.pass old h (HasGround w.queue q)) where
+  module _ (along : IsAlong w fifo h)
+      (ground : JustBefore w.vfs fifo w.pass old h (HasGround w.queue q frame)) where
     abbrev origin : State
     origin = new_state w.vfs fifo
 
-    begins : BeginsWell w fifo h q size old a lived.lives.made lived.lives.fresh up
+    begins : BeginsWell w fifo h q size frame old a lived.lives.made lived.lives.fresh up
     begins = record {
       ground = λ before behind e all own is.
           let (calls, call) =
@@ -121,10 +121,9 @@ module _ (w : Watched) (fifo : ℕ) (h : List Entry) (q : AtPort) (size : ℕ) (
           });
     }
 
-    over : IsOver w fifo h q size old a new left late lived
+    over : IsOver w fifo h q size frame old a new left late lived
     over = record {
       along = along;
-      sized = sized;
       since = stop_goes.0;
       rest = [];
       all = stop_goes.1 ∙ sym (append-nil (lived.made ++ stop_goes.0));
@@ -148,14 +147,14 @@ module _ (w : Watched) (fifo : ℕ) (h : List Entry) (q : AtPort) (size : ℕ) (
         sym (append_assoc both_off.front both_off.back both_on.back)
         ∙ ap (λ (l : List Entry). l ++ both_on.back) both_off.both ∙ both_on.both
 
-    quiet : IsQuiet w.queue q (leads_to origin both_off.front)
+    quiet : IsQuiet w.queue q frame (leads_to origin both_off.front)
     quiet =
-        quieting_leads w q fifo h old up.receive.mid along up.receive.quiet begins.ground both_off.front rest whole
+        quieting_leads w q frame fifo h old up.receive.mid along up.receive.quiet begins.ground both_off.front rest whole
         both_off.fronts
 
     went_on : WentOn w.queue origin both_on.front
     went_on =
-        start_goes_on w fifo h q size old a lived.lives.made lived.lives.fresh up along sized begins both_on.front
+        start_goes_on w fifo h q size frame old a lived.lives.made lived.lives.fresh up along begins both_on.front
         both_on.back both_on.both both_on.fronts
 
     module _ (x : Starts w.pass old h) where
@@ -222,10 +221,10 @@ module _ (w : Watched) (fifo : ℕ) (h : List Entry) (q : AtPort) (size : ℕ) (
           (delivered w.queue (leads_to origin x.before) (x.first ∷ x.behind))
       handed_since =
           subst (receive.IsPrefixOf (left_handed left)) received
-          (left_handed_over_stop w fifo h q size old a new left late lived over)
+          (left_handed_over_stop w fifo h q size frame old a new left late lived over)
 
       pub sent_on : transmit.IsPrefixOf (sent_since w.queue (leads_to origin x.before) [] (x.first ∷ x.behind))
           (bytes_of (left_accepted left))
       sent_on =
           subst (λ (sent : List (List ℕ)). transmit.IsPrefixOf sent (bytes_of (left_accepted left))) counted
-          (left_sent_over_stop w fifo h q size old a new left late lived over)
+          (left_sent_over_stop w fifo h q size frame old a new left late lived over)

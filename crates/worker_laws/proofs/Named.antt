@@ -6,8 +6,8 @@ use Rattle.nic_device.specs.VfMap.declared.mode.Mode.{Mode}
 use Rattle.nic_device.specs.VfMap.declared.mode.Mode.TheVariants.{Off, Pools16, Pools32, Pools64}
 use Rattle.nic_device.specs.declared.event.Port.{Port}
 use Rattle.nic_device.specs.declared.event.Port.TheVariants.{Pf, Vf}
-use Rattle.start_laws.specs.Numbers.{queue_at, queue_in}
-use Rattle.start_laws.proofs.QueueIn.{is_in, some_where}
+use Rattle.pmd_laws.specs.StartLaws.Numbers.{queue_at, queue_in}
+use Rattle.pmd_laws.proofs.StartLaws.QueueIn.{is_in, some_where}
 
 -- each of a pool's queues is
 pool_below : (mode : Mode) (pool number : ℕ) → pool < pools_in mode → number < queues_each mode

@@ -1,5 +1,5 @@
 -- What a worker's end tells is in order.
-use Rattle.std.proofs.Common.{◌≡◌, ◌≢◌, ◌⊎◌, ◌<◌, ℕ, inl, inr, true, List, [], ◌∷◌, ◌++◌, Option, Some, None, refl, sym, ◌∙◌, subst}
+use Rattle.std.proofs.Common.{◌≡◌, ◌≢◌, ◌⊎◌, ◌<◌, ℕ, inl, inr, List, [], ◌∷◌, ◌++◌, Option, Some, None, refl, sym, ◌∙◌, subst}
 use Rattle.nic_device.specs.DmaArena.Numbers.{Numbers}
 use Rattle.nic_device.specs.Sound.{IsSound}
 use Rattle.nic_device.specs.State.{new_state}
@@ -9,29 +9,29 @@ use Rattle.workers.specs.DeviceLock.declared.alone.Watched.{Watched}
 use Rattle.workers.specs.DeviceLock.declared.entry.Call.{Call}
 use Rattle.workers.specs.DeviceLock.declared.entry.Entry.{Entry}
 use Rattle.pmd.specs.PmdSeam.Named.{AtPort}
-use Rattle.pmd.specs.Started.{IsHome, is_size, left_accepted, left_handed}
+use Rattle.pmd.specs.Started.{IsHome, left_accepted, left_handed}
 use Rattle.pmd.specs.declared.start.Rest.{Rest}
 use Rattle.pmd.specs.declared.start.Rest.TheVariants as rest
-use Rattle.start_laws.specs.ReceiveLaws.Delivered as receive
-use Rattle.start_laws.specs.ReceiveLaws.Delivered.{delivered}
-use Rattle.start_laws.specs.TransmitLaws.Agreeing.{bytes_of}
-use Rattle.start_laws.specs.TransmitLaws.Laws as transmit
-use Rattle.start_laws.specs.TransmitLaws.Sent.{sent_since}
-use Rattle.start_laws.specs.Along.{IsAlong}
-use Rattle.start_laws.specs.Points.{HasGround}
-use Rattle.start_laws.specs.Quieting.{IsQuiet}
-use Rattle.start_laws.proofs.Parts.{none_behind}
-use Rattle.pmd_laws.proofs.Looks.{along_before}
+use Rattle.pmd_laws.specs.StartLaws.ReceiveLaws.Delivered as receive
+use Rattle.pmd_laws.specs.StartLaws.ReceiveLaws.Delivered.{delivered}
+use Rattle.pmd_laws.specs.StartLaws.TransmitLaws.Agreeing.{bytes_of}
+use Rattle.pmd_laws.specs.StartLaws.TransmitLaws.Laws as transmit
+use Rattle.pmd_laws.specs.StartLaws.TransmitLaws.Sent.{sent_since}
+use Rattle.pmd_laws.specs.StartLaws.Along.{IsAlong}
+use Rattle.pmd_laws.specs.StartLaws.Points.{HasGround}
+use Rattle.pmd_laws.specs.StartLaws.Quieting.{IsQuiet}
+use Rattle.pmd_laws.proofs.StartLaws.Parts.{none_behind}
+use Rattle.pmd_laws.proofs.Lived.{along_before}
 use Rattle.workers.specs.Ends.{AreEnds, IsEnd}
 use Rattle.workers.specs.Lived.{HasRun}
 use Rattle.workers.specs.declared.ends.WorkerEnd.{WorkerEnd}
 use Rattle.workers.specs.declared.fault.WorkerFault.{WorkerFault}
 use Rattle.workers.specs.declared.fault.WorkerFault.TheVariants.{GateShut, NoThread, Pmd}
 use Rattle.workers.specs.declared.job.Job.{Job}
-use Rattle.worker_laws.specs.Order.{HandedIsPrefix, IsEndAmong, IsEndIn, NoneIsLeft, SentIsPrefix, UpTo, queue_of}
+use Rattle.worker_laws.specs.Order.{HandedIsPrefix, IsEndAmong, IsEndIn, NoneIsLeft, SentIsPrefix, UpTo, given_of, queue_of}
 use Rattle.worker_laws.specs.Starts.{JustBefore, Starts}
-use Rattle.worker_laws.proofs.Beginning.{calls_from, starts_more}
-use Rattle.worker_laws.proofs.Grounded.{named_there}
+use Rattle.worker_laws.proofs.FirstCalls.{calls_from, starts_more}
+use Rattle.worker_laws.proofs.Grounded.{ground_there}
 use Rattle.worker_laws.proofs.Lived.{handed_since, sent_on, starts}
 use Rattle.worker_laws.proofs.Named.{named_below}
 use Rattle.worker_laws.proofs.Refused.{nothing_left}
@@ -74,24 +74,24 @@ some_isnt_none (d ∷ cs) c more is = cc
 
 -- a worker with a thread
 
-module _ (w : Watched) (fifo : ℕ) (h : List Entry) (q : AtPort) (size : ℕ) (old : List Call) (a : Numbers)
+module _ (w : Watched) (fifo : ℕ) (h : List Entry) (q : AtPort) (size frame : ℕ) (old : List Call) (a : Numbers)
     (new : List Call) (left : Rest) (fault : Option WorkerFault) (made : calls_of w.pass h ≡ new) where
-  run_starts : HasRun q size old a new left fault → Starts w.pass old h ⊎ NothingLeft left
-  run_starts (inl (worked, late, is, lived)) = inl (starts w fifo h q size old a new left late lived made)
+  run_starts : HasRun q size frame old a new left fault → Starts w.pass old h ⊎ NothingLeft left
+  run_starts (inl (worked, late, is, lived)) = inl (starts w fifo h q size frame old a new left late lived made)
   run_starts (inr (e, is, never)) = inr (never.handed, never.accepted)
 
-  module _ (along : IsAlong w fifo h) (sized : is_size size ≡ true)
-      (ground : JustBefore w.vfs fifo w.pass old h (HasGround w.queue q)) (x : Starts w.pass old h) where
-    run_in_order : HasRun q size old a new left fault
-        → (fault ≡ None) ⊎ IsQuiet w.queue q (leads_to (new_state w.vfs fifo) x.before)
+  module _ (along : IsAlong w fifo h)
+      (ground : JustBefore w.vfs fifo w.pass old h (HasGround w.queue q frame)) (x : Starts w.pass old h) where
+    run_in_order : HasRun q size frame old a new left fault
+        → (fault ≡ None) ⊎ IsQuiet w.queue q frame (leads_to (new_state w.vfs fifo) x.before)
         → InOrder w.queue w.vfs fifo w.pass old h x left
     run_in_order (inl (worked, late, is, lived)) quiet = (
-      handed_since w fifo h q size old a new left late lived made along sized ground x,
-      sent_on w fifo h q size old a new left late lived made along sized ground x,
+      handed_since w fifo h q size frame old a new left late lived made along ground x,
+      sent_on w fifo h q size frame old a new left late lived made along ground x,
     )
     run_in_order (inr (e, is, never)) (inl none) = cc
     run_in_order (inr (e, is, never)) (inr quiet) =
-        nothing_left w fifo h q size old a e new left never made along x quiet
+        nothing_left w fifo h q size frame old a e new left never made along x quiet
 
 module _ (vfs fifo : ℕ) (h : List Entry) (j : Job) (e : WorkerEnd) (x : IsEndIn vfs fifo h j e)
     (u : UpTo e.pass.tag h e.pass.calls) where
@@ -112,16 +112,15 @@ module _ (vfs fifo : ℕ) (h : List Entry) (j : Job) (e : WorkerEnd) (x : IsEndI
   new : IsSound (new_state vfs fifo)
   new = new_sound vfs fifo x.device.0 x.device.1 x.device.2
 
-  ground : JustBefore vfs fifo e.pass.tag old h (HasGround j.pf_queue q)
-  ground s =
-      record { names = named_there w fifo old q h new x.events x.names s; limit = x.short s }
+  ground : JustBefore vfs fifo e.pass.tag old h (HasGround j.pf_queue q j.frame)
+  ground = ground_there w fifo old (given_of j) h new x.events x.begins
 
   pub starts_or_none : Starts e.pass.tag old u.done ⊎ NothingLeft e.rest
   starts_or_none =
       elim (threads e.fault) as (λ _. Starts e.pass.tag old u.done ⊎ NothingLeft e.rest) [
         | inl none ↦ inr (home_left j.arena e.rest (ends.idle none).1)
         | inr some ↦
-            run_starts w fifo u.done q j.size old j.arena e.pass.calls e.rest e.fault u.made (ends.lived some)
+            run_starts w fifo u.done q j.size j.frame old j.arena e.pass.calls e.rest e.fault u.made (ends.lived some)
       ]
 
   module _ (s : Starts e.pass.tag old u.done) where
@@ -140,12 +139,12 @@ module _ (vfs fifo : ℕ) (h : List Entry) (j : Job) (e : WorkerEnd) (x : IsEndI
           alone = x.alone;
         })
 
-    ground_so_far : JustBefore vfs fifo e.pass.tag old u.done (HasGround j.pf_queue q)
+    ground_so_far : JustBefore vfs fifo e.pass.tag old u.done (HasGround j.pf_queue q j.frame)
     ground_so_far here = ground (starts_more e.pass.tag old u.done u.rest h u.all here)
 
-    quiet : (e.fault ≡ None) ⊎ IsQuiet j.pf_queue q (leads_to (new_state vfs fifo) s.before)
+    quiet : (e.fault ≡ None) ⊎ IsQuiet j.pf_queue q j.frame (leads_to (new_state vfs fifo) s.before)
     quiet =
-        elim x.quiet as (λ _. (e.fault ≡ None) ⊎ IsQuiet j.pf_queue q (leads_to (new_state vfs fifo) s.before)) [
+        elim x.quiet as (λ _. (e.fault ≡ None) ⊎ IsQuiet j.pf_queue q j.frame (leads_to (new_state vfs fifo) s.before)) [
           | inl none ↦ inl none
           | inr at ↦ inr (at (starts_more e.pass.tag old u.done u.rest h u.all s))
         ]
@@ -162,7 +161,7 @@ module _ (vfs fifo : ℕ) (h : List Entry) (j : Job) (e : WorkerEnd) (x : IsEndI
         elim (threads e.fault) as (λ _. InOrder j.pf_queue vfs fifo e.pass.tag old u.done s e.rest) [
           | inl none ↦ absurd (never_idle none)
           | inr some ↦
-              run_in_order w fifo u.done q j.size old j.arena e.pass.calls e.rest e.fault u.made along x.sized ground_so_far s
+              run_in_order w fifo u.done q j.size j.frame old j.arena e.pass.calls e.rest e.fault u.made along ground_so_far s
               (ends.lived some) quiet
         ]
 

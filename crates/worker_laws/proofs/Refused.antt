@@ -12,26 +12,26 @@ use Rattle.pmd.specs.Life.{NeverLived}
 use Rattle.pmd.specs.Started.{left_accepted, left_handed}
 use Rattle.pmd.specs.declared.start.Rest.{Rest}
 use Rattle.pmd.specs.declared.start.StartRefused.{StartRefused}
-use Rattle.start_laws.specs.ReceiveLaws.Delivered as receive
-use Rattle.start_laws.specs.ReceiveLaws.Delivered.{delivered}
-use Rattle.start_laws.specs.TransmitLaws.Agreeing.{bytes_of}
-use Rattle.start_laws.specs.TransmitLaws.Laws as transmit
-use Rattle.start_laws.specs.TransmitLaws.Sent.{sent_since}
-use Rattle.start_laws.specs.Along.{IsAlong}
-use Rattle.start_laws.specs.Quieting.{IsQuiet}
+use Rattle.pmd_laws.specs.StartLaws.ReceiveLaws.Delivered as receive
+use Rattle.pmd_laws.specs.StartLaws.ReceiveLaws.Delivered.{delivered}
+use Rattle.pmd_laws.specs.StartLaws.TransmitLaws.Agreeing.{bytes_of}
+use Rattle.pmd_laws.specs.StartLaws.TransmitLaws.Laws as transmit
+use Rattle.pmd_laws.specs.StartLaws.TransmitLaws.Sent.{sent_since}
+use Rattle.pmd_laws.specs.StartLaws.Along.{IsAlong}
+use Rattle.pmd_laws.specs.StartLaws.Quieting.{IsQuiet}
 use Rattle.pmd_laws.specs.Refused.{IsRefused}
 use Rattle.pmd_laws.proofs.Refused.{left_of_refused_is_prefix}
 use Rattle.worker_laws.specs.Starts.{Starts}
-use Rattle.worker_laws.proofs.Beginning.{calls_from}
+use Rattle.worker_laws.proofs.FirstCalls.{calls_from}
 
-module _ (w : Watched) (fifo : ℕ) (h : List Entry) (q : AtPort) (size : ℕ) (old : List Call) (a : Numbers)
-    (e : StartRefused) (new : List Call) (left : Rest) (never : NeverLived q size old a e new left)
+module _ (w : Watched) (fifo : ℕ) (h : List Entry) (q : AtPort) (size frame : ℕ) (old : List Call) (a : Numbers)
+    (e : StartRefused) (new : List Call) (left : Rest) (never : NeverLived q size frame old a e new left)
     (made : calls_of w.pass h ≡ new) (along : IsAlong w fifo h) (x : Starts w.pass old h)
-    (quiet : IsQuiet w.queue q (leads_to (new_state w.vfs fifo) x.before)) where
+    (quiet : IsQuiet w.queue q frame (leads_to (new_state w.vfs fifo) x.before)) where
   abbrev since : List Call
   since = x.steps ++ call_in x.first ∷ calls_of w.pass x.behind
 
-  refused : IsRefused w fifo h q old new x.before x.first x.behind
+  refused : IsRefused w fifo h q frame old new x.before x.first x.behind
   refused = record {
     along = along;
     begins = record {
@@ -54,4 +54,4 @@ module _ (w : Watched) (fifo : ℕ) (h : List Entry) (q : AtPort) (size : ℕ) (
       (sent_since w.queue (leads_to (new_state w.vfs fifo) x.before) [] (x.first ∷ x.behind))
       (bytes_of (left_accepted left))
   nothing_left =
-      left_of_refused_is_prefix w fifo h q size old a e new left x.before x.first x.behind never refused
+      left_of_refused_is_prefix w fifo h q size frame old a e new left x.before x.first x.behind never refused

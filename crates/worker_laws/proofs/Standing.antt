@@ -6,8 +6,8 @@ use Rattle.workers.specs.DeviceLock.Closing.{StandsIn}
 use Rattle.workers.specs.DeviceLock.History.{calls_of}
 use Rattle.workers.specs.DeviceLock.declared.entry.Call.{Call}
 use Rattle.workers.specs.DeviceLock.declared.entry.Entry.{Entry}
-use Rattle.start_laws.proofs.ReceiveLaws.Histories.{calls_own}
-use Rattle.start_laws.proofs.Parts.{around, calls_joined}
+use Rattle.pmd_laws.proofs.StartLaws.ReceiveLaws.Histories.{calls_own}
+use Rattle.pmd_laws.proofs.StartLaws.Parts.{around, calls_joined}
 use Rattle.worker_laws.specs.Order.{CallsStand, EndOwn, UpTo}
 
 -- some calls have a last one, or there are none

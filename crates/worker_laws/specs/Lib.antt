@@ -1,3 +1,3 @@
-pub mod Naming
+pub mod Beginning
 pub mod Order
 pub mod Starts

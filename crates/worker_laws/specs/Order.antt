@@ -1,15 +1,14 @@
 -- What the end of a worker says of the history in which its pass was closed.
-use Rattle.std.specs.Prelude.{ℕ, ◌≡◌, ◌⊎◌, ◌<◌, ◌≤◌, true, List, [], ◌∷◌, ◌++◌, length, Contains, None}
-use Rattle.nic_device.specs.RegisterFile.Settings.{frame_limit}
+use Rattle.std.specs.Prelude.{ℕ, ◌≡◌, ◌⊎◌, ◌<◌, ◌≤◌, List, [], ◌∷◌, ◌++◌, length, Contains, None}
 use Rattle.nic_device.specs.State.{new_state}
 use Rattle.pmd.specs.PmdSeam.Named.{AtPort}
-use Rattle.pmd.specs.Started.{is_size, left_accepted, left_handed}
-use Rattle.start_laws.specs.ReceiveLaws.Delivered as receive
-use Rattle.start_laws.specs.ReceiveLaws.Delivered.{delivered}
-use Rattle.start_laws.specs.TransmitLaws.Agreeing.{bytes_of}
-use Rattle.start_laws.specs.TransmitLaws.Laws as transmit
-use Rattle.start_laws.specs.TransmitLaws.Sent.{sent_since}
-use Rattle.start_laws.specs.Quieting.{IsQuiet}
+use Rattle.pmd.specs.Started.{left_accepted, left_handed}
+use Rattle.pmd_laws.specs.StartLaws.ReceiveLaws.Delivered as receive
+use Rattle.pmd_laws.specs.StartLaws.ReceiveLaws.Delivered.{delivered}
+use Rattle.pmd_laws.specs.StartLaws.TransmitLaws.Agreeing.{bytes_of}
+use Rattle.pmd_laws.specs.StartLaws.TransmitLaws.Laws as transmit
+use Rattle.pmd_laws.specs.StartLaws.TransmitLaws.Sent.{sent_since}
+use Rattle.pmd_laws.specs.StartLaws.Quieting.{IsQuiet}
 use Rattle.workers.specs.DeviceLock.Alone.{LeavesAlone}
 use Rattle.workers.specs.DeviceLock.Closing.{Closes}
 use Rattle.workers.specs.DeviceLock.History.{AreEvents, IsLegal, calls_of, leads_to}
@@ -19,12 +18,17 @@ use Rattle.workers.specs.DeviceLock.declared.entry.Entry.{Entry}
 use Rattle.workers.specs.Ends.{AreEnds}
 use Rattle.workers.specs.declared.ends.WorkerEnd.{WorkerEnd}
 use Rattle.workers.specs.declared.job.Job.{Job}
-use Rattle.worker_laws.specs.Naming.{NamesAtStart}
+use Rattle.worker_laws.specs.Beginning.{BeginsWell}
 use Rattle.worker_laws.specs.Starts.{JustBefore, Starts}
+use Rattle.worker_laws.specs.declared.beginning.Given.{Given}
 
 -- the queue of a job, as its port numbers it
 abbrev pub queue_of : Job → AtPort
 queue_of j = record { port = j.port; queue = j.queue }
+
+-- and what its driver is given
+abbrev pub given_of : Job → Given
+given_of j = record { port = j.port; queue = j.queue; frame = j.frame }
 
 -- a job is among some, and an end at its place among others
 abbrev pub IsEndAmong : List Job → List WorkerEnd → Job → WorkerEnd → Type 0
@@ -71,15 +75,11 @@ pub record IsEndIn (vfs fifo : ℕ) (h : List Entry) (j : Job) (e : WorkerEnd) :
   pub events : AreEvents h
   -- its `left_alone` tells this, where it answers so of the end's pass and the job's queue
   pub alone : LeavesAlone (record { vfs = vfs; pass = e.pass.tag; queue = j.pf_queue }) h
-  -- a ring can have so many descriptors
-  pub sized : is_size j.size ≡ true
-  -- just before the driver's first event port and queue name the job's queue, as `names_at_start` tells; and frames
-  -- are short
-  pub names :
-      NamesAtStart (record { vfs = vfs; pass = e.pass.tag; queue = j.pf_queue }) (length j.pass.calls) j.port j.queue h
-  pub short : JustBefore vfs fifo e.pass.tag j.pass.calls h (λ s. frame_limit s.registers ≡ 1514)
+  -- `begins_well` tells this, where it answers so
+  pub begins :
+      BeginsWell (record { vfs = vfs; pass = e.pass.tag; queue = j.pf_queue }) (length j.pass.calls) (given_of j) h
   -- the end has no fault, or both sides of the queue are off there and not wanted on
-  pub quiet : (e.fault ≡ None) ⊎ JustBefore vfs fifo e.pass.tag j.pass.calls h (IsQuiet j.pf_queue (queue_of j))
+  pub quiet : (e.fault ≡ None) ⊎ JustBefore vfs fifo e.pass.tag j.pass.calls h (IsQuiet j.pf_queue (queue_of j) j.frame)
 
 -- up to where the end's pass had made just its calls, the driver has a first entry; or it left nothing
 abbrev pub NoneIsLeft : Type 0

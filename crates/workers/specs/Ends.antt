@@ -23,7 +23,7 @@ pub record IsEndOf (j : Job) (pass : PassValue) (rest : Rest) (told : List Repor
   pub tag : pass.tag ≡ j.pass.tag
   -- with a thread, the calls that its pass gained are the life of one driver of the job's queue
   pub lived : fault ≢ Some NoThread
-      → HasRun (record { port = j.port; queue = j.queue }) j.size j.pass.calls j.arena pass.calls rest fault
+      → HasRun (record { port = j.port; queue = j.queue }) j.size j.frame j.pass.calls j.arena pass.calls rest fault
   -- one report for each packet that its driver handed out
   pub reports : told ≡ reports_of j.queue (left_handed rest)
   pub few : length told ≤ j.rounds

@@ -13,8 +13,8 @@ use Rattle.workers.specs.declared.fault.WorkerFault.TheVariants.{Pmd}
 
 -- a worker had one driver of its queue. It lived, and was stopped, and the worker tells why it ended early, or else why
 -- the driver didn't stop; or the start was refused, and it tells why
-abbrev pub HasRun : AtPort → ℕ → List Call → Numbers → List Call → Rest → Option WorkerFault → Type 0
-HasRun q size old a new left fault =
+abbrev pub HasRun : AtPort → ℕ → ℕ → List Call → Numbers → List Call → Rest → Option WorkerFault → Type 0
+HasRun q size frame old a new left fault =
     ((worked : Result (Unit {0}) WorkerFault) × (late : Option PmdFault) × (fault ≡ first_fault worked late)
-    × HasLived q size old a new left late)
-    ⊎ ((e : StartRefused) × (fault ≡ Some (Pmd e.fault)) × NeverLived q size old a e new left)
+    × HasLived q size frame old a new left late)
+    ⊎ ((e : StartRefused) × (fault ≡ Some (Pmd e.fault)) × NeverLived q size frame old a e new left)

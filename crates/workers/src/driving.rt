@@ -34,6 +34,8 @@ pub struct Order {
     pub queue: u16,
     /// How many descriptors each ring has: a multiple of 8 from 8 to 1,024.
     pub size: u16,
+    /// How many bytes a frame has at most, with its frame check sequence: 1,518 to 9,728.
+    pub frame: u16,
     /// How often it looks for a packet.
     pub rounds: u32,
 }
@@ -137,9 +139,9 @@ fn drive<G: Gate, N: Nic>(
     requires fresh { sent producer.old ≡ [] }
     requires none { handed_of pmd.rings ≡ [] }
     requires room { order.rounds ≤ known_free producer.old }
-    ensures lived { (q : AtPort) (size : ℕ) (old : List Call) (arena : Numbers)
-        → HasStarted q size old arena (N.made nic.old) pmd
-        → HasRun q size old arena (N.made nic.new) result.0 result.1 }
+    ensures lived { (q : AtPort) (size frame : ℕ) (old : List Call) (arena : Numbers)
+        → HasStarted q size frame old arena (N.made nic.old) pmd
+        → HasRun q size frame old arena (N.made nic.new) result.0 result.1 }
     ensures told { sent producer.new ≡ reports_of order.queue (left_handed result.0) }
     ensures few { length (sent producer.new) ≤ order.rounds }
     ensures ring { SameProducer producer.old producer.new }
@@ -174,8 +176,8 @@ pub fn run_worker<G: Gate, N: Nic>(
 ) -> (Rest, Option<WorkerFault>)
     requires fresh { sent producer.old ≡ [] }
     requires room { order.rounds ≤ known_free producer.old }
-    ensures lived { HasRun (record { port = order.port; queue = order.queue }) order.size (N.made nic.old) arena
-        (N.made nic.new) result.0 result.1 }
+    ensures lived { HasRun (record { port = order.port; queue = order.queue }) order.size order.frame
+        (N.made nic.old) arena (N.made nic.new) result.0 result.1 }
     ensures told { sent producer.new ≡ reports_of order.queue (left_handed result.0) }
     ensures few { length (sent producer.new) ≤ order.rounds }
     ensures ring { SameProducer producer.old producer.new }
@@ -185,7 +187,15 @@ pub fn run_worker<G: Gate, N: Nic>(
     ensures whole { IsWhole arena result.0 }
     ensures who { N.who nic.new ≡ N.who nic.old }
 {
-    match Pmd::start(alloc, nic, order.port, order.queue, order.size, arena) {
+    match Pmd::start(
+        alloc,
+        nic,
+        order.port,
+        order.queue,
+        order.size,
+        order.frame,
+        arena,
+    ) {
         Ok(pmd) => drive(alloc, nic, gate, order, pmd, producer),
         Err(StartRefused { fault, rest }) => {
             gate.leave(order.worker);

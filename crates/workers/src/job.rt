@@ -18,6 +18,8 @@ pub struct Job {
     pub pf_queue: u16,
     /// How many descriptors each ring has: a multiple of 8 from 8 to 1,024.
     pub size: u16,
+    /// How many bytes a frame has at most, with its frame check sequence: 1,518 to 9,728.
+    pub frame: u16,
     /// The blocks that it has for its driver.
     pub arena: Arena,
     /// How often it looks for a packet.

@@ -35,8 +35,8 @@ mod widening;
 mod worker_task;
 
 pub use device_lock::{
-    Call, CallFault, Calls, CloseFault, CloseRefused, Closed, Entry, Made, NewFault, Pass, Shared,
-    Watched, left_alone,
+    Call, CallFault, Calls, CloseFault, CloseRefused, Closed, Entry, Made, NewFault, Pass,
+    Settings, Shared, Watched, left_alone,
 };
 pub use driving::{Order, run_worker};
 pub use ends::{Ran, RunFault, RunRefused, WorkerEnd};
@@ -47,8 +47,8 @@ pub use hosted::run;
 pub use job::{Job, overlap};
 pub use meeting::{Lockstep, MAX_MEMBERS};
 pub use pmd::{
-    Direct, Finished, Home, Interleaved, Nic, POLLS, Packet, Pmd, PmdFault, Queue, Record, Rest,
-    Setup, StartRefused, StopRefused, ThroughLock, TxAnswer, TxFault, pf_setup,
+    Bufs, Direct, Finished, Home, Interleaved, Nic, POLLS, Packet, Pmd, PmdFault, Queue, Record,
+    Rest, Setup, StartRefused, StopRefused, ThroughLock, TxAnswer, TxFault, pf_setup,
 };
 pub use reports::{Collector, Report};
 pub use seat::{Seat, Task};

@@ -2,15 +2,16 @@
 
 ghost use Rattle.std.specs.Prelude.{◌≡◌, ◌+◌, ◌<◌, ◌≤◌, ◌++◌, ◌∷◌, [], length, true, IfOk, IfSome, IfNone, OnErr};
 ghost use Rattle.rtrb.specs.Ring.{sent, known_free, SameProducer};
+ghost use Rattle.pmd.specs.PmdSeam.Bufs.{numbers_of};
 ghost use Rattle.pmd.specs.PmdSeam.Packet.{kept_of};
 ghost use Rattle.pmd.specs.Driver.{handed_of, goes_back_to};
 ghost use Rattle.pmd.specs.Life.{KeepsHalves, RunsOn};
-ghost use Rattle.pmd.specs.PmdRx.Keeping.{block_in, handed_block};
+ghost use Rattle.pmd.specs.PmdRx.Keeping.{handed_blocks, numbers_in};
 ghost use Rattle.workers.specs.Kept.{KeepsAll};
 ghost use Rattle.workers.specs.Told.{report_of, reports_of};
 
 use crate::reports::Report;
-use pmd::{Nic, Packet, Pmd, PmdFault, Reaped, TxAnswer, TxFault};
+use pmd::{Nic, Packet, Pmd, PmdFault, Reaped, TxAnswer, TxFault, bytes_in};
 use rtrb::Producer;
 use std::alloc::Global;
 
@@ -22,12 +23,12 @@ fn receive<N: Nic>(alloc: Global, nic: &mut N, pmd: &mut Pmd) -> Result<Option<P
     ensures given { IfOk result (λ out. IfSome out (λ packet.
         handed_of pmd.new.rings ≡ handed_of pmd.old.rings ++ kept_of packet ∷ [])) }
     ensures home { IfOk result (λ out. IfSome out (λ packet.
-        goes_back_to pmd.new.rings packet.buf.number ≡ true)) }
+        goes_back_to pmd.new.rings packet ≡ true)) }
     ensures none { IfOk result (λ out. IfNone out (handed_of pmd.new.rings ≡ handed_of pmd.old.rings)) }
     ensures err { OnErr result (handed_of pmd.new.rings ≡ handed_of pmd.old.rings) }
     ensures drives { RunsOn (N.made nic.old) pmd.old.rings (N.made nic.new) pmd.new.rings }
     ensures queue { pmd.new.queue ≡ pmd.old.queue }
-    ensures blocks { KeepsAll pmd.old.rings [] pmd.new.rings (handed_block result) }
+    ensures blocks { KeepsAll pmd.old.rings [] pmd.new.rings (handed_blocks result) }
     ensures who { N.who nic.new ≡ N.who nic.old }
 {
     pmd.rx(alloc, nic)
@@ -40,8 +41,7 @@ fn tell(queue: u16, number: u32, packet: &Packet, producer: &mut Producer<Report
     ensures ring { SameProducer producer.old producer.new }
     ensures room { known_free producer.old ≡ known_free producer.new + 1 }
 {
-    let bytes: &[u8] = packet.buf.bytes();
-    let len = usize::from(packet.len).min(bytes.len());
+    let len = usize::from(packet.len).min(bytes_in(&packet.bufs));
     producer.push_reserved(Report {
         queue,
         number,
@@ -50,19 +50,19 @@ fn tell(queue: u16, number: u32, packet: &Packet, producer: &mut Producer<Report
     });
 }
 
-/// Sends a packet whose block can go home. It comes back where it isn't accepted.
+/// Sends a packet whose blocks can go home. It comes back where it isn't accepted.
 fn send<N: Nic>(
     alloc: Global,
     nic: &mut N,
     pmd: &mut Pmd,
     packet: Packet,
 ) -> (Option<Packet>, Result<(), PmdFault>)
-    requires { goes_back_to pmd.old.rings packet.buf.number ≡ true }
-    ensures home { IfSome result.0 (λ back. goes_back_to pmd.new.rings back.buf.number ≡ true) }
+    requires { goes_back_to pmd.old.rings packet ≡ true }
+    ensures home { IfSome result.0 (λ back. goes_back_to pmd.new.rings back ≡ true) }
     ensures handed { handed_of pmd.new.rings ≡ handed_of pmd.old.rings }
     ensures drives { RunsOn (N.made nic.old) pmd.old.rings (N.made nic.new) pmd.new.rings }
     ensures queue { pmd.new.queue ≡ pmd.old.queue }
-    ensures blocks { KeepsAll pmd.old.rings (packet.buf.number ∷ []) pmd.new.rings (block_in result.0) }
+    ensures blocks { KeepsAll pmd.old.rings (numbers_of packet.bufs) pmd.new.rings (numbers_in result.0) }
     ensures who { N.who nic.new ≡ N.who nic.old }
 {
     match pmd.tx(alloc, nic, packet) {
@@ -72,13 +72,13 @@ fn send<N: Nic>(
     }
 }
 
-/// Gives the block of a packet back, which can go home.
+/// Gives the blocks of a packet back, which can go home.
 fn release(pmd: &mut Pmd, packet: Packet)
-    requires { goes_back_to pmd.old.rings packet.buf.number ≡ true }
+    requires { goes_back_to pmd.old.rings packet ≡ true }
     ensures handed { handed_of pmd.new.rings ≡ handed_of pmd.old.rings }
     ensures halves { KeepsHalves pmd.old.rings pmd.new.rings }
     ensures queue { pmd.new.queue ≡ pmd.old.queue }
-    ensures blocks { KeepsAll pmd.old.rings (packet.buf.number ∷ []) pmd.new.rings [] }
+    ensures blocks { KeepsAll pmd.old.rings (numbers_of packet.bufs) pmd.new.rings [] }
 {
     match pmd.release(packet) {
         Ok(()) => {}
@@ -86,18 +86,18 @@ fn release(pmd: &mut Pmd, packet: Packet)
     }
 }
 
-/// Sends a packet whose block can go home, and releases it where it isn't accepted.
+/// Sends a packet whose blocks can go home, and releases it where it isn't accepted.
 fn forward<N: Nic>(
     alloc: Global,
     nic: &mut N,
     pmd: &mut Pmd,
     packet: Packet,
 ) -> Result<(), PmdFault>
-    requires { goes_back_to pmd.old.rings packet.buf.number ≡ true }
+    requires { goes_back_to pmd.old.rings packet ≡ true }
     ensures handed { handed_of pmd.new.rings ≡ handed_of pmd.old.rings }
     ensures drives { RunsOn (N.made nic.old) pmd.old.rings (N.made nic.new) pmd.new.rings }
     ensures queue { pmd.new.queue ≡ pmd.old.queue }
-    ensures blocks { KeepsAll pmd.old.rings (packet.buf.number ∷ []) pmd.new.rings [] }
+    ensures blocks { KeepsAll pmd.old.rings (numbers_of packet.bufs) pmd.new.rings [] }
     ensures who { N.who nic.new ≡ N.who nic.old }
 {
     let (back, sent) = send(alloc, nic, pmd, packet);

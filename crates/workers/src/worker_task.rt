@@ -78,6 +78,7 @@ impl<'a, R: Wait, G: Gate, const VFS: u8, const FIFO: u16> Task<Back>
             queue,
             pf_queue,
             size,
+            frame,
             arena,
             rounds,
         } = job;
@@ -88,6 +89,7 @@ impl<'a, R: Wait, G: Gate, const VFS: u8, const FIFO: u16> Task<Back>
             port,
             queue,
             size,
+            frame,
             rounds,
         };
         let (rest, fault) = run_worker(alloc, &mut nic, gate, order, arena, &mut producer);
@@ -119,6 +121,7 @@ impl<'a, R: Wait, G: Gate, const VFS: u8, const FIFO: u16> Task<Back>
             queue: _,
             pf_queue: _,
             size: _,
+            frame: _,
             arena,
             rounds: _,
         } = job;

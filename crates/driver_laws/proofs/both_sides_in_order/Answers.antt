@@ -1,3 +1,4 @@
+use Rattle.driver_laws.proofs.Earlier.{none_is_all_before}
 use Rattle.driver_laws.proofs.InOrder.{handed_is_prefix, none_is_all, sent_is_prefix, idle_is_all_sent, counted_where_up}
 use Rattle.driver_laws.proofs.both_sides_in_order.Goals as goal
 
@@ -5,6 +6,7 @@ pub returns : goal.returns
 returns c = record {
   handed = handed_is_prefix;
   none = none_is_all;
+  before = none_is_all_before;
   sent = sent_is_prefix;
   idle = idle_is_all_sent;
   counted = counted_where_up;

@@ -1,5 +1,5 @@
-use Rattle.pmd_laws.proofs.Looks.{none_before_look}
+use Rattle.pmd_laws.proofs.Looks.{none_at_first, none_before_look}
 use Rattle.pmd_laws.proofs.empty_look_leaves_nothing.Goals as goal
 
 pub returns : goal.returns
-returns c = none_before_look
+returns c = record { before = none_before_look; first = none_at_first }

@@ -1,4 +1,4 @@
-use Rattle.transmit_laws.proofs.Sending.{step_of_queue_keeps}
+use Rattle.transmit_laws.proofs.Sparing.{step_of_queue_keeps}
 use Rattle.transmit_laws.proofs.steps_of_queue_keep.Goals as goal
 
 pub returns : goal.returns

@@ -3,7 +3,7 @@ use Rattle.nic_device.specs.DmaRing.declared.dir.Dir.TheVariants.{Tx}
 use Rattle.pmd.specs.Halted.{Halted}
 use Rattle.pmd_rx.specs.PmdSeam.Slots.{blocks_for}
 use Rattle.pmd_rx.specs.Keeping.{blocks_out}
-use Rattle.pmd_tx.specs.Leaving.{lent_of}
+use Rattle.pmd.specs.Running.{kept_out}
 use Rattle.pmd_tx.specs.Sending.{Sender}
 use Rattle.pmd.specs.Blocks.{HasAll}
 use Rattle.pmd.specs.Driver.{Driver, handed_of, halted_of}
@@ -32,7 +32,7 @@ left_before_one-requires g c = before_out _ _ _ _ _ _ _ _ c.in-Err.ensures.faile
 
 pub left_after_one-requires : goal.left_after_one-requires
 left_after_one-requires g c =
-    after_out _ _ _ _ _ _ _ _ _ _ _ c.in-Ok.ensures.ready c.in-Err-transmit_ring.ensures.failed
+    after_out _ _ _ _ _ _ _ _ _ _ _ _ c.in-Ok.ensures.ready c.in-Err-transmit_ring.ensures.failed
 
 pub returns-in-Err-clause-stops : goal.returns-in-Err-clause-stops
 returns-in-Err-clause-stops g c = inl (record {
@@ -56,13 +56,13 @@ returns-in-Err-transmit_ring-clause-stops g c = inr (inl (record {
 
 pub go_on-requires-clause-home : goal.go_on-requires-clause-home
 go_on-requires-clause-home g c =
-    let all = rings_out _ _ _ _ _ _ _ _ _ _ c.in-Ok.ensures.ready c.in-Ok-transmit_ring.ensures.ready in
-    one_out c.transmit_ring.new.arena (blocks_out c.in-Ok.receive) (lent_of c.in-Ok-transmit_ring.transmit) all
+    let all = rings_out _ _ _ _ _ _ _ _ _ _ _ c.in-Ok.ensures.ready c.in-Ok-transmit_ring.ensures.ready in
+    one_out c.transmit_ring.new.arena (blocks_out c.in-Ok.receive) (kept_out c.in-Ok-transmit_ring.transmit) all
 
 pub new-running-requires : goal.new-running-requires
 new-running-requires g c =
     record {
-      home = filled_rings _ _ _ _ _ _ _ _ _ _ _ _
+      home = filled_rings _ _ _ _ _ _ _ _ _ _ _ _ _
           c.in-Ok.ensures.ready c.in-Ok-transmit_ring.ensures.ready c.go_on.ensures.keeps;
       filled = c.in-Ok-go_on.ensures.running;
       some = subst (λ (v : Sender). 0 < v.layout.size) (sym c.in-Ok-transmit_ring.ensures.ready.fresh)
@@ -71,7 +71,7 @@ new-running-requires g c =
 
 pub of_rings-halted-requires : goal.of_rings-halted-requires
 of_rings-halted-requires g c =
-    filled_rings _ _ _ _ _ _ _ _ _ _ _ _
+    filled_rings _ _ _ _ _ _ _ _ _ _ _ _ _
     c.in-Ok.ensures.ready c.in-Ok-transmit_ring.ensures.ready c.go_on.ensures.keeps
 
 pub returns-in-Ok-go_on-clause-started : goal.returns-in-Ok-go_on-clause-started
@@ -86,6 +86,8 @@ returns-in-Ok-go_on-clause-started g c =
           ∙ ap (λ (x : Running). let d : Driver = record { queue = c.args.queue; rings = Up x } in d)
           c.new-running.ensures,
       record {
+        sized = c.requires.sized;
+        framed = c.requires.frame;
         ready_made = g.N.Nic.made c.receive_ring.new.nic;
         both_made = g.N.Nic.made c.transmit_ring.new.nic;
         ready_arena = c.receive_ring.new.arena;
@@ -99,6 +101,8 @@ returns-in-Ok-go_on-clause-started g c =
 
 pub returns-in-Err-go_on-clause-stops : goal.returns-in-Err-go_on-clause-stops
 returns-in-Err-go_on-clause-stops g c = inr (inr (record {
+  sized = c.requires.sized;
+  framed = c.requires.frame;
   ready_made = g.N.Nic.made c.receive_ring.new.nic;
   both_made = g.N.Nic.made c.transmit_ring.new.nic;
   ready_arena = c.receive_ring.new.arena;
@@ -118,7 +122,7 @@ pub go_on-requires-clause-enough : goal.go_on-requires-clause-enough
 go_on-requires-clause-enough g c =
     let ready = c.in-Ok.ensures.ready in
     let also = c.in-Ok-transmit_ring.ensures.ready in
-    let size = ready_empty _ _ _ _ _ _ _ ready in
+    let size = ready_empty _ _ _ _ _ _ _ _ ready in
     omega (
       arith,
       c.requires.enough,
@@ -144,19 +148,19 @@ returns-in-Err-clause-left g c = before_handed _ _ _ _ c.left_before_one.ensures
 
 pub returns-in-Err-transmit_ring-clause-left : goal.returns-in-Err-transmit_ring-clause-left
 returns-in-Err-transmit_ring-clause-left g c =
-    half_handed _ _ _ (ready_handed _ _ _ _ _ _ _ c.in-Ok.ensures.ready) c.left_after_one.ensures.rest
+    half_handed _ _ _ (ready_handed _ _ _ _ _ _ _ _ c.in-Ok.ensures.ready) c.left_after_one.ensures.rest
 
 pub returns-in-Ok-go_on-clause-none : goal.returns-in-Ok-go_on-clause-none
 returns-in-Ok-go_on-clause-none g c =
     ap (λ (d : Driver). handed_of d.rings) c.of.ensures
     ∙ (ap (λ (x : Running). x.receive.handed) c.new-running.ensures
-    ∙ (c.go_on.ensures.handed ∙ ready_handed _ _ _ _ _ _ _ c.in-Ok.ensures.ready))
+    ∙ (c.go_on.ensures.handed ∙ ready_handed _ _ _ _ _ _ _ _ c.in-Ok.ensures.ready))
 
 pub returns-in-Err-go_on-clause-left : goal.returns-in-Err-go_on-clause-left
 returns-in-Err-go_on-clause-left g c =
     half_handed _ _ _
     (ap (λ (h : Halted). h.handed) c.of_rings-halted.ensures
-    ∙ (c.go_on.ensures.handed ∙ ready_handed _ _ _ _ _ _ _ c.in-Ok.ensures.ready))
+    ∙ (c.go_on.ensures.handed ∙ ready_handed _ _ _ _ _ _ _ _ c.in-Ok.ensures.ready))
     c.half_started.ensures.rest
 
 pub returns-in-Err-clause-whole : goal.returns-in-Err-clause-whole
@@ -166,7 +170,7 @@ returns-in-Err-clause-whole g c =
 pub returns-in-Err-transmit_ring-clause-whole : goal.returns-in-Err-transmit_ring-clause-whole
 returns-in-Err-transmit_ring-clause-whole g c =
     half_whole _ _ _ _
-    (after_all _ _ _ _ _ _ _ _ _ _ _ c.in-Ok.ensures.ready c.in-Err-transmit_ring.ensures.failed)
+    (after_all _ _ _ _ _ _ _ _ _ _ _ _ c.in-Ok.ensures.ready c.in-Err-transmit_ring.ensures.failed)
     c.left_after_one.ensures.rest
 
 pub returns-in-Ok-go_on-clause-blocks : goal.returns-in-Ok-go_on-clause-blocks
@@ -174,13 +178,14 @@ returns-in-Ok-go_on-clause-blocks g c =
     subst (λ (d : Driver). HasAll c.args.arena (halted_of d.rings) [])
     (sym (c.of.ensures
     ∙ ap (λ (x : Running). let d : Driver = record { queue = c.args.queue; rings = Up x } in d) c.new-running.ensures))
-    (filled_all _ _ _ _ _ _ _ _ _ _ _ _ c.in-Ok.ensures.ready c.in-Ok-transmit_ring.ensures.ready c.go_on.ensures.keeps)
+    (filled_all _ _ _ _ _ _ _ _ _ _ _ _ _ c.in-Ok.ensures.ready c.in-Ok-transmit_ring.ensures.ready
+    c.go_on.ensures.keeps)
 
 pub returns-in-Err-go_on-clause-whole : goal.returns-in-Err-go_on-clause-whole
 returns-in-Err-go_on-clause-whole g c =
     half_whole _ _ _ _
     (rw c.of_rings-halted.ensures
-    (filled_all _ _ _ _ _ _ _ _ _ _ _ _
+    (filled_all _ _ _ _ _ _ _ _ _ _ _ _ _
     c.in-Ok.ensures.ready c.in-Ok-transmit_ring.ensures.ready c.go_on.ensures.keeps))
     c.half_started.ensures.rest
 

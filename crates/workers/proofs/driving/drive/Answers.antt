@@ -20,12 +20,12 @@ pub returns-clause-fault : goal.returns-clause-fault
 returns-clause-fault g c = rw c.first_fault.ensures (had_thread _ _ c.work-worked.ensures.fault)
 
 pub returns-clause-lived : goal.returns-clause-lived
-returns-clause-lived g c q size old arena started =
+returns-clause-lived g c q size frame old arena started =
     inl (
       c.work-worked.result,
       c.take_home-rest.result.1,
       c.first_fault.ensures,
-      has_lived q size old arena (g.N.Nic.made c.args.nic.now) (g.N.Nic.made c.work-worked.new.nic)
+      has_lived q size frame old arena (g.N.Nic.made c.args.nic.now) (g.N.Nic.made c.work-worked.new.nic)
           (g.N.Nic.made c.take_home-rest.new.nic) c.args.pmd c.work-worked.new.pmd c.take_home-rest.result.0
           c.take_home-rest.result.1 started c.work-worked.ensures.drives c.work-worked.ensures.queue
           c.take_home-rest.ensures.stopped c.take_home-rest.ensures.handed c.take_home-rest.ensures.accepted,

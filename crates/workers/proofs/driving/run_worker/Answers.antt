@@ -4,4 +4,4 @@ pub returns-in-Err-clause-whole : goal.returns-in-Err-clause-whole
 returns-in-Err-clause-whole g c = c.end.ensures.whole c.args.arena c.in-Err.ensures.whole
 
 pub returns-in-Ok-clause-lived : goal.returns-in-Ok-clause-lived
-returns-in-Ok-clause-lived g c = c.drive.ensures.lived _ _ _ _ c.in-Ok.ensures.started
+returns-in-Ok-clause-lived g c = c.drive.ensures.lived _ _ _ _ _ c.in-Ok.ensures.started

@@ -1,8 +1,8 @@
 use Rattle.std.proofs.Common.{[]}
-use Rattle.pmd.specs.PmdRx.Keeping.{handed_block}
+use Rattle.pmd.specs.PmdRx.Keeping.{handed_blocks}
 use Rattle.workers.proofs.Keeping.{kept_all}
 use Rattle.workers.proofs.turns.receive.Goals as goal
 
 pub returns-clause-blocks : goal.returns-clause-blocks
 returns-clause-blocks g c =
-    kept_all c.args.pmd.now.rings c.rx.new.self.rings [] (handed_block c.rx.result) c.rx.ensures.blocks
+    kept_all c.args.pmd.now.rings c.rx.new.self.rings [] (handed_blocks c.rx.result) c.rx.ensures.blocks

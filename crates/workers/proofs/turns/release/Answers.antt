@@ -1,7 +1,8 @@
-use Rattle.std.proofs.Common.{[], ◌∷◌}
+use Rattle.std.proofs.Common.{[]}
+use Rattle.pmd.specs.PmdSeam.Bufs.{numbers_of}
 use Rattle.workers.proofs.Keeping.{kept_all}
 use Rattle.workers.proofs.turns.release.Goals as goal
 
 pub returns-clause-blocks : goal.returns-clause-blocks
 returns-clause-blocks c =
-    kept_all c.args.pmd.now.rings c.release.new.self.rings (c.args.packet.buf.number ∷ []) [] c.in-Ok.ensures.blocks
+    kept_all c.args.pmd.now.rings c.release.new.self.rings (numbers_of c.args.packet.bufs) [] c.in-Ok.ensures.blocks

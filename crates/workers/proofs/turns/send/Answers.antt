@@ -1,5 +1,6 @@
-use Rattle.std.proofs.Common.{[], ◌∷◌, Ok, Err, ap, subst}
-use Rattle.pmd.specs.PmdRx.Keeping.{block_in}
+use Rattle.std.proofs.Common.{Ok, Err, ap, subst}
+use Rattle.pmd.specs.PmdSeam.Bufs.{numbers_of}
+use Rattle.pmd.specs.PmdRx.Keeping.{numbers_in}
 use Rattle.pmd.specs.PmdTx.Sends.{returned}
 use Rattle.pmd.specs.PmdTx.declared.answer.TxAnswer.{TxAnswer}
 use Rattle.pmd.specs.Driver.{Driver}
@@ -18,21 +19,21 @@ pub returns-in-Ok-Taken-clause-blocks : goal.returns-in-Ok-Taken-clause-blocks
 returns-in-Ok-Taken-clause-blocks g c =
     let e = c.in-Ok-Taken.ensures in
     let old = c.args.pmd.now.rings in
-    let n = c.args.packet.buf.number in
-    subst (λ (x : TxAnswer). KeepsAll old (n ∷ []) c.tx.new.self.rings (block_in (returned (Ok x))))
+    let ns = numbers_of c.args.packet.bufs in
+    subst (λ (x : TxAnswer). KeepsAll old ns c.tx.new.self.rings (numbers_in (returned (Ok x))))
     c.in-Ok-Taken.field-0-is
-    (kept_all old c.tx.new.self.rings (n ∷ []) (block_in (returned (Ok c.in-Ok-Taken.field-0))) e.blocks)
+    (kept_all old c.tx.new.self.rings ns (numbers_in (returned (Ok c.in-Ok-Taken.field-0))) e.blocks)
 
 pub returns-in-Ok-RingFull-clause-blocks : goal.returns-in-Ok-RingFull-clause-blocks
 returns-in-Ok-RingFull-clause-blocks g c =
     let e = c.in-Ok-RingFull.ensures in
     let old = c.args.pmd.now.rings in
-    let n = c.args.packet.buf.number in
-    subst (λ (x : TxAnswer). KeepsAll old (n ∷ []) c.tx.new.self.rings (block_in (returned (Ok x))))
+    let ns = numbers_of c.args.packet.bufs in
+    subst (λ (x : TxAnswer). KeepsAll old ns c.tx.new.self.rings (numbers_in (returned (Ok x))))
     c.in-Ok-RingFull.field-0-is
-    (kept_all old c.tx.new.self.rings (n ∷ []) (block_in (returned (Ok c.in-Ok-RingFull.field-0))) e.blocks)
+    (kept_all old c.tx.new.self.rings ns (numbers_in (returned (Ok c.in-Ok-RingFull.field-0))) e.blocks)
 
 pub returns-in-Err-clause-blocks : goal.returns-in-Err-clause-blocks
 returns-in-Err-clause-blocks g c =
-    kept_all c.args.pmd.now.rings c.tx.new.self.rings (c.args.packet.buf.number ∷ [])
-    (block_in (returned (Err c.in-Err.field-0))) c.in-Err.ensures.blocks
+    kept_all c.args.pmd.now.rings c.tx.new.self.rings (numbers_of c.args.packet.bufs)
+    (numbers_in (returned (Err c.in-Err.field-0))) c.in-Err.ensures.blocks

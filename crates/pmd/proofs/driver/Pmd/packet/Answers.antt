@@ -1,5 +1,5 @@
 use Rattle.std.proofs.Common.{[]}
-use Rattle.pmd_rx.specs.Keeping.{block_in}
+use Rattle.pmd_rx.specs.Keeping.{numbers_in}
 use Rattle.pmd.proofs.Counted.{fresh_down, up_kept}
 use Rattle.pmd.proofs.driver.Pmd.packet.Goals as goal
 use Rattle.pmd.proofs.driver.Pmd.packet.Goals.{in-Up, in-Down}
@@ -9,7 +9,7 @@ returns-clause-blocks c =
     rw (← c.self.view_is) (elim c.match-self.branch [
       | in-Up w ↦
           rw (w.result-is, w.self-inside-is, w.in-Up.is)
-          (up_kept w.in-Up.running w.packet.new.self [] (block_in w.packet.result) w.packet.ensures.blocks)
+          (up_kept w.in-Up.running w.packet.new.self [] (numbers_in w.packet.result) w.packet.ensures.blocks)
       | in-Down w ↦
           let d = w.packet-in-Down in
           rw (w.result-is, w.self-inside-is, w.in-Down.is)

@@ -1,5 +1,6 @@
-use Rattle.std.proofs.Common.{ℕ, [], ◌∷◌}
-use Rattle.pmd.proofs.Counted.{ok_later, released_down, up_kept}
+use Rattle.std.proofs.Common.{ℕ, List, []}
+use Rattle.pmd_rx.specs.PmdSeam.Bufs.{numbers_of}
+use Rattle.pmd.proofs.Counted.{ok_later, up_kept}
 use Rattle.pmd.proofs.driver.Pmd.release.Goals as goal
 use Rattle.pmd.proofs.driver.Pmd.release.Goals.{in-Up, in-Down}
 
@@ -12,13 +13,13 @@ returns-clause-ok c =
 
 pub returns-clause-blocks : goal.returns-clause-blocks
 returns-clause-blocks c =
-    let n : ℕ = c.args.packet.buf.number in
+    let ns : List ℕ = numbers_of c.args.packet.bufs in
     rw (← c.self.view_is) (elim c.match-self.branch [
       | in-Up w ↦
           rw (w.result-is, w.self-inside-is, w.in-Up.is)
-          (ok_later w.release.result (up_kept w.in-Up.running w.release.new.self (n ∷ []) []) w.release.ensures.blocks)
+          (ok_later w.release.result (up_kept w.in-Up.running w.release.new.self ns []) w.release.ensures.blocks)
       | in-Down w ↦
           let d = w.release-in-Down in
           rw (w.result-is, w.self-inside-is, w.in-Down.is)
-          (released_down d.result w.in-Down.halted d.new.self n d.ensures.ok d.ensures.released)
+          d.ensures.blocks
     ])

@@ -1,7 +1,7 @@
 use Rattle.std.proofs.Common.{[], refl}
 use Rattle.pmd.specs.Driver.{Driver}
 use Rattle.pmd.proofs.Driving.{never_up}
-use Rattle.pmd_rx.specs.Keeping.{handed_block}
+use Rattle.pmd_rx.specs.Keeping.{handed_blocks}
 use Rattle.pmd.proofs.Counted.{up_kept}
 use Rattle.pmd.proofs.driver.Pmd.rx.Goals as goal
 use Rattle.pmd.proofs.driver.Pmd.rx.Goals.{in-Up, in-Down}
@@ -19,6 +19,6 @@ returns-clause-blocks g c =
     rw (← c.self.view_is) (elim c.match-self.branch [
       | in-Up w ↦
           rw (w.result-is, w.self-inside-is, w.in-Up.is)
-          (up_kept w.in-Up.running w.rx.new.self [] (handed_block w.rx.result) w.rx.ensures.blocks)
+          (up_kept w.in-Up.running w.rx.new.self [] (handed_blocks w.rx.result) w.rx.ensures.blocks)
       | in-Down w ↦ rw (w.result-is, w.self-inside-is) (record { owns = λ n. refl; each = λ n. refl })
     ])

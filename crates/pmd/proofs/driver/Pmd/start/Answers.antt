@@ -9,7 +9,7 @@ pub returns-in-Ok-clause-stops : goal.returns-in-Ok-clause-stops
 returns-in-Ok-clause-stops g c =
     err_later c.bring_up.result
     (λ e stops none.
-    subst (λ (q : AtPort). StopsStarting q c.args.size (g.N.Nic.made c.args.nic.now) c.args.arena
+    subst (λ (q : AtPort). StopsStarting q c.args.size c.args.frame (g.N.Nic.made c.args.nic.now) c.args.arena
     (g.N.Nic.made c.bring_up.new.nic) e) c.in-Ok.ensures.queue stops)
     c.bring_up.ensures.stops
 
@@ -24,7 +24,7 @@ returns-in-Err-clause-accepted g c = home_accepted _ _ c.at_home.ensures.rest
 
 pub returns-in-Ok-clause-accepted : goal.returns-in-Ok-clause-accepted
 returns-in-Ok-clause-accepted g c =
-    err_later c.bring_up.result (λ e stops. stops_accepted _ _ _ _ _ e stops) c.bring_up.ensures.stops
+    err_later c.bring_up.result (λ e stops. stops_accepted _ _ _ _ _ _ e stops) c.bring_up.ensures.stops
 
 pub returns-in-Err-clause-refusal : goal.returns-in-Err-clause-refusal
 returns-in-Err-clause-refusal g c = rw c.at_home.ensures.fault (c.in-Err.ensures.refusal _)

@@ -1,7 +1,8 @@
-use Rattle.std.proofs.Common.{[], ◌∷◌, refl}
+use Rattle.std.proofs.Common.{refl}
+use Rattle.pmd_rx.specs.PmdSeam.Bufs.{numbers_of}
 use Rattle.pmd.specs.Driver.{Driver}
 use Rattle.pmd.proofs.Driving.{never_up}
-use Rattle.pmd_rx.specs.Keeping.{block_in}
+use Rattle.pmd_rx.specs.Keeping.{numbers_in}
 use Rattle.pmd_tx.specs.Sends.{returned}
 use Rattle.pmd.proofs.Counted.{up_kept}
 use Rattle.pmd.proofs.driver.Pmd.tx.Goals as goal
@@ -20,7 +21,7 @@ returns-clause-blocks g c =
     rw (← c.self.view_is) (elim c.match-self.branch [
       | in-Up w ↦
           rw (w.result-is, w.self-inside-is, w.in-Up.is)
-          (up_kept w.in-Up.running w.tx.new.self (c.args.packet.buf.number ∷ []) (block_in (returned w.tx.result))
+          (up_kept w.in-Up.running w.tx.new.self (numbers_of c.args.packet.bufs) (numbers_in (returned w.tx.result))
           w.tx.ensures.blocks)
       | in-Down w ↦ rw (w.result-is, w.self-inside-is) (record { owns = λ n. refl; each = λ n. refl })
     ])

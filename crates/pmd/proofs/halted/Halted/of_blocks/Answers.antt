@@ -1,4 +1,4 @@
-use Rattle.std.proofs.Common.{ℕ, List, ◌<◌, ◌++◌, length, None, [], arith}
+use Rattle.std.proofs.Common.{ℕ, List, ◌<◌, ◌++◌, length, [], arith}
 use Rattle.pmd_rx.proofs.PmdSeam.Outside.{out_fewer, times-append}
 use Rattle.pmd.proofs.Few.{out_few}
 use Rattle.pmd.proofs.HaltedBlocks.{first_halted}
@@ -18,6 +18,6 @@ invariant_of-result c =
     let small : length c.args.arena.free < 4294967296 = omega (arith, c.count-count.ensures, c.count-count.type_inv) in
     let lent : List ℕ = c.args.lent.items in
     rw (c.of.ensures, c.new-2.ensures)
-    (first_halted c.args.arena small (lent ++ []) None c.new.result.items c.new-3.result.items
+    (first_halted c.args.arena small (lent ++ []) [] c.new.result.items c.new-3.result.items
     (out_fewer c.args.arena lent ((lent ++ []) ++ []) c.requires
     (λ k. omega (arith, times-append (lent ++ []) [] k, times-append lent [] k))))

@@ -1,9 +1,9 @@
-use Rattle.std.proofs.Common.{◌<◌, ◌++◌, length, arith}
+use Rattle.std.proofs.Common.{◌<◌, ◌++◌, [], length, arith}
 use Rattle.pmd_rx.specs.Keeping as receive
-use Rattle.pmd_rx.specs.Receive.{held_by}
+use Rattle.pmd_rx.specs.PmdSeam.Bufs.{numbers_of}
 use Rattle.pmd.proofs.Blocks.{second_out}
 use Rattle.pmd.proofs.Few.{out_few}
-use Rattle.pmd.proofs.HaltedBlocks.{first_halted, rings_out}
+use Rattle.pmd.proofs.HaltedBlocks.{first_halted, ring_out}
 use Rattle.pmd.proofs.halted.Halted.of_receive.Goals as goal
 
 pub of-requires : goal.of-requires
@@ -21,5 +21,5 @@ invariant_of-result c =
     let small : length c.args.arena.free < 4294967296 = omega (arith, c.count-count.ensures, c.count-count.type_inv) in
     rw c.of.ensures
     (first_halted c.args.arena small (receive.lent_of c.args.receive ++ c.args.lent.items)
-    (held_by c.args.receive.stage) c.args.receive.handed c.new.result.items
-    (rings_out c.args.arena c.args.receive c.args.lent.items c.requires))
+    (numbers_of c.args.receive.held.bufs ++ []) c.args.receive.handed c.new.result.items
+    (ring_out c.args.arena c.args.receive c.args.lent.items c.requires))

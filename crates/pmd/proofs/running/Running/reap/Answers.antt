@@ -1,14 +1,11 @@
-use Rattle.std.proofs.Common.{ℕ, ap, refl}
+use Rattle.std.proofs.Common.{[], refl}
 use Rattle.nic_device.specs.DmaArena.Numbers.{is_own}
-use Rattle.pmd_rx.specs.PmdSeam.Slots.{ring_blocks}
-use Rattle.pmd_tx.specs.Sending.{Layout}
 use Rattle.pmd.specs.Halves.{halves_of}
 use Rattle.pmd.specs.Running.{Running}
-use Rattle.pmd.proofs.Both.{ring_may, transmit_drives}
+use Rattle.pmd.proofs.Both.{outstanding_may, transmit_drives}
 use Rattle.pmd.proofs.Driving.{err_later}
 use Rattle.pmd.proofs.Finding.{fault_by}
-use Rattle.pmd.proofs.Sending.{freed_owns, reaped_up, some_freed, outstanding_out}
-use Rattle.pmd.proofs.ReapedCounted.{reaped_kept}
+use Rattle.pmd.proofs.Sending.{freed_owns, reaped_kept, reaped_up, some_freed, outstanding_out}
 use Rattle.pmd.proofs.running.Running.reap.Goals as goal
 
 pub reap-requires : goal.reap-requires
@@ -17,8 +14,9 @@ reap-requires g c = outstanding_out _ c.self.invariant
 pub invariant_of-self : goal.invariant_of-self
 invariant_of-self g c =
     let e = c.reap.ensures in
-    let (count, frees) = some_freed c.reap.result _ _ _ _ e.freed e.some in
-    reaped_up _ _ count c.self.invariant frees e.layout refl
+    let (packets, some) = some_freed c.reap.result _ _ _ _ e.freed e.some in
+    let (count, frees) = some in
+    reaped_up _ _ count packets frees e.layout refl c.self.invariant
 
 pub returns : goal.returns
 returns g c =
@@ -30,12 +28,12 @@ returns g c =
     let s : Running = record q { arena = c.reap.new.arena; transmit = c.reap.new.self } in
     let old = g.N.Nic.made c.args.nic.now in
     let new = g.N.Nic.made c.reap.new.nic in
-    let ring : ℕ = q.transmit.layout.ring in
     let e = c.reap.ensures in
-    let some = some_freed c.reap.result q.transmit s.transmit q.arena s.arena e.freed e.some in
+    let (packets, some) = some_freed c.reap.result q.transmit s.transmit q.arena s.arena e.freed e.some in
+    let (count, frees) = some in
     rw (← c.self.view_is) (record {
-      drives = transmit_drives old new ring q s (ring_may q c.self.invariant) (e.plays ring)
-          (freed_owns q s some.0 some.1) refl;
+      drives = transmit_drives old new [] q s c.self.invariant tt (e.plays [])
+          (freed_owns q s count packets frees e.layout refl) refl;
       reaped = record {
         idle = e.idle;
         waits = e.waits;
@@ -46,12 +44,12 @@ returns g c =
         late = e.late;
         faults = e.faults;
         finds = err_later c.reap.result
-            (λ f faults. fault_by f (is_own q.arena) ring old new (halves_of q) (ring_may q c.self.invariant) faults)
-            (e.faults ring);
+            (λ f faults. fault_by f (is_own q.arena) [] old new (halves_of q) tt
+            (outstanding_may q c.self.invariant) faults)
+            (e.faults []);
         receive = refl;
       };
-      blocks = reaped_kept q s some.0 some.1 (ap (λ (l : Layout). ring_blocks l.ring l.size) e.layout) refl
-          c.self.invariant;
+      blocks = reaped_kept q s count packets frees e.layout refl c.self.invariant;
       who = e.who;
       refuses = e.refuses;
       refusal = e.refusal;

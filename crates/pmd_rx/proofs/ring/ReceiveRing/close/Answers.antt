@@ -1,25 +1,23 @@
-use Rattle.std.proofs.Common.{◌≡◌, ℕ, List, Option, ap, sym, subst, ◌∙◌}
+use Rattle.std.proofs.Common.{◌≡◌, ℕ, List, ap, sym, subst, ◌∙◌}
 use Rattle.nic_device.specs.DmaArena.Numbers.{Numbers}
+use Rattle.pmd_seam.specs.Bufs.{numbers_of, with_all_free}
 use Rattle.pmd_seam.specs.Home.{AreOut, Homebound}
-use Rattle.pmd_seam.specs.declared.packet.Packet.{Packet}
-use Rattle.pmd_rx.specs.Keeping.{lent_of, with_home}
-use Rattle.pmd_rx.specs.Receive.{Receive, held_by}
-use Rattle.pmd_rx.proofs.Closing.{held_out, closed_out, held_same, lent_is}
+use Rattle.pmd_rx.specs.Keeping.{lent_of}
+use Rattle.pmd_rx.specs.Receive.{Receive}
+use Rattle.pmd_rx.proofs.Closing.{held_out, closed_out, lent_is}
 use Rattle.pmd_rx.proofs.ring.ReceiveRing.close.Goals as goal
 
-pub give_held-requires : goal.give_held-requires
-give_held-requires c =
-    let held = ap (λ (v : Receive). held_by v.stage) (sym c.ended.view_is) in
-    held_out c.args.arena.now c.args.self.layout c.args.self.stage c.ended.inside.held
-    (held ∙ held_same c.ended.inside.at c.ended.inside.held c.ended.invariant.0) c.requires
+pub give_packet-requires : goal.give_packet-requires
+give_packet-requires c =
+    let held = ap (λ (v : Receive). numbers_of v.held.bufs) (sym c.ended.view_is) in
+    subst (λ (ns : List ℕ). AreOut c.args.arena.now ns) held (held_out c.args.arena.now c.args.self c.requires)
 
 pub returns-clause-out : goal.returns-clause-out
 returns-clause-out c =
-    let held = ap (λ (v : Receive). held_by v.stage) (sym c.ended.view_is) in
-    let home : AreOut (with_home c.args.arena.now c.ended.inside.held) (lent_of c.args.self) =
-    closed_out c.args.arena.now c.args.self.layout c.args.self.stage c.ended.inside.held
-    (held ∙ held_same c.ended.inside.at c.ended.inside.held c.ended.invariant.0) c.requires in
-    subst (λ (a : Numbers). AreOut a (lent_of c.args.self)) (sym c.give_held.ensures) home
+    let held = ap (λ (v : Receive). numbers_of v.held.bufs) (sym c.ended.view_is) in
+    subst (λ (a : Numbers). AreOut a (lent_of c.args.self)) (sym c.give_packet.ensures)
+    (subst (λ (ns : List ℕ). AreOut (with_all_free c.args.arena.now ns) (lent_of c.args.self)) held
+    (closed_out c.args.arena.now c.args.self c.requires))
 
 pub returns-clause-way : goal.returns-clause-way
 returns-clause-way c =
@@ -31,7 +29,5 @@ returns-clause-way c =
 
 pub returns-clause-home : goal.returns-clause-home
 returns-clause-home c =
-    let held = ap (λ (v : Receive). held_by v.stage) (sym c.ended.view_is) in
-    c.give_held.ensures
-    ∙ ap (λ (o : Option Packet). with_home c.args.arena.now o)
-    (sym (held ∙ held_same c.ended.inside.at c.ended.inside.held c.ended.invariant.0))
+    let held = ap (λ (v : Receive). numbers_of v.held.bufs) c.ended.view_is in
+    c.give_packet.ensures ∙ ap (λ (ns : List ℕ). with_all_free c.args.arena.now ns) held

@@ -1,11 +1,12 @@
-use Rattle.std.proofs.Common.{◌∙◌, [], refl, sym, arith}
+use Rattle.std.proofs.Common.{◌∙◌, [], Result, Err, refl, sym, ap, arith}
+use Rattle.pmd_seam.specs.declared.fault.PmdFault.{PmdFault}
 use Rattle.std.proofs.lemmas.Result.{err_from_is_err_and}
 use Rattle.pmd_seam.proofs.Exchanging.{out_kept}
 use Rattle.pmd_rx.specs.Filling.{StopsFilling}
 use Rattle.pmd_rx.specs.Keeping.{blocks_out}
 use Rattle.pmd_rx.proofs.Earlier.{posts_then}
 use Rattle.pmd_rx.proofs.Failing.{err_same}
-use Rattle.pmd_rx.proofs.Filling.{posts_none, posts_more, posts_stage, posts_handed, posts_room, filled_runs, short_of}
+use Rattle.pmd_rx.proofs.Filling.{posts_none, posts_more, posts_none_seen, posts_stage, posts_handed, posts_room, filled_runs, short_of}
 use Rattle.pmd_rx.proofs.Keeping.{keeps_none, keeps_both}
 use Rattle.pmd_rx.proofs.Playing.{plays_none}
 use Rattle.pmd_rx.proofs.ring.ReceiveRing.fill.Goals as goal
@@ -29,6 +30,11 @@ post-requires-clause-room g c =
     posts_room c.loop-count._count c.args.arena.now c.loop-count.arena c.args.self.now c.loop-count.self
     c.loop-count.invariant.posts c.requires.empty
     (omega (arith, c.loop-count-test.true, c.spare_slots-slots.ensures.all))
+
+pub post-requires-clause-empty : goal.post-requires-clause-empty
+post-requires-clause-empty g c =
+    posts_none_seen c.loop-count._count c.args.arena.now c.loop-count.arena c.args.self.now c.loop-count.self
+    c.loop-count.invariant.posts c.requires.unseen
 
 pub post-requires-clause-home : goal.post-requires-clause-home
 post-requires-clause-home g c =
@@ -77,6 +83,8 @@ returns-in_err-post-clause-fails g c =
       made = posts_then c.loop-count._count c.args.arena.now c.loop-count.arena (g.N.Nic.made c.args.nic.now)
           (g.N.Nic.made c.loop-count.nic) (g.N.Nic.made c.post.new.nic) c.args.self.now c.loop-count.self
           c.post.new.self c.loop-count.invariant.plays c.loop-count.invariant.posts c.post.ensures.plays;
+      none = λ short.
+          c.in_err-post.ensures.none (ap (λ (f : PmdFault). let r : Result Unit PmdFault = Err f in r) short);
     } in
     rw (p.1, p.2) stops
 
@@ -97,6 +105,8 @@ returns-in_err-post-clause-short g c is =
       made = posts_then c.loop-count._count c.args.arena.now c.loop-count.arena (g.N.Nic.made c.args.nic.now)
           (g.N.Nic.made c.loop-count.nic) (g.N.Nic.made c.post.new.nic) c.args.self.now c.loop-count.self
           c.post.new.self c.loop-count.invariant.plays c.loop-count.invariant.posts c.post.ensures.plays;
+      none = λ short.
+          c.in_err-post.ensures.none (ap (λ (f : PmdFault). let r : Result Unit PmdFault = Err f in r) short);
     } in
     short_of c.in_err-post.field-0.0 (g.N.Nic.made c.args.nic.now) (g.N.Nic.made c.post.new.nic) c.args.arena.now
     c.post.new.arena c.args.self.now c.post.new.self (sym p.2 ∙ err_same (sym p.1 ∙ is)) stops
@@ -126,7 +136,7 @@ pub returns-clause-running : goal.returns-clause-running
 returns-clause-running g c =
     filled_runs c.loop-count._count c.args.arena.now c.loop-count.arena c.args.self.now c.loop-count.self
     c.loop-count.invariant.posts c.requires.empty c.requires.stage
-    (omega (arith, c.spare_slots-slots.ensures.all, c.spare_slots-slots.ensures.some))
+    c.requires.unseen.0 c.spare_slots-slots.ensures.some.0 c.spare_slots-slots.ensures.some.1
     (omega (arith, c.loop-count-test.false, c.loop-count.auto._count-end, c.spare_slots-slots.ensures.all))
 
 pub returns-clause-handed : goal.returns-clause-handed

@@ -1,13 +1,13 @@
 use Rattle.std.proofs.Common.{[], refl, sym, subst}
 use Rattle.nic_device.specs.DmaArena.Numbers.{Numbers}
-use Rattle.pmd_rx.specs.Keeping.{Keeps, handed_block}
+use Rattle.pmd_rx.specs.Keeping.{Keeps, handed_blocks}
 use Rattle.pmd_rx.specs.Receive.{lent_one}
-use Rattle.pmd_rx.proofs.Failing.{faults_after, fails_all, fails_of, never_short}
-use Rattle.pmd_rx.proofs.Fresh.{may_lend, lent_stage, own_after, away_after, back_home}
+use Rattle.pmd_rx.proofs.Failing.{faults_after, fails_all, fails_of, never_short, no_short, err_same}
+use Rattle.pmd_rx.proofs.Handing.{lent_moved, lent_out}
+use Rattle.pmd_rx.proofs.Fresh.{may_lend, own_after, away_after, back_home}
 use Rattle.pmd_rx.proofs.Keeping.{keeps_to, keeps_both, keeps_still}
 use Rattle.pmd_rx.proofs.Playing.{plays_both, plays_none}
 use Rattle.pmd_rx.proofs.Refilling.{lent_keeps}
-use Rattle.pmd_rx.proofs.Stages.{lent_moved, lent_out}
 use Rattle.pmd_rx.proofs.ring.ReceiveRing.lend_and_move.Goals as goal
 
 pub lend_fresh-requires-clause-fresh : goal.lend_fresh-requires-clause-fresh
@@ -16,7 +16,7 @@ lend_fresh-requires-clause-fresh g c =
     c.bytes-whole.ensures.whole.small c.requires.room c.bytes-whole.ensures.whole.size
 
 pub name_and_move-requires : goal.name_and_move-requires
-name_and_move-requires g c = rw c.in-Ok.ensures.lent (lent_stage c.args.self.now _ c.requires.stage)
+name_and_move-requires g c = rw c.in-Ok.ensures.lent tt
 
 pub give_back-requires-clause-own : goal.give_back-requires-clause-own
 give_back-requires-clause-own g c =
@@ -41,12 +41,12 @@ returns-in_default-clause-plays g c = plays_none c.args.arena.now (g.N.Nic.made 
 pub returns-in-Ok-clause-moved : goal.returns-in-Ok-clause-moved
 returns-in-Ok-clause-moved g c =
     lent_moved c.name_and_move.result c.args.arena.now c.take.new.self c.args.self.now c.lend_fresh.new.self
-    c.name_and_move.new.self c.in-Some.buf.number c.requires.stage c.in-Some.ensures.free c.in-Some.ensures.taken
+    c.name_and_move.new.self c.in-Some.buf.number c.in-Some.ensures.free c.in-Some.ensures.taken
     c.in-Ok.ensures.lent c.name_and_move.ensures.moved
 
 pub returns-in-Ok-clause-out : goal.returns-in-Ok-clause-out
 returns-in-Ok-clause-out g c =
-    lent_out c.name_and_move.result c.args.self.now c.lend_fresh.new.self c.in-Some.buf.number c.requires.stage
+    lent_out c.name_and_move.result c.args.self.now c.lend_fresh.new.self c.in-Some.buf.number
     c.in-Ok.ensures.lent c.name_and_move.ensures.out
 
 pub returns-in-Ok-clause-fails : goal.returns-in-Ok-clause-fails
@@ -66,14 +66,18 @@ returns-in-Err-clause-fails g c =
     c.give_back.new.arena c.args.self.now c.lend_fresh.new.self
     (c.in-Err.ensures.fault c.args.arena.now c.in-Some.ensures.free)
 
-pub returns-in-Ok-clause-same : goal.returns-in-Ok-clause-same
-returns-in-Ok-clause-same g c short =
+pub returns-in-Ok-clause-none : goal.returns-in-Ok-clause-none
+returns-in-Ok-clause-none g c short =
     absurd (never_short c.name_and_move.result c.args.arena.now (g.N.Nic.made c.lend_fresh.new.nic)
     (g.N.Nic.made c.name_and_move.new.nic) c.lend_fresh.new.self c.name_and_move.new.self
     (c.name_and_move.ensures.fault c.args.arena.now) short)
 
-pub returns-in-Err-clause-same : goal.returns-in-Err-clause-same
-returns-in-Err-clause-same g c short = c.in-Err.ensures.kept
+pub returns-in-Err-clause-none : goal.returns-in-Err-clause-none
+returns-in-Err-clause-none g c short =
+    absurd
+    (no_short c.in-Err.fault c.args.arena.now (g.N.Nic.made c.args.nic.now) (g.N.Nic.made c.lend_fresh.new.nic)
+    c.args.self.now c.lend_fresh.new.self (c.in-Err.ensures.fault c.args.arena.now c.in-Some.ensures.free)
+    (err_same short))
 
 pub returns-in-Ok-clause-keeps : goal.returns-in-Ok-clause-keeps
 returns-in-Ok-clause-keeps g c =
@@ -82,11 +86,11 @@ returns-in-Ok-clause-keeps g c =
     let v = c.args.self.now in
     let w = c.lend_fresh.new.self in
     let n = c.in-Some.buf.number in
-    let lent : Keeps a v b (lent_one v v.stage n) [] =
-    subst (λ (d : Numbers). Keeps a v d (lent_one v v.stage n) []) (sym c.in-Some.ensures.taken)
+    let lent : Keeps a v b (lent_one v n) [] =
+    subst (λ (d : Numbers). Keeps a v d (lent_one v n) []) (sym c.in-Some.ensures.taken)
     (lent_keeps a v n c.requires.stage c.in-Some.ensures.free c.requires.room) in
-    keeps_both a b b v w c.name_and_move.new.self (handed_block c.name_and_move.result)
-    (keeps_to a b v (lent_one v v.stage n) w [] c.in-Ok.ensures.lent lent) (c.name_and_move.ensures.keeps b)
+    keeps_both a b b v w c.name_and_move.new.self (handed_blocks c.name_and_move.result)
+    (keeps_to a b v (lent_one v n) w [] c.in-Ok.ensures.lent lent) (c.name_and_move.ensures.keeps b)
 
 pub returns-in-Err-clause-keeps : goal.returns-in-Err-clause-keeps
 returns-in-Err-clause-keeps g c =

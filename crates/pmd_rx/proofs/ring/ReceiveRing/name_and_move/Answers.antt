@@ -1,16 +1,15 @@
-use Rattle.pmd_rx.proofs.Playing.{plays_both}
-use Rattle.pmd_rx.proofs.Failing.{faults_after}
-use Rattle.pmd_rx.proofs.Keeping.{keeps_none, keeps_to, keeps_both}
-use Rattle.pmd_rx.proofs.Refilling.{named_keeps_all}
-use Rattle.pmd_rx.proofs.Stages.{named_stage, named_moved}
 use Rattle.std.proofs.Common.{[]}
-use Rattle.pmd_rx.specs.Keeping.{handed_block}
+use Rattle.pmd_rx.specs.Keeping.{handed_blocks}
 use Rattle.pmd_rx.specs.Receive.{named}
+use Rattle.pmd_rx.proofs.Failing.{faults_after}
+use Rattle.pmd_rx.proofs.Handing.{named_moved, named_out}
+use Rattle.pmd_rx.proofs.Keeping.{keeps_none, keeps_to, keeps_both}
+use Rattle.pmd_rx.proofs.Playing.{plays_both}
+use Rattle.pmd_rx.proofs.Refilling.{named_keeps}
 use Rattle.pmd_rx.proofs.ring.ReceiveRing.name_and_move.Goals as goal
 
 pub move_tail-requires : goal.move_tail-requires
-move_tail-requires g c =
-    rw c.in-Ok.ensures.named (named_stage c.args.self.now c.requires)
+move_tail-requires g c = rw c.in-Ok.ensures.named tt
 
 pub returns-in-Ok-clause-plays : goal.returns-in-Ok-clause-plays
 returns-in-Ok-clause-plays g c arena =
@@ -21,8 +20,12 @@ returns-in-Ok-clause-plays g c arena =
 
 pub returns-in-Ok-clause-moved : goal.returns-in-Ok-clause-moved
 returns-in-Ok-clause-moved g c =
-    named_moved c.move_tail.result c.args.self.now c.name_fresh.new.self c.move_tail.new.self c.requires
-    c.in-Ok.ensures.named c.move_tail.ensures.moved
+    named_moved c.move_tail.result c.args.self.now c.name_fresh.new.self c.move_tail.new.self c.in-Ok.ensures.named
+    c.move_tail.ensures.moved
+
+pub returns-in-Ok-clause-out : goal.returns-in-Ok-clause-out
+returns-in-Ok-clause-out g c =
+    named_out c.move_tail.result c.args.self.now c.name_fresh.new.self c.in-Ok.ensures.named c.move_tail.ensures.out
 
 pub returns-in-Ok-clause-fault : goal.returns-in-Ok-clause-fault
 returns-in-Ok-clause-fault g c arena =
@@ -34,8 +37,8 @@ pub returns-in-Ok-clause-keeps : goal.returns-in-Ok-clause-keeps
 returns-in-Ok-clause-keeps g c a =
     let v = c.args.self.now in
     let w = c.name_fresh.new.self in
-    keeps_both a a a v w c.move_tail.new.self (handed_block c.move_tail.result)
-    (keeps_to a a v (named v v.stage) w [] c.in-Ok.ensures.named (named_keeps_all a v c.requires))
+    keeps_both a a a v w c.move_tail.new.self (handed_blocks c.move_tail.result)
+    (keeps_to a a v (named v) w [] c.in-Ok.ensures.named (named_keeps a v c.requires))
     (c.move_tail.ensures.keeps a)
 
 pub returns-in-Err-clause-keeps : goal.returns-in-Err-clause-keeps

@@ -1,16 +1,18 @@
 use Rattle.std.proofs.Common.{ap, ◌∙◌}
-use Rattle.pmd_tx.specs.Sending.{Sender}
+use Rattle.pmd_seam.specs.Bufs.{numbers_of}
+use Rattle.pmd_tx.specs.Sending.{Sender, parts_for}
+use Rattle.pmd_tx.specs.Sends.{outgoing_of}
 use Rattle.pmd_tx.specs.declared.answer.TxFault.{TxFault}
-use Rattle.pmd_tx.proofs.Passing.{accepted_then, none_back}
+use Rattle.pmd_tx.proofs.Passing.{accepted_then, none_back, out_drop}
 use Rattle.pmd_tx.proofs.Ending.{after_all}
 use Rattle.pmd_tx.proofs.Playing.{plays_both}
 use Rattle.pmd_tx.proofs.ring.TransmitRing.accept_and_post.Goals as goal
 
 pub returns-in-Ok-clause-plays : goal.returns-in-Ok-clause-plays
 returns-in-Ok-clause-plays g c =
-    plays_both c.args.packet.buf.number (g.N.Nic.made c.args.nic.now) (g.N.Nic.made c.accept_padded.new.nic)
+    plays_both (outgoing_of c.args.packet).blocks (g.N.Nic.made c.args.nic.now) (g.N.Nic.made c.accept_padded.new.nic)
     (g.N.Nic.made c.post_accepted.new.nic) c.args.self.now c.accept_padded.new.self c.post_accepted.new.self
-    c.accept_padded.ensures.plays (c.post_accepted.ensures.plays c.args.packet.buf.number)
+    c.accept_padded.ensures.plays (c.post_accepted.ensures.plays (outgoing_of c.args.packet).blocks)
 
 pub returns-in-Ok-clause-accepted : goal.returns-in-Ok-clause-accepted
 returns-in-Ok-clause-accepted g c =
@@ -26,10 +28,15 @@ returns-in-Ok-clause-back g c = none_back c.post_accepted.result c.args.packet c
 
 pub returns-in-Ok-clause-faults : goal.returns-in-Ok-clause-faults
 returns-in-Ok-clause-faults g c =
-    after_all (λ (f : TxFault). f.fault) c.post_accepted.result c.args.packet.buf.number (g.N.Nic.made c.args.nic.now)
+    after_all (λ (f : TxFault). f.fault) c.post_accepted.result (outgoing_of c.args.packet).blocks (g.N.Nic.made c.args.nic.now)
     (g.N.Nic.made c.accept_padded.new.nic) (g.N.Nic.made c.post_accepted.new.nic) c.args.self.now
-    c.accept_padded.new.self c.accept_padded.ensures.plays (c.post_accepted.ensures.faults c.args.packet.buf.number)
+    c.accept_padded.new.self c.accept_padded.ensures.plays (c.post_accepted.ensures.faults (outgoing_of c.args.packet).blocks)
 
 pub returns-in-Ok-clause-layout : goal.returns-in-Ok-clause-layout
 returns-in-Ok-clause-layout g c =
     c.post_accepted.ensures.layout ∙ ap (λ (v : Sender). v.layout) c.in-Ok.ensures.accepted
+
+pub give_bufs-requires : goal.give_bufs-requires
+give_bufs-requires g c =
+    out_drop c.args.arena.now (parts_for c.args.packet.len) (numbers_of c.args.packet.bufs) (numbers_of c.in-Ok.rest)
+    c.requires.home c.in-Ok.ensures.rest

@@ -1,4 +1,4 @@
-use Rattle.std.proofs.Common.{refl, ap, ◌∙◌}
+use Rattle.std.proofs.Common.{[], refl, ap, ◌∙◌}
 use Rattle.pmd_tx.specs.Sending.{Layout}
 use Rattle.pmd_tx.proofs.Freeing.{frees_none, freed_after, some_after}
 use Rattle.pmd_tx.proofs.Ending.{after_all, waits_after}
@@ -9,17 +9,17 @@ pub reap_sent-requires-clause-home : goal.reap_sent-requires-clause-home
 reap_sent-requires-clause-home g c = rw c.post_waiting.ensures.kept.outstanding c.requires
 
 pub returns-in-Ok-clause-plays : goal.returns-in-Ok-clause-plays
-returns-in-Ok-clause-plays g c block =
-    plays_both block (g.N.Nic.made c.args.nic.now) (g.N.Nic.made c.post_waiting.new.nic)
+returns-in-Ok-clause-plays g c blocks =
+    plays_both blocks (g.N.Nic.made c.args.nic.now) (g.N.Nic.made c.post_waiting.new.nic)
     (g.N.Nic.made c.reap_sent.new.nic)
-    c.args.self.now c.post_waiting.new.self c.reap_sent.new.self (c.post_waiting.ensures.plays block)
-    (c.reap_sent.ensures.plays block)
+    c.args.self.now c.post_waiting.new.self c.reap_sent.new.self (c.post_waiting.ensures.plays blocks)
+    (c.reap_sent.ensures.plays blocks)
 
 pub returns-in-Ok-clause-waits : goal.returns-in-Ok-clause-waits
 returns-in-Ok-clause-waits g c =
     waits_after c.reap_sent.result (g.N.Nic.made c.args.nic.now) (g.N.Nic.made c.post_waiting.new.nic)
     (g.N.Nic.made c.reap_sent.new.nic) c.args.self.now c.post_waiting.new.self c.reap_sent.new.self
-    (c.post_waiting.ensures.plays 0).plays c.post_waiting.ensures.kept.accepted c.reap_sent.ensures.waits
+    (c.post_waiting.ensures.plays []).plays c.post_waiting.ensures.kept.accepted c.reap_sent.ensures.waits
 
 pub returns-in-Ok-clause-freed : goal.returns-in-Ok-clause-freed
 returns-in-Ok-clause-freed g c =
@@ -40,16 +40,19 @@ returns-in-Ok-clause-layout g c =
     ∙ ap (λ (l : Layout). record l { next = c.reap_sent.new.self.layout.next }) c.post_waiting.ensures.layout
 
 pub returns-in-Ok-clause-faults : goal.returns-in-Ok-clause-faults
-returns-in-Ok-clause-faults g c block =
-    after_all (λ fault. fault) c.reap_sent.result block (g.N.Nic.made c.args.nic.now)
+returns-in-Ok-clause-faults g c blocks =
+    after_all (λ fault. fault) c.reap_sent.result blocks (g.N.Nic.made c.args.nic.now)
     (g.N.Nic.made c.post_waiting.new.nic) (g.N.Nic.made c.reap_sent.new.nic) c.args.self.now c.post_waiting.new.self
-    (c.post_waiting.ensures.plays block) (c.reap_sent.ensures.faults block)
+    (c.post_waiting.ensures.plays blocks) (c.reap_sent.ensures.faults blocks)
 
 pub returns-in-Err-clause-some : goal.returns-in-Err-clause-some
 returns-in-Err-clause-some g c = (
   0,
-  frees_none c.args.self.now c.post_waiting.new.self c.args.arena.now c.args.arena.now
-      c.post_waiting.ensures.kept.outstanding refl,
+  (
+    0,
+    frees_none c.args.self.now c.post_waiting.new.self c.args.arena.now c.args.arena.now
+        c.post_waiting.ensures.kept.outstanding refl,
+  ),
 )
 
 pub returns-in-Err-clause-out : goal.returns-in-Err-clause-out

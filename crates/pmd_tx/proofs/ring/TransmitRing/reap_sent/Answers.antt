@@ -1,46 +1,60 @@
-use Rattle.std.proofs.Common.{refl, ◌∙◌}
+use Rattle.std.proofs.Common.{◌≡◌, ◌∙◌, ◌≤◌, Bool, true, false, inl, inr, [], if◌then◌else◌, refl, arith}
+use Rattle.std.proofs.lemmas.Bool.{cases_Bool}
 use Rattle.pmd_tx.proofs.Loop.{reaped_none, reaped_more}
 use Rattle.pmd_tx.proofs.Ending.{by_after, looks_after}
 use Rattle.pmd_tx.proofs.Playing.{plays_both}
 use Rattle.pmd_tx.proofs.ring.TransmitRing.reap_sent.Goals as goal
 
-pub loop-freed-init : goal.loop-freed-init
-loop-freed-init g c = (
-  reaped_none (g.N.Nic.made c.args.nic.now) c.args.self.now c.args.arena.now c.requires.settled c.requires.home,
-  refl,
-  refl,
-)
+at_most_one : (b : Bool) → (if b then 1 else 0) ≤ 1
+at_most_one true = omega arith
+at_most_one false = omega arith
 
-pub loop-freed-preserved : goal.loop-freed-preserved
-loop-freed-preserved g c = (
-  reaped_more _ _ _ _ _ _ _ c.loop-freed.invariant.0 (g.N.Nic.made c.reap_oldest.new.nic) c.reap_oldest.new.self
-      c.reap_oldest.new.arena c.reap_oldest.ensures.plays c.reap_oldest.ensures.accepted c.reap_oldest.ensures.layout
-      (rw c.in-Ok-true.field-0-test at c.in-Ok-true.ensures.posted)
-      (rw c.in-Ok-true.field-0-test at c.in-Ok-true.ensures.freed) c.reap_oldest.ensures.out,
-  c.reap_oldest.ensures.who ∙ c.loop-freed.invariant.1,
-  c.reap_oldest.ensures.refuses ∙ c.loop-freed.invariant.2,
-)
+pub loop-reaped-init : goal.loop-reaped-init
+loop-reaped-init g c = record {
+  reaped = reaped_none (g.N.Nic.made c.args.nic.now) c.args.self.now c.args.arena.now c.requires.settled c.requires.home;
+  few = omega arith;
+  who = refl;
+  refuses = refl;
+}
 
-pub returns-in-Ok-false-clause-plays : goal.returns-in-Ok-false-clause-plays
-returns-in-Ok-false-clause-plays g c block =
-    plays_both block (g.N.Nic.made c.args.nic.now) (g.N.Nic.made c.loop-freed.nic) (g.N.Nic.made c.reap_oldest.new.nic)
-    c.args.self.now c.loop-freed.self c.reap_oldest.new.self (c.loop-freed.invariant.0.plays block)
-    (c.reap_oldest.ensures.plays block)
+pub returns-in-Ok-None-clause-plays : goal.returns-in-Ok-None-clause-plays
+returns-in-Ok-None-clause-plays g c blocks =
+    plays_both blocks (g.N.Nic.made c.args.nic.now) (g.N.Nic.made c.loop-reaped.nic) (g.N.Nic.made c.reap_oldest.new.nic)
+    c.args.self.now c.loop-reaped.self c.reap_oldest.new.self (c.loop-reaped.invariant.reaped.plays blocks)
+    (c.reap_oldest.ensures.plays blocks)
 
-pub returns-in-Ok-false-clause-waits : goal.returns-in-Ok-false-clause-waits
-returns-in-Ok-false-clause-waits g c = λ is.
-    looks_after (g.N.Nic.made c.args.nic.now) (g.N.Nic.made c.loop-freed.nic) (g.N.Nic.made c.reap_oldest.new.nic)
-    c.args.self.now c.loop-freed.self c.reap_oldest.new.self (c.loop-freed.invariant.0.plays 0).plays
-    c.loop-freed.invariant.0.accepted (c.in-Ok-false.ensures.waits (rw c.in-Ok-false.field-0-test refl))
+pub returns-in-Ok-None-clause-waits : goal.returns-in-Ok-None-clause-waits
+returns-in-Ok-None-clause-waits g c = λ is.
+    looks_after (g.N.Nic.made c.args.nic.now) (g.N.Nic.made c.loop-reaped.nic) (g.N.Nic.made c.reap_oldest.new.nic)
+    c.args.self.now c.loop-reaped.self c.reap_oldest.new.self (c.loop-reaped.invariant.reaped.plays []).plays
+    c.loop-reaped.invariant.reaped.accepted (c.in-Ok-None.ensures.waits (rw c.in-Ok-None.field-0-is refl))
 
 pub returns-in-Err-clause-plays : goal.returns-in-Err-clause-plays
-returns-in-Err-clause-plays g c block =
-    plays_both block (g.N.Nic.made c.args.nic.now) (g.N.Nic.made c.loop-freed.nic) (g.N.Nic.made c.reap_oldest.new.nic)
-    c.args.self.now c.loop-freed.self c.reap_oldest.new.self (c.loop-freed.invariant.0.plays block)
-    (c.reap_oldest.ensures.plays block)
+returns-in-Err-clause-plays g c blocks =
+    plays_both blocks (g.N.Nic.made c.args.nic.now) (g.N.Nic.made c.loop-reaped.nic) (g.N.Nic.made c.reap_oldest.new.nic)
+    c.args.self.now c.loop-reaped.self c.reap_oldest.new.self (c.loop-reaped.invariant.reaped.plays blocks)
+    (c.reap_oldest.ensures.plays blocks)
 
 pub returns-in-Err-clause-faults : goal.returns-in-Err-clause-faults
-returns-in-Err-clause-faults g c block =
-    by_after c.in-Err.fault block (g.N.Nic.made c.args.nic.now) (g.N.Nic.made c.loop-freed.nic)
-    (g.N.Nic.made c.reap_oldest.new.nic) c.args.self.now c.loop-freed.self (c.loop-freed.invariant.0.plays block)
-    (c.in-Err.ensures.faults block)
+returns-in-Err-clause-faults g c blocks =
+    by_after c.in-Err.fault blocks (g.N.Nic.made c.args.nic.now) (g.N.Nic.made c.loop-reaped.nic)
+    (g.N.Nic.made c.reap_oldest.new.nic) c.args.self.now c.loop-reaped.self
+    (c.loop-reaped.invariant.reaped.plays blocks) (c.in-Err.ensures.faults blocks)
+
+pub loop-reaped-preserved : goal.loop-reaped-preserved
+loop-reaped-preserved g c =
+    let from : c.from-freed.result ≡ (if c.in-Ok-Some.end then 1 else 0) = elim (cases_Bool c.in-Ok-Some.end) [
+      | inl is ↦ rw is (rw is at c.from-freed.ensures)
+      | inr is ↦ rw is (rw is at c.from-freed.ensures)
+    ] in
+    let few = c.loop-reaped.invariant.few in
+    record {
+      reaped = rw from (reaped_more _ _ _ _ _ _ _ _ c.loop-reaped.invariant.reaped (g.N.Nic.made c.reap_oldest.new.nic)
+          c.reap_oldest.new.self c.reap_oldest.new.arena c.reap_oldest.ensures.plays c.reap_oldest.ensures.accepted
+          c.reap_oldest.ensures.layout (if c.in-Ok-Some.end then 1 else 0)
+          (rw c.in-Ok-Some.field-0-is at c.in-Ok-Some.ensures.posted)
+          (rw c.in-Ok-Some.field-0-is at c.in-Ok-Some.ensures.freed) c.reap_oldest.ensures.out);
+      few = rw from (omega (arith, few, at_most_one c.in-Ok-Some.end));
+      who = c.reap_oldest.ensures.who ∙ c.loop-reaped.invariant.who;
+      refuses = c.reap_oldest.ensures.refuses ∙ c.loop-reaped.invariant.refuses;
+    }

@@ -1,17 +1,23 @@
 use Rattle.std.proofs.Common.{refl}
-use Rattle.pmd_tx.proofs.Passing.{open_may}
+use Rattle.pmd_tx.specs.Sends.{outgoing_of}
+use Rattle.pmd_tx.proofs.Passing.{open_may, open_out}
 use Rattle.pmd_tx.proofs.Playing.{plays_none}
 use Rattle.pmd_tx.proofs.ring.TransmitRing.send.Goals as goal
 
-pub send_through-requires : goal.send_through-requires
-send_through-requires g c =
+pub send_through-requires-clause-may : goal.send_through-requires-clause-may
+send_through-requires-clause-may g c =
     open_may c.args.self.now c.args.arena.now c.args.elsewhere c.args.packet c.in-Open.ensures.told
+    c.gate.ensures.whole
+
+pub send_through-requires-clause-home : goal.send_through-requires-clause-home
+send_through-requires-clause-home g c =
+    open_out c.args.self.now c.args.arena.now c.args.elsewhere c.args.packet c.in-Open.ensures.told
 
 pub returns-in-Refused-clause-plays : goal.returns-in-Refused-clause-plays
-returns-in-Refused-clause-plays g c = plays_none c.args.packet.buf.number (g.N.Nic.made c.args.nic.now) c.args.self.now
+returns-in-Refused-clause-plays g c = plays_none (outgoing_of c.args.packet).blocks (g.N.Nic.made c.args.nic.now) c.args.self.now
 
 pub returns-in-Full-clause-plays : goal.returns-in-Full-clause-plays
-returns-in-Full-clause-plays g c = plays_none c.args.packet.buf.number (g.N.Nic.made c.args.nic.now) c.args.self.now
+returns-in-Full-clause-plays g c = plays_none (outgoing_of c.args.packet).blocks (g.N.Nic.made c.args.nic.now) c.args.self.now
 
 pub returns-in-Refused-clause-answer : goal.returns-in-Refused-clause-answer
 returns-in-Refused-clause-answer g c = rw (← c.in-Refused.ensures.told) refl

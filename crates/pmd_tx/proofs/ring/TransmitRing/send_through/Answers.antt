@@ -1,5 +1,5 @@
 use Rattle.pmd_tx.specs.declared.answer.TxFault.{TxFault}
-use Rattle.pmd_tx.specs.Sends.{returned}
+use Rattle.pmd_tx.specs.Sends.{outgoing_of, returned}
 use Rattle.pmd_tx.proofs.Passing.{may_after, accepted_after, kept_after, back_itself}
 use Rattle.pmd_tx.proofs.Ending.{after_all}
 use Rattle.pmd_tx.proofs.Playing.{plays_both}
@@ -7,14 +7,14 @@ use Rattle.pmd_tx.proofs.ring.TransmitRing.send_through.Goals as goal
 
 pub accept_and_post-requires-clause-may : goal.accept_and_post-requires-clause-may
 accept_and_post-requires-clause-may g c =
-    may_after c.args.self.now c.post_waiting.new.self c.args.packet c.requires c.post_waiting.ensures.kept
+    may_after c.args.self.now c.post_waiting.new.self c.args.packet c.requires.may c.post_waiting.ensures.kept
     c.post_waiting.ensures.layout
 
 pub returns-in-Ok-clause-plays : goal.returns-in-Ok-clause-plays
 returns-in-Ok-clause-plays g c =
-    plays_both c.args.packet.buf.number (g.N.Nic.made c.args.nic.now) (g.N.Nic.made c.post_waiting.new.nic)
+    plays_both (outgoing_of c.args.packet).blocks (g.N.Nic.made c.args.nic.now) (g.N.Nic.made c.post_waiting.new.nic)
     (g.N.Nic.made c.accept_and_post.new.nic) c.args.self.now c.post_waiting.new.self c.accept_and_post.new.self
-    (c.post_waiting.ensures.plays c.args.packet.buf.number) c.accept_and_post.ensures.plays
+    (c.post_waiting.ensures.plays (outgoing_of c.args.packet).blocks) c.accept_and_post.ensures.plays
 
 pub returns-in-Ok-clause-accepted : goal.returns-in-Ok-clause-accepted
 returns-in-Ok-clause-accepted g c =
@@ -28,15 +28,15 @@ returns-in-Ok-clause-kept g c =
 
 pub returns-in-Ok-clause-faults : goal.returns-in-Ok-clause-faults
 returns-in-Ok-clause-faults g c =
-    after_all (λ (f : TxFault). f.fault) c.accept_and_post.result c.args.packet.buf.number (g.N.Nic.made c.args.nic.now)
+    after_all (λ (f : TxFault). f.fault) c.accept_and_post.result (outgoing_of c.args.packet).blocks (g.N.Nic.made c.args.nic.now)
     (g.N.Nic.made c.post_waiting.new.nic) (g.N.Nic.made c.accept_and_post.new.nic) c.args.self.now
-    c.post_waiting.new.self (c.post_waiting.ensures.plays c.args.packet.buf.number) c.accept_and_post.ensures.faults
+    c.post_waiting.new.self (c.post_waiting.ensures.plays (outgoing_of c.args.packet).blocks) c.accept_and_post.ensures.faults
 
 pub returns-in-Err-clause-back : goal.returns-in-Err-clause-back
 returns-in-Err-clause-back g c = back_itself c.in-Err.fault c.args.packet
 
 pub returns-in-Err-clause-plays : goal.returns-in-Err-clause-plays
-returns-in-Err-clause-plays g c = c.post_waiting.ensures.plays c.args.packet.buf.number
+returns-in-Err-clause-plays g c = c.post_waiting.ensures.plays (outgoing_of c.args.packet).blocks
 
 pub returns-in-Err-clause-faults : goal.returns-in-Err-clause-faults
-returns-in-Err-clause-faults g c = c.in-Err.ensures.faults c.args.packet.buf.number
+returns-in-Err-clause-faults g c = c.in-Err.ensures.faults (outgoing_of c.args.packet).blocks

@@ -14,12 +14,12 @@ returns g c =
         bench = search rules;
         tag = search rules;
         lived = λ has.
-            subst (λ (x : Assignment). HasRun (record { port = x.job.port; queue = x.job.queue }) x.job.size
+            subst (λ (x : Assignment). HasRun (record { port = x.job.port; queue = x.job.queue }) x.job.size x.job.frame
             x.job.pass.calls x.job.arena c.finish.result.calls left.0 left.1) c.self.view_is
-            (subst (λ (p : PassValue). HasRun (record { port = d.job.port; queue = d.job.queue }) d.job.size
+            (subst (λ (p : PassValue). HasRun (record { port = d.job.port; queue = d.job.queue }) d.job.size d.job.frame
             d.job.pass.calls d.job.arena p.calls left.0 left.1) (sym c.finish.ensures)
-            (subst (λ (t : AtLock). HasRun (record { port = d.job.port; queue = d.job.queue }) d.job.size t.pass.calls
-            d.job.arena c.run_worker-rest.new.nic.pass.calls left.0 left.1) c.new-nic.ensures
+            (subst (λ (t : AtLock). HasRun (record { port = d.job.port; queue = d.job.queue }) d.job.size d.job.frame
+            t.pass.calls d.job.arena c.run_worker-rest.new.nic.pass.calls left.0 left.1) c.new-nic.ensures
             c.run_worker-rest.ensures.lived));
         reports = search rules;
         few = search rules;

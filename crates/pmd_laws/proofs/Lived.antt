@@ -1,0 +1,55 @@
+-- What begins a history of a life is one too.
+use Rattle.std.proofs.Common.{◌≡◌, ℕ, List, ◌∷◌, ◌++◌, sym, ap, ◌∙◌, subst, append_assoc}
+use Rattle.nic_device.specs.DmaArena.Numbers.{Numbers}
+use Rattle.nic_device.specs.State.{new_state}
+use Rattle.device_lock.specs.Alone.{LeavesAlone}
+use Rattle.device_lock.specs.History.{IsLegal, AreEvents, calls_of}
+use Rattle.device_lock.specs.declared.alone.Watched.{Watched}
+use Rattle.device_lock.specs.declared.entry.Call.{Call}
+use Rattle.device_lock.specs.declared.entry.Entry.{Entry}
+use Rattle.start_laws.proofs.HistoryLaws.Beginning.{beginning_alone}
+use Rattle.pmd.specs.Running.{Running}
+use Rattle.pmd.specs.Started.{AreUp}
+use Rattle.pmd.specs.PmdSeam.Named.{AtPort}
+use Rattle.start_laws.proofs.ReceiveLaws.Delivering.{events_before}
+use Rattle.start_laws.specs.Along.{IsAlong}
+use Rattle.start_laws.specs.Start.{BeginsWell}
+use Rattle.start_laws.proofs.Along.{legal_before}
+use Rattle.pmd.specs.Halves.{Halves, halves_of}
+use Rattle.driver_laws.specs.Beside.{Leads}
+use Rattle.pmd_laws.specs.Life.{IsLife}
+use Rattle.pmd_laws.specs.Order.{IsLived}
+
+module _ (w : Watched) (fifo : ℕ) (h before rest : List Entry) (all : before ++ rest ≡ h) where
+  pub along_before : IsAlong w fifo h → IsAlong w fifo before
+  along_before x = record {
+    small = x.small;
+    new = x.new;
+    events = events_before before rest (subst AreEvents (sym all) x.events);
+    legal = legal_before (new_state w.vfs fifo) before rest (subst (IsLegal (new_state w.vfs fifo)) (sym all) x.legal);
+    alone = beginning_alone w before rest (subst (LeavesAlone w) (sym all) x.alone);
+  }
+
+  pub begins_before : (q : AtPort) (size frame : ℕ) (old : List Call) (a : Numbers) (new : List Call) (r : Running)
+      (up : AreUp q size frame old a new r) → BeginsWell w fifo h q size frame old a new r up
+      → BeginsWell w fifo before q size frame old a new r up
+  begins_before q size frame old a new r up x = record {
+    ground = λ done more e both own is.
+        x.ground done (more ++ rest) e
+        (sym (append_assoc done (e ∷ more) rest) ∙ ap (λ (l : List Entry). l ++ rest) both ∙ all) own is;
+  }
+
+  -- and a life up to there, where its calls lead to these halves
+  abbrev pub lived_before : (q : AtPort) (size frame : ℕ) (old : List Call) (a : Numbers) (started : List Call)
+      (r : Running) (made calls : List Call) (j k : Halves) (life : IsLife q size frame old a started r made j)
+      → IsAlong w fifo h → BeginsWell w fifo h q size frame old a started r life.up
+      → Leads started (halves_of r) calls k → calls_of w.pass before ≡ calls
+      → IsLived w fifo before q size frame old a started r k
+  lived_before q size frame old a started r made calls j k life along begins goes is = record {
+    along = along_before along;
+    life = record {
+      up = life.up;
+      since = subst (λ (cs : List Call). Leads started (halves_of r) cs k) (sym is) goes;
+    };
+    begins = begins_before q size frame old a started r life.up begins;
+  }

@@ -1,0 +1,79 @@
+//! The parts of packets, as descriptors ask for them.
+
+ghost use Rattle.std.specs.Prelude.{◌≡◌, ◌<◌, ◌≤◌, ◌+◌, ◌*◌, ◌++◌, ◌∷◌, length, true};
+ghost use Rattle.std.specs.VecDeque.{deque_len, deque_capacity};
+ghost use Rattle.pmd_seam.specs.Bufs.{numbers_of};
+ghost use Rattle.pmd_tx.specs.Pieces.{pieces_in, first_last, ends_packet};
+ghost use Rattle.pmd_tx.specs.Sending.{parts_for};
+
+use nic_device::BLOCK_BYTES;
+use pmd_seam::Bufs;
+use std::collections::VecDeque;
+
+/// A part of a packet: its block, how many bytes it has and how many the packet has, and whether the packet ends there.
+#[derive(Clone, Copy)]
+pub(crate) struct Piece {
+    /// The block that it is in.
+    pub(crate) block: u32,
+    /// How many bytes it has.
+    pub(crate) len: u16,
+    /// How many bytes the packet has.
+    pub(crate) whole: u16,
+    /// It is the last of the packet.
+    pub(crate) last: bool,
+}
+
+/// How many bytes a part has, unless it is the last.
+const FULL: u16 = BLOCK_BYTES as u16;
+
+/// How many parts a packet of so many bytes has.
+pub(crate) fn parts_for(len: u16) -> u16
+    ensures parts { result ≡ parts_for len }
+    ensures few { result ≤ 32 }
+{
+    ((u32::from(len) + 2047) / 2048) as u16
+}
+
+/// Adds the pieces of a packet of `whole` bytes: one in this block, and one in each of these Bufs. There is room for
+/// them.
+pub(crate) fn add_pieces(pieces: &mut VecDeque<Piece>, first: u32, others: &Bufs, whole: u16)
+    requires room { deque_len pieces.old + 1 + length others.now ≤ deque_capacity pieces.old }
+    requires full { 2048 * length others.now ≤ whole }
+    ensures { pieces.new.items ≡ pieces.old.items ++ pieces_in whole (first ∷ numbers_of others.now) whole }
+{
+    let mut block = first;
+    let mut left = whole;
+    let count = others.count();
+    for number in 0..count {
+        pieces.push_back_reserved(Piece {
+            block,
+            len: FULL,
+            whole,
+            last: false,
+        });
+        block = others.get(number).block();
+        left -= FULL;
+    }
+    pieces.push_back_reserved(Piece {
+        block,
+        len: left,
+        whole,
+        last: true,
+    });
+}
+
+/// The number of the first piece that is the last of its packet, where the newest is.
+pub(crate) fn first_last(pieces: &VecDeque<Piece>) -> u16
+    requires some { 0 < length pieces.now.items }
+    requires few { length pieces.now.items ≤ 1024 }
+    requires ends { ends_packet pieces.now.items ≡ true }
+    ensures first { result ≡ first_last pieces.now.items }
+    ensures below { result < length pieces.now.items }
+{
+    for number in 0..pieces.len() {
+        if pieces[number].last {
+            return number as u16;
+        }
+    }
+    unreachable!()
+}

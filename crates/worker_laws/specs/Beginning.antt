@@ -1,0 +1,49 @@
+-- Whether a driver begins well: its port and queue name its queue as it starts, and frames are as long as it was told;
+-- by the entries before.
+use Rattle.std.specs.Prelude.{ℕ, ◌≡◌, ◌-◌, ◌==◌, not, ◌&&◌, Bool, true, false, List, [], ◌∷◌, length, Option, Some, None, if◌then◌else◌}
+use Rattle.pmd.specs.PmdSeam.Events.{is_step}
+use Rattle.pmd.specs.PmdSeam.Frames.{packet_limit}
+use Rattle.workers.specs.DeviceLock.Told.{first_settings, limit_of, settings_after, settings_through}
+use Rattle.workers.specs.DeviceLock.declared.alone.Watched.{Watched}
+use Rattle.workers.specs.DeviceLock.declared.entry.Call.{Call}
+use Rattle.workers.specs.DeviceLock.declared.entry.Entry.{Entry}
+use Rattle.workers.specs.DeviceLock.declared.told.Settings.{Settings}
+use Rattle.pmd_laws.specs.StartLaws.Numbers.{queue_at}
+use Rattle.worker_laws.specs.Starts.{Starts}
+use Rattle.worker_laws.specs.declared.beginning.Given.{Given}
+
+-- with these settings, port and queue name the watched queue, and the frame limit is that of the driver's frames
+pub record Fits (w : Watched) (s : Settings) (x : Given) : Type 0 where
+  pub names : queue_at s.mode w.vfs x.port x.queue ≡ Some w.queue
+  pub limit : limit_of s.frames ≡ packet_limit x.frame
+
+-- so it is just before the first entry of a driver's own, behind so many calls of its pass, as the entries before tell
+abbrev pub BeginsWell : Watched → ℕ → Given → List Entry → Type 0
+BeginsWell w from start h =
+    (old : List Call) → length old ≡ from → (x : Starts w.pass old h) →
+    Fits w (settings_through w.vfs first_settings x.before) start
+
+-- the test that goes through the entries once
+
+abbrev pub is_queue : Option ℕ → ℕ → Bool
+is_queue None queue = false
+is_queue (Some named) queue = named == queue
+
+abbrev pub begins : Watched → Settings → Given → Bool
+begins w s x =
+    is_queue (queue_at s.mode w.vfs x.port x.queue) w.queue && (limit_of s.frames == packet_limit x.frame)
+
+-- whether an entry is the first of a driver's own, where so many calls of its pass are left before it
+abbrev pub is_first : Watched → ℕ → Entry → Bool
+is_first w left e = (e.pass == w.pass) && ((left == 0) && not (is_step e.event))
+
+-- how many are left behind an entry
+abbrev pub left_behind : Watched → ℕ → Entry → ℕ
+left_behind w left e = if e.pass == w.pass then left - 1 else left
+
+abbrev pub rest_begins : Watched → Given → Settings → ℕ → List Entry → Bool
+rest_begins w start s left [] = true
+rest_begins w start s left (e ∷ es) =
+    if is_first w left e
+    then begins w s start
+    else rest_begins w start (settings_after w.vfs s e.event) (left_behind w left e) es

@@ -63,11 +63,15 @@ pub fn opened(rt: &impl Hand, fifo: u16, queue: u16) -> Direct {
 
 /// The same, set up otherwise.
 pub fn set_up(rt: &impl Hand, fifo: u16, queue: u16, setup: &Setup) -> Direct {
-    let alloc = rt.alloc();
-    let device = done(rt, Device::new(alloc, Config { vfs: 1, fifo }));
-    let mut direct = Direct::new(alloc, device, queue);
-    done(rt, pf_setup(alloc, &mut direct, setup));
+    let mut direct = untouched(rt, fifo, queue);
+    done(rt, pf_setup(rt.alloc(), &mut direct, setup));
     direct
+}
+
+/// The same, not set up.
+pub fn untouched(rt: &impl Hand, fifo: u16, queue: u16) -> Direct {
+    let device = done(rt, Device::new(rt.alloc(), Config { vfs: 1, fifo }));
+    Direct::new(rt.alloc(), device, queue)
 }
 
 /// The same device, which is stepped on another queue from here on.
@@ -88,7 +92,10 @@ pub fn blocks(rt: &impl Hand) -> Arena {
 
 /// A driver of queue 0 with rings of 8.
 pub fn started<N: Nic>(rt: &impl Hand, nic: &mut N) -> Pmd {
-    done(rt, Pmd::start(rt.alloc(), nic, Port::Pf, 0, 8, 1518, blocks(rt)))
+    done(
+        rt,
+        Pmd::start(rt.alloc(), nic, Port::Pf, 0, 8, 1518, blocks(rt)),
+    )
 }
 
 /// Ends a device. Answers what was lent to it, and its frames out.

@@ -44,7 +44,15 @@ fn the_sixth_queue_of_a_function_receives_by_the_hash(rt: HostRuntime) {
         ..PLAIN
     };
     let mut direct = set_up(&rt, 64, 5, &setup);
-    let start = Pmd::start(rt.alloc(), &mut direct, Port::Vf(0), 5, 8, 1518, blocks(&rt));
+    let start = Pmd::start(
+        rt.alloc(),
+        &mut direct,
+        Port::Vf(0),
+        5,
+        8,
+        1518,
+        blocks(&rt),
+    );
     let mut pmd = done(&rt, start);
     let frame = done(&rt, Vec::from_array(rt.alloc(), TCP_FRAME));
     arrive(&rt, &mut direct, frame);
@@ -86,7 +94,7 @@ fn two_hundred_frames_go_through_a_ring_of_eight(rt: HostRuntime) {
 }
 
 /// How many blocks are free, so many at most.
-fn free_blocks(rt: &impl Hand, pmd: &mut Pmd, most: u32) -> u32 {
+pub fn free_blocks(rt: &impl Hand, pmd: &mut Pmd, most: u32) -> u32 {
     if most == 0 {
         return 0;
     }
@@ -212,7 +220,10 @@ fn a_packet_of_another_arena_comes_back(rt: HostRuntime) {
         hash: _,
     } = refused(&rt, pmd.release(some(&rt, packet)));
     done(&rt, other.give(some(&rt, bufs.take_first())));
-    bufs.finish();
+    match bufs.take_first() {
+        None => bufs.finish(),
+        Some(_buf) => panic!(rt; "a second Buf"),
+    }
     done(&rt, other.close());
     assert!(rt; stop(&rt, &mut direct, pmd) == (0, 0));
     end(&rt, in_hand(direct));

@@ -20,6 +20,8 @@ mod interleaved;
 #[cfg(test)]
 mod left_alone;
 #[cfg(test)]
+mod long;
+#[cfg(test)]
 mod meeting;
 #[cfg(test)]
 mod others;

@@ -120,11 +120,11 @@ grown p front xs ys more true =
     (rest.0, ap (λ (ks : List Kept). packet_told (front ++ p.bytes) p.first ∷ ks) rest.1)
 grown p front xs ys more false = more (front ++ p.bytes)
 
-grows : (front : List ℕ) (xs ys : List Piece) → IsPrefixOf (packets_behind front xs) (packets_behind front (xs ++ ys))
+pub grows : (front : List ℕ) (xs ys : List Piece) → IsPrefixOf (packets_behind front xs) (packets_behind front (xs ++ ys))
 grows front [] ys = (packets_behind front ys, refl)
 grows front (p ∷ xs) ys = grown p front xs ys (λ f. grows f xs ys) p.end
 
-pieces-append : (queue : ℕ) (s : State) (g h : List Entry)
+pub pieces-append : (queue : ℕ) (s : State) (g h : List Entry)
     → pieces_in queue s (g ++ h) ≡ pieces_in queue s g ++ pieces_in queue (leads_to s g) h
 pieces-append queue s [] h = refl
 pieces-append queue s (e ∷ g) h =
@@ -136,7 +136,7 @@ no_rest hs xs ys is =
     let long = ap (λ (ks : List Kept). length ks) is in
     nil_from_length xs (omega (arith, long, length-append (hs ++ xs) ys, length-append hs xs))
 
-between : (hs ds all : List Kept) → IsPrefixOf hs ds → IsPrefixOf ds all → all ≡ hs → hs ≡ ds
+pub between : (hs ds all : List Kept) → IsPrefixOf hs ds → IsPrefixOf ds all → all ≡ hs → hs ≡ ds
 between hs ds all (xs, is) (ys, then) same =
     let none : xs ≡ [] = no_rest hs xs ys (ap (λ (ks : List Kept). ks ++ ys) is ∙ then ∙ same) in
     sym (append-nil hs) ∙ ap (λ (ks : List Kept). hs ++ ks) (sym none) ∙ is

@@ -159,8 +159,8 @@ fn run<R: Threads + Wait + Sync>(
 ///
 /// It waits for locks and for the threads. Nothing is written where something is refused, a worker ends with a fault,
 /// its queue isn't left alone, or fewer frames arrive: the status is 4 where one of these is for memory, or fewer
-/// frames arrive, and else 2. There are from 1 to 8 workers: with another number the status is 2. Where a write fails it
-/// is 2.
+/// frames arrive, and else 2. There are from 1 to 8 workers: with another number the status is 2. Where a write fails
+/// it is 2.
 pub fn bench_threads<R: Threads + Wait + Sync, W: Write>(
     rt: &R,
     alloc: Global,

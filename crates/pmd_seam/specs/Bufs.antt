@@ -1,5 +1,5 @@
 -- The Bufs that a packet is in.
-use Rattle.std.specs.Prelude.{ℕ, zero, suc, ◌≡◌, ◌+◌, ◌-◌, ◌/◌, List, [], ◌∷◌, ◌++◌, map, Option, Some, None, true}
+use Rattle.std.specs.Prelude.{ℕ, zero, suc, ◌≡◌, List, [], ◌∷◌, ◌++◌, map, Option, Some, None, true}
 use Rattle.nic_device.specs.DmaArena.Block.{Block}
 use Rattle.nic_device.specs.DmaArena.Numbers.{Numbers, with_free}
 
@@ -16,10 +16,6 @@ numbers_of bs = map (λ (b : Block). b.number) bs
 abbrev pub with_all_free : Numbers → List ℕ → Numbers
 with_all_free a [] = a
 with_all_free a (n ∷ ns) = with_all_free (with_free a n true) ns
-
--- the most Bufs of a packet where frames have so many bytes with their check sequence
-abbrev pub most_bufs : ℕ → ℕ
-most_bufs frame = (frame - 4 + 2047) / 2048
 
 -- the blocks that stand in some places
 abbrev pub blocks_in : List (Option Block) → List Block

@@ -1,24 +1,14 @@
 //! The Bufs that a packet is in: five at most, one after the other.
 
-ghost use Rattle.pmd_seam.specs.Bufs.{blocks_in, most_bufs, numbers_of};
+ghost use Rattle.pmd_seam.specs.Bufs.{blocks_in, numbers_of};
 ghost use Rattle.nic_device.specs.DmaArena.Whereabouts.{times_in_hand};
-ghost use Rattle.std.specs.Prelude.{◌≡◌, ◌≤◌, ◌<◌, ◌*◌, ◌-◌, ◌↔◌, true, ◌++◌, ◌∷◌, [], length, slice_index_or, option_to_list, IfNone, IsNone};
+ghost use Rattle.std.specs.Prelude.{◌≡◌, ◌≤◌, ◌<◌, ◌↔◌, true, ◌++◌, ◌∷◌, [], length, slice_index_or, option_to_list, IfNone, IsNone};
 
 use nic_device::Buf;
 use std::marker::Model;
 
 /// The most Bufs that a packet is in.
 pub const MOST_BUFS: usize = 5;
-
-/// The most Bufs that a packet is in where frames have `frame` bytes with their check sequence, from 1,518 to 9,728.
-pub fn most_bufs(frame: u16) -> u16
-    requires frame { (1518 ≤ frame) × (frame ≤ 9728) }
-    ensures most { result ≡ most_bufs frame }
-    ensures some { (1 ≤ result) × (result ≤ 5) }
-    ensures room { frame - 4 ≤ 2048 * result }
-{
-    (frame - 4 + 2047) / 2048
-}
 
 /// Bufs of a packet, in order. There may be none.
 pub struct Bufs {

@@ -45,7 +45,10 @@ fn drive<R: Abort + Wait>(
 ) -> Pass {
     let arena = done(rt, Arena::new(alloc, 16 * u32::from(queue), 16));
     let mut nic = ThroughLock::new(rt, bench, pass, queue);
-    let mut pmd = done(rt, Pmd::start(alloc, &mut nic, Port::Pf, queue, 8, 1518, arena));
+    let mut pmd = done(
+        rt,
+        Pmd::start(alloc, &mut nic, Port::Pf, queue, 8, 1518, arena),
+    );
     for _frame in 0..FRAMES {
         let bytes = frame.to_vec(alloc).expect(rt, "memory");
         match done(rt, nic.call(alloc, Event::Arrive(Octets::of(bytes)))) {

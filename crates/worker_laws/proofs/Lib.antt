@@ -1,9 +1,13 @@
+pub mod Asked
 pub mod Counted
 pub mod Early
 pub mod FirstCalls
+pub mod Fitting
 pub mod Grounded
 pub mod Lived
 pub mod Named
+pub mod NeverOn
+pub mod Off
 pub mod Order
 pub mod Refused
 pub mod Standing

@@ -1,9 +1,8 @@
 -- Whether a driver begins well: its port and queue name its queue as it starts, and frames are as long as it was told;
 -- by the entries before.
-use Rattle.std.specs.Prelude.{ℕ, ◌≡◌, ◌-◌, ◌==◌, not, ◌&&◌, Bool, true, false, List, [], ◌∷◌, length, Option, Some, None, if◌then◌else◌}
-use Rattle.pmd.specs.PmdSeam.Events.{is_step}
+use Rattle.std.specs.Prelude.{ℕ, ◌≡◌, ◌==◌, ◌&&◌, Bool, false, List, length, Option, Some, None}
 use Rattle.pmd.specs.PmdSeam.Frames.{packet_limit}
-use Rattle.workers.specs.DeviceLock.Told.{first_settings, limit_of, settings_after, settings_through}
+use Rattle.workers.specs.DeviceLock.Told.{first_settings, limit_of, settings_through}
 use Rattle.workers.specs.DeviceLock.declared.alone.Watched.{Watched}
 use Rattle.workers.specs.DeviceLock.declared.entry.Call.{Call}
 use Rattle.workers.specs.DeviceLock.declared.entry.Entry.{Entry}
@@ -23,7 +22,7 @@ BeginsWell w from start h =
     (old : List Call) → length old ≡ from → (x : Starts w.pass old h) →
     Fits w (settings_through w.vfs first_settings x.before) start
 
--- the test that goes through the entries once
+-- the test of such settings
 
 abbrev pub is_queue : Option ℕ → ℕ → Bool
 is_queue None queue = false
@@ -32,18 +31,3 @@ is_queue (Some named) queue = named == queue
 abbrev pub begins : Watched → Settings → Given → Bool
 begins w s x =
     is_queue (queue_at s.mode w.vfs x.port x.queue) w.queue && (limit_of s.frames == packet_limit x.frame)
-
--- whether an entry is the first of a driver's own, where so many calls of its pass are left before it
-abbrev pub is_first : Watched → ℕ → Entry → Bool
-is_first w left e = (e.pass == w.pass) && ((left == 0) && not (is_step e.event))
-
--- how many are left behind an entry
-abbrev pub left_behind : Watched → ℕ → Entry → ℕ
-left_behind w left e = if e.pass == w.pass then left - 1 else left
-
-abbrev pub rest_begins : Watched → Given → Settings → ℕ → List Entry → Bool
-rest_begins w start s left [] = true
-rest_begins w start s left (e ∷ es) =
-    if is_first w left e
-    then begins w s start
-    else rest_begins w start (settings_after w.vfs s e.event) (left_behind w left e) es

@@ -1,3 +1,5 @@
+pub mod Before
 pub mod Beginning
 pub mod Order
+pub mod Quiet
 pub mod Starts

@@ -78,7 +78,8 @@ pub record IsEndIn (vfs fifo : ℕ) (h : List Entry) (j : Job) (e : WorkerEnd) :
   -- `begins_well` tells this, where it answers so
   pub begins :
       BeginsWell (record { vfs = vfs; pass = e.pass.tag; queue = j.pf_queue }) (length j.pass.calls) (given_of j) h
-  -- the end has no fault, or both sides of the queue are off there and not wanted on
+  -- the end has no fault, or both sides of the queue are off there and not wanted on; `never_asked_on` tells this too,
+  -- where it answers so (`specs/Quiet`)
   pub quiet : (e.fault ≡ None) ⊎ JustBefore vfs fifo e.pass.tag j.pass.calls h (IsQuiet j.pf_queue (queue_of j) j.frame)
 
 -- up to where the end's pass had made just its calls, the driver has a first entry; or it left nothing

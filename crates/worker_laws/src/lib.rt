@@ -1,14 +1,19 @@
 //! What the ends of workers say of the history of their device.
 //!
-//! The law is the contract of a function that does nothing. `specs/Order` says it by what `workers::run_workers`, the
-//! closing of a shared device and `left_alone` tell, and `begins_well` beside it.
+//! Each law is the contract of a function that does nothing. `specs/Order` says the first by what
+//! `workers::run_workers`, the closing of a shared device and `left_alone` tell, and `begins_well` beside it;
+//! `specs/Quiet` says the second by what `never_asked_on` tells.
 #![tactic(auto)]
 
+mod before;
 mod beginning;
+mod quiet;
 
 ghost use Rattle.worker_laws.specs.Order.{CallsStand, HandedIsPrefix, NoneIsLeft, SentIsPrefix};
+ghost use Rattle.worker_laws.specs.Quiet.{NeverAskedIsQuiet};
 
 pub use beginning::{Given, begins_well};
+pub use quiet::never_asked_on;
 
 /// Over the history of a shared device that was closed, which leaves the queue of a job alone: the packets that the
 /// job's driver handed out, as its end tells them, are a prefix of those delivered on the queue, and the frames sent
@@ -23,4 +28,11 @@ pub fn worker_in_order()
     ensures none { NoneIsLeft }
     ensures handed { HandedIsPrefix }
     ensures sent { SentIsPrefix }
+{}
+
+/// Over the history of a device that was new: where `begins_well` says so of a driver, and `never_asked_on` of its
+/// queue, both sides of the queue are off and not wanted on just before the first event of the driver's own, as
+/// `worker_in_order` asks where a worker's end has a fault.
+pub fn worker_starts_quiet()
+    ensures { NeverAskedIsQuiet }
 {}

@@ -8,6 +8,8 @@
 #[cfg(test)]
 mod bench;
 #[cfg(test)]
+mod bursts;
+#[cfg(test)]
 mod deeds;
 #[cfg(test)]
 mod driver;

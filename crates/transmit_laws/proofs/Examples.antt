@@ -1,10 +1,12 @@
 -- The definitions on small examples.
-use Rattle.std.proofs.Common.{◌≡◌, [], ◌∷◌, refl, Some, None}
+use Rattle.std.proofs.Common.{◌≡◌, ℕ, [], ◌∷◌, replicate, refl, Some, None, arith}
+use Rattle.std.proofs.lemmas.List.{length-replicate}
 use Rattle.nic_device.specs.declared.event.Event.TheVariants as event
+use Rattle.nic_device.specs.declared.event.Port.TheVariants.{Pf}
 use Rattle.nic_device.specs.declared.event.Reply.TheVariants as reply
 use Rattle.device_lock.specs.History.{entry_of}
 use Rattle.device_lock.specs.declared.entry.Entry.{Entry}
-use Rattle.pmd_tx.specs.Sending.{Move, Looks, Reaps}
+use Rattle.pmd_tx.specs.Sending.{Accepts, Advances, IsOwn, Looks, Move, Outgoing, Reaps, Sender, accepted_by, advanced, asked, at_start}
 use Rattle.transmit_laws.specs.Sent.{frames_added}
 use Rattle.transmit_laws.specs.Turns.{Turn, turns_of}
 
@@ -28,3 +30,39 @@ turn e m = record { entry = e; move = Some m }
 two_moves : turns_of 2 (Looks ∷ Reaps ∷ []) (look ∷ other ∷ reap ∷ [])
     ≡ turn look Looks ∷ record { entry = other; move = None } ∷ turn reap Reaps ∷ []
 two_moves = refl
+
+-- two packets of 60 bytes go out behind one write of the tail: with the first in its slot and the tail before it, the
+-- second may be accepted, and then the tail moves on behind both
+
+abbrev packet : ℕ → Outgoing
+packet block = record { blocks = block ∷ []; kept = record { bytes = replicate 60 0; rss = 0; hash = 0 } }
+
+abbrev one_in : Sender
+one_in = asked (accepted_by (at_start Pf 0xE018 16 8 1514) (packet 3))
+
+abbrev both_in : Sender
+both_in = asked (accepted_by one_in (packet 4))
+
+second_may : IsOwn one_in (Accepts (packet 4)) (event.Lend (record { number = 4; bytes = replicate 2048 0 }))
+second_may = record {
+  long = omega arith;
+  short = omega arith;
+  each = refl;
+  room = omega arith;
+  lent = refl;
+  asked = refl;
+  first = record {
+    short = omega arith;
+    number = refl;
+    bytes = refl;
+    whole = length-replicate {A = ℕ} 2048 0;
+    low = omega arith;
+    away = refl;
+  };
+}
+
+one_tail : IsOwn both_in Advances (event.Write Pf 0xE018 2)
+one_tail = (refl, omega arith, refl, refl, refl)
+
+both_out : (advanced both_in).posted ≡ 2
+both_out = refl

@@ -1,9 +1,10 @@
 -- Facts of each block that the driver has lent for receiving.
-use Rattle.std.proofs.Common.{ℕ, ◌+◌}
+use Rattle.std.proofs.Common.{ℕ, ◌+◌, ◌<◌, length, subst}
 use Rattle.pmd_rx.specs.Receive.{Receive, block_at, reach}
 use Rattle.pmd_rx.specs.declared.ring.Stage.{Stage}
 use Rattle.pmd_rx.specs.declared.ring.Stage.TheVariants.{Looks, Takes, Owes, Lent}
 use Rattle.receive_laws.specs.Steps.{Each, IfFresh}
+use Rattle.receive_laws.proofs.Reach.{posted_below, posted_block}
 
 -- the blocks that the driver has lent
 
@@ -32,3 +33,8 @@ each_of v P f = record {
   blocks = λ k i. f (block_at (reach v) k);
   fresh = fresh_of v.stage P f;
 }
+
+-- so of the block of each posted slot
+pub each_posted : (v : Receive) (P : ℕ → Type 0) → Each v P
+    → (k : ℕ) → k < length v.layout.blocks → P (block_at v.layout k)
+each_posted v P e k i = subst P (posted_block v k i) (e.blocks k (posted_below v k i))

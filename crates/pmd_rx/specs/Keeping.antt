@@ -7,37 +7,46 @@ use Rattle.pmd_seam.specs.Home.{Exchanges}
 use Rattle.pmd_seam.specs.Slots.{ring_blocks}
 use Rattle.pmd_seam.specs.declared.fault.PmdFault.{PmdFault}
 use Rattle.pmd_seam.specs.declared.packet.Packet.{Packet}
-use Rattle.pmd_rx.specs.Receive.{Receive, Layout, extended}
+use Rattle.pmd_rx.specs.Receive.{Receive, Layout, extended, reach}
 use Rattle.pmd_rx.specs.declared.ring.Stage.{Stage}
-use Rattle.pmd_rx.specs.declared.ring.Stage.TheVariants.{Looks, Takes, Owes, Lent, Named}
+use Rattle.pmd_rx.specs.declared.ring.Stage.TheVariants.{Looks, Takes, Owes, Lent}
 
--- the block that is lent and not posted yet
+-- the block that is lent and not named yet
 abbrev pub fresh_block : Stage → List ℕ
 fresh_block Looks = []
 fresh_block Takes = []
 fresh_block Owes = []
 fresh_block (Lent b) = b ∷ []
-fresh_block (Named b) = b ∷ []
 
 -- the blocks of a packet, where there is one
 abbrev pub numbers_in : Option Packet → List ℕ
 numbers_in None = []
 numbers_in (Some p) = numbers_of p.bufs
 
--- the blocks that the driver has lent: those that stand in the ring, a fresh one, and those that the ring is in
+-- the blocks of packets
+abbrev pub numbers_of_all : List Packet → List ℕ
+numbers_of_all [] = []
+numbers_of_all (p ∷ ps) = numbers_of p.bufs ++ numbers_of_all ps
+
+-- the blocks that the driver has lent: those that stand in the ring or are named behind its tail, a fresh one, and those
+-- that the ring is in
 abbrev pub lent_at : Layout → Stage → List ℕ
 lent_at l s = l.blocks ++ (fresh_block s ++ ring_blocks l.ring l.size)
 
 abbrev pub lent_of : Receive → List ℕ
-lent_of v = lent_at v.layout v.stage
+lent_of v = lent_at (reach v) v.stage
 
 -- whether the driver has a block lent: it is one of the ring's, of its slots', or a fresh one
 abbrev pub has_lent : Receive → ℕ → Bool
 has_lent v number = list_any (λ b. number == b) (lent_of v)
 
--- all that it has: those, and the blocks of the packet that it holds
+-- those of the packets that it has: the whole ones, and the one of which parts were taken
+abbrev pub blocks_held : Receive → List ℕ
+blocks_held v = numbers_of_all v.whole ++ numbers_of v.held.bufs
+
+-- all that it has
 abbrev pub blocks_out : Receive → List ℕ
-blocks_out v = lent_of v ++ numbers_of v.held.bufs
+blocks_out v = lent_of v ++ blocks_held v
 
 -- the blocks of the packet that a call hands out
 abbrev pub handed_blocks : Result (Option Packet) PmdFault → List ℕ
@@ -50,7 +59,6 @@ vacated Looks = 0
 vacated Takes = 0
 vacated Owes = 1
 vacated (Lent b) = 1
-vacated (Named b) = 1
 
 -- where it looks, fewer slots are seen than a packet may have, and there is a part to take where it takes; a block is
 -- lent to be posted only where a part is held
@@ -59,13 +67,14 @@ IsAmid v Looks = length v.seen < v.layout.most
 IsAmid v Takes = 0 < length v.seen
 IsAmid v Owes = 0 < length v.held.bufs
 IsAmid v (Lent b) = 0 < length v.held.bufs
-IsAmid v (Named b) = 0 < length v.held.bufs
 
--- a driver that was started: all slots but one are posted, or all but two where one is to be refilled
+-- a driver that was started: all slots but one have a block, or all but two where one is to be refilled, and as many
+-- are named and not posted as parts were taken and replaced
 pub record IsRunning (v : Receive) : Type 0 where
   pub part : 0 < v.layout.most
   pub some : v.layout.most < v.layout.size
-  pub full : length v.layout.blocks + vacated v.stage + 1 ≡ v.layout.size
+  pub full : length v.layout.blocks + length v.named + vacated v.stage + 1 ≡ v.layout.size
+  pub replaced : length v.named + vacated v.stage ≡ length (blocks_held v)
   pub stage : IsAmid v v.stage
 
 -- the same ring at the same port
@@ -87,4 +96,4 @@ pub record Keeps (a : Numbers) (v : Receive) (b : Numbers) (w : Receive) (out : 
 abbrev pub Posts : Numbers → Receive → Numbers → Receive → Type 0
 Posts a v b w =
     (block : ℕ) × (is_free a block ≡ true) × (b ≡ with_free a block false)
-    × (w ≡ record v { layout = extended v.layout block })
+    × (w ≡ record v { layout = extended v.layout (block ∷ []) })

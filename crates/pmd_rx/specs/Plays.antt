@@ -71,4 +71,6 @@ pub record LooksInVain (old : List Call) (v : Receive) (new : List Call) (w : Re
   pub stage : w.stage ≡ Looks
   pub posted : length w.seen < length w.layout.blocks
   pub holds_none : w.held ≡ no_packet
+  pub none_whole : w.whole ≡ []
+  pub none_named : w.named ≡ []
   pub left : w ≡ record v { seen = w.seen }

@@ -1,5 +1,5 @@
 -- What a driver knows of its receive ring, and how that follows from its own calls.
-use Rattle.std.specs.Prelude.{ℕ, ◌≡◌, ◌≢◌, ◌+◌, ◌*◌, ◌<◌, ◌==◌, ◌&&◌, Bool, false, nat_le, nat_lt, List, [], ◌∷◌, ◌++◌, length, drop, slice_index, Option, Some, None, if◌then◌else◌, ⊤}
+use Rattle.std.specs.Prelude.{ℕ, ◌≡◌, ◌≢◌, ◌+◌, ◌*◌, ◌<◌, ◌==◌, ◌&&◌, Bool, false, nat_le, nat_lt, List, [], ◌∷◌, ◌++◌, ◌⊎◌, ◌≤◌, length, take, drop, map, slice_index, if◌then◌else◌, ⊤}
 use Rattle.nic_device.specs.DmaArena.Block.{Block}
 use Rattle.nic_device.specs.DmaRing.Descriptor.{second_half, first_half, of_halves}
 use Rattle.nic_device.specs.DmaRing.Driver.{posted, rss_in, hash_in}
@@ -14,7 +14,7 @@ use Rattle.pmd_seam.specs.Packet.{Kept, kept_of}
 use Rattle.pmd_seam.specs.Slots.{wrapped, descriptor_in, is_ring_block}
 use Rattle.pmd_seam.specs.declared.packet.Packet.{Packet}
 use Rattle.pmd_rx.specs.declared.ring.Stage.{Stage}
-use Rattle.pmd_rx.specs.declared.ring.Stage.TheVariants.{Looks, Takes, Owes, Lent, Named}
+use Rattle.pmd_rx.specs.declared.ring.Stage.TheVariants.{Looks, Takes, Owes, Lent}
 use Rattle.pmd_rx.specs.declared.ring.Told.{Told}
 
 -- the ring: the port, the number that the tail's register has there, the block that the ring begins with, its number
@@ -29,13 +29,16 @@ pub record Layout : Type 0 where
   pub next : ℕ
   pub blocks : List ℕ
 
--- the ring, what was handed out, what descriptors from the next slot on told, the packet of which parts were taken, and
--- the stage. That packet is handed out as the tail moves on behind its last part
+-- the ring, what was handed out, what descriptors from the next slot on told, the packet of which parts were taken, the
+-- whole packets, in the places of whose blocks fresh ones are named, the named blocks behind the tail, and the stage. The
+-- named blocks are posted as the tail moves on, and whole packets are handed out then
 pub record Receive : Type 0 where
   pub layout : Layout
   pub handed : List Kept
   pub seen : List Told
   pub held : Packet
+  pub whole : List Packet
+  pub named : List ℕ
   pub stage : Stage
 
 -- the slot that comes so many after the next one, where its descriptor is, and its block
@@ -48,9 +51,16 @@ descriptor_at l k = descriptor_in l.ring (slot_at l k)
 abbrev pub block_at : Layout → ℕ → ℕ
 block_at l k = slice_index l.blocks k
 
--- the vacant slot is the one at the tail
+-- the first vacant slot, at the tail
 abbrev pub vacant : Layout → ℕ
 vacant l = length l.blocks
+
+-- the ring with these blocks behind the tail, and the ring as far as its slots have a block: those that are named are in
+abbrev pub extended : Layout → List ℕ → Layout
+extended l bs = record l { blocks = l.blocks ++ bs }
+
+abbrev pub reach : Receive → Layout
+reach v = extended v.layout v.named
 
 -- a packet of no part
 abbrev pub no_packet : Packet
@@ -82,7 +92,6 @@ fresh_of Looks = 0
 fresh_of Takes = 0
 fresh_of Owes = 0
 fresh_of (Lent b) = b
-fresh_of (Named b) = b
 
 -- the descriptor that names a block
 abbrev pub naming : ℕ → List ℕ
@@ -117,17 +126,14 @@ took v (t ∷ seen) b = record v {
 abbrev pub lent_one : Receive → ℕ → Receive
 lent_one v b = record v { stage = Lent b }
 
-abbrev pub named : Receive → Receive
-named v = record v { stage = Named (fresh_of v.stage) }
+-- the packet that is held, where no part of it is to be taken still; there may be none
+abbrev pub if_any : List Block → Packet → List Packet
+if_any [] p = []
+if_any (b ∷ bs) p = p ∷ []
 
--- the packet that is handed out as the tail moves on: the one that is held, where no part of it is to be taken still
-abbrev pub if_any : List Block → Packet → Option Packet
-if_any [] p = None
-if_any (b ∷ bs) p = Some p
-
-abbrev pub out_of : List Told → Packet → Option Packet
-out_of [] p = if_any p.bufs p
-out_of (t ∷ seen) p = None
+abbrev pub ended_of : List Told → Packet → List Packet
+ended_of [] p = if_any p.bufs p
+ended_of (t ∷ seen) p = []
 
 -- what is held then
 abbrev pub left_of : List Told → Packet → Packet
@@ -138,29 +144,54 @@ abbrev pub next_stage : List Told → Stage
 next_stage [] = Looks
 next_stage (t ∷ seen) = Takes
 
--- what is kept of a packet, where there is one
-abbrev pub listed : Option Packet → List Kept
-listed None = []
-listed (Some p) = kept_of p ∷ []
-
--- the tail moves on: the block is posted
-abbrev pub extended : Layout → ℕ → Layout
-extended l b = record l { blocks = l.blocks ++ b ∷ [] }
-
-abbrev pub moved : Receive → Receive
-moved v = record v {
-  layout = extended v.layout (fresh_of v.stage);
-  handed = v.handed ++ listed (out_of v.seen v.held);
+-- the first vacant slot names the block that is lent: behind its last part a packet is whole
+abbrev pub names : Receive → Receive
+names v = record v {
+  named = v.named ++ fresh_of v.stage ∷ [];
+  whole = v.whole ++ ended_of v.seen v.held;
   held = left_of v.seen v.held;
   stage = next_stage v.seen;
 }
+
+-- what is kept of packets
+abbrev pub records_of : List Packet → List Kept
+records_of ps = map kept_of ps
+
+-- the tail moves on over so many named blocks, and so many whole packets are handed out: the oldest ones
+abbrev pub posts : Receive → ℕ → ℕ → Receive
+posts v blocks packets = record v {
+  layout = extended v.layout (take blocks v.named);
+  handed = v.handed ++ records_of (take packets v.whole);
+  whole = drop packets v.whole;
+  named = drop blocks v.named;
+}
+
+-- the number of parts of the oldest packet
+abbrev pub parts_first : List Packet → ℕ
+parts_first [] = 0
+parts_first (p ∷ ps) = length p.bufs
+
+-- the tail's word once so many more slots are posted
+abbrev pub tail_behind : Layout → ℕ → ℕ
+tail_behind l more = slot_at l (vacant l + more)
+
+-- the tail moves on over the blocks of one whole packet, or over all that are named
+abbrev pub posts_one : Receive → Receive
+posts_one v = posts v (parts_first v.whole) 1
+
+abbrev pub posts_all : Receive → Receive
+posts_all v = posts v (length v.named) (length v.whole)
+
+-- which of these it is, its word tells
+abbrev pub moved : Receive → ℕ → Receive
+moved v word = if word == tail_behind v.layout (parts_first v.whole) then posts_one v else posts_all v
 
 abbrev pub drive : Receive → Event Block → Reply Block → Receive
 drive v (event.Peek16 a) (reply.Bytes d) = looked v d
 drive v (event.Take n) (reply.Buf b) = took v v.seen b
 drive v (event.Lend b) reply.Done = lent_one v b.number
-drive v (event.Poke16 a bytes) reply.Done = named v
-drive v (event.Write port number word) reply.Done = moved v
+drive v (event.Poke16 a bytes) reply.Done = names v
+drive v (event.Write port number word) reply.Done = moved v word
 drive v e r = v
 
 -- what the driver may do next: each event belongs to a stage, and reads nothing of the device
@@ -180,7 +211,6 @@ CanLend Looks seen = seen ≡ []
 CanLend Takes seen = ⊥
 CanLend Owes seen = ⊤
 CanLend (Lent b) seen = ⊥
-CanLend (Named b) seen = ⊥
 
 -- it lent a block that no descriptor names yet
 abbrev pub HasLent : Stage → Type 0
@@ -188,15 +218,6 @@ HasLent Looks = ⊥
 HasLent Takes = ⊥
 HasLent Owes = ⊥
 HasLent (Lent b) = ⊤
-HasLent (Named b) = ⊥
-
--- a descriptor names the block that it lent
-abbrev pub HasNamed : Stage → Type 0
-HasNamed Looks = ⊥
-HasNamed Takes = ⊥
-HasNamed Owes = ⊥
-HasNamed (Lent b) = ⊥
-HasNamed (Named b) = ⊤
 
 -- it looks at the slot behind those that it saw
 pub record PeeksNext (v : Receive) (a : ℕ) : Type 0 where
@@ -212,18 +233,25 @@ pub record TakesNext (v : Receive) (n : ℕ) : Type 0 where
 
 pub record LendsNext (v : Receive) (b : Block) : Type 0 where
   pub stage : CanLend v.stage v.seen
-  pub may : MayLend v.layout b
+  pub may : MayLend (reach v) b
 
 pub record NamesNext (v : Receive) (a : ℕ) (bytes : List ℕ) : Type 0 where
   pub stage : HasLent v.stage
-  pub address : a ≡ descriptor_at v.layout (vacant v.layout)
+  pub address : a ≡ descriptor_at v.layout (vacant (reach v))
   pub bytes_are : bytes ≡ naming (fresh_of v.stage)
 
+-- it moves the tail on over the blocks of the oldest whole packet
+pub record MovesOne (v : Receive) (word : ℕ) : Type 0 where
+  pub some : 0 < length v.whole
+  pub few : parts_first v.whole ≤ length v.named
+  pub word_is : word ≡ tail_behind v.layout (parts_first v.whole)
+
+-- over these, or over all that are named
 pub record MovesNext (v : Receive) (port : Port) (number word : ℕ) : Type 0 where
-  pub stage : HasNamed v.stage
+  pub some : 0 < length v.named
   pub port_is : port ≡ v.layout.port
   pub number_is : number ≡ v.layout.tail
-  pub word_is : word ≡ slot_at v.layout (vacant v.layout + 1)
+  pub word_is : MovesOne v word ⊎ (word ≡ tail_behind v.layout (length v.named))
 
 abbrev pub IsOwn : Receive → Event Block → Type 0
 IsOwn v (event.Peek16 a) = PeeksNext v a
@@ -233,10 +261,6 @@ IsOwn v (event.Poke16 a bytes) = NamesNext v a bytes
 IsOwn v (event.Write port number word) = MovesNext v port number word
 IsOwn v e = ⊥
 
--- the tail moved on with this block
-abbrev pub refilled : Receive → ℕ → Receive
-refilled v b = moved (record v { stage = Named b })
-
 -- a driver as its queue goes on: no slot is posted
 abbrev pub at_start : Port → ℕ → ℕ → ℕ → ℕ → Receive
 at_start port tail ring size most = record {
@@ -244,5 +268,7 @@ at_start port tail ring size most = record {
   handed = [];
   seen = [];
   held = no_packet;
+  whole = [];
+  named = [];
   stage = Looks;
 }

@@ -12,13 +12,13 @@ use Rattle.pmd_seam.specs.declared.fault.PmdFault.{PmdFault}
 use Rattle.pmd_seam.specs.declared.fault.PmdFault.TheVariants as fault
 use Rattle.pmd_seam.specs.DeviceLock.declared.entry.Call.{Call}
 use Rattle.pmd_seam.specs.declared.packet.Packet.{Packet}
-use Rattle.pmd_rx.specs.Receive.{Receive, slot_at, descriptor_at, vacant, Layout, no_packet, is_part, saw}
-use Rattle.pmd_rx.specs.Keeping.{vacated}
+use Rattle.pmd_rx.specs.Receive.{Receive, slot_at, descriptor_at, tail_behind, extended, Layout, no_packet, is_part, saw}
+use Rattle.pmd_rx.specs.Keeping.{vacated, numbers_of_all}
 use Rattle.pmd_rx.specs.Wrong.{PacketWaits, wanted}
 use Rattle.pmd_rx.specs.declared.receive.Look.{Look}
 use Rattle.pmd_rx.specs.declared.receive.Look.TheVariants as look
 use Rattle.pmd_rx.specs.declared.ring.Stage.{Stage}
-use Rattle.pmd_rx.specs.declared.ring.Stage.TheVariants.{Looks, Takes, Owes, Lent, Named}
+use Rattle.pmd_rx.specs.declared.ring.Stage.TheVariants.{Looks, Takes, Owes, Lent}
 use Rattle.pmd_rx.specs.declared.ring.Told.{Told}
 
 -- a ring of 8 to 1,024 slots, in blocks of bus memory that follow one another
@@ -38,35 +38,38 @@ StandsAt Looks l seen held = (held ≡ no_packet) × (length seen < l.most)
 StandsAt Takes l seen held = 0 < length seen
 StandsAt Owes l seen held = ⊤
 StandsAt (Lent b) l seen held = (length l.blocks + 1 < l.size) × (b < 65536)
-StandsAt (Named b) l seen held = (length l.blocks + 1 < l.size) × (b < 65536)
 
 -- a part has no more bytes than a block
 abbrev pub FitsBlock : Told → Type 0
 FitsBlock t = bytes_in t.second ≤ 2048
 
--- the parts that are held and seen are at most those of a packet, and the seen ones stand in posted slots
-pub record IsInStep (l : Layout) (seen : List Told) (held : Packet) (s : Stage) : Type 0 where
-  pub stage : StandsAt s l seen held
+-- the parts that are held and seen are at most those of a packet, and the seen ones stand in posted slots; a whole packet
+-- has a part, and for each part of one a block is named
+pub record IsInStep (l : Layout) (seen : List Told) (held : Packet) (whole : List Packet) (named : List ℕ) (s : Stage)
+    : Type 0 where
+  pub stage : StandsAt s (extended l named) seen held
   pub few : length held.bufs + length seen ≤ l.most
   pub bytes : held.len ≤ 2048 * length held.bufs
   pub parts : All FitsBlock seen
   pub within : length seen ≤ length l.blocks
+  pub some : All (λ (p : Packet). 0 < length p.bufs) whole
+  pub replaced : length (numbers_of_all whole) ≤ length named
 
-abbrev pub IsSteady : Layout → List Told → Packet → Stage → Type 0
-IsSteady l seen held s = IsLaidOut l × IsInStep l seen held s
+abbrev pub IsSteady : Layout → List Told → Packet → List Packet → List ℕ → Stage → Type 0
+IsSteady l seen held whole named s = IsLaidOut (extended l named) × IsInStep l seen held whole named s
 
--- the tail of the receive ring was moved on by one, or the port has no such register
-abbrev pub IsTailWritten : List Call → List Call → Layout → Bool → Type 0
-IsTailWritten old new l known = IsWritten old new l.port l.tail (slot_at l (vacant l + 1)) known
+-- the tail of the receive ring was moved on by so many, or the port has no such register
+abbrev pub IsTailWritten : List Call → List Call → Layout → ℕ → Bool → Type 0
+IsTailWritten old new l more known = IsWritten old new l.port l.tail (tail_behind l more) known
 
 -- why the tail isn't moved: the port has no such register, or a call was refused
-abbrev pub IsUnwritten : PmdFault → List Call → List Call → Layout → Type 0
-IsUnwritten fault.DeviceFault old new l = IsTailWritten old new l false
-IsUnwritten (fault.Call refusal) old new l = AddsSome old new
-IsUnwritten fault.BadSize old new l = ⊥
-IsUnwritten fault.ForeignBlock old new l = ⊥
-IsUnwritten fault.StartTimeout old new l = ⊥
-IsUnwritten fault.NoBuffer old new l = ⊥
+abbrev pub IsUnwritten : PmdFault → List Call → List Call → Layout → ℕ → Type 0
+IsUnwritten fault.DeviceFault old new l more = IsTailWritten old new l more false
+IsUnwritten (fault.Call refusal) old new l more = AddsSome old new
+IsUnwritten fault.BadSize old new l more = ⊥
+IsUnwritten fault.ForeignBlock old new l more = ⊥
+IsUnwritten fault.StartTimeout old new l more = ⊥
+IsUnwritten fault.NoBuffer old new l more = ⊥
 
 -- a look found its slot not done
 pub record LooksOnce (old : List Call) (v : Receive) (new : List Call) (w : Receive) : Type 0 where

@@ -15,7 +15,7 @@ use Rattle.pmd_seam.specs.declared.fault.PmdFault.TheVariants as fault
 use Rattle.pmd_rx.specs.Plays.{LendsFree, PlaysFrom}
 use Rattle.pmd_rx.specs.Receive.{Receive, IsOwn, is_part}
 use Rattle.pmd_rx.specs.declared.ring.Stage.{Stage}
-use Rattle.pmd_rx.specs.declared.ring.Stage.TheVariants.{Looks, Takes, Owes, Lent, Named}
+use Rattle.pmd_rx.specs.declared.ring.Stage.TheVariants.{Looks, Takes, Owes, Lent}
 
 -- a descriptor that isn't done, or tells of a part of a packet that comes behind those that were seen
 abbrev pub is_whole : Receive → List ℕ → Bool
@@ -43,7 +43,6 @@ PacketWaits Looks = ⊥
 PacketWaits Takes = ⊤
 PacketWaits Owes = ⊤
 PacketWaits (Lent b) = ⊤
-PacketWaits (Named b) = ⊤
 
 -- how many free blocks are wanted: one in the place of each part that was seen, and one where a block is to be lent
 abbrev pub owed : Stage → ℕ
@@ -51,7 +50,6 @@ owed Looks = 1
 owed Takes = 0
 owed Owes = 1
 owed (Lent b) = 0
-owed (Named b) = 0
 
 abbrev pub wanted : Receive → ℕ
 wanted v = length v.seen + owed v.stage
@@ -63,6 +61,8 @@ pub record IsShort (a : Numbers) (v : Receive) (b : Numbers) (w : Receive) : Typ
   pub layout : w.layout ≡ v.layout
   pub handed : w.handed ≡ v.handed
   pub held : w.held ≡ v.held
+  pub whole : w.whole ≡ v.whole
+  pub named : w.named ≡ v.named
 
 -- the event that was refused is one that the driver may make next: a look at the next slot, a take of the block there,
 -- a lend of a block that is free in an arena, the name of one in the vacant slot, or a move of the tail

@@ -1,5 +1,5 @@
 -- The slot at the head of the driver's queue was filled: the head moved on, and the two agree on one piece more.
-use Rattle.std.proofs.Common.{◌≡◌, ℕ, ◌+◌, ◌^◌, ◌<◌, List, [], ◌∷◌, ◌++◌, length, sym, ap, ◌∙◌, subst, Ok, append_assoc}
+use Rattle.std.proofs.Common.{◌≡◌, ℕ, ◌+◌, ◌^◌, ◌<◌, List, [], ◌∷◌, ◌++◌, length, sym, ap, ◌∙◌, subst, arith, Ok, append_assoc}
 use Rattle.std.proofs.lemmas.List.{length_push}
 use Rattle.nic_device.specs.DmaArena.Memory.{Memory}
 use Rattle.nic_device.specs.DmaRing.Ring.{slots_of, next_of}
@@ -15,12 +15,13 @@ use Rattle.nic_device.specs.State.{State}
 use Rattle.history_laws.specs.DeviceLaws.Replies.{moved_on}
 use Rattle.history_laws.specs.Left.{fill_on}
 use Rattle.history_laws.specs.Segments.{piece_in}
-use Rattle.pmd_rx.specs.Receive.{Layout, Receive, slot_at, descriptor_at, block_at}
+use Rattle.pmd_rx.specs.Receive.{Layout, Receive, slot_at, descriptor_at, block_at, reach}
 use Rattle.receive_laws.specs.Joint.{IsSetUp, StageHolds, HasSlots, Holds}
 use Rattle.receive_laws.specs.Pieces.{Piece}
 use Rattle.receive_laws.proofs.Filled.{Fills, stage_beside}
 use Rattle.receive_laws.proofs.Kept.{named_kept}
 use Rattle.receive_laws.proofs.Parts.{seen_longer}
+use Rattle.receive_laws.proofs.Reach.{posted_below}
 use Rattle.receive_laws.proofs.Receiving.{fills_here, head_on, slots_more}
 
 -- a side whose head moved on from the first slot that wasn't filled
@@ -46,24 +47,26 @@ module _ (queue : ℕ) (s : State) (out : List Piece) (v : Receive) (sound : IsS
       → mode_in t.registers ≡ mode_in s.registers → t.vfs ≡ s.vfs
       → Holds queue t (out ++ piece_in rest f ∷ []) v gone (here ++ piece_in rest f ∷ [])
   filled_holds gone here h room rest f t fits is memory side mode vfs =
-      let l = v.layout in
+      let l = reach v in
       let p : Piece = piece_in rest f in
       let n : Memory = (fill_on s queue rest).memory in
       let fill : Fills s.memory n (descriptor_at l (length here)) (block_at l (length here)) p =
-      fills_here s queue l here h.ring h.side h.slots room sound.blocks.whole rest f fits is in
+      fills_here queue s out v gone here h room sound.blocks.whole rest f fits is in
       let taken = takes_piece s.memory _ _ rest f is in
-      let head = head_on s queue l here h.ring h.side h.slots room rest f is in
+      let head = head_on queue s out v gone here h room rest f is in
+      let low = posted_below v (length here) room in
       let more : length (here ++ p ∷ []) ≡ length here + 1 = length_push here p in
       record {
-        named = named_kept s t queue l mode vfs h.named;
+        named = named_kept s t queue v.layout mode vfs h.named;
         ring = h.ring;
-        side = subst (λ q. IsSetUp q l (length (here ++ p ∷ []))) (sym side)
-            (set_up_more l (receive_queue_of s.registers queue) (length here) (length (here ++ p ∷ [])) h.side more
-            (sym taken.head ∙ head.0));
+        side = subst (λ q. IsSetUp q v.layout (length (here ++ p ∷ []))) (sym side)
+            (set_up_more v.layout (receive_queue_of s.registers queue) (length here) (length (here ++ p ∷ [])) h.side
+            more (sym taken.head ∙ head.0));
+        posted = omega (arith, more, room);
         slots = subst (λ m. HasSlots m l (here ++ p ∷ [])) (sym memory)
-            (slots_more s.memory n l here p h.ring h.slots room fill);
+            (slots_more s.memory n l here p h.ring h.slots low fill);
         stage = subst (λ m. StageHolds m l v.stage) (sym memory)
-            (stage_beside l h.ring s.memory n (length here) p room fill v.stage h.stage);
+            (stage_beside l h.ring s.memory n (length here) p low fill v.stage h.stage);
         order = record {
           cut = h.order.cut;
           parts = h.order.parts;

@@ -13,9 +13,9 @@ use Rattle.receive_laws.specs.Joint.{IsPosted, IsFilled, IsRing, IsSetUp, HasSlo
 use Rattle.receive_laws.specs.Pieces.{Piece, no_piece, piece_at}
 use Rattle.receive_laws.proofs.Kept.{SameRing, same_has, filled_kept, posted_kept}
 
-slot_on : (l : Layout) (k : ℕ) → IsRing l → k + 1 < l.size → slot_at (consumed l) k ≡ slot_at l (1 + k)
-slot_on l k ring h =
-    wrapped_next l.size l.next k ring.next (omega (arith, h))
+slot_on : (l : Layout) (k : ℕ) → l.next < l.size → k + 1 < l.size → slot_at (consumed l) k ≡ slot_at l (1 + k)
+slot_on l k next h =
+    wrapped_next l.size l.next k next (omega (arith, h))
     ∙ ap (wrapped l.size) (let e : l.next + (k + 1) ≡ l.next + (1 + k) = omega arith in e)
 
 -- the ring without its next slot
@@ -40,7 +40,7 @@ module _ (m : Memory) (l : Layout) (here : List Piece) (ring : IsRing l) (h : Ha
   piece_on k = get_or-drop 1 here k no_piece
 
   desc_on : (k : ℕ) → k + 1 < l.size → descriptor_at (consumed l) k ≡ descriptor_at l (1 + k)
-  desc_on k i = ap (λ x. 2048 * l.ring + 16 * x) (slot_on l k ring i)
+  desc_on k i = ap (λ x. 2048 * l.ring + 16 * x) (slot_on l k ring.next i)
 
   kept_ring : SameRing l m n
   kept_ring k i =
@@ -105,19 +105,24 @@ module _ (m : Memory) (l : Layout) (here : List Piece) (ring : IsRing l) (h : Ha
         posted = posted_on;
       }
 
+-- the queue's side, by the posted slots
+module _ (l : Layout) (here : List Piece) (next : l.next < l.size) (room : length l.blocks < l.size)
+    (within : length here ≤ length l.blocks) (some : 0 < length here) where
+  pub posted_less : length (drop 1 here) ≤ length (drop 1 l.blocks)
+  posted_less = omega (arith, length-drop 1 here, length-drop 1 l.blocks, within, some)
+
   pub set_up_on : (q : ReceiveQueue) → IsSetUp q l (length here) → IsSetUp q (consumed l) (length (drop 1 here))
   set_up_on q up =
-      let room = ring.room in
-      let within = h.within in
-      let e : 1 + length (drop 1 here) ≡ length here = omega (arith, fewer) in
-      let f : 1 + length (drop 1 l.blocks) ≡ length l.blocks = omega (arith, less) in
+      let e : 1 + length (drop 1 here) ≡ length here = omega (arith, length-drop 1 here, some) in
+      let f : 1 + length (drop 1 l.blocks) ≡ length l.blocks =
+      omega (arith, length-drop 1 l.blocks, within, some) in
       record {
         one_buffer = up.one_buffer;
         buffer_size = up.buffer_size;
         base = up.base;
         sized = up.sized;
         head = up.head ∙ ap (slot_at l) (sym e)
-            ∙ sym (slot_on l (length (drop 1 here)) ring (omega (arith, fewer, within, room)));
+            ∙ sym (slot_on l (length (drop 1 here)) next (omega (arith, e, within, room)));
         tail = up.tail ∙ ap (slot_at l) (sym f)
-            ∙ sym (slot_on l (length (drop 1 l.blocks)) ring (omega (arith, less, room)));
+            ∙ sym (slot_on l (length (drop 1 l.blocks)) next (omega (arith, f, room)));
       }

@@ -12,16 +12,16 @@ use Rattle.device_lock.specs.History.{IsLegal, AreEvents, calls_of, leads_to}
 use Rattle.device_lock.specs.declared.alone.Watched.{Watched}
 use Rattle.device_lock.specs.declared.entry.Entry.{Entry}
 use Rattle.pmd_rx.specs.Plays.{played_by}
-use Rattle.pmd_rx.specs.Receive.{Receive}
+use Rattle.pmd_rx.specs.Receive.{Receive, records_of}
 use Rattle.history_laws.proofs.Alone.{alone_by_entries}
 use Rattle.history_laws.proofs.Sound.{histories_sound}
 use Rattle.history_laws.proofs.Modes.{mode_told}
 use Rattle.receive_laws.specs.Delivered.{IsPrefixOf, delivered, packets_if_any, pieces_in, pieces_since}
-use Rattle.receive_laws.specs.Histories.{FindsNone, HandedIsPrefix, IsDriven, NoneIsAll, NoneIsAllBefore}
+use Rattle.receive_laws.specs.Histories.{FindsNone, ShowsNone, HandedIsPrefix, IsDriven, NoneIsAll, NoneIsAllBefore, NoneIsAllTaken}
 use Rattle.receive_laws.specs.Pieces.{Piece, pieces, packet_told, packets_of, packets_behind}
 use Rattle.pmd_rx.specs.PmdSeam.Packet.{Kept}
 use Rattle.receive_laws.proofs.Histories.{Led, plays}
-use Rattle.receive_laws.proofs.Prefix.{drained, handed_first}
+use Rattle.receive_laws.proofs.Prefix.{all_taken, drained, handed_first}
 
 -- histories in two parts
 
@@ -101,11 +101,21 @@ module _ (w : Watched) (fifo : ℕ) (start rest : List Entry) (v : Receive) (mar
       (subst (λ s. FindsNone s last) (leads-append new start rest) finds))
       ∙ sym delivered_is
 
+  taken : ShowsNone (leads_to new (start ++ rest)) last
+      → last.handed ++ records_of last.whole ≡ delivered w.queue new (start ++ rest)
+  taken shows =
+      sym (all_taken w.queue (leads_to here rest) (pieces_in w.queue here rest) last led.agree
+      (subst (λ s. ShowsNone s last) (leads-append new start rest) shows))
+      ∙ sym delivered_is
+
 pub handed_is_prefix : HandedIsPrefix
 handed_is_prefix = prefix
 
 pub none_is_all : NoneIsAll
 none_is_all = all
+
+pub none_is_all_taken : NoneIsAllTaken
+none_is_all_taken = taken
 
 -- what is delivered stays so
 
@@ -120,7 +130,8 @@ grown p front xs ys more true =
     (rest.0, ap (λ (ks : List Kept). packet_told (front ++ p.bytes) p.first ∷ ks) rest.1)
 grown p front xs ys more false = more (front ++ p.bytes)
 
-pub grows : (front : List ℕ) (xs ys : List Piece) → IsPrefixOf (packets_behind front xs) (packets_behind front (xs ++ ys))
+pub grows : (front : List ℕ) (xs ys : List Piece)
+    → IsPrefixOf (packets_behind front xs) (packets_behind front (xs ++ ys))
 grows front [] ys = (packets_behind front ys, refl)
 grows front (p ∷ xs) ys = grown p front xs ys (λ f. grows f xs ys) p.end
 

@@ -12,9 +12,9 @@ use Rattle.nic_device.specs.RxRing.Laws.{TakesPiece}
 use Rattle.nic_device.proofs.RxRing.Fills.{takes_piece, driver_reads, writes_inside_slot, fill_keeps_blocks}
 use Rattle.history_laws.specs.Segments.{piece_in}
 use Rattle.pmd_rx.specs.PmdSeam.Slots.{is_ring_block}
-use Rattle.pmd_rx.specs.Receive.{Layout, slot_at, descriptor_at, block_at, vacant}
+use Rattle.pmd_rx.specs.Receive.{Layout, slot_at, descriptor_at, block_at}
 use Rattle.pmd_rx.specs.declared.ring.Stage.{Stage}
-use Rattle.pmd_rx.specs.declared.ring.Stage.TheVariants.{Looks, Takes, Owes, Lent, Named}
+use Rattle.pmd_rx.specs.declared.ring.Stage.TheVariants.{Looks, Takes, Owes, Lent}
 use Rattle.receive_laws.specs.Joint.{IsPosted, IsFilled, IsRing, StageHolds}
 use Rattle.receive_laws.specs.Pieces.{Piece}
 use Rattle.receive_laws.proofs.Kept.{IsPosted-kept, IsFilled-kept, IsLoose-kept, slot_below}
@@ -100,7 +100,3 @@ module _ (l : Layout) (ring : IsRing l) (m n : Memory) (at : ℕ) (p : Piece) (r
   stage_beside Takes h = tt
   stage_beside Owes h = tt
   stage_beside (Lent b) h = IsLoose-kept m n l b (f.lent b) h
-  stage_beside (Named b) h = (
-    IsLoose-kept m n l b (f.lent b) h.0,
-    posted_beside (vacant l) b (omega arith) (λ e. absurd (omega (arith, room, e))) h.1,
-  )

@@ -11,11 +11,11 @@ use Rattle.nic_device.proofs.Cases.{either_way}
 use Rattle.pmd_rx.specs.PmdSeam.Slots.{ring_blocks}
 use Rattle.pmd_rx.specs.Keeping.{fresh_block, has_lent}
 use Rattle.pmd_rx.proofs.PmdSeam.Rings.{ring_block_among}
-use Rattle.pmd_rx.specs.Receive.{Receive, MayLend, CanLend, HasLent, HasNamed, LendsNext, PeeksNext, TakesNext, NamesNext, MovesNext, fresh_of, is_part, next_stage, looked, took, lent_one, named, moved}
+use Rattle.pmd_rx.specs.Receive.{Receive, MayLend, CanLend, HasLent, LendsNext, PeeksNext, TakesNext, NamesNext, fresh_of, is_part, next_stage, reach, looked, took, lent_one, names, posts, posts_one, posts_all, parts_first, tail_behind, moved}
 use Rattle.pmd_rx.specs.declared.ring.Stage.{Stage}
-use Rattle.pmd_rx.specs.declared.ring.Stage.TheVariants.{Looks, Takes, Owes, Lent, Named}
+use Rattle.pmd_rx.specs.declared.ring.Stage.TheVariants.{Looks, Takes, Owes, Lent}
 use Rattle.pmd_rx.specs.declared.ring.Told.{Told}
-use Rattle.nic_device.specs.declared.event.Port.{Port}
+use Rattle.receive_laws.proofs.Reach.{posts_blocks}
 
 -- numbers among some
 
@@ -52,13 +52,17 @@ in_none (x ∷ xs) n none =
 abbrev ring_of : Receive → List ℕ
 ring_of v = ring_blocks v.layout.ring v.layout.size
 
+-- the blocks of its slots
+abbrev slots_of : Receive → List ℕ
+slots_of v = (reach v).blocks
+
 module _ (v : Receive) (n : ℕ) where
   abbrev pub Has : Receive → Type 0
   Has w = has_lent v n ≡ true → has_lent w n ≡ true
 
   same_stage : (stage : Stage) → fresh_block v.stage ≡ fresh_block stage → Has (record v { stage = stage })
   same_stage stage e is =
-      subst (λ (fresh : List ℕ). among (v.layout.blocks ++ (fresh ++ ring_of v)) n ≡ true) e is
+      subst (λ (fresh : List ℕ). among (slots_of v ++ (fresh ++ ring_of v)) n ≡ true) e is
 
   looked_fresh : (ends : Bool) → fresh_block (cond ends Takes Looks) ≡ []
   looked_fresh true = refl
@@ -75,39 +79,49 @@ module _ (v : Receive) (n : ℕ) where
   lent_block Takes lent = absurd lent
   lent_block Owes lent = absurd lent
   lent_block (Lent b) lent = refl
-  lent_block (Named b) lent = absurd lent
-
-  pub has_named : (a : ℕ) (bytes : List ℕ) → NamesNext v a bytes → Has (named v)
-  has_named a bytes own = same_stage (Named (fresh_of v.stage)) (lent_block v.stage own.stage)
-
-  named_block : (stage : Stage) → HasNamed stage → fresh_block stage ≡ fresh_of stage ∷ []
-  named_block Looks done = absurd done
-  named_block Takes done = absurd done
-  named_block Owes done = absurd done
-  named_block (Lent b) done = absurd done
-  named_block (Named b) done = refl
 
   next_fresh : (seen : List Told) → fresh_block (next_stage seen) ≡ []
   next_fresh [] = refl
   next_fresh (t ∷ seen) = refl
 
-  pub has_moved : (port : Port) (number word : ℕ) → MovesNext v port number word → Has (moved v)
-  has_moved port number word own has =
+  pub has_named : (a : ℕ) (bytes : List ℕ) → NamesNext v a bytes → Has (names v)
+  has_named a bytes own has =
       let b = fresh_of v.stage in
-      subst (λ (fresh : List ℕ). among ((v.layout.blocks ++ b ∷ []) ++ (fresh ++ ring_of v)) n ≡ true)
-      (sym (next_fresh v.seen))
-      (subst (λ (xs : List ℕ). among xs n ≡ true) (sym (append_assoc v.layout.blocks (b ∷ []) (ring_of v)))
-      (same_stage (Named b) (named_block v.stage own.stage) has))
+      let with_one : List ℕ = v.layout.blocks ++ (v.named ++ b ∷ []) in
+      subst (λ (fresh : List ℕ). among (with_one ++ (fresh ++ ring_of v)) n ≡ true) (sym (next_fresh v.seen))
+      (subst (λ (xs : List ℕ). among (xs ++ ring_of v) n ≡ true)
+      (append_assoc v.layout.blocks v.named (b ∷ []))
+      (subst (λ (xs : List ℕ). among xs n ≡ true) (sym (append_assoc (slots_of v) (b ∷ []) (ring_of v)))
+      (same_stage (Lent b) (lent_block v.stage own.stage) has)))
+
+  has_posted : (blocks packets : ℕ) → Has (posts v blocks packets)
+  has_posted blocks packets has =
+      subst (λ (xs : List ℕ). among (xs ++ (fresh_block v.stage ++ ring_of v)) n ≡ true)
+      (posts_blocks v blocks packets) has
+
+  pub has_moved : (word : ℕ) → Has (moved v word)
+  has_moved word =
+      either_way Has (word == tail_behind v.layout (parts_first v.whole)) (posts_one v) (posts_all v)
+      (has_posted (parts_first v.whole) 1) (has_posted (length v.named) (length v.whole))
+
+  -- without the first block
+  slot_stays : (taken : ℕ) → taken ≡ slice_index v.layout.blocks 0 → n ≢ taken → among (slots_of v) n ≡ true
+      → among (drop 1 v.layout.blocks ++ v.named) n ≡ true
+  slot_stays taken own ne slot = elim (in_either v.layout.blocks v.named n slot) [
+    | inl posted ↦
+        in_first (drop 1 v.layout.blocks) v.named n
+        (in_later v.layout.blocks n (λ e. ne (e ∙ sym own)) posted)
+    | inr named ↦ in_last (drop 1 v.layout.blocks) v.named n named
+  ]
 
   took_has : (seen : List Told) (taken : ℕ) (b : Block) → v.stage ≡ Takes → taken ≡ slice_index v.layout.blocks 0
       → n ≢ taken → Has (took v seen b)
   took_has [] taken b is own ne has = has
   took_has (t ∷ seen) taken b is own ne has =
-      elim (in_either v.layout.blocks (ring_of v) n (same_stage Looks (ap fresh_block is) has)) [
-        | inl slot ↦
-            in_first (drop 1 v.layout.blocks) (ring_of v) n
-            (in_later v.layout.blocks n (λ e. ne (e ∙ sym own)) slot)
-        | inr ring ↦ in_last (drop 1 v.layout.blocks) (ring_of v) n ring
+      let others : List ℕ = drop 1 v.layout.blocks ++ v.named in
+      elim (in_either (slots_of v) (ring_of v) n (same_stage Looks (ap fresh_block is) has)) [
+        | inl slot ↦ in_first others (ring_of v) n (slot_stays taken own ne slot)
+        | inr ring ↦ in_last others (ring_of v) n ring
       ]
 
   pub has_took : (taken : ℕ) (b : Block) → TakesNext v taken → n ≢ taken → Has (took v v.seen b)
@@ -118,11 +132,11 @@ module _ (v : Receive) (n : ℕ) where
       → has_lent (record v { stage = Lent b }) n ≡ true
   lends_one b none is = elim (or_cases (n == b) (has_lent v n) is) [
     | inl same ↦
-        in_last v.layout.blocks (b ∷ ring_of v) n (or_left (n == b) (among (ring_of v) n) same)
-    | inr has ↦ elim (in_either v.layout.blocks (ring_of v) n (same_stage Looks none has)) [
-      | inl slot ↦ in_first v.layout.blocks (b ∷ ring_of v) n slot
+        in_last (slots_of v) (b ∷ ring_of v) n (or_left (n == b) (among (ring_of v) n) same)
+    | inr has ↦ elim (in_either (slots_of v) (ring_of v) n (same_stage Looks none has)) [
+      | inl slot ↦ in_first (slots_of v) (b ∷ ring_of v) n slot
       | inr ring ↦
-          in_last v.layout.blocks (b ∷ ring_of v) n (or_right (n == b) (among (ring_of v) n) ring)
+          in_last (slots_of v) (b ∷ ring_of v) n (or_right (n == b) (among (ring_of v) n) ring)
     ]
   ]
 
@@ -131,17 +145,16 @@ module _ (v : Receive) (n : ℕ) where
   lend_block Takes seen can = absurd can
   lend_block Owes seen can = refl
   lend_block (Lent b) seen can = absurd can
-  lend_block (Named b) seen can = absurd can
 
   pub has_lent_one : (b : Block) → LendsNext v b → (n == b.number || has_lent v n) ≡ true
       → has_lent (lent_one v b.number) n ≡ true
   has_lent_one b own = lends_one b.number (lend_block v.stage v.seen own.stage)
 
 -- a block that may be lent isn't lent yet
-pub unknown : (v : Receive) (b : Block) → fresh_block v.stage ≡ [] → MayLend v.layout b → has_lent v b.number ≡ false
+pub unknown : (v : Receive) (b : Block) → fresh_block v.stage ≡ [] → MayLend (reach v) b → has_lent v b.number ≡ false
 unknown v b none may =
-    subst (λ (fresh : List ℕ). among (v.layout.blocks ++ (fresh ++ ring_of v)) b.number ≡ false) (sym none)
-    (list_any-append (λ (c : ℕ). b.number == c) v.layout.blocks (ring_of v)
-    ∙ or_from (among v.layout.blocks b.number) (among (ring_of v) b.number)
-    (in_none v.layout.blocks b.number may.apart)
+    subst (λ (fresh : List ℕ). among (slots_of v ++ (fresh ++ ring_of v)) b.number ≡ false) (sym none)
+    (list_any-append (λ (c : ℕ). b.number == c) (slots_of v) (ring_of v)
+    ∙ or_from (among (slots_of v) b.number) (among (ring_of v) b.number)
+    (in_none (slots_of v) b.number may.apart)
     (ring_block_among v.layout.ring v.layout.size b.number ∙ may.not_ring))

@@ -20,7 +20,7 @@ use Rattle.nic_device.specs.declared.event.Reply.TheVariants as reply
 use Rattle.history_laws.specs.Lent.{LendsAnew}
 use Rattle.history_laws.proofs.Calls.{anew_is_done, taken_is, poked_is}
 use Rattle.pmd_rx.specs.PmdSeam.declared.packet.Packet.{Packet}
-use Rattle.pmd_rx.specs.Receive.{Receive, IsOwn, PeeksNext, TakesNext, NamesNext, MovesNext, is_part, left_of, slot_at, descriptor_at, block_at, vacant}
+use Rattle.pmd_rx.specs.Receive.{Receive, IsOwn, PeeksNext, TakesNext, NamesNext, MovesNext, is_part, left_of, slot_at, descriptor_at, block_at, vacant, reach}
 use Rattle.pmd_rx.specs.declared.ring.Stage.{Stage}
 use Rattle.pmd_rx.specs.declared.ring.Stage.TheVariants.{Looks}
 use Rattle.pmd_rx.specs.declared.ring.Told.{Told}
@@ -32,6 +32,7 @@ use Rattle.receive_laws.specs.Steps.{TellsSlot}
 use Rattle.receive_laws.proofs.Looking.{descriptor_lent, look_tells, looked_is}
 use Rattle.receive_laws.proofs.Parts.{seen_within, none_left}
 use Rattle.receive_laws.proofs.Places.{aligned}
+use Rattle.receive_laws.proofs.Reach.{posted_in, posted_block}
 use Rattle.receive_laws.proofs.Tail.{tail_written}
 
 -- the pieces that stand in slots fit, as all do, and the one behind those that were seen
@@ -109,7 +110,7 @@ module _ (queue : ℕ) (s : State) (out : List Piece) (v : Receive) (gone here :
         let at = descriptor_at v.layout k in
         let posted = own.posted in
         let is = ap (λ (o : Outcome). o.reply)
-        (looked_is s v.layout here k h.ring h.slots (omega (arith, posted))) in
+        (looked_is s (reach v) here k h.ring h.slots (posted_in v k (omega (arith, posted)))) in
         subst (λ x. Healthy (event.Peek16 x)) (sym own.address)
         (by_reply (event.Peek16 at) _ is
         (whole_told all own.stage (read_at s.memory at 16) (look_tells queue s out v gone here k h own.posted _ is)))
@@ -117,20 +118,23 @@ module _ (queue : ℕ) (s : State) (out : List Piece) (v : Receive) (gone here :
     take_healthy : (n : ℕ) → TakesNext v n → Healthy (event.Take n)
     take_healthy n own =
         let within = seen_within v.seen here h.order.seen in
+        let posted = h.posted in
         let some = own.some in
-        let there = of_some (map.get s.memory (block_at v.layout 0))
-        (h.slots.filled 0 (omega (arith, within, some))).there in
-        subst (λ k. Healthy (event.Take k)) (sym own.block)
-        (by_reply (event.Take (block_at v.layout 0)) _
-        (ap (λ (o : Outcome). o.reply) (taken_is s (block_at v.layout 0) there.0 there.1)) refl)
+        let first = block_at (reach v) 0 in
+        let there = of_some (map.get s.memory first) (h.slots.filled 0 (omega (arith, within, some))).there in
+        subst (λ k. Healthy (event.Take k))
+        (sym (own.block ∙ sym (posted_block v 0 (omega (arith, within, posted, some)))))
+        (by_reply (event.Take first) _
+        (ap (λ (o : Outcome). o.reply) (taken_is s first there.0 there.1)) refl)
 
     name_healthy : (a : ℕ) (bytes : List ℕ) → NamesNext v a bytes → Healthy (event.Poke16 a bytes)
     name_healthy a bytes own =
-        let at = descriptor_at v.layout (vacant v.layout) in
+        let l = reach v in
+        let at = descriptor_at l (vacant l) in
         subst (λ x. Healthy (event.Poke16 x bytes)) (sym own.address)
         (by_reply (event.Poke16 at bytes) _
-        (ap (λ (o : Outcome). o.reply) (poked_is s at bytes (aligned v.layout.ring (slot_at v.layout (vacant v.layout)))
-        (descriptor_lent s.memory v.layout here h.ring h.slots (vacant v.layout) (omega arith)))) refl)
+        (ap (λ (o : Outcome). o.reply) (poked_is s at bytes (aligned l.ring (slot_at l (vacant l)))
+        (descriptor_lent s.memory l here h.ring h.slots (vacant l) (omega arith)))) refl)
 
     move_healthy : (port : Port) (n word : ℕ) → MovesNext v port n word → Healthy (event.Write port n word)
     move_healthy port n word own =

@@ -1,5 +1,5 @@
 -- A step of receiving on the driver's own queue writes into blocks that the driver has lent for it.
-use Rattle.std.proofs.Common.{◌≡◌, ℕ, ◌/◌, ◌<◌, ◌≤◌, List, length, refl, sym, ◌∙◌, subst, arith, Ok}
+use Rattle.std.proofs.Common.{◌≡◌, ℕ, ◌*◌, ◌/◌, ◌<◌, ◌≤◌, List, length, refl, sym, ap, ◌∙◌, subst, arith, Ok}
 use Rattle.std.specs.Prelude.{⊤}
 use Rattle.std.proofs.lemmas.Bool.{eq-eqb}
 use Rattle.nic_device.specs.DmaArena.Block.{Block}
@@ -14,13 +14,14 @@ use Rattle.nic_device.specs.declared.event.Reply.TheVariants.{Wrote}
 use Rattle.history_laws.specs.Left.{Took, Rested, fill_on}
 use Rattle.history_laws.proofs.Filling.{receiving_did}
 use Rattle.pmd_rx.specs.PmdSeam.Slots.{descriptor_in}
-use Rattle.pmd_rx.specs.Receive.{Layout, slot_at, block_at}
+use Rattle.pmd_rx.specs.Receive.{Layout, Receive, slot_at, block_at, reach}
 use Rattle.receive_laws.specs.Inside.{IsInRing, IsInside, PieceIsInside}
-use Rattle.receive_laws.specs.Joint.{IsRing, IsSetUp, HasSlots}
+use Rattle.receive_laws.specs.Joint.{Holds}
 use Rattle.receive_laws.specs.Pieces.{Piece}
 use Rattle.pmd_rx.proofs.PmdSeam.Rings.{slot_block, slot_lies}
 use Rattle.receive_laws.proofs.Kept.{slot_below}
 use Rattle.receive_laws.proofs.Places.{bytes_inside}
+use Rattle.receive_laws.proofs.Reach.{posted_block}
 use Rattle.receive_laws.proofs.Received.{slot_left}
 use Rattle.receive_laws.proofs.Receiving.{head_is, buffer_is}
 
@@ -31,25 +32,30 @@ slot_in_ring ring size slot below = record {
   descriptor = slot_lies ring slot;
 }
 
-module _ (s : State) (queue : ℕ) (l : Layout) (here : List Piece) (ring : IsRing l)
-    (side : IsSetUp (receive_queue_of s.registers queue) l (length here)) (h : HasSlots s.memory l here) where
+module _ (queue : ℕ) (s : State) (out : List Piece) (v : Receive) (gone here : List Piece)
+    (h : Holds queue s out v gone here) where
+  abbrev l : Layout
+  l = v.layout
+
   filled_inside : (w : Waiting) (f : Filled) → length here < length l.blocks
       → (fill_on s queue (rest_of w)).answer ≡ Ok f → IsInside l f.desc f.at f.len
   filled_inside w f room is =
       let own = receive_queue_of s.registers queue in
       let t = takes_piece s.memory own.ring own.control (rest_of w) f is in
-      let size = side.buffer_size in
+      let size = h.side.buffer_size in
       let len = t.len in
       let short : f.len ≤ 2048 = omega (arith, len, size) in
       record {
         descriptor =
-            subst (IsInRing l.ring l.size) (sym (t.desc ∙ head_is s queue l here ring side h))
-            (slot_in_ring l.ring l.size (slot_at l (length here)) (slot_below l (length here) ring h.within));
+            subst (IsInRing l.ring l.size) (sym (t.desc ∙ head_is queue s out v gone here h))
+            (slot_in_ring l.ring l.size (slot_at l (length here))
+            (slot_below (reach v) (length here) h.ring h.slots.within));
         slot = length here;
         known = room;
         bytes =
             subst (λ a. LiesIn (block_at l (length here)) a f.len)
-            (sym (t.at ∙ buffer_is s queue l here ring side h room))
+            (sym (t.at ∙ buffer_is queue s out v gone here h room
+            ∙ ap (λ (b : ℕ). 2048 * b) (posted_block v (length here) room)))
             (bytes_inside (block_at l (length here)) f.len short);
       }
 
@@ -62,7 +68,7 @@ pub piece_inside : PieceIsInside
 piece_inside queue s out v sound (gone, here, h) slot end desc at len is = elim (receiving_did queue s sound) [
   | Took x ↦
       subst (TellsInside v.layout) (sym x.work.told ∙ is)
-      (filled_inside s queue v.layout here h.ring h.side h.slots x.work.frame x.work.filled
+      (filled_inside queue s out v gone here h x.work.frame x.work.filled
       (slot_left queue s out v gone here h x.tried) x.work.answer)
   | Rested none rests ↦
       absurd (let e = rw (is, eq-eqb queue queue refl) at none in cc)

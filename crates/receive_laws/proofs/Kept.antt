@@ -10,9 +10,9 @@ use Rattle.nic_device.specs.State.{State}
 use Rattle.nic_device.specs.RegisterFile.Pools.{mode_in}
 use Rattle.history_laws.proofs.SideNames.{named-same}
 use Rattle.pmd_rx.specs.PmdSeam.Slots.{EachRingBlock}
-use Rattle.pmd_rx.specs.Receive.{Layout, slot_at, descriptor_at, block_at, vacant}
+use Rattle.pmd_rx.specs.Receive.{Layout, slot_at, descriptor_at, block_at}
 use Rattle.pmd_rx.specs.declared.ring.Stage.{Stage}
-use Rattle.pmd_rx.specs.declared.ring.Stage.TheVariants.{Looks, Takes, Owes, Lent, Named}
+use Rattle.pmd_rx.specs.declared.ring.Stage.TheVariants.{Looks, Takes, Owes, Lent}
 use Rattle.receive_laws.specs.Joint.{IsPosted, IsFilled, IsRing, IsNamed, IsLoose, StageHolds, HasSlots}
 use Rattle.receive_laws.specs.Pieces.{Piece, piece_at}
 use Rattle.receive_laws.specs.Steps.{IfFresh}
@@ -115,10 +115,6 @@ module _ (l : Layout) (m n : Memory) (ring : IsRing l) (same : SameRing l m n) w
   stage_kept Takes fresh h = tt
   stage_kept Owes fresh h = tt
   stage_kept (Lent b) fresh h = IsLoose-kept m n l b (same_has m n b fresh) h
-  stage_kept (Named b) fresh h = (
-    IsLoose-kept m n l b (same_has m n b fresh) h.0,
-    posted_kept (vacant l) b (omega arith) fresh h.1,
-  )
 
 -- numbers name what they named where the mode and the number of functions are the same
 pub named_kept : (s t : State) (queue : ℕ) (l : Layout) → mode_in t.registers ≡ mode_in s.registers → t.vfs ≡ s.vfs

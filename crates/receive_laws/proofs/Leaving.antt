@@ -4,7 +4,7 @@ use Rattle.nic_device.specs.DmaRing.declared.ring.Ring.{Ring}
 use Rattle.nic_device.specs.State.{State}
 use Rattle.nic_device.specs.RegisterLaws.Sides.{ReceiveQueue, receive_queue_of}
 use Rattle.nic_device.specs.RxRing.Control.{buffer_size_of, descriptor_type_of}
-use Rattle.pmd_rx.specs.Receive.{Layout, Receive}
+use Rattle.pmd_rx.specs.Receive.{Layout, Receive, reach}
 use Rattle.receive_laws.specs.Joint.{IsSetUp, Holds}
 use Rattle.receive_laws.specs.Pieces.{Piece}
 use Rattle.receive_laws.specs.Steps.{Leaves, LeavesButOn, LeavingKeeps, SwitchingKeeps}
@@ -29,8 +29,9 @@ switching_holds queue s t out v gone here l h = record {
   ring = h.ring;
   side = set_up_kept (receive_queue_of s.registers queue) (receive_queue_of t.registers queue) v.layout (length here)
       l.ring l.control h.side;
-  slots = slots_kept v.layout s.memory t.memory h.ring l.blocks.ring here l.blocks.blocks h.slots;
-  stage = stage_kept v.layout s.memory t.memory h.ring l.blocks.ring v.stage l.blocks.fresh h.stage;
+  posted = h.posted;
+  slots = slots_kept (reach v) s.memory t.memory h.ring l.blocks.ring here l.blocks.blocks h.slots;
+  stage = stage_kept (reach v) s.memory t.memory h.ring l.blocks.ring v.stage l.blocks.fresh h.stage;
   order = h.order;
 }
 

@@ -8,9 +8,9 @@ use Rattle.nic_device.specs.State.{State}
 use Rattle.nic_device.specs.Step.{step_of, after, reply_to}
 use Rattle.nic_device.specs.declared.event.Event.TheVariants as event
 use Rattle.nic_device.proofs.Cases.{lent_cases}
-use Rattle.pmd_rx.specs.Receive.{Receive, block_at, lent_one, drive, MayLend, LendsNext, CanLend}
+use Rattle.pmd_rx.specs.Receive.{Receive, block_at, reach, lent_one, drive, MayLend, LendsNext, CanLend}
 use Rattle.pmd_rx.specs.declared.ring.Stage.{Stage}
-use Rattle.pmd_rx.specs.declared.ring.Stage.TheVariants.{Looks, Takes, Owes, Lent, Named}
+use Rattle.pmd_rx.specs.declared.ring.Stage.TheVariants.{Looks, Takes, Owes, Lent}
 use Rattle.pmd_rx.specs.declared.ring.Told.{Told}
 use Rattle.receive_laws.specs.Joint.{Holds, Agree}
 use Rattle.receive_laws.specs.Pieces.{Piece}
@@ -34,16 +34,14 @@ fresh_stays s b Looks seen can = tt
 fresh_stays s b Takes seen can = absurd can
 fresh_stays s b Owes seen can = tt
 fresh_stays s b (Lent c) seen can = absurd can
-fresh_stays s b (Named c) seen can = absurd can
 
 none_looked : (stage : Stage) (seen : List Told) → CanLend stage seen → stage ≡ Looks → seen ≡ []
 none_looked Looks seen can is = can
 none_looked Takes seen can is = absurd can
 none_looked Owes seen can is = cc
 none_looked (Lent c) seen can is = absurd can
-none_looked (Named c) seen can is = absurd can
 
-fresh_leaves : (queue : ℕ) (s : State) (v : Receive) (b : Block) → MayLend v.layout b
+fresh_leaves : (queue : ℕ) (s : State) (v : Receive) (b : Block) → MayLend (reach v) b
     → FreshStays s b v.stage
     → Leaves queue v s (with_block s b)
 fresh_leaves queue s v b may none = record {
@@ -54,7 +52,7 @@ fresh_leaves queue s v b may none = record {
     ring = λ k i.
         get-insert_other s.memory b.number b.bytes (v.layout.ring + k)
         (λ e. ring_block_apart v.layout.ring v.layout.size b.number may.not_ring k i (sym e));
-    blocks = λ k i. get-insert_other s.memory b.number b.bytes (block_at v.layout k) (may.apart k i);
+    blocks = λ k i. get-insert_other s.memory b.number b.bytes (block_at (reach v) k) (may.apart k i);
     fresh = none;
   };
 }
@@ -67,7 +65,7 @@ lent_holds queue s out v gone here b h own =
     let there : has_block t.memory b.number ≡ true = rw (get-insert_same s.memory b.number b.bytes) refl in
     with_driver queue t out v (lent_one v b.number) gone here
     (leaving_holds queue s t out v gone here
-    (fresh_leaves queue s v b may (fresh_stays s b v.stage v.seen own.stage)) h) refl
+    (fresh_leaves queue s v b may (fresh_stays s b v.stage v.seen own.stage)) h) refl refl
     (record { low = may.low; not_ring = may.not_ring; apart = may.apart; room = may.room; there = there })
     (staged out gone here v (Lent b.number) h.order
     (end_last v.stage v.seen v.held (none_looked v.stage v.seen own.stage) h.order.stage))

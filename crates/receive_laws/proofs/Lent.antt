@@ -15,7 +15,7 @@ use Rattle.history_laws.specs.Lent.{OnlyLent, LendsAnew, LendsNone, LendsOwn, ei
 use Rattle.history_laws.proofs.Lent.{only_lent_stays}
 use Rattle.history_laws.proofs.HalfLent.{KeepsTaken, lend_known, still_known, take_known}
 use Rattle.pmd_rx.specs.Keeping.{has_lent}
-use Rattle.pmd_rx.specs.Receive.{Receive, IsOwn, LendsNext, PeeksNext, TakesNext, NamesNext, MovesNext, drive}
+use Rattle.pmd_rx.specs.Receive.{Receive, IsOwn, LendsNext, PeeksNext, TakesNext, NamesNext, drive}
 use Rattle.receive_laws.specs.Lent.{OwnLendsAreKnown}
 use Rattle.receive_laws.proofs.HasLent.{Has, has_looked, has_named, has_moved, has_took, has_lent_one, lend_block, unknown}
 
@@ -39,10 +39,10 @@ module _ (own others : Blocks) (s : State) (v : Receive)
     name_has a bytes reply.Done may n = has_named v n a bytes may
     name_has a bytes r may n = λ has. has
 
-    move_has : (port : Port) (number word : ℕ) (r : Reply Block) → MovesNext v port number word → (n : ℕ)
+    move_has : (port : Port) (number word : ℕ) (r : Reply Block) (n : ℕ)
         → Has v n (drive v (event.Write port number word) r)
-    move_has port number word reply.Done may n = has_moved v n port number word may
-    move_has port number word r may n = λ has. has
+    move_has port number word reply.Done n = has_moved v n word
+    move_has port number word r n = λ has. has
 
     still : (e : Event Block) (r : Reply Block) → LendsNone own e → ((n : ℕ) → Has v n (drive v e r))
         → Known (drive v e r) (after s e).memory
@@ -60,7 +60,7 @@ module _ (own others : Blocks) (s : State) (v : Receive)
         let r = reply_to s (event.Poke16 a bytes) in still (event.Poke16 a bytes) r tt (name_has a bytes r may)
     own_known (event.Write port number word) may =
         let r = reply_to s (event.Write port number word) in
-        still (event.Write port number word) r tt (move_has port number word r may)
+        still (event.Write port number word) r tt (move_has port number word r)
     own_known e may = absurd may
 
     -- a block that may be lent isn't the driver's yet

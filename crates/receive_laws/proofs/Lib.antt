@@ -20,12 +20,14 @@ pub mod Lending
 pub mod Lent
 pub mod Looking
 pub mod Mine
+pub mod More
 pub mod Moving
 pub mod Naming
 pub mod Own
 pub mod Places
 pub mod Parts
 pub mod Prefix
+pub mod Reach
 pub mod Received
 pub mod Receiving
 pub mod Starting

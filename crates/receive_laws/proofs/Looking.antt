@@ -13,7 +13,7 @@ use Rattle.nic_device.specs.Step.{step_of, after, reply_to}
 use Rattle.nic_device.specs.declared.event.Event.TheVariants as event
 use Rattle.nic_device.specs.declared.event.Reply.{Reply}
 use Rattle.nic_device.specs.declared.event.Reply.TheVariants.{Bytes}
-use Rattle.pmd_rx.specs.Receive.{Layout, Receive, PeeksNext, drive, slot_at, descriptor_at, told_by, is_part, saw, no_packet}
+use Rattle.pmd_rx.specs.Receive.{Layout, Receive, PeeksNext, drive, slot_at, descriptor_at, extended, reach, told_by, is_part, saw, no_packet}
 use Rattle.pmd_rx.specs.declared.ring.Stage.{Stage}
 use Rattle.pmd_rx.specs.declared.ring.Stage.TheVariants.{Looks, Takes}
 use Rattle.pmd_rx.specs.declared.ring.Told.{Told}
@@ -25,6 +25,7 @@ use Rattle.pmd_rx.proofs.PmdSeam.Rings.{each_slot_block, slot_place, slot_fits}
 use Rattle.receive_laws.proofs.Kept.{slot_below}
 use Rattle.receive_laws.proofs.Parts.{seen_more, open_more, end_more, none_held}
 use Rattle.receive_laws.proofs.Places.{aligned}
+use Rattle.receive_laws.proofs.Reach.{posted_in, posted_below}
 
 -- the descriptor of each slot up to the vacant one is lent
 pub descriptor_lent : (m : Memory) (l : Layout) (here : List Piece) → IsRing l → HasSlots m l here → (k : ℕ)
@@ -68,21 +69,25 @@ pub look_tells : LookTellsSlot
 look_tells queue s out v gone here k h some d is =
     subst (TellsSlot here k)
     (same_bytes (reply_to s (event.Peek16 (descriptor_at v.layout k))) d _ is
-    (ap (λ (o : Outcome). o.reply) (looked_is s v.layout here k h.ring h.slots (omega (arith, some)))))
-    (tells_bytes s.memory v.layout here k h.slots some)
+    (ap (λ (o : Outcome). o.reply)
+    (looked_is s (reach v) here k h.ring h.slots (posted_in v k (omega (arith, some))))))
+    (tells_bytes s.memory (reach v) here k h.slots (posted_below v k some))
 
 -- the driver's state beside its ring changes
 pub with_driver : (queue : ℕ) (s : State) (out : List Piece) (v w : Receive) (gone here : List Piece)
-    → Holds queue s out v gone here → w.layout ≡ v.layout → StageHolds s.memory v.layout w.stage
-    → InOrder out w gone here → Holds queue s out w gone here
-with_driver queue s out v w gone here h same is order = record {
-  named = subst (IsNamed s queue) (sym same) h.named;
-  ring = subst IsRing (sym same) h.ring;
-  side = subst (λ (l : Layout). IsSetUp (receive_queue_of s.registers queue) l (length here)) (sym same) h.side;
-  slots = subst (λ (l : Layout). HasSlots s.memory l here) (sym same) h.slots;
-  stage = subst (λ (l : Layout). StageHolds s.memory l w.stage) (sym same) is;
-  order = order;
-}
+    → Holds queue s out v gone here → w.layout ≡ v.layout → w.named ≡ v.named
+    → StageHolds s.memory (reach v) w.stage → InOrder out w gone here → Holds queue s out w gone here
+with_driver queue s out v w gone here h same names is order =
+    let to : reach v ≡ reach w = λ k. extended (sym same k) (sym names k) in
+    record {
+      named = subst (IsNamed s queue) (sym same) h.named;
+      ring = subst IsRing to h.ring;
+      side = subst (λ (l : Layout). IsSetUp (receive_queue_of s.registers queue) l (length here)) (sym same) h.side;
+      posted = subst (λ (l : Layout). length here ≤ length l.blocks) (sym same) h.posted;
+      slots = subst (λ (l : Layout). HasSlots s.memory l here) to h.slots;
+      stage = subst (λ (l : Layout). StageHolds s.memory l w.stage) to is;
+      order = order;
+    }
 
 -- a driver that saw a part more
 
@@ -117,9 +122,9 @@ looked_holds queue s out v gone here d false h looks tells is = h
 looked_holds queue s out v gone here d true h looks tells is =
     let both = and_parts (is_done (second_half d)) _ is in
     let at : IsAt Looks v.seen v.held = subst (λ (x : Stage). IsAt x v.seen v.held) looks h.order.stage in
-    with_driver queue s out v (saw v d) gone here h refl
-    (stage_after s.memory v.layout (ends_packet (second_half d)))
-    (none_held out gone here v (saw v d) h.order at.0 at.0 refl
+    with_driver queue s out v (saw v d) gone here h refl refl
+    (stage_after s.memory (reach v) (ends_packet (second_half d)))
+    (none_held out gone here v (saw v d) h.order at.0 at.0 refl refl
     (seen_more v.seen here (told_by d) h.order.seen (tells.done.0 both.0)
     (saw_tells here (length v.seen) d tells both.0))
     (at_after v (told_by d) (ends_packet (second_half d)) refl at.0 at.1
@@ -134,9 +139,9 @@ look_keeps queue s out v a (gone, here, h) own =
     subst (λ x. Agree queue (after s (event.Peek16 x)) out (drive v (event.Peek16 x) (reply_to s (event.Peek16 x))))
     (sym own.address)
     (subst (λ (o : Outcome). Agree queue o.state out (drive v (event.Peek16 at) o.reply))
-    (sym (looked_is s v.layout here k h.ring h.slots (let i = own.posted in omega (arith, i)))) (
+    (sym (looked_is s (reach v) here k h.ring h.slots (posted_in v k (let i = own.posted in omega (arith, i))))) (
       gone,
       here,
       looked_holds queue s out v gone here (read_at s.memory at 16) _ h own.stage
-          (tells_bytes s.memory v.layout here k h.slots own.posted) refl,
+          (tells_bytes s.memory (reach v) here k h.slots (posted_below v k own.posted)) refl,
     ))

@@ -1,8 +1,7 @@
 -- The blocks that the driver has lent stay among those that its pass lends.
-use Rattle.std.proofs.Common.{◌≡◌, ℕ, ◌+◌, Bool, true, false, ◌&&◌, length, sym, subst, arith, cond, List, [], ◌∷◌}
-use Rattle.std.specs.Prelude.{if◌then◌else◌, IsTrue, ⊤}
+use Rattle.std.proofs.Common.{ℕ, ◌<◌, Bool, true, false, ◌&&◌, length, subst, cond, List, [], ◌∷◌}
+use Rattle.std.specs.Prelude.{◌==◌, if◌then◌else◌, IsTrue, ⊤}
 use Rattle.std.proofs.lemmas.Bool.{cases_lt}
-use Rattle.std.proofs.lemmas.List.{get_or-drop, length-drop}
 use Rattle.nic_device.specs.DmaArena.Block.{Block}
 use Rattle.nic_device.specs.DmaRing.Descriptor.{second_half}
 use Rattle.nic_device.specs.DmaRing.Receive.{is_done, ends_packet}
@@ -11,15 +10,19 @@ use Rattle.nic_device.specs.declared.event.Event.TheVariants as event
 use Rattle.nic_device.specs.declared.event.Reply.{Reply}
 use Rattle.nic_device.specs.declared.event.Reply.TheVariants as reply
 use Rattle.device_lock.specs.Alone.{Blocks}
-use Rattle.pmd_rx.specs.Receive.{Receive, IsOwn, HasLent, HasNamed, fresh_of, is_part, next_stage, drive, moved, saw, took}
+use Rattle.pmd_rx.specs.Receive.{Layout, Receive, IsOwn, HasLent, block_at, fresh_of, is_part, next_stage, parts_first, tail_behind, reach, drive, names, posts, posts_one, posts_all, saw, took}
 use Rattle.pmd_rx.specs.declared.ring.Stage.{Stage}
-use Rattle.pmd_rx.specs.declared.ring.Stage.TheVariants.{Looks, Takes, Owes, Lent, Named}
+use Rattle.pmd_rx.specs.declared.ring.Stage.TheVariants.{Looks, Takes, Owes, Lent}
 use Rattle.pmd_rx.specs.declared.ring.Told.{Told}
 use Rattle.receive_laws.specs.Steps.{Each, IfFresh}
-use Rattle.receive_laws.proofs.Moving.{push_place}
+use Rattle.receive_laws.proofs.Reach.{push_place, drop_place, names_reach, posts_reach}
 
 abbrev Mine : Blocks → Receive → Type 0
 Mine mine v = Each v (λ b. IsTrue (mine b))
+
+-- so is the block of each slot
+abbrev Slots : Blocks → Layout → Type 0
+Slots mine l = (k : ℕ) → k < length l.blocks → IsTrue (mine (block_at l k))
 
 -- the block that an event lends is one of them, where it is done
 abbrev pub LendsMine : Blocks → Event Block → Reply Block → Type 0
@@ -43,9 +46,7 @@ module _ (mine : Blocks) (v : Receive) (m : Mine mine v) where
   mine_took [] b = m
   mine_took (t ∷ seen) b = record {
     ring = m.ring;
-    blocks = λ k i.
-        subst (λ c. mine c ≡ true) (sym (get_or-drop 1 v.layout.blocks k 0))
-        (m.blocks (1 + k) (omega (arith, i, length-drop 1 v.layout.blocks)));
+    blocks = drop_place v.layout.blocks v.named (λ c. IsTrue (mine c)) m.blocks;
     fresh = tt;
   }
 
@@ -54,34 +55,34 @@ module _ (mine : Blocks) (v : Receive) (m : Mine mine v) where
   lent_is Takes lent is = absurd lent
   lent_is Owes lent is = absurd lent
   lent_is (Lent b) lent is = is
-  lent_is (Named b) lent is = absurd lent
-
-  named_is : (stage : Stage) → HasNamed stage → IfFresh stage (λ b. IsTrue (mine b)) → IsTrue (mine (fresh_of stage))
-  named_is Looks done is = absurd done
-  named_is Takes done is = absurd done
-  named_is Owes done is = absurd done
-  named_is (Lent b) done is = absurd done
-  named_is (Named b) done is = is
 
   next_is : (seen : List Told) → IfFresh (next_stage seen) (λ b. IsTrue (mine b))
   next_is [] = tt
   next_is (t ∷ seen) = tt
 
-  mine_moved : HasNamed v.stage → Mine mine (moved v)
-  mine_moved done = record {
+  mine_named : HasLent v.stage → Mine mine (names v)
+  mine_named lent = record {
     ring = m.ring;
-    blocks = λ k i.
-        push_place v.layout.blocks (fresh_of v.stage) k (λ c. mine c ≡ true) i (m.blocks k)
-        (λ e. named_is v.stage done m.fresh) (cases_lt k (length v.layout.blocks));
+    blocks = subst (Slots mine) (names_reach v) (λ k i.
+        push_place (reach v).blocks (fresh_of v.stage) k (λ c. IsTrue (mine c)) i (m.blocks k)
+        (λ e. lent_is v.stage lent m.fresh) (cases_lt k (length (reach v).blocks)));
     fresh = next_is v.seen;
   }
+
+  mine_posted : (blocks packets : ℕ) → Mine mine (posts v blocks packets)
+  mine_posted blocks packets =
+      record { ring = m.ring; blocks = subst (Slots mine) (posts_reach v blocks packets) m.blocks; fresh = m.fresh }
+
+  mine_moved : (t : Bool) → Mine mine (if t then posts_one v else posts_all v)
+  mine_moved true = mine_posted (parts_first v.whole) 1
+  mine_moved false = mine_posted (length v.named) (length v.whole)
 
   pub mine_driven : (e : Event Block) (r : Reply Block) → IsOwn v e → LendsMine mine e r → Mine mine (drive v e r)
   mine_driven (event.Peek16 a) (reply.Bytes d) own l =
       mine_looked (is_done (second_half d) && is_part v.layout.most (length v.seen) (second_half d)) d
   mine_driven (event.Take n) (reply.Buf b) own l = mine_took v.seen b
   mine_driven (event.Lend b) reply.Done own l = staged (Lent b.number) l
-  mine_driven (event.Poke16 a bytes) reply.Done own l =
-      staged (Named (fresh_of v.stage)) (lent_is v.stage own.stage m.fresh)
-  mine_driven (event.Write port n word) reply.Done own l = mine_moved own.stage
+  mine_driven (event.Poke16 a bytes) reply.Done own l = mine_named own.stage
+  mine_driven (event.Write port n word) reply.Done own l =
+      mine_moved (word == tail_behind v.layout (parts_first v.whole))
   mine_driven e r own l = m

@@ -1,9 +1,8 @@
--- The tail moves on over the slot that names a fresh block: the block is posted, and a packet that is whole handed out.
-use Rattle.std.proofs.Common.{◌≡◌, ◌≢◌, ℕ, ◌+◌, ◌<◌, ◌≤◌, ◌⊎◌, inl, inr, false, List, [], ◌∷◌, ◌++◌, length, refl, sym, ap, ◌∙◌, subst, arith}
-use Rattle.std.specs.Prelude.{slice_index}
-use Rattle.std.proofs.lemmas.Bool.{cases_lt}
-use Rattle.std.proofs.lemmas.List.{append-nil, length_push, get_or_push, get_or_append_left}
-use Rattle.nic_device.specs.DmaArena.Memory.{Memory}
+-- The tail moves on over slots that name blocks: these are posted, and whole packets handed out.
+use Rattle.std.proofs.Common.{◌≡◌, ℕ, ◌+◌, ◌<◌, ◌≤◌, ◌⊎◌, inl, inr, Bool, true, false, cond, List, ◌++◌, length, take, drop, refl, sym, ap, ◌∙◌, subst, arith, append_assoc}
+use Rattle.std.specs.Prelude.{◌==◌}
+use Rattle.std.proofs.lemmas.Bool.{cases_lt, eqb-true, eqb-false}
+use Rattle.std.proofs.lemmas.List.{length-append, length-take-le, map-append, take-append-drop, take_all}
 use Rattle.nic_device.specs.RegTable.declared.rows.RowId.TheVariants.{Rdt}
 use Rattle.nic_device.specs.RegisterFile.Columns.{place}
 use Rattle.nic_device.specs.RegisterLaws.Laws.{after_write}
@@ -13,131 +12,161 @@ use Rattle.nic_device.specs.Outcome.{Outcome}
 use Rattle.nic_device.specs.State.{State}
 use Rattle.nic_device.specs.Step.{after, reply_to}
 use Rattle.nic_device.specs.declared.event.Event.TheVariants as event
-use Rattle.history_laws.proofs.Tails.{receive_with_tail, receive-tail}
-use Rattle.pmd_rx.specs.PmdSeam.Slots.{is_ring_block}
-use Rattle.pmd_rx.specs.PmdSeam.declared.packet.Packet.{Packet}
-use Rattle.pmd_rx.specs.Receive.{Layout, Receive, MovesNext, HasNamed, fresh_of, slot_at, descriptor_at, block_at, vacant, extended, listed, out_of, left_of, next_stage, moved, drive}
-use Rattle.pmd_rx.specs.declared.ring.Stage.{Stage}
-use Rattle.pmd_rx.specs.declared.ring.Stage.TheVariants.{Looks, Takes, Owes, Lent, Named}
-use Rattle.pmd_rx.specs.declared.ring.Told.{Told}
 use Rattle.nic_device.specs.declared.event.Port.{Port}
-use Rattle.pmd_rx.specs.PmdSeam.Bufs.{bytes_of}
+use Rattle.nic_device.specs.declared.event.Reply.TheVariants as reply
+use Rattle.history_laws.proofs.Tails.{receive_with_tail, receive-tail}
 use Rattle.pmd_rx.specs.PmdSeam.Packet.{Kept, kept_of}
-use Rattle.receive_laws.specs.Joint.{IsPosted, IsFilled, IsRing, IsSetUp, IsLoose, StageHolds, HasSlots, InOrder, Agree}
-use Rattle.receive_laws.specs.Pieces.{Piece, packets_behind, piece_at}
-use Rattle.receive_laws.proofs.Kept.{named_kept}
-use Rattle.receive_laws.proofs.Parts.{none_twice, left_twice, end_last, next_at}
-use Rattle.pmd_rx.proofs.PmdSeam.Places.{wrapped_below}
+use Rattle.pmd_rx.specs.PmdSeam.declared.packet.Packet.{Packet}
+use Rattle.pmd_rx.specs.Receive.{Layout, Receive, MovesNext, MovesOne, slot_at, vacant, reach, records_of, ended_of, left_of, parts_first, tail_behind, posts, posts_one, posts_all, drive}
+use Rattle.receive_laws.specs.Joint.{IsRing, IsSetUp, StageHolds, HasSlots, InOrder, Holds, Agree, packets_had}
+use Rattle.receive_laws.specs.Pieces.{Piece, packets_behind}
+use Rattle.receive_laws.proofs.Kept.{named_kept, slot_below}
+use Rattle.receive_laws.proofs.Reach.{reach_long, posts_reach}
 use Rattle.receive_laws.proofs.Tail.{tail_written, mode_after_tail}
 
--- the ring with one more block
+-- so many named slots, or all where there are fewer
+abbrev many : Receive → ℕ → ℕ
+many v blocks = length (take blocks v.named)
 
-pub push_place : (xs : List ℕ) (b k : ℕ) (P : ℕ → Type 0) → k < length (xs ++ b ∷ [])
-    → (k < length xs → P (slice_index xs k)) → (k ≡ length xs → P b) → (k < length xs) ⊎ (length xs ≤ k)
-    → P (slice_index (xs ++ b ∷ []) k)
-push_place xs b k P i f g (inl low) = subst P (sym (get_or_append_left xs (b ∷ []) 0 k low)) (f low)
-push_place xs b k P i f g (inr high) =
-    let e : k ≡ length xs = omega (arith, length_push xs b, i, high) in
-    subst P (sym (get_or_push xs b 0 k (sym e))) (g e)
+-- the tail behind them is one of the ring's slots
+tail_low : (v : Receive) (blocks : ℕ) → IsRing (reach v) → tail_behind v.layout (many v blocks) < 65536
+tail_low v blocks ring =
+    let few = ring.few in
+    let all = ap (λ (bs : List ℕ). length bs) (take-append-drop blocks v.named) in
+    let within : many v blocks ≤ length v.named =
+    omega (arith, all, length-append (take blocks v.named) (drop blocks v.named)) in
+    let below : tail_behind v.layout (many v blocks) < v.layout.size =
+    slot_below (reach v) (vacant v.layout + many v blocks) ring (omega (arith, within, reach_long v)) in
+    omega (arith, below, few)
 
-module _ (m : Memory) (l : Layout) (here : List Piece) (b : ℕ) (ring : IsRing l) (h : HasSlots m l here)
-    (loose : IsLoose m l b) (posted : IsPosted m (descriptor_at l (vacant l)) b) where
-  more : length (l.blocks ++ b ∷ []) ≡ length l.blocks + 1
-  more = length_push l.blocks b
+-- the tail moves on over them, and so many packets are handed out
+module _ (v : Receive) (blocks packets : ℕ) where
+  abbrev w : Receive
+  w = posts v blocks packets
 
-  each_place : (k : ℕ) (P : ℕ → Type 0) → k < length (l.blocks ++ b ∷ [])
-      → (k < length l.blocks → P (block_at l k)) → (k ≡ length l.blocks → P b) → P (block_at (extended l b) k)
-  each_place k P i f g = push_place l.blocks b k P i f g (cases_lt k (length l.blocks))
+  posts_had : packets_had v ≡ packets_had w
+  posts_had =
+      let ended = ended_of v.seen v.held in
+      let first = take packets v.whole in
+      let rest = drop packets v.whole in
+      ap (λ (ps : List Packet). v.handed ++ records_of ps)
+      (ap (λ (ps : List Packet). ps ++ ended) (sym (take-append-drop packets v.whole))
+      ∙ append_assoc first rest ended)
+      ∙ ap (λ (ks : List Kept). v.handed ++ ks) (map-append kept_of first (rest ++ ended))
+      ∙ sym (append_assoc v.handed (records_of first) (records_of (rest ++ ended)))
 
-  ring_more : IsRing (extended l b)
-  ring_more =
-      let room = loose.room in
-      record {
-        some = ring.some;
-        few = ring.few;
-        next = ring.next;
-        ring = ring.ring;
-        room = omega (arith, more, room);
-        low = λ k i. each_place k (λ c. c < 65536) i (ring.low k) (λ e. loose.low);
-        not_ring = λ k i.
-            each_place k (λ c. is_ring_block l.ring l.size c ≡ false) i (ring.not_ring k) (λ e. loose.not_ring);
-        apart = λ i j a c ne.
-            each_place i (λ x. x ≢ block_at (extended l b) j) a
-            (λ p. each_place j (λ y. block_at l i ≢ y) c (λ r. ring.apart i j p r ne) (λ r. loose.apart i p))
-            (λ p. each_place j (λ y. b ≢ y) c (λ r z. loose.apart j r (sym z)) (λ r. absurd (ne (p ∙ sym r))));
-      }
+  order_posted : (out gone here : List Piece) → InOrder out v gone here → InOrder out w gone here
+  order_posted out gone here o = record {
+    cut = λ rest. o.cut rest
+        ∙ ap (λ (ks : List Kept). ks ++ packets_behind (kept_of (left_of v.seen v.held)).bytes rest) posts_had;
+    parts = o.parts;
+    full = o.full;
+    seen = o.seen;
+    stage = o.stage;
+    order = o.order;
+  }
 
-  slots_more : HasSlots m (extended l b) here
-  slots_more =
-      let within = h.within in
-      record {
-        there = h.there;
-        within = omega (arith, more, within);
-        filled = λ k i.
-            each_place k (λ c. IsFilled m (descriptor_at l k) c (piece_at here k)) (omega (arith, more, within, i))
-            (λ low. h.filled k i) (λ e. absurd (omega (arith, e, i, within)));
-        posted = λ k i j.
-            each_place k (λ c. IsPosted m (descriptor_at l k) c) j (h.posted k i)
-            (λ e. subst (λ x. IsPosted m (descriptor_at l x) b) (sym e) posted);
-      }
-
-  set_up_more : (q : ReceiveQueue) → IsSetUp q l (length here)
-      → IsSetUp (receive_with_tail q (slot_at l (vacant l + 1))) (extended l b) (length here)
-  set_up_more q up = record {
+  set_up_posted : (q : ReceiveQueue) (filled : ℕ) → IsSetUp q v.layout filled
+      → IsSetUp (receive_with_tail q (tail_behind v.layout (many v blocks))) w.layout filled
+  set_up_posted q filled up = record {
     one_buffer = up.one_buffer;
     buffer_size = up.buffer_size;
     base = up.base;
     sized = up.sized;
     head = up.head;
-    tail = ap (slot_at l) (sym more);
+    tail = ap (slot_at v.layout) (sym (length-append v.layout.blocks (take blocks v.named)));
   }
 
-pub low_tail : (l : Layout) → IsRing l → length l.blocks + 1 < l.size → slot_at l (vacant l + 1) < 65536
-low_tail l ring room =
-    let few = ring.few in
-    let next = ring.next in
-    let below : slot_at l (vacant l + 1) < l.size =
-    wrapped_below l.size (l.next + (length l.blocks + 1)) (omega (arith, room, next)) in
-    omega (arith, below, few)
+  module _ (queue : ℕ) (s : State) (out gone here : List Piece) (shape : HasShape s.registers)
+      (h : Holds queue s out v gone here) where
+    abbrev to : ℕ
+    to = tail_behind v.layout (many v blocks)
 
--- what stands behind a tail that moved on
+    abbrev t : State
+    t = record s { registers = after_write s.registers (place Rdt queue) 0xFFFFFFFF to }
 
-pub both_of : (m : Memory) (l : Layout) (stage : Stage) → HasNamed stage → StageHolds m l stage
-    → IsLoose m l (fresh_of stage) × IsPosted m (descriptor_at l (vacant l)) (fresh_of stage)
-both_of m l Looks done h = absurd done
-both_of m l Takes done h = absurd done
-both_of m l Owes done h = absurd done
-both_of m l (Lent b) done h = absurd done
-both_of m l (Named b) done h = h
+    posts_holds : Holds queue t out w gone here
+    posts_holds =
+        let posted = h.posted in
+        let same : reach v ≡ reach w = posts_reach v blocks packets in
+        record {
+          named = record {
+            low = h.named.low;
+            tail = (named_kept s t queue v.layout (mode_after_tail s.registers queue to) refl h.named).tail;
+          };
+          ring = subst IsRing same h.ring;
+          side = subst (λ q. IsSetUp q w.layout (length here))
+              (sym (receive-tail s.registers queue to shape h.named.low (tail_low v blocks h.ring)))
+              (set_up_posted (receive_queue_of s.registers queue) (length here) h.side);
+          posted = omega (arith, posted, length-append v.layout.blocks (take blocks v.named));
+          slots = subst (λ (l : Layout). HasSlots s.memory l here) same h.slots;
+          stage = subst (λ (l : Layout). StageHolds s.memory l v.stage) same h.stage;
+          order = order_posted out gone here h.order;
+        }
 
-not_looks : (stage : Stage) (seen : List Told) → HasNamed stage → stage ≡ Looks → seen ≡ []
-not_looks Looks seen done is = absurd done
-not_looks Takes seen done is = absurd done
-not_looks Owes seen done is = absurd done
-not_looks (Lent b) seen done is = absurd done
-not_looks (Named b) seen done is = cc
+-- how far a word moves it on, and which packets go with it
+record IsMoved (v : Receive) (word : ℕ) (w : Receive) : Type 0 where
+  pub blocks : ℕ
+  pub packets : ℕ
+  pub word_is : word ≡ tail_behind v.layout (many v blocks)
+  pub driver : w ≡ posts v blocks packets
 
-next_holds : (m : Memory) (l : Layout) (seen : List Told) → StageHolds m l (next_stage seen)
-next_holds m l [] = tt
-next_holds m l (t ∷ ts) = tt
+-- a word over one packet's blocks, or over all
+abbrev IsWord : Receive → ℕ → Type 0
+IsWord v word = MovesOne v word ⊎ (word ≡ tail_behind v.layout (length v.named))
 
-order_moved : (out gone here : List Piece) (v : Receive) → HasNamed v.stage → InOrder out v gone here
-    → InOrder out (moved v) gone here
-order_moved out gone here v done o =
-    let left = left_twice v.seen v.held in
-    let hs = v.handed ++ listed (out_of v.seen v.held) in
+-- over all that are named, or more
+over_all : (v : Receive) (blocks packets word : ℕ) (w : Receive) → length v.named ≤ blocks
+    → word ≡ tail_behind v.layout (length v.named) → w ≡ posts v blocks packets → IsMoved v word w
+over_all v blocks packets word w all is same =
+    let e : many v blocks ≡ length v.named = ap (λ (bs : List ℕ). length bs) (take_all blocks v.named all) in
     record {
-      cut = λ rest. o.cut rest
-          ∙ ap (λ (xs : List Kept). xs ++ packets_behind (kept_of (left_of v.seen v.held)).bytes rest)
-          (sym (append-nil hs) ∙ ap (λ (ks : List Kept). hs ++ ks) (sym (none_twice v.seen v.held)))
-          ∙ ap (λ (p : Packet). (hs ++ listed (out_of v.seen (left_of v.seen v.held)))
-          ++ packets_behind (kept_of p).bytes rest) (sym left);
-      parts = o.parts ∙ ap (λ (p : Packet). length p.bufs) (sym left);
-      full = ap (λ (p : Packet). length (bytes_of p.bufs)) left ∙ o.full ∙ ap (λ (p : Packet). p.len) (sym left);
-      seen = o.seen;
-      stage = next_at v.seen v.held (end_last v.stage v.seen v.held (not_looks v.stage v.seen done) o.stage);
-      order = o.order;
+      blocks = blocks;
+      packets = packets;
+      word_is = is ∙ ap (tail_behind v.layout) (sym e);
+      driver = same;
     }
+
+over_one : (v : Receive) (word : ℕ) → word ≡ tail_behind v.layout (parts_first v.whole) → IsWord v word
+    → (length v.named < parts_first v.whole) ⊎ (parts_first v.whole ≤ length v.named)
+    → IsMoved v word (posts_one v)
+over_one v word is by (inr few) =
+    let e : many v (parts_first v.whole) ≡ parts_first v.whole =
+    length-take-le (parts_first v.whole) v.named few in
+    record {
+      blocks = parts_first v.whole;
+      packets = 1;
+      word_is = is ∙ ap (tail_behind v.layout) (sym e);
+      driver = refl;
+    }
+over_one v word is (inl one) (inl more) =
+    let few = one.few in
+    absurd (omega (arith, few, more))
+over_one v word is (inr all) (inl more) =
+    over_all v (parts_first v.whole) 1 word (posts_one v) (omega (arith, more)) all refl
+
+not_one : (v : Receive) (word : ℕ) → (word == tail_behind v.layout (parts_first v.whole)) ≡ false → IsWord v word
+    → word ≡ tail_behind v.layout (length v.named)
+not_one v word other (inl one) = absurd (eqb-false word _ other one.word_is)
+not_one v word other (inr all) = all
+
+moved_by : (v : Receive) (word : ℕ) (t : Bool) → (word == tail_behind v.layout (parts_first v.whole)) ≡ t
+    → IsWord v word → IsMoved v word (cond t (posts_one v) (posts_all v))
+moved_by v word true is by =
+    over_one v word (eqb-true word _ is) by (cases_lt (length v.named) (parts_first v.whole))
+moved_by v word false is by =
+    over_all v (length v.named) (length v.whole) word (posts_all v) (omega arith) (not_one v word is by) refl
+
+moved_is : (v : Receive) (port : Port) (number word : ℕ) → MovesNext v port number word
+    → IsMoved v word (drive v (event.Write port number word) reply.Done)
+moved_is v port number word own =
+    moved_by v word (word == tail_behind v.layout (parts_first v.whole)) refl own.word_is
+
+pub word_low : (v : Receive) (port : Port) (number word : ℕ) → IsRing (reach v) → MovesNext v port number word
+    → word < 65536
+word_low v port number word ring own =
+    let m = moved_is v port number word own in
+    subst (λ (x : ℕ). x < 65536) (sym m.word_is) (tail_low v m.blocks ring)
 
 pub move_keeps : (queue : ℕ) (s : State) (out : List Piece) (v : Receive) (port : Port) (number word : ℕ)
     → HasShape s.registers → Agree queue s out v → MovesNext v port number word
@@ -145,31 +174,18 @@ pub move_keeps : (queue : ℕ) (s : State) (out : List Piece) (v : Receive) (por
     (drive v (event.Write port number word) (reply_to s (event.Write port number word)))
 move_keeps queue s out v port number word shape (gone, here, h) own =
     let l = v.layout in
-    let b = fresh_of v.stage in
-    let to = slot_at l (vacant l + 1) in
-    let t : State = record s { registers = after_write s.registers (place Rdt queue) 0xFFFFFFFF to } in
-    let both = both_of s.memory l v.stage own.stage h.stage in
+    let m = moved_is v port number word own in
     subst (λ x. Agree queue (after s (event.Write x number word)) out
     (drive v (event.Write x number word) (reply_to s (event.Write x number word)))) (sym own.port_is)
     (subst (λ x. Agree queue (after s (event.Write l.port x word)) out
     (drive v (event.Write l.port x word) (reply_to s (event.Write l.port x word)))) (sym own.number_is)
-    (subst (λ x. Agree queue (after s (event.Write l.port l.tail x)) out
-    (drive v (event.Write l.port l.tail x) (reply_to s (event.Write l.port l.tail x)))) (sym own.word_is)
-    (subst (λ (x : Outcome). Agree queue x.state out (drive v (event.Write l.port l.tail to) x.reply))
-    (sym (tail_written s queue l to h.named)) (
+    (subst (λ (x : Outcome). Agree queue x.state out (drive v (event.Write l.port l.tail word) x.reply))
+    (sym (tail_written s queue l word h.named))
+    (subst (Agree queue (record s { registers = after_write s.registers (place Rdt queue) 0xFFFFFFFF word }) out)
+    (sym m.driver)
+    (subst (λ x. Agree queue (record s { registers = after_write s.registers (place Rdt queue) 0xFFFFFFFF x }) out
+    (posts v m.blocks m.packets)) (sym m.word_is) (
       gone,
       here,
-      record {
-        named = record {
-          low = h.named.low;
-          tail = (named_kept s t queue l (mode_after_tail s.registers queue to) refl h.named).tail;
-        };
-        ring = ring_more s.memory l here b h.ring h.slots both.0 both.1;
-        side = subst (λ q. IsSetUp q (extended l b) (length here))
-            (sym (receive-tail s.registers queue to shape h.named.low (low_tail l h.ring both.0.room)))
-            (set_up_more s.memory l here b h.ring h.slots both.0 both.1 (receive_queue_of s.registers queue) h.side);
-        slots = slots_more s.memory l here b h.ring h.slots both.0 both.1;
-        stage = next_holds s.memory (extended l b) v.seen;
-        order = order_moved out gone here v own.stage h.order;
-      },
-    ))))
+      posts_holds v m.blocks m.packets queue s out gone here shape h,
+    )))))

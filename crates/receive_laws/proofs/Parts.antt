@@ -1,17 +1,17 @@
 -- Parts of packets: what the driver saw of them, and how the pieces are cut behind those that were consumed.
-use Rattle.std.proofs.Common.{◌≡◌, ℕ, suc, ◌+◌, ◌<◌, ◌≤◌, Bool, true, false, cond, List, [], ◌∷◌, ◌++◌, length, take, drop, Option, Some, refl, sym, ap, ◌∙◌, subst, arith, append_assoc}
-use Rattle.std.proofs.lemmas.List.{append-nil, length_push, length-append}
+use Rattle.std.proofs.Common.{◌≡◌, ℕ, suc, ◌+◌, ◌<◌, ◌≤◌, Bool, true, false, cond, List, [], ◌∷◌, ◌++◌, length, take, drop, refl, sym, ap, ◌∙◌, subst, arith, append_assoc}
+use Rattle.std.proofs.lemmas.List.{append-nil, length_push, length-append, map-append}
 use Rattle.nic_device.specs.DmaArena.Block.{Block}
 use Rattle.nic_device.specs.DmaRing.Receive.{ends_packet, bytes_in}
 use Rattle.pmd_rx.specs.PmdSeam.Bufs.{bytes_of}
 use Rattle.pmd_rx.specs.PmdSeam.Packet.{Kept, kept_of}
 use Rattle.pmd_rx.specs.PmdSeam.declared.packet.Packet.{Packet}
 use Rattle.pmd_rx.proofs.PmdSeam.Copying.{bytes-more}
-use Rattle.pmd_rx.specs.Receive.{Receive, no_packet, joined, took, out_of, if_any, left_of, next_stage, listed}
+use Rattle.pmd_rx.specs.Receive.{Receive, no_packet, joined, took, ended_of, if_any, left_of, next_stage, records_of}
 use Rattle.pmd_rx.specs.declared.ring.Stage.{Stage}
-use Rattle.pmd_rx.specs.declared.ring.Stage.TheVariants.{Looks, Takes, Owes, Lent, Named}
+use Rattle.pmd_rx.specs.declared.ring.Stage.TheVariants.{Looks, Takes, Owes, Lent}
 use Rattle.pmd_rx.specs.declared.ring.Told.{Told}
-use Rattle.receive_laws.specs.Joint.{Saw, AreSeen, IsOpen, AreOpen, EndLast, IsAt, AreCut, InOrder}
+use Rattle.receive_laws.specs.Joint.{Saw, AreSeen, IsOpen, AreOpen, EndLast, IsAt, AreCut, InOrder, packets_had}
 use Rattle.receive_laws.specs.Pieces.{Piece, packet_told, packets_of, packets_behind, open_after, piece_at}
 
 -- what was seen stays so as a piece more is written
@@ -51,14 +51,13 @@ end_last Looks seen held none is = subst (λ (ts : List Told). EndLast ts) (sym 
 end_last Takes seen held none is = is
 end_last Owes seen held none is = is
 end_last (Lent b) seen held none is = is
-end_last (Named b) seen held none is = is
 
 pub next_at : (seen : List Told) (held : Packet) → EndLast seen → IsAt (next_stage seen) seen (left_of seen held)
 next_at [] held is = (refl, tt)
 next_at (t ∷ ts) held is = is
 
--- nothing is handed out twice, and what is left stays
-pub none_twice : (seen : List Told) (held : Packet) → listed (out_of seen (left_of seen held)) ≡ []
+-- no packet is whole twice, and what is left stays
+pub none_twice : (seen : List Told) (held : Packet) → ended_of seen (left_of seen held) ≡ []
 none_twice [] held = refl
 none_twice (t ∷ ts) held = refl
 
@@ -67,9 +66,9 @@ left_twice [] held = refl
 left_twice (t ∷ ts) held = refl
 
 -- where nothing is held, it is the same whatever was seen
-pub none_out : (seen : List Told) → listed (out_of seen no_packet) ≡ []
-none_out [] = refl
-none_out (t ∷ ts) = refl
+pub none_ended : (seen : List Told) → ended_of seen no_packet ≡ []
+none_ended [] = refl
+none_ended (t ∷ ts) = refl
 
 pub none_left : (seen : List Told) → left_of seen no_packet ≡ no_packet
 none_left [] = refl
@@ -103,7 +102,7 @@ joined_length p b t full whole fills =
     let e = ap (λ (ys : List ℕ). length ys) (bytes-more p.bufs b) in
     omega (arith, e, length-append (bytes_of p.bufs) b.bytes, full, whole, fills)
 
-any_pushed : (bs : List Block) (b : Block) (p : Packet) → if_any (bs ++ b ∷ []) p ≡ Some p
+any_pushed : (bs : List Block) (b : Block) (p : Packet) → if_any (bs ++ b ∷ []) p ≡ p ∷ []
 any_pushed [] b p = refl
 any_pushed (c ∷ bs) b p = refl
 
@@ -122,9 +121,15 @@ behind_open : (front : List ℕ) (p : Piece) (rest : List Piece) → p.end ≡ f
     → packets_behind front (p ∷ rest) ≡ packets_behind (front ++ p.bytes) rest
 behind_open front p rest is = rw is refl
 
-put_before : (hs : List Kept) (k : Kept) (ks : List Kept) → (hs ++ []) ++ k ∷ ks ≡ (hs ++ k ∷ []) ++ ks
-put_before hs k ks =
-    ap (λ (xs : List Kept). xs ++ k ∷ ks) (append-nil hs) ∙ sym (append_assoc hs (k ∷ []) ks)
+-- a packet is whole behind some
+put_before : (hs : List Kept) (ws : List Packet) (p : Packet) (ks : List Kept)
+    → (hs ++ records_of (ws ++ [])) ++ kept_of p ∷ ks ≡ (hs ++ records_of (ws ++ p ∷ [])) ++ ks
+put_before hs ws p ks =
+    let k : Kept = kept_of p in
+    ap (λ (xs : List Packet). (hs ++ records_of xs) ++ k ∷ ks) (append-nil ws)
+    ∙ sym (append_assoc (hs ++ records_of ws) (k ∷ []) ks)
+    ∙ ap (λ (xs : List Kept). xs ++ ks) (append_assoc hs (records_of ws) (k ∷ [])
+    ∙ ap (λ (xs : List Kept). hs ++ xs) (sym (map-append kept_of ws (p ∷ []))))
 
 -- the part of the next slot is taken
 module _ (out gone ps : List Piece) (v : Receive) (p : Piece) (t : Told) (b : Block)
@@ -141,23 +146,26 @@ module _ (out gone ps : List Piece) (v : Receive) (p : Piece) (t : Told) (b : Bl
 
   -- before it was taken, by what was seen
   module _ (cut : (rest : List Piece)
-      → packets_of (gone ++ rest) ≡ (v.handed ++ []) ++ packets_behind (kept_of v.held).bytes rest)
+      → packets_of (gone ++ rest)
+      ≡ (v.handed ++ records_of (v.whole ++ [])) ++ packets_behind (kept_of v.held).bytes rest)
       (parts : open_after 0 gone ≡ length v.held.bufs) (full : length (bytes_of v.held.bufs) ≡ v.held.len)
       (saw : Saw t p) where
     last_cut : p.end ≡ true → AreCut (gone ++ p ∷ []) (took v (t ∷ []) b)
     last_cut end rest =
         shift rest ∙ cut (p ∷ rest)
-        ∙ ap (λ (ks : List Kept). (v.handed ++ []) ++ ks) (behind_end (kept_of v.held).bytes p rest end)
-        ∙ put_before v.handed (packet_told ((kept_of v.held).bytes ++ p.bytes) p.first) (packets_behind [] rest)
-        ∙ ap (λ (k : Kept). (v.handed ++ k ∷ []) ++ packets_behind [] rest) (kept_is full saw)
-        ∙ ap (λ (o : Option Packet). (v.handed ++ listed o) ++ packets_behind [] rest)
+        ∙ ap (λ (ks : List Kept). (v.handed ++ records_of (v.whole ++ [])) ++ ks)
+        (behind_end (kept_of v.held).bytes p rest end
+        ∙ ap (λ (k : Kept). k ∷ packets_behind [] rest) (kept_is full saw))
+        ∙ put_before v.handed v.whole (joined v.held b t) (packets_behind [] rest)
+        ∙ ap (λ (ps : List Packet). (v.handed ++ records_of (v.whole ++ ps)) ++ packets_behind [] rest)
         (sym (any_pushed v.held.bufs b (joined v.held b t)))
 
     more_cut : (u : Told) (ts : List Told) → p.end ≡ false → AreCut (gone ++ p ∷ []) (took v (t ∷ u ∷ ts) b)
     more_cut u ts opens rest =
         shift rest ∙ cut (p ∷ rest)
-        ∙ ap (λ (ks : List Kept). (v.handed ++ []) ++ ks) (behind_open (kept_of v.held).bytes p rest opens)
-        ∙ ap (λ (xs : List ℕ). (v.handed ++ []) ++ packets_behind xs rest)
+        ∙ ap (λ (ks : List Kept). (v.handed ++ records_of (v.whole ++ [])) ++ ks)
+        (behind_open (kept_of v.held).bytes p rest opens)
+        ∙ ap (λ (xs : List ℕ). (v.handed ++ records_of (v.whole ++ [])) ++ packets_behind xs rest)
         (ap (λ (xs : List ℕ). (kept_of v.held).bytes ++ xs) (sym bytes) ∙ sym (joined_bytes v.held b t full))
 
     taken : (ts : List Told) → EndLast (t ∷ ts) → AreSeen ts ps → out ≡ gone ++ p ∷ ps
@@ -196,9 +204,10 @@ order_on out gone (p ∷ ps) v t ts b o is takes some bytes whole =
     subst (λ (xs : List Told). EndLast xs) is
     (subst (λ (s : Stage). IsAt s v.seen v.held) takes o.stage) in
     let cut : (rest : List Piece)
-    → packets_of (gone ++ rest) ≡ (v.handed ++ []) ++ packets_behind (kept_of v.held).bytes rest =
+    → packets_of (gone ++ rest)
+    ≡ (v.handed ++ records_of (v.whole ++ [])) ++ packets_behind (kept_of v.held).bytes rest =
     λ rest. o.cut rest
-    ∙ ap (λ (xs : List Told). (v.handed ++ listed (out_of xs v.held))
+    ∙ ap (λ (xs : List Told). (v.handed ++ records_of (v.whole ++ ended_of xs v.held))
     ++ packets_behind (kept_of (left_of xs v.held)).bytes rest) is in
     taken out gone ps v p t b bytes whole cut
     (o.parts ∙ ap (λ (xs : List Told). length (left_of xs v.held).bufs) is)
@@ -218,23 +227,21 @@ first_seen seen here t ts are is = first_saw t ts here (subst (λ (xs : List Tol
 
 -- while nothing is held, what is seen may change
 pub none_held : (out gone here : List Piece) (v w : Receive) → InOrder out v gone here → v.held ≡ no_packet
-    → w.held ≡ no_packet → w.handed ≡ v.handed → AreSeen w.seen here → IsAt w.stage w.seen w.held
-    → InOrder out w gone here
-none_held out gone here v w o none still same seen stage =
+    → w.held ≡ no_packet → w.handed ≡ v.handed → w.whole ≡ v.whole → AreSeen w.seen here
+    → IsAt w.stage w.seen w.held → InOrder out w gone here
+none_held out gone here v w o none still same whole seen stage =
     let was : left_of v.seen v.held ≡ no_packet = ap (λ (p : Packet). left_of v.seen p) none ∙ none_left v.seen in
     let now : left_of w.seen w.held ≡ no_packet = ap (λ (p : Packet). left_of w.seen p) still ∙ none_left w.seen in
     let both : left_of v.seen v.held ≡ left_of w.seen w.held = was ∙ sym now in
-    let outs : listed (out_of v.seen v.held) ≡ listed (out_of w.seen w.held) =
-    ap (λ (p : Packet). listed (out_of v.seen p)) none ∙ none_out v.seen
-    ∙ sym (ap (λ (p : Packet). listed (out_of w.seen p)) still ∙ none_out w.seen) in
+    let ended : ended_of v.seen v.held ≡ ended_of w.seen w.held =
+    ap (λ (p : Packet). ended_of v.seen p) none ∙ none_ended v.seen
+    ∙ sym (ap (λ (p : Packet). ended_of w.seen p) still ∙ none_ended w.seen) in
+    let had : packets_had v ≡ packets_had w =
+    λ k. sym same k ++ records_of (sym whole k ++ ended k) in
     record {
       cut = λ rest. o.cut rest
-          ∙ ap (λ (ks : List Kept). (v.handed ++ ks) ++ packets_behind (kept_of (left_of v.seen v.held)).bytes rest)
-          outs
-          ∙ ap (λ (hs : List Kept). (hs ++ listed (out_of w.seen w.held))
-          ++ packets_behind (kept_of (left_of v.seen v.held)).bytes rest) (sym same)
-          ∙ ap (λ (p : Packet). (w.handed ++ listed (out_of w.seen w.held)) ++ packets_behind (kept_of p).bytes rest)
-          both;
+          ∙ ap (λ (ks : List Kept). ks ++ packets_behind (kept_of (left_of v.seen v.held)).bytes rest) had
+          ∙ ap (λ (p : Packet). packets_had w ++ packets_behind (kept_of p).bytes rest) both;
       parts = o.parts ∙ ap (λ (p : Packet). length p.bufs) both;
       full = ap (λ (p : Packet). length (bytes_of p.bufs)) (sym both) ∙ o.full ∙ ap (λ (p : Packet). p.len) both;
       seen = seen;

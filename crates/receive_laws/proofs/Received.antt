@@ -38,12 +38,12 @@ use Rattle.receive_laws.proofs.Advancing.{filled_holds}
 pub slot_left : (queue : ℕ) (s : State) (out : List Piece) (v : Receive) (gone here : List Piece)
     → Holds queue s out v gone here → IsTried (side_of Rx queue s) → length here < length v.layout.blocks
 slot_left queue s out v gone here h tried =
-    room_left s queue v.layout here h.ring h.side h.slots tried.some (cases_lt (length here) (length v.layout.blocks))
+    room_left queue s out v gone here h tried.some (cases_lt (length here) (length v.layout.blocks))
 
 pub never_shuts : (queue : ℕ) (s : State) (out : List Piece) (v : Receive) (e : Event Block) → Agree queue s out v
     → Shuts Rx queue s e → ⊥
 never_shuts queue s out v e (gone, here, h) x =
-    no_fault s queue v.layout here h.ring h.side h.slots (slot_left queue s out v gone here h x.tried)
+    no_fault queue s out v gone here h (slot_left queue s out v gone here h x.tried)
     (rest_of x.fault.frame) x.fault.fault x.fault.answer
 
 module _ (queue : ℕ) (s : State) (out : List Piece) (v : Receive) (sound : IsSound s) (j : Agree queue s out v)

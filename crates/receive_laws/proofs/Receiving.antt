@@ -20,101 +20,113 @@ use Rattle.nic_device.specs.State.{State}
 use Rattle.history_laws.specs.Left.{fill_on}
 use Rattle.history_laws.specs.Segments.{piece_in}
 use Rattle.pmd_rx.specs.PmdSeam.Slots.{wrapped}
-use Rattle.pmd_rx.specs.Receive.{Layout, slot_at, descriptor_at, block_at, vacant}
-use Rattle.receive_laws.specs.Joint.{IsFilled, IsRing, IsSetUp, HasSlots}
+use Rattle.pmd_rx.specs.Receive.{Layout, Receive, slot_at, descriptor_at, block_at, vacant, reach}
+use Rattle.receive_laws.specs.Joint.{IsPosted, IsFilled, IsRing, HasSlots, Holds}
 use Rattle.receive_laws.specs.Pieces.{Piece, no_piece, piece_at}
 use Rattle.receive_laws.proofs.Filled.{Fills, fills_slot, filled_beside, posted_beside}
 use Rattle.receive_laws.proofs.Kept.{slot_below, slot_low, ring_low}
 use Rattle.receive_laws.proofs.Looking.{descriptor_lent}
 use Rattle.pmd_rx.proofs.PmdSeam.Places.{next_wrapped}
 use Rattle.receive_laws.proofs.Places.{address_small, buffer_even, inside_of}
+use Rattle.receive_laws.proofs.Reach.{posted_in, posted_below}
 
 -- the head of the queue is the first slot that isn't filled
-module _ (s : State) (queue : ℕ) (l : Layout) (here : List Piece) (ring : IsRing l)
-    (side : IsSetUp (receive_queue_of s.registers queue) l (length here)) (h : HasSlots s.memory l here) where
+module _ (queue : ℕ) (s : State) (out : List Piece) (v : Receive) (gone here : List Piece)
+    (h : Holds queue s out v gone here) where
+  abbrev l : Layout
+  l = reach v
+
   abbrev own : ReceiveQueue
   own = receive_queue_of s.registers queue
 
+  -- it is posted
+  abbrev HasRoom : Type 0
+  HasRoom = length here < length v.layout.blocks
+
   inside : is_outside own.ring ≡ false
   inside =
-      let head : slot_at l (length here) < l.size = slot_below l (length here) ring h.within in
-      let tail : slot_at l (vacant l) < l.size = slot_below l (vacant l) ring (omega arith) in
-      inside_of own.ring l.size side.sized
-      (subst (λ x. x < l.size) (sym side.head) head) (subst (λ x. x < l.size) (sym side.tail) tail)
+      let head : slot_at l (length here) < l.size = slot_below l (length here) h.ring h.slots.within in
+      let tail : slot_at l (vacant v.layout) < l.size =
+      slot_below l (vacant v.layout) h.ring (posted_in v (vacant v.layout) (omega arith)) in
+      inside_of own.ring l.size h.side.sized
+      (subst (λ x. x < l.size) (sym h.side.head) head) (subst (λ x. x < l.size) (sym h.side.tail) tail)
 
   pub head_is : head_address own.ring ≡ descriptor_at l (length here)
-  head_is = address_small _ _ l.ring (slot_at l (length here)) side.base side.head
-      (ring_low l ring)
-      (slot_low l (length here) ring h.within)
+  head_is = address_small _ _ l.ring (slot_at l (length here)) h.side.base h.side.head
+      (ring_low l h.ring)
+      (slot_low l (length here) h.ring h.slots.within)
 
-  pub buffer_is : length here < length l.blocks
-      → buffer_address s.memory own.ring ≡ 2048 * block_at l (length here)
+  first_waits : HasRoom → IsPosted s.memory (descriptor_at l (length here)) (block_at l (length here))
+  first_waits room = h.slots.posted (length here) (omega arith) (posted_below v (length here) room)
+
+  pub buffer_is : HasRoom → buffer_address s.memory own.ring ≡ 2048 * block_at l (length here)
   buffer_is room =
       buffer_even _ (block_at l (length here))
-      (ap (λ a. first_half (read_at s.memory a 16)) head_is ∙ (h.posted (length here) (omega arith) room).buffer)
+      (ap (λ a. first_half (read_at s.memory a 16)) head_is ∙ (first_waits room).buffer)
 
   -- a slot is left where the ring isn't empty
-  pub room_left : is_empty own.ring ≡ false → (length here < length l.blocks) ⊎ (length l.blocks ≤ length here)
-      → length here < length l.blocks
+  pub room_left : is_empty own.ring ≡ false
+      → (length here < length v.layout.blocks) ⊎ (length v.layout.blocks ≤ length here)
+      → length here < length v.layout.blocks
   room_left some (inl is) = is
   room_left some (inr all) =
-      let within = h.within in
-      let e : length here ≡ length l.blocks = omega arith in
-      let same : own.ring.head ≡ own.ring.tail = side.head ∙ ap (slot_at l) e ∙ sym side.tail in
+      let within = h.posted in
+      let e : length here ≡ length v.layout.blocks = omega (arith, within, all) in
+      let same : own.ring.head ≡ own.ring.tail = h.side.head ∙ ap (slot_at l) e ∙ sym h.side.tail in
       let empty : is_empty own.ring ≡ true = and_from _ _ (not_from_false _ inside) (eq-eqb _ _ same) in
       absurd (both_ways _ some empty)
 
-  pub healthy : length here < length l.blocks → IsHealthy s.memory own.ring own.control
+  pub healthy : HasRoom → IsHealthy s.memory own.ring own.control
   healthy room =
-      let size = side.buffer_size in
+      let size = h.side.buffer_size in
       record {
         set_up = record {
           inside = inside;
-          one_buffer = side.one_buffer;
+          one_buffer = h.side.one_buffer;
           sized = λ e. absurd (omega (arith, size, e));
         };
         descriptor =
             subst (λ a. is_lent s.memory a 16 ≡ true) (sym head_is)
-            (descriptor_lent s.memory l here ring h (length here) h.within);
+            (descriptor_lent s.memory l here h.ring h.slots (length here) h.slots.within);
         buffer =
             subst (λ n. is_lent s.memory (buffer_address s.memory own.ring) n ≡ true) (sym size)
             (subst (λ a. is_lent s.memory a 2048 ≡ true) (sym (buffer_is room))
             (is_lent_in s.memory (2048 * block_at l (length here)) 2048 (block_at l (length here)) 0
-            (h.posted (length here) (omega arith) room).there (omega arith) (omega arith)));
+            (first_waits room).there (omega arith) (omega arith)));
       }
 
   -- no fault
-  pub no_fault : length here < length l.blocks → (rest : Rest) (fault : RingFault)
-      → (fill_on s queue rest).answer ≡ Err fault → ⊥
+  pub no_fault : HasRoom → (rest : Rest) (fault : RingFault) → (fill_on s queue rest).answer ≡ Err fault → ⊥
   no_fault room rest fault is =
       let e = ap (λ (o : Outcome). o.answer) (fill_healthy s.memory own.ring own.control rest (healthy room)) in
       let clash = sym e ∙ is in
       cc
 
-  pub fills_here : length here < length l.blocks → IsWhole s.memory → (rest : Rest) (f : Filled) → rest.first < 2 ^ 64
+  pub fills_here : HasRoom → IsWhole s.memory → (rest : Rest) (f : Filled) → rest.first < 2 ^ 64
       → (fill_on s queue rest).answer ≡ Ok f
       → Fills s.memory (fill_on s queue rest).memory (descriptor_at l (length here)) (block_at l (length here))
       (piece_in rest f)
   fills_here room whole rest f fits is =
       fills_slot s.memory own.ring own.control rest f l.ring l.size (slot_at l (length here))
-      (block_at l (length here)) whole fits is side.buffer_size head_is (buffer_is room)
-      (ring.not_ring (length here) room) (slot_below l (length here) ring h.within)
-      (h.posted (length here) (omega arith) room).there
+      (block_at l (length here)) whole fits is h.side.buffer_size head_is (buffer_is room)
+      (h.ring.not_ring (length here) (posted_below v (length here) room))
+      (slot_below l (length here) h.ring h.slots.within) (first_waits room).there
 
-  pub head_on : length here < length l.blocks → (rest : Rest) (f : Filled) → (fill_on s queue rest).answer ≡ Ok f
+  pub head_on : HasRoom → (rest : Rest) (f : Filled) → (fill_on s queue rest).answer ≡ Ok f
       → (f.head ≡ slot_at l (length here + 1)) × (f.head < 65536)
   head_on room rest f is =
       let r : Ring = own.ring in
       let t = takes_piece s.memory r own.control rest f is in
-      let sized = side.sized in
+      let sized = h.side.sized in
       let slots : slots_of r ≡ l.size = omega (arith, sized) in
-      let some = ring.some in
-      let few = ring.few in
-      let next = ring.next in
-      let free = ring.room in
+      let some = h.ring.some in
+      let few = h.ring.few in
+      let next = h.ring.next in
+      let free = h.ring.room in
+      let low = posted_below v (length here) room in
       let below = t.inside in (
-        t.head ∙ ap (λ n. next_of n r.head) slots ∙ ap (next_of l.size) side.head
-            ∙ next_wrapped l.size (l.next + length here) some (omega (arith, next, free, room))
+        t.head ∙ ap (λ n. next_of n r.head) slots ∙ ap (next_of l.size) h.side.head
+            ∙ next_wrapped l.size (l.next + length here) some (omega (arith, next, free, low))
             ∙ ap (wrapped l.size) (let e : l.next + length here + 1 ≡ l.next + (length here + 1) = omega arith in e),
         omega (arith, below, slots, few),
       )

@@ -27,6 +27,7 @@ start_agrees queue port tail ring size most s r = (
       head = r.side.head ∙ first_place size r.some;
       tail = r.side.tail ∙ first_place size r.some;
     };
+    posted = omega arith;
     slots = record {
       there = r.there;
       within = omega arith;

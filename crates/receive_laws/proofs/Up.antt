@@ -1,5 +1,5 @@
 -- A receive side that is on and wanted on stays so, where device and driver agree.
-use Rattle.std.proofs.Common.{◌≡◌, ℕ, ◌+◌, inl, inr, List, sym, ap, subst}
+use Rattle.std.proofs.Common.{◌≡◌, ℕ, inl, inr, List, sym, ap, subst}
 use Rattle.nic_device.specs.DmaArena.Block.{Block}
 use Rattle.nic_device.specs.RegisterFile.Pools.{mode_in}
 use Rattle.nic_device.specs.DmaRing.declared.dir.Dir.TheVariants.{Rx}
@@ -22,12 +22,12 @@ use Rattle.history_laws.proofs.Leaving.{left-side}
 use Rattle.history_laws.proofs.Sides.{receive_left}
 use Rattle.history_laws.proofs.Steady.{up_kept}
 use Rattle.history_laws.proofs.Tails.{receive-tail}
-use Rattle.pmd_rx.specs.Receive.{MovesNext, Receive, slot_at, vacant}
+use Rattle.pmd_rx.specs.Receive.{MovesNext, Receive}
 use Rattle.receive_laws.specs.Joint.{Agree}
 use Rattle.receive_laws.specs.Pieces.{Piece}
 use Rattle.receive_laws.specs.Up.{IsUp, LeavingStaysUp, EnableStepChangesNothing, EntryStaysUp, OwnEventStaysUp, ReceiveStepStaysUp}
 use Rattle.receive_laws.proofs.Clear.{no_registers}
-use Rattle.receive_laws.proofs.Moving.{low_tail, both_of}
+use Rattle.receive_laws.proofs.Moving.{word_low}
 use Rattle.receive_laws.proofs.Received.{never_shuts}
 use Rattle.receive_laws.proofs.Switching.{switched_same}
 use Rattle.receive_laws.proofs.Tail.{tail_written}
@@ -52,13 +52,10 @@ move_up : (queue : ℕ) (s : State) (out : List Piece) (v : Receive) (port : Por
     → IsSound s → Agree queue s out v → MovesNext v port number word → IsUp queue s
     → IsUp queue (after s (event.Write port number word))
 move_up queue s out v port number word i (gone, here, h) own up =
-    let l = v.layout in
-    let both = both_of s.memory l v.stage own.stage h.stage in
-    let tail = slot_at l (vacant l + 1) in
-    let side = receive-tail s.registers queue tail i.registers.shape h.named.low
-    (low_tail l h.ring both.0.room) in
-    rw (own.port_is, own.number_is, own.word_is)
-    (subst (λ (x : Outcome). IsUp queue x.state) (sym (tail_written s queue l tail h.named))
+    let side = receive-tail s.registers queue word i.registers.shape h.named.low
+    (word_low v port number word h.ring own) in
+    rw (own.port_is, own.number_is)
+    (subst (λ (x : Outcome). IsUp queue x.state) (sym (tail_written s queue v.layout word h.named))
     (subst sides.IsUp (sym (ap receive_side side)) (record { on = up.on; wanted = up.wanted })))
 
 pub own_stays_up : OwnEventStaysUp

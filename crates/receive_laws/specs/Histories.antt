@@ -13,7 +13,7 @@ use Rattle.device_lock.specs.declared.alone.Watched.{Watched}
 use Rattle.device_lock.specs.declared.entry.Entry.{Entry}
 use Rattle.pmd_rx.specs.PmdSeam.Events.{is_step}
 use Rattle.pmd_rx.specs.Plays.{AllOwn, after_call, played_by}
-use Rattle.pmd_rx.specs.Receive.{Receive, descriptor_at}
+use Rattle.pmd_rx.specs.Receive.{Receive, descriptor_at, records_of}
 use Rattle.pmd_rx.specs.declared.ring.Stage.TheVariants.{Looks}
 use Rattle.receive_laws.specs.Delivered.{IsPrefixOf, delivered, pieces_since}
 use Rattle.receive_laws.specs.Joint.{Agree}
@@ -74,14 +74,29 @@ HandedIsPrefix =
     (delivered w.queue (new_state w.vfs fifo) (start ++ rest))
 
 -- a look at the slot behind those that a driver saw, from a state on, would find it not done
-pub record FindsNone (s : State) (v : Receive) : Type 0 where
+pub record ShowsNone (s : State) (v : Receive) : Type 0 where
   pub looks : v.stage ≡ Looks
   pub posted : length v.seen < length v.layout.blocks
   pub bytes : List ℕ
   pub reply : reply_to s (event.Peek16 (descriptor_at v.layout (length v.seen))) ≡ Bytes bytes
   pub waits : IsFalse (is_done (second_half bytes))
 
--- where a look that comes next finds its slot not done, all that was delivered was handed out
+-- where a look that comes next finds its slot not done, all that was delivered was taken: it was handed out, or is
+-- whole and handed out as the tail moves on
+abbrev pub NoneIsAllTaken : Type 0
+NoneIsAllTaken =
+    (w : Watched) (fifo : ℕ) (start rest : List Entry) (v : Receive) (marks : List Bool) →
+    IsDriven w fifo start rest v marks →
+    ShowsNone (leads_to (new_state w.vfs fifo) (start ++ rest)) (played_by v marks (calls_of w.pass rest)) →
+    (played_by v marks (calls_of w.pass rest)).handed ++ records_of (played_by v marks (calls_of w.pass rest)).whole
+    ≡ delivered w.queue (new_state w.vfs fifo) (start ++ rest)
+
+-- it finds none, and no packet that is whole waits for the tail
+pub record FindsNone (s : State) (v : Receive) : Type 0 where
+  pub shows : ShowsNone s v
+  pub none_whole : v.whole ≡ []
+
+-- then all that was delivered was handed out
 abbrev pub NoneIsAll : Type 0
 NoneIsAll =
     (w : Watched) (fifo : ℕ) (start rest : List Entry) (v : Receive) (marks : List Bool) →

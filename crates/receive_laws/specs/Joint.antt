@@ -12,11 +12,11 @@ use Rattle.nic_device.specs.State.{State}
 use Rattle.nic_device.specs.declared.named.Named.TheVariants.{Register}
 use Rattle.pmd_rx.specs.PmdSeam.Slots.{blocks_for, is_ring_block, EachRingBlock}
 use Rattle.pmd_rx.specs.PmdSeam.Bufs.{bytes_of}
-use Rattle.pmd_rx.specs.PmdSeam.Packet.{kept_of}
+use Rattle.pmd_rx.specs.PmdSeam.Packet.{Kept, kept_of}
 use Rattle.pmd_rx.specs.PmdSeam.declared.packet.Packet.{Packet}
-use Rattle.pmd_rx.specs.Receive.{Layout, Receive, slot_at, descriptor_at, block_at, vacant, no_packet, left_of, out_of, listed}
+use Rattle.pmd_rx.specs.Receive.{Layout, Receive, slot_at, descriptor_at, block_at, vacant, reach, no_packet, left_of, ended_of, records_of}
 use Rattle.pmd_rx.specs.declared.ring.Stage.{Stage}
-use Rattle.pmd_rx.specs.declared.ring.Stage.TheVariants.{Looks, Takes, Owes, Lent, Named}
+use Rattle.pmd_rx.specs.declared.ring.Stage.TheVariants.{Looks, Takes, Owes, Lent}
 use Rattle.pmd_rx.specs.declared.ring.Told.{Told}
 use Rattle.receive_laws.specs.Pieces.{Piece, packets_behind, packets_of, open_after, piece_at}
 
@@ -63,7 +63,7 @@ pub record IsNamed (s : State) (queue : ℕ) (l : Layout) : Type 0 where
   pub low : queue < 128
   pub tail : named s l.port l.tail ≡ Register (place Rdt queue) 0xFFFFFFFF
 
--- a block that is lent and doesn't stand in the ring yet
+-- a block that is lent and that no descriptor names yet
 pub record IsLoose (m : Memory) (l : Layout) (block : ℕ) : Type 0 where
   pub low : block < 65536
   pub not_ring : is_ring_block l.ring l.size block ≡ false
@@ -76,10 +76,9 @@ StageHolds m l Looks = ⊤
 StageHolds m l Takes = ⊤
 StageHolds m l Owes = ⊤
 StageHolds m l (Lent b) = IsLoose m l b
-StageHolds m l (Named b) = IsLoose m l b × IsPosted m (descriptor_at l (vacant l)) b
 
--- the slots from the next one on: the first are filled with these pieces, those behind them up to the tail are posted,
--- and of all others, which are consumed or vacant, nothing is said
+-- the slots from the next one on that have a block: the first are filled with these pieces, and those behind them wait;
+-- of all others, which are consumed or vacant, nothing is said
 pub record HasSlots (m : Memory) (l : Layout) (here : List Piece) : Type 0 where
   pub there : EachRingBlock l.ring l.size (λ b. IsTrue (has_block m b))
   pub within : length here ≤ length l.blocks
@@ -118,19 +117,21 @@ IsAt Looks seen held = (held ≡ no_packet) × AreOpen seen
 IsAt Takes seen held = EndLast seen
 IsAt Owes seen held = EndLast seen
 IsAt (Lent b) seen held = EndLast seen
-IsAt (Named b) seen held = EndLast seen
 
--- what is left of a driver's packet once the tail moves on
+-- the packet that the driver holds, where parts of it are to be taken still, and else none
 abbrev pub still_held : Receive → Packet
 still_held v = left_of v.seen v.held
 
--- the pieces that were consumed are the packets that were handed out or are to be as the tail moves on, and the parts
--- of one that is held: whatever comes behind them is cut as behind those parts
+-- the packets that the driver handed out, those that are whole, and the one whose last part was taken
+abbrev pub packets_had : Receive → List Kept
+packets_had v = v.handed ++ records_of (v.whole ++ ended_of v.seen v.held)
+
+-- the pieces that were consumed are those packets, and the parts of one that is held: whatever comes behind them is cut
+-- as behind those parts
 abbrev pub AreCut : List Piece → Receive → Type 0
 AreCut gone v =
     (rest : List Piece)
-    → packets_of (gone ++ rest)
-    ≡ (v.handed ++ listed (out_of v.seen v.held)) ++ packets_behind (kept_of (still_held v)).bytes rest
+    → packets_of (gone ++ rest) ≡ packets_had v ++ packets_behind (kept_of (still_held v)).bytes rest
 
 -- the pieces that were written on the queue since its side went on: those that were consumed, and then those that
 -- stand in slots, of which the driver saw the first. A packet that isn't whole fills its blocks
@@ -142,13 +143,15 @@ pub record InOrder (out : List Piece) (v : Receive) (gone here : List Piece) : T
   pub stage : IsAt v.stage v.seen v.held
   pub order : out ≡ gone ++ here
 
--- the device and the driver agree, where these pieces were consumed and these stand in slots
+-- the device and the driver agree, where these pieces were consumed and these stand in slots. The slots behind the tail
+-- whose descriptors name a block wait as the posted ones do, and none of them is filled
 pub record Holds (queue : ℕ) (s : State) (out : List Piece) (v : Receive) (gone here : List Piece) : Type 0 where
   pub named : IsNamed s queue v.layout
-  pub ring : IsRing v.layout
+  pub ring : IsRing (reach v)
   pub side : IsSetUp (receive_queue_of s.registers queue) v.layout (length here)
-  pub slots : HasSlots s.memory v.layout here
-  pub stage : StageHolds s.memory v.layout v.stage
+  pub posted : length here ≤ length v.layout.blocks
+  pub slots : HasSlots s.memory (reach v) here
+  pub stage : StageHolds s.memory (reach v) v.stage
   pub order : InOrder out v gone here
 
 -- the device and the driver agree on the queue, since whose receive side went on these pieces were written

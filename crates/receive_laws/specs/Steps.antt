@@ -22,9 +22,9 @@ use Rattle.nic_device.specs.declared.event.Reply.TheVariants.{Bytes, Wrote}
 use Rattle.history_laws.specs.DeviceLaws.Leaving.{LeavesReceive, LeavesBlock}
 pub use Rattle.history_laws.specs.Left.{IsOutside}
 use Rattle.pmd_rx.specs.PmdSeam.Slots.{EachRingBlock}
-use Rattle.pmd_rx.specs.Receive.{Receive, IsOwn, drive, descriptor_at, block_at}
+use Rattle.pmd_rx.specs.Receive.{Receive, IsOwn, drive, descriptor_at, block_at, reach}
 use Rattle.pmd_rx.specs.declared.ring.Stage.{Stage}
-use Rattle.pmd_rx.specs.declared.ring.Stage.TheVariants.{Looks, Takes, Owes, Lent, Named}
+use Rattle.pmd_rx.specs.declared.ring.Stage.TheVariants.{Looks, Takes, Owes, Lent}
 use Rattle.receive_laws.specs.Joint.{Holds, Agree}
 use Rattle.receive_laws.specs.Pieces.{Piece, pieces, piece_at}
 
@@ -42,18 +42,18 @@ LookTellsSlot =
     Holds queue s out v gone here → k < length v.layout.blocks → (d : List ℕ) →
     reply_to s (event.Peek16 (descriptor_at v.layout k)) ≡ Bytes d → TellsSlot here k d
 
--- of a block that is lent and not posted yet, where there is one
+-- of a block that is lent and not named yet, where there is one
 abbrev pub IfFresh : Stage → (ℕ → Type 0) → Type 0
 IfFresh Looks P = ⊤
 IfFresh Takes P = ⊤
 IfFresh Owes P = ⊤
 IfFresh (Lent b) P = P b
-IfFresh (Named b) P = P b
 
--- each block that the driver has lent for receiving: those that the ring is in, those of its slots, and a fresh one
+-- each block that the driver has lent for receiving: those that the ring is in, those of its slots up to the last named
+-- one, and a fresh one
 pub record Each (v : Receive) (P : ℕ → Type 0) : Type 0 where
   pub ring : EachRingBlock v.layout.ring v.layout.size P
-  pub blocks : (k : ℕ) → k < length v.layout.blocks → P (block_at v.layout k)
+  pub blocks : (k : ℕ) → k < length (reach v).blocks → P (block_at (reach v) k)
   pub fresh : IfFresh v.stage P
 
 -- an event leaves the queue's receive side, what numbers name, and the driver's blocks

@@ -1,14 +1,14 @@
 //! What the driver hands out is a prefix of what was delivered, over every interleaving that leaves its queue alone.
 //!
 //! The device and the driver agree, between two events, on the slots of the receive ring: which are filled with pieces
-//! of frames, which are posted, and which pieces were consumed. Each law is the contract of a function that does
-//! nothing: what it ensures holds of `step_of`, by which the device makes each event, and of the driver's state as
-//! `pmd_rx` says it follows from the driver's own calls.
+//! of frames, which are posted, which name a block behind the tail, and which pieces were consumed. Each law is the
+//! contract of a function that does nothing: what it ensures holds of `step_of`, by which the device makes each event,
+//! and of the driver's state as `pmd_rx` says it follows from the driver's own calls.
 #![tactic(auto)]
 
 ghost use Rattle.receive_laws.specs.Fitting.{FramesStayFitting, NoneBegunWhileOff};
 ghost use Rattle.receive_laws.specs.Healthy.{OwnRepliesAreHealthy};
-ghost use Rattle.receive_laws.specs.Histories.{HandedIsPrefix, NoneIsAll, NoneIsAllBefore};
+ghost use Rattle.receive_laws.specs.Histories.{HandedIsPrefix, NoneIsAll, NoneIsAllBefore, NoneIsAllTaken};
 ghost use Rattle.receive_laws.specs.Inside.{PieceIsInside};
 ghost use Rattle.receive_laws.specs.Lent.{OwnLendsAreKnown};
 ghost use Rattle.receive_laws.specs.Starting.{StartAgrees};
@@ -52,7 +52,7 @@ pub fn queue_up_stays_up()
 {}
 
 /// Each event of the driver's own keeps what they agree on, with the driver that it leads to: a look, the block of a
-/// part taken, a fresh block lent, the vacant descriptor written, the tail moved on.
+/// part taken, a fresh block lent, a vacant descriptor written, the tail moved on over descriptors that name blocks.
 pub fn own_event_keeps_the_agreement()
     ensures { OwnEventKeeps }
 {}
@@ -66,9 +66,11 @@ pub fn foreign_entry_keeps_the_agreement()
 
 /// Over a history of a new device that leaves the driver's queue alone, from a place on where the two agree and the
 /// receive side has gone on: the packets that the driver handed out are a prefix of those that the history delivered
-/// since, and all of them where a look that comes next finds none.
+/// since. Where a look that comes next finds none, all of them were handed out, or are whole and handed out as the tail
+/// moves on; and all were handed out where none is whole.
 pub fn handed_packets_are_a_prefix_of_those_delivered()
     ensures prefix { HandedIsPrefix }
+    ensures taken { NoneIsAllTaken }
     ensures all { NoneIsAll }
     ensures before { NoneIsAllBefore }
 {}

@@ -9,5 +9,6 @@ pub mod Runs
 pub mod Sparing
 pub mod Stands
 pub mod Stepped
+pub mod Unpacking
 pub mod Walks
 pub mod Watching

@@ -7,6 +7,7 @@ pub mod Fault
 pub mod History
 pub mod Kept
 pub mod Laws
+pub mod Packed
 pub mod Pass
 pub mod Positions
 pub mod Resting

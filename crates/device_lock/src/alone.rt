@@ -28,8 +28,10 @@ pub struct Watched {
     pub queue: u16,
 }
 
-/// The register that a number names at a port, while the queues are parted by a mode.
-pub(crate) fn place_at(mode: Mode, vfs: u8, port: Port, number: u32) -> Option<Place>
+/// The register that a number names at a port, while the queues are parted among pools by a mode and there are so many
+/// virtual functions: the address of a register of the physical function, or an offset among those of a virtual one.
+/// None where it names no register.
+pub fn place_at(mode: Mode, vfs: u8, port: Port, number: u32) -> Option<Place>
     ensures { result ≡ place_at mode vfs port number }
 {
     match port {

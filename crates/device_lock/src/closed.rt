@@ -9,10 +9,10 @@ use crate::alone::{Watched, left_alone};
 use crate::compare::{are_all, lowest_mismatch, lowest_missing};
 use crate::entry::Entry;
 use crate::fault::CloseFault;
-use crate::locked::Locked;
 use crate::pass::Pass;
 use crate::positions::positions;
 use crate::shared::{CloseRefused, Shared};
+use crate::unlocked::Unlocked;
 use nic_device::Device;
 use std::alloc::{AllocError, Global};
 use std::marker::Model;
@@ -20,7 +20,7 @@ use std::sync::Mutex;
 
 /// A device that was shared, with the history of its calls. It can't be dropped: the device is taken out in the end.
 pub struct Closed<const VFS: u8, const FIFO: u16> {
-    locked: Locked<VFS, FIFO>,
+    unlocked: Unlocked<VFS, FIFO>,
     passes: u8,
 }
 
@@ -34,9 +34,9 @@ impl<const VFS: u8, const FIFO: u16> Model for Closed<VFS, FIFO> {
 
     ghost coded = { Prim.hlevel (codes, state_code) };
 
-    ghost view = { λ c. record { device = c.locked.device; history = c.locked.history; passes = c.passes } };
+    ghost view = { λ c. record { device = c.unlocked.device; history = c.unlocked.history; passes = c.passes } };
 
-    ghost invariant = { λ c. AllBelow c.passes c.locked.history };
+    ghost invariant = { λ c. AllBelow c.passes c.unlocked.history };
 }
 
 impl<const VFS: u8, const FIFO: u16> Closed<VFS, FIFO> {
@@ -49,14 +49,14 @@ impl<const VFS: u8, const FIFO: u16> Closed<VFS, FIFO> {
         ensures events { AreEvents self.now.history }
         ensures below { AllBelow self.now.passes self.now.history }
     {
-        self.locked.history()
+        self.unlocked.history()
     }
 
     /// Where the calls of the pass of this tag stand in the history, the first call at 0.
     pub fn of_pass(&self, alloc: Global, tag: u8) -> Result<Vec<usize>, AllocError>
         ensures { IfOk result (λ places. places.items ≡ positions_of tag self.now.history) }
     {
-        positions(alloc, self.locked.history(), tag)
+        positions(alloc, self.unlocked.history(), tag)
     }
 
     /// Whether the history leaves a queue of the device alone, whose driver has the pass of this tag: `left_alone` says
@@ -69,19 +69,22 @@ impl<const VFS: u8, const FIFO: u16> Closed<VFS, FIFO> {
             pass,
             queue,
         };
-        left_alone(watched, self.locked.history())
+        left_alone(watched, self.unlocked.history())
     }
 
     /// The device, where the history led it.
     pub fn into_device(self) -> Device
         ensures { result ≡ self.entry.device }
     {
-        let Closed { locked, passes: _ } = self;
-        locked.into_device()
+        let Closed {
+            unlocked,
+            passes: _,
+        } = self;
+        unlocked.into_device()
     }
 }
 
-impl<const VFS: u8, const FIFO: u16> Locked<VFS, FIFO> {
+impl<const VFS: u8, const FIFO: u16> Unlocked<VFS, FIFO> {
     /// Why these passes don't close the history, of a bench of this number that has so many passes, at most 64. None
     /// where they do.
     ///
@@ -131,16 +134,16 @@ impl<const VFS: u8, const FIFO: u16> Shared<VFS, FIFO> {
             bench,
             passes: count,
         } = self;
-        let locked = lock.into_inner();
-        match locked.refusal(bench, count, passes.as_slice()) {
+        let unlocked = lock.into_inner().unlock();
+        match unlocked.refusal(bench, count, passes.as_slice()) {
             None => Ok(Closed {
-                locked,
+                unlocked,
                 passes: count,
             }),
             Some(fault) => Err(CloseRefused {
                 fault,
                 shared: Shared {
-                    lock: Mutex::new(locked),
+                    lock: Mutex::new(unlocked.lock()),
                     bench,
                     passes: count,
                 },

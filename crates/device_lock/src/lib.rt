@@ -3,7 +3,8 @@
 //! `Shared::new` gives a shared device and one `Pass` for each caller. `Shared::call` makes one event under the lock:
 //! it appends one `Entry` to the history and one `Call` to the pass, or changes nothing. What lies under the lock is a
 //! `Locked`, whose type keeps that the history is legal from a new device and leads to the device held.
-//! `Shared::close` takes all passes back and gives the one history in which each pass's calls stand in its order.
+//! `Shared::close` takes all passes back and gives the one history in which each pass's calls stand in its order: there,
+//! `Unlocked`, each entry stands by itself.
 //! `Calls` are those of a device that isn't shared. The driver and the threads of the bench stand on this crate.
 #![tactic(auto)]
 
@@ -16,19 +17,23 @@ mod fault;
 pub mod laws;
 mod locked;
 mod noting;
+mod packed;
 mod pass;
 mod positions;
 mod resting;
 mod shared;
 mod stepping;
 mod told;
+mod unlocked;
 
-pub use alone::{Watched, left_alone};
+pub use alone::{Watched, left_alone, place_at};
 pub use calls::{Calls, Made};
 pub use closed::Closed;
 pub use entry::{Call, Entry};
 pub use fault::{CallFault, CloseFault, NewFault};
 pub use locked::Locked;
+pub use packed::{Packed, Rested};
 pub use pass::Pass;
 pub use shared::{CloseRefused, MAX_LIMIT, MAX_PASSES, Shared};
 pub use told::{Frames, Settings};
+pub use unlocked::Unlocked;

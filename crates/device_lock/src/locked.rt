@@ -12,14 +12,16 @@ ghost use Rattle.device_lock.specs.Stepping.{steps_of_queue};
 use crate::entry::Entry;
 use crate::fault::CallFault;
 use crate::noting::{note_of, ready};
-use crate::resting::{STEPS, has_room, keep_entries};
+use crate::packed::{Packed, Rested, has_room, hold_room, put_entry, unpacked};
+use crate::resting::STEPS;
 use crate::shared::MAX_PASSES;
+use crate::unlocked::Unlocked;
 use nic_device::{Config, Device, Event, OutOfMemory, Reply};
 use std::alloc::{AllocError, Global};
 use std::marker::Model;
 
 /// For how many entries there is room at first.
-const FIRST_ROOM: usize = 4096;
+const FIRST_ROOM: usize = 2048;
 
 /// For each tag that a pass can have, how many entries have it.
 pub(crate) type Counts = [u32; MAX_PASSES as usize];
@@ -27,28 +29,45 @@ pub(crate) type Counts = [u32; MAX_PASSES as usize];
 /// What lies under the lock: the device, and the history of its calls.
 ///
 /// Whenever the lock is free the history is legal from a new device of `VFS` virtual functions, whose receive list
-/// takes `FIFO` frames, and leads to the device held; `history` says so. It can't be dropped, as the device can't.
+/// takes `FIFO` frames, and leads to the device held. It can't be dropped, as the device can't.
+///
+/// The entries of the device steps of a queue at rest take no room of their own here. Once nothing is shared any more
+/// it is unlocked, and there each entry stands by itself.
 pub struct Locked<const VFS: u8, const FIFO: u16> {
-    device: Device,
-    history: Vec<Entry>,
-    counts: Counts,
-    limit: u32,
-    spare: Vec<u8>,
+    pub(crate) device: Device,
+    pub(crate) whole: Vec<Entry>,
+    pub(crate) packed: Vec<Packed>,
+    pub(crate) rested: Option<Rested>,
+    pub(crate) count: u32,
+    pub(crate) counts: Counts,
+    pub(crate) limit: u32,
+    pub(crate) spare: Vec<u8>,
+    pub(crate) alloc: Global,
 }
 
 impl<const VFS: u8, const FIFO: u16> Model for Locked<VFS, FIFO> {
     ghost use Rattle.std.specs.Coded.{codes};
     ghost use Rattle.nic_device.specs.State.{state_code};
+    ghost use Rattle.std.specs.Vec.{vec_capacity};
     ghost use Rattle.device_lock.specs.Kept.{Held, IsKept};
+    ghost use Rattle.device_lock.specs.Packed.{entries_in, HasRoom};
 
     ghost Value = { Held };
 
     ghost coded = { Prim.hlevel (codes, state_code) };
 
-    ghost view = { λ l. record { device = l.device; history = l.history.items; limit = l.limit } };
+    ghost view = { λ l. record {
+      device = l.device;
+      history = entries_in l.whole.items l.packed.items l.rested;
+      limit = l.limit;
+    } };
 
-    ghost invariant = { λ l. IsKept VFS FIFO
-        (record { device = l.device; history = l.history.items; limit = l.limit }) l.counts };
+    ghost invariant = { λ l. IsKept VFS FIFO (record {
+      device = l.device;
+      history = entries_in l.whole.items l.packed.items l.rested;
+      limit = l.limit;
+    }) l.counts
+        × HasRoom (entries_in l.whole.items l.packed.items l.rested) l.count (vec_capacity l.whole) };
 }
 
 impl<const VFS: u8, const FIFO: u16> Locked<VFS, FIFO> {
@@ -59,7 +78,7 @@ impl<const VFS: u8, const FIFO: u16> Locked<VFS, FIFO> {
         ensures { IfOk result (λ locked. locked ≡ opened VFS FIFO limit) }
     {
         let counts = no_entries();
-        let history = empty_history(alloc, limit);
+        let packed = empty_history(alloc, limit);
         let config = Config {
             vfs: VFS,
             fifo: FIFO,
@@ -69,10 +88,14 @@ impl<const VFS: u8, const FIFO: u16> Locked<VFS, FIFO> {
         };
         Ok(Locked {
             device,
-            history,
+            whole: Vec::new(alloc),
+            packed,
+            rested: None,
+            count: 0,
             counts,
             limit,
             spare: Vec::new(alloc),
+            alloc,
         })
     }
 
@@ -83,32 +106,12 @@ impl<const VFS: u8, const FIFO: u16> Locked<VFS, FIFO> {
         self.limit
     }
 
-    /// The calls so far, the oldest first. They are legal from a new device and lead to the device held, their events
-    /// are such as a driver can make, and their tags are below 64.
-    pub fn history(&self) -> &[Entry]
-        ensures entries { result.now ≡ self.now.history }
-        ensures legal { IsLegal (new_state VFS FIFO) self.now.history }
-        ensures leads { leads_to (new_state VFS FIFO) self.now.history ≡ self.now.device }
-        ensures events { AreEvents self.now.history }
-        ensures below { AllBelow 64 self.now.history }
-        ensures within { length self.now.history ≤ self.now.limit }
-    {
-        self.history.as_slice()
-    }
-
     /// How many entries have this tag, which is below 64.
     pub fn entries_of(&self, tag: u8) -> u32
         requires { tag < 64 }
         ensures { result ≡ entries_of tag self.now.history }
     {
         self.counts[usize::from(tag)]
-    }
-
-    /// For each tag below 64, how many entries have it.
-    pub(crate) fn counts(&self) -> &Counts
-        ensures { (tag : ℕ) → tag < 64 → slice_index result.now tag ≡ entries_of tag self.now.history }
-    {
-        &self.counts
     }
 
     /// The device, to look at. It is where the history leads.
@@ -135,21 +138,21 @@ impl<const VFS: u8, const FIFO: u16> Locked<VFS, FIFO> {
         ensures unchanged { OnErr result (self.new ≡ self.old) }
     {
         event.is_of_a_driver();
-        if self.history.len() >= self.limit as usize {
+        if self.count >= self.limit {
             return Err(CallFault::HistoryFull(event));
         }
+        if !hold_room(&mut self.whole, self.count + 1) {
+            return Err(CallFault::OutOfMemory(event));
+        }
         let device = &self.device;
-        let Ok(note) = ready(alloc, device, &mut self.history, &mut self.spare, &event) else {
+        let Ok(note) = ready(alloc, device, &mut self.packed, &mut self.spare, &event) else {
             return Err(CallFault::OutOfMemory(event));
         };
         match self.device.step(event) {
             Ok(reply) => {
                 let told = note_of(alloc, &reply, &mut self.spare);
-                self.history.push_reserved(Entry {
-                    pass: tag,
-                    event: note,
-                    reply: told,
-                });
+                put_entry(&mut self.packed, &mut self.rested, tag, note, told);
+                self.count += 1;
                 count_one(&mut self.counts, tag);
                 Ok(reply)
             }
@@ -158,8 +161,8 @@ impl<const VFS: u8, const FIFO: u16> Locked<VFS, FIFO> {
     }
 
     /// Makes the device steps of a queue for the pass of this tag, which is below 64, where the queue is at rest, the
-    /// history has room for their entries, and there is memory: each is idle. Else it makes none of them. Answers
-    /// whether they are made.
+    /// history has room for their entries, and there is memory: each is idle. Else it makes none of them, nor where some
+    /// were made and no call since. Answers whether they are made.
     pub(crate) fn rest(&mut self, tag: u8, queue: u16) -> bool
         requires { tag < 64 }
         ensures legal { IsLegal (new_state VFS FIFO) self.old.history }
@@ -168,32 +171,46 @@ impl<const VFS: u8, const FIFO: u16> Locked<VFS, FIFO> {
         ensures made { result ≡ true → self.new ≡ after_calls self.old tag (steps_of_queue queue) }
         ensures unchanged { result ≡ false → self.new ≡ self.old }
     {
-        if !self.device.is_at_rest(queue) || !has_room(&mut self.history, self.limit) {
+        if self.rested.is_some() || !self.device.is_at_rest(queue) {
             return false;
         }
-        keep_entries(&mut self.history, tag, queue);
+        if !has_room(&mut self.whole, self.count, self.limit) {
+            return false;
+        }
+        self.rested = Some(Rested { pass: tag, queue });
+        self.count += STEPS as u32;
         count_steps(&mut self.counts, tag);
         true
     }
 
-    /// The device, once nothing is shared any more.
-    pub(crate) fn into_device(self) -> Device
-        ensures { result ≡ self.entry.device }
+    /// The same once nothing is shared any more: each entry stands by itself.
+    pub(crate) fn unlock(self) -> Unlocked<VFS, FIFO>
+        ensures { result ≡ self.entry }
     {
         let Locked {
             device,
-            history: _,
-            counts: _,
-            limit: _,
+            whole,
+            packed,
+            rested,
+            count: _,
+            counts,
+            limit,
             spare: _,
+            alloc,
         } = self;
-        device
+        Unlocked {
+            device,
+            history: unpacked(whole, packed, rested),
+            counts,
+            limit,
+            alloc,
+        }
     }
 }
 
 /// A history with no entry, which may have so many. It has room for the first of them, as far as there is memory, so
 /// that entries are moved less often.
-fn empty_history(alloc: Global, limit: u32) -> Vec<Entry>
+fn empty_history(alloc: Global, limit: u32) -> Vec<Packed>
     ensures { result.items ≡ [] }
 {
     let mut history = Vec::new(alloc);

@@ -1,6 +1,6 @@
 //! Device steps of a queue at rest: each is idle, so they are kept as calls, and nothing else is done.
 
-ghost use Rattle.std.specs.Prelude.{◌≡◌, ◌+◌, ◌++◌, ◌≤◌, true, length};
+ghost use Rattle.std.specs.Prelude.{◌≡◌, ◌+◌, ◌++◌, ◌≤◌};
 ghost use Rattle.std.specs.Vec.{vec_len, vec_capacity};
 ghost use Rattle.nic_device.specs.declared.event.Reply.TheVariants.{Idle};
 ghost use Rattle.device_lock.specs.History.{entry_of};
@@ -37,16 +37,6 @@ pub(crate) fn keep_idle(calls: &mut Vec<Call>, queue: u16)
     calls.push_reserved(idle_call(Event::RxStep));
 }
 
-/// Whether there is room for the entries of the device steps of a queue in a history that may have so many, and memory.
-pub(crate) fn has_room(history: &mut Vec<Entry>, limit: u32) -> bool
-    ensures same { history.new.items ≡ history.old.items }
-    ensures spare { result ≡ true → vec_len history.new + 4 ≤ vec_capacity history.new }
-    ensures few { result ≡ true → length history.old.items + 4 ≤ limit }
-{
-    let limit = limit as usize;
-    limit >= STEPS && history.len() <= limit - STEPS && history.reserve(STEPS).is_ok()
-}
-
 /// The entry of a step that was idle.
 fn idle_entry(pass: u8, event: EventNote) -> Entry
     ensures { result ≡ entry_of pass event Idle }
@@ -61,7 +51,8 @@ fn idle_entry(pass: u8, event: EventNote) -> Entry
 /// Keeps the entries of the device steps of a queue, each of which was idle. There is room for them.
 pub(crate) fn keep_entries(history: &mut Vec<Entry>, pass: u8, queue: u16)
     requires { vec_len history.old + 4 ≤ vec_capacity history.old }
-    ensures { history.new.items ≡ history.old.items ++ idle_entries pass (steps_of_queue queue) }
+    ensures items { history.new.items ≡ history.old.items ++ idle_entries pass (steps_of_queue queue) }
+    ensures room { vec_capacity history.new ≡ vec_capacity history.old }
 {
     history.push_reserved(idle_entry(pass, Event::QueueStep(Dir::Rx, queue)));
     history.push_reserved(idle_entry(pass, Event::QueueStep(Dir::Tx, queue)));

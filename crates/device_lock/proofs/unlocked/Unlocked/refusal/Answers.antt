@@ -1,7 +1,7 @@
 use Rattle.std.proofs.Common.{ℕ, ◌<◌, rules, subst, IsTrue}
 use Rattle.device_lock.specs.Closing.{TagStands}
 use Rattle.device_lock.proofs.Closing.{closes}
-use Rattle.device_lock.proofs.locked.Locked.refusal.Goals as goal
+use Rattle.device_lock.proofs.unlocked.Unlocked.refusal.Goals as goal
 
 pub returns-then-not-are_all-clause-answers : goal.returns-then-not-are_all-clause-answers
 returns-then-not-are_all-clause-answers g c = (

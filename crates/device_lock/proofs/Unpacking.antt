@@ -1,0 +1,75 @@
+-- Entries as they are kept, one more of them, and the first of them by itself.
+use Rattle.std.proofs.Common.{◌≡◌, ℕ, ◌+◌, ◌<◌, ◌≤◌, Option, None, Some, List, [], ◌∷◌, ◌++◌, length, refl, sym, ap, ◌∙◌, append_assoc, append-nil, arith, length-append}
+use Rattle.nic_device.specs.DmaArena.Block.{Block}
+use Rattle.nic_device.specs.declared.event.Event.{Event}
+use Rattle.nic_device.specs.declared.event.Reply.{Reply}
+use Rattle.device_lock.specs.declared.entry.Entry.{Entry}
+use Rattle.device_lock.specs.declared.packed.Packed.{Packed}
+use Rattle.device_lock.specs.declared.packed.Rested.{Rested}
+use Rattle.device_lock.specs.History.{entry_of}
+use Rattle.device_lock.specs.Packed.{entries_in, packed_entries, rested_entries, HasRoom}
+use Rattle.device_lock.specs.Resting.{idle_entries}
+use Rattle.device_lock.specs.Stepping.{steps_of_queue}
+
+-- the entry itself
+abbrev own : Packed → Entry
+own p = entry_of p.pass p.event p.reply
+
+packed-more : (packed : List Packed) (p : Packed)
+    → packed_entries (packed ++ p ∷ []) ≡ (packed_entries packed ++ rested_entries p.rested) ++ own p ∷ []
+packed-more [] p = refl
+packed-more (x ∷ packed) p =
+    let first = rested_entries x.rested in
+    let then = own x ∷ packed_entries packed in
+    let last = rested_entries p.rested in
+    ap (λ (l : List Entry). first ++ (own x ∷ l)) (packed-more packed p)
+    ∙ sym (ap (λ (l : List Entry). l ++ own p ∷ []) (append_assoc first then last)
+    ∙ append_assoc first (then ++ last) (own p ∷ []))
+
+pub entries-more : (whole : List Entry) (packed : List Packed) (rested : Option Rested) (pass : ℕ) (event : Event Block)
+    (reply : Reply Block)
+    → entries_in whole (packed ++ record { rested = rested; pass = pass; event = event; reply = reply } ∷ []) None
+    ≡ entries_in whole packed rested ++ entry_of pass event reply ∷ []
+entries-more whole packed rested pass event reply =
+    let p : Packed = record { rested = rested; pass = pass; event = event; reply = reply } in
+    ap (λ (l : List Entry). whole ++ l) (append-nil _ ∙ packed-more packed p)
+    ∙ sym (append_assoc whole (packed_entries packed ++ rested_entries rested) (own p ∷ []))
+
+pub steps-more : (whole : List Entry) (packed : List Packed) (rested : Option Rested) (pass queue : ℕ) → rested ≡ None
+    → entries_in whole packed (Some (record { pass = pass; queue = queue }))
+    ≡ entries_in whole packed rested ++ idle_entries pass (steps_of_queue queue)
+steps-more whole packed rested pass queue none =
+    let steps = idle_entries pass (steps_of_queue queue) in
+    let before = packed_entries packed in
+    ap (λ (l : List Entry). whole ++ (l ++ steps)) (sym (append-nil before))
+    ∙ sym (append_assoc whole (before ++ []) steps)
+    ∙ ap (λ (r : Option Rested). entries_in whole packed r ++ steps) (sym none)
+
+pub room_more : (old new more : List Entry) (count room : ℕ) → count ≡ length old → new ≡ old ++ more
+    → count + length more ≤ room → HasRoom new (count + length more) room
+room_more old new more count room counted is fits = record {
+  counted = rw (is, length-append old more, counted) refl;
+  fits = fits;
+}
+
+-- the first of those that aren't kept one by one, by itself
+pub first-unpacked : (whole : List Entry) (packed : List Packed) (p : Packed) (rested : Option Rested)
+    → entries_in ((whole ++ rested_entries p.rested) ++ own p ∷ []) packed rested
+    ≡ entries_in whole (p ∷ packed) rested
+first-unpacked whole packed p rested =
+    let before = rested_entries p.rested in
+    let behind = packed_entries packed ++ rested_entries rested in
+    append_assoc (whole ++ before) (own p ∷ []) behind
+    ∙ append_assoc whole before (own p ∷ behind)
+    ∙ ap (λ (l : List Entry). whole ++ l) (sym (append_assoc before (own p ∷ packed_entries packed) (rested_entries rested)))
+
+-- there is room for it where there is room for all
+pub first-fits : (whole : List Entry) (packed : List Packed) (p : Packed) (rested : Option Rested) (room : ℕ)
+    → length (entries_in whole (p ∷ packed) rested) ≤ room → length whole + length (rested_entries p.rested) < room
+first-fits whole packed p rested room fits =
+    let before = rested_entries p.rested in
+    let behind = packed_entries packed ++ rested_entries rested in
+    let all = length-append whole ((before ++ (own p ∷ packed_entries packed)) ++ rested_entries rested) in
+    let some = length-append (before ++ (own p ∷ packed_entries packed)) (rested_entries rested) in
+    let few = length-append before (own p ∷ packed_entries packed) in
+    omega (arith, fits, all, some, few)

@@ -1,0 +1,117 @@
+//! A history as it is kept under the lock: the entries of the device steps of a queue at rest take no room of their own.
+//! Room for each entry by itself is held, so that they can be told apart without asking for memory.
+
+ghost use Rattle.std.specs.Prelude.{◌≡◌, ◌+◌, ◌++◌, ◌∷◌, ◌<◌, ◌≤◌, [], true, length, List};
+ghost use Rattle.std.specs.Vec.{vec_len, vec_capacity};
+ghost use Rattle.device_lock.specs.History.{entry_of};
+ghost use Rattle.device_lock.specs.Packed.{entries_in, rested_entries};
+ghost use Rattle.device_lock.specs.declared.entry.Entry.{Entry};
+
+use crate::entry::Entry;
+use crate::resting::{STEPS, keep_entries};
+use nic_device::{EventNote, ReplyNote};
+
+/// The device steps of a queue, each of them idle.
+#[derive(Clone, Copy, Debug)]
+pub struct Rested {
+    /// The tag of the pass that made them.
+    pub pass: u8,
+    /// The queue.
+    pub queue: u16,
+}
+
+/// An entry, and what was made before it.
+#[derive(Debug, Drop)]
+pub struct Packed {
+    /// The device steps before the entry. None where there were none, or each has an entry of its own.
+    pub rested: Option<Rested>,
+    /// The tag of the pass that made the call.
+    pub pass: u8,
+    /// The event.
+    pub event: EventNote,
+    /// The device's reply.
+    pub reply: ReplyNote,
+}
+
+/// Makes room for so many entries one by one. Answers whether there is memory for them.
+pub(crate) fn hold_room(whole: &mut Vec<Entry>, count: u32) -> bool
+    ensures same { whole.new.items ≡ whole.old.items }
+    ensures more { vec_capacity whole.old ≤ vec_capacity whole.new }
+    ensures room { result ≡ true → count ≤ vec_capacity whole.new }
+{
+    let count = count as usize;
+    count <= whole.capacity() || whole.reserve(count - whole.len()).is_ok()
+}
+
+/// The same for the entries of the device steps of a queue behind so many others, where there may be so many.
+pub(crate) fn has_room(whole: &mut Vec<Entry>, count: u32, limit: u32) -> bool
+    ensures same { whole.new.items ≡ whole.old.items }
+    ensures more { vec_capacity whole.old ≤ vec_capacity whole.new }
+    ensures few { result ≡ true → count + 4 ≤ limit }
+    ensures room { result ≡ true → count + 4 ≤ vec_capacity whole.new }
+{
+    let steps = STEPS as u32;
+    limit >= steps && count <= limit - steps && hold_room(whole, count + steps)
+}
+
+/// Puts an entry behind the others and the idle steps behind the last of them. There is room for it.
+pub(crate) fn put_entry(
+    packed: &mut Vec<Packed>,
+    rested: &mut Option<Rested>,
+    pass: u8,
+    event: EventNote,
+    reply: ReplyNote,
+)
+    requires { vec_len packed.old < vec_capacity packed.old }
+    ensures { (whole : List Entry) → entries_in whole packed.new.items rested.new
+        ≡ entries_in whole packed.old.items rested.old ++ entry_of pass event reply ∷ [] }
+{
+    packed.push_reserved(Packed {
+        rested: *rested,
+        pass,
+        event,
+        reply,
+    });
+    *rested = None;
+}
+
+/// The entries one by one: those that are so already, and the others behind them. There is room for all.
+pub(crate) fn unpacked(whole: Vec<Entry>, packed: Vec<Packed>, rested: Option<Rested>) -> Vec<Entry>
+    requires { length (entries_in whole.items packed.items rested) ≤ vec_capacity whole }
+    ensures { result.items ≡ entries_in whole.items packed.items rested }
+{
+    let mut entries = whole;
+    for it in packed {
+        put_one(&mut entries, it);
+    }
+    put_rested(&mut entries, rested);
+    entries
+}
+
+/// Puts an entry and what was made before it. There is room for them.
+fn put_one(entries: &mut Vec<Entry>, it: Packed)
+    requires { vec_len entries.old + length (rested_entries it.rested) < vec_capacity entries.old }
+    ensures items { entries.new.items
+        ≡ (entries.old.items ++ rested_entries it.rested) ++ entry_of it.pass it.event it.reply ∷ [] }
+    ensures room { vec_capacity entries.new ≡ vec_capacity entries.old }
+{
+    let Packed {
+        rested,
+        pass,
+        event,
+        reply,
+    } = it;
+    put_rested(entries, rested);
+    entries.push_reserved(Entry { pass, event, reply });
+}
+
+/// Puts the entries of device steps that were idle, where there were some. There is room for them.
+fn put_rested(entries: &mut Vec<Entry>, rested: Option<Rested>)
+    requires { vec_len entries.old + length (rested_entries rested) ≤ vec_capacity entries.old }
+    ensures items { entries.new.items ≡ entries.old.items ++ rested_entries rested }
+    ensures room { vec_capacity entries.new ≡ vec_capacity entries.old }
+{
+    if let Some(steps) = rested {
+        keep_entries(entries, steps.pass, steps.queue);
+    }
+}

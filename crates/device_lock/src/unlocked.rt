@@ -1,0 +1,95 @@
+ghost use Rattle.std.specs.Prelude.{◌≡◌, ℕ, ◌<◌, ◌≤◌, length, slice_index};
+ghost use Rattle.nic_device.specs.State.{new_state};
+ghost use Rattle.device_lock.specs.History.{leads_to, IsLegal, AreEvents, AllBelow};
+ghost use Rattle.device_lock.specs.Kept.{entries_of};
+
+use crate::entry::Entry;
+use crate::locked::{Counts, Locked};
+use nic_device::Device;
+use std::alloc::Global;
+use std::marker::Model;
+
+/// What lay under the lock, once nothing is shared any more: the device, and the history of its calls, in which each
+/// entry stands by itself. It can't be dropped, as the device can't.
+pub struct Unlocked<const VFS: u8, const FIFO: u16> {
+    pub(crate) device: Device,
+    pub(crate) history: Vec<Entry>,
+    pub(crate) counts: Counts,
+    pub(crate) limit: u32,
+    pub(crate) alloc: Global,
+}
+
+impl<const VFS: u8, const FIFO: u16> Model for Unlocked<VFS, FIFO> {
+    ghost use Rattle.std.specs.Coded.{codes};
+    ghost use Rattle.nic_device.specs.State.{state_code};
+    ghost use Rattle.device_lock.specs.Kept.{Held, IsKept};
+
+    ghost Value = { Held };
+
+    ghost coded = { Prim.hlevel (codes, state_code) };
+
+    ghost view = { λ l. record { device = l.device; history = l.history.items; limit = l.limit } };
+
+    ghost invariant = { λ l. IsKept VFS FIFO
+        (record { device = l.device; history = l.history.items; limit = l.limit }) l.counts };
+}
+
+impl<const VFS: u8, const FIFO: u16> Unlocked<VFS, FIFO> {
+    /// The calls so far, the oldest first. They are legal from a new device and lead to the device held, their events
+    /// are such as a driver can make, and their tags are below 64.
+    pub fn history(&self) -> &[Entry]
+        ensures entries { result.now ≡ self.now.history }
+        ensures legal { IsLegal (new_state VFS FIFO) self.now.history }
+        ensures leads { leads_to (new_state VFS FIFO) self.now.history ≡ self.now.device }
+        ensures events { AreEvents self.now.history }
+        ensures below { AllBelow 64 self.now.history }
+        ensures within { length self.now.history ≤ self.now.limit }
+    {
+        self.history.as_slice()
+    }
+
+    /// For each tag below 64, how many entries have it.
+    pub(crate) fn counts(&self) -> &Counts
+        ensures { (tag : ℕ) → tag < 64 → slice_index result.now tag ≡ entries_of tag self.now.history }
+    {
+        &self.counts
+    }
+
+    /// The same under a lock again.
+    pub(crate) fn lock(self) -> Locked<VFS, FIFO>
+        ensures { result ≡ self.entry }
+    {
+        let Unlocked {
+            device,
+            history,
+            counts,
+            limit,
+            alloc,
+        } = self;
+        Locked {
+            device,
+            count: history.len() as u32,
+            whole: history,
+            packed: Vec::new(alloc),
+            rested: None,
+            counts,
+            limit,
+            spare: Vec::new(alloc),
+            alloc,
+        }
+    }
+
+    /// The device.
+    pub(crate) fn into_device(self) -> Device
+        ensures { result ≡ self.entry.device }
+    {
+        let Unlocked {
+            device,
+            history: _,
+            counts: _,
+            limit: _,
+            alloc: _,
+        } = self;
+        device
+    }
+}

@@ -1,5 +1,5 @@
 -- One call beside a driver that receives keeps it so that the frames which wait for its queue fit.
-use Rattle.std.proofs.Common.{◌≡◌, ℕ, true, false, ◌&&◌, List, [], ◌∷◌, ◌++◌, length, refl, sym, ap, ◌∙◌, subst, Some}
+use Rattle.std.proofs.Common.{◌≡◌, ◌==◌, ℕ, true, false, ◌&&◌, List, [], ◌∷◌, ◌++◌, length, refl, sym, ap, ◌∙◌, subst, Some}
 use Rattle.std.proofs.lemmas.Bool.{both_ways}
 use Rattle.nic_device.specs.DmaArena.Block.{Block}
 use Rattle.nic_device.specs.DmaRing.Descriptor.{second_half}
@@ -27,7 +27,7 @@ use Rattle.device_lock.specs.declared.alone.Watched.{Watched}
 use Rattle.device_lock.specs.declared.entry.Call.{Call}
 use Rattle.receive_laws.specs.DeviceLaws.Laws.{WritesNoSetting}
 use Rattle.pmd.specs.PmdRx.Receive as receiving
-use Rattle.pmd.specs.PmdRx.Receive.{Receive, drive, is_part, looked, saw, took}
+use Rattle.pmd.specs.PmdRx.Receive.{Receive, drive, is_part, looked, moved, parts_first, posts_all, posts_one, saw, tail_behind, took}
 use Rattle.pmd.specs.PmdRx.declared.ring.Told.{Told}
 use Rattle.pmd.specs.PmdTx.Sending as sending
 use Rattle.pmd.specs.PmdTx.Sending.{Move, Accepts, Lends, Asks, Advances, Looks, Reaps, Elsewhere}
@@ -52,12 +52,17 @@ looked_most v d =
     either_way (λ (x : Receive). x.layout.most ≡ v.layout.most)
     (is_done (second_half d) && is_part v.layout.most (length v.seen) (second_half d)) (saw v d) v refl refl
 
+moved_most : (v : Receive) (word : ℕ) → (moved v word).layout.most ≡ v.layout.most
+moved_most v word =
+    either_way (λ (x : Receive). x.layout.most ≡ v.layout.most)
+    (word == tail_behind v.layout (parts_first v.whole)) (posts_one v) (posts_all v) refl refl
+
 driven_most : (v : Receive) (e : Event Block) (r : Reply Block) → (drive v e r).layout.most ≡ v.layout.most
 driven_most v (event.Peek16 a) (reply.Bytes d) = looked_most v d
 driven_most v (event.Take n) (reply.Buf b) = took_most v v.seen b
 driven_most v (event.Lend b) reply.Done = refl
 driven_most v (event.Poke16 a bytes) reply.Done = refl
-driven_most v (event.Write port number word) reply.Done = refl
+driven_most v (event.Write port number word) reply.Done = moved_most v word
 driven_most v e r = refl
 
 most_after : (h : Halves) (d : Doer) (n : Call)

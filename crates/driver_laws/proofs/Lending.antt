@@ -10,9 +10,9 @@ use Rattle.nic_device.specs.declared.event.Event.TheVariants as event
 use Rattle.nic_device.specs.declared.event.Reply.TheVariants.{Done, Twice}
 use Rattle.receive_laws.specs.DeviceLaws.Leaving.{LeavesBlock}
 use Rattle.receive_laws.proofs.DeviceLaws.Standing.{memory_blocks}
-use Rattle.pmd.specs.PmdRx.Receive.{Layout, Receive, block_at}
+use Rattle.pmd.specs.PmdRx.Receive.{Layout, Receive, block_at, reach}
 use Rattle.pmd.specs.PmdRx.declared.ring.Stage.{Stage}
-use Rattle.pmd.specs.PmdRx.declared.ring.Stage.TheVariants.{Looks, Takes, Owes, Lent, Named}
+use Rattle.pmd.specs.PmdRx.declared.ring.Stage.TheVariants.{Looks, Takes, Owes, Lent}
 use Rattle.receive_laws.specs.Joint.{StageHolds, HasSlots, Agree}
 use Rattle.receive_laws.specs.Pieces.{Piece}
 use Rattle.receive_laws.specs.Steps.{Each, IfFresh}
@@ -25,7 +25,6 @@ fresh_lent m l Looks h = tt
 fresh_lent m l Takes h = tt
 fresh_lent m l Owes h = tt
 fresh_lent m l (Lent b) h = h.there
-fresh_lent m l (Named b) h = h.0.there
 
 slot_lent : (m : Memory) (l : Layout) (here : List Piece) → HasSlots m l here → (k : ℕ) → k < length l.blocks
     → has_block m (block_at l k) ≡ true
@@ -39,8 +38,8 @@ pub receive_lent : (queue : ℕ) (s : State) (out : List Piece) (v : Receive) �
     → Each v (λ b. has_block s.memory b ≡ true)
 receive_lent queue s out v (gone, here, h) = record {
   ring = h.slots.there;
-  blocks = slot_lent s.memory v.layout here h.slots;
-  fresh = fresh_lent s.memory v.layout v.stage h.stage;
+  blocks = slot_lent s.memory (reach v) here h.slots;
+  fresh = fresh_lent s.memory (reach v) v.stage h.stage;
 }
 
 -- a block is lent

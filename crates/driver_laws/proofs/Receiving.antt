@@ -21,12 +21,13 @@ use Rattle.receive_laws.specs.DeviceLaws.Laws.{WritesNoSetting}
 use Rattle.receive_laws.specs.DeviceLaws.Leaving.{LeavesBlock, LeavesTransmit}
 use Rattle.receive_laws.proofs.DeviceLaws.Standing.{memory_blocks, memory_rest, stays_within}
 use Rattle.receive_laws.proofs.DeviceLaws.StandingAccesses.{write_memory, write_rest}
-use Rattle.pmd.specs.PmdRx.Receive.{Receive, IsOwn, TakesNext, NamesNext, MovesNext, fresh_of, slot_at, vacant}
+use Rattle.pmd.specs.PmdRx.Receive.{Receive, IsOwn, TakesNext, NamesNext, MovesNext, fresh_of, reach, slot_at, vacant}
 use Rattle.pmd.specs.PmdTx.Sending.{Sender, has_lent}
 use Rattle.receive_laws.specs.Joint.{IsNamed, Holds}
 use Rattle.receive_laws.specs.Pieces.{Piece}
 use Rattle.receive_laws.specs.Steps.{Each}
 use Rattle.pmd.proofs.PmdSeam.Rings.{slot_block, slot_lies}
+use Rattle.receive_laws.proofs.Each.{each_posted}
 use Rattle.receive_laws.proofs.Kept.{slot_below}
 use Rattle.receive_laws.proofs.Parts.{seen_within}
 use Rattle.receive_laws.proofs.HistoryLaws.SideNames.{plain-write}
@@ -53,13 +54,14 @@ module _ (queue : ℕ) (s : State) (out : List Piece) (v : Receive) (gone here :
     take_leaves n own =
         let some = own.some in
         let seen = seen_within v.seen here h.order.seen in
-        let within = h.slots.within in
+        let within = h.posted in
         memory_blocks.take s n number
-        (λ e. away.blocks 0 (omega (arith, some, seen, within)) (sym (e ∙ own.block)))
+        (λ e.
+        each_posted v (λ b. b ≢ number) away 0 (omega (arith, some, seen, within)) (sym (e ∙ own.block)))
 
     name_leaves : (a : ℕ) (bytes : List ℕ) → NamesNext v a bytes → LeavesBlock number s (after s (event.Poke16 a bytes))
     name_leaves a bytes own =
-        let l = v.layout in
+        let l = reach v in
         let slot : ℕ = slot_at l (vacant l) in
         let size : length bytes ≡ 16 =
         ap length own.bytes_are ∙ (halves_come_back (posted (2048 * fresh_of v.stage)) 0).size in

@@ -29,7 +29,7 @@ use Rattle.receive_laws.proofs.HistoryLaws.Spared.{IsSparedBy, spared_block}
 use Rattle.receive_laws.specs.Joint.{Agree}
 use Rattle.receive_laws.specs.Pieces.{Piece}
 use Rattle.receive_laws.specs.Steps.{Each, IsOutside, OwnReportsSpare}
-use Rattle.receive_laws.proofs.Each.{each_map}
+use Rattle.receive_laws.proofs.Each.{each_map, each_posted}
 use Rattle.receive_laws.proofs.Inside.{piece_inside}
 use Rattle.transmit_laws.specs.Agreeing.{AgreesAt}
 use Rattle.transmit_laws.specs.Sparing.{Spares}
@@ -53,7 +53,7 @@ module _ (queue : ℕ) (mine : Blocks) (s : State) (sound : IsSound s) (out : Li
                   (λ e. away.ring here.descriptor.part here.descriptor.known (sym e));
               bytes = λ some.
                   inside_avoids (block_at v.layout here.slot) n at len here.bytes
-                  (λ e. away.blocks here.slot here.known (sym e));
+                  (λ e. each_posted v (λ b. b ≢ n) away here.slot here.known (sym e));
             }
         | inr ne ↦ clear_outside mine desc at len n (left ne) is
       ]

@@ -11,9 +11,9 @@ use Rattle.pmd.specs.PmdSeam.Slots.{ring_blocks}
 use Rattle.pmd.proofs.PmdSeam.Rings.{each_ring_block, ring_block_among}
 use Rattle.pmd.specs.PmdRx.Keeping as received
 use Rattle.pmd.specs.PmdRx.Keeping.{fresh_block}
-use Rattle.pmd.specs.PmdRx.Receive.{Receive}
+use Rattle.pmd.specs.PmdRx.Receive.{Receive, reach}
 use Rattle.pmd.specs.PmdRx.declared.ring.Stage.{Stage}
-use Rattle.pmd.specs.PmdRx.declared.ring.Stage.TheVariants.{Looks, Takes, Owes, Lent, Named}
+use Rattle.pmd.specs.PmdRx.declared.ring.Stage.TheVariants.{Looks, Takes, Owes, Lent}
 use Rattle.pmd.specs.PmdTx.Sending as sending
 use Rattle.start_laws.specs.ReceiveLaws.Pieces.{Piece}
 use Rattle.start_laws.specs.ReceiveLaws.Steps.{Each, IfFresh}
@@ -44,7 +44,6 @@ fresh_has P n Looks has is = cc
 fresh_has P n Takes has is = cc
 fresh_has P n Owes has is = cc
 fresh_has P n (Lent b) has is = only P n b is has
-fresh_has P n (Named b) has is = only P n b is has
 
 part : (P : ℕ → Type 0) (n : ℕ) (xs ys : List ℕ) → (list_any (λ b. n == b) xs ≡ true → P n)
     → (list_any (λ b. n == b) ys ≡ true → P n) → list_any (λ b. n == b) (xs ++ ys) ≡ true → P n
@@ -58,9 +57,9 @@ part P n xs ys first then is =
 pub each_has : (v : Receive) (P : ℕ → Type 0) (n : ℕ) → Each v P → received.has_lent v n ≡ true → P n
 each_has v P n each is =
     let ring : List ℕ = ring_blocks v.layout.ring v.layout.size in
-    part P n v.layout.blocks (fresh_block v.stage ++ ring)
-    (λ posted.
-    let (k, known, same) = any_place v.layout.blocks n posted in
+    part P n (reach v).blocks (fresh_block v.stage ++ ring)
+    (λ slot.
+    let (k, known, same) = any_place (reach v).blocks n slot in
     subst P (sym same) (each.blocks k known))
     (part P n (fresh_block v.stage) ring (fresh_has P n v.stage each.fresh)
     (λ own.

@@ -102,11 +102,14 @@ module _ (w : Watched) (fifo : ℕ) (h : List Entry) (q : AtPort) (size frame : 
 
   finds : FindsNone (leads_to begun late) v
   finds = record {
-    looks = x.looks.stage;
-    posted = x.looks.posted;
-    bytes = x.looks.bytes;
-    reply = answered w fifo h new looking x.along x.look ends.1;
-    waits = x.looks.waits;
+    shows = record {
+      looks = x.looks.stage;
+      posted = x.looks.posted;
+      bytes = x.looks.bytes;
+      reply = answered w fifo h new looking x.along x.look ends.1;
+      waits = x.looks.waits;
+    };
+    none_whole = x.looks.none_whole;
   }
 
   -- looks hand out nothing

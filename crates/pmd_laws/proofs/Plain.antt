@@ -11,7 +11,7 @@ use Rattle.nic_device.proofs.Cases.{either_way}
 use Rattle.device_lock.specs.declared.entry.Call.{Call}
 use Rattle.pmd.specs.PmdSeam.Named.{AtPort}
 use Rattle.pmd.specs.PmdRx.Receive as receiving
-use Rattle.pmd.specs.PmdRx.Receive.{Receive, looked, took, drive}
+use Rattle.pmd.specs.PmdRx.Receive.{Receive, drive, looked, moved, posts_all, took}
 use Rattle.pmd.specs.PmdRx.declared.ring.Told.{Told}
 use Rattle.pmd.specs.PmdTx.Sending as sending
 use Rattle.pmd.specs.PmdTx.Sending.{Sender, Move, Accepts, Lends, Asks, Advances, Reaps, Elsewhere}
@@ -31,12 +31,15 @@ took_same : (v : Receive) (seen : List Told) (b : Block) → SameTail v (took v 
 took_same v [] b = (refl, refl)
 took_same v (t ∷ seen) b = (refl, refl)
 
+moved_same : (v : Receive) (word : ℕ) → SameTail v (moved v word)
+moved_same v word = either_way (SameTail v) _ _ (posts_all v) (refl, refl) (refl, refl)
+
 pub drive_same : (v : Receive) (e : Event Block) (r : Reply Block) → SameTail v (drive v e r)
 drive_same v (event.Peek16 a) (reply.Bytes d) = looked_same v d
 drive_same v (event.Take n) (reply.Buf b) = took_same v v.seen b
 drive_same v (event.Lend b) reply.Done = (refl, refl)
 drive_same v (event.Poke16 a bytes) reply.Done = (refl, refl)
-drive_same v (event.Write port number word) reply.Done = (refl, refl)
+drive_same v (event.Write port number word) reply.Done = moved_same v word
 drive_same v e r = (refl, refl)
 
 sent_same : (v : Sender) (m : Move) (r : Reply Block)

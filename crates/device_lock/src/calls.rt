@@ -3,9 +3,10 @@
 ghost use Rattle.std.specs.Prelude.{◌≡◌, ◌≢◌, ◌<◌, ◌++◌, ◌∷◌, ◌*◌, ◌+◌, ◌≤◌, [], true, false, None, Err, IfOk, IfErr, OnOk, OnErr, length};
 ghost use Rattle.std.specs.Vec.{vec_len, vec_capacity};
 ghost use Rattle.nic_device.specs.Answering.{may_answer};
-ghost use Rattle.nic_device.specs.Resting.{Rests};
+ghost use Rattle.nic_device.specs.Resting.{IsIdle, Rests};
 ghost use Rattle.nic_device.specs.State.{new_state};
-ghost use Rattle.nic_device.specs.Step.{step_of};
+ghost use Rattle.nic_device.specs.Step.{lent_block, step_of};
+ghost use Rattle.nic_device.specs.declared.event.Reply.TheVariants.{Idle};
 ghost use Rattle.device_lock.specs.Calls.{calls_in, rested_calls};
 ghost use Rattle.device_lock.specs.Fault.{event_of};
 ghost use Rattle.device_lock.specs.History.{leads_to, IsLegal};
@@ -105,6 +106,9 @@ impl Calls {
         ensures unchanged { OnErr result ((device.new ≡ device.old) × (self.new ≡ self.old)) }
     {
         make_room(&mut self.made);
+        if let Some(note) = device.idle_note(&event) {
+            return self.keep(event, note);
+        }
         let Ok(note) = ready(alloc, device, &mut self.made, &mut self.spare, &event) else {
             return Err(OutOfMemory { event });
         };
@@ -112,6 +116,23 @@ impl Calls {
         let told = note_of(alloc, &reply, &mut self.spare);
         put_call(&mut self.made, &mut self.rested, note, told);
         Ok(reply)
+    }
+
+    /// Keeps the call of an idle event, of which this is the note: nothing is made.
+    fn keep(&mut self, event: Event, note: EventNote) -> Result<Reply, OutOfMemory<Event>>
+        requires note { note ≡ event }
+        requires block { lent_block event ≡ None }
+        ensures calls { OnOk result (self.new ≡ self.old ++ call_of event Idle ∷ []) }
+        ensures reply { IfOk result (λ reply. reply ≡ Idle) }
+        ensures back { IfErr result (λ refused. refused.event ≡ event) }
+        ensures unchanged { OnErr result (self.new ≡ self.old) }
+    {
+        if self.made.reserve(1).is_err() {
+            return Err(OutOfMemory { event });
+        }
+        end_event(event);
+        put_call(&mut self.made, &mut self.rested, note, Reply::Idle);
+        Ok(Reply::Idle)
     }
 
     /// Makes the device steps of a queue under the lock, for the pass of this tag, where the queue is at rest, the
@@ -165,6 +186,9 @@ impl Calls {
     {
         make_room(&mut self.made);
         let device = locked.device();
+        if let Some(note) = device.idle_note(&event) {
+            return self.keep_locked(alloc, locked, tag, event, note);
+        }
         let Ok(note) = ready(alloc, device, &mut self.made, &mut self.spare, &event) else {
             return Err(CallFault::OutOfMemory(event));
         };
@@ -172,6 +196,36 @@ impl Calls {
         let told = note_of(alloc, &reply, &mut self.spare);
         put_call(&mut self.made, &mut self.rested, note, told);
         Ok(reply)
+    }
+
+    /// The same for an idle event, of which this is the note.
+    fn keep_locked<const VFS: u8, const FIFO: u16>(
+        &mut self,
+        alloc: Global,
+        locked: &mut Locked<VFS, FIFO>,
+        tag: u8,
+        event: Event,
+        note: EventNote,
+    ) -> Result<Reply, CallFault>
+        requires tag { tag < 64 }
+        requires note { note ≡ event }
+        requires idle { IsIdle locked.old.device event }
+        ensures reply { IfOk result (λ reply. reply ≡ (step_of locked.old.device event).reply) }
+        ensures fits { IfOk result (λ reply. may_answer event reply ≡ true) }
+        ensures under { OnOk result (locked.new ≡ after_call locked.old tag event) }
+        ensures made { IfOk result (λ reply. self.new ≡ self.old ++ call_of event reply ∷ []) }
+        ensures own { result ≢ Err (CallFault.ForeignPass event) }
+        ensures full { result ≡ Err (CallFault.HistoryFull event)
+            → length locked.old.history ≡ locked.old.limit }
+        ensures back { IfErr result (λ fault. event_of fault ≡ event) }
+        ensures unchanged { OnErr result ((locked.new ≡ locked.old) × (self.new ≡ self.old)) }
+    {
+        if self.made.reserve(1).is_err() {
+            return Err(CallFault::OutOfMemory(event));
+        }
+        let idle = locked.step(alloc, tag, event)?;
+        put_call(&mut self.made, &mut self.rested, note, Reply::Idle);
+        Ok(idle)
     }
 
     /// The calls one by one. Where there is no memory for so many, they come back as they were.
@@ -194,6 +248,16 @@ impl Calls {
         }
         put_rested(&mut calls, rested);
         Ok(calls)
+    }
+}
+
+/// Lets an event go that lends no block.
+pub(crate) fn end_event(event: Event)
+    requires { lent_block event ≡ None }
+{
+    match event.into_buf() {
+        None => {}
+        Some(_buf) => unreachable!(),
     }
 }
 

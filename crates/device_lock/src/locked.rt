@@ -1,14 +1,17 @@
-ghost use Rattle.std.specs.Prelude.{◌≡◌, [], ℕ, ◌≤◌, ◌<◌, ◌↔◌, ◌⊎◌, true, false, Err, IfOk, OnOk, OnErr, length, slice_index, slice_set, replicate, ◌+◌};
+ghost use Rattle.std.specs.Prelude.{◌≡◌, [], ℕ, ◌≤◌, ◌<◌, ◌↔◌, ◌⊎◌, true, false, Err, IfOk, OnOk, OnErr, length, slice_index, slice_set, replicate, ◌+◌, None};
 ghost use Rattle.nic_device.specs.Answering.{may_answer};
-ghost use Rattle.nic_device.specs.Resting.{Rests};
+ghost use Rattle.nic_device.specs.Resting.{IsIdle, Rests};
+ghost use Rattle.nic_device.specs.Sound.{IsEvent};
 ghost use Rattle.nic_device.specs.State.{new_state};
-ghost use Rattle.nic_device.specs.Step.{step_of};
+ghost use Rattle.nic_device.specs.Step.{lent_block, step_of};
+ghost use Rattle.nic_device.specs.declared.event.Reply.TheVariants.{Idle};
 ghost use Rattle.device_lock.specs.Fault.{event_of};
 ghost use Rattle.device_lock.specs.History.{leads_to, IsLegal, AreEvents, AllBelow};
 ghost use Rattle.device_lock.specs.Kept.{opened, after_call, entries_of};
 ghost use Rattle.device_lock.specs.Resting.{after_calls};
 ghost use Rattle.device_lock.specs.Stepping.{steps_of_queue};
 
+use crate::calls::end_event;
 use crate::entry::Entry;
 use crate::fault::CallFault;
 use crate::noting::{note_of, ready};
@@ -16,7 +19,7 @@ use crate::packed::{Packed, Rested, has_room, hold_room, put_entry, unpacked};
 use crate::resting::STEPS;
 use crate::shared::MAX_PASSES;
 use crate::unlocked::Unlocked;
-use nic_device::{Config, Device, Event, OutOfMemory, Reply};
+use nic_device::{Config, Device, Event, EventNote, OutOfMemory, Reply};
 use std::alloc::{AllocError, Global};
 use std::marker::Model;
 
@@ -141,6 +144,9 @@ impl<const VFS: u8, const FIFO: u16> Locked<VFS, FIFO> {
         if self.count >= self.limit {
             return Err(CallFault::HistoryFull(event));
         }
+        if let Some(note) = self.device.idle_note(&event) {
+            return self.keep(tag, event, note);
+        }
         if !hold_room(&mut self.whole, self.count + 1) {
             return Err(CallFault::OutOfMemory(event));
         }
@@ -158,6 +164,29 @@ impl<const VFS: u8, const FIFO: u16> Locked<VFS, FIFO> {
             }
             Err(OutOfMemory { event }) => Err(CallFault::OutOfMemory(event)),
         }
+    }
+
+    /// Appends the entry of an idle event, of which this is the note: nothing is made.
+    fn keep(&mut self, tag: u8, event: Event, note: EventNote) -> Result<Reply, CallFault>
+        requires tag { tag < 64 }
+        requires room { length self.old.history < self.old.limit }
+        requires note { note ≡ event }
+        requires event { IsEvent event }
+        requires idle { IsIdle self.old.device event }
+        requires block { lent_block event ≡ None }
+        ensures reply { IfOk result (λ reply. reply ≡ Idle) }
+        ensures made { OnOk result (self.new ≡ after_call self.old tag event) }
+        ensures memory { OnErr result (result ≡ Err (CallFault.OutOfMemory event)) }
+        ensures unchanged { OnErr result (self.new ≡ self.old) }
+    {
+        if !hold_room(&mut self.whole, self.count + 1) || self.packed.reserve(1).is_err() {
+            return Err(CallFault::OutOfMemory(event));
+        }
+        end_event(event);
+        put_entry(&mut self.packed, &mut self.rested, tag, note, Reply::Idle);
+        self.count += 1;
+        count_one(&mut self.counts, tag);
+        Ok(Reply::Idle)
     }
 
     /// Makes the device steps of a queue for the pass of this tag, which is below 64, where the queue is at rest, the

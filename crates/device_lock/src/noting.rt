@@ -38,8 +38,9 @@ pub(crate) fn note_of(alloc: Global, reply: &Reply, spare: &mut Vec<u8>) -> Repl
     requires room { note_length reply.now ≤ vec_capacity spare.old }
     ensures { result ≡ reply.now }
 {
-    match Vec::with_capacity(alloc, reply.note_length()) {
-        Ok(room) => reply.note_in(room),
-        Err(_) => reply.note_in(mem::replace(spare, Vec::new(alloc))),
+    let length = reply.note_length();
+    match Vec::with_capacity(alloc, length) {
+        Ok(room) => reply.note_of_length(length, room),
+        Err(_) => reply.note_of_length(length, mem::replace(spare, Vec::new(alloc))),
     }
 }

@@ -30,18 +30,18 @@ nothing_received : (s : State) (waiting : List Waiting) → none_waits waiting �
 nothing_received s [] none = refl
 nothing_received s (w ∷ others) none = absurd (false≢true none)
 
-side_idle : (s : State) (dir : Dir) (queue : ℕ) → nat_lt queue 128 ≡ true → is_settled s dir queue ≡ true
+pub side_idle : (s : State) (dir : Dir) (queue : ℕ) → nat_lt queue 128 ≡ true → is_settled s dir queue ≡ true
     → IsIdle s (event.QueueStep dir queue)
 unfolding step_of
 side_idle s dir queue small settled =
     rw (small, or_right (is_stopped s.registers) (is_settled s dir queue) settled) refl
 
-sending_idle : (s : State) (queue : ℕ) → nat_lt queue 128 ≡ true
+pub sending_idle : (s : State) (queue : ℕ) → nat_lt queue 128 ≡ true
     → is_silent s queue (transmit_queue_of s.registers queue) ≡ true → IsIdle s (event.TxStep queue)
 unfolding step_of
 sending_idle s queue small silent = rw (small, silent) refl
 
-receiving_idle : (s : State) → none_waits s.waiting ≡ true → IsIdle s event.RxStep
+pub receiving_idle : (s : State) → none_waits s.waiting ≡ true → IsIdle s event.RxStep
 unfolding step_of
 receiving_idle s none =
     either_same (is_stopped s.registers) (gives Idle s) (first_received s s.waiting)

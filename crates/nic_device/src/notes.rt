@@ -21,20 +21,11 @@ impl Note {
         requires room { 2048 ≤ vec_capacity room }
         ensures { result ≡ buf.now }
     {
-        let _whole = buf.bytes();
-        Note::kept_of(buf, room)
+        let whole = buf.bytes();
+        Note::with_kept(buf, kept_len(whole), room)
     }
 
-    /// The same, where the vector has room for what the note keeps.
-    fn kept_of(buf: &Buf, room: Vec<u8>) -> Note
-        requires empty { room.items ≡ [] }
-        requires room { kept_len buf.now.bytes ≤ vec_capacity room }
-        ensures { result ≡ buf.now }
-    {
-        Note::with_kept(buf, kept_len(buf.bytes()), room)
-    }
-
-    /// The same, where it is known how many bytes the note keeps.
+    /// The same, where it is known how many bytes the note keeps, and the vector has room for them.
     fn with_kept(buf: &Buf, kept: usize, room: Vec<u8>) -> Note
         requires kept { kept ≡ kept_len buf.now.bytes }
         requires empty { room.items ≡ [] }
@@ -149,13 +140,23 @@ impl Reply {
         requires room { note_length self.now ≤ vec_capacity room }
         ensures { result ≡ self.now }
     {
+        self.note_of_length(self.note_length(), room)
+    }
+
+    /// The same, where it is known how many bytes the note copies: `note_length` tells.
+    pub fn note_of_length(&self, length: usize, room: Vec<u8>) -> ReplyNote
+        requires length { length ≡ note_length self.now }
+        requires empty { room.items ≡ [] }
+        requires room { length ≤ vec_capacity room }
+        ensures { result ≡ self.now }
+    {
         match self {
             Reply::Word(word) => Reply::Word(*word),
             Reply::Stray(word) => Reply::Stray(*word),
             Reply::Done => Reply::Done,
             Reply::Bytes(bytes) => Reply::Bytes(*bytes),
-            Reply::Buf(buf) => Reply::Buf(Note::kept_of(buf, room)),
-            Reply::Twice(buf) => Reply::Twice(Note::kept_of(buf, room)),
+            Reply::Buf(buf) => Reply::Buf(Note::with_kept(buf, length, room)),
+            Reply::Twice(buf) => Reply::Twice(Note::with_kept(buf, length, room)),
             Reply::NotLent => Reply::NotLent,
             Reply::Misaligned => Reply::Misaligned,
             Reply::NoQueue => Reply::NoQueue,

@@ -1,4 +1,4 @@
-use Rattle.std.proofs.Common.{◌≡◌, None, List, [], ◌∙◌, ap, refl, arith, length}
+use Rattle.std.proofs.Common.{◌≡◌, None, List, [], ◌∙◌, ap, refl, arith}
 use Rattle.device_lock.specs.Packed.{entries_in}
 use Rattle.device_lock.specs.declared.entry.Entry.{Entry}
 use Rattle.device_lock.specs.declared.packed.Packed.{Packed}

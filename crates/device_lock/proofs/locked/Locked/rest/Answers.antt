@@ -1,4 +1,4 @@
-use Rattle.std.proofs.Common.{◌≡◌, ◌+◌, ◌≤◌, None, Some, List, ◌++◌, ◌∙◌, ap, arith, rules, length}
+use Rattle.std.proofs.Common.{◌≡◌, None, Some, List, ◌++◌, ◌∙◌, ap, arith, rules}
 use Rattle.device_lock.specs.Packed.{entries_in}
 use Rattle.device_lock.specs.Resting.{idle_entries}
 use Rattle.device_lock.specs.Stepping.{steps_of_queue}

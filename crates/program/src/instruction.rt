@@ -5,13 +5,14 @@ ghost use Rattle.program.specs.Mapped.{AnswersBy, try_map};
 
 use dma_ring::Dir;
 use intr_unit::Group;
+use std::alloc::AllocError;
 
 /// One step of a program, or of a text that is read.
 ///
 /// `L` is where a jump goes, and `D` which data string is meant: in a program the number of an instruction, and the
 /// number of a data string. Addresses and words have 32 bits, numbers of blocks and queues 16. Each instruction that
 /// reads leaves a word in `acc`, which starts at 0.
-#[derive(Clone, Copy, Debug, Drop, PartialEq, Eq)]
+#[derive(Copy, Debug, Drop, PartialEq, Eq)]
 pub enum Instruction<L = u16, D = u16> {
     /// `w`: writes a register through the physical function: an address, and the word.
     Write(u32, u32),
@@ -75,6 +76,18 @@ pub enum Instruction<L = u16, D = u16> {
     Jump(L),
     /// `halt`: the program ends.
     Halt,
+}
+
+impl<L: Copy, D: Copy> Clone for Instruction<L, D> {
+    ghost use Rattle.std.specs.Prelude.{◌≡◌, ⊤};
+
+    ghost is_clone = { λ x y. y ≡ x };
+
+    ghost is_infallible = { λ _. ⊤ };
+
+    fn clone(&self) -> Result<Self, AllocError> {
+        Ok(*self)
+    }
 }
 
 impl<L, D> Instruction<L, D> {

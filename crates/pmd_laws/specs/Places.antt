@@ -55,8 +55,8 @@ LentIsOut =
     IsTrue (has_block (memory_after w fifo h) number) → IsTrue (is_out (last m later).driver.rings number)
 
 -- where a driver has all blocks of an arena but those in hand, it has them so after a call, as its clause `blocks`
--- tells: what was in hand for the call isn't after it, and what the call hands out is. The order of those in hand says
--- nothing
+-- tells: what was in hand for the call isn't after it, and what the call hands out, or leaves in a list that it was
+-- given, is. The order of those in hand says nothing
 pub record BooksGoOn : Type 0 where
   pub call :
       (a : Numbers) (old new : Rings) (given back rest : List ℕ) → KeepsBlocks old given new back

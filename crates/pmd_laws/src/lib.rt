@@ -12,7 +12,7 @@
 
 ghost use Rattle.pmd_laws.specs.Ends.{HandedOverStop, LeftIsPrefix, SentOverStop};
 ghost use Rattle.pmd_laws.specs.Faultless.{NoCallFindsFault, NoFillingFindsFault, NoStartFindsFault};
-ghost use Rattle.pmd_laws.specs.FullRing.{FullHasNoRoom};
+ghost use Rattle.pmd_laws.specs.FullRing.{FullHasNoRoom, NoneHasNoRoom};
 ghost use Rattle.pmd_laws.specs.Lends.{LifeLendsApart};
 ghost use Rattle.pmd_laws.specs.Looks.{CallsEnd, NoneIsAllAtFirst, NoneIsAllBefore};
 ghost use Rattle.pmd_laws.specs.Order.{HandedIsPrefix, NoneIsAll, NoneIsAllTaken, SentIsPrefix, IdleIsAllSent};
@@ -79,9 +79,11 @@ pub fn calls_keep_the_books()
 
 /// Where a `start` answered a driver and its calls came since, and `tx` answers that the ring is full, the outstanding
 /// packets have fewer parts than the start was given descriptors, and with those of the packet that was given no fewer:
-/// where that has one part all slots but one are taken.
+/// where that has one part all slots but one are taken. So it is behind a call of `tx_burst` that answers 0, with those
+/// of the first packet that it leaves.
 pub fn full_ring_has_no_room()
-    ensures { FullHasNoRoom }
+    ensures told { FullHasNoRoom }
+    ensures none { NoneHasNoRoom }
 {}
 
 /// Where a pass made some calls, and maybe more behind them, an entry of the history is the last of these.

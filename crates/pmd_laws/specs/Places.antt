@@ -66,8 +66,8 @@ pub record BooksGoOn : Type 0 where
       → ((number : ℕ) → times_in_hand hand number ≡ times_in_hand other number) → HasAll a h hand → HasAll a h other
 
 -- so each block that was free in the arena that came to the driver is in one place: free there, in hand, or lent to the
--- device; and no other block of the arena is in any of them. The blocks of a packet that the driver holds are in hand
--- too, and those of parts that wait to be lent
+-- device; and no other block of the arena is in any of them. The blocks of packets that the driver holds are in hand
+-- too, whole or not, and those of parts that wait to be lent
 abbrev pub EachInOnePlace : Type 0
 EachInOnePlace =
     (w : Watched) (fifo : ℕ) (h : List Entry) (q : AtPort) (size frame : ℕ) (old : List Call) (a : Numbers) (m : Moment)

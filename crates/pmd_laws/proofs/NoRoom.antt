@@ -1,18 +1,15 @@
 -- Where a driver accepts none of several packets, and answers no fault, its ring has no room for the first.
-use Rattle.std.proofs.Common.{◌≡◌, ℕ, ◌+◌, ◌≤◌, ◌&&◌, Bool, true, false, not, List, [], ◌∷◌, length, Option, Some, None, Result, Ok, Err, IfSome, refl, ap, ◌∙◌, arith, if◌then◌else◌}
-use Rattle.std.proofs.lemmas.Bool.{ltb-false, not-true}
+use Rattle.std.proofs.Common.{◌≡◌, ℕ, ◌+◌, ◌≤◌, List, [], ◌∷◌, length, Option, Some, None, Result, Ok, Err, IfSome, refl, ap, ◌∙◌, arith}
 use Rattle.device_lock.specs.declared.entry.Call.{Call}
-use Rattle.pmd.specs.Bursts.{IsSendBurst, MayAnswer, IsKeptOut, SendsBurst, SendsWith, Stops}
+use Rattle.pmd.specs.Bursts.{IsSendBurst, SendsBurst, SendsWith, Stops}
 use Rattle.pmd.specs.Driver.{WhereUp}
 use Rattle.pmd.specs.Halves.{halves_of}
-use Rattle.pmd.specs.Running.{Running, receives}
+use Rattle.pmd.specs.Running.{Running}
 use Rattle.pmd.specs.declared.driver.Rings.{Rings}
 use Rattle.pmd.specs.declared.driver.Rings.TheVariants.{Up, Down}
 use Rattle.pmd.specs.PmdSeam.declared.fault.PmdFault.{PmdFault}
 use Rattle.pmd.specs.PmdSeam.declared.packet.Packet.{Packet}
 use Rattle.pmd.specs.PmdTx.Sending.{Sender, parts_for}
-use Rattle.pmd.specs.PmdTx.Sends.{IsAnswer, IsShut, goes_home, is_bad_size, is_full}
-use Rattle.pmd.specs.PmdTx.declared.answer.TxAnswer.TheVariants.{RingFull}
 use Rattle.driver_laws.proofs.LeadsApart.{driven_apart}
 use Rattle.pmd_laws.specs.FullRing.{NoneHasNoRoom, outstanding}
 use Rattle.pmd_laws.specs.Told.{last}
@@ -27,26 +24,9 @@ both_up (Up r) (Up s) P Q p q = (p, q)
 both_up (Up r) (Down h) P Q p q = p
 both_up (Down h) b P Q p q = tt
 
--- a packet that meets neither a refusal nor an open way, before any event, meets a full ring
-by_full : {G : Type 0} (F : G → Type 0) (bad full wide foreign : G) (is_bad is_home is_full : Bool)
-    → (F bad → ⊥) → (F wide → ⊥) → (F foreign → ⊥)
-    → F (if is_bad then bad else if is_home then (if is_full then full else wide) else foreign) → is_full ≡ true
-by_full F bad full wide foreign true is_home is_full first second last f = absurd (first f)
-by_full F bad full wide foreign false true true first second last f = refl
-by_full F bad full wide foreign false true false first second last f = absurd (second f)
-by_full F bad full wide foreign false false is_full first second last f = absurd (last f)
-
+-- what a driver tells of a packet that its ring has no room for
 abbrev LacksRoom : Sender → Packet → Type 0
 LacksRoom v p = v.layout.size ≤ length v.outstanding + parts_for p.len
-
-kept_out : (s : Running) (p : Packet) → IsKeptOut s p → MayAnswer s p (Ok (RingFull p)) → LacksRoom s.transmit p
-kept_out s p shut answer =
-    let v = s.transmit in
-    let full : is_full v p ≡ true =
-    by_full (λ g. IsShut g × IsAnswer g p (Ok (RingFull p))) _ _ _ _ (is_bad_size v p)
-    (goes_home v s.arena p && not (receives s p)) (is_full v p) (λ e. let same = e.1 in cc) (λ e. absurd e.0)
-    (λ e. let same = e.1 in cc) (shut, answer) in
-    ltb-false (length v.outstanding + parts_for p.len) v.layout.size (not-true _ full)
 
 -- none was accepted, and no fault is told
 
@@ -57,7 +37,7 @@ none_long (p ∷ ps) is = absurd (omega (arith, is))
 none_met : (met : Option PmdFault) (s : Running) (p : Packet) (rest : List Packet)
     → IfSome met (λ (f : PmdFault). ◌≡◌ {A = Result ℕ PmdFault} (Ok 0) (Err f)) → Stops met s (p ∷ rest)
     → LacksRoom s.transmit p
-none_met None s p rest none stops = kept_out s p stops.0 stops.1
+none_met None s p rest none stops = stops.2
 none_met (Some f) s p rest none stops = cc
 
 burst_full : (given rest : List Packet) (p : Packet) (old new : List Call) (r s : Running)

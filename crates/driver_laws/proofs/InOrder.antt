@@ -11,10 +11,10 @@ use Rattle.receive_laws.proofs.HistoryLaws.Modes.{mode_told}
 use Rattle.receive_laws.proofs.HistoryLaws.Sound.{histories_sound}
 use Rattle.receive_laws.specs.Delivered as receive
 use Rattle.receive_laws.specs.Delivered.{delivered, packets_if_any, pieces_in, pieces_since}
-use Rattle.receive_laws.specs.Histories.{FindsNone}
+use Rattle.receive_laws.specs.Histories.{FindsNone, ShowsNone}
 use Rattle.receive_laws.specs.Pieces.{packets_of}
 use Rattle.receive_laws.proofs.Delivering.{events_before, events_behind, image_stays, leads-append, legal_behind, lent_behind, since-append, vfs_stays}
-use Rattle.receive_laws.proofs.Prefix.{drained, handed_first}
+use Rattle.receive_laws.proofs.Prefix.{all_taken, drained, handed_first}
 use Rattle.transmit_laws.specs.Agreeing.{bytes_of}
 use Rattle.transmit_laws.specs.Laws as transmit
 use Rattle.transmit_laws.specs.Sent.{sent_in, sent_since}
@@ -22,7 +22,8 @@ use Rattle.transmit_laws.specs.Up.{IsUp}
 use Rattle.transmit_laws.proofs.Counting.{sent_is_counted}
 use Rattle.transmit_laws.proofs.Runs.{first_sent, idle-all}
 use Rattle.pmd.specs.Halves.{Halves, Doer, played_by}
-use Rattle.driver_laws.specs.Histories.{IsDriven, HandedIsPrefix, NoneIsAll, SentIsPrefix, IdleIsAllSent, CountedWhereUp}
+use Rattle.pmd.specs.PmdRx.Receive.{records_of}
+use Rattle.driver_laws.specs.Histories.{IsDriven, HandedIsPrefix, NoneIsAll, NoneIsAllTaken, SentIsPrefix, IdleIsAllSent, CountedWhereUp}
 use Rattle.driver_laws.proofs.Led.{Led}
 use Rattle.driver_laws.proofs.Runs.{leads}
 
@@ -62,6 +63,13 @@ module _ (w : Watched) (fifo : ℕ) (start rest : List Entry) (h : Halves) (doer
       subst (receive.IsPrefixOf last.receive.handed) (sym delivered_is)
       (handed_first w.queue (leads_to here rest) (pieces_in w.queue here rest) last.receive led.both.receive)
 
+  taken : ShowsNone (leads_to new (start ++ rest)) last.receive
+      → last.receive.handed ++ records_of last.receive.whole ≡ delivered w.queue new (start ++ rest)
+  taken shows =
+      sym (all_taken w.queue (leads_to here rest) (pieces_in w.queue here rest) last.receive led.both.receive
+      (subst (λ s. ShowsNone s last.receive) (leads-append new start rest) shows))
+      ∙ sym delivered_is
+
   none_left : FindsNone (leads_to new (start ++ rest)) last.receive
       → last.receive.handed ≡ delivered w.queue new (start ++ rest)
   none_left finds =
@@ -87,6 +95,9 @@ module _ (w : Watched) (fifo : ℕ) (start rest : List Entry) (h : Halves) (doer
 
 pub handed_is_prefix : HandedIsPrefix
 handed_is_prefix = handed
+
+pub none_is_all_taken : NoneIsAllTaken
+none_is_all_taken = taken
 
 pub none_is_all : NoneIsAll
 none_is_all = none_left

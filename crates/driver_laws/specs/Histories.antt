@@ -8,10 +8,11 @@ use Rattle.device_lock.specs.Alone.{Blocks, LeavesAlone, LeavesRegisters, Leaves
 use Rattle.device_lock.specs.History.{IsLegal, AreEvents, calls_of, leads_to}
 use Rattle.device_lock.specs.declared.alone.Watched.{Watched}
 use Rattle.device_lock.specs.declared.entry.Entry.{Entry}
+use Rattle.pmd.specs.PmdRx.Receive.{records_of}
 use Rattle.pmd.specs.PmdTx.Sending.{Elsewhere}
 use Rattle.receive_laws.specs.Delivered as receive
 use Rattle.receive_laws.specs.Delivered.{delivered, pieces_since}
-use Rattle.receive_laws.specs.Histories.{FindsNone}
+use Rattle.receive_laws.specs.Histories.{FindsNone, ShowsNone}
 use Rattle.receive_laws.specs.Up as receiving
 use Rattle.transmit_laws.specs.Agreeing.{bytes_of}
 use Rattle.transmit_laws.specs.Laws as transmit
@@ -56,14 +57,24 @@ pub record IsDriven (w : Watched) (fifo : ℕ) (start rest : List Entry) (h : Ha
   pub own : AllOwn h doers (calls_of w.pass rest)
   pub others : OthersLeaveAlone w (lent_by w.pass (start ++ rest)) (mode_through w.vfs Off start) doers rest
 
--- what the driver handed out is a prefix of what was delivered since its receive side went on, and it is all of that
--- where a look that comes next finds none
+-- what the driver handed out is a prefix of what was delivered since its receive side went on
 abbrev pub HandedIsPrefix : Type 0
 HandedIsPrefix =
     (w : Watched) (fifo : ℕ) (start rest : List Entry) (h : Halves) (doers : List Doer) →
     IsDriven w fifo start rest h doers →
     receive.IsPrefixOf (played_by h doers (calls_of w.pass rest)).receive.handed
     (delivered w.queue (new_state w.vfs fifo) (start ++ rest))
+
+-- where a look that comes next finds its slot not done, all of that was taken: it was handed out, or is whole and
+-- handed out as the tail moves on. Where none is whole it was all handed out
+
+abbrev pub NoneIsAllTaken : Type 0
+NoneIsAllTaken =
+    (w : Watched) (fifo : ℕ) (start rest : List Entry) (h : Halves) (doers : List Doer) →
+    IsDriven w fifo start rest h doers →
+    let v = (played_by h doers (calls_of w.pass rest)).receive in
+    ShowsNone (leads_to (new_state w.vfs fifo) (start ++ rest)) v →
+    v.handed ++ records_of v.whole ≡ delivered w.queue (new_state w.vfs fifo) (start ++ rest)
 
 abbrev pub NoneIsAll : Type 0
 NoneIsAll =

@@ -11,7 +11,7 @@ ghost use Rattle.driver_laws.specs.Beside.{CallsAddHarmless, StepsAddHarmless, D
 ghost use Rattle.driver_laws.specs.Enabling.{EnableWordsKeep};
 ghost use Rattle.driver_laws.specs.Faults.{NoFault};
 ghost use Rattle.driver_laws.specs.Healthy.{OwnRepliesAreHealthy};
-ghost use Rattle.driver_laws.specs.Histories.{HandedIsPrefix, NoneIsAll, NoneIsAllBefore, SentIsPrefix, IdleIsAllSent, CountedWhereUp};
+ghost use Rattle.driver_laws.specs.Histories.{HandedIsPrefix, NoneIsAll, NoneIsAllBefore, NoneIsAllTaken, SentIsPrefix, IdleIsAllSent, CountedWhereUp};
 ghost use Rattle.driver_laws.specs.Waiting.{WaitingIsNotAll};
 ghost use Rattle.pmd.specs.Halves.{ReceivingDrives, SendingDrives, OthersDrive, DrivesOn};
 
@@ -27,12 +27,13 @@ pub fn calls_lead_both_halves()
 
 /// Over a history of a new device that leaves the driver's queue alone, from a place on where the device agrees with
 /// both halves and the receive side has gone on: the packets that the driver handed out are a prefix of those that were
-/// delivered since, and all of them where a look that comes next finds none, as they were at each place before since
-/// which none was handed out; and the frames that were sent since are a prefix of those that it accepted, and all of
-/// them where none is outstanding. Where the transmit side is up at that place, all of these are counted since it went
-/// on.
+/// delivered since. Where a look that comes next finds none, all of them were handed out, or are whole and handed out
+/// as the tail moves on; and all were handed out where none is whole, as they were at each place before since which
+/// none was handed out. The frames that were sent since are a prefix of those that it accepted, and all of them where
+/// none is outstanding. Where the transmit side is up at that place, all of these are counted since it went on.
 pub fn both_sides_in_order()
     ensures handed { HandedIsPrefix }
+    ensures taken { NoneIsAllTaken }
     ensures none { NoneIsAll }
     ensures before { NoneIsAllBefore }
     ensures sent { SentIsPrefix }

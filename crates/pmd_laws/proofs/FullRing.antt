@@ -1,5 +1,5 @@
 -- A driver's transmit ring has as many slots as its start was given, and a slot that no part of a packet is in.
-use Rattle.std.proofs.Common.{◌≡◌, ◌<◌, List, [], ◌∷◌, length, Ok, refl, sym, ap, ◌∙◌, subst, arith}
+use Rattle.std.proofs.Common.{◌≡◌, ℕ, ◌+◌, ◌<◌, ◌≤◌, List, [], ◌∷◌, length, Ok, refl, sym, ap, ◌∙◌, subst, arith}
 use Rattle.std.proofs.lemmas.List.{length-append, length-drop}
 use Rattle.nic_device.specs.DmaArena.Block.{Block}
 use Rattle.nic_device.specs.declared.event.Event.{Event}
@@ -7,15 +7,19 @@ use Rattle.nic_device.specs.declared.event.Event.TheVariants as event
 use Rattle.nic_device.specs.declared.event.Reply.{Reply}
 use Rattle.nic_device.specs.declared.event.Reply.TheVariants as reply
 use Rattle.device_lock.specs.declared.entry.Call.{Call}
-use Rattle.pmd.specs.Halves.{AllOwn, Doer, Halves, OwnCall, Receives, Sends, after_call, played_by}
-use Rattle.pmd.specs.PmdTx.Sending.{Accepts, Advances, Asks, Lends, Looks, Move, Outgoing, Reaps, Sender, IsOwn, MayAccept, moved, accepted_by, reaped, segments_of}
+use Rattle.pmd.specs.Halves.{AllOwn, Doer, Halves, OwnCall, Receives, Sends, after_call, halves_of, played_by}
+use Rattle.pmd.specs.PmdTx.Sending.{Accepts, Advances, Asks, Lends, Looks, Move, Outgoing, Reaps, Sender, IsOwn, MayAccept, moved, accepted_by, parts_for, reaped, segments_of}
 use Rattle.pmd.specs.PmdTx.Sends.{IsFullWhereTold}
 use Rattle.pmd.specs.PmdTx.declared.answer.TxAnswer.TheVariants.{RingFull}
+use Rattle.pmd.specs.PmdSeam.Named.{AtPort}
+use Rattle.pmd.specs.PmdSeam.declared.packet.Packet.{Packet}
+use Rattle.nic_device.specs.DmaArena.Numbers.{Numbers}
 use Rattle.start_laws.proofs.Rising.{sized}
+use Rattle.driver_laws.specs.Beside.{Leads}
 use Rattle.start_laws.proofs.TransmitLaws.Packets.{length-segments}
-use Rattle.pmd_laws.specs.FullRing.{FullHasNoRoom, outstanding}
-use Rattle.pmd_laws.specs.Told.{last}
-use Rattle.pmd_laws.proofs.RunsOn.{up_next}
+use Rattle.pmd_laws.specs.FullRing.{FullHasNoRoom, TellsFull, outstanding}
+use Rattle.pmd_laws.specs.Told.{IsTold, Moment, last}
+use Rattle.pmd_laws.proofs.RunsOn.{RunsOn, up_next}
 use Rattle.pmd_laws.proofs.Told.{runs}
 
 -- how many slots the ring has, behind calls of the halves
@@ -41,7 +45,7 @@ played_size h (d ∷ doers) (n ∷ calls) = played_size (after_call h d n) doers
 
 -- one slot is vacant, behind calls of the halves
 
-abbrev HasRoom : Sender → Type 0
+abbrev pub HasRoom : Sender → Type 0
 HasRoom v = length v.outstanding < v.layout.size
 
 accepted_room : (v : Sender) (p : Outgoing) (b : Block) → MayAccept v p b → HasRoom (accepted_by v p)
@@ -79,18 +83,40 @@ played_room h (d ∷ doers) [] own room = absurd own
 played_room h (d ∷ doers) (n ∷ calls) own room =
     played_room (after_call h d n) doers calls own.1 (call_room h d n own.0 room)
 
+-- so it is behind calls that lead the halves on
+
+pub led_room : (old new : List Call) (h k : Halves) → Leads old h new k → HasRoom h.transmit → HasRoom k.transmit
+led_room old new h k (doers, since, made, own, is, steps) room =
+    subst (λ (x : Halves). HasRoom x.transmit) (sym is) (played_room h doers since own room)
+
+pub led_size : (old new : List Call) (h k : Halves) → Leads old h new k
+    → k.transmit.layout.size ≡ h.transmit.layout.size
+led_size old new h k (doers, since, made, own, is, steps) =
+    ap (λ (x : Halves). x.transmit.layout.size) is ∙ played_size h doers since
+
+module _ (q : AtPort) (size frame : ℕ) (old : List Call) (a : Numbers) (m : Moment) (later : List Moment)
+    (x : IsTold q size frame old a m later) where
+  abbrev goes : RunsOn m x.started.0 (last m later)
+  goes = runs q size frame old a m later x
+
+  pub room : HasRoom goes.rings.transmit
+  room =
+      led_room m.made (last m later).made (halves_of x.started.0) (halves_of goes.rings) goes.leads.apart.leads
+      (subst HasRoom (sym x.started.2.transmit.fresh) (sized size x.started.2.sized).0)
+
+  pub same_size : goes.rings.transmit.layout.size ≡ size
+  same_size =
+      led_size m.made (last m later).made (halves_of x.started.0) (halves_of goes.rings) goes.leads.apart.leads
+      ∙ ap (λ (v : Sender). v.layout.size) x.started.2.transmit.fresh
+
+  full_told : (n : Moment) (p : Packet) → TellsFull (last m later) n p
+      → (outstanding (last m later).driver.rings < size)
+      × (size ≤ outstanding (last m later).driver.rings + parts_for p.len)
+  full_told n p tells =
+      let (s, up, full) = up_next (λ r s. IsFullWhereTold r.transmit p (Ok (RingFull p))) (last m later).driver.rings
+      n.driver.rings goes.rings goes.up tells in
+      let told = ap outstanding goes.up in
+      (omega (arith, room, same_size, told), omega (arith, full, same_size, told))
+
 pub full_has_no_room : FullHasNoRoom
-full_has_no_room q size frame old a m later n p x tells =
-    let goes = runs q size frame old a m later x in
-    let (s, up, full) = up_next (λ r s. IsFullWhereTold r.transmit p (Ok (RingFull p))) (last m later).driver.rings
-    n.driver.rings goes.rings goes.up tells in
-    let (doers, since, made, own, is, steps) = goes.leads.apart.leads in
-    let some = (sized size x.started.2.sized).0 in
-    let fresh = x.started.2.transmit.fresh in
-    let begun : HasRoom x.started.0.transmit = subst HasRoom (sym fresh) some in
-    let room = subst (λ (h : Halves). HasRoom h.transmit) (sym is) (played_room _ doers since own begun) in
-    let same : goes.rings.transmit.layout.size ≡ size =
-    ap (λ (h : Halves). h.transmit.layout.size) is ∙ played_size _ doers since
-    ∙ ap (λ (v : Sender). v.layout.size) fresh in
-    let told = ap outstanding goes.up in
-    (omega (arith, room, same, told), omega (arith, full, same, told))
+full_has_no_room q size frame old a m later n p x = full_told q size frame old a m later x n p

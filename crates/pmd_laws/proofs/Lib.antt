@@ -22,6 +22,7 @@ pub mod LentSince
 pub mod Lived
 pub mod Looks
 pub mod NoFault
+pub mod NoRoom
 pub mod OnePlace
 pub mod OnlyRings
 pub mod Order

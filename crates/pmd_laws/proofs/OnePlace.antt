@@ -6,7 +6,6 @@ use Rattle.std.proofs.lemmas.Bool.{both_ways, eqb-false, or_from, or_parts, true
 use Rattle.nic_device.specs.DmaArena.Memory.{Memory, has_block}
 use Rattle.nic_device.specs.DmaArena.Numbers.{Numbers, is_free}
 use Rattle.nic_device.specs.DmaArena.Whereabouts.{places_of, times_in_hand}
-use Rattle.pmd.specs.PmdSeam.Bufs.{numbers_of}
 use Rattle.pmd.specs.PmdSeam.Slots.{is_ring_block, ring_blocks}
 use Rattle.pmd.proofs.PmdSeam.Outside.{times-append, times_rest}
 use Rattle.pmd.proofs.PmdSeam.Rings.{ring_block_among, times_among}
@@ -101,7 +100,7 @@ module _ (a : Numbers) (hand : List ℕ) (mem : Memory) (n : ℕ) where
   up_in_place : (r : Running) → InPlace (Up r)
   up_in_place r all out known =
       let h : Halves = halves_of r in
-      let held : List ℕ = numbers_of r.receive.held.bufs ++ sending.waiting_of r.transmit in
+      let held = (halted_of (Up r)).held in
       placed (has_block mem n) (is_free r.arena n) (is_free a n) (times_in_hand (lent h n) n)
       (times_in_hand (held ++ hand) n) (λ has. out_some h n (known has)) (λ some. out (some_out h n some))
       (omega (

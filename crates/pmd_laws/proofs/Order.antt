@@ -8,10 +8,12 @@ use Rattle.device_lock.specs.declared.entry.Call.{Call}
 use Rattle.device_lock.specs.declared.entry.Entry.{Entry}
 use Rattle.pmd.specs.Running.{Running}
 use Rattle.pmd.specs.Started.{AreUp}
+use Rattle.pmd.specs.PmdRx.Receive.{Receive, records_of}
 use Rattle.pmd.specs.PmdSeam.Named.{AtPort}
+use Rattle.pmd.specs.PmdSeam.Packet.{Kept}
 use Rattle.start_laws.specs.ReceiveLaws.Delivered as receive
 use Rattle.start_laws.specs.ReceiveLaws.Delivered.{delivered}
-use Rattle.start_laws.specs.ReceiveLaws.Histories.{FindsNone}
+use Rattle.start_laws.specs.ReceiveLaws.Histories.{FindsNone, ShowsNone}
 use Rattle.start_laws.specs.TransmitLaws.Agreeing.{bytes_of}
 use Rattle.start_laws.specs.TransmitLaws.Laws as transmit
 use Rattle.start_laws.specs.TransmitLaws.Sent.{sent_in, sent_since}
@@ -24,7 +26,7 @@ use Rattle.pmd.proofs.Followed.{receiving_drives}
 use Rattle.driver_laws.specs.Beside.{Leads}
 use Rattle.driver_laws.proofs.Beside.{drives_lead, leads_on}
 use Rattle.driver_laws.specs.Histories.{IsDriven}
-use Rattle.driver_laws.proofs.InOrder.{counted_where_up, handed_is_prefix, idle_is_all_sent, none_is_all, sent_is_prefix}
+use Rattle.driver_laws.proofs.InOrder.{counted_where_up, handed_is_prefix, idle_is_all_sent, none_is_all, none_is_all_taken, sent_is_prefix}
 use Rattle.pmd_laws.specs.Order as order
 use Rattle.pmd_laws.proofs.Driven as begun_on
 use Rattle.pmd_laws.proofs.Driven.{driven_by}
@@ -79,6 +81,18 @@ module _ (w : Watched) (fifo : ℕ) (h : List Entry) (q : AtPort) (size frame : 
         (subst (λ (z : Halves). receive.IsPrefixOf z.receive.handed (delivered w.queue new (p.front ++ p.back))) last
         (handed_is_prefix w fifo p.front p.back first whole.0 driven))
 
+    -- what the receive half took, whether it handed it out or not
+    abbrev had : Receive → List Kept
+    had v = v.handed ++ records_of v.whole
+
+    taken : ShowsNone (leads_to new h) k.receive → had k.receive ≡ delivered w.queue new h
+    taken shows =
+        let then = subst (λ (l : List Entry). ShowsNone (leads_to new l) k.receive) (sym p.both) shows in
+        ap (λ (z : Halves). had z.receive) (sym last)
+        ∙ none_is_all_taken w fifo p.front p.back first whole.0 driven
+        (subst (λ (z : Halves). ShowsNone (leads_to new (p.front ++ p.back)) z.receive) (sym last) then)
+        ∙ ap (delivered w.queue new) p.both
+
     none_left : FindsNone (leads_to new h) k.receive → k.receive.handed ≡ delivered w.queue new h
     none_left finds =
         let then = subst (λ (l : List Entry). FindsNone (leads_to new l) k.receive) (sym p.both) finds in
@@ -108,6 +122,10 @@ module _ (w : Watched) (fifo : ℕ) (h : List Entry) (q : AtPort) (size frame : 
 pub handed_of_life : order.HandedIsPrefix
 handed_of_life w fifo h q size frame old a started r k x =
     handed w fifo h q size frame old a started r k x (in_parts w fifo h q size frame old a started r k x)
+
+pub taken_of_life : order.NoneIsAllTaken
+taken_of_life w fifo h q size frame old a started r k x =
+    taken w fifo h q size frame old a started r k x (in_parts w fifo h q size frame old a started r k x)
 
 pub none_of_life : order.NoneIsAll
 none_of_life w fifo h q size frame old a started r k x =

@@ -35,7 +35,8 @@ pub record IsFresh (queue frame : ℕ) (own : Blocks) (s : State) : Type 0 where
   pub short : All (FitsBlocks queue (most_blocks frame)) s.waiting
   pub none : NoneLent own s
 
--- a call of `rx`, `tx` or `reap` ended with the device at fault, as `finds` in its clauses tells
+-- a call of `rx`, `tx`, `reap`, `rx_burst` or `tx_burst` ended with the device at fault, as `finds` in its clauses
+-- tells; or `tx_burst` had made these calls as it met the device at fault, once it had accepted some packets
 abbrev pub FindsFault : Moment → Moment → Type 0
 FindsFault m n =
     WhereUp m.driver.rings n.driver.rings

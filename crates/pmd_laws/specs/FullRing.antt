@@ -1,7 +1,8 @@
 -- How many slots are taken where a driver's ring is told to be full.
-use Rattle.std.specs.Prelude.{ℕ, ◌+◌, ◌<◌, ◌≤◌, List, Ok, length}
+use Rattle.std.specs.Prelude.{ℕ, ◌+◌, ◌<◌, ◌≤◌, List, ◌∷◌, Ok, length}
 use Rattle.nic_device.specs.DmaArena.Numbers.{Numbers}
 use Rattle.device_lock.specs.declared.entry.Call.{Call}
+use Rattle.pmd.specs.Bursts.{IsSendBurst}
 use Rattle.pmd.specs.Driver.{WhereUp}
 use Rattle.pmd.specs.declared.driver.Rings.{Rings}
 use Rattle.pmd.specs.declared.driver.Rings.TheVariants.{Up, Down}
@@ -10,7 +11,7 @@ use Rattle.pmd.specs.PmdSeam.Named.{AtPort}
 use Rattle.pmd.specs.PmdTx.Sending.{parts_for}
 use Rattle.pmd.specs.PmdTx.Sends.{IsFullWhereTold}
 use Rattle.pmd.specs.PmdTx.declared.answer.TxAnswer.TheVariants.{RingFull}
-use Rattle.pmd_laws.specs.Told.{IsTold, Moment, last}
+use Rattle.pmd_laws.specs.Told.{Drove, IsTold, Moment, last}
 
 -- a call of `tx` answered that the ring is full, as `full` in its clause `sent` tells
 abbrev pub TellsFull : Moment → Moment → Packet → Type 0
@@ -30,3 +31,18 @@ FullHasNoRoom =
     (p : Packet) → IsTold q size frame old a m later → TellsFull (last m later) n p →
     (outstanding (last m later).driver.rings < size)
     × (size ≤ outstanding (last m later).driver.rings + parts_for p.len)
+
+-- a call of `tx_burst` accepted none and answered no fault, and left this packet first, as its clause `sent` tells
+abbrev pub AcceptsNone : Moment → Moment → Packet → Type 0
+AcceptsNone m n p =
+    WhereUp m.driver.rings n.driver.rings
+    (λ r s.
+    (vacant : ℕ) × (given : List Packet) × (rest : List Packet)
+    × IsSendBurst vacant given (p ∷ rest) (Ok 0) m.made r n.made s)
+
+-- so it is of the packets that are outstanding behind that call
+abbrev pub NoneHasNoRoom : Type 0
+NoneHasNoRoom =
+    (q : AtPort) (size frame : ℕ) (old : List Call) (a : Numbers) (m : Moment) (later : List Moment) (n : Moment)
+    (p : Packet) → IsTold q size frame old a m later → Drove (last m later) n → AcceptsNone (last m later) n p →
+    (outstanding n.driver.rings < size) × (size ≤ outstanding n.driver.rings + parts_for p.len)

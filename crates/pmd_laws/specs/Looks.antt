@@ -1,4 +1,4 @@
--- A call of a driver that looks in vain: it finds no packet that is whole.
+-- A call of a driver that looks in vain, whether it was to hand out one packet or several: it finds none that is whole.
 use Rattle.std.specs.Prelude.{ℕ, ◌≡◌, List, [], ◌∷◌, ◌++◌}
 use Rattle.nic_device.specs.DmaArena.Numbers.{Numbers}
 use Rattle.nic_device.specs.State.{new_state}

@@ -1,5 +1,5 @@
 -- What a driver handed out and what it sent in its life, over a history that leaves its queue alone.
-use Rattle.std.specs.Prelude.{ℕ, ◌≡◌, List, []}
+use Rattle.std.specs.Prelude.{ℕ, ◌≡◌, List, [], ◌++◌}
 use Rattle.nic_device.specs.DmaArena.Numbers.{Numbers}
 use Rattle.nic_device.specs.State.{new_state}
 use Rattle.device_lock.specs.History.{calls_of, leads_to}
@@ -7,10 +7,11 @@ use Rattle.device_lock.specs.declared.alone.Watched.{Watched}
 use Rattle.device_lock.specs.declared.entry.Call.{Call}
 use Rattle.device_lock.specs.declared.entry.Entry.{Entry}
 use Rattle.pmd.specs.Running.{Running}
+use Rattle.pmd.specs.PmdRx.Receive.{records_of}
 use Rattle.pmd.specs.PmdSeam.Named.{AtPort}
 use Rattle.start_laws.specs.ReceiveLaws.Delivered as receive
 use Rattle.start_laws.specs.ReceiveLaws.Delivered.{delivered}
-use Rattle.start_laws.specs.ReceiveLaws.Histories.{FindsNone}
+use Rattle.start_laws.specs.ReceiveLaws.Histories.{FindsNone, ShowsNone}
 use Rattle.start_laws.specs.TransmitLaws.Agreeing.{bytes_of}
 use Rattle.start_laws.specs.TransmitLaws.Laws as transmit
 use Rattle.start_laws.specs.TransmitLaws.Sent.{sent_since}
@@ -26,13 +27,22 @@ pub record IsLived (w : Watched) (fifo : ℕ) (h : List Entry) (q : AtPort) (siz
   pub life : IsLife q size frame old a started r (calls_of w.pass h) k
   pub begins : BeginsWell w fifo h q size frame old a started r life.up
 
--- what the driver handed out is a prefix of what was delivered on its queue since the receive side went on, and it is
--- all of that where a look that comes next finds none
+-- what the driver handed out is a prefix of what was delivered on its queue since the receive side went on
 abbrev pub HandedIsPrefix : Type 0
 HandedIsPrefix =
     (w : Watched) (fifo : ℕ) (h : List Entry) (q : AtPort) (size frame : ℕ) (old : List Call) (a : Numbers)
     (started : List Call) (r : Running) (k : Halves) → IsLived w fifo h q size frame old a started r k →
     receive.IsPrefixOf k.receive.handed (delivered w.queue (new_state w.vfs fifo) h)
+
+-- where a look that comes next finds its slot not done, all of that was taken: it was handed out, or is whole and
+-- handed out as the tail moves on. Where none is whole it was all handed out
+
+abbrev pub NoneIsAllTaken : Type 0
+NoneIsAllTaken =
+    (w : Watched) (fifo : ℕ) (h : List Entry) (q : AtPort) (size frame : ℕ) (old : List Call) (a : Numbers)
+    (started : List Call) (r : Running) (k : Halves) → IsLived w fifo h q size frame old a started r k →
+    ShowsNone (leads_to (new_state w.vfs fifo) h) k.receive →
+    k.receive.handed ++ records_of k.receive.whole ≡ delivered w.queue (new_state w.vfs fifo) h
 
 abbrev pub NoneIsAll : Type 0
 NoneIsAll =

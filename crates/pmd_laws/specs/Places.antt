@@ -55,8 +55,8 @@ LentIsOut =
     IsTrue (has_block (memory_after w fifo h) number) → IsTrue (is_out (last m later).driver.rings number)
 
 -- where a driver has all blocks of an arena but those in hand, it has them so after a call, as its clause `blocks`
--- tells: what was in hand for the call isn't after it, and what the call hands out is. The order of those in hand says
--- nothing
+-- tells: what was in hand for the call isn't after it, and what the call hands out, or leaves in a list that it was
+-- given, is. The order of those in hand says nothing
 pub record BooksGoOn : Type 0 where
   pub call :
       (a : Numbers) (old new : Rings) (given back rest : List ℕ) → KeepsBlocks old given new back
@@ -66,8 +66,8 @@ pub record BooksGoOn : Type 0 where
       → ((number : ℕ) → times_in_hand hand number ≡ times_in_hand other number) → HasAll a h hand → HasAll a h other
 
 -- so each block that was free in the arena that came to the driver is in one place: free there, in hand, or lent to the
--- device; and no other block of the arena is in any of them. The blocks of a packet that the driver holds are in hand
--- too, and those of parts that wait to be lent
+-- device; and no other block of the arena is in any of them. The blocks of packets that the driver holds are in hand
+-- too, whole or not, and those of parts that wait to be lent
 abbrev pub EachInOnePlace : Type 0
 EachInOnePlace =
     (w : Watched) (fifo : ℕ) (h : List Entry) (q : AtPort) (size frame : ℕ) (old : List Call) (a : Numbers) (m : Moment)

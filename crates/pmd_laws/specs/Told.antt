@@ -1,5 +1,5 @@
--- A driver's life as its calls tell it: what the clauses of `start`, `rx`, `tx`, `reap`, `packet` and `release` say of
--- the driver, and of the calls that its pass made.
+-- A driver's life as its calls tell it: what the clauses of `start`, `rx`, `tx`, `reap`, `rx_burst`, `tx_burst`,
+-- `packet` and `release` say of the driver, and of the calls that its pass made.
 use Rattle.std.specs.Prelude.{ℕ, ◌≡◌, ◌⊎◌, ⊤, List, [], ◌∷◌, ◌++◌}
 use Rattle.nic_device.specs.DmaArena.Numbers.{Numbers}
 use Rattle.nic_device.specs.State.{new_state}
@@ -29,9 +29,9 @@ pub record Moment : Type 0 where
   pub made : List Call
   pub driver : Driver
 
--- from one moment of a driver that runs to the next: a call of `rx`, `tx` or `reap`, as its clause `drives` tells; or
--- one of `packet` or `release`, as its clause `halves` tells, or none, beside harmless calls through the same way, as
--- one by which its author lets a frame arrive
+-- from one moment of a driver that runs to the next: a call of `rx`, `tx`, `reap`, `rx_burst` or `tx_burst`, as its
+-- clause `drives` tells; or one of `packet` or `release`, as its clause `halves` tells, or none, beside harmless calls
+-- through the same way, as one by which its author lets a frame arrive
 
 abbrev pub Drove : Moment → Moment → Type 0
 Drove m n = RunsOn m.made m.driver.rings n.made n.driver.rings
@@ -94,7 +94,8 @@ IdleIsAllSent =
     (later : List Moment) → IsToldOf w fifo h q size frame old a m later → HasNoneOut (last m later).driver.rings →
     bytes_of (accepted_of (last m later).driver.rings) ≡ sent_since w.queue (new_state w.vfs fifo) [] h
 
--- a call of `rx` answered none, as `none` in its clause `received` tells
+-- a call of `rx` answered none, or one of `rx_burst` 0 where it was asked for some, as `none` in its clause `received`
+-- tells
 abbrev pub LooksInVain : Moment → Moment → Type 0
 LooksInVain m n =
     WhereUp m.driver.rings n.driver.rings (λ r s. receiving.LooksInVain m.made r.receive n.made s.receive)

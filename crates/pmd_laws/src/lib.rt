@@ -12,10 +12,10 @@
 
 ghost use Rattle.pmd_laws.specs.Ends.{HandedOverStop, LeftIsPrefix, SentOverStop};
 ghost use Rattle.pmd_laws.specs.Faultless.{NoCallFindsFault, NoFillingFindsFault, NoStartFindsFault};
-ghost use Rattle.pmd_laws.specs.FullRing.{FullHasNoRoom};
+ghost use Rattle.pmd_laws.specs.FullRing.{FullHasNoRoom, NoneHasNoRoom};
 ghost use Rattle.pmd_laws.specs.Lends.{LifeLendsApart};
 ghost use Rattle.pmd_laws.specs.Looks.{CallsEnd, NoneIsAllAtFirst, NoneIsAllBefore};
-ghost use Rattle.pmd_laws.specs.Order.{HandedIsPrefix, NoneIsAll, SentIsPrefix, IdleIsAllSent};
+ghost use Rattle.pmd_laws.specs.Order.{HandedIsPrefix, NoneIsAll, NoneIsAllTaken, SentIsPrefix, IdleIsAllSent};
 ghost use Rattle.pmd_laws.specs.Places.{BooksGoOn, EachInOnePlace, LentIsOut, OutIsLent};
 ghost use Rattle.pmd_laws.specs.Refused.{LeftOfRefusedIsPrefix, RefusedSendsNothing};
 ghost use Rattle.pmd_laws.specs.Room.{TwoRunsAreFound};
@@ -26,11 +26,13 @@ ghost use Rattle.pmd_laws.specs.Waits.{WaitingIsNotAllBefore, WaitingIsNotAllAsT
 
 /// Over a legal history of a new device that leaves the driver's queue alone, whose pass made the calls of a start that
 /// brought both rings up, and then calls of the two halves, beside harmless ones, which write no register and lend,
-/// take and poke no block: the packets that the driver handed out are a prefix of those delivered on its queue, and all
-/// of them where a look that comes next finds none; and the frames sent on it are a prefix of those that the driver
-/// accepted, and all of them where none is outstanding. Both are counted since the sides went on.
+/// take and poke no block: the packets that the driver handed out are a prefix of those delivered on its queue. Where a
+/// look that comes next finds none, all of them were handed out, or are whole and handed out as the tail moves on; and
+/// all were handed out where none is whole. The frames sent on it are a prefix of those that the driver accepted, and
+/// all of them where none is outstanding. Both are counted since the sides went on.
 pub fn life_in_order()
     ensures handed { HandedIsPrefix }
+    ensures taken { NoneIsAllTaken }
     ensures none { NoneIsAll }
     ensures sent { SentIsPrefix }
     ensures idle { IdleIsAllSent }
@@ -43,9 +45,10 @@ pub fn lives_lend_apart()
 {}
 
 /// Where the frames that wait for the queue fit a packet of the driver just before its first access, none of its
-/// arena's blocks is lent there, and no other pass lends any of them: no call of `rx`, `tx` or `reap` that comes after
-/// its start ends with the device at fault, over a legal history that leaves the queue alone, whatever harmless calls
-/// its author makes between through the same pass.
+/// arena's blocks is lent there, and no other pass lends any of them: no call of `rx`, `tx`, `reap`, `rx_burst` or
+/// `tx_burst` that comes after its start ends with the device at fault, over a legal history that leaves the queue
+/// alone, whatever harmless calls its author makes between through the same pass. Nor does `tx_burst` meet it so amid
+/// its calls, where it has accepted some packets.
 pub fn no_call_finds_the_device_at_fault()
     ensures { NoCallFindsFault }
 {}
@@ -76,9 +79,11 @@ pub fn calls_keep_the_books()
 
 /// Where a `start` answered a driver and its calls came since, and `tx` answers that the ring is full, the outstanding
 /// packets have fewer parts than the start was given descriptors, and with those of the packet that was given no fewer:
-/// where that has one part all slots but one are taken.
+/// where that has one part all slots but one are taken. So it is behind a call of `tx_burst` that answers 0, with those
+/// of the first packet that it leaves.
 pub fn full_ring_has_no_room()
-    ensures { FullHasNoRoom }
+    ensures told { FullHasNoRoom }
+    ensures none { NoneHasNoRoom }
 {}
 
 /// Where a pass made some calls, and maybe more behind them, an entry of the history is the last of these.
@@ -86,9 +91,10 @@ pub fn calls_end_at_an_entry()
     ensures { CallsEnd }
 {}
 
-/// Where a call of the driver looks in vain, as `rx` does where it answers none, what it had handed out is all that was
-/// delivered before the entry of its last look, also within a longer history; and so it is before the first event of
-/// that call's own, whatever the others, and harmless calls of its own pass, did ahead of it.
+/// Where a call of the driver looks in vain, as `rx` does where it answers none, and `rx_burst` where it answers 0 of
+/// some, what it had handed out is all that was delivered before the entry of its last look, also within a longer
+/// history; and so it is before the first event of that call's own, whatever the others, and harmless calls of its own
+/// pass, did ahead of it.
 pub fn empty_look_leaves_nothing()
     ensures before { NoneIsAllBefore }
     ensures first { NoneIsAllAtFirst }
@@ -103,11 +109,11 @@ pub fn waiting_look_leaves_some_unsent()
 {}
 
 /// The same of a `pmd::Pmd` by what its calls tell alone: `start` answered it, and then came calls of `rx`, `tx`,
-/// `reap`, `packet` and `release`, in any order and with whatever answers, and between them harmless calls through the
-/// same pass, as those by which its author lets frames arrive. The packets that it handed out are a prefix of those
-/// delivered, and where `rx` answers none, all of those that were delivered before its last look, and so before its
-/// first event; and the frames sent are a prefix of those that it accepted, and all of them where none is outstanding,
-/// as where `reap` answers so.
+/// `reap`, `rx_burst`, `tx_burst`, `packet` and `release`, in any order and with whatever answers, and between them
+/// harmless calls through the same pass, as those by which its author lets frames arrive. The packets that it handed
+/// out are a prefix of those delivered, and where `rx` answers none, or `rx_burst` 0 of some, all of those that were
+/// delivered before its last look, and so before its first event; and the frames sent are a prefix of those that it
+/// accepted, and all of them where none is outstanding, as where `reap` answers so.
 pub fn driver_in_order()
     ensures handed { told.HandedIsPrefix }
     ensures none { told.NoneIsAllBefore }

@@ -9,10 +9,10 @@
 
 /* as in driver_frames.rt.in */
 enum { RUNS = 50, FRAMES = 2000 };
-/* the events of a frame, and its calls: four device steps before each event */
-enum { EVENTS = 12, CALLS = 5 * EVENTS };
-/* the bytes of a call of a pass, of an entry of the history, and of a call in hand with the idle steps before it */
-enum { CALL = 80, ENTRY = 88, MADE = 88 };
+/* the events of a frame: the device steps before each take no room of their own where they are idle */
+enum { EVENTS = 12 };
+/* the bytes of a call, in hand or of a pass, and of an entry of the history, each with the idle steps before it */
+enum { MADE = 88, ENTRY = 88 };
 /* the notes of a frame with its bytes: it arrives, is taken, lent, taken and collected; and its two records */
 enum { NOTES = 5, RECORDS = 2 };
 
@@ -24,15 +24,14 @@ static uint8_t *put(uint8_t *at, const uint8_t *bytes, size_t count)
     return at + count;
 }
 
-/* one frame's calls, in hand in one list without the idle steps or, under the lock, in two with each, and its bytes */
+/* one frame's calls, in hand in one list or, under the lock, in two, and its bytes */
 __attribute__((noinline)) static uint8_t *note(uint8_t *at, size_t length, int locked)
 {
-    for (int i = 0; i < (locked ? CALLS : EVENTS); i++) {
+    for (int i = 0; i < EVENTS; i++) {
         call[i] ^= (uint8_t)length;
+        at = put(at, call, MADE);
         if (locked)
-            at = put(put(at, call, CALL), call, ENTRY);
-        else
-            at = put(at, call, MADE);
+            at = put(at, call, ENTRY);
     }
     for (int i = 0; i < NOTES * (1 + locked) + RECORDS; i++)
         at = put(at, frame, length);
@@ -41,7 +40,7 @@ __attribute__((noinline)) static uint8_t *note(uint8_t *at, size_t length, int l
 
 static void measure(const char *name, size_t length, int locked)
 {
-    size_t calls = locked ? CALLS * (CALL + ENTRY) : EVENTS * MADE;
+    size_t calls = EVENTS * (MADE + (locked ? ENTRY : 0));
     size_t size = FRAMES * (calls + (NOTES * (1 + locked) + RECORDS) * length);
     uint64_t took = 0;
     for (int run = 0; run < RUNS; run++) {

@@ -6,7 +6,9 @@ pub mod Filling
 pub mod Fresh
 pub mod Handing
 pub mod Keeping
+pub mod Lists
 pub mod Looking
+pub mod Moving
 pub mod Own
 pub mod Playing
 pub mod Refilling

@@ -1,25 +1,32 @@
--- What the ring keeps as a part joins the packet that is held.
-use Rattle.std.proofs.Common.{◌≡◌, ℕ, suc, ◌+◌, ◌<◌, ◌≤◌, List, [], ◌∷◌, ◌++◌, length, drop, ap, subst, ◌∙◌, arith}
-use Rattle.std.proofs.lemmas.List.{length_push, length-drop}
+-- What the ring keeps as a part joins the packet that is held, and as a block is named.
+use Rattle.std.proofs.Common.{◌≡◌, ℕ, suc, ◌+◌, ◌<◌, ◌≤◌, List, [], ◌∷◌, ◌++◌, length, drop, refl, sym, ap, subst, ◌∙◌, arith}
+use Rattle.std.proofs.lemmas.List.{length_push, length-drop, length-append, length-map}
+use Rattle.std.proofs.lemmas.List.Elements.{All-append, All-push}
 use Rattle.std.specs.Prelude.{All}
 use Rattle.nic_device.specs.DmaArena.Block.{Block}
 use Rattle.nic_device.specs.DmaRing.Receive.{bytes_in}
+use Rattle.pmd_seam.specs.Bufs.{numbers_of}
 use Rattle.pmd_seam.specs.declared.packet.Packet.{Packet}
-use Rattle.pmd_rx.specs.Receive.{Layout}
-use Rattle.pmd_rx.specs.Shown.{FitsBlock, IsSteady}
+use Rattle.pmd_rx.specs.Burst.{HasPart}
+use Rattle.pmd_rx.specs.Keeping.{vacated, numbers_of_all}
+use Rattle.pmd_rx.specs.Receive.{Layout, no_packet, if_any}
+use Rattle.pmd_rx.specs.Shown.{FitsBlock, StandsAt, IsSteady}
 use Rattle.pmd_rx.specs.declared.ring.Stage.{Stage}
-use Rattle.pmd_rx.specs.declared.ring.Stage.TheVariants.{Owes}
+use Rattle.pmd_rx.specs.declared.ring.Stage.TheVariants.{Looks, Takes, Owes, Lent}
 use Rattle.pmd_rx.specs.declared.ring.Told.{Told}
+use Rattle.pmd_rx.proofs.Lists.{all-append}
 
 fewer : (seen : List Told) (t : Told) (rest : List Told) → seen ≡ t ∷ rest → length rest + 1 ≡ length seen
 fewer seen t rest is = omega (arith, ap length is)
 
-pub joined_steady : (l : Layout) (seen : List Told) (p : Packet) (s : Stage) (t : Told) (rest : List Told) (next : ℕ)
-    (blocks : List ℕ) (bs : List Block) (b : Block) (len rss hash : ℕ) → IsSteady l seen p s → seen ≡ t ∷ rest
-    → next < l.size → blocks ≡ drop 1 l.blocks → len ≡ bytes_in t.second → bs ≡ p.bufs ++ b ∷ []
-    → IsSteady (record l { next = next; blocks = blocks }) rest
-    (record { bufs = bs; len = p.len + len; rss = rss; hash = hash }) Owes
-joined_steady l seen p s t rest next blocks bs b len rss hash (laid, step) is below drops told joins =
+pub joined_steady : (l : Layout) (posted : ℕ) (seen : List Told) (p : Packet) (whole : List Packet) (s : Stage) (t : Told)
+    (rest : List Told) (next : ℕ) (blocks : List ℕ) (left : ℕ) (bs : List Block) (b : Block) (len rss hash : ℕ)
+    → IsSteady l posted seen p whole s → s ≡ Takes → seen ≡ t ∷ rest → next < l.size → blocks ≡ drop 1 l.blocks → left + 1 ≡ posted
+    → len ≡ bytes_in t.second → bs ≡ p.bufs ++ b ∷ []
+    → IsSteady (record l { next = next; blocks = blocks }) left rest
+    (record { bufs = bs; len = p.len + len; rss = rss; hash = hash }) whole Owes
+joined_steady l posted seen p whole s t rest next blocks left bs b len rss hash (laid, step) takes is below drops
+    one told joins =
     let both : All FitsBlock (t ∷ rest) = subst (λ (ts : List Told). All FitsBlock ts) is step.parts in
     let fits : bytes_in t.second ≤ 2048 = both 0 t (omega arith) in
     let less : length blocks ≡ length (drop 1 l.blocks) = ap (λ (xs : List ℕ). length xs) drops in
@@ -38,6 +45,64 @@ joined_steady l seen p s t rest next blocks bs b len rss hash (laid, step) is be
         few = omega (arith, step.few, fewer seen t rest is, many);
         bytes = omega (arith, step.bytes, fits, told, many);
         parts = λ k d i. both (suc k) d (omega (arith, i));
-        within = omega (arith, step.within, fewer seen t rest is, less, length-drop 1 l.blocks);
+        within = omega (arith, step.within, fewer seen t rest is, one);
+        some = step.some;
+        replaced = omega (arith, step.replaced, less, length-drop 1 l.blocks, one);
+        taken = omega (arith, step.taken, ap vacated takes, less, length-drop 1 l.blocks, one, many);
+      },
+    )
+
+-- as a block is named behind the last part of a packet
+
+any_part : (bs : List Block) (p : Packet) → p.bufs ≡ bs → All HasPart (if_any bs p)
+any_part [] p is = λ k d i. absurd (omega (arith, i))
+any_part (b ∷ bs) p is =
+    All-push HasPart [] p (λ k d i. absurd (omega (arith, i))) (omega (arith, ap (λ (xs : List Block). length xs) is))
+
+any_count : (bs : List Block) (p : Packet) → p.bufs ≡ bs → length (numbers_of_all (if_any bs p)) ≡ length p.bufs
+any_count [] p is = rw is refl
+any_count (b ∷ bs) p is =
+    omega (
+      arith,
+      length-append (numbers_of p.bufs) [],
+      length-map p.bufs (λ (x : Block). x.number),
+    )
+
+pub named_steady : (l : Layout) (posted : ℕ) (seen : List Told) (p q : Packet) (whole more : List Packet) (s : Stage)
+    (n : ℕ) (blocks : List ℕ) → IsSteady l posted seen p whole s → s ≡ Lent n → length seen ≡ 0
+    → blocks ≡ l.blocks ++ n ∷ [] → q ≡ no_packet → more ≡ whole ++ if_any p.bufs p
+    → IsSteady (record l { blocks = blocks }) posted seen q more Looks
+named_steady l posted seen p q whole more s n blocks (laid, step) lent none is empty joins =
+    let stands : StandsAt (Lent n) l seen p = subst (λ (t : Stage). StandsAt t l seen p) lent step.stage in
+    let many : length blocks ≡ length l.blocks + 1 = ap (λ (xs : List ℕ). length xs) is ∙ length_push l.blocks n in
+    let held : length q.bufs ≡ 0 = ap (λ (x : Packet). length x.bufs) empty in
+    let len : q.len ≡ 0 = ap (λ (x : Packet). x.len) empty in
+    let all : length (numbers_of_all more) ≡ length (numbers_of_all whole) + length p.bufs =
+    omega (
+      arith,
+      ap (λ (ps : List Packet). length (numbers_of_all ps)) joins,
+      ap (λ (ns : List ℕ). length ns) (all-append whole (if_any p.bufs p)),
+      length-append (numbers_of_all whole) (numbers_of_all (if_any p.bufs p)),
+      any_count p.bufs p refl,
+    ) in (
+      record {
+        some = laid.some;
+        few = laid.few;
+        one_part = laid.one_part;
+        few_parts = laid.few_parts;
+        next = laid.next;
+        ring = laid.ring;
+        room = omega (arith, stands.0, many);
+      },
+      record {
+        stage = (empty, omega (arith, none, laid.one_part));
+        few = omega (arith, held, none);
+        bytes = omega (arith, held, len);
+        parts = step.parts;
+        within = step.within;
+        some = subst (λ (ps : List Packet). All HasPart ps) (sym joins)
+            (All-append HasPart whole (if_any p.bufs p) step.some (any_part p.bufs p refl));
+        replaced = omega (arith, step.taken, ap vacated lent, many, all);
+        taken = omega (arith, step.taken, ap vacated lent, many, all, held);
       },
     )

@@ -46,7 +46,8 @@ abbrev pub FitsBlock : Told → Type 0
 FitsBlock t = bytes_in t.second ≤ 2048
 
 -- the parts that are held and seen are at most those of a packet, and the seen ones stand in posted slots, which are the
--- first of those that have a block; a whole packet has a part, and for each part of one a block is named behind them
+-- first of those that have a block; a whole packet has a part, and for each part of one a block is named behind them, as
+-- for each that is held, but for one where it is owed still
 pub record IsInStep (l : Layout) (posted : ℕ) (seen : List Told) (held : Packet) (whole : List Packet) (s : Stage)
     : Type 0 where
   pub stage : StandsAt s l seen held
@@ -56,6 +57,7 @@ pub record IsInStep (l : Layout) (posted : ℕ) (seen : List Told) (held : Packe
   pub within : length seen ≤ posted
   pub some : All HasPart whole
   pub replaced : posted + length (numbers_of_all whole) ≤ length l.blocks
+  pub taken : posted + (length (numbers_of_all whole) + length held.bufs) ≤ length l.blocks + vacated s
 
 -- of some records, so many are those of packets that were handed out, and the others those of the whole ones
 pub record AreRecords (handed : ℕ) (records : List Kept) (whole : List Packet) : Type 0 where
@@ -137,12 +139,16 @@ rounds v = length v.seen + vacated v.stage
 abbrev pub OneMore : Receive → Receive → Type 0
 OneMore v w = (p : Packet) × (w.whole ≡ v.whole ++ p ∷ [])
 
+-- it waits still, and as many blocks are free as are wanted, where they were
+pub record WaitsStill (a : Numbers) (v : Receive) (b : Numbers) (w : Receive) : Type 0 where
+  pub stage : PacketWaits w.stage
+  pub whole : w.whole ≡ v.whole
+  pub free : wanted v ≤ free_count a → wanted w ≤ free_count b
+
 -- a part of it was taken, and a fresh block named in its place: the packet waits still, or it is whole
 pub record IsOneLess (a : Numbers) (v : Receive) (b : Numbers) (w : Receive) : Type 0 where
   pub rounds_are : rounds w + 1 ≡ rounds v
-  pub free : wanted v ≤ free_count a → wanted w ≤ free_count b
-  pub handed : w.handed ≡ v.handed
-  pub waits : 0 < rounds w → PacketWaits w.stage × (w.whole ≡ v.whole)
+  pub waits : 0 < rounds w → WaitsStill a v b w
   pub more : rounds w ≡ 0 → OneMore v w
 
 -- a fresh block was lent, and named in the first vacant slot

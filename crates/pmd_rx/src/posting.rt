@@ -247,7 +247,7 @@ impl ReceiveRing {
     /// Moves the tail on over all blocks that are named. No packet waits.
     fn post_named<N: Nic>(&mut self, alloc: Global, nic: &mut N) -> Result<(), PmdFault>
         requires some { 0 < length self.old.named }
-        requires none { self.old.whole ≡ [] }
+        requires none { (self.old.whole ≡ []) × (self.old.held ≡ no_packet) }
         ensures plays { (a : Numbers) → PlaysFrom a (N.made nic.old) self.old (N.made nic.new) self.new }
         ensures moved { OnOk result (self.new ≡ posts_all self.old) }
         ensures kept { OnErr result (self.new ≡ self.old) }

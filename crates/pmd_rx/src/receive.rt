@@ -128,6 +128,7 @@ impl ReceiveRing {
         requires some { 0 < length self.old.seen }
         ensures plays { (a : Numbers) → PlaysFrom a (N.made nic.old) self.old (N.made nic.new) self.new }
         ensures handed { self.new.handed ≡ self.old.handed }
+        ensures whole { self.new.whole ≡ self.old.whole }
         ensures taken { OnOk result ((self.new.stage ≡ stage.Owes)
             × (length self.new.seen + 1 ≡ length self.old.seen) × (0 < length self.new.held.bufs)) }
         ensures kept { OnErr result (self.new ≡ self.old) }
@@ -160,7 +161,8 @@ impl ReceiveRing {
 
     /// Consumes the next slot, whose part, in its block, joins the packet that is held.
     fn hold(&mut self, buf: Buf)
-        requires { 0 < length self.old.seen }
+        requires stage { self.old.stage ≡ stage.Takes }
+        requires some { 0 < length self.old.seen }
         ensures { self.new ≡ took self.old self.old.seen buf }
     {
         let Some(told) = self.seen.pop_front() else {

@@ -90,8 +90,8 @@ impl ReceiveRing {
         packet
     }
 
-    /// Moves the tail on over all blocks that are named. The whole packets are handed out, behind what `out` has: there is
-    /// room for them.
+    /// Moves the tail on over all blocks that are named, where no part of a packet is held. The whole packets are handed out,
+    /// behind what `out` has: there is room for them.
     ///
     /// `DeviceFault` where the port has no such register.
     pub(crate) fn post_all<N: Nic>(
@@ -101,6 +101,7 @@ impl ReceiveRing {
         out: &mut Vec<Packet>,
     ) -> Result<(), PmdFault>
         requires some { 0 < length self.old.named }
+        requires none { length self.old.held.bufs ≡ 0 }
         requires room { length self.old.whole + vec_len out.old ≤ vec_capacity out.old }
         ensures plays { (a : Numbers) → PlaysFrom a (N.made nic.old) self.old (N.made nic.new) self.new }
         ensures moved { OnOk result (self.new ≡ posts_all self.old) }
@@ -137,7 +138,8 @@ impl ReceiveRing {
 
     /// Hands out the whole packets, as all that is named is posted.
     fn hand_all(&mut self, out: &mut Vec<Packet>)
-        requires { length self.old.whole + vec_len out.old ≤ vec_capacity out.old }
+        requires none { length self.old.held.bufs ≡ 0 }
+        requires room { length self.old.whole + vec_len out.old ≤ vec_capacity out.old }
         ensures left { self.new ≡ posts_all self.old }
         ensures out { out.new.items ≡ out.old.items ++ self.old.whole }
     {

@@ -13,3 +13,4 @@ pub mod Own
 pub mod Playing
 pub mod Refilling
 pub mod Steady
+pub mod Viewed

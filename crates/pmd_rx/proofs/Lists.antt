@@ -1,6 +1,6 @@
 -- The first elements of a list, and those behind them.
-use Rattle.std.proofs.Common.{◌≡◌, ℕ, ◌+◌, List, [], ◌∷◌, ◌++◌, take, drop, length, refl, sym, ap, ◌∙◌, append_assoc, drop-drop, arith}
-use Rattle.std.proofs.lemmas.List.{length-append, length-map, take-append-le, drop-append-le, drop-take, take-append-drop, map-append, length-drop}
+use Rattle.std.proofs.Common.{◌≡◌, ℕ, ◌+◌, ◌≤◌, List, [], ◌∷◌, ◌++◌, take, drop, length, refl, sym, ap, ◌∙◌, append_assoc, drop-drop, arith}
+use Rattle.std.proofs.lemmas.List.{length-append, length-map, take-append-le, drop-append-le, drop-take, take-append-drop, map-append, length-drop, drop-map, drop_all}
 use Rattle.pmd_seam.specs.Bufs.{numbers_of}
 use Rattle.pmd_seam.specs.Packet.{Kept, kept_of}
 use Rattle.pmd_seam.specs.declared.packet.Packet.{Packet}
@@ -53,3 +53,18 @@ records_count handed records whole are =
       length-drop handed records,
       length-map whole (λ (p : Packet). kept_of p),
     )
+
+pub records_fewer : (handed m : ℕ) (records : List Kept) (whole left : List Packet) → AreRecords handed records whole
+    → m ≤ length whole → left ≡ drop m whole → AreRecords (handed + m) records left
+records_fewer handed m records whole left are few is = record {
+  few = omega (arith, few, records_count handed records whole are);
+  behind = sym (drop-drop m handed records) ∙ ap (λ (xs : List Kept). drop m xs) are.behind ∙ drop-map _ m whole
+      ∙ ap records_of (sym is);
+}
+
+pub records_all : (handed told : ℕ) (records : List Kept) (whole left : List Packet) → AreRecords handed records whole
+    → told ≡ length records → left ≡ [] → AreRecords told records left
+records_all handed told records whole left are all is = record {
+  few = omega (arith, all);
+  behind = drop_all told records (omega (arith, all)) ∙ sym (ap records_of is);
+}

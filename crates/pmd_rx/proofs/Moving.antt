@@ -6,6 +6,7 @@ use Rattle.std.proofs.lemmas.List.{length-append, length-drop, length-map}
 use Rattle.nic_device.specs.DmaArena.Block.{Block}
 use Rattle.nic_device.specs.DmaArena.Numbers.{Numbers}
 use Rattle.nic_device.specs.DmaArena.Whereabouts.{times_in_hand}
+use Rattle.pmd_seam.specs.Bufs.{numbers_of}
 use Rattle.pmd_seam.specs.declared.packet.Packet.{Packet}
 use Rattle.pmd_seam.proofs.Outside.{times-append}
 use Rattle.pmd_seam.proofs.Places.{wrapped_apart}
@@ -22,7 +23,7 @@ use Rattle.pmd_rx.proofs.Lists.{all-split}
 count_first : (p : Packet) (ps : List Packet)
     → length (numbers_of_all (p ∷ ps)) ≡ length p.bufs + length (numbers_of_all ps)
 count_first p ps =
-    omega (arith, length-append _ (numbers_of_all ps), length-map p.bufs (λ (b : Block). b.number))
+    omega (arith, length-append (numbers_of p.bufs) (numbers_of_all ps), length-map p.bufs (λ (b : Block). b.number))
 
 some_first : (p : Packet) (ps : List Packet) → All HasPart (p ∷ ps) → 0 < length p.bufs
 some_first p ps all = all 0 p (omega arith)
@@ -34,33 +35,41 @@ parts_some : (ps : List Packet) → 0 < length ps → All HasPart ps → 0 < par
 parts_some [] some all = absurd (omega (arith, some))
 parts_some (p ∷ ps) some all = some_first p ps all
 
-pub some_named : (v : Receive) → 0 < length v.whole → All HasPart v.whole → parts_first v.whole ≤ length v.named
-    → 0 < length v.named
-some_named v some all few = omega (arith, few, parts_some v.whole some all)
-
 -- the oldest alone
 
-pub one_own : (v : Receive) → 0 < length v.whole → All HasPart v.whole → parts_first v.whole ≤ length v.named
-    → MovesNext v v.layout.port v.layout.tail (tail_behind v.layout (parts_first v.whole))
-one_own v some all few = record {
-  some = some_named v some all few;
+pub one_own : (v : Receive) (n : ℕ) → n ≡ parts_first v.whole → 0 < length v.whole → All HasPart v.whole
+    → n ≤ length v.named → MovesNext v v.layout.port v.layout.tail (tail_behind v.layout n)
+one_own v n is some all few = record {
+  some = omega (arith, few, is, parts_some v.whole some all);
   port_is = refl;
   number_is = refl;
-  word_is = inl (record { some = some; few = few; word_is = refl });
+  word_is = inl (record {
+    some = some;
+    few = omega (arith, few, is);
+    word_is = ap (λ (k : ℕ). tail_behind v.layout k) is;
+  });
 }
 
 same_test : (n : ℕ) → (n == n) ≡ true
 same_test n = grind (arith, nat_tests)
 
-pub one_moved : (v : Receive) → moved v (tail_behind v.layout (parts_first v.whole)) ≡ posts_one v
-one_moved v =
+one_word : (v : Receive) → moved v (tail_behind v.layout (parts_first v.whole)) ≡ posts_one v
+one_word v =
     ap (λ (b : Bool). if b then posts_one v else posts_all v) (same_test (tail_behind v.layout (parts_first v.whole)))
+
+pub one_moved : (v : Receive) (n : ℕ) → n ≡ parts_first v.whole → moved v (tail_behind v.layout n) ≡ posts_one v
+one_moved v n is = ap (λ (k : ℕ). moved v (tail_behind v.layout k)) is ∙ one_word v
 
 -- all
 
-pub all_own : (v : Receive) → 0 < length v.named
-    → MovesNext v v.layout.port v.layout.tail (tail_behind v.layout (length v.named))
-all_own v some = record { some = some; port_is = refl; number_is = refl; word_is = inr refl }
+pub all_own : (v : Receive) (n : ℕ) → n ≡ length v.named → 0 < length v.named
+    → MovesNext v v.layout.port v.layout.tail (tail_behind v.layout n)
+all_own v n is some = record {
+  some = some;
+  port_is = refl;
+  number_is = refl;
+  word_is = inr (ap (λ (k : ℕ). tail_behind v.layout k) is);
+}
 
 -- where all are those of the oldest packet, it is the only one
 only_one : (ps : List Packet) (n : ℕ) → 0 < n → All HasPart ps → length (numbers_of_all ps) ≤ n → n ≡ parts_first ps
@@ -84,7 +93,7 @@ same_words : (v : Receive) → 0 < length v.named → v.layout.next < v.layout.s
     → (length v.named ≡ parts_first v.whole) ⊎ (length v.named ≢ parts_first v.whole)
     → moved v (tail_behind v.layout (length v.named)) ≡ posts_all v
 same_words v some next room all few (inl same) =
-    ap (λ (n : ℕ). moved v (tail_behind v.layout n)) same ∙ one_moved v
+    ap (λ (n : ℕ). moved v (tail_behind v.layout n)) same ∙ one_word v
     ∙ ap (λ (n : ℕ). posts v n 1) (sym same)
     ∙ ap (λ (n : ℕ). posts v (length v.named) n) (sym (only_one v.whole (length v.named) some all few same))
 same_words v some next room all few (inr apart) =
@@ -96,12 +105,13 @@ same_words v some next room all few (inr apart) =
     (wrapped_apart l.size l.next (length l.blocks + length v.named) (length l.blocks + first) next room
     (omega (arith, below, few, room)) (λ same. apart (omega (arith, same)))))
 
-pub all_moved : (v : Receive) → 0 < length v.named → v.layout.next < v.layout.size
-    → length v.layout.blocks + length v.named < v.layout.size → All HasPart v.whole
-    → length (numbers_of_all v.whole) ≤ length v.named
-    → moved v (tail_behind v.layout (length v.named)) ≡ posts_all v
-all_moved v some next room all few =
-    same_words v some next room all few (cases_eq (length v.named) (parts_first v.whole))
+pub all_moved : (v : Receive) (n : ℕ) → n ≡ length v.named → 0 < length v.named → v.layout.next < v.layout.size
+    → length v.layout.blocks + n < v.layout.size → All HasPart v.whole → length (numbers_of_all v.whole) ≤ n
+    → moved v (tail_behind v.layout n) ≡ posts_all v
+all_moved v n is some next room all few =
+    ap (λ (k : ℕ). moved v (tail_behind v.layout k)) is
+    ∙ same_words v some next (omega (arith, room, is)) all (omega (arith, few, is))
+    (cases_eq (length v.named) (parts_first v.whole))
 
 -- what they keep
 
@@ -164,7 +174,7 @@ posts_keeps a v n m even =
 one_even : (ps : List Packet) (named : List ℕ) → parts_first ps ≤ length named
     → length (take (parts_first ps) named) ≡ length (numbers_of_all (take 1 ps))
 one_even [] named few = refl
-one_even (p ∷ ps) named few = length-take-le (length p.bufs) named few ∙ sym (count_first p [])
+one_even (p ∷ ps) named few = omega (arith, length-take-le (length p.bufs) named few, count_first p [])
 
 pub one_keeps : (a : Numbers) (v : Receive) → parts_first v.whole ≤ length v.named
     → Keeps a v a (posts_one v) (numbers_of_all (take 1 v.whole))

@@ -1,7 +1,7 @@
--- What the ring keeps as a part joins the packet that is held, and as a block is named.
-use Rattle.std.proofs.Common.{◌≡◌, ℕ, suc, ◌+◌, ◌<◌, ◌≤◌, List, [], ◌∷◌, ◌++◌, length, drop, refl, sym, ap, subst, ◌∙◌, arith}
+-- What the ring keeps as a part joins the packet that is held, and as a block is named, and the tail moves on.
+use Rattle.std.proofs.Common.{◌≡◌, ℕ, suc, ◌+◌, ◌-◌, ◌<◌, ◌≤◌, List, [], ◌∷◌, ◌++◌, length, drop, refl, sym, ap, subst, ◌∙◌, arith}
 use Rattle.std.proofs.lemmas.List.{length_push, length-drop, length-append, length-map}
-use Rattle.std.proofs.lemmas.List.Elements.{All-append, All-push}
+use Rattle.std.proofs.lemmas.List.Elements.{All-append, All-push, All-drop}
 use Rattle.std.specs.Prelude.{All}
 use Rattle.nic_device.specs.DmaArena.Block.{Block}
 use Rattle.nic_device.specs.DmaRing.Receive.{bytes_in}
@@ -104,5 +104,63 @@ named_steady l posted seen p q whole more s n blocks (laid, step) lent none is e
             (All-append HasPart whole (if_any p.bufs p) step.some (any_part p.bufs p refl));
         replaced = omega (arith, step.taken, ap vacated lent, many, all);
         taken = omega (arith, step.taken, ap vacated lent, many, all, held);
+      },
+    )
+
+-- so many slots are posted, of those that have a block
+pub posted_few : (l : Layout) (posted : ℕ) (seen : List Told) (p : Packet) (whole : List Packet) (s : Stage)
+    → IsSteady l posted seen p whole s → posted ≤ length l.blocks
+posted_few l posted seen p whole s (laid, step) = omega (arith, step.replaced)
+
+pub posted_some : (l : Layout) (posted : ℕ) (seen : List Told) (p : Packet) (whole : List Packet) (s : Stage) (t : Told)
+    (rest : List Told) → IsSteady l posted seen p whole s → seen ≡ t ∷ rest → posted - 1 + 1 ≡ posted
+posted_some l posted seen p whole s t rest (laid, step) is = omega (arith, step.within, fewer seen t rest is)
+
+-- as the tail moves on
+
+first_count : (p : Packet) (left : List Packet)
+    → length (numbers_of_all (p ∷ left)) ≡ length p.bufs + length (numbers_of_all left)
+first_count p left =
+    omega (
+      arith,
+      length-append (numbers_of p.bufs) (numbers_of_all left),
+      length-map p.bufs (λ (x : Block). x.number),
+    )
+
+pub one_steady : (l : Layout) (posted more : ℕ) (seen : List Told) (p : Packet) (whole left : List Packet) (s : Stage)
+    (first : Packet) → IsSteady l posted seen p whole s → whole ≡ first ∷ left → more ≡ length first.bufs
+    → IsSteady l (posted + more) seen p left s
+one_steady l posted more seen p whole left s first (laid, step) is many =
+    let count : length (numbers_of_all whole) ≡ length first.bufs + length (numbers_of_all left) =
+    ap (λ (ps : List Packet). length (numbers_of_all ps)) is ∙ first_count first left in
+    let all : All HasPart (first ∷ left) = subst (λ (ps : List Packet). All HasPart ps) is step.some in (
+      laid,
+      record {
+        stage = step.stage;
+        few = step.few;
+        bytes = step.bytes;
+        parts = step.parts;
+        within = omega (arith, step.within);
+        some = All-drop HasPart 1 (first ∷ left) all;
+        replaced = omega (arith, step.replaced, count, many);
+        taken = omega (arith, step.taken, count, many);
+      },
+    )
+
+pub all_steady : (l : Layout) (posted more : ℕ) (seen : List Told) (p : Packet) (whole left : List Packet) (s : Stage)
+    → IsSteady l posted seen p whole s → length p.bufs ≡ 0 → more ≡ length l.blocks → left ≡ []
+    → IsSteady l more seen p left s
+all_steady l posted more seen p whole left s (laid, step) none all is =
+    let count : length (numbers_of_all left) ≡ 0 = ap (λ (ps : List Packet). length (numbers_of_all ps)) is in (
+      laid,
+      record {
+        stage = step.stage;
+        few = step.few;
+        bytes = step.bytes;
+        parts = step.parts;
+        within = omega (arith, step.within, step.replaced, all);
+        some = λ k d i. absurd (omega (arith, i, ap (λ (ps : List Packet). length ps) is));
+        replaced = omega (arith, count, all);
+        taken = omega (arith, count, all, none);
       },
     )

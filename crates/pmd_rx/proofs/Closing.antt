@@ -1,8 +1,10 @@
 -- A ring that is closed: where its blocks are then.
-use Rattle.std.proofs.Common.{◌≡◌, ℕ, List, [], ◌∷◌, ◌++◌, true, refl, ap, ◌∙◌, arith}
+use Rattle.std.proofs.Common.{◌≡◌, ℕ, zero, suc, ◌+◌, ◌<◌, ◌≤◌, List, [], ◌∷◌, ◌++◌, length, take, slice_index_or, Bool, true, false, suc-add, refl, ap, ◌∙◌, arith}
 use Rattle.std.specs.List.{range_with_len}
 use Rattle.nic_device.specs.DmaArena.Numbers.{Numbers, with_free}
+use Rattle.nic_device.specs.DmaArena.Whereabouts.{times_in_hand}
 use Rattle.pmd_seam.specs.Bufs.{numbers_of, with_all_free}
+use Rattle.pmd_seam.specs.declared.packet.Packet.{Packet}
 use Rattle.pmd_seam.specs.Home.{AreOut}
 use Rattle.pmd_seam.specs.Slots.{blocks_for}
 use Rattle.pmd_seam.proofs.Outside.{times-append, out_fewer, out_given}
@@ -38,6 +40,61 @@ module _ (a : Numbers) (v : Receive) (out : AreOut a (blocks_out v)) where
       all_given a ns (lent_of v)
       (out_fewer a (blocks_out v) (ns ++ lent_of v) out
       (λ k. omega (arith, times-append (lent_of v) ns k, times-append ns (lent_of v) k)))
+
+-- the first of some packets is given home, then the others
+module _ (a : Numbers) (p : Packet) (ps : List Packet) where
+  pub first_out : AreOut a (numbers_of_all (p ∷ ps)) → AreOut a (numbers_of p.bufs)
+  first_out out =
+      out_fewer a (numbers_of_all (p ∷ ps)) (numbers_of p.bufs) out
+      (λ k. omega (arith, times-append (numbers_of p.bufs) (numbers_of_all ps) k))
+
+  pub others_out : AreOut a (numbers_of_all (p ∷ ps)) → AreOut (with_all_free a (numbers_of p.bufs)) (numbers_of_all ps)
+  others_out out = all_given a (numbers_of p.bufs) (numbers_of_all ps) out
+
+  pub others_given : with_all_free (with_all_free a (numbers_of p.bufs)) (numbers_of_all ps)
+      ≡ with_all_free a (numbers_of_all (p ∷ ps))
+  others_given = given_both a (numbers_of p.bufs) (numbers_of_all ps)
+
+-- where a packet's block is among those of some packets
+
+pub times_part : (ps : List Packet) (k : ℕ) (d : Packet) (n : ℕ) → k < length ps
+    → times_in_hand (numbers_of (slice_index_or ps k d).bufs) n ≤ times_in_hand (numbers_of_all ps) n
+times_part [] k d n below = absurd (omega (arith, below))
+times_part (p ∷ ps) zero d n below = omega (arith, times-append (numbers_of p.bufs) (numbers_of_all ps) n)
+times_part (p ∷ ps) (suc k) d n below =
+    omega (
+      arith,
+      times-append (numbers_of p.bufs) (numbers_of_all ps) n,
+      times_part ps k d n (omega (arith, below)),
+    )
+
+next_at : (p : Packet) (ps : List Packet) (k : ℕ) (d : Packet)
+    → slice_index_or (p ∷ ps) (suc k) d ≡ slice_index_or ps k d
+next_at p ps k d = refl
+
+next_first : (p : Packet) (ps : List Packet) (k n : ℕ)
+    → times_in_hand (numbers_of_all (take (suc k) (p ∷ ps))) n
+    ≡ times_in_hand (numbers_of p.bufs) n + times_in_hand (numbers_of_all (take k ps)) n
+next_first p ps k n = times-append (numbers_of p.bufs) (numbers_of_all (take k ps)) n
+
+pub times_next : (ps : List Packet) (k : ℕ) (d : Packet) (n : ℕ) → k < length ps
+    → times_in_hand (numbers_of_all (take (k + 1) ps)) n
+    ≡ times_in_hand (numbers_of_all (take k ps)) n + times_in_hand (numbers_of (slice_index_or ps k d).bufs) n
+times_next [] k d n below = absurd (omega (arith, below))
+times_next (p ∷ ps) zero d n below = omega (arith, times-append (numbers_of p.bufs) [] n)
+times_next (p ∷ ps) (suc k) d n below =
+    omega (
+      arith,
+      ap (λ (i : ℕ). times_in_hand (numbers_of_all (take i (p ∷ ps))) n) (suc-add k 1),
+      next_first p ps (k + 1) n,
+      next_first p ps k n,
+      ap (λ (q : Packet). times_in_hand (numbers_of q.bufs) n) (next_at p ps k d),
+      times_next ps k d n (omega (arith, below)),
+    )
+
+pub none_there : (b : Bool) (n : ℕ) → (0 < n → b ≡ true) → b ≡ false → n ≡ 0
+none_there b zero there other = refl
+none_there b (suc n) there other = let is = there (omega arith) in cc
 
 -- the blocks of a ring, told by its parts
 pub lent_is : (v : Receive) (lent kept blocks fresh : List ℕ) (ring many size : ℕ)

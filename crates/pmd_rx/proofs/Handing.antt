@@ -7,7 +7,7 @@ use Rattle.nic_device.proofs.DmaArena.Arenas.{free_count_taken}
 use Rattle.pmd_seam.specs.declared.packet.Packet.{Packet}
 use Rattle.pmd_rx.specs.Keeping.{IsRunning, IsAmid, vacated}
 use Rattle.pmd_rx.specs.Receive.{Receive, reach, names, lent_one, ended_of, if_any, next_stage, CanLend, HasLent}
-use Rattle.pmd_rx.specs.Shown.{IsOneLess, OneMore, refilled, rounds}
+use Rattle.pmd_rx.specs.Shown.{IsOneLess, OneMore, WaitsStill, refilled, rounds}
 use Rattle.pmd_rx.specs.Wrong.{PacketWaits, wanted, owed}
 use Rattle.pmd_rx.specs.declared.ring.Stage.{Stage}
 use Rattle.pmd_rx.specs.declared.ring.Stage.TheVariants.{Looks, Takes, Owes, Lent}
@@ -92,9 +92,9 @@ less_lent a v lent amid =
           record {
             stage = waits.0;
             whole = waits.1;
-            free = λ free. omega (arith, free, next_owed v.seen some, here.1.0);
+            free = λ free. omega (arith, free, next_owed v.seen some, here.1);
           };
-      more = λ left. named_more v v.seen here.1.1 (omega (arith, left, none));
+      more = λ left. named_more v v.seen here.2 (omega (arith, left, none));
     }
 
 owes_amid : (v : Receive) (s : Stage) → s ≡ Owes → IsAmid v s → 0 < length v.held.bufs
@@ -159,3 +159,23 @@ pub lent_less : {E : Type 0} (r : Result Unit E) (a : Numbers) (v w : Receive) �
     → OnOk r (w ≡ names v) → OnOk r (IsOneLess a v a w)
 lent_less (Ok o) a v w lent amid is = subst (IsOneLess a v a) (sym is) (less_lent a v lent amid)
 lent_less (Err e) a v w lent amid is = tt
+
+-- a packet that waits takes a round, and the rounds follow each other
+
+pub some_rounds : (v : Receive) (s : Stage) → v.stage ≡ s → PacketWaits s → IsRunning v → rounds v ≡ 0 → ⊥
+some_rounds v Looks is waits runs none = waits
+some_rounds v Takes is waits runs none =
+    let amid : 0 < length v.seen = subst (λ (s : Stage). IsAmid v s) is runs.stage in
+    omega (arith, none, amid)
+some_rounds v Owes is waits runs none = omega (arith, none, ap vacated is)
+some_rounds v (Lent b) is waits runs none = omega (arith, none, ap vacated is)
+
+pub still_both : (a b d : Numbers) (v w x : Receive) → WaitsStill a v b w → WaitsStill b w d x → WaitsStill a v d x
+still_both a b d v w x p q = record {
+  stage = q.stage;
+  whole = q.whole ∙ p.whole;
+  free = λ enough. q.free (p.free enough);
+}
+
+pub more_behind : (v w x : Receive) → w.whole ≡ v.whole → OneMore w x → OneMore v x
+more_behind v w x same (p, is) = (p, is ∙ ap (λ (ps : List Packet). ps ++ p ∷ []) same)

@@ -99,7 +99,7 @@ vacated_after false = refl
 lt_of : (m n : ℕ) → nat_lt m n ≡ true → m < n
 lt_of m n is = grind (arith, nat_tests)
 
-part_more : (most before second : ℕ) → is_part most before second ≡ true → ends_packet second ≡ false
+pub part_more : (most before second : ℕ) → is_part most before second ≡ true → ends_packet second ≡ false
     → before + 1 < most
 part_more most before second part on =
     let both : (bytes_in second == 2048 && nat_lt (before + 1) most) ≡ true = rw on at part in

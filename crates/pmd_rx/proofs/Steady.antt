@@ -1,19 +1,22 @@
--- What the ring keeps as a part joins the packet that is held, and as a block is named, and the tail moves on.
-use Rattle.std.proofs.Common.{◌≡◌, ℕ, suc, ◌+◌, ◌-◌, ◌<◌, ◌≤◌, List, [], ◌∷◌, ◌++◌, length, drop, refl, sym, ap, subst, ◌∙◌, arith}
+-- What the ring keeps as a part is seen, as it joins the packet that is held, and as a block is named, and the tail moves on.
+use Rattle.std.proofs.Common.{◌≡◌, ℕ, suc, ◌+◌, ◌-◌, ◌<◌, ◌≤◌, ◌⊎◌, inl, inr, Bool, true, false, if◌then◌else◌, List, [], ◌∷◌, ◌++◌, length, drop, refl, sym, ap, subst, ◌∙◌, arith}
 use Rattle.std.proofs.lemmas.List.{length_push, length-drop, length-append, length-map}
 use Rattle.std.proofs.lemmas.List.Elements.{All-append, All-push, All-drop}
-use Rattle.std.specs.Prelude.{All}
+use Rattle.std.specs.Prelude.{All, ◌==◌, ◌&&◌, nat_le, nat_lt}
+use Rattle.std.proofs.lemmas.Bool.{cases_Bool, and_parts}
+use Rattle.std.proofs.lemmas.Bool.Decides.{nat_tests}
 use Rattle.nic_device.specs.DmaArena.Block.{Block}
-use Rattle.nic_device.specs.DmaRing.Receive.{bytes_in}
+use Rattle.nic_device.specs.DmaRing.Receive.{bytes_in, ends_packet}
 use Rattle.pmd_seam.specs.Bufs.{numbers_of}
 use Rattle.pmd_seam.specs.declared.packet.Packet.{Packet}
 use Rattle.pmd_rx.specs.Burst.{HasPart}
 use Rattle.pmd_rx.specs.Keeping.{vacated, numbers_of_all}
-use Rattle.pmd_rx.specs.Receive.{Layout, no_packet, if_any}
+use Rattle.pmd_rx.specs.Receive.{Layout, no_packet, if_any, is_part}
 use Rattle.pmd_rx.specs.Shown.{FitsBlock, StandsAt, IsSteady}
 use Rattle.pmd_rx.specs.declared.ring.Stage.{Stage}
 use Rattle.pmd_rx.specs.declared.ring.Stage.TheVariants.{Looks, Takes, Owes, Lent}
 use Rattle.pmd_rx.specs.declared.ring.Told.{Told}
+use Rattle.pmd_rx.proofs.Keeping.{part_more}
 use Rattle.pmd_rx.proofs.Lists.{all-append}
 
 fewer : (seen : List Told) (t : Told) (rest : List Told) → seen ≡ t ∷ rest → length rest + 1 ≡ length seen
@@ -49,6 +52,54 @@ joined_steady l posted seen p whole s t rest next blocks left bs b len rss hash 
         some = step.some;
         replaced = omega (arith, step.replaced, less, length-drop 1 l.blocks, one);
         taken = omega (arith, step.taken, ap vacated takes, less, length-drop 1 l.blocks, one, many);
+      },
+    )
+
+-- as one more part is seen
+
+part_fits : (most before second : ℕ) → is_part most before second ≡ true → (ends_packet second ≡ true)
+    ⊎ (ends_packet second ≡ false) → bytes_in second ≤ 2048
+part_fits most before second part (inl ends) =
+    let fits : nat_le (bytes_in second) 2048 ≡ true = rw ends at part in
+    grind (arith, nat_tests)
+part_fits most before second part (inr on) =
+    let both : (bytes_in second == 2048 && nat_lt (before + 1) most) ≡ true = rw on at part in
+    grind (arith, nat_tests, (and_parts (bytes_in second == 2048) (nat_lt (before + 1) most) both).0)
+
+seen_stands : (l : Layout) (seen more : List Told) (p : Packet) (most before second : ℕ) → l.most ≡ most
+    → length more ≡ before + 1 → is_part most before second ≡ true → p ≡ no_packet
+    → (ends_packet second ≡ true) ⊎ (ends_packet second ≡ false)
+    → StandsAt (if ends_packet second then Takes else Looks) l more p
+seen_stands l seen more p most before second is many part none (inl ends) = rw ends (omega (arith, many))
+seen_stands l seen more p most before second is many part none (inr on) =
+    rw on (none, omega (arith, many, is, part_more most before second part on))
+
+vacated_seen : (ends : Bool) → vacated (if ends then Takes else Looks) ≡ 0
+vacated_seen true = refl
+vacated_seen false = refl
+
+pub seen_steady : (l : Layout) (posted : ℕ) (seen more : List Told) (p : Packet) (whole : List Packet) (s next : Stage)
+    (t : Told) → IsSteady l posted seen p whole s → s ≡ Looks → more ≡ seen ++ t ∷ []
+    → next ≡ (if ends_packet t.second then Takes else Looks) → is_part l.most (length seen) t.second ≡ true
+    → length seen < posted → IsSteady l posted more p whole next
+seen_steady l posted seen more p whole s next t (laid, step) looks is leads part below =
+    let stands : StandsAt Looks l seen p = subst (λ (x : Stage). StandsAt x l seen p) looks step.stage in
+    let many : length more ≡ length seen + 1 = ap (λ (ts : List Told). length ts) is ∙ length_push seen t in
+    let ends = cases_Bool (ends_packet t.second) in
+    let none : length p.bufs ≡ 0 = ap (λ (x : Packet). length x.bufs) stands.0 in
+    let owed : vacated next ≡ 0 = ap vacated leads ∙ vacated_seen (ends_packet t.second) in
+    let old : vacated s ≡ 0 = ap vacated looks in (
+      laid,
+      record {
+        stage = rw leads (seen_stands l seen more p l.most (length seen) t.second refl many part stands.0 ends);
+        few = omega (arith, many, none, stands.1);
+        bytes = step.bytes;
+        parts = subst (λ (ts : List Told). All FitsBlock ts) (sym is)
+            (All-push FitsBlock seen t step.parts (part_fits l.most (length seen) t.second part ends));
+        within = omega (arith, many, below);
+        some = step.some;
+        replaced = step.replaced;
+        taken = omega (arith, step.taken, old, owed);
       },
     )
 

@@ -1,6 +1,6 @@
 //! Packets that come in: one by one, or several by one move of the tail.
 
-ghost use Rattle.std.specs.Prelude.{ℕ, ◌≡◌, ◌≢◌, ◌<◌, ◌≤◌, ◌+◌, ◌++◌, ◌∷◌, [], nat_lt, length, true, false, Ok, Err, IfOk, IfErr, IfSome, IfNone, OnErr, vec_len};
+ghost use Rattle.std.specs.Prelude.{ℕ, ◌≡◌, ◌≢◌, ◌<◌, ◌≤◌, ◌+◌, ◌++◌, ◌∷◌, [], length, true, false, Ok, Err, IfOk, IfErr, IfSome, IfNone, OnErr, vec_len};
 ghost use Rattle.std.specs.Vec.{vec_capacity};
 ghost use Rattle.nic_device.specs.DmaArena.Numbers.{Numbers};
 ghost use Rattle.pmd_seam.specs.Home.{AreOut};
@@ -111,7 +111,8 @@ impl ReceiveRing {
 
     /// Whether a packet is whole.
     fn has_whole(&self) -> bool
-        ensures { result ≡ nat_lt 0 (length self.now.whole) }
+        ensures yes { result ≡ true → 0 < length self.now.whole }
+        ensures no { result ≡ false → self.now.whole ≡ [] }
     {
         !self.whole.is_empty()
     }
@@ -259,7 +260,7 @@ impl ReceiveRing {
 
     /// Whether a part of a packet is held.
     fn holds_part(&self) -> bool
-        ensures { result ≡ nat_lt 0 (length self.now.held.bufs) }
+        ensures { result ≡ false → length self.now.held.bufs ≡ 0 }
     {
         self.held.bufs.count() > 0
     }

@@ -1,6 +1,6 @@
 //! What the driver does with its receive ring: calls one after the other, each of which may be the last that is made.
 
-ghost use Rattle.std.specs.Prelude.{ℕ, ◌≡◌, ◌<◌, ◌≤◌, ◌+◌, [], nat_lt, length, true, false, Ok, Err, IfErr, OnOk, OnErr};
+ghost use Rattle.std.specs.Prelude.{ℕ, ◌≡◌, ◌<◌, ◌≤◌, ◌+◌, [], length, true, false, Ok, Err, IfErr, OnOk, OnErr};
 ghost use Rattle.nic_device.specs.DmaArena.Numbers.{Numbers, free_count, is_free, with_free};
 ghost use Rattle.pmd_seam.specs.Home.{AreOut};
 ghost use Rattle.pmd_rx.specs.Filling.{Fills, StopsFilling};
@@ -114,7 +114,8 @@ impl ReceiveRing {
 
     /// Whether the slot behind those that were seen is posted.
     fn has_next(&self) -> bool
-        ensures { result ≡ nat_lt (length self.now.seen) (length self.now.layout.blocks) }
+        ensures yes { result ≡ true → length self.now.seen < length self.now.layout.blocks }
+        ensures no { result ≡ false → length self.now.layout.blocks ≤ length self.now.seen }
     {
         self.seen.len() < usize::from(self.posted)
     }

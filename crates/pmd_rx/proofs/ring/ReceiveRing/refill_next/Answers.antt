@@ -1,6 +1,8 @@
-use Rattle.std.proofs.Common.{[], ◌∙◌, arith}
+use Rattle.std.proofs.Common.{[], sym, ap, subst, ◌∙◌, arith}
 use Rattle.pmd_seam.proofs.Exchanging.{out_kept}
 use Rattle.pmd_rx.specs.Keeping.{blocks_out}
+use Rattle.pmd_rx.specs.Receive.{Receive, HasLent}
+use Rattle.pmd_rx.specs.declared.ring.Stage.{Stage}
 use Rattle.pmd_rx.proofs.Failing.{faults_after, faults_of}
 use Rattle.pmd_rx.proofs.Handing.{owes_room, owed_some, owes_less, takes_less, lent_less, err_after}
 use Rattle.pmd_rx.proofs.Keeping.{keeps_both}
@@ -49,7 +51,7 @@ returns-in-Ok-clause-more g c =
     let a = c.args.arena.now in
     let runs = (c.take_part.ensures.keeps a).running c.requires.running in
     takes_less c.lend_and_name.result a c.lend_and_name.new.arena c.take_part.new.self c.args.self.now
-    c.lend_and_name.new.self c.in-Takes.self-stage-test c.in-Ok.ensures.taken.0 c.in-Ok.ensures.taken.1.0
+    c.lend_and_name.new.self (sym (ap (λ (v : Receive). v.stage) c.self.view_is) ∙ c.in-Takes.is) c.in-Ok.ensures.taken.0 c.in-Ok.ensures.taken.1
     c.take_part.ensures.whole
     (owes_less c.lend_and_name.result a c.lend_and_name.new.arena c.take_part.new.self c.lend_and_name.new.self
     c.in-Ok.ensures.taken.0 runs.stage c.lend_and_name.ensures.named)
@@ -64,13 +66,15 @@ returns-in-Ok-clause-kept g c =
 
 pub returns-in-Owes-clause-more : goal.returns-in-Owes-clause-more
 returns-in-Owes-clause-more g c =
-    owes_less c.lend_and_name.result c.args.arena.now c.lend_and_name.new.arena c.args.self.now c.lend_and_name.new.self
-    c.in-Owes.self-stage-test c.requires.running.stage c.lend_and_name.ensures.named
+    let next = c.lend_and_name-in-Owes in
+    owes_less next.result c.args.arena.now next.new.arena c.args.self.now next.new.self
+    (sym (ap (λ (v : Receive). v.stage) c.self.view_is) ∙ c.in-Owes.is) c.requires.running.stage next.ensures.named
 
 pub returns-in-Lent-clause-more : goal.returns-in-Lent-clause-more
 returns-in-Lent-clause-more g c =
-    lent_less c.name_fresh.result c.args.arena.now c.args.self.now c.name_fresh.new.self tt c.requires.running.stage
-    c.name_fresh.ensures.named
+    let lent = sym (ap (λ (v : Receive). v.stage) c.self.view_is) ∙ c.in-Lent.is in
+    lent_less c.name_fresh.result c.args.arena.now c.args.self.now c.name_fresh.new.self
+    (subst (λ (s : Stage). HasLent s) (sym lent) tt) c.requires.running.stage c.name_fresh.ensures.named
 
 pub returns-in-Lent-clause-keeps : goal.returns-in-Lent-clause-keeps
 returns-in-Lent-clause-keeps g c = c.name_fresh.ensures.keeps c.args.arena.now

@@ -1,6 +1,6 @@
 -- What the steps of a refill lead to: a packet that waits becomes whole.
 use Rattle.std.proofs.Common.{◌≡◌, ℕ, ◌+◌, ◌<◌, ◌≤◌, true, false, List, [], ◌∷◌, ◌++◌, length, Result, Ok, Err, OnOk, OnErr, refl, sym, ap, subst, ◌∙◌, arith}
-use Rattle.std.proofs.lemmas.List.{append-nil, length-append}
+use Rattle.std.proofs.lemmas.List.{append-nil, length-append, length_push}
 use Rattle.nic_device.specs.DmaArena.Block.{Block}
 use Rattle.nic_device.specs.DmaArena.Numbers.{Numbers, free_count, is_free, with_free}
 use Rattle.nic_device.proofs.DmaArena.Arenas.{free_count_taken}
@@ -179,3 +179,6 @@ still_both a b d v w x p q = record {
 
 pub more_behind : (v w x : Receive) → w.whole ≡ v.whole → OneMore w x → OneMore v x
 more_behind v w x same (p, is) = (p, is ∙ ap (λ (ps : List Packet). ps ++ p ∷ []) same)
+
+pub one_longer : (v w : Receive) → OneMore v w → length w.whole ≡ length v.whole + 1
+one_longer v w (p, is) = ap (λ (ps : List Packet). length ps) is ∙ length_push v.whole p

@@ -1,4 +1,5 @@
 pub use Rattle.pmd_seam.proofs as PmdSeam
+pub mod Bursts
 pub mod Closing
 pub mod Earlier
 pub mod Failing

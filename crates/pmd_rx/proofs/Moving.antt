@@ -2,7 +2,7 @@
 use Rattle.std.proofs.Common.{◌≡◌, ◌≢◌, ℕ, ◌+◌, ◌<◌, ◌≤◌, ◌==◌, Bool, true, false, ◌⊎◌, inl, inr, List, [], ◌∷◌, ◌++◌, length, take, drop, All, refl, sym, ap, subst, ◌∙◌, take_all, length-take-le, take-append-drop, arith, if◌then◌else◌}
 use Rattle.std.proofs.lemmas.Bool.{cases_eq}
 use Rattle.std.proofs.lemmas.Bool.Decides.{nat_tests}
-use Rattle.std.proofs.lemmas.List.{length-append, length-drop, length-map}
+use Rattle.std.proofs.lemmas.List.{append-nil, length-append, length-map}
 use Rattle.nic_device.specs.DmaArena.Block.{Block}
 use Rattle.nic_device.specs.DmaArena.Numbers.{Numbers}
 use Rattle.nic_device.specs.DmaArena.Whereabouts.{times_in_hand}
@@ -12,10 +12,11 @@ use Rattle.pmd_seam.proofs.Outside.{times-append}
 use Rattle.pmd_seam.proofs.Places.{wrapped_apart}
 use Rattle.pmd_rx.specs.Burst.{HasPart}
 use Rattle.pmd_rx.specs.Keeping.{Keeps, IsRunning, IsAmid, vacated, blocks_out, numbers_of_all}
-use Rattle.pmd_rx.specs.Receive.{Receive, MovesNext, moved, posts, posts_one, posts_all, parts_first, tail_behind}
+use Rattle.pmd_rx.specs.Receive.{Receive, MovesNext, moved, posts, posts_one, posts_all, parts_first, tail_behind, records_of}
 use Rattle.pmd_rx.specs.declared.ring.Stage.{Stage}
 use Rattle.pmd_rx.specs.declared.ring.Stage.TheVariants.{Looks, Takes, Owes, Lent}
-use Rattle.pmd_rx.proofs.Keeping.{times_out, held_count, same_ring}
+use Rattle.pmd_rx.specs.Shown.{HandsOne, HandsAll}
+use Rattle.pmd_rx.proofs.Keeping.{times_out, held_count, keeps_to}
 use Rattle.pmd_rx.proofs.Lists.{all-split}
 
 -- how many blocks packets are in
@@ -202,3 +203,30 @@ all_keeps a v none =
       length-take-le (length v.named) v.named (omega arith),
       ap (λ (ps : List Packet). length (numbers_of_all ps)) whole,
     )))
+
+-- what comes out
+
+all_take : (P : Packet → Type 0) (ps : List Packet) (p : Packet) → All P ps → take 1 ps ≡ p ∷ [] → P p
+all_take P [] p all is = cc
+all_take P (q ∷ ps) p all is =
+    let same : q ≡ p = cc in
+    subst P same (all 0 q (omega arith))
+
+pub hands_one : (v w : Receive) (p : Packet) → w ≡ posts_one v → take 1 v.whole ≡ p ∷ [] → All HasPart v.whole
+    → parts_first v.whole ≤ length v.named → HandsOne v w p
+hands_one v w p is first all few = record {
+  handed = ap (λ (y : Receive). y.handed) is ∙ ap (λ (ps : List Packet). v.handed ++ records_of ps) first;
+  some = all_take HasPart v.whole p all first;
+  keeps = λ a.
+      let out = ap (λ (ps : List Packet). numbers_of_all ps) first ∙ append-nil (numbers_of p.bufs) in
+      keeps_to a a v (posts_one v) w (numbers_of p.bufs) is
+      (subst (λ (ns : List ℕ). Keeps a v a (posts_one v) ns) out (one_keeps a v few));
+}
+
+pub hands_all : (v w : Receive) → w ≡ posts_all v → All HasPart v.whole → length v.held.bufs ≡ 0 → HandsAll v w
+hands_all v w is all none = record {
+  handed = ap (λ (y : Receive). y.handed) is
+      ∙ ap (λ (ps : List Packet). v.handed ++ records_of ps) (take_all (length v.whole) v.whole (omega arith));
+  some = all;
+  keeps = λ a. keeps_to a a v (posts_all v) w (numbers_of_all v.whole) is (all_keeps a v none);
+}

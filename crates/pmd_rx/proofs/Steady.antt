@@ -167,8 +167,6 @@ pub posted_some : (l : Layout) (posted : ℕ) (seen : List Told) (p : Packet) (w
     (rest : List Told) → IsSteady l posted seen p whole s → seen ≡ t ∷ rest → posted - 1 + 1 ≡ posted
 posted_some l posted seen p whole s t rest (laid, step) is = omega (arith, step.within, fewer seen t rest is)
 
--- as the tail moves on
-
 first_count : (p : Packet) (left : List Packet)
     → length (numbers_of_all (p ∷ left)) ≡ length p.bufs + length (numbers_of_all left)
 first_count p left =
@@ -177,6 +175,19 @@ first_count p left =
       length-append (numbers_of p.bufs) (numbers_of_all left),
       length-map p.bufs (λ (x : Block). x.number),
     )
+
+-- where a packet is whole, a block is named behind the posted ones
+
+some_parts : (whole : List Packet) → 0 < length whole → All HasPart whole → 0 < length (numbers_of_all whole)
+some_parts [] some all = absurd (omega (arith, some))
+some_parts (p ∷ whole) some all = omega (arith, first_count p whole, all 0 p (omega arith))
+
+pub some_named : (l : Layout) (posted : ℕ) (seen : List Told) (p : Packet) (whole : List Packet) (s : Stage)
+    → IsSteady l posted seen p whole s → 0 < length whole → 0 < length (drop posted l.blocks)
+some_named l posted seen p whole s (laid, step) some =
+    omega (arith, step.replaced, some_parts whole some step.some, length-drop posted l.blocks)
+
+-- as the tail moves on
 
 pub one_steady : (l : Layout) (posted more : ℕ) (seen : List Told) (p : Packet) (whole left : List Packet) (s : Stage)
     (first : Packet) → IsSteady l posted seen p whole s → whole ≡ first ∷ left → more ≡ length first.bufs

@@ -5,6 +5,7 @@ use Rattle.nic_device.specs.DmaRing.Descriptor.{second_half}
 use Rattle.nic_device.specs.DmaRing.Receive.{is_done, bytes_in}
 use Rattle.nic_device.specs.declared.event.Event.TheVariants as event
 use Rattle.nic_device.specs.declared.event.Reply.TheVariants as reply
+use Rattle.pmd_seam.specs.Bufs.{numbers_of}
 use Rattle.pmd_seam.specs.Accesses.{IsPeeked, IsPoked, IsWritten}
 use Rattle.pmd_seam.specs.Slots.{blocks_for}
 use Rattle.pmd_seam.specs.Made.{Adds, AddsSome}
@@ -12,10 +13,10 @@ use Rattle.pmd_seam.specs.declared.fault.PmdFault.{PmdFault}
 use Rattle.pmd_seam.specs.declared.fault.PmdFault.TheVariants as fault
 use Rattle.pmd_seam.specs.DeviceLock.declared.entry.Call.{Call}
 use Rattle.pmd_seam.specs.declared.packet.Packet.{Packet}
-use Rattle.pmd_seam.specs.Packet.{Kept}
+use Rattle.pmd_seam.specs.Packet.{Kept, kept_of}
 use Rattle.pmd_rx.specs.Burst.{HasPart}
 use Rattle.pmd_rx.specs.Receive.{Receive, descriptor_at, tail_behind, vacant, reach, naming, fresh_of, Layout, no_packet, is_part, records_of, lent_one, names, saw}
-use Rattle.pmd_rx.specs.Keeping.{vacated, numbers_of_all}
+use Rattle.pmd_rx.specs.Keeping.{Keeps, vacated, numbers_of_all}
 use Rattle.pmd_rx.specs.Wrong.{PacketWaits, wanted}
 use Rattle.pmd_rx.specs.declared.receive.Look.{Look}
 use Rattle.pmd_rx.specs.declared.receive.Look.TheVariants as look
@@ -154,3 +155,15 @@ pub record IsOneLess (a : Numbers) (v : Receive) (b : Numbers) (w : Receive) : T
 -- a fresh block was lent, and named in the first vacant slot
 abbrev pub refilled : Receive → ℕ → Receive
 refilled v n = names (lent_one v n)
+
+-- the oldest whole packet came out: its record is kept, and each block is in one place
+pub record HandsOne (v w : Receive) (p : Packet) : Type 0 where
+  pub handed : w.handed ≡ v.handed ++ kept_of p ∷ []
+  pub some : HasPart p
+  pub keeps : (a : Numbers) → Keeps a v a w (numbers_of p.bufs)
+
+-- all of them did
+pub record HandsAll (v w : Receive) : Type 0 where
+  pub handed : w.handed ≡ v.handed ++ records_of v.whole
+  pub some : All HasPart v.whole
+  pub keeps : (a : Numbers) → Keeps a v a w (numbers_of_all v.whole)

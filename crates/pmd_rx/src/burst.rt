@@ -253,7 +253,8 @@ impl ReceiveRing {
 
     /// How many packets are whole.
     fn count_whole(&self) -> usize
-        ensures { result ≡ length self.now.whole }
+        ensures count { result ≡ length self.now.whole }
+        ensures named { 0 < result → 0 < length self.now.named }
     {
         self.whole.len()
     }

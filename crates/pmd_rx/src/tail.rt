@@ -7,7 +7,7 @@ ghost use Rattle.pmd_rx.specs.Burst.{HasPart};
 ghost use Rattle.pmd_rx.specs.Keeping.{numbers_of_all};
 ghost use Rattle.pmd_rx.specs.Plays.{PlaysFrom};
 ghost use Rattle.pmd_rx.specs.Receive.{parts_first, posts_one, posts_all};
-ghost use Rattle.pmd_rx.specs.Shown.{IsTailWritten, IsUnwritten};
+ghost use Rattle.pmd_rx.specs.Shown.{HandsOne, HandsAll, IsTailWritten, IsUnwritten};
 ghost use Rattle.pmd_rx.specs.Wrong.{IsFault};
 ghost use Rattle.pmd_seam.specs.Refusals.{CanFail};
 
@@ -47,9 +47,7 @@ impl ReceiveRing {
     ) -> Result<Packet, PmdFault>
         requires { 0 < length self.old.whole }
         ensures plays { (a : Numbers) → PlaysFrom a (N.made nic.old) self.old (N.made nic.new) self.new }
-        ensures moved { OnOk result (self.new ≡ posts_one self.old) }
-        ensures out { IfOk result (λ packet. take 1 self.old.whole ≡ packet ∷ []) }
-        ensures some { All HasPart self.old.whole }
+        ensures hands { IfOk result (λ packet. HandsOne self.old self.new packet) }
         ensures kept { OnErr result (self.new ≡ self.old) }
         ensures fault { (a : Numbers) → IfErr result (λ f.
             IsFault f a (N.made nic.old) self.old (N.made nic.new) self.new) }
@@ -106,7 +104,7 @@ impl ReceiveRing {
         ensures plays { (a : Numbers) → PlaysFrom a (N.made nic.old) self.old (N.made nic.new) self.new }
         ensures moved { OnOk result (self.new ≡ posts_all self.old) }
         ensures out { OnOk result (out.new.items ≡ out.old.items ++ self.old.whole) }
-        ensures some { All HasPart self.old.whole }
+        ensures hands { OnOk result (HandsAll self.old self.new) }
         ensures kept { OnErr result (self.new ≡ self.old) }
         ensures same { OnErr result (out.new.items ≡ out.old.items) }
         ensures fault { (a : Numbers) → IfErr result (λ f.

@@ -1,9 +1,10 @@
+use Rattle.std.proofs.Common.{[]}
 use Rattle.pmd_seam.proofs.Exchanging.{out_kept}
-use Rattle.pmd_rx.specs.Keeping.{blocks_out, handed_blocks}
-use Rattle.pmd_rx.proofs.Failing.{fails_behind, fails_of, no_short, err_same}
+use Rattle.pmd_rx.specs.Keeping.{blocks_out}
+use Rattle.pmd_rx.proofs.Failing.{fails_after, fails_of, no_short, err_same}
 use Rattle.pmd_rx.proofs.Keeping.{keeps_both}
 use Rattle.pmd_rx.proofs.Playing.{plays_both}
-use Rattle.pmd_rx.proofs.ring.ReceiveRing.receive.Goals as goal
+use Rattle.pmd_rx.proofs.ring.ReceiveRing.take_next.Goals as goal
 
 pub take_whole-requires-clause-running : goal.take_whole-requires-clause-running
 take_whole-requires-clause-running g c =
@@ -15,25 +16,38 @@ take_whole-requires-clause-home g c =
     out_kept a (blocks_out c.args.self.now) a (blocks_out c.look_whole.new.self) c.requires.home
     (c.look_whole.ensures.keeps a).arena
 
-pub returns-in-Ok-true-clause-plays : goal.returns-in-Ok-true-clause-plays
-returns-in-Ok-true-clause-plays g c =
+pub returns-in-Ok-clause-plays : goal.returns-in-Ok-clause-plays
+returns-in-Ok-clause-plays g c =
     let a = c.args.arena.now in
     plays_both a (g.N.Nic.made c.args.nic.now) (g.N.Nic.made c.look_whole.new.nic) (g.N.Nic.made c.take_whole.new.nic)
     c.args.self.now c.look_whole.new.self c.take_whole.new.self (c.look_whole.ensures.plays a)
     c.take_whole.ensures.plays
 
-pub returns-in-Ok-true-clause-fails : goal.returns-in-Ok-true-clause-fails
-returns-in-Ok-true-clause-fails g c =
+pub returns-in-Ok-clause-keeps : goal.returns-in-Ok-clause-keeps
+returns-in-Ok-clause-keeps g c =
     let a = c.args.arena.now in
-    fails_behind c.take_whole.result (g.N.Nic.made c.args.nic.now) (g.N.Nic.made c.look_whole.new.nic)
-    (g.N.Nic.made c.take_whole.new.nic) a c.take_whole.new.arena c.args.self.now c.look_whole.new.self
-    c.take_whole.new.self (c.look_whole.ensures.plays a) c.look_whole.ensures.kept c.take_whole.ensures.fails
+    keeps_both a a c.take_whole.new.arena c.args.self.now c.look_whole.new.self c.take_whole.new.self []
+    (c.look_whole.ensures.keeps a) c.take_whole.ensures.keeps
 
-pub returns-in-Ok-true-clause-keeps : goal.returns-in-Ok-true-clause-keeps
-returns-in-Ok-true-clause-keeps g c =
+pub returns-in-Err-take_whole-clause-plays : goal.returns-in-Err-take_whole-clause-plays
+returns-in-Err-take_whole-clause-plays g c =
     let a = c.args.arena.now in
-    keeps_both a a c.take_whole.new.arena c.args.self.now c.look_whole.new.self c.take_whole.new.self
-    (handed_blocks c.take_whole.result) (c.look_whole.ensures.keeps a) c.take_whole.ensures.keeps
+    plays_both a (g.N.Nic.made c.args.nic.now) (g.N.Nic.made c.look_whole.new.nic) (g.N.Nic.made c.take_whole.new.nic)
+    c.args.self.now c.look_whole.new.self c.take_whole.new.self (c.look_whole.ensures.plays a)
+    c.take_whole.ensures.plays
+
+pub returns-in-Err-take_whole-clause-keeps : goal.returns-in-Err-take_whole-clause-keeps
+returns-in-Err-take_whole-clause-keeps g c =
+    let a = c.args.arena.now in
+    keeps_both a a c.take_whole.new.arena c.args.self.now c.look_whole.new.self c.take_whole.new.self []
+    (c.look_whole.ensures.keeps a) c.take_whole.ensures.keeps
+
+pub returns-in-Err-take_whole-clause-fails : goal.returns-in-Err-take_whole-clause-fails
+returns-in-Err-take_whole-clause-fails g c =
+    let a = c.args.arena.now in
+    fails_after c.in-Err-take_whole.fault (g.N.Nic.made c.args.nic.now) (g.N.Nic.made c.look_whole.new.nic)
+    (g.N.Nic.made c.take_whole.new.nic) a c.take_whole.new.arena c.args.self.now c.look_whole.new.self
+    c.take_whole.new.self (c.look_whole.ensures.plays a) c.look_whole.ensures.kept c.in-Err-take_whole.ensures.fails
 
 pub returns-in-Ok-false-clause-keeps : goal.returns-in-Ok-false-clause-keeps
 returns-in-Ok-false-clause-keeps g c = c.look_whole.ensures.keeps c.args.arena.now

@@ -62,22 +62,15 @@ all_out count most a v w old new hands is many few = record {
   keeps = hands.keeps a;
 }
 
--- after calls that handed out nothing, and where more were asked for
-
-few_more : (r : Result ℕ PmdFault) (count few most : ℕ) → few ≤ most → IfOk r (λ n. (count ≡ n) × (n ≤ few))
-    → IfOk r (λ n. (count ≡ n) × (n ≤ most))
-few_more (Ok n) count few most less many = (many.0, omega (arith, many.1, less))
-few_more (Err f) count few most less many = tt
-
-pub burst_after : (r : Result ℕ PmdFault) (few most : ℕ) (a b : Numbers) (v w x : Receive) (old new : List Packet)
-    → few ≤ most → w.handed ≡ v.handed → Keeps a v b w [] → IsBurst r few b w old b x new
-    → IsBurst r most a v old b x new
-burst_after r few most a b v w x old new less handed keeps burst = record {
+-- after calls that handed out nothing
+pub burst_after : (r : Result ℕ PmdFault) (most : ℕ) (a b : Numbers) (v w x : Receive) (old new : List Packet)
+    → w.handed ≡ v.handed → Keeps a v b w [] → IsBurst r most b w old b x new → IsBurst r most a v old b x new
+burst_after r most a b v w x old new handed keeps burst = record {
   packets = burst.packets;
   out = burst.out;
   handed = burst.handed ∙ ap (λ (ks : List Kept). ks ++ records_of burst.packets) handed;
   some = burst.some;
-  many = few_more r (length burst.packets) few most less burst.many;
+  many = burst.many;
   none = burst.none;
   keeps = keeps_both a b b v w x (numbers_of_all burst.packets) keeps burst.keeps;
 }

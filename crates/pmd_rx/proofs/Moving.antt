@@ -1,11 +1,12 @@
 -- The tail moves on, over the blocks of the oldest whole packet, or over all that are named.
-use Rattle.std.proofs.Common.{◌≡◌, ◌≢◌, ℕ, ◌+◌, ◌<◌, ◌≤◌, ◌==◌, Bool, true, false, ◌⊎◌, inl, inr, List, [], ◌∷◌, ◌++◌, length, take, drop, All, refl, sym, ap, subst, ◌∙◌, take_all, length-take-le, take-append-drop, arith, if◌then◌else◌}
+use Rattle.std.proofs.Common.{◌≡◌, ◌≢◌, ℕ, ◌+◌, ◌<◌, ◌≤◌, ◌==◌, Bool, true, false, ◌⊎◌, inl, inr, List, [], ◌∷◌, ◌++◌, length, take, drop, All, Result, Ok, Err, OnOk, OnErr, refl, sym, ap, subst, ◌∙◌, take_all, length-take-le, take-append-drop, arith, if◌then◌else◌}
 use Rattle.std.proofs.lemmas.Bool.{cases_eq}
 use Rattle.std.proofs.lemmas.Bool.Decides.{nat_tests}
 use Rattle.std.proofs.lemmas.List.{append-nil, length-append, length-map}
 use Rattle.nic_device.specs.DmaArena.Block.{Block}
 use Rattle.nic_device.specs.DmaArena.Numbers.{Numbers}
 use Rattle.nic_device.specs.DmaArena.Whereabouts.{times_in_hand}
+use Rattle.nic_device.specs.declared.event.Event.TheVariants as event
 use Rattle.pmd_seam.specs.Bufs.{numbers_of}
 use Rattle.pmd_seam.specs.declared.packet.Packet.{Packet}
 use Rattle.pmd_seam.proofs.Outside.{times-append}
@@ -16,7 +17,8 @@ use Rattle.pmd_rx.specs.Receive.{Receive, MovesNext, moved, posts, posts_one, po
 use Rattle.pmd_rx.specs.declared.ring.Stage.{Stage}
 use Rattle.pmd_rx.specs.declared.ring.Stage.TheVariants.{Looks, Takes, Owes, Lent}
 use Rattle.pmd_rx.specs.Shown.{HandsOne, HandsAll}
-use Rattle.pmd_rx.proofs.Keeping.{times_out, held_count, keeps_to}
+use Rattle.pmd_rx.specs.Wrong.{AsksNext}
+use Rattle.pmd_rx.proofs.Keeping.{times_out, held_count, keeps_none, keeps_to}
 use Rattle.pmd_rx.proofs.Lists.{all-split}
 
 -- how many blocks packets are in
@@ -50,6 +52,14 @@ one_own v n is some all few = record {
     word_is = ap (λ (k : ℕ). tail_behind v.layout k) is;
   });
 }
+
+pub one_asks : (a : Numbers) (v : Receive) → 0 < length v.whole → All HasPart v.whole
+    → parts_first v.whole ≤ length v.named → AsksNext a v
+one_asks a v some all few = (
+  event.Write v.layout.port v.layout.tail (tail_behind v.layout (parts_first v.whole)),
+  one_own v (parts_first v.whole) refl some all few,
+  tt,
+)
 
 same_test : (n : ℕ) → (n == n) ≡ true
 same_test n = grind (arith, nat_tests)
@@ -230,3 +240,17 @@ hands_all v w is all none = record {
   some = all;
   keeps = λ a. keeps_to a a v (posts_all v) w (numbers_of_all v.whole) is (all_keeps a v none);
 }
+
+-- where no packet is whole, none does
+
+pub none_keeps : {E : Type 0} (a : Numbers) (r : Result Unit E) (v w : Receive) → v.whole ≡ [] → OnOk r (HandsAll v w)
+    → OnErr r (w ≡ v) → Keeps a v a w []
+none_keeps a (Ok o) v w none hands same =
+    subst (λ (ps : List Packet). Keeps a v a w (numbers_of_all ps)) none (hands.keeps a)
+none_keeps a (Err e) v w none hands same = keeps_to a a v v w [] same (keeps_none a v)
+
+pub none_handed : {E : Type 0} (r : Result Unit E) (v w : Receive) → v.whole ≡ [] → OnOk r (HandsAll v w)
+    → OnErr r (w ≡ v) → w.handed ≡ v.handed
+none_handed (Ok o) v w none hands same =
+    hands.handed ∙ ap (λ (ps : List Packet). v.handed ++ records_of ps) none ∙ append-nil v.handed
+none_handed (Err e) v w none hands same = ap (λ (y : Receive). y.handed) same

@@ -11,7 +11,7 @@ use Rattle.pmd_seam.specs.Bufs.{numbers_of}
 use Rattle.pmd_seam.specs.declared.packet.Packet.{Packet}
 use Rattle.pmd_rx.specs.Burst.{HasPart}
 use Rattle.pmd_rx.specs.Keeping.{vacated, numbers_of_all}
-use Rattle.pmd_rx.specs.Receive.{Layout, no_packet, if_any, is_part}
+use Rattle.pmd_rx.specs.Receive.{Layout, no_packet, if_any, is_part, parts_first}
 use Rattle.pmd_rx.specs.Shown.{FitsBlock, StandsAt, IsSteady}
 use Rattle.pmd_rx.specs.declared.ring.Stage.{Stage}
 use Rattle.pmd_rx.specs.declared.ring.Stage.TheVariants.{Looks, Takes, Owes, Lent}
@@ -186,6 +186,15 @@ pub some_named : (l : Layout) (posted : ℕ) (seen : List Told) (p : Packet) (wh
     → IsSteady l posted seen p whole s → 0 < length whole → 0 < length (drop posted l.blocks)
 some_named l posted seen p whole s (laid, step) some =
     omega (arith, step.replaced, some_parts whole some step.some, length-drop posted l.blocks)
+
+first_named : (whole : List Packet) → parts_first whole ≤ length (numbers_of_all whole)
+first_named [] = omega arith
+first_named (p ∷ whole) = omega (arith, first_count p whole)
+
+pub parts_named : (l : Layout) (posted : ℕ) (seen : List Told) (p : Packet) (whole : List Packet) (s : Stage)
+    → IsSteady l posted seen p whole s → parts_first whole ≤ length (drop posted l.blocks)
+parts_named l posted seen p whole s (laid, step) =
+    omega (arith, step.replaced, first_named whole, length-drop posted l.blocks)
 
 -- as the tail moves on
 

@@ -1,7 +1,6 @@
 //! Packets that come in: one by one, or several by one move of the tail.
 
-ghost use Rattle.std.specs.Prelude.{ℕ, ◌≡◌, ◌≢◌, ◌<◌, ◌≤◌, ◌+◌, ◌++◌, ◌∷◌, [], length, true, false, Ok, Err, IfOk, IfErr, IfSome, IfNone, OnErr, vec_len};
-ghost use Rattle.std.specs.Vec.{vec_capacity};
+ghost use Rattle.std.specs.Prelude.{ℕ, ◌≡◌, ◌≢◌, ◌<◌, ◌≤◌, ◌+◌, ◌++◌, ◌∷◌, [], length, true, false, Ok, Err, IfOk, IfErr, IfSome, IfNone, OnErr};
 ghost use Rattle.nic_device.specs.DmaArena.Numbers.{Numbers};
 ghost use Rattle.pmd_seam.specs.Home.{AreOut};
 ghost use Rattle.pmd_seam.specs.Packet.{kept_of};
@@ -9,7 +8,7 @@ ghost use Rattle.pmd_rx.specs.Burst.{IsBurst};
 ghost use Rattle.pmd_rx.specs.Keeping.{Keeps, IsRunning, blocks_out, handed_blocks};
 ghost use Rattle.pmd_rx.specs.Plays.{PlaysFrom, LooksInVain};
 ghost use Rattle.pmd_rx.specs.Shown.{OneMore};
-ghost use Rattle.pmd_rx.specs.Wrong.{FailsBy, IsFault, PacketWaits};
+ghost use Rattle.pmd_rx.specs.Wrong.{AsksNext, FailsBy, IsFault, PacketWaits};
 ghost use Rattle.pmd_seam.specs.Refusals.{CanFail};
 
 use crate::ring::ReceiveRing;
@@ -169,8 +168,8 @@ impl ReceiveRing {
     /// which the next call meets again. Where packets are whole, since a move of the tail was refused, no slot is looked
     /// at, and they come out, or the oldest alone where they are more than `most` or parts of one more are taken.
     ///
-    /// It fails as `receive` does, and only where no packet came out: `out` is as it was then. `Call` also where there is
-    /// no memory for the packets, before anything is made.
+    /// It fails as `receive` does, and only where no packet came out: `out` is as it was then. `Call` also where `out` has no
+    /// memory for the packets: they stay whole, and the next call goes on.
     pub fn receive_burst<N: Nic>(
         &mut self,
         alloc: Global,
@@ -191,12 +190,8 @@ impl ReceiveRing {
         ensures refuses { N.refuses nic.new ≡ N.refuses nic.old }
         ensures refusal { IfErr result (λ f. CanFail (N.refuses nic.new) f) }
     {
-        let most = self.most_packets(most);
         if most == 0 {
             return Ok(0);
-        }
-        if out.reserve(usize::from(most)).is_err() {
-            return Err(PmdFault::Call(CallFault::OutOfMemory(())));
         }
         match self.gather(alloc, nic, arena, most) {
             Ok(true) => self.post_most(alloc, nic, most, out),
@@ -205,16 +200,10 @@ impl ReceiveRing {
         }
     }
 
-    /// Of so many packets, how many can come out by one move of the tail at most: each is in a slot of its own.
-    fn most_packets(&self, most: u16) -> u16
-        ensures few { result ≤ most }
-        ensures some { 0 < most → 0 < result }
-    {
-        most.min(self.size)
-    }
-
     /// Hands out the whole packets, by one move of the tail, behind what `out` has, where they are at most so many, and
     /// no part of one more is taken. Else it hands out the oldest. Answers how many they are.
+    ///
+    /// `DeviceFault` where the port has no such register. `Call` also where `out` has no memory for them.
     fn post_most<N: Nic>(
         &mut self,
         alloc: Global,
@@ -225,7 +214,6 @@ impl ReceiveRing {
         requires running { IsRunning self.old }
         requires some { 0 < length self.old.whole }
         requires most { 0 < most }
-        requires room { vec_len out.old + most ≤ vec_capacity out.old }
         ensures plays { (a : Numbers) → PlaysFrom a (N.made nic.old) self.old (N.made nic.new) self.new }
         ensures out { (a : Numbers) → IsBurst result most a self.old out.old.items a self.new out.new.items }
         ensures some { result ≢ Ok 0 }
@@ -236,6 +224,9 @@ impl ReceiveRing {
         ensures refusal { IfErr result (λ f. CanFail (N.refuses nic.new) f) }
     {
         let count = self.count_whole();
+        if out.reserve(count).is_err() {
+            return Err(PmdFault::Call(CallFault::OutOfMemory(())));
+        }
         if self.holds_part() || count > usize::from(most) {
             return match self.post_one(alloc, nic) {
                 Ok(packet) => {
@@ -255,6 +246,7 @@ impl ReceiveRing {
     fn count_whole(&self) -> usize
         ensures count { result ≡ length self.now.whole }
         ensures named { 0 < result → 0 < length self.now.named }
+        ensures asks { (a : Numbers) → 0 < result → AsksNext a self.now }
     {
         self.whole.len()
     }

@@ -251,7 +251,8 @@ impl ReceiveRing {
         requires none { (self.old.whole ≡ []) × (self.old.held ≡ no_packet) }
         ensures plays { (a : Numbers) → PlaysFrom a (N.made nic.old) self.old (N.made nic.new) self.new }
         ensures moved { OnOk result (self.new ≡ posts_all self.old) }
-        ensures kept { OnErr result (self.new ≡ self.old) }
+        ensures keeps { (a : Numbers) → Keeps a self.old a self.new [] }
+        ensures handed { self.new.handed ≡ self.old.handed }
         ensures fault { (a : Numbers) → IfErr result (λ f.
             IsFault f a (N.made nic.old) self.old (N.made nic.new) self.new) }
         ensures who { N.who nic.new ≡ N.who nic.old }

@@ -1,5 +1,5 @@
 -- Taking a part's block, and posting a fresh one.
-use Rattle.std.proofs.Common.{◌≡◌, ℕ, true, List, Option, Some, None, Result, Ok, Err, IfErr, OnOk, OnErr, refl, sym, subst, inl, inr}
+use Rattle.std.proofs.Common.{◌≡◌, ℕ, true, List, Some, None, Result, Ok, Err, IfErr, OnOk, OnErr, refl, sym, subst, inl, inr}
 use Rattle.nic_device.specs.DmaArena.Block.{Block}
 use Rattle.nic_device.specs.DmaArena.Numbers.{Numbers, is_free}
 use Rattle.nic_device.specs.declared.event.Event.{Event}

@@ -1,14 +1,14 @@
 -- The driver as its fields show it: of the slots' blocks the first are posted, and of the records the first were handed
 -- out.
-use Rattle.std.proofs.Common.{◌≡◌, ℕ, ◌+◌, ◌≤◌, List, [], ◌∷◌, ◌++◌, take, drop, length, refl, sym, ap, ◌∙◌, append_assoc, take-add, drop-drop, arith}
+use Rattle.std.proofs.Common.{◌≡◌, ℕ, ◌+◌, ◌≤◌, List, [], ◌∷◌, ◌++◌, take, drop, length, refl, sym, ap, ◌∙◌, take-add, drop-drop, arith}
 use Rattle.std.proofs.lemmas.List.{take-map, take-append-le, drop-append-le}
 use Rattle.nic_device.specs.DmaArena.Block.{Block}
 use Rattle.nic_device.specs.DmaRing.Driver.{rss_in, hash_in}
 use Rattle.nic_device.specs.DmaRing.Ring.{next_of}
 use Rattle.nic_device.specs.DmaRing.Receive.{bytes_in}
-use Rattle.pmd_seam.specs.Packet.{Kept, kept_of}
+use Rattle.pmd_seam.specs.Packet.{Kept}
 use Rattle.pmd_seam.specs.declared.packet.Packet.{Packet}
-use Rattle.pmd_rx.specs.Receive.{Receive, Layout, consumed, joined, names, posts, took, fresh_of, ended_of, left_of, next_stage, records_of, if_any, no_packet}
+use Rattle.pmd_rx.specs.Receive.{Receive, Layout, joined, names, posts, took, records_of, if_any, no_packet}
 use Rattle.pmd_rx.specs.Shown.{AreRecords}
 use Rattle.pmd_rx.specs.declared.ring.Stage.{Stage}
 use Rattle.pmd_rx.specs.declared.ring.Stage.TheVariants.{Looks, Owes, Lent}
@@ -78,7 +78,6 @@ shown_names l posted n blocks records more handed seen held left whole all s are
     (records_same handed records more whole (if_any held.bufs held) are keeps)
     joins
     (ap (λ (bs : List ℕ). drop posted bs) is ∙ drop-append-le posted l.blocks (n ∷ []) few))
-
 
 -- the first slot was consumed, and its part joins the packet that is held
 pub shown_took : (l : Layout) (posted left next : ℕ) (blocks : List ℕ) (records : List Kept) (handed : ℕ)

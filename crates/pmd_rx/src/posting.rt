@@ -62,7 +62,11 @@ impl ReceiveRing {
     /// Looks at the slots of a packet, as far as they are posted, where it isn't seen whole yet. Answers whether it is.
     ///
     /// `DeviceFault` where a slot shows what no healthy queue does.
-    pub(crate) fn look_whole<N: Nic>(&mut self, alloc: Global, nic: &mut N) -> Result<bool, PmdFault>
+    pub(crate) fn look_whole<N: Nic>(
+        &mut self,
+        alloc: Global,
+        nic: &mut N,
+    ) -> Result<bool, PmdFault>
         requires running { IsRunning self.old }
         ensures plays { (a : Numbers) → PlaysFrom a (N.made nic.old) self.old (N.made nic.new) self.new }
         ensures none { result ≡ Ok false → self.old.whole ≡ []

@@ -1,6 +1,6 @@
-use Rattle.std.proofs.Common.{◌≡◌, ◌+◌, ℕ, List, length, ap, sym, subst, ◌∙◌, arith}
+use Rattle.std.proofs.Common.{List, length, ap, sym, subst, ◌∙◌, arith}
 use Rattle.nic_device.specs.DmaArena.Numbers.{Numbers}
-use Rattle.pmd_seam.specs.Bufs.{numbers_of, with_all_free}
+use Rattle.pmd_seam.specs.Bufs.{with_all_free}
 use Rattle.pmd_seam.specs.Home.{AreOut}
 use Rattle.pmd_seam.specs.declared.packet.Packet.{Packet}
 use Rattle.pmd_rx.specs.Keeping.{numbers_of_all}

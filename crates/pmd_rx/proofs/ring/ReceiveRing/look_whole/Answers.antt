@@ -4,7 +4,7 @@ use Rattle.pmd_rx.specs.Receive.{Receive}
 use Rattle.pmd_rx.specs.declared.receive.Look.{Look}
 use Rattle.pmd_rx.proofs.Failing.{wrong_after, fault_after}
 use Rattle.pmd_rx.proofs.Keeping.{keeps_none, keeps_both}
-use Rattle.pmd_rx.proofs.Looking.{posted_more, looks_vainly, kept_both}
+use Rattle.pmd_rx.proofs.Looking.{looks_vainly, kept_both}
 use Rattle.pmd_rx.proofs.Playing.{plays_none, plays_both}
 use Rattle.pmd_rx.proofs.ring.ReceiveRing.look_whole.Goals as goal
 

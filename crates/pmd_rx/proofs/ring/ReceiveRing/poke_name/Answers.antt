@@ -38,7 +38,7 @@ invariant_of-self-in-Ok-true g c =
           ∙ ap (λ (bs : List ℕ). bs ++ c.in-Lent.block ∷ []) c.reserve.ensures.items)
           (c.replace-packet.ensures.after ∙ c.no_packet.ensures) all,
       rw all (records_more r.handed r.records.items c.keep_whole.new.records.items r.whole.items ended
-      c.self.invariant.1 kept),
+          c.self.invariant.1 kept),
     )
 
 pub returns-else-not-is_empty-clause-named : goal.returns-else-not-is_empty-clause-named

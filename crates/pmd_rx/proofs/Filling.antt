@@ -37,7 +37,8 @@ posts_more count a b d v w x posts (block, free, taken, is) = record {
   blocks = posts.blocks ++ block ∷ [];
   drawn = drawn_next a posts.blocks b block d posts.drawn free taken;
   many = omega (arith, posts.many, length_push posts.blocks block);
-  left = is ∙ ap (λ (y : Receive). let z : Receive = record y { layout = extended y.layout (block ∷ []) } in z) posts.left
+  left = is
+      ∙ ap (λ (y : Receive). let z : Receive = record y { layout = extended y.layout (block ∷ []) } in z) posts.left
       ∙ ap (λ (xs : List ℕ). let z : Receive = record v { layout = record v.layout { blocks = xs } } in z)
       (append_assoc v.layout.blocks posts.blocks (block ∷ []));
 }

@@ -137,7 +137,7 @@ pub looks_same : (r : Result Look PmdFault) (old new : List Call) (v w : Receive
 looks_same (Ok l) old new v w looked same = look_kept l old new v w looked
 looks_same (Err f) old new v w looked same = rw same refl
 
--- a driver that runs and looks, where it holds nothing and no packet is whole, has named nothing, and has a slot to look at
+-- a driver that runs and looks, holds nothing and has no whole packet, has named nothing, and has a slot to look at
 
 pub none_named : (v : Receive) → IsRunning v → v.stage ≡ Looks → v.held ≡ no_packet → v.whole ≡ [] → length v.named ≡ 0
 none_named v runs looks holds none =

@@ -1,4 +1,4 @@
--- What the ring keeps as a part is seen, as it joins the packet that is held, and as a block is named, and the tail moves on.
+-- What the ring keeps as a part is seen and joins the packet that is held, as a block is named, and as the tail moves.
 use Rattle.std.proofs.Common.{◌≡◌, ℕ, suc, ◌+◌, ◌-◌, ◌<◌, ◌≤◌, ◌⊎◌, inl, inr, Bool, true, false, if◌then◌else◌, List, [], ◌∷◌, ◌++◌, length, drop, refl, sym, ap, subst, ◌∙◌, arith}
 use Rattle.std.proofs.lemmas.List.{length_push, length-drop, length-append, length-map}
 use Rattle.std.proofs.lemmas.List.Elements.{All-append, All-push, All-drop}
@@ -22,10 +22,10 @@ use Rattle.pmd_rx.proofs.Lists.{all-append}
 fewer : (seen : List Told) (t : Told) (rest : List Told) → seen ≡ t ∷ rest → length rest + 1 ≡ length seen
 fewer seen t rest is = omega (arith, ap length is)
 
-pub joined_steady : (l : Layout) (posted : ℕ) (seen : List Told) (p : Packet) (whole : List Packet) (s : Stage) (t : Told)
-    (rest : List Told) (next : ℕ) (blocks : List ℕ) (left : ℕ) (bs : List Block) (b : Block) (len rss hash : ℕ)
-    → IsSteady l posted seen p whole s → s ≡ Takes → seen ≡ t ∷ rest → next < l.size → blocks ≡ drop 1 l.blocks → left + 1 ≡ posted
-    → len ≡ bytes_in t.second → bs ≡ p.bufs ++ b ∷ []
+pub joined_steady : (l : Layout) (posted : ℕ) (seen : List Told) (p : Packet) (whole : List Packet) (s : Stage)
+    (t : Told) (rest : List Told) (next : ℕ) (blocks : List ℕ) (left : ℕ) (bs : List Block) (b : Block)
+    (len rss hash : ℕ) → IsSteady l posted seen p whole s → s ≡ Takes → seen ≡ t ∷ rest → next < l.size
+    → blocks ≡ drop 1 l.blocks → left + 1 ≡ posted → len ≡ bytes_in t.second → bs ≡ p.bufs ++ b ∷ []
     → IsSteady (record l { next = next; blocks = blocks }) left rest
     (record { bufs = bs; len = p.len + len; rss = rss; hash = hash }) whole Owes
 joined_steady l posted seen p whole s t rest next blocks left bs b len rss hash (laid, step) takes is below drops

@@ -15,8 +15,8 @@ use Rattle.pmd_rx.specs.declared.ring.Stage.TheVariants.{Looks, Owes, Lent}
 use Rattle.pmd_rx.specs.declared.ring.Told.{Told}
 use Rattle.pmd_rx.proofs.Lists.{take_less, drop_less, records_same}
 
--- the ring with its slots' blocks, of which so many are posted; records, of which so many were handed out; what is seen,
--- held and whole, and the stage
+-- the ring with its slots' blocks, of which so many are posted; records, of which so many were handed out; what is
+-- seen, held and whole, and the stage
 abbrev pub shown : Layout → ℕ → List Kept → ℕ → List Told → Packet → List Packet → Stage → Receive
 shown l posted records handed seen held whole s = record {
   layout = record l { blocks = take posted l.blocks };
@@ -29,8 +29,8 @@ shown l posted records handed seen held whole s = record {
 }
 
 -- a driver by its lists
-parts_same : (l : Layout) (bs cs ms ns : List ℕ) (hs ks : List Kept) (seen : List Told) (p : Packet) (ps qs : List Packet)
-    (s : Stage) → bs ≡ cs → hs ≡ ks → ps ≡ qs → ms ≡ ns
+parts_same : (l : Layout) (bs cs ms ns : List ℕ) (hs ks : List Kept) (seen : List Told) (p : Packet)
+    (ps qs : List Packet) (s : Stage) → bs ≡ cs → hs ≡ ks → ps ≡ qs → ms ≡ ns
     → (let v : Receive = record {
       layout = record l { blocks = bs };
       handed = hs;

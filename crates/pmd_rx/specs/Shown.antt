@@ -46,9 +46,9 @@ StandsAt (Lent b) l seen held = (length l.blocks + 1 < l.size) × (b < 65536)
 abbrev pub FitsBlock : Told → Type 0
 FitsBlock t = bytes_in t.second ≤ 2048
 
--- the parts that are held and seen are at most those of a packet, and the seen ones stand in posted slots, which are the
--- first of those that have a block; a whole packet has a part, and for each part of one a block is named behind them, as
--- for each that is held, but for one where it is owed still
+-- the parts that are held and seen are at most those of a packet, and the seen ones stand in posted slots, which are
+-- the first of those that have a block; a whole packet has a part, and for each part of one a block is named behind
+-- them, as for each that is held, but for one where it is owed still
 pub record IsInStep (l : Layout) (posted : ℕ) (seen : List Told) (held : Packet) (whole : List Packet) (s : Stage)
     : Type 0 where
   pub stage : StandsAt s l seen held

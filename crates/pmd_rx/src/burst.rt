@@ -51,8 +51,8 @@ impl ReceiveRing {
         }
     }
 
-    /// Takes up to so many further packets. It stops early where none is left, or a call fails: the next call meets that
-    /// fault again.
+    /// Takes up to so many further packets. It stops early where none is left, or a call fails: the next call meets
+    /// that fault again.
     fn take_more<N: Nic>(&mut self, alloc: Global, nic: &mut N, arena: &mut Arena, most: u16)
         requires running { IsRunning self.old }
         requires home { AreOut arena.old (blocks_out self.old) }
@@ -122,8 +122,8 @@ impl ReceiveRing {
     /// slot behind those that were seen isn't done.
     ///
     /// Where parts of a packet are taken, since a call after it was refused, only this packet is handed out, and no
-    /// slot is looked at. Where packets are whole, since a move of the tail was refused, the oldest is handed out, and no
-    /// more is made than that move.
+    /// slot is looked at. Where packets are whole, since a move of the tail was refused, the oldest is handed out, and
+    /// no more is made than that move.
     ///
     /// `NoBuffer` where a packet waits and too few blocks are free; the driver is unchanged but for what it saw.
     /// `DeviceFault` where a reply is none that a healthy queue gives. `Call` where a call was refused, or there was no
@@ -160,16 +160,17 @@ impl ReceiveRing {
         }
     }
 
-    /// The next packets that came in, in order, up to `most`: fresh blocks of the arena take the places of their blocks, and
-    /// one move of the tail posts these. They are pushed behind what `out` has. Answers how many they are: 0 where `most`
-    /// is 0, or the slot behind those that were seen isn't done.
+    /// The next packets that came in, in order, up to `most`: fresh blocks of the arena take the places of their
+    /// blocks, and one move of the tail posts these. They are pushed behind what `out` has. Answers how many they are:
+    /// 0 where `most` is 0, or the slot behind those that were seen isn't done.
     ///
-    /// It stops early, with what came in up to there, where a slot isn't done, no posted slot is left, or a call fails,
-    /// which the next call meets again. Where packets are whole, since a move of the tail was refused, no slot is looked
-    /// at, and they come out, or the oldest alone where they are more than `most` or parts of one more are taken.
+    /// It stops early, with what came in up to there, where a slot isn't done, no posted slot is left, or a call fails:
+    /// the next call goes on from there. Where packets are whole, since a move of the tail was refused, no slot is
+    /// looked at, and they come out, or the oldest alone where they are more than `most` or parts of one more are
+    /// taken.
     ///
-    /// It fails as `receive` does, and only where no packet came out: `out` is as it was then. `Call` also where `out` has no
-    /// memory for the packets: they stay whole, and the next call goes on.
+    /// It fails as `receive` does, and only where no packet came out: `out` is as it was then. `Call` also where `out`
+    /// has no memory for the packets: they stay whole, and the next call hands them out.
     pub fn receive_burst<N: Nic>(
         &mut self,
         alloc: Global,

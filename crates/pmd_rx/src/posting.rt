@@ -158,7 +158,8 @@ impl ReceiveRing {
         }
     }
 
-    /// Takes the parts of a packet that was seen whole, and names fresh blocks in their places: it is a whole packet then.
+    /// Takes the parts of a packet that was seen whole, and names fresh blocks in their places: it is a whole packet
+    /// then.
     ///
     /// `NoBuffer` where too few blocks are free to take their places: nothing is made.
     pub(crate) fn take_whole<N: Nic>(

@@ -229,11 +229,11 @@ impl ReceiveRing {
         self.stage = Stage::Lent(block);
     }
 
-    /// Names the fresh block in the descriptor of the first vacant slot. The packet that is held is whole then, where no part
-    /// of it is to be taken still.
+    /// Names the fresh block in the descriptor of the first vacant slot. The packet that is held is whole then, where
+    /// no part of it is to be taken still.
     ///
-    /// `DeviceFault` where the ring isn't lent any more. `Call` where a call was refused, or there was no memory for the
-    /// block's number or the packet's record.
+    /// `DeviceFault` where the ring isn't lent any more. `Call` where a call was refused, or there was no memory for
+    /// the block's number or the packet's record.
     pub(crate) fn name_fresh<N: Nic>(&mut self, alloc: Global, nic: &mut N) -> Result<(), PmdFault>
         requires { HasLent self.old.stage }
         ensures plays { (a : Numbers) → PlaysFrom a (N.made nic.old) self.old (N.made nic.new) self.new }

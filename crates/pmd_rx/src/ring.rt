@@ -40,9 +40,9 @@ pub struct Told {
 
 /// The receive ring of a driver, and what it handed out.
 ///
-/// Of the slots' blocks, from the next slot on, the first ones are posted. Those behind them, which descriptors name, are
-/// posted as the tail moves on, and the whole packets, whose places they take, are handed out then. The records are those
-/// of the packets that were handed out, and behind them those of the whole packets.
+/// Of the slots' blocks, from the next slot on, the first ones are posted. Those behind them, which descriptors name,
+/// are posted as the tail moves on, and the whole packets, whose places they take, are handed out then. The records are
+/// those of the packets that were handed out, and behind them those of the whole packets.
 pub struct ReceiveRing {
     pub(crate) port: Port,
     pub(crate) tail: u32,
@@ -145,8 +145,8 @@ pub(crate) fn no_packet() -> Packet
 }
 
 impl ReceiveRing {
-    /// Whether the ring has the block of this number: one that the ring is in, one that stands in it or is named behind its
-    /// tail, a fresh one that is lent, or that of a part of a packet that is held or whole.
+    /// Whether the ring has the block of this number: one that the ring is in, one that stands in it or is named behind
+    /// its tail, a fresh one that is lent, or that of a part of a packet that is held or whole.
     pub fn has(&self, block: u32) -> bool
         ensures { (result ≡ true) ↔ (0 < times_in_hand (blocks_out self.now) block) }
     {
@@ -204,8 +204,8 @@ impl ReceiveRing {
 
 impl ReceiveRing {
     /// Ends the ring: its blocks are on their way home, those of whole packets and of one that is held are given to the
-    /// arena, and the records of the packets that were handed out come back. Where there is no memory, the ring comes back
-    /// as it was.
+    /// arena, and the records of the packets that were handed out come back. Where there is no memory, the ring comes
+    /// back as it was.
     pub fn close(self, arena: &mut Arena) -> Result<(Reclaim, Vec<Record>), ReceiveRing>
         requires { AreOut arena.old (blocks_out self) }
         ensures way { IfOk result (λ ends. ends.0 ≡ record { lent = lent_of self; lost = 0 }) }

@@ -88,8 +88,8 @@ impl ReceiveRing {
         packet
     }
 
-    /// Moves the tail on over all blocks that are named, where no part of a packet is held. The whole packets are handed out,
-    /// behind what `out` has: there is room for them.
+    /// Moves the tail on over all blocks that are named, where no part of a packet is held. The whole packets are
+    /// handed out, behind what `out` has: there is room for them.
     ///
     /// `DeviceFault` where the port has no such register.
     pub(crate) fn post_all<N: Nic>(

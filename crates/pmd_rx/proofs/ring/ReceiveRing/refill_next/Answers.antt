@@ -51,7 +51,8 @@ returns-in-Ok-clause-more g c =
     let a = c.args.arena.now in
     let runs = (c.take_part.ensures.keeps a).running c.requires.running in
     takes_less c.lend_and_name.result a c.lend_and_name.new.arena c.take_part.new.self c.args.self.now
-    c.lend_and_name.new.self (sym (ap (λ (v : Receive). v.stage) c.self.view_is) ∙ c.in-Takes.is) c.in-Ok.ensures.taken.0 c.in-Ok.ensures.taken.1
+    c.lend_and_name.new.self (sym (ap (λ (v : Receive). v.stage) c.self.view_is) ∙ c.in-Takes.is)
+    c.in-Ok.ensures.taken.0 c.in-Ok.ensures.taken.1
     c.take_part.ensures.whole
     (owes_less c.lend_and_name.result a c.lend_and_name.new.arena c.take_part.new.self c.lend_and_name.new.self
     c.in-Ok.ensures.taken.0 runs.stage c.lend_and_name.ensures.named)

@@ -52,7 +52,8 @@ loop-packet-preserved g c =
     let x = c.take_next.new.self in
     let before = c.loop-packet.invariant in
     let keeps = c.take_next.ensures.keeps in
-    let one = c.in-Ok-true.ensures.one (ap (λ (b : Bool). let r : Result Bool PmdFault = Ok b in r) c.in-Ok-true.field-0-test) in
+    let some = ap (λ (b : Bool). let r : Result Bool PmdFault = Ok b in r) c.in-Ok-true.field-0-test in
+    let one = c.in-Ok-true.ensures.one some in
     record {
       who = c.take_next.ensures.who ∙ before.who;
       refuses = c.take_next.ensures.refuses ∙ before.refuses;

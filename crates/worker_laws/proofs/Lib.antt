@@ -1,8 +1,6 @@
-pub mod Asked
 pub mod Counted
 pub mod Early
 pub mod FirstCalls
-pub mod Fitting
 pub mod Grounded
 pub mod Lived
 pub mod Named
@@ -11,5 +9,3 @@ pub mod Off
 pub mod Order
 pub mod Refused
 pub mod Standing
-pub mod Telling
-pub mod Walks

@@ -1,5 +1,3 @@
-pub mod Before
-pub mod Beginning
 pub mod Order
+pub mod Points
 pub mod Quiet
-pub mod Starts

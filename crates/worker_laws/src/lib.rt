@@ -1,19 +1,12 @@
 //! What the ends of workers say of the history of their device.
 //!
 //! Each law is the contract of a function that does nothing. `specs/Order` says the first by what
-//! `workers::run_workers`, the closing of a shared device and `left_alone` tell, and `begins_well` beside it;
-//! `specs/Quiet` says the second by what `never_asked_on` tells.
+//! `workers::run_workers`, the closing of a shared device and `left_alone` tell, and `workers::begins_well` beside it;
+//! `specs/Quiet` says the second by what `workers::never_asked_on` tells.
 #![tactic(auto)]
-
-mod before;
-mod beginning;
-mod quiet;
 
 ghost use Rattle.worker_laws.specs.Order.{CallsStand, HandedIsPrefix, NoneIsLeft, SentIsPrefix};
 ghost use Rattle.worker_laws.specs.Quiet.{NeverAskedIsQuiet};
-
-pub use beginning::{Given, begins_well};
-pub use quiet::never_asked_on;
 
 /// Over the history of a shared device that was closed, which leaves the queue of a job alone: the packets that the
 /// job's driver handed out, as its end tells them, are a prefix of those delivered on the queue, and the frames sent

@@ -1,10 +1,10 @@
 //! Whether a queue was never asked to be on before a driver's start, as the entries of a history tell.
 
 ghost use Rattle.std.specs.Prelude.{◌≡◌, ◌↔◌, IsTrue};
-ghost use Rattle.worker_laws.specs.Quiet.{NeverAskedOn};
+ghost use Rattle.workers.specs.Quiet.{NeverAskedOn};
 
 use crate::before::told_before;
-use workers::{Entry, Watched};
+use device_lock::{Entry, Watched};
 
 /// Whether no entry of a history from a new device asks the watched queue on before the first event of its driver's
 /// own, which is behind so many calls of its pass and no step of the device: none is a write, by whichever name, of a

@@ -1,13 +1,13 @@
 //! What the entries of a history tell up to the first of a driver's own.
 
 ghost use Rattle.std.specs.Prelude.{◌≡◌};
+ghost use Rattle.device_lock.specs.Alone.{place_at};
 ghost use Rattle.pmd.specs.PmdSeam.Events.{is_step};
-ghost use Rattle.workers.specs.DeviceLock.Alone.{place_at};
-ghost use Rattle.worker_laws.specs.Before.{first_told, is_first, left_behind, told_after, told_before};
-ghost use Rattle.worker_laws.specs.Quiet.{asks_on, is_enable};
+ghost use Rattle.workers.specs.Before.{first_told, is_first, left_behind, told_after, told_before};
+ghost use Rattle.workers.specs.Quiet.{asks_on, is_enable};
 
+use device_lock::{Entry, Settings, Watched};
 use nic_device::{Event, EventNote, Located, Mode, Place, Port, RowId, locate, place_of};
-use workers::{Entry, Settings, Watched};
 
 /// Bit 25 of a word for RXDCTL or TXDCTL: the side of the queue is to be on.
 const ENABLE: u32 = 0x0200_0000;
@@ -98,14 +98,14 @@ fn is_step(event: &EventNote) -> bool
 }
 
 /// Whether an entry is the first of the driver's own, where so many calls of its pass are left before it.
-fn is_first(watched: Watched, left: usize, entry: &Entry) -> bool
+pub(crate) fn is_first(watched: Watched, left: usize, entry: &Entry) -> bool
     ensures { result ≡ is_first watched left entry.now }
 {
     entry.pass == watched.pass && left == 0 && !is_step(&entry.event)
 }
 
 /// How many are left behind an entry.
-fn left_behind(watched: Watched, left: usize, entry: &Entry) -> usize
+pub(crate) fn left_behind(watched: Watched, left: usize, entry: &Entry) -> usize
     ensures { result ≡ left_behind watched left entry.now }
 {
     if entry.pass == watched.pass {

@@ -2,12 +2,12 @@
 //! frames are as long as it was told.
 
 ghost use Rattle.std.specs.Prelude.{◌≡◌, ◌↔◌, true, IsTrue};
-ghost use Rattle.worker_laws.specs.Beginning.{BeginsWell, begins, is_queue};
-ghost use Rattle.pmd_laws.specs.StartLaws.Numbers.{queue_at};
+ghost use Rattle.workers.specs.Beginning.{BeginsWell, begins, is_queue};
+ghost use Rattle.workers.specs.Queues.{queue_at};
 
 use crate::before::told_before;
+use device_lock::{Entry, Settings, Watched};
 use nic_device::{Mode, Port, QUEUES, queues_of};
-use workers::{Entry, Settings, Watched};
 
 /// How many bytes the frame check sequence has.
 const FRAME_CHECK: u16 = 4;

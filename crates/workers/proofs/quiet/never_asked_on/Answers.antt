@@ -1,6 +1,6 @@
 use Rattle.std.proofs.Common.{sym, ◌∙◌}
-use Rattle.worker_laws.proofs.Asked.{never_decides}
-use Rattle.worker_laws.proofs.quiet.never_asked_on.Goals as goal
+use Rattle.workers.proofs.Asked.{never_decides}
+use Rattle.workers.proofs.quiet.never_asked_on.Goals as goal
 
 pub returns-in-Some : goal.returns-in-Some
 returns-in-Some c =

@@ -1,6 +1,6 @@
 use Rattle.std.proofs.Common.{◌≡◌, drop}
-use Rattle.worker_laws.specs.Before.{first_told, told_before}
-use Rattle.worker_laws.proofs.before.told_before.Given as goal
+use Rattle.workers.specs.Before.{first_told, told_before}
+use Rattle.workers.proofs.before.told_before.Given as goal
 
 abbrev pub invariant-loop-entry : goal.invariant-loop-entry
 invariant-loop-entry l =

@@ -1,6 +1,6 @@
 use Rattle.std.proofs.Common.{sym, ◌∙◌}
-use Rattle.worker_laws.proofs.Fitting.{begins_decides}
-use Rattle.worker_laws.proofs.beginning.begins_well.Goals as goal
+use Rattle.workers.proofs.Fitting.{begins_decides}
+use Rattle.workers.proofs.beginning.begins_well.Goals as goal
 
 pub returns-in-Some : goal.returns-in-Some
 returns-in-Some c =

@@ -2,14 +2,14 @@
 use Rattle.std.proofs.Common.{◌≡◌, ℕ, false, not, List, [], ◌∷◌, ◌++◌, Option, refl, ap, subst}
 use Rattle.std.specs.Prelude.{◌↔◌, IsTrue, IsFalse}
 use Rattle.std.proofs.lemmas.Bool.{not-true, or_parts}
-use Rattle.workers.specs.DeviceLock.Told.{settings_through}
-use Rattle.workers.specs.DeviceLock.declared.alone.Watched.{Watched}
-use Rattle.workers.specs.DeviceLock.declared.entry.Entry.{Entry}
-use Rattle.workers.specs.DeviceLock.declared.told.Settings.{Settings}
-use Rattle.worker_laws.specs.Before.{first_told, holds_of, told_after, told_before, told_through}
-use Rattle.worker_laws.specs.Quiet.{NeverAskedOn, asks_on}
-use Rattle.worker_laws.specs.declared.before.Told.{Told}
-use Rattle.worker_laws.proofs.Telling.{test_decides}
+use Rattle.device_lock.specs.Told.{settings_through}
+use Rattle.device_lock.specs.declared.alone.Watched.{Watched}
+use Rattle.device_lock.specs.declared.entry.Entry.{Entry}
+use Rattle.device_lock.specs.declared.told.Settings.{Settings}
+use Rattle.workers.specs.Before.{first_told, holds_of, told_after, told_before, told_behind, told_through}
+use Rattle.workers.specs.Quiet.{NeverAskedOn, asks_on}
+use Rattle.workers.specs.declared.before.Told.{Told}
+use Rattle.workers.proofs.FirstOwn.{test_decides}
 
 module _ (w : Watched) where
   -- no entry asks, behind others that tell these settings
@@ -49,7 +49,7 @@ module _ (w : Watched) where
 pub never_decides : (w : Watched) (from : ℕ) (h : List Entry) (o : Option Told) → o ≡ told_before w first_told from h
     → IsTrue (holds_of (λ t. not t.asked) o) ↔ NeverAskedOn w from h
 never_decides w from h o told =
-    let decides = test_decides w (λ t. not t.asked) from h o told in (
+    let decides = test_decides (told_behind w) w (λ t. not t.asked) first_told from h o told in (
       λ is old long x. none_asks w first_told x.before (not-true _ (decides.0 is old long x)),
       λ never.
           decides.1 (λ old long x. ap not (none_asked w first_told x.before refl (never old long x))),

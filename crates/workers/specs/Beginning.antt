@@ -1,15 +1,15 @@
 -- Whether a driver begins well: its port and queue name its queue as it starts, and frames are as long as it was told;
 -- by the entries before.
 use Rattle.std.specs.Prelude.{ℕ, ◌≡◌, ◌==◌, ◌&&◌, Bool, false, List, length, Option, Some, None}
+use Rattle.device_lock.specs.Told.{first_settings, limit_of, settings_through}
+use Rattle.device_lock.specs.declared.alone.Watched.{Watched}
+use Rattle.device_lock.specs.declared.entry.Call.{Call}
+use Rattle.device_lock.specs.declared.entry.Entry.{Entry}
+use Rattle.device_lock.specs.declared.told.Settings.{Settings}
 use Rattle.pmd.specs.PmdSeam.Frames.{packet_limit}
-use Rattle.workers.specs.DeviceLock.Told.{first_settings, limit_of, settings_through}
-use Rattle.workers.specs.DeviceLock.declared.alone.Watched.{Watched}
-use Rattle.workers.specs.DeviceLock.declared.entry.Call.{Call}
-use Rattle.workers.specs.DeviceLock.declared.entry.Entry.{Entry}
-use Rattle.workers.specs.DeviceLock.declared.told.Settings.{Settings}
-use Rattle.pmd_laws.specs.StartLaws.Numbers.{queue_at}
-use Rattle.worker_laws.specs.Starts.{Starts}
-use Rattle.worker_laws.specs.declared.beginning.Given.{Given}
+use Rattle.workers.specs.Queues.{queue_at}
+use Rattle.workers.specs.Starts.{Starts}
+use Rattle.workers.specs.declared.beginning.Given.{Given}
 
 -- with these settings, port and queue name the watched queue, and the frame limit is that of the driver's frames
 pub record Fits (w : Watched) (s : Settings) (x : Given) : Type 0 where

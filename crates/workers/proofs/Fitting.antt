@@ -2,16 +2,16 @@
 use Rattle.std.proofs.Common.{◌≡◌, ℕ, true, List, [], ◌∷◌, Option, Some, None, refl, sym, ap, subst}
 use Rattle.std.specs.Prelude.{◌↔◌, IsTrue}
 use Rattle.std.proofs.lemmas.Bool.{and_parts, eq-eqb, eqb-true}
-use Rattle.workers.specs.DeviceLock.Told.{settings_through}
-use Rattle.workers.specs.DeviceLock.declared.alone.Watched.{Watched}
-use Rattle.workers.specs.DeviceLock.declared.entry.Entry.{Entry}
-use Rattle.workers.specs.DeviceLock.declared.told.Settings.{Settings}
-use Rattle.pmd_laws.specs.StartLaws.Numbers.{queue_at}
-use Rattle.worker_laws.specs.Before.{first_told, holds_of, told_after, told_before, told_through}
-use Rattle.worker_laws.specs.Beginning.{BeginsWell, Fits, begins, is_queue}
-use Rattle.worker_laws.specs.declared.before.Told.{Told}
-use Rattle.worker_laws.specs.declared.beginning.Given.{Given}
-use Rattle.worker_laws.proofs.Telling.{test_decides}
+use Rattle.device_lock.specs.Told.{settings_through}
+use Rattle.device_lock.specs.declared.alone.Watched.{Watched}
+use Rattle.device_lock.specs.declared.entry.Entry.{Entry}
+use Rattle.device_lock.specs.declared.told.Settings.{Settings}
+use Rattle.workers.specs.Before.{first_told, holds_of, told_after, told_before, told_behind, told_through}
+use Rattle.workers.specs.Beginning.{BeginsWell, Fits, begins, is_queue}
+use Rattle.workers.specs.Queues.{queue_at}
+use Rattle.workers.specs.declared.before.Told.{Told}
+use Rattle.workers.specs.declared.beginning.Given.{Given}
+use Rattle.workers.proofs.FirstOwn.{test_decides}
 
 -- a queue is named, and the settings fit
 
@@ -42,7 +42,7 @@ pub begins_decides : (w : Watched) (from : ℕ) (given : Given) (h : List Entry)
     → o ≡ told_before w first_told from h
     → IsTrue (holds_of (λ t. begins w t.settings given) o) ↔ BeginsWell w from given h
 begins_decides w from given h o told =
-    let decides = test_decides w (λ t. begins w t.settings given) from h o told in (
+    let decides = test_decides (told_behind w) w (λ t. begins w t.settings given) first_told from h o told in (
       λ is old long x.
           subst (λ (s : Settings). Fits w s given) (settings_told w first_told x.before)
           (fitting w _ given (decides.0 is old long x)),

@@ -1,32 +1,40 @@
--- What is told just before the first entry of a driver's own.
+-- What is known just before the first entry of a driver's own.
 use Rattle.std.proofs.Common.{◌≡◌, ◌-◌, ℕ, zero, suc, inl, inr, Bool, true, false, not, ◌&&◌, List, [], ◌∷◌, ◌++◌, length, Option, Some, refl, sym, ap, ◌∙◌, subst, arith}
 use Rattle.std.specs.Prelude.{◌==◌, ◌↔◌, IsTrue, IsFalse}
 use Rattle.std.proofs.lemmas.Bool.{and_parts, both_ways, cases_Bool, eq-eqb, eqb-true, ne_eqb, not-true}
 use Rattle.std.proofs.lemmas.List.{nil_from_length}
+use Rattle.device_lock.specs.History.{call_in, calls_of}
+use Rattle.device_lock.specs.declared.alone.Watched.{Watched}
+use Rattle.device_lock.specs.declared.entry.Call.{Call}
+use Rattle.device_lock.specs.declared.entry.Entry.{Entry}
 use Rattle.pmd.specs.PmdSeam.Events.{is_step}
-use Rattle.workers.specs.DeviceLock.History.{call_in, calls_of}
-use Rattle.workers.specs.DeviceLock.declared.alone.Watched.{Watched}
-use Rattle.workers.specs.DeviceLock.declared.entry.Call.{Call}
-use Rattle.workers.specs.DeviceLock.declared.entry.Entry.{Entry}
 use Rattle.pmd.specs.PmdSeam.Made.{AreSteps}
-use Rattle.worker_laws.specs.Before.{first_told, holds_of, is_first, left_behind, told_after, told_before, told_through}
-use Rattle.worker_laws.specs.Starts.{Starts}
-use Rattle.worker_laws.specs.declared.before.Told.{Told}
-use Rattle.pmd_laws.proofs.StartLaws.ReceiveLaws.Histories.{calls_other, calls_own}
+use Rattle.workers.specs.Before.{holds_of, is_first, known_before, known_through, left_behind}
+use Rattle.workers.specs.Starts.{Starts}
 
-module _ (w : Watched) (test : Told → Bool) where
-  abbrev Passes : Told → Type 0
+-- the calls of a pass, behind an entry
+
+calls_own : (pass : ℕ) (e : Entry) (h : List Entry) → (e.pass == pass) ≡ true
+    → calls_of pass (e ∷ h) ≡ call_in e ∷ calls_of pass h
+calls_own pass e h is = rw is refl
+
+calls_other : (pass : ℕ) (e : Entry) (h : List Entry) → (e.pass == pass) ≡ false
+    → calls_of pass (e ∷ h) ≡ calls_of pass h
+calls_other pass e h is = rw is refl
+
+module _ {S : Type 0} (next : S → Entry → S) (w : Watched) (test : S → Bool) where
+  abbrev Passes : S → Type 0
   Passes t = test t ≡ true
 
-  -- what is told of an entry
+  -- what is known of an entry
 
-  at_first : (t : Told) (left : ℕ) (e : Entry) (es : List Entry) → is_first w left e ≡ true
-      → told_before w t left (e ∷ es) ≡ Some t
+  at_first : (t : S) (left : ℕ) (e : Entry) (es : List Entry) → is_first w left e ≡ true
+      → known_before next w t left (e ∷ es) ≡ Some t
   at_first t left e es is = rw is refl
 
-  at_other : (t : Told) (left : ℕ) (e : Entry) (es : List Entry) → is_first w left e ≡ false
-      → told_before w t left (e ∷ es)
-      ≡ told_before w (told_after w t e.event) (left_behind w left e) es
+  at_other : (t : S) (left : ℕ) (e : Entry) (es : List Entry) → is_first w left e ≡ false
+      → known_before next w t left (e ∷ es)
+      ≡ known_before next w (next t e) (left_behind w left e) es
   at_other t left e es is = rw is refl
 
   foreign : (left : ℕ) (e : Entry) → (e.pass == w.pass) ≡ false → is_first w left e ≡ false
@@ -58,14 +66,14 @@ module _ (w : Watched) (test : Told → Bool) where
 
   -- where the test holds of some entries, it does at the first of the driver's own among these
 
-  abbrev At : Told → List Entry → List Call → Type 0
+  abbrev At : S → List Entry → List Call → Type 0
   At t h old =
       (before : List Entry) (first : Entry) (behind : List Entry) → before ++ first ∷ behind ≡ h
       → first.pass ≡ w.pass → IsFalse (is_step first.event) → (steps : List Call) → AreSteps steps
-      → calls_of w.pass before ≡ old ++ steps → Passes (told_through w t before)
+      → calls_of w.pass before ≡ old ++ steps → Passes (known_through next t before)
 
-  abbrev Tells : Told → ℕ → List Entry → Type 0
-  Tells t left h = holds_of test (told_before w t left h) ≡ true
+  abbrev Tells : S → ℕ → List Entry → Type 0
+  Tells t left h = holds_of test (known_before next w t left h) ≡ true
 
   first_is : (left : ℕ) (e : Entry) → e.pass ≡ w.pass → IsFalse (is_step e.event) → left ≡ 0
       → is_first w left e ≡ true
@@ -105,7 +113,7 @@ module _ (w : Watched) (test : Told → Bool) where
         calls = cc;
       }
 
-  each : (t : Told) (left : ℕ) (h : List Entry) → Tells t left h → (old : List Call) → length old ≡ left
+  each : (t : S) (left : ℕ) (h : List Entry) → Tells t left h → (old : List Call) → length old ≡ left
       → At t h old
   each t left [] is old long [] first behind all own event steps stepped calls = cc
   each t left [] is old long (b ∷ before) first behind all own event steps stepped calls = cc
@@ -120,9 +128,9 @@ module _ (w : Watched) (test : Told → Bool) where
       let rest : before ++ first ∷ behind ≡ h = cc in
       let called : calls_of w.pass (f ∷ before) ≡ old ++ steps =
       ap (λ (e : Entry). calls_of w.pass (e ∷ before)) (sym same) ∙ calls in
-      let then = told_after w t f.event in
+      let then = next t f in
       rw same
-      (elim (cases_Bool (f.pass == w.pass)) as (λ _. Passes (told_through w then before)) [
+      (elim (cases_Bool (f.pass == w.pass)) as (λ _. Passes (known_through next then before)) [
         | inl mine ↦
             let x = one_behind left f before old steps long stepped mine (sym (calls_own w.pass f before mine) ∙ called) in
             each then (left_behind w left f) h (ap (holds_of test) (sym (at_other t left f h x.skipped)) ∙ is) x.old
@@ -136,12 +144,12 @@ module _ (w : Watched) (test : Told → Bool) where
 
   -- and where it does there, the test holds
 
-  abbrev AllAt : Told → ℕ → List Entry → Type 0
+  abbrev AllAt : S → ℕ → List Entry → Type 0
   AllAt t left h = (old : List Call) → length old ≡ left → At t h old
 
-  all_own : (t : Told) (left : ℕ) (f : Entry) (h : List Entry) → (f.pass == w.pass) ≡ true
+  all_own : (t : S) (left : ℕ) (f : Entry) (h : List Entry) → (f.pass == w.pass) ≡ true
       → is_first w left f ≡ false → AllAt t left (f ∷ h)
-      → AllAt (told_after w t f.event) (left_behind w left f) h
+      → AllAt (next t f) (left_behind w left f) h
   all_own t zero f h mine skipped names old long before first behind both own event steps stepped calls =
       let none : length old ≡ 0 = long ∙ behind_own 0 f mine ∙ omega arith in
       let step : is_step f.event ≡ true = elim (cases_Bool (is_step f.event)) [
@@ -158,8 +166,8 @@ module _ (w : Watched) (test : Told → Bool) where
       names (call_in f ∷ old) (ap suc more) (f ∷ before) first behind (ap (λ (l : List Entry). f ∷ l) both) own event
       steps stepped (calls_own w.pass f before mine ∙ ap (λ (l : List Call). call_in f ∷ l) calls)
 
-  all_other : (t : Told) (left : ℕ) (f : Entry) (h : List Entry) → (f.pass == w.pass) ≡ false
-      → AllAt t left (f ∷ h) → AllAt (told_after w t f.event) (left_behind w left f) h
+  all_other : (t : S) (left : ℕ) (f : Entry) (h : List Entry) → (f.pass == w.pass) ≡ false
+      → AllAt t left (f ∷ h) → AllAt (next t f) (left_behind w left f) h
   all_other t left f h other names old long before first behind both own event steps stepped calls =
       names old (long ∙ behind_other left f other) (f ∷ before) first behind (ap (λ (l : List Entry). f ∷ l) both) own
       event steps stepped (calls_other w.pass f before other ∙ calls)
@@ -172,10 +180,10 @@ module _ (w : Watched) (test : Told → Bool) where
       let none = and_parts (left == 0) (not (is_step f.event)) mine.1 in
       (eqb-true f.pass w.pass mine.0, eqb-true left 0 none.0, not-true _ none.1)
 
-  all : (t : Told) (left : ℕ) (h : List Entry) → AllAt t left h → Tells t left h
+  all : (t : S) (left : ℕ) (h : List Entry) → AllAt t left h → Tells t left h
   all t left [] names = refl
   all t left (f ∷ h) names =
-      let then = told_after w t f.event in
+      let then = next t f in
       elim (cases_Bool (is_first w left f)) as (λ _. Tells t left (f ∷ h)) [
         | inl here ↦
             let (own, none, event) = first_says left f here in
@@ -188,18 +196,18 @@ module _ (w : Watched) (test : Told → Bool) where
             ]
       ]
 
-  -- so the test of what is told before decides whether it holds wherever the driver starts
-  pub test_decides : (from : ℕ) (h : List Entry) (o : Option Told) → o ≡ told_before w first_told from h
+  -- so the test of what is known before decides whether it holds wherever the driver starts
+  pub test_decides : (s : S) (from : ℕ) (h : List Entry) (o : Option S) → o ≡ known_before next w s from h
       → IsTrue (holds_of test o)
       ↔ ((old : List Call) → length old ≡ from → (x : Starts w.pass old h)
-      → Passes (told_through w first_told x.before))
-  test_decides from h o told = (
+      → Passes (known_through next s x.before))
+  test_decides s from h o known = (
     λ is old long x.
-        each first_told from h (ap (holds_of test) (sym told) ∙ is) old long x.before x.first x.behind x.all x.own
+        each s from h (ap (holds_of test) (sym known) ∙ is) old long x.before x.first x.behind x.all x.own
         x.event x.steps x.stepped x.calls,
     λ holds.
-        ap (holds_of test) told
-        ∙ all first_told from h (λ old long before first behind both own event steps stepped calls.
+        ap (holds_of test) known
+        ∙ all s from h (λ old long before first behind both own event steps stepped calls.
         holds old long (record {
           before = before;
           first = first;

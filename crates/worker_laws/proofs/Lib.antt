@@ -2,10 +2,12 @@ pub mod Counted
 pub mod Early
 pub mod FirstCalls
 pub mod Grounded
+pub mod LentThere
 pub mod Lived
 pub mod Named
 pub mod NeverOn
 pub mod Off
 pub mod Order
+pub mod OwnBlocks
 pub mod Refused
 pub mod Standing

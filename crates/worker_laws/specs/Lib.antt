@@ -1,3 +1,4 @@
+pub mod Lending
 pub mod Order
 pub mod Points
 pub mod Quiet

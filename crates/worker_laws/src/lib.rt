@@ -2,9 +2,11 @@
 //!
 //! Each law is the contract of a function that does nothing. `specs/Order` says the first by what
 //! `workers::run_workers`, the closing of a shared device and `left_alone` tell, and `workers::begins_well` beside it;
-//! `specs/Quiet` says the second by what `workers::never_asked_on` tells.
+//! `specs/Quiet` says the second by what `workers::never_asked_on` tells, and `specs/Lending` the third by what
+//! `workers::others_lend_none` tells.
 #![tactic(auto)]
 
+ghost use Rattle.worker_laws.specs.Lending.{OthersLendNoneIsAlone};
 ghost use Rattle.worker_laws.specs.Order.{CallsStand, HandedIsPrefix, NoneIsLeft, SentIsPrefix};
 ghost use Rattle.worker_laws.specs.Quiet.{NeverAskedIsQuiet};
 
@@ -28,4 +30,12 @@ pub fn worker_in_order()
 /// `worker_in_order` asks where a worker's end has a fault.
 pub fn worker_starts_quiet()
     ensures { NeverAskedIsQuiet }
+{}
+
+/// Over a legal history of a device that was new: where `others_lend_none` says so of a driver and of its arena's
+/// blocks, no other pass lends any of these in the whole history, and none of them is lent just before the first event
+/// of the driver's own. That is what is asked of blocks by `pmd_laws::no_call_finds_the_device_at_fault`,
+/// `no_start_finds_the_device_at_fault` and `blocks_out_are_lent_at_the_device`.
+pub fn worker_has_its_blocks_alone()
+    ensures { OthersLendNoneIsAlone }
 {}

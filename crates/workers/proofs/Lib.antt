@@ -7,6 +7,7 @@ pub mod FirstOwn
 pub mod Fitting
 pub mod Gathering
 pub mod Keeping
+pub mod OthersLend
 pub mod Returning
 pub mod Sharing
 pub mod Sitting

@@ -7,6 +7,7 @@ pub mod Ended
 pub mod Ends
 pub mod Feeding
 pub mod Kept
+pub mod Lending
 pub mod Lived
 pub mod Overlap
 pub mod Queues

@@ -29,6 +29,7 @@ mod gate;
 mod host;
 mod hosted;
 mod job;
+mod lending;
 mod meeting;
 mod quiet;
 mod reports;
@@ -53,6 +54,7 @@ pub use feeding::{Fed, feed};
 pub use gate::Gate;
 pub use hosted::run;
 pub use job::{Job, overlap};
+pub use lending::others_lend_none;
 pub use meeting::{Lockstep, MAX_MEMBERS};
 pub use pmd::{
     Bufs, Direct, Finished, Home, Interleaved, Nic, POLLS, Packet, Pmd, PmdFault, Queue, Record,

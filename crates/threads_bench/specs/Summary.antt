@@ -3,11 +3,15 @@ use Rattle.std.specs.Prelude.{◌≡◌, ◌<◌, ℕ, suc, ◌+◌, Bool, true,
 use Rattle.std.specs.Io.KnownBytes.{Appends}
 use Rattle.nic_device.specs.DmaArena.Block.{Block}
 use Rattle.nic_device.specs.State.{new_state}
+use Rattle.nic_device.specs.declared.event.Port.TheVariants.{Pf}
 use Rattle.nic_device.specs.declared.event.Reply.{Reply}
 use Rattle.nic_device.specs.declared.event.Reply.TheVariants.{Sent}
 use Rattle.workers.specs.DeviceLock.Alone.{LeavesAlone}
+use Rattle.workers.specs.Beginning.{BeginsWell}
+use Rattle.workers.specs.DeviceLock.declared.alone.Watched.{Watched}
 use Rattle.workers.specs.DeviceLock.declared.entry.Entry.{Entry}
 use Rattle.workers.specs.DeviceLock.History.{IsLegal}
+use Rattle.workers.specs.declared.beginning.Given.{Given}
 use Rattle.workers.specs.declared.reports.Report.{Report}
 
 -- how many bytes the packets of reports have
@@ -38,18 +42,30 @@ abbrev pub summary_text : List (List Report) → ℕ → List ℕ
 summary_text reports sent = queue_lines 0 reports
     ++ (codes "sent " ++ (decimal sent ++ codes "\nhistory legal\n"))
 
--- a history leaves the queue of each of so many workers alone, whose pass has the tag of the queue's number
-abbrev pub AreLeftAlone : ℕ → List Entry → Type 0
-AreLeftAlone workers history =
-    (queue : ℕ) → queue < workers → LeavesAlone (record { vfs = 0; pass = queue; queue = queue }) history
+-- a worker has the queue of its number, and the pass with the tag of that number
+abbrev pub watched_of : ℕ → Watched
+watched_of worker = record { vfs = 0; pass = worker; queue = worker }
 
--- so many frames were sent in a history of the controller that is legal, and leaves the workers' queues alone
+-- and its driver starts by that pass, at the physical function's port
+abbrev pub given_of : ℕ → Given
+given_of worker = record { port = Pf; queue = worker; frame = 1518 }
+
+-- a history leaves a worker's queue alone, and its driver, whose start the pass's first calls are, begins well there
+pub record HasItsQueue (worker : ℕ) (history : List Entry) : Type 0 where
+  pub alone : LeavesAlone (watched_of worker) history
+  pub begins : BeginsWell (watched_of worker) 0 (given_of worker) history
+
+-- so it is for each of so many workers
+abbrev pub HaveTheirQueues : ℕ → List Entry → Type 0
+HaveTheirQueues workers history = (worker : ℕ) → worker < workers → HasItsQueue worker history
+
+-- so many frames were sent in a history of the controller that is legal, and in which the workers have their queues
 abbrev pub IsTold : ℕ → ℕ → Type 0
 IsTold workers sent =
-    (history : List Entry) × IsLegal (new_state 0 64) history × AreLeftAlone workers history
+    (history : List Entry) × IsLegal (new_state 0 64) history × HaveTheirQueues workers history
     × (sent ≡ sent_in history)
 
--- the summary of so many queues is written, and of a legal history that leaves them alone
+-- the summary of so many queues is written, and of a legal history in which the workers have them
 abbrev pub Tells : ℕ → Option (List ℕ) → Option (List ℕ) → Type 0
 Tells queues old new = (reports : List (List Report)) × (sent : ℕ) × (length reports ≡ queues) × IsTold queues sent
     × Appends old new (summary_text reports sent)

@@ -24,6 +24,9 @@ const BLOCKS: u32 = 256;
 /// How many descriptors each ring has.
 const SIZE: u16 = 64;
 
+/// How many bytes a frame has at most, with its frame check sequence.
+pub(crate) const FRAME: u16 = 1518;
+
 /// A promiscuous controller without pools. A TCP segment goes to queue i mod `workers` by entry i of the redirection
 /// table.
 pub(crate) fn setup(workers: u8) -> Setup {
@@ -37,7 +40,7 @@ pub(crate) fn setup(workers: u8) -> Setup {
         key: KEY,
         reta,
         promiscuous: true,
-        frame: 1518,
+        frame: FRAME,
     }
 }
 
@@ -52,7 +55,7 @@ fn job(alloc: Global, pass: Pass, worker: u8, frames: u8) -> Result<Job, AllocEr
         queue: u16::from(worker),
         pf_queue: u16::from(worker),
         size: SIZE,
-        frame: 1518,
+        frame: FRAME,
         arena,
         rounds: 2 * u32::from(frames) + 2,
     })

@@ -1,21 +1,23 @@
 //! The run, from options to a status.
 
 ghost use Rattle.std.specs.Prelude.{◌≡◌, ◌≢◌, ◌+◌, ◌≤◌, ◌<◌, ◌⊎◌, ◌↔◌, IsTrue, IfOk, true, vec_len};
-ghost use Rattle.threads_bench.specs.Summary.{AreLeftAlone, IsTold, Tells};
+ghost use Rattle.threads_bench.specs.Summary.{HasItsQueue, HaveTheirQueues, IsTold, Tells};
 
 use crate::ending::{end_device, end_jobs, leave};
 use crate::frames::frames;
 use crate::gathered::{Gathered, gather};
-use crate::jobs::{jobs, setup};
+use crate::jobs::{FRAME, jobs, setup};
 use crate::refused::Refused;
 use crate::summary::{Summary, sent_in, write_summary};
 use bench::{DONE, FAILED, Output};
+use nic_device::Port;
 use std::alloc::Global;
 use std::io::Write;
 use std::sync::Wait;
 use std::thread::Threads;
 use workers::{
-    CloseRefused, Closed, Lockstep, Pass, RunRefused, Shared, ThroughLock, pf_setup, run_workers,
+    CloseRefused, Closed, Given, Lockstep, Pass, RunRefused, Shared, ThroughLock, Watched,
+    begins_well, pf_setup, run_workers,
 };
 
 /// The controller that the workers share.
@@ -88,29 +90,48 @@ fn drive<R: Threads + Wait + Sync>(
     }
 }
 
-/// Whether a history leaves the queue of each of so many workers alone: worker `k` has queue `k`, and the pass with the
-/// tag `k`.
-fn are_left_alone(closed: &Closed<0, 64>, workers: u8) -> bool
-    ensures { IsTrue result ↔ AreLeftAlone workers closed.now.history }
+/// Whether a history leaves a worker's queue alone, and its driver begins well there: worker `k` has queue `k`, and the
+/// pass with the tag `k`, which made no call before.
+fn has_its_queue(closed: &Closed<0, 64>, worker: u8) -> bool
+    ensures { IsTrue result ↔ HasItsQueue worker closed.now.history }
+{
+    let queue = u16::from(worker);
+    let watched = Watched {
+        vfs: 0,
+        pass: worker,
+        queue,
+    };
+    let given = Given {
+        port: Port::Pf,
+        queue,
+        frame: FRAME,
+    };
+    closed.left_alone(worker, queue) && begins_well(watched, 0, given, closed.history())
+}
+
+/// Whether each of so many workers has its queue so.
+fn have_their_queues(closed: &Closed<0, 64>, workers: u8) -> bool
+    ensures { IsTrue result ↔ HaveTheirQueues workers closed.now.history }
 {
     for worker in 0..workers {
-        if !closed.left_alone(worker, u16::from(worker)) {
+        if !has_its_queue(closed, worker) {
             return false;
         }
     }
     true
 }
 
-/// Closes the history. How many frames were sent in it. Refused where it doesn't leave the workers' queues alone.
+/// Closes the history. How many frames were sent in it. Refused where it doesn't leave the workers' queues alone, or a
+/// driver doesn't begin well.
 fn close(bench: Bench, passes: Vec<Pass>, workers: u8) -> Result<usize, Refused>
     ensures { IfOk result (λ sent. IsTold workers sent) }
 {
     match bench.close(passes) {
         Ok(closed) => {
-            let alone = are_left_alone(&closed, workers);
+            let theirs = have_their_queues(&closed, workers);
             let sent = sent_in(closed.history());
             end_device(closed.into_device())?;
-            if !alone {
+            if !theirs {
                 return Err(Refused::Other);
             }
             Ok(sent)
@@ -155,11 +176,14 @@ fn run<R: Threads + Wait + Sync>(
 /// over IPv4 and over IPv6 in turn, which RSS parts among the queues. Each worker sends again what it receives. Then it
 /// writes a line for each queue, with how many packets its worker received and how many bytes these have, how many
 /// frames were sent, and that the history of the controller is legal: it leaves each worker's queue alone too, as
-/// `left_alone` tells. The status is 0 then.
+/// `left_alone` tells, and its driver begins well there, as `begins_well` does. The status is 0 then.
+///
+/// So what each worker received is a prefix of what was delivered on its queue, and what was sent there one of what it
+/// sent again, as `worker_laws::worker_in_order` says.
 ///
 /// It waits for locks and for the threads. Nothing is written where something is refused, a worker ends with a fault,
-/// its queue isn't left alone, or fewer frames arrive: the status is 4 where one of these is for memory, or fewer
-/// frames arrive, and else 2. There are from 1 to 8 workers: with another number the status is 2. Where a write fails
+/// its queue isn't left alone, its driver doesn't begin well, or fewer frames arrive: the status is 4 where one of these
+/// is for memory, or fewer frames arrive, and else 2. There are from 1 to 8 workers: with another number the status is 2. Where a write fails
 /// it is 2.
 pub fn bench_threads<R: Threads + Wait + Sync, W: Write>(
     rt: &R,

@@ -15,7 +15,7 @@ use Rattle.pmd.specs.PmdSeam.Named.{AtPort}
 use Rattle.pmd.specs.PmdSeam.QueueMade.{IsMade, Sees}
 use Rattle.pmd_laws.proofs.StartLaws.ReceiveLaws.Histories.{calls_own}
 use Rattle.pmd_laws.proofs.StartLaws.Parts.{calls_joined}
-use Rattle.worker_laws.specs.Starts.{Starts}
+use Rattle.workers.specs.Starts.{Starts}
 
 -- each of some steps of the device is one
 pub steps_have : (before : List Call) (c : Call) (more : List Call) → AreSteps (before ++ c ∷ more)

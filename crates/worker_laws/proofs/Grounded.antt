@@ -3,19 +3,20 @@ use Rattle.std.proofs.Common.{◌≡◌, ℕ, List, ◌∷◌, length, refl, sym
 use Rattle.nic_device.specs.Sound.{IsSound}
 use Rattle.nic_device.specs.State.{State, new_state}
 use Rattle.nic_device.specs.VfMap.declared.mode.Mode.{Mode}
+use Rattle.workers.specs.Beginning.{BeginsWell}
 use Rattle.workers.specs.DeviceLock.History.{AreEvents, leads_to}
 use Rattle.workers.specs.DeviceLock.Told.{first_settings, settings_through}
 use Rattle.workers.specs.DeviceLock.declared.alone.Watched.{Watched}
 use Rattle.workers.specs.DeviceLock.declared.entry.Call.{Call}
 use Rattle.workers.specs.DeviceLock.declared.entry.Entry.{Entry}
 use Rattle.workers.specs.DeviceLock.declared.told.Settings.{Settings}
+use Rattle.workers.specs.Starts.{Starts}
+use Rattle.workers.specs.declared.beginning.Given.{Given}
 use Rattle.pmd_laws.specs.StartLaws.Numbers.{queue_at}
 use Rattle.pmd_laws.specs.StartLaws.Points.{HasGround}
 use Rattle.pmd_laws.proofs.StartLaws.HistoryLaws.Limits.{settings_told}
 use Rattle.pmd_laws.proofs.StartLaws.ReceiveLaws.Delivering.{events_before, vfs_stays}
-use Rattle.worker_laws.specs.Beginning.{BeginsWell}
-use Rattle.worker_laws.specs.Starts.{Starts}
-use Rattle.worker_laws.specs.declared.beginning.Given.{Given}
+use Rattle.worker_laws.proofs.Named.{same_named}
 
 -- port and queue name the watched queue there, and frames are as long as the driver was told
 pub ground_there : (w : Watched) (fifo : ℕ) (old : List Call) (given : Given) (h : List Entry)
@@ -32,6 +33,7 @@ ground_there w fifo old given h sound events well x =
     record {
       names =
           ap (λ (m : Mode). queue_at m s.vfs given.port given.queue) (sym is.0)
-          ∙ ap (λ (v : ℕ). queue_at told.mode v given.port given.queue) vfs ∙ fits.names;
+          ∙ ap (λ (v : ℕ). queue_at told.mode v given.port given.queue) vfs
+          ∙ sym (same_named told.mode w.vfs given.port given.queue) ∙ fits.names;
       limit = sym is.1 ∙ fits.limit;
     }

@@ -1,15 +1,13 @@
-pub mod Asked
 pub mod Counted
 pub mod Early
 pub mod FirstCalls
-pub mod Fitting
 pub mod Grounded
+pub mod LentThere
 pub mod Lived
 pub mod Named
 pub mod NeverOn
 pub mod Off
 pub mod Order
+pub mod OwnBlocks
 pub mod Refused
 pub mod Standing
-pub mod Telling
-pub mod Walks

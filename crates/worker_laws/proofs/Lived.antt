@@ -12,6 +12,7 @@ use Rattle.workers.specs.DeviceLock.History.{call_in, calls_of, leads_to}
 use Rattle.workers.specs.DeviceLock.declared.alone.Watched.{Watched}
 use Rattle.workers.specs.DeviceLock.declared.entry.Call.{Call}
 use Rattle.workers.specs.DeviceLock.declared.entry.Entry.{Entry}
+use Rattle.workers.specs.Starts.{Starts}
 use Rattle.pmd.specs.PmdSeam.Events.{is_step}
 use Rattle.pmd.specs.PmdSeam.Made.{AreSteps}
 use Rattle.pmd.specs.PmdSeam.Named.{AtPort}
@@ -38,7 +39,7 @@ use Rattle.pmd_laws.proofs.StartLaws.Quieting.{quieting_leads}
 use Rattle.pmd_laws.proofs.StartLaws.Start.{start_goes_on}
 use Rattle.pmd_laws.specs.Ends.{IsOver}
 use Rattle.pmd_laws.proofs.Ends.{left_handed_over_stop, left_sent_over_stop, stopped_ends}
-use Rattle.worker_laws.specs.Starts.{JustBefore, Starts}
+use Rattle.worker_laws.specs.Points.{JustBefore}
 use Rattle.worker_laws.proofs.FirstCalls.{FirstCall, first_read, more_behind, steps_have}
 use Rattle.worker_laws.proofs.Counted.{delivered_from, sent_from}
 use Rattle.worker_laws.proofs.Early.{GoesOn, drives_goes, filling_goes, goes_on, quieted_goes, rising_goes}

@@ -1,5 +1,5 @@
--- A queue that a port and a number name is one of the device's 128.
-use Rattle.std.proofs.Common.{◌≡◌, ℕ, ◌+◌, ◌*◌, ◌<◌, nat_lt, Option, Some, None, sym, ap, subst, arith}
+-- A queue that a port and a number name, by a history or at a device, is the same, and one of the device's 128.
+use Rattle.std.proofs.Common.{◌≡◌, ℕ, ◌+◌, ◌*◌, ◌<◌, nat_lt, Option, Some, None, if◌then◌else◌, refl, sym, ap, subst, arith}
 use Rattle.std.proofs.lemmas.Bool.{ltb-true}
 use Rattle.nic_device.specs.VfMap.Pools.{pools_in, queues_each, queues_of}
 use Rattle.nic_device.specs.VfMap.declared.mode.Mode.{Mode}
@@ -8,6 +8,19 @@ use Rattle.nic_device.specs.declared.event.Port.{Port}
 use Rattle.nic_device.specs.declared.event.Port.TheVariants.{Pf, Vf}
 use Rattle.pmd_laws.specs.StartLaws.Numbers.{queue_at, queue_in}
 use Rattle.pmd_laws.proofs.StartLaws.QueueIn.{is_in, some_where}
+use Rattle.workers.specs.Queues as told
+
+-- what a history tells is what the device has
+
+same_in : (queues : Option (ℕ × ℕ)) (number : ℕ) → told.queue_in queues number ≡ queue_in queues number
+same_in None number = refl
+same_in (Some queues) number = refl
+
+pub same_named : (mode : Mode) (vfs : ℕ) (port : Port) (number : ℕ)
+    → told.queue_at mode vfs port number ≡ queue_at mode vfs port number
+same_named mode vfs Pf number = refl
+same_named mode vfs (Vf v) number =
+    ap (λ (o : Option ℕ). if nat_lt v vfs then o else None) (same_in (queues_of mode v) number)
 
 -- each of a pool's queues is
 pool_below : (mode : Mode) (pool number : ℕ) → pool < pools_in mode → number < queues_each mode

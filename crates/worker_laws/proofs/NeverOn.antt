@@ -13,7 +13,8 @@ use Rattle.pmd_laws.specs.StartLaws.HistoryLaws.Sides.{IsOff, side_of}
 use Rattle.pmd_laws.proofs.StartLaws.HistoryLaws.Limits.{settings_told}
 use Rattle.pmd_laws.proofs.StartLaws.HistoryLaws.Sound.{histories_sound}
 use Rattle.pmd_laws.proofs.StartLaws.ReceiveLaws.Delivering.{events_before, image_stays, leads-append, vfs_stays}
-use Rattle.worker_laws.specs.Quiet.{NeverAskedIsQuiet, NoneAsksOn, asks_on}
+use Rattle.workers.specs.Quiet.{NoneAsksOn, asks_on}
+use Rattle.worker_laws.specs.Quiet.{NeverAskedIsQuiet}
 use Rattle.worker_laws.proofs.Grounded.{ground_there}
 use Rattle.worker_laws.proofs.Named.{named_below}
 use Rattle.worker_laws.proofs.Off.{reset_off, stays_off}

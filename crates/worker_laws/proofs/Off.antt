@@ -47,7 +47,7 @@ use Rattle.pmd_laws.proofs.StartLaws.HistoryLaws.DeviceLaws.PoolResets.{asked_po
 use Rattle.pmd_laws.proofs.StartLaws.HistoryLaws.Leaving.{left-side}
 use Rattle.pmd_laws.proofs.StartLaws.HistoryLaws.Naming.{place_in, place_named}
 use Rattle.pmd_laws.proofs.StartLaws.HistoryLaws.Steady.{off_steady, steady_kept}
-use Rattle.worker_laws.specs.Quiet.{asks_on, is_enable}
+use Rattle.workers.specs.Quiet.{asks_on, is_enable}
 
 -- by the registers
 

@@ -24,12 +24,13 @@ use Rattle.pmd_laws.proofs.StartLaws.Parts.{none_behind}
 use Rattle.pmd_laws.proofs.Lived.{along_before}
 use Rattle.workers.specs.Ends.{AreEnds, IsEnd}
 use Rattle.workers.specs.Lived.{HasRun}
+use Rattle.workers.specs.Starts.{Starts}
 use Rattle.workers.specs.declared.ends.WorkerEnd.{WorkerEnd}
 use Rattle.workers.specs.declared.fault.WorkerFault.{WorkerFault}
 use Rattle.workers.specs.declared.fault.WorkerFault.TheVariants.{GateShut, NoThread, Pmd}
 use Rattle.workers.specs.declared.job.Job.{Job}
 use Rattle.worker_laws.specs.Order.{HandedIsPrefix, IsEndAmong, IsEndIn, NoneIsLeft, SentIsPrefix, UpTo, given_of, queue_of}
-use Rattle.worker_laws.specs.Starts.{JustBefore, Starts}
+use Rattle.worker_laws.specs.Points.{JustBefore}
 use Rattle.worker_laws.proofs.FirstCalls.{calls_from, starts_more}
 use Rattle.worker_laws.proofs.Grounded.{ground_there}
 use Rattle.worker_laws.proofs.Lived.{handed_since, sent_on, starts}

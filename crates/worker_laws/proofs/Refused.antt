@@ -21,7 +21,7 @@ use Rattle.pmd_laws.specs.StartLaws.Along.{IsAlong}
 use Rattle.pmd_laws.specs.StartLaws.Quieting.{IsQuiet}
 use Rattle.pmd_laws.specs.Refused.{IsRefused}
 use Rattle.pmd_laws.proofs.Refused.{left_of_refused_is_prefix}
-use Rattle.worker_laws.specs.Starts.{Starts}
+use Rattle.workers.specs.Starts.{Starts}
 use Rattle.worker_laws.proofs.FirstCalls.{calls_from}
 
 module _ (w : Watched) (fifo : ℕ) (h : List Entry) (q : AtPort) (size frame : ℕ) (old : List Call) (a : Numbers)

@@ -1,5 +1,4 @@
-pub mod Before
-pub mod Beginning
+pub mod Lending
 pub mod Order
+pub mod Points
 pub mod Quiet
-pub mod Starts

@@ -15,12 +15,13 @@ use Rattle.workers.specs.DeviceLock.History.{AreEvents, IsLegal, calls_of, leads
 use Rattle.workers.specs.DeviceLock.Pass.{PassValue}
 use Rattle.workers.specs.DeviceLock.declared.entry.Call.{Call}
 use Rattle.workers.specs.DeviceLock.declared.entry.Entry.{Entry}
+use Rattle.workers.specs.Beginning.{BeginsWell}
 use Rattle.workers.specs.Ends.{AreEnds}
+use Rattle.workers.specs.Starts.{Starts}
+use Rattle.workers.specs.declared.beginning.Given.{Given}
 use Rattle.workers.specs.declared.ends.WorkerEnd.{WorkerEnd}
 use Rattle.workers.specs.declared.job.Job.{Job}
-use Rattle.worker_laws.specs.Beginning.{BeginsWell}
-use Rattle.worker_laws.specs.Starts.{JustBefore, Starts}
-use Rattle.worker_laws.specs.declared.beginning.Given.{Given}
+use Rattle.worker_laws.specs.Points.{JustBefore}
 
 -- the queue of a job, as its port numbers it
 abbrev pub queue_of : Job → AtPort

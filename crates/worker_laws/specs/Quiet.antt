@@ -1,54 +1,17 @@
--- Whether a queue was never asked to be on before a driver's start, by the entries before, from a new device on; where
--- it wasn't, the driver finds it off.
-use Rattle.std.specs.Prelude.{ℕ, ◌≡◌, ◌<◌, ◌≤◌, ◌==◌, ◌&&◌, Bool, true, false, IsFalse, List, ◌∷◌, ◌++◌, length, Option, Some, None}
-use Rattle.nic_device.specs.DmaArena.Block.{Block}
-use Rattle.nic_device.specs.RegTable.declared.place.Place.{Place}
-use Rattle.nic_device.specs.RegTable.declared.rows.RowId.{RowId}
-use Rattle.nic_device.specs.RegTable.declared.rows.RowId.TheVariants.{Rxdctl, Txdctl}
-use Rattle.nic_device.specs.RegisterFile.Bits.{has_bit}
-use Rattle.nic_device.specs.VfMap.declared.mode.Mode.{Mode}
-use Rattle.nic_device.specs.declared.event.Event.{Event}
-use Rattle.nic_device.specs.declared.event.Event.TheVariants as event
+-- A queue that was never asked on before its driver's start is off there.
+use Rattle.std.specs.Prelude.{ℕ, ◌<◌, ◌≤◌, List, length}
 use Rattle.pmd_laws.specs.StartLaws.Quieting.{IsQuiet}
-use Rattle.workers.specs.DeviceLock.Alone.{place_at}
+use Rattle.workers.specs.Beginning.{BeginsWell}
 use Rattle.workers.specs.DeviceLock.History.{AreEvents}
-use Rattle.workers.specs.DeviceLock.Told.{first_settings, settings_through}
 use Rattle.workers.specs.DeviceLock.declared.alone.Watched.{Watched}
 use Rattle.workers.specs.DeviceLock.declared.entry.Call.{Call}
 use Rattle.workers.specs.DeviceLock.declared.entry.Entry.{Entry}
-use Rattle.worker_laws.specs.Beginning.{BeginsWell}
-use Rattle.worker_laws.specs.Starts.{JustBefore, Starts}
-use Rattle.worker_laws.specs.declared.beginning.Given.{Given}
+use Rattle.workers.specs.Quiet.{NeverAskedOn}
+use Rattle.workers.specs.declared.beginning.Given.{Given}
+use Rattle.worker_laws.specs.Points.{JustBefore}
 
--- a place is the enable register of a side of the queue
-
-abbrev pub is_enable_row : RowId → Bool
-is_enable_row Rxdctl = true
-is_enable_row Txdctl = true
-is_enable_row other = false
-
-abbrev pub is_enable : ℕ → Option Place → Bool
-is_enable queue None = false
-is_enable queue (Some p) = is_enable_row p.row && (p.index == queue)
-
--- an event asks the queue on, while the queues are parted by a mode: it writes a word with bit 25 there, by whichever
--- name
-abbrev pub asks_on : Watched → Mode → Event Block → Bool
-asks_on w mode (event.Write port number word) = is_enable w.queue (place_at mode w.vfs port number) && has_bit 25 word
-asks_on w mode other = false
-
--- no entry of a history from a new device on does
-abbrev pub NoneAsksOn : Watched → List Entry → Type 0
-NoneAsksOn w h =
-    (before : List Entry) (e : Entry) (behind : List Entry) → before ++ e ∷ behind ≡ h →
-    IsFalse (asks_on w (settings_through w.vfs first_settings before).mode e.event)
-
--- and so none does before the first entry of a driver's own, behind so many calls of its pass
-abbrev pub NeverAskedOn : Watched → ℕ → List Entry → Type 0
-NeverAskedOn w from h =
-    (old : List Call) → length old ≡ from → (x : Starts w.pass old h) → NoneAsksOn w x.before
-
--- where none does and the driver begins well, both sides of its queue are off and not wanted on just before that entry
+-- where no entry before the first of the driver's own asks the queue on, and the driver begins well, both sides of its
+-- queue are off and not wanted on just before that entry
 abbrev pub NeverAskedIsQuiet : Type 0
 NeverAskedIsQuiet =
     (w : Watched) (fifo : ℕ) (old : List Call) (given : Given) (h : List Entry) →

@@ -1,19 +1,14 @@
 //! What the ends of workers say of the history of their device.
 //!
 //! Each law is the contract of a function that does nothing. `specs/Order` says the first by what
-//! `workers::run_workers`, the closing of a shared device and `left_alone` tell, and `begins_well` beside it;
-//! `specs/Quiet` says the second by what `never_asked_on` tells.
+//! `workers::run_workers`, the closing of a shared device and `left_alone` tell, and `workers::begins_well` beside it;
+//! `specs/Quiet` says the second by what `workers::never_asked_on` tells, and `specs/Lending` the third by what
+//! `workers::others_lend_none` tells.
 #![tactic(auto)]
 
-mod before;
-mod beginning;
-mod quiet;
-
+ghost use Rattle.worker_laws.specs.Lending.{OthersLendNoneIsAlone};
 ghost use Rattle.worker_laws.specs.Order.{CallsStand, HandedIsPrefix, NoneIsLeft, SentIsPrefix};
 ghost use Rattle.worker_laws.specs.Quiet.{NeverAskedIsQuiet};
-
-pub use beginning::{Given, begins_well};
-pub use quiet::never_asked_on;
 
 /// Over the history of a shared device that was closed, which leaves the queue of a job alone: the packets that the
 /// job's driver handed out, as its end tells them, are a prefix of those delivered on the queue, and the frames sent
@@ -35,4 +30,12 @@ pub fn worker_in_order()
 /// `worker_in_order` asks where a worker's end has a fault.
 pub fn worker_starts_quiet()
     ensures { NeverAskedIsQuiet }
+{}
+
+/// Over a legal history of a device that was new: where `others_lend_none` says so of a driver and of its arena's
+/// blocks, no other pass lends any of these in the whole history, and none of them is lent just before the first event
+/// of the driver's own. That is what is asked of blocks by `pmd_laws::no_call_finds_the_device_at_fault`,
+/// `no_start_finds_the_device_at_fault` and `blocks_out_are_lent_at_the_device`.
+pub fn worker_has_its_blocks_alone()
+    ensures { OthersLendNoneIsAlone }
 {}

@@ -1,11 +1,16 @@
 pub mod Arriving
+pub mod Asked
 pub mod Coming
 pub mod Emptied
 pub mod Ending
+pub mod FirstOwn
+pub mod Fitting
 pub mod Gathering
 pub mod Keeping
+pub mod OthersLend
 pub mod Returning
 pub mod Sharing
 pub mod Sitting
 pub mod Telling
+pub mod Walks
 pub mod Ways

@@ -12,9 +12,15 @@
 //! at which it meets the others. The team: `assignment.rt` has what a worker takes to its thread and what comes back,
 //! `worker_task.rt` its task there, `room.rt` all room that is made before a thread starts, `host.rt` the calling
 //! thread's part, `ends.rt` how workers end, and `team.rt` a whole run.
+//!
+//! What a closed history tells of the start of a driver: `before.rt` goes through its entries up to the first of the
+//! driver's own, `beginning.rt` says whether the driver begins well there, and `quiet.rt` whether its queue was asked on
+//! before.
 #![tactic(auto)]
 
 mod assignment;
+mod before;
+mod beginning;
 mod driving;
 mod ends;
 mod fault;
@@ -23,7 +29,9 @@ mod gate;
 mod host;
 mod hosted;
 mod job;
+mod lending;
 mod meeting;
+mod quiet;
 mod reports;
 mod room;
 mod seat;
@@ -34,6 +42,7 @@ mod turns;
 mod widening;
 mod worker_task;
 
+pub use beginning::{Given, begins_well};
 pub use device_lock::{
     Call, CallFault, Calls, CloseFault, CloseRefused, Closed, Entry, Made, NewFault, Pass,
     Settings, Shared, Watched, left_alone,
@@ -45,11 +54,13 @@ pub use feeding::{Fed, feed};
 pub use gate::Gate;
 pub use hosted::run;
 pub use job::{Job, overlap};
+pub use lending::others_lend_none;
 pub use meeting::{Lockstep, MAX_MEMBERS};
 pub use pmd::{
     Bufs, Direct, Finished, Home, Interleaved, Nic, POLLS, Packet, Pmd, PmdFault, Queue, Record,
     Rest, Setup, StartRefused, StopRefused, ThroughLock, TxAnswer, TxFault, pf_setup,
 };
+pub use quiet::never_asked_on;
 pub use reports::{Collector, Report};
 pub use seat::{Seat, Task};
 pub use start::Start;

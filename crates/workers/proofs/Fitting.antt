@@ -1,0 +1,53 @@
+-- The test of a history says whether the driver begins well.
+use Rattle.std.proofs.Common.{◌≡◌, ℕ, true, List, [], ◌∷◌, Option, Some, None, refl, sym, ap, subst}
+use Rattle.std.specs.Prelude.{◌↔◌, IsTrue}
+use Rattle.std.proofs.lemmas.Bool.{and_parts, eq-eqb, eqb-true}
+use Rattle.device_lock.specs.Told.{settings_through}
+use Rattle.device_lock.specs.declared.alone.Watched.{Watched}
+use Rattle.device_lock.specs.declared.entry.Entry.{Entry}
+use Rattle.device_lock.specs.declared.told.Settings.{Settings}
+use Rattle.workers.specs.Before.{first_told, holds_of, told_after, told_before, told_behind, told_through}
+use Rattle.workers.specs.Beginning.{BeginsWell, Fits, begins, is_queue}
+use Rattle.workers.specs.Queues.{queue_at}
+use Rattle.workers.specs.declared.before.Told.{Told}
+use Rattle.workers.specs.declared.beginning.Given.{Given}
+use Rattle.workers.proofs.FirstOwn.{test_decides}
+
+-- a queue is named, and the settings fit
+
+named : (o : Option ℕ) (queue : ℕ) → is_queue o queue ≡ true → o ≡ Some queue
+named None queue is = cc
+named (Some n) queue is = ap (λ x. Some x) (eqb-true n queue is)
+
+is_named : (o : Option ℕ) (queue : ℕ) → o ≡ Some queue → is_queue o queue ≡ true
+is_named None queue is = cc
+is_named (Some n) queue is = let same : n ≡ queue = cc in eq-eqb n queue same
+
+fitting : (w : Watched) (s : Settings) (given : Given) → begins w s given ≡ true → Fits w s given
+fitting w s given is =
+    let parts = and_parts (is_queue (queue_at s.mode w.vfs given.port given.queue) w.queue) _ is in
+    record { names = named _ w.queue parts.0; limit = eqb-true _ _ parts.1 }
+
+is_fitting : (w : Watched) (s : Settings) (given : Given) → Fits w s given → begins w s given ≡ true
+is_fitting w s given x = rw (is_named _ w.queue x.names) (eq-eqb _ _ x.limit)
+
+-- the settings that are told
+
+settings_told : (w : Watched) (t : Told) (h : List Entry)
+    → (told_through w t h).settings ≡ settings_through w.vfs t.settings h
+settings_told w t [] = refl
+settings_told w t (e ∷ es) = settings_told w (told_after w t e.event) es
+
+pub begins_decides : (w : Watched) (from : ℕ) (given : Given) (h : List Entry) (o : Option Told)
+    → o ≡ told_before w first_told from h
+    → IsTrue (holds_of (λ t. begins w t.settings given) o) ↔ BeginsWell w from given h
+begins_decides w from given h o told =
+    let decides = test_decides (told_behind w) w (λ t. begins w t.settings given) first_told from h o told in (
+      λ is old long x.
+          subst (λ (s : Settings). Fits w s given) (settings_told w first_told x.before)
+          (fitting w _ given (decides.0 is old long x)),
+      λ well.
+          decides.1 (λ old long x.
+          is_fitting w _ given (subst (λ (s : Settings). Fits w s given) (sym (settings_told w first_told x.before))
+          (well old long x))),
+    )

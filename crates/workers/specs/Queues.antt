@@ -1,0 +1,16 @@
+-- Which queue of the device a port and a queue's number there name, while the queues are parted by a mode.
+use Rattle.std.specs.Prelude.{ℕ, ◌+◌, nat_lt, Option, Some, None, if◌then◌else◌}
+use Rattle.nic_device.specs.VfMap.Pools.{queues_of}
+use Rattle.nic_device.specs.VfMap.declared.mode.Mode.{Mode}
+use Rattle.nic_device.specs.declared.event.Port.{Port}
+use Rattle.nic_device.specs.declared.event.Port.TheVariants.{Pf, Vf}
+
+-- a pool's queue of a number, counted from its first
+abbrev pub queue_in : Option (ℕ × ℕ) → ℕ → Option ℕ
+queue_in None number = None
+queue_in (Some queues) number = if nat_lt number queues.1 then Some (queues.0 + number) else None
+
+-- the physical function's queues are the device's, and those of one of so many virtual functions are its pool's
+abbrev pub queue_at : Mode → (vfs : ℕ) → Port → ℕ → Option ℕ
+queue_at mode vfs Pf number = if nat_lt number 128 then Some number else None
+queue_at mode vfs (Vf v) number = if nat_lt v vfs then queue_in (queues_of mode v) number else None

@@ -1,0 +1,20 @@
+-- Where a driver starts in a history.
+use Rattle.std.specs.Prelude.{ℕ, ◌≡◌, IsFalse, List, ◌∷◌, ◌++◌}
+use Rattle.device_lock.specs.History.{calls_of}
+use Rattle.device_lock.specs.declared.entry.Call.{Call}
+use Rattle.device_lock.specs.declared.entry.Entry.{Entry}
+use Rattle.pmd.specs.PmdSeam.Events.{is_step}
+use Rattle.pmd.specs.PmdSeam.Made.{AreSteps}
+
+-- an entry of a history is the first of a driver's own, behind the calls that its pass had made before the driver, and
+-- steps of the device
+pub record Starts (tag : ℕ) (old : List Call) (h : List Entry) : Type 0 where
+  pub before : List Entry
+  pub first : Entry
+  pub behind : List Entry
+  pub all : before ++ first ∷ behind ≡ h
+  pub own : first.pass ≡ tag
+  pub event : IsFalse (is_step first.event)
+  pub steps : List Call
+  pub stepped : AreSteps steps
+  pub calls : calls_of tag before ≡ old ++ steps

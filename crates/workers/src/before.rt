@@ -1,0 +1,133 @@
+//! What the entries of a history tell up to the first of a driver's own.
+
+ghost use Rattle.std.specs.Prelude.{◌≡◌};
+ghost use Rattle.device_lock.specs.Alone.{place_at};
+ghost use Rattle.pmd.specs.PmdSeam.Events.{is_step};
+ghost use Rattle.workers.specs.Before.{first_told, is_first, left_behind, told_after, told_before};
+ghost use Rattle.workers.specs.Quiet.{asks_on, is_enable};
+
+use device_lock::{Entry, Settings, Watched};
+use nic_device::{Event, EventNote, Located, Mode, Place, Port, RowId, locate, place_of};
+
+/// Bit 25 of a word for RXDCTL or TXDCTL: the side of the queue is to be on.
+const ENABLE: u32 = 0x0200_0000;
+
+/// What entries tell.
+#[derive(Clone, Copy, PartialEq, Eq, Debug)]
+pub(crate) struct Told {
+    /// The device's settings behind them.
+    pub settings: Settings,
+    /// Whether one of them asks the watched queue on.
+    pub asked: bool,
+}
+
+/// The register that a number names at a port, while the queues are parted by a mode.
+fn place_at(mode: Mode, vfs: u8, port: Port, number: u32) -> Option<Place>
+    ensures { result ≡ place_at mode vfs port number }
+{
+    match port {
+        Port::Pf => place_of(number),
+        Port::Vf(v) => match locate(mode, vfs, v, number) {
+            Located::Absent | Located::Hole => None,
+            Located::Register(place) => Some(place),
+        },
+    }
+}
+
+/// Whether a place is the enable register of a side of a queue.
+fn is_enable(queue: u16, place: Option<Place>) -> bool
+    ensures { result ≡ is_enable queue place }
+{
+    match place {
+        Some(place) => match place.row {
+            RowId::Rxdctl | RowId::Txdctl => place.index == queue,
+            _ => false,
+        },
+        None => false,
+    }
+}
+
+/// Whether an event asks the watched queue on, while the queues are parted by a mode.
+fn asks_on(watched: Watched, mode: Mode, event: &EventNote) -> bool
+    ensures { result ≡ asks_on watched mode event.now }
+{
+    match event {
+        Event::Write(port, number, word) => {
+            is_enable(watched.queue, place_at(mode, watched.vfs, *port, *number))
+                && *word / ENABLE % 2 == 1
+        }
+        _ => false,
+    }
+}
+
+impl Told {
+    /// Of a new device.
+    fn new() -> Told
+        ensures { result ≡ first_told }
+    {
+        Told {
+            settings: Settings::new(),
+            asked: false,
+        }
+    }
+
+    /// Behind an event.
+    fn after(self, watched: Watched, event: &EventNote) -> Told
+        ensures { result ≡ told_after watched self event.now }
+    {
+        let asks = asks_on(watched, self.settings.mode, event);
+        Told {
+            settings: self.settings.after(watched.vfs, event),
+            asked: self.asked || asks,
+        }
+    }
+}
+
+/// Whether an event is a step of the device.
+fn is_step(event: &EventNote) -> bool
+    ensures { result ≡ is_step event.now }
+{
+    matches!(
+        event,
+        Event::RxStep
+            | Event::TxStep(_)
+            | Event::IntStep(_)
+            | Event::QueueStep(..)
+            | Event::EepromStep
+    )
+}
+
+/// Whether an entry is the first of the driver's own, where so many calls of its pass are left before it.
+pub(crate) fn is_first(watched: Watched, left: usize, entry: &Entry) -> bool
+    ensures { result ≡ is_first watched left entry.now }
+{
+    entry.pass == watched.pass && left == 0 && !is_step(&entry.event)
+}
+
+/// How many are left behind an entry.
+pub(crate) fn left_behind(watched: Watched, left: usize, entry: &Entry) -> usize
+    ensures { result ≡ left_behind watched left entry.now }
+{
+    if entry.pass == watched.pass {
+        left.saturating_sub(1)
+    } else {
+        left
+    }
+}
+
+/// What is told just before the first entry of the driver's own, which is behind so many calls of its pass and no step
+/// of the device; none where there is no such entry. No memory is asked for.
+pub(crate) fn told_before(watched: Watched, from: usize, history: &[Entry]) -> Option<Told>
+    ensures { result ≡ told_before watched first_told from history.now }
+{
+    let mut told = Told::new();
+    let mut left = from;
+    for entry in history {
+        if is_first(watched, left, entry) {
+            return Some(told);
+        }
+        told = told.after(watched, &entry.event);
+        left = left_behind(watched, left, entry);
+    }
+    None
+}

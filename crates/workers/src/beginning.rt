@@ -1,0 +1,65 @@
+//! Whether a driver begins well, as the entries of a history tell: its port and queue name its queue as it starts, and
+//! frames are as long as it was told.
+
+ghost use Rattle.std.specs.Prelude.{◌≡◌, ◌↔◌, true, IsTrue};
+ghost use Rattle.workers.specs.Beginning.{BeginsWell, begins, is_queue};
+ghost use Rattle.workers.specs.Queues.{queue_at};
+
+use crate::before::told_before;
+use device_lock::{Entry, Settings, Watched};
+use nic_device::{Mode, Port, QUEUES, queues_of};
+
+/// How many bytes the frame check sequence has.
+const FRAME_CHECK: u16 = 4;
+
+/// What a driver is given as it starts: the queue that it is to have, as its port numbers it, and how
+/// long frames may be, with their check sequence.
+#[derive(Clone, Copy, PartialEq, Eq, Debug)]
+pub struct Given {
+    /// The port of the queue.
+    pub port: Port,
+    /// The queue's number there.
+    pub queue: u16,
+    /// How many bytes a frame has at most: 1,518 to 9,728.
+    pub frame: u16,
+}
+
+/// The queue of the device that a port and a queue's number there name, while the queues are parted by a mode.
+fn queue_at(mode: Mode, vfs: u8, port: Port, number: u16) -> Option<u16>
+    ensures { result ≡ queue_at mode vfs port number }
+{
+    match port {
+        Port::Pf if number < QUEUES => Some(number),
+        Port::Pf => None,
+        Port::Vf(v) if v < vfs => match queues_of(mode, v) {
+            Some((first, count)) if number < u16::from(count) => Some(u16::from(first) + number),
+            _ => None,
+        },
+        Port::Vf(_) => None,
+    }
+}
+
+/// Whether these settings are such that a driver begins well.
+fn begins(watched: Watched, settings: Settings, given: Given) -> bool
+    ensures { result ≡ begins watched settings given }
+{
+    match queue_at(settings.mode, watched.vfs, given.port, given.queue) {
+        Some(queue) => {
+            queue == watched.queue
+                && settings.frames.limit() == given.frame.saturating_sub(FRAME_CHECK)
+        }
+        None => false,
+    }
+}
+
+/// Whether a driver begins well in a history from a new device: just before the first event of the driver's own, which
+/// is behind so many calls of its pass and no step of the device, its port and queue name the watched queue, and the
+/// device's frame limit is that of its frames. So it is where there is none. No memory is asked for.
+pub fn begins_well(watched: Watched, from: usize, given: Given, history: &[Entry]) -> bool
+    ensures { IsTrue result ↔ BeginsWell watched from given history.now }
+{
+    match told_before(watched, from, history) {
+        Some(told) => begins(watched, told.settings, given),
+        None => true,
+    }
+}

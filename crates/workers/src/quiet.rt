@@ -1,0 +1,20 @@
+//! Whether a queue was never asked to be on before a driver's start, as the entries of a history tell.
+
+ghost use Rattle.std.specs.Prelude.{◌≡◌, ◌↔◌, IsTrue};
+ghost use Rattle.workers.specs.Quiet.{NeverAskedOn};
+
+use crate::before::told_before;
+use device_lock::{Entry, Watched};
+
+/// Whether no entry of a history from a new device asks the watched queue on before the first event of its driver's
+/// own, which is behind so many calls of its pass and no step of the device: none is a write, by whichever name, of a
+/// word with bit 25 to the RXDCTL or the TXDCTL of the queue. So it is where there is no such event. No memory is asked
+/// for.
+pub fn never_asked_on(watched: Watched, from: usize, history: &[Entry]) -> bool
+    ensures { IsTrue result ↔ NeverAskedOn watched from history.now }
+{
+    match told_before(watched, from, history) {
+        Some(told) => !told.asked,
+        None => true,
+    }
+}

@@ -3,6 +3,7 @@ pub use Rattle.pmd_rx.specs as PmdRx
 pub use Rattle.pmd_tx.specs as PmdTx
 pub mod Apart
 pub mod Blocks
+pub mod Bursts
 pub mod Driver
 pub mod DriverCalls
 pub mod Ends

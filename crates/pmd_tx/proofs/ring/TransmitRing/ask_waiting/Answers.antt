@@ -1,13 +1,16 @@
-use Rattle.std.proofs.Common.{◌∙◌, ◌+◌, ap, refl, sym}
-use Rattle.pmd_tx.proofs.Ending.{after_all, by_after}
+use Rattle.std.proofs.Common.{◌∙◌, ◌+◌, ap, arith, refl, sym}
+use Rattle.pmd_tx.proofs.Ending.{by_after}
 use Rattle.pmd_tx.proofs.Passing.{none_both}
 use Rattle.pmd_tx.proofs.Playing.{plays_both, plays_none}
-use Rattle.pmd_tx.proofs.ring.TransmitRing.post_waiting.Goals as goal
+use Rattle.pmd_tx.proofs.ring.TransmitRing.ask_waiting.Goals as goal
 
 pub loop-asked-init : goal.loop-asked-init
 loop-asked-init g c = record {
   plays = λ blocks. plays_none blocks (g.N.Nic.made c.args.nic.now) c.args.self.now;
   poked = sym c.asked-asked.ensures.asked;
+  low = omega (arith, c.asked-asked.ensures.asked);
+  tail = refl;
+  still = λ settled. (refl, refl);
   kept = record { accepted = refl; outstanding = refl };
   layout = refl;
   who = refl;
@@ -21,6 +24,18 @@ loop-asked-preserved g c = record {
       c.args.self.now c.loop-asked.self c.ask_next.new.self (c.loop-asked.invariant.plays blocks)
       (c.ask_next.ensures.plays blocks);
   poked = c.in-Ok.ensures.asked ∙ ap (λ n. n + 1) c.loop-asked.invariant.poked;
+  low = omega (arith, c.loop-asked.invariant.low);
+  tail = c.ask_next.ensures.tail ∙ c.loop-asked.invariant.tail;
+  still = λ settled.
+      absurd (omega (
+        arith,
+        settled,
+        c.asked-asked.ensures.asked,
+        c.asked-asked.ensures.posted,
+        c.loop-asked.invariant.low,
+        c.loop-asked-test,
+        c.count-asked-end.ensures.count,
+      ));
   kept = none_both c.args.self.now c.loop-asked.self c.ask_next.new.self c.loop-asked.invariant.kept
       c.ask_next.ensures.kept;
   layout = c.ask_next.ensures.layout ∙ c.loop-asked.invariant.layout;
@@ -39,14 +54,3 @@ returns-in-Err-clause-faults g c blocks =
     by_after c.in-Err.fault blocks (g.N.Nic.made c.args.nic.now) (g.N.Nic.made c.loop-asked.nic)
     (g.N.Nic.made c.ask_next.new.nic) c.args.self.now c.loop-asked.self (c.loop-asked.invariant.plays blocks)
     (c.in-Err.ensures.faults blocks)
-
-pub returns-clause-plays : goal.returns-clause-plays
-returns-clause-plays g c blocks =
-    plays_both blocks (g.N.Nic.made c.args.nic.now) (g.N.Nic.made c.loop-asked.nic) (g.N.Nic.made c.post.new.nic)
-    c.args.self.now c.loop-asked.self c.post.new.self (c.loop-asked.invariant.plays blocks) (c.post.ensures.plays blocks)
-
-pub returns-clause-faults : goal.returns-clause-faults
-returns-clause-faults g c blocks =
-    after_all (λ fault. fault) c.post.result blocks (g.N.Nic.made c.args.nic.now) (g.N.Nic.made c.loop-asked.nic)
-    (g.N.Nic.made c.post.new.nic) c.args.self.now c.loop-asked.self (c.loop-asked.invariant.plays blocks)
-    (c.post.ensures.faults blocks)

@@ -11,6 +11,7 @@ pub mod Halted
 pub mod Halves
 pub mod Leaving
 pub mod Life
+pub mod Queueing
 pub mod Running
 pub mod Runs
 pub mod Started

@@ -9,6 +9,7 @@
 //! of them a ring or blocks on their way, and `stopping.rt` what is done once both rings are closed.
 #![tactic(auto)]
 
+mod bursts;
 mod driver;
 mod ends;
 mod halted;

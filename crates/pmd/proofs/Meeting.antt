@@ -1,6 +1,6 @@
 -- What a packet of a burst meets: a way that is shut, or a fault amid events.
-use Rattle.std.proofs.Common.{◌≡◌, ◌⊎◌, inl, inr, ℕ, Bool, true, false, ◌&&◌, not, List, Some, None, Result, Ok, Err, Option, IfErr, refl, sym, ap, ◌∙◌, subst}
-use Rattle.nic_device.specs.DmaArena.Numbers.{Numbers, is_own}
+use Rattle.std.proofs.Common.{◌≡◌, ◌⊎◌, inl, inr, ℕ, true, false, ◌&&◌, not, List, Some, None, Result, Ok, Err, Option, IfErr, refl, sym, ap, ◌∙◌, subst}
+use Rattle.nic_device.specs.DmaArena.Numbers.{is_own}
 use Rattle.pmd_rx.specs.DeviceLock.Alone.{Blocks}
 use Rattle.pmd_rx.specs.DeviceLock.declared.entry.Call.{Call}
 use Rattle.pmd_rx.specs.PmdSeam.declared.fault.PmdFault.{PmdFault}
@@ -12,9 +12,9 @@ use Rattle.pmd_tx.specs.Sends.{gate_of, goes_home, is_bad_size, is_full, outgoin
 use Rattle.pmd_tx.specs.declared.answer.TxAnswer.{TxAnswer}
 use Rattle.pmd_tx.specs.declared.answer.TxAnswer.TheVariants.{Taken, RingFull}
 use Rattle.pmd_tx.specs.declared.answer.TxFault.{TxFault}
-use Rattle.pmd.specs.Apart.{DrivesApart, DrivesRings, FindsFault}
+use Rattle.pmd.specs.Apart.{DrivesApart, DrivesRings}
 use Rattle.pmd.specs.Bursts.{AsksApart, FailsAmid, IsKeptOut, MayAnswer}
-use Rattle.pmd.specs.Halves.{Halves, Sends, halves_of}
+use Rattle.pmd.specs.Halves.{Halves, halves_of}
 use Rattle.pmd.specs.Running.{Running, IsUp, receives}
 use Rattle.pmd.proofs.Apart.{AllMaySend, OutstandingMay, apart_on, moved_apart, played_may, sending_apart}
 use Rattle.pmd.proofs.Both.{outstanding_may}

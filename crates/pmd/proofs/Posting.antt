@@ -1,5 +1,5 @@
 -- The tail is moved behind the packets that were queued.
-use Rattle.std.proofs.Common.{◌≡◌, ◌⊎◌, inl, inr, ◌==◌, ℕ, zero, suc, if◌then◌else◌, Bool, true, false, List, [], ◌∷◌, ◌++◌, length, Option, Some, None, Result, Ok, Err, IfErr, IfSome, OnOk, refl, sym, ap, subst, ◌∙◌, append-nil, arith}
+use Rattle.std.proofs.Common.{◌≡◌, inl, inr, ◌==◌, ℕ, if◌then◌else◌, Bool, true, false, List, [], ◌∷◌, length, Option, Some, None, Result, Ok, Err, IfSome, refl, sym, ap, subst, ◌∙◌, append-nil, arith}
 use Rattle.std.proofs.lemmas.Bool.Decides.{nat_tests}
 use Rattle.nic_device.specs.DmaArena.Numbers.{is_own}
 use Rattle.pmd_rx.specs.DeviceLock.declared.entry.Call.{Call}
@@ -7,7 +7,7 @@ use Rattle.pmd_rx.specs.PmdSeam.declared.fault.PmdFault.{PmdFault}
 use Rattle.pmd_rx.specs.PmdSeam.declared.packet.Packet.{Packet}
 use Rattle.pmd_tx.specs.Sends.{IsLate}
 use Rattle.pmd.specs.Apart.{DrivesRings}
-use Rattle.pmd.specs.Bursts.{Accepts, AreLeft, FailsAmid, FailedAmid, IsRefusedFirst, SendsBurst, Stops}
+use Rattle.pmd.specs.Bursts.{Accepts, FailsAmid, FailedAmid, IsRefusedFirst, SendsBurst, Stops}
 use Rattle.pmd.specs.Halves.{halves_of}
 use Rattle.pmd.specs.Queueing.{Queues}
 use Rattle.pmd.specs.Running.{Running}

@@ -56,12 +56,7 @@ impl Running {
     }
 
     /// Frees the blocks of packets that were sent, where fewer slots than so many are vacant.
-    fn make_room<N: Nic>(
-        &mut self,
-        alloc: Global,
-        nic: &mut N,
-        vacant: u16,
-    ) -> Result<(), PmdFault>
+    fn make_room<N: Nic>(&mut self, alloc: Global, nic: &mut N, vacant: u16) -> Result<(), PmdFault>
         ensures drives { DrivesRings (N.made nic.old) self.old (N.made nic.new) self.new }
         ensures room { MakesRoom vacant (fault_of result) (N.made nic.old) self.old (N.made nic.new) self.new }
         ensures late { IfErr result (λ f. IsLate f) }
@@ -163,8 +158,8 @@ impl Running {
         };
         match self.queue_packet(alloc, nic, packet) {
             Ok(TxAnswer::Taken) => (Queued { sent: 1, met: None }, false),
-            Ok(TxAnswer::RingFull(packet)) => {
-                packets.push_front_reserved(packet);
+            Ok(TxAnswer::RingFull(full)) => {
+                packets.push_front_reserved(full);
                 (Queued { sent: 0, met: None }, true)
             }
             Err(failed) => {

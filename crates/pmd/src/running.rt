@@ -1,16 +1,16 @@
 //! A driver whose two rings are up.
 
-ghost use Rattle.std.specs.Prelude.{◌≡◌, ◌<◌, ◌≤◌, ◌+◌, ◌⊎◌, ◌↔◌, [], ◌∷◌, nat_lt, true, length, IfOk, IfErr, IfSome, IfNone, IsNone, IsOk, OnOk, OnErr};
+ghost use Rattle.std.specs.Prelude.{◌≡◌, ◌<◌, ◌≤◌, ◌+◌, ◌⊎◌, ◌↔◌, [], ◌∷◌, nat_lt, true, drop, length, All, IfOk, IfErr, IfSome, IfNone, IsNone, IsOk, OnOk, OnErr};
 ghost use Rattle.std.specs.List.{list_any};
 ghost use Rattle.nic_device.specs.DmaArena.Numbers.{free_count, is_own};
 ghost use Rattle.nic_device.specs.DmaArena.Whereabouts.{times_in_hand};
 ghost use Rattle.pmd_rx.specs.PmdSeam.Bufs.{numbers_of};
 ghost use Rattle.pmd_rx.specs.PmdSeam.Fresh.{IsFresh, bufs_for};
-ghost use Rattle.pmd_rx.specs.Keeping.{blocks_out, handed_blocks, numbers_in};
+ghost use Rattle.pmd_rx.specs.Keeping.{blocks_out, handed_blocks, numbers_in, numbers_of_all};
 ghost use Rattle.pmd_tx.specs.Sends.{returned, IsBack, IsFullWhereTold, IsLate};
 ghost use Rattle.pmd.specs.Apart.{DrivesRings, OwnsSame};
 ghost use Rattle.pmd.specs.Blocks.{KeepsUp};
-ghost use Rattle.pmd.specs.Bursts.{Accepts, FailsAmid, IsKeptOut, MayAnswer, vacant_in};
+ghost use Rattle.pmd.specs.Bursts.{Accepts, FailsAmid, IsKeptOut, IsReceiveBurst, MayAnswer, vacant_in};
 ghost use Rattle.pmd.specs.DriverCalls.{IsReceiveCall, IsSendCall, IsReapCall};
 ghost use Rattle.pmd.specs.Halves.{halves_of};
 ghost use Rattle.pmd.specs.Running.{IsUp, IsReleased, goes_back, receives};
@@ -20,6 +20,7 @@ use nic_device::Arena;
 use pmd_rx::{Bufs, Nic, Packet, PmdFault, ReceiveRing, Record, fresh_packet, give_packet};
 use pmd_tx::{Reaped, TransmitRing, TxAnswer, TxFault, bytes_in};
 use std::alloc::Global;
+use std::collections::VecDeque;
 use std::marker::Model;
 
 /// A driver whose two rings are up: the arena of its blocks, and the rings.
@@ -99,6 +100,34 @@ impl Running {
         ensures refusal { IfErr result (λ f. CanFail (N.refuses nic.new) f) }
     {
         self.receive.receive(alloc, nic, &mut self.arena)
+    }
+
+    /// The next packets that came in, in order, `most` at most: they are pushed behind those that `packets` has, once one
+    /// move of the tail has posted the blocks that take the places of theirs. Answers how many they are: 0 where `most`
+    /// is 0, or the slot behind those that were seen isn't done.
+    ///
+    /// A fault is answered as by `rx`, and only where no packet comes out: the next call goes on from there. `Call` also
+    /// where there is no memory for the packets.
+    pub fn rx_burst<N: Nic>(
+        &mut self,
+        alloc: Global,
+        nic: &mut N,
+        most: u16,
+        packets: &mut VecDeque<Packet>,
+    ) -> Result<u16, PmdFault>
+        ensures drives { DrivesRings (N.made nic.old) self.old (N.made nic.new) self.new }
+        ensures received { IsReceiveBurst most packets.old.items packets.new.items result (N.made nic.old) self.old
+            (N.made nic.new) self.new }
+        ensures home { All (λ p. goes_back self.new p ≡ true)
+            (drop (length packets.old.items) packets.new.items) }
+        ensures blocks { KeepsUp self.old (numbers_of_all packets.old.items) self.new
+            (numbers_of_all packets.new.items) }
+        ensures who { N.who nic.new ≡ N.who nic.old }
+        ensures refuses { N.refuses nic.new ≡ N.refuses nic.old }
+        ensures refusal { IfErr result (λ f. CanFail (N.refuses nic.new) f) }
+    {
+        self.receive
+            .receive_burst(alloc, nic, &mut self.arena, most, packets)
     }
 
     /// Sends a packet, which is padded with zero bytes to 60: one descriptor for each Buf that holds bytes of it.

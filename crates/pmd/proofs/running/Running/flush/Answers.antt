@@ -1,4 +1,4 @@
-use Rattle.std.proofs.Common.{[], None, Some, refl}
+use Rattle.std.proofs.Common.{[], refl}
 use Rattle.nic_device.specs.DmaArena.Numbers.{is_own}
 use Rattle.pmd.specs.Halves.{halves_of}
 use Rattle.pmd.specs.Running.{Running}

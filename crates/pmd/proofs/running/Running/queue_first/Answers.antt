@@ -10,14 +10,14 @@ returns-in-Ok-Taken-clause-queues g c =
     let e = c.queue_packet.ensures in
     queues_one _ _ c.args.self.now c.queue_packet.new.self c.args.packets.now.items c.pop_front.new.self.items
     c.in-Some.packet c.in-Some.ensures.items e.drives None tt (returned c.queue_packet.result)
-    (ap returned (c.in-Ok-Taken.is ∙ ap (λ (x : TxAnswer). Ok x) c.in-Ok-Taken.field-0-is)) e.accepted e.slots e.blocks
+    (ap returned (c.in-Ok-Taken.is ∙ ap (λ (x : TxAnswer). Ok x) c.in-Ok-Taken.field-0-is)) e.accepted e.slots c.queue_packet.ensures.blocks
 
 pub returns-in-Ok-RingFull-clause-ends : goal.returns-in-Ok-RingFull-clause-ends
 returns-in-Ok-RingFull-clause-ends g c ends =
     let e = c.queue_packet.ensures in
     rw c.push_front_reserved.ensures.items
     (stops_full _ _ c.args.self.now c.queue_packet.new.self c.in-Some.packet e.shut c.queue_packet.result
-    c.in-Ok-RingFull.packet c.pop_front.new.self.items
+    c.in-Ok-RingFull.full c.pop_front.new.self.items
     (c.in-Ok-RingFull.is ∙ ap (λ (x : TxAnswer). Ok x) c.in-Ok-RingFull.field-0-is) e.answer e.full)
 
 pub returns-in-Ok-RingFull-clause-queues : goal.returns-in-Ok-RingFull-clause-queues
@@ -26,11 +26,11 @@ returns-in-Ok-RingFull-clause-queues g c =
     let told = c.in-Ok-RingFull.is ∙ ap (λ (x : TxAnswer). Ok x) c.in-Ok-RingFull.field-0-is in
     rw c.push_front_reserved.ensures.items
     (queues_back _ _ c.args.self.now c.queue_packet.new.self c.args.packets.now.items c.pop_front.new.self.items
-    c.in-Some.packet c.in-Some.ensures.items e.drives None tt (returned c.queue_packet.result) c.in-Ok-RingFull.packet
+    c.in-Some.packet c.in-Some.ensures.items e.drives None tt (returned c.queue_packet.result) c.in-Ok-RingFull.full
     (ap returned told)
     (full_left _ _ c.args.self.now c.queue_packet.new.self c.in-Some.packet e.shut c.queue_packet.result
-    c.in-Ok-RingFull.packet c.pop_front.new.self.items told e.answer)
-    e.kept e.blocks)
+    c.in-Ok-RingFull.full c.pop_front.new.self.items told e.answer)
+    e.kept c.queue_packet.ensures.blocks)
 
 pub returns-in-None-packet-clause-queues : goal.returns-in-None-packet-clause-queues
 returns-in-None-packet-clause-queues g c =
@@ -38,7 +38,7 @@ returns-in-None-packet-clause-queues g c =
     queues_one _ _ c.args.self.now c.queue_packet.new.self c.args.packets.now.items c.pop_front.new.self.items
     c.in-Some.packet c.in-Some.ensures.items e.drives (Some c.in-Err.failed.fault) c.in-Err.ensures.amid
     (returned c.queue_packet.result)
-    (ap returned c.in-Err.is ∙ c.in-None-packet.is) e.accepted e.slots e.blocks
+    (ap returned c.in-Err.is ∙ c.in-None-packet.is) e.accepted e.slots c.queue_packet.ensures.blocks
 
 pub returns-in-None-packet-clause-ends : goal.returns-in-None-packet-clause-ends
 returns-in-None-packet-clause-ends g c ends =
@@ -56,7 +56,7 @@ returns-in-Some-packet-clause-queues g c =
     (queues_back _ _ c.args.self.now c.queue_packet.new.self c.args.packets.now.items c.pop_front.new.self.items
     c.in-Some.packet c.in-Some.ensures.items e.drives (Some fault) c.in-Err.ensures.amid
     (returned c.queue_packet.result) c.in-Some-packet.packet (ap returned c.in-Err.is ∙ c.in-Some-packet.is)
-    (back, refl) e.kept e.blocks)
+    (back, refl) e.kept c.queue_packet.ensures.blocks)
 
 pub returns-in-Some-packet-clause-ends : goal.returns-in-Some-packet-clause-ends
 returns-in-Some-packet-clause-ends g c ends =

@@ -51,7 +51,8 @@ module _ (vacant : ℕ) (given left : List Packet) (old made new : List Call) (r
       sends = sends;
       fails = err_later result (λ f fails. refused_first f s left sends.gone sends.met sends.stops fails) sends.fails;
       finds = err_later result
-          (λ f amid. finds_amid f (is_own r.arena) old new (halves_of r) (amid_after f old made new r there drives amid))
+          (λ f amid. finds_amid f (is_own r.arena) old new (halves_of r)
+          (amid_after f old made new r there drives amid))
           sends.faults;
       settled = sends.settled;
       layout = sends.accepts.layout ∙ layout

@@ -106,7 +106,8 @@ module _ (old new : List Call) (r s : Running) (given rest : List Packet) (p : P
         → Queues given (q ∷ rest) 0 met old r new s
     queues_back None q some left accepts keeps = absurd (let e : None ≡ Some q = some in cc)
     queues_back (Some b) q some left accepts keeps =
-        gave_back q left accepts (subst (λ (o : Option Packet). KeepsUp r (numbers_of p.bufs) s (numbers_in o)) some keeps)
+        gave_back q left accepts
+        (subst (λ (o : Option Packet). KeepsUp r (numbers_of p.bufs) s (numbers_in o)) some keeps)
 
 -- why it is back
 
@@ -137,7 +138,8 @@ module _ (old new : List Call) (r s : Running) (p : Packet) (shut : IsKeptOut r 
   packet_of d None = d
   packet_of d (Some q) = q
 
-  stops_by : (f : PmdFault) (q : Packet) (rest : List Packet) → MayAnswer r p (Err (record { fault = f; packet = Some q }))
+  stops_by : (f : PmdFault) (q : Packet) (rest : List Packet)
+      → MayAnswer r p (Err (record { fault = f; packet = Some q }))
       → IsLate f ⊎ (IsKeptOut r p × (Some q ≡ Some p)) → Stops (Some f) s (q ∷ rest)
   unfolding packet_of
   stops_by f q rest answer (inl late) = inl late

@@ -1,5 +1,5 @@
--- What a driver whose rings are up answers and leaves where it is asked for several packets at once, or is given several
--- to send: as by so many calls for one, with one move of the tail for all.
+-- What a driver whose rings are up answers and leaves where it is asked for several packets at once, or is given
+-- several to send: as by so many calls for one, with one move of the tail for all.
 use Rattle.std.specs.Prelude.{ℕ, ◌≡◌, ◌⊎◌, ◌-◌, ◌<◌, ◌≤◌, ◌++◌, ◌∷◌, [], ⊤, false, length, drop, map, List, Option, Some, None, Result, Ok, Err, IfOk, IfErr, IfSome, OnErr}
 use Rattle.nic_device.specs.DmaArena.Block.{Block}
 use Rattle.nic_device.specs.DmaArena.Numbers.{Numbers, is_own}
@@ -82,8 +82,8 @@ pub record Accepts (gone : List Packet) (r s : Running) : Type 0 where
   pub layout : s.transmit.layout ≡ r.transmit.layout
   pub receive : s.receive ≡ r.receive
 
--- an event that was refused is a move that the transmit half may make next, once both halves were driven on so. It lends
--- no block of another
+-- an event that was refused is a move that the transmit half may make next, once both halves were driven on so. It
+-- lends no block of another
 pub record AsksApart (own : Blocks) (old : List Call) (h : Halves) (new : List Call) : Type 0 where
   pub there : Halves
   pub move : Move

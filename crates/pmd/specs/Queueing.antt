@@ -27,7 +27,8 @@ pub record Queues (given left : List Packet) (sent : ℕ) (met : Option PmdFault
   pub slots : sent + vacant_in s.transmit ≤ vacant_in r.transmit
 
 -- where the first packet is refused before any event, no call was made, and all stays as it was
-abbrev pub StaysShut : List Packet → List Packet → ℕ → Option PmdFault → List Call → Running → List Call → Running → Type 0
+abbrev pub StaysShut : List Packet → List Packet → ℕ → Option PmdFault → List Call → Running → List Call → Running
+    → Type 0
 StaysShut given left sent met old r new s =
     (f : PmdFault) → IsRefusedFirst f r given
     → (sent ≡ 0) × (met ≡ Some f) × (left ≡ given) × (new ≡ old) × (s ≡ r)

@@ -102,12 +102,12 @@ impl Running {
         self.receive.receive(alloc, nic, &mut self.arena)
     }
 
-    /// The next packets that came in, in order, `most` at most: they are pushed behind those that `packets` has, once one
-    /// move of the tail has posted the blocks that take the places of theirs. Answers how many they are: 0 where `most`
-    /// is 0, or the slot behind those that were seen isn't done.
+    /// The next packets that came in, in order, `most` at most: they are pushed behind those that `packets` has, once
+    /// one move of the tail has posted the blocks that take the places of theirs. Answers how many they are: 0 where
+    /// `most` is 0, or the slot behind those that were seen isn't done.
     ///
-    /// A fault is answered as by `rx`, and only where no packet comes out: the next call goes on from there. `Call` also
-    /// where there is no memory for the packets.
+    /// A fault is answered as by `rx`, and only where no packet comes out: the next call goes on from there. `Call`
+    /// also where there is no memory for the packets.
     pub fn rx_burst<N: Nic>(
         &mut self,
         alloc: Global,

@@ -10,7 +10,8 @@ returns-in-Ok-Taken-clause-queues g c =
     let e = c.queue_packet.ensures in
     queues_one _ _ c.args.self.now c.queue_packet.new.self c.args.packets.now.items c.pop_front.new.self.items
     c.in-Some.packet c.in-Some.ensures.items e.drives None tt (returned c.queue_packet.result)
-    (ap returned (c.in-Ok-Taken.is ∙ ap (λ (x : TxAnswer). Ok x) c.in-Ok-Taken.field-0-is)) e.accepted e.slots c.queue_packet.ensures.blocks
+    (ap returned (c.in-Ok-Taken.is ∙ ap (λ (x : TxAnswer). Ok x) c.in-Ok-Taken.field-0-is)) e.accepted e.slots
+    c.queue_packet.ensures.blocks
 
 pub returns-in-Ok-RingFull-clause-ends : goal.returns-in-Ok-RingFull-clause-ends
 returns-in-Ok-RingFull-clause-ends g c ends =

@@ -54,6 +54,7 @@ left_same (Some f) (p ∷ ps) = (back_same f p, refl)
 module _ (old new : List Call) (r s : Running) (given rest : List Packet) (p : Packet) (is : given ≡ p ∷ rest)
     (drives : DrivesRings old r new s) (met : Option PmdFault)
     (amid : IfSome met (λ f. FailsAmid f (is_own r.arena) old (halves_of r) new))
+    (tail : s.transmit.posted ≡ r.transmit.posted)
   where
     -- it was accepted
     took_one : Accepts (p ∷ []) r s → 1 + vacant_in s.transmit ≤ vacant_in r.transmit
@@ -69,6 +70,7 @@ module _ (old new : List Call) (r s : Running) (given rest : List Packet) (p : P
       drives = drives;
       keeps = subst (λ (l : List Packet). KeepsUp r (numbers_of_all l) s (numbers_of_all rest)) (sym is)
           (keeps_beside r.arena s.arena (rings_out r) (rings_out s) (numbers_of p.bufs) [] (numbers_of_all rest) keeps);
+      tail = tail;
       slots = slots;
     }
 
@@ -93,6 +95,7 @@ module _ (old new : List Call) (r s : Running) (given rest : List Packet) (p : P
       keeps = subst (λ (l : List Packet). KeepsUp r (numbers_of_all l) s (numbers_of_all (q ∷ rest))) (sym is)
           (keeps_beside r.arena s.arena (rings_out r) (rings_out s) (numbers_of p.bufs) (numbers_of q.bufs)
           (numbers_of_all rest) keeps);
+      tail = tail;
       slots = omega (
         arith,
         ap (λ (l : List Segment). length l) accepts.outstanding,

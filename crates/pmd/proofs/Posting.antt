@@ -11,9 +11,10 @@ use Rattle.pmd.specs.Bursts.{Accepts, FailsAmid, FailedAmid, IsRefusedFirst, Sen
 use Rattle.pmd.specs.Halves.{halves_of}
 use Rattle.pmd.specs.Queueing.{Queues}
 use Rattle.pmd.specs.Running.{Running}
+use Rattle.pmd.proofs.Both.{rings_still}
 use Rattle.pmd.proofs.Driving.{some_later}
 use Rattle.pmd.proofs.Meeting.{amid_after}
-use Rattle.pmd.proofs.Queueing.{accepts_on}
+use Rattle.pmd.proofs.Queueing.{accepts_on, accepts_same}
 
 -- what a packet meets doesn't change where none is accepted
 
@@ -95,6 +96,10 @@ module _ (given left : List Packet) (sent : ℕ) (met : Option PmdFault) (old mi
           given_are = q.given_are;
           accepts = q.accepts;
           count = tt;
+          queued = mid;
+          behind = s;
+          queues = (q.drives, q.accepts, q.tail);
+          posts = (rings_still mid s, accepts_same s);
           left_are = q.left_are;
           stops = stops;
           amid = some_later met (λ e amid. (mid, [], sym (append-nil mid), amid)) q.amid;
@@ -130,6 +135,10 @@ module _ (given left : List Packet) (sent : ℕ) (met : Option PmdFault) (old mi
           given_are = q.given_are;
           accepts = accepts_then r s t q.gone q.accepts kept;
           count = q.count;
+          queued = mid;
+          behind = s;
+          queues = (q.drives, q.accepts, q.tail);
+          posts = (drives, kept);
           left_are = q.left_are;
           stops = stops_still s t kept met left stops;
           amid = amid_still;
@@ -149,6 +158,10 @@ module _ (given left : List Packet) (sent : ℕ) (met : Option PmdFault) (old mi
           given_are = q.given_are;
           accepts = accepts_then r s t q.gone q.accepts kept;
           count = tt;
+          queued = mid;
+          behind = s;
+          queues = (q.drives, q.accepts, q.tail);
+          posts = (drives, kept);
           left_are = q.left_are;
           stops = stops_still s t kept met left stops;
           amid = amid_still;

@@ -150,26 +150,32 @@ queues_on given mid_left left k j met old mid new r s t one two = record {
   drives = rings_on old mid new r s t one.drives two.drives;
   keeps = keeps_then r.arena s.arena t.arena (rings_out r ++ numbers_of_all given)
       (rings_out s ++ numbers_of_all mid_left) (rings_out t ++ numbers_of_all left) one.keeps two.keeps;
+  tail = two.tail ∙ one.tail;
   slots = omega (arith, one.slots, two.slots);
 }
 
 -- none yet
+
+pub accepts_same : (r : Running) → Accepts [] r r
+accepts_same r = record {
+  accepted = sym (append-nil r.transmit.accepted);
+  outstanding = sym (append-nil r.transmit.outstanding);
+  arena = refl;
+  layout = refl;
+  receive = refl;
+}
+
 pub queues_none : (given : List Packet) (old : List Call) (r : Running) → Queues given given 0 None old r old r
 queues_none given old r = record {
   gone = [];
   waiting = given;
   given_are = refl;
   count = refl;
-  accepts = record {
-    accepted = sym (append-nil r.transmit.accepted);
-    outstanding = sym (append-nil r.transmit.outstanding);
-    arena = refl;
-    layout = refl;
-    receive = refl;
-  };
+  accepts = accepts_same r;
   left_are = refl;
   amid = tt;
   drives = rings_still old r;
   keeps = record { owns = λ n. refl; each = λ n. refl };
+  tail = refl;
   slots = omega arith;
 }

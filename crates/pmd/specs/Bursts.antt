@@ -22,7 +22,7 @@ use Rattle.pmd_tx.specs.declared.answer.Reaped.{Reaped}
 use Rattle.pmd_tx.specs.declared.answer.TxAnswer.{TxAnswer}
 use Rattle.pmd_tx.specs.declared.answer.TxAnswer.TheVariants.{RingFull}
 use Rattle.pmd_tx.specs.declared.answer.TxFault.{TxFault}
-use Rattle.pmd.specs.Apart.{DrivesApart, FindsBy, FindsFault, LendsApart}
+use Rattle.pmd.specs.Apart.{DrivesApart, DrivesRings, FindsBy, FindsFault, LendsApart}
 use Rattle.pmd.specs.DriverCalls.{IsReapCall}
 use Rattle.pmd.specs.Halves.{Halves, Sends, halves_of}
 use Rattle.pmd.specs.Running.{Running, receives}
@@ -136,6 +136,11 @@ pub record SendsBurst (given left : List Packet) (result : Result ℕ PmdFault) 
   pub given_are : given ≡ gone ++ waiting
   pub accepts : Accepts gone r s
   pub count : IfOk result (λ n. n ≡ length gone)
+  -- they were queued with the tail where it was, and then it was moved
+  pub queued : List Call
+  pub behind : Running
+  pub queues : DrivesRings old r queued behind × Accepts gone r behind × (behind.transmit.posted ≡ r.transmit.posted)
+  pub posts : DrivesRings queued behind new s × Accepts [] behind s
   -- the others are left
   pub left_are : AreLeft met waiting left
   pub stops : Stops met s left

@@ -23,6 +23,8 @@ pub record Queues (given left : List Packet) (sent : ℕ) (met : Option PmdFault
   pub amid : IfSome met (λ f. FailsAmid f (is_own r.arena) old (halves_of r) new)
   pub drives : DrivesRings old r new s
   pub keeps : KeepsUp r (numbers_of_all given) s (numbers_of_all left)
+  -- the tail stays where it is
+  pub tail : s.transmit.posted ≡ r.transmit.posted
   -- each takes a slot at least
   pub slots : sent + vacant_in s.transmit ≤ vacant_in r.transmit
 

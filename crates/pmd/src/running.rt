@@ -196,6 +196,7 @@ impl Running {
         ensures accepted { IfNone (returned result) (Accepts (packet ∷ []) self.old self.new) }
         ensures kept { IfSome (returned result) (λ back. Accepts [] self.old self.new) }
         ensures back { IfErr result (λ failed. IfSome failed.packet (λ back. IsBack failed.fault packet back)) }
+        ensures tail { self.new.transmit.posted ≡ self.old.transmit.posted }
         ensures slots { IfNone (returned result)
             (1 + vacant_in self.new.transmit ≤ vacant_in self.old.transmit) }
         ensures blocks { KeepsUp self.old (numbers_of packet.bufs) self.new (numbers_in (returned result)) }

@@ -9,7 +9,7 @@ pub returns-in-Ok-Taken-clause-queues : goal.returns-in-Ok-Taken-clause-queues
 returns-in-Ok-Taken-clause-queues g c =
     let e = c.queue_packet.ensures in
     queues_one _ _ c.args.self.now c.queue_packet.new.self c.args.packets.now.items c.pop_front.new.self.items
-    c.in-Some.packet c.in-Some.ensures.items e.drives None tt (returned c.queue_packet.result)
+    c.in-Some.packet c.in-Some.ensures.items e.drives None tt e.tail (returned c.queue_packet.result)
     (ap returned (c.in-Ok-Taken.is ∙ ap (λ (x : TxAnswer). Ok x) c.in-Ok-Taken.field-0-is)) e.accepted e.slots
     c.queue_packet.ensures.blocks
 
@@ -27,7 +27,7 @@ returns-in-Ok-RingFull-clause-queues g c =
     let told = c.in-Ok-RingFull.is ∙ ap (λ (x : TxAnswer). Ok x) c.in-Ok-RingFull.field-0-is in
     rw c.push_front_reserved.ensures.items
     (queues_back _ _ c.args.self.now c.queue_packet.new.self c.args.packets.now.items c.pop_front.new.self.items
-    c.in-Some.packet c.in-Some.ensures.items e.drives None tt (returned c.queue_packet.result) c.in-Ok-RingFull.full
+    c.in-Some.packet c.in-Some.ensures.items e.drives None tt e.tail (returned c.queue_packet.result) c.in-Ok-RingFull.full
     (ap returned told)
     (full_left _ _ c.args.self.now c.queue_packet.new.self c.in-Some.packet e.shut c.queue_packet.result
     c.in-Ok-RingFull.full c.pop_front.new.self.items told e.answer)
@@ -37,7 +37,7 @@ pub returns-in-None-packet-clause-queues : goal.returns-in-None-packet-clause-qu
 returns-in-None-packet-clause-queues g c =
     let e = c.queue_packet.ensures in
     queues_one _ _ c.args.self.now c.queue_packet.new.self c.args.packets.now.items c.pop_front.new.self.items
-    c.in-Some.packet c.in-Some.ensures.items e.drives (Some c.in-Err.failed.fault) c.in-Err.ensures.amid
+    c.in-Some.packet c.in-Some.ensures.items e.drives (Some c.in-Err.failed.fault) c.in-Err.ensures.amid e.tail
     (returned c.queue_packet.result)
     (ap returned c.in-Err.is ∙ c.in-None-packet.is) e.accepted e.slots c.queue_packet.ensures.blocks
 
@@ -55,7 +55,7 @@ returns-in-Some-packet-clause-queues g c =
     c.in-Err.ensures.back in
     rw c.push_front_reserved-in-Some-packet.ensures.items
     (queues_back _ _ c.args.self.now c.queue_packet.new.self c.args.packets.now.items c.pop_front.new.self.items
-    c.in-Some.packet c.in-Some.ensures.items e.drives (Some fault) c.in-Err.ensures.amid
+    c.in-Some.packet c.in-Some.ensures.items e.drives (Some fault) c.in-Err.ensures.amid e.tail
     (returned c.queue_packet.result) c.in-Some-packet.packet (ap returned c.in-Err.is ∙ c.in-Some-packet.is)
     (back, refl) e.kept c.queue_packet.ensures.blocks)
 

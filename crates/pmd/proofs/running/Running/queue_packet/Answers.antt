@@ -56,6 +56,7 @@ returns g c =
       accepted = accepted_one q s p (returned c.queue.result) e.accepted e.home e.layout refl;
       kept = accepted_none q s p (returned c.queue.result) e.kept e.home e.layout refl;
       back = e.back;
+      tail = e.tail;
       slots = slots_taken q p c.queue.result answer c.bytes_in-whole.ensures.whole s.transmit e.layout e.accepted;
       blocks = (sent_up_kept q s p c.queue.result answer c.bytes_in-whole.ensures.whole e.accepted e.kept e.home e.back
           e.layout refl c.self.invariant).1;

@@ -15,6 +15,7 @@ use crate::ring::ReceiveRing;
 use nic_device::Arena;
 use pmd_seam::{CallFault, Nic, Packet, PmdFault};
 use std::alloc::Global;
+use std::collections::VecDeque;
 
 impl ReceiveRing {
     /// Takes the next packet that came in: it is whole then. Answers whether there is one, as far as slots are posted.
@@ -177,7 +178,7 @@ impl ReceiveRing {
         nic: &mut N,
         arena: &mut Arena,
         most: u16,
-        out: &mut Vec<Packet>,
+        out: &mut VecDeque<Packet>,
     ) -> Result<u16, PmdFault>
         requires running { IsRunning self.old }
         requires home { AreOut arena.old (blocks_out self.old) }
@@ -210,7 +211,7 @@ impl ReceiveRing {
         alloc: Global,
         nic: &mut N,
         most: u16,
-        out: &mut Vec<Packet>,
+        out: &mut VecDeque<Packet>,
     ) -> Result<u16, PmdFault>
         requires running { IsRunning self.old }
         requires some { 0 < length self.old.whole }
@@ -231,7 +232,7 @@ impl ReceiveRing {
         if self.holds_part() || count > usize::from(most) {
             return match self.post_one(alloc, nic) {
                 Ok(packet) => {
-                    out.push_reserved(packet);
+                    out.push_back_reserved(packet);
                     Ok(1)
                 }
                 Err(fault) => Err(fault),

@@ -17,6 +17,7 @@ use crate::ring::{ReceiveRing, Stage};
 use nic_device::Arena;
 use pmd_seam::{Nic, PmdFault, give_back};
 use std::alloc::Global;
+use std::collections::VecDeque;
 
 impl ReceiveRing {
     /// Lends a fresh block of the arena, and names it.
@@ -264,7 +265,7 @@ impl ReceiveRing {
         ensures refuses { N.refuses nic.new ≡ N.refuses nic.old }
         ensures refusal { IfErr result (λ f. CanFail (N.refuses nic.new) f) }
     {
-        let mut none = Vec::new(alloc);
+        let mut none = VecDeque::new(alloc);
         let answer = self.post_all(alloc, nic, &mut none);
         none.destroy_empty();
         answer

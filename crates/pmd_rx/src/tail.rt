@@ -1,7 +1,7 @@
 //! The receive ring's tail: named blocks are posted as it moves on, and whole packets handed out.
 
-ghost use Rattle.std.specs.Prelude.{◌≡◌, ◌<◌, ◌≤◌, ◌+◌, ◌++◌, ◌∷◌, [], length, take, true, All, OnOk, OnErr, IfOk, IfErr, vec_len};
-ghost use Rattle.std.specs.Vec.{vec_capacity};
+ghost use Rattle.std.specs.Prelude.{◌≡◌, ◌<◌, ◌≤◌, ◌+◌, ◌++◌, ◌∷◌, [], length, take, true, All, OnOk, OnErr, IfOk, IfErr};
+ghost use Rattle.std.specs.VecDeque.{deque_len, deque_capacity};
 ghost use Rattle.nic_device.specs.DmaArena.Numbers.{Numbers};
 ghost use Rattle.pmd_rx.specs.Burst.{HasPart};
 ghost use Rattle.pmd_rx.specs.Keeping.{numbers_of_all};
@@ -96,11 +96,11 @@ impl ReceiveRing {
         &mut self,
         alloc: Global,
         nic: &mut N,
-        out: &mut Vec<Packet>,
+        out: &mut VecDeque<Packet>,
     ) -> Result<(), PmdFault>
         requires some { 0 < length self.old.named }
         requires none { length self.old.held.bufs ≡ 0 }
-        requires room { length self.old.whole + vec_len out.old ≤ vec_capacity out.old }
+        requires room { length self.old.whole + deque_len out.old ≤ deque_capacity out.old }
         ensures plays { (a : Numbers) → PlaysFrom a (N.made nic.old) self.old (N.made nic.new) self.new }
         ensures moved { OnOk result (self.new ≡ posts_all self.old) }
         ensures out { OnOk result (out.new.items ≡ out.old.items ++ self.old.whole) }
@@ -135,9 +135,9 @@ impl ReceiveRing {
     }
 
     /// Hands out the whole packets, as all that is named is posted.
-    fn hand_all(&mut self, out: &mut Vec<Packet>)
+    fn hand_all(&mut self, out: &mut VecDeque<Packet>)
         requires none { length self.old.held.bufs ≡ 0 }
-        requires room { length self.old.whole + vec_len out.old ≤ vec_capacity out.old }
+        requires room { length self.old.whole + deque_len out.old ≤ deque_capacity out.old }
         ensures left { self.new ≡ posts_all self.old }
         ensures out { out.new.items ≡ out.old.items ++ self.old.whole }
     {
@@ -148,14 +148,14 @@ impl ReceiveRing {
 }
 
 /// Moves all packets, in order, behind others. There is room for them.
-fn hand_over(packets: &mut VecDeque<Packet>, out: &mut Vec<Packet>)
-    requires { length packets.old.items + vec_len out.old ≤ vec_capacity out.old }
+fn hand_over(packets: &mut VecDeque<Packet>, out: &mut VecDeque<Packet>)
+    requires { length packets.old.items + deque_len out.old ≤ deque_capacity out.old }
     ensures out { out.new.items ≡ out.old.items ++ packets.old.items }
     ensures none { packets.new.items ≡ [] }
 {
     for _packet in 0..packets.len() {
         match packets.pop_front() {
-            Some(packet) => out.push_reserved(packet),
+            Some(packet) => out.push_back_reserved(packet),
             None => unreachable!(),
         }
     }

@@ -8,8 +8,8 @@ use Rattle.pmd_rx.proofs.ring.ReceiveRing.post_most.Goals as goal
 pub returns-in-Ok-clause-out : goal.returns-in-Ok-clause-out
 returns-in-Ok-clause-out g c a =
     one_out c.args.most a c.args.self.now c.post_one.new.self c.in-Ok.packet c.args.out.now.items
-    c.push_reserved.new.self.items c.in-Ok.ensures.hands
-    (c.push_reserved.ensures.items ∙ ap (λ (ps : List Packet). ps ++ c.in-Ok.packet ∷ []) c.reserve.ensures.items)
+    c.push_back_reserved.new.self.items c.in-Ok.ensures.hands
+    (c.push_back_reserved.ensures.items ∙ ap (λ (ps : List Packet). ps ++ c.in-Ok.packet ∷ []) c.reserve.ensures.items)
     c.requires.most
 
 pub post_all-requires-clause-some : goal.post_all-requires-clause-some

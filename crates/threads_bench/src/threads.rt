@@ -178,13 +178,13 @@ fn run<R: Threads + Wait + Sync>(
 /// frames were sent, and that the history of the controller is legal: it leaves each worker's queue alone too, as
 /// `left_alone` tells, and its driver begins well there, as `begins_well` does. The status is 0 then.
 ///
-/// So what each worker received is a prefix of what was delivered on its queue, and what was sent there one of what it
-/// sent again, as `worker_laws::worker_in_order` says.
+/// So what each worker received is a prefix of what was delivered on its queue, and what was sent there one of what its
+/// driver accepted, as `worker_laws::worker_in_order` says of such a history.
 ///
 /// It waits for locks and for the threads. Nothing is written where something is refused, a worker ends with a fault,
 /// its queue isn't left alone, its driver doesn't begin well, or fewer frames arrive: the status is 4 where one of these
-/// is for memory, or fewer frames arrive, and else 2. There are from 1 to 8 workers: with another number the status is 2. Where a write fails
-/// it is 2.
+/// is for memory, or fewer frames arrive, and else 2. There are from 1 to 8 workers: with another number the status is
+/// 2. Where a write fails it is 2.
 pub fn bench_threads<R: Threads + Wait + Sync, W: Write>(
     rt: &R,
     alloc: Global,

@@ -132,7 +132,8 @@ module _ {S : Type 0} (next : S → Entry → S) (w : Watched) (test : S → Boo
       rw same
       (elim (cases_Bool (f.pass == w.pass)) as (λ _. Passes (known_through next then before)) [
         | inl mine ↦
-            let x = one_behind left f before old steps long stepped mine (sym (calls_own w.pass f before mine) ∙ called) in
+            let x =
+            one_behind left f before old steps long stepped mine (sym (calls_own w.pass f before mine) ∙ called) in
             each then (left_behind w left f) h (ap (holds_of test) (sym (at_other t left f h x.skipped)) ∙ is) x.old
             x.long before first behind rest own event x.steps x.stepped x.calls
         | inr other ↦

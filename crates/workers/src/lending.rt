@@ -1,5 +1,5 @@
-//! Whether others lend none of a driver's blocks, as the entries of a history tell: no other pass lends any, and none is
-//! lent as the driver starts.
+//! Whether others lend none of a driver's blocks, as the entries of a history tell: no other pass lends any, and none
+//! is lent as the driver starts.
 
 ghost use Rattle.std.specs.Prelude.{◌≡◌, ◌↔◌, ◌==◌, ◌&&◌, ◌||◌, not, nat_lt, ℕ, IsTrue, if◌then◌else◌};
 ghost use Rattle.device_lock.specs.Watching.{marked, none_of};

@@ -13,9 +13,9 @@
 //! `worker_task.rt` its task there, `room.rt` all room that is made before a thread starts, `host.rt` the calling
 //! thread's part, `ends.rt` how workers end, and `team.rt` a whole run.
 //!
-//! What a closed history tells of the start of a driver: `before.rt` goes through its entries up to the first of the
-//! driver's own, `beginning.rt` says whether the driver begins well there, and `quiet.rt` whether its queue was asked on
-//! before.
+//! What a closed history tells of a driver: `before.rt` goes through its entries up to the first of the driver's own,
+//! `beginning.rt` says whether the driver begins well there, `quiet.rt` whether its queue was asked on before, and
+//! `lending.rt` whether others lend none of its blocks.
 #![tactic(auto)]
 
 mod assignment;

@@ -9,14 +9,15 @@ loop-entry-init c = rw c.new-told.ensures refl
 pub returns-then-is_first : goal.returns-then-is_first
 returns-then-is_first c =
     sym (c.loop-entry.invariant
-    ∙ known_here (told_behind c.args.watched) c.args.watched c.loop-entry.told c.loop-entry.left c.args.history.now c.loop-entry.entry-index
-    c.entry-item.result c.loop-entry-test.true (sym c.entry-item.is) (sym c.is_first.ensures ∙ c.if-is_first.true))
+    ∙ known_here (told_behind c.args.watched) c.args.watched c.loop-entry.told c.loop-entry.left c.args.history.now
+    c.loop-entry.entry-index c.entry-item.result c.loop-entry-test.true (sym c.entry-item.is)
+    (sym c.is_first.ensures ∙ c.if-is_first.true))
 
 pub loop-entry-preserved : goal.loop-entry-preserved
 loop-entry-preserved c =
     c.loop-entry.invariant
-    ∙ known_there (told_behind c.args.watched) c.args.watched c.loop-entry.told c.loop-entry.left c.args.history.now c.loop-entry.entry-index
-    c.entry-item.result c.loop-entry-test.true (sym c.entry-item.is)
+    ∙ known_there (told_behind c.args.watched) c.args.watched c.loop-entry.told c.loop-entry.left c.args.history.now
+    c.loop-entry.entry-index c.entry-item.result c.loop-entry-test.true (sym c.entry-item.is)
     (sym c.is_first.ensures ∙ c.if-is_first.false) c.after-told.result c.left_behind-left.result
     c.after-told.ensures c.left_behind-left.ensures
 
@@ -25,4 +26,5 @@ returns c =
     let all : c.loop-entry.entry-index ≡ length c.args.history.now =
     omega (arith, c.loop-entry-test.false, c.loop-entry.auto.entry-index-end) in
     sym (c.loop-entry.invariant
-    ∙ known_last (told_behind c.args.watched) c.args.watched c.loop-entry.told c.loop-entry.left c.args.history.now c.loop-entry.entry-index all)
+    ∙ known_last (told_behind c.args.watched) c.args.watched c.loop-entry.told c.loop-entry.left c.args.history.now
+    c.loop-entry.entry-index all)

@@ -36,7 +36,7 @@ pub record IsFresh (queue frame : ℕ) (own : Blocks) (s : State) : Type 0 where
   pub none : NoneLent own s
 
 -- a call of `rx`, `tx`, `reap`, `rx_burst` or `tx_burst` ended with the device at fault, as `finds` in its clauses
--- tells; or `tx_burst` had made these calls as it met the device at fault, once it had accepted some packets
+-- tells
 abbrev pub FindsFault : Moment → Moment → Type 0
 FindsFault m n =
     WhereUp m.driver.rings n.driver.rings

@@ -47,8 +47,7 @@ pub fn lives_lend_apart()
 /// Where the frames that wait for the queue fit a packet of the driver just before its first access, none of its
 /// arena's blocks is lent there, and no other pass lends any of them: no call of `rx`, `tx`, `reap`, `rx_burst` or
 /// `tx_burst` that comes after its start ends with the device at fault, over a legal history that leaves the queue
-/// alone, whatever harmless calls its author makes between through the same pass. Nor does `tx_burst` meet it so amid
-/// its calls, where it has accepted some packets.
+/// alone, whatever harmless calls its author makes between through the same pass.
 pub fn no_call_finds_the_device_at_fault()
     ensures { NoCallFindsFault }
 {}

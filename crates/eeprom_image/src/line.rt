@@ -7,7 +7,7 @@ use crate::image::is_size;
 use text_format::{Words, number};
 
 /// What a line says.
-#[derive(Clone, Copy, Debug, PartialEq, Eq)]
+#[derive(Clone, Copy)]
 pub(crate) enum TextLine {
     /// It has no words.
     Empty,

@@ -8,7 +8,7 @@ use nic_device::{Event, Port};
 use program::{Instruction, Program};
 
 /// What an instruction keeps in `acc` of the reply to its event.
-#[derive(Clone, Copy, Debug, PartialEq, Eq)]
+#[derive(Clone, Copy)]
 pub(crate) enum Kept {
     /// Nothing.
     Nothing,
@@ -19,7 +19,7 @@ pub(crate) enum Kept {
 }
 
 /// What an instruction does without an event.
-#[derive(Clone, Copy, Debug, PartialEq, Eq)]
+#[derive(Clone, Copy)]
 pub(crate) enum LocalAction {
     /// The machine fails unless `acc` is this word, in the bits of this mask.
     Expect(u32, u32),

@@ -14,7 +14,7 @@ use std::alloc::AllocError;
 pub(crate) const INSTRUCTION_BYTES: usize = 12;
 
 /// The fields of an instruction. Those that its operation doesn't use are 0.
-#[derive(Clone, Copy, Debug, PartialEq, Eq)]
+#[derive(Clone, Copy)]
 pub(crate) struct Fields {
     /// The operation: 1 to 22.
     pub(crate) op: u8,

@@ -12,7 +12,7 @@ use intr_unit::Group;
 use vf_map::MAX_VFS;
 
 /// What may be wrong with the fields of an instruction, the fault that is told first standing first.
-#[derive(Clone, Copy, Debug, PartialEq, Eq)]
+#[derive(Clone, Copy)]
 pub(crate) enum FieldFault {
     /// There is no such operation.
     Opcode,

@@ -29,7 +29,7 @@ const MAGIC: [u8; 4] = [0x4e, 0x42, 0x53, 0x43];
 pub(crate) const MAGIC_AND_VERSION: [u8; 6] = [0x4e, 0x42, 0x53, 0x43, 1, 0];
 
 /// How many instructions and data strings an object has.
-#[derive(Clone, Copy, Debug, PartialEq, Eq)]
+#[derive(Clone, Copy)]
 pub(crate) struct Header {
     count: u16,
     strings: u16,

@@ -8,7 +8,7 @@ use std::marker::Model;
 use text_format::{NAME_LIMIT, is_name};
 
 /// A name of at most 32 bytes, which contracts see as its bytes.
-#[derive(Debug, Drop)]
+#[derive(Drop)]
 pub(crate) struct Name<'a> {
     text: &'a str,
 }

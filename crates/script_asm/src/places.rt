@@ -12,7 +12,7 @@ use std::marker::Model;
 
 /// Names, and the number that each stands for: where a label stands, or which data string has the name. A look-up
 /// takes time that grows as the logarithm of how many names there are.
-#[derive(Debug, Drop)]
+#[derive(Drop)]
 pub(crate) struct Places<'a> {
     numbers: BTreeMap<&'a str, u16>,
 }

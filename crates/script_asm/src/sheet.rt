@@ -17,7 +17,7 @@ use std::alloc::Global;
 use std::marker::Model;
 
 /// An instruction as its line writes it, with the number of the line.
-#[derive(Debug, Drop)]
+#[derive(Drop)]
 pub(crate) struct DraftLine<'a> {
     line: usize,
     draft: Draft<'a>,
@@ -25,7 +25,7 @@ pub(crate) struct DraftLine<'a> {
 
 /// Where the labels stand, the numbers of the data strings by their names, and the strings and the instructions in the
 /// order of their lines. Empty lines take no room.
-#[derive(Debug, Drop)]
+#[derive(Drop)]
 pub(crate) struct Sheet<'a> {
     labels: Places<'a>,
     data_numbers: Places<'a>,

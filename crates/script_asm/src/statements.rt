@@ -15,7 +15,7 @@ use std::alloc::Global;
 use text_format::{HexFault, Line, Words, hex_bytes};
 
 /// What a line says.
-#[derive(Debug, Drop)]
+#[derive(Drop)]
 pub(crate) enum Statement<'a> {
     /// Nothing.
     Empty,

@@ -1,14 +1,15 @@
 -- A burst that is sent once room was made for it.
-use Rattle.std.proofs.Common.{◌≡◌, ◌⊎◌, inl, inr, ℕ, List, [], ◌++◌, Option, Some, None, Result, Err, refl, sym, ap, subst, ◌∙◌}
+use Rattle.std.proofs.Common.{◌≡◌, ◌⊎◌, inl, inr, ℕ, List, [], ◌++◌, Option, Some, None, Result, Err, refl, sym, ap, subst, ◌∙◌, map, append-nil}
 use Rattle.nic_device.specs.DmaArena.Numbers.{is_own}
 use Rattle.pmd_rx.specs.DeviceLock.Alone.{Blocks}
 use Rattle.pmd_rx.specs.DeviceLock.declared.entry.Call.{Call}
+use Rattle.pmd_rx.specs.PmdSeam.Packet.{Kept}
 use Rattle.pmd_rx.specs.PmdSeam.declared.fault.PmdFault.{PmdFault}
 use Rattle.pmd_rx.specs.PmdSeam.declared.fault.PmdFault.TheVariants as fault
 use Rattle.pmd_rx.specs.PmdSeam.declared.packet.Packet.{Packet}
 use Rattle.pmd_rx.specs.Keeping.{numbers_of_all}
 use Rattle.pmd_tx.specs.Sending.{Layout}
-use Rattle.pmd_tx.specs.Sends.{IsLate}
+use Rattle.pmd_tx.specs.Sends.{IsLate, accepted_of}
 use Rattle.pmd.specs.Apart.{DrivesRings, FindsBy}
 use Rattle.pmd.specs.Blocks.{KeepsUp}
 use Rattle.pmd.specs.Bursts.{FailsAmid, IsRefusedFirst, IsSendBurst, MakesRoom, SendsBurst, Stops}
@@ -38,7 +39,7 @@ refused_first f s left gone met stops (inr (none, is)) = subst (λ (m : Option P
 module _ (vacant : ℕ) (given left : List Packet) (old made new : List Call) (r there s : Running)
     (drives : DrivesRings old r made there)
     (layout : there.transmit.layout ≡ record r.transmit.layout { next = there.transmit.layout.next })
-    (receive : there.receive ≡ r.receive)
+    (receive : there.receive ≡ r.receive) (accepted : there.transmit.accepted ≡ r.transmit.accepted)
   where
     -- room was made
     pub room_sends : (result : Result ℕ PmdFault) → MakesRoom vacant None old r made there
@@ -49,6 +50,11 @@ module _ (vacant : ℕ) (given left : List Packet) (old made new : List Call) (r
       failed = None;
       room = room;
       sends = sends;
+      gone = sends.gone;
+      waiting = sends.waiting;
+      given_are = sends.given_are;
+      accepted = sends.accepts.accepted ∙ ap (λ (l : List Kept). l ++ map accepted_of sends.gone) accepted;
+      count = sends.count;
       fails = err_later result (λ f fails. refused_first f s left sends.gone sends.met sends.stops fails) sends.fails;
       finds = err_later result
           (λ f amid. finds_amid f (is_own r.arena) old new (halves_of r)
@@ -78,6 +84,11 @@ module _ (vacant : ℕ) (given left : List Packet) (old made new : List Call) (r
       failed = Some f;
       room = room;
       sends = (refl, refl, refl, refl);
+      gone = [];
+      waiting = given;
+      given_are = refl;
+      accepted = accepted ∙ sym (append-nil r.transmit.accepted);
+      count = tt;
       fails = inl late;
       finds = finds;
       settled = tt;

@@ -183,6 +183,12 @@ pub record IsSendBurst (vacant : ℕ) (given left : List Packet) (result : Resul
   pub failed : Option PmdFault
   pub room : MakesRoom vacant failed old r made there
   pub sends : SendsWith failed given left result made there new s
+  -- the first packets were accepted, as the last that were, and as many as it tells
+  pub gone : List Packet
+  pub waiting : List Packet
+  pub given_are : given ≡ gone ++ waiting
+  pub accepted : s.transmit.accepted ≡ r.transmit.accepted ++ map accepted_of gone
+  pub count : IfOk result (λ n. n ≡ length gone)
   -- a fault is what the first of those that are left meets before any event, or came amid events
   pub fails : IfErr result (λ f. IsLate f ⊎ IsRefusedFirst f s left)
   -- where the device is at fault, both halves were driven on up to a last call whose reply no healthy queue gives

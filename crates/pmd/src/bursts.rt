@@ -59,6 +59,7 @@ impl Running {
     fn make_room<N: Nic>(&mut self, alloc: Global, nic: &mut N, vacant: u16) -> Result<(), PmdFault>
         ensures drives { DrivesRings (N.made nic.old) self.old (N.made nic.new) self.new }
         ensures room { MakesRoom vacant (fault_of result) (N.made nic.old) self.old (N.made nic.new) self.new }
+        ensures accepted { self.new.transmit.accepted ≡ self.old.transmit.accepted }
         ensures late { IfErr result (λ f. IsLate f) }
         ensures finds { IfErr result (λ f.
             FindsBy f (is_own self.old.arena) (N.made nic.old) (halves_of self.old) (N.made nic.new)) }

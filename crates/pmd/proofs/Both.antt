@@ -5,7 +5,6 @@ use Rattle.nic_device.specs.DmaArena.Whereabouts.{times_in_hand}
 use Rattle.nic_device.proofs.DmaArena.Arenas.{is_own-of_free}
 use Rattle.pmd_rx.specs.DeviceLock.Alone.{Blocks}
 use Rattle.pmd_rx.specs.DeviceLock.declared.entry.Call.{Call}
-use Rattle.pmd_rx.specs.PmdSeam.Bufs.{numbers_of}
 use Rattle.pmd_rx.specs.PmdSeam.Home.{AreOut}
 use Rattle.pmd_rx.specs.PmdSeam.Slots.{ring_blocks}
 use Rattle.pmd_rx.proofs.PmdSeam.Outside.{times-cons, times-append, out_fewer, out_first, out_free}
@@ -37,7 +36,7 @@ free_may q up n free =
 away_received : (v : Receive) (n : ℕ) → times_in_hand (blocks_out v) n ≡ 0 → receiving.has_lent v n ≡ false
 away_received v n none =
     times_among (receiving.lent_of v) n
-    (omega (arith, none, times-append (receiving.lent_of v) (numbers_of v.held.bufs) n))
+    (omega (arith, none, times-append (receiving.lent_of v) (receiving.blocks_held v) n))
 
 -- blocks that are out beside those of the receive half
 pub beside_may : (q : Running) (ns others : List ℕ) → AreOut q.arena (ns ++ others)

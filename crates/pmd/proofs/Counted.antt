@@ -10,7 +10,7 @@ use Rattle.pmd_rx.specs.PmdSeam.Home.{AreOut}
 use Rattle.pmd_rx.specs.PmdSeam.declared.packet.Packet.{Packet}
 use Rattle.pmd_rx.proofs.PmdSeam.Outside.{times-append}
 use Rattle.pmd_rx.proofs.PmdSeam.Outside.{all_drawn as drawn_out}
-use Rattle.pmd_rx.specs.Keeping.{Keeps, blocks_out, lent_of, numbers_in}
+use Rattle.pmd_rx.specs.Keeping.{Keeps, blocks_held, blocks_out, lent_of, numbers_in}
 use Rattle.pmd_tx.specs.Leaving as transmit
 use Rattle.pmd_tx.specs.Sending.{Sender}
 use Rattle.pmd_tx.specs.Sends.{are_out}
@@ -28,7 +28,7 @@ pub up_out : (r : Running) (n : ℕ)
     → times_in_hand (all_out (halted_of (Up r))) n ≡ times_in_hand (rings_out r) n
 up_out r n =
     let lent : List ℕ = lent_of r.receive in
-    let held : List ℕ = numbers_of r.receive.held.bufs in
+    let held : List ℕ = blocks_held r.receive in
     let sent : List ℕ = transmit.lent_of r.transmit in
     let waiting : List ℕ = transmit.waiting_of r.transmit in
     omega (

@@ -1,5 +1,5 @@
 -- A driver as a whole, from what its rings are.
-use Rattle.std.proofs.Common.{◌≡◌, Result, Ok, Err, IfErr, sym, subst}
+use Rattle.std.proofs.Common.{◌≡◌, Option, Some, None, Result, Ok, Err, IfErr, IfSome, sym, subst}
 use Rattle.pmd.specs.Halted.{Halted}
 use Rattle.pmd_rx.specs.PmdSeam.Named.{AtPort}
 use Rattle.pmd.specs.Driver.{Driver, IsDown, halted_of}
@@ -22,3 +22,8 @@ stops_as P d e h is same p =
 pub err_later : {T E : Type 0} {P Q : E → Type 0} (r : Result T E) → ((e : E) → P e → Q e) → IfErr r P → IfErr r Q
 err_later (Ok x) step p = tt
 err_later (Err e) step p = step e p
+
+-- and of what there is
+pub some_later : {T : Type 0} {P Q : T → Type 0} (o : Option T) → ((x : T) → P x → Q x) → IfSome o P → IfSome o Q
+some_later None step p = tt
+some_later (Some x) step p = step x p

@@ -53,7 +53,7 @@ real_step : (m : Move) (r : Reply Block) (e : Event Block) → sending.is_health
 real_step Elsewhere r e sick is = cc
 real_step m r e sick is = cc
 
-finds_fault : (own : Blocks) (blocks : List ℕ) (old new : List Call) (h : Halves) → AllMaySend own h.receive blocks
+pub finds_fault : (own : Blocks) (blocks : List ℕ) (old new : List Call) (h : Halves) → AllMaySend own h.receive blocks
     → OutstandingMay own h → Faults blocks old h.transmit new → FindsFault own old h new
 finds_fault own blocks old new h some all f =
     let there : Halves = record h { transmit = f.before } in

@@ -3,7 +3,7 @@ use Rattle.std.proofs.Common.{◌≡◌, ℕ, ◌+◌, ◌<◌, ◌||◌, nat_lt
 use Rattle.std.proofs.lemmas.Bool.Decides.{nat_tests}
 use Rattle.nic_device.specs.DmaArena.Numbers.{Numbers, is_own, is_free}
 use Rattle.nic_device.specs.DmaArena.Whereabouts.{times_in_hand}
-use Rattle.pmd_rx.specs.PmdSeam.Bufs.{numbers_of, with_all_free}
+use Rattle.pmd_rx.specs.PmdSeam.Bufs.{with_all_free}
 use Rattle.pmd_rx.specs.PmdSeam.Home.{AreOut}
 use Rattle.pmd_rx.specs.PmdSeam.Packet.{Kept}
 use Rattle.pmd_rx.proofs.PmdSeam.Outside.{times-append, out_fewer}
@@ -34,10 +34,10 @@ module _ (a : Numbers) (small : length a.free < 4294967296) (lent held : List �
 
 -- of a receive ring and others
 pub ring_out : (a : Numbers) (v : Receive) (others : List ℕ) → AreOut a (receive.blocks_out v ++ others)
-    → AreOut a ((receive.lent_of v ++ others) ++ (numbers_of v.held.bufs ++ []))
+    → AreOut a ((receive.lent_of v ++ others) ++ (receive.blocks_held v ++ []))
 ring_out a v others out =
     let lent : List ℕ = receive.lent_of v in
-    let held : List ℕ = numbers_of v.held.bufs in
+    let held : List ℕ = receive.blocks_held v in
     out_fewer a ((lent ++ held) ++ others) ((lent ++ others) ++ (held ++ [])) out
     (λ k. omega (
       arith,
@@ -50,10 +50,10 @@ ring_out a v others out =
 
 -- of both rings
 pub rings_out : (a : Numbers) (v : Receive) (w : Sender) → AreOut a (receive.blocks_out v ++ kept_out w)
-    → AreOut a ((receive.lent_of v ++ transmit.lent_of w) ++ (numbers_of v.held.bufs ++ transmit.waiting_of w))
+    → AreOut a ((receive.lent_of v ++ transmit.lent_of w) ++ (receive.blocks_held v ++ transmit.waiting_of w))
 rings_out a v w out =
     let lent : List ℕ = receive.lent_of v in
-    let held : List ℕ = numbers_of v.held.bufs in
+    let held : List ℕ = receive.blocks_held v in
     let sent : List ℕ = transmit.lent_of w in
     let waiting : List ℕ = transmit.waiting_of w in
     out_fewer a ((lent ++ held) ++ kept_out w) ((lent ++ sent) ++ (held ++ waiting)) out

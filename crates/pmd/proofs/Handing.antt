@@ -17,7 +17,7 @@ use Rattle.pmd.proofs.Several.{away_part, none_by, out_are, out_away}
 unseen : (t : ℕ) → t ≡ 0 → nat_lt 0 t ≡ false
 unseen t is = rw is refl
 
-goes : (r : Running) (p : Packet) → AreOut r.arena (numbers_of p.bufs ++ rings_out r) → goes_back r p ≡ true
+pub goes : (r : Running) (p : Packet) → AreOut r.arena (numbers_of p.bufs ++ rings_out r) → goes_back r p ≡ true
 goes r p out =
     let ns : List ℕ = numbers_of p.bufs in
     let away = out_away r.arena ns (rings_out r) out in

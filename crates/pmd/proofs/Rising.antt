@@ -3,14 +3,13 @@ use Rattle.std.proofs.Common.{ℕ, List, [], ◌∷◌, ◌++◌, refl, sym, sub
 use Rattle.nic_device.specs.DmaArena.Numbers.{Numbers}
 use Rattle.nic_device.specs.DmaRing.declared.dir.Dir.TheVariants.{Tx}
 use Rattle.pmd_rx.specs.DeviceLock.declared.entry.Call.{Call}
-use Rattle.pmd_rx.specs.PmdSeam.Bufs.{numbers_of}
 use Rattle.pmd_rx.specs.PmdSeam.Home.{IsDrawn}
 use Rattle.pmd_rx.specs.PmdSeam.Slots.{ring_blocks}
 use Rattle.pmd_rx.specs.PmdSeam.declared.fault.PmdFault.{PmdFault}
 use Rattle.pmd_rx.proofs.PmdSeam.Outside.{times-append}
 use Rattle.pmd.specs.Halted.{Halted, with_rings, with_receive_ring, with_blocks}
 use Rattle.pmd_rx.specs.PmdSeam.Named.{AtPort}
-use Rattle.pmd_rx.specs.Keeping.{Keeps, blocks_out, lent_of}
+use Rattle.pmd_rx.specs.Keeping.{Keeps, blocks_held, blocks_out, lent_of}
 use Rattle.pmd_rx.specs.Receive.{Receive}
 use Rattle.pmd_tx.specs.Leaving as transmit
 use Rattle.pmd_tx.specs.Sending.{Sender}
@@ -66,7 +65,7 @@ one_ring : (a b : Numbers) (v : Receive) (out : List ℕ) → KeepsEach a [] b (
     → HasAll a (with_receive_ring b v out) []
 one_ring a b v out keeps =
     let lent : List ℕ = lent_of v in
-    let held : List ℕ = numbers_of v.held.bufs in
+    let held : List ℕ = blocks_held v in
     keeps_counted a b [] ((lent ++ held) ++ out) (((lent ++ out) ++ (held ++ [])) ++ [])
     (λ n. omega (
       arith,
@@ -92,7 +91,7 @@ pub both_rings : (a b : Numbers) (v : Receive) (s : Sender) (hand : List ℕ)
     → KeepsEach a [] b ((blocks_out v ++ kept_out s) ++ hand) → HasAll a (with_rings b v s) hand
 both_rings a b v s hand keeps =
     let lent : List ℕ = lent_of v in
-    let held : List ℕ = numbers_of v.held.bufs in
+    let held : List ℕ = blocks_held v in
     let sent : List ℕ = transmit.lent_of s in
     let waiting : List ℕ = transmit.waiting_of s in
     keeps_counted a b [] (((lent ++ held) ++ kept_out s) ++ hand) (((lent ++ sent) ++ (held ++ waiting)) ++ hand)

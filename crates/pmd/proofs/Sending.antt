@@ -173,7 +173,7 @@ by_open F bad full wide foreign false false is_full first second last f = absurd
 
 -- where no packet comes back, the way was open
 
-back_none : (p : Packet) (o : Option Packet) → o ≡ Some p → o ≡ None → ⊥
+pub back_none : (p : Packet) (o : Option Packet) → o ≡ Some p → o ≡ None → ⊥
 back_none p o is none = let e : Some p ≡ None = sym is ∙ none in cc
 
 pub open_way : (v : Sender) (a : Numbers) (elsewhere : Bool) (p : Packet) (x : Result TxAnswer TxFault)

@@ -20,7 +20,7 @@ use Rattle.pmd.proofs.Sending.{way_out}
 -- a packet's way is shut, or its blocks go back
 
 module _ (q : Running) (p : Packet) (up : IsUp q) where
-  abbrev Way : Type 0
+  abbrev pub Way : Type 0
   Way = IsShut (gate_of q.transmit q.arena (receives q p) p) ⊎ AreOut q.arena (numbers_of p.bufs ++ rings_out q)
 
   by_tests : (bad home : Bool) → is_bad_size q.transmit p ≡ bad
@@ -29,11 +29,11 @@ module _ (q : Running) (p : Packet) (up : IsUp q) where
   by_tests false false b h = inl (rw (b, h) tt)
   by_tests false true b h = inr (way_out q p up h)
 
-  way : Way
+  pub way : Way
   way = by_tests _ _ refl refl
 
   -- its blocks may be lent then
-  sent_may : AreOut q.arena (numbers_of p.bufs ++ rings_out q)
+  pub sent_may : AreOut q.arena (numbers_of p.bufs ++ rings_out q)
       → AllMaySend (is_own q.arena) q.receive (outgoing_of p).blocks
   sent_may goes =
       take_may (is_own q.arena) q.receive (parts_for p.len) (numbers_of p.bufs)

@@ -141,10 +141,13 @@ still_free a ring size b other count drawn apart free k below =
 pub ready_empty : (q : AtPort) (size frame : ℕ) (old : List Call) (a : Numbers) (new : List Call) (b : Numbers)
     (v : Receive) → IsReceiveReady q size frame old a new b v
     → (v.layout.blocks ≡ []) × (v.stage ≡ Looks) × (v.layout.size ≡ size) × (v.seen ≡ []) × (v.held ≡ no_packet)
+    × (v.whole ≡ []) × (v.named ≡ [])
 ready_empty q size frame old a new b v ready = (
   ap (λ (x : Receive). x.layout.blocks) ready.fresh,
   ap (λ (x : Receive). x.stage) ready.fresh,
   ap (λ (x : Receive). x.layout.size) ready.fresh,
   ap (λ (x : Receive). x.seen) ready.fresh,
   ap (λ (x : Receive). x.held) ready.fresh,
+  ap (λ (x : Receive). x.whole) ready.fresh,
+  ap (λ (x : Receive). x.named) ready.fresh,
 )

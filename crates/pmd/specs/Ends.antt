@@ -1,6 +1,5 @@
 -- The two halves of a driver that isn't running: a ring, or its blocks on their way home with its records.
 use Rattle.std.specs.Prelude.{ℕ, List, [], ◌++◌}
-use Rattle.pmd_rx.specs.PmdSeam.Bufs.{numbers_of}
 use Rattle.pmd_rx.specs.PmdSeam.Home.{Homebound}
 use Rattle.pmd_rx.specs.PmdSeam.Packet.{Kept}
 use Rattle.pmd_rx.specs.Keeping as receive
@@ -18,7 +17,7 @@ received_way (received.Leaves way records) = way
 
 -- the blocks that it has in hand
 abbrev pub held_of : Receiving → List ℕ
-held_of (received.Ring v) = numbers_of v.held.bufs
+held_of (received.Ring v) = receive.blocks_held v
 held_of (received.Leaves way records) = []
 
 abbrev pub handed_of : Receiving → List Kept

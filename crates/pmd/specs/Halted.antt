@@ -56,7 +56,7 @@ way_of lent = record { lent = lent; lost = 0 }
 abbrev pub with_rings : Numbers → Receive → Sender → Halted
 with_rings a v w = record {
   arena = a;
-  held = numbers_of v.held.bufs ++ transmit.waiting_of w;
+  held = receive.blocks_held v ++ transmit.waiting_of w;
   way = both_ways (way_of (receive.lent_of v)) (way_of (transmit.lent_of w));
   handed = v.handed;
   accepted = w.accepted;
@@ -66,7 +66,7 @@ with_rings a v w = record {
 abbrev pub with_receive_ring : Numbers → Receive → List ℕ → Halted
 with_receive_ring a v out = record {
   arena = a;
-  held = numbers_of v.held.bufs ++ [];
+  held = receive.blocks_held v ++ [];
   way = both_ways (way_of (receive.lent_of v)) (way_of out);
   handed = v.handed;
   accepted = [];

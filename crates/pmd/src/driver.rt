@@ -1,15 +1,17 @@
 //! A driver of one queue.
 
-ghost use Rattle.std.specs.Prelude.{ℕ, ◌≡◌, ◌<◌, ◌⊎◌, ◌++◌, ◌∷◌, ◌↔◌, [], true, Some, Err, IfOk, IfErr, IfSome, IsNone, IsOk, OnOk, OnErr};
+ghost use Rattle.std.specs.Prelude.{ℕ, ◌≡◌, ◌<◌, ◌⊎◌, ◌++◌, ◌∷◌, ◌↔◌, [], true, Some, Err, All, drop, length, IfOk, IfErr, IfSome, IsNone, IsOk, OnOk, OnErr};
 ghost use Rattle.nic_device.specs.DmaArena.Numbers.{free_count, is_own, is_free};
 ghost use Rattle.pmd_rx.specs.PmdSeam.Bufs.{numbers_of, with_all_free};
 ghost use Rattle.pmd_rx.specs.PmdSeam.Fresh.{IsFresh, bufs_for};
 ghost use Rattle.pmd_rx.specs.PmdSeam.Packet.{kept_of};
-ghost use Rattle.pmd_rx.specs.Keeping.{handed_blocks, numbers_in};
+ghost use Rattle.pmd_rx.specs.Keeping.{handed_blocks, numbers_in, numbers_of_all};
+ghost use Rattle.pmd_rx.specs.Receive.{records_of};
 ghost use Rattle.pmd_tx.specs.Sends.{returned};
 ghost use Rattle.pmd.specs.Halted.{Halted, all_out, is_free_or_out};
 ghost use Rattle.pmd.specs.Stopping.{Stops, StopFails};
 ghost use Rattle.pmd.specs.Blocks.{KeepsBlocks};
+ghost use Rattle.pmd.specs.Bursts.{IsReceiveBurst, IsSendBurst};
 ghost use Rattle.pmd.specs.DriverCalls.{IsReceiveCall, IsSendCall, IsReapCall};
 ghost use Rattle.pmd.specs.Life.{KeepsHalves, RunsOn};
 ghost use Rattle.pmd.specs.Driver.{arena_of, handed_of, accepted_of, goes_back_to, with_arena, halted_of, WhereUp, IsDown};
@@ -21,6 +23,7 @@ use crate::running::Running;
 use pmd_rx::{Nic, Packet, PmdFault, Queue, Record};
 use pmd_tx::{Reaped, TxAnswer, TxFault};
 use std::alloc::Global;
+use std::collections::VecDeque;
 use std::marker::Model;
 
 /// The rings of a driver.
@@ -167,6 +170,79 @@ impl Pmd {
     {
         match &mut self.rings {
             Rings::Up(running) => running.reap(alloc, nic),
+            Rings::Down(_) => Err(PmdFault::DeviceFault),
+        }
+    }
+}
+
+impl Pmd {
+    /// The next packets that came in, in order, `most` at most: they are pushed behind those that `packets` has, once
+    /// one move of the tail has posted the blocks that take the places of theirs. Answers how many they are: 0 where
+    /// `most` is 0, or the slot behind those that were seen isn't done.
+    ///
+    /// A fault is answered as by `rx`, and only where no packet comes out: the next call goes on from there. `Call`
+    /// also where there is no memory for the packets. `DeviceFault` without any event where the driver doesn't run.
+    pub fn rx_burst<N: Nic>(
+        &mut self,
+        alloc: Global,
+        nic: &mut N,
+        most: u16,
+        packets: &mut VecDeque<Packet>,
+    ) -> Result<u16, PmdFault>
+        ensures drives { RunsOn (N.made nic.old) self.old.rings (N.made nic.new) self.new.rings }
+        ensures received { WhereUp self.old.rings self.new.rings (λ r s. IsReceiveBurst most packets.old.items
+            packets.new.items result (N.made nic.old) r (N.made nic.new) s) }
+        ensures blocks { KeepsBlocks self.old.rings (numbers_of_all packets.old.items) self.new.rings
+            (numbers_of_all packets.new.items) }
+        ensures home { All (λ p. goes_back_to self.new.rings p ≡ true)
+            (drop (length packets.old.items) packets.new.items) }
+        ensures given { handed_of self.new.rings ≡ handed_of self.old.rings
+            ++ records_of (drop (length packets.old.items) packets.new.items) }
+        ensures down { IsDown self.old.rings → (result ≡ Err PmdFault.DeviceFault)
+            × (packets.new.items ≡ packets.old.items) × (N.made nic.new ≡ N.made nic.old) × (self.new ≡ self.old) }
+        ensures queue { self.new.queue ≡ self.old.queue }
+        ensures who { N.who nic.new ≡ N.who nic.old }
+        ensures refuses { N.refuses nic.new ≡ N.refuses nic.old }
+        ensures refusal { IfErr result (λ f. CanFail (N.refuses nic.new) f) }
+    {
+        match &mut self.rings {
+            Rings::Up(running) => running.rx_burst(alloc, nic, most, packets),
+            Rings::Down(_) => Err(PmdFault::DeviceFault),
+        }
+    }
+
+    /// Sends packets from the front of the list, as many as there is room for, with one move of the tail behind the
+    /// last. Where fewer than `vacant` slots of the ring are vacant, it first frees the blocks of packets that were
+    /// sent, as `reap` does: with 0 it never does, and above 1,023 always. It stops at the first packet that has no
+    /// room, is refused or meets a fault. Answers how many were accepted: these are gone from the list, and the others
+    /// are left there in their order.
+    ///
+    /// Where no packet was accepted, a fault is answered: that of `reap`, or what the first packet meets, as by `tx`.
+    /// One is also answered where the tail couldn't be moved behind those that were accepted, which the list shows: the
+    /// next call goes on with them. `DeviceFault` without any event where the driver doesn't run, and all packets are
+    /// left.
+    pub fn tx_burst<N: Nic>(
+        &mut self,
+        alloc: Global,
+        nic: &mut N,
+        vacant: u16,
+        packets: &mut VecDeque<Packet>,
+    ) -> Result<u16, PmdFault>
+        ensures drives { RunsOn (N.made nic.old) self.old.rings (N.made nic.new) self.new.rings }
+        ensures sent { WhereUp self.old.rings self.new.rings (λ r s. IsSendBurst vacant packets.old.items
+            packets.new.items result (N.made nic.old) r (N.made nic.new) s) }
+        ensures blocks { KeepsBlocks self.old.rings (numbers_of_all packets.old.items) self.new.rings
+            (numbers_of_all packets.new.items) }
+        ensures handed { handed_of self.new.rings ≡ handed_of self.old.rings }
+        ensures down { IsDown self.old.rings → (result ≡ Err PmdFault.DeviceFault)
+            × (packets.new.items ≡ packets.old.items) × (N.made nic.new ≡ N.made nic.old) × (self.new ≡ self.old) }
+        ensures queue { self.new.queue ≡ self.old.queue }
+        ensures who { N.who nic.new ≡ N.who nic.old }
+        ensures refuses { N.refuses nic.new ≡ N.refuses nic.old }
+        ensures refusal { IfErr result (λ f. CanFail (N.refuses nic.new) f) }
+    {
+        match &mut self.rings {
+            Rings::Up(running) => running.tx_burst(alloc, nic, vacant, packets),
             Rings::Down(_) => Err(PmdFault::DeviceFault),
         }
     }

@@ -221,6 +221,7 @@ pub(crate) fn go_on<N: Nic>(
     requires empty { receive.old.layout.blocks ≡ [] }
     requires stage { receive.old.stage ≡ Looks }
     requires unseen { (receive.old.seen ≡ []) × (receive.old.held ≡ no_packet) }
+    requires idle { (receive.old.whole ≡ []) × (receive.old.named ≡ []) }
     requires home { AreOut arena.old (blocks_out receive.old) }
     requires enough { receive.old.layout.size ≤ free_count arena.old + 1 }
     ensures on { OnOk result

@@ -1,15 +1,16 @@
 //! A driver whose two rings are up.
 
-ghost use Rattle.std.specs.Prelude.{◌≡◌, ◌<◌, ◌⊎◌, ◌↔◌, [], nat_lt, true, IfOk, IfErr, IfSome, IsNone, IsOk, OnOk, OnErr};
+ghost use Rattle.std.specs.Prelude.{◌≡◌, ◌<◌, ◌≤◌, ◌+◌, ◌⊎◌, ◌↔◌, [], ◌∷◌, nat_lt, true, drop, length, All, IfOk, IfErr, IfSome, IfNone, IsNone, IsOk, OnOk, OnErr};
 ghost use Rattle.std.specs.List.{list_any};
-ghost use Rattle.nic_device.specs.DmaArena.Numbers.{free_count};
+ghost use Rattle.nic_device.specs.DmaArena.Numbers.{free_count, is_own};
 ghost use Rattle.nic_device.specs.DmaArena.Whereabouts.{times_in_hand};
 ghost use Rattle.pmd_rx.specs.PmdSeam.Bufs.{numbers_of};
 ghost use Rattle.pmd_rx.specs.PmdSeam.Fresh.{IsFresh, bufs_for};
-ghost use Rattle.pmd_rx.specs.Keeping.{blocks_out, handed_blocks, numbers_in};
-ghost use Rattle.pmd_tx.specs.Sends.{returned};
+ghost use Rattle.pmd_rx.specs.Keeping.{blocks_out, handed_blocks, numbers_in, numbers_of_all};
+ghost use Rattle.pmd_tx.specs.Sends.{returned, IsBack, IsFullWhereTold, IsLate};
 ghost use Rattle.pmd.specs.Apart.{DrivesRings, OwnsSame};
 ghost use Rattle.pmd.specs.Blocks.{KeepsUp};
+ghost use Rattle.pmd.specs.Bursts.{Accepts, FailsAmid, IsKeptOut, IsReceiveBurst, MayAnswer, vacant_in};
 ghost use Rattle.pmd.specs.DriverCalls.{IsReceiveCall, IsSendCall, IsReapCall};
 ghost use Rattle.pmd.specs.Halves.{halves_of};
 ghost use Rattle.pmd.specs.Running.{IsUp, IsReleased, goes_back, receives};
@@ -19,6 +20,7 @@ use nic_device::Arena;
 use pmd_rx::{Bufs, Nic, Packet, PmdFault, ReceiveRing, Record, fresh_packet, give_packet};
 use pmd_tx::{Reaped, TransmitRing, TxAnswer, TxFault, bytes_in};
 use std::alloc::Global;
+use std::collections::VecDeque;
 use std::marker::Model;
 
 /// A driver whose two rings are up: the arena of its blocks, and the rings.
@@ -100,6 +102,34 @@ impl Running {
         self.receive.receive(alloc, nic, &mut self.arena)
     }
 
+    /// The next packets that came in, in order, `most` at most: they are pushed behind those that `packets` has, once
+    /// one move of the tail has posted the blocks that take the places of theirs. Answers how many they are: 0 where
+    /// `most` is 0, or the slot behind those that were seen isn't done.
+    ///
+    /// A fault is answered as by `rx`, and only where no packet comes out: the next call goes on from there. `Call`
+    /// also where there is no memory for the packets.
+    pub fn rx_burst<N: Nic>(
+        &mut self,
+        alloc: Global,
+        nic: &mut N,
+        most: u16,
+        packets: &mut VecDeque<Packet>,
+    ) -> Result<u16, PmdFault>
+        ensures drives { DrivesRings (N.made nic.old) self.old (N.made nic.new) self.new }
+        ensures received { IsReceiveBurst most packets.old.items packets.new.items result (N.made nic.old) self.old
+            (N.made nic.new) self.new }
+        ensures home { All (λ p. goes_back self.new p ≡ true)
+            (drop (length packets.old.items) packets.new.items) }
+        ensures blocks { KeepsUp self.old (numbers_of_all packets.old.items) self.new
+            (numbers_of_all packets.new.items) }
+        ensures who { N.who nic.new ≡ N.who nic.old }
+        ensures refuses { N.refuses nic.new ≡ N.refuses nic.old }
+        ensures refusal { IfErr result (λ f. CanFail (N.refuses nic.new) f) }
+    {
+        self.receive
+            .receive_burst(alloc, nic, &mut self.arena, most, packets)
+    }
+
     /// Sends a packet, which is padded with zero bytes to 60: one descriptor for each Buf that holds bytes of it.
     ///
     /// Before any event: `BadSize` where its length is 0, above the frame limit less 4, or above what its Bufs hold,
@@ -140,6 +170,66 @@ impl Running {
         ensures refusal { IfErr result (λ f. CanFail (N.refuses nic.new) f) }
     {
         self.transmit.reap(alloc, nic, &mut self.arena)
+    }
+}
+
+impl Running {
+    /// How many more segments have room in the transmit ring, 0 to 1,023.
+    pub(crate) fn vacant(&self) -> u16
+        ensures vacant { result ≡ vacant_in self.now.transmit }
+        ensures few { result < 1024 }
+    {
+        self.transmit.vacant()
+    }
+
+    /// As `tx`, but it leaves the tail where it is, for a `flush` that moves it behind several packets.
+    pub(crate) fn queue_packet<N: Nic>(
+        &mut self,
+        alloc: Global,
+        nic: &mut N,
+        packet: Packet,
+    ) -> Result<TxAnswer, TxFault>
+        ensures drives { DrivesRings (N.made nic.old) self.old (N.made nic.new) self.new }
+        ensures answer { MayAnswer self.old packet result }
+        ensures full { IsFullWhereTold self.old.transmit packet result }
+        ensures shut { IsKeptOut self.old packet → (N.made nic.new ≡ N.made nic.old) × (self.new ≡ self.old) }
+        ensures accepted { IfNone (returned result) (Accepts (packet ∷ []) self.old self.new) }
+        ensures kept { IfSome (returned result) (λ back. Accepts [] self.old self.new) }
+        ensures back { IfErr result (λ failed. IfSome failed.packet (λ back. IsBack failed.fault packet back)) }
+        ensures tail { self.new.transmit.posted ≡ self.old.transmit.posted }
+        ensures slots { IfNone (returned result)
+            (1 + vacant_in self.new.transmit ≤ vacant_in self.old.transmit) }
+        ensures blocks { KeepsUp self.old (numbers_of packet.bufs) self.new (numbers_in (returned result)) }
+        ensures amid { IfErr result (λ failed.
+            FailsAmid failed.fault (is_own self.old.arena) (N.made nic.old) (halves_of self.old) (N.made nic.new)) }
+        ensures who { N.who nic.new ≡ N.who nic.old }
+        ensures refuses { N.refuses nic.new ≡ N.refuses nic.old }
+        ensures refusal { IfErr result (λ failed. CanFail (N.refuses nic.new) failed.fault) }
+    {
+        let _whole = bytes_in(&packet.bufs);
+        let elsewhere = self.receives(&packet.bufs);
+        self.transmit
+            .queue(alloc, nic, &mut self.arena, elsewhere, packet)
+    }
+
+    /// Moves the tail behind the packets that were accepted, where it isn't there, and goes on with the last one before
+    /// that, where a part of it waits.
+    ///
+    /// `DeviceFault` where the device answers what it can't on a healthy queue, and `Call` where a call was refused:
+    /// the next call goes on.
+    pub(crate) fn flush<N: Nic>(&mut self, alloc: Global, nic: &mut N) -> Result<(), PmdFault>
+        ensures drives { DrivesRings (N.made nic.old) self.old (N.made nic.new) self.new }
+        ensures kept { Accepts [] self.old self.new }
+        ensures settled { OnOk result (self.new.transmit.posted ≡ length self.new.transmit.outstanding) }
+        ensures blocks { KeepsUp self.old [] self.new [] }
+        ensures late { IfErr result (λ f. IsLate f) }
+        ensures amid { IfErr result (λ f.
+            FailsAmid f (is_own self.old.arena) (N.made nic.old) (halves_of self.old) (N.made nic.new)) }
+        ensures who { N.who nic.new ≡ N.who nic.old }
+        ensures refuses { N.refuses nic.new ≡ N.refuses nic.old }
+        ensures refusal { IfErr result (λ f. CanFail (N.refuses nic.new) f) }
+    {
+        self.transmit.flush(alloc, nic)
     }
 }
 

@@ -1,5 +1,5 @@
 -- What a ring that is filled lends was free before it was begun.
-use Rattle.std.proofs.Common.{◌≡◌, ◌≢◌, ℕ, ◌⊎◌, inl, inr, true, false, List, [], ◌∷◌, sym, subst}
+use Rattle.std.proofs.Common.{◌≡◌, ◌≢◌, ℕ, ◌⊎◌, inl, inr, true, false, List, [], ◌∷◌, Result, Ok, Err, IfErr, sym, subst}
 use Rattle.std.proofs.lemmas.Bool.{cases_eq}
 use Rattle.nic_device.specs.DmaArena.Numbers.{Numbers, is_free, with_free}
 use Rattle.nic_device.proofs.DmaArena.Arenas.{is_own-of_free, is_free-with_free_other}
@@ -50,3 +50,9 @@ fails_then f a b d old mid new v w x plays keeps is =
     fails_of f old new a d v x
     (fault_after f a old mid new v w x plays
     (fault_in f a b mid new w x (free_before a keeps.arena.0 b keeps.arena.1) is))
+
+pub all_fail_then : {A : Type 0} (r : Result A PmdFault) (a b d : Numbers) (old mid new : List Call) (v w x : Receive)
+    → PlaysFrom a old v mid w → Keeps a v b w [] → IfErr r (λ f. IsFault f b mid w new x)
+    → IfErr r (λ f. FailsBy f old a v new d x)
+all_fail_then (Ok o) a b d old mid new v w x plays keeps is = tt
+all_fail_then (Err f) a b d old mid new v w x plays keeps is = fails_then f a b d old mid new v w x plays keeps is

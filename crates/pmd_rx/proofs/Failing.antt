@@ -54,6 +54,8 @@ fails_after fault.NoBuffer old mid new a b v w x plays l is = record {
   layout = is.layout ∙ ap (λ (y : Receive). y.layout) l;
   handed = is.handed ∙ ap (λ (y : Receive). y.handed) l;
   held = is.held ∙ ap (λ (y : Receive). y.held) l;
+  whole = is.whole ∙ ap (λ (y : Receive). y.whole) l;
+  named = is.named ∙ ap (λ (y : Receive). y.named) l;
 }
 fails_after fault.DeviceFault old mid new a b v w x plays l is = wrong_after a old mid new v w x plays is
 fails_after (fault.Call refusal) old mid new a b v w x plays l is = is

@@ -37,7 +37,8 @@ posts_more count a b d v w x posts (block, free, taken, is) = record {
   blocks = posts.blocks ++ block ∷ [];
   drawn = drawn_next a posts.blocks b block d posts.drawn free taken;
   many = omega (arith, posts.many, length_push posts.blocks block);
-  left = is ∙ ap (λ (y : Receive). let z : Receive = record y { layout = extended y.layout block } in z) posts.left
+  left = is
+      ∙ ap (λ (y : Receive). let z : Receive = record y { layout = extended y.layout (block ∷ []) } in z) posts.left
       ∙ ap (λ (xs : List ℕ). let z : Receive = record v { layout = record v.layout { blocks = xs } } in z)
       (append_assoc v.layout.blocks posts.blocks (block ∷ []));
 }
@@ -52,6 +53,11 @@ pub posts_none_seen : (count : ℕ) (a b : Numbers) (v w : Receive) → PostsSom
     → (v.seen ≡ []) × (v.held ≡ no_packet) → (w.seen ≡ []) × (w.held ≡ no_packet)
 posts_none_seen count a b v w posts none =
     (ap (λ (y : Receive). y.seen) posts.left ∙ none.0, ap (λ (y : Receive). y.held) posts.left ∙ none.1)
+
+pub posts_idle : (count : ℕ) (a b : Numbers) (v w : Receive) → PostsSome count a v b w
+    → (v.whole ≡ []) × (v.named ≡ []) → (w.whole ≡ []) × (w.named ≡ [])
+posts_idle count a b v w posts idle =
+    (ap (λ (y : Receive). y.whole) posts.left ∙ idle.0, ap (λ (y : Receive). y.named) posts.left ∙ idle.1)
 
 pub posts_handed : (count : ℕ) (a b : Numbers) (v w : Receive) → PostsSome count a v b w → w.handed ≡ v.handed
 posts_handed count a b v w posts = ap (λ (y : Receive). y.handed) posts.left
@@ -71,17 +77,21 @@ posts_room count a b v w posts empty few =
     omega (arith, few, posts_length count a b v w posts empty, posts_size count a b v w posts)
 
 pub filled_runs : (count : ℕ) (a b : Numbers) (v w : Receive) → PostsSome count a v b w → v.layout.blocks ≡ []
-    → v.stage ≡ Looks → v.seen ≡ [] → 0 < v.layout.most → v.layout.most < v.layout.size → count + 1 ≡ v.layout.size
-    → IsRunning w
-filled_runs count a b v w posts empty looks none part some all =
+    → v.stage ≡ Looks → (v.seen ≡ []) × (v.held ≡ no_packet) → (v.whole ≡ []) × (v.named ≡ []) → 0 < v.layout.most
+    → v.layout.most < v.layout.size → count + 1 ≡ v.layout.size → IsRunning w
+filled_runs count a b v w posts empty looks none idle part some all =
     let size = posts_size count a b v w posts in
     let most = ap (λ (y : Receive). y.layout.most) posts.left in
-    let seen : length w.seen ≡ 0 = ap (λ (y : Receive). length y.seen) posts.left ∙ ap length none in
+    let seen : length w.seen ≡ 0 = ap (λ (y : Receive). length y.seen) posts.left ∙ ap length none.0 in
+    let same = posts_idle count a b v w posts idle in
+    let holds = (posts_none_seen count a b v w posts none).1 in
+    let named : length w.named ≡ 0 = ap (λ (ns : List ℕ). length ns) same.1 in
     let here : w.stage ≡ Looks = posts_stage count a b v w posts looks in
     record {
       part = omega (arith, most, part);
       some = omega (arith, some, size, most);
-      full = rw here (omega (arith, all, size, posts_length count a b v w posts empty));
+      full = rw here (omega (arith, all, size, posts_length count a b v w posts empty, named));
+      replaced = rw (here, same.0, same.1, holds) refl;
       stage = rw here (omega (arith, seen, most, part));
     }
 

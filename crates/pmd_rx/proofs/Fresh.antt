@@ -8,10 +8,10 @@ use Rattle.nic_device.proofs.DmaArena.Cuts.{given_back}
 use Rattle.nic_device.specs.DmaArena.Whereabouts.{times_in_hand}
 use Rattle.pmd_seam.specs.Home.{AreOut}
 use Rattle.pmd_seam.specs.Slots.{ring_blocks, is_ring_block}
-use Rattle.pmd_seam.proofs.Outside.{times_at, out_free}
+use Rattle.pmd_seam.proofs.Outside.{times_at, times-append, out_free}
 use Rattle.pmd_seam.proofs.Rings.{ring_block_times}
 use Rattle.pmd_rx.specs.Keeping.{blocks_out}
-use Rattle.pmd_rx.specs.Receive.{Receive, MayLend}
+use Rattle.pmd_rx.specs.Receive.{Receive, MayLend, reach}
 use Rattle.pmd_rx.proofs.Keeping.{times_out}
 
 -- a block that isn't out is none of those that are
@@ -28,12 +28,13 @@ not_among ring size n none = elim (cases_Bool (is_ring_block ring size n)) [
 
 -- a free block may be lent
 pub may_lend : (a : Numbers) (v : Receive) (b : Block) → is_free a b.number ≡ true → AreOut a (blocks_out v)
-    → b.number < 65536 → length v.layout.blocks + 1 < v.layout.size → length b.bytes ≡ 2048 → MayLend v.layout b
+    → b.number < 65536 → length (reach v).blocks + 1 < v.layout.size → length b.bytes ≡ 2048 → MayLend (reach v) b
 may_lend a v b free out low room whole =
-    let l = v.layout in
+    let l = reach v in
     let none : times_in_hand (blocks_out v) b.number ≡ 0 = out_free a (blocks_out v) b.number out free in
     let parts = times_out v b.number in
-    let slots : times_in_hand l.blocks b.number ≡ 0 = omega (arith, none, parts) in
+    let slots : times_in_hand l.blocks b.number ≡ 0 =
+    omega (arith, none, parts, times-append v.layout.blocks v.named b.number) in
     let ring : times_in_hand (ring_blocks l.ring l.size) b.number ≡ 0 = omega (arith, none, parts) in
     record {
       low = low;

@@ -1,88 +1,184 @@
--- What the calls of a driver hand out.
-use Rattle.std.proofs.Common.{◌≡◌, ℕ, ◌+◌, ◌<◌, ◌≤◌, true, false, List, [], ◌∷◌, ◌++◌, length, Option, Some, None, Result, Ok, Err, IfOk, OnOk, OnErr, refl, sym, ap, subst, ◌∙◌, arith}
-use Rattle.std.specs.Prelude.{IfSome}
+-- What the steps of a refill lead to: a packet that waits becomes whole.
+use Rattle.std.proofs.Common.{◌≡◌, ℕ, ◌+◌, ◌<◌, ◌≤◌, true, false, List, [], ◌∷◌, ◌++◌, length, Result, Ok, Err, OnOk, OnErr, refl, sym, ap, subst, ◌∙◌, arith}
+use Rattle.std.proofs.lemmas.List.{append-nil, length-append, length_push}
 use Rattle.nic_device.specs.DmaArena.Block.{Block}
 use Rattle.nic_device.specs.DmaArena.Numbers.{Numbers, free_count, is_free, with_free}
-use Rattle.pmd_seam.specs.Packet.{kept_of}
+use Rattle.nic_device.proofs.DmaArena.Arenas.{free_count_taken}
 use Rattle.pmd_seam.specs.declared.packet.Packet.{Packet}
-use Rattle.pmd_rx.specs.Keeping.{IsRunning, vacated}
-use Rattle.pmd_rx.specs.Receive.{Receive, moved, refilled, out_of, if_any, listed, next_stage, fresh_of, named, lent_one}
-use Rattle.pmd_rx.specs.Wrong.{wanted}
+use Rattle.pmd_rx.specs.Keeping.{IsRunning, IsAmid, vacated}
+use Rattle.pmd_rx.specs.Receive.{Receive, reach, names, lent_one, ended_of, if_any, next_stage, HasLent}
+use Rattle.pmd_rx.specs.Shown.{IsOneLess, OneMore, WaitsStill, refilled, rounds}
+use Rattle.pmd_rx.specs.Wrong.{PacketWaits, wanted, owed}
 use Rattle.pmd_rx.specs.declared.ring.Stage.{Stage}
-use Rattle.pmd_rx.specs.declared.ring.Stage.TheVariants.{Takes, Owes}
+use Rattle.pmd_rx.specs.declared.ring.Stage.TheVariants.{Looks, Takes, Owes, Lent}
 use Rattle.pmd_rx.specs.declared.ring.Told.{Told}
 
--- a packet is handed out where one is held and no part of it is left, and nothing where a part is left
+-- a fresh block is lent and named
 
-out_any : (bs : List Block) (p : Packet) → 0 < length bs → if_any bs p ≡ Some p
-out_any [] p some = absurd (omega (arith, some))
-out_any (b ∷ bs) p some = refl
-
--- what moving the tail hands out, where a part is held
-
-pub out_kept : {E : Type 0} (r : Result (Option Packet) E) (v w x : Receive) → w.handed ≡ v.handed
-    → IfOk r (λ out. out ≡ out_of w.seen w.held) → OnOk r (x.handed ≡ w.handed ++ listed (out_of w.seen w.held))
-    → IfOk r (λ out. IfSome out (λ p. x.handed ≡ v.handed ++ kept_of p ∷ []))
-out_kept (Ok None) v w x same out on = tt
-out_kept (Ok (Some p)) v w x same out on =
-    on ∙ ap (λ (o : Option Packet). w.handed ++ listed o) (sym out)
-    ∙ ap (λ (h : List _). h ++ kept_of p ∷ []) same
-out_kept (Err e) v w x same out on = tt
-
-some_seen : (seen : List Told) (p : Packet) → 0 < length p.bufs → None ≡ out_of seen p → 0 < length seen
-some_seen [] p held out = let e = out_any p.bufs p held in cc
-some_seen (t ∷ seen) p held out = omega arith
-
-next_takes : (seen : List Told) → 0 < length seen → next_stage seen ≡ Takes
-next_takes [] some = absurd (omega (arith, some))
-next_takes (t ∷ seen) some = refl
-
-moved_handed : (w : Receive) → 0 < length w.seen → (moved w).handed ≡ w.handed ++ listed (out_of w.seen w.held)
-moved_handed w some = refl
-
-none_out : (seen : List Told) (p : Packet) → None ≡ out_of seen p → listed (out_of seen p) ≡ []
-none_out seen p out = ap listed (sym out)
-
--- a whole refill
-
-pub named_moved : {A E : Type 0} (r : Result A E) (v w x : Receive) → w ≡ named v → OnOk r (x ≡ moved w)
-    → OnOk r (x ≡ refilled v (fresh_of v.stage))
-named_moved (Ok o) v w x is then = then ∙ ap moved is
-named_moved (Err e) v w x is then = tt
-
-pub named_out : {E : Type 0} (r : Result (Option Packet) E) (v w : Receive) → w ≡ named v
-    → IfOk r (λ out. out ≡ out_of w.seen w.held) → IfOk r (λ out. out ≡ out_of v.seen v.held)
-named_out (Ok o) v w is out = out ∙ ap (λ (y : Receive). out_of y.seen y.held) is
-named_out (Err e) v w is out = tt
-
-pub lent_moved : {A E : Type 0} (r : Result A E) (a b : Numbers) (v w x : Receive) (n : ℕ)
-    → is_free a n ≡ true → b ≡ with_free a n false → w ≡ lent_one v n → OnOk r (x ≡ refilled w (fresh_of w.stage))
+pub lent_named : {E : Type 0} (r : Result Unit E) (a b : Numbers) (v w x : Receive) (n : ℕ)
+    → is_free a n ≡ true → b ≡ with_free a n false → w ≡ lent_one v n → OnOk r (x ≡ names w)
     → OnOk r ((m : ℕ) × (is_free a m ≡ true) × (b ≡ with_free a m false) × (x ≡ refilled v m))
-lent_moved (Ok o) a b v w x n free taken is then = (
-  n,
-  free,
-  taken,
-  then ∙ ap (λ (y : Receive). refilled y (fresh_of y.stage)) is,
-)
-lent_moved (Err e) a b v w x n free taken is then = tt
+lent_named (Ok o) a b v w x n free taken is then = (n, free, taken, then ∙ ap (λ (y : Receive). names y) is)
+lent_named (Err e) a b v w x n free taken is then = tt
 
-pub lent_out : {E : Type 0} (r : Result (Option Packet) E) (v w : Receive) (n : ℕ) → w ≡ lent_one v n
-    → IfOk r (λ out. out ≡ out_of w.seen w.held) → IfOk r (λ out. out ≡ out_of v.seen v.held)
-lent_out (Ok o) v w n is out = out ∙ ap (λ (y : Receive). out_of y.seen y.held) is
-lent_out (Err e) v w n is out = tt
+-- what a name leaves
+pub named_same : {E : Type 0} (r : Result Unit E) (v w : Receive) → OnOk r (w ≡ names v) → OnErr r (w ≡ v)
+    → w.handed ≡ v.handed
+named_same (Ok o) v w is same = ap (λ (y : Receive). y.handed) is
+named_same (Err e) v w is same = ap (λ (y : Receive). y.handed) same
 
-pub lent_same : {A E : Type 0} (r : Result A E) (v w x : Receive) (n : ℕ) → w ≡ lent_one v n
-    → OnErr r (x.handed ≡ w.handed) → OnErr r (x.handed ≡ v.handed)
-lent_same (Ok o) v w x n is same = tt
-lent_same (Err e) v w x n is same = same ∙ ap (λ (y : Receive). y.handed) is
+pub err_whole : {E : Type 0} (r : Result Unit E) (v w x : Receive) → w.whole ≡ v.whole → OnErr r (x ≡ w)
+    → OnErr r (x.whole ≡ v.whole)
+err_whole (Ok o) v w x same then = tt
+err_whole (Err e) v w x same then = ap (λ (y : Receive). y.whole) then ∙ same
+
+pub err_after : {E : Type 0} (r : Result Unit E) (v w x : Receive) → w.whole ≡ v.whole → OnErr r (x.whole ≡ w.whole)
+    → OnErr r (x.whole ≡ v.whole)
+err_after (Ok o) v w x same then = tt
+err_after (Err e) v w x same then = then ∙ same
 
 -- a driver that runs has room for the block that it owes
-pub owes_room : (v : Receive) → IsRunning v → v.stage ≡ Owes → length v.layout.blocks + 1 < v.layout.size
+pub owes_room : (v : Receive) → IsRunning v → v.stage ≡ Owes → length (reach v).blocks + 1 < v.layout.size
 owes_room v runs owes =
-    let full : length v.layout.blocks + 1 + 1 ≡ v.layout.size =
-    subst (λ (s : Stage). length v.layout.blocks + vacated s + 1 ≡ v.layout.size) owes runs.full in
-    omega (arith, full)
+    let full : length v.layout.blocks + length v.named + 1 + 1 ≡ v.layout.size =
+    subst (λ (s : Stage). length v.layout.blocks + length v.named + vacated s + 1 ≡ v.layout.size) owes runs.full in
+    omega (arith, full, length-append v.layout.blocks v.named)
 
 -- a part that is seen wants a free block
 pub owed_some : (v : Receive) (a : Numbers) → 0 < length v.seen → wanted v ≤ free_count a → free_count a ≡ 0 → ⊥
 owed_some v a some free none = omega (arith, some, free, none)
+
+-- behind a name that is made while a part is held: one round less, and the packet waits, or it is whole
+
+ended_some : (bs : List Block) (p : Packet) → 0 < length bs → if_any bs p ≡ p ∷ []
+ended_some [] p some = absurd (omega (arith, some))
+ended_some (b ∷ bs) p some = refl
+
+next_vacated : (seen : List Told) → vacated (next_stage seen) ≡ 0
+next_vacated [] = refl
+next_vacated (t ∷ seen) = refl
+
+named_waits : (v : Receive) (seen : List Told) → 0 < length seen
+    → PacketWaits (next_stage seen) × (v.whole ++ ended_of seen v.held ≡ v.whole)
+named_waits v [] some = absurd (omega (arith, some))
+named_waits v (t ∷ seen) some = (tt, append-nil v.whole)
+
+named_more : (v : Receive) (seen : List Told) → 0 < length v.held.bufs → length seen ≡ 0
+    → (p : Packet) × (v.whole ++ ended_of seen v.held ≡ v.whole ++ p ∷ [])
+named_more v [] held none =
+    (v.held, ap (λ (ps : List Packet). v.whole ++ ps) (ended_some v.held.bufs v.held held))
+named_more v (t ∷ seen) held none = absurd (omega (arith, none))
+
+lent_rounds : (v : Receive) (s : Stage) → HasLent s → IsAmid v s
+    → (vacated s ≡ 1) × (owed s ≡ 0) × (0 < length v.held.bufs)
+lent_rounds v Looks lent amid = absurd lent
+lent_rounds v Takes lent amid = absurd lent
+lent_rounds v Owes lent amid = absurd lent
+lent_rounds v (Lent b) lent amid = (refl, refl, amid)
+
+next_owed : (seen : List Told) → 0 < length seen → owed (next_stage seen) ≡ 0
+next_owed [] some = absurd (omega (arith, some))
+next_owed (t ∷ seen) some = refl
+
+pub less_lent : (a : Numbers) (v : Receive) → HasLent v.stage → IsAmid v v.stage → IsOneLess a v a (names v)
+less_lent a v lent amid =
+    let here = lent_rounds v v.stage lent amid in
+    let none = next_vacated v.seen in
+    record {
+      rounds_are = omega (arith, none, here.0);
+      waits = λ left.
+          let some : 0 < length v.seen = omega (arith, left, none) in
+          let waits = named_waits v v.seen some in
+          record {
+            stage = waits.0;
+            whole = waits.1;
+            free = λ free. omega (arith, free, next_owed v.seen some, here.1);
+          };
+      more = λ left. named_more v v.seen here.2 (omega (arith, left, none));
+    }
+
+owes_amid : (v : Receive) (s : Stage) → s ≡ Owes → IsAmid v s → 0 < length v.held.bufs
+owes_amid v s owes amid = subst (λ (t : Stage). IsAmid v t) owes amid
+
+pub less_owes : (a : Numbers) (v : Receive) (n : ℕ) → v.stage ≡ Owes → IsAmid v v.stage → is_free a n ≡ true
+    → IsOneLess a v (with_free a n false) (refilled v n)
+less_owes a v n owes amid free =
+    let held = owes_amid v v.stage owes amid in
+    let lent = less_lent (with_free a n false) (lent_one v n) tt held in
+    let one : vacated v.stage ≡ 1 = ap vacated owes in
+    let block : owed v.stage ≡ 1 = ap owed owes in
+    record {
+      rounds_are = omega (arith, lent.rounds_are, one);
+      waits = λ left.
+          let still = lent.waits left in
+          record {
+            stage = still.stage;
+            whole = still.whole;
+            free = λ enough. still.free (omega (arith, enough, block, free_count_taken a n free));
+          };
+      more = lent.more;
+    }
+
+-- before that its part was taken
+pub less_takes : (a b : Numbers) (u v w : Receive) → v.stage ≡ Takes → u.stage ≡ Owes
+    → length u.seen + 1 ≡ length v.seen → u.whole ≡ v.whole → IsOneLess a u b w → IsOneLess a v b w
+less_takes a b u v w takes owes seen same less =
+    let none : vacated v.stage ≡ 0 = ap vacated takes in
+    let one : vacated u.stage ≡ 1 = ap vacated owes in
+    let old : owed v.stage ≡ 0 = ap owed takes in
+    let block : owed u.stage ≡ 1 = ap owed owes in
+    record {
+      rounds_are = omega (arith, less.rounds_are, none, one, seen);
+      waits = λ left.
+          let still = less.waits left in
+          record {
+            stage = still.stage;
+            whole = still.whole ∙ same;
+            free = λ enough. still.free (omega (arith, enough, old, block, seen));
+          };
+      more = λ left.
+          let whole = less.more left in
+          (whole.0, whole.1 ∙ ap (λ (ps : List Packet). ps ++ whole.0 ∷ []) same);
+    }
+
+-- the same of a result
+
+pub owes_less : {E : Type 0} (r : Result Unit E) (a b : Numbers) (v w : Receive) → v.stage ≡ Owes → IsAmid v v.stage
+    → OnOk r ((n : ℕ) × (is_free a n ≡ true) × (b ≡ with_free a n false) × (w ≡ refilled v n))
+    → OnOk r (IsOneLess a v b w)
+owes_less (Ok o) a b v w owes amid (n, free, taken, is) = rw (taken, is) (less_owes a v n owes amid free)
+owes_less (Err e) a b v w owes amid is = tt
+
+pub takes_less : {E : Type 0} (r : Result Unit E) (a b : Numbers) (u v w : Receive) → v.stage ≡ Takes
+    → u.stage ≡ Owes → length u.seen + 1 ≡ length v.seen → u.whole ≡ v.whole → OnOk r (IsOneLess a u b w)
+    → OnOk r (IsOneLess a v b w)
+takes_less (Ok o) a b u v w takes owes seen same less = less_takes a b u v w takes owes seen same less
+takes_less (Err e) a b u v w takes owes seen same less = tt
+
+pub lent_less : {E : Type 0} (r : Result Unit E) (a : Numbers) (v w : Receive) → HasLent v.stage → IsAmid v v.stage
+    → OnOk r (w ≡ names v) → OnOk r (IsOneLess a v a w)
+lent_less (Ok o) a v w lent amid is = subst (IsOneLess a v a) (sym is) (less_lent a v lent amid)
+lent_less (Err e) a v w lent amid is = tt
+
+-- a packet that waits takes a round, and the rounds follow each other
+
+pub some_rounds : (v : Receive) (s : Stage) → v.stage ≡ s → PacketWaits s → IsRunning v → rounds v ≡ 0 → ⊥
+some_rounds v Looks is waits runs none = waits
+some_rounds v Takes is waits runs none =
+    let amid : 0 < length v.seen = subst (λ (s : Stage). IsAmid v s) is runs.stage in
+    omega (arith, none, amid)
+some_rounds v Owes is waits runs none = omega (arith, none, ap vacated is)
+some_rounds v (Lent b) is waits runs none = omega (arith, none, ap vacated is)
+
+pub still_both : (a b d : Numbers) (v w x : Receive) → WaitsStill a v b w → WaitsStill b w d x → WaitsStill a v d x
+still_both a b d v w x p q = record {
+  stage = q.stage;
+  whole = q.whole ∙ p.whole;
+  free = λ enough. q.free (p.free enough);
+}
+
+pub more_behind : (v w x : Receive) → w.whole ≡ v.whole → OneMore w x → OneMore v x
+more_behind v w x same (p, is) = (p, is ∙ ap (λ (ps : List Packet). ps ++ p ∷ []) same)
+
+pub one_longer : (v w : Receive) → OneMore v w → length w.whole ≡ length v.whole + 1
+one_longer v w (p, is) = ap (λ (ps : List Packet). length ps) is ∙ length_push v.whole p

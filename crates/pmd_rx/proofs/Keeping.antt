@@ -3,7 +3,7 @@ use Rattle.std.proofs.Common.{◌≡◌, ℕ, ◌+◌, ◌<◌, Bool, true, fals
 use Rattle.std.specs.Prelude.{◌==◌, ◌&&◌, nat_lt}
 use Rattle.std.proofs.lemmas.Bool.{and_parts}
 use Rattle.std.proofs.lemmas.Bool.Decides.{nat_tests}
-use Rattle.std.proofs.lemmas.List.{length_push}
+use Rattle.std.proofs.lemmas.List.{length_push, length-append, length-map}
 use Rattle.nic_device.specs.DmaArena.Block.{Block}
 use Rattle.nic_device.specs.DmaArena.Numbers.{Numbers}
 use Rattle.nic_device.specs.DmaArena.Whereabouts.{times_in_hand}
@@ -15,7 +15,7 @@ use Rattle.pmd_seam.specs.Slots.{ring_blocks}
 use Rattle.pmd_seam.proofs.Exchanging.{exchanges_both}
 use Rattle.pmd_seam.proofs.Drawing.{numbers-more}
 use Rattle.pmd_seam.proofs.Outside.{times-append, times-cons}
-use Rattle.pmd_rx.specs.Keeping.{Keeps, IsAmid, IsSameRing, fresh_block, vacated, lent_of, blocks_out}
+use Rattle.pmd_rx.specs.Keeping.{Keeps, IsAmid, IsSameRing, fresh_block, vacated, lent_of, blocks_held, blocks_out, numbers_of_all}
 use Rattle.pmd_rx.specs.Receive.{Receive, Layout, TakesNext, block_at, saw, told_by, took, is_part}
 use Rattle.pmd_rx.specs.Shown.{IsLook}
 use Rattle.pmd_rx.specs.declared.receive.Look.{Look}
@@ -26,15 +26,27 @@ use Rattle.pmd_rx.specs.declared.ring.Told.{Told}
 
 -- how often a block is out, by where it is
 pub times_out : (v : Receive) (k : ℕ)
-    → times_in_hand (blocks_out v) k ≡ times_in_hand v.layout.blocks k + (times_in_hand (fresh_block v.stage) k
-    + times_in_hand (ring_blocks v.layout.ring v.layout.size) k) + times_in_hand (numbers_of v.held.bufs) k
+    → times_in_hand (blocks_out v) k ≡ times_in_hand v.layout.blocks k + times_in_hand v.named k
+    + (times_in_hand (fresh_block v.stage) k + times_in_hand (ring_blocks v.layout.ring v.layout.size) k)
+    + (times_in_hand (numbers_of_all v.whole) k + times_in_hand (numbers_of v.held.bufs) k)
 times_out v k =
     let l = v.layout in
     omega (
       arith,
-      times-append (lent_of v) (numbers_of v.held.bufs) k,
-      times-append l.blocks (fresh_block v.stage ++ ring_blocks l.ring l.size) k,
+      times-append (lent_of v) (blocks_held v) k,
+      times-append (l.blocks ++ v.named) (fresh_block v.stage ++ ring_blocks l.ring l.size) k,
+      times-append l.blocks v.named k,
       times-append (fresh_block v.stage) (ring_blocks l.ring l.size) k,
+      times-append (numbers_of_all v.whole) (numbers_of v.held.bufs) k,
+    )
+
+-- how many blocks its packets are in
+pub held_count : (v : Receive) → length (blocks_held v) ≡ length (numbers_of_all v.whole) + length v.held.bufs
+held_count v =
+    omega (
+      arith,
+      length-append (numbers_of_all v.whole) (numbers_of v.held.bufs),
+      length-map v.held.bufs (λ (b : Block). b.number),
     )
 
 pub same_ring : (l : Layout) → IsSameRing l l
@@ -87,7 +99,7 @@ vacated_after false = refl
 lt_of : (m n : ℕ) → nat_lt m n ≡ true → m < n
 lt_of m n is = grind (arith, nat_tests)
 
-part_more : (most before second : ℕ) → is_part most before second ≡ true → ends_packet second ≡ false
+pub part_more : (most before second : ℕ) → is_part most before second ≡ true → ends_packet second ≡ false
     → before + 1 < most
 part_more most before second part on =
     let both : (bytes_in second == 2048 && nat_lt (before + 1) most) ≡ true = rw on at part in
@@ -114,6 +126,7 @@ saw_keeps a v d looks part =
         part = runs.part;
         some = runs.some;
         full = omega (arith, runs.full, vacated_after ends, ap vacated looks);
+        replaced = omega (arith, runs.replaced, vacated_after ends, ap vacated looks);
         stage = amid_after v d ends (part_more v.layout.most (length v.seen) (second_half d) part);
       };
     }
@@ -167,6 +180,14 @@ took_keeps_at a v (t ∷ seen) b takes parts some is =
         part = runs.part;
         some = runs.some;
         full = omega (arith, runs.full, first_less l.blocks some, ap vacated takes);
+        replaced = omega (
+          arith,
+          runs.replaced,
+          ap vacated takes,
+          held_count v,
+          held_count w,
+          length_push v.held.bufs b,
+        );
         stage = omega (arith, length_push v.held.bufs b);
       };
     }
@@ -185,9 +206,13 @@ pub took_owes : (v w : Receive) (b : Block) → 0 < length v.seen → w ≡ took
     → (w.stage ≡ Owes) × (length w.seen + 1 ≡ length v.seen) × (0 < length w.held.bufs)
 took_owes v w b some is = rw is (took_is v v.seen b some)
 
-took_same : (v : Receive) (seen : List Told) (b : Block) → (took v seen b).handed ≡ v.handed
-took_same v [] b = refl
-took_same v (t ∷ seen) b = refl
+took_same : (v : Receive) (seen : List Told) (b : Block)
+    → ((took v seen b).handed ≡ v.handed) × ((took v seen b).whole ≡ v.whole)
+took_same v [] b = (refl, refl)
+took_same v (t ∷ seen) b = (refl, refl)
 
 pub took_handed : (v w : Receive) (b : Block) → w ≡ took v v.seen b → w.handed ≡ v.handed
-took_handed v w b is = ap (λ (y : Receive). y.handed) is ∙ took_same v v.seen b
+took_handed v w b is = ap (λ (y : Receive). y.handed) is ∙ (took_same v v.seen b).0
+
+pub took_whole : (v w : Receive) (b : Block) → w ≡ took v v.seen b → w.whole ≡ v.whole
+took_whole v w b is = ap (λ (y : Receive). y.whole) is ∙ (took_same v v.seen b).1

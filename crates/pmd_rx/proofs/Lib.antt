@@ -1,4 +1,5 @@
 pub use Rattle.pmd_seam.proofs as PmdSeam
+pub mod Bursts
 pub mod Closing
 pub mod Earlier
 pub mod Failing
@@ -6,8 +7,11 @@ pub mod Filling
 pub mod Fresh
 pub mod Handing
 pub mod Keeping
+pub mod Lists
 pub mod Looking
+pub mod Moving
 pub mod Own
 pub mod Playing
 pub mod Refilling
 pub mod Steady
+pub mod Viewed

@@ -1,13 +1,14 @@
 -- A look at the slot behind those that were seen.
 use Rattle.std.proofs.Common.{◌≡◌, ℕ, ◌<◌, ◌+◌, ◌≤◌, ◌∙◌, List, length, Option, Some, None, Result, Ok, Err, IfOk, IfErr, OnErr, refl, sym, ap, subst, inl, inr, arith}
 use Rattle.std.specs.Prelude.{[]}
-use Rattle.std.proofs.lemmas.List.{length_push}
+use Rattle.std.proofs.lemmas.List.{length_push, nil_from_length}
 use Rattle.nic_device.specs.declared.event.Event.TheVariants as event
 use Rattle.nic_device.specs.declared.event.Reply.TheVariants as reply
 use Rattle.nic_device.specs.DmaArena.Numbers.{Numbers}
 use Rattle.pmd_seam.specs.DeviceLock.declared.entry.Call.{Call}
 use Rattle.pmd_seam.specs.Accesses.{IsPeeked}
 use Rattle.pmd_seam.specs.declared.fault.PmdFault.{PmdFault}
+use Rattle.pmd_seam.specs.declared.packet.Packet.{Packet}
 use Rattle.pmd_seam.specs.declared.fault.PmdFault.TheVariants as fault
 use Rattle.pmd_rx.specs.Plays.{PlaysFrom, LooksInVain}
 use Rattle.pmd_rx.specs.Receive.{Receive, IsOwn, looked, told_by, descriptor_at, no_packet}
@@ -17,9 +18,9 @@ use Rattle.pmd_rx.specs.declared.receive.Look.{Look}
 use Rattle.pmd_rx.specs.declared.receive.Look.TheVariants as look
 use Rattle.pmd_rx.specs.declared.ring.Stage.{Stage}
 use Rattle.pmd_rx.specs.declared.ring.Stage.TheVariants.{Looks}
-use Rattle.pmd_rx.specs.Keeping.{Keeps, IsRunning, IsAmid, vacated}
+use Rattle.pmd_rx.specs.Keeping.{Keeps, IsRunning, IsAmid, vacated, numbers_of_all}
 use Rattle.pmd_rx.proofs.Failing.{wrong_here}
-use Rattle.pmd_rx.proofs.Keeping.{keeps_none, keeps_to, look_keeps}
+use Rattle.pmd_rx.proofs.Keeping.{held_count, keeps_none, keeps_to, look_keeps}
 use Rattle.pmd_rx.proofs.Playing.{plays_adds, plays_some}
 
 -- what a look leads to
@@ -136,13 +137,30 @@ pub looks_same : (r : Result Look PmdFault) (old new : List Call) (v w : Receive
 looks_same (Ok l) old new v w looked same = look_kept l old new v w looked
 looks_same (Err f) old new v w looked same = rw same refl
 
--- a driver that runs and looks has a slot to look at
-pub posted_more : (v : Receive) → IsRunning v → v.stage ≡ Looks → length v.seen < length v.layout.blocks
-posted_more v runs looks =
+-- a driver that runs and looks, holds nothing and has no whole packet, has named nothing, and has a slot to look at
+
+pub none_named : (v : Receive) → IsRunning v → v.stage ≡ Looks → v.held ≡ no_packet → v.whole ≡ [] → length v.named ≡ 0
+none_named v runs looks holds none =
+    omega (
+      arith,
+      runs.replaced,
+      held_count v,
+      ap (λ (ps : List Packet). length (numbers_of_all ps)) none,
+      ap (λ (p : Packet). length p.bufs) holds,
+    )
+
+pub posted_more : (v : Receive) → IsRunning v → v.stage ≡ Looks → v.held ≡ no_packet → v.whole ≡ []
+    → length v.seen < length v.layout.blocks
+posted_more v runs looks holds none =
     let amid : length v.seen < v.layout.most = subst (λ (s : Stage). IsAmid v s) looks runs.stage in
-    let full : length v.layout.blocks + 0 + 1 ≡ v.layout.size =
-    subst (λ (s : Stage). length v.layout.blocks + vacated s + 1 ≡ v.layout.size) looks runs.full in
-    omega (arith, amid, full, runs.some)
+    omega (
+      arith,
+      amid,
+      runs.full,
+      runs.some,
+      ap (λ (s : Stage). vacated s) looks,
+      none_named v runs looks holds none,
+    )
 
 -- it doesn't look at more than a packet has
 pub looked_enough : (v : Receive) → IsRunning v → v.stage ≡ Looks → v.layout.most ≤ length v.seen → ⊥
@@ -152,8 +170,8 @@ looked_enough v runs looks many =
 
 pub looks_vainly : (old mid new : List Call) (v w x : Receive) → PlaysFrom (record { first = 0; free = [] }) old v mid w
     → w ≡ record v { seen = w.seen; stage = w.stage } → v.stage ≡ Looks → w.stage ≡ Looks → IsRunning w
-    → w.held ≡ no_packet → LooksOnce mid w new x → LooksInVain old v new x
-looks_vainly old mid new v w x plays kept from looks runs none once =
+    → w.held ≡ no_packet → w.whole ≡ [] → LooksOnce mid w new x → LooksInVain old v new x
+looks_vainly old mid new v w x plays kept from looks runs none whole once =
     let same : LooksInVain old v new w = record {
       mid = mid;
       looks = plays.plays;
@@ -161,8 +179,10 @@ looks_vainly old mid new v w x plays kept from looks runs none once =
       last = once.made;
       waits = once.waits;
       stage = looks;
-      posted = posted_more w runs looks;
+      posted = posted_more w runs looks none whole;
       holds_none = none;
+      none_whole = whole;
+      none_named = nil_from_length w.named (none_named w runs looks none whole);
       left = kept ∙ ap (λ (s : Stage). let y : Receive = record v { seen = w.seen; stage = s } in y) (looks ∙ sym from);
     } in
     subst (LooksInVain old v new) (sym once.left) same

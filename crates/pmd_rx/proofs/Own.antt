@@ -1,18 +1,18 @@
 -- Taking a part's block, and posting a fresh one.
-use Rattle.std.proofs.Common.{◌≡◌, ℕ, ◌+◌, true, false, List, Option, Some, None, Result, Ok, Err, IfErr, OnOk, OnErr, refl, sym, subst, inl, inr}
+use Rattle.std.proofs.Common.{◌≡◌, ℕ, true, List, Some, None, Result, Ok, Err, IfErr, OnOk, OnErr, refl, sym, subst, inl, inr}
 use Rattle.nic_device.specs.DmaArena.Block.{Block}
 use Rattle.nic_device.specs.DmaArena.Numbers.{Numbers, is_free}
+use Rattle.nic_device.specs.declared.event.Event.{Event}
 use Rattle.nic_device.specs.declared.event.Event.TheVariants as event
 use Rattle.nic_device.specs.declared.event.Reply.TheVariants as reply
 use Rattle.pmd_seam.specs.DeviceLock.declared.entry.Call.{Call}
-use Rattle.pmd_seam.specs.Accesses.{IsTaken, IsLent, IsPoked}
+use Rattle.pmd_seam.specs.Accesses.{IsTaken, IsLent}
 use Rattle.pmd_seam.specs.declared.fault.PmdFault.{PmdFault}
 use Rattle.pmd_seam.specs.declared.fault.PmdFault.TheVariants as fault
 use Rattle.pmd_rx.specs.Plays.{PlaysFrom}
-use Rattle.pmd_rx.specs.Receive.{Receive, TakesNext, LendsNext, NamesNext, MovesNext, HasNamed, took, lent_one, named, moved, slot_at, vacant}
-use Rattle.pmd_rx.specs.Shown.{IsTailWritten, IsUnwritten}
+use Rattle.pmd_rx.specs.Receive.{Receive, IsOwn, TakesNext, LendsNext, MovesNext, HasLent, took, lent_one, names, moved, tail_behind, descriptor_at, vacant, reach, naming, fresh_of}
+use Rattle.pmd_rx.specs.Shown.{IsNamed, IsUnnamed, IsTailWritten, IsUnwritten}
 use Rattle.pmd_rx.specs.Wrong.{AsksNext, EndsWrong, IsFault}
-use Rattle.pmd_seam.specs.declared.packet.Packet.{Packet}
 use Rattle.pmd_rx.proofs.Failing.{wrong_here}
 use Rattle.pmd_rx.proofs.Playing.{plays_adds, plays_some}
 
@@ -22,13 +22,6 @@ module _ (arena : Numbers) (v : Receive) where
 
   pub lend_asks : (b : Block) → LendsNext v b → is_free arena b.number ≡ true → AsksNext arena v
   lend_asks b own free = (event.Lend b, own, free)
-
-  pub name_asks : (a : ℕ) (bytes : List ℕ) → NamesNext v a bytes → AsksNext arena v
-  name_asks a bytes own = (event.Poke16 a bytes, own, tt)
-
-move_own : (v : Receive) → HasNamed v.stage
-    → MovesNext v v.layout.port v.layout.tail (slot_at v.layout (vacant v.layout + 1))
-move_own v done = record { stage = done; port_is = refl; number_is = refl; word_is = refl }
 
 module _ (arena : Numbers) (old new : List Call) (v : Receive) where
   pub take_plays : (w : Receive) (n : ℕ) (b : Block) → TakesNext v n → IsTaken old new n (Some b)
@@ -57,60 +50,71 @@ module _ (arena : Numbers) (old new : List Call) (v : Receive) where
       → EndsWrong arena old v new v
   lend_wrong b back own free made = wrong_here arena old new v (event.Lend b) (reply.Twice back) own free made refl
 
-  pub name_plays : (w : Receive) (a : ℕ) (bytes : List ℕ) → NamesNext v a bytes → IsPoked old new a bytes true
-      → w ≡ named v → PlaysFrom arena old v new w
-  name_plays w a bytes own made named =
-      subst (PlaysFrom arena old v new) (sym named)
-      (plays_adds arena old new v (event.Poke16 a bytes) reply.Done own tt made)
+-- the lent block is named
+module _ (arena : Numbers) (old new : List Call) (v : Receive) (lent : HasLent v.stage) where
+  abbrev named_event : Event Block
+  named_event = event.Poke16 (descriptor_at v.layout (vacant (reach v))) (naming (fresh_of v.stage))
 
-  pub name_misses : (a : ℕ) (bytes : List ℕ) → NamesNext v a bytes → IsPoked old new a bytes false
-      → PlaysFrom arena old v new v
-  name_misses a bytes own (inl made) = plays_adds arena old new v (event.Poke16 a bytes) reply.NotLent own tt made
-  name_misses a bytes own (inr made) = plays_adds arena old new v (event.Poke16 a bytes) reply.Misaligned own tt made
+  named_own : IsOwn v named_event
+  named_own = record { stage = lent; address = refl; bytes_are = refl }
 
-  pub name_wrong : (a : ℕ) (bytes : List ℕ) → NamesNext v a bytes → IsPoked old new a bytes false
-      → EndsWrong arena old v new v
-  name_wrong a bytes own (inl made) = wrong_here arena old new v (event.Poke16 a bytes) reply.NotLent own tt made refl
-  name_wrong a bytes own (inr made) =
-      wrong_here arena old new v (event.Poke16 a bytes) reply.Misaligned own tt made refl
+  unnamed_plays : (f : PmdFault) → IsUnnamed f old new v → PlaysFrom arena old v new v
+  unnamed_plays fault.DeviceFault (inl made) = plays_adds arena old new v named_event reply.NotLent named_own tt made
+  unnamed_plays fault.DeviceFault (inr made) = plays_adds arena old new v named_event reply.Misaligned named_own tt made
+  unnamed_plays (fault.Call refusal) some = plays_some arena old new v some
+  unnamed_plays fault.BadSize not = absurd not
+  unnamed_plays fault.ForeignBlock not = absurd not
+  unnamed_plays fault.StartTimeout not = absurd not
+  unnamed_plays fault.NoBuffer not = absurd not
 
-  -- the tail isn't moved
-  unmoved_plays : (f : PmdFault) → HasNamed v.stage → IsUnwritten f old new v.layout → PlaysFrom arena old v new v
-  unmoved_plays fault.DeviceFault done (seen, adds) =
-      plays_adds arena old new v (event.Write v.layout.port v.layout.tail (slot_at v.layout (vacant v.layout + 1)))
-      (reply.Stray seen) (move_own v done) tt adds
-  unmoved_plays (fault.Call refusal) done some = plays_some arena old new v some
-  unmoved_plays fault.BadSize done not = absurd not
-  unmoved_plays fault.ForeignBlock done not = absurd not
-  unmoved_plays fault.StartTimeout done not = absurd not
-  unmoved_plays fault.NoBuffer done not = absurd not
+  unnamed_fault : (f : PmdFault) → IsUnnamed f old new v → IsFault f arena old v new v
+  unnamed_fault fault.DeviceFault (inl made) =
+      wrong_here arena old new v named_event reply.NotLent named_own tt made refl
+  unnamed_fault fault.DeviceFault (inr made) =
+      wrong_here arena old new v named_event reply.Misaligned named_own tt made refl
+  unnamed_fault (fault.Call refusal) some = (named_event, named_own, tt)
+  unnamed_fault fault.BadSize not = not
+  unnamed_fault fault.ForeignBlock not = not
+  unnamed_fault fault.StartTimeout not = not
+  unnamed_fault fault.NoBuffer not = not
 
-  unmoved_fault : (f : PmdFault) → HasNamed v.stage → IsUnwritten f old new v.layout → IsFault f arena old v new v
-  unmoved_fault fault.DeviceFault done (seen, adds) =
-      wrong_here arena old new v (event.Write v.layout.port v.layout.tail (slot_at v.layout (vacant v.layout + 1)))
-      (reply.Stray seen) (move_own v done) tt adds refl
-  unmoved_fault (fault.Call refusal) done some = (
-    event.Write v.layout.port v.layout.tail (slot_at v.layout (vacant v.layout + 1)),
-    move_own v done,
-    tt,
-  )
-  unmoved_fault fault.BadSize done not = not
-  unmoved_fault fault.ForeignBlock done not = not
-  unmoved_fault fault.StartTimeout done not = not
-  unmoved_fault fault.NoBuffer done not = not
+  pub name_plays : (r : Result Unit PmdFault) (w : Receive) → OnOk r (IsNamed old new v true) → OnOk r (w ≡ names v)
+      → OnErr r (w ≡ v) → IfErr r (λ f. IsUnnamed f old new v) → PlaysFrom arena old v new w
+  name_plays (Ok o) w made is same failed =
+      subst (PlaysFrom arena old v new) (sym is) (plays_adds arena old new v named_event reply.Done named_own tt made)
+  name_plays (Err f) w made is same failed =
+      subst (PlaysFrom arena old v new) (sym same) (unnamed_plays f failed)
 
-  pub move_plays : (r : Result (Option Packet) PmdFault) (w : Receive) → HasNamed v.stage
-      → OnOk r (IsTailWritten old new v.layout true) → OnOk r (w ≡ moved v) → OnErr r (w ≡ v)
-      → IfErr r (λ f. IsUnwritten f old new v.layout) → PlaysFrom arena old v new w
-  move_plays (Ok out) w done made is same failed =
-      subst (PlaysFrom arena old v new) (sym is)
-      (plays_adds arena old new v (event.Write v.layout.port v.layout.tail (slot_at v.layout (vacant v.layout + 1)))
-      reply.Done (move_own v done) tt made)
-  move_plays (Err f) w done made is same failed =
-      subst (PlaysFrom arena old v new) (sym same) (unmoved_plays f done failed)
+  pub name_fails : (r : Result Unit PmdFault) (w : Receive) → OnErr r (w ≡ v)
+      → IfErr r (λ f. IsUnnamed f old new v) → IfErr r (λ f. IsFault f arena old v new w)
+  name_fails (Ok o) w same failed = tt
+  name_fails (Err f) w same failed =
+      subst (λ (x : Receive). IsFault f arena old v new x) (sym same) (unnamed_fault f failed)
 
-  pub move_fails : (r : Result (Option Packet) PmdFault) (w : Receive) → HasNamed v.stage → OnErr r (w ≡ v)
-      → IfErr r (λ f. IsUnwritten f old new v.layout) → IfErr r (λ f. IsFault f arena old v new w)
-  move_fails (Ok out) w done same failed = tt
-  move_fails (Err f) w done same failed =
-      subst (λ (x : Receive). IsFault f arena old v new x) (sym same) (unmoved_fault f done failed)
+-- the tail is moved on by so many
+module _ (arena : Numbers) (old new : List Call) (v : Receive) (more : ℕ)
+    (own : MovesNext v v.layout.port v.layout.tail (tail_behind v.layout more)) where
+  abbrev tail_event : Event Block
+  tail_event = event.Write v.layout.port v.layout.tail (tail_behind v.layout more)
+
+  pub tail_plays : (w : Receive) → moved v (tail_behind v.layout more) ≡ w → IsTailWritten old new v.layout more true
+      → PlaysFrom arena old v new w
+  tail_plays w is made =
+      subst (PlaysFrom arena old v new) is (plays_adds arena old new v tail_event reply.Done own tt made)
+
+  pub unmoved_plays : (f : PmdFault) → IsUnwritten f old new v.layout more → PlaysFrom arena old v new v
+  unmoved_plays fault.DeviceFault (seen, adds) = plays_adds arena old new v tail_event (reply.Stray seen) own tt adds
+  unmoved_plays (fault.Call refusal) some = plays_some arena old new v some
+  unmoved_plays fault.BadSize not = absurd not
+  unmoved_plays fault.ForeignBlock not = absurd not
+  unmoved_plays fault.StartTimeout not = absurd not
+  unmoved_plays fault.NoBuffer not = absurd not
+
+  pub unmoved_fault : (f : PmdFault) → IsUnwritten f old new v.layout more → IsFault f arena old v new v
+  unmoved_fault fault.DeviceFault (seen, adds) =
+      wrong_here arena old new v tail_event (reply.Stray seen) own tt adds refl
+  unmoved_fault (fault.Call refusal) some = (tail_event, own, tt)
+  unmoved_fault fault.BadSize not = not
+  unmoved_fault fault.ForeignBlock not = not
+  unmoved_fault fault.StartTimeout not = not
+  unmoved_fault fault.NoBuffer not = not

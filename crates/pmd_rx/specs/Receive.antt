@@ -30,8 +30,8 @@ pub record Layout : Type 0 where
   pub blocks : List ℕ
 
 -- the ring, what was handed out, what descriptors from the next slot on told, the packet of which parts were taken, the
--- whole packets, in the places of whose blocks fresh ones are named, the named blocks behind the tail, and the stage. The
--- named blocks are posted as the tail moves on, and whole packets are handed out then
+-- whole packets, in the places of whose blocks fresh ones are named, the named blocks behind the tail, and the stage.
+-- The named blocks are posted as the tail moves on, and whole packets are handed out then
 pub record Receive : Type 0 where
   pub layout : Layout
   pub handed : List Kept
@@ -55,7 +55,7 @@ block_at l k = slice_index l.blocks k
 abbrev pub vacant : Layout → ℕ
 vacant l = length l.blocks
 
--- the ring with these blocks behind the tail, and the ring as far as its slots have a block: those that are named are in
+-- the ring with these blocks behind the tail, and the ring as far as its slots have a block: those that are named too
 abbrev pub extended : Layout → List ℕ → Layout
 extended l bs = record l { blocks = l.blocks ++ bs }
 

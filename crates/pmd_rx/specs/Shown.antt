@@ -1,19 +1,22 @@
 -- The driver's receive ring as its code keeps it.
-use Rattle.std.specs.Prelude.{ℕ, ◌≡◌, ◌+◌, ◌*◌, ◌<◌, ◌≤◌, List, Bool, true, false, IsFalse, Option, IfSome, length, All, ⊤}
+use Rattle.std.specs.Prelude.{ℕ, ◌≡◌, ◌+◌, ◌*◌, ◌<◌, ◌≤◌, List, Bool, true, false, IsFalse, Option, IfSome, length, drop, All, ⊤, [], ◌∷◌, ◌++◌}
 use Rattle.nic_device.specs.DmaArena.Numbers.{Numbers, free_count}
 use Rattle.nic_device.specs.DmaRing.Descriptor.{second_half}
 use Rattle.nic_device.specs.DmaRing.Receive.{is_done, bytes_in}
 use Rattle.nic_device.specs.declared.event.Event.TheVariants as event
 use Rattle.nic_device.specs.declared.event.Reply.TheVariants as reply
-use Rattle.pmd_seam.specs.Accesses.{IsPeeked, IsWritten}
+use Rattle.pmd_seam.specs.Bufs.{numbers_of}
+use Rattle.pmd_seam.specs.Accesses.{IsPeeked, IsPoked, IsWritten}
 use Rattle.pmd_seam.specs.Slots.{blocks_for}
 use Rattle.pmd_seam.specs.Made.{Adds, AddsSome}
 use Rattle.pmd_seam.specs.declared.fault.PmdFault.{PmdFault}
 use Rattle.pmd_seam.specs.declared.fault.PmdFault.TheVariants as fault
 use Rattle.pmd_seam.specs.DeviceLock.declared.entry.Call.{Call}
 use Rattle.pmd_seam.specs.declared.packet.Packet.{Packet}
-use Rattle.pmd_rx.specs.Receive.{Receive, slot_at, descriptor_at, tail_behind, extended, Layout, no_packet, is_part, saw}
-use Rattle.pmd_rx.specs.Keeping.{vacated, numbers_of_all}
+use Rattle.pmd_seam.specs.Packet.{Kept, kept_of}
+use Rattle.pmd_rx.specs.Burst.{HasPart}
+use Rattle.pmd_rx.specs.Receive.{Receive, descriptor_at, tail_behind, vacant, reach, naming, fresh_of, Layout, no_packet, is_part, records_of, lent_one, names, saw}
+use Rattle.pmd_rx.specs.Keeping.{Keeps, vacated, numbers_of_all}
 use Rattle.pmd_rx.specs.Wrong.{PacketWaits, wanted}
 use Rattle.pmd_rx.specs.declared.receive.Look.{Look}
 use Rattle.pmd_rx.specs.declared.receive.Look.TheVariants as look
@@ -43,20 +46,41 @@ StandsAt (Lent b) l seen held = (length l.blocks + 1 < l.size) × (b < 65536)
 abbrev pub FitsBlock : Told → Type 0
 FitsBlock t = bytes_in t.second ≤ 2048
 
--- the parts that are held and seen are at most those of a packet, and the seen ones stand in posted slots; a whole packet
--- has a part, and for each part of one a block is named
-pub record IsInStep (l : Layout) (seen : List Told) (held : Packet) (whole : List Packet) (named : List ℕ) (s : Stage)
+-- the parts that are held and seen are at most those of a packet, and the seen ones stand in posted slots, which are
+-- the first of those that have a block; a whole packet has a part, and for each part of one a block is named behind
+-- them, as for each that is held, but for one where it is owed still
+pub record IsInStep (l : Layout) (posted : ℕ) (seen : List Told) (held : Packet) (whole : List Packet) (s : Stage)
     : Type 0 where
-  pub stage : StandsAt s (extended l named) seen held
+  pub stage : StandsAt s l seen held
   pub few : length held.bufs + length seen ≤ l.most
   pub bytes : held.len ≤ 2048 * length held.bufs
   pub parts : All FitsBlock seen
-  pub within : length seen ≤ length l.blocks
-  pub some : All (λ (p : Packet). 0 < length p.bufs) whole
-  pub replaced : length (numbers_of_all whole) ≤ length named
+  pub within : length seen ≤ posted
+  pub some : All HasPart whole
+  pub replaced : posted + length (numbers_of_all whole) ≤ length l.blocks
+  pub taken : posted + (length (numbers_of_all whole) + length held.bufs) ≤ length l.blocks + vacated s
 
-abbrev pub IsSteady : Layout → List Told → Packet → List Packet → List ℕ → Stage → Type 0
-IsSteady l seen held whole named s = IsLaidOut (extended l named) × IsInStep l seen held whole named s
+-- of some records, so many are those of packets that were handed out, and the others those of the whole ones
+pub record AreRecords (handed : ℕ) (records : List Kept) (whole : List Packet) : Type 0 where
+  pub few : handed ≤ length records
+  pub behind : drop handed records ≡ records_of whole
+
+-- the ring as far as its slots have a block, of which so many are posted, and what else is kept
+abbrev pub IsSteady : Layout → ℕ → List Told → Packet → List Packet → Stage → Type 0
+IsSteady l posted seen held whole s = IsLaidOut l × IsInStep l posted seen held whole s
+
+-- the first vacant slot was told to name the block that is lent, or the ring isn't lent any more
+abbrev pub IsNamed : List Call → List Call → Receive → Bool → Type 0
+IsNamed old new v known = IsPoked old new (descriptor_at v.layout (vacant (reach v))) (naming (fresh_of v.stage)) known
+
+-- why it isn't named: the ring isn't lent, or a call was refused
+abbrev pub IsUnnamed : PmdFault → List Call → List Call → Receive → Type 0
+IsUnnamed fault.DeviceFault old new v = IsNamed old new v false
+IsUnnamed (fault.Call refusal) old new v = AddsSome old new
+IsUnnamed fault.BadSize old new v = ⊥
+IsUnnamed fault.ForeignBlock old new v = ⊥
+IsUnnamed fault.StartTimeout old new v = ⊥
+IsUnnamed fault.NoBuffer old new v = ⊥
 
 -- the tail of the receive ring was moved on by so many, or the port has no such register
 abbrev pub IsTailWritten : List Call → List Call → Layout → ℕ → Bool → Type 0
@@ -112,9 +136,34 @@ IsRefused fault.NoBuffer old new = ⊥
 abbrev pub rounds : Receive → ℕ
 rounds v = length v.seen + vacated v.stage
 
--- a part of it was taken, and a fresh block posted in its place
+-- the packet that waited is whole
+abbrev pub OneMore : Receive → Receive → Type 0
+OneMore v w = (p : Packet) × (w.whole ≡ v.whole ++ p ∷ [])
+
+-- it waits still, and as many blocks are free as are wanted, where they were
+pub record WaitsStill (a : Numbers) (v : Receive) (b : Numbers) (w : Receive) : Type 0 where
+  pub stage : PacketWaits w.stage
+  pub whole : w.whole ≡ v.whole
+  pub free : wanted v ≤ free_count a → wanted w ≤ free_count b
+
+-- a part of it was taken, and a fresh block named in its place: the packet waits still, or it is whole
 pub record IsOneLess (a : Numbers) (v : Receive) (b : Numbers) (w : Receive) : Type 0 where
   pub rounds_are : rounds w + 1 ≡ rounds v
-  pub waits : PacketWaits w.stage
-  pub free : wanted v ≤ free_count a → wanted w ≤ free_count b
-  pub handed : w.handed ≡ v.handed
+  pub waits : 0 < rounds w → WaitsStill a v b w
+  pub more : rounds w ≡ 0 → OneMore v w
+
+-- a fresh block was lent, and named in the first vacant slot
+abbrev pub refilled : Receive → ℕ → Receive
+refilled v n = names (lent_one v n)
+
+-- the oldest whole packet came out: its record is kept, and each block is in one place
+pub record HandsOne (v w : Receive) (p : Packet) : Type 0 where
+  pub handed : w.handed ≡ v.handed ++ kept_of p ∷ []
+  pub some : HasPart p
+  pub keeps : (a : Numbers) → Keeps a v a w (numbers_of p.bufs)
+
+-- all of them did
+pub record HandsAll (v w : Receive) : Type 0 where
+  pub handed : w.handed ≡ v.handed ++ records_of v.whole
+  pub some : All HasPart v.whole
+  pub keeps : (a : Numbers) → Keeps a v a w (numbers_of_all v.whole)

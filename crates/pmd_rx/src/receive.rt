@@ -2,13 +2,14 @@
 
 ghost use Rattle.std.specs.Prelude.{◌≡◌, ◌<◌, ◌≤◌, ◌+◌, ◌*◌, ◌++◌, length, IsFalse, if◌then◌else◌, Ok, true, false, IfOk, IfErr, OnOk, OnErr, [], min, vec_len};
 ghost use Rattle.std.specs.Vec.{vec_capacity};
+ghost use Rattle.std.specs.VecDeque.{deque_len, deque_capacity};
 ghost use Rattle.nic_device.specs.DmaArena.Numbers.{Numbers, is_free};
 ghost use Rattle.nic_device.specs.DmaRing.Receive.{is_done, ends_packet};
 ghost use Rattle.pmd_rx.specs.Plays.{PlaysFrom};
-ghost use Rattle.pmd_rx.specs.Receive.{looked, took, lent_one, named, moved, out_of, if_any, listed, is_part, descriptor_at, slot_at, block_at, vacant, naming, fresh_of, MayLend, CanLend, HasLent, HasNamed};
+ghost use Rattle.pmd_rx.specs.Receive.{took, lent_one, names, if_any, records_of, is_part, descriptor_at, slot_at, block_at, vacant, reach, naming, MayLend, CanLend, HasLent};
 ghost use Rattle.pmd_rx.specs.Wrong.{EndsWrong, IsFault};
-ghost use Rattle.pmd_rx.specs.Keeping.{Keeps, handed_blocks};
-ghost use Rattle.pmd_rx.specs.Shown.{LooksOnce, IsLook, IsRefused, IsTailWritten, IsUnwritten};
+ghost use Rattle.pmd_rx.specs.Keeping.{Keeps};
+ghost use Rattle.pmd_rx.specs.Shown.{LooksOnce, IsLook, IsRefused, IsNamed, IsUnnamed};
 ghost use Rattle.pmd_rx.specs.declared.ring.Stage.TheVariants as stage;
 ghost use Rattle.pmd_seam.specs.Refusals.{CanFail};
 
@@ -19,9 +20,10 @@ use nic_device::{
 };
 use pmd_seam::{
     CallFault, Nic, Packet, PmdFault, Record, descriptor_address, lend, next_slot, peek, poke,
-    slot_after, take, write,
+    slot_after, take,
 };
 use std::alloc::Global;
+use std::collections::VecDeque;
 use std::mem;
 
 /// What a look at a slot tells.
@@ -126,6 +128,7 @@ impl ReceiveRing {
         requires some { 0 < length self.old.seen }
         ensures plays { (a : Numbers) → PlaysFrom a (N.made nic.old) self.old (N.made nic.new) self.new }
         ensures handed { self.new.handed ≡ self.old.handed }
+        ensures whole { self.new.whole ≡ self.old.whole }
         ensures taken { OnOk result ((self.new.stage ≡ stage.Owes)
             × (length self.new.seen + 1 ≡ length self.old.seen) × (0 < length self.new.held.bufs)) }
         ensures kept { OnErr result (self.new ≡ self.old) }
@@ -153,12 +156,13 @@ impl ReceiveRing {
         ensures block { result ≡ block_at self.now.layout 0 }
         ensures some { 0 < length self.now.layout.blocks }
     {
-        self.blocks[0]
+        self.slots[0]
     }
 
     /// Consumes the next slot, whose part, in its block, joins the packet that is held.
     fn hold(&mut self, buf: Buf)
-        requires { 0 < length self.old.seen }
+        requires stage { self.old.stage ≡ stage.Takes }
+        requires some { 0 < length self.old.seen }
         ensures { self.new ≡ took self.old self.old.seen buf }
     {
         let Some(told) = self.seen.pop_front() else {
@@ -169,12 +173,13 @@ impl ReceiveRing {
         self.held.rss = rss_told(told.first);
         self.held.hash = hash_told(told.first);
         self.next = next_slot(self.size, self.next);
-        let _consumed = self.blocks.pop_front();
+        let _consumed = self.slots.pop_front();
+        self.posted -= 1;
         self.stage = Stage::Owes;
     }
 
     /// The slot that comes so many after the next one.
-    fn slot(&self, after: u16) -> u16
+    pub(crate) fn slot(&self, after: u16) -> u16
         requires { after ≤ self.now.layout.size }
         ensures { result ≡ slot_at self.now.layout after }
     {
@@ -191,7 +196,7 @@ impl ReceiveRing {
         buf: Buf,
     ) -> Result<(), (PmdFault, Buf)>
         requires stage { CanLend self.old.stage self.old.seen }
-        requires fresh { MayLend self.old.layout buf }
+        requires fresh { MayLend (reach self.old) buf }
         ensures plays { (a : Numbers) → is_free a buf.number ≡ true
             → PlaysFrom a (N.made nic.old) self.old (N.made nic.new) self.new }
         ensures lent { OnOk result (self.new ≡ lent_one self.old buf.number) }
@@ -217,32 +222,70 @@ impl ReceiveRing {
     /// Keeps that the block is lent.
     fn keep_lent(&mut self, block: u32)
         requires stage { CanLend self.old.stage self.old.seen }
-        requires room { length self.old.layout.blocks + 1 < self.old.layout.size }
+        requires room { length (reach self.old).blocks + 1 < self.old.layout.size }
         requires small { block < 65536 }
         ensures { self.new ≡ lent_one self.old block }
     {
         self.stage = Stage::Lent(block);
     }
 
-    /// Names the fresh block in the descriptor of the vacant slot.
+    /// Names the fresh block in the descriptor of the first vacant slot. The packet that is held is whole then, where
+    /// no part of it is to be taken still.
     ///
-    /// `DeviceFault` where the ring isn't lent any more.
+    /// `DeviceFault` where the ring isn't lent any more. `Call` where a call was refused, or there was no memory for
+    /// the block's number or the packet's record.
     pub(crate) fn name_fresh<N: Nic>(&mut self, alloc: Global, nic: &mut N) -> Result<(), PmdFault>
         requires { HasLent self.old.stage }
         ensures plays { (a : Numbers) → PlaysFrom a (N.made nic.old) self.old (N.made nic.new) self.new }
-        ensures named { OnOk result (self.new ≡ named self.old) }
+        ensures named { OnOk result (self.new ≡ names self.old) }
         ensures kept { OnErr result (self.new ≡ self.old) }
         ensures fault { (a : Numbers) → IfErr result (λ f.
             IsFault f a (N.made nic.old) self.old (N.made nic.new) self.new) }
+        ensures keeps { (a : Numbers) → Keeps a self.old a self.new [] }
         ensures who { N.who nic.new ≡ N.who nic.old }
         ensures refuses { N.refuses nic.new ≡ N.refuses nic.old }
         ensures refusal { IfErr result (λ f. CanFail (N.refuses nic.new) f) }
     {
-        let address = self.vacant_descriptor();
-        let bytes = self.fresh_descriptor();
-        match poke(alloc, nic, address, bytes) {
+        self.poke_name(alloc, nic)
+    }
+
+    /// The same, by what is made.
+    fn poke_name<N: Nic>(&mut self, alloc: Global, nic: &mut N) -> Result<(), PmdFault>
+        requires { HasLent self.old.stage }
+        ensures made { OnOk result (IsNamed (N.made nic.old) (N.made nic.new) self.old true) }
+        ensures named { OnOk result (self.new ≡ names self.old) }
+        ensures kept { OnErr result (self.new ≡ self.old) }
+        ensures failed { IfErr result (λ f. IsUnnamed f (N.made nic.old) (N.made nic.new) self.old) }
+        ensures who { N.who nic.new ≡ N.who nic.old }
+        ensures refuses { N.refuses nic.new ≡ N.refuses nic.old }
+        ensures refusal { IfErr result (λ f. CanFail (N.refuses nic.new) f) }
+    {
+        let Stage::Lent(block) = self.stage else {
+            unreachable!()
+        };
+        let no_memory = PmdFault::Call(CallFault::OutOfMemory(()));
+        if self.slots.reserve(1).is_err() {
+            return Err(no_memory);
+        }
+        if self.whole.reserve(1).is_err() {
+            return Err(no_memory);
+        }
+        if self.records.reserve(1).is_err() {
+            return Err(no_memory);
+        }
+        let Ok(room) = Vec::with_capacity(alloc, self.record_room()) else {
+            return Err(no_memory);
+        };
+        match poke(alloc, nic, self.vacant_descriptor(), naming(block)) {
             Ok(true) => {
-                self.keep_named();
+                self.slots.push_back_reserved(block);
+                if !self.seen.is_empty() {
+                    self.stage = Stage::Takes;
+                    return Ok(());
+                }
+                self.stage = Stage::Looks;
+                let packet = mem::replace(&mut self.held, no_packet());
+                keep_whole(packet, &mut self.whole, &mut self.records, room);
                 Ok(())
             }
             Ok(false) => Err(PmdFault::DeviceFault),
@@ -250,100 +293,11 @@ impl ReceiveRing {
         }
     }
 
-    /// The descriptor that names the block that is lent.
-    fn fresh_descriptor(&self) -> [u8; 16]
-        requires { HasLent self.now.stage }
-        ensures { result ≡ naming (fresh_of self.now.stage) }
-    {
-        let Stage::Lent(block) = self.stage else {
-            unreachable!()
-        };
-        of_halves(posted_word(2048 * u64::from(block)), 0)
-    }
-
-    /// Keeps that a descriptor names the block.
-    fn keep_named(&mut self)
-        requires { HasLent self.old.stage }
-        ensures { self.new ≡ named self.old }
-    {
-        let Stage::Lent(block) = self.stage else {
-            unreachable!()
-        };
-        self.stage = Stage::Named(block);
-    }
-
-    /// The bus address of the vacant slot's descriptor.
+    /// The bus address of the first vacant slot's descriptor.
     fn vacant_descriptor(&self) -> u32
-        ensures { result ≡ descriptor_at self.now.layout (vacant self.now.layout) }
+        ensures { result ≡ descriptor_at self.now.layout (vacant (reach self.now)) }
     {
-        descriptor_address(self.ring, self.slot(self.blocks.len() as u16))
-    }
-
-    /// Moves the tail on, so that the device has the block that is named. The packet that is held is handed out, where
-    /// it is whole: None where it isn't, or none is held.
-    ///
-    /// `DeviceFault` where the port has no such register.
-    pub(crate) fn move_tail<N: Nic>(
-        &mut self,
-        alloc: Global,
-        nic: &mut N,
-    ) -> Result<Option<Packet>, PmdFault>
-        requires { HasNamed self.old.stage }
-        ensures plays { (a : Numbers) → PlaysFrom a (N.made nic.old) self.old (N.made nic.new) self.new }
-        ensures moved { OnOk result (self.new ≡ moved self.old) }
-        ensures out { IfOk result (λ out. out ≡ out_of self.old.seen self.old.held) }
-        ensures kept { OnErr result (self.new ≡ self.old) }
-        ensures fault { (a : Numbers) → IfErr result (λ f.
-            IsFault f a (N.made nic.old) self.old (N.made nic.new) self.new) }
-        ensures keeps { (a : Numbers) → Keeps a self.old a self.new (handed_blocks result) }
-        ensures who { N.who nic.new ≡ N.who nic.old }
-        ensures refuses { N.refuses nic.new ≡ N.refuses nic.old }
-        ensures refusal { IfErr result (λ f. CanFail (N.refuses nic.new) f) }
-    {
-        self.write_tail(alloc, nic)
-    }
-
-    /// The same, by what is made.
-    fn write_tail<N: Nic>(&mut self, alloc: Global, nic: &mut N) -> Result<Option<Packet>, PmdFault>
-        requires { HasNamed self.old.stage }
-        ensures made { OnOk result (IsTailWritten (N.made nic.old) (N.made nic.new) self.old.layout true) }
-        ensures moved { OnOk result (self.new ≡ moved self.old) }
-        ensures out { IfOk result (λ out. out ≡ out_of self.old.seen self.old.held) }
-        ensures kept { OnErr result (self.new ≡ self.old) }
-        ensures failed { IfErr result (λ f.
-            IsUnwritten f (N.made nic.old) (N.made nic.new) self.old.layout) }
-        ensures who { N.who nic.new ≡ N.who nic.old }
-        ensures refuses { N.refuses nic.new ≡ N.refuses nic.old }
-        ensures refusal { IfErr result (λ f. CanFail (N.refuses nic.new) f) }
-    {
-        let Stage::Named(block) = self.stage else {
-            unreachable!()
-        };
-        let no_memory = PmdFault::Call(CallFault::OutOfMemory(()));
-        if self.blocks.reserve(1).is_err() {
-            return Err(no_memory);
-        }
-        if self.handed.reserve(1).is_err() {
-            return Err(no_memory);
-        }
-        let Ok(room) = Vec::with_capacity(alloc, self.record_room()) else {
-            return Err(no_memory);
-        };
-        let word = u32::from(self.slot(self.blocks.len() as u16 + 1));
-        match write(alloc, nic, self.port, self.tail, word) {
-            Ok(true) => {
-                self.blocks.push_back_reserved(block);
-                if !self.seen.is_empty() {
-                    self.stage = Stage::Takes;
-                    return Ok(None);
-                }
-                self.stage = Stage::Looks;
-                let packet = mem::replace(&mut self.held, no_packet());
-                Ok(hand_out(packet, &mut self.handed, room))
-            }
-            Ok(false) => Err(PmdFault::DeviceFault),
-            Err(fault) => Err(PmdFault::Call(fault)),
-        }
+        descriptor_address(self.ring, self.slot(self.slots.len() as u16))
     }
 
     /// How many bytes the record of the packet that is held keeps, where no part of it is to be taken still.
@@ -358,6 +312,14 @@ impl ReceiveRing {
     }
 }
 
+/// The descriptor that names a block.
+fn naming(block: u32) -> [u8; 16]
+    requires { block < 65536 }
+    ensures { result ≡ naming block }
+{
+    of_halves(posted_word(2048 * u64::from(block)), 0)
+}
+
 /// The stage behind a look that found a part of a packet, by the second half that it told.
 fn stage_after(second: u64) -> Stage
     ensures { result ≡ (if ends_packet second then stage.Takes else stage.Looks) }
@@ -369,13 +331,19 @@ fn stage_after(second: u64) -> Stage
     }
 }
 
-/// Hands out a packet, and keeps its record. None where it has no part.
-fn hand_out(packet: Packet, handed: &mut Vec<Record>, room: Vec<u8>) -> Option<Packet>
+/// Keeps a packet that is whole, and its record, where it has a part.
+fn keep_whole(
+    packet: Packet,
+    whole: &mut VecDeque<Packet>,
+    records: &mut Vec<Record>,
+    room: Vec<u8>,
+)
     requires empty { room.items ≡ [] }
     requires bytes { min packet.len (2048 * length packet.bufs) ≤ vec_capacity room }
-    requires record { vec_len handed.old < vec_capacity handed.old }
-    ensures out { result ≡ if_any packet.bufs packet }
-    ensures kept { handed.new.items ≡ handed.old.items ++ listed (if_any packet.bufs packet) }
+    requires packet { deque_len whole.old < deque_capacity whole.old }
+    requires record { vec_len records.old < vec_capacity records.old }
+    ensures whole { whole.new.items ≡ whole.old.items ++ if_any packet.bufs packet }
+    ensures kept { records.new.items ≡ records.old.items ++ records_of (if_any packet.bufs packet) }
 {
     if packet.bufs.count() == 0 {
         let Packet {
@@ -385,8 +353,8 @@ fn hand_out(packet: Packet, handed: &mut Vec<Record>, room: Vec<u8>) -> Option<P
             hash: _,
         } = packet;
         bufs.finish();
-        return None;
+        return;
     }
-    handed.push_reserved(Record::of(&packet, room));
-    Some(packet)
+    records.push_reserved(Record::of(&packet, room));
+    whole.push_back_reserved(packet);
 }

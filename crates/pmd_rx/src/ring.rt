@@ -7,8 +7,8 @@ ghost use Rattle.pmd_seam.specs.Bufs.{numbers_of, with_all_free};
 ghost use Rattle.pmd_seam.specs.Home.{AreOut};
 ghost use Rattle.pmd_seam.specs.Slots.{blocks_for, ring_blocks};
 ghost use Rattle.nic_device.specs.DmaArena.Whereabouts.{times_in_hand};
-ghost use Rattle.pmd_rx.specs.Keeping.{blocks_out, lent_of, fresh_block};
-ghost use Rattle.pmd_rx.specs.Receive.{at_start, no_packet};
+ghost use Rattle.pmd_rx.specs.Keeping.{blocks_out, blocks_held, lent_of, fresh_block, numbers_of_all};
+ghost use Rattle.pmd_rx.specs.Receive.{at_start, no_packet, reach};
 
 use nic_device::{Arena, Port};
 use pmd_seam::{Bufs, Packet, Reclaim, Record, blocks_for, give_packet, is_ring_block};
@@ -27,8 +27,6 @@ pub enum Stage {
     Owes,
     /// It lent this block.
     Lent(u32),
-    /// The descriptor of the vacant slot names this block.
-    Named(u32),
 }
 
 /// What a descriptor tells of a part of a packet, by its halves.
@@ -41,6 +39,10 @@ pub struct Told {
 }
 
 /// The receive ring of a driver, and what it handed out.
+///
+/// Of the slots' blocks, from the next slot on, the first ones are posted. Those behind them, which descriptors name,
+/// are posted as the tail moves on, and the whole packets, whose places they take, are handed out then. The records are
+/// those of the packets that were handed out, and behind them those of the whole packets.
 pub struct ReceiveRing {
     pub(crate) port: Port,
     pub(crate) tail: u32,
@@ -48,16 +50,20 @@ pub struct ReceiveRing {
     pub(crate) size: u16,
     pub(crate) most: u16,
     pub(crate) next: u16,
-    pub(crate) blocks: VecDeque<u32>,
-    pub(crate) handed: Vec<Record>,
+    pub(crate) slots: VecDeque<u32>,
+    pub(crate) posted: u16,
+    pub(crate) records: Vec<Record>,
+    pub(crate) handed: usize,
     pub(crate) seen: VecDeque<Told>,
     pub(crate) held: Packet,
+    pub(crate) whole: VecDeque<Packet>,
     pub(crate) stage: Stage,
 }
 
 impl Model for ReceiveRing {
+    ghost use Rattle.std.specs.Prelude.{take, drop};
     ghost use Rattle.pmd_rx.specs.Receive.{Receive};
-    ghost use Rattle.pmd_rx.specs.Shown.{IsSteady};
+    ghost use Rattle.pmd_rx.specs.Shown.{IsSteady, AreRecords};
 
     ghost Value = { Receive };
 
@@ -69,11 +75,13 @@ impl Model for ReceiveRing {
         size = r.size;
         most = r.most;
         next = r.next;
-        blocks = r.blocks.items;
+        blocks = take r.posted r.slots.items;
       };
-      handed = r.handed.items;
+      handed = take r.handed r.records.items;
       seen = r.seen.items;
       held = r.held;
+      whole = r.whole.items;
+      named = drop r.posted r.slots.items;
       stage = r.stage;
     } };
 
@@ -84,8 +92,8 @@ impl Model for ReceiveRing {
       size = r.size;
       most = r.most;
       next = r.next;
-      blocks = r.blocks.items;
-    }) r.seen.items r.held r.stage };
+      blocks = r.slots.items;
+    }) r.posted r.seen.items r.held r.whole.items r.stage × AreRecords r.handed r.records.items r.whole.items };
 }
 
 impl ReceiveRing {
@@ -105,10 +113,13 @@ impl ReceiveRing {
             size,
             most,
             next: 0,
-            blocks: VecDeque::new(alloc),
-            handed: Vec::new(alloc),
+            slots: VecDeque::new(alloc),
+            posted: 0,
+            records: Vec::new(alloc),
+            handed: 0,
             seen: VecDeque::new(alloc),
             held: no_packet(),
+            whole: VecDeque::new(alloc),
             stage: Stage::Looks,
         }
     }
@@ -117,7 +128,7 @@ impl ReceiveRing {
     pub fn handed(&self) -> &[Record]
         ensures { result.now ≡ self.now.handed }
     {
-        self.handed.as_slice()
+        &self.records.as_slice()[..self.handed]
     }
 }
 
@@ -134,12 +145,16 @@ pub(crate) fn no_packet() -> Packet
 }
 
 impl ReceiveRing {
-    /// Whether the ring has the block of this number: one that the ring is in, one that stands in it, a fresh one that
-    /// is lent, or that of a part of the packet that is held.
+    /// Whether the ring has the block of this number: one that the ring is in, one that stands in it or is named behind
+    /// its tail, a fresh one that is lent, or that of a part of a packet that is held or whole.
     pub fn has(&self, block: u32) -> bool
         ensures { (result ≡ true) ↔ (0 < times_in_hand (blocks_out self.now) block) }
     {
-        self.is_in(block) || self.stands(block) || self.lends(block) || self.holds(block)
+        self.is_in(block)
+            || self.stands(block)
+            || self.lends(block)
+            || self.keeps(block)
+            || self.holds(block)
     }
 
     /// Whether the ring is in the block.
@@ -150,21 +165,33 @@ impl ReceiveRing {
         is_ring_block(self.ring, self.size, block)
     }
 
-    /// Whether the block stands in the ring.
+    /// Whether the block stands in the ring, or is named behind its tail.
     fn stands(&self, block: u32) -> bool
-        ensures { (result ≡ true) ↔ (0 < times_in_hand self.now.layout.blocks block) }
+        ensures { (result ≡ true) ↔ (0 < times_in_hand (reach self.now).blocks block) }
     {
-        self.blocks.iter().filter(|slot| **slot == block).count() > 0
+        self.slots.iter().filter(|slot| **slot == block).count() > 0
     }
 
-    /// Whether the block is lent and not posted yet.
+    /// Whether the block is lent and not named yet.
     fn lends(&self, block: u32) -> bool
         ensures { (result ≡ true) ↔ (0 < times_in_hand (fresh_block self.now.stage) block) }
     {
         match self.stage {
-            Stage::Lent(fresh) | Stage::Named(fresh) => fresh == block,
+            Stage::Lent(fresh) => fresh == block,
             Stage::Looks | Stage::Takes | Stage::Owes => false,
         }
+    }
+
+    /// Whether a whole packet is in the block.
+    fn keeps(&self, block: u32) -> bool
+        ensures { (result ≡ true) ↔ (0 < times_in_hand (numbers_of_all self.now.whole) block) }
+    {
+        for at in 0..self.whole.len() {
+            if self.whole[at].bufs.has(block) {
+                return true;
+            }
+        }
+        false
     }
 
     /// Whether a part of the packet that is held is in the block.
@@ -176,13 +203,14 @@ impl ReceiveRing {
 }
 
 impl ReceiveRing {
-    /// Ends the ring: its blocks are on their way home, those of a packet that is held are given to the arena, and the
-    /// records are handed out. Where there is no memory, the ring comes back as it was.
+    /// Ends the ring: its blocks are on their way home, those of whole packets and of one that is held are given to the
+    /// arena, and the records of the packets that were handed out come back. Where there is no memory, the ring comes
+    /// back as it was.
     pub fn close(self, arena: &mut Arena) -> Result<(Reclaim, Vec<Record>), ReceiveRing>
         requires { AreOut arena.old (blocks_out self) }
         ensures way { IfOk result (λ ends. ends.0 ≡ record { lent = lent_of self; lost = 0 }) }
         ensures records { IfOk result (λ ends. ends.1.items ≡ self.handed) }
-        ensures home { OnOk result (arena.new ≡ with_all_free arena.old (numbers_of self.held.bufs)) }
+        ensures home { OnOk result (arena.new ≡ with_all_free arena.old (blocks_held self)) }
         ensures out { OnOk result (AreOut arena.new (lent_of self)) }
         ensures back { IfErr result (λ ring. ring ≡ self) }
         ensures kept { OnErr result (arena.new ≡ arena.old) }
@@ -190,7 +218,7 @@ impl ReceiveRing {
         let mut ended = self;
         let fresh = ended.fresh();
         let many = blocks_for(ended.size);
-        if ended.blocks.reserve(many as usize + 1).is_err() {
+        if ended.slots.reserve(many as usize + 1).is_err() {
             return Err(ended);
         }
         let ReceiveRing {
@@ -200,26 +228,46 @@ impl ReceiveRing {
             size: _,
             most: _,
             next: _,
-            blocks,
+            slots,
+            posted: _,
+            mut records,
             handed,
             seen: _,
             held,
+            whole,
             stage: _,
         } = ended;
-        let lent = with_ring(blocks, fresh, ring, many);
+        let lent = with_ring(slots, fresh, ring, many);
+        records.truncate(handed);
+        give_packets(arena, whole);
         give_packet(arena, held);
-        Ok((Reclaim::of(lent), handed))
+        Ok((Reclaim::of(lent), records))
     }
 
-    /// The block that is lent and not posted yet.
+    /// The block that is lent and not named yet.
     fn fresh(&self) -> Option<u32>
         ensures { option_to_list result ≡ fresh_block self.now.stage }
     {
         match self.stage {
-            Stage::Lent(fresh) | Stage::Named(fresh) => Some(fresh),
+            Stage::Lent(fresh) => Some(fresh),
             Stage::Looks | Stage::Takes | Stage::Owes => None,
         }
     }
+}
+
+/// Gives packets' blocks back to the arena that they were taken from.
+fn give_packets(arena: &mut Arena, packets: VecDeque<Packet>)
+    requires { AreOut arena.old (numbers_of_all packets.items) }
+    ensures { arena.new ≡ with_all_free arena.old (numbers_of_all packets.items) }
+{
+    let mut left = packets;
+    for _given in 0..left.len() {
+        match left.pop_front() {
+            Some(packet) => give_packet(arena, packet),
+            None => unreachable!(),
+        }
+    }
+    left.destroy_empty()
 }
 
 /// The blocks that stand in a ring, a fresh one, and so many that the ring is in, from `ring` on. There is room for

@@ -69,7 +69,7 @@ module _ (v : Sender) (p : Packet) (may : MayStart v p) (b : Block) (bs : List B
     each = count ∙ ap parts_for (sym len);
     room = omega (arith, count, may.room);
     lent = may.lent;
-    settled = may.settled;
+    asked = may.asked;
     first = record {
       short = omega (
         arith,

@@ -139,8 +139,8 @@ module _ (p : Packet) (whole : All (λ (b : Block). IsBlock b) p.bufs) (some : 0
 
     -- it may be accepted then
     pub padded_may : (v : Sender) → MaySend v p → 60 ≤ v.layout.limit → v.lent ≡ length v.outstanding
-        → v.posted ≡ length v.outstanding → MayStart v (padded_packet p)
-    padded_may v may least lent settled = elim (cases_Bool (nat_lt p.len 60)) [
+        → v.poked ≡ length v.outstanding → MayStart v (padded_packet p)
+    padded_may v may least lent asked = elim (cases_Bool (nat_lt p.len 60)) [
       | inl is ↦
           let short : p.len < 60 = grind (arith, nat_tests, is) in
           let one : parts_for p.len ≡ 1 = omega (arith, some, short) in
@@ -151,7 +151,7 @@ module _ (p : Packet) (whole : All (λ (b : Block). IsBlock b) p.bufs) (some : 0
             held = omega (arith, some, held, count-first p.bufs p.len (zeros p.len));
             room = omega (arith, may.room, one);
             lent = lent;
-            settled = settled;
+            asked = asked;
             loose = record {
               whole = whole-first p.bufs short whole;
               apart = rw numbers may.loose.apart;
@@ -166,7 +166,7 @@ module _ (p : Packet) (whole : All (λ (b : Block). IsBlock b) p.bufs) (some : 0
             held = may.held;
             room = may.room;
             lent = lent;
-            settled = settled;
+            asked = asked;
             loose = may.loose;
           })
     ]

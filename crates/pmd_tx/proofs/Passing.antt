@@ -18,9 +18,10 @@ use Rattle.pmd_seam.specs.declared.packet.Packet.{Packet}
 use Rattle.pmd_tx.specs.declared.answer.Gate.{Gate}
 use Rattle.pmd_tx.specs.declared.answer.Gate.TheVariants.{Refused, Full, Open}
 use Rattle.pmd_tx.specs.declared.answer.TxAnswer.{TxAnswer}
+use Rattle.pmd_tx.specs.declared.answer.TxAnswer.TheVariants.{Taken, RingFull}
 use Rattle.pmd_tx.specs.declared.answer.TxFault.{TxFault}
 use Rattle.pmd_tx.specs.Sending.{Sender, Segment, accepted_by, keeps, segments_of}
-use Rattle.pmd_tx.specs.Sends.{gate_of, outgoing_of, accepted_of, is_bad_size, is_full, are_out, goes_home, returned, IsAnswer, IsAccepted, IsNoneAccepted, IsBack}
+use Rattle.pmd_tx.specs.Sends.{gate_of, outgoing_of, accepted_of, is_bad_size, is_full, are_out, goes_home, returned, IsAnswer, IsAccepted, IsFullWhereTold, IsNoneAccepted, IsBack, IsShut, IsTried}
 use Rattle.pmd_tx.specs.Shown.{AreDistinct, MaySend}
 use Rattle.pmd_tx.proofs.Distinct.{neither}
 
@@ -126,6 +127,21 @@ gone_open (Refused f) p x answer none = absurd (let e : Some p ≡ None = ap ret
 gone_open Full p x answer none = absurd (let e : Some p ≡ None = ap returned (sym answer) ∙ none in cc)
 gone_open Open p x answer none = refl
 
+pub taken_open : (g : Gate) (p : Packet) → IsAnswer g p (Ok Taken) → Open ≡ g
+taken_open g p answer = gone_open g p (Ok Taken) answer refl
+
+-- what is told once the way is open
+pub tried_answer : (g : Gate) (p : Packet) (x : Result TxAnswer TxFault) → Open ≡ g → IsTried x → IsAnswer g p x
+tried_answer g p x is tried = subst (λ (y : Gate). IsAnswer y p x) is tried
+
+pub tried_full : (v : Sender) (p : Packet) (x : Result TxAnswer TxFault) → IsTried x → IsFullWhereTold v p x
+tried_full v p (Ok Taken) tried = tt
+tried_full v p (Ok (RingFull q)) tried = absurd tried
+tried_full v p (Err f) tried = tt
+
+pub open_unshut : (g : Gate) → Open ≡ g → IsShut g → ⊥
+open_unshut g is shut = subst IsShut (sym is) shut
+
 pub gone_home : (v : Sender) (a : Numbers) (elsewhere : Bool) (p : Packet) (x : Result TxAnswer TxFault)
     → IsAnswer (gate_of v a elsewhere p) p x → returned x ≡ None
     → (goes_home v a p ≡ true) × (elsewhere ≡ false)
@@ -155,6 +171,12 @@ pub accepted_then : (v w x : Sender) (p : Packet) → w ≡ accepted_by v (outgo
 accepted_then v w x p is none = record {
   accepted = none.accepted ∙ ap (λ (y : Sender). y.accepted) is;
   outstanding = none.outstanding ∙ ap (λ (y : Sender). y.outstanding) is;
+}
+
+pub accepted_still : (v w x : Sender) (p : Packet) → IsAccepted v p w → IsNoneAccepted w x → IsAccepted v p x
+accepted_still v w x p is none = record {
+  accepted = none.accepted ∙ is.accepted;
+  outstanding = none.outstanding ∙ is.outstanding;
 }
 
 pub none_both : (v w x : Sender) → IsNoneAccepted v w → IsNoneAccepted w x → IsNoneAccepted v x

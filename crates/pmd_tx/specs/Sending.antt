@@ -142,14 +142,15 @@ pub record MayLend (v : Sender) (s : Segment) (b : Block) : Type 0 where
   pub away : has_lent v s.block ≡ false
 
 -- a packet that may be accepted by lending its first block: of 60 bytes at least, with a block for each part, where the
--- ring has a vacant slot for each of them and one to spare, and the tail has passed all before it
+-- ring has a vacant slot for each of them and one to spare, and the descriptors of all before it are written: the tail
+-- need not have passed them
 pub record MayAccept (v : Sender) (p : Outgoing) (b : Block) : Type 0 where
   pub long : 60 ≤ length p.kept.bytes
   pub short : length p.kept.bytes ≤ v.layout.limit
   pub each : length p.blocks ≡ parts_for (length p.kept.bytes)
   pub room : length v.outstanding + length p.blocks < v.layout.size
   pub lent : v.lent ≡ length v.outstanding
-  pub settled : v.posted ≡ length v.outstanding
+  pub asked : v.poked ≡ length v.outstanding
   pub first : MayLend v (slice_index_or (segments_of p) 0 no_segment) b
 
 -- the event of a move, as the driver's plain state makes it. It reads nothing of the device. The tail is moved only

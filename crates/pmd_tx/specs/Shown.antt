@@ -107,7 +107,7 @@ pub record MayStart (v : Sender) (p : Packet) : Type 0 where
   pub held : p.len ≤ 2048 * length p.bufs
   pub room : length v.outstanding + parts_for p.len < v.layout.size
   pub lent : v.lent ≡ length v.outstanding
-  pub settled : v.posted ≡ length v.outstanding
+  pub asked : v.poked ≡ length v.outstanding
   pub loose : AreLoose v p
 
 -- a packet that may be sent, before it is padded

@@ -14,8 +14,8 @@ use pmd_seam::{Nic, PmdFault, give_back};
 use std::alloc::Global;
 
 impl TransmitRing {
-    /// Frees the blocks of the packets that were sent, the oldest first. First it goes on with the packet that waits
-    /// since an earlier call, where one does.
+    /// Frees the blocks of the packets that were sent, the oldest first. First it goes on with the packets that wait
+    /// since earlier calls, as `flush` does.
     ///
     /// `DeviceFault` where the device answers what it can't on a healthy queue, and `Call` where a call was refused:
     /// what was freed before stays free.
@@ -42,7 +42,7 @@ impl TransmitRing {
         ensures refuses { N.refuses nic.new ≡ N.refuses nic.old }
         ensures refusal { IfErr result (λ f. CanFail (N.refuses nic.new) f) }
     {
-        match self.post_waiting(alloc, nic) {
+        match self.flush(alloc, nic) {
             Ok(()) => self.reap_sent(alloc, nic, arena),
             Err(fault) => Err(fault),
         }

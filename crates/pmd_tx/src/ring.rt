@@ -189,6 +189,15 @@ impl TransmitRing {
         self.count() + more >= self.size
     }
 
+    /// How many more segments have room, 0 to 1,023: as many may be outstanding as the ring has slots, but one.
+    #[tactic(auto, using(crate::proofs::Outstanding::outstanding))]
+    pub fn vacant(&self) -> u16
+        ensures vacant { result ≡ self.now.layout.size - 1 - length self.now.outstanding }
+        ensures few { result < 1024 }
+    {
+        self.size - 1 - self.count()
+    }
+
     /// How many segments are outstanding.
     #[tactic(auto, using(crate::proofs::Outstanding::outstanding))]
     pub(crate) fn count(&self) -> u16
@@ -202,7 +211,9 @@ impl TransmitRing {
     #[tactic(auto, using(crate::proofs::Outstanding::outstanding))]
     pub(crate) fn asked(&self) -> u16
         ensures asked { result ≡ self.now.poked }
-        ensures few { result ≤ length self.now.outstanding }
+        ensures posted { self.now.posted ≤ result }
+        ensures order { result ≤ self.now.lent }
+        ensures lent { self.now.lent ≤ length self.now.outstanding }
     {
         self.poked
     }

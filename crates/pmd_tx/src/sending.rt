@@ -1,4 +1,5 @@
-//! How a packet is sent: its blocks are lent and its descriptors written, and the tail is moved on.
+//! How packets are sent: their blocks are lent and their descriptors written, and the tail is moved on, behind each
+//! packet or once behind several.
 
 ghost use Rattle.std.specs.Prelude.{◌≡◌, ◌==◌, ◌&&◌, not, ◌<◌, ◌≤◌, ◌+◌, ℕ, List, None, All, drop, length, IfOk, IfErr, OnOk, OnErr, IfSome, IfNone};
 ghost use Rattle.std.specs.List.{list_any};
@@ -77,9 +78,9 @@ impl TransmitRing {
     }
 
     /// Sends a packet of 1 byte to the limit, which is padded with zero bytes to 60: for each of its parts it lends the
-    /// block and writes the descriptor, and then it moves the tail on. First it goes on with the packet that waits since
-    /// an earlier call, where one does. `elsewhere` says whether another ring of the driver has a block of one of its
-    /// numbers lent.
+    /// block and writes the descriptor, and then it moves the tail on, also over packets that were queued before. First
+    /// it goes on with the packet that waits since an earlier call, where one does. `elsewhere` says whether another
+    /// ring of the driver has a block of one of its numbers lent.
     ///
     /// Before any event: `BadSize` where its length is another, or above that of its blocks, `ForeignBlock` where its
     /// blocks can't go home or one is lent elsewhere, and `RingFull` where the outstanding segments and this packet's
@@ -112,13 +113,52 @@ impl TransmitRing {
         ensures refuses { N.refuses nic.new ≡ N.refuses nic.old }
         ensures refusal { IfErr result (λ failed. CanFail (N.refuses nic.new) failed.fault) }
     {
+        match self.queue(alloc, nic, arena, elsewhere, packet) {
+            Ok(TxAnswer::Taken) => self.post_accepted(alloc, nic),
+            Ok(TxAnswer::RingFull(packet)) => Ok(TxAnswer::RingFull(packet)),
+            Err(failed) => Err(failed),
+        }
+    }
+
+    /// As `send`, but it leaves the tail where it is, for a `flush` that moves it once over several packets: for each
+    /// of the packet's parts it lends the block and writes the descriptor. First it goes on with what is left to lend
+    /// and to write of a packet that waits since an earlier call, where one does.
+    ///
+    /// It answers as `send`: the packet comes back where none of its blocks was lent yet; else it is accepted, and the
+    /// next call goes on with it. The device sends it once the tail has passed it, by `flush`, `send` or `reap`.
+    pub fn queue<N: Nic>(
+        &mut self,
+        alloc: Global,
+        nic: &mut N,
+        arena: &mut Arena,
+        elsewhere: bool,
+        packet: Packet,
+    ) -> Result<TxAnswer, TxFault>
+        ensures plays { PlaysWith (outgoing_of packet).blocks (N.made nic.old) self.old (N.made nic.new) self.new }
+        ensures answer { IsAnswer (gate_of self.old arena.old elsewhere packet) packet result }
+        ensures full { IsFullWhereTold self.old packet result }
+        ensures shut { IsShut (gate_of self.old arena.old elsewhere packet)
+            → (N.made nic.new ≡ N.made nic.old) × (self.new ≡ self.old) }
+        ensures accepted { IfNone (returned result) (IsAccepted self.old packet self.new) }
+        ensures kept { IfSome (returned result) (λ back. IsNoneAccepted self.old self.new) }
+        ensures home { SendsHome (returned result) packet arena.old arena.new }
+        ensures back { IfErr result (λ failed. IfSome failed.packet (λ back. IsBack failed.fault packet back)) }
+        ensures asked { result ≡ Ok TxAnswer.Taken → self.new.poked ≡ length self.new.outstanding }
+        ensures tail { self.new.posted ≡ self.old.posted }
+        ensures faults { IfErr result (λ failed.
+            FaultsBy failed.fault (outgoing_of packet).blocks (N.made nic.old) self.old (N.made nic.new)) }
+        ensures layout { self.new.layout ≡ self.old.layout }
+        ensures who { N.who nic.new ≡ N.who nic.old }
+        ensures refuses { N.refuses nic.new ≡ N.refuses nic.old }
+        ensures refusal { IfErr result (λ failed. CanFail (N.refuses nic.new) failed.fault) }
+    {
         match self.gate(arena, elsewhere, &packet) {
             Gate::Refused(fault) => Err(TxFault {
                 fault,
                 packet: Some(packet),
             }),
             Gate::Full => Ok(TxAnswer::RingFull(packet)),
-            Gate::Open => self.send_through(alloc, nic, arena, packet),
+            Gate::Open => self.queue_through(alloc, nic, arena, packet),
         }
     }
 
@@ -142,8 +182,8 @@ impl TransmitRing {
         Gate::Open
     }
 
-    /// Goes on with the packet that waits, and sends this one, whose way is open.
-    fn send_through<N: Nic>(
+    /// Goes on with the packet that waits, and queues this one, whose way is open.
+    fn queue_through<N: Nic>(
         &mut self,
         alloc: Global,
         nic: &mut N,
@@ -158,7 +198,8 @@ impl TransmitRing {
         ensures kept { IfSome (returned result) (λ back. IsNoneAccepted self.old self.new) }
         ensures home { SendsHome (returned result) packet arena.old arena.new }
         ensures back { IfErr result (λ failed. IfSome failed.packet (λ back. IsBack failed.fault packet back)) }
-        ensures settled { result ≡ Ok TxAnswer.Taken → self.new.posted ≡ length self.new.outstanding }
+        ensures asked { result ≡ Ok TxAnswer.Taken → self.new.poked ≡ length self.new.outstanding }
+        ensures tail { self.new.posted ≡ self.old.posted }
         ensures faults { IfErr result (λ failed.
             FaultsBy failed.fault (outgoing_of packet).blocks (N.made nic.old) self.old (N.made nic.new)) }
         ensures layout { self.new.layout ≡ self.old.layout }
@@ -166,8 +207,8 @@ impl TransmitRing {
         ensures refuses { N.refuses nic.new ≡ N.refuses nic.old }
         ensures refusal { IfErr result (λ failed. CanFail (N.refuses nic.new) failed.fault) }
     {
-        match self.post_waiting(alloc, nic) {
-            Ok(()) => self.accept_and_post(alloc, nic, arena, packet),
+        match self.ask_waiting(alloc, nic) {
+            Ok(()) => self.accept_and_ask(alloc, nic, arena, packet),
             Err(fault) => Err(TxFault {
                 fault,
                 packet: Some(packet),
@@ -175,8 +216,8 @@ impl TransmitRing {
         }
     }
 
-    /// Sends a packet, whose way is open, where none waits.
-    fn accept_and_post<N: Nic>(
+    /// Queues a packet, whose way is open, where none waits but for the tail.
+    fn accept_and_ask<N: Nic>(
         &mut self,
         alloc: Global,
         nic: &mut N,
@@ -185,7 +226,7 @@ impl TransmitRing {
     ) -> Result<TxAnswer, TxFault>
         requires may { MaySend self.old packet }
         requires lent { self.old.lent ≡ length self.old.outstanding }
-        requires settled { self.old.posted ≡ length self.old.outstanding }
+        requires asked { self.old.poked ≡ length self.old.outstanding }
         requires home { AreOut arena.old (numbers_of packet.bufs) }
         ensures plays { PlaysWith (outgoing_of packet).blocks (N.made nic.old) self.old (N.made nic.new) self.new }
         ensures tried { IsTried result }
@@ -193,7 +234,8 @@ impl TransmitRing {
         ensures kept { IfSome (returned result) (λ back. IsNoneAccepted self.old self.new) }
         ensures home { SendsHome (returned result) packet arena.old arena.new }
         ensures back { IfErr result (λ failed. IfSome failed.packet (λ back. IsBack failed.fault packet back)) }
-        ensures settled { result ≡ Ok TxAnswer.Taken → self.new.posted ≡ length self.new.outstanding }
+        ensures asked { result ≡ Ok TxAnswer.Taken → self.new.poked ≡ length self.new.outstanding }
+        ensures tail { self.new.posted ≡ self.old.posted }
         ensures faults { IfErr result (λ failed.
             FaultsBy failed.fault (outgoing_of packet).blocks (N.made nic.old) self.old (N.made nic.new)) }
         ensures layout { self.new.layout ≡ self.old.layout }
@@ -204,7 +246,7 @@ impl TransmitRing {
         match self.accept_padded(alloc, nic, packet) {
             Ok(rest) => {
                 give_bufs(arena, rest);
-                self.post_accepted(alloc, nic)
+                self.ask_accepted(alloc, nic)
             }
             Err((fault, packet)) => Err(TxFault {
                 fault,
@@ -213,7 +255,32 @@ impl TransmitRing {
         }
     }
 
-    /// Goes on with the packet that was just accepted.
+    /// Lends and describes what is left of the packet that was just accepted.
+    fn ask_accepted<N: Nic>(&mut self, alloc: Global, nic: &mut N) -> Result<TxAnswer, TxFault>
+        ensures plays { (blocks : List ℕ) → PlaysWith blocks (N.made nic.old) self.old (N.made nic.new) self.new }
+        ensures tried { IsTried result }
+        ensures kept { IsNoneAccepted self.old self.new }
+        ensures none { returned result ≡ None }
+        ensures taken { IfErr result (λ failed. failed.packet ≡ None) }
+        ensures asked { result ≡ Ok TxAnswer.Taken → self.new.poked ≡ length self.new.outstanding }
+        ensures tail { self.new.posted ≡ self.old.posted }
+        ensures faults { (blocks : List ℕ) → IfErr result (λ failed.
+            FaultsBy failed.fault blocks (N.made nic.old) self.old (N.made nic.new)) }
+        ensures layout { self.new.layout ≡ self.old.layout }
+        ensures who { N.who nic.new ≡ N.who nic.old }
+        ensures refuses { N.refuses nic.new ≡ N.refuses nic.old }
+        ensures refusal { IfErr result (λ failed. CanFail (N.refuses nic.new) failed.fault) }
+    {
+        match self.ask_waiting(alloc, nic) {
+            Ok(()) => Ok(TxAnswer::Taken),
+            Err(fault) => Err(TxFault {
+                fault,
+                packet: None,
+            }),
+        }
+    }
+
+    /// Moves the tail on over the packet that was just accepted.
     fn post_accepted<N: Nic>(&mut self, alloc: Global, nic: &mut N) -> Result<TxAnswer, TxFault>
         ensures plays { (blocks : List ℕ) → PlaysWith blocks (N.made nic.old) self.old (N.made nic.new) self.new }
         ensures tried { IsTried result }
@@ -228,7 +295,7 @@ impl TransmitRing {
         ensures refuses { N.refuses nic.new ≡ N.refuses nic.old }
         ensures refusal { IfErr result (λ failed. CanFail (N.refuses nic.new) failed.fault) }
     {
-        match self.post_waiting(alloc, nic) {
+        match self.flush(alloc, nic) {
             Ok(()) => Ok(TxAnswer::Taken),
             Err(fault) => Err(TxFault {
                 fault,
@@ -247,7 +314,7 @@ impl TransmitRing {
     ) -> Result<Bufs, (PmdFault, Packet)>
         requires may { MaySend self.old packet }
         requires lent { self.old.lent ≡ length self.old.outstanding }
-        requires settled { self.old.posted ≡ length self.old.outstanding }
+        requires asked { self.old.poked ≡ length self.old.outstanding }
         ensures plays { PlaysWith (outgoing_of packet).blocks (N.made nic.old) self.old (N.made nic.new) self.new }
         ensures accepted { OnOk result (self.new ≡ accepted_by self.old (outgoing_of packet)) }
         ensures rest { IfOk result (λ rest. numbers_of rest ≡ drop (parts_for packet.len) (numbers_of packet.bufs)) }
@@ -271,16 +338,42 @@ impl TransmitRing {
 }
 
 impl TransmitRing {
-    /// Goes on with the packet that was accepted and that the tail hasn't passed, where there is one: lends the blocks
-    /// and writes the descriptors that are left, and moves the tail on.
-    pub(crate) fn post_waiting<N: Nic>(
-        &mut self,
-        alloc: Global,
-        nic: &mut N,
-    ) -> Result<(), PmdFault>
+    /// Goes on with the packets that were accepted and that the tail hasn't passed, where there are some: lends the
+    /// blocks and writes the descriptors that are left of the last one, and moves the tail on over all of them. It
+    /// makes no call where the tail has passed all.
+    ///
+    /// `DeviceFault` where the device answers what it can't on a healthy queue, and `Call` where a call was refused:
+    /// the next call goes on.
+    pub fn flush<N: Nic>(&mut self, alloc: Global, nic: &mut N) -> Result<(), PmdFault>
         ensures plays { (blocks : List ℕ) → PlaysWith blocks (N.made nic.old) self.old (N.made nic.new) self.new }
         ensures lent { OnOk result (self.new.lent ≡ length self.new.outstanding) }
         ensures settled { OnOk result (self.new.posted ≡ length self.new.outstanding) }
+        ensures still { self.old.posted ≡ length self.old.outstanding
+            → (N.made nic.new ≡ N.made nic.old) × (self.new ≡ self.old) × (result ≡ Ok tt) }
+        ensures kept { IsNoneAccepted self.old self.new }
+        ensures layout { self.new.layout ≡ self.old.layout }
+        ensures late { IfErr result (λ fault. IsLate fault) }
+        ensures faults { (blocks : List ℕ) → IfErr result (λ fault.
+            FaultsBy fault blocks (N.made nic.old) self.old (N.made nic.new)) }
+        ensures who { N.who nic.new ≡ N.who nic.old }
+        ensures refuses { N.refuses nic.new ≡ N.refuses nic.old }
+        ensures refusal { IfErr result (λ f. CanFail (N.refuses nic.new) f) }
+    {
+        match self.ask_waiting(alloc, nic) {
+            Ok(()) => self.post(alloc, nic),
+            Err(fault) => Err(fault),
+        }
+    }
+
+    /// Lends the blocks and writes the descriptors that are left of the packet that waits, where one does. It leaves
+    /// the tail.
+    fn ask_waiting<N: Nic>(&mut self, alloc: Global, nic: &mut N) -> Result<(), PmdFault>
+        ensures plays { (blocks : List ℕ) → PlaysWith blocks (N.made nic.old) self.old (N.made nic.new) self.new }
+        ensures lent { OnOk result (self.new.lent ≡ length self.new.outstanding) }
+        ensures asked { OnOk result (self.new.poked ≡ length self.new.outstanding) }
+        ensures tail { self.new.posted ≡ self.old.posted }
+        ensures still { self.old.posted ≡ length self.old.outstanding
+            → (N.made nic.new ≡ N.made nic.old) × (self.new ≡ self.old) × (result ≡ Ok tt) }
         ensures kept { IsNoneAccepted self.old self.new }
         ensures layout { self.new.layout ≡ self.old.layout }
         ensures late { IfErr result (λ fault. IsLate fault) }
@@ -296,7 +389,8 @@ impl TransmitRing {
                 Err(fault) => return Err(fault),
             }
         }
-        self.post(alloc, nic)
+        let _order = self.asked();
+        Ok(())
     }
 
     /// Lends the block of the next segment, where it isn't lent yet, and writes the segment's descriptor.
@@ -304,6 +398,7 @@ impl TransmitRing {
         requires { self.old.poked < length self.old.outstanding }
         ensures plays { (blocks : List ℕ) → PlaysWith blocks (N.made nic.old) self.old (N.made nic.new) self.new }
         ensures asked { OnOk result (self.new.poked ≡ self.old.poked + 1) }
+        ensures tail { self.new.posted ≡ self.old.posted }
         ensures kept { IsNoneAccepted self.old self.new }
         ensures layout { self.new.layout ≡ self.old.layout }
         ensures late { IfErr result (λ fault. IsLate fault) }
@@ -325,6 +420,7 @@ impl TransmitRing {
         ensures plays { (blocks : List ℕ) → PlaysWith blocks (N.made nic.old) self.old (N.made nic.new) self.new }
         ensures lent { OnOk result (self.new.poked < self.new.lent) }
         ensures poked { self.new.poked ≡ self.old.poked }
+        ensures tail { self.new.posted ≡ self.old.posted }
         ensures kept { IsNoneAccepted self.old self.new }
         ensures layout { self.new.layout ≡ self.old.layout }
         ensures late { IfErr result (λ fault. IsLate fault) }
@@ -346,6 +442,8 @@ impl TransmitRing {
         ensures plays { (blocks : List ℕ) → PlaysWith blocks (N.made nic.old) self.old (N.made nic.new) self.new }
         ensures lent { OnOk result (self.new.lent ≡ length self.new.outstanding) }
         ensures settled { OnOk result (self.new.posted ≡ length self.new.outstanding) }
+        ensures still { self.old.posted ≡ length self.old.outstanding
+            → (N.made nic.new ≡ N.made nic.old) × (self.new ≡ self.old) × (result ≡ Ok tt) }
         ensures kept { IsNoneAccepted self.old self.new }
         ensures layout { self.new.layout ≡ self.old.layout }
         ensures late { IfErr result (λ fault. IsLate fault) }

@@ -1,6 +1,5 @@
 use Rattle.std.proofs.Common.{◌<◌, ◌++◌, [], length, arith}
 use Rattle.pmd_rx.specs.Keeping as receive
-use Rattle.pmd_rx.specs.PmdSeam.Bufs.{numbers_of}
 use Rattle.pmd.proofs.Blocks.{second_out}
 use Rattle.pmd.proofs.Few.{out_few}
 use Rattle.pmd.proofs.HaltedBlocks.{first_halted, ring_out}
@@ -21,5 +20,5 @@ invariant_of-result c =
     let small : length c.args.arena.free < 4294967296 = omega (arith, c.count-count.ensures, c.count-count.type_inv) in
     rw c.of.ensures
     (first_halted c.args.arena small (receive.lent_of c.args.receive ++ c.args.lent.items)
-    (numbers_of c.args.receive.held.bufs ++ []) c.args.receive.handed c.new.result.items
+    (receive.blocks_held c.args.receive ++ []) c.args.receive.handed c.new.result.items
     (ring_out c.args.arena c.args.receive c.args.lent.items c.requires))

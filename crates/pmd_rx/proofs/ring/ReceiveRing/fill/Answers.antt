@@ -6,7 +6,7 @@ use Rattle.pmd_rx.specs.Filling.{StopsFilling}
 use Rattle.pmd_rx.specs.Keeping.{blocks_out}
 use Rattle.pmd_rx.proofs.Earlier.{posts_then}
 use Rattle.pmd_rx.proofs.Failing.{err_same}
-use Rattle.pmd_rx.proofs.Filling.{posts_none, posts_more, posts_none_seen, posts_stage, posts_handed, posts_room, filled_runs, short_of}
+use Rattle.pmd_rx.proofs.Filling.{posts_none, posts_more, posts_none_seen, posts_stage, posts_idle, posts_handed, posts_room, filled_runs, short_of}
 use Rattle.pmd_rx.proofs.Keeping.{keeps_none, keeps_both}
 use Rattle.pmd_rx.proofs.Playing.{plays_none}
 use Rattle.pmd_rx.proofs.ring.ReceiveRing.fill.Goals as goal
@@ -35,6 +35,11 @@ pub post-requires-clause-empty : goal.post-requires-clause-empty
 post-requires-clause-empty g c =
     posts_none_seen c.loop-count._count c.args.arena.now c.loop-count.arena c.args.self.now c.loop-count.self
     c.loop-count.invariant.posts c.requires.unseen
+
+pub post-requires-clause-idle : goal.post-requires-clause-idle
+post-requires-clause-idle g c =
+    posts_idle c.loop-count._count c.args.arena.now c.loop-count.arena c.args.self.now c.loop-count.self
+    c.loop-count.invariant.posts c.requires.idle
 
 pub post-requires-clause-home : goal.post-requires-clause-home
 post-requires-clause-home g c =
@@ -136,7 +141,7 @@ pub returns-clause-running : goal.returns-clause-running
 returns-clause-running g c =
     filled_runs c.loop-count._count c.args.arena.now c.loop-count.arena c.args.self.now c.loop-count.self
     c.loop-count.invariant.posts c.requires.empty c.requires.stage
-    c.requires.unseen.0 c.spare_slots-slots.ensures.some.0 c.spare_slots-slots.ensures.some.1
+    c.requires.unseen c.requires.idle c.spare_slots-slots.ensures.some.0 c.spare_slots-slots.ensures.some.1
     (omega (arith, c.loop-count-test.false, c.loop-count.auto._count-end, c.spare_slots-slots.ensures.all))
 
 pub returns-clause-handed : goal.returns-clause-handed

@@ -1,9 +1,10 @@
 use Rattle.std.proofs.Common.{◌∙◌, [], Ok, refl, ap, arith}
 use Rattle.nic_device.specs.DmaArena.Numbers.{Numbers}
+use Rattle.pmd_rx.specs.Receive.{Receive}
 use Rattle.pmd_rx.specs.declared.receive.Look.{Look}
 use Rattle.pmd_rx.proofs.Failing.{wrong_after, fault_after}
 use Rattle.pmd_rx.proofs.Keeping.{keeps_none, keeps_both}
-use Rattle.pmd_rx.proofs.Looking.{posted_more, looks_vainly, kept_both}
+use Rattle.pmd_rx.proofs.Looking.{looks_vainly, kept_both}
 use Rattle.pmd_rx.proofs.Playing.{plays_none, plays_both}
 use Rattle.pmd_rx.proofs.ring.ReceiveRing.look_whole.Goals as goal
 
@@ -20,8 +21,7 @@ loop-look-init g c = record {
 }
 
 pub look-requires-clause-some : goal.look-requires-clause-some
-look-requires-clause-some g c =
-    posted_more c.loop-look.self c.loop-look.invariant.running (c.waits.ensures.no c.if-waits.false)
+look-requires-clause-some g c = c.has_next.ensures.yes c.if-not-has_next.false
 
 pub returns-in-Ok-Nothing-clause-plays : goal.returns-in-Ok-Nothing-clause-plays
 returns-in-Ok-Nothing-clause-plays g c a =
@@ -66,12 +66,13 @@ returns-in-Err-clause-kept g c =
     kept_both c.args.self.now c.loop-look.self c.look.new.self c.loop-look.invariant.kept c.look.ensures.kept
 
 pub returns-in-Ok-Nothing-clause-none : goal.returns-in-Ok-Nothing-clause-none
-returns-in-Ok-Nothing-clause-none g c is =
+returns-in-Ok-Nothing-clause-none g c is none =
     let home : Numbers = record { first = 0; free = [] } in
     looks_vainly (g.N.Nic.made c.args.nic.now) (g.N.Nic.made c.loop-look.nic) (g.N.Nic.made c.look.new.nic)
     c.args.self.now c.loop-look.self c.look.new.self (c.loop-look.invariant.plays home) c.loop-look.invariant.kept
     (c.loop-look.invariant.from (c.waits.ensures.no c.if-waits.false)) (c.waits.ensures.no c.if-waits.false)
     c.loop-look.invariant.running (c.waits.ensures.none c.if-waits.false)
+    (ap (λ (v : Receive). v.whole) c.loop-look.invariant.kept ∙ none)
     (c.in-Ok-Nothing.ensures.nothing (ap (λ (l : Look). Ok l) c.in-Ok-Nothing.field-0-is))
 
 pub returns-in-Ok-Wrong-clause-fault : goal.returns-in-Ok-Wrong-clause-fault

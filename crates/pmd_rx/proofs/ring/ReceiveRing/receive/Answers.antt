@@ -1,53 +1,37 @@
-use Rattle.pmd_seam.proofs.Exchanging.{out_kept}
-use Rattle.pmd_rx.specs.Keeping.{blocks_out, handed_blocks}
-use Rattle.pmd_rx.proofs.Failing.{fails_behind, fails_of, no_short, err_same}
+use Rattle.pmd_seam.specs.Bufs.{numbers_of}
+use Rattle.pmd_rx.proofs.Earlier.{plays_then, fails_then}
+use Rattle.pmd_rx.proofs.Failing.{no_short, err_same}
 use Rattle.pmd_rx.proofs.Keeping.{keeps_both}
-use Rattle.pmd_rx.proofs.Playing.{plays_both}
 use Rattle.pmd_rx.proofs.ring.ReceiveRing.receive.Goals as goal
 
-pub take_whole-requires-clause-running : goal.take_whole-requires-clause-running
-take_whole-requires-clause-running g c =
-    (c.look_whole.ensures.keeps c.args.arena.now).running c.requires.running
+pub returns-in-Ok-clause-plays : goal.returns-in-Ok-clause-plays
+returns-in-Ok-clause-plays g c =
+    plays_then c.args.arena.now c.gather.new.arena (g.N.Nic.made c.args.nic.now) (g.N.Nic.made c.gather.new.nic)
+    (g.N.Nic.made c.post_one.new.nic) c.args.self.now c.gather.new.self c.post_one.new.self c.gather.ensures.plays
+    c.gather.ensures.keeps (c.post_one.ensures.plays c.gather.new.arena)
 
-pub take_whole-requires-clause-home : goal.take_whole-requires-clause-home
-take_whole-requires-clause-home g c =
-    let a = c.args.arena.now in
-    out_kept a (blocks_out c.args.self.now) a (blocks_out c.look_whole.new.self) c.requires.home
-    (c.look_whole.ensures.keeps a).arena
+pub returns-in-Ok-clause-keeps : goal.returns-in-Ok-clause-keeps
+returns-in-Ok-clause-keeps g c =
+    keeps_both c.args.arena.now c.gather.new.arena c.gather.new.arena c.args.self.now c.gather.new.self
+    c.post_one.new.self (numbers_of c.in-Ok.packet.bufs) c.gather.ensures.keeps
+    (c.in-Ok.ensures.hands.keeps c.gather.new.arena)
 
-pub returns-in-Ok-true-clause-plays : goal.returns-in-Ok-true-clause-plays
-returns-in-Ok-true-clause-plays g c =
-    let a = c.args.arena.now in
-    plays_both a (g.N.Nic.made c.args.nic.now) (g.N.Nic.made c.look_whole.new.nic) (g.N.Nic.made c.take_whole.new.nic)
-    c.args.self.now c.look_whole.new.self c.take_whole.new.self (c.look_whole.ensures.plays a)
-    c.take_whole.ensures.plays
+pub returns-in-Err-post_one-clause-plays : goal.returns-in-Err-post_one-clause-plays
+returns-in-Err-post_one-clause-plays g c =
+    plays_then c.args.arena.now c.gather.new.arena (g.N.Nic.made c.args.nic.now) (g.N.Nic.made c.gather.new.nic)
+    (g.N.Nic.made c.post_one.new.nic) c.args.self.now c.gather.new.self c.post_one.new.self c.gather.ensures.plays
+    c.gather.ensures.keeps (c.post_one.ensures.plays c.gather.new.arena)
 
-pub returns-in-Ok-true-clause-fails : goal.returns-in-Ok-true-clause-fails
-returns-in-Ok-true-clause-fails g c =
-    let a = c.args.arena.now in
-    fails_behind c.take_whole.result (g.N.Nic.made c.args.nic.now) (g.N.Nic.made c.look_whole.new.nic)
-    (g.N.Nic.made c.take_whole.new.nic) a c.take_whole.new.arena c.args.self.now c.look_whole.new.self
-    c.take_whole.new.self (c.look_whole.ensures.plays a) c.look_whole.ensures.kept c.take_whole.ensures.fails
+pub returns-in-Err-post_one-clause-fails : goal.returns-in-Err-post_one-clause-fails
+returns-in-Err-post_one-clause-fails g c =
+    fails_then c.in-Err-post_one.fault c.args.arena.now c.gather.new.arena c.gather.new.arena
+    (g.N.Nic.made c.args.nic.now) (g.N.Nic.made c.gather.new.nic) (g.N.Nic.made c.post_one.new.nic) c.args.self.now
+    c.gather.new.self c.post_one.new.self c.gather.ensures.plays c.gather.ensures.keeps
+    (c.in-Err-post_one.ensures.fault c.gather.new.arena)
 
-pub returns-in-Ok-true-clause-keeps : goal.returns-in-Ok-true-clause-keeps
-returns-in-Ok-true-clause-keeps g c =
-    let a = c.args.arena.now in
-    keeps_both a a c.take_whole.new.arena c.args.self.now c.look_whole.new.self c.take_whole.new.self
-    (handed_blocks c.take_whole.result) (c.look_whole.ensures.keeps a) c.take_whole.ensures.keeps
-
-pub returns-in-Ok-false-clause-keeps : goal.returns-in-Ok-false-clause-keeps
-returns-in-Ok-false-clause-keeps g c = c.look_whole.ensures.keeps c.args.arena.now
-
-pub returns-in-Err-clause-keeps : goal.returns-in-Err-clause-keeps
-returns-in-Err-clause-keeps g c = c.look_whole.ensures.keeps c.args.arena.now
-
-pub returns-in-Err-clause-fails : goal.returns-in-Err-clause-fails
-returns-in-Err-clause-fails g c =
-    fails_of c.in-Err.fault (g.N.Nic.made c.args.nic.now) (g.N.Nic.made c.look_whole.new.nic) c.args.arena.now
-    c.args.arena.now c.args.self.now c.look_whole.new.self (c.in-Err.ensures.fault c.args.arena.now)
-
-pub returns-in-Err-clause-waits : goal.returns-in-Err-clause-waits
-returns-in-Err-clause-waits g c short =
+pub returns-in-Err-post_one-clause-waits : goal.returns-in-Err-post_one-clause-waits
+returns-in-Err-post_one-clause-waits g c short =
     absurd
-    (no_short c.in-Err.fault c.args.arena.now (g.N.Nic.made c.args.nic.now) (g.N.Nic.made c.look_whole.new.nic)
-    c.args.self.now c.look_whole.new.self (c.in-Err.ensures.fault c.args.arena.now) (err_same short))
+    (no_short c.in-Err-post_one.fault c.gather.new.arena (g.N.Nic.made c.gather.new.nic)
+    (g.N.Nic.made c.post_one.new.nic) c.gather.new.self c.post_one.new.self
+    (c.in-Err-post_one.ensures.fault c.gather.new.arena) (err_same short))

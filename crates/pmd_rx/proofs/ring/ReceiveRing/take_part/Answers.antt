@@ -1,6 +1,6 @@
 use Rattle.std.proofs.Common.{[], ◌∙◌}
 use Rattle.pmd_rx.specs.Receive.{TakesNext, took}
-use Rattle.pmd_rx.proofs.Keeping.{keeps_none, keeps_to, took_keeps, took_owes, took_handed}
+use Rattle.pmd_rx.proofs.Keeping.{keeps_none, keeps_to, took_keeps, took_owes, took_handed, took_whole}
 use Rattle.pmd_rx.proofs.Own.{take_asks, take_plays, take_misses, take_wrong}
 use Rattle.pmd_rx.proofs.Playing.{plays_some}
 use Rattle.pmd_rx.proofs.ring.ReceiveRing.take_part.Goals as goal
@@ -33,6 +33,9 @@ returns-in-Err-clause-plays g c arena =
 
 pub returns-in-Ok-Some-clause-handed : goal.returns-in-Ok-Some-clause-handed
 returns-in-Ok-Some-clause-handed g c = took_handed c.args.self.now c.hold.new.self c.in-Ok-Some.buf c.hold.ensures
+
+pub returns-in-Ok-Some-clause-whole : goal.returns-in-Ok-Some-clause-whole
+returns-in-Ok-Some-clause-whole g c = took_whole c.args.self.now c.hold.new.self c.in-Ok-Some.buf c.hold.ensures
 
 pub returns-in-Ok-Some-clause-taken : goal.returns-in-Ok-Some-clause-taken
 returns-in-Ok-Some-clause-taken g c =

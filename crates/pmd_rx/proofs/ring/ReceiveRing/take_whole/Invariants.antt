@@ -1,10 +1,8 @@
-use Rattle.std.proofs.Common.{◌≡◌, ◌≤◌, ◌+◌, []}
-use Rattle.nic_device.specs.DmaArena.Numbers.{free_count}
+use Rattle.std.proofs.Common.{◌≡◌, ◌<◌, ◌+◌, []}
 use Rattle.pmd_seam.specs.Home.{AreOut}
 use Rattle.pmd_rx.specs.Keeping.{Keeps, IsRunning, blocks_out}
 use Rattle.pmd_rx.specs.Plays.{PlaysFrom}
-use Rattle.pmd_rx.specs.Shown.{rounds}
-use Rattle.pmd_rx.specs.Wrong.{PacketWaits, wanted}
+use Rattle.pmd_rx.specs.Shown.{rounds, OneMore, WaitsStill}
 use Rattle.pmd_rx.proofs.ring.ReceiveRing.take_whole.Given as goal
 
 abbrev pub invariant-loop-part : goal.invariant-loop-part
@@ -15,8 +13,8 @@ invariant-loop-part g l = record {
   keeps : Keeps l.fn.arena l.fn.self l.arena l.self [];
   handed : l.self.handed ≡ l.fn.self.handed;
   running : IsRunning l.self;
-  waits : PacketWaits l.self.stage;
   home : AreOut l.arena (blocks_out l.self);
-  free : wanted l.self ≤ free_count l.arena;
+  waits : 0 < rounds l.self → WaitsStill l.fn.arena l.fn.self l.arena l.self;
+  more : rounds l.self ≡ 0 → OneMore l.fn.self l.self;
   left : rounds l.self + l._part ≡ rounds l.fn.self;
 }

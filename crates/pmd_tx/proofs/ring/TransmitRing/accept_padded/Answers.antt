@@ -12,7 +12,7 @@ accept-requires g c =
     let may = c.requires.may in
     rw c.pad.ensures
     (padded_may c.args.packet may.loose.whole may.some may.held c.args.self.now may
-    (rw c.limit-least.ensures.limit at c.limit-least.ensures.least) c.requires.lent c.requires.settled)
+    (rw c.limit-least.ensures.limit at c.limit-least.ensures.least) c.requires.lent c.requires.asked)
 
 pub returns-in-Ok-clause-accepted : goal.returns-in-Ok-clause-accepted
 returns-in-Ok-clause-accepted g c =

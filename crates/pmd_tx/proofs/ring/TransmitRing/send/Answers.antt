@@ -1,32 +1,48 @@
-use Rattle.std.proofs.Common.{refl}
-use Rattle.pmd_tx.specs.Sends.{outgoing_of}
-use Rattle.pmd_tx.proofs.Passing.{open_may, open_out}
-use Rattle.pmd_tx.proofs.Playing.{plays_none}
+use Rattle.pmd_tx.specs.Sends.{gate_of, outgoing_of}
+use Rattle.pmd_tx.specs.declared.answer.TxFault.{TxFault}
+use Rattle.pmd_tx.proofs.Ending.{after_all}
+use Rattle.pmd_tx.proofs.Passing.{accepted_still, none_back, open_unshut, taken_open, tried_answer, tried_full}
+use Rattle.pmd_tx.proofs.Playing.{plays_both}
 use Rattle.pmd_tx.proofs.ring.TransmitRing.send.Goals as goal
 
-pub send_through-requires-clause-may : goal.send_through-requires-clause-may
-send_through-requires-clause-may g c =
-    open_may c.args.self.now c.args.arena.now c.args.elsewhere c.args.packet c.in-Open.ensures.told
-    c.gate.ensures.whole
+pub returns-in-Ok-Taken-clause-plays : goal.returns-in-Ok-Taken-clause-plays
+returns-in-Ok-Taken-clause-plays g c =
+    plays_both (outgoing_of c.args.packet).blocks (g.N.Nic.made c.args.nic.now) (g.N.Nic.made c.queue.new.nic)
+    (g.N.Nic.made c.post_accepted.new.nic) c.args.self.now c.queue.new.self c.post_accepted.new.self
+    c.queue.ensures.plays (c.post_accepted.ensures.plays (outgoing_of c.args.packet).blocks)
 
-pub send_through-requires-clause-home : goal.send_through-requires-clause-home
-send_through-requires-clause-home g c =
-    open_out c.args.self.now c.args.arena.now c.args.elsewhere c.args.packet c.in-Open.ensures.told
+pub returns-in-Ok-Taken-clause-answer : goal.returns-in-Ok-Taken-clause-answer
+returns-in-Ok-Taken-clause-answer g c =
+    let gate = gate_of c.args.self.now c.args.arena.now c.args.elsewhere c.args.packet in
+    tried_answer gate c.args.packet c.post_accepted.result (taken_open gate c.args.packet (rw c.in-Ok-Taken.field-0-is at c.in-Ok-Taken.ensures.answer))
+    c.post_accepted.ensures.tried
 
-pub returns-in-Refused-clause-plays : goal.returns-in-Refused-clause-plays
-returns-in-Refused-clause-plays g c = plays_none (outgoing_of c.args.packet).blocks (g.N.Nic.made c.args.nic.now) c.args.self.now
+pub returns-in-Ok-Taken-clause-full : goal.returns-in-Ok-Taken-clause-full
+returns-in-Ok-Taken-clause-full g c =
+    tried_full c.args.self.now c.args.packet c.post_accepted.result c.post_accepted.ensures.tried
 
-pub returns-in-Full-clause-plays : goal.returns-in-Full-clause-plays
-returns-in-Full-clause-plays g c = plays_none (outgoing_of c.args.packet).blocks (g.N.Nic.made c.args.nic.now) c.args.self.now
+pub returns-in-Ok-Taken-clause-shut : goal.returns-in-Ok-Taken-clause-shut
+returns-in-Ok-Taken-clause-shut g c shut =
+    let gate = gate_of c.args.self.now c.args.arena.now c.args.elsewhere c.args.packet in
+    absurd (open_unshut gate (taken_open gate c.args.packet (rw c.in-Ok-Taken.field-0-is at c.in-Ok-Taken.ensures.answer)) shut)
 
-pub returns-in-Refused-clause-answer : goal.returns-in-Refused-clause-answer
-returns-in-Refused-clause-answer g c = rw (← c.in-Refused.ensures.told) refl
+pub returns-in-Ok-Taken-clause-accepted : goal.returns-in-Ok-Taken-clause-accepted
+returns-in-Ok-Taken-clause-accepted g c =
+    rw c.post_accepted.ensures.none
+    (accepted_still c.args.self.now c.queue.new.self c.post_accepted.new.self c.args.packet
+    (rw c.in-Ok-Taken.field-0-is at c.in-Ok-Taken.ensures.accepted) c.post_accepted.ensures.kept)
 
-pub returns-in-Full-clause-answer : goal.returns-in-Full-clause-answer
-returns-in-Full-clause-answer g c = rw (← c.in-Full.ensures.told) refl
+pub returns-in-Ok-Taken-clause-kept : goal.returns-in-Ok-Taken-clause-kept
+returns-in-Ok-Taken-clause-kept g c = rw c.post_accepted.ensures.none tt
 
-pub returns-in-Open-clause-answer : goal.returns-in-Open-clause-answer
-returns-in-Open-clause-answer g c = rw (← c.in-Open.ensures.told) c.send_through.ensures.tried
+pub returns-in-Ok-Taken-clause-home : goal.returns-in-Ok-Taken-clause-home
+returns-in-Ok-Taken-clause-home g c = rw c.post_accepted.ensures.none (rw c.in-Ok-Taken.field-0-is at c.in-Ok-Taken.ensures.home)
 
-pub returns-in-Open-clause-shut : goal.returns-in-Open-clause-shut
-returns-in-Open-clause-shut g c = rw (← c.in-Open.ensures.told) (λ shut. absurd shut)
+pub returns-in-Ok-Taken-clause-back : goal.returns-in-Ok-Taken-clause-back
+returns-in-Ok-Taken-clause-back g c = none_back c.post_accepted.result c.args.packet c.post_accepted.ensures.taken
+
+pub returns-in-Ok-Taken-clause-faults : goal.returns-in-Ok-Taken-clause-faults
+returns-in-Ok-Taken-clause-faults g c =
+    after_all (λ (f : TxFault). f.fault) c.post_accepted.result (outgoing_of c.args.packet).blocks
+    (g.N.Nic.made c.args.nic.now) (g.N.Nic.made c.queue.new.nic) (g.N.Nic.made c.post_accepted.new.nic) c.args.self.now
+    c.queue.new.self c.queue.ensures.plays (c.post_accepted.ensures.faults (outgoing_of c.args.packet).blocks)

@@ -1,0 +1,17 @@
+use Rattle.std.proofs.Common.{◌≡◌, ◌+◌, None, length}
+use Rattle.pmd_rx.specs.PmdSeam.declared.fault.PmdFault.{PmdFault}
+use Rattle.pmd.specs.Bursts.{IsRefusedFirst}
+use Rattle.pmd.specs.Queueing.{Queues}
+use Rattle.pmd.proofs.running.Running.queue_burst.Given as goal
+
+abbrev pub invariant-loop-first : goal.invariant-loop-first
+invariant-loop-first g l = record {
+  queues : Queues l.initial.packets.items l.packets.items l.sent None (g.N.Nic.made l.initial.nic) l.initial.self
+      (g.N.Nic.made l.nic) l.self;
+  still : (f : PmdFault) → IsRefusedFirst f l.initial.self l.initial.packets.items
+      → (l.sent ≡ 0) × (l.packets.items ≡ l.initial.packets.items)
+      × (g.N.Nic.made l.nic ≡ g.N.Nic.made l.initial.nic) × (l.self ≡ l.initial.self);
+  count : l._first + length l.packets.items ≡ l._first-end;
+  who : g.N.Nic.who l.nic ≡ g.N.Nic.who l.initial.nic;
+  refuses : g.N.Nic.refuses l.nic ≡ g.N.Nic.refuses l.initial.nic;
+}

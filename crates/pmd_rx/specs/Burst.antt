@@ -1,0 +1,23 @@
+-- A burst: several packets that come out by one move of the tail.
+use Rattle.std.specs.Prelude.{ℕ, ◌≡◌, ◌<◌, ◌≤◌, List, [], ◌++◌, length, All, Result, IfOk, OnErr}
+use Rattle.nic_device.specs.DmaArena.Numbers.{Numbers}
+use Rattle.pmd_seam.specs.declared.fault.PmdFault.{PmdFault}
+use Rattle.pmd_seam.specs.declared.packet.Packet.{Packet}
+use Rattle.pmd_rx.specs.Keeping.{Keeps, numbers_of_all}
+use Rattle.pmd_rx.specs.Receive.{Receive, records_of}
+
+-- a packet is in one Buf at least
+abbrev pub HasPart : Packet → Type 0
+HasPart p = 0 < length p.bufs
+
+-- packets came out behind those that were there: as many as the answer says, and no more than were asked for, or none
+-- behind a fault. Their records are kept, each block is in one place, and the ring is the same
+pub record IsBurst (r : Result ℕ PmdFault) (most : ℕ) (a : Numbers) (v : Receive) (old : List Packet) (b : Numbers)
+    (w : Receive) (new : List Packet) : Type 0 where
+  pub packets : List Packet
+  pub out : new ≡ old ++ packets
+  pub handed : w.handed ≡ v.handed ++ records_of packets
+  pub some : All HasPart packets
+  pub many : IfOk r (λ n. (length packets ≡ n) × (n ≤ most))
+  pub none : OnErr r (packets ≡ [])
+  pub keeps : Keeps a v b w (numbers_of_all packets)

@@ -1,0 +1,262 @@
+//! Packets that come in: one by one, or several by one move of the tail.
+
+ghost use Rattle.std.specs.Prelude.{ℕ, ◌≡◌, ◌≢◌, ◌<◌, ◌≤◌, ◌+◌, ◌++◌, ◌∷◌, [], length, true, false, Ok, Err, IfOk, IfErr, IfSome, IfNone, OnErr};
+ghost use Rattle.nic_device.specs.DmaArena.Numbers.{Numbers};
+ghost use Rattle.pmd_seam.specs.Home.{AreOut};
+ghost use Rattle.pmd_seam.specs.Packet.{kept_of};
+ghost use Rattle.pmd_rx.specs.Burst.{IsBurst};
+ghost use Rattle.pmd_rx.specs.Keeping.{Keeps, IsRunning, blocks_out, handed_blocks};
+ghost use Rattle.pmd_rx.specs.Plays.{PlaysFrom, LooksInVain};
+ghost use Rattle.pmd_rx.specs.Shown.{OneMore};
+ghost use Rattle.pmd_rx.specs.Wrong.{AsksNext, FailsBy, IsFault, PacketWaits};
+ghost use Rattle.pmd_seam.specs.Refusals.{CanFail};
+
+use crate::ring::ReceiveRing;
+use nic_device::Arena;
+use pmd_seam::{CallFault, Nic, Packet, PmdFault};
+use std::alloc::Global;
+use std::collections::VecDeque;
+
+impl ReceiveRing {
+    /// Takes the next packet that came in: it is whole then. Answers whether there is one, as far as slots are posted.
+    fn take_next<N: Nic>(
+        &mut self,
+        alloc: Global,
+        nic: &mut N,
+        arena: &mut Arena,
+    ) -> Result<bool, PmdFault>
+        requires running { IsRunning self.old }
+        requires home { AreOut arena.old (blocks_out self.old) }
+        ensures plays { PlaysFrom arena.old (N.made nic.old) self.old (N.made nic.new) self.new }
+        ensures one { result ≡ Ok true → OneMore self.old self.new }
+        ensures none { result ≡ Ok false → self.old.whole ≡ []
+            → LooksInVain (N.made nic.old) self.old (N.made nic.new) self.new }
+        ensures same { result ≡ Ok false → self.new.whole ≡ self.old.whole }
+        ensures kept { OnErr result (self.new.whole ≡ self.old.whole) }
+        ensures handed { self.new.handed ≡ self.old.handed }
+        ensures fails { IfErr result (λ f.
+            FailsBy f (N.made nic.old) arena.old self.old (N.made nic.new) arena.new self.new) }
+        ensures waits { result ≡ Err PmdFault.NoBuffer → PacketWaits self.new.stage }
+        ensures keeps { Keeps arena.old self.old arena.new self.new [] }
+        ensures who { N.who nic.new ≡ N.who nic.old }
+        ensures refuses { N.refuses nic.new ≡ N.refuses nic.old }
+        ensures refusal { IfErr result (λ f. CanFail (N.refuses nic.new) f) }
+    {
+        match self.look_whole(alloc, nic) {
+            Ok(true) => match self.take_whole(alloc, nic, arena) {
+                Ok(()) => Ok(true),
+                Err(fault) => Err(fault),
+            },
+            Ok(false) => Ok(false),
+            Err(fault) => Err(fault),
+        }
+    }
+
+    /// Takes up to so many further packets. It stops early where none is left, or a call fails: the next call meets
+    /// that fault again.
+    fn take_more<N: Nic>(&mut self, alloc: Global, nic: &mut N, arena: &mut Arena, most: u16)
+        requires running { IsRunning self.old }
+        requires home { AreOut arena.old (blocks_out self.old) }
+        ensures plays { PlaysFrom arena.old (N.made nic.old) self.old (N.made nic.new) self.new }
+        ensures more { length self.old.whole ≤ length self.new.whole }
+        ensures handed { self.new.handed ≡ self.old.handed }
+        ensures keeps { Keeps arena.old self.old arena.new self.new [] }
+        ensures who { N.who nic.new ≡ N.who nic.old }
+        ensures refuses { N.refuses nic.new ≡ N.refuses nic.old }
+    {
+        for _packet in 0..most {
+            match self.take_next(alloc, nic, arena) {
+                Ok(true) => {}
+                Ok(false) => return,
+                Err(_fault) => return,
+            }
+        }
+    }
+
+    /// Takes up to so many packets, one at least, where none waits whole. Answers whether one waits then.
+    fn gather<N: Nic>(
+        &mut self,
+        alloc: Global,
+        nic: &mut N,
+        arena: &mut Arena,
+        most: u16,
+    ) -> Result<bool, PmdFault>
+        requires running { IsRunning self.old }
+        requires home { AreOut arena.old (blocks_out self.old) }
+        requires some { 0 < most }
+        ensures plays { PlaysFrom arena.old (N.made nic.old) self.old (N.made nic.new) self.new }
+        ensures some { result ≡ Ok true → 0 < length self.new.whole }
+        ensures none { result ≡ Ok false → LooksInVain (N.made nic.old) self.old (N.made nic.new) self.new }
+        ensures handed { self.new.handed ≡ self.old.handed }
+        ensures fails { IfErr result (λ f.
+            FailsBy f (N.made nic.old) arena.old self.old (N.made nic.new) arena.new self.new) }
+        ensures waits { result ≡ Err PmdFault.NoBuffer → PacketWaits self.new.stage }
+        ensures keeps { Keeps arena.old self.old arena.new self.new [] }
+        ensures who { N.who nic.new ≡ N.who nic.old }
+        ensures refuses { N.refuses nic.new ≡ N.refuses nic.old }
+        ensures refusal { IfErr result (λ f. CanFail (N.refuses nic.new) f) }
+    {
+        if self.has_whole() {
+            return Ok(true);
+        }
+        match self.take_next(alloc, nic, arena) {
+            Ok(true) => {
+                self.take_more(alloc, nic, arena, most - 1);
+                Ok(true)
+            }
+            Ok(false) => Ok(false),
+            Err(fault) => Err(fault),
+        }
+    }
+
+    /// Whether a packet is whole.
+    fn has_whole(&self) -> bool
+        ensures yes { result ≡ true → 0 < length self.now.whole }
+        ensures no { result ≡ false → self.now.whole ≡ [] }
+    {
+        !self.whole.is_empty()
+    }
+}
+
+impl ReceiveRing {
+    /// The next packet that came in, in order: fresh blocks of the arena take the places of its blocks. None where the
+    /// slot behind those that were seen isn't done.
+    ///
+    /// Where parts of a packet are taken, since a call after it was refused, only this packet is handed out, and no
+    /// slot is looked at. Where packets are whole, since a move of the tail was refused, the oldest is handed out, and
+    /// no more is made than that move.
+    ///
+    /// `NoBuffer` where a packet waits and too few blocks are free; the driver is unchanged but for what it saw.
+    /// `DeviceFault` where a reply is none that a healthy queue gives. `Call` where a call was refused, or there was no
+    /// memory for what is seen or for the packet's record: the driver keeps where it was, and the next call goes on.
+    pub fn receive<N: Nic>(
+        &mut self,
+        alloc: Global,
+        nic: &mut N,
+        arena: &mut Arena,
+    ) -> Result<Option<Packet>, PmdFault>
+        requires running { IsRunning self.old }
+        requires home { AreOut arena.old (blocks_out self.old) }
+        ensures plays { PlaysFrom arena.old (N.made nic.old) self.old (N.made nic.new) self.new }
+        ensures some { IfOk result (λ out. IfSome out (λ packet.
+            self.new.handed ≡ self.old.handed ++ kept_of packet ∷ [])) }
+        ensures none { IfOk result (λ out. IfNone out (
+            LooksInVain (N.made nic.old) self.old (N.made nic.new) self.new)) }
+        ensures err { OnErr result (self.new.handed ≡ self.old.handed) }
+        ensures fails { IfErr result (λ f.
+            FailsBy f (N.made nic.old) arena.old self.old (N.made nic.new) arena.new self.new) }
+        ensures waits { result ≡ Err PmdFault.NoBuffer → PacketWaits self.new.stage }
+        ensures keeps { Keeps arena.old self.old arena.new self.new (handed_blocks result) }
+        ensures who { N.who nic.new ≡ N.who nic.old }
+        ensures refuses { N.refuses nic.new ≡ N.refuses nic.old }
+        ensures refusal { IfErr result (λ f. CanFail (N.refuses nic.new) f) }
+    {
+        match self.gather(alloc, nic, arena, 1) {
+            Ok(true) => match self.post_one(alloc, nic) {
+                Ok(packet) => Ok(Some(packet)),
+                Err(fault) => Err(fault),
+            },
+            Ok(false) => Ok(None),
+            Err(fault) => Err(fault),
+        }
+    }
+
+    /// The next packets that came in, in order, up to `most`: fresh blocks of the arena take the places of their
+    /// blocks, and one move of the tail posts these. They are pushed behind what `out` has. Answers how many they are:
+    /// 0 where `most` is 0, or the slot behind those that were seen isn't done.
+    ///
+    /// It stops early, with what came in up to there, where a slot isn't done, no posted slot is left, or a call fails:
+    /// the next call goes on from there. Where packets are whole, since a move of the tail was refused, no slot is
+    /// looked at, and they come out, or the oldest alone where they are more than `most` or parts of one more are
+    /// taken.
+    ///
+    /// It fails as `receive` does, and only where no packet came out: `out` is as it was then. `Call` also where `out`
+    /// has no memory for the packets: they stay whole, and the next call hands them out.
+    pub fn receive_burst<N: Nic>(
+        &mut self,
+        alloc: Global,
+        nic: &mut N,
+        arena: &mut Arena,
+        most: u16,
+        out: &mut VecDeque<Packet>,
+    ) -> Result<u16, PmdFault>
+        requires running { IsRunning self.old }
+        requires home { AreOut arena.old (blocks_out self.old) }
+        ensures plays { PlaysFrom arena.old (N.made nic.old) self.old (N.made nic.new) self.new }
+        ensures out { IsBurst result most arena.old self.old out.old.items arena.new self.new out.new.items }
+        ensures none { result ≡ Ok 0 → 0 < most → LooksInVain (N.made nic.old) self.old (N.made nic.new) self.new }
+        ensures fails { IfErr result (λ f.
+            FailsBy f (N.made nic.old) arena.old self.old (N.made nic.new) arena.new self.new) }
+        ensures waits { result ≡ Err PmdFault.NoBuffer → PacketWaits self.new.stage }
+        ensures who { N.who nic.new ≡ N.who nic.old }
+        ensures refuses { N.refuses nic.new ≡ N.refuses nic.old }
+        ensures refusal { IfErr result (λ f. CanFail (N.refuses nic.new) f) }
+    {
+        if most == 0 {
+            return Ok(0);
+        }
+        match self.gather(alloc, nic, arena, most) {
+            Ok(true) => self.post_most(alloc, nic, most, out),
+            Ok(false) => Ok(0),
+            Err(fault) => Err(fault),
+        }
+    }
+
+    /// Hands out the whole packets, by one move of the tail, behind what `out` has, where they are at most so many, and
+    /// no part of one more is taken. Else it hands out the oldest. Answers how many they are.
+    ///
+    /// `DeviceFault` where the port has no such register. `Call` also where `out` has no memory for them.
+    fn post_most<N: Nic>(
+        &mut self,
+        alloc: Global,
+        nic: &mut N,
+        most: u16,
+        out: &mut VecDeque<Packet>,
+    ) -> Result<u16, PmdFault>
+        requires running { IsRunning self.old }
+        requires some { 0 < length self.old.whole }
+        requires most { 0 < most }
+        ensures plays { (a : Numbers) → PlaysFrom a (N.made nic.old) self.old (N.made nic.new) self.new }
+        ensures out { (a : Numbers) → IsBurst result most a self.old out.old.items a self.new out.new.items }
+        ensures some { result ≢ Ok 0 }
+        ensures fault { (a : Numbers) → IfErr result (λ f.
+            IsFault f a (N.made nic.old) self.old (N.made nic.new) self.new) }
+        ensures who { N.who nic.new ≡ N.who nic.old }
+        ensures refuses { N.refuses nic.new ≡ N.refuses nic.old }
+        ensures refusal { IfErr result (λ f. CanFail (N.refuses nic.new) f) }
+    {
+        let count = self.count_whole();
+        if out.reserve(count).is_err() {
+            return Err(PmdFault::Call(CallFault::OutOfMemory(())));
+        }
+        if self.holds_part() || count > usize::from(most) {
+            return match self.post_one(alloc, nic) {
+                Ok(packet) => {
+                    out.push_back_reserved(packet);
+                    Ok(1)
+                }
+                Err(fault) => Err(fault),
+            };
+        }
+        match self.post_all(alloc, nic, out) {
+            Ok(()) => Ok(count as u16),
+            Err(fault) => Err(fault),
+        }
+    }
+
+    /// How many packets are whole.
+    fn count_whole(&self) -> usize
+        ensures count { result ≡ length self.now.whole }
+        ensures named { 0 < result → 0 < length self.now.named }
+        ensures asks { (a : Numbers) → 0 < result → AsksNext a self.now }
+    {
+        self.whole.len()
+    }
+
+    /// Whether a part of a packet is held.
+    fn holds_part(&self) -> bool
+        ensures { result ≡ false → length self.now.held.bufs ≡ 0 }
+    {
+        self.held.bufs.count() > 0
+    }
+}

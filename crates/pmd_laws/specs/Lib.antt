@@ -1,3 +1,4 @@
+pub use Rattle.driver_laws.specs as DriverLaws
 pub use Rattle.start_laws.specs as StartLaws
 pub mod Ends
 pub mod Faultless

@@ -9,8 +9,8 @@ use Rattle.nic_device.specs.RegTable.declared.rows.RowId.TheVariants.{Rxdctl}
 use Rattle.nic_device.specs.State.{State, new_state}
 use Rattle.nic_device.specs.declared.event.Event.{Event}
 use Rattle.nic_device.specs.declared.event.Event.TheVariants as event
-use Rattle.driver_laws.specs.Before.{OnlyPassLends}
 use Rattle.pmd.specs.PmdSeam.Events.{is_step}
+use Rattle.pmd_laws.specs.DriverLaws.Before.{OnlyPassLends}
 use Rattle.pmd_laws.specs.Faultless.{NoneLent}
 use Rattle.pmd_laws.specs.StartLaws.Along.{BeforeLast}
 use Rattle.pmd_laws.specs.StartLaws.Faultless.{BeforeNext}

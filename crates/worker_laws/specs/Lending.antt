@@ -3,8 +3,8 @@
 use Rattle.std.specs.Prelude.{ℕ, List, length}
 use Rattle.nic_device.specs.DmaArena.Numbers.{Numbers, count_of, is_own}
 use Rattle.nic_device.specs.State.{new_state}
-use Rattle.driver_laws.specs.Before.{OnlyPassLends}
 use Rattle.pmd.specs.PmdSeam.Named.{AtPort}
+use Rattle.pmd_laws.specs.DriverLaws.Before.{OnlyPassLends}
 use Rattle.pmd_laws.specs.Faultless.{NoneLent}
 use Rattle.pmd_laws.specs.StartLaws.Along.{BeforeLast}
 use Rattle.pmd_laws.specs.StartLaws.Faultless.{BeforeNext}

@@ -8,13 +8,16 @@ use workers::{Calls, Direct, Packet, Pmd};
 
 /// The registers of the tails of queue 0, by which descriptors are given to the device.
 const RDT: u32 = 0x1018;
+
 const TDT: u32 = 0x6018;
 
 /// How many calls wrote a register of the physical function.
 fn writes(calls: &Calls, register: u32) -> usize {
     let (made, _rested) = calls.kept();
     made.iter()
-        .filter(|it| matches!(it.call.event, Event::Write(Port::Pf, number, _) if number == register))
+        .filter(
+            |it| matches!(it.call.event, Event::Write(Port::Pf, number, _) if number == register),
+        )
         .count()
 }
 

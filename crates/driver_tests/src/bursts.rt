@@ -66,16 +66,16 @@ fn packets_come_and_go_by_bursts_with_one_tail_write_each(rt: HostRuntime) {
     arrive_all(&rt, &mut direct, 0, 40);
     let before = writes(direct.calls(), RDT);
     assert_eq!(rt; received(&rt, &mut direct, &mut pmd, 32, &mut packets), 32);
-    assert_eq!(rt; writes(direct.calls(), RDT), before + 1);
+    assert_eq!(rt; writes(direct.calls(), RDT), before.saturating_add(1));
     assert_eq!(rt; received(&rt, &mut direct, &mut pmd, 32, &mut packets), 8);
     assert_eq!(rt; received(&rt, &mut direct, &mut pmd, 32, &mut packets), 0);
-    assert_eq!(rt; writes(direct.calls(), RDT), before + 2);
+    assert_eq!(rt; writes(direct.calls(), RDT), before.saturating_add(2));
     for (number, packet) in (0..40).zip(packets.iter()) {
         assert!(rt; has_bytes(packet, frame_of(&rt, number).as_slice()));
     }
     let before = writes(direct.calls(), TDT);
     assert_eq!(rt; sent(&rt, &mut direct, &mut pmd, 0, &mut packets), 40);
-    assert_eq!(rt; writes(direct.calls(), TDT), before + 1);
+    assert_eq!(rt; writes(direct.calls(), TDT), before.saturating_add(1));
     emptied(&rt, packets);
     reap(&rt, &mut direct, &mut pmd);
     assert!(rt; stop(&rt, &mut direct, pmd) == (40, 40));

@@ -61,7 +61,8 @@ first-unpacked whole packed p rested =
     let behind = packed_entries packed ++ rested_entries rested in
     append_assoc (whole ++ before) (own p ∷ []) behind
     ∙ append_assoc whole before (own p ∷ behind)
-    ∙ ap (λ (l : List Entry). whole ++ l) (sym (append_assoc before (own p ∷ packed_entries packed) (rested_entries rested)))
+    ∙ ap (λ (l : List Entry). whole ++ l)
+    (sym (append_assoc before (own p ∷ packed_entries packed) (rested_entries rested)))
 
 -- there is room for it where there is room for all
 pub first-fits : (whole : List Entry) (packed : List Packed) (p : Packed) (rested : Option Rested) (room : ℕ)

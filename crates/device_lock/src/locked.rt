@@ -190,8 +190,8 @@ impl<const VFS: u8, const FIFO: u16> Locked<VFS, FIFO> {
     }
 
     /// Makes the device steps of a queue for the pass of this tag, which is below 64, where the queue is at rest, the
-    /// history has room for their entries, and there is memory: each is idle. Else it makes none of them, nor where some
-    /// were made and no call since. Answers whether they are made.
+    /// history has room for their entries, and there is memory: each is idle. Else it makes none of them, nor where
+    /// some were made and no call since. Answers whether they are made.
     pub(crate) fn rest(&mut self, tag: u8, queue: u16) -> bool
         requires { tag < 64 }
         ensures legal { IsLegal (new_state VFS FIFO) self.old.history }

@@ -1,5 +1,5 @@
-//! A history as it is kept under the lock: the entries of the device steps of a queue at rest take no room of their own.
-//! Room for each entry by itself is held, so that they can be told apart without asking for memory.
+//! A history as it is kept under the lock: the entries of the device steps of a queue at rest take no room of their
+//! own. Room for each entry by itself is held, so that all can stand by themselves without asking for memory.
 
 ghost use Rattle.std.specs.Prelude.{◌≡◌, ◌+◌, ◌++◌, ◌∷◌, ◌<◌, ◌≤◌, [], true, length, List};
 ghost use Rattle.std.specs.Vec.{vec_len, vec_capacity};

@@ -238,7 +238,8 @@ impl Pmd {
     /// Before any event: `BadSize` where the size or that length is another, `NoBuffer` where fewer blocks are free
     /// than that, or no two such runs, and `DeviceFault` where the port can't name the queue. Then `DeviceFault` where
     /// a side of the queue is on or the device answers what it can't on a healthy queue, `StartTimeout` where 1,000
-    /// polls show a side off, and `Call` where a call was refused. Once a block was lent, the driver is left as it came.
+    /// polls show a side off, and `Call` where a call was refused. Once a block was lent, the driver is left as it
+    /// came.
     pub fn start<N: Nic>(
         alloc: Global,
         nic: &mut N,

@@ -182,9 +182,9 @@ fn run<R: Threads + Wait + Sync>(
 /// driver accepted, as `worker_laws::worker_in_order` says of such a history.
 ///
 /// It waits for locks and for the threads. Nothing is written where something is refused, a worker ends with a fault,
-/// its queue isn't left alone, its driver doesn't begin well, or fewer frames arrive: the status is 4 where one of these
-/// is for memory, or fewer frames arrive, and else 2. There are from 1 to 8 workers: with another number the status is
-/// 2. Where a write fails it is 2.
+/// its queue isn't left alone, its driver doesn't begin well, or fewer frames arrive: the status is 4 where one of
+/// these is for memory, or fewer frames arrive, and else 2. There are from 1 to 8 workers: with another number the
+/// status is 2. Where a write fails it is 2.
 pub fn bench_threads<R: Threads + Wait + Sync, W: Write>(
     rt: &R,
     alloc: Global,

@@ -28,9 +28,11 @@ returns-in-Ok-clause-back g c = none_back c.ask_accepted.result c.args.packet c.
 
 pub returns-in-Ok-clause-faults : goal.returns-in-Ok-clause-faults
 returns-in-Ok-clause-faults g c =
-    after_all (λ (f : TxFault). f.fault) c.ask_accepted.result (outgoing_of c.args.packet).blocks (g.N.Nic.made c.args.nic.now)
+    after_all (λ (f : TxFault). f.fault) c.ask_accepted.result (outgoing_of c.args.packet).blocks
+    (g.N.Nic.made c.args.nic.now)
     (g.N.Nic.made c.accept_padded.new.nic) (g.N.Nic.made c.ask_accepted.new.nic) c.args.self.now
-    c.accept_padded.new.self c.accept_padded.ensures.plays (c.ask_accepted.ensures.faults (outgoing_of c.args.packet).blocks)
+    c.accept_padded.new.self c.accept_padded.ensures.plays
+    (c.ask_accepted.ensures.faults (outgoing_of c.args.packet).blocks)
 
 pub returns-in-Ok-clause-layout : goal.returns-in-Ok-clause-layout
 returns-in-Ok-clause-layout g c =

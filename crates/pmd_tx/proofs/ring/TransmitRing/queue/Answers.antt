@@ -14,10 +14,12 @@ queue_through-requires-clause-home g c =
     open_out c.args.self.now c.args.arena.now c.args.elsewhere c.args.packet c.in-Open.ensures.told
 
 pub returns-in-Refused-clause-plays : goal.returns-in-Refused-clause-plays
-returns-in-Refused-clause-plays g c = plays_none (outgoing_of c.args.packet).blocks (g.N.Nic.made c.args.nic.now) c.args.self.now
+returns-in-Refused-clause-plays g c =
+    plays_none (outgoing_of c.args.packet).blocks (g.N.Nic.made c.args.nic.now) c.args.self.now
 
 pub returns-in-Full-clause-plays : goal.returns-in-Full-clause-plays
-returns-in-Full-clause-plays g c = plays_none (outgoing_of c.args.packet).blocks (g.N.Nic.made c.args.nic.now) c.args.self.now
+returns-in-Full-clause-plays g c =
+    plays_none (outgoing_of c.args.packet).blocks (g.N.Nic.made c.args.nic.now) c.args.self.now
 
 pub returns-in-Refused-clause-answer : goal.returns-in-Refused-clause-answer
 returns-in-Refused-clause-answer g c = rw (← c.in-Refused.ensures.told) refl

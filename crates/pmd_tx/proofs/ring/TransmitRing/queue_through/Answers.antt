@@ -28,9 +28,11 @@ returns-in-Ok-clause-kept g c =
 
 pub returns-in-Ok-clause-faults : goal.returns-in-Ok-clause-faults
 returns-in-Ok-clause-faults g c =
-    after_all (λ (f : TxFault). f.fault) c.accept_and_ask.result (outgoing_of c.args.packet).blocks (g.N.Nic.made c.args.nic.now)
+    after_all (λ (f : TxFault). f.fault) c.accept_and_ask.result (outgoing_of c.args.packet).blocks
+    (g.N.Nic.made c.args.nic.now)
     (g.N.Nic.made c.ask_waiting.new.nic) (g.N.Nic.made c.accept_and_ask.new.nic) c.args.self.now
-    c.ask_waiting.new.self (c.ask_waiting.ensures.plays (outgoing_of c.args.packet).blocks) c.accept_and_ask.ensures.faults
+    c.ask_waiting.new.self (c.ask_waiting.ensures.plays (outgoing_of c.args.packet).blocks)
+    c.accept_and_ask.ensures.faults
 
 pub returns-in-Err-clause-back : goal.returns-in-Err-clause-back
 returns-in-Err-clause-back g c = back_itself c.in-Err.fault c.args.packet

@@ -14,7 +14,8 @@ returns-in-Ok-Taken-clause-plays g c =
 pub returns-in-Ok-Taken-clause-answer : goal.returns-in-Ok-Taken-clause-answer
 returns-in-Ok-Taken-clause-answer g c =
     let gate = gate_of c.args.self.now c.args.arena.now c.args.elsewhere c.args.packet in
-    tried_answer gate c.args.packet c.post_accepted.result (taken_open gate c.args.packet (rw c.in-Ok-Taken.field-0-is at c.in-Ok-Taken.ensures.answer))
+    tried_answer gate c.args.packet c.post_accepted.result
+    (taken_open gate c.args.packet (rw c.in-Ok-Taken.field-0-is at c.in-Ok-Taken.ensures.answer))
     c.post_accepted.ensures.tried
 
 pub returns-in-Ok-Taken-clause-full : goal.returns-in-Ok-Taken-clause-full
@@ -24,7 +25,9 @@ returns-in-Ok-Taken-clause-full g c =
 pub returns-in-Ok-Taken-clause-shut : goal.returns-in-Ok-Taken-clause-shut
 returns-in-Ok-Taken-clause-shut g c shut =
     let gate = gate_of c.args.self.now c.args.arena.now c.args.elsewhere c.args.packet in
-    absurd (open_unshut gate (taken_open gate c.args.packet (rw c.in-Ok-Taken.field-0-is at c.in-Ok-Taken.ensures.answer)) shut)
+    absurd
+    (open_unshut gate (taken_open gate c.args.packet (rw c.in-Ok-Taken.field-0-is at c.in-Ok-Taken.ensures.answer))
+    shut)
 
 pub returns-in-Ok-Taken-clause-accepted : goal.returns-in-Ok-Taken-clause-accepted
 returns-in-Ok-Taken-clause-accepted g c =
@@ -36,7 +39,8 @@ pub returns-in-Ok-Taken-clause-kept : goal.returns-in-Ok-Taken-clause-kept
 returns-in-Ok-Taken-clause-kept g c = rw c.post_accepted.ensures.none tt
 
 pub returns-in-Ok-Taken-clause-home : goal.returns-in-Ok-Taken-clause-home
-returns-in-Ok-Taken-clause-home g c = rw c.post_accepted.ensures.none (rw c.in-Ok-Taken.field-0-is at c.in-Ok-Taken.ensures.home)
+returns-in-Ok-Taken-clause-home g c =
+    rw c.post_accepted.ensures.none (rw c.in-Ok-Taken.field-0-is at c.in-Ok-Taken.ensures.home)
 
 pub returns-in-Ok-Taken-clause-back : goal.returns-in-Ok-Taken-clause-back
 returns-in-Ok-Taken-clause-back g c = none_back c.post_accepted.result c.args.packet c.post_accepted.ensures.taken

@@ -14,25 +14,12 @@ use Rattle.device_lock.specs.History.{leads_to, IsLegal, AreEvents, AllBelow}
 use Rattle.device_lock.specs.Kept.{Held, IsKept, entries_of}
 use Rattle.device_lock.specs.Resting.{AreIdle, idle_entries}
 use Rattle.device_lock.specs.Stepping.{steps_of_queue}
-use Rattle.device_lock.proofs.Histories.{entries_of-append}
+use Rattle.device_lock.proofs.Histories.{entries_of-append, events-append, leads-append, legal-append}
 
 pub rest_idle : (s : State) (queue : ℕ) → Rests s queue → AreIdle s (steps_of_queue queue)
 rest_idle s queue r = (r.receive_side, (r.transmit_side, (r.sending, (r.receiving, tt))))
 
 -- one list behind another
-
-leads-append : (s : State) (g h : List Entry) → leads_to s (g ++ h) ≡ leads_to (leads_to s g) h
-leads-append s [] h = refl
-leads-append s (x ∷ g) h = leads-append (step_of s x.event).state g h
-
-legal-append : (s : State) (g h : List Entry) → IsLegal s g → IsLegal (leads_to s g) h → IsLegal s (g ++ h)
-legal-append s [] h first then = then
-legal-append s (x ∷ g) h first then = (first.0, legal-append (step_of s x.event).state g h first.1 then)
-
-events-append : (g h : List Entry) → AreEvents g → AreEvents h → AreEvents (g ++ h)
-events-append [] h first then = then
-events-append (x ∷ g) h first then = (first.0, events-append g h first.1 then)
-
 below-append : (n : ℕ) (g h : List Entry) → AllBelow n g → AllBelow n h → AllBelow n (g ++ h)
 below-append n [] h first then = then
 below-append n (x ∷ g) h first then = (first.0, below-append n g h first.1 then)

@@ -1,4 +1,4 @@
--- A history with one entry more.
+-- Histories one behind another, in two parts, and with one entry more.
 use Rattle.std.proofs.Common.{◌≡◌, ℕ, ◌+◌, ◌<◌, ◌≤◌, ◌==◌, List, [], ◌∷◌, ◌++◌, length, get_or, replicate, slice_set, refl, sym, arith, rules, length-append}
 use Rattle.std.proofs.lemmas.Bool.Decides.{nat_tests}
 use Rattle.std.proofs.lemmas.Grind.{common_steps}
@@ -24,9 +24,43 @@ pub legal_more : (s : State) (h : List Entry) (e : Entry) → IsLegal s h
 legal_more s [] e legal is = (is, tt)
 legal_more s (x ∷ h) e legal is = (legal.0, legal_more (step_of s x.event).state h e legal.1 is)
 
-events_more : (h : List Entry) (e : Entry) → AreEvents h → IsEvent e.event → AreEvents (h ++ e ∷ [])
+pub events_more : (h : List Entry) (e : Entry) → AreEvents h → IsEvent e.event → AreEvents (h ++ e ∷ [])
 events_more [] e events is = (is, tt)
 events_more (x ∷ h) e events is = (events.0, events_more h e events.1 is)
+
+-- one history behind another
+
+pub leads-append : (s : State) (g h : List Entry) → leads_to s (g ++ h) ≡ leads_to (leads_to s g) h
+leads-append s [] h = refl
+leads-append s (x ∷ g) h = leads-append (step_of s x.event).state g h
+
+pub legal-append : (s : State) (g h : List Entry) → IsLegal s g → IsLegal (leads_to s g) h → IsLegal s (g ++ h)
+legal-append s [] h first then = then
+legal-append s (x ∷ g) h first then = (first.0, legal-append (step_of s x.event).state g h first.1 then)
+
+pub events-append : (g h : List Entry) → AreEvents g → AreEvents h → AreEvents (g ++ h)
+events-append [] h first then = then
+events-append (x ∷ g) h first then = (first.0, events-append g h first.1 then)
+
+-- a history in two parts
+
+pub legal_before : (s : State) (g h : List Entry) → IsLegal s (g ++ h) → IsLegal s g
+legal_before s [] h legal = tt
+legal_before s (x ∷ g) h legal = (legal.0, legal_before (step_of s x.event).state g h legal.1)
+
+pub legal_behind : (s : State) (g h : List Entry) → IsLegal s (g ++ h) → IsLegal (leads_to s g) h
+legal_behind s [] h legal = legal
+legal_behind s (x ∷ g) h legal = legal_behind (step_of s x.event).state g h legal.1
+
+pub events_before : (g h : List Entry) → AreEvents (g ++ h) → AreEvents g
+events_before [] h events = tt
+events_before (x ∷ g) h events = (events.0, events_before g h events.1)
+
+pub events_behind : (g h : List Entry) → AreEvents (g ++ h) → AreEvents h
+events_behind [] h events = events
+events_behind (x ∷ g) h events = events_behind g h events.1
+
+-- tags and counts
 
 one_more_below : (n : ℕ) (h : List Entry) (e : Entry) → AllBelow n h → e.pass < n → AllBelow n (h ++ e ∷ [])
 one_more_below n [] e below lt = (lt, tt)

@@ -20,7 +20,8 @@ use Rattle.receive_laws.proofs.HistoryLaws.Sound.{histories_sound}
 use Rattle.receive_laws.specs.Fitting.{AreFitting}
 use Rattle.receive_laws.specs.Pieces.{Piece, pieces}
 use Rattle.receive_laws.specs.Up.{IsUp}
-use Rattle.receive_laws.proofs.Delivering.{events_before, events_behind, image_stays, legal_behind, lent_behind, vfs_stays}
+use Rattle.device_lock.proofs.Histories.{events_before, events_behind, legal_behind}
+use Rattle.receive_laws.proofs.Delivering.{image_stays, lent_behind, vfs_stays}
 use Rattle.transmit_laws.specs.Sent.{sent_by}
 use Rattle.pmd.specs.Apart.{LendsApart, AllLendApart}
 use Rattle.pmd.specs.Halves.{Halves, Doer, OwnCall, AllOwn, after_call, is_neither}

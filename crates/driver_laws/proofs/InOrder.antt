@@ -13,7 +13,8 @@ use Rattle.receive_laws.specs.Delivered as receive
 use Rattle.receive_laws.specs.Delivered.{delivered, packets_if_any, pieces_in, pieces_since}
 use Rattle.receive_laws.specs.Histories.{FindsNone, ShowsNone}
 use Rattle.receive_laws.specs.Pieces.{packets_of}
-use Rattle.receive_laws.proofs.Delivering.{events_before, events_behind, image_stays, leads-append, legal_behind, lent_behind, since-append, vfs_stays}
+use Rattle.device_lock.proofs.Histories.{events_before, events_behind, leads-append, legal_behind}
+use Rattle.receive_laws.proofs.Delivering.{image_stays, lent_behind, since-append, vfs_stays}
 use Rattle.receive_laws.proofs.Prefix.{all_taken, drained, handed_first}
 use Rattle.transmit_laws.specs.Agreeing.{bytes_of}
 use Rattle.transmit_laws.specs.Laws as transmit

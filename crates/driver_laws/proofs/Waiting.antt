@@ -2,7 +2,7 @@
 use Rattle.std.proofs.Common.{◌++◌, subst}
 use Rattle.nic_device.specs.State.{State, new_state}
 use Rattle.device_lock.specs.History.{calls_of, leads_to}
-use Rattle.receive_laws.proofs.Delivering.{leads-append}
+use Rattle.device_lock.proofs.Histories.{leads-append}
 use Rattle.transmit_laws.specs.Laws.{FindsWaiting}
 use Rattle.transmit_laws.specs.Sent.{sent_in}
 use Rattle.transmit_laws.proofs.Runs.{sent_in-append, waiting-left}

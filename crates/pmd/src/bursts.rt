@@ -9,6 +9,7 @@ ghost use Rattle.pmd.specs.Blocks.{KeepsUp};
 ghost use Rattle.pmd.specs.Bursts.{IsSendBurst, MakesRoom, SendsBurst, Stops, fault_of, vacant_in};
 ghost use Rattle.pmd.specs.Halves.{halves_of};
 ghost use Rattle.pmd.specs.Queueing.{Queues, StaysShut};
+ghost use Rattle.pmd_rx.specs.PmdSeam.Begun.{BeganAs};
 ghost use Rattle.pmd_rx.specs.PmdSeam.Refusals.{CanFail};
 
 use crate::running::Running;
@@ -45,7 +46,7 @@ impl Running {
             (N.made nic.new) self.new }
         ensures blocks { KeepsUp self.old (numbers_of_all packets.old.items) self.new
             (numbers_of_all packets.new.items) }
-        ensures who { N.who nic.new ≡ N.who nic.old }
+        ensures began { BeganAs N.began nic.old nic.new }
         ensures refuses { N.refuses nic.new ≡ N.refuses nic.old }
         ensures refusal { IfErr result (λ f. CanFail (N.refuses nic.new) f) }
     {
@@ -67,7 +68,7 @@ impl Running {
             ≡ record self.old.transmit.layout { next = self.new.transmit.layout.next } }
         ensures receive { self.new.receive ≡ self.old.receive }
         ensures blocks { KeepsUp self.old [] self.new [] }
-        ensures who { N.who nic.new ≡ N.who nic.old }
+        ensures began { BeganAs N.began nic.old nic.new }
         ensures refuses { N.refuses nic.new ≡ N.refuses nic.old }
         ensures refusal { IfErr result (λ f. CanFail (N.refuses nic.new) f) }
     {
@@ -92,7 +93,7 @@ impl Running {
             (N.made nic.new) self.new }
         ensures blocks { KeepsUp self.old (numbers_of_all packets.old.items) self.new
             (numbers_of_all packets.new.items) }
-        ensures who { N.who nic.new ≡ N.who nic.old }
+        ensures began { BeganAs N.began nic.old nic.new }
         ensures refuses { N.refuses nic.new ≡ N.refuses nic.old }
         ensures refusal { IfErr result (λ f. CanFail (N.refuses nic.new) f) }
     {
@@ -118,7 +119,7 @@ impl Running {
         ensures stops { Stops result.met self.new packets.new.items }
         ensures shut { StaysShut packets.old.items packets.new.items result.sent result.met (N.made nic.old) self.old
             (N.made nic.new) self.new }
-        ensures who { N.who nic.new ≡ N.who nic.old }
+        ensures began { BeganAs N.began nic.old nic.new }
         ensures refuses { N.refuses nic.new ≡ N.refuses nic.old }
         ensures refusal { IfSome result.met (λ f. CanFail (N.refuses nic.new) f) }
     {
@@ -149,7 +150,7 @@ impl Running {
             self.old (N.made nic.new) self.new }
         ensures goes_on { result.1 ≡ false → (result.0.met ≡ None)
             × (length packets.new.items + 1 ≡ length packets.old.items) }
-        ensures who { N.who nic.new ≡ N.who nic.old }
+        ensures began { BeganAs N.began nic.old nic.new }
         ensures refuses { N.refuses nic.new ≡ N.refuses nic.old }
         ensures refusal { IfSome result.0.met (λ f. CanFail (N.refuses nic.new) f) }
     {

@@ -2,6 +2,7 @@
 
 ghost use Rattle.std.specs.Prelude.{ℕ, ◌≡◌, ◌<◌, ◌⊎◌, ◌++◌, ◌∷◌, ◌↔◌, [], true, Some, Err, All, drop, length, IfOk, IfErr, IfSome, IsNone, IsOk, OnOk, OnErr};
 ghost use Rattle.nic_device.specs.DmaArena.Numbers.{free_count, is_own, is_free};
+ghost use Rattle.pmd_rx.specs.PmdSeam.Begun.{BeganAs};
 ghost use Rattle.pmd_rx.specs.PmdSeam.Bufs.{numbers_of, with_all_free};
 ghost use Rattle.pmd_rx.specs.PmdSeam.Fresh.{IsFresh, bufs_for};
 ghost use Rattle.pmd_rx.specs.PmdSeam.Packet.{kept_of};
@@ -103,7 +104,7 @@ impl Pmd {
         ensures down { IsDown self.old.rings → (result ≡ Err PmdFault.DeviceFault)
             × (N.made nic.new ≡ N.made nic.old) × (self.new ≡ self.old) }
         ensures queue { self.new.queue ≡ self.old.queue }
-        ensures who { N.who nic.new ≡ N.who nic.old }
+        ensures began { BeganAs N.began nic.old nic.new }
         ensures refuses { N.refuses nic.new ≡ N.refuses nic.old }
         ensures refusal { IfErr result (λ f. CanFail (N.refuses nic.new) f) }
     {
@@ -137,7 +138,7 @@ impl Pmd {
             → (result ≡ Err (record { fault = PmdFault.DeviceFault; packet = Some packet }))
             × (N.made nic.new ≡ N.made nic.old) × (self.new ≡ self.old) }
         ensures queue { self.new.queue ≡ self.old.queue }
-        ensures who { N.who nic.new ≡ N.who nic.old }
+        ensures began { BeganAs N.began nic.old nic.new }
         ensures refuses { N.refuses nic.new ≡ N.refuses nic.old }
         ensures refusal { IfErr result (λ failed. CanFail (N.refuses nic.new) failed.fault) }
     {
@@ -164,7 +165,7 @@ impl Pmd {
         ensures down { IsDown self.old.rings → (result ≡ Err PmdFault.DeviceFault)
             × (N.made nic.new ≡ N.made nic.old) × (self.new ≡ self.old) }
         ensures queue { self.new.queue ≡ self.old.queue }
-        ensures who { N.who nic.new ≡ N.who nic.old }
+        ensures began { BeganAs N.began nic.old nic.new }
         ensures refuses { N.refuses nic.new ≡ N.refuses nic.old }
         ensures refusal { IfErr result (λ f. CanFail (N.refuses nic.new) f) }
     {
@@ -201,7 +202,7 @@ impl Pmd {
         ensures down { IsDown self.old.rings → (result ≡ Err PmdFault.DeviceFault)
             × (packets.new.items ≡ packets.old.items) × (N.made nic.new ≡ N.made nic.old) × (self.new ≡ self.old) }
         ensures queue { self.new.queue ≡ self.old.queue }
-        ensures who { N.who nic.new ≡ N.who nic.old }
+        ensures began { BeganAs N.began nic.old nic.new }
         ensures refuses { N.refuses nic.new ≡ N.refuses nic.old }
         ensures refusal { IfErr result (λ f. CanFail (N.refuses nic.new) f) }
     {
@@ -237,7 +238,7 @@ impl Pmd {
         ensures down { IsDown self.old.rings → (result ≡ Err PmdFault.DeviceFault)
             × (packets.new.items ≡ packets.old.items) × (N.made nic.new ≡ N.made nic.old) × (self.new ≡ self.old) }
         ensures queue { self.new.queue ≡ self.old.queue }
-        ensures who { N.who nic.new ≡ N.who nic.old }
+        ensures began { BeganAs N.began nic.old nic.new }
         ensures refuses { N.refuses nic.new ≡ N.refuses nic.old }
         ensures refusal { IfErr result (λ f. CanFail (N.refuses nic.new) f) }
     {
@@ -295,7 +296,7 @@ impl Pmd {
         ensures refused { IfErr result (λ refused. (h : Halted)
             × (refused.pmd ≡ record { queue = self.queue; rings = Rings.Down h })
             × StopFails refused.fault self.queue (N.made nic.old) (halted_of self.rings) (N.made nic.new) h) }
-        ensures who { N.who nic.new ≡ N.who nic.old }
+        ensures began { BeganAs N.began nic.old nic.new }
         ensures refuses { N.refuses nic.new ≡ N.refuses nic.old }
         ensures refusal { IfErr result (λ refused. CanFail (N.refuses nic.new) refused.fault) }
     {

@@ -3,6 +3,7 @@
 ghost use Rattle.std.specs.Prelude.{◌≡◌, ◌↔◌, ◌<◌, ◌++◌, ◌⊎◌, ℕ, [], true, None, IfOk, IfErr, IsOk, IsNone, OnOk, OnErr};
 ghost use Rattle.std.specs.List.{list_any};
 ghost use Rattle.nic_device.specs.DmaArena.Numbers.{free_count, is_own, is_free};
+ghost use Rattle.pmd_rx.specs.PmdSeam.Begun.{BeganAs};
 ghost use Rattle.pmd_rx.specs.PmdSeam.Bufs.{numbers_of, with_all_free};
 ghost use Rattle.pmd_rx.specs.PmdSeam.Home.{AreOut};
 ghost use Rattle.pmd_rx.specs.PmdSeam.Fresh.{IsFresh, bufs_for};
@@ -177,7 +178,7 @@ impl Halted {
             → (n : ℕ) → is_free home.arena n ≡ is_free_or_out self.arena (all_out self) n) }
         ensures failed { IfErr result (λ failed.
             StopFails failed.fault queue.now (N.made nic.old) self (N.made nic.new) failed.halted) }
-        ensures who { N.who nic.new ≡ N.who nic.old }
+        ensures began { BeganAs N.began nic.old nic.new }
         ensures refuses { N.refuses nic.new ≡ N.refuses nic.old }
         ensures refusal { IfErr result (λ failed. CanFail (N.refuses nic.new) failed.fault) }
     {

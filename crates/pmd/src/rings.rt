@@ -7,6 +7,7 @@ ghost use Rattle.std.specs.VecDeque.{deque_capacity};
 ghost use Rattle.nic_device.specs.DmaArena.Block.{zero_block};
 ghost use Rattle.nic_device.specs.DmaArena.Numbers.{free_count, is_free, with_free};
 ghost use Rattle.pmd_rx.specs.PmdSeam.Accesses.{IsLent};
+ghost use Rattle.pmd_rx.specs.PmdSeam.Begun.{BeganAs};
 ghost use Rattle.pmd_rx.specs.PmdSeam.Home.{AreOut, IsDrawn};
 ghost use Rattle.pmd_rx.specs.PmdSeam.Slots.{blocks_for, ring_blocks};
 ghost use Rattle.pmd_rx.specs.Keeping.{blocks_out, IsRunning, Keeps};
@@ -44,7 +45,7 @@ fn lend_one<N: Nic>(
     ensures drawn { OnOk result (arena.new ≡ with_free arena.old block false) }
     ensures failed { IfErr result (λ f. LendingFails f (N.made nic.old) (N.made nic.new) (zero_block block)) }
     ensures kept { OnErr result (arena.new ≡ arena.old) }
-    ensures who { N.who nic.new ≡ N.who nic.old }
+    ensures began { BeganAs N.began nic.old nic.new }
     ensures refuses { N.refuses nic.new ≡ N.refuses nic.old }
     ensures refusal { IfErr result (λ f. CanFail (N.refuses nic.new) f) }
 {
@@ -82,7 +83,7 @@ fn lend_run<N: Nic>(
     ensures drawn { OnOk result (IsDrawn arena.old (range_with_len first count) arena.new) }
     ensures stops { IfErr result (λ f. StopsLending f (range_with_len first count) (N.made nic.old) arena.old
         (N.made nic.new) arena.new lent.new.items) }
-    ensures who { N.who nic.new ≡ N.who nic.old }
+    ensures began { BeganAs N.began nic.old nic.new }
     ensures refuses { N.refuses nic.new ≡ N.refuses nic.old }
     ensures refusal { IfErr result (λ f. CanFail (N.refuses nic.new) f) }
 {
@@ -114,7 +115,7 @@ fn prepare<N: Nic>(
         (IsPrepared queue.now side size (N.made nic.old) arena.old (N.made nic.new) arena.new ring) }
     ensures failed { IfErr result (λ e. PreparingFails e.fault queue.now side size (N.made nic.old) arena.old
         (N.made nic.new) arena.new e.lent.items) }
-    ensures who { N.who nic.new ≡ N.who nic.old }
+    ensures began { BeganAs N.began nic.old nic.new }
     ensures refuses { N.refuses nic.new ≡ N.refuses nic.old }
     ensures refusal { IfErr result (λ e. CanFail (N.refuses nic.new) e.fault) }
 {
@@ -157,7 +158,7 @@ pub(crate) fn receive_ring<N: Nic>(
     ensures drawn { OnOk result (IsDrawn arena.old (ring_blocks ring size) arena.new) }
     ensures failed { IfErr result (λ e.
         ReceiveFails e.fault queue.now size (N.made nic.old) arena.old (N.made nic.new) arena.new e.lent.items) }
-    ensures who { N.who nic.new ≡ N.who nic.old }
+    ensures began { BeganAs N.began nic.old nic.new }
     ensures refuses { N.refuses nic.new ≡ N.refuses nic.old }
     ensures refusal { IfErr result (λ e. CanFail (N.refuses nic.new) e.fault) }
 {
@@ -197,7 +198,7 @@ pub(crate) fn transmit_ring<N: Nic>(
         IsTransmitReady queue.now size frame (N.made nic.old) arena.old (N.made nic.new) arena.new transmit) }
     ensures failed { IfErr result (λ e. PreparingFails e.fault queue.now Dir.Tx size (N.made nic.old) arena.old
         (N.made nic.new) arena.new e.lent.items) }
-    ensures who { N.who nic.new ≡ N.who nic.old }
+    ensures began { BeganAs N.began nic.old nic.new }
     ensures refuses { N.refuses nic.new ≡ N.refuses nic.old }
     ensures refusal { IfErr result (λ e. CanFail (N.refuses nic.new) e.fault) }
 {
@@ -232,7 +233,7 @@ pub(crate) fn go_on<N: Nic>(
     ensures late { IfErr result (λ f. ComesLate f) }
     ensures handed { receive.new.handed ≡ receive.old.handed }
     ensures keeps { Keeps arena.old receive.old arena.new receive.new [] }
-    ensures who { N.who nic.new ≡ N.who nic.old }
+    ensures began { BeganAs N.began nic.old nic.new }
     ensures refuses { N.refuses nic.new ≡ N.refuses nic.old }
     ensures refusal { IfErr result (λ f. CanFail (N.refuses nic.new) f) }
 {

@@ -4,6 +4,7 @@ ghost use Rattle.std.specs.Prelude.{◌≡◌, ◌<◌, ◌≤◌, ◌+◌, ◌�
 ghost use Rattle.std.specs.List.{list_any};
 ghost use Rattle.nic_device.specs.DmaArena.Numbers.{free_count, is_own};
 ghost use Rattle.nic_device.specs.DmaArena.Whereabouts.{times_in_hand};
+ghost use Rattle.pmd_rx.specs.PmdSeam.Begun.{BeganAs};
 ghost use Rattle.pmd_rx.specs.PmdSeam.Bufs.{numbers_of};
 ghost use Rattle.pmd_rx.specs.PmdSeam.Fresh.{IsFresh, bufs_for};
 ghost use Rattle.pmd_rx.specs.Keeping.{blocks_out, handed_blocks, numbers_in, numbers_of_all};
@@ -95,7 +96,7 @@ impl Running {
         ensures received { IsReceiveCall result (N.made nic.old) self.old (N.made nic.new) self.new }
         ensures home { IfOk result (λ out. IfSome out (λ packet. goes_back self.new packet ≡ true)) }
         ensures blocks { KeepsUp self.old [] self.new (handed_blocks result) }
-        ensures who { N.who nic.new ≡ N.who nic.old }
+        ensures began { BeganAs N.began nic.old nic.new }
         ensures refuses { N.refuses nic.new ≡ N.refuses nic.old }
         ensures refusal { IfErr result (λ f. CanFail (N.refuses nic.new) f) }
     {
@@ -122,7 +123,7 @@ impl Running {
             (drop (length packets.old.items) packets.new.items) }
         ensures blocks { KeepsUp self.old (numbers_of_all packets.old.items) self.new
             (numbers_of_all packets.new.items) }
-        ensures who { N.who nic.new ≡ N.who nic.old }
+        ensures began { BeganAs N.began nic.old nic.new }
         ensures refuses { N.refuses nic.new ≡ N.refuses nic.old }
         ensures refusal { IfErr result (λ f. CanFail (N.refuses nic.new) f) }
     {
@@ -146,7 +147,7 @@ impl Running {
         ensures drives { DrivesRings (N.made nic.old) self.old (N.made nic.new) self.new }
         ensures sent { IsSendCall packet result (N.made nic.old) self.old (N.made nic.new) self.new }
         ensures blocks { KeepsUp self.old (numbers_of packet.bufs) self.new (numbers_in (returned result)) }
-        ensures who { N.who nic.new ≡ N.who nic.old }
+        ensures began { BeganAs N.began nic.old nic.new }
         ensures refuses { N.refuses nic.new ≡ N.refuses nic.old }
         ensures refusal { IfErr result (λ failed. CanFail (N.refuses nic.new) failed.fault) }
     {
@@ -165,7 +166,7 @@ impl Running {
         ensures drives { DrivesRings (N.made nic.old) self.old (N.made nic.new) self.new }
         ensures reaped { IsReapCall result (N.made nic.old) self.old (N.made nic.new) self.new }
         ensures blocks { KeepsUp self.old [] self.new [] }
-        ensures who { N.who nic.new ≡ N.who nic.old }
+        ensures began { BeganAs N.began nic.old nic.new }
         ensures refuses { N.refuses nic.new ≡ N.refuses nic.old }
         ensures refusal { IfErr result (λ f. CanFail (N.refuses nic.new) f) }
     {
@@ -202,7 +203,7 @@ impl Running {
         ensures blocks { KeepsUp self.old (numbers_of packet.bufs) self.new (numbers_in (returned result)) }
         ensures amid { IfErr result (λ failed.
             FailsAmid failed.fault (is_own self.old.arena) (N.made nic.old) (halves_of self.old) (N.made nic.new)) }
-        ensures who { N.who nic.new ≡ N.who nic.old }
+        ensures began { BeganAs N.began nic.old nic.new }
         ensures refuses { N.refuses nic.new ≡ N.refuses nic.old }
         ensures refusal { IfErr result (λ failed. CanFail (N.refuses nic.new) failed.fault) }
     {
@@ -225,7 +226,7 @@ impl Running {
         ensures late { IfErr result (λ f. IsLate f) }
         ensures amid { IfErr result (λ f.
             FailsAmid f (is_own self.old.arena) (N.made nic.old) (halves_of self.old) (N.made nic.new)) }
-        ensures who { N.who nic.new ≡ N.who nic.old }
+        ensures began { BeganAs N.began nic.old nic.new }
         ensures refuses { N.refuses nic.new ≡ N.refuses nic.old }
         ensures refusal { IfErr result (λ f. CanFail (N.refuses nic.new) f) }
     {

@@ -9,6 +9,7 @@ ghost use Rattle.pmd.specs.Blocks.{HasAll, IsWhole};
 ghost use Rattle.pmd.specs.Driver.{handed_of, halted_of};
 ghost use Rattle.pmd.specs.Runs.{AreRuns};
 ghost use Rattle.pmd.specs.Started.{is_size, has_room, start_gate, left_accepted, left_handed, IsHome, IsShut, HasStarted, IsHalfStarted, IsLeftWith, StopsStarting};
+ghost use Rattle.pmd_rx.specs.PmdSeam.Begun.{BeganAs};
 ghost use Rattle.pmd_rx.specs.PmdSeam.Frames.{is_frame};
 ghost use Rattle.pmd_rx.specs.PmdSeam.Home.{AreOut};
 ghost use Rattle.pmd_rx.specs.PmdSeam.Slots.{blocks_for};
@@ -189,7 +190,7 @@ fn bring_up<N: Nic>(
     ensures left { IfErr result (λ e. left_handed e.rest ≡ []) }
     ensures blocks { IfOk result (λ p. HasAll arena (halted_of p.rings) []) }
     ensures whole { IfErr result (λ e. IsWhole arena e.rest) }
-    ensures who { N.who nic.new ≡ N.who nic.old }
+    ensures began { BeganAs N.began nic.old nic.new }
     ensures refuses { N.refuses nic.new ≡ N.refuses nic.old }
     ensures refusal { IfErr result (λ e. CanFail (N.refuses nic.new) e.fault) }
 {
@@ -263,7 +264,7 @@ impl Pmd {
         ensures accepted { IfErr result (λ e. left_accepted e.rest ≡ []) }
         ensures blocks { IfOk result (λ p. HasAll arena (halted_of p.rings) []) }
         ensures whole { IfErr result (λ e. IsWhole arena e.rest) }
-        ensures who { N.who nic.new ≡ N.who nic.old }
+        ensures began { BeganAs N.began nic.old nic.new }
         ensures refuses { N.refuses nic.new ≡ N.refuses nic.old }
         ensures refusal { IfErr result (λ e. CanFail (N.refuses nic.new) e.fault) }
     {

@@ -1,6 +1,7 @@
 //! A driver whose rings are closed, on its way home.
 
 ghost use Rattle.std.specs.Prelude.{◌≡◌, ◌++◌, IfOk, IfErr, OnOk, OnErr};
+ghost use Rattle.pmd_rx.specs.PmdSeam.Begun.{BeganAs};
 ghost use Rattle.pmd_rx.specs.PmdSeam.Home.{AreOut, BringsAll, StopsBringing};
 ghost use Rattle.pmd.specs.Halted.{IsHalted};
 ghost use Rattle.pmd.specs.Leaving.{leaving_as, bringing_both};
@@ -35,7 +36,7 @@ impl Leaving {
             GoesHome queue.now (N.made nic.old) (leaving_as self) (N.made nic.new) home) }
         ensures failed { IfErr result (λ failed.
             IsLeft failed.fault queue.now (N.made nic.old) (leaving_as self) (N.made nic.new) failed.halted) }
-        ensures who { N.who nic.new ≡ N.who nic.old }
+        ensures began { BeganAs N.began nic.old nic.new }
         ensures refuses { N.refuses nic.new ≡ N.refuses nic.old }
         ensures refusal { IfErr result (λ failed. CanFail (N.refuses nic.new) failed.fault) }
     {
@@ -54,7 +55,7 @@ impl Leaving {
         ensures home { IfOk result (λ home. ComesHome (N.made nic.old) (leaving_as self) (N.made nic.new) home) }
         ensures failed { IfErr result (λ failed.
             IsLeftAmid failed.fault (N.made nic.old) (leaving_as self) (N.made nic.new) failed.halted) }
-        ensures who { N.who nic.new ≡ N.who nic.old }
+        ensures began { BeganAs N.began nic.old nic.new }
         ensures refuses { N.refuses nic.new ≡ N.refuses nic.old }
         ensures refusal { IfErr result (λ failed. CanFail (N.refuses nic.new) failed.fault) }
     {
@@ -104,7 +105,7 @@ fn bring_both<N: Nic>(
     ensures stopped { OnErr result (StopsBringing
         (bringing_both (N.made nic.old) arena.old first.old second.old)
         (bringing_both (N.made nic.new) arena.new first.new second.new)) }
-    ensures who { N.who nic.new ≡ N.who nic.old }
+    ensures began { BeganAs N.began nic.old nic.new }
     ensures refuses { N.refuses nic.new ≡ N.refuses nic.old }
     ensures refusal { IfErr result (λ refusal. CanRefuse (N.refuses nic.new) refusal) }
 {

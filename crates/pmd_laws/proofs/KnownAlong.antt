@@ -20,7 +20,8 @@ use Rattle.start_laws.proofs.HistoryLaws.Alone.{alone_by_entries}
 use Rattle.start_laws.proofs.HistoryLaws.Modes.{mode_told}
 use Rattle.start_laws.proofs.HistoryLaws.Sound.{histories_sound}
 use Rattle.start_laws.specs.ReceiveLaws.Pieces.{Piece, pieces}
-use Rattle.start_laws.proofs.ReceiveLaws.Delivering.{events_before, events_behind, image_stays, legal_behind, lent_behind, vfs_stays}
+use Rattle.device_lock.proofs.Histories.{events_before, events_behind, legal_behind}
+use Rattle.start_laws.proofs.ReceiveLaws.Delivering.{image_stays, lent_behind, vfs_stays}
 use Rattle.start_laws.specs.TransmitLaws.Sent.{sent_by}
 use Rattle.pmd.specs.Apart.{AllLendApart}
 use Rattle.pmd.specs.Halves.{AllOwn, Doer, Halves, OwnCall, after_call, played_by}

@@ -17,11 +17,10 @@ use Rattle.device_lock.specs.declared.entry.Entry.{Entry}
 use Rattle.start_laws.specs.HistoryLaws.Lent.{OnlyLent}
 use Rattle.pmd.specs.PmdSeam.QueueMade.{Sees, IsMade}
 use Rattle.pmd.specs.PmdSeam.Named.{AtPort}
-use Rattle.start_laws.proofs.ReceiveLaws.Delivering.{events_before, events_behind, leads-append, legal_behind}
+use Rattle.device_lock.proofs.Histories.{events_before, events_behind, leads-append, legal_before, legal_behind}
 use Rattle.start_laws.proofs.ReceiveLaws.Histories.{calls_own}
 use Rattle.start_laws.specs.Along.{AtCalls, BeforeLast, IsAlong}
 use Rattle.start_laws.specs.Ending.{Each}
-use Rattle.start_laws.proofs.Along.{legal_before}
 use Rattle.start_laws.proofs.Parts.{around}
 use Rattle.start_laws.proofs.Reached.{reached}
 use Rattle.driver_laws.specs.Before.{OnlyPassLends}

@@ -10,6 +10,7 @@ pub mod FirstHalves
 pub mod FullRing
 pub mod HandedOn
 pub mod Held
+pub mod InHand
 pub mod KnownAlong
 pub mod LaidAccesses
 pub mod LaidCalls

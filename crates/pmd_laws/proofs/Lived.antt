@@ -11,10 +11,9 @@ use Rattle.start_laws.proofs.HistoryLaws.Beginning.{beginning_alone}
 use Rattle.pmd.specs.Running.{Running}
 use Rattle.pmd.specs.Started.{AreUp}
 use Rattle.pmd.specs.PmdSeam.Named.{AtPort}
-use Rattle.start_laws.proofs.ReceiveLaws.Delivering.{events_before}
+use Rattle.device_lock.proofs.Histories.{events_before, legal_before}
 use Rattle.start_laws.specs.Along.{IsAlong}
 use Rattle.start_laws.specs.Start.{BeginsWell}
-use Rattle.start_laws.proofs.Along.{legal_before}
 use Rattle.pmd.specs.Halves.{Halves, halves_of}
 use Rattle.driver_laws.specs.Beside.{Leads}
 use Rattle.pmd_laws.specs.Life.{IsLife}

@@ -16,7 +16,7 @@ use Rattle.pmd.specs.PmdSeam.Named.{AtPort}
 use Rattle.pmd.specs.PmdRx.Receive.{Receive, descriptor_at}
 use Rattle.start_laws.specs.ReceiveLaws.Delivered.{delivered}
 use Rattle.start_laws.specs.ReceiveLaws.Histories.{FindsNone}
-use Rattle.start_laws.proofs.ReceiveLaws.Delivering.{legal_behind}
+use Rattle.device_lock.proofs.Histories.{legal_behind}
 use Rattle.start_laws.specs.Along.{IsAlong}
 use Rattle.start_laws.proofs.Parts.{Parts, around}
 use Rattle.pmd.specs.Halves.{Halves, halves_of}

@@ -16,7 +16,7 @@ use Rattle.pmd.specs.Running.{Running}
 use Rattle.pmd.specs.Started.{AreUp}
 use Rattle.pmd.specs.declared.driver.Rings.{Rings}
 use Rattle.pmd.specs.PmdSeam.Named.{AtPort}
-use Rattle.start_laws.proofs.ReceiveLaws.Delivering.{leads-append}
+use Rattle.device_lock.proofs.Histories.{leads-append}
 use Rattle.start_laws.specs.On.{AreOn}
 use Rattle.start_laws.proofs.Parts.{Parts, parts}
 use Rattle.start_laws.proofs.Start.{on}

@@ -12,7 +12,7 @@ use Rattle.device_lock.specs.declared.entry.Entry.{Entry}
 use Rattle.start_laws.proofs.HistoryLaws.Beginning.{lent_before}
 use Rattle.pmd.specs.Running.{Running}
 use Rattle.pmd.specs.PmdSeam.Named.{AtPort}
-use Rattle.start_laws.proofs.ReceiveLaws.Delivering.{leads-append}
+use Rattle.device_lock.proofs.Histories.{leads-append}
 use Rattle.start_laws.proofs.ReceiveLaws.Each.{each_map}
 use Rattle.start_laws.specs.ReceiveLaws.Delivered.{pieces_in}
 use Rattle.start_laws.specs.ReceiveLaws.Pieces.{Piece}

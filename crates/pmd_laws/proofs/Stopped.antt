@@ -13,7 +13,7 @@ use Rattle.pmd.specs.Running.{Running}
 use Rattle.pmd.specs.PmdSeam.Named.{AtPort}
 use Rattle.pmd.specs.PmdRx.Receive.{Receive}
 use Rattle.pmd.specs.PmdTx.Sending.{Sender}
-use Rattle.start_laws.proofs.ReceiveLaws.Delivering.{leads-append}
+use Rattle.device_lock.proofs.Histories.{leads-append}
 use Rattle.start_laws.specs.Along.{AtEntries, IsAlong}
 use Rattle.start_laws.specs.Ending.{IsEnding, IsPlain, NamesDriven}
 use Rattle.start_laws.specs.Points.{HasGround}

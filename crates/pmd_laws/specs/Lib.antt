@@ -3,6 +3,7 @@ pub use Rattle.start_laws.specs as StartLaws
 pub mod Ends
 pub mod Faultless
 pub mod FullRing
+pub mod InHand
 pub mod Lends
 pub mod Life
 pub mod Looks

@@ -2,7 +2,8 @@
 //!
 //! Each law is the contract of a function that does nothing. `specs/Life` says what a life is by the calls of the
 //! driver's pass, `specs/Lends` which blocks it lends, and `specs/Told` what a life is by what the driver's calls tell.
-//! `specs/Order` says what holds of it over a history of a shared device, `specs/Faultless` that neither its start nor
+//! `specs/InHand` says which history a device in hand has.
+//! `specs/Order` says what holds of a life over a history of a shared device, `specs/Faultless` that neither its start nor
 //! a call of its finds the device at fault, `specs/Looks` what holds where a look finds no packet, and `specs/Waits`
 //! where it finds one waiting; `specs/Places` says where its blocks are at the device, and `specs/FullRing` how many
 //! slots are taken where its ring is full. `specs/Ends` says what holds of what a stopped driver left,
@@ -13,6 +14,7 @@
 ghost use Rattle.pmd_laws.specs.Ends.{HandedOverStop, LeftIsPrefix, SentOverStop};
 ghost use Rattle.pmd_laws.specs.Faultless.{NoCallFindsFault, NoFillingFindsFault, NoStartFindsFault};
 ghost use Rattle.pmd_laws.specs.FullRing.{FullHasNoRoom, NoneHasNoRoom};
+ghost use Rattle.pmd_laws.specs.InHand.{DirectIsHistory, InterleavedIsHistory};
 ghost use Rattle.pmd_laws.specs.Lends.{LifeLendsApart};
 ghost use Rattle.pmd_laws.specs.Looks.{CallsEnd, NoneIsAllAtFirst, NoneIsAllBefore};
 ghost use Rattle.pmd_laws.specs.Order.{HandedIsPrefix, NoneIsAll, NoneIsAllTaken, SentIsPrefix, IdleIsAllSent};
@@ -23,6 +25,16 @@ ghost use Rattle.pmd_laws.specs.Silent.{SilentOnceOff, SilentOverStop};
 ghost use Rattle.pmd_laws.specs.Stopped as stopped;
 ghost use Rattle.pmd_laws.specs.Told as told;
 ghost use Rattle.pmd_laws.specs.Waits.{WaitingIsNotAllBefore, WaitingIsNotAllAsTold};
+
+/// The laws here speak of a history of a new device. The calls that were made through a `pmd_seam::Direct` are one, all
+/// of pass 0, behind what was made of the device before it came into hand; and so are those through an `Interleaved`,
+/// own ones of pass 0 and foreign ones of pass 1. It leads to the device in hand. What is asked is that the device was
+/// where that led as the way was made, as `began` tells of a new one, and each call of a driver keeps; and that the
+/// history leaves the queue alone.
+pub fn calls_in_hand_are_a_history()
+    ensures direct { DirectIsHistory }
+    ensures interleaved { InterleavedIsHistory }
+{}
 
 /// Over a legal history of a new device that leaves the driver's queue alone, whose pass made the calls of a start that
 /// brought both rings up, and then calls of the two halves, beside harmless ones, which write no register and lend,

@@ -2,6 +2,7 @@
 
 ghost use Rattle.std.specs.Prelude.{ℕ, ◌≡◌, ◌≢◌, ◌<◌, ◌≤◌, ◌+◌, ◌++◌, ◌∷◌, [], length, true, false, Ok, Err, IfOk, IfErr, IfSome, IfNone, OnErr};
 ghost use Rattle.nic_device.specs.DmaArena.Numbers.{Numbers};
+ghost use Rattle.pmd_seam.specs.Begun.{BeganAs};
 ghost use Rattle.pmd_seam.specs.Home.{AreOut};
 ghost use Rattle.pmd_seam.specs.Packet.{kept_of};
 ghost use Rattle.pmd_rx.specs.Burst.{IsBurst};
@@ -38,7 +39,7 @@ impl ReceiveRing {
             FailsBy f (N.made nic.old) arena.old self.old (N.made nic.new) arena.new self.new) }
         ensures waits { result ≡ Err PmdFault.NoBuffer → PacketWaits self.new.stage }
         ensures keeps { Keeps arena.old self.old arena.new self.new [] }
-        ensures who { N.who nic.new ≡ N.who nic.old }
+        ensures began { BeganAs N.began nic.old nic.new }
         ensures refuses { N.refuses nic.new ≡ N.refuses nic.old }
         ensures refusal { IfErr result (λ f. CanFail (N.refuses nic.new) f) }
     {
@@ -61,7 +62,7 @@ impl ReceiveRing {
         ensures more { length self.old.whole ≤ length self.new.whole }
         ensures handed { self.new.handed ≡ self.old.handed }
         ensures keeps { Keeps arena.old self.old arena.new self.new [] }
-        ensures who { N.who nic.new ≡ N.who nic.old }
+        ensures began { BeganAs N.began nic.old nic.new }
         ensures refuses { N.refuses nic.new ≡ N.refuses nic.old }
     {
         for _packet in 0..most {
@@ -92,7 +93,7 @@ impl ReceiveRing {
             FailsBy f (N.made nic.old) arena.old self.old (N.made nic.new) arena.new self.new) }
         ensures waits { result ≡ Err PmdFault.NoBuffer → PacketWaits self.new.stage }
         ensures keeps { Keeps arena.old self.old arena.new self.new [] }
-        ensures who { N.who nic.new ≡ N.who nic.old }
+        ensures began { BeganAs N.began nic.old nic.new }
         ensures refuses { N.refuses nic.new ≡ N.refuses nic.old }
         ensures refusal { IfErr result (λ f. CanFail (N.refuses nic.new) f) }
     {
@@ -147,7 +148,7 @@ impl ReceiveRing {
             FailsBy f (N.made nic.old) arena.old self.old (N.made nic.new) arena.new self.new) }
         ensures waits { result ≡ Err PmdFault.NoBuffer → PacketWaits self.new.stage }
         ensures keeps { Keeps arena.old self.old arena.new self.new (handed_blocks result) }
-        ensures who { N.who nic.new ≡ N.who nic.old }
+        ensures began { BeganAs N.began nic.old nic.new }
         ensures refuses { N.refuses nic.new ≡ N.refuses nic.old }
         ensures refusal { IfErr result (λ f. CanFail (N.refuses nic.new) f) }
     {
@@ -188,7 +189,7 @@ impl ReceiveRing {
         ensures fails { IfErr result (λ f.
             FailsBy f (N.made nic.old) arena.old self.old (N.made nic.new) arena.new self.new) }
         ensures waits { result ≡ Err PmdFault.NoBuffer → PacketWaits self.new.stage }
-        ensures who { N.who nic.new ≡ N.who nic.old }
+        ensures began { BeganAs N.began nic.old nic.new }
         ensures refuses { N.refuses nic.new ≡ N.refuses nic.old }
         ensures refusal { IfErr result (λ f. CanFail (N.refuses nic.new) f) }
     {
@@ -221,7 +222,7 @@ impl ReceiveRing {
         ensures some { result ≢ Ok 0 }
         ensures fault { (a : Numbers) → IfErr result (λ f.
             IsFault f a (N.made nic.old) self.old (N.made nic.new) self.new) }
-        ensures who { N.who nic.new ≡ N.who nic.old }
+        ensures began { BeganAs N.began nic.old nic.new }
         ensures refuses { N.refuses nic.new ≡ N.refuses nic.old }
         ensures refusal { IfErr result (λ f. CanFail (N.refuses nic.new) f) }
     {

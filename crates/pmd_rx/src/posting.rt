@@ -2,6 +2,7 @@
 
 ghost use Rattle.std.specs.Prelude.{ℕ, ◌≡◌, ◌<◌, ◌≤◌, ◌+◌, [], length, true, false, Ok, Err, IfErr, OnOk, OnErr};
 ghost use Rattle.nic_device.specs.DmaArena.Numbers.{Numbers, free_count, is_free, with_free};
+ghost use Rattle.pmd_seam.specs.Begun.{BeganAs};
 ghost use Rattle.pmd_seam.specs.Home.{AreOut};
 ghost use Rattle.pmd_rx.specs.Filling.{Fills, StopsFilling};
 ghost use Rattle.pmd_rx.specs.Keeping.{Keeps, IsRunning, Posts, blocks_out};
@@ -41,7 +42,7 @@ impl ReceiveRing {
             FailsBy f (N.made nic.old) arena.old self.old (N.made nic.new) arena.new self.new) }
         ensures none { result ≡ Err PmdFault.NoBuffer → free_count arena.old ≡ 0 }
         ensures keeps { Keeps arena.old self.old arena.new self.new [] }
-        ensures who { N.who nic.new ≡ N.who nic.old }
+        ensures began { BeganAs N.began nic.old nic.new }
         ensures refuses { N.refuses nic.new ≡ N.refuses nic.old }
         ensures refusal { IfErr result (λ f. CanFail (N.refuses nic.new) f) }
     {
@@ -77,7 +78,7 @@ impl ReceiveRing {
         ensures fault { (a : Numbers) → IfErr result (λ f.
             IsFault f a (N.made nic.old) self.old (N.made nic.new) self.new) }
         ensures keeps { (a : Numbers) → Keeps a self.old a self.new [] }
-        ensures who { N.who nic.new ≡ N.who nic.old }
+        ensures began { BeganAs N.began nic.old nic.new }
         ensures refuses { N.refuses nic.new ≡ N.refuses nic.old }
         ensures refusal { IfErr result (λ f. CanFail (N.refuses nic.new) f) }
     {
@@ -144,7 +145,7 @@ impl ReceiveRing {
         ensures fault { IfErr result (λ f.
             IsFault f arena.old (N.made nic.old) self.old (N.made nic.new) self.new) }
         ensures keeps { Keeps arena.old self.old arena.new self.new [] }
-        ensures who { N.who nic.new ≡ N.who nic.old }
+        ensures began { BeganAs N.began nic.old nic.new }
         ensures refuses { N.refuses nic.new ≡ N.refuses nic.old }
         ensures refusal { IfErr result (λ f. CanFail (N.refuses nic.new) f) }
     {
@@ -180,7 +181,7 @@ impl ReceiveRing {
             FailsBy f (N.made nic.old) arena.old self.old (N.made nic.new) arena.new self.new) }
         ensures same { result ≡ Err PmdFault.NoBuffer → self.new ≡ self.old }
         ensures keeps { Keeps arena.old self.old arena.new self.new [] }
-        ensures who { N.who nic.new ≡ N.who nic.old }
+        ensures began { BeganAs N.began nic.old nic.new }
         ensures refuses { N.refuses nic.new ≡ N.refuses nic.old }
         ensures refusal { IfErr result (λ f. CanFail (N.refuses nic.new) f) }
     {
@@ -241,7 +242,7 @@ impl ReceiveRing {
         ensures fails { IfErr result (λ f.
             FailsBy f (N.made nic.old) arena.old self.old (N.made nic.new) arena.new self.new) }
         ensures keeps { Keeps arena.old self.old arena.new self.new [] }
-        ensures who { N.who nic.new ≡ N.who nic.old }
+        ensures began { BeganAs N.began nic.old nic.new }
         ensures refuses { N.refuses nic.new ≡ N.refuses nic.old }
         ensures refusal { IfErr result (λ f. CanFail (N.refuses nic.new) f) }
     {
@@ -261,7 +262,7 @@ impl ReceiveRing {
         ensures handed { self.new.handed ≡ self.old.handed }
         ensures fault { (a : Numbers) → IfErr result (λ f.
             IsFault f a (N.made nic.old) self.old (N.made nic.new) self.new) }
-        ensures who { N.who nic.new ≡ N.who nic.old }
+        ensures began { BeganAs N.began nic.old nic.new }
         ensures refuses { N.refuses nic.new ≡ N.refuses nic.old }
         ensures refusal { IfErr result (λ f. CanFail (N.refuses nic.new) f) }
     {
@@ -294,7 +295,7 @@ impl ReceiveRing {
             StopsFilling f (N.made nic.old) arena.old self.old (N.made nic.new) arena.new self.new) }
         ensures short { result ≡ Err PmdFault.NoBuffer → free_count arena.old + 1 < self.old.layout.size }
         ensures keeps { Keeps arena.old self.old arena.new self.new [] }
-        ensures who { N.who nic.new ≡ N.who nic.old }
+        ensures began { BeganAs N.began nic.old nic.new }
         ensures refuses { N.refuses nic.new ≡ N.refuses nic.old }
         ensures refusal { IfErr result (λ f. CanFail (N.refuses nic.new) f) }
     {

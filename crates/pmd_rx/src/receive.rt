@@ -11,6 +11,7 @@ ghost use Rattle.pmd_rx.specs.Wrong.{EndsWrong, IsFault};
 ghost use Rattle.pmd_rx.specs.Keeping.{Keeps};
 ghost use Rattle.pmd_rx.specs.Shown.{LooksOnce, IsLook, IsRefused, IsNamed, IsUnnamed};
 ghost use Rattle.pmd_rx.specs.declared.ring.Stage.TheVariants as stage;
+ghost use Rattle.pmd_seam.specs.Begun.{BeganAs};
 ghost use Rattle.pmd_seam.specs.Refusals.{CanFail};
 
 use crate::ring::{ReceiveRing, Stage, Told, no_packet};
@@ -80,7 +81,7 @@ impl ReceiveRing {
             IsFault f a (N.made nic.old) self.old (N.made nic.new) self.new) }
         ensures kept { self.new ≡ record self.old { seen = self.new.seen; stage = self.new.stage } }
         ensures keeps { (a : Numbers) → Keeps a self.old a self.new [] }
-        ensures who { N.who nic.new ≡ N.who nic.old }
+        ensures began { BeganAs N.began nic.old nic.new }
         ensures refuses { N.refuses nic.new ≡ N.refuses nic.old }
         ensures refusal { IfErr result (λ f. CanFail (N.refuses nic.new) f) }
     {
@@ -94,7 +95,7 @@ impl ReceiveRing {
         ensures looked { IfOk result (λ look. IsLook look (N.made nic.old) self.old (N.made nic.new) self.new) }
         ensures unseen { OnErr result (self.new ≡ self.old) }
         ensures refused { IfErr result (λ f. IsRefused f (N.made nic.old) (N.made nic.new)) }
-        ensures who { N.who nic.new ≡ N.who nic.old }
+        ensures began { BeganAs N.began nic.old nic.new }
         ensures refuses { N.refuses nic.new ≡ N.refuses nic.old }
         ensures refusal { IfErr result (λ f. CanFail (N.refuses nic.new) f) }
     {
@@ -135,7 +136,7 @@ impl ReceiveRing {
         ensures fault { (a : Numbers) → IfErr result (λ f.
             IsFault f a (N.made nic.old) self.old (N.made nic.new) self.new) }
         ensures keeps { (a : Numbers) → Keeps a self.old a self.new [] }
-        ensures who { N.who nic.new ≡ N.who nic.old }
+        ensures began { BeganAs N.began nic.old nic.new }
         ensures refuses { N.refuses nic.new ≡ N.refuses nic.old }
         ensures refusal { IfErr result (λ f. CanFail (N.refuses nic.new) f) }
     {
@@ -204,7 +205,7 @@ impl ReceiveRing {
         ensures back { IfErr result (λ refused. refused.1.number ≡ buf.number) }
         ensures fault { (a : Numbers) → is_free a buf.number ≡ true → IfErr result (λ refused.
             IsFault refused.0 a (N.made nic.old) self.old (N.made nic.new) self.new) }
-        ensures who { N.who nic.new ≡ N.who nic.old }
+        ensures began { BeganAs N.began nic.old nic.new }
         ensures refuses { N.refuses nic.new ≡ N.refuses nic.old }
         ensures refusal { IfErr result (λ refused. CanFail (N.refuses nic.new) refused.0) }
     {
@@ -242,7 +243,7 @@ impl ReceiveRing {
         ensures fault { (a : Numbers) → IfErr result (λ f.
             IsFault f a (N.made nic.old) self.old (N.made nic.new) self.new) }
         ensures keeps { (a : Numbers) → Keeps a self.old a self.new [] }
-        ensures who { N.who nic.new ≡ N.who nic.old }
+        ensures began { BeganAs N.began nic.old nic.new }
         ensures refuses { N.refuses nic.new ≡ N.refuses nic.old }
         ensures refusal { IfErr result (λ f. CanFail (N.refuses nic.new) f) }
     {
@@ -256,7 +257,7 @@ impl ReceiveRing {
         ensures named { OnOk result (self.new ≡ names self.old) }
         ensures kept { OnErr result (self.new ≡ self.old) }
         ensures failed { IfErr result (λ f. IsUnnamed f (N.made nic.old) (N.made nic.new) self.old) }
-        ensures who { N.who nic.new ≡ N.who nic.old }
+        ensures began { BeganAs N.began nic.old nic.new }
         ensures refuses { N.refuses nic.new ≡ N.refuses nic.old }
         ensures refusal { IfErr result (λ f. CanFail (N.refuses nic.new) f) }
     {

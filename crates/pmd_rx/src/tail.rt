@@ -9,6 +9,7 @@ ghost use Rattle.pmd_rx.specs.Plays.{PlaysFrom};
 ghost use Rattle.pmd_rx.specs.Receive.{parts_first, posts_one, posts_all};
 ghost use Rattle.pmd_rx.specs.Shown.{HandsOne, HandsAll, IsTailWritten, IsUnwritten};
 ghost use Rattle.pmd_rx.specs.Wrong.{IsFault};
+ghost use Rattle.pmd_seam.specs.Begun.{BeganAs};
 ghost use Rattle.pmd_seam.specs.Refusals.{CanFail};
 
 use crate::ring::ReceiveRing;
@@ -25,7 +26,7 @@ impl ReceiveRing {
         ensures made { OnOk result (IsTailWritten (N.made nic.old) (N.made nic.new) self.now.layout more true) }
         ensures failed { IfErr result (λ f.
             IsUnwritten f (N.made nic.old) (N.made nic.new) self.now.layout more) }
-        ensures who { N.who nic.new ≡ N.who nic.old }
+        ensures began { BeganAs N.began nic.old nic.new }
         ensures refuses { N.refuses nic.new ≡ N.refuses nic.old }
         ensures refusal { IfErr result (λ f. CanFail (N.refuses nic.new) f) }
     {
@@ -51,7 +52,7 @@ impl ReceiveRing {
         ensures kept { OnErr result (self.new ≡ self.old) }
         ensures fault { (a : Numbers) → IfErr result (λ f.
             IsFault f a (N.made nic.old) self.old (N.made nic.new) self.new) }
-        ensures who { N.who nic.new ≡ N.who nic.old }
+        ensures began { BeganAs N.began nic.old nic.new }
         ensures refuses { N.refuses nic.new ≡ N.refuses nic.old }
         ensures refusal { IfErr result (λ f. CanFail (N.refuses nic.new) f) }
     {
@@ -109,7 +110,7 @@ impl ReceiveRing {
         ensures same { OnErr result (out.new.items ≡ out.old.items) }
         ensures fault { (a : Numbers) → IfErr result (λ f.
             IsFault f a (N.made nic.old) self.old (N.made nic.new) self.new) }
-        ensures who { N.who nic.new ≡ N.who nic.old }
+        ensures began { BeganAs N.began nic.old nic.new }
         ensures refuses { N.refuses nic.new ≡ N.refuses nic.old }
         ensures refusal { IfErr result (λ f. CanFail (N.refuses nic.new) f) }
     {

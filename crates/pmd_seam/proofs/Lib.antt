@@ -1,4 +1,5 @@
 pub mod Amid
+pub mod Begun
 pub mod Bringing
 pub mod Copying
 pub mod Drawing

@@ -1,6 +1,7 @@
 pub use Rattle.device_lock.specs as DeviceLock
 pub use Rattle.device_lock.specs.Events
 pub mod Accesses
+pub mod Begun
 pub mod Both
 pub mod Bufs
 pub mod Frames

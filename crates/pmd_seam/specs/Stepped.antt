@@ -16,10 +16,6 @@ pub record AtLock : Type 0 where
   pub queue : ℕ
   pub pass : PassValue
 
--- whose calls they are: the number of a bench, and a tag
-abbrev pub caller_of : AtLock → ℕ × ℕ
-caller_of t = (t.pass.bench, t.pass.tag)
-
 -- whether the pass is none of the shared device's: it is of another bench, or its tag is none of this one
 abbrev pub is_foreign : AtLock → Bool
 is_foreign t = not ((t.pass.bench == t.bench) && nat_lt t.pass.tag t.passes)

@@ -2,6 +2,7 @@
 
 ghost use Rattle.std.specs.Prelude.{◌≡◌, IfOk, IfErr, OnErr, IfSome};
 ghost use Rattle.pmd_seam.specs.Accesses.{IsRead, IsWritten, IsLent, IsTaken, IsPeeked, IsPoked};
+ghost use Rattle.pmd_seam.specs.Begun.{BeganAs};
 ghost use Rattle.pmd_seam.specs.Made.{AddsSome};
 ghost use Rattle.pmd_seam.specs.Refusals.{CanRefuse};
 
@@ -19,7 +20,7 @@ pub fn read<N: Nic>(
     number: u32,
 ) -> Result<Option<u32>, CallFault<()>>
     ensures made { IfOk result (λ word. IsRead (N.made nic.old) (N.made nic.new) port number word) }
-    ensures who { N.who nic.new ≡ N.who nic.old }
+    ensures began { BeganAs N.began nic.old nic.new }
     ensures refuses { N.refuses nic.new ≡ N.refuses nic.old }
     ensures refusal { IfErr result (λ refusal. CanRefuse (N.refuses nic.new) refusal) }
     ensures refused { OnErr result (AddsSome (N.made nic.old) (N.made nic.new)) }
@@ -43,7 +44,7 @@ pub fn write<N: Nic>(
     word: u32,
 ) -> Result<bool, CallFault<()>>
     ensures made { IfOk result (λ known. IsWritten (N.made nic.old) (N.made nic.new) port number word known) }
-    ensures who { N.who nic.new ≡ N.who nic.old }
+    ensures began { BeganAs N.began nic.old nic.new }
     ensures refuses { N.refuses nic.new ≡ N.refuses nic.old }
     ensures refusal { IfErr result (λ refusal. CanRefuse (N.refuses nic.new) refusal) }
     ensures refused { OnErr result (AddsSome (N.made nic.old) (N.made nic.new)) }
@@ -66,7 +67,7 @@ pub fn lend<N: Nic>(
 ) -> Result<Option<Buf>, (CallFault<()>, Buf)>
     ensures made { IfOk result (λ twice. IsLent (N.made nic.old) (N.made nic.new) buf twice) }
     ensures number { IfOk result (λ twice. IfSome twice (λ back. back.number ≡ buf.number)) }
-    ensures who { N.who nic.new ≡ N.who nic.old }
+    ensures began { BeganAs N.began nic.old nic.new }
     ensures refuses { N.refuses nic.new ≡ N.refuses nic.old }
     ensures refusal { IfErr result (λ refused. CanRefuse (N.refuses nic.new) refused.0) }
     ensures back { IfErr result (λ refused. refused.1 ≡ buf) }
@@ -86,7 +87,7 @@ pub fn lend<N: Nic>(
 pub fn take<N: Nic>(alloc: Global, nic: &mut N, block: u32) -> Result<Option<Buf>, CallFault<()>>
     ensures made { IfOk result (λ taken. IsTaken (N.made nic.old) (N.made nic.new) block taken) }
     ensures number { IfOk result (λ taken. IfSome taken (λ buf. buf.number ≡ block)) }
-    ensures who { N.who nic.new ≡ N.who nic.old }
+    ensures began { BeganAs N.began nic.old nic.new }
     ensures refuses { N.refuses nic.new ≡ N.refuses nic.old }
     ensures refusal { IfErr result (λ refusal. CanRefuse (N.refuses nic.new) refusal) }
     ensures refused { OnErr result (AddsSome (N.made nic.old) (N.made nic.new)) }
@@ -108,7 +109,7 @@ pub fn peek<N: Nic>(
     address: u32,
 ) -> Result<Option<[u8; 16]>, CallFault<()>>
     ensures made { IfOk result (λ bytes. IsPeeked (N.made nic.old) (N.made nic.new) address bytes) }
-    ensures who { N.who nic.new ≡ N.who nic.old }
+    ensures began { BeganAs N.began nic.old nic.new }
     ensures refuses { N.refuses nic.new ≡ N.refuses nic.old }
     ensures refusal { IfErr result (λ refusal. CanRefuse (N.refuses nic.new) refusal) }
     ensures refused { OnErr result (AddsSome (N.made nic.old) (N.made nic.new)) }
@@ -131,7 +132,7 @@ pub fn poke<N: Nic>(
     bytes: [u8; 16],
 ) -> Result<bool, CallFault<()>>
     ensures made { IfOk result (λ known. IsPoked (N.made nic.old) (N.made nic.new) address bytes known) }
-    ensures who { N.who nic.new ≡ N.who nic.old }
+    ensures began { BeganAs N.began nic.old nic.new }
     ensures refuses { N.refuses nic.new ≡ N.refuses nic.old }
     ensures refusal { IfErr result (λ refusal. CanRefuse (N.refuses nic.new) refusal) }
     ensures refused { OnErr result (AddsSome (N.made nic.old) (N.made nic.new)) }

@@ -1,8 +1,9 @@
-ghost use Rattle.std.specs.Prelude.{◌≡◌, [], true, false, IfOk, IfErr, OnOk, OnErr};
+ghost use Rattle.std.specs.Prelude.{◌≡◌, ◌<◌, [], true, false, IfOk, IfErr, OnOk, OnErr};
 ghost use Rattle.nic_device.specs.Answering.{may_answer};
 ghost use Rattle.nic_device.specs.Step.{step_of};
 ghost use Rattle.device_lock.specs.Events.{is_step};
 ghost use Rattle.device_lock.specs.Stepping.{steps_of_queue};
+ghost use Rattle.pmd_seam.specs.Begun.{BeganAs, From, began_in_hand};
 ghost use Rattle.pmd_seam.specs.Made.{Adds, StopsAmid, after_event, after_events};
 ghost use Rattle.pmd_seam.specs.Refusals.{memory_alone};
 
@@ -36,7 +37,8 @@ impl Model for Direct {
 impl Direct {
     /// A device, which steps on the queue of this number before each call. Nothing was made yet.
     pub fn new(alloc: Global, device: Device, queue: u16) -> Direct
-        ensures { result ≡ record { device = device; queue = queue; calls = [] } }
+        ensures opened { result ≡ record { device = device; queue = queue; calls = [] } }
+        ensures began { began_in_hand result (From device) }
     {
         Direct {
             device,
@@ -78,6 +80,13 @@ impl Direct {
 }
 
 impl Direct {
+    /// The number of the queue is in the range of its type, so that a driver can make its steps. It does nothing.
+    fn steps_are_of_a_driver(&self)
+        ensures { self.now.queue < 65536 }
+    {
+        let _queue = self.queue;
+    }
+
     /// The device steps that are made before each call.
     fn step_on(&mut self, alloc: Global) -> Result<(), OutOfMemory<()>>
         ensures made { OnOk result (self.new ≡ after_events self.old (steps_of_queue self.old.queue)) }
@@ -156,7 +165,10 @@ impl Direct {
         ensures fits { IfOk result (λ reply. may_answer event reply ≡ true) }
         ensures memory { IfErr result (λ fault. fault ≡ CallFault.OutOfMemory event) }
         ensures amid { OnErr result (StopsAmid self.old self.new) }
+        ensures began { BeganAs began_in_hand self.old self.new }
     {
+        event.is_of_a_driver();
+        self.steps_are_of_a_driver();
         match self.step_on(alloc) {
             Ok(()) => self.make_last(alloc, event),
             Err(_) => Err(CallFault::OutOfMemory(event)),
@@ -167,7 +179,7 @@ impl Direct {
 impl Nic for Direct {
     ghost made = { λ d. d.calls };
 
-    ghost who = { λ d. (0, 0) };
+    ghost began = { began_in_hand };
 
     ghost refuses = { λ d. memory_alone };
 

@@ -4,6 +4,7 @@ ghost use Rattle.std.specs.Prelude.{◌≡◌, ◌<◌, [], ◌∷◌, ◌++◌,
 ghost use Rattle.nic_device.specs.Answering.{may_answer};
 ghost use Rattle.nic_device.specs.Step.{step_of};
 ghost use Rattle.device_lock.specs.Pass.{call_of};
+ghost use Rattle.pmd_seam.specs.Begun.{BeganAs, began_handled};
 ghost use Rattle.pmd_seam.specs.Scheduled.{after_own, after_foreign, after_list, made_of, IsMadeTo};
 
 use device_lock::{CallFault, Calls};
@@ -57,7 +58,9 @@ impl Handled {
         ensures fits { IfOk result (λ reply. may_answer event reply ≡ true) }
         ensures back { IfErr result (λ fault. fault ≡ CallFault.OutOfMemory event) }
         ensures unchanged { OnErr result (self.new ≡ self.old) }
+        ensures began { BeganAs began_handled self.old self.new }
     {
+        event.is_of_a_driver();
         if self.own.reserve(1).is_err() {
             return Err(CallFault::OutOfMemory(event));
         }
@@ -76,7 +79,9 @@ impl Handled {
         ensures none { OnOk result (made_of self.new ≡ made_of self.old) }
         ensures back { IfErr result (λ refused. refused.event ≡ event) }
         ensures unchanged { OnErr result (self.new ≡ self.old) }
+        ensures began { BeganAs began_handled self.old self.new }
     {
+        event.is_of_a_driver();
         if self.foreign.reserve(1).is_err() || self.own.reserve(1).is_err() {
             return Err(OutOfMemory { event });
         }
@@ -97,6 +102,7 @@ impl Handled {
         ensures empty { OnOk result (list.new.items ≡ []) }
         ensures left { OnErr result (0 < length list.new.items) }
         ensures stopped { OnErr result (IsMadeTo self.old list.old.items self.new list.new.items) }
+        ensures began { BeganAs began_handled self.old self.new }
     {
         while let Some(event) = list.pop_front() {
             if let Err(OutOfMemory { event }) = self.make_foreign(alloc, event) {

@@ -3,6 +3,7 @@
 ghost use Rattle.std.specs.Prelude.{◌≡◌, ◌<◌, ◌+◌, ◌++◌, ◌∷◌, [], length, IsTrue, ◌↔◌, true, false, OnOk, OnErr, IfErr};
 ghost use Rattle.nic_device.specs.DmaArena.Numbers.{is_own, is_free, with_free};
 ghost use Rattle.nic_device.specs.DmaArena.Whereabouts.{times_in_hand};
+ghost use Rattle.pmd_seam.specs.Begun.{BeganAs};
 ghost use Rattle.pmd_seam.specs.Home.{AreOut, BringsOne, BringsAll, StopsBringing};
 ghost use Rattle.pmd_seam.specs.Made.{AddsSome};
 ghost use Rattle.pmd_seam.specs.Refusals.{CanRefuse};
@@ -94,7 +95,7 @@ impl Reclaim {
             (record { made = N.made nic.old; arena = arena.old; way = self.old })
             (record { made = N.made nic.new; arena = arena.new; way = self.new })) }
         ensures out { AreOut arena.new self.new.lent }
-        ensures who { N.who nic.new ≡ N.who nic.old }
+        ensures began { BeganAs N.began nic.old nic.new }
         ensures refuses { N.refuses nic.new ≡ N.refuses nic.old }
         ensures refusal { IfErr result (λ refusal. CanRefuse (N.refuses nic.new) refusal) }
     {
@@ -126,7 +127,7 @@ impl Reclaim {
         ensures out { AreOut arena.new self.new.lent }
         ensures same { OnErr result ((self.new ≡ self.old) × (arena.new ≡ arena.old)) }
         ensures refused { OnErr result (AddsSome (N.made nic.old) (N.made nic.new)) }
-        ensures who { N.who nic.new ≡ N.who nic.old }
+        ensures began { BeganAs N.began nic.old nic.new }
         ensures refuses { N.refuses nic.new ≡ N.refuses nic.old }
         ensures refusal { IfErr result (λ refusal. CanRefuse (N.refuses nic.new) refusal) }
     {

@@ -4,6 +4,7 @@ ghost use Rattle.std.specs.Prelude.{◌≡◌, [], length, map, true, IfOk, IfEr
 ghost use Rattle.device_lock.specs.Fault.{event_of};
 ghost use Rattle.nic_device.specs.Answering.{may_answer};
 ghost use Rattle.nic_device.specs.Step.{step_of};
+ghost use Rattle.pmd_seam.specs.Begun.{BeganAs, From, began_handled, began_scheduled};
 ghost use Rattle.pmd_seam.specs.Made.{Adds, AddsSome};
 ghost use Rattle.pmd_seam.specs.Refusals.{CanRefuse, memory_alone};
 ghost use Rattle.pmd_seam.specs.Scheduled.{StopsInList, StopsCall, after_call, after_list, made_of, next_list, with_list_made};
@@ -51,10 +52,11 @@ pub struct Finished {
 impl Interleaved {
     /// A device, and the lists of foreign events: the first list is made before the first call. Nothing was made yet.
     pub fn new(alloc: Global, device: Device, schedule: Vec<Vec<Event>>) -> Interleaved
-        ensures { result ≡ record {
+        ensures opened { result ≡ record {
           handled = record { device = device; calls = []; own = []; foreign = [] };
           lists = map (λ list. list.items) schedule.items;
         } }
+        ensures began { began_scheduled result (From device) }
     {
         let handled = Handled {
             device,
@@ -110,6 +112,7 @@ impl Interleaved {
         ensures made { OnOk result (self.new ≡ with_list_made self.old) }
         ensures none { made_of self.new.handled ≡ made_of self.old.handled }
         ensures stopped { OnErr result (StopsInList self.old self.new) }
+        ensures began { BeganAs began_handled self.old.handled self.new.handled }
     {
         let Some(list) = self.schedule.pop_front() else {
             return Ok(());
@@ -131,7 +134,7 @@ impl Interleaved {
 impl Nic for Interleaved {
     ghost made = { λ i. made_of i.handled };
 
-    ghost who = { λ i. (0, 0) };
+    ghost began = { began_scheduled };
 
     ghost refuses = { λ i. memory_alone };
 
@@ -145,6 +148,7 @@ impl Nic for Interleaved {
         ensures fits { IfOk result (λ reply. may_answer event reply ≡ true) }
         ensures refused { IfErr result (λ fault.
             (event_of fault ≡ event) × AddsSome (made_of self.old.handled) (made_of self.new.handled)) }
+        ensures began { BeganAs began_scheduled self.old self.new }
         ensures refusal { IfErr result (λ fault. CanRefuse memory_alone fault) }
         ensures exact { OnOk result (self.new ≡ after_call self.old event) }
         ensures reply { IfOk result (λ reply.

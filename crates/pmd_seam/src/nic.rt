@@ -1,7 +1,8 @@
-ghost use Rattle.std.specs.Prelude.{◌≡◌, ℕ, List, true, IfOk, IfErr};
+ghost use Rattle.std.specs.Prelude.{◌≡◌, List, true, IfOk, IfErr};
 ghost use Rattle.device_lock.specs.Fault.{event_of};
 ghost use Rattle.device_lock.specs.declared.entry.Call.{Call};
 ghost use Rattle.nic_device.specs.Answering.{may_answer};
+ghost use Rattle.pmd_seam.specs.Begun.{BeganAs, Origin};
 ghost use Rattle.pmd_seam.specs.Made.{Adds, AddsSome};
 ghost use Rattle.pmd_seam.specs.Refusals.{Refusals, CanRefuse};
 
@@ -15,8 +16,9 @@ pub trait Nic {
     /// The calls that were made through it, with the replies, the oldest first.
     ghost made: { Self → List Call };
 
-    /// Whose calls they are: the number of a bench, and a tag.
-    ghost who: { Self → ℕ × ℕ };
+    /// What is known of where the calls began: whose they are, of a pass; or in which state a device in hand was before
+    /// the first, so that all that was made is a legal history from there, which leads to the device.
+    ghost began: { Self → Origin → Type 0 };
 
     /// What it may refuse calls for, beside want of memory.
     ghost refuses: { Self → Refusals };
@@ -25,7 +27,7 @@ pub trait Nic {
     /// may be.
     fn call(&mut self, alloc: Global, event: Event) -> Result<Reply, CallFault>
         ensures made { IfOk result (λ reply. Adds (made self.old) (made self.new) event reply) }
-        ensures who { who self.new ≡ who self.old }
+        ensures began { BeganAs began self.old self.new }
         ensures refuses { refuses self.new ≡ refuses self.old }
         ensures refusal { IfErr result (λ fault. CanRefuse (refuses self.new) fault) }
         ensures fits { IfOk result (λ reply. may_answer event reply ≡ true) }

@@ -2,6 +2,7 @@
 
 ghost use Rattle.std.specs.Prelude.{◌≡◌, ◌+◌, ◌*◌, ◌/◌, ◌<◌, ◌≤◌, [], ◌∷◌, All, length, Err, IsTrue, IsFalse, OnOk, IfErr};
 ghost use Rattle.nic_device.specs.RegTable.Rows.{row_of};
+ghost use Rattle.pmd_seam.specs.Begun.{BeganAs};
 ghost use Rattle.pmd_seam.specs.Frames.{is_frame};
 ghost use Rattle.pmd_seam.specs.Setup.{AreSet, SettingFails, StopsSetting, IsAddressOf, IsInRow, mode_word, pools_word, pool_settings, fctrl_word, opening, opening_short, opening_long, setting, word_in, packed, settings_of};
 ghost use Rattle.pmd_seam.specs.Refusals.{CanFail};
@@ -94,7 +95,7 @@ fn address_of(place: Place) -> u32
 pub fn set<N: Nic>(alloc: Global, nic: &mut N, setting: Setting) -> Result<(), PmdFault>
     requires { IsInRow setting.place }
     ensures set { OnOk result (AreSet (N.made nic.old) (N.made nic.new) (setting ∷ [])) }
-    ensures who { N.who nic.new ≡ N.who nic.old }
+    ensures began { BeganAs N.began nic.old nic.new }
     ensures refuses { N.refuses nic.new ≡ N.refuses nic.old }
     ensures refusal { IfErr result (λ f. CanFail (N.refuses nic.new) f) }
     ensures failed { IfErr result (λ f. SettingFails f (N.made nic.old) (N.made nic.new) setting) }
@@ -111,7 +112,7 @@ pub fn set<N: Nic>(alloc: Global, nic: &mut N, setting: Setting) -> Result<(), P
 fn set_all<N: Nic>(alloc: Global, nic: &mut N, settings: &[Setting]) -> Result<(), PmdFault>
     requires { All (λ s. IsInRow s.place) settings.now }
     ensures set { OnOk result (AreSet (N.made nic.old) (N.made nic.new) settings.now) }
-    ensures who { N.who nic.new ≡ N.who nic.old }
+    ensures began { BeganAs N.began nic.old nic.new }
     ensures refuses { N.refuses nic.new ≡ N.refuses nic.old }
     ensures refusal { IfErr result (λ f. CanFail (N.refuses nic.new) f) }
     ensures failed { IfErr result (λ f. StopsSetting f (N.made nic.old) (N.made nic.new) settings.now) }
@@ -144,7 +145,7 @@ fn set_packed<N: Nic>(
     requires row { count ≤ (row_of row).count }
     requires bytes { 4 * count ≤ length bytes.now }
     ensures set { OnOk result (AreSet (N.made nic.old) (N.made nic.new) (packed row bytes.now count)) }
-    ensures who { N.who nic.new ≡ N.who nic.old }
+    ensures began { BeganAs N.began nic.old nic.new }
     ensures refuses { N.refuses nic.new ≡ N.refuses nic.old }
     ensures refusal { IfErr result (λ f. CanFail (N.refuses nic.new) f) }
     ensures failed { IfErr result (λ f.
@@ -218,7 +219,7 @@ fn setting_of(row: RowId, index: u16, word: u32) -> Setting
 /// Says what passes and how long a frame may be, and opens the device.
 fn open<N: Nic>(alloc: Global, nic: &mut N, frame: u16, promiscuous: bool) -> Result<(), PmdFault>
     ensures set { OnOk result (AreSet (N.made nic.old) (N.made nic.new) (opening frame promiscuous)) }
-    ensures who { N.who nic.new ≡ N.who nic.old }
+    ensures began { BeganAs N.began nic.old nic.new }
     ensures refuses { N.refuses nic.new ≡ N.refuses nic.old }
     ensures refusal { IfErr result (λ f. CanFail (N.refuses nic.new) f) }
     ensures failed { IfErr result (λ f.
@@ -233,7 +234,7 @@ fn open<N: Nic>(alloc: Global, nic: &mut N, frame: u16, promiscuous: bool) -> Re
 /// Sets the whole device up, with frames of a length that may be.
 fn set_up<N: Nic>(alloc: Global, nic: &mut N, setup: &Setup) -> Result<(), PmdFault>
     ensures set { OnOk result (AreSet (N.made nic.old) (N.made nic.new) (settings_of setup.now)) }
-    ensures who { N.who nic.new ≡ N.who nic.old }
+    ensures began { BeganAs N.began nic.old nic.new }
     ensures refuses { N.refuses nic.new ≡ N.refuses nic.old }
     ensures refusal { IfErr result (λ f. CanFail (N.refuses nic.new) f) }
     ensures failed { IfErr result (λ f. StopsSetting f (N.made nic.old) (N.made nic.new) (settings_of setup.now)) }
@@ -255,7 +256,7 @@ pub fn pf_setup<N: Nic>(alloc: Global, nic: &mut N, setup: &Setup) -> Result<(),
     ensures set { OnOk result (AreSet (N.made nic.old) (N.made nic.new) (settings_of setup.now)) }
     ensures bad { IsFalse (is_frame setup.now.frame)
         → (result ≡ Err PmdFault.BadSize) × (N.made nic.new ≡ N.made nic.old) }
-    ensures who { N.who nic.new ≡ N.who nic.old }
+    ensures began { BeganAs N.began nic.old nic.new }
     ensures refuses { N.refuses nic.new ≡ N.refuses nic.old }
     ensures refusal { IfErr result (λ f. CanFail (N.refuses nic.new) f) }
     ensures failed { IfErr result (λ f. IsTrue (is_frame setup.now.frame)

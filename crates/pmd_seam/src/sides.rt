@@ -2,6 +2,7 @@
 
 ghost use Rattle.std.specs.Prelude.{◌≡◌, ◌<◌, ◌≤◌, ◌-◌, true, false, All, map, IfOk, IfErr, OnOk};
 ghost use Rattle.nic_device.specs.RegisterFile.Queue.{enable_row};
+ghost use Rattle.pmd_seam.specs.Begun.{BeganAs};
 ghost use Rattle.pmd_seam.specs.QueueMade.{Sees, Sets, IsSeen, IsSet, AreMade, StopsBy, FailsBy, ReadFails};
 ghost use Rattle.pmd_seam.specs.Named.{IsDriven};
 ghost use Rattle.pmd_seam.specs.Sides.{quiet, ring_words, asked, enable_word, polled, set_of, PollsEnd};
@@ -37,7 +38,7 @@ impl Queue {
     pub fn is_on<N: Nic>(&self, alloc: Global, nic: &mut N, side: Dir) -> Result<bool, PmdFault>
         ensures seen { IfOk result (λ on. IsSeen self.now (N.made nic.old) (N.made nic.new) (enable_row side) on) }
         ensures failed { IfErr result (λ f. ReadFails f self.now (N.made nic.old) (N.made nic.new) (enable_row side)) }
-        ensures who { N.who nic.new ≡ N.who nic.old }
+        ensures began { BeganAs N.began nic.old nic.new }
         ensures refuses { N.refuses nic.new ≡ N.refuses nic.old }
         ensures refusal { IfErr result (λ f. CanFail (N.refuses nic.new) f) }
     {
@@ -54,7 +55,7 @@ impl Queue {
         requires { IsDriven row }
         ensures set { OnOk result (IsSet self.now (N.made nic.old) (N.made nic.new) row word) }
         ensures failed { IfErr result (λ f. FailsBy f self.now (N.made nic.old) (N.made nic.new) (Sets row word)) }
-        ensures who { N.who nic.new ≡ N.who nic.old }
+        ensures began { BeganAs N.began nic.old nic.new }
         ensures refuses { N.refuses nic.new ≡ N.refuses nic.old }
         ensures refusal { IfErr result (λ f. CanFail (N.refuses nic.new) f) }
     {
@@ -77,7 +78,7 @@ impl Queue {
         ensures set { OnOk result (IsSet self.now (N.made nic.old) (N.made nic.new) (enable_row side) word) }
         ensures failed { IfErr result (λ f.
             FailsBy f self.now (N.made nic.old) (N.made nic.new) (Sets (enable_row side) word)) }
-        ensures who { N.who nic.new ≡ N.who nic.old }
+        ensures began { BeganAs N.began nic.old nic.new }
         ensures refuses { N.refuses nic.new ≡ N.refuses nic.old }
         ensures refusal { IfErr result (λ f. CanFail (N.refuses nic.new) f) }
     {
@@ -92,7 +93,7 @@ impl Queue {
         ensures seen { OnOk result (IsSeen self.now (N.made nic.old) (N.made nic.new) (enable_row side) false) }
         ensures failed { IfErr result (λ f.
             FailsBy f self.now (N.made nic.old) (N.made nic.new) (Sees (enable_row side) false)) }
-        ensures who { N.who nic.new ≡ N.who nic.old }
+        ensures began { BeganAs N.began nic.old nic.new }
         ensures refuses { N.refuses nic.new ≡ N.refuses nic.old }
         ensures refusal { IfErr result (λ f. CanFail (N.refuses nic.new) f) }
     {
@@ -111,7 +112,7 @@ impl Queue {
     pub fn disable<N: Nic>(&self, alloc: Global, nic: &mut N, side: Dir) -> Result<(), PmdFault>
         ensures made { OnOk result (AreMade self.now (N.made nic.old) (N.made nic.new) (quiet side)) }
         ensures failed { IfErr result (λ f. StopsBy f self.now (N.made nic.old) (N.made nic.new) (quiet side)) }
-        ensures who { N.who nic.new ≡ N.who nic.old }
+        ensures began { BeganAs N.began nic.old nic.new }
         ensures refuses { N.refuses nic.new ≡ N.refuses nic.old }
         ensures refusal { IfErr result (λ f. CanFail (N.refuses nic.new) f) }
     {
@@ -137,7 +138,7 @@ impl Queue {
         ensures made { OnOk result (AreMade self.now (N.made nic.old) (N.made nic.new) (ring_words side ring size)) }
         ensures failed { IfErr result (λ f.
             StopsBy f self.now (N.made nic.old) (N.made nic.new) (ring_words side ring size)) }
-        ensures who { N.who nic.new ≡ N.who nic.old }
+        ensures began { BeganAs N.began nic.old nic.new }
         ensures refuses { N.refuses nic.new ≡ N.refuses nic.old }
         ensures refusal { IfErr result (λ f. CanFail (N.refuses nic.new) f) }
     {
@@ -150,7 +151,7 @@ impl Queue {
         ensures made { OnOk result (AreMade self.now (N.made nic.old) (N.made nic.new) (map set_of words.now)) }
         ensures failed { IfErr result (λ f.
             StopsBy f self.now (N.made nic.old) (N.made nic.new) (map set_of words.now)) }
-        ensures who { N.who nic.new ≡ N.who nic.old }
+        ensures began { BeganAs N.began nic.old nic.new }
         ensures refuses { N.refuses nic.new ≡ N.refuses nic.old }
         ensures refusal { IfErr result (λ f. CanFail (N.refuses nic.new) f) }
     {
@@ -172,7 +173,7 @@ impl Queue {
     ) -> Result<(), PmdFault>
         ensures made { OnOk result (AreMade self.now (N.made nic.old) (N.made nic.new) (asked side on)) }
         ensures failed { IfErr result (λ f. StopsBy f self.now (N.made nic.old) (N.made nic.new) (asked side on)) }
-        ensures who { N.who nic.new ≡ N.who nic.old }
+        ensures began { BeganAs N.began nic.old nic.new }
         ensures refuses { N.refuses nic.new ≡ N.refuses nic.old }
         ensures refusal { IfErr result (λ f. CanFail (N.refuses nic.new) f) }
     {
@@ -195,7 +196,7 @@ impl Queue {
         ensures made { IfOk result (λ left.
             AreMade self.now (N.made nic.old) (N.made nic.new) (polled side on (polls - left))) }
         ensures failed { IfErr result (λ f. PollsEnd f self.now (N.made nic.old) (N.made nic.new) side on polls) }
-        ensures who { N.who nic.new ≡ N.who nic.old }
+        ensures began { BeganAs N.began nic.old nic.new }
         ensures refuses { N.refuses nic.new ≡ N.refuses nic.old }
         ensures refusal { IfErr result (λ f. CanFail (N.refuses nic.new) f) }
     {

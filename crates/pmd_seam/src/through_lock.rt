@@ -2,9 +2,10 @@ ghost use Rattle.std.specs.Prelude.{◌≡◌, ◌↔◌, [], ◌∷◌, true, I
 ghost use Rattle.device_lock.specs.Fault.{event_of};
 ghost use Rattle.device_lock.specs.Pass.{call_of};
 ghost use Rattle.nic_device.specs.Answering.{may_answer};
+ghost use Rattle.pmd_seam.specs.Begun.{BeganAs, began_at_lock};
 ghost use Rattle.pmd_seam.specs.Made.{Adds, AddsSome};
 ghost use Rattle.pmd_seam.specs.Refusals.{CanRefuse};
-ghost use Rattle.pmd_seam.specs.Stepped.{StepsAndMakes, StopsStepping, caller_of, is_foreign, refusals_of};
+ghost use Rattle.pmd_seam.specs.Stepped.{StepsAndMakes, StopsStepping, is_foreign, refusals_of};
 
 use crate::nic::Nic;
 use device_lock::{CallFault, Calls, Pass, Shared};
@@ -87,13 +88,13 @@ impl<'a, R: Wait, const VFS: u8, const FIFO: u16> ThroughLock<'a, R, VFS, FIFO> 
 impl<'a, R: Wait, const VFS: u8, const FIFO: u16> Nic for ThroughLock<'a, R, VFS, FIFO> {
     ghost made = { λ t. t.pass.calls };
 
-    ghost who = { caller_of };
+    ghost began = { began_at_lock };
 
     ghost refuses = { refusals_of };
 
     fn call(&mut self, alloc: Global, event: Event) -> Result<Reply, CallFault>
         ensures made { IfOk result (λ reply. Adds self.old.pass.calls self.new.pass.calls event reply) }
-        ensures who { caller_of self.new ≡ caller_of self.old }
+        ensures began { BeganAs began_at_lock self.old self.new }
         ensures refuses { refusals_of self.new ≡ refusals_of self.old }
         ensures refusal { IfErr result (λ fault. CanRefuse (refusals_of self.new) fault) }
         ensures fits { IfOk result (λ reply. may_answer event reply ≡ true) }

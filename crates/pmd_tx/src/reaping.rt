@@ -1,6 +1,7 @@
 //! How the blocks of packets that were sent come home.
 
 ghost use Rattle.std.specs.Prelude.{[], ◌≡◌, ◌<◌, ◌+◌, ◌↔◌, ℕ, List, Some, None, IfSome, IfNone, length, true, false, Ok, IsTrue, IfOk, IfErr, OnOk, OnErr, if◌then◌else◌};
+ghost use Rattle.pmd_seam.specs.Begun.{BeganAs};
 ghost use Rattle.pmd_seam.specs.Home.{AreOut};
 ghost use Rattle.pmd_tx.specs.Plays.{PlaysWith, LooksLast, FaultsBy};
 ghost use Rattle.pmd_tx.specs.Sending.{segment_at, blocks_of, reaped};
@@ -38,7 +39,7 @@ impl TransmitRing {
         ensures late { IfErr result (λ fault. IsLate fault) }
         ensures faults { (blocks : List ℕ) → IfErr result (λ fault.
             FaultsBy fault blocks (N.made nic.old) self.old (N.made nic.new)) }
-        ensures who { N.who nic.new ≡ N.who nic.old }
+        ensures began { BeganAs N.began nic.old nic.new }
         ensures refuses { N.refuses nic.new ≡ N.refuses nic.old }
         ensures refusal { IfErr result (λ f. CanFail (N.refuses nic.new) f) }
     {
@@ -69,7 +70,7 @@ impl TransmitRing {
         ensures late { IfErr result (λ fault. IsLate fault) }
         ensures faults { (blocks : List ℕ) → IfErr result (λ fault.
             FaultsBy fault blocks (N.made nic.old) self.old (N.made nic.new)) }
-        ensures who { N.who nic.new ≡ N.who nic.old }
+        ensures began { BeganAs N.began nic.old nic.new }
         ensures refuses { N.refuses nic.new ≡ N.refuses nic.old }
         ensures refusal { IfErr result (λ f. CanFail (N.refuses nic.new) f) }
     {
@@ -109,7 +110,7 @@ impl TransmitRing {
         ensures late { IfErr result (λ fault. IsLate fault) }
         ensures faults { (blocks : List ℕ) → IfErr result (λ fault.
             FaultsBy fault blocks (N.made nic.old) self.old (N.made nic.new)) }
-        ensures who { N.who nic.new ≡ N.who nic.old }
+        ensures began { BeganAs N.began nic.old nic.new }
         ensures refuses { N.refuses nic.new ≡ N.refuses nic.old }
         ensures refusal { IfErr result (λ f. CanFail (N.refuses nic.new) f) }
     {
@@ -137,7 +138,7 @@ impl TransmitRing {
         ensures late { IfErr result (λ fault. IsLate fault) }
         ensures faults { (blocks : List ℕ) → IfErr result (λ fault.
             FaultsBy fault blocks (N.made nic.old) self.old (N.made nic.new)) }
-        ensures who { N.who nic.new ≡ N.who nic.old }
+        ensures began { BeganAs N.began nic.old nic.new }
         ensures refuses { N.refuses nic.new ≡ N.refuses nic.old }
         ensures refusal { IfErr result (λ f. CanFail (N.refuses nic.new) f) }
     {
@@ -166,7 +167,7 @@ impl TransmitRing {
         ensures late { IfErr result (λ fault. IsLate fault) }
         ensures faults { (blocks : List ℕ) → IfErr result (λ fault.
             FaultsBy fault blocks (N.made nic.old) self.old (N.made nic.new)) }
-        ensures who { N.who nic.new ≡ N.who nic.old }
+        ensures began { BeganAs N.began nic.old nic.new }
         ensures refuses { N.refuses nic.new ≡ N.refuses nic.old }
         ensures refusal { IfErr result (λ f. CanFail (N.refuses nic.new) f) }
     {

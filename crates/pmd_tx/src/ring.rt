@@ -2,6 +2,7 @@
 
 ghost use Rattle.std.specs.Prelude.{[], ◌≡◌, ◌==◌, ◌≢◌, ◌↔◌, ◌<◌, ◌≤◌, ◌+◌, ◌-◌, ◌++◌, ℕ, None, All, length, take, drop, slice_index_or, true, false, Ok, IfOk, IfErr, OnOk, OnErr, IfSome, IsNone, if◌then◌else◌, List, not, nat_lt};
 ghost use Rattle.pmd_seam.specs.Accesses.{IsLent, IsWritten};
+ghost use Rattle.pmd_seam.specs.Begun.{BeganAs};
 ghost use Rattle.pmd_seam.specs.Bufs.{numbers_of};
 ghost use Rattle.pmd_seam.specs.Made.{AddsSome};
 ghost use Rattle.pmd_tx.specs.Plays.{PlaysWith, LooksLast, FaultsBy};
@@ -297,7 +298,7 @@ impl TransmitRing {
         ensures late { IfErr result (λ refused. IsLate refused.0) }
         ensures faults { IfErr result (λ refused.
             FaultsBy refused.0 (sent_as packet).blocks (N.made nic.old) self.old (N.made nic.new)) }
-        ensures who { N.who nic.new ≡ N.who nic.old }
+        ensures began { BeganAs N.began nic.old nic.new }
         ensures refuses { N.refuses nic.new ≡ N.refuses nic.old }
         ensures refusal { IfErr result (λ refused. CanFail (N.refuses nic.new) refused.0) }
     {
@@ -319,7 +320,7 @@ impl TransmitRing {
         ensures kept { OnErr result (self.new ≡ self.old) }
         ensures failed { IfErr result (λ refused.
             IsUnlent refused.0 (N.made nic.old) (N.made nic.new) packet refused.1) }
-        ensures who { N.who nic.new ≡ N.who nic.old }
+        ensures began { BeganAs N.began nic.old nic.new }
         ensures refuses { N.refuses nic.new ≡ N.refuses nic.old }
         ensures refusal { IfErr result (λ refused. CanFail (N.refuses nic.new) refused.0) }
     {
@@ -392,7 +393,7 @@ impl TransmitRing {
         ensures late { IfErr result (λ fault. IsLate fault) }
         ensures faults { (blocks : List ℕ) → IfErr result (λ fault.
             FaultsBy fault blocks (N.made nic.old) self.old (N.made nic.new)) }
-        ensures who { N.who nic.new ≡ N.who nic.old }
+        ensures began { BeganAs N.began nic.old nic.new }
         ensures refuses { N.refuses nic.new ≡ N.refuses nic.old }
         ensures refusal { IfErr result (λ f. CanFail (N.refuses nic.new) f) }
     {
@@ -433,7 +434,7 @@ impl TransmitRing {
         ensures late { IfErr result (λ fault. IsLate fault) }
         ensures faults { (blocks : List ℕ) → IfErr result (λ fault.
             FaultsBy fault blocks (N.made nic.old) self.old (N.made nic.new)) }
-        ensures who { N.who nic.new ≡ N.who nic.old }
+        ensures began { BeganAs N.began nic.old nic.new }
         ensures refuses { N.refuses nic.new ≡ N.refuses nic.old }
         ensures refusal { IfErr result (λ f. CanFail (N.refuses nic.new) f) }
     {
@@ -495,7 +496,7 @@ impl TransmitRing {
         ensures late { IfErr result (λ fault. IsLate fault) }
         ensures faults { (blocks : List ℕ) → IfErr result (λ fault.
             FaultsBy fault blocks (N.made nic.old) self.old (N.made nic.new)) }
-        ensures who { N.who nic.new ≡ N.who nic.old }
+        ensures began { BeganAs N.began nic.old nic.new }
         ensures refuses { N.refuses nic.new ≡ N.refuses nic.old }
         ensures refusal { IfErr result (λ f. CanFail (N.refuses nic.new) f) }
     {
@@ -527,7 +528,7 @@ impl TransmitRing {
     ) -> Result<bool, CallFault<()>>
         ensures made { IfOk result (λ known.
             IsWritten (N.made nic.old) (N.made nic.new) self.now.layout.port self.now.layout.tail word known) }
-        ensures who { N.who nic.new ≡ N.who nic.old }
+        ensures began { BeganAs N.began nic.old nic.new }
         ensures refuses { N.refuses nic.new ≡ N.refuses nic.old }
         ensures refusal { IfErr result (λ refusal. CanRefuse (N.refuses nic.new) refusal) }
         ensures refused { OnErr result (AddsSome (N.made nic.old) (N.made nic.new)) }
@@ -558,7 +559,7 @@ impl TransmitRing {
         ensures late { IfErr result (λ fault. IsLate fault) }
         ensures faults { (blocks : List ℕ) → IfErr result (λ fault.
             FaultsBy fault blocks (N.made nic.old) self.old (N.made nic.new)) }
-        ensures who { N.who nic.new ≡ N.who nic.old }
+        ensures began { BeganAs N.began nic.old nic.new }
         ensures refuses { N.refuses nic.new ≡ N.refuses nic.old }
         ensures refusal { IfErr result (λ f. CanFail (N.refuses nic.new) f) }
     {
@@ -613,7 +614,7 @@ impl TransmitRing {
         ensures late { IfErr result (λ fault. IsLate fault) }
         ensures faults { (blocks : List ℕ) → IfErr result (λ fault.
             FaultsBy fault blocks (N.made nic.old) self.old (N.made nic.new)) }
-        ensures who { N.who nic.new ≡ N.who nic.old }
+        ensures began { BeganAs N.began nic.old nic.new }
         ensures refuses { N.refuses nic.new ≡ N.refuses nic.old }
         ensures refusal { IfErr result (λ f. CanFail (N.refuses nic.new) f) }
     {

@@ -5,6 +5,7 @@ ghost use Rattle.std.specs.Prelude.{◌≡◌, ◌==◌, ◌&&◌, not, ◌<◌,
 ghost use Rattle.std.specs.List.{list_any};
 ghost use Rattle.nic_device.specs.DmaArena.Block.{IsBlock};
 ghost use Rattle.nic_device.specs.DmaArena.Numbers.{is_own, is_free};
+ghost use Rattle.pmd_seam.specs.Begun.{BeganAs};
 ghost use Rattle.pmd_seam.specs.Bufs.{numbers_of};
 ghost use Rattle.pmd_seam.specs.Home.{AreOut};
 ghost use Rattle.pmd_seam.specs.Refusals.{CanFail};
@@ -109,7 +110,7 @@ impl TransmitRing {
         ensures faults { IfErr result (λ failed.
             FaultsBy failed.fault (outgoing_of packet).blocks (N.made nic.old) self.old (N.made nic.new)) }
         ensures layout { self.new.layout ≡ self.old.layout }
-        ensures who { N.who nic.new ≡ N.who nic.old }
+        ensures began { BeganAs N.began nic.old nic.new }
         ensures refuses { N.refuses nic.new ≡ N.refuses nic.old }
         ensures refusal { IfErr result (λ failed. CanFail (N.refuses nic.new) failed.fault) }
     {
@@ -148,7 +149,7 @@ impl TransmitRing {
         ensures faults { IfErr result (λ failed.
             FaultsBy failed.fault (outgoing_of packet).blocks (N.made nic.old) self.old (N.made nic.new)) }
         ensures layout { self.new.layout ≡ self.old.layout }
-        ensures who { N.who nic.new ≡ N.who nic.old }
+        ensures began { BeganAs N.began nic.old nic.new }
         ensures refuses { N.refuses nic.new ≡ N.refuses nic.old }
         ensures refusal { IfErr result (λ failed. CanFail (N.refuses nic.new) failed.fault) }
     {
@@ -203,7 +204,7 @@ impl TransmitRing {
         ensures faults { IfErr result (λ failed.
             FaultsBy failed.fault (outgoing_of packet).blocks (N.made nic.old) self.old (N.made nic.new)) }
         ensures layout { self.new.layout ≡ self.old.layout }
-        ensures who { N.who nic.new ≡ N.who nic.old }
+        ensures began { BeganAs N.began nic.old nic.new }
         ensures refuses { N.refuses nic.new ≡ N.refuses nic.old }
         ensures refusal { IfErr result (λ failed. CanFail (N.refuses nic.new) failed.fault) }
     {
@@ -239,7 +240,7 @@ impl TransmitRing {
         ensures faults { IfErr result (λ failed.
             FaultsBy failed.fault (outgoing_of packet).blocks (N.made nic.old) self.old (N.made nic.new)) }
         ensures layout { self.new.layout ≡ self.old.layout }
-        ensures who { N.who nic.new ≡ N.who nic.old }
+        ensures began { BeganAs N.began nic.old nic.new }
         ensures refuses { N.refuses nic.new ≡ N.refuses nic.old }
         ensures refusal { IfErr result (λ failed. CanFail (N.refuses nic.new) failed.fault) }
     {
@@ -267,7 +268,7 @@ impl TransmitRing {
         ensures faults { (blocks : List ℕ) → IfErr result (λ failed.
             FaultsBy failed.fault blocks (N.made nic.old) self.old (N.made nic.new)) }
         ensures layout { self.new.layout ≡ self.old.layout }
-        ensures who { N.who nic.new ≡ N.who nic.old }
+        ensures began { BeganAs N.began nic.old nic.new }
         ensures refuses { N.refuses nic.new ≡ N.refuses nic.old }
         ensures refusal { IfErr result (λ failed. CanFail (N.refuses nic.new) failed.fault) }
     {
@@ -291,7 +292,7 @@ impl TransmitRing {
         ensures faults { (blocks : List ℕ) → IfErr result (λ failed.
             FaultsBy failed.fault blocks (N.made nic.old) self.old (N.made nic.new)) }
         ensures layout { self.new.layout ≡ self.old.layout }
-        ensures who { N.who nic.new ≡ N.who nic.old }
+        ensures began { BeganAs N.began nic.old nic.new }
         ensures refuses { N.refuses nic.new ≡ N.refuses nic.old }
         ensures refusal { IfErr result (λ failed. CanFail (N.refuses nic.new) failed.fault) }
     {
@@ -323,7 +324,7 @@ impl TransmitRing {
         ensures late { IfErr result (λ refused. IsLate refused.0) }
         ensures faults { IfErr result (λ refused.
             FaultsBy refused.0 (outgoing_of packet).blocks (N.made nic.old) self.old (N.made nic.new)) }
-        ensures who { N.who nic.new ≡ N.who nic.old }
+        ensures began { BeganAs N.began nic.old nic.new }
         ensures refuses { N.refuses nic.new ≡ N.refuses nic.old }
         ensures refusal { IfErr result (λ refused. CanFail (N.refuses nic.new) refused.0) }
     {
@@ -355,7 +356,7 @@ impl TransmitRing {
         ensures late { IfErr result (λ fault. IsLate fault) }
         ensures faults { (blocks : List ℕ) → IfErr result (λ fault.
             FaultsBy fault blocks (N.made nic.old) self.old (N.made nic.new)) }
-        ensures who { N.who nic.new ≡ N.who nic.old }
+        ensures began { BeganAs N.began nic.old nic.new }
         ensures refuses { N.refuses nic.new ≡ N.refuses nic.old }
         ensures refusal { IfErr result (λ f. CanFail (N.refuses nic.new) f) }
     {
@@ -379,7 +380,7 @@ impl TransmitRing {
         ensures late { IfErr result (λ fault. IsLate fault) }
         ensures faults { (blocks : List ℕ) → IfErr result (λ fault.
             FaultsBy fault blocks (N.made nic.old) self.old (N.made nic.new)) }
-        ensures who { N.who nic.new ≡ N.who nic.old }
+        ensures began { BeganAs N.began nic.old nic.new }
         ensures refuses { N.refuses nic.new ≡ N.refuses nic.old }
         ensures refusal { IfErr result (λ f. CanFail (N.refuses nic.new) f) }
     {
@@ -404,7 +405,7 @@ impl TransmitRing {
         ensures late { IfErr result (λ fault. IsLate fault) }
         ensures faults { (blocks : List ℕ) → IfErr result (λ fault.
             FaultsBy fault blocks (N.made nic.old) self.old (N.made nic.new)) }
-        ensures who { N.who nic.new ≡ N.who nic.old }
+        ensures began { BeganAs N.began nic.old nic.new }
         ensures refuses { N.refuses nic.new ≡ N.refuses nic.old }
         ensures refusal { IfErr result (λ f. CanFail (N.refuses nic.new) f) }
     {
@@ -426,7 +427,7 @@ impl TransmitRing {
         ensures late { IfErr result (λ fault. IsLate fault) }
         ensures faults { (blocks : List ℕ) → IfErr result (λ fault.
             FaultsBy fault blocks (N.made nic.old) self.old (N.made nic.new)) }
-        ensures who { N.who nic.new ≡ N.who nic.old }
+        ensures began { BeganAs N.began nic.old nic.new }
         ensures refuses { N.refuses nic.new ≡ N.refuses nic.old }
         ensures refusal { IfErr result (λ f. CanFail (N.refuses nic.new) f) }
     {
@@ -449,7 +450,7 @@ impl TransmitRing {
         ensures late { IfErr result (λ fault. IsLate fault) }
         ensures faults { (blocks : List ℕ) → IfErr result (λ fault.
             FaultsBy fault blocks (N.made nic.old) self.old (N.made nic.new)) }
-        ensures who { N.who nic.new ≡ N.who nic.old }
+        ensures began { BeganAs N.began nic.old nic.new }
         ensures refuses { N.refuses nic.new ≡ N.refuses nic.old }
         ensures refusal { IfErr result (λ f. CanFail (N.refuses nic.new) f) }
     {

@@ -13,6 +13,7 @@ use Rattle.device_lock.specs.declared.alone.Watched.{Watched}
 use Rattle.device_lock.specs.declared.entry.Entry.{Entry}
 use Rattle.pmd_rx.specs.Plays.{played_by}
 use Rattle.pmd_rx.specs.Receive.{Receive, records_of}
+use Rattle.device_lock.proofs.Histories.{events_before, events_behind, leads-append, legal_behind}
 use Rattle.history_laws.proofs.Alone.{alone_by_entries}
 use Rattle.history_laws.proofs.Sound.{histories_sound}
 use Rattle.history_laws.proofs.Modes.{mode_told}
@@ -24,22 +25,6 @@ use Rattle.receive_laws.proofs.Histories.{Led, plays}
 use Rattle.receive_laws.proofs.Prefix.{all_taken, drained, handed_first}
 
 -- histories in two parts
-
-pub leads-append : (s : State) (g h : List Entry) → leads_to s (g ++ h) ≡ leads_to (leads_to s g) h
-leads-append s [] h = refl
-leads-append s (e ∷ g) h = leads-append (after s e.event) g h
-
-pub legal_behind : (s : State) (g h : List Entry) → IsLegal s (g ++ h) → IsLegal (leads_to s g) h
-legal_behind s [] h legal = legal
-legal_behind s (e ∷ g) h legal = legal_behind (after s e.event) g h legal.1
-
-pub events_before : (g h : List Entry) → AreEvents (g ++ h) → AreEvents g
-events_before [] h events = tt
-events_before (e ∷ g) h events = (events.0, events_before g h events.1)
-
-pub events_behind : (g h : List Entry) → AreEvents (g ++ h) → AreEvents h
-events_behind [] h events = events
-events_behind (e ∷ g) h events = events_behind g h events.1
 
 pub since-append : (queue : ℕ) (s : State) (so_far : Option (List Piece)) (g h : List Entry)
     → pieces_since queue s so_far (g ++ h) ≡ pieces_since queue (leads_to s g) (pieces_since queue s so_far g) h

@@ -14,17 +14,14 @@ use Rattle.receive_laws.proofs.HistoryLaws.Alone.{alone_by_entries}
 use Rattle.receive_laws.proofs.HistoryLaws.Modes.{mode_told}
 use Rattle.receive_laws.proofs.HistoryLaws.Sound.{histories_sound}
 use Rattle.pmd.specs.PmdSeam.Made.{AreSteps}
-use Rattle.receive_laws.proofs.Delivering.{legal_behind, events_before, events_behind, image_stays, vfs_stays}
+use Rattle.device_lock.proofs.Histories.{events_before, events_behind, legal_before, legal_behind}
+use Rattle.receive_laws.proofs.Delivering.{image_stays, vfs_stays}
 use Rattle.start_laws.specs.Along.{IsAlong, AtEntries, CallsLead}
 use Rattle.start_laws.proofs.Reached.{KeptOver, LeadsOver, reached, state_kept, state_leads}
 use Rattle.start_laws.proofs.Parts.{begun, parts}
 use Rattle.start_laws.proofs.Walk.{Between, stay, walk}
 
 -- at a point of the whole history
-
-pub legal_before : (s : State) (g l : List Entry) → IsLegal s (g ++ l) → IsLegal s g
-legal_before s [] l are = tt
-legal_before s (e ∷ g) l are = (are.0, legal_before (after s e.event) g l are.1)
 
 module _ (w : Watched) (fifo : ℕ) (h : List Entry) (x : IsAlong w fifo h) where
   abbrev new : State

@@ -15,7 +15,7 @@ use Rattle.device_lock.specs.declared.entry.Entry.{Entry}
 use Rattle.receive_laws.specs.HistoryLaws.Alone.{AllAlone}
 use Rattle.receive_laws.proofs.HistoryLaws.Sound.{histories_sound}
 use Rattle.pmd.specs.PmdSeam.Named.{AtPort}
-use Rattle.receive_laws.proofs.Delivering.{leads-append, events_before, events_behind, legal_behind}
+use Rattle.device_lock.proofs.Histories.{events_before, events_behind, leads-append, legal_behind}
 use Rattle.receive_laws.proofs.Histories.{calls_own, calls_other}
 use Rattle.transmit_laws.specs.Off as transmit
 use Rattle.transmit_laws.specs.Sent.{sent_in}

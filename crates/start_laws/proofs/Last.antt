@@ -10,7 +10,7 @@ use Rattle.device_lock.specs.declared.entry.Call.{Call}
 use Rattle.device_lock.specs.declared.entry.Entry.{Entry}
 use Rattle.pmd.specs.PmdSeam.Events.{is_step}
 use Rattle.pmd.specs.PmdSeam.Made.{AreSteps}
-use Rattle.receive_laws.proofs.Delivering.{legal_behind}
+use Rattle.device_lock.proofs.Histories.{legal_behind}
 use Rattle.start_laws.specs.Along.{AtCalls, BeforeLast, IsAlong, IsKept}
 use Rattle.start_laws.proofs.Along.{calls_lead}
 use Rattle.start_laws.proofs.Parts.{around}

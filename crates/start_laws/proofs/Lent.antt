@@ -15,7 +15,7 @@ use Rattle.receive_laws.proofs.HistoryLaws.Beginning.{lent_before}
 use Rattle.pmd.specs.PmdSeam.Named.{AtPort}
 use Rattle.pmd.specs.PmdSeam.QueueMade.{Access, AreMade}
 use Rattle.receive_laws.proofs.Histories.{calls_own, calls_other}
-use Rattle.receive_laws.proofs.Delivering.{events_before}
+use Rattle.device_lock.proofs.Histories.{events_before}
 use Rattle.start_laws.specs.Along.{AtEntries, IsAlong}
 use Rattle.start_laws.proofs.Lends.{lending}
 use Rattle.start_laws.proofs.Made.{extends}

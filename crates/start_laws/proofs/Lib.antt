@@ -1,3 +1,4 @@
+pub use Rattle.device_lock.proofs.Histories
 pub use Rattle.receive_laws.proofs.HistoryLaws
 pub use Rattle.receive_laws.proofs as ReceiveLaws
 pub use Rattle.transmit_laws.proofs as TransmitLaws

@@ -21,7 +21,7 @@ use Rattle.pmd.specs.PmdTx.Sending.{Sender}
 use Rattle.pmd.specs.Started.{is_size}
 use Rattle.receive_laws.specs.Fitting.{begun_on}
 use Rattle.receive_laws.specs.Joint.{Agree}
-use Rattle.receive_laws.proofs.Delivering.{events_before}
+use Rattle.device_lock.proofs.Histories.{events_before}
 use Rattle.transmit_laws.specs.Agreeing.{Agrees}
 use Rattle.start_laws.specs.Along.{AtCalls, AtEntries, BeforeLast, IsAlong}
 use Rattle.start_laws.specs.On.{AreOn, SwitchedSidesAgree, SwitchedSidesBeginNone, SwitchedSidesGoOn}

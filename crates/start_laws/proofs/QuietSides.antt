@@ -10,7 +10,7 @@ use Rattle.device_lock.specs.declared.alone.Watched.{Watched}
 use Rattle.device_lock.specs.declared.entry.Entry.{Entry}
 use Rattle.receive_laws.proofs.HistoryLaws.Sound.{histories_sound}
 use Rattle.pmd.specs.PmdSeam.Named.{AtPort}
-use Rattle.receive_laws.proofs.Delivering.{events_before}
+use Rattle.device_lock.proofs.Histories.{events_before}
 use Rattle.start_laws.specs.Points.{Point, Sides}
 use Rattle.start_laws.specs.Quiet.{no_block}
 use Rattle.start_laws.specs.Quieting.{IsQuiet, QuietSidesStand, are_off}

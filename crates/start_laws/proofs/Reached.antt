@@ -8,7 +8,7 @@ use Rattle.device_lock.specs.History.{call_in, leads_to}
 use Rattle.device_lock.specs.declared.alone.Watched.{Watched}
 use Rattle.device_lock.specs.declared.entry.Call.{Call}
 use Rattle.device_lock.specs.declared.entry.Entry.{Entry}
-use Rattle.receive_laws.proofs.Delivering.{leads-append}
+use Rattle.device_lock.proofs.Histories.{leads-append}
 use Rattle.start_laws.specs.Along.{IsKept, Leads}
 use Rattle.start_laws.specs.Moves.{IsMet}
 use Rattle.start_laws.specs.Standing.{IsLeft}

@@ -10,7 +10,8 @@ use Rattle.workers.specs.DeviceLock.History.{leads_to}
 use Rattle.workers.specs.DeviceLock.declared.entry.Entry.{Entry}
 use Rattle.pmd_laws.specs.StartLaws.ReceiveLaws.Delivered.{delivered, gathered, packets_if_any, pieces_since}
 use Rattle.pmd_laws.specs.StartLaws.ReceiveLaws.Pieces.{Piece, pieces}
-use Rattle.pmd_laws.proofs.StartLaws.ReceiveLaws.Delivering.{leads-append, since-append}
+use Rattle.pmd_laws.proofs.StartLaws.Histories.{leads-append}
+use Rattle.pmd_laws.proofs.StartLaws.ReceiveLaws.Delivering.{since-append}
 use Rattle.pmd_laws.specs.StartLaws.TransmitLaws.Sent.{counted_by, sent_by, sent_since}
 use Rattle.pmd_laws.proofs.StartLaws.TransmitLaws.Counting.{sent_is_counted}
 

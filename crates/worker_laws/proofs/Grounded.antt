@@ -15,7 +15,8 @@ use Rattle.workers.specs.declared.beginning.Given.{Given}
 use Rattle.pmd_laws.specs.StartLaws.Numbers.{queue_at}
 use Rattle.pmd_laws.specs.StartLaws.Points.{HasGround}
 use Rattle.pmd_laws.proofs.StartLaws.HistoryLaws.Limits.{settings_told}
-use Rattle.pmd_laws.proofs.StartLaws.ReceiveLaws.Delivering.{events_before, vfs_stays}
+use Rattle.pmd_laws.proofs.StartLaws.Histories.{events_before}
+use Rattle.pmd_laws.proofs.StartLaws.ReceiveLaws.Delivering.{vfs_stays}
 use Rattle.worker_laws.proofs.Named.{same_named}
 
 -- port and queue name the watched queue there, and frames are as long as the driver was told

@@ -25,7 +25,7 @@ use Rattle.pmd.specs.declared.driver.Rings.TheVariants.{Up}
 use Rattle.pmd.specs.declared.start.Rest.{Rest}
 use Rattle.pmd_laws.specs.StartLaws.ReceiveLaws.Delivered as receive
 use Rattle.pmd_laws.specs.StartLaws.ReceiveLaws.Delivered.{delivered}
-use Rattle.pmd_laws.proofs.StartLaws.ReceiveLaws.Delivering.{leads-append}
+use Rattle.pmd_laws.proofs.StartLaws.Histories.{leads-append}
 use Rattle.pmd_laws.specs.StartLaws.TransmitLaws.Agreeing.{bytes_of}
 use Rattle.pmd_laws.specs.StartLaws.TransmitLaws.Laws as transmit
 use Rattle.pmd_laws.specs.StartLaws.TransmitLaws.Sent.{sent_since}

@@ -12,7 +12,8 @@ use Rattle.workers.specs.DeviceLock.declared.entry.Entry.{Entry}
 use Rattle.pmd_laws.specs.StartLaws.HistoryLaws.Sides.{IsOff, side_of}
 use Rattle.pmd_laws.proofs.StartLaws.HistoryLaws.Limits.{settings_told}
 use Rattle.pmd_laws.proofs.StartLaws.HistoryLaws.Sound.{histories_sound}
-use Rattle.pmd_laws.proofs.StartLaws.ReceiveLaws.Delivering.{events_before, image_stays, leads-append, vfs_stays}
+use Rattle.pmd_laws.proofs.StartLaws.Histories.{events_before, leads-append}
+use Rattle.pmd_laws.proofs.StartLaws.ReceiveLaws.Delivering.{image_stays, vfs_stays}
 use Rattle.workers.specs.Quiet.{NoneAsksOn, asks_on}
 use Rattle.worker_laws.specs.Quiet.{NeverAskedIsQuiet}
 use Rattle.worker_laws.proofs.Grounded.{ground_there}

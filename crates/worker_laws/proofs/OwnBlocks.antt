@@ -15,8 +15,7 @@ use Rattle.pmd_laws.specs.Faultless.{NoneLent}
 use Rattle.pmd_laws.specs.StartLaws.Along.{BeforeLast}
 use Rattle.pmd_laws.specs.StartLaws.Faultless.{BeforeNext}
 use Rattle.pmd_laws.specs.StartLaws.ReceiveLaws.HistoryLaws.Lent.{LendsNone}
-use Rattle.pmd_laws.proofs.StartLaws.Along.{legal_before}
-use Rattle.pmd_laws.proofs.StartLaws.ReceiveLaws.Delivering.{events_before}
+use Rattle.pmd_laws.proofs.StartLaws.Histories.{events_before, legal_before}
 use Rattle.workers.specs.DeviceLock.Alone.{Blocks}
 use Rattle.workers.specs.DeviceLock.History.{AreEvents, IsLegal, call_in, calls_of, leads_to}
 use Rattle.workers.specs.DeviceLock.declared.alone.Watched.{Watched}

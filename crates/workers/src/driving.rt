@@ -4,6 +4,7 @@ ghost use Rattle.std.specs.Prelude.{ℕ, ◌≡◌, ◌≤◌, List, [], length,
 ghost use Rattle.rtrb.specs.Ring.{sent, known_free, SameProducer};
 ghost use Rattle.nic_device.specs.DmaArena.Numbers.{Numbers};
 ghost use Rattle.device_lock.specs.declared.entry.Call.{Call};
+ghost use Rattle.pmd.specs.PmdSeam.Begun.{BeganAs};
 ghost use Rattle.pmd.specs.PmdSeam.Named.{AtPort};
 ghost use Rattle.pmd.specs.Blocks.{HasAll, LosesNone, IsWhole};
 ghost use Rattle.pmd.specs.Driver.{accepted_of, handed_of, halted_of};
@@ -72,7 +73,7 @@ fn work<G: Gate, N: Nic>(
     ensures drives { RunsOn (N.made nic.old) pmd.old.rings (N.made nic.new) pmd.new.rings }
     ensures queue { pmd.new.queue ≡ pmd.old.queue }
     ensures shut { IfErr result (λ fault. is_shut_out fault ≡ true → G.lets_on gate.now order.worker ≡ false) }
-    ensures who { N.who nic.new ≡ N.who nic.old }
+    ensures began { BeganAs N.began nic.old nic.new }
 {
     meet(gate, order.worker, 0)?;
     meet(gate, order.worker, 1)?;
@@ -89,7 +90,7 @@ fn take_home<N: Nic>(alloc: Global, nic: &mut N, pmd: Pmd) -> (Rest, Option<PmdF
     ensures accepted { left_accepted result.0 ≡ accepted_of pmd.rings }
     ensures home { IfNone result.1 (is_home result.0 ≡ true) }
     ensures whole { (a : Numbers) → LosesNone a (halted_of pmd.rings) → IsWhole a result.0 }
-    ensures who { N.who nic.new ≡ N.who nic.old }
+    ensures began { BeganAs N.began nic.old nic.new }
 {
     match pmd.stop(alloc, nic) {
         Ok(home) => (Rest::Home(home), None),
@@ -103,7 +104,7 @@ fn end<N: Nic>(alloc: Global, nic: &mut N, rest: Rest) -> Rest
     ensures handed { left_handed result ≡ left_handed rest }
     ensures accepted { left_accepted result ≡ left_accepted rest }
     ensures whole { (a : Numbers) → IsWhole a rest → IsWhole a result }
-    ensures who { N.who nic.new ≡ N.who nic.old }
+    ensures began { BeganAs N.began nic.old nic.new }
 {
     match rest {
         Rest::Home(home) => Rest::Home(home),
@@ -149,7 +150,7 @@ fn drive<G: Gate, N: Nic>(
     ensures fault { IfSome result.1 (λ fault. is_threadless fault ≡ false) }
     ensures shut { IfSome result.1 (λ fault. is_shut_out fault ≡ true → G.lets_on gate.now order.worker ≡ false) }
     ensures whole { (a : Numbers) → HasAll a (halted_of pmd.rings) [] → IsWhole a result.0 }
-    ensures who { N.who nic.new ≡ N.who nic.old }
+    ensures began { BeganAs N.began nic.old nic.new }
 {
     let mut pmd = pmd;
     let worked = work(alloc, nic, gate, order, &mut pmd, producer);
@@ -185,7 +186,7 @@ pub fn run_worker<G: Gate, N: Nic>(
     ensures fault { IfSome result.1 (λ fault. is_threadless fault ≡ false) }
     ensures shut { IfSome result.1 (λ fault. is_shut_out fault ≡ true → G.lets_on gate.now order.worker ≡ false) }
     ensures whole { IsWhole arena result.0 }
-    ensures who { N.who nic.new ≡ N.who nic.old }
+    ensures began { BeganAs N.began nic.old nic.new }
 {
     match Pmd::start(
         alloc,

@@ -2,6 +2,7 @@
 
 ghost use Rattle.std.specs.Prelude.{◌≡◌, ◌+◌, ◌<◌, ◌≤◌, ◌++◌, ◌∷◌, [], length, true, IfOk, IfSome, IfNone, OnErr};
 ghost use Rattle.rtrb.specs.Ring.{sent, known_free, SameProducer};
+ghost use Rattle.pmd.specs.PmdSeam.Begun.{BeganAs};
 ghost use Rattle.pmd.specs.PmdSeam.Bufs.{numbers_of};
 ghost use Rattle.pmd.specs.PmdSeam.Packet.{kept_of};
 ghost use Rattle.pmd.specs.Driver.{handed_of, goes_back_to};
@@ -29,7 +30,7 @@ fn receive<N: Nic>(alloc: Global, nic: &mut N, pmd: &mut Pmd) -> Result<Option<P
     ensures drives { RunsOn (N.made nic.old) pmd.old.rings (N.made nic.new) pmd.new.rings }
     ensures queue { pmd.new.queue ≡ pmd.old.queue }
     ensures blocks { KeepsAll pmd.old.rings [] pmd.new.rings (handed_blocks result) }
-    ensures who { N.who nic.new ≡ N.who nic.old }
+    ensures began { BeganAs N.began nic.old nic.new }
 {
     pmd.rx(alloc, nic)
 }
@@ -63,7 +64,7 @@ fn send<N: Nic>(
     ensures drives { RunsOn (N.made nic.old) pmd.old.rings (N.made nic.new) pmd.new.rings }
     ensures queue { pmd.new.queue ≡ pmd.old.queue }
     ensures blocks { KeepsAll pmd.old.rings (numbers_of packet.bufs) pmd.new.rings (numbers_in result.0) }
-    ensures who { N.who nic.new ≡ N.who nic.old }
+    ensures began { BeganAs N.began nic.old nic.new }
 {
     match pmd.tx(alloc, nic, packet) {
         Ok(TxAnswer::Taken) => (None, Ok(())),
@@ -98,7 +99,7 @@ fn forward<N: Nic>(
     ensures drives { RunsOn (N.made nic.old) pmd.old.rings (N.made nic.new) pmd.new.rings }
     ensures queue { pmd.new.queue ≡ pmd.old.queue }
     ensures blocks { KeepsAll pmd.old.rings (numbers_of packet.bufs) pmd.new.rings [] }
-    ensures who { N.who nic.new ≡ N.who nic.old }
+    ensures began { BeganAs N.began nic.old nic.new }
 {
     let (back, sent) = send(alloc, nic, pmd, packet);
     match back {
@@ -126,7 +127,7 @@ fn turn<N: Nic>(
     ensures drives { RunsOn (N.made nic.old) pmd.old.rings (N.made nic.new) pmd.new.rings }
     ensures queue { pmd.new.queue ≡ pmd.old.queue }
     ensures blocks { KeepsAll pmd.old.rings [] pmd.new.rings [] }
-    ensures who { N.who nic.new ≡ N.who nic.old }
+    ensures began { BeganAs N.began nic.old nic.new }
 {
     let number = pmd.handed().len() as u32;
     match receive(alloc, nic, pmd)? {
@@ -144,7 +145,7 @@ fn reap<N: Nic>(alloc: Global, nic: &mut N, pmd: &mut Pmd) -> Result<Reaped, Pmd
     ensures drives { RunsOn (N.made nic.old) pmd.old.rings (N.made nic.new) pmd.new.rings }
     ensures queue { pmd.new.queue ≡ pmd.old.queue }
     ensures blocks { KeepsAll pmd.old.rings [] pmd.new.rings [] }
-    ensures who { N.who nic.new ≡ N.who nic.old }
+    ensures began { BeganAs N.began nic.old nic.new }
 {
     pmd.reap(alloc, nic)
 }
@@ -167,7 +168,7 @@ fn round<N: Nic>(
     ensures drives { RunsOn (N.made nic.old) pmd.old.rings (N.made nic.new) pmd.new.rings }
     ensures queue { pmd.new.queue ≡ pmd.old.queue }
     ensures blocks { KeepsAll pmd.old.rings [] pmd.new.rings [] }
-    ensures who { N.who nic.new ≡ N.who nic.old }
+    ensures began { BeganAs N.began nic.old nic.new }
 {
     turn(alloc, nic, queue, pmd, producer)?;
     reap(alloc, nic, pmd)?;
@@ -192,7 +193,7 @@ pub(crate) fn do_rounds<N: Nic>(
     ensures drives { RunsOn (N.made nic.old) pmd.old.rings (N.made nic.new) pmd.new.rings }
     ensures queue { pmd.new.queue ≡ pmd.old.queue }
     ensures blocks { KeepsAll pmd.old.rings [] pmd.new.rings [] }
-    ensures who { N.who nic.new ≡ N.who nic.old }
+    ensures began { BeganAs N.began nic.old nic.new }
 {
     for _ in 0..rounds {
         round(alloc, nic, queue, pmd, producer)?;
@@ -206,7 +207,7 @@ pub(crate) fn reap_all<N: Nic>(alloc: Global, nic: &mut N, pmd: &mut Pmd) -> Res
     ensures drives { RunsOn (N.made nic.old) pmd.old.rings (N.made nic.new) pmd.new.rings }
     ensures queue { pmd.new.queue ≡ pmd.old.queue }
     ensures blocks { KeepsAll pmd.old.rings [] pmd.new.rings [] }
-    ensures who { N.who nic.new ≡ N.who nic.old }
+    ensures began { BeganAs N.began nic.old nic.new }
 {
     for _ in 0..REAPS {
         if reap(alloc, nic, pmd)?.idle {

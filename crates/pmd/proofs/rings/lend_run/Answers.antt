@@ -26,7 +26,7 @@ loop-k-preserved g c = record {
   room =
       omega
       (arith, c.loop-k.invariant.room, c.push_back_reserved.ensures.len, c.push_back_reserved.ensures.capacity);
-  who = c.lend_one.ensures.who ∙ c.loop-k.invariant.who;
+  began = λ o is. c.lend_one.ensures.began o (c.loop-k.invariant.began o is);
   refuses = c.lend_one.ensures.refuses ∙ c.loop-k.invariant.refuses;
 }
 

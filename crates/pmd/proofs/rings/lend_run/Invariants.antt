@@ -1,6 +1,7 @@
 use Rattle.std.proofs.Common.{◌≡◌, ◌+◌, ◌≤◌}
 use Rattle.std.specs.List.{range_with_len}
 use Rattle.std.specs.VecDeque.{deque_len, deque_capacity}
+use Rattle.pmd_rx.specs.PmdSeam.Begun.{BeganAs}
 use Rattle.pmd_rx.specs.PmdSeam.Home.{IsDrawn}
 use Rattle.pmd.specs.Starting.{LendsEach}
 use Rattle.pmd.proofs.rings.lend_run.Given as goal
@@ -11,6 +12,6 @@ invariant-loop-k g l = record {
   drawn : IsDrawn l.initial.arena (range_with_len l.first l.k) l.arena;
   items : l.lent.items ≡ range_with_len l.first l.k;
   room : deque_len l.lent + l.count ≤ deque_capacity l.lent + l.k;
-  who : g.N.Nic.who l.nic ≡ g.N.Nic.who l.initial.nic;
+  began : BeganAs g.N.Nic.began l.initial.nic l.nic;
   refuses : g.N.Nic.refuses l.nic ≡ g.N.Nic.refuses l.initial.nic;
 }

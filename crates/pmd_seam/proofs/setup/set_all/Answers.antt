@@ -13,7 +13,7 @@ returns-in_err-set-clause-failed g c =
 
 pub loop-setting-preserved : goal.loop-setting-preserved
 loop-setting-preserved g c = (
-  c.set.ensures.who ∙ c.loop-setting.invariant.0,
+  λ o is. c.set.ensures.began o (c.loop-setting.invariant.0 o is),
   set_next (g.N.Nic.made c.args.nic.now) (g.N.Nic.made c.loop-setting.nic)
       (g.N.Nic.made c.set.new.nic) c.args.settings.now
       c.loop-setting.setting-index _ c.loop-setting.invariant.1 c.in_ok-set.ensures.set c.loop-setting-test.true,

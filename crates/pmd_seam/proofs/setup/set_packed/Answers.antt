@@ -16,7 +16,7 @@ returns-in_err-set-clause-failed g c =
 
 pub loop-index-preserved : goal.loop-index-preserved
 loop-index-preserved g c = (
-  c.set.ensures.who ∙ c.loop-index.invariant.0,
+  λ o is. c.set.ensures.began o (c.loop-index.invariant.0 o is),
   packed_next (g.N.Nic.made c.args.nic.now) (g.N.Nic.made c.loop-index.nic) (g.N.Nic.made c.set.new.nic) c.args.row
       c.args.bytes.now c.loop-index.index c.word_in-word.result c.loop-index.invariant.1 c.in_ok-set.ensures.set
       (let same : ℕ → Type 0 = λ n. c.word_in-word.result ≡ word_in c.args.bytes.now n in subst same c.from.ensures

@@ -63,10 +63,10 @@ returns-in_err-set_packed-2-clause-failed g c =
     (subst (λ (x : Setting). AreSet i j (x ∷ [])) c.setting_of.ensures c.in_ok-set_all-2.ensures.set)
     c.in_ok-set_packed.ensures.set c.in_err-set_packed-2.ensures.failed)
 
-pub returns-in_err-open-clause-who : goal.returns-in_err-open-clause-who
-returns-in_err-open-clause-who g c =
-    c.open.ensures.who ∙ c.set_packed-2.ensures.who ∙ c.set_packed.ensures.who ∙ c.set_all-2.ensures.who
-    ∙ c.set_all.ensures.who
+pub returns-in_err-open-clause-began : goal.returns-in_err-open-clause-began
+returns-in_err-open-clause-began g c =
+    λ o is. c.open.ensures.began o (c.set_packed-2.ensures.began o (c.set_packed.ensures.began o
+    (c.set_all-2.ensures.began o (c.set_all.ensures.began o is))))
 
 pub returns-in_err-open-clause-refuses : goal.returns-in_err-open-clause-refuses
 returns-in_err-open-clause-refuses g c =
@@ -106,10 +106,10 @@ returns-clause-set g c =
     c.in_ok-set_packed.ensures.set c.in_ok-set_packed-2.ensures.set
     c.in_ok-open.ensures.set
 
-pub returns-clause-who : goal.returns-clause-who
-returns-clause-who g c =
-    c.open.ensures.who ∙ c.set_packed-2.ensures.who ∙ c.set_packed.ensures.who ∙ c.set_all-2.ensures.who
-    ∙ c.set_all.ensures.who
+pub returns-clause-began : goal.returns-clause-began
+returns-clause-began g c =
+    λ o is. c.open.ensures.began o (c.set_packed-2.ensures.began o (c.set_packed.ensures.began o
+    (c.set_all-2.ensures.began o (c.set_all.ensures.began o is))))
 
 pub returns-clause-refuses : goal.returns-clause-refuses
 returns-clause-refuses g c =

@@ -11,7 +11,7 @@ loop-init g c = record {
   drives = runs_still _ _;
   queue = refl;
   blocks = λ a has. has;
-  who = refl;
+  began = λ o is. is;
 }
 
 pub loop-preserved : goal.loop-preserved
@@ -25,7 +25,7 @@ loop-preserved g c =
       drives = runs_on _ _ _ _ _ _ i.drives c.round.ensures.drives;
       queue = c.round.ensures.queue ∙ i.queue;
       blocks = λ a has. c.round.ensures.blocks a (i.blocks a has);
-      who = c.round.ensures.who ∙ i.who;
+      began = λ o is. c.round.ensures.began o (i.began o is);
     }
 
 pub returns-in_err-round-clause-drives : goal.returns-in_err-round-clause-drives

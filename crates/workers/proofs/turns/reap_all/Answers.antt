@@ -3,7 +3,7 @@ use Rattle.pmd.proofs.Living.{runs_still, runs_on}
 use Rattle.workers.proofs.turns.reap_all.Goals as goal
 
 pub loop-init : goal.loop-init
-loop-init g c = record { handed = refl; drives = runs_still _ _; queue = refl; blocks = λ a has. has; who = refl }
+loop-init g c = record { handed = refl; drives = runs_still _ _; queue = refl; blocks = λ a has. has; began = λ o is. is }
 
 pub loop-preserved : goal.loop-preserved
 loop-preserved g c =
@@ -13,7 +13,7 @@ loop-preserved g c =
       drives = runs_on _ _ _ _ _ _ i.drives c.reap.ensures.drives;
       queue = c.reap.ensures.queue ∙ i.queue;
       blocks = λ a has. c.reap.ensures.blocks a (i.blocks a has);
-      who = c.reap.ensures.who ∙ i.who;
+      began = λ o is. c.reap.ensures.began o (i.began o is);
     }
 
 pub returns-in_err-reap-clause-drives : goal.returns-in_err-reap-clause-drives

@@ -1,6 +1,7 @@
 use Rattle.std.proofs.Common.{[], ◌≡◌}
 use Rattle.pmd.specs.Driver.{handed_of}
 use Rattle.pmd.specs.Life.{RunsOn}
+use Rattle.pmd.specs.PmdSeam.Begun.{BeganAs}
 use Rattle.workers.specs.Kept.{KeepsAll}
 use Rattle.workers.proofs.turns.reap_all.Given as goal
 
@@ -11,5 +12,5 @@ invariant-loop g l =
       drives : RunsOn (g.N.Nic.made l.fn.nic) l.fn.pmd.rings (g.N.Nic.made l.nic) l.pmd.rings;
       queue : l.pmd.queue ≡ l.fn.pmd.queue;
       blocks : KeepsAll l.fn.pmd.rings [] l.pmd.rings [];
-      who : g.N.Nic.who l.nic ≡ g.N.Nic.who l.fn.nic;
+      began : BeganAs g.N.Nic.began l.fn.nic l.nic;
     }

@@ -40,7 +40,7 @@ returns g c =
           (λ f faults. amid_by f (is_own q.arena) [] old new (halves_of q) tt (outstanding_may q c.self.invariant)
           faults)
           (e.faults []);
-      who = e.who;
+      began = e.began;
       refuses = e.refuses;
       refusal = e.refusal;
     })

@@ -13,7 +13,7 @@ loop-first-init g c =
       queues = queues_none c.args.packets.now.items (g.N.Nic.made c.args.nic.now) c.args.self.now;
       still = λ f refused. (refl, refl, refl, refl);
       count = omega (arith, len);
-      who = refl;
+      began = λ o is. is;
       refuses = refl;
     }
 
@@ -42,7 +42,7 @@ loop-first-preserved g c =
           e.new.packets.items c.loop-first.sent e.result.0.sent e.result.0.met c.loop-first.invariant.still
           e.ensures.shut _ on.0;
       count = omega (arith, count, on.1);
-      who = e.ensures.who ∙ c.loop-first.invariant.who;
+      began = λ o is. e.ensures.began o (c.loop-first.invariant.began o is);
       refuses = e.ensures.refuses ∙ c.loop-first.invariant.refuses;
     }
 

@@ -1,4 +1,5 @@
 use Rattle.std.proofs.Common.{◌≡◌, ◌+◌, None, length}
+use Rattle.pmd_rx.specs.PmdSeam.Begun.{BeganAs}
 use Rattle.pmd_rx.specs.PmdSeam.declared.fault.PmdFault.{PmdFault}
 use Rattle.pmd.specs.Bursts.{IsRefusedFirst}
 use Rattle.pmd.specs.Queueing.{Queues}
@@ -12,6 +13,6 @@ invariant-loop-first g l = record {
       → (l.sent ≡ 0) × (l.packets.items ≡ l.initial.packets.items)
       × (g.N.Nic.made l.nic ≡ g.N.Nic.made l.initial.nic) × (l.self ≡ l.initial.self);
   count : l._first + length l.packets.items ≡ l._first-end;
-  who : g.N.Nic.who l.nic ≡ g.N.Nic.who l.initial.nic;
+  began : BeganAs g.N.Nic.began l.initial.nic l.nic;
   refuses : g.N.Nic.refuses l.nic ≡ g.N.Nic.refuses l.initial.nic;
 }

@@ -61,7 +61,7 @@ returns g c =
       blocks = (sent_up_kept q s p c.queue.result answer c.bytes_in-whole.ensures.whole e.accepted e.kept e.home e.back
           e.layout refl c.self.invariant).1;
       amid = sent_amids q p c.self.invariant c.queue.result old new answer e.faults;
-      who = e.who;
+      began = e.began;
       refuses = e.refuses;
       refusal = e.refusal;
     })

@@ -50,7 +50,7 @@ returns g c =
         receive = refl;
       };
       blocks = reaped_kept q s count packets frees e.layout refl c.self.invariant;
-      who = e.who;
+      began = e.began;
       refuses = e.refuses;
       refusal = e.refusal;
     })

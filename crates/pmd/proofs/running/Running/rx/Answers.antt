@@ -41,7 +41,7 @@ returns g c =
       };
       home = received_goes c.receive.result q s c.self.invariant e.keeps refl;
       blocks = received_kept q s _ e.keeps refl;
-      who = e.who;
+      began = e.began;
       refuses = e.refuses;
       refusal = e.refusal;
     })

@@ -47,7 +47,7 @@ returns g c =
       };
       home = burst_goes q s before after b.packets b.out c.self.invariant b.keeps refl;
       blocks = burst_kept q s before after b.packets b.out b.keeps refl;
-      who = e.who;
+      began = e.began;
       refuses = e.refuses;
       refusal = e.refusal;
     })

@@ -68,7 +68,7 @@ returns g c =
       };
       blocks = (sent_up_kept q s p c.send.result answer c.bytes_in-whole.ensures.whole e.accepted e.kept e.home e.back
           e.layout refl c.self.invariant).1;
-      who = e.who;
+      began = e.began;
       refuses = e.refuses;
       refusal = e.refusal;
     })

@@ -13,7 +13,7 @@ use Rattle.pmd_rx.proofs.ring.ReceiveRing.fill.Goals as goal
 
 pub loop-count-init : goal.loop-count-init
 loop-count-init g c = record {
-  who = refl;
+  began = λ o is. is;
   refuses = refl;
   plays = plays_none c.args.arena.now (g.N.Nic.made c.args.nic.now) c.args.self.now;
   posts = posts_none c.args.arena.now c.args.self.now;
@@ -48,7 +48,7 @@ post-requires-clause-home g c =
 
 pub loop-count-preserved : goal.loop-count-preserved
 loop-count-preserved g c = record {
-  who = c.post.ensures.who ∙ c.loop-count.invariant.who;
+  began = λ o is. c.post.ensures.began o (c.loop-count.invariant.began o is);
   refuses = c.post.ensures.refuses ∙ c.loop-count.invariant.refuses;
   plays = posts_then c.loop-count._count c.args.arena.now c.loop-count.arena (g.N.Nic.made c.args.nic.now)
       (g.N.Nic.made c.loop-count.nic) (g.N.Nic.made c.post.new.nic) c.args.self.now c.loop-count.self c.post.new.self
@@ -121,8 +121,8 @@ returns-in_err-post-clause-keeps g c =
     keeps_both c.args.arena.now c.loop-count.arena c.post.new.arena c.args.self.now c.loop-count.self c.post.new.self []
     c.loop-count.invariant.keeps c.post.ensures.keeps
 
-pub returns-in_err-post-clause-who : goal.returns-in_err-post-clause-who
-returns-in_err-post-clause-who g c = c.post.ensures.who ∙ c.loop-count.invariant.who
+pub returns-in_err-post-clause-began : goal.returns-in_err-post-clause-began
+returns-in_err-post-clause-began g c = λ o is. c.post.ensures.began o (c.loop-count.invariant.began o is)
 
 pub returns-in_err-post-clause-refuses : goal.returns-in_err-post-clause-refuses
 returns-in_err-post-clause-refuses g c = c.post.ensures.refuses ∙ c.loop-count.invariant.refuses
@@ -152,8 +152,8 @@ returns-clause-handed g c =
 pub returns-clause-keeps : goal.returns-clause-keeps
 returns-clause-keeps g c = c.loop-count.invariant.keeps
 
-pub returns-clause-who : goal.returns-clause-who
-returns-clause-who g c = c.loop-count.invariant.who
+pub returns-clause-began : goal.returns-clause-began
+returns-clause-began g c = c.loop-count.invariant.began
 
 pub returns-clause-refuses : goal.returns-clause-refuses
 returns-clause-refuses g c = c.loop-count.invariant.refuses

@@ -1,4 +1,5 @@
 use Rattle.std.proofs.Common.{◌≡◌, []}
+use Rattle.pmd_seam.specs.Begun.{BeganAs}
 use Rattle.pmd_rx.specs.Filling.{PostsSome}
 use Rattle.pmd_rx.specs.Keeping.{Keeps}
 use Rattle.pmd_rx.specs.Plays.{PlaysFrom}
@@ -6,7 +7,7 @@ use Rattle.pmd_rx.proofs.ring.ReceiveRing.fill.Given as goal
 
 abbrev pub invariant-loop-count : goal.invariant-loop-count
 invariant-loop-count g l = record {
-  who : g.N.Nic.who l.nic ≡ g.N.Nic.who l.fn.nic;
+  began : BeganAs g.N.Nic.began l.fn.nic l.nic;
   refuses : g.N.Nic.refuses l.nic ≡ g.N.Nic.refuses l.fn.nic;
   plays : PlaysFrom l.fn.arena (g.N.Nic.made l.fn.nic) l.fn.self (g.N.Nic.made l.nic) l.self;
   posts : PostsSome l._count l.fn.arena l.fn.self l.arena l.self;

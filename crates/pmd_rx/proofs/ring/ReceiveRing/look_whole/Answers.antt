@@ -10,7 +10,7 @@ use Rattle.pmd_rx.proofs.ring.ReceiveRing.look_whole.Goals as goal
 
 pub loop-look-init : goal.loop-look-init
 loop-look-init g c = record {
-  who = refl;
+  began = λ o is. is;
   refuses = refl;
   plays = λ a. plays_none a (g.N.Nic.made c.args.nic.now) c.args.self.now;
   keeps = λ a. keeps_none a c.args.self.now;
@@ -89,7 +89,7 @@ returns-in-Err-clause-fault g c a =
 
 pub loop-look-preserved : goal.loop-look-preserved
 loop-look-preserved g c = record {
-  who = c.look.ensures.who ∙ c.loop-look.invariant.who;
+  began = λ o is. c.look.ensures.began o (c.loop-look.invariant.began o is);
   refuses = c.look.ensures.refuses ∙ c.loop-look.invariant.refuses;
   plays = λ a.
       plays_both a (g.N.Nic.made c.args.nic.now) (g.N.Nic.made c.loop-look.nic) (g.N.Nic.made c.look.new.nic)

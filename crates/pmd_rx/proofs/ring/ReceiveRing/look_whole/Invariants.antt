@@ -1,5 +1,6 @@
 use Rattle.std.proofs.Common.{◌≡◌, ◌≤◌, [], length}
 use Rattle.nic_device.specs.DmaArena.Numbers.{Numbers}
+use Rattle.pmd_seam.specs.Begun.{BeganAs}
 use Rattle.pmd_rx.specs.Keeping.{Keeps, IsRunning}
 use Rattle.pmd_rx.specs.Plays.{PlaysFrom}
 use Rattle.pmd_rx.specs.declared.ring.Stage.TheVariants.{Looks}
@@ -7,7 +8,7 @@ use Rattle.pmd_rx.proofs.ring.ReceiveRing.look_whole.Given as goal
 
 abbrev pub invariant-loop-look : goal.invariant-loop-look
 invariant-loop-look g l = record {
-  who : g.N.Nic.who l.nic ≡ g.N.Nic.who l.fn.nic;
+  began : BeganAs g.N.Nic.began l.fn.nic l.nic;
   refuses : g.N.Nic.refuses l.nic ≡ g.N.Nic.refuses l.fn.nic;
   plays : (a : Numbers) → PlaysFrom a (g.N.Nic.made l.fn.nic) l.fn.self (g.N.Nic.made l.nic) l.self;
   keeps : (a : Numbers) → Keeps a l.fn.self a l.self [];

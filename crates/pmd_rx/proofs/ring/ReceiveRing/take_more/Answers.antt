@@ -10,7 +10,7 @@ use Rattle.pmd_rx.proofs.ring.ReceiveRing.take_more.Goals as goal
 
 pub loop-packet-init : goal.loop-packet-init
 loop-packet-init g c = record {
-  who = refl;
+  began = λ o is. is;
   refuses = refl;
   plays = plays_none c.args.arena.now (g.N.Nic.made c.args.nic.now) c.args.self.now;
   keeps = keeps_none c.args.arena.now c.args.self.now;
@@ -55,7 +55,7 @@ loop-packet-preserved g c =
     let some = ap (λ (b : Bool). let r : Result Bool PmdFault = Ok b in r) c.in-Ok-true.field-0-test in
     let one = c.in-Ok-true.ensures.one some in
     record {
-      who = c.take_next.ensures.who ∙ before.who;
+      began = λ o is. c.take_next.ensures.began o (before.began o is);
       refuses = c.take_next.ensures.refuses ∙ before.refuses;
       plays = plays_then a b (g.N.Nic.made c.args.nic.now) (g.N.Nic.made c.loop-packet.nic)
           (g.N.Nic.made c.take_next.new.nic) v w x before.plays before.keeps c.take_next.ensures.plays;

@@ -17,7 +17,7 @@ returns-then-free_blocks-wanted-clause-keeps g c = keeps_none c.args.arena.now c
 pub loop-part-init : goal.loop-part-init
 loop-part-init g c =
     record {
-      who = refl;
+      began = λ o is. is;
       refuses = refl;
       plays = plays_none c.args.arena.now (g.N.Nic.made c.args.nic.now) c.args.self.now;
       keeps = keeps_none c.args.arena.now c.args.self.now;
@@ -99,7 +99,7 @@ loop-part-preserved g c =
     let still = before.waits (omega (arith, left, c.loop-part-test.true, c.rounds-part-end.ensures)) in
     let rounds_are = less.rounds_are in
     record {
-      who = c.refill_next.ensures.who ∙ before.who;
+      began = λ o is. c.refill_next.ensures.began o (before.began o is);
       refuses = c.refill_next.ensures.refuses ∙ before.refuses;
       plays = plays_then a b (g.N.Nic.made c.args.nic.now) (g.N.Nic.made c.loop-part.nic)
           (g.N.Nic.made c.refill_next.new.nic) v w x before.plays before.keeps c.refill_next.ensures.plays;

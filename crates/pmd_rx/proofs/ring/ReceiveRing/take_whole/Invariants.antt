@@ -1,4 +1,5 @@
 use Rattle.std.proofs.Common.{◌≡◌, ◌<◌, ◌+◌, []}
+use Rattle.pmd_seam.specs.Begun.{BeganAs}
 use Rattle.pmd_seam.specs.Home.{AreOut}
 use Rattle.pmd_rx.specs.Keeping.{Keeps, IsRunning, blocks_out}
 use Rattle.pmd_rx.specs.Plays.{PlaysFrom}
@@ -7,7 +8,7 @@ use Rattle.pmd_rx.proofs.ring.ReceiveRing.take_whole.Given as goal
 
 abbrev pub invariant-loop-part : goal.invariant-loop-part
 invariant-loop-part g l = record {
-  who : g.N.Nic.who l.nic ≡ g.N.Nic.who l.fn.nic;
+  began : BeganAs g.N.Nic.began l.fn.nic l.nic;
   refuses : g.N.Nic.refuses l.nic ≡ g.N.Nic.refuses l.fn.nic;
   plays : PlaysFrom l.fn.arena (g.N.Nic.made l.fn.nic) l.fn.self (g.N.Nic.made l.nic) l.self;
   keeps : Keeps l.fn.arena l.fn.self l.arena l.self [];

@@ -42,11 +42,11 @@ returns-clause-all g c =
 pub returns-clause-out : goal.returns-clause-out
 returns-clause-out g c = c.loop-count.invariant.1
 
-pub returns-clause-who : goal.returns-clause-who
-returns-clause-who g c = c.loop-count.invariant.0
+pub returns-clause-began : goal.returns-clause-began
+returns-clause-began g c = c.loop-count.invariant.0
 
-pub returns-in_err-bring_one-clause-who : goal.returns-in_err-bring_one-clause-who
-returns-in_err-bring_one-clause-who g c = c.bring_one.ensures.who ∙ c.loop-count.invariant.0
+pub returns-in_err-bring_one-clause-began : goal.returns-in_err-bring_one-clause-began
+returns-in_err-bring_one-clause-began g c = λ o is. c.bring_one.ensures.began o (c.loop-count.invariant.0 o is)
 
 pub returns-clause-refuses : goal.returns-clause-refuses
 returns-clause-refuses g c = c.loop-count.invariant.4
@@ -62,7 +62,7 @@ loop-count-preserved g c =
     record { made = g.N.Nic.made c.loop-count.nic; arena = c.loop-count.arena; way = c.loop-count.self } in
     let t : Bringing =
     record { made = g.N.Nic.made c.bring_one.new.nic; arena = c.bring_one.new.arena; way = c.bring_one.new.self } in (
-      c.bring_one.ensures.who ∙ c.loop-count.invariant.0,
+      λ o is. c.bring_one.ensures.began o (c.loop-count.invariant.0 o is),
       c.bring_one.ensures.out,
       omega (arith, c.loop-count.invariant.2, one_less m t c.in_ok-bring_one.ensures.one),
       brings_more c.loop-count._count s m t c.loop-count.invariant.3 c.in_ok-bring_one.ensures.one,

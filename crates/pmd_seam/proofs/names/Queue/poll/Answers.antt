@@ -10,7 +10,7 @@ returns-then-branch-on-clause-made g c =
 
 pub loop-misses-preserved : goal.loop-misses-preserved
 loop-misses-preserved g c = (
-  c.is_on.ensures.who ∙ c.loop-misses.invariant.0,
+  λ o is. c.is_on.ensures.began o (c.loop-misses.invariant.0 o is),
   missed_next c.args.self.now (g.N.Nic.made c.args.nic.now) (g.N.Nic.made c.loop-misses.nic)
       (g.N.Nic.made c.is_on.new.nic) c.args.side c.args.on _ c.loop-misses.misses c.loop-misses.invariant.1
       c.in_ok-is_on.ensures.seen c.if-branch-on.false,

@@ -13,7 +13,7 @@ returns-in_err-set-clause-failed g c =
 
 pub loop-word-preserved : goal.loop-word-preserved
 loop-word-preserved g c = (
-  c.set.ensures.who ∙ c.loop-word.invariant.0,
+  λ o is. c.set.ensures.began o (c.loop-word.invariant.0 o is),
   words_next c.args.self.now (g.N.Nic.made c.args.nic.now) (g.N.Nic.made c.loop-word.nic)
       (g.N.Nic.made c.set.new.nic) c.args.words.now c.loop-word.word-index _ c.loop-word-test.true
       c.loop-word.invariant.1 c.in_ok-set.ensures.set,

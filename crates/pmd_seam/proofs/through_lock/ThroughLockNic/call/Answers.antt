@@ -1,6 +1,7 @@
 use Rattle.std.proofs.Common.{sym, subst, IfErr}
 use Rattle.pmd_seam.specs.Refusals.{Refusals, CanRefuse}
 use Rattle.pmd_seam.specs.Stepped.{is_foreign}
+use Rattle.pmd_seam.proofs.Begun.{lock_begins}
 use Rattle.pmd_seam.proofs.LockStepping.{made_adds, refused_adds, call_same}
 use Rattle.pmd_seam.proofs.Refusals.{lock_refuses}
 use Rattle.pmd_seam.proofs.through_lock.ThroughLockNic.call.Goals as goal
@@ -21,3 +22,8 @@ returns-clause-refusal g c =
     c.step_and_make.ensures.exact c.step_and_make.ensures.amid))
     (lock_refuses (is_foreign c.args.self.now) c.args.event c.step_and_make.result c.step_and_make.ensures.only
     c.step_and_make.ensures.back)
+
+pub returns-clause-began : goal.returns-clause-began
+returns-clause-began g c =
+    lock_begins c.step_and_make.result c.args.event c.args.self.now c.step_and_make.new.self
+    c.step_and_make.ensures.exact c.step_and_make.ensures.amid

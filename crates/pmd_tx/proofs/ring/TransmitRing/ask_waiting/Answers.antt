@@ -13,7 +13,7 @@ loop-asked-init g c = record {
   still = λ settled. (refl, refl);
   kept = record { accepted = refl; outstanding = refl };
   layout = refl;
-  who = refl;
+  began = λ o is. is;
   refuses = refl;
 }
 
@@ -39,7 +39,7 @@ loop-asked-preserved g c = record {
   kept = none_both c.args.self.now c.loop-asked.self c.ask_next.new.self c.loop-asked.invariant.kept
       c.ask_next.ensures.kept;
   layout = c.ask_next.ensures.layout ∙ c.loop-asked.invariant.layout;
-  who = c.ask_next.ensures.who ∙ c.loop-asked.invariant.who;
+  began = λ o is. c.ask_next.ensures.began o (c.loop-asked.invariant.began o is);
   refuses = c.ask_next.ensures.refuses ∙ c.loop-asked.invariant.refuses;
 }
 

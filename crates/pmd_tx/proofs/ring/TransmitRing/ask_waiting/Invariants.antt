@@ -1,4 +1,5 @@
 use Rattle.std.proofs.Common.{◌≡◌, ◌≤◌, List, ℕ, length}
+use Rattle.pmd_seam.specs.Begun.{BeganAs}
 use Rattle.pmd_tx.specs.Plays.{PlaysWith}
 use Rattle.pmd_tx.specs.Sends.{IsNoneAccepted}
 use Rattle.pmd_tx.proofs.ring.TransmitRing.ask_waiting.Given as goal
@@ -14,6 +15,6 @@ invariant-loop-asked g l = record {
       → (g.N.Nic.made l.nic ≡ g.N.Nic.made l.initial.nic) × (l.self ≡ l.initial.self);
   kept : IsNoneAccepted l.initial.self l.self;
   layout : l.self.layout ≡ l.initial.self.layout;
-  who : g.N.Nic.who l.nic ≡ g.N.Nic.who l.initial.nic;
+  began : BeganAs g.N.Nic.began l.initial.nic l.nic;
   refuses : g.N.Nic.refuses l.nic ≡ g.N.Nic.refuses l.initial.nic;
 }

@@ -13,7 +13,7 @@ pub loop-reaped-init : goal.loop-reaped-init
 loop-reaped-init g c = record {
   reaped = reaped_none (g.N.Nic.made c.args.nic.now) c.args.self.now c.args.arena.now c.requires.settled c.requires.home;
   few = omega arith;
-  who = refl;
+  began = λ o is. is;
   refuses = refl;
 }
 
@@ -55,6 +55,6 @@ loop-reaped-preserved g c =
           (rw c.in-Ok-Some.field-0-is at c.in-Ok-Some.ensures.posted)
           (rw c.in-Ok-Some.field-0-is at c.in-Ok-Some.ensures.freed) c.reap_oldest.ensures.out);
       few = rw from (omega (arith, few, at_most_one c.in-Ok-Some.end));
-      who = c.reap_oldest.ensures.who ∙ c.loop-reaped.invariant.who;
+      began = λ o is. c.reap_oldest.ensures.began o (c.loop-reaped.invariant.began o is);
       refuses = c.reap_oldest.ensures.refuses ∙ c.loop-reaped.invariant.refuses;
     }

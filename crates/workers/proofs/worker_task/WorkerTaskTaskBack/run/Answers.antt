@@ -1,6 +1,7 @@
-use Rattle.std.proofs.Common.{rules, sym, subst}
+use Rattle.std.proofs.Common.{refl, rules, sym, subst}
 use Rattle.device_lock.specs.Pass.{PassValue}
 use Rattle.pmd.specs.Blocks.{IsWhole}
+use Rattle.pmd.specs.PmdSeam.Begun.{OfPass, began_at_lock}
 use Rattle.pmd.specs.PmdSeam.Stepped.{AtLock}
 use Rattle.workers.specs.Lived.{HasRun}
 use Rattle.workers.specs.declared.assignment.Assignment.{Assignment}
@@ -9,10 +10,13 @@ use Rattle.workers.proofs.worker_task.WorkerTaskTaskBack.run.Goals as goal
 pub returns : goal.returns
 returns g c =
     let d : Assignment = c.self.inside.assignment in
-    let left = c.run_worker-rest.result in (
+    let left = c.run_worker-rest.result in
+    let own = OfPass d.job.pass.bench d.job.pass.tag in
+    let same = c.run_worker-rest.ensures.began own
+        (subst (λ (t : AtLock). began_at_lock t own) (sym c.new-nic.ensures) (refl, refl)) in (
       record {
-        bench = search rules;
-        tag = search rules;
+        bench = search (rules, same.0);
+        tag = search (rules, same.1);
         lived = λ has.
             subst (λ (x : Assignment). HasRun (record { port = x.job.port; queue = x.job.queue }) x.job.size x.job.frame
             x.job.pass.calls x.job.arena c.finish.result.calls left.0 left.1) c.self.view_is

@@ -1,0 +1,129 @@
+-- What was made of a device in hand is a legal history from where it began.
+use Rattle.std.proofs.Common.{◌≡◌, ◌<◌, ◌^◌, ℕ, zero, suc, Bool, true, false, List, [], ◌∷◌, ◌++◌, length, map, take, refl, sym, ap, subst, ◌∙◌, arith, Result, Ok, Err, IfOk, IfErr, OnOk, OnErr}
+use Rattle.std.proofs.lemmas.List.{map-append}
+use Rattle.nic_device.specs.DmaArena.Block.{Block}
+use Rattle.nic_device.specs.Sound.{IsEvent}
+use Rattle.nic_device.specs.State.{State}
+use Rattle.nic_device.specs.Step.{step_of}
+use Rattle.nic_device.specs.declared.event.Event.{Event}
+use Rattle.nic_device.specs.declared.event.Reply.{Reply}
+use Rattle.device_lock.specs.History.{entry_of}
+use Rattle.device_lock.specs.Pass.{call_of}
+use Rattle.device_lock.specs.Stepping.{steps_of_queue}
+use Rattle.device_lock.specs.declared.entry.Call.{Call}
+use Rattle.device_lock.specs.declared.entry.Entry.{Entry}
+use Rattle.device_lock.specs.declared.fault.CallFault.{CallFault}
+use Rattle.device_lock.proofs.Histories.{events_more, leads_to-snoc, legal_more}
+use Rattle.pmd_seam.specs.Begun.{BeganAs, From, LeadsTo, OfPass, Origin, began_at_lock, began_handled, began_in_hand, entries_in, entry_by, marked_entries}
+use Rattle.pmd_seam.specs.Made.{InHand, StopsAmid, after_event, after_events}
+use Rattle.pmd_seam.specs.Scheduled.{Handled, after_foreign, after_own}
+use Rattle.pmd_seam.specs.Stepped.{AtLock, StepsAndMakes, StopsStepping, with_calls}
+
+-- one event more
+one_leads : (s : State) (h : List Entry) (device : State) (tag : ℕ) (e : Event Block) → LeadsTo s h device → IsEvent e
+    → LeadsTo s (h ++ entry_of tag e (step_of device e).reply ∷ []) (step_of device e).state
+one_leads s h device tag e led is =
+    let x : Entry = entry_of tag e (step_of device e).reply in
+    record {
+      legal = legal_more s h x led.legal (ap (λ (d : State). (step_of d e).reply) (sym led.leads));
+      events = events_more h x led.events is;
+      leads = leads_to-snoc s h x ∙ ap (λ (d : State). (step_of d e).state) led.leads;
+    }
+
+-- a device in hand that is stepped on
+
+event_begins : (h : InHand) (e : Event Block) → IsEvent e → BeganAs began_in_hand h (after_event h e)
+event_begins h e is (OfPass bench tag) began = began
+event_begins h e is (From s) began =
+    subst (λ (l : List Entry). LeadsTo s l (step_of h.device e).state)
+    (sym (map-append (entry_by 0) h.calls (call_of e (step_of h.device e).reply ∷ [])))
+    (one_leads s (entries_in h.calls) h.device 0 e began is)
+
+AllEvents : List (Event Block) → Type 0
+AllEvents [] = ⊤
+AllEvents (e ∷ es) = IsEvent e × AllEvents es
+
+events_begin : (es : List (Event Block)) (h : InHand) → AllEvents es → BeganAs began_in_hand h (after_events h es)
+events_begin [] h are o began = began
+events_begin (e ∷ es) h are o began = events_begin es (after_event h e) are.1 o (event_begins h e are.0 o began)
+
+first_events : (n : ℕ) (es : List (Event Block)) → AllEvents es → AllEvents (take n es)
+first_events zero es are = tt
+first_events (suc n) [] are = tt
+first_events (suc n) (e ∷ es) are = (are.0, first_events n es are.1)
+
+queue_events : (queue : ℕ) → queue < 2 ^ 16 → AllEvents (steps_of_queue queue)
+queue_events queue lt = (lt, (lt, (lt, (tt, tt))))
+
+pub call_begins : (r : Result (Reply Block) (CallFault (Event Block))) (e : Event Block) (old new : InHand) → IsEvent e
+    → old.queue < 2 ^ 16 → OnOk r (new ≡ after_event (after_events old (steps_of_queue old.queue)) e)
+    → OnErr r (StopsAmid old new) → BeganAs began_in_hand old new
+call_begins (Ok x) e old new is lt exact amid o began =
+    let steps = steps_of_queue old.queue in
+    subst (λ (h : InHand). began_in_hand h o) (sym exact)
+    (event_begins (after_events old steps) e is o (events_begin steps old (queue_events old.queue lt) o began))
+call_begins (Err f) e old new is lt exact (made, amid) o began =
+    let steps = steps_of_queue old.queue in
+    subst (λ (h : InHand). began_in_hand h o) (sym amid)
+    (events_begin (take made steps) old (first_events made steps (queue_events old.queue lt)) o began)
+
+-- a device among foreign events
+
+tag_of : Bool → ℕ
+tag_of true = 0
+tag_of false = 1
+
+marked_more : (calls : List Call) (own : List Bool) (c : Call) (b : Bool) → length own ≡ length calls
+    → marked_entries (calls ++ c ∷ []) (own ++ b ∷ []) ≡ marked_entries calls own ++ entry_by (tag_of b) c ∷ []
+marked_more [] [] c true long = refl
+marked_more [] [] c false long = refl
+marked_more [] (a ∷ own) c b long = absurd (omega (arith, long))
+marked_more (x ∷ calls) [] c b long = absurd (omega (arith, long))
+marked_more (x ∷ calls) (true ∷ own) c b long =
+    ap (λ (l : List Entry). entry_by 0 x ∷ l) (marked_more calls own c b (omega (arith, long)))
+marked_more (x ∷ calls) (false ∷ own) c b long =
+    ap (λ (l : List Entry). entry_by 1 x ∷ l) (marked_more calls own c b (omega (arith, long)))
+
+-- a call more, own or foreign, told by the parts
+one_begins : (h : Handled) (e : Event Block) (b : Bool) (foreign : List (Reply Block)) → length h.own ≡ length h.calls
+    → IsEvent e
+    → BeganAs began_handled h (record {
+      device = (step_of h.device e).state;
+      calls = h.calls ++ call_of e (step_of h.device e).reply ∷ [];
+      own = h.own ++ b ∷ [];
+      foreign = foreign;
+    })
+one_begins h e b foreign long is (OfPass bench tag) began = began
+one_begins h e b foreign long is (From s) began =
+    subst (λ (l : List Entry). LeadsTo s l (step_of h.device e).state)
+    (sym (marked_more h.calls h.own (call_of e (step_of h.device e).reply) b long))
+    (one_leads s (marked_entries h.calls h.own) h.device (tag_of b) e began is)
+
+pub own_begins : (was now new : Handled) (e : Event Block) → length was.own ≡ length was.calls → was ≡ now → IsEvent e
+    → new ≡ after_own now e → BeganAs began_handled now new
+own_begins was now new e long is event made o began =
+    subst (λ (h : Handled). began_handled h o) (sym (made ∙ ap (λ (h : Handled). after_own h e) (sym is)))
+    (one_begins was e true was.foreign long event o (subst (λ (h : Handled). began_handled h o) (sym is) began))
+
+pub foreign_begins : (was now new : Handled) (e : Event Block) → length was.own ≡ length was.calls → was ≡ now
+    → IsEvent e → new ≡ after_foreign now e → BeganAs began_handled now new
+foreign_begins was now new e long is event made o began =
+    subst (λ (h : Handled). began_handled h o) (sym (made ∙ ap (λ (h : Handled). after_foreign h e) (sym is)))
+    (one_begins was e false _ long event o (subst (λ (h : Handled). began_handled h o) (sym is) began))
+
+-- a call that changes nothing
+pub still_begins : (old new : Handled) → new ≡ old → BeganAs began_handled old new
+still_begins old new same o began = subst (λ (h : Handled). began_handled h o) (sym same) began
+
+-- a pass keeps its bench and its tag
+
+kept_at_lock : (t : AtLock) (calls : List Call) → BeganAs began_at_lock t (with_calls t calls)
+kept_at_lock t calls (OfPass bench tag) began = began
+kept_at_lock t calls (From s) began = began
+
+pub lock_begins : (r : Result (Reply Block) (CallFault (Event Block))) (e : Event Block) (old new : AtLock)
+    → IfOk r (λ x. StepsAndMakes old new e x) → OnErr r (StopsStepping old new) → BeganAs began_at_lock old new
+lock_begins (Ok x) e old new (steps, are, is) amid o began =
+    subst (λ (t : AtLock). began_at_lock t o) (sym is) (kept_at_lock old _ o began)
+lock_begins (Err f) e old new makes (count, made) o began =
+    subst (λ (t : AtLock). began_at_lock t o) (sym made.2) (kept_at_lock old _ o began)

@@ -1,5 +1,6 @@
 -- What was made of a device in hand is a legal history from where it began.
-use Rattle.std.proofs.Common.{◌≡◌, ◌<◌, ◌^◌, ℕ, zero, suc, Bool, true, false, List, [], ◌∷◌, ◌++◌, length, map, take, refl, sym, ap, subst, ◌∙◌, arith, Result, Ok, Err, IfOk, IfErr, OnOk, OnErr}
+use Rattle.std.proofs.Common.{◌≡◌, ◌<◌, ℕ, zero, suc, Bool, true, false, List, [], ◌∷◌, ◌++◌, length, take, refl, sym, ap, subst, ◌∙◌, arith, Result, Ok, Err, IfOk, OnOk, OnErr}
+use Rattle.std.specs.Prelude.{⊤}
 use Rattle.std.proofs.lemmas.List.{map-append}
 use Rattle.nic_device.specs.DmaArena.Block.{Block}
 use Rattle.nic_device.specs.Sound.{IsEvent}
@@ -14,9 +15,9 @@ use Rattle.device_lock.specs.declared.entry.Call.{Call}
 use Rattle.device_lock.specs.declared.entry.Entry.{Entry}
 use Rattle.device_lock.specs.declared.fault.CallFault.{CallFault}
 use Rattle.device_lock.proofs.Histories.{events_more, leads_to-snoc, legal_more}
-use Rattle.pmd_seam.specs.Begun.{BeganAs, From, LeadsTo, OfPass, Origin, began_at_lock, began_handled, began_in_hand, entries_in, entry_by, marked_entries}
+use Rattle.pmd_seam.specs.Begun.{BeganAs, From, LeadsTo, OfPass, began_at_lock, began_handled, began_in_hand, entries_in, entry_by, marked_entries}
 use Rattle.pmd_seam.specs.Made.{InHand, StopsAmid, after_event, after_events}
-use Rattle.pmd_seam.specs.Scheduled.{Handled, after_foreign, after_own}
+use Rattle.pmd_seam.specs.Scheduled.{Handled}
 use Rattle.pmd_seam.specs.Stepped.{AtLock, StepsAndMakes, StopsStepping, with_calls}
 
 -- one event more
@@ -39,7 +40,7 @@ event_begins h e is (From s) began =
     (sym (map-append (entry_by 0) h.calls (call_of e (step_of h.device e).reply ∷ [])))
     (one_leads s (entries_in h.calls) h.device 0 e began is)
 
-AllEvents : List (Event Block) → Type 0
+abbrev AllEvents : List (Event Block) → Type 0
 AllEvents [] = ⊤
 AllEvents (e ∷ es) = IsEvent e × AllEvents es
 
@@ -52,24 +53,30 @@ first_events zero es are = tt
 first_events (suc n) [] are = tt
 first_events (suc n) (e ∷ es) are = (are.0, first_events n es are.1)
 
-queue_events : (queue : ℕ) → queue < 2 ^ 16 → AllEvents (steps_of_queue queue)
+queue_events : (queue : ℕ) → queue < 65536 → AllEvents (steps_of_queue queue)
 queue_events queue lt = (lt, (lt, (lt, (tt, tt))))
 
-pub call_begins : (r : Result (Reply Block) (CallFault (Event Block))) (e : Event Block) (old new : InHand) → IsEvent e
-    → old.queue < 2 ^ 16 → OnOk r (new ≡ after_event (after_events old (steps_of_queue old.queue)) e)
-    → OnErr r (StopsAmid old new) → BeganAs began_in_hand old new
-call_begins (Ok x) e old new is lt exact amid o began =
+-- its steps, as far as they were made, and then the event, where it is
+pub amid_begins : (old new : InHand) → old.queue < 65536 → StopsAmid old new → BeganAs began_in_hand old new
+amid_begins old new lt (made, is) o began =
     let steps = steps_of_queue old.queue in
-    subst (λ (h : InHand). began_in_hand h o) (sym exact)
-    (event_begins (after_events old steps) e is o (events_begin steps old (queue_events old.queue lt) o began))
-call_begins (Err f) e old new is lt exact (made, amid) o began =
-    let steps = steps_of_queue old.queue in
-    subst (λ (h : InHand). began_in_hand h o) (sym amid)
+    subst (λ (h : InHand). began_in_hand h o) (sym is)
     (events_begin (take made steps) old (first_events made steps (queue_events old.queue lt)) o began)
+
+pub call_begins : (r : Result (Reply Block) (CallFault (Event Block))) (e : Event Block) (old mid new : InHand)
+    → IsEvent e → old.queue < 65536 → mid ≡ after_events old (steps_of_queue old.queue)
+    → OnOk r (new ≡ after_event mid e) → OnErr r (new ≡ mid) → BeganAs began_in_hand old new
+call_begins (Ok x) e old mid new is lt stepped made same o began =
+    subst (λ (h : InHand). began_in_hand h o) (sym (made ∙ ap (λ (h : InHand). after_event h e) stepped))
+    (event_begins (after_events old (steps_of_queue old.queue)) e is o
+    (events_begin (steps_of_queue old.queue) old (queue_events old.queue lt) o began))
+call_begins (Err f) e old mid new is lt stepped made same o began =
+    subst (λ (h : InHand). began_in_hand h o) (sym (same ∙ stepped))
+    (events_begin (steps_of_queue old.queue) old (queue_events old.queue lt) o began)
 
 -- a device among foreign events
 
-tag_of : Bool → ℕ
+abbrev tag_of : Bool → ℕ
 tag_of true = 0
 tag_of false = 1
 
@@ -99,21 +106,14 @@ one_begins h e b foreign long is (From s) began =
     (sym (marked_more h.calls h.own (call_of e (step_of h.device e).reply) b long))
     (one_leads s (marked_entries h.calls h.own) h.device (tag_of b) e began is)
 
-pub own_begins : (was now new : Handled) (e : Event Block) → length was.own ≡ length was.calls → was ≡ now → IsEvent e
-    → new ≡ after_own now e → BeganAs began_handled now new
-own_begins was now new e long is event made o began =
-    subst (λ (h : Handled). began_handled h o) (sym (made ∙ ap (λ (h : Handled). after_own h e) (sym is)))
-    (one_begins was e true was.foreign long event o (subst (λ (h : Handled). began_handled h o) (sym is) began))
-
-pub foreign_begins : (was now new : Handled) (e : Event Block) → length was.own ≡ length was.calls → was ≡ now
-    → IsEvent e → new ≡ after_foreign now e → BeganAs began_handled now new
-foreign_begins was now new e long is event made o began =
-    subst (λ (h : Handled). began_handled h o) (sym (made ∙ ap (λ (h : Handled). after_foreign h e) (sym is)))
-    (one_begins was e false _ long event o (subst (λ (h : Handled). began_handled h o) (sym is) began))
-
--- a call that changes nothing
-pub still_begins : (old new : Handled) → new ≡ old → BeganAs began_handled old new
-still_begins old new same o began = subst (λ (h : Handled). began_handled h o) (sym same) began
+pub call_more_begins : (was now : Handled) (e : Event Block) (b : Bool) (device : State) (calls : List Call)
+    (own : List Bool) (foreign : List (Reply Block)) → length was.own ≡ length was.calls → was ≡ now → IsEvent e
+    → device ≡ (step_of was.device e).state → calls ≡ was.calls ++ call_of e (step_of was.device e).reply ∷ []
+    → own ≡ was.own ++ b ∷ []
+    → BeganAs began_handled now (record { device = device; calls = calls; own = own; foreign = foreign })
+call_more_begins was now e b device calls own foreign long is event leads more marked o began =
+    rw (leads, more, marked)
+    (one_begins was e b foreign long event o (subst (λ (h : Handled). began_handled h o) (sym is) began))
 
 -- a pass keeps its bench and its tag
 
@@ -124,6 +124,6 @@ kept_at_lock t calls (From s) began = began
 pub lock_begins : (r : Result (Reply Block) (CallFault (Event Block))) (e : Event Block) (old new : AtLock)
     → IfOk r (λ x. StepsAndMakes old new e x) → OnErr r (StopsStepping old new) → BeganAs began_at_lock old new
 lock_begins (Ok x) e old new (steps, are, is) amid o began =
-    subst (λ (t : AtLock). began_at_lock t o) (sym is) (kept_at_lock old _ o began)
+    subst (λ (t : AtLock). began_at_lock t o) (sym is) (kept_at_lock old (steps ++ call_of e x ∷ []) o began)
 lock_begins (Err f) e old new makes (count, made) o began =
-    subst (λ (t : AtLock). began_at_lock t o) (sym made.2) (kept_at_lock old _ o began)
+    subst (λ (t : AtLock). began_at_lock t o) (sym made.2) (kept_at_lock old made.0 o began)

@@ -13,4 +13,11 @@ loop-event-preserved c = (
       c.in-Some.ensures.items c.loop-event.invariant.0)
       c.in_default-make_foreign.ensures.made,
   c.in_default-make_foreign.ensures.none ∙ c.loop-event.invariant.1,
+  λ o began. c.in_default-make_foreign.ensures.began o (c.loop-event.invariant.2 o began),
 )
+
+pub returns-in-Err-clause-began : goal.returns-in-Err-clause-began
+returns-in-Err-clause-began c o began = c.in-Err.ensures.began o (c.loop-event.invariant.2 o began)
+
+pub returns-clause-began : goal.returns-clause-began
+returns-clause-began c = c.loop-event.invariant.2

@@ -7,10 +7,9 @@ use Rattle.nic_device.specs.DmaArena.Block.{Block}
 use Rattle.nic_device.specs.Outcome.{Outcome}
 use Rattle.nic_device.specs.Resting.{Rests}
 use Rattle.nic_device.specs.State.{State, new_state}
-use Rattle.nic_device.specs.Step.{step_of}
 use Rattle.nic_device.specs.declared.event.Event.{Event}
 use Rattle.device_lock.specs.declared.entry.Entry.{Entry}
-use Rattle.device_lock.specs.History.{leads_to, IsLegal, AreEvents, AllBelow}
+use Rattle.device_lock.specs.History.{leads_to, IsLegal, AllBelow}
 use Rattle.device_lock.specs.Kept.{Held, IsKept, entries_of}
 use Rattle.device_lock.specs.Resting.{AreIdle, idle_entries}
 use Rattle.device_lock.specs.Stepping.{steps_of_queue}

@@ -8,7 +8,7 @@ use Rattle.nic_device.specs.State.{State, new_state}
 use Rattle.nic_device.specs.Step.{after}
 use Rattle.nic_device.proofs.Steps.{step_leads}
 use Rattle.device_lock.specs.Alone.{lent_by, mode_through}
-use Rattle.device_lock.specs.History.{IsLegal, AreEvents, calls_of, leads_to}
+use Rattle.device_lock.specs.History.{calls_of, leads_to}
 use Rattle.device_lock.specs.declared.alone.Watched.{Watched}
 use Rattle.device_lock.specs.declared.entry.Entry.{Entry}
 use Rattle.pmd_rx.specs.Plays.{played_by}

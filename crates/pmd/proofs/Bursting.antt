@@ -49,6 +49,7 @@ module _ (vacant : ℕ) (given left : List Packet) (old made new : List Call) (r
       there = there;
       failed = None;
       room = room;
+      drives = drives;
       sends = sends;
       gone = sends.gone;
       waiting = sends.waiting;
@@ -83,6 +84,7 @@ module _ (vacant : ℕ) (given left : List Packet) (old made new : List Call) (r
       there = there;
       failed = Some f;
       room = room;
+      drives = drives;
       sends = (refl, refl, refl, refl);
       gone = [];
       waiting = given;

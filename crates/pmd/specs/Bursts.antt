@@ -182,6 +182,7 @@ pub record IsSendBurst (vacant : ℕ) (given left : List Packet) (result : Resul
   pub there : Running
   pub failed : Option PmdFault
   pub room : MakesRoom vacant failed old r made there
+  pub drives : DrivesRings old r made there
   pub sends : SendsWith failed given left result made there new s
   -- the first packets were accepted, as the last that were, and as many as it tells
   pub gone : List Packet

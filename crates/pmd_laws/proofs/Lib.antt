@@ -22,6 +22,7 @@ pub mod Lends
 pub mod LentSince
 pub mod Lived
 pub mod Looks
+pub mod MetFault
 pub mod NoFault
 pub mod NoRoom
 pub mod OnePlace

@@ -1,5 +1,5 @@
 -- A driver whose blocks nobody else lends: no call of its finds the device at fault, and nor does its start.
-use Rattle.std.specs.Prelude.{ℕ, IsTrue, IsFalse, List, ◌≡◌, ◌≢◌, ◌++◌, All}
+use Rattle.std.specs.Prelude.{ℕ, IsTrue, IsFalse, List, ◌≡◌, ◌≢◌, ◌++◌, All, Option, Some, None, Result}
 use Rattle.nic_device.specs.DmaArena.Memory.{has_block}
 use Rattle.nic_device.specs.DmaArena.Numbers.{Numbers, is_own}
 use Rattle.nic_device.specs.State.{State}
@@ -9,12 +9,16 @@ use Rattle.device_lock.specs.declared.alone.Watched.{Watched}
 use Rattle.device_lock.specs.declared.entry.Call.{Call}
 use Rattle.device_lock.specs.declared.entry.Entry.{Entry}
 use Rattle.pmd.specs.Apart.{FindsBy}
+use Rattle.pmd.specs.Bursts.{IsSendBurst, SendsWith}
 use Rattle.pmd.specs.Driver.{WhereUp}
 use Rattle.pmd.specs.Halves.{halves_of}
+use Rattle.pmd.specs.Running.{Running}
 use Rattle.pmd.specs.Started.{StopsStarting}
 use Rattle.pmd.specs.declared.start.StartRefused.{StartRefused}
 use Rattle.pmd.specs.PmdSeam.Frames.{most_blocks}
+use Rattle.pmd.specs.PmdSeam.declared.fault.PmdFault.{PmdFault}
 use Rattle.pmd.specs.PmdSeam.declared.fault.PmdFault.TheVariants.{DeviceFault}
+use Rattle.pmd.specs.PmdSeam.declared.packet.Packet.{Packet}
 use Rattle.pmd.specs.PmdSeam.Named.{AtPort}
 use Rattle.start_laws.specs.ReceiveLaws.Fitting.{FitsBlocks}
 use Rattle.start_laws.specs.Along.{BeforeLast, IsAlong}
@@ -60,6 +64,30 @@ abbrev pub NoCallFindsFault : Type 0
 NoCallFindsFault =
     (w : Watched) (fifo : ℕ) (h : List Entry) (q : AtPort) (size frame : ℕ) (old : List Call) (a : Numbers) (m : Moment)
     (later : List Moment) (n : Moment) → FindsFault (last m later) n →
+    ¬ IsToldApart w fifo h q size frame old a m later n
+
+-- the fault that a burst met, whatever it answered: as room was made, with a packet, or with none
+abbrev pub met_by : (failed : Option PmdFault) (given left : List Packet) (result : Result ℕ PmdFault) (old : List Call)
+    (r : Running) (new : List Call) (s : Running) → SendsWith failed given left result old r new s → Option PmdFault
+met_by None given left result old r new s sends = sends.met
+met_by (Some f) given left result old r new s sends = Some f
+
+-- a call of `tx_burst` met the device at fault, as its clause `sent` tells: it may have answered how many packets were
+-- accepted before
+abbrev pub SendsAtFault : List Call → Running → List Call → Running → Type 0
+SendsAtFault old r new s =
+    (vacant : ℕ) × (given left : List Packet) × (result : Result ℕ PmdFault)
+    × (x : IsSendBurst vacant given left result old r new s)
+    × (met_by x.failed given left result x.made x.there new s x.sends ≡ Some DeviceFault)
+
+abbrev pub MeetsFault : Moment → Moment → Type 0
+MeetsFault m n = WhereUp m.driver.rings n.driver.rings (λ r s. SendsAtFault m.made r n.made s)
+
+-- no such history has such a call
+abbrev pub NoBurstMeetsFault : Type 0
+NoBurstMeetsFault =
+    (w : Watched) (fifo : ℕ) (h : List Entry) (q : AtPort) (size frame : ℕ) (old : List Call) (a : Numbers) (m : Moment)
+    (later : List Moment) (n : Moment) → MeetsFault (last m later) n →
     ¬ IsToldApart w fifo h q size frame old a m later n
 
 -- both sides of the queue are off, and so it begins

@@ -12,7 +12,7 @@
 #![tactic(auto)]
 
 ghost use Rattle.pmd_laws.specs.Ends.{HandedOverStop, LeftIsPrefix, SentOverStop};
-ghost use Rattle.pmd_laws.specs.Faultless.{NoCallFindsFault, NoFillingFindsFault, NoStartFindsFault};
+ghost use Rattle.pmd_laws.specs.Faultless.{NoBurstMeetsFault, NoCallFindsFault, NoFillingFindsFault, NoStartFindsFault};
 ghost use Rattle.pmd_laws.specs.FullRing.{FullHasNoRoom, NoneHasNoRoom};
 ghost use Rattle.pmd_laws.specs.InHand.{DirectIsHistory, InterleavedIsHistory};
 ghost use Rattle.pmd_laws.specs.Lends.{LifeLendsApart};
@@ -59,9 +59,11 @@ pub fn lives_lend_apart()
 /// Where the frames that wait for the queue fit a packet of the driver just before its first access, none of its
 /// arena's blocks is lent there, and no other pass lends any of them: no call of `rx`, `tx`, `reap`, `rx_burst` or
 /// `tx_burst` that comes after its start ends with the device at fault, over a legal history that leaves the queue
-/// alone, whatever harmless calls its author makes between through the same pass.
+/// alone, whatever harmless calls its author makes between through the same pass. Nor does a `tx_burst` meet it at fault
+/// that answers how many packets were accepted.
 pub fn no_call_finds_the_device_at_fault()
-    ensures { NoCallFindsFault }
+    ensures finds { NoCallFindsFault }
+    ensures meets { NoBurstMeetsFault }
 {}
 
 /// Where both sides of its queue are off too, and not wanted on, no start ends with the device at fault as it fills its

@@ -66,6 +66,33 @@ fn a_frame_of_5_000_bytes_is_received_and_sent_again(rt: HostRuntime) {
     assert!(rt; end(&rt, in_hand(direct)).is_empty());
 }
 
+/// Each of the two writes goes on in the next Buf. What would go a byte beyond the packet isn't written.
+#[test]
+fn a_packet_of_5_000_bytes_is_filled_and_sent(rt: HostRuntime) {
+    let setup = Setup {
+        frame: 9728,
+        ..PLAIN
+    };
+    let mut direct = set_up(&rt, 64, 0, &setup);
+    let mut pmd = done(&rt, start(&rt, &mut direct, 256, 9728));
+    let frame = long_frame(&rt);
+    let (first, others) = frame.as_slice().split_at(frame.len() / 2);
+    let mut packet = some(&rt, pmd.packet(5000));
+    assert_eq!(rt; packet.bufs.count(), 3);
+    assert!(rt; packet.write_at(first.len(), others));
+    assert!(rt; packet.write_at(0, first));
+    assert!(rt; !packet.write_at(4999, &[1, 1]));
+    assert!(rt; !packet.write_at(usize::MAX, &[1, 1]));
+    assert!(rt; has_bytes(&packet, frame.as_slice()));
+    send(&rt, &mut direct, &mut pmd, packet);
+    reap(&rt, &mut direct, &mut pmd);
+    assert!(rt; collected(&rt, &mut direct).bytes() == frame.as_slice());
+    let home = done(&rt, pmd.stop(rt.alloc(), &mut direct));
+    assert_eq!(rt; home.arena.free_blocks(), 320);
+    assert!(rt; close(&rt, home) == (0, 1));
+    assert!(rt; end(&rt, in_hand(direct)).is_empty());
+}
+
 /// Rings and frames that no driver has: how many descriptors, and how many bytes.
 const NO_SIZES: [(u16, u16); 3] = [(1032, 9728), (256, 9729), (256, 1517)];
 

@@ -17,3 +17,4 @@ pub mod Standing
 pub mod Stepping
 pub mod Steps
 pub mod Words
+pub mod Writing

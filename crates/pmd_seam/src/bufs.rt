@@ -1,11 +1,13 @@
 //! The Bufs that a packet is in: five at most, one after the other.
 
-ghost use Rattle.pmd_seam.specs.Bufs.{blocks_in, numbers_of};
+ghost use Rattle.pmd_seam.specs.Bufs.{blocks_in, bytes_of, numbers_of};
+ghost use Rattle.nic_device.specs.DmaArena.Memory.{put_bytes};
 ghost use Rattle.nic_device.specs.DmaArena.Whereabouts.{times_in_hand};
-ghost use Rattle.std.specs.Prelude.{◌≡◌, ◌≤◌, ◌<◌, ◌↔◌, true, ◌++◌, ◌∷◌, [], length, slice_index_or, option_to_list, IfNone, IsNone};
+ghost use Rattle.std.specs.Prelude.{◌≡◌, ◌≤◌, ◌<◌, ◌+◌, ◌*◌, ◌↔◌, true, false, ◌++◌, ◌∷◌, [], length, slice_index_or, option_to_list, IfNone, IsNone};
 
-use nic_device::Buf;
+use nic_device::{BLOCK_BYTES, Buf};
 use std::marker::Model;
+use std::mem;
 
 /// The most Bufs that a packet is in.
 pub const MOST_BUFS: usize = 5;
@@ -101,6 +103,38 @@ impl Bufs {
         self.places.rotate_left(1);
         self.count -= 1;
         Some(first)
+    }
+
+    /// Writes bytes over those of the Bufs from a place on, across Bufs: the first Buf's first byte is at 0. Where they
+    /// would go beyond the last Buf nothing is written, and it answers false.
+    pub fn write_at(&mut self, at: usize, bytes: &[u8]) -> bool
+        ensures fits { (result ≡ true) ↔ (at + length bytes.now ≤ 2048 * length self.old) }
+        ensures written { result ≡ true → bytes_of self.new ≡ put_bytes (bytes_of self.old) at bytes.now }
+        ensures numbers { numbers_of self.new ≡ numbers_of self.old }
+        ensures unchanged { result ≡ false → self.new ≡ self.old }
+    {
+        if at.saturating_add(bytes.len()) > BLOCK_BYTES * self.count() {
+            return false;
+        }
+        let mut left = mem::replace(self, Bufs::none());
+        let mut from = at;
+        let mut rest = bytes;
+        for _written in 0..left.count() {
+            match left.take_first() {
+                Some(mut buf) => {
+                    let size = buf.bytes().len();
+                    let start = from.min(size);
+                    let more = rest.len().min(size - start);
+                    buf.put(start, &rest[..more]);
+                    self.push(buf);
+                    from -= start;
+                    rest = &rest[more..];
+                }
+                None => unreachable!(),
+            }
+        }
+        left.finish();
+        true
     }
 
     /// Ends Bufs of which there are none.

@@ -1,7 +1,8 @@
 //! Packets in hand, and the records of them.
 
-ghost use Rattle.std.specs.Prelude.{◌≡◌, ◌<◌, ◌≤◌, ◌*◌, ◌⊎◌, ◌↔◌, [], length, take, min, IsNone};
+ghost use Rattle.std.specs.Prelude.{◌≡◌, ◌<◌, ◌≤◌, ◌+◌, ◌*◌, ◌⊎◌, ◌↔◌, true, false, [], length, take, min, IsNone};
 ghost use Rattle.std.specs.Vec.{vec_capacity};
+ghost use Rattle.nic_device.specs.DmaArena.Memory.{put_bytes};
 ghost use Rattle.nic_device.specs.DmaArena.Numbers.{free_count};
 ghost use Rattle.pmd_seam.specs.Bufs.{bytes_of, numbers_of, with_all_free};
 ghost use Rattle.pmd_seam.specs.Fresh.{IsFresh, IsDrawnAs, bufs_for};
@@ -120,6 +121,18 @@ impl Packet {
         ensures { result ≡ min self.now.len (2048 * length self.now.bufs) }
     {
         usize::from(self.len).min(BLOCK_BYTES * self.bufs.count())
+    }
+
+    /// Writes bytes over the packet's from a place on, across its Bufs: the packet's first byte is at 0. Where they
+    /// would go beyond its `len` bytes, or beyond its last Buf, nothing is written, and it answers false.
+    pub fn write_at(&mut self, at: usize, bytes: &[u8]) -> bool
+        ensures fits { (result ≡ true) ↔ (at + length bytes.now ≤ min self.old.len (2048 * length self.old.bufs)) }
+        ensures written { result ≡ true → bytes_of self.new.bufs ≡ put_bytes (bytes_of self.old.bufs) at bytes.now }
+        ensures numbers { numbers_of self.new.bufs ≡ numbers_of self.old.bufs }
+        ensures rest { self.new ≡ record self.old { bufs = self.new.bufs } }
+        ensures unchanged { result ≡ false → self.new ≡ self.old }
+    {
+        at.saturating_add(bytes.len()) <= usize::from(self.len) && self.bufs.write_at(at, bytes)
     }
 }
 

@@ -136,8 +136,8 @@ impl Calls {
     }
 
     /// Makes the device steps of a queue under the lock, for the pass of this tag, where the queue is at rest, the
-    /// history has room for their entries, and there is memory: each is idle. Else it makes none of them, nor where some
-    /// were made and no call since. Answers whether they are made.
+    /// history has room for their entries, and there is memory: each is idle. Else it makes none of them, nor where
+    /// some were made and no call since. Answers whether they are made.
     pub(crate) fn rest_locked<const VFS: u8, const FIFO: u16>(
         &mut self,
         locked: &mut Locked<VFS, FIFO>,

@@ -1,5 +1,5 @@
-//! Notes of events and of their replies. A spare vector is kept with a list of calls, which has room for whatever a reply
-//! may hand out: so a note takes no more memory than it has bytes, and the device's answer is never without one.
+//! Notes of events and of their replies. A spare vector is kept with a list of calls, which has room for whatever a
+//! reply may hand out: so a note takes no more memory than it has bytes, and the device's answer is never without one.
 
 ghost use Rattle.std.specs.Prelude.{◌≡◌, ◌<◌, ◌≤◌, [], true, IfOk, OnOk};
 ghost use Rattle.std.specs.Vec.{vec_len, vec_capacity};
@@ -31,8 +31,8 @@ pub(crate) fn ready<T>(
     event.note(alloc)
 }
 
-/// The note of a reply: in a vector of its own, or in the spare one where there is no memory for that. The spare one has
-/// room for it.
+/// The note of a reply: in a vector of its own, or in the spare one where there is no memory for that. The spare one
+/// has room for it.
 pub(crate) fn note_of(alloc: Global, reply: &Reply, spare: &mut Vec<u8>) -> ReplyNote
     requires empty { spare.old.items ≡ [] }
     requires room { note_length reply.now ≤ vec_capacity spare.old }

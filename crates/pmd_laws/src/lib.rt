@@ -2,13 +2,13 @@
 //!
 //! Each law is the contract of a function that does nothing. `specs/Life` says what a life is by the calls of the
 //! driver's pass, `specs/Lends` which blocks it lends, and `specs/Told` what a life is by what the driver's calls tell.
-//! `specs/InHand` says which history a device in hand has.
-//! `specs/Order` says what holds of a life over a history of a shared device, `specs/Faultless` that neither its start nor
-//! a call of its finds the device at fault, `specs/Looks` what holds where a look finds no packet, and `specs/Waits`
-//! where it finds one waiting; `specs/Places` says where its blocks are at the device, and `specs/FullRing` how many
-//! slots are taken where its ring is full. `specs/Ends` says what holds of what a stopped driver left,
-//! `specs/Stopped` what over the calls of its stop, and `specs/Silent` once these have switched its queue off;
-//! `specs/Refused` what holds where its start was refused, and `specs/Room` where an arena has room for its rings.
+//! `specs/InHand` says which history a device in hand has. `specs/Order` says what holds of a life over a history of a
+//! shared device, `specs/Faultless` that neither its start nor a call of its finds the device at fault, `specs/Looks`
+//! what holds where a look finds no packet, and `specs/Waits` where it finds one waiting; `specs/Places` says where its
+//! blocks are at the device, and `specs/FullRing` how many slots are taken where its ring is full. `specs/Ends` says
+//! what holds of what a stopped driver left, `specs/Stopped` what over the calls of its stop, and `specs/Silent` once
+//! these have switched its queue off; `specs/Refused` what holds where its start was refused, and `specs/Room` where an
+//! arena has room for its rings.
 #![tactic(auto)]
 
 ghost use Rattle.pmd_laws.specs.Ends.{HandedOverStop, LeftIsPrefix, SentOverStop};
@@ -59,8 +59,8 @@ pub fn lives_lend_apart()
 /// Where the frames that wait for the queue fit a packet of the driver just before its first access, none of its
 /// arena's blocks is lent there, and no other pass lends any of them: no call of `rx`, `tx`, `reap`, `rx_burst` or
 /// `tx_burst` that comes after its start ends with the device at fault, over a legal history that leaves the queue
-/// alone, whatever harmless calls its author makes between through the same pass. Nor does a `tx_burst` meet it at fault
-/// that answers how many packets were accepted.
+/// alone, whatever harmless calls its author makes between through the same pass. Nor does a `tx_burst` meet it at
+/// fault that answers how many packets were accepted.
 pub fn no_call_finds_the_device_at_fault()
     ensures finds { NoCallFindsFault }
     ensures meets { NoBurstMeetsFault }

@@ -7,7 +7,8 @@
 //!
 //! On it stand the accesses that a driver makes, each with the replies that it can have (`accesses.rt`), the set-up of
 //! the whole device (`pf_setup`), a queue with the numbers of its registers at a port, its sides made ready and
-//! switched (`Queue`), the slots of a ring (`slots.rt`), the Bufs of a packet (`Bufs`) and the way of blocks home (`Reclaim`).
+//! switched (`Queue`), the slots of a ring (`slots.rt`), the Bufs of a packet (`Bufs`) and the way of blocks home
+//! (`Reclaim`).
 #![tactic(auto)]
 
 mod accesses;

@@ -250,8 +250,8 @@ fn set_up<N: Nic>(alloc: Global, nic: &mut N, setup: &Setup) -> Result<(), PmdFa
 /// Sets the whole device up, through the physical function: GCR_EXT, VT_CTL, VFRE, VFTE, MRQC, RSSRK, RETA, RXCSUM,
 /// FCTRL, MAXFRS where frames may have more than 1,518 bytes, HLREG0, DMATXCTL and RXCTRL, in this order.
 ///
-/// `BadSize` where frames can't be of so many bytes: nothing is written. `DeviceFault` where the device knows one of the
-/// registers not, `Call` where a write was refused. The writes before it are made.
+/// `BadSize` where frames can't be of so many bytes: nothing is written. `DeviceFault` where the device knows one of
+/// the registers not, `Call` where a write was refused. The writes before it are made.
 pub fn pf_setup<N: Nic>(alloc: Global, nic: &mut N, setup: &Setup) -> Result<(), PmdFault>
     ensures set { OnOk result (AreSet (N.made nic.old) (N.made nic.new) (settings_of setup.now)) }
     ensures bad { IsFalse (is_frame setup.now.frame)

@@ -29,8 +29,8 @@ looks_after a b d v w x plays same l = record {
 }
 
 -- the same of a result
-pub after_all : {R E : Type 0} → (which : E → PmdFault) (r : Result R E) (blocks : List ℕ) (a b d : List Call) (v w : Sender)
-    → PlaysWith blocks a v b w → IfErr r (λ e. FaultsBy (which e) blocks b w d)
+pub after_all : {R E : Type 0} → (which : E → PmdFault) (r : Result R E) (blocks : List ℕ) (a b d : List Call)
+    (v w : Sender) → PlaysWith blocks a v b w → IfErr r (λ e. FaultsBy (which e) blocks b w d)
     → IfErr r (λ e. FaultsBy (which e) blocks a v d)
 after_all which (Ok x) blocks a b d v w plays f = tt
 after_all which (Err e) blocks a b d v w plays f = by_after (which e) blocks a b d v w plays f

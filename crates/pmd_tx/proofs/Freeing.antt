@@ -27,7 +27,8 @@ ends-append : (xs ys : List Segment) → ends_in (xs ++ ys) ≡ ends_in xs + end
 ends-append [] ys = omega arith
 ends-append (x ∷ xs) ys = omega (arith, ends-append xs ys)
 
-ends-both : (xs : List Segment) (m n : ℕ) → ends_in (take (m + n) xs) ≡ ends_in (take m xs) + ends_in (take n (drop m xs))
+ends-both : (xs : List Segment) (m n : ℕ)
+    → ends_in (take (m + n) xs) ≡ ends_in (take m xs) + ends_in (take n (drop m xs))
 ends-both xs m n = ap ends_in (take-add m n xs) ∙ ends-append (take m xs) (take n (drop m xs))
 
 pub frees_none : (v w : Sender) (a b : Numbers) → w.outstanding ≡ v.outstanding → b ≡ a → Frees v w a b 0 0

@@ -25,7 +25,8 @@ numbers-left bs k b below at =
 
 -- whether blocks are out, by the first and the others
 
-joined : (own free again rest : Bool) → (own && not free && not again && rest) ≡ ((own && not free && not again) && rest)
+joined : (own free again rest : Bool)
+    → (own && not free && not again && rest) ≡ ((own && not free && not again) && rest)
 joined true false true rest = refl
 joined true false false rest = refl
 joined true true again rest = refl

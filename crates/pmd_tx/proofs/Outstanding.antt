@@ -82,7 +82,8 @@ paired-append (b ∷ bs) cs [] rs same = absurd (omega arith)
 paired-append (b ∷ bs) cs (q ∷ qs) rs same =
     ap (λ (l : List Segment). record { block = b; part = q } ∷ l) (paired-append bs cs qs rs (omega arith))
 
-paired-drop : (bs : List ℕ) (qs : List Part) → length bs ≡ length qs → paired (drop 1 bs) (drop 1 qs) ≡ drop 1 (paired bs qs)
+paired-drop : (bs : List ℕ) (qs : List Part) → length bs ≡ length qs
+    → paired (drop 1 bs) (drop 1 qs) ≡ drop 1 (paired bs qs)
 paired-drop [] [] same = refl
 paired-drop [] (q ∷ qs) same = absurd (omega arith)
 paired-drop (b ∷ bs) [] same = absurd (omega arith)

@@ -42,8 +42,8 @@ accepts-last blocks [] m accepts = (accepts, tt)
 accepts-last blocks (n ∷ before) m accepts = (tt, accepts-last blocks before m accepts)
 
 -- an own event after calls that aren't own
-pub plays_adds : (blocks : List ℕ) (old new : List Call) (v : Sender) (m : Move) → is_elsewhere m ≡ false → (e : Event Block)
-    (r : Reply Block) → IsOwn v m e → AcceptsIn blocks m → Adds old new e r → PlaysWith blocks old v new (moved v m r)
+pub plays_adds : (blocks : List ℕ) (old new : List Call) (v : Sender) (m : Move) → is_elsewhere m ≡ false
+    → (e : Event Block) (r : Reply Block) → IsOwn v m e → AcceptsIn blocks m → Adds old new e r → PlaysWith blocks old v new (moved v m r)
 plays_adds blocks old new v m mine e r own accepts (before, is, steps) = record {
   plays = (
     elsewhere before ++ m ∷ [],
@@ -105,7 +105,8 @@ all_both a b d v w x (m, s, is, own, by, steps) (n, t, then, also, on, more) = (
   steps_both is_elsewhere m n s t (own-length v m s own) steps more,
 )
 
-accepts-both : (blocks : List ℕ) (m n : List Move) → AllAcceptIn blocks m → AllAcceptIn blocks n → AllAcceptIn blocks (m ++ n)
+accepts-both : (blocks : List ℕ) (m n : List Move)
+    → AllAcceptIn blocks m → AllAcceptIn blocks n → AllAcceptIn blocks (m ++ n)
 accepts-both blocks [] n a b = b
 accepts-both blocks (k ∷ m) n a b = (a.0, accepts-both blocks m n a.1 b)
 

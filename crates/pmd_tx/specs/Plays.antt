@@ -54,7 +54,8 @@ pub record PlaysWith (blocks : List ℕ) (old : List Call) (v : Sender) (new : L
   pub plays : Plays old v new w
   pub accepts : AllAcceptIn blocks plays.0
 
--- the last call was a look at the end of the oldest outstanding packet, which isn't done; nothing was accepted before it
+-- the last call was a look at the end of the oldest outstanding packet, which isn't done; nothing was accepted before
+-- it
 pub record LooksLast (old : List Call) (v : Sender) (new : List Call) (w : Sender) : Type 0 where
   pub mid : List Call
   pub before : Sender

@@ -14,7 +14,8 @@ use Rattle.nic_device.specs.declared.event.Reply.TheVariants as reply
 use Rattle.pmd_seam.specs.Packet.{Kept}
 use Rattle.pmd_seam.specs.Slots.{wrapped, descriptor_in, is_ring_block}
 
--- a part of a packet, which one descriptor asks for: its bytes, how many the whole packet has, and whether it is the last
+-- a part of a packet, which one descriptor asks for: its bytes, how many the whole packet has, and whether it is the
+-- last
 pub record Part : Type 0 where
   pub bytes : List ℕ
   pub whole : ℕ
@@ -120,8 +121,8 @@ is_sent descriptor = has_bit 32 (second_half descriptor)
 
 -- a move of the driver: it lends the first block of a packet, which is accepted by that; it lends the block of the next
 -- segment of a packet; it writes the descriptor of the next segment; it moves the tail on; it looks at the end of the
--- oldest packet; it takes the block of the oldest segment; or the call is none of its own. A call alone doesn't tell how
--- long a lent packet is, nor that a lent block is one
+-- oldest packet; it takes the block of the oldest segment; or the call is none of its own. A call alone doesn't tell
+-- how long a lent packet is, nor that a lent block is one
 pub data Move : Type 0 where
   Accepts : Outgoing → Move
   Lends : Move

@@ -112,8 +112,8 @@ abbrev pub ends_in : List Segment → ℕ
 ends_in [] = 0
 ends_in (s ∷ segments) = (if s.part.last then 1 else 0) + ends_in segments
 
--- the oldest outstanding segments were reaped, so many, with which so many packets end, and their blocks are free in the
--- arena
+-- the oldest outstanding segments were reaped, so many, with which so many packets end, and their blocks are free in
+-- the arena
 pub record Frees (v w : Sender) (a b : Numbers) (parts packets : ℕ) : Type 0 where
   pub few : parts ≤ length v.outstanding
   pub left : w.outstanding ≡ drop parts v.outstanding

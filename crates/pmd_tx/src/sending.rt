@@ -85,10 +85,10 @@ impl TransmitRing {
     ///
     /// Before any event: `BadSize` where its length is another, or above that of its blocks, `ForeignBlock` where its
     /// blocks can't go home or one is lent elsewhere, and `RingFull` where the outstanding segments and this packet's
-    /// are above the ring's slots but one. Then `DeviceFault` where the device answers what it can't on a healthy queue,
-    /// and `Call` where a call was refused, or there was no memory for the record. The packet comes back where none of
-    /// its blocks was lent yet; else it is accepted, and the next call goes on with it. Blocks that hold none of the
-    /// bytes of an accepted packet go home.
+    /// are above the ring's slots but one. Then `DeviceFault` where the device answers what it can't on a healthy
+    /// queue, and `Call` where a call was refused, or there was no memory for the record. The packet comes back where
+    /// none of its blocks was lent yet; else it is accepted, and the next call goes on with it. Blocks that hold none
+    /// of the bytes of an accepted packet go home.
     pub fn send<N: Nic>(
         &mut self,
         alloc: Global,

@@ -26,8 +26,8 @@ pub fn receive_step_keeps_the_agreement()
     ensures { ReceiveStepKeeps }
 {}
 
-/// A step of receiving on the driver's own queue writes its descriptor into one of the ring's blocks, and its bytes into
-/// the block of one of the ring's slots.
+/// A step of receiving on the driver's own queue writes its descriptor into one of the ring's blocks, and its bytes
+/// into the block of one of the ring's slots.
 pub fn receive_step_stays_in_its_blocks()
     ensures { PieceIsInside }
 {}

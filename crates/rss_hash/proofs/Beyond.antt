@@ -14,7 +14,8 @@ use Rattle.rss_hash.proofs.Windows.{bits_from_more}
 abbrev AgreeFrom : (old new : List ℕ) (k count : ℕ) → Type 0
 AgreeFrom old new k count = (j : ℕ) → j < count → bit_of new (k + j) ≡ bit_of old (k + j)
 
-bits_agree : (old new : List ℕ) (k count : ℕ) → AgreeFrom old new k count → bits_from new k count ≡ bits_from old k count
+bits_agree : (old new : List ℕ) (k count : ℕ) → AgreeFrom old new k count
+    → bits_from new k count ≡ bits_from old k count
 bits_agree old new k zero agree = no_bits new k ∙ sym (no_bits old k)
 bits_agree old new k (suc n) agree =
     let next : suc n ≡ n + 1 = omega arith in

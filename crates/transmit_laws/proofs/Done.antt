@@ -1,5 +1,5 @@
--- The memory after the oldest segment that wasn't fetched is: at the end of a packet its descriptor is done, and the rest
--- is as it was.
+-- The memory after the oldest segment that wasn't fetched is: at the end of a packet its descriptor is done, and the
+-- rest is as it was.
 use Rattle.std.proofs.Common.{◌≡◌, ◌≢◌, ℕ, ◌+◌, ◌<◌, inl, inr, Bool, true, false, List, if◌then◌else◌, sym, subst, ◌∙◌, arith}
 use Rattle.std.proofs.lemmas.Bool.{both_ways, cases_Bool, cases_eq}
 use Rattle.nic_device.specs.DmaArena.Memory.{Memory, IsWhole, read_at, write_at}

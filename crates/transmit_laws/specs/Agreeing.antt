@@ -31,8 +31,8 @@ abbrev pub frames_from : List ℕ → List Segment → List (List ℕ)
 frames_from staged [] = []
 frames_from staged (s ∷ segments) = frame_ended staged s ++ frames_from (staged_behind staged s) segments
 
--- behind the bytes that are staged segments go on with their packet, and with others, and end one: each has the limit at
--- most, and 60 bytes at least
+-- behind the bytes that are staged segments go on with their packet, and with others, and end one: each has the limit
+-- at most, and 60 bytes at least
 abbrev pub ArePackets : ℕ → List ℕ → List Segment → Type 0
 ArePackets limit staged [] = staged ≡ []
 ArePackets limit staged (s ∷ segments) =
@@ -102,8 +102,8 @@ pub record Shows (m : Memory) (v : Sender) (fetched : ℕ) : Type 0 where
       → IsDone m (descriptor_at v.layout k) (segment_at v k)
   pub waits : (k : ℕ) → fetched ≤ k → k < v.poked → IsPosted m (descriptor_at v.layout k) (segment_at v k)
 
--- what is staged and the segments that are left are whole packets, and the frames sent are those of all accepted packets
--- but these
+-- what is staged and the segments that are left are whole packets, and the frames sent are those of all accepted
+-- packets but these
 pub record IsInTurn (limit : ℕ) (staged : List ℕ) (sent : List (List ℕ)) (left : List Segment) (accepted : List Kept) :
     Type 0 where
   pub packets : ArePackets limit staged left

@@ -28,6 +28,6 @@ returns-in-Ok-clause-began c =
       own = c.self.inside.own.items;
       foreign = c.self.inside.foreign.items;
     } in
-    call_more_begins was c.args.self.now c.args.event true _ _ _ c.self.inside.foreign.items c.self.invariant c.self.view_is
-    c.is_of_a_driver.ensures c.in-Ok.ensures.device c.in-Ok.ensures.calls
+    call_more_begins was c.args.self.now c.args.event true _ _ _ c.self.inside.foreign.items c.self.invariant
+    c.self.view_is c.is_of_a_driver.ensures c.in-Ok.ensures.device c.in-Ok.ensures.calls
     (c.push_reserved.ensures.items ∙ ap (λ (l : List Bool). l ++ true ∷ []) c.reserve.ensures.items)

@@ -24,6 +24,6 @@ returns-clause-began c =
       own = c.self.inside.own.items;
       foreign = c.self.inside.foreign.items;
     } in
-    call_more_begins was c.args.self.now c.args.event false _ _ _ c.push_reserved.new.self.items c.self.invariant c.self.view_is
-    c.is_of_a_driver.ensures c.in_ok-reply.ensures.device c.in_ok-reply.ensures.calls
+    call_more_begins was c.args.self.now c.args.event false _ _ _ c.push_reserved.new.self.items c.self.invariant
+    c.self.view_is c.is_of_a_driver.ensures c.in_ok-reply.ensures.device c.in_ok-reply.ensures.calls
     (c.push_reserved-2.ensures.items ∙ ap (λ (l : List Bool). l ++ false ∷ []) c.reserve-else-is_err.ensures.items)

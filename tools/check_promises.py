@@ -64,11 +64,16 @@ class Contracts:
 
 
 def cells(text):
-    """The lines of the tables with their promises and items."""
+    """The lines of the tables with their promises and items: of each table whose last column is 'Carried by'."""
+    is_read = False
     for number, line in enumerate(text.split("\n"), 1):
         parts = [part.strip() for part in line.strip().strip("|").split(" | ")]
-        if line.startswith("| ") and len(parts) == 2 and parts[1] != "Carried by":
-            yield number, parts[0], parts[1]
+        if not line.startswith("| "):
+            is_read = is_read and line.startswith("|")
+        elif parts[-1] == "Carried by":
+            is_read = True
+        elif is_read:
+            yield number, parts[0], parts[-1]
 
 
 def items(cell):

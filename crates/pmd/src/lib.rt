@@ -25,7 +25,7 @@ pub use halted::Halted;
 pub use home::{Home, StopFailed};
 pub use pmd_rx::{
     Bufs, Calls, Direct, Finished, Interleaved, LONGEST_FRAME, Made, Nic, POLLS, Packet, PmdFault,
-    Queue, Record, SHORTEST_FRAME, Setup, ThroughLock, pf_setup,
+    Queue, Record, SHORTEST_FRAME, Setup, ThroughLock, history_of, marked_history, pf_setup,
 };
 pub use pmd_tx::{Reaped, TxAnswer, TxFault, bytes_in};
 pub use running::Running;

@@ -15,6 +15,7 @@ mod tail;
 pub use pmd_seam::{
     Bufs, CallFault, Calls, Direct, Finished, Interleaved, LONGEST_FRAME, Made, Nic, POLLS, Packet,
     PmdFault, Queue, Reclaim, Record, SHORTEST_FRAME, Setup, ThroughLock, blocks_for, fresh_packet,
-    give_back, give_bufs, give_packet, is_frame, lend, most_blocks, packet_limit, pf_setup,
+    give_back, give_bufs, give_packet, history_of, is_frame, lend, marked_history, most_blocks,
+    packet_limit, pf_setup,
 };
 pub use ring::ReceiveRing;

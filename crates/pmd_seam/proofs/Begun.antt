@@ -1,5 +1,5 @@
 -- What was made of a device in hand is a legal history from where it began.
-use Rattle.std.proofs.Common.{◌≡◌, ◌<◌, ℕ, zero, suc, Bool, true, false, List, [], ◌∷◌, ◌++◌, length, take, refl, sym, ap, subst, ◌∙◌, arith, Result, Ok, Err, IfOk, OnOk, OnErr}
+use Rattle.std.proofs.Common.{◌≡◌, ◌<◌, ℕ, zero, suc, Bool, List, [], ◌∷◌, ◌++◌, length, take, refl, sym, ap, subst, ◌∙◌, arith, Result, Ok, Err, IfOk, OnOk, OnErr}
 use Rattle.std.specs.Prelude.{⊤}
 use Rattle.std.proofs.lemmas.List.{map-append}
 use Rattle.nic_device.specs.DmaArena.Block.{Block}
@@ -15,7 +15,7 @@ use Rattle.device_lock.specs.declared.entry.Call.{Call}
 use Rattle.device_lock.specs.declared.entry.Entry.{Entry}
 use Rattle.device_lock.specs.declared.fault.CallFault.{CallFault}
 use Rattle.device_lock.proofs.Histories.{events_more, leads_to-snoc, legal_more}
-use Rattle.pmd_seam.specs.Begun.{BeganAs, From, LeadsTo, OfPass, began_at_lock, began_handled, began_in_hand, entries_in, entry_by, marked_entries}
+use Rattle.pmd_seam.specs.Begun.{BeganAs, From, LeadsTo, OfPass, began_at_lock, began_handled, began_in_hand, entries_in, entry_by, marked_entries, tag_of}
 use Rattle.pmd_seam.specs.Made.{InHand, StopsAmid, after_event, after_events}
 use Rattle.pmd_seam.specs.Scheduled.{Handled}
 use Rattle.pmd_seam.specs.Stepped.{AtLock, StepsAndMakes, StopsStepping, with_calls}
@@ -76,20 +76,13 @@ call_begins (Err f) e old mid new is lt stepped made same o began =
 
 -- a device among foreign events
 
-abbrev tag_of : Bool → ℕ
-tag_of true = 0
-tag_of false = 1
-
 marked_more : (calls : List Call) (own : List Bool) (c : Call) (b : Bool) → length own ≡ length calls
     → marked_entries (calls ++ c ∷ []) (own ++ b ∷ []) ≡ marked_entries calls own ++ entry_by (tag_of b) c ∷ []
-marked_more [] [] c true long = refl
-marked_more [] [] c false long = refl
+marked_more [] [] c b long = refl
 marked_more [] (a ∷ own) c b long = absurd (omega (arith, long))
 marked_more (x ∷ calls) [] c b long = absurd (omega (arith, long))
-marked_more (x ∷ calls) (true ∷ own) c b long =
-    ap (λ (l : List Entry). entry_by 0 x ∷ l) (marked_more calls own c b (omega (arith, long)))
-marked_more (x ∷ calls) (false ∷ own) c b long =
-    ap (λ (l : List Entry). entry_by 1 x ∷ l) (marked_more calls own c b (omega (arith, long)))
+marked_more (x ∷ calls) (a ∷ own) c b long =
+    ap (λ (l : List Entry). entry_by (tag_of a) x ∷ l) (marked_more calls own c b (omega (arith, long)))
 
 -- a call more, own or foreign, told by the parts
 one_begins : (h : Handled) (e : Event Block) (b : Bool) (foreign : List (Reply Block)) → length h.own ≡ length h.calls

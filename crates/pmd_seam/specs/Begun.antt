@@ -33,11 +33,15 @@ abbrev pub entries_in : List Call → List Entry
 entries_in calls = map (entry_by 0) calls
 
 -- calls of which each is marked in turn as own or foreign: own ones are of pass 0, and foreign ones of pass 1
+
+abbrev pub tag_of : Bool → ℕ
+tag_of true = 0
+tag_of false = 1
+
 abbrev pub marked_entries : List Call → List Bool → List Entry
 marked_entries [] own = []
 marked_entries (c ∷ calls) [] = []
-marked_entries (c ∷ calls) (true ∷ own) = entry_by 0 c ∷ marked_entries calls own
-marked_entries (c ∷ calls) (false ∷ own) = entry_by 1 c ∷ marked_entries calls own
+marked_entries (c ∷ calls) (is ∷ own) = entry_by (tag_of is) c ∷ marked_entries calls own
 
 -- the device in hand is where the calls lead from that state
 abbrev pub began_in_hand : InHand → Origin → Type 0

@@ -1,14 +1,15 @@
-//! The calls that were made of a device in hand, one by one.
+//! The calls that were made of a device in hand, one by one and as a history.
 
 use crate::devices::number_of;
 use crate::outcome::{done, none, put, some};
 use crate::sums::{START, end_device, with};
 use crate::trial::{Trial, tried};
-use device_lock::{Call, Calls};
+use device_lock::{Call, Calls, Entry};
 use nic_device::{Arena, Config, Device, Event, Port, Reply};
 use std::alloc::Global;
 use std::process::Abort;
 use std::sync::Wait;
+use workers::{history_of, marked_history};
 
 /// The queue whose steps are made between the calls.
 const QUEUE: u16 = 5;
@@ -116,5 +117,104 @@ fn the_calls_are_listed(rt: HostRuntime) {
         alloc,
         Listing::new(&rt, alloc),
         Listing::new(&rt, alloc),
+    );
+}
+
+/// Calls that are to be told as a history: all of one pass, or by marks.
+struct Telling {
+    is_marked: bool,
+    calls: Option<Vec<Call>>,
+    told: Option<Vec<Entry>>,
+}
+
+/// Which of three calls are own.
+const MARKS: [bool; 3] = [true, false, true];
+
+impl Telling {
+    /// Three writes.
+    fn new<R: Abort>(rt: &R, alloc: Global, is_marked: bool) -> Telling {
+        let mut calls = Vec::new(alloc);
+        for word in 1..4u32 {
+            let call = Call {
+                event: Event::Write(Port::Pf, 0x05400, word),
+                reply: Reply::Done,
+            };
+            done(rt, calls.push(call));
+        }
+        Telling {
+            is_marked,
+            calls: Some(calls),
+            told: None,
+        }
+    }
+}
+
+impl Trial for Telling {
+    fn call<R: Abort + Wait>(&mut self, rt: &R, alloc: Global) -> bool {
+        let calls = some(rt, self.calls.take());
+        let told = if self.is_marked {
+            marked_history(alloc, calls, &MARKS)
+        } else {
+            history_of(alloc, calls)
+        };
+        match told {
+            Ok(told) => {
+                put(rt, &mut self.told, told);
+                true
+            }
+            Err(calls) => {
+                put(rt, &mut self.calls, calls);
+                false
+            }
+        }
+    }
+
+    fn picture<R: Abort>(&mut self, _rt: &R) -> u64 {
+        let mut sum = START;
+        if let Some(calls) = &self.calls {
+            for call in calls {
+                sum = with_call(sum, call);
+            }
+        }
+        sum
+    }
+
+    fn end<R: Abort + Wait>(self, rt: &R, _alloc: Global) -> u64 {
+        let Telling {
+            is_marked,
+            calls,
+            told,
+        } = self;
+        none(rt, calls);
+        let told = some(rt, told);
+        let foreign = told.iter().filter(|it| it.pass == 1).count();
+        assert!(rt; told.len() == 3, "calls are absent");
+        assert!(rt;
+            foreign == usize::from(is_marked),
+            "a call is of another pass"
+        );
+        foreign as u64
+    }
+}
+
+#[test]
+fn calls_of_a_device_in_hand_are_told_as_a_history(rt: HostRuntime) {
+    let alloc = rt.alloc();
+    tried(
+        &rt,
+        alloc,
+        Telling::new(&rt, alloc, false),
+        Telling::new(&rt, alloc, false),
+    );
+}
+
+#[test]
+fn marked_calls_are_told_as_a_history(rt: HostRuntime) {
+    let alloc = rt.alloc();
+    tried(
+        &rt,
+        alloc,
+        Telling::new(&rt, alloc, true),
+        Telling::new(&rt, alloc, true),
     );
 }

@@ -58,7 +58,8 @@ pub use lending::others_lend_none;
 pub use meeting::{Lockstep, MAX_MEMBERS};
 pub use pmd::{
     Bufs, Direct, Finished, Home, Interleaved, Nic, POLLS, Packet, Pmd, PmdFault, Queue, Record,
-    Rest, Setup, StartRefused, StopRefused, ThroughLock, TxAnswer, TxFault, pf_setup,
+    Rest, Setup, StartRefused, StopRefused, ThroughLock, TxAnswer, TxFault, history_of,
+    marked_history, pf_setup,
 };
 pub use quiet::never_asked_on;
 pub use reports::{Collector, Report};

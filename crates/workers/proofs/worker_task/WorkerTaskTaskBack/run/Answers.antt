@@ -13,7 +13,7 @@ returns g c =
     let left = c.run_worker-rest.result in
     let own = OfPass d.job.pass.bench d.job.pass.tag in
     let same = c.run_worker-rest.ensures.began own
-        (subst (λ (t : AtLock). began_at_lock t own) (sym c.new-nic.ensures) (refl, refl)) in (
+    (subst (λ (t : AtLock). began_at_lock t own) (sym c.new-nic.ensures) (refl, refl)) in (
       record {
         bench = search (rules, same.0);
         tag = search (rules, same.1);

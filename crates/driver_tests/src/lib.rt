@@ -14,6 +14,8 @@ mod deeds;
 #[cfg(test)]
 mod driver;
 #[cfg(test)]
+mod fitting;
+#[cfg(test)]
 mod history;
 #[cfg(test)]
 mod hostile;

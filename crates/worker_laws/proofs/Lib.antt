@@ -3,6 +3,7 @@ pub mod Early
 pub mod FirstCalls
 pub mod Grounded
 pub mod LentThere
+pub mod LetIn
 pub mod Lived
 pub mod Named
 pub mod NeverOn
@@ -10,4 +11,5 @@ pub mod Off
 pub mod Order
 pub mod OwnBlocks
 pub mod Refused
+pub mod Short
 pub mod Standing

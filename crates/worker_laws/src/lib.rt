@@ -2,10 +2,11 @@
 //!
 //! Each law is the contract of a function that does nothing. `specs/Order` says the first by what
 //! `workers::run_workers`, the closing of a shared device and `left_alone` tell, and `workers::begins_well` beside it;
-//! `specs/Quiet` says the second by what `workers::never_asked_on` tells, and `specs/Lending` the third by what
-//! `workers::others_lend_none` tells.
+//! `specs/Quiet` says the second by what `workers::never_asked_on` tells, `specs/Lending` the third by what
+//! `workers::others_lend_none` tells, and `specs/Fitting` the fourth by what `workers::frames_fit` tells.
 #![tactic(auto)]
 
+ghost use Rattle.worker_laws.specs.Fitting.{FramesFitIsShort};
 ghost use Rattle.worker_laws.specs.Lending.{OthersLendNoneIsAlone};
 ghost use Rattle.worker_laws.specs.Order.{CallsStand, HandedIsPrefix, NoneIsLeft, SentIsPrefix};
 ghost use Rattle.worker_laws.specs.Quiet.{NeverAskedIsQuiet};
@@ -39,4 +40,12 @@ pub fn worker_starts_quiet()
 /// `no_start_finds_the_device_at_fault` and `blocks_out_are_lent_at_the_device`.
 pub fn worker_has_its_blocks_alone()
     ensures { OthersLendNoneIsAlone }
+{}
+
+/// Over a legal history of a device that was new: where `frames_fit` says so of a driver, the frames that wait for the
+/// driver's queue just before the first event of its own fit as many blocks as a packet of the driver has at most. That
+/// is what is asked of these frames by `pmd_laws::no_call_finds_the_device_at_fault` and
+/// `no_start_finds_the_device_at_fault`.
+pub fn frames_of_a_worker_fit()
+    ensures { FramesFitIsShort }
 {}

@@ -4,7 +4,7 @@ pub mod Coming
 pub mod Emptied
 pub mod Ending
 pub mod FirstOwn
-pub mod Fitting
+pub mod FramesFit
 pub mod Gathering
 pub mod Keeping
 pub mod OthersLend
@@ -14,3 +14,4 @@ pub mod Sitting
 pub mod Telling
 pub mod Walks
 pub mod Ways
+pub mod WellBegun

@@ -6,6 +6,7 @@ pub mod Coming
 pub mod Ended
 pub mod Ends
 pub mod Feeding
+pub mod Fitting
 pub mod Kept
 pub mod Lending
 pub mod Lived

@@ -10,7 +10,7 @@ use device_lock::{Entry, Settings, Watched};
 use nic_device::{Mode, Port, QUEUES, queues_of};
 
 /// How many bytes the frame check sequence has.
-const FRAME_CHECK: u16 = 4;
+pub(crate) const FRAME_CHECK: u16 = 4;
 
 /// What a driver is given as it starts: the queue that it is to have, as its port numbers it, and how
 /// long frames may be, with their check sequence.

@@ -14,8 +14,9 @@
 //! thread's part, `ends.rt` how workers end, and `team.rt` a whole run.
 //!
 //! What a closed history tells of a driver: `before.rt` goes through its entries up to the first of the driver's own,
-//! `beginning.rt` says whether the driver begins well there, `quiet.rt` whether its queue was asked on before, and
-//! `lending.rt` whether others lend none of its blocks.
+//! `beginning.rt` says whether the driver begins well there, `quiet.rt` whether its queue was asked on before,
+//! `lending.rt` whether others lend none of its blocks, and `fitting.rt` whether the frames let in before fit its
+//! packets.
 #![tactic(auto)]
 
 mod assignment;
@@ -25,6 +26,7 @@ mod driving;
 mod ends;
 mod fault;
 mod feeding;
+mod fitting;
 mod gate;
 mod host;
 mod hosted;
@@ -51,6 +53,7 @@ pub use driving::{Order, run_worker};
 pub use ends::{Ran, RunFault, RunRefused, WorkerEnd};
 pub use fault::WorkerFault;
 pub use feeding::{Fed, feed};
+pub use fitting::frames_fit;
 pub use gate::Gate;
 pub use hosted::run;
 pub use job::{Job, overlap};

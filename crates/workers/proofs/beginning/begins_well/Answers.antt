@@ -1,5 +1,5 @@
 use Rattle.std.proofs.Common.{sym, ◌∙◌}
-use Rattle.workers.proofs.Fitting.{begins_decides}
+use Rattle.workers.proofs.WellBegun.{begins_decides}
 use Rattle.workers.proofs.beginning.begins_well.Goals as goal
 
 pub returns-in-Some : goal.returns-in-Some

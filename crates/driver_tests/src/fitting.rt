@@ -1,0 +1,87 @@
+//! What a closed history says of the frames that were let in before a driver's start.
+
+use crate::bench::{PLAIN, end};
+use crate::outcome::{Hand, done, some};
+use nic_device::{Event, Octets, Port, Reply};
+use workers::{Pass, Setup, Shared, ThroughLock, Watched, frames_fit, pf_setup};
+
+/// A shared device without virtual functions.
+type Bench = Shared<0, 64>;
+
+/// How many bytes a frame has that arrives, how many a driver's frames have at most, with their check sequence, whether
+/// this one is let in, and whether it fits the driver's packets, or was dropped: these are in one block of 2,048 bytes,
+/// in two, and in five.
+#[rattlefmt::skip]
+const ROWS: [(&str, u16, u16, bool, bool); 8] = [
+    ("one block holds it", 2048, 1518, true, true),
+    ("one block doesn't", 2049, 1518, true, false),
+    ("nor does one for packets of 2,048 bytes", 2049, 2052, true, false),
+    ("two do for packets of 2,049 bytes", 4096, 2053, true, true),
+    ("two don't", 4097, 4100, true, false),
+    ("five do", 9724, 9728, true, true),
+    ("it is dropped as too long", 9725, 1518, false, true),
+    ("it is dropped as too short", 59, 1518, false, true),
+];
+
+/// A frame of so many bytes to the broadcast address arrives. Answers whether it is let in.
+fn arrive(rt: &impl Hand, bench: &Bench, pass: &mut Pass, len: u16) -> bool {
+    let mut bytes = Vec::new(rt.alloc());
+    for _byte in 0..len {
+        done(rt, bytes.push(0xFF));
+    }
+    match done(
+        rt,
+        bench.call(rt, rt.alloc(), pass, Event::Arrive(Octets::of(bytes))),
+    ) {
+        Reply::Done => true,
+        Reply::Dropped(_) => false,
+        _other => panic!(rt; "another reply"),
+    }
+}
+
+/// A register is read.
+fn look(rt: &impl Hand, bench: &Bench, pass: &mut Pass) {
+    match done(
+        rt,
+        bench.call(rt, rt.alloc(), pass, Event::Read(Port::Pf, 0x04240)),
+    ) {
+        Reply::Word(_) => {}
+        _other => panic!(rt; "another reply"),
+    }
+}
+
+/// Whether a frame of so many bytes is let in, where frames may have 9,728 bytes with their check sequence, and whether
+/// the frames fit a driver whose first event comes then. Behind that a longer one is let in.
+fn fits(rt: &impl Hand, len: u16, frame: u16) -> (bool, bool) {
+    let (bench, mut passes) = done(rt, Bench::new(rt.alloc(), 1, 2, 1000));
+    let other = some(rt, passes.pop());
+    let mut driver = some(rt, passes.pop());
+    let mut nic = ThroughLock::new(rt, &bench, other, 0);
+    let setup = Setup {
+        frame: 9728,
+        ..PLAIN
+    };
+    done(rt, pf_setup(rt.alloc(), &mut nic, &setup));
+    let mut other = nic.finish();
+    let let_in = arrive(rt, &bench, &mut other, len);
+    look(rt, &bench, &mut driver);
+    assert!(rt; arrive(rt, &bench, &mut other, 9724));
+    let passes = done(rt, Vec::from_array(rt.alloc(), [driver, other]));
+    let closed = done(rt, bench.close(passes));
+    let watched = Watched {
+        vfs: 0,
+        pass: 0,
+        queue: 0,
+    };
+    let answer = frames_fit(watched, 0, frame, closed.history());
+    assert!(rt; frames_fit(watched, 1, frame, closed.history()));
+    end(rt, closed.into_device());
+    (let_in, answer)
+}
+
+#[test]
+fn frames_that_were_let_in_fit_or_not(rt: HostRuntime) {
+    for (name, len, frame, let_in, fit) in ROWS {
+        assert!(rt; fits(&rt, len, frame) == (let_in, fit), "{name}");
+    }
+}

@@ -1,0 +1,61 @@
+//! Whether the frames that were let in before a driver's start fit its packets, as the entries of a history tell.
+
+ghost use Rattle.std.specs.Prelude.{◌≡◌, ◌↔◌, ◌*◌, IsTrue};
+ghost use Rattle.pmd.specs.PmdSeam.Frames.{most_blocks};
+ghost use Rattle.workers.specs.Before.{known_before};
+ghost use Rattle.workers.specs.Fitting.{FramesFit, let_in_by, longest_behind};
+
+use crate::before::{is_first, left_behind};
+use crate::beginning::FRAME_CHECK;
+use device_lock::{Entry, Watched};
+use nic_device::{BLOCK_BYTES, Event, Reply};
+
+/// How many bytes the frame has that an entry let in; none where it let none in.
+fn let_in_by(entry: &Entry) -> usize
+    ensures { result ≡ let_in_by entry.now.event entry.now.reply }
+{
+    match (&entry.event, &entry.reply) {
+        (Event::Arrive(frame), Reply::Done) => frame.bytes().len(),
+        _ => 0,
+    }
+}
+
+/// How many bytes the longest frame has that was let in before the first entry of the driver's own; none where there is
+/// no such entry.
+fn longest_before(watched: Watched, from: usize, history: &[Entry]) -> Option<usize>
+    ensures { result ≡ known_before longest_behind watched 0 from history.now }
+{
+    let mut longest = 0usize;
+    let mut left = from;
+    for entry in history {
+        if is_first(watched, left, entry) {
+            return Some(longest);
+        }
+        longest = longest.max(let_in_by(entry));
+        left = left_behind(watched, left, entry);
+    }
+    None
+}
+
+/// How many bytes the blocks hold that a packet of a driver is in at most, where a frame has up to so many with its
+/// check sequence.
+fn room_of(frame: u16) -> usize
+    ensures { result ≡ 2048 * most_blocks frame }
+{
+    let packet = usize::from(frame.saturating_sub(FRAME_CHECK));
+    BLOCK_BYTES * ((packet + BLOCK_BYTES - 1) / BLOCK_BYTES)
+}
+
+/// Whether the frames that were let in before a driver's start fit its packets, in a history from a new device: before
+/// the first event of the driver's own, which is behind so many calls of its pass and no step of the device, no entry
+/// lets in a frame of more bytes than the blocks hold, 2,048 each, that a packet of the driver is in at most, where a
+/// frame has up to `frame` bytes with its check sequence. A frame that was dropped doesn't count. So it is where there
+/// is no such event. No memory is asked for.
+pub fn frames_fit(watched: Watched, from: usize, frame: u16, history: &[Entry]) -> bool
+    ensures { IsTrue result ↔ FramesFit watched from (2048 * most_blocks frame) history.now }
+{
+    match longest_before(watched, from, history) {
+        Some(longest) => longest <= room_of(frame),
+        None => true,
+    }
+}

@@ -1,4 +1,3 @@
-pub mod Adding
 pub mod Flags
 pub mod OptionNumbers
 pub mod Refusals

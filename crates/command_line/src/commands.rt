@@ -1,6 +1,6 @@
 //! The commands and their options.
 ghost use Rattle.std.specs.Prelude.{◌≡◌, IfErr, IfOk, false};
-ghost use Rattle.clap.specs.Words.{app_of, kind_of, new_app, rule_of, with_rule, with_subcommand};
+ghost use Rattle.clap.specs.Words.{App, app_of, kind_of, new_app, rule_of, with_rule, with_subcommand};
 ghost use Rattle.clap.specs.declared.builder.command.Command.TheViews.{out-Command as fields_of};
 ghost use Rattle.command_line.specs.Commands.{asm_app, bare_app, debug_app, dis_app, eeprom_app, fifo_rule, hash_app};
 ghost use Rattle.command_line.specs.Commands.{frames_rule, limit_rule, load_rule, nicbench_app, run_app};
@@ -119,13 +119,19 @@ fn with_option<'a>(command: Command<'a>, option: Arg<'a>) -> Result<Command<'a>,
     Ok(command)
 }
 
-/// A command with one more subcommand.
-fn with_command<'a>(command: Command<'a>, more: Command<'a>) -> Result<Command<'a>, Error>
-    requires { (fields_of more).has_globals ≡ false }
-    ensures ok { IfOk result (λ c. app_of c ≡ with_subcommand (app_of command.entry) (app_of more.entry).top) }
+/// A command with one more subcommand, where there is memory for the two.
+fn with_command<'a>(
+    command: Result<Command<'a>, Error>,
+    more: Result<Command<'a>, Error>,
+) -> Result<Command<'a>, Error>
+    requires local { IfOk more (λ c. (fields_of c).has_globals ≡ false) }
+    requires memory { IfErr command (λ e. kind_of e ≡ ErrorKind.OutOfMemory) }
+    requires more_memory { IfErr more (λ e. kind_of e ≡ ErrorKind.OutOfMemory) }
+    ensures ok { (known one : App) → IfOk command.entry (λ c. app_of c ≡ known) → IfOk more.entry (λ c. app_of c ≡ one)
+        → IfOk result (λ c. app_of c ≡ with_subcommand known one.top) }
     ensures err { IfErr result (λ e. kind_of e ≡ ErrorKind.OutOfMemory) }
 {
-    let command = command.subcommand(more)?;
+    let command = command?.subcommand(more?)?;
     Ok(command)
 }
 
@@ -211,12 +217,11 @@ pub(crate) fn nicbench<'a>(alloc: Global) -> Result<Command<'a>, Error>
     ensures ok { IfOk result (λ c. app_of c ≡ nicbench_app) }
     ensures err { IfErr result (λ e. kind_of e ≡ ErrorKind.OutOfMemory) }
 {
-    let nicbench = with_command(bare(alloc), run(alloc)?)?;
-    let nicbench = with_command(nicbench, hash(alloc))?;
-    let nicbench = with_command(nicbench, eeprom(alloc)?)?;
-    let nicbench = with_command(nicbench, asm(alloc))?;
-    let nicbench = with_command(nicbench, dis(alloc))?;
-    let nicbench = with_command(nicbench, debug(alloc)?)?;
-    let nicbench = with_command(nicbench, threads(alloc)?)?;
-    Ok(nicbench)
+    let nicbench = with_command(Ok(bare(alloc)), run(alloc));
+    let nicbench = with_command(nicbench, Ok(hash(alloc)));
+    let nicbench = with_command(nicbench, eeprom(alloc));
+    let nicbench = with_command(nicbench, Ok(asm(alloc)));
+    let nicbench = with_command(nicbench, Ok(dis(alloc)));
+    let nicbench = with_command(nicbench, debug(alloc));
+    with_command(nicbench, threads(alloc))
 }

@@ -11,7 +11,7 @@ use crate::request::{Asked, BytesRequest, Request, TextRequest};
 use crate::run_options::options_in;
 use crate::threads_options::threads_options_in;
 use clap::error::ErrorKind;
-use clap::{ArgMatches, Error};
+use clap::{ArgMatches, Command, Error};
 use std::alloc::Global;
 use std::convert::AsStr;
 
@@ -24,14 +24,21 @@ fn matches_in<'a, S: AsStr>(alloc: Global, words: &'a [S]) -> Result<ArgMatches<
     command.try_get_matches_from(words)
 }
 
+/// The refusal of a command that isn't there, with the usage of this one.
+fn no_such_command(command: &mut Command<'_>) -> Result<Error, Error>
+    ensures ok { IfOk result (λ e. kind_of e ≡ ErrorKind.InvalidSubcommand) }
+    ensures err { IfErr result (λ e. kind_of e ≡ ErrorKind.OutOfMemory) }
+{
+    let refusal = command.error(ErrorKind::InvalidSubcommand, "no such command")?;
+    Ok(refusal)
+}
+
 /// The refusal of a command that isn't there.
 fn unknown_command(alloc: Global) -> Result<Error, Error>
     ensures ok { IfOk result (λ e. kind_of e ≡ ErrorKind.InvalidSubcommand) }
     ensures err { IfErr result (λ e. kind_of e ≡ ErrorKind.OutOfMemory) }
 {
-    let mut command = nicbench(alloc)?;
-    let refusal = command.error(ErrorKind::InvalidSubcommand, "no such command")?;
-    Ok(refusal)
+    no_such_command(&mut nicbench(alloc)?)
 }
 
 /// What the matches of `eeprom` ask for.

@@ -1,5 +1,5 @@
 -- An instruction with what its names stand for.
-use Rattle.std.specs.Prelude.{◌≡◌, Result, Ok, Err}
+use Rattle.std.specs.Prelude.{◌≡◌, ⊤, Result, Ok, Err}
 use Rattle.std.specs.Fn.{FnOnceReturnsAt}
 use denote.Ref.{Bor}
 use denote.Param.Members.{Once}
@@ -44,3 +44,28 @@ try_map label string (JumpIfEqual word name) = label name then λ pc. Ok (JumpIf
 try_map label string (JumpUnlessEqual word name) = label name then λ pc. Ok (JumpUnlessEqual word pc)
 try_map label string (Jump name) = label name then λ pc. Ok (Jump pc)
 try_map label string Halt = Ok Halt
+
+-- it is one of those behind the instruction to transmit that name neither where they jump nor a data string
+abbrev pub IsLaterNameless : {L D : Type 0} → Instruction L D → Type 0
+IsLaterNameless (IntStep group) = ⊤
+IsLaterNameless (QueueStep direction queue) = ⊤
+IsLaterNameless EepromStep = ⊤
+IsLaterNameless (Link up) = ⊤
+IsLaterNameless Collect = ⊤
+IsLaterNameless (Expect want mask) = ⊤
+IsLaterNameless (And word) = ⊤
+IsLaterNameless Halt = ⊤
+IsLaterNameless _ = ⊥
+
+-- it names neither where it jumps nor a data string
+abbrev pub IsNameless : {L D : Type 0} → Instruction L D → Type 0
+IsNameless (Poke address name) = ⊥
+IsNameless (Arrive name) = ⊥
+IsNameless (JumpIfEqual word name) = ⊥
+IsNameless (JumpUnlessEqual word name) = ⊥
+IsNameless (Jump name) = ⊥
+IsNameless _ = ⊤
+
+-- the same instruction where it names nothing, else the one that it was
+abbrev pub without_names : {L D M N : Type 0} → Instruction L D → Result (Instruction M N) (Instruction L D)
+without_names instruction = try_map (λ _. Err instruction) (λ _. Err instruction) instruction

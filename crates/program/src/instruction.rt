@@ -1,7 +1,7 @@
 //! Instructions.
 
-ghost use Rattle.std.specs.Prelude.{◌≡◌, Result};
-ghost use Rattle.program.specs.Mapped.{AnswersBy, try_map};
+ghost use Rattle.std.specs.Prelude.{◌≡◌, Ok, Result};
+ghost use Rattle.program.specs.Mapped.{AnswersBy, IsLaterNameless, IsNameless, try_map, without_names};
 
 use dma_ring::Dir;
 use intr_unit::Group;
@@ -103,37 +103,8 @@ impl<L, D> Instruction<L, D> {
             → AnswersBy G.FnOnce string to_string → result ≡ try_map to_label to_string self.now }
     {
         match *self {
-            Instruction::Write(address, word) => Ok(Instruction::Write(address, word)),
-            Instruction::Read(address) => Ok(Instruction::Read(address)),
-            Instruction::VfWrite {
-                function,
-                offset,
-                word,
-            } => Ok(Instruction::VfWrite {
-                function,
-                offset,
-                word,
-            }),
-            Instruction::VfRead { function, offset } => Ok(Instruction::VfRead {
-                function,
-                offset,
-            }),
-            Instruction::Lend(block) => Ok(Instruction::Lend(block)),
-            Instruction::Unlend(block) => Ok(Instruction::Unlend(block)),
             Instruction::Poke(address, ref name) => Ok(Instruction::Poke(address, string(name)?)),
-            Instruction::Peek(address, word) => Ok(Instruction::Peek(address, word)),
             Instruction::Arrive(ref name) => Ok(Instruction::Arrive(string(name)?)),
-            Instruction::RxStep => Ok(Instruction::RxStep),
-            Instruction::TxStep(queue) => Ok(Instruction::TxStep(queue)),
-            Instruction::IntStep(group) => Ok(Instruction::IntStep(group)),
-            Instruction::QueueStep(direction, queue) => Ok(Instruction::QueueStep(
-                direction, queue,
-            )),
-            Instruction::EepromStep => Ok(Instruction::EepromStep),
-            Instruction::Link(up) => Ok(Instruction::Link(up)),
-            Instruction::Collect => Ok(Instruction::Collect),
-            Instruction::Expect { want, mask } => Ok(Instruction::Expect { want, mask }),
-            Instruction::And(word) => Ok(Instruction::And(word)),
             Instruction::JumpIfEqual(word, ref name) => Ok(Instruction::JumpIfEqual(
                 word,
                 label(name)?,
@@ -143,7 +114,51 @@ impl<L, D> Instruction<L, D> {
                 label(name)?,
             )),
             Instruction::Jump(ref name) => Ok(Instruction::Jump(label(name)?)),
-            Instruction::Halt => Ok(Instruction::Halt),
+            _ => Ok(self.nameless()),
+        }
+    }
+
+    /// The same instruction, which names neither where it jumps nor a data string.
+    fn nameless<M, N>(&self) -> Instruction<M, N>
+        requires { IsNameless self.now }
+        ensures { without_names self.now ≡ Ok result }
+    {
+        match *self {
+            Instruction::Write(address, word) => Instruction::Write(address, word),
+            Instruction::Read(address) => Instruction::Read(address),
+            Instruction::VfWrite {
+                function,
+                offset,
+                word,
+            } => Instruction::VfWrite {
+                function,
+                offset,
+                word,
+            },
+            Instruction::VfRead { function, offset } => Instruction::VfRead { function, offset },
+            Instruction::Lend(block) => Instruction::Lend(block),
+            Instruction::Unlend(block) => Instruction::Unlend(block),
+            Instruction::Peek(address, word) => Instruction::Peek(address, word),
+            Instruction::RxStep => Instruction::RxStep,
+            Instruction::TxStep(queue) => Instruction::TxStep(queue),
+            _ => self.later_nameless(),
+        }
+    }
+
+    /// The same, of the later ones.
+    fn later_nameless<M, N>(&self) -> Instruction<M, N>
+        requires { IsLaterNameless self.now }
+        ensures { without_names self.now ≡ Ok result }
+    {
+        match *self {
+            Instruction::IntStep(group) => Instruction::IntStep(group),
+            Instruction::QueueStep(direction, queue) => Instruction::QueueStep(direction, queue),
+            Instruction::EepromStep => Instruction::EepromStep,
+            Instruction::Link(up) => Instruction::Link(up),
+            Instruction::Collect => Instruction::Collect,
+            Instruction::Expect { want, mask } => Instruction::Expect { want, mask },
+            Instruction::And(word) => Instruction::And(word),
+            _ => Instruction::Halt,
         }
     }
 }

@@ -13,3 +13,4 @@ pub mod FirstViews
 pub mod InRange
 pub mod Naming
 pub mod Numbers
+pub mod InOrder

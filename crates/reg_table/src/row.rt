@@ -90,6 +90,7 @@ fn first_named(name: &str) -> Option<RowId>
 
 impl RowId {
     /// The row's place in the table, counted from 0.
+    #[inline(always)]
     pub(crate) fn number(self) -> u8
         ensures { result ≡ number_of self }
     {

@@ -1,12 +1,19 @@
 -- Harmless calls beside the driver's lead both halves on, and leave the queue alone.
-use Rattle.std.proofs.Common.{◌≡◌, Bool, true, false, List, [], ◌∷◌, ◌++◌, length, refl, sym, ap, ◌∙◌, subst, append_assoc, arith}
+use Rattle.std.proofs.Common.{◌≡◌, ℕ, Bool, true, false, not, ◌&&◌, Option, Some, None, List, [], ◌∷◌, ◌++◌, length, refl, sym, ap, ◌∙◌, subst, append_assoc, arith}
 use Rattle.std.specs.Prelude.{◌==◌, IsTrue}
 use Rattle.std.proofs.lemmas.Bool.{eqb-false}
 use Rattle.nic_device.specs.DmaArena.Block.{Block}
+use Rattle.nic_device.specs.RegTable.Place.{place_among}
+use Rattle.nic_device.specs.RegTable.Rows.{row_of}
+use Rattle.nic_device.specs.RegTable.Runs.{runs}
+use Rattle.nic_device.specs.RegTable.declared.place.Place.{Place}
+use Rattle.nic_device.specs.RegisterFile.Access.{asks_pool_reset}
+use Rattle.nic_device.specs.VfMap.Owner.{is_receive, is_transmit}
 use Rattle.nic_device.specs.VfMap.declared.mode.Mode.{Mode}
 use Rattle.nic_device.specs.declared.event.Event.{Event}
 use Rattle.nic_device.specs.declared.event.Event.TheVariants as event
-use Rattle.device_lock.specs.Alone.{Blocks, LeavesBlocks, LeavesRegisters, mode_after}
+use Rattle.nic_device.specs.declared.event.Port.TheVariants.{Pf, Vf}
+use Rattle.device_lock.specs.Alone.{Blocks, LeavesBlocks, LeavesRegisters, SparesIfSome, is_setting, mode_after}
 use Rattle.device_lock.specs.History.{call_in, calls_of}
 use Rattle.device_lock.specs.Pass.{call_of}
 use Rattle.device_lock.specs.declared.alone.Watched.{Watched}
@@ -17,7 +24,7 @@ use Rattle.pmd.specs.PmdSeam.Made.{AreSteps}
 use Rattle.pmd.specs.Halves.{AllOwn, Doer, OthersStep, doers_other, is_neither, played_by}
 use Rattle.pmd.proofs.Followed.{both_own, both_played, others_own, others_played, own_length}
 use Rattle.receive_laws.proofs.Histories.{calls_own, calls_other}
-use Rattle.driver_laws.specs.Beside.{AreHarmless, CallsAddHarmless, DrivesLead, HarmlessLead, HarmlessLeaveAlone, LeadsOn, OthersHarmless, StepsAddHarmless, is_harmless}
+use Rattle.driver_laws.specs.Beside.{AreHarmless, CallsAddHarmless, DrivesLead, HarmlessLead, HarmlessLeaveAlone, LeadsOn, OthersHarmless, StepsAddHarmless, is_harmless, spares_all}
 use Rattle.driver_laws.specs.Histories.{doer_of, doers_after}
 
 -- steps of the device are harmless
@@ -94,9 +101,28 @@ leads_on old mid new h j k (ds, ms, made, own, is, harmless) (es, ns, more, then
 
 -- no register that a queue rests on is written, and no block is touched
 
-left : (w : Watched) (mode : Mode) (mine : Blocks) (e : Event Block) → IsTrue (is_harmless e)
+four : (a b c d : Bool) → (not a && not b && not c && not d) ≡ true
+    → (a ≡ false) × (b ≡ false) × (c ≡ false) × (d ≡ false)
+four false false false false is = (refl, refl, refl, refl)
+four a b c d is = cc
+
+all_spared : (queue : ℕ) (mode : Mode) (o : Option Place) (word : ℕ) → IsTrue (spares_all o word)
+    → SparesIfSome queue mode o word
+all_spared queue mode None word is = tt
+all_spared queue mode (Some p) word is =
+    let (set, received, sent, reset) =
+    four (is_setting p.row) (is_receive p.row) (is_transmit p.row) (asks_pool_reset (row_of p.row).kind word) is in
+    record {
+      setting = set;
+      receive = λ is. cc;
+      transmit = λ is. cc;
+      pool = λ is. cc;
+    }
+
+pub left : (w : Watched) (mode : Mode) (mine : Blocks) (e : Event Block) → IsTrue (is_harmless e)
     → LeavesRegisters w mode e × LeavesBlocks mine e
-left w mode mine (event.Write port number word) is = cc
+left w mode mine (event.Write Pf number word) is = (all_spared w.queue mode (place_among runs number) word is, tt)
+left w mode mine (event.Write (Vf v) number word) is = cc
 left w mode mine (event.Lend block) is = cc
 left w mode mine (event.Take number) is = cc
 left w mode mine (event.Poke16 address bytes) is = cc

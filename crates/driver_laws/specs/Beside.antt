@@ -1,11 +1,18 @@
 -- What the driver's pass may make beside the calls of the driver's halves: events that leave every queue alone.
-use Rattle.std.specs.Prelude.{◌≡◌, Bool, true, false, ⊤, IsTrue, List, [], ◌∷◌, ◌++◌}
+use Rattle.std.specs.Prelude.{ℕ, ◌≡◌, Bool, true, false, not, ◌&&◌, ⊤, IsTrue, List, [], ◌∷◌, ◌++◌, Option, Some, None}
 use Rattle.nic_device.specs.DmaArena.Block.{Block}
+use Rattle.nic_device.specs.RegTable.Place.{place_among}
+use Rattle.nic_device.specs.RegTable.Rows.{row_of}
+use Rattle.nic_device.specs.RegTable.Runs.{runs}
+use Rattle.nic_device.specs.RegTable.declared.place.Place.{Place}
+use Rattle.nic_device.specs.RegisterFile.Access.{asks_pool_reset}
+use Rattle.nic_device.specs.VfMap.Owner.{is_receive, is_transmit}
 use Rattle.nic_device.specs.VfMap.declared.mode.Mode.{Mode}
 use Rattle.nic_device.specs.declared.event.Event.{Event}
 use Rattle.nic_device.specs.declared.event.Event.TheVariants as event
+use Rattle.nic_device.specs.declared.event.Port.TheVariants.{Pf, Vf}
 use Rattle.nic_device.specs.declared.event.Reply.{Reply}
-use Rattle.device_lock.specs.Alone.{Blocks}
+use Rattle.device_lock.specs.Alone.{Blocks, is_setting}
 use Rattle.device_lock.specs.History.{calls_of}
 use Rattle.device_lock.specs.declared.alone.Watched.{Watched}
 use Rattle.device_lock.specs.declared.entry.Call.{Call}
@@ -14,9 +21,19 @@ use Rattle.pmd.specs.PmdSeam.Made.{Adds, AddsSome}
 use Rattle.pmd.specs.Halves.{AllOwn, Doer, Drives, Halves, is_neither, played_by}
 use Rattle.driver_laws.specs.Histories.{OthersLeaveAlone}
 
--- whether an event writes no register, and lends, takes and pokes no block
+-- whether no queue rests on a register, whichever queue, where this word is written to it: it is no setting and of
+-- neither side of a queue, and the write asks for no reset of a pool. So it is where there is no register
+abbrev pub spares_all : Option Place → ℕ → Bool
+spares_all None word = true
+spares_all (Some p) word =
+    not (is_setting p.row) && not (is_receive p.row) && not (is_transmit p.row)
+    && not (asks_pool_reset (row_of p.row).kind word)
+
+-- whether an event writes no register that a queue rests on, by a number of the physical function, and none by one of a
+-- virtual function; and lends, takes and pokes no block
 abbrev pub is_harmless : Event Block → Bool
-is_harmless (event.Write port number word) = false
+is_harmless (event.Write Pf number word) = spares_all (place_among runs number) word
+is_harmless (event.Write (Vf v) offset word) = false
 is_harmless (event.Lend block) = false
 is_harmless (event.Take number) = false
 is_harmless (event.Poke16 address bytes) = false

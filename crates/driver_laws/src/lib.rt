@@ -48,11 +48,12 @@ pub fn enable_words_keep_the_agreement()
     ensures { EnableWordsKeep }
 {}
 
-/// Calls that write no register and lend, take and poke no block leave every queue alone, and both halves as they are:
-/// the steps of the device that the ways to a device make before the driver's calls, as these say of them, and those
-/// that the driver's own author makes through the same pass, such as the arrival of a frame. So nothing more is asked
-/// of a pass whose calls that are neither half's are such. A call through a way to a device adds such calls alone where
-/// its event is such, or where it is refused.
+/// Harmless calls leave every queue alone, and both halves as they are: they lend, take and poke no block, and write no
+/// register that a queue rests on, by a number of the physical function, and none by one of a virtual function. Such
+/// are the steps of the device that the ways to a device make before the driver's calls, as these say of them, and
+/// those that the driver's own author makes through the same pass, such as the arrival of a frame or a write of EIMS.
+/// So nothing more is asked of a pass whose calls that are neither half's are such. A call through a way to a device
+/// adds such calls alone where its event is such, or where it is refused.
 pub fn harmless_calls_leave_the_queue_alone()
     ensures called { CallsAddHarmless }
     ensures refused { StepsAddHarmless }

@@ -31,8 +31,8 @@ burst_finds : (failed : Option PmdFault) (given left : List Packet) (result : Re
     → met_by failed given left result made there new s x ≡ Some DeviceFault → FindsAmid r old new
 burst_finds None given left result old made new r there s drives finds x is =
     let (mid, later, both, f) =
-        subst (λ (met : Option PmdFault). IfSome met (λ g. FailedAmid g (is_own there.arena) made (halves_of there) new))
-        is x.amid in (
+    subst (λ (met : Option PmdFault). IfSome met (λ g. FailedAmid g (is_own there.arena) made (halves_of there) new))
+    is x.amid in (
       mid,
       later,
       both,

@@ -1,5 +1,5 @@
--- The calls of a driver's life write no register but the tails of its queue.
-use Rattle.std.proofs.Common.{◌≡◌, ℕ, true, List, [], ◌∷◌, refl, sym, subst}
+-- The calls of a driver's life are harmless, or write no register but the tails of its queue.
+use Rattle.std.proofs.Common.{◌≡◌, ◌⊎◌, inl, inr, ℕ, true, List, [], ◌∷◌, refl, sym, subst}
 use Rattle.std.specs.Prelude.{IsTrue}
 use Rattle.nic_device.specs.DmaArena.Block.{Block}
 use Rattle.nic_device.specs.declared.event.Event.{Event}
@@ -80,34 +80,33 @@ module _ (q : AtPort) where
       same_named port v.layout.port number v.layout.tail own.port_is own.number_is at
   receive_plain v e own at = tt
 
-  harmless_plain : (e : Event Block) → is_harmless e ≡ true → IsPlain q e
-  harmless_plain (event.Write port number word) is = cc
-  harmless_plain e is = tt
+  -- an event of a life
+  abbrev pub IsOfLife : Event Block → Type 0
+  IsOfLife e = IsPlain q e ⊎ IsTrue (is_harmless e)
 
   write_plain : (v : Sender) (m : Move) (port : Port) (number word : ℕ)
       → sending.IsOwn v m (event.Write port number word)
       → (IsTrue (is_neither (Sends m)) → IsTrue (is_harmless (event.Write port number word)))
-      → NamesDriven q v.layout.port v.layout.tail → NamesDriven q port number
+      → NamesDriven q v.layout.port v.layout.tail → IsOfLife (event.Write port number word)
   write_plain v Advances port number word (all, some, to, is, what) harmless at =
-      same_named port v.layout.port number v.layout.tail to is at
-  write_plain v Elsewhere port number word own harmless at =
-      harmless_plain (event.Write port number word) (harmless refl)
+      inl (same_named port v.layout.port number v.layout.tail to is at)
+  write_plain v Elsewhere port number word own harmless at = inr (harmless refl)
   write_plain v m port number word own harmless at = absurd own
 
   transmit_plain : (v : Sender) (m : Move) (e : Event Block) → sending.IsOwn v m e
       → (IsTrue (is_neither (Sends m)) → IsTrue (is_harmless e)) → NamesDriven q v.layout.port v.layout.tail
-      → IsPlain q e
+      → IsOfLife e
   transmit_plain v m (event.Write port number word) own harmless at = write_plain v m port number word own harmless at
-  transmit_plain v m e own harmless at = tt
+  transmit_plain v m e own harmless at = inl tt
 
   own_plain : (k : Halves) (d : Doer) (c : Call) → OwnCall k d c
       → (IsTrue (is_neither d) → IsTrue (is_harmless c.event))
-      → ArePlaced k → IsPlain q c.event
-  own_plain k Receives c own harmless x = receive_plain k.receive c.event own x.receive
+      → ArePlaced k → IsOfLife c.event
+  own_plain k Receives c own harmless x = inl (receive_plain k.receive c.event own x.receive)
   own_plain k (Sends m) c own harmless x = transmit_plain k.transmit m c.event own harmless x.transmit
 
   pub all_plain : (k : Halves) (doers : List Doer) (calls : List Call) → AllOwn k doers calls
-      → OthersHarmless doers calls → ArePlaced k → Each (λ c. IsPlain q c.event) calls
+      → OthersHarmless doers calls → ArePlaced k → Each (λ c. IsOfLife c.event) calls
   all_plain k [] [] own harmless x = tt
   all_plain k [] (c ∷ cs) own harmless x = absurd own
   all_plain k (d ∷ doers) [] own harmless x = absurd own

@@ -1,9 +1,13 @@
 -- What a driver handed out, over its stop and on.
-use Rattle.std.proofs.Common.{◌≢◌, ℕ, inl, List, [], ◌∷◌, ◌++◌, refl, sym, ◌∙◌, subst}
+use Rattle.std.proofs.Common.{◌≢◌, ℕ, inl, inr, false, List, [], ◌∷◌, ◌++◌, refl, sym, ◌∙◌, subst}
 use Rattle.std.proofs.lemmas.List.{append-nil}
 use Rattle.nic_device.specs.DmaRing.declared.dir.Dir.TheVariants.{Rx}
+use Rattle.nic_device.specs.DmaArena.Block.{Block}
 use Rattle.nic_device.specs.DmaArena.Numbers.{Numbers}
-use Rattle.nic_device.specs.State.{new_state}
+use Rattle.nic_device.specs.RegisterFile.Pools.{mode_in}
+use Rattle.nic_device.specs.State.{State, new_state}
+use Rattle.nic_device.specs.Step.{after}
+use Rattle.nic_device.specs.declared.event.Event.{Event}
 use Rattle.device_lock.specs.Alone.{lent_by}
 use Rattle.device_lock.specs.History.{leads_to}
 use Rattle.device_lock.specs.declared.alone.Watched.{Watched}
@@ -15,24 +19,38 @@ use Rattle.pmd.specs.PmdRx.Receive.{Receive}
 use Rattle.pmd.specs.PmdTx.Sending.{Sender}
 use Rattle.device_lock.proofs.Histories.{leads-append}
 use Rattle.start_laws.specs.Along.{AtEntries, IsAlong}
-use Rattle.start_laws.specs.Ending.{IsEnding, IsPlain, NamesDriven}
+use Rattle.start_laws.specs.Ending.{IsEnding, NamesDriven}
 use Rattle.start_laws.specs.Points.{HasGround}
 use Rattle.start_laws.specs.Start.{BeginsWell}
 use Rattle.start_laws.proofs.Reached.{reached, state_kept, state_leads}
 use Rattle.start_laws.proofs.Parts.{Parts}
 use Rattle.start_laws.proofs.Ending.{all_lead}
-use Rattle.start_laws.proofs.Ground.{plain_keeps, ground_kept}
+use Rattle.start_laws.proofs.Ground.{ground_kept, ground_same, plain_keeps}
+use Rattle.start_laws.proofs.ReceiveLaws.DeviceLaws.KeptSettings.{settings_stand}
+use Rattle.start_laws.proofs.ReceiveLaws.DeviceLaws.Standing.{stays_within}
+use Rattle.start_laws.proofs.HistoryLaws.Leaving.{left-setting}
 use Rattle.start_laws.proofs.Settled.{IsSettled}
 use Rattle.start_laws.proofs.Start.{ground_at, on_some}
 use Rattle.pmd.specs.Halves.{Halves}
+use Rattle.driver_laws.proofs.Beside.{left}
 use Rattle.driver_laws.proofs.InOrder.{led}
 use Rattle.pmd_laws.specs.Life.{IsLife}
 use Rattle.pmd_laws.specs.Order.{IsLived}
 use Rattle.pmd_laws.specs.Stopped.{HandedIsPrefix, IsStopping}
 use Rattle.pmd_laws.proofs.Lived.{lived_before}
 use Rattle.pmd_laws.proofs.Order.{driven, first, handed_of_life, in_parts, up, whole}
-use Rattle.pmd_laws.proofs.Plain.{ArePlaced, all_plain}
+use Rattle.pmd_laws.proofs.Plain.{ArePlaced, IsOfLife, all_plain}
 use Rattle.pmd_laws.proofs.HandedOn.{Keeps, ending_keeps, others_keep}
+
+-- an event of a life keeps what port and queue name, and the frame limit
+life_keeps : (queue : ℕ) (q : AtPort) (frame : ℕ) (s : State) (e : Event Block) → IsOfLife q e
+    → HasGround queue q frame s → HasGround queue q frame (after s e)
+life_keeps queue q frame s e (inl plain) g = plain_keeps queue q frame s e plain g
+life_keeps queue q frame s e (inr harmless) g =
+    let w : Watched = record { vfs = s.vfs; pass = 0; queue = queue } in
+    let spares = left w (mode_in s.registers) (λ (number : ℕ). false) e harmless in
+    let stay = settings_stand s e (left-setting w s refl e spares.0) in
+    ground_same queue q frame s (after s e) stay.mode (stays_within s e).vfs stay.limit g
 
 -- at the end of a life
 
@@ -55,11 +73,11 @@ module _ (w : Watched) (fifo : ℕ) (h : List Entry) (q : AtPort) (size frame : 
       let u = up w fifo h q size frame old a started r k x in
       let goes = whole w fifo h q size frame old a started r k x in
       let at = ground_at w fifo h q size frame old a started r u x.along x.begins in
-      all_lead w fifo h (λ done. HasGround w.queue q frame (reached w fifo done)) (λ c. IsPlain q c.event) x.along
+      all_lead w fifo h (λ done. HasGround w.queue q frame (reached w fifo done)) (λ c. IsOfLife q c.event) x.along
       (state_kept w fifo (lent_by w.pass h) (HasGround w.queue q frame) (ground_kept w (lent_by w.pass h) q frame))
       (λ c own.
       state_leads w fifo (lent_by w.pass h) c (HasGround w.queue q frame) (HasGround w.queue q frame)
-      (λ s met made told g. plain_keeps w.queue q frame s c.event own g))
+      (λ s met made told g. life_keeps w.queue q frame s c.event own g))
       goes.1 u.on.mid
       (all_plain q (first w fifo h q size frame old a started r k x) goes.0 goes.1 goes.3 goes.5 placed)
       (on_some w fifo h q size frame old a started r u x.along x.begins) at

@@ -37,11 +37,11 @@ pub fn calls_in_hand_are_a_history()
 {}
 
 /// Over a legal history of a new device that leaves the driver's queue alone, whose pass made the calls of a start that
-/// brought both rings up, and then calls of the two halves, beside harmless ones, which write no register and lend,
-/// take and poke no block: the packets that the driver handed out are a prefix of those delivered on its queue. Where a
-/// look that comes next finds none, all of them were handed out, or are whole and handed out as the tail moves on; and
-/// all were handed out where none is whole. The frames sent on it are a prefix of those that the driver accepted, and
-/// all of them where none is outstanding. Both are counted since the sides went on.
+/// brought both rings up, and then calls of the two halves, beside harmless ones, which lend, take and poke no block
+/// and write no register that a queue rests on: the packets that the driver handed out are a prefix of those delivered
+/// on its queue. Where a look that comes next finds none, all of them were handed out, or are whole and handed out as
+/// the tail moves on; and all were handed out where none is whole. The frames sent on it are a prefix of those that the
+/// driver accepted, and all of them where none is outstanding. Both are counted since the sides went on.
 pub fn life_in_order()
     ensures handed { HandedIsPrefix }
     ensures taken { NoneIsAllTaken }

@@ -1,6 +1,6 @@
 //! A controller that is set up, a driver of its queue 0, and frames.
 
-use crate::outcome::{Hand, done, refused};
+use crate::outcome::{Hand, done, refused, same};
 use nic_device::{Arena, Config, Device, Event, LentMemory, Mode, Octets, Parts, Port, Reply};
 use workers::{
     Calls, Direct, Home, Nic, Packet, Pmd, PmdFault, Setup, StopRefused, TxAnswer, pf_setup,
@@ -19,8 +19,10 @@ pub const PLAIN: Setup = Setup {
 /// How many calls there are, with those of idle steps.
 pub fn count_calls(calls: &Calls) -> usize {
     let (made, rested) = calls.kept();
-    let at_rest = made.iter().filter(|it| it.rested.is_some()).count();
-    let steps = at_rest.saturating_add(usize::from(rested.is_some()));
+    let mut steps = usize::from(rested.is_some());
+    for it in made {
+        steps = steps.saturating_add(usize::from(it.rested.is_some()));
+    }
     made.len().saturating_add(steps.saturating_mul(4))
 }
 
@@ -74,6 +76,11 @@ pub fn untouched(rt: &impl Hand, fifo: u16, queue: u16) -> Direct {
     Direct::new(rt.alloc(), device, queue)
 }
 
+/// A device that steps on queue 0 before each call.
+pub fn stepped(rt: &impl Hand, device: Device) -> Direct {
+    Direct::new(rt.alloc(), device, 0)
+}
+
 /// The same device, which is stepped on another queue from here on.
 pub fn stepped_on(rt: &impl Hand, direct: Direct, queue: u16) -> Direct {
     Direct::new(rt.alloc(), in_hand(direct), queue)
@@ -92,9 +99,20 @@ pub fn blocks(rt: &impl Hand) -> Arena {
 
 /// A driver of queue 0 with rings of 8.
 pub fn started<N: Nic>(rt: &impl Hand, nic: &mut N) -> Pmd {
+    started_with(rt, nic, 8, (4, 32))
+}
+
+/// A driver of queue 0 with rings of this size, and so many blocks from a number on.
+pub fn started_with<N: Nic>(
+    rt: &impl Hand,
+    nic: &mut N,
+    size: u16,
+    (first, count): (u32, u32),
+) -> Pmd {
+    let arena = done(rt, Arena::new(rt.alloc(), first, count));
     done(
         rt,
-        Pmd::start(rt.alloc(), nic, Port::Pf, 0, 8, 1518, blocks(rt)),
+        Pmd::start(rt.alloc(), nic, Port::Pf, 0, size, 1518, arena),
     )
 }
 
@@ -115,17 +133,23 @@ pub fn end(rt: &impl Hand, device: Device) -> Vec<(u8, Octets)> {
     frames
 }
 
-/// Sees that nothing is lost and all blocks are free. Answers how many packets were handed out and accepted.
-pub fn close(rt: &impl Hand, home: Home) -> (usize, usize) {
+/// What a driver leaves: its arena, and how many blocks were lost, packets handed out, and packets accepted.
+pub fn left_by(home: Home) -> (Arena, u32, usize, usize) {
     let Home {
         arena,
         lost,
         handed,
         accepted,
     } = home;
-    assert_eq!(rt; lost, 0);
+    (arena, lost, handed.len(), accepted.len())
+}
+
+/// Sees that nothing is lost and all blocks are free. Answers how many packets were handed out and accepted.
+pub fn close(rt: &impl Hand, home: Home) -> (usize, usize) {
+    let (arena, lost, handed, accepted) = left_by(home);
+    same(rt, lost as usize, 0);
     done(rt, arena.close());
-    (handed.len(), accepted.len())
+    (handed, accepted)
 }
 
 /// Makes an event that the device just does.
@@ -163,6 +187,21 @@ pub fn segment(rt: &impl Hand, number: u8) -> Vec<u8> {
     done(rt, Vec::from_array(rt.alloc(), frame))
 }
 
+/// The frames out are those of the numbers below this, in order.
+pub fn are_first_frames(rt: &impl Hand, frames: &[(u8, Octets)], count: u16) {
+    same(rt, frames.len(), usize::from(count));
+    let mut number: u16 = 0;
+    for (_queue, bytes) in frames {
+        is_frame(rt, bytes, number);
+        number = number.saturating_add(1);
+    }
+}
+
+/// These are the bytes of the frame of this number.
+pub fn is_frame(rt: &impl Hand, bytes: &Octets, number: u16) {
+    assert!(rt; bytes.bytes() == frame_of(rt, number).as_slice());
+}
+
 /// Whether these are the packet's bytes.
 pub fn has_bytes(packet: &Packet, frame: &[u8]) -> bool {
     let mut rest = frame;
@@ -190,19 +229,34 @@ pub fn send<N: Nic>(rt: &impl Hand, nic: &mut N, pmd: &mut Pmd, packet: Packet) 
     }
 }
 
+/// Gives a packet's blocks back to the driver.
+pub fn release(rt: &impl Hand, pmd: &mut Pmd, packet: Packet) {
+    done(rt, pmd.release(packet));
+}
+
+/// Reaps once. Answers whether no packet is outstanding.
+pub fn reap_once<N: Nic>(rt: &impl Hand, nic: &mut N, pmd: &mut Pmd) -> bool {
+    done(rt, pmd.reap(rt.alloc(), nic)).idle
+}
+
 /// Reaps until no packet is outstanding.
 pub fn reap<N: Nic>(rt: &impl Hand, nic: &mut N, pmd: &mut Pmd) {
     for _turn in 0..10 {
-        if done(rt, pmd.reap(rt.alloc(), nic)).idle {
+        if reap_once(rt, nic, pmd) {
             return;
         }
     }
     panic!(rt; "packets stay outstanding");
 }
 
+/// Stops a driver.
+pub fn stopped<N: Nic>(rt: &impl Hand, nic: &mut N, pmd: Pmd) -> Home {
+    done(rt, pmd.stop(rt.alloc(), nic))
+}
+
 /// Stops a driver, all of whose blocks come home. Answers how many packets were handed out and accepted.
 pub fn stop<N: Nic>(rt: &impl Hand, nic: &mut N, pmd: Pmd) -> (usize, usize) {
-    close(rt, done(rt, pmd.stop(rt.alloc(), nic)))
+    close(rt, stopped(rt, nic, pmd))
 }
 
 /// A driver whose queue doesn't go off when it is stopped, as nobody steps on it.

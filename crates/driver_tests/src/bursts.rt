@@ -1,8 +1,10 @@
 //! A driver that is asked for several packets at once, and is given several to send.
 
-use crate::bench::{arrive, end, frame_of, has_bytes, in_hand, opened, reap, started, stop};
-use crate::outcome::{Hand, done};
-use nic_device::{Arena, Event, Port};
+use crate::bench::{
+    are_first_frames, arrive, end, frame_of, has_bytes, in_hand, opened, reap, started_with, stop,
+};
+use crate::outcome::{Hand, done, same};
+use nic_device::{Event, Octets, Port};
 use std::collections::VecDeque;
 use workers::{Calls, Direct, Packet, Pmd};
 
@@ -14,94 +16,152 @@ const TDT: u32 = 0x6018;
 /// How many calls wrote a register of the physical function.
 fn writes(calls: &Calls, register: u32) -> usize {
     let (made, _rested) = calls.kept();
-    made.iter()
-        .filter(
-            |it| matches!(it.call.event, Event::Write(Port::Pf, number, _) if number == register),
-        )
-        .count()
+    let mut writes: usize = 0;
+    for it in made {
+        if matches!(it.call.event, Event::Write(Port::Pf, number, _) if number == register) {
+            writes = writes.saturating_add(1);
+        }
+    }
+    writes
 }
 
-/// The frames of these numbers arrive.
-fn arrive_all(rt: &impl Hand, direct: &mut Direct, first: u16, behind: u16) {
-    for number in first..behind {
-        arrive(rt, direct, frame_of(rt, number));
+/// A device, a driver of its queue 0, and the packets that it handed out and that weren't sent yet.
+struct Bursts {
+    direct: Direct,
+    pmd: Pmd,
+    packets: VecDeque<Packet>,
+}
+
+impl Bursts {
+    /// With rings of this size, and so many blocks from block 4 on.
+    fn new(rt: &impl Hand, size: u16, count: u32) -> Bursts {
+        let mut direct = opened(rt, 64, 0);
+        let pmd = started_with(rt, &mut direct, size, (4, count));
+        Bursts {
+            direct,
+            pmd,
+            packets: VecDeque::new(rt.alloc()),
+        }
+    }
+
+    /// The frames of these numbers arrive.
+    fn arrive(&mut self, rt: &impl Hand, first: u16, behind: u16) {
+        for number in first..behind {
+            arrive(rt, &mut self.direct, frame_of(rt, number));
+        }
+    }
+
+    /// How many packets a burst hands out, at most so many, behind the others.
+    fn received(&mut self, rt: &impl Hand, most: u16) -> u16 {
+        done(
+            rt,
+            self.pmd
+                .rx_burst(rt.alloc(), &mut self.direct, most, &mut self.packets),
+        )
+    }
+
+    /// How many of the packets a burst takes. Where fewer than so many slots are vacant, it frees what was sent.
+    fn sent(&mut self, rt: &impl Hand, vacant: u16) -> u16 {
+        done(
+            rt,
+            self.pmd
+                .tx_burst(rt.alloc(), &mut self.direct, vacant, &mut self.packets),
+        )
+    }
+
+    /// How many calls wrote a register of the physical function so far.
+    fn writes(&self, register: u32) -> usize {
+        writes(self.direct.calls(), register)
+    }
+
+    /// The packets are the frames from number 0 on, so many at most.
+    fn are_frames(&self, rt: &impl Hand, count: u16) {
+        for (number, packet) in (0..count).zip(self.packets.iter()) {
+            assert!(rt; has_bytes(packet, frame_of(rt, number).as_slice()));
+        }
+    }
+
+    /// Ends all, once each packet is sent. So many packets were handed out and accepted. Answers the frames out.
+    fn end(self, rt: &impl Hand, count: usize) -> Vec<(u8, Octets)> {
+        let Bursts {
+            mut direct,
+            mut pmd,
+            packets,
+        } = self;
+        assert!(rt; packets.is_empty());
+        packets.destroy_empty();
+        reap(rt, &mut direct, &mut pmd);
+        assert!(rt; stop(rt, &mut direct, pmd) == (count, count));
+        let frames = end(rt, in_hand(direct));
+        same(rt, frames.len(), count);
+        frames
     }
 }
 
-/// How many packets a burst hands out, at most so many, behind the others.
-fn received(
-    rt: &impl Hand,
-    direct: &mut Direct,
-    pmd: &mut Pmd,
-    most: u16,
-    packets: &mut VecDeque<Packet>,
-) -> u16 {
-    done(rt, pmd.rx_burst(rt.alloc(), direct, most, packets))
-}
-
-/// How many of the packets a burst takes. Where fewer than so many slots are vacant, it frees what was sent.
-fn sent(
-    rt: &impl Hand,
-    direct: &mut Direct,
-    pmd: &mut Pmd,
-    vacant: u16,
-    packets: &mut VecDeque<Packet>,
-) -> u16 {
-    done(rt, pmd.tx_burst(rt.alloc(), direct, vacant, packets))
-}
-
-/// Lets a list go, all of whose packets were sent.
-fn emptied(rt: &impl Hand, packets: VecDeque<Packet>) {
-    assert!(rt; packets.is_empty());
-    packets.destroy_empty();
+/// The first 40 packets come by bursts of 32 at most: each that hands packets out writes the tail once.
+fn forty_come(rt: &impl Hand, bursts: &mut Bursts) {
+    bursts.arrive(rt, 0, 40);
+    let before = bursts.writes(RDT);
+    same(rt, usize::from(bursts.received(rt, 32)), 32);
+    same(rt, bursts.writes(RDT), before.saturating_add(1));
+    same(rt, usize::from(bursts.received(rt, 32)), 8);
+    same(rt, usize::from(bursts.received(rt, 32)), 0);
+    same(rt, bursts.writes(RDT), before.saturating_add(2));
 }
 
 #[test]
 fn packets_come_and_go_by_bursts_with_one_tail_write_each(rt: HostRuntime) {
-    let mut direct = opened(&rt, 64, 0);
-    let arena = done(&rt, Arena::new(rt.alloc(), 4, 128));
-    let start = Pmd::start(rt.alloc(), &mut direct, Port::Pf, 0, 64, 1518, arena);
-    let mut pmd = done(&rt, start);
-    let mut packets = VecDeque::new(rt.alloc());
-    arrive_all(&rt, &mut direct, 0, 40);
-    let before = writes(direct.calls(), RDT);
-    assert_eq!(rt; received(&rt, &mut direct, &mut pmd, 32, &mut packets), 32);
-    assert_eq!(rt; writes(direct.calls(), RDT), before.saturating_add(1));
-    assert_eq!(rt; received(&rt, &mut direct, &mut pmd, 32, &mut packets), 8);
-    assert_eq!(rt; received(&rt, &mut direct, &mut pmd, 32, &mut packets), 0);
-    assert_eq!(rt; writes(direct.calls(), RDT), before.saturating_add(2));
-    for (number, packet) in (0..40).zip(packets.iter()) {
-        assert!(rt; has_bytes(packet, frame_of(&rt, number).as_slice()));
-    }
-    let before = writes(direct.calls(), TDT);
-    assert_eq!(rt; sent(&rt, &mut direct, &mut pmd, 0, &mut packets), 40);
-    assert_eq!(rt; writes(direct.calls(), TDT), before.saturating_add(1));
-    emptied(&rt, packets);
-    reap(&rt, &mut direct, &mut pmd);
-    assert!(rt; stop(&rt, &mut direct, pmd) == (40, 40));
-    let frames = end(&rt, in_hand(direct));
-    assert_eq!(rt; frames.len(), 40);
-    for (number, (_queue, bytes)) in (0..40).zip(frames.iter()) {
-        assert!(rt; bytes.bytes() == frame_of(&rt, number).as_slice());
+    let rt = &rt;
+    let mut bursts = Bursts::new(rt, 64, 128);
+    forty_come(rt, &mut bursts);
+    bursts.are_frames(rt, 40);
+    let before = bursts.writes(TDT);
+    same(rt, usize::from(bursts.sent(rt, 0)), 40);
+    same(rt, bursts.writes(TDT), before.saturating_add(1));
+    are_first_frames(rt, bursts.end(rt, 40).as_slice(), 40);
+}
+
+/// What is done by bursts: frames of these numbers arrive; a burst hands out so many packets at most; it sends, and
+/// frees what was sent where fewer than so many slots are vacant.
+#[derive(Clone, Copy)]
+enum Step {
+    Arrive(u16, u16),
+    Receive(u16),
+    Send(u16),
+}
+
+/// What is done, and how many packets the burst then tells of.
+const STEPS: [(Step, u16); 8] = [
+    (Step::Arrive(0, 3), 0),
+    (Step::Receive(7), 3),
+    (Step::Send(0), 3),
+    (Step::Arrive(3, 9), 0),
+    (Step::Receive(7), 6),
+    (Step::Send(0), 4),
+    (Step::Send(0), 0),
+    (Step::Send(1), 2),
+];
+
+/// Does it. Answers how many packets the burst tells of.
+fn make_step(rt: &impl Hand, bursts: &mut Bursts, step: Step) -> u16 {
+    match step {
+        Step::Arrive(first, behind) => {
+            bursts.arrive(rt, first, behind);
+            0
+        }
+        Step::Receive(most) => bursts.received(rt, most),
+        Step::Send(vacant) => bursts.sent(rt, vacant),
     }
 }
 
 /// Rings of 8: seven packets may be outstanding, and three are, which went out.
 #[test]
 fn a_burst_frees_what_was_sent_where_too_few_slots_are_vacant(rt: HostRuntime) {
-    let mut direct = opened(&rt, 64, 0);
-    let mut pmd = started(&rt, &mut direct);
-    let mut packets = VecDeque::new(rt.alloc());
-    arrive_all(&rt, &mut direct, 0, 3);
-    assert_eq!(rt; received(&rt, &mut direct, &mut pmd, 7, &mut packets), 3);
-    assert_eq!(rt; sent(&rt, &mut direct, &mut pmd, 0, &mut packets), 3);
-    arrive_all(&rt, &mut direct, 3, 9);
-    assert_eq!(rt; received(&rt, &mut direct, &mut pmd, 7, &mut packets), 6);
-    assert_eq!(rt; sent(&rt, &mut direct, &mut pmd, 0, &mut packets), 4);
-    assert_eq!(rt; sent(&rt, &mut direct, &mut pmd, 0, &mut packets), 0);
-    assert_eq!(rt; sent(&rt, &mut direct, &mut pmd, 1, &mut packets), 2);
-    emptied(&rt, packets);
-    reap(&rt, &mut direct, &mut pmd);
-    assert!(rt; stop(&rt, &mut direct, pmd) == (9, 9));
-    assert_eq!(rt; end(&rt, in_hand(direct)).len(), 9);
+    let rt = &rt;
+    let mut bursts = Bursts::new(rt, 8, 32);
+    for (done, wanted) in STEPS {
+        let told = make_step(rt, &mut bursts, done);
+        same(rt, usize::from(told), usize::from(wanted));
+    }
+    bursts.end(rt, 9);
 }

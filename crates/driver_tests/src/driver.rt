@@ -1,27 +1,26 @@
 //! A driver over a device in hand, from its start to its stop.
 
 use crate::bench::{
-    PLAIN, TCP_FRAME, Why, arrive, blocks, close, end, frame_of, has_bytes, in_hand, opened, reap,
-    reason, received, send, set_up, started, stepped_on, stop, stop_times_out,
+    PLAIN, TCP_FRAME, Why, are_first_frames, blocks, close, end, has_bytes, in_hand, left_by,
+    opened, reason, release, set_up, stepped_on, stop, stop_times_out, stopped,
 };
 use crate::interleaved::{unstepped, without_blocks};
-use crate::outcome::{Hand, done, none, refused, some};
-use nic_device::{Arena, Event, Mode, Port, Reply};
-use workers::{Bufs, Direct, Home, Nic, Packet, Pmd, PmdFault, Rest, Setup, StartRefused, TxFault};
+use crate::outcome::{Hand, done, holds, none, refused, same, some};
+use crate::rig::Rig;
+use nic_device::{Arena, Buf, Event, Mode, Port, Reply};
+use workers::{Bufs, Direct, Nic, Packet, Pmd, Rest, Setup, StartRefused, TxFault};
 
 #[test]
 fn a_frame_is_received_and_sent_again(rt: HostRuntime) {
-    let mut direct = opened(&rt, 64, 0);
-    let mut pmd = started(&rt, &mut direct);
-    let frame = done(&rt, Vec::from_array(rt.alloc(), TCP_FRAME));
-    arrive(&rt, &mut direct, frame);
-    let packet = some(&rt, received(&rt, &mut direct, &mut pmd));
+    let rt = &rt;
+    let mut rig = Rig::new(rt, 8, (4, 32));
+    rig.arrive(rt, done(rt, Vec::from_array(rt.alloc(), TCP_FRAME)));
+    let packet = some(rt, rig.received(rt));
     assert!(rt; has_bytes(&packet, &TCP_FRAME));
-    none(&rt, received(&rt, &mut direct, &mut pmd));
-    send(&rt, &mut direct, &mut pmd, packet);
-    reap(&rt, &mut direct, &mut pmd);
-    assert!(rt; stop(&rt, &mut direct, pmd) == (1, 1));
-    let frames = end(&rt, in_hand(direct));
+    none(rt, rig.received(rt));
+    rig.send(rt, packet);
+    rig.reap(rt);
+    let frames = rig.end(rt, (1, 1));
     assert_eq!(rt; frames.len(), 1);
     assert!(rt; frames[0].1.bytes() == &TCP_FRAME[..]);
 }
@@ -33,9 +32,8 @@ const PUBLISHED_KEY: [u8; 40] = [
     0x6a, 0x42, 0xb7, 0x3b, 0xbe, 0xac, 0x01, 0xfa,
 ];
 
-/// With 16 pools a virtual function has eight queues, among which a frame's entry of the redirection table chooses.
-#[test]
-fn the_sixth_queue_of_a_function_receives_by_the_hash(rt: HostRuntime) {
+/// A device of 16 pools, and a driver of the sixth queue of the virtual function, for which each frame is.
+fn sixth_queue(rt: &impl Hand) -> Rig {
     let setup = Setup {
         mode: Mode::Pools16,
         mrqc: 0x0001_000B,
@@ -43,54 +41,33 @@ fn the_sixth_queue_of_a_function_receives_by_the_hash(rt: HostRuntime) {
         reta: [5; 128],
         ..PLAIN
     };
-    let mut direct = set_up(&rt, 64, 5, &setup);
-    let start = Pmd::start(
-        rt.alloc(),
-        &mut direct,
-        Port::Vf(0),
-        5,
-        8,
-        1518,
-        blocks(&rt),
-    );
-    let mut pmd = done(&rt, start);
-    let frame = done(&rt, Vec::from_array(rt.alloc(), TCP_FRAME));
-    arrive(&rt, &mut direct, frame);
-    let packet = some(&rt, received(&rt, &mut direct, &mut pmd));
-    assert!(rt; has_bytes(&packet, &TCP_FRAME));
-    assert!(rt; (packet.rss, packet.hash) == (1, 0x51cc_c178));
-    done(&rt, pmd.release(packet));
-    assert!(rt; stop(&rt, &mut direct, pmd) == (1, 0));
-    end(&rt, in_hand(direct));
+    let mut direct = set_up(rt, 64, 5, &setup);
+    let start = Pmd::start(rt.alloc(), &mut direct, Port::Vf(0), 5, 8, 1518, blocks(rt));
+    let pmd = done(rt, start);
+    Rig { direct, pmd }
 }
 
-/// Five frames from this number on come, are handed out in order, and are sent again.
-fn five_frames(rt: &impl Hand, direct: &mut Direct, pmd: &mut Pmd, first: u16) {
-    for number in first..first.saturating_add(5) {
-        arrive(rt, direct, frame_of(rt, number));
-    }
-    for number in first..first.saturating_add(5) {
-        let packet = some(rt, received(rt, direct, pmd));
-        assert!(rt; has_bytes(&packet, frame_of(rt, number).as_slice()));
-        send(rt, direct, pmd, packet);
-    }
-    reap(rt, direct, pmd);
+/// With 16 pools a virtual function has eight queues, among which a frame's entry of the redirection table chooses.
+#[test]
+fn the_sixth_queue_of_a_function_receives_by_the_hash(rt: HostRuntime) {
+    let rt = &rt;
+    let mut rig = sixth_queue(rt);
+    rig.arrive(rt, done(rt, Vec::from_array(rt.alloc(), TCP_FRAME)));
+    let packet = some(rt, rig.received(rt));
+    assert!(rt; has_bytes(&packet, &TCP_FRAME));
+    assert!(rt; (packet.rss, packet.hash) == (1, 0x51cc_c178));
+    release(rt, &mut rig.pmd, packet);
+    rig.end(rt, (1, 0));
 }
 
 #[test]
 fn two_hundred_frames_go_through_a_ring_of_eight(rt: HostRuntime) {
-    let mut direct = opened(&rt, 64, 0);
-    let mut pmd = started(&rt, &mut direct);
-    for first in (0..200_u16).step_by(5) {
-        five_frames(&rt, &mut direct, &mut pmd, first);
-    }
-    assert_eq!(rt; pmd.handed().len(), 200);
-    assert!(rt; stop(&rt, &mut direct, pmd) == (200, 200));
-    let frames = end(&rt, in_hand(direct));
-    assert_eq!(rt; frames.len(), 200);
-    for (number, (_port, bytes)) in (0..200_u16).zip(frames.iter()) {
-        assert!(rt; bytes.bytes() == frame_of(&rt, number).as_slice());
-    }
+    let rt = &rt;
+    let mut rig = Rig::new(rt, 8, (4, 32));
+    rig.frames(rt, 200);
+    same(rt, rig.pmd.handed().len(), 200);
+    let frames = rig.end(rt, (200, 200));
+    are_first_frames(rt, frames.as_slice(), 200);
 }
 
 /// How many blocks are free, so many at most.
@@ -101,7 +78,7 @@ pub fn free_blocks(rt: &impl Hand, pmd: &mut Pmd, most: u32) -> u32 {
     match pmd.packet(60) {
         Some(packet) => {
             let more = free_blocks(rt, pmd, most - 1);
-            done(rt, pmd.release(packet));
+            release(rt, pmd, packet);
             more.saturating_add(1)
         }
         None => 0,
@@ -111,34 +88,23 @@ pub fn free_blocks(rt: &impl Hand, pmd: &mut Pmd, most: u32) -> u32 {
 /// Each ring has two blocks, and 255 are posted. The frames go round both rings more than twice.
 #[test]
 fn six_hundred_frames_go_through_a_ring_of_256(rt: HostRuntime) {
-    let mut direct = opened(&rt, 64, 0);
-    let arena = done(&rt, Arena::new(rt.alloc(), 0, 320));
-    let start = Pmd::start(rt.alloc(), &mut direct, Port::Pf, 0, 256, 1518, arena);
-    let mut pmd = done(&rt, start);
-    assert_eq!(rt; free_blocks(&rt, &mut pmd, 100), 61);
-    for first in (0..600_u16).step_by(5) {
-        five_frames(&rt, &mut direct, &mut pmd, first);
-    }
-    assert_eq!(rt; free_blocks(&rt, &mut pmd, 100), 61);
-    assert!(rt; stop(&rt, &mut direct, pmd) == (600, 600));
-    let frames = end(&rt, in_hand(direct));
-    assert_eq!(rt; frames.len(), 600);
-    for (number, (_port, bytes)) in (0..600_u16).zip(frames.iter()) {
-        assert!(rt; bytes.bytes() == frame_of(&rt, number).as_slice());
-    }
+    let rt = &rt;
+    let mut rig = Rig::new(rt, 256, (0, 320));
+    same(rt, free_blocks(rt, &mut rig.pmd, 100) as usize, 61);
+    rig.frames(rt, 600);
+    same(rt, free_blocks(rt, &mut rig.pmd, 100) as usize, 61);
+    let frames = rig.end(rt, (600, 600));
+    are_first_frames(rt, frames.as_slice(), 600);
 }
 
 /// The longest rings have eight blocks each.
 #[test]
 fn five_frames_go_through_a_ring_of_1024(rt: HostRuntime) {
-    let mut direct = opened(&rt, 64, 0);
-    let arena = done(&rt, Arena::new(rt.alloc(), 0, 1048));
-    let start = Pmd::start(rt.alloc(), &mut direct, Port::Pf, 0, 1024, 1518, arena);
-    let mut pmd = done(&rt, start);
-    assert_eq!(rt; free_blocks(&rt, &mut pmd, 100), 9);
-    five_frames(&rt, &mut direct, &mut pmd, 0);
-    assert!(rt; stop(&rt, &mut direct, pmd) == (5, 5));
-    end(&rt, in_hand(direct));
+    let rt = &rt;
+    let mut rig = Rig::new(rt, 1024, (0, 1048));
+    same(rt, free_blocks(rt, &mut rig.pmd, 100) as usize, 9);
+    rig.frames(rt, 5);
+    rig.end(rt, (5, 5));
 }
 
 /// What is stepped before each call.
@@ -148,10 +114,12 @@ enum Steps {
     Nothing,
 }
 
-/// Starts on queue 0 that are refused: by what name, what is stepped, the size of a ring, the blocks, as first and
+/// A start on queue 0 that is refused: by what name, what is stepped, the size of a ring, the blocks, as first and
 /// count, why, and whether blocks are lent by then.
+type Start<'a> = (&'a str, Steps, u16, (u32, u32), Why, bool);
+
 #[rattlefmt::skip]
-const STARTS: [(&str, Steps, u16, (u32, u32), Why, bool); 7] = [
+const STARTS: [Start<'static>; 7] = [
     ("a ring of twelve is of no size", Steps::OnQueue(0), 12, (4, 32), Why::BadSize, false),
     ("a ring of 1,032 is of no size", Steps::OnQueue(0), 1032, (0, 2048), Why::BadSize, false),
     ("258 blocks are too few for a ring of 256", Steps::OnQueue(0), 256, (0, 258), Why::NoBuffer, false),
@@ -161,109 +129,151 @@ const STARTS: [(&str, Steps, u16, (u32, u32), Why, bool); 7] = [
     ("a queue that is never stepped", Steps::Nothing, 8, (4, 32), Why::StartTimeout, true),
 ];
 
-/// A start that is refused. What is left of it comes home. Answers why, and whether blocks were lent.
+/// A start that is refused.
 fn refused_start<N: Nic>(
     rt: &impl Hand,
     nic: &mut N,
     size: u16,
     (first, count): (u32, u32),
-) -> (PmdFault, bool) {
+) -> StartRefused {
     let arena = done(rt, Arena::new(rt.alloc(), first, count));
-    let start = Pmd::start(rt.alloc(), nic, Port::Pf, 0, size, 1518, arena);
-    let StartRefused { fault, rest } = refused(rt, start);
-    let (home, is_lent) = match rest {
-        Rest::Home(home) => (home, false),
-        Rest::Running(pmd) => (done(rt, pmd.stop(rt.alloc(), nic)), true),
-    };
-    assert!(rt; close(rt, home) == (0, 0));
-    (fault, is_lent)
+    refused(
+        rt,
+        Pmd::start(rt.alloc(), nic, Port::Pf, 0, size, 1518, arena),
+    )
 }
 
-#[test]
-fn a_start_is_refused(rt: HostRuntime) {
-    for (name, steps, size, numbers, wanted, is_lent) in STARTS {
-        let (fault, was_lent) = match steps {
-            Steps::OnQueue(queue) => {
-                let mut direct = opened(&rt, 64, queue);
-                let answer = refused_start(&rt, &mut direct, size, numbers);
-                end(&rt, in_hand(direct));
-                answer
-            }
-            Steps::Nothing => {
-                let mut nic = unstepped(&rt, in_hand(opened(&rt, 64, 0)));
-                let answer = refused_start(&rt, &mut nic, size, numbers);
-                end(&rt, without_blocks(&rt, nic));
-                answer
-            }
-        };
-        assert!(rt; reason(&fault) == wanted && was_lent == is_lent, "{name}");
+/// What is left of it comes home. Answers why it is refused, and whether blocks were lent.
+fn come_home<N: Nic>(rt: &impl Hand, nic: &mut N, refusal: StartRefused) -> (Why, bool) {
+    let StartRefused { fault, rest } = refusal;
+    let (packets, is_lent) = match rest {
+        Rest::Home(home) => (close(rt, home), false),
+        Rest::Running(pmd) => (stop(rt, nic, pmd), true),
+    };
+    assert!(rt; packets == (0, 0));
+    (reason(&fault), is_lent)
+}
+
+/// Why a start beside such steps is refused, and whether blocks were lent.
+fn start_beside(rt: &impl Hand, steps: Steps, size: u16, numbers: (u32, u32)) -> (Why, bool) {
+    match steps {
+        Steps::OnQueue(queue) => {
+            let mut direct = opened(rt, 64, queue);
+            let refusal = refused_start(rt, &mut direct, size, numbers);
+            let answer = come_home(rt, &mut direct, refusal);
+            end(rt, in_hand(direct));
+            answer
+        }
+        Steps::Nothing => {
+            let mut nic = unstepped(rt, in_hand(opened(rt, 64, 0)));
+            let refusal = refused_start(rt, &mut nic, size, numbers);
+            let answer = come_home(rt, &mut nic, refusal);
+            end(rt, without_blocks(rt, nic));
+            answer
+        }
+    }
+}
+
+/// Each of these starts is refused as its row says.
+fn check_starts(rt: &impl Hand, rows: &[Start<'_>]) {
+    for (name, steps, size, numbers, wanted, is_lent) in rows {
+        let (why, was_lent) = start_beside(rt, *steps, *size, *numbers);
+        holds(rt, name, "refused", why == *wanted && was_lent == *is_lent);
     }
 }
 
 #[test]
-fn a_packet_of_another_arena_comes_back(rt: HostRuntime) {
-    let mut direct = opened(&rt, 64, 0);
-    let mut pmd = started(&rt, &mut direct);
-    let mut other = done(&rt, Arena::new(rt.alloc(), 100, 1));
-    let packet = Packet {
-        bufs: Bufs::of(some(&rt, other.take())),
-        len: 60,
-        rss: 0,
-        hash: 0,
-    };
-    let TxFault { fault, packet } = refused(&rt, pmd.tx(rt.alloc(), &mut direct, packet));
+fn a_start_is_refused(rt: HostRuntime) {
+    check_starts(&rt, &STARTS);
+}
+
+/// The driver refuses to send a packet whose block isn't its own. It comes back.
+fn foreign_sent(rt: &impl Hand, rig: &mut Rig, packet: Packet) -> Packet {
+    let sent = rig.pmd.tx(rt.alloc(), &mut rig.direct, packet);
+    let TxFault { fault, packet } = refused(rt, sent);
     assert!(rt; reason(&fault) == Why::ForeignBlock);
+    some(rt, packet)
+}
+
+/// Nor does it take it back. Answers the one block of the packet.
+fn foreign_released(rt: &impl Hand, pmd: &mut Pmd, packet: Packet) -> Buf {
     let Packet {
         mut bufs,
         len: _,
         rss: _,
         hash: _,
-    } = refused(&rt, pmd.release(some(&rt, packet)));
-    done(&rt, other.give(some(&rt, bufs.take_first())));
+    } = refused(rt, pmd.release(packet));
+    let first = some(rt, bufs.take_first());
     match bufs.take_first() {
         None => bufs.finish(),
         Some(_buf) => panic!(rt; "a second Buf"),
     }
-    done(&rt, other.close());
-    assert!(rt; stop(&rt, &mut direct, pmd) == (0, 0));
-    end(&rt, in_hand(direct));
+    first
+}
+
+#[test]
+fn a_packet_of_another_arena_comes_back(rt: HostRuntime) {
+    let rt = &rt;
+    let mut rig = Rig::new(rt, 8, (4, 32));
+    let mut other = done(rt, Arena::new(rt.alloc(), 100, 1));
+    let packet = Packet {
+        bufs: Bufs::of(some(rt, other.take())),
+        len: 60,
+        rss: 0,
+        hash: 0,
+    };
+    let packet = foreign_sent(rt, &mut rig, packet);
+    let block = foreign_released(rt, &mut rig.pmd, packet);
+    done(rt, other.give(block));
+    done(rt, other.close());
+    rig.end(rt, (0, 0));
+}
+
+/// The driver answers that it doesn't run, and still makes packets and takes them back.
+fn runs_no_more(rt: &impl Hand, direct: &mut Direct, pmd: &mut Pmd) {
+    let fault = refused(rt, pmd.rx(rt.alloc(), direct));
+    assert!(rt; reason(&fault) == Why::DeviceFault);
+    let packet = some(rt, pmd.packet(60));
+    release(rt, pmd, packet);
 }
 
 /// The device is stepped on another queue for a while: the first stop finds that the queue doesn't go off, the second
 /// one succeeds. In between the driver answers that it doesn't run, and still makes packets and takes them back.
 #[test]
 fn a_stop_that_was_refused_is_tried_again(rt: HostRuntime) {
-    let mut direct = opened(&rt, 64, 0);
-    let pmd = started(&rt, &mut direct);
-    let mut direct = stepped_on(&rt, direct, 5);
-    let mut pmd = stop_times_out(&rt, &mut direct, pmd);
-    let fault = refused(&rt, pmd.rx(rt.alloc(), &mut direct));
-    assert!(rt; reason(&fault) == Why::DeviceFault);
-    let packet = some(&rt, pmd.packet(60));
-    done(&rt, pmd.release(packet));
-    let mut direct = stepped_on(&rt, direct, 0);
-    assert!(rt; stop(&rt, &mut direct, pmd) == (0, 0));
-    end(&rt, in_hand(direct));
+    let rt = &rt;
+    let Rig { direct, pmd } = Rig::new(rt, 8, (4, 32));
+    let mut direct = stepped_on(rt, direct, 5);
+    let mut pmd = stop_times_out(rt, &mut direct, pmd);
+    runs_no_more(rt, &mut direct, &mut pmd);
+    let direct = stepped_on(rt, direct, 0);
+    Rig { direct, pmd }.end(rt, (0, 0));
+}
+
+/// Takes a block that is lent to a device in hand.
+fn taken(rt: &impl Hand, direct: &mut Direct, block: u32) -> Buf {
+    match done(rt, direct.call(rt.alloc(), Event::Take(block))) {
+        Reply::Buf(buf) => buf,
+        _other => panic!(rt; "the block isn't lent"),
+    }
+}
+
+/// Stops a driver that handed out and accepted nothing, and loses one block. Answers the arena.
+fn stop_with_a_loss(rt: &impl Hand, direct: &mut Direct, pmd: Pmd) -> Arena {
+    let (arena, lost, handed, accepted) = left_by(stopped(rt, direct, pmd));
+    same(rt, lost as usize, 1);
+    same(rt, handed.saturating_add(accepted), 0);
+    arena
 }
 
 /// A block is taken from the device behind the driver's back: it is lost, and all others come home.
 #[test]
 fn a_block_that_is_gone_is_lost(rt: HostRuntime) {
-    let mut direct = opened(&rt, 64, 0);
-    let pmd = started(&rt, &mut direct);
-    let gone = match done(&rt, direct.call(rt.alloc(), Event::Take(9))) {
-        Reply::Buf(buf) => buf,
-        _other => panic!(rt; "the block isn't lent"),
-    };
-    let Home {
-        mut arena,
-        lost,
-        handed,
-        accepted,
-    } = done(&rt, pmd.stop(rt.alloc(), &mut direct));
-    assert_eq!(rt; lost, 1);
-    assert_eq!(rt; handed.len() + accepted.len(), 0);
-    done(&rt, arena.give(gone));
-    done(&rt, arena.close());
-    end(&rt, in_hand(direct));
+    let rt = &rt;
+    let Rig { mut direct, pmd } = Rig::new(rt, 8, (4, 32));
+    let gone = taken(rt, &mut direct, 9);
+    let mut arena = stop_with_a_loss(rt, &mut direct, pmd);
+    done(rt, arena.give(gone));
+    done(rt, arena.close());
+    end(rt, in_hand(direct));
 }

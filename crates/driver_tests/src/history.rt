@@ -1,7 +1,8 @@
 //! The calls on a device in hand as a history: a driver of queue 0 made some of them, and others the rest.
 
 use crate::outcome::{Hand, done};
-use workers::{Call, Entry, Watched, left_alone};
+use nic_device::Device;
+use workers::{Call, Direct, Entry, Watched, left_alone};
 
 /// The pass of the driver.
 pub const DRIVER: u8 = 0;
@@ -20,6 +21,20 @@ pub fn add_calls(rt: &impl Hand, history: &mut Vec<Entry>, pass: u8, calls: Vec<
     for call in calls {
         add_call(rt, history, pass, call);
     }
+}
+
+/// Puts entries behind a history.
+pub fn add_entries(rt: &impl Hand, history: &mut Vec<Entry>, entries: Vec<Entry>) {
+    for entry in entries {
+        done(rt, history.push(entry));
+    }
+}
+
+/// Ends a way to a device by which one pass made all calls, and puts these behind a history.
+pub fn finished(rt: &impl Hand, history: &mut Vec<Entry>, pass: u8, direct: Direct) -> Device {
+    let (device, calls) = direct.finish();
+    add_calls(rt, history, pass, done(rt, calls.into_vec(rt.alloc())));
+    device
 }
 
 /// Puts calls behind a history. The marked ones are the driver's.

@@ -1,16 +1,18 @@
 //! A driver whose queue others don't leave alone: nothing is promised of its packets, and it still comes to its end.
 
-use crate::bench::{PLAIN, frame_of, in_hand, make, set_up, started, taken_apart};
+use crate::bench::{
+    PLAIN, frame_of, in_hand, left_by, make, release, set_up, started, stepped, stopped,
+    taken_apart,
+};
 use crate::deeds::At::{self, Buffer, Free, Receive, Ring, Transmit, Zero};
 use crate::deeds::Deed::{self, Fills, Lends, Names, Receives, Sends, Takes, Writes};
 use crate::deeds::{Doing, Rings};
-use crate::history::{DRIVER, OTHERS, add_calls, is_left_alone};
-use crate::outcome::{Hand, done, some};
+use crate::history::{DRIVER, OTHERS, add_entries, finished, is_left_alone};
+use crate::interleaved::amid;
+use crate::outcome::{Hand, done, holds, same, some};
 use crate::schedule::{Left, Schedule, all_home, finish, push_steps, take_all};
 use nic_device::{Arena, Buf, Device, Event, Mode, Octets, Port, Reply};
-use workers::{
-    Direct, Entry, Home, Interleaved, Nic, Packet, Pmd, Setup, StopRefused, TxAnswer, TxFault,
-};
+use workers::{Direct, Entry, Home, Nic, Packet, Pmd, Setup, StopRefused, TxAnswer, TxFault};
 
 /// Foreign writes, by address and word, that reach queue 0 of a driver or the whole device, and whether the queue is
 /// left alone by each all the same.
@@ -171,22 +173,10 @@ struct Begun {
 /// A driver that starts while its queue is left alone, on a device that others set up.
 fn begin_on(rt: &impl Hand, setup: &Setup) -> Begun {
     let mut history = Vec::new(rt.alloc());
-    let (device, calls) = set_up(rt, 64, 0, setup).finish();
-    add_calls(
-        rt,
-        &mut history,
-        OTHERS,
-        done(rt, calls.into_vec(rt.alloc())),
-    );
-    let mut direct = Direct::new(rt.alloc(), device, 0);
+    let device = finished(rt, &mut history, OTHERS, set_up(rt, 64, 0, setup));
+    let mut direct = stepped(rt, device);
     let pmd = started(rt, &mut direct);
-    let (device, calls) = direct.finish();
-    add_calls(
-        rt,
-        &mut history,
-        DRIVER,
-        done(rt, calls.into_vec(rt.alloc())),
-    );
+    let device = finished(rt, &mut history, DRIVER, direct);
     let receive = some(rt, device.peek_register(0x01000));
     let transmit = some(rt, device.peek_register(0x06000));
     Begun {
@@ -214,9 +204,9 @@ fn traffic(rt: &impl Hand, schedule: &mut Schedule, count: u16) {
 pub fn offer<N: Nic>(rt: &impl Hand, nic: &mut N, pmd: &mut Pmd, packet: Packet) {
     match pmd.tx(rt.alloc(), nic, packet) {
         Ok(TxAnswer::Taken) => {}
-        Ok(TxAnswer::RingFull(packet)) => done(rt, pmd.release(packet)),
+        Ok(TxAnswer::RingFull(packet)) => release(rt, pmd, packet),
         Err(TxFault { fault: _, packet }) => match packet {
-            Some(packet) => done(rt, pmd.release(packet)),
+            Some(packet) => release(rt, pmd, packet),
             None => {}
         },
     }
@@ -237,6 +227,23 @@ fn drive<N: Nic>(rt: &impl Hand, nic: &mut N, pmd: &mut Pmd) {
     }
 }
 
+/// Lists of the steps of queue 0 with a list of others between them.
+fn schedule_with(rt: &impl Hand, list: Vec<Event>) -> Schedule {
+    let mut schedule = Vec::new(rt.alloc());
+    traffic(rt, &mut schedule, 40);
+    done(rt, schedule.push(list));
+    traffic(rt, &mut schedule, 300);
+    schedule
+}
+
+/// A driver that is stopped again where its stop was refused.
+fn home_of(rt: &impl Hand, direct: &mut Direct, stopped: Result<Home, StopRefused>) -> Home {
+    match stopped {
+        Ok(home) => home,
+        Err(StopRefused { fault: _, pmd }) => stopped_again(rt, direct, pmd),
+    }
+}
+
 /// A driver in whose midst others do something. It stops, and each of its blocks is home or counted as lost. Answers
 /// the history until the stop.
 fn endures(rt: &impl Hand, begun: Begun, doing: Doing) -> Vec<Entry> {
@@ -247,27 +254,18 @@ fn endures(rt: &impl Hand, begun: Begun, doing: Doing) -> Vec<Entry> {
         mut history,
     } = begun;
     let (list, second) = doing.finish();
-    let mut schedule = Vec::new(rt.alloc());
-    traffic(rt, &mut schedule, 40);
-    done(rt, schedule.push(list));
-    traffic(rt, &mut schedule, 300);
-    let mut nic = Interleaved::new(rt.alloc(), device, schedule);
+    let mut nic = amid(rt, device, schedule_with(rt, list));
     drive(rt, &mut nic, &mut pmd);
     let stopped = pmd.stop(rt.alloc(), &mut nic);
     let Left {
         device,
-        history: amid,
+        history: later,
         foreign: _,
         bufs,
     } = finish(rt, nic);
-    for entry in amid {
-        done(rt, history.push(entry));
-    }
-    let mut direct = Direct::new(rt.alloc(), device, 0);
-    let home = match stopped {
-        Ok(home) => home,
-        Err(StopRefused { fault: _, pmd }) => stopped_again(rt, &mut direct, pmd),
-    };
+    add_entries(rt, &mut history, later);
+    let mut direct = stepped(rt, device);
+    let home = home_of(rt, &mut direct, stopped);
     settle(rt, home, in_hand(direct), bufs, second);
     history
 }
@@ -275,19 +273,14 @@ fn endures(rt: &impl Hand, begun: Begun, doing: Doing) -> Vec<Entry> {
 /// Switches the steps of the device on again, and stops the driver.
 pub fn stopped_again(rt: &impl Hand, direct: &mut Direct, pmd: Pmd) -> Home {
     make(rt, direct, Event::Write(Port::Pf, 0, 0));
-    done(rt, pmd.stop(rt.alloc(), direct))
+    stopped(rt, direct, pmd)
 }
 
 /// Sees that all blocks are home or lost, and that the lost ones and those of the second arena are where the others
 /// left them: in hand, or still lent.
 fn settle(rt: &impl Hand, home: Home, device: Device, mut bufs: Vec<Buf>, second: Arena) {
-    let Home {
-        arena,
-        lost,
-        handed: _,
-        accepted: _,
-    } = home;
-    assert_eq!(rt; u64::from(arena.free_blocks()) + u64::from(lost), 32);
+    let (arena, lost, _handed, _accepted) = left_by(home);
+    same(rt, arena.free_blocks().saturating_add(lost) as usize, 32);
     let (memory, _frames) = taken_apart(device);
     take_all(rt, &mut bufs, memory);
     let arenas = done(rt, Vec::from_array(rt.alloc(), [arena, second]));
@@ -332,51 +325,61 @@ fn first_told(history: &mut [Entry]) -> Told<u64> {
     first
 }
 
-/// A driver endures a row, whose history is judged as it says. One that doesn't leave the queue alone would not if the
-/// driver's pass had made the steps of queue 3.
-fn check(rt: &impl Hand, (name, on, blocks, deeds, spares, wanted): Row<'_>) {
+/// The history of a driver that endures a row, and where its rings were.
+fn endured(rt: &impl Hand, on: On, blocks: (u32, u32), deeds: &[Deed]) -> (Vec<Entry>, Rings) {
     let begun = begin_on(rt, &on.setup());
     let rings = begun.rings;
     let mut doing = Doing::new(rt, rings, blocks);
     for deed in deeds {
         doing.add(rt, *deed);
     }
-    let mut history = endures(rt, begun, doing);
-    assert!(rt;
-        is_left_alone(history.as_slice()) == spares,
-        "{name}: left alone"
-    );
+    (endures(rt, begun, doing), rings)
+}
+
+/// Sees that a bus address told in the row of this name is the one that is wanted.
+fn is_address(rt: &impl Hand, name: &str, what: &str, told: u64, wanted: u32) {
+    assert!(rt; told == u64::from(wanted), "{name}: {what} {told:#x}");
+}
+
+/// A driver endures a row, whose history is judged as it says. One that doesn't leave the queue alone would not if the
+/// driver's pass had made the steps of queue 3.
+fn check(rt: &impl Hand, (name, on, blocks, deeds, spares, wanted): Row<'_>) {
+    let (mut history, rings) = endured(rt, on, blocks, deeds);
+    let is_alone = is_left_alone(history.as_slice());
+    holds(rt, name, "left alone", is_alone == spares);
     let (what, at, ring) = first_told(history.as_mut_slice());
-    assert!(rt; what == wanted.0, "{name}: told");
-    assert!(rt;
-        at == u64::from(rings.address(wanted.1)),
-        "{name}: at {at:#x}"
-    );
-    assert!(rt;
-        ring == u64::from(rings.address(wanted.2)),
-        "{name}: of {ring:#x}"
-    );
-    assert!(rt;
-        spares || !is_left_alone(history.as_slice()),
-        "{name}: by the driver's steps"
-    );
+    let is_alone = is_left_alone(history.as_slice());
+    holds(rt, name, "told", what == wanted.0);
+    is_address(rt, name, "at", at, rings.address(wanted.1));
+    is_address(rt, name, "of", ring, rings.address(wanted.2));
+    holds(rt, name, "by the driver's steps", spares || !is_alone);
+}
+
+/// A driver endures each of these rows.
+fn check_all(rt: &impl Hand, rows: &[Row<'_>]) {
+    for row in rows {
+        check(rt, *row);
+    }
 }
 
 #[test]
 fn a_driver_stops_whatever_others_do(rt: HostRuntime) {
-    for row in ROWS {
-        check(&rt, row);
+    check_all(&rt, &ROWS);
+}
+
+/// A driver endures each of these writes by others.
+fn check_writes(rt: &impl Hand, writes: &[(u32, u32, bool)]) {
+    for (address, word, spares) in writes {
+        let name = done(rt, format!(in rt.alloc(); "a write at {address:#07x}"));
+        let deeds = [Writes(Port::Pf, *address, *word)];
+        check(
+            rt,
+            (name.as_str(), On::Plain, SAME, &deeds, *spares, NO_WRITE),
+        );
     }
 }
 
 #[test]
 fn a_driver_stops_whatever_others_write(rt: HostRuntime) {
-    for (address, word, spares) in WRITES {
-        let name = done(&rt, format!(in rt.alloc(); "a write at {address:#07x}"));
-        let deeds = [Writes(Port::Pf, address, word)];
-        check(
-            &rt,
-            (name.as_str(), On::Plain, SAME, &deeds, spares, NO_WRITE),
-        );
-    }
+    check_writes(&rt, &WRITES);
 }

@@ -1,17 +1,23 @@
 //! A driver among foreign events that are told beforehand.
 
 use crate::bench::{
-    end, frame_of, has_bytes, in_hand, make, opened, reap, received, send, started, stop,
-    stop_times_out, taken_apart,
+    end, frame_of, has_bytes, in_hand, is_frame, make, opened, reap, reap_once, received, release,
+    send, started, stepped, stop, stop_times_out, taken_apart,
 };
-use crate::outcome::{Hand, done, emptied, none, some};
+use crate::outcome::{Hand, done, emptied, none, same, some};
+use crate::rig::Rig;
 use crate::schedule::{Left, Schedule, all_home, finish, push_switches, take_all};
 use nic_device::{Arena, Buf, Device, Dir, Event, Octets, Port, Reply};
-use workers::{Direct, Finished, Interleaved, Nic, TxAnswer};
+use workers::{Finished, Interleaved, Nic, Packet, Pmd, TxAnswer};
+
+/// A device among these foreign events.
+pub fn amid(rt: &impl Hand, device: Device, schedule: Schedule) -> Interleaved {
+    Interleaved::new(rt.alloc(), device, schedule)
+}
 
 /// A device among no foreign events, which nobody steps on.
 pub fn unstepped(rt: &impl Hand, device: Device) -> Interleaved {
-    Interleaved::new(rt.alloc(), device, Vec::new(rt.alloc()))
+    amid(rt, device, Vec::new(rt.alloc()))
 }
 
 /// The same where both sides of queue 0 are switched before each of the next 200 calls.
@@ -22,7 +28,7 @@ fn switched(rt: &impl Hand, device: Device) -> Interleaved {
         push_switches(rt, &mut list);
         done(rt, schedule.push(list));
     }
-    Interleaved::new(rt.alloc(), device, schedule)
+    amid(rt, device, schedule)
 }
 
 /// The device of an `Interleaved` whose foreign events took no block.
@@ -37,25 +43,36 @@ pub fn without_blocks(rt: &impl Hand, nic: Interleaved) -> Device {
     device
 }
 
+/// A packet of 60 bytes in a free block.
+fn own_packet(rt: &impl Hand, pmd: &mut Pmd) -> Packet {
+    some(rt, pmd.packet(60))
+}
+
+/// A driver whose ring takes no packet more.
+fn is_full(rt: &impl Hand, nic: &mut Interleaved, pmd: &mut Pmd) {
+    let eighth = own_packet(rt, pmd);
+    match done(rt, pmd.tx(rt.alloc(), nic, eighth)) {
+        TxAnswer::Taken => panic!(rt; "the eighth packet is taken"),
+        TxAnswer::RingFull(packet) => release(rt, pmd, packet),
+    }
+}
+
 /// Both sides are switched on at the start, and nothing is stepped on after it: seven packets are taken, and no more.
 #[test]
 fn a_ring_of_eight_takes_seven_packets_that_nobody_sends(rt: HostRuntime) {
-    let mut nic = switched(&rt, in_hand(opened(&rt, 64, 0)));
-    let mut pmd = started(&rt, &mut nic);
-    let mut nic = unstepped(&rt, without_blocks(&rt, nic));
+    let rt = &rt;
+    let mut nic = switched(rt, in_hand(opened(rt, 64, 0)));
+    let mut pmd = started(rt, &mut nic);
+    let mut nic = unstepped(rt, without_blocks(rt, nic));
     for _packet in 0..7 {
-        let packet = some(&rt, pmd.packet(60));
-        send(&rt, &mut nic, &mut pmd, packet);
+        let packet = own_packet(rt, &mut pmd);
+        send(rt, &mut nic, &mut pmd, packet);
     }
-    let eighth = some(&rt, pmd.packet(60));
-    match done(&rt, pmd.tx(rt.alloc(), &mut nic, eighth)) {
-        TxAnswer::Taken => panic!(rt; "the eighth packet is taken"),
-        TxAnswer::RingFull(packet) => done(&rt, pmd.release(packet)),
-    }
-    let pmd = stop_times_out(&rt, &mut nic, pmd);
-    let mut nic = switched(&rt, without_blocks(&rt, nic));
-    assert!(rt; stop(&rt, &mut nic, pmd) == (0, 7));
-    assert_eq!(rt; end(&rt, without_blocks(&rt, nic)).len(), 0);
+    is_full(rt, &mut nic, &mut pmd);
+    let pmd = stop_times_out(rt, &mut nic, pmd);
+    let mut nic = switched(rt, without_blocks(rt, nic));
+    assert!(rt; stop(rt, &mut nic, pmd) == (0, 7));
+    same(rt, end(rt, without_blocks(rt, nic)).len(), 0);
 }
 
 /// Sees that the last of these replies is the fault of queue 0, and that the others are done.
@@ -73,33 +90,41 @@ fn last_is_a_fault(rt: &impl Hand, mut replies: Vec<Reply>) {
     emptied(rt, replies);
 }
 
-/// Somebody writes a tail beyond the driver's ring: the frame meets a fault, which switches the receive side off. The
-/// driver hands nothing out, and all its blocks come home.
-#[test]
-fn a_foreign_tail_switches_the_queue_off(rt: HostRuntime) {
-    let mut direct = opened(&rt, 64, 0);
-    let mut pmd = started(&rt, &mut direct);
+/// Lists for two calls: a frame arrives and a tail beyond the ring is written, and then the device receives.
+fn foreign_tail(rt: &impl Hand) -> Schedule {
     let (mut first, mut second) = (Vec::new(rt.alloc()), Vec::new(rt.alloc()));
-    done(&rt, first.push(Event::Arrive(Octets::of(frame_of(&rt, 0)))));
-    done(&rt, first.push(Event::Write(Port::Pf, 0x01018, 200))); // RDT
-    done(&rt, second.push(Event::RxStep));
-    let schedule = done(&rt, Vec::from_array(rt.alloc(), [first, second]));
-    let mut nic = Interleaved::new(rt.alloc(), in_hand(direct), schedule);
-    for _call in 0..2 {
-        none(&rt, received(&rt, &mut nic, &mut pmd));
-    }
+    done(rt, first.push(Event::Arrive(Octets::of(frame_of(rt, 0)))));
+    done(rt, first.push(Event::Write(Port::Pf, 0x01018, 200))); // RDT
+    done(rt, second.push(Event::RxStep));
+    done(rt, Vec::from_array(rt.alloc(), [first, second]))
+}
+
+/// Ends a way to a device by which five calls were made, the last foreign one of which met a fault.
+fn after_a_fault(rt: &impl Hand, nic: Interleaved) -> Device {
     let Finished {
         device,
         calls,
         foreign,
         schedule,
     } = nic.finish();
-    assert_eq!(rt; calls.kept().0.len(), 5);
-    last_is_a_fault(&rt, foreign);
-    emptied(&rt, schedule);
-    let mut direct = Direct::new(rt.alloc(), device, 0);
-    assert!(rt; stop(&rt, &mut direct, pmd) == (0, 0));
-    end(&rt, in_hand(direct));
+    same(rt, calls.kept().0.len(), 5);
+    last_is_a_fault(rt, foreign);
+    emptied(rt, schedule);
+    device
+}
+
+/// Somebody writes a tail beyond the driver's ring: the frame meets a fault, which switches the receive side off. The
+/// driver hands nothing out, and all its blocks come home.
+#[test]
+fn a_foreign_tail_switches_the_queue_off(rt: HostRuntime) {
+    let rt = &rt;
+    let Rig { direct, mut pmd } = Rig::new(rt, 8, (4, 32));
+    let mut nic = amid(rt, in_hand(direct), foreign_tail(rt));
+    for _call in 0..2 {
+        none(rt, received(rt, &mut nic, &mut pmd));
+    }
+    let direct = stepped(rt, after_a_fault(rt, nic));
+    Rig { direct, pmd }.end(rt, (0, 0));
 }
 
 /// The transmit ring of another queue, of 8 slots in the lower of two lent blocks: each names 60 bytes of the other.
@@ -153,47 +178,70 @@ fn went_out(rt: &impl Hand, frames: &[(u8, Octets)], count: u16) {
     let mut number: u16 = 0;
     for (queue, bytes) in frames {
         if *queue == 0 {
-            assert!(rt; bytes.bytes() == frame_of(rt, number).as_slice());
+            is_frame(rt, bytes, number);
             number = number.saturating_add(1);
         }
     }
-    assert_eq!(rt; number, count);
+    same(rt, usize::from(number), usize::from(count));
+}
+
+/// A device on which the queues 3 and 6 have a ring and a buffer each, of the blocks of an arena.
+fn with_two_queues(rt: &impl Hand, others: &mut Arena) -> Device {
+    let mut direct = opened(rt, 1024, 0);
+    for queue in [3, 6] {
+        let two = [some(rt, others.take()), some(rt, others.take())];
+        lay_out(rt, &mut direct, queue, two);
+    }
+    in_hand(direct)
+}
+
+/// The next packet, where one waits, holds the frame of this number and is sent again. Answers the next number.
+fn next_goes_on(rt: &impl Hand, nic: &mut Interleaved, pmd: &mut Pmd, number: u16) -> u16 {
+    match received(rt, nic, pmd) {
+        Some(packet) => {
+            assert!(rt; has_bytes(&packet, frame_of(rt, number).as_slice()));
+            send(rt, nic, pmd, packet);
+            number.saturating_add(1)
+        }
+        None => number,
+    }
+}
+
+/// Sees a thousand frames go on, and reaps until no packet is outstanding.
+fn a_thousand_go_on(rt: &impl Hand, nic: &mut Interleaved, pmd: &mut Pmd) {
+    let mut number: u16 = 0;
+    for _round in 0..20_000 {
+        if number == 1000 {
+            break;
+        }
+        number = next_goes_on(rt, nic, pmd, number);
+        reap_once(rt, nic, pmd);
+    }
+    reap(rt, nic, pmd);
+}
+
+/// Takes a device apart to which blocks of one arena are lent. Answers its frames out.
+fn apart(rt: &impl Hand, device: Device, others: Arena) -> Vec<(u8, Octets)> {
+    let mut bufs = Vec::new(rt.alloc());
+    let (memory, frames) = taken_apart(device);
+    take_all(rt, &mut bufs, memory);
+    let arenas = done(rt, Vec::from_array(rt.alloc(), [others]));
+    same(rt, all_home(rt, bufs, arenas), 1);
+    frames
 }
 
 /// A thousand frames arrive while two other queues send. Each comes out of a ring of eight, in order, and goes out
 /// again.
 #[test]
 fn a_thousand_frames_go_through_a_ring_of_eight_beside_two_queues(rt: HostRuntime) {
-    let mut others = done(&rt, Arena::new(rt.alloc(), 100, 4));
-    let mut direct = opened(&rt, 1024, 0);
-    for queue in [3, 6] {
-        let two = [some(&rt, others.take()), some(&rt, others.take())];
-        lay_out(&rt, &mut direct, queue, two);
-    }
-    let mut nic = Interleaved::new(rt.alloc(), in_hand(direct), busy(&rt, 12_000));
-    let mut pmd = started(&rt, &mut nic);
-    let mut number: u16 = 0;
-    for _round in 0..20_000 {
-        if number == 1000 {
-            break;
-        }
-        match received(&rt, &mut nic, &mut pmd) {
-            Some(packet) => {
-                assert!(rt; has_bytes(&packet, frame_of(&rt, number).as_slice()));
-                number = number.saturating_add(1);
-                send(&rt, &mut nic, &mut pmd, packet);
-            }
-            None => {}
-        }
-        let _reaped = done(&rt, pmd.reap(rt.alloc(), &mut nic));
-    }
-    reap(&rt, &mut nic, &mut pmd);
-    let mut direct = Direct::new(rt.alloc(), without_blocks(&rt, nic), 0);
-    assert!(rt; stop(&rt, &mut direct, pmd) == (1000, 1000));
-    let mut bufs = Vec::new(rt.alloc());
-    let (memory, frames) = taken_apart(in_hand(direct));
-    take_all(&rt, &mut bufs, memory);
-    let arenas = done(&rt, Vec::from_array(rt.alloc(), [others]));
-    assert_eq!(rt; all_home(&rt, bufs, arenas), 1);
-    went_out(&rt, frames.as_slice(), 1000);
+    let rt = &rt;
+    let mut others = done(rt, Arena::new(rt.alloc(), 100, 4));
+    let device = with_two_queues(rt, &mut others);
+    let mut nic = amid(rt, device, busy(rt, 12_000));
+    let mut pmd = started(rt, &mut nic);
+    a_thousand_go_on(rt, &mut nic, &mut pmd);
+    let mut direct = stepped(rt, without_blocks(rt, nic));
+    assert!(rt; stop(rt, &mut direct, pmd) == (1000, 1000));
+    let frames = apart(rt, in_hand(direct), others);
+    went_out(rt, frames.as_slice(), 1000);
 }

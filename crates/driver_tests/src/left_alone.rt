@@ -1,8 +1,8 @@
 //! What a closed history says of a queue beside which another pass made an event.
 
-use crate::bench::taken_apart;
-use crate::outcome::{Hand, done, some};
-use nic_device::{Arena, Event, Port, Reply};
+use crate::bench::end;
+use crate::outcome::{Hand, done, holds, some};
+use nic_device::{Arena, Buf, Event, Port, Reply};
 use workers::{Pass, Shared};
 
 /// A shared device of one virtual function.
@@ -34,8 +34,10 @@ impl Deed {
 /// What another pass does, the word of GCR_EXT before that, and whether queue 0 is left alone: where other queues are
 /// written, blocks that the driver doesn't lend are taken, and it pokes there. It isn't by any name of a register that
 /// the queue rests on, a reset of its pool, and its driver's blocks.
+type Row<'a> = (&'a str, u32, Deed, bool);
+
 #[rattlefmt::skip]
-const ROWS: [(&str, u32, Deed, bool); 19] = [
+const ROWS: [Row<'static>; 19] = [
     ("TDT of queue 1", 0, Deed::Writes(Port::Pf, 0x06058, 3), true),
     ("TDT of no pool's queue", 0, Deed::Writes(Port::Vf(0), 0x2018, 3), true),
     ("a reset of no pool", 0, Deed::Writes(Port::Pf, 0x00300, 0x0400_0000), true),
@@ -70,39 +72,61 @@ fn make(rt: &impl Hand, bench: &Bench, pass: &mut Pass, event: Event) {
     }
 }
 
-/// Whether queue 0 is left alone, where its driver reads a register and lends block 5, and then another pass makes the
-/// event. Before all that GCR_EXT was written.
+/// The block 5, which the driver takes back.
+fn taken(rt: &impl Hand, bench: &Bench, driver: &mut Pass) -> Buf {
+    match done(rt, bench.call(rt, rt.alloc(), driver, Event::Take(5))) {
+        Reply::Buf(block) => block,
+        _other => panic!(rt; "the block"),
+    }
+}
+
+/// The driver of queue 0 reads a register and lends block 5, and then another pass makes the event. Before all that
+/// GCR_EXT was written, and in the end the driver takes its block back.
+fn make_all(
+    rt: &impl Hand,
+    bench: &Bench,
+    driver: &mut Pass,
+    other: &mut Pass,
+    mode: u32,
+    event: Event,
+) {
+    let mut arena = done(rt, Arena::new(rt.alloc(), 5, 1));
+    make(rt, bench, other, Event::Write(Port::Pf, GCR_EXT, mode));
+    make(rt, bench, driver, Event::Read(Port::Pf, GCR_EXT));
+    let lend = Event::Lend(some(rt, arena.take()));
+    make(rt, bench, driver, lend);
+    make(rt, bench, other, event);
+    done(rt, arena.give(taken(rt, bench, driver)));
+    done(rt, arena.close());
+}
+
+/// Whether the history of a bench leaves queue 0 alone, once it is closed with both passes.
+fn judged(rt: &impl Hand, bench: Bench, driver: Pass, other: Pass) -> bool {
+    let passes = done(rt, Vec::from_array(rt.alloc(), [driver, other]));
+    let closed = done(rt, bench.close(passes));
+    let answer = closed.left_alone(0, 0);
+    end(rt, closed.into_device());
+    answer
+}
+
+/// Whether queue 0 is left alone, where another pass makes the event in its driver's midst.
 fn is_left_alone(rt: &impl Hand, mode: u32, event: Event) -> bool {
     let (bench, mut passes) = done(rt, Bench::new(rt.alloc(), 1, 2, 100));
     let mut other = some(rt, passes.pop());
     let mut driver = some(rt, passes.pop());
-    let mut arena = done(rt, Arena::new(rt.alloc(), 5, 1));
-    make(
-        rt,
-        &bench,
-        &mut other,
-        Event::Write(Port::Pf, GCR_EXT, mode),
-    );
-    make(rt, &bench, &mut driver, Event::Read(Port::Pf, GCR_EXT));
-    let lend = Event::Lend(some(rt, arena.take()));
-    make(rt, &bench, &mut driver, lend);
-    make(rt, &bench, &mut other, event);
-    match done(rt, bench.call(rt, rt.alloc(), &mut driver, Event::Take(5))) {
-        Reply::Buf(block) => done(rt, arena.give(block)),
-        _other => panic!(rt; "the block"),
+    make_all(rt, &bench, &mut driver, &mut other, mode, event);
+    judged(rt, bench, driver, other)
+}
+
+/// Queue 0 is left alone or not as each of these rows says.
+fn check_all(rt: &impl Hand, rows: &[Row<'_>]) {
+    for (name, mode, deed, wanted) in rows {
+        let is_alone = is_left_alone(rt, *mode, deed.event());
+        holds(rt, name, "left alone", is_alone == *wanted);
     }
-    done(rt, arena.close());
-    let passes = done(rt, Vec::from_array(rt.alloc(), [driver, other]));
-    let closed = done(rt, bench.close(passes));
-    let answer = closed.left_alone(0, 0);
-    let (memory, _frames) = taken_apart(closed.into_device());
-    done(rt, memory.finish());
-    answer
 }
 
 #[test]
 fn a_queue_is_left_alone_or_not(rt: HostRuntime) {
-    for (name, mode, deed, wanted) in ROWS {
-        assert!(rt; is_left_alone(&rt, mode, deed.event()) == wanted, "{name}");
-    }
+    check_all(&rt, &ROWS);
 }

@@ -36,6 +36,8 @@ mod queues;
 #[cfg(test)]
 mod random;
 #[cfg(test)]
+mod rig;
+#[cfg(test)]
 mod runs;
 #[cfg(test)]
 mod schedule;

@@ -1,11 +1,11 @@
 //! A driver of long frames, of up to 9,728 bytes with their frame check sequence.
 
 use crate::bench::{
-    PLAIN, Why, arrive, close, count_calls, end, has_bytes, in_hand, reap, reason, received, send,
-    set_up, untouched,
+    PLAIN, Why, close, count_calls, end, has_bytes, in_hand, reason, set_up, stopped, untouched,
 };
 use crate::driver::free_blocks;
-use crate::outcome::{Hand, done, refused, some};
+use crate::outcome::{Hand, done, refused, same};
+use crate::rig::Rig;
 use nic_device::{Arena, Event, Octets, Port, Reply};
 use workers::{Direct, Nic, Packet, Pmd, Rest, Setup, StartRefused, pf_setup};
 
@@ -13,6 +13,24 @@ use workers::{Direct, Nic, Packet, Pmd, Rest, Setup, StartRefused, pf_setup};
 fn start(rt: &impl Hand, direct: &mut Direct, size: u16, frame: u16) -> Result<Pmd, StartRefused> {
     let arena = done(rt, Arena::new(rt.alloc(), 0, 320));
     Pmd::start(rt.alloc(), direct, Port::Pf, 0, size, frame, arena)
+}
+
+/// A device and a driver of queue 0 for the longest frames.
+fn rig_for_long_frames(rt: &impl Hand) -> Rig {
+    let setup = Setup {
+        frame: 9728,
+        ..PLAIN
+    };
+    let mut direct = set_up(rt, 64, 0, &setup);
+    let pmd = done(rt, start(rt, &mut direct, 256, 9728));
+    Rig { direct, pmd }
+}
+
+/// Stops a driver, to which 320 blocks come home, and by which one packet came and went.
+fn stop_with_320(rt: &impl Hand, direct: &mut Direct, pmd: Pmd) {
+    let home = stopped(rt, direct, pmd);
+    same(rt, home.arena.free_blocks() as usize, 320);
+    assert!(rt; close(rt, home) == (1, 1));
 }
 
 /// A frame of 5,000 bytes to the broadcast address.
@@ -25,9 +43,9 @@ fn long_frame(rt: &impl Hand) -> Vec<u8> {
 }
 
 /// The packet that comes within three looks.
-fn received_soon(rt: &impl Hand, direct: &mut Direct, pmd: &mut Pmd) -> Packet {
+fn received_soon(rt: &impl Hand, rig: &mut Rig) -> Packet {
     for _look in 0..3 {
-        if let Some(packet) = received(rt, direct, pmd) {
+        if let Some(packet) = rig.received(rt) {
             return packet;
         }
     }
@@ -45,25 +63,26 @@ fn collected(rt: &impl Hand, direct: &mut Direct) -> Octets {
 /// The frame fills two blocks, and a third in part: three descriptors of each ring.
 #[test]
 fn a_frame_of_5_000_bytes_is_received_and_sent_again(rt: HostRuntime) {
-    let setup = Setup {
-        frame: 9728,
-        ..PLAIN
-    };
-    let mut direct = set_up(&rt, 64, 0, &setup);
-    let mut pmd = done(&rt, start(&rt, &mut direct, 256, 9728));
-    assert_eq!(rt; free_blocks(&rt, &mut pmd, 100), 61);
-    let frame = long_frame(&rt);
-    arrive(&rt, &mut direct, long_frame(&rt));
-    let packet = received_soon(&rt, &mut direct, &mut pmd);
+    let rt = &rt;
+    let mut rig = rig_for_long_frames(rt);
+    same(rt, free_blocks(rt, &mut rig.pmd, 100) as usize, 61);
+    let frame = long_frame(rt);
+    rig.arrive(rt, long_frame(rt));
+    let packet = received_soon(rt, &mut rig);
     assert_eq!(rt; packet.bufs.count(), 3);
     assert!(rt; has_bytes(&packet, frame.as_slice()));
-    send(&rt, &mut direct, &mut pmd, packet);
-    reap(&rt, &mut direct, &mut pmd);
-    assert!(rt; collected(&rt, &mut direct).bytes() == frame.as_slice());
-    let home = done(&rt, pmd.stop(rt.alloc(), &mut direct));
-    assert_eq!(rt; home.arena.free_blocks(), 320);
-    assert!(rt; close(&rt, home) == (1, 1));
-    assert!(rt; end(&rt, in_hand(direct)).is_empty());
+    rig.send(rt, packet);
+    rig.reap(rt);
+    assert!(rt; collected(rt, &mut rig.direct).bytes() == frame.as_slice());
+    let Rig { mut direct, pmd } = rig;
+    stop_with_320(rt, &mut direct, pmd);
+    assert!(rt; end(rt, in_hand(direct)).is_empty());
+}
+
+/// Ends a device by which no call was made.
+fn made_no_call(rt: &impl Hand, direct: Direct) {
+    same(rt, count_calls(direct.calls()), 0);
+    end(rt, in_hand(direct));
 }
 
 /// Each of the two writes goes on in the next Buf. What would go a byte beyond the packet isn't written.
@@ -96,33 +115,43 @@ fn a_packet_of_5_000_bytes_is_filled_and_sent(rt: HostRuntime) {
 /// Rings and frames that no driver has: how many descriptors, and how many bytes.
 const NO_SIZES: [(u16, u16); 3] = [(1032, 9728), (256, 9729), (256, 1517)];
 
+/// Why a start over this device is refused, where no block is lent.
+fn refused_start(rt: &impl Hand, direct: &mut Direct, size: u16, frame: u16) -> Why {
+    let StartRefused { fault, rest } = refused(rt, start(rt, direct, size, frame));
+    match rest {
+        Rest::Home(home) => assert!(rt; close(rt, home) == (0, 0)),
+        Rest::Running(_pmd) => panic!(rt; "blocks are lent"),
+    }
+    reason(&fault)
+}
+
 #[test]
 fn a_driver_of_no_such_size_makes_no_call(rt: HostRuntime) {
+    let rt = &rt;
     for (size, frame) in NO_SIZES {
-        let mut direct = untouched(&rt, 64, 0);
-        let refusal = refused(&rt, start(&rt, &mut direct, size, frame));
-        let StartRefused { fault, rest } = refusal;
+        let mut direct = untouched(rt, 64, 0);
+        let why = refused_start(rt, &mut direct, size, frame);
         assert!(rt;
-            reason(&fault) == Why::BadSize,
+            why == Why::BadSize,
             "rings of {size}, frames of {frame} bytes"
         );
-        match rest {
-            Rest::Home(home) => assert!(rt; close(&rt, home) == (0, 0)),
-            Rest::Running(_pmd) => panic!(rt; "blocks are lent"),
-        }
-        assert_eq!(rt; count_calls(direct.calls()), 0);
-        end(&rt, in_hand(direct));
+        made_no_call(rt, direct);
     }
+}
+
+/// Why a set-up of this device for frames of so many bytes at most is refused.
+fn refused_set_up(rt: &impl Hand, direct: &mut Direct, frame: u16) -> Why {
+    let setup = Setup { frame, ..PLAIN };
+    reason(&refused(rt, pf_setup(rt.alloc(), direct, &setup)))
 }
 
 #[test]
 fn a_set_up_for_no_such_frames_writes_nothing(rt: HostRuntime) {
+    let rt = &rt;
     for frame in [9729, 1517] {
-        let mut direct = untouched(&rt, 64, 0);
-        let setup = Setup { frame, ..PLAIN };
-        let fault = refused(&rt, pf_setup(rt.alloc(), &mut direct, &setup));
-        assert!(rt; reason(&fault) == Why::BadSize, "frames of {frame} bytes");
-        assert_eq!(rt; count_calls(direct.calls()), 0);
-        end(&rt, in_hand(direct));
+        let mut direct = untouched(rt, 64, 0);
+        let why = refused_set_up(rt, &mut direct, frame);
+        assert!(rt; why == Why::BadSize, "frames of {frame} bytes");
+        made_no_call(rt, direct);
     }
 }

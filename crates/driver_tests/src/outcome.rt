@@ -35,6 +35,16 @@ pub fn refused<T, E>(rt: &impl Abort, answer: Result<T, E>) -> E {
     }
 }
 
+/// Sees that two numbers are the same.
+pub fn same(rt: &impl Abort, told: usize, wanted: usize) {
+    assert_eq!(rt; told, wanted);
+}
+
+/// Sees that something holds of the case of this name.
+pub fn holds(rt: &impl Abort, name: &str, what: &str, is_so: bool) {
+    assert!(rt; is_so, "{name}: {what}");
+}
+
 /// Puts a value where none is.
 pub fn put<T>(rt: &impl Abort, at: &mut Option<T>, value: T) {
     none(rt, mem::replace(at, Some(value)));

@@ -1,7 +1,7 @@
 //! A queue at a port of a device in hand.
 
 use crate::bench::{PLAIN, Why, end, in_hand, reason};
-use crate::outcome::{Hand, done, refused, some};
+use crate::outcome::{Hand, done, holds, refused, same, some};
 use nic_device::{Config, Device, Dir, Mode, Port};
 use workers::{Direct, POLLS, Queue, Setup, pf_setup};
 
@@ -33,10 +33,8 @@ fn bring_up(rt: &impl Hand, direct: &mut Direct, queue: &Queue) {
         done(rt, queue.disable(alloc, direct, side));
         done(rt, queue.lay_out(alloc, direct, side, 3, 8));
         done(rt, queue.ask(alloc, direct, side, true));
-        assert_eq!(rt;
-            done(rt, queue.poll(alloc, direct, side, true, POLLS)),
-            POLLS
-        );
+        let left = done(rt, queue.poll(alloc, direct, side, true, POLLS));
+        same(rt, left as usize, POLLS as usize);
         assert!(rt; done(rt, queue.is_on(alloc, direct, side)));
     }
 }
@@ -54,9 +52,11 @@ enum Ask {
     Ready,
 }
 
-/// Queues by name, port and number there, what is asked of them, and why that is refused.
+/// A queue by name, port and number there, what is asked of it, and why that is refused.
+type Row<'a> = (&'a str, Port, u16, Ask, Option<Why>);
+
 #[rattlefmt::skip]
-const ROWS: [(&str, Port, u16, Ask, Option<Why>); 5] = [
+const ROWS: [Row<'static>; 5] = [
     ("a queue comes up through the physical function", Port::Pf, 2, Ask::Up, None),
     ("a queue comes up through a virtual function", Port::Vf(1), 0, Ask::Up, None),
     ("a queue that is on isn't made ready", Port::Pf, 2, Ask::ReadyAgain, Some(Why::DeviceFault)),
@@ -85,17 +85,30 @@ fn asked(rt: &impl Hand, direct: &mut Direct, queue: &Queue, ask: Ask) -> Option
     Some(reason(&fault))
 }
 
+/// Asks it of a queue of a new device. Answers why it is refused, and whether the registers of queue 2 are then those
+/// of a queue that is up.
+fn asked_of(rt: &impl Hand, port: Port, number: u16, ask: Ask) -> (Option<Why>, bool) {
+    let mut direct = opened(rt);
+    let queue = some(rt, Queue::new(port, number));
+    let why = asked(rt, &mut direct, &queue, ask);
+    let device = in_hand(direct);
+    let is_up = words(rt, &device) == [6144, 128, 6144, 0x0200_0000];
+    same(rt, end(rt, device).len(), 0);
+    (why, is_up)
+}
+
+/// Each of these queues answers as its row says, and one that comes up has its registers.
+fn check_all(rt: &impl Hand, rows: &[Row<'_>]) {
+    for (name, port, number, ask, wanted) in rows {
+        let (why, is_up) = asked_of(rt, *port, *number, *ask);
+        holds(rt, name, "answer", why == *wanted);
+        holds(rt, name, "registers", *ask != Ask::Up || is_up);
+    }
+}
+
 #[test]
 fn a_queue_comes_up_or_is_refused(rt: HostRuntime) {
-    for (name, port, number, ask, wanted) in ROWS {
-        let mut direct = opened(&rt);
-        let queue = some(&rt, Queue::new(port, number));
-        assert!(rt; asked(&rt, &mut direct, &queue, ask) == wanted, "{name}");
-        let device = in_hand(direct);
-        let is_up = words(&rt, &device) == [6144, 128, 6144, 0x0200_0000];
-        assert!(rt; ask != Ask::Up || is_up, "{name}: registers");
-        assert_eq!(rt; end(&rt, device).len(), 0);
-    }
+    check_all(&rt, &ROWS);
 }
 
 #[test]

@@ -1,13 +1,16 @@
 //! A driver among foreign events that are drawn at random, none of which touches its queue.
 
-use crate::bench::{opened, reap, started, taken_apart};
-use crate::history::{DRIVER, OTHERS, add_calls, is_left_alone};
+use crate::bench::{
+    close, opened, reap, reap_once, received, release, started, stepped, stopped, taken_apart,
+};
+use crate::history::{DRIVER, OTHERS, add_entries, finished, is_left_alone};
+use crate::interleaved::amid;
 use crate::others::{Others, Random};
-use crate::outcome::{Hand, done, some};
+use crate::outcome::{Hand, done, same, some};
 use crate::schedule::{Left, all_home, finish, take_all};
-use nic_device::{Device, Event, Reply};
+use nic_device::{Buf, Device, Event, LentMemory, Octets, Reply};
 use std::collections::VecDeque;
-use workers::{Direct, Entry, Home, Interleaved, Nic, Packet, Pmd, Record, TxAnswer};
+use workers::{Direct, Entry, Home, Nic, Packet, Pmd, Record, TxAnswer};
 
 /// A schedule is drawn from each.
 #[rattlefmt::skip]
@@ -73,18 +76,19 @@ impl<'a> Tally<'a> {
 
 /// Whether the records are the first of these frames.
 fn are_first(records: &[Record], frames: &[&[u8]]) -> bool {
+    for (record, frame) in records.iter().zip(frames.iter()) {
+        if record.bytes() != *frame {
+            return false;
+        }
+    }
     records.len() <= frames.len()
-        && records
-            .iter()
-            .zip(frames.iter())
-            .all(|(record, frame)| record.bytes() == *frame)
 }
 
 /// Sends a packet, where there is room for it.
 fn offer<N: Nic>(rt: &impl Hand, nic: &mut N, pmd: &mut Pmd, packet: Packet) {
     match done(rt, pmd.tx(rt.alloc(), nic, packet)) {
         TxAnswer::Taken => {}
-        TxAnswer::RingFull(packet) => done(rt, pmd.release(packet)),
+        TxAnswer::RingFull(packet) => release(rt, pmd, packet),
     }
 }
 
@@ -92,7 +96,7 @@ fn offer<N: Nic>(rt: &impl Hand, nic: &mut N, pmd: &mut Pmd, packet: Packet) {
 /// that were sent are reaped.
 fn drive<N: Nic>(rt: &impl Hand, random: &mut Random, nic: &mut N, pmd: &mut Pmd, rounds: usize) {
     for _round in 0..rounds {
-        match done(rt, pmd.rx(rt.alloc(), nic)) {
+        match received(rt, nic, pmd) {
             Some(packet) => offer(rt, nic, pmd, packet),
             None => {}
         }
@@ -101,7 +105,7 @@ fn drive<N: Nic>(rt: &impl Hand, random: &mut Random, nic: &mut N, pmd: &mut Pmd
             offer(rt, nic, pmd, packet);
         }
         if random.byte() % 2 == 0 {
-            let _reaped = done(rt, pmd.reap(rt.alloc(), nic));
+            reap_once(rt, nic, pmd);
         }
     }
 }
@@ -116,15 +120,9 @@ struct Amid {
 /// Starts a driver among random events, and drives it.
 fn driven(rt: &impl Hand, others: &mut Others) -> Amid {
     let lists = others.lists(rt, 2500);
-    let (device, calls) = opened(rt, 64, 0).finish();
     let mut history = Vec::new(rt.alloc());
-    add_calls(
-        rt,
-        &mut history,
-        OTHERS,
-        done(rt, calls.into_vec(rt.alloc())),
-    );
-    let mut nic = Interleaved::new(rt.alloc(), device, lists);
+    let device = finished(rt, &mut history, OTHERS, opened(rt, 64, 0));
+    let mut nic = amid(rt, device, lists);
     let mut pmd = started(rt, &mut nic);
     drive(rt, &mut others.random, &mut nic, &mut pmd, 190);
     let left = finish(rt, nic);
@@ -152,76 +150,105 @@ fn settle(rt: &impl Hand, others: &mut Others, nic: &mut Direct, pmd: &mut Pmd) 
     reap(rt, nic, pmd);
 }
 
+/// The word of a register of a device.
+fn word(rt: &impl Hand, device: &Device, address: u32) -> usize {
+    some(rt, device.peek_register(address)) as usize
+}
+
 /// What the registers count is what the history tells.
 fn counts_agree(rt: &impl Hand, device: &Device, tally: &Tally<'_>) {
-    let [arrived, written, sent] = [
-        some(rt, device.peek_register(0x04074)), // GPRC
-        some(rt, device.peek_register(0x01030)), // QPRC
-        some(rt, device.peek_register(0x06030)), // QPTC
-    ];
-    assert_eq!(rt; arrived, tally.arrived);
-    assert_eq!(rt; written as usize, tally.written.len());
-    assert_eq!(rt; sent, tally.sent);
+    same(rt, word(rt, device, 0x04074), tally.arrived as usize); // GPRC
+    same(rt, word(rt, device, 0x01030), tally.written.len()); // QPRC
+    same(rt, word(rt, device, 0x06030), tally.sent as usize); // QPTC
+}
+
+/// The records are these frames.
+fn are_all(rt: &impl Hand, records: &[Record], frames: &[&[u8]]) {
+    same(rt, records.len(), frames.len());
+    assert!(rt; are_first(records, frames));
 }
 
 /// All that was written was handed out, and these frames, which went out, are all that was accepted.
 fn all_agree(rt: &impl Hand, home: Home, tally: &Tally<'_>, out: &[&[u8]]) {
-    let Home {
-        arena,
-        lost,
-        handed,
-        accepted,
-    } = home;
-    assert_eq!(rt; lost, 0);
-    done(rt, arena.close());
-    assert_eq!(rt; handed.len(), tally.written.len());
-    assert!(rt; are_first(handed.as_slice(), tally.written.as_slice()));
-    assert_eq!(rt; accepted.len(), out.len());
-    assert!(rt; are_first(accepted.as_slice(), out));
-    assert_eq!(rt; accepted.len(), tally.sent as usize);
+    are_all(rt, home.handed.as_slice(), tally.written.as_slice());
+    are_all(rt, home.accepted.as_slice(), out);
+    let (_handed, accepted) = close(rt, home);
+    same(rt, accepted, tally.sent as usize);
+}
+
+/// What a driver among random events has come to: it is stopped, the device is in hand, and the history is whole.
+struct Settled {
+    home: Home,
+    device: Device,
+    history: Vec<Entry>,
+    bufs: Vec<Buf>,
+    foreign: usize,
+}
+
+/// Drives a driver among random events, which is well then. It settles, is stopped, and its queue was left alone.
+fn driven_and_stopped(rt: &impl Hand, others: &mut Others) -> Settled {
+    let Amid {
+        mut pmd,
+        left,
+        mut history,
+    } = driven(rt, others);
+    let Left {
+        device,
+        history: later,
+        foreign,
+        bufs,
+    } = left;
+    add_entries(rt, &mut history, later);
+    is_well(rt, history.as_slice(), &pmd);
+    let mut direct = stepped(rt, device);
+    settle(rt, others, &mut direct, &mut pmd);
+    let home = stopped(rt, &mut direct, pmd);
+    let device = finished(rt, &mut history, DRIVER, direct);
+    assert!(rt; is_left_alone(history.as_slice()));
+    Settled {
+        home,
+        device,
+        history,
+        bufs,
+        foreign,
+    }
+}
+
+/// All frames that went out, those that were collected first.
+fn out<'a>(rt: &impl Hand, collected: &[&'a [u8]], frames: &'a [(u8, Octets)]) -> Vec<&'a [u8]> {
+    let mut out: Vec<&[u8]> = Vec::new(rt.alloc());
+    for frame in collected {
+        done(rt, out.push(*frame));
+    }
+    for (_queue, frame) in frames {
+        done(rt, out.push(frame.bytes()));
+    }
+    out
+}
+
+/// What the registers count, what the driver handed out and accepted and what went out is what the history tells.
+/// Answers what is lent to the device.
+fn tally_agrees(rt: &impl Hand, device: Device, home: Home, history: &[Entry]) -> LentMemory {
+    let mut tally = Tally::new(rt);
+    tally.add_all(rt, history);
+    counts_agree(rt, &device, &tally);
+    let (memory, frames) = taken_apart(device);
+    let out = out(rt, tally.collected.as_slice(), frames.as_slice());
+    all_agree(rt, home, &tally, out.as_slice());
+    memory
 }
 
 /// One schedule, drawn from a seed. Answers how many foreign events were made.
 fn among_events_of(rt: &impl Hand, seed: u32) -> usize {
     let mut others = Others::new(rt, seed);
-    let Amid {
-        mut pmd,
-        left,
-        mut history,
-    } = driven(rt, &mut others);
-    let Left {
+    let Settled {
+        home,
         device,
-        history: amid,
-        foreign,
+        history,
         mut bufs,
-    } = left;
-    for entry in amid {
-        done(rt, history.push(entry));
-    }
-    is_well(rt, history.as_slice(), &pmd);
-    let mut direct = Direct::new(rt.alloc(), device, 0);
-    settle(rt, &mut others, &mut direct, &mut pmd);
-    let home = done(rt, pmd.stop(rt.alloc(), &mut direct));
-    let (device, later) = direct.finish();
-    add_calls(
-        rt,
-        &mut history,
-        DRIVER,
-        done(rt, later.into_vec(rt.alloc())),
-    );
-    assert!(rt; is_left_alone(history.as_slice()));
-    let mut tally = Tally::new(rt);
-    tally.add_all(rt, history.as_slice());
-    counts_agree(rt, &device, &tally);
-    let (memory, frames) = taken_apart(device);
-    let mut out: Vec<&[u8]> = Vec::new(rt.alloc());
-    for frame in &tally.collected {
-        done(rt, out.push(*frame));
-    }
-    for (_queue, frame) in &frames {
-        done(rt, out.push(frame.bytes()));
-    }
-    all_agree(rt, home, &tally, out.as_slice());
+        foreign,
+    } = driven_and_stopped(rt, &mut others);
+    let memory = tally_agrees(rt, device, home, history.as_slice());
     take_all(rt, &mut bufs, memory);
     let arenas = done(rt, Vec::from_array(rt.alloc(), others.into_arenas()));
     let _away = all_home(rt, bufs, arenas);

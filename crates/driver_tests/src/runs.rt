@@ -1,7 +1,7 @@
 //! Runs of two workers: at gates of the test's own, under a limit of entries, and with somebody beside them.
 
 use crate::meeting::meets;
-use crate::outcome::Hand;
+use crate::outcome::{Hand, holds};
 use crate::stranger::{Beside, How, LEAST};
 use crate::team::{Came, Order, run_team};
 use std::sync::atomic::{AtomicU64, Ordering};
@@ -123,20 +123,25 @@ const VISITS: [(&str, How, [u32; 2], [bool; 2], usize); 2] = [
     ("a frame goes into the neighbour's block", How::Redirects, [0, 0], [false, false], 0),
 ];
 
-#[test]
-fn a_neighbour_visits_two_workers(rt: HostRuntime) {
+/// Two workers run, and a neighbour visits them.
+fn visited(rt: &impl Hand, how: How) -> Came {
     let order = Order {
         limit: 100_000,
         rounds: 20,
         frames: 4,
     };
+    run_team(rt, &Lockstep::new(rt, 4), order, Beside::new(rt, how, 1))
+}
+
+#[test]
+fn a_neighbour_visits_two_workers(rt: HostRuntime) {
+    let rt = &rt;
     for (name, how, lost, alone, away) in VISITS {
-        let came = run_team(&rt, &Lockstep::new(&rt, 4), order, Beside::new(&rt, how, 1));
-        assert!(rt; came.fed == 4 && came.lost == lost, "{name}: lost");
-        assert!(rt;
-            came.alone == alone && came.away == away,
-            "{name}: left alone"
-        );
+        let came = visited(rt, how);
+        let is_so = came.fed == 4 && came.lost == lost;
+        holds(rt, name, "lost", is_so);
+        let is_so = came.alone == alone && came.away == away;
+        holds(rt, name, "left alone", is_so);
     }
 }
 

@@ -212,17 +212,15 @@ impl Storm {
     }
 }
 
-/// A run of a seed. Answers how many frames were sent.
-fn run_of(rt: &impl Hand, seed: u32) -> usize {
-    let (bench, passes) = done(rt, Bench::new(rt.alloc(), 1, 4, 1_000_000));
-    let mut storm = Storm::new(rt, passes, seed);
-    for number in 0..TURNS {
-        if number % SPELL == 0 {
-            storm.begin(rt, &bench);
-        }
-        storm.turn(rt, &bench);
-    }
-    storm.stop(rt, &bench);
+/// All passes of a storm that is over, the arenas of the drivers, and the stranger's blocks.
+struct Over {
+    passes: Vec<Pass>,
+    arenas: Vec<Arena>,
+    bufs: Vec<Buf>,
+}
+
+/// Ends a storm whose drivers are at home.
+fn end_storm(rt: &impl Hand, storm: Storm) -> Over {
     let Storm {
         random: _,
         drivers: [first, second],
@@ -233,12 +231,36 @@ fn run_of(rt: &impl Hand, seed: u32) -> usize {
     let (of_first, below) = first.end(rt);
     let (of_second, above) = second.end(rt);
     let passes = [of_first, of_second, some(rt, host), stranger];
-    let closed = done(
-        rt,
-        bench.close(done(rt, Vec::from_array(rt.alloc(), passes))),
-    );
+    Over {
+        passes: done(rt, Vec::from_array(rt.alloc(), passes)),
+        arenas: done(rt, Vec::from_array(rt.alloc(), [below, above])),
+        bufs,
+    }
+}
+
+/// All turns of a storm, once it is set up.
+fn all_turns(rt: &impl Hand, bench: &Bench, storm: &mut Storm) {
+    for number in 0..TURNS {
+        if number % SPELL == 0 {
+            storm.begin(rt, bench);
+        }
+        storm.turn(rt, bench);
+    }
+    storm.stop(rt, bench);
+}
+
+/// A run of a seed. Answers how many frames were sent.
+fn run_of(rt: &impl Hand, seed: u32) -> usize {
+    let (bench, passes) = done(rt, Bench::new(rt.alloc(), 1, 4, 1_000_000));
+    let mut storm = Storm::new(rt, passes, seed);
+    all_turns(rt, &bench, &mut storm);
+    let Over {
+        passes,
+        arenas,
+        bufs,
+    } = end_storm(rt, storm);
+    let closed = done(rt, bench.close(passes));
     let sent = sent_in(rt, closed.history());
-    let arenas = done(rt, Vec::from_array(rt.alloc(), [below, above]));
     let _away = apart(rt, closed.into_device(), &sent, bufs, arenas);
     sent.len()
 }

@@ -96,21 +96,20 @@ impl Beside {
     /// The neighbour's visit.
     fn visit(&mut self, rt: &impl Hand, bench: &Bench, pass: &mut Pass) {
         if let How::Takes = self.how {
-            for slot in [5, 6] {
-                let (_at, [a, b, c, d, ..]) = descriptor(rt, bench, pass, 0, slot);
-                let block = u32::from_le_bytes([a, b, c, d]) / 2048;
-                let taken = reply(rt, bench, pass, Event::Take(block));
-                let_reply_go(rt, &mut self.bufs, taken);
-            }
+            self.take(rt, bench, pass, 5);
+            self.take(rt, bench, pass, 6);
             assert!(rt; self.bufs.len() == 2);
-            return;
+        } else {
+            redirect(rt, bench, pass);
         }
-        let (at, _named) = descriptor(rt, bench, pass, 0, 0);
-        let (_at, other) = descriptor(rt, bench, pass, 1, 0);
-        match reply(rt, bench, pass, Event::Poke16(at, other)) {
-            Reply::Done => {}
-            _other => panic!(rt; "not poked"),
-        }
+    }
+
+    /// The neighbour takes the block that a slot of queue 0 names.
+    fn take(&mut self, rt: &impl Hand, bench: &Bench, pass: &mut Pass, slot: u32) {
+        let (_at, [a, b, c, d, ..]) = descriptor(rt, bench, pass, 0, slot);
+        let block = u32::from_le_bytes([a, b, c, d]) / 2048;
+        let taken = reply(rt, bench, pass, Event::Take(block));
+        let_reply_go(rt, &mut self.bufs, taken);
     }
 
     /// A write that leaves no queue alone, at one of the first three queues.
@@ -149,6 +148,16 @@ impl Beside {
         };
         let reply = reply(rt, bench, pass, event);
         let_reply_go(rt, &mut self.bufs, reply);
+    }
+}
+
+/// The neighbour pokes slot 0 of queue 0, which then names the block of slot 0 of queue 1.
+fn redirect(rt: &impl Hand, bench: &Bench, pass: &mut Pass) {
+    let (at, _named) = descriptor(rt, bench, pass, 0, 0);
+    let (_at, other) = descriptor(rt, bench, pass, 1, 0);
+    match reply(rt, bench, pass, Event::Poke16(at, other)) {
+        Reply::Done => {}
+        _other => panic!(rt; "not poked"),
     }
 }
 

@@ -3,10 +3,10 @@
 
 use crate::bench::{count_calls, segment, taken_apart};
 use crate::hostile::stopped_again;
-use crate::outcome::{Hand, done, emptied, none, put, some};
+use crate::outcome::{Hand, done, emptied, none, put, same, some};
 use crate::schedule::{all_home, take_all};
 use crate::stranger::Beside;
-use nic_device::{Arena, Buf, Device, Mode, Port, ReplyNote};
+use nic_device::{Arena, Buf, Device, Mode, Octets, Port, ReplyNote};
 use std::collections::VecDeque;
 use std::sync::atomic::{AtomicU64, Ordering};
 use std::thread::join_mut;
@@ -235,7 +235,7 @@ impl Ending {
         self.came.made = closed.history().len();
         self.came.alone = [closed.left_alone(0, 0), closed.left_alone(1, 1)];
         let beside = done(rt, closed.of_pass(rt.alloc(), 3));
-        assert_eq!(rt; beside.len(), self.came.beside);
+        same(rt, beside.len(), self.came.beside);
     }
 
     /// Stops the drivers that run on, over the device in hand. What goes out meanwhile is put behind what was sent.
@@ -280,6 +280,14 @@ pub fn sent_in(rt: &impl Hand, history: &[Entry]) -> Sent {
     sent
 }
 
+/// The frames out are those that were told of, in order.
+fn are_sent(rt: &impl Hand, sent: &Sent, frames: &[(u8, Octets)]) {
+    assert!(rt; sent.len() == frames.len());
+    for (told, (queue, bytes)) in sent.iter().zip(frames.iter()) {
+        assert!(rt; *told == (u16::from(*queue), bytes.bytes().len()));
+    }
+}
+
 /// Takes a device apart: what went out is what was told, and each block comes home. Answers how many arenas didn't
 /// close before that.
 pub fn apart(
@@ -290,23 +298,13 @@ pub fn apart(
     arenas: Vec<Arena>,
 ) -> usize {
     let (memory, frames) = taken_apart(device);
-    assert!(rt; sent.len() == frames.len());
-    for ((queue, len), (of, bytes)) in sent.iter().zip(frames.iter()) {
-        assert!(rt; *queue == u16::from(*of) && *len == bytes.bytes().len());
-    }
+    are_sent(rt, sent, frames.as_slice());
     take_all(rt, &mut bufs, memory);
     all_home(rt, bufs, arenas)
 }
 
-/// Runs two workers at a gate, with somebody beside them, and takes all apart.
-pub fn run_team<G: Gate + Sync>(
-    rt: &impl Hand,
-    gate: &G,
-    order: Order,
-    mut beside: Beside,
-) -> Came {
-    let (bench, passes) = done(rt, Bench::new(rt.alloc(), 1, 4, order.limit));
-    let (ran, host, other) = run_beside(rt, gate, &bench, passes, order, &mut beside);
+/// Takes the ends of all workers apart. Answers that, and all passes.
+fn begin_ending(rt: &impl Hand, ran: Ran, host: Pass, other: Pass) -> (Ending, Vec<Pass>) {
     let Ran { mut ends, fed } = ran;
     let mut ending = Ending::new(rt, fed, count_calls(other.calls()));
     let mut passes = done(rt, Vec::from_array(rt.alloc(), [host, other]));
@@ -315,7 +313,12 @@ pub fn run_team<G: Gate + Sync>(
         done(rt, passes.push(pass));
     }
     emptied(rt, ends);
-    let closed = done(rt, bench.close(passes));
+    (ending, passes)
+}
+
+/// Stops the drivers that run on, over the device of a closed history, and takes the device apart.
+fn end_all(rt: &impl Hand, ending: Ending, closed: Closed<1, 64>, beside: Beside) -> Came {
+    let mut ending = ending;
     ending.look(rt, &closed);
     let mut sent = sent_in(rt, closed.history());
     let device = ending.stop_all(rt, closed.into_device(), &mut sent);
@@ -328,4 +331,18 @@ pub fn run_team<G: Gate + Sync>(
     let bufs = beside.leave(rt, &mut arenas);
     came.away = apart(rt, device, &sent, bufs, arenas);
     came
+}
+
+/// Runs two workers at a gate, with somebody beside them, and takes all apart.
+pub fn run_team<G: Gate + Sync>(
+    rt: &impl Hand,
+    gate: &G,
+    order: Order,
+    mut beside: Beside,
+) -> Came {
+    let (bench, passes) = done(rt, Bench::new(rt.alloc(), 1, 4, order.limit));
+    let (ran, host, other) = run_beside(rt, gate, &bench, passes, order, &mut beside);
+    let (ending, passes) = begin_ending(rt, ran, host, other);
+    let closed = done(rt, bench.close(passes));
+    end_all(rt, ending, closed, beside)
 }

@@ -1,0 +1,78 @@
+//! A device in hand and a driver of one of its queues, as one value.
+
+use crate::bench::{
+    arrive, end, frame_of, has_bytes, in_hand, opened, reap, received, send, started_with, stop,
+};
+use crate::outcome::{Hand, some};
+use nic_device::Octets;
+use workers::{Direct, Packet, Pmd};
+
+/// The device, and its driver, which has started.
+pub struct Rig {
+    /// The device.
+    pub direct: Direct,
+    /// The driver.
+    pub pmd: Pmd,
+}
+
+impl Rig {
+    /// A promiscuous device, and a driver of its queue 0 with rings of this size and so many blocks from a number on.
+    pub fn new(rt: &impl Hand, size: u16, blocks: (u32, u32)) -> Rig {
+        let mut direct = opened(rt, 64, 0);
+        let pmd = started_with(rt, &mut direct, size, blocks);
+        Rig { direct, pmd }
+    }
+
+    /// A frame arrives.
+    pub fn arrive(&mut self, rt: &impl Hand, bytes: Vec<u8>) {
+        arrive(rt, &mut self.direct, bytes);
+    }
+
+    /// The next packet, where one waits.
+    pub fn received(&mut self, rt: &impl Hand) -> Option<Packet> {
+        received(rt, &mut self.direct, &mut self.pmd)
+    }
+
+    /// Sends a packet that the ring has room for.
+    pub fn send(&mut self, rt: &impl Hand, packet: Packet) {
+        send(rt, &mut self.direct, &mut self.pmd, packet);
+    }
+
+    /// Reaps until no packet is outstanding.
+    pub fn reap(&mut self, rt: &impl Hand) {
+        reap(rt, &mut self.direct, &mut self.pmd);
+    }
+
+    /// The next packet that waits, which holds these bytes, is sent again.
+    pub fn echo(&mut self, rt: &impl Hand, frame: &[u8]) {
+        let packet = some(rt, self.received(rt));
+        assert!(rt; has_bytes(&packet, frame));
+        self.send(rt, packet);
+    }
+
+    /// Five frames from this number on come, are handed out in order, and are sent again.
+    fn five_frames(&mut self, rt: &impl Hand, first: u16) {
+        for number in first..first.saturating_add(5) {
+            self.arrive(rt, frame_of(rt, number));
+        }
+        for number in first..first.saturating_add(5) {
+            self.echo(rt, frame_of(rt, number).as_slice());
+        }
+        self.reap(rt);
+    }
+
+    /// The frames of the numbers below this come and go so, five at a time.
+    pub fn frames(&mut self, rt: &impl Hand, count: u16) {
+        for first in (0..count).step_by(5) {
+            self.five_frames(rt, first);
+        }
+    }
+
+    /// Stops the driver, to which all blocks come home, and so many packets were handed out and accepted. Answers the
+    /// frames out.
+    pub fn end(self, rt: &impl Hand, packets: (usize, usize)) -> Vec<(u8, Octets)> {
+        let Rig { mut direct, pmd } = self;
+        assert!(rt; stop(rt, &mut direct, pmd) == packets);
+        end(rt, in_hand(direct))
+    }
+}

@@ -4,7 +4,7 @@ use crate::bench::{
     PLAIN, Why, close, count_calls, end, has_bytes, in_hand, reason, set_up, stopped, untouched,
 };
 use crate::driver::free_blocks;
-use crate::outcome::{Hand, done, refused, same};
+use crate::outcome::{Hand, done, refused, same, some};
 use crate::rig::Rig;
 use nic_device::{Arena, Event, Octets, Port, Reply};
 use workers::{Direct, Nic, Packet, Pmd, Rest, Setup, StartRefused, pf_setup};
@@ -26,11 +26,11 @@ fn rig_for_long_frames(rt: &impl Hand) -> Rig {
     Rig { direct, pmd }
 }
 
-/// Stops a driver, to which 320 blocks come home, and by which one packet came and went.
-fn stop_with_320(rt: &impl Hand, direct: &mut Direct, pmd: Pmd) {
+/// Stops a driver, to which 320 blocks come home, and by which so many packets came and went.
+fn stop_with_320(rt: &impl Hand, direct: &mut Direct, pmd: Pmd, packets: (usize, usize)) {
     let home = stopped(rt, direct, pmd);
     same(rt, home.arena.free_blocks() as usize, 320);
-    assert!(rt; close(rt, home) == (1, 1));
+    assert!(rt; close(rt, home) == packets);
 }
 
 /// A frame of 5,000 bytes to the broadcast address.
@@ -75,7 +75,7 @@ fn a_frame_of_5_000_bytes_is_received_and_sent_again(rt: HostRuntime) {
     rig.reap(rt);
     assert!(rt; collected(rt, &mut rig.direct).bytes() == frame.as_slice());
     let Rig { mut direct, pmd } = rig;
-    stop_with_320(rt, &mut direct, pmd);
+    stop_with_320(rt, &mut direct, pmd, (1, 1));
     assert!(rt; end(rt, in_hand(direct)).is_empty());
 }
 
@@ -85,31 +85,32 @@ fn made_no_call(rt: &impl Hand, direct: Direct) {
     end(rt, in_hand(direct));
 }
 
-/// Each of the two writes goes on in the next Buf. What would go a byte beyond the packet isn't written.
-#[test]
-fn a_packet_of_5_000_bytes_is_filled_and_sent(rt: HostRuntime) {
-    let setup = Setup {
-        frame: 9728,
-        ..PLAIN
-    };
-    let mut direct = set_up(&rt, 64, 0, &setup);
-    let mut pmd = done(&rt, start(&rt, &mut direct, 256, 9728));
-    let frame = long_frame(&rt);
-    let (first, others) = frame.as_slice().split_at(frame.len() / 2);
-    let mut packet = some(&rt, pmd.packet(5000));
-    assert_eq!(rt; packet.bufs.count(), 3);
+/// A packet of 5,000 bytes that is filled with these by two writes, each of which goes on in the next Buf. What would go
+/// a byte beyond the packet isn't written.
+fn filled(rt: &impl Hand, pmd: &mut Pmd, frame: &[u8]) -> Packet {
+    let (first, others) = frame.split_at(frame.len() / 2);
+    let mut packet = some(rt, pmd.packet(5000));
+    same(rt, packet.bufs.count(), 3);
     assert!(rt; packet.write_at(first.len(), others));
     assert!(rt; packet.write_at(0, first));
     assert!(rt; !packet.write_at(4999, &[1, 1]));
     assert!(rt; !packet.write_at(usize::MAX, &[1, 1]));
+    packet
+}
+
+#[test]
+fn a_packet_of_5_000_bytes_is_filled_and_sent(rt: HostRuntime) {
+    let rt = &rt;
+    let mut rig = rig_for_long_frames(rt);
+    let frame = long_frame(rt);
+    let packet = filled(rt, &mut rig.pmd, frame.as_slice());
     assert!(rt; has_bytes(&packet, frame.as_slice()));
-    send(&rt, &mut direct, &mut pmd, packet);
-    reap(&rt, &mut direct, &mut pmd);
-    assert!(rt; collected(&rt, &mut direct).bytes() == frame.as_slice());
-    let home = done(&rt, pmd.stop(rt.alloc(), &mut direct));
-    assert_eq!(rt; home.arena.free_blocks(), 320);
-    assert!(rt; close(&rt, home) == (0, 1));
-    assert!(rt; end(&rt, in_hand(direct)).is_empty());
+    rig.send(rt, packet);
+    rig.reap(rt);
+    assert!(rt; collected(rt, &mut rig.direct).bytes() == frame.as_slice());
+    let Rig { mut direct, pmd } = rig;
+    stop_with_320(rt, &mut direct, pmd, (0, 1));
+    assert!(rt; end(rt, in_hand(direct)).is_empty());
 }
 
 /// Rings and frames that no driver has: how many descriptors, and how many bytes.

@@ -85,8 +85,8 @@ fn made_no_call(rt: &impl Hand, direct: Direct) {
     end(rt, in_hand(direct));
 }
 
-/// A packet of 5,000 bytes that is filled with these by two writes, each of which goes on in the next Buf. What would go
-/// a byte beyond the packet isn't written.
+/// A packet of 5,000 bytes that is filled with these by two writes, each of which goes on in the next Buf. What would
+/// go a byte beyond the packet isn't written.
 fn filled(rt: &impl Hand, pmd: &mut Pmd, frame: &[u8]) -> Packet {
     let (first, others) = frame.split_at(frame.len() / 2);
     let mut packet = some(rt, pmd.packet(5000));

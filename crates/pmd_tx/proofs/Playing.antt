@@ -43,7 +43,8 @@ accepts-last blocks (n ∷ before) m accepts = (tt, accepts-last blocks before m
 
 -- an own event after calls that aren't own
 pub plays_adds : (blocks : List ℕ) (old new : List Call) (v : Sender) (m : Move) → is_elsewhere m ≡ false
-    → (e : Event Block) (r : Reply Block) → IsOwn v m e → AcceptsIn blocks m → Adds old new e r → PlaysWith blocks old v new (moved v m r)
+    → (e : Event Block) (r : Reply Block) → IsOwn v m e → AcceptsIn blocks m → Adds old new e r
+    → PlaysWith blocks old v new (moved v m r)
 plays_adds blocks old new v m mine e r own accepts (before, is, steps) = record {
   plays = (
     elsewhere before ++ m ∷ [],

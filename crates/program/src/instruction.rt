@@ -158,7 +158,8 @@ impl<L, D> Instruction<L, D> {
             Instruction::Collect => Instruction::Collect,
             Instruction::Expect { want, mask } => Instruction::Expect { want, mask },
             Instruction::And(word) => Instruction::And(word),
-            _ => Instruction::Halt,
+            Instruction::Halt => Instruction::Halt,
+            _ => unreachable!(),
         }
     }
 }

@@ -3,7 +3,13 @@ use Rattle.pmd.proofs.Living.{runs_still, runs_on}
 use Rattle.workers.proofs.turns.reap_all.Goals as goal
 
 pub loop-init : goal.loop-init
-loop-init g c = record { handed = refl; drives = runs_still _ _; queue = refl; blocks = λ a has. has; began = λ o is. is }
+loop-init g c = record {
+  handed = refl;
+  drives = runs_still _ _;
+  queue = refl;
+  blocks = λ a has. has;
+  began = λ o is. is;
+}
 
 pub loop-preserved : goal.loop-preserved
 loop-preserved g c =

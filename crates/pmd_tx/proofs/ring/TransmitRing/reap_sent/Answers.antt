@@ -20,19 +20,22 @@ loop-reaped-init g c = record {
 pub returns-in-Ok-None-clause-plays : goal.returns-in-Ok-None-clause-plays
 returns-in-Ok-None-clause-plays g c blocks =
     plays_both blocks (g.N.Nic.made c.args.nic.now) (g.N.Nic.made c.loop-reaped.nic)
-    (g.N.Nic.made c.reap_oldest.new.nic) c.args.self.now c.loop-reaped.self c.reap_oldest.new.self (c.loop-reaped.invariant.reaped.plays blocks)
+    (g.N.Nic.made c.reap_oldest.new.nic) c.args.self.now c.loop-reaped.self c.reap_oldest.new.self
+    (c.loop-reaped.invariant.reaped.plays blocks)
     (c.reap_oldest.ensures.plays blocks)
 
 pub returns-in-Ok-None-clause-waits : goal.returns-in-Ok-None-clause-waits
 returns-in-Ok-None-clause-waits g c = λ is.
     looks_after (g.N.Nic.made c.args.nic.now) (g.N.Nic.made c.loop-reaped.nic)
-    (g.N.Nic.made c.reap_oldest.new.nic) c.args.self.now c.loop-reaped.self c.reap_oldest.new.self (c.loop-reaped.invariant.reaped.plays []).plays
+    (g.N.Nic.made c.reap_oldest.new.nic) c.args.self.now c.loop-reaped.self c.reap_oldest.new.self
+    (c.loop-reaped.invariant.reaped.plays []).plays
     c.loop-reaped.invariant.reaped.accepted (c.in-Ok-None.ensures.waits (rw c.in-Ok-None.field-0-is refl))
 
 pub returns-in-Err-clause-plays : goal.returns-in-Err-clause-plays
 returns-in-Err-clause-plays g c blocks =
     plays_both blocks (g.N.Nic.made c.args.nic.now) (g.N.Nic.made c.loop-reaped.nic)
-    (g.N.Nic.made c.reap_oldest.new.nic) c.args.self.now c.loop-reaped.self c.reap_oldest.new.self (c.loop-reaped.invariant.reaped.plays blocks)
+    (g.N.Nic.made c.reap_oldest.new.nic) c.args.self.now c.loop-reaped.self c.reap_oldest.new.self
+    (c.loop-reaped.invariant.reaped.plays blocks)
     (c.reap_oldest.ensures.plays blocks)
 
 pub returns-in-Err-clause-faults : goal.returns-in-Err-clause-faults

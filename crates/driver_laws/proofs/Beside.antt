@@ -13,7 +13,9 @@ use Rattle.nic_device.specs.VfMap.declared.mode.Mode.{Mode}
 use Rattle.nic_device.specs.declared.event.Event.{Event}
 use Rattle.nic_device.specs.declared.event.Event.TheVariants as event
 use Rattle.nic_device.specs.declared.event.Port.TheVariants.{Pf, Vf}
-use Rattle.device_lock.specs.Alone.{Blocks, LeavesBlocks, LeavesRegisters, SparesIfSome, is_setting, mode_after}
+use Rattle.nic_device.specs.RegisterFile.Pools.{mode_in}
+use Rattle.nic_device.specs.Step.{after}
+use Rattle.device_lock.specs.Alone.{Blocks, LeavesBlocks, LeavesRegisters, SparesIfSome, is_setting}
 use Rattle.device_lock.specs.History.{call_in, calls_of}
 use Rattle.device_lock.specs.Pass.{call_of}
 use Rattle.device_lock.specs.declared.alone.Watched.{Watched}
@@ -148,9 +150,9 @@ module _ (w : Watched) (mine : Blocks) (mode : Mode) (e : Entry) (es : List Entr
   )
 
 pub harmless_leave_alone : HarmlessLeaveAlone
-harmless_leave_alone w mine mode doers [] harmless = tt
-harmless_leave_alone w mine mode doers (e ∷ es) harmless =
-    let here = one_call w mine mode e es doers (e.pass == w.pass) refl harmless in (
+harmless_leave_alone w mine s doers [] harmless = tt
+harmless_leave_alone w mine s doers (e ∷ es) harmless =
+    let here = one_call w mine (mode_in s.registers) e es doers (e.pass == w.pass) refl harmless in (
       here.0,
-      harmless_leave_alone w mine (mode_after w.vfs mode e.event) (doers_after (e.pass == w.pass) doers) es here.1,
+      harmless_leave_alone w mine (after s e.event) (doers_after (e.pass == w.pass) doers) es here.1,
     )

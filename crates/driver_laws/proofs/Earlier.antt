@@ -1,6 +1,6 @@
 -- What was delivered up to an earlier place, where nothing was handed out since.
 use Rattle.std.proofs.Common.{◌≡◌, List, [], ◌++◌, sym, ap, ◌∙◌, subst}
-use Rattle.nic_device.specs.State.{State, new_state}
+use Rattle.nic_device.specs.State.{State}
 use Rattle.device_lock.specs.History.{calls_of, leads_to}
 use Rattle.pmd.specs.PmdSeam.Packet.{Kept}
 use Rattle.receive_laws.proofs.Delivering.{between, grows, pieces-append}
@@ -11,18 +11,18 @@ use Rattle.driver_laws.specs.Histories.{NoneIsAllBefore}
 use Rattle.driver_laws.proofs.InOrder.{delivered_is, handed_is_prefix, none_is_all}
 
 pub none_is_all_before : NoneIsAllBefore
-none_is_all_before w fifo start before rest h early doers d e finds same =
-    let here : State = leads_to (new_state w.vfs fifo) start in
+none_is_all_before w origin start before rest h early doers d e finds same =
+    let here : State = leads_to origin start in
     let whole : pieces_in w.queue here (before ++ rest)
     ≡ pieces_in w.queue here before ++ pieces_in w.queue (leads_to here before) rest =
     pieces-append w.queue here before rest in
     between (played_by h early (calls_of w.pass before)).receive.handed
-    (delivered w.queue (new_state w.vfs fifo) (start ++ before))
-    (delivered w.queue (new_state w.vfs fifo) (start ++ (before ++ rest)))
-    (handed_is_prefix w fifo start before h early d)
-    (subst (λ (ks : List Kept). IsPrefixOf ks (delivered w.queue (new_state w.vfs fifo) (start ++ (before ++ rest))))
-    (sym (delivered_is w fifo start before h early d))
+    (delivered w.queue origin (start ++ before))
+    (delivered w.queue origin (start ++ (before ++ rest)))
+    (handed_is_prefix w origin start before h early d)
+    (subst (λ (ks : List Kept). IsPrefixOf ks (delivered w.queue origin (start ++ (before ++ rest))))
+    (sym (delivered_is w origin start before h early d))
     (subst (IsPrefixOf (packets_of (pieces_in w.queue here before)))
-    (sym (delivered_is w fifo start (before ++ rest) h doers e ∙ ap (λ (ps : List Piece). packets_of ps) whole))
+    (sym (delivered_is w origin start (before ++ rest) h doers e ∙ ap (λ (ps : List Piece). packets_of ps) whole))
     (grows [] (pieces_in w.queue here before) (pieces_in w.queue (leads_to here before) rest))))
-    (sym (none_is_all w fifo start (before ++ rest) h doers e finds) ∙ same)
+    (sym (none_is_all w origin start (before ++ rest) h doers e finds) ∙ same)

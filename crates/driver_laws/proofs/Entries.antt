@@ -4,21 +4,20 @@ use Rattle.std.specs.Prelude.{IsTrue}
 use Rattle.std.proofs.lemmas.List.{append-nil}
 use Rattle.nic_device.specs.DmaArena.Block.{Block}
 use Rattle.nic_device.specs.DmaArena.Memory.{has_block}
-use Rattle.nic_device.specs.VfMap.declared.mode.Mode.{Mode}
+use Rattle.nic_device.specs.RegisterFile.Pools.{mode_in}
 use Rattle.nic_device.specs.Sound.{IsEvent}
 use Rattle.nic_device.specs.State.{State}
 use Rattle.nic_device.specs.Step.{after, reply_to}
 use Rattle.nic_device.specs.declared.event.Event.{Event}
 use Rattle.nic_device.specs.declared.event.Event.TheVariants as event
 use Rattle.nic_device.proofs.Steps.{step_leads, keeps_sound}
-use Rattle.device_lock.specs.Alone.{Blocks, LeavesRegisters, LeavesBlocks, WritesOutside, mode_after}
+use Rattle.device_lock.specs.Alone.{Blocks, LeavesRegisters, LeavesBlocks, WritesOutside}
 use Rattle.device_lock.specs.Pass.{call_of}
 use Rattle.device_lock.specs.declared.alone.Watched.{Watched}
 use Rattle.pmd.specs.PmdRx.Receive as receiving
 use Rattle.pmd.specs.PmdRx.Receive.{drive}
 use Rattle.pmd.specs.PmdTx.Sending as sending
 use Rattle.pmd.specs.PmdTx.Sending.{Move, Accepts, Lends, Asks, Advances, Looks, Reaps, Elsewhere, has_lent, moved}
-use Rattle.receive_laws.proofs.HistoryLaws.Modes.{event_told}
 use Rattle.receive_laws.specs.Joint.{Agree}
 use Rattle.receive_laws.specs.Pieces.{Piece, pieces}
 use Rattle.receive_laws.proofs.Leaving.{leaving_keeps}
@@ -59,8 +58,8 @@ may_move queue s h Advances e real own made = (own, made)
 may_move queue s h Looks e real own made = (own, made)
 may_move queue s h Reaps e real own made = (own, made)
 
-module _ (w : Watched) (mine : Blocks) (mode : Mode) (s : State) (out : List Piece) (sent : List (List ℕ)) (h : Halves)
-    (m : Meets w mine mode s out sent h) (e : Event Block) (made : IsEvent e)
+module _ (w : Watched) (mine : Blocks) (s : State) (out : List Piece) (sent : List (List ℕ)) (h : Halves)
+    (m : Meets w mine s out sent h) (e : Event Block) (made : IsEvent e)
     (steps : WritesOutside w.queue mine (reply_to s e)) where
   abbrev t : State
   t = after s e
@@ -119,22 +118,20 @@ module _ (w : Watched) (mine : Blocks) (mode : Mode) (s : State) (out : List Pie
   -- by whose it is
 
   pub doer_keeps : (d : Doer) → OwnCall h d (call_of e (reply_to s e))
-      → (is_neither d ≡ true → LeavesRegisters w mode e × LeavesBlocks mine e)
+      → (is_neither d ≡ true → LeavesRegisters w (mode_in s.registers) e × LeavesBlocks mine e)
       → (is_neither d ≡ false → LendsMine mine e (reply_to s e)) → Agrees (after_call h d (call_of e (reply_to s e)))
   doer_keeps Receives own others lends = receives_keeps own (lends refl)
   doer_keeps (Sends Elsewhere) own others lends =
-      neither_keeps w mine mode s out sent h m e made steps (others refl).0 (others refl).1
+      neither_keeps w mine s out sent h m e made steps (others refl).0 (others refl).1
   doer_keeps (Sends move) own others lends = sends_keeps move refl own (lends refl)
 
   pub goes_on : (k : Halves) → Agrees k
-      → Meets w mine (mode_after w.vfs mode e) t (out ++ pieces w.queue s e) (sent ++ sent_by w.queue s e) k
+      → Meets w mine t (out ++ pieces w.queue s e) (sent ++ sent_by w.queue s e) k
   goes_on k agrees =
       let stays = (step_leads s e).stays in
       record {
         sound = keeps_sound s m.sound e made;
-        image = stays.image ∙ m.image;
         vfs = m.vfs ∙ sym stays.vfs;
-        mode_is = (λ i. mode_after (m.vfs i) (m.mode_is i) e) ∙ event_told s m.sound m.image e;
         both = agrees.0;
         lent = agrees.1;
       }

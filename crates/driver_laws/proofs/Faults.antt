@@ -1,8 +1,9 @@
 -- No call ends with the device at fault.
-use Rattle.std.proofs.Common.{◌≡◌, ℕ, List, [], ◌∷◌, ◌++◌, refl, sym, ap, ◌∙◌, subst, append_assoc}
+use Rattle.std.proofs.Common.{◌≡◌, List, [], ◌∷◌, ◌++◌, refl, sym, ap, ◌∙◌, subst, append_assoc}
 use Rattle.std.proofs.lemmas.Bool.{both_ways}
 use Rattle.std.proofs.lemmas.List.{append_cancel_left, map-append}
 use Rattle.std.proofs.lemmas.List.Elements.{filter-append}
+use Rattle.nic_device.specs.State.{State}
 use Rattle.device_lock.specs.Alone.{Blocks}
 use Rattle.device_lock.specs.History.{calls_of}
 use Rattle.device_lock.specs.Pass.{call_of}
@@ -38,11 +39,11 @@ last_apart own h [] d n steps apart = (apart, tt)
 last_apart own h (m ∷ before) d n steps apart =
     (step_apart own h m.event steps.0, last_apart own h before d n steps.1 apart)
 
-module _ (w : Watched) (fifo : ℕ) (start rest more : List Entry) (h : Halves) (doers : List Doer) (own : Blocks)
+module _ (w : Watched) (origin : State) (start rest more : List Entry) (h : Halves) (doers : List Doer) (own : Blocks)
     (old new : List Call) (f : FindsFault own old (played_by h doers (calls_of w.pass rest)) new)
     (did : AllOwn h doers (calls_of w.pass rest)) (apart : AllLendApart own h doers (calls_of w.pass rest))
     (made : new ≡ old ++ calls_of w.pass more)
-    (x : IsUnshared w fifo start (rest ++ more) h
+    (x : IsUnshared w origin start (rest ++ more) h
     (doers ++ doers_of own old (played_by h doers (calls_of w.pass rest)) new f) own)
   where
     abbrev there : Halves
@@ -84,7 +85,7 @@ module _ (w : Watched) (fifo : ℕ) (start rest more : List Entry) (h : Halves) 
     last_is : IsHealthy f.there f.doer last
     last_is =
         let all = subst (AreHealthy h (doers ++ (f.drives.drives.0 ++ ends))) joined
-        (own_replies_are_healthy w fifo start (rest ++ more) h (doers ++ (f.drives.drives.0 ++ ends)) own x all_apart)
+        (own_replies_are_healthy w origin start (rest ++ more) h (doers ++ (f.drives.drives.0 ++ ends)) own x all_apart)
         in
         let here = subst (AreHealthy there (f.drives.drives.0 ++ ends)) made_last
         (healthy_behind h doers (f.drives.drives.0 ++ ends) (calls_of w.pass rest) (calls_of w.pass more) did all) in
@@ -93,6 +94,6 @@ module _ (w : Watched) (fifo : ℕ) (start rest more : List Entry) (h : Halves) 
         (healthy_behind there f.drives.drives.0 ends since (f.adds.0 ++ last ∷ []) f.drives.drives.3 here))
 
 pub no_fault : NoFault
-no_fault w fifo start rest more h doers own old new f did apart made x =
+no_fault w origin start rest more h doers own old new f did apart made x =
     both_ways (is_healthy f.there f.doer (call_of f.event f.reply)) f.sick
-    (last_is w fifo start rest more h doers own old new f did apart made x)
+    (last_is w origin start rest more h doers own old new f did apart made x)

@@ -10,7 +10,6 @@ use Rattle.nic_device.specs.RegTable.declared.rows.RowId.TheVariants.{Rdt, Tdt}
 use Rattle.nic_device.specs.RegisterFile.Access.{asks_pool_reset}
 use Rattle.nic_device.specs.RegisterFile.Columns.{place}
 use Rattle.nic_device.specs.RegisterFile.Pools.{mode_in}
-use Rattle.nic_device.specs.VfMap.declared.mode.Mode.{Mode}
 use Rattle.nic_device.specs.Named.{named}
 use Rattle.nic_device.specs.State.{State}
 use Rattle.nic_device.specs.Step.{after, reply_to}
@@ -92,8 +91,8 @@ spared_resets w s vfs (event.Write port n word) left = λ p view is asks.
     spares.pool asks
 spared_resets w s vfs other left = tt
 
-module _ (w : Watched) (mine : Blocks) (mode : Mode) (s : State) (out : List Piece) (sent : List (List ℕ)) (h : Halves)
-    (m : Meets w mine mode s out sent h)
+module _ (w : Watched) (mine : Blocks) (s : State) (out : List Piece) (sent : List (List ℕ)) (h : Halves)
+    (m : Meets w mine s out sent h)
   where
     own_resets : (e : Event Block) → receiving.IsOwn h.receive e → ResetsNoPool w.queue s e
     own_resets (event.Write port n word) own =
@@ -115,14 +114,14 @@ module _ (w : Watched) (mine : Blocks) (mode : Mode) (s : State) (out : List Pie
     move_resets move e real own = absurd own
 
     none_reset : (d : Doer) (e : Event Block) → OwnCall h d (call_of e (reply_to s e))
-        → (is_neither d ≡ true → LeavesRegisters w mode e) → ResetsNoPool w.queue s e
+        → (is_neither d ≡ true → LeavesRegisters w (mode_in s.registers) e) → ResetsNoPool w.queue s e
     none_reset Receives e own others = own_resets e own
     none_reset (Sends Elsewhere) e own others =
-        spared_resets w s m.vfs e (subst (λ k. LeavesRegisters w k e) m.mode_is (others refl))
+        spared_resets w s m.vfs e (others refl)
     none_reset (Sends move) e own others = move_resets move e refl own
 
     pub fitting_after : IsUp w.queue s → AreFitting w.queue h.receive.layout.most s out → (d : Doer) (e : Event Block)
-        → OwnCall h d (call_of e (reply_to s e)) → (is_neither d ≡ true → LeavesRegisters w mode e)
+        → OwnCall h d (call_of e (reply_to s e)) → (is_neither d ≡ true → LeavesRegisters w (mode_in s.registers) e)
         → WritesNoSetting s e → (r : Reply Block)
         → AreFitting w.queue (after_call h d (call_of e r)).receive.layout.most (after s e) (out ++ pieces w.queue s e)
     fitting_after up fit d e own others none r =

@@ -2,12 +2,11 @@
 use Rattle.std.proofs.Common.{◌≡◌, ℕ, ◌*◌, Bool, true, false, List, [], ◌∷◌, ◌++◌, refl, sym, ◌∙◌, subst, arith}
 use Rattle.std.specs.Prelude.{◌==◌, IsTrue}
 use Rattle.std.proofs.lemmas.Bool.{or_left, or_right}
-use Rattle.nic_device.specs.VfMap.declared.mode.Mode.{Mode}
-use Rattle.nic_device.specs.VfMap.declared.mode.Mode.TheVariants.{Off}
+use Rattle.nic_device.specs.RegisterFile.Pools.{mode_in}
 use Rattle.nic_device.specs.Sound.{IsEvent}
-use Rattle.nic_device.specs.State.{State, new_state}
+use Rattle.nic_device.specs.State.{State}
 use Rattle.nic_device.specs.Step.{after, reply_to}
-use Rattle.device_lock.specs.Alone.{Blocks, LeavesRegisters, lent_by, mode_after, mode_through}
+use Rattle.device_lock.specs.Alone.{Blocks, LeavesRegisters, lent_by}
 use Rattle.device_lock.specs.History.{IsLegal, AreEvents, call_in, calls_of, leads_to}
 use Rattle.device_lock.specs.Pass.{call_of}
 use Rattle.device_lock.specs.declared.alone.Watched.{Watched}
@@ -15,13 +14,12 @@ use Rattle.device_lock.specs.declared.entry.Entry.{Entry}
 use Rattle.receive_laws.specs.HistoryLaws.Alone.{AllAlone}
 use Rattle.receive_laws.specs.HistoryLaws.Lent.{OnlyLent}
 use Rattle.receive_laws.proofs.HistoryLaws.Alone.{alone_by_entries}
-use Rattle.receive_laws.proofs.HistoryLaws.Modes.{mode_told}
 use Rattle.receive_laws.proofs.HistoryLaws.Sound.{histories_sound}
 use Rattle.receive_laws.specs.Fitting.{AreFitting}
 use Rattle.receive_laws.specs.Pieces.{Piece, pieces}
 use Rattle.receive_laws.specs.Up.{IsUp}
 use Rattle.device_lock.proofs.Histories.{events_before, events_behind, legal_behind}
-use Rattle.receive_laws.proofs.Delivering.{image_stays, lent_behind, vfs_stays}
+use Rattle.receive_laws.proofs.Delivering.{lent_behind, vfs_stays}
 use Rattle.transmit_laws.specs.Sent.{sent_by}
 use Rattle.pmd.specs.Apart.{LendsApart, AllLendApart}
 use Rattle.pmd.specs.Halves.{Halves, Doer, OwnCall, AllOwn, after_call, is_neither}
@@ -73,57 +71,54 @@ record Goes (w : Watched) (own : Blocks) (s : State) (out : List Piece) (h : Hal
     rests : Rests w.queue own (after s e.event) (out ++ pieces w.queue s e.event) (after_call h d (call_in e))
 
 module _ (w : Watched) (mine own : Blocks) where
-  one_goes : (mode : Mode) (s : State) (out : List Piece) (sent : List (List ℕ)) (h : Halves) (d : Doer) (e : Entry)
-      → Meets w mine mode s out sent h → Rests w.queue own s out h → e.reply ≡ reply_to s e.event → IsEvent e.event
-      → OwnCall h d (call_in e) → (is_neither d ≡ true → LeavesRegisters w mode e.event)
+  one_goes : (s : State) (out : List Piece) (sent : List (List ℕ)) (h : Halves) (d : Doer) (e : Entry)
+      → Meets w mine s out sent h → Rests w.queue own s out h → e.reply ≡ reply_to s e.event → IsEvent e.event
+      → OwnCall h d (call_in e) → (is_neither d ≡ true → LeavesRegisters w (mode_in s.registers) e.event)
       → LendsApart own h d e.event → IsUp w.queue (after s e.event) → Goes w own s out h d e
-  one_goes mode s out sent h d e m r legal made did others apart up =
+  one_goes s out sent h d e m r legal made did others apart up =
       let t = after s e.event in
       let here = subst (λ (x : _). OwnCall h d (call_of e.event x)) legal did in
-      let none = no_setting w mine own mode s out sent h m r.known e.event made d here others in
+      let none = no_setting w mine own s out sent h m r.known e.event made d here others in
       record {
         here = subst (λ (x : _). IsHealthy h d (call_of e.event x)) (sym legal)
-            (healthy_call w mine own mode s out sent h m r.known e.event d here apart r.fit.pieces);
+            (healthy_call w mine own s out sent h m r.known e.event d here apart r.fit.pieces);
         rests = record {
           up = up;
-          fit = fitting_after w mine mode s out sent h m r.up r.fit d e.event here others none e.reply;
+          fit = fitting_after w mine s out sent h m r.up r.fit d e.event here others none e.reply;
           known = subst (λ (x : _). OnlyLent own (healthy.lent_by (after_call h d (call_of e.event x))) t.memory)
-              (sym legal) (known_after w mine own mode s out sent h m r.known e.event d here apart);
+              (sym legal) (known_after w mine own s out sent h m r.known e.event d here apart);
         };
       }
 
-  along : (mode : Mode) (s : State) (out : List Piece) (sent : List (List ℕ)) (h : Halves) (doers : List Doer)
-      (es : List Entry) → Meets w mine mode s out sent h → Rests w.queue own s out h → IsLegal s es → AreEvents es
-      → AllAlone w mine mode es → AllOwn h doers (calls_of w.pass es) → OthersLeaveAlone w mine mode doers es
+  along : (s : State) (out : List Piece) (sent : List (List ℕ)) (h : Halves) (doers : List Doer)
+      (es : List Entry) → Meets w mine s out sent h → Rests w.queue own s out h → IsLegal s es → AreEvents es
+      → AllAlone w mine s es → AllOwn h doers (calls_of w.pass es) → OthersLeaveAlone w mine s doers es
       → ((n : ℕ) → IsTrue (lent_by w.pass es n) → IsTrue (mine n)) → OnlyPassLends w.pass own es
       → AllLendApart own h doers (calls_of w.pass es) → AreHealthy h doers (calls_of w.pass es)
-  along mode s out sent h doers [] m r legal events alone did others covers none apart = none_healthy h doers
-  along mode s out sent h doers (e ∷ es) m r legal events alone did others covers none apart =
+  along s out sent h doers [] m r legal events alone did others covers none apart = none_healthy h doers
+  along s out sent h doers (e ∷ es) m r legal events alone did others covers none apart =
       let b = e.pass == w.pass in
       let d = doer_of b doers in
       let next = next_by w.pass h doers e es b refl did in
       let lends = apart_by w.pass own h doers e es b refl did none.0 apart in
-      let goes = one_goes mode s out sent h d e m r legal.0 events.0 next.own
-      (λ neither. (others_leave w mine mode doers e b refl alone.0 others.0 neither).0) lends.0
-      (one_receives_up w mine mode s out sent h doers e b refl m legal.0 events.0 alone.0 others.0 next.own r.up) in
-      let then = one_entry w mine mode s out sent h doers e b refl m legal.0 events.0 alone.0 others.0 next.own
+      let goes = one_goes s out sent h d e m r legal.0 events.0 next.own
+      (λ neither. (others_leave w mine (mode_in s.registers) doers e b refl alone.0 others.0 neither).0) lends.0
+      (one_receives_up w mine s out sent h doers e b refl m legal.0 events.0 alone.0 others.0 next.own r.up) in
+      let then = one_entry w mine s out sent h doers e b refl m legal.0 events.0 alone.0 others.0 next.own
       (λ n is. covers n (or_left _ _ is)) in
       all_healthy h doers e es w.pass b refl goes.here
-      (along (mode_after w.vfs mode e.event) (after s e.event) (out ++ pieces w.queue s e.event)
+      (along (after s e.event) (out ++ pieces w.queue s e.event)
       (sent ++ sent_by w.queue s e.event) (after_call h d (call_in e)) (doers_after b doers) es then goes.rests legal.1
       events.1 alone.1 next.rest others.1 (λ n is. covers n (or_right _ _ is)) none.1 lends.1)
 
 pub own_replies_are_healthy : OwnRepliesAreHealthy
-own_replies_are_healthy w fifo start rest h doers own x apart =
+own_replies_are_healthy w origin start rest h doers own x apart =
     let d = x.driven in
-    let new = new_state w.vfs fifo in
     let before = events_before start rest d.events in
-    along w (lent_by w.pass (start ++ rest)) own (mode_through w.vfs Off start) (leads_to new start) [] [] h doers rest
+    along w (lent_by w.pass (start ++ rest)) own (leads_to origin start) [] [] h doers rest
     (record {
-      sound = histories_sound new start d.new before;
-      image = image_stays new start;
-      vfs = sym (vfs_stays new start);
-      mode_is = mode_told w.vfs fifo start d.new before;
+      sound = histories_sound origin start d.sound before;
+      vfs = d.vfs ∙ sym (vfs_stays origin start);
       both = d.agree;
       lent = d.lent;
     })
@@ -132,10 +127,10 @@ own_replies_are_healthy w fifo start rest h doers own x apart =
       fit = record {
         limit = x.short.limit;
         waiting = x.short.waiting;
-        begun = unbegun_since w.queue new start d.new before d.on ∙ (let z : 0 ≡ 2048 * 0 = omega arith in z);
+        begun = unbegun_since w.queue origin start d.sound before d.on ∙ (let z : 0 ≡ 2048 * 0 = omega arith in z);
         pieces = tt;
       };
       known = x.known;
-    }) (legal_behind new start rest d.legal)
-    (events_behind start rest d.events) (alone_by_entries w start rest d.alone d.begun) d.own d.others
+    }) (legal_behind origin start rest d.legal)
+    (events_behind start rest d.events) (alone_by_entries w origin start rest d.alone d.begun) d.own d.others
     (λ n is. lent_behind w.pass n start rest is) x.others apart

@@ -1,9 +1,9 @@
 -- One call of a driver: its reply is healthy, and what that rests on holds behind it.
-use Rattle.std.proofs.Common.{◌≡◌, ℕ, inl, inr, true, false, List, refl, subst}
+use Rattle.std.proofs.Common.{◌≡◌, ℕ, inl, inr, true, false, List, refl}
 use Rattle.std.proofs.lemmas.Bool.{or_cases, or_left, or_right}
 use Rattle.nic_device.specs.DmaArena.Block.{Block}
 use Rattle.nic_device.specs.DmaArena.Memory.{Memory}
-use Rattle.nic_device.specs.VfMap.declared.mode.Mode.{Mode}
+use Rattle.nic_device.specs.RegisterFile.Pools.{mode_in}
 use Rattle.nic_device.specs.Sound.{IsEvent}
 use Rattle.nic_device.specs.State.{State}
 use Rattle.nic_device.specs.Step.{after, reply_to}
@@ -61,8 +61,8 @@ swapped own xs ys m only n is has = elim (or_cases (xs n) (ys n) (only n is has)
   | inr second ↦ or_left (ys n) (xs n) second
 ]
 
-module _ (w : Watched) (mine own : Blocks) (mode : Mode) (s : State) (out : List Piece) (sent : List (List ℕ))
-    (h : Halves) (m : Meets w mine mode s out sent h) (known : OnlyLent own (lent_by h) s.memory) (e : Event Block)
+module _ (w : Watched) (mine own : Blocks) (s : State) (out : List Piece) (sent : List (List ℕ))
+    (h : Halves) (m : Meets w mine s out sent h) (known : OnlyLent own (lent_by h) s.memory) (e : Event Block)
   where
     abbrev rx : Blocks
     rx = received.has_lent h.receive
@@ -120,11 +120,11 @@ module _ (w : Watched) (mine own : Blocks) (mode : Mode) (s : State) (out : List
     move_setting move e real mine = absurd mine
 
     pub no_setting : IsEvent e → (d : Doer) → OwnCall h d (call_of e (reply_to s e))
-        → (is_neither d ≡ true → LeavesRegisters w mode e) → WritesNoSetting s e
+        → (is_neither d ≡ true → LeavesRegisters w (mode_in s.registers) e) → WritesNoSetting s e
     no_setting made Receives mine others =
         let (gone, here, holds) = m.both.receive in
         let blocks = sender_lent s w.queue sent h.transmit m.both.transmit.0 m.both.transmit.1 in
         (own_spares w.queue s out h.receive gone here holds h.transmit blocks m.both.apart e made mine).setting
     no_setting made (Sends Elsewhere) mine others =
-        left-setting w s m.vfs e (subst (λ k. LeavesRegisters w k e) m.mode_is (others refl))
+        left-setting w s m.vfs e (others refl)
     no_setting made (Sends move) mine others = move_setting move e refl mine

@@ -1,20 +1,18 @@
--- What the driver handed out and what it sent, over a history of a new device.
-use Rattle.std.proofs.Common.{◌≡◌, ℕ, List, [], ◌++◌, length, drop, None, sym, ap, ◌∙◌, subst}
-use Rattle.nic_device.specs.VfMap.declared.mode.Mode.TheVariants.{Off}
-use Rattle.nic_device.specs.State.{State, new_state}
-use Rattle.device_lock.specs.Alone.{lent_by, mode_through}
+-- What the driver handed out and what it sent, over a history that leaves its queue alone.
+use Rattle.std.proofs.Common.{◌≡◌, List, [], ◌++◌, length, drop, None, sym, ap, ◌∙◌, subst}
+use Rattle.nic_device.specs.State.{State}
+use Rattle.device_lock.specs.Alone.{lent_by}
 use Rattle.device_lock.specs.History.{calls_of, leads_to}
 use Rattle.device_lock.specs.declared.alone.Watched.{Watched}
 use Rattle.device_lock.specs.declared.entry.Entry.{Entry}
 use Rattle.receive_laws.proofs.HistoryLaws.Alone.{alone_by_entries}
-use Rattle.receive_laws.proofs.HistoryLaws.Modes.{mode_told}
 use Rattle.receive_laws.proofs.HistoryLaws.Sound.{histories_sound}
 use Rattle.receive_laws.specs.Delivered as receive
 use Rattle.receive_laws.specs.Delivered.{delivered, packets_if_any, pieces_in, pieces_since}
 use Rattle.receive_laws.specs.Histories.{FindsNone, ShowsNone}
 use Rattle.receive_laws.specs.Pieces.{packets_of}
 use Rattle.device_lock.proofs.Histories.{events_before, events_behind, leads-append, legal_behind}
-use Rattle.receive_laws.proofs.Delivering.{image_stays, lent_behind, since-append, vfs_stays}
+use Rattle.receive_laws.proofs.Delivering.{lent_behind, since-append, vfs_stays}
 use Rattle.receive_laws.proofs.Prefix.{all_taken, drained, handed_first}
 use Rattle.transmit_laws.specs.Agreeing.{bytes_of}
 use Rattle.transmit_laws.specs.Laws as transmit
@@ -28,13 +26,10 @@ use Rattle.driver_laws.specs.Histories.{IsDriven, HandedIsPrefix, NoneIsAll, Non
 use Rattle.driver_laws.proofs.Led.{Led}
 use Rattle.driver_laws.proofs.Runs.{leads}
 
-module _ (w : Watched) (fifo : ℕ) (start rest : List Entry) (h : Halves) (doers : List Doer)
-    (d : IsDriven w fifo start rest h doers) where
-  abbrev new : State
-  new = new_state w.vfs fifo
-
+module _ (w : Watched) (origin : State) (start rest : List Entry) (h : Halves) (doers : List Doer)
+    (d : IsDriven w origin start rest h doers) where
   abbrev here : State
-  here = leads_to new start
+  here = leads_to origin start
 
   abbrev last : Halves
   last = played_by h doers (calls_of w.pass rest)
@@ -42,40 +37,38 @@ module _ (w : Watched) (fifo : ℕ) (start rest : List Entry) (h : Halves) (doer
   pub led : Led w (lent_by w.pass (start ++ rest)) here [] [] rest last
   led =
       let before = events_before start rest d.events in
-      leads w (lent_by w.pass (start ++ rest)) (mode_through w.vfs Off start) here [] [] h doers rest
+      leads w (lent_by w.pass (start ++ rest)) here [] [] h doers rest
       (record {
-        sound = histories_sound new start d.new before;
-        image = image_stays new start;
-        vfs = sym (vfs_stays new start);
-        mode_is = mode_told w.vfs fifo start d.new before;
+        sound = histories_sound origin start d.sound before;
+        vfs = d.vfs ∙ sym (vfs_stays origin start);
         both = d.agree;
         lent = d.lent;
       })
-      (legal_behind new start rest d.legal) (events_behind start rest d.events)
-      (alone_by_entries w start rest d.alone d.begun) d.own d.others (λ n is. lent_behind w.pass n start rest is)
+      (legal_behind origin start rest d.legal) (events_behind start rest d.events)
+      (alone_by_entries w origin start rest d.alone d.begun) d.own d.others (λ n is. lent_behind w.pass n start rest is)
 
-  pub delivered_is : delivered w.queue new (start ++ rest) ≡ packets_of (pieces_in w.queue here rest)
+  pub delivered_is : delivered w.queue origin (start ++ rest) ≡ packets_of (pieces_in w.queue here rest)
   delivered_is =
-      ap packets_if_any (since-append w.queue new None start rest
+      ap packets_if_any (since-append w.queue origin None start rest
       ∙ ap (λ so_far. pieces_since w.queue here so_far rest) d.on ∙ led.since d.up [])
 
-  handed : receive.IsPrefixOf last.receive.handed (delivered w.queue new (start ++ rest))
+  handed : receive.IsPrefixOf last.receive.handed (delivered w.queue origin (start ++ rest))
   handed =
       subst (receive.IsPrefixOf last.receive.handed) (sym delivered_is)
       (handed_first w.queue (leads_to here rest) (pieces_in w.queue here rest) last.receive led.both.receive)
 
-  taken : ShowsNone (leads_to new (start ++ rest)) last.receive
-      → last.receive.handed ++ records_of last.receive.whole ≡ delivered w.queue new (start ++ rest)
+  taken : ShowsNone (leads_to origin (start ++ rest)) last.receive
+      → last.receive.handed ++ records_of last.receive.whole ≡ delivered w.queue origin (start ++ rest)
   taken shows =
       sym (all_taken w.queue (leads_to here rest) (pieces_in w.queue here rest) last.receive led.both.receive
-      (subst (λ s. ShowsNone s last.receive) (leads-append new start rest) shows))
+      (subst (λ s. ShowsNone s last.receive) (leads-append origin start rest) shows))
       ∙ sym delivered_is
 
-  none_left : FindsNone (leads_to new (start ++ rest)) last.receive
-      → last.receive.handed ≡ delivered w.queue new (start ++ rest)
+  none_left : FindsNone (leads_to origin (start ++ rest)) last.receive
+      → last.receive.handed ≡ delivered w.queue origin (start ++ rest)
   none_left finds =
       sym (drained w.queue (leads_to here rest) (pieces_in w.queue here rest) last.receive led.both.receive
-      (subst (λ s. FindsNone s last.receive) (leads-append new start rest) finds))
+      (subst (λ s. FindsNone s last.receive) (leads-append origin start rest) finds))
       ∙ sym delivered_is
 
   sent : transmit.IsPrefixOf (sent_in w.queue here rest) (bytes_of last.transmit.accepted)
@@ -90,9 +83,9 @@ module _ (w : Watched) (fifo : ℕ) (start rest : List Entry) (h : Halves) (doer
       idle-all (leads_to here rest) w.queue (sent_in w.queue here rest) last.transmit f agrees (ap length none)
 
   counted : IsUp w.queue here
-      → sent_since w.queue new [] (start ++ rest) ≡ sent_since w.queue new [] start ++ sent_in w.queue here rest
+      → sent_since w.queue origin [] (start ++ rest) ≡ sent_since w.queue origin [] start ++ sent_in w.queue here rest
   counted up =
-      sent_is_counted.joined w.queue new [] start rest ∙ led.counted up (sent_since w.queue new [] start)
+      sent_is_counted.joined w.queue origin [] start rest ∙ led.counted up (sent_since w.queue origin [] start)
 
 pub handed_is_prefix : HandedIsPrefix
 handed_is_prefix = handed

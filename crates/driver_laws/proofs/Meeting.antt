@@ -1,9 +1,7 @@
 -- What holds between two entries of a history, and that an event which is neither half's and leaves the queue alone
 -- keeps it.
-use Rattle.std.proofs.Common.{◌≡◌, ℕ, List, ◌++◌, subst}
+use Rattle.std.proofs.Common.{◌≡◌, ℕ, List, ◌++◌}
 use Rattle.nic_device.specs.DmaArena.Block.{Block}
-use Rattle.nic_device.specs.EepromImage.Image.{blank}
-use Rattle.nic_device.specs.VfMap.declared.mode.Mode.{Mode}
 use Rattle.nic_device.specs.RegisterFile.Pools.{mode_in}
 use Rattle.nic_device.specs.Sound.{IsEvent, IsSound}
 use Rattle.nic_device.specs.State.{State}
@@ -23,14 +21,11 @@ use Rattle.pmd.specs.Halves.{Halves}
 use Rattle.driver_laws.specs.Agreeing.{AreLent, BothAgree}
 use Rattle.driver_laws.proofs.Stepping.{received_spares, reports_spare}
 
--- what holds between two entries: the device is sound, its image blank, the mode is the one that was told, the device
--- agrees with both halves, and their blocks are among these
-pub record Meets (w : Watched) (mine : Blocks) (mode : Mode) (s : State) (out : List Piece) (sent : List (List ℕ))
+-- what holds between two entries: the device is sound and agrees with both halves, and their blocks are among these
+pub record Meets (w : Watched) (mine : Blocks) (s : State) (out : List Piece) (sent : List (List ℕ))
     (h : Halves) : Type 0 where
   pub sound : IsSound s
-  pub image : s.image ≡ blank
   pub vfs : w.vfs ≡ s.vfs
-  pub mode_is : mode ≡ mode_in s.registers
   pub both : BothAgree w.queue s out sent h
   pub lent : AreLent mine h
 
@@ -39,8 +34,8 @@ abbrev pub Kept : Watched → Blocks → State → List Piece → List (List ℕ
 Kept w mine s out sent e k =
     BothAgree w.queue (after s e) (out ++ pieces w.queue s e) (sent ++ sent_by w.queue s e) k × AreLent mine k
 
-module _ (w : Watched) (mine : Blocks) (mode : Mode) (s : State) (out : List Piece) (sent : List (List ℕ)) (h : Halves)
-    (m : Meets w mine mode s out sent h) (e : Event Block) (made : IsEvent e)
+module _ (w : Watched) (mine : Blocks) (s : State) (out : List Piece) (sent : List (List ℕ)) (h : Halves)
+    (m : Meets w mine s out sent h) (e : Event Block) (made : IsEvent e)
     (steps : WritesOutside w.queue mine (reply_to s e)) where
   -- an event that is neither half's
 
@@ -60,15 +55,14 @@ module _ (w : Watched) (mine : Blocks) (mode : Mode) (s : State) (out : List Pie
     owed = tt;
   })
 
-  pub neither_keeps : LeavesRegisters w mode e → LeavesBlocks mine e → Kept w mine s out sent e h
+  pub neither_keeps : LeavesRegisters w (mode_in s.registers) e → LeavesBlocks mine e → Kept w mine s out sent e h
   neither_keeps registers blocks =
-      let here = subst (λ k. LeavesRegisters w k e) m.mode_is registers in
       let left : IsLeft w mine s e = record {
         small = m.both.transmit.1.based.small;
         sound = m.sound;
         vfs = m.vfs;
         made = made;
-        registers = here;
+        registers = registers;
         blocks = blocks;
         steps = steps;
       } in (
@@ -77,7 +71,7 @@ module _ (w : Watched) (mine : Blocks) (mode : Mode) (s : State) (out : List Pie
               left_keeps w mine s out h.receive e left m.both.receive m.lent.receive
               (reports_spare s w.queue sent h.transmit m.both.transmit.0 m.both.transmit.1 h.receive m.both.apart);
           transmit =
-              sparing_events_keep s w.queue sent h.transmit e m.both.transmit (spared_by e made here blocks steps);
+              sparing_events_keep s w.queue sent h.transmit e m.both.transmit (spared_by e made registers blocks steps);
           apart = m.both.apart;
         },
         m.lent,

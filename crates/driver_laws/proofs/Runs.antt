@@ -3,10 +3,11 @@ use Rattle.std.proofs.Common.{◌≡◌, ℕ, Bool, true, false, List, [], ◌�
 use Rattle.std.specs.Prelude.{◌==◌, IsTrue}
 use Rattle.std.proofs.lemmas.Bool.{eqb-true, eqb-false, or_left, or_right}
 use Rattle.nic_device.specs.VfMap.declared.mode.Mode.{Mode}
+use Rattle.nic_device.specs.RegisterFile.Pools.{mode_in}
 use Rattle.nic_device.specs.Sound.{IsEvent}
 use Rattle.nic_device.specs.State.{State}
 use Rattle.nic_device.specs.Step.{after, reply_to}
-use Rattle.device_lock.specs.Alone.{Blocks, EntryLeavesAlone, LeavesRegisters, LeavesBlocks, WritesOutside, lent_by, lent_in, mode_after}
+use Rattle.device_lock.specs.Alone.{Blocks, EntryLeavesAlone, LeavesRegisters, LeavesBlocks, WritesOutside, lent_by, lent_in}
 use Rattle.device_lock.specs.History.{IsLegal, AreEvents, call_in, calls_of}
 use Rattle.device_lock.specs.Pass.{call_of}
 use Rattle.device_lock.specs.declared.alone.Watched.{Watched}
@@ -44,65 +45,68 @@ module _ (w : Watched) (mine : Blocks) where
       lends_mine w.pass mine e.pass e.event e.reply (eqb-true e.pass w.pass is) made covers
   own_lends doers e false is made covers half = cc
 
-  pub one_entry : (mode : Mode) (s : State) (out : List Piece) (sent : List (List ℕ)) (h : Halves) (doers : List Doer)
-      (e : Entry) (b : Bool) → (e.pass == w.pass) ≡ b → Meets w mine mode s out sent h → e.reply ≡ reply_to s e.event
-      → IsEvent e.event → EntryLeavesAlone w mine mode e
+  pub one_entry : (s : State) (out : List Piece) (sent : List (List ℕ)) (h : Halves) (doers : List Doer)
+      (e : Entry) (b : Bool) → (e.pass == w.pass) ≡ b → Meets w mine s out sent h → e.reply ≡ reply_to s e.event
+      → IsEvent e.event → EntryLeavesAlone w mine (mode_in s.registers) e
       → (e.pass ≡ w.pass → IsTrue (is_neither (doer_of true doers))
-      → LeavesRegisters w mode e.event × LeavesBlocks mine e.event)
+      → LeavesRegisters w (mode_in s.registers) e.event × LeavesBlocks mine e.event)
       → OwnCall h (doer_of b doers) (call_in e) → ((n : ℕ) → IsTrue (lent_in w.pass e n) → IsTrue (mine n))
-      → Meets w mine (mode_after w.vfs mode e.event) (after s e.event) (out ++ pieces w.queue s e.event)
+      → Meets w mine (after s e.event) (out ++ pieces w.queue s e.event)
       (sent ++ sent_by w.queue s e.event) (after_call h (doer_of b doers) (call_in e))
-  one_entry mode s out sent h doers e b is m legal made alone others own covers =
+  one_entry s out sent h doers e b is m legal made alone others own covers =
       let d = doer_of b doers in
       let steps = subst (WritesOutside w.queue mine) legal alone.steps in
       let here = subst (λ r. OwnCall h d (call_of e.event r)) legal own in
       let lent = subst (λ r. LendsMine mine e.event r) legal in
-      let keeps = doer_keeps w mine mode s out sent h m e.event made steps d here
-      (others_leave mode doers e b is alone others) (λ half. lent (own_lends doers e b is made covers half)) in
-      subst (λ r. Meets w mine (mode_after w.vfs mode e.event) (after s e.event) (out ++ pieces w.queue s e.event)
+      let keeps = doer_keeps w mine s out sent h m e.event made steps d here
+      (others_leave (mode_in s.registers) doers e b is alone others)
+      (λ half. lent (own_lends doers e b is made covers half)) in
+      subst (λ r. Meets w mine (after s e.event) (out ++ pieces w.queue s e.event)
       (sent ++ sent_by w.queue s e.event) (after_call h d (call_of e.event r))) (sym legal)
-      (goes_on w mine mode s out sent h m e.event made steps (after_call h d (call_of e.event (reply_to s e.event)))
+      (goes_on w mine s out sent h m e.event made steps (after_call h d (call_of e.event (reply_to s e.event)))
       keeps)
 
-  pub one_receives_up : (mode : Mode) (s : State) (out : List Piece) (sent : List (List ℕ)) (h : Halves)
-      (doers : List Doer) (e : Entry) (b : Bool) → (e.pass == w.pass) ≡ b → Meets w mine mode s out sent h
-      → e.reply ≡ reply_to s e.event → IsEvent e.event → EntryLeavesAlone w mine mode e
+  pub one_receives_up : (s : State) (out : List Piece) (sent : List (List ℕ)) (h : Halves)
+      (doers : List Doer) (e : Entry) (b : Bool) → (e.pass == w.pass) ≡ b → Meets w mine s out sent h
+      → e.reply ≡ reply_to s e.event → IsEvent e.event → EntryLeavesAlone w mine (mode_in s.registers) e
       → (e.pass ≡ w.pass → IsTrue (is_neither (doer_of true doers))
-      → LeavesRegisters w mode e.event × LeavesBlocks mine e.event)
+      → LeavesRegisters w (mode_in s.registers) e.event × LeavesBlocks mine e.event)
       → OwnCall h (doer_of b doers) (call_in e) → received.IsUp w.queue s → received.IsUp w.queue (after s e.event)
-  one_receives_up mode s out sent h doers e b is m legal made alone others own =
+  one_receives_up s out sent h doers e b is m legal made alone others own =
       let d = doer_of b doers in
-      doer_receives_up w mine mode s out sent h m e.event made (subst (WritesOutside w.queue mine) legal alone.steps) d
-      (subst (λ r. OwnCall h d (call_of e.event r)) legal own) (others_leave mode doers e b is alone others)
+      doer_receives_up w mine s out sent h m e.event made (subst (WritesOutside w.queue mine) legal alone.steps) d
+      (subst (λ r. OwnCall h d (call_of e.event r)) legal own)
+      (others_leave (mode_in s.registers) doers e b is alone others)
 
-  one_stays_up : (mode : Mode) (s : State) (out : List Piece) (sent : List (List ℕ)) (h : Halves) (doers : List Doer)
-      (e : Entry) (b : Bool) → (e.pass == w.pass) ≡ b → Meets w mine mode s out sent h → e.reply ≡ reply_to s e.event
-      → IsEvent e.event → EntryLeavesAlone w mine mode e
+  one_stays_up : (s : State) (out : List Piece) (sent : List (List ℕ)) (h : Halves) (doers : List Doer)
+      (e : Entry) (b : Bool) → (e.pass == w.pass) ≡ b → Meets w mine s out sent h → e.reply ≡ reply_to s e.event
+      → IsEvent e.event → EntryLeavesAlone w mine (mode_in s.registers) e
       → (e.pass ≡ w.pass → IsTrue (is_neither (doer_of true doers))
-      → LeavesRegisters w mode e.event × LeavesBlocks mine e.event)
+      → LeavesRegisters w (mode_in s.registers) e.event × LeavesBlocks mine e.event)
       → OwnCall h (doer_of b doers) (call_in e) → IsUp w.queue s → IsUp w.queue (after s e.event)
-  one_stays_up mode s out sent h doers e b is m legal made alone others own =
+  one_stays_up s out sent h doers e b is m legal made alone others own =
       let d = doer_of b doers in
-      doer_stays_up w mine mode s out sent h m e.event made (subst (WritesOutside w.queue mine) legal alone.steps) d
-      (subst (λ r. OwnCall h d (call_of e.event r)) legal own) (others_leave mode doers e b is alone others)
+      doer_stays_up w mine s out sent h m e.event made (subst (WritesOutside w.queue mine) legal alone.steps) d
+      (subst (λ r. OwnCall h d (call_of e.event r)) legal own)
+      (others_leave (mode_in s.registers) doers e b is alone others)
 
-  pub leads : (mode : Mode) (s : State) (out : List Piece) (sent : List (List ℕ)) (h : Halves) (doers : List Doer)
-      (es : List Entry) → Meets w mine mode s out sent h → IsLegal s es → AreEvents es → AllAlone w mine mode es
-      → AllOwn h doers (calls_of w.pass es) → OthersLeaveAlone w mine mode doers es
+  pub leads : (s : State) (out : List Piece) (sent : List (List ℕ)) (h : Halves) (doers : List Doer)
+      (es : List Entry) → Meets w mine s out sent h → IsLegal s es → AreEvents es → AllAlone w mine s es
+      → AllOwn h doers (calls_of w.pass es) → OthersLeaveAlone w mine s doers es
       → ((n : ℕ) → IsTrue (lent_by w.pass es n) → IsTrue (mine n))
       → Led w mine s out sent es (played_by h doers (calls_of w.pass es))
-  leads mode s out sent h [] [] m legal events alone own others covers = ended w mine s out sent h m.both m.lent
-  leads mode s out sent h (d ∷ doers) [] m legal events alone own others covers = absurd own
-  leads mode s out sent h doers (e ∷ es) m legal events alone own others covers =
+  leads s out sent h [] [] m legal events alone own others covers = ended w mine s out sent h m.both m.lent
+  leads s out sent h (d ∷ doers) [] m legal events alone own others covers = absurd own
+  leads s out sent h doers (e ∷ es) m legal events alone own others covers =
       let b = e.pass == w.pass in
       let next = next_by w.pass h doers e es b refl own in
       let k = after_call h (doer_of b doers) (call_in e) in
-      let then = one_entry mode s out sent h doers e b refl m legal.0 events.0 alone.0 others.0 next.own
+      let then = one_entry s out sent h doers e b refl m legal.0 events.0 alone.0 others.0 next.own
       (λ n is. covers n (or_left _ _ is)) in
       subst (Led w mine s out sent (e ∷ es)) (sym next.played)
       (led_on w mine s out sent e es _
-      (one_receives_up mode s out sent h doers e b refl m legal.0 events.0 alone.0 others.0 next.own)
-      (one_stays_up mode s out sent h doers e b refl m legal.0 events.0 alone.0 others.0 next.own)
-      (leads (mode_after w.vfs mode e.event) (after s e.event) (out ++ pieces w.queue s e.event)
+      (one_receives_up s out sent h doers e b refl m legal.0 events.0 alone.0 others.0 next.own)
+      (one_stays_up s out sent h doers e b refl m legal.0 events.0 alone.0 others.0 next.own)
+      (leads (after s e.event) (out ++ pieces w.queue s e.event)
       (sent ++ sent_by w.queue s e.event) k (doers_after b doers) es then legal.1 events.1 alone.1 next.rest others.1
       (λ n is. covers n (or_right _ _ is))))

@@ -1,6 +1,6 @@
 -- Before a look that finds a packet waiting not all that the driver accepted was sent.
 use Rattle.std.proofs.Common.{◌++◌, subst}
-use Rattle.nic_device.specs.State.{State, new_state}
+use Rattle.nic_device.specs.State.{State}
 use Rattle.device_lock.specs.History.{calls_of, leads_to}
 use Rattle.device_lock.proofs.Histories.{leads-append}
 use Rattle.transmit_laws.specs.Laws.{FindsWaiting}
@@ -11,11 +11,10 @@ use Rattle.driver_laws.specs.Waiting.{WaitingIsNotAll}
 use Rattle.driver_laws.proofs.InOrder.{led}
 
 pub waiting_is_not_all : WaitingIsNotAll
-waiting_is_not_all w fifo start rest more h doers d finds =
-    let new : State = new_state w.vfs fifo in
-    let here : State = leads_to new start in
+waiting_is_not_all w origin start rest more h doers d finds =
+    let here : State = leads_to origin start in
     let last : Halves = played_by h doers (calls_of w.pass (rest ++ more)) in
     waiting-left (leads_to here (rest ++ more)) w.queue (sent_in w.queue here (rest ++ more)) last.transmit
-    (led w fifo start (rest ++ more) h doers d).both.transmit
-    (subst (λ s. FindsWaiting s last.transmit) (leads-append new start (rest ++ more)) finds)
+    (led w origin start (rest ++ more) h doers d).both.transmit
+    (subst (λ s. FindsWaiting s last.transmit) (leads-append origin start (rest ++ more)) finds)
     (sent_in w.queue here rest) (sent_in w.queue (leads_to here rest) more) (sent_in-append w.queue here rest more)

@@ -7,7 +7,7 @@ use Rattle.nic_device.specs.RegTable.Runs.{runs}
 use Rattle.nic_device.specs.RegTable.declared.place.Place.{Place}
 use Rattle.nic_device.specs.RegisterFile.Access.{asks_pool_reset}
 use Rattle.nic_device.specs.VfMap.Owner.{is_receive, is_transmit}
-use Rattle.nic_device.specs.VfMap.declared.mode.Mode.{Mode}
+use Rattle.nic_device.specs.State.{State}
 use Rattle.nic_device.specs.declared.event.Event.{Event}
 use Rattle.nic_device.specs.declared.event.Event.TheVariants as event
 use Rattle.nic_device.specs.declared.event.Port.TheVariants.{Pf, Vf}
@@ -94,5 +94,5 @@ LeadsOn = (old mid new : List Call) (h j k : Halves) → Leads old h mid j → L
 -- and harmless calls leave the queue alone
 abbrev pub HarmlessLeaveAlone : Type 0
 HarmlessLeaveAlone =
-    (w : Watched) (mine : Blocks) (mode : Mode) (doers : List Doer) (es : List Entry) →
-    OthersHarmless doers (calls_of w.pass es) → OthersLeaveAlone w mine mode doers es
+    (w : Watched) (mine : Blocks) (s : State) (doers : List Doer) (es : List Entry) →
+    OthersHarmless doers (calls_of w.pass es) → OthersLeaveAlone w mine s doers es

@@ -1,5 +1,6 @@
 -- A driver's call that ends with the device at fault.
-use Rattle.std.specs.Prelude.{ℕ, ◌≡◌, List, [], ◌∷◌, ◌++◌}
+use Rattle.std.specs.Prelude.{◌≡◌, List, [], ◌∷◌, ◌++◌}
+use Rattle.nic_device.specs.State.{State}
 use Rattle.device_lock.specs.Alone.{Blocks}
 use Rattle.device_lock.specs.History.{calls_of}
 use Rattle.device_lock.specs.declared.alone.Watched.{Watched}
@@ -19,9 +20,9 @@ doers_of own old h new f = f.drives.drives.0 ++ (doers_other f.adds.0 ++ f.doer 
 -- the driver's do
 abbrev pub NoFault : Type 0
 NoFault =
-    (w : Watched) (fifo : ℕ) (start rest more : List Entry) (h : Halves) (doers : List Doer) (own : Blocks)
+    (w : Watched) (origin : State) (start rest more : List Entry) (h : Halves) (doers : List Doer) (own : Blocks)
     (old new : List Call) (f : FindsFault own old (played_by h doers (calls_of w.pass rest)) new) →
     AllOwn h doers (calls_of w.pass rest) → AllLendApart own h doers (calls_of w.pass rest) →
     new ≡ old ++ calls_of w.pass more →
-    ¬ IsUnshared w fifo start (rest ++ more) h
+    ¬ IsUnshared w origin start (rest ++ more) h
     (doers ++ doers_of own old (played_by h doers (calls_of w.pass rest)) new f) own

@@ -1,6 +1,6 @@
 -- The replies to a driver's calls, over a history that leaves its queue alone: those of a healthy queue.
-use Rattle.std.specs.Prelude.{ℕ, IsTrue, List, [], ◌∷◌, ⊤}
-use Rattle.nic_device.specs.State.{new_state}
+use Rattle.std.specs.Prelude.{IsTrue, List, [], ◌∷◌, ⊤}
+use Rattle.nic_device.specs.State.{State}
 use Rattle.device_lock.specs.Alone.{Blocks}
 use Rattle.device_lock.specs.History.{calls_of, leads_to}
 use Rattle.device_lock.specs.declared.alone.Watched.{Watched}
@@ -31,17 +31,17 @@ lent_by h = either (received.has_lent h.receive) (sending.has_lent h.transmit)
 -- a history that drives the halves, and shares these numbers with no other: no other pass lends a block of them. As its
 -- first entries end, the frames that wait for the queue fit as many blocks as the driver takes for a packet, and of the
 -- numbers only those are lent that the halves have lent
-pub record IsUnshared (w : Watched) (fifo : ℕ) (start rest : List Entry) (h : Halves) (doers : List Doer)
+pub record IsUnshared (w : Watched) (origin : State) (start rest : List Entry) (h : Halves) (doers : List Doer)
     (own : Blocks) : Type 0 where
-  pub driven : IsDriven w fifo start rest h doers
-  pub short : AreShort w.queue h.receive.layout.most (leads_to (new_state w.vfs fifo) start)
-  pub known : OnlyLent own (lent_by h) (leads_to (new_state w.vfs fifo) start).memory
+  pub driven : IsDriven w origin start rest h doers
+  pub short : AreShort w.queue h.receive.layout.most (leads_to origin start)
+  pub known : OnlyLent own (lent_by h) (leads_to origin start).memory
   pub others : OnlyPassLends w.pass own rest
 
 -- where the halves lend blocks of these numbers alone, and each none that the other has lent, as the clause `drives` of
 -- a driver's calls says, each call of either half gets such a reply
 abbrev pub OwnRepliesAreHealthy : Type 0
 OwnRepliesAreHealthy =
-    (w : Watched) (fifo : ℕ) (start rest : List Entry) (h : Halves) (doers : List Doer) (own : Blocks) →
-    IsUnshared w fifo start rest h doers own → AllLendApart own h doers (calls_of w.pass rest) →
+    (w : Watched) (origin : State) (start rest : List Entry) (h : Halves) (doers : List Doer) (own : Blocks) →
+    IsUnshared w origin start rest h doers own → AllLendApart own h doers (calls_of w.pass rest) →
     AreHealthy h doers (calls_of w.pass rest)

@@ -1,10 +1,10 @@
 -- What a driver hands out and what it sends, over histories that leave its queue alone.
-use Rattle.std.specs.Prelude.{ℕ, ◌≡◌, ◌==◌, Bool, true, false, List, [], ◌∷◌, ◌++◌, Some, None, ⊤, IsTrue}
-use Rattle.nic_device.specs.VfMap.declared.mode.Mode.{Mode}
-use Rattle.nic_device.specs.VfMap.declared.mode.Mode.TheVariants.{Off}
+use Rattle.std.specs.Prelude.{◌≡◌, ◌==◌, Bool, true, false, List, [], ◌∷◌, ◌++◌, Some, None, ⊤, IsTrue}
+use Rattle.nic_device.specs.RegisterFile.Pools.{mode_in}
 use Rattle.nic_device.specs.Sound.{IsSound}
-use Rattle.nic_device.specs.State.{new_state}
-use Rattle.device_lock.specs.Alone.{Blocks, LeavesAlone, LeavesRegisters, LeavesBlocks, has_begun, lent_by, mode_after, mode_through}
+use Rattle.nic_device.specs.State.{State}
+use Rattle.nic_device.specs.Step.{after}
+use Rattle.device_lock.specs.Alone.{Blocks, LeavesRegisters, LeavesBlocks, has_begun, lent_by}
 use Rattle.device_lock.specs.History.{IsLegal, AreEvents, calls_of, leads_to}
 use Rattle.device_lock.specs.declared.alone.Watched.{Watched}
 use Rattle.device_lock.specs.declared.entry.Entry.{Entry}
@@ -12,6 +12,7 @@ use Rattle.pmd.specs.PmdRx.Receive.{records_of}
 use Rattle.pmd.specs.PmdTx.Sending.{Elsewhere}
 use Rattle.receive_laws.specs.Delivered as receive
 use Rattle.receive_laws.specs.Delivered.{delivered, pieces_since}
+use Rattle.receive_laws.specs.HistoryLaws.Alone.{LeavesAloneFrom}
 use Rattle.receive_laws.specs.Histories.{FindsNone, ShowsNone}
 use Rattle.receive_laws.specs.Up as receiving
 use Rattle.transmit_laws.specs.Agreeing.{bytes_of}
@@ -34,90 +35,92 @@ doers_after true [] = []
 doers_after true (d ∷ doers) = doers
 
 -- the calls of the driver's pass that are neither half's leave the queue and its blocks alone, as other passes do
-abbrev pub OthersLeaveAlone : Watched → Blocks → Mode → List Doer → List Entry → Type 0
-OthersLeaveAlone w mine mode doers [] = ⊤
-OthersLeaveAlone w mine mode doers (e ∷ es) =
+abbrev pub OthersLeaveAlone : Watched → Blocks → State → List Doer → List Entry → Type 0
+OthersLeaveAlone w mine s doers [] = ⊤
+OthersLeaveAlone w mine s doers (e ∷ es) =
     (e.pass ≡ w.pass → IsTrue (is_neither (doer_of true doers))
-    → LeavesRegisters w mode e.event × LeavesBlocks mine e.event)
-    × OthersLeaveAlone w mine (mode_after w.vfs mode e.event) (doers_after (e.pass == w.pass) doers) es
+    → LeavesRegisters w (mode_in s.registers) e.event × LeavesBlocks mine e.event)
+    × OthersLeaveAlone w mine (after s e.event) (doers_after (e.pass == w.pass) doers) es
 
--- a history of a new device that leaves the queue alone, with the driver's pass. As its first entries end, the queue's
--- receive side has gone on and is up, nothing is written yet, and the device agrees with both halves. Of the others
--- those of the pass are the halves', or leave the queue alone
-pub record IsDriven (w : Watched) (fifo : ℕ) (start rest : List Entry) (h : Halves) (doers : List Doer) : Type 0 where
-  pub new : IsSound (new_state w.vfs fifo)
+-- a history of a sound device, whichever its state at first, that leaves the queue alone, with the driver's pass. As
+-- its first entries end, the queue's receive side has gone on and is up, nothing is written yet, and the device agrees
+-- with both halves. Of the others those of the pass are the halves', or leave the queue alone
+pub record IsDriven (w : Watched) (origin : State) (start rest : List Entry) (h : Halves) (doers : List Doer) :
+    Type 0 where
+  pub sound : IsSound origin
+  pub vfs : w.vfs ≡ origin.vfs
   pub events : AreEvents (start ++ rest)
-  pub legal : IsLegal (new_state w.vfs fifo) (start ++ rest)
-  pub alone : LeavesAlone w (start ++ rest)
+  pub legal : IsLegal origin (start ++ rest)
+  pub alone : LeavesAloneFrom w origin (start ++ rest)
   pub begun : IsTrue (has_begun w.pass start)
-  pub on : pieces_since w.queue (new_state w.vfs fifo) None start ≡ Some []
-  pub up : receiving.IsUp w.queue (leads_to (new_state w.vfs fifo) start)
-  pub agree : BothAgree w.queue (leads_to (new_state w.vfs fifo) start) [] [] h
+  pub on : pieces_since w.queue origin None start ≡ Some []
+  pub up : receiving.IsUp w.queue (leads_to origin start)
+  pub agree : BothAgree w.queue (leads_to origin start) [] [] h
   pub lent : AreLent (lent_by w.pass (start ++ rest)) h
   pub own : AllOwn h doers (calls_of w.pass rest)
-  pub others : OthersLeaveAlone w (lent_by w.pass (start ++ rest)) (mode_through w.vfs Off start) doers rest
+  pub others : OthersLeaveAlone w (lent_by w.pass (start ++ rest)) (leads_to origin start) doers rest
 
 -- what the driver handed out is a prefix of what was delivered since its receive side went on
 abbrev pub HandedIsPrefix : Type 0
 HandedIsPrefix =
-    (w : Watched) (fifo : ℕ) (start rest : List Entry) (h : Halves) (doers : List Doer) →
-    IsDriven w fifo start rest h doers →
+    (w : Watched) (origin : State) (start rest : List Entry) (h : Halves) (doers : List Doer) →
+    IsDriven w origin start rest h doers →
     receive.IsPrefixOf (played_by h doers (calls_of w.pass rest)).receive.handed
-    (delivered w.queue (new_state w.vfs fifo) (start ++ rest))
+    (delivered w.queue origin (start ++ rest))
 
 -- where a look that comes next finds its slot not done, all of that was taken: it was handed out, or is whole and
 -- handed out as the tail moves on. Where none is whole it was all handed out
 
 abbrev pub NoneIsAllTaken : Type 0
 NoneIsAllTaken =
-    (w : Watched) (fifo : ℕ) (start rest : List Entry) (h : Halves) (doers : List Doer) →
-    IsDriven w fifo start rest h doers →
+    (w : Watched) (origin : State) (start rest : List Entry) (h : Halves) (doers : List Doer) →
+    IsDriven w origin start rest h doers →
     let v = (played_by h doers (calls_of w.pass rest)).receive in
-    ShowsNone (leads_to (new_state w.vfs fifo) (start ++ rest)) v →
-    v.handed ++ records_of v.whole ≡ delivered w.queue (new_state w.vfs fifo) (start ++ rest)
+    ShowsNone (leads_to origin (start ++ rest)) v →
+    v.handed ++ records_of v.whole ≡ delivered w.queue origin (start ++ rest)
 
 abbrev pub NoneIsAll : Type 0
 NoneIsAll =
-    (w : Watched) (fifo : ℕ) (start rest : List Entry) (h : Halves) (doers : List Doer) →
-    IsDriven w fifo start rest h doers →
-    FindsNone (leads_to (new_state w.vfs fifo) (start ++ rest)) (played_by h doers (calls_of w.pass rest)).receive →
+    (w : Watched) (origin : State) (start rest : List Entry) (h : Halves) (doers : List Doer) →
+    IsDriven w origin start rest h doers →
+    FindsNone (leads_to origin (start ++ rest)) (played_by h doers (calls_of w.pass rest)).receive →
     (played_by h doers (calls_of w.pass rest)).receive.handed
-    ≡ delivered w.queue (new_state w.vfs fifo) (start ++ rest)
+    ≡ delivered w.queue origin (start ++ rest)
 
 -- and so it was at an earlier place of the history, where nothing was handed out since
 abbrev pub NoneIsAllBefore : Type 0
 NoneIsAllBefore =
-    (w : Watched) (fifo : ℕ) (start before rest : List Entry) (h : Halves) (early doers : List Doer) →
-    IsDriven w fifo start before h early → IsDriven w fifo start (before ++ rest) h doers →
-    FindsNone (leads_to (new_state w.vfs fifo) (start ++ (before ++ rest)))
+    (w : Watched) (origin : State) (start before rest : List Entry) (h : Halves) (early doers : List Doer) →
+    IsDriven w origin start before h early → IsDriven w origin start (before ++ rest) h doers →
+    FindsNone (leads_to origin (start ++ (before ++ rest)))
     (played_by h doers (calls_of w.pass (before ++ rest))).receive →
     (played_by h doers (calls_of w.pass (before ++ rest))).receive.handed
     ≡ (played_by h early (calls_of w.pass before)).receive.handed →
     (played_by h early (calls_of w.pass before)).receive.handed
-    ≡ delivered w.queue (new_state w.vfs fifo) (start ++ before)
+    ≡ delivered w.queue origin (start ++ before)
 
 -- what was sent on the queue since then is a prefix of what the driver accepted, and it is all of that where none is
 -- outstanding
 abbrev pub SentIsPrefix : Type 0
 SentIsPrefix =
-    (w : Watched) (fifo : ℕ) (start rest : List Entry) (h : Halves) (doers : List Doer) →
-    IsDriven w fifo start rest h doers →
-    transmit.IsPrefixOf (sent_in w.queue (leads_to (new_state w.vfs fifo) start) rest)
+    (w : Watched) (origin : State) (start rest : List Entry) (h : Halves) (doers : List Doer) →
+    IsDriven w origin start rest h doers →
+    transmit.IsPrefixOf (sent_in w.queue (leads_to origin start) rest)
     (bytes_of (played_by h doers (calls_of w.pass rest)).transmit.accepted)
 
 abbrev pub IdleIsAllSent : Type 0
 IdleIsAllSent =
-    (w : Watched) (fifo : ℕ) (start rest : List Entry) (h : Halves) (doers : List Doer) →
-    IsDriven w fifo start rest h doers →
+    (w : Watched) (origin : State) (start rest : List Entry) (h : Halves) (doers : List Doer) →
+    IsDriven w origin start rest h doers →
     (played_by h doers (calls_of w.pass rest)).transmit.outstanding ≡ [] →
     bytes_of (played_by h doers (calls_of w.pass rest)).transmit.accepted
-    ≡ sent_in w.queue (leads_to (new_state w.vfs fifo) start) rest
+    ≡ sent_in w.queue (leads_to origin start) rest
 
 -- where the queue's transmit side is up as the first entries end, all that is sent behind them is counted since it went
 -- on
 abbrev pub CountedWhereUp : Type 0
 CountedWhereUp =
-    (w : Watched) (fifo : ℕ) (start rest : List Entry) (h : Halves) (doers : List Doer) →
-    IsDriven w fifo start rest h doers → IsUp w.queue (leads_to (new_state w.vfs fifo) start) →
-    sent_since w.queue (new_state w.vfs fifo) [] (start ++ rest)
-    ≡ sent_since w.queue (new_state w.vfs fifo) [] start ++ sent_in w.queue (leads_to (new_state w.vfs fifo) start) rest
+    (w : Watched) (origin : State) (start rest : List Entry) (h : Halves) (doers : List Doer) →
+    IsDriven w origin start rest h doers → IsUp w.queue (leads_to origin start) →
+    sent_since w.queue origin [] (start ++ rest)
+    ≡ sent_since w.queue origin [] start ++ sent_in w.queue (leads_to origin start) rest

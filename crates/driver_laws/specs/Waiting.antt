@@ -1,6 +1,6 @@
 -- Before a look that finds a packet waiting not all that the driver accepted was sent.
-use Rattle.std.specs.Prelude.{ℕ, ◌≢◌, List, ◌++◌}
-use Rattle.nic_device.specs.State.{new_state}
+use Rattle.std.specs.Prelude.{◌≢◌, List, ◌++◌}
+use Rattle.nic_device.specs.State.{State}
 use Rattle.device_lock.specs.History.{calls_of, leads_to}
 use Rattle.device_lock.specs.declared.alone.Watched.{Watched}
 use Rattle.device_lock.specs.declared.entry.Entry.{Entry}
@@ -14,9 +14,9 @@ use Rattle.driver_laws.specs.Histories.{IsDriven}
 -- all that the driver accepted
 abbrev pub WaitingIsNotAll : Type 0
 WaitingIsNotAll =
-    (w : Watched) (fifo : ℕ) (start rest more : List Entry) (h : Halves) (doers : List Doer) →
-    IsDriven w fifo start (rest ++ more) h doers →
-    FindsWaiting (leads_to (new_state w.vfs fifo) (start ++ (rest ++ more)))
+    (w : Watched) (origin : State) (start rest more : List Entry) (h : Halves) (doers : List Doer) →
+    IsDriven w origin start (rest ++ more) h doers →
+    FindsWaiting (leads_to origin (start ++ (rest ++ more)))
     (played_by h doers (calls_of w.pass (rest ++ more))).transmit →
     bytes_of (played_by h doers (calls_of w.pass (rest ++ more))).transmit.accepted
-    ≢ sent_in w.queue (leads_to (new_state w.vfs fifo) start) rest
+    ≢ sent_in w.queue (leads_to origin start) rest

@@ -25,7 +25,7 @@ pub fn calls_lead_both_halves()
     ensures on { DrivesOn }
 {}
 
-/// Over a history of a new device that leaves the driver's queue alone, from a place on where the device agrees with
+/// Over a history of any sound device that leaves the driver's queue alone, from a place on where the device agrees with
 /// both halves and the receive side has gone on: the packets that the driver handed out are a prefix of those that were
 /// delivered since. Where a look that comes next finds none, all of them were handed out, or are whole and handed out
 /// as the tail moves on; and all were handed out where none is whole, as they were at each place before since which
@@ -69,7 +69,7 @@ pub fn waiting_packets_are_not_all_sent()
     ensures { WaitingIsNotAll }
 {}
 
-/// Over a history of a new device that leaves the driver's queue alone, from a place on where the device agrees with
+/// Over a history of any sound device that leaves the driver's queue alone, from a place on where the device agrees with
 /// both halves and the receive side has gone on: each call of either half gets a reply that a healthy queue gives.
 /// There the frames that wait for the queue fit as many blocks as the driver takes for a packet, as do those that are
 /// let in; and of the driver's arena only blocks are lent that the driver has lent, and no other pass lends any. What

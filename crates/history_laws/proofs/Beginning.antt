@@ -1,17 +1,21 @@
--- What begins a history that leaves a queue alone leaves it alone: it lends no more blocks.
-use Rattle.std.proofs.Common.{inl, inr, ◌≡◌, ◌/◌, ℕ, false, List, [], ◌∷◌, ◌++◌, ap, ◌∙◌, append_assoc, Some}
+-- What begins a history that leaves a queue alone leaves it alone, and so does what is behind: neither lends more
+-- blocks.
+use Rattle.std.proofs.Common.{inl, inr, ◌≡◌, ◌/◌, ℕ, false, List, [], ◌∷◌, ◌++◌, sym, ap, ◌∙◌, subst, append_assoc, Some}
 use Rattle.std.specs.Prelude.{IsTrue, IsFalse}
 use Rattle.std.proofs.lemmas.Bool.{both_ways, cases_Bool, or_cases, or_left, or_right}
 use Rattle.nic_device.specs.DmaArena.Block.{Block}
 use Rattle.nic_device.specs.VfMap.declared.mode.Mode.{Mode}
+use Rattle.nic_device.specs.RegisterFile.Pools.{mode_in}
+use Rattle.nic_device.specs.State.{State}
 use Rattle.nic_device.specs.declared.event.Event.{Event}
 use Rattle.nic_device.specs.declared.event.Event.TheVariants as event
 use Rattle.nic_device.specs.declared.event.Reply.{Reply}
 use Rattle.nic_device.specs.declared.event.Reply.TheVariants.{Wrote, Advanced, Sent}
-use Rattle.device_lock.specs.Alone.{Blocks, EntryLeavesAlone, LeavesBlocks, WritesOutside, lent_by, lent_in}
+use Rattle.device_lock.specs.Alone.{Blocks, EntryLeavesAlone, LeavesBlocks, WritesOutside, has_begun, lent_by, lent_in}
 use Rattle.device_lock.specs.declared.alone.Watched.{Watched}
 use Rattle.device_lock.specs.declared.entry.Entry.{Entry}
-use Rattle.history_laws.specs.Laws.{BeginningIsAlone}
+use Rattle.device_lock.proofs.Histories.{leads-append}
+use Rattle.history_laws.specs.Laws.{BeginningIsAlone, RestIsAlone}
 
 -- what a pass lends in the beginning of a history it lends in the whole
 pub lent_before : (pass n : ℕ) (g h : List Entry) → IsTrue (lent_by pass g n) → IsTrue (lent_by pass (g ++ h) n)
@@ -55,7 +59,32 @@ module _ (mine less : Blocks) (fewer : (n : ℕ) → IsFalse (mine n) → IsFals
   }
 
 pub beginning_alone : BeginningIsAlone
-beginning_alone w g h alone before e after split begun =
+beginning_alone w s g h alone before e after split begun =
     entry_left (lent_by w.pass (g ++ h)) (lent_by w.pass g) (λ n none. not_lent_before w.pass n g h none) w _ e
     (alone before e (after ++ h)
     (ap (λ (xs : List Entry). xs ++ h) split ∙ append_assoc before (e ∷ after) h) begun)
+
+-- what is behind
+
+lent_behind : (pass n : ℕ) (g h : List Entry) → IsTrue (lent_by pass h n) → IsTrue (lent_by pass (g ++ h) n)
+lent_behind pass n [] h is = is
+lent_behind pass n (e ∷ g) h is = or_right _ _ (lent_behind pass n g h is)
+
+not_lent_behind : (pass n : ℕ) (g h : List Entry) → IsFalse (lent_by pass (g ++ h) n) → IsFalse (lent_by pass h n)
+not_lent_behind pass n g h none =
+    elim (cases_Bool (lent_by pass h n)) as (λ _. lent_by pass h n ≡ false) [
+      | inl is ↦ absurd (both_ways (lent_by pass (g ++ h) n) none (lent_behind pass n g h is))
+      | inr no_more ↦ no_more
+    ]
+
+begun_behind : (pass : ℕ) (g h : List Entry) → IsTrue (has_begun pass h) → IsTrue (has_begun pass (g ++ h))
+begun_behind pass [] h is = is
+begun_behind pass (e ∷ g) h is = or_right _ _ (begun_behind pass g h is)
+
+pub rest_alone : RestIsAlone
+rest_alone w s g h alone before e after split begun =
+    subst (λ (x : State). EntryLeavesAlone w (lent_by w.pass h) (mode_in x.registers) e) (leads-append s g before)
+    (entry_left (lent_by w.pass (g ++ h)) (lent_by w.pass h) (λ n none. not_lent_behind w.pass n g h none) w _ e
+    (alone (g ++ before) e after
+    (ap (λ (xs : List Entry). g ++ xs) split ∙ sym (append_assoc g before (e ∷ after)))
+    (begun_behind w.pass g before begun)))

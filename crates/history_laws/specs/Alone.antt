@@ -1,11 +1,23 @@
--- What it is to leave a queue alone, entry by entry.
-use Rattle.std.specs.Prelude.{⊤, List, [], ◌∷◌}
-use Rattle.nic_device.specs.VfMap.declared.mode.Mode.{Mode}
-use Rattle.device_lock.specs.Alone.{Blocks, EntryLeavesAlone, mode_after}
+-- What it is to leave a queue alone, from a state of the device on.
+use Rattle.std.specs.Prelude.{◌≡◌, ⊤, IsTrue, List, [], ◌∷◌, ◌++◌}
+use Rattle.nic_device.specs.RegisterFile.Pools.{mode_in}
+use Rattle.nic_device.specs.State.{State}
+use Rattle.nic_device.specs.Step.{after}
+use Rattle.device_lock.specs.Alone.{Blocks, EntryLeavesAlone, has_begun, lent_by}
+use Rattle.device_lock.specs.History.{leads_to}
 use Rattle.device_lock.specs.declared.alone.Watched.{Watched}
 use Rattle.device_lock.specs.declared.entry.Entry.{Entry}
 
--- each entry of a history leaves the queue and these blocks alone, from a mode on
-abbrev pub AllAlone : Watched → Blocks → Mode → List Entry → Type 0
-AllAlone w mine mode [] = ⊤
-AllAlone w mine mode (e ∷ es) = EntryLeavesAlone w mine mode e × AllAlone w mine (mode_after w.vfs mode e.event) es
+-- a history leaves the queue of a pass alone, from a state of the device on, which any sound device may be in: each
+-- entry behind the pass's first does, while the queues are parted as the device says there, and spares all blocks that
+-- the pass lends in the history
+abbrev pub LeavesAloneFrom : Watched → State → List Entry → Type 0
+LeavesAloneFrom w s h =
+    (before : List Entry) (e : Entry) (after : List Entry) → h ≡ before ++ e ∷ after → IsTrue (has_begun w.pass before)
+    → EntryLeavesAlone w (lent_by w.pass h) (mode_in (leads_to s before).registers) e
+
+-- each entry of a history leaves the queue and these blocks alone, from a state on
+abbrev pub AllAlone : Watched → Blocks → State → List Entry → Type 0
+AllAlone w mine s [] = ⊤
+AllAlone w mine s (e ∷ es) =
+    EntryLeavesAlone w mine (mode_in s.registers) e × AllAlone w mine (after s e.event) es

@@ -10,7 +10,7 @@ use Rattle.device_lock.specs.History.{leads_to, AreEvents}
 use Rattle.device_lock.specs.Told.{first_settings, limit_of, settings_through}
 use Rattle.device_lock.specs.declared.alone.Watched.{Watched}
 use Rattle.device_lock.specs.declared.entry.Entry.{Entry}
-use Rattle.history_laws.specs.Alone.{AllAlone}
+use Rattle.history_laws.specs.Alone.{AllAlone, LeavesAloneFrom}
 
 -- the mode that the entries tell is the device's, from a new device on
 abbrev pub ModeIsTold : Type 0
@@ -26,16 +26,31 @@ SettingsAreTold =
     let s = leads_to (new_state vfs fifo) h in
     (told.mode ≡ mode_in s.registers) × (limit_of told.frames ≡ frame_limit s.registers)
 
+-- so a history from a new device on that leaves a queue alone, by the mode that its entries tell, leaves it alone from
+-- that device on
+abbrev pub NewIsLeftAlone : Type 0
+NewIsLeftAlone =
+    (w : Watched) (fifo : ℕ) (h : List Entry) → IsSound (new_state w.vfs fifo) → AreEvents h → LeavesAlone w h →
+    LeavesAloneFrom w (new_state w.vfs fifo) h
+
 -- a history that leaves a queue alone does so entry by entry, from any place behind the pass's first entry on
 abbrev pub AloneByEntries : Type 0
 AloneByEntries =
-    (w : Watched) (before rest : List Entry) → LeavesAlone w (before ++ rest) → IsTrue (has_begun w.pass before) →
-    AllAlone w (lent_by w.pass (before ++ rest)) (mode_through w.vfs Off before) rest
+    (w : Watched) (s : State) (before rest : List Entry) → LeavesAloneFrom w s (before ++ rest) →
+    IsTrue (has_begun w.pass before) →
+    AllAlone w (lent_by w.pass (before ++ rest)) (leads_to s before) rest
 
 -- what begins a history that leaves a queue alone leaves it alone
 abbrev pub BeginningIsAlone : Type 0
 BeginningIsAlone =
-    (w : Watched) (beginning rest : List Entry) → LeavesAlone w (beginning ++ rest) → LeavesAlone w beginning
+    (w : Watched) (s : State) (beginning rest : List Entry) → LeavesAloneFrom w s (beginning ++ rest) →
+    LeavesAloneFrom w s beginning
+
+-- and what is behind does, from where its beginning leads
+abbrev pub RestIsAlone : Type 0
+RestIsAlone =
+    (w : Watched) (s : State) (before rest : List Entry) → LeavesAloneFrom w s (before ++ rest) →
+    LeavesAloneFrom w (leads_to s before) rest
 
 -- a sound device stays so over events that a driver can make
 abbrev pub HistoriesKeepSound : Type 0

@@ -5,7 +5,7 @@
 #![tactic(auto)]
 
 ghost use Rattle.history_laws.specs.Lent.{OnlyLentStays, AnewIsDone};
-ghost use Rattle.history_laws.specs.Laws.{ModeIsTold, SettingsAreTold, AloneByEntries, BeginningIsAlone, HistoriesKeepSound};
+ghost use Rattle.history_laws.specs.Laws.{ModeIsTold, SettingsAreTold, NewIsLeftAlone, AloneByEntries, BeginningIsAlone, RestIsAlone, HistoriesKeepSound};
 ghost use Rattle.history_laws.specs.Reports.{ReportsLieInBlocks};
 ghost use Rattle.history_laws.specs.Left.{LeftDid, SidesDo};
 
@@ -16,11 +16,14 @@ pub fn settings_are_told()
     ensures settings { SettingsAreTold }
 {}
 
-/// A history that leaves a queue alone does so entry by entry, from any place behind the pass's first entry on; and
-/// what begins such a history leaves the queue alone.
+/// A history that leaves a queue alone, from any state of the device on, does so entry by entry, from any place behind
+/// the pass's first entry on; and what begins such a history leaves the queue alone, and what is behind does from where
+/// that leads. From a new device on a history leaves a queue alone that does so by the mode which its entries tell.
 pub fn queue_is_left_alone_by_entries()
+    ensures new { NewIsLeftAlone }
     ensures entries { AloneByEntries }
     ensures beginning { BeginningIsAlone }
+    ensures rest { RestIsAlone }
 {}
 
 /// A sound device stays sound over a history of events that a driver can make.

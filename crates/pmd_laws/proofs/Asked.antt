@@ -1,5 +1,5 @@
 -- What the device and both halves of a driver agree on stands while the driver asks for its sides to be off.
-use Rattle.std.proofs.Common.{◌≡◌, ℕ, false, List, [], ◌∷◌, ◌++◌, refl, sym, ap, ◌∙◌, subst, cond}
+use Rattle.std.proofs.Common.{◌≡◌, ℕ, false, List, [], ◌∷◌, ◌++◌, sym, ap, ◌∙◌, subst, cond}
 use Rattle.std.specs.Prelude.{IsFalse}
 use Rattle.std.proofs.lemmas.Bool.{both_ways}
 use Rattle.std.proofs.lemmas.List.{append-nil}
@@ -10,7 +10,7 @@ use Rattle.nic_device.specs.RegisterFile.Queue.{enable_row}
 use Rattle.nic_device.specs.DmaRing.declared.dir.Dir.{Dir}
 use Rattle.nic_device.specs.DmaRing.declared.dir.Dir.TheVariants.{Rx, Tx}
 use Rattle.nic_device.specs.Sound.{IsEvent}
-use Rattle.nic_device.specs.State.{State, new_state}
+use Rattle.nic_device.specs.State.{State}
 use Rattle.nic_device.specs.Step.{after, reply_to}
 use Rattle.nic_device.specs.declared.event.Event.{Event}
 use Rattle.nic_device.specs.declared.event.Event.TheVariants as event
@@ -21,7 +21,7 @@ use Rattle.device_lock.specs.declared.entry.Entry.{Entry}
 use Rattle.pmd.specs.PmdSeam.Named.{AtPort, IsNumberOf}
 use Rattle.start_laws.specs.ReceiveLaws.Pieces.{Piece, pieces}
 use Rattle.start_laws.proofs.ReceiveLaws.Clear.{no_registers}
-use Rattle.start_laws.proofs.ReceiveLaws.Delivering.{image_stays, vfs_stays}
+use Rattle.start_laws.proofs.ReceiveLaws.Delivering.{vfs_stays}
 use Rattle.start_laws.specs.TransmitLaws.Sent.{sent_by, sent_since}
 use Rattle.start_laws.proofs.TransmitLaws.Counting.{sent_is_counted}
 use Rattle.start_laws.specs.Ending.{IsAsking}
@@ -45,37 +45,34 @@ none_asks : (side : Dir) (word : ℕ) (k : Halves) → has_bit 25 word ≡ false
 none_asks Rx word k none = tt
 none_asks Tx word k none = λ asks. absurd (both_ways (has_bit 25 word) none asks)
 
-module _ (w : Watched) (fifo : ℕ) (q : AtPort) (frame : ℕ) (mine : Blocks) (k : Halves) where
-  abbrev new : State
-  new = new_state w.vfs fifo
-
+module _ (w : Watched) (origin : State) (q : AtPort) (frame : ℕ) (mine : Blocks) (k : Halves) where
   abbrev sent : List Entry → List (List ℕ)
-  sent done = sent_since w.queue new [] done
+  sent done = sent_since w.queue origin [] done
 
   -- they agree, with the frames that were sent since the transmit side went on, and it doesn't go on again
   pub record Keeps (done : List Entry) : Type 0 where
-    pub ground : HasGround w.queue q frame (reached w fifo done)
+    pub ground : HasGround w.queue q frame (reached w origin done)
     pub out : List Piece
-    pub both : BothAgree w.queue (reached w fifo done) out (sent done) k
+    pub both : BothAgree w.queue (reached w origin done) out (sent done) k
     pub lent : AreLent mine k
-    pub settled : IsSettled Tx w.queue (reached w fifo done)
+    pub settled : IsSettled Tx w.queue (reached w origin done)
 
   -- the same behind an event
   record Next (done : List Entry) (e : Event Block) : Type 0 where
-    ground : HasGround w.queue q frame (after (reached w fifo done) e)
+    ground : HasGround w.queue q frame (after (reached w origin done) e)
     out : List Piece
-    both : BothAgree w.queue (after (reached w fifo done) e) out
-        (sent done ++ sent_by w.queue (reached w fifo done) e) k
-    settles : Settles Tx w.queue (reached w fifo done) (after (reached w fifo done) e)
+    both : BothAgree w.queue (after (reached w origin done) e) out
+        (sent done ++ sent_by w.queue (reached w origin done) e) k
+    settles : Settles Tx w.queue (reached w origin done) (after (reached w origin done) e)
 
   keeps_on : (done : List Entry) (e : Entry) → AreLent mine k → Next done e.event → Keeps (done ++ e ∷ [])
   keeps_on done e lent x =
-      let s = reached w fifo done in
+      let s = reached w origin done in
       let t = after s e.event in
       let now : List Entry = done ++ e ∷ [] in
-      let there = sym (reached_next w fifo done e) in
+      let there = sym (reached_next w origin done e) in
       let counted : sent now ≡ sent done ++ sent_by w.queue s e.event =
-      sent_is_counted.joined w.queue new [] done (e ∷ [])
+      sent_is_counted.joined w.queue origin [] done (e ∷ [])
       ∙ ap (λ b. cond b [] (sent done ++ sent_by w.queue s e.event)) x.settles.never in
       record {
         ground = subst (HasGround w.queue q frame) there x.ground;
@@ -87,19 +84,16 @@ module _ (w : Watched) (fifo : ℕ) (q : AtPort) (frame : ℕ) (mine : Blocks) (
         settled = subst (IsSettled Tx w.queue) there x.settles.settled;
       }
 
-  left_next : (done : List Entry) (e : Event Block) → IsLeft w mine (reached w fifo done) e → Keeps done → Next done e
+  left_next : (done : List Entry) (e : Event Block) → IsLeft w mine (reached w origin done) e → Keeps done → Next done e
   left_next done e left x =
-      let s = reached w fifo done in
-      let mode = mode_in s.registers in
-      let m : Meets w mine mode s x.out (sent done) k = record {
+      let s = reached w origin done in
+      let m : Meets w mine s x.out (sent done) k = record {
         sound = left.sound;
-        image = image_stays new done;
         vfs = left.vfs;
-        mode_is = refl;
         both = x.both;
         lent = x.lent;
       } in
-      let kept = neither_keeps w mine mode s x.out (sent done) k m e left.made left.steps left.registers left.blocks in
+      let kept = neither_keeps w mine s x.out (sent done) k m e left.made left.steps left.registers left.blocks in
       record {
         ground = ground_kept w mine q frame s e left x.ground;
         out = x.out ++ pieces w.queue s e;
@@ -107,11 +101,11 @@ module _ (w : Watched) (fifo : ℕ) (q : AtPort) (frame : ℕ) (mine : Blocks) (
         settles = left_settles Tx w mine s e left x.settled;
       }
 
-  word_next : (done : List Entry) (side : Dir) (number word : ℕ) → IsMet w.queue (reached w fifo done)
+  word_next : (done : List Entry) (side : Dir) (number word : ℕ) → IsMet w.queue (reached w origin done)
       → IsEvent (event.Write q.port number word) → IsFalse (has_bit 25 word)
       → IsNumberOf q.port (enable_row side) q.queue number → Keeps done → Next done (event.Write q.port number word)
   word_next done side number word met made none named x =
-      let s = reached w fifo done in
+      let s = reached w origin done in
       let t = after s (event.Write q.port number word) in
       let names = ground_names w.queue q frame s x.ground (enable_row side) number (side_driven side) named in record {
         ground = write_ground w.queue q frame s (enable_row side) word number (side_driven side) named x.ground;
@@ -123,25 +117,27 @@ module _ (w : Watched) (fifo : ℕ) (q : AtPort) (frame : ℕ) (mine : Blocks) (
         settles = word_settles Tx w.queue q frame s number word met none x.ground side named x.settled;
       }
 
-  asked_next : (done : List Entry) (e : Event Block) → IsMet w.queue (reached w fifo done) → IsEvent e → IsAsking q e
-      → WritesOutside w.queue mine (reply_to (reached w fifo done) e) → Keeps done → Next done e
-  asked_next done (event.Write port number word) met made (side, same, none, named) steps x =
+  asked_next : w.vfs ≡ origin.vfs → (done : List Entry) (e : Event Block) → IsMet w.queue (reached w origin done)
+      → IsEvent e → IsAsking q e
+      → WritesOutside w.queue mine (reply_to (reached w origin done) e) → Keeps done → Next done e
+  asked_next vfs done (event.Write port number word) met made (side, same, none, named) steps x =
       subst (λ p. Next done (event.Write p number word)) (sym same)
       (word_next done side number word met (subst (λ p. IsEvent (event.Write p number word)) same made) none named x)
-  asked_next done (event.Read port number) met made asks steps x =
+  asked_next vfs done (event.Read port number) met made asks steps x =
       left_next done (event.Read port number)
-      (free_left w mine (reached w fifo done) (event.Read port number) met made (sym (vfs_stays new done)) steps
+      (free_left w mine (reached w origin done) (event.Read port number) met made (vfs ∙ sym (vfs_stays origin done))
+      steps
       (tt, tt)) x
-  asked_next done e met made asks steps x =
+  asked_next vfs done e met made asks steps x =
       left_next done e
-      (free_left w mine (reached w fifo done) e met made (sym (vfs_stays new done)) steps
-      (no_registers w (mode_in (reached w fifo done).registers) mine e asks)) x
+      (free_left w mine (reached w origin done) e met made (vfs ∙ sym (vfs_stays origin done)) steps
+      (no_registers w (mode_in (reached w origin done).registers) mine e asks)) x
 
-  pub others_keep : KeptOver w fifo mine Keeps
+  pub others_keep : KeptOver w origin mine Keeps
   others_keep done e left x = keeps_on done e x.lent (left_next done e.event left x)
 
-  pub asking_keeps : (c : Call) → IsAsking q c.event → LeadsOver w fifo mine c Keeps Keeps
-  asking_keeps c own done e same met made told steps x =
+  pub asking_keeps : w.vfs ≡ origin.vfs → (c : Call) → IsAsking q c.event → LeadsOver w origin mine c Keeps Keeps
+  asking_keeps vfs c own done e same met made told steps x =
       keeps_on done e x.lent
-      (asked_next done e.event met made (subst (λ (n : Call). IsAsking q n.event) (sym same) own)
+      (asked_next vfs done e.event met made (subst (λ (n : Call). IsAsking q n.event) (sym same) own)
       (subst (WritesOutside w.queue mine) told steps) x)

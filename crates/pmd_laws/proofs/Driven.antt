@@ -1,9 +1,8 @@
 -- From the place on where both sides of a driver's queue are on, a history drives its halves.
 use Rattle.std.proofs.Common.{ℕ, List, [], ◌++◌, sym, ◌∙◌, subst}
 use Rattle.nic_device.specs.DmaArena.Numbers.{Numbers}
-use Rattle.nic_device.specs.VfMap.declared.mode.Mode.TheVariants.{Off}
-use Rattle.nic_device.specs.State.{State, new_state}
-use Rattle.device_lock.specs.Alone.{LeavesAlone, lent_by, mode_through}
+use Rattle.nic_device.specs.State.{State}
+use Rattle.device_lock.specs.Alone.{lent_by}
 use Rattle.device_lock.specs.History.{IsLegal, AreEvents, leads_to}
 use Rattle.device_lock.specs.declared.alone.Watched.{Watched}
 use Rattle.device_lock.specs.declared.entry.Call.{Call}
@@ -13,6 +12,7 @@ use Rattle.pmd.specs.PmdSeam.Named.{AtPort}
 use Rattle.pmd.specs.PmdSeam.Slots.{EachRingBlock}
 use Rattle.pmd.specs.PmdRx.Receive.{Receive}
 use Rattle.pmd.specs.PmdTx.Sending.{Sender}
+use Rattle.start_laws.specs.HistoryLaws.Alone.{LeavesAloneFrom}
 use Rattle.start_laws.specs.ReceiveLaws.Joint.{Agree}
 use Rattle.start_laws.specs.TransmitLaws.Agreeing.{Agrees}
 use Rattle.start_laws.specs.Along.{BeforeLast, IsAlong}
@@ -28,43 +28,41 @@ use Rattle.driver_laws.specs.Beside.{OthersHarmless}
 use Rattle.driver_laws.proofs.Beside.{harmless_leave_alone}
 use Rattle.pmd_laws.proofs.FirstHalves.{first_halves, halves_apart, halves_lent}
 
-module _ (w : Watched) (fifo : ℕ) (h : List Entry) (q : AtPort) (size frame : ℕ) (old : List Call) (a : Numbers)
-    (on : List Call) (v : Receive) (t : Sender) (up : AreOn q size frame old a on v t) (along : IsAlong w fifo h)
-    (well : BeforeLast w fifo h up.receive.quiet.0 (HasGround w.queue q frame)) (ys : List Call)
+module _ (w : Watched) (origin : State) (h : List Entry) (q : AtPort) (size frame : ℕ) (old : List Call) (a : Numbers)
+    (on : List Call) (v : Receive) (t : Sender) (up : AreOn q size frame old a on v t) (along : IsAlong w origin h)
+    (well : BeforeLast w origin h up.receive.quiet.0 (HasGround w.queue q frame)) (ys : List Call)
     (p : Parts w.pass h on ys) where
-  abbrev new : State
-  new = new_state w.vfs fifo
-
   abbrev first : Halves
   first = first_halves q size frame old a on v t up
 
-  agrees : Agree w.queue (leads_to new p.front) [] v × Agrees (leads_to new p.front) w.queue [] t
+  agrees : Agree w.queue (leads_to origin p.front) [] v × Agrees (leads_to origin p.front) w.queue [] t
   agrees =
-      switched_sides_agree w fifo h q size frame old a on v t up along well p.front p.back p.both p.fronts
+      switched_sides_agree w origin h q size frame old a on v t up along well p.front p.back p.both p.fronts
 
-  pub went_on : WentOn w.queue new p.front
+  pub went_on : WentOn w.queue origin p.front
   went_on =
-      switched_sides_go_on w fifo h q size frame old a on v t up along well p.front p.back p.both p.fronts
+      switched_sides_go_on w origin h q size frame old a on v t up along well p.front p.back p.both p.fronts
 
   one : EachRingBlock up.receive.ring size (λ n. IsLentBy w.pass n h)
-  one = ring_lent w fifo h q size frame old a on v t up along up.sized well p.front p.back p.both p.fronts
+  one = ring_lent w origin h q size frame old a on v t up along up.sized well p.front p.back p.both p.fronts
 
   two : EachRingBlock up.transmit.ring size (λ n. IsLentBy w.pass n h)
-  two = other_lent w fifo h q size frame old a on v t up along up.sized well p.front p.back p.both p.fronts
+  two = other_lent w origin h q size frame old a on v t up along up.sized well p.front p.back p.both p.fronts
 
   -- by the doers of the calls behind it
   pub driven_by : (doers : List Doer) → AllOwn first doers ys → OthersHarmless doers ys
-      → IsDriven w fifo p.front p.back first doers
+      → IsDriven w origin p.front p.back first doers
   driven_by doers own harmless =
       let all = sym p.both in
       record {
-        new = along.new;
+        sound = along.sound;
+        vfs = along.vfs;
         events = subst AreEvents all along.events;
-        legal = subst (IsLegal new) all along.legal;
-        alone = subst (LeavesAlone w) all along.alone;
+        legal = subst (IsLegal origin) all along.legal;
+        alone = subst (LeavesAloneFrom w origin) all along.alone;
         begun =
             begun w.pass p.front
-            (λ none. on_some w fifo h q size frame old a on v t up along up.sized well (sym p.fronts ∙ none));
+            (λ none. on_some w origin h q size frame old a on v t up along up.sized well (sym p.fronts ∙ none));
         on = went_on.received;
         up = went_on.receives;
         agree = record { receive = agrees.0; transmit = agrees.1; apart = halves_apart q size frame old a on v t up };
@@ -74,6 +72,6 @@ module _ (w : Watched) (fifo : ℕ) (h : List Entry) (q : AtPort) (size frame : 
             (λ k below. (two k below).mine));
         own = subst (AllOwn first doers) (sym p.backs) own;
         others =
-            harmless_leave_alone w (lent_by w.pass (p.front ++ p.back)) (mode_through w.vfs Off p.front) doers p.back
+            harmless_leave_alone w (lent_by w.pass (p.front ++ p.back)) (leads_to origin p.front) doers p.back
             (subst (OthersHarmless doers) (sym p.backs) harmless);
       }

@@ -1,7 +1,7 @@
 -- What a driver that lived, and was stopped, handed out and sent.
 use Rattle.std.proofs.Common.{ℕ, List, [], ◌++◌, Option, Some, None, refl, sym, subst}
 use Rattle.nic_device.specs.DmaArena.Numbers.{Numbers}
-use Rattle.nic_device.specs.State.{new_state}
+use Rattle.nic_device.specs.State.{State}
 use Rattle.device_lock.specs.declared.alone.Watched.{Watched}
 use Rattle.device_lock.specs.declared.entry.Call.{Call}
 use Rattle.device_lock.specs.declared.entry.Entry.{Entry}
@@ -33,10 +33,10 @@ use Rattle.pmd_laws.proofs.StopParts.{first_made, first_takes}
 use Rattle.pmd_laws.proofs.StopSent.{sent_over_stop}
 use Rattle.pmd_laws.proofs.Stopped.{handed_over_stop}
 
-module _ (w : Watched) (fifo : ℕ) (h : List Entry) (q : AtPort) (size frame : ℕ) (old : List Call) (a : Numbers)
+module _ (w : Watched) (origin : State) (h : List Entry) (q : AtPort) (size frame : ℕ) (old : List Call) (a : Numbers)
     (new : List Call) (left : Rest) (late : Option PmdFault) (lived : HasLived q size frame old a new left late)
-    (x : IsToStop w fifo h q size frame old a new left late lived) where
-  is_lived : IsLived w fifo h q size frame old a lived.lives.made lived.lives.fresh (halves_of lived.last)
+    (x : IsToStop w origin h q size frame old a new left late lived) where
+  is_lived : IsLived w origin h q size frame old a lived.lives.made lived.lives.fresh (halves_of lived.last)
   is_lived = record {
     along = x.along;
     life = record {
@@ -48,19 +48,19 @@ module _ (w : Watched) (fifo : ℕ) (h : List Entry) (q : AtPort) (size frame : 
     begins = x.begins;
   }
 
-  handed : receive.IsPrefixOf lived.last.receive.handed (delivered w.queue (new_state w.vfs fifo) h)
+  handed : receive.IsPrefixOf lived.last.receive.handed (delivered w.queue origin h)
   handed =
-      handed_of_life w fifo h q size frame old a lived.lives.made lived.lives.fresh (halves_of lived.last) is_lived
+      handed_of_life w origin h q size frame old a lived.lives.made lived.lives.fresh (halves_of lived.last) is_lived
 
-  sent : transmit.IsPrefixOf (sent_since w.queue (new_state w.vfs fifo) [] h) (bytes_of lived.last.transmit.accepted)
-  sent = sent_of_life w fifo h q size frame old a lived.lives.made lived.lives.fresh (halves_of lived.last) is_lived
+  sent : transmit.IsPrefixOf (sent_since w.queue origin [] h) (bytes_of lived.last.transmit.accepted)
+  sent = sent_of_life w origin h q size frame old a lived.lives.made lived.lives.fresh (halves_of lived.last) is_lived
 
 pub left_is_prefix : LeftIsPrefix
-left_is_prefix w fifo h q size frame old a new left late lived x = (
-  subst (λ (kept : List Kept). receive.IsPrefixOf kept (delivered w.queue (new_state w.vfs fifo) h)) (sym lived.handed)
-      (handed w fifo h q size frame old a new left late lived x),
-  subst (λ (kept : List Kept). transmit.IsPrefixOf (sent_since w.queue (new_state w.vfs fifo) [] h) (bytes_of kept))
-      (sym lived.accepted) (sent w fifo h q size frame old a new left late lived x),
+left_is_prefix w origin h q size frame old a new left late lived x = (
+  subst (λ (kept : List Kept). receive.IsPrefixOf kept (delivered w.queue origin h)) (sym lived.handed)
+      (handed w origin h q size frame old a new left late lived x),
+  subst (λ (kept : List Kept). transmit.IsPrefixOf (sent_since w.queue origin [] h) (bytes_of kept))
+      (sym lived.accepted) (sent w origin h q size frame old a new left late lived x),
 )
 
 -- its calls are those of a stop, and take blocks back once both sides were seen off
@@ -80,13 +80,13 @@ stopped_takes q old h new (rest.Running p) None x = absurd x
 stopped_takes q old h new (rest.Running p) (Some f) (after, is, fails) =
     failed_stop_takes_once_off f q old old h new after fails (no_call_takes q old)
 
-module _ (w : Watched) (fifo : ℕ) (h : List Entry) (q : AtPort) (size frame : ℕ) (old : List Call) (a : Numbers)
+module _ (w : Watched) (origin : State) (h : List Entry) (q : AtPort) (size frame : ℕ) (old : List Call) (a : Numbers)
     (new : List Call) (left : Rest) (late : Option PmdFault) (lived : HasLived q size frame old a new left late)
-    (x : IsOver w fifo h q size frame old a new left late lived) where
+    (x : IsOver w origin h q size frame old a new left late lived) where
   abbrev pub now : List Call
   now = lived.made ++ x.since
 
-  pub is_stopping : IsStopping w fifo h q size frame old a lived.lives.made lived.lives.fresh lived.made
+  pub is_stopping : IsStopping w origin h q size frame old a lived.lives.made lived.lives.fresh lived.made
       (halves_of lived.last) now
   is_stopping = record {
     along = x.along;
@@ -106,23 +106,24 @@ module _ (w : Watched) (fifo : ℕ) (h : List Entry) (q : AtPort) (size frame : 
       first_takes q lived.made now new x.since x.rest refl x.all
       (stopped_takes q lived.made (halted_of (Up lived.last)) new left late lived.stopped)
 
-  handed_so_far : receive.IsPrefixOf lived.last.receive.handed (delivered w.queue (new_state w.vfs fifo) h)
+  handed_so_far : receive.IsPrefixOf lived.last.receive.handed (delivered w.queue origin h)
   handed_so_far =
-      handed_over_stop w fifo h q size frame old a lived.lives.made lived.lives.fresh lived.made (halves_of lived.last)
+      handed_over_stop w origin h q size frame old a lived.lives.made lived.lives.fresh lived.made
+      (halves_of lived.last)
       now is_stopping
 
-  sent_so_far : transmit.IsPrefixOf (sent_since w.queue (new_state w.vfs fifo) [] h)
+  sent_so_far : transmit.IsPrefixOf (sent_since w.queue origin [] h)
       (bytes_of lived.last.transmit.accepted)
   sent_so_far =
-      sent_over_stop w fifo h q size frame old a lived.lives.made lived.lives.fresh lived.made (halves_of lived.last)
+      sent_over_stop w origin h q size frame old a lived.lives.made lived.lives.fresh lived.made (halves_of lived.last)
       now is_stopping takes
 
 pub left_handed_over_stop : HandedOverStop
-left_handed_over_stop w fifo h q size frame old a new left late lived x =
-    subst (λ (kept : List Kept). receive.IsPrefixOf kept (delivered w.queue (new_state w.vfs fifo) h))
-    (sym lived.handed) (handed_so_far w fifo h q size frame old a new left late lived x)
+left_handed_over_stop w origin h q size frame old a new left late lived x =
+    subst (λ (kept : List Kept). receive.IsPrefixOf kept (delivered w.queue origin h))
+    (sym lived.handed) (handed_so_far w origin h q size frame old a new left late lived x)
 
 pub left_sent_over_stop : SentOverStop
-left_sent_over_stop w fifo h q size frame old a new left late lived x =
-    subst (λ (kept : List Kept). transmit.IsPrefixOf (sent_since w.queue (new_state w.vfs fifo) [] h) (bytes_of kept))
-    (sym lived.accepted) (sent_so_far w fifo h q size frame old a new left late lived x)
+left_sent_over_stop w origin h q size frame old a new left late lived x =
+    subst (λ (kept : List Kept). transmit.IsPrefixOf (sent_since w.queue origin [] h) (bytes_of kept))
+    (sym lived.accepted) (sent_so_far w origin h q size frame old a new left late lived x)

@@ -42,15 +42,15 @@ found_on own old mid new h j drives f = record {
 }
 
 -- what holds just before a call of a history holds so of what begins it
-pub last_before : (w : Watched) (fifo : ℕ) (h before rest : List Entry) (calls : List Call) (P : State → Type 0)
-    → before ++ rest ≡ h → BeforeLast w fifo h calls P → BeforeLast w fifo before calls P
-last_before w fifo h before rest calls P all at done more e both own is =
+pub last_before : (w : Watched) (origin : State) (h before rest : List Entry) (calls : List Call) (P : State → Type 0)
+    → before ++ rest ≡ h → BeforeLast w origin h calls P → BeforeLast w origin before calls P
+last_before w origin h before rest calls P all at done more e both own is =
     at done (more ++ rest) e
     (sym (append_assoc done (e ∷ more) rest) ∙ ap (λ (l : List Entry). l ++ rest) both ∙ all) own is
 
-module _ (w : Watched) (fifo : ℕ) (h : List Entry) (q : AtPort) (size frame : ℕ) (old : List Call) (a : Numbers)
+module _ (w : Watched) (origin : State) (h : List Entry) (q : AtPort) (size frame : ℕ) (old : List Call) (a : Numbers)
     (m : Moment) (later : List Moment) (n : Moment) (finds : faultless.FindsFault (last m later) n)
-    (x : IsToldApart w fifo h q size frame old a m later n) where
+    (x : IsToldApart w origin h q size frame old a m later n) where
   abbrev fresh : Running
   fresh = first q size frame old a m later x.told
 
@@ -68,18 +68,18 @@ module _ (w : Watched) (fifo : ℕ) (h : List Entry) (q : AtPort) (size frame : 
 
   refuted : Parts w.pass h n.made x.more → ⊥
   refuted p =
-      let along = along_before w fifo h p.front p.back p.both x.along in
-      let well = begins_before w fifo h p.front p.back p.both q size frame old a m.made fresh x.told.started.2
+      let along = along_before w origin h p.front p.back p.both x.along in
+      let well = begins_before w origin h p.front p.back p.both q size frame old a m.made fresh x.told.started.2
       x.begins in
-      no_fault_led_on w fifo p.front q size frame old a x.told.started.2.on.mid x.told.started.2.empty fresh.transmit
-      (on w fifo p.front q size frame old a m.made fresh x.told.started.2 along well) along
+      no_fault_led_on w origin p.front q size frame old a x.told.started.2.on.mid x.told.started.2.empty fresh.transmit
+      (on w origin p.front q size frame old a m.made fresh x.told.started.2 along well) along
       well.ground (is_own a)
-      (last_before w fifo h p.front p.back x.told.started.2.receive.quiet.0 (IsFresh w.queue frame (is_own a)) p.both
+      (last_before w origin h p.front p.back x.told.started.2.receive.quiet.0 (IsFresh w.queue frame (is_own a)) p.both
       x.fresh)
       (others_before w.pass (is_own a) p.front p.back (subst (OnlyPassLends w.pass (is_own a)) (sym p.both) x.others))
       (last m later).made there (led q size frame old a m later x.told)
       (subst (FindsFault (is_own a) (last m later).made there) (sym p.fronts) found)
 
 pub no_call_finds_fault : NoCallFindsFault
-no_call_finds_fault w fifo h q size frame old a m later n finds x =
-    refuted w fifo h q size frame old a m later n finds x (parts w.pass h n.made x.more x.made)
+no_call_finds_fault w origin h q size frame old a m later n finds x =
+    refuted w origin h q size frame old a m later n finds x (parts w.pass h n.made x.more x.made)

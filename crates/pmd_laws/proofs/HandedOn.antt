@@ -2,7 +2,7 @@
 use Rattle.std.proofs.Common.{◌≡◌, ℕ, inl, inr, List, [], ◌∷◌, ◌++◌, Option, Some, None, option_map, refl, sym, ap, ◌∙◌, subst, append_assoc, cond}
 use Rattle.std.proofs.lemmas.Bool.{cases_Bool}
 use Rattle.nic_device.specs.DmaRing.declared.dir.Dir.TheVariants.{Rx}
-use Rattle.nic_device.specs.State.{State, new_state}
+use Rattle.nic_device.specs.State.{State}
 use Rattle.nic_device.specs.Step.{after}
 use Rattle.device_lock.specs.Alone.{Blocks}
 use Rattle.device_lock.specs.declared.alone.Watched.{Watched}
@@ -49,41 +49,38 @@ then_prefix xs ys zs (one, is) (two, more) =
 
 -- from where the receive side is settled on it doesn't go on
 
-module _ (w : Watched) (fifo : ℕ) (q : AtPort) (frame : ℕ) (handed : List Kept) where
-  abbrev new : State
-  new = new_state w.vfs fifo
-
+module _ (w : Watched) (origin : State) (q : AtPort) (frame : ℕ) (handed : List Kept) where
   pub record Keeps (done : List Entry) : Type 0 where
-    pub ground : HasGround w.queue q frame (reached w fifo done)
-    pub settled : IsSettled Rx w.queue (reached w fifo done)
-    pub first : IsPrefixOf handed (delivered w.queue new done)
+    pub ground : HasGround w.queue q frame (reached w origin done)
+    pub settled : IsSettled Rx w.queue (reached w origin done)
+    pub first : IsPrefixOf handed (delivered w.queue origin done)
 
-  keeps_on : (done : List Entry) (e : Entry) → HasGround w.queue q frame (after (reached w fifo done) e.event)
-      → Settles Rx w.queue (reached w fifo done) (after (reached w fifo done) e.event) → Keeps done
+  keeps_on : (done : List Entry) (e : Entry) → HasGround w.queue q frame (after (reached w origin done) e.event)
+      → Settles Rx w.queue (reached w origin done) (after (reached w origin done) e.event) → Keeps done
       → Keeps (done ++ e ∷ [])
   keeps_on done e g on kept =
-      let s = reached w fifo done in
-      let so_far = pieces_since w.queue new None done in
+      let s = reached w origin done in
+      let so_far = pieces_since w.queue origin None done in
       let ps = pieces w.queue s e.event in
-      let more : delivered w.queue new (done ++ e ∷ []) ≡ packets_if_any (option_map (λ qs. qs ++ ps) so_far) =
-      ap packets_if_any (since-append w.queue new None done (e ∷ []))
+      let more : delivered w.queue origin (done ++ e ∷ []) ≡ packets_if_any (option_map (λ qs. qs ++ ps) so_far) =
+      ap packets_if_any (since-append w.queue origin None done (e ∷ []))
       ∙ ap (λ b. packets_if_any (cond b (Some []) (option_map (λ qs. qs ++ ps) so_far))) on.never in
       record {
-        ground = subst (HasGround w.queue q frame) (sym (reached_next w fifo done e)) g;
-        settled = subst (IsSettled Rx w.queue) (sym (reached_next w fifo done e)) on.settled;
+        ground = subst (HasGround w.queue q frame) (sym (reached_next w origin done e)) g;
+        settled = subst (IsSettled Rx w.queue) (sym (reached_next w origin done e)) on.settled;
         first =
             subst (IsPrefixOf handed) (sym more)
-            (then_prefix handed (delivered w.queue new done) _ kept.first (more_if_any so_far ps));
+            (then_prefix handed (delivered w.queue origin done) _ kept.first (more_if_any so_far ps));
       }
 
-  pub others_keep : (mine : Blocks) → KeptOver w fifo mine Keeps
+  pub others_keep : (mine : Blocks) → KeptOver w origin mine Keeps
   others_keep mine done e left kept =
-      keeps_on done e (ground_kept w mine q frame (reached w fifo done) e.event left kept.ground)
-      (left_settles Rx w mine (reached w fifo done) e.event left kept.settled) kept
+      keeps_on done e (ground_kept w mine q frame (reached w origin done) e.event left kept.ground)
+      (left_settles Rx w mine (reached w origin done) e.event left kept.settled) kept
 
-  pub ending_keeps : (mine : Blocks) (c : Call) → IsEnding q c.event → LeadsOver w fifo mine c Keeps Keeps
+  pub ending_keeps : (mine : Blocks) (c : Call) → IsEnding q c.event → LeadsOver w origin mine c Keeps Keeps
   ending_keeps mine c own done e same met made told steps kept =
-      let s = reached w fifo done in
+      let s = reached w origin done in
       let ends : IsEnding q e.event = subst (λ (n : Call). IsEnding q n.event) (sym same) own in
       keeps_on done e (plain_keeps w.queue q frame s e.event (ending_plain q e.event ends) kept.ground)
       (ending_settles w.queue q frame s e.event met made ends kept.ground kept.settled) kept

@@ -1,15 +1,13 @@
 -- Of numbers that no other pass lends only those are lent that the halves have lent, over a history that drives these.
-use Rattle.std.proofs.Common.{ℕ, List, [], ◌∷◌, ◌++◌, refl, sym, subst}
+use Rattle.std.proofs.Common.{ℕ, List, [], ◌∷◌, ◌++◌, refl, sym, ◌∙◌, subst}
 use Rattle.std.specs.Prelude.{◌==◌, IsTrue}
 use Rattle.std.proofs.lemmas.Bool.{or_left, or_right}
 use Rattle.nic_device.specs.DmaArena.Block.{Block}
-use Rattle.nic_device.specs.VfMap.declared.mode.Mode.{Mode}
-use Rattle.nic_device.specs.VfMap.declared.mode.Mode.TheVariants.{Off}
-use Rattle.nic_device.specs.State.{State, new_state}
+use Rattle.nic_device.specs.State.{State}
 use Rattle.nic_device.specs.Step.{after}
 use Rattle.nic_device.specs.declared.event.Reply.{Reply}
 use Rattle.device_lock.specs.Alone as alone
-use Rattle.device_lock.specs.Alone.{Blocks, mode_after, mode_through}
+use Rattle.device_lock.specs.Alone.{Blocks}
 use Rattle.device_lock.specs.History.{IsLegal, AreEvents, call_in, calls_of, leads_to}
 use Rattle.device_lock.specs.Pass.{call_of}
 use Rattle.device_lock.specs.declared.alone.Watched.{Watched}
@@ -17,11 +15,10 @@ use Rattle.device_lock.specs.declared.entry.Entry.{Entry}
 use Rattle.start_laws.specs.HistoryLaws.Alone.{AllAlone}
 use Rattle.start_laws.specs.HistoryLaws.Lent.{OnlyLent}
 use Rattle.start_laws.proofs.HistoryLaws.Alone.{alone_by_entries}
-use Rattle.start_laws.proofs.HistoryLaws.Modes.{mode_told}
 use Rattle.start_laws.proofs.HistoryLaws.Sound.{histories_sound}
 use Rattle.start_laws.specs.ReceiveLaws.Pieces.{Piece, pieces}
 use Rattle.device_lock.proofs.Histories.{events_before, events_behind, legal_behind}
-use Rattle.start_laws.proofs.ReceiveLaws.Delivering.{image_stays, lent_behind, vfs_stays}
+use Rattle.start_laws.proofs.ReceiveLaws.Delivering.{lent_behind, vfs_stays}
 use Rattle.start_laws.specs.TransmitLaws.Sent.{sent_by}
 use Rattle.pmd.specs.Apart.{AllLendApart}
 use Rattle.pmd.specs.Halves.{AllOwn, Doer, Halves, OwnCall, after_call, played_by}
@@ -35,49 +32,48 @@ use Rattle.driver_laws.proofs.HealthyApart.{apart_by}
 use Rattle.driver_laws.proofs.HealthyStepping.{known_after}
 
 module _ (w : Watched) (mine own : Blocks) where
-  along : (mode : Mode) (s : State) (out : List Piece) (sent : List (List ℕ)) (h : Halves) (doers : List Doer)
-      (es : List Entry) → Meets w mine mode s out sent h → OnlyLent own (lent_by h) s.memory → IsLegal s es
-      → AreEvents es → AllAlone w mine mode es → AllOwn h doers (calls_of w.pass es)
-      → OthersLeaveAlone w mine mode doers es → ((n : ℕ) → IsTrue (alone.lent_by w.pass es n) → IsTrue (mine n))
+  along : (s : State) (out : List Piece) (sent : List (List ℕ)) (h : Halves) (doers : List Doer)
+      (es : List Entry) → Meets w mine s out sent h → OnlyLent own (lent_by h) s.memory → IsLegal s es
+      → AreEvents es → AllAlone w mine s es → AllOwn h doers (calls_of w.pass es)
+      → OthersLeaveAlone w mine s doers es → ((n : ℕ) → IsTrue (alone.lent_by w.pass es n) → IsTrue (mine n))
       → OnlyPassLends w.pass own es → AllLendApart own h doers (calls_of w.pass es)
       → OnlyLent own (lent_by (played_by h doers (calls_of w.pass es))) (leads_to s es).memory
-  along mode s out sent h [] [] m known legal events spared did others covers none apart = known
-  along mode s out sent h (d ∷ doers) [] m known legal events spared did others covers none apart = absurd did
-  along mode s out sent h doers (e ∷ es) m known legal events spared did others covers none apart =
+  along s out sent h [] [] m known legal events spared did others covers none apart = known
+  along s out sent h (d ∷ doers) [] m known legal events spared did others covers none apart = absurd did
+  along s out sent h doers (e ∷ es) m known legal events spared did others covers none apart =
       let b = e.pass == w.pass in
       let d = doer_of b doers in
       let t = after s e.event in
       let next = next_by w.pass h doers e es b refl did in
       let lends = apart_by w.pass own h doers e es b refl did none.0 apart in
       let here = subst (λ (r : Reply Block). OwnCall h d (call_of e.event r)) legal.0 next.own in
-      let then = one_entry w mine mode s out sent h doers e b refl m legal.0 events.0 spared.0 others.0 next.own
+      let then = one_entry w mine s out sent h doers e b refl m legal.0 events.0 spared.0 others.0 next.own
       (λ n is. covers n (or_left _ _ is)) in
       let stays = subst (λ (r : Reply Block). OnlyLent own (lent_by (after_call h d (call_of e.event r))) t.memory)
-      (sym legal.0) (known_after w mine own mode s out sent h m known e.event d here lends.0) in
+      (sym legal.0) (known_after w mine own s out sent h m known e.event d here lends.0) in
       subst (λ (k : Halves). OnlyLent own (lent_by k) (leads_to t es).memory) (sym next.played)
-      (along (mode_after w.vfs mode e.event) t (out ++ pieces w.queue s e.event) (sent ++ sent_by w.queue s e.event)
+      (along t (out ++ pieces w.queue s e.event) (sent ++ sent_by w.queue s e.event)
       (after_call h d (call_in e)) (doers_after b doers) es then stays legal.1 events.1 spared.1 next.rest others.1
       (λ n is. covers n (or_right _ _ is)) none.1 lends.1)
 
--- so it is over a history of a new device
-pub known_along : (w : Watched) (fifo : ℕ) (start rest : List Entry) (h : Halves) (doers : List Doer) (own : Blocks)
-    → IsDriven w fifo start rest h doers → OnlyLent own (lent_by h) (leads_to (new_state w.vfs fifo) start).memory
+-- so it is over a history
+pub known_along : (w : Watched) (origin : State) (start rest : List Entry) (h : Halves) (doers : List Doer)
+    (own : Blocks)
+    → IsDriven w origin start rest h doers → OnlyLent own (lent_by h) (leads_to origin start).memory
     → OnlyPassLends w.pass own rest → AllLendApart own h doers (calls_of w.pass rest)
     → OnlyLent own (lent_by (played_by h doers (calls_of w.pass rest)))
-    (leads_to (leads_to (new_state w.vfs fifo) start) rest).memory
-known_along w fifo start rest h doers own d known others apart =
-    let new = new_state w.vfs fifo in
+    (leads_to (leads_to origin start) rest).memory
+known_along w origin start rest h doers own d known others apart =
     let before = events_before start rest d.events in
-    along w (alone.lent_by w.pass (start ++ rest)) own (mode_through w.vfs Off start) (leads_to new start) [] [] h doers
+    along w (alone.lent_by w.pass (start ++ rest)) own (leads_to origin start) [] [] h doers
     rest
     (record {
-      sound = histories_sound new start d.new before;
-      image = image_stays new start;
-      vfs = sym (vfs_stays new start);
-      mode_is = mode_told w.vfs fifo start d.new before;
+      sound = histories_sound origin start d.sound before;
+      vfs = d.vfs ∙ sym (vfs_stays origin start);
       both = d.agree;
       lent = d.lent;
     })
-    known (legal_behind new start rest d.legal) (events_behind start rest d.events)
-    (alone_by_entries w start rest d.alone d.begun) d.own d.others (λ n is. lent_behind w.pass n start rest is) others
+    known (legal_behind origin start rest d.legal) (events_behind start rest d.events)
+    (alone_by_entries w origin start rest d.alone d.begun) d.own d.others (λ n is. lent_behind w.pass n start rest is)
+    others
     apart

@@ -5,7 +5,7 @@ use Rattle.std.proofs.lemmas.Bool.{both_ways, eq-eqb, false_from_ne_true}
 use Rattle.std.proofs.lemmas.List.{same_from_push}
 use Rattle.nic_device.specs.DmaArena.Memory.{has_block}
 use Rattle.nic_device.specs.RegTable.declared.rows.RowId.TheVariants.{Rxdctl}
-use Rattle.nic_device.specs.State.{State, new_state}
+use Rattle.nic_device.specs.State.{State}
 use Rattle.nic_device.specs.declared.event.Event.TheVariants as event
 use Rattle.nic_device.specs.declared.event.Reply.TheVariants as reply
 use Rattle.device_lock.specs.Alone.{Blocks}
@@ -34,14 +34,14 @@ abbrev pub RisesToLast : AtPort → Blocks → List Call → List Call → Type 
 RisesToLast q lent first new =
     (before : List Call) × (last : Call) × (new ≡ before ++ last ∷ []) × Rises q lent first before
 
-module _ (w : Watched) (fifo : ℕ) (h : List Entry) (q : AtPort) (old first : List Call) (along : IsAlong w fifo h)
-    (own lent : Blocks) (begins : IsMade q old first (Sees Rxdctl false))
-    (fresh : BeforeLast w fifo h first (NoneLent own)) (others : OnlyPassLends w.pass own h)
+module _ (w : Watched) (origin : State) (h : List Entry) (q : AtPort) (old first : List Call)
+    (along : IsAlong w origin h) (own lent : Blocks) (begins : IsMade q old first (Sees Rxdctl false))
+    (fresh : BeforeLast w origin h first (NoneLent own)) (others : OnlyPassLends w.pass own h)
   where
     abbrev start : State
-    start = new_state w.vfs fifo
+    start = origin
 
-    pub lent_at : (new : List Call) → Rises q lent first new → AtCalls w fifo h new (λ s. OnlyLent own lent s.memory)
+    pub lent_at : (new : List Call) → Rises q lent first new → AtCalls w origin h new (λ s. OnlyLent own lent s.memory)
     lent_at new rises done rest all calls =
         let (number, word, named, seen, (before, added, steps)) = begins in
         let c = call_of (event.Read q.port number) (reply.Word word) in
@@ -54,7 +54,7 @@ module _ (w : Watched) (fifo : ℕ) (h : List Entry) (q : AtPort) (old first : L
         let whole : x.before ++ x.entry ∷ (x.behind ++ rest) ≡ h = sym (append_assoc x.before es rest) ∙ split in
         let here = fresh x.before (x.behind ++ rest) x.entry whole x.own
         ((λ i. x.made i ++ x.call i ∷ []) ∙ append_assoc old before (c ∷ []) ∙ sym added) in
-        let s : State = reached w fifo x.before in
+        let s : State = reached w origin x.before in
         let none : OnlyLent own (λ n. false) s.memory = λ n is has. absurd (both_ways _ (here n is) has) in
         let events = events_behind x.before es
         (events_before (x.before ++ es) rest (subst AreEvents (sym split) along.events)) in
@@ -63,8 +63,8 @@ module _ (w : Watched) (fifo : ℕ) (h : List Entry) (q : AtPort) (old first : L
         let spared = others_behind w.pass own x.before es
         (others_before w.pass own (x.before ++ es) rest (subst (OnlyPassLends w.pass own) (sym split) others)) in
         let then = only_pass_lent w.pass own (λ n. false) s es legal events spared none in
-        let there : leads_to s es ≡ reached w fifo done =
-        sym (leads-append start x.before es) ∙ ap (reached w fifo) x.all in
+        let there : leads_to s es ≡ reached w origin done =
+        sym (leads-append start x.before es) ∙ ap (reached w origin) x.all in
         let are : Each (λ d. IsRising q lent d.event) (calls_of w.pass es) =
         subst (Each (λ d. IsRising q lent d.event))
         (sym (calls_own w.pass x.entry x.behind (eq-eqb x.entry.pass w.pass x.own) ∙ (λ i. x.call i ∷ x.later i)))
@@ -74,8 +74,8 @@ module _ (w : Watched) (fifo : ℕ) (h : List Entry) (q : AtPort) (old first : L
 
     -- so none but those is lent just before one call more
     pub unlent_before : (new : List Call) → RisesToLast q lent first new → (number : ℕ) → IsTrue (own number)
-        → (IsTrue (lent number) → ⊥) → BeforeLast w fifo h new (λ s. has_block s.memory number ≡ false)
+        → (IsTrue (lent number) → ⊥) → BeforeLast w origin h new (λ s. has_block s.memory number ≡ false)
     unlent_before new (before, last, is, rises) number mine not done rest e both own calls =
         let made = same_from_push (calls_of w.pass done) before (call_in e) last (calls ∙ is) in
-        false_from_ne_true (has_block (reached w fifo done).memory number)
+        false_from_ne_true (has_block (reached w origin done).memory number)
         (λ has. not (lent_at before rises done (e ∷ rest) both made.0 number mine has))

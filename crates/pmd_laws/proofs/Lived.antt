@@ -1,12 +1,12 @@
 -- What begins a history of a life is one too.
 use Rattle.std.proofs.Common.{◌≡◌, ℕ, List, ◌∷◌, ◌++◌, sym, ap, ◌∙◌, subst, append_assoc}
 use Rattle.nic_device.specs.DmaArena.Numbers.{Numbers}
-use Rattle.nic_device.specs.State.{new_state}
-use Rattle.device_lock.specs.Alone.{LeavesAlone}
+use Rattle.nic_device.specs.State.{State}
 use Rattle.device_lock.specs.History.{IsLegal, AreEvents, calls_of}
 use Rattle.device_lock.specs.declared.alone.Watched.{Watched}
 use Rattle.device_lock.specs.declared.entry.Call.{Call}
 use Rattle.device_lock.specs.declared.entry.Entry.{Entry}
+use Rattle.start_laws.specs.HistoryLaws.Alone.{LeavesAloneFrom}
 use Rattle.start_laws.proofs.HistoryLaws.Beginning.{beginning_alone}
 use Rattle.pmd.specs.Running.{Running}
 use Rattle.pmd.specs.Started.{AreUp}
@@ -19,19 +19,20 @@ use Rattle.driver_laws.specs.Beside.{Leads}
 use Rattle.pmd_laws.specs.Life.{IsLife}
 use Rattle.pmd_laws.specs.Order.{IsLived}
 
-module _ (w : Watched) (fifo : ℕ) (h before rest : List Entry) (all : before ++ rest ≡ h) where
-  pub along_before : IsAlong w fifo h → IsAlong w fifo before
+module _ (w : Watched) (origin : State) (h before rest : List Entry) (all : before ++ rest ≡ h) where
+  pub along_before : IsAlong w origin h → IsAlong w origin before
   along_before x = record {
     small = x.small;
-    new = x.new;
+    sound = x.sound;
+    vfs = x.vfs;
     events = events_before before rest (subst AreEvents (sym all) x.events);
-    legal = legal_before (new_state w.vfs fifo) before rest (subst (IsLegal (new_state w.vfs fifo)) (sym all) x.legal);
-    alone = beginning_alone w before rest (subst (LeavesAlone w) (sym all) x.alone);
+    legal = legal_before origin before rest (subst (IsLegal origin) (sym all) x.legal);
+    alone = beginning_alone w origin before rest (subst (LeavesAloneFrom w origin) (sym all) x.alone);
   }
 
   pub begins_before : (q : AtPort) (size frame : ℕ) (old : List Call) (a : Numbers) (new : List Call) (r : Running)
-      (up : AreUp q size frame old a new r) → BeginsWell w fifo h q size frame old a new r up
-      → BeginsWell w fifo before q size frame old a new r up
+      (up : AreUp q size frame old a new r) → BeginsWell w origin h q size frame old a new r up
+      → BeginsWell w origin before q size frame old a new r up
   begins_before q size frame old a new r up x = record {
     ground = λ done more e both own is.
         x.ground done (more ++ rest) e
@@ -41,9 +42,9 @@ module _ (w : Watched) (fifo : ℕ) (h before rest : List Entry) (all : before +
   -- and a life up to there, where its calls lead to these halves
   abbrev pub lived_before : (q : AtPort) (size frame : ℕ) (old : List Call) (a : Numbers) (started : List Call)
       (r : Running) (made calls : List Call) (j k : Halves) (life : IsLife q size frame old a started r made j)
-      → IsAlong w fifo h → BeginsWell w fifo h q size frame old a started r life.up
+      → IsAlong w origin h → BeginsWell w origin h q size frame old a started r life.up
       → Leads started (halves_of r) calls k → calls_of w.pass before ≡ calls
-      → IsLived w fifo before q size frame old a started r k
+      → IsLived w origin before q size frame old a started r k
   lived_before q size frame old a started r made calls j k life along begins goes is = record {
     along = along_before along;
     life = record {

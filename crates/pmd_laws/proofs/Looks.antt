@@ -2,7 +2,7 @@
 use Rattle.std.proofs.Common.{◌≡◌, ℕ, List, [], ◌∷◌, ◌++◌, length, refl, sym, ap, ◌∙◌, subst, append_assoc}
 use Rattle.std.proofs.lemmas.List.{same_from_push}
 use Rattle.nic_device.specs.DmaArena.Numbers.{Numbers}
-use Rattle.nic_device.specs.State.{State, new_state}
+use Rattle.nic_device.specs.State.{State}
 use Rattle.nic_device.specs.Step.{reply_to}
 use Rattle.nic_device.specs.declared.event.Event.TheVariants as event
 use Rattle.nic_device.specs.declared.event.Reply.TheVariants as reply
@@ -42,14 +42,13 @@ calls_end pass h calls more c is =
     }
 
 -- a call is answered by the device
-pub answered : (w : Watched) (fifo : ℕ) (h : List Entry) (calls : List Call) (c : Call) → IsAlong w fifo h
+pub answered : (w : Watched) (origin : State) (h : List Entry) (calls : List Call) (c : Call) → IsAlong w origin h
     → (at : EndsAt w.pass h calls) → call_in at.entry ≡ c
-    → reply_to (leads_to (new_state w.vfs fifo) at.before) c.event ≡ c.reply
-answered w fifo h calls c along at is =
-    let new = new_state w.vfs fifo in
-    let here = leads_to new at.before in
-    let legal = legal_behind new at.before (at.entry ∷ at.behind)
-    (subst (IsLegal new) (sym at.all) along.legal) in
+    → reply_to (leads_to origin at.before) c.event ≡ c.reply
+answered w origin h calls c along at is =
+    let here = leads_to origin at.before in
+    let legal = legal_behind origin at.before (at.entry ∷ at.behind)
+    (subst (IsLegal origin) (sym at.all) along.legal) in
     ap (λ (d : Call). reply_to here d.event) (sym is) ∙ sym legal.0 ∙ ap (λ (d : Call). d.reply) is
 
 -- the calls before an entry, and its own, where the last of these calls is known
@@ -59,11 +58,11 @@ ends_with pass h old more calls c is at =
     same_from_push (calls_of pass at.before) (old ++ more) (call_in at.entry) c
     (at.made ∙ is ∙ sym (append_assoc old more (c ∷ [])))
 
-module _ (w : Watched) (fifo : ℕ) (h : List Entry) (q : AtPort) (size frame : ℕ) (old : List Call) (a : Numbers)
+module _ (w : Watched) (origin : State) (h : List Entry) (q : AtPort) (size frame : ℕ) (old : List Call) (a : Numbers)
     (started : List Call) (r : Running) (made : List Call) (k : Halves) (new : List Call) (v : Receive)
-    (x : LooksInVain w fifo h q size frame old a started r made k new v) where
+    (x : LooksInVain w origin h q size frame old a started r made k new v) where
   abbrev begun : State
-  begun = new_state w.vfs fifo
+  begun = origin
 
   abbrev late : List Entry
   late = x.look.before
@@ -95,9 +94,9 @@ module _ (w : Watched) (fifo : ℕ) (h : List Entry) (q : AtPort) (size frame : 
       (drives_lead made x.looks.mid k then (receiving_drives made x.looks.mid k then x.looks.looks refl)))
       (harmless_lead x.looks.mid calls then (others, refl, steps_harmless others x.looks.last.2))
 
-  abbrev lived : IsLived w fifo late q size frame old a started r then
+  abbrev lived : IsLived w origin late q size frame old a started r then
   lived =
-      lived_then w fifo h q size frame old a started r made k x.life x.along x.begins late rest x.look.all calls then
+      lived_then w origin h q size frame old a started r made k x.life x.along x.begins late rest x.look.all calls then
       goes_on ends.0
 
   finds : FindsNone (leads_to begun late) v
@@ -106,7 +105,7 @@ module _ (w : Watched) (fifo : ℕ) (h : List Entry) (q : AtPort) (size frame : 
       looks = x.looks.stage;
       posted = x.looks.posted;
       bytes = x.looks.bytes;
-      reply = answered w fifo h new looking x.along x.look ends.1;
+      reply = answered w origin h new looking x.along x.look ends.1;
       waits = x.looks.waits;
     };
     none_whole = x.looks.none_whole;
@@ -117,45 +116,45 @@ module _ (w : Watched) (fifo : ℕ) (h : List Entry) (q : AtPort) (size frame : 
   same = ap (λ (z : Receive). z.handed) x.looks.left
 
   all_before : k.receive.handed ≡ delivered w.queue begun late
-  all_before = sym same ∙ none_of_life w fifo late q size frame old a started r then lived finds
+  all_before = sym same ∙ none_of_life w origin late q size frame old a started r then lived finds
 
   module _ (early more : List Entry) (all : early ++ more ≡ late) (is : AddsHarmless made (calls_of w.pass early))
     where
-      abbrev lived_here : IsLived w fifo early q size frame old a started r k
+      abbrev lived_here : IsLived w origin early q size frame old a started r k
       lived_here =
-          lived_early w fifo h q size frame old a started r made k x.life x.along x.begins late rest x.look.all calls
+          lived_early w origin h q size frame old a started r made k x.life x.along x.begins late rest x.look.all calls
           then goes_on ends.0 early more all is
 
       -- both places, from where the sides went on
 
       abbrev p : Parts w.pass early x.life.up.on.mid
-          (order.whole w fifo early q size frame old a started r k lived_here).1
+          (order.whole w origin early q size frame old a started r k lived_here).1
       p =
-          early_parts w fifo h q size frame old a started r made k x.life x.along x.begins late rest x.look.all calls
+          early_parts w origin h q size frame old a started r made k x.life x.along x.begins late rest x.look.all calls
           then goes_on ends.0 early more all is
 
       abbrev p_late : Parts w.pass late x.life.up.on.mid
-          (order.whole w fifo late q size frame old a started r then lived).1
+          (order.whole w origin late q size frame old a started r then lived).1
       p_late =
-          late_parts w fifo h q size frame old a started r made k x.life x.along x.begins late rest x.look.all calls
+          late_parts w origin h q size frame old a started r made k x.life x.along x.begins late rest x.look.all calls
           then goes_on ends.0 early more all is
 
       abbrev both : p.front ++ (p.back ++ more) ≡ late
       both =
-          parts_join w fifo h q size frame old a started r made k x.life x.along x.begins late rest x.look.all calls
+          parts_join w origin h q size frame old a started r made k x.life x.along x.begins late rest x.look.all calls
           then goes_on ends.0 early more all is
 
       all_at_first : k.receive.handed ≡ delivered w.queue begun early
       all_at_first =
-          let here = order.last w fifo early q size frame old a started r k lived_here p in
-          let there = order.last w fifo late q size frame old a started r then lived p_late in
+          let here = order.last w origin early q size frame old a started r k lived_here p in
+          let there = order.last w origin late q size frame old a started r then lived p_late in
           ap (λ (z : Halves). z.receive.handed) (sym here)
-          ∙ none_is_all_before w fifo p.front p.back more
-          (order.first w fifo late q size frame old a started r then lived)
-          (order.whole w fifo early q size frame old a started r k lived_here).0
-          (order.whole w fifo late q size frame old a started r then lived).0
-          (order.driven w fifo early q size frame old a started r k lived_here p)
-          (order.driven w fifo late q size frame old a started r then lived p_late)
+          ∙ none_is_all_before w origin p.front p.back more
+          (order.first w origin late q size frame old a started r then lived)
+          (order.whole w origin early q size frame old a started r k lived_here).0
+          (order.whole w origin late q size frame old a started r then lived).0
+          (order.driven w origin early q size frame old a started r k lived_here p)
+          (order.driven w origin late q size frame old a started r then lived p_late)
           (subst (λ (z : Halves). FindsNone (leads_to begun (p.front ++ (p.back ++ more))) z.receive) (sym there)
           (subst (λ (l : List Entry). FindsNone (leads_to begun l) v) (sym both) finds))
           (ap (λ (z : Halves). z.receive.handed) there ∙ same ∙ ap (λ (z : Halves). z.receive.handed) (sym here))

@@ -1,5 +1,5 @@
 -- No burst of a driver meets the device at fault, whatever it answers.
-use Rattle.std.proofs.Common.{◌≡◌, ℕ, List, [], ◌++◌, Option, Some, None, Result, Err, IfErr, IfSome, sym, ap, ◌∙◌, subst, append_assoc}
+use Rattle.std.proofs.Common.{◌≡◌, ℕ, List, [], ◌++◌, Option, Some, None, Result, IfErr, IfSome, sym, ap, ◌∙◌, subst, append_assoc}
 use Rattle.std.proofs.lemmas.List.{append-nil}
 use Rattle.nic_device.specs.DmaArena.Numbers.{is_own}
 use Rattle.device_lock.specs.Alone.{Blocks}
@@ -64,10 +64,10 @@ by_rings (Up r) (Down h) old new none meets = meets
 by_rings (Down h) after old new none meets = none new [] (sym (append-nil new)) tt
 
 pub no_burst_meets_fault : NoBurstMeetsFault
-no_burst_meets_fault w fifo h q size frame old a m later n meets x =
+no_burst_meets_fault w origin h q size frame old a m later n meets x =
     by_rings (last m later).driver.rings n.driver.rings (last m later).made n.made
     (λ mid behind both finds.
-    no_call_finds_fault w fifo h q size frame old a m later (record { made = mid; driver = n.driver }) finds
+    no_call_finds_fault w origin h q size frame old a m later (record { made = mid; driver = n.driver }) finds
     (record {
       along = x.along;
       told = x.told;

@@ -2,7 +2,7 @@
 use Rattle.std.proofs.Common.{◌≡◌, ℕ, List, ◌++◌, refl, sym, ap, ◌∙◌, subst, append_assoc}
 use Rattle.std.proofs.lemmas.List.{append_cancel_left}
 use Rattle.nic_device.specs.DmaArena.Numbers.{Numbers}
-use Rattle.nic_device.specs.State.{new_state}
+use Rattle.nic_device.specs.State.{State}
 use Rattle.device_lock.specs.Alone.{Blocks}
 use Rattle.device_lock.specs.History.{calls_of, leads_to}
 use Rattle.device_lock.specs.declared.alone.Watched.{Watched}
@@ -35,10 +35,10 @@ use Rattle.pmd_laws.proofs.PassLends.{others_behind}
 use Rattle.pmd_laws.proofs.RiseCalls.{Rises, on_rises}
 use Rattle.pmd_laws.proofs.SickCall.{made, made_is, others_step, own_all}
 
-module _ (w : Watched) (fifo : ℕ) (h : List Entry) (q : AtPort) (size frame : ℕ) (old : List Call) (a : Numbers)
-    (on : List Call) (v : Receive) (t : Sender) (up : AreOn q size frame old a on v t) (along : IsAlong w fifo h)
-    (well : BeforeLast w fifo h up.receive.quiet.0 (HasGround w.queue q frame)) (own : Blocks)
-    (fresh : BeforeLast w fifo h up.receive.quiet.0 (IsFresh w.queue frame own)) (others : OnlyPassLends w.pass own h)
+module _ (w : Watched) (origin : State) (h : List Entry) (q : AtPort) (size frame : ℕ) (old : List Call) (a : Numbers)
+    (on : List Call) (v : Receive) (t : Sender) (up : AreOn q size frame old a on v t) (along : IsAlong w origin h)
+    (well : BeforeLast w origin h up.receive.quiet.0 (HasGround w.queue q frame)) (own : Blocks)
+    (fresh : BeforeLast w origin h up.receive.quiet.0 (IsFresh w.queue frame own)) (others : OnlyPassLends w.pass own h)
   where
     abbrev first : Halves
     first = first_halves q size frame old a on v t up
@@ -88,20 +88,20 @@ module _ (w : Watched) (fifo : ℕ) (h : List Entry) (q : AtPort) (size frame : 
       abbrev p : Parts w.pass h on (calls_of w.pass (rest ++ more))
       p = record { front = front; back = rest ++ more; both = all; fronts = fronts; backs = refl }
 
-      unshared : IsUnshared w fifo front (rest ++ more) first (doers ++ ends) own
+      unshared : IsUnshared w origin front (rest ++ more) first (doers ++ ends) own
       unshared =
-          let short = short_at w fifo h q size frame old a on v t up along well own (lent_by first) fresh rises front
+          let short = short_at w origin h q size frame old a on v t up along well own (lent_by first) fresh rises front
           (rest ++ more) all fronts in
           record {
             driven =
-                driven_by w fifo h q size frame old a on v t up along well
+                driven_by w origin h q size frame old a on v t up along well
                 (calls_of w.pass (rest ++ more)) p
                 (doers ++ ends) own_both others_both;
             short =
-                subst (λ (most : ℕ). AreShort w.queue most (leads_to (new_state w.vfs fifo) front)) (sym most_is)
-                (short_by w.queue q frame (leads_to (new_state w.vfs fifo) front) short.0 short.1);
+                subst (λ (most : ℕ). AreShort w.queue most (leads_to origin front)) (sym most_is)
+                (short_by w.queue q frame (leads_to origin front) short.0 short.1);
             known =
-                known_at w fifo h q size frame old a on v t up along well own (lent_by first) fresh rises others front
+                known_at w origin h q size frame old a on v t up along well own (lent_by first) fresh rises others front
                 (rest ++ more) all fronts;
             others =
                 others_behind w.pass own front (rest ++ more) (subst (OnlyPassLends w.pass own) (sym all) others);
@@ -109,7 +109,7 @@ module _ (w : Watched) (fifo : ℕ) (h : List Entry) (q : AtPort) (size frame : 
 
       none_there : ⊥
       none_there =
-          no_fault w fifo front rest more first doers own mid (calls_of w.pass h) f did apart mids unshared
+          no_fault w origin front rest more first doers own mid (calls_of w.pass h) f did apart mids unshared
 
     module _ (mid : List Call) (k : Halves) (led : LeadsApart own on first mid k)
         (f : FindsFault own mid k (calls_of w.pass h)) where

@@ -112,8 +112,9 @@ module _ (a : Numbers) (hand : List ℕ) (mem : Memory) (n : ℕ) where
       ))
 
 pub each_in_one_place : EachInOnePlace
-each_in_one_place w fifo h q size frame old a m later x hand all n own =
-    let mem : Memory = memory_after w fifo h in
+each_in_one_place w origin h q size frame old a m later x hand all n own =
+    let mem : Memory = memory_after w origin h in
     subst (InPlace a hand mem n) (sym (runs q size frame old a m later x.told.told).up)
     (up_in_place a hand mem n (runs q size frame old a m later x.told.told).rings) all
-    (out_is_lent w fifo h q size frame old a m later x.told n) (lent_is_out w fifo h q size frame old a m later x n own)
+    (out_is_lent w origin h q size frame old a m later x.told n)
+    (lent_is_out w origin h q size frame old a m later x n own)

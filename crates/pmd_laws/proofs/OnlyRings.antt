@@ -46,10 +46,10 @@ short_by queue q frame s g short = record {
   waiting = short;
 }
 
-module _ (w : Watched) (fifo : ℕ) (h : List Entry) (q : AtPort) (size frame : ℕ) (old : List Call) (a : Numbers)
-    (new : List Call) (v : Receive) (t : Sender) (up : AreOn q size frame old a new v t) (along : IsAlong w fifo h)
-    (well : BeforeLast w fifo h up.receive.quiet.0 (HasGround w.queue q frame)) (own lent : Blocks)
-    (fresh : BeforeLast w fifo h up.receive.quiet.0 (IsFresh w.queue frame own))
+module _ (w : Watched) (origin : State) (h : List Entry) (q : AtPort) (size frame : ℕ) (old : List Call) (a : Numbers)
+    (new : List Call) (v : Receive) (t : Sender) (up : AreOn q size frame old a new v t) (along : IsAlong w origin h)
+    (well : BeforeLast w origin h up.receive.quiet.0 (HasGround w.queue q frame)) (own lent : Blocks)
+    (fresh : BeforeLast w origin h up.receive.quiet.0 (IsFresh w.queue frame own))
     (rises : Rises q lent up.receive.quiet.0 new)
   where
     -- the frames that wait
@@ -72,15 +72,15 @@ module _ (w : Watched) (fifo : ℕ) (h : List Entry) (q : AtPort) (size frame : 
     plain_short s e plain x =
         (plain_keeps w.queue q frame s e plain x.0, short_after s e x (plain_setting w.queue q frame s e plain x.0))
 
-    pub short_at : AtCalls w fifo h new Short
+    pub short_at : AtCalls w origin h new Short
     short_at done rest all calls =
-        all_lead w fifo h (λ so_far. Short (reached w fifo so_far)) (λ c. IsPlain q c.event) along
-        (state_kept w fifo (lent_by w.pass h) Short short_kept)
+        all_lead w origin h (λ so_far. Short (reached w origin so_far)) (λ c. IsPlain q c.event) along
+        (state_kept w origin (lent_by w.pass h) Short short_kept)
         (λ c plain.
-        state_leads w fifo (lent_by w.pass h) c Short Short (λ s met made told x. plain_short s c.event plain x))
+        state_leads w origin (lent_by w.pass h) c Short Short (λ s met made told x. plain_short s c.event plain x))
         rises.0 up.receive.quiet.0 (rising_are_plain q lent rises.0 rises.2)
         (made_some q old up.receive.quiet.0 (Sees Rxdctl false) up.receive.quiet.1)
-        (first_seen w q fifo h Short along short_kept
+        (first_seen w q origin h Short along short_kept
         (λ s number x. plain_short s (event.Read q.port number) tt x) Rxdctl false old up.receive.quiet.0
         up.receive.quiet.1
         (λ before behind e split mine is.
@@ -88,7 +88,7 @@ module _ (w : Watched) (fifo : ℕ) (h : List Entry) (q : AtPort) (size frame : 
         done rest all (calls ∙ rises.1)
 
     -- the blocks that are lent
-    pub known_at : OnlyPassLends w.pass own h → AtCalls w fifo h new (λ s. OnlyLent own lent s.memory)
+    pub known_at : OnlyPassLends w.pass own h → AtCalls w origin h new (λ s. OnlyLent own lent s.memory)
     known_at others =
-        lent_at w fifo h q old up.receive.quiet.0 along own lent up.receive.quiet.1
+        lent_at w origin h q old up.receive.quiet.0 along own lent up.receive.quiet.1
         (λ before behind e split mine is. (fresh before behind e split mine is).none) others new rises

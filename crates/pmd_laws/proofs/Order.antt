@@ -1,7 +1,7 @@
 -- What a driver handed out and what it sent in its life.
 use Rattle.std.proofs.Common.{◌≡◌, ℕ, List, [], ◌++◌, refl, sym, ap, ◌∙◌, subst}
 use Rattle.nic_device.specs.DmaArena.Numbers.{Numbers}
-use Rattle.nic_device.specs.State.{State, new_state}
+use Rattle.nic_device.specs.State.{State}
 use Rattle.device_lock.specs.History.{calls_of, leads_to}
 use Rattle.device_lock.specs.declared.alone.Watched.{Watched}
 use Rattle.device_lock.specs.declared.entry.Call.{Call}
@@ -32,16 +32,13 @@ use Rattle.pmd_laws.proofs.Driven as begun_on
 use Rattle.pmd_laws.proofs.Driven.{driven_by}
 use Rattle.pmd_laws.proofs.FirstHalves.{first_halves}
 
-module _ (w : Watched) (fifo : ℕ) (h : List Entry) (q : AtPort) (size frame : ℕ) (old : List Call) (a : Numbers)
-    (started : List Call) (r : Running) (k : Halves) (x : order.IsLived w fifo h q size frame old a started r k) where
-  abbrev new : State
-  new = new_state w.vfs fifo
-
+module _ (w : Watched) (origin : State) (h : List Entry) (q : AtPort) (size frame : ℕ) (old : List Call) (a : Numbers)
+    (started : List Call) (r : Running) (k : Halves) (x : order.IsLived w origin h q size frame old a started r k) where
   abbrev pub up : AreUp q size frame old a started r
   up = x.life.up
 
   abbrev pub begun : AreOn q size frame old a up.on.mid up.empty r.transmit
-  begun = on w fifo h q size frame old a started r up x.along x.begins
+  begun = on w origin h q size frame old a started r up x.along x.begins
 
   abbrev pub first : Halves
   first = first_halves q size frame old a up.on.mid up.empty r.transmit begun
@@ -58,16 +55,16 @@ module _ (w : Watched) (fifo : ℕ) (h : List Entry) (q : AtPort) (size frame : 
 
   module _ (p : Parts w.pass h up.on.mid whole.1) where
     abbrev pub here : State
-    here = leads_to new p.front
+    here = leads_to origin p.front
 
-    pub went_on : WentOn w.queue new p.front
+    pub went_on : WentOn w.queue origin p.front
     went_on =
-        begun_on.went_on w fifo h q size frame old a up.on.mid up.empty r.transmit begun x.along
+        begun_on.went_on w origin h q size frame old a up.on.mid up.empty r.transmit begun x.along
         x.begins.ground whole.1 p
 
-    pub driven : IsDriven w fifo p.front p.back first whole.0
+    pub driven : IsDriven w origin p.front p.back first whole.0
     driven =
-        driven_by w fifo h q size frame old a up.on.mid up.empty r.transmit begun x.along
+        driven_by w origin h q size frame old a up.on.mid up.empty r.transmit begun x.along
         x.begins.ground whole.1 p whole.0 whole.3 whole.5
 
     pub last : played_by first whole.0 (calls_of w.pass p.back) ≡ k
@@ -75,66 +72,66 @@ module _ (w : Watched) (fifo : ℕ) (h : List Entry) (q : AtPort) (size frame : 
 
     -- and so it holds of the whole history
 
-    handed : receive.IsPrefixOf k.receive.handed (delivered w.queue new h)
+    handed : receive.IsPrefixOf k.receive.handed (delivered w.queue origin h)
     handed =
-        subst (λ (l : List Entry). receive.IsPrefixOf k.receive.handed (delivered w.queue new l)) p.both
-        (subst (λ (z : Halves). receive.IsPrefixOf z.receive.handed (delivered w.queue new (p.front ++ p.back))) last
-        (handed_is_prefix w fifo p.front p.back first whole.0 driven))
+        subst (λ (l : List Entry). receive.IsPrefixOf k.receive.handed (delivered w.queue origin l)) p.both
+        (subst (λ (z : Halves). receive.IsPrefixOf z.receive.handed (delivered w.queue origin (p.front ++ p.back))) last
+        (handed_is_prefix w origin p.front p.back first whole.0 driven))
 
     -- what the receive half took, whether it handed it out or not
     abbrev had : Receive → List Kept
     had v = v.handed ++ records_of v.whole
 
-    taken : ShowsNone (leads_to new h) k.receive → had k.receive ≡ delivered w.queue new h
+    taken : ShowsNone (leads_to origin h) k.receive → had k.receive ≡ delivered w.queue origin h
     taken shows =
-        let then = subst (λ (l : List Entry). ShowsNone (leads_to new l) k.receive) (sym p.both) shows in
+        let then = subst (λ (l : List Entry). ShowsNone (leads_to origin l) k.receive) (sym p.both) shows in
         ap (λ (z : Halves). had z.receive) (sym last)
-        ∙ none_is_all_taken w fifo p.front p.back first whole.0 driven
-        (subst (λ (z : Halves). ShowsNone (leads_to new (p.front ++ p.back)) z.receive) (sym last) then)
-        ∙ ap (delivered w.queue new) p.both
+        ∙ none_is_all_taken w origin p.front p.back first whole.0 driven
+        (subst (λ (z : Halves). ShowsNone (leads_to origin (p.front ++ p.back)) z.receive) (sym last) then)
+        ∙ ap (delivered w.queue origin) p.both
 
-    none_left : FindsNone (leads_to new h) k.receive → k.receive.handed ≡ delivered w.queue new h
+    none_left : FindsNone (leads_to origin h) k.receive → k.receive.handed ≡ delivered w.queue origin h
     none_left finds =
-        let then = subst (λ (l : List Entry). FindsNone (leads_to new l) k.receive) (sym p.both) finds in
+        let then = subst (λ (l : List Entry). FindsNone (leads_to origin l) k.receive) (sym p.both) finds in
         ap (λ (z : Halves). z.receive.handed) (sym last)
-        ∙ none_is_all w fifo p.front p.back first whole.0 driven
-        (subst (λ (z : Halves). FindsNone (leads_to new (p.front ++ p.back)) z.receive) (sym last) then)
-        ∙ ap (delivered w.queue new) p.both
+        ∙ none_is_all w origin p.front p.back first whole.0 driven
+        (subst (λ (z : Halves). FindsNone (leads_to origin (p.front ++ p.back)) z.receive) (sym last) then)
+        ∙ ap (delivered w.queue origin) p.both
 
-    pub counted : sent_since w.queue new [] h ≡ sent_in w.queue here p.back
+    pub counted : sent_since w.queue origin [] h ≡ sent_in w.queue here p.back
     counted =
-        ap (sent_since w.queue new []) (sym p.both)
-        ∙ counted_where_up w fifo p.front p.back first whole.0 driven went_on.sends
+        ap (sent_since w.queue origin []) (sym p.both)
+        ∙ counted_where_up w origin p.front p.back first whole.0 driven went_on.sends
         ∙ ap (λ (xs : List (List ℕ)). xs ++ sent_in w.queue here p.back) went_on.sent
 
-    sent : transmit.IsPrefixOf (sent_since w.queue new [] h) (bytes_of k.transmit.accepted)
+    sent : transmit.IsPrefixOf (sent_since w.queue origin [] h) (bytes_of k.transmit.accepted)
     sent =
         subst (λ (xs : List (List ℕ)). transmit.IsPrefixOf xs (bytes_of k.transmit.accepted)) (sym counted)
         (subst (λ (z : Halves). transmit.IsPrefixOf (sent_in w.queue here p.back) (bytes_of z.transmit.accepted)) last
-        (sent_is_prefix w fifo p.front p.back first whole.0 driven))
+        (sent_is_prefix w origin p.front p.back first whole.0 driven))
 
-    idle : k.transmit.outstanding ≡ [] → bytes_of k.transmit.accepted ≡ sent_since w.queue new [] h
+    idle : k.transmit.outstanding ≡ [] → bytes_of k.transmit.accepted ≡ sent_since w.queue origin [] h
     idle none =
         let then = ap (λ (z : Halves). z.transmit.outstanding) last ∙ none in
         ap (λ (z : Halves). bytes_of z.transmit.accepted) (sym last)
-        ∙ idle_is_all_sent w fifo p.front p.back first whole.0 driven then ∙ sym counted
+        ∙ idle_is_all_sent w origin p.front p.back first whole.0 driven then ∙ sym counted
 
 pub handed_of_life : order.HandedIsPrefix
-handed_of_life w fifo h q size frame old a started r k x =
-    handed w fifo h q size frame old a started r k x (in_parts w fifo h q size frame old a started r k x)
+handed_of_life w origin h q size frame old a started r k x =
+    handed w origin h q size frame old a started r k x (in_parts w origin h q size frame old a started r k x)
 
 pub taken_of_life : order.NoneIsAllTaken
-taken_of_life w fifo h q size frame old a started r k x =
-    taken w fifo h q size frame old a started r k x (in_parts w fifo h q size frame old a started r k x)
+taken_of_life w origin h q size frame old a started r k x =
+    taken w origin h q size frame old a started r k x (in_parts w origin h q size frame old a started r k x)
 
 pub none_of_life : order.NoneIsAll
-none_of_life w fifo h q size frame old a started r k x =
-    none_left w fifo h q size frame old a started r k x (in_parts w fifo h q size frame old a started r k x)
+none_of_life w origin h q size frame old a started r k x =
+    none_left w origin h q size frame old a started r k x (in_parts w origin h q size frame old a started r k x)
 
 pub sent_of_life : order.SentIsPrefix
-sent_of_life w fifo h q size frame old a started r k x =
-    sent w fifo h q size frame old a started r k x (in_parts w fifo h q size frame old a started r k x)
+sent_of_life w origin h q size frame old a started r k x =
+    sent w origin h q size frame old a started r k x (in_parts w origin h q size frame old a started r k x)
 
 pub idle_of_life : order.IdleIsAllSent
-idle_of_life w fifo h q size frame old a started r k x =
-    idle w fifo h q size frame old a started r k x (in_parts w fifo h q size frame old a started r k x)
+idle_of_life w origin h q size frame old a started r k x =
+    idle w origin h q size frame old a started r k x (in_parts w origin h q size frame old a started r k x)

@@ -3,7 +3,7 @@ use Rattle.std.proofs.Common.{◌≡◌, ℕ, List, sym, ap, ◌∙◌, subst}
 use Rattle.std.specs.Prelude.{IsTrue}
 use Rattle.nic_device.specs.DmaArena.Memory.{has_block}
 use Rattle.nic_device.specs.DmaArena.Numbers.{Numbers, is_own}
-use Rattle.nic_device.specs.State.{State, new_state}
+use Rattle.nic_device.specs.State.{State}
 use Rattle.device_lock.specs.Alone.{Blocks}
 use Rattle.device_lock.specs.History.{calls_of, leads_to}
 use Rattle.device_lock.specs.declared.alone.Watched.{Watched}
@@ -38,8 +38,8 @@ use Rattle.pmd_laws.proofs.RiseCalls.{Rises, on_rises}
 use Rattle.pmd_laws.proofs.RunsOn.{RunsOn}
 use Rattle.pmd_laws.proofs.Told.{first, runs}
 
-module _ (w : Watched) (fifo : ℕ) (h : List Entry) (q : AtPort) (size frame : ℕ) (old : List Call) (a : Numbers)
-    (m : Moment) (later : List Moment) (x : IsToldOf w fifo h q size frame old a m later) where
+module _ (w : Watched) (origin : State) (h : List Entry) (q : AtPort) (size frame : ℕ) (old : List Call) (a : Numbers)
+    (m : Moment) (later : List Moment) (x : IsToldOf w origin h q size frame old a m later) where
   abbrev fresh : Running
   fresh = first q size frame old a m later x.told
 
@@ -53,7 +53,7 @@ module _ (w : Watched) (fifo : ℕ) (h : List Entry) (q : AtPort) (size frame : 
   up = x.told.started.2
 
   abbrev begun : AreOn q size frame old a up.on.mid up.empty fresh.transmit
-  begun = on w fifo h q size frame old a m.made fresh up x.along x.begins
+  begun = on w origin h q size frame old a m.made fresh up x.along x.begins
 
   -- the calls from there on
   apart : LeadsApart (is_own a) up.on.mid begins (last m later).made (halves_of goes.rings)
@@ -68,16 +68,16 @@ module _ (w : Watched) (fifo : ℕ) (h : List Entry) (q : AtPort) (size frame : 
   parted : Parts w.pass h up.on.mid calls
   parted = parts w.pass h up.on.mid calls (x.made ∙ apart.leads.2)
 
-  driven : IsDriven w fifo parted.front parted.back begins doers
+  driven : IsDriven w origin parted.front parted.back begins doers
   driven =
-      driven_by w fifo h q size frame old a up.on.mid up.empty fresh.transmit begun x.along
+      driven_by w origin h q size frame old a up.on.mid up.empty fresh.transmit begun x.along
       x.begins.ground calls parted
       doers apart.leads.3 apart.leads.5
 
   -- where they lead
 
   abbrev start : State
-  start = new_state w.vfs fifo
+  start = origin
 
   abbrev ends : Halves
   ends = played_by begins doers (calls_of w.pass parted.back)
@@ -95,24 +95,24 @@ module _ (w : Watched) (fifo : ℕ) (h : List Entry) (q : AtPort) (size frame : 
       subst (λ (z : Rings). P (is_out z) (leads_to start h)) (sym goes.up)
       (subst (λ (k : Halves). P (lent_by k) (leads_to start h)) ends_is (subst (P (lent_by ends)) there holds))
 
-  lent : (n : ℕ) → IsTrue (is_out (last m later).driver.rings n) → IsTrue (has_block (memory_after w fifo h) n)
+  lent : (n : ℕ) → IsTrue (is_out (last m later).driver.rings n) → IsTrue (has_block (memory_after w origin h) n)
   lent =
       at_last (λ out s. (n : ℕ) → IsTrue (out n) → IsTrue (has_block s.memory n))
-      (both_lent w.queue _ _ _ ends (led w fifo parted.front parted.back begins doers driven).both)
+      (both_lent w.queue _ _ _ ends (led w origin parted.front parted.back begins doers driven).both)
 
-module _ (w : Watched) (fifo : ℕ) (h : List Entry) (q : AtPort) (size frame : ℕ) (old : List Call) (a : Numbers)
-    (m : Moment) (later : List Moment) (x : IsToldAlone w fifo h q size frame old a m later) where
-  abbrev t : IsToldOf w fifo h q size frame old a m later
+module _ (w : Watched) (origin : State) (h : List Entry) (q : AtPort) (size frame : ℕ) (old : List Call) (a : Numbers)
+    (m : Moment) (later : List Moment) (x : IsToldAlone w origin h q size frame old a m later) where
+  abbrev t : IsToldOf w origin h q size frame old a m later
   t = x.told
 
-  abbrev p : Parts w.pass h t.told.started.2.on.mid (calls w fifo h q size frame old a m later t)
-  p = parted w fifo h q size frame old a m later t
+  abbrev p : Parts w.pass h t.told.started.2.on.mid (calls w origin h q size frame old a m later t)
+  p = parted w origin h q size frame old a m later t
 
   abbrev first_known : Halves
-  first_known = begins w fifo h q size frame old a m later t
+  first_known = begins w origin h q size frame old a m later t
 
   abbrev on_there : AreOn q size frame old a t.told.started.2.on.mid t.told.started.2.empty t.told.started.0.transmit
-  on_there = begun w fifo h q size frame old a m later t
+  on_there = begun w origin h q size frame old a m later t
 
   rises : Rises q (lent_by first_known) on_there.receive.quiet.0 t.told.started.2.on.mid
   rises =
@@ -123,17 +123,18 @@ module _ (w : Watched) (fifo : ℕ) (h : List Entry) (q : AtPort) (size frame : 
       (transmit_lent q size frame old a t.told.started.2.on.mid t.told.started.2.empty t.told.started.0.transmit
       on_there)
 
-  at_first : OnlyLent (is_own a) (lent_by first_known) (leads_to (new_state w.vfs fifo) p.front).memory
+  at_first : OnlyLent (is_own a) (lent_by first_known) (leads_to origin p.front).memory
   at_first =
-      lent_at w fifo h q old on_there.receive.quiet.0 t.along (is_own a) (lent_by first_known) on_there.receive.quiet.1
+      lent_at w origin h q old on_there.receive.quiet.0 t.along (is_own a) (lent_by first_known)
+      on_there.receive.quiet.1
       x.fresh x.others t.told.started.2.on.mid rises p.front p.back p.both p.fronts
 
-  known : OnlyLent (is_own a) (is_out (last m later).driver.rings) (memory_after w fifo h)
+  known : OnlyLent (is_own a) (is_out (last m later).driver.rings) (memory_after w origin h)
   known =
-      let far = apart w fifo h q size frame old a m later t in
-      at_last w fifo h q size frame old a m later t (λ out s. OnlyLent (is_own a) out s.memory)
-      (known_along w fifo p.front p.back first_known far.leads.0 (is_own a)
-      (driven w fifo h q size frame old a m later t) at_first
+      let far = apart w origin h q size frame old a m later t in
+      at_last w origin h q size frame old a m later t (λ out s. OnlyLent (is_own a) out s.memory)
+      (known_along w origin p.front p.back first_known far.leads.0 (is_own a)
+      (driven w origin h q size frame old a m later t) at_first
       (others_behind w.pass (is_own a) p.front p.back (subst (OnlyPassLends w.pass (is_own a)) (sym p.both) x.others))
       (subst (AllLendApart (is_own a) first_known far.leads.0) (sym p.backs) far.apart))
 

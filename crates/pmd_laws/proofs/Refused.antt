@@ -3,7 +3,7 @@ use Rattle.std.proofs.Common.{◌≡◌, ℕ, List, [], ◌∷◌, ◌++◌, ref
 use Rattle.std.proofs.lemmas.Bool.{eq-eqb}
 use Rattle.std.proofs.lemmas.List.{append_cancel_left}
 use Rattle.nic_device.specs.DmaArena.Numbers.{Numbers}
-use Rattle.nic_device.specs.State.{State, new_state}
+use Rattle.nic_device.specs.State.{State}
 use Rattle.nic_device.specs.Step.{after}
 use Rattle.nic_device.proofs.Cases.{either_way}
 use Rattle.device_lock.specs.History.{calls_of, call_in, leads_to}
@@ -48,12 +48,12 @@ since_none queue s (e ∷ h) none =
     ap (λ (sent : List (List ℕ)). sent_since queue t sent h) here
     ∙ since_none queue t h (rest_none (sent_by queue s e.event) (sent_in queue t h) none)
 
-module _ (w : Watched) (fifo : ℕ) (h : List Entry) (q : AtPort) (size frame : ℕ) (old : List Call) (a : Numbers)
+module _ (w : Watched) (origin : State) (h : List Entry) (q : AtPort) (size frame : ℕ) (old : List Call) (a : Numbers)
     (e : StartRefused) (new : List Call) (left : Rest) (before : List Entry) (first : Entry) (behind : List Entry)
     (never : NeverLived q size frame old a e new left)
-    (x : IsRefused w fifo h q frame old new before first behind) where
+    (x : IsRefused w origin h q frame old new before first behind) where
   abbrev here : State
-  here = leads_to (new_state w.vfs fifo) before
+  here = leads_to origin before
 
   abbrev calls : List Call
   calls = call_in first ∷ calls_of w.pass behind
@@ -80,7 +80,7 @@ module _ (w : Watched) (fifo : ℕ) (h : List Entry) (q : AtPort) (size frame : 
 
   none_sent : sent_in w.queue here (first ∷ behind) ≡ []
   none_sent =
-      laid_queue_is_silent w q frame fifo h before behind first lays.0 x.along x.begins.all x.begins.own
+      laid_queue_is_silent w q frame origin h before behind first lays.0 x.along x.begins.all x.begins.own
       x.begins.quiet.ground x.begins.quiet.transmit lays.1
 
   none_handed : receive.IsPrefixOf [] (delivered w.queue here (first ∷ behind))
@@ -93,16 +93,16 @@ module _ (w : Watched) (fifo : ℕ) (h : List Entry) (q : AtPort) (size frame : 
   )
 
 pub refused_sends_nothing : RefusedSendsNothing
-refused_sends_nothing w fifo h q size frame old a e new left before first behind never x =
-    none_sent w fifo h q size frame old a e new left before first behind never x
+refused_sends_nothing w origin h q size frame old a e new left before first behind never x =
+    none_sent w origin h q size frame old a e new left before first behind never x
 
 pub left_of_refused_is_prefix : LeftOfRefusedIsPrefix
-left_of_refused_is_prefix w fifo h q size frame old a e new left before first behind never x =
-    let s = leads_to (new_state w.vfs fifo) before in (
+left_of_refused_is_prefix w origin h q size frame old a e new left before first behind never x =
+    let s = leads_to origin before in (
       subst (λ (kept : List Kept). receive.IsPrefixOf kept (delivered w.queue s (first ∷ behind))) (sym never.handed)
-          (none_handed w fifo h q size frame old a e new left before first behind never x),
+          (none_handed w origin h q size frame old a e new left before first behind never x),
       subst
           (λ (kept : List Kept).
           transmit.IsPrefixOf (sent_since w.queue s [] (first ∷ behind)) (bytes_of kept)) (sym never.accepted)
-          (none_accepted w fifo h q size frame old a e new left before first behind never x),
+          (none_accepted w origin h q size frame old a e new left before first behind never x),
     )

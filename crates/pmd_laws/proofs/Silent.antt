@@ -24,8 +24,8 @@ use Rattle.pmd_laws.proofs.StopParts.{first_made}
 use Rattle.pmd_laws.proofs.StopSent.{silent_off}
 
 pub silent_once_off : SilentOnceOff
-silent_once_off w fifo h q size frame old a started r made k new done rest x y all calls =
-    silent_off w fifo h q size frame old a started r made k new x y done rest all calls
+silent_once_off w origin h q size frame old a started r made k new done rest x y all calls =
+    silent_off w origin h q size frame old a started r made k new x y done rest all calls
 
 -- what a driver's stop says
 
@@ -45,9 +45,9 @@ module _ (q : AtPort) (old : List Call) (h : Halted) (new : List Call) where
       subst GoesOff (sym is) (switched, amid_ends f q mid (closed h) new after amid)
 
 pub silent_over_stop : SilentOverStop
-silent_over_stop w fifo h q size frame old a new left late lived off done rest x stop all calls =
+silent_over_stop w origin h q size frame old a new left late lived off done rest x stop all calls =
     let (switched, ends) = switches_off q lived.made (halted_of (Up lived.last)) new left late lived.stopped off stop in
-    let here = now w fifo h q size frame old a new left late lived x in
+    let here = now w origin h q size frame old a new left late lived x in
     let on : here ≡ off ++ calls_of w.pass rest =
     sym x.calls ∙ sym (ap (calls_of w.pass) all) ∙ calls_joined w.pass done rest
     ∙ ap (λ (cs : List Call). cs ++ calls_of w.pass rest) calls in
@@ -58,5 +58,5 @@ silent_over_stop w fifo h q size frame old a new left late lived off done rest x
       switched = switched;
       ends = first_made (IsEnding q) off here new (calls_of w.pass rest) x.rest ends on x.all;
     } in
-    silent_off w fifo h q size frame old a lived.lives.made lived.lives.fresh lived.made (halves_of lived.last) here
-    (is_stopping w fifo h q size frame old a new left late lived x) y done rest all calls
+    silent_off w origin h q size frame old a lived.lives.made lived.lives.fresh lived.made (halves_of lived.last) here
+    (is_stopping w origin h q size frame old a new left late lived x) y done rest all calls

@@ -1,6 +1,7 @@
 -- No start finds the device at fault as it fills its receive ring, nor before.
 use Rattle.std.proofs.Common.{◌≡◌, ℕ, inl, inr, ◌⊎◌, true, List, refl, sym, subst}
 use Rattle.nic_device.specs.DmaArena.Numbers.{Numbers, is_free, is_own}
+use Rattle.nic_device.specs.State.{State}
 use Rattle.device_lock.specs.declared.alone.Watched.{Watched}
 use Rattle.device_lock.specs.declared.entry.Call.{Call}
 use Rattle.device_lock.specs.declared.entry.Entry.{Entry}
@@ -23,8 +24,9 @@ use Rattle.pmd_laws.proofs.NoFault.{no_fault_once_on}
 use Rattle.pmd_laws.proofs.PassLends.{others_before}
 use Rattle.pmd_laws.proofs.StartLends.{first_read, none_early}
 
-module _ (w : Watched) (fifo : ℕ) (h : List Entry) (q : AtPort) (size frame : ℕ) (old : List Call) (a : Numbers)
-    (new : List Call) (f : FaultsFilling q size frame old a new) (x : BeginsApart w fifo h q size frame old a new) where
+module _ (w : Watched) (origin : State) (h : List Entry) (q : AtPort) (size frame : ℕ) (old : List Call) (a : Numbers)
+    (new : List Call) (f : FaultsFilling q size frame old a new)
+    (x : BeginsApart w origin h q size frame old a new) where
   abbrev first : Halves
   first = record { receive = f.empty; transmit = f.sender }
 
@@ -50,10 +52,10 @@ module _ (w : Watched) (fifo : ℕ) (h : List Entry) (q : AtPort) (size frame : 
   refuted : Parts w.pass h new x.more → ⊥
   refuted p =
       let quiet = f.on.receive.quiet in
-      let at = last_before w fifo h p.front p.back quiet.0 (IsQuietAndFresh w.queue q frame (is_own a)) p.both
-      (first_read w q fifo h (IsQuietAndFresh w.queue q frame (is_own a)) old quiet.0 x.begins quiet.1) in
-      no_fault_once_on w fifo p.front q size frame old a f.mid f.empty f.sender f.on
-      (along_before w fifo h p.front p.back p.both x.along)
+      let at = last_before w origin h p.front p.back quiet.0 (IsQuietAndFresh w.queue q frame (is_own a)) p.both
+      (first_read w q origin h (IsQuietAndFresh w.queue q frame (is_own a)) old quiet.0 x.begins quiet.1) in
+      no_fault_once_on w origin p.front q size frame old a f.mid f.empty f.sender f.on
+      (along_before w origin h p.front p.back p.both x.along)
       (λ done more e both own is. (at done more e both own is).0.ground) (is_own a)
       (λ done more e both own is. (at done more e both own is).1)
       (others_before w.pass (is_own a) p.front p.back
@@ -61,22 +63,22 @@ module _ (w : Watched) (fifo : ℕ) (h : List Entry) (q : AtPort) (size frame : 
       (subst (FindsFault (is_own a) f.mid first) (sym p.fronts) found)
 
 pub no_filling_finds_fault : NoFillingFindsFault
-no_filling_finds_fault w fifo h q size frame old a new f x =
-    refuted w fifo h q size frame old a new f x (parts w.pass h new x.more x.made)
+no_filling_finds_fault w origin h q size frame old a new f x =
+    refuted w origin h q size frame old a new f x (parts w.pass h new x.more x.made)
 
 -- nor amid its events at all
-module _ (w : Watched) (fifo : ℕ) (h : List Entry) (q : AtPort) (size frame : ℕ) (old : List Call) (a : Numbers)
-    (new : List Call) (x : BeginsApart w fifo h q size frame old a new) where
+module _ (w : Watched) (origin : State) (h : List Entry) (q : AtPort) (size frame : ℕ) (old : List Call) (a : Numbers)
+    (new : List Call) (x : BeginsApart w origin h q size frame old a new) where
   never_early : FaultsEarly q size frame old a new → Parts w.pass h new x.more → ⊥
   never_early early p =
-      no_fault_is_early w q fifo h size frame old a new x.along
+      no_fault_is_early w q origin h size frame old a new x.along
       (λ before c steps apart done rest e all own is. (x.begins before c steps apart done rest e all own is).0) early
-      (none_early w fifo h q size frame old a new x early) p.front p.back p.both p.fronts
+      (none_early w origin h q size frame old a new x early) p.front p.back p.both p.fronts
 
   never_at_fault : FaultsEarly q size frame old a new ⊎ FaultsFilling q size frame old a new → ⊥
   never_at_fault (inl early) = never_early early (parts w.pass h new x.more x.made)
-  never_at_fault (inr filling) = no_filling_finds_fault w fifo h q size frame old a new filling x
+  never_at_fault (inr filling) = no_filling_finds_fault w origin h q size frame old a new filling x
 
 pub no_start_finds_fault : NoStartFindsFault
-no_start_finds_fault w fifo h q size frame old a new e x stops is =
-    never_at_fault w fifo h q size frame old a new x (faults_are_early_or_filling q size frame old a new e stops is)
+no_start_finds_fault w origin h q size frame old a new e x stops is =
+    never_at_fault w origin h q size frame old a new x (faults_are_early_or_filling q size frame old a new e stops is)

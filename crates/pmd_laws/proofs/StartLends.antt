@@ -48,10 +48,10 @@ use Rattle.pmd_laws.proofs.LentSince.{RisesToLast, unlent_before}
 use Rattle.pmd_laws.proofs.RiseCalls.{IsRising, Rises, all_rise, lends_rise, off_driven, quieted_rises, ready_rises, step_rises}
 
 -- just before the first read
-pub first_read : (w : Watched) (q : AtPort) (fifo : ℕ) (h : List Entry) (P : State → Type 0) (old new : List Call)
-    → BeforeNext w fifo h old P → IsMade q old new (Sees Rxdctl false) → BeforeLast w fifo h new P
-first_read w q fifo h P old new at (number, word, named, is, (before, added, steps)) =
-    subst (λ (calls : List Call). BeforeLast w fifo h calls P) (sym added)
+pub first_read : (w : Watched) (q : AtPort) (origin : State) (h : List Entry) (P : State → Type 0) (old new : List Call)
+    → BeforeNext w origin h old P → IsMade q old new (Sees Rxdctl false) → BeforeLast w origin h new P
+first_read w q origin h P old new at (number, word, named, is, (before, added, steps)) =
+    subst (λ (calls : List Call). BeforeLast w origin h calls P) (sym added)
     (at before (call_of (event.Read q.port number) (reply.Word word)) steps refl)
 
 -- an access that is answered otherwise adds a call, which is no step of the device
@@ -96,19 +96,19 @@ module _ (q : AtPort) (lent : Blocks) (first : List Call) where
       (all_rise q lent (ring_words side ring size) old mid driven made))
       (lends_rise q lent out mid stops.mid each stops.lent)) lends
 
-module _ (w : Watched) (fifo : ℕ) (h : List Entry) (q : AtPort) (size frame : ℕ) (old : List Call) (a : Numbers)
-    (new : List Call) (x : BeginsApart w fifo h q size frame old a new) where
+module _ (w : Watched) (origin : State) (h : List Entry) (q : AtPort) (size frame : ℕ) (old : List Call) (a : Numbers)
+    (new : List Call) (x : BeginsApart w origin h q size frame old a new) where
   abbrev AtFirst : State → Type 0
   AtFirst = IsQuietAndFresh w.queue q frame (is_own a)
 
   -- behind the first access
   unlent : (lent : Blocks) (first : List Call) → IsMade q old first (Sees Rxdctl false)
       → RisesToLast q lent first new → (number : ℕ) → is_own a number ≡ true → (lent number ≡ true → ⊥)
-      → BeforeLast w fifo h new (λ s. has_block s.memory number ≡ false)
+      → BeforeLast w origin h new (λ s. has_block s.memory number ≡ false)
   unlent lent first begins =
-      unlent_before w fifo h q old first x.along (is_own a) lent begins
+      unlent_before w origin h q old first x.along (is_own a) lent begins
       (λ done rest e both own is.
-      (first_read w q fifo h AtFirst old first x.begins begins done rest e both own is).1.none)
+      (first_read w q origin h AtFirst old first x.begins begins done rest e both own is).1.none)
       x.others new
 
   -- no block is lent up to there
@@ -116,10 +116,10 @@ module _ (w : Watched) (fifo : ℕ) (h : List Entry) (q : AtPort) (size frame : 
   none number = false
 
   -- a side is seen on, or an access is stray
-  none_quieting : StopsBy DeviceFault q old new both_quiet → NoneIsLent w fifo h new a
+  none_quieting : StopsBy DeviceFault q old new both_quiet → NoneIsLent w origin h new a
   none_quieting ([], access, rest, mid, is, made, fails) number free =
       let (e, r, apart, (before, added, steps)) = otherwise_adds q mid new access fails in
-      subst (λ (calls : List Call). BeforeLast w fifo h calls (λ s. has_block s.memory number ≡ false))
+      subst (λ (calls : List Call). BeforeLast w origin h calls (λ s. has_block s.memory number ≡ false))
       (sym (added ∙ ap (λ (l : List Call). l ++ (before ++ call_of e r ∷ [])) made))
       (λ done more entry both own calls.
       (x.begins before (call_of e r) steps apart done more entry both own calls).1.none number
@@ -133,9 +133,9 @@ module _ (w : Watched) (fifo : ℕ) (h : List Entry) (q : AtPort) (size frame : 
 
   -- the receive ring isn't prepared
   none_before : (b : Numbers) (out : List ℕ) → ReceiveFails DeviceFault q size old a new b out
-      → NoneIsLent w fifo h new b
+      → NoneIsLent w origin h new b
   none_before b out (inl (stops, same, empty)) =
-      subst (λ (z : Numbers). NoneIsLent w fifo h new z) (sym same) (none_quieting stops)
+      subst (λ (z : Numbers). NoneIsLent w origin h new z) (sym same) (none_quieting stops)
   none_before b out (inr (mid, made, fails)) = λ number free.
       let lent : Blocks = λ n. list_any (λ b. n == b) out in
       let drawn : IsDrawn a out b = preparing_drawn DeviceFault q Rx size mid a new b out fails in
@@ -145,7 +145,7 @@ module _ (w : Watched) (fifo : ℕ) (h : List Entry) (q : AtPort) (size frame : 
       number (is_own-of_free a number (free_before a out b drawn number free))
       (λ is. both_ways (lent number) (times_among out number (drawn_gone a out b number drawn free)) is)
 
-  pub none_early : (early : FaultsEarly q size frame old a new) → LendsFresh w fifo h q size frame old a new early
+  pub none_early : (early : FaultsEarly q size frame old a new) → LendsFresh w origin h q size frame old a new early
   none_early (inl y) = none_before y.arena y.out y.fails
   none_early (inr (inl y)) = λ number free.
       let ring = y.receive.ring in

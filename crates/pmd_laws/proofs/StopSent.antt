@@ -3,7 +3,7 @@ use Rattle.std.proofs.Common.{◌≡◌, ◌≢◌, ℕ, inl, inr, List, [], ◌
 use Rattle.std.specs.Prelude.{IsTrue}
 use Rattle.std.proofs.lemmas.List.{append-nil}
 use Rattle.nic_device.specs.DmaArena.Numbers.{Numbers}
-use Rattle.nic_device.specs.State.{State, new_state}
+use Rattle.nic_device.specs.State.{State}
 use Rattle.device_lock.specs.Alone.{lent_by}
 use Rattle.device_lock.specs.History.{calls_of, leads_to}
 use Rattle.device_lock.specs.declared.alone.Watched.{Watched}
@@ -52,67 +52,67 @@ more_lent pass g h k x = record {
 }
 
 -- at the end of a life
-module _ (w : Watched) (fifo : ℕ) (h rest : List Entry) (q : AtPort) (size frame : ℕ) (old : List Call) (a : Numbers)
-    (started : List Call) (r : Running) (k : Halves) (x : IsLived w fifo h q size frame old a started r k) where
-  keeps_by : Parts w.pass h (up w fifo h q size frame old a started r k x).on.mid
-      (whole w fifo h q size frame old a started r k x).1 → Keeps w fifo q frame (lent_by w.pass (h ++ rest)) k h
+module _ (w : Watched) (origin : State) (h rest : List Entry) (q : AtPort) (size frame : ℕ) (old : List Call)
+    (a : Numbers) (started : List Call) (r : Running) (k : Halves)
+    (x : IsLived w origin h q size frame old a started r k) where
+  keeps_by : Parts w.pass h (up w origin h q size frame old a started r k x).on.mid
+      (whole w origin h q size frame old a started r k x).1 → Keeps w origin q frame (lent_by w.pass (h ++ rest)) k h
   keeps_by p =
-      let new : State = new_state w.vfs fifo in
-      let d = driven w fifo h q size frame old a started r k x p in
-      let l = led w fifo p.front p.back (first w fifo h q size frame old a started r k x)
-      (whole w fifo h q size frame old a started r k x).0 d in
-      let is = last w fifo h q size frame old a started r k x p in
-      let at = sym (leads-append new p.front p.back) ∙ ap (leads_to new) p.both in
-      let out : List Piece = pieces_in w.queue (leads_to new p.front) p.back in
+      let d = driven w origin h q size frame old a started r k x p in
+      let l = led w origin p.front p.back (first w origin h q size frame old a started r k x)
+      (whole w origin h q size frame old a started r k x).0 d in
+      let is = last w origin h q size frame old a started r k x p in
+      let at = sym (leads-append origin p.front p.back) ∙ ap (leads_to origin) p.both in
+      let out : List Piece = pieces_in w.queue (leads_to origin p.front) p.back in
       record {
-        ground = ground_lived w fifo h q size frame old a started r k x;
+        ground = ground_lived w origin h q size frame old a started r k x;
         out = out;
         both =
-            subst (λ (s : State). BothAgree w.queue s out (sent_since w.queue new [] h) k) at
-            (subst (λ (xs : List (List ℕ)). BothAgree w.queue (leads_to (leads_to new p.front) p.back) out xs k)
-            (sym (counted w fifo h q size frame old a started r k x p))
-            (subst (λ (z : Halves). BothAgree w.queue (leads_to (leads_to new p.front) p.back) out
-            (sent_in w.queue (leads_to new p.front) p.back) z) is l.both));
+            subst (λ (s : State). BothAgree w.queue s out (sent_since w.queue origin [] h) k) at
+            (subst (λ (xs : List (List ℕ)). BothAgree w.queue (leads_to (leads_to origin p.front) p.back) out xs k)
+            (sym (counted w origin h q size frame old a started r k x p))
+            (subst (λ (z : Halves). BothAgree w.queue (leads_to (leads_to origin p.front) p.back) out
+            (sent_in w.queue (leads_to origin p.front) p.back) z) is l.both));
         lent =
             more_lent w.pass h rest k
             (subst (λ (g : List Entry). AreLent (lent_by w.pass g) k) p.both
             (subst (AreLent (lent_by w.pass (p.front ++ p.back))) is l.lent));
         settled =
-            inl (subst (IsUp w.queue) at (l.sends (went_on w fifo h q size frame old a started r k x p).sends)).on;
+            inl (subst (IsUp w.queue) at (l.sends (went_on w origin h q size frame old a started r k x p).sends)).on;
       }
 
-  pub keeps_lived : Keeps w fifo q frame (lent_by w.pass (h ++ rest)) k h
-  keeps_lived = keeps_by (in_parts w fifo h q size frame old a started r k x)
+  pub keeps_lived : Keeps w origin q frame (lent_by w.pass (h ++ rest)) k h
+  keeps_lived = keeps_by (in_parts w origin h q size frame old a started r k x)
 
-module _ (w : Watched) (fifo : ℕ) (h : List Entry) (q : AtPort) (size frame : ℕ) (old : List Call) (a : Numbers)
+module _ (w : Watched) (origin : State) (h : List Entry) (q : AtPort) (size frame : ℕ) (old : List Call) (a : Numbers)
     (started : List Call) (r : Running) (made : List Call) (k : Halves) (new : List Call)
-    (x : IsStopping w fifo h q size frame old a started r made k new) where
+    (x : IsStopping w origin h q size frame old a started r made k new) where
   abbrev Here : List Entry → Type 0
-  Here done = Keeps w fifo q frame (lent_by w.pass h) k done
+  Here done = Keeps w origin q frame (lent_by w.pass h) k done
 
   abbrev sent : List Entry → List (List ℕ)
-  sent done = sent_since w.queue (new_state w.vfs fifo) [] done
+  sent done = sent_since w.queue origin [] done
 
   made_some : made ≢ []
-  made_some = life_some w fifo h q size frame old a started r made k x.along x.life x.begins
+  made_some = life_some w origin h q size frame old a started r made k x.along x.life x.begins
 
   lived_at : AtEntries w h made Here
   lived_at done rest all calls =
-      subst (λ (g : List Entry). Keeps w fifo q frame (lent_by w.pass g) k done) all
-      (keeps_lived w fifo done rest q size frame old a started r k
-      (lived_before w fifo h done rest all q size frame old a started r made made k k x.life x.along x.begins
+      subst (λ (g : List Entry). Keeps w origin q frame (lent_by w.pass g) k done) all
+      (keeps_lived w origin done rest q size frame old a started r k
+      (lived_before w origin h done rest all q size frame old a started r made made k k x.life x.along x.begins
       x.life.since calls))
 
   over_asks : (now : List Call) → Asks q made now → AtEntries w h now Here
   over_asks now (calls, is, each) =
       subst (λ (cs : List Call). AtEntries w h cs Here) (sym is)
-      (all_lead w fifo h Here (λ c. IsAsking q c.event) x.along (others_keep w fifo q frame (lent_by w.pass h) k)
-      (asking_keeps w fifo q frame (lent_by w.pass h) k) calls made each made_some lived_at)
+      (all_lead w origin h Here (λ c. IsAsking q c.event) x.along (others_keep w origin q frame (lent_by w.pass h) k)
+      (asking_keeps w origin q frame (lent_by w.pass h) k x.along.vfs) calls made each made_some lived_at)
 
   prefix_at : (done : List Entry) → Here done → IsPrefixOf (sent done) (bytes_of k.transmit.accepted)
   prefix_at done kept =
       let (f, agrees) = kept.both.transmit in
-      first_sent (reached w fifo done) w.queue (sent done) k.transmit.layout.limit (drop f k.transmit.outstanding)
+      first_sent (reached w origin done) w.queue (sent done) k.transmit.layout.limit (drop f k.transmit.outstanding)
       k.transmit.accepted agrees.sends
 
   some_asked : (now : List Call) → Asks q made now → now ≢ []
@@ -120,13 +120,13 @@ module _ (w : Watched) (fifo : ℕ) (h : List Entry) (q : AtPort) (size frame : 
 
   -- once both sides are off nothing more is received or sent
   pub silent_off : (y : EndsOnceOff q made new) (done rest : List Entry) → done ++ rest ≡ h
-      → calls_of w.pass done ≡ y.off → IsSilent w fifo h done
+      → calls_of w.pass done ≡ y.off → IsSilent w origin h done
   silent_off y done rest all calls =
-      let grounded : AtCalls w fifo h y.mid (HasGround w.queue q frame) =
+      let grounded : AtCalls w origin h y.mid (HasGround w.queue q frame) =
       λ so_far behind both made. (over_asks y.mid y.asks so_far behind both made).ground in
-      let quiet : AtCalls w fifo h y.off (IsQuiet w.queue q frame) =
-      switching_off_leads w q frame fifo h y.mid y.off x.along y.switched (some_asked y.mid y.asks) grounded in
-      quiet_queue_is_silent w q frame fifo h done rest y.off new x.along (some_asked y.off (off_asks q made new y))
+      let quiet : AtCalls w origin h y.off (IsQuiet w.queue q frame) =
+      switching_off_leads w q frame origin h y.mid y.off x.along y.switched (some_asked y.mid y.asks) grounded in
+      quiet_queue_is_silent w q frame origin h done rest y.off new x.along (some_asked y.off (off_asks q made new y))
       quiet y.ends x.calls
       all calls
 
@@ -142,5 +142,5 @@ module _ (w : Watched) (fifo : ℕ) (h : List Entry) (q : AtPort) (size frame : 
   over_stop (inr off) = once_off off
 
 pub sent_over_stop : SentIsPrefix
-sent_over_stop w fifo h q size frame old a started r made k new x takes =
-    over_stop w fifo h q size frame old a started r made k new x takes
+sent_over_stop w origin h q size frame old a started r made k new x takes =
+    over_stop w origin h q size frame old a started r made k new x takes

@@ -5,7 +5,7 @@ use Rattle.nic_device.specs.DmaRing.declared.dir.Dir.TheVariants.{Rx}
 use Rattle.nic_device.specs.DmaArena.Block.{Block}
 use Rattle.nic_device.specs.DmaArena.Numbers.{Numbers}
 use Rattle.nic_device.specs.RegisterFile.Pools.{mode_in}
-use Rattle.nic_device.specs.State.{State, new_state}
+use Rattle.nic_device.specs.State.{State}
 use Rattle.nic_device.specs.Step.{after}
 use Rattle.nic_device.specs.declared.event.Event.{Event}
 use Rattle.device_lock.specs.Alone.{lent_by}
@@ -54,11 +54,11 @@ life_keeps queue q frame s e (inr harmless) g =
 
 -- at the end of a life
 
-module _ (w : Watched) (fifo : ℕ) (h : List Entry) (q : AtPort) (size frame : ℕ) (old : List Call) (a : Numbers)
-    (started : List Call) (r : Running) (k : Halves) (x : IsLived w fifo h q size frame old a started r k) where
-  placed : ArePlaced q (first w fifo h q size frame old a started r k x)
+module _ (w : Watched) (origin : State) (h : List Entry) (q : AtPort) (size frame : ℕ) (old : List Call) (a : Numbers)
+    (started : List Call) (r : Running) (k : Halves) (x : IsLived w origin h q size frame old a started r k) where
+  placed : ArePlaced q (first w origin h q size frame old a started r k x)
   placed =
-      let u = up w fifo h q size frame old a started r k x in record {
+      let u = up w origin h q size frame old a started r k x in record {
         receive =
             subst (λ (v : Receive). NamesDriven q v.layout.port v.layout.tail) (sym u.receive.fresh)
             (_, refl, refl, u.receive.named);
@@ -68,75 +68,75 @@ module _ (w : Watched) (fifo : ℕ) (h : List Entry) (q : AtPort) (size frame : 
       }
 
   -- port and queue name the queue there
-  pub ground_lived : HasGround w.queue q frame (leads_to (new_state w.vfs fifo) h)
+  pub ground_lived : HasGround w.queue q frame (leads_to origin h)
   ground_lived =
-      let u = up w fifo h q size frame old a started r k x in
-      let goes = whole w fifo h q size frame old a started r k x in
-      let at = ground_at w fifo h q size frame old a started r u x.along x.begins in
-      all_lead w fifo h (λ done. HasGround w.queue q frame (reached w fifo done)) (λ c. IsOfLife q c.event) x.along
-      (state_kept w fifo (lent_by w.pass h) (HasGround w.queue q frame) (ground_kept w (lent_by w.pass h) q frame))
+      let u = up w origin h q size frame old a started r k x in
+      let goes = whole w origin h q size frame old a started r k x in
+      let at = ground_at w origin h q size frame old a started r u x.along x.begins in
+      all_lead w origin h (λ done. HasGround w.queue q frame (reached w origin done)) (λ c. IsOfLife q c.event) x.along
+      (state_kept w origin (lent_by w.pass h) (HasGround w.queue q frame) (ground_kept w (lent_by w.pass h) q frame))
       (λ c own.
-      state_leads w fifo (lent_by w.pass h) c (HasGround w.queue q frame) (HasGround w.queue q frame)
+      state_leads w origin (lent_by w.pass h) c (HasGround w.queue q frame) (HasGround w.queue q frame)
       (λ s met made told g. life_keeps w.queue q frame s c.event own g))
       goes.1 u.on.mid
-      (all_plain q (first w fifo h q size frame old a started r k x) goes.0 goes.1 goes.3 goes.5 placed)
-      (on_some w fifo h q size frame old a started r u x.along x.begins) at
+      (all_plain q (first w origin h q size frame old a started r k x) goes.0 goes.1 goes.3 goes.5 placed)
+      (on_some w origin h q size frame old a started r u x.along x.begins) at
       h [] (append-nil h) goes.2
 
-  settled_by : Parts w.pass h (up w fifo h q size frame old a started r k x).on.mid
-      (whole w fifo h q size frame old a started r k x).1 → IsSettled Rx w.queue (leads_to (new_state w.vfs fifo) h)
+  settled_by : Parts w.pass h (up w origin h q size frame old a started r k x).on.mid
+      (whole w origin h q size frame old a started r k x).1 → IsSettled Rx w.queue (leads_to origin h)
   settled_by p =
-      let d = driven w fifo h q size frame old a started r k x p in
-      let l = led w fifo p.front p.back (first w fifo h q size frame old a started r k x)
-      (whole w fifo h q size frame old a started r k x).0 d in
-      subst (λ (g : List Entry). IsSettled Rx w.queue (leads_to (new_state w.vfs fifo) g)) p.both
-      (subst (IsSettled Rx w.queue) (sym (leads-append (new_state w.vfs fifo) p.front p.back))
+      let d = driven w origin h q size frame old a started r k x p in
+      let l = led w origin p.front p.back (first w origin h q size frame old a started r k x)
+      (whole w origin h q size frame old a started r k x).0 d in
+      subst (λ (g : List Entry). IsSettled Rx w.queue (leads_to origin g)) p.both
+      (subst (IsSettled Rx w.queue) (sym (leads-append origin p.front p.back))
       (inl (l.receives d.up).on))
 
   -- and the receive side is on
-  pub settled_lived : IsSettled Rx w.queue (leads_to (new_state w.vfs fifo) h)
-  settled_lived = settled_by (in_parts w fifo h q size frame old a started r k x)
+  pub settled_lived : IsSettled Rx w.queue (leads_to origin h)
+  settled_lived = settled_by (in_parts w origin h q size frame old a started r k x)
 
 pub some_more : (xs ys : List Call) → xs ≢ [] → xs ++ ys ≢ []
 some_more [] ys some none = some refl
 some_more (x ∷ xs) ys some none = cc
 
 -- a life made some calls
-pub life_some : (w : Watched) (fifo : ℕ) (h : List Entry) (q : AtPort) (size frame : ℕ) (old : List Call) (a : Numbers)
-    (started : List Call) (r : Running) (made : List Call) (k : Halves) → IsAlong w fifo h
-    → (life : IsLife q size frame old a started r made k) → BeginsWell w fifo h q size frame old a started r life.up
+pub life_some : (w : Watched) (origin : State) (h : List Entry) (q : AtPort) (size frame : ℕ) (old : List Call)
+    (a : Numbers) (started : List Call) (r : Running) (made : List Call) (k : Halves) → IsAlong w origin h
+    → (life : IsLife q size frame old a started r made k) → BeginsWell w origin h q size frame old a started r life.up
     → made ≢ []
-life_some w fifo h q size frame old a started r made k along life begins none =
+life_some w origin h q size frame old a started r made k along life begins none =
     some_more started life.since.1
     (λ first.
     some_more life.up.on.mid life.up.on.plays.plays.1
-    (on_some w fifo h q size frame old a started r life.up along begins)
+    (on_some w origin h q size frame old a started r life.up along begins)
     (sym life.up.on.plays.plays.2 ∙ first))
     (sym life.since.2 ∙ none)
 
-module _ (w : Watched) (fifo : ℕ) (h : List Entry) (q : AtPort) (size frame : ℕ) (old : List Call) (a : Numbers)
+module _ (w : Watched) (origin : State) (h : List Entry) (q : AtPort) (size frame : ℕ) (old : List Call) (a : Numbers)
     (started : List Call) (r : Running) (made : List Call) (k : Halves) (new : List Call)
-    (x : IsStopping w fifo h q size frame old a started r made k new) where
+    (x : IsStopping w origin h q size frame old a started r made k new) where
   made_some : made ≢ []
-  made_some = life_some w fifo h q size frame old a started r made k x.along x.life x.begins
+  made_some = life_some w origin h q size frame old a started r made k x.along x.life x.begins
 
-  lived_at : AtEntries w h made (Keeps w fifo q frame k.receive.handed)
+  lived_at : AtEntries w h made (Keeps w origin q frame k.receive.handed)
   lived_at done rest all calls =
-      let l = lived_before w fifo h done rest all q size frame old a started r made made k k x.life x.along x.begins
+      let l = lived_before w origin h done rest all q size frame old a started r made made k k x.life x.along x.begins
       x.life.since calls in
       record {
-        ground = ground_lived w fifo done q size frame old a started r k l;
-        settled = settled_lived w fifo done q size frame old a started r k l;
-        first = handed_of_life w fifo done q size frame old a started r k l;
+        ground = ground_lived w origin done q size frame old a started r k l;
+        settled = settled_lived w origin done q size frame old a started r k l;
+        first = handed_of_life w origin done q size frame old a started r k l;
       }
 
-  over_stop : Keeps w fifo q frame k.receive.handed h
+  over_stop : Keeps w origin q frame k.receive.handed h
   over_stop =
-      all_lead w fifo h (Keeps w fifo q frame k.receive.handed) (λ c. IsEnding q c.event) x.along
-      (others_keep w fifo q frame k.receive.handed (lent_by w.pass h))
-      (ending_keeps w fifo q frame k.receive.handed (lent_by w.pass h)) x.ends.0
+      all_lead w origin h (Keeps w origin q frame k.receive.handed) (λ c. IsEnding q c.event) x.along
+      (others_keep w origin q frame k.receive.handed (lent_by w.pass h))
+      (ending_keeps w origin q frame k.receive.handed (lent_by w.pass h)) x.ends.0
       made x.ends.2 made_some lived_at h [] (append-nil h) (x.calls ∙ x.ends.1)
 
 pub handed_over_stop : HandedIsPrefix
-handed_over_stop w fifo h q size frame old a started r made k new x =
-    (over_stop w fifo h q size frame old a started r made k new x).first
+handed_over_stop w origin h q size frame old a started r made k new x =
+    (over_stop w origin h q size frame old a started r made k new x).first

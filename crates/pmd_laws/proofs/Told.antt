@@ -1,7 +1,7 @@
 -- A driver's life as its calls tell it is a life.
 use Rattle.std.proofs.Common.{◌≡◌, ℕ, List, [], ◌++◌, sym, ap, ◌∙◌, subst}
 use Rattle.nic_device.specs.DmaArena.Numbers.{Numbers}
-use Rattle.nic_device.specs.State.{new_state}
+use Rattle.nic_device.specs.State.{State}
 use Rattle.device_lock.specs.History.{calls_of}
 use Rattle.device_lock.specs.declared.alone.Watched.{Watched}
 use Rattle.device_lock.specs.declared.entry.Call.{Call}
@@ -50,16 +50,16 @@ module _ (q : AtPort) (size frame : ℕ) (old : List Call) (a : Numbers) (m : Mo
     since = since;
   }
 
-module _ (w : Watched) (fifo : ℕ) (h : List Entry) (q : AtPort) (size frame : ℕ) (old : List Call) (a : Numbers)
+module _ (w : Watched) (origin : State) (h : List Entry) (q : AtPort) (size frame : ℕ) (old : List Call) (a : Numbers)
     (m : Moment) (later : List Moment) where
-  module _ (x : IsToldOf w fifo h q size frame old a m later) where
+  module _ (x : IsToldOf w origin h q size frame old a m later) where
     abbrev k : Halves
     k = now q size frame old a m later x.told
 
     abbrev up : (last m later).driver.rings ≡ Up (runs q size frame old a m later x.told).rings
     up = (runs q size frame old a m later x.told).up
 
-    lived : IsLived w fifo h q size frame old a m.made x.told.started.0 k
+    lived : IsLived w origin h q size frame old a m.made x.told.started.0 k
     lived =
         let goes = led q size frame old a m later x.told in
         record {
@@ -70,26 +70,26 @@ module _ (w : Watched) (fifo : ℕ) (h : List Entry) (q : AtPort) (size frame : 
           begins = x.begins;
         }
 
-    handed : receive.IsPrefixOf (handed_of (last m later).driver.rings) (delivered w.queue (new_state w.vfs fifo) h)
+    handed : receive.IsPrefixOf (handed_of (last m later).driver.rings) (delivered w.queue origin h)
     handed =
-        subst (λ (z : Rings). receive.IsPrefixOf (handed_of z) (delivered w.queue (new_state w.vfs fifo) h)) (sym up)
-        (handed_of_life w fifo h q size frame old a m.made x.told.started.0 k lived)
+        subst (λ (z : Rings). receive.IsPrefixOf (handed_of z) (delivered w.queue origin h)) (sym up)
+        (handed_of_life w origin h q size frame old a m.made x.told.started.0 k lived)
 
-    sends : transmit.IsPrefixOf (sent_since w.queue (new_state w.vfs fifo) [] h)
+    sends : transmit.IsPrefixOf (sent_since w.queue origin [] h)
         (bytes_of (accepted_of (last m later).driver.rings))
     sends =
         subst
         (λ (z : Rings).
-        transmit.IsPrefixOf (sent_since w.queue (new_state w.vfs fifo) [] h) (bytes_of (accepted_of z)))
-        (sym up) (sent_of_life w fifo h q size frame old a m.made x.told.started.0 k lived)
+        transmit.IsPrefixOf (sent_since w.queue origin [] h) (bytes_of (accepted_of z)))
+        (sym up) (sent_of_life w origin h q size frame old a m.made x.told.started.0 k lived)
 
     idle : HasNoneOut (last m later).driver.rings
-        → bytes_of (accepted_of (last m later).driver.rings) ≡ sent_since w.queue (new_state w.vfs fifo) [] h
+        → bytes_of (accepted_of (last m later).driver.rings) ≡ sent_since w.queue origin [] h
     idle none =
         ap (λ (z : Rings). bytes_of (accepted_of z)) up
-        ∙ idle_of_life w fifo h q size frame old a m.made x.told.started.0 k lived (subst HasNoneOut up none)
+        ∙ idle_of_life w origin h q size frame old a m.made x.told.started.0 k lived (subst HasNoneOut up none)
 
-  module _ (n : Moment) (x : IsToldToLook w fifo h q size frame old a m later n) where
+  module _ (n : Moment) (x : IsToldToLook w origin h q size frame old a m later n) where
     abbrev made : List Call
     made = (last m later).made
 
@@ -100,7 +100,8 @@ module _ (w : Watched) (fifo : ℕ) (h : List Entry) (q : AtPort) (size frame : 
     next =
         up_next _ (last m later).driver.rings n.driver.rings rings (runs q size frame old a m later x.told).up x.looks
 
-    abbrev in_vain : looks.LooksInVain w fifo h q size frame old a m.made x.told.started.0 made (halves_of rings) n.made
+    abbrev in_vain : looks.LooksInVain w origin h q size frame old a m.made x.told.started.0 made (halves_of rings)
+        n.made
         next.0.receive
     in_vain = record {
       along = x.along;
@@ -110,17 +111,18 @@ module _ (w : Watched) (fifo : ℕ) (h : List Entry) (q : AtPort) (size frame : 
       look = x.look;
     }
 
-    looked : handed_of (last m later).driver.rings ≡ delivered w.queue (new_state w.vfs fifo) x.look.before
+    looked : handed_of (last m later).driver.rings ≡ delivered w.queue origin x.look.before
     looked =
         ap handed_of (runs q size frame old a m later x.told).up
-        ∙ none_before_look w fifo h q size frame old a m.made x.told.started.0 made (halves_of rings) n.made
+        ∙ none_before_look w origin h q size frame old a m.made x.told.started.0 made (halves_of rings) n.made
         next.0.receive in_vain
 
     at_first : (before more : List Entry) → before ++ more ≡ x.look.before → AddsHarmless made (calls_of w.pass before)
-        → handed_of (last m later).driver.rings ≡ delivered w.queue (new_state w.vfs fifo) before
+        → handed_of (last m later).driver.rings ≡ delivered w.queue origin before
     at_first before more all is =
         ap handed_of (runs q size frame old a m later x.told).up
-        ∙ none_at_first w fifo h q size frame old a m.made x.told.started.0 made (halves_of rings) n.made next.0.receive
+        ∙ none_at_first w origin h q size frame old a m.made x.told.started.0 made (halves_of rings) n.made
+        next.0.receive
         in_vain before more all is
 
 pub handed_as_told : told.HandedIsPrefix

@@ -1,7 +1,7 @@
 -- Before a call of the driver that ends with a packet outstanding not all that was accepted was sent.
 use Rattle.std.proofs.Common.{◌≡◌, ◌≢◌, ℕ, List, [], ◌∷◌, ◌++◌, refl, sym, ap, ◌∙◌, subst}
 use Rattle.nic_device.specs.DmaArena.Numbers.{Numbers}
-use Rattle.nic_device.specs.State.{State, new_state}
+use Rattle.nic_device.specs.State.{State}
 use Rattle.nic_device.specs.declared.event.Event.TheVariants as event
 use Rattle.nic_device.specs.declared.event.Reply.TheVariants as reply
 use Rattle.device_lock.specs.History.{call_in, calls_of, leads_to}
@@ -32,12 +32,9 @@ use Rattle.pmd_laws.proofs.Order as order
 use Rattle.pmd_laws.proofs.RunsOn.{up_next}
 use Rattle.pmd_laws.proofs.Told.{led, life, runs}
 
-module _ (w : Watched) (fifo : ℕ) (h : List Entry) (q : AtPort) (size frame : ℕ) (old : List Call) (a : Numbers)
+module _ (w : Watched) (origin : State) (h : List Entry) (q : AtPort) (size frame : ℕ) (old : List Call) (a : Numbers)
     (started : List Call) (r : Running) (made : List Call) (k : Halves) (made_then : List Call) (v : Sender)
-    (x : LooksAtWaiting w fifo h q size frame old a started r made k made_then v) where
-  abbrev new : State
-  new = new_state w.vfs fifo
-
+    (x : LooksAtWaiting w origin h q size frame old a started r made k made_then v) where
   abbrev late : List Entry
   late = x.look.before
 
@@ -73,67 +70,67 @@ module _ (w : Watched) (fifo : ℕ) (h : List Entry) (q : AtPort) (size frame : 
   abbrev rest : List Entry
   rest = x.look.entry ∷ x.look.behind
 
-  abbrev lived : IsLived w fifo late q size frame old a started r then
+  abbrev lived : IsLived w origin late q size frame old a started r then
   lived =
-      lived_then w fifo h q size frame old a started r made k x.life x.along x.begins late rest x.look.all
+      lived_then w origin h q size frame old a started r made k x.life x.along x.begins late rest x.look.all
       (x.looks.mid ++ others) then goes_on ends.0
 
-  finds : FindsWaiting (leads_to new late) sender
+  finds : FindsWaiting (leads_to origin late) sender
   finds = record {
     bytes = x.looks.bytes;
     posted = x.looks.posted;
-    told = answered w fifo h made_then looking x.along x.look ends.1;
+    told = answered w origin h made_then looking x.along x.look ends.1;
     waits = x.looks.waits;
   }
 
   module _ (early more : List Entry) (all : early ++ more ≡ late) (is : AddsHarmless made (calls_of w.pass early))
     where
-      abbrev lived_here : IsLived w fifo early q size frame old a started r k
+      abbrev lived_here : IsLived w origin early q size frame old a started r k
       lived_here =
-          lived_early w fifo h q size frame old a started r made k x.life x.along x.begins late rest x.look.all
+          lived_early w origin h q size frame old a started r made k x.life x.along x.begins late rest x.look.all
           (x.looks.mid ++ others) then goes_on ends.0 early more all is
 
       -- both places, from where the sides went on
 
       abbrev p : Parts w.pass early x.life.up.on.mid
-          (order.whole w fifo early q size frame old a started r k lived_here).1
+          (order.whole w origin early q size frame old a started r k lived_here).1
       p =
-          early_parts w fifo h q size frame old a started r made k x.life x.along x.begins late rest x.look.all
+          early_parts w origin h q size frame old a started r made k x.life x.along x.begins late rest x.look.all
           (x.looks.mid ++ others) then goes_on ends.0 early more all is
 
       abbrev p_late : Parts w.pass late x.life.up.on.mid
-          (order.whole w fifo late q size frame old a started r then lived).1
+          (order.whole w origin late q size frame old a started r then lived).1
       p_late =
-          late_parts w fifo h q size frame old a started r made k x.life x.along x.begins late rest x.look.all
+          late_parts w origin h q size frame old a started r made k x.life x.along x.begins late rest x.look.all
           (x.looks.mid ++ others) then goes_on ends.0 early more all is
 
       abbrev both : p.front ++ (p.back ++ more) ≡ late
       both =
-          parts_join w fifo h q size frame old a started r made k x.life x.along x.begins late rest x.look.all
+          parts_join w origin h q size frame old a started r made k x.life x.along x.begins late rest x.look.all
           (x.looks.mid ++ others) then goes_on ends.0 early more all is
 
-      not_all : bytes_of k.transmit.accepted ≢ sent_since w.queue new [] early
+      not_all : bytes_of k.transmit.accepted ≢ sent_since w.queue origin [] early
       not_all same =
-          let last = order.last w fifo late q size frame old a started r then lived p_late in
-          waiting_is_not_all w fifo p.front p.back more
-          (order.first w fifo late q size frame old a started r then lived)
-          (order.whole w fifo late q size frame old a started r then lived).0
-          (order.driven w fifo late q size frame old a started r then lived p_late)
-          (subst (λ (z : Halves). FindsWaiting (leads_to new (p.front ++ (p.back ++ more))) z.transmit) (sym last)
-          (subst (λ (l : List Entry). FindsWaiting (leads_to new l) sender) (sym both) finds))
+          let last = order.last w origin late q size frame old a started r then lived p_late in
+          waiting_is_not_all w origin p.front p.back more
+          (order.first w origin late q size frame old a started r then lived)
+          (order.whole w origin late q size frame old a started r then lived).0
+          (order.driven w origin late q size frame old a started r then lived p_late)
+          (subst (λ (z : Halves). FindsWaiting (leads_to origin (p.front ++ (p.back ++ more))) z.transmit) (sym last)
+          (subst (λ (l : List Entry). FindsWaiting (leads_to origin l) sender) (sym both) finds))
           (ap (λ (z : Halves). bytes_of z.transmit.accepted) last ∙ ap bytes_of x.looks.accepted ∙ same
-          ∙ order.counted w fifo early q size frame old a started r k lived_here p)
+          ∙ order.counted w origin early q size frame old a started r k lived_here p)
 
 pub waiting_before_look : WaitingIsNotAllBefore
 waiting_before_look = not_all
 
 -- the same by what the calls tell
 pub waiting_as_told : WaitingIsNotAllAsTold
-waiting_as_told w fifo h q size frame old a m later n x before more all is same =
+waiting_as_told w origin h q size frame old a m later n x before more all is same =
     let made = (last m later).made in
     let runs = runs q size frame old a m later x.told in
     let (s, after, looks) = up_next _ (last m later).driver.rings n.driver.rings runs.rings runs.up x.waits in
-    waiting_before_look w fifo h q size frame old a m.made x.told.started.0 made (halves_of runs.rings) n.made
+    waiting_before_look w origin h q size frame old a m.made x.told.started.0 made (halves_of runs.rings) n.made
     s.transmit
     (record {
       along = x.along;

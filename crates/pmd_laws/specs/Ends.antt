@@ -1,7 +1,7 @@
 -- What a driver that lived, and was stopped, handed out and sent.
 use Rattle.std.specs.Prelude.{ℕ, ◌≡◌, List, [], ◌++◌, Option}
 use Rattle.nic_device.specs.DmaArena.Numbers.{Numbers}
-use Rattle.nic_device.specs.State.{new_state}
+use Rattle.nic_device.specs.State.{State}
 use Rattle.device_lock.specs.History.{calls_of}
 use Rattle.device_lock.specs.declared.alone.Watched.{Watched}
 use Rattle.device_lock.specs.declared.entry.Call.{Call}
@@ -19,47 +19,47 @@ use Rattle.start_laws.specs.TransmitLaws.Sent.{sent_since}
 use Rattle.start_laws.specs.Along.{IsAlong}
 use Rattle.start_laws.specs.Start.{BeginsWell}
 
--- a legal history of a new device that leaves the queue alone, up to where a driver that lived was to stop
-pub record IsToStop (w : Watched) (fifo : ℕ) (h : List Entry) (q : AtPort) (size frame : ℕ) (old : List Call)
+-- a legal history of a sound device that leaves the queue alone, up to where a driver that lived was to stop
+pub record IsToStop (w : Watched) (origin : State) (h : List Entry) (q : AtPort) (size frame : ℕ) (old : List Call)
     (a : Numbers) (new : List Call) (left : Rest) (late : Option PmdFault)
     (life : HasLived q size frame old a new left late) : Type 0 where
-  pub along : IsAlong w fifo h
+  pub along : IsAlong w origin h
   pub calls : calls_of w.pass h ≡ life.made
-  pub begins : BeginsWell w fifo h q size frame old a life.lives.made life.lives.fresh life.lives.up
+  pub begins : BeginsWell w origin h q size frame old a life.lives.made life.lives.fresh life.lives.up
 
 -- such a history on to some place amid its stop, or where this ended, well or not: these of its calls were made so far
-pub record IsOver (w : Watched) (fifo : ℕ) (h : List Entry) (q : AtPort) (size frame : ℕ) (old : List Call)
+pub record IsOver (w : Watched) (origin : State) (h : List Entry) (q : AtPort) (size frame : ℕ) (old : List Call)
     (a : Numbers) (new : List Call) (left : Rest) (late : Option PmdFault)
     (life : HasLived q size frame old a new left late) : Type 0 where
-  pub along : IsAlong w fifo h
+  pub along : IsAlong w origin h
   pub since : List Call
   pub rest : List Call
   pub all : new ≡ (life.made ++ since) ++ rest
   pub calls : calls_of w.pass h ≡ life.made ++ since
-  pub begins : BeginsWell w fifo h q size frame old a life.lives.made life.lives.fresh life.lives.up
+  pub begins : BeginsWell w origin h q size frame old a life.lives.made life.lives.fresh life.lives.up
 
 -- what the driver left as handed out is a prefix of what was delivered, and what was sent a prefix of what it left as
 -- accepted
 abbrev pub LeftIsPrefix : Type 0
 LeftIsPrefix =
-    (w : Watched) (fifo : ℕ) (h : List Entry) (q : AtPort) (size frame : ℕ) (old : List Call) (a : Numbers)
+    (w : Watched) (origin : State) (h : List Entry) (q : AtPort) (size frame : ℕ) (old : List Call) (a : Numbers)
     (new : List Call) (left : Rest) (late : Option PmdFault) (lived : HasLived q size frame old a new left late) →
-    IsToStop w fifo h q size frame old a new left late lived →
-    receive.IsPrefixOf (left_handed left) (delivered w.queue (new_state w.vfs fifo) h)
-    × transmit.IsPrefixOf (sent_since w.queue (new_state w.vfs fifo) [] h) (bytes_of (left_accepted left))
+    IsToStop w origin h q size frame old a new left late lived →
+    receive.IsPrefixOf (left_handed left) (delivered w.queue origin h)
+    × transmit.IsPrefixOf (sent_since w.queue origin [] h) (bytes_of (left_accepted left))
 
 -- and so it is there, with all that was delivered and sent meanwhile
 
 abbrev pub HandedOverStop : Type 0
 HandedOverStop =
-    (w : Watched) (fifo : ℕ) (h : List Entry) (q : AtPort) (size frame : ℕ) (old : List Call) (a : Numbers)
+    (w : Watched) (origin : State) (h : List Entry) (q : AtPort) (size frame : ℕ) (old : List Call) (a : Numbers)
     (new : List Call) (left : Rest) (late : Option PmdFault) (lived : HasLived q size frame old a new left late) →
-    IsOver w fifo h q size frame old a new left late lived →
-    receive.IsPrefixOf (left_handed left) (delivered w.queue (new_state w.vfs fifo) h)
+    IsOver w origin h q size frame old a new left late lived →
+    receive.IsPrefixOf (left_handed left) (delivered w.queue origin h)
 
 abbrev pub SentOverStop : Type 0
 SentOverStop =
-    (w : Watched) (fifo : ℕ) (h : List Entry) (q : AtPort) (size frame : ℕ) (old : List Call) (a : Numbers)
+    (w : Watched) (origin : State) (h : List Entry) (q : AtPort) (size frame : ℕ) (old : List Call) (a : Numbers)
     (new : List Call) (left : Rest) (late : Option PmdFault) (lived : HasLived q size frame old a new left late) →
-    IsOver w fifo h q size frame old a new left late lived →
-    transmit.IsPrefixOf (sent_since w.queue (new_state w.vfs fifo) [] h) (bytes_of (left_accepted left))
+    IsOver w origin h q size frame old a new left late lived →
+    transmit.IsPrefixOf (sent_since w.queue origin [] h) (bytes_of (left_accepted left))

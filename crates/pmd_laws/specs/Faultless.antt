@@ -46,15 +46,15 @@ FindsFault m n =
     WhereUp m.driver.rings n.driver.rings
     (λ r s. FindsBy DeviceFault (is_own r.arena) m.made (halves_of r) n.made)
 
--- a legal history of a new device that leaves the queue alone. In it the pass made the calls up to this last moment,
+-- a legal history of a sound device that leaves the queue alone. In it the pass made the calls up to this last moment,
 -- and maybe more behind them. Just before the driver's first access frames were short and none of its arena's blocks
 -- was lent; and no other pass lends any of them
-pub record IsToldApart (w : Watched) (fifo : ℕ) (h : List Entry) (q : AtPort) (size frame : ℕ) (old : List Call)
+pub record IsToldApart (w : Watched) (origin : State) (h : List Entry) (q : AtPort) (size frame : ℕ) (old : List Call)
     (a : Numbers) (m : Moment) (later : List Moment) (n : Moment) : Type 0 where
-  pub along : IsAlong w fifo h
+  pub along : IsAlong w origin h
   pub told : IsTold q size frame old a m later
-  pub begins : BeginsWell w fifo h q size frame old a m.made told.started.0 told.started.2
-  pub fresh : BeforeLast w fifo h told.started.2.receive.quiet.0 (IsFresh w.queue frame (is_own a))
+  pub begins : BeginsWell w origin h q size frame old a m.made told.started.0 told.started.2
+  pub fresh : BeforeLast w origin h told.started.2.receive.quiet.0 (IsFresh w.queue frame (is_own a))
   pub others : OnlyPassLends w.pass (is_own a) h
   pub more : List Call
   pub made : calls_of w.pass h ≡ n.made ++ more
@@ -62,9 +62,9 @@ pub record IsToldApart (w : Watched) (fifo : ℕ) (h : List Entry) (q : AtPort) 
 -- no such history has such a call
 abbrev pub NoCallFindsFault : Type 0
 NoCallFindsFault =
-    (w : Watched) (fifo : ℕ) (h : List Entry) (q : AtPort) (size frame : ℕ) (old : List Call) (a : Numbers) (m : Moment)
-    (later : List Moment) (n : Moment) → FindsFault (last m later) n →
-    ¬ IsToldApart w fifo h q size frame old a m later n
+    (w : Watched) (origin : State) (h : List Entry) (q : AtPort) (size frame : ℕ) (old : List Call) (a : Numbers)
+    (m : Moment) (later : List Moment) (n : Moment) → FindsFault (last m later) n →
+    ¬ IsToldApart w origin h q size frame old a m later n
 
 -- the fault that a burst met, whatever it answered: as room was made, with a packet, or with none
 abbrev pub met_by : (failed : Option PmdFault) (given left : List Packet) (result : Result ℕ PmdFault) (old : List Call)
@@ -86,9 +86,9 @@ MeetsFault m n = WhereUp m.driver.rings n.driver.rings (λ r s. SendsAtFault m.m
 -- no such history has such a call
 abbrev pub NoBurstMeetsFault : Type 0
 NoBurstMeetsFault =
-    (w : Watched) (fifo : ℕ) (h : List Entry) (q : AtPort) (size frame : ℕ) (old : List Call) (a : Numbers) (m : Moment)
-    (later : List Moment) (n : Moment) → MeetsFault (last m later) n →
-    ¬ IsToldApart w fifo h q size frame old a m later n
+    (w : Watched) (origin : State) (h : List Entry) (q : AtPort) (size frame : ℕ) (old : List Call) (a : Numbers)
+    (m : Moment) (later : List Moment) (n : Moment) → MeetsFault (last m later) n →
+    ¬ IsToldApart w origin h q size frame old a m later n
 
 -- both sides of the queue are off, and so it begins
 abbrev pub IsQuietAndFresh : ℕ → AtPort → ℕ → Blocks → State → Type 0
@@ -96,10 +96,10 @@ IsQuietAndFresh queue q frame own s = IsQuiet queue q frame s × IsFresh queue f
 
 -- such a history, in which a start made these calls, and maybe more came behind them. Just before its first access both
 -- sides were off, frames were short and none of its arena's blocks was lent; and no other pass lends any of them
-pub record BeginsApart (w : Watched) (fifo : ℕ) (h : List Entry) (q : AtPort) (size frame : ℕ) (old : List Call)
+pub record BeginsApart (w : Watched) (origin : State) (h : List Entry) (q : AtPort) (size frame : ℕ) (old : List Call)
     (a : Numbers) (new : List Call) : Type 0 where
-  pub along : IsAlong w fifo h
-  pub begins : BeforeNext w fifo h old (IsQuietAndFresh w.queue q frame (is_own a))
+  pub along : IsAlong w origin h
+  pub begins : BeforeNext w origin h old (IsQuietAndFresh w.queue q frame (is_own a))
   pub others : OnlyPassLends w.pass (is_own a) h
   pub more : List Call
   pub made : calls_of w.pass h ≡ new ++ more
@@ -107,12 +107,12 @@ pub record BeginsApart (w : Watched) (fifo : ℕ) (h : List Entry) (q : AtPort) 
 -- no such start ends with the device at fault as it fills its receive ring
 abbrev pub NoFillingFindsFault : Type 0
 NoFillingFindsFault =
-    (w : Watched) (fifo : ℕ) (h : List Entry) (q : AtPort) (size frame : ℕ) (old : List Call) (a : Numbers)
-    (new : List Call) → FaultsFilling q size frame old a new → ¬ BeginsApart w fifo h q size frame old a new
+    (w : Watched) (origin : State) (h : List Entry) (q : AtPort) (size frame : ℕ) (old : List Call) (a : Numbers)
+    (new : List Call) → FaultsFilling q size frame old a new → ¬ BeginsApart w origin h q size frame old a new
 
 -- nor does it end so amid its events at all
 abbrev pub NoStartFindsFault : Type 0
 NoStartFindsFault =
-    (w : Watched) (fifo : ℕ) (h : List Entry) (q : AtPort) (size frame : ℕ) (old : List Call) (a : Numbers)
-    (new : List Call) (e : StartRefused) → BeginsApart w fifo h q size frame old a new →
+    (w : Watched) (origin : State) (h : List Entry) (q : AtPort) (size frame : ℕ) (old : List Call) (a : Numbers)
+    (new : List Call) (e : StartRefused) → BeginsApart w origin h q size frame old a new →
     StopsStarting q size frame old a new e → e.fault ≢ DeviceFault

@@ -1,7 +1,7 @@
 -- A call of a driver that looks in vain, whether it was to hand out one packet or several: it finds none that is whole.
 use Rattle.std.specs.Prelude.{ℕ, ◌≡◌, List, [], ◌∷◌, ◌++◌}
 use Rattle.nic_device.specs.DmaArena.Numbers.{Numbers}
-use Rattle.nic_device.specs.State.{new_state}
+use Rattle.nic_device.specs.State.{State}
 use Rattle.device_lock.specs.History.{call_in, calls_of}
 use Rattle.device_lock.specs.declared.alone.Watched.{Watched}
 use Rattle.device_lock.specs.declared.entry.Call.{Call}
@@ -31,30 +31,30 @@ CallsEnd =
     (pass : ℕ) (h : List Entry) (calls more : List Call) (c : Call) →
     calls_of pass h ≡ (calls ++ c ∷ []) ++ more → EndsAt pass h (calls ++ c ∷ [])
 
--- a legal history of a new device that leaves the queue alone. In it the pass made the calls of this life, and then one
--- call of the driver looked at the slots of a packet, and found the last of these not done
-pub record LooksInVain (w : Watched) (fifo : ℕ) (h : List Entry) (q : AtPort) (size frame : ℕ) (old : List Call)
+-- a legal history of a sound device that leaves the queue alone. In it the pass made the calls of this life, and then
+-- one call of the driver looked at the slots of a packet, and found the last of these not done
+pub record LooksInVain (w : Watched) (origin : State) (h : List Entry) (q : AtPort) (size frame : ℕ) (old : List Call)
     (a : Numbers) (started : List Call) (r : Running) (made : List Call) (k : Halves) (new : List Call) (v : Receive) :
     Type 0 where
-  pub along : IsAlong w fifo h
+  pub along : IsAlong w origin h
   pub life : IsLife q size frame old a started r made k
-  pub begins : BeginsWell w fifo h q size frame old a started r life.up
+  pub begins : BeginsWell w origin h q size frame old a started r life.up
   pub looks : receiving.LooksInVain made k.receive new v
   pub look : EndsAt w.pass h new
 
 -- what the driver had handed out is all that was delivered before the entry of that last look, whatever came behind it
 abbrev pub NoneIsAllBefore : Type 0
 NoneIsAllBefore =
-    (w : Watched) (fifo : ℕ) (h : List Entry) (q : AtPort) (size frame : ℕ) (old : List Call) (a : Numbers)
+    (w : Watched) (origin : State) (h : List Entry) (q : AtPort) (size frame : ℕ) (old : List Call) (a : Numbers)
     (started : List Call) (r : Running) (made : List Call) (k : Halves) (new : List Call) (v : Receive)
-    (looked : LooksInVain w fifo h q size frame old a started r made k new v) →
-    k.receive.handed ≡ delivered w.queue (new_state w.vfs fifo) looked.look.before
+    (looked : LooksInVain w origin h q size frame old a started r made k new v) →
+    k.receive.handed ≡ delivered w.queue origin looked.look.before
 
 -- and it is all that was delivered before the first event of that call's own, harmless calls ahead of it included
 abbrev pub NoneIsAllAtFirst : Type 0
 NoneIsAllAtFirst =
-    (w : Watched) (fifo : ℕ) (h : List Entry) (q : AtPort) (size frame : ℕ) (old : List Call) (a : Numbers)
+    (w : Watched) (origin : State) (h : List Entry) (q : AtPort) (size frame : ℕ) (old : List Call) (a : Numbers)
     (started : List Call) (r : Running) (made : List Call) (k : Halves) (new : List Call) (v : Receive)
-    (looked : LooksInVain w fifo h q size frame old a started r made k new v) (before more : List Entry) →
+    (looked : LooksInVain w origin h q size frame old a started r made k new v) (before more : List Entry) →
     before ++ more ≡ looked.look.before → AddsHarmless made (calls_of w.pass before) →
-    k.receive.handed ≡ delivered w.queue (new_state w.vfs fifo) before
+    k.receive.handed ≡ delivered w.queue origin before

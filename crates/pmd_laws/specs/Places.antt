@@ -4,7 +4,7 @@ use Rattle.std.specs.Prelude.{ℕ, ◌≡◌, Bool, false, IsTrue, List, ◌++�
 use Rattle.nic_device.specs.DmaArena.Memory.{Memory, has_block}
 use Rattle.nic_device.specs.DmaArena.Numbers.{Numbers, is_free, is_own}
 use Rattle.nic_device.specs.DmaArena.Whereabouts.{places_of, times_in_hand}
-use Rattle.nic_device.specs.State.{new_state}
+use Rattle.nic_device.specs.State.{State}
 use Rattle.device_lock.specs.History.{leads_to}
 use Rattle.device_lock.specs.declared.alone.Watched.{Watched}
 use Rattle.device_lock.specs.declared.entry.Call.{Call}
@@ -28,31 +28,32 @@ abbrev pub is_out : Rings → ℕ → Bool
 is_out (Up r) n = lent_by (halves_of r) n
 is_out (Down h) n = false
 
--- the memory that is lent to the device, where these entries led a new one
-abbrev pub memory_after : Watched → ℕ → List Entry → Memory
-memory_after w fifo h = (leads_to (new_state w.vfs fifo) h).memory
+-- the memory that is lent to the device, where these entries led it
+abbrev pub memory_after : Watched → State → List Entry → Memory
+memory_after w origin h = (leads_to origin h).memory
 
 -- each block that is out is lent there
 abbrev pub OutIsLent : Type 0
 OutIsLent =
-    (w : Watched) (fifo : ℕ) (h : List Entry) (q : AtPort) (size frame : ℕ) (old : List Call) (a : Numbers) (m : Moment)
-    (later : List Moment) → IsToldOf w fifo h q size frame old a m later → (number : ℕ) →
-    IsTrue (is_out (last m later).driver.rings number) → IsTrue (has_block (memory_after w fifo h) number)
+    (w : Watched) (origin : State) (h : List Entry) (q : AtPort) (size frame : ℕ) (old : List Call) (a : Numbers)
+    (m : Moment) (later : List Moment) → IsToldOf w origin h q size frame old a m later → (number : ℕ) →
+    IsTrue (is_out (last m later).driver.rings number) → IsTrue (has_block (memory_after w origin h) number)
 
 -- such a history. Just before the driver's first access none of its arena's blocks was lent; and no other pass lends
 -- any of them
-pub record IsToldAlone (w : Watched) (fifo : ℕ) (h : List Entry) (q : AtPort) (size frame : ℕ) (old : List Call)
+pub record IsToldAlone (w : Watched) (origin : State) (h : List Entry) (q : AtPort) (size frame : ℕ) (old : List Call)
     (a : Numbers) (m : Moment) (later : List Moment) : Type 0 where
-  pub told : IsToldOf w fifo h q size frame old a m later
-  pub fresh : BeforeLast w fifo h told.told.started.2.receive.quiet.0 (NoneLent (is_own a))
+  pub told : IsToldOf w origin h q size frame old a m later
+  pub fresh : BeforeLast w origin h told.told.started.2.receive.quiet.0 (NoneLent (is_own a))
   pub others : OnlyPassLends w.pass (is_own a) h
 
 -- each of the arena's blocks that is lent there is out
 abbrev pub LentIsOut : Type 0
 LentIsOut =
-    (w : Watched) (fifo : ℕ) (h : List Entry) (q : AtPort) (size frame : ℕ) (old : List Call) (a : Numbers) (m : Moment)
-    (later : List Moment) → IsToldAlone w fifo h q size frame old a m later → (number : ℕ) → IsTrue (is_own a number) →
-    IsTrue (has_block (memory_after w fifo h) number) → IsTrue (is_out (last m later).driver.rings number)
+    (w : Watched) (origin : State) (h : List Entry) (q : AtPort) (size frame : ℕ) (old : List Call) (a : Numbers)
+    (m : Moment) (later : List Moment) →
+    IsToldAlone w origin h q size frame old a m later → (number : ℕ) → IsTrue (is_own a number) →
+    IsTrue (has_block (memory_after w origin h) number) → IsTrue (is_out (last m later).driver.rings number)
 
 -- where a driver has all blocks of an arena but those in hand, it has them so after a call, as its clause `blocks`
 -- tells: what was in hand for the call isn't after it, and what the call hands out, or leaves in a list that it was
@@ -70,9 +71,9 @@ pub record BooksGoOn : Type 0 where
 -- too, whole or not, and those of parts that wait to be lent
 abbrev pub EachInOnePlace : Type 0
 EachInOnePlace =
-    (w : Watched) (fifo : ℕ) (h : List Entry) (q : AtPort) (size frame : ℕ) (old : List Call) (a : Numbers) (m : Moment)
-    (later : List Moment) → IsToldAlone w fifo h q size frame old a m later → (hand : List ℕ) →
+    (w : Watched) (origin : State) (h : List Entry) (q : AtPort) (size frame : ℕ) (old : List Call) (a : Numbers)
+    (m : Moment) (later : List Moment) → IsToldAlone w origin h q size frame old a m later → (hand : List ℕ) →
     HasAll a (halted_of (last m later).driver.rings) hand → (number : ℕ) → IsTrue (is_own a number) →
     places_of (arena_of (last m later).driver.rings) ((halted_of (last m later).driver.rings).held ++ hand)
-    (memory_after w fifo h) number
+    (memory_after w origin h) number
     ≡ (if is_free a number then 1 else 0)

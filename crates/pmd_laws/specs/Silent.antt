@@ -2,6 +2,7 @@
 use Rattle.std.specs.Prelude.{ℕ, ◌≡◌, List, ◌++◌, Option, Some, None}
 use Rattle.std.proofs.Common.{inl, inr}
 use Rattle.nic_device.specs.DmaArena.Numbers.{Numbers}
+use Rattle.nic_device.specs.State.{State}
 use Rattle.device_lock.specs.History.{calls_of}
 use Rattle.device_lock.specs.declared.alone.Watched.{Watched}
 use Rattle.device_lock.specs.declared.entry.Call.{Call}
@@ -25,10 +26,10 @@ use Rattle.pmd_laws.specs.Stopped.{IsStopping}
 -- there any more
 abbrev pub SilentOnceOff : Type 0
 SilentOnceOff =
-    (w : Watched) (fifo : ℕ) (h : List Entry) (q : AtPort) (size frame : ℕ) (old : List Call) (a : Numbers)
+    (w : Watched) (origin : State) (h : List Entry) (q : AtPort) (size frame : ℕ) (old : List Call) (a : Numbers)
     (started : List Call) (r : Running) (made : List Call) (k : Halves) (new : List Call) (done rest : List Entry) →
-    IsStopping w fifo h q size frame old a started r made k new → (x : EndsOnceOff q made new) → done ++ rest ≡ h →
-    calls_of w.pass done ≡ x.off → IsSilent w fifo h done
+    IsStopping w origin h q size frame old a started r made k new → (x : EndsOnceOff q made new) → done ++ rest ≡ h →
+    calls_of w.pass done ≡ x.off → IsSilent w origin h done
 
 -- a driver's stop had switched both sides off when these calls were made: it came home, or failed behind them
 abbrev pub SwitchesOff : (q : AtPort) (old : List Call) (h : Halted) (new : List Call) (left : Rest)
@@ -43,8 +44,8 @@ SwitchesOff q old h new (rest.Running p) (Some f) (after, is, inr (inr (mid, swi
 -- so it is of a driver that lived, from there on to any place amid its stop, and to where this ended
 abbrev pub SilentOverStop : Type 0
 SilentOverStop =
-    (w : Watched) (fifo : ℕ) (h : List Entry) (q : AtPort) (size frame : ℕ) (old : List Call) (a : Numbers)
+    (w : Watched) (origin : State) (h : List Entry) (q : AtPort) (size frame : ℕ) (old : List Call) (a : Numbers)
     (new : List Call) (left : Rest) (late : Option PmdFault) (lived : HasLived q size frame old a new left late)
-    (off : List Call) (done rest : List Entry) → IsOver w fifo h q size frame old a new left late lived →
+    (off : List Call) (done rest : List Entry) → IsOver w origin h q size frame old a new left late lived →
     SwitchesOff q lived.made (halted_of (Up lived.last)) new left late lived.stopped off → done ++ rest ≡ h →
-    calls_of w.pass done ≡ off → IsSilent w fifo h done
+    calls_of w.pass done ≡ off → IsSilent w origin h done

@@ -1,7 +1,7 @@
 -- A driver's life, and then calls of its stop.
 use Rattle.std.specs.Prelude.{ℕ, ◌≡◌, List, []}
 use Rattle.nic_device.specs.DmaArena.Numbers.{Numbers}
-use Rattle.nic_device.specs.State.{new_state}
+use Rattle.nic_device.specs.State.{State}
 use Rattle.device_lock.specs.History.{calls_of}
 use Rattle.device_lock.specs.declared.alone.Watched.{Watched}
 use Rattle.device_lock.specs.declared.entry.Call.{Call}
@@ -23,13 +23,13 @@ use Rattle.start_laws.specs.Stopping.{Ends, TakesOnceOff}
 use Rattle.pmd.specs.Halves.{Halves}
 use Rattle.pmd_laws.specs.Life.{IsLife}
 
--- a legal history of a new device that leaves the queue alone, in which the pass made just the calls of this life, and
--- behind them those of a stop: none writes the queue's enable words with bit 25
-pub record IsStopping (w : Watched) (fifo : ℕ) (h : List Entry) (q : AtPort) (size frame : ℕ) (old : List Call)
+-- a legal history of a sound device that leaves the queue alone, in which the pass made just the calls of this life,
+-- and behind them those of a stop: none writes the queue's enable words with bit 25
+pub record IsStopping (w : Watched) (origin : State) (h : List Entry) (q : AtPort) (size frame : ℕ) (old : List Call)
     (a : Numbers) (started : List Call) (r : Running) (made : List Call) (k : Halves) (new : List Call) : Type 0 where
-  pub along : IsAlong w fifo h
+  pub along : IsAlong w origin h
   pub life : IsLife q size frame old a started r made k
-  pub begins : BeginsWell w fifo h q size frame old a started r life.up
+  pub begins : BeginsWell w origin h q size frame old a started r life.up
   pub ends : Ends q made new
   pub calls : calls_of w.pass h ≡ new
 
@@ -37,19 +37,19 @@ pub record IsStopping (w : Watched) (fifo : ℕ) (h : List Entry) (q : AtPort) (
 -- whole history
 abbrev pub HandedIsPrefix : Type 0
 HandedIsPrefix =
-    (w : Watched) (fifo : ℕ) (h : List Entry) (q : AtPort) (size frame : ℕ) (old : List Call) (a : Numbers)
+    (w : Watched) (origin : State) (h : List Entry) (q : AtPort) (size frame : ℕ) (old : List Call) (a : Numbers)
     (started : List Call) (r : Running) (made : List Call) (k : Halves) (new : List Call) →
-    IsStopping w fifo h q size frame old a started r made k new →
-    receive.IsPrefixOf k.receive.handed (delivered w.queue (new_state w.vfs fifo) h)
+    IsStopping w origin h q size frame old a started r made k new →
+    receive.IsPrefixOf k.receive.handed (delivered w.queue origin h)
 
 -- where the stop takes blocks back only once both sides were seen off, what was sent on the queue since its transmit
 -- side went on is a prefix of what the driver accepted, over the whole history
 abbrev pub SentIsPrefix : Type 0
 SentIsPrefix =
-    (w : Watched) (fifo : ℕ) (h : List Entry) (q : AtPort) (size frame : ℕ) (old : List Call) (a : Numbers)
+    (w : Watched) (origin : State) (h : List Entry) (q : AtPort) (size frame : ℕ) (old : List Call) (a : Numbers)
     (started : List Call) (r : Running) (made : List Call) (k : Halves) (new : List Call) →
-    IsStopping w fifo h q size frame old a started r made k new → TakesOnceOff q made new →
-    transmit.IsPrefixOf (sent_since w.queue (new_state w.vfs fifo) [] h) (bytes_of k.transmit.accepted)
+    IsStopping w origin h q size frame old a started r made k new → TakesOnceOff q made new →
+    transmit.IsPrefixOf (sent_since w.queue origin [] h) (bytes_of k.transmit.accepted)
 
 -- the calls of a driver's stop are such, and so are those of one that fails
 

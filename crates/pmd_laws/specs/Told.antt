@@ -2,7 +2,7 @@
 -- `packet` and `release` say of the driver, and of the calls that its pass made.
 use Rattle.std.specs.Prelude.{ℕ, ◌≡◌, ◌⊎◌, ⊤, List, [], ◌∷◌, ◌++◌}
 use Rattle.nic_device.specs.DmaArena.Numbers.{Numbers}
-use Rattle.nic_device.specs.State.{new_state}
+use Rattle.nic_device.specs.State.{State}
 use Rattle.device_lock.specs.History.{calls_of}
 use Rattle.device_lock.specs.declared.alone.Watched.{Watched}
 use Rattle.device_lock.specs.declared.entry.Call.{Call}
@@ -58,30 +58,30 @@ pub record IsTold (q : AtPort) (size frame : ℕ) (old : List Call) (a : Numbers
   pub started : HasStarted q size frame old a m.made m.driver
   pub since : AllFollow m later
 
--- a legal history of a new device that leaves the queue alone, in which the pass has made just the calls of the last
+-- a legal history of a sound device that leaves the queue alone, in which the pass has made just the calls of the last
 -- moment
-pub record IsToldOf (w : Watched) (fifo : ℕ) (h : List Entry) (q : AtPort) (size frame : ℕ) (old : List Call)
+pub record IsToldOf (w : Watched) (origin : State) (h : List Entry) (q : AtPort) (size frame : ℕ) (old : List Call)
     (a : Numbers) (m : Moment) (later : List Moment) : Type 0 where
-  pub along : IsAlong w fifo h
+  pub along : IsAlong w origin h
   pub told : IsTold q size frame old a m later
-  pub begins : BeginsWell w fifo h q size frame old a m.made told.started.0 told.started.2
+  pub begins : BeginsWell w origin h q size frame old a m.made told.started.0 told.started.2
   pub made : calls_of w.pass h ≡ (last m later).made
 
 -- what the driver handed out is a prefix of what was delivered
 abbrev pub HandedIsPrefix : Type 0
 HandedIsPrefix =
-    (w : Watched) (fifo : ℕ) (h : List Entry) (q : AtPort) (size frame : ℕ) (old : List Call) (a : Numbers) (m : Moment)
-    (later : List Moment) → IsToldOf w fifo h q size frame old a m later →
-    receive.IsPrefixOf (handed_of (last m later).driver.rings) (delivered w.queue (new_state w.vfs fifo) h)
+    (w : Watched) (origin : State) (h : List Entry) (q : AtPort) (size frame : ℕ) (old : List Call) (a : Numbers)
+    (m : Moment) (later : List Moment) → IsToldOf w origin h q size frame old a m later →
+    receive.IsPrefixOf (handed_of (last m later).driver.rings) (delivered w.queue origin h)
 
 -- what was sent is a prefix of what the driver accepted, and it is all of that where no packet is outstanding, as where
 -- `reap` answers so
 
 abbrev pub SentIsPrefix : Type 0
 SentIsPrefix =
-    (w : Watched) (fifo : ℕ) (h : List Entry) (q : AtPort) (size frame : ℕ) (old : List Call) (a : Numbers) (m : Moment)
-    (later : List Moment) → IsToldOf w fifo h q size frame old a m later →
-    transmit.IsPrefixOf (sent_since w.queue (new_state w.vfs fifo) [] h)
+    (w : Watched) (origin : State) (h : List Entry) (q : AtPort) (size frame : ℕ) (old : List Call) (a : Numbers)
+    (m : Moment) (later : List Moment) → IsToldOf w origin h q size frame old a m later →
+    transmit.IsPrefixOf (sent_since w.queue origin [] h)
     (bytes_of (accepted_of (last m later).driver.rings))
 
 abbrev pub HasNoneOut : Rings → Type 0
@@ -90,9 +90,10 @@ HasNoneOut (Down h) = ⊥
 
 abbrev pub IdleIsAllSent : Type 0
 IdleIsAllSent =
-    (w : Watched) (fifo : ℕ) (h : List Entry) (q : AtPort) (size frame : ℕ) (old : List Call) (a : Numbers) (m : Moment)
-    (later : List Moment) → IsToldOf w fifo h q size frame old a m later → HasNoneOut (last m later).driver.rings →
-    bytes_of (accepted_of (last m later).driver.rings) ≡ sent_since w.queue (new_state w.vfs fifo) [] h
+    (w : Watched) (origin : State) (h : List Entry) (q : AtPort) (size frame : ℕ) (old : List Call) (a : Numbers)
+    (m : Moment) (later : List Moment) → IsToldOf w origin h q size frame old a m later →
+    HasNoneOut (last m later).driver.rings →
+    bytes_of (accepted_of (last m later).driver.rings) ≡ sent_since w.queue origin [] h
 
 -- a call of `rx` answered none, or one of `rx_burst` 0 where it was asked for some, as `none` in its clause `received`
 -- tells
@@ -100,27 +101,27 @@ abbrev pub LooksInVain : Moment → Moment → Type 0
 LooksInVain m n =
     WhereUp m.driver.rings n.driver.rings (λ r s. receiving.LooksInVain m.made r.receive n.made s.receive)
 
--- in a legal history of a new device that leaves the queue alone, such a call comes after the last moment
-pub record IsToldToLook (w : Watched) (fifo : ℕ) (h : List Entry) (q : AtPort) (size frame : ℕ) (old : List Call)
+-- in a legal history of a sound device that leaves the queue alone, such a call comes after the last moment
+pub record IsToldToLook (w : Watched) (origin : State) (h : List Entry) (q : AtPort) (size frame : ℕ) (old : List Call)
     (a : Numbers) (m : Moment) (later : List Moment) (n : Moment) : Type 0 where
-  pub along : IsAlong w fifo h
+  pub along : IsAlong w origin h
   pub told : IsTold q size frame old a m later
-  pub begins : BeginsWell w fifo h q size frame old a m.made told.started.0 told.started.2
+  pub begins : BeginsWell w origin h q size frame old a m.made told.started.0 told.started.2
   pub looks : LooksInVain (last m later) n
   pub look : EndsAt w.pass h n.made
 
 -- what the driver had handed out is all that was delivered before the entry of the call's last look
 abbrev pub NoneIsAllBefore : Type 0
 NoneIsAllBefore =
-    (w : Watched) (fifo : ℕ) (h : List Entry) (q : AtPort) (size frame : ℕ) (old : List Call) (a : Numbers) (m : Moment)
-    (later : List Moment) (n : Moment) (x : IsToldToLook w fifo h q size frame old a m later n) →
-    handed_of (last m later).driver.rings ≡ delivered w.queue (new_state w.vfs fifo) x.look.before
+    (w : Watched) (origin : State) (h : List Entry) (q : AtPort) (size frame : ℕ) (old : List Call) (a : Numbers)
+    (m : Moment) (later : List Moment) (n : Moment) (x : IsToldToLook w origin h q size frame old a m later n) →
+    handed_of (last m later).driver.rings ≡ delivered w.queue origin x.look.before
 
 -- and it is all that was delivered before the first event of that call's own, harmless calls ahead of it included
 abbrev pub NoneIsAllAtFirst : Type 0
 NoneIsAllAtFirst =
-    (w : Watched) (fifo : ℕ) (h : List Entry) (q : AtPort) (size frame : ℕ) (old : List Call) (a : Numbers) (m : Moment)
-    (later : List Moment) (n : Moment) (x : IsToldToLook w fifo h q size frame old a m later n)
+    (w : Watched) (origin : State) (h : List Entry) (q : AtPort) (size frame : ℕ) (old : List Call) (a : Numbers)
+    (m : Moment) (later : List Moment) (n : Moment) (x : IsToldToLook w origin h q size frame old a m later n)
     (before more : List Entry) → before ++ more ≡ x.look.before →
     AddsHarmless (last m later).made (calls_of w.pass before) →
-    handed_of (last m later).driver.rings ≡ delivered w.queue (new_state w.vfs fifo) before
+    handed_of (last m later).driver.rings ≡ delivered w.queue origin before

@@ -1,13 +1,12 @@
--- What the driver handed out, and what a history from a new device on delivered.
+-- What the driver handed out, and what a history from any sound device on delivered.
 use Rattle.std.proofs.Common.{◌≡◌, ℕ, Bool, true, false, List, [], ◌∷◌, ◌++◌, Option, None, length, cond, refl, sym, ap, ◌∙◌, subst, append_assoc, arith}
 use Rattle.std.specs.Prelude.{IsTrue}
 use Rattle.std.proofs.lemmas.Bool.{or_right}
 use Rattle.std.proofs.lemmas.List.{append-nil, length-append, nil_from_length}
-use Rattle.nic_device.specs.VfMap.declared.mode.Mode.TheVariants.{Off}
-use Rattle.nic_device.specs.State.{State, new_state}
+use Rattle.nic_device.specs.State.{State}
 use Rattle.nic_device.specs.Step.{after}
 use Rattle.nic_device.proofs.Steps.{step_leads}
-use Rattle.device_lock.specs.Alone.{lent_by, mode_through}
+use Rattle.device_lock.specs.Alone.{lent_by}
 use Rattle.device_lock.specs.History.{calls_of, leads_to}
 use Rattle.device_lock.specs.declared.alone.Watched.{Watched}
 use Rattle.device_lock.specs.declared.entry.Entry.{Entry}
@@ -16,7 +15,6 @@ use Rattle.pmd_rx.specs.Receive.{Receive, records_of}
 use Rattle.device_lock.proofs.Histories.{events_before, events_behind, leads-append, legal_behind}
 use Rattle.history_laws.proofs.Alone.{alone_by_entries}
 use Rattle.history_laws.proofs.Sound.{histories_sound}
-use Rattle.history_laws.proofs.Modes.{mode_told}
 use Rattle.receive_laws.specs.Delivered.{IsPrefixOf, delivered, packets_if_any, pieces_in, pieces_since}
 use Rattle.receive_laws.specs.Histories.{FindsNone, ShowsNone, HandedIsPrefix, IsDriven, NoneIsAll, NoneIsAllBefore, NoneIsAllTaken}
 use Rattle.receive_laws.specs.Pieces.{Piece, pieces, packet_told, packets_of, packets_behind}
@@ -43,54 +41,49 @@ pub vfs_stays : (s : State) (h : List Entry) → (leads_to s h).vfs ≡ s.vfs
 vfs_stays s [] = refl
 vfs_stays s (e ∷ h) = vfs_stays (after s e.event) h ∙ (step_leads s e.event).stays.vfs
 
-module _ (w : Watched) (fifo : ℕ) (start rest : List Entry) (v : Receive) (marks : List Bool)
-    (d : IsDriven w fifo start rest v marks) where
-  abbrev new : State
-  new = new_state w.vfs fifo
-
+module _ (w : Watched) (origin : State) (start rest : List Entry) (v : Receive) (marks : List Bool)
+    (d : IsDriven w origin start rest v marks) where
   abbrev here : State
-  here = leads_to new start
+  here = leads_to origin start
 
   abbrev last : Receive
   last = played_by v marks (calls_of w.pass rest)
 
   led : Led w here [] v rest last
   led =
-      plays w (lent_by w.pass (start ++ rest)) (mode_through w.vfs Off start) here [] v marks rest
+      plays w (lent_by w.pass (start ++ rest)) here [] v marks rest
       (record {
-        sound = histories_sound new start d.new (events_before start rest d.events);
-        image = image_stays new start;
-        vfs = sym (vfs_stays new start);
-        mode_is = mode_told w.vfs fifo start d.new (events_before start rest d.events);
+        sound = histories_sound origin start d.sound (events_before start rest d.events);
+        vfs = d.vfs ∙ sym (vfs_stays origin start);
         agree = d.agree;
         up = d.up;
         lent = d.lent;
       })
-      (legal_behind new start rest d.legal) (events_behind start rest d.events)
-      (alone_by_entries w start rest d.alone d.begun) d.own d.spares
+      (legal_behind origin start rest d.legal) (events_behind start rest d.events)
+      (alone_by_entries w origin start rest d.alone d.begun) d.own d.spares
       (λ n is. lent_behind w.pass n start rest is)
 
-  delivered_is : delivered w.queue new (start ++ rest) ≡ packets_of (pieces_in w.queue here rest)
+  delivered_is : delivered w.queue origin (start ++ rest) ≡ packets_of (pieces_in w.queue here rest)
   delivered_is =
-      ap packets_if_any (since-append w.queue new None start rest
+      ap packets_if_any (since-append w.queue origin None start rest
       ∙ ap (λ so_far. pieces_since w.queue here so_far rest) d.on ∙ led.since [])
 
-  prefix : IsPrefixOf last.handed (delivered w.queue new (start ++ rest))
+  prefix : IsPrefixOf last.handed (delivered w.queue origin (start ++ rest))
   prefix =
       subst (IsPrefixOf last.handed) (sym delivered_is)
       (handed_first w.queue (leads_to here rest) (pieces_in w.queue here rest) last led.agree)
 
-  all : FindsNone (leads_to new (start ++ rest)) last → last.handed ≡ delivered w.queue new (start ++ rest)
+  all : FindsNone (leads_to origin (start ++ rest)) last → last.handed ≡ delivered w.queue origin (start ++ rest)
   all finds =
       sym (drained w.queue (leads_to here rest) (pieces_in w.queue here rest) last led.agree
-      (subst (λ s. FindsNone s last) (leads-append new start rest) finds))
+      (subst (λ s. FindsNone s last) (leads-append origin start rest) finds))
       ∙ sym delivered_is
 
-  taken : ShowsNone (leads_to new (start ++ rest)) last
-      → last.handed ++ records_of last.whole ≡ delivered w.queue new (start ++ rest)
+  taken : ShowsNone (leads_to origin (start ++ rest)) last
+      → last.handed ++ records_of last.whole ≡ delivered w.queue origin (start ++ rest)
   taken shows =
       sym (all_taken w.queue (leads_to here rest) (pieces_in w.queue here rest) last led.agree
-      (subst (λ s. ShowsNone s last) (leads-append new start rest) shows))
+      (subst (λ s. ShowsNone s last) (leads-append origin start rest) shows))
       ∙ sym delivered_is
 
 pub handed_is_prefix : HandedIsPrefix
@@ -138,18 +131,18 @@ between hs ds all (xs, is) (ys, then) same =
     sym (append-nil hs) ∙ ap (λ (ks : List Kept). hs ++ ks) (sym none) ∙ is
 
 pub none_is_all_before : NoneIsAllBefore
-none_is_all_before w fifo start before rest v early marks d e finds same =
-    let here = leads_to (new_state w.vfs fifo) start in
+none_is_all_before w origin start before rest v early marks d e finds same =
+    let here = leads_to origin start in
     let whole : pieces_in w.queue here (before ++ rest)
     ≡ pieces_in w.queue here before ++ pieces_in w.queue (leads_to here before) rest =
     pieces-append w.queue here before rest in
     between (played_by v early (calls_of w.pass before)).handed
-    (delivered w.queue (new_state w.vfs fifo) (start ++ before))
-    (delivered w.queue (new_state w.vfs fifo) (start ++ (before ++ rest)))
-    (prefix w fifo start before v early d)
-    (subst (λ (ks : List Kept). IsPrefixOf ks (delivered w.queue (new_state w.vfs fifo) (start ++ (before ++ rest))))
-    (sym (delivered_is w fifo start before v early d))
+    (delivered w.queue origin (start ++ before))
+    (delivered w.queue origin (start ++ (before ++ rest)))
+    (prefix w origin start before v early d)
+    (subst (λ (ks : List Kept). IsPrefixOf ks (delivered w.queue origin (start ++ (before ++ rest))))
+    (sym (delivered_is w origin start before v early d))
     (subst (IsPrefixOf (packets_of (pieces_in w.queue here before)))
-    (sym (delivered_is w fifo start (before ++ rest) v marks e ∙ ap (λ (ps : List Piece). packets_of ps) whole))
+    (sym (delivered_is w origin start (before ++ rest) v marks e ∙ ap (λ (ps : List Piece). packets_of ps) whole))
     (grows [] (pieces_in w.queue here before) (pieces_in w.queue (leads_to here before) rest))))
-    (sym (all w fifo start (before ++ rest) v marks e finds) ∙ same)
+    (sym (all w origin start (before ++ rest) v marks e finds) ∙ same)

@@ -4,8 +4,6 @@ use Rattle.std.specs.Prelude.{◌==◌, IsTrue, IsFalse}
 use Rattle.std.proofs.lemmas.Bool.{and_from, eq-eqb, lt-ltb}
 use Rattle.std.proofs.lemmas.List.{append-nil}
 use Rattle.nic_device.specs.DmaArena.Block.{Block}
-use Rattle.nic_device.specs.EepromImage.Image.{blank}
-use Rattle.nic_device.specs.VfMap.declared.mode.Mode.{Mode}
 use Rattle.nic_device.specs.RegisterFile.Pools.{mode_in}
 use Rattle.nic_device.specs.Sound.{IsEvent, IsSound}
 use Rattle.nic_device.specs.State.{State}
@@ -15,14 +13,13 @@ use Rattle.nic_device.specs.declared.event.Event.TheVariants as event
 use Rattle.nic_device.specs.declared.event.Reply.{Reply}
 use Rattle.nic_device.specs.declared.event.Reply.TheVariants as reply
 use Rattle.nic_device.proofs.Steps.{step_leads, keeps_sound}
-use Rattle.device_lock.specs.Alone.{Blocks, EntryLeavesAlone, lends, lent_in, mode_after}
+use Rattle.device_lock.specs.Alone.{Blocks, EntryLeavesAlone, lends, lent_in}
 use Rattle.device_lock.specs.History.{call_in}
 use Rattle.device_lock.specs.declared.alone.Watched.{Watched}
 use Rattle.device_lock.specs.declared.entry.Entry.{Entry}
 use Rattle.pmd_rx.specs.PmdSeam.Events.{is_step}
 use Rattle.pmd_rx.specs.Plays.{OwnCall, after_call}
 use Rattle.pmd_rx.specs.Receive.{Receive, IsOwn, drive}
-use Rattle.history_laws.proofs.Modes.{event_told}
 use Rattle.receive_laws.specs.Histories.{SparesReceive}
 use Rattle.receive_laws.specs.Joint.{Agree}
 use Rattle.receive_laws.specs.Pieces.{Piece, pieces}
@@ -34,13 +31,11 @@ use Rattle.receive_laws.specs.Up.{IsUp}
 use Rattle.receive_laws.proofs.Own.{own_keeps}
 use Rattle.receive_laws.proofs.Up.{entry_stays_up, left_up, own_stays_up}
 
--- what holds between two entries: the device is sound, its image blank, the mode is the one that was told, the two
--- agree, the side is up, and the driver's blocks are among these
-pub record Meets (w : Watched) (mine : Blocks) (mode : Mode) (s : State) (out : List Piece) (v : Receive) : Type 0 where
+-- what holds between two entries: the device is sound, the two agree, the side is up, and the driver's blocks are among
+-- these
+pub record Meets (w : Watched) (mine : Blocks) (s : State) (out : List Piece) (v : Receive) : Type 0 where
   pub sound : IsSound s
-  pub image : s.image ≡ blank
   pub vfs : w.vfs ≡ s.vfs
-  pub mode_is : mode ≡ mode_in s.registers
   pub agree : Agree w.queue s out v
   pub up : IsUp w.queue s
   pub lent : Each v (λ b. IsTrue (mine b))
@@ -60,25 +55,23 @@ lends_mine pass mine v own (event.Lend b) reply.Done same may all =
     (and_from _ _ (eq-eqb own pass same) (eq-eqb b.number b.number refl)))
 lends_mine pass mine v own e r same may all = tt
 
-module _ (w : Watched) (mine : Blocks) (mode : Mode) (s : State) (out : List Piece) (v : Receive) (e : Entry)
-    (m : Meets w mine mode s out v) (legal : e.reply ≡ reply_to s e.event) (made : IsEvent e.event)
-    (alone : EntryLeavesAlone w mine mode e) where
+module _ (w : Watched) (mine : Blocks) (s : State) (out : List Piece) (v : Receive) (e : Entry)
+    (m : Meets w mine s out v) (legal : e.reply ≡ reply_to s e.event) (made : IsEvent e.event)
+    (alone : EntryLeavesAlone w mine (mode_in s.registers) e) where
   abbrev t : State
   t = after s e.event
 
-  met : IsMetBy w mode s e
-  met = record { sound = m.sound; vfs = m.vfs; mode_is = m.mode_is; reply = legal; event = made }
+  met : IsMetBy w (mode_in s.registers) s e
+  met = record { sound = m.sound; vfs = m.vfs; mode_is = refl; reply = legal; event = made }
 
   goes_to : (u : Receive) → Agree w.queue t (out ++ pieces w.queue s e.event) u → IsUp w.queue t
       → Each u (λ b. IsTrue (mine b))
-      → Meets w mine (mode_after w.vfs mode e.event) t (out ++ pieces w.queue s e.event) u
+      → Meets w mine t (out ++ pieces w.queue s e.event) u
   goes_to u agree up lent =
       let stays = (step_leads s e.event).stays in
       record {
         sound = keeps_sound s m.sound e.event made;
-        image = stays.image ∙ m.image;
         vfs = m.vfs ∙ sym stays.vfs;
-        mode_is = (λ k. mode_after (m.vfs k) (m.mode_is k) e.event) ∙ event_told s m.sound m.image e.event;
         agree = agree;
         up = up;
         lent = lent;
@@ -87,7 +80,7 @@ module _ (w : Watched) (mine : Blocks) (mode : Mode) (s : State) (out : List Pie
   -- a call of the driver's own
   own_entry : e.pass ≡ w.pass → IsOwn v e.event
       → ((n : ℕ) → IsTrue (lent_in w.pass e n) → IsTrue (mine n))
-      → Meets w mine (mode_after w.vfs mode e.event) t (out ++ pieces w.queue s e.event)
+      → Meets w mine t (out ++ pieces w.queue s e.event)
       (after_call v true (call_in e))
   own_entry same own covers =
       goes_to (after_call v true (call_in e))
@@ -99,31 +92,31 @@ module _ (w : Watched) (mine : Blocks) (mode : Mode) (s : State) (out : List Pie
 
   spared : SparesReceive w.queue v s e → OwnReportsSpare w.queue v s
       → Agree w.queue t (out ++ pieces w.queue s e.event) v
-  spared (inl step) reports = steps_keep w mine mode s out v e met m.agree m.lent reports alone step
+  spared (inl step) reports = steps_keep w mine (mode_in s.registers) s out v e met m.agree m.lent reports alone step
   spared (inr free) reports =
       subst (λ xs. Agree w.queue t (out ++ xs) v) (sym (none_written w.queue s e.event free.0))
       (subst (λ xs. Agree w.queue t xs v) (sym (append-nil out)) (leaving_keeps w.queue s t out v free.1 m.agree))
 
   spared_up : SparesReceive w.queue v s e → IsUp w.queue t
-  spared_up (inl step) = entry_stays_up w mine mode s out v e met m.agree alone (inr step) m.up
+  spared_up (inl step) = entry_stays_up w mine (mode_in s.registers) s out v e met m.agree alone (inr step) m.up
   spared_up (inr free) = left_up w.queue s t free.1.receive m.up
 
   -- another call of the pass
   unmarked_entry : SparesReceive w.queue v s e → OwnReportsSpare w.queue v s
-      → Meets w mine (mode_after w.vfs mode e.event) t (out ++ pieces w.queue s e.event) v
+      → Meets w mine t (out ++ pieces w.queue s e.event) v
   unmarked_entry spares reports = goes_to v (spared spares reports) (spared_up spares) m.lent
 
   -- an entry of another pass
   pub foreign_entry : e.pass ≢ w.pass → OwnReportsSpare w.queue v s
-      → Meets w mine (mode_after w.vfs mode e.event) t (out ++ pieces w.queue s e.event) v
+      → Meets w mine t (out ++ pieces w.queue s e.event) v
   foreign_entry other reports =
-      goes_to v (foreign_keeps w mine mode s out v e met m.agree m.lent reports alone other)
-      (entry_stays_up w mine mode s out v e met m.agree alone (inl other) m.up) m.lent
+      goes_to v (foreign_keeps w mine (mode_in s.registers) s out v e met m.agree m.lent reports alone other)
+      (entry_stays_up w mine (mode_in s.registers) s out v e met m.agree alone (inl other) m.up) m.lent
 
   -- by its mark
   pub marked_entry : (b : Bool) → e.pass ≡ w.pass → OwnCall b v (call_in e)
       → (IsFalse b → SparesReceive w.queue v s e) → OwnReportsSpare w.queue v s
       → ((n : ℕ) → IsTrue (lent_in w.pass e n) → IsTrue (mine n))
-      → Meets w mine (mode_after w.vfs mode e.event) t (out ++ pieces w.queue s e.event) (after_call v b (call_in e))
+      → Meets w mine t (out ++ pieces w.queue s e.event) (after_call v b (call_in e))
   marked_entry true same own spares reports covers = own_entry same own covers
   marked_entry false same own spares reports covers = unmarked_entry (spares refl) reports

@@ -3,12 +3,11 @@ use Rattle.std.proofs.Common.{◌≡◌, ℕ, Bool, true, false, inl, inr, List,
 use Rattle.std.specs.Prelude.{◌==◌, IsTrue}
 use Rattle.std.proofs.lemmas.Bool.{cases_Bool, eqb-true, eqb-false, or_left, or_right}
 use Rattle.std.proofs.lemmas.List.{append-nil}
-use Rattle.nic_device.specs.VfMap.declared.mode.Mode.{Mode}
 use Rattle.nic_device.specs.RegisterFile.Queue.{is_on}
 use Rattle.nic_device.specs.DmaRing.declared.dir.Dir.TheVariants.{Rx}
 use Rattle.nic_device.specs.State.{State}
 use Rattle.nic_device.specs.Step.{after}
-use Rattle.device_lock.specs.Alone.{Blocks, lent_by, mode_after}
+use Rattle.device_lock.specs.Alone.{Blocks, lent_by}
 use Rattle.device_lock.specs.History.{IsLegal, AreEvents, calls_of, call_in, leads_to}
 use Rattle.device_lock.specs.declared.alone.Watched.{Watched}
 use Rattle.device_lock.specs.declared.entry.Entry.{Entry}
@@ -58,69 +57,69 @@ ended w s out v j = record {
 }
 
 module _ (w : Watched) (mine : Blocks) where
-  abbrev Plays : Mode → State → List Piece → Receive → List Bool → List Entry → Type 0
-  Plays mode s out v marks h =
-      Meets w mine mode s out v → IsLegal s h → AreEvents h → AllAlone w mine mode h
+  abbrev Plays : State → List Piece → Receive → List Bool → List Entry → Type 0
+  Plays s out v marks h =
+      Meets w mine s out v → IsLegal s h → AreEvents h → AllAlone w mine s h
       → AllOwn v marks (calls_of w.pass h) → AllSpare w s v marks h
       → ((n : ℕ) → IsTrue (lent_by w.pass h n) → IsTrue (mine n))
       → Led w s out v h (played_by v marks (calls_of w.pass h))
 
-  plays_other : (mode : Mode) (s : State) (out : List Piece) (v : Receive) (marks : List Bool) (e : Entry)
+  plays_other : (s : State) (out : List Piece) (v : Receive) (marks : List Bool) (e : Entry)
       (h : List Entry) → (e.pass == w.pass) ≡ false
-      → Plays (mode_after w.vfs mode e.event) (after s e.event) (out ++ pieces w.queue s e.event) v marks h
-      → Plays mode s out v marks (e ∷ h)
-  plays_other mode s out v marks e h other rest m legal events alone own spare covers =
+      → Plays (after s e.event) (out ++ pieces w.queue s e.event) v marks h
+      → Plays s out v marks (e ∷ h)
+  plays_other s out v marks e h other rest m legal events alone own spare covers =
       let same = calls_other w.pass e h other in
       let spared : AllSpare w (after s e.event) v marks h =
       subst (λ b. AllSpare w (after s e.event) (after_call v (mark_of b marks) (call_in e)) (marks_after b marks) h)
       other spare.1 in
-      let next = foreign_entry w mine mode s out v e m legal.0 events.0 alone.0 (eqb-false e.pass w.pass other)
+      let next = foreign_entry w mine s out v e m legal.0 events.0 alone.0 (eqb-false e.pass w.pass other)
       spare.0.reports in
       subst (λ calls. Led w s out v (e ∷ h) (played_by v marks calls)) (sym same)
       (on_after w s out v v e h _ m.up
       (rest next legal.1 events.1 alone.1 (subst (AllOwn v marks) same own) spared
       (λ n is. covers n (or_right _ _ is))))
 
-  plays_own : (mode : Mode) (s : State) (out : List Piece) (v : Receive) (b : Bool) (marks : List Bool) (e : Entry)
+  plays_own : (s : State) (out : List Piece) (v : Receive) (b : Bool) (marks : List Bool) (e : Entry)
       (h : List Entry) → (e.pass == w.pass) ≡ true
-      → Plays (mode_after w.vfs mode e.event) (after s e.event) (out ++ pieces w.queue s e.event)
+      → Plays (after s e.event) (out ++ pieces w.queue s e.event)
       (after_call v b (call_in e)) marks h
-      → Plays mode s out v (b ∷ marks) (e ∷ h)
-  plays_own mode s out v b marks e h is rest m legal events alone own spare covers =
+      → Plays s out v (b ∷ marks) (e ∷ h)
+  plays_own s out v b marks e h is rest m legal events alone own spare covers =
       let same = calls_own w.pass e h is in
       let pass : e.pass ≡ w.pass = eqb-true e.pass w.pass is in
       let here : AllOwn v (b ∷ marks) (call_in e ∷ calls_of w.pass h) = subst (AllOwn v (b ∷ marks)) same own in
       let spared : AllSpare w (after s e.event) (after_call v b (call_in e)) marks h =
       subst (λ t. AllSpare w (after s e.event) (after_call v (mark_of t (b ∷ marks)) (call_in e))
       (marks_after t (b ∷ marks)) h) is spare.1 in
-      let next = marked_entry w mine mode s out v e m legal.0 events.0 alone.0 b pass here.0 (spare.0.unmarked pass)
+      let next = marked_entry w mine s out v e m legal.0 events.0 alone.0 b pass here.0 (spare.0.unmarked pass)
       spare.0.reports (λ n own_lend. covers n (or_left _ _ own_lend)) in
       subst (λ calls. Led w s out v (e ∷ h) (played_by v (b ∷ marks) calls)) (sym same)
       (on_after w s out v (after_call v b (call_in e)) e h _ m.up
       (rest next legal.1 events.1 alone.1 here.1 spared (λ n later. covers n (or_right _ _ later))))
 
-  pub plays : (mode : Mode) (s : State) (out : List Piece) (v : Receive) (marks : List Bool) (h : List Entry)
-      → Plays mode s out v marks h
-  plays mode s out v [] [] m legal events alone own spare covers = ended w s out v m.agree
-  plays mode s out v (b ∷ marks) [] m legal events alone own spare covers = absurd own
-  plays mode s out v [] (e ∷ h) m legal events alone own spare covers =
+  pub plays : (s : State) (out : List Piece) (v : Receive) (marks : List Bool) (h : List Entry)
+      → Plays s out v marks h
+  plays s out v [] [] m legal events alone own spare covers = ended w s out v m.agree
+  plays s out v (b ∷ marks) [] m legal events alone own spare covers = absurd own
+  plays s out v [] (e ∷ h) m legal events alone own spare covers =
       elim (cases_Bool (e.pass == w.pass)) as (λ _. Led w s out v (e ∷ h) (played_by v [] (calls_of w.pass (e ∷ h)))) [
         | inl is ↦ absurd (subst (AllOwn v []) (calls_own w.pass e h is) own)
         | inr other ↦
-            plays_other mode s out v [] e h other
-            (plays (mode_after w.vfs mode e.event) (after s e.event) (out ++ pieces w.queue s e.event) v [] h)
+            plays_other s out v [] e h other
+            (plays (after s e.event) (out ++ pieces w.queue s e.event) v [] h)
             m legal events alone own spare covers
       ]
-  plays mode s out v (b ∷ marks) (e ∷ h) m legal events alone own spare covers =
+  plays s out v (b ∷ marks) (e ∷ h) m legal events alone own spare covers =
       elim (cases_Bool (e.pass == w.pass)) as
       (λ _. Led w s out v (e ∷ h) (played_by v (b ∷ marks) (calls_of w.pass (e ∷ h)))) [
         | inl is ↦
-            plays_own mode s out v b marks e h is
-            (plays (mode_after w.vfs mode e.event) (after s e.event) (out ++ pieces w.queue s e.event)
+            plays_own s out v b marks e h is
+            (plays (after s e.event) (out ++ pieces w.queue s e.event)
             (after_call v b (call_in e)) marks h)
             m legal events alone own spare covers
         | inr other ↦
-            plays_other mode s out v (b ∷ marks) e h other
-            (plays (mode_after w.vfs mode e.event) (after s e.event) (out ++ pieces w.queue s e.event) v (b ∷ marks) h)
+            plays_other s out v (b ∷ marks) e h other
+            (plays (after s e.event) (out ++ pieces w.queue s e.event) v (b ∷ marks) h)
             m legal events alone own spare covers
       ]

@@ -3,11 +3,11 @@ use Rattle.std.specs.Prelude.{ℕ, ◌≡◌, ◌<◌, ◌==◌, ◌⊎◌, Bool
 use Rattle.nic_device.specs.DmaRing.Descriptor.{second_half}
 use Rattle.nic_device.specs.DmaRing.Receive.{is_done}
 use Rattle.nic_device.specs.Sound.{IsSound}
-use Rattle.nic_device.specs.State.{State, new_state}
+use Rattle.nic_device.specs.State.{State}
 use Rattle.nic_device.specs.Step.{after, reply_to}
 use Rattle.nic_device.specs.declared.event.Event.TheVariants as event
 use Rattle.nic_device.specs.declared.event.Reply.TheVariants.{Bytes}
-use Rattle.device_lock.specs.Alone.{LeavesAlone, has_begun, lent_by}
+use Rattle.device_lock.specs.Alone.{has_begun, lent_by}
 use Rattle.device_lock.specs.History.{IsLegal, AreEvents, calls_of, call_in, leads_to}
 use Rattle.device_lock.specs.declared.alone.Watched.{Watched}
 use Rattle.device_lock.specs.declared.entry.Entry.{Entry}
@@ -15,6 +15,7 @@ use Rattle.pmd_rx.specs.PmdSeam.Events.{is_step}
 use Rattle.pmd_rx.specs.Plays.{AllOwn, after_call, played_by}
 use Rattle.pmd_rx.specs.Receive.{Receive, descriptor_at, records_of}
 use Rattle.pmd_rx.specs.declared.ring.Stage.TheVariants.{Looks}
+use Rattle.history_laws.specs.Alone.{LeavesAloneFrom}
 use Rattle.receive_laws.specs.Delivered.{IsPrefixOf, delivered, pieces_since}
 use Rattle.receive_laws.specs.Joint.{Agree}
 use Rattle.receive_laws.specs.Steps.{Each, Leaves, OwnReportsSpare}
@@ -49,29 +50,31 @@ AllSpare w s v marks (e ∷ es) =
     × AllSpare w (after s e.event) (after_call v (mark_of (e.pass == w.pass) marks) (call_in e))
     (marks_after (e.pass == w.pass) marks) es
 
--- a history of a new device that leaves the queue alone, with the driver's pass. Its first entries end as the queue's
--- receive side has gone on and nothing is written yet; there it is up, and the device and the driver agree. Of the
--- others those of the pass are the driver's, as far as they are marked
-pub record IsDriven (w : Watched) (fifo : ℕ) (start rest : List Entry) (v : Receive) (marks : List Bool) : Type 0 where
-  pub new : IsSound (new_state w.vfs fifo)
+-- a history of a sound device, whichever its state at first, that leaves the queue alone, with the driver's pass. Its
+-- first entries end as the queue's receive side has gone on and nothing is written yet; there it is up, and the device
+-- and the driver agree. Of the others those of the pass are the driver's, as far as they are marked
+pub record IsDriven (w : Watched) (origin : State) (start rest : List Entry) (v : Receive) (marks : List Bool) :
+    Type 0 where
+  pub sound : IsSound origin
+  pub vfs : w.vfs ≡ origin.vfs
   pub events : AreEvents (start ++ rest)
-  pub legal : IsLegal (new_state w.vfs fifo) (start ++ rest)
-  pub alone : LeavesAlone w (start ++ rest)
+  pub legal : IsLegal origin (start ++ rest)
+  pub alone : LeavesAloneFrom w origin (start ++ rest)
   pub begun : IsTrue (has_begun w.pass start)
-  pub on : pieces_since w.queue (new_state w.vfs fifo) None start ≡ Some []
-  pub up : IsUp w.queue (leads_to (new_state w.vfs fifo) start)
-  pub agree : Agree w.queue (leads_to (new_state w.vfs fifo) start) [] v
+  pub on : pieces_since w.queue origin None start ≡ Some []
+  pub up : IsUp w.queue (leads_to origin start)
+  pub agree : Agree w.queue (leads_to origin start) [] v
   pub lent : Each v (λ b. IsTrue (lent_by w.pass (start ++ rest) b))
   pub own : AllOwn v marks (calls_of w.pass rest)
-  pub spares : AllSpare w (leads_to (new_state w.vfs fifo) start) v marks rest
+  pub spares : AllSpare w (leads_to origin start) v marks rest
 
 -- what the driver handed out is a prefix of what the history delivered, since the side last went on
 abbrev pub HandedIsPrefix : Type 0
 HandedIsPrefix =
-    (w : Watched) (fifo : ℕ) (start rest : List Entry) (v : Receive) (marks : List Bool) →
-    IsDriven w fifo start rest v marks →
+    (w : Watched) (origin : State) (start rest : List Entry) (v : Receive) (marks : List Bool) →
+    IsDriven w origin start rest v marks →
     IsPrefixOf (played_by v marks (calls_of w.pass rest)).handed
-    (delivered w.queue (new_state w.vfs fifo) (start ++ rest))
+    (delivered w.queue origin (start ++ rest))
 
 -- a look at the slot behind those that a driver saw, from a state on, would find it not done
 pub record ShowsNone (s : State) (v : Receive) : Type 0 where
@@ -85,11 +88,11 @@ pub record ShowsNone (s : State) (v : Receive) : Type 0 where
 -- whole and handed out as the tail moves on
 abbrev pub NoneIsAllTaken : Type 0
 NoneIsAllTaken =
-    (w : Watched) (fifo : ℕ) (start rest : List Entry) (v : Receive) (marks : List Bool) →
-    IsDriven w fifo start rest v marks →
-    ShowsNone (leads_to (new_state w.vfs fifo) (start ++ rest)) (played_by v marks (calls_of w.pass rest)) →
+    (w : Watched) (origin : State) (start rest : List Entry) (v : Receive) (marks : List Bool) →
+    IsDriven w origin start rest v marks →
+    ShowsNone (leads_to origin (start ++ rest)) (played_by v marks (calls_of w.pass rest)) →
     (played_by v marks (calls_of w.pass rest)).handed ++ records_of (played_by v marks (calls_of w.pass rest)).whole
-    ≡ delivered w.queue (new_state w.vfs fifo) (start ++ rest)
+    ≡ delivered w.queue origin (start ++ rest)
 
 -- it finds none, and no packet that is whole waits for the tail
 pub record FindsNone (s : State) (v : Receive) : Type 0 where
@@ -99,18 +102,18 @@ pub record FindsNone (s : State) (v : Receive) : Type 0 where
 -- then all that was delivered was handed out
 abbrev pub NoneIsAll : Type 0
 NoneIsAll =
-    (w : Watched) (fifo : ℕ) (start rest : List Entry) (v : Receive) (marks : List Bool) →
-    IsDriven w fifo start rest v marks →
-    FindsNone (leads_to (new_state w.vfs fifo) (start ++ rest)) (played_by v marks (calls_of w.pass rest)) →
-    (played_by v marks (calls_of w.pass rest)).handed ≡ delivered w.queue (new_state w.vfs fifo) (start ++ rest)
+    (w : Watched) (origin : State) (start rest : List Entry) (v : Receive) (marks : List Bool) →
+    IsDriven w origin start rest v marks →
+    FindsNone (leads_to origin (start ++ rest)) (played_by v marks (calls_of w.pass rest)) →
+    (played_by v marks (calls_of w.pass rest)).handed ≡ delivered w.queue origin (start ++ rest)
 
 -- and so it was at an earlier place of the history, where nothing was handed out since
 abbrev pub NoneIsAllBefore : Type 0
 NoneIsAllBefore =
-    (w : Watched) (fifo : ℕ) (start before rest : List Entry) (v : Receive) (early marks : List Bool) →
-    IsDriven w fifo start before v early → IsDriven w fifo start (before ++ rest) v marks →
-    FindsNone (leads_to (new_state w.vfs fifo) (start ++ (before ++ rest)))
+    (w : Watched) (origin : State) (start before rest : List Entry) (v : Receive) (early marks : List Bool) →
+    IsDriven w origin start before v early → IsDriven w origin start (before ++ rest) v marks →
+    FindsNone (leads_to origin (start ++ (before ++ rest)))
     (played_by v marks (calls_of w.pass (before ++ rest))) →
     (played_by v marks (calls_of w.pass (before ++ rest))).handed
     ≡ (played_by v early (calls_of w.pass before)).handed →
-    (played_by v early (calls_of w.pass before)).handed ≡ delivered w.queue (new_state w.vfs fifo) (start ++ before)
+    (played_by v early (calls_of w.pass before)).handed ≡ delivered w.queue origin (start ++ before)

@@ -73,8 +73,7 @@ abbrev pub OwnReportsSpare : ℕ → Receive → State → Type 0
 OwnReportsSpare queue v s =
     (back : ℕ) → told_back (reply_to s (event.TxStep queue)) ≡ Some back → Each v (λ b. b ≢ back / 2048)
 
--- what an entry that isn't the driver's own is made on: a sound device, whose queues are parted by the mode of
--- the entries so far
+-- what an entry that isn't the driver's own is made on: a sound device, whose queues are parted by this mode
 pub record IsMetBy (w : Watched) (mode : Mode) (s : State) (e : Entry) : Type 0 where
   pub sound : IsSound s
   pub vfs : w.vfs ≡ s.vfs

@@ -64,7 +64,7 @@ pub fn foreign_entry_keeps_the_agreement()
     ensures step { DeviceStepKeeps }
 {}
 
-/// Over a history of a new device that leaves the driver's queue alone, from a place on where the two agree and the
+/// Over a history of any sound device that leaves the driver's queue alone, from a place on where the two agree and the
 /// receive side has gone on: the packets that the driver handed out are a prefix of those that the history delivered
 /// since. Where a look that comes next finds none, all of them were handed out, or are whole and handed out as the tail
 /// moves on; and all were handed out where none is whole.

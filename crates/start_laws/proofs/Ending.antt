@@ -35,16 +35,16 @@ use Rattle.start_laws.proofs.Made.{ends_some}
 use Rattle.start_laws.proofs.Settled.{IsSettled, Settles, leaving_settles, left_settles, word_settles}
 
 -- calls of one kind keep what each of them keeps
-pub all_lead : (w : Watched) (fifo : ℕ) (h : List Entry) (P : List Entry → Type 0) (Own : Call → Type 0)
-    → IsAlong w fifo h → KeptOver w fifo (lent_by w.pass h) P
-    → ((c : Call) → Own c → LeadsOver w fifo (lent_by w.pass h) c P P)
+pub all_lead : (w : Watched) (origin : State) (h : List Entry) (P : List Entry → Type 0) (Own : Call → Type 0)
+    → IsAlong w origin h → KeptOver w origin (lent_by w.pass h) P
+    → ((c : Call) → Own c → LeadsOver w origin (lent_by w.pass h) c P P)
     → (calls old : List Call) → Each Own calls → old ≢ [] → AtEntries w h old P → AtEntries w h (old ++ calls) P
-all_lead w fifo h P Own along kept leads [] old each some at =
+all_lead w origin h P Own along kept leads [] old each some at =
     subst (λ (cs : List Call). AtEntries w h cs P) (sym (append-nil old)) at
-all_lead w fifo h P Own along kept leads (c ∷ cs) old each some at =
+all_lead w origin h P Own along kept leads (c ∷ cs) old each some at =
     subst (λ (all : List Call). AtEntries w h all P) (append_assoc old (c ∷ []) cs)
-    (all_lead w fifo h P Own along kept leads cs (old ++ c ∷ []) each.1 (ends_some old [] c)
-    (entries_lead w fifo h P P old [] c along kept kept (leads c each.0) tt some at))
+    (all_lead w origin h P Own along kept leads cs (old ++ c ∷ []) each.1 (ends_some old [] c)
+    (entries_lead w origin h P P old [] c along kept kept (leads c each.0) tt some at))
 
 -- a step of the device leaves each queue alone
 

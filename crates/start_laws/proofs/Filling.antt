@@ -9,6 +9,7 @@ use Rattle.device_lock.specs.declared.entry.Call.{Call}
 use Rattle.device_lock.specs.declared.entry.Entry.{Entry}
 use Rattle.nic_device.specs.RegTable.declared.rows.RowId.{RowId}
 use Rattle.nic_device.specs.RegTable.declared.rows.RowId.TheVariants.{Rxdctl}
+use Rattle.nic_device.specs.State.{State}
 use Rattle.pmd.specs.PmdSeam.declared.fault.PmdFault.{PmdFault}
 use Rattle.pmd.specs.PmdSeam.declared.fault.PmdFault.TheVariants.{DeviceFault}
 use Rattle.pmd.specs.PmdSeam.QueueMade.{Sees, IsMade}
@@ -75,30 +76,30 @@ faults_are_early_or_filling q size frame old a new e (inr (inr x)) is =
     })
 
 pub no_fault_is_early : NoFaultIsEarly
-no_fault_is_early w q fifo h size frame old a new along at (inl x) fresh =
-    receive_is_ready w q fifo h size frame old a new x.arena x.out along at x.fails fresh
-no_fault_is_early w q fifo h size frame old a new along at (inr (inl x)) fresh =
-    transmit_is_ready w q fifo h size frame old a x.made x.ready_arena x.empty new x.arena x.out along at x.receive
+no_fault_is_early w q origin h size frame old a new along at (inl x) fresh =
+    receive_is_ready w q origin h size frame old a new x.arena x.out along at x.fails fresh
+no_fault_is_early w q origin h size frame old a new along at (inr (inl x)) fresh =
+    transmit_is_ready w q origin h size frame old a x.made x.ready_arena x.empty new x.arena x.out along at x.receive
     x.fails fresh
-no_fault_is_early w q fifo h size frame old a new along at (inr (inr x)) fresh =
-    switching_is_never_stray w q fifo h size frame old a x.ready_made x.ready_arena x.empty x.both_made x.both_arena
+no_fault_is_early w q origin h size frame old a new along at (inr (inr x)) fresh =
+    switching_is_never_stray w q origin h size frame old a x.ready_made x.ready_arena x.empty x.both_made x.both_arena
     x.sender new along at x.receive x.transmit x.fails
 
 -- just before the first read the queue is named
-first_ground : (w : Watched) (q : AtPort) (frame fifo : ℕ) (h : List Entry) (row : RowId) (on : Bool)
-    (old new : List Call) → BeforeNext w fifo h old (IsQuiet w.queue q frame) → IsMade q old new (Sees row on)
-    → BeforeLast w fifo h new (HasGround w.queue q frame)
-first_ground w q frame fifo h row on old new at (number, word, named, is, (before, added, steps)) =
-    subst (λ (calls : List Call). BeforeLast w fifo h calls (HasGround w.queue q frame)) (sym added)
+first_ground : (w : Watched) (q : AtPort) (frame : ℕ) (origin : State) (h : List Entry) (row : RowId) (on : Bool)
+    (old new : List Call) → BeforeNext w origin h old (IsQuiet w.queue q frame) → IsMade q old new (Sees row on)
+    → BeforeLast w origin h new (HasGround w.queue q frame)
+first_ground w q frame origin h row on old new at (number, word, named, is, (before, added, steps)) =
+    subst (λ (calls : List Call). BeforeLast w origin h calls (HasGround w.queue q frame)) (sym added)
     (λ done rest e all own calls.
     (at before (call_of (event.Read q.port number) (reply.Word word)) steps refl done rest e all own calls).ground)
 
 pub filling_begins_well : FillingBeginsWell
-filling_begins_well w q fifo h size frame old a new along at x done rest all calls =
+filling_begins_well w q origin h size frame old a new along at x done rest all calls =
     let quiet = x.on.receive.quiet in
-    let well = first_ground w q frame fifo h Rxdctl false old quiet.0 at quiet.1 in
-    let on = switched_sides_go_on w fifo h q size frame old a x.mid x.empty x.sender x.on along well done rest
+    let well = first_ground w q frame origin h Rxdctl false old quiet.0 at quiet.1 in
+    let on = switched_sides_go_on w origin h q size frame old a x.mid x.empty x.sender x.on along well done rest
     all calls in
-    let agree = switched_sides_agree w fifo h q size frame old a x.mid x.empty x.sender x.on along well done
+    let agree = switched_sides_agree w origin h q size frame old a x.mid x.empty x.sender x.on along well done
     rest all calls in
     (on.receives, agree.0, agree.1)

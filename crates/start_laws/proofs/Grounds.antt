@@ -4,6 +4,7 @@ use Rattle.nic_device.specs.DmaArena.Block.{zero_block}
 use Rattle.nic_device.specs.RegTable.declared.rows.RowId.{RowId}
 use Rattle.nic_device.specs.declared.event.Event.TheVariants as event
 use Rattle.nic_device.specs.declared.event.Reply.TheVariants as reply
+use Rattle.nic_device.specs.State.{State}
 use Rattle.device_lock.specs.Alone.{lent_by}
 use Rattle.device_lock.specs.Pass.{call_of}
 use Rattle.device_lock.specs.declared.alone.Watched.{Watched}
@@ -26,18 +27,18 @@ use Rattle.start_laws.proofs.Last.{RefutesNext, then_refuted}
 use Rattle.start_laws.proofs.Replies.{named_registers_reply}
 use Rattle.start_laws.proofs.DrivenAccesses.{IsDriven, IsWrite, writes_driven}
 
-module _ (w : Watched) (q : AtPort) (frame fifo : ℕ) (h : List Entry) (along : IsAlong w fifo h) where
+module _ (w : Watched) (q : AtPort) (frame : ℕ) (origin : State) (h : List Entry) (along : IsAlong w origin h) where
   abbrev Grounded : List Call → Type 0
-  Grounded calls = AtCalls w fifo h calls (HasGround w.queue q frame)
+  Grounded calls = AtCalls w origin h calls (HasGround w.queue q frame)
 
   access_grounded : (old new : List Call) (a : Access) → IsDriven a → IsMade q old new a → old ≢ [] → Grounded old
       → Grounded new
   access_grounded old new (Sees row on) driven made some at =
-      seen w q fifo h along (HasGround w.queue q frame) (HasGround w.queue q frame) row on
+      seen w q origin h along (HasGround w.queue q frame) (HasGround w.queue q frame) row on
       (ground_kept w (lent_by w.pass h) q frame) (ground_kept w (lent_by w.pass h) q frame)
       (λ number word named is s met can told g. read_ground w.queue q frame s number g) old new made some at
   access_grounded old new (Sets row word) driven made some at =
-      set w q fifo h along (HasGround w.queue q frame) (HasGround w.queue q frame) row word
+      set w q origin h along (HasGround w.queue q frame) (HasGround w.queue q frame) row word
       (ground_kept w (lent_by w.pass h) q frame) (ground_kept w (lent_by w.pass h) q frame)
       (λ number named s met can told g. write_ground w.queue q frame s row word number driven named g) old new made some
       at
@@ -53,19 +54,19 @@ module _ (w : Watched) (q : AtPort) (frame fifo : ℕ) (h : List Entry) (along :
   pub lend_grounded : (ring : ℕ) (old before : List Call) → AreSteps before → old ≢ [] → Grounded old
       → Grounded (old ++ (before ++ lending ring ∷ []))
   lend_grounded ring old before steps some at =
-      calls_lead w fifo h (HasGround w.queue q frame) (HasGround w.queue q frame) old before (lending ring) along
+      calls_lead w origin h (HasGround w.queue q frame) (HasGround w.queue q frame) old before (lending ring) along
       (ground_kept w (lent_by w.pass h) q frame) (ground_kept w (lent_by w.pass h) q frame)
       (λ s met can told g. plain_keeps w.queue q frame s (event.Lend (zero_block ring)) tt g) steps some at
 
   -- no access is stray
 
   abbrev pub NextOnGround : List Call → Type 0
-  NextOnGround old = RefutesNext w fifo h along (HasGround w.queue q frame) old
+  NextOnGround old = RefutesNext w origin h along (HasGround w.queue q frame) old
 
   pub read_never_stray : (old new : List Call) (row : RowId) → is_driven row ≡ true → NextOnGround old
-      → IsStrayRead q old new row → Never w fifo h new
+      → IsStrayRead q old new row → Never w origin h new
   read_never_stray old new row driven next (number, word, named, (before, added, steps)) =
-      subst (Never w fifo h) (sym added)
+      subst (Never w origin h) (sym added)
       (next before (call_of (event.Read q.port number) (reply.Stray word)) steps refl
       (λ s g told.
       let is = (named_registers_reply w.queue q frame s row number g driven named).read in
@@ -73,9 +74,9 @@ module _ (w : Watched) (q : AtPort) (frame fifo : ℕ) (h : List Entry) (along :
       cc))
 
   pub write_never_stray : (old new : List Call) (row : RowId) (word : ℕ) → is_driven row ≡ true → NextOnGround old
-      → IsStrayWrite q old new row word → Never w fifo h new
+      → IsStrayWrite q old new row word → Never w origin h new
   write_never_stray old new row word driven next (number, seen, named, (before, added, steps)) =
-      subst (Never w fifo h) (sym added)
+      subst (Never w origin h) (sym added)
       (next before (call_of (event.Write q.port number word) (reply.Stray seen)) steps refl
       (λ s g told.
       let is = (named_registers_reply w.queue q frame s row number g driven named).write word in
@@ -84,15 +85,15 @@ module _ (w : Watched) (q : AtPort) (frame fifo : ℕ) (h : List Entry) (along :
 
   pub next_on_ground : (old : List Call) → old ≢ [] → Grounded old → NextOnGround old
   next_on_ground old some at =
-      then_refuted w fifo h along (HasGround w.queue q frame) old (ground_kept w (lent_by w.pass h) q frame) some at
+      then_refuted w origin h along (HasGround w.queue q frame) old (ground_kept w (lent_by w.pass h) q frame) some at
 
   write_never_fails : (old new : List Call) (a : Access) → IsWrite a → NextOnGround old
-      → IsOtherwise q old new a → Never w fifo h new
+      → IsOtherwise q old new a → Never w origin h new
   write_never_fails old new (Sees row on) is next fails = absurd is
   write_never_fails old new (Sets row word) is next fails = write_never_stray old new row word is next fails
 
   pub writes_never_stop : (all : List Access) (old new : List Call) → AllAre IsWrite all
-      → StopsBy DeviceFault q old new all → old ≢ [] → Grounded old → Never w fifo h new
+      → StopsBy DeviceFault q old new all → old ≢ [] → Grounded old → Never w origin h new
   writes_never_stop all old new are (done, a, rest, mid, is, made, fails) some at =
       let both = all_before IsWrite done a rest (subst (AllAre IsWrite) is are) in
       let there = accesses_grounded done old mid (writes_driven done both.0) made some at in

@@ -3,11 +3,9 @@ use Rattle.std.proofs.Common.{◌≡◌, ◌≢◌, ℕ, inl, inr, List, [], ◌
 use Rattle.std.specs.Prelude.{◌==◌}
 use Rattle.std.proofs.lemmas.Bool.{cases_Bool, eq-eqb, eqb-false}
 use Rattle.std.proofs.lemmas.List.{append-nil}
-use Rattle.nic_device.specs.VfMap.declared.mode.Mode.{Mode}
-use Rattle.nic_device.specs.VfMap.declared.mode.Mode.TheVariants as mode
-use Rattle.nic_device.specs.State.{State, new_state}
+use Rattle.nic_device.specs.State.{State}
 use Rattle.nic_device.specs.Step.{after}
-use Rattle.device_lock.specs.Alone.{Blocks, lent_by, mode_after, mode_through}
+use Rattle.device_lock.specs.Alone.{Blocks, lent_by}
 use Rattle.device_lock.specs.History.{IsLegal, AreEvents, call_in, calls_of, leads_to}
 use Rattle.device_lock.specs.declared.alone.Watched.{Watched}
 use Rattle.device_lock.specs.declared.entry.Call.{Call}
@@ -31,35 +29,32 @@ use Rattle.start_laws.proofs.Walk.{Between, foreign_left, met_in, next}
 
 module _ (w : Watched) (q : AtPort) (frame : ℕ) (mine : Blocks) where
   -- entry by entry
-  silent : (mode : Mode) (s : State) (h : List Entry) (l last : Laid) → Between w mode s → AreEvents h → IsLegal s h
-      → AllAlone w mine mode h → LaidTo w.queue q frame l s → LaysOn q l (calls_of w.pass h) last
+  silent : (s : State) (h : List Entry) (l last : Laid) → Between w s → AreEvents h → IsLegal s h
+      → AllAlone w mine s h → LaidTo w.queue q frame l s → LaysOn q l (calls_of w.pass h) last
       → sent_in w.queue s h ≡ []
-  silent mode s [] l last b events legal alone x lays = refl
-  silent mode s (e ∷ h) l last b events legal alone x lays =
+  silent s [] l last b events legal alone x lays = refl
+  silent s (e ∷ h) l last b events legal alone x lays =
       let on : (m : Laid) → LeadsTo w.queue q frame m s e.event → LaysOn q m (calls_of w.pass h) last
       → sent_in w.queue s (e ∷ h) ≡ [] =
       λ m leads more.
       ap (λ sent. sent ++ sent_in w.queue (after s e.event) h) leads.none
-      ∙ silent (mode_after w.vfs mode e.event) (after s e.event) h m last (next w mode s e b events.0) events.1
+      ∙ silent (after s e.event) h m last (next w s e b events.0) events.1
       legal.1 alone.1 leads.then more in
       elim (cases_Bool (e.pass == w.pass)) as (λ _. sent_in w.queue s (e ∷ h) ≡ []) [
         | inl own ↦
             let (m, lay, more) = subst (λ (cs : List Call). LaysOn q l cs last) (calls_own w.pass e h own) lays in
-            on m (own_lays w.queue q frame l m s (met_in w mode s b) x e.event events.0 lay) more
+            on m (own_lays w.queue q frame l m s (met_in w s b) x e.event events.0 lay) more
         | inr other ↦
             on l
             (left_lays w mine q frame l s e.event
-            (foreign_left w mine mode s e b events.0 legal.0 alone.0 (eqb-false e.pass w.pass other)) x)
+            (foreign_left w mine s e b events.0 legal.0 alone.0 (eqb-false e.pass w.pass other)) x)
             (subst (λ (cs : List Call). LaysOn q l cs last) (calls_other w.pass e h other) lays)
       ]
 
-module _ (w : Watched) (q : AtPort) (frame fifo : ℕ) (h done rest : List Entry) (e : Entry) (along : IsAlong w fifo h)
-    (all : done ++ e ∷ rest ≡ h) (own : e.pass ≡ w.pass) where
-  abbrev new : State
-  new = new_state w.vfs fifo
-
+module _ (w : Watched) (q : AtPort) (frame : ℕ) (origin : State) (h done rest : List Entry) (e : Entry)
+    (along : IsAlong w origin h) (all : done ++ e ∷ rest ≡ h) (own : e.pass ≡ w.pass) where
   abbrev here : State
-  here = leads_to new done
+  here = leads_to origin done
 
   abbrev front : List Entry
   front = done ++ e ∷ []
@@ -83,7 +78,7 @@ module _ (w : Watched) (q : AtPort) (frame fifo : ℕ) (h done rest : List Entry
   met : IsMet w.queue here
   met = record {
     small = along.small;
-    sound = histories_sound new done along.new early;
+    sound = histories_sound origin done along.sound early;
   }
 
   off_there : HasGround w.queue q frame here → transmit.IsOff w.queue here → LaidTo w.queue q frame Off here
@@ -95,14 +90,14 @@ module _ (w : Watched) (q : AtPort) (frame fifo : ℕ) (h done rest : List Entry
   behind : (m last : Laid) → LaidTo w.queue q frame m (after here e.event) → LaysOn q m (calls_of w.pass rest) last
       → sent_in w.queue (after here e.event) rest ≡ []
   behind m last x lays =
-      let same : leads_to new front ≡ after here e.event = leads-append new done (e ∷ []) in
+      let same : leads_to origin front ≡ after here e.event = leads-append origin done (e ∷ []) in
       subst (λ (s : State). sent_in w.queue s rest ≡ []) same
-      (silent w q frame (lent_by w.pass h) (mode_through w.vfs mode.Off front) (leads_to new front) rest m last
-      (along_of.there w fifo h along front [] rest whole some) now.1
-      (legal_behind new front rest
-      (subst (IsLegal new) (ap (λ (l : List Entry). l ++ rest) (append-nil front))
-      (along_of.legal w fifo h along front [] rest whole some)))
-      (along_of.alone w fifo h along front [] rest whole some)
+      (silent w q frame (lent_by w.pass h) (leads_to origin front) rest m last
+      (along_of.there w origin h along front [] rest whole some) now.1
+      (legal_behind origin front rest
+      (subst (IsLegal origin) (ap (λ (l : List Entry). l ++ rest) (append-nil front))
+      (along_of.legal w origin h along front [] rest whole some)))
+      (along_of.alone w origin h along front [] rest whole some)
       (subst (LaidTo w.queue q frame m) (sym same) x) lays)
 
   pub silent_from : (last : Laid) → HasGround w.queue q frame here → transmit.IsOff w.queue here
@@ -112,5 +107,5 @@ module _ (w : Watched) (q : AtPort) (frame fifo : ℕ) (h done rest : List Entry
       ap (λ sent. sent ++ sent_in w.queue (after here e.event) rest) leads.none ∙ behind m last leads.then more
 
 pub laid_queue_is_silent : LaidQueueIsSilent
-laid_queue_is_silent w q frame fifo h done rest e last along all own ground off lays =
-    silent_from w q frame fifo h done rest e along all own last ground off lays
+laid_queue_is_silent w q frame origin h done rest e last along all own ground off lays =
+    silent_from w q frame origin h done rest e along all own last ground off lays

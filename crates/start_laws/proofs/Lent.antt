@@ -6,6 +6,7 @@ use Rattle.nic_device.specs.DmaArena.Block.{zero_block}
 use Rattle.nic_device.specs.declared.event.Event.TheVariants as event
 use Rattle.nic_device.specs.declared.event.Reply.TheVariants as reply
 use Rattle.nic_device.specs.Sound.{IsEvent}
+use Rattle.nic_device.specs.State.{State}
 use Rattle.device_lock.specs.Alone.{lends, lent_by, lent_in}
 use Rattle.device_lock.specs.History.{AreEvents, call_in, calls_of}
 use Rattle.device_lock.specs.declared.entry.Call.{Call}
@@ -87,9 +88,9 @@ pub made_has : (q : AtPort) (c : Call) (all : List Access) (old new : List Call)
 made_has q c all old new made has =
     let more = extends q all old new made in has_more c old new more.0 more.1 has
 
-pub lent_along : (w : Watched) (fifo : ℕ) (h : List Entry) (number : ℕ) (calls : List Call) → IsAlong w fifo h
+pub lent_along : (w : Watched) (origin : State) (h : List Entry) (number : ℕ) (calls : List Call) → IsAlong w origin h
     → Has (lending number) calls → AtEntries w h calls (λ done. IsLentBy w.pass number h)
-lent_along w fifo h number calls along has done rest all is =
+lent_along w origin h number calls along has done rest all is =
     let there = lent_there w.pass number done has.before has.behind
     (events_before done rest (subst AreEvents (sym all) along.events)) (is ∙ has.all) in
     record {

@@ -4,7 +4,7 @@ use Rattle.nic_device.specs.DmaArena.Numbers.{Numbers}
 use Rattle.nic_device.specs.RegTable.declared.rows.RowId.TheVariants.{Rdt, Tdt}
 use Rattle.nic_device.specs.DmaRing.declared.dir.Dir.TheVariants.{Rx, Tx}
 use Rattle.nic_device.specs.Sound.{IsSound}
-use Rattle.nic_device.specs.State.{State, new_state}
+use Rattle.nic_device.specs.State.{State}
 use Rattle.device_lock.specs.History.{AreEvents}
 use Rattle.device_lock.specs.Alone.{lent_by}
 use Rattle.device_lock.specs.declared.alone.Watched.{Watched}
@@ -37,10 +37,10 @@ use Rattle.start_laws.proofs.Made.{some_made}
 use Rattle.start_laws.proofs.Rising.{came_up_at, sized_ring}
 use Rattle.start_laws.proofs.Prepared.{lends_extend, prepared_some, prepared_has}
 
-module _ (w : Watched) (fifo : ℕ) (h : List Entry) (q : AtPort) (size frame : ℕ) (old : List Call) (a : Numbers)
+module _ (w : Watched) (origin : State) (h : List Entry) (q : AtPort) (size frame : ℕ) (old : List Call) (a : Numbers)
     (new : List Call) (v : Receive) (t : Sender) (up : AreOn q size frame old a new v t)
-    (along : IsAlong w fifo h) (is : is_size size ≡ true)
-    (well : BeforeLast w fifo h up.receive.quiet.0 (HasGround w.queue q frame))
+    (along : IsAlong w origin h) (is : is_size size ≡ true)
+    (well : BeforeLast w origin h up.receive.quiet.0 (HasGround w.queue q frame))
   where
     abbrev ring : ℕ
     ring = up.receive.ring
@@ -65,23 +65,23 @@ module _ (w : Watched) (fifo : ℕ) (h : List Entry) (q : AtPort) (size frame : 
 
     pub ring_lent : AtEntries w h new (λ done. EachRingBlock ring size (λ n. IsLentBy w.pass n h))
     ring_lent done rest all calls k below =
-        lent_along w fifo h (ring + k) new along (ring_has k below) done rest all calls
+        lent_along w origin h (ring + k) new along (ring_has k below) done rest all calls
 
     pub other_lent : AtEntries w h new (λ done. EachRingBlock other size (λ n. IsLentBy w.pass n h))
     other_lent done rest all calls k below =
-        lent_along w fifo h (other + k) new along
+        lent_along w origin h (other + k) new along
         (on_has (other + k)
         (prepared_has q Tx size up.ready_made up.ready_arena up.both_made up.both_arena other up.transmit.prepared k
         below)) done rest all calls
 
     abbrev CameUp : List Entry → Type 0
     CameUp done =
-        (p : Sides) × Point w.queue (lent_by w.pass h) q frame (came_up ring size other p) (reached w fifo done)
-        × AreUnused w.queue (new_state w.vfs fifo) done
+        (p : Sides) × Point w.queue (lent_by w.pass h) q frame (came_up ring size other p) (reached w origin done)
+        × AreUnused w.queue origin done
 
     up_at : AtEntries w h new CameUp
     up_at done rest all calls =
-        came_up_at w fifo h q size frame old a new v t up along is well (ring_lent done rest all calls)
+        came_up_at w origin h q size frame old a new v t up along is well (ring_lent done rest all calls)
         (other_lent done rest all calls) done rest all calls
 
     -- there they are fresh, and so device and driver agree
@@ -106,15 +106,15 @@ module _ (w : Watched) (fifo : ℕ) (h : List Entry) (q : AtPort) (size frame : 
               (ring_in other size _) x.stand),
         )
 
-    agrees_at : is_frame frame ≡ true → AtCalls w fifo h new (λ s. Agree w.queue s [] v × Agrees s w.queue [] t)
+    agrees_at : is_frame frame ≡ true → AtCalls w origin h new (λ s. Agree w.queue s [] v × Agrees s w.queue [] t)
     agrees_at long done rest all calls =
-        let sound = histories_sound (new_state w.vfs fifo) done along.new
+        let sound = histories_sound origin done along.sound
         (events_before done rest (subst AreEvents (sym all) along.events)) in
         let (p, x, unused) = up_at done rest all calls in
-        agrees long (ring_lent done rest all calls) (other_lent done rest all calls) (reached w fifo done) sound p x
+        agrees long (ring_lent done rest all calls) (other_lent done rest all calls) (reached w origin done) sound p x
 
     -- and nothing went over them since they went on
-    goes_on_at : AtEntries w h new (WentOn w.queue (new_state w.vfs fifo))
+    goes_on_at : AtEntries w h new (WentOn w.queue origin)
     goes_on_at done rest all calls =
         let (p, x, unused) = up_at done rest all calls in
         let receives = x.stand.receives.seen refl in
@@ -132,11 +132,11 @@ module _ (w : Watched) (fifo : ℕ) (h : List Entry) (q : AtPort) (size frame : 
         }
 
     -- nothing is written of a frame that waits
-    begun_at : AtCalls w fifo h new (λ s. begun_on w.queue s.waiting ≡ 0)
+    begun_at : AtCalls w origin h new (λ s. begun_on w.queue s.waiting ≡ 0)
     begun_at done rest all calls = let (p, x, unused) = up_at done rest all calls in x.stand.begun
 
     -- and port and queue name this queue
-    pub ground_at : AtCalls w fifo h new (HasGround w.queue q frame)
+    pub ground_at : AtCalls w origin h new (HasGround w.queue q frame)
     ground_at done rest all calls = let (p, x, unused) = up_at done rest all calls in x.ground
 
     -- some calls were made before both were on
@@ -146,13 +146,13 @@ module _ (w : Watched) (fifo : ℕ) (h : List Entry) (q : AtPort) (size frame : 
         (prepared_some q Tx size up.ready_made up.ready_arena up.both_made up.both_arena other up.transmit.prepared)
 
 pub switched_sides_agree : SwitchedSidesAgree
-switched_sides_agree w fifo h q size frame old a new v t up along well =
-    agrees_at w fifo h q size frame old a new v t up along up.sized well up.framed
+switched_sides_agree w origin h q size frame old a new v t up along well =
+    agrees_at w origin h q size frame old a new v t up along up.sized well up.framed
 
 pub switched_sides_go_on : SwitchedSidesGoOn
-switched_sides_go_on w fifo h q size frame old a new v t up along well =
-    goes_on_at w fifo h q size frame old a new v t up along up.sized well
+switched_sides_go_on w origin h q size frame old a new v t up along well =
+    goes_on_at w origin h q size frame old a new v t up along up.sized well
 
 pub switched_sides_begin_none : SwitchedSidesBeginNone
-switched_sides_begin_none w fifo h q size frame old a new v t up along well =
-    begun_at w fifo h q size frame old a new v t up along up.sized well
+switched_sides_begin_none w origin h q size frame old a new v t up along well =
+    begun_at w origin h q size frame old a new v t up along up.sized well

@@ -7,6 +7,7 @@ use Rattle.nic_device.specs.DmaRing.declared.dir.Dir.{Dir}
 use Rattle.nic_device.specs.Step.{after}
 use Rattle.nic_device.specs.declared.event.Event.TheVariants as event
 use Rattle.nic_device.specs.declared.event.Reply.TheVariants as reply
+use Rattle.nic_device.specs.State.{State}
 use Rattle.device_lock.specs.Alone.{Blocks, lent_by}
 use Rattle.device_lock.specs.History.{call_in}
 use Rattle.device_lock.specs.Pass.{call_of}
@@ -32,25 +33,25 @@ use Rattle.start_laws.proofs.Points.{point_kept, read_leads, write_leads}
 
 -- an access, and accesses in order, from sides of which this is known, while the entries so far keep what those keep by
 -- which nothing is received or sent
-module _ (w : Watched) (q : AtPort) (frame fifo : ℕ) (h : List Entry) (along : IsAlong w fifo h) (C : Sides → Type 0)
-    (N : List Entry → Type 0) (idle : IdleKeeps w fifo N) where
+module _ (w : Watched) (q : AtPort) (frame : ℕ) (origin : State) (h : List Entry) (along : IsAlong w origin h)
+    (C : Sides → Type 0) (N : List Entry → Type 0) (idle : IdleKeeps w origin N) where
   abbrev mine : Blocks
   mine = lent_by w.pass h
 
   abbrev pub SomePoint : (Sides → Sides) → List Entry → Type 0
-  SomePoint F done = (p : Sides) × C p × Point w.queue mine q frame (F p) (reached w fifo done) × N done
+  SomePoint F done = (p : Sides) × C p × Point w.queue mine q frame (F p) (reached w origin done) × N done
 
   abbrev pub At : List Call → (Sides → Sides) → Type 0
   At calls F = AtEntries w h calls (SomePoint F)
 
   point_next : (p : Sides) (done : List Entry) (e : Entry)
-      → Point w.queue mine q frame p (after (reached w fifo done) e.event)
-      → Point w.queue mine q frame p (reached w fifo (done ++ e ∷ []))
-  point_next p done e x = subst (Point w.queue mine q frame p) (sym (reached_next w fifo done e)) x
+      → Point w.queue mine q frame p (after (reached w origin done) e.event)
+      → Point w.queue mine q frame p (reached w origin (done ++ e ∷ []))
+  point_next p done e x = subst (Point w.queue mine q frame p) (sym (reached_next w origin done e)) x
 
-  some_kept : (F : Sides → Sides) → KeptOver w fifo mine (SomePoint F)
+  some_kept : (F : Sides → Sides) → KeptOver w origin mine (SomePoint F)
   some_kept F done e left (p, known, x, n) =
-      let s = reached w fifo done in
+      let s = reached w origin done in
       let z = F p in
       let kept = standing_sides_are_left w mine z.rings s e.event z.rx z.tx left x.covers x.stand in (
         p,
@@ -63,14 +64,15 @@ module _ (w : Watched) (q : AtPort) (frame fifo : ℕ) (h : List Entry) (along :
       → ((p : Sides) → C p → Leads w.queue c (Point w.queue mine q frame (F p)) (Point w.queue mine q frame (G p)))
       → AreSteps before → old ≢ [] → At old F → At (old ++ (before ++ c ∷ [])) G
   call_leads F G old before c none leads steps some at =
-      entries_lead w fifo h (SomePoint F) (SomePoint G) old before c along (some_kept F) (some_kept G)
+      entries_lead w origin h (SomePoint F) (SomePoint G) old before c along (some_kept F) (some_kept G)
       (λ done e same met made told outside (p, known, x, n).
       let here : IsIdle w.queue (call_in e) = subst (IsIdle w.queue) (sym same) none in (
         p,
         known,
-        state_leads w fifo mine c (Point w.queue mine q frame (F p)) (Point w.queue mine q frame (G p)) (leads p known)
+        state_leads w origin mine c (Point w.queue mine q frame (F p)) (Point w.queue mine q frame (G p))
+        (leads p known)
             done e same met made told outside x,
-        idle done e (here (reached w fifo done)).0 (here (reached w fifo done)).1 n,
+        idle done e (here (reached w origin done)).0 (here (reached w origin done)).1 n,
       )) steps some at
 
   access_at : (F : Sides → Sides) (old new : List Call) (a : Access) → ((p : Sides) → C p → May a (F p))
@@ -124,8 +126,8 @@ module _ (w : Watched) (q : AtPort) (frame fifo : ℕ) (h : List Entry) (along :
       (accesses_at (ring_words side ring size) F old x.mid may x.words some at)
 
 pub accesses_lead : AccessesLead
-accesses_lead w q frame fifo h known F all old new along may made some at done rest whole calls =
-    let (p, is, x, n) = accesses_at w q frame fifo h along (λ p. IsTrue (known p)) (λ so_far. ⊤)
+accesses_lead w q frame origin h known F all old new along may made some at done rest whole calls =
+    let (p, is, x, n) = accesses_at w q frame origin h along (λ p. IsTrue (known p)) (λ so_far. ⊤)
     (λ so_far e received sent n. tt) all F old new may made some
     (λ before behind split there. let (z, so, y) = at before behind split there in (z, so, y, tt)) done rest whole calls
     in (p, is, x)

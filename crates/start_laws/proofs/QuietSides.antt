@@ -3,7 +3,7 @@ use Rattle.std.proofs.Common.{◌≡◌, ℕ, Bool, true, false, not, ◌&&◌, 
 use Rattle.std.specs.Prelude.{IsTrue}
 use Rattle.nic_device.specs.RegisterLaws.Sides.{receive_queue_of, transmit_queue_of}
 use Rattle.nic_device.specs.Sound.{IsSound}
-use Rattle.nic_device.specs.State.{State, new_state}
+use Rattle.nic_device.specs.State.{State}
 use Rattle.device_lock.specs.Alone.{lent_by}
 use Rattle.device_lock.specs.History.{leads_to, AreEvents}
 use Rattle.device_lock.specs.declared.alone.Watched.{Watched}
@@ -40,7 +40,7 @@ quiet_stand w q frame h s sound quiet = (
 )
 
 pub quiet_sides_stand : QuietSidesStand
-quiet_sides_stand w q frame fifo h calls along quiet done rest all is =
-    let new = new_state w.vfs fifo in
+quiet_sides_stand w q frame origin h calls along quiet done rest all is =
     let events = events_before done rest (subst AreEvents (sym all) along.events) in
-    quiet_stand w q frame h (leads_to new done) (histories_sound new done along.new events) (quiet done rest all is)
+    quiet_stand w q frame h (leads_to origin done) (histories_sound origin done along.sound events)
+    (quiet done rest all is)

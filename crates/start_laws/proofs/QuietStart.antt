@@ -31,7 +31,7 @@ use Rattle.start_laws.specs.Faultless.{BeforeNext, Never}
 use Rattle.start_laws.proofs.Last.{next_refuted, then_refuted}
 use Rattle.start_laws.proofs.SeenOff.{IsQuieting, Next, never_otherwise}
 
-module _ (w : Watched) (q : AtPort) (frame fifo : ℕ) (h : List Entry) (along : IsAlong w fifo h) where
+module _ (w : Watched) (q : AtPort) (frame : ℕ) (origin : State) (h : List Entry) (along : IsAlong w origin h) where
   abbrev Off : State → Type 0
   Off = IsQuiet w.queue q frame
 
@@ -39,21 +39,21 @@ module _ (w : Watched) (q : AtPort) (frame fifo : ℕ) (h : List Entry) (along :
   off_stays = quiet_kept w (lent_by w.pass h) q frame
 
   abbrev AtOff : List Call → Type 0
-  AtOff calls = AtCalls w fifo h calls Off
+  AtOff calls = AtCalls w origin h calls Off
 
   -- such an access leaves them off
 
   see : (row : RowId) (on : Bool) (old new : List Call) → IsMade q old new (Sees row on) → old ≢ [] → AtOff old
       → AtOff new
   see row on old new made some at =
-      seen w q fifo h along Off Off row on off_stays off_stays
+      seen w q origin h along Off Off row on off_stays off_stays
       (λ number word named is s met can told x. both_read IsOff IsOff w.queue q frame s q.port number x) old new made
       some at
 
   ask : (side : Dir) (word : ℕ) (old new : List Call) → word ≡ 0
       → IsMade q old new (Sets (enable_row side) word) → old ≢ [] → AtOff old → AtOff new
   ask side word old new is made some at =
-      set w q fifo h along Off Off (enable_row side) word off_stays off_stays
+      set w q origin h along Off Off (enable_row side) word off_stays off_stays
       (λ number named s met can told x.
       write_quiet w.queue q frame s x q.port number word met (side, refl, ap (has_bit 25) is, named)) old new made some
       at
@@ -73,12 +73,12 @@ module _ (w : Watched) (q : AtPort) (frame fifo : ℕ) (h : List Entry) (along :
 
   -- the first of them is a read
   first_off : (row : RowId) (on : Bool) (old new : List Call) → IsMade q old new (Sees row on)
-      → BeforeNext w fifo h old Off → AtOff new
+      → BeforeNext w origin h old Off → AtOff new
   first_off row on old new (number, word, named, is, (before, added, steps)) at =
-      first_seen w q fifo h Off along off_stays
+      first_seen w q origin h Off along off_stays
       (λ s number x. both_read IsOff IsOff w.queue q frame s q.port number x) row on old new
       (number, word, named, is, (before, added, steps))
-      (subst (λ (calls : List Call). BeforeLast w fifo h calls Off) (sym added)
+      (subst (λ (calls : List Call). BeforeLast w origin h calls Off) (sym added)
       (at before (call_of (event.Read q.port number) (reply.Word word)) steps refl))
 
   quieting : AllAre IsQuieting both_quiet
@@ -86,7 +86,7 @@ module _ (w : Watched) (q : AtPort) (frame fifo : ℕ) (h : List Entry) (along :
 
   -- the first access of some that begin with a read, and then the others
   begun_off : (a : Access) (rest more : List Access) (old new : List Call) → both_quiet ≡ a ∷ more
-      → AllAre IsQuieting rest → AreMade q old new (a ∷ rest) → BeforeNext w fifo h old Off → AtOff new
+      → AllAre IsQuieting rest → AreMade q old new (a ∷ rest) → BeforeNext w origin h old Off → AtOff new
   begun_off (Sees row on) rest more old new is are (mid, here, then) at =
       accesses_off rest mid new are then (made_some q old mid (Sees row on) here) (first_off row on old mid here at)
   begun_off (Sets row word) rest more old new is are made at = cc
@@ -94,18 +94,18 @@ module _ (w : Watched) (q : AtPort) (frame fifo : ℕ) (h : List Entry) (along :
   abbrev others : List Access
   others = Sets Rxdctl 0 ∷ Sees Rxdctl false ∷ quiet Tx
 
-  pub quiet_off : (old new : List Call) → AreMade q old new both_quiet → BeforeNext w fifo h old Off → AtOff new
+  pub quiet_off : (old new : List Call) → AreMade q old new both_quiet → BeforeNext w origin h old Off → AtOff new
   quiet_off old new made at = begun_off (Sees Rxdctl false) others others old new refl quieting.1 made at
 
-  pub quieting_never_stops : (old new : List Call) → BeforeNext w fifo h old Off
-      → StopsBy DeviceFault q old new both_quiet → Never w fifo h new
+  pub quieting_never_stops : (old new : List Call) → BeforeNext w origin h old Off
+      → StopsBy DeviceFault q old new both_quiet → Never w origin h new
   quieting_never_stops old new at ([], a, rest, mid, is, made, fails) =
       let both = all_before IsQuieting [] a rest (subst (AllAre IsQuieting) is quieting) in
-      never_otherwise w q frame fifo h along mid new a both.1
-      (subst (Next w q frame fifo h along) (sym made) (next_refuted w fifo h along Off old at)) fails
+      never_otherwise w q frame origin h along mid new a both.1
+      (subst (Next w q frame origin h along) (sym made) (next_refuted w origin h along Off old at)) fails
   quieting_never_stops old new at (d ∷ done, a, rest, mid, is, made, fails) =
       let both = all_before IsQuieting (d ∷ done) a rest (subst (AllAre IsQuieting) is quieting) in
       let some : mid ≢ [] = some_made q done made.0 mid made.2 (made_some q old made.0 d made.1) in
       let there = begun_off d done (done ++ a ∷ rest) old mid is both.0.1 made at in
-      never_otherwise w q frame fifo h along mid new a both.1
-      (then_refuted w fifo h along Off mid off_stays some there) fails
+      never_otherwise w q frame origin h along mid new a both.1
+      (then_refuted w origin h along Off mid off_stays some there) fails

@@ -1,7 +1,7 @@
--- Where the entries so far lead a new device, and what each entry keeps of what holds of them.
-use Rattle.std.proofs.Common.{◌≡◌, ℕ, List, [], ◌∷◌, ◌++◌, sym, subst}
+-- Where the entries so far lead a device, and what each entry keeps of what holds of them.
+use Rattle.std.proofs.Common.{◌≡◌, List, [], ◌∷◌, ◌++◌, sym, subst}
 use Rattle.nic_device.specs.Sound.{IsEvent}
-use Rattle.nic_device.specs.State.{State, new_state}
+use Rattle.nic_device.specs.State.{State}
 use Rattle.nic_device.specs.Step.{after, reply_to}
 use Rattle.device_lock.specs.Alone.{Blocks, WritesOutside}
 use Rattle.device_lock.specs.History.{call_in, leads_to}
@@ -13,42 +13,40 @@ use Rattle.start_laws.specs.Along.{IsKept, Leads}
 use Rattle.start_laws.specs.Moves.{IsMet}
 use Rattle.start_laws.specs.Standing.{IsLeft}
 
--- Where the entries so far lead a new device, and what each entry keeps of what holds of them.
+-- where the entries so far lead a device
 
--- where the entries so far lead a new device
+abbrev pub reached : Watched → State → List Entry → State
+reached w origin done = leads_to origin done
 
-abbrev pub reached : Watched → ℕ → List Entry → State
-reached w fifo done = leads_to (new_state w.vfs fifo) done
-
-pub reached_next : (w : Watched) (fifo : ℕ) (done : List Entry) (e : Entry)
-    → reached w fifo (done ++ e ∷ []) ≡ after (reached w fifo done) e.event
-reached_next w fifo done e = leads-append (new_state w.vfs fifo) done (e ∷ [])
+pub reached_next : (w : Watched) (origin : State) (done : List Entry) (e : Entry)
+    → reached w origin (done ++ e ∷ []) ≡ after (reached w origin done) e.event
+reached_next w origin done e = leads-append origin done (e ∷ [])
 
 -- each entry that leaves the queue alone keeps what holds of the entries so far; and the driver's own call leads from
 -- one to the other
 
-abbrev pub KeptOver : Watched → ℕ → Blocks → (List Entry → Type 0) → Type 0
-KeptOver w fifo mine P =
-    (done : List Entry) (e : Entry) → IsLeft w mine (reached w fifo done) e.event → P done → P (done ++ e ∷ [])
+abbrev pub KeptOver : Watched → State → Blocks → (List Entry → Type 0) → Type 0
+KeptOver w origin mine P =
+    (done : List Entry) (e : Entry) → IsLeft w mine (reached w origin done) e.event → P done → P (done ++ e ∷ [])
 
-abbrev pub LeadsOver : Watched → ℕ → Blocks → Call → (List Entry → Type 0) → (List Entry → Type 0) → Type 0
-LeadsOver w fifo mine c P Q =
-    (done : List Entry) (e : Entry) → call_in e ≡ c → IsMet w.queue (reached w fifo done) → IsEvent e.event
-    → e.reply ≡ reply_to (reached w fifo done) e.event → WritesOutside w.queue mine e.reply → P done
+abbrev pub LeadsOver : Watched → State → Blocks → Call → (List Entry → Type 0) → (List Entry → Type 0) → Type 0
+LeadsOver w origin mine c P Q =
+    (done : List Entry) (e : Entry) → call_in e ≡ c → IsMet w.queue (reached w origin done) → IsEvent e.event
+    → e.reply ≡ reply_to (reached w origin done) e.event → WritesOutside w.queue mine e.reply → P done
     → Q (done ++ e ∷ [])
 
 -- of a state alone
 
-pub state_kept : (w : Watched) (fifo : ℕ) (mine : Blocks) (P : State → Type 0) → IsKept w mine P
-    → KeptOver w fifo mine (λ done. P (reached w fifo done))
-state_kept w fifo mine P kept done e left p =
-    subst P (sym (reached_next w fifo done e)) (kept (reached w fifo done) e.event left p)
+pub state_kept : (w : Watched) (origin : State) (mine : Blocks) (P : State → Type 0) → IsKept w mine P
+    → KeptOver w origin mine (λ done. P (reached w origin done))
+state_kept w origin mine P kept done e left p =
+    subst P (sym (reached_next w origin done e)) (kept (reached w origin done) e.event left p)
 
-pub state_leads : (w : Watched) (fifo : ℕ) (mine : Blocks) (c : Call) (P Q : State → Type 0) → Leads w.queue c P Q
-    → LeadsOver w fifo mine c (λ done. P (reached w fifo done)) (λ done. Q (reached w fifo done))
-state_leads w fifo mine c P Q leads done e same met made told steps p =
-    subst Q (sym (reached_next w fifo done e))
-    (subst (λ (x : Call). Leads w.queue x P Q) (sym same) leads (reached w fifo done) met made told p)
+pub state_leads : (w : Watched) (origin : State) (mine : Blocks) (c : Call) (P Q : State → Type 0) → Leads w.queue c P Q
+    → LeadsOver w origin mine c (λ done. P (reached w origin done)) (λ done. Q (reached w origin done))
+state_leads w origin mine c P Q leads done e same met made told steps p =
+    subst Q (sym (reached_next w origin done e))
+    (subst (λ (x : Call). Leads w.queue x P Q) (sym same) leads (reached w origin done) met made told p)
 
 pub also_kept : (w : Watched) (mine : Blocks) (P Q : State → Type 0) → IsKept w mine P → IsKept w mine Q
     → IsKept w mine (λ s. P s × Q s)

@@ -5,7 +5,7 @@ use Rattle.std.proofs.lemmas.Bool.{and_parts, both_ways, eqb-true, leb-true}
 use Rattle.nic_device.specs.DmaArena.Numbers.{Numbers}
 use Rattle.nic_device.specs.RegTable.declared.rows.RowId.TheVariants.{Rxdctl}
 use Rattle.nic_device.specs.DmaRing.declared.dir.Dir.TheVariants.{Rx, Tx}
-use Rattle.nic_device.specs.State.{new_state}
+use Rattle.nic_device.specs.State.{State}
 use Rattle.device_lock.specs.Alone.{lent_by}
 use Rattle.device_lock.specs.declared.alone.Watched.{Watched}
 use Rattle.device_lock.specs.declared.entry.Call.{Call}
@@ -68,10 +68,10 @@ unwanted false false true d is = cc
 unwanted false false false true is = cc
 unwanted false false false false is = (refl, refl)
 
-module _ (w : Watched) (fifo : ℕ) (h : List Entry) (q : AtPort) (size frame : ℕ) (old : List Call) (a : Numbers)
+module _ (w : Watched) (origin : State) (h : List Entry) (q : AtPort) (size frame : ℕ) (old : List Call) (a : Numbers)
     (new : List Call) (v : Receive) (t : Sender) (up : AreOn q size frame old a new v t)
-    (along : IsAlong w fifo h) (is : is_size size ≡ true)
-    (well : BeforeLast w fifo h up.receive.quiet.0 (HasGround w.queue q frame))
+    (along : IsAlong w origin h) (is : is_size size ≡ true)
+    (well : BeforeLast w origin h up.receive.quiet.0 (HasGround w.queue q frame))
   where
     abbrev pub ring : ℕ
     ring = up.receive.ring
@@ -80,20 +80,20 @@ module _ (w : Watched) (fifo : ℕ) (h : List Entry) (q : AtPort) (size frame : 
     other = up.transmit.ring
 
     abbrev pub Unused : List Entry → Type 0
-    Unused = AreUnused w.queue (new_state w.vfs fifo)
+    Unused = AreUnused w.queue origin
 
     abbrev Known : Sides → Type 0
     Known p = IsTrue (are_off p)
 
     abbrev Reaches : List Call → (Sides → Sides) → Type 0
-    Reaches = At w q frame fifo h along Known Unused (unused_kept w fifo)
+    Reaches = At w q frame origin h along Known Unused (unused_kept w origin)
 
     -- both sides are quiet, and stand
     quiet_at : Reaches up.receive.mid (λ p. p)
     quiet_at done rest all calls =
-        let off = quieting_leads w q frame fifo h old up.receive.mid along up.receive.quiet well in
+        let off = quieting_leads w q frame origin h old up.receive.mid along up.receive.quiet well in
         let quiet = off done rest all calls in
-        let (p, known, x) = quiet_sides_stand w q frame fifo h up.receive.mid along off done rest all calls in (
+        let (p, known, x) = quiet_sides_stand w q frame origin h up.receive.mid along off done rest all calls in (
           p,
           known,
           x,
@@ -118,7 +118,7 @@ module _ (w : Watched) (fifo : ℕ) (h : List Entry) (q : AtPort) (size frame : 
       ready_at : Reaches up.ready_made
           (λ p. with_all (ring_blocks ring size) (after_accesses (ring_words Rx ring size) p))
       ready_at =
-          prepared_at w q frame fifo h along Known Unused (unused_kept w fifo) Rx size (λ p. p) up.receive.mid a
+          prepared_at w q frame origin h along Known Unused (unused_kept w origin) Rx size (λ p. p) up.receive.mid a
           up.ready_made up.ready_arena ring
           (λ p known.
           may_lay_receive ring size other (of_size ring one) (of_size other two) even p (off p known).0)
@@ -128,7 +128,7 @@ module _ (w : Watched) (fifo : ℕ) (h : List Entry) (q : AtPort) (size frame : 
 
       both_at : Reaches up.both_made (laid ring size other)
       both_at =
-          prepared_at w q frame fifo h along Known Unused (unused_kept w fifo) Tx size
+          prepared_at w q frame origin h along Known Unused (unused_kept w origin) Tx size
           (λ p. with_all (ring_blocks ring size) (after_accesses (ring_words Rx ring size) p)) up.ready_made
           up.ready_arena up.both_made up.both_arena other
           (λ p known.
@@ -138,7 +138,8 @@ module _ (w : Watched) (fifo : ℕ) (h : List Entry) (q : AtPort) (size frame : 
 
       on_at : Reaches new (λ p. after_accesses (switching up.switched.0 up.switched.1) (laid ring size other p))
       on_at =
-          accesses_at w q frame fifo h along Known Unused (unused_kept w fifo) (switching up.switched.0 up.switched.1)
+          accesses_at w q frame origin h along Known Unused (unused_kept w origin)
+          (switching up.switched.0 up.switched.1)
           (laid ring size other) up.both_made new
           (λ p known.
           may_switch ring size other (of_size ring one) (of_size other two) p (off p known).0 (off p known).1
@@ -148,12 +149,12 @@ module _ (w : Watched) (fifo : ℕ) (h : List Entry) (q : AtPort) (size frame : 
 
       pub came_up_at : AtEntries w h new
           (λ done.
-          (p : Sides) × Point w.queue (lent_by w.pass h) q frame (came_up ring size other p) (reached w fifo done)
+          (p : Sides) × Point w.queue (lent_by w.pass h) q frame (came_up ring size other p) (reached w origin done)
           × Unused done)
       came_up_at done rest all calls =
           let (p, known, x, unused) = on_at done rest all calls in (
             p,
-            subst (λ (z : Sides). Point w.queue (lent_by w.pass h) q frame z (reached w fifo done))
+            subst (λ (z : Sides). Point w.queue (lent_by w.pass h) q frame z (reached w origin done))
                 (comes_up ring size other (of_size ring one) (of_size other two) p (off p known).0 (off p known).1
                 up.switched.0 up.switched.1) x,
             unused,

@@ -29,40 +29,40 @@ IsQuieting (Sets Rxdctl word) = word ≡ 0
 IsQuieting (Sets Txdctl word) = word ≡ 0
 IsQuieting other = ⊥
 
-module _ (w : Watched) (q : AtPort) (frame fifo : ℕ) (h : List Entry) (along : IsAlong w fifo h) where
+module _ (w : Watched) (q : AtPort) (frame : ℕ) (origin : State) (h : List Entry) (along : IsAlong w origin h) where
   abbrev Off : State → Type 0
   Off = IsQuiet w.queue q frame
 
   abbrev pub Next : List Call → Type 0
-  Next old = RefutesNext w fifo h along Off old
+  Next old = RefutesNext w origin h along Off old
 
-  on_ground : (old : List Call) → Next old → RefutesNext w fifo h along (HasGround w.queue q frame) old
+  on_ground : (old : List Call) → Next old → RefutesNext w origin h along (HasGround w.queue q frame) old
   on_ground old next before c steps apart refutes =
       next before c steps apart (λ s x told. refutes s x.ground told)
 
   read_never_on : (row : RowId) (old new : List Call) (on : Bool) → on ≡ false → (is_driven row ≡ true)
       → ((number : ℕ) → IsNumberOf q.port row q.queue number
       → IsNumberOf q.port Rxdctl q.queue number ⊎ IsNumberOf q.port Txdctl q.queue number)
-      → Next old → IsOtherwise q old new (Sees row on) → Never w fifo h new
+      → Next old → IsOtherwise q old new (Sees row on) → Never w origin h new
   read_never_on row old new on off driven names next (inl (number, word, named, is, (before, added, steps))) =
-      subst (Never w fifo h) (sym added)
+      subst (Never w origin h) (sym added)
       (next before (call_of (event.Read q.port number) (reply.Word word)) steps refl
       (λ s x told.
       both_ways (has_bit 25 word)
       (off_sides_are_seen_off w.queue q frame s number word x (names number named) (sym told))
       (is ∙ ap not off)))
   read_never_on row old new on off driven names next (inr stray) =
-      read_never_stray w q frame fifo h along old new row driven (on_ground old next) stray
+      read_never_stray w q frame origin h along old new row driven (on_ground old next) stray
 
   pub never_otherwise : (old new : List Call) (a : Access) → IsQuieting a → Next old → IsOtherwise q old new a
-      → Never w fifo h new
+      → Never w origin h new
   never_otherwise old new (Sees Rxdctl on) is next fails =
       read_never_on Rxdctl old new on is refl (λ number named. inl named) next fails
   never_otherwise old new (Sees Txdctl on) is next fails =
       read_never_on Txdctl old new on is refl (λ number named. inr named) next fails
   never_otherwise old new (Sees other on) is next fails = absurd is
   never_otherwise old new (Sets Rxdctl word) is next fails =
-      write_never_stray w q frame fifo h along old new Rxdctl word refl (on_ground old next) fails
+      write_never_stray w q frame origin h along old new Rxdctl word refl (on_ground old next) fails
   never_otherwise old new (Sets Txdctl word) is next fails =
-      write_never_stray w q frame fifo h along old new Txdctl word refl (on_ground old next) fails
+      write_never_stray w q frame origin h along old new Txdctl word refl (on_ground old next) fails
   never_otherwise old new (Sets other word) is next fails = absurd is

@@ -3,7 +3,7 @@ use Rattle.std.proofs.Common.{cond, ◌≡◌, ◌≢◌, ℕ, inl, inr, List, [
 use Rattle.std.proofs.lemmas.List.{append-nil}
 use Rattle.nic_device.specs.RegisterFile.Queue.{is_on}
 use Rattle.nic_device.specs.DmaRing.declared.dir.Dir.TheVariants.{Rx, Tx}
-use Rattle.nic_device.specs.State.{State, new_state}
+use Rattle.nic_device.specs.State.{State}
 use Rattle.nic_device.specs.Step.{after}
 use Rattle.device_lock.specs.Alone.{Blocks, lent_by}
 use Rattle.device_lock.specs.History.{calls_of}
@@ -32,63 +32,60 @@ none_more : (so_far : Option (List Piece)) → packets_if_any (option_map (λ qs
 none_more None = refl
 none_more (Some qs) = ap packets_of (append-nil qs)
 
-module _ (w : Watched) (q : AtPort) (frame fifo : ℕ) (done : List Entry) where
-  abbrev new : State
-  new = new_state w.vfs fifo
-
+module _ (w : Watched) (q : AtPort) (frame : ℕ) (origin : State) (done : List Entry) where
   -- the sides are off, and no more was received or sent than before
   record Silent (now : List Entry) : Type 0 where
-    quiet : IsQuiet w.queue q frame (reached w fifo now)
-    same : IsSilent w fifo now done
+    quiet : IsQuiet w.queue q frame (reached w origin now)
+    same : IsSilent w origin now done
 
-  silent_on : (now : List Entry) (e : Entry) → StaysQuiet w.queue q frame (reached w fifo now) e.event → Silent now
+  silent_on : (now : List Entry) (e : Entry) → StaysQuiet w.queue q frame (reached w origin now) e.event → Silent now
       → Silent (now ++ e ∷ [])
   silent_on now e stays x =
-      let s = reached w fifo now in
+      let s = reached w origin now in
       let t = after s e.event in
-      let so_far = pieces_since w.queue new None now in
-      let sent = sent_since w.queue new [] now in
+      let so_far = pieces_since w.queue origin None now in
+      let sent = sent_since w.queue origin [] now in
       let rx = not_again (is_on s.registers Rx w.queue) (is_on t.registers Rx w.queue) (inr stays.quiet.receive.off) in
       let tx = not_again (is_on s.registers Tx w.queue) (is_on t.registers Tx w.queue)
       (inr stays.quiet.transmit.off) in
       record {
-        quiet = subst (IsQuiet w.queue q frame) (sym (reached_next w fifo now e)) stays.quiet;
+        quiet = subst (IsQuiet w.queue q frame) (sym (reached_next w origin now e)) stays.quiet;
         same = record {
           delivered =
-              ap packets_if_any (since-append w.queue new None now (e ∷ []))
+              ap packets_if_any (since-append w.queue origin None now (e ∷ []))
               ∙ ap (λ b. packets_if_any
               (cond b (Some []) (option_map (λ qs. qs ++ pieces w.queue s e.event) so_far))) rx
               ∙ ap (λ ps. packets_if_any (option_map (λ qs. qs ++ ps) so_far)) stays.received
               ∙ none_more so_far ∙ x.same.delivered;
           sent =
-              sent_is_counted.joined w.queue new [] now (e ∷ [])
+              sent_is_counted.joined w.queue origin [] now (e ∷ [])
               ∙ ap (λ b. cond b [] (sent ++ sent_by w.queue s e.event)) tx
               ∙ ap (λ more. sent ++ more) stays.sent ∙ append-nil sent ∙ x.same.sent;
         };
       }
 
-  others_silent : (mine : Blocks) → KeptOver w fifo mine Silent
+  others_silent : (mine : Blocks) → KeptOver w origin mine Silent
   others_silent mine now e left x =
-      silent_on now e (left_stays w mine q frame (reached w fifo now) e.event left x.quiet) x
+      silent_on now e (left_stays w mine q frame (reached w origin now) e.event left x.quiet) x
 
-  ending_silent : (mine : Blocks) (c : Call) → IsEnding q c.event → LeadsOver w fifo mine c Silent Silent
+  ending_silent : (mine : Blocks) (c : Call) → IsEnding q c.event → LeadsOver w origin mine c Silent Silent
   ending_silent mine c own now e same met made told steps x =
       let ends = subst (λ (n : Call). IsEnding q n.event) (sym same) own in
-      silent_on now e (ending_stays w.queue q frame (reached w fifo now) e.event met made ends x.quiet) x
+      silent_on now e (ending_stays w.queue q frame (reached w origin now) e.event met made ends x.quiet) x
 
-module _ (w : Watched) (q : AtPort) (frame fifo : ℕ) (h done rest : List Entry) (old : List Call)
-    (along : IsAlong w fifo h) (some : old ≢ []) (at : AtCalls w fifo h old (IsQuiet w.queue q frame))
+module _ (w : Watched) (q : AtPort) (frame : ℕ) (origin : State) (h done rest : List Entry) (old : List Call)
+    (along : IsAlong w origin h) (some : old ≢ []) (at : AtCalls w origin h old (IsQuiet w.queue q frame))
     (all : done ++ rest ≡ h) (calls : calls_of w.pass done ≡ old) where
-  here : (base now after : List Entry) → now ++ after ≡ h → calls_of w.pass now ≡ old → IsSilent w fifo now base
-      → Silent w q frame fifo base now
+  here : (base now after : List Entry) → now ++ after ≡ h → calls_of w.pass now ≡ old → IsSilent w origin now base
+      → Silent w q frame origin base now
   here base now after both made same = record { quiet = at now after both made; same = same }
 
-  itself : (now : List Entry) → IsSilent w fifo now now
+  itself : (now : List Entry) → IsSilent w origin now now
   itself now = record { delivered = refl; sent = refl }
 
   -- entries of others alone lie between
   between : (one two after : List Entry) → two ++ after ≡ h → calls_of w.pass one ≡ old → calls_of w.pass two ≡ old
-      → Begins one two → IsSilent w fifo two one
+      → Begins one two → IsSilent w origin two one
   between one two after both made then (back, is) =
       let none : calls_of w.pass back ≡ [] =
       none_behind old (calls_of w.pass back)
@@ -96,27 +93,28 @@ module _ (w : Watched) (q : AtPort) (frame fifo : ℕ) (h done rest : List Entry
       ∙ ap (calls_of w.pass) is ∙ then) in
       let whole : (one ++ back) ++ after ≡ h = ap (λ (l : List Entry). l ++ after) is ∙ both in
       let first = here one one (back ++ after) (sym (append_assoc one back after) ∙ whole) made (itself one) in
-      subst (λ (l : List Entry). IsSilent w fifo l one) is
-      (kept_on w fifo h along (Silent w q frame fifo one) (others_silent w q frame fifo one (lent_by w.pass h)) one
+      subst (λ (l : List Entry). IsSilent w origin l one) is
+      (kept_on w origin h along (Silent w q frame origin one) (others_silent w q frame origin one (lent_by w.pass h))
+      one
       back after whole (λ nil. some (sym made ∙ nil)) none first).same
 
-  silent_at : AtEntries w h old (Silent w q frame fifo done)
+  silent_at : AtEntries w h old (Silent w q frame origin done)
   silent_at now after both made =
       here done now after both made
-      (elim (one_begins done rest now after (all ∙ sym both)) as (λ _. IsSilent w fifo now done) [
+      (elim (one_begins done rest now after (all ∙ sym both)) as (λ _. IsSilent w origin now done) [
         | inl begins ↦ between done now after both calls made begins
         | inr begins ↦
             let back = between now done rest all made calls begins in
             record { delivered = sym back.delivered; sent = sym back.sent }
       ])
 
-  pub silent_whole : (made : List Call) → Ends q old made → calls_of w.pass h ≡ made → IsSilent w fifo h done
+  pub silent_whole : (made : List Call) → Ends q old made → calls_of w.pass h ≡ made → IsSilent w origin h done
   silent_whole whole (ends, is, own) made =
-      (all_lead w fifo h (Silent w q frame fifo done) (λ c. IsEnding q c.event) along
-      (others_silent w q frame fifo done (lent_by w.pass h)) (ending_silent w q frame fifo done (lent_by w.pass h))
+      (all_lead w origin h (Silent w q frame origin done) (λ c. IsEnding q c.event) along
+      (others_silent w q frame origin done (lent_by w.pass h)) (ending_silent w q frame origin done (lent_by w.pass h))
       ends old own some silent_at h []
       (append-nil h) (made ∙ is)).same
 
 pub quiet_queue_is_silent : QuietQueueIsSilent
-quiet_queue_is_silent w q frame fifo h done rest old new along some at ends made all calls =
-    silent_whole w q frame fifo h done rest old along some at all calls new ends made
+quiet_queue_is_silent w q frame origin h done rest old new along some at ends made all calls =
+    silent_whole w q frame origin h done rest old along some at all calls new ends made

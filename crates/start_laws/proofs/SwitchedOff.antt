@@ -22,7 +22,7 @@ use Rattle.start_laws.proofs.AccessLeads.{seen, set}
 use Rattle.start_laws.proofs.BothSides.{Anything, ByRead, anything_steady, asks_receive, asks_transmit, both_kept, both_read, quiet_kept, sees_receive, sees_transmit}
 use Rattle.start_laws.proofs.Made.{made_some}
 
-module _ (w : Watched) (q : AtPort) (fifo : ℕ) (h : List Entry) (along : IsAlong w fifo h) where
+module _ (w : Watched) (q : AtPort) (origin : State) (h : List Entry) (along : IsAlong w origin h) where
   -- polls up to the one that sees the side off
 
   module _ (P Q R : State → Type 0) (kept : IsKept w (lent_by w.pass h) P) (kept_q : IsKept w (lent_by w.pass h) Q)
@@ -30,30 +30,30 @@ module _ (w : Watched) (q : AtPort) (fifo : ℕ) (h : List Entry) (along : IsAlo
       (see : (number word : ℕ) → IsNumberOf q.port (enable_row side) q.queue number → has_bit 25 word ≡ false
       → ByRead w.queue q P Q number word) where
     pub polled_lead : (count : ℕ) (rest : List Access) (old new : List Call)
-        → AreMade q old new (polled side false count ++ rest) → old ≢ [] → AtCalls w fifo h old P
+        → AreMade q old new (polled side false count ++ rest) → old ≢ [] → AtCalls w origin h old P
         → ((mid : List Call) → AreMade q mid new rest → mid ≢ []
-        → AtCalls w fifo h mid Q → AtCalls w fifo h new R)
-        → AtCalls w fifo h new R
+        → AtCalls w origin h mid Q → AtCalls w origin h new R)
+        → AtCalls w origin h new R
     polled_lead zero rest old new (mid, here, more) some at then =
         then mid more (made_some q old mid (Sees (enable_row side) false) here)
-        (seen w q fifo h along P Q (enable_row side) false kept kept_q see old mid here some at)
+        (seen w q origin h along P Q (enable_row side) false kept kept_q see old mid here some at)
     polled_lead (suc count) rest old new (mid, here, more) some at then =
         polled_lead count rest mid new more (made_some q old mid (Sees (enable_row side) true) here)
-        (seen w q fifo h along P P (enable_row side) true kept kept (λ number word named is. miss number word) old mid
+        (seen w q origin h along P P (enable_row side) true kept kept (λ number word named is. miss number word) old mid
         here some at) then
 
     pub polled_end : (count : ℕ) (old new : List Call) → AreMade q old new (polled side false count) → old ≢ []
-        → AtCalls w fifo h old P → AtCalls w fifo h new Q
+        → AtCalls w origin h old P → AtCalls w origin h new Q
     polled_end zero old new (mid, here, more) some at =
-        subst (λ (calls : List Call). AtCalls w fifo h calls Q) (sym more)
-        (seen w q fifo h along P Q (enable_row side) false kept kept_q see old mid here some at)
+        subst (λ (calls : List Call). AtCalls w origin h calls Q) (sym more)
+        (seen w q origin h along P Q (enable_row side) false kept kept_q see old mid here some at)
     polled_end (suc count) old new (mid, here, more) some at =
         polled_end count mid new more (made_some q old mid (Sees (enable_row side) true) here)
-        (seen w q fifo h along P P (enable_row side) true kept kept (λ number word named is. miss number word) old mid
+        (seen w q origin h along P P (enable_row side) true kept kept (λ number word named is. miss number word) old mid
         here some at)
 
 pub switching_off_leads : SwitchingOffLeads
-switching_off_leads w q frame fifo h old new along (first, second, few, (m1, a1, (m2, a2, more))) some at =
+switching_off_leads w q frame origin h old new along (first, second, few, (m1, a1, (m2, a2, more))) some at =
     let mine = lent_by w.pass h in
     let Named = Both Anything Anything w.queue q frame in
     let Asked = Both IsUnwanted Anything w.queue q frame in
@@ -63,18 +63,18 @@ switching_off_leads w q frame fifo h old new along (first, second, few, (m1, a1,
     let asked = both_kept IsUnwanted Anything unwanted_steady anything_steady w mine q frame in
     let both = both_kept IsUnwanted IsUnwanted unwanted_steady unwanted_steady w mine q frame in
     let one = both_kept IsOff IsUnwanted off_steady unwanted_steady w mine q frame in
-    let asked_at = set w q fifo h along Named Asked Rxdctl 0 named asked
+    let asked_at = set w q origin h along Named Asked Rxdctl 0 named asked
     (asks_receive Anything Anything w.queue q frame IsUnwanted (λ x p. refl)) old m1 a1 some
     (λ done rest all calls. record { ground = at done rest all calls; receive = tt; transmit = tt }) in
-    let both_at = set w q fifo h along Asked BothAsked Txdctl 0 asked both
+    let both_at = set w q origin h along Asked BothAsked Txdctl 0 asked both
     (asks_transmit IsUnwanted Anything w.queue q frame IsUnwanted (λ x p. refl)) m1 m2 a2
     (made_some q old m1 (Sets Rxdctl 0) a1) asked_at in
-    polled_lead w q fifo h along BothAsked OffAsked (IsQuiet w.queue q frame) both one Rx
+    polled_lead w q origin h along BothAsked OffAsked (IsQuiet w.queue q frame) both one Rx
     (λ number word s met made told b. both_read IsUnwanted IsUnwanted w.queue q frame s q.port number b)
     (sees_receive IsUnwanted IsUnwanted w.queue q frame (λ x none. none)) first (polled Tx false second) m2 new more
     (made_some q m1 m2 (Sets Txdctl 0) a2) both_at
     (λ mid rest some_mid one_at.
-    polled_end w q fifo h along OffAsked (IsQuiet w.queue q frame) (IsQuiet w.queue q frame) one
+    polled_end w q origin h along OffAsked (IsQuiet w.queue q frame) (IsQuiet w.queue q frame) one
     (quiet_kept w mine q frame) Tx
     (λ number word s met made told b. both_read IsOff IsUnwanted w.queue q frame s q.port number b)
     (sees_transmit IsOff IsUnwanted w.queue q frame (λ x none. none)) second mid new rest some_mid one_at)

@@ -1,31 +1,35 @@
--- A legal history of a new device that leaves a queue alone, and what holds wherever its pass has made so many calls.
+-- A legal history of a sound device that leaves a queue alone, and what holds wherever its pass has made so many calls.
 use Rattle.std.specs.Prelude.{ℕ, ◌≡◌, ◌≢◌, ◌<◌, List, [], ◌∷◌, ◌++◌}
 use Rattle.nic_device.specs.DmaArena.Block.{Block}
 use Rattle.nic_device.specs.Sound.{IsEvent, IsSound}
-use Rattle.nic_device.specs.State.{State, new_state}
+use Rattle.nic_device.specs.State.{State}
 use Rattle.nic_device.specs.Step.{after, reply_to}
 use Rattle.nic_device.specs.declared.event.Event.{Event}
-use Rattle.device_lock.specs.Alone.{Blocks, LeavesAlone, lent_by}
+use Rattle.device_lock.specs.Alone.{Blocks, lent_by}
 use Rattle.device_lock.specs.History.{IsLegal, AreEvents, call_in, calls_of, leads_to}
 use Rattle.device_lock.specs.declared.alone.Watched.{Watched}
 use Rattle.device_lock.specs.declared.entry.Call.{Call}
 use Rattle.device_lock.specs.declared.entry.Entry.{Entry}
 use Rattle.pmd.specs.PmdSeam.Made.{AreSteps}
+use Rattle.receive_laws.specs.HistoryLaws.Alone.{LeavesAloneFrom}
 use Rattle.start_laws.specs.Moves.{IsMet}
 use Rattle.start_laws.specs.Standing.{IsLeft}
 
-pub record IsAlong (w : Watched) (fifo : ℕ) (h : List Entry) : Type 0 where
+-- the history is one from a sound device on, whichever its state, whose functions are as many as the pass takes them
+-- for; and it leaves the queue alone
+pub record IsAlong (w : Watched) (origin : State) (h : List Entry) : Type 0 where
   pub small : w.queue < 128
-  pub new : IsSound (new_state w.vfs fifo)
+  pub sound : IsSound origin
+  pub vfs : w.vfs ≡ origin.vfs
   pub events : AreEvents h
-  pub legal : IsLegal (new_state w.vfs fifo) h
-  pub alone : LeavesAlone w h
+  pub legal : IsLegal origin h
+  pub alone : LeavesAloneFrom w origin h
 
 -- it holds wherever the history is at a point where the pass has made just these calls
-abbrev pub AtCalls : Watched → ℕ → List Entry → List Call → (State → Type 0) → Type 0
-AtCalls w fifo h calls P =
+abbrev pub AtCalls : Watched → State → List Entry → List Call → (State → Type 0) → Type 0
+AtCalls w origin h calls P =
     (done rest : List Entry) → done ++ rest ≡ h → calls_of w.pass done ≡ calls →
-    P (leads_to (new_state w.vfs fifo) done)
+    P (leads_to origin done)
 
 -- it holds of all entries up to such a point
 abbrev pub AtEntries : Watched → List Entry → List Call → (List Entry → Type 0) → Type 0
@@ -33,10 +37,10 @@ AtEntries w h calls P =
     (done rest : List Entry) → done ++ rest ≡ h → calls_of w.pass done ≡ calls → P done
 
 -- it holds just before the pass makes the last of these calls
-abbrev pub BeforeLast : Watched → ℕ → List Entry → List Call → (State → Type 0) → Type 0
-BeforeLast w fifo h calls P =
+abbrev pub BeforeLast : Watched → State → List Entry → List Call → (State → Type 0) → Type 0
+BeforeLast w origin h calls P =
     (done rest : List Entry) (e : Entry) → done ++ e ∷ rest ≡ h → e.pass ≡ w.pass →
-    calls_of w.pass done ++ call_in e ∷ [] ≡ calls → P (leads_to (new_state w.vfs fifo) done)
+    calls_of w.pass done ++ call_in e ∷ [] ≡ calls → P (leads_to origin done)
 
 -- each event that leaves the queue alone keeps it
 abbrev pub IsKept : Watched → Blocks → (State → Type 0) → Type 0
@@ -50,6 +54,6 @@ Leads queue c P Q =
 -- after some steps of the device and one call more the other holds, where both are kept
 abbrev pub CallsLead : Type 1
 CallsLead =
-    (w : Watched) (fifo : ℕ) (h : List Entry) (P Q : State → Type 0) (old before : List Call) (c : Call) →
-    IsAlong w fifo h → IsKept w (lent_by w.pass h) P → IsKept w (lent_by w.pass h) Q → Leads w.queue c P Q →
-    AreSteps before → old ≢ [] → AtCalls w fifo h old P → AtCalls w fifo h (old ++ (before ++ c ∷ [])) Q
+    (w : Watched) (origin : State) (h : List Entry) (P Q : State → Type 0) (old before : List Call) (c : Call) →
+    IsAlong w origin h → IsKept w (lent_by w.pass h) P → IsKept w (lent_by w.pass h) Q → Leads w.queue c P Q →
+    AreSteps before → old ≢ [] → AtCalls w origin h old P → AtCalls w origin h (old ++ (before ++ c ∷ [])) Q

@@ -3,6 +3,7 @@ use Rattle.std.specs.Prelude.{ℕ, ◌≡◌, ◌⊎◌, ⊤, true, List, []}
 use mathlib.Core.Logic.{inl, inr}
 use Rattle.nic_device.specs.DmaArena.Numbers.{Numbers}
 use Rattle.nic_device.specs.DmaRing.declared.dir.Dir.TheVariants.{Tx}
+use Rattle.nic_device.specs.State.{State}
 use Rattle.device_lock.specs.declared.alone.Watched.{Watched}
 use Rattle.device_lock.specs.declared.entry.Call.{Call}
 use Rattle.device_lock.specs.declared.entry.Entry.{Entry}
@@ -68,11 +69,11 @@ FaultsEarly q size frame old a new =
     FaultsBeforeOne q size old a new ⊎ FaultsAfterOne q size frame old a new ⊎ FaultsSwitching q size frame old a new
 
 -- as a block of a ring is lent, none of the blocks is that are free then
-abbrev pub LendsFresh : (w : Watched) (fifo : ℕ) (h : List Entry) (q : AtPort) (size frame : ℕ) (old : List Call)
+abbrev pub LendsFresh : (w : Watched) (origin : State) (h : List Entry) (q : AtPort) (size frame : ℕ) (old : List Call)
     (a : Numbers) (new : List Call) → FaultsEarly q size frame old a new → Type 0
-LendsFresh w fifo h q size frame old a new (inl x) = NoneIsLent w fifo h new x.arena
-LendsFresh w fifo h q size frame old a new (inr (inl x)) = NoneIsLent w fifo h new x.arena
-LendsFresh w fifo h q size frame old a new (inr (inr x)) = ⊤
+LendsFresh w origin h q size frame old a new (inl x) = NoneIsLent w origin h new x.arena
+LendsFresh w origin h q size frame old a new (inr (inl x)) = NoneIsLent w origin h new x.arena
+LendsFresh w origin h q size frame old a new (inr (inr x)) = ⊤
 
 -- a start that answers `DeviceFault` amid its events ends in one of these ways
 abbrev pub FaultsAreEarlyOrFilling : Type 0
@@ -84,14 +85,14 @@ FaultsAreEarlyOrFilling =
 -- early it never does where its queue is off just before its first call
 abbrev pub NoFaultIsEarly : Type 0
 NoFaultIsEarly =
-    (w : Watched) (q : AtPort) (fifo : ℕ) (h : List Entry) (size frame : ℕ) (old : List Call) (a : Numbers)
-    (new : List Call) → IsAlong w fifo h → BeforeNext w fifo h old (IsQuiet w.queue q frame) →
-    (x : FaultsEarly q size frame old a new) → LendsFresh w fifo h q size frame old a new x → Never w fifo h new
+    (w : Watched) (q : AtPort) (origin : State) (h : List Entry) (size frame : ℕ) (old : List Call) (a : Numbers)
+    (new : List Call) → IsAlong w origin h → BeforeNext w origin h old (IsQuiet w.queue q frame) →
+    (x : FaultsEarly q size frame old a new) → LendsFresh w origin h q size frame old a new x → Never w origin h new
 
 -- and as it began to fill the ring the device and the driver agreed on both sides, and the receive side was up
 abbrev pub FillingBeginsWell : Type 0
 FillingBeginsWell =
-    (w : Watched) (q : AtPort) (fifo : ℕ) (h : List Entry) (size frame : ℕ) (old : List Call) (a : Numbers)
-    (new : List Call) → IsAlong w fifo h →
-    BeforeNext w fifo h old (IsQuiet w.queue q frame) → (x : FaultsFilling q size frame old a new) →
-    AtCalls w fifo h x.mid (λ s. IsUp w.queue s × Agree w.queue s [] x.empty × Agrees s w.queue [] x.sender)
+    (w : Watched) (q : AtPort) (origin : State) (h : List Entry) (size frame : ℕ) (old : List Call) (a : Numbers)
+    (new : List Call) → IsAlong w origin h →
+    BeforeNext w origin h old (IsQuiet w.queue q frame) → (x : FaultsFilling q size frame old a new) →
+    AtCalls w origin h x.mid (λ s. IsUp w.queue s × Agree w.queue s [] x.empty × Agrees s w.queue [] x.sender)

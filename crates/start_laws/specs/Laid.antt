@@ -4,7 +4,7 @@ use Rattle.nic_device.specs.DmaArena.Block.{Block}
 use Rattle.nic_device.specs.RegTable.declared.rows.RowId.{RowId}
 use Rattle.nic_device.specs.RegTable.declared.rows.RowId.TheVariants.{Rdbal, Rdbah, Rdlen, Rdh, Rdt, Srrctl, Rxdctl, Tdbal, Tdbah, Tdlen, Tdh, Tdt, Tdwbal, Txdctl}
 use Rattle.nic_device.specs.RegisterFile.Bits.{has_bit}
-use Rattle.nic_device.specs.State.{new_state}
+use Rattle.nic_device.specs.State.{State}
 use Rattle.nic_device.specs.declared.event.Event.{Event}
 use Rattle.nic_device.specs.declared.event.Event.TheVariants as event
 use Rattle.device_lock.specs.History.{call_in, calls_of, leads_to}
@@ -74,9 +74,9 @@ LaysOn q l (c ∷ cs) last = (m : Laid) × Lays q l c.event m × LaysOn q m cs l
 -- and queue name it and its transmit side is off, where this and the pass's calls behind it are such
 abbrev pub LaidQueueIsSilent : Type 0
 LaidQueueIsSilent =
-    (w : Watched) (q : AtPort) (frame fifo : ℕ) (h done rest : List Entry) (e : Entry) (last : Laid) →
-    IsAlong w fifo h → done ++ e ∷ rest ≡ h → e.pass ≡ w.pass →
-    HasGround w.queue q frame (leads_to (new_state w.vfs fifo) done) →
-    transmit.IsOff w.queue (leads_to (new_state w.vfs fifo) done) →
+    (w : Watched) (q : AtPort) (frame : ℕ) (origin : State) (h done rest : List Entry) (e : Entry) (last : Laid) →
+    IsAlong w origin h → done ++ e ∷ rest ≡ h → e.pass ≡ w.pass →
+    HasGround w.queue q frame (leads_to origin done) →
+    transmit.IsOff w.queue (leads_to origin done) →
     LaysOn q Off (call_in e ∷ calls_of w.pass rest) last →
-    sent_in w.queue (leads_to (new_state w.vfs fifo) done) (e ∷ rest) ≡ []
+    sent_in w.queue (leads_to origin done) (e ∷ rest) ≡ []

@@ -1,7 +1,7 @@
 -- Both rings came up and both sides went on; the receive ring may be filled next.
 use Rattle.std.specs.Prelude.{ℕ, ◌≡◌, true, List, []}
 use Rattle.nic_device.specs.DmaArena.Numbers.{Numbers}
-use Rattle.nic_device.specs.State.{new_state}
+use Rattle.nic_device.specs.State.{State}
 use Rattle.device_lock.specs.declared.alone.Watched.{Watched}
 use Rattle.device_lock.specs.declared.entry.Call.{Call}
 use Rattle.device_lock.specs.declared.entry.Entry.{Entry}
@@ -36,23 +36,23 @@ pub record AreOn (q : AtPort) (size frame : ℕ) (old : List Call) (a : Numbers)
 -- sent
 abbrev pub SwitchedSidesAgree : Type 0
 SwitchedSidesAgree =
-    (w : Watched) (fifo : ℕ) (h : List Entry) (q : AtPort) (size frame : ℕ) (old : List Call) (a : Numbers)
-    (new : List Call) (v : Receive) (t : Sender) (up : AreOn q size frame old a new v t) → IsAlong w fifo h →
-    BeforeLast w fifo h up.receive.quiet.0 (HasGround w.queue q frame) →
-    AtCalls w fifo h new (λ s. Agree w.queue s [] v × Agrees s w.queue [] t)
+    (w : Watched) (origin : State) (h : List Entry) (q : AtPort) (size frame : ℕ) (old : List Call) (a : Numbers)
+    (new : List Call) (v : Receive) (t : Sender) (up : AreOn q size frame old a new v t) → IsAlong w origin h →
+    BeforeLast w origin h up.receive.quiet.0 (HasGround w.queue q frame) →
+    AtCalls w origin h new (λ s. Agree w.queue s [] v × Agrees s w.queue [] t)
 
 -- and both sides are on there, with nothing received or sent since they went on
 abbrev pub SwitchedSidesGoOn : Type 0
 SwitchedSidesGoOn =
-    (w : Watched) (fifo : ℕ) (h : List Entry) (q : AtPort) (size frame : ℕ) (old : List Call) (a : Numbers)
-    (new : List Call) (v : Receive) (t : Sender) (up : AreOn q size frame old a new v t) → IsAlong w fifo h →
-    BeforeLast w fifo h up.receive.quiet.0 (HasGround w.queue q frame) →
-    AtEntries w h new (WentOn w.queue (new_state w.vfs fifo))
+    (w : Watched) (origin : State) (h : List Entry) (q : AtPort) (size frame : ℕ) (old : List Call) (a : Numbers)
+    (new : List Call) (v : Receive) (t : Sender) (up : AreOn q size frame old a new v t) → IsAlong w origin h →
+    BeforeLast w origin h up.receive.quiet.0 (HasGround w.queue q frame) →
+    AtEntries w h new (WentOn w.queue origin)
 
 -- and nothing is written there yet of a frame that waits for the queue
 abbrev pub SwitchedSidesBeginNone : Type 0
 SwitchedSidesBeginNone =
-    (w : Watched) (fifo : ℕ) (h : List Entry) (q : AtPort) (size frame : ℕ) (old : List Call) (a : Numbers)
-    (new : List Call) (v : Receive) (t : Sender) (up : AreOn q size frame old a new v t) → IsAlong w fifo h →
-    BeforeLast w fifo h up.receive.quiet.0 (HasGround w.queue q frame) →
-    AtCalls w fifo h new (λ s. begun_on w.queue s.waiting ≡ 0)
+    (w : Watched) (origin : State) (h : List Entry) (q : AtPort) (size frame : ℕ) (old : List Call) (a : Numbers)
+    (new : List Call) (v : Receive) (t : Sender) (up : AreOn q size frame old a new v t) → IsAlong w origin h →
+    BeforeLast w origin h up.receive.quiet.0 (HasGround w.queue q frame) →
+    AtCalls w origin h new (λ s. begun_on w.queue s.waiting ≡ 0)

@@ -81,9 +81,9 @@ AllMay (a ∷ rest) p = May a p × AllMay rest (after_access a p)
 -- known; then, where it has made accesses that keep them standing, they stand as after these
 abbrev pub AccessesLead : Type 0
 AccessesLead =
-    (w : Watched) (q : AtPort) (frame fifo : ℕ) (h : List Entry) (known : Sides → Bool) (F : Sides → Sides)
-    (all : List Access) (old new : List Call) → IsAlong w fifo h → ((p : Sides) → IsTrue (known p) → AllMay all (F p)) →
-    AreMade q old new all → old ≢ [] →
-    AtCalls w fifo h old (λ s. (p : Sides) × IsTrue (known p) × Point w.queue (lent_by w.pass h) q frame (F p) s) →
-    AtCalls w fifo h new
+    (w : Watched) (q : AtPort) (frame : ℕ) (origin : State) (h : List Entry) (known : Sides → Bool) (F : Sides → Sides)
+    (all : List Access) (old new : List Call) → IsAlong w origin h →
+    ((p : Sides) → IsTrue (known p) → AllMay all (F p)) → AreMade q old new all → old ≢ [] →
+    AtCalls w origin h old (λ s. (p : Sides) × IsTrue (known p) × Point w.queue (lent_by w.pass h) q frame (F p) s) →
+    AtCalls w origin h new
     (λ s. (p : Sides) × IsTrue (known p) × Point w.queue (lent_by w.pass h) q frame (after_accesses all (F p)) s)

@@ -27,9 +27,10 @@ IsQuiet queue q frame s = Both IsOff IsOff queue q frame s
 -- just before the first of these
 abbrev pub QuietingLeads : Type 0
 QuietingLeads =
-    (w : Watched) (q : AtPort) (frame fifo : ℕ) (h : List Entry) (old new : List Call) → IsAlong w fifo h →
-    (made : AreMade q old new both_quiet) → BeforeLast w fifo h made.0 (HasGround w.queue q frame) →
-    AtCalls w fifo h new (IsQuiet w.queue q frame)
+    (w : Watched) (q : AtPort) (frame : ℕ) (origin : State) (h : List Entry) (old new : List Call) →
+    IsAlong w origin h →
+    (made : AreMade q old new both_quiet) → BeforeLast w origin h made.0 (HasGround w.queue q frame) →
+    AtCalls w origin h new (IsQuiet w.queue q frame)
 
 -- the sides are off, and not wanted on
 abbrev pub are_off : Sides → Bool
@@ -38,6 +39,6 @@ are_off p = (not p.rx.on && not p.rx.wanted) && (not p.tx.on && not p.tx.wanted)
 -- and so they stand as they are, with no block lent
 abbrev pub QuietSidesStand : Type 0
 QuietSidesStand =
-    (w : Watched) (q : AtPort) (frame fifo : ℕ) (h : List Entry) (calls : List Call) → IsAlong w fifo h →
-    AtCalls w fifo h calls (IsQuiet w.queue q frame) →
-    AtCalls w fifo h calls (λ s. (p : Sides) × IsTrue (are_off p) × Point w.queue (lent_by w.pass h) q frame p s)
+    (w : Watched) (q : AtPort) (frame : ℕ) (origin : State) (h : List Entry) (calls : List Call) → IsAlong w origin h →
+    AtCalls w origin h calls (IsQuiet w.queue q frame) →
+    AtCalls w origin h calls (λ s. (p : Sides) × IsTrue (are_off p) × Point w.queue (lent_by w.pass h) q frame p s)

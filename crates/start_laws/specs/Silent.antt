@@ -1,6 +1,6 @@
 -- A queue whose sides were switched off, and what is received and sent there from then on.
 use Rattle.std.specs.Prelude.{ℕ, ◌≡◌, ◌≢◌, false, List, [], ◌++◌}
-use Rattle.nic_device.specs.State.{new_state}
+use Rattle.nic_device.specs.State.{State}
 use Rattle.device_lock.specs.History.{calls_of}
 use Rattle.device_lock.specs.declared.alone.Watched.{Watched}
 use Rattle.device_lock.specs.declared.entry.Call.{Call}
@@ -18,18 +18,17 @@ use Rattle.start_laws.specs.Stopping.{Ends}
 -- this queue before
 abbrev pub SwitchingOffLeads : Type 0
 SwitchingOffLeads =
-    (w : Watched) (q : AtPort) (frame fifo : ℕ) (h : List Entry) (old new : List Call) → IsAlong w fifo h →
-    IsSwitched q old new false 1000 → old ≢ [] →
-    AtCalls w fifo h old (HasGround w.queue q frame) → AtCalls w fifo h new (IsQuiet w.queue q frame)
+    (w : Watched) (q : AtPort) (frame : ℕ) (origin : State) (h : List Entry) (old new : List Call) →
+    IsAlong w origin h → IsSwitched q old new false 1000 → old ≢ [] →
+    AtCalls w origin h old (HasGround w.queue q frame) → AtCalls w origin h new (IsQuiet w.queue q frame)
 
 -- and from then on nothing is delivered or sent there, where the calls of the pass are those of a stop
-pub record IsSilent (w : Watched) (fifo : ℕ) (h done : List Entry) : Type 0 where
-  pub delivered :
-      delivered w.queue (new_state w.vfs fifo) h ≡ delivered w.queue (new_state w.vfs fifo) done
-  pub sent : sent_since w.queue (new_state w.vfs fifo) [] h ≡ sent_since w.queue (new_state w.vfs fifo) [] done
+pub record IsSilent (w : Watched) (origin : State) (h done : List Entry) : Type 0 where
+  pub delivered : delivered w.queue origin h ≡ delivered w.queue origin done
+  pub sent : sent_since w.queue origin [] h ≡ sent_since w.queue origin [] done
 
 abbrev pub QuietQueueIsSilent : Type 0
 QuietQueueIsSilent =
-    (w : Watched) (q : AtPort) (frame fifo : ℕ) (h done rest : List Entry) (old new : List Call) → IsAlong w fifo h →
-    old ≢ [] → AtCalls w fifo h old (IsQuiet w.queue q frame) → Ends q old new → calls_of w.pass h ≡ new →
-    done ++ rest ≡ h → calls_of w.pass done ≡ old → IsSilent w fifo h done
+    (w : Watched) (q : AtPort) (frame : ℕ) (origin : State) (h done rest : List Entry) (old new : List Call) →
+    IsAlong w origin h → old ≢ [] → AtCalls w origin h old (IsQuiet w.queue q frame) → Ends q old new →
+    calls_of w.pass h ≡ new → done ++ rest ≡ h → calls_of w.pass done ≡ old → IsSilent w origin h done

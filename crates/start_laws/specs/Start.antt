@@ -1,7 +1,7 @@
 -- What a start of the driver leaves, over a legal history that leaves its queue alone.
 use Rattle.std.specs.Prelude.{ℕ, List, []}
 use Rattle.nic_device.specs.DmaArena.Numbers.{Numbers}
-use Rattle.nic_device.specs.State.{new_state}
+use Rattle.nic_device.specs.State.{State}
 use Rattle.device_lock.specs.declared.alone.Watched.{Watched}
 use Rattle.device_lock.specs.declared.entry.Call.{Call}
 use Rattle.device_lock.specs.declared.entry.Entry.{Entry}
@@ -16,23 +16,23 @@ use Rattle.start_laws.specs.Unused.{WentOn}
 
 -- just before the driver's first access its port and queue name this queue, and frames have at most as many bytes as
 -- its packets
-pub record BeginsWell (w : Watched) (fifo : ℕ) (h : List Entry) (q : AtPort) (size frame : ℕ) (old : List Call)
+pub record BeginsWell (w : Watched) (origin : State) (h : List Entry) (q : AtPort) (size frame : ℕ) (old : List Call)
     (a : Numbers) (new : List Call) (r : Running) (up : AreUp q size frame old a new r) : Type 0 where
-  pub ground : BeforeLast w fifo h up.receive.quiet.0 (HasGround w.queue q frame)
+  pub ground : BeforeLast w origin h up.receive.quiet.0 (HasGround w.queue q frame)
 
 -- wherever the pass has made the calls by which both sides came up, device and driver agree on both: nothing is posted
 -- yet, and nothing is sent
 abbrev pub StartAgrees : Type 0
 StartAgrees =
-    (w : Watched) (fifo : ℕ) (h : List Entry) (q : AtPort) (size frame : ℕ) (old : List Call) (a : Numbers)
-    (new : List Call) (r : Running) (up : AreUp q size frame old a new r) → IsAlong w fifo h →
-    BeginsWell w fifo h q size frame old a new r up →
-    AtCalls w fifo h up.on.mid (λ s. Agree w.queue s [] up.empty × Agrees s w.queue [] r.transmit)
+    (w : Watched) (origin : State) (h : List Entry) (q : AtPort) (size frame : ℕ) (old : List Call) (a : Numbers)
+    (new : List Call) (r : Running) (up : AreUp q size frame old a new r) → IsAlong w origin h →
+    BeginsWell w origin h q size frame old a new r up →
+    AtCalls w origin h up.on.mid (λ s. Agree w.queue s [] up.empty × Agrees s w.queue [] r.transmit)
 
 -- and both sides are on there, with nothing received or sent since they went on
 abbrev pub StartGoesOn : Type 0
 StartGoesOn =
-    (w : Watched) (fifo : ℕ) (h : List Entry) (q : AtPort) (size frame : ℕ) (old : List Call) (a : Numbers)
-    (new : List Call) (r : Running) (up : AreUp q size frame old a new r) → IsAlong w fifo h →
-    BeginsWell w fifo h q size frame old a new r up →
-    AtEntries w h up.on.mid (WentOn w.queue (new_state w.vfs fifo))
+    (w : Watched) (origin : State) (h : List Entry) (q : AtPort) (size frame : ℕ) (old : List Call) (a : Numbers)
+    (new : List Call) (r : Running) (up : AreUp q size frame old a new r) → IsAlong w origin h →
+    BeginsWell w origin h q size frame old a new r up →
+    AtEntries w h up.on.mid (WentOn w.queue origin)

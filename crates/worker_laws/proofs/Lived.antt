@@ -98,12 +98,12 @@ module _ (w : Watched) (fifo : ℕ) (h : List Entry) (q : AtPort) (size frame : 
         calls = x.made;
       }
 
-  module _ (along : IsAlong w fifo h)
+  module _ (along : IsAlong w (new_state w.vfs fifo) h)
       (ground : JustBefore w.vfs fifo w.pass old h (HasGround w.queue q frame)) where
     abbrev origin : State
     origin = new_state w.vfs fifo
 
-    begins : BeginsWell w fifo h q size frame old a lived.lives.made lived.lives.fresh up
+    begins : BeginsWell w origin h q size frame old a lived.lives.made lived.lives.fresh up
     begins = record {
       ground = λ before behind e all own is.
           let (calls, call) =
@@ -122,7 +122,7 @@ module _ (w : Watched) (fifo : ℕ) (h : List Entry) (q : AtPort) (size frame : 
           });
     }
 
-    over : IsOver w fifo h q size frame old a new left late lived
+    over : IsOver w origin h q size frame old a new left late lived
     over = record {
       along = along;
       since = stop_goes.0;
@@ -150,12 +150,13 @@ module _ (w : Watched) (fifo : ℕ) (h : List Entry) (q : AtPort) (size frame : 
 
     quiet : IsQuiet w.queue q frame (leads_to origin both_off.front)
     quiet =
-        quieting_leads w q frame fifo h old up.receive.mid along up.receive.quiet begins.ground both_off.front rest whole
+        quieting_leads w q frame origin h old up.receive.mid along up.receive.quiet begins.ground both_off.front rest
+        whole
         both_off.fronts
 
     went_on : WentOn w.queue origin both_on.front
     went_on =
-        start_goes_on w fifo h q size frame old a lived.lives.made lived.lives.fresh up along begins both_on.front
+        start_goes_on w origin h q size frame old a lived.lives.made lived.lives.fresh up along begins both_on.front
         both_on.back both_on.both both_on.fronts
 
     module _ (x : Starts w.pass old h) where
@@ -222,10 +223,10 @@ module _ (w : Watched) (fifo : ℕ) (h : List Entry) (q : AtPort) (size frame : 
           (delivered w.queue (leads_to origin x.before) (x.first ∷ x.behind))
       handed_since =
           subst (receive.IsPrefixOf (left_handed left)) received
-          (left_handed_over_stop w fifo h q size frame old a new left late lived over)
+          (left_handed_over_stop w origin h q size frame old a new left late lived over)
 
       pub sent_on : transmit.IsPrefixOf (sent_since w.queue (leads_to origin x.before) [] (x.first ∷ x.behind))
           (bytes_of (left_accepted left))
       sent_on =
           subst (λ (sent : List (List ℕ)). transmit.IsPrefixOf sent (bytes_of (left_accepted left))) counted
-          (left_sent_over_stop w fifo h q size frame old a new left late lived over)
+          (left_sent_over_stop w origin h q size frame old a new left late lived over)

@@ -20,6 +20,7 @@ use Rattle.pmd_laws.specs.StartLaws.TransmitLaws.Sent.{sent_since}
 use Rattle.pmd_laws.specs.StartLaws.Along.{IsAlong}
 use Rattle.pmd_laws.specs.StartLaws.Points.{HasGround}
 use Rattle.pmd_laws.specs.StartLaws.Quieting.{IsQuiet}
+use Rattle.pmd_laws.proofs.StartLaws.HistoryLaws.Alone.{new_is_left_alone}
 use Rattle.pmd_laws.proofs.StartLaws.Parts.{none_behind}
 use Rattle.pmd_laws.proofs.Lived.{along_before}
 use Rattle.workers.specs.Ends.{AreEnds, IsEnd}
@@ -81,7 +82,7 @@ module _ (w : Watched) (fifo : ℕ) (h : List Entry) (q : AtPort) (size frame : 
   run_starts (inl (worked, late, is, lived)) = inl (starts w fifo h q size frame old a new left late lived made)
   run_starts (inr (e, is, never)) = inr (never.handed, never.accepted)
 
-  module _ (along : IsAlong w fifo h)
+  module _ (along : IsAlong w (new_state w.vfs fifo) h)
       (ground : JustBefore w.vfs fifo w.pass old h (HasGround w.queue q frame)) (x : Starts w.pass old h) where
     run_in_order : HasRun q size frame old a new left fault
         → (fault ≡ None) ⊎ IsQuiet w.queue q frame (leads_to (new_state w.vfs fifo) x.before)
@@ -130,14 +131,15 @@ module _ (vfs fifo : ℕ) (h : List Entry) (j : Job) (e : WorkerEnd) (x : IsEndI
         named_below _ _ j.port j.queue j.pf_queue
         (ground (starts_more e.pass.tag old u.done u.rest h u.all s)).names
 
-    along : IsAlong w fifo u.done
+    along : IsAlong w (new_state vfs fifo) u.done
     along =
-        along_before w fifo h u.done u.rest u.all (record {
+        along_before w (new_state vfs fifo) h u.done u.rest u.all (record {
           small = small;
-          new = new;
+          sound = new;
+          vfs = refl;
           events = x.events;
           legal = x.legal;
-          alone = x.alone;
+          alone = new_is_left_alone w fifo h new x.events x.alone;
         })
 
     ground_so_far : JustBefore vfs fifo e.pass.tag old u.done (HasGround j.pf_queue q j.frame)

@@ -63,7 +63,7 @@ module _ (w : Watched) (fifo : ℕ) (old : List Call) (a : Numbers) (h : List En
 
 module _ (w : Watched) (fifo : ℕ) (old : List Call) (h : List Entry) (P : State → Type 0)
     (just : JustBefore w.vfs fifo w.pass old h P) where
-  pub before_first : (mid : List Call) → FirstCall old mid → BeforeLast w fifo h mid P
+  pub before_first : (mid : List Call) → FirstCall old mid → BeforeLast w (new_state w.vfs fifo) h mid P
   before_first mid f done rest e all own is =
       let (calls, call) =
       same_from_push (calls_of w.pass done) (old ++ f.steps) (call_in e) f.call
@@ -80,7 +80,7 @@ module _ (w : Watched) (fifo : ℕ) (old : List Call) (h : List Entry) (P : Stat
         calls = calls;
       })
 
-  pub before_next : BeforeNext w fifo h old P
+  pub before_next : BeforeNext w (new_state w.vfs fifo) h old P
   before_next steps call stepped event =
       before_first (old ++ (steps ++ call ∷ [])) (record {
         steps = steps;

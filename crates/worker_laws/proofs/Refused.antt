@@ -26,12 +26,12 @@ use Rattle.worker_laws.proofs.FirstCalls.{calls_from}
 
 module _ (w : Watched) (fifo : ℕ) (h : List Entry) (q : AtPort) (size frame : ℕ) (old : List Call) (a : Numbers)
     (e : StartRefused) (new : List Call) (left : Rest) (never : NeverLived q size frame old a e new left)
-    (made : calls_of w.pass h ≡ new) (along : IsAlong w fifo h) (x : Starts w.pass old h)
+    (made : calls_of w.pass h ≡ new) (along : IsAlong w (new_state w.vfs fifo) h) (x : Starts w.pass old h)
     (quiet : IsQuiet w.queue q frame (leads_to (new_state w.vfs fifo) x.before)) where
   abbrev since : List Call
   since = x.steps ++ call_in x.first ∷ calls_of w.pass x.behind
 
-  refused : IsRefused w fifo h q frame old new x.before x.first x.behind
+  refused : IsRefused w (new_state w.vfs fifo) h q frame old new x.before x.first x.behind
   refused = record {
     along = along;
     begins = record {
@@ -54,4 +54,5 @@ module _ (w : Watched) (fifo : ℕ) (h : List Entry) (q : AtPort) (size frame : 
       (sent_since w.queue (leads_to (new_state w.vfs fifo) x.before) [] (x.first ∷ x.behind))
       (bytes_of (left_accepted left))
   nothing_left =
-      left_of_refused_is_prefix w fifo h q size frame old a e new left x.before x.first x.behind never refused
+      left_of_refused_is_prefix w (new_state w.vfs fifo) h q size frame old a e new left x.before x.first x.behind never
+      refused

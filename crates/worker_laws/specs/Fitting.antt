@@ -24,11 +24,11 @@ AllFitBlocks queue frame s = All (FitsBlocks queue (most_blocks frame)) s.waitin
 -- driver that came up then
 pub record HasShortFrames (w : Watched) (fifo : ℕ) (old : List Call) (frame : ℕ) (h : List Entry) : Type 0 where
   pub first : JustBefore w.vfs fifo w.pass old h (AllFitBlocks w.queue frame)
-  pub next : BeforeNext w fifo h old (AllFitBlocks w.queue frame)
+  pub next : BeforeNext w (new_state w.vfs fifo) h old (AllFitBlocks w.queue frame)
   pub started :
       (q : AtPort) (size : ℕ) (a : Numbers) (m : Moment) (later : List Moment)
       (told : IsTold q size frame old a m later)
-      → BeforeLast w fifo h told.started.2.receive.quiet.0 (AllFitBlocks w.queue frame)
+      → BeforeLast w (new_state w.vfs fifo) h told.started.2.receive.quiet.0 (AllFitBlocks w.queue frame)
 
 -- so it is where the entries say that frames fit
 abbrev pub FramesFitIsShort : Type 0

@@ -21,10 +21,10 @@ use Rattle.worker_laws.specs.Points.{JustBefore}
 pub record HasBlocksAlone (w : Watched) (fifo : ℕ) (old : List Call) (a : Numbers) (h : List Entry) : Type 0 where
   pub others : OnlyPassLends w.pass (is_own a) h
   pub first : JustBefore w.vfs fifo w.pass old h (NoneLent (is_own a))
-  pub next : BeforeNext w fifo h old (NoneLent (is_own a))
+  pub next : BeforeNext w (new_state w.vfs fifo) h old (NoneLent (is_own a))
   pub started :
       (q : AtPort) (size frame : ℕ) (m : Moment) (later : List Moment) (told : IsTold q size frame old a m later)
-      → BeforeLast w fifo h told.started.2.receive.quiet.0 (NoneLent (is_own a))
+      → BeforeLast w (new_state w.vfs fifo) h told.started.2.receive.quiet.0 (NoneLent (is_own a))
 
 -- so it is where the entries say that others lend none of them
 abbrev pub OthersLendNoneIsAlone : Type 0

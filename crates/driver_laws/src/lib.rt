@@ -25,10 +25,10 @@ pub fn calls_lead_both_halves()
     ensures on { DrivesOn }
 {}
 
-/// Over a history of any sound device that leaves the driver's queue alone, from a place on where the device agrees with
-/// both halves and the receive side has gone on: the packets that the driver handed out are a prefix of those that were
-/// delivered since. Where a look that comes next finds none, all of them were handed out, or are whole and handed out
-/// as the tail moves on; and all were handed out where none is whole, as they were at each place before since which
+/// Over a history of any sound device that leaves the driver's queue alone, from a place on where the device agrees
+/// with both halves and the receive side has gone on: the packets that the driver handed out are a prefix of those that
+/// were delivered since. Where a look that comes next finds none, all of them were handed out, or are whole and handed
+/// out as the tail moves on; and all were handed out where none is whole, as they were at each place before since which
 /// none was handed out. The frames that were sent since are a prefix of those that it accepted, and all of them where
 /// none is outstanding. Where the transmit side is up at that place, all of these are counted since it went on.
 pub fn both_sides_in_order()
@@ -69,8 +69,8 @@ pub fn waiting_packets_are_not_all_sent()
     ensures { WaitingIsNotAll }
 {}
 
-/// Over a history of any sound device that leaves the driver's queue alone, from a place on where the device agrees with
-/// both halves and the receive side has gone on: each call of either half gets a reply that a healthy queue gives.
+/// Over a history of any sound device that leaves the driver's queue alone, from a place on where the device agrees
+/// with both halves and the receive side has gone on: each call of either half gets a reply that a healthy queue gives.
 /// There the frames that wait for the queue fit as many blocks as the driver takes for a packet, as do those that are
 /// let in; and of the driver's arena only blocks are lent that the driver has lent, and no other pass lends any. What
 /// the halves lend is as the clause `drives` of a driver's calls says: blocks of the arena alone, and none that the

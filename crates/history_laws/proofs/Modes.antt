@@ -97,7 +97,7 @@ pub event_told : (s : State) → IsSound s → s.image ≡ blank → (e : Event 
 event_told s sound image (event.Write port n word) = write_told s sound image port n word
 event_told s sound image e = sym (ap mode_of (setting_stands GcrExt setting s e (λ port n word p view is there. cc)))
 
-told_from : (s : State) (h : List Entry) → IsSound s → s.image ≡ blank → AreEvents h
+pub told_from : (s : State) (h : List Entry) → IsSound s → s.image ≡ blank → AreEvents h
     → mode_through s.vfs (mode_in s.registers) h ≡ mode_in (leads_to s h).registers
 told_from s [] sound image events = refl
 told_from s (e ∷ es) sound image events =
@@ -107,7 +107,9 @@ told_from s (e ∷ es) sound image events =
     ∙ ap (λ vfs. mode_through vfs (mode_in t.registers) es) (sym stays.vfs)
     ∙ told_from t es (keeps_sound s sound e.event events.0) (stays.image ∙ image) events.1
 
+pub new_is_off : (vfs fifo : ℕ) → mode_in (new_state vfs fifo).registers ≡ Off
+new_is_off vfs fifo = ap mode_of (word_at-reset (place GcrExt 0) (omega arith))
+
 pub mode_told : ModeIsTold
 mode_told vfs fifo h new events =
-    ap (λ m. mode_through vfs m h) (sym (ap mode_of (word_at-reset (place GcrExt 0) (omega arith))))
-    ∙ told_from (new_state vfs fifo) h new refl events
+    ap (λ m. mode_through vfs m h) (sym (new_is_off vfs fifo)) ∙ told_from (new_state vfs fifo) h new refl events

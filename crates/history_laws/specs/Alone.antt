@@ -1,5 +1,7 @@
 -- What it is to leave a queue alone, from a state of the device on.
 use Rattle.std.specs.Prelude.{◌≡◌, ⊤, IsTrue, List, [], ◌∷◌, ◌++◌}
+use Rattle.nic_device.specs.EepromImage.Image.{blank}
+use Rattle.nic_device.specs.VfMap.declared.mode.Mode.TheVariants.{Off}
 use Rattle.nic_device.specs.RegisterFile.Pools.{mode_in}
 use Rattle.nic_device.specs.State.{State}
 use Rattle.nic_device.specs.Step.{after}
@@ -15,6 +17,13 @@ abbrev pub LeavesAloneFrom : Watched → State → List Entry → Type 0
 LeavesAloneFrom w s h =
     (before : List Entry) (e : Entry) (after : List Entry) → h ≡ before ++ e ∷ after → IsTrue (has_begun w.pass before)
     → EntryLeavesAlone w (lent_by w.pass h) (mode_in (leads_to s before).registers) e
+
+-- a device of which entries tell the mode by themselves, from its state on: a reset makes no writes of an installed
+-- EEPROM image, and the queues aren't parted among pools. A new device is such
+pub record IsPlain (w : Watched) (s : State) : Type 0 where
+  pub image : s.image ≡ blank
+  pub mode : mode_in s.registers ≡ Off
+  pub vfs : w.vfs ≡ s.vfs
 
 -- each entry of a history leaves the queue and these blocks alone, from a state on
 abbrev pub AllAlone : Watched → Blocks → State → List Entry → Type 0

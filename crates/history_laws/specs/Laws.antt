@@ -10,7 +10,7 @@ use Rattle.device_lock.specs.History.{leads_to, AreEvents}
 use Rattle.device_lock.specs.Told.{first_settings, limit_of, settings_through}
 use Rattle.device_lock.specs.declared.alone.Watched.{Watched}
 use Rattle.device_lock.specs.declared.entry.Entry.{Entry}
-use Rattle.history_laws.specs.Alone.{AllAlone, LeavesAloneFrom}
+use Rattle.history_laws.specs.Alone.{AllAlone, IsPlain, LeavesAloneFrom}
 
 -- the mode that the entries tell is the device's, from a new device on
 abbrev pub ModeIsTold : Type 0
@@ -26,12 +26,16 @@ SettingsAreTold =
     let s = leads_to (new_state vfs fifo) h in
     (told.mode ≡ mode_in s.registers) × (limit_of told.frames ≡ frame_limit s.registers)
 
--- so a history from a new device on that leaves a queue alone, by the mode that its entries tell, leaves it alone from
--- that device on
-abbrev pub NewIsLeftAlone : Type 0
-NewIsLeftAlone =
-    (w : Watched) (fifo : ℕ) (h : List Entry) → IsSound (new_state w.vfs fifo) → AreEvents h → LeavesAlone w h →
-    LeavesAloneFrom w (new_state w.vfs fifo) h
+-- so where entries tell the mode by themselves, a history that leaves a queue alone by the mode that they tell leaves
+-- it alone from that device on
+abbrev pub PlainIsLeftAlone : Type 0
+PlainIsLeftAlone =
+    (w : Watched) (s : State) (h : List Entry) → IsSound s → IsPlain w s → AreEvents h → LeavesAlone w h →
+    LeavesAloneFrom w s h
+
+-- a new device is one of these
+abbrev pub NewIsPlain : Type 0
+NewIsPlain = (w : Watched) (fifo : ℕ) → IsPlain w (new_state w.vfs fifo)
 
 -- a history that leaves a queue alone does so entry by entry, from any place behind the pass's first entry on
 abbrev pub AloneByEntries : Type 0

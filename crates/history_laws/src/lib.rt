@@ -5,7 +5,7 @@
 #![tactic(auto)]
 
 ghost use Rattle.history_laws.specs.Lent.{OnlyLentStays, AnewIsDone};
-ghost use Rattle.history_laws.specs.Laws.{ModeIsTold, SettingsAreTold, NewIsLeftAlone, AloneByEntries, BeginningIsAlone, RestIsAlone, HistoriesKeepSound};
+ghost use Rattle.history_laws.specs.Laws.{ModeIsTold, SettingsAreTold, NewIsPlain, PlainIsLeftAlone, AloneByEntries, BeginningIsAlone, RestIsAlone, HistoriesKeepSound};
 ghost use Rattle.history_laws.specs.Reports.{ReportsLieInBlocks};
 ghost use Rattle.history_laws.specs.Left.{LeftDid, SidesDo};
 
@@ -18,9 +18,11 @@ pub fn settings_are_told()
 
 /// A history that leaves a queue alone, from any state of the device on, does so entry by entry, from any place behind
 /// the pass's first entry on; and what begins such a history leaves the queue alone, and what is behind does from where
-/// that leads. From a new device on a history leaves a queue alone that does so by the mode which its entries tell.
+/// that leads. Where no EEPROM image is installed and the queues aren't parted, as in a new device, a history leaves a
+/// queue alone that does so by the mode which its entries tell.
 pub fn queue_is_left_alone_by_entries()
-    ensures new { NewIsLeftAlone }
+    ensures plain { PlainIsLeftAlone }
+    ensures new { NewIsPlain }
     ensures entries { AloneByEntries }
     ensures beginning { BeginningIsAlone }
     ensures rest { RestIsAlone }

@@ -2,6 +2,7 @@
 use Rattle.std.specs.Prelude.{ℕ, ◌≡◌, ◌<◌, List}
 use Rattle.nic_device.specs.Sound.{IsSound}
 use Rattle.nic_device.specs.State.{State}
+use Rattle.device_lock.specs.Alone.{LeavesAlone}
 use Rattle.device_lock.specs.History.{calls_of, leads_to}
 use Rattle.device_lock.specs.declared.alone.Watched.{Watched}
 use Rattle.device_lock.specs.declared.entry.Call.{Call}
@@ -23,13 +24,12 @@ pub record IsHistoryOf (s : State) (queue : ℕ) (h : List Entry) (calls : List 
   pub leads : leads_to s h ≡ device
 
 -- the calls through a `Direct` are one, from the state in which the device came: new or used, with an EEPROM image
--- installed or without, since each device is sound. They leave the queue alone where no step of the device that they
--- make writes for another queue into the blocks that they lend
+-- installed or without, since each device is sound. What is told of a history from its entries alone suffices,
+-- whichever that state: all entries are of pass 0, so that only what steps wrote for other queues is asked
 abbrev pub DirectIsHistory : Type 0
 DirectIsHistory =
     (s : State) (queue : ℕ) (d : InHand) → queue < 128 → IsSound s → began_in_hand d (From s) →
-    LeavesAloneFrom (in_hand s queue) s (entries_in d.calls) →
-    IsHistoryOf s queue (entries_in d.calls) d.calls d.device
+    LeavesAlone (in_hand s queue) (entries_in d.calls) → IsHistoryOf s queue (entries_in d.calls) d.calls d.device
 
 -- so are those through an `Interleaved` with the foreign events, where these leave the queue alone too
 abbrev pub InterleavedIsHistory : Type 0

@@ -26,22 +26,24 @@ ghost use Rattle.pmd_laws.specs.Stopped as stopped;
 ghost use Rattle.pmd_laws.specs.Told as told;
 ghost use Rattle.pmd_laws.specs.Waits.{WaitingIsNotAllBefore, WaitingIsNotAllAsTold};
 
-/// The laws here speak of a history of a sound device, which each device is, new or used, with an EEPROM image installed
-/// or without. The calls that were made through a `pmd_seam::Direct` are one, all of pass 0, from the state in which the
-/// device came; and so are those through an `Interleaved`, own ones of pass 0 and foreign ones of pass 1. It leads to
-/// the device in hand. What is asked is what `began` tells of a new way, and each call of a driver keeps; and that the
-/// history leaves the queue alone.
+/// The laws here speak of a history of a sound device, which each device is, new or used, with an EEPROM image
+/// installed or without. The calls that were made through a `pmd_seam::Direct` are one, all of pass 0, from the state
+/// in which the device came; and so are those through an `Interleaved`, own ones of pass 0 and foreign ones of pass 1.
+/// It leads to the device in hand. What is asked is what `began` tells of a new way, and each call of a driver keeps;
+/// and that the history leaves the queue alone. Of a `Direct` the answer of `device_lock::left_alone` tells that,
+/// whatever the device; of an `Interleaved` where no image is installed and the queues weren't parted as the device
+/// came.
 pub fn calls_in_hand_are_a_history()
     ensures direct { DirectIsHistory }
     ensures interleaved { InterleavedIsHistory }
 {}
 
-/// Over a legal history of any sound device that leaves the driver's queue alone, whose pass made the calls of a start that
-/// brought both rings up, and then calls of the two halves, beside harmless ones, which lend, take and poke no block
-/// and write no register that a queue rests on: the packets that the driver handed out are a prefix of those delivered
-/// on its queue. Where a look that comes next finds none, all of them were handed out, or are whole and handed out as
-/// the tail moves on; and all were handed out where none is whole. The frames sent on it are a prefix of those that the
-/// driver accepted, and all of them where none is outstanding. Both are counted since the sides went on.
+/// Over a legal history of any sound device that leaves the driver's queue alone, whose pass made the calls of a start
+/// that brought both rings up, and then calls of the two halves, beside harmless ones, which lend, take and poke no
+/// block and write no register that a queue rests on: the packets that the driver handed out are a prefix of those
+/// delivered on its queue. Where a look that comes next finds none, all of them were handed out, or are whole and
+/// handed out as the tail moves on; and all were handed out where none is whole. The frames sent on it are a prefix of
+/// those that the driver accepted, and all of them where none is outstanding. Both are counted since the sides went on.
 pub fn life_in_order()
     ensures handed { HandedIsPrefix }
     ensures taken { NoneIsAllTaken }
@@ -73,10 +75,10 @@ pub fn no_start_finds_the_device_at_fault()
     ensures amid { NoStartFindsFault }
 {}
 
-/// Over a legal history of any sound device that leaves the queue alone, where a `start` answered a driver and its calls
-/// came since: each block that the driver has out with a half is lent at the device. Where no block of its arena was
-/// lent just before its first access, and no other pass lends any, each of them that is lent there is out with a half.
-/// So each that was free in the arena as it came is in one place: free there, in hand, or lent to the device.
+/// Over a legal history of any sound device that leaves the queue alone, where a `start` answered a driver and its
+/// calls came since: each block that the driver has out with a half is lent at the device. Where no block of its arena
+/// was lent just before its first access, and no other pass lends any, each of them that is lent there is out with a
+/// half. So each that was free in the arena as it came is in one place: free there, in hand, or lent to the device.
 pub fn blocks_out_are_lent_at_the_device()
     ensures lent { OutIsLent }
     ensures known { LentIsOut }

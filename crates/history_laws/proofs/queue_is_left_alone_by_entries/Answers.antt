@@ -1,10 +1,11 @@
-use Rattle.history_laws.proofs.Alone.{alone_by_entries, new_is_left_alone}
+use Rattle.history_laws.proofs.Alone.{alone_by_entries, new_is_plain, plain_is_left_alone}
 use Rattle.history_laws.proofs.Beginning.{beginning_alone, rest_alone}
 use Rattle.history_laws.proofs.queue_is_left_alone_by_entries.Goals as goal
 
 pub returns : goal.returns
 returns c = record {
-  new = new_is_left_alone;
+  plain = plain_is_left_alone;
+  new = new_is_plain;
   entries = alone_by_entries;
   beginning = beginning_alone;
   rest = rest_alone;

@@ -1,30 +1,40 @@
 -- What was made of a device in hand is a history of it.
-use Rattle.std.proofs.Common.{◌≡◌, ◌<◌, ℕ, Bool, true, false, List, [], ◌∷◌, ◌++◌, refl, sym, ap}
-use Rattle.nic_device.specs.Sound.{IsSound}
+use Rattle.std.proofs.Common.{inl, inr, ◌≡◌, ◌<◌, ℕ, Bool, true, false, ◌||◌, List, [], ◌∷◌, ◌++◌, refl, sym, ap, ◌∙◌, subst}
+use Rattle.std.specs.Prelude.{◌==◌, IsTrue}
+use Rattle.std.proofs.lemmas.Bool.{cases_Bool}
+use Rattle.std.proofs.lemmas.List.{map-append}
+use Rattle.std.proofs.lemmas.List.Elements.{filter-append}
 use Rattle.nic_device.specs.State.{State}
-use Rattle.device_lock.specs.Alone.{LeavesAlone}
-use Rattle.device_lock.specs.History.{calls_of}
+use Rattle.device_lock.specs.Alone.{LeavesAlone, has_begun}
+use Rattle.device_lock.specs.History.{call_in, calls_of, leads_to}
 use Rattle.device_lock.specs.declared.entry.Call.{Call}
 use Rattle.device_lock.specs.declared.entry.Entry.{Entry}
+use Rattle.device_lock.proofs.Histories.{events-append, leads-append, legal-append}
 use Rattle.pmd.specs.PmdSeam.Begun.{LeadsTo, entries_in, marked_entries}
 use Rattle.pmd.specs.PmdSeam.Scheduled.{own_calls}
 use Rattle.start_laws.specs.HistoryLaws.Alone.{LeavesAloneFrom}
-use Rattle.pmd_laws.specs.InHand.{DirectIsHistory, InterleavedIsHistory, IsHistoryOf, in_hand}
+use Rattle.start_laws.proofs.ReceiveLaws.Histories.{calls_other, calls_own}
+use Rattle.pmd_laws.specs.InHand.{DirectIsHistory, InterleavedIsHistory, IsHistoryOf, WasMade, in_hand}
 
-history : (s : State) (queue : ℕ) (h : List Entry) (calls : List Call) (device : State) → queue < 128 → IsSound s
-    → LeadsTo s h device → calls_of 0 h ≡ calls → LeavesAloneFrom (in_hand s queue) s h
-    → IsHistoryOf s queue h calls device
-history s queue h calls device small sound led made alone = record {
+-- the calls of pass 0 are those behind what others made
+calls_behind : (before h : List Entry) (calls : List Call) → calls_of 0 before ≡ [] → calls_of 0 h ≡ calls
+    → calls_of 0 (before ++ h) ≡ calls
+calls_behind before h calls none is = rw (filter-append, map-append, none, is) refl
+
+history : (s : State) (queue : ℕ) (before h : List Entry) (calls : List Call) (device : State) → queue < 128
+    → WasMade s before → LeadsTo (leads_to s before) h device → calls_of 0 h ≡ calls
+    → LeavesAloneFrom (in_hand s queue) s (before ++ h) → IsHistoryOf s queue (before ++ h) calls device
+history s queue before h calls device small was led made alone = record {
   along = record {
     small = small;
-    sound = sound;
+    sound = was.sound;
     vfs = refl;
-    events = led.events;
-    legal = led.legal;
+    events = events-append before h was.events led.events;
+    legal = legal-append s before h was.legal led.legal;
     alone = alone;
   };
-  made = made;
-  leads = led.leads;
+  made = calls_behind before h calls was.others made;
+  leads = leads-append s before h ∙ led.leads;
 }
 
 -- those of a device in hand are all of pass 0, and those that are marked as own
@@ -39,7 +49,7 @@ own_are (c ∷ calls) [] = refl
 own_are (c ∷ calls) (true ∷ own) = ap (λ (l : List Call). c ∷ l) (own_are calls own)
 own_are (c ∷ calls) (false ∷ own) = own_are calls own
 
--- entries of the pass alone leave the queue alone whatever the mode is
+-- entries of the pass alone leave the queue alone however its queues are parted
 
 abbrev first_pass : List Entry → ℕ
 first_pass [] = 0
@@ -49,28 +59,51 @@ abbrev behind_first : List Entry → List Entry
 behind_first [] = []
 behind_first (e ∷ es) = es
 
-each_own : (calls : List Call) (before : List Entry) (e : Entry) (after : List Entry)
-    → entries_in calls ≡ before ++ e ∷ after → e.pass ≡ 0
+each_own : (calls : List Call) (b : List Entry) (e : Entry) (after : List Entry) → entries_in calls ≡ b ++ e ∷ after
+    → e.pass ≡ 0
 each_own [] [] e after is = cc
-each_own [] (b ∷ before) e after is = cc
+each_own [] (y ∷ b) e after is = cc
 each_own (c ∷ calls) [] e after is = sym (ap first_pass is)
-each_own (c ∷ calls) (b ∷ before) e after is = each_own calls before e after (ap behind_first is)
+each_own (c ∷ calls) (y ∷ b) e after is = each_own calls b e after (ap behind_first is)
 
-own_left : (s : State) (queue : ℕ) (calls : List Call) → LeavesAlone (in_hand s queue) (entries_in calls)
-    → LeavesAloneFrom (in_hand s queue) s (entries_in calls)
-own_left s queue calls alone before e after is begun =
-    let own = each_own calls before e after is in record {
+-- what others made before has no entry of the pass
+
+not_first : (x : Entry) (before : List Entry) → calls_of 0 (x ∷ before) ≡ [] → (x.pass == 0) ≡ false
+not_first x before none = elim (cases_Bool (x.pass == 0)) as (λ _. (x.pass == 0) ≡ false) [
+  | inl own ↦
+      let some : call_in x ∷ calls_of 0 before ≡ [] = sym (calls_own 0 x before own) ∙ none in
+      absurd (cc)
+  | inr other ↦ other
+]
+
+own_behind : (before : List Entry) (calls : List Call) (b : List Entry) (e : Entry) (after : List Entry)
+    → calls_of 0 before ≡ [] → before ++ entries_in calls ≡ b ++ e ∷ after → IsTrue (has_begun 0 b) → e.pass ≡ 0
+own_behind [] calls b e after none is begun = each_own calls b e after is
+own_behind (x ∷ before) calls [] e after none is begun = cc
+own_behind (x ∷ before) calls (y ∷ b) e after none is begun =
+    let other = not_first x before none in
+    let same : x.pass ≡ y.pass = ap first_pass is in
+    let begun_there : (false || has_begun 0 b) ≡ true =
+    subst (λ (o : Bool). (o || has_begun 0 b) ≡ true)
+    (sym (ap (λ (n : ℕ). n == 0) same) ∙ other) begun in
+    own_behind before calls b e after (sym (calls_other 0 x before other) ∙ none) (ap behind_first is) begun_there
+
+own_left : (s : State) (queue : ℕ) (before : List Entry) (calls : List Call) → calls_of 0 before ≡ []
+    → LeavesAlone (in_hand s queue) (before ++ entries_in calls)
+    → LeavesAloneFrom (in_hand s queue) s (before ++ entries_in calls)
+own_left s queue before calls none alone b e after is begun =
+    let own = own_behind before calls b e after none is begun in record {
       registers = λ other. absurd (other own);
       blocks = λ other. absurd (other own);
-      steps = (alone before e after is begun).steps;
+      steps = (alone b e after is begun).steps;
     }
 
 pub direct_is_history : DirectIsHistory
-direct_is_history s queue d small sound began alone =
-    history s queue (entries_in d.calls) d.calls d.device small sound began (all_are d.calls)
-    (own_left s queue d.calls alone)
+direct_is_history s queue before d small was began alone =
+    history s queue before (entries_in d.calls) d.calls d.device small was began (all_are d.calls)
+    (own_left s queue before d.calls was.others alone)
 
 pub interleaved_is_history : InterleavedIsHistory
-interleaved_is_history s queue i small sound began alone =
-    history s queue (marked_entries i.calls i.own) (own_calls i.calls i.own) i.device small sound began
+interleaved_is_history s queue before i small was began alone =
+    history s queue before (marked_entries i.calls i.own) (own_calls i.calls i.own) i.device small was began
     (own_are i.calls i.own) alone

@@ -1,9 +1,9 @@
 -- What was made of a device in hand, over which the laws of a driver's life are said: a history of it.
-use Rattle.std.specs.Prelude.{ℕ, ◌≡◌, ◌<◌, List}
+use Rattle.std.specs.Prelude.{ℕ, ◌≡◌, ◌<◌, List, [], ◌++◌}
 use Rattle.nic_device.specs.Sound.{IsSound}
 use Rattle.nic_device.specs.State.{State}
 use Rattle.device_lock.specs.Alone.{LeavesAlone}
-use Rattle.device_lock.specs.History.{calls_of, leads_to}
+use Rattle.device_lock.specs.History.{AreEvents, IsLegal, calls_of, leads_to}
 use Rattle.device_lock.specs.declared.alone.Watched.{Watched}
 use Rattle.device_lock.specs.declared.entry.Call.{Call}
 use Rattle.device_lock.specs.declared.entry.Entry.{Entry}
@@ -13,27 +13,38 @@ use Rattle.pmd.specs.PmdSeam.Scheduled.{Handled, made_of}
 use Rattle.start_laws.specs.Along.{IsAlong}
 use Rattle.start_laws.specs.HistoryLaws.Alone.{LeavesAloneFrom}
 
+-- what is known to have been made of a device from this state on, before it came into hand, and it may be nothing: a
+-- legal history, in which no entry is of pass 0. The state is any that a device can be in, new or used, with an EEPROM
+-- image installed or without
+pub record WasMade (s : State) (before : List Entry) : Type 0 where
+  pub sound : IsSound s
+  pub events : AreEvents before
+  pub legal : IsLegal s before
+  pub others : calls_of 0 before ≡ []
+
 -- the driver of a device in hand makes the calls of pass 0
 abbrev pub in_hand : State → ℕ → Watched
 in_hand s queue = record { vfs = s.vfs; pass = 0; queue = queue }
 
--- a history is along from the state in which the device came, pass 0 made these calls in it, and it leads to the device
+-- a history is along from a state, pass 0 made these calls in it, and it leads to the device
 pub record IsHistoryOf (s : State) (queue : ℕ) (h : List Entry) (calls : List Call) (device : State) : Type 0 where
   pub along : IsAlong (in_hand s queue) s h
   pub made : calls_of 0 h ≡ calls
   pub leads : leads_to s h ≡ device
 
--- the calls through a `Direct` are one, from the state in which the device came: new or used, with an EEPROM image
--- installed or without, since each device is sound. What is told of a history from its entries alone suffices,
--- whichever that state: all entries are of pass 0, so that only what steps wrote for other queues is asked
+-- the calls through a `Direct`, behind what was made before, are one that leaves a queue alone, where they do. What is
+-- told of a history from its entries alone suffices, whichever the state: all entries behind the first of pass 0 are of
+-- that pass, so that only what steps wrote for other queues is asked
 abbrev pub DirectIsHistory : Type 0
 DirectIsHistory =
-    (s : State) (queue : ℕ) (d : InHand) → queue < 128 → IsSound s → began_in_hand d (From s) →
-    LeavesAlone (in_hand s queue) (entries_in d.calls) → IsHistoryOf s queue (entries_in d.calls) d.calls d.device
+    (s : State) (queue : ℕ) (before : List Entry) (d : InHand) → queue < 128 → WasMade s before →
+    began_in_hand d (From (leads_to s before)) → LeavesAlone (in_hand s queue) (before ++ entries_in d.calls) →
+    IsHistoryOf s queue (before ++ entries_in d.calls) d.calls d.device
 
--- so are those through an `Interleaved` with the foreign events, where these leave the queue alone too
+-- so are those through an `Interleaved` with the foreign events, where these leave the queue alone from that state on
 abbrev pub InterleavedIsHistory : Type 0
 InterleavedIsHistory =
-    (s : State) (queue : ℕ) (i : Handled) → queue < 128 → IsSound s → began_handled i (From s) →
-    LeavesAloneFrom (in_hand s queue) s (marked_entries i.calls i.own) →
-    IsHistoryOf s queue (marked_entries i.calls i.own) (made_of i) i.device
+    (s : State) (queue : ℕ) (before : List Entry) (i : Handled) → queue < 128 → WasMade s before →
+    began_handled i (From (leads_to s before)) →
+    LeavesAloneFrom (in_hand s queue) s (before ++ marked_entries i.calls i.own) →
+    IsHistoryOf s queue (before ++ marked_entries i.calls i.own) (made_of i) i.device

@@ -26,13 +26,13 @@ ghost use Rattle.pmd_laws.specs.Stopped as stopped;
 ghost use Rattle.pmd_laws.specs.Told as told;
 ghost use Rattle.pmd_laws.specs.Waits.{WaitingIsNotAllBefore, WaitingIsNotAllAsTold};
 
-/// The laws here speak of a history of a sound device, which each device is, new or used, with an EEPROM image
-/// installed or without. The calls that were made through a `pmd_seam::Direct` are one, all of pass 0, from the state
-/// in which the device came; and so are those through an `Interleaved`, own ones of pass 0 and foreign ones of pass 1.
-/// It leads to the device in hand. What is asked is what `began` tells of a new way, and each call of a driver keeps;
-/// and that the history leaves the queue alone. Of a `Direct` the answer of `device_lock::left_alone` tells that,
-/// whatever the device; of an `Interleaved` where no image is installed and the queues weren't parted as the device
-/// came.
+/// The laws here speak of a history from any state on that a device can be in, new or used, with an EEPROM image
+/// installed or without. The calls that were made through a `pmd_seam::Direct` are one, all of pass 0, behind what is
+/// known to have been made of the device before it came into hand; and so are those through an `Interleaved`, own ones
+/// of pass 0 and foreign ones of pass 1. It leads to the device in hand. What is asked is that the device was where
+/// that led as the way was made, as `began` tells of a new one, and each call of a driver keeps; and that the history
+/// leaves the queue alone. Of a `Direct` what `device_lock::left_alone` answers suffices, whatever the state; of an
+/// `Interleaved` where no image is installed and the queues weren't parted there.
 pub fn calls_in_hand_are_a_history()
     ensures direct { DirectIsHistory }
     ensures interleaved { InterleavedIsHistory }

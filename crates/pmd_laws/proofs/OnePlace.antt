@@ -113,7 +113,7 @@ module _ (a : Numbers) (hand : List ℕ) (mem : Memory) (n : ℕ) where
 
 pub each_in_one_place : EachInOnePlace
 each_in_one_place w origin h q size frame old a m later x hand all n own =
-    let mem : Memory = memory_after w origin h in
+    let mem : Memory = memory_after origin h in
     subst (InPlace a hand mem n) (sym (runs q size frame old a m later x.told.told).up)
     (up_in_place a hand mem n (runs q size frame old a m later x.told.told).rings) all
     (out_is_lent w origin h q size frame old a m later x.told n)

@@ -95,7 +95,7 @@ module _ (w : Watched) (origin : State) (h : List Entry) (q : AtPort) (size fram
       subst (λ (z : Rings). P (is_out z) (leads_to start h)) (sym goes.up)
       (subst (λ (k : Halves). P (lent_by k) (leads_to start h)) ends_is (subst (P (lent_by ends)) there holds))
 
-  lent : (n : ℕ) → IsTrue (is_out (last m later).driver.rings n) → IsTrue (has_block (memory_after w origin h) n)
+  lent : (n : ℕ) → IsTrue (is_out (last m later).driver.rings n) → IsTrue (has_block (memory_after origin h) n)
   lent =
       at_last (λ out s. (n : ℕ) → IsTrue (out n) → IsTrue (has_block s.memory n))
       (both_lent w.queue _ _ _ ends (led w origin parted.front parted.back begins doers driven).both)
@@ -129,7 +129,7 @@ module _ (w : Watched) (origin : State) (h : List Entry) (q : AtPort) (size fram
       on_there.receive.quiet.1
       x.fresh x.others t.told.started.2.on.mid rises p.front p.back p.both p.fronts
 
-  known : OnlyLent (is_own a) (is_out (last m later).driver.rings) (memory_after w origin h)
+  known : OnlyLent (is_own a) (is_out (last m later).driver.rings) (memory_after origin h)
   known =
       let far = apart w origin h q size frame old a m later t in
       at_last w origin h q size frame old a m later t (λ out s. OnlyLent (is_own a) out s.memory)

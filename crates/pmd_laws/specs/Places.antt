@@ -29,15 +29,15 @@ is_out (Up r) n = lent_by (halves_of r) n
 is_out (Down h) n = false
 
 -- the memory that is lent to the device, where these entries led it
-abbrev pub memory_after : Watched → State → List Entry → Memory
-memory_after w origin h = (leads_to origin h).memory
+abbrev pub memory_after : State → List Entry → Memory
+memory_after origin h = (leads_to origin h).memory
 
 -- each block that is out is lent there
 abbrev pub OutIsLent : Type 0
 OutIsLent =
     (w : Watched) (origin : State) (h : List Entry) (q : AtPort) (size frame : ℕ) (old : List Call) (a : Numbers)
     (m : Moment) (later : List Moment) → IsToldOf w origin h q size frame old a m later → (number : ℕ) →
-    IsTrue (is_out (last m later).driver.rings number) → IsTrue (has_block (memory_after w origin h) number)
+    IsTrue (is_out (last m later).driver.rings number) → IsTrue (has_block (memory_after origin h) number)
 
 -- such a history. Just before the driver's first access none of its arena's blocks was lent; and no other pass lends
 -- any of them
@@ -53,7 +53,7 @@ LentIsOut =
     (w : Watched) (origin : State) (h : List Entry) (q : AtPort) (size frame : ℕ) (old : List Call) (a : Numbers)
     (m : Moment) (later : List Moment) →
     IsToldAlone w origin h q size frame old a m later → (number : ℕ) → IsTrue (is_own a number) →
-    IsTrue (has_block (memory_after w origin h) number) → IsTrue (is_out (last m later).driver.rings number)
+    IsTrue (has_block (memory_after origin h) number) → IsTrue (is_out (last m later).driver.rings number)
 
 -- where a driver has all blocks of an arena but those in hand, it has them so after a call, as its clause `blocks`
 -- tells: what was in hand for the call isn't after it, and what the call hands out, or leaves in a list that it was
@@ -75,5 +75,5 @@ EachInOnePlace =
     (m : Moment) (later : List Moment) → IsToldAlone w origin h q size frame old a m later → (hand : List ℕ) →
     HasAll a (halted_of (last m later).driver.rings) hand → (number : ℕ) → IsTrue (is_own a number) →
     places_of (arena_of (last m later).driver.rings) ((halted_of (last m later).driver.rings).held ++ hand)
-    (memory_after w origin h) number
+    (memory_after origin h) number
     ≡ (if is_free a number then 1 else 0)

@@ -11,6 +11,7 @@
 //! arena has room for its rings.
 #![tactic(auto)]
 
+ghost use Rattle.pmd_laws.specs.Beside as beside;
 ghost use Rattle.pmd_laws.specs.Ends.{HandedOverStop, LeftIsPrefix, SentOverStop};
 ghost use Rattle.pmd_laws.specs.Faultless.{NoBurstMeetsFault, NoCallFindsFault, NoFillingFindsFault, NoStartFindsFault};
 ghost use Rattle.pmd_laws.specs.FullRing.{FullHasNoRoom, NoneHasNoRoom};
@@ -133,6 +134,24 @@ pub fn driver_in_order()
     ensures first { told.NoneIsAllAtFirst }
     ensures sent { told.SentIsPrefix }
     ensures idle { told.IdleIsAllSent }
+{}
+
+/// The same where between the driver's calls its author makes whatever calls through the same way to the device, as
+/// those of a second driver of another queue, and whatever it made before. What is asked of these is what is asked of
+/// other passes: that the queue is left alone by the history as it is told anew, with another pass's tag for each of
+/// them. So they write no row of the queue, no setting, and reset not its pool; and they lend, take and poke no block
+/// that the driver itself lends. Told so, the history is one of a life (`lived`), and all laws of a life apply; and
+/// what they say of the packets and frames is so of the history as it was. For a device in hand, marks tell which of
+/// its calls are the driver's own (`in_hand`).
+pub fn driver_beside_any_calls_in_order()
+    ensures lived { beside.ToldIsLived }
+    ensures handed { beside.HandedIsPrefix }
+    ensures none { beside.NoneIsAllBefore }
+    ensures first { beside.NoneIsAllAtFirst }
+    ensures sent { beside.SentIsPrefix }
+    ensures idle { beside.IdleIsAllSent }
+    ensures waits { beside.WaitingIsNotAll }
+    ensures in_hand { beside.DirectIsRetold }
 {}
 
 /// Over such a history up to where a driver that lived was to stop, as `workers::run_worker` says of its driver:

@@ -1,4 +1,4 @@
--- A driver beside any calls of its author's lives, as the history is told anew.
+-- A driver beside any calls of its author's is told by its own calls alone, over the history as it is told anew.
 use Rattle.std.proofs.Common.{◌≡◌, ℕ, Bool, inl, inr, List, [], ◌∷◌, ◌++◌, length, map, refl, sym, ap, ◌∙◌, subst, arith}
 use Rattle.std.proofs.lemmas.List.{append-nil, append_cancel_left, map-append}
 use Rattle.nic_device.specs.DmaArena.Numbers.{Numbers}
@@ -8,12 +8,12 @@ use Rattle.device_lock.specs.declared.alone.Watched.{Watched}
 use Rattle.device_lock.specs.declared.entry.Call.{Call}
 use Rattle.device_lock.specs.declared.entry.Entry.{Entry}
 use Rattle.device_lock.proofs.Histories.{events-append, legal-append}
-use Rattle.pmd.specs.Driver.{Driver, accepted_of, handed_of}
-use Rattle.pmd.specs.Halves.{Drives, Halves, halves_of}
+use Rattle.pmd.specs.Apart.{DrivesRings}
+use Rattle.pmd.specs.Driver.{WhereUp, accepted_of, handed_of}
+use Rattle.pmd.specs.Halves.{halves_of}
 use Rattle.pmd.specs.Running.{Running}
-use Rattle.pmd.specs.Started.{AreUp}
 use Rattle.pmd.specs.declared.driver.Rings.{Rings}
-use Rattle.pmd.specs.declared.driver.Rings.TheVariants.{Up}
+use Rattle.pmd.specs.declared.driver.Rings.TheVariants.{Up, Down}
 use Rattle.pmd.specs.PmdSeam.Begun.{entries_in, marked_entries}
 use Rattle.pmd.specs.PmdSeam.Named.{AtPort}
 use Rattle.pmd.specs.PmdSeam.Scheduled.{own_calls}
@@ -27,74 +27,57 @@ use Rattle.start_laws.specs.TransmitLaws.Laws as transmit
 use Rattle.start_laws.specs.TransmitLaws.Sent.{sent_since}
 use Rattle.driver_laws.specs.Beside.{Leads}
 use Rattle.driver_laws.specs.Retold.{AreSame}
-use Rattle.driver_laws.proofs.Beside.{drives_lead, harmless_lead, leads_on}
 use Rattle.driver_laws.proofs.Retold.{events_same, legal_same, same_delivers, same_sends}
 use Rattle.pmd_laws.specs.Beside as beside
-use Rattle.pmd_laws.specs.Beside.{AllFollowBy, DroveBy, FollowsBy, IsRetold, IsToldBeside, IsToldBy, KeepsBy}
-use Rattle.pmd_laws.specs.Life.{IsLife}
+use Rattle.pmd_laws.specs.Beside.{AllFollowBy, DroveBy, FollowsBy, IsRetold, IsToldAnew, IsToldBeside, IsToldBy, OwnAreTold, by_own}
 use Rattle.pmd_laws.specs.Order.{IsLived}
-use Rattle.pmd_laws.specs.Told.{HasNoneOut, Moment, last}
+use Rattle.pmd_laws.specs.Told.{AllFollow, Drove, Follows, HasNoneOut, IsToldOf, Moment, last}
 use Rattle.pmd_laws.proofs.InHand.{calls_behind, own_are}
-use Rattle.pmd_laws.proofs.Order.{handed_of_life, idle_of_life, sent_of_life}
-use Rattle.pmd_laws.proofs.RunsOn.{up_next}
-use Rattle.pmd_laws.proofs.Shifted.{Shifts, UpAt, drives_shift, up_shift}
+use Rattle.pmd_laws.proofs.Shifted.{UpAt, rings_shift, shifted, up_shift}
+use Rattle.pmd_laws.proofs.Told.{handed_as_told, idle_as_told, led, life, runs, sent_as_told}
 
--- what shifts holds behind other calls, where the calls that were added are known
-pub shifted : (R : List Call → List Call → Type 0) (old new : List Call) → Shifts R old new
-    → (since front then : List Call) → new ≡ old ++ since → then ≡ front ++ since → R front then
-shifted R old new x since front then made is =
-    let same : since ≡ x.since = append_cancel_left old since x.since (sym made ∙ x.made) in
-    subst (λ (l : List Call). R front l) (ap (λ (l : List Call). front ++ l) (sym same) ∙ sym is) (x.behind front)
+-- a driver that runs goes on from one to the other by its own calls alone
 
--- a driver that runs was led on by its own calls alone
+pub where_up : (P Q : Running → Running → Type 0) (a b : Rings) → ((r s : Running) → P r s → Q r s) → WhereUp a b P
+    → WhereUp a b Q
+where_up P Q (Up r) (Up s) f x = f r s x
+where_up P Q (Up r) (Down h) f x = x
+where_up P Q (Down h) b f x = tt
 
-pub record RunsBy (own : List Call) (r : Running) (then : List Call) (n : Moment) : Type 0 where
-  pub rings : Running
-  pub up : n.driver.rings ≡ Up rings
-  pub leads : Leads own (halves_of r) then (halves_of rings)
+drove_anew : (m : Moment) (own : List Call) (n : Moment) (then : List Call) → DroveBy m own n then
+    → Drove (by_own own m) (by_own then n)
+drove_anew m own n then (goes, since, made, all) =
+    where_up (λ r s. DrivesRings m.made r n.made s) (λ r s. DrivesRings own r then s) m.driver.rings n.driver.rings
+    (λ r s x.
+    shifted (λ o l. DrivesRings o r l s) m.made n.made (rings_shift r s m.made n.made x) since own then made all) goes
 
--- no call leads nowhere
-stays : (own then : List Call) (h k : Halves) → then ≡ own → k ≡ h → Leads own h then k
-stays own then h k is same =
-    subst (λ (z : Halves). Leads own h then z) (sym same)
-    (harmless_lead own then h ([], is ∙ sym (append-nil own), tt))
+follows_anew : (m : Moment) (own : List Call) (n : Moment) (then : List Call) → FollowsBy m own n then
+    → Follows (by_own own m) (by_own then n)
+follows_anew m own n then (inl x) = inl (drove_anew m own n then x)
+follows_anew m own n then (inr (halves, between, made, all)) = inr (halves, ([], all ∙ sym (append-nil own), tt))
 
-drove_by : (m : Moment) (own : List Call) (n : Moment) (then : List Call) (r : Running) → m.driver.rings ≡ Up r
-    → DroveBy m own n then → RunsBy own r then n
-drove_by m own n then r is (goes, since, made, all) =
-    let (s, up, drives) = up_next _ m.driver.rings n.driver.rings r is goes in
-    let h = halves_of r in
-    let k = halves_of s in record {
-      rings = s;
-      up = up;
-      leads =
-          drives_lead own then h k
-          (shifted (λ o l. Drives o h l k) m.made n.made (drives_shift h k m.made n.made drives.apart.drives) since own
-          then made all);
-    }
+all_anew : (m : Moment) (own : List Call) (later : List Moment) (then : List Call) → AllFollowBy m own later then
+    → (others : List Moment) × AllFollow (by_own own m) others
+    × (last (by_own own m) others ≡ by_own then (last m later))
+all_anew m own [] then all = ([], tt, ap (λ (l : List Call). by_own l m) (sym all))
+all_anew m own (n ∷ later) then (next, goes, more) =
+    let (others, follow, ends) = all_anew n next later then more in
+    (by_own next n ∷ others, (follows_anew m own n next goes, follow), ends)
 
-keeps_by : (m : Moment) (own : List Call) (n : Moment) (then : List Call) (r : Running) → m.driver.rings ≡ Up r
-    → KeepsBy m own n then → RunsBy own r then n
-keeps_by m own n then r is (halves, between, made, all) =
-    let (s, up, same) = up_next _ m.driver.rings n.driver.rings r is halves in
-    record { rings = s; up = up; leads = stays own then (halves_of r) (halves_of s) all same.0 }
+-- its start, behind the calls that came ahead of it
 
-follows_by : (m : Moment) (own : List Call) (n : Moment) (then : List Call) (r : Running) → m.driver.rings ≡ Up r
-    → FollowsBy m own n then → RunsBy own r then n
-follows_by m own n then r is (inl x) = drove_by m own n then r is x
-follows_by m own n then r is (inr x) = keeps_by m own n then r is x
-
-all_follow_by : (m : Moment) (own : List Call) (later : List Moment) (then : List Call) (r : Running)
-    → m.driver.rings ≡ Up r → AllFollowBy m own later then → RunsBy own r then (last m later)
-all_follow_by m own [] then r is all =
-    record { rings = r; up = is; leads = stays own then (halves_of r) (halves_of r) all refl }
-all_follow_by m own (n ∷ later) then r is (next, goes, more) =
-    let one = follows_by m own n next r is goes in
-    let behind = all_follow_by n next later then one.rings one.up more in record {
-      rings = behind.rings;
-      up = behind.up;
-      leads = leads_on own next then (halves_of r) (halves_of one.rings) (halves_of behind.rings) one.leads
-          behind.leads;
+pub own_are_told : OwnAreTold
+own_are_told q size frame old a m later ahead own x =
+    let (others, follow, ends) = all_anew m (ahead ++ x.start) later own x.since in
+    let fresh = x.started.0 in
+    let (at, is, shifts) = up_shift q size frame a fresh old m.made x.started.2 in
+    let (up, access) = shifted (UpAt q size frame a fresh at) old m.made shifts x.start ahead (ahead ++ x.start) x.made
+    refl in
+    let same : at ≡ x.first = append_cancel_left old at x.first (sym is ∙ x.access) in record {
+      others = others;
+      told = record { started = (fresh, x.started.1, up); since = follow };
+      access = access ∙ ap (λ (l : List Call). ahead ++ l) same;
+      ends = ends;
     }
 
 -- the history is along, told anew
@@ -107,37 +90,15 @@ retold_along w fifo h g x = record {
   alone = x.alone;
 }
 
--- the driver's life by its own calls
-module _ (q : AtPort) (size frame : ℕ) (old : List Call) (a : Numbers) (m : Moment) (later : List Moment)
-    (ahead own : List Call) (x : IsToldBy q size frame old a m later ahead own) where
-  abbrev pub fresh : Running
-  fresh = x.started.0
-
-  pub runs : RunsBy (ahead ++ x.start) fresh own (last m later)
-  runs = all_follow_by m (ahead ++ x.start) later own fresh (ap (λ (p : Driver). p.rings) x.started.1) x.since
-
-  abbrev pub now : Halves
-  now = halves_of runs.rings
-
-  -- its start, behind the calls that came ahead of it
-  pub moved : (up : AreUp q size frame ahead a (ahead ++ x.start) fresh) × (up.receive.quiet.0 ≡ ahead ++ x.first)
-  moved =
-      let (at, is, shifts) = up_shift q size frame a fresh old m.made x.started.2 in
-      let (up, access) = shifted (UpAt q size frame a fresh at) old m.made shifts x.start ahead (ahead ++ x.start)
-      x.made refl in
-      let same : at ≡ x.first = append_cancel_left old at x.first (sym is ∙ x.access) in
-      (up, access ∙ ap (λ (l : List Call). ahead ++ l) same)
-
-  abbrev pub life : IsLife q size frame ahead a (ahead ++ x.start) fresh own now
-  life = record { up = moved.0; since = runs.leads }
-
-  pub begins : (w : Watched) (fifo : ℕ) (g : List Entry)
-      → BeforeLast w fifo g (ahead ++ x.first) (HasGround w.queue q frame)
-      → BeginsWell w fifo g q size frame ahead a (ahead ++ x.start) fresh life.up
-  begins w fifo g ground = record {
-    ground =
-        subst (λ (l : List Call). BeforeLast w fifo g l (HasGround w.queue q frame)) (sym moved.1) ground;
-  }
+-- and port and queue name the queue there
+pub begins_anew : (w : Watched) (fifo : ℕ) (g : List Entry) (q : AtPort) (size frame : ℕ) (old : List Call)
+    (a : Numbers) (m : Moment) (later : List Moment) (ahead own : List Call)
+    (x : IsToldBy q size frame old a m later ahead own) (y : IsToldAnew q size frame old a m later ahead own x)
+    → BeforeLast w fifo g (ahead ++ x.first) (HasGround w.queue q frame)
+    → BeginsWell w fifo g q size frame ahead a (ahead ++ x.start) y.told.started.0 y.told.started.2
+begins_anew w fifo g q size frame old a m later ahead own x y ground = record {
+  ground = subst (λ (l : List Call). BeforeLast w fifo g l (HasGround w.queue q frame)) (sym y.access) ground;
+}
 
 module _ (w : Watched) (fifo : ℕ) (h g : List Entry) (q : AtPort) (size frame : ℕ) (old : List Call) (a : Numbers)
     (m : Moment) (later : List Moment) (ahead : List Call)
@@ -145,49 +106,60 @@ module _ (w : Watched) (fifo : ℕ) (h g : List Entry) (q : AtPort) (size frame 
   abbrev own : List Call
   own = calls_of w.pass g
 
-  abbrev rings : Running
-  rings = (runs q size frame old a m later ahead own x.told).rings
+  abbrev pub anew : IsToldAnew q size frame old a m later ahead own x.told
+  anew = own_are_told q size frame old a m later ahead own x.told
 
-  abbrev up : (last m later).driver.rings ≡ Up rings
-  up = (runs q size frame old a m later ahead own x.told).up
+  abbrev pub first : Moment
+  first = by_own (ahead ++ x.told.start) m
 
-  abbrev k : Halves
-  k = halves_of rings
-
-  abbrev started : List Call
-  started = ahead ++ x.told.start
-
-  lived : IsLived w fifo g q size frame ahead a started x.told.started.0 k
-  lived = record {
+  pub told : IsToldOf w fifo g q size frame ahead a first anew.others
+  told = record {
     along = retold_along w fifo h g x.retold;
-    life = life q size frame old a m later ahead own x.told;
-    begins = begins q size frame old a m later ahead own x.told w fifo g x.ground;
+    told = anew.told;
+    begins = begins_anew w fifo g q size frame old a m later ahead own x.told anew x.ground;
+    made = ap (λ (z : Moment). z.made) (sym anew.ends);
   }
+
+  pub same_rings : (last m later).driver.rings ≡ (last first anew.others).driver.rings
+  same_rings = ap (λ (z : Moment). z.driver.rings) (sym anew.ends)
 
   handed : receive.IsPrefixOf (handed_of (last m later).driver.rings) (delivered w.queue (new_state w.vfs fifo) h)
   handed =
-      rw (up, same_delivers w.queue (new_state w.vfs fifo) h g x.retold.same)
-      (handed_of_life w fifo g q size frame ahead a started x.told.started.0 k lived)
+      rw (same_rings, same_delivers w.queue (new_state w.vfs fifo) h g x.retold.same)
+      (handed_as_told w fifo g q size frame ahead a first anew.others told)
 
   sends : transmit.IsPrefixOf (sent_since w.queue (new_state w.vfs fifo) [] h)
       (bytes_of (accepted_of (last m later).driver.rings))
   sends =
-      rw (up, same_sends w.queue (new_state w.vfs fifo) h g x.retold.same)
-      (sent_of_life w fifo g q size frame ahead a started x.told.started.0 k lived)
+      rw (same_rings, same_sends w.queue (new_state w.vfs fifo) h g x.retold.same)
+      (sent_as_told w fifo g q size frame ahead a first anew.others told)
 
   idle : HasNoneOut (last m later).driver.rings
       → bytes_of (accepted_of (last m later).driver.rings) ≡ sent_since w.queue (new_state w.vfs fifo) [] h
   idle none =
-      ap (λ (z : Rings). bytes_of (accepted_of z)) up
-      ∙ idle_of_life w fifo g q size frame ahead a started x.told.started.0 k lived (subst HasNoneOut up none)
+      ap (λ (z : Rings). bytes_of (accepted_of z)) same_rings
+      ∙ idle_as_told w fifo g q size frame ahead a first anew.others told (subst HasNoneOut same_rings none)
       ∙ sym (same_sends w.queue (new_state w.vfs fifo) h g x.retold.same)
 
+  lives : (r : Running) × ((last m later).driver.rings ≡ Up r)
+      × IsLived w fifo g q size frame ahead a (ahead ++ x.told.start) x.told.started.0 (halves_of r)
+  unfolding own_are_told told
+  lives =
+      let goes = runs q size frame ahead a first anew.others anew.told in (
+        goes.rings,
+        same_rings ∙ goes.up,
+        record {
+          along = told.along;
+          life =
+              life q size frame ahead a first anew.others anew.told own
+              (subst (λ (l : List Call). Leads first.made (halves_of x.told.started.0) l (halves_of goes.rings))
+              (sym told.made) (led q size frame ahead a first anew.others anew.told));
+          begins = told.begins;
+        },
+      )
+
 pub told_is_lived : beside.ToldIsLived
-told_is_lived w fifo h g q size frame old a m later ahead x = (
-  rings w fifo h g q size frame old a m later ahead x,
-  up w fifo h g q size frame old a m later ahead x,
-  lived w fifo h g q size frame old a m later ahead x,
-)
+told_is_lived = lives
 
 pub handed_beside : beside.HandedIsPrefix
 handed_beside = handed

@@ -1,6 +1,6 @@
 -- A call of a driver beside any calls of its author's, where it looks in vain, and where it ends with a packet
 -- outstanding.
-use Rattle.std.proofs.Common.{◌≡◌, ◌≢◌, ℕ, List, [], ◌++◌, refl, sym, ap, ◌∙◌}
+use Rattle.std.proofs.Common.{◌≡◌, ◌≢◌, ℕ, List, [], ◌++◌, refl, sym, ap, ◌∙◌, subst}
 use Rattle.nic_device.specs.DmaArena.Numbers.{Numbers}
 use Rattle.nic_device.specs.State.{new_state}
 use Rattle.device_lock.specs.History.{calls_of}
@@ -8,10 +8,7 @@ use Rattle.device_lock.specs.declared.alone.Watched.{Watched}
 use Rattle.device_lock.specs.declared.entry.Call.{Call}
 use Rattle.device_lock.specs.declared.entry.Entry.{Entry}
 use Rattle.pmd.specs.Driver.{accepted_of, handed_of}
-use Rattle.pmd.specs.Halves.{halves_of}
-use Rattle.pmd.specs.Running.{Running}
 use Rattle.pmd.specs.declared.driver.Rings.{Rings}
-use Rattle.pmd.specs.declared.driver.Rings.TheVariants.{Up}
 use Rattle.pmd.specs.PmdRx.Plays as receiving
 use Rattle.pmd.specs.PmdSeam.Named.{AtPort}
 use Rattle.pmd.specs.PmdTx.Plays.{LooksLast}
@@ -22,78 +19,84 @@ use Rattle.driver_laws.specs.Beside.{AddsHarmless}
 use Rattle.driver_laws.specs.Retold.{AreSame}
 use Rattle.driver_laws.proofs.Retold.{same_delivers, same_sends}
 use Rattle.pmd_laws.specs.Beside as beside
-use Rattle.pmd_laws.specs.Beside.{IsCalledBeside}
-use Rattle.pmd_laws.specs.Looks as looks
-use Rattle.pmd_laws.specs.Told.{LooksInVain, Moment, last}
-use Rattle.pmd_laws.specs.Waits.{LooksAtWaiting, Waits}
-use Rattle.pmd_laws.proofs.Beside.{RunsBy, begins, fresh, life, retold_along, runs, shifted}
-use Rattle.pmd_laws.proofs.Looks.{none_at_first, none_before_look}
-use Rattle.pmd_laws.proofs.RunsOn.{up_next}
-use Rattle.pmd_laws.proofs.Shifted.{in_vain_shift, waiting_shift}
-use Rattle.pmd_laws.proofs.Waits.{waiting_before_look}
+use Rattle.pmd_laws.specs.Beside.{IsCalledBeside, IsToldAnew, by_own}
+use Rattle.pmd_laws.specs.Told.{IsToldToLook, LooksInVain, Moment, last}
+use Rattle.pmd_laws.specs.Waits.{IsToldToWait, Waits}
+use Rattle.pmd_laws.proofs.Beside.{begins_anew, own_are_told, retold_along, where_up}
+use Rattle.pmd_laws.proofs.Shifted.{in_vain_shift, shifted, waiting_shift}
+use Rattle.pmd_laws.proofs.Told.{none_as_told, none_at_first_as_told}
+use Rattle.pmd_laws.proofs.Waits.{waiting_as_told}
 
 module _ (w : Watched) (fifo : ℕ) (h g : List Entry) (q : AtPort) (size frame : ℕ) (old : List Call) (a : Numbers)
     (m : Moment) (later : List Moment) (ahead own : List Call) (n : Moment)
     (x : IsCalledBeside w fifo h g q size frame old a m later ahead own n) where
-  abbrev started : List Call
-  started = ahead ++ x.told.start
+  abbrev anew : IsToldAnew q size frame old a m later ahead own x.told
+  anew = own_are_told q size frame old a m later ahead own x.told
 
-  abbrev first : Running
-  first = fresh q size frame old a m later ahead own x.told
+  abbrev first : Moment
+  first = by_own (ahead ++ x.told.start) m
 
-  abbrev goes : RunsBy started first own (last m later)
-  goes = runs q size frame old a m later ahead own x.told
+  abbrev next : Moment
+  next = by_own (own ++ x.since) n
+
+  same_rings : (last m later).driver.rings ≡ (last first anew.others).driver.rings
+  same_rings = ap (λ (z : Moment). z.driver.rings) (sym anew.ends)
+
+  -- what was delivered before the entries that are told anew
+  own_made : (last first anew.others).made ≡ own
+  own_made = ap (λ (z : Moment). z.made) anew.ends
 
   module _ (looked : LooksInVain (last m later) n) where
-    next : (s : Running) × (n.driver.rings ≡ Up s)
-        × receiving.LooksInVain (last m later).made goes.rings.receive n.made s.receive
-    next = up_next _ (last m later).driver.rings n.driver.rings goes.rings goes.up looked
+    looks_anew : LooksInVain (by_own own (last m later)) next
+    looks_anew =
+        where_up (λ r s. receiving.LooksInVain (last m later).made r.receive n.made s.receive)
+        (λ r s. receiving.LooksInVain own r.receive (own ++ x.since) s.receive) (last m later).driver.rings
+        n.driver.rings
+        (λ r s y.
+        shifted (λ o l. receiving.LooksInVain o r.receive l s.receive) (last m later).made n.made
+        (in_vain_shift r.receive s.receive (last m later).made n.made y) x.since own (own ++ x.since) x.made refl)
+        looked
 
-    abbrev in_vain : looks.LooksInVain w fifo g q size frame ahead a started first own (halves_of goes.rings)
-        (own ++ x.since) next.0.receive
-    in_vain = record {
+    abbrev to_look : IsToldToLook w fifo g q size frame ahead a first anew.others next
+    to_look = record {
       along = retold_along w fifo h g x.retold;
-      life = life q size frame old a m later ahead own x.told;
-      begins = begins q size frame old a m later ahead own x.told w fifo g x.ground;
-      looks =
-          shifted (λ o l. receiving.LooksInVain o goes.rings.receive l next.0.receive) (last m later).made n.made
-          (in_vain_shift goes.rings.receive next.0.receive (last m later).made n.made next.2) x.since own
-          (own ++ x.since) x.made refl;
+      told = anew.told;
+      begins = begins_anew w fifo g q size frame old a m later ahead own x.told anew x.ground;
+      looks = subst (λ (z : Moment). LooksInVain z next) (sym anew.ends) looks_anew;
       look = x.look;
     }
 
     before_look : (early : List Entry) → AreSame early x.look.before
         → handed_of (last m later).driver.rings ≡ delivered w.queue (new_state w.vfs fifo) early
     before_look early same =
-        ap handed_of goes.up
-        ∙ none_before_look w fifo g q size frame ahead a started first own (halves_of goes.rings) (own ++ x.since)
-        next.0.receive in_vain
+        ap handed_of same_rings ∙ none_as_told w fifo g q size frame ahead a first anew.others next to_look
         ∙ sym (same_delivers w.queue (new_state w.vfs fifo) early x.look.before same)
 
     at_first : (before more early : List Entry) → before ++ more ≡ x.look.before
         → AddsHarmless own (calls_of w.pass before) → AreSame early before
         → handed_of (last m later).driver.rings ≡ delivered w.queue (new_state w.vfs fifo) early
     at_first before more early all is same =
-        ap handed_of goes.up
-        ∙ none_at_first w fifo g q size frame ahead a started first own (halves_of goes.rings) (own ++ x.since)
-        next.0.receive in_vain before more all is
+        ap handed_of same_rings
+        ∙ none_at_first_as_told w fifo g q size frame ahead a first anew.others next to_look before more all
+        (subst (λ (l : List Call). AddsHarmless l (calls_of w.pass before)) (sym own_made) is)
         ∙ sym (same_delivers w.queue (new_state w.vfs fifo) early before same)
 
   module _ (waits : Waits (last m later) n) where
-    then : (s : Running) × (n.driver.rings ≡ Up s)
-        × LooksLast (last m later).made goes.rings.transmit n.made s.transmit
-    then = up_next _ (last m later).driver.rings n.driver.rings goes.rings goes.up waits
+    waits_anew : Waits (by_own own (last m later)) next
+    waits_anew =
+        where_up (λ r s. LooksLast (last m later).made r.transmit n.made s.transmit)
+        (λ r s. LooksLast own r.transmit (own ++ x.since) s.transmit) (last m later).driver.rings n.driver.rings
+        (λ r s y.
+        shifted (λ o l. LooksLast o r.transmit l s.transmit) (last m later).made n.made
+        (waiting_shift r.transmit s.transmit (last m later).made n.made y) x.since own (own ++ x.since) x.made refl)
+        waits
 
-    abbrev at_waiting : LooksAtWaiting w fifo g q size frame ahead a started first own (halves_of goes.rings)
-        (own ++ x.since) then.0.transmit
-    at_waiting = record {
+    abbrev to_wait : IsToldToWait w fifo g q size frame ahead a first anew.others next
+    to_wait = record {
       along = retold_along w fifo h g x.retold;
-      life = life q size frame old a m later ahead own x.told;
-      begins = begins q size frame old a m later ahead own x.told w fifo g x.ground;
-      looks =
-          shifted (λ o l. LooksLast o goes.rings.transmit l then.0.transmit) (last m later).made n.made
-          (waiting_shift goes.rings.transmit then.0.transmit (last m later).made n.made then.2) x.since own
-          (own ++ x.since) x.made refl;
+      told = anew.told;
+      begins = begins_anew w fifo g q size frame old a m later ahead own x.told anew x.ground;
+      waits = subst (λ (z : Moment). Waits z next) (sym anew.ends) waits_anew;
       look = x.look;
     }
 
@@ -101,9 +104,9 @@ module _ (w : Watched) (fifo : ℕ) (h g : List Entry) (q : AtPort) (size frame 
         → AddsHarmless own (calls_of w.pass before) → AreSame early before
         → bytes_of (accepted_of (last m later).driver.rings) ≢ sent_since w.queue (new_state w.vfs fifo) [] early
     not_all before more early all is same sent =
-        waiting_before_look w fifo g q size frame ahead a started first own (halves_of goes.rings) (own ++ x.since)
-        then.0.transmit at_waiting before more all is
-        (ap (λ (z : Rings). bytes_of (accepted_of z)) (sym goes.up) ∙ sent
+        waiting_as_told w fifo g q size frame ahead a first anew.others next to_wait before more all
+        (subst (λ (l : List Call). AddsHarmless l (calls_of w.pass before)) (sym own_made) is)
+        (ap (λ (z : Rings). bytes_of (accepted_of z)) (sym same_rings) ∙ sent
         ∙ same_sends w.queue (new_state w.vfs fifo) early before same)
 
 pub none_before_beside : beside.NoneIsAllBefore

@@ -1,6 +1,6 @@
 -- What the calls of a driver tell is told of the calls that were added alone: it holds behind whichever others.
 use Rattle.std.proofs.Common.{◌≡◌, ℕ, Bool, true, false, List, [], ◌∷◌, ◌++◌, None, refl, sym, ap, ◌∙◌, subst, append_assoc}
-use Rattle.std.proofs.lemmas.List.{append-nil}
+use Rattle.std.proofs.lemmas.List.{append-nil, append_cancel_left}
 use Rattle.nic_device.specs.DmaArena.Block.{Block, zero_block}
 use Rattle.nic_device.specs.DmaArena.Numbers.{Numbers}
 use Rattle.nic_device.specs.DmaRing.declared.dir.Dir.{Dir}
@@ -16,7 +16,7 @@ use Rattle.pmd.specs.PmdSeam.Made.{Adds}
 use Rattle.pmd.specs.PmdSeam.Named.{AtPort}
 use Rattle.pmd.specs.PmdSeam.QueueMade.{Access, AreMade, IsMade, Sees, Sets}
 use Rattle.pmd.specs.PmdSeam.Sides.{polled, quiet}
-use Rattle.pmd.specs.Halves.{Drives, Halves}
+use Rattle.pmd.specs.Apart.{DrivesRings}
 use Rattle.pmd.specs.PmdRx.Plays.{LooksInVain, Plays, PlaysFrom}
 use Rattle.pmd.specs.PmdRx.Receive.{Receive}
 use Rattle.pmd.specs.PmdTx.Plays as sending
@@ -268,11 +268,22 @@ waiting_shift v w old new x =
       left = x.left;
     }) old x.mid new plays (adds_shift _ _ x.mid new x.looks)
 
--- and a driver that was led on
-pub drives_shift : (h k : Halves) (old new : List Call) → Drives old h new k
-    → Shifts (λ o n. Drives o h n k) old new
-drives_shift h k old new (doers, since, made, own, is, steps) = record {
-  since = since;
-  made = made;
-  behind = λ front. (doers, since, refl, own, is, steps);
-}
+-- and rings that were driven on
+pub rings_shift : (r s : Running) (old new : List Call) → DrivesRings old r new s
+    → Shifts (λ o n. DrivesRings o r n s) old new
+rings_shift r s old new x =
+    let (doers, since, made, own, is, steps) = x.apart.drives in record {
+      since = since;
+      made = made;
+      behind = λ front. record {
+        apart = record { drives = (doers, since, refl, own, is, steps); apart = x.apart.apart };
+        owns = x.owns;
+      };
+    }
+
+-- what shifts holds behind other calls, where the calls that were added are known
+pub shifted : (R : List Call → List Call → Type 0) (old new : List Call) → Shifts R old new
+    → (since front then : List Call) → new ≡ old ++ since → then ≡ front ++ since → R front then
+shifted R old new x since front then made is =
+    let same : since ≡ x.since = append_cancel_left old since x.since (sym made ∙ x.made) in
+    subst (λ (l : List Call). R front l) (ap (λ (l : List Call). front ++ l) (sym same) ∙ sym is) (x.behind front)

@@ -30,7 +30,7 @@ use Rattle.driver_laws.specs.Retold.{AreSame}
 use Rattle.pmd_laws.specs.InHand.{WasMade, in_hand}
 use Rattle.pmd_laws.specs.Looks.{EndsAt}
 use Rattle.pmd_laws.specs.Order.{IsLived}
-use Rattle.pmd_laws.specs.Told.{Drove, HasNoneOut, LooksInVain, Moment, last}
+use Rattle.pmd_laws.specs.Told.{Drove, HasNoneOut, IsTold, LooksInVain, Moment, last}
 use Rattle.pmd_laws.specs.Waits.{Waits}
 
 -- a legal history of a new device, and how it is told anew: the same calls, of which those that the driver's author
@@ -84,7 +84,25 @@ pub record IsToldBeside (w : Watched) (fifo : ℕ) (h g : List Entry) (q : AtPor
   pub told : IsToldBy q size frame old a m later ahead (calls_of w.pass g)
   pub ground : BeforeLast w fifo g (ahead ++ told.first) (HasGround w.queue q frame)
 
--- told anew it is a life of the driver's, to which all laws of a life apply
+-- by the driver's own calls alone its moments are told too, with the driver as it is at each
+abbrev pub by_own : List Call → Moment → Moment
+by_own own m = record m { made = own }
+
+pub record IsToldAnew (q : AtPort) (size frame : ℕ) (old : List Call) (a : Numbers) (m : Moment) (later : List Moment)
+    (ahead own : List Call) (x : IsToldBy q size frame old a m later ahead own) : Type 0 where
+  pub others : List Moment
+  pub told : IsTold q size frame ahead a (by_own (ahead ++ x.start) m) others
+  pub access : told.started.2.receive.quiet.0 ≡ ahead ++ x.first
+  pub ends : last (by_own (ahead ++ x.start) m) others ≡ by_own own (last m later)
+
+-- so all laws on what a driver's calls tell apply to the history as it is told anew
+abbrev pub OwnAreTold : Type 0
+OwnAreTold =
+    (q : AtPort) (size frame : ℕ) (old : List Call) (a : Numbers) (m : Moment) (later : List Moment)
+    (ahead own : List Call) (x : IsToldBy q size frame old a m later ahead own) →
+    IsToldAnew q size frame old a m later ahead own x
+
+-- and all laws of a life do: told anew it is one of the driver's
 abbrev pub ToldIsLived : Type 0
 ToldIsLived =
     (w : Watched) (fifo : ℕ) (h g : List Entry) (q : AtPort) (size frame : ℕ) (old : List Call) (a : Numbers)

@@ -144,6 +144,7 @@ pub fn driver_in_order()
 /// what they say of the packets and frames is so of the history as it was. For a device in hand, marks tell which of
 /// its calls are the driver's own (`in_hand`).
 pub fn driver_beside_any_calls_in_order()
+    ensures told { beside.OwnAreTold }
     ensures lived { beside.ToldIsLived }
     ensures handed { beside.HandedIsPrefix }
     ensures none { beside.NoneIsAllBefore }

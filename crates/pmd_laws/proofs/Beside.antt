@@ -112,7 +112,7 @@ module _ (w : Watched) (fifo : ℕ) (h g : List Entry) (q : AtPort) (size frame 
   abbrev pub first : Moment
   first = by_own (ahead ++ x.told.start) m
 
-  pub told : IsToldOf w fifo g q size frame ahead a first anew.others
+  abbrev pub told : IsToldOf w fifo g q size frame ahead a first anew.others
   told = record {
     along = retold_along w fifo h g x.retold;
     told = anew.told;
@@ -143,7 +143,7 @@ module _ (w : Watched) (fifo : ℕ) (h g : List Entry) (q : AtPort) (size frame 
 
   lives : (r : Running) × ((last m later).driver.rings ≡ Up r)
       × IsLived w fifo g q size frame ahead a (ahead ++ x.told.start) x.told.started.0 (halves_of r)
-  unfolding own_are_told told
+  unfolding own_are_told
   lives =
       let goes = runs q size frame ahead a first anew.others anew.told in (
         goes.rings,

@@ -2,6 +2,7 @@ pub use Rattle.start_laws.proofs as StartLaws
 pub mod Asked
 pub mod Begun
 pub mod Beside
+pub mod BesideApart
 pub mod Books
 pub mod CalledBeside
 pub mod Driven

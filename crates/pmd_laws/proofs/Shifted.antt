@@ -2,12 +2,13 @@
 use Rattle.std.proofs.Common.{◌≡◌, ℕ, Bool, true, false, List, [], ◌∷◌, ◌++◌, None, refl, sym, ap, ◌∙◌, subst, append_assoc}
 use Rattle.std.proofs.lemmas.List.{append-nil, append_cancel_left}
 use Rattle.nic_device.specs.DmaArena.Block.{Block, zero_block}
-use Rattle.nic_device.specs.DmaArena.Numbers.{Numbers}
+use Rattle.nic_device.specs.DmaArena.Numbers.{Numbers, is_own}
 use Rattle.nic_device.specs.DmaRing.declared.dir.Dir.{Dir}
 use Rattle.nic_device.specs.DmaRing.declared.dir.Dir.TheVariants.{Rx, Tx}
 use Rattle.nic_device.specs.RegisterFile.Queue.{enable_row}
 use Rattle.nic_device.specs.declared.event.Event.{Event}
 use Rattle.nic_device.specs.declared.event.Reply.{Reply}
+use Rattle.device_lock.specs.Alone.{Blocks}
 use Rattle.device_lock.specs.Pass.{call_of}
 use Rattle.device_lock.specs.declared.entry.Call.{Call}
 use Rattle.pmd.specs.PmdSeam.Accesses.{IsLent}
@@ -16,7 +17,8 @@ use Rattle.pmd.specs.PmdSeam.Made.{Adds}
 use Rattle.pmd.specs.PmdSeam.Named.{AtPort}
 use Rattle.pmd.specs.PmdSeam.QueueMade.{Access, AreMade, IsMade, Sees, Sets}
 use Rattle.pmd.specs.PmdSeam.Sides.{polled, quiet}
-use Rattle.pmd.specs.Apart.{DrivesRings}
+use Rattle.pmd.specs.Apart.{DrivesApart, DrivesRings}
+use Rattle.pmd.specs.Halves.{Halves, halves_of}
 use Rattle.pmd.specs.PmdRx.Plays.{LooksInVain, Plays, PlaysFrom}
 use Rattle.pmd.specs.PmdRx.Receive.{Receive}
 use Rattle.pmd.specs.PmdTx.Plays as sending
@@ -269,17 +271,22 @@ waiting_shift v w old new x =
     }) old x.mid new plays (adds_shift _ _ x.mid new x.looks)
 
 -- and rings that were driven on
+
+pub apart_shift : (mine : Blocks) (h k : Halves) (old new : List Call) → DrivesApart mine old h new k
+    → Shifts (λ o n. DrivesApart mine o h n k) old new
+apart_shift mine h k old new x =
+    let (doers, since, made, own, is, steps) = x.drives in record {
+      since = since;
+      made = made;
+      behind = λ front. record { drives = (doers, since, refl, own, is, steps); apart = x.apart };
+    }
+
 pub rings_shift : (r s : Running) (old new : List Call) → DrivesRings old r new s
     → Shifts (λ o n. DrivesRings o r n s) old new
 rings_shift r s old new x =
-    let (doers, since, made, own, is, steps) = x.apart.drives in record {
-      since = since;
-      made = made;
-      behind = λ front. record {
-        apart = record { drives = (doers, since, refl, own, is, steps); apart = x.apart.apart };
-        owns = x.owns;
-      };
-    }
+    mapped (λ o n. DrivesApart (is_own r.arena) o (halves_of r) n (halves_of s)) (λ o n. DrivesRings o r n s)
+    (λ o n y. record { apart = y; owns = x.owns }) old new
+    (apart_shift (is_own r.arena) (halves_of r) (halves_of s) old new x.apart)
 
 -- what shifts holds behind other calls, where the calls that were added are known
 pub shifted : (R : List Call → List Call → Type 0) (old new : List Call) → Shifts R old new

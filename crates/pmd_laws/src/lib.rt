@@ -12,6 +12,7 @@
 #![tactic(auto)]
 
 ghost use Rattle.pmd_laws.specs.Beside as beside;
+ghost use Rattle.pmd_laws.specs.BesideApart as apart;
 ghost use Rattle.pmd_laws.specs.Ends.{HandedOverStop, LeftIsPrefix, SentOverStop};
 ghost use Rattle.pmd_laws.specs.Faultless.{NoBurstMeetsFault, NoCallFindsFault, NoFillingFindsFault, NoStartFindsFault};
 ghost use Rattle.pmd_laws.specs.FullRing.{FullHasNoRoom, NoneHasNoRoom};
@@ -153,6 +154,17 @@ pub fn driver_beside_any_calls_in_order()
     ensures idle { beside.IdleIsAllSent }
     ensures waits { beside.WaitingIsNotAll }
     ensures in_hand { beside.DirectIsRetold }
+{}
+
+/// Where nobody else lends a block of its arena, neither another pass nor its author beside it, and those that wait for
+/// its queue fit its packets just before its first access: no call of such a driver finds the device at fault. The
+/// blocks that it has out are those of its arena that are lent at the device, and each is in one place.
+pub fn driver_beside_any_calls_keeps_its_blocks()
+    ensures finds { apart.NoCallFindsFault }
+    ensures meets { apart.NoBurstMeetsFault }
+    ensures lent { apart.OutIsLent }
+    ensures known { apart.LentIsOut }
+    ensures once { apart.EachInOnePlace }
 {}
 
 /// Over such a history up to where a driver that lived was to stop, as `workers::run_worker` says of its driver:

@@ -139,7 +139,7 @@ transmit_shift q size frame a b v old new x =
     (λ o n y. record { ring = x.ring; prepared = y; tail = x.tail; named = x.named; fresh = x.fresh }) old new
     (prepared_shift q _ size a b x.ring old new x.prepared)
 
-switched_shift : (q : AtPort) (on : Bool) (polls : ℕ) (old new : List Call) → IsSwitched q old new on polls
+pub switched_shift : (q : AtPort) (on : Bool) (polls : ℕ) (old new : List Call) → IsSwitched q old new on polls
     → Shifts (λ o n. IsSwitched q o n on polls) old new
 switched_shift q on polls old new (first, second, few, made) =
     mapped _ (λ o n. IsSwitched q o n on polls) (λ o n x. (first, second, few, x)) old new

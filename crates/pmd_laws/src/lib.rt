@@ -13,6 +13,7 @@
 
 ghost use Rattle.pmd_laws.specs.Beside as beside;
 ghost use Rattle.pmd_laws.specs.BesideApart as apart;
+ghost use Rattle.pmd_laws.specs.BesideStop as stop;
 ghost use Rattle.pmd_laws.specs.Ends.{HandedOverStop, LeftIsPrefix, SentOverStop};
 ghost use Rattle.pmd_laws.specs.Faultless.{NoBurstMeetsFault, NoCallFindsFault, NoFillingFindsFault, NoStartFindsFault};
 ghost use Rattle.pmd_laws.specs.FullRing.{FullHasNoRoom, NoneHasNoRoom};
@@ -165,6 +166,15 @@ pub fn driver_beside_any_calls_keeps_its_blocks()
     ensures lent { apart.OutIsLent }
     ensures known { apart.LentIsOut }
     ensures once { apart.EachInOnePlace }
+{}
+
+/// Where such a driver is stopped, what it handed out is a prefix of what was delivered, and what was sent a prefix of
+/// what it accepted, at any place amid the calls of its stop and where these end; and once they have switched both sides
+/// off, nothing is delivered or sent there any more. That the calls of a stop are such is said of them as they are.
+pub fn driver_beside_any_calls_stops_in_order()
+    ensures handed { stop.HandedIsPrefix }
+    ensures sent { stop.SentIsPrefix }
+    ensures silent { stop.SilentOnceOff }
 {}
 
 /// Over such a history up to where a driver that lived was to stop, as `workers::run_worker` says of its driver:

@@ -17,6 +17,7 @@ pub mod Lending
 pub mod Meeting
 pub mod Next
 pub mod Receiving
+pub mod Retold
 pub mod Runs
 pub mod Sending
 pub mod StaysUp

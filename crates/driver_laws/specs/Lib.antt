@@ -5,4 +5,5 @@ pub mod Enabling
 pub mod Faults
 pub mod Healthy
 pub mod Histories
+pub mod Retold
 pub mod Waiting

@@ -12,6 +12,7 @@ ghost use Rattle.driver_laws.specs.Enabling.{EnableWordsKeep};
 ghost use Rattle.driver_laws.specs.Faults.{NoFault};
 ghost use Rattle.driver_laws.specs.Healthy.{OwnRepliesAreHealthy};
 ghost use Rattle.driver_laws.specs.Histories.{HandedIsPrefix, NoneIsAll, NoneIsAllBefore, NoneIsAllTaken, SentIsPrefix, IdleIsAllSent, CountedWhereUp};
+ghost use Rattle.driver_laws.specs.Retold.{RetoldIsSame, SameDelivers, SameIsLegal, SameLeads, SameSends};
 ghost use Rattle.driver_laws.specs.Waiting.{WaitingIsNotAll};
 ghost use Rattle.pmd.specs.Halves.{ReceivingDrives, SendingDrives, OthersDrive, DrivesOn};
 
@@ -91,4 +92,15 @@ pub fn no_call_finds_the_device_at_fault()
 pub fn entries_before_lead_there()
     ensures short { FramesStayShortAlong }
     ensures lent { OnlyPassLent }
+{}
+
+/// The tags of a history say who made its calls, and nothing else looks at them: told anew, with other tags, a history
+/// is of the same calls. It is as legal, its events are such as a driver can make, it leads to the same state, and it
+/// delivers and sends the same on each queue.
+pub fn history_is_told_anew()
+    ensures retold { RetoldIsSame }
+    ensures legal { SameIsLegal }
+    ensures leads { SameLeads }
+    ensures delivered { SameDelivers }
+    ensures sent { SameSends }
 {}

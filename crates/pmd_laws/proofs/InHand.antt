@@ -17,7 +17,7 @@ use Rattle.start_laws.proofs.ReceiveLaws.Histories.{calls_other, calls_own}
 use Rattle.pmd_laws.specs.InHand.{DirectIsHistory, InterleavedIsHistory, IsHistoryOf, WasMade, in_hand}
 
 -- the calls of pass 0 are those behind what others made
-calls_behind : (before h : List Entry) (calls : List Call) → calls_of 0 before ≡ [] → calls_of 0 h ≡ calls
+pub calls_behind : (before h : List Entry) (calls : List Call) → calls_of 0 before ≡ [] → calls_of 0 h ≡ calls
     → calls_of 0 (before ++ h) ≡ calls
 calls_behind before h calls none is = rw (filter-append, map-append, none, is) refl
 
@@ -43,7 +43,7 @@ all_are : (calls : List Call) → calls_of 0 (entries_in calls) ≡ calls
 all_are [] = refl
 all_are (c ∷ calls) = ap (λ (l : List Call). c ∷ l) (all_are calls)
 
-own_are : (calls : List Call) (own : List Bool) → calls_of 0 (marked_entries calls own) ≡ own_calls calls own
+pub own_are : (calls : List Call) (own : List Bool) → calls_of 0 (marked_entries calls own) ≡ own_calls calls own
 own_are [] own = refl
 own_are (c ∷ calls) [] = refl
 own_are (c ∷ calls) (true ∷ own) = ap (λ (l : List Call). c ∷ l) (own_are calls own)

@@ -1,7 +1,11 @@
 pub use Rattle.start_laws.proofs as StartLaws
 pub mod Asked
 pub mod Begun
+pub mod Beside
+pub mod BesideApart
+pub mod BesideStop
 pub mod Books
+pub mod CalledBeside
 pub mod Driven
 pub mod Earlier
 pub mod Ends
@@ -36,6 +40,7 @@ pub mod RefusedCalls
 pub mod RiseCalls
 pub mod Room
 pub mod RunsOn
+pub mod Shifted
 pub mod SickCall
 pub mod Silent
 pub mod StartFaultless

@@ -19,7 +19,7 @@ use Rattle.pmd_laws.specs.Told.{last}
 use Rattle.pmd_laws.proofs.Faultless.{found_on, no_call_finds_fault}
 
 -- up to some of a call's events, both halves were driven on to one whose reply no healthy queue gives
-abbrev FindsAmid : Running → List Call → List Call → Type 0
+abbrev pub FindsAmid : Running → List Call → List Call → Type 0
 FindsAmid r old new =
     (mid : List Call) × (later : List Call) × (new ≡ mid ++ later)
     × FindsFault (is_own r.arena) old (halves_of r) mid
@@ -48,7 +48,7 @@ burst_finds (Some f) given left result old made new r there s drives finds x is 
       finds),
 )
 
-sends_find : (old new : List Call) (r s : Running) → SendsAtFault old r new s → FindsAmid r old new
+pub sends_find : (old new : List Call) (r s : Running) → SendsAtFault old r new s → FindsAmid r old new
 sends_find old new r s (vacant, given, left, result, x, is) =
     burst_finds x.failed given left result old x.made new r x.there s x.drives x.finds x.sends is
 

@@ -11,6 +11,9 @@
 //! arena has room for its rings.
 #![tactic(auto)]
 
+ghost use Rattle.pmd_laws.specs.Beside as beside;
+ghost use Rattle.pmd_laws.specs.BesideApart as apart;
+ghost use Rattle.pmd_laws.specs.BesideStop as stop;
 ghost use Rattle.pmd_laws.specs.Ends.{HandedOverStop, LeftIsPrefix, SentOverStop};
 ghost use Rattle.pmd_laws.specs.Faultless.{NoBurstMeetsFault, NoCallFindsFault, NoFillingFindsFault, NoStartFindsFault};
 ghost use Rattle.pmd_laws.specs.FullRing.{FullHasNoRoom, NoneHasNoRoom};
@@ -135,6 +138,45 @@ pub fn driver_in_order()
     ensures first { told.NoneIsAllAtFirst }
     ensures sent { told.SentIsPrefix }
     ensures idle { told.IdleIsAllSent }
+{}
+
+/// The same where between the driver's calls its author makes whatever calls through the same way to the device, as
+/// those of a second driver of another queue, and whatever it made before. What is asked of these is what is asked of
+/// other passes: that the queue is left alone by the history as it is told anew, with another pass's tag for each of
+/// them. So they write no row of the queue, no setting, and reset not its pool; and they lend, take and poke no block
+/// that the driver itself lends. Told so, the history is one of a life (`lived`), and all laws of a life apply; and
+/// what they say of the packets and frames is so of the history as it was. For a device in hand, marks tell which of
+/// its calls are the driver's own (`in_hand`).
+pub fn driver_beside_any_calls_in_order()
+    ensures told { beside.OwnAreTold }
+    ensures lived { beside.ToldIsLived }
+    ensures handed { beside.HandedIsPrefix }
+    ensures none { beside.NoneIsAllBefore }
+    ensures first { beside.NoneIsAllAtFirst }
+    ensures sent { beside.SentIsPrefix }
+    ensures idle { beside.IdleIsAllSent }
+    ensures waits { beside.WaitingIsNotAll }
+    ensures in_hand { beside.DirectIsRetold }
+{}
+
+/// Where nobody else lends a block of its arena, neither another pass nor its author beside it, and those that wait for
+/// its queue fit its packets just before its first access: no call of such a driver finds the device at fault. The
+/// blocks that it has out are those of its arena that are lent at the device, and each is in one place.
+pub fn driver_beside_any_calls_keeps_its_blocks()
+    ensures finds { apart.NoCallFindsFault }
+    ensures meets { apart.NoBurstMeetsFault }
+    ensures lent { apart.OutIsLent }
+    ensures known { apart.LentIsOut }
+    ensures once { apart.EachInOnePlace }
+{}
+
+/// Where such a driver is stopped, what it handed out is a prefix of what was delivered, and what was sent a prefix of
+/// what it accepted, at any place amid the calls of its stop and where these end; and once they have switched both sides
+/// off, nothing is delivered or sent there any more. That the calls of a stop are such is said of them as they are.
+pub fn driver_beside_any_calls_stops_in_order()
+    ensures handed { stop.HandedIsPrefix }
+    ensures sent { stop.SentIsPrefix }
+    ensures silent { stop.SilentOnceOff }
 {}
 
 /// Over such a history up to where a driver that lived was to stop, as `workers::run_worker` says of its driver:

@@ -1,0 +1,200 @@
+-- A driver beside any calls of its author's is told by its own calls alone, over the history as it is told anew.
+use Rattle.std.proofs.Common.{◌≡◌, ℕ, Bool, inl, inr, List, [], ◌∷◌, ◌++◌, length, map, refl, sym, ap, ◌∙◌, subst, arith}
+use Rattle.std.proofs.lemmas.List.{append-nil, append_cancel_left, map-append}
+use Rattle.nic_device.specs.DmaArena.Numbers.{Numbers}
+use Rattle.nic_device.specs.State.{State}
+use Rattle.device_lock.specs.History.{call_in, calls_of}
+use Rattle.device_lock.specs.declared.alone.Watched.{Watched}
+use Rattle.device_lock.specs.declared.entry.Call.{Call}
+use Rattle.device_lock.specs.declared.entry.Entry.{Entry}
+use Rattle.device_lock.proofs.Histories.{events-append, legal-append}
+use Rattle.pmd.specs.Apart.{DrivesRings}
+use Rattle.pmd.specs.Driver.{WhereUp, accepted_of, handed_of}
+use Rattle.pmd.specs.Halves.{halves_of}
+use Rattle.pmd.specs.Running.{Running}
+use Rattle.pmd.specs.declared.driver.Rings.{Rings}
+use Rattle.pmd.specs.declared.driver.Rings.TheVariants.{Up, Down}
+use Rattle.pmd.specs.PmdSeam.Begun.{entries_in, marked_entries}
+use Rattle.pmd.specs.PmdSeam.Named.{AtPort}
+use Rattle.pmd.specs.PmdSeam.Scheduled.{own_calls}
+use Rattle.start_laws.specs.Along.{BeforeLast, IsAlong}
+use Rattle.start_laws.specs.Points.{HasGround}
+use Rattle.start_laws.specs.Start.{BeginsWell}
+use Rattle.start_laws.specs.ReceiveLaws.Delivered as receive
+use Rattle.start_laws.specs.ReceiveLaws.Delivered.{delivered}
+use Rattle.start_laws.specs.TransmitLaws.Agreeing.{bytes_of}
+use Rattle.start_laws.specs.TransmitLaws.Laws as transmit
+use Rattle.start_laws.specs.TransmitLaws.Sent.{sent_since}
+use Rattle.driver_laws.specs.Beside.{Leads}
+use Rattle.driver_laws.specs.Retold.{AreSame}
+use Rattle.driver_laws.proofs.Retold.{events_same, legal_same, same_delivers, same_sends}
+use Rattle.pmd_laws.specs.Beside as beside
+use Rattle.pmd_laws.specs.Beside.{AllFollowBy, DroveBy, FollowsBy, IsRetold, IsToldAnew, IsToldBeside, IsToldBy, OwnAreTold, by_own}
+use Rattle.pmd_laws.specs.Order.{IsLived}
+use Rattle.pmd_laws.specs.Told.{AllFollow, Drove, Follows, HasNoneOut, IsToldOf, Moment, last}
+use Rattle.pmd_laws.proofs.InHand.{calls_behind, own_are}
+use Rattle.pmd_laws.proofs.Shifted.{UpAt, rings_shift, shifted, up_shift}
+use Rattle.pmd_laws.proofs.Told.{handed_as_told, idle_as_told, led, life, runs, sent_as_told}
+
+-- a driver that runs goes on from one to the other by its own calls alone
+
+pub where_up : (P Q : Running → Running → Type 0) (a b : Rings) → ((r s : Running) → P r s → Q r s) → WhereUp a b P
+    → WhereUp a b Q
+where_up P Q (Up r) (Up s) f x = f r s x
+where_up P Q (Up r) (Down h) f x = x
+where_up P Q (Down h) b f x = tt
+
+drove_anew : (m : Moment) (own : List Call) (n : Moment) (then : List Call) → DroveBy m own n then
+    → Drove (by_own own m) (by_own then n)
+drove_anew m own n then (goes, since, made, all) =
+    where_up (λ r s. DrivesRings m.made r n.made s) (λ r s. DrivesRings own r then s) m.driver.rings n.driver.rings
+    (λ r s x.
+    shifted (λ o l. DrivesRings o r l s) m.made n.made (rings_shift r s m.made n.made x) since own then made all) goes
+
+follows_anew : (m : Moment) (own : List Call) (n : Moment) (then : List Call) → FollowsBy m own n then
+    → Follows (by_own own m) (by_own then n)
+follows_anew m own n then (inl x) = inl (drove_anew m own n then x)
+follows_anew m own n then (inr (halves, between, made, all)) = inr (halves, ([], all ∙ sym (append-nil own), tt))
+
+all_anew : (m : Moment) (own : List Call) (later : List Moment) (then : List Call) → AllFollowBy m own later then
+    → (others : List Moment) × AllFollow (by_own own m) others
+    × (last (by_own own m) others ≡ by_own then (last m later))
+all_anew m own [] then all = ([], tt, ap (λ (l : List Call). by_own l m) (sym all))
+all_anew m own (n ∷ later) then (next, goes, more) =
+    let (others, follow, ends) = all_anew n next later then more in
+    (by_own next n ∷ others, (follows_anew m own n next goes, follow), ends)
+
+-- its start, behind the calls that came ahead of it
+
+pub own_are_told : OwnAreTold
+own_are_told q size frame old a m later ahead own x =
+    let (others, follow, ends) = all_anew m (ahead ++ x.start) later own x.since in
+    let fresh = x.started.0 in
+    let (at, is, shifts) = up_shift q size frame a fresh old m.made x.started.2 in
+    let (up, access) = shifted (UpAt q size frame a fresh at) old m.made shifts x.start ahead (ahead ++ x.start) x.made
+    refl in
+    let same : at ≡ x.first = append_cancel_left old at x.first (sym is ∙ x.access) in record {
+      others = others;
+      told = record { started = (fresh, x.started.1, up); since = follow };
+      access = access ∙ ap (λ (l : List Call). ahead ++ l) same;
+      ends = ends;
+    }
+
+-- the history is along, told anew
+pub retold_along : (w : Watched) (origin : State) (h g : List Entry) → IsRetold w origin h g → IsAlong w origin g
+retold_along w origin h g x = record {
+  small = x.small;
+  sound = x.sound;
+  vfs = x.vfs;
+  events = events_same h g x.same x.events;
+  legal = legal_same origin h g x.same x.legal;
+  alone = x.alone;
+}
+
+-- and port and queue name the queue there
+pub begins_anew : (w : Watched) (origin : State) (g : List Entry) (q : AtPort) (size frame : ℕ) (old : List Call)
+    (a : Numbers) (m : Moment) (later : List Moment) (ahead own : List Call)
+    (x : IsToldBy q size frame old a m later ahead own) (y : IsToldAnew q size frame old a m later ahead own x)
+    → BeforeLast w origin g (ahead ++ x.first) (HasGround w.queue q frame)
+    → BeginsWell w origin g q size frame ahead a (ahead ++ x.start) y.told.started.0 y.told.started.2
+begins_anew w origin g q size frame old a m later ahead own x y ground = record {
+  ground = subst (λ (l : List Call). BeforeLast w origin g l (HasGround w.queue q frame)) (sym y.access) ground;
+}
+
+module _ (w : Watched) (origin : State) (h g : List Entry) (q : AtPort) (size frame : ℕ) (old : List Call) (a : Numbers)
+    (m : Moment) (later : List Moment) (ahead : List Call)
+    (x : IsToldBeside w origin h g q size frame old a m later ahead) where
+  abbrev own : List Call
+  own = calls_of w.pass g
+
+  abbrev pub anew : IsToldAnew q size frame old a m later ahead own x.told
+  anew = own_are_told q size frame old a m later ahead own x.told
+
+  abbrev pub first : Moment
+  first = by_own (ahead ++ x.told.start) m
+
+  abbrev pub told : IsToldOf w origin g q size frame ahead a first anew.others
+  told = record {
+    along = retold_along w origin h g x.retold;
+    told = anew.told;
+    begins = begins_anew w origin g q size frame old a m later ahead own x.told anew x.ground;
+    made = ap (λ (z : Moment). z.made) (sym anew.ends);
+  }
+
+  pub same_rings : (last m later).driver.rings ≡ (last first anew.others).driver.rings
+  same_rings = ap (λ (z : Moment). z.driver.rings) (sym anew.ends)
+
+  handed : receive.IsPrefixOf (handed_of (last m later).driver.rings) (delivered w.queue origin h)
+  handed =
+      rw (same_rings, same_delivers w.queue origin h g x.retold.same)
+      (handed_as_told w origin g q size frame ahead a first anew.others told)
+
+  sends : transmit.IsPrefixOf (sent_since w.queue origin [] h)
+      (bytes_of (accepted_of (last m later).driver.rings))
+  sends =
+      rw (same_rings, same_sends w.queue origin h g x.retold.same)
+      (sent_as_told w origin g q size frame ahead a first anew.others told)
+
+  idle : HasNoneOut (last m later).driver.rings
+      → bytes_of (accepted_of (last m later).driver.rings) ≡ sent_since w.queue origin [] h
+  idle none =
+      ap (λ (z : Rings). bytes_of (accepted_of z)) same_rings
+      ∙ idle_as_told w origin g q size frame ahead a first anew.others told (subst HasNoneOut same_rings none)
+      ∙ sym (same_sends w.queue origin h g x.retold.same)
+
+  lives : (r : Running) × ((last m later).driver.rings ≡ Up r)
+      × IsLived w origin g q size frame ahead a (ahead ++ x.told.start) x.told.started.0 (halves_of r)
+  unfolding own_are_told
+  lives =
+      let goes = runs q size frame ahead a first anew.others anew.told in (
+        goes.rings,
+        same_rings ∙ goes.up,
+        record {
+          along = told.along;
+          life =
+              life q size frame ahead a first anew.others anew.told own
+              (subst (λ (l : List Call). Leads first.made (halves_of x.told.started.0) l (halves_of goes.rings))
+              (sym told.made) (led q size frame ahead a first anew.others anew.told));
+          begins = told.begins;
+        },
+      )
+
+pub told_is_lived : beside.ToldIsLived
+told_is_lived = lives
+
+pub handed_beside : beside.HandedIsPrefix
+handed_beside = handed
+
+pub sent_beside : beside.SentIsPrefix
+sent_beside = sends
+
+pub idle_beside : beside.IdleIsAllSent
+idle_beside = idle
+
+-- the calls of a device in hand, marked
+
+same_behind : (before es fs : List Entry) → AreSame es fs → AreSame (before ++ es) (before ++ fs)
+same_behind before es fs same =
+    map-append call_in before es ∙ ap (λ (l : List Call). map call_in before ++ l) same
+    ∙ sym (map-append call_in before fs)
+
+marked_same : (calls : List Call) (own : List Bool) → length own ≡ length calls
+    → AreSame (entries_in calls) (marked_entries calls own)
+marked_same [] own each = refl
+marked_same (c ∷ calls) [] each = absurd (omega (arith, each))
+marked_same (c ∷ calls) (is ∷ own) each =
+    ap (λ (l : List Call). c ∷ l) (marked_same calls own (omega (arith, each)))
+
+pub direct_is_retold : beside.DirectIsRetold
+direct_is_retold s queue before d own small each was began alone = (
+  record {
+    small = small;
+    sound = was.sound;
+    vfs = refl;
+    events = events-append before (entries_in d.calls) was.events began.events;
+    legal = legal-append s before (entries_in d.calls) was.legal began.legal;
+    same = same_behind before (entries_in d.calls) (marked_entries d.calls own) (marked_same d.calls own each);
+    alone = alone;
+  },
+  calls_behind before (marked_entries d.calls own) (own_calls d.calls own) was.others (own_are d.calls own),
+)

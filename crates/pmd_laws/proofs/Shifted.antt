@@ -1,0 +1,296 @@
+-- What the calls of a driver tell is told of the calls that were added alone: it holds behind whichever others.
+use Rattle.std.proofs.Common.{◌≡◌, ℕ, Bool, true, false, List, [], ◌∷◌, ◌++◌, None, refl, sym, ap, ◌∙◌, subst, append_assoc}
+use Rattle.std.proofs.lemmas.List.{append-nil, append_cancel_left}
+use Rattle.nic_device.specs.DmaArena.Block.{Block, zero_block}
+use Rattle.nic_device.specs.DmaArena.Numbers.{Numbers, is_own}
+use Rattle.nic_device.specs.DmaRing.declared.dir.Dir.{Dir}
+use Rattle.nic_device.specs.DmaRing.declared.dir.Dir.TheVariants.{Rx, Tx}
+use Rattle.nic_device.specs.RegisterFile.Queue.{enable_row}
+use Rattle.nic_device.specs.declared.event.Event.{Event}
+use Rattle.nic_device.specs.declared.event.Reply.{Reply}
+use Rattle.device_lock.specs.Alone.{Blocks}
+use Rattle.device_lock.specs.Pass.{call_of}
+use Rattle.device_lock.specs.declared.entry.Call.{Call}
+use Rattle.pmd.specs.PmdSeam.Accesses.{IsLent}
+use Rattle.pmd.specs.PmdSeam.Both.{IsSwitched, receive_polled}
+use Rattle.pmd.specs.PmdSeam.Made.{Adds}
+use Rattle.pmd.specs.PmdSeam.Named.{AtPort}
+use Rattle.pmd.specs.PmdSeam.QueueMade.{Access, AreMade, IsMade, Sees, Sets}
+use Rattle.pmd.specs.PmdSeam.Sides.{polled, quiet}
+use Rattle.pmd.specs.Apart.{DrivesApart, DrivesRings}
+use Rattle.pmd.specs.Halves.{Halves, halves_of}
+use Rattle.pmd.specs.PmdRx.Plays.{LooksInVain, Plays, PlaysFrom}
+use Rattle.pmd.specs.PmdRx.Receive.{Receive}
+use Rattle.pmd.specs.PmdTx.Plays as sending
+use Rattle.pmd.specs.PmdTx.Plays.{LooksLast}
+use Rattle.pmd.specs.PmdTx.Sending.{Sender}
+use Rattle.pmd.specs.Running.{Running}
+use Rattle.pmd.specs.Started.{AreUp}
+use Rattle.pmd.specs.Starting.{GoesOn, IsPrepared, IsReceiveReady, IsTransmitReady, LendsEach}
+
+-- some calls were added, of which this holds, whatever calls are before them
+pub record Shifts (R : List Call → List Call → Type 0) (old new : List Call) : Type 0 where
+  pub since : List Call
+  pub made : new ≡ old ++ since
+  pub behind : (front : List Call) → R front (front ++ since)
+
+pub mapped : (R S : List Call → List Call → Type 0) → ((a b : List Call) → R a b → S a b) → (old new : List Call)
+    → Shifts R old new → Shifts S old new
+mapped R S f old new x = record {
+  since = x.since;
+  made = x.made;
+  behind = λ front. f front (front ++ x.since) (x.behind front);
+}
+
+-- one after the other
+pub joined : (R S T : List Call → List Call → Type 0) → ((a b c : List Call) → R a b → S b c → T a c)
+    → (old mid new : List Call) → Shifts R old mid → Shifts S mid new → Shifts T old new
+joined R S T join old mid new x y = record {
+  since = x.since ++ y.since;
+  made = y.made ∙ ap (λ (l : List Call). l ++ y.since) x.made ∙ append_assoc old x.since y.since;
+  behind = λ front.
+      subst (λ (l : List Call). T front l) (append_assoc front x.since y.since)
+      (join front (front ++ x.since) ((front ++ x.since) ++ y.since) (x.behind front) (y.behind (front ++ x.since)));
+}
+
+-- a call, and calls as each half tells them
+
+pub adds_shift : (e : Event Block) (reply : Reply Block) (old new : List Call) → Adds old new e reply
+    → Shifts (λ o n. Adds o n e reply) old new
+adds_shift e reply old new (before, made, steps) = record {
+  since = before ++ call_of e reply ∷ [];
+  made = made;
+  behind = λ front. (before, refl, steps);
+}
+
+plays_shift : (a : Numbers) (v w : Receive) (old new : List Call) → PlaysFrom a old v new w
+    → Shifts (λ o n. PlaysFrom a o v n w) old new
+plays_shift a v w old new x =
+    let (marks, since, made, own, is, steps) = x.plays in record {
+      since = since;
+      made = made;
+      behind = λ front. record { plays = (marks, since, refl, own, is, steps); free = x.free };
+    }
+
+-- accesses of registers
+
+made_shift : (q : AtPort) (a : Access) (old new : List Call) → IsMade q old new a
+    → Shifts (λ o n. IsMade q o n a) old new
+made_shift q (Sees row on) old new (number, word, named, has, adds) =
+    mapped _ (λ o n. IsMade q o n (Sees row on)) (λ o n x. (number, word, named, has, x)) old new
+    (adds_shift _ _ old new adds)
+made_shift q (Sets row word) old new (number, named, adds) =
+    mapped _ (λ o n. IsMade q o n (Sets row word)) (λ o n x. (number, named, x)) old new (adds_shift _ _ old new adds)
+
+pub are_made_shift : (q : AtPort) (all : List Access) (old new : List Call) → AreMade q old new all
+    → Shifts (λ o n. AreMade q o n all) old new
+are_made_shift q [] old new is = record {
+  since = [];
+  made = is ∙ sym (append-nil old);
+  behind = λ front. append-nil front;
+}
+are_made_shift q (a ∷ rest) old new (mid, one, more) =
+    joined (λ o n. IsMade q o n a) (λ o n. AreMade q o n rest) (λ o n. AreMade q o n (a ∷ rest))
+    (λ o m n x y. (m, x, y)) old mid new (made_shift q a old mid one) (are_made_shift q rest mid new more)
+
+-- the first of them was the last of these calls
+
+abbrev MadeAt : AtPort → Access → List Access → List Call → List Call → List Call → Type 0
+MadeAt q a rest at o n = (x : AreMade q o n (a ∷ rest)) × (x.0 ≡ o ++ at)
+
+first_made_shift : (q : AtPort) (a : Access) (rest : List Access) (old new : List Call)
+    (x : AreMade q old new (a ∷ rest)) → (at : List Call) × (x.0 ≡ old ++ at) × Shifts (MadeAt q a rest at) old new
+first_made_shift q a rest old new (mid, one, more) =
+    let first : Shifts (λ o n. IsMade q o n a) old mid = made_shift q a old mid one in (
+      first.since,
+      first.made,
+      joined (λ o n. IsMade q o n a × (n ≡ o ++ first.since)) (λ o n. AreMade q o n rest) (MadeAt q a rest first.since)
+          (λ o m n x y. ((m, x.0, y), x.1)) old mid new
+          (record { since = first.since; made = first.made; behind = λ front. (first.behind front, refl) })
+          (are_made_shift q rest mid new more),
+    )
+
+-- a ring is prepared
+
+lent_shift : (b : Block) (old new : List Call) → IsLent old new b None → Shifts (λ o n. IsLent o n b None) old new
+lent_shift b old new x = adds_shift _ _ old new x
+
+lends_shift : (ns : List ℕ) (old new : List Call) → LendsEach old new ns → Shifts (λ o n. LendsEach o n ns) old new
+lends_shift [] old new is = record {
+  since = [];
+  made = is ∙ sym (append-nil old);
+  behind = λ front. append-nil front;
+}
+lends_shift (n ∷ ns) old new (mid, one, more) =
+    joined (λ o l. IsLent o l (zero_block n) None) (λ o l. LendsEach o l ns) (λ o l. LendsEach o l (n ∷ ns))
+    (λ o m l x y. (m, x, y)) old mid new (lent_shift (zero_block n) old mid one) (lends_shift ns mid new more)
+
+prepared_shift : (q : AtPort) (side : Dir) (size : ℕ) (a b : Numbers) (ring : ℕ) (old new : List Call)
+    → IsPrepared q side size old a new b ring → Shifts (λ o n. IsPrepared q side size o a n b ring) old new
+prepared_shift q side size a b ring old new x =
+    joined _ _ (λ o n. IsPrepared q side size o a n b ring)
+    (λ o m n words lent. record { drawn = x.drawn; mid = m; words = words; lent = lent }) old x.mid new
+    (are_made_shift q _ old x.mid x.words) (lends_shift _ x.mid new x.lent)
+
+transmit_shift : (q : AtPort) (size frame : ℕ) (a b : Numbers) (v : Sender) (old new : List Call)
+    → IsTransmitReady q size frame old a new b v → Shifts (λ o n. IsTransmitReady q size frame o a n b v) old new
+transmit_shift q size frame a b v old new x =
+    mapped _ (λ o n. IsTransmitReady q size frame o a n b v)
+    (λ o n y. record { ring = x.ring; prepared = y; tail = x.tail; named = x.named; fresh = x.fresh }) old new
+    (prepared_shift q _ size a b x.ring old new x.prepared)
+
+pub switched_shift : (q : AtPort) (on : Bool) (polls : ℕ) (old new : List Call) → IsSwitched q old new on polls
+    → Shifts (λ o n. IsSwitched q o n on polls) old new
+switched_shift q on polls old new (first, second, few, made) =
+    mapped _ (λ o n. IsSwitched q o n on polls) (λ o n x. (first, second, few, x)) old new
+    (are_made_shift q (receive_polled on first ++ polled Tx on second) old new made)
+
+goes_on_shift : (q : AtPort) (a b : Numbers) (v w : Receive) (old new : List Call) → GoesOn q old a v new b w
+    → Shifts (λ o n. GoesOn q o a v n b w) old new
+goes_on_shift q a b v w old new x =
+    joined _ _ (λ o n. GoesOn q o a v n b w)
+    (λ o m n switched plays. record { mid = m; switched = switched; plays = plays; filled = x.filled }) old x.mid new
+    (switched_shift q true 1000 old x.mid x.switched) (plays_shift a v w x.mid new x.plays)
+
+-- a start begins with these accesses
+
+abbrev first_access : Access
+first_access = Sees (enable_row Rx) false
+
+abbrev later_accesses : List Access
+later_accesses = Sets (enable_row Rx) 0 ∷ Sees (enable_row Rx) false ∷ quiet Tx
+
+-- both rings are up, and the first access of the start was the last of these calls
+
+module _ (q : AtPort) (size frame : ℕ) (a : Numbers) where
+  abbrev ReadyAt : Numbers → Receive → List Call → List Call → List Call → Type 0
+  ReadyAt b v at o n = (x : IsReceiveReady q size frame o a n b v) × (x.quiet.0 ≡ o ++ at)
+
+  abbrev pub UpAt : Running → List Call → List Call → List Call → Type 0
+  UpAt r at o n = (x : AreUp q size frame o a n r) × (x.receive.quiet.0 ≡ o ++ at)
+
+  ready_shift : (b : Numbers) (v : Receive) (old new : List Call) (x : IsReceiveReady q size frame old a new b v)
+      → (at : List Call) × (x.quiet.0 ≡ old ++ at) × Shifts (ReadyAt b v at) old new
+  ready_shift b v old new x =
+      let (at, is, first) = first_made_shift q first_access later_accesses old x.mid x.quiet in (
+        at,
+        is,
+        joined _ _ (ReadyAt b v at)
+            (λ o m n y prepared. (
+              record {
+                mid = m;
+                quiet = y.0;
+                ring = x.ring;
+                prepared = prepared;
+                tail = x.tail;
+                named = x.named;
+                fresh = x.fresh;
+              },
+              y.1,
+            )) old x.mid new first (prepared_shift q _ size a b x.ring x.mid new x.prepared),
+      )
+
+  pub up_shift : (r : Running) (old new : List Call) (x : AreUp q size frame old a new r)
+      → (at : List Call) × (x.receive.quiet.0 ≡ old ++ at) × Shifts (UpAt r at) old new
+  up_shift r old new x =
+      let (at, is, ready) = ready_shift x.ready_arena x.empty old x.ready_made x.receive in
+      let Ready = λ (o n : List Call). IsTransmitReady q size frame o x.ready_arena n x.both_arena r.transmit in
+      let Goes = λ (o n : List Call). GoesOn q o x.both_arena x.empty n r.arena r.receive in (
+        at,
+        is,
+        joined (ReadyAt x.ready_arena x.empty at)
+            (λ o n. (m : List Call) × Ready o m × Goes m n)
+            (UpAt r at)
+            (λ o m n y z. (
+              record {
+                sized = x.sized;
+                framed = x.framed;
+                ready_made = m;
+                both_made = z.0;
+                ready_arena = x.ready_arena;
+                both_arena = x.both_arena;
+                empty = x.empty;
+                receive = y.0;
+                transmit = z.1;
+                on = z.2;
+              },
+              y.1,
+            )) old x.ready_made new ready
+            (joined Ready Goes (λ o n. (m : List Call) × Ready o m × Goes m n) (λ o m n y z. (m, y, z))
+            x.ready_made x.both_made new
+            (transmit_shift q size frame x.ready_arena x.both_arena r.transmit x.ready_made x.both_made x.transmit)
+            (goes_on_shift q x.both_arena r.arena x.empty r.receive x.both_made new x.on)),
+      )
+
+-- a look that finds no packet, and one that finds a packet waiting
+
+pub in_vain_shift : (v w : Receive) (old new : List Call) → LooksInVain old v new w
+    → Shifts (λ o n. LooksInVain o v n w) old new
+in_vain_shift v w old new x =
+    let (marks, since, made, own, is, steps) = x.looks in
+    let looks : Shifts (λ o n. Plays o v n w) old x.mid = record {
+      since = since;
+      made = made;
+      behind = λ front. (marks, since, refl, own, is, steps);
+    } in
+    joined _ _ (λ o n. LooksInVain o v n w)
+    (λ o m n plays last. record {
+      mid = m;
+      looks = plays;
+      bytes = x.bytes;
+      last = last;
+      waits = x.waits;
+      stage = x.stage;
+      posted = x.posted;
+      holds_none = x.holds_none;
+      none_whole = x.none_whole;
+      none_named = x.none_named;
+      left = x.left;
+    }) old x.mid new looks (adds_shift _ _ x.mid new x.last)
+
+pub waiting_shift : (v w : Sender) (old new : List Call) → LooksLast old v new w
+    → Shifts (λ o n. LooksLast o v n w) old new
+waiting_shift v w old new x =
+    let (moves, since, made, own, is, steps) = x.plays in
+    let plays : Shifts (λ o n. sending.Plays o v n x.before) old x.mid = record {
+      since = since;
+      made = made;
+      behind = λ front. (moves, since, refl, own, is, steps);
+    } in
+    joined _ _ (λ o n. LooksLast o v n w)
+    (λ o m n before looks. record {
+      mid = m;
+      before = x.before;
+      bytes = x.bytes;
+      plays = before;
+      looks = looks;
+      waits = x.waits;
+      posted = x.posted;
+      accepted = x.accepted;
+      left = x.left;
+    }) old x.mid new plays (adds_shift _ _ x.mid new x.looks)
+
+-- and rings that were driven on
+
+pub apart_shift : (mine : Blocks) (h k : Halves) (old new : List Call) → DrivesApart mine old h new k
+    → Shifts (λ o n. DrivesApart mine o h n k) old new
+apart_shift mine h k old new x =
+    let (doers, since, made, own, is, steps) = x.drives in record {
+      since = since;
+      made = made;
+      behind = λ front. record { drives = (doers, since, refl, own, is, steps); apart = x.apart };
+    }
+
+pub rings_shift : (r s : Running) (old new : List Call) → DrivesRings old r new s
+    → Shifts (λ o n. DrivesRings o r n s) old new
+rings_shift r s old new x =
+    mapped (λ o n. DrivesApart (is_own r.arena) o (halves_of r) n (halves_of s)) (λ o n. DrivesRings o r n s)
+    (λ o n y. record { apart = y; owns = x.owns }) old new
+    (apart_shift (is_own r.arena) (halves_of r) (halves_of s) old new x.apart)
+
+-- what shifts holds behind other calls, where the calls that were added are known
+pub shifted : (R : List Call → List Call → Type 0) (old new : List Call) → Shifts R old new
+    → (since front then : List Call) → new ≡ old ++ since → then ≡ front ++ since → R front then
+shifted R old new x since front then made is =
+    let same : since ≡ x.since = append_cancel_left old since x.since (sym made ∙ x.made) in
+    subst (λ (l : List Call). R front l) (ap (λ (l : List Call). front ++ l) (sym same) ∙ sym is) (x.behind front)

@@ -1,0 +1,191 @@
+-- A driver beside whatever calls its author makes through the same way to the device, as those of a second driver.
+use Rattle.std.specs.Prelude.{ℕ, ◌≡◌, ◌≢◌, ◌<◌, ◌⊎◌, Bool, List, [], ◌∷◌, ◌++◌, length}
+use Rattle.nic_device.specs.DmaArena.Numbers.{Numbers}
+use Rattle.nic_device.specs.Sound.{IsSound}
+use Rattle.nic_device.specs.State.{State}
+use Rattle.device_lock.specs.History.{AreEvents, IsLegal, calls_of, leads_to}
+use Rattle.device_lock.specs.declared.alone.Watched.{Watched}
+use Rattle.device_lock.specs.declared.entry.Call.{Call}
+use Rattle.device_lock.specs.declared.entry.Entry.{Entry}
+use Rattle.pmd.specs.Driver.{accepted_of, handed_of}
+use Rattle.pmd.specs.Halves.{halves_of}
+use Rattle.pmd.specs.Life.{KeepsHalves}
+use Rattle.pmd.specs.Running.{Running}
+use Rattle.pmd.specs.Started.{HasStarted}
+use Rattle.pmd.specs.declared.driver.Rings.TheVariants.{Up}
+use Rattle.pmd.specs.PmdSeam.Begun.{From, began_in_hand, entries_in, marked_entries}
+use Rattle.pmd.specs.PmdSeam.Made.{InHand}
+use Rattle.pmd.specs.PmdSeam.Named.{AtPort}
+use Rattle.pmd.specs.PmdSeam.Scheduled.{own_calls}
+use Rattle.start_laws.specs.Along.{BeforeLast}
+use Rattle.start_laws.specs.HistoryLaws.Alone.{LeavesAloneFrom}
+use Rattle.start_laws.specs.Points.{HasGround}
+use Rattle.start_laws.specs.ReceiveLaws.Delivered as receive
+use Rattle.start_laws.specs.ReceiveLaws.Delivered.{delivered}
+use Rattle.start_laws.specs.TransmitLaws.Agreeing.{bytes_of}
+use Rattle.start_laws.specs.TransmitLaws.Laws as transmit
+use Rattle.start_laws.specs.TransmitLaws.Sent.{sent_since}
+use Rattle.driver_laws.specs.Beside.{AddsHarmless}
+use Rattle.driver_laws.specs.Retold.{AreSame}
+use Rattle.pmd_laws.specs.InHand.{WasMade, in_hand}
+use Rattle.pmd_laws.specs.Looks.{EndsAt}
+use Rattle.pmd_laws.specs.Order.{IsLived}
+use Rattle.pmd_laws.specs.Told.{Drove, HasNoneOut, IsTold, LooksInVain, Moment, last}
+use Rattle.pmd_laws.specs.Waits.{Waits}
+
+-- a legal history of a sound device, and how it is told anew: the same calls, of which those that the driver's author
+-- made beside it have another pass's tag. Told so it leaves the queue alone: so these write no row of the queue, no
+-- setting, and reset not its pool; and they lend, take and poke no block that the driver itself lends
+pub record IsRetold (w : Watched) (origin : State) (h g : List Entry) : Type 0 where
+  pub small : w.queue < 128
+  pub sound : IsSound origin
+  pub vfs : w.vfs ≡ origin.vfs
+  pub events : AreEvents h
+  pub legal : IsLegal origin h
+  pub same : AreSame h g
+  pub alone : LeavesAloneFrom w origin g
+
+-- from one moment of a driver that runs to the next, with the calls so far that were the driver's own: a call of `rx`,
+-- `tx`, `reap`, `rx_burst` or `tx_burst`, as its clause `drives` tells, all of whose calls are its own; or any calls
+-- of the author's, with a call of `packet` or `release`, as its clause `halves` tells, or none
+
+abbrev pub DroveBy : Moment → List Call → Moment → List Call → Type 0
+DroveBy m own n then = Drove m n × (since : List Call) × (n.made ≡ m.made ++ since) × (then ≡ own ++ since)
+
+abbrev pub KeepsBy : Moment → List Call → Moment → List Call → Type 0
+KeepsBy m own n then =
+    KeepsHalves m.driver.rings n.driver.rings × (beside : List Call) × (n.made ≡ m.made ++ beside) × (then ≡ own)
+
+abbrev pub FollowsBy : Moment → List Call → Moment → List Call → Type 0
+FollowsBy m own n then = DroveBy m own n then ⊎ KeepsBy m own n then
+
+abbrev pub AllFollowBy : Moment → List Call → List Moment → List Call → Type 0
+AllFollowBy m own [] then = then ≡ own
+AllFollowBy m own (n ∷ later) then = (next : List Call) × FollowsBy m own n next × AllFollowBy n next later then
+
+-- a `start` brought the driver up, as its clause `started` tells, and the other moments follow on the one when it
+-- returned. The driver's own calls are those of its start and those since; ahead of them may be others of its pass,
+-- whichever of those that were made before it are told so
+pub record IsToldBy (q : AtPort) (size frame : ℕ) (old : List Call) (a : Numbers) (m : Moment) (later : List Moment)
+    (ahead own : List Call) : Type 0 where
+  pub started : HasStarted q size frame old a m.made m.driver
+  -- the calls of the start, and those of them up to its first access
+  pub start : List Call
+  pub made : m.made ≡ old ++ start
+  pub first : List Call
+  pub access : started.2.receive.quiet.0 ≡ old ++ first
+  pub since : AllFollowBy m (ahead ++ start) later own
+
+-- such a history, in which the pass has made just the driver's own calls up to the last moment as it is told anew. Just
+-- before the driver's first access its port and queue name this queue, and frames have at most as many bytes as its
+-- packets
+pub record IsToldBeside (w : Watched) (origin : State) (h g : List Entry) (q : AtPort) (size frame : ℕ)
+    (old : List Call) (a : Numbers) (m : Moment) (later : List Moment) (ahead : List Call) : Type 0 where
+  pub retold : IsRetold w origin h g
+  pub told : IsToldBy q size frame old a m later ahead (calls_of w.pass g)
+  pub ground : BeforeLast w origin g (ahead ++ told.first) (HasGround w.queue q frame)
+
+-- by the driver's own calls alone its moments are told too, with the driver as it is at each
+abbrev pub by_own : List Call → Moment → Moment
+by_own own m = record m { made = own }
+
+pub record IsToldAnew (q : AtPort) (size frame : ℕ) (old : List Call) (a : Numbers) (m : Moment) (later : List Moment)
+    (ahead own : List Call) (x : IsToldBy q size frame old a m later ahead own) : Type 0 where
+  pub others : List Moment
+  pub told : IsTold q size frame ahead a (by_own (ahead ++ x.start) m) others
+  pub access : told.started.2.receive.quiet.0 ≡ ahead ++ x.first
+  pub ends : last (by_own (ahead ++ x.start) m) others ≡ by_own own (last m later)
+
+-- so all laws on what a driver's calls tell apply to the history as it is told anew
+abbrev pub OwnAreTold : Type 0
+OwnAreTold =
+    (q : AtPort) (size frame : ℕ) (old : List Call) (a : Numbers) (m : Moment) (later : List Moment)
+    (ahead own : List Call) (x : IsToldBy q size frame old a m later ahead own) →
+    IsToldAnew q size frame old a m later ahead own x
+
+-- and all laws of a life do: told anew it is one of the driver's
+abbrev pub ToldIsLived : Type 0
+ToldIsLived =
+    (w : Watched) (origin : State) (h g : List Entry) (q : AtPort) (size frame : ℕ) (old : List Call) (a : Numbers)
+    (m : Moment) (later : List Moment) (ahead : List Call)
+    (x : IsToldBeside w origin h g q size frame old a m later ahead) →
+    (r : Running) × ((last m later).driver.rings ≡ Up r)
+    × IsLived w origin g q size frame ahead a (ahead ++ x.told.start) x.told.started.0 (halves_of r)
+
+-- what the driver handed out is a prefix of what was delivered
+abbrev pub HandedIsPrefix : Type 0
+HandedIsPrefix =
+    (w : Watched) (origin : State) (h g : List Entry) (q : AtPort) (size frame : ℕ) (old : List Call) (a : Numbers)
+    (m : Moment) (later : List Moment) (ahead : List Call) →
+    IsToldBeside w origin h g q size frame old a m later ahead →
+    receive.IsPrefixOf (handed_of (last m later).driver.rings) (delivered w.queue origin h)
+
+-- what was sent is a prefix of what the driver accepted, and it is all of that where no packet is outstanding
+
+abbrev pub SentIsPrefix : Type 0
+SentIsPrefix =
+    (w : Watched) (origin : State) (h g : List Entry) (q : AtPort) (size frame : ℕ) (old : List Call) (a : Numbers)
+    (m : Moment) (later : List Moment) (ahead : List Call) →
+    IsToldBeside w origin h g q size frame old a m later ahead →
+    transmit.IsPrefixOf (sent_since w.queue origin [] h)
+    (bytes_of (accepted_of (last m later).driver.rings))
+
+abbrev pub IdleIsAllSent : Type 0
+IdleIsAllSent =
+    (w : Watched) (origin : State) (h g : List Entry) (q : AtPort) (size frame : ℕ) (old : List Call) (a : Numbers)
+    (m : Moment) (later : List Moment) (ahead : List Call) →
+    IsToldBeside w origin h g q size frame old a m later ahead → HasNoneOut (last m later).driver.rings →
+    bytes_of (accepted_of (last m later).driver.rings) ≡ sent_since w.queue origin [] h
+
+-- the same, and behind the last moment comes a call of the driver's, which made these calls. As the history is told
+-- anew the pass has made the driver's own calls up to there at some entry, whatever comes behind it
+pub record IsCalledBeside (w : Watched) (origin : State) (h g : List Entry) (q : AtPort) (size frame : ℕ)
+    (old : List Call) (a : Numbers) (m : Moment) (later : List Moment) (ahead own : List Call)
+    (n : Moment) : Type 0 where
+  pub retold : IsRetold w origin h g
+  pub told : IsToldBy q size frame old a m later ahead own
+  pub ground : BeforeLast w origin g (ahead ++ told.first) (HasGround w.queue q frame)
+  pub since : List Call
+  pub made : n.made ≡ (last m later).made ++ since
+  pub look : EndsAt w.pass g (own ++ since)
+
+-- where that call looks in vain, what the driver had handed out is all that was delivered before the entry of its last
+-- look, by the entries of the history that are told anew before that
+abbrev pub NoneIsAllBefore : Type 0
+NoneIsAllBefore =
+    (w : Watched) (origin : State) (h g : List Entry) (q : AtPort) (size frame : ℕ) (old : List Call) (a : Numbers)
+    (m : Moment) (later : List Moment) (ahead own : List Call) (n : Moment)
+    (x : IsCalledBeside w origin h g q size frame old a m later ahead own n) → LooksInVain (last m later) n →
+    (early : List Entry) → AreSame early x.look.before →
+    handed_of (last m later).driver.rings ≡ delivered w.queue origin early
+
+-- and it is all that was delivered before the first event of that call's own, whatever the author made ahead of it
+abbrev pub NoneIsAllAtFirst : Type 0
+NoneIsAllAtFirst =
+    (w : Watched) (origin : State) (h g : List Entry) (q : AtPort) (size frame : ℕ) (old : List Call) (a : Numbers)
+    (m : Moment) (later : List Moment) (ahead own : List Call) (n : Moment)
+    (x : IsCalledBeside w origin h g q size frame old a m later ahead own n) → LooksInVain (last m later) n →
+    (before more early : List Entry) → before ++ more ≡ x.look.before → AddsHarmless own (calls_of w.pass before) →
+    AreSame early before →
+    handed_of (last m later).driver.rings ≡ delivered w.queue origin early
+
+-- where that call ends with a packet outstanding, not all that the driver had accepted was sent before its first event
+abbrev pub WaitingIsNotAll : Type 0
+WaitingIsNotAll =
+    (w : Watched) (origin : State) (h g : List Entry) (q : AtPort) (size frame : ℕ) (old : List Call) (a : Numbers)
+    (m : Moment) (later : List Moment) (ahead own : List Call) (n : Moment)
+    (x : IsCalledBeside w origin h g q size frame old a m later ahead own n) → Waits (last m later) n →
+    (before more early : List Entry) → before ++ more ≡ x.look.before → AddsHarmless own (calls_of w.pass before) →
+    AreSame early before →
+    bytes_of (accepted_of (last m later).driver.rings) ≢ sent_since w.queue origin [] early
+
+-- the calls through a `Direct`, behind what was made before, are told anew with marks that tell which of them are the
+-- driver's own, as those through an `Interleaved` are marked: pass 0 then has made these alone. So for two drivers over
+-- one `Direct` each has its marks, with the calls of the other among those that are none of its own
+abbrev pub DirectIsRetold : Type 0
+DirectIsRetold =
+    (s : State) (queue : ℕ) (before : List Entry) (d : InHand) (own : List Bool) → queue < 128 →
+    length own ≡ length d.calls → WasMade s before → began_in_hand d (From (leads_to s before)) →
+    LeavesAloneFrom (in_hand s queue) s (before ++ marked_entries d.calls own) →
+    IsRetold (in_hand s queue) s (before ++ entries_in d.calls) (before ++ marked_entries d.calls own)
+    × (calls_of 0 (before ++ marked_entries d.calls own) ≡ own_calls d.calls own)

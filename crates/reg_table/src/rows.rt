@@ -6,9 +6,10 @@ ghost use Rattle.reg_table.specs.Rows.{row_of, rows};
 use crate::bank::Bank;
 use crate::kind::Kind;
 use crate::row::Entry;
+use std::fmt;
 
 /// A row of the register table: the registers of one name.
-#[derive(Clone, Copy, PartialEq, Eq, PartialOrd, Ord, Debug)]
+#[derive(Clone, Copy, PartialEq, Eq, PartialOrd, Ord)]
 pub enum RowId {
     /// Device control.
     Ctrl,
@@ -369,4 +370,94 @@ pub(crate) fn entry_of(row: RowId) -> Entry
     ensures { row_in result ≡ row_of row }
 {
     entries()[usize::from(row.number())]
+}
+
+/// The rows' names in code, in the order of the table.
+static VARIANTS: [&str; 80] = [
+    "Ctrl",
+    "Status",
+    "CtrlExt",
+    "Ledctl",
+    "Pvfctrl",
+    "Pfmbicr",
+    "Pfmbimr",
+    "Eicr",
+    "Eics",
+    "Eiac",
+    "Eitr",
+    "Eims",
+    "Eimc",
+    "Eiam",
+    "Gpie",
+    "Ivar",
+    "IvarMisc",
+    "Pvteicr",
+    "Pvteics",
+    "Pvteims",
+    "Pvteimc",
+    "Pvteiac",
+    "Pfmailbox",
+    "Pvfmailbox",
+    "Pvteiam",
+    "PvtivarMisc",
+    "Rdbal",
+    "Rdbah",
+    "Rdlen",
+    "Rdh",
+    "Srrctl",
+    "Rdt",
+    "Rxdctl",
+    "Vfgprc",
+    "Qprc",
+    "Qprdc",
+    "Rqsmr",
+    "Rdrxctl",
+    "Rxctrl",
+    "Mpc",
+    "Gprc",
+    "Gptc",
+    "Ruc",
+    "Roc",
+    "Hlreg0",
+    "Maxfrs",
+    "Autoc",
+    "Links",
+    "Dmatxctl",
+    "Rxcsum",
+    "Fctrl",
+    "Mcstctrl",
+    "VtCtl",
+    "Vfre",
+    "Vfte",
+    "Mta",
+    "Ral",
+    "Rah",
+    "Mrqc",
+    "Reta",
+    "Rssrk",
+    "Tdbal",
+    "Tdbah",
+    "Tdlen",
+    "Tdh",
+    "Tdt",
+    "Txdctl",
+    "Tdwbal",
+    "Tdwbah",
+    "Qptc",
+    "Mtqc",
+    "Vfgptc",
+    "Tqsm",
+    "Mpsar",
+    "Psrtype",
+    "Eec",
+    "Eerd",
+    "GcrExt",
+    "Pvtivar",
+    "Pfmbmem",
+];
+
+impl fmt::Debug for RowId {
+    fn fmt<W: fmt::Write>(&self, f: &mut fmt::Formatter<W>) -> fmt::Result {
+        f.write_str(VARIANTS[usize::from(self.number())])
+    }
 }

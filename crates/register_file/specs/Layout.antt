@@ -1,29 +1,33 @@
 -- How the registers are laid out: which field holds which row.
-use Rattle.std.specs.Prelude.{[], ◌∷◌, map, replicate}
+use Rattle.std.specs.Prelude.{ℕ, List, [], ◌∷◌, map, replicate}
+use Rattle.reg_table.specs.declared.rows.RowId.{RowId}
+use Rattle.reg_table.specs.declared.rows.RowId.TheVariants.{Ctrl, CtrlExt, Ledctl, Pfmbicr, Eitr, Gpie, Ivar, IvarMisc, PvtivarMisc, Qprc, Qprdc, Rqsmr, Rxctrl, Mpc, Gprc, Gptc, Ruc, Roc, Autoc, Rxcsum, Fctrl, Mcstctrl, VtCtl, Vfre, Vfte, Mta, Ral, Rah, Mrqc, Qptc, Mtqc, Tqsm, Mpsar, Eerd, GcrExt, Pvtivar, Pfmbmem}
+use Rattle.register_file.specs.Cells.{cells_of}
 use Rattle.register_file.specs.Words.{Words}
 use Rattle.register_file.specs.Registers.{Registers}
 use Rattle.register_file.specs.declared.register_file.RegisterFile.TheInside.{Inside}
 
--- the words of each row, in the table's order. Rows that only act, or are calculated, hold the word 0.
-abbrev pub rows_of : Inside → Words
-rows_of a =
-    (a.settings.ctrl ∷ []) ∷
+-- the words of each row, in the table's order, by those of the rows that lie among the cells. Rows that only act, or are
+-- calculated, hold the word 0.
+abbrev pub rows_with : Inside → (RowId → List ℕ) → Words
+rows_with a cells =
+    cells Ctrl ∷
     (0 ∷ []) ∷
-    (a.settings.ctrl_ext ∷ []) ∷
-    (a.settings.ledctl ∷ []) ∷
+    cells CtrlExt ∷
+    cells Ledctl ∷
     replicate 64 0 ∷
-    a.mailboxes.pfmbicr ∷
+    cells Pfmbicr ∷
     a.mailboxes.pfmbimr ∷
     (a.groups.pf.causes ∷ []) ∷
     (0 ∷ []) ∷
     (a.groups.pf.auto_clear ∷ []) ∷
-    a.tables.eitr ∷
+    cells Eitr ∷
     (a.groups.pf.enabled ∷ []) ∷
     (0 ∷ []) ∷
     (a.groups.pf.auto_mask ∷ []) ∷
-    (a.settings.gpie ∷ []) ∷
-    a.tables.ivar ∷
-    (a.settings.ivar_misc ∷ []) ∷
+    cells Gpie ∷
+    cells Ivar ∷
+    cells IvarMisc ∷
     map (λ g. g.causes) a.groups.vf ∷
     replicate 64 0 ∷
     map (λ g. g.enabled) a.groups.vf ∷
@@ -32,7 +36,7 @@ rows_of a =
     replicate 64 0 ∷
     a.mailboxes.pvfmailbox ∷
     map (λ g. g.auto_mask) a.groups.vf ∷
-    a.mailboxes.pvtivar_misc ∷
+    cells PvtivarMisc ∷
     map (λ q. q.base_low) a.receive ∷
     map (λ q. q.base_high) a.receive ∷
     map (λ q. q.length) a.receive ∷
@@ -41,31 +45,31 @@ rows_of a =
     map (λ q. q.tail) a.receive ∷
     map (λ q. q.enable) a.receive ∷
     a.counters.vfgprc ∷
-    a.counters.qprc ∷
-    a.counters.qprdc ∷
-    a.tables.rqsmr ∷
+    cells Qprc ∷
+    cells Qprdc ∷
+    cells Rqsmr ∷
     (a.settings.rdrxctl ∷ []) ∷
-    (a.settings.rxctrl ∷ []) ∷
-    (a.counters.mpc ∷ []) ∷
-    (a.counters.gprc ∷ []) ∷
-    (a.counters.gptc ∷ []) ∷
-    (a.counters.ruc ∷ []) ∷
-    (a.counters.roc ∷ []) ∷
+    cells Rxctrl ∷
+    cells Mpc ∷
+    cells Gprc ∷
+    cells Gptc ∷
+    cells Ruc ∷
+    cells Roc ∷
     (a.settings.hlreg0 ∷ []) ∷
     (a.settings.maxfrs ∷ []) ∷
-    (a.settings.autoc ∷ []) ∷
+    cells Autoc ∷
     (0 ∷ []) ∷
     (a.settings.dmatxctl ∷ []) ∷
-    (a.settings.rxcsum ∷ []) ∷
-    (a.settings.fctrl ∷ []) ∷
-    (a.settings.mcstctrl ∷ []) ∷
-    (a.settings.vt_ctl ∷ []) ∷
-    a.tables.vfre ∷
-    a.tables.vfte ∷
-    a.tables.mta ∷
-    a.tables.ral ∷
-    a.tables.rah ∷
-    (a.settings.mrqc ∷ []) ∷
+    cells Rxcsum ∷
+    cells Fctrl ∷
+    cells Mcstctrl ∷
+    cells VtCtl ∷
+    cells Vfre ∷
+    cells Vfte ∷
+    cells Mta ∷
+    cells Ral ∷
+    cells Rah ∷
+    cells Mrqc ∷
     a.tables.reta ∷
     a.key ∷
     map (λ q. q.base_low) a.transmit ∷
@@ -76,18 +80,21 @@ rows_of a =
     map (λ q. q.enable) a.transmit ∷
     map (λ q. q.writeback_low) a.transmit ∷
     map (λ q. q.writeback_high) a.transmit ∷
-    a.counters.qptc ∷
-    (a.settings.mtqc ∷ []) ∷
+    cells Qptc ∷
+    cells Mtqc ∷
     a.counters.vfgptc ∷
-    a.tables.tqsm ∷
-    a.tables.mpsar ∷
+    cells Tqsm ∷
+    cells Mpsar ∷
     a.tables.psrtype ∷
     (0 ∷ []) ∷
-    (a.settings.eerd ∷ []) ∷
-    (a.settings.gcr_ext ∷ []) ∷
-    a.tables.pvtivar ∷
-    a.mailboxes.pfmbmem ∷
+    cells Eerd ∷
+    cells GcrExt ∷
+    cells Pvtivar ∷
+    cells Pfmbmem ∷
     []
+
+abbrev pub rows_of : Inside → Words
+rows_of a = rows_with a (cells_of a.cells)
 
 -- the registers that the fields hold
 abbrev pub registers_of : Inside → Registers

@@ -7,6 +7,7 @@ pub mod Access
 pub mod AllGroups
 pub mod Behaviour
 pub mod Bits
+pub mod Cells
 pub mod Columns
 pub mod Counters
 pub mod Eeprom

@@ -11,6 +11,7 @@ impl RegisterFile {
         ensures { result ≡ self.now }
     {
         RegisterFile {
+            cells: self.cells,
             settings: self.settings,
             groups: self.groups.copy(),
             receive: self.receive,

@@ -12,24 +12,18 @@ use crate::register_file::RegisterFile;
 use intr_unit::Group;
 use reg_table::RowId;
 
-/// The words of the mailboxes, and the memory through which messages go.
+/// The words of the mailboxes that a reset doesn't clear.
 #[derive(Clone, Copy)]
 pub(crate) struct Mailboxes {
-    pub(crate) pfmbicr: [u32; 4],
     pub(crate) pfmbimr: [u32; 2],
     pub(crate) pvfmailbox: [u32; 64],
-    pub(crate) pvtivar_misc: [u32; 64],
-    pub(crate) pfmbmem: [u32; 1024],
 }
 
 impl Mailboxes {
     /// The words after a reset: each function is to be told that a reset began, and each may ask the physical function.
     pub(crate) const AT_RESET: Mailboxes = Mailboxes {
-        pfmbicr: [0; 4],
         pfmbimr: [0xFFFF_FFFF; 2],
         pvfmailbox: [0x0000_0040; 64],
-        pvtivar_misc: [0; 64],
-        pfmbmem: [0; 1024],
     };
 }
 

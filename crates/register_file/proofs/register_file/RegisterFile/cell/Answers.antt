@@ -1,27 +1,24 @@
-use Rattle.std.proofs.Common.{◌≡◌, ℕ, ◌<◌, sym, subst, replicate, get_or}
+use Rattle.std.proofs.Common.{sym, ap, ◌∙◌, get_or}
 use Rattle.std.proofs.lemmas.List.{get_or-replicate}
 use Rattle.reg_table.specs.Rows.{row_of}
+use Rattle.register_file.proofs.AmongCells.{cell_of, cell_row, zero_row}
 use Rattle.register_file.proofs.register_file.RegisterFile.cell.Goals as goal
 
-none_held : (index : ℕ) → index < 64 → ◌≡◌ {A = ℕ} 0 (get_or (replicate 64 0) index 0)
-none_held index b = sym (get_or-replicate 64 index 0 0 b)
+pub returns-in-Status : goal.returns-in-Status
+returns-in-Status c =
+    rw (← c.self.view_is)
+    (sym (ap (λ ws. get_or ws c.args.index 0) (zero_row c.self.inside c.args.row c.in-Status.is)
+    ∙ get_or-replicate (row_of c.args.row).count c.args.index 0 0 c.requires))
 
-pub returns-in-Pvfctrl : goal.returns-in-Pvfctrl
-returns-in-Pvfctrl c =
-    rw (← c.self.view_is, c.in-Pvfctrl.is)
-    (none_held c.args.index (subst (λ r. c.args.index < (row_of r).count) c.in-Pvfctrl.is c.requires))
-
-pub returns-in-Pvteics : goal.returns-in-Pvteics
-returns-in-Pvteics c =
-    rw (← c.self.view_is, c.in-Pvteics.is)
-    (none_held c.args.index (subst (λ r. c.args.index < (row_of r).count) c.in-Pvteics.is c.requires))
-
-pub returns-in-Pvteimc : goal.returns-in-Pvteimc
-returns-in-Pvteimc c =
-    rw (← c.self.view_is, c.in-Pvteimc.is)
-    (none_held c.args.index (subst (λ r. c.args.index < (row_of r).count) c.in-Pvteimc.is c.requires))
-
-pub returns-in-Pfmailbox : goal.returns-in-Pfmailbox
-returns-in-Pfmailbox c =
-    rw (← c.self.view_is, c.in-Pfmailbox.is)
-    (none_held c.args.index (subst (λ r. c.args.index < (row_of r).count) c.in-Pfmailbox.is c.requires))
+pub returns-in_default : goal.returns-in_default
+returns-in_default c =
+    let d = c.in_default in
+    let cell = cell_of c.args.row
+    d.not-Status d.not-Pvfctrl d.not-Pfmbimr d.not-Eicr d.not-Eics d.not-Eiac d.not-Eims d.not-Eimc d.not-Eiam
+    d.not-Pvteicr d.not-Pvteics d.not-Pvteims d.not-Pvteimc d.not-Pvteiac d.not-Pfmailbox d.not-Pvfmailbox
+    d.not-Pvteiam d.not-Rdbal d.not-Rdbah d.not-Rdlen d.not-Rdh d.not-Srrctl d.not-Rdt d.not-Rxdctl d.not-Vfgprc
+    d.not-Rdrxctl d.not-Hlreg0 d.not-Maxfrs d.not-Links d.not-Dmatxctl d.not-Reta d.not-Rssrk d.not-Tdbal
+    d.not-Tdbah d.not-Tdlen d.not-Tdh d.not-Tdt d.not-Txdctl d.not-Tdwbal d.not-Tdwbah d.not-Vfgptc d.not-Psrtype
+    d.not-Eec in
+    rw (← c.self.view_is)
+    (c.cell_word.ensures ∙ sym (ap (λ ws. get_or ws c.args.index 0) (cell_row c.self.inside c.args.row cell)))

@@ -1,3 +1,5 @@
+use Rattle.register_file.proofs.AmongCells.{cell_of}
+use Rattle.register_file.proofs.CellOrder.{word_stored}
 use Rattle.register_file.proofs.Columns.{receive_columns, transmit_columns}
 use Rattle.register_file.proofs.register_file.RegisterFile.set_word.Goals as goal
 
@@ -45,3 +47,17 @@ returns-in-Tdwbal c = rw (← c.self-in-Tdwbal.view_is, c.in-Tdwbal.is) (simp (c
 
 pub returns-in-Tdwbah : goal.returns-in-Tdwbah
 returns-in-Tdwbah c = rw (← c.self-in-Tdwbah.view_is, c.in-Tdwbah.is) (simp (c.from-at.ensures, transmit_columns))
+
+pub returns-in_default : goal.returns-in_default
+returns-in_default c =
+    let d = c.in_default in
+    let cell = cell_of c.args.row
+    d.not-Status d.not-Pvfctrl d.not-Pfmbimr d.not-Eicr d.not-Eics d.not-Eiac d.not-Eims d.not-Eimc d.not-Eiam
+    d.not-Pvteicr d.not-Pvteics d.not-Pvteims d.not-Pvteimc d.not-Pvteiac d.not-Pfmailbox d.not-Pvfmailbox
+    d.not-Pvteiam d.not-Rdbal d.not-Rdbah d.not-Rdlen d.not-Rdh d.not-Srrctl d.not-Rdt d.not-Rxdctl d.not-Vfgprc
+    d.not-Rdrxctl d.not-Hlreg0 d.not-Maxfrs d.not-Links d.not-Dmatxctl d.not-Reta d.not-Rssrk d.not-Tdbal
+    d.not-Tdbah d.not-Tdlen d.not-Tdh d.not-Tdt d.not-Txdctl d.not-Tdwbal d.not-Tdwbah d.not-Vfgptc d.not-Psrtype
+    d.not-Eec in
+    rw (← c.self-in_default.view_is)
+    (word_stored c.self-in_default.inside _ c.args.row c.args.index c.args.word cell c.requires.index
+    c.set_cell.ensures)

@@ -15,8 +15,7 @@ use Rattle.receive_laws.specs.HistoryLaws.Alone.{LeavesAloneFrom}
 use Rattle.start_laws.specs.Moves.{IsMet}
 use Rattle.start_laws.specs.Standing.{IsLeft}
 
--- the history is one from a sound device on, whichever its state, whose functions are as many as the pass takes them
--- for; and it leaves the queue alone
+-- the history begins with a sound device, whichever its state, of as many virtual functions as are told
 pub record IsAlong (w : Watched) (origin : State) (h : List Entry) : Type 0 where
   pub small : w.queue < 128
   pub sound : IsSound origin

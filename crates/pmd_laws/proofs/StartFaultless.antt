@@ -73,7 +73,7 @@ module _ (w : Watched) (fifo : ℕ) (h : List Entry) (q : AtPort) (size frame : 
       (λ before c steps apart done rest e all own is. (x.begins before c steps apart done rest e all own is).0) early
       (none_early w fifo h q size frame old a new x early) p.front p.back p.both p.fronts
 
-  never_at_fault : FaultsEarly q size frame old a new ⊎ FaultsFilling q size frame old a new → ⊥
+  pub never_at_fault : FaultsEarly q size frame old a new ⊎ FaultsFilling q size frame old a new → ⊥
   never_at_fault (inl early) = never_early early (parts w.pass h new x.more x.made)
   never_at_fault (inr filling) = no_filling_finds_fault w fifo h q size frame old a new filling x
 

@@ -13,6 +13,7 @@
 
 ghost use Rattle.pmd_laws.specs.Beside as beside;
 ghost use Rattle.pmd_laws.specs.BesideApart as apart;
+ghost use Rattle.pmd_laws.specs.BesideStart as start;
 ghost use Rattle.pmd_laws.specs.BesideStop as stop;
 ghost use Rattle.pmd_laws.specs.Ends.{HandedOverStop, LeftIsPrefix, SentOverStop};
 ghost use Rattle.pmd_laws.specs.Faultless.{NoBurstMeetsFault, NoCallFindsFault, NoFillingFindsFault, NoStartFindsFault};
@@ -166,6 +167,15 @@ pub fn driver_beside_any_calls_keeps_its_blocks()
     ensures lent { apart.OutIsLent }
     ensures known { apart.LentIsOut }
     ensures once { apart.EachInOnePlace }
+{}
+
+/// Where both sides of its queue are off too just before its first access, and not wanted on, no start of such a driver
+/// ends with the device at fault, wherever amid its events, behind whatever calls its author made. A start that comes up
+/// adds calls to those that were made, its first access among them.
+pub fn driver_beside_any_calls_starts()
+    ensures adds { start.StartAdds }
+    ensures filling { start.NoFillingFindsFault }
+    ensures amid { start.NoStartFindsFault }
 {}
 
 /// Where such a driver is stopped, what it handed out is a prefix of what was delivered, and what was sent a prefix of

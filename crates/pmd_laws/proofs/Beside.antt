@@ -1,9 +1,10 @@
 -- A driver beside any calls of its author's is told by its own calls alone, over the history as it is told anew.
-use Rattle.std.proofs.Common.{◌≡◌, ℕ, Bool, inl, inr, List, [], ◌∷◌, ◌++◌, length, map, refl, sym, ap, ◌∙◌, subst, arith}
+use Rattle.std.proofs.Common.{◌≡◌, ℕ, Bool, inl, inr, ◌<◌, List, [], ◌∷◌, ◌++◌, length, map, refl, sym, ap, ◌∙◌, subst, arith}
 use Rattle.std.proofs.lemmas.List.{append-nil, append_cancel_left, map-append}
 use Rattle.nic_device.specs.DmaArena.Numbers.{Numbers}
-use Rattle.nic_device.specs.State.{new_state}
-use Rattle.device_lock.specs.History.{call_in, calls_of}
+use Rattle.nic_device.specs.State.{State, new_state}
+use Rattle.device_lock.specs.Alone.{LeavesAlone}
+use Rattle.device_lock.specs.History.{call_in, calls_of, leads_to}
 use Rattle.device_lock.specs.declared.alone.Watched.{Watched}
 use Rattle.device_lock.specs.declared.entry.Call.{Call}
 use Rattle.device_lock.specs.declared.entry.Entry.{Entry}
@@ -14,7 +15,7 @@ use Rattle.pmd.specs.Halves.{halves_of}
 use Rattle.pmd.specs.Running.{Running}
 use Rattle.pmd.specs.declared.driver.Rings.{Rings}
 use Rattle.pmd.specs.declared.driver.Rings.TheVariants.{Up, Down}
-use Rattle.pmd.specs.PmdSeam.Begun.{entries_in, marked_entries}
+use Rattle.pmd.specs.PmdSeam.Begun.{LeadsTo, entries_in, marked_entries}
 use Rattle.pmd.specs.PmdSeam.Named.{AtPort}
 use Rattle.pmd.specs.PmdSeam.Scheduled.{own_calls}
 use Rattle.start_laws.specs.Along.{BeforeLast, IsAlong}
@@ -30,6 +31,7 @@ use Rattle.driver_laws.specs.Retold.{AreSame}
 use Rattle.driver_laws.proofs.Retold.{events_same, legal_same, same_delivers, same_sends}
 use Rattle.pmd_laws.specs.Beside as beside
 use Rattle.pmd_laws.specs.Beside.{AllFollowBy, DroveBy, FollowsBy, IsRetold, IsToldAnew, IsToldBeside, IsToldBy, OwnAreTold, by_own}
+use Rattle.pmd_laws.specs.InHand.{WasMade, in_hand}
 use Rattle.pmd_laws.specs.Order.{IsLived}
 use Rattle.pmd_laws.specs.Told.{AllFollow, Drove, Follows, HasNoneOut, IsToldOf, Moment, last}
 use Rattle.pmd_laws.proofs.InHand.{calls_behind, own_are}
@@ -184,15 +186,36 @@ marked_same (c ∷ calls) [] each = absurd (omega (arith, each))
 marked_same (c ∷ calls) (is ∷ own) each =
     ap (λ (l : List Call). c ∷ l) (marked_same calls own (omega (arith, each)))
 
+both_marked : (calls : List Call) (marks own : List Bool) → length marks ≡ length calls → length own ≡ length calls
+    → AreSame (marked_entries calls marks) (marked_entries calls own)
+both_marked calls marks own all each =
+    sym (marked_same calls marks all) ∙ marked_same calls own each
+
+module _ (vfs fifo queue : ℕ) (before : List Entry) (small : queue < 128) (was : WasMade vfs fifo before) where
+  -- entries behind what was made before, of the same calls as those that are told of them
+  retold_behind : (es : List Entry) (calls : List Call) (own : List Bool) (device : State)
+      → LeadsTo (leads_to (new_state vfs fifo) before) es device → AreSame es (marked_entries calls own)
+      → LeavesAlone (in_hand vfs queue) (before ++ marked_entries calls own)
+      → IsRetold (in_hand vfs queue) fifo (before ++ es) (before ++ marked_entries calls own)
+      × (calls_of 0 (before ++ marked_entries calls own) ≡ own_calls calls own)
+  retold_behind es calls own device began same alone = (
+    record {
+      small = small;
+      new = was.new;
+      events = events-append before es was.events began.events;
+      legal = legal-append (new_state vfs fifo) before es was.legal began.legal;
+      same = same_behind before es (marked_entries calls own) same;
+      alone = alone;
+    },
+    calls_behind before (marked_entries calls own) (own_calls calls own) was.others (own_are calls own),
+  )
+
 pub direct_is_retold : beside.DirectIsRetold
-direct_is_retold vfs fifo queue before d own small each was began alone = (
-  record {
-    small = small;
-    new = was.new;
-    events = events-append before (entries_in d.calls) was.events began.events;
-    legal = legal-append (new_state vfs fifo) before (entries_in d.calls) was.legal began.legal;
-    same = same_behind before (entries_in d.calls) (marked_entries d.calls own) (marked_same d.calls own each);
-    alone = alone;
-  },
-  calls_behind before (marked_entries d.calls own) (own_calls d.calls own) was.others (own_are d.calls own),
-)
+direct_is_retold vfs fifo queue before d own small each was began alone =
+    retold_behind vfs fifo queue before small was (entries_in d.calls) d.calls own d.device began
+    (marked_same d.calls own each) alone
+
+pub interleaved_is_retold : beside.InterleavedIsRetold
+interleaved_is_retold vfs fifo queue before i own small each all was began alone =
+    retold_behind vfs fifo queue before small was (marked_entries i.calls i.own) i.calls own i.device began
+    (both_marked i.calls i.own own all each) alone

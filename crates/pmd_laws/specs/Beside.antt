@@ -14,10 +14,10 @@ use Rattle.pmd.specs.Life.{KeepsHalves}
 use Rattle.pmd.specs.Running.{Running}
 use Rattle.pmd.specs.Started.{HasStarted}
 use Rattle.pmd.specs.declared.driver.Rings.TheVariants.{Up}
-use Rattle.pmd.specs.PmdSeam.Begun.{From, began_in_hand, entries_in, marked_entries}
+use Rattle.pmd.specs.PmdSeam.Begun.{From, began_handled, began_in_hand, entries_in, marked_entries}
 use Rattle.pmd.specs.PmdSeam.Made.{InHand}
 use Rattle.pmd.specs.PmdSeam.Named.{AtPort}
-use Rattle.pmd.specs.PmdSeam.Scheduled.{own_calls}
+use Rattle.pmd.specs.PmdSeam.Scheduled.{Handled, own_calls}
 use Rattle.start_laws.specs.Along.{BeforeLast}
 use Rattle.start_laws.specs.Points.{HasGround}
 use Rattle.start_laws.specs.ReceiveLaws.Delivered as receive
@@ -188,3 +188,14 @@ DirectIsRetold =
     LeavesAlone (in_hand vfs queue) (before ++ marked_entries d.calls own) →
     IsRetold (in_hand vfs queue) fifo (before ++ entries_in d.calls) (before ++ marked_entries d.calls own)
     × (calls_of 0 (before ++ marked_entries d.calls own) ≡ own_calls d.calls own)
+
+-- so it is with the calls through an `Interleaved`, each of which is marked: other marks tell which of the own ones are
+-- the driver's
+abbrev pub InterleavedIsRetold : Type 0
+InterleavedIsRetold =
+    (vfs fifo queue : ℕ) (before : List Entry) (i : Handled) (own : List Bool) → queue < 128 →
+    length own ≡ length i.calls → length i.own ≡ length i.calls → WasMade vfs fifo before →
+    began_handled i (From (leads_to (new_state vfs fifo) before)) →
+    LeavesAlone (in_hand vfs queue) (before ++ marked_entries i.calls own) →
+    IsRetold (in_hand vfs queue) fifo (before ++ marked_entries i.calls i.own) (before ++ marked_entries i.calls own)
+    × (calls_of 0 (before ++ marked_entries i.calls own) ≡ own_calls i.calls own)

@@ -145,7 +145,7 @@ pub fn driver_in_order()
 /// them. So they write no row of the queue, no setting, and reset not its pool; and they lend, take and poke no block
 /// that the driver itself lends. Told so, the history is one of a life (`lived`), and all laws of a life apply; and
 /// what they say of the packets and frames is so of the history as it was. For a device in hand, marks tell which of
-/// its calls are the driver's own (`in_hand`).
+/// its calls are the driver's own (`in_hand`, `interleaved`).
 pub fn driver_beside_any_calls_in_order()
     ensures told { beside.OwnAreTold }
     ensures lived { beside.ToldIsLived }
@@ -156,6 +156,7 @@ pub fn driver_beside_any_calls_in_order()
     ensures idle { beside.IdleIsAllSent }
     ensures waits { beside.WaitingIsNotAll }
     ensures in_hand { beside.DirectIsRetold }
+    ensures interleaved { beside.InterleavedIsRetold }
 {}
 
 /// Where nobody else lends a block of its arena, neither another pass nor its author beside it, and those that wait for

@@ -103,7 +103,7 @@ no_fault_beside w fifo h g q size frame old a m later ahead own n finds x =
 module _ (w : Watched) (fifo : ℕ) (h g : List Entry) (q : AtPort) (size frame : ℕ) (old : List Call) (a : Numbers)
     (m : Moment) (later : List Moment) (ahead : List Call) where
   same_memory : IsToldBeside w fifo h g q size frame old a m later ahead → memory_after w fifo h ≡ memory_after w fifo g
-  same_memory x = ap (λ (s : State). s.memory) (same_leads (new_state w.vfs fifo) h g x.retold.same)
+  same_memory x = ap (λ (s : State). s.memory) (same_leads (new_state w.vfs fifo) h g x.retold.was.same)
 
   module _ (x : IsToldBeside w fifo h g q size frame old a m later ahead) where
     abbrev rings_now : Rings

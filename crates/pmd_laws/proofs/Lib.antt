@@ -3,6 +3,7 @@ pub mod Asked
 pub mod Begun
 pub mod Beside
 pub mod BesideApart
+pub mod BesideRoom
 pub mod BesideStart
 pub mod BesideStop
 pub mod Books

@@ -9,11 +9,13 @@
 //! what holds of what a stopped driver left, `specs/Stopped` what over the calls of its stop, and `specs/Silent` once
 //! these have switched its queue off; `specs/Refused` what holds where its start was refused, and `specs/Room` where an
 //! arena has room for its rings. `specs/Beside` says what holds of a driver beside whatever calls of its author's, and so
-//! do `specs/BesideApart` of its blocks, `specs/BesideStart` of its start and `specs/BesideStop` over its stop.
+//! do `specs/BesideApart` of its blocks, `specs/BesideRoom` of its full ring, `specs/BesideStart` of its start and
+//! `specs/BesideStop` over its stop.
 #![tactic(auto)]
 
 ghost use Rattle.pmd_laws.specs.Beside as beside;
 ghost use Rattle.pmd_laws.specs.BesideApart as apart;
+ghost use Rattle.pmd_laws.specs.BesideRoom as room;
 ghost use Rattle.pmd_laws.specs.BesideStart as start;
 ghost use Rattle.pmd_laws.specs.BesideStop as stop;
 ghost use Rattle.pmd_laws.specs.Ends.{HandedOverStop, LeftIsPrefix, SentOverStop};
@@ -180,6 +182,13 @@ pub fn driver_beside_any_calls_starts()
     ensures adds { start.StartAdds }
     ensures filling { start.NoFillingFindsFault }
     ensures amid { start.NoStartFindsFault }
+{}
+
+/// Where `tx` of such a driver answers that the ring is full, or `tx_burst` takes none, its ring has no room for the next
+/// packet.
+pub fn full_ring_beside_any_calls_has_no_room()
+    ensures told { room.FullHasNoRoom }
+    ensures none { room.NoneHasNoRoom }
 {}
 
 /// Where such a driver is stopped, what it handed out is a prefix of what was delivered, and what was sent a prefix of

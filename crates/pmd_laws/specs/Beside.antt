@@ -180,8 +180,8 @@ WaitingIsNotAll =
     AreSame early before →
     bytes_of (accepted_of (last m later).driver.rings) ≢ sent_since w.queue (new_state w.vfs fifo) [] early
 
--- these entries behind a history that was told anew, which are told so too: pass 0 made these calls in them, as they are
--- told, and they lead to a device
+-- entries behind a history that was told anew, which are told so too: as they are told pass 0 made these calls in them,
+-- and they lead to a device
 pub record GoesOn (vfs fifo : ℕ) (before told es anew : List Entry) (calls : List Call) (device : State) : Type 0 where
   pub was : WasTold vfs fifo (before ++ es) (told ++ anew)
   pub made : calls_of 0 (told ++ anew) ≡ calls_of 0 told ++ calls

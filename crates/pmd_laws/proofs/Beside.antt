@@ -3,20 +3,21 @@ use Rattle.std.proofs.Common.{◌≡◌, ℕ, Bool, inl, inr, List, [], ◌∷�
 use Rattle.std.proofs.lemmas.List.{append-nil, append_cancel_left, map-append}
 use Rattle.nic_device.specs.DmaArena.Numbers.{Numbers}
 use Rattle.nic_device.specs.State.{State}
-use Rattle.device_lock.specs.History.{call_in, calls_of}
+use Rattle.device_lock.specs.History.{call_in, calls_of, leads_to}
 use Rattle.device_lock.specs.declared.alone.Watched.{Watched}
 use Rattle.device_lock.specs.declared.entry.Call.{Call}
 use Rattle.device_lock.specs.declared.entry.Entry.{Entry}
-use Rattle.device_lock.proofs.Histories.{events-append, legal-append}
+use Rattle.device_lock.proofs.Histories.{events-append, leads-append, legal-append}
 use Rattle.pmd.specs.Apart.{DrivesRings}
 use Rattle.pmd.specs.Driver.{WhereUp, accepted_of, handed_of}
 use Rattle.pmd.specs.Halves.{halves_of}
 use Rattle.pmd.specs.Running.{Running}
 use Rattle.pmd.specs.declared.driver.Rings.{Rings}
 use Rattle.pmd.specs.declared.driver.Rings.TheVariants.{Up, Down}
-use Rattle.pmd.specs.PmdSeam.Begun.{entries_in, marked_entries}
+use Rattle.pmd.specs.PmdSeam.Begun.{LeadsTo, entries_in, marked_entries}
 use Rattle.pmd.specs.PmdSeam.Named.{AtPort}
 use Rattle.pmd.specs.PmdSeam.Scheduled.{own_calls}
+use Rattle.start_laws.proofs.Parts.{calls_joined}
 use Rattle.start_laws.specs.Along.{BeforeLast, IsAlong}
 use Rattle.start_laws.specs.Points.{HasGround}
 use Rattle.start_laws.specs.Start.{BeginsWell}
@@ -29,10 +30,10 @@ use Rattle.driver_laws.specs.Beside.{Leads}
 use Rattle.driver_laws.specs.Retold.{AreSame}
 use Rattle.driver_laws.proofs.Retold.{events_same, legal_same, same_delivers, same_sends}
 use Rattle.pmd_laws.specs.Beside as beside
-use Rattle.pmd_laws.specs.Beside.{AllFollowBy, DroveBy, FollowsBy, IsRetold, IsToldAnew, IsToldBeside, IsToldBy, OwnAreTold, by_own}
+use Rattle.pmd_laws.specs.Beside.{AllFollowBy, DroveBy, FollowsBy, IsRetold, GoesOn, IsToldAnew, IsToldBeside, IsToldBy, OwnAreTold, WasTold, by_own}
 use Rattle.pmd_laws.specs.Order.{IsLived}
 use Rattle.pmd_laws.specs.Told.{AllFollow, Drove, Follows, HasNoneOut, IsToldOf, Moment, last}
-use Rattle.pmd_laws.proofs.InHand.{calls_behind, own_are}
+use Rattle.pmd_laws.proofs.InHand.{own_are}
 use Rattle.pmd_laws.proofs.Shifted.{UpAt, rings_shift, shifted, up_shift}
 use Rattle.pmd_laws.proofs.Told.{handed_as_told, idle_as_told, led, life, runs, sent_as_told}
 
@@ -54,7 +55,7 @@ drove_anew m own n then (goes, since, made, all) =
 follows_anew : (m : Moment) (own : List Call) (n : Moment) (then : List Call) → FollowsBy m own n then
     → Follows (by_own own m) (by_own then n)
 follows_anew m own n then (inl x) = inl (drove_anew m own n then x)
-follows_anew m own n then (inr (halves, between, made, all)) = inr (halves, ([], all ∙ sym (append-nil own), tt))
+follows_anew m own n then (inr (halves, all)) = inr (halves, ([], all ∙ sym (append-nil own), tt))
 
 all_anew : (m : Moment) (own : List Call) (later : List Moment) (then : List Call) → AllFollowBy m own later then
     → (others : List Moment) × AllFollow (by_own own m) others
@@ -84,10 +85,10 @@ own_are_told q size frame old a m later ahead own x =
 pub retold_along : (w : Watched) (origin : State) (h g : List Entry) → IsRetold w origin h g → IsAlong w origin g
 retold_along w origin h g x = record {
   small = x.small;
-  sound = x.sound;
+  sound = x.was.sound;
   vfs = x.vfs;
-  events = events_same h g x.same x.events;
-  legal = legal_same origin h g x.same x.legal;
+  events = events_same h g x.was.same x.was.events;
+  legal = legal_same origin h g x.was.same x.was.legal;
   alone = x.alone;
 }
 
@@ -126,13 +127,13 @@ module _ (w : Watched) (origin : State) (h g : List Entry) (q : AtPort) (size fr
 
   handed : receive.IsPrefixOf (handed_of (last m later).driver.rings) (delivered w.queue origin h)
   handed =
-      rw (same_rings, same_delivers w.queue origin h g x.retold.same)
+      rw (same_rings, same_delivers w.queue origin h g x.retold.was.same)
       (handed_as_told w origin g q size frame ahead a first anew.others told)
 
   sends : transmit.IsPrefixOf (sent_since w.queue origin [] h)
       (bytes_of (accepted_of (last m later).driver.rings))
   sends =
-      rw (same_rings, same_sends w.queue origin h g x.retold.same)
+      rw (same_rings, same_sends w.queue origin h g x.retold.was.same)
       (sent_as_told w origin g q size frame ahead a first anew.others told)
 
   idle : HasNoneOut (last m later).driver.rings
@@ -140,7 +141,7 @@ module _ (w : Watched) (origin : State) (h g : List Entry) (q : AtPort) (size fr
   idle none =
       ap (λ (z : Rings). bytes_of (accepted_of z)) same_rings
       ∙ idle_as_told w origin g q size frame ahead a first anew.others told (subst HasNoneOut same_rings none)
-      ∙ sym (same_sends w.queue origin h g x.retold.same)
+      ∙ sym (same_sends w.queue origin h g x.retold.was.same)
 
   lives : (r : Running) × ((last m later).driver.rings ≡ Up r)
       × IsLived w origin g q size frame ahead a (ahead ++ x.told.start) x.told.started.0 (halves_of r)
@@ -173,10 +174,11 @@ idle_beside = idle
 
 -- the calls of a device in hand, marked
 
-same_behind : (before es fs : List Entry) → AreSame es fs → AreSame (before ++ es) (before ++ fs)
-same_behind before es fs same =
-    map-append call_in before es ∙ ap (λ (l : List Call). map call_in before ++ l) same
-    ∙ sym (map-append call_in before fs)
+same_behind : (before told es fs : List Entry) → AreSame before told → AreSame es fs
+    → AreSame (before ++ es) (told ++ fs)
+same_behind before told es fs first then =
+    map-append call_in before es ∙ ap (λ (l : List Call). l ++ map call_in es) first
+    ∙ ap (λ (l : List Call). map call_in told ++ l) then ∙ sym (map-append call_in told fs)
 
 marked_same : (calls : List Call) (own : List Bool) → length own ≡ length calls
     → AreSame (entries_in calls) (marked_entries calls own)
@@ -185,16 +187,34 @@ marked_same (c ∷ calls) [] each = absurd (omega (arith, each))
 marked_same (c ∷ calls) (is ∷ own) each =
     ap (λ (l : List Call). c ∷ l) (marked_same calls own (omega (arith, each)))
 
+both_marked : (calls : List Call) (marks own : List Bool) → length marks ≡ length calls → length own ≡ length calls
+    → AreSame (marked_entries calls marks) (marked_entries calls own)
+both_marked calls marks own all each =
+    sym (marked_same calls marks all) ∙ marked_same calls own each
+
+module _ (origin : State) (before told : List Entry) (was : WasTold origin before told) where
+  -- entries behind what was made before, of the same calls as those that are told of them
+  goes_on : (es : List Entry) (calls : List Call) (own : List Bool) (device : State)
+      → LeadsTo (leads_to origin before) es device → AreSame es (marked_entries calls own)
+      → GoesOn origin before told es (marked_entries calls own) (own_calls calls own) device
+  goes_on es calls own device began same = record {
+    was = record {
+      sound = was.sound;
+      events = events-append before es was.events began.events;
+      legal = legal-append origin before es was.legal began.legal;
+      same = same_behind before told es (marked_entries calls own) was.same same;
+    };
+    made =
+        calls_joined 0 told (marked_entries calls own)
+        ∙ ap (λ (l : List Call). calls_of 0 told ++ l) (own_are calls own);
+    leads = leads-append origin before es ∙ began.leads;
+  }
+
 pub direct_is_retold : beside.DirectIsRetold
-direct_is_retold s queue before d own small each was began alone = (
-  record {
-    small = small;
-    sound = was.sound;
-    vfs = refl;
-    events = events-append before (entries_in d.calls) was.events began.events;
-    legal = legal-append s before (entries_in d.calls) was.legal began.legal;
-    same = same_behind before (entries_in d.calls) (marked_entries d.calls own) (marked_same d.calls own each);
-    alone = alone;
-  },
-  calls_behind before (marked_entries d.calls own) (own_calls d.calls own) was.others (own_are d.calls own),
-)
+direct_is_retold origin before told d own each was began =
+    goes_on origin before told was (entries_in d.calls) d.calls own d.device began (marked_same d.calls own each)
+
+pub interleaved_is_retold : beside.InterleavedIsRetold
+interleaved_is_retold origin before told i own each all was began =
+    goes_on origin before told was (marked_entries i.calls i.own) i.calls own i.device began
+    (both_marked i.calls i.own own all each)

@@ -105,7 +105,7 @@ module _ (w : Watched) (origin : State) (h g : List Entry) (q : AtPort) (size fr
     (m : Moment) (later : List Moment) (ahead : List Call) where
   same_memory : IsToldBeside w origin h g q size frame old a m later ahead
       → memory_after origin h ≡ memory_after origin g
-  same_memory x = ap (λ (s : State). s.memory) (same_leads origin h g x.retold.same)
+  same_memory x = ap (λ (s : State). s.memory) (same_leads origin h g x.retold.was.same)
 
   module _ (x : IsToldBeside w origin h g q size frame old a m later ahead) where
     abbrev rings_now : Rings

@@ -125,7 +125,7 @@ module _ (w : Watched) (origin : State) (h g : List Entry) (q : AtPort) (size fr
 
   handed : receive.IsPrefixOf (handed_of (last m later).driver.rings) (delivered w.queue origin h)
   handed =
-      rw (up, same_delivers w.queue origin h g x.retold.same)
+      rw (up, same_delivers w.queue origin h g x.retold.was.same)
       (handed_over_stop w origin g q size frame ahead a (ahead ++ x.told.start) fresh own (halves_of goes.rings)
       (own ++ x.since) stopping)
 
@@ -135,7 +135,7 @@ module _ (w : Watched) (origin : State) (h g : List Entry) (q : AtPort) (size fr
   sends takes =
       let so_far : TakesOnceOff q made (made ++ x.since) =
       first_takes q made (made ++ x.since) new x.since x.rest refl x.made takes in
-      rw (up, same_sends w.queue origin h g x.retold.same)
+      rw (up, same_sends w.queue origin h g x.retold.was.same)
       (sent_over_stop w origin g q size frame ahead a (ahead ++ x.told.start) fresh own (halves_of goes.rings)
       (own ++ x.since) stopping
       (shifted (λ o n. TakesOnceOff q o n) made (made ++ x.since) (takes_shift q made (made ++ x.since) so_far) x.since
@@ -152,10 +152,10 @@ module _ (w : Watched) (origin : State) (h g : List Entry) (q : AtPort) (size fr
       (halves_of goes.rings) (own ++ x.since) done rest stopping now.0 all
       (is ∙ ap (λ (l : List Call). own ++ l) places ∙ sym now.1) in record {
         delivered =
-            same_delivers w.queue origin h g x.retold.same ∙ quiet.delivered
+            same_delivers w.queue origin h g x.retold.was.same ∙ quiet.delivered
             ∙ sym (same_delivers w.queue origin early done same);
         sent =
-            same_sends w.queue origin h g x.retold.same ∙ quiet.sent
+            same_sends w.queue origin h g x.retold.was.same ∙ quiet.sent
             ∙ sym (same_sends w.queue origin early done same);
       }
 

@@ -11,6 +11,8 @@ use Rattle.pmd.specs.Halves.{AllOwn, Doer, Halves, OwnCall, Receives, Sends, aft
 use Rattle.pmd.specs.PmdTx.Sending.{Accepts, Advances, Asks, Lends, Looks, Move, Outgoing, Reaps, Sender, IsOwn, MayAccept, moved, accepted_by, parts_for, reaped, segments_of}
 use Rattle.pmd.specs.PmdTx.Sends.{IsFullWhereTold}
 use Rattle.pmd.specs.PmdTx.declared.answer.TxAnswer.TheVariants.{RingFull}
+use Rattle.pmd.specs.Running.{Running}
+use Rattle.pmd.specs.declared.driver.Rings.TheVariants.{Up}
 use Rattle.pmd.specs.PmdSeam.Named.{AtPort}
 use Rattle.pmd.specs.PmdSeam.declared.packet.Packet.{Packet}
 use Rattle.nic_device.specs.DmaArena.Numbers.{Numbers}
@@ -94,6 +96,16 @@ pub led_size : (old new : List Call) (h k : Halves) → Leads old h new k
 led_size old new h k (doers, since, made, own, is, steps) =
     ap (λ (x : Halves). x.transmit.layout.size) is ∙ played_size h doers since
 
+-- a driver that tells that its ring is full, which has room for one part at least
+pub full_lacks : (size : ℕ) (m n : Moment) (r : Running) (p : Packet) → m.driver.rings ≡ Up r → HasRoom r.transmit
+    → r.transmit.layout.size ≡ size → TellsFull m n p
+    → (outstanding m.driver.rings < size) × (size ≤ outstanding m.driver.rings + parts_for p.len)
+full_lacks size m n r p is room same tells =
+    let (s, up, full) = up_next (λ v w. IsFullWhereTold v.transmit p (Ok (RingFull p))) m.driver.rings n.driver.rings r
+    is tells in
+    let told = ap outstanding is in
+    (omega (arith, room, same, told), omega (arith, full, same, told))
+
 module _ (q : AtPort) (size frame : ℕ) (old : List Call) (a : Numbers) (m : Moment) (later : List Moment)
     (x : IsTold q size frame old a m later) where
   abbrev goes : RunsOn m x.started.0 (last m later)
@@ -112,11 +124,7 @@ module _ (q : AtPort) (size frame : ℕ) (old : List Call) (a : Numbers) (m : Mo
   full_told : (n : Moment) (p : Packet) → TellsFull (last m later) n p
       → (outstanding (last m later).driver.rings < size)
       × (size ≤ outstanding (last m later).driver.rings + parts_for p.len)
-  full_told n p tells =
-      let (s, up, full) = up_next (λ r s. IsFullWhereTold r.transmit p (Ok (RingFull p))) (last m later).driver.rings
-      n.driver.rings goes.rings goes.up tells in
-      let told = ap outstanding goes.up in
-      (omega (arith, room, same_size, told), omega (arith, full, same_size, told))
+  full_told n p tells = full_lacks size (last m later) n goes.rings p goes.up room same_size tells
 
 pub full_has_no_room : FullHasNoRoom
 full_has_no_room q size frame old a m later n p x = full_told q size frame old a m later x n p

@@ -17,7 +17,7 @@ use Rattle.start_laws.proofs.ReceiveLaws.Histories.{calls_other, calls_own}
 use Rattle.pmd_laws.specs.InHand.{DirectIsHistory, InterleavedIsHistory, IsHistoryOf, WasMade, in_hand}
 
 -- the calls of pass 0 are those behind what others made
-pub calls_behind : (before h : List Entry) (calls : List Call) → calls_of 0 before ≡ [] → calls_of 0 h ≡ calls
+calls_behind : (before h : List Entry) (calls : List Call) → calls_of 0 before ≡ [] → calls_of 0 h ≡ calls
     → calls_of 0 (before ++ h) ≡ calls
 calls_behind before h calls none is = rw (filter-append, map-append, none, is) refl
 

@@ -3,6 +3,8 @@ pub mod Asked
 pub mod Begun
 pub mod Beside
 pub mod BesideApart
+pub mod BesideRoom
+pub mod BesideStart
 pub mod BesideStop
 pub mod Books
 pub mod CalledBeside
@@ -45,6 +47,7 @@ pub mod SickCall
 pub mod Silent
 pub mod StartFaultless
 pub mod StartLends
+pub mod StartShifted
 pub mod StopCalls
 pub mod StopParts
 pub mod StopSent

@@ -18,14 +18,14 @@ use Rattle.pmd_laws.proofs.RunsOn.{up_next}
 use Rattle.pmd_laws.proofs.Told.{runs}
 
 -- two facts of a driver that runs on
-both_up : (a b : Rings) (P Q : Running → Running → Type 0) → WhereUp a b P → WhereUp a b Q
+pub both_up : (a b : Rings) (P Q : Running → Running → Type 0) → WhereUp a b P → WhereUp a b Q
     → WhereUp a b (λ r s. P r s × Q r s)
 both_up (Up r) (Up s) P Q p q = (p, q)
 both_up (Up r) (Down h) P Q p q = p
 both_up (Down h) b P Q p q = tt
 
 -- what a driver tells of a packet that its ring has no room for
-abbrev LacksRoom : Sender → Packet → Type 0
+abbrev pub LacksRoom : Sender → Packet → Type 0
 LacksRoom v p = v.layout.size ≤ length v.outstanding + parts_for p.len
 
 -- none was accepted, and no fault is told
@@ -50,7 +50,7 @@ by_room_made : (failed : Option PmdFault) (given rest : List Packet) (p : Packet
 by_room_made None given rest p old new r s x = burst_full given rest p old new r s x
 by_room_made (Some f) given rest p old new r s x = let is = x.0 in cc
 
-none_full : (p : Packet) (old new : List Call) (r s : Running) → (vacant : ℕ) × (given : List Packet)
+pub none_full : (p : Packet) (old new : List Call) (r s : Running) → (vacant : ℕ) × (given : List Packet)
     × (rest : List Packet) × IsSendBurst vacant given (p ∷ rest) (Ok 0) old r new s → LacksRoom s.transmit p
 none_full p old new r s (vacant, given, rest, x) =
     by_room_made x.failed given rest p x.made new x.there s x.sends

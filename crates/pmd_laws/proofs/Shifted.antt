@@ -63,7 +63,7 @@ adds_shift e reply old new (before, made, steps) = record {
   behind = λ front. (before, refl, steps);
 }
 
-plays_shift : (a : Numbers) (v w : Receive) (old new : List Call) → PlaysFrom a old v new w
+pub plays_shift : (a : Numbers) (v w : Receive) (old new : List Call) → PlaysFrom a old v new w
     → Shifts (λ o n. PlaysFrom a o v n w) old new
 plays_shift a v w old new x =
     let (marks, since, made, own, is, steps) = x.plays in record {
@@ -74,7 +74,7 @@ plays_shift a v w old new x =
 
 -- accesses of registers
 
-made_shift : (q : AtPort) (a : Access) (old new : List Call) → IsMade q old new a
+pub made_shift : (q : AtPort) (a : Access) (old new : List Call) → IsMade q old new a
     → Shifts (λ o n. IsMade q o n a) old new
 made_shift q (Sees row on) old new (number, word, named, has, adds) =
     mapped _ (λ o n. IsMade q o n (Sees row on)) (λ o n x. (number, word, named, has, x)) old new
@@ -115,7 +115,7 @@ first_made_shift q a rest old new (mid, one, more) =
 lent_shift : (b : Block) (old new : List Call) → IsLent old new b None → Shifts (λ o n. IsLent o n b None) old new
 lent_shift b old new x = adds_shift _ _ old new x
 
-lends_shift : (ns : List ℕ) (old new : List Call) → LendsEach old new ns → Shifts (λ o n. LendsEach o n ns) old new
+pub lends_shift : (ns : List ℕ) (old new : List Call) → LendsEach old new ns → Shifts (λ o n. LendsEach o n ns) old new
 lends_shift [] old new is = record {
   since = [];
   made = is ∙ sym (append-nil old);
@@ -132,7 +132,7 @@ prepared_shift q side size a b ring old new x =
     (λ o m n words lent. record { drawn = x.drawn; mid = m; words = words; lent = lent }) old x.mid new
     (are_made_shift q _ old x.mid x.words) (lends_shift _ x.mid new x.lent)
 
-transmit_shift : (q : AtPort) (size frame : ℕ) (a b : Numbers) (v : Sender) (old new : List Call)
+pub transmit_shift : (q : AtPort) (size frame : ℕ) (a b : Numbers) (v : Sender) (old new : List Call)
     → IsTransmitReady q size frame old a new b v → Shifts (λ o n. IsTransmitReady q size frame o a n b v) old new
 transmit_shift q size frame a b v old new x =
     mapped _ (λ o n. IsTransmitReady q size frame o a n b v)
@@ -163,13 +163,13 @@ later_accesses = Sets (enable_row Rx) 0 ∷ Sees (enable_row Rx) false ∷ quiet
 -- both rings are up, and the first access of the start was the last of these calls
 
 module _ (q : AtPort) (size frame : ℕ) (a : Numbers) where
-  abbrev ReadyAt : Numbers → Receive → List Call → List Call → List Call → Type 0
+  abbrev pub ReadyAt : Numbers → Receive → List Call → List Call → List Call → Type 0
   ReadyAt b v at o n = (x : IsReceiveReady q size frame o a n b v) × (x.quiet.0 ≡ o ++ at)
 
   abbrev pub UpAt : Running → List Call → List Call → List Call → Type 0
   UpAt r at o n = (x : AreUp q size frame o a n r) × (x.receive.quiet.0 ≡ o ++ at)
 
-  ready_shift : (b : Numbers) (v : Receive) (old new : List Call) (x : IsReceiveReady q size frame old a new b v)
+  pub ready_shift : (b : Numbers) (v : Receive) (old new : List Call) (x : IsReceiveReady q size frame old a new b v)
       → (at : List Call) × (x.quiet.0 ≡ old ++ at) × Shifts (ReadyAt b v at) old new
   ready_shift b v old new x =
       let (at, is, first) = first_made_shift q first_access later_accesses old x.mid x.quiet in (

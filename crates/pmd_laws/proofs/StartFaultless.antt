@@ -75,7 +75,7 @@ module _ (w : Watched) (origin : State) (h : List Entry) (q : AtPort) (size fram
       (λ before c steps apart done rest e all own is. (x.begins before c steps apart done rest e all own is).0) early
       (none_early w origin h q size frame old a new x early) p.front p.back p.both p.fronts
 
-  never_at_fault : FaultsEarly q size frame old a new ⊎ FaultsFilling q size frame old a new → ⊥
+  pub never_at_fault : FaultsEarly q size frame old a new ⊎ FaultsFilling q size frame old a new → ⊥
   never_at_fault (inl early) = never_early early (parts w.pass h new x.more x.made)
   never_at_fault (inr filling) = no_filling_finds_fault w origin h q size frame old a new filling x
 

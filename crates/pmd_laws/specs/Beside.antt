@@ -13,10 +13,10 @@ use Rattle.pmd.specs.Life.{KeepsHalves}
 use Rattle.pmd.specs.Running.{Running}
 use Rattle.pmd.specs.Started.{HasStarted}
 use Rattle.pmd.specs.declared.driver.Rings.TheVariants.{Up}
-use Rattle.pmd.specs.PmdSeam.Begun.{From, began_in_hand, entries_in, marked_entries}
+use Rattle.pmd.specs.PmdSeam.Begun.{From, began_handled, began_in_hand, entries_in, marked_entries}
 use Rattle.pmd.specs.PmdSeam.Made.{InHand}
 use Rattle.pmd.specs.PmdSeam.Named.{AtPort}
-use Rattle.pmd.specs.PmdSeam.Scheduled.{own_calls}
+use Rattle.pmd.specs.PmdSeam.Scheduled.{Handled, own_calls}
 use Rattle.start_laws.specs.Along.{BeforeLast}
 use Rattle.start_laws.specs.HistoryLaws.Alone.{LeavesAloneFrom}
 use Rattle.start_laws.specs.Points.{HasGround}
@@ -27,34 +27,37 @@ use Rattle.start_laws.specs.TransmitLaws.Laws as transmit
 use Rattle.start_laws.specs.TransmitLaws.Sent.{sent_since}
 use Rattle.driver_laws.specs.Beside.{AddsHarmless}
 use Rattle.driver_laws.specs.Retold.{AreSame}
-use Rattle.pmd_laws.specs.InHand.{WasMade, in_hand}
 use Rattle.pmd_laws.specs.Looks.{EndsAt}
 use Rattle.pmd_laws.specs.Order.{IsLived}
 use Rattle.pmd_laws.specs.Told.{Drove, HasNoneOut, IsTold, LooksInVain, Moment, last}
 use Rattle.pmd_laws.specs.Waits.{Waits}
 
--- a legal history of a sound device, and how it is told anew: the same calls, of which those that the driver's author
--- made beside it have another pass's tag. Told so it leaves the queue alone: so these write no row of the queue, no
--- setting, and reset not its pool; and they lend, take and poke no block that the driver itself lends
-pub record IsRetold (w : Watched) (origin : State) (h g : List Entry) : Type 0 where
-  pub small : w.queue < 128
+-- a legal history of a sound device, whichever its state at first, and how it is told anew: the same calls, of which
+-- those that the driver's author made beside it have another pass's tag
+pub record WasTold (origin : State) (h g : List Entry) : Type 0 where
   pub sound : IsSound origin
-  pub vfs : w.vfs ≡ origin.vfs
   pub events : AreEvents h
   pub legal : IsLegal origin h
   pub same : AreSame h g
+
+-- told so it leaves the queue alone: so those calls write no row of the queue, no setting, and reset not its pool; and
+-- they lend, take and poke no block that the driver itself lends
+pub record IsRetold (w : Watched) (origin : State) (h g : List Entry) : Type 0 where
+  pub small : w.queue < 128
+  pub vfs : w.vfs ≡ origin.vfs
+  pub was : WasTold origin h g
   pub alone : LeavesAloneFrom w origin g
 
 -- from one moment of a driver that runs to the next, with the calls so far that were the driver's own: a call of `rx`,
 -- `tx`, `reap`, `rx_burst` or `tx_burst`, as its clause `drives` tells, all of whose calls are its own; or any calls
--- of the author's, with a call of `packet` or `release`, as its clause `halves` tells, or none
+-- of the author's, through whichever way, with a call of `packet` or `release`, as its clause `halves` tells, or none.
+-- What the way to the device tells of its calls may begin anew there, as where a `Direct` is finished and another made
 
 abbrev pub DroveBy : Moment → List Call → Moment → List Call → Type 0
 DroveBy m own n then = Drove m n × (since : List Call) × (n.made ≡ m.made ++ since) × (then ≡ own ++ since)
 
 abbrev pub KeepsBy : Moment → List Call → Moment → List Call → Type 0
-KeepsBy m own n then =
-    KeepsHalves m.driver.rings n.driver.rings × (beside : List Call) × (n.made ≡ m.made ++ beside) × (then ≡ own)
+KeepsBy m own n then = KeepsHalves m.driver.rings n.driver.rings × (then ≡ own)
 
 abbrev pub FollowsBy : Moment → List Call → Moment → List Call → Type 0
 FollowsBy m own n then = DroveBy m own n then ⊎ KeepsBy m own n then
@@ -179,13 +182,28 @@ WaitingIsNotAll =
     AreSame early before →
     bytes_of (accepted_of (last m later).driver.rings) ≢ sent_since w.queue origin [] early
 
--- the calls through a `Direct`, behind what was made before, are told anew with marks that tell which of them are the
--- driver's own, as those through an `Interleaved` are marked: pass 0 then has made these alone. So for two drivers over
--- one `Direct` each has its marks, with the calls of the other among those that are none of its own
+-- entries behind a history that was told anew, which are told so too: as they are told pass 0 made these calls in them,
+-- and they lead to a device
+pub record GoesOn (origin : State) (before told es anew : List Entry) (calls : List Call) (device : State) :
+    Type 0 where
+  pub was : WasTold origin (before ++ es) (told ++ anew)
+  pub made : calls_of 0 (told ++ anew) ≡ calls_of 0 told ++ calls
+  pub leads : leads_to origin (before ++ es) ≡ device
+
+-- so are the calls through a `Direct` with marks that tell which of them are the driver's own, as those through an
+-- `Interleaved` are marked, of which other marks tell it; and so on, through one way behind another. For two drivers
+-- over one device each has its marks, with the calls of the other among those that are none of its own
+
 abbrev pub DirectIsRetold : Type 0
 DirectIsRetold =
-    (s : State) (queue : ℕ) (before : List Entry) (d : InHand) (own : List Bool) → queue < 128 →
-    length own ≡ length d.calls → WasMade s before → began_in_hand d (From (leads_to s before)) →
-    LeavesAloneFrom (in_hand s queue) s (before ++ marked_entries d.calls own) →
-    IsRetold (in_hand s queue) s (before ++ entries_in d.calls) (before ++ marked_entries d.calls own)
-    × (calls_of 0 (before ++ marked_entries d.calls own) ≡ own_calls d.calls own)
+    (origin : State) (before told : List Entry) (d : InHand) (own : List Bool) → length own ≡ length d.calls →
+    WasTold origin before told → began_in_hand d (From (leads_to origin before)) →
+    GoesOn origin before told (entries_in d.calls) (marked_entries d.calls own) (own_calls d.calls own) d.device
+
+abbrev pub InterleavedIsRetold : Type 0
+InterleavedIsRetold =
+    (origin : State) (before told : List Entry) (i : Handled) (own : List Bool) → length own ≡ length i.calls →
+    length i.own ≡ length i.calls → WasTold origin before told →
+    began_handled i (From (leads_to origin before)) →
+    GoesOn origin before told (marked_entries i.calls i.own) (marked_entries i.calls own) (own_calls i.calls own)
+    i.device

@@ -2,6 +2,8 @@ pub use Rattle.driver_laws.specs as DriverLaws
 pub use Rattle.start_laws.specs as StartLaws
 pub mod Beside
 pub mod BesideApart
+pub mod BesideRoom
+pub mod BesideStart
 pub mod BesideStop
 pub mod Ends
 pub mod Faultless

@@ -8,11 +8,15 @@
 //! blocks are at the device, and `specs/FullRing` how many slots are taken where its ring is full. `specs/Ends` says
 //! what holds of what a stopped driver left, `specs/Stopped` what over the calls of its stop, and `specs/Silent` once
 //! these have switched its queue off; `specs/Refused` what holds where its start was refused, and `specs/Room` where an
-//! arena has room for its rings.
+//! arena has room for its rings. `specs/Beside` says what holds of a driver beside whatever calls of its author's, and
+//! so do `specs/BesideApart` of its blocks, `specs/BesideRoom` of its full ring, `specs/BesideStart` of its start and
+//! `specs/BesideStop` over its stop.
 #![tactic(auto)]
 
 ghost use Rattle.pmd_laws.specs.Beside as beside;
 ghost use Rattle.pmd_laws.specs.BesideApart as apart;
+ghost use Rattle.pmd_laws.specs.BesideRoom as room;
+ghost use Rattle.pmd_laws.specs.BesideStart as start;
 ghost use Rattle.pmd_laws.specs.BesideStop as stop;
 ghost use Rattle.pmd_laws.specs.Ends.{HandedOverStop, LeftIsPrefix, SentOverStop};
 ghost use Rattle.pmd_laws.specs.Faultless.{NoBurstMeetsFault, NoCallFindsFault, NoFillingFindsFault, NoStartFindsFault};
@@ -140,13 +144,14 @@ pub fn driver_in_order()
     ensures idle { told.IdleIsAllSent }
 {}
 
-/// The same where between the driver's calls its author makes whatever calls through the same way to the device, as
-/// those of a second driver of another queue, and whatever it made before. What is asked of these is what is asked of
-/// other passes: that the queue is left alone by the history as it is told anew, with another pass's tag for each of
-/// them. So they write no row of the queue, no setting, and reset not its pool; and they lend, take and poke no block
-/// that the driver itself lends. Told so, the history is one of a life (`lived`), and all laws of a life apply; and
-/// what they say of the packets and frames is so of the history as it was. For a device in hand, marks tell which of
-/// its calls are the driver's own (`in_hand`).
+/// The same where between the driver's calls, and before its start, its author makes whatever calls of the device, as
+/// those of a second driver of another queue. What is asked of these is what is asked of other passes: that the queue
+/// is left alone by the history as it is told anew, with another pass's tag for each of them. So they write no row of
+/// the queue, no setting, and reset not its pool; and they lend, take and poke no block that the driver itself lends.
+/// Told so, the history has the driver's own calls alone, which are told as its clauses tell (`told`), and is one of a
+/// life (`lived`), so that the laws on these apply; and what they say of the packets and frames is so of the history as
+/// it was. For a device in hand, marks tell which of its calls are the driver's own (`in_hand`, `interleaved`), also
+/// through one way behind another, as where a `Direct` is finished and another steps the other driver's queue.
 pub fn driver_beside_any_calls_in_order()
     ensures told { beside.OwnAreTold }
     ensures lived { beside.ToldIsLived }
@@ -157,11 +162,13 @@ pub fn driver_beside_any_calls_in_order()
     ensures idle { beside.IdleIsAllSent }
     ensures waits { beside.WaitingIsNotAll }
     ensures in_hand { beside.DirectIsRetold }
+    ensures interleaved { beside.InterleavedIsRetold }
 {}
 
-/// Where nobody else lends a block of its arena, neither another pass nor its author beside it, and those that wait for
-/// its queue fit its packets just before its first access: no call of such a driver finds the device at fault. The
-/// blocks that it has out are those of its arena that are lent at the device, and each is in one place.
+/// Where nobody else lends a block of its arena, neither another pass nor its author beside it, and just before its
+/// first access none of these is lent and the frames that wait for its queue fit its packets: no call of such a driver
+/// finds the device at fault. The blocks that it has out are those of its arena that are lent at the device, and each
+/// is in one place.
 pub fn driver_beside_any_calls_keeps_its_blocks()
     ensures finds { apart.NoCallFindsFault }
     ensures meets { apart.NoBurstMeetsFault }
@@ -170,9 +177,26 @@ pub fn driver_beside_any_calls_keeps_its_blocks()
     ensures once { apart.EachInOnePlace }
 {}
 
+/// Where both sides of its queue are off too just before its first access, and not wanted on, no start of such a driver
+/// ends with the device at fault, wherever amid its events, behind whatever calls its author made. A start that comes
+/// up adds calls to those that were made, its first access among them.
+pub fn driver_beside_any_calls_starts()
+    ensures adds { start.StartAdds }
+    ensures filling { start.NoFillingFindsFault }
+    ensures amid { start.NoStartFindsFault }
+{}
+
+/// Where `tx` of such a driver answers that the ring is full, or `tx_burst` takes none, its ring has no room for the
+/// next packet.
+pub fn full_ring_beside_any_calls_has_no_room()
+    ensures told { room.FullHasNoRoom }
+    ensures none { room.NoneHasNoRoom }
+{}
+
 /// Where such a driver is stopped, what it handed out is a prefix of what was delivered, and what was sent a prefix of
-/// what it accepted, at any place amid the calls of its stop and where these end; and once they have switched both sides
-/// off, nothing is delivered or sent there any more. That the calls of a stop are such is said of them as they are.
+/// what it accepted, at any place amid the calls of its stop and where these end; and once they have switched both
+/// sides off, nothing is delivered or sent there any more. That the calls of a stop are such is said of them as they
+/// are.
 pub fn driver_beside_any_calls_stops_in_order()
     ensures handed { stop.HandedIsPrefix }
     ensures sent { stop.SentIsPrefix }

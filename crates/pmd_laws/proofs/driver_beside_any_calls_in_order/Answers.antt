@@ -1,4 +1,4 @@
-use Rattle.pmd_laws.proofs.Beside.{direct_is_retold, handed_beside, idle_beside, own_are_told, sent_beside, told_is_lived}
+use Rattle.pmd_laws.proofs.Beside.{direct_is_retold, handed_beside, idle_beside, interleaved_is_retold, own_are_told, sent_beside, told_is_lived}
 use Rattle.pmd_laws.proofs.CalledBeside.{none_at_first_beside, none_before_beside, waiting_beside}
 use Rattle.pmd_laws.proofs.driver_beside_any_calls_in_order.Goals as goal
 
@@ -13,4 +13,5 @@ returns c = record {
   idle = idle_beside;
   waits = waiting_beside;
   in_hand = direct_is_retold;
+  interleaved = interleaved_is_retold;
 }

@@ -1,0 +1,52 @@
+-- A start of a driver behind and beside whatever calls of its author's, which finds no device at fault.
+use Rattle.std.specs.Prelude.{ℕ, ◌≡◌, ◌≢◌, List, ◌++◌}
+use Rattle.nic_device.specs.DmaArena.Numbers.{Numbers, is_own}
+use Rattle.nic_device.specs.State.{State}
+use Rattle.device_lock.specs.History.{calls_of}
+use Rattle.device_lock.specs.declared.alone.Watched.{Watched}
+use Rattle.device_lock.specs.declared.entry.Call.{Call}
+use Rattle.device_lock.specs.declared.entry.Entry.{Entry}
+use Rattle.pmd.specs.Started.{AreUp, StopsStarting}
+use Rattle.pmd.specs.Running.{Running}
+use Rattle.pmd.specs.declared.start.StartRefused.{StartRefused}
+use Rattle.pmd.specs.PmdSeam.Named.{AtPort}
+use Rattle.pmd.specs.PmdSeam.declared.fault.PmdFault.TheVariants.{DeviceFault}
+use Rattle.start_laws.specs.Faultless.{BeforeNext}
+use Rattle.start_laws.specs.Filling.{FaultsFilling}
+use Rattle.driver_laws.specs.Before.{OnlyPassLends}
+use Rattle.pmd_laws.specs.Beside.{IsRetold}
+use Rattle.pmd_laws.specs.Faultless.{IsQuietAndFresh}
+
+-- where a start brought both rings up, it added calls to those that were made, its first access among them
+abbrev pub StartAdds : Type 0
+StartAdds =
+    (q : AtPort) (size frame : ℕ) (old : List Call) (a : Numbers) (new : List Call) (r : Running)
+    (up : AreUp q size frame old a new r) →
+    (start : List Call) × (first : List Call) × (new ≡ old ++ start) × (up.receive.quiet.0 ≡ old ++ first)
+
+-- a legal history that leaves the queue alone as it is told anew, in which a start made these calls, behind others of
+-- its pass or none, and maybe more came behind them. Just before its first access both sides were off, frames were
+-- short and none of its arena's blocks was lent; and nobody else lends any of them, another pass or the author
+pub record BeginsBeside (w : Watched) (origin : State) (h g : List Entry) (q : AtPort) (frame : ℕ) (old : List Call)
+    (a : Numbers) (new ahead : List Call) : Type 0 where
+  pub retold : IsRetold w origin h g
+  pub begins : BeforeNext w origin g ahead (IsQuietAndFresh w.queue q frame (is_own a))
+  pub others : OnlyPassLends w.pass (is_own a) g
+  pub since : List Call
+  pub made : new ≡ old ++ since
+  pub more : List Call
+  pub all : calls_of w.pass g ≡ (ahead ++ since) ++ more
+
+-- no such start ends with the device at fault as it fills its receive ring
+abbrev pub NoFillingFindsFault : Type 0
+NoFillingFindsFault =
+    (w : Watched) (origin : State) (h g : List Entry) (q : AtPort) (size frame : ℕ) (old : List Call) (a : Numbers)
+    (new ahead : List Call) → FaultsFilling q size frame old a new →
+    ¬ BeginsBeside w origin h g q frame old a new ahead
+
+-- nor does it end so amid its events at all
+abbrev pub NoStartFindsFault : Type 0
+NoStartFindsFault =
+    (w : Watched) (origin : State) (h g : List Entry) (q : AtPort) (size frame : ℕ) (old : List Call) (a : Numbers)
+    (new ahead : List Call) (e : StartRefused) → BeginsBeside w origin h g q frame old a new ahead →
+    StopsStarting q size frame old a new e → e.fault ≢ DeviceFault

@@ -7,8 +7,8 @@ use Rattle.register_file.specs.Words.{Words}
 use Rattle.register_file.specs.Registers.{Registers}
 use Rattle.register_file.specs.declared.register_file.RegisterFile.TheInside.{Inside}
 
--- the words of each row, in the table's order, by those of the rows that lie among the cells. Rows that only act, or are
--- calculated, hold the word 0.
+-- the words of each row, in the table's order, by those of the rows that lie among the cells. Rows that only act, or
+-- are calculated, hold the word 0.
 abbrev pub rows_with : Inside → (RowId → List ℕ) → Words
 rows_with a cells =
     cells Ctrl ∷

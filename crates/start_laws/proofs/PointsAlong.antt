@@ -70,7 +70,7 @@ module _ (w : Watched) (q : AtPort) (frame : ℕ) (origin : State) (h : List Ent
         p,
         known,
         state_leads w origin mine c (Point w.queue mine q frame (F p)) (Point w.queue mine q frame (G p))
-        (leads p known)
+            (leads p known)
             done e same met made told outside x,
         idle done e (here (reached w origin done)).0 (here (reached w origin done)).1 n,
       )) steps some at

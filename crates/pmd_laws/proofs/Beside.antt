@@ -1,7 +1,6 @@
 -- A driver beside any calls of its author's is told by its own calls alone, over the history as it is told anew.
-use Rattle.std.proofs.Common.{◌≡◌, ℕ, Bool, inl, inr, List, [], ◌∷◌, ◌++◌, length, map, refl, sym, ap, ◌∙◌, subst, arith}
+use Rattle.std.proofs.Common.{◌≡◌, Bool, inl, inr, List, [], ◌∷◌, ◌++◌, length, map, refl, sym, ap, ◌∙◌, subst, arith}
 use Rattle.std.proofs.lemmas.List.{append-nil, append_cancel_left, map-append}
-use Rattle.nic_device.specs.DmaArena.Numbers.{Numbers}
 use Rattle.nic_device.specs.State.{State}
 use Rattle.device_lock.specs.History.{call_in, calls_of, leads_to}
 use Rattle.device_lock.specs.declared.alone.Watched.{Watched}
@@ -15,27 +14,25 @@ use Rattle.pmd.specs.Running.{Running}
 use Rattle.pmd.specs.declared.driver.Rings.{Rings}
 use Rattle.pmd.specs.declared.driver.Rings.TheVariants.{Up, Down}
 use Rattle.pmd.specs.PmdSeam.Begun.{LeadsTo, entries_in, marked_entries}
-use Rattle.pmd.specs.PmdSeam.Named.{AtPort}
 use Rattle.pmd.specs.PmdSeam.Scheduled.{own_calls}
 use Rattle.start_laws.proofs.Parts.{calls_joined}
 use Rattle.start_laws.specs.Along.{BeforeLast, IsAlong}
 use Rattle.start_laws.specs.Points.{HasGround}
-use Rattle.start_laws.specs.Start.{BeginsWell}
 use Rattle.start_laws.specs.ReceiveLaws.Delivered as receive
 use Rattle.start_laws.specs.ReceiveLaws.Delivered.{delivered}
 use Rattle.start_laws.specs.TransmitLaws.Agreeing.{bytes_of}
 use Rattle.start_laws.specs.TransmitLaws.Laws as transmit
 use Rattle.start_laws.specs.TransmitLaws.Sent.{sent_since}
-use Rattle.driver_laws.specs.Beside.{Leads}
 use Rattle.driver_laws.specs.Retold.{AreSame}
 use Rattle.driver_laws.proofs.Retold.{events_same, legal_same, same_delivers, same_sends}
 use Rattle.pmd_laws.specs.Beside as beside
-use Rattle.pmd_laws.specs.Beside.{AllFollowBy, DroveBy, FollowsBy, IsRetold, GoesOn, IsToldAnew, IsToldBeside, IsToldBy, OwnAreTold, WasTold, by_own}
-use Rattle.pmd_laws.specs.Order.{IsLived}
-use Rattle.pmd_laws.specs.Told.{AllFollow, Drove, Follows, HasNoneOut, IsToldOf, Moment, last}
+use Rattle.pmd_laws.specs.Beside.{AllFollowBy, Beside, DroveBy, FollowsBy, IsRetold, GoesOn, IsToldAnew, IsToldBeside, OwnAreTold, WasTold, by_own, now}
+use Rattle.pmd_laws.specs.Life.{IsLife}
+use Rattle.pmd_laws.specs.Told as own
+use Rattle.pmd_laws.specs.Told.{AllFollow, Drove, Follows, HasNoneOut, IsToldOf, Moment, Told, last}
 use Rattle.pmd_laws.proofs.InHand.{own_are}
 use Rattle.pmd_laws.proofs.Shifted.{UpAt, rings_shift, shifted, up_shift}
-use Rattle.pmd_laws.proofs.Told.{handed_as_told, idle_as_told, led, life, runs, sent_as_told}
+use Rattle.pmd_laws.proofs.Told.{goes, handed_as_told, idle_as_told, life, sent_as_told}
 
 -- a driver that runs goes on from one to the other by its own calls alone
 
@@ -92,76 +89,72 @@ retold_along w origin h g x = record {
   alone = x.alone;
 }
 
--- and port and queue name the queue there
-pub begins_anew : (w : Watched) (origin : State) (g : List Entry) (q : AtPort) (size frame : ℕ) (old : List Call)
-    (a : Numbers) (m : Moment) (later : List Moment) (ahead own : List Call)
-    (x : IsToldBy q size frame old a m later ahead own) (y : IsToldAnew q size frame old a m later ahead own x)
-    → BeforeLast w origin g (ahead ++ x.first) (HasGround w.queue q frame)
-    → BeginsWell w origin g q size frame ahead a (ahead ++ x.start) y.told.started.0 y.told.started.2
-begins_anew w origin g q size frame old a m later ahead own x y ground = record {
-  ground = subst (λ (l : List Call). BeforeLast w origin g l (HasGround w.queue q frame)) (sym y.access) ground;
-}
+-- and the driver is told there
+module _ (x : Beside) where
+  abbrev pub anew : IsToldAnew x.q x.size x.frame x.old x.a x.m x.later x.ahead x.own x.told
+  anew = own_are_told x.q x.size x.frame x.old x.a x.m x.later x.ahead x.own x.told
 
-module _ (w : Watched) (origin : State) (h g : List Entry) (q : AtPort) (size frame : ℕ) (old : List Call) (a : Numbers)
-    (m : Moment) (later : List Moment) (ahead : List Call)
-    (x : IsToldBeside w origin h g q size frame old a m later ahead) where
-  abbrev own : List Call
-  own = calls_of w.pass g
-
-  abbrev pub anew : IsToldAnew q size frame old a m later ahead own x.told
-  anew = own_are_told q size frame old a m later ahead own x.told
-
-  abbrev pub first : Moment
-  first = by_own (ahead ++ x.told.start) m
-
-  abbrev pub told : IsToldOf w origin g q size frame ahead a first anew.others
+  abbrev pub told : Told
   told = record {
-    along = retold_along w origin h g x.retold;
+    w = x.w;
+    origin = x.origin;
+    h = x.g;
+    q = x.q;
+    size = x.size;
+    frame = x.frame;
+    old = x.ahead;
+    a = x.a;
+    m = by_own (x.ahead ++ x.told.start) x.m;
+    later = anew.others;
+    along = retold_along x.w x.origin x.h x.g x.retold;
     told = anew.told;
-    begins = begins_anew w origin g q size frame old a m later ahead own x.told anew x.ground;
-    made = ap (λ (z : Moment). z.made) (sym anew.ends);
+    begins = record {
+      ground =
+          subst (λ (l : List Call). BeforeLast x.w x.origin x.g l (HasGround x.w.queue x.q x.frame))
+          (sym anew.access) x.ground;
+    };
   }
 
-  pub same_rings : (last m later).driver.rings ≡ (last first anew.others).driver.rings
+  pub same_rings : (now x).driver.rings ≡ (own.now told).driver.rings
   same_rings = ap (λ (z : Moment). z.driver.rings) (sym anew.ends)
 
-  handed : receive.IsPrefixOf (handed_of (last m later).driver.rings) (delivered w.queue origin h)
-  handed =
-      rw (same_rings, same_delivers w.queue origin h g x.retold.was.same)
-      (handed_as_told w origin g q size frame ahead a first anew.others told)
+  pub own_made : (own.now told).made ≡ x.own
+  own_made = ap (λ (z : Moment). z.made) anew.ends
 
-  sends : transmit.IsPrefixOf (sent_since w.queue origin [] h)
-      (bytes_of (accepted_of (last m later).driver.rings))
-  sends =
-      rw (same_rings, same_sends w.queue origin h g x.retold.was.same)
-      (sent_as_told w origin g q size frame ahead a first anew.others told)
+  pub told_of : IsToldBeside x → IsToldOf told
+  told_of is = is ∙ sym own_made
 
-  idle : HasNoneOut (last m later).driver.rings
-      → bytes_of (accepted_of (last m later).driver.rings) ≡ sent_since w.queue origin [] h
-  idle none =
+  handed : IsToldBeside x → receive.IsPrefixOf (handed_of (now x).driver.rings) (delivered x.w.queue x.origin x.h)
+  handed is =
+      rw (same_rings, same_delivers x.w.queue x.origin x.h x.g x.retold.was.same) (handed_as_told told (told_of is))
+
+  sends : IsToldBeside x
+      → transmit.IsPrefixOf (sent_since x.w.queue x.origin [] x.h) (bytes_of (accepted_of (now x).driver.rings))
+  sends is =
+      rw (same_rings, same_sends x.w.queue x.origin x.h x.g x.retold.was.same) (sent_as_told told (told_of is))
+
+  idle : IsToldBeside x → HasNoneOut (now x).driver.rings
+      → bytes_of (accepted_of (now x).driver.rings) ≡ sent_since x.w.queue x.origin [] x.h
+  idle is none =
       ap (λ (z : Rings). bytes_of (accepted_of z)) same_rings
-      ∙ idle_as_told w origin g q size frame ahead a first anew.others told (subst HasNoneOut same_rings none)
-      ∙ sym (same_sends w.queue origin h g x.retold.was.same)
+      ∙ idle_as_told told (told_of is) (subst HasNoneOut same_rings none)
+      ∙ sym (same_sends x.w.queue x.origin x.h x.g x.retold.was.same)
 
-  lives : (r : Running) × ((last m later).driver.rings ≡ Up r)
-      × IsLived w origin g q size frame ahead a (ahead ++ x.told.start) x.told.started.0 (halves_of r)
+  pub rings_up : (now x).driver.rings ≡ Up (goes told).rings
+  rings_up = same_rings ∙ (goes told).up
+
+  -- it is a life, of its own calls
+  pub is_life : IsLife x.w x.origin x.g x.q x.size x.frame x.ahead x.a (x.ahead ++ x.told.start) x.told.started.0
+      x.own (halves_of (goes told).rings)
   unfolding own_are_told
-  lives =
-      let goes = runs q size frame ahead a first anew.others anew.told in (
-        goes.rings,
-        same_rings ∙ goes.up,
-        record {
-          along = told.along;
-          life =
-              life q size frame ahead a first anew.others anew.told own
-              (subst (λ (l : List Call). Leads first.made (halves_of x.told.started.0) l (halves_of goes.rings))
-              (sym told.made) (led q size frame ahead a first anew.others anew.told));
-          begins = told.begins;
-        },
-      )
+  is_life =
+      subst
+      (λ (made : List Call).
+      IsLife x.w x.origin x.g x.q x.size x.frame x.ahead x.a (x.ahead ++ x.told.start) x.told.started.0 made
+      (halves_of (goes told).rings)) own_made (life told).is
 
 pub told_is_lived : beside.ToldIsLived
-told_is_lived = lives
+told_is_lived x = ((goes (told x)).rings, rings_up x, is_life x)
 
 pub handed_beside : beside.HandedIsPrefix
 handed_beside = handed

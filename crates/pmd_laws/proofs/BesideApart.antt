@@ -3,13 +3,11 @@ use Rattle.std.proofs.Common.{◌≡◌, ℕ, List, [], ◌++◌, refl, sym, ap,
 use Rattle.std.specs.Prelude.{IsTrue}
 use Rattle.std.proofs.lemmas.List.{append-nil, append_cancel_left}
 use Rattle.nic_device.specs.DmaArena.Memory.{Memory, has_block}
-use Rattle.nic_device.specs.DmaArena.Numbers.{Numbers, is_free, is_own}
+use Rattle.nic_device.specs.DmaArena.Numbers.{is_free, is_own}
 use Rattle.nic_device.specs.DmaArena.Whereabouts.{places_of}
 use Rattle.nic_device.specs.State.{State}
 use Rattle.device_lock.specs.Alone.{Blocks}
-use Rattle.device_lock.specs.declared.alone.Watched.{Watched}
 use Rattle.device_lock.specs.declared.entry.Call.{Call}
-use Rattle.device_lock.specs.declared.entry.Entry.{Entry}
 use Rattle.pmd.specs.Apart.{FindsBy}
 use Rattle.pmd.specs.Apart as apart
 use Rattle.pmd.specs.Blocks.{HasAll}
@@ -18,17 +16,16 @@ use Rattle.pmd.specs.Halves.{Halves, halves_of}
 use Rattle.pmd.specs.declared.driver.Rings.{Rings}
 use Rattle.pmd.specs.declared.driver.Rings.TheVariants.{Up, Down}
 use Rattle.pmd.specs.PmdSeam.Made.{Adds}
-use Rattle.pmd.specs.PmdSeam.Named.{AtPort}
 use Rattle.pmd.specs.PmdSeam.declared.fault.PmdFault.TheVariants.{DeviceFault}
 use Rattle.start_laws.specs.Along.{BeforeLast}
 use Rattle.driver_laws.proofs.Retold.{same_leads}
-use Rattle.pmd_laws.specs.Beside.{IsToldAnew, IsToldBeside, by_own}
+use Rattle.pmd_laws.specs.Beside.{Beside, IsToldBeside, by_own, now}
 use Rattle.pmd_laws.specs.BesideApart as beside
 use Rattle.pmd_laws.specs.BesideApart.{IsAloneBeside, IsCalledApart}
 use Rattle.pmd_laws.specs.Faultless.{FindsFault, IsFresh, NoneLent, SendsAtFault}
 use Rattle.pmd_laws.specs.Places.{IsToldAlone, is_out, memory_after}
-use Rattle.pmd_laws.specs.Told.{Moment, last}
-use Rattle.pmd_laws.proofs.Beside.{anew, begins_anew, first, own_are_told, retold_along, same_rings, told, where_up}
+use Rattle.pmd_laws.specs.Told.{Moment}
+use Rattle.pmd_laws.proofs.Beside.{anew, same_rings, told, told_of, where_up}
 use Rattle.pmd_laws.proofs.Faultless.{no_call_finds_fault}
 use Rattle.pmd_laws.proofs.MetFault.{sends_find}
 use Rattle.pmd_laws.proofs.OnePlace.{each_in_one_place}
@@ -54,111 +51,80 @@ finds_shift own h old new x =
       sick = x.sick;
     }) old x.mid new (apart_shift own h x.there old x.mid x.drives) (adds_shift x.event x.reply x.mid new x.adds)
 
-module _ (w : Watched) (origin : State) (h g : List Entry) (q : AtPort) (size frame : ℕ) (old : List Call) (a : Numbers)
-    (m : Moment) (later : List Moment) (ahead own : List Call) where
-  -- no call found it so, which made these calls
-  module _ (n : Moment) (x : IsCalledApart w origin h g q size frame old a m later ahead own n)
-      (finds : FindsFault (last m later) n) where
-    abbrev own_told : IsToldAnew q size frame old a m later ahead own x.told
-    own_told = own_are_told q size frame old a m later ahead own x.told
+-- no call found it so, which made these calls
+module _ (x : Beside) (n : Moment) (finds : FindsFault (now x) n) (y : IsCalledApart x n) where
+  open x use {own}
 
-    abbrev start : Moment
-    start = by_own (ahead ++ x.told.start) m
+  abbrev next : Moment
+  next = by_own (own ++ y.since) n
 
-    abbrev next : Moment
-    next = by_own (own ++ x.since) n
+  finds_anew : FindsFault (by_own own (now x)) next
+  finds_anew =
+      where_up (λ r s. FindsBy DeviceFault (is_own r.arena) (now x).made (halves_of r) n.made)
+      (λ r s. FindsBy DeviceFault (is_own r.arena) own (halves_of r) (own ++ y.since)) (now x).driver.rings
+      n.driver.rings
+      (λ r s z.
+      shifted (λ o l. apart.FindsFault (is_own r.arena) o (halves_of r) l) (now x).made n.made
+      (finds_shift (is_own r.arena) (halves_of r) (now x).made n.made z) y.since own (own ++ y.since) y.made refl)
+      finds
 
-    finds_anew : FindsFault (by_own own (last m later)) next
-    finds_anew =
-        where_up (λ r s. FindsBy DeviceFault (is_own r.arena) (last m later).made (halves_of r) n.made)
-        (λ r s. FindsBy DeviceFault (is_own r.arena) own (halves_of r) (own ++ x.since)) (last m later).driver.rings
-        n.driver.rings
-        (λ r s y.
-        shifted (λ o l. apart.FindsFault (is_own r.arena) o (halves_of r) l) (last m later).made n.made
-        (finds_shift (is_own r.arena) (halves_of r) (last m later).made n.made y) x.since own (own ++ x.since) x.made
-        refl)
-        finds
-
-    none_finds : ⊥
-    none_finds =
-        no_call_finds_fault w origin g q size frame ahead a start own_told.others next
-        (subst (λ (z : Moment). FindsFault z next) (sym own_told.ends) finds_anew)
-        (record {
-          along = retold_along w origin h g x.retold;
-          told = own_told.told;
-          begins = begins_anew w origin g q size frame old a m later ahead own x.told own_told x.ground;
-          fresh =
-              subst (λ (l : List Call). BeforeLast w origin g l (IsFresh w.queue frame (is_own a)))
-              (sym own_told.access)
-              x.fresh;
-          others = x.others;
-          more = x.more;
-          made = x.all;
-        })
+  none_finds : ⊥
+  none_finds =
+      no_call_finds_fault (told x) next (subst (λ (z : Moment). FindsFault z next) (sym (anew x).ends) finds_anew)
+      (record {
+        fresh =
+            subst (λ (l : List Call). BeforeLast x.w x.origin x.g l (IsFresh x.w.queue x.frame (is_own x.a)))
+            (sym (anew x).access) y.fresh;
+        others = y.others;
+        more = y.more;
+        made = y.all;
+      })
 
 pub no_fault_beside : beside.NoCallFindsFault
-no_fault_beside w origin h g q size frame old a m later ahead own n finds x =
-    none_finds w origin h g q size frame old a m later ahead own n x finds
+no_fault_beside = none_finds
 
 -- the device and the driver's rings are as they are, told anew
-module _ (w : Watched) (origin : State) (h g : List Entry) (q : AtPort) (size frame : ℕ) (old : List Call) (a : Numbers)
-    (m : Moment) (later : List Moment) (ahead : List Call) where
-  same_memory : IsToldBeside w origin h g q size frame old a m later ahead
-      → memory_after origin h ≡ memory_after origin g
-  same_memory x = ap (λ (s : State). s.memory) (same_leads origin h g x.retold.was.same)
+module _ (x : Beside) where
+  open x use {origin, h, g, a}
 
-  module _ (x : IsToldBeside w origin h g q size frame old a m later ahead) where
-    abbrev rings_now : Rings
-    rings_now = (last m later).driver.rings
+  same_memory : memory_after origin h ≡ memory_after origin g
+  same_memory = ap (λ (s : State). s.memory) (same_leads origin h g x.retold.was.same)
 
-    abbrev others_told : List Moment
-    others_told = (anew w origin h g q size frame old a m later ahead x).others
+  abbrev rings_now : Rings
+  rings_now = (now x).driver.rings
 
-    abbrev begun : Moment
-    begun = first w origin h g q size frame old a m later ahead x
+  out_lent : IsToldBeside x → (number : ℕ) → IsTrue (is_out rings_now number)
+      → IsTrue (has_block (memory_after origin h) number)
+  out_lent is number out =
+      subst (λ (z : Memory). IsTrue (has_block z number)) (sym same_memory)
+      (out_is_lent (told x) (told_of x is) number
+      (subst (λ (z : Rings). IsTrue (is_out z number)) (same_rings x) out))
 
-    abbrev rings_same : rings_now ≡ (last begun others_told).driver.rings
-    rings_same = same_rings w origin h g q size frame old a m later ahead x
-
-    out_lent : (number : ℕ) → IsTrue (is_out rings_now number) → IsTrue (has_block (memory_after origin h) number)
-    out_lent number out =
-        subst (λ (z : Memory). IsTrue (has_block z number)) (sym (same_memory x))
-        (out_is_lent w origin g q size frame ahead a begun others_told
-        (told w origin h g q size frame old a m later ahead x) number
-        (subst (λ (z : Rings). IsTrue (is_out z number)) rings_same out))
-
-  module _ (x : IsAloneBeside w origin h g q size frame old a m later ahead) where
-    abbrev here : IsToldAnew q size frame old a m later ahead _ x.beside.told
-    here = anew w origin h g q size frame old a m later ahead x.beside
-
-    alone : IsToldAlone w origin g q size frame ahead a (begun x.beside) (others_told x.beside)
+  module _ (y : IsAloneBeside x) where
+    alone : IsToldAlone (told x)
     alone = record {
-      told = told w origin h g q size frame old a m later ahead x.beside;
+      told = told_of x y.told;
       fresh =
-          subst (λ (l : List Call). BeforeLast w origin g l (NoneLent (is_own a))) (sym here.access) x.fresh;
-      others = x.others;
+          subst (λ (l : List Call). BeforeLast x.w origin g l (NoneLent (is_own a))) (sym (anew x).access) y.fresh;
+      others = y.others;
     }
 
     out_there : (number : ℕ) → IsTrue (is_own a number) → IsTrue (has_block (memory_after origin h) number)
-        → IsTrue (is_out (rings_now x.beside) number)
+        → IsTrue (is_out rings_now number)
     out_there number mine is =
-        subst (λ (z : Rings). IsTrue (is_out z number)) (sym (rings_same x.beside))
-        (lent_is_out w origin g q size frame ahead a (begun x.beside) (others_told x.beside) alone number mine
-        (subst (λ (z : Memory). IsTrue (has_block z number)) (same_memory x.beside) is))
+        subst (λ (z : Rings). IsTrue (is_out z number)) (sym (same_rings x))
+        (lent_is_out (told x) alone number mine
+        (subst (λ (z : Memory). IsTrue (has_block z number)) same_memory is))
 
-    in_one_place : (hand : List ℕ) → HasAll a (halted_of (rings_now x.beside)) hand → (number : ℕ)
-        → IsTrue (is_own a number)
-        → places_of (arena_of (rings_now x.beside)) ((halted_of (rings_now x.beside)).held ++ hand)
-        (memory_after origin h) number
+    in_one_place : (hand : List ℕ) → HasAll a (halted_of rings_now) hand → (number : ℕ) → IsTrue (is_own a number)
+        → places_of (arena_of rings_now) ((halted_of rings_now).held ++ hand) (memory_after origin h) number
         ≡ (if is_free a number then 1 else 0)
     in_one_place hand all number mine =
-        let there = (last (begun x.beside) (others_told x.beside)).driver.rings in
-        ap (λ (z : Memory). places_of (arena_of (rings_now x.beside)) ((halted_of (rings_now x.beside)).held ++ hand) z
-        number) (same_memory x.beside)
+        ap (λ (z : Memory). places_of (arena_of rings_now) ((halted_of rings_now).held ++ hand) z number) same_memory
         ∙ ap (λ (z : Rings). places_of (arena_of z) ((halted_of z).held ++ hand) (memory_after origin g) number)
-        (rings_same x.beside)
-        ∙ each_in_one_place w origin g q size frame ahead a (begun x.beside) (others_told x.beside) alone hand
-        (subst (λ (z : Rings). HasAll a (halted_of z) hand) (rings_same x.beside) all) number mine
+        (same_rings x)
+        ∙ each_in_one_place (told x) alone hand
+        (subst (λ (z : Rings). HasAll a (halted_of z) hand) (same_rings x) all) number mine
 
 pub out_beside : beside.OutIsLent
 out_beside = out_lent
@@ -186,23 +152,19 @@ by_rings (Up r) (Down z) old new since made none meets = meets
 by_rings (Down z) after old new since made none meets = none since [] (sym (append-nil since)) tt
 
 pub no_burst_beside : beside.NoBurstMeetsFault
-no_burst_beside w origin h g q size frame old a m later ahead own n meets x =
-    by_rings (last m later).driver.rings n.driver.rings (last m later).made n.made x.since x.made
-    (λ now behind both finds.
-    no_fault_beside w origin h g q size frame old a m later ahead own
-    (record { made = (last m later).made ++ now; driver = n.driver }) finds
+no_burst_beside x n meets y =
+    by_rings (now x).driver.rings n.driver.rings (now x).made n.made y.since y.made
+    (λ since behind both finds.
+    no_fault_beside x (record { made = (now x).made ++ since; driver = n.driver }) finds
     (record {
-      retold = x.retold;
-      told = x.told;
-      ground = x.ground;
-      fresh = x.fresh;
-      others = x.others;
-      since = now;
+      fresh = y.fresh;
+      others = y.others;
+      since = since;
       made = refl;
-      more = behind ++ x.more;
+      more = behind ++ y.more;
       all =
-          x.all ∙ ap (λ (l : List Call). (own ++ l) ++ x.more) both
-          ∙ ap (λ (l : List Call). l ++ x.more) (sym (append_assoc own now behind))
-          ∙ append_assoc (own ++ now) behind x.more;
+          y.all ∙ ap (λ (l : List Call). (x.own ++ l) ++ y.more) both
+          ∙ ap (λ (l : List Call). l ++ y.more) (sym (append_assoc x.own since behind))
+          ∙ append_assoc (x.own ++ since) behind y.more;
     }))
     meets

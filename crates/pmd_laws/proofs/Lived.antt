@@ -2,7 +2,7 @@
 use Rattle.std.proofs.Common.{◌≡◌, ℕ, List, ◌∷◌, ◌++◌, sym, ap, ◌∙◌, subst, append_assoc}
 use Rattle.nic_device.specs.DmaArena.Numbers.{Numbers}
 use Rattle.nic_device.specs.State.{State}
-use Rattle.device_lock.specs.History.{IsLegal, AreEvents, calls_of}
+use Rattle.device_lock.specs.History.{IsLegal, AreEvents}
 use Rattle.device_lock.specs.declared.alone.Watched.{Watched}
 use Rattle.device_lock.specs.declared.entry.Call.{Call}
 use Rattle.device_lock.specs.declared.entry.Entry.{Entry}
@@ -16,8 +16,7 @@ use Rattle.start_laws.specs.Along.{IsAlong}
 use Rattle.start_laws.specs.Start.{BeginsWell}
 use Rattle.pmd.specs.Halves.{Halves, halves_of}
 use Rattle.driver_laws.specs.Beside.{Leads}
-use Rattle.pmd_laws.specs.Life.{IsLife}
-use Rattle.pmd_laws.specs.Order.{IsLived}
+use Rattle.pmd_laws.specs.Life.{Life}
 
 module _ (w : Watched) (origin : State) (h before rest : List Entry) (all : before ++ rest ≡ h) where
   pub along_before : IsAlong w origin h → IsAlong w origin before
@@ -39,17 +38,18 @@ module _ (w : Watched) (origin : State) (h before rest : List Entry) (all : befo
         (sym (append_assoc done (e ∷ more) rest) ∙ ap (λ (l : List Entry). l ++ rest) both ∙ all) own is;
   }
 
-  -- and a life up to there, where its calls lead to these halves
-  abbrev pub lived_before : (q : AtPort) (size frame : ℕ) (old : List Call) (a : Numbers) (started : List Call)
-      (r : Running) (made calls : List Call) (j k : Halves) (life : IsLife q size frame old a started r made j)
-      → IsAlong w origin h → BeginsWell w origin h q size frame old a started r life.up
-      → Leads started (halves_of r) calls k → calls_of w.pass before ≡ calls
-      → IsLived w origin before q size frame old a started r k
-  lived_before q size frame old a started r made calls j k life along begins goes is = record {
-    along = along_before along;
-    life = record {
-      up = life.up;
-      since = subst (λ (cs : List Call). Leads started (halves_of r) cs k) (sym is) goes;
-    };
-    begins = begins_before q size frame old a started r life.up begins;
-  }
+-- and a life up to there, where its calls lead to these halves
+abbrev pub life_before : (x : Life) (before rest : List Entry) → before ++ rest ≡ x.h → (calls : List Call) (k : Halves)
+    → Leads x.started (halves_of x.r) calls k → Life
+life_before x before rest all calls k goes = record x {
+  h = before;
+  made = calls;
+  k = k;
+  is = record {
+    along = along_before x.w x.origin x.h before rest all x.is.along;
+    up = x.is.up;
+    begins =
+        begins_before x.w x.origin x.h before rest all x.q x.size x.frame x.old x.a x.started x.r x.is.up x.is.begins;
+    since = goes;
+  };
+}

@@ -15,7 +15,7 @@ use Rattle.pmd.specs.PmdSeam.declared.fault.PmdFault.{PmdFault}
 use Rattle.pmd.specs.PmdSeam.declared.fault.PmdFault.TheVariants.{DeviceFault}
 use Rattle.pmd.specs.PmdSeam.declared.packet.Packet.{Packet}
 use Rattle.pmd_laws.specs.Faultless.{NoBurstMeetsFault, SendsAtFault, met_by}
-use Rattle.pmd_laws.specs.Told.{last}
+use Rattle.pmd_laws.specs.Told.{now}
 use Rattle.pmd_laws.proofs.Faultless.{found_on, no_call_finds_fault}
 
 -- up to some of a call's events, both halves were driven on to one whose reply no healthy queue gives
@@ -64,17 +64,14 @@ by_rings (Up r) (Down h) old new none meets = meets
 by_rings (Down h) after old new none meets = none new [] (sym (append-nil new)) tt
 
 pub no_burst_meets_fault : NoBurstMeetsFault
-no_burst_meets_fault w origin h q size frame old a m later n meets x =
-    by_rings (last m later).driver.rings n.driver.rings (last m later).made n.made
+no_burst_meets_fault x n meets y =
+    by_rings (now x).driver.rings n.driver.rings (now x).made n.made
     (λ mid behind both finds.
-    no_call_finds_fault w origin h q size frame old a m later (record { made = mid; driver = n.driver }) finds
+    no_call_finds_fault x (record { made = mid; driver = n.driver }) finds
     (record {
-      along = x.along;
-      told = x.told;
-      begins = x.begins;
-      fresh = x.fresh;
-      others = x.others;
-      more = behind ++ x.more;
-      made = x.made ∙ ap (λ (l : List Call). l ++ x.more) both ∙ append_assoc mid behind x.more;
+      fresh = y.fresh;
+      others = y.others;
+      more = behind ++ y.more;
+      made = y.made ∙ ap (λ (l : List Call). l ++ y.more) both ∙ append_assoc mid behind y.more;
     }))
     meets

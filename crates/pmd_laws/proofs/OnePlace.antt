@@ -21,7 +21,7 @@ use Rattle.pmd.specs.declared.driver.Rings.TheVariants.{Up}
 use Rattle.driver_laws.specs.Healthy.{lent_by}
 use Rattle.pmd_laws.specs.Places.{EachInOnePlace, is_out, memory_after}
 use Rattle.pmd_laws.proofs.Places.{lent_is_out, out_is_lent}
-use Rattle.pmd_laws.proofs.Told.{runs}
+use Rattle.pmd_laws.proofs.Told.{goes}
 
 -- a block that is out is counted
 
@@ -112,9 +112,7 @@ module _ (a : Numbers) (hand : List ℕ) (mem : Memory) (n : ℕ) where
       ))
 
 pub each_in_one_place : EachInOnePlace
-each_in_one_place w origin h q size frame old a m later x hand all n own =
-    let mem : Memory = memory_after origin h in
-    subst (InPlace a hand mem n) (sym (runs q size frame old a m later x.told.told).up)
-    (up_in_place a hand mem n (runs q size frame old a m later x.told.told).rings) all
-    (out_is_lent w origin h q size frame old a m later x.told n)
-    (lent_is_out w origin h q size frame old a m later x n own)
+each_in_one_place x y hand all n own =
+    let mem : Memory = memory_after x.origin x.h in
+    subst (InPlace x.a hand mem n) (sym (goes x).up) (up_in_place x.a hand mem n (goes x).rings) all
+    (out_is_lent x y.told n) (lent_is_out x y n own)

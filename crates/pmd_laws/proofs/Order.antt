@@ -1,15 +1,10 @@
 -- What a driver handed out and what it sent in its life.
 use Rattle.std.proofs.Common.{◌≡◌, ℕ, List, [], ◌++◌, refl, sym, ap, ◌∙◌, subst}
-use Rattle.nic_device.specs.DmaArena.Numbers.{Numbers}
 use Rattle.nic_device.specs.State.{State}
 use Rattle.device_lock.specs.History.{calls_of, leads_to}
-use Rattle.device_lock.specs.declared.alone.Watched.{Watched}
-use Rattle.device_lock.specs.declared.entry.Call.{Call}
 use Rattle.device_lock.specs.declared.entry.Entry.{Entry}
-use Rattle.pmd.specs.Running.{Running}
 use Rattle.pmd.specs.Started.{AreUp}
 use Rattle.pmd.specs.PmdRx.Receive.{Receive, records_of}
-use Rattle.pmd.specs.PmdSeam.Named.{AtPort}
 use Rattle.pmd.specs.PmdSeam.Packet.{Kept}
 use Rattle.start_laws.specs.ReceiveLaws.Delivered as receive
 use Rattle.start_laws.specs.ReceiveLaws.Delivered.{delivered}
@@ -27,31 +22,33 @@ use Rattle.driver_laws.specs.Beside.{Leads}
 use Rattle.driver_laws.proofs.Beside.{drives_lead, leads_on}
 use Rattle.driver_laws.specs.Histories.{IsDriven}
 use Rattle.driver_laws.proofs.InOrder.{counted_where_up, handed_is_prefix, idle_is_all_sent, none_is_all, none_is_all_taken, sent_is_prefix}
+use Rattle.pmd_laws.specs.Life.{Life}
 use Rattle.pmd_laws.specs.Order as order
 use Rattle.pmd_laws.proofs.Driven as begun_on
 use Rattle.pmd_laws.proofs.Driven.{driven_by}
 use Rattle.pmd_laws.proofs.FirstHalves.{first_halves}
 
-module _ (w : Watched) (origin : State) (h : List Entry) (q : AtPort) (size frame : ℕ) (old : List Call) (a : Numbers)
-    (started : List Call) (r : Running) (k : Halves) (x : order.IsLived w origin h q size frame old a started r k) where
-  abbrev pub up : AreUp q size frame old a started r
-  up = x.life.up
+module _ (x : Life) where
+  open x use {w, origin, h, q, size, frame, old, a, k}
 
-  abbrev pub begun : AreOn q size frame old a up.on.mid up.empty r.transmit
-  begun = on w origin h q size frame old a started r up x.along x.begins
+  abbrev pub up : AreUp q size frame old a x.started x.r
+  up = x.is.up
+
+  abbrev pub begun : AreOn q size frame old a up.on.mid up.empty x.r.transmit
+  begun = on w origin h q size frame old a x.started x.r up x.is.along x.is.begins
 
   abbrev pub first : Halves
-  first = first_halves q size frame old a up.on.mid up.empty r.transmit begun
+  first = first_halves q size frame old a up.on.mid up.empty x.r.transmit begun
 
-  pub whole : Leads up.on.mid first (calls_of w.pass h) k
-  whole = leads_on up.on.mid started (calls_of w.pass h) first (halves_of r) k
-      (drives_lead up.on.mid started first (halves_of r)
-      (receiving_drives up.on.mid started first (halves_of r) up.on.plays.plays refl))
-      x.life.since
+  pub whole : Leads up.on.mid first x.made k
+  whole = leads_on up.on.mid x.started x.made first (halves_of x.r) k
+      (drives_lead up.on.mid x.started first (halves_of x.r)
+      (receiving_drives up.on.mid x.started first (halves_of x.r) up.on.plays.plays refl))
+      x.is.since
 
   -- the history in two parts, of which the first ends there
-  pub in_parts : Parts w.pass h up.on.mid whole.1
-  in_parts = parts w.pass h up.on.mid whole.1 whole.2
+  pub in_parts : order.IsLived x → Parts w.pass h up.on.mid whole.1
+  in_parts lived = parts w.pass h up.on.mid whole.1 (lived ∙ whole.2)
 
   module _ (p : Parts w.pass h up.on.mid whole.1) where
     abbrev pub here : State
@@ -59,13 +56,13 @@ module _ (w : Watched) (origin : State) (h : List Entry) (q : AtPort) (size fram
 
     pub went_on : WentOn w.queue origin p.front
     went_on =
-        begun_on.went_on w origin h q size frame old a up.on.mid up.empty r.transmit begun x.along
-        x.begins.ground whole.1 p
+        begun_on.went_on w origin h q size frame old a up.on.mid up.empty x.r.transmit begun x.is.along
+        x.is.begins.ground whole.1 p
 
     pub driven : IsDriven w origin p.front p.back first whole.0
     driven =
-        driven_by w origin h q size frame old a up.on.mid up.empty r.transmit begun x.along
-        x.begins.ground whole.1 p whole.0 whole.3 whole.5
+        driven_by w origin h q size frame old a up.on.mid up.empty x.r.transmit begun x.is.along
+        x.is.begins.ground whole.1 p whole.0 whole.3 whole.5
 
     pub last : played_by first whole.0 (calls_of w.pass p.back) ≡ k
     last = ap (played_by first whole.0) p.backs ∙ sym whole.4
@@ -117,21 +114,16 @@ module _ (w : Watched) (origin : State) (h : List Entry) (q : AtPort) (size fram
         ∙ idle_is_all_sent w origin p.front p.back first whole.0 driven then ∙ sym counted
 
 pub handed_of_life : order.HandedIsPrefix
-handed_of_life w origin h q size frame old a started r k x =
-    handed w origin h q size frame old a started r k x (in_parts w origin h q size frame old a started r k x)
+handed_of_life x lived = handed x (in_parts x lived)
 
 pub taken_of_life : order.NoneIsAllTaken
-taken_of_life w origin h q size frame old a started r k x =
-    taken w origin h q size frame old a started r k x (in_parts w origin h q size frame old a started r k x)
+taken_of_life x lived = taken x (in_parts x lived)
 
 pub none_of_life : order.NoneIsAll
-none_of_life w origin h q size frame old a started r k x =
-    none_left w origin h q size frame old a started r k x (in_parts w origin h q size frame old a started r k x)
+none_of_life x lived = none_left x (in_parts x lived)
 
 pub sent_of_life : order.SentIsPrefix
-sent_of_life w origin h q size frame old a started r k x =
-    sent w origin h q size frame old a started r k x (in_parts w origin h q size frame old a started r k x)
+sent_of_life x lived = sent x (in_parts x lived)
 
 pub idle_of_life : order.IdleIsAllSent
-idle_of_life w origin h q size frame old a started r k x =
-    idle w origin h q size frame old a started r k x (in_parts w origin h q size frame old a started r k x)
+idle_of_life x lived = idle x (in_parts x lived)

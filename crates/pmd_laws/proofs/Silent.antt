@@ -3,7 +3,6 @@ use Rattle.std.proofs.Common.{◌≡◌, inl, inr, false, List, ◌++◌, Option
 use Rattle.device_lock.specs.History.{calls_of}
 use Rattle.device_lock.specs.declared.entry.Call.{Call}
 use Rattle.pmd.specs.Driver.{halted_of}
-use Rattle.pmd.specs.Halves.{halves_of}
 use Rattle.pmd.specs.Life.{IsStopped}
 use Rattle.pmd.specs.declared.driver.Rings.TheVariants.{Up}
 use Rattle.pmd.specs.declared.start.Rest.{Rest}
@@ -18,14 +17,13 @@ use Rattle.start_laws.specs.Stopping.{Ends, EndsOnceOff}
 use Rattle.start_laws.proofs.Parts.{calls_joined}
 use Rattle.start_laws.proofs.StopCalls.{none_made}
 use Rattle.pmd_laws.specs.Silent.{SilentOnceOff, SilentOverStop, SwitchesOff}
-use Rattle.pmd_laws.proofs.Ends.{is_stopping, now}
+use Rattle.pmd_laws.proofs.Ends.{is_stopping, life, now}
 use Rattle.pmd_laws.proofs.StopCalls.{amid_ends, home_ends}
 use Rattle.pmd_laws.proofs.StopParts.{first_made}
 use Rattle.pmd_laws.proofs.StopSent.{silent_off}
 
 pub silent_once_off : SilentOnceOff
-silent_once_off w origin h q size frame old a started r made k new done rest x y all calls =
-    silent_off w origin h q size frame old a started r made k new x y done rest all calls
+silent_once_off x new done rest y z all calls = silent_off x new y z done rest all calls
 
 -- what a driver's stop says
 
@@ -45,18 +43,19 @@ module _ (q : AtPort) (old : List Call) (h : Halted) (new : List Call) where
       subst GoesOff (sym is) (switched, amid_ends f q mid (closed h) new after amid)
 
 pub silent_over_stop : SilentOverStop
-silent_over_stop w origin h q size frame old a new left late lived off done rest x stop all calls =
-    let (switched, ends) = switches_off q lived.made (halted_of (Up lived.last)) new left late lived.stopped off stop in
-    let here = now w origin h q size frame old a new left late lived x in
-    let on : here ≡ off ++ calls_of w.pass rest =
-    sym x.calls ∙ sym (ap (calls_of w.pass) all) ∙ calls_joined w.pass done rest
-    ∙ ap (λ (cs : List Call). cs ++ calls_of w.pass rest) calls in
-    let y : EndsOnceOff q lived.made here = record {
-      mid = lived.made;
+silent_over_stop x off done rest y stop all calls =
+    let made = x.lived.made in
+    let (switched, ends) = switches_off x.q made (halted_of (Up x.lived.last)) x.new x.left x.late x.lived.stopped off
+    stop in
+    let here = now x y in
+    let on : here ≡ off ++ calls_of x.w.pass rest =
+    sym y.calls ∙ sym (ap (calls_of x.w.pass) all) ∙ calls_joined x.w.pass done rest
+    ∙ ap (λ (cs : List Call). cs ++ calls_of x.w.pass rest) calls in
+    let z : EndsOnceOff x.q made here = record {
+      mid = made;
       off = off;
-      asks = none_made (IsAsking q) lived.made lived.made refl;
+      asks = none_made (IsAsking x.q) made made refl;
       switched = switched;
-      ends = first_made (IsEnding q) off here new (calls_of w.pass rest) x.rest ends on x.all;
+      ends = first_made (IsEnding x.q) off here x.new (calls_of x.w.pass rest) y.rest ends on y.all;
     } in
-    silent_off w origin h q size frame old a lived.lives.made lived.lives.fresh lived.made (halves_of lived.last) here
-    (is_stopping w origin h q size frame old a new left late lived x) y done rest all calls
+    silent_off (life x) here (is_stopping x y) z done rest all calls

@@ -1,9 +1,7 @@
 -- A driver's life as its calls tell it is a life.
-use Rattle.std.proofs.Common.{◌≡◌, ℕ, List, [], ◌++◌, sym, ap, ◌∙◌, subst}
+use Rattle.std.proofs.Common.{◌≡◌, ℕ, List, [], ◌++◌, ap, ◌∙◌, subst}
 use Rattle.nic_device.specs.DmaArena.Numbers.{Numbers}
-use Rattle.nic_device.specs.State.{State}
 use Rattle.device_lock.specs.History.{calls_of}
-use Rattle.device_lock.specs.declared.alone.Watched.{Watched}
 use Rattle.device_lock.specs.declared.entry.Call.{Call}
 use Rattle.device_lock.specs.declared.entry.Entry.{Entry}
 use Rattle.pmd.specs.Driver.{Driver, accepted_of, handed_of}
@@ -17,18 +15,16 @@ use Rattle.start_laws.specs.ReceiveLaws.Delivered.{delivered}
 use Rattle.start_laws.specs.TransmitLaws.Agreeing.{bytes_of}
 use Rattle.start_laws.specs.TransmitLaws.Laws as transmit
 use Rattle.start_laws.specs.TransmitLaws.Sent.{sent_since}
-use Rattle.pmd.specs.Halves.{Halves, halves_of}
-use Rattle.driver_laws.specs.Beside.{AddsHarmless, Leads}
-use Rattle.pmd_laws.specs.Life.{IsLife}
+use Rattle.pmd.specs.Halves.{halves_of}
+use Rattle.driver_laws.specs.Beside.{AddsHarmless}
+use Rattle.pmd_laws.specs.Life.{Life}
 use Rattle.pmd_laws.specs.Looks as looks
-use Rattle.pmd_laws.specs.Order.{IsLived}
 use Rattle.pmd_laws.specs.Told as told
-use Rattle.pmd_laws.specs.Told.{HasNoneOut, IsTold, IsToldOf, IsToldToLook, Moment, last}
+use Rattle.pmd_laws.specs.Told.{HasNoneOut, IsTold, IsToldOf, IsToldToLook, Moment, Told, last, now}
 use Rattle.pmd_laws.proofs.Looks.{none_at_first, none_before_look}
 use Rattle.pmd_laws.proofs.Order.{handed_of_life, idle_of_life, sent_of_life}
 use Rattle.pmd_laws.proofs.RunsOn.{RunsOn, all_follow, up_next}
 
--- so it is a life
 module _ (q : AtPort) (size frame : ℕ) (old : List Call) (a : Numbers) (m : Moment) (later : List Moment)
     (x : IsTold q size frame old a m later) where
   abbrev pub first : Running
@@ -37,93 +33,61 @@ module _ (q : AtPort) (size frame : ℕ) (old : List Call) (a : Numbers) (m : Mo
   pub runs : RunsOn m first (last m later)
   runs = all_follow m later first (ap (λ (p : Driver). p.rings) x.started.1) x.since
 
-  abbrev pub now : Halves
-  now = halves_of runs.rings
+-- so it is a life
+module _ (x : Told) where
+  abbrev pub goes : RunsOn x.m x.told.started.0 (now x)
+  goes = runs x.q x.size x.frame x.old x.a x.m x.later x.told
 
-  pub led : Leads m.made (halves_of first) (last m later).made now
-  led = runs.leads.apart.leads
-
-  abbrev pub life : (calls : List Call) → Leads m.made (halves_of first) calls now
-      → IsLife q size frame old a m.made first calls now
-  life calls since = record {
-    up = x.started.2;
-    since = since;
+  abbrev pub life : Life
+  life = record {
+    w = x.w;
+    origin = x.origin;
+    h = x.h;
+    q = x.q;
+    size = x.size;
+    frame = x.frame;
+    old = x.old;
+    a = x.a;
+    started = x.m.made;
+    r = x.told.started.0;
+    made = (now x).made;
+    k = halves_of goes.rings;
+    is = record {
+      along = x.along;
+      up = x.told.started.2;
+      begins = x.begins;
+      since = goes.leads.apart.leads;
+    };
   }
 
-module _ (w : Watched) (origin : State) (h : List Entry) (q : AtPort) (size frame : ℕ) (old : List Call) (a : Numbers)
-    (m : Moment) (later : List Moment) where
-  module _ (x : IsToldOf w origin h q size frame old a m later) where
-    abbrev k : Halves
-    k = now q size frame old a m later x.told
+  handed : IsToldOf x → receive.IsPrefixOf (handed_of (now x).driver.rings) (delivered x.w.queue x.origin x.h)
+  handed lived = rw goes.up (handed_of_life life lived)
 
-    abbrev up : (last m later).driver.rings ≡ Up (runs q size frame old a m later x.told).rings
-    up = (runs q size frame old a m later x.told).up
+  sends : IsToldOf x
+      → transmit.IsPrefixOf (sent_since x.w.queue x.origin [] x.h) (bytes_of (accepted_of (now x).driver.rings))
+  sends lived = rw goes.up (sent_of_life life lived)
 
-    lived : IsLived w origin h q size frame old a m.made x.told.started.0 k
-    lived =
-        let goes = led q size frame old a m later x.told in
-        record {
-          along = x.along;
-          life =
-              life q size frame old a m later x.told (calls_of w.pass h)
-              (subst (λ (calls : List Call). Leads m.made (halves_of x.told.started.0) calls k) (sym x.made) goes);
-          begins = x.begins;
-        }
+  idle : IsToldOf x → HasNoneOut (now x).driver.rings
+      → bytes_of (accepted_of (now x).driver.rings) ≡ sent_since x.w.queue x.origin [] x.h
+  idle lived none =
+      ap (λ (z : Rings). bytes_of (accepted_of z)) goes.up
+      ∙ idle_of_life life lived (subst HasNoneOut goes.up none)
 
-    handed : receive.IsPrefixOf (handed_of (last m later).driver.rings) (delivered w.queue origin h)
-    handed =
-        subst (λ (z : Rings). receive.IsPrefixOf (handed_of z) (delivered w.queue origin h)) (sym up)
-        (handed_of_life w origin h q size frame old a m.made x.told.started.0 k lived)
+  module _ (n : Moment) (y : IsToldToLook x n) where
+    next : (s : Running) × (n.driver.rings ≡ Up s) × LooksInVain (now x).made goes.rings.receive n.made s.receive
+    next = up_next _ (now x).driver.rings n.driver.rings goes.rings goes.up y.looks
 
-    sends : transmit.IsPrefixOf (sent_since w.queue origin [] h)
-        (bytes_of (accepted_of (last m later).driver.rings))
-    sends =
-        subst
-        (λ (z : Rings).
-        transmit.IsPrefixOf (sent_since w.queue origin [] h) (bytes_of (accepted_of z)))
-        (sym up) (sent_of_life w origin h q size frame old a m.made x.told.started.0 k lived)
+    abbrev in_vain : looks.LooksInVain life n.made next.0.receive
+    in_vain = record { looks = next.2; look = y.look }
 
-    idle : HasNoneOut (last m later).driver.rings
-        → bytes_of (accepted_of (last m later).driver.rings) ≡ sent_since w.queue origin [] h
-    idle none =
-        ap (λ (z : Rings). bytes_of (accepted_of z)) up
-        ∙ idle_of_life w origin h q size frame old a m.made x.told.started.0 k lived (subst HasNoneOut up none)
+    looked : handed_of (now x).driver.rings ≡ delivered x.w.queue x.origin y.look.before
+    looked = ap handed_of goes.up ∙ none_before_look life n.made next.0.receive in_vain
 
-  module _ (n : Moment) (x : IsToldToLook w origin h q size frame old a m later n) where
-    abbrev made : List Call
-    made = (last m later).made
-
-    abbrev rings : Running
-    rings = (runs q size frame old a m later x.told).rings
-
-    next : (s : Running) × (n.driver.rings ≡ Up s) × LooksInVain made rings.receive n.made s.receive
-    next =
-        up_next _ (last m later).driver.rings n.driver.rings rings (runs q size frame old a m later x.told).up x.looks
-
-    abbrev in_vain : looks.LooksInVain w origin h q size frame old a m.made x.told.started.0 made (halves_of rings)
-        n.made
-        next.0.receive
-    in_vain = record {
-      along = x.along;
-      life = life q size frame old a m later x.told made (led q size frame old a m later x.told);
-      begins = x.begins;
-      looks = next.2;
-      look = x.look;
-    }
-
-    looked : handed_of (last m later).driver.rings ≡ delivered w.queue origin x.look.before
-    looked =
-        ap handed_of (runs q size frame old a m later x.told).up
-        ∙ none_before_look w origin h q size frame old a m.made x.told.started.0 made (halves_of rings) n.made
-        next.0.receive in_vain
-
-    at_first : (before more : List Entry) → before ++ more ≡ x.look.before → AddsHarmless made (calls_of w.pass before)
-        → handed_of (last m later).driver.rings ≡ delivered w.queue origin before
+    at_first : (before more : List Entry) → before ++ more ≡ y.look.before
+        → AddsHarmless (now x).made (calls_of x.w.pass before)
+        → handed_of (now x).driver.rings ≡ delivered x.w.queue x.origin before
     at_first before more all is =
-        ap handed_of (runs q size frame old a m later x.told).up
-        ∙ none_at_first w origin h q size frame old a m.made x.told.started.0 made (halves_of rings) n.made
-        next.0.receive
-        in_vain before more all is
+        ap handed_of goes.up ∙ none_at_first life n.made next.0.receive in_vain before more all is
 
 pub handed_as_told : told.HandedIsPrefix
 handed_as_told = handed

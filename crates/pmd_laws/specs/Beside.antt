@@ -28,7 +28,7 @@ use Rattle.start_laws.specs.TransmitLaws.Sent.{sent_since}
 use Rattle.driver_laws.specs.Beside.{AddsHarmless}
 use Rattle.driver_laws.specs.Retold.{AreSame}
 use Rattle.pmd_laws.specs.Looks.{EndsAt}
-use Rattle.pmd_laws.specs.Order.{IsLived}
+use Rattle.pmd_laws.specs.Life.{IsLife}
 use Rattle.pmd_laws.specs.Told.{Drove, HasNoneOut, IsTold, LooksInVain, Moment, last}
 use Rattle.pmd_laws.specs.Waits.{Waits}
 
@@ -79,14 +79,33 @@ pub record IsToldBy (q : AtPort) (size frame : ℕ) (old : List Call) (a : Numbe
   pub access : started.2.receive.quiet.0 ≡ old ++ first
   pub since : AllFollowBy m (ahead ++ start) later own
 
--- such a history, in which the pass has made just the driver's own calls up to the last moment as it is told anew. Just
--- before the driver's first access its port and queue name this queue, and frames have at most as many bytes as its
--- packets
-pub record IsToldBeside (w : Watched) (origin : State) (h g : List Entry) (q : AtPort) (size frame : ℕ)
-    (old : List Call) (a : Numbers) (m : Moment) (later : List Moment) (ahead : List Call) : Type 0 where
+-- such a driver over such a history. Just before its first access its port and queue name this queue, and frames have
+-- at most as many bytes as its packets
+pub record Beside : Type 0 where
+  pub w : Watched
+  pub origin : State
+  pub h : List Entry
+  pub g : List Entry
+  pub q : AtPort
+  pub size : ℕ
+  pub frame : ℕ
+  pub old : List Call
+  pub a : Numbers
+  pub m : Moment
+  pub later : List Moment
+  pub ahead : List Call
+  pub own : List Call
   pub retold : IsRetold w origin h g
-  pub told : IsToldBy q size frame old a m later ahead (calls_of w.pass g)
+  pub told : IsToldBy q size frame old a m later ahead own
   pub ground : BeforeLast w origin g (ahead ++ told.first) (HasGround w.queue q frame)
+
+-- its last moment
+abbrev pub now : Beside → Moment
+now x = last x.m x.later
+
+-- the pass has made just the driver's own calls up to that moment, as the history is told anew
+abbrev pub IsToldBeside : Beside → Type 0
+IsToldBeside x = calls_of x.w.pass x.g ≡ x.own
 
 -- by the driver's own calls alone its moments are told too, with the driver as it is at each
 abbrev pub by_own : List Call → Moment → Moment
@@ -109,78 +128,59 @@ OwnAreTold =
 -- and all laws of a life do: told anew it is one of the driver's
 abbrev pub ToldIsLived : Type 0
 ToldIsLived =
-    (w : Watched) (origin : State) (h g : List Entry) (q : AtPort) (size frame : ℕ) (old : List Call) (a : Numbers)
-    (m : Moment) (later : List Moment) (ahead : List Call)
-    (x : IsToldBeside w origin h g q size frame old a m later ahead) →
-    (r : Running) × ((last m later).driver.rings ≡ Up r)
-    × IsLived w origin g q size frame ahead a (ahead ++ x.told.start) x.told.started.0 (halves_of r)
+    (x : Beside) →
+    (r : Running) × ((now x).driver.rings ≡ Up r)
+    × IsLife x.w x.origin x.g x.q x.size x.frame x.ahead x.a (x.ahead ++ x.told.start) x.told.started.0 x.own
+    (halves_of r)
 
 -- what the driver handed out is a prefix of what was delivered
 abbrev pub HandedIsPrefix : Type 0
 HandedIsPrefix =
-    (w : Watched) (origin : State) (h g : List Entry) (q : AtPort) (size frame : ℕ) (old : List Call) (a : Numbers)
-    (m : Moment) (later : List Moment) (ahead : List Call) →
-    IsToldBeside w origin h g q size frame old a m later ahead →
-    receive.IsPrefixOf (handed_of (last m later).driver.rings) (delivered w.queue origin h)
+    (x : Beside) → IsToldBeside x →
+    receive.IsPrefixOf (handed_of (now x).driver.rings) (delivered x.w.queue x.origin x.h)
 
 -- what was sent is a prefix of what the driver accepted, and it is all of that where no packet is outstanding
 
 abbrev pub SentIsPrefix : Type 0
 SentIsPrefix =
-    (w : Watched) (origin : State) (h g : List Entry) (q : AtPort) (size frame : ℕ) (old : List Call) (a : Numbers)
-    (m : Moment) (later : List Moment) (ahead : List Call) →
-    IsToldBeside w origin h g q size frame old a m later ahead →
-    transmit.IsPrefixOf (sent_since w.queue origin [] h)
-    (bytes_of (accepted_of (last m later).driver.rings))
+    (x : Beside) → IsToldBeside x →
+    transmit.IsPrefixOf (sent_since x.w.queue x.origin [] x.h) (bytes_of (accepted_of (now x).driver.rings))
 
 abbrev pub IdleIsAllSent : Type 0
 IdleIsAllSent =
-    (w : Watched) (origin : State) (h g : List Entry) (q : AtPort) (size frame : ℕ) (old : List Call) (a : Numbers)
-    (m : Moment) (later : List Moment) (ahead : List Call) →
-    IsToldBeside w origin h g q size frame old a m later ahead → HasNoneOut (last m later).driver.rings →
-    bytes_of (accepted_of (last m later).driver.rings) ≡ sent_since w.queue origin [] h
+    (x : Beside) → IsToldBeside x → HasNoneOut (now x).driver.rings →
+    bytes_of (accepted_of (now x).driver.rings) ≡ sent_since x.w.queue x.origin [] x.h
 
--- the same, and behind the last moment comes a call of the driver's, which made these calls. As the history is told
--- anew the pass has made the driver's own calls up to there at some entry, whatever comes behind it
-pub record IsCalledBeside (w : Watched) (origin : State) (h g : List Entry) (q : AtPort) (size frame : ℕ)
-    (old : List Call) (a : Numbers) (m : Moment) (later : List Moment) (ahead own : List Call)
-    (n : Moment) : Type 0 where
-  pub retold : IsRetold w origin h g
-  pub told : IsToldBy q size frame old a m later ahead own
-  pub ground : BeforeLast w origin g (ahead ++ told.first) (HasGround w.queue q frame)
+-- behind the last moment comes a call of the driver's, which made these calls. As the history is told anew the pass has
+-- made the driver's own calls up to there at some entry, whatever comes behind it
+pub record IsCalledBeside (x : Beside) (n : Moment) : Type 0 where
   pub since : List Call
-  pub made : n.made ≡ (last m later).made ++ since
-  pub look : EndsAt w.pass g (own ++ since)
+  pub made : n.made ≡ (now x).made ++ since
+  pub look : EndsAt x.w.pass x.g (x.own ++ since)
 
 -- where that call looks in vain, what the driver had handed out is all that was delivered before the entry of its last
 -- look, by the entries of the history that are told anew before that
 abbrev pub NoneIsAllBefore : Type 0
 NoneIsAllBefore =
-    (w : Watched) (origin : State) (h g : List Entry) (q : AtPort) (size frame : ℕ) (old : List Call) (a : Numbers)
-    (m : Moment) (later : List Moment) (ahead own : List Call) (n : Moment)
-    (x : IsCalledBeside w origin h g q size frame old a m later ahead own n) → LooksInVain (last m later) n →
-    (early : List Entry) → AreSame early x.look.before →
-    handed_of (last m later).driver.rings ≡ delivered w.queue origin early
+    (x : Beside) (n : Moment) (called : IsCalledBeside x n) → LooksInVain (now x) n →
+    (early : List Entry) → AreSame early called.look.before →
+    handed_of (now x).driver.rings ≡ delivered x.w.queue x.origin early
 
 -- and it is all that was delivered before the first event of that call's own, whatever the author made ahead of it
 abbrev pub NoneIsAllAtFirst : Type 0
 NoneIsAllAtFirst =
-    (w : Watched) (origin : State) (h g : List Entry) (q : AtPort) (size frame : ℕ) (old : List Call) (a : Numbers)
-    (m : Moment) (later : List Moment) (ahead own : List Call) (n : Moment)
-    (x : IsCalledBeside w origin h g q size frame old a m later ahead own n) → LooksInVain (last m later) n →
-    (before more early : List Entry) → before ++ more ≡ x.look.before → AddsHarmless own (calls_of w.pass before) →
-    AreSame early before →
-    handed_of (last m later).driver.rings ≡ delivered w.queue origin early
+    (x : Beside) (n : Moment) (called : IsCalledBeside x n) → LooksInVain (now x) n →
+    (before more early : List Entry) → before ++ more ≡ called.look.before →
+    AddsHarmless x.own (calls_of x.w.pass before) → AreSame early before →
+    handed_of (now x).driver.rings ≡ delivered x.w.queue x.origin early
 
 -- where that call ends with a packet outstanding, not all that the driver had accepted was sent before its first event
 abbrev pub WaitingIsNotAll : Type 0
 WaitingIsNotAll =
-    (w : Watched) (origin : State) (h g : List Entry) (q : AtPort) (size frame : ℕ) (old : List Call) (a : Numbers)
-    (m : Moment) (later : List Moment) (ahead own : List Call) (n : Moment)
-    (x : IsCalledBeside w origin h g q size frame old a m later ahead own n) → Waits (last m later) n →
-    (before more early : List Entry) → before ++ more ≡ x.look.before → AddsHarmless own (calls_of w.pass before) →
-    AreSame early before →
-    bytes_of (accepted_of (last m later).driver.rings) ≢ sent_since w.queue origin [] early
+    (x : Beside) (n : Moment) (called : IsCalledBeside x n) → Waits (now x) n →
+    (before more early : List Entry) → before ++ more ≡ called.look.before →
+    AddsHarmless x.own (calls_of x.w.pass before) → AreSame early before →
+    bytes_of (accepted_of (now x).driver.rings) ≢ sent_since x.w.queue x.origin [] early
 
 -- entries behind a history that was told anew, which are told so too: as they are told pass 0 made these calls in them,
 -- and they lead to a device

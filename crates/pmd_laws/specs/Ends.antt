@@ -19,47 +19,49 @@ use Rattle.start_laws.specs.TransmitLaws.Sent.{sent_since}
 use Rattle.start_laws.specs.Along.{IsAlong}
 use Rattle.start_laws.specs.Start.{BeginsWell}
 
--- a legal history of a sound device that leaves the queue alone, up to where a driver that lived was to stop
-pub record IsToStop (w : Watched) (origin : State) (h : List Entry) (q : AtPort) (size frame : ℕ) (old : List Call)
-    (a : Numbers) (new : List Call) (left : Rest) (late : Option PmdFault)
-    (life : HasLived q size frame old a new left late) : Type 0 where
+-- a driver that lived over a legal history of a sound device that leaves the queue alone, and was stopped
+pub record Ended : Type 0 where
+  pub w : Watched
+  pub origin : State
+  pub h : List Entry
+  pub q : AtPort
+  pub size : ℕ
+  pub frame : ℕ
+  pub old : List Call
+  pub a : Numbers
+  pub new : List Call
+  pub left : Rest
+  pub late : Option PmdFault
+  pub lived : HasLived q size frame old a new left late
   pub along : IsAlong w origin h
-  pub calls : calls_of w.pass h ≡ life.made
-  pub begins : BeginsWell w origin h q size frame old a life.lives.made life.lives.fresh life.lives.up
+  pub begins : BeginsWell w origin h q size frame old a lived.lives.made lived.lives.fresh lived.lives.up
 
--- such a history on to some place amid its stop, or where this ended, well or not: these of its calls were made so far
-pub record IsOver (w : Watched) (origin : State) (h : List Entry) (q : AtPort) (size frame : ℕ) (old : List Call)
-    (a : Numbers) (new : List Call) (left : Rest) (late : Option PmdFault)
-    (life : HasLived q size frame old a new left late) : Type 0 where
-  pub along : IsAlong w origin h
+-- the history goes up to where the driver was to stop
+abbrev pub IsToStop : Ended → Type 0
+IsToStop x = calls_of x.w.pass x.h ≡ x.lived.made
+
+-- or on to some place amid its stop, or where this ended, well or not: these of its calls were made so far
+pub record IsOver (x : Ended) : Type 0 where
   pub since : List Call
   pub rest : List Call
-  pub all : new ≡ (life.made ++ since) ++ rest
-  pub calls : calls_of w.pass h ≡ life.made ++ since
-  pub begins : BeginsWell w origin h q size frame old a life.lives.made life.lives.fresh life.lives.up
+  pub all : x.new ≡ (x.lived.made ++ since) ++ rest
+  pub calls : calls_of x.w.pass x.h ≡ x.lived.made ++ since
+
+abbrev pub LeavesHanded : Ended → Type 0
+LeavesHanded x = receive.IsPrefixOf (left_handed x.left) (delivered x.w.queue x.origin x.h)
+
+abbrev pub LeavesSent : Ended → Type 0
+LeavesSent x = transmit.IsPrefixOf (sent_since x.w.queue x.origin [] x.h) (bytes_of (left_accepted x.left))
 
 -- what the driver left as handed out is a prefix of what was delivered, and what was sent a prefix of what it left as
 -- accepted
 abbrev pub LeftIsPrefix : Type 0
-LeftIsPrefix =
-    (w : Watched) (origin : State) (h : List Entry) (q : AtPort) (size frame : ℕ) (old : List Call) (a : Numbers)
-    (new : List Call) (left : Rest) (late : Option PmdFault) (lived : HasLived q size frame old a new left late) →
-    IsToStop w origin h q size frame old a new left late lived →
-    receive.IsPrefixOf (left_handed left) (delivered w.queue origin h)
-    × transmit.IsPrefixOf (sent_since w.queue origin [] h) (bytes_of (left_accepted left))
+LeftIsPrefix = (x : Ended) → IsToStop x → LeavesHanded x × LeavesSent x
 
 -- and so it is there, with all that was delivered and sent meanwhile
 
 abbrev pub HandedOverStop : Type 0
-HandedOverStop =
-    (w : Watched) (origin : State) (h : List Entry) (q : AtPort) (size frame : ℕ) (old : List Call) (a : Numbers)
-    (new : List Call) (left : Rest) (late : Option PmdFault) (lived : HasLived q size frame old a new left late) →
-    IsOver w origin h q size frame old a new left late lived →
-    receive.IsPrefixOf (left_handed left) (delivered w.queue origin h)
+HandedOverStop = (x : Ended) → IsOver x → LeavesHanded x
 
 abbrev pub SentOverStop : Type 0
-SentOverStop =
-    (w : Watched) (origin : State) (h : List Entry) (q : AtPort) (size frame : ℕ) (old : List Call) (a : Numbers)
-    (new : List Call) (left : Rest) (late : Option PmdFault) (lived : HasLived q size frame old a new left late) →
-    IsOver w origin h q size frame old a new left late lived →
-    transmit.IsPrefixOf (sent_since w.queue origin [] h) (bytes_of (left_accepted left))
+SentOverStop = (x : Ended) → IsOver x → LeavesSent x

@@ -23,11 +23,10 @@ use Rattle.pmd.specs.PmdSeam.Named.{AtPort}
 use Rattle.start_laws.specs.ReceiveLaws.Fitting.{FitsBlocks}
 use Rattle.start_laws.specs.Along.{BeforeLast, IsAlong}
 use Rattle.start_laws.specs.Quieting.{IsQuiet}
-use Rattle.start_laws.specs.Start.{BeginsWell}
 use Rattle.start_laws.specs.Faultless.{BeforeNext}
 use Rattle.start_laws.specs.Filling.{FaultsFilling}
 use Rattle.driver_laws.specs.Before.{OnlyPassLends}
-use Rattle.pmd_laws.specs.Told.{IsTold, Moment, last}
+use Rattle.pmd_laws.specs.Told.{Moment, Told, now}
 
 -- none of these blocks is lent
 abbrev pub NoneLent : Blocks → State → Type 0
@@ -46,25 +45,18 @@ FindsFault m n =
     WhereUp m.driver.rings n.driver.rings
     (λ r s. FindsBy DeviceFault (is_own r.arena) m.made (halves_of r) n.made)
 
--- a legal history of a sound device that leaves the queue alone. In it the pass made the calls up to this last moment,
--- and maybe more behind them. Just before the driver's first access frames were short and none of its arena's blocks
--- was lent; and no other pass lends any of them
-pub record IsToldApart (w : Watched) (origin : State) (h : List Entry) (q : AtPort) (size frame : ℕ) (old : List Call)
-    (a : Numbers) (m : Moment) (later : List Moment) (n : Moment) : Type 0 where
-  pub along : IsAlong w origin h
-  pub told : IsTold q size frame old a m later
-  pub begins : BeginsWell w origin h q size frame old a m.made told.started.0 told.started.2
-  pub fresh : BeforeLast w origin h told.started.2.receive.quiet.0 (IsFresh w.queue frame (is_own a))
-  pub others : OnlyPassLends w.pass (is_own a) h
+-- in its history the pass made the calls up to this last moment, and maybe more behind them. Just before the driver's
+-- first access frames were short and none of its arena's blocks was lent; and no other pass lends any of them
+pub record IsToldApart (x : Told) (n : Moment) : Type 0 where
+  pub fresh :
+      BeforeLast x.w x.origin x.h x.told.started.2.receive.quiet.0 (IsFresh x.w.queue x.frame (is_own x.a))
+  pub others : OnlyPassLends x.w.pass (is_own x.a) x.h
   pub more : List Call
-  pub made : calls_of w.pass h ≡ n.made ++ more
+  pub made : calls_of x.w.pass x.h ≡ n.made ++ more
 
 -- no such history has such a call
 abbrev pub NoCallFindsFault : Type 0
-NoCallFindsFault =
-    (w : Watched) (origin : State) (h : List Entry) (q : AtPort) (size frame : ℕ) (old : List Call) (a : Numbers)
-    (m : Moment) (later : List Moment) (n : Moment) → FindsFault (last m later) n →
-    ¬ IsToldApart w origin h q size frame old a m later n
+NoCallFindsFault = (x : Told) (n : Moment) → FindsFault (now x) n → ¬ IsToldApart x n
 
 -- the fault that a burst met, whatever it answered: as room was made, with a packet, or with none
 abbrev pub met_by : (failed : Option PmdFault) (given left : List Packet) (result : Result ℕ PmdFault) (old : List Call)
@@ -85,17 +77,15 @@ MeetsFault m n = WhereUp m.driver.rings n.driver.rings (λ r s. SendsAtFault m.m
 
 -- no such history has such a call
 abbrev pub NoBurstMeetsFault : Type 0
-NoBurstMeetsFault =
-    (w : Watched) (origin : State) (h : List Entry) (q : AtPort) (size frame : ℕ) (old : List Call) (a : Numbers)
-    (m : Moment) (later : List Moment) (n : Moment) → MeetsFault (last m later) n →
-    ¬ IsToldApart w origin h q size frame old a m later n
+NoBurstMeetsFault = (x : Told) (n : Moment) → MeetsFault (now x) n → ¬ IsToldApart x n
 
 -- both sides of the queue are off, and so it begins
 abbrev pub IsQuietAndFresh : ℕ → AtPort → ℕ → Blocks → State → Type 0
 IsQuietAndFresh queue q frame own s = IsQuiet queue q frame s × IsFresh queue frame own s
 
--- such a history, in which a start made these calls, and maybe more came behind them. Just before its first access both
--- sides were off, frames were short and none of its arena's blocks was lent; and no other pass lends any of them
+-- a legal history of a sound device that leaves the queue alone, in which a start made these calls, and maybe more came
+-- behind them. Just before its first access both sides were off, frames were short and none of its arena's blocks was
+-- lent; and no other pass lends any of them
 pub record BeginsApart (w : Watched) (origin : State) (h : List Entry) (q : AtPort) (size frame : ℕ) (old : List Call)
     (a : Numbers) (new : List Call) : Type 0 where
   pub along : IsAlong w origin h

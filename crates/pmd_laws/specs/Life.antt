@@ -1,16 +1,39 @@
--- A driver's life, by the calls that its pass made: a start that brought both rings up, and then those of its halves.
+-- A driver's life over a history: a start that brought both rings up, and then the calls of its halves.
 use Rattle.std.specs.Prelude.{ℕ, List}
 use Rattle.nic_device.specs.DmaArena.Numbers.{Numbers}
+use Rattle.nic_device.specs.State.{State}
+use Rattle.device_lock.specs.declared.alone.Watched.{Watched}
 use Rattle.device_lock.specs.declared.entry.Call.{Call}
+use Rattle.device_lock.specs.declared.entry.Entry.{Entry}
 use Rattle.pmd.specs.Halves.{Halves, halves_of}
 use Rattle.pmd.specs.Running.{Running}
 use Rattle.pmd.specs.Started.{AreUp}
 use Rattle.pmd.specs.PmdSeam.Named.{AtPort}
+use Rattle.start_laws.specs.Along.{IsAlong}
+use Rattle.start_laws.specs.Start.{BeginsWell}
 use Rattle.driver_laws.specs.Beside.{Leads}
 
--- the calls up to now: when these were made the driver started with this arena, and when these were it ran, with both
--- rings up; and since then its halves were led on, beside calls that are harmless
-pub record IsLife (q : AtPort) (size frame : ℕ) (old : List Call) (a : Numbers) (started : List Call) (r : Running)
-    (calls : List Call) (k : Halves) : Type 0 where
+-- over a legal history of a sound device that leaves the queue alone: when these calls were made the driver had started
+-- with this arena and ran, with both rings up; and since then its halves were led on, beside calls that are harmless
+pub record IsLife (w : Watched) (origin : State) (h : List Entry) (q : AtPort) (size frame : ℕ) (old : List Call)
+    (a : Numbers) (started : List Call) (r : Running) (made : List Call) (k : Halves) : Type 0 where
+  pub along : IsAlong w origin h
   pub up : AreUp q size frame old a started r
-  pub since : Leads started (halves_of r) calls k
+  pub begins : BeginsWell w origin h q size frame old a started r up
+  pub since : Leads started (halves_of r) made k
+
+-- such a life, up to where these calls were made
+pub record Life : Type 0 where
+  pub w : Watched
+  pub origin : State
+  pub h : List Entry
+  pub q : AtPort
+  pub size : ℕ
+  pub frame : ℕ
+  pub old : List Call
+  pub a : Numbers
+  pub started : List Call
+  pub r : Running
+  pub made : List Call
+  pub k : Halves
+  pub is : IsLife w origin h q size frame old a started r made k

@@ -6,8 +6,6 @@ use Rattle.nic_device.specs.DmaArena.Numbers.{Numbers, is_free, is_own}
 use Rattle.nic_device.specs.DmaArena.Whereabouts.{places_of, times_in_hand}
 use Rattle.nic_device.specs.State.{State}
 use Rattle.device_lock.specs.History.{leads_to}
-use Rattle.device_lock.specs.declared.alone.Watched.{Watched}
-use Rattle.device_lock.specs.declared.entry.Call.{Call}
 use Rattle.device_lock.specs.declared.entry.Entry.{Entry}
 use Rattle.pmd.specs.Blocks.{HasAll, KeepsBlocks}
 use Rattle.pmd.specs.Driver.{arena_of, halted_of}
@@ -15,12 +13,11 @@ use Rattle.pmd.specs.Halves.{halves_of}
 use Rattle.pmd.specs.declared.driver.Rings.{Rings}
 use Rattle.pmd.specs.declared.driver.Rings.TheVariants.{Up, Down}
 use Rattle.pmd.specs.Halted.{Halted}
-use Rattle.pmd.specs.PmdSeam.Named.{AtPort}
 use Rattle.start_laws.specs.Along.{BeforeLast}
 use Rattle.driver_laws.specs.Before.{OnlyPassLends}
 use Rattle.driver_laws.specs.Healthy.{lent_by}
 use Rattle.pmd_laws.specs.Faultless.{NoneLent}
-use Rattle.pmd_laws.specs.Told.{IsToldOf, Moment, last}
+use Rattle.pmd_laws.specs.Told.{IsToldOf, Told, now}
 
 -- whether a driver that runs has the block of this number out with a half: it is a ring's own, one that is posted or
 -- about to be, or that of a part of an outstanding packet which is lent
@@ -35,25 +32,20 @@ memory_after origin h = (leads_to origin h).memory
 -- each block that is out is lent there
 abbrev pub OutIsLent : Type 0
 OutIsLent =
-    (w : Watched) (origin : State) (h : List Entry) (q : AtPort) (size frame : ℕ) (old : List Call) (a : Numbers)
-    (m : Moment) (later : List Moment) → IsToldOf w origin h q size frame old a m later → (number : ℕ) →
-    IsTrue (is_out (last m later).driver.rings number) → IsTrue (has_block (memory_after origin h) number)
+    (x : Told) → IsToldOf x → (number : ℕ) → IsTrue (is_out (now x).driver.rings number) →
+    IsTrue (has_block (memory_after x.origin x.h) number)
 
--- such a history. Just before the driver's first access none of its arena's blocks was lent; and no other pass lends
--- any of them
-pub record IsToldAlone (w : Watched) (origin : State) (h : List Entry) (q : AtPort) (size frame : ℕ) (old : List Call)
-    (a : Numbers) (m : Moment) (later : List Moment) : Type 0 where
-  pub told : IsToldOf w origin h q size frame old a m later
-  pub fresh : BeforeLast w origin h told.told.started.2.receive.quiet.0 (NoneLent (is_own a))
-  pub others : OnlyPassLends w.pass (is_own a) h
+-- just before the driver's first access none of its arena's blocks was lent; and no other pass lends any of them
+pub record IsToldAlone (x : Told) : Type 0 where
+  pub told : IsToldOf x
+  pub fresh : BeforeLast x.w x.origin x.h x.told.started.2.receive.quiet.0 (NoneLent (is_own x.a))
+  pub others : OnlyPassLends x.w.pass (is_own x.a) x.h
 
 -- each of the arena's blocks that is lent there is out
 abbrev pub LentIsOut : Type 0
 LentIsOut =
-    (w : Watched) (origin : State) (h : List Entry) (q : AtPort) (size frame : ℕ) (old : List Call) (a : Numbers)
-    (m : Moment) (later : List Moment) →
-    IsToldAlone w origin h q size frame old a m later → (number : ℕ) → IsTrue (is_own a number) →
-    IsTrue (has_block (memory_after origin h) number) → IsTrue (is_out (last m later).driver.rings number)
+    (x : Told) → IsToldAlone x → (number : ℕ) → IsTrue (is_own x.a number) →
+    IsTrue (has_block (memory_after x.origin x.h) number) → IsTrue (is_out (now x).driver.rings number)
 
 -- where a driver has all blocks of an arena but those in hand, it has them so after a call, as its clause `blocks`
 -- tells: what was in hand for the call isn't after it, and what the call hands out, or leaves in a list that it was
@@ -71,9 +63,8 @@ pub record BooksGoOn : Type 0 where
 -- too, whole or not, and those of parts that wait to be lent
 abbrev pub EachInOnePlace : Type 0
 EachInOnePlace =
-    (w : Watched) (origin : State) (h : List Entry) (q : AtPort) (size frame : ℕ) (old : List Call) (a : Numbers)
-    (m : Moment) (later : List Moment) → IsToldAlone w origin h q size frame old a m later → (hand : List ℕ) →
-    HasAll a (halted_of (last m later).driver.rings) hand → (number : ℕ) → IsTrue (is_own a number) →
-    places_of (arena_of (last m later).driver.rings) ((halted_of (last m later).driver.rings).held ++ hand)
-    (memory_after origin h) number
-    ≡ (if is_free a number then 1 else 0)
+    (x : Told) → IsToldAlone x → (hand : List ℕ) → HasAll x.a (halted_of (now x).driver.rings) hand →
+    (number : ℕ) → IsTrue (is_own x.a number) →
+    places_of (arena_of (now x).driver.rings) ((halted_of (now x).driver.rings).held ++ hand)
+    (memory_after x.origin x.h) number
+    ≡ (if is_free x.a number then 1 else 0)

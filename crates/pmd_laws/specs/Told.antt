@@ -58,31 +58,43 @@ pub record IsTold (q : AtPort) (size frame : ℕ) (old : List Call) (a : Numbers
   pub started : HasStarted q size frame old a m.made m.driver
   pub since : AllFollow m later
 
--- a legal history of a sound device that leaves the queue alone, in which the pass has made just the calls of the last
--- moment
-pub record IsToldOf (w : Watched) (origin : State) (h : List Entry) (q : AtPort) (size frame : ℕ) (old : List Call)
-    (a : Numbers) (m : Moment) (later : List Moment) : Type 0 where
+-- over a legal history of a sound device that leaves the queue alone
+pub record Told : Type 0 where
+  pub w : Watched
+  pub origin : State
+  pub h : List Entry
+  pub q : AtPort
+  pub size : ℕ
+  pub frame : ℕ
+  pub old : List Call
+  pub a : Numbers
+  pub m : Moment
+  pub later : List Moment
   pub along : IsAlong w origin h
   pub told : IsTold q size frame old a m later
   pub begins : BeginsWell w origin h q size frame old a m.made told.started.0 told.started.2
-  pub made : calls_of w.pass h ≡ (last m later).made
+
+-- its last moment
+abbrev pub now : Told → Moment
+now x = last x.m x.later
+
+-- the pass has made just the calls of that moment
+abbrev pub IsToldOf : Told → Type 0
+IsToldOf x = calls_of x.w.pass x.h ≡ (now x).made
 
 -- what the driver handed out is a prefix of what was delivered
 abbrev pub HandedIsPrefix : Type 0
 HandedIsPrefix =
-    (w : Watched) (origin : State) (h : List Entry) (q : AtPort) (size frame : ℕ) (old : List Call) (a : Numbers)
-    (m : Moment) (later : List Moment) → IsToldOf w origin h q size frame old a m later →
-    receive.IsPrefixOf (handed_of (last m later).driver.rings) (delivered w.queue origin h)
+    (x : Told) → IsToldOf x →
+    receive.IsPrefixOf (handed_of (now x).driver.rings) (delivered x.w.queue x.origin x.h)
 
 -- what was sent is a prefix of what the driver accepted, and it is all of that where no packet is outstanding, as where
 -- `reap` answers so
 
 abbrev pub SentIsPrefix : Type 0
 SentIsPrefix =
-    (w : Watched) (origin : State) (h : List Entry) (q : AtPort) (size frame : ℕ) (old : List Call) (a : Numbers)
-    (m : Moment) (later : List Moment) → IsToldOf w origin h q size frame old a m later →
-    transmit.IsPrefixOf (sent_since w.queue origin [] h)
-    (bytes_of (accepted_of (last m later).driver.rings))
+    (x : Told) → IsToldOf x →
+    transmit.IsPrefixOf (sent_since x.w.queue x.origin [] x.h) (bytes_of (accepted_of (now x).driver.rings))
 
 abbrev pub HasNoneOut : Rings → Type 0
 HasNoneOut (Up r) = r.transmit.outstanding ≡ []
@@ -90,10 +102,8 @@ HasNoneOut (Down h) = ⊥
 
 abbrev pub IdleIsAllSent : Type 0
 IdleIsAllSent =
-    (w : Watched) (origin : State) (h : List Entry) (q : AtPort) (size frame : ℕ) (old : List Call) (a : Numbers)
-    (m : Moment) (later : List Moment) → IsToldOf w origin h q size frame old a m later →
-    HasNoneOut (last m later).driver.rings →
-    bytes_of (accepted_of (last m later).driver.rings) ≡ sent_since w.queue origin [] h
+    (x : Told) → IsToldOf x → HasNoneOut (now x).driver.rings →
+    bytes_of (accepted_of (now x).driver.rings) ≡ sent_since x.w.queue x.origin [] x.h
 
 -- a call of `rx` answered none, or one of `rx_burst` 0 where it was asked for some, as `none` in its clause `received`
 -- tells
@@ -101,27 +111,20 @@ abbrev pub LooksInVain : Moment → Moment → Type 0
 LooksInVain m n =
     WhereUp m.driver.rings n.driver.rings (λ r s. receiving.LooksInVain m.made r.receive n.made s.receive)
 
--- in a legal history of a sound device that leaves the queue alone, such a call comes after the last moment
-pub record IsToldToLook (w : Watched) (origin : State) (h : List Entry) (q : AtPort) (size frame : ℕ) (old : List Call)
-    (a : Numbers) (m : Moment) (later : List Moment) (n : Moment) : Type 0 where
-  pub along : IsAlong w origin h
-  pub told : IsTold q size frame old a m later
-  pub begins : BeginsWell w origin h q size frame old a m.made told.started.0 told.started.2
-  pub looks : LooksInVain (last m later) n
-  pub look : EndsAt w.pass h n.made
+-- such a call comes after the last moment, with its last look at an entry of the history
+pub record IsToldToLook (x : Told) (n : Moment) : Type 0 where
+  pub looks : LooksInVain (now x) n
+  pub look : EndsAt x.w.pass x.h n.made
 
 -- what the driver had handed out is all that was delivered before the entry of the call's last look
 abbrev pub NoneIsAllBefore : Type 0
 NoneIsAllBefore =
-    (w : Watched) (origin : State) (h : List Entry) (q : AtPort) (size frame : ℕ) (old : List Call) (a : Numbers)
-    (m : Moment) (later : List Moment) (n : Moment) (x : IsToldToLook w origin h q size frame old a m later n) →
-    handed_of (last m later).driver.rings ≡ delivered w.queue origin x.look.before
+    (x : Told) (n : Moment) (looked : IsToldToLook x n) →
+    handed_of (now x).driver.rings ≡ delivered x.w.queue x.origin looked.look.before
 
 -- and it is all that was delivered before the first event of that call's own, harmless calls ahead of it included
 abbrev pub NoneIsAllAtFirst : Type 0
 NoneIsAllAtFirst =
-    (w : Watched) (origin : State) (h : List Entry) (q : AtPort) (size frame : ℕ) (old : List Call) (a : Numbers)
-    (m : Moment) (later : List Moment) (n : Moment) (x : IsToldToLook w origin h q size frame old a m later n)
-    (before more : List Entry) → before ++ more ≡ x.look.before →
-    AddsHarmless (last m later).made (calls_of w.pass before) →
-    handed_of (last m later).driver.rings ≡ delivered w.queue origin before
+    (x : Told) (n : Moment) (looked : IsToldToLook x n) (before more : List Entry) →
+    before ++ more ≡ looked.look.before → AddsHarmless (now x).made (calls_of x.w.pass before) →
+    handed_of (now x).driver.rings ≡ delivered x.w.queue x.origin before

@@ -37,7 +37,7 @@ use Rattle.pmd_laws.specs.StartLaws.Unused.{WentOn}
 use Rattle.pmd_laws.proofs.StartLaws.Parts.{Begins, Parts, around, calls_joined, one_begins, parts}
 use Rattle.pmd_laws.proofs.StartLaws.Quieting.{quieting_leads}
 use Rattle.pmd_laws.proofs.StartLaws.Start.{start_goes_on}
-use Rattle.pmd_laws.specs.Ends.{IsOver}
+use Rattle.pmd_laws.specs.Ends.{Ended, IsOver}
 use Rattle.pmd_laws.proofs.Ends.{left_handed_over_stop, left_sent_over_stop, stopped_ends}
 use Rattle.worker_laws.specs.Points.{JustBefore}
 use Rattle.worker_laws.proofs.FirstCalls.{FirstCall, first_read, more_behind, steps_have}
@@ -122,14 +122,30 @@ module _ (w : Watched) (fifo : ℕ) (h : List Entry) (q : AtPort) (size frame : 
           });
     }
 
-    over : IsOver w origin h q size frame old a new left late lived
-    over = record {
+    abbrev ended : Ended
+    ended = record {
+      w = w;
+      origin = origin;
+      h = h;
+      q = q;
+      size = size;
+      frame = frame;
+      old = old;
+      a = a;
+      new = new;
+      left = left;
+      late = late;
+      lived = lived;
       along = along;
+      begins = begins;
+    }
+
+    over : IsOver ended
+    over = record {
       since = stop_goes.0;
       rest = [];
       all = stop_goes.1 ∙ sym (append-nil (lived.made ++ stop_goes.0));
       calls = made ∙ stop_goes.1;
-      begins = begins;
     }
 
     -- the history in parts: up to where both sides were seen off, up to where both are on, and from there on
@@ -223,10 +239,10 @@ module _ (w : Watched) (fifo : ℕ) (h : List Entry) (q : AtPort) (size frame : 
           (delivered w.queue (leads_to origin x.before) (x.first ∷ x.behind))
       handed_since =
           subst (receive.IsPrefixOf (left_handed left)) received
-          (left_handed_over_stop w origin h q size frame old a new left late lived over)
+          (left_handed_over_stop ended over)
 
       pub sent_on : transmit.IsPrefixOf (sent_since w.queue (leads_to origin x.before) [] (x.first ∷ x.behind))
           (bytes_of (left_accepted left))
       sent_on =
           subst (λ (sent : List (List ℕ)). transmit.IsPrefixOf sent (bytes_of (left_accepted left))) counted
-          (left_sent_over_stop w origin h q size frame old a new left late lived over)
+          (left_sent_over_stop ended over)

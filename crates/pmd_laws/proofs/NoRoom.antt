@@ -1,5 +1,5 @@
 -- Where a driver accepts none of several packets, and answers no fault, its ring has no room for the first.
-use Rattle.std.proofs.Common.{◌≡◌, ℕ, ◌+◌, ◌≤◌, List, [], ◌∷◌, length, Option, Some, None, Result, Ok, Err, IfSome, refl, ap, ◌∙◌, arith}
+use Rattle.std.proofs.Common.{◌≡◌, ℕ, ◌+◌, ◌<◌, ◌≤◌, List, [], ◌∷◌, length, Option, Some, None, Result, Ok, Err, IfSome, refl, ap, ◌∙◌, arith}
 use Rattle.device_lock.specs.declared.entry.Call.{Call}
 use Rattle.pmd.specs.Bursts.{IsSendBurst, SendsBurst, SendsWith, Stops}
 use Rattle.pmd.specs.Driver.{WhereUp}
@@ -11,8 +11,8 @@ use Rattle.pmd.specs.PmdSeam.declared.fault.PmdFault.{PmdFault}
 use Rattle.pmd.specs.PmdSeam.declared.packet.Packet.{Packet}
 use Rattle.pmd.specs.PmdTx.Sending.{Sender, parts_for}
 use Rattle.driver_laws.proofs.LeadsApart.{driven_apart}
-use Rattle.pmd_laws.specs.FullRing.{NoneHasNoRoom, outstanding}
-use Rattle.pmd_laws.specs.Told.{last}
+use Rattle.pmd_laws.specs.FullRing.{AcceptsNone, NoneHasNoRoom, outstanding}
+use Rattle.pmd_laws.specs.Told.{Drove, Moment, last}
 use Rattle.pmd_laws.proofs.FullRing.{HasRoom, led_room, led_size, room, same_size}
 use Rattle.pmd_laws.proofs.RunsOn.{up_next}
 use Rattle.pmd_laws.proofs.Told.{runs}
@@ -55,18 +55,22 @@ pub none_full : (p : Packet) (old new : List Call) (r s : Running) → (vacant :
 none_full p old new r s (vacant, given, rest, x) =
     by_room_made x.failed given rest p x.made new x.there s x.sends
 
-pub none_has_no_room : NoneHasNoRoom
-none_has_no_room q size frame old a m later n p x drove none =
-    let here = last m later in
-    let goes = runs q size frame old a m later x in
+-- a driver that runs with room, in a ring of so many slots, has none behind such a call
+pub none_lacks : (size : ℕ) (m n : Moment) (r : Running) (p : Packet) → m.driver.rings ≡ Up r → HasRoom r.transmit
+    → r.transmit.layout.size ≡ size → Drove m n → AcceptsNone m n p
+    → (outstanding n.driver.rings < size) × (size ≤ outstanding n.driver.rings + parts_for p.len)
+none_lacks size m n r p is room sized drove none =
     let (s, up, both) =
-    up_next _ here.driver.rings n.driver.rings goes.rings goes.up
-    (both_up here.driver.rings n.driver.rings _ _ drove none) in
-    let leads = (driven_apart _ here.made n.made (halves_of goes.rings) (halves_of s) both.0.apart).leads in
-    let some : HasRoom s.transmit =
-    led_room here.made n.made (halves_of goes.rings) (halves_of s) leads (room q size frame old a m later x) in
-    let same : s.transmit.layout.size ≡ size =
-    led_size here.made n.made (halves_of goes.rings) (halves_of s) leads ∙ same_size q size frame old a m later x in
-    let lacks = none_full p here.made n.made goes.rings s both.1 in
+    up_next _ m.driver.rings n.driver.rings r is (both_up m.driver.rings n.driver.rings _ _ drove none) in
+    let leads = (driven_apart _ m.made n.made (halves_of r) (halves_of s) both.0.apart).leads in
+    let some : HasRoom s.transmit = led_room m.made n.made (halves_of r) (halves_of s) leads room in
+    let same : s.transmit.layout.size ≡ size = led_size m.made n.made (halves_of r) (halves_of s) leads ∙ sized in
+    let lacks = none_full p m.made n.made r s both.1 in
     let told = ap outstanding up in
     (omega (arith, some, same, told), omega (arith, lacks, same, told))
+
+pub none_has_no_room : NoneHasNoRoom
+none_has_no_room q size frame old a m later n p x =
+    let goes = runs q size frame old a m later x in
+    none_lacks size (last m later) n goes.rings p goes.up (room q size frame old a m later x)
+    (same_size q size frame old a m later x)

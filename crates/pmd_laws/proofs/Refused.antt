@@ -2,19 +2,12 @@
 use Rattle.std.proofs.Common.{◌≡◌, ℕ, List, [], ◌∷◌, ◌++◌, refl, sym, ap, ◌∙◌, subst, append_assoc}
 use Rattle.std.proofs.lemmas.Bool.{eq-eqb}
 use Rattle.std.proofs.lemmas.List.{append_cancel_left}
-use Rattle.nic_device.specs.DmaArena.Numbers.{Numbers}
 use Rattle.nic_device.specs.State.{State}
 use Rattle.nic_device.specs.Step.{after}
 use Rattle.nic_device.proofs.Cases.{either_way}
 use Rattle.device_lock.specs.History.{calls_of, call_in, leads_to}
-use Rattle.device_lock.specs.declared.alone.Watched.{Watched}
 use Rattle.device_lock.specs.declared.entry.Call.{Call}
 use Rattle.device_lock.specs.declared.entry.Entry.{Entry}
-use Rattle.pmd.specs.PmdSeam.Packet.{Kept}
-use Rattle.pmd.specs.PmdSeam.Named.{AtPort}
-use Rattle.pmd.specs.Life.{NeverLived}
-use Rattle.pmd.specs.declared.start.Rest.{Rest}
-use Rattle.pmd.specs.declared.start.StartRefused.{StartRefused}
 use Rattle.start_laws.specs.ReceiveLaws.Delivered as receive
 use Rattle.start_laws.specs.ReceiveLaws.Delivered.{delivered}
 use Rattle.start_laws.proofs.ReceiveLaws.Histories.{calls_own}
@@ -24,7 +17,7 @@ use Rattle.start_laws.specs.TransmitLaws.Sent.{counted_by, goes_on, sent_by, sen
 use Rattle.start_laws.specs.Laid.{Laid, LaysOn, Off}
 use Rattle.start_laws.proofs.Laid.{laid_queue_is_silent}
 use Rattle.start_laws.proofs.Parts.{calls_joined}
-use Rattle.pmd_laws.specs.Refused.{IsRefused, LeftOfRefusedIsPrefix, RefusedSendsNothing}
+use Rattle.pmd_laws.specs.Refused.{LeftOfRefusedIsPrefix, Refused, RefusedSendsNothing}
 use Rattle.pmd_laws.proofs.LaidCalls.{first_lays, lays_behind}
 use Rattle.pmd_laws.proofs.RefusedCalls.{never_lays}
 
@@ -48,40 +41,39 @@ since_none queue s (e ∷ h) none =
     ap (λ (sent : List (List ℕ)). sent_since queue t sent h) here
     ∙ since_none queue t h (rest_none (sent_by queue s e.event) (sent_in queue t h) none)
 
-module _ (w : Watched) (origin : State) (h : List Entry) (q : AtPort) (size frame : ℕ) (old : List Call) (a : Numbers)
-    (e : StartRefused) (new : List Call) (left : Rest) (before : List Entry) (first : Entry) (behind : List Entry)
-    (never : NeverLived q size frame old a e new left)
-    (x : IsRefused w origin h q frame old new before first behind) where
+module _ (x : Refused) where
+  open x use {w, origin, q, old, first, behind}
+
   abbrev here : State
-  here = leads_to origin before
+  here = leads_to origin x.before
 
   abbrev calls : List Call
   calls = call_in first ∷ calls_of w.pass behind
 
   -- the calls so far, from the first on
-  since_is : x.since ≡ x.begins.steps ++ calls
+  since_is : x.since ≡ x.steps ++ calls
   since_is =
-      append_cancel_left old x.since (x.begins.steps ++ calls)
-      (sym x.calls ∙ ap (calls_of w.pass) (sym x.begins.all) ∙ calls_joined w.pass before (first ∷ behind)
-      ∙ (λ k. x.begins.calls k ++ calls_own w.pass first behind (eq-eqb first.pass w.pass x.begins.own) k)
-      ∙ append_assoc old x.begins.steps calls)
+      append_cancel_left old x.since (x.steps ++ calls)
+      (sym x.calls ∙ ap (calls_of w.pass) (sym x.split) ∙ calls_joined w.pass x.before (first ∷ behind)
+      ∙ (λ k. x.ahead k ++ calls_own w.pass first behind (eq-eqb first.pass w.pass x.own) k)
+      ∙ append_assoc old x.steps calls)
 
   lays : (last : Laid) × LaysOn q Off calls last
   lays =
-      let (end, (made, is, all)) = never_lays q size frame old a e new left never in
+      let (end, (made, is, all)) = never_lays q x.size x.frame old x.a x.e x.new x.left x.never in
       let both : made ≡ x.since ++ x.rest =
       append_cancel_left old made (x.since ++ x.rest) (sym is ∙ x.all ∙ append_assoc old x.since x.rest) in
       let (last, so_far, more) = first_lays q Off end x.since x.rest
       (subst (λ (cs : List Call). LaysOn q Off cs end) both all) in (
         last,
-        lays_behind q Off last x.begins.steps calls x.begins.stepped
+        lays_behind q Off last x.steps calls x.stepped
             (subst (λ (cs : List Call). LaysOn q Off cs last) since_is so_far),
       )
 
   none_sent : sent_in w.queue here (first ∷ behind) ≡ []
   none_sent =
-      laid_queue_is_silent w q frame origin h before behind first lays.0 x.along x.begins.all x.begins.own
-      x.begins.quiet.ground x.begins.quiet.transmit lays.1
+      laid_queue_is_silent w q x.frame origin x.h x.before behind first lays.0 x.along x.split x.own x.quiet.ground
+      x.quiet.transmit lays.1
 
   none_handed : receive.IsPrefixOf [] (delivered w.queue here (first ∷ behind))
   none_handed = (delivered w.queue here (first ∷ behind), refl)
@@ -93,16 +85,7 @@ module _ (w : Watched) (origin : State) (h : List Entry) (q : AtPort) (size fram
   )
 
 pub refused_sends_nothing : RefusedSendsNothing
-refused_sends_nothing w origin h q size frame old a e new left before first behind never x =
-    none_sent w origin h q size frame old a e new left before first behind never x
+refused_sends_nothing = none_sent
 
 pub left_of_refused_is_prefix : LeftOfRefusedIsPrefix
-left_of_refused_is_prefix w origin h q size frame old a e new left before first behind never x =
-    let s = leads_to origin before in (
-      subst (λ (kept : List Kept). receive.IsPrefixOf kept (delivered w.queue s (first ∷ behind))) (sym never.handed)
-          (none_handed w origin h q size frame old a e new left before first behind never x),
-      subst
-          (λ (kept : List Kept).
-          transmit.IsPrefixOf (sent_since w.queue s [] (first ∷ behind)) (bytes_of kept)) (sym never.accepted)
-          (none_accepted w origin h q size frame old a e new left before first behind never x),
-    )
+left_of_refused_is_prefix x = (rw x.never.handed (none_handed x), rw x.never.accepted (none_accepted x))

@@ -1,12 +1,7 @@
 -- No start finds the device at fault as it fills its receive ring, nor before.
-use Rattle.std.proofs.Common.{◌≡◌, ℕ, inl, inr, ◌⊎◌, true, List, refl, sym, subst}
-use Rattle.nic_device.specs.DmaArena.Numbers.{Numbers, is_free, is_own}
-use Rattle.nic_device.specs.State.{State}
-use Rattle.device_lock.specs.declared.alone.Watched.{Watched}
-use Rattle.device_lock.specs.declared.entry.Call.{Call}
-use Rattle.device_lock.specs.declared.entry.Entry.{Entry}
+use Rattle.std.proofs.Common.{◌≡◌, ℕ, inl, inr, ◌⊎◌, true, refl, sym, subst}
+use Rattle.nic_device.specs.DmaArena.Numbers.{is_free, is_own}
 use Rattle.pmd.specs.PmdSeam.declared.fault.PmdFault.TheVariants.{DeviceFault}
-use Rattle.pmd.specs.PmdSeam.Named.{AtPort}
 use Rattle.pmd.proofs.PmdRx.Earlier.{free_before}
 use Rattle.pmd.specs.Apart.{FindsFault, MayLend}
 use Rattle.pmd.specs.Halves.{Halves, Receives}
@@ -24,9 +19,9 @@ use Rattle.pmd_laws.proofs.NoFault.{no_fault_once_on}
 use Rattle.pmd_laws.proofs.PassLends.{others_before}
 use Rattle.pmd_laws.proofs.StartLends.{first_read, none_early}
 
-module _ (w : Watched) (origin : State) (h : List Entry) (q : AtPort) (size frame : ℕ) (old : List Call) (a : Numbers)
-    (new : List Call) (f : FaultsFilling q size frame old a new)
-    (x : BeginsApart w origin h q size frame old a new) where
+module _ (x : BeginsApart) (f : FaultsFilling x.q x.size x.frame x.old x.a x.new) where
+  open x use {w, origin, h, q, size, frame, old, a, new}
+
   abbrev first : Halves
   first = record { receive = f.empty; transmit = f.sender }
 
@@ -63,22 +58,22 @@ module _ (w : Watched) (origin : State) (h : List Entry) (q : AtPort) (size fram
       (subst (FindsFault (is_own a) f.mid first) (sym p.fronts) found)
 
 pub no_filling_finds_fault : NoFillingFindsFault
-no_filling_finds_fault w origin h q size frame old a new f x =
-    refuted w origin h q size frame old a new f x (parts w.pass h new x.more x.made)
+no_filling_finds_fault x f = refuted x f (parts x.w.pass x.h x.new x.more x.made)
 
 -- nor amid its events at all
-module _ (w : Watched) (origin : State) (h : List Entry) (q : AtPort) (size frame : ℕ) (old : List Call) (a : Numbers)
-    (new : List Call) (x : BeginsApart w origin h q size frame old a new) where
+module _ (x : BeginsApart) where
+  open x use {w, origin, h, q, size, frame, old, a, new}
+
   never_early : FaultsEarly q size frame old a new → Parts w.pass h new x.more → ⊥
   never_early early p =
       no_fault_is_early w q origin h size frame old a new x.along
       (λ before c steps apart done rest e all own is. (x.begins before c steps apart done rest e all own is).0) early
-      (none_early w origin h q size frame old a new x early) p.front p.back p.both p.fronts
+      (none_early x early) p.front p.back p.both p.fronts
 
   pub never_at_fault : FaultsEarly q size frame old a new ⊎ FaultsFilling q size frame old a new → ⊥
   never_at_fault (inl early) = never_early early (parts w.pass h new x.more x.made)
-  never_at_fault (inr filling) = no_filling_finds_fault w origin h q size frame old a new filling x
+  never_at_fault (inr filling) = no_filling_finds_fault x filling
 
 pub no_start_finds_fault : NoStartFindsFault
-no_start_finds_fault w origin h q size frame old a new e x stops is =
-    never_at_fault w origin h q size frame old a new x (faults_are_early_or_filling q size frame old a new e stops is)
+no_start_finds_fault x e stops is =
+    never_at_fault x (faults_are_early_or_filling x.q x.size x.frame x.old x.a x.new e stops is)

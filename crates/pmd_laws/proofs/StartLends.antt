@@ -96,8 +96,9 @@ module _ (q : AtPort) (lent : Blocks) (first : List Call) where
       (all_rise q lent (ring_words side ring size) old mid driven made))
       (lends_rise q lent out mid stops.mid each stops.lent)) lends
 
-module _ (w : Watched) (origin : State) (h : List Entry) (q : AtPort) (size frame : ℕ) (old : List Call) (a : Numbers)
-    (new : List Call) (x : BeginsApart w origin h q size frame old a new) where
+module _ (x : BeginsApart) where
+  open x use {w, origin, h, q, size, frame, old, a, new}
+
   abbrev AtFirst : State → Type 0
   AtFirst = IsQuietAndFresh w.queue q frame (is_own a)
 

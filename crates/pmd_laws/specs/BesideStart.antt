@@ -27,8 +27,18 @@ StartAdds =
 -- a legal history that leaves the queue alone as it is told anew, in which a start made these calls, behind others of
 -- its pass or none, and maybe more came behind them. Just before its first access both sides were off, frames were
 -- short and none of its arena's blocks was lent; and nobody else lends any of them, another pass or the author
-pub record BeginsBeside (w : Watched) (origin : State) (h g : List Entry) (q : AtPort) (frame : ℕ) (old : List Call)
-    (a : Numbers) (new ahead : List Call) : Type 0 where
+pub record BeginsBeside : Type 0 where
+  pub w : Watched
+  pub origin : State
+  pub h : List Entry
+  pub g : List Entry
+  pub q : AtPort
+  pub size : ℕ
+  pub frame : ℕ
+  pub old : List Call
+  pub a : Numbers
+  pub new : List Call
+  pub ahead : List Call
   pub retold : IsRetold w origin h g
   pub begins : BeforeNext w origin g ahead (IsQuietAndFresh w.queue q frame (is_own a))
   pub others : OnlyPassLends w.pass (is_own a) g
@@ -39,14 +49,9 @@ pub record BeginsBeside (w : Watched) (origin : State) (h g : List Entry) (q : A
 
 -- no such start ends with the device at fault as it fills its receive ring
 abbrev pub NoFillingFindsFault : Type 0
-NoFillingFindsFault =
-    (w : Watched) (origin : State) (h g : List Entry) (q : AtPort) (size frame : ℕ) (old : List Call) (a : Numbers)
-    (new ahead : List Call) → FaultsFilling q size frame old a new →
-    ¬ BeginsBeside w origin h g q frame old a new ahead
+NoFillingFindsFault = (x : BeginsBeside) → ¬ FaultsFilling x.q x.size x.frame x.old x.a x.new
 
 -- nor does it end so amid its events at all
 abbrev pub NoStartFindsFault : Type 0
 NoStartFindsFault =
-    (w : Watched) (origin : State) (h g : List Entry) (q : AtPort) (size frame : ℕ) (old : List Call) (a : Numbers)
-    (new ahead : List Call) (e : StartRefused) → BeginsBeside w origin h g q frame old a new ahead →
-    StopsStarting q size frame old a new e → e.fault ≢ DeviceFault
+    (x : BeginsBeside) (e : StartRefused) → StopsStarting x.q x.size x.frame x.old x.a x.new e → e.fault ≢ DeviceFault

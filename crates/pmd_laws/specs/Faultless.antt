@@ -86,8 +86,16 @@ IsQuietAndFresh queue q frame own s = IsQuiet queue q frame s × IsFresh queue f
 -- a legal history of a sound device that leaves the queue alone, in which a start made these calls, and maybe more came
 -- behind them. Just before its first access both sides were off, frames were short and none of its arena's blocks was
 -- lent; and no other pass lends any of them
-pub record BeginsApart (w : Watched) (origin : State) (h : List Entry) (q : AtPort) (size frame : ℕ) (old : List Call)
-    (a : Numbers) (new : List Call) : Type 0 where
+pub record BeginsApart : Type 0 where
+  pub w : Watched
+  pub origin : State
+  pub h : List Entry
+  pub q : AtPort
+  pub size : ℕ
+  pub frame : ℕ
+  pub old : List Call
+  pub a : Numbers
+  pub new : List Call
   pub along : IsAlong w origin h
   pub begins : BeforeNext w origin h old (IsQuietAndFresh w.queue q frame (is_own a))
   pub others : OnlyPassLends w.pass (is_own a) h
@@ -96,13 +104,9 @@ pub record BeginsApart (w : Watched) (origin : State) (h : List Entry) (q : AtPo
 
 -- no such start ends with the device at fault as it fills its receive ring
 abbrev pub NoFillingFindsFault : Type 0
-NoFillingFindsFault =
-    (w : Watched) (origin : State) (h : List Entry) (q : AtPort) (size frame : ℕ) (old : List Call) (a : Numbers)
-    (new : List Call) → FaultsFilling q size frame old a new → ¬ BeginsApart w origin h q size frame old a new
+NoFillingFindsFault = (x : BeginsApart) → ¬ FaultsFilling x.q x.size x.frame x.old x.a x.new
 
 -- nor does it end so amid its events at all
 abbrev pub NoStartFindsFault : Type 0
 NoStartFindsFault =
-    (w : Watched) (origin : State) (h : List Entry) (q : AtPort) (size frame : ℕ) (old : List Call) (a : Numbers)
-    (new : List Call) (e : StartRefused) → BeginsApart w origin h q size frame old a new →
-    StopsStarting q size frame old a new e → e.fault ≢ DeviceFault
+    (x : BeginsApart) (e : StartRefused) → StopsStarting x.q x.size x.frame x.old x.a x.new e → e.fault ≢ DeviceFault

@@ -20,23 +20,34 @@ use Rattle.start_laws.specs.TransmitLaws.Sent.{sent_in, sent_since}
 use Rattle.start_laws.specs.Along.{IsAlong}
 use Rattle.start_laws.specs.Quieting.{IsQuiet}
 
--- an entry of a history is a start's first, behind steps of the device: just before it port and queue name the queue,
--- and both sides are off and not wanted on
-pub record BeginsQuiet (w : Watched) (origin : State) (h : List Entry) (q : AtPort) (frame : ℕ) (old : List Call)
-    (before : List Entry) (first : Entry) (behind : List Entry) : Type 0 where
-  pub all : before ++ first ∷ behind ≡ h
+-- a driver's start was refused over a legal history of a sound device that leaves the queue alone, up to some place amid
+-- the start and the stop of what it left, or to where these ended
+pub record Refused : Type 0 where
+  pub w : Watched
+  pub origin : State
+  pub h : List Entry
+  pub q : AtPort
+  pub size : ℕ
+  pub frame : ℕ
+  pub old : List Call
+  pub a : Numbers
+  pub e : StartRefused
+  pub new : List Call
+  pub left : Rest
+  pub never : NeverLived q size frame old a e new left
+  pub along : IsAlong w origin h
+  -- an entry is the start's first, behind steps of the device: just before it port and queue name the queue, and both
+  -- sides are off and not wanted on
+  pub before : List Entry
+  pub first : Entry
+  pub behind : List Entry
+  pub split : before ++ first ∷ behind ≡ h
   pub own : first.pass ≡ w.pass
   pub steps : List Call
   pub stepped : AreSteps steps
-  pub calls : calls_of w.pass before ≡ old ++ steps
+  pub ahead : calls_of w.pass before ≡ old ++ steps
   pub quiet : IsQuiet w.queue q frame (leads_to origin before)
-
--- a legal history of a sound device that leaves the queue alone, up to some place amid a start that was refused and the
--- stop of what it left, or to where these ended: these of its calls were made so far
-pub record IsRefused (w : Watched) (origin : State) (h : List Entry) (q : AtPort) (frame : ℕ) (old new : List Call)
-    (before : List Entry) (first : Entry) (behind : List Entry) : Type 0 where
-  pub along : IsAlong w origin h
-  pub begins : BeginsQuiet w origin h q frame old before first behind
+  -- these of its calls were made so far
   pub since : List Call
   pub rest : List Call
   pub all : new ≡ (old ++ since) ++ rest
@@ -44,19 +55,13 @@ pub record IsRefused (w : Watched) (origin : State) (h : List Entry) (q : AtPort
 
 -- from its start's first event on nothing is sent on the queue
 abbrev pub RefusedSendsNothing : Type 0
-RefusedSendsNothing =
-    (w : Watched) (origin : State) (h : List Entry) (q : AtPort) (size frame : ℕ) (old : List Call) (a : Numbers)
-    (e : StartRefused) (new : List Call) (left : Rest) (before : List Entry) (first : Entry) (behind : List Entry) →
-    NeverLived q size frame old a e new left → IsRefused w origin h q frame old new before first behind →
-    sent_in w.queue (leads_to origin before) (first ∷ behind) ≡ []
+RefusedSendsNothing = (x : Refused) → sent_in x.w.queue (leads_to x.origin x.before) (x.first ∷ x.behind) ≡ []
 
 -- so what is left as handed out is a prefix of what was delivered from there on, counted since the receive side went
 -- on, and what was sent from there on, counted so too, a prefix of what is left as accepted: both lists left are empty
 abbrev pub LeftOfRefusedIsPrefix : Type 0
 LeftOfRefusedIsPrefix =
-    (w : Watched) (origin : State) (h : List Entry) (q : AtPort) (size frame : ℕ) (old : List Call) (a : Numbers)
-    (e : StartRefused) (new : List Call) (left : Rest) (before : List Entry) (first : Entry) (behind : List Entry) →
-    NeverLived q size frame old a e new left → IsRefused w origin h q frame old new before first behind →
-    let s = leads_to origin before in
-    receive.IsPrefixOf (left_handed left) (delivered w.queue s (first ∷ behind))
-    × transmit.IsPrefixOf (sent_since w.queue s [] (first ∷ behind)) (bytes_of (left_accepted left))
+    (x : Refused) →
+    let s = leads_to x.origin x.before in
+    receive.IsPrefixOf (left_handed x.left) (delivered x.w.queue s (x.first ∷ x.behind))
+    × transmit.IsPrefixOf (sent_since x.w.queue s [] (x.first ∷ x.behind)) (bytes_of (left_accepted x.left))

@@ -2,13 +2,13 @@
 use Rattle.std.proofs.Common.{◌≡◌, ℕ, inl, inr, false, List, [], ◌∷◌, ◌++◌, Option, sym, ap, ◌∙◌, subst, append_assoc}
 use Rattle.std.specs.Prelude.{IsTrue, IsFalse}
 use Rattle.std.proofs.lemmas.Bool.{both_ways}
-use Rattle.std.proofs.lemmas.List.{append-nil, append_cancel_left, same_from_push}
+use Rattle.std.proofs.lemmas.List.{append-nil, append_cancel_left}
 use Rattle.nic_device.specs.DmaArena.Numbers.{Numbers}
 use Rattle.nic_device.specs.RegTable.declared.rows.RowId.TheVariants.{Rxdctl}
 use Rattle.nic_device.specs.RegisterFile.Queue.{is_on}
 use Rattle.nic_device.specs.DmaRing.declared.dir.Dir.TheVariants.{Rx, Tx}
 use Rattle.nic_device.specs.State.{State, new_state}
-use Rattle.workers.specs.DeviceLock.History.{call_in, calls_of, leads_to}
+use Rattle.workers.specs.DeviceLock.History.{calls_of, leads_to}
 use Rattle.workers.specs.DeviceLock.declared.alone.Watched.{Watched}
 use Rattle.workers.specs.DeviceLock.declared.entry.Call.{Call}
 use Rattle.workers.specs.DeviceLock.declared.entry.Entry.{Entry}
@@ -42,6 +42,7 @@ use Rattle.pmd_laws.proofs.Ends.{left_handed_over_stop, left_sent_over_stop, sto
 use Rattle.worker_laws.specs.Points.{JustBefore}
 use Rattle.worker_laws.proofs.FirstCalls.{FirstCall, first_read, more_behind, steps_have}
 use Rattle.worker_laws.proofs.Counted.{delivered_from, sent_from}
+use Rattle.worker_laws.proofs.OwnBlocks.{before_first}
 use Rattle.worker_laws.proofs.Early.{GoesOn, drives_goes, filling_goes, goes_on, quieted_goes, rising_goes}
 
 module _ (w : Watched) (fifo : ℕ) (h : List Entry) (q : AtPort) (size frame : ℕ) (old : List Call) (a : Numbers)
@@ -105,21 +106,7 @@ module _ (w : Watched) (fifo : ℕ) (h : List Entry) (q : AtPort) (size frame : 
 
     begins : BeginsWell w origin h q size frame old a lived.lives.made lived.lives.fresh up
     begins = record {
-      ground = λ before behind e all own is.
-          let (calls, call) =
-          same_from_push (calls_of w.pass before) (old ++ first.steps) (call_in e) first.call
-          (is ∙ first.is ∙ sym (append_assoc old first.steps (first.call ∷ []))) in
-          ground (record {
-            before = before;
-            first = e;
-            behind = behind;
-            all = all;
-            own = own;
-            event = ap (λ (c : Call). is_step c.event) call ∙ first.event;
-            steps = first.steps;
-            stepped = first.stepped;
-            calls = calls;
-          });
+      ground = before_first w fifo old h (HasGround w.queue q frame) ground up.receive.quiet.0 first;
     }
 
     abbrev ended : Ended

@@ -19,7 +19,7 @@ use Rattle.pmd_laws.specs.StartLaws.TransmitLaws.Laws as transmit
 use Rattle.pmd_laws.specs.StartLaws.TransmitLaws.Sent.{sent_since}
 use Rattle.pmd_laws.specs.StartLaws.Along.{IsAlong}
 use Rattle.pmd_laws.specs.StartLaws.Quieting.{IsQuiet}
-use Rattle.pmd_laws.specs.Refused.{IsRefused}
+use Rattle.pmd_laws.specs.Refused.{Refused}
 use Rattle.pmd_laws.proofs.Refused.{left_of_refused_is_prefix}
 use Rattle.workers.specs.Starts.{Starts}
 use Rattle.worker_laws.proofs.FirstCalls.{calls_from}
@@ -31,17 +31,30 @@ module _ (w : Watched) (fifo : ℕ) (h : List Entry) (q : AtPort) (size frame : 
   abbrev since : List Call
   since = x.steps ++ call_in x.first ∷ calls_of w.pass x.behind
 
-  refused : IsRefused w (new_state w.vfs fifo) h q frame old new x.before x.first x.behind
+  abbrev refused : Refused
   refused = record {
+    w = w;
+    origin = new_state w.vfs fifo;
+    h = h;
+    q = q;
+    size = size;
+    frame = frame;
+    old = old;
+    a = a;
+    e = e;
+    new = new;
+    left = left;
+    never = never;
     along = along;
-    begins = record {
-      all = x.all;
-      own = x.own;
-      steps = x.steps;
-      stepped = x.stepped;
-      calls = x.calls;
-      quiet = quiet;
-    };
+    before = x.before;
+    first = x.first;
+    behind = x.behind;
+    split = x.all;
+    own = x.own;
+    steps = x.steps;
+    stepped = x.stepped;
+    ahead = x.calls;
+    quiet = quiet;
     since = since;
     rest = [];
     all = sym made ∙ calls_from w.pass old h x ∙ sym (append-nil (old ++ since));
@@ -53,6 +66,4 @@ module _ (w : Watched) (fifo : ℕ) (h : List Entry) (q : AtPort) (size frame : 
       × transmit.IsPrefixOf
       (sent_since w.queue (leads_to (new_state w.vfs fifo) x.before) [] (x.first ∷ x.behind))
       (bytes_of (left_accepted left))
-  nothing_left =
-      left_of_refused_is_prefix w (new_state w.vfs fifo) h q size frame old a e new left x.before x.first x.behind never
-      refused
+  nothing_left = left_of_refused_is_prefix refused

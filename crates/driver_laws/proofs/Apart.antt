@@ -2,18 +2,12 @@
 use Rattle.std.proofs.Common.{◌≡◌, ◌≢◌, ℕ, Bool, true, false, not, refl, sym, ap}
 use Rattle.std.specs.Prelude.{◌==◌, IsTrue}
 use Rattle.std.proofs.lemmas.Bool.{eqb-false, ne_eqb}
-use Rattle.nic_device.specs.DmaArena.Block.{Block}
-use Rattle.nic_device.specs.DmaArena.Memory.{has_block}
-use Rattle.nic_device.specs.State.{State}
-use Rattle.nic_device.specs.Step.{reply_to}
-use Rattle.nic_device.specs.declared.event.Event.{Event}
+use Rattle.driver_laws.specs.Prelude.{Block, has_block, State, reply_to, Event, Reply, Blocks, Receive, Sender, Move, has_lent}
 use Rattle.nic_device.specs.declared.event.Event.TheVariants as event
-use Rattle.nic_device.specs.declared.event.Reply.{Reply}
 use Rattle.nic_device.specs.declared.event.Reply.TheVariants as reply
-use Rattle.device_lock.specs.Alone.{Blocks}
 use Rattle.pmd.specs.PmdRx.Receive as receiving
-use Rattle.pmd.specs.PmdRx.Receive.{Receive, drive}
-use Rattle.pmd.specs.PmdTx.Sending.{Sender, Move, IsOwn, has_lent, moved}
+use Rattle.pmd.specs.PmdRx.Receive.{drive}
+use Rattle.pmd.specs.PmdTx.Sending.{IsOwn, moved}
 use Rattle.receive_laws.specs.Steps.{Each}
 use Rattle.receive_laws.proofs.Each.{each_map}
 use Rattle.receive_laws.proofs.Mine.{LendsMine, mine_driven}

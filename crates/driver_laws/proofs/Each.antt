@@ -1,6 +1,6 @@
 -- Facts of each block that a driver has lent for receiving, together.
 use Rattle.std.proofs.Common.{ℕ}
-use Rattle.pmd.specs.PmdRx.Receive.{Receive}
+use Rattle.driver_laws.specs.Prelude.{Receive}
 use Rattle.pmd.specs.PmdRx.declared.ring.Stage.{Stage}
 use Rattle.pmd.specs.PmdRx.declared.ring.Stage.TheVariants.{Looks, Takes, Owes, Lent}
 use Rattle.receive_laws.specs.Steps.{Each, IfFresh}

@@ -1,12 +1,10 @@
 -- What was delivered up to an earlier place, where nothing was handed out since.
 use Rattle.std.proofs.Common.{◌≡◌, List, [], ◌++◌, sym, ap, ◌∙◌, subst}
-use Rattle.nic_device.specs.State.{State}
-use Rattle.device_lock.specs.History.{calls_of, leads_to}
+use Rattle.driver_laws.specs.Prelude.{State, calls_of, leads_to, delivered, Piece, played_by}
 use Rattle.pmd.specs.PmdSeam.Packet.{Kept}
 use Rattle.receive_laws.proofs.Delivering.{between, grows, pieces-append}
-use Rattle.receive_laws.specs.Delivered.{IsPrefixOf, delivered, pieces_in}
-use Rattle.receive_laws.specs.Pieces.{Piece, packets_of}
-use Rattle.pmd.specs.Halves.{played_by}
+use Rattle.receive_laws.specs.Delivered.{IsPrefixOf, pieces_in}
+use Rattle.receive_laws.specs.Pieces.{packets_of}
 use Rattle.driver_laws.specs.Histories.{NoneIsAllBefore}
 use Rattle.driver_laws.proofs.InOrder.{delivered_is, handed_is_prefix, none_is_all}
 

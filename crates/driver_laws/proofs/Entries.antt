@@ -2,33 +2,21 @@
 use Rattle.std.proofs.Common.{◌≡◌, ◌≢◌, ℕ, true, false, List, [], ◌++◌, refl, sym, ◌∙◌, subst}
 use Rattle.std.specs.Prelude.{IsTrue}
 use Rattle.std.proofs.lemmas.List.{append-nil}
-use Rattle.nic_device.specs.DmaArena.Block.{Block}
-use Rattle.nic_device.specs.DmaArena.Memory.{has_block}
-use Rattle.nic_device.specs.RegisterFile.Pools.{mode_in}
-use Rattle.nic_device.specs.Sound.{IsEvent}
-use Rattle.nic_device.specs.State.{State}
-use Rattle.nic_device.specs.Step.{after, reply_to}
-use Rattle.nic_device.specs.declared.event.Event.{Event}
+use Rattle.driver_laws.specs.Prelude.{Block, has_block, mode_in, IsEvent, State, after, reply_to, Event, Blocks, LeavesRegisters, LeavesBlocks, WritesOutside, call_of, Watched, Move, Accepts, Lends, Asks, Advances, Reaps, Elsewhere, has_lent, Piece, pieces, sent_by, Halves, Doer, Receives, Sends, OwnCall, after_call, is_neither}
 use Rattle.nic_device.specs.declared.event.Event.TheVariants as event
 use Rattle.nic_device.proofs.Steps.{step_leads, keeps_sound}
-use Rattle.device_lock.specs.Alone.{Blocks, LeavesRegisters, LeavesBlocks, WritesOutside}
-use Rattle.device_lock.specs.Pass.{call_of}
-use Rattle.device_lock.specs.declared.alone.Watched.{Watched}
 use Rattle.pmd.specs.PmdRx.Receive as receiving
 use Rattle.pmd.specs.PmdRx.Receive.{drive}
 use Rattle.pmd.specs.PmdTx.Sending as sending
-use Rattle.pmd.specs.PmdTx.Sending.{Move, Accepts, Lends, Asks, Advances, Looks, Reaps, Elsewhere, has_lent, moved}
+use Rattle.pmd.specs.PmdTx.Sending.{Looks, moved}
 use Rattle.receive_laws.specs.Joint.{Agree}
-use Rattle.receive_laws.specs.Pieces.{Piece, pieces}
 use Rattle.receive_laws.proofs.Leaving.{leaving_keeps}
 use Rattle.receive_laws.proofs.Mine.{LendsMine, mine_driven}
 use Rattle.receive_laws.proofs.Own.{own_keeps}
-use Rattle.transmit_laws.specs.Sent.{sent_by}
 use Rattle.transmit_laws.specs.Turns.{MayMove}
 use Rattle.transmit_laws.proofs.Mine.{mine-moved}
 use Rattle.transmit_laws.proofs.Playing.{moves_keep}
 use Rattle.transmit_laws.proofs.Sparing.{sparing_events_keep}
-use Rattle.pmd.specs.Halves.{Halves, Doer, Receives, Sends, OwnCall, after_call, is_neither}
 use Rattle.driver_laws.proofs.Apart.{receives_apart, sends_apart, lends_one}
 use Rattle.driver_laws.proofs.Each.{each_all}
 use Rattle.driver_laws.proofs.Lending.{receive_lent}

@@ -3,16 +3,9 @@ use Rattle.std.proofs.Common.{◌≡◌, List, [], ◌∷◌, ◌++◌, refl, sy
 use Rattle.std.proofs.lemmas.Bool.{both_ways}
 use Rattle.std.proofs.lemmas.List.{append_cancel_left, map-append}
 use Rattle.std.proofs.lemmas.List.Elements.{filter-append}
-use Rattle.nic_device.specs.State.{State}
-use Rattle.device_lock.specs.Alone.{Blocks}
-use Rattle.device_lock.specs.History.{calls_of}
-use Rattle.device_lock.specs.Pass.{call_of}
-use Rattle.device_lock.specs.declared.alone.Watched.{Watched}
-use Rattle.device_lock.specs.declared.entry.Call.{Call}
-use Rattle.device_lock.specs.declared.entry.Entry.{Entry}
-use Rattle.pmd.specs.PmdSeam.Made.{AreSteps}
-use Rattle.pmd.specs.Apart.{LendsApart, AllLendApart, FindsFault, is_healthy}
-use Rattle.pmd.specs.Halves.{Halves, Doer, AllOwn, after_call, doers_other, played_by}
+use Rattle.driver_laws.specs.Prelude.{State, Blocks, calls_of, call_of, Watched, Call, Entry, AreSteps, AllLendApart, FindsFault, Halves, Doer, AllOwn, after_call, played_by}
+use Rattle.pmd.specs.Apart.{LendsApart, is_healthy}
+use Rattle.pmd.specs.Halves.{doers_other}
 use Rattle.pmd.proofs.Apart.{both_apart, step_apart}
 use Rattle.driver_laws.specs.Faults.{NoFault, doers_of}
 use Rattle.driver_laws.specs.Healthy.{IsHealthy, AreHealthy, IsUnshared}

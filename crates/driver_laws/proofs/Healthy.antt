@@ -2,27 +2,15 @@
 use Rattle.std.proofs.Common.{◌≡◌, ℕ, ◌*◌, Bool, true, false, List, [], ◌∷◌, ◌++◌, refl, sym, ◌∙◌, subst, arith}
 use Rattle.std.specs.Prelude.{◌==◌, IsTrue}
 use Rattle.std.proofs.lemmas.Bool.{or_left, or_right}
-use Rattle.nic_device.specs.RegisterFile.Pools.{mode_in}
-use Rattle.nic_device.specs.Sound.{IsEvent}
-use Rattle.nic_device.specs.State.{State}
-use Rattle.nic_device.specs.Step.{after, reply_to}
-use Rattle.device_lock.specs.Alone.{Blocks, LeavesRegisters, lent_by}
-use Rattle.device_lock.specs.History.{IsLegal, AreEvents, call_in, calls_of, leads_to}
-use Rattle.device_lock.specs.Pass.{call_of}
-use Rattle.device_lock.specs.declared.alone.Watched.{Watched}
-use Rattle.device_lock.specs.declared.entry.Entry.{Entry}
+use Rattle.driver_laws.specs.Prelude.{mode_in, IsEvent, State, after, reply_to, Blocks, LeavesRegisters, lent_by, IsLegal, AreEvents, call_in, calls_of, leads_to, call_of, Watched, Entry, OnlyLent, Piece, pieces, sent_by, AllLendApart, Halves, Doer, OwnCall, AllOwn, after_call, is_neither}
 use Rattle.receive_laws.specs.HistoryLaws.Alone.{AllAlone}
-use Rattle.receive_laws.specs.HistoryLaws.Lent.{OnlyLent}
 use Rattle.receive_laws.proofs.HistoryLaws.Alone.{alone_by_entries}
 use Rattle.receive_laws.proofs.HistoryLaws.Sound.{histories_sound}
 use Rattle.receive_laws.specs.Fitting.{AreFitting}
-use Rattle.receive_laws.specs.Pieces.{Piece, pieces}
 use Rattle.receive_laws.specs.Up.{IsUp}
 use Rattle.device_lock.proofs.Histories.{events_before, events_behind, legal_behind}
 use Rattle.receive_laws.proofs.Delivering.{lent_behind, vfs_stays}
-use Rattle.transmit_laws.specs.Sent.{sent_by}
-use Rattle.pmd.specs.Apart.{LendsApart, AllLendApart}
-use Rattle.pmd.specs.Halves.{Halves, Doer, OwnCall, AllOwn, after_call, is_neither}
+use Rattle.pmd.specs.Apart.{LendsApart}
 use Rattle.driver_laws.specs.Histories.{OthersLeaveAlone, doer_of, doers_after}
 use Rattle.driver_laws.proofs.Meeting.{Meets}
 use Rattle.driver_laws.proofs.Next.{next_by}

@@ -2,13 +2,9 @@
 use Rattle.std.proofs.Common.{◌≡◌, ◌≢◌, ℕ, Bool, true, false, List, [], ◌∷◌, refl, subst}
 use Rattle.std.specs.Prelude.{◌==◌}
 use Rattle.std.proofs.lemmas.Bool.{eqb-false}
-use Rattle.device_lock.specs.Alone.{Blocks}
-use Rattle.device_lock.specs.History.{call_in, calls_of}
-use Rattle.device_lock.specs.declared.entry.Call.{Call}
-use Rattle.device_lock.specs.declared.entry.Entry.{Entry}
+use Rattle.driver_laws.specs.Prelude.{Blocks, call_in, calls_of, Call, Entry, AllLendApart, Halves, Doer, AllOwn, after_call}
 use Rattle.receive_laws.specs.HistoryLaws.Lent.{LendsNone}
-use Rattle.pmd.specs.Apart.{LendsApart, AllLendApart}
-use Rattle.pmd.specs.Halves.{Halves, Doer, AllOwn, after_call}
+use Rattle.pmd.specs.Apart.{LendsApart}
 use Rattle.driver_laws.specs.Histories.{doer_of, doers_after}
 use Rattle.driver_laws.proofs.HealthyStepping.{none_apart}
 

@@ -1,23 +1,13 @@
 -- One call of a driver: its reply is healthy, and what that rests on holds behind it.
 use Rattle.std.proofs.Common.{◌≡◌, ℕ, inl, inr, true, false, List, refl}
 use Rattle.std.proofs.lemmas.Bool.{or_cases, or_left, or_right}
-use Rattle.nic_device.specs.DmaArena.Block.{Block}
-use Rattle.nic_device.specs.DmaArena.Memory.{Memory}
-use Rattle.nic_device.specs.RegisterFile.Pools.{mode_in}
-use Rattle.nic_device.specs.Sound.{IsEvent}
-use Rattle.nic_device.specs.State.{State}
-use Rattle.nic_device.specs.Step.{after, reply_to}
-use Rattle.nic_device.specs.declared.event.Event.{Event}
+use Rattle.driver_laws.specs.Prelude.{Block, Memory, mode_in, IsEvent, State, after, reply_to, Event, Blocks, LeavesRegisters, call_of, Watched, WritesNoSetting, Move, Accepts, Lends, Asks, Advances, Reaps, Elsewhere, OnlyLent, Piece, Halves, Doer, Receives, Sends, OwnCall, after_call, is_neither}
 use Rattle.nic_device.specs.declared.event.Event.TheVariants as event
-use Rattle.device_lock.specs.Alone.{Blocks, LeavesRegisters}
-use Rattle.device_lock.specs.Pass.{call_of}
-use Rattle.device_lock.specs.declared.alone.Watched.{Watched}
-use Rattle.receive_laws.specs.DeviceLaws.Laws.{WritesNoSetting}
 use Rattle.pmd.specs.PmdTx.Sending as sending
-use Rattle.pmd.specs.PmdTx.Sending.{Move, Accepts, Lends, Asks, Advances, Looks, Reaps, Elsewhere}
-use Rattle.receive_laws.specs.HistoryLaws.Lent.{OnlyLent, LendsNone, LendsOwn, either}
+use Rattle.pmd.specs.PmdTx.Sending.{Looks}
+use Rattle.receive_laws.specs.HistoryLaws.Lent.{LendsNone, LendsOwn, either}
 use Rattle.pmd.specs.PmdRx.Keeping as received
-use Rattle.receive_laws.specs.Pieces.{Piece, AllFit}
+use Rattle.receive_laws.specs.Pieces.{AllFit}
 use Rattle.receive_laws.proofs.Healthy as receive
 use Rattle.receive_laws.proofs.Lent as receive_lent
 use Rattle.transmit_laws.specs.Healthy.{LendsAnew}
@@ -27,7 +17,6 @@ use Rattle.transmit_laws.proofs.Healthy as transmit
 use Rattle.receive_laws.proofs.HistoryLaws.Leaving.{left-setting}
 use Rattle.transmit_laws.proofs.Lent as transmit_lent
 use Rattle.pmd.specs.Apart.{LendsApart}
-use Rattle.pmd.specs.Halves.{Halves, Doer, Receives, Sends, OwnCall, after_call, is_neither}
 use Rattle.driver_laws.proofs.Meeting.{Meets}
 use Rattle.driver_laws.proofs.Receiving.{own_spares}
 use Rattle.driver_laws.proofs.Sending.{is_elsewhere, sender_lent}

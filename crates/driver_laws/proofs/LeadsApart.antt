@@ -2,15 +2,11 @@
 -- calls do.
 use Rattle.std.proofs.Common.{List, [], ◌∷◌, subst}
 use Rattle.std.specs.Prelude.{IsTrue}
-use Rattle.nic_device.specs.DmaArena.Block.{Block}
-use Rattle.nic_device.specs.declared.event.Event.{Event}
+use Rattle.driver_laws.specs.Prelude.{Block, Event, Blocks, Call, AllLendApart, Halves, Sends, Elsewhere}
 use Rattle.nic_device.specs.declared.event.Event.TheVariants as event
-use Rattle.device_lock.specs.Alone.{Blocks}
-use Rattle.device_lock.specs.declared.entry.Call.{Call}
-use Rattle.pmd.specs.Apart.{AllLendApart, DrivesApart, LendsApart}
-use Rattle.pmd.specs.Halves.{Halves, Sends, doers_other}
+use Rattle.pmd.specs.Apart.{DrivesApart, LendsApart}
+use Rattle.pmd.specs.Halves.{doers_other}
 use Rattle.pmd.proofs.Apart.{both_apart}
-use Rattle.pmd.specs.PmdTx.Sending.{Elsewhere}
 use Rattle.driver_laws.specs.Beside.{AddsHarmless, AreHarmless, Leads, is_harmless}
 use Rattle.driver_laws.proofs.Beside.{drives_lead, harmless_lead, leads_on}
 

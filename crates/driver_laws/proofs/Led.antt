@@ -2,20 +2,10 @@
 use Rattle.std.proofs.Common.{◌≡◌, ℕ, List, [], ◌∷◌, ◌++◌, Some, sym, ap, ◌∙◌, subst, cond, append_assoc, inl}
 use Rattle.std.proofs.lemmas.List.{append-nil}
 use Rattle.nic_device.specs.RegisterFile.Queue.{is_on}
-use Rattle.nic_device.specs.DmaRing.declared.dir.Dir.TheVariants.{Rx, Tx}
-use Rattle.nic_device.specs.State.{State}
-use Rattle.nic_device.specs.Step.{after}
-use Rattle.device_lock.specs.Alone.{Blocks}
-use Rattle.device_lock.specs.History.{leads_to}
-use Rattle.device_lock.specs.declared.alone.Watched.{Watched}
-use Rattle.device_lock.specs.declared.entry.Entry.{Entry}
-use Rattle.receive_laws.specs.Delivered.{pieces_in, pieces_since}
-use Rattle.receive_laws.specs.Pieces.{Piece, pieces}
+use Rattle.driver_laws.specs.Prelude.{Rx, Tx, State, after, Blocks, leads_to, Watched, Entry, pieces_since, Piece, pieces, sent_by, sent_in, sent_since, IsUp, Halves}
+use Rattle.receive_laws.specs.Delivered.{pieces_in}
 use Rattle.receive_laws.specs.Up as received
-use Rattle.transmit_laws.specs.Sent.{sent_by, sent_in, sent_since}
-use Rattle.transmit_laws.specs.Up.{IsUp}
 use Rattle.receive_laws.proofs.HistoryLaws.Steady.{not_again}
-use Rattle.pmd.specs.Halves.{Halves}
 use Rattle.driver_laws.specs.Agreeing.{AreLent, BothAgree}
 
 -- the device agrees with both halves there, which have lent these blocks; and a side that was up is so

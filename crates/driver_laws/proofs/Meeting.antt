@@ -1,23 +1,13 @@
 -- What holds between two entries of a history, and that an event which is neither half's and leaves the queue alone
 -- keeps it.
 use Rattle.std.proofs.Common.{◌≡◌, ℕ, List, ◌++◌}
-use Rattle.nic_device.specs.DmaArena.Block.{Block}
-use Rattle.nic_device.specs.RegisterFile.Pools.{mode_in}
-use Rattle.nic_device.specs.Sound.{IsEvent, IsSound}
-use Rattle.nic_device.specs.State.{State}
-use Rattle.nic_device.specs.Step.{after, reply_to}
-use Rattle.nic_device.specs.declared.event.Event.{Event}
+use Rattle.driver_laws.specs.Prelude.{Block, mode_in, IsEvent, IsSound, State, after, reply_to, Event, Blocks, LeavesRegisters, LeavesBlocks, WritesOutside, Watched, Piece, pieces, sent_by, Halves}
 use Rattle.nic_device.specs.declared.event.Event.TheVariants as event
-use Rattle.device_lock.specs.Alone.{Blocks, LeavesRegisters, LeavesBlocks, WritesOutside}
-use Rattle.device_lock.specs.declared.alone.Watched.{Watched}
 use Rattle.receive_laws.specs.HistoryLaws.Left.{IsLeft}
-use Rattle.receive_laws.specs.Pieces.{Piece, pieces}
 use Rattle.receive_laws.proofs.Foreign.{left_keeps}
-use Rattle.transmit_laws.specs.Sent.{sent_by}
 use Rattle.transmit_laws.specs.Sparing.{Spares}
 use Rattle.transmit_laws.proofs.LeftBlocks.{left_alone_is_spared}
 use Rattle.transmit_laws.proofs.Sparing.{sparing_events_keep}
-use Rattle.pmd.specs.Halves.{Halves}
 use Rattle.driver_laws.specs.Agreeing.{AreLent, BothAgree}
 use Rattle.driver_laws.proofs.Stepping.{received_spares, reports_spare}
 

@@ -2,18 +2,11 @@
 use Rattle.std.proofs.Common.{◌≡◌, ℕ, Bool, true, false, ◌&&◌, List, [], ◌∷◌, refl, sym, ap, subst, nat_lt}
 use Rattle.std.specs.Prelude.{◌==◌, IsTrue}
 use Rattle.std.proofs.lemmas.Bool.{and_from, eq-eqb, lt-ltb}
-use Rattle.nic_device.specs.DmaArena.Block.{Block}
-use Rattle.nic_device.specs.Sound.{IsEvent}
-use Rattle.nic_device.specs.declared.event.Event.{Event}
+use Rattle.driver_laws.specs.Prelude.{Block, IsEvent, Event, Reply, Blocks, call_in, calls_of, Call, Entry, Halves, Doer, OwnCall, AllOwn, after_call, played_by}
 use Rattle.nic_device.specs.declared.event.Event.TheVariants as event
-use Rattle.nic_device.specs.declared.event.Reply.{Reply}
 use Rattle.nic_device.specs.declared.event.Reply.TheVariants as reply
-use Rattle.device_lock.specs.Alone.{Blocks, lends}
-use Rattle.device_lock.specs.History.{call_in, calls_of}
-use Rattle.device_lock.specs.declared.entry.Call.{Call}
-use Rattle.device_lock.specs.declared.entry.Entry.{Entry}
+use Rattle.device_lock.specs.Alone.{lends}
 use Rattle.receive_laws.proofs.Mine.{LendsMine}
-use Rattle.pmd.specs.Halves.{Halves, Doer, OwnCall, AllOwn, after_call, played_by}
 use Rattle.driver_laws.specs.Histories.{doer_of, doers_after}
 
 -- what the pass lends is among these blocks

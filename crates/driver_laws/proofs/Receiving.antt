@@ -2,29 +2,18 @@
 use Rattle.std.proofs.Common.{◌≡◌, ◌≢◌, ℕ, ◌+◌, ◌*◌, ◌/◌, true, List, length, refl, sym, ap, ◌∙◌, subst, arith}
 use Rattle.std.specs.FinMap as map
 use Rattle.std.specs.Prelude.{IsTrue}
-use Rattle.nic_device.specs.DmaArena.Block.{Block}
-use Rattle.nic_device.specs.DmaArena.Memory.{Avoids, has_block}
+use Rattle.driver_laws.specs.Prelude.{Block, has_block, place, named, IsEvent, State, after, Event, Port, Register, WritesNoSetting, Receive, Sender, has_lent, Piece}
+use Rattle.nic_device.specs.DmaArena.Memory.{Avoids}
 use Rattle.nic_device.proofs.DmaArena.Inside.{inside_avoids}
 use Rattle.nic_device.specs.DmaRing.Driver.{posted}
 use Rattle.nic_device.proofs.DmaRing.Fields.{halves_come_back}
 use Rattle.nic_device.specs.RegTable.declared.rows.RowId.TheVariants.{Rdt}
-use Rattle.nic_device.specs.RegisterFile.Columns.{place}
-use Rattle.nic_device.specs.Named.{named}
-use Rattle.nic_device.specs.Sound.{IsEvent}
-use Rattle.nic_device.specs.State.{State}
-use Rattle.nic_device.specs.Step.{after}
-use Rattle.nic_device.specs.declared.event.Event.{Event}
 use Rattle.nic_device.specs.declared.event.Event.TheVariants as event
-use Rattle.nic_device.specs.declared.event.Port.{Port}
-use Rattle.nic_device.specs.declared.named.Named.TheVariants.{Register}
-use Rattle.receive_laws.specs.DeviceLaws.Laws.{WritesNoSetting}
 use Rattle.receive_laws.specs.DeviceLaws.Leaving.{LeavesBlock, LeavesTransmit}
 use Rattle.receive_laws.proofs.DeviceLaws.Standing.{memory_blocks, memory_rest, stays_within}
 use Rattle.receive_laws.proofs.DeviceLaws.StandingAccesses.{write_memory, write_rest}
-use Rattle.pmd.specs.PmdRx.Receive.{Receive, IsOwn, TakesNext, NamesNext, MovesNext, fresh_of, reach, slot_at, vacant}
-use Rattle.pmd.specs.PmdTx.Sending.{Sender, has_lent}
+use Rattle.pmd.specs.PmdRx.Receive.{IsOwn, TakesNext, NamesNext, MovesNext, fresh_of, reach, slot_at, vacant}
 use Rattle.receive_laws.specs.Joint.{IsNamed, Holds}
-use Rattle.receive_laws.specs.Pieces.{Piece}
 use Rattle.receive_laws.specs.Steps.{Each}
 use Rattle.pmd.proofs.PmdSeam.Rings.{slot_block, slot_lies}
 use Rattle.receive_laws.proofs.Each.{each_posted}

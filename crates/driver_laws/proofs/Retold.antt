@@ -1,16 +1,9 @@
 -- What of a history doesn't look at its tags.
 use Rattle.std.proofs.Common.{◌≡◌, ℕ, Bool, true, false, Option, None, List, [], ◌∷◌, map, refl, sym, ap, ◌∙◌, subst}
-use Rattle.nic_device.specs.DmaArena.Block.{Block}
-use Rattle.nic_device.specs.Sound.{IsEvent}
-use Rattle.nic_device.specs.State.{State}
-use Rattle.nic_device.specs.Step.{after, step_of}
-use Rattle.nic_device.specs.declared.event.Event.{Event}
-use Rattle.device_lock.specs.History.{AreEvents, IsLegal, call_in, leads_to}
-use Rattle.device_lock.specs.declared.entry.Call.{Call}
-use Rattle.device_lock.specs.declared.entry.Entry.{Entry}
-use Rattle.receive_laws.specs.Delivered.{gathered, packets_if_any, pieces_since}
-use Rattle.receive_laws.specs.Pieces.{Piece, pieces}
-use Rattle.transmit_laws.specs.Sent.{counted_by, sent_since}
+use Rattle.driver_laws.specs.Prelude.{Block, IsEvent, State, after, Event, AreEvents, IsLegal, call_in, leads_to, Call, Entry, pieces_since, Piece, pieces, sent_since}
+use Rattle.nic_device.specs.Step.{step_of}
+use Rattle.receive_laws.specs.Delivered.{gathered, packets_if_any}
+use Rattle.transmit_laws.specs.Sent.{counted_by}
 use Rattle.driver_laws.specs.Retold.{AreSame, RetoldIsSame, SameDelivers, SameIsLegal, SameLeads, SameSends, retold, told_as}
 
 -- an entry is the same call, whoever made it

@@ -3,22 +3,11 @@ use Rattle.std.proofs.Common.{◌≡◌, ℕ, Bool, true, false, List, [], ◌�
 use Rattle.std.specs.Prelude.{◌==◌, IsTrue}
 use Rattle.std.proofs.lemmas.Bool.{eqb-true, eqb-false, or_left, or_right}
 use Rattle.nic_device.specs.VfMap.declared.mode.Mode.{Mode}
-use Rattle.nic_device.specs.RegisterFile.Pools.{mode_in}
-use Rattle.nic_device.specs.Sound.{IsEvent}
-use Rattle.nic_device.specs.State.{State}
-use Rattle.nic_device.specs.Step.{after, reply_to}
-use Rattle.device_lock.specs.Alone.{Blocks, EntryLeavesAlone, LeavesRegisters, LeavesBlocks, WritesOutside, lent_by, lent_in}
-use Rattle.device_lock.specs.History.{IsLegal, AreEvents, call_in, calls_of}
-use Rattle.device_lock.specs.Pass.{call_of}
-use Rattle.device_lock.specs.declared.alone.Watched.{Watched}
-use Rattle.device_lock.specs.declared.entry.Entry.{Entry}
+use Rattle.driver_laws.specs.Prelude.{mode_in, IsEvent, State, after, reply_to, Blocks, LeavesRegisters, LeavesBlocks, WritesOutside, lent_by, IsLegal, AreEvents, call_in, calls_of, call_of, Watched, Entry, Piece, pieces, sent_by, IsUp, Halves, Doer, OwnCall, AllOwn, after_call, is_neither, played_by}
+use Rattle.device_lock.specs.Alone.{EntryLeavesAlone, lent_in}
 use Rattle.receive_laws.specs.HistoryLaws.Alone.{AllAlone}
-use Rattle.receive_laws.specs.Pieces.{Piece, pieces}
 use Rattle.receive_laws.specs.Up as received
 use Rattle.receive_laws.proofs.Mine.{LendsMine}
-use Rattle.transmit_laws.specs.Sent.{sent_by}
-use Rattle.transmit_laws.specs.Up.{IsUp}
-use Rattle.pmd.specs.Halves.{Halves, Doer, OwnCall, AllOwn, after_call, is_neither, played_by}
 use Rattle.driver_laws.specs.Histories.{OthersLeaveAlone, doer_of, doers_after}
 use Rattle.driver_laws.proofs.Entries.{doer_keeps, goes_on}
 use Rattle.driver_laws.proofs.Led.{Led, ended, led_on}

@@ -1,24 +1,11 @@
 -- Where a side of the driver's queue is up it stays so over one entry of a history that leaves the queue alone.
 use Rattle.std.proofs.Common.{◌≡◌, ℕ, true, List, refl}
 use Rattle.std.specs.Prelude.{IsTrue}
-use Rattle.nic_device.specs.DmaArena.Block.{Block}
-use Rattle.nic_device.specs.DmaArena.Memory.{has_block}
-use Rattle.nic_device.specs.RegisterFile.Pools.{mode_in}
-use Rattle.nic_device.specs.Sound.{IsEvent}
-use Rattle.nic_device.specs.State.{State}
-use Rattle.nic_device.specs.Step.{after, reply_to}
-use Rattle.nic_device.specs.declared.event.Event.{Event}
-use Rattle.device_lock.specs.Alone.{Blocks, LeavesRegisters, LeavesBlocks, WritesOutside}
-use Rattle.device_lock.specs.Pass.{call_of}
-use Rattle.device_lock.specs.declared.alone.Watched.{Watched}
-use Rattle.pmd.specs.PmdTx.Sending.{Move, Elsewhere, has_lent}
-use Rattle.receive_laws.specs.Pieces.{Piece}
+use Rattle.driver_laws.specs.Prelude.{Block, has_block, mode_in, IsEvent, State, after, reply_to, Event, Blocks, LeavesRegisters, LeavesBlocks, WritesOutside, call_of, Watched, Move, Elsewhere, has_lent, Piece, IsUp, Halves, Doer, Receives, Sends, OwnCall, is_neither}
 use Rattle.receive_laws.specs.Up as received
 use Rattle.receive_laws.proofs.Up.{alone_stays_up, left_up, own_stays_up}
 use Rattle.transmit_laws.specs.Turns.{MayMove}
-use Rattle.transmit_laws.specs.Up.{IsUp}
 use Rattle.transmit_laws.proofs.Up.{up_stays}
-use Rattle.pmd.specs.Halves.{Halves, Doer, Receives, Sends, OwnCall, is_neither}
 use Rattle.driver_laws.proofs.Entries.{may_move}
 use Rattle.driver_laws.proofs.Meeting.{Meets, spared_by}
 use Rattle.driver_laws.proofs.Receiving.{own_spares}

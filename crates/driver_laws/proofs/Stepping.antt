@@ -3,31 +3,23 @@
 use Rattle.std.proofs.Common.{cond, ◌≡◌, ◌≢◌, ℕ, ◌+◌, ◌*◌, ◌/◌, ◌^◌, Bool, true, false, inl, inr, List, refl, sym, ap, ◌∙◌, subst, arith, Option, Some, None}
 use Rattle.std.specs.Prelude.{IsTrue}
 use Rattle.std.proofs.lemmas.Bool.{cases_eq}
-use Rattle.nic_device.specs.DmaArena.Block.{Block}
+use Rattle.driver_laws.specs.Prelude.{Block, has_bit, Tx, IsSound, State, after, reply_to, Reply, Blocks, WritesOutside, Receive, Sender, has_lent, Piece}
 use Rattle.nic_device.proofs.DmaArena.Inside.{inside_avoids}
 use Rattle.nic_device.specs.DmaRing.Ring.{descriptor_address}
 use Rattle.nic_device.specs.RegTable.declared.rows.RowId.TheVariants.{Tdwbal, Tdwbah}
-use Rattle.nic_device.specs.RegisterFile.Bits.{has_bit}
 use Rattle.nic_device.specs.RegisterFile.Queue.{ring_of}
 use Rattle.nic_device.specs.RegisterFile.Registers.{word_of}
-use Rattle.nic_device.specs.DmaRing.declared.dir.Dir.TheVariants.{Tx}
-use Rattle.nic_device.specs.Sound.{IsSound}
-use Rattle.nic_device.specs.State.{State}
-use Rattle.nic_device.specs.Step.{after, reply_to}
 use Rattle.nic_device.specs.declared.event.Event.TheVariants as event
-use Rattle.nic_device.specs.declared.event.Reply.{Reply}
 use Rattle.nic_device.specs.declared.event.Reply.TheVariants.{Wrote}
 use Rattle.receive_laws.specs.DeviceLaws.Replies.{report_of}
 use Rattle.receive_laws.proofs.DeviceLaws.RepliesSent.{transmitting_tells}
 use Rattle.receive_laws.proofs.DeviceLaws.StandingQueues.{receiving_rest}
-use Rattle.device_lock.specs.Alone.{Blocks, WritesOutside}
-use Rattle.pmd.specs.PmdRx.Receive.{Receive, block_at}
-use Rattle.pmd.specs.PmdTx.Sending.{Sender, has_lent, descriptor_at, slot_at}
+use Rattle.pmd.specs.PmdRx.Receive.{block_at}
+use Rattle.pmd.specs.PmdTx.Sending.{descriptor_at, slot_at}
 use Rattle.receive_laws.proofs.HistoryLaws.Reported.{reported}
 use Rattle.receive_laws.proofs.HistoryLaws.Blocks.{clear_outside}
 use Rattle.receive_laws.proofs.HistoryLaws.Spared.{IsSparedBy, spared_block}
 use Rattle.receive_laws.specs.Joint.{Agree}
-use Rattle.receive_laws.specs.Pieces.{Piece}
 use Rattle.receive_laws.specs.Steps.{Each, IsOutside, OwnReportsSpare}
 use Rattle.receive_laws.proofs.Each.{each_map, each_posted}
 use Rattle.receive_laws.proofs.Inside.{piece_inside}

@@ -4,12 +4,9 @@ use Rattle.std.specs.Prelude.{◌==◌, Result, All, filter, option_map}
 use Rattle.std.proofs.lemmas.Bool.{cond_both, cases_Bool, and_parts, both_ways}
 use Rattle.std.proofs.lemmas.List.{length-append, nil_from_length}
 use Rattle.std.proofs.lemmas.List.Elements.{All-head, All-filter}
-use Rattle.nic_device.specs.DmaArena.Block.{Block}
-use Rattle.nic_device.specs.DmaRing.declared.dir.Dir.TheVariants.{Rx, Tx}
-use Rattle.nic_device.specs.RegTable.Rows.{row_of}
+use Rattle.driver_laws.specs.Prelude.{Block, Rx, Tx, row_of, asks_pool_reset, mode_in, named, IsSound, State, after, Event, Port, Register, AreEvents, leads_to, Entry, pieces_since, Piece, pieces}
 use Rattle.nic_device.specs.VfMap.Owner.{has_queue}
-use Rattle.nic_device.specs.RegisterFile.Access.{asks_pool_reset, asks_reset}
-use Rattle.nic_device.specs.RegisterFile.Pools.{mode_in}
+use Rattle.nic_device.specs.RegisterFile.Access.{asks_reset}
 use Rattle.nic_device.specs.RegisterFile.Queue.{is_on}
 use Rattle.nic_device.specs.RegisterFile.Registers.{is_wanted}
 use Rattle.nic_device.specs.RegisterFile.Settings.{can_receive, frame_limit}
@@ -19,27 +16,22 @@ use Rattle.nic_device.specs.RxFilter.declared.unwanted.Unwanted.{Unwanted}
 use Rattle.nic_device.specs.RxRing.declared.filled.Filled.{Filled}
 use Rattle.nic_device.specs.Access.{named_written}
 use Rattle.nic_device.specs.Arrival.{let_in, sorted_in}
-use Rattle.nic_device.specs.Named.{named}
 use Rattle.nic_device.specs.Outcome.{Outcome}
 use Rattle.nic_device.specs.Receive as receive
-use Rattle.nic_device.specs.Sound.{IsSound, AreWaiting, IsUnbegun}
-use Rattle.nic_device.specs.State.{State, Waiting}
-use Rattle.nic_device.specs.Step.{step_of, after}
+use Rattle.nic_device.specs.Sound.{AreWaiting, IsUnbegun}
+use Rattle.nic_device.specs.State.{Waiting}
+use Rattle.nic_device.specs.Step.{step_of}
 use Rattle.nic_device.specs.Switching.{without_part}
-use Rattle.nic_device.specs.declared.event.Event.{Event}
 use Rattle.nic_device.specs.declared.event.Event.TheVariants as event
-use Rattle.nic_device.specs.declared.event.Port.{Port}
 use Rattle.nic_device.specs.declared.named.Named.{Named}
-use Rattle.nic_device.specs.declared.named.Named.TheVariants.{Nothing, Register}
+use Rattle.nic_device.specs.declared.named.Named.TheVariants.{Nothing}
 use Rattle.nic_device.proofs.Cases.{either_way, switched_cases}
 use Rattle.nic_device.proofs.QueueCases.{received_cases}
 use Rattle.nic_device.proofs.Steps.{keeps_sound}
-use Rattle.device_lock.specs.History.{AreEvents, leads_to}
-use Rattle.device_lock.specs.declared.entry.Entry.{Entry}
 use Rattle.receive_laws.specs.HistoryLaws.Left.{Deed, Took, Rested}
-use Rattle.receive_laws.specs.Delivered.{gathered, goes_on, pieces_since}
+use Rattle.receive_laws.specs.Delivered.{gathered, goes_on}
 use Rattle.receive_laws.specs.Fitting.{begun_on}
-use Rattle.receive_laws.specs.Pieces.{Piece, pieces, pieces_told}
+use Rattle.receive_laws.specs.Pieces.{pieces_told}
 use Rattle.receive_laws.proofs.DeviceLaws.Resetting.{is_reset}
 use Rattle.receive_laws.proofs.DeviceLaws.Standing.{stays_within}
 use Rattle.receive_laws.proofs.DeviceLaws.StandingAccesses.{read_rest}

@@ -1,12 +1,9 @@
 -- Before a look that finds a packet waiting not all that the driver accepted was sent.
 use Rattle.std.proofs.Common.{◌++◌, subst}
-use Rattle.nic_device.specs.State.{State}
-use Rattle.device_lock.specs.History.{calls_of, leads_to}
+use Rattle.driver_laws.specs.Prelude.{State, calls_of, leads_to, sent_in, Halves, played_by}
 use Rattle.device_lock.proofs.Histories.{leads-append}
 use Rattle.transmit_laws.specs.Laws.{FindsWaiting}
-use Rattle.transmit_laws.specs.Sent.{sent_in}
 use Rattle.transmit_laws.proofs.Runs.{sent_in-append, waiting-left}
-use Rattle.pmd.specs.Halves.{Halves, played_by}
 use Rattle.driver_laws.specs.Waiting.{WaitingIsNotAll}
 use Rattle.driver_laws.proofs.InOrder.{led}
 

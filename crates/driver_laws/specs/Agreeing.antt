@@ -1,13 +1,9 @@
 -- What a device and both halves of a driver agree on.
 use Rattle.std.specs.Prelude.{ℕ, ◌≢◌, IsTrue, List}
-use Rattle.device_lock.specs.Alone.{Blocks}
-use Rattle.nic_device.specs.State.{State}
-use Rattle.pmd.specs.PmdTx.Sending.{has_lent}
+use Rattle.driver_laws.specs.Prelude.{Blocks, State, has_lent, Piece, Halves}
 use Rattle.receive_laws.specs.Joint.{Agree}
-use Rattle.receive_laws.specs.Pieces.{Piece}
 use Rattle.receive_laws.specs.Steps.{Each}
 use Rattle.transmit_laws.specs.Agreeing.{Agrees}
-use Rattle.pmd.specs.Halves.{Halves}
 
 -- no block is lent by both halves
 abbrev pub AreApart : Halves → Type 0

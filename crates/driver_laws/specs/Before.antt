@@ -1,14 +1,8 @@
 -- Entries ahead of the place where the device agrees with both halves, as those of a driver's start.
 use Rattle.std.specs.Prelude.{ℕ, ◌≢◌, ◌*◌, ◌≤◌, List, [], ◌∷◌, All, ⊤}
 use Rattle.nic_device.specs.RegisterFile.Settings.{frame_limit}
-use Rattle.nic_device.specs.State.{State}
-use Rattle.nic_device.specs.Step.{after}
-use Rattle.receive_laws.specs.DeviceLaws.Laws.{WritesNoSetting}
-use Rattle.device_lock.specs.Alone.{Blocks, lent_by}
-use Rattle.device_lock.specs.History.{IsLegal, AreEvents, leads_to}
-use Rattle.device_lock.specs.declared.entry.Entry.{Entry}
-use Rattle.receive_laws.specs.HistoryLaws.Lent.{OnlyLent, LendsNone, either}
-use Rattle.receive_laws.specs.Fitting.{FitsBlocks}
+use Rattle.driver_laws.specs.Prelude.{State, after, WritesNoSetting, Blocks, lent_by, IsLegal, AreEvents, leads_to, Entry, OnlyLent, FitsBlocks}
+use Rattle.receive_laws.specs.HistoryLaws.Lent.{LendsNone, either}
 
 -- the frames that wait for a queue fit so many blocks, and longer ones aren't let in
 pub record AreShort (queue most : ℕ) (s : State) : Type 0 where

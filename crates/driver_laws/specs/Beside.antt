@@ -1,24 +1,15 @@
 -- What the driver's pass may make beside the calls of the driver's halves: events that leave every queue alone.
 use Rattle.std.specs.Prelude.{ℕ, ◌≡◌, Bool, true, false, not, ◌&&◌, ⊤, IsTrue, List, [], ◌∷◌, ◌++◌, Option, Some, None}
-use Rattle.nic_device.specs.DmaArena.Block.{Block}
+use Rattle.driver_laws.specs.Prelude.{Block, row_of, asks_pool_reset, State, Event, Reply, Blocks, calls_of, Watched, Call, Entry, Adds, AllOwn, Doer, Halves, is_neither, played_by}
 use Rattle.nic_device.specs.RegTable.Place.{place_among}
-use Rattle.nic_device.specs.RegTable.Rows.{row_of}
 use Rattle.nic_device.specs.RegTable.Runs.{runs}
 use Rattle.nic_device.specs.RegTable.declared.place.Place.{Place}
-use Rattle.nic_device.specs.RegisterFile.Access.{asks_pool_reset}
 use Rattle.nic_device.specs.VfMap.Owner.{is_receive, is_transmit}
-use Rattle.nic_device.specs.State.{State}
-use Rattle.nic_device.specs.declared.event.Event.{Event}
 use Rattle.nic_device.specs.declared.event.Event.TheVariants as event
 use Rattle.nic_device.specs.declared.event.Port.TheVariants.{Pf, Vf}
-use Rattle.nic_device.specs.declared.event.Reply.{Reply}
-use Rattle.device_lock.specs.Alone.{Blocks, is_setting}
-use Rattle.device_lock.specs.History.{calls_of}
-use Rattle.device_lock.specs.declared.alone.Watched.{Watched}
-use Rattle.device_lock.specs.declared.entry.Call.{Call}
-use Rattle.device_lock.specs.declared.entry.Entry.{Entry}
-use Rattle.pmd.specs.PmdSeam.Made.{Adds, AddsSome}
-use Rattle.pmd.specs.Halves.{AllOwn, Doer, Drives, Halves, is_neither, played_by}
+use Rattle.device_lock.specs.Alone.{is_setting}
+use Rattle.pmd.specs.PmdSeam.Made.{AddsSome}
+use Rattle.pmd.specs.Halves.{Drives}
 use Rattle.driver_laws.specs.Histories.{OthersLeaveAlone}
 
 -- whether no queue rests on a register, whichever queue, where this word is written to it: it is no setting and of

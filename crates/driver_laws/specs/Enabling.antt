@@ -1,19 +1,8 @@
 -- Words that are written to the enable registers of a driver's queue.
 use Rattle.std.specs.Prelude.{ℕ, ◌≡◌, true, List, [], ⊤}
-use Rattle.nic_device.specs.RegisterFile.Bits.{has_bit}
-use Rattle.nic_device.specs.RegisterFile.Columns.{place}
+use Rattle.driver_laws.specs.Prelude.{has_bit, place, Dir, Rx, Tx, named, IsEvent, State, after, Port, Register, Piece, Halves}
 use Rattle.nic_device.specs.RegisterFile.Queue.{enable_row}
-use Rattle.nic_device.specs.DmaRing.declared.dir.Dir.{Dir}
-use Rattle.nic_device.specs.DmaRing.declared.dir.Dir.TheVariants.{Rx, Tx}
-use Rattle.nic_device.specs.Named.{named}
-use Rattle.nic_device.specs.Sound.{IsEvent}
-use Rattle.nic_device.specs.State.{State}
-use Rattle.nic_device.specs.Step.{after}
 use Rattle.nic_device.specs.declared.event.Event.TheVariants as event
-use Rattle.nic_device.specs.declared.event.Port.{Port}
-use Rattle.nic_device.specs.declared.named.Named.TheVariants.{Register}
-use Rattle.receive_laws.specs.Pieces.{Piece}
-use Rattle.pmd.specs.Halves.{Halves}
 use Rattle.driver_laws.specs.Agreeing.{BothAgree}
 
 -- nothing is outstanding where a word asks for the transmit side to be on. Of the receive side nothing is asked

@@ -1,13 +1,7 @@
 -- A driver's call that ends with the device at fault.
 use Rattle.std.specs.Prelude.{◌≡◌, List, [], ◌∷◌, ◌++◌}
-use Rattle.nic_device.specs.State.{State}
-use Rattle.device_lock.specs.Alone.{Blocks}
-use Rattle.device_lock.specs.History.{calls_of}
-use Rattle.device_lock.specs.declared.alone.Watched.{Watched}
-use Rattle.device_lock.specs.declared.entry.Call.{Call}
-use Rattle.device_lock.specs.declared.entry.Entry.{Entry}
-use Rattle.pmd.specs.Apart.{AllLendApart, FindsFault}
-use Rattle.pmd.specs.Halves.{Halves, Doer, AllOwn, doers_other, played_by}
+use Rattle.driver_laws.specs.Prelude.{State, Blocks, calls_of, Watched, Call, Entry, AllLendApart, FindsFault, Halves, Doer, AllOwn, played_by}
+use Rattle.pmd.specs.Halves.{doers_other}
 use Rattle.driver_laws.specs.Healthy.{IsUnshared}
 
 -- whose the calls are that such a call makes: some of the halves, then some of neither, and last the one that got a

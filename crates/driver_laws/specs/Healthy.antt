@@ -1,16 +1,10 @@
 -- The replies to a driver's calls, over a history that leaves its queue alone: those of a healthy queue.
 use Rattle.std.specs.Prelude.{IsTrue, List, [], ◌∷◌, ⊤}
-use Rattle.nic_device.specs.State.{State}
-use Rattle.device_lock.specs.Alone.{Blocks}
-use Rattle.device_lock.specs.History.{calls_of, leads_to}
-use Rattle.device_lock.specs.declared.alone.Watched.{Watched}
-use Rattle.device_lock.specs.declared.entry.Call.{Call}
-use Rattle.device_lock.specs.declared.entry.Entry.{Entry}
+use Rattle.driver_laws.specs.Prelude.{State, Blocks, calls_of, leads_to, Watched, Call, Entry, OnlyLent, AllLendApart, Halves, Doer, after_call}
 use Rattle.pmd.specs.PmdRx.Keeping as received
 use Rattle.pmd.specs.PmdTx.Sending as sending
-use Rattle.receive_laws.specs.HistoryLaws.Lent.{OnlyLent, either}
-use Rattle.pmd.specs.Apart.{AllLendApart, is_healthy}
-use Rattle.pmd.specs.Halves.{Halves, Doer, after_call}
+use Rattle.receive_laws.specs.HistoryLaws.Lent.{either}
+use Rattle.pmd.specs.Apart.{is_healthy}
 use Rattle.driver_laws.specs.Histories.{IsDriven}
 use Rattle.driver_laws.specs.Before.{AreShort, OnlyPassLends}
 

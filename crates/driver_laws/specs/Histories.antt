@@ -1,26 +1,13 @@
 -- What a driver hands out and what it sends, over histories that leave its queue alone.
 use Rattle.std.specs.Prelude.{◌≡◌, ◌==◌, Bool, true, false, List, [], ◌∷◌, ◌++◌, Some, None, ⊤, IsTrue}
-use Rattle.nic_device.specs.RegisterFile.Pools.{mode_in}
-use Rattle.nic_device.specs.Sound.{IsSound}
-use Rattle.nic_device.specs.State.{State}
-use Rattle.nic_device.specs.Step.{after}
-use Rattle.device_lock.specs.Alone.{Blocks, LeavesRegisters, LeavesBlocks, has_begun, lent_by}
-use Rattle.device_lock.specs.History.{IsLegal, AreEvents, calls_of, leads_to}
-use Rattle.device_lock.specs.declared.alone.Watched.{Watched}
-use Rattle.device_lock.specs.declared.entry.Entry.{Entry}
+use Rattle.driver_laws.specs.Prelude.{mode_in, IsSound, State, after, Blocks, LeavesRegisters, LeavesBlocks, lent_by, IsLegal, AreEvents, calls_of, leads_to, Watched, Entry, Elsewhere, delivered, pieces_since, LeavesAloneFrom, bytes_of, sent_in, sent_since, IsUp, Halves, Doer, Sends, AllOwn, is_neither, played_by}
+use Rattle.device_lock.specs.Alone.{has_begun}
 use Rattle.pmd.specs.PmdRx.Receive.{records_of}
-use Rattle.pmd.specs.PmdTx.Sending.{Elsewhere}
 use Rattle.receive_laws.specs.Delivered as receive
-use Rattle.receive_laws.specs.Delivered.{delivered, pieces_since}
-use Rattle.receive_laws.specs.HistoryLaws.Alone.{LeavesAloneFrom}
 use Rattle.receive_laws.specs.Histories.{FindsNone, ShowsNone}
 use Rattle.receive_laws.specs.Up as receiving
-use Rattle.transmit_laws.specs.Agreeing.{bytes_of}
 use Rattle.transmit_laws.specs.Laws as transmit
-use Rattle.transmit_laws.specs.Sent.{sent_in, sent_since}
-use Rattle.transmit_laws.specs.Up.{IsUp}
 use Rattle.driver_laws.specs.Agreeing.{AreLent, BothAgree}
-use Rattle.pmd.specs.Halves.{Halves, Doer, Sends, AllOwn, is_neither, played_by}
 
 -- whose an entry is, of the driver's pass or of another, and the doers that are left after it: the entries of the pass
 -- are theirs in turn, and those of other passes neither half's

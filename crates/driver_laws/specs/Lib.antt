@@ -5,5 +5,6 @@ pub mod Enabling
 pub mod Faults
 pub mod Healthy
 pub mod Histories
+pub mod Prelude
 pub mod Retold
 pub mod Waiting

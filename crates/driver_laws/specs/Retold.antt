@@ -1,10 +1,6 @@
 -- A history told anew: the same calls in the same order, some of them with another pass's tag.
 use Rattle.std.specs.Prelude.{ℕ, ◌≡◌, Bool, true, false, List, [], ◌∷◌, map}
-use Rattle.nic_device.specs.State.{State}
-use Rattle.device_lock.specs.History.{AreEvents, IsLegal, call_in, leads_to}
-use Rattle.device_lock.specs.declared.entry.Entry.{Entry}
-use Rattle.receive_laws.specs.Delivered.{delivered}
-use Rattle.transmit_laws.specs.Sent.{sent_since}
+use Rattle.driver_laws.specs.Prelude.{State, AreEvents, IsLegal, call_in, leads_to, Entry, delivered, sent_since}
 
 -- two histories are of the same calls, in the same order, whoever made them
 abbrev pub AreSame : List Entry → List Entry → Type 0

@@ -3,30 +3,15 @@ use Rattle.std.proofs.Common.{◌≡◌, ℕ, false, List, [], ◌∷◌, ◌++�
 use Rattle.std.specs.Prelude.{IsFalse}
 use Rattle.std.proofs.lemmas.Bool.{both_ways}
 use Rattle.std.proofs.lemmas.List.{append-nil}
-use Rattle.nic_device.specs.DmaArena.Block.{Block}
-use Rattle.nic_device.specs.RegisterFile.Bits.{has_bit}
-use Rattle.nic_device.specs.RegisterFile.Pools.{mode_in}
+use Rattle.driver_laws.specs.Prelude.{Block, has_bit, mode_in, Dir, Rx, Tx, IsEvent, State, after, reply_to, Event, Blocks, WritesOutside, Watched, Call, Entry, AtPort, Piece, pieces, sent_by, sent_since, Halves}
+use Rattle.pmd_laws.specs.Prelude.{IsAsking, HasGround}
 use Rattle.nic_device.specs.RegisterFile.Queue.{enable_row}
-use Rattle.nic_device.specs.DmaRing.declared.dir.Dir.{Dir}
-use Rattle.nic_device.specs.DmaRing.declared.dir.Dir.TheVariants.{Rx, Tx}
-use Rattle.nic_device.specs.Sound.{IsEvent}
-use Rattle.nic_device.specs.State.{State}
-use Rattle.nic_device.specs.Step.{after, reply_to}
-use Rattle.nic_device.specs.declared.event.Event.{Event}
 use Rattle.nic_device.specs.declared.event.Event.TheVariants as event
-use Rattle.device_lock.specs.Alone.{Blocks, WritesOutside}
-use Rattle.device_lock.specs.declared.alone.Watched.{Watched}
-use Rattle.device_lock.specs.declared.entry.Call.{Call}
-use Rattle.device_lock.specs.declared.entry.Entry.{Entry}
-use Rattle.pmd.specs.PmdSeam.Named.{AtPort, IsNumberOf}
-use Rattle.start_laws.specs.ReceiveLaws.Pieces.{Piece, pieces}
+use Rattle.pmd.specs.PmdSeam.Named.{IsNumberOf}
 use Rattle.start_laws.proofs.ReceiveLaws.Clear.{no_registers}
 use Rattle.start_laws.proofs.ReceiveLaws.Delivering.{vfs_stays}
-use Rattle.start_laws.specs.TransmitLaws.Sent.{sent_by, sent_since}
 use Rattle.start_laws.proofs.TransmitLaws.Counting.{sent_is_counted}
-use Rattle.start_laws.specs.Ending.{IsAsking}
 use Rattle.start_laws.specs.Moves.{IsMet}
-use Rattle.start_laws.specs.Points.{HasGround}
 use Rattle.start_laws.specs.Standing.{IsLeft}
 use Rattle.start_laws.proofs.DrivenRows.{side_driven}
 use Rattle.start_laws.proofs.Ending.{free_left}
@@ -34,7 +19,6 @@ use Rattle.start_laws.proofs.Ground.{ground_kept, write_ground}
 use Rattle.start_laws.proofs.Numbers.{ground_names}
 use Rattle.start_laws.proofs.Reached.{KeptOver, LeadsOver, reached, reached_next}
 use Rattle.start_laws.proofs.Settled.{IsSettled, Settles, left_settles, word_settles}
-use Rattle.pmd.specs.Halves.{Halves}
 use Rattle.driver_laws.specs.Agreeing.{AreLent, BothAgree}
 use Rattle.driver_laws.specs.Enabling.{MayAsk}
 use Rattle.driver_laws.proofs.Enabling.{enable_words_keep}

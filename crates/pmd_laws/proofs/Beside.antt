@@ -1,28 +1,15 @@
 -- A driver beside any calls of its author's is told by its own calls alone, over the history as it is told anew.
 use Rattle.std.proofs.Common.{◌≡◌, Bool, inl, inr, List, [], ◌∷◌, ◌++◌, length, map, refl, sym, ap, ◌∙◌, subst, arith}
 use Rattle.std.proofs.lemmas.List.{append-nil, append_cancel_left, map-append}
-use Rattle.nic_device.specs.State.{State}
-use Rattle.device_lock.specs.History.{call_in, calls_of, leads_to}
-use Rattle.device_lock.specs.declared.alone.Watched.{Watched}
-use Rattle.device_lock.specs.declared.entry.Call.{Call}
-use Rattle.device_lock.specs.declared.entry.Entry.{Entry}
+use Rattle.driver_laws.specs.Prelude.{State, call_in, calls_of, leads_to, Watched, Call, Entry, WhereUp, accepted_of, handed_of, halves_of, Running, Rings, Up, Down, delivered, bytes_of, sent_since}
+use Rattle.pmd_laws.specs.Prelude.{BeforeLast, IsAlong, HasGround}
 use Rattle.device_lock.proofs.Histories.{events-append, leads-append, legal-append}
 use Rattle.pmd.specs.Apart.{DrivesRings}
-use Rattle.pmd.specs.Driver.{WhereUp, accepted_of, handed_of}
-use Rattle.pmd.specs.Halves.{halves_of}
-use Rattle.pmd.specs.Running.{Running}
-use Rattle.pmd.specs.declared.driver.Rings.{Rings}
-use Rattle.pmd.specs.declared.driver.Rings.TheVariants.{Up, Down}
 use Rattle.pmd.specs.PmdSeam.Begun.{LeadsTo, entries_in, marked_entries}
 use Rattle.pmd.specs.PmdSeam.Scheduled.{own_calls}
 use Rattle.start_laws.proofs.Parts.{calls_joined}
-use Rattle.start_laws.specs.Along.{BeforeLast, IsAlong}
-use Rattle.start_laws.specs.Points.{HasGround}
 use Rattle.start_laws.specs.ReceiveLaws.Delivered as receive
-use Rattle.start_laws.specs.ReceiveLaws.Delivered.{delivered}
-use Rattle.start_laws.specs.TransmitLaws.Agreeing.{bytes_of}
 use Rattle.start_laws.specs.TransmitLaws.Laws as transmit
-use Rattle.start_laws.specs.TransmitLaws.Sent.{sent_since}
 use Rattle.driver_laws.specs.Retold.{AreSame}
 use Rattle.driver_laws.proofs.Retold.{events_same, legal_same, same_delivers, same_sends}
 use Rattle.pmd_laws.specs.Beside as beside

@@ -2,22 +2,13 @@
 use Rattle.std.proofs.Common.{◌≡◌, ℕ, List, [], ◌++◌, refl, sym, ap, ◌∙◌, subst, append_assoc, if◌then◌else◌}
 use Rattle.std.specs.Prelude.{IsTrue}
 use Rattle.std.proofs.lemmas.List.{append-nil, append_cancel_left}
-use Rattle.nic_device.specs.DmaArena.Memory.{Memory, has_block}
-use Rattle.nic_device.specs.DmaArena.Numbers.{is_free, is_own}
+use Rattle.driver_laws.specs.Prelude.{Memory, has_block, is_free, is_own, State, Blocks, Call, WhereUp, halted_of, Halves, halves_of, Rings, Up, Down, Adds, DeviceFault}
+use Rattle.pmd_laws.specs.Prelude.{BeforeLast}
 use Rattle.nic_device.specs.DmaArena.Whereabouts.{places_of}
-use Rattle.nic_device.specs.State.{State}
-use Rattle.device_lock.specs.Alone.{Blocks}
-use Rattle.device_lock.specs.declared.entry.Call.{Call}
 use Rattle.pmd.specs.Apart.{FindsBy}
 use Rattle.pmd.specs.Apart as apart
 use Rattle.pmd.specs.Blocks.{HasAll}
-use Rattle.pmd.specs.Driver.{WhereUp, arena_of, halted_of}
-use Rattle.pmd.specs.Halves.{Halves, halves_of}
-use Rattle.pmd.specs.declared.driver.Rings.{Rings}
-use Rattle.pmd.specs.declared.driver.Rings.TheVariants.{Up, Down}
-use Rattle.pmd.specs.PmdSeam.Made.{Adds}
-use Rattle.pmd.specs.PmdSeam.declared.fault.PmdFault.TheVariants.{DeviceFault}
-use Rattle.start_laws.specs.Along.{BeforeLast}
+use Rattle.pmd.specs.Driver.{arena_of}
 use Rattle.driver_laws.proofs.Retold.{same_leads}
 use Rattle.pmd_laws.specs.Beside.{Beside, IsToldBeside, by_own, now}
 use Rattle.pmd_laws.specs.BesideApart as beside

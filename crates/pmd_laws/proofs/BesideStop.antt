@@ -1,23 +1,12 @@
 -- What a driver beside any calls of its author's handed out and sent, over the calls of its stop.
 use Rattle.std.proofs.Common.{◌≡◌, false, inl, inr, List, [], ◌++◌, refl, sym, ap, ◌∙◌}
 use Rattle.std.proofs.lemmas.List.{append_cancel_left}
-use Rattle.nic_device.specs.DmaArena.Block.{Block}
-use Rattle.nic_device.specs.declared.event.Event.{Event}
-use Rattle.device_lock.specs.History.{calls_of}
-use Rattle.device_lock.specs.declared.entry.Call.{Call}
-use Rattle.device_lock.specs.declared.entry.Entry.{Entry}
-use Rattle.pmd.specs.Driver.{accepted_of, handed_of}
-use Rattle.pmd.specs.Halves.{halves_of}
-use Rattle.pmd.specs.PmdSeam.Both.{IsSwitched}
-use Rattle.pmd.specs.PmdSeam.Named.{AtPort}
-use Rattle.start_laws.specs.Ending.{IsAsking, IsEnding}
+use Rattle.driver_laws.specs.Prelude.{Block, Event, calls_of, Call, Entry, accepted_of, handed_of, halves_of, IsSwitched, AtPort, delivered, bytes_of, sent_since}
+use Rattle.pmd_laws.specs.Prelude.{IsAsking, IsEnding, AreMadeOf, Ends, EndsOnceOff, TakesOnceOff}
 use Rattle.start_laws.specs.ReceiveLaws.Delivered as receive
-use Rattle.start_laws.specs.ReceiveLaws.Delivered.{delivered}
 use Rattle.start_laws.specs.Silent.{IsSilent}
-use Rattle.start_laws.specs.Stopping.{AreMadeOf, Asks, Ends, EndsOnceOff, TakesOnceOff}
-use Rattle.start_laws.specs.TransmitLaws.Agreeing.{bytes_of}
+use Rattle.start_laws.specs.Stopping.{Asks}
 use Rattle.start_laws.specs.TransmitLaws.Laws as transmit
-use Rattle.start_laws.specs.TransmitLaws.Sent.{sent_since}
 use Rattle.driver_laws.specs.Retold.{AreSame}
 use Rattle.driver_laws.proofs.Retold.{same_delivers, same_sends}
 use Rattle.pmd_laws.specs.Beside.{Beside, now}

@@ -1,12 +1,9 @@
 -- What a driver has of an arena's blocks, over its calls.
 use Rattle.std.proofs.Common.{◌≡◌, ℕ, List, [], ◌++◌, append_assoc, subst, arith}
-use Rattle.nic_device.specs.DmaArena.Numbers.{Numbers}
-use Rattle.nic_device.specs.DmaArena.Whereabouts.{times_in_hand}
+use Rattle.driver_laws.specs.Prelude.{Numbers, times_in_hand, Halted, halted_of, Rings}
 use Rattle.pmd.proofs.PmdSeam.Outside.{times-append}
-use Rattle.pmd.specs.Halted.{Halted, all_out}
+use Rattle.pmd.specs.Halted.{all_out}
 use Rattle.pmd.specs.Blocks.{HasAll, KeepsBlocks, KeepsEach}
-use Rattle.pmd.specs.Driver.{halted_of}
-use Rattle.pmd.specs.declared.driver.Rings.{Rings}
 use Rattle.pmd.proofs.Whole.{keeps_beside, keeps_counted, keeps_then}
 use Rattle.pmd_laws.specs.Places.{BooksGoOn}
 

@@ -1,16 +1,9 @@
 -- A call of a driver beside any calls of its author's, where it looks in vain, and where it ends with a packet
 -- outstanding.
 use Rattle.std.proofs.Common.{◌≡◌, ◌≢◌, List, [], ◌++◌, refl, sym, ap, ◌∙◌, subst}
-use Rattle.device_lock.specs.History.{calls_of}
-use Rattle.device_lock.specs.declared.entry.Call.{Call}
-use Rattle.device_lock.specs.declared.entry.Entry.{Entry}
-use Rattle.pmd.specs.Driver.{accepted_of, handed_of}
-use Rattle.pmd.specs.declared.driver.Rings.{Rings}
+use Rattle.driver_laws.specs.Prelude.{calls_of, Call, Entry, accepted_of, handed_of, Rings, delivered, bytes_of, sent_since}
 use Rattle.pmd.specs.PmdRx.Plays as receiving
 use Rattle.pmd.specs.PmdTx.Plays.{LooksLast}
-use Rattle.start_laws.specs.ReceiveLaws.Delivered.{delivered}
-use Rattle.start_laws.specs.TransmitLaws.Agreeing.{bytes_of}
-use Rattle.start_laws.specs.TransmitLaws.Sent.{sent_since}
 use Rattle.driver_laws.specs.Beside.{AddsHarmless}
 use Rattle.driver_laws.specs.Retold.{AreSame}
 use Rattle.driver_laws.proofs.Retold.{same_delivers, same_sends}

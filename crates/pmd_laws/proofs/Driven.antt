@@ -1,23 +1,10 @@
 -- From the place on where both sides of a driver's queue are on, a history drives its halves.
 use Rattle.std.proofs.Common.{ℕ, List, [], ◌++◌, sym, ◌∙◌, subst}
-use Rattle.nic_device.specs.DmaArena.Numbers.{Numbers}
-use Rattle.nic_device.specs.State.{State}
-use Rattle.device_lock.specs.Alone.{lent_by}
-use Rattle.device_lock.specs.History.{IsLegal, AreEvents, leads_to}
-use Rattle.device_lock.specs.declared.alone.Watched.{Watched}
-use Rattle.device_lock.specs.declared.entry.Call.{Call}
-use Rattle.device_lock.specs.declared.entry.Entry.{Entry}
-use Rattle.pmd.specs.Halves.{AllOwn, Doer, Halves}
-use Rattle.pmd.specs.PmdSeam.Named.{AtPort}
+use Rattle.driver_laws.specs.Prelude.{Numbers, State, lent_by, IsLegal, AreEvents, leads_to, Watched, Call, Entry, AllOwn, Doer, Halves, AtPort, Receive, Sender, LeavesAloneFrom}
+use Rattle.pmd_laws.specs.Prelude.{BeforeLast, IsAlong, AreOn, HasGround}
 use Rattle.pmd.specs.PmdSeam.Slots.{EachRingBlock}
-use Rattle.pmd.specs.PmdRx.Receive.{Receive}
-use Rattle.pmd.specs.PmdTx.Sending.{Sender}
-use Rattle.start_laws.specs.HistoryLaws.Alone.{LeavesAloneFrom}
 use Rattle.start_laws.specs.ReceiveLaws.Joint.{Agree}
 use Rattle.start_laws.specs.TransmitLaws.Agreeing.{Agrees}
-use Rattle.start_laws.specs.Along.{BeforeLast, IsAlong}
-use Rattle.start_laws.specs.On.{AreOn}
-use Rattle.start_laws.specs.Points.{HasGround}
 use Rattle.start_laws.specs.Unused.{WentOn}
 use Rattle.start_laws.proofs.Lent.{IsLentBy}
 use Rattle.start_laws.proofs.On.{on_some, other_lent, ring_lent, switched_sides_agree, switched_sides_go_on}

@@ -1,11 +1,8 @@
 -- A life within a longer history: at a place where only harmless calls came behind it, and at a later one.
 use Rattle.std.proofs.Common.{◌≡◌, List, ◌++◌, refl, sym, ap, ◌∙◌, append_assoc}
 use Rattle.std.proofs.lemmas.List.{append_cancel_left}
-use Rattle.device_lock.specs.History.{calls_of}
-use Rattle.device_lock.specs.declared.entry.Call.{Call}
-use Rattle.device_lock.specs.declared.entry.Entry.{Entry}
+use Rattle.driver_laws.specs.Prelude.{calls_of, Call, Entry, Halves, halves_of}
 use Rattle.start_laws.proofs.Parts.{Parts, calls_joined}
-use Rattle.pmd.specs.Halves.{Halves, halves_of}
 use Rattle.driver_laws.specs.Beside.{AddsHarmless, Leads}
 use Rattle.driver_laws.proofs.Beside.{harmless_lead, leads_on}
 use Rattle.pmd_laws.specs.Life.{Life}

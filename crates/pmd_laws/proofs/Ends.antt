@@ -1,18 +1,10 @@
 -- What a driver that lived, and was stopped, handed out and sent.
 use Rattle.std.proofs.Common.{List, ◌++◌, Option, Some, None, refl}
-use Rattle.device_lock.specs.declared.entry.Call.{Call}
-use Rattle.pmd.specs.Halves.{halves_of}
+use Rattle.driver_laws.specs.Prelude.{Call, halves_of, halted_of, Up, Rest, PmdFault, Halted, AtPort}
+use Rattle.pmd_laws.specs.Prelude.{IsEnding, Ends, TakesOnceOff}
 use Rattle.driver_laws.proofs.Beside.{drives_lead}
-use Rattle.pmd.specs.Driver.{halted_of}
 use Rattle.pmd.specs.Life.{IsStopped}
-use Rattle.pmd.specs.declared.driver.Rings.TheVariants.{Up}
-use Rattle.pmd.specs.declared.start.Rest.{Rest}
 use Rattle.pmd.specs.declared.start.Rest.TheVariants as rest
-use Rattle.pmd.specs.PmdSeam.declared.fault.PmdFault.{PmdFault}
-use Rattle.pmd.specs.Halted.{Halted}
-use Rattle.pmd.specs.PmdSeam.Named.{AtPort}
-use Rattle.start_laws.specs.Ending.{IsEnding}
-use Rattle.start_laws.specs.Stopping.{Ends, TakesOnceOff}
 use Rattle.pmd_laws.specs.Ends.{Ended, HandedOverStop, IsOver, LeftIsPrefix, SentOverStop}
 use Rattle.pmd_laws.specs.Life.{Life}
 use Rattle.pmd_laws.specs.Stopped.{IsStopping}

@@ -1,17 +1,9 @@
 -- No call of a driver finds the device at fault, over its whole life.
 use Rattle.std.proofs.Common.{◌≡◌, List, ◌∷◌, ◌++◌, sym, ap, ◌∙◌, subst, append_assoc}
-use Rattle.nic_device.specs.DmaArena.Numbers.{is_own}
-use Rattle.nic_device.specs.State.{State}
-use Rattle.device_lock.specs.Alone.{Blocks}
-use Rattle.device_lock.specs.declared.alone.Watched.{Watched}
-use Rattle.device_lock.specs.declared.entry.Call.{Call}
-use Rattle.device_lock.specs.declared.entry.Entry.{Entry}
-use Rattle.pmd.specs.Apart.{DrivesApart, FindsFault}
-use Rattle.pmd.specs.Halves.{Halves, halves_of}
-use Rattle.pmd.specs.Running.{Running}
-use Rattle.pmd.specs.Started.{AreUp}
+use Rattle.driver_laws.specs.Prelude.{is_own, State, Blocks, Watched, Call, Entry, FindsFault, Halves, halves_of, Running, AreUp}
+use Rattle.pmd_laws.specs.Prelude.{BeforeLast}
+use Rattle.pmd.specs.Apart.{DrivesApart}
 use Rattle.pmd.proofs.Apart.{apart_on}
-use Rattle.start_laws.specs.Along.{BeforeLast}
 use Rattle.start_laws.proofs.Parts.{Parts, parts}
 use Rattle.start_laws.proofs.Start.{on}
 use Rattle.driver_laws.specs.Before.{OnlyPassLends}

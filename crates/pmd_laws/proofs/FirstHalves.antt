@@ -2,19 +2,13 @@
 use Rattle.std.proofs.Common.{◌≡◌, ℕ, ◌+◌, true, List, sym, ◌∙◌, subst}
 use Rattle.std.specs.Prelude.{IsTrue}
 use Rattle.std.proofs.lemmas.Bool.{both_ways, or_left, or_right}
-use Rattle.nic_device.specs.DmaArena.Numbers.{Numbers}
-use Rattle.device_lock.specs.Alone.{Blocks}
-use Rattle.device_lock.specs.declared.entry.Call.{Call}
-use Rattle.pmd.specs.PmdSeam.Frames.{most_blocks, packet_limit}
-use Rattle.pmd.specs.PmdSeam.Named.{AtPort}
+use Rattle.driver_laws.specs.Prelude.{Numbers, Blocks, Call, most_blocks, AtPort, Receive, Sender, Halves}
+use Rattle.pmd_laws.specs.Prelude.{AreOn}
+use Rattle.pmd.specs.PmdSeam.Frames.{packet_limit}
 use Rattle.pmd.specs.PmdSeam.Slots.{is_ring_block, EachRingBlock}
 use Rattle.pmd.proofs.PmdSeam.Rings.{ring_block_among, ring_block_is}
-use Rattle.pmd.specs.PmdRx.Receive.{Receive}
-use Rattle.pmd.specs.PmdTx.Sending.{Sender}
 use Rattle.driver_laws.specs.Agreeing.{AreApart, AreLent}
 use Rattle.driver_laws.specs.Healthy.{lent_by}
-use Rattle.pmd.specs.Halves.{Halves}
-use Rattle.start_laws.specs.On.{AreOn}
 use Rattle.pmd_laws.proofs.Begun.{at_first, first_apart, first_lent, ring_free, ring_gone}
 
 -- as both sides are on the receive ring is empty

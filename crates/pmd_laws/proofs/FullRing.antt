@@ -1,21 +1,12 @@
 -- A driver's transmit ring has as many slots as its start was given, and a slot that no part of a packet is in.
 use Rattle.std.proofs.Common.{◌≡◌, ℕ, ◌+◌, ◌<◌, ◌≤◌, List, [], ◌∷◌, length, Ok, refl, sym, ap, ◌∙◌, subst, arith}
 use Rattle.std.proofs.lemmas.List.{length-append, length-drop}
-use Rattle.nic_device.specs.DmaArena.Block.{Block}
-use Rattle.nic_device.specs.declared.event.Event.{Event}
+use Rattle.driver_laws.specs.Prelude.{Block, Event, Reply, Call, AllOwn, Doer, Halves, OwnCall, Receives, Sends, after_call, halves_of, played_by, Accepts, Advances, Asks, Lends, Move, Reaps, Sender, Running, Up, AtPort, Packet, Numbers}
 use Rattle.nic_device.specs.declared.event.Event.TheVariants as event
-use Rattle.nic_device.specs.declared.event.Reply.{Reply}
 use Rattle.nic_device.specs.declared.event.Reply.TheVariants as reply
-use Rattle.device_lock.specs.declared.entry.Call.{Call}
-use Rattle.pmd.specs.Halves.{AllOwn, Doer, Halves, OwnCall, Receives, Sends, after_call, halves_of, played_by}
-use Rattle.pmd.specs.PmdTx.Sending.{Accepts, Advances, Asks, Lends, Looks, Move, Outgoing, Reaps, Sender, IsOwn, MayAccept, moved, accepted_by, parts_for, reaped, segments_of}
+use Rattle.pmd.specs.PmdTx.Sending.{Looks, Outgoing, IsOwn, MayAccept, moved, accepted_by, parts_for, reaped, segments_of}
 use Rattle.pmd.specs.PmdTx.Sends.{IsFullWhereTold}
 use Rattle.pmd.specs.PmdTx.declared.answer.TxAnswer.TheVariants.{RingFull}
-use Rattle.pmd.specs.Running.{Running}
-use Rattle.pmd.specs.declared.driver.Rings.TheVariants.{Up}
-use Rattle.pmd.specs.PmdSeam.Named.{AtPort}
-use Rattle.pmd.specs.PmdSeam.declared.packet.Packet.{Packet}
-use Rattle.nic_device.specs.DmaArena.Numbers.{Numbers}
 use Rattle.start_laws.proofs.Rising.{sized}
 use Rattle.driver_laws.specs.Beside.{Leads}
 use Rattle.start_laws.proofs.TransmitLaws.Packets.{length-segments}

@@ -1,20 +1,12 @@
 -- What was handed out stays a prefix of what is delivered where the receive side doesn't go on.
 use Rattle.std.proofs.Common.{◌≡◌, ℕ, inl, inr, List, [], ◌∷◌, ◌++◌, Option, Some, None, option_map, refl, sym, ap, ◌∙◌, subst, append_assoc, cond}
 use Rattle.std.proofs.lemmas.Bool.{cases_Bool}
-use Rattle.nic_device.specs.DmaRing.declared.dir.Dir.TheVariants.{Rx}
-use Rattle.nic_device.specs.State.{State}
-use Rattle.nic_device.specs.Step.{after}
-use Rattle.device_lock.specs.Alone.{Blocks}
-use Rattle.device_lock.specs.declared.alone.Watched.{Watched}
-use Rattle.device_lock.specs.declared.entry.Call.{Call}
-use Rattle.device_lock.specs.declared.entry.Entry.{Entry}
+use Rattle.driver_laws.specs.Prelude.{Rx, State, after, Blocks, Watched, Call, Entry, AtPort, delivered, pieces_since, Piece, pieces}
+use Rattle.pmd_laws.specs.Prelude.{IsEnding, HasGround}
 use Rattle.pmd.specs.PmdSeam.Packet.{Kept}
-use Rattle.pmd.specs.PmdSeam.Named.{AtPort}
-use Rattle.start_laws.specs.ReceiveLaws.Delivered.{IsPrefixOf, delivered, packets_if_any, pieces_since}
-use Rattle.start_laws.specs.ReceiveLaws.Pieces.{Piece, packets_behind, packet_told, pieces}
+use Rattle.start_laws.specs.ReceiveLaws.Delivered.{IsPrefixOf, packets_if_any}
+use Rattle.start_laws.specs.ReceiveLaws.Pieces.{packets_behind, packet_told}
 use Rattle.start_laws.proofs.ReceiveLaws.Delivering.{since-append}
-use Rattle.start_laws.specs.Ending.{IsEnding}
-use Rattle.start_laws.specs.Points.{HasGround}
 use Rattle.start_laws.proofs.Reached.{KeptOver, LeadsOver, reached, reached_next}
 use Rattle.start_laws.proofs.Ending.{ending_plain, ending_settles}
 use Rattle.start_laws.proofs.Ground.{plain_keeps, ground_kept}

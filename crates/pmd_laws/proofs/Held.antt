@@ -4,18 +4,14 @@ use Rattle.std.specs.Prelude.{◌==◌, slice_index}
 use Rattle.std.specs.List.{list_any}
 use Rattle.std.proofs.lemmas.Bool.{eqb-true, or_cases}
 use Rattle.std.proofs.lemmas.List.Folds.{list_any-append}
-use Rattle.nic_device.specs.DmaArena.Memory.{has_block}
-use Rattle.nic_device.specs.State.{State}
-use Rattle.pmd.specs.Halves.{Halves}
-use Rattle.pmd.specs.PmdSeam.Slots.{ring_blocks}
+use Rattle.driver_laws.specs.Prelude.{has_block, State, Halves, ring_blocks, Receive, Piece}
 use Rattle.pmd.proofs.PmdSeam.Rings.{each_ring_block, ring_block_among}
 use Rattle.pmd.specs.PmdRx.Keeping as received
 use Rattle.pmd.specs.PmdRx.Keeping.{fresh_block}
-use Rattle.pmd.specs.PmdRx.Receive.{Receive, reach}
+use Rattle.pmd.specs.PmdRx.Receive.{reach}
 use Rattle.pmd.specs.PmdRx.declared.ring.Stage.{Stage}
 use Rattle.pmd.specs.PmdRx.declared.ring.Stage.TheVariants.{Looks, Takes, Owes, Lent}
 use Rattle.pmd.specs.PmdTx.Sending as sending
-use Rattle.start_laws.specs.ReceiveLaws.Pieces.{Piece}
 use Rattle.start_laws.specs.ReceiveLaws.Steps.{Each, IfFresh}
 use Rattle.driver_laws.specs.Agreeing.{BothAgree}
 use Rattle.driver_laws.proofs.Lending.{receive_lent}

@@ -2,26 +2,13 @@
 use Rattle.std.proofs.Common.{ℕ, List, [], ◌∷◌, ◌++◌, refl, sym, ◌∙◌, subst}
 use Rattle.std.specs.Prelude.{◌==◌, IsTrue}
 use Rattle.std.proofs.lemmas.Bool.{or_left, or_right}
-use Rattle.nic_device.specs.DmaArena.Block.{Block}
-use Rattle.nic_device.specs.State.{State}
-use Rattle.nic_device.specs.Step.{after}
-use Rattle.nic_device.specs.declared.event.Reply.{Reply}
+use Rattle.driver_laws.specs.Prelude.{Block, State, after, Reply, Blocks, IsLegal, AreEvents, call_in, calls_of, leads_to, call_of, Watched, Entry, OnlyLent, Piece, pieces, sent_by, AllLendApart, AllOwn, Doer, Halves, OwnCall, after_call, played_by}
 use Rattle.device_lock.specs.Alone as alone
-use Rattle.device_lock.specs.Alone.{Blocks}
-use Rattle.device_lock.specs.History.{IsLegal, AreEvents, call_in, calls_of, leads_to}
-use Rattle.device_lock.specs.Pass.{call_of}
-use Rattle.device_lock.specs.declared.alone.Watched.{Watched}
-use Rattle.device_lock.specs.declared.entry.Entry.{Entry}
 use Rattle.start_laws.specs.HistoryLaws.Alone.{AllAlone}
-use Rattle.start_laws.specs.HistoryLaws.Lent.{OnlyLent}
 use Rattle.start_laws.proofs.HistoryLaws.Alone.{alone_by_entries}
 use Rattle.start_laws.proofs.HistoryLaws.Sound.{histories_sound}
-use Rattle.start_laws.specs.ReceiveLaws.Pieces.{Piece, pieces}
 use Rattle.device_lock.proofs.Histories.{events_before, events_behind, legal_behind}
 use Rattle.start_laws.proofs.ReceiveLaws.Delivering.{lent_behind, vfs_stays}
-use Rattle.start_laws.specs.TransmitLaws.Sent.{sent_by}
-use Rattle.pmd.specs.Apart.{AllLendApart}
-use Rattle.pmd.specs.Halves.{AllOwn, Doer, Halves, OwnCall, after_call, played_by}
 use Rattle.driver_laws.specs.Histories.{IsDriven, OthersLeaveAlone, doer_of, doers_after}
 use Rattle.driver_laws.proofs.Meeting.{Meets}
 use Rattle.driver_laws.proofs.Next.{next_by}

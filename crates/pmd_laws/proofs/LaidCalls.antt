@@ -1,17 +1,10 @@
 -- Calls by which a driver lays out an empty transmit ring, in turn.
 use Rattle.std.proofs.Common.{◌≡◌, true, List, [], ◌∷◌, ◌++◌, refl, ap, ◌∙◌, subst, append_assoc}
-use Rattle.nic_device.specs.DmaArena.Block.{Block}
-use Rattle.nic_device.specs.declared.event.Event.{Event}
+use Rattle.driver_laws.specs.Prelude.{Block, Event, Reply, call_of, Call, is_step, Adds, AreSteps, AtPort}
+use Rattle.pmd_laws.specs.Prelude.{Laid, AreMadeOf}
 use Rattle.nic_device.specs.declared.event.Event.TheVariants as event
-use Rattle.nic_device.specs.declared.event.Reply.{Reply}
-use Rattle.device_lock.specs.Pass.{call_of}
-use Rattle.device_lock.specs.declared.entry.Call.{Call}
-use Rattle.pmd.specs.PmdSeam.Events.{is_step}
-use Rattle.pmd.specs.PmdSeam.Made.{Adds, AreSteps}
-use Rattle.pmd.specs.PmdSeam.Named.{AtPort}
 use Rattle.start_laws.specs.Ending.{Each}
-use Rattle.start_laws.specs.Laid.{Laid, Lays, LaysOn}
-use Rattle.start_laws.specs.Stopping.{AreMadeOf}
+use Rattle.start_laws.specs.Laid.{Lays, LaysOn}
 
 -- those that were made between
 abbrev pub LaysBetween : AtPort → Laid → List Call → List Call → Laid → Type 0

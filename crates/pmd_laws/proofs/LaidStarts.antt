@@ -1,16 +1,8 @@
 -- A start that was refused laid out an empty transmit ring so far.
 use Rattle.std.proofs.Common.{◌≡◌, ℕ, inl, inr, true, List, subst}
-use Rattle.nic_device.specs.DmaArena.Numbers.{Numbers}
-use Rattle.nic_device.specs.DmaRing.declared.dir.Dir.TheVariants.{Tx}
-use Rattle.device_lock.specs.declared.entry.Call.{Call}
-use Rattle.pmd.specs.PmdSeam.declared.fault.PmdFault.{PmdFault}
-use Rattle.pmd.specs.PmdSeam.Frames.{most_blocks}
-use Rattle.pmd.specs.PmdSeam.Named.{AtPort}
-use Rattle.pmd.specs.PmdSeam.Slots.{ring_blocks}
-use Rattle.pmd.specs.PmdRx.Receive.{Receive}
+use Rattle.driver_laws.specs.Prelude.{Numbers, Tx, Call, PmdFault, most_blocks, AtPort, ring_blocks, Receive, StartRefused}
 use Rattle.pmd.specs.Started.{StopsAfterBoth, StopsAfterOne, StopsStarting, is_size}
 use Rattle.pmd.specs.Starting.{GoingOnFails, IsPrepared, PreparingFails}
-use Rattle.pmd.specs.declared.start.StartRefused.{StartRefused}
 use Rattle.start_laws.specs.Laid.{Off, Empty}
 use Rattle.start_laws.proofs.Rising.{sized}
 use Rattle.pmd_laws.proofs.LaidAccesses.{going_on_fails, lending_stays, lends_stay, receive_fails, receive_ready}

@@ -3,16 +3,14 @@ use Rattle.std.proofs.Common.{◌≡◌, ℕ, ◌*◌, ◌%◌, ◌^◌, ◌<◌
 use Rattle.std.specs.Prelude.{⊤}
 use Rattle.std.proofs.lemmas.List.{append-nil}
 use Rattle.nic_device.specs.RegTable.declared.rows.RowId.{RowId}
-use Rattle.nic_device.specs.DmaRing.declared.dir.Dir.TheVariants.{Tx}
+use Rattle.driver_laws.specs.Prelude.{Tx, Call, PmdFault, DeviceFault, Access, Sees, Sets, IsMade, AtPort, ring_words}
+use Rattle.pmd_laws.specs.Prelude.{Laid}
 use Rattle.nic_device.specs.declared.event.Event.TheVariants as event
-use Rattle.device_lock.specs.declared.entry.Call.{Call}
-use Rattle.pmd.specs.PmdSeam.declared.fault.PmdFault.{PmdFault}
-use Rattle.pmd.specs.PmdSeam.declared.fault.PmdFault.TheVariants.{BadSize, DeviceFault, ForeignBlock, NoBuffer, StartTimeout}
+use Rattle.pmd.specs.PmdSeam.declared.fault.PmdFault.TheVariants.{BadSize, ForeignBlock, NoBuffer, StartTimeout}
 use Rattle.pmd.specs.PmdSeam.declared.fault.PmdFault.TheVariants as fault
-use Rattle.pmd.specs.PmdSeam.QueueMade.{Access, Sees, Sets, AreMade, FailsBy, IsMade, IsOtherwise, StopsBy}
-use Rattle.pmd.specs.PmdSeam.Named.{AtPort, IsNumberOf, is_driven}
-use Rattle.pmd.specs.PmdSeam.Sides.{ring_words}
-use Rattle.start_laws.specs.Laid.{Laid, Off, Sized, Headed, Empty, MayLay, laid_by}
+use Rattle.pmd.specs.PmdSeam.QueueMade.{AreMade, FailsBy, IsOtherwise, StopsBy}
+use Rattle.pmd.specs.PmdSeam.Named.{IsNumberOf, is_driven}
+use Rattle.start_laws.specs.Laid.{Off, Sized, Headed, Empty, MayLay, laid_by}
 use Rattle.start_laws.proofs.StopCalls.{some_made}
 use Rattle.pmd_laws.proofs.LaidCalls.{LaysBetween, Stays, adds_between, stays_between, step_stays, then_between}
 

@@ -1,14 +1,9 @@
 -- The calls of a driver, as told, from the place on where both sides of its queue were on.
 use Rattle.std.proofs.Common.{ℕ, List, subst, ◌∙◌}
-use Rattle.nic_device.specs.DmaArena.Numbers.{Numbers, is_own}
-use Rattle.device_lock.specs.Alone.{Blocks}
-use Rattle.device_lock.specs.declared.entry.Call.{Call}
+use Rattle.driver_laws.specs.Prelude.{Numbers, is_own, Blocks, Call, Halves, halves_of, Running, AtPort}
 use Rattle.pmd.specs.Apart.{OwnsSame}
-use Rattle.pmd.specs.Halves.{Halves, halves_of}
 use Rattle.pmd.specs.Life.{Lives}
-use Rattle.pmd.specs.Running.{Running}
 use Rattle.pmd.proofs.Both.{rings_still}
-use Rattle.pmd.specs.PmdSeam.Named.{AtPort}
 use Rattle.driver_laws.proofs.LeadsApart.{LeadsApart, apart_leads_on, driven_apart}
 use Rattle.pmd_laws.specs.Lends.{first_of}
 use Rattle.pmd_laws.specs.Told.{IsTold, Moment, last}

@@ -3,23 +3,13 @@ use Rattle.std.proofs.Common.{◌≡◌, ℕ, false, List, [], ◌∷◌, ◌++�
 use Rattle.std.specs.Prelude.{IsTrue}
 use Rattle.std.proofs.lemmas.Bool.{both_ways, eq-eqb, false_from_ne_true}
 use Rattle.std.proofs.lemmas.List.{same_from_push}
-use Rattle.nic_device.specs.DmaArena.Memory.{has_block}
-use Rattle.nic_device.specs.RegTable.declared.rows.RowId.TheVariants.{Rxdctl}
-use Rattle.nic_device.specs.State.{State}
+use Rattle.driver_laws.specs.Prelude.{has_block, Rxdctl, State, Blocks, IsLegal, AreEvents, call_in, calls_of, leads_to, call_of, Watched, Call, Entry, OnlyLent, Sees, IsMade, AtPort}
+use Rattle.pmd_laws.specs.Prelude.{BeforeLast, IsAlong}
 use Rattle.nic_device.specs.declared.event.Event.TheVariants as event
 use Rattle.nic_device.specs.declared.event.Reply.TheVariants as reply
-use Rattle.device_lock.specs.Alone.{Blocks}
-use Rattle.device_lock.specs.History.{IsLegal, AreEvents, call_in, calls_of, leads_to}
-use Rattle.device_lock.specs.Pass.{call_of}
-use Rattle.device_lock.specs.declared.alone.Watched.{Watched}
-use Rattle.device_lock.specs.declared.entry.Call.{Call}
-use Rattle.device_lock.specs.declared.entry.Entry.{Entry}
-use Rattle.start_laws.specs.HistoryLaws.Lent.{OnlyLent}
-use Rattle.pmd.specs.PmdSeam.QueueMade.{Sees, IsMade}
-use Rattle.pmd.specs.PmdSeam.Named.{AtPort}
 use Rattle.device_lock.proofs.Histories.{events_before, events_behind, leads-append, legal_before, legal_behind}
 use Rattle.start_laws.proofs.ReceiveLaws.Histories.{calls_own}
-use Rattle.start_laws.specs.Along.{AtCalls, BeforeLast, IsAlong}
+use Rattle.start_laws.specs.Along.{AtCalls}
 use Rattle.start_laws.specs.Ending.{Each}
 use Rattle.start_laws.proofs.Parts.{around}
 use Rattle.start_laws.proofs.Reached.{reached}

@@ -1,20 +1,10 @@
 -- What begins a history of a life is one too.
 use Rattle.std.proofs.Common.{◌≡◌, ℕ, List, ◌∷◌, ◌++◌, sym, ap, ◌∙◌, subst, append_assoc}
-use Rattle.nic_device.specs.DmaArena.Numbers.{Numbers}
-use Rattle.nic_device.specs.State.{State}
-use Rattle.device_lock.specs.History.{IsLegal, AreEvents}
-use Rattle.device_lock.specs.declared.alone.Watched.{Watched}
-use Rattle.device_lock.specs.declared.entry.Call.{Call}
-use Rattle.device_lock.specs.declared.entry.Entry.{Entry}
-use Rattle.start_laws.specs.HistoryLaws.Alone.{LeavesAloneFrom}
+use Rattle.driver_laws.specs.Prelude.{Numbers, State, IsLegal, AreEvents, Watched, Call, Entry, LeavesAloneFrom, Running, AreUp, AtPort, Halves, halves_of}
+use Rattle.pmd_laws.specs.Prelude.{IsAlong}
 use Rattle.start_laws.proofs.HistoryLaws.Beginning.{beginning_alone}
-use Rattle.pmd.specs.Running.{Running}
-use Rattle.pmd.specs.Started.{AreUp}
-use Rattle.pmd.specs.PmdSeam.Named.{AtPort}
 use Rattle.device_lock.proofs.Histories.{events_before, legal_before}
-use Rattle.start_laws.specs.Along.{IsAlong}
 use Rattle.start_laws.specs.Start.{BeginsWell}
-use Rattle.pmd.specs.Halves.{Halves, halves_of}
 use Rattle.driver_laws.specs.Beside.{Leads}
 use Rattle.pmd_laws.specs.Life.{Life}
 

@@ -1,22 +1,14 @@
 -- A look that finds no packet, within a longer history.
 use Rattle.std.proofs.Common.{◌≡◌, ℕ, List, [], ◌∷◌, ◌++◌, length, refl, sym, ap, ◌∙◌, subst, append_assoc}
 use Rattle.std.proofs.lemmas.List.{same_from_push}
-use Rattle.nic_device.specs.State.{State}
-use Rattle.nic_device.specs.Step.{reply_to}
+use Rattle.driver_laws.specs.Prelude.{State, reply_to, IsLegal, call_in, calls_of, leads_to, call_of, Watched, Call, Entry, Receive, delivered, Halves, halves_of}
+use Rattle.pmd_laws.specs.Prelude.{IsAlong}
 use Rattle.nic_device.specs.declared.event.Event.TheVariants as event
 use Rattle.nic_device.specs.declared.event.Reply.TheVariants as reply
-use Rattle.device_lock.specs.History.{IsLegal, call_in, calls_of, leads_to}
-use Rattle.device_lock.specs.Pass.{call_of}
-use Rattle.device_lock.specs.declared.alone.Watched.{Watched}
-use Rattle.device_lock.specs.declared.entry.Call.{Call}
-use Rattle.device_lock.specs.declared.entry.Entry.{Entry}
-use Rattle.pmd.specs.PmdRx.Receive.{Receive, descriptor_at}
-use Rattle.start_laws.specs.ReceiveLaws.Delivered.{delivered}
+use Rattle.pmd.specs.PmdRx.Receive.{descriptor_at}
 use Rattle.start_laws.specs.ReceiveLaws.Histories.{FindsNone}
 use Rattle.device_lock.proofs.Histories.{legal_behind}
-use Rattle.start_laws.specs.Along.{IsAlong}
 use Rattle.start_laws.proofs.Parts.{around}
-use Rattle.pmd.specs.Halves.{Halves, halves_of}
 use Rattle.pmd.proofs.Followed.{receiving_drives}
 use Rattle.driver_laws.specs.Beside.{AddsHarmless, Leads}
 use Rattle.driver_laws.proofs.Beside.{drives_lead, harmless_lead, leads_on, steps_harmless}

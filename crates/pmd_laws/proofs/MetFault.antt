@@ -1,19 +1,9 @@
 -- No burst of a driver meets the device at fault, whatever it answers.
 use Rattle.std.proofs.Common.{◌≡◌, ℕ, List, [], ◌++◌, Option, Some, None, Result, IfErr, IfSome, sym, ap, ◌∙◌, subst, append_assoc}
 use Rattle.std.proofs.lemmas.List.{append-nil}
-use Rattle.nic_device.specs.DmaArena.Numbers.{is_own}
-use Rattle.device_lock.specs.Alone.{Blocks}
-use Rattle.device_lock.specs.declared.entry.Call.{Call}
-use Rattle.pmd.specs.Apart.{DrivesRings, FindsBy, FindsFault}
+use Rattle.driver_laws.specs.Prelude.{is_own, Blocks, Call, FindsFault, WhereUp, halves_of, Running, Rings, Up, Down, PmdFault, DeviceFault, Packet}
+use Rattle.pmd.specs.Apart.{DrivesRings, FindsBy}
 use Rattle.pmd.specs.Bursts.{FailedAmid, SendsWith}
-use Rattle.pmd.specs.Driver.{WhereUp}
-use Rattle.pmd.specs.Halves.{halves_of}
-use Rattle.pmd.specs.Running.{Running}
-use Rattle.pmd.specs.declared.driver.Rings.{Rings}
-use Rattle.pmd.specs.declared.driver.Rings.TheVariants.{Up, Down}
-use Rattle.pmd.specs.PmdSeam.declared.fault.PmdFault.{PmdFault}
-use Rattle.pmd.specs.PmdSeam.declared.fault.PmdFault.TheVariants.{DeviceFault}
-use Rattle.pmd.specs.PmdSeam.declared.packet.Packet.{Packet}
 use Rattle.pmd_laws.specs.Faultless.{NoBurstMeetsFault, SendsAtFault, met_by}
 use Rattle.pmd_laws.specs.Told.{now}
 use Rattle.pmd_laws.proofs.Faultless.{found_on, no_call_finds_fault}

@@ -1,24 +1,10 @@
 -- From the place on where both sides of a driver's queue are on, no call of its finds the device at fault.
 use Rattle.std.proofs.Common.{◌≡◌, ℕ, List, ◌++◌, refl, sym, ap, ◌∙◌, subst, append_assoc}
 use Rattle.std.proofs.lemmas.List.{append_cancel_left}
-use Rattle.nic_device.specs.DmaArena.Numbers.{Numbers}
-use Rattle.nic_device.specs.State.{State}
-use Rattle.device_lock.specs.Alone.{Blocks}
-use Rattle.device_lock.specs.History.{calls_of, leads_to}
-use Rattle.device_lock.specs.declared.alone.Watched.{Watched}
-use Rattle.device_lock.specs.declared.entry.Call.{Call}
-use Rattle.device_lock.specs.declared.entry.Entry.{Entry}
-use Rattle.pmd.specs.Apart.{AllLendApart, FindsFault}
-use Rattle.pmd.specs.Halves.{AllOwn, Doer, Halves, played_by}
+use Rattle.driver_laws.specs.Prelude.{Numbers, State, Blocks, calls_of, leads_to, Watched, Call, Entry, AllLendApart, FindsFault, AllOwn, Doer, Halves, played_by, most_blocks, AtPort, Receive, Sender}
+use Rattle.pmd_laws.specs.Prelude.{BeforeLast, IsAlong, AreOn, HasGround}
 use Rattle.pmd.proofs.Apart.{apart_none}
 use Rattle.pmd.proofs.Followed.{both_own, own_length}
-use Rattle.pmd.specs.PmdSeam.Frames.{most_blocks}
-use Rattle.pmd.specs.PmdSeam.Named.{AtPort}
-use Rattle.pmd.specs.PmdRx.Receive.{Receive}
-use Rattle.pmd.specs.PmdTx.Sending.{Sender}
-use Rattle.start_laws.specs.Along.{BeforeLast, IsAlong}
-use Rattle.start_laws.specs.On.{AreOn}
-use Rattle.start_laws.specs.Points.{HasGround}
 use Rattle.start_laws.proofs.Parts.{Parts, calls_joined, parts}
 use Rattle.driver_laws.specs.Beside.{OthersHarmless}
 use Rattle.driver_laws.proofs.Beside.{harmless_both, others_harmless}

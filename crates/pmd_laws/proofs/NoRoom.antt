@@ -1,15 +1,8 @@
 -- Where a driver accepts none of several packets, and answers no fault, its ring has no room for the first.
 use Rattle.std.proofs.Common.{◌≡◌, ℕ, ◌+◌, ◌<◌, ◌≤◌, List, [], ◌∷◌, length, Option, Some, None, Result, Ok, Err, IfSome, refl, ap, ◌∙◌, arith}
-use Rattle.device_lock.specs.declared.entry.Call.{Call}
+use Rattle.driver_laws.specs.Prelude.{Call, WhereUp, halves_of, Running, Rings, Up, Down, PmdFault, Packet, Sender}
 use Rattle.pmd.specs.Bursts.{IsSendBurst, SendsBurst, SendsWith, Stops}
-use Rattle.pmd.specs.Driver.{WhereUp}
-use Rattle.pmd.specs.Halves.{halves_of}
-use Rattle.pmd.specs.Running.{Running}
-use Rattle.pmd.specs.declared.driver.Rings.{Rings}
-use Rattle.pmd.specs.declared.driver.Rings.TheVariants.{Up, Down}
-use Rattle.pmd.specs.PmdSeam.declared.fault.PmdFault.{PmdFault}
-use Rattle.pmd.specs.PmdSeam.declared.packet.Packet.{Packet}
-use Rattle.pmd.specs.PmdTx.Sending.{Sender, parts_for}
+use Rattle.pmd.specs.PmdTx.Sending.{parts_for}
 use Rattle.driver_laws.proofs.LeadsApart.{driven_apart}
 use Rattle.pmd_laws.specs.FullRing.{AcceptsNone, NoneHasNoRoom, outstanding}
 use Rattle.pmd_laws.specs.Told.{Drove, Moment, last}

@@ -1,35 +1,18 @@
 -- Of an arena's blocks only the rings' are lent as both sides are on, and the frames that wait fit a buffer.
 use Rattle.std.proofs.Common.{ℕ, false, List, ◌∙◌, arith}
 use Rattle.std.specs.Prelude.{All}
-use Rattle.nic_device.specs.DmaArena.Block.{Block}
-use Rattle.nic_device.specs.DmaArena.Numbers.{Numbers}
-use Rattle.nic_device.specs.RegTable.declared.rows.RowId.TheVariants.{Rxdctl}
-use Rattle.nic_device.specs.State.{State}
-use Rattle.nic_device.specs.Step.{after}
-use Rattle.nic_device.specs.declared.event.Event.{Event}
+use Rattle.driver_laws.specs.Prelude.{Block, Numbers, Rxdctl, State, after, Event, Blocks, lent_by, Watched, Call, Entry, OnlyLent, most_blocks, AtPort, Receive, Sender, FitsBlocks, Sees}
+use Rattle.pmd_laws.specs.Prelude.{BeforeLast, IsAlong, AreOn, HasGround}
 use Rattle.nic_device.specs.declared.event.Event.TheVariants as event
-use Rattle.device_lock.specs.Alone.{Blocks, lent_by}
-use Rattle.device_lock.specs.declared.alone.Watched.{Watched}
-use Rattle.device_lock.specs.declared.entry.Call.{Call}
-use Rattle.device_lock.specs.declared.entry.Entry.{Entry}
 use Rattle.start_laws.specs.DeviceLaws.Laws.{WritesNoSetting}
-use Rattle.start_laws.specs.HistoryLaws.Lent.{OnlyLent}
-use Rattle.pmd.specs.PmdSeam.Frames.{most_blocks}
-use Rattle.pmd.specs.PmdSeam.Named.{AtPort}
-use Rattle.pmd.specs.PmdRx.Receive.{Receive}
-use Rattle.pmd.specs.PmdTx.Sending.{Sender}
-use Rattle.start_laws.specs.ReceiveLaws.Fitting.{FitsBlocks}
 use Rattle.start_laws.proofs.HistoryLaws.Leaving.{left-setting}
-use Rattle.start_laws.specs.Along.{AtCalls, BeforeLast, IsAlong, IsKept}
+use Rattle.start_laws.specs.Along.{AtCalls, IsKept}
 use Rattle.start_laws.specs.Ending.{IsPlain}
-use Rattle.start_laws.specs.On.{AreOn}
-use Rattle.start_laws.specs.Points.{HasGround}
 use Rattle.start_laws.proofs.Ending.{all_lead}
 use Rattle.start_laws.proofs.First.{first_seen}
 use Rattle.start_laws.proofs.Ground.{ground_kept, plain_keeps, plain_setting}
 use Rattle.start_laws.proofs.Made.{made_some}
 use Rattle.start_laws.proofs.Reached.{reached, state_kept, state_leads}
-use Rattle.pmd.specs.PmdSeam.QueueMade.{Sees}
 use Rattle.driver_laws.specs.Before.{AreShort, OnlyPassLends}
 use Rattle.driver_laws.proofs.Before.{frames_stay_short}
 use Rattle.pmd_laws.specs.Faultless.{IsFresh}

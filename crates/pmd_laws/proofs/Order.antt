@@ -1,22 +1,15 @@
 -- What a driver handed out and what it sent in its life.
 use Rattle.std.proofs.Common.{◌≡◌, ℕ, List, [], ◌++◌, refl, sym, ap, ◌∙◌, subst}
-use Rattle.nic_device.specs.State.{State}
-use Rattle.device_lock.specs.History.{calls_of, leads_to}
-use Rattle.device_lock.specs.declared.entry.Entry.{Entry}
-use Rattle.pmd.specs.Started.{AreUp}
-use Rattle.pmd.specs.PmdRx.Receive.{Receive, records_of}
+use Rattle.driver_laws.specs.Prelude.{State, calls_of, leads_to, Entry, AreUp, Receive, delivered, bytes_of, sent_in, sent_since, Halves, halves_of, played_by}
+use Rattle.pmd_laws.specs.Prelude.{AreOn}
+use Rattle.pmd.specs.PmdRx.Receive.{records_of}
 use Rattle.pmd.specs.PmdSeam.Packet.{Kept}
 use Rattle.start_laws.specs.ReceiveLaws.Delivered as receive
-use Rattle.start_laws.specs.ReceiveLaws.Delivered.{delivered}
 use Rattle.start_laws.specs.ReceiveLaws.Histories.{FindsNone, ShowsNone}
-use Rattle.start_laws.specs.TransmitLaws.Agreeing.{bytes_of}
 use Rattle.start_laws.specs.TransmitLaws.Laws as transmit
-use Rattle.start_laws.specs.TransmitLaws.Sent.{sent_in, sent_since}
 use Rattle.start_laws.specs.Unused.{WentOn}
 use Rattle.start_laws.proofs.Parts.{Parts, parts}
-use Rattle.start_laws.specs.On.{AreOn}
 use Rattle.start_laws.proofs.Start.{on}
-use Rattle.pmd.specs.Halves.{Halves, halves_of, played_by}
 use Rattle.pmd.proofs.Followed.{receiving_drives}
 use Rattle.driver_laws.specs.Beside.{Leads}
 use Rattle.driver_laws.proofs.Beside.{drives_lead, leads_on}

@@ -1,20 +1,9 @@
 -- Of an arena's blocks those are lent at the device that its driver has out with its halves.
 use Rattle.std.proofs.Common.{◌≡◌, ℕ, List, sym, ap, ◌∙◌, subst}
 use Rattle.std.specs.Prelude.{IsTrue}
-use Rattle.nic_device.specs.DmaArena.Memory.{has_block}
-use Rattle.nic_device.specs.DmaArena.Numbers.{is_own}
-use Rattle.nic_device.specs.State.{State}
-use Rattle.device_lock.specs.Alone.{Blocks}
-use Rattle.device_lock.specs.History.{calls_of, leads_to}
-use Rattle.device_lock.specs.declared.entry.Call.{Call}
-use Rattle.start_laws.specs.HistoryLaws.Lent.{OnlyLent}
-use Rattle.pmd.specs.Apart.{AllLendApart}
-use Rattle.pmd.specs.Halves.{Doer, Halves, halves_of, played_by}
-use Rattle.pmd.specs.Running.{Running}
-use Rattle.pmd.specs.Started.{AreUp}
-use Rattle.pmd.specs.declared.driver.Rings.{Rings}
+use Rattle.driver_laws.specs.Prelude.{has_block, is_own, State, Blocks, calls_of, leads_to, Call, OnlyLent, AllLendApart, Doer, Halves, halves_of, played_by, Running, AreUp, Rings}
+use Rattle.pmd_laws.specs.Prelude.{AreOn}
 use Rattle.device_lock.proofs.Histories.{leads-append}
-use Rattle.start_laws.specs.On.{AreOn}
 use Rattle.start_laws.proofs.Parts.{Parts, parts}
 use Rattle.start_laws.proofs.Start.{on}
 use Rattle.driver_laws.specs.Histories.{IsDriven}

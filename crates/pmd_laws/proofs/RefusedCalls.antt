@@ -2,27 +2,17 @@
 use Rattle.std.proofs.Common.{◌≡◌, inl, inr, ℕ, Bool, true, false, ◌&&◌, List, [], ◌∷◌, Option, Some, None, Err, refl, sym, ◌∙◌, subst, cond}
 use Rattle.std.proofs.lemmas.Bool.{and_parts}
 use Rattle.std.proofs.lemmas.List.{append-nil}
-use Rattle.nic_device.specs.DmaArena.Block.{Block}
-use Rattle.nic_device.specs.DmaArena.Numbers.{Numbers}
-use Rattle.nic_device.specs.RegTable.declared.rows.RowId.TheVariants.{Rxdctl, Txdctl}
-use Rattle.nic_device.specs.RegisterFile.Bits.{has_bit}
-use Rattle.nic_device.specs.DmaRing.declared.dir.Dir.TheVariants.{Rx, Tx}
-use Rattle.nic_device.specs.declared.event.Event.{Event}
+use Rattle.driver_laws.specs.Prelude.{Block, Numbers, Rxdctl, has_bit, Rx, Tx, Event, Call, PmdFault, Halted, AtPort, Rest, StartRefused}
+use Rattle.pmd_laws.specs.Prelude.{IsEnding, Laid, Ends}
+use Rattle.nic_device.specs.RegTable.declared.rows.RowId.TheVariants.{Txdctl}
 use Rattle.nic_device.specs.declared.event.Event.TheVariants as event
-use Rattle.device_lock.specs.declared.entry.Call.{Call}
-use Rattle.pmd.specs.PmdSeam.declared.fault.PmdFault.{PmdFault}
 use Rattle.pmd.specs.PmdSeam.declared.fault.PmdFault.TheVariants.{BadSize}
-use Rattle.pmd.specs.Halted.{Halted}
 use Rattle.pmd.specs.PmdSeam.Frames.{is_frame}
-use Rattle.pmd.specs.PmdSeam.Named.{AtPort}
 use Rattle.pmd.specs.Life.{ComesDown, NeverLived}
 use Rattle.pmd.specs.Started.{IsHalfStarted, IsHome, IsLeftWith, IsShut, StopsStarting, is_size, start_gate}
-use Rattle.pmd.specs.declared.start.Rest.{Rest}
 use Rattle.pmd.specs.declared.start.Rest.TheVariants as rest
-use Rattle.pmd.specs.declared.start.StartRefused.{StartRefused}
-use Rattle.start_laws.specs.Ending.{Each, IsEnding}
-use Rattle.start_laws.specs.Laid.{Laid, Off, Empty, MayAsk}
-use Rattle.start_laws.specs.Stopping.{Ends}
+use Rattle.start_laws.specs.Ending.{Each}
+use Rattle.start_laws.specs.Laid.{Off, Empty, MayAsk}
 use Rattle.pmd_laws.proofs.Ends.{stopped_ends}
 use Rattle.pmd_laws.proofs.LaidCalls.{LaysBetween, Stays, each_lays, then_between}
 use Rattle.pmd_laws.proofs.LaidStarts.{starting_lays}

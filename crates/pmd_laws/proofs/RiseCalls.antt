@@ -1,30 +1,17 @@
 -- The calls by which a driver's rings come up write no register but its queue's, and lend no block but the rings'.
 use Rattle.std.proofs.Common.{◌≡◌, ℕ, ◌<◌, true, false, List, [], ◌∷◌, ◌++◌, refl, arith}
 use Rattle.std.specs.Prelude.{⊤, IsTrue}
-use Rattle.nic_device.specs.DmaArena.Block.{Block}
-use Rattle.nic_device.specs.DmaArena.Numbers.{Numbers}
-use Rattle.nic_device.specs.DmaArena.Whereabouts.{times_in_hand}
-use Rattle.nic_device.specs.RegTable.declared.rows.RowId.TheVariants.{Rxdctl}
-use Rattle.nic_device.specs.DmaRing.declared.dir.Dir.{Dir}
-use Rattle.nic_device.specs.DmaRing.declared.dir.Dir.TheVariants.{Rx, Tx}
-use Rattle.nic_device.specs.declared.event.Event.{Event}
+use Rattle.driver_laws.specs.Prelude.{Block, Numbers, times_in_hand, Rxdctl, Dir, Rx, Tx, Event, Blocks, Call, is_step, Access, Sees, Sets, IsMade, AtPort, ring_words, Receive, Sender, ring_blocks}
+use Rattle.pmd_laws.specs.Prelude.{AreOn, AreMadeOf}
 use Rattle.nic_device.specs.declared.event.Event.TheVariants as event
-use Rattle.device_lock.specs.Alone.{Blocks}
-use Rattle.device_lock.specs.declared.entry.Call.{Call}
-use Rattle.pmd.specs.PmdSeam.Events.{is_step}
 use Rattle.pmd.specs.PmdSeam.Both.{both_quiet, receive_polled}
-use Rattle.pmd.specs.PmdSeam.QueueMade.{Access, Sees, Sets, AreMade, IsMade}
-use Rattle.pmd.specs.PmdSeam.Named.{AtPort}
-use Rattle.pmd.specs.PmdSeam.Sides.{polled, quiet, ring_words}
-use Rattle.pmd.specs.PmdRx.Receive.{Receive}
-use Rattle.pmd.specs.PmdTx.Sending.{Sender}
-use Rattle.pmd.specs.PmdSeam.Slots.{ring_blocks, EachRingBlock}
+use Rattle.pmd.specs.PmdSeam.QueueMade.{AreMade}
+use Rattle.pmd.specs.PmdSeam.Sides.{polled, quiet}
+use Rattle.pmd.specs.PmdSeam.Slots.{EachRingBlock}
 use Rattle.pmd.proofs.PmdSeam.Outside.{times-cons, times_first}
 use Rattle.pmd.proofs.PmdSeam.Rings.{each_ring_block, ring_block_out}
 use Rattle.pmd.specs.Starting.{IsPrepared, IsReceiveReady, LendsEach}
 use Rattle.start_laws.specs.Ending.{Each, IsPlain, NamesDriven}
-use Rattle.start_laws.specs.On.{AreOn}
-use Rattle.start_laws.specs.Stopping.{AreMadeOf}
 use Rattle.start_laws.proofs.AllAre.{AllAre, all_both, all_polled}
 use Rattle.start_laws.proofs.StopCalls.{adds_made, none_made, then_made}
 use Rattle.start_laws.proofs.DrivenAccesses.{IsDriven, polled_driven, reads_driven, words_are_writes, writes_driven}

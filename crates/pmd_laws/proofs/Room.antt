@@ -3,7 +3,8 @@ use Rattle.std.proofs.Common.{◌≡◌, ◌≢◌, ℕ, zero, suc, ◌+◌, ◌
 use Rattle.std.specs.Prelude.{is_some}
 use Rattle.std.proofs.lemmas.Bool.{and_from, both_ways, cases_Bool, cases_eq}
 use Rattle.std.proofs.lemmas.Bool.Decides.{nat_tests}
-use Rattle.nic_device.specs.DmaArena.Numbers.{Numbers, count_of, is_free}
+use Rattle.driver_laws.specs.Prelude.{Numbers, is_free}
+use Rattle.nic_device.specs.DmaArena.Numbers.{count_of}
 use Rattle.nic_device.proofs.DmaArena.Owned.{own_within, is_own-of_free}
 use Rattle.nic_device.specs.DmaArena.Run.{are_free, run_behind, run_from, run_in, IsFreeRun}
 use Rattle.pmd.specs.Runs.{behind_run, second_run}

@@ -1,14 +1,7 @@
 -- A driver that runs runs on, over calls as they are told, and harmless ones between.
 use Rattle.std.proofs.Common.{◌≡◌, inl, inr, List, [], ◌∷◌, refl, sym, ◌∙◌, subst}
-use Rattle.nic_device.specs.DmaArena.Numbers.{is_own}
-use Rattle.device_lock.specs.Alone.{Blocks}
-use Rattle.device_lock.specs.declared.entry.Call.{Call}
-use Rattle.pmd.specs.Driver.{WhereUp}
-use Rattle.pmd.specs.Running.{Running}
-use Rattle.pmd.specs.declared.driver.Rings.{Rings}
-use Rattle.pmd.specs.declared.driver.Rings.TheVariants.{Up, Down}
+use Rattle.driver_laws.specs.Prelude.{is_own, Blocks, Call, WhereUp, Running, Rings, Up, Down, Halves, halves_of}
 use Rattle.pmd.specs.Apart.{DrivesRings, OwnsSame}
-use Rattle.pmd.specs.Halves.{Halves, halves_of}
 use Rattle.pmd.proofs.Both.{rings_still}
 use Rattle.driver_laws.specs.Beside.{AddsHarmless}
 use Rattle.driver_laws.proofs.LeadsApart.{LeadsApart, apart_leads_on, driven_apart, harmless_apart}

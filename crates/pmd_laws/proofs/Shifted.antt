@@ -1,31 +1,17 @@
 -- What the calls of a driver tell is told of the calls that were added alone: it holds behind whichever others.
 use Rattle.std.proofs.Common.{◌≡◌, ℕ, Bool, true, false, List, [], ◌∷◌, ◌++◌, None, refl, sym, ap, ◌∙◌, subst, append_assoc}
 use Rattle.std.proofs.lemmas.List.{append-nil, append_cancel_left}
-use Rattle.nic_device.specs.DmaArena.Block.{Block, zero_block}
-use Rattle.nic_device.specs.DmaArena.Numbers.{Numbers, is_own}
-use Rattle.nic_device.specs.DmaRing.declared.dir.Dir.{Dir}
-use Rattle.nic_device.specs.DmaRing.declared.dir.Dir.TheVariants.{Rx, Tx}
+use Rattle.driver_laws.specs.Prelude.{Block, Numbers, is_own, Dir, Rx, Tx, Event, Reply, Blocks, call_of, Call, IsSwitched, Adds, AtPort, Access, IsMade, Sees, Sets, Halves, halves_of, Receive, Sender, Running, AreUp}
+use Rattle.nic_device.specs.DmaArena.Block.{zero_block}
 use Rattle.nic_device.specs.RegisterFile.Queue.{enable_row}
-use Rattle.nic_device.specs.declared.event.Event.{Event}
-use Rattle.nic_device.specs.declared.event.Reply.{Reply}
-use Rattle.device_lock.specs.Alone.{Blocks}
-use Rattle.device_lock.specs.Pass.{call_of}
-use Rattle.device_lock.specs.declared.entry.Call.{Call}
 use Rattle.pmd.specs.PmdSeam.Accesses.{IsLent}
-use Rattle.pmd.specs.PmdSeam.Both.{IsSwitched, receive_polled}
-use Rattle.pmd.specs.PmdSeam.Made.{Adds}
-use Rattle.pmd.specs.PmdSeam.Named.{AtPort}
-use Rattle.pmd.specs.PmdSeam.QueueMade.{Access, AreMade, IsMade, Sees, Sets}
+use Rattle.pmd.specs.PmdSeam.Both.{receive_polled}
+use Rattle.pmd.specs.PmdSeam.QueueMade.{AreMade}
 use Rattle.pmd.specs.PmdSeam.Sides.{polled, quiet}
 use Rattle.pmd.specs.Apart.{DrivesApart, DrivesRings}
-use Rattle.pmd.specs.Halves.{Halves, halves_of}
 use Rattle.pmd.specs.PmdRx.Plays.{LooksInVain, Plays, PlaysFrom}
-use Rattle.pmd.specs.PmdRx.Receive.{Receive}
 use Rattle.pmd.specs.PmdTx.Plays as sending
 use Rattle.pmd.specs.PmdTx.Plays.{LooksLast}
-use Rattle.pmd.specs.PmdTx.Sending.{Sender}
-use Rattle.pmd.specs.Running.{Running}
-use Rattle.pmd.specs.Started.{AreUp}
 use Rattle.pmd.specs.Starting.{GoesOn, IsPrepared, IsReceiveReady, IsTransmitReady, LendsEach}
 
 -- some calls were added, of which this holds, whatever calls are before them

@@ -1,19 +1,10 @@
 -- On a queue that was switched off behind a life nothing goes on.
 use Rattle.std.proofs.Common.{◌≡◌, inl, inr, false, List, ◌++◌, Option, Some, None, refl, sym, ap, ◌∙◌, subst}
-use Rattle.device_lock.specs.History.{calls_of}
-use Rattle.device_lock.specs.declared.entry.Call.{Call}
-use Rattle.pmd.specs.Driver.{halted_of}
+use Rattle.driver_laws.specs.Prelude.{calls_of, Call, halted_of, Up, Rest, PmdFault, Halted, IsSwitched, AtPort}
+use Rattle.pmd_laws.specs.Prelude.{IsAsking, IsEnding, Ends, EndsOnceOff}
 use Rattle.pmd.specs.Life.{IsStopped}
-use Rattle.pmd.specs.declared.driver.Rings.TheVariants.{Up}
-use Rattle.pmd.specs.declared.start.Rest.{Rest}
 use Rattle.pmd.specs.declared.start.Rest.TheVariants as rest
-use Rattle.pmd.specs.PmdSeam.declared.fault.PmdFault.{PmdFault}
-use Rattle.pmd.specs.Halted.{Halted}
 use Rattle.pmd.specs.Stopping.{closed}
-use Rattle.pmd.specs.PmdSeam.Both.{IsSwitched}
-use Rattle.pmd.specs.PmdSeam.Named.{AtPort}
-use Rattle.start_laws.specs.Ending.{IsAsking, IsEnding}
-use Rattle.start_laws.specs.Stopping.{Ends, EndsOnceOff}
 use Rattle.start_laws.proofs.Parts.{calls_joined}
 use Rattle.start_laws.proofs.StopCalls.{none_made}
 use Rattle.pmd_laws.specs.Silent.{SilentOnceOff, SilentOverStop, SwitchesOff}

@@ -1,10 +1,8 @@
 -- No start finds the device at fault as it fills its receive ring, nor before.
 use Rattle.std.proofs.Common.{◌≡◌, ℕ, inl, inr, ◌⊎◌, true, refl, sym, subst}
-use Rattle.nic_device.specs.DmaArena.Numbers.{is_free, is_own}
-use Rattle.pmd.specs.PmdSeam.declared.fault.PmdFault.TheVariants.{DeviceFault}
+use Rattle.driver_laws.specs.Prelude.{is_free, is_own, DeviceFault, FindsFault, Halves, Receives}
 use Rattle.pmd.proofs.PmdRx.Earlier.{free_before}
-use Rattle.pmd.specs.Apart.{FindsFault, MayLend}
-use Rattle.pmd.specs.Halves.{Halves, Receives}
+use Rattle.pmd.specs.Apart.{MayLend}
 use Rattle.pmd.proofs.Apart.{receiving_apart}
 use Rattle.pmd.proofs.Finding.{wrong_by}
 use Rattle.start_laws.proofs.Parts.{Parts, parts}

@@ -4,42 +4,22 @@ use Rattle.std.specs.Prelude.{IsFalse, ◌==◌}
 use Rattle.std.specs.List.{list_any}
 use Rattle.std.proofs.lemmas.Bool.{both_ways}
 use Rattle.std.proofs.lemmas.List.{append_assoc}
-use Rattle.nic_device.specs.DmaArena.Block.{Block}
-use Rattle.nic_device.specs.DmaArena.Memory.{has_block}
-use Rattle.nic_device.specs.DmaArena.Numbers.{Numbers, is_own}
-use Rattle.nic_device.specs.DmaArena.Whereabouts.{times_in_hand}
+use Rattle.driver_laws.specs.Prelude.{Block, has_block, Numbers, is_own, times_in_hand, Rxdctl, Dir, Rx, Tx, State, Event, Reply, Blocks, call_of, Watched, Call, Entry, is_step, Adds, DeviceFault, Access, Sees, Sets, IsMade, AtPort, ring_words, ring_blocks}
+use Rattle.pmd_laws.specs.Prelude.{BeforeLast, BeforeNext}
 use Rattle.nic_device.proofs.DmaArena.Arenas.{is_own-of_free}
-use Rattle.nic_device.specs.RegTable.declared.rows.RowId.TheVariants.{Rxdctl}
-use Rattle.nic_device.specs.DmaRing.declared.dir.Dir.{Dir}
-use Rattle.nic_device.specs.DmaRing.declared.dir.Dir.TheVariants.{Rx, Tx}
-use Rattle.nic_device.specs.State.{State}
-use Rattle.nic_device.specs.declared.event.Event.{Event}
 use Rattle.nic_device.specs.declared.event.Event.TheVariants as event
-use Rattle.nic_device.specs.declared.event.Reply.{Reply}
 use Rattle.nic_device.specs.declared.event.Reply.TheVariants as reply
-use Rattle.device_lock.specs.Alone.{Blocks}
-use Rattle.device_lock.specs.Pass.{call_of}
-use Rattle.device_lock.specs.declared.alone.Watched.{Watched}
-use Rattle.device_lock.specs.declared.entry.Call.{Call}
-use Rattle.device_lock.specs.declared.entry.Entry.{Entry}
-use Rattle.pmd.specs.PmdSeam.Events.{is_step}
-use Rattle.pmd.specs.PmdSeam.Made.{Adds}
-use Rattle.pmd.specs.PmdSeam.declared.fault.PmdFault.TheVariants.{DeviceFault}
 use Rattle.pmd.specs.PmdSeam.Both.{both_quiet}
-use Rattle.pmd.specs.PmdSeam.QueueMade.{Access, Sees, Sets, IsMade, IsOtherwise, StopsBy}
-use Rattle.pmd.specs.PmdSeam.Named.{AtPort}
-use Rattle.pmd.specs.PmdSeam.Sides.{ring_words}
+use Rattle.pmd.specs.PmdSeam.QueueMade.{IsOtherwise, StopsBy}
 use Rattle.pmd.proofs.PmdRx.Earlier.{free_before}
 use Rattle.pmd.specs.PmdSeam.Home.{IsDrawn}
-use Rattle.pmd.specs.PmdSeam.Slots.{ring_blocks}
 use Rattle.pmd.proofs.PmdSeam.Outside.{times-append}
 use Rattle.pmd.proofs.PmdSeam.Rings.{among_times, ring_block_is, ring_block_out, times_among}
 use Rattle.pmd.specs.Starting.{PreparingFails, ReceiveFails}
 use Rattle.pmd.proofs.Starting.{preparing_drawn}
-use Rattle.start_laws.specs.Along.{BeforeLast}
 use Rattle.start_laws.proofs.AllAre.{AllAre, all_before}
 use Rattle.start_laws.proofs.StopCalls.{some_made, then_made}
-use Rattle.start_laws.specs.Faultless.{BeforeNext, NoneIsLent}
+use Rattle.start_laws.specs.Faultless.{NoneIsLent}
 use Rattle.start_laws.specs.Filling.{FaultsEarly, LendsFresh}
 use Rattle.start_laws.proofs.DrivenAccesses.{IsDriven, words_are_writes, writes_driven}
 use Rattle.pmd_laws.specs.Faultless.{BeginsApart, IsQuietAndFresh}

@@ -2,24 +2,15 @@
 use Rattle.std.proofs.Common.{◌≡◌, ℕ, Bool, not, true, inl, inr, List, ◌++◌, Some, sym, ◌∙◌, subst}
 use Rattle.std.proofs.lemmas.List.{append_cancel_left}
 use Rattle.nic_device.specs.DmaArena.Block.{zero_block}
-use Rattle.nic_device.specs.DmaArena.Numbers.{Numbers}
-use Rattle.nic_device.specs.DmaRing.declared.dir.Dir.{Dir}
-use Rattle.nic_device.specs.DmaRing.declared.dir.Dir.TheVariants.{Rx, Tx}
+use Rattle.driver_laws.specs.Prelude.{Numbers, Dir, Rx, Tx, Call, Receive, IsSwitched, Adds, AtPort, Access, Sees, Sets, ring_words, ring_blocks, DeviceFault, Sender}
 use Rattle.nic_device.specs.RegTable.declared.rows.RowId.{RowId}
-use Rattle.device_lock.specs.declared.entry.Call.{Call}
 use Rattle.pmd.specs.PmdRx.Filling.{StopsFilling}
 use Rattle.pmd.specs.PmdRx.Plays.{PlaysFrom}
-use Rattle.pmd.specs.PmdRx.Receive.{Receive}
 use Rattle.pmd.specs.PmdRx.Wrong.{EndsWrong}
 use Rattle.pmd.specs.PmdSeam.Accesses.{IsLent}
-use Rattle.pmd.specs.PmdSeam.Both.{IsSwitched, SwitchFails, both_asked, both_quiet, receive_polled}
-use Rattle.pmd.specs.PmdSeam.Made.{Adds}
-use Rattle.pmd.specs.PmdSeam.Named.{AtPort}
-use Rattle.pmd.specs.PmdSeam.QueueMade.{Access, IsOtherwise, IsStrayRead, Sees, Sets, StopsBy}
-use Rattle.pmd.specs.PmdSeam.Sides.{PollsEnd, missed, ring_words}
-use Rattle.pmd.specs.PmdSeam.Slots.{ring_blocks}
-use Rattle.pmd.specs.PmdSeam.declared.fault.PmdFault.TheVariants.{DeviceFault}
-use Rattle.pmd.specs.PmdTx.Sending.{Sender}
+use Rattle.pmd.specs.PmdSeam.Both.{SwitchFails, both_asked, both_quiet, receive_polled}
+use Rattle.pmd.specs.PmdSeam.QueueMade.{IsOtherwise, IsStrayRead, StopsBy}
+use Rattle.pmd.specs.PmdSeam.Sides.{PollsEnd, missed}
 use Rattle.pmd.specs.Starting.{IsReceiveReady, IsTransmitReady, LendsEach, PreparingFails, ReceiveFails, StopsLending}
 use Rattle.start_laws.specs.Filling.{FaultsAfterOne, FaultsBeforeOne, FaultsEarly, FaultsFilling, FaultsSwitching}
 use Rattle.pmd_laws.proofs.Shifted.{Shifts, adds_shift, are_made_shift, joined, lends_shift, made_shift, mapped, plays_shift, ready_shift, switched_shift, transmit_shift}

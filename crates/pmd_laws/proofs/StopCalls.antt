@@ -1,15 +1,11 @@
 -- The calls of a driver's stop are those of a stop, beside steps of the device, and take blocks back once both sides
 -- are off.
 use Rattle.std.proofs.Common.{inl, inr, false, refl, sym, subst, List}
-use Rattle.device_lock.specs.declared.entry.Call.{Call}
-use Rattle.pmd.specs.PmdSeam.declared.fault.PmdFault.{PmdFault}
-use Rattle.pmd.specs.Halted.{Halted}
+use Rattle.driver_laws.specs.Prelude.{Call, PmdFault, Halted, IsSwitched, AtPort}
+use Rattle.pmd_laws.specs.Prelude.{IsAsking, IsEnding, Ends, TakesOnceOff}
 use Rattle.pmd.specs.Stopping.{ComesHome, IsLeft, IsLeftAmid, bringing, brought, closed}
 use Rattle.pmd.specs.declared.home.Home.{Home}
-use Rattle.pmd.specs.PmdSeam.Both.{IsSwitched}
-use Rattle.pmd.specs.PmdSeam.Named.{AtPort}
-use Rattle.start_laws.specs.Ending.{IsAsking, IsEnding}
-use Rattle.start_laws.specs.Stopping.{Asks, Ends, TakesOnceOff}
+use Rattle.start_laws.specs.Stopping.{Asks}
 use Rattle.start_laws.proofs.Stopping.{bringing_ends, switched_off_asks, unswitched_asks}
 use Rattle.start_laws.proofs.StopCalls.{asks_end, none_made, some_made, step_ends, then_made}
 use Rattle.pmd_laws.specs.Stopped.{FailedStopEnds, FailedStopTakesOnceOff, NoCallTakes, StopEnds, StopTakesOnceOff}

@@ -1,12 +1,10 @@
 -- The calls of a stop so far are those of a stop too, and take blocks back only once both sides were seen off.
 use Rattle.std.proofs.Common.{◌≡◌, ◌⊎◌, inl, inr, List, [], ◌∷◌, ◌++◌, sym, ap, ◌∙◌, subst, append_assoc}
 use Rattle.std.proofs.lemmas.List.{append_cancel_left}
-use Rattle.nic_device.specs.DmaArena.Block.{Block}
-use Rattle.nic_device.specs.declared.event.Event.{Event}
-use Rattle.device_lock.specs.declared.entry.Call.{Call}
-use Rattle.pmd.specs.PmdSeam.Named.{AtPort}
-use Rattle.start_laws.specs.Ending.{Each, IsAsking, IsEnding}
-use Rattle.start_laws.specs.Stopping.{AreMadeOf, Asks, EndsOnceOff, TakesOnceOff}
+use Rattle.driver_laws.specs.Prelude.{Block, Event, Call, AtPort}
+use Rattle.pmd_laws.specs.Prelude.{IsAsking, IsEnding, AreMadeOf, EndsOnceOff, TakesOnceOff}
+use Rattle.start_laws.specs.Ending.{Each}
+use Rattle.start_laws.specs.Stopping.{Asks}
 use Rattle.start_laws.proofs.Parts.{Begins, one_begins}
 use Rattle.start_laws.proofs.StopCalls.{then_made}
 use Rattle.start_laws.proofs.Stopping.{switched_off_asks}

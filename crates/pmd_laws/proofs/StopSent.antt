@@ -2,33 +2,22 @@
 use Rattle.std.proofs.Common.{◌≡◌, ◌≢◌, ℕ, inl, inr, List, [], ◌++◌, drop, sym, ap, ◌∙◌, subst}
 use Rattle.std.specs.Prelude.{IsTrue}
 use Rattle.std.proofs.lemmas.List.{append-nil}
-use Rattle.nic_device.specs.State.{State}
-use Rattle.device_lock.specs.Alone.{lent_by}
-use Rattle.device_lock.specs.History.{calls_of, leads_to}
-use Rattle.device_lock.specs.declared.entry.Call.{Call}
-use Rattle.device_lock.specs.declared.entry.Entry.{Entry}
+use Rattle.driver_laws.specs.Prelude.{State, lent_by, calls_of, leads_to, Call, Entry, Piece, bytes_of, sent_in, sent_since, IsUp, Halves}
+use Rattle.pmd_laws.specs.Prelude.{IsAsking, HasGround, IsQuiet, EndsOnceOff, TakesOnceOff}
 use Rattle.start_laws.proofs.HistoryLaws.Beginning.{lent_before}
 use Rattle.device_lock.proofs.Histories.{leads-append}
 use Rattle.start_laws.proofs.ReceiveLaws.Each.{each_map}
 use Rattle.start_laws.specs.ReceiveLaws.Delivered.{pieces_in}
-use Rattle.start_laws.specs.ReceiveLaws.Pieces.{Piece}
-use Rattle.start_laws.specs.TransmitLaws.Agreeing.{bytes_of}
 use Rattle.start_laws.specs.TransmitLaws.Laws.{IsPrefixOf}
-use Rattle.start_laws.specs.TransmitLaws.Sent.{sent_in, sent_since}
-use Rattle.start_laws.specs.TransmitLaws.Up.{IsUp}
 use Rattle.start_laws.proofs.TransmitLaws.Runs.{first_sent}
 use Rattle.start_laws.specs.Along.{AtCalls, AtEntries}
-use Rattle.start_laws.specs.Ending.{IsAsking}
-use Rattle.start_laws.specs.Points.{HasGround}
-use Rattle.start_laws.specs.Quieting.{IsQuiet}
 use Rattle.start_laws.specs.Silent.{IsSilent}
-use Rattle.start_laws.specs.Stopping.{Asks, EndsOnceOff, TakesOnceOff}
+use Rattle.start_laws.specs.Stopping.{Asks}
 use Rattle.start_laws.proofs.Ending.{all_lead}
 use Rattle.start_laws.proofs.Parts.{parts}
 use Rattle.start_laws.proofs.Reached.{reached}
 use Rattle.start_laws.proofs.Silent.{quiet_queue_is_silent}
 use Rattle.start_laws.proofs.SwitchedOff.{switching_off_leads}
-use Rattle.pmd.specs.Halves.{Halves}
 use Rattle.driver_laws.specs.Agreeing.{AreLent, BothAgree}
 use Rattle.driver_laws.proofs.InOrder.{led}
 use Rattle.pmd_laws.specs.Life.{Life}

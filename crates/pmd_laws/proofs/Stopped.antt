@@ -1,24 +1,11 @@
 -- What a driver handed out, over its stop and on.
 use Rattle.std.proofs.Common.{◌≢◌, ℕ, inl, inr, false, List, [], ◌∷◌, ◌++◌, refl, sym, ◌∙◌, subst}
 use Rattle.std.proofs.lemmas.List.{append-nil}
-use Rattle.nic_device.specs.DmaRing.declared.dir.Dir.TheVariants.{Rx}
-use Rattle.nic_device.specs.DmaArena.Block.{Block}
-use Rattle.nic_device.specs.RegisterFile.Pools.{mode_in}
-use Rattle.nic_device.specs.State.{State}
-use Rattle.nic_device.specs.Step.{after}
-use Rattle.nic_device.specs.declared.event.Event.{Event}
-use Rattle.device_lock.specs.Alone.{lent_by}
-use Rattle.device_lock.specs.History.{leads_to}
-use Rattle.device_lock.specs.declared.alone.Watched.{Watched}
-use Rattle.device_lock.specs.declared.entry.Call.{Call}
-use Rattle.device_lock.specs.declared.entry.Entry.{Entry}
-use Rattle.pmd.specs.PmdSeam.Named.{AtPort}
-use Rattle.pmd.specs.PmdRx.Receive.{Receive}
-use Rattle.pmd.specs.PmdTx.Sending.{Sender}
+use Rattle.driver_laws.specs.Prelude.{Rx, Block, mode_in, State, after, Event, lent_by, leads_to, Watched, Call, Entry, AtPort, Receive, Sender}
+use Rattle.pmd_laws.specs.Prelude.{IsEnding, HasGround}
 use Rattle.device_lock.proofs.Histories.{leads-append}
 use Rattle.start_laws.specs.Along.{AtEntries}
-use Rattle.start_laws.specs.Ending.{IsEnding, NamesDriven}
-use Rattle.start_laws.specs.Points.{HasGround}
+use Rattle.start_laws.specs.Ending.{NamesDriven}
 use Rattle.start_laws.proofs.Reached.{reached, state_kept, state_leads}
 use Rattle.start_laws.proofs.Ending.{all_lead}
 use Rattle.start_laws.proofs.Ground.{ground_kept, ground_same, plain_keeps}

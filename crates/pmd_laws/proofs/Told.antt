@@ -1,21 +1,10 @@
 -- A driver's life as its calls tell it is a life.
 use Rattle.std.proofs.Common.{◌≡◌, ℕ, List, [], ◌++◌, ap, ◌∙◌, subst}
-use Rattle.nic_device.specs.DmaArena.Numbers.{Numbers}
-use Rattle.device_lock.specs.History.{calls_of}
-use Rattle.device_lock.specs.declared.entry.Call.{Call}
-use Rattle.device_lock.specs.declared.entry.Entry.{Entry}
-use Rattle.pmd.specs.Driver.{Driver, accepted_of, handed_of}
-use Rattle.pmd.specs.Running.{Running}
-use Rattle.pmd.specs.declared.driver.Rings.{Rings}
-use Rattle.pmd.specs.declared.driver.Rings.TheVariants.{Up}
-use Rattle.pmd.specs.PmdSeam.Named.{AtPort}
+use Rattle.driver_laws.specs.Prelude.{Numbers, calls_of, Call, Entry, accepted_of, handed_of, Running, Rings, Up, AtPort, delivered, bytes_of, sent_since, halves_of}
+use Rattle.pmd.specs.Driver.{Driver}
 use Rattle.pmd.specs.PmdRx.Plays.{LooksInVain}
 use Rattle.start_laws.specs.ReceiveLaws.Delivered as receive
-use Rattle.start_laws.specs.ReceiveLaws.Delivered.{delivered}
-use Rattle.start_laws.specs.TransmitLaws.Agreeing.{bytes_of}
 use Rattle.start_laws.specs.TransmitLaws.Laws as transmit
-use Rattle.start_laws.specs.TransmitLaws.Sent.{sent_since}
-use Rattle.pmd.specs.Halves.{halves_of}
 use Rattle.driver_laws.specs.Beside.{AddsHarmless}
 use Rattle.pmd_laws.specs.Life.{Life}
 use Rattle.pmd_laws.specs.Looks as looks

@@ -2,17 +2,9 @@
 use Rattle.std.proofs.Common.{◌≡◌, ◌≢◌, List, [], ◌∷◌, ◌++◌, refl, sym, ap, ◌∙◌, subst}
 use Rattle.nic_device.specs.declared.event.Event.TheVariants as event
 use Rattle.nic_device.specs.declared.event.Reply.TheVariants as reply
-use Rattle.device_lock.specs.History.{call_in, calls_of, leads_to}
-use Rattle.device_lock.specs.Pass.{call_of}
-use Rattle.device_lock.specs.declared.entry.Call.{Call}
-use Rattle.device_lock.specs.declared.entry.Entry.{Entry}
-use Rattle.pmd.specs.Driver.{accepted_of}
-use Rattle.pmd.specs.declared.driver.Rings.{Rings}
-use Rattle.pmd.specs.PmdTx.Sending.{Sender, descriptor_at, first_end}
-use Rattle.start_laws.specs.TransmitLaws.Agreeing.{bytes_of}
+use Rattle.driver_laws.specs.Prelude.{call_in, calls_of, leads_to, call_of, Call, Entry, accepted_of, Rings, Sender, bytes_of, sent_since, Halves, halves_of}
+use Rattle.pmd.specs.PmdTx.Sending.{descriptor_at, first_end}
 use Rattle.start_laws.specs.TransmitLaws.Laws.{FindsWaiting}
-use Rattle.start_laws.specs.TransmitLaws.Sent.{sent_since}
-use Rattle.pmd.specs.Halves.{Halves, halves_of}
 use Rattle.pmd.proofs.Followed.{sending_drives}
 use Rattle.driver_laws.specs.Beside.{AddsHarmless, Leads}
 use Rattle.driver_laws.proofs.Beside.{drives_lead, harmless_lead, leads_on, steps_harmless}

@@ -1,30 +1,14 @@
 -- A driver beside whatever calls its author makes through the same way to the device, as those of a second driver.
 use Rattle.std.specs.Prelude.{ℕ, ◌≡◌, ◌≢◌, ◌<◌, ◌⊎◌, Bool, List, [], ◌∷◌, ◌++◌, length}
-use Rattle.nic_device.specs.DmaArena.Numbers.{Numbers}
-use Rattle.nic_device.specs.Sound.{IsSound}
-use Rattle.nic_device.specs.State.{State}
-use Rattle.device_lock.specs.History.{AreEvents, IsLegal, calls_of, leads_to}
-use Rattle.device_lock.specs.declared.alone.Watched.{Watched}
-use Rattle.device_lock.specs.declared.entry.Call.{Call}
-use Rattle.device_lock.specs.declared.entry.Entry.{Entry}
-use Rattle.pmd.specs.Driver.{accepted_of, handed_of}
-use Rattle.pmd.specs.Halves.{halves_of}
+use Rattle.driver_laws.specs.Prelude.{Numbers, IsSound, State, AreEvents, IsLegal, calls_of, leads_to, Watched, Call, Entry, accepted_of, handed_of, halves_of, Running, Up, AtPort, LeavesAloneFrom, delivered, bytes_of, sent_since}
+use Rattle.pmd_laws.specs.Prelude.{BeforeLast, HasGround}
 use Rattle.pmd.specs.Life.{KeepsHalves}
-use Rattle.pmd.specs.Running.{Running}
 use Rattle.pmd.specs.Started.{HasStarted}
-use Rattle.pmd.specs.declared.driver.Rings.TheVariants.{Up}
 use Rattle.pmd.specs.PmdSeam.Begun.{From, began_handled, began_in_hand, entries_in, marked_entries}
 use Rattle.pmd.specs.PmdSeam.Made.{InHand}
-use Rattle.pmd.specs.PmdSeam.Named.{AtPort}
 use Rattle.pmd.specs.PmdSeam.Scheduled.{Handled, own_calls}
-use Rattle.start_laws.specs.Along.{BeforeLast}
-use Rattle.start_laws.specs.HistoryLaws.Alone.{LeavesAloneFrom}
-use Rattle.start_laws.specs.Points.{HasGround}
 use Rattle.start_laws.specs.ReceiveLaws.Delivered as receive
-use Rattle.start_laws.specs.ReceiveLaws.Delivered.{delivered}
-use Rattle.start_laws.specs.TransmitLaws.Agreeing.{bytes_of}
 use Rattle.start_laws.specs.TransmitLaws.Laws as transmit
-use Rattle.start_laws.specs.TransmitLaws.Sent.{sent_since}
 use Rattle.driver_laws.specs.Beside.{AddsHarmless}
 use Rattle.driver_laws.specs.Retold.{AreSame}
 use Rattle.pmd_laws.specs.Looks.{EndsAt}

@@ -1,10 +1,7 @@
 -- A driver beside whatever calls of its author's, whose ring is full.
 use Rattle.std.specs.Prelude.{ℕ, ◌+◌, ◌<◌, ◌≤◌, List}
-use Rattle.nic_device.specs.DmaArena.Numbers.{Numbers}
-use Rattle.device_lock.specs.declared.entry.Call.{Call}
-use Rattle.pmd.specs.PmdSeam.Named.{AtPort}
+use Rattle.driver_laws.specs.Prelude.{Numbers, Call, AtPort, Packet}
 use Rattle.pmd.specs.PmdTx.Sending.{parts_for}
-use Rattle.pmd.specs.PmdSeam.declared.packet.Packet.{Packet}
 use Rattle.pmd_laws.specs.Beside.{IsToldBy}
 use Rattle.pmd_laws.specs.FullRing.{AcceptsNone, TellsFull, outstanding}
 use Rattle.pmd_laws.specs.Told.{Drove, Moment, last}

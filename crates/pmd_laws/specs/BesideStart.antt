@@ -1,17 +1,8 @@
 -- A start of a driver behind and beside whatever calls of its author's, which finds no device at fault.
 use Rattle.std.specs.Prelude.{ℕ, ◌≡◌, ◌≢◌, List, ◌++◌}
-use Rattle.nic_device.specs.DmaArena.Numbers.{Numbers, is_own}
-use Rattle.nic_device.specs.State.{State}
-use Rattle.device_lock.specs.History.{calls_of}
-use Rattle.device_lock.specs.declared.alone.Watched.{Watched}
-use Rattle.device_lock.specs.declared.entry.Call.{Call}
-use Rattle.device_lock.specs.declared.entry.Entry.{Entry}
-use Rattle.pmd.specs.Started.{AreUp, StopsStarting}
-use Rattle.pmd.specs.Running.{Running}
-use Rattle.pmd.specs.declared.start.StartRefused.{StartRefused}
-use Rattle.pmd.specs.PmdSeam.Named.{AtPort}
-use Rattle.pmd.specs.PmdSeam.declared.fault.PmdFault.TheVariants.{DeviceFault}
-use Rattle.start_laws.specs.Faultless.{BeforeNext}
+use Rattle.driver_laws.specs.Prelude.{Numbers, is_own, State, calls_of, Watched, Call, Entry, AreUp, Running, StartRefused, AtPort, DeviceFault}
+use Rattle.pmd_laws.specs.Prelude.{BeforeNext}
+use Rattle.pmd.specs.Started.{StopsStarting}
 use Rattle.start_laws.specs.Filling.{FaultsFilling}
 use Rattle.driver_laws.specs.Before.{OnlyPassLends}
 use Rattle.pmd_laws.specs.Beside.{IsRetold}

@@ -1,16 +1,10 @@
 -- A driver beside whatever calls its author makes, and then the calls of its stop.
 use Rattle.std.specs.Prelude.{◌≡◌, List, [], ◌++◌}
-use Rattle.device_lock.specs.History.{calls_of}
-use Rattle.device_lock.specs.declared.entry.Call.{Call}
-use Rattle.device_lock.specs.declared.entry.Entry.{Entry}
-use Rattle.pmd.specs.Driver.{accepted_of, handed_of}
+use Rattle.driver_laws.specs.Prelude.{calls_of, Call, Entry, accepted_of, handed_of, delivered, bytes_of, sent_since}
+use Rattle.pmd_laws.specs.Prelude.{Ends, EndsOnceOff, TakesOnceOff}
 use Rattle.start_laws.specs.ReceiveLaws.Delivered as receive
-use Rattle.start_laws.specs.ReceiveLaws.Delivered.{delivered}
 use Rattle.start_laws.specs.Silent.{IsSilent}
-use Rattle.start_laws.specs.Stopping.{Ends, EndsOnceOff, TakesOnceOff}
-use Rattle.start_laws.specs.TransmitLaws.Agreeing.{bytes_of}
 use Rattle.start_laws.specs.TransmitLaws.Laws as transmit
-use Rattle.start_laws.specs.TransmitLaws.Sent.{sent_since}
 use Rattle.driver_laws.specs.Retold.{AreSame}
 use Rattle.pmd_laws.specs.Beside.{Beside, now}
 

@@ -1,22 +1,10 @@
 -- What a driver that lived, and was stopped, handed out and sent.
 use Rattle.std.specs.Prelude.{ℕ, ◌≡◌, List, [], ◌++◌, Option}
-use Rattle.nic_device.specs.DmaArena.Numbers.{Numbers}
-use Rattle.nic_device.specs.State.{State}
-use Rattle.device_lock.specs.History.{calls_of}
-use Rattle.device_lock.specs.declared.alone.Watched.{Watched}
-use Rattle.device_lock.specs.declared.entry.Call.{Call}
-use Rattle.device_lock.specs.declared.entry.Entry.{Entry}
+use Rattle.driver_laws.specs.Prelude.{Numbers, State, calls_of, Watched, Call, Entry, left_accepted, left_handed, Rest, PmdFault, AtPort, delivered, bytes_of, sent_since}
+use Rattle.pmd_laws.specs.Prelude.{IsAlong}
 use Rattle.pmd.specs.Life.{HasLived}
-use Rattle.pmd.specs.Started.{left_accepted, left_handed}
-use Rattle.pmd.specs.declared.start.Rest.{Rest}
-use Rattle.pmd.specs.PmdSeam.declared.fault.PmdFault.{PmdFault}
-use Rattle.pmd.specs.PmdSeam.Named.{AtPort}
 use Rattle.start_laws.specs.ReceiveLaws.Delivered as receive
-use Rattle.start_laws.specs.ReceiveLaws.Delivered.{delivered}
-use Rattle.start_laws.specs.TransmitLaws.Agreeing.{bytes_of}
 use Rattle.start_laws.specs.TransmitLaws.Laws as transmit
-use Rattle.start_laws.specs.TransmitLaws.Sent.{sent_since}
-use Rattle.start_laws.specs.Along.{IsAlong}
 use Rattle.start_laws.specs.Start.{BeginsWell}
 
 -- a driver that lived over a legal history of a sound device that leaves the queue alone, and was stopped

@@ -1,29 +1,10 @@
 -- A driver whose blocks nobody else lends: no call of its finds the device at fault, and nor does its start.
 use Rattle.std.specs.Prelude.{ℕ, IsTrue, IsFalse, List, ◌≡◌, ◌≢◌, ◌++◌, All, Option, Some, None, Result}
-use Rattle.nic_device.specs.DmaArena.Memory.{has_block}
-use Rattle.nic_device.specs.DmaArena.Numbers.{Numbers, is_own}
-use Rattle.nic_device.specs.State.{State}
-use Rattle.device_lock.specs.Alone.{Blocks}
-use Rattle.device_lock.specs.History.{calls_of}
-use Rattle.device_lock.specs.declared.alone.Watched.{Watched}
-use Rattle.device_lock.specs.declared.entry.Call.{Call}
-use Rattle.device_lock.specs.declared.entry.Entry.{Entry}
+use Rattle.driver_laws.specs.Prelude.{has_block, Numbers, is_own, State, Blocks, calls_of, Watched, Call, Entry, WhereUp, halves_of, Running, StartRefused, most_blocks, PmdFault, DeviceFault, Packet, AtPort, FitsBlocks}
+use Rattle.pmd_laws.specs.Prelude.{BeforeLast, IsAlong, IsQuiet, BeforeNext}
 use Rattle.pmd.specs.Apart.{FindsBy}
 use Rattle.pmd.specs.Bursts.{IsSendBurst, SendsWith}
-use Rattle.pmd.specs.Driver.{WhereUp}
-use Rattle.pmd.specs.Halves.{halves_of}
-use Rattle.pmd.specs.Running.{Running}
 use Rattle.pmd.specs.Started.{StopsStarting}
-use Rattle.pmd.specs.declared.start.StartRefused.{StartRefused}
-use Rattle.pmd.specs.PmdSeam.Frames.{most_blocks}
-use Rattle.pmd.specs.PmdSeam.declared.fault.PmdFault.{PmdFault}
-use Rattle.pmd.specs.PmdSeam.declared.fault.PmdFault.TheVariants.{DeviceFault}
-use Rattle.pmd.specs.PmdSeam.declared.packet.Packet.{Packet}
-use Rattle.pmd.specs.PmdSeam.Named.{AtPort}
-use Rattle.start_laws.specs.ReceiveLaws.Fitting.{FitsBlocks}
-use Rattle.start_laws.specs.Along.{BeforeLast, IsAlong}
-use Rattle.start_laws.specs.Quieting.{IsQuiet}
-use Rattle.start_laws.specs.Faultless.{BeforeNext}
 use Rattle.start_laws.specs.Filling.{FaultsFilling}
 use Rattle.driver_laws.specs.Before.{OnlyPassLends}
 use Rattle.pmd_laws.specs.Told.{Moment, Told, now}

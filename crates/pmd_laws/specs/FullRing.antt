@@ -1,13 +1,7 @@
 -- How many slots are taken where a driver's ring is told to be full.
 use Rattle.std.specs.Prelude.{ℕ, ◌+◌, ◌<◌, ◌≤◌, List, ◌∷◌, Ok, length}
-use Rattle.nic_device.specs.DmaArena.Numbers.{Numbers}
-use Rattle.device_lock.specs.declared.entry.Call.{Call}
+use Rattle.driver_laws.specs.Prelude.{Numbers, Call, WhereUp, Rings, Up, Down, Packet, AtPort}
 use Rattle.pmd.specs.Bursts.{IsSendBurst}
-use Rattle.pmd.specs.Driver.{WhereUp}
-use Rattle.pmd.specs.declared.driver.Rings.{Rings}
-use Rattle.pmd.specs.declared.driver.Rings.TheVariants.{Up, Down}
-use Rattle.pmd.specs.PmdSeam.declared.packet.Packet.{Packet}
-use Rattle.pmd.specs.PmdSeam.Named.{AtPort}
 use Rattle.pmd.specs.PmdTx.Sending.{parts_for}
 use Rattle.pmd.specs.PmdTx.Sends.{IsFullWhereTold}
 use Rattle.pmd.specs.PmdTx.declared.answer.TxAnswer.TheVariants.{RingFull}

@@ -1,17 +1,11 @@
 -- What was made of a device in hand, over which the laws of a driver's life are said: a history of it.
 use Rattle.std.specs.Prelude.{ℕ, ◌≡◌, ◌<◌, List, [], ◌++◌}
-use Rattle.nic_device.specs.Sound.{IsSound}
-use Rattle.nic_device.specs.State.{State}
+use Rattle.driver_laws.specs.Prelude.{IsSound, State, AreEvents, IsLegal, calls_of, leads_to, Watched, Call, Entry, LeavesAloneFrom}
+use Rattle.pmd_laws.specs.Prelude.{IsAlong}
 use Rattle.device_lock.specs.Alone.{LeavesAlone}
-use Rattle.device_lock.specs.History.{AreEvents, IsLegal, calls_of, leads_to}
-use Rattle.device_lock.specs.declared.alone.Watched.{Watched}
-use Rattle.device_lock.specs.declared.entry.Call.{Call}
-use Rattle.device_lock.specs.declared.entry.Entry.{Entry}
 use Rattle.pmd.specs.PmdSeam.Begun.{From, began_handled, began_in_hand, entries_in, marked_entries}
 use Rattle.pmd.specs.PmdSeam.Made.{InHand}
 use Rattle.pmd.specs.PmdSeam.Scheduled.{Handled, made_of}
-use Rattle.start_laws.specs.Along.{IsAlong}
-use Rattle.start_laws.specs.HistoryLaws.Alone.{LeavesAloneFrom}
 
 -- what is known to have been made of a device from this state on, before it came into hand, and it may be nothing: a
 -- legal history, in which no entry is of pass 0. The state is any that a device can be in, new or used, with an EEPROM

@@ -1,12 +1,8 @@
 -- What a driver lends over its life: blocks of the arena that came to it, none of which its other half has lent.
 use Rattle.std.specs.Prelude.{ℕ, List}
-use Rattle.nic_device.specs.DmaArena.Numbers.{Numbers, is_own}
-use Rattle.device_lock.specs.declared.entry.Call.{Call}
+use Rattle.driver_laws.specs.Prelude.{Numbers, is_own, Call, Halves, halves_of, Running, AtPort}
 use Rattle.pmd.specs.Apart.{DrivesApart}
-use Rattle.pmd.specs.Halves.{Halves, halves_of}
 use Rattle.pmd.specs.Life.{Lives}
-use Rattle.pmd.specs.Running.{Running}
-use Rattle.pmd.specs.PmdSeam.Named.{AtPort}
 
 -- the halves as both sides are on: nothing is posted yet
 abbrev pub first_of : (q : AtPort) (size frame : ℕ) (old : List Call) (a : Numbers) (new : List Call) (r : Running)

@@ -14,6 +14,7 @@ pub mod Life
 pub mod Looks
 pub mod Order
 pub mod Places
+pub mod Prelude
 pub mod Refused
 pub mod Room
 pub mod Silent

@@ -1,15 +1,7 @@
 -- A driver's life over a history: a start that brought both rings up, and then the calls of its halves.
 use Rattle.std.specs.Prelude.{ℕ, List}
-use Rattle.nic_device.specs.DmaArena.Numbers.{Numbers}
-use Rattle.nic_device.specs.State.{State}
-use Rattle.device_lock.specs.declared.alone.Watched.{Watched}
-use Rattle.device_lock.specs.declared.entry.Call.{Call}
-use Rattle.device_lock.specs.declared.entry.Entry.{Entry}
-use Rattle.pmd.specs.Halves.{Halves, halves_of}
-use Rattle.pmd.specs.Running.{Running}
-use Rattle.pmd.specs.Started.{AreUp}
-use Rattle.pmd.specs.PmdSeam.Named.{AtPort}
-use Rattle.start_laws.specs.Along.{IsAlong}
+use Rattle.driver_laws.specs.Prelude.{Numbers, State, Watched, Call, Entry, Halves, halves_of, Running, AreUp, AtPort}
+use Rattle.pmd_laws.specs.Prelude.{IsAlong}
 use Rattle.start_laws.specs.Start.{BeginsWell}
 use Rattle.driver_laws.specs.Beside.{Leads}
 

@@ -1,11 +1,7 @@
 -- A call of a driver that looks in vain, whether it was to hand out one packet or several: it finds none that is whole.
 use Rattle.std.specs.Prelude.{ℕ, ◌≡◌, List, [], ◌∷◌, ◌++◌}
-use Rattle.device_lock.specs.History.{call_in, calls_of}
-use Rattle.device_lock.specs.declared.entry.Call.{Call}
-use Rattle.device_lock.specs.declared.entry.Entry.{Entry}
+use Rattle.driver_laws.specs.Prelude.{call_in, calls_of, Call, Entry, Receive, delivered}
 use Rattle.pmd.specs.PmdRx.Plays as receiving
-use Rattle.pmd.specs.PmdRx.Receive.{Receive}
-use Rattle.start_laws.specs.ReceiveLaws.Delivered.{delivered}
 use Rattle.driver_laws.specs.Beside.{AddsHarmless}
 use Rattle.pmd_laws.specs.Life.{Life}
 

@@ -1,13 +1,10 @@
 -- What a driver handed out and what it sent in its life, over a history that leaves its queue alone.
 use Rattle.std.specs.Prelude.{◌≡◌, [], ◌++◌}
-use Rattle.device_lock.specs.History.{calls_of, leads_to}
+use Rattle.driver_laws.specs.Prelude.{calls_of, leads_to, delivered, bytes_of, sent_since}
 use Rattle.pmd.specs.PmdRx.Receive.{records_of}
 use Rattle.start_laws.specs.ReceiveLaws.Delivered as receive
-use Rattle.start_laws.specs.ReceiveLaws.Delivered.{delivered}
 use Rattle.start_laws.specs.ReceiveLaws.Histories.{FindsNone, ShowsNone}
-use Rattle.start_laws.specs.TransmitLaws.Agreeing.{bytes_of}
 use Rattle.start_laws.specs.TransmitLaws.Laws as transmit
-use Rattle.start_laws.specs.TransmitLaws.Sent.{sent_since}
 use Rattle.pmd_laws.specs.Life.{Life}
 
 -- the pass made just the calls of this life in its history

@@ -1,19 +1,11 @@
 -- Where the blocks of a driver are at the device: lent there are those that it has out with its halves, and of its
 -- arena's no others.
 use Rattle.std.specs.Prelude.{ℕ, ◌≡◌, Bool, false, IsTrue, List, ◌++◌, if◌then◌else◌}
-use Rattle.nic_device.specs.DmaArena.Memory.{Memory, has_block}
-use Rattle.nic_device.specs.DmaArena.Numbers.{Numbers, is_free, is_own}
-use Rattle.nic_device.specs.DmaArena.Whereabouts.{places_of, times_in_hand}
-use Rattle.nic_device.specs.State.{State}
-use Rattle.device_lock.specs.History.{leads_to}
-use Rattle.device_lock.specs.declared.entry.Entry.{Entry}
+use Rattle.driver_laws.specs.Prelude.{Memory, has_block, Numbers, is_free, is_own, times_in_hand, State, leads_to, Entry, halted_of, halves_of, Rings, Up, Down, Halted}
+use Rattle.pmd_laws.specs.Prelude.{BeforeLast}
+use Rattle.nic_device.specs.DmaArena.Whereabouts.{places_of}
 use Rattle.pmd.specs.Blocks.{HasAll, KeepsBlocks}
-use Rattle.pmd.specs.Driver.{arena_of, halted_of}
-use Rattle.pmd.specs.Halves.{halves_of}
-use Rattle.pmd.specs.declared.driver.Rings.{Rings}
-use Rattle.pmd.specs.declared.driver.Rings.TheVariants.{Up, Down}
-use Rattle.pmd.specs.Halted.{Halted}
-use Rattle.start_laws.specs.Along.{BeforeLast}
+use Rattle.pmd.specs.Driver.{arena_of}
 use Rattle.driver_laws.specs.Before.{OnlyPassLends}
 use Rattle.driver_laws.specs.Healthy.{lent_by}
 use Rattle.pmd_laws.specs.Faultless.{NoneLent}

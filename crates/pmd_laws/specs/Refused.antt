@@ -1,24 +1,10 @@
 -- A driver whose start was refused, and what was sent on its queue meanwhile.
 use Rattle.std.specs.Prelude.{ℕ, ◌≡◌, List, [], ◌∷◌, ◌++◌}
-use Rattle.nic_device.specs.DmaArena.Numbers.{Numbers}
-use Rattle.nic_device.specs.State.{State}
-use Rattle.device_lock.specs.History.{calls_of, leads_to}
-use Rattle.device_lock.specs.declared.alone.Watched.{Watched}
-use Rattle.device_lock.specs.declared.entry.Call.{Call}
-use Rattle.device_lock.specs.declared.entry.Entry.{Entry}
+use Rattle.driver_laws.specs.Prelude.{Numbers, State, calls_of, leads_to, Watched, Call, Entry, left_accepted, left_handed, Rest, StartRefused, AreSteps, AtPort, delivered, bytes_of, sent_in, sent_since}
+use Rattle.pmd_laws.specs.Prelude.{IsAlong, IsQuiet}
 use Rattle.pmd.specs.Life.{NeverLived}
-use Rattle.pmd.specs.Started.{left_accepted, left_handed}
-use Rattle.pmd.specs.declared.start.Rest.{Rest}
-use Rattle.pmd.specs.declared.start.StartRefused.{StartRefused}
-use Rattle.pmd.specs.PmdSeam.Made.{AreSteps}
-use Rattle.pmd.specs.PmdSeam.Named.{AtPort}
 use Rattle.start_laws.specs.ReceiveLaws.Delivered as receive
-use Rattle.start_laws.specs.ReceiveLaws.Delivered.{delivered}
-use Rattle.start_laws.specs.TransmitLaws.Agreeing.{bytes_of}
 use Rattle.start_laws.specs.TransmitLaws.Laws as transmit
-use Rattle.start_laws.specs.TransmitLaws.Sent.{sent_in, sent_since}
-use Rattle.start_laws.specs.Along.{IsAlong}
-use Rattle.start_laws.specs.Quieting.{IsQuiet}
 
 -- a driver's start was refused over a legal history of a sound device that leaves the queue alone, up to some place amid
 -- the start and the stop of what it left, or to where these ended

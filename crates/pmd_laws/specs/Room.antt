@@ -1,6 +1,6 @@
 -- Where an arena has room for a driver's rings.
 use Rattle.std.specs.Prelude.{ℕ, ◌≡◌, ◌↔◌, ◌+◌, ◌<◌, ◌≤◌, true, is_some}
-use Rattle.nic_device.specs.DmaArena.Numbers.{Numbers}
+use Rattle.driver_laws.specs.Prelude.{Numbers}
 use Rattle.nic_device.specs.DmaArena.Run.{IsFreeRun}
 use Rattle.pmd.specs.Runs.{second_run}
 

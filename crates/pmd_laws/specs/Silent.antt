@@ -1,19 +1,11 @@
 -- A driver whose queue was switched off behind its life, and what goes on there from then on.
 use Rattle.std.specs.Prelude.{◌≡◌, List, ◌++◌, Option, Some, None}
 use Rattle.std.proofs.Common.{inl, inr}
-use Rattle.device_lock.specs.History.{calls_of}
-use Rattle.device_lock.specs.declared.entry.Call.{Call}
-use Rattle.device_lock.specs.declared.entry.Entry.{Entry}
-use Rattle.pmd.specs.Driver.{halted_of}
+use Rattle.driver_laws.specs.Prelude.{calls_of, Call, Entry, halted_of, Up, Rest, PmdFault, Halted, AtPort}
+use Rattle.pmd_laws.specs.Prelude.{EndsOnceOff}
 use Rattle.pmd.specs.Life.{IsStopped}
-use Rattle.pmd.specs.declared.driver.Rings.TheVariants.{Up}
-use Rattle.pmd.specs.declared.start.Rest.{Rest}
 use Rattle.pmd.specs.declared.start.Rest.TheVariants as rest
-use Rattle.pmd.specs.PmdSeam.declared.fault.PmdFault.{PmdFault}
-use Rattle.pmd.specs.Halted.{Halted}
-use Rattle.pmd.specs.PmdSeam.Named.{AtPort}
 use Rattle.start_laws.specs.Silent.{IsSilent}
-use Rattle.start_laws.specs.Stopping.{EndsOnceOff}
 use Rattle.pmd_laws.specs.Ends.{Ended, IsOver}
 use Rattle.pmd_laws.specs.Life.{Life}
 use Rattle.pmd_laws.specs.Stopped.{IsStopping}

@@ -1,18 +1,11 @@
 -- A driver's life, and then calls of its stop.
 use Rattle.std.specs.Prelude.{◌≡◌, List, []}
-use Rattle.device_lock.specs.History.{calls_of}
-use Rattle.device_lock.specs.declared.entry.Call.{Call}
-use Rattle.pmd.specs.PmdSeam.declared.fault.PmdFault.{PmdFault}
-use Rattle.pmd.specs.Halted.{Halted}
+use Rattle.driver_laws.specs.Prelude.{calls_of, Call, PmdFault, Halted, AtPort, delivered, bytes_of, sent_since}
+use Rattle.pmd_laws.specs.Prelude.{Ends, TakesOnceOff}
 use Rattle.pmd.specs.Stopping.{StopFails, Stops}
 use Rattle.pmd.specs.declared.home.Home.{Home}
-use Rattle.pmd.specs.PmdSeam.Named.{AtPort}
 use Rattle.start_laws.specs.ReceiveLaws.Delivered as receive
-use Rattle.start_laws.specs.ReceiveLaws.Delivered.{delivered}
-use Rattle.start_laws.specs.TransmitLaws.Agreeing.{bytes_of}
 use Rattle.start_laws.specs.TransmitLaws.Laws as transmit
-use Rattle.start_laws.specs.TransmitLaws.Sent.{sent_since}
-use Rattle.start_laws.specs.Stopping.{Ends, TakesOnceOff}
 use Rattle.pmd_laws.specs.Life.{Life}
 
 -- behind a life the pass made the calls of a stop, and no others: none writes the queue's enable words with bit 25

@@ -1,26 +1,15 @@
 -- A driver's life as its calls tell it: what the clauses of `start`, `rx`, `tx`, `reap`, `rx_burst`, `tx_burst`,
 -- `packet` and `release` say of the driver, and of the calls that its pass made.
 use Rattle.std.specs.Prelude.{ℕ, ◌≡◌, ◌⊎◌, ⊤, List, [], ◌∷◌, ◌++◌}
-use Rattle.nic_device.specs.DmaArena.Numbers.{Numbers}
-use Rattle.nic_device.specs.State.{State}
-use Rattle.device_lock.specs.History.{calls_of}
-use Rattle.device_lock.specs.declared.alone.Watched.{Watched}
-use Rattle.device_lock.specs.declared.entry.Call.{Call}
-use Rattle.device_lock.specs.declared.entry.Entry.{Entry}
-use Rattle.pmd.specs.Driver.{Driver, WhereUp, accepted_of, handed_of}
+use Rattle.driver_laws.specs.Prelude.{Numbers, State, calls_of, Watched, Call, Entry, WhereUp, accepted_of, handed_of, Rings, Up, Down, AtPort, delivered, bytes_of, sent_since}
+use Rattle.pmd_laws.specs.Prelude.{IsAlong}
+use Rattle.pmd.specs.Driver.{Driver}
 use Rattle.pmd.specs.Life.{RunsOn, KeepsHalves}
 use Rattle.pmd.specs.Started.{HasStarted}
-use Rattle.pmd.specs.declared.driver.Rings.{Rings}
-use Rattle.pmd.specs.declared.driver.Rings.TheVariants.{Up, Down}
-use Rattle.pmd.specs.PmdSeam.Named.{AtPort}
 use Rattle.pmd.specs.PmdRx.Plays as receiving
 use Rattle.start_laws.specs.ReceiveLaws.Delivered as receive
-use Rattle.start_laws.specs.ReceiveLaws.Delivered.{delivered}
-use Rattle.start_laws.specs.TransmitLaws.Agreeing.{bytes_of}
 use Rattle.start_laws.specs.TransmitLaws.Laws as transmit
-use Rattle.start_laws.specs.TransmitLaws.Sent.{sent_since}
 use Rattle.driver_laws.specs.Beside.{AddsHarmless}
-use Rattle.start_laws.specs.Along.{IsAlong}
 use Rattle.start_laws.specs.Start.{BeginsWell}
 use Rattle.pmd_laws.specs.Looks.{EndsAt}
 

@@ -1,14 +1,8 @@
 -- A call of a driver that ends with a packet outstanding.
 use Rattle.std.specs.Prelude.{◌≡◌, ◌≢◌, List, [], ◌++◌}
-use Rattle.device_lock.specs.History.{calls_of}
-use Rattle.device_lock.specs.declared.entry.Call.{Call}
-use Rattle.device_lock.specs.declared.entry.Entry.{Entry}
-use Rattle.pmd.specs.Driver.{WhereUp, accepted_of}
+use Rattle.driver_laws.specs.Prelude.{calls_of, Call, Entry, WhereUp, accepted_of, Sender, bytes_of, sent_since}
 use Rattle.pmd.specs.PmdTx.Plays.{LooksLast}
-use Rattle.pmd.specs.PmdTx.Sending.{Sender}
-use Rattle.start_laws.specs.TransmitLaws.Agreeing.{bytes_of}
 use Rattle.driver_laws.specs.Beside.{AddsHarmless}
-use Rattle.start_laws.specs.TransmitLaws.Sent.{sent_since}
 use Rattle.pmd_laws.specs.Life.{Life}
 use Rattle.pmd_laws.specs.Looks.{EndsAt}
 use Rattle.pmd_laws.specs.Told.{Moment, Told, now}

@@ -3,16 +3,11 @@ use Rattle.std.proofs.Common.{◌≡◌, ℕ, inl, inr, Bool, true, false, not, 
 use Rattle.std.specs.Prelude.{IsTrue, IsFalse}
 use Rattle.std.proofs.lemmas.Bool.{both_ways, cases_Bool}
 use Rattle.nic_device.specs.RegisterFile.Queue.{is_on}
-use Rattle.nic_device.specs.DmaRing.declared.dir.Dir.TheVariants.{Rx, Tx}
-use Rattle.nic_device.specs.State.{State}
-use Rattle.nic_device.specs.Step.{after}
-use Rattle.workers.specs.DeviceLock.History.{leads_to}
-use Rattle.workers.specs.DeviceLock.declared.entry.Entry.{Entry}
-use Rattle.pmd_laws.specs.StartLaws.ReceiveLaws.Delivered.{delivered, gathered, packets_if_any, pieces_since}
-use Rattle.pmd_laws.specs.StartLaws.ReceiveLaws.Pieces.{Piece, pieces}
+use Rattle.pmd_laws.specs.DriverLaws.Prelude.{Rx, Tx, State, after, leads_to, Entry, delivered, pieces_since, Piece, pieces, sent_by, sent_since}
+use Rattle.pmd_laws.specs.StartLaws.ReceiveLaws.Delivered.{gathered, packets_if_any}
 use Rattle.pmd_laws.proofs.StartLaws.Histories.{leads-append}
 use Rattle.pmd_laws.proofs.StartLaws.ReceiveLaws.Delivering.{since-append}
-use Rattle.pmd_laws.specs.StartLaws.TransmitLaws.Sent.{counted_by, sent_by, sent_since}
+use Rattle.pmd_laws.specs.StartLaws.TransmitLaws.Sent.{counted_by}
 use Rattle.pmd_laws.proofs.StartLaws.TransmitLaws.Counting.{sent_is_counted}
 
 -- where a side goes on what was before doesn't count

@@ -1,20 +1,11 @@
 -- The calls that a driver made so far, from where its start saw both sides off on.
 use Rattle.std.proofs.Common.{◌≡◌, ℕ, Bool, true, false, List, ◌∷◌, ◌++◌, ap, ◌∙◌, append_assoc}
-use Rattle.nic_device.specs.DmaArena.Numbers.{Numbers}
-use Rattle.nic_device.specs.RegTable.declared.rows.RowId.TheVariants.{Rxdctl}
-use Rattle.nic_device.specs.DmaRing.declared.dir.Dir.{Dir}
-use Rattle.nic_device.specs.DmaRing.declared.dir.Dir.TheVariants.{Rx, Tx}
-use Rattle.workers.specs.DeviceLock.declared.entry.Call.{Call}
-use Rattle.pmd.specs.PmdSeam.Both.{IsSwitched, both_quiet, receive_polled}
-use Rattle.pmd.specs.PmdSeam.Named.{AtPort}
-use Rattle.pmd.specs.PmdSeam.QueueMade.{AreMade, Sees, Sets}
-use Rattle.pmd.specs.PmdSeam.Sides.{polled, quiet, ring_words}
-use Rattle.pmd.specs.PmdSeam.Slots.{ring_blocks}
+use Rattle.pmd_laws.specs.DriverLaws.Prelude.{Numbers, Rxdctl, Dir, Rx, Tx, Call, IsSwitched, AtPort, Sees, Sets, ring_words, ring_blocks, Receive, Halves, Running, AreUp}
+use Rattle.pmd.specs.PmdSeam.Both.{both_quiet, receive_polled}
+use Rattle.pmd.specs.PmdSeam.QueueMade.{AreMade}
+use Rattle.pmd.specs.PmdSeam.Sides.{polled, quiet}
 use Rattle.pmd.specs.PmdRx.Plays.{Plays}
-use Rattle.pmd.specs.PmdRx.Receive.{Receive}
-use Rattle.pmd.specs.Halves.{Drives, Halves}
-use Rattle.pmd.specs.Running.{Running}
-use Rattle.pmd.specs.Started.{AreUp}
+use Rattle.pmd.specs.Halves.{Drives}
 use Rattle.pmd.specs.Starting.{IsPrepared}
 use Rattle.pmd_laws.proofs.StartLaws.Made.{extends}
 use Rattle.pmd_laws.proofs.StartLaws.Prepared.{lends_extend}

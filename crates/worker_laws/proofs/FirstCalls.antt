@@ -5,14 +5,7 @@ use Rattle.std.proofs.lemmas.Bool.{eq-eqb}
 use Rattle.nic_device.specs.RegTable.declared.rows.RowId.{RowId}
 use Rattle.nic_device.specs.declared.event.Event.TheVariants as event
 use Rattle.nic_device.specs.declared.event.Reply.TheVariants as reply
-use Rattle.workers.specs.DeviceLock.History.{call_in, calls_of}
-use Rattle.workers.specs.DeviceLock.Pass.{call_of}
-use Rattle.workers.specs.DeviceLock.declared.entry.Call.{Call}
-use Rattle.workers.specs.DeviceLock.declared.entry.Entry.{Entry}
-use Rattle.pmd.specs.PmdSeam.Events.{is_step}
-use Rattle.pmd.specs.PmdSeam.Made.{AreSteps}
-use Rattle.pmd.specs.PmdSeam.Named.{AtPort}
-use Rattle.pmd.specs.PmdSeam.QueueMade.{IsMade, Sees}
+use Rattle.pmd_laws.specs.DriverLaws.Prelude.{call_in, calls_of, call_of, Call, Entry, is_step, AreSteps, AtPort, IsMade, Sees}
 use Rattle.pmd_laws.proofs.StartLaws.ReceiveLaws.Histories.{calls_own}
 use Rattle.pmd_laws.proofs.StartLaws.Parts.{calls_joined}
 use Rattle.workers.specs.Starts.{Starts}

@@ -1,19 +1,14 @@
 -- What the entries before a driver's start tell is so of the device there.
 use Rattle.std.proofs.Common.{◌≡◌, ℕ, List, ◌∷◌, length, refl, sym, ap, ◌∙◌, subst}
-use Rattle.nic_device.specs.Sound.{IsSound}
-use Rattle.nic_device.specs.State.{State, new_state}
+use Rattle.pmd_laws.specs.DriverLaws.Prelude.{IsSound, State, new_state, AreEvents, leads_to, Watched, Call, Entry}
+use Rattle.pmd_laws.specs.Prelude.{HasGround}
 use Rattle.nic_device.specs.VfMap.declared.mode.Mode.{Mode}
 use Rattle.workers.specs.Beginning.{BeginsWell}
-use Rattle.workers.specs.DeviceLock.History.{AreEvents, leads_to}
 use Rattle.workers.specs.DeviceLock.Told.{first_settings, settings_through}
-use Rattle.workers.specs.DeviceLock.declared.alone.Watched.{Watched}
-use Rattle.workers.specs.DeviceLock.declared.entry.Call.{Call}
-use Rattle.workers.specs.DeviceLock.declared.entry.Entry.{Entry}
 use Rattle.workers.specs.DeviceLock.declared.told.Settings.{Settings}
 use Rattle.workers.specs.Starts.{Starts}
 use Rattle.workers.specs.declared.beginning.Given.{Given}
 use Rattle.pmd_laws.specs.StartLaws.Numbers.{queue_at}
-use Rattle.pmd_laws.specs.StartLaws.Points.{HasGround}
 use Rattle.pmd_laws.proofs.StartLaws.HistoryLaws.Limits.{settings_told}
 use Rattle.pmd_laws.proofs.StartLaws.Histories.{events_before}
 use Rattle.pmd_laws.proofs.StartLaws.ReceiveLaws.Delivering.{vfs_stays}

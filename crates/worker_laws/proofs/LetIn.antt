@@ -3,11 +3,8 @@ use Rattle.std.proofs.Common.{◌≡◌, ℕ, ◌+◌, ◌≤◌, nat_lt, max, L
 use Rattle.std.specs.Prelude.{Result, All, not}
 use Rattle.std.proofs.Math.Nat.{le-max_left, le-max_right}
 use Rattle.std.proofs.lemmas.List.Elements.{All-cons, All-filter, All-head, All-nil, All-push, All-tail, All-weaker}
-use Rattle.nic_device.specs.DmaArena.Block.{Block}
-use Rattle.nic_device.specs.DmaRing.declared.dir.Dir.TheVariants.{Rx, Tx}
-use Rattle.nic_device.specs.RegTable.Rows.{row_of}
-use Rattle.nic_device.specs.RegisterFile.Access.{asks_pool_reset, asks_reset}
-use Rattle.nic_device.specs.RegisterFile.Pools.{mode_in}
+use Rattle.pmd_laws.specs.DriverLaws.Prelude.{Block, Rx, Tx, row_of, asks_pool_reset, mode_in, named, State, new_state, after, reply_to, Event, Port, Reply, Register, IsLegal, leads_to, Entry}
+use Rattle.nic_device.specs.RegisterFile.Access.{asks_reset}
 use Rattle.nic_device.specs.RegisterFile.Registers.{is_wanted}
 use Rattle.nic_device.specs.RegisterFile.Settings.{can_receive, frame_limit}
 use Rattle.nic_device.specs.RxFilter.Sorting.{sorted}
@@ -16,25 +13,19 @@ use Rattle.nic_device.specs.RxFilter.declared.unwanted.Unwanted.{Unwanted}
 use Rattle.nic_device.specs.VfMap.Owner.{has_queue}
 use Rattle.nic_device.specs.Access.{named_written}
 use Rattle.nic_device.specs.Arrival.{let_in, sorted_in}
-use Rattle.nic_device.specs.Named.{named}
 use Rattle.nic_device.specs.Outcome.{Outcome}
-use Rattle.nic_device.specs.State.{State, Waiting, new_state}
-use Rattle.nic_device.specs.Step.{after, reply_to, step_of}
+use Rattle.nic_device.specs.State.{Waiting}
+use Rattle.nic_device.specs.Step.{step_of}
 use Rattle.nic_device.specs.Switching.{without_part}
-use Rattle.nic_device.specs.declared.event.Event.{Event}
 use Rattle.nic_device.specs.declared.event.Event.TheVariants as event
-use Rattle.nic_device.specs.declared.event.Port.{Port}
-use Rattle.nic_device.specs.declared.event.Reply.{Reply}
 use Rattle.nic_device.specs.declared.named.Named.{Named}
-use Rattle.nic_device.specs.declared.named.Named.TheVariants.{Nothing, Register}
+use Rattle.nic_device.specs.declared.named.Named.TheVariants.{Nothing}
 use Rattle.nic_device.proofs.Cases.{either_way, switched_cases}
 use Rattle.nic_device.proofs.QueueCases.{received_cases}
 use Rattle.pmd_laws.proofs.StartLaws.HistoryLaws.DeviceLaws.Resetting.{is_reset}
 use Rattle.pmd_laws.proofs.StartLaws.HistoryLaws.DeviceLaws.Standing.{stays_within}
 use Rattle.pmd_laws.proofs.StartLaws.HistoryLaws.DeviceLaws.StandingAccesses.{read_rest}
 use Rattle.workers.specs.Before.{known_through}
-use Rattle.workers.specs.DeviceLock.History.{IsLegal, leads_to}
-use Rattle.workers.specs.DeviceLock.declared.entry.Entry.{Entry}
 use Rattle.workers.specs.Fitting.{let_in_by, longest_behind}
 
 -- a frame that waits has no more bytes than this

@@ -3,35 +3,14 @@ use Rattle.std.proofs.Common.{◌≡◌, ℕ, inl, inr, false, List, [], ◌∷�
 use Rattle.std.specs.Prelude.{IsTrue, IsFalse}
 use Rattle.std.proofs.lemmas.Bool.{both_ways}
 use Rattle.std.proofs.lemmas.List.{append-nil, append_cancel_left}
-use Rattle.nic_device.specs.DmaArena.Numbers.{Numbers}
-use Rattle.nic_device.specs.RegTable.declared.rows.RowId.TheVariants.{Rxdctl}
+use Rattle.pmd_laws.specs.DriverLaws.Prelude.{Numbers, Rxdctl, Rx, Tx, State, new_state, calls_of, leads_to, Watched, Call, Entry, is_step, AreSteps, AtPort, PmdFault, halted_of, halves_of, AreUp, left_accepted, left_handed, Up, Rest, delivered, bytes_of, sent_since}
+use Rattle.pmd_laws.specs.Prelude.{IsAlong, HasGround, IsQuiet}
 use Rattle.nic_device.specs.RegisterFile.Queue.{is_on}
-use Rattle.nic_device.specs.DmaRing.declared.dir.Dir.TheVariants.{Rx, Tx}
-use Rattle.nic_device.specs.State.{State, new_state}
-use Rattle.workers.specs.DeviceLock.History.{calls_of, leads_to}
-use Rattle.workers.specs.DeviceLock.declared.alone.Watched.{Watched}
-use Rattle.workers.specs.DeviceLock.declared.entry.Call.{Call}
-use Rattle.workers.specs.DeviceLock.declared.entry.Entry.{Entry}
 use Rattle.workers.specs.Starts.{Starts}
-use Rattle.pmd.specs.PmdSeam.Events.{is_step}
-use Rattle.pmd.specs.PmdSeam.Made.{AreSteps}
-use Rattle.pmd.specs.PmdSeam.Named.{AtPort}
-use Rattle.pmd.specs.PmdSeam.declared.fault.PmdFault.{PmdFault}
-use Rattle.pmd.specs.Driver.{halted_of}
-use Rattle.pmd.specs.Halves.{halves_of}
 use Rattle.pmd.specs.Life.{HasLived}
-use Rattle.pmd.specs.Started.{AreUp, left_accepted, left_handed}
-use Rattle.pmd.specs.declared.driver.Rings.TheVariants.{Up}
-use Rattle.pmd.specs.declared.start.Rest.{Rest}
 use Rattle.pmd_laws.specs.StartLaws.ReceiveLaws.Delivered as receive
-use Rattle.pmd_laws.specs.StartLaws.ReceiveLaws.Delivered.{delivered}
 use Rattle.pmd_laws.proofs.StartLaws.Histories.{leads-append}
-use Rattle.pmd_laws.specs.StartLaws.TransmitLaws.Agreeing.{bytes_of}
 use Rattle.pmd_laws.specs.StartLaws.TransmitLaws.Laws as transmit
-use Rattle.pmd_laws.specs.StartLaws.TransmitLaws.Sent.{sent_since}
-use Rattle.pmd_laws.specs.StartLaws.Along.{IsAlong}
-use Rattle.pmd_laws.specs.StartLaws.Points.{HasGround}
-use Rattle.pmd_laws.specs.StartLaws.Quieting.{IsQuiet}
 use Rattle.pmd_laws.specs.StartLaws.Start.{BeginsWell}
 use Rattle.pmd_laws.specs.StartLaws.Unused.{WentOn}
 use Rattle.pmd_laws.proofs.StartLaws.Parts.{Begins, Parts, around, calls_joined, one_begins, parts}

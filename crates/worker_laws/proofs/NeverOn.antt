@@ -1,14 +1,8 @@
 -- A queue that was never asked on is off where its driver starts.
 use Rattle.std.proofs.Common.{◌≡◌, ℕ, ◌<◌, false, List, [], ◌∷◌, ◌++◌, append_assoc, refl, sym, ◌∙◌, subst}
 use Rattle.std.proofs.lemmas.List.{append-nil}
-use Rattle.nic_device.specs.DmaRing.declared.dir.Dir.{Dir}
-use Rattle.nic_device.specs.DmaRing.declared.dir.Dir.TheVariants.{Rx, Tx}
-use Rattle.nic_device.specs.Sound.{IsSound}
-use Rattle.nic_device.specs.State.{State, new_state}
+use Rattle.pmd_laws.specs.DriverLaws.Prelude.{Dir, Rx, Tx, IsSound, State, new_state, AreEvents, leads_to, Watched, Entry}
 use Rattle.nic_device.proofs.Steps.{new_sound}
-use Rattle.workers.specs.DeviceLock.History.{AreEvents, leads_to}
-use Rattle.workers.specs.DeviceLock.declared.alone.Watched.{Watched}
-use Rattle.workers.specs.DeviceLock.declared.entry.Entry.{Entry}
 use Rattle.pmd_laws.specs.StartLaws.HistoryLaws.Sides.{IsOff, side_of}
 use Rattle.pmd_laws.proofs.StartLaws.HistoryLaws.Limits.{settings_told}
 use Rattle.pmd_laws.proofs.StartLaws.HistoryLaws.Sound.{histories_sound}

@@ -1,22 +1,16 @@
 -- A side of a queue that is off and not wanted on stays so over every event that doesn't ask the queue on.
 use Rattle.std.proofs.Common.{◌≡◌, ℕ, ◌<◌, ◌&&◌, inl, inr, true, false, Some, cond, refl, sym, ap, ◌∙◌, subst}
 use Rattle.std.proofs.lemmas.Bool.{cases_Bool, eq-eqb}
-use Rattle.nic_device.specs.DmaArena.Block.{Block}
-use Rattle.nic_device.specs.DmaRing.declared.dir.Dir.{Dir}
-use Rattle.nic_device.specs.DmaRing.declared.dir.Dir.TheVariants.{Rx, Tx}
+use Rattle.pmd_laws.specs.DriverLaws.Prelude.{Block, Dir, Rx, Tx, row_of, Rxdctl, asks_pool_reset, has_bit, place, mode_in, named, IsSound, State, after, Event, Port, Register, Watched}
 use Rattle.nic_device.specs.EepromImage.Image.{blank}
 use Rattle.nic_device.specs.EepromImage.Triples.{triples_of}
 use Rattle.nic_device.proofs.EepromImage.Blank.{triples_of-blank}
-use Rattle.nic_device.specs.RegTable.Rows.{row_of}
 use Rattle.nic_device.specs.RegTable.declared.place.Place.{Place}
 use Rattle.nic_device.specs.RegTable.declared.rows.RowId.{RowId}
-use Rattle.nic_device.specs.RegTable.declared.rows.RowId.TheVariants.{Rxdctl, Txdctl}
+use Rattle.nic_device.specs.RegTable.declared.rows.RowId.TheVariants.{Txdctl}
 use Rattle.nic_device.specs.VfMap.Owner.{has_queue}
 use Rattle.nic_device.specs.VfMap.declared.mode.Mode.{Mode}
-use Rattle.nic_device.specs.RegisterFile.Access.{asks_pool_reset, asks_reset}
-use Rattle.nic_device.specs.RegisterFile.Bits.{has_bit}
-use Rattle.nic_device.specs.RegisterFile.Columns.{place}
-use Rattle.nic_device.specs.RegisterFile.Pools.{mode_in}
+use Rattle.nic_device.specs.RegisterFile.Access.{asks_reset}
 use Rattle.nic_device.specs.RegisterFile.Queue.{enable_row, is_on}
 use Rattle.nic_device.specs.RegisterFile.Registers.{Registers, is_wanted}
 use Rattle.nic_device.specs.RegisterLaws.Footprint.{is_place, of_write, pool_renews}
@@ -28,19 +22,14 @@ use Rattle.nic_device.proofs.RegisterLaws.Switches.{receive-asked, transmit-aske
 use Rattle.nic_device.proofs.RegisterLaws.Within.{within-written}
 use Rattle.nic_device.specs.Access.{named_written}
 use Rattle.nic_device.specs.Eeprom.{reset, with_triples}
-use Rattle.nic_device.specs.Named.{named}
 use Rattle.nic_device.specs.PoolReset.{with_pool_reset, written_below_reset}
-use Rattle.nic_device.specs.Sound.{IsSound}
-use Rattle.nic_device.specs.State.{State, cleared}
-use Rattle.nic_device.specs.Step.{after, step_of}
-use Rattle.nic_device.specs.declared.event.Event.{Event}
+use Rattle.nic_device.specs.State.{cleared}
+use Rattle.nic_device.specs.Step.{step_of}
 use Rattle.nic_device.specs.declared.event.Event.TheVariants as event
-use Rattle.nic_device.specs.declared.event.Port.{Port}
 use Rattle.nic_device.specs.declared.named.Named.{Named}
-use Rattle.nic_device.specs.declared.named.Named.TheVariants.{Nothing, Register}
+use Rattle.nic_device.specs.declared.named.Named.TheVariants.{Nothing}
 use Rattle.nic_device.proofs.SidesOn.{sides-after_write}
 use Rattle.workers.specs.DeviceLock.Alone.{place_at}
-use Rattle.workers.specs.DeviceLock.declared.alone.Watched.{Watched}
 use Rattle.pmd_laws.specs.StartLaws.HistoryLaws.Sides.{IsOff, side_of}
 use Rattle.pmd_laws.proofs.StartLaws.HistoryLaws.Deeds.{side_did}
 use Rattle.pmd_laws.proofs.StartLaws.HistoryLaws.DeviceLaws.PoolResets.{asked_pool_resets}

@@ -1,25 +1,12 @@
 -- What a worker's end tells is in order.
 use Rattle.std.proofs.Common.{◌≡◌, ◌≢◌, ◌⊎◌, ◌<◌, ℕ, inl, inr, List, [], ◌∷◌, ◌++◌, Option, Some, None, refl, sym, ◌∙◌, subst}
-use Rattle.nic_device.specs.DmaArena.Numbers.{Numbers}
-use Rattle.nic_device.specs.Sound.{IsSound}
-use Rattle.nic_device.specs.State.{new_state}
+use Rattle.pmd_laws.specs.DriverLaws.Prelude.{Numbers, IsSound, new_state, call_in, calls_of, leads_to, Watched, Call, Entry, AtPort, left_accepted, left_handed, Rest, delivered, bytes_of, sent_since}
+use Rattle.pmd_laws.specs.Prelude.{IsAlong, HasGround, IsQuiet}
 use Rattle.nic_device.proofs.Steps.{new_sound}
-use Rattle.workers.specs.DeviceLock.History.{call_in, calls_of, leads_to}
-use Rattle.workers.specs.DeviceLock.declared.alone.Watched.{Watched}
-use Rattle.workers.specs.DeviceLock.declared.entry.Call.{Call}
-use Rattle.workers.specs.DeviceLock.declared.entry.Entry.{Entry}
-use Rattle.pmd.specs.PmdSeam.Named.{AtPort}
-use Rattle.pmd.specs.Started.{IsHome, left_accepted, left_handed}
-use Rattle.pmd.specs.declared.start.Rest.{Rest}
+use Rattle.pmd.specs.Started.{IsHome}
 use Rattle.pmd.specs.declared.start.Rest.TheVariants as rest
 use Rattle.pmd_laws.specs.StartLaws.ReceiveLaws.Delivered as receive
-use Rattle.pmd_laws.specs.StartLaws.ReceiveLaws.Delivered.{delivered}
-use Rattle.pmd_laws.specs.StartLaws.TransmitLaws.Agreeing.{bytes_of}
 use Rattle.pmd_laws.specs.StartLaws.TransmitLaws.Laws as transmit
-use Rattle.pmd_laws.specs.StartLaws.TransmitLaws.Sent.{sent_since}
-use Rattle.pmd_laws.specs.StartLaws.Along.{IsAlong}
-use Rattle.pmd_laws.specs.StartLaws.Points.{HasGround}
-use Rattle.pmd_laws.specs.StartLaws.Quieting.{IsQuiet}
 use Rattle.pmd_laws.proofs.StartLaws.HistoryLaws.Alone.{new_is_left_alone}
 use Rattle.pmd_laws.proofs.StartLaws.Parts.{none_behind}
 use Rattle.pmd_laws.proofs.Lived.{along_before}

@@ -1,24 +1,11 @@
 -- A driver whose start was refused: what it left, counted from its first event on.
 use Rattle.std.proofs.Common.{◌≡◌, ℕ, List, [], ◌∷◌, ◌++◌, sym, ◌∙◌}
 use Rattle.std.proofs.lemmas.List.{append-nil}
-use Rattle.nic_device.specs.DmaArena.Numbers.{Numbers}
-use Rattle.nic_device.specs.State.{new_state}
-use Rattle.workers.specs.DeviceLock.History.{call_in, calls_of, leads_to}
-use Rattle.workers.specs.DeviceLock.declared.alone.Watched.{Watched}
-use Rattle.workers.specs.DeviceLock.declared.entry.Call.{Call}
-use Rattle.workers.specs.DeviceLock.declared.entry.Entry.{Entry}
-use Rattle.pmd.specs.PmdSeam.Named.{AtPort}
+use Rattle.pmd_laws.specs.DriverLaws.Prelude.{Numbers, new_state, call_in, calls_of, leads_to, Watched, Call, Entry, AtPort, left_accepted, left_handed, Rest, StartRefused, delivered, bytes_of, sent_since}
+use Rattle.pmd_laws.specs.Prelude.{IsAlong, IsQuiet}
 use Rattle.pmd.specs.Life.{NeverLived}
-use Rattle.pmd.specs.Started.{left_accepted, left_handed}
-use Rattle.pmd.specs.declared.start.Rest.{Rest}
-use Rattle.pmd.specs.declared.start.StartRefused.{StartRefused}
 use Rattle.pmd_laws.specs.StartLaws.ReceiveLaws.Delivered as receive
-use Rattle.pmd_laws.specs.StartLaws.ReceiveLaws.Delivered.{delivered}
-use Rattle.pmd_laws.specs.StartLaws.TransmitLaws.Agreeing.{bytes_of}
 use Rattle.pmd_laws.specs.StartLaws.TransmitLaws.Laws as transmit
-use Rattle.pmd_laws.specs.StartLaws.TransmitLaws.Sent.{sent_since}
-use Rattle.pmd_laws.specs.StartLaws.Along.{IsAlong}
-use Rattle.pmd_laws.specs.StartLaws.Quieting.{IsQuiet}
 use Rattle.pmd_laws.specs.Refused.{Refused}
 use Rattle.pmd_laws.proofs.Refused.{left_of_refused_is_prefix}
 use Rattle.workers.specs.Starts.{Starts}

@@ -2,15 +2,9 @@
 use Rattle.std.proofs.Common.{ℕ, ◌*◌, ◌≤◌, false, List, ◌∷◌, length, refl, sym, subst, arith}
 use Rattle.std.specs.Prelude.{All}
 use Rattle.std.proofs.lemmas.List.Elements.{All-weaker}
-use Rattle.nic_device.specs.RegTable.declared.rows.RowId.TheVariants.{Rxdctl}
-use Rattle.nic_device.specs.State.{State, Waiting, new_state}
-use Rattle.pmd.specs.PmdSeam.Frames.{most_blocks}
-use Rattle.pmd_laws.specs.StartLaws.ReceiveLaws.Fitting.{FitsBlocks}
+use Rattle.pmd_laws.specs.DriverLaws.Prelude.{Rxdctl, State, new_state, most_blocks, FitsBlocks, IsLegal, leads_to, Watched, Call, Entry}
+use Rattle.nic_device.specs.State.{Waiting}
 use Rattle.pmd_laws.proofs.StartLaws.Histories.{legal_before}
-use Rattle.workers.specs.DeviceLock.History.{IsLegal, leads_to}
-use Rattle.workers.specs.DeviceLock.declared.alone.Watched.{Watched}
-use Rattle.workers.specs.DeviceLock.declared.entry.Call.{Call}
-use Rattle.workers.specs.DeviceLock.declared.entry.Entry.{Entry}
 use Rattle.workers.specs.Fitting.{FramesFit, longest_let_in}
 use Rattle.worker_laws.specs.Fitting.{AllFitBlocks, FramesFitIsShort}
 use Rattle.worker_laws.specs.Points.{JustBefore}

@@ -3,9 +3,7 @@ use Rattle.std.proofs.Common.{◌≡◌, ◌≢◌, ◌⊎◌, ℕ, inl, inr, Li
 use Rattle.std.proofs.lemmas.Bool.{eq-eqb}
 use Rattle.std.proofs.lemmas.List.{same_from_push}
 use Rattle.workers.specs.DeviceLock.Closing.{StandsIn}
-use Rattle.workers.specs.DeviceLock.History.{calls_of}
-use Rattle.workers.specs.DeviceLock.declared.entry.Call.{Call}
-use Rattle.workers.specs.DeviceLock.declared.entry.Entry.{Entry}
+use Rattle.pmd_laws.specs.DriverLaws.Prelude.{calls_of, Call, Entry}
 use Rattle.pmd_laws.proofs.StartLaws.ReceiveLaws.Histories.{calls_own}
 use Rattle.pmd_laws.proofs.StartLaws.Parts.{around, calls_joined}
 use Rattle.worker_laws.specs.Order.{CallsStand, EndOwn, UpTo}

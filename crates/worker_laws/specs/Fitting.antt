@@ -1,18 +1,9 @@
 -- Frames that fit the packets of a driver as it starts: what the laws ask that say that it never finds the device at
 -- fault.
 use Rattle.std.specs.Prelude.{ℕ, ◌*◌, All, List, length}
-use Rattle.nic_device.specs.DmaArena.Numbers.{Numbers}
-use Rattle.nic_device.specs.State.{State, new_state}
-use Rattle.pmd.specs.PmdSeam.Frames.{most_blocks}
-use Rattle.pmd.specs.PmdSeam.Named.{AtPort}
-use Rattle.pmd_laws.specs.StartLaws.Along.{BeforeLast}
-use Rattle.pmd_laws.specs.StartLaws.Faultless.{BeforeNext}
-use Rattle.pmd_laws.specs.StartLaws.ReceiveLaws.Fitting.{FitsBlocks}
+use Rattle.pmd_laws.specs.DriverLaws.Prelude.{Numbers, State, new_state, most_blocks, AtPort, FitsBlocks, IsLegal, Watched, Call, Entry}
+use Rattle.pmd_laws.specs.Prelude.{BeforeLast, BeforeNext}
 use Rattle.pmd_laws.specs.Told.{IsTold, Moment}
-use Rattle.workers.specs.DeviceLock.History.{IsLegal}
-use Rattle.workers.specs.DeviceLock.declared.alone.Watched.{Watched}
-use Rattle.workers.specs.DeviceLock.declared.entry.Call.{Call}
-use Rattle.workers.specs.DeviceLock.declared.entry.Entry.{Entry}
 use Rattle.workers.specs.Fitting.{FramesFit}
 use Rattle.worker_laws.specs.Points.{JustBefore}
 

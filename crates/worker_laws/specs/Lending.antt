@@ -1,18 +1,12 @@
 -- Others that lend none of a driver's blocks: what the laws ask that say where its blocks are, and that it never finds
 -- the device at fault.
 use Rattle.std.specs.Prelude.{ℕ, List, length}
-use Rattle.nic_device.specs.DmaArena.Numbers.{Numbers, count_of, is_own}
-use Rattle.nic_device.specs.State.{new_state}
-use Rattle.pmd.specs.PmdSeam.Named.{AtPort}
+use Rattle.pmd_laws.specs.DriverLaws.Prelude.{Numbers, is_own, new_state, AtPort, AreEvents, IsLegal, Watched, Call, Entry}
+use Rattle.pmd_laws.specs.Prelude.{BeforeLast, BeforeNext}
+use Rattle.nic_device.specs.DmaArena.Numbers.{count_of}
 use Rattle.pmd_laws.specs.DriverLaws.Before.{OnlyPassLends}
 use Rattle.pmd_laws.specs.Faultless.{NoneLent}
-use Rattle.pmd_laws.specs.StartLaws.Along.{BeforeLast}
-use Rattle.pmd_laws.specs.StartLaws.Faultless.{BeforeNext}
 use Rattle.pmd_laws.specs.Told.{IsTold, Moment}
-use Rattle.workers.specs.DeviceLock.History.{AreEvents, IsLegal}
-use Rattle.workers.specs.DeviceLock.declared.alone.Watched.{Watched}
-use Rattle.workers.specs.DeviceLock.declared.entry.Call.{Call}
-use Rattle.workers.specs.DeviceLock.declared.entry.Entry.{Entry}
 use Rattle.workers.specs.Lending.{OthersLendNone, are_from}
 use Rattle.worker_laws.specs.Points.{JustBefore}
 

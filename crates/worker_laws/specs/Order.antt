@@ -1,20 +1,12 @@
 -- What the end of a worker says of the history in which its pass was closed.
 use Rattle.std.specs.Prelude.{ℕ, ◌≡◌, ◌⊎◌, ◌<◌, ◌≤◌, List, [], ◌∷◌, ◌++◌, length, Contains, None}
-use Rattle.nic_device.specs.State.{new_state}
-use Rattle.pmd.specs.PmdSeam.Named.{AtPort}
-use Rattle.pmd.specs.Started.{left_accepted, left_handed}
+use Rattle.pmd_laws.specs.DriverLaws.Prelude.{new_state, AtPort, left_accepted, left_handed, delivered, bytes_of, sent_since, AreEvents, IsLegal, calls_of, leads_to, Call, Entry}
+use Rattle.pmd_laws.specs.Prelude.{IsQuiet}
 use Rattle.pmd_laws.specs.StartLaws.ReceiveLaws.Delivered as receive
-use Rattle.pmd_laws.specs.StartLaws.ReceiveLaws.Delivered.{delivered}
-use Rattle.pmd_laws.specs.StartLaws.TransmitLaws.Agreeing.{bytes_of}
 use Rattle.pmd_laws.specs.StartLaws.TransmitLaws.Laws as transmit
-use Rattle.pmd_laws.specs.StartLaws.TransmitLaws.Sent.{sent_since}
-use Rattle.pmd_laws.specs.StartLaws.Quieting.{IsQuiet}
 use Rattle.workers.specs.DeviceLock.Alone.{LeavesAlone}
 use Rattle.workers.specs.DeviceLock.Closing.{Closes}
-use Rattle.workers.specs.DeviceLock.History.{AreEvents, IsLegal, calls_of, leads_to}
 use Rattle.workers.specs.DeviceLock.Pass.{PassValue}
-use Rattle.workers.specs.DeviceLock.declared.entry.Call.{Call}
-use Rattle.workers.specs.DeviceLock.declared.entry.Entry.{Entry}
 use Rattle.workers.specs.Beginning.{BeginsWell}
 use Rattle.workers.specs.Ends.{AreEnds}
 use Rattle.workers.specs.Starts.{Starts}

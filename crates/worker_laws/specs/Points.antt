@@ -1,9 +1,6 @@
 -- How a device that was new stands where a driver starts.
 use Rattle.std.specs.Prelude.{ℕ, List}
-use Rattle.nic_device.specs.State.{State, new_state}
-use Rattle.workers.specs.DeviceLock.History.{leads_to}
-use Rattle.workers.specs.DeviceLock.declared.entry.Call.{Call}
-use Rattle.workers.specs.DeviceLock.declared.entry.Entry.{Entry}
+use Rattle.pmd_laws.specs.DriverLaws.Prelude.{State, new_state, leads_to, Call, Entry}
 use Rattle.workers.specs.Starts.{Starts}
 
 -- so a device was just before the first entry of the driver's own that was new

@@ -1,11 +1,8 @@
 -- A queue that was never asked on before its driver's start is off there.
 use Rattle.std.specs.Prelude.{ℕ, ◌<◌, ◌≤◌, List, length}
-use Rattle.pmd_laws.specs.StartLaws.Quieting.{IsQuiet}
+use Rattle.pmd_laws.specs.DriverLaws.Prelude.{AreEvents, Watched, Call, Entry}
+use Rattle.pmd_laws.specs.Prelude.{IsQuiet}
 use Rattle.workers.specs.Beginning.{BeginsWell}
-use Rattle.workers.specs.DeviceLock.History.{AreEvents}
-use Rattle.workers.specs.DeviceLock.declared.alone.Watched.{Watched}
-use Rattle.workers.specs.DeviceLock.declared.entry.Call.{Call}
-use Rattle.workers.specs.DeviceLock.declared.entry.Entry.{Entry}
 use Rattle.workers.specs.Quiet.{NeverAskedOn}
 use Rattle.workers.specs.declared.beginning.Given.{Given}
 use Rattle.worker_laws.specs.Points.{JustBefore}

@@ -1,0 +1,9 @@
+-- The names of the laws on a start that those on a whole life cite most, passed on from one place. Declares nothing.
+pub use Rattle.start_laws.specs.Along.{BeforeLast, IsAlong}
+pub use Rattle.start_laws.specs.Ending.{IsAsking, IsEnding}
+pub use Rattle.start_laws.specs.Faultless.{BeforeNext}
+pub use Rattle.start_laws.specs.Laid.{Laid}
+pub use Rattle.start_laws.specs.On.{AreOn}
+pub use Rattle.start_laws.specs.Points.{HasGround}
+pub use Rattle.start_laws.specs.Quieting.{IsQuiet}
+pub use Rattle.start_laws.specs.Stopping.{AreMadeOf, Ends, EndsOnceOff, TakesOnceOff}

@@ -2,7 +2,7 @@
 use Rattle.std.proofs.Common.{◌≡◌, ◌≢◌, ℕ, ◌<◌, inl, inr, true, false, List, [], ◌∷◌, ◌++◌, refl, sym, ◌∙◌, subst, arith}
 use Rattle.std.specs.Prelude.{IsTrue}
 use Rattle.std.proofs.lemmas.Bool.{both_ways, cases_eq, or_cases}
-use Rattle.driver_laws.specs.Prelude.{Numbers, is_free, times_in_hand, Port, Blocks, ring_blocks, Sender, has_lent, Halves}
+use Rattle.driver_laws.specs.Prelude.{Numbers, is_free, times_in_hand, Port, Blocks, ring_blocks, has_lent, Halves}
 use Rattle.nic_device.specs.DmaArena.Numbers.{with_free}
 use Rattle.nic_device.proofs.DmaArena.Arenas.{is_free-with_free_same, is_free-with_free_other, is_own-of_free}
 use Rattle.pmd.specs.PmdSeam.Home.{IsDrawn}

@@ -2,7 +2,7 @@
 use Rattle.std.proofs.Common.{◌≡◌, ℕ, List, [], ◌++◌, refl, sym, ap, ◌∙◌, subst, append_assoc, if◌then◌else◌}
 use Rattle.std.specs.Prelude.{IsTrue}
 use Rattle.std.proofs.lemmas.List.{append-nil, append_cancel_left}
-use Rattle.driver_laws.specs.Prelude.{Memory, has_block, is_free, is_own, State, Blocks, Call, WhereUp, halted_of, Halves, halves_of, Rings, Up, Down, Adds, DeviceFault}
+use Rattle.driver_laws.specs.Prelude.{Memory, has_block, is_free, is_own, State, Blocks, Call, WhereUp, halted_of, Halves, halves_of, Rings, Up, Down, DeviceFault}
 use Rattle.pmd_laws.specs.Prelude.{BeforeLast}
 use Rattle.nic_device.specs.DmaArena.Whereabouts.{places_of}
 use Rattle.pmd.specs.Apart.{FindsBy}
@@ -27,8 +27,7 @@ use Rattle.pmd_laws.proofs.Shifted.{Shifts, adds_shift, apart_shift, joined, shi
 finds_shift : (own : Blocks) (h : Halves) (old new : List Call) → apart.FindsFault own old h new
     → Shifts (λ o n. apart.FindsFault own o h n) old new
 finds_shift own h old new x =
-    joined (λ o n. apart.DrivesApart own o h n x.there) (λ o n. Adds o n x.event x.reply)
-    (λ o n. apart.FindsFault own o h n)
+    joined (apart_shift own h x.there old x.mid x.drives) (adds_shift x.event x.reply x.mid new x.adds)
     (λ o m n drives adds. record {
       mid = m;
       there = x.there;
@@ -40,7 +39,7 @@ finds_shift own h old new x =
       apart = x.apart;
       adds = adds;
       sick = x.sick;
-    }) old x.mid new (apart_shift own h x.there old x.mid x.drives) (adds_shift x.event x.reply x.mid new x.adds)
+    })
 
 -- no call found it so, which made these calls
 module _ (x : Beside) (n : Moment) (finds : FindsFault (now x) n) (y : IsCalledApart x n) where

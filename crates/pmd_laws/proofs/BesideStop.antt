@@ -15,7 +15,7 @@ use Rattle.pmd_laws.specs.BesideStop.{IsStoppedBeside}
 use Rattle.pmd_laws.specs.Life.{Life}
 use Rattle.pmd_laws.specs.Stopped.{IsStopping}
 use Rattle.pmd_laws.proofs.Beside.{is_life, rings_up, told}
-use Rattle.pmd_laws.proofs.Shifted.{Shifts, joined, mapped, shifted, switched_shift}
+use Rattle.pmd_laws.proofs.Shifted.{Shifts, joined, known, mapped, shifted, switched_shift}
 use Rattle.pmd_laws.proofs.Silent.{silent_once_off}
 use Rattle.pmd_laws.proofs.StopParts.{first_made, first_takes}
 use Rattle.pmd_laws.proofs.StopSent.{sent_over_stop}
@@ -35,9 +35,8 @@ SwitchesOff q o n = (mid : List Call) × Asks q o mid × IsSwitched q mid n fals
 off_shift : (q : AtPort) (old new : List Call) (x : EndsOnceOff q old new)
     → Shifts (λ o n. SwitchesOff q o n) old x.off
 off_shift q old new x =
-    joined (λ o n. Asks q o n) (λ o n. IsSwitched q o n false 1000) (λ o n. SwitchesOff q o n)
-    (λ o m n asks switched. (m, asks, switched)) old x.mid x.off (of_shift (IsAsking q) old x.mid x.asks)
-    (switched_shift q false 1000 x.mid x.off x.switched)
+    joined (of_shift (IsAsking q) old x.mid x.asks) (switched_shift q false 1000 x.mid x.off x.switched)
+    (λ o m n asks switched. (m, asks, switched))
 
 -- with where both were off
 abbrev OnceOffAt : AtPort → List Call → List Call → List Call → Type 0
@@ -49,22 +48,15 @@ once_off_shift q old new x =
     let off = off_shift q old new x in (
       off.since,
       off.made,
-      joined (λ o n. SwitchesOff q o n × (n ≡ o ++ off.since)) (λ o n. Ends q o n) (OnceOffAt q off.since)
-          (λ o m n y ends. (
-            record { mid = y.0.0; off = m; asks = y.0.1; switched = y.0.2; ends = ends },
-            y.1,
-          )) old x.off new
-          (record { since = off.since; made = off.made; behind = λ front. (off.behind front, refl) })
-          (of_shift (IsEnding q) x.off new x.ends),
+      joined (known off) (of_shift (IsEnding q) x.off new x.ends)
+          (λ o m n y ends. (record { mid = y.0.0; off = m; asks = y.0.1; switched = y.0.2; ends = ends }, y.1)),
     )
 
 takes_shift : (q : AtPort) (old new : List Call) → TakesOnceOff q old new → Shifts (λ o n. TakesOnceOff q o n) old new
-takes_shift q old new (inl asks) =
-    mapped (λ o n. Asks q o n) (λ o n. TakesOnceOff q o n) (λ o n x. inl x) old new
-    (of_shift (IsAsking q) old new asks)
+takes_shift q old new (inl asks) = mapped (of_shift (IsAsking q) old new asks) (λ o n x. inl x)
 takes_shift q old new (inr x) =
     let (at, is, shifts) = once_off_shift q old new x in
-    mapped (OnceOffAt q at) (λ o n. TakesOnceOff q o n) (λ o n y. inr y.0) old new shifts
+    mapped shifts (λ o n y. inr y.0)
 
 module _ (x : Beside) (new : List Call) (y : IsStoppedBeside x new) where
   open x use {w, origin, h, g, q, own}

@@ -20,18 +20,18 @@ pub record Shifts (R : List Call → List Call → Type 0) (old new : List Call)
   pub made : new ≡ old ++ since
   pub behind : (front : List Call) → R front (front ++ since)
 
-pub mapped : (R S : List Call → List Call → Type 0) → ((a b : List Call) → R a b → S a b) → (old new : List Call)
-    → Shifts R old new → Shifts S old new
-mapped R S f old new x = record {
+pub mapped : {R S : List Call → List Call → Type 0} {old new : List Call} → Shifts R old new
+    → ((a b : List Call) → R a b → S a b) → Shifts S old new
+mapped x f = record {
   since = x.since;
   made = x.made;
   behind = λ front. f front (front ++ x.since) (x.behind front);
 }
 
 -- one after the other
-pub joined : (R S T : List Call → List Call → Type 0) → ((a b c : List Call) → R a b → S b c → T a c)
-    → (old mid new : List Call) → Shifts R old mid → Shifts S mid new → Shifts T old new
-joined R S T join old mid new x y = record {
+pub joined : {R S T : List Call → List Call → Type 0} {old mid new : List Call} → Shifts R old mid → Shifts S mid new
+    → ((a b c : List Call) → R a b → S b c → T a c) → Shifts T old new
+joined {T = T} {old = old} x y join = record {
   since = x.since ++ y.since;
   made = y.made ∙ ap (λ (l : List Call). l ++ y.since) x.made ∙ append_assoc old x.since y.since;
   behind = λ front.
@@ -39,7 +39,23 @@ joined R S T join old mid new x y = record {
       (join front (front ++ x.since) ((front ++ x.since) ++ y.since) (x.behind front) (y.behind (front ++ x.since)));
 }
 
--- a call, and calls as each half tells them
+pub paired : {R S : List Call → List Call → Type 0} {old mid new : List Call} → Shifts R old mid → Shifts S mid new
+    → Shifts (λ o n. (m : List Call) × R o m × S m n) old new
+paired x y = joined x y (λ o m n r s. (m, r, s))
+
+-- where they end is known behind others too
+pub known : {R : List Call → List Call → Type 0} {old new : List Call} (x : Shifts R old new)
+    → Shifts (λ o n. R o n × (n ≡ o ++ x.since)) old new
+known x = record { since = x.since; made = x.made; behind = λ front. (x.behind front, refl) }
+
+-- no calls, a call, and calls as each half tells them
+
+none_shift : (old new : List Call) → new ≡ old → Shifts (λ o n. n ≡ o) old new
+none_shift old new is = record {
+  since = [];
+  made = is ∙ sym (append-nil old);
+  behind = λ front. append-nil front;
+}
 
 pub adds_shift : (e : Event Block) (reply : Reply Block) (old new : List Call) → Adds old new e reply
     → Shifts (λ o n. Adds o n e reply) old new
@@ -63,21 +79,15 @@ plays_shift a v w old new x =
 pub made_shift : (q : AtPort) (a : Access) (old new : List Call) → IsMade q old new a
     → Shifts (λ o n. IsMade q o n a) old new
 made_shift q (Sees row on) old new (number, word, named, has, adds) =
-    mapped _ (λ o n. IsMade q o n (Sees row on)) (λ o n x. (number, word, named, has, x)) old new
-    (adds_shift _ _ old new adds)
+    mapped (adds_shift _ _ old new adds) (λ o n x. (number, word, named, has, x))
 made_shift q (Sets row word) old new (number, named, adds) =
-    mapped _ (λ o n. IsMade q o n (Sets row word)) (λ o n x. (number, named, x)) old new (adds_shift _ _ old new adds)
+    mapped (adds_shift _ _ old new adds) (λ o n x. (number, named, x))
 
 pub are_made_shift : (q : AtPort) (all : List Access) (old new : List Call) → AreMade q old new all
     → Shifts (λ o n. AreMade q o n all) old new
-are_made_shift q [] old new is = record {
-  since = [];
-  made = is ∙ sym (append-nil old);
-  behind = λ front. append-nil front;
-}
+are_made_shift q [] old new is = none_shift old new is
 are_made_shift q (a ∷ rest) old new (mid, one, more) =
-    joined (λ o n. IsMade q o n a) (λ o n. AreMade q o n rest) (λ o n. AreMade q o n (a ∷ rest))
-    (λ o m n x y. (m, x, y)) old mid new (made_shift q a old mid one) (are_made_shift q rest mid new more)
+    paired (made_shift q a old mid one) (are_made_shift q rest mid new more)
 
 -- the first of them was the last of these calls
 
@@ -87,13 +97,10 @@ MadeAt q a rest at o n = (x : AreMade q o n (a ∷ rest)) × (x.0 ≡ o ++ at)
 first_made_shift : (q : AtPort) (a : Access) (rest : List Access) (old new : List Call)
     (x : AreMade q old new (a ∷ rest)) → (at : List Call) × (x.0 ≡ old ++ at) × Shifts (MadeAt q a rest at) old new
 first_made_shift q a rest old new (mid, one, more) =
-    let first : Shifts (λ o n. IsMade q o n a) old mid = made_shift q a old mid one in (
+    let first = made_shift q a old mid one in (
       first.since,
       first.made,
-      joined (λ o n. IsMade q o n a × (n ≡ o ++ first.since)) (λ o n. AreMade q o n rest) (MadeAt q a rest first.since)
-          (λ o m n x y. ((m, x.0, y), x.1)) old mid new
-          (record { since = first.since; made = first.made; behind = λ front. (first.behind front, refl) })
-          (are_made_shift q rest mid new more),
+      joined (known first) (are_made_shift q rest mid new more) (λ o m n x y. ((m, x.0, y), x.1)),
     )
 
 -- a ring is prepared
@@ -102,41 +109,33 @@ lent_shift : (b : Block) (old new : List Call) → IsLent old new b None → Shi
 lent_shift b old new x = adds_shift _ _ old new x
 
 pub lends_shift : (ns : List ℕ) (old new : List Call) → LendsEach old new ns → Shifts (λ o n. LendsEach o n ns) old new
-lends_shift [] old new is = record {
-  since = [];
-  made = is ∙ sym (append-nil old);
-  behind = λ front. append-nil front;
-}
+lends_shift [] old new is = none_shift old new is
 lends_shift (n ∷ ns) old new (mid, one, more) =
-    joined (λ o l. IsLent o l (zero_block n) None) (λ o l. LendsEach o l ns) (λ o l. LendsEach o l (n ∷ ns))
-    (λ o m l x y. (m, x, y)) old mid new (lent_shift (zero_block n) old mid one) (lends_shift ns mid new more)
+    paired (lent_shift (zero_block n) old mid one) (lends_shift ns mid new more)
 
-prepared_shift : (q : AtPort) (side : Dir) (size : ℕ) (a b : Numbers) (ring : ℕ) (old new : List Call)
+pub prepared_shift : (q : AtPort) (side : Dir) (size : ℕ) (a b : Numbers) (ring : ℕ) (old new : List Call)
     → IsPrepared q side size old a new b ring → Shifts (λ o n. IsPrepared q side size o a n b ring) old new
 prepared_shift q side size a b ring old new x =
-    joined _ _ (λ o n. IsPrepared q side size o a n b ring)
-    (λ o m n words lent. record { drawn = x.drawn; mid = m; words = words; lent = lent }) old x.mid new
-    (are_made_shift q _ old x.mid x.words) (lends_shift _ x.mid new x.lent)
+    joined (are_made_shift q _ old x.mid x.words) (lends_shift _ x.mid new x.lent)
+    (λ o m n words lent. record { drawn = x.drawn; mid = m; words = words; lent = lent })
 
 pub transmit_shift : (q : AtPort) (size frame : ℕ) (a b : Numbers) (v : Sender) (old new : List Call)
     → IsTransmitReady q size frame old a new b v → Shifts (λ o n. IsTransmitReady q size frame o a n b v) old new
 transmit_shift q size frame a b v old new x =
-    mapped _ (λ o n. IsTransmitReady q size frame o a n b v)
-    (λ o n y. record { ring = x.ring; prepared = y; tail = x.tail; named = x.named; fresh = x.fresh }) old new
-    (prepared_shift q _ size a b x.ring old new x.prepared)
+    mapped (prepared_shift q _ size a b x.ring old new x.prepared)
+    (λ o n y. record { ring = x.ring; prepared = y; tail = x.tail; named = x.named; fresh = x.fresh })
 
 pub switched_shift : (q : AtPort) (on : Bool) (polls : ℕ) (old new : List Call) → IsSwitched q old new on polls
     → Shifts (λ o n. IsSwitched q o n on polls) old new
 switched_shift q on polls old new (first, second, few, made) =
-    mapped _ (λ o n. IsSwitched q o n on polls) (λ o n x. (first, second, few, x)) old new
-    (are_made_shift q (receive_polled on first ++ polled Tx on second) old new made)
+    mapped (are_made_shift q (receive_polled on first ++ polled Tx on second) old new made)
+    (λ o n x. (first, second, few, x))
 
 goes_on_shift : (q : AtPort) (a b : Numbers) (v w : Receive) (old new : List Call) → GoesOn q old a v new b w
     → Shifts (λ o n. GoesOn q o a v n b w) old new
 goes_on_shift q a b v w old new x =
-    joined _ _ (λ o n. GoesOn q o a v n b w)
-    (λ o m n switched plays. record { mid = m; switched = switched; plays = plays; filled = x.filled }) old x.mid new
-    (switched_shift q true 1000 old x.mid x.switched) (plays_shift a v w x.mid new x.plays)
+    joined (switched_shift q true 1000 old x.mid x.switched) (plays_shift a v w x.mid new x.plays)
+    (λ o m n switched plays. record { mid = m; switched = switched; plays = plays; filled = x.filled })
 
 -- a start begins with these accesses
 
@@ -161,7 +160,7 @@ module _ (q : AtPort) (size frame : ℕ) (a : Numbers) where
       let (at, is, first) = first_made_shift q first_access later_accesses old x.mid x.quiet in (
         at,
         is,
-        joined _ _ (ReadyAt b v at)
+        joined first (prepared_shift q _ size a b x.ring x.mid new x.prepared)
             (λ o m n y prepared. (
               record {
                 mid = m;
@@ -173,20 +172,19 @@ module _ (q : AtPort) (size frame : ℕ) (a : Numbers) where
                 fresh = x.fresh;
               },
               y.1,
-            )) old x.mid new first (prepared_shift q _ size a b x.ring x.mid new x.prepared),
+            )),
       )
 
   pub up_shift : (r : Running) (old new : List Call) (x : AreUp q size frame old a new r)
       → (at : List Call) × (x.receive.quiet.0 ≡ old ++ at) × Shifts (UpAt r at) old new
   up_shift r old new x =
-      let (at, is, ready) = ready_shift x.ready_arena x.empty old x.ready_made x.receive in
-      let Ready = λ (o n : List Call). IsTransmitReady q size frame o x.ready_arena n x.both_arena r.transmit in
-      let Goes = λ (o n : List Call). GoesOn q o x.both_arena x.empty n r.arena r.receive in (
+      let (at, is, ready) = ready_shift x.ready_arena x.empty old x.ready_made x.receive in (
         at,
         is,
-        joined (ReadyAt x.ready_arena x.empty at)
-            (λ o n. (m : List Call) × Ready o m × Goes m n)
-            (UpAt r at)
+        joined ready
+            (paired
+            (transmit_shift q size frame x.ready_arena x.both_arena r.transmit x.ready_made x.both_made x.transmit)
+            (goes_on_shift q x.both_arena r.arena x.empty r.receive x.both_made new x.on))
             (λ o m n y z. (
               record {
                 sized = x.sized;
@@ -201,11 +199,7 @@ module _ (q : AtPort) (size frame : ℕ) (a : Numbers) where
                 on = z.2;
               },
               y.1,
-            )) old x.ready_made new ready
-            (joined Ready Goes (λ o n. (m : List Call) × Ready o m × Goes m n) (λ o m n y z. (m, y, z))
-            x.ready_made x.both_made new
-            (transmit_shift q size frame x.ready_arena x.both_arena r.transmit x.ready_made x.both_made x.transmit)
-            (goes_on_shift q x.both_arena r.arena x.empty r.receive x.both_made new x.on)),
+            )),
       )
 
 -- a look that finds no packet, and one that finds a packet waiting
@@ -219,7 +213,7 @@ in_vain_shift v w old new x =
       made = made;
       behind = λ front. (marks, since, refl, own, is, steps);
     } in
-    joined _ _ (λ o n. LooksInVain o v n w)
+    joined looks (adds_shift _ _ x.mid new x.last)
     (λ o m n plays last. record {
       mid = m;
       looks = plays;
@@ -232,7 +226,7 @@ in_vain_shift v w old new x =
       none_whole = x.none_whole;
       none_named = x.none_named;
       left = x.left;
-    }) old x.mid new looks (adds_shift _ _ x.mid new x.last)
+    })
 
 pub waiting_shift : (v w : Sender) (old new : List Call) → LooksLast old v new w
     → Shifts (λ o n. LooksLast o v n w) old new
@@ -243,7 +237,7 @@ waiting_shift v w old new x =
       made = made;
       behind = λ front. (moves, since, refl, own, is, steps);
     } in
-    joined _ _ (λ o n. LooksLast o v n w)
+    joined plays (adds_shift _ _ x.mid new x.looks)
     (λ o m n before looks. record {
       mid = m;
       before = x.before;
@@ -254,7 +248,7 @@ waiting_shift v w old new x =
       posted = x.posted;
       accepted = x.accepted;
       left = x.left;
-    }) old x.mid new plays (adds_shift _ _ x.mid new x.looks)
+    })
 
 -- and rings that were driven on
 
@@ -270,9 +264,8 @@ apart_shift mine h k old new x =
 pub rings_shift : (r s : Running) (old new : List Call) → DrivesRings old r new s
     → Shifts (λ o n. DrivesRings o r n s) old new
 rings_shift r s old new x =
-    mapped (λ o n. DrivesApart (is_own r.arena) o (halves_of r) n (halves_of s)) (λ o n. DrivesRings o r n s)
-    (λ o n y. record { apart = y; owns = x.owns }) old new
-    (apart_shift (is_own r.arena) (halves_of r) (halves_of s) old new x.apart)
+    mapped (apart_shift (is_own r.arena) (halves_of r) (halves_of s) old new x.apart)
+    (λ o n y. record { apart = y; owns = x.owns })
 
 -- what shifts holds behind other calls, where the calls that were added are known
 pub shifted : (R : List Call → List Call → Type 0) (old new : List Call) → Shifts R old new

@@ -2,11 +2,10 @@
 use Rattle.std.proofs.Common.{◌≡◌, ◌≢◌, ℕ, Bool, true, false, not, refl, sym, ap}
 use Rattle.std.specs.Prelude.{◌==◌, IsTrue}
 use Rattle.std.proofs.lemmas.Bool.{eqb-false, ne_eqb}
-use Rattle.driver_laws.specs.Prelude.{Block, has_block, State, reply_to, Event, Reply, Blocks, Receive, Sender, Move, has_lent}
+use Rattle.driver_laws.specs.Prelude.{Block, has_block, State, reply_to, Event, Reply, Blocks, Receive, Sender, Move, has_lent, drive}
 use Rattle.nic_device.specs.declared.event.Event.TheVariants as event
 use Rattle.nic_device.specs.declared.event.Reply.TheVariants as reply
 use Rattle.pmd.specs.PmdRx.Receive as receiving
-use Rattle.pmd.specs.PmdRx.Receive.{drive}
 use Rattle.pmd.specs.PmdTx.Sending.{IsOwn, moved}
 use Rattle.receive_laws.specs.Steps.{Each}
 use Rattle.receive_laws.proofs.Each.{each_map}

@@ -3,13 +3,13 @@ use Rattle.std.proofs.Common.{◌≡◌, ◌≢◌, ℕ, inl, inr, ◌*◌, Bool
 use Rattle.std.specs.Prelude.{◌==◌, All}
 use Rattle.std.proofs.lemmas.Bool.{or_cases, or_left, or_right, and_from, eqb-false, eqb-true, eq-eqb, lt-ltb}
 use Rattle.std.proofs.lemmas.List.Elements.{All-head}
-use Rattle.driver_laws.specs.Prelude.{Block, IsEvent, State, after, reply_to, Event, Reply, Blocks, lent_by, Entry, OnlyLent, WritesNoSetting, FitsBlocks}
+use Rattle.driver_laws.specs.Prelude.{Block, IsEvent, State, after, reply_to, Event, Reply, Blocks, lent_by, Entry, OnlyLent, WritesNoSetting, FitsBlocks, lends, LendsNone, either}
 use Rattle.nic_device.specs.Step.{step_of}
 use Rattle.nic_device.specs.declared.event.Event.TheVariants as event
 use Rattle.nic_device.specs.declared.event.Reply.TheVariants as reply
 use Rattle.nic_device.proofs.Cases.{lent_cases}
-use Rattle.device_lock.specs.Alone.{lends, lent_in}
-use Rattle.receive_laws.specs.HistoryLaws.Lent.{LendsNone, either, with_lent}
+use Rattle.device_lock.specs.Alone.{lent_in}
+use Rattle.receive_laws.specs.HistoryLaws.Lent.{with_lent}
 use Rattle.receive_laws.proofs.HistoryLaws.Lent.{only_lent_stays}
 use Rattle.receive_laws.proofs.DeviceLaws.KeptSettings.{settings_stand}
 use Rattle.receive_laws.proofs.Waiting.{waiting_after}

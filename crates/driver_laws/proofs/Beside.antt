@@ -2,16 +2,14 @@
 use Rattle.std.proofs.Common.{◌≡◌, ℕ, Bool, true, false, not, ◌&&◌, Option, Some, None, List, [], ◌∷◌, ◌++◌, length, refl, sym, ap, ◌∙◌, subst, append_assoc, arith}
 use Rattle.std.specs.Prelude.{◌==◌, IsTrue}
 use Rattle.std.proofs.lemmas.Bool.{eqb-false}
-use Rattle.driver_laws.specs.Prelude.{Block, row_of, asks_pool_reset, Event, mode_in, after, Blocks, LeavesBlocks, LeavesRegisters, call_in, calls_of, call_of, Watched, Call, Entry, is_step, AreSteps, AllOwn, Doer, is_neither, played_by}
+use Rattle.driver_laws.specs.Prelude.{Block, row_of, asks_pool_reset, Event, mode_in, after, Blocks, LeavesBlocks, LeavesRegisters, call_in, calls_of, call_of, Watched, Call, Entry, is_step, AreSteps, AllOwn, Doer, is_neither, played_by, Place, Mode, doers_other}
 use Rattle.nic_device.specs.RegTable.Place.{place_among}
 use Rattle.nic_device.specs.RegTable.Runs.{runs}
-use Rattle.nic_device.specs.RegTable.declared.place.Place.{Place}
 use Rattle.nic_device.specs.VfMap.Owner.{is_receive, is_transmit}
-use Rattle.nic_device.specs.VfMap.declared.mode.Mode.{Mode}
 use Rattle.nic_device.specs.declared.event.Event.TheVariants as event
 use Rattle.nic_device.specs.declared.event.Port.TheVariants.{Pf, Vf}
 use Rattle.device_lock.specs.Alone.{SparesIfSome, is_setting}
-use Rattle.pmd.specs.Halves.{OthersStep, doers_other}
+use Rattle.pmd.specs.Halves.{OthersStep}
 use Rattle.pmd.proofs.Followed.{both_own, both_played, others_own, others_played, own_length}
 use Rattle.receive_laws.proofs.Histories.{calls_own, calls_other}
 use Rattle.driver_laws.specs.Beside.{AreHarmless, CallsAddHarmless, DrivesLead, HarmlessLead, HarmlessLeaveAlone, LeadsOn, OthersHarmless, StepsAddHarmless, is_harmless, spares_all}

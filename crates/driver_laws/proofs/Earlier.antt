@@ -1,9 +1,9 @@
 -- What was delivered up to an earlier place, where nothing was handed out since.
 use Rattle.std.proofs.Common.{◌≡◌, List, [], ◌++◌, sym, ap, ◌∙◌, subst}
-use Rattle.driver_laws.specs.Prelude.{State, calls_of, leads_to, delivered, Piece, played_by}
+use Rattle.driver_laws.specs.Prelude.{State, calls_of, leads_to, delivered, Piece, played_by, pieces_in}
 use Rattle.pmd.specs.PmdSeam.Packet.{Kept}
 use Rattle.receive_laws.proofs.Delivering.{between, grows, pieces-append}
-use Rattle.receive_laws.specs.Delivered.{IsPrefixOf, pieces_in}
+use Rattle.receive_laws.specs.Delivered.{IsPrefixOf}
 use Rattle.receive_laws.specs.Pieces.{packets_of}
 use Rattle.driver_laws.specs.Histories.{NoneIsAllBefore}
 use Rattle.driver_laws.proofs.InOrder.{delivered_is, handed_is_prefix, none_is_all}

@@ -2,10 +2,9 @@
 use Rattle.std.proofs.Common.{◌≡◌, ℕ, true, List, [], refl, ap, subst}
 use Rattle.std.specs.FinMap as map
 use Rattle.std.proofs.lemmas.List.{append-nil}
-use Rattle.driver_laws.specs.Prelude.{Block, Memory, Rxdctl, has_bit, place, Rx, Tx, named, IsEvent, State, after, Event, Port, Register, WritesNoSetting, Piece, Halves}
+use Rattle.driver_laws.specs.Prelude.{Block, Memory, Rxdctl, has_bit, place, Rx, Tx, named, IsEvent, State, after, Event, Port, Register, WritesNoSetting, Piece, Halves, LeavesBlock}
 use Rattle.nic_device.specs.RegTable.declared.rows.RowId.TheVariants.{Txdctl}
 use Rattle.nic_device.specs.declared.event.Event.TheVariants as event
-use Rattle.receive_laws.specs.DeviceLaws.Leaving.{LeavesBlock}
 use Rattle.receive_laws.proofs.DeviceLaws.KeptSettings.{settings_stand}
 use Rattle.receive_laws.proofs.DeviceLaws.Standing.{stays_within}
 use Rattle.receive_laws.proofs.DeviceLaws.StandingAccesses.{write_memory, write_rest}

@@ -2,14 +2,12 @@
 use Rattle.std.proofs.Common.{◌≡◌, ◌≢◌, ℕ, true, false, List, [], ◌++◌, refl, sym, ◌∙◌, subst}
 use Rattle.std.specs.Prelude.{IsTrue}
 use Rattle.std.proofs.lemmas.List.{append-nil}
-use Rattle.driver_laws.specs.Prelude.{Block, has_block, mode_in, IsEvent, State, after, reply_to, Event, Blocks, LeavesRegisters, LeavesBlocks, WritesOutside, call_of, Watched, Move, Accepts, Lends, Asks, Advances, Reaps, Elsewhere, has_lent, Piece, pieces, sent_by, Halves, Doer, Receives, Sends, OwnCall, after_call, is_neither}
+use Rattle.driver_laws.specs.Prelude.{Block, has_block, mode_in, IsEvent, State, after, reply_to, Event, Blocks, LeavesRegisters, LeavesBlocks, WritesOutside, call_of, Watched, Move, Accepts, Lends, Asks, Advances, Reaps, Elsewhere, has_lent, Piece, pieces, sent_by, Halves, Doer, Receives, Sends, OwnCall, after_call, is_neither, drive, Looks, Agree}
 use Rattle.nic_device.specs.declared.event.Event.TheVariants as event
 use Rattle.nic_device.proofs.Steps.{step_leads, keeps_sound}
 use Rattle.pmd.specs.PmdRx.Receive as receiving
-use Rattle.pmd.specs.PmdRx.Receive.{drive}
 use Rattle.pmd.specs.PmdTx.Sending as sending
-use Rattle.pmd.specs.PmdTx.Sending.{Looks, moved}
-use Rattle.receive_laws.specs.Joint.{Agree}
+use Rattle.pmd.specs.PmdTx.Sending.{moved}
 use Rattle.receive_laws.proofs.Leaving.{leaving_keeps}
 use Rattle.receive_laws.proofs.Mine.{LendsMine, mine_driven}
 use Rattle.receive_laws.proofs.Own.{own_keeps}

@@ -3,9 +3,8 @@ use Rattle.std.proofs.Common.{◌≡◌, List, [], ◌∷◌, ◌++◌, refl, sy
 use Rattle.std.proofs.lemmas.Bool.{both_ways}
 use Rattle.std.proofs.lemmas.List.{append_cancel_left, map-append}
 use Rattle.std.proofs.lemmas.List.Elements.{filter-append}
-use Rattle.driver_laws.specs.Prelude.{State, Blocks, calls_of, call_of, Watched, Call, Entry, AreSteps, AllLendApart, FindsFault, Halves, Doer, AllOwn, after_call, played_by}
-use Rattle.pmd.specs.Apart.{LendsApart, is_healthy}
-use Rattle.pmd.specs.Halves.{doers_other}
+use Rattle.driver_laws.specs.Prelude.{State, Blocks, calls_of, call_of, Watched, Call, Entry, AreSteps, AllLendApart, FindsFault, Halves, Doer, AllOwn, after_call, played_by, LendsApart, doers_other}
+use Rattle.pmd.specs.Apart.{is_healthy}
 use Rattle.pmd.proofs.Apart.{both_apart, step_apart}
 use Rattle.driver_laws.specs.Faults.{NoFault, doers_of}
 use Rattle.driver_laws.specs.Healthy.{IsHealthy, AreHealthy, IsUnshared}

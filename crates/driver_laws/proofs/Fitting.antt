@@ -1,20 +1,18 @@
 -- One call beside a driver that receives keeps it so that the frames which wait for its queue fit.
 use Rattle.std.proofs.Common.{◌≡◌, ◌==◌, ℕ, true, false, ◌&&◌, List, [], ◌∷◌, ◌++◌, length, refl, sym, ap, ◌∙◌, subst, Some}
 use Rattle.std.proofs.lemmas.Bool.{both_ways}
-use Rattle.driver_laws.specs.Prelude.{Block, row_of, asks_pool_reset, place, mode_in, named, State, after, reply_to, Event, Port, Reply, Register, Blocks, LeavesRegisters, call_of, Watched, Call, WritesNoSetting, Receive, Move, Accepts, Lends, Asks, Advances, Reaps, Elsewhere, Piece, pieces, Halves, Doer, Receives, Sends, OwnCall, after_call, is_neither}
+use Rattle.driver_laws.specs.Prelude.{Block, row_of, asks_pool_reset, place, mode_in, named, State, after, reply_to, Event, Port, Reply, Register, Blocks, LeavesRegisters, call_of, Watched, Call, WritesNoSetting, Receive, Move, Accepts, Lends, Asks, Advances, Reaps, Elsewhere, Piece, pieces, Halves, Doer, Receives, Sends, OwnCall, after_call, is_neither, Place, Rdt, drive, Looks}
 use Rattle.nic_device.specs.DmaRing.Descriptor.{second_half}
 use Rattle.nic_device.specs.DmaRing.Receive.{is_done}
-use Rattle.nic_device.specs.RegTable.declared.place.Place.{Place}
-use Rattle.nic_device.specs.RegTable.declared.rows.RowId.TheVariants.{Rdt, Tdt}
+use Rattle.nic_device.specs.RegTable.declared.rows.RowId.TheVariants.{Tdt}
 use Rattle.nic_device.specs.declared.event.Event.TheVariants as event
 use Rattle.nic_device.specs.declared.event.Reply.TheVariants as reply
 use Rattle.nic_device.proofs.Cases.{either_way}
 use Rattle.device_lock.specs.Alone.{Spares, SparesIfSome, place_at}
 use Rattle.pmd.specs.PmdRx.Receive as receiving
-use Rattle.pmd.specs.PmdRx.Receive.{drive, is_part, looked, moved, parts_first, posts_all, posts_one, saw, tail_behind, took}
+use Rattle.pmd.specs.PmdRx.Receive.{is_part, looked, moved, parts_first, posts_all, posts_one, saw, tail_behind, took}
 use Rattle.pmd.specs.PmdRx.declared.ring.Told.{Told}
 use Rattle.pmd.specs.PmdTx.Sending as sending
-use Rattle.pmd.specs.PmdTx.Sending.{Looks}
 use Rattle.receive_laws.specs.Fitting.{AreFitting, ResetsNoPool}
 use Rattle.receive_laws.specs.Up.{IsUp}
 use Rattle.receive_laws.proofs.Fitting.{frames_stay_fitting}

@@ -2,7 +2,7 @@
 use Rattle.std.proofs.Common.{◌≡◌, ℕ, ◌*◌, Bool, true, false, List, [], ◌∷◌, ◌++◌, refl, sym, ◌∙◌, subst, arith}
 use Rattle.std.specs.Prelude.{◌==◌, IsTrue}
 use Rattle.std.proofs.lemmas.Bool.{or_left, or_right}
-use Rattle.driver_laws.specs.Prelude.{mode_in, IsEvent, State, after, reply_to, Blocks, LeavesRegisters, lent_by, IsLegal, AreEvents, call_in, calls_of, leads_to, call_of, Watched, Entry, OnlyLent, Piece, pieces, sent_by, AllLendApart, Halves, Doer, OwnCall, AllOwn, after_call, is_neither}
+use Rattle.driver_laws.specs.Prelude.{mode_in, IsEvent, State, after, reply_to, Blocks, LeavesRegisters, lent_by, IsLegal, AreEvents, call_in, calls_of, leads_to, call_of, Watched, Entry, OnlyLent, Piece, pieces, sent_by, AllLendApart, Halves, Doer, OwnCall, AllOwn, after_call, is_neither, LendsApart}
 use Rattle.receive_laws.specs.HistoryLaws.Alone.{AllAlone}
 use Rattle.receive_laws.proofs.HistoryLaws.Alone.{alone_by_entries}
 use Rattle.receive_laws.proofs.HistoryLaws.Sound.{histories_sound}
@@ -10,7 +10,6 @@ use Rattle.receive_laws.specs.Fitting.{AreFitting}
 use Rattle.receive_laws.specs.Up.{IsUp}
 use Rattle.device_lock.proofs.Histories.{events_before, events_behind, legal_behind}
 use Rattle.receive_laws.proofs.Delivering.{lent_behind, vfs_stays}
-use Rattle.pmd.specs.Apart.{LendsApart}
 use Rattle.driver_laws.specs.Histories.{OthersLeaveAlone, doer_of, doers_after}
 use Rattle.driver_laws.proofs.Meeting.{Meets}
 use Rattle.driver_laws.proofs.Next.{next_by}

@@ -2,9 +2,7 @@
 use Rattle.std.proofs.Common.{◌≡◌, ◌≢◌, ℕ, Bool, true, false, List, [], ◌∷◌, refl, subst}
 use Rattle.std.specs.Prelude.{◌==◌}
 use Rattle.std.proofs.lemmas.Bool.{eqb-false}
-use Rattle.driver_laws.specs.Prelude.{Blocks, call_in, calls_of, Call, Entry, AllLendApart, Halves, Doer, AllOwn, after_call}
-use Rattle.receive_laws.specs.HistoryLaws.Lent.{LendsNone}
-use Rattle.pmd.specs.Apart.{LendsApart}
+use Rattle.driver_laws.specs.Prelude.{Blocks, call_in, calls_of, Call, Entry, AllLendApart, Halves, Doer, AllOwn, after_call, LendsNone, LendsApart}
 use Rattle.driver_laws.specs.Histories.{doer_of, doers_after}
 use Rattle.driver_laws.proofs.HealthyStepping.{none_apart}
 

@@ -1,11 +1,10 @@
 -- One call of a driver: its reply is healthy, and what that rests on holds behind it.
 use Rattle.std.proofs.Common.{◌≡◌, ℕ, inl, inr, true, false, List, refl}
 use Rattle.std.proofs.lemmas.Bool.{or_cases, or_left, or_right}
-use Rattle.driver_laws.specs.Prelude.{Block, Memory, mode_in, IsEvent, State, after, reply_to, Event, Blocks, LeavesRegisters, call_of, Watched, WritesNoSetting, Move, Accepts, Lends, Asks, Advances, Reaps, Elsewhere, OnlyLent, Piece, Halves, Doer, Receives, Sends, OwnCall, after_call, is_neither}
+use Rattle.driver_laws.specs.Prelude.{Block, Memory, mode_in, IsEvent, State, after, reply_to, Event, Blocks, LeavesRegisters, call_of, Watched, WritesNoSetting, Move, Accepts, Lends, Asks, Advances, Reaps, Elsewhere, OnlyLent, Piece, Halves, Doer, Receives, Sends, OwnCall, after_call, is_neither, Looks, LendsNone, either, LendsApart}
 use Rattle.nic_device.specs.declared.event.Event.TheVariants as event
 use Rattle.pmd.specs.PmdTx.Sending as sending
-use Rattle.pmd.specs.PmdTx.Sending.{Looks}
-use Rattle.receive_laws.specs.HistoryLaws.Lent.{LendsNone, LendsOwn, either}
+use Rattle.receive_laws.specs.HistoryLaws.Lent.{LendsOwn}
 use Rattle.pmd.specs.PmdRx.Keeping as received
 use Rattle.receive_laws.specs.Pieces.{AllFit}
 use Rattle.receive_laws.proofs.Healthy as receive
@@ -16,7 +15,6 @@ use Rattle.transmit_laws.proofs.Advancing.{setting_kept}
 use Rattle.transmit_laws.proofs.Healthy as transmit
 use Rattle.receive_laws.proofs.HistoryLaws.Leaving.{left-setting}
 use Rattle.transmit_laws.proofs.Lent as transmit_lent
-use Rattle.pmd.specs.Apart.{LendsApart}
 use Rattle.driver_laws.proofs.Meeting.{Meets}
 use Rattle.driver_laws.proofs.Receiving.{own_spares}
 use Rattle.driver_laws.proofs.Sending.{is_elsewhere, sender_lent}

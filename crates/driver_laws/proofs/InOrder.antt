@@ -1,11 +1,9 @@
 -- What the driver handed out and what it sent, over a history that leaves its queue alone.
 use Rattle.std.proofs.Common.{◌≡◌, List, [], ◌++◌, length, drop, None, sym, ap, ◌∙◌, subst}
-use Rattle.driver_laws.specs.Prelude.{State, lent_by, calls_of, leads_to, Watched, Entry, delivered, pieces_since, bytes_of, sent_in, sent_since, IsUp, Halves, Doer, played_by}
+use Rattle.driver_laws.specs.Prelude.{State, lent_by, calls_of, leads_to, Watched, Entry, delivered, pieces_since, bytes_of, sent_in, sent_since, IsUp, Halves, Doer, played_by, packets_if_any, pieces_in, FindsNone, ShowsNone, records_of}
 use Rattle.receive_laws.proofs.HistoryLaws.Alone.{alone_by_entries}
 use Rattle.receive_laws.proofs.HistoryLaws.Sound.{histories_sound}
 use Rattle.receive_laws.specs.Delivered as receive
-use Rattle.receive_laws.specs.Delivered.{packets_if_any, pieces_in}
-use Rattle.receive_laws.specs.Histories.{FindsNone, ShowsNone}
 use Rattle.receive_laws.specs.Pieces.{packets_of}
 use Rattle.device_lock.proofs.Histories.{events_before, events_behind, leads-append, legal_behind}
 use Rattle.receive_laws.proofs.Delivering.{lent_behind, since-append, vfs_stays}
@@ -13,7 +11,6 @@ use Rattle.receive_laws.proofs.Prefix.{all_taken, drained, handed_first}
 use Rattle.transmit_laws.specs.Laws as transmit
 use Rattle.transmit_laws.proofs.Counting.{sent_is_counted}
 use Rattle.transmit_laws.proofs.Runs.{first_sent, idle-all}
-use Rattle.pmd.specs.PmdRx.Receive.{records_of}
 use Rattle.driver_laws.specs.Histories.{IsDriven, HandedIsPrefix, NoneIsAll, NoneIsAllTaken, SentIsPrefix, IdleIsAllSent, CountedWhereUp}
 use Rattle.driver_laws.proofs.Led.{Led}
 use Rattle.driver_laws.proofs.Runs.{leads}

@@ -2,10 +2,8 @@
 -- calls do.
 use Rattle.std.proofs.Common.{List, [], ◌∷◌, subst}
 use Rattle.std.specs.Prelude.{IsTrue}
-use Rattle.driver_laws.specs.Prelude.{Block, Event, Blocks, Call, AllLendApart, Halves, Sends, Elsewhere}
+use Rattle.driver_laws.specs.Prelude.{Block, Event, Blocks, Call, AllLendApart, Halves, Sends, Elsewhere, DrivesApart, LendsApart, doers_other}
 use Rattle.nic_device.specs.declared.event.Event.TheVariants as event
-use Rattle.pmd.specs.Apart.{DrivesApart, LendsApart}
-use Rattle.pmd.specs.Halves.{doers_other}
 use Rattle.pmd.proofs.Apart.{both_apart}
 use Rattle.driver_laws.specs.Beside.{AddsHarmless, AreHarmless, Leads, is_harmless}
 use Rattle.driver_laws.proofs.Beside.{drives_lead, harmless_lead, leads_on}

@@ -1,9 +1,7 @@
 -- Where a history leads from a place where the device and both halves agree.
 use Rattle.std.proofs.Common.{◌≡◌, ℕ, List, [], ◌∷◌, ◌++◌, Some, sym, ap, ◌∙◌, subst, cond, append_assoc, inl}
 use Rattle.std.proofs.lemmas.List.{append-nil}
-use Rattle.nic_device.specs.RegisterFile.Queue.{is_on}
-use Rattle.driver_laws.specs.Prelude.{Rx, Tx, State, after, Blocks, leads_to, Watched, Entry, pieces_since, Piece, pieces, sent_by, sent_in, sent_since, IsUp, Halves}
-use Rattle.receive_laws.specs.Delivered.{pieces_in}
+use Rattle.driver_laws.specs.Prelude.{is_on, Rx, Tx, State, after, Blocks, leads_to, Watched, Entry, pieces_since, Piece, pieces, sent_by, sent_in, sent_since, IsUp, Halves, pieces_in}
 use Rattle.receive_laws.specs.Up as received
 use Rattle.receive_laws.proofs.HistoryLaws.Steady.{not_again}
 use Rattle.driver_laws.specs.Agreeing.{AreLent, BothAgree}

@@ -1,17 +1,16 @@
 -- Blocks of the receive half are lent; and a block that is lent leaves the others, and has a number of its own.
 use Rattle.std.proofs.Common.{◌≡◌, ◌≢◌, ℕ, ◌<◌, true, List, length, inl, inr, refl, sym, ap, ◌∙◌, subst}
 use Rattle.std.proofs.lemmas.Bool.{cases_eq, cases_lt}
-use Rattle.driver_laws.specs.Prelude.{Block, Memory, has_block, State, after, reply_to, Receive, Piece}
+use Rattle.driver_laws.specs.Prelude.{Block, Memory, has_block, State, after, reply_to, Receive, Piece, LeavesBlock, Agree}
 use Rattle.nic_device.specs.Outcome.{Outcome, gives}
 use Rattle.nic_device.specs.Step.{step_of}
 use Rattle.nic_device.specs.declared.event.Event.TheVariants as event
 use Rattle.nic_device.specs.declared.event.Reply.TheVariants.{Done, Twice}
-use Rattle.receive_laws.specs.DeviceLaws.Leaving.{LeavesBlock}
 use Rattle.receive_laws.proofs.DeviceLaws.Standing.{memory_blocks}
 use Rattle.pmd.specs.PmdRx.Receive.{Layout, block_at, reach}
 use Rattle.pmd.specs.PmdRx.declared.ring.Stage.{Stage}
 use Rattle.pmd.specs.PmdRx.declared.ring.Stage.TheVariants.{Looks, Takes, Owes, Lent}
-use Rattle.receive_laws.specs.Joint.{StageHolds, HasSlots, Agree}
+use Rattle.receive_laws.specs.Joint.{StageHolds, HasSlots}
 use Rattle.receive_laws.specs.Steps.{Each, IfFresh}
 
 -- the blocks of the receive half are lent

@@ -2,10 +2,9 @@
 use Rattle.std.proofs.Common.{◌≡◌, ℕ, Bool, true, false, ◌&&◌, List, [], ◌∷◌, refl, sym, ap, subst, nat_lt}
 use Rattle.std.specs.Prelude.{◌==◌, IsTrue}
 use Rattle.std.proofs.lemmas.Bool.{and_from, eq-eqb, lt-ltb}
-use Rattle.driver_laws.specs.Prelude.{Block, IsEvent, Event, Reply, Blocks, call_in, calls_of, Call, Entry, Halves, Doer, OwnCall, AllOwn, after_call, played_by}
+use Rattle.driver_laws.specs.Prelude.{Block, IsEvent, Event, Reply, Blocks, call_in, calls_of, Call, Entry, Halves, Doer, OwnCall, AllOwn, after_call, played_by, lends}
 use Rattle.nic_device.specs.declared.event.Event.TheVariants as event
 use Rattle.nic_device.specs.declared.event.Reply.TheVariants as reply
-use Rattle.device_lock.specs.Alone.{lends}
 use Rattle.receive_laws.proofs.Mine.{LendsMine}
 use Rattle.driver_laws.specs.Histories.{doer_of, doers_after}
 

@@ -2,14 +2,13 @@
 use Rattle.std.proofs.Common.{◌≡◌, ◌≢◌, ℕ, ◌+◌, ◌*◌, ◌/◌, true, List, length, refl, sym, ap, ◌∙◌, subst, arith}
 use Rattle.std.specs.FinMap as map
 use Rattle.std.specs.Prelude.{IsTrue}
-use Rattle.driver_laws.specs.Prelude.{Block, has_block, place, named, IsEvent, State, after, Event, Port, Register, WritesNoSetting, Receive, Sender, has_lent, Piece}
+use Rattle.driver_laws.specs.Prelude.{Block, has_block, place, named, IsEvent, State, after, Event, Port, Register, WritesNoSetting, Receive, Sender, has_lent, Piece, Rdt, LeavesBlock}
 use Rattle.nic_device.specs.DmaArena.Memory.{Avoids}
 use Rattle.nic_device.proofs.DmaArena.Inside.{inside_avoids}
 use Rattle.nic_device.specs.DmaRing.Driver.{posted}
 use Rattle.nic_device.proofs.DmaRing.Fields.{halves_come_back}
-use Rattle.nic_device.specs.RegTable.declared.rows.RowId.TheVariants.{Rdt}
 use Rattle.nic_device.specs.declared.event.Event.TheVariants as event
-use Rattle.receive_laws.specs.DeviceLaws.Leaving.{LeavesBlock, LeavesTransmit}
+use Rattle.receive_laws.specs.DeviceLaws.Leaving.{LeavesTransmit}
 use Rattle.receive_laws.proofs.DeviceLaws.Standing.{memory_blocks, memory_rest, stays_within}
 use Rattle.receive_laws.proofs.DeviceLaws.StandingAccesses.{write_memory, write_rest}
 use Rattle.pmd.specs.PmdRx.Receive.{IsOwn, TakesNext, NamesNext, MovesNext, fresh_of, reach, slot_at, vacant}

@@ -1,8 +1,8 @@
 -- What of a history doesn't look at its tags.
 use Rattle.std.proofs.Common.{◌≡◌, ℕ, Bool, true, false, Option, None, List, [], ◌∷◌, map, refl, sym, ap, ◌∙◌, subst}
-use Rattle.driver_laws.specs.Prelude.{Block, IsEvent, State, after, Event, AreEvents, IsLegal, call_in, leads_to, Call, Entry, pieces_since, Piece, pieces, sent_since}
+use Rattle.driver_laws.specs.Prelude.{Block, IsEvent, State, after, Event, AreEvents, IsLegal, call_in, leads_to, Call, Entry, pieces_since, Piece, pieces, sent_since, packets_if_any}
 use Rattle.nic_device.specs.Step.{step_of}
-use Rattle.receive_laws.specs.Delivered.{gathered, packets_if_any}
+use Rattle.receive_laws.specs.Delivered.{gathered}
 use Rattle.transmit_laws.specs.Sent.{counted_by}
 use Rattle.driver_laws.specs.Retold.{AreSame, RetoldIsSame, SameDelivers, SameIsLegal, SameLeads, SameSends, retold, told_as}
 

@@ -2,8 +2,7 @@
 use Rattle.std.proofs.Common.{◌≡◌, ℕ, Bool, true, false, List, [], ◌∷◌, ◌++◌, refl, sym, subst}
 use Rattle.std.specs.Prelude.{◌==◌, IsTrue}
 use Rattle.std.proofs.lemmas.Bool.{eqb-true, eqb-false, or_left, or_right}
-use Rattle.nic_device.specs.VfMap.declared.mode.Mode.{Mode}
-use Rattle.driver_laws.specs.Prelude.{mode_in, IsEvent, State, after, reply_to, Blocks, LeavesRegisters, LeavesBlocks, WritesOutside, lent_by, IsLegal, AreEvents, call_in, calls_of, call_of, Watched, Entry, Piece, pieces, sent_by, IsUp, Halves, Doer, OwnCall, AllOwn, after_call, is_neither, played_by}
+use Rattle.driver_laws.specs.Prelude.{Mode, mode_in, IsEvent, State, after, reply_to, Blocks, LeavesRegisters, LeavesBlocks, WritesOutside, lent_by, IsLegal, AreEvents, call_in, calls_of, call_of, Watched, Entry, Piece, pieces, sent_by, IsUp, Halves, Doer, OwnCall, AllOwn, after_call, is_neither, played_by}
 use Rattle.device_lock.specs.Alone.{EntryLeavesAlone, lent_in}
 use Rattle.receive_laws.specs.HistoryLaws.Alone.{AllAlone}
 use Rattle.receive_laws.specs.Up as received

@@ -5,18 +5,17 @@ use Rattle.std.specs.List.{list_any}
 use Rattle.std.specs.Prelude.{◌==◌, IsTrue, slice_index_or}
 use Rattle.std.proofs.lemmas.Bool.{or_cases, eqb-true}
 use Rattle.std.proofs.lemmas.List.{get_or-take, length-take-le}
-use Rattle.driver_laws.specs.Prelude.{Block, has_block, place, named, State, after, Event, Register, WritesNoSetting, Receive, Sender, Move, Accepts, Lends, Asks, Advances, Reaps, Elsewhere, has_lent}
+use Rattle.driver_laws.specs.Prelude.{Block, has_block, place, named, State, after, Event, Register, WritesNoSetting, Receive, Sender, Move, Accepts, Lends, Asks, Advances, Reaps, Elsewhere, has_lent, LeavesBlock, is_ring_block, Looks}
 use Rattle.nic_device.specs.DmaArena.Memory.{Avoids}
 use Rattle.nic_device.proofs.DmaArena.Inside.{inside_avoids}
 use Rattle.nic_device.specs.RegTable.declared.rows.RowId.TheVariants.{Tdt}
 use Rattle.nic_device.specs.declared.event.Event.TheVariants as event
-use Rattle.receive_laws.specs.DeviceLaws.Leaving.{LeavesBlock, LeavesReceive}
+use Rattle.receive_laws.specs.DeviceLaws.Leaving.{LeavesReceive}
 use Rattle.receive_laws.proofs.DeviceLaws.KeptSettings.{settings_stand}
 use Rattle.receive_laws.proofs.DeviceLaws.Standing.{memory_blocks, memory_rest, stays_within}
 use Rattle.receive_laws.proofs.DeviceLaws.StandingAccesses.{write_memory, write_rest}
-use Rattle.pmd.specs.PmdSeam.Slots.{is_ring_block}
 use Rattle.pmd.proofs.PmdSeam.Rings.{each_ring_block, slot_block, slot_lies}
-use Rattle.pmd.specs.PmdTx.Sending.{Segment, Looks, IsOwn, blocks_of, no_segment, segment_at, slot_at}
+use Rattle.pmd.specs.PmdTx.Sending.{Segment, IsOwn, blocks_of, no_segment, segment_at, slot_at}
 use Rattle.receive_laws.specs.Steps.{Each, Leaves}
 use Rattle.receive_laws.proofs.Each.{each_map}
 use Rattle.transmit_laws.specs.Agreeing.{AgreesAt}

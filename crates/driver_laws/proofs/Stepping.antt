@@ -3,7 +3,7 @@
 use Rattle.std.proofs.Common.{cond, ◌≡◌, ◌≢◌, ℕ, ◌+◌, ◌*◌, ◌/◌, ◌^◌, Bool, true, false, inl, inr, List, refl, sym, ap, ◌∙◌, subst, arith, Option, Some, None}
 use Rattle.std.specs.Prelude.{IsTrue}
 use Rattle.std.proofs.lemmas.Bool.{cases_eq}
-use Rattle.driver_laws.specs.Prelude.{Block, has_bit, Tx, IsSound, State, after, reply_to, Reply, Blocks, WritesOutside, Receive, Sender, has_lent, Piece}
+use Rattle.driver_laws.specs.Prelude.{Block, has_bit, Tx, IsSound, State, after, reply_to, Reply, Blocks, WritesOutside, Receive, Sender, has_lent, Piece, Agree}
 use Rattle.nic_device.proofs.DmaArena.Inside.{inside_avoids}
 use Rattle.nic_device.specs.DmaRing.Ring.{descriptor_address}
 use Rattle.nic_device.specs.RegTable.declared.rows.RowId.TheVariants.{Tdwbal, Tdwbah}
@@ -19,7 +19,6 @@ use Rattle.pmd.specs.PmdTx.Sending.{descriptor_at, slot_at}
 use Rattle.receive_laws.proofs.HistoryLaws.Reported.{reported}
 use Rattle.receive_laws.proofs.HistoryLaws.Blocks.{clear_outside}
 use Rattle.receive_laws.proofs.HistoryLaws.Spared.{IsSparedBy, spared_block}
-use Rattle.receive_laws.specs.Joint.{Agree}
 use Rattle.receive_laws.specs.Steps.{Each, IsOutside, OwnReportsSpare}
 use Rattle.receive_laws.proofs.Each.{each_map, each_posted}
 use Rattle.receive_laws.proofs.Inside.{piece_inside}

@@ -4,10 +4,9 @@ use Rattle.std.specs.Prelude.{◌==◌, Result, All, filter, option_map}
 use Rattle.std.proofs.lemmas.Bool.{cond_both, cases_Bool, and_parts, both_ways}
 use Rattle.std.proofs.lemmas.List.{length-append, nil_from_length}
 use Rattle.std.proofs.lemmas.List.Elements.{All-head, All-filter}
-use Rattle.driver_laws.specs.Prelude.{Block, Rx, Tx, row_of, asks_pool_reset, mode_in, named, IsSound, State, after, Event, Port, Register, AreEvents, leads_to, Entry, pieces_since, Piece, pieces}
+use Rattle.driver_laws.specs.Prelude.{Block, Rx, Tx, row_of, asks_pool_reset, mode_in, named, IsSound, State, after, Event, Port, Register, AreEvents, leads_to, Entry, pieces_since, Piece, pieces, is_on}
 use Rattle.nic_device.specs.VfMap.Owner.{has_queue}
 use Rattle.nic_device.specs.RegisterFile.Access.{asks_reset}
-use Rattle.nic_device.specs.RegisterFile.Queue.{is_on}
 use Rattle.nic_device.specs.RegisterFile.Registers.{is_wanted}
 use Rattle.nic_device.specs.RegisterFile.Settings.{can_receive, frame_limit}
 use Rattle.nic_device.specs.RxFilter.Sorting.{sorted}

@@ -1,7 +1,6 @@
 -- What a device and both halves of a driver agree on.
 use Rattle.std.specs.Prelude.{ℕ, ◌≢◌, IsTrue, List}
-use Rattle.driver_laws.specs.Prelude.{Blocks, State, has_lent, Piece, Halves}
-use Rattle.receive_laws.specs.Joint.{Agree}
+use Rattle.driver_laws.specs.Prelude.{Blocks, State, has_lent, Piece, Halves, Agree}
 use Rattle.receive_laws.specs.Steps.{Each}
 use Rattle.transmit_laws.specs.Agreeing.{Agrees}
 

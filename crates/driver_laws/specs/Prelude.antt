@@ -2,57 +2,67 @@
 pub use Rattle.nic_device.specs.DmaArena.Block.{Block}
 pub use Rattle.nic_device.specs.DmaArena.Memory.{Memory, has_block}
 pub use Rattle.nic_device.specs.DmaArena.Numbers.{Numbers, is_free, is_own}
-pub use Rattle.nic_device.specs.DmaArena.Whereabouts.{times_in_hand}
+pub use Rattle.nic_device.specs.DmaArena.Whereabouts.{places_of, times_in_hand}
 pub use Rattle.nic_device.specs.DmaRing.declared.dir.Dir.{Dir}
 pub use Rattle.nic_device.specs.DmaRing.declared.dir.Dir.TheVariants.{Rx, Tx}
 pub use Rattle.nic_device.specs.Named.{named}
 pub use Rattle.nic_device.specs.RegTable.Rows.{row_of}
-pub use Rattle.nic_device.specs.RegTable.declared.rows.RowId.TheVariants.{Rxdctl}
+pub use Rattle.nic_device.specs.RegTable.declared.place.Place.{Place}
+pub use Rattle.nic_device.specs.RegTable.declared.rows.RowId.{RowId}
+pub use Rattle.nic_device.specs.RegTable.declared.rows.RowId.TheVariants.{Rdt, Rxdctl}
 pub use Rattle.nic_device.specs.RegisterFile.Access.{asks_pool_reset}
 pub use Rattle.nic_device.specs.RegisterFile.Bits.{has_bit}
 pub use Rattle.nic_device.specs.RegisterFile.Columns.{place}
 pub use Rattle.nic_device.specs.RegisterFile.Pools.{mode_in}
+pub use Rattle.nic_device.specs.RegisterFile.Queue.{enable_row, is_on}
 pub use Rattle.nic_device.specs.Sound.{IsEvent, IsSound}
 pub use Rattle.nic_device.specs.State.{State, new_state}
 pub use Rattle.nic_device.specs.Step.{after, reply_to}
+pub use Rattle.nic_device.specs.VfMap.declared.mode.Mode.{Mode}
 pub use Rattle.nic_device.specs.declared.event.Event.{Event}
 pub use Rattle.nic_device.specs.declared.event.Port.{Port}
 pub use Rattle.nic_device.specs.declared.event.Reply.{Reply}
 pub use Rattle.nic_device.specs.declared.named.Named.TheVariants.{Register}
-pub use Rattle.device_lock.specs.Alone.{Blocks, LeavesBlocks, LeavesRegisters, WritesOutside, lent_by}
+pub use Rattle.device_lock.specs.Alone.{Blocks, LeavesBlocks, LeavesRegisters, WritesOutside, lends, lent_by}
 pub use Rattle.device_lock.specs.History.{AreEvents, IsLegal, call_in, calls_of, leads_to}
 pub use Rattle.device_lock.specs.Pass.{call_of}
 pub use Rattle.device_lock.specs.declared.alone.Watched.{Watched}
 pub use Rattle.device_lock.specs.declared.entry.Call.{Call}
 pub use Rattle.device_lock.specs.declared.entry.Entry.{Entry}
-pub use Rattle.pmd.specs.Apart.{AllLendApart, FindsFault}
-pub use Rattle.pmd.specs.Driver.{WhereUp, accepted_of, halted_of, handed_of}
+pub use Rattle.pmd.specs.Apart.{AllLendApart, DrivesApart, DrivesRings, FindsFault, LendsApart}
+pub use Rattle.pmd.specs.Blocks.{HasAll}
+pub use Rattle.pmd.specs.Driver.{WhereUp, accepted_of, arena_of, halted_of, handed_of}
 pub use Rattle.pmd.specs.Halted.{Halted}
-pub use Rattle.pmd.specs.Halves.{AllOwn, Doer, Halves, OwnCall, Receives, Sends, after_call, halves_of, is_neither, played_by}
-pub use Rattle.pmd.specs.PmdRx.Receive.{Receive}
-pub use Rattle.pmd.specs.PmdSeam.Both.{IsSwitched}
+pub use Rattle.pmd.specs.Halves.{AllOwn, Doer, Halves, OwnCall, Receives, Sends, after_call, doers_other, halves_of, is_neither, played_by}
+pub use Rattle.pmd.specs.PmdRx.Receive.{Receive, drive, records_of}
+pub use Rattle.pmd.specs.PmdSeam.Begun.{entries_in, marked_entries}
+pub use Rattle.pmd.specs.PmdSeam.Both.{IsSwitched, both_quiet}
 pub use Rattle.pmd.specs.PmdSeam.Events.{is_step}
 pub use Rattle.pmd.specs.PmdSeam.Frames.{most_blocks}
 pub use Rattle.pmd.specs.PmdSeam.Made.{Adds, AreSteps}
-pub use Rattle.pmd.specs.PmdSeam.Named.{AtPort}
-pub use Rattle.pmd.specs.PmdSeam.QueueMade.{Access, IsMade, Sees, Sets}
+pub use Rattle.pmd.specs.PmdSeam.Named.{AtPort, IsNumberOf}
+pub use Rattle.pmd.specs.PmdSeam.QueueMade.{Access, AreMade, IsMade, Sees, Sets, StopsBy}
 pub use Rattle.pmd.specs.PmdSeam.Sides.{ring_words}
-pub use Rattle.pmd.specs.PmdSeam.Slots.{ring_blocks}
+pub use Rattle.pmd.specs.PmdSeam.Slots.{EachRingBlock, is_ring_block, ring_blocks}
 pub use Rattle.pmd.specs.PmdSeam.declared.fault.PmdFault.{PmdFault}
 pub use Rattle.pmd.specs.PmdSeam.declared.fault.PmdFault.TheVariants.{DeviceFault}
 pub use Rattle.pmd.specs.PmdSeam.declared.packet.Packet.{Packet}
-pub use Rattle.pmd.specs.PmdTx.Sending.{Accepts, Advances, Asks, Elsewhere, Lends, Move, Reaps, Sender, has_lent}
+pub use Rattle.pmd.specs.PmdTx.Sending.{Accepts, Advances, Asks, Elsewhere, Lends, Looks, Move, Reaps, Sender, has_lent, parts_for}
 pub use Rattle.pmd.specs.Running.{Running}
-pub use Rattle.pmd.specs.Started.{AreUp, left_accepted, left_handed}
+pub use Rattle.pmd.specs.Started.{AreUp, StopsStarting, left_accepted, left_handed}
+pub use Rattle.pmd.specs.Starting.{IsPrepared, IsReceiveReady}
 pub use Rattle.pmd.specs.declared.driver.Rings.{Rings}
 pub use Rattle.pmd.specs.declared.driver.Rings.TheVariants.{Down, Up}
 pub use Rattle.pmd.specs.declared.start.Rest.{Rest}
 pub use Rattle.pmd.specs.declared.start.StartRefused.{StartRefused}
-pub use Rattle.receive_laws.specs.Delivered.{delivered, pieces_since}
+pub use Rattle.receive_laws.specs.Delivered.{delivered, packets_if_any, pieces_in, pieces_since}
 pub use Rattle.receive_laws.specs.DeviceLaws.Laws.{WritesNoSetting}
+pub use Rattle.receive_laws.specs.DeviceLaws.Leaving.{LeavesBlock}
 pub use Rattle.receive_laws.specs.Fitting.{FitsBlocks}
+pub use Rattle.receive_laws.specs.Histories.{FindsNone, ShowsNone}
 pub use Rattle.receive_laws.specs.HistoryLaws.Alone.{LeavesAloneFrom}
-pub use Rattle.receive_laws.specs.HistoryLaws.Lent.{OnlyLent}
+pub use Rattle.receive_laws.specs.HistoryLaws.Lent.{LendsNone, OnlyLent, either}
+pub use Rattle.receive_laws.specs.Joint.{Agree}
 pub use Rattle.receive_laws.specs.Pieces.{Piece, pieces}
 pub use Rattle.transmit_laws.specs.Agreeing.{bytes_of}
 pub use Rattle.transmit_laws.specs.Sent.{sent_by, sent_in, sent_since}

@@ -3,11 +3,9 @@ use Rattle.std.proofs.Common.{◌≡◌, ℕ, false, List, [], ◌∷◌, ◌++�
 use Rattle.std.specs.Prelude.{IsFalse}
 use Rattle.std.proofs.lemmas.Bool.{both_ways}
 use Rattle.std.proofs.lemmas.List.{append-nil}
-use Rattle.driver_laws.specs.Prelude.{Block, has_bit, mode_in, Dir, Rx, Tx, IsEvent, State, after, reply_to, Event, Blocks, WritesOutside, Watched, Call, Entry, AtPort, Piece, pieces, sent_by, sent_since, Halves}
+use Rattle.driver_laws.specs.Prelude.{Block, has_bit, mode_in, Dir, Rx, Tx, IsEvent, State, after, reply_to, Event, Blocks, WritesOutside, Watched, Call, Entry, AtPort, Piece, pieces, sent_by, sent_since, Halves, enable_row, IsNumberOf}
 use Rattle.pmd_laws.specs.Prelude.{IsAsking, HasGround}
-use Rattle.nic_device.specs.RegisterFile.Queue.{enable_row}
 use Rattle.nic_device.specs.declared.event.Event.TheVariants as event
-use Rattle.pmd.specs.PmdSeam.Named.{IsNumberOf}
 use Rattle.start_laws.proofs.ReceiveLaws.Clear.{no_registers}
 use Rattle.start_laws.proofs.ReceiveLaws.Delivering.{vfs_stays}
 use Rattle.start_laws.proofs.TransmitLaws.Counting.{sent_is_counted}

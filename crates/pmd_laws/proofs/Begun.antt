@@ -2,11 +2,10 @@
 use Rattle.std.proofs.Common.{◌≡◌, ◌≢◌, ℕ, ◌<◌, inl, inr, true, false, List, [], ◌∷◌, ◌++◌, refl, sym, ◌∙◌, subst, arith}
 use Rattle.std.specs.Prelude.{IsTrue}
 use Rattle.std.proofs.lemmas.Bool.{both_ways, cases_eq, or_cases}
-use Rattle.driver_laws.specs.Prelude.{Numbers, is_free, times_in_hand, Port, Blocks, ring_blocks, has_lent, Halves}
+use Rattle.driver_laws.specs.Prelude.{Numbers, is_free, times_in_hand, Port, Blocks, ring_blocks, has_lent, Halves, is_ring_block, EachRingBlock}
 use Rattle.nic_device.specs.DmaArena.Numbers.{with_free}
 use Rattle.nic_device.proofs.DmaArena.Arenas.{is_free-with_free_same, is_free-with_free_other, is_own-of_free}
 use Rattle.pmd.specs.PmdSeam.Home.{IsDrawn}
-use Rattle.pmd.specs.PmdSeam.Slots.{is_ring_block, EachRingBlock}
 use Rattle.pmd.proofs.PmdSeam.Outside.{times_rest}
 use Rattle.pmd.proofs.PmdSeam.Rings.{each_ring_block, ring_block_among, ring_block_out, times_among}
 use Rattle.pmd.proofs.PmdRx.Earlier.{free_before}

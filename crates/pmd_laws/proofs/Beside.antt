@@ -1,11 +1,10 @@
 -- A driver beside any calls of its author's is told by its own calls alone, over the history as it is told anew.
 use Rattle.std.proofs.Common.{◌≡◌, Bool, inl, inr, List, [], ◌∷◌, ◌++◌, length, map, refl, sym, ap, ◌∙◌, subst, arith}
 use Rattle.std.proofs.lemmas.List.{append-nil, append_cancel_left, map-append}
-use Rattle.driver_laws.specs.Prelude.{State, call_in, calls_of, leads_to, Watched, Call, Entry, WhereUp, accepted_of, handed_of, halves_of, Running, Rings, Up, Down, delivered, bytes_of, sent_since}
+use Rattle.driver_laws.specs.Prelude.{State, call_in, calls_of, leads_to, Watched, Call, Entry, WhereUp, accepted_of, handed_of, halves_of, Running, Rings, Up, Down, delivered, bytes_of, sent_since, DrivesRings, entries_in, marked_entries}
 use Rattle.pmd_laws.specs.Prelude.{BeforeLast, IsAlong, HasGround}
 use Rattle.device_lock.proofs.Histories.{events-append, leads-append, legal-append}
-use Rattle.pmd.specs.Apart.{DrivesRings}
-use Rattle.pmd.specs.PmdSeam.Begun.{LeadsTo, entries_in, marked_entries}
+use Rattle.pmd.specs.PmdSeam.Begun.{LeadsTo}
 use Rattle.pmd.specs.PmdSeam.Scheduled.{own_calls}
 use Rattle.start_laws.proofs.Parts.{calls_joined}
 use Rattle.start_laws.specs.ReceiveLaws.Delivered as receive

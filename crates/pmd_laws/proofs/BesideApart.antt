@@ -2,13 +2,10 @@
 use Rattle.std.proofs.Common.{◌≡◌, ℕ, List, [], ◌++◌, refl, sym, ap, ◌∙◌, subst, append_assoc, if◌then◌else◌}
 use Rattle.std.specs.Prelude.{IsTrue}
 use Rattle.std.proofs.lemmas.List.{append-nil, append_cancel_left}
-use Rattle.driver_laws.specs.Prelude.{Memory, has_block, is_free, is_own, State, Blocks, Call, WhereUp, halted_of, Halves, halves_of, Rings, Up, Down, DeviceFault}
+use Rattle.driver_laws.specs.Prelude.{Memory, has_block, is_free, is_own, State, Blocks, Call, WhereUp, halted_of, Halves, halves_of, Rings, Up, Down, DeviceFault, places_of, HasAll, arena_of}
 use Rattle.pmd_laws.specs.Prelude.{BeforeLast}
-use Rattle.nic_device.specs.DmaArena.Whereabouts.{places_of}
 use Rattle.pmd.specs.Apart.{FindsBy}
 use Rattle.pmd.specs.Apart as apart
-use Rattle.pmd.specs.Blocks.{HasAll}
-use Rattle.pmd.specs.Driver.{arena_of}
 use Rattle.driver_laws.proofs.Retold.{same_leads}
 use Rattle.pmd_laws.specs.Beside.{Beside, IsToldBeside, by_own, now}
 use Rattle.pmd_laws.specs.BesideApart as beside

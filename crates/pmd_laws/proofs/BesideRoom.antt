@@ -1,7 +1,6 @@
 -- A driver beside any calls of its author's has no room for a packet where it tells so.
 use Rattle.std.proofs.Common.{◌≡◌, ℕ, ◌+◌, ◌<◌, ◌≤◌, List, ◌++◌, sym, ap, ◌∙◌}
-use Rattle.driver_laws.specs.Prelude.{Numbers, Call, Up, AtPort, Packet}
-use Rattle.pmd.specs.PmdTx.Sending.{parts_for}
+use Rattle.driver_laws.specs.Prelude.{Numbers, Call, Up, AtPort, Packet, parts_for}
 use Rattle.pmd_laws.specs.Beside.{IsToldAnew, IsToldBy, by_own}
 use Rattle.pmd_laws.specs.BesideRoom as beside
 use Rattle.pmd_laws.specs.FullRing.{AcceptsNone, TellsFull, outstanding}

@@ -1,6 +1,6 @@
 -- A start behind and beside any calls of its author's finds no device at fault.
 use Rattle.std.proofs.Common.{◌⊎◌, inl, inr, ◌++◌, refl}
-use Rattle.start_laws.specs.Filling.{FaultsEarly, FaultsFilling}
+use Rattle.pmd_laws.specs.Prelude.{FaultsEarly, FaultsFilling}
 use Rattle.start_laws.proofs.Filling.{faults_are_early_or_filling}
 use Rattle.pmd_laws.specs.BesideStart as beside
 use Rattle.pmd_laws.specs.BesideStart.{BeginsBeside}

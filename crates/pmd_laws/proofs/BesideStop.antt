@@ -2,9 +2,8 @@
 use Rattle.std.proofs.Common.{◌≡◌, false, inl, inr, List, [], ◌++◌, refl, sym, ap, ◌∙◌}
 use Rattle.std.proofs.lemmas.List.{append_cancel_left}
 use Rattle.driver_laws.specs.Prelude.{Block, Event, calls_of, Call, Entry, accepted_of, handed_of, halves_of, IsSwitched, AtPort, delivered, bytes_of, sent_since}
-use Rattle.pmd_laws.specs.Prelude.{IsAsking, IsEnding, AreMadeOf, Ends, EndsOnceOff, TakesOnceOff}
+use Rattle.pmd_laws.specs.Prelude.{IsAsking, IsEnding, AreMadeOf, Ends, EndsOnceOff, TakesOnceOff, IsSilent}
 use Rattle.start_laws.specs.ReceiveLaws.Delivered as receive
-use Rattle.start_laws.specs.Silent.{IsSilent}
 use Rattle.start_laws.specs.Stopping.{Asks}
 use Rattle.start_laws.specs.TransmitLaws.Laws as transmit
 use Rattle.driver_laws.specs.Retold.{AreSame}

@@ -1,9 +1,9 @@
 -- What a driver has of an arena's blocks, over its calls.
 use Rattle.std.proofs.Common.{◌≡◌, ℕ, List, [], ◌++◌, append_assoc, subst, arith}
-use Rattle.driver_laws.specs.Prelude.{Numbers, times_in_hand, Halted, halted_of, Rings}
+use Rattle.driver_laws.specs.Prelude.{Numbers, times_in_hand, Halted, halted_of, Rings, HasAll}
 use Rattle.pmd.proofs.PmdSeam.Outside.{times-append}
 use Rattle.pmd.specs.Halted.{all_out}
-use Rattle.pmd.specs.Blocks.{HasAll, KeepsBlocks, KeepsEach}
+use Rattle.pmd.specs.Blocks.{KeepsBlocks, KeepsEach}
 use Rattle.pmd.proofs.Whole.{keeps_beside, keeps_counted, keeps_then}
 use Rattle.pmd_laws.specs.Places.{BooksGoOn}
 

@@ -1,9 +1,7 @@
 -- From the place on where both sides of a driver's queue are on, a history drives its halves.
 use Rattle.std.proofs.Common.{ℕ, List, [], ◌++◌, sym, ◌∙◌, subst}
-use Rattle.driver_laws.specs.Prelude.{Numbers, State, lent_by, IsLegal, AreEvents, leads_to, Watched, Call, Entry, AllOwn, Doer, Halves, AtPort, Receive, Sender, LeavesAloneFrom}
+use Rattle.driver_laws.specs.Prelude.{Numbers, State, lent_by, IsLegal, AreEvents, leads_to, Watched, Call, Entry, AllOwn, Doer, Halves, AtPort, Receive, Sender, LeavesAloneFrom, EachRingBlock, Agree}
 use Rattle.pmd_laws.specs.Prelude.{BeforeLast, IsAlong, AreOn, HasGround}
-use Rattle.pmd.specs.PmdSeam.Slots.{EachRingBlock}
-use Rattle.start_laws.specs.ReceiveLaws.Joint.{Agree}
 use Rattle.start_laws.specs.TransmitLaws.Agreeing.{Agrees}
 use Rattle.start_laws.specs.Unused.{WentOn}
 use Rattle.start_laws.proofs.Lent.{IsLentBy}

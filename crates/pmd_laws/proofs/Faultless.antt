@@ -1,8 +1,7 @@
 -- No call of a driver finds the device at fault, over its whole life.
 use Rattle.std.proofs.Common.{◌≡◌, List, ◌∷◌, ◌++◌, sym, ap, ◌∙◌, subst, append_assoc}
-use Rattle.driver_laws.specs.Prelude.{is_own, State, Blocks, Watched, Call, Entry, FindsFault, Halves, halves_of, Running, AreUp}
+use Rattle.driver_laws.specs.Prelude.{is_own, State, Blocks, Watched, Call, Entry, FindsFault, Halves, halves_of, Running, AreUp, DrivesApart}
 use Rattle.pmd_laws.specs.Prelude.{BeforeLast}
-use Rattle.pmd.specs.Apart.{DrivesApart}
 use Rattle.pmd.proofs.Apart.{apart_on}
 use Rattle.start_laws.proofs.Parts.{Parts, parts}
 use Rattle.start_laws.proofs.Start.{on}

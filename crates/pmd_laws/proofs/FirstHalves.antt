@@ -2,10 +2,9 @@
 use Rattle.std.proofs.Common.{◌≡◌, ℕ, ◌+◌, true, List, sym, ◌∙◌, subst}
 use Rattle.std.specs.Prelude.{IsTrue}
 use Rattle.std.proofs.lemmas.Bool.{both_ways, or_left, or_right}
-use Rattle.driver_laws.specs.Prelude.{Numbers, Blocks, Call, most_blocks, AtPort, Receive, Sender, Halves}
+use Rattle.driver_laws.specs.Prelude.{Numbers, Blocks, Call, most_blocks, AtPort, Receive, Sender, Halves, is_ring_block, EachRingBlock}
 use Rattle.pmd_laws.specs.Prelude.{AreOn}
 use Rattle.pmd.specs.PmdSeam.Frames.{packet_limit}
-use Rattle.pmd.specs.PmdSeam.Slots.{is_ring_block, EachRingBlock}
 use Rattle.pmd.proofs.PmdSeam.Rings.{ring_block_among, ring_block_is}
 use Rattle.driver_laws.specs.Agreeing.{AreApart, AreLent}
 use Rattle.driver_laws.specs.Healthy.{lent_by}

@@ -1,10 +1,10 @@
 -- A driver's transmit ring has as many slots as its start was given, and a slot that no part of a packet is in.
 use Rattle.std.proofs.Common.{◌≡◌, ℕ, ◌+◌, ◌<◌, ◌≤◌, List, [], ◌∷◌, length, Ok, refl, sym, ap, ◌∙◌, subst, arith}
 use Rattle.std.proofs.lemmas.List.{length-append, length-drop}
-use Rattle.driver_laws.specs.Prelude.{Block, Event, Reply, Call, AllOwn, Doer, Halves, OwnCall, Receives, Sends, after_call, halves_of, played_by, Accepts, Advances, Asks, Lends, Move, Reaps, Sender, Running, Up, AtPort, Packet, Numbers}
+use Rattle.driver_laws.specs.Prelude.{Block, Event, Reply, Call, AllOwn, Doer, Halves, OwnCall, Receives, Sends, after_call, halves_of, played_by, Accepts, Advances, Asks, Lends, Move, Reaps, Sender, Running, Up, AtPort, Packet, Numbers, Looks, parts_for}
 use Rattle.nic_device.specs.declared.event.Event.TheVariants as event
 use Rattle.nic_device.specs.declared.event.Reply.TheVariants as reply
-use Rattle.pmd.specs.PmdTx.Sending.{Looks, Outgoing, IsOwn, MayAccept, moved, accepted_by, parts_for, reaped, segments_of}
+use Rattle.pmd.specs.PmdTx.Sending.{Outgoing, IsOwn, MayAccept, moved, accepted_by, reaped, segments_of}
 use Rattle.pmd.specs.PmdTx.Sends.{IsFullWhereTold}
 use Rattle.pmd.specs.PmdTx.declared.answer.TxAnswer.TheVariants.{RingFull}
 use Rattle.start_laws.proofs.Rising.{sized}

@@ -1,10 +1,10 @@
 -- What was handed out stays a prefix of what is delivered where the receive side doesn't go on.
 use Rattle.std.proofs.Common.{◌≡◌, ℕ, inl, inr, List, [], ◌∷◌, ◌++◌, Option, Some, None, option_map, refl, sym, ap, ◌∙◌, subst, append_assoc, cond}
 use Rattle.std.proofs.lemmas.Bool.{cases_Bool}
-use Rattle.driver_laws.specs.Prelude.{Rx, State, after, Blocks, Watched, Call, Entry, AtPort, delivered, pieces_since, Piece, pieces}
+use Rattle.driver_laws.specs.Prelude.{Rx, State, after, Blocks, Watched, Call, Entry, AtPort, delivered, pieces_since, Piece, pieces, packets_if_any}
 use Rattle.pmd_laws.specs.Prelude.{IsEnding, HasGround}
 use Rattle.pmd.specs.PmdSeam.Packet.{Kept}
-use Rattle.start_laws.specs.ReceiveLaws.Delivered.{IsPrefixOf, packets_if_any}
+use Rattle.start_laws.specs.ReceiveLaws.Delivered.{IsPrefixOf}
 use Rattle.start_laws.specs.ReceiveLaws.Pieces.{packets_behind, packet_told}
 use Rattle.start_laws.proofs.ReceiveLaws.Delivering.{since-append}
 use Rattle.start_laws.proofs.Reached.{KeptOver, LeadsOver, reached, reached_next}

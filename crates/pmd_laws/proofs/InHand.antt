@@ -4,10 +4,10 @@ use Rattle.std.specs.Prelude.{◌==◌, IsTrue}
 use Rattle.std.proofs.lemmas.Bool.{cases_Bool}
 use Rattle.std.proofs.lemmas.List.{map-append}
 use Rattle.std.proofs.lemmas.List.Elements.{filter-append}
-use Rattle.driver_laws.specs.Prelude.{State, call_in, calls_of, leads_to, Call, Entry, LeavesAloneFrom}
+use Rattle.driver_laws.specs.Prelude.{State, call_in, calls_of, leads_to, Call, Entry, LeavesAloneFrom, entries_in, marked_entries}
 use Rattle.device_lock.specs.Alone.{LeavesAlone, has_begun}
 use Rattle.device_lock.proofs.Histories.{events-append, leads-append, legal-append}
-use Rattle.pmd.specs.PmdSeam.Begun.{LeadsTo, entries_in, marked_entries}
+use Rattle.pmd.specs.PmdSeam.Begun.{LeadsTo}
 use Rattle.pmd.specs.PmdSeam.Scheduled.{own_calls}
 use Rattle.start_laws.proofs.ReceiveLaws.Histories.{calls_other, calls_own}
 use Rattle.pmd_laws.specs.InHand.{DirectIsHistory, InterleavedIsHistory, IsHistoryOf, WasMade, in_hand}

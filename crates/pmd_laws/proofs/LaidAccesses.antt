@@ -1,16 +1,12 @@
 -- A start's accesses beside those of its transmit ring lay out no more of it.
 use Rattle.std.proofs.Common.{ℕ, inl, inr, true, List, [], ◌∷◌, refl}
-use Rattle.driver_laws.specs.Prelude.{Block, Numbers, Rx, Call, PmdFault, DeviceFault, Access, AtPort, ring_words, Receive, ring_blocks}
-use Rattle.pmd_laws.specs.Prelude.{Laid, AreMadeOf}
-use Rattle.nic_device.specs.RegTable.declared.rows.RowId.TheVariants.{Rdt}
+use Rattle.driver_laws.specs.Prelude.{Block, Numbers, Rx, Call, PmdFault, DeviceFault, Access, AtPort, ring_words, Receive, ring_blocks, Rdt, both_quiet, AreMade, StopsBy, IsNumberOf, IsPrepared, IsReceiveReady}
+use Rattle.pmd_laws.specs.Prelude.{Laid, AreMadeOf, Off, Empty}
 use Rattle.pmd.specs.PmdSeam.declared.fault.PmdFault.TheVariants.{BadSize, ForeignBlock, NoBuffer, StartTimeout}
 use Rattle.pmd.specs.PmdSeam.declared.fault.PmdFault.TheVariants as fault
-use Rattle.pmd.specs.PmdSeam.Both.{both_asked, both_quiet}
-use Rattle.pmd.specs.PmdSeam.QueueMade.{AreMade, StopsBy}
-use Rattle.pmd.specs.PmdSeam.Named.{IsNumberOf}
+use Rattle.pmd.specs.PmdSeam.Both.{both_asked}
 use Rattle.pmd.specs.PmdRx.Receive.{at_start}
-use Rattle.pmd.specs.Starting.{GoingOnFails, IsPrepared, IsReceiveReady, LendingFails, LendsEach, ReceiveFails}
-use Rattle.start_laws.specs.Laid.{Off, Empty}
+use Rattle.pmd.specs.Starting.{GoingOnFails, LendingFails, LendsEach, ReceiveFails}
 use Rattle.start_laws.proofs.AccessCalls.{accesses_are, stops_are, switched_are, unswitched_are}
 use Rattle.start_laws.proofs.AllAre.{AllAre}
 use Rattle.start_laws.proofs.StopCalls.{adds_made, none_made, some_made, then_made}

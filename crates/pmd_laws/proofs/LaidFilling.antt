@@ -1,12 +1,10 @@
 -- The calls by which a receive ring is filled lay out no more of a transmit ring.
 use Rattle.std.proofs.Common.{◌≡◌, Bool, true, false, List, [], ◌∷◌, refl, sym, ◌∙◌, subst}
-use Rattle.driver_laws.specs.Prelude.{Block, Event, Call, AtPort, Receive}
+use Rattle.driver_laws.specs.Prelude.{Block, Event, Call, AtPort, Receive, Rdt, IsNumberOf, drive}
 use Rattle.pmd_laws.specs.Prelude.{Laid, AreMadeOf}
-use Rattle.nic_device.specs.RegTable.declared.rows.RowId.TheVariants.{Rdt}
 use Rattle.nic_device.specs.declared.event.Event.TheVariants as event
-use Rattle.pmd.specs.PmdSeam.Named.{IsNumberOf}
 use Rattle.pmd.specs.PmdRx.Plays.{AllOwn, OthersStep, Plays}
-use Rattle.pmd.specs.PmdRx.Receive.{IsOwn, drive}
+use Rattle.pmd.specs.PmdRx.Receive.{IsOwn}
 use Rattle.start_laws.specs.Ending.{Each}
 use Rattle.pmd_laws.proofs.LaidCalls.{Stays, step_stays}
 use Rattle.pmd_laws.proofs.Plain.{drive_same}

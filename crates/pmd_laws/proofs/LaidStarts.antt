@@ -1,9 +1,9 @@
 -- A start that was refused laid out an empty transmit ring so far.
 use Rattle.std.proofs.Common.{◌≡◌, ℕ, inl, inr, true, List, subst}
-use Rattle.driver_laws.specs.Prelude.{Numbers, Tx, Call, PmdFault, most_blocks, AtPort, ring_blocks, Receive, StartRefused}
-use Rattle.pmd.specs.Started.{StopsAfterBoth, StopsAfterOne, StopsStarting, is_size}
-use Rattle.pmd.specs.Starting.{GoingOnFails, IsPrepared, PreparingFails}
-use Rattle.start_laws.specs.Laid.{Off, Empty}
+use Rattle.driver_laws.specs.Prelude.{Numbers, Tx, Call, PmdFault, most_blocks, AtPort, ring_blocks, Receive, StartRefused, StopsStarting, IsPrepared}
+use Rattle.pmd_laws.specs.Prelude.{Off, Empty}
+use Rattle.pmd.specs.Started.{StopsAfterBoth, StopsAfterOne, is_size}
+use Rattle.pmd.specs.Starting.{GoingOnFails, PreparingFails}
 use Rattle.start_laws.proofs.Rising.{sized}
 use Rattle.pmd_laws.proofs.LaidAccesses.{going_on_fails, lending_stays, lends_stay, receive_fails, receive_ready}
 use Rattle.pmd_laws.proofs.LaidCalls.{LaysBetween, stays_between, then_between}

@@ -2,15 +2,14 @@
 use Rattle.std.proofs.Common.{◌≡◌, ℕ, ◌*◌, ◌%◌, ◌^◌, ◌<◌, ◌≤◌, inl, inr, true, not, List, [], ◌∷◌, ◌++◌, refl, sym, ◌∙◌, subst, arith}
 use Rattle.std.specs.Prelude.{⊤}
 use Rattle.std.proofs.lemmas.List.{append-nil}
-use Rattle.nic_device.specs.RegTable.declared.rows.RowId.{RowId}
-use Rattle.driver_laws.specs.Prelude.{Tx, Call, PmdFault, DeviceFault, Access, Sees, Sets, IsMade, AtPort, ring_words}
-use Rattle.pmd_laws.specs.Prelude.{Laid}
+use Rattle.driver_laws.specs.Prelude.{RowId, Tx, Call, PmdFault, DeviceFault, Access, Sees, Sets, IsMade, AtPort, ring_words, AreMade, StopsBy, IsNumberOf}
+use Rattle.pmd_laws.specs.Prelude.{Laid, Off, Empty}
 use Rattle.nic_device.specs.declared.event.Event.TheVariants as event
 use Rattle.pmd.specs.PmdSeam.declared.fault.PmdFault.TheVariants.{BadSize, ForeignBlock, NoBuffer, StartTimeout}
 use Rattle.pmd.specs.PmdSeam.declared.fault.PmdFault.TheVariants as fault
-use Rattle.pmd.specs.PmdSeam.QueueMade.{AreMade, FailsBy, IsOtherwise, StopsBy}
-use Rattle.pmd.specs.PmdSeam.Named.{IsNumberOf, is_driven}
-use Rattle.start_laws.specs.Laid.{Off, Sized, Headed, Empty, MayLay, laid_by}
+use Rattle.pmd.specs.PmdSeam.QueueMade.{FailsBy, IsOtherwise}
+use Rattle.pmd.specs.PmdSeam.Named.{is_driven}
+use Rattle.start_laws.specs.Laid.{Sized, Headed, MayLay, laid_by}
 use Rattle.start_laws.proofs.StopCalls.{some_made}
 use Rattle.pmd_laws.proofs.LaidCalls.{LaysBetween, Stays, adds_between, stays_between, step_stays, then_between}
 

@@ -1,15 +1,14 @@
 -- What a driver lends from the place on where both sides are on.
 use Rattle.std.proofs.Common.{◌≡◌, ℕ, Bool, true, false, List, [], ◌++◌, refl, sym, ◌∙◌, subst}
 use Rattle.std.proofs.lemmas.Bool.{both_ways}
-use Rattle.driver_laws.specs.Prelude.{Numbers, is_own, is_free, Blocks, Call, Halves, Receives, halves_of, Running, AreUp, AtPort, ring_blocks, Receive, Sender, has_lent}
+use Rattle.driver_laws.specs.Prelude.{Numbers, is_own, is_free, Blocks, Call, Halves, Receives, halves_of, Running, AreUp, AtPort, ring_blocks, Receive, Sender, has_lent, DrivesApart, IsReceiveReady, is_ring_block}
 use Rattle.nic_device.proofs.DmaArena.Arenas.{is_own-of_free}
-use Rattle.pmd.specs.Apart.{DrivesApart, MayLend, OwnsSame}
+use Rattle.pmd.specs.Apart.{MayLend, OwnsSame}
 use Rattle.pmd.specs.Life.{Lives}
-use Rattle.pmd.specs.Starting.{IsReceiveReady, IsTransmitReady}
+use Rattle.pmd.specs.Starting.{IsTransmitReady}
 use Rattle.pmd.proofs.Apart.{apart_on, receiving_apart}
 use Rattle.pmd.proofs.Whole.{all_drawn, all_exchanged}
 use Rattle.pmd.specs.PmdSeam.Frames.{packet_limit}
-use Rattle.pmd.specs.PmdSeam.Slots.{is_ring_block}
 use Rattle.pmd_laws.specs.Lends.{LifeLendsApart, first_of}
 use Rattle.pmd_laws.proofs.Begun.{lent_at_start, ring_gone}
 

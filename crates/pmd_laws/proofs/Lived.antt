@@ -1,10 +1,9 @@
 -- What begins a history of a life is one too.
 use Rattle.std.proofs.Common.{◌≡◌, ℕ, List, ◌∷◌, ◌++◌, sym, ap, ◌∙◌, subst, append_assoc}
 use Rattle.driver_laws.specs.Prelude.{Numbers, State, IsLegal, AreEvents, Watched, Call, Entry, LeavesAloneFrom, Running, AreUp, AtPort, Halves, halves_of}
-use Rattle.pmd_laws.specs.Prelude.{IsAlong}
+use Rattle.pmd_laws.specs.Prelude.{IsAlong, BeginsWell}
 use Rattle.start_laws.proofs.HistoryLaws.Beginning.{beginning_alone}
 use Rattle.device_lock.proofs.Histories.{events_before, legal_before}
-use Rattle.start_laws.specs.Start.{BeginsWell}
 use Rattle.driver_laws.specs.Beside.{Leads}
 use Rattle.pmd_laws.specs.Life.{Life}
 

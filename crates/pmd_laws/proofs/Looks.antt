@@ -1,12 +1,11 @@
 -- A look that finds no packet, within a longer history.
 use Rattle.std.proofs.Common.{◌≡◌, ℕ, List, [], ◌∷◌, ◌++◌, length, refl, sym, ap, ◌∙◌, subst, append_assoc}
 use Rattle.std.proofs.lemmas.List.{same_from_push}
-use Rattle.driver_laws.specs.Prelude.{State, reply_to, IsLegal, call_in, calls_of, leads_to, call_of, Watched, Call, Entry, Receive, delivered, Halves, halves_of}
+use Rattle.driver_laws.specs.Prelude.{State, reply_to, IsLegal, call_in, calls_of, leads_to, call_of, Watched, Call, Entry, Receive, delivered, Halves, halves_of, FindsNone}
 use Rattle.pmd_laws.specs.Prelude.{IsAlong}
 use Rattle.nic_device.specs.declared.event.Event.TheVariants as event
 use Rattle.nic_device.specs.declared.event.Reply.TheVariants as reply
 use Rattle.pmd.specs.PmdRx.Receive.{descriptor_at}
-use Rattle.start_laws.specs.ReceiveLaws.Histories.{FindsNone}
 use Rattle.device_lock.proofs.Histories.{legal_behind}
 use Rattle.start_laws.proofs.Parts.{around}
 use Rattle.pmd.proofs.Followed.{receiving_drives}

@@ -1,8 +1,8 @@
 -- No burst of a driver meets the device at fault, whatever it answers.
 use Rattle.std.proofs.Common.{◌≡◌, ℕ, List, [], ◌++◌, Option, Some, None, Result, IfErr, IfSome, sym, ap, ◌∙◌, subst, append_assoc}
 use Rattle.std.proofs.lemmas.List.{append-nil}
-use Rattle.driver_laws.specs.Prelude.{is_own, Blocks, Call, FindsFault, WhereUp, halves_of, Running, Rings, Up, Down, PmdFault, DeviceFault, Packet}
-use Rattle.pmd.specs.Apart.{DrivesRings, FindsBy}
+use Rattle.driver_laws.specs.Prelude.{is_own, Blocks, Call, FindsFault, WhereUp, halves_of, Running, Rings, Up, Down, PmdFault, DeviceFault, Packet, DrivesRings}
+use Rattle.pmd.specs.Apart.{FindsBy}
 use Rattle.pmd.specs.Bursts.{FailedAmid, SendsWith}
 use Rattle.pmd_laws.specs.Faultless.{NoBurstMeetsFault, SendsAtFault, met_by}
 use Rattle.pmd_laws.specs.Told.{now}

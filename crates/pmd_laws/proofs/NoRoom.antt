@@ -1,8 +1,7 @@
 -- Where a driver accepts none of several packets, and answers no fault, its ring has no room for the first.
 use Rattle.std.proofs.Common.{◌≡◌, ℕ, ◌+◌, ◌<◌, ◌≤◌, List, [], ◌∷◌, length, Option, Some, None, Result, Ok, Err, IfSome, refl, ap, ◌∙◌, arith}
-use Rattle.driver_laws.specs.Prelude.{Call, WhereUp, halves_of, Running, Rings, Up, Down, PmdFault, Packet, Sender}
+use Rattle.driver_laws.specs.Prelude.{Call, WhereUp, halves_of, Running, Rings, Up, Down, PmdFault, Packet, Sender, parts_for}
 use Rattle.pmd.specs.Bursts.{IsSendBurst, SendsBurst, SendsWith, Stops}
-use Rattle.pmd.specs.PmdTx.Sending.{parts_for}
 use Rattle.driver_laws.proofs.LeadsApart.{driven_apart}
 use Rattle.pmd_laws.specs.FullRing.{AcceptsNone, NoneHasNoRoom, outstanding}
 use Rattle.pmd_laws.specs.Told.{Drove, Moment, last}

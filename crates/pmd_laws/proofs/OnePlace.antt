@@ -3,16 +3,12 @@ use Rattle.std.proofs.Common.{◌≡◌, ℕ, zero, suc, ◌+◌, ◌<◌, Bool,
 use Rattle.std.specs.Prelude.{◌==◌}
 use Rattle.std.specs.List.{list_any}
 use Rattle.std.proofs.lemmas.Bool.{both_ways, eqb-false, or_from, or_parts, true_from_ne_false}
-use Rattle.driver_laws.specs.Prelude.{Memory, has_block, Numbers, is_free, times_in_hand, ring_blocks, Sender, has_lent, halted_of, Halves, halves_of, Running, Rings, Up}
-use Rattle.nic_device.specs.DmaArena.Whereabouts.{places_of}
-use Rattle.pmd.specs.PmdSeam.Slots.{is_ring_block}
+use Rattle.driver_laws.specs.Prelude.{Memory, has_block, Numbers, is_free, times_in_hand, ring_blocks, Sender, has_lent, halted_of, Halves, halves_of, Running, Rings, Up, places_of, is_ring_block, HasAll, arena_of}
 use Rattle.pmd.proofs.PmdSeam.Outside.{times-append, times_rest}
 use Rattle.pmd.proofs.PmdSeam.Rings.{ring_block_among, times_among}
 use Rattle.pmd.specs.PmdRx.Keeping as received
 use Rattle.pmd.specs.PmdTx.Leaving as sending
 use Rattle.pmd.specs.PmdTx.Sending.{blocks_of}
-use Rattle.pmd.specs.Blocks.{HasAll}
-use Rattle.pmd.specs.Driver.{arena_of}
 use Rattle.driver_laws.specs.Healthy.{lent_by}
 use Rattle.pmd_laws.specs.Places.{EachInOnePlace, is_out, memory_after}
 use Rattle.pmd_laws.proofs.Places.{lent_is_out, out_is_lent}

@@ -1,11 +1,9 @@
 -- What a driver handed out and what it sent in its life.
 use Rattle.std.proofs.Common.{◌≡◌, ℕ, List, [], ◌++◌, refl, sym, ap, ◌∙◌, subst}
-use Rattle.driver_laws.specs.Prelude.{State, calls_of, leads_to, Entry, AreUp, Receive, delivered, bytes_of, sent_in, sent_since, Halves, halves_of, played_by}
+use Rattle.driver_laws.specs.Prelude.{State, calls_of, leads_to, Entry, AreUp, Receive, delivered, bytes_of, sent_in, sent_since, Halves, halves_of, played_by, records_of, FindsNone, ShowsNone}
 use Rattle.pmd_laws.specs.Prelude.{AreOn}
-use Rattle.pmd.specs.PmdRx.Receive.{records_of}
 use Rattle.pmd.specs.PmdSeam.Packet.{Kept}
 use Rattle.start_laws.specs.ReceiveLaws.Delivered as receive
-use Rattle.start_laws.specs.ReceiveLaws.Histories.{FindsNone, ShowsNone}
 use Rattle.start_laws.specs.TransmitLaws.Laws as transmit
 use Rattle.start_laws.specs.Unused.{WentOn}
 use Rattle.start_laws.proofs.Parts.{Parts, parts}

@@ -2,9 +2,9 @@
 use Rattle.std.proofs.Common.{◌≡◌, ℕ, inl, inr, true, List, [], ◌∷◌, ◌++◌, subst}
 use Rattle.std.specs.Prelude.{◌==◌}
 use Rattle.std.proofs.lemmas.Bool.{and_parts, both_ways, cases_Bool, or_cases}
-use Rattle.driver_laws.specs.Prelude.{Block, Event, Reply, Blocks, lent_by, call_in, calls_of, Entry, AtPort}
+use Rattle.driver_laws.specs.Prelude.{Block, Event, Reply, Blocks, lent_by, call_in, calls_of, Entry, AtPort, lends}
 use Rattle.nic_device.specs.declared.event.Event.TheVariants as event
-use Rattle.device_lock.specs.Alone.{lends, lent_in}
+use Rattle.device_lock.specs.Alone.{lent_in}
 use Rattle.start_laws.proofs.ReceiveLaws.Histories.{calls_own, calls_other}
 use Rattle.start_laws.specs.Ending.{Each}
 use Rattle.driver_laws.specs.Before.{OnlyPassLends}

@@ -1,12 +1,12 @@
 -- The calls of a driver's life are harmless, or write no register but the tails of its queue.
 use Rattle.std.proofs.Common.{◌≡◌, ◌⊎◌, inl, inr, ℕ, List, [], ◌∷◌, refl, sym, subst}
 use Rattle.std.specs.Prelude.{IsTrue}
-use Rattle.driver_laws.specs.Prelude.{Block, Event, Port, Reply, Call, AtPort, Receive, Sender, Move, Accepts, Lends, Asks, Advances, Reaps, Elsewhere, AllOwn, Doer, Halves, OwnCall, Receives, Sends, after_call, is_neither}
+use Rattle.driver_laws.specs.Prelude.{Block, Event, Port, Reply, Call, AtPort, Receive, Sender, Move, Accepts, Lends, Asks, Advances, Reaps, Elsewhere, AllOwn, Doer, Halves, OwnCall, Receives, Sends, after_call, is_neither, drive}
 use Rattle.nic_device.specs.declared.event.Event.TheVariants as event
 use Rattle.nic_device.specs.declared.event.Reply.TheVariants as reply
 use Rattle.nic_device.proofs.Cases.{either_way}
 use Rattle.pmd.specs.PmdRx.Receive as receiving
-use Rattle.pmd.specs.PmdRx.Receive.{drive, looked, moved, posts_all, took}
+use Rattle.pmd.specs.PmdRx.Receive.{looked, moved, posts_all, took}
 use Rattle.pmd.specs.PmdRx.declared.ring.Told.{Told}
 use Rattle.pmd.specs.PmdTx.Sending as sending
 use Rattle.start_laws.specs.Ending.{Each, IsPlain, NamesDriven}

@@ -3,13 +3,13 @@ use Rattle.std.proofs.Common.{◌≡◌, ℕ, List, [], ◌∷◌, ◌++◌, ref
 use Rattle.std.proofs.lemmas.Bool.{eq-eqb}
 use Rattle.std.proofs.lemmas.List.{append_cancel_left}
 use Rattle.driver_laws.specs.Prelude.{State, after, calls_of, call_in, leads_to, Call, Entry, delivered, bytes_of, sent_by, sent_in, sent_since}
-use Rattle.pmd_laws.specs.Prelude.{Laid}
+use Rattle.pmd_laws.specs.Prelude.{Laid, Off}
 use Rattle.nic_device.proofs.Cases.{either_way}
 use Rattle.start_laws.specs.ReceiveLaws.Delivered as receive
 use Rattle.start_laws.proofs.ReceiveLaws.Histories.{calls_own}
 use Rattle.start_laws.specs.TransmitLaws.Laws as transmit
 use Rattle.start_laws.specs.TransmitLaws.Sent.{counted_by, goes_on}
-use Rattle.start_laws.specs.Laid.{LaysOn, Off}
+use Rattle.start_laws.specs.Laid.{LaysOn}
 use Rattle.start_laws.proofs.Laid.{laid_queue_is_silent}
 use Rattle.start_laws.proofs.Parts.{calls_joined}
 use Rattle.pmd_laws.specs.Refused.{LeftOfRefusedIsPrefix, Refused, RefusedSendsNothing}

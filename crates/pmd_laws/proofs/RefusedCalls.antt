@@ -2,17 +2,17 @@
 use Rattle.std.proofs.Common.{◌≡◌, inl, inr, ℕ, Bool, true, false, ◌&&◌, List, [], ◌∷◌, Option, Some, None, Err, refl, sym, ◌∙◌, subst, cond}
 use Rattle.std.proofs.lemmas.Bool.{and_parts}
 use Rattle.std.proofs.lemmas.List.{append-nil}
-use Rattle.driver_laws.specs.Prelude.{Block, Numbers, Rxdctl, has_bit, Rx, Tx, Event, Call, PmdFault, Halted, AtPort, Rest, StartRefused}
-use Rattle.pmd_laws.specs.Prelude.{IsEnding, Laid, Ends}
+use Rattle.driver_laws.specs.Prelude.{Block, Numbers, Rxdctl, has_bit, Rx, Tx, Event, Call, PmdFault, Halted, AtPort, Rest, StartRefused, StopsStarting}
+use Rattle.pmd_laws.specs.Prelude.{IsEnding, Laid, Ends, Off, Empty}
 use Rattle.nic_device.specs.RegTable.declared.rows.RowId.TheVariants.{Txdctl}
 use Rattle.nic_device.specs.declared.event.Event.TheVariants as event
 use Rattle.pmd.specs.PmdSeam.declared.fault.PmdFault.TheVariants.{BadSize}
 use Rattle.pmd.specs.PmdSeam.Frames.{is_frame}
 use Rattle.pmd.specs.Life.{ComesDown, NeverLived}
-use Rattle.pmd.specs.Started.{IsHalfStarted, IsHome, IsLeftWith, IsShut, StopsStarting, is_size, start_gate}
+use Rattle.pmd.specs.Started.{IsHalfStarted, IsHome, IsLeftWith, IsShut, is_size, start_gate}
 use Rattle.pmd.specs.declared.start.Rest.TheVariants as rest
 use Rattle.start_laws.specs.Ending.{Each}
-use Rattle.start_laws.specs.Laid.{Off, Empty, MayAsk}
+use Rattle.start_laws.specs.Laid.{MayAsk}
 use Rattle.pmd_laws.proofs.Ends.{stopped_ends}
 use Rattle.pmd_laws.proofs.LaidCalls.{LaysBetween, Stays, each_lays, then_between}
 use Rattle.pmd_laws.proofs.LaidStarts.{starting_lays}

@@ -1,16 +1,14 @@
 -- The calls by which a driver's rings come up write no register but its queue's, and lend no block but the rings'.
 use Rattle.std.proofs.Common.{◌≡◌, ℕ, ◌<◌, true, false, List, [], ◌∷◌, ◌++◌, refl, arith}
 use Rattle.std.specs.Prelude.{⊤, IsTrue}
-use Rattle.driver_laws.specs.Prelude.{Block, Numbers, times_in_hand, Rxdctl, Dir, Rx, Tx, Event, Blocks, Call, is_step, Access, Sees, Sets, IsMade, AtPort, ring_words, Receive, Sender, ring_blocks}
+use Rattle.driver_laws.specs.Prelude.{Block, Numbers, times_in_hand, Rxdctl, Dir, Rx, Tx, Event, Blocks, Call, is_step, Access, Sees, Sets, IsMade, AtPort, ring_words, Receive, Sender, ring_blocks, both_quiet, AreMade, EachRingBlock, IsPrepared, IsReceiveReady}
 use Rattle.pmd_laws.specs.Prelude.{AreOn, AreMadeOf}
 use Rattle.nic_device.specs.declared.event.Event.TheVariants as event
-use Rattle.pmd.specs.PmdSeam.Both.{both_quiet, receive_polled}
-use Rattle.pmd.specs.PmdSeam.QueueMade.{AreMade}
+use Rattle.pmd.specs.PmdSeam.Both.{receive_polled}
 use Rattle.pmd.specs.PmdSeam.Sides.{polled, quiet}
-use Rattle.pmd.specs.PmdSeam.Slots.{EachRingBlock}
 use Rattle.pmd.proofs.PmdSeam.Outside.{times-cons, times_first}
 use Rattle.pmd.proofs.PmdSeam.Rings.{each_ring_block, ring_block_out}
-use Rattle.pmd.specs.Starting.{IsPrepared, IsReceiveReady, LendsEach}
+use Rattle.pmd.specs.Starting.{LendsEach}
 use Rattle.start_laws.specs.Ending.{Each, IsPlain, NamesDriven}
 use Rattle.start_laws.proofs.AllAre.{AllAre, all_both, all_polled}
 use Rattle.start_laws.proofs.StopCalls.{adds_made, none_made, then_made}

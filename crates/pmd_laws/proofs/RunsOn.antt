@@ -1,7 +1,7 @@
 -- A driver that runs runs on, over calls as they are told, and harmless ones between.
 use Rattle.std.proofs.Common.{◌≡◌, inl, inr, List, [], ◌∷◌, refl, sym, ◌∙◌, subst}
-use Rattle.driver_laws.specs.Prelude.{is_own, Blocks, Call, WhereUp, Running, Rings, Up, Down, Halves, halves_of}
-use Rattle.pmd.specs.Apart.{DrivesRings, OwnsSame}
+use Rattle.driver_laws.specs.Prelude.{is_own, Blocks, Call, WhereUp, Running, Rings, Up, Down, Halves, halves_of, DrivesRings}
+use Rattle.pmd.specs.Apart.{OwnsSame}
 use Rattle.pmd.proofs.Both.{rings_still}
 use Rattle.driver_laws.specs.Beside.{AddsHarmless}
 use Rattle.driver_laws.proofs.LeadsApart.{LeadsApart, apart_leads_on, driven_apart, harmless_apart}

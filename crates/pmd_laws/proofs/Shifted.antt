@@ -1,18 +1,15 @@
 -- What the calls of a driver tell is told of the calls that were added alone: it holds behind whichever others.
 use Rattle.std.proofs.Common.{◌≡◌, ℕ, Bool, true, false, List, [], ◌∷◌, ◌++◌, None, refl, sym, ap, ◌∙◌, subst, append_assoc}
 use Rattle.std.proofs.lemmas.List.{append-nil, append_cancel_left}
-use Rattle.driver_laws.specs.Prelude.{Block, Numbers, is_own, Dir, Rx, Tx, Event, Reply, Blocks, call_of, Call, IsSwitched, Adds, AtPort, Access, IsMade, Sees, Sets, Halves, halves_of, Receive, Sender, Running, AreUp}
+use Rattle.driver_laws.specs.Prelude.{Block, Numbers, is_own, Dir, Rx, Tx, Event, Reply, Blocks, call_of, Call, IsSwitched, Adds, AtPort, Access, IsMade, Sees, Sets, Halves, halves_of, Receive, Sender, Running, AreUp, enable_row, AreMade, DrivesApart, DrivesRings, IsPrepared, IsReceiveReady}
 use Rattle.nic_device.specs.DmaArena.Block.{zero_block}
-use Rattle.nic_device.specs.RegisterFile.Queue.{enable_row}
 use Rattle.pmd.specs.PmdSeam.Accesses.{IsLent}
 use Rattle.pmd.specs.PmdSeam.Both.{receive_polled}
-use Rattle.pmd.specs.PmdSeam.QueueMade.{AreMade}
 use Rattle.pmd.specs.PmdSeam.Sides.{polled, quiet}
-use Rattle.pmd.specs.Apart.{DrivesApart, DrivesRings}
 use Rattle.pmd.specs.PmdRx.Plays.{LooksInVain, Plays, PlaysFrom}
 use Rattle.pmd.specs.PmdTx.Plays as sending
 use Rattle.pmd.specs.PmdTx.Plays.{LooksLast}
-use Rattle.pmd.specs.Starting.{GoesOn, IsPrepared, IsReceiveReady, IsTransmitReady, LendsEach}
+use Rattle.pmd.specs.Starting.{GoesOn, IsTransmitReady, LendsEach}
 
 -- some calls were added, of which this holds, whatever calls are before them
 pub record Shifts (R : List Call → List Call → Type 0) (old new : List Call) : Type 0 where

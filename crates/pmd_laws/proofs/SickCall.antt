@@ -1,9 +1,9 @@
 -- The calls of a driver up to one whose reply no healthy queue gives.
 use Rattle.std.proofs.Common.{◌≡◌, false, List, [], ◌∷◌, ◌++◌, refl, ap, ◌∙◌, subst, append_assoc}
-use Rattle.driver_laws.specs.Prelude.{Blocks, call_of, Call, FindsFault, AllOwn, Doer, Halves, OwnCall, Receives, Sends, is_neither, played_by, Elsewhere}
+use Rattle.driver_laws.specs.Prelude.{Blocks, call_of, Call, FindsFault, AllOwn, Doer, Halves, OwnCall, Receives, Sends, is_neither, played_by, Elsewhere, doers_other}
 use Rattle.pmd.proofs.PmdSeam.Steps.{steps_both, steps_last}
 use Rattle.pmd.specs.Apart.{is_healthy}
-use Rattle.pmd.specs.Halves.{OthersStep, doers_other}
+use Rattle.pmd.specs.Halves.{OthersStep}
 use Rattle.pmd.proofs.Followed.{both_own, others_own, others_played, own_length}
 use Rattle.driver_laws.specs.Faults.{doers_of}
 

@@ -1,12 +1,12 @@
 -- No start finds the device at fault as it fills its receive ring, nor before.
 use Rattle.std.proofs.Common.{◌≡◌, ℕ, inl, inr, ◌⊎◌, true, refl, sym, subst}
 use Rattle.driver_laws.specs.Prelude.{is_free, is_own, DeviceFault, FindsFault, Halves, Receives}
+use Rattle.pmd_laws.specs.Prelude.{FaultsEarly, FaultsFilling}
 use Rattle.pmd.proofs.PmdRx.Earlier.{free_before}
 use Rattle.pmd.specs.Apart.{MayLend}
 use Rattle.pmd.proofs.Apart.{receiving_apart}
 use Rattle.pmd.proofs.Finding.{wrong_by}
 use Rattle.start_laws.proofs.Parts.{Parts, parts}
-use Rattle.start_laws.specs.Filling.{FaultsEarly, FaultsFilling}
 use Rattle.start_laws.proofs.Filling.{faults_are_early_or_filling, no_fault_is_early}
 use Rattle.driver_laws.specs.Before.{OnlyPassLends}
 use Rattle.pmd_laws.specs.Faultless.{BeginsApart, IsQuietAndFresh, NoFillingFindsFault, NoStartFindsFault}

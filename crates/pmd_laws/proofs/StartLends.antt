@@ -4,13 +4,12 @@ use Rattle.std.specs.Prelude.{IsFalse, ◌==◌}
 use Rattle.std.specs.List.{list_any}
 use Rattle.std.proofs.lemmas.Bool.{both_ways}
 use Rattle.std.proofs.lemmas.List.{append_assoc}
-use Rattle.driver_laws.specs.Prelude.{Block, has_block, Numbers, is_own, times_in_hand, Rxdctl, Dir, Rx, Tx, State, Event, Reply, Blocks, call_of, Watched, Call, Entry, is_step, Adds, DeviceFault, Access, Sees, Sets, IsMade, AtPort, ring_words, ring_blocks}
-use Rattle.pmd_laws.specs.Prelude.{BeforeLast, BeforeNext}
+use Rattle.driver_laws.specs.Prelude.{Block, has_block, Numbers, is_own, times_in_hand, Rxdctl, Dir, Rx, Tx, State, Event, Reply, Blocks, call_of, Watched, Call, Entry, is_step, Adds, DeviceFault, Access, Sees, Sets, IsMade, AtPort, ring_words, ring_blocks, both_quiet, StopsBy}
+use Rattle.pmd_laws.specs.Prelude.{BeforeLast, BeforeNext, FaultsEarly}
 use Rattle.nic_device.proofs.DmaArena.Arenas.{is_own-of_free}
 use Rattle.nic_device.specs.declared.event.Event.TheVariants as event
 use Rattle.nic_device.specs.declared.event.Reply.TheVariants as reply
-use Rattle.pmd.specs.PmdSeam.Both.{both_quiet}
-use Rattle.pmd.specs.PmdSeam.QueueMade.{IsOtherwise, StopsBy}
+use Rattle.pmd.specs.PmdSeam.QueueMade.{IsOtherwise}
 use Rattle.pmd.proofs.PmdRx.Earlier.{free_before}
 use Rattle.pmd.specs.PmdSeam.Home.{IsDrawn}
 use Rattle.pmd.proofs.PmdSeam.Outside.{times-append}
@@ -20,7 +19,7 @@ use Rattle.pmd.proofs.Starting.{preparing_drawn}
 use Rattle.start_laws.proofs.AllAre.{AllAre, all_before}
 use Rattle.start_laws.proofs.StopCalls.{some_made, then_made}
 use Rattle.start_laws.specs.Faultless.{NoneIsLent}
-use Rattle.start_laws.specs.Filling.{FaultsEarly, LendsFresh}
+use Rattle.start_laws.specs.Filling.{LendsFresh}
 use Rattle.start_laws.proofs.DrivenAccesses.{IsDriven, words_are_writes, writes_driven}
 use Rattle.pmd_laws.specs.Faultless.{BeginsApart, IsQuietAndFresh}
 use Rattle.pmd_laws.proofs.Begun.{drawn_both, drawn_gone}

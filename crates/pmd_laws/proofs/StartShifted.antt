@@ -1,15 +1,15 @@
 -- A start that ends with the device at fault is told of the calls that it added alone.
 use Rattle.std.proofs.Common.{◌≡◌, ℕ, Bool, not, true, inl, inr, List, ◌++◌, sym, ◌∙◌, subst}
 use Rattle.std.proofs.lemmas.List.{append_cancel_left}
-use Rattle.driver_laws.specs.Prelude.{Numbers, Dir, Rx, Tx, Call, Receive, AtPort, Access, Sees, Sets, ring_words, ring_blocks, DeviceFault, Sender}
-use Rattle.nic_device.specs.RegTable.declared.rows.RowId.{RowId}
+use Rattle.driver_laws.specs.Prelude.{Numbers, Dir, Rx, Tx, Call, Receive, AtPort, Access, Sees, Sets, ring_words, ring_blocks, DeviceFault, Sender, RowId, both_quiet, StopsBy, IsReceiveReady}
+use Rattle.pmd_laws.specs.Prelude.{FaultsEarly, FaultsFilling}
 use Rattle.pmd.specs.PmdRx.Filling.{StopsFilling}
 use Rattle.pmd.specs.PmdRx.Wrong.{EndsWrong}
-use Rattle.pmd.specs.PmdSeam.Both.{SwitchFails, both_asked, both_quiet, receive_polled}
-use Rattle.pmd.specs.PmdSeam.QueueMade.{IsOtherwise, IsStrayRead, StopsBy}
+use Rattle.pmd.specs.PmdSeam.Both.{SwitchFails, both_asked, receive_polled}
+use Rattle.pmd.specs.PmdSeam.QueueMade.{IsOtherwise, IsStrayRead}
 use Rattle.pmd.specs.PmdSeam.Sides.{PollsEnd, missed}
-use Rattle.pmd.specs.Starting.{IsReceiveReady, IsTransmitReady, PreparingFails, ReceiveFails, StopsLending}
-use Rattle.start_laws.specs.Filling.{FaultsAfterOne, FaultsBeforeOne, FaultsEarly, FaultsFilling, FaultsSwitching}
+use Rattle.pmd.specs.Starting.{IsTransmitReady, PreparingFails, ReceiveFails, StopsLending}
+use Rattle.start_laws.specs.Filling.{FaultsAfterOne, FaultsBeforeOne, FaultsSwitching}
 use Rattle.pmd_laws.proofs.Shifted.{Shifts, adds_shift, are_made_shift, joined, lends_shift, made_shift, mapped, paired, plays_shift, ready_shift, switched_shift, transmit_shift}
 
 -- where two things hold of the same calls

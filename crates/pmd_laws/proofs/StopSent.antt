@@ -2,16 +2,14 @@
 use Rattle.std.proofs.Common.{◌≡◌, ◌≢◌, ℕ, inl, inr, List, [], ◌++◌, drop, sym, ap, ◌∙◌, subst}
 use Rattle.std.specs.Prelude.{IsTrue}
 use Rattle.std.proofs.lemmas.List.{append-nil}
-use Rattle.driver_laws.specs.Prelude.{State, lent_by, calls_of, leads_to, Call, Entry, Piece, bytes_of, sent_in, sent_since, IsUp, Halves}
-use Rattle.pmd_laws.specs.Prelude.{IsAsking, HasGround, IsQuiet, EndsOnceOff, TakesOnceOff}
+use Rattle.driver_laws.specs.Prelude.{State, lent_by, calls_of, leads_to, Call, Entry, Piece, bytes_of, sent_in, sent_since, IsUp, Halves, pieces_in}
+use Rattle.pmd_laws.specs.Prelude.{IsAsking, HasGround, IsQuiet, EndsOnceOff, TakesOnceOff, IsSilent}
 use Rattle.start_laws.proofs.HistoryLaws.Beginning.{lent_before}
 use Rattle.device_lock.proofs.Histories.{leads-append}
 use Rattle.start_laws.proofs.ReceiveLaws.Each.{each_map}
-use Rattle.start_laws.specs.ReceiveLaws.Delivered.{pieces_in}
 use Rattle.start_laws.specs.TransmitLaws.Laws.{IsPrefixOf}
 use Rattle.start_laws.proofs.TransmitLaws.Runs.{first_sent}
 use Rattle.start_laws.specs.Along.{AtCalls, AtEntries}
-use Rattle.start_laws.specs.Silent.{IsSilent}
 use Rattle.start_laws.specs.Stopping.{Asks}
 use Rattle.start_laws.proofs.Ending.{all_lead}
 use Rattle.start_laws.proofs.Parts.{parts}

@@ -1,10 +1,10 @@
 -- A driver beside whatever calls its author makes through the same way to the device, as those of a second driver.
 use Rattle.std.specs.Prelude.{ℕ, ◌≡◌, ◌≢◌, ◌<◌, ◌⊎◌, Bool, List, [], ◌∷◌, ◌++◌, length}
-use Rattle.driver_laws.specs.Prelude.{Numbers, IsSound, State, AreEvents, IsLegal, calls_of, leads_to, Watched, Call, Entry, accepted_of, handed_of, halves_of, Running, Up, AtPort, LeavesAloneFrom, delivered, bytes_of, sent_since}
+use Rattle.driver_laws.specs.Prelude.{Numbers, IsSound, State, AreEvents, IsLegal, calls_of, leads_to, Watched, Call, Entry, accepted_of, handed_of, halves_of, Running, Up, AtPort, LeavesAloneFrom, delivered, bytes_of, sent_since, entries_in, marked_entries}
 use Rattle.pmd_laws.specs.Prelude.{BeforeLast, HasGround}
 use Rattle.pmd.specs.Life.{KeepsHalves}
 use Rattle.pmd.specs.Started.{HasStarted}
-use Rattle.pmd.specs.PmdSeam.Begun.{From, began_handled, began_in_hand, entries_in, marked_entries}
+use Rattle.pmd.specs.PmdSeam.Begun.{From, began_handled, began_in_hand}
 use Rattle.pmd.specs.PmdSeam.Made.{InHand}
 use Rattle.pmd.specs.PmdSeam.Scheduled.{Handled, own_calls}
 use Rattle.start_laws.specs.ReceiveLaws.Delivered as receive

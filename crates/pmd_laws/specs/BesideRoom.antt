@@ -1,7 +1,6 @@
 -- A driver beside whatever calls of its author's, whose ring is full.
 use Rattle.std.specs.Prelude.{ℕ, ◌+◌, ◌<◌, ◌≤◌, List}
-use Rattle.driver_laws.specs.Prelude.{Numbers, Call, AtPort, Packet}
-use Rattle.pmd.specs.PmdTx.Sending.{parts_for}
+use Rattle.driver_laws.specs.Prelude.{Numbers, Call, AtPort, Packet, parts_for}
 use Rattle.pmd_laws.specs.Beside.{IsToldBy}
 use Rattle.pmd_laws.specs.FullRing.{AcceptsNone, TellsFull, outstanding}
 use Rattle.pmd_laws.specs.Told.{Drove, Moment, last}

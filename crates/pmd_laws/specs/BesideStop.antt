@@ -1,9 +1,8 @@
 -- A driver beside whatever calls its author makes, and then the calls of its stop.
 use Rattle.std.specs.Prelude.{◌≡◌, List, [], ◌++◌}
 use Rattle.driver_laws.specs.Prelude.{calls_of, Call, Entry, accepted_of, handed_of, delivered, bytes_of, sent_since}
-use Rattle.pmd_laws.specs.Prelude.{Ends, EndsOnceOff, TakesOnceOff}
+use Rattle.pmd_laws.specs.Prelude.{Ends, EndsOnceOff, TakesOnceOff, IsSilent}
 use Rattle.start_laws.specs.ReceiveLaws.Delivered as receive
-use Rattle.start_laws.specs.Silent.{IsSilent}
 use Rattle.start_laws.specs.TransmitLaws.Laws as transmit
 use Rattle.driver_laws.specs.Retold.{AreSame}
 use Rattle.pmd_laws.specs.Beside.{Beside, now}

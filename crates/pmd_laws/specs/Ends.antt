@@ -1,11 +1,10 @@
 -- What a driver that lived, and was stopped, handed out and sent.
 use Rattle.std.specs.Prelude.{ℕ, ◌≡◌, List, [], ◌++◌, Option}
 use Rattle.driver_laws.specs.Prelude.{Numbers, State, calls_of, Watched, Call, Entry, left_accepted, left_handed, Rest, PmdFault, AtPort, delivered, bytes_of, sent_since}
-use Rattle.pmd_laws.specs.Prelude.{IsAlong}
+use Rattle.pmd_laws.specs.Prelude.{IsAlong, BeginsWell}
 use Rattle.pmd.specs.Life.{HasLived}
 use Rattle.start_laws.specs.ReceiveLaws.Delivered as receive
 use Rattle.start_laws.specs.TransmitLaws.Laws as transmit
-use Rattle.start_laws.specs.Start.{BeginsWell}
 
 -- a driver that lived over a legal history of a sound device that leaves the queue alone, and was stopped
 pub record Ended : Type 0 where

@@ -1,8 +1,7 @@
 -- How many slots are taken where a driver's ring is told to be full.
 use Rattle.std.specs.Prelude.{ℕ, ◌+◌, ◌<◌, ◌≤◌, List, ◌∷◌, Ok, length}
-use Rattle.driver_laws.specs.Prelude.{Numbers, Call, WhereUp, Rings, Up, Down, Packet, AtPort}
+use Rattle.driver_laws.specs.Prelude.{Numbers, Call, WhereUp, Rings, Up, Down, Packet, AtPort, parts_for}
 use Rattle.pmd.specs.Bursts.{IsSendBurst}
-use Rattle.pmd.specs.PmdTx.Sending.{parts_for}
 use Rattle.pmd.specs.PmdTx.Sends.{IsFullWhereTold}
 use Rattle.pmd.specs.PmdTx.declared.answer.TxAnswer.TheVariants.{RingFull}
 use Rattle.pmd_laws.specs.Told.{Drove, IsTold, Moment, last}

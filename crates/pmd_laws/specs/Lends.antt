@@ -1,7 +1,6 @@
 -- What a driver lends over its life: blocks of the arena that came to it, none of which its other half has lent.
 use Rattle.std.specs.Prelude.{ℕ, List}
-use Rattle.driver_laws.specs.Prelude.{Numbers, is_own, Call, Halves, halves_of, Running, AtPort}
-use Rattle.pmd.specs.Apart.{DrivesApart}
+use Rattle.driver_laws.specs.Prelude.{Numbers, is_own, Call, Halves, halves_of, Running, AtPort, DrivesApart}
 use Rattle.pmd.specs.Life.{Lives}
 
 -- the halves as both sides are on: nothing is posted yet

@@ -1,8 +1,7 @@
 -- A driver's life over a history: a start that brought both rings up, and then the calls of its halves.
 use Rattle.std.specs.Prelude.{ℕ, List}
 use Rattle.driver_laws.specs.Prelude.{Numbers, State, Watched, Call, Entry, Halves, halves_of, Running, AreUp, AtPort}
-use Rattle.pmd_laws.specs.Prelude.{IsAlong}
-use Rattle.start_laws.specs.Start.{BeginsWell}
+use Rattle.pmd_laws.specs.Prelude.{IsAlong, BeginsWell}
 use Rattle.driver_laws.specs.Beside.{Leads}
 
 -- over a legal history of a sound device that leaves the queue alone: when these calls were made the driver had started

@@ -2,10 +2,9 @@
 use Rattle.std.specs.Prelude.{◌≡◌, List, ◌++◌, Option, Some, None}
 use Rattle.std.proofs.Common.{inl, inr}
 use Rattle.driver_laws.specs.Prelude.{calls_of, Call, Entry, halted_of, Up, Rest, PmdFault, Halted, AtPort}
-use Rattle.pmd_laws.specs.Prelude.{EndsOnceOff}
+use Rattle.pmd_laws.specs.Prelude.{EndsOnceOff, IsSilent}
 use Rattle.pmd.specs.Life.{IsStopped}
 use Rattle.pmd.specs.declared.start.Rest.TheVariants as rest
-use Rattle.start_laws.specs.Silent.{IsSilent}
 use Rattle.pmd_laws.specs.Ends.{Ended, IsOver}
 use Rattle.pmd_laws.specs.Life.{Life}
 use Rattle.pmd_laws.specs.Stopped.{IsStopping}

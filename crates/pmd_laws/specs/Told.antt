@@ -2,7 +2,7 @@
 -- `packet` and `release` say of the driver, and of the calls that its pass made.
 use Rattle.std.specs.Prelude.{ℕ, ◌≡◌, ◌⊎◌, ⊤, List, [], ◌∷◌, ◌++◌}
 use Rattle.driver_laws.specs.Prelude.{Numbers, State, calls_of, Watched, Call, Entry, WhereUp, accepted_of, handed_of, Rings, Up, Down, AtPort, delivered, bytes_of, sent_since}
-use Rattle.pmd_laws.specs.Prelude.{IsAlong}
+use Rattle.pmd_laws.specs.Prelude.{IsAlong, BeginsWell}
 use Rattle.pmd.specs.Driver.{Driver}
 use Rattle.pmd.specs.Life.{RunsOn, KeepsHalves}
 use Rattle.pmd.specs.Started.{HasStarted}
@@ -10,7 +10,6 @@ use Rattle.pmd.specs.PmdRx.Plays as receiving
 use Rattle.start_laws.specs.ReceiveLaws.Delivered as receive
 use Rattle.start_laws.specs.TransmitLaws.Laws as transmit
 use Rattle.driver_laws.specs.Beside.{AddsHarmless}
-use Rattle.start_laws.specs.Start.{BeginsWell}
 use Rattle.pmd_laws.specs.Looks.{EndsAt}
 
 -- when a call of the driver, or of its way to the device, has returned: the driver, and the calls of its pass so far

@@ -2,9 +2,8 @@
 use Rattle.std.proofs.Common.{◌≡◌, ℕ, inl, inr, Bool, true, false, not, ◌&&◌, List, [], ◌∷◌, ◌++◌, Option, Some, None, option_map, cond, refl, sym, ap, ◌∙◌}
 use Rattle.std.specs.Prelude.{IsTrue, IsFalse}
 use Rattle.std.proofs.lemmas.Bool.{both_ways, cases_Bool}
-use Rattle.nic_device.specs.RegisterFile.Queue.{is_on}
-use Rattle.pmd_laws.specs.DriverLaws.Prelude.{Rx, Tx, State, after, leads_to, Entry, delivered, pieces_since, Piece, pieces, sent_by, sent_since}
-use Rattle.pmd_laws.specs.StartLaws.ReceiveLaws.Delivered.{gathered, packets_if_any}
+use Rattle.pmd_laws.specs.DriverLaws.Prelude.{is_on, Rx, Tx, State, after, leads_to, Entry, delivered, pieces_since, Piece, pieces, sent_by, sent_since, packets_if_any}
+use Rattle.pmd_laws.specs.StartLaws.ReceiveLaws.Delivered.{gathered}
 use Rattle.pmd_laws.proofs.StartLaws.Histories.{leads-append}
 use Rattle.pmd_laws.proofs.StartLaws.ReceiveLaws.Delivering.{since-append}
 use Rattle.pmd_laws.specs.StartLaws.TransmitLaws.Sent.{counted_by}

@@ -1,8 +1,6 @@
 -- The calls that a driver made so far, from where its start saw both sides off on.
 use Rattle.std.proofs.Common.{◌≡◌, ℕ, true, false, List, ◌∷◌, ◌++◌, ap, ◌∙◌, append_assoc}
-use Rattle.pmd_laws.specs.DriverLaws.Prelude.{Numbers, Rxdctl, Rx, Tx, Call, AtPort, Sees, Sets, Receive, Halves, Running, AreUp}
-use Rattle.pmd.specs.PmdSeam.Both.{both_quiet}
-use Rattle.pmd.specs.PmdSeam.QueueMade.{AreMade}
+use Rattle.pmd_laws.specs.DriverLaws.Prelude.{Numbers, Rxdctl, Rx, Tx, Call, AtPort, Sees, Sets, Receive, Halves, Running, AreUp, both_quiet, AreMade}
 use Rattle.pmd.specs.PmdSeam.Sides.{quiet}
 use Rattle.pmd.specs.PmdRx.Plays.{Plays}
 use Rattle.pmd.specs.Halves.{Drives}

@@ -2,10 +2,9 @@
 use Rattle.std.proofs.Common.{◌≡◌, ℕ, Bool, List, [], ◌∷◌, ◌++◌, refl, sym, ap, ◌∙◌, append_assoc}
 use Rattle.std.specs.Prelude.{IsTrue, IsFalse}
 use Rattle.std.proofs.lemmas.Bool.{eq-eqb}
-use Rattle.nic_device.specs.RegTable.declared.rows.RowId.{RowId}
+use Rattle.pmd_laws.specs.DriverLaws.Prelude.{RowId, call_in, calls_of, call_of, Call, Entry, is_step, AreSteps, AtPort, IsMade, Sees}
 use Rattle.nic_device.specs.declared.event.Event.TheVariants as event
 use Rattle.nic_device.specs.declared.event.Reply.TheVariants as reply
-use Rattle.pmd_laws.specs.DriverLaws.Prelude.{call_in, calls_of, call_of, Call, Entry, is_step, AreSteps, AtPort, IsMade, Sees}
 use Rattle.pmd_laws.proofs.StartLaws.ReceiveLaws.Histories.{calls_own}
 use Rattle.pmd_laws.proofs.StartLaws.Parts.{calls_joined}
 use Rattle.workers.specs.Starts.{Starts}

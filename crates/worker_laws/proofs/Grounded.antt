@@ -1,8 +1,7 @@
 -- What the entries before a driver's start tell is so of the device there.
 use Rattle.std.proofs.Common.{◌≡◌, ℕ, List, ◌∷◌, length, refl, sym, ap, ◌∙◌, subst}
-use Rattle.pmd_laws.specs.DriverLaws.Prelude.{IsSound, State, new_state, AreEvents, leads_to, Watched, Call, Entry}
+use Rattle.pmd_laws.specs.DriverLaws.Prelude.{IsSound, State, new_state, AreEvents, leads_to, Watched, Call, Entry, Mode}
 use Rattle.pmd_laws.specs.Prelude.{HasGround}
-use Rattle.nic_device.specs.VfMap.declared.mode.Mode.{Mode}
 use Rattle.workers.specs.Beginning.{BeginsWell}
 use Rattle.workers.specs.DeviceLock.Told.{first_settings, settings_through}
 use Rattle.workers.specs.DeviceLock.declared.told.Settings.{Settings}

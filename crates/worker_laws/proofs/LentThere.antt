@@ -3,13 +3,12 @@ use Rattle.std.proofs.Common.{◌≡◌, ℕ, ◌<◌, inl, inr, true, false, no
 use Rattle.std.specs.Prelude.{◌==◌, is_some}
 use Rattle.std.specs.FinMap as map
 use Rattle.std.proofs.lemmas.Bool.{and_from, and_parts, both_ways, eq-eqb, eqb-true, lt-ltb, or_cases, or_left, or_right}
-use Rattle.pmd_laws.specs.DriverLaws.Prelude.{Block, has_block, IsEvent, State, new_state, after, reply_to, Event, Reply, Blocks, AreEvents, IsLegal, leads_to, Entry, OnlyLent}
+use Rattle.pmd_laws.specs.DriverLaws.Prelude.{Block, has_block, IsEvent, State, new_state, after, reply_to, Event, Reply, Blocks, AreEvents, IsLegal, leads_to, Entry, OnlyLent, lends}
 use Rattle.nic_device.specs.Sound.{IsLendable}
 use Rattle.nic_device.specs.Step.{step_of}
 use Rattle.nic_device.specs.declared.event.Event.TheVariants as event
 use Rattle.nic_device.specs.declared.event.Reply.TheVariants.{Buf}
 use Rattle.nic_device.proofs.Cases.{lent_cases, taken_cases}
-use Rattle.workers.specs.DeviceLock.Alone.{lends}
 use Rattle.workers.specs.Before.{known_through}
 use Rattle.workers.specs.Lending.{lent_behind, no_block, takes}
 use Rattle.pmd_laws.specs.StartLaws.ReceiveLaws.HistoryLaws.Lent.{with_lent, without}

@@ -3,15 +3,13 @@ use Rattle.std.proofs.Common.{◌≡◌, ℕ, inl, inr, false, List, [], ◌∷�
 use Rattle.std.specs.Prelude.{IsTrue, IsFalse}
 use Rattle.std.proofs.lemmas.Bool.{both_ways}
 use Rattle.std.proofs.lemmas.List.{append-nil, append_cancel_left}
-use Rattle.pmd_laws.specs.DriverLaws.Prelude.{Numbers, Rxdctl, Rx, Tx, State, new_state, calls_of, leads_to, Watched, Call, Entry, is_step, AreSteps, AtPort, PmdFault, halted_of, halves_of, AreUp, left_accepted, left_handed, Up, Rest, delivered, bytes_of, sent_since}
-use Rattle.pmd_laws.specs.Prelude.{IsAlong, HasGround, IsQuiet}
-use Rattle.nic_device.specs.RegisterFile.Queue.{is_on}
+use Rattle.pmd_laws.specs.DriverLaws.Prelude.{Numbers, Rxdctl, Rx, Tx, State, new_state, calls_of, leads_to, Watched, Call, Entry, is_step, AreSteps, AtPort, PmdFault, halted_of, halves_of, AreUp, left_accepted, left_handed, Up, Rest, delivered, bytes_of, sent_since, is_on}
+use Rattle.pmd_laws.specs.Prelude.{IsAlong, HasGround, IsQuiet, BeginsWell}
 use Rattle.workers.specs.Starts.{Starts}
 use Rattle.pmd.specs.Life.{HasLived}
 use Rattle.pmd_laws.specs.StartLaws.ReceiveLaws.Delivered as receive
 use Rattle.pmd_laws.proofs.StartLaws.Histories.{leads-append}
 use Rattle.pmd_laws.specs.StartLaws.TransmitLaws.Laws as transmit
-use Rattle.pmd_laws.specs.StartLaws.Start.{BeginsWell}
 use Rattle.pmd_laws.specs.StartLaws.Unused.{WentOn}
 use Rattle.pmd_laws.proofs.StartLaws.Parts.{Begins, Parts, around, calls_joined, one_begins, parts}
 use Rattle.pmd_laws.proofs.StartLaws.Quieting.{quieting_leads}

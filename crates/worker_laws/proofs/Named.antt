@@ -2,9 +2,8 @@
 use Rattle.std.proofs.Common.{◌≡◌, ℕ, ◌+◌, ◌*◌, ◌<◌, nat_lt, Option, Some, None, if◌then◌else◌, refl, sym, ap, subst, arith}
 use Rattle.std.proofs.lemmas.Bool.{ltb-true}
 use Rattle.nic_device.specs.VfMap.Pools.{pools_in, queues_each, queues_of}
-use Rattle.nic_device.specs.VfMap.declared.mode.Mode.{Mode}
+use Rattle.pmd_laws.specs.DriverLaws.Prelude.{Mode, Port}
 use Rattle.nic_device.specs.VfMap.declared.mode.Mode.TheVariants.{Off, Pools16, Pools32, Pools64}
-use Rattle.pmd_laws.specs.DriverLaws.Prelude.{Port}
 use Rattle.nic_device.specs.declared.event.Port.TheVariants.{Pf, Vf}
 use Rattle.pmd_laws.specs.StartLaws.Numbers.{queue_at, queue_in}
 use Rattle.pmd_laws.proofs.StartLaws.QueueIn.{is_in, some_where}

@@ -1,17 +1,13 @@
 -- A side of a queue that is off and not wanted on stays so over every event that doesn't ask the queue on.
 use Rattle.std.proofs.Common.{◌≡◌, ℕ, ◌<◌, ◌&&◌, inl, inr, true, false, Some, cond, refl, sym, ap, ◌∙◌, subst}
 use Rattle.std.proofs.lemmas.Bool.{cases_Bool, eq-eqb}
-use Rattle.pmd_laws.specs.DriverLaws.Prelude.{Block, Dir, Rx, Tx, row_of, Rxdctl, asks_pool_reset, has_bit, place, mode_in, named, IsSound, State, after, Event, Port, Register, Watched}
+use Rattle.pmd_laws.specs.DriverLaws.Prelude.{Block, Dir, Rx, Tx, row_of, Rxdctl, asks_pool_reset, has_bit, place, mode_in, named, IsSound, State, after, Event, Port, Register, Watched, Place, RowId, Mode, enable_row, is_on}
 use Rattle.nic_device.specs.EepromImage.Image.{blank}
 use Rattle.nic_device.specs.EepromImage.Triples.{triples_of}
 use Rattle.nic_device.proofs.EepromImage.Blank.{triples_of-blank}
-use Rattle.nic_device.specs.RegTable.declared.place.Place.{Place}
-use Rattle.nic_device.specs.RegTable.declared.rows.RowId.{RowId}
 use Rattle.nic_device.specs.RegTable.declared.rows.RowId.TheVariants.{Txdctl}
 use Rattle.nic_device.specs.VfMap.Owner.{has_queue}
-use Rattle.nic_device.specs.VfMap.declared.mode.Mode.{Mode}
 use Rattle.nic_device.specs.RegisterFile.Access.{asks_reset}
-use Rattle.nic_device.specs.RegisterFile.Queue.{enable_row, is_on}
 use Rattle.nic_device.specs.RegisterFile.Registers.{Registers, is_wanted}
 use Rattle.nic_device.specs.RegisterLaws.Footprint.{is_place, of_write, pool_renews}
 use Rattle.nic_device.specs.RegisterLaws.Laws.{after_write}

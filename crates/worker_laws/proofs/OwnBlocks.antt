@@ -2,13 +2,12 @@
 use Rattle.std.proofs.Common.{◌≡◌, ℕ, Bool, true, false, List, [], ◌∷◌, ◌++◌, length, refl, sym, ap, ◌∙◌, subst, append_assoc}
 use Rattle.std.proofs.lemmas.Bool.{both_ways, not-true}
 use Rattle.std.proofs.lemmas.List.{same_from_push}
-use Rattle.pmd_laws.specs.DriverLaws.Prelude.{Block, has_block, Numbers, is_own, Rxdctl, State, new_state, Event, is_step, Blocks, AreEvents, IsLegal, call_in, calls_of, leads_to, Watched, Call, Entry}
+use Rattle.pmd_laws.specs.DriverLaws.Prelude.{Block, has_block, Numbers, is_own, Rxdctl, State, new_state, Event, is_step, Blocks, AreEvents, IsLegal, call_in, calls_of, leads_to, Watched, Call, Entry, LendsNone}
 use Rattle.pmd_laws.specs.Prelude.{BeforeLast, BeforeNext}
 use Rattle.nic_device.specs.DmaArena.Numbers.{count_of}
 use Rattle.nic_device.specs.declared.event.Event.TheVariants as event
 use Rattle.pmd_laws.specs.DriverLaws.Before.{OnlyPassLends}
 use Rattle.pmd_laws.specs.Faultless.{NoneLent}
-use Rattle.pmd_laws.specs.StartLaws.ReceiveLaws.HistoryLaws.Lent.{LendsNone}
 use Rattle.pmd_laws.proofs.StartLaws.Histories.{events_before, legal_before}
 use Rattle.workers.specs.Lending as told
 use Rattle.workers.specs.Lending.{OthersLendNone, are_from, lends_none, lent_through}

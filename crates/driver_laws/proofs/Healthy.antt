@@ -5,13 +5,12 @@ use Rattle.std.proofs.lemmas.Bool.{or_left, or_right}
 use Rattle.driver_laws.specs.Prelude.{mode_in, IsEvent, State, after, reply_to, Blocks, LeavesRegisters, lent_by, IsLegal, AreEvents, call_in, calls_of, leads_to, call_of, Watched, Entry, OnlyLent, Piece, pieces, sent_by, AllLendApart, Halves, Doer, OwnCall, AllOwn, after_call, is_neither, LendsApart}
 use Rattle.receive_laws.specs.HistoryLaws.Alone.{AllAlone}
 use Rattle.receive_laws.proofs.HistoryLaws.Alone.{alone_by_entries}
-use Rattle.receive_laws.proofs.HistoryLaws.Sound.{histories_sound}
 use Rattle.receive_laws.specs.Fitting.{AreFitting}
 use Rattle.receive_laws.specs.Up.{IsUp}
 use Rattle.device_lock.proofs.Histories.{events_before, events_behind, legal_behind}
-use Rattle.receive_laws.proofs.Delivering.{lent_behind, vfs_stays}
+use Rattle.receive_laws.proofs.Delivering.{lent_behind}
 use Rattle.driver_laws.specs.Histories.{OthersLeaveAlone, doer_of, doers_after}
-use Rattle.driver_laws.proofs.Meeting.{Meets}
+use Rattle.driver_laws.proofs.Meeting.{Meets, driven_meets}
 use Rattle.driver_laws.proofs.Next.{next_by}
 use Rattle.driver_laws.proofs.Fitting.{fitting_after}
 use Rattle.driver_laws.proofs.Runs.{others_leave, one_entry, one_receives_up}
@@ -102,13 +101,7 @@ pub own_replies_are_healthy : OwnRepliesAreHealthy
 own_replies_are_healthy w origin start rest h doers own x apart =
     let d = x.driven in
     let before = events_before start rest d.events in
-    along w (lent_by w.pass (start ++ rest)) own (leads_to origin start) [] [] h doers rest
-    (record {
-      sound = histories_sound origin start d.sound before;
-      vfs = d.vfs ∙ sym (vfs_stays origin start);
-      both = d.agree;
-      lent = d.lent;
-    })
+    along w (lent_by w.pass (start ++ rest)) own (leads_to origin start) [] [] h doers rest (driven_meets d)
     (record {
       up = d.up;
       fit = record {

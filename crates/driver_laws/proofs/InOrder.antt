@@ -2,17 +2,17 @@
 use Rattle.std.proofs.Common.{◌≡◌, List, [], ◌++◌, length, drop, None, sym, ap, ◌∙◌, subst}
 use Rattle.driver_laws.specs.Prelude.{State, lent_by, calls_of, leads_to, Watched, Entry, delivered, pieces_since, bytes_of, sent_in, sent_since, IsUp, Halves, Doer, played_by, packets_if_any, pieces_in, FindsNone, ShowsNone, records_of}
 use Rattle.receive_laws.proofs.HistoryLaws.Alone.{alone_by_entries}
-use Rattle.receive_laws.proofs.HistoryLaws.Sound.{histories_sound}
 use Rattle.receive_laws.specs.Delivered as receive
 use Rattle.receive_laws.specs.Pieces.{packets_of}
-use Rattle.device_lock.proofs.Histories.{events_before, events_behind, leads-append, legal_behind}
-use Rattle.receive_laws.proofs.Delivering.{lent_behind, since-append, vfs_stays}
+use Rattle.device_lock.proofs.Histories.{events_behind, leads-append, legal_behind}
+use Rattle.receive_laws.proofs.Delivering.{lent_behind, since-append}
 use Rattle.receive_laws.proofs.Prefix.{all_taken, drained, handed_first}
 use Rattle.transmit_laws.specs.Laws as transmit
 use Rattle.transmit_laws.proofs.Counting.{sent_is_counted}
 use Rattle.transmit_laws.proofs.Runs.{first_sent, idle-all}
 use Rattle.driver_laws.specs.Histories.{IsDriven, HandedIsPrefix, NoneIsAll, NoneIsAllTaken, SentIsPrefix, IdleIsAllSent, CountedWhereUp}
 use Rattle.driver_laws.proofs.Led.{Led}
+use Rattle.driver_laws.proofs.Meeting.{driven_meets}
 use Rattle.driver_laws.proofs.Runs.{leads}
 
 module _ (w : Watched) (origin : State) (start rest : List Entry) (h : Halves) (doers : List Doer)
@@ -25,14 +25,7 @@ module _ (w : Watched) (origin : State) (start rest : List Entry) (h : Halves) (
 
   pub led : Led w (lent_by w.pass (start ++ rest)) here [] [] rest last
   led =
-      let before = events_before start rest d.events in
-      leads w (lent_by w.pass (start ++ rest)) here [] [] h doers rest
-      (record {
-        sound = histories_sound origin start d.sound before;
-        vfs = d.vfs ∙ sym (vfs_stays origin start);
-        both = d.agree;
-        lent = d.lent;
-      })
+      leads w (lent_by w.pass (start ++ rest)) here [] [] h doers rest (driven_meets d)
       (legal_behind origin start rest d.legal) (events_behind start rest d.events)
       (alone_by_entries w origin start rest d.alone d.begun) d.own d.others (λ n is. lent_behind w.pass n start rest is)
 

@@ -1,14 +1,18 @@
 -- What holds between two entries of a history, and that an event which is neither half's and leaves the queue alone
 -- keeps it.
-use Rattle.std.proofs.Common.{◌≡◌, ℕ, List, ◌++◌}
-use Rattle.driver_laws.specs.Prelude.{Block, mode_in, IsEvent, IsSound, State, after, reply_to, Event, Blocks, LeavesRegisters, LeavesBlocks, WritesOutside, Watched, Piece, pieces, sent_by, Halves}
+use Rattle.std.proofs.Common.{◌≡◌, ℕ, List, [], ◌++◌, sym, ◌∙◌}
+use Rattle.driver_laws.specs.Prelude.{Entry, Doer, leads_to, lent_by, Block, mode_in, IsEvent, IsSound, State, after, reply_to, Event, Blocks, LeavesRegisters, LeavesBlocks, WritesOutside, Watched, Piece, pieces, sent_by, Halves}
 use Rattle.nic_device.specs.declared.event.Event.TheVariants as event
 use Rattle.receive_laws.specs.HistoryLaws.Left.{IsLeft}
 use Rattle.receive_laws.proofs.Foreign.{left_keeps}
 use Rattle.transmit_laws.specs.Sparing.{Spares}
 use Rattle.transmit_laws.proofs.LeftBlocks.{left_alone_is_spared}
 use Rattle.transmit_laws.proofs.Sparing.{sparing_events_keep}
+use Rattle.device_lock.proofs.Histories.{events_before}
+use Rattle.receive_laws.proofs.Delivering.{vfs_stays}
+use Rattle.receive_laws.proofs.HistoryLaws.Sound.{histories_sound}
 use Rattle.driver_laws.specs.Agreeing.{AreLent, BothAgree}
+use Rattle.driver_laws.specs.Histories.{IsDriven}
 use Rattle.driver_laws.proofs.Stepping.{received_spares, reports_spare}
 
 -- what holds between two entries: the device is sound and agrees with both halves, and their blocks are among these
@@ -18,6 +22,17 @@ pub record Meets (w : Watched) (mine : Blocks) (s : State) (out : List Piece) (s
   pub vfs : w.vfs ≡ s.vfs
   pub both : BothAgree w.queue s out sent h
   pub lent : AreLent mine h
+
+-- so it is where the first entries of a driven history end
+pub driven_meets : {w : Watched} {origin : State} {start rest : List Entry} {h : Halves} {doers : List Doer}
+    → IsDriven w origin start rest h doers
+    → Meets w (lent_by w.pass (start ++ rest)) (leads_to origin start) [] [] h
+driven_meets {origin = origin} {start = start} {rest = rest} d = record {
+  sound = histories_sound origin start d.sound (events_before start rest d.events);
+  vfs = d.vfs ∙ sym (vfs_stays origin start);
+  both = d.agree;
+  lent = d.lent;
+}
 
 -- and behind an event, with these halves
 abbrev pub Kept : Watched → Blocks → State → List Piece → List (List ℕ) → Event Block → Halves → Type 0

@@ -17,23 +17,25 @@ use Rattle.pmd_laws.specs.Life.{IsLife}
 use Rattle.pmd_laws.specs.Told as own
 use Rattle.pmd_laws.specs.Told.{AllFollow, Drove, Follows, HasNoneOut, IsToldOf, Moment, Told, last}
 use Rattle.pmd_laws.proofs.InHand.{own_are}
-use Rattle.pmd_laws.proofs.Shifted.{UpAt, rings_shift, shifted, up_shift}
+use Rattle.pmd_laws.proofs.Shifted.{Shifts, UpAt, rings_shift, shifted, up_shift}
 use Rattle.pmd_laws.proofs.Told.{goes, handed_as_told, idle_as_told, life, sent_as_told}
 
 -- a driver that runs goes on from one to the other by its own calls alone
 
-pub where_up : (P Q : Running → Running → Type 0) (a b : Rings) → ((r s : Running) → P r s → Q r s) → WhereUp a b P
-    → WhereUp a b Q
-where_up P Q (Up r) (Up s) f x = f r s x
-where_up P Q (Up r) (Down h) f x = x
-where_up P Q (Down h) b f x = tt
+pub moved : (R : Running → Running → List Call → List Call → Type 0)
+    → ((r s : Running) (old new : List Call) → R r s old new → Shifts (R r s) old new) → (a b : Rings)
+    → (old new since own : List Call) → new ≡ old ++ since → WhereUp a b (λ r s. R r s old new)
+    → WhereUp a b (λ r s. R r s own (own ++ since))
+moved R shifts (Up r) (Up s) old new since own made x =
+    shifted (R r s) old new (shifts r s old new x) since own (own ++ since) made refl
+moved R shifts (Up r) (Down h) old new since own made x = x
+moved R shifts (Down h) b old new since own made x = tt
 
 drove_anew : (m : Moment) (own : List Call) (n : Moment) (then : List Call) → DroveBy m own n then
     → Drove (by_own own m) (by_own then n)
 drove_anew m own n then (goes, since, made, all) =
-    where_up (λ r s. DrivesRings m.made r n.made s) (λ r s. DrivesRings own r then s) m.driver.rings n.driver.rings
-    (λ r s x.
-    shifted (λ o l. DrivesRings o r l s) m.made n.made (rings_shift r s m.made n.made x) since own then made all) goes
+    subst (λ (l : List Call). Drove (by_own own m) (by_own l n)) (sym all)
+    (moved (λ r s o l. DrivesRings o r l s) rings_shift m.driver.rings n.driver.rings m.made n.made since own made goes)
 
 follows_anew : (m : Moment) (own : List Call) (n : Moment) (then : List Call) → FollowsBy m own n then
     → Follows (by_own own m) (by_own then n)

@@ -13,12 +13,12 @@ use Rattle.pmd_laws.specs.BesideApart.{IsAloneBeside, IsCalledApart}
 use Rattle.pmd_laws.specs.Faultless.{FindsFault, IsFresh, NoneLent, SendsAtFault}
 use Rattle.pmd_laws.specs.Places.{IsToldAlone, is_out, memory_after}
 use Rattle.pmd_laws.specs.Told.{Moment}
-use Rattle.pmd_laws.proofs.Beside.{anew, same_rings, told, told_of, where_up}
+use Rattle.pmd_laws.proofs.Beside.{anew, moved, same_rings, told, told_of}
 use Rattle.pmd_laws.proofs.Faultless.{no_call_finds_fault}
 use Rattle.pmd_laws.proofs.MetFault.{sends_find}
 use Rattle.pmd_laws.proofs.OnePlace.{each_in_one_place}
 use Rattle.pmd_laws.proofs.Places.{lent_is_out, out_is_lent}
-use Rattle.pmd_laws.proofs.Shifted.{Shifts, adds_shift, apart_shift, joined, shifted}
+use Rattle.pmd_laws.proofs.Shifted.{Shifts, adds_shift, apart_shift, joined}
 
 -- a call that finds the device at fault finds it so, behind whichever calls
 finds_shift : (own : Blocks) (h : Halves) (old new : List Call) → apart.FindsFault own old h new
@@ -47,13 +47,9 @@ module _ (x : Beside) (n : Moment) (finds : FindsFault (now x) n) (y : IsCalledA
 
   finds_anew : FindsFault (by_own own (now x)) next
   finds_anew =
-      where_up (λ r s. FindsBy DeviceFault (is_own r.arena) (now x).made (halves_of r) n.made)
-      (λ r s. FindsBy DeviceFault (is_own r.arena) own (halves_of r) (own ++ y.since)) (now x).driver.rings
-      n.driver.rings
-      (λ r s z.
-      shifted (λ o l. apart.FindsFault (is_own r.arena) o (halves_of r) l) (now x).made n.made
-      (finds_shift (is_own r.arena) (halves_of r) (now x).made n.made z) y.since own (own ++ y.since) y.made refl)
-      finds
+      moved (λ r s o l. FindsBy DeviceFault (is_own r.arena) o (halves_of r) l)
+      (λ r s. finds_shift (is_own r.arena) (halves_of r)) (now x).driver.rings n.driver.rings (now x).made n.made
+      y.since own y.made finds
 
   none_finds : ⊥
   none_finds =

@@ -1,6 +1,6 @@
 -- A call of a driver beside any calls of its author's, where it looks in vain, and where it ends with a packet
 -- outstanding.
-use Rattle.std.proofs.Common.{◌≡◌, ◌≢◌, List, [], ◌++◌, refl, sym, ap, ◌∙◌, subst}
+use Rattle.std.proofs.Common.{◌≡◌, ◌≢◌, List, [], ◌++◌, sym, ap, ◌∙◌, subst}
 use Rattle.driver_laws.specs.Prelude.{calls_of, Call, Entry, accepted_of, handed_of, Rings, delivered, bytes_of, sent_since}
 use Rattle.pmd.specs.PmdRx.Plays as receiving
 use Rattle.pmd.specs.PmdTx.Plays.{LooksLast}
@@ -12,8 +12,8 @@ use Rattle.pmd_laws.specs.Beside.{Beside, IsCalledBeside, by_own, now}
 use Rattle.pmd_laws.specs.Told as own_now
 use Rattle.pmd_laws.specs.Told.{IsToldToLook, LooksInVain, Moment}
 use Rattle.pmd_laws.specs.Waits.{IsToldToWait, Waits}
-use Rattle.pmd_laws.proofs.Beside.{anew, own_made, same_rings, told, where_up}
-use Rattle.pmd_laws.proofs.Shifted.{in_vain_shift, shifted, waiting_shift}
+use Rattle.pmd_laws.proofs.Beside.{anew, moved, own_made, same_rings, told}
+use Rattle.pmd_laws.proofs.Shifted.{in_vain_shift, waiting_shift}
 use Rattle.pmd_laws.proofs.Told.{none_as_told, none_at_first_as_told}
 use Rattle.pmd_laws.proofs.Waits.{waiting_as_told}
 
@@ -35,11 +35,8 @@ module _ (x : Beside) (n : Moment) (y : IsCalledBeside x n) where
   module _ (looked : LooksInVain (now x) n) where
     looks_anew : LooksInVain (by_own own (now x)) next
     looks_anew =
-        where_up (λ r s. receiving.LooksInVain made r.receive n.made s.receive)
-        (λ r s. receiving.LooksInVain own r.receive (own ++ y.since) s.receive) (now x).driver.rings n.driver.rings
-        (λ r s z.
-        shifted (λ o l. receiving.LooksInVain o r.receive l s.receive) made n.made
-        (in_vain_shift r.receive s.receive made n.made z) y.since own (own ++ y.since) y.made refl)
+        moved (λ r s o l. receiving.LooksInVain o r.receive l s.receive)
+        (λ r s. in_vain_shift r.receive s.receive) (now x).driver.rings n.driver.rings made n.made y.since own y.made
         looked
 
     abbrev to_look : IsToldToLook (told x) next
@@ -65,12 +62,8 @@ module _ (x : Beside) (n : Moment) (y : IsCalledBeside x n) where
   module _ (waits : Waits (now x) n) where
     waits_anew : Waits (by_own own (now x)) next
     waits_anew =
-        where_up (λ r s. LooksLast made r.transmit n.made s.transmit)
-        (λ r s. LooksLast own r.transmit (own ++ y.since) s.transmit) (now x).driver.rings n.driver.rings
-        (λ r s z.
-        shifted (λ o l. LooksLast o r.transmit l s.transmit) made n.made
-        (waiting_shift r.transmit s.transmit made n.made z) y.since own (own ++ y.since) y.made refl)
-        waits
+        moved (λ r s o l. LooksLast o r.transmit l s.transmit) (λ r s. waiting_shift r.transmit s.transmit)
+        (now x).driver.rings n.driver.rings made n.made y.since own y.made waits
 
     abbrev to_wait : IsToldToWait (told x) next
     to_wait = record {

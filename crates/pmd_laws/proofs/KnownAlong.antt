@@ -1,16 +1,15 @@
 -- Of numbers that no other pass lends only those are lent that the halves have lent, over a history that drives these.
-use Rattle.std.proofs.Common.{ℕ, List, [], ◌∷◌, ◌++◌, refl, sym, ◌∙◌, subst}
+use Rattle.std.proofs.Common.{ℕ, List, [], ◌∷◌, ◌++◌, refl, sym, subst}
 use Rattle.std.specs.Prelude.{◌==◌, IsTrue}
 use Rattle.std.proofs.lemmas.Bool.{or_left, or_right}
 use Rattle.driver_laws.specs.Prelude.{Block, State, after, Reply, Blocks, IsLegal, AreEvents, call_in, calls_of, leads_to, call_of, Watched, Entry, OnlyLent, Piece, pieces, sent_by, AllLendApart, AllOwn, Doer, Halves, OwnCall, after_call, played_by}
 use Rattle.device_lock.specs.Alone as alone
 use Rattle.start_laws.specs.HistoryLaws.Alone.{AllAlone}
 use Rattle.start_laws.proofs.HistoryLaws.Alone.{alone_by_entries}
-use Rattle.start_laws.proofs.HistoryLaws.Sound.{histories_sound}
-use Rattle.device_lock.proofs.Histories.{events_before, events_behind, legal_behind}
-use Rattle.start_laws.proofs.ReceiveLaws.Delivering.{lent_behind, vfs_stays}
+use Rattle.device_lock.proofs.Histories.{events_behind, legal_behind}
+use Rattle.start_laws.proofs.ReceiveLaws.Delivering.{lent_behind}
 use Rattle.driver_laws.specs.Histories.{IsDriven, OthersLeaveAlone, doer_of, doers_after}
-use Rattle.driver_laws.proofs.Meeting.{Meets}
+use Rattle.driver_laws.proofs.Meeting.{Meets, driven_meets}
 use Rattle.driver_laws.proofs.Next.{next_by}
 use Rattle.driver_laws.proofs.Runs.{one_entry}
 use Rattle.driver_laws.specs.Before.{OnlyPassLends}
@@ -51,16 +50,7 @@ pub known_along : (w : Watched) (origin : State) (start rest : List Entry) (h : 
     → OnlyLent own (lent_by (played_by h doers (calls_of w.pass rest)))
     (leads_to (leads_to origin start) rest).memory
 known_along w origin start rest h doers own d known others apart =
-    let before = events_before start rest d.events in
-    along w (alone.lent_by w.pass (start ++ rest)) own (leads_to origin start) [] [] h doers
-    rest
-    (record {
-      sound = histories_sound origin start d.sound before;
-      vfs = d.vfs ∙ sym (vfs_stays origin start);
-      both = d.agree;
-      lent = d.lent;
-    })
-    known (legal_behind origin start rest d.legal) (events_behind start rest d.events)
+    along w (alone.lent_by w.pass (start ++ rest)) own (leads_to origin start) [] [] h doers rest (driven_meets d) known
+    (legal_behind origin start rest d.legal) (events_behind start rest d.events)
     (alone_by_entries w origin start rest d.alone d.begun) d.own d.others (λ n is. lent_behind w.pass n start rest is)
-    others
-    apart
+    others apart

@@ -1,15 +1,12 @@
 -- A look that finds no packet, within a longer history.
-use Rattle.std.proofs.Common.{◌≡◌, ℕ, List, [], ◌∷◌, ◌++◌, length, refl, sym, ap, ◌∙◌, subst, append_assoc}
+use Rattle.std.proofs.Common.{◌≡◌, List, [], ◌∷◌, ◌++◌, refl, sym, ap, ◌∙◌, subst, append_assoc}
 use Rattle.std.proofs.lemmas.List.{same_from_push}
-use Rattle.driver_laws.specs.Prelude.{State, reply_to, IsLegal, call_in, calls_of, leads_to, call_of, Watched, Call, Entry, Receive, delivered, Halves, halves_of, FindsNone}
-use Rattle.pmd_laws.specs.Prelude.{IsAlong}
-use Rattle.nic_device.specs.declared.event.Event.TheVariants as event
-use Rattle.nic_device.specs.declared.event.Reply.TheVariants as reply
-use Rattle.pmd.specs.PmdRx.Receive.{descriptor_at}
+use Rattle.driver_laws.specs.Prelude.{Block, Event, Reply, Adds, reply_to, IsLegal, call_in, calls_of, leads_to, call_of, Call, Entry, Receive, delivered, Halves, halves_of, FindsNone}
 use Rattle.device_lock.proofs.Histories.{legal_behind}
 use Rattle.start_laws.proofs.Parts.{around}
+use Rattle.pmd.specs.Halves.{Drives}
 use Rattle.pmd.proofs.Followed.{receiving_drives}
-use Rattle.driver_laws.specs.Beside.{AddsHarmless, Leads}
+use Rattle.driver_laws.specs.Beside.{AddsHarmless}
 use Rattle.driver_laws.proofs.Beside.{drives_lead, harmless_lead, leads_on, steps_harmless}
 use Rattle.driver_laws.proofs.Earlier.{none_is_all_before}
 use Rattle.pmd_laws.specs.Looks.{CallsEnd, EndsAt, LooksInVain, NoneIsAllAtFirst, NoneIsAllBefore}
@@ -29,22 +26,39 @@ calls_end pass h calls more c is =
       made = λ i. x.made i ++ x.call i ∷ [];
     }
 
--- a call is answered by the device
-pub answered : (w : Watched) (origin : State) (h : List Entry) (calls : List Call) (c : Call) → IsAlong w origin h
-    → (at : EndsAt w.pass h calls) → call_in at.entry ≡ c
-    → reply_to (leads_to origin at.before) c.event ≡ c.reply
-answered w origin h calls c along at is =
-    let here = leads_to origin at.before in
-    let legal = legal_behind origin at.before (at.entry ∷ at.behind)
-    (subst (IsLegal origin) (sym at.all) along.legal) in
-    ap (λ (d : Call). reply_to here d.event) (sym is) ∙ sym legal.0 ∙ ap (λ (d : Call). d.reply) is
+-- behind a life come calls that drive its halves on, and then one call more, at an entry of the history
+module _ (x : Life) (mid new : List Call) (e : Event Block) (reply : Reply Block) (then : Halves)
+    (drives : Drives x.made x.k mid then) (adds : Adds mid new e reply) (at : EndsAt x.w.pass x.h new) where
+  abbrev others : List Call
+  others = adds.0
 
--- the calls before an entry, and its own, where the last of these calls is known
-pub ends_with : (pass : ℕ) (h : List Entry) (old more calls : List Call) (c : Call) → calls ≡ old ++ (more ++ c ∷ [])
-    → (at : EndsAt pass h calls) → (calls_of pass at.before ≡ old ++ more) × (call_in at.entry ≡ c)
-ends_with pass h old more calls c is at =
-    same_from_push (calls_of pass at.before) (old ++ more) (call_in at.entry) c
-    (at.made ∙ is ∙ sym (append_assoc old more (c ∷ [])))
+  pub ends : (calls_of x.w.pass at.before ≡ mid ++ others) × (call_in at.entry ≡ call_of e reply)
+  ends =
+      same_from_push (calls_of x.w.pass at.before) (mid ++ others) (call_in at.entry) (call_of e reply)
+      (at.made ∙ adds.1 ∙ sym (append_assoc mid others (call_of e reply ∷ [])))
+
+  -- the device answers that call
+  pub answered : reply_to (leads_to x.origin at.before) e ≡ reply
+  answered =
+      let here = leads_to x.origin at.before in
+      let legal = legal_behind x.origin at.before (at.entry ∷ at.behind)
+      (subst (IsLegal x.origin) (sym at.all) x.is.along.legal) in
+      ap (λ (d : Call). reply_to here d.event) (sym ends.1) ∙ sym legal.0 ∙ ap (λ (d : Call). d.reply) ends.1
+
+  -- and the life goes on up to it
+  abbrev pub up_to : Later x
+  up_to = record {
+    late = at.before;
+    rest = at.entry ∷ at.behind;
+    split = at.all;
+    calls = mid ++ others;
+    then = then;
+    goes =
+        leads_on x.started mid (mid ++ others) (halves_of x.r) then then
+        (leads_on x.started x.made mid (halves_of x.r) x.k then x.is.since (drives_lead x.made mid x.k then drives))
+        (harmless_lead mid (mid ++ others) then (others, refl, steps_harmless others adds.2));
+    made = ends.0;
+  }
 
 module _ (x : Life) (new : List Call) (v : Receive) (y : LooksInVain x new v) where
   open x use {w, origin, made, k}
@@ -53,37 +67,16 @@ module _ (x : Life) (new : List Call) (v : Receive) (y : LooksInVain x new v) wh
   abbrev late : List Entry
   late = y.look.before
 
-  abbrev others : List Call
-  others = y.looks.last.0
-
-  abbrev looking : Call
-  looking = call_of (event.Peek16 (descriptor_at v.layout (length v.seen))) (reply.Bytes y.looks.bytes)
-
   -- the halves at the last look
 
   abbrev then : Halves
   then = record k { receive = v }
 
-  ends : (calls_of w.pass late ≡ mid ++ others) × (call_in y.look.entry ≡ looking)
-  ends = ends_with w.pass x.h mid others new looking y.looks.last.1 y.look
-
-  goes_on : Leads x.started (halves_of x.r) (mid ++ others) then
-  goes_on =
-      leads_on x.started mid (mid ++ others) (halves_of x.r) then then
-      (leads_on x.started made mid (halves_of x.r) k then x.is.since
-      (drives_lead made mid k then (receiving_drives made mid k then y.looks.looks refl)))
-      (harmless_lead mid (mid ++ others) then (others, refl, steps_harmless others y.looks.last.2))
+  abbrev drives : Drives made k mid then
+  drives = receiving_drives made mid k then y.looks.looks refl
 
   abbrev l : Later x
-  l = record {
-    late = late;
-    rest = y.look.entry ∷ y.look.behind;
-    split = y.look.all;
-    calls = mid ++ others;
-    then = then;
-    goes = goes_on;
-    made = ends.0;
-  }
+  l = up_to x mid new _ _ then drives y.looks.last y.look
 
   finds : FindsNone (leads_to origin late) v
   finds = record {
@@ -91,7 +84,7 @@ module _ (x : Life) (new : List Call) (v : Receive) (y : LooksInVain x new v) wh
       looks = y.looks.stage;
       posted = y.looks.posted;
       bytes = y.looks.bytes;
-      reply = answered w origin x.h new looking x.is.along y.look ends.1;
+      reply = answered x mid new _ _ then drives y.looks.last y.look;
       waits = y.looks.waits;
     };
     none_whole = y.looks.none_whole;
@@ -102,7 +95,7 @@ module _ (x : Life) (new : List Call) (v : Receive) (y : LooksInVain x new v) wh
   same = ap (λ (z : Receive). z.handed) y.looks.left
 
   all_before : k.receive.handed ≡ delivered w.queue origin late
-  all_before = sym same ∙ none_of_life (life_then x l) ends.0 finds
+  all_before = sym same ∙ none_of_life (life_then x l) l.made finds
 
   -- both places, from where the sides went on
   all_at_first : (early more : List Entry) → early ++ more ≡ late → AddsHarmless made (calls_of w.pass early)

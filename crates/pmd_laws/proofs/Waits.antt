@@ -1,19 +1,16 @@
 -- Before a call of the driver that ends with a packet outstanding not all that was accepted was sent.
-use Rattle.std.proofs.Common.{◌≡◌, ◌≢◌, List, [], ◌∷◌, ◌++◌, refl, sym, ap, ◌∙◌, subst}
-use Rattle.nic_device.specs.declared.event.Event.TheVariants as event
-use Rattle.nic_device.specs.declared.event.Reply.TheVariants as reply
-use Rattle.driver_laws.specs.Prelude.{call_in, calls_of, leads_to, call_of, Call, Entry, accepted_of, Rings, Sender, bytes_of, sent_since, Halves, halves_of}
-use Rattle.pmd.specs.PmdTx.Sending.{descriptor_at, first_end}
+use Rattle.std.proofs.Common.{◌≡◌, ◌≢◌, List, [], ◌++◌, refl, sym, ap, ◌∙◌, subst}
+use Rattle.driver_laws.specs.Prelude.{calls_of, leads_to, Call, Entry, accepted_of, Rings, Sender, bytes_of, sent_since, Halves}
 use Rattle.start_laws.specs.TransmitLaws.Laws.{FindsWaiting}
+use Rattle.pmd.specs.Halves.{Drives}
 use Rattle.pmd.proofs.Followed.{sending_drives}
-use Rattle.driver_laws.specs.Beside.{AddsHarmless, Leads}
-use Rattle.driver_laws.proofs.Beside.{drives_lead, harmless_lead, leads_on, steps_harmless}
+use Rattle.driver_laws.specs.Beside.{AddsHarmless}
 use Rattle.driver_laws.proofs.Waiting.{waiting_is_not_all}
 use Rattle.pmd_laws.specs.Life.{Life}
 use Rattle.pmd_laws.specs.Told.{now}
 use Rattle.pmd_laws.specs.Waits.{LooksAtWaiting, WaitingIsNotAllBefore, WaitingIsNotAllAsTold}
 use Rattle.pmd_laws.proofs.Earlier.{Later, early_parts, late_parts, life_early, life_then, parts_join}
-use Rattle.pmd_laws.proofs.Looks.{answered, ends_with}
+use Rattle.pmd_laws.proofs.Looks.{answered, up_to}
 use Rattle.pmd_laws.proofs.Order as order
 use Rattle.pmd_laws.proofs.RunsOn.{up_next}
 use Rattle.pmd_laws.proofs.Told.{goes, life}
@@ -22,47 +19,25 @@ module _ (x : Life) (new : List Call) (v : Sender) (y : LooksAtWaiting x new v) 
   open x use {w, origin, made, k}
   open y.looks use {mid}
 
-  abbrev others : List Call
-  others = y.looks.looks.0
-
   abbrev sender : Sender
   sender = y.looks.before
-
-  abbrev looking : Call
-  looking =
-      call_of (event.Peek16 (descriptor_at sender.layout (first_end sender.outstanding))) (reply.Bytes y.looks.bytes)
 
   -- the halves at the look
 
   abbrev then : Halves
   then = record k { transmit = sender }
 
-  ends : (calls_of w.pass y.look.before ≡ mid ++ others) × (call_in y.look.entry ≡ looking)
-  ends = ends_with w.pass x.h mid others new looking y.looks.looks.1 y.look
-
-  goes_on : Leads x.started (halves_of x.r) (mid ++ others) then
-  goes_on =
-      leads_on x.started mid (mid ++ others) (halves_of x.r) then then
-      (leads_on x.started made mid (halves_of x.r) k then x.is.since
-      (drives_lead made mid k then (sending_drives made mid k then y.looks.plays refl)))
-      (harmless_lead mid (mid ++ others) then (others, refl, steps_harmless others y.looks.looks.2))
+  abbrev drives : Drives made k mid then
+  drives = sending_drives made mid k then y.looks.plays refl
 
   abbrev l : Later x
-  l = record {
-    late = y.look.before;
-    rest = y.look.entry ∷ y.look.behind;
-    split = y.look.all;
-    calls = mid ++ others;
-    then = then;
-    goes = goes_on;
-    made = ends.0;
-  }
+  l = up_to x mid new _ _ then drives y.looks.looks y.look
 
   finds : FindsWaiting (leads_to origin l.late) sender
   finds = record {
     bytes = y.looks.bytes;
     posted = y.looks.posted;
-    told = answered w origin x.h new looking x.is.along y.look ends.1;
+    told = answered x mid new _ _ then drives y.looks.looks y.look;
     waits = y.looks.waits;
   }
 

@@ -20,7 +20,6 @@ pub mod Receiving
 pub mod Retold
 pub mod Runs
 pub mod Sending
-pub mod StaysUp
 pub mod Stepping
 pub mod Unbegun
 pub mod Waiting

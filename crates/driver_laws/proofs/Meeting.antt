@@ -39,7 +39,7 @@ abbrev pub Kept : Watched → Blocks → State → List Piece → List (List ℕ
 Kept w mine s out sent e k =
     BothAgree w.queue (after s e) (out ++ pieces w.queue s e) (sent ++ sent_by w.queue s e) k × AreLent mine k
 
-module _ (w : Watched) (mine : Blocks) (s : State) (out : List Piece) (sent : List (List ℕ)) (h : Halves)
+module _ {w : Watched} {mine : Blocks} {s : State} {out : List Piece} {sent : List (List ℕ)} {h : Halves}
     (m : Meets w mine s out sent h) (e : Event Block) (made : IsEvent e)
     (steps : WritesOutside w.queue mine (reply_to s e)) where
   -- an event that is neither half's

@@ -8,11 +8,10 @@ use Rattle.receive_laws.specs.HistoryLaws.Alone.{AllAlone}
 use Rattle.receive_laws.specs.Up as received
 use Rattle.receive_laws.proofs.Mine.{LendsMine}
 use Rattle.driver_laws.specs.Histories.{OthersLeaveAlone, doer_of, doers_after}
-use Rattle.driver_laws.proofs.Entries.{doer_keeps, goes_on}
+use Rattle.driver_laws.proofs.Entries.{doer_keeps, doer_receives_up, doer_stays_up, goes_on}
 use Rattle.driver_laws.proofs.Led.{Led, ended, led_on}
 use Rattle.driver_laws.proofs.Meeting.{Meets}
 use Rattle.driver_laws.proofs.Next.{lends_mine, next_by}
-use Rattle.driver_laws.proofs.StaysUp.{doer_receives_up, doer_stays_up}
 
 module _ (w : Watched) (mine : Blocks) where
   -- an entry that is neither half's leaves the queue alone
@@ -33,50 +32,40 @@ module _ (w : Watched) (mine : Blocks) where
       lends_mine w.pass mine e.pass e.event e.reply (eqb-true e.pass w.pass is) made covers
   own_lends doers e false is made covers half = cc
 
-  pub one_entry : (s : State) (out : List Piece) (sent : List (List ℕ)) (h : Halves) (doers : List Doer)
-      (e : Entry) (b : Bool) → (e.pass == w.pass) ≡ b → Meets w mine s out sent h → e.reply ≡ reply_to s e.event
-      → IsEvent e.event → EntryLeavesAlone w mine (mode_in s.registers) e
-      → (e.pass ≡ w.pass → IsTrue (is_neither (doer_of true doers))
+  module _ (s : State) (out : List Piece) (sent : List (List ℕ)) (h : Halves) (doers : List Doer) (e : Entry) (b : Bool)
+      (is : (e.pass == w.pass) ≡ b) (m : Meets w mine s out sent h) (legal : e.reply ≡ reply_to s e.event)
+      (made : IsEvent e.event) (alone : EntryLeavesAlone w mine (mode_in s.registers) e)
+      (others :
+      e.pass ≡ w.pass → IsTrue (is_neither (doer_of true doers))
       → LeavesRegisters w (mode_in s.registers) e.event × LeavesBlocks mine e.event)
-      → OwnCall h (doer_of b doers) (call_in e) → ((n : ℕ) → IsTrue (lent_in w.pass e n) → IsTrue (mine n))
-      → Meets w mine (after s e.event) (out ++ pieces w.queue s e.event)
-      (sent ++ sent_by w.queue s e.event) (after_call h (doer_of b doers) (call_in e))
-  one_entry s out sent h doers e b is m legal made alone others own covers =
-      let d = doer_of b doers in
-      let steps = subst (WritesOutside w.queue mine) legal alone.steps in
-      let here = subst (λ r. OwnCall h d (call_of e.event r)) legal own in
-      let lent = subst (λ r. LendsMine mine e.event r) legal in
-      let keeps = doer_keeps w mine s out sent h m e.event made steps d here
-      (others_leave (mode_in s.registers) doers e b is alone others)
-      (λ half. lent (own_lends doers e b is made covers half)) in
-      subst (λ r. Meets w mine (after s e.event) (out ++ pieces w.queue s e.event)
-      (sent ++ sent_by w.queue s e.event) (after_call h d (call_of e.event r))) (sym legal)
-      (goes_on w mine s out sent h m e.event made steps (after_call h d (call_of e.event (reply_to s e.event)))
-      keeps)
+      (own : OwnCall h (doer_of b doers) (call_in e)) where
+    abbrev d : Doer
+    d = doer_of b doers
 
-  pub one_receives_up : (s : State) (out : List Piece) (sent : List (List ℕ)) (h : Halves)
-      (doers : List Doer) (e : Entry) (b : Bool) → (e.pass == w.pass) ≡ b → Meets w mine s out sent h
-      → e.reply ≡ reply_to s e.event → IsEvent e.event → EntryLeavesAlone w mine (mode_in s.registers) e
-      → (e.pass ≡ w.pass → IsTrue (is_neither (doer_of true doers))
-      → LeavesRegisters w (mode_in s.registers) e.event × LeavesBlocks mine e.event)
-      → OwnCall h (doer_of b doers) (call_in e) → received.IsUp w.queue s → received.IsUp w.queue (after s e.event)
-  one_receives_up s out sent h doers e b is m legal made alone others own =
-      let d = doer_of b doers in
-      doer_receives_up w mine s out sent h m e.event made (subst (WritesOutside w.queue mine) legal alone.steps) d
-      (subst (λ r. OwnCall h d (call_of e.event r)) legal own)
-      (others_leave (mode_in s.registers) doers e b is alone others)
+    steps : WritesOutside w.queue mine (reply_to s e.event)
+    steps = subst (WritesOutside w.queue mine) legal alone.steps
 
-  one_stays_up : (s : State) (out : List Piece) (sent : List (List ℕ)) (h : Halves) (doers : List Doer)
-      (e : Entry) (b : Bool) → (e.pass == w.pass) ≡ b → Meets w mine s out sent h → e.reply ≡ reply_to s e.event
-      → IsEvent e.event → EntryLeavesAlone w mine (mode_in s.registers) e
-      → (e.pass ≡ w.pass → IsTrue (is_neither (doer_of true doers))
-      → LeavesRegisters w (mode_in s.registers) e.event × LeavesBlocks mine e.event)
-      → OwnCall h (doer_of b doers) (call_in e) → IsUp w.queue s → IsUp w.queue (after s e.event)
-  one_stays_up s out sent h doers e b is m legal made alone others own =
-      let d = doer_of b doers in
-      doer_stays_up w mine s out sent h m e.event made (subst (WritesOutside w.queue mine) legal alone.steps) d
-      (subst (λ r. OwnCall h d (call_of e.event r)) legal own)
-      (others_leave (mode_in s.registers) doers e b is alone others)
+    here : OwnCall h d (call_of e.event (reply_to s e.event))
+    here = subst (λ r. OwnCall h d (call_of e.event r)) legal own
+
+    left_alone : is_neither d ≡ true → LeavesRegisters w (mode_in s.registers) e.event × LeavesBlocks mine e.event
+    left_alone = others_leave (mode_in s.registers) doers e b is alone others
+
+    pub one_entry : ((n : ℕ) → IsTrue (lent_in w.pass e n) → IsTrue (mine n))
+        → Meets w mine (after s e.event) (out ++ pieces w.queue s e.event) (sent ++ sent_by w.queue s e.event)
+        (after_call h d (call_in e))
+    one_entry covers =
+        let keeps = doer_keeps m e.event made steps d here left_alone
+        (λ half. subst (λ r. LendsMine mine e.event r) legal (own_lends doers e b is made covers half)) in
+        subst (λ r. Meets w mine (after s e.event) (out ++ pieces w.queue s e.event)
+        (sent ++ sent_by w.queue s e.event) (after_call h d (call_of e.event r))) (sym legal)
+        (goes_on m e.event made steps (after_call h d (call_of e.event (reply_to s e.event))) keeps)
+
+    pub one_receives_up : received.IsUp w.queue s → received.IsUp w.queue (after s e.event)
+    one_receives_up = doer_receives_up m e.event made steps d here left_alone
+
+    one_stays_up : IsUp w.queue s → IsUp w.queue (after s e.event)
+    one_stays_up = doer_stays_up m e.event made steps d here left_alone
 
   pub leads : (s : State) (out : List Piece) (sent : List (List ℕ)) (h : Halves) (doers : List Doer)
       (es : List Entry) → Meets w mine s out sent h → IsLegal s es → AreEvents es → AllAlone w mine s es

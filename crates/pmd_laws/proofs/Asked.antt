@@ -75,7 +75,7 @@ module _ (w : Watched) (origin : State) (q : AtPort) (frame : ℕ) (mine : Block
         both = x.both;
         lent = x.lent;
       } in
-      let kept = neither_keeps w mine s x.out (sent done) k m e left.made left.steps left.registers left.blocks in
+      let kept = neither_keeps m e left.made left.steps left.registers left.blocks in
       record {
         ground = ground_kept w mine q frame s e left x.ground;
         out = x.out ++ pieces w.queue s e;

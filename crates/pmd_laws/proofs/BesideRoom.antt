@@ -6,8 +6,7 @@ use Rattle.pmd_laws.specs.BesideRoom as beside
 use Rattle.pmd_laws.specs.FullRing.{AcceptsNone, TellsFull, outstanding}
 use Rattle.pmd_laws.specs.Told.{Drove, Moment, last}
 use Rattle.pmd_laws.proofs.Beside.{own_are_told}
-use Rattle.pmd_laws.proofs.FullRing.{HasRoom, full_lacks, room, same_size}
-use Rattle.pmd_laws.proofs.NoRoom.{none_lacks}
+use Rattle.pmd_laws.proofs.FullRing.{HasRoom, full_lacks, room, same_size, none_lacks}
 use Rattle.pmd_laws.proofs.RunsOn.{RunsOn}
 use Rattle.pmd_laws.proofs.Told.{runs}
 

@@ -9,7 +9,6 @@ pub mod BesideStop
 pub mod Books
 pub mod CalledBeside
 pub mod Driven
-pub mod Earlier
 pub mod Ends
 pub mod Faultless
 pub mod FirstHalves
@@ -17,7 +16,6 @@ pub mod FullRing
 pub mod HandedOn
 pub mod Held
 pub mod InHand
-pub mod KnownAlong
 pub mod LaidAccesses
 pub mod LaidCalls
 pub mod LaidFilling
@@ -30,7 +28,6 @@ pub mod Lived
 pub mod Looks
 pub mod MetFault
 pub mod NoFault
-pub mod NoRoom
 pub mod OnePlace
 pub mod OnlyRings
 pub mod Order

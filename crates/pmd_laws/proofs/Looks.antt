@@ -11,7 +11,7 @@ use Rattle.driver_laws.proofs.Beside.{drives_lead, harmless_lead, leads_on, step
 use Rattle.driver_laws.proofs.Earlier.{none_is_all_before}
 use Rattle.pmd_laws.specs.Looks.{CallsEnd, EndsAt, LooksInVain, NoneIsAllAtFirst, NoneIsAllBefore}
 use Rattle.pmd_laws.specs.Life.{Life}
-use Rattle.pmd_laws.proofs.Earlier.{Later, early_parts, late_parts, life_early, life_then, parts_join}
+use Rattle.pmd_laws.proofs.Lived.{Later, early_parts, late_parts, life_early, life_then, parts_join}
 use Rattle.pmd_laws.proofs.Order as order
 use Rattle.pmd_laws.proofs.Order.{none_of_life}
 

@@ -16,7 +16,7 @@ use Rattle.pmd_laws.specs.Told.{IsToldOf, Told, now}
 use Rattle.pmd_laws.proofs.Driven.{driven_by}
 use Rattle.pmd_laws.proofs.FirstHalves.{receive_lent, transmit_lent}
 use Rattle.pmd_laws.proofs.Held.{both_lent}
-use Rattle.pmd_laws.proofs.KnownAlong.{known_along}
+use Rattle.driver_laws.proofs.Healthy.{known_along}
 use Rattle.pmd_laws.proofs.LedApart as led_apart
 use Rattle.pmd_laws.proofs.LentSince.{lent_at}
 use Rattle.pmd_laws.proofs.PassLends.{others_behind}

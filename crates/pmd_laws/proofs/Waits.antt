@@ -9,7 +9,7 @@ use Rattle.driver_laws.proofs.Waiting.{waiting_is_not_all}
 use Rattle.pmd_laws.specs.Life.{Life}
 use Rattle.pmd_laws.specs.Told.{now}
 use Rattle.pmd_laws.specs.Waits.{LooksAtWaiting, WaitingIsNotAllBefore, WaitingIsNotAllAsTold}
-use Rattle.pmd_laws.proofs.Earlier.{Later, early_parts, late_parts, life_early, life_then, parts_join}
+use Rattle.pmd_laws.proofs.Lived.{Later, early_parts, late_parts, life_early, life_then, parts_join}
 use Rattle.pmd_laws.proofs.Looks.{answered, up_to}
 use Rattle.pmd_laws.proofs.Order as order
 use Rattle.pmd_laws.proofs.RunsOn.{up_next}

@@ -6,8 +6,8 @@ use Rattle.pmd.specs.Life.{NeverLived}
 use Rattle.start_laws.specs.ReceiveLaws.Delivered as receive
 use Rattle.start_laws.specs.TransmitLaws.Laws as transmit
 
--- a driver's start was refused over a legal history of a sound device that leaves the queue alone, up to some place amid
--- the start and the stop of what it left, or to where these ended
+-- a driver's start was refused over a legal history of a sound device that leaves the queue alone, up to some place
+-- amid the start and the stop of what it left, or to where these ended
 pub record Refused : Type 0 where
   pub w : Watched
   pub origin : State

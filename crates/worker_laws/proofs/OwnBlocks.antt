@@ -12,7 +12,7 @@ use Rattle.pmd_laws.proofs.StartLaws.Histories.{events_before, legal_before}
 use Rattle.workers.specs.Lending as told
 use Rattle.workers.specs.Lending.{OthersLendNone, are_from, lends_none, lent_through}
 use Rattle.worker_laws.specs.Lending.{OthersLendNoneIsAlone}
-use Rattle.worker_laws.specs.Points.{JustBefore}
+use Rattle.worker_laws.specs.Points.{HoldsAtFirst, JustBefore}
 use Rattle.worker_laws.proofs.FirstCalls.{FirstCall, first_read}
 use Rattle.worker_laws.proofs.LentThere.{lent_is_told}
 
@@ -68,7 +68,7 @@ module _ (w : Watched) (fifo : ℕ) (old : List Call) (h : List Entry) (P : Stat
         calls = calls;
       })
 
-  pub before_next : BeforeNext w (new_state w.vfs fifo) h old P
+  before_next : BeforeNext w (new_state w.vfs fifo) h old P
   before_next steps call stepped event =
       before_first (old ++ (steps ++ call ∷ [])) (record {
         steps = steps;
@@ -78,15 +78,17 @@ module _ (w : Watched) (fifo : ℕ) (old : List Call) (h : List Entry) (P : Stat
         event = event;
       })
 
+  pub holds_at_first : HoldsAtFirst w fifo old h P
+  holds_at_first = record {
+    first = just;
+    next = before_next;
+    started = λ q size frame a m later told.
+        let quiet = told.started.2.receive.quiet in
+        before_first quiet.0 (first_read q Rxdctl false old quiet.0 quiet.1);
+  }
+
 pub others_lend_none_is_alone : OthersLendNoneIsAlone
-others_lend_none_is_alone w fifo old a h legal events x =
-    let own = is_own a in
-    let first = none_there w fifo old a h legal events x.none in record {
-      others = only_lends w.pass own h x.others;
-      first = first;
-      next = before_next w fifo old h (NoneLent own) first;
-      started = λ q size frame m later told.
-          let quiet = told.started.2.receive.quiet in
-          before_first w fifo old h (NoneLent own) first quiet.0
-          (first_read q Rxdctl false old quiet.0 quiet.1);
-    }
+others_lend_none_is_alone w fifo old a h legal events x = (
+  only_lends w.pass (is_own a) h x.others,
+  holds_at_first w fifo old h (NoneLent (is_own a)) (none_there w fifo old a h legal events x.none),
+)

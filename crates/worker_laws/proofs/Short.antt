@@ -1,16 +1,15 @@
 -- Where the entries say that frames fit a driver's packets, those that wait as it starts do.
-use Rattle.std.proofs.Common.{ℕ, ◌*◌, ◌≤◌, false, List, ◌∷◌, length, refl, sym, subst, arith}
+use Rattle.std.proofs.Common.{ℕ, ◌*◌, ◌≤◌, List, ◌∷◌, length, refl, sym, subst, arith}
 use Rattle.std.specs.Prelude.{All}
 use Rattle.std.proofs.lemmas.List.Elements.{All-weaker}
-use Rattle.pmd_laws.specs.DriverLaws.Prelude.{Rxdctl, State, new_state, most_blocks, FitsBlocks, IsLegal, leads_to, Watched, Call, Entry}
+use Rattle.pmd_laws.specs.DriverLaws.Prelude.{State, new_state, most_blocks, FitsBlocks, IsLegal, leads_to, Watched, Call, Entry}
 use Rattle.nic_device.specs.State.{Waiting}
 use Rattle.pmd_laws.proofs.StartLaws.Histories.{legal_before}
 use Rattle.workers.specs.Fitting.{FramesFit, longest_let_in}
 use Rattle.worker_laws.specs.Fitting.{AllFitBlocks, FramesFitIsShort}
 use Rattle.worker_laws.specs.Points.{JustBefore}
-use Rattle.worker_laws.proofs.FirstCalls.{first_read}
 use Rattle.worker_laws.proofs.LetIn.{IsUpTo, up_to_longest}
-use Rattle.worker_laws.proofs.OwnBlocks.{before_first, before_next}
+use Rattle.worker_laws.proofs.OwnBlocks.{holds_at_first}
 
 -- frames that are no longer than so many blocks fit them, whatever the queue
 all_fit : (queue most longest : ℕ) (ws : List Waiting) → longest ≤ 2048 * most → All (IsUpTo longest) ws
@@ -29,11 +28,4 @@ short_there w fifo old frame h legal fit x =
 
 pub frames_fit_is_short : FramesFitIsShort
 frames_fit_is_short w fifo old frame h legal fit =
-    let Short = AllFitBlocks w.queue frame in
-    let first = short_there w fifo old frame h legal fit in record {
-      first = first;
-      next = before_next w fifo old h Short first;
-      started = λ q size a m later told.
-          let quiet = told.started.2.receive.quiet in
-          before_first w fifo old h Short first quiet.0 (first_read q Rxdctl false old quiet.0 quiet.1);
-    }
+    holds_at_first w fifo old h (AllFitBlocks w.queue frame) (short_there w fifo old frame h legal fit)

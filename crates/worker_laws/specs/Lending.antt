@@ -8,8 +8,8 @@ use Rattle.pmd_laws.specs.Faultless.{NoneLent}
 use Rattle.workers.specs.Lending.{OthersLendNone, are_from}
 use Rattle.worker_laws.specs.Points.{HoldsAtFirst}
 
--- where the entries say that others lend none of an arena's blocks, no other pass lends any over the history, and none of
--- them is lent just before the first event of the driver's own
+-- where the entries say that others lend none of an arena's blocks, no other pass lends any over the history, and none
+-- of them is lent just before the first event of the driver's own
 abbrev pub OthersLendNoneIsAlone : Type 0
 OthersLendNoneIsAlone =
     (w : Watched) (fifo : ℕ) (old : List Call) (a : Numbers) (h : List Entry) → IsLegal (new_state w.vfs fifo) h →

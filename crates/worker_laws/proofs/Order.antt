@@ -134,7 +134,8 @@ module _ (vfs fifo : ℕ) (h : List Entry) (j : Job) (e : WorkerEnd) (x : IsEndI
 
     quiet : (e.fault ≡ None) ⊎ IsQuiet j.pf_queue q j.frame (leads_to (new_state vfs fifo) s.before)
     quiet =
-        elim x.quiet as (λ _. (e.fault ≡ None) ⊎ IsQuiet j.pf_queue q j.frame (leads_to (new_state vfs fifo) s.before)) [
+        elim x.quiet
+        as (λ _. (e.fault ≡ None) ⊎ IsQuiet j.pf_queue q j.frame (leads_to (new_state vfs fifo) s.before)) [
           | inl none ↦ inl none
           | inr at ↦ inr (at (starts_more e.pass.tag old u.done u.rest h u.all s))
         ]
@@ -151,8 +152,8 @@ module _ (vfs fifo : ℕ) (h : List Entry) (j : Job) (e : WorkerEnd) (x : IsEndI
         elim (threads e.fault) as (λ _. InOrder j.pf_queue vfs fifo e.pass.tag old u.done s e.rest) [
           | inl none ↦ absurd (never_idle none)
           | inr some ↦
-              run_in_order w fifo u.done q j.size j.frame old j.arena e.pass.calls e.rest e.fault u.made along ground_so_far s
-              (ends.lived some) quiet
+              run_in_order w fifo u.done q j.size j.frame old j.arena e.pass.calls e.rest e.fault u.made along
+              ground_so_far s (ends.lived some) quiet
         ]
 
 pub none_is_left : NoneIsLeft

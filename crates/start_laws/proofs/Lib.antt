@@ -44,11 +44,11 @@ pub mod QuietSides
 pub mod QuietStart
 pub mod Quieting
 pub mod Reached
-pub mod ReceiveWords
 pub mod Replies
 pub mod Rising
 pub mod SeenOff
 pub mod Settled
+pub mod SideWords
 pub mod Silent
 pub mod Standing
 pub mod Start
@@ -58,7 +58,6 @@ pub mod Stopping
 pub mod SwitchedOff
 pub mod Switching
 pub mod TimedOut
-pub mod TransmitWords
 pub mod Unused
 pub mod Walk
 pub mod Words

@@ -51,21 +51,13 @@ use Rattle.receive_laws.specs.Fitting.{FitsBlocks, begun_on, AreFitting, ResetsN
 use Rattle.receive_laws.specs.Joint.{Holds}
 use Rattle.receive_laws.specs.Pieces.{Piece, Fits, AllFit, open_after, first_of, pieces, pieces_told}
 use Rattle.receive_laws.specs.Up.{IsUp}
+use Rattle.receive_laws.proofs.Begun.{either_zero, unbegun_none}
 use Rattle.receive_laws.proofs.Parts.{open_pushed}
 use Rattle.receive_laws.proofs.Receiving.{room_left, no_fault}
 use Rattle.receive_laws.proofs.Up.{enable_same}
 use Rattle.receive_laws.proofs.Waiting.{waiting_after}
 
 -- the frame that waits first, in lists
-
-either_zero : (b : Bool) → let z : ℕ = 0 in cond b z z ≡ z
-either_zero true = refl
-either_zero false = refl
-
-unbegun_none : (queue : ℕ) (ws : List Waiting) → All IsUnbegun ws → begun_on queue ws ≡ 0
-unbegun_none queue [] none = refl
-unbegun_none queue (w ∷ others) none =
-    ap (λ (n : ℕ). cond (w.queue == queue) n 0) (All-head IsUnbegun w others none).none ∙ either_zero (w.queue == queue)
 
 other_first : (queue : ℕ) (w : Waiting) (others : List Waiting) → (w.queue == queue) ≡ false
     → begun_on queue (w ∷ others) ≡ 0

@@ -8,7 +8,6 @@ pub mod Accesses
 pub mod AccessesInOrder
 pub mod AllAre
 pub mod Along
-pub mod Begun
 pub mod BothSides
 pub mod DrivenAccesses
 pub mod DrivenRows

@@ -14,7 +14,7 @@ use Rattle.receive_laws.specs.HistoryLaws.Sides.{Side, side_of}
 use Rattle.start_laws.specs.Moves.{MayGoOn, WriteStands}
 use Rattle.start_laws.specs.Standing.{Stands}
 use Rattle.start_laws.specs.Words.{across, side_with}
-use Rattle.start_laws.proofs.Begun.{begun_stays}
+use Rattle.receive_laws.proofs.Begun.{begun_stays}
 use Rattle.start_laws.proofs.DrivenRows.{driven}
 use Rattle.start_laws.proofs.SideWords.{words_taken}
 

@@ -7,7 +7,7 @@ use Rattle.receive_laws.specs.HistoryLaws.Sides.{Side}
 use Rattle.receive_laws.proofs.HistoryLaws.Deeds.{left_deed, left_did}
 use Rattle.receive_laws.proofs.HistoryLaws.Steady.{IsIdle, idle_silent, idle_steady, none_staged, steady_kept}
 use Rattle.start_laws.specs.Standing.{Stands, StandingSidesAreLeft}
-use Rattle.start_laws.proofs.Begun.{begun_stays}
+use Rattle.receive_laws.proofs.Begun.{begun_stays}
 
 -- a side that stands so is off, or its ring is empty
 stands_idle : (side : Side) → IsIdle (λ x. Stands x side)

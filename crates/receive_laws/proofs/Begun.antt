@@ -30,13 +30,13 @@ use Rattle.nic_device.specs.declared.named.Named.{Named}
 use Rattle.nic_device.specs.declared.named.Named.TheVariants.{Nothing, Register}
 use Rattle.nic_device.proofs.Cases.{either_way, switched_cases}
 use Rattle.nic_device.proofs.QueueCases.{received_cases}
-use Rattle.receive_laws.proofs.DeviceLaws.Resetting.{is_reset}
-use Rattle.receive_laws.proofs.DeviceLaws.Standing.{stays_within}
-use Rattle.receive_laws.proofs.DeviceLaws.StandingAccesses.{read_rest}
+use Rattle.history_laws.proofs.DeviceLaws.Resetting.{is_reset}
+use Rattle.history_laws.proofs.DeviceLaws.Standing.{stays_within}
+use Rattle.history_laws.proofs.DeviceLaws.StandingAccesses.{read_rest}
 use Rattle.receive_laws.specs.Fitting.{begun_on}
 use Rattle.receive_laws.specs.Pieces.{Piece, pieces, pieces_told}
 
-either_zero : (b : Bool) → let z : ℕ = 0 in cond b z z ≡ z
+pub either_zero : (b : Bool) → let z : ℕ = 0 in cond b z z ≡ z
 either_zero true = refl
 either_zero false = refl
 
@@ -49,7 +49,7 @@ module _ (queue : ℕ) where
   abbrev IsNone : List Waiting → Type 0
   IsNone ws = begun_on queue ws ≡ 0
 
-  unbegun_none : (ws : List Waiting) → All IsUnbegun ws → IsNone ws
+  pub unbegun_none : (ws : List Waiting) → All IsUnbegun ws → IsNone ws
   unbegun_none [] none = refl
   unbegun_none (w ∷ others) none =
       ap (λ (n : ℕ). cond (w.queue == queue) n 0) (All-head IsUnbegun w others none).none

@@ -75,10 +75,8 @@ module _ (v : Receive) (n : ℕ) where
       (ap fresh_block own.stage ∙ sym (looked_fresh (ends_packet (second_half d))))) (λ has. has)
 
   lent_block : (stage : Stage) → HasLent stage → fresh_block stage ≡ fresh_of stage ∷ []
-  lent_block Looks lent = absurd lent
-  lent_block Takes lent = absurd lent
-  lent_block Owes lent = absurd lent
   lent_block (Lent b) lent = refl
+  lent_block other lent = absurd lent
 
   next_fresh : (seen : List Told) → fresh_block (next_stage seen) ≡ []
   next_fresh [] = refl

@@ -1,10 +1,10 @@
 -- A word that a driver writes to sides that stand still.
-use Rattle.std.proofs.Common.{◌≡◌, ℕ, Bool, true, false, [], refl, sym, ap, ◌∙◌, List, subst}
+use Rattle.std.proofs.Common.{◌≡◌, ℕ, Bool, false, [], refl, sym, ap, ◌∙◌, List, subst}
 use Rattle.std.specs.FinMap as map
 use Rattle.std.proofs.lemmas.Bool.{both_ways}
 use Rattle.nic_device.specs.DmaArena.Memory.{Memory}
 use Rattle.nic_device.specs.RegTable.declared.rows.RowId.{RowId}
-use Rattle.nic_device.specs.RegTable.declared.rows.RowId.TheVariants.{Rdbal, Rdbah, Rdlen, Rdh, Rdt, Srrctl, Rxdctl, Tdbal, Tdbah, Tdlen, Tdh, Tdt, Tdwbal, Txdctl}
+use Rattle.nic_device.specs.RegTable.declared.rows.RowId.TheVariants.{Rdbal, Tdbal}
 use Rattle.nic_device.specs.DmaRing.declared.dir.Dir.{Dir}
 use Rattle.nic_device.specs.DmaRing.declared.dir.Dir.TheVariants.{Rx, Tx}
 use Rattle.nic_device.specs.State.{State}
@@ -15,6 +15,7 @@ use Rattle.start_laws.specs.Moves.{MayGoOn, WriteStands}
 use Rattle.start_laws.specs.Standing.{Stands}
 use Rattle.start_laws.specs.Words.{across, side_with}
 use Rattle.receive_laws.proofs.Begun.{begun_stays}
+use Rattle.receive_laws.proofs.HistoryLaws.Lent.{not_so}
 use Rattle.start_laws.proofs.DrivenRows.{driven}
 use Rattle.start_laws.proofs.SideWords.{words_taken}
 
@@ -23,32 +24,16 @@ pub with_beside : (dir : Dir) (row : RowId) (word : ℕ) (x : Side) (on : Bool) 
     → side_with dir row word (record x { on = on; staged = staged })
     ≡ record (side_with dir row word x) { on = on; staged = staged }
 with_beside Rx Rdbal word x on staged = refl
-with_beside Rx Rdbah word x on staged = refl
-with_beside Rx Rdlen word x on staged = refl
-with_beside Rx Rdh word x on staged = refl
-with_beside Rx Rdt word x on staged = refl
-with_beside Rx Srrctl word x on staged = refl
-with_beside Rx Rxdctl word x on staged = refl
 with_beside Tx Tdbal word x on staged = refl
-with_beside Tx Tdbah word x on staged = refl
-with_beside Tx Tdlen word x on staged = refl
-with_beside Tx Tdh word x on staged = refl
-with_beside Tx Tdt word x on staged = refl
-with_beside Tx Tdwbal word x on staged = refl
-with_beside Tx Txdctl word x on staged = refl
 with_beside dir other word x on staged = refl
 
 on_same : (dir : Dir) (row : RowId) (word : ℕ) (x : Side) → (side_with dir row word x).on ≡ x.on
 on_same dir row word x = ap (λ (z : Side). z.on) (with_beside dir row word x x.on x.staged)
 
-off_where : (on wanted : Bool) → (on ≡ true → wanted ≡ true) → wanted ≡ false → on ≡ false
-off_where true wanted only none = absurd (both_ways wanted none (only refl))
-off_where false wanted only none = refl
-
 -- a side that is off and as this one says is off there
 is_off : (x side : Side) → Stands x side → side.wanted ≡ false → x ≡ record side { on = false; staged = [] }
 is_off x side h none =
-    subst (λ (on : Bool). x ≡ record side { on = on; staged = [] }) (off_where x.on side.wanted h.wanted none) h.same
+    subst (λ (on : Bool). x ≡ record side { on = on; staged = [] }) (not_so x.on side.wanted h.wanted none) h.same
 
 -- a side that is off stands
 stands_off : (x side : Side) → x ≡ record side { on = false; staged = [] } → side.on ≡ false → MayGoOn side
@@ -72,11 +57,11 @@ write_stands dir queue s sides rings port n word row met stand unwanted fits goe
     let x = stand.side dir in
     let y : Side = sides (across dir) in
     let t : State = after s (event.Write port n word) in
-    let off = off_where (side_of dir queue s).on (sides dir).wanted x.wanted unwanted in
+    let off = not_so (side_of dir queue s).on (sides dir).wanted x.wanted unwanted in
     let taken = words_taken dir queue s port n word row met.small met.sound off fits names in
     let own = stands_off (side_of dir queue t) (side_with dir row word (sides dir))
     (taken.side ∙ ap (side_with dir row word) (is_off _ _ x unwanted) ∙ with_beside dir row word (sides dir) false [])
-    (on_same dir row word (sides dir) ∙ off_where (sides dir).on _ x.seen off) goes in
+    (on_same dir row word (sides dir) ∙ not_so (sides dir).on _ x.seen off) goes in
     let left : Stands (side_of (across dir) queue t) y =
     subst (λ (z : Side). Stands z y) (sym taken.other) (stand.side (across dir)) in
     record {

@@ -39,24 +39,14 @@ use Rattle.driver_laws.proofs.Sending.{is_elsewhere, move_spares, sender_lent}
 -- a move is an event that writes no piece
 no_pieces : (queue : ℕ) (s : State) (h : Halves) (m : Move) (e : Event Block) → is_elsewhere m ≡ false
     → sending.IsOwn h.transmit m e → pieces queue s e ≡ []
-no_pieces queue s h (Accepts p) (event.Lend b) real own = refl
-no_pieces queue s h Lends (event.Lend b) real own = refl
-no_pieces queue s h Asks (event.Poke16 a bytes) real own = refl
-no_pieces queue s h Advances (event.Write port n word) real own = refl
-no_pieces queue s h Looks (event.Peek16 a) real own = refl
-no_pieces queue s h Reaps (event.Take n) real own = refl
 no_pieces queue s h Elsewhere e real own = cc
-no_pieces queue s h m e real own = absurd own
+no_pieces queue s h m event.RxStep real own = absurd own
+no_pieces queue s h m e real own = refl
 
 pub may_move : (queue : ℕ) (s : State) (h : Halves) (m : Move) (e : Event Block) → is_elsewhere m ≡ false
     → sending.IsOwn h.transmit m e → IsEvent e → MayMove queue h.transmit s e m
 may_move queue s h Elsewhere e real own made = cc
-may_move queue s h (Accepts p) e real own made = (own, made)
-may_move queue s h Lends e real own made = (own, made)
-may_move queue s h Asks e real own made = (own, made)
-may_move queue s h Advances e real own made = (own, made)
-may_move queue s h Looks e real own made = (own, made)
-may_move queue s h Reaps e real own made = (own, made)
+may_move queue s h m e real own made = (own, made)
 
 module _ (w : Watched) (mine : Blocks) (s : State) (out : List Piece) (sent : List (List ℕ)) (h : Halves)
     (m : Meets w mine s out sent h) (e : Event Block) (made : IsEvent e)

@@ -106,12 +106,8 @@ module _ (w : Watched) (mine : Blocks) (s : State) (out : List Piece) (sent : Li
         plain_resets w.queue s port n word (place Tdt w.queue) 0xFFFFFFFF
         (rw (own.2, own.3) m.both.transmit.1.based.tail) refl
     move_resets Elsewhere e real own = cc
-    move_resets (Accepts p) (event.Lend b) real own = tt
-    move_resets Lends (event.Lend b) real own = tt
-    move_resets Asks (event.Poke16 a bytes) real own = tt
-    move_resets Looks (event.Peek16 a) real own = tt
-    move_resets Reaps (event.Take n) real own = tt
-    move_resets move e real own = absurd own
+    move_resets move (event.Write port n word) real own = absurd own
+    move_resets move e real own = tt
 
     none_reset : (d : Doer) (e : Event Block) → OwnCall h d (call_of e (reply_to s e))
         → (is_neither d ≡ true → LeavesRegisters w (mode_in s.registers) e) → ResetsNoPool w.queue s e

@@ -1,7 +1,7 @@
 -- Since a receive side last went on nothing is written of a frame that waits for its queue, where no piece was.
-use Rattle.std.proofs.Common.{◌≡◌, ℕ, Bool, true, false, not, List, [], ◌∷◌, ◌++◌, length, refl, ap, arith, Option, Some, None}
+use Rattle.std.proofs.Common.{◌≡◌, ℕ, true, false, List, [], ◌∷◌, ◌++◌, length, refl, ap, arith, Option, Some, None}
 use Rattle.std.specs.Prelude.{option_map}
-use Rattle.std.proofs.lemmas.Bool.{cond_both, and_parts, both_ways}
+use Rattle.std.proofs.lemmas.Bool.{cond_both, and_parts, both_ways, not-true}
 use Rattle.std.proofs.lemmas.List.{length-append, nil_from_length}
 use Rattle.nic_device.specs.DmaArena.Block.{Block}
 use Rattle.nic_device.specs.DmaRing.declared.dir.Dir.TheVariants.{Rx}
@@ -36,10 +36,6 @@ off_silent queue s e sound off = refl
 
 -- over a history
 
-not_on : (b : Bool) → not b ≡ true → b ≡ false
-not_on true is = cc
-not_on false is = refl
-
 abbrev Unbegun : ℕ → State → Option (List Piece) → Type 0
 Unbegun queue s so_far = so_far ≡ Some [] → begun_on queue s.waiting ≡ 0
 
@@ -52,7 +48,7 @@ none_more qs ps empty =
 module _ (queue : ℕ) (s : State) (e : Event Block) (sound : IsSound s) where
   went_on : goes_on queue s (after s e) ≡ true → begun_on queue (after s e).waiting ≡ 0
   went_on goes =
-      let off = not_on (is_on s.registers Rx queue) (and_parts _ _ goes).0 in
+      let off = not-true (is_on s.registers Rx queue) (and_parts _ _ goes).0 in
       begun_stays queue s sound (none_begun_while_off queue s sound off) e (off_silent queue s e sound off)
 
   stayed : (so_far : Option (List Piece)) → Unbegun queue s so_far

@@ -1,8 +1,6 @@
 -- Where a side of the driver's queue is up it stays so over one entry of a history that leaves the queue alone.
 use Rattle.std.proofs.Common.{◌≡◌, ℕ, true, List, refl}
-use Rattle.std.specs.Prelude.{IsTrue}
 use Rattle.nic_device.specs.DmaArena.Block.{Block}
-use Rattle.nic_device.specs.DmaArena.Memory.{has_block}
 use Rattle.nic_device.specs.RegisterFile.Pools.{mode_in}
 use Rattle.nic_device.specs.Sound.{IsEvent}
 use Rattle.nic_device.specs.State.{State}
@@ -11,7 +9,7 @@ use Rattle.nic_device.specs.declared.event.Event.{Event}
 use Rattle.device_lock.specs.Alone.{Blocks, LeavesRegisters, LeavesBlocks, WritesOutside}
 use Rattle.device_lock.specs.Pass.{call_of}
 use Rattle.device_lock.specs.declared.alone.Watched.{Watched}
-use Rattle.pmd.specs.PmdTx.Sending.{Move, Elsewhere, has_lent}
+use Rattle.pmd.specs.PmdTx.Sending.{Move, Elsewhere}
 use Rattle.receive_laws.specs.Pieces.{Piece}
 use Rattle.receive_laws.specs.Up as received
 use Rattle.receive_laws.proofs.Up.{alone_stays_up, left_up, own_stays_up}
@@ -30,9 +28,6 @@ module _ (w : Watched) (mine : Blocks) (s : State) (out : List Piece) (sent : Li
   abbrev t : State
   t = after s e
 
-  sender_blocks : (n : ℕ) → IsTrue (has_lent h.transmit n) → has_block s.memory n ≡ true
-  sender_blocks = sender_lent s w.queue sent h.transmit m.both.transmit.0 m.both.transmit.1
-
   stays_up : (move : Move) → MayMove w.queue h.transmit s e move → IsUp w.queue s → IsUp w.queue t
   stays_up move may up = up_stays s w.queue sent h.transmit e move m.both.transmit may up
 
@@ -41,8 +36,9 @@ module _ (w : Watched) (mine : Blocks) (s : State) (out : List Piece) (sent : Li
       → IsUp w.queue t
   doer_stays_up Receives own others up =
       let (gone, here, holds) = m.both.receive in
+      let blocks = sender_lent s w.queue sent h.transmit m.both.transmit.0 m.both.transmit.1 in
       stays_up Elsewhere
-      (own_spares w.queue s out h.receive gone here holds h.transmit sender_blocks m.both.apart e made own) up
+      (own_spares w.queue s out h.receive gone here holds h.transmit blocks m.both.apart e made own) up
   doer_stays_up (Sends Elsewhere) own others up =
       let registers = (others refl).0 in
       stays_up Elsewhere

@@ -26,7 +26,4 @@ module _ (queue : ℕ) (s t : State) where
   queues_left Tx left = transmit_left (left.transmit queue)
 
   pub left_transmit : LeavesSide Tx queue s t → LeavesTransmit queue s t
-  left_transmit left = record {
-    side = ap transmit_of left;
-    staged = ap (λ (x : Side). x.staged) left;
-  }
+  left_transmit left = record { side = ap transmit_of left; staged = ap (λ (x : Side). x.staged) left }

@@ -145,9 +145,6 @@ module _ (queue : ℕ) (q : AtPort) (frame : ℕ) (l m : Laid) (s : State) (met 
 pub left_lays : (w : Watched) (mine : Blocks) (q : AtPort) (frame : ℕ) (l : Laid) (s : State) (e : Event Block)
     → IsLeft w mine s e → LaidTo w.queue q frame l s → LeadsTo w.queue q frame l s e
 left_lays w mine q frame l s e left x = record {
-  then = record {
-    ground = ground_kept w mine q frame s e left x.ground;
-    side = left_laid w mine s e left l x.side;
-  };
+  then = record { ground = ground_kept w mine q frame s e left x.ground; side = left_laid w mine s e left l x.side };
   none = left_sends_none w mine s e left l x.side;
 }

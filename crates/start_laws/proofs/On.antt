@@ -122,15 +122,9 @@ module _ (w : Watched) (origin : State) (h : List Entry) (q : AtPort) (size fram
         let receives = (x.stand.side Rx).seen refl in
         let sends = (x.stand.side Tx).seen refl in record {
           received = unused.receive receives;
-          receives = record {
-            on = receives;
-            wanted = ap (λ (k : Side). k.wanted) (x.stand.side Rx).same;
-          };
+          receives = record { on = receives; wanted = ap (λ (k : Side). k.wanted) (x.stand.side Rx).same };
           sent = unused.transmit sends;
-          sends = record {
-            on = sends;
-            wanted = ap (λ (k : Side). k.wanted) (x.stand.side Tx).same;
-          };
+          sends = record { on = sends; wanted = ap (λ (k : Side). k.wanted) (x.stand.side Tx).same };
         }
 
     -- nothing is written of a frame that waits

@@ -54,11 +54,7 @@ sized_ring pass h size ring is lent =
     let count = sized size is in
     let some : 0 < blocks_for size = some_blocks size count.0 in
     let last = lent (blocks_for size - 1) (omega (arith, some)) in
-    record {
-      some = count.0;
-      few = count.1;
-      low = omega (arith, some, last.low);
-    }
+    record { some = count.0; few = count.1; low = omega (arith, some, last.low) }
 
 -- sides that are off aren't wanted on
 unwanted : (a b c d : Bool) → ((not a && not b) && (not c && not d)) ≡ true → (b ≡ false) × (d ≡ false)

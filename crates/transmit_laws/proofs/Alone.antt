@@ -77,8 +77,4 @@ alone_may_run w mine s v ts agreed functions lent legal alone =
 pub sent_is_prefix_where_alone : SentIsPrefixWhereAlone
 sent_is_prefix_where_alone w mine s v ts agreed functions lent legal alone =
     sent_is_prefix w.queue s v ts
-    (record {
-      agreed = agreed;
-      legal = legal;
-      may = alone_may_run w mine s v ts agreed functions lent legal alone;
-    })
+    (record { agreed = agreed; legal = legal; may = alone_may_run w mine s v ts agreed functions lent legal alone })

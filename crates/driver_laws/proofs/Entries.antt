@@ -119,9 +119,4 @@ module _ (w : Watched) (mine : Blocks) (s : State) (out : List Piece) (sent : Li
       → Meets w mine t (out ++ pieces w.queue s e) (sent ++ sent_by w.queue s e) k
   goes_on k agrees =
       let stays = (step_leads s e).stays in
-      record {
-        sound = keeps_sound s m.sound e made;
-        vfs = m.vfs ∙ sym stays.vfs;
-        both = agrees.0;
-        lent = agrees.1;
-      }
+      record { sound = keeps_sound s m.sound e made; vfs = m.vfs ∙ sym stays.vfs; both = agrees.0; lent = agrees.1 }

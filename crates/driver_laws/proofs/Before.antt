@@ -1,9 +1,8 @@
 -- Entries ahead of the place where the device agrees with both halves.
-use Rattle.std.proofs.Common.{◌≡◌, ◌≢◌, ℕ, inl, inr, ◌*◌, Bool, true, false, ◌||◌, ◌&&◌, ◌<◌, ◌≤◌, [], ◌∷◌, refl, sym, subst, arith, nat_lt}
-use Rattle.std.specs.Prelude.{◌==◌, All}
+use Rattle.std.proofs.Common.{◌≡◌, ◌≢◌, ℕ, inl, inr, ◌*◌, Bool, true, false, ◌||◌, ◌&&◌, ◌<◌, ◌≤◌, [], ◌∷◌, refl, sym, subst, nat_lt}
+use Rattle.std.specs.Prelude.{◌==◌}
 use Rattle.std.proofs.lemmas.Bool.{or_cases, or_left, or_right, and_from, eqb-false, eqb-true, eq-eqb, lt-ltb}
-use Rattle.std.proofs.lemmas.List.Elements.{All-head}
-use Rattle.driver_laws.specs.Prelude.{Block, IsEvent, State, after, reply_to, Event, Reply, Blocks, lent_by, Entry, OnlyLent, WritesNoSetting, FitsBlocks, lends, LendsNone, either}
+use Rattle.driver_laws.specs.Prelude.{Block, IsEvent, State, after, reply_to, Event, Reply, Blocks, lent_by, Entry, OnlyLent, WritesNoSetting, lends, LendsNone, either}
 use Rattle.nic_device.specs.Step.{step_of}
 use Rattle.nic_device.specs.declared.event.Event.TheVariants as event
 use Rattle.nic_device.specs.declared.event.Reply.TheVariants as reply
@@ -12,20 +11,16 @@ use Rattle.device_lock.specs.Alone.{lent_in}
 use Rattle.receive_laws.specs.HistoryLaws.Lent.{with_lent}
 use Rattle.receive_laws.proofs.HistoryLaws.Lent.{only_lent_stays}
 use Rattle.receive_laws.proofs.DeviceLaws.KeptSettings.{settings_stand}
-use Rattle.receive_laws.proofs.Waiting.{waiting_after}
+use Rattle.receive_laws.proofs.Waiting.{frames_fit}
 use Rattle.driver_laws.specs.Before.{AreShort, FramesStayShortAlong, OnlyPassLent}
 
 -- the frames that wait stay short over one event
 pub frames_stay_short : (queue most : ℕ) (s : State) (e : Event Block) → AreShort queue most s → WritesNoSetting s e
     → AreShort queue most (after s e)
 frames_stay_short queue most s e h none =
-    let limit = h.limit in
     record {
-      limit = subst (λ n. n ≤ 2048 * most) (sym (settings_stand s e none).limit) limit;
-      waiting = waiting_after (FitsBlocks queue most) s h.waiting (λ frame t low own. omega (arith, low, limit))
-          (λ w others f is fills.
-          All-head (FitsBlocks queue most) w others (subst (All (FitsBlocks queue most)) is h.waiting))
-          e none;
+      limit = subst (λ n. n ≤ 2048 * most) (sym (settings_stand s e none).limit) h.limit;
+      waiting = frames_fit queue most s h.limit h.waiting e;
     }
 
 pub frames_stay_short_along : FramesStayShortAlong

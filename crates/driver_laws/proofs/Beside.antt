@@ -100,12 +100,7 @@ all_spared queue mode None word is = tt
 all_spared queue mode (Some p) word is =
     let (set, received, sent, reset) =
     four (is_setting p.row) (is_receive p.row) (is_transmit p.row) (asks_pool_reset (row_of p.row).kind word) is in
-    record {
-      setting = set;
-      receive = λ is. cc;
-      transmit = λ is. cc;
-      pool = λ is. cc;
-    }
+    record { setting = set; receive = λ is. cc; transmit = λ is. cc; pool = λ is. cc }
 
 pub left : (w : Watched) (mode : Mode) (mine : Blocks) (e : Event Block) → IsTrue (is_harmless e)
     → LeavesRegisters w mode e × LeavesBlocks mine e

@@ -2,14 +2,12 @@
 use Rattle.std.proofs.Common.{ℕ}
 use Rattle.driver_laws.specs.Prelude.{Receive}
 use Rattle.pmd.specs.PmdRx.declared.ring.Stage.{Stage}
-use Rattle.pmd.specs.PmdRx.declared.ring.Stage.TheVariants.{Looks, Takes, Owes, Lent}
+use Rattle.pmd.specs.PmdRx.declared.ring.Stage.TheVariants.{Lent}
 use Rattle.receive_laws.specs.Steps.{Each, IfFresh}
 
 fresh_both : (stage : Stage) (P Q : ℕ → Type 0) → IfFresh stage P → IfFresh stage Q → IfFresh stage (λ b. P b × Q b)
-fresh_both Looks P Q p q = tt
-fresh_both Takes P Q p q = tt
-fresh_both Owes P Q p q = tt
 fresh_both (Lent b) P Q p q = (p, q)
+fresh_both other P Q p q = tt
 
 -- two facts of each
 pub each_both : (v : Receive) (P Q : ℕ → Type 0) → Each v P → Each v Q → Each v (λ b. P b × Q b)
@@ -21,10 +19,8 @@ each_both v P Q p q = record {
 
 fresh_all : (stage : Stage) (Q : ℕ → Type 0) (P : ℕ → ℕ → Type 0)
     → ((n : ℕ) → Q n → IfFresh stage (λ b. P b n)) → IfFresh stage (λ b. (n : ℕ) → Q n → P b n)
-fresh_all Looks Q P f = tt
-fresh_all Takes Q P f = tt
-fresh_all Owes Q P f = tt
 fresh_all (Lent b) Q P f = f
+fresh_all other Q P f = tt
 
 -- a fact of each and of all such numbers
 pub each_all : (v : Receive) (Q : ℕ → Type 0) (P : ℕ → ℕ → Type 0) → ((n : ℕ) → Q n → Each v (λ b. P b n))

@@ -3,7 +3,7 @@
 use Rattle.std.proofs.Common.{◌≡◌, ◌≢◌, ℕ, true, false, List, [], ◌++◌, refl, sym, ◌∙◌, subst}
 use Rattle.std.specs.Prelude.{IsTrue}
 use Rattle.std.proofs.lemmas.List.{append-nil}
-use Rattle.driver_laws.specs.Prelude.{Block, has_block, mode_in, IsEvent, State, after, reply_to, Event, Blocks, LeavesRegisters, LeavesBlocks, WritesOutside, call_of, Watched, Move, Accepts, Lends, Asks, Advances, Reaps, Elsewhere, has_lent, Piece, pieces, sent_by, Halves, Doer, Receives, Sends, OwnCall, after_call, is_neither, drive, Looks, Agree, IsUp}
+use Rattle.driver_laws.specs.Prelude.{Block, has_block, mode_in, IsEvent, State, after, reply_to, Event, Blocks, LeavesRegisters, LeavesBlocks, WritesOutside, call_of, Watched, Move, Elsewhere, has_lent, Piece, pieces, sent_by, Halves, Doer, Receives, Sends, OwnCall, after_call, is_neither, drive, Agree, IsUp}
 use Rattle.nic_device.specs.declared.event.Event.TheVariants as event
 use Rattle.nic_device.proofs.Steps.{step_leads, keeps_sound}
 use Rattle.pmd.specs.PmdRx.Receive as receiving
@@ -29,24 +29,14 @@ use Rattle.driver_laws.proofs.Sending.{is_elsewhere, move_spares, sender_lent, m
 -- a move is an event that writes no piece
 no_pieces : (queue : ℕ) (s : State) (h : Halves) (m : Move) (e : Event Block) → is_elsewhere m ≡ false
     → sending.IsOwn h.transmit m e → pieces queue s e ≡ []
-no_pieces queue s h (Accepts p) (event.Lend b) real own = refl
-no_pieces queue s h Lends (event.Lend b) real own = refl
-no_pieces queue s h Asks (event.Poke16 a bytes) real own = refl
-no_pieces queue s h Advances (event.Write port n word) real own = refl
-no_pieces queue s h Looks (event.Peek16 a) real own = refl
-no_pieces queue s h Reaps (event.Take n) real own = refl
 no_pieces queue s h Elsewhere e real own = cc
-no_pieces queue s h m e real own = absurd own
+no_pieces queue s h m event.RxStep real own = absurd own
+no_pieces queue s h m e real own = refl
 
 pub may_move : (queue : ℕ) (s : State) (h : Halves) (m : Move) (e : Event Block) → is_elsewhere m ≡ false
     → sending.IsOwn h.transmit m e → IsEvent e → MayMove queue h.transmit s e m
 may_move queue s h Elsewhere e real own made = cc
-may_move queue s h (Accepts p) e real own made = (own, made)
-may_move queue s h Lends e real own made = (own, made)
-may_move queue s h Asks e real own made = (own, made)
-may_move queue s h Advances e real own made = (own, made)
-may_move queue s h Looks e real own made = (own, made)
-may_move queue s h Reaps e real own made = (own, made)
+may_move queue s h m e real own made = (own, made)
 
 module _ {w : Watched} {mine : Blocks} {s : State} {out : List Piece} {sent : List (List ℕ)} {h : Halves}
     (m : Meets w mine s out sent h) (e : Event Block) (made : IsEvent e)
@@ -119,12 +109,7 @@ module _ {w : Watched} {mine : Blocks} {s : State} {out : List Piece} {sent : Li
       → Meets w mine t (out ++ pieces w.queue s e) (sent ++ sent_by w.queue s e) k
   goes_on k agrees =
       let stays = (step_leads s e).stays in
-      record {
-        sound = keeps_sound s m.sound e made;
-        vfs = m.vfs ∙ sym stays.vfs;
-        both = agrees.0;
-        lent = agrees.1;
-      }
+      record { sound = keeps_sound s m.sound e made; vfs = m.vfs ∙ sym stays.vfs; both = agrees.0; lent = agrees.1 }
 
   -- a side of the queue that is up stays so
 

@@ -1,7 +1,7 @@
 -- One call beside a driver that receives keeps it so that the frames which wait for its queue fit.
 use Rattle.std.proofs.Common.{◌≡◌, ◌==◌, ℕ, true, false, ◌&&◌, List, [], ◌∷◌, ◌++◌, length, refl, sym, ap, ◌∙◌, subst, Some}
 use Rattle.std.proofs.lemmas.Bool.{both_ways}
-use Rattle.driver_laws.specs.Prelude.{Block, row_of, asks_pool_reset, place, mode_in, named, State, after, reply_to, Event, Port, Reply, Register, Blocks, LeavesRegisters, call_of, Watched, Call, WritesNoSetting, Receive, Move, Accepts, Lends, Asks, Advances, Reaps, Elsewhere, Piece, pieces, Halves, Doer, Receives, Sends, OwnCall, after_call, is_neither, Place, Rdt, drive, Looks}
+use Rattle.driver_laws.specs.Prelude.{Block, row_of, asks_pool_reset, place, mode_in, named, State, after, reply_to, Event, Port, Reply, Register, Blocks, LeavesRegisters, call_of, Watched, Call, WritesNoSetting, Receive, Move, Advances, Elsewhere, Piece, pieces, Halves, Doer, Receives, Sends, OwnCall, after_call, is_neither, Place, Rdt, drive}
 use Rattle.nic_device.specs.DmaRing.Descriptor.{second_half}
 use Rattle.nic_device.specs.DmaRing.Receive.{is_done}
 use Rattle.nic_device.specs.RegTable.declared.rows.RowId.TheVariants.{Tdt}
@@ -87,12 +87,8 @@ module _ (w : Watched) (mine : Blocks) (s : State) (out : List Piece) (sent : Li
         plain_resets w.queue s port n word (place Tdt w.queue) 0xFFFFFFFF
         (rw (own.2, own.3) m.both.transmit.1.based.tail) refl
     move_resets Elsewhere e real own = cc
-    move_resets (Accepts p) (event.Lend b) real own = tt
-    move_resets Lends (event.Lend b) real own = tt
-    move_resets Asks (event.Poke16 a bytes) real own = tt
-    move_resets Looks (event.Peek16 a) real own = tt
-    move_resets Reaps (event.Take n) real own = tt
-    move_resets move e real own = absurd own
+    move_resets move (event.Write port n word) real own = absurd own
+    move_resets move e real own = tt
 
     none_reset : (d : Doer) (e : Event Block) → OwnCall h d (call_of e (reply_to s e))
         → (is_neither d ≡ true → LeavesRegisters w (mode_in s.registers) e) → ResetsNoPool w.queue s e

@@ -1,7 +1,7 @@
 -- One call of a driver: its reply is healthy, and what that rests on holds behind it.
 use Rattle.std.proofs.Common.{◌≡◌, ℕ, inl, inr, true, false, List, refl}
 use Rattle.std.proofs.lemmas.Bool.{or_cases, or_left, or_right}
-use Rattle.driver_laws.specs.Prelude.{Block, Memory, mode_in, IsEvent, State, after, reply_to, Event, Blocks, LeavesRegisters, call_of, Watched, WritesNoSetting, Move, Accepts, Lends, Asks, Advances, Reaps, Elsewhere, OnlyLent, Piece, Halves, Doer, Receives, Sends, OwnCall, after_call, is_neither, Looks, LendsNone, either, LendsApart}
+use Rattle.driver_laws.specs.Prelude.{Block, Memory, mode_in, IsEvent, State, after, reply_to, Event, Blocks, LeavesRegisters, call_of, Watched, WritesNoSetting, Move, Elsewhere, OnlyLent, Piece, Halves, Doer, Receives, Sends, OwnCall, after_call, is_neither, LendsNone, either, LendsApart}
 use Rattle.nic_device.specs.declared.event.Event.TheVariants as event
 use Rattle.pmd.specs.PmdTx.Sending as sending
 use Rattle.receive_laws.specs.HistoryLaws.Lent.{LendsOwn}
@@ -11,13 +11,12 @@ use Rattle.receive_laws.proofs.Healthy as receive
 use Rattle.receive_laws.proofs.Lent as receive_lent
 use Rattle.transmit_laws.specs.Healthy.{LendsAnew}
 use Rattle.transmit_laws.specs.Lent.{SparesNumbers}
-use Rattle.transmit_laws.proofs.Advancing.{setting_kept}
 use Rattle.transmit_laws.proofs.Healthy as transmit
 use Rattle.receive_laws.proofs.HistoryLaws.Leaving.{left-setting}
 use Rattle.transmit_laws.proofs.Lent as transmit_lent
 use Rattle.driver_laws.proofs.Meeting.{Meets}
 use Rattle.driver_laws.proofs.Receiving.{own_spares}
-use Rattle.driver_laws.proofs.Sending.{is_elsewhere, sender_lent}
+use Rattle.driver_laws.proofs.Sending.{is_elsewhere, move_setting, sender_lent}
 use Rattle.driver_laws.specs.Healthy.{IsHealthy, lent_by}
 
 -- what a half lends, by the kind of its call
@@ -85,27 +84,10 @@ module _ (w : Watched) (mine own : Blocks) (s : State) (out : List Piece) (sent 
     pub known_after : (d : Doer) → OwnCall h d (call_of e (reply_to s e)) → LendsApart own h d e
         → OnlyLent own (lent_by (after_call h d (call_of e (reply_to s e)))) (after s e).memory
     known_after Receives mine apart = receive_lent.own_lends_are_known.kept own tx s h.receive e known mine
-    known_after (Sends (Accepts p)) mine apart = move_known (Accepts p) mine tt
-    known_after (Sends Lends) mine apart = move_known Lends mine tt
-    known_after (Sends Asks) mine apart = move_known Asks mine tt
-    known_after (Sends Advances) mine apart = move_known Advances mine tt
-    known_after (Sends Looks) mine apart = move_known Looks mine tt
-    known_after (Sends Reaps) mine apart = move_known Reaps mine tt
     known_after (Sends Elsewhere) mine apart = move_known Elsewhere mine (lends_none own h e apart)
+    known_after (Sends move) mine apart = move_known move mine tt
 
     -- and no setting is written
-    move_setting : (move : Move) (e : Event Block) → is_elsewhere move ≡ false → sending.IsOwn h.transmit move e
-        → WritesNoSetting s e
-    move_setting (Accepts p) (event.Lend b) real mine = tt
-    move_setting Lends (event.Lend b) real mine = tt
-    move_setting Asks (event.Poke16 a bytes) real mine = tt
-    move_setting Advances (event.Write port n word) real mine =
-        setting_kept s w.queue sent h.transmit m.both.transmit.0 m.both.transmit.1 port n word mine
-    move_setting Looks (event.Peek16 a) real mine = tt
-    move_setting Reaps (event.Take n) real mine = tt
-    move_setting Elsewhere e real mine = cc
-    move_setting move e real mine = absurd mine
-
     pub no_setting : IsEvent e → (d : Doer) → OwnCall h d (call_of e (reply_to s e))
         → (is_neither d ≡ true → LeavesRegisters w (mode_in s.registers) e) → WritesNoSetting s e
     no_setting made Receives mine others =
@@ -114,4 +96,5 @@ module _ (w : Watched) (mine own : Blocks) (s : State) (out : List Piece) (sent 
         (own_spares w.queue s out h.receive gone here holds h.transmit blocks m.both.apart e made mine).setting
     no_setting made (Sends Elsewhere) mine others =
         left-setting w s m.vfs e (others refl)
-    no_setting made (Sends move) mine others = move_setting move e refl mine
+    no_setting made (Sends move) mine others =
+        move_setting s w.queue sent h.transmit m.both.transmit.0 m.both.transmit.1 move e refl mine

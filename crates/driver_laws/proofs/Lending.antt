@@ -9,7 +9,7 @@ use Rattle.nic_device.specs.declared.event.Reply.TheVariants.{Done, Twice}
 use Rattle.receive_laws.proofs.DeviceLaws.Standing.{memory_blocks}
 use Rattle.pmd.specs.PmdRx.Receive.{Layout, block_at, reach}
 use Rattle.pmd.specs.PmdRx.declared.ring.Stage.{Stage}
-use Rattle.pmd.specs.PmdRx.declared.ring.Stage.TheVariants.{Looks, Takes, Owes, Lent}
+use Rattle.pmd.specs.PmdRx.declared.ring.Stage.TheVariants.{Lent}
 use Rattle.receive_laws.specs.Joint.{StageHolds, HasSlots}
 use Rattle.receive_laws.specs.Steps.{Each, IfFresh}
 
@@ -17,10 +17,8 @@ use Rattle.receive_laws.specs.Steps.{Each, IfFresh}
 
 fresh_lent : (m : Memory) (l : Layout) (stage : Stage) → StageHolds m l stage
     → IfFresh stage (λ b. has_block m b ≡ true)
-fresh_lent m l Looks h = tt
-fresh_lent m l Takes h = tt
-fresh_lent m l Owes h = tt
 fresh_lent m l (Lent b) h = h.there
+fresh_lent m l other h = tt
 
 slot_lent : (m : Memory) (l : Layout) (here : List Piece) → HasSlots m l here → (k : ℕ) → k < length l.blocks
     → has_block m (block_at l k) ≡ true

@@ -72,11 +72,7 @@ module _ (queue : ℕ) (s : State) (out : List Piece) (v : Receive) (gone here :
   own_setting : (e : Event Block) → IsOwn v e → WritesNoSetting s e
   own_setting (event.Write port n word) own =
       plain-write s port n word (place Rdt queue) 0xFFFFFFFF (writes_tail s queue v h.named port n word own) refl
-  own_setting (event.Peek16 a) own = tt
-  own_setting (event.Take n) own = tt
-  own_setting (event.Lend b) own = tt
-  own_setting (event.Poke16 a bytes) own = tt
-  own_setting e own = absurd own
+  own_setting e own = tt
 
   own_side : (e : Event Block) → IsOwn v e → LeavesTransmit queue s (after s e)
   own_side (event.Write port n word) own =

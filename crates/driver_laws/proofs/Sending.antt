@@ -94,15 +94,11 @@ module _ (s : State) (queue : ℕ) (sent : List (List ℕ)) (u : Sender) (f : �
     move_leaves Elsewhere e real own = cc
     move_leaves m e real own = absurd own
 
-  move_setting : (m : Move) (e : Event Block) → is_elsewhere m ≡ false → IsOwn u m e → WritesNoSetting s e
-  move_setting (Accepts p) (event.Lend b) real own = tt
-  move_setting Lends (event.Lend b) real own = tt
-  move_setting Asks (event.Poke16 a bytes) real own = tt
+  pub move_setting : (m : Move) (e : Event Block) → is_elsewhere m ≡ false → IsOwn u m e → WritesNoSetting s e
   move_setting Advances (event.Write port n word) real own = setting_kept s queue sent u f h port n word own
-  move_setting Looks (event.Peek16 a) real own = tt
-  move_setting Reaps (event.Take n) real own = tt
   move_setting Elsewhere e real own = cc
-  move_setting m e real own = absurd own
+  move_setting m (event.Write port n word) real own = absurd own
+  move_setting m e real own = tt
 
   pub move_side : (m : Move) (e : Event Block) → is_elsewhere m ≡ false → IsOwn u m e
       → LeavesReceive queue s (after s e)

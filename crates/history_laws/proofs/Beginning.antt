@@ -66,7 +66,7 @@ beginning_alone w s g h alone before e after split begun =
 
 -- what is behind
 
-lent_behind : (pass n : ℕ) (g h : List Entry) → IsTrue (lent_by pass h n) → IsTrue (lent_by pass (g ++ h) n)
+pub lent_behind : (pass n : ℕ) (g h : List Entry) → IsTrue (lent_by pass h n) → IsTrue (lent_by pass (g ++ h) n)
 lent_behind pass n [] h is = is
 lent_behind pass n (e ∷ g) h is = or_right _ _ (lent_behind pass n g h is)
 

@@ -1,7 +1,7 @@
 -- A step of transmitting, by what it rests on: only where the queue isn't silent is a slot fetched.
 use Rattle.std.proofs.Common.{◌≡◌, ℕ, ◌<◌, inl, inr, Bool, true, false, not, ◌||◌, List, [], length, map, refl, ap, ◌∙◌, subst, arith, Option, Some, None, Ok, Err}
 use Rattle.std.specs.Prelude.{Result, IsFalse}
-use Rattle.std.proofs.lemmas.Bool.{cases_Bool, eq-eqb, lt-ltb}
+use Rattle.std.proofs.lemmas.Bool.{cases_Bool, eq-eqb, lt-ltb, not-false, or_parts}
 use Rattle.std.proofs.lemmas.List.{drop_all}
 use Rattle.nic_device.specs.DmaArena.Block.{Block}
 use Rattle.nic_device.specs.DmaRing.declared.dir.Dir.TheVariants.{Tx}
@@ -35,13 +35,10 @@ took queue s t f None tells = tells.0
 
 -- a queue that isn't silent is on, and its ring isn't empty
 loud_parts : (a b c on e f : Bool) → (a || b || c || not on || e || f) ≡ false → (on ≡ true) × (f ≡ false)
-loud_parts false false false true false false h = (refl, refl)
-loud_parts false false false true false true h = cc
-loud_parts false false false true true f h = cc
-loud_parts false false false false e f h = cc
-loud_parts false false true on e f h = cc
-loud_parts false true c on e f h = cc
-loud_parts true b c on e f h = cc
+loud_parts a b c on e f h =
+    let last = or_parts (a || b || c || not on || e) f h in
+    let rest = or_parts (a || b || c || not on) e last.0 in
+    (not-false on (or_parts (a || b || c) (not on) rest.0).1, last.1)
 
 module _ (queue : ℕ) (s : State) (sound : IsSound s) (small : queue < 128) where
   abbrev t : State

@@ -24,4 +24,5 @@ pub mod Sparing
 pub mod Steady
 pub mod Switching
 pub mod Tails
+pub mod Waits
 pub mod Written

@@ -25,11 +25,5 @@ module _ (queue : ℕ) (s t : State) where
   queues_left Rx left = receive_left (left.receive queue)
   queues_left Tx left = transmit_left (left.transmit queue)
 
-  pub left_receive : LeavesSide Rx queue s t → LeavesReceive queue s t
-  left_receive left = ap receive_of left
-
   pub left_transmit : LeavesSide Tx queue s t → LeavesTransmit queue s t
-  left_transmit left = record {
-    side = ap transmit_of left;
-    staged = ap (λ (x : Side). x.staged) left;
-  }
+  left_transmit left = record { side = ap transmit_of left; staged = ap (λ (x : Side). x.staged) left }

@@ -93,11 +93,7 @@ module _ (dir : Dir) (queue : ℕ) (s : State) (e : Event Block) where
 -- a side that isn't wanted on stays so, and one that is off besides
 
 pub unwanted_steady : IsSteady IsUnwanted
-unwanted_steady = record {
-  takes = λ x staged tried is. is;
-  shuts = λ x tried is. refl;
-  switches = λ x is. is;
-}
+unwanted_steady = record { takes = λ x staged tried is. is; shuts = λ x tried is. refl; switches = λ x is. is }
 
 pub off_idle : IsIdle IsOff
 off_idle = record {

@@ -99,7 +99,8 @@ all_shown (r ∷ rs) row a p none is same =
           let found : place_in r a ≡ p =
           Some_one (sym (cond-true (has_address r a) (Some (place_in r a)) (place_among rs a) here) ∙ is) in
           let own : r.row ≡ row = ap (λ (q : Place). q.row) found ∙ same in
-          let whole : r.low ≡ false = shown_whole r.low _ x.0 (eq-eqb (number_of r.row) (number_of row) (ap number_of own)) in
+          let whole : r.low ≡ false =
+          shown_whole r.low _ x.0 (eq-eqb (number_of r.row) (number_of row) (ap number_of own)) in
           cond-true (has_address r a) (if r.low then 0xFFFF else 0xFFFFFFFF) (view_among rs a) here
           ∙ cond-false r.low 0xFFFF 0xFFFFFFFF whole
       | inr there ↦

@@ -21,25 +21,11 @@ pub record Side : Type 0 where
 
 abbrev pub receive_side : ReceiveQueue → Side
 receive_side q =
-    record {
-      ring = q.ring;
-      control = q.control;
-      writeback = None;
-      staged = [];
-      on = q.on;
-      wanted = q.wanted;
-    }
+    record { ring = q.ring; control = q.control; writeback = None; staged = []; on = q.on; wanted = q.wanted }
 
 abbrev pub transmit_side : TransmitQueue → List ℕ → Side
 transmit_side q staged =
-    record {
-      ring = q.ring;
-      control = 0;
-      writeback = q.writeback;
-      staged = staged;
-      on = q.on;
-      wanted = q.wanted;
-    }
+    record { ring = q.ring; control = 0; writeback = q.writeback; staged = staged; on = q.on; wanted = q.wanted }
 
 abbrev pub side_of : Dir → ℕ → State → Side
 side_of Rx queue s = receive_side (receive_queue_of s.registers queue)

@@ -1,7 +1,6 @@
 -- What the driver handed out, and what a history from any sound device on delivered.
+pub use Rattle.history_laws.proofs.Beginning.{lent_behind}
 use Rattle.std.proofs.Common.{◌≡◌, ℕ, Bool, true, false, List, [], ◌∷◌, ◌++◌, Option, None, length, cond, refl, sym, ap, ◌∙◌, subst, append_assoc, arith}
-use Rattle.std.specs.Prelude.{IsTrue}
-use Rattle.std.proofs.lemmas.Bool.{or_right}
 use Rattle.std.proofs.lemmas.List.{append-nil, length-append, nil_from_length}
 use Rattle.nic_device.specs.State.{State}
 use Rattle.nic_device.specs.Step.{after}
@@ -28,10 +27,6 @@ pub since-append : (queue : ℕ) (s : State) (so_far : Option (List Piece)) (g h
     → pieces_since queue s so_far (g ++ h) ≡ pieces_since queue (leads_to s g) (pieces_since queue s so_far g) h
 since-append queue s so_far [] h = refl
 since-append queue s so_far (e ∷ g) h = since-append queue (after s e.event) _ g h
-
-pub lent_behind : (pass n : ℕ) (g h : List Entry) → IsTrue (lent_by pass h n) → IsTrue (lent_by pass (g ++ h) n)
-lent_behind pass n [] h is = is
-lent_behind pass n (e ∷ g) h is = or_right _ _ (lent_behind pass n g h is)
 
 pub image_stays : (s : State) (h : List Entry) → (leads_to s h).image ≡ s.image
 image_stays s [] = refl

@@ -2,23 +2,19 @@
 use Rattle.std.proofs.Common.{ℕ, ◌+◌, ◌<◌, length, subst}
 use Rattle.pmd_rx.specs.Receive.{Receive, block_at, reach}
 use Rattle.pmd_rx.specs.declared.ring.Stage.{Stage}
-use Rattle.pmd_rx.specs.declared.ring.Stage.TheVariants.{Looks, Takes, Owes, Lent}
+use Rattle.pmd_rx.specs.declared.ring.Stage.TheVariants.{Lent}
 use Rattle.receive_laws.specs.Steps.{Each, IfFresh}
 use Rattle.receive_laws.proofs.Reach.{posted_below, posted_block}
 
 -- the blocks that the driver has lent
 
 fresh_map : (stage : Stage) (P Q : ℕ → Type 0) → ((b : ℕ) → P b → Q b) → IfFresh stage P → IfFresh stage Q
-fresh_map Looks P Q f h = tt
-fresh_map Takes P Q f h = tt
-fresh_map Owes P Q f h = tt
 fresh_map (Lent b) P Q f h = f b h
+fresh_map other P Q f h = tt
 
 fresh_of : (stage : Stage) (P : ℕ → Type 0) → ((b : ℕ) → P b) → IfFresh stage P
-fresh_of Looks P f = tt
-fresh_of Takes P f = tt
-fresh_of Owes P f = tt
 fresh_of (Lent b) P f = f b
+fresh_of other P f = tt
 
 pub each_map : (v : Receive) (P Q : ℕ → Type 0) → ((b : ℕ) → P b → Q b) → Each v P → Each v Q
 each_map v P Q f e = record {

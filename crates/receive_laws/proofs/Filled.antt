@@ -14,7 +14,7 @@ use Rattle.history_laws.specs.Segments.{piece_in}
 use Rattle.pmd_rx.specs.PmdSeam.Slots.{is_ring_block}
 use Rattle.pmd_rx.specs.Receive.{Layout, slot_at, descriptor_at, block_at}
 use Rattle.pmd_rx.specs.declared.ring.Stage.{Stage}
-use Rattle.pmd_rx.specs.declared.ring.Stage.TheVariants.{Looks, Takes, Owes, Lent}
+use Rattle.pmd_rx.specs.declared.ring.Stage.TheVariants.{Lent}
 use Rattle.receive_laws.specs.Joint.{IsPosted, IsFilled, IsRing, StageHolds}
 use Rattle.receive_laws.specs.Pieces.{Piece}
 use Rattle.receive_laws.proofs.Kept.{IsPosted-kept, IsFilled-kept, IsLoose-kept, slot_below}
@@ -96,7 +96,5 @@ module _ (l : Layout) (ring : IsRing l) (m n : Memory) (at : ℕ) (p : Piece) (r
       (other_bytes b (length q.bytes) not_ring apart h.short) (f.lent b) h
 
   pub stage_beside : (stage : Stage) → StageHolds m l stage → StageHolds n l stage
-  stage_beside Looks h = tt
-  stage_beside Takes h = tt
-  stage_beside Owes h = tt
   stage_beside (Lent b) h = IsLoose-kept m n l b (f.lent b) h
+  stage_beside other h = tt

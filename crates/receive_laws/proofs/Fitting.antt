@@ -1,5 +1,5 @@
 -- Frames that fit as many slots as the driver takes for a packet stay so, and the pieces that are written of them fit.
-use Rattle.std.proofs.Common.{◌≡◌, ◌≢◌, ℕ, ◌+◌, ◌*◌, ◌-◌, ◌<◌, ◌≤◌, inl, inr, Bool, true, false, ◌&&◌, min, cond, List, [], ◌∷◌, ◌++◌, length, take, drop, refl, sym, ap, ◌∙◌, subst, arith, nat_lt, Ok, Err}
+use Rattle.std.proofs.Common.{◌≡◌, ◌≢◌, ℕ, ◌+◌, ◌*◌, ◌-◌, ◌<◌, ◌≤◌, inl, inr, Bool, true, false, ◌&&◌, min, cond, List, [], ◌∷◌, ◌++◌, length, take, drop, refl, sym, ap, ◌∙◌, subst, arith, Ok, Err}
 use Rattle.std.specs.Prelude.{◌==◌, Result, All, filter, not}
 use Rattle.std.proofs.lemmas.Bool.{cond_both, cases_eq, cases_lt, and_parts, eqb-true, eq-eqb, ne_eqb, both_ways}
 use Rattle.std.proofs.lemmas.List.{append-nil, length-take, length-drop}
@@ -7,25 +7,17 @@ use Rattle.std.proofs.lemmas.List.Elements.{All-head, All-filter}
 use Rattle.nic_device.specs.DmaArena.Block.{Block}
 use Rattle.nic_device.specs.DmaArena.Memory.{Memory}
 use Rattle.nic_device.specs.DmaRing.declared.fault.RingFault.{RingFault}
-use Rattle.nic_device.specs.DmaRing.declared.dir.Dir.TheVariants.{Rx, Tx}
-use Rattle.nic_device.specs.RegTable.Rows.{row_of}
-use Rattle.nic_device.specs.RegTable.declared.place.Place.{Place}
+use Rattle.nic_device.specs.DmaRing.declared.dir.Dir.TheVariants.{Rx}
 use Rattle.nic_device.specs.VfMap.Owner.{has_queue}
-use Rattle.nic_device.specs.RegisterFile.Access.{asks_pool_reset}
 use Rattle.nic_device.specs.RegisterFile.Pools.{mode_in}
 use Rattle.nic_device.specs.RegisterFile.Queue.{is_on}
 use Rattle.nic_device.specs.RegisterFile.Registers.{is_wanted}
-use Rattle.nic_device.specs.RegisterFile.Settings.{can_receive, frame_limit, drops}
+use Rattle.nic_device.specs.RegisterFile.Settings.{drops}
 use Rattle.nic_device.specs.RegisterLaws.Sides.{receive_queue_of}
-use Rattle.nic_device.specs.RxFilter.Sorting.{sorted}
-use Rattle.nic_device.specs.RxFilter.declared.target.Target.{Target}
-use Rattle.nic_device.specs.RxFilter.declared.unwanted.Unwanted.{Unwanted}
 use Rattle.nic_device.specs.RxRing.declared.filled.Filled.{Filled}
 use Rattle.nic_device.specs.RxRing.Control.{buffer_size_of}
 use Rattle.nic_device.proofs.RxRing.Fills.{takes_piece}
-use Rattle.nic_device.specs.Access.{named_written}
-use Rattle.nic_device.specs.Arrival.{let_in, sorted_in}
-use Rattle.nic_device.specs.Named.{named}
+use Rattle.nic_device.specs.Arrival.{let_in}
 use Rattle.nic_device.specs.Outcome.{Outcome}
 use Rattle.nic_device.specs.Receive as receive
 use Rattle.nic_device.specs.Receive.{rest_of}
@@ -35,37 +27,24 @@ use Rattle.nic_device.specs.Step.{step_of, after}
 use Rattle.nic_device.specs.Switching.{without_part}
 use Rattle.nic_device.specs.declared.event.Event.{Event}
 use Rattle.nic_device.specs.declared.event.Event.TheVariants as event
-use Rattle.nic_device.specs.declared.event.Port.{Port}
-use Rattle.nic_device.specs.declared.named.Named.{Named}
-use Rattle.nic_device.specs.declared.named.Named.TheVariants.{Nothing, Register}
-use Rattle.nic_device.proofs.Cases.{either_way, switched_cases}
+use Rattle.nic_device.proofs.Cases.{either_way}
 use Rattle.nic_device.proofs.QueueCases.{filled_by}
-use Rattle.history_laws.specs.DeviceLaws.Laws.{WritesNoSetting, IsOfNoSetting}
+use Rattle.history_laws.specs.DeviceLaws.Laws.{WritesNoSetting}
 use Rattle.history_laws.specs.DeviceLaws.Laws.{piece_of}
 use Rattle.history_laws.proofs.DeviceLaws.KeptSettings.{settings_stand}
 use Rattle.history_laws.proofs.DeviceLaws.Settings.{no_reset}
-use Rattle.history_laws.proofs.DeviceLaws.Standing.{stays_within}
-use Rattle.history_laws.proofs.DeviceLaws.StandingAccesses.{read_rest}
+use Rattle.history_laws.proofs.Waits.{Changes, waiting_changed}
 use Rattle.pmd_rx.specs.Receive.{Receive}
 use Rattle.receive_laws.specs.Fitting.{FitsBlocks, begun_on, AreFitting, ResetsNoPool, FramesStayFitting, NoneBegunWhileOff}
 use Rattle.receive_laws.specs.Joint.{Holds}
 use Rattle.receive_laws.specs.Pieces.{Piece, Fits, AllFit, open_after, first_of, pieces, pieces_told}
 use Rattle.receive_laws.specs.Up.{IsUp}
+use Rattle.receive_laws.proofs.Begun.{either_zero, unbegun_none}
 use Rattle.receive_laws.proofs.Parts.{open_pushed}
 use Rattle.receive_laws.proofs.Receiving.{room_left, no_fault}
-use Rattle.receive_laws.proofs.Up.{enable_same}
-use Rattle.receive_laws.proofs.Waiting.{waiting_after}
+use Rattle.receive_laws.proofs.Waiting.{frames_fit}
 
 -- the frame that waits first, in lists
-
-either_zero : (b : Bool) → let z : ℕ = 0 in cond b z z ≡ z
-either_zero true = refl
-either_zero false = refl
-
-unbegun_none : (queue : ℕ) (ws : List Waiting) → All IsUnbegun ws → begun_on queue ws ≡ 0
-unbegun_none queue [] none = refl
-unbegun_none queue (w ∷ others) none =
-    ap (λ (n : ℕ). cond (w.queue == queue) n 0) (All-head IsUnbegun w others none).none ∙ either_zero (w.queue == queue)
 
 other_first : (queue : ℕ) (w : Waiting) (others : List Waiting) → (w.queue == queue) ≡ false
     → begun_on queue (w ∷ others) ≡ 0
@@ -278,93 +257,37 @@ module _ (queue most : ℕ) (s : State) (out : List Piece) (v : Receive) (gone h
 
   -- any other event
 
-  abbrev Same : Outcome → Type 0
-  Same o = begun_on queue o.state.waiting ≡ begun_on queue s.waiting
+  abbrev Same : List Waiting → Type 0
+  Same ws = begun_on queue ws ≡ begun_on queue s.waiting
 
-  filtered : (p : Place) → has_queue (mode_in s.registers) p.index queue ≡ false
-      → begun_on queue (filter (λ (w : Waiting). not (has_queue (mode_in s.registers) p.index w.queue)) s.waiting)
-      ≡ begun_on queue s.waiting
-  filtered p none =
-      begun-filter queue (λ (w : Waiting). not (has_queue (mode_in s.registers) p.index w.queue)) s.waiting
-      sound.waiting
-      (λ x own. ap not (ap (λ (q : ℕ). has_queue (mode_in s.registers) p.index q) own ∙ none))
-
-  written : (word : ℕ) (m : Named) → ((p : Place) (view : ℕ) → m ≡ Register p view → IsOfNoSetting p)
-      → ((p : Place) (view : ℕ) → m ≡ Register p view → asks_pool_reset (row_of p.row).kind word ≡ true
-      → has_queue (mode_in s.registers) p.index queue ≡ false)
-      → Same (named_written s m word)
-  written word (Nothing seen) none spares = refl
-  written word (Register p view) none spares =
-      rw (no_reset p.row word (none p view refl).control)
-      (cond_both (asks_pool_reset (row_of p.row).kind word) _ _
-      (λ (t : State). begun_on queue t.waiting ≡ begun_on queue s.waiting)
-      (λ asks. filtered p (spares p view refl asks)) (λ no. refl))
-
-  written_here : (port : Port) (n word : ℕ) → WritesNoSetting s (event.Write port n word)
-      → ResetsNoPool queue s (event.Write port n word) → Same (step_of s (event.Write port n word))
-  unfolding step_of
-  written_here port n word none spares = written word (named s port n) none spares
-
-  sorted_wait : (frame : List ℕ) (answer : Result Target Unwanted) → Same (sorted_in s frame answer)
-  sorted_wait frame (Ok t) =
-      either_way Same (nat_lt (length s.waiting) s.fifo) _ _
-      (begun-push queue s.waiting (let_in frame t) refl) refl
-  sorted_wait frame (Err why) = refl
-
-  arrived : (frame : List ℕ) → Same (step_of s (event.Arrive frame))
-  unfolding step_of
-  arrived frame =
-      either_way Same s.link _ _
-      (either_way Same (can_receive s.registers) _ _
-      (either_way Same (nat_lt (length frame) 60) _ _ refl
-      (either_way Same (nat_lt (frame_limit s.registers) (length frame)) _ _ refl
-      (sorted_wait frame (sorted s.registers frame)))) refl) refl
-
-  switched : (on : ℕ) → on ≢ queue → Same (step_of s (event.QueueStep Rx on))
-  unfolding step_of
-  switched on ne =
-      switched_cases Same s Rx on refl refl
-      (either_way (λ (t : State). begun_on queue t.waiting ≡ begun_on queue s.waiting) (is_wanted s.registers Rx on) _ _
-      refl (begun-parted queue on s.waiting sound.waiting ne))
-
-  same : (e : Event Block) → (after s e).waiting ≡ s.waiting → Same (step_of s e)
-  same e is = ap (λ (ws : List Waiting). begun_on queue ws) is
-
-  switched_any : (on : ℕ) → Same (step_of s (event.QueueStep Rx on))
-  switched_any on = elim (cases_eq on queue) [
-    | inl own ↦
-        same (event.QueueStep Rx on)
-        (ap (λ (q : ℕ). (after s (event.QueueStep Rx q)).waiting) own
-        ∙ ap (λ (t : State). t.waiting) (enable_same queue s up))
-    | inr ne ↦ switched on ne
-  ]
+  changes : (e : Event Block) → ◌≢◌ {A = Event Block} e event.RxStep → WritesNoSetting s e → ResetsNoPool queue s e
+      → Changes Same s e
+  changes event.RxStep other none spares = absurd (other refl)
+  changes (event.Write port n word) other none spares = λ p view is. record {
+    device = λ asks. absurd (both_ways _ (no_reset p.row word (none p view is).control) asks);
+    pool = λ asks.
+        begun-filter queue (λ (w : Waiting). not (has_queue (mode_in s.registers) p.index w.queue)) s.waiting
+        sound.waiting
+        (λ x own. ap not (ap (λ (q : ℕ). has_queue (mode_in s.registers) p.index q) own ∙ spares p view is asks));
+  }
+  changes (event.Arrive frame) other none spares = λ t low. begun-push queue s.waiting (let_in frame t) refl
+  changes (event.QueueStep Rx on) other none spares = λ off.
+      begun-parted queue on s.waiting sound.waiting
+      (λ own. both_ways _ (subst (λ (q : ℕ). is_wanted s.registers Rx q ≡ false) own off) up.wanted)
+  changes e other none spares = tt
 
   stays : (e : Event Block) → WritesNoSetting s e → ResetsNoPool queue s e
       → Goes (after s e).waiting (pieces queue s e)
   stays event.RxStep none spares = received
-  stays (event.Read port n) none spares =
-      none_written (after s (event.Read port n)).waiting
-      (same (event.Read port n) (read_rest s port n).frames.waiting)
-  stays (event.Write port n word) none spares =
-      none_written (after s (event.Write port n word)).waiting (written_here port n word none spares)
-  stays (event.Arrive frame) none spares = none_written (after s (event.Arrive frame)).waiting (arrived frame)
-  stays (event.QueueStep Rx on) none spares =
-      none_written (after s (event.QueueStep Rx on)).waiting (switched_any on)
-  stays (event.QueueStep Tx on) none spares =
-      none_written (after s (event.QueueStep Tx on)).waiting
-      (same (event.QueueStep Tx on) ((stays_within s (event.QueueStep Tx on)).waiting refl))
-  stays e none spares = none_written (after s e).waiting (same e ((stays_within s e).waiting refl))
+  stays e none spares =
+      none_written (after s e).waiting (waiting_changed Same s refl e (changes e (λ is. cc) none spares))
 
 pub frames_stay_fitting : FramesStayFitting
 frames_stay_fitting queue most s out v e sound (gone, here, h) up fit none spares =
-    let limit = fit.limit in
     let goes = stays queue most s out v gone here sound h up fit e none spares in
     record {
-      limit = subst (λ n. n ≤ 2048 * most) (sym (settings_stand s e none).limit) limit;
-      waiting = waiting_after (FitsBlocks queue most) s fit.waiting (λ frame t low own. omega (arith, low, limit))
-          (λ w others f is fills.
-          All-head (FitsBlocks queue most) w others (subst (All (FitsBlocks queue most)) is fit.waiting))
-          e none;
+      limit = subst (λ n. n ≤ 2048 * most) (sym (settings_stand s e none).limit) fit.limit;
+      waiting = frames_fit queue most s fit.limit fit.waiting e;
       begun = goes.0;
       pieces = goes.1;
     }

@@ -13,7 +13,7 @@ use Rattle.pmd_rx.specs.Keeping.{fresh_block, has_lent}
 use Rattle.pmd_rx.proofs.PmdSeam.Rings.{ring_block_among}
 use Rattle.pmd_rx.specs.Receive.{Receive, MayLend, CanLend, HasLent, LendsNext, PeeksNext, TakesNext, NamesNext, fresh_of, is_part, next_stage, reach, looked, took, lent_one, names, posts, posts_one, posts_all, parts_first, tail_behind, moved}
 use Rattle.pmd_rx.specs.declared.ring.Stage.{Stage}
-use Rattle.pmd_rx.specs.declared.ring.Stage.TheVariants.{Looks, Takes, Owes, Lent}
+use Rattle.pmd_rx.specs.declared.ring.Stage.TheVariants.{Looks, Takes, Lent}
 use Rattle.pmd_rx.specs.declared.ring.Told.{Told}
 use Rattle.receive_laws.proofs.Reach.{posts_blocks}
 
@@ -75,10 +75,8 @@ module _ (v : Receive) (n : ℕ) where
       (ap fresh_block own.stage ∙ sym (looked_fresh (ends_packet (second_half d))))) (λ has. has)
 
   lent_block : (stage : Stage) → HasLent stage → fresh_block stage ≡ fresh_of stage ∷ []
-  lent_block Looks lent = absurd lent
-  lent_block Takes lent = absurd lent
-  lent_block Owes lent = absurd lent
   lent_block (Lent b) lent = refl
+  lent_block other lent = absurd lent
 
   next_fresh : (seen : List Told) → fresh_block (next_stage seen) ≡ []
   next_fresh [] = refl
@@ -141,10 +139,8 @@ module _ (v : Receive) (n : ℕ) where
   ]
 
   pub lend_block : (stage : Stage) (seen : List Told) → CanLend stage seen → fresh_block stage ≡ []
-  lend_block Looks seen can = refl
-  lend_block Takes seen can = absurd can
-  lend_block Owes seen can = refl
   lend_block (Lent b) seen can = absurd can
+  lend_block other seen can = refl
 
   pub has_lent_one : (b : Block) → LendsNext v b → (n == b.number || has_lent v n) ≡ true
       → has_lent (lent_one v b.number) n ≡ true

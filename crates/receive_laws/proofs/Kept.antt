@@ -12,7 +12,7 @@ use Rattle.history_laws.proofs.SideNames.{named-same}
 use Rattle.pmd_rx.specs.PmdSeam.Slots.{EachRingBlock}
 use Rattle.pmd_rx.specs.Receive.{Layout, slot_at, descriptor_at, block_at}
 use Rattle.pmd_rx.specs.declared.ring.Stage.{Stage}
-use Rattle.pmd_rx.specs.declared.ring.Stage.TheVariants.{Looks, Takes, Owes, Lent}
+use Rattle.pmd_rx.specs.declared.ring.Stage.TheVariants.{Lent}
 use Rattle.receive_laws.specs.Joint.{IsPosted, IsFilled, IsRing, IsNamed, IsLoose, StageHolds, HasSlots}
 use Rattle.receive_laws.specs.Pieces.{Piece, piece_at}
 use Rattle.receive_laws.specs.Steps.{IfFresh}
@@ -111,10 +111,8 @@ module _ (l : Layout) (m n : Memory) (ring : IsRing l) (same : SameRing l m n) w
 
   pub stage_kept : (stage : Stage) → IfFresh stage (λ b. map.get n b ≡ map.get m b) → StageHolds m l stage
       → StageHolds n l stage
-  stage_kept Looks fresh h = tt
-  stage_kept Takes fresh h = tt
-  stage_kept Owes fresh h = tt
   stage_kept (Lent b) fresh h = IsLoose-kept m n l b (same_has m n b fresh) h
+  stage_kept other fresh h = tt
 
 -- numbers name what they named where the mode and the number of functions are the same
 pub named_kept : (s t : State) (queue : ℕ) (l : Layout) → mode_in t.registers ≡ mode_in s.registers → t.vfs ≡ s.vfs

@@ -71,11 +71,7 @@ module _ (own others : Blocks) (s : State) (v : Receive)
     lends_anew (event.Lend b) may is =
         only_lent_stays.anew own (either (has_lent v) others) s b only is.0
         (or_from (has_lent v b.number) (others b.number) (fresh_unknown b may) is.1)
-    lends_anew (event.Take n) may is = tt
-    lends_anew (event.Peek16 a) may is = tt
-    lends_anew (event.Poke16 a bytes) may is = tt
-    lends_anew (event.Write port number word) may is = tt
-    lends_anew e may is = absurd may
+    lends_anew e may is = tt
 
 pub own_lends_are_known : OwnLendsAreKnown
 own_lends_are_known = record {

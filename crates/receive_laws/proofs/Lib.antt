@@ -1,6 +1,7 @@
 pub use Rattle.history_laws.proofs.DeviceLaws
 pub use Rattle.history_laws.proofs as HistoryLaws
 pub mod Advancing
+pub mod Begun
 pub mod Clear
 pub mod Consuming
 pub mod Delivering

@@ -12,7 +12,7 @@ use Rattle.nic_device.specs.declared.event.Reply.TheVariants as reply
 use Rattle.device_lock.specs.Alone.{Blocks}
 use Rattle.pmd_rx.specs.Receive.{Layout, Receive, IsOwn, HasLent, block_at, fresh_of, is_part, next_stage, parts_first, tail_behind, reach, drive, names, posts, posts_one, posts_all, saw, took}
 use Rattle.pmd_rx.specs.declared.ring.Stage.{Stage}
-use Rattle.pmd_rx.specs.declared.ring.Stage.TheVariants.{Looks, Takes, Owes, Lent}
+use Rattle.pmd_rx.specs.declared.ring.Stage.TheVariants.{Looks, Takes, Lent}
 use Rattle.pmd_rx.specs.declared.ring.Told.{Told}
 use Rattle.receive_laws.specs.Steps.{Each, IfFresh}
 use Rattle.receive_laws.proofs.Reach.{push_place, drop_place, names_reach, posts_reach}
@@ -51,10 +51,8 @@ module _ (mine : Blocks) (v : Receive) (m : Mine mine v) where
   }
 
   lent_is : (stage : Stage) → HasLent stage → IfFresh stage (λ b. IsTrue (mine b)) → IsTrue (mine (fresh_of stage))
-  lent_is Looks lent is = absurd lent
-  lent_is Takes lent is = absurd lent
-  lent_is Owes lent is = absurd lent
   lent_is (Lent b) lent is = is
+  lent_is other lent is = absurd lent
 
   next_is : (seen : List Told) → IfFresh (next_stage seen) (λ b. IsTrue (mine b))
   next_is [] = tt

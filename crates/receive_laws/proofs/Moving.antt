@@ -120,12 +120,7 @@ over_all : (v : Receive) (blocks packets word : ℕ) (w : Receive) → length v.
     → word ≡ tail_behind v.layout (length v.named) → w ≡ posts v blocks packets → IsMoved v word w
 over_all v blocks packets word w all is same =
     let e : many v blocks ≡ length v.named = ap (λ (bs : List ℕ). length bs) (take_all blocks v.named all) in
-    record {
-      blocks = blocks;
-      packets = packets;
-      word_is = is ∙ ap (tail_behind v.layout) (sym e);
-      driver = same;
-    }
+    record { blocks = blocks; packets = packets; word_is = is ∙ ap (tail_behind v.layout) (sym e); driver = same }
 
 over_one : (v : Receive) (word : ℕ) → word ≡ tail_behind v.layout (parts_first v.whole) → IsWord v word
     → (length v.named < parts_first v.whole) ⊎ (parts_first v.whole ≤ length v.named)

@@ -19,7 +19,7 @@ use Rattle.pmd_rx.specs.PmdSeam.Slots.{is_ring_block}
 use Rattle.pmd_rx.specs.PmdSeam.declared.packet.Packet.{Packet}
 use Rattle.pmd_rx.specs.Receive.{Layout, Receive, NamesNext, HasLent, fresh_of, slot_at, descriptor_at, block_at, vacant, extended, reach, naming, names, next_stage, ended_of, left_of, records_of, drive}
 use Rattle.pmd_rx.specs.declared.ring.Stage.{Stage}
-use Rattle.pmd_rx.specs.declared.ring.Stage.TheVariants.{Looks, Takes, Owes, Lent}
+use Rattle.pmd_rx.specs.declared.ring.Stage.TheVariants.{Looks, Lent}
 use Rattle.pmd_rx.specs.declared.ring.Told.{Told}
 use Rattle.receive_laws.specs.Joint.{IsPosted, IsRing, IsLoose, StageHolds, HasSlots, InOrder, Agree, packets_had}
 use Rattle.receive_laws.specs.Pieces.{Piece, packets_behind, piece_at}
@@ -96,16 +96,12 @@ module _ (m : Memory) (l : Layout) (here : List Piece) (ring : IsRing l) (h : Ha
 
 loose_of : (m : Memory) (l : Layout) (stage : Stage) → HasLent stage → StageHolds m l stage
     → IsLoose m l (fresh_of stage)
-loose_of m l Looks lent h = absurd lent
-loose_of m l Takes lent h = absurd lent
-loose_of m l Owes lent h = absurd lent
 loose_of m l (Lent b) lent h = h
+loose_of m l other lent h = absurd lent
 
 not_looks : (stage : Stage) (seen : List Told) → HasLent stage → stage ≡ Looks → seen ≡ []
-not_looks Looks seen lent is = absurd lent
-not_looks Takes seen lent is = absurd lent
-not_looks Owes seen lent is = absurd lent
 not_looks (Lent b) seen lent is = cc
+not_looks other seen lent is = absurd lent
 
 next_holds : (m : Memory) (l : Layout) (seen : List Told) → StageHolds m l (next_stage seen)
 next_holds m l [] = tt

@@ -9,7 +9,7 @@ use Rattle.pmd_rx.specs.PmdSeam.declared.packet.Packet.{Packet}
 use Rattle.pmd_rx.proofs.PmdSeam.Copying.{bytes-more}
 use Rattle.pmd_rx.specs.Receive.{Receive, no_packet, joined, took, ended_of, if_any, left_of, next_stage, records_of}
 use Rattle.pmd_rx.specs.declared.ring.Stage.{Stage}
-use Rattle.pmd_rx.specs.declared.ring.Stage.TheVariants.{Looks, Takes, Owes, Lent}
+use Rattle.pmd_rx.specs.declared.ring.Stage.TheVariants.{Looks, Takes}
 use Rattle.pmd_rx.specs.declared.ring.Told.{Told}
 use Rattle.receive_laws.specs.Joint.{Saw, AreSeen, IsOpen, AreOpen, EndLast, IsAt, AreCut, InOrder, packets_had}
 use Rattle.receive_laws.specs.Pieces.{Piece, packet_told, packets_of, packets_behind, open_after, piece_at}
@@ -48,9 +48,7 @@ end_more (u ∷ w ∷ ts) t is end = (is.0, end_more (w ∷ ts) t is.1 end)
 pub end_last : (stage : Stage) (seen : List Told) (held : Packet) → (stage ≡ Looks → seen ≡ []) → IsAt stage seen held
     → EndLast seen
 end_last Looks seen held none is = subst (λ (ts : List Told). EndLast ts) (sym (none refl)) tt
-end_last Takes seen held none is = is
-end_last Owes seen held none is = is
-end_last (Lent b) seen held none is = is
+end_last other seen held none is = is
 
 pub next_at : (seen : List Told) (held : Packet) → EndLast seen → IsAt (next_stage seen) seen (left_of seen held)
 next_at [] held is = (refl, tt)

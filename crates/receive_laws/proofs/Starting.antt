@@ -35,13 +35,6 @@ start_agrees queue port tail ring size most s r = (
       posted = λ k i j. absurd (omega (arith, j));
     };
     stage = tt;
-    order = record {
-      cut = λ rest. refl;
-      parts = refl;
-      full = refl;
-      seen = tt;
-      stage = (refl, tt);
-      order = refl;
-    };
+    order = record { cut = λ rest. refl; parts = refl; full = refl; seen = tt; stage = (refl, tt); order = refl };
   },
 )

@@ -72,10 +72,8 @@ pub record IsLoose (m : Memory) (l : Layout) (block : ℕ) : Type 0 where
   pub there : IsTrue (has_block m block)
 
 abbrev pub StageHolds : Memory → Layout → Stage → Type 0
-StageHolds m l Looks = ⊤
-StageHolds m l Takes = ⊤
-StageHolds m l Owes = ⊤
 StageHolds m l (Lent b) = IsLoose m l b
+StageHolds m l other = ⊤
 
 -- the slots from the next one on that have a block: the first are filled with these pieces, and those behind them wait;
 -- of all others, which are consumed or vacant, nothing is said

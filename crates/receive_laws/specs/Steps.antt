@@ -24,7 +24,7 @@ pub use Rattle.history_laws.specs.Left.{IsOutside}
 use Rattle.pmd_rx.specs.PmdSeam.Slots.{EachRingBlock}
 use Rattle.pmd_rx.specs.Receive.{Receive, IsOwn, drive, descriptor_at, block_at, reach}
 use Rattle.pmd_rx.specs.declared.ring.Stage.{Stage}
-use Rattle.pmd_rx.specs.declared.ring.Stage.TheVariants.{Looks, Takes, Owes, Lent}
+use Rattle.pmd_rx.specs.declared.ring.Stage.TheVariants.{Lent}
 use Rattle.receive_laws.specs.Joint.{Holds, Agree}
 use Rattle.receive_laws.specs.Pieces.{Piece, pieces, piece_at}
 
@@ -44,10 +44,8 @@ LookTellsSlot =
 
 -- of a block that is lent and not named yet, where there is one
 abbrev pub IfFresh : Stage → (ℕ → Type 0) → Type 0
-IfFresh Looks P = ⊤
-IfFresh Takes P = ⊤
-IfFresh Owes P = ⊤
 IfFresh (Lent b) P = P b
+IfFresh other P = ⊤
 
 -- each block that the driver has lent for receiving: those that the ring is in, those of its slots up to the last named
 -- one, and a fresh one

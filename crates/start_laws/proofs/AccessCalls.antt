@@ -54,12 +54,9 @@ module _ (q : AtPort) (P : Event Block → Type 0) (K : Access → Type 0)
       adds_made P steps old new _ _ adds (writes row word number own named)
 
   fails_is : (f : PmdFault) (a : Access) (old new : List Call) → K a → FailsBy f q old new a → Are old new
-  fails_is BadSize a old new own x = absurd x
-  fails_is ForeignBlock a old new own x = absurd x
-  fails_is StartTimeout a old new own x = absurd x
-  fails_is NoBuffer a old new own x = absurd x
   fails_is DeviceFault a old new own x = otherwise_is a old new own x
   fails_is (fault.Call refused) a old new own x = some_made P steps old new x
+  fails_is other a old new own x = absurd x
 
   pub stops_are : (f : PmdFault) (all : List Access) (old new : List Call) → AllAre K all → StopsBy f q old new all
       → Are old new
@@ -82,14 +79,12 @@ module _ (q : AtPort) (P : Event Block → Type 0) (K : Access → Type 0)
 
     polls_are : (f : PmdFault) (side : Dir) (polls : ℕ) (old new : List Call) → PollsEnd f q old new side on polls
         → Are old new
-    polls_are BadSize side polls old new x = absurd x
-    polls_are ForeignBlock side polls old new x = absurd x
-    polls_are NoBuffer side polls old new x = absurd x
     polls_are StartTimeout side polls old new x = missed_are side polls old new x
     polls_are DeviceFault side polls old new (misses, mid, few, made, stray) =
         then_made P old mid new (missed_are side misses old mid made) (stray_is mid new (enable_row side) stray)
     polls_are (fault.Call refused) side polls old new (misses, mid, few, made, more) =
         then_made P old mid new (missed_are side misses old mid made) (some_made P steps mid new more)
+    polls_are other side polls old new x = absurd x
 
     pub switched_are : (old new : List Call) → IsSwitched q old new on 1000 → Are old new
     switched_are old new (first, second, few, made) =

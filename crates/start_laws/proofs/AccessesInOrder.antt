@@ -2,10 +2,13 @@
 use Rattle.std.proofs.Common.{◌≡◌, ℕ, Bool, true, false, replicate, zero, suc, List, [], ◌∷◌, ◌++◌, refl, ◌∙◌}
 use Rattle.std.proofs.Math.Bool.{or-false}
 use Rattle.nic_device.specs.RegTable.declared.rows.RowId.{RowId}
-use Rattle.nic_device.specs.RegTable.declared.rows.RowId.TheVariants.{Rxdctl, Txdctl}
+use Rattle.nic_device.specs.RegisterFile.Queue.{enable_row}
+use Rattle.nic_device.specs.DmaRing.declared.dir.Dir.{Dir}
 use Rattle.nic_device.specs.DmaRing.declared.dir.Dir.TheVariants.{Rx, Tx}
 use Rattle.pmd.specs.PmdSeam.QueueMade.{Access, Sees}
 use Rattle.pmd.specs.PmdSeam.Sides.{missed}
+use Rattle.receive_laws.specs.HistoryLaws.Sides.{Side}
+use Rattle.start_laws.specs.Moves.{side_seen}
 use Rattle.start_laws.specs.Points.{AllMay, IsEnable, Sides, after_access, after_accesses, seen_by}
 
 -- accesses in order
@@ -25,14 +28,14 @@ pub may_miss : (row : RowId) (on : Bool) → IsEnable row → (n : ℕ) (p : Sid
 may_miss row on is zero p = tt
 may_miss row on is (suc n) p = (is, may_miss row on is n (seen_by row on p))
 
-pub receive_missed : (n : ℕ) (p : Sides) → after_accesses (missed Rx true n) p ≡ p
-receive_missed zero p = refl
-receive_missed (suc n) p =
-    receive_missed n (seen_by Rxdctl false p)
-    ∙ (λ k. record p { rx = record p.rx { on = or-false p.rx.on k } })
+not_seen : (dir d : Dir) (x : Side) → side_seen d (enable_row dir) false x ≡ x
+not_seen Rx Rx x = λ k. record x { on = or-false x.on k }
+not_seen Tx Tx x = λ k. record x { on = or-false x.on k }
+not_seen Rx Tx x = refl
+not_seen Tx Rx x = refl
 
-pub transmit_missed : (n : ℕ) (p : Sides) → after_accesses (missed Tx true n) p ≡ p
-transmit_missed zero p = refl
-transmit_missed (suc n) p =
-    transmit_missed n (seen_by Txdctl false p)
-    ∙ (λ k. record p { tx = record p.tx { on = or-false p.tx.on k } })
+pub missed_same : (dir : Dir) (n : ℕ) (p : Sides) → after_accesses (missed dir true n) p ≡ p
+missed_same dir zero p = refl
+missed_same dir (suc n) p =
+    missed_same dir n (seen_by (enable_row dir) false p)
+    ∙ (λ k. record p { side = λ d. not_seen dir d (p.side d) k })

@@ -37,11 +37,7 @@ abbrev pub Anything : Side → Type 0
 Anything x = ⊤
 
 pub anything_steady : IsSteady Anything
-anything_steady = record {
-  takes = λ x staged tried p. tt;
-  shuts = λ x tried p. tt;
-  switches = λ x p. tt;
-}
+anything_steady = record { takes = λ x staged tried p. tt; shuts = λ x tried p. tt; switches = λ x p. tt }
 
 -- an access leads from one to the other
 

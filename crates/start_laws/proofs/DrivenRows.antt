@@ -5,34 +5,34 @@ use Rattle.nic_device.specs.RegTable.declared.rows.RowId.TheVariants.{Rdbal, Rdb
 use Rattle.nic_device.specs.DmaRing.declared.dir.Dir.{Dir}
 use Rattle.nic_device.specs.DmaRing.declared.dir.Dir.TheVariants.{Rx, Tx}
 use Rattle.nic_device.specs.RegisterFile.Queue.{enable_row}
-use Rattle.nic_device.specs.RegisterLaws.Sides.{ReceiveQueue, TransmitQueue}
 use Rattle.device_lock.specs.Alone.{is_setting}
 use Rattle.pmd.specs.PmdSeam.Named.{is_driven}
-use Rattle.start_laws.specs.Words.{receive_with, transmit_with, FitsReceive, FitsTransmit}
+use Rattle.receive_laws.specs.HistoryLaws.Sides.{Side}
+use Rattle.start_laws.specs.Words.{across, side_with, Fits}
+
+-- what holds of either side holds of each
+pub each_side : (P : Dir → Type 0) → P Rx → P Tx → (dir : Dir) → P dir
+each_side P receive transmit Rx = receive
+each_side P receive transmit Tx = transmit
 
 -- rows of one side are none of the other's
-
-pub receive_driven : (row : RowId) (word : ℕ) → FitsReceive row word
-    → (is_driven row ≡ true) × ((tx : TransmitQueue) → tx ≡ transmit_with row word tx)
-receive_driven Rdbal word fits = (refl, λ tx. refl)
-receive_driven Rdbah word fits = (refl, λ tx. refl)
-receive_driven Rdlen word fits = (refl, λ tx. refl)
-receive_driven Rdh word fits = (refl, λ tx. refl)
-receive_driven Rdt word fits = (refl, λ tx. refl)
-receive_driven Srrctl word fits = (refl, λ tx. refl)
-receive_driven Rxdctl word fits = (refl, λ tx. refl)
-receive_driven other word fits = absurd fits
-
-pub transmit_driven : (row : RowId) (word : ℕ) → FitsTransmit row word
-    → (is_driven row ≡ true) × ((rx : ReceiveQueue) → rx ≡ receive_with row word rx)
-transmit_driven Tdbal word fits = (refl, λ rx. refl)
-transmit_driven Tdbah word fits = (refl, λ rx. refl)
-transmit_driven Tdlen word fits = (refl, λ rx. refl)
-transmit_driven Tdh word fits = (refl, λ rx. refl)
-transmit_driven Tdt word fits = (refl, λ rx. refl)
-transmit_driven Tdwbal word fits = (refl, λ rx. refl)
-transmit_driven Txdctl word fits = (refl, λ rx. refl)
-transmit_driven other word fits = absurd fits
+pub driven : (dir : Dir) (row : RowId) (word : ℕ) → Fits dir row word
+    → (is_driven row ≡ true) × ((x : Side) → x ≡ side_with (across dir) row word x)
+driven Rx Rdbal word fits = (refl, λ x. refl)
+driven Rx Rdbah word fits = (refl, λ x. refl)
+driven Rx Rdlen word fits = (refl, λ x. refl)
+driven Rx Rdh word fits = (refl, λ x. refl)
+driven Rx Rdt word fits = (refl, λ x. refl)
+driven Rx Srrctl word fits = (refl, λ x. refl)
+driven Rx Rxdctl word fits = (refl, λ x. refl)
+driven Tx Tdbal word fits = (refl, λ x. refl)
+driven Tx Tdbah word fits = (refl, λ x. refl)
+driven Tx Tdlen word fits = (refl, λ x. refl)
+driven Tx Tdh word fits = (refl, λ x. refl)
+driven Tx Tdt word fits = (refl, λ x. refl)
+driven Tx Tdwbal word fits = (refl, λ x. refl)
+driven Tx Txdctl word fits = (refl, λ x. refl)
+driven dir other word fits = absurd fits
 
 -- the enable register of each side is one of them
 pub side_driven : (side : Dir) → is_driven (enable_row side) ≡ true

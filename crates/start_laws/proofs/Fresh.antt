@@ -14,8 +14,7 @@ zero_lent : (m : Memory) (b : ℕ) → IsZero m b → has_block m b ≡ true
 zero_lent m b is = rw is refl
 
 pub fresh_receive_agrees : FreshReceiveAgrees
-fresh_receive_agrees queue s tx rings on wanted port tail ring size most sized names lent stand =
-    let x = stand.receives in
+fresh_receive_agrees queue s y on wanted port tail ring size most sized names zero x =
     start_agrees queue port tail ring size most s (record {
       some = sized.some;
       few = sized.few;
@@ -29,7 +28,7 @@ fresh_receive_agrees queue s tx rings on wanted port tail ring size most sized n
         head = ap (λ (q : Side). q.ring.head) x.same;
         tail = ap (λ (q : Side). q.ring.tail) x.same;
       };
-      there = λ k below. zero_lent s.memory (ring + k) (stand.zero (ring + k) (lent k below));
+      there = λ k below. zero_lent s.memory (ring + k) (zero k below);
     })
 
 -- how long a driver's packets are at most
@@ -40,8 +39,8 @@ few_bytes frame is =
     omega (arith, most)
 
 pub fresh_transmit_agrees : FreshTransmitAgrees
-fresh_transmit_agrees queue s rx rings on wanted port tail ring size frame small sound sized names is limit lent stand =
-    let same = stand.transmits.same in (
+fresh_transmit_agrees queue s y on wanted port tail ring size frame small sound sized names is limit zero x =
+    let same = x.same in (
       0,
       record {
         based = record {
@@ -68,7 +67,7 @@ fresh_transmit_agrees queue s rx rings on wanted port tail ring size frame small
           apart = λ i j a b ne. absurd (omega (arith, a));
         };
         shows = record {
-          ring = λ k below. zero_lent s.memory (ring + k) (stand.zero (ring + k) (lent k below));
+          ring = λ k below. zero_lent s.memory (ring + k) (zero k below);
           ready = λ k a. absurd (omega (arith, a));
           done = λ k a. absurd (omega (arith, a));
           waits = λ k a b. absurd (omega (arith, b));

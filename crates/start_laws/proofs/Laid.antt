@@ -76,16 +76,10 @@ module _ (w : Watched) (q : AtPort) (frame : ℕ) (origin : State) (h done rest 
   now = events_behind done (e ∷ rest) (subst AreEvents (sym all) along.events)
 
   met : IsMet w.queue here
-  met = record {
-    small = along.small;
-    sound = histories_sound origin done along.sound early;
-  }
+  met = record { small = along.small; sound = histories_sound origin done along.sound early }
 
   off_there : HasGround w.queue q frame here → transmit.IsOff w.queue here → LaidTo w.queue q frame Off here
-  off_there ground off = record {
-    ground = ground;
-    side = ((off.off, off.unwanted), met.sound.bare w.queue off.off);
-  }
+  off_there ground off = record { ground = ground; side = ((off.off, off.unwanted), met.sound.bare w.queue off.off) }
 
   behind : (m last : Laid) → LaidTo w.queue q frame m (after here e.event) → LaysOn q m (calls_of w.pass rest) last
       → sent_in w.queue (after here e.event) rest ≡ []

@@ -1,5 +1,5 @@
 -- The events by which a driver lays out an empty transmit ring, and those that leave its queue alone.
-use Rattle.std.proofs.Common.{◌≡◌, ◌≢◌, ℕ, ◌^◌, ◌<◌, false, [], refl, sym, ◌∙◌, subst}
+use Rattle.std.proofs.Common.{◌≡◌, ◌≢◌, ℕ, ◌^◌, ◌<◌, false, [], refl, sym, ap, ◌∙◌, subst}
 use Rattle.nic_device.specs.DmaArena.Block.{Block}
 use Rattle.nic_device.specs.RegTable.Rows.{row_of}
 use Rattle.nic_device.specs.RegTable.declared.rows.RowId.{RowId}
@@ -10,7 +10,6 @@ use Rattle.nic_device.specs.RegisterFile.Owner.{owner_of}
 use Rattle.nic_device.specs.RegisterFile.Pools.{mode_in}
 use Rattle.nic_device.specs.DmaRing.declared.dir.Dir.TheVariants.{Tx}
 use Rattle.nic_device.specs.RegisterFile.declared.owner.Owner.TheVariants as owner
-use Rattle.nic_device.specs.RegisterLaws.Sides.{TransmitQueue, transmit_queue_of}
 use Rattle.nic_device.specs.Sound.{IsEvent}
 use Rattle.nic_device.specs.State.{State}
 use Rattle.nic_device.specs.Step.{after, reply_to}
@@ -20,7 +19,7 @@ use Rattle.nic_device.specs.declared.event.Port.{Port}
 use Rattle.receive_laws.proofs.DeviceLaws.StandingAccesses.{write_rest}
 use Rattle.device_lock.specs.Alone.{Blocks, LeavesBlocks, LeavesRegisters}
 use Rattle.device_lock.specs.declared.alone.Watched.{Watched}
-use Rattle.receive_laws.specs.HistoryLaws.Sides.{side_of}
+use Rattle.receive_laws.specs.HistoryLaws.Sides.{Side, side_of}
 use Rattle.receive_laws.proofs.HistoryLaws.Asking.{asked}
 use Rattle.receive_laws.proofs.HistoryLaws.Deeds.{left_deed}
 use Rattle.receive_laws.proofs.HistoryLaws.Sides.{transmit_left}
@@ -36,9 +35,10 @@ use Rattle.start_laws.specs.Standing.{IsLeft}
 use Rattle.start_laws.specs.Words.{NamesRow}
 use Rattle.start_laws.proofs.Ending.{free_left, outside_none, watching}
 use Rattle.start_laws.proofs.Ground.{ground_kept, plain_keeps}
-use Rattle.start_laws.proofs.LaidSides.{IsLaid, SideLaid, asked_laid, laid_idle, word_laid}
+use Rattle.start_laws.proofs.LaidSides.{SideLaid, asked_laid, laid_idle, word_laid}
+use Rattle.start_laws.proofs.Moves.{with_beside}
 use Rattle.start_laws.proofs.Numbers.{ground_names}
-use Rattle.start_laws.proofs.TransmitWords.{transmit_words_taken}
+use Rattle.start_laws.proofs.SideWords.{words_taken}
 
 -- port and queue name the queue, and its transmit side is laid out so far
 pub record LaidTo (queue : ℕ) (q : AtPort) (frame : ℕ) (l : Laid) (s : State) : Type 0 where
@@ -51,16 +51,16 @@ module _ (queue : ℕ) (s : State) (met : IsMet queue s) (l : Laid) (x : SideLai
   abbrev t : State
   t = after s (event.Write port n word)
 
-  abbrev side : TransmitQueue
-  side = transmit_queue_of s.registers queue
+  abbrev side : Side
+  side = side_of Tx queue s
 
   ring_written : (row : RowId) → MayRing row l word → NamesRow s port n row queue
       → SideLaid (laid_by row l) (side_of Tx queue t)
   ring_written row may names =
       let laying = word_laid row l word side low may x.0 in
-      let taken = transmit_words_taken queue s port n word row met.small met.sound laying.off laying.fits
-      names in
-      (subst (IsLaid (laid_by row l)) (sym taken.side) laying.then, taken.staged ∙ x.1)
+      let taken = words_taken Tx queue s port n word row met.small met.sound laying.off laying.fits names in
+      subst (SideLaid (laid_by row l)) (sym taken.side)
+      (laying.then, ap (λ (z : Side). z.staged) (with_beside Tx row word side side.on side.staged) ∙ x.1)
 
   asks : MayAsk l word → NamesRow s port n Txdctl queue → SideLaid l (side_of Tx queue t)
   asks may names =
@@ -145,9 +145,6 @@ module _ (queue : ℕ) (q : AtPort) (frame : ℕ) (l m : Laid) (s : State) (met 
 pub left_lays : (w : Watched) (mine : Blocks) (q : AtPort) (frame : ℕ) (l : Laid) (s : State) (e : Event Block)
     → IsLeft w mine s e → LaidTo w.queue q frame l s → LeadsTo w.queue q frame l s e
 left_lays w mine q frame l s e left x = record {
-  then = record {
-    ground = ground_kept w mine q frame s e left x.ground;
-    side = left_laid w mine s e left l x.side;
-  };
+  then = record { ground = ground_kept w mine q frame s e left x.ground; side = left_laid w mine s e left l x.side };
   none = left_sends_none w mine s e left l x.side;
 }

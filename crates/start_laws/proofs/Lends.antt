@@ -4,16 +4,18 @@ use Rattle.std.specs.List.{range_with_len}
 use Rattle.std.specs.Prelude.{◌==◌, IsTrue}
 use Rattle.std.proofs.lemmas.Bool.{eq-eqb, eqb-true, or_cases, or_left, or_right}
 use Rattle.nic_device.specs.DmaArena.Block.{zero_block}
+use Rattle.nic_device.specs.DmaRing.declared.dir.Dir.{Dir}
 use Rattle.nic_device.specs.declared.event.Event.TheVariants as event
 use Rattle.nic_device.specs.declared.event.Reply.TheVariants as reply
 use Rattle.device_lock.specs.Alone.{Blocks}
 use Rattle.device_lock.specs.Pass.{call_of}
 use Rattle.device_lock.specs.declared.entry.Call.{Call}
 use Rattle.pmd.specs.PmdSeam.Named.{AtPort}
+use Rattle.pmd.specs.PmdSeam.Sides.{ring_words}
 use Rattle.pmd.specs.PmdSeam.Slots.{blocks_for, ring_blocks, EachRingBlock}
 use Rattle.start_laws.specs.Along.{Leads}
 use Rattle.start_laws.specs.Moves.{and_one}
-use Rattle.start_laws.specs.Points.{Point, Sides}
+use Rattle.start_laws.specs.Points.{Point, Sides, after_accesses}
 use Rattle.start_laws.proofs.Accesses.{lend_stands}
 use Rattle.start_laws.proofs.Ground.{plain_keeps}
 
@@ -31,6 +33,10 @@ and_all (n ∷ ns) rings = and_all ns (and_one n rings)
 
 abbrev pub with_all : List ℕ → Sides → Sides
 with_all ns p = record p { rings = and_all ns p.rings }
+
+-- the sides after the words of a ring of one of them were written, and its blocks lent
+abbrev pub laid_with : Dir → (ring size : ℕ) → Sides → Sides
+laid_with dir ring size p = with_all (ring_blocks ring size) (after_accesses (ring_words dir ring size) p)
 
 pub stays_in : (ns : List ℕ) (rings : Blocks) (k : ℕ) → rings k ≡ true → and_all ns rings k ≡ true
 stays_in [] rings k is = is
@@ -64,7 +70,7 @@ pub lend_leads : (queue : ℕ) (mine : Blocks) (q : AtPort) (frame : ℕ) (p : S
     → Leads queue (lending ring) (Point queue mine q frame p) (Point queue mine q frame (with_ring ring p))
 lend_leads queue mine q frame p ring is low s met made told x =
     record {
-      stand = lend_stands queue s p.rx p.tx p.rings ring x.stand (sym told);
+      stand = lend_stands queue s p.side p.rings ring x.stand (sym told);
       ground = plain_keeps queue q frame s (event.Lend (zero_block ring)) tt x.ground;
       covers = λ n one. one_more (λ k. mine k ≡ true) ring n p.rings is x.covers one;
       low = λ n one. one_more (λ k. k < 65536) ring n p.rings low x.low one;

@@ -50,10 +50,7 @@ first pass ring e h own is made =
     let low = (subst IsEvent event_is made).whole.small in
     let lent : lends e.event e.reply ring ≡ true =
     (λ k. lends (event_is k) (reply_is k) ring) ∙ eq-eqb ring ring refl in
-    record {
-      low = low;
-      mine = or_left _ _ (and_from _ _ (lt-ltb ring 65536 low) (and_from _ _ own lent));
-    }
+    record { low = low; mine = or_left _ _ (and_from _ _ (lt-ltb ring 65536 low) (and_from _ _ own lent)) }
 
 pub lent_there : (pass ring : ℕ) (h : List Entry) (xs ys : List Call) → AreEvents h
     → calls_of pass h ≡ xs ++ lending ring ∷ ys → IsLentBy pass ring h

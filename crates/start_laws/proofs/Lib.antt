@@ -8,7 +8,6 @@ pub mod Accesses
 pub mod AccessesInOrder
 pub mod AllAre
 pub mod Along
-pub mod Begun
 pub mod BothSides
 pub mod DrivenAccesses
 pub mod DrivenRows
@@ -44,11 +43,11 @@ pub mod QuietSides
 pub mod QuietStart
 pub mod Quieting
 pub mod Reached
-pub mod ReceiveWords
 pub mod Replies
 pub mod Rising
 pub mod SeenOff
 pub mod Settled
+pub mod SideWords
 pub mod Silent
 pub mod Standing
 pub mod Start
@@ -58,7 +57,6 @@ pub mod Stopping
 pub mod SwitchedOff
 pub mod Switching
 pub mod TimedOut
-pub mod TransmitWords
 pub mod Unused
 pub mod Walk
 pub mod Words

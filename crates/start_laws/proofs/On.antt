@@ -90,20 +90,22 @@ module _ (w : Watched) (origin : State) (h : List Entry) (q : AtPort) (size fram
         → Point w.queue (lent_by w.pass h) q frame (came_up ring size other p) s
         → Agree w.queue s [] v × Agrees s w.queue [] t
     agrees long one two s sound p x =
-        let rings = (came_up ring size other p).rings in (
+        let zero = x.stand.zero in (
           subst (λ (v : Receive). Agree w.queue s [] v) (sym up.receive.fresh)
-              (fresh_receive_agrees w.queue s _ rings true true q.port up.receive.tail ring size (most_blocks frame)
+              (fresh_receive_agrees w.queue s (p.side Rx) true true q.port up.receive.tail ring size (most_blocks frame)
               (sized_ring w.pass h size ring is one)
               (record {
                 low = along.small;
                 tail = ground_names w.queue q frame s x.ground Rdt up.receive.tail refl up.receive.named;
               })
-              (λ k below. stays_in (ring_blocks other size) _ (ring + k) (ring_in ring size p.rings k below)) x.stand),
+              (λ k below.
+              zero _ (stays_in (ring_blocks other size) _ (ring + k) (ring_in ring size p.rings k below)))
+              (x.stand.side Rx)),
           subst (λ (v : Sender). Agrees s w.queue [] v) (sym up.transmit.fresh)
-              (fresh_transmit_agrees w.queue s _ rings true true q.port up.transmit.tail other size frame along.small
-              sound (sized_ring w.pass h size other is two)
+              (fresh_transmit_agrees w.queue s (p.side Tx) true true q.port up.transmit.tail other size frame
+              along.small sound (sized_ring w.pass h size other is two)
               (ground_names w.queue q frame s x.ground Tdt up.transmit.tail refl up.transmit.named) long x.ground.limit
-              (ring_in other size _) x.stand),
+              (λ k below. zero _ (ring_in other size _ k below)) (x.stand.side Tx)),
         )
 
     agrees_at : is_frame frame ≡ true → AtCalls w origin h new (λ s. Agree w.queue s [] v × Agrees s w.queue [] t)
@@ -117,18 +119,12 @@ module _ (w : Watched) (origin : State) (h : List Entry) (q : AtPort) (size fram
     goes_on_at : AtEntries w h new (WentOn w.queue origin)
     goes_on_at done rest all calls =
         let (p, x, unused) = up_at done rest all calls in
-        let receives = x.stand.receives.seen refl in
-        let sends = x.stand.transmits.seen refl in record {
+        let receives = (x.stand.side Rx).seen refl in
+        let sends = (x.stand.side Tx).seen refl in record {
           received = unused.receive receives;
-          receives = record {
-            on = receives;
-            wanted = ap (λ (k : Side). k.wanted) x.stand.receives.same;
-          };
+          receives = record { on = receives; wanted = ap (λ (k : Side). k.wanted) (x.stand.side Rx).same };
           sent = unused.transmit sends;
-          sends = record {
-            on = sends;
-            wanted = ap (λ (k : Side). k.wanted) x.stand.transmits.same;
-          };
+          sends = record { on = sends; wanted = ap (λ (k : Side). k.wanted) (x.stand.side Tx).same };
         }
 
     -- nothing is written of a frame that waits

@@ -18,7 +18,7 @@ use Rattle.pmd.specs.PmdSeam.Made.{AreSteps}
 use Rattle.pmd.specs.PmdSeam.QueueMade.{Access, Sees, Sets, AreMade, IsMade}
 use Rattle.pmd.specs.PmdSeam.Named.{AtPort}
 use Rattle.pmd.specs.PmdSeam.Sides.{ring_words}
-use Rattle.pmd.specs.PmdSeam.Slots.{blocks_for, ring_blocks, EachRingBlock}
+use Rattle.pmd.specs.PmdSeam.Slots.{blocks_for, EachRingBlock}
 use Rattle.pmd.specs.Starting.{IsPrepared, LendsEach}
 use Rattle.start_laws.specs.Along.{IsAlong, AtEntries, Leads}
 use Rattle.start_laws.specs.Points.{AccessesLead, Sides, Point, seen_by, after_access, after_accesses, May, AllMay}
@@ -27,7 +27,7 @@ use Rattle.start_laws.proofs.Along.{entries_lead}
 use Rattle.start_laws.proofs.Standing.{standing_sides_are_left}
 use Rattle.start_laws.proofs.Unused.{IdleKeeps, IsIdle}
 use Rattle.start_laws.proofs.Lent.{IsLentBy}
-use Rattle.start_laws.proofs.Lends.{lending, lend_leads, with_all, with_ring}
+use Rattle.start_laws.proofs.Lends.{laid_with, lending, lend_leads, with_all, with_ring}
 use Rattle.start_laws.proofs.Made.{ends_some, made_some, some_made}
 use Rattle.start_laws.proofs.Points.{point_kept, read_leads, write_leads}
 
@@ -53,7 +53,7 @@ module _ (w : Watched) (q : AtPort) (frame : ℕ) (origin : State) (h : List Ent
   some_kept F done e left (p, known, x, n) =
       let s = reached w origin done in
       let z = F p in
-      let kept = standing_sides_are_left w mine z.rings s e.event z.rx z.tx left x.covers x.stand in (
+      let kept = standing_sides_are_left w mine z.rings s e.event z.side left x.covers x.stand in (
         p,
         known,
         point_next z done e (point_kept w mine q frame z s e.event left x),
@@ -119,7 +119,7 @@ module _ (w : Watched) (q : AtPort) (frame : ℕ) (origin : State) (h : List Ent
   pub prepared_at : (side : Dir) (size : ℕ) (F : Sides → Sides) (old : List Call) (a : Numbers) (new : List Call)
       (b : Numbers) (ring : ℕ) → ((p : Sides) → C p → AllMay (ring_words side ring size) (F p))
       → EachRingBlock ring size (λ n. IsLentBy w.pass n h) → IsPrepared q side size old a new b ring → old ≢ []
-      → At old F → At new (λ p. with_all (ring_blocks ring size) (after_accesses (ring_words side ring size) (F p)))
+      → At old F → At new (λ p. laid_with side ring size (F p))
   prepared_at side size F old a new b ring may lent x some at =
       lends_at (blocks_for size) ring (λ p. after_accesses (ring_words side ring size) (F p)) x.mid new x.lent lent
       (some_made q (ring_words side ring size) old x.mid x.words some)

@@ -85,39 +85,27 @@ module _ (q : AtPort) (w : Enables) (are : AreEnables q w) where
   apart : (n : ℕ) → IsNumberOf q.port Txdctl q.queue n → (n == w.receive) ≡ false
   apart n named = ne_eqb n w.receive (numbers_apart q.port q.queue w.receive n are.receive named)
 
+  -- by its call
+  told : (old new : List Call) (a : Access) (c : Call)
+      → (before : List Call) × (new ≡ old ++ (before ++ c ∷ [])) × AreSteps before
+      → ((x : Asked) → is_missed w x c.event c.reply ≡ is_miss x a)
+      → ((x : Asked) → asked_after w x c.event ≡ asked_by a x) → Told old new a
+  told old new a c (before, added, steps) missed asked =
+      record { before = before; steps = steps; call = c; all = added; missed = missed; asked = asked }
+
   access_told : (old new : List Call) (a : Access) → IsOfEnable a → IsMade q old new a → Told old new a
-  access_told old new (Sees Rxdctl on) of (number, word, named, is, (before, added, steps)) = record {
-    before = before;
-    steps = steps;
-    call = call_of (event.Read q.port number) (reply.Word word);
-    all = added;
-    missed = λ x. rw (here, same Rxdctl number w.receive named are.receive, is) refl;
-    asked = λ x. refl;
-  }
-  access_told old new (Sees Txdctl on) of (number, word, named, is, (before, added, steps)) = record {
-    before = before;
-    steps = steps;
-    call = call_of (event.Read q.port number) (reply.Word word);
-    all = added;
-    missed = λ x. rw (here, apart number named, same Txdctl number w.transmit named are.transmit, is) refl;
-    asked = λ x. refl;
-  }
-  access_told old new (Sets Rxdctl word) of (number, named, (before, added, steps)) = record {
-    before = before;
-    steps = steps;
-    call = call_of (event.Write q.port number word) reply.Done;
-    all = added;
-    missed = λ x. refl;
-    asked = λ x. rw (here, same Rxdctl number w.receive named are.receive) refl;
-  }
-  access_told old new (Sets Txdctl word) of (number, named, (before, added, steps)) = record {
-    before = before;
-    steps = steps;
-    call = call_of (event.Write q.port number word) reply.Done;
-    all = added;
-    missed = λ x. refl;
-    asked = λ x. rw (here, apart number named, same Txdctl number w.transmit named are.transmit) refl;
-  }
+  access_told old new (Sees Rxdctl on) of (number, word, named, is, adds) =
+      told old new (Sees Rxdctl on) (call_of (event.Read q.port number) (reply.Word word)) adds
+      (λ x. rw (here, same Rxdctl number w.receive named are.receive, is) refl) (λ x. refl)
+  access_told old new (Sees Txdctl on) of (number, word, named, is, adds) =
+      told old new (Sees Txdctl on) (call_of (event.Read q.port number) (reply.Word word)) adds
+      (λ x. rw (here, apart number named, same Txdctl number w.transmit named are.transmit, is) refl) (λ x. refl)
+  access_told old new (Sets Rxdctl word) of (number, named, adds) =
+      told old new (Sets Rxdctl word) (call_of (event.Write q.port number word) reply.Done) adds (λ x. refl)
+      (λ x. rw (here, same Rxdctl number w.receive named are.receive) refl)
+  access_told old new (Sets Txdctl word) of (number, named, adds) =
+      told old new (Sets Txdctl word) (call_of (event.Write q.port number word) reply.Done) adds (λ x. refl)
+      (λ x. rw (here, apart number named, same Txdctl number w.transmit named are.transmit) refl)
   access_told old new (Sees other on) of made = absurd of
   access_told old new (Sets other word) of made = absurd of
 

@@ -47,7 +47,3 @@ pub state_leads : (w : Watched) (origin : State) (mine : Blocks) (c : Call) (P Q
 state_leads w origin mine c P Q leads done e same met made told steps p =
     subst Q (sym (reached_next w origin done e))
     (subst (λ (x : Call). Leads w.queue x P Q) (sym same) leads (reached w origin done) met made told p)
-
-pub also_kept : (w : Watched) (mine : Blocks) (P Q : State → Type 0) → IsKept w mine P → IsKept w mine Q
-    → IsKept w mine (λ s. P s × Q s)
-also_kept w mine P Q kept kept_q s e x (p, r) = (kept s e x p, kept_q s e x r)

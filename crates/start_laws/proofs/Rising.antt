@@ -1,7 +1,7 @@
 -- Both rings come up and both sides go on: how the sides stand then.
-use Rattle.std.proofs.Common.{◌≡◌, ℕ, ◌-◌, ◌*◌, ◌%◌, ◌<◌, ◌≤◌, Bool, true, false, not, ◌&&◌, List, ◌∷◌, refl, subst, arith}
+use Rattle.std.proofs.Common.{◌≡◌, ℕ, ◌-◌, ◌*◌, ◌%◌, ◌<◌, ◌≤◌, Bool, true, false, not, ◌&&◌, List, ◌∷◌, subst, arith}
 use Rattle.std.specs.Prelude.{IsTrue}
-use Rattle.std.proofs.lemmas.Bool.{and_parts, both_ways, eqb-true, leb-true}
+use Rattle.std.proofs.lemmas.Bool.{and_parts, both_ways, not-true, eqb-true, leb-true}
 use Rattle.nic_device.specs.DmaArena.Numbers.{Numbers}
 use Rattle.nic_device.specs.RegTable.declared.rows.RowId.TheVariants.{Rxdctl}
 use Rattle.nic_device.specs.DmaRing.declared.dir.Dir.TheVariants.{Rx, Tx}
@@ -12,8 +12,8 @@ use Rattle.device_lock.specs.declared.entry.Call.{Call}
 use Rattle.device_lock.specs.declared.entry.Entry.{Entry}
 use Rattle.pmd.specs.PmdSeam.QueueMade.{Sees, Sets}
 use Rattle.pmd.specs.PmdSeam.Named.{AtPort}
-use Rattle.pmd.specs.PmdSeam.Sides.{quiet, ring_words}
-use Rattle.pmd.specs.PmdSeam.Slots.{blocks_for, ring_blocks, EachRingBlock}
+use Rattle.pmd.specs.PmdSeam.Sides.{quiet}
+use Rattle.pmd.specs.PmdSeam.Slots.{blocks_for, EachRingBlock}
 use Rattle.pmd.proofs.PmdSeam.Rings.{some_blocks}
 use Rattle.pmd.specs.PmdRx.Receive.{Receive}
 use Rattle.pmd.specs.PmdTx.Sending.{Sender}
@@ -26,13 +26,13 @@ use Rattle.start_laws.specs.Quieting.{are_off}
 use Rattle.start_laws.specs.Unused.{AreUnused}
 use Rattle.start_laws.proofs.Reached.{reached}
 use Rattle.start_laws.proofs.Lent.{IsLentBy}
-use Rattle.start_laws.proofs.Lends.{with_all}
+use Rattle.start_laws.proofs.Lends.{laid_with}
 use Rattle.start_laws.proofs.PointsAlong.{accesses_at, At, prepared_at}
 use Rattle.start_laws.proofs.Made.{first_made}
 use Rattle.start_laws.proofs.Quieting.{quieting_leads}
 use Rattle.start_laws.proofs.QuietSides.{quiet_sides_stand}
 use Rattle.start_laws.proofs.Switching.{came_up, comes_up, may_switch, switching}
-use Rattle.start_laws.proofs.Laying.{laid, may_lay_receive, may_lay_transmit}
+use Rattle.start_laws.proofs.Laying.{laid, may_lay}
 use Rattle.start_laws.proofs.Unused.{unused_kept}
 use Rattle.start_laws.proofs.Prepared.{prepared_some}
 
@@ -54,19 +54,13 @@ sized_ring pass h size ring is lent =
     let count = sized size is in
     let some : 0 < blocks_for size = some_blocks size count.0 in
     let last = lent (blocks_for size - 1) (omega (arith, some)) in
-    record {
-      some = count.0;
-      few = count.1;
-      low = omega (arith, some, last.low);
-    }
+    record { some = count.0; few = count.1; low = omega (arith, some, last.low) }
 
 -- sides that are off aren't wanted on
 unwanted : (a b c d : Bool) → ((not a && not b) && (not c && not d)) ≡ true → (b ≡ false) × (d ≡ false)
-unwanted true b c d is = cc
-unwanted false true c d is = cc
-unwanted false false true d is = cc
-unwanted false false false true is = cc
-unwanted false false false false is = (refl, refl)
+unwanted a b c d is =
+    let both = and_parts (not a && not b) (not c && not d) is in
+    (not-true b (and_parts (not a) (not b) both.0).1, not-true d (and_parts (not c) (not d) both.1).1)
 
 module _ (w : Watched) (origin : State) (h : List Entry) (q : AtPort) (size frame : ℕ) (old : List Call) (a : Numbers)
     (new : List Call) (v : Receive) (t : Sender) (up : AreOn q size frame old a new v t)
@@ -109,31 +103,26 @@ module _ (w : Watched) (origin : State) (h : List Entry) (q : AtPort) (size fram
       abbrev pub of_size : (number : ℕ) → EachRingBlock number size (λ n. IsLentBy w.pass n h) → IsSized number size
       of_size number lent = sized_ring w.pass h size number is lent
 
-      off : (p : Sides) → Known p → (p.rx.wanted ≡ false) × (p.tx.wanted ≡ false)
-      off p known = unwanted p.rx.on p.rx.wanted p.tx.on p.tx.wanted known
+      off : (p : Sides) → Known p → ((p.side Rx).wanted ≡ false) × ((p.side Tx).wanted ≡ false)
+      off p known = unwanted (p.side Rx).on (p.side Rx).wanted (p.side Tx).on (p.side Tx).wanted known
 
       even : 16 * size % 128 ≡ 0
       even = (sized size is).2
 
-      ready_at : Reaches up.ready_made
-          (λ p. with_all (ring_blocks ring size) (after_accesses (ring_words Rx ring size) p))
+      ready_at : Reaches up.ready_made (laid_with Rx ring size)
       ready_at =
           prepared_at w q frame origin h along Known Unused (unused_kept w origin) Rx size (λ p. p) up.receive.mid a
           up.ready_made up.ready_arena ring
-          (λ p known.
-          may_lay_receive ring size other (of_size ring one) (of_size other two) even p (off p known).0)
-          one up.receive.prepared
+          (λ p known. may_lay ring size (of_size ring one) even p Rx (off p known).0) one up.receive.prepared
           (first_made q (Sees Rxdctl false) (Sets Rxdctl 0 ∷ Sees Rxdctl false ∷ quiet Tx) old up.receive.mid
           up.receive.quiet) quiet_at
 
       both_at : Reaches up.both_made (laid ring size other)
       both_at =
           prepared_at w q frame origin h along Known Unused (unused_kept w origin) Tx size
-          (λ p. with_all (ring_blocks ring size) (after_accesses (ring_words Rx ring size) p)) up.ready_made
-          up.ready_arena up.both_made up.both_arena other
-          (λ p known.
-          may_lay_transmit ring size other (of_size ring one) (of_size other two) even p (off p known).1)
-          two up.transmit.prepared
+          (laid_with Rx ring size) up.ready_made up.ready_arena up.both_made up.both_arena other
+          (λ p known. may_lay other size (of_size other two) even (laid_with Rx ring size p) Tx (off p known).1) two
+          up.transmit.prepared
           (prepared_some q Rx size up.receive.mid a up.ready_made up.ready_arena ring up.receive.prepared) ready_at
 
       on_at : Reaches new (λ p. after_accesses (switching up.switched.0 up.switched.1) (laid ring size other p))

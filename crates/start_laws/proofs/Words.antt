@@ -39,13 +39,6 @@ module _ (queue : ℕ) (s : State) (port : Port) (n word : ℕ) (row : RowId) (n
   -- the write writes the register alone
   pub wrote : named_written s (Register (place row queue) 0xFFFFFFFF) word
       ≡ gives Done (record s { registers = after_write s.registers (place row queue) 0xFFFFFFFF word })
-      → t.registers ≡ after_write s.registers (place row queue) 0xFFFFFFFF word
+      → t ≡ record s { registers = after_write s.registers (place row queue) 0xFFFFFFFF word }
   unfolding step_of
-  wrote plain = ap (λ m. (named_written s m word).state.registers) names ∙ ap (λ (o : Outcome). o.state.registers) plain
-
-  pub wrote_staged : named_written s (Register (place row queue) 0xFFFFFFFF) word
-      ≡ gives Done (record s { registers = after_write s.registers (place row queue) 0xFFFFFFFF word })
-      → t.staged ≡ s.staged
-  unfolding step_of
-  wrote_staged plain =
-      ap (λ m. (named_written s m word).state.staged) names ∙ ap (λ (o : Outcome). o.state.staged) plain
+  wrote plain = ap (λ m. (named_written s m word).state) names ∙ ap (λ (o : Outcome). o.state) plain

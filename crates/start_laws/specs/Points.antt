@@ -1,9 +1,9 @@
 -- How the sides of a queue stand at a point of a history, and how a driver's accesses move that on.
-use Rattle.std.specs.Prelude.{ℕ, ◌≡◌, ◌≢◌, ◌<◌, ◌⊎◌, ⊤, Bool, IsTrue, IsFalse, List, [], ◌∷◌}
+use Rattle.std.specs.Prelude.{ℕ, ◌≡◌, ◌≢◌, ◌<◌, ⊤, Bool, IsTrue, IsFalse, List, [], ◌∷◌}
 use Rattle.nic_device.specs.RegTable.declared.rows.RowId.{RowId}
 use Rattle.nic_device.specs.RegTable.declared.rows.RowId.TheVariants.{Rxdctl, Txdctl}
 use Rattle.nic_device.specs.RegisterFile.Settings.{frame_limit}
-use Rattle.nic_device.specs.RegisterLaws.Sides.{ReceiveQueue, TransmitQueue}
+use Rattle.nic_device.specs.DmaRing.declared.dir.Dir.{Dir}
 use Rattle.nic_device.specs.State.{State}
 use Rattle.device_lock.specs.Alone.{Blocks, lent_by}
 use Rattle.device_lock.specs.declared.alone.Watched.{Watched}
@@ -12,11 +12,12 @@ use Rattle.device_lock.specs.declared.entry.Call.{Call}
 use Rattle.pmd.specs.PmdSeam.QueueMade.{Access, Sees, Sets, AreMade}
 use Rattle.pmd.specs.PmdSeam.Frames.{packet_limit}
 use Rattle.pmd.specs.PmdSeam.Named.{AtPort}
+use Rattle.receive_laws.specs.HistoryLaws.Sides.{Side}
 use Rattle.start_laws.specs.Along.{AtCalls, IsAlong}
-use Rattle.start_laws.specs.Moves.{MayGoOnReceive, MayGoOnTransmit, receive_seen, transmit_seen}
+use Rattle.start_laws.specs.Moves.{MayGoOn, side_seen}
 use Rattle.start_laws.specs.Numbers.{NamesQueue}
 use Rattle.start_laws.specs.Standing.{Stand}
-use Rattle.start_laws.specs.Words.{receive_with, transmit_with, FitsReceive, FitsTransmit}
+use Rattle.start_laws.specs.Words.{side_with, Fits}
 
 -- what a driver rests on beside its sides: port and queue name this queue, and frames have at most as many bytes as
 -- the driver's packets
@@ -26,13 +27,12 @@ pub record HasGround (queue : ℕ) (q : AtPort) (frame : ℕ) (s : State) : Type
 
 -- the two sides and the lent blocks
 pub record Sides : Type 0 where
-  pub rx : ReceiveQueue
-  pub tx : TransmitQueue
+  pub side : Dir → Side
   pub rings : Blocks
 
 -- they stand so, and the blocks are among these
 pub record Point (queue : ℕ) (mine : Blocks) (q : AtPort) (frame : ℕ) (p : Sides) (s : State) : Type 0 where
-  pub stand : Stand queue p.rx p.tx p.rings s
+  pub stand : Stand queue p.side p.rings s
   pub ground : HasGround queue q frame s
   pub covers : (number : ℕ) → IsTrue (p.rings number) → IsTrue (mine number)
   pub low : (number : ℕ) → IsTrue (p.rings number) → number < 65536
@@ -40,13 +40,11 @@ pub record Point (queue : ℕ) (mine : Blocks) (q : AtPort) (frame : ℕ) (p : S
 -- the sides after an access
 
 abbrev pub seen_by : RowId → Bool → Sides → Sides
-seen_by Rxdctl on p = record p { rx = receive_seen on p.rx }
-seen_by Txdctl on p = record p { tx = transmit_seen on p.tx }
-seen_by other on p = p
+seen_by row on p = record p { side = λ dir. side_seen dir row on (p.side dir) }
 
 abbrev pub after_access : Access → Sides → Sides
 after_access (Sees row on) p = seen_by row on p
-after_access (Sets row word) p = record p { rx = receive_with row word p.rx; tx = transmit_with row word p.tx }
+after_access (Sets row word) p = record p { side = λ dir. side_with dir row word (p.side dir) }
 
 abbrev pub after_accesses : List Access → Sides → Sides
 after_accesses [] p = p
@@ -59,19 +57,14 @@ IsEnable Rxdctl = ⊤
 IsEnable Txdctl = ⊤
 IsEnable other = ⊥
 
-pub record MayReceive (row : RowId) (word : ℕ) (rx : ReceiveQueue) : Type 0 where
-  pub unwanted : IsFalse rx.wanted
-  pub fits : FitsReceive row word
-  pub goes : MayGoOnReceive (receive_with row word rx)
-
-pub record MayTransmit (row : RowId) (word : ℕ) (tx : TransmitQueue) : Type 0 where
-  pub unwanted : IsFalse tx.wanted
-  pub fits : FitsTransmit row word
-  pub goes : MayGoOnTransmit (transmit_with row word tx)
+pub record MayWrite (dir : Dir) (row : RowId) (word : ℕ) (x : Side) : Type 0 where
+  pub unwanted : IsFalse x.wanted
+  pub fits : Fits dir row word
+  pub goes : MayGoOn (side_with dir row word x)
 
 abbrev pub May : Access → Sides → Type 0
 May (Sees row on) p = IsEnable row
-May (Sets row word) p = MayReceive row word p.rx ⊎ MayTransmit row word p.tx
+May (Sets row word) p = (dir : Dir) × MayWrite dir row word (p.side dir)
 
 abbrev pub AllMay : List Access → Sides → Type 0
 AllMay [] p = ⊤

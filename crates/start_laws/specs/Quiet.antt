@@ -4,7 +4,6 @@ use Rattle.nic_device.specs.DmaArena.Block.{Block}
 use Rattle.nic_device.specs.RegTable.declared.rows.RowId.TheVariants.{Rxdctl}
 use Rattle.nic_device.specs.RegisterFile.Bits.{has_bit}
 use Rattle.nic_device.specs.DmaRing.declared.dir.Dir.TheVariants.{Rx}
-use Rattle.nic_device.specs.RegisterLaws.Sides.{receive_queue_of, transmit_queue_of}
 use Rattle.nic_device.specs.Sound.{IsSound}
 use Rattle.nic_device.specs.State.{State}
 use Rattle.nic_device.specs.Step.{after, reply_to}
@@ -51,4 +50,4 @@ no_block number = false
 abbrev pub OffSidesStand : Type 0
 OffSidesStand =
     (queue : ℕ) (s : State) → IsSound s → IsOff queue s → transmit.IsOff queue s →
-    Stand queue (receive_queue_of s.registers queue) (transmit_queue_of s.registers queue) no_block s
+    Stand queue (λ dir. side_of dir queue s) no_block s

@@ -34,7 +34,8 @@ QuietingLeads =
 
 -- the sides are off, and not wanted on
 abbrev pub are_off : Sides → Bool
-are_off p = (not p.rx.on && not p.rx.wanted) && (not p.tx.on && not p.tx.wanted)
+are_off p =
+    (not (p.side Rx).on && not (p.side Rx).wanted) && (not (p.side Tx).on && not (p.side Tx).wanted)
 
 -- and so they stand as they are, with no block lent
 abbrev pub QuietSidesStand : Type 0

@@ -5,8 +5,7 @@ use Rattle.nic_device.specs.DmaArena.Block.{Block, zero_block}
 use Rattle.nic_device.specs.DmaArena.Memory.{Memory}
 use Rattle.nic_device.specs.RegisterFile.Pools.{mode_in}
 use Rattle.nic_device.specs.RegisterFile.Settings.{frame_limit}
-use Rattle.nic_device.specs.DmaRing.declared.dir.Dir.TheVariants.{Rx, Tx}
-use Rattle.nic_device.specs.RegisterLaws.Sides.{ReceiveQueue, TransmitQueue}
+use Rattle.nic_device.specs.DmaRing.declared.dir.Dir.{Dir}
 use Rattle.nic_device.specs.Receive.{is_empty}
 use Rattle.nic_device.specs.State.{State}
 use Rattle.nic_device.specs.Step.{after}
@@ -14,15 +13,15 @@ use Rattle.nic_device.specs.declared.event.Event.{Event}
 use Rattle.device_lock.specs.Alone.{Blocks}
 use Rattle.device_lock.specs.declared.alone.Watched.{Watched}
 pub use Rattle.receive_laws.specs.HistoryLaws.Left.{IsLeft}
-use Rattle.receive_laws.specs.HistoryLaws.Sides.{Side, receive_side, side_of, transmit_side}
+use Rattle.receive_laws.specs.HistoryLaws.Sides.{Side, side_of}
 use Rattle.receive_laws.specs.Fitting.{begun_on}
 use Rattle.receive_laws.specs.Pieces.{pieces}
 use Rattle.transmit_laws.specs.Sent.{sent_by}
 
--- a side is as this one says but for being on. It is on where this one is, and only where it is wanted on; and where it
--- is wanted on its ring is empty, so that the device does nothing there
+-- a side is as this one says but for being on, with nothing staged. It is on where this one is, and only where it is
+-- wanted on; and where it is wanted on its ring is empty, so that the device does nothing there
 pub record Stands (x side : Side) : Type 0 where
-  pub same : x ≡ record side { on = x.on }
+  pub same : x ≡ record side { on = x.on; staged = [] }
   pub seen : IsTrue side.on → IsTrue x.on
   pub wanted : IsTrue x.on → IsTrue side.wanted
   pub empty : IsTrue side.wanted → IsTrue (is_empty side.ring)
@@ -31,20 +30,16 @@ pub record Stands (x side : Side) : Type 0 where
 abbrev pub IsZero : Memory → ℕ → Type 0
 IsZero m number = map.get m number ≡ Some (zero_block number).bytes
 
--- both sides stand so, nothing is staged, nothing is written yet of a frame that waits for the queue, and these blocks
--- are lent, all zero
-pub record Stand (queue : ℕ) (receive : ReceiveQueue) (transmit : TransmitQueue) (rings : Blocks) (s : State) : Type 0
-  where
-    pub receives : Stands (side_of Rx queue s) (receive_side receive)
-    pub transmits : Stands (side_of Tx queue s) (transmit_side transmit [])
-    pub begun : begun_on queue s.waiting ≡ 0
-    pub zero : (number : ℕ) → IsTrue (rings number) → IsZero s.memory number
+-- both sides stand so, nothing is written yet of a frame that waits for the queue, and these blocks are lent, all zero
+pub record Stand (queue : ℕ) (sides : Dir → Side) (rings : Blocks) (s : State) : Type 0 where
+  pub side : (dir : Dir) → Stands (side_of dir queue s) (sides dir)
+  pub begun : begun_on queue s.waiting ≡ 0
+  pub zero : (number : ℕ) → IsTrue (rings number) → IsZero s.memory number
 
 -- an event that leaves the queue and these blocks alone keeps both sides as they stand; it receives and sends nothing
 -- on the queue; and the frame limit, and how the queues are parted among virtual functions, stay
-pub record LeavesStanding (queue : ℕ) (receive : ReceiveQueue) (transmit : TransmitQueue) (rings : Blocks) (s : State)
-    (e : Event Block) : Type 0 where
-  pub stand : Stand queue receive transmit rings (after s e)
+pub record LeavesStanding (queue : ℕ) (sides : Dir → Side) (rings : Blocks) (s : State) (e : Event Block) : Type 0 where
+  pub stand : Stand queue sides rings (after s e)
   pub received : pieces queue s e ≡ []
   pub sent : sent_by queue s e ≡ []
   pub limit : frame_limit (after s e).registers ≡ frame_limit s.registers
@@ -53,7 +48,6 @@ pub record LeavesStanding (queue : ℕ) (receive : ReceiveQueue) (transmit : Tra
 
 abbrev pub StandingSidesAreLeft : Type 0
 StandingSidesAreLeft =
-    (w : Watched) (mine rings : Blocks) (s : State) (e : Event Block) (receive : ReceiveQueue)
-    (transmit : TransmitQueue) → IsLeft w mine s e →
-    ((number : ℕ) → IsTrue (rings number) → IsTrue (mine number)) → Stand w.queue receive transmit rings s →
-    LeavesStanding w.queue receive transmit rings s e
+    (w : Watched) (mine rings : Blocks) (s : State) (e : Event Block) (sides : Dir → Side) → IsLeft w mine s e →
+    ((number : ℕ) → IsTrue (rings number) → IsTrue (mine number)) → Stand w.queue sides rings s →
+    LeavesStanding w.queue sides rings s e

@@ -5,11 +5,12 @@
 //! Each law is the contract of a function that does nothing.
 #![tactic(auto)]
 
+ghost use Rattle.nic_device.specs.DmaRing.declared.dir.Dir.TheVariants.{Rx, Tx};
 ghost use Rattle.start_laws.specs.Faultless.{ReceiveIsReady, TransmitIsReady, SwitchingIsNeverStray};
 ghost use Rattle.start_laws.specs.Filling.{FaultsAreEarlyOrFilling, NoFaultIsEarly, FillingBeginsWell};
 ghost use Rattle.start_laws.specs.Gate.{NamedQueuesPass};
 ghost use Rattle.start_laws.specs.Laid.{LaidQueueIsSilent};
-ghost use Rattle.start_laws.specs.Moves.{ReceiveWriteStands, TransmitWriteStands, ReceiveReadStands, TransmitReadStands, LendStands, FreshReceiveAgrees, FreshTransmitAgrees};
+ghost use Rattle.start_laws.specs.Moves.{WriteStands, ReadStands, LendStands, FreshReceiveAgrees, FreshTransmitAgrees};
 ghost use Rattle.start_laws.specs.Numbers.{NamedQueueHasTheNumbers};
 ghost use Rattle.start_laws.specs.On.{SwitchedSidesAgree, SwitchedSidesBeginNone, SwitchedSidesGoOn};
 ghost use Rattle.start_laws.specs.Points.{AccessesLead};
@@ -20,7 +21,7 @@ ghost use Rattle.start_laws.specs.Replies.{NamedRegistersReply, OffSidesAreSeenO
 ghost use Rattle.start_laws.specs.Standing.{StandingSidesAreLeft};
 ghost use Rattle.start_laws.specs.Start.{StartAgrees, StartGoesOn};
 ghost use Rattle.start_laws.specs.TimedOut.{TimeoutsPoll};
-ghost use Rattle.start_laws.specs.Words.{ReceiveWordsAreTaken, TransmitWordsAreTaken};
+ghost use Rattle.start_laws.specs.Words.{WordsAreTaken};
 
 /// The numbers that a driver uses at its port name the registers of the queue that port and queue name: at the physical
 /// function each of the device's queues by its number there, at a virtual function those of its pool, from the first
@@ -33,8 +34,8 @@ pub fn named_queue_has_the_numbers()
 /// or tail, its control word, or no write-back of the head; and a write of the enable word asks. The queue's other
 /// side, memory, the frame limit and how the queues are parted stay.
 pub fn words_of_an_off_side_are_taken()
-    ensures receive { ReceiveWordsAreTaken }
-    ensures transmit { TransmitWordsAreTaken }
+    ensures receive { WordsAreTaken Rx }
+    ensures transmit { WordsAreTaken Tx }
 {}
 
 /// Two sides of a queue that are off, or on with an empty ring, stay as they are but for going on where they are wanted
@@ -53,10 +54,10 @@ pub fn laid_queue_is_silent()
 /// A driver's own accesses keep such sides: one with the word that is written to it, one that is on where its enable
 /// word was read with bit 25, and the block of zero bytes that was lent.
 pub fn accesses_keep_sides_standing()
-    ensures receive_write { ReceiveWriteStands }
-    ensures transmit_write { TransmitWriteStands }
-    ensures receive_read { ReceiveReadStands }
-    ensures transmit_read { TransmitReadStands }
+    ensures receive_write { WriteStands Rx }
+    ensures transmit_write { WriteStands Tx }
+    ensures receive_read { ReadStands Rx }
+    ensures transmit_read { ReadStands Tx }
     ensures lend { LendStands }
 {}
 

@@ -35,12 +35,7 @@ module _ (w : Watched) (mine : Blocks) (s : State) (sent : List (List ℕ)) (v :
 
     move_may : (m : Move) → MayMoveAlone w mine v s e m → MayMove w.queue v s e m
     move_may Elsewhere a = spared (has_lent v) (λ number is. is) a
-    move_may (Accepts p) a = (a.0, a.1)
-    move_may Lends a = (a.0, a.1)
-    move_may Asks a = (a.0, a.1)
-    move_may Advances a = (a.0, a.1)
-    move_may Looks a = (a.0, a.1)
-    move_may Reaps a = (a.0, a.1)
+    move_may m a = (a.0, a.1)
 
     may : (o : Option Move) → MayComeAlone w mine v s e o → MayCome w.queue v s e o
     may None a = spared mine all a
@@ -82,8 +77,4 @@ alone_may_run w mine s v ts agreed functions lent legal alone =
 pub sent_is_prefix_where_alone : SentIsPrefixWhereAlone
 sent_is_prefix_where_alone w mine s v ts agreed functions lent legal alone =
     sent_is_prefix w.queue s v ts
-    (record {
-      agreed = agreed;
-      legal = legal;
-      may = alone_may_run w mine s v ts agreed functions lent legal alone;
-    })
+    (record { agreed = agreed; legal = legal; may = alone_may_run w mine s v ts agreed functions lent legal alone })

@@ -18,7 +18,7 @@ use Rattle.history_laws.proofs.Asking.{asked}
 use Rattle.history_laws.proofs.SideNames.{plain-write}
 use Rattle.transmit_laws.specs.Agreeing.{IsInTurn, SendsInOrder}
 use Rattle.transmit_laws.specs.Enable.{EnableWordsKeep}
-use Rattle.transmit_laws.proofs.Sparing.{set_up-same, still-agrees}
+use Rattle.transmit_laws.proofs.Sparing.{cut_stays, set_up-same, still-agrees}
 
 pub enable_words_keep : EnableWordsKeep
 enable_words_keep s queue sent v port n word made names rests (f, h) =
@@ -46,11 +46,6 @@ enable_words_keep s queue sent v port n word made names rests (f, h) =
     sends is (inl x) =
         inl (subst (λ (l : List ℕ). IsInTurn v.layout.limit l sent (drop f v.outstanding) v.accepted)
         (sym (ap (λ (y : Side). y.staged) is)) x)
-    sends is (inr x) = inr (record {
-      off = ap (λ (y : Side). y.on) is ∙ x.off;
-      unwanted = ap (λ (y : Side). y.wanted) is ∙ still_off x.more;
-      more = x.more;
-      frame = x.frame;
-      rest = x.rest;
-      in_order = x.in_order;
-    })
+    sends is (inr x) =
+        inr (cut_stays _ _ _ _ _ (ap (λ (y : Side). y.on) is ∙ x.off)
+        (ap (λ (y : Side). y.wanted) is ∙ still_off x.more) x)

@@ -67,13 +67,8 @@ module _ (own others : Blocks) (s : State) (v : Sender)
         lends_anew (slice_index_or (segments_of p) 0 no_segment) b may.first is
     own_anew Lends (event.Lend b) may is = lends_anew (segment_at v v.lent) b may.1 is
     own_anew Elsewhere e may is = tt
-    own_anew (Accepts p) e may is = absurd may
-    own_anew Lends e may is = absurd may
-    own_anew Asks (event.Poke16 a bytes) may is = tt
-    own_anew Advances (event.Write port number word) may is = tt
-    own_anew Looks (event.Peek16 a) may is = tt
-    own_anew Reaps (event.Take n) may is = tt
-    own_anew m e may is = absurd may
+    own_anew m (event.Lend b) may is = absurd may
+    own_anew m e may is = tt
 
 pub own_lends_are_known : OwnLendsAreKnown
 own_lends_are_known = record {

@@ -100,12 +100,7 @@ module _ (s : State) (queue : ℕ) (sent : List (List ℕ)) (v : Sender) (f : �
           lent_known = h.counted.lent_known;
           apart = h.counted.apart;
         };
-        shows = record {
-          ring = h.shows.ring;
-          ready = h.shows.ready;
-          done = h.shows.done;
-          waits = h.shows.waits;
-        };
+        shows = record { ring = h.shows.ring; ready = h.shows.ready; done = h.shows.done; waits = h.shows.waits };
         sends = h.sends;
       },
     )

@@ -25,7 +25,10 @@ any_more : (n : ℕ) (ss : List Segment) (k : ℕ) → among (take (suc k) ss) n
     → (n ≡ (slice_index_or ss k no_segment).block) ⊎ (among (take k ss) n ≡ true)
 any_more n [] zero is = inr is
 any_more n [] (suc k) is = inr is
-any_more n (x ∷ ss) zero is = elim (or_cases (n == x.block) false is) [ inl e ↦ inl (eqb-true n x.block e) | inr e ↦ cc ]
+any_more n (x ∷ ss) zero is = elim (or_cases (n == x.block) false is) [
+  | inl e ↦ inl (eqb-true n x.block e)
+  | inr e ↦ cc
+]
 any_more n (x ∷ ss) (suc k) is = elim (or_cases (n == x.block) (among (take (suc k) ss) n) is) [
   | inl e ↦ inr (or_left (n == x.block) (among (take k ss) n) e)
   | inr e ↦ elim (any_more n ss k e) [

@@ -29,9 +29,4 @@ module _ (l : Layout) (is : IsLayout l) where
   descriptor-later k h = ap (descriptor_in l.ring) (slot-later k h)
 
   pub later-layout : IsLayout later
-  later-layout = record {
-    some = is.some;
-    few = is.few;
-    next = next_below l.size l.next is.next;
-    limit = is.limit;
-  }
+  later-layout = record { some = is.some; few = is.few; next = next_below l.size l.next is.next; limit = is.limit }

@@ -1,6 +1,6 @@
 -- An event that spares a driver keeps what it and the device agree on.
 use Rattle.std.proofs.Common.{◌≡◌, ℕ, ◌<◌, inl, inr, true, false, List, [], ◌∷◌, ◌++◌, drop, length, refl, sym, ap, ◌∙◌, subst, arith}
-use Rattle.std.specs.Prelude.{IsTrue, ◌==◌}
+use Rattle.std.specs.Prelude.{IsFalse, IsTrue, ◌==◌}
 use Rattle.std.specs.FinMap as map
 use Rattle.std.proofs.lemmas.Bool.{both_ways, cases_Bool, cases_lt, eq-eqb}
 use Rattle.std.proofs.lemmas.List.{append-nil, nil_from_length}
@@ -22,7 +22,8 @@ use Rattle.history_laws.proofs.Deeds.{side_did}
 use Rattle.history_laws.proofs.Sides.{transmit_left}
 use Rattle.history_laws.proofs.Steady.{resting_same}
 use Rattle.pmd_tx.specs.Sending.{Layout, Segment, Sender, has_lent}
-use Rattle.transmit_laws.specs.Agreeing.{IsSetUp, IsInTurn, SendsInOrder, AgreesAt, Agrees, frames_from}
+use Rattle.pmd_tx.specs.PmdSeam.Packet.{Kept}
+use Rattle.transmit_laws.specs.Agreeing.{IsCutOff, IsSetUp, IsInTurn, SendsInOrder, AgreesAt, Agrees, frames_from}
 use Rattle.transmit_laws.specs.Laws.{SparingEventsKeep, StepsOfQueueKeep}
 use Rattle.transmit_laws.specs.Sent.{sent_by}
 use Rattle.transmit_laws.specs.Sparing.{is_transmit_of, Spares}
@@ -41,6 +42,12 @@ set_up-same q r l posted f ring back h = record {
   tail = ap (λ x. x.tail) ring ∙ h.tail;
   writeback = back ∙ h.writeback;
 }
+
+-- a side that was cut off stays so while it is off and not wanted on
+pub cut_stays : (q r : TransmitQueue) (sent : List (List ℕ)) (left : List Segment) (ks : List Kept) → IsFalse r.on
+    → IsFalse r.wanted → IsCutOff q sent left ks → IsCutOff r sent left ks
+cut_stays q r sent left ks off unwanted x =
+    record { off = off; unwanted = unwanted; more = x.more; frame = x.frame; rest = x.rest; in_order = x.in_order }
 
 module _ (s : State) (queue : ℕ) (sent : List (List ℕ)) (v : Sender) (f : ℕ) (h : AgreesAt s queue sent v f)
     (e : Event Block)
@@ -105,27 +112,16 @@ module _ (s : State) (queue : ℕ) (sent : List (List ℕ)) (v : Sender) (f : �
 
     switched_sends : side_of Tx queue t ≡ as_wanted (side_of Tx queue s) → Sends s → Sends t
     switched_sends is (inl x) = switched_turn is x
-    switched_sends is (inr x) = inr (record {
-      off = ap (λ (y : Side). y.on) is ∙ x.unwanted;
-      unwanted = ap (λ (y : Side). y.wanted) is ∙ x.unwanted;
-      more = x.more;
-      frame = x.frame;
-      rest = x.rest;
-      in_order = x.in_order;
-    })
+    switched_sends is (inr x) =
+        inr (cut_stays _ _ _ _ _ (ap (λ (y : Side). y.on) is ∙ x.unwanted)
+        (ap (λ (y : Side). y.wanted) is ∙ x.unwanted) x)
 
     left_sends : side_of Tx queue t ≡ side_of Tx queue s → Sends s → Sends t
     left_sends is (inl x) =
         inl (subst (λ (l : List ℕ). IsInTurn v.layout.limit l sent left v.accepted)
         (sym (ap (λ (y : Side). y.staged) is)) x)
-    left_sends is (inr x) = inr (record {
-      off = ap (λ (y : Side). y.on) is ∙ x.off;
-      unwanted = ap (λ (y : Side). y.wanted) is ∙ x.unwanted;
-      more = x.more;
-      frame = x.frame;
-      rest = x.rest;
-      in_order = x.in_order;
-    })
+    left_sends is (inr x) =
+        inr (cut_stays _ _ _ _ _ (ap (λ (y : Side). y.on) is ∙ x.off) (ap (λ (y : Side). y.wanted) is ∙ x.unwanted) x)
 
     rest_sends : Rests Tx queue s e → Sends t
     rest_sends (Nothing is) = left_sends is h.sends

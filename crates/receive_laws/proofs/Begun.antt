@@ -1,22 +1,14 @@
 -- Where nothing is written yet of a frame that waits for a queue, each event leaves it so that writes no piece there.
-use Rattle.std.proofs.Common.{◌≡◌, ℕ, ◌+◌, Bool, true, false, cond, List, [], ◌∷◌, ◌++◌, length, refl, ap, ◌∙◌, subst, nat_lt, Ok, Err}
-use Rattle.std.specs.Prelude.{◌==◌, Result, All, filter, not}
+use Rattle.std.proofs.Common.{◌≡◌, ℕ, ◌+◌, Bool, true, false, cond, List, [], ◌∷◌, ◌++◌, refl, ap, ◌∙◌, subst}
+use Rattle.std.specs.Prelude.{◌==◌, All, filter, not}
 use Rattle.std.proofs.lemmas.List.Elements.{All-head, All-filter}
 use Rattle.nic_device.specs.DmaArena.Block.{Block}
-use Rattle.nic_device.specs.DmaRing.declared.dir.Dir.TheVariants.{Rx, Tx}
-use Rattle.nic_device.specs.RegTable.Rows.{row_of}
+use Rattle.nic_device.specs.DmaRing.declared.dir.Dir.TheVariants.{Rx}
 use Rattle.nic_device.specs.VfMap.Owner.{has_queue}
-use Rattle.nic_device.specs.RegisterFile.Access.{asks_pool_reset, asks_reset}
 use Rattle.nic_device.specs.RegisterFile.Pools.{mode_in}
-use Rattle.nic_device.specs.RegisterFile.Registers.{is_wanted}
-use Rattle.nic_device.specs.RegisterFile.Settings.{can_receive, frame_limit}
-use Rattle.nic_device.specs.RxFilter.Sorting.{sorted}
 use Rattle.nic_device.specs.RxFilter.declared.target.Target.{Target}
-use Rattle.nic_device.specs.RxFilter.declared.unwanted.Unwanted.{Unwanted}
 use Rattle.nic_device.specs.RxRing.declared.filled.Filled.{Filled}
-use Rattle.nic_device.specs.Access.{named_written}
-use Rattle.nic_device.specs.Arrival.{let_in, sorted_in}
-use Rattle.nic_device.specs.Named.{named}
+use Rattle.nic_device.specs.Arrival.{let_in}
 use Rattle.nic_device.specs.Outcome.{Outcome}
 use Rattle.nic_device.specs.Receive.{after_piece}
 use Rattle.nic_device.specs.Sound.{IsSound, AreWaiting, IsUnbegun}
@@ -25,18 +17,13 @@ use Rattle.nic_device.specs.Step.{step_of, after}
 use Rattle.nic_device.specs.Switching.{without_part}
 use Rattle.nic_device.specs.declared.event.Event.{Event}
 use Rattle.nic_device.specs.declared.event.Event.TheVariants as event
-use Rattle.nic_device.specs.declared.event.Port.{Port}
-use Rattle.nic_device.specs.declared.named.Named.{Named}
-use Rattle.nic_device.specs.declared.named.Named.TheVariants.{Nothing, Register}
-use Rattle.nic_device.proofs.Cases.{either_way, switched_cases}
+use Rattle.nic_device.proofs.Cases.{either_way}
 use Rattle.nic_device.proofs.QueueCases.{received_cases}
-use Rattle.receive_laws.proofs.DeviceLaws.Resetting.{is_reset}
-use Rattle.receive_laws.proofs.DeviceLaws.Standing.{stays_within}
-use Rattle.receive_laws.proofs.DeviceLaws.StandingAccesses.{read_rest}
+use Rattle.history_laws.proofs.Waits.{Changes, waiting_changed}
 use Rattle.receive_laws.specs.Fitting.{begun_on}
 use Rattle.receive_laws.specs.Pieces.{Piece, pieces, pieces_told}
 
-either_zero : (b : Bool) → let z : ℕ = 0 in cond b z z ≡ z
+pub either_zero : (b : Bool) → let z : ℕ = 0 in cond b z z ≡ z
 either_zero true = refl
 either_zero false = refl
 
@@ -49,7 +36,7 @@ module _ (queue : ℕ) where
   abbrev IsNone : List Waiting → Type 0
   IsNone ws = begun_on queue ws ≡ 0
 
-  unbegun_none : (ws : List Waiting) → All IsUnbegun ws → IsNone ws
+  pub unbegun_none : (ws : List Waiting) → All IsUnbegun ws → IsNone ws
   unbegun_none [] none = refl
   unbegun_none (w ∷ others) none =
       ap (λ (n : ℕ). cond (w.queue == queue) n 0) (All-head IsUnbegun w others none).none
@@ -98,50 +85,16 @@ module _ (queue : ℕ) where
           other_filled w others f e (no_piece (w.queue == queue) _ [] refl told);
     })
 
-    -- any other event
-
-    written : (word : ℕ) (m : Named) → Leaves (named_written s m word)
-    written word (Nothing seen) = none
-    written word (Register p view) =
-        either_way (λ (t : State). IsNone t.waiting) (asks_reset (row_of p.row).kind word) _ _
-        (ap (λ (ws : List Waiting). begun_on queue ws) (is_reset s).waiting)
-        (either_way (λ (t : State). IsNone t.waiting) (asks_pool_reset (row_of p.row).kind word) _ _
-        (filtered (λ w. not (has_queue (mode_in s.registers) p.index w.queue)) s.waiting sound.waiting none) none)
-
-    written_here : (port : Port) (n word : ℕ) → Leaves (step_of s (event.Write port n word))
-    unfolding step_of
-    written_here port n word = written word (named s port n)
-
-    let_in_sorted : (frame : List ℕ) (answer : Result Target Unwanted) → Leaves (sorted_in s frame answer)
-    let_in_sorted frame (Ok t) =
-        either_way Leaves (nat_lt (length s.waiting) s.fifo) _ _ (pushed s.waiting frame t none) none
-    let_in_sorted frame (Err why) = none
-
-    arrived : (frame : List ℕ) → Leaves (step_of s (event.Arrive frame))
-    unfolding step_of
-    arrived frame =
-        either_way Leaves s.link _ _
-        (either_way Leaves (can_receive s.registers) _ _
-        (either_way Leaves (nat_lt (length frame) 60) _ _ none
-        (either_way Leaves (nat_lt (frame_limit s.registers) (length frame)) _ _ none
-        (let_in_sorted frame (sorted s.registers frame)))) none) none
-
-    switched : (on : ℕ) → Leaves (step_of s (event.QueueStep Rx on))
-    unfolding step_of
-    switched on =
-        switched_cases Leaves s Rx on none none
-        (either_way (λ (t : State). IsNone t.waiting) (is_wanted s.registers Rx on) _ _ none
-        (parted on s.waiting sound.waiting none))
-
-    same : (e : Event Block) → (after s e).waiting ≡ s.waiting → IsNone (after s e).waiting
-    same e is = ap (λ (ws : List Waiting). begun_on queue ws) is ∙ none
+    changes : (e : Event Block) → pieces queue s e ≡ [] → Changes IsNone s e
+    changes event.RxStep told = received told
+    changes (event.Write port n word) told = λ p view is. record {
+      device = λ asks. refl;
+      pool = λ asks.
+          filtered (λ w. not (has_queue (mode_in s.registers) p.index w.queue)) s.waiting sound.waiting none;
+    }
+    changes (event.Arrive frame) told = λ t low. pushed s.waiting frame t none
+    changes (event.QueueStep Rx on) told = λ off. parted on s.waiting sound.waiting none
+    changes e told = tt
 
     pub begun_stays : (e : Event Block) → pieces queue s e ≡ [] → IsNone (after s e).waiting
-    begun_stays event.RxStep told = received told
-    begun_stays (event.Read port n) told = same (event.Read port n) (read_rest s port n).frames.waiting
-    begun_stays (event.Write port n word) told = written_here port n word
-    begun_stays (event.Arrive frame) told = arrived frame
-    begun_stays (event.QueueStep Rx on) told = switched on
-    begun_stays (event.QueueStep Tx on) told =
-        same (event.QueueStep Tx on) ((stays_within s (event.QueueStep Tx on)).waiting refl)
-    begun_stays e told = same e ((stays_within s e).waiting refl)
+    begun_stays e told = waiting_changed IsNone s none e (changes e told)

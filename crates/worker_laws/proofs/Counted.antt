@@ -56,7 +56,8 @@ module _ (queue : ℕ) (s : State) (before till up more : List Entry) where
   abbrev pub off_at : State
   off_at = leads_to s (before ++ till)
 
-  pub delivered_from : IsFalse (is_on off_at.registers Rx queue) → IsTrue (is_on (leads_to off_at up).registers Rx queue)
+  pub delivered_from : IsFalse (is_on off_at.registers Rx queue)
+      → IsTrue (is_on (leads_to off_at up).registers Rx queue)
       → delivered queue s ((before ++ till) ++ (up ++ more)) ≡ delivered queue start (till ++ (up ++ more))
   delivered_from off on =
       let early = pieces_since queue s None (before ++ till) in

@@ -1,7 +1,8 @@
 //! A controller that is set up, a driver of its queue 0, and frames.
 
-use crate::outcome::{Hand, done, refused, same};
-use nic_device::{Arena, Config, Device, Event, LentMemory, Mode, Octets, Parts, Port, Reply};
+use crate::outcome::{Hand, done, fail, push, refused, same, same_bytes, same_pair, sees};
+use nic_device::{Arena, Buf, Config, Device, Event, LentMemory, Mode, Octets, Parts, Port, Reply};
+use std::process::Abort;
 use workers::{
     Calls, Direct, Home, Nic, Packet, Pmd, PmdFault, Setup, StopRefused, TxAnswer, pf_setup,
 };
@@ -47,6 +48,11 @@ pub fn reason(fault: &PmdFault) -> Why {
         PmdFault::DeviceFault => Why::DeviceFault,
         PmdFault::Call(_) => Why::Call,
     }
+}
+
+/// This is why the driver refuses a call.
+pub fn is_why(rt: &impl Abort, fault: &PmdFault, wanted: Why) {
+    sees(rt, reason(fault) == wanted);
 }
 
 /// A frame of TCP over IPv4, of 60 bytes: from 02:00:00:00:00:02 to 02:00:00:00:00:01.
@@ -152,12 +158,33 @@ pub fn close(rt: &impl Hand, home: Home) -> (usize, usize) {
     (handed, accepted)
 }
 
+/// The reply is that it is done.
+pub fn is_done(rt: &impl Abort, reply: Reply) {
+    match reply {
+        Reply::Done => {}
+        _other => fail(rt, "not done"),
+    }
+}
+
+/// The word that was read.
+pub fn word_in(rt: &impl Abort, reply: Reply) -> u32 {
+    match reply {
+        Reply::Word(word) => word,
+        _other => fail(rt, "no word"),
+    }
+}
+
+/// The block that was taken.
+pub fn block_in(rt: &impl Abort, reply: Reply) -> Buf {
+    match reply {
+        Reply::Buf(block) => block,
+        _other => fail(rt, "no block"),
+    }
+}
+
 /// Makes an event that the device just does.
 pub fn make<N: Nic>(rt: &impl Hand, nic: &mut N, event: Event) {
-    match done(rt, nic.call(rt.alloc(), event)) {
-        Reply::Done => {}
-        _other => panic!(rt; "not done"),
-    }
+    is_done(rt, done(rt, nic.call(rt.alloc(), event)));
 }
 
 /// Lets a frame arrive, which goes into the device's list.
@@ -175,7 +202,7 @@ pub fn frame_of(rt: &impl Hand, number: u16) -> Vec<u8> {
         word = word.wrapping_mul(1_664_525).wrapping_add(1_013_904_223);
     }
     for _byte in 0..low % 4 {
-        done(rt, bytes.push(high));
+        push(rt, &mut bytes, high);
     }
     bytes
 }
@@ -199,7 +226,7 @@ pub fn are_first_frames(rt: &impl Hand, frames: &[(u8, Octets)], count: u16) {
 
 /// These are the bytes of the frame of this number.
 pub fn is_frame(rt: &impl Hand, bytes: &Octets, number: u16) {
-    assert!(rt; bytes.bytes() == frame_of(rt, number).as_slice());
+    same_bytes(rt, bytes.bytes(), frame_of(rt, number).as_slice());
 }
 
 /// Whether these are the packet's bytes.
@@ -216,6 +243,16 @@ pub fn has_bytes(packet: &Packet, frame: &[u8]) -> bool {
     rest.is_empty() && usize::from(packet.len) == frame.len()
 }
 
+/// Sees that these are the packet's bytes.
+pub fn holds_bytes(rt: &impl Abort, packet: &Packet, frame: &[u8]) {
+    sees(rt, has_bytes(packet, frame));
+}
+
+/// The packet holds the frame of this number.
+pub fn holds_frame(rt: &impl Hand, packet: &Packet, number: u16) {
+    holds_bytes(rt, packet, frame_of(rt, number).as_slice());
+}
+
 /// The next packet, where one waits.
 pub fn received<N: Nic>(rt: &impl Hand, nic: &mut N, pmd: &mut Pmd) -> Option<Packet> {
     done(rt, pmd.rx(rt.alloc(), nic))
@@ -225,7 +262,7 @@ pub fn received<N: Nic>(rt: &impl Hand, nic: &mut N, pmd: &mut Pmd) -> Option<Pa
 pub fn send<N: Nic>(rt: &impl Hand, nic: &mut N, pmd: &mut Pmd, packet: Packet) {
     match done(rt, pmd.tx(rt.alloc(), nic, packet)) {
         TxAnswer::Taken => {}
-        TxAnswer::RingFull(_packet) => panic!(rt; "the ring is full"),
+        TxAnswer::RingFull(_packet) => fail(rt, "the ring is full"),
     }
 }
 
@@ -246,7 +283,7 @@ pub fn reap<N: Nic>(rt: &impl Hand, nic: &mut N, pmd: &mut Pmd) {
             return;
         }
     }
-    panic!(rt; "packets stay outstanding");
+    fail(rt, "packets stay outstanding");
 }
 
 /// Stops a driver.
@@ -259,9 +296,14 @@ pub fn stop<N: Nic>(rt: &impl Hand, nic: &mut N, pmd: Pmd) -> (usize, usize) {
     close(rt, stopped(rt, nic, pmd))
 }
 
+/// Stops a driver by which so many packets came and went, and all of whose blocks come home.
+pub fn stops<N: Nic>(rt: &impl Hand, nic: &mut N, pmd: Pmd, packets: (usize, usize)) {
+    same_pair(rt, stop(rt, nic, pmd), packets);
+}
+
 /// A driver whose queue doesn't go off when it is stopped, as nobody steps on it.
 pub fn stop_times_out<N: Nic>(rt: &impl Hand, nic: &mut N, pmd: Pmd) -> Pmd {
     let StopRefused { fault, pmd } = refused(rt, pmd.stop(rt.alloc(), nic));
-    assert!(rt; reason(&fault) == Why::StartTimeout);
+    is_why(rt, &fault, Why::StartTimeout);
     pmd
 }

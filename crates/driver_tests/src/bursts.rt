@@ -1,7 +1,8 @@
 //! A driver that is asked for several packets at once, and is given several to send.
 
 use crate::bench::{
-    are_first_frames, arrive, end, frame_of, has_bytes, in_hand, opened, reap, started_with, stop,
+    are_first_frames, arrive, end, frame_of, holds_frame, in_hand, opened, reap, started_with,
+    stops,
 };
 use crate::outcome::{Hand, done, same};
 use nic_device::{Event, Octets, Port};
@@ -77,7 +78,7 @@ impl Bursts {
     /// The packets are the frames from number 0 on, so many at most.
     fn are_frames(&self, rt: &impl Hand, count: u16) {
         for (number, packet) in (0..count).zip(self.packets.iter()) {
-            assert!(rt; has_bytes(packet, frame_of(rt, number).as_slice()));
+            holds_frame(rt, packet, number);
         }
     }
 
@@ -91,7 +92,7 @@ impl Bursts {
         assert!(rt; packets.is_empty());
         packets.destroy_empty();
         reap(rt, &mut direct, &mut pmd);
-        assert!(rt; stop(rt, &mut direct, pmd) == (count, count));
+        stops(rt, &mut direct, pmd, (count, count));
         let frames = end(rt, in_hand(direct));
         same(rt, frames.len(), count);
         frames

@@ -1,7 +1,7 @@
 //! What others do beside a driver of queue 0, told as data, and the events that it is.
 
 use crate::bench::TCP_FRAME;
-use crate::outcome::{Hand, done, some};
+use crate::outcome::{Hand, done, push, some};
 use nic_device::{Arena, Dir, Event, Octets, Port};
 
 /// A place in memory.
@@ -114,7 +114,7 @@ impl Doing {
     }
 
     fn push(&mut self, rt: &impl Hand, event: Event) {
-        done(rt, self.list.push(event));
+        push(rt, &mut self.list, event);
     }
 
     fn poke_slots(&mut self, rt: &impl Hand, ring: At, bytes: [u8; 16]) {

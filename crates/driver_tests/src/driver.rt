@@ -1,28 +1,46 @@
 //! A driver over a device in hand, from its start to its stop.
 
 use crate::bench::{
-    PLAIN, TCP_FRAME, Why, are_first_frames, blocks, close, end, has_bytes, in_hand, left_by,
-    opened, reason, release, set_up, stepped_on, stop, stop_times_out, stopped,
+    PLAIN, TCP_FRAME, Why, are_first_frames, block_in, blocks, close, end, holds_bytes, in_hand,
+    is_why, left_by, opened, reason, release, segment, set_up, stepped_on, stop, stop_times_out,
+    stopped,
 };
 use crate::interleaved::{unstepped, without_blocks};
-use crate::outcome::{Hand, done, holds, none, refused, same, some};
+use crate::outcome::{Hand, done, fail, holds, none, refused, same, same_bytes, same_pair, some};
 use crate::rig::Rig;
-use nic_device::{Arena, Buf, Event, Mode, Port, Reply};
+use nic_device::{Arena, Buf, Event, Mode, Octets, Port};
 use workers::{Bufs, Direct, Nic, Packet, Pmd, Rest, Setup, StartRefused, TxFault};
+
+/// The frame of TCP arrives and is received.
+fn tcp_received(rt: &impl Hand, rig: &mut Rig) -> Packet {
+    rig.arrive(rt, segment(rt, TCP_FRAME[35]));
+    let packet = some(rt, rig.received(rt));
+    holds_bytes(rt, &packet, &TCP_FRAME);
+    packet
+}
+
+/// The frame of TCP alone went out.
+fn tcp_went_out(rt: &impl Hand, frames: &[(u8, Octets)]) {
+    same(rt, frames.len(), 1);
+    for (_queue, bytes) in frames {
+        same_bytes(rt, bytes.bytes(), &TCP_FRAME);
+    }
+}
+
+/// It is received and sent again.
+fn tcp_goes_through(rt: &impl Hand, rig: &mut Rig) {
+    let packet = tcp_received(rt, rig);
+    none(rt, rig.received(rt));
+    rig.send(rt, packet);
+    rig.reap(rt);
+}
 
 #[test]
 fn a_frame_is_received_and_sent_again(rt: HostRuntime) {
     let rt = &rt;
     let mut rig = Rig::new(rt, 8, (4, 32));
-    rig.arrive(rt, done(rt, Vec::from_array(rt.alloc(), TCP_FRAME)));
-    let packet = some(rt, rig.received(rt));
-    assert!(rt; has_bytes(&packet, &TCP_FRAME));
-    none(rt, rig.received(rt));
-    rig.send(rt, packet);
-    rig.reap(rt);
-    let frames = rig.end(rt, (1, 1));
-    assert_eq!(rt; frames.len(), 1);
-    assert!(rt; frames[0].1.bytes() == &TCP_FRAME[..]);
+    tcp_goes_through(rt, &mut rig);
+    tcp_went_out(rt, rig.end(rt, (1, 1)).as_slice());
 }
 
 /// The key of the published vectors of receive side scaling.
@@ -47,27 +65,46 @@ fn sixth_queue(rt: &impl Hand) -> Rig {
     Rig { direct, pmd }
 }
 
+/// The frame of TCP is received with its kind and hash.
+fn tcp_is_hashed(rt: &impl Hand, rig: &mut Rig) {
+    let packet = tcp_received(rt, rig);
+    same(rt, usize::from(packet.rss), 1);
+    same(rt, packet.hash as usize, 0x51cc_c178);
+    release(rt, &mut rig.pmd, packet);
+}
+
 /// With 16 pools a virtual function has eight queues, among which a frame's entry of the redirection table chooses.
 #[test]
 fn the_sixth_queue_of_a_function_receives_by_the_hash(rt: HostRuntime) {
     let rt = &rt;
     let mut rig = sixth_queue(rt);
-    rig.arrive(rt, done(rt, Vec::from_array(rt.alloc(), TCP_FRAME)));
-    let packet = some(rt, rig.received(rt));
-    assert!(rt; has_bytes(&packet, &TCP_FRAME));
-    assert!(rt; (packet.rss, packet.hash) == (1, 0x51cc_c178));
-    release(rt, &mut rig.pmd, packet);
+    tcp_is_hashed(rt, &mut rig);
     rig.end(rt, (1, 0));
+}
+
+/// So many of a driver's blocks are free.
+fn are_free(rt: &impl Hand, rig: &mut Rig, blocks: u32) {
+    same(
+        rt,
+        free_blocks(rt, &mut rig.pmd, 100) as usize,
+        blocks as usize,
+    );
+}
+
+/// So many frames go through rings of this size. As many blocks are free before and after it.
+fn go_through(rt: &impl Hand, size: u16, blocks: (u32, u32), free: u32, count: u16) {
+    let mut rig = Rig::new(rt, size, blocks);
+    are_free(rt, &mut rig, free);
+    rig.frames(rt, count);
+    are_free(rt, &mut rig, free);
+    same(rt, rig.pmd.handed().len(), usize::from(count));
+    let frames = rig.end(rt, (usize::from(count), usize::from(count)));
+    are_first_frames(rt, frames.as_slice(), count);
 }
 
 #[test]
 fn two_hundred_frames_go_through_a_ring_of_eight(rt: HostRuntime) {
-    let rt = &rt;
-    let mut rig = Rig::new(rt, 8, (4, 32));
-    rig.frames(rt, 200);
-    same(rt, rig.pmd.handed().len(), 200);
-    let frames = rig.end(rt, (200, 200));
-    are_first_frames(rt, frames.as_slice(), 200);
+    go_through(&rt, 8, (4, 32), 23, 200);
 }
 
 /// How many blocks are free, so many at most.
@@ -88,23 +125,13 @@ pub fn free_blocks(rt: &impl Hand, pmd: &mut Pmd, most: u32) -> u32 {
 /// Each ring has two blocks, and 255 are posted. The frames go round both rings more than twice.
 #[test]
 fn six_hundred_frames_go_through_a_ring_of_256(rt: HostRuntime) {
-    let rt = &rt;
-    let mut rig = Rig::new(rt, 256, (0, 320));
-    same(rt, free_blocks(rt, &mut rig.pmd, 100) as usize, 61);
-    rig.frames(rt, 600);
-    same(rt, free_blocks(rt, &mut rig.pmd, 100) as usize, 61);
-    let frames = rig.end(rt, (600, 600));
-    are_first_frames(rt, frames.as_slice(), 600);
+    go_through(&rt, 256, (0, 320), 61, 600);
 }
 
 /// The longest rings have eight blocks each.
 #[test]
 fn five_frames_go_through_a_ring_of_1024(rt: HostRuntime) {
-    let rt = &rt;
-    let mut rig = Rig::new(rt, 1024, (0, 1048));
-    same(rt, free_blocks(rt, &mut rig.pmd, 100) as usize, 9);
-    rig.frames(rt, 5);
-    rig.end(rt, (5, 5));
+    go_through(&rt, 1024, (0, 1048), 9, 5);
 }
 
 /// What is stepped before each call.
@@ -150,7 +177,7 @@ fn come_home<N: Nic>(rt: &impl Hand, nic: &mut N, refusal: StartRefused) -> (Why
         Rest::Home(home) => (close(rt, home), false),
         Rest::Running(pmd) => (stop(rt, nic, pmd), true),
     };
-    assert!(rt; packets == (0, 0));
+    same_pair(rt, packets, (0, 0));
     (reason(&fault), is_lent)
 }
 
@@ -187,11 +214,21 @@ fn a_start_is_refused(rt: HostRuntime) {
     check_starts(&rt, &STARTS);
 }
 
+/// A packet of a block.
+fn packet_of(block: Buf) -> Packet {
+    Packet {
+        bufs: Bufs::of(block),
+        len: 60,
+        rss: 0,
+        hash: 0,
+    }
+}
+
 /// The driver refuses to send a packet whose block isn't its own. It comes back.
 fn foreign_sent(rt: &impl Hand, rig: &mut Rig, packet: Packet) -> Packet {
     let sent = rig.pmd.tx(rt.alloc(), &mut rig.direct, packet);
     let TxFault { fault, packet } = refused(rt, sent);
-    assert!(rt; reason(&fault) == Why::ForeignBlock);
+    is_why(rt, &fault, Why::ForeignBlock);
     some(rt, packet)
 }
 
@@ -206,33 +243,33 @@ fn foreign_released(rt: &impl Hand, pmd: &mut Pmd, packet: Packet) -> Buf {
     let first = some(rt, bufs.take_first());
     match bufs.take_first() {
         None => bufs.finish(),
-        Some(_buf) => panic!(rt; "a second Buf"),
+        Some(_buf) => fail(rt, "a second Buf"),
     }
     first
+}
+
+/// A packet of another arena's block comes back.
+fn foreign_comes_back(rt: &impl Hand, rig: &mut Rig) {
+    let mut other = done(rt, Arena::new(rt.alloc(), 100, 1));
+    let packet = packet_of(some(rt, other.take()));
+    let packet = foreign_sent(rt, rig, packet);
+    let block = foreign_released(rt, &mut rig.pmd, packet);
+    done(rt, other.give(block));
+    done(rt, other.close());
 }
 
 #[test]
 fn a_packet_of_another_arena_comes_back(rt: HostRuntime) {
     let rt = &rt;
     let mut rig = Rig::new(rt, 8, (4, 32));
-    let mut other = done(rt, Arena::new(rt.alloc(), 100, 1));
-    let packet = Packet {
-        bufs: Bufs::of(some(rt, other.take())),
-        len: 60,
-        rss: 0,
-        hash: 0,
-    };
-    let packet = foreign_sent(rt, &mut rig, packet);
-    let block = foreign_released(rt, &mut rig.pmd, packet);
-    done(rt, other.give(block));
-    done(rt, other.close());
+    foreign_comes_back(rt, &mut rig);
     rig.end(rt, (0, 0));
 }
 
 /// The driver answers that it doesn't run, and still makes packets and takes them back.
 fn runs_no_more(rt: &impl Hand, direct: &mut Direct, pmd: &mut Pmd) {
     let fault = refused(rt, pmd.rx(rt.alloc(), direct));
-    assert!(rt; reason(&fault) == Why::DeviceFault);
+    is_why(rt, &fault, Why::DeviceFault);
     let packet = some(rt, pmd.packet(60));
     release(rt, pmd, packet);
 }
@@ -252,10 +289,7 @@ fn a_stop_that_was_refused_is_tried_again(rt: HostRuntime) {
 
 /// Takes a block that is lent to a device in hand.
 fn taken(rt: &impl Hand, direct: &mut Direct, block: u32) -> Buf {
-    match done(rt, direct.call(rt.alloc(), Event::Take(block))) {
-        Reply::Buf(buf) => buf,
-        _other => panic!(rt; "the block isn't lent"),
-    }
+    block_in(rt, done(rt, direct.call(rt.alloc(), Event::Take(block))))
 }
 
 /// Stops a driver that handed out and accepted nothing, and loses one block. Answers the arena.

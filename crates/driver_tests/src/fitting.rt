@@ -1,7 +1,7 @@
 //! What a closed history says of the frames that were let in before a driver's start.
 
-use crate::bench::{PLAIN, end};
-use crate::outcome::{Hand, done, some};
+use crate::bench::{PLAIN, end, word_in};
+use crate::outcome::{Hand, done, fail, holds, push, sees, some};
 use nic_device::{Event, Octets, Port, Reply};
 use workers::{Pass, Setup, Shared, ThroughLock, Watched, frames_fit, pf_setup};
 
@@ -27,7 +27,7 @@ const ROWS: [(&str, u16, u16, bool, bool); 8] = [
 fn arrive(rt: &impl Hand, bench: &Bench, pass: &mut Pass, len: u16) -> bool {
     let mut bytes = Vec::new(rt.alloc());
     for _byte in 0..len {
-        done(rt, bytes.push(0xFF));
+        push(rt, &mut bytes, 0xFF);
     }
     match done(
         rt,
@@ -35,19 +35,40 @@ fn arrive(rt: &impl Hand, bench: &Bench, pass: &mut Pass, len: u16) -> bool {
     ) {
         Reply::Done => true,
         Reply::Dropped(_) => false,
-        _other => panic!(rt; "another reply"),
+        _other => fail(rt, "another reply"),
     }
 }
 
 /// A register is read.
 fn look(rt: &impl Hand, bench: &Bench, pass: &mut Pass) {
-    match done(
-        rt,
-        bench.call(rt, rt.alloc(), pass, Event::Read(Port::Pf, 0x04240)),
-    ) {
-        Reply::Word(_) => {}
-        _other => panic!(rt; "another reply"),
-    }
+    let told = bench.call(rt, rt.alloc(), pass, Event::Read(Port::Pf, 0x04240));
+    word_in(rt, done(rt, told));
+}
+
+/// Sets the device up for frames of 9,728 bytes with their check sequence.
+fn set_up(rt: &impl Hand, bench: &Bench, pass: Pass) -> Pass {
+    let mut nic = ThroughLock::new(rt, bench, pass, 0);
+    let setup = Setup {
+        frame: 9728,
+        ..PLAIN
+    };
+    done(rt, pf_setup(rt.alloc(), &mut nic, &setup));
+    nic.finish()
+}
+
+/// Whether the frames fit the driver's packets by a history, once it is closed. By one entry behind the first, they do.
+fn fits_in(rt: &impl Hand, bench: Bench, passes: [Pass; 2], frame: u16) -> bool {
+    let passes = done(rt, Vec::from_array(rt.alloc(), passes));
+    let closed = done(rt, bench.close(passes));
+    let watched = Watched {
+        vfs: 0,
+        pass: 0,
+        queue: 0,
+    };
+    let answer = frames_fit(watched, 0, frame, closed.history());
+    sees(rt, frames_fit(watched, 1, frame, closed.history()));
+    end(rt, closed.into_device());
+    answer
 }
 
 /// Whether a frame of so many bytes is let in, where frames may have 9,728 bytes with their check sequence, and whether
@@ -56,32 +77,23 @@ fn fits(rt: &impl Hand, len: u16, frame: u16) -> (bool, bool) {
     let (bench, mut passes) = done(rt, Bench::new(rt.alloc(), 1, 2, 1000));
     let other = some(rt, passes.pop());
     let mut driver = some(rt, passes.pop());
-    let mut nic = ThroughLock::new(rt, &bench, other, 0);
-    let setup = Setup {
-        frame: 9728,
-        ..PLAIN
-    };
-    done(rt, pf_setup(rt.alloc(), &mut nic, &setup));
-    let mut other = nic.finish();
+    let mut other = set_up(rt, &bench, other);
     let let_in = arrive(rt, &bench, &mut other, len);
     look(rt, &bench, &mut driver);
-    assert!(rt; arrive(rt, &bench, &mut other, 9724));
-    let passes = done(rt, Vec::from_array(rt.alloc(), [driver, other]));
-    let closed = done(rt, bench.close(passes));
-    let watched = Watched {
-        vfs: 0,
-        pass: 0,
-        queue: 0,
-    };
-    let answer = frames_fit(watched, 0, frame, closed.history());
-    assert!(rt; frames_fit(watched, 1, frame, closed.history()));
-    end(rt, closed.into_device());
-    (let_in, answer)
+    sees(rt, arrive(rt, &bench, &mut other, 9724));
+    (let_in, fits_in(rt, bench, [driver, other], frame))
+}
+
+/// A frame is let in or not, and fits or not, as the row of this name says.
+fn fits_or_not(rt: &impl Hand, name: &str, (len, frame): (u16, u16), wanted: (bool, bool)) {
+    let told = fits(rt, len, frame);
+    holds(rt, name, "let in", told.0 == wanted.0);
+    holds(rt, name, "fits", told.1 == wanted.1);
 }
 
 #[test]
 fn frames_that_were_let_in_fit_or_not(rt: HostRuntime) {
     for (name, len, frame, let_in, fit) in ROWS {
-        assert!(rt; fits(&rt, len, frame) == (let_in, fit), "{name}");
+        fits_or_not(&rt, name, (len, frame), (let_in, fit));
     }
 }

@@ -1,6 +1,6 @@
 //! The calls on a device in hand as a history: a driver of queue 0 made some of them, and others the rest.
 
-use crate::outcome::{Hand, done};
+use crate::outcome::{Hand, done, push};
 use nic_device::Device;
 use workers::{Call, Direct, Entry, Watched, left_alone};
 
@@ -13,7 +13,7 @@ pub const OTHERS: u8 = 1;
 /// Puts a call behind a history.
 fn add_call(rt: &impl Hand, history: &mut Vec<Entry>, pass: u8, call: Call) {
     let Call { event, reply } = call;
-    done(rt, history.push(Entry { pass, event, reply }));
+    push(rt, history, Entry { pass, event, reply });
 }
 
 /// Puts calls of one pass behind a history.
@@ -26,7 +26,7 @@ pub fn add_calls(rt: &impl Hand, history: &mut Vec<Entry>, pass: u8, calls: Vec<
 /// Puts entries behind a history.
 pub fn add_entries(rt: &impl Hand, history: &mut Vec<Entry>, entries: Vec<Entry>) {
     for entry in entries {
-        done(rt, history.push(entry));
+        push(rt, history, entry);
     }
 }
 

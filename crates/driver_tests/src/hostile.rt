@@ -9,7 +9,7 @@ use crate::deeds::Deed::{self, Fills, Lends, Names, Receives, Sends, Takes, Writ
 use crate::deeds::{Doing, Rings};
 use crate::history::{DRIVER, OTHERS, add_entries, finished, is_left_alone};
 use crate::interleaved::amid;
-use crate::outcome::{Hand, done, holds, same, some};
+use crate::outcome::{Hand, done, holds, push, same, some};
 use crate::schedule::{Left, Schedule, all_home, finish, push_steps, take_all};
 use nic_device::{Arena, Buf, Device, Event, Mode, Octets, Port, Reply};
 use workers::{Direct, Entry, Home, Nic, Packet, Pmd, Setup, StopRefused, TxAnswer, TxFault};
@@ -85,9 +85,15 @@ type Told<P> = (What, P, P);
 
 const NO_WRITE: Told<At> = (What::Nothing, Zero, Zero);
 
+/// What others do, one after the other.
+type Deeds = [Deed; 3];
+
+/// No deed: no block is taken.
+const NONE: Deed = Takes(0, 0);
+
 /// What others do to a driver in its midst: by what name, on which device, with which blocks of theirs, as first and
 /// count, the deeds, whether the driver's queue is left alone, and what a step of queue 3 tells first.
-type Row<'a> = (&'a str, On, (u32, u32), &'a [Deed], bool, Told<At>);
+type Row<'a> = (&'a str, On, (u32, u32), Deeds, bool, Told<At>);
 
 /// Blocks of the numbers of the driver's.
 const SAME: (u32, u32) = (4, 32);
@@ -123,42 +129,42 @@ const ENDS: [u8; 8] = [0x3c, 0, 0x30, 0x2b, 0, 0, 0x0f, 0];
 /// be in a block of the driver's, where all bytes are 0, and so name block 0; and it may be the driver's own.
 #[rattlefmt::skip]
 const ROWS: [Row<'static>; 28] = [
-    ("nothing is done", On::Plain, SAME, &[], true, NO_WRITE),
-    ("it becomes a function's, which writes RDT", On::Plain, SAME, &[POOLS, VF_RDT], false, NO_WRITE),
-    ("it becomes a function's, which writes RXDCTL", On::Plain, SAME, &[POOLS, VF_RXDCTL], false, NO_WRITE),
-    ("it becomes a function's, which is reset", On::Plain, SAME, &[POOLS, VF_RESET], false, NO_WRITE),
-    ("the function writes RDT", On::Pools, SAME, &[VF_RDT], false, NO_WRITE),
-    ("the function writes RXDCTL", On::Pools, SAME, &[VF_RXDCTL], false, NO_WRITE),
-    ("the function is reset", On::Pools, SAME, &[VF_RESET], false, NO_WRITE),
-    ("the pool is reset", On::Pools, SAME, &[POOL_RESET], false, NO_WRITE),
-    ("the function writes RDT of its other queue", On::Pools, SAME, &[OTHER_RDT], true, NO_WRITE),
-    ("the receive ring's block is taken", On::Plain, SAME, &[Takes(4, 1)], false, NO_WRITE),
-    ("the transmit ring's block is taken", On::Plain, SAME, &[Takes(5, 1)], false, NO_WRITE),
-    ("a posted block is taken", On::Plain, SAME, &[Takes(9, 1)], false, NO_WRITE),
-    ("all blocks are taken", On::Plain, SAME, &[Takes(4, 32)], false, NO_WRITE),
-    ("one of the receive ring's number is lent", On::Plain, SAME, &[Lends(4, 1)], false, NO_WRITE),
-    ("one of the transmit ring's number is lent", On::Plain, SAME, &[Lends(5, 1)], false, NO_WRITE),
-    ("one of a posted one's number is lent", On::Plain, SAME, &[Lends(9, 1)], false, NO_WRITE),
-    ("one of each number is lent", On::Plain, SAME, &[Lends(4, 32)], false, NO_WRITE),
-    ("descriptors of 0x00", On::Plain, SAME, &[Fills(Receive, 0x00), Fills(Transmit, 0x00)], false, NO_WRITE),
-    ("descriptors of 0x01", On::Plain, SAME, &[Fills(Receive, 0x01), Fills(Transmit, 0x01)], false, NO_WRITE),
-    ("descriptors of 0xFF", On::Plain, SAME, &[Fills(Receive, 0xFF), Fills(Transmit, 0xFF)], false, NO_WRITE),
+    ("nothing is done", On::Plain, SAME, [NONE, NONE, NONE], true, NO_WRITE),
+    ("it becomes a function's, which writes RDT", On::Plain, SAME, [POOLS, VF_RDT, NONE], false, NO_WRITE),
+    ("it becomes a function's, which writes RXDCTL", On::Plain, SAME, [POOLS, VF_RXDCTL, NONE], false, NO_WRITE),
+    ("it becomes a function's, which is reset", On::Plain, SAME, [POOLS, VF_RESET, NONE], false, NO_WRITE),
+    ("the function writes RDT", On::Pools, SAME, [VF_RDT, NONE, NONE], false, NO_WRITE),
+    ("the function writes RXDCTL", On::Pools, SAME, [VF_RXDCTL, NONE, NONE], false, NO_WRITE),
+    ("the function is reset", On::Pools, SAME, [VF_RESET, NONE, NONE], false, NO_WRITE),
+    ("the pool is reset", On::Pools, SAME, [POOL_RESET, NONE, NONE], false, NO_WRITE),
+    ("the function writes RDT of its other queue", On::Pools, SAME, [OTHER_RDT, NONE, NONE], true, NO_WRITE),
+    ("the receive ring's block is taken", On::Plain, SAME, [Takes(4, 1), NONE, NONE], false, NO_WRITE),
+    ("the transmit ring's block is taken", On::Plain, SAME, [Takes(5, 1), NONE, NONE], false, NO_WRITE),
+    ("a posted block is taken", On::Plain, SAME, [Takes(9, 1), NONE, NONE], false, NO_WRITE),
+    ("all blocks are taken", On::Plain, SAME, [Takes(4, 32), NONE, NONE], false, NO_WRITE),
+    ("one of the receive ring's number is lent", On::Plain, SAME, [Lends(4, 1), NONE, NONE], false, NO_WRITE),
+    ("one of the transmit ring's number is lent", On::Plain, SAME, [Lends(5, 1), NONE, NONE], false, NO_WRITE),
+    ("one of a posted one's number is lent", On::Plain, SAME, [Lends(9, 1), NONE, NONE], false, NO_WRITE),
+    ("one of each number is lent", On::Plain, SAME, [Lends(4, 32), NONE, NONE], false, NO_WRITE),
+    ("descriptors of 0x00", On::Plain, SAME, [Fills(Receive, 0x00), Fills(Transmit, 0x00), NONE], false, NO_WRITE),
+    ("descriptors of 0x01", On::Plain, SAME, [Fills(Receive, 0x01), Fills(Transmit, 0x01), NONE], false, NO_WRITE),
+    ("descriptors of 0xFF", On::Plain, SAME, [Fills(Receive, 0xFF), Fills(Transmit, 0xFF), NONE], false, NO_WRITE),
     ("a frame of queue 3 goes elsewhere", On::Hashed, TWO,
-        &[Lends(100, 2), Names(Ring, Buffer, FRAME), Receives(Ring)], true, (What::Frame, Buffer, Ring)),
+        [Lends(100, 2), Names(Ring, Buffer, FRAME), Receives(Ring)], true, (What::Frame, Buffer, Ring)),
     ("a frame of queue 3 goes into its block", On::Hashed, TWO,
-        &[Lends(100, 2), Names(Ring, Free, FRAME), Receives(Ring)], false, (What::Frame, Free, Ring)),
+        [Lends(100, 2), Names(Ring, Free, FRAME), Receives(Ring)], false, (What::Frame, Free, Ring)),
     ("a descriptor of queue 3 goes into its block", On::Hashed, (0, 1),
-        &[Lends(0, 1), Receives(Free)], false, (What::Frame, Zero, Free)),
+        [Lends(0, 1), Receives(Free), NONE], false, (What::Frame, Zero, Free)),
     ("queue 3 reports a fetch in its own slot", On::Plain, TWO,
-        &[Lends(100, 2), Names(Ring, Buffer, GOES_ON), Sends(Ring, None, 1)], true, (What::Advanced, Ring, Zero)),
+        [Lends(100, 2), Names(Ring, Buffer, GOES_ON), Sends(Ring, None, 1)], true, (What::Advanced, Ring, Zero)),
     ("queue 3 reports a packet in its own slot", On::Plain, TWO,
-        &[Lends(100, 2), Names(Ring, Buffer, ENDS), Sends(Ring, None, 1)], true, (What::Sent, Ring, Zero)),
+        [Lends(100, 2), Names(Ring, Buffer, ENDS), Sends(Ring, None, 1)], true, (What::Sent, Ring, Zero)),
     ("queue 3 reports a fetch in its block", On::Plain, TWO,
-        &[Lends(100, 2), Names(Ring, Buffer, GOES_ON), Sends(Ring, Some(Free), 1)], false,
+        [Lends(100, 2), Names(Ring, Buffer, GOES_ON), Sends(Ring, Some(Free), 1)], false,
         (What::Advanced, Free, Zero)),
     ("queue 3 reports a packet in its block", On::Plain, TWO,
-        &[Lends(100, 2), Names(Ring, Buffer, ENDS), Sends(Ring, Some(Free), 1)], false, (What::Sent, Free, Zero)),
-    ("queue 3 is laid over its transmit ring", On::Plain, TWO, &[Sends(Transmit, None, 7)], false,
+        [Lends(100, 2), Names(Ring, Buffer, ENDS), Sends(Ring, Some(Free), 1)], false, (What::Sent, Free, Zero)),
+    ("queue 3 is laid over its transmit ring", On::Plain, TWO, [Sends(Transmit, None, 7), NONE, NONE], false,
         (What::Sent, Transmit, Zero)),
 ];
 
@@ -194,9 +200,9 @@ fn traffic(rt: &impl Hand, schedule: &mut Schedule, count: u16) {
         push_steps(rt, &mut list);
         if number % 5 == 0 {
             let frame = frame_of(rt, number);
-            done(rt, list.push(Event::Arrive(Octets::of(frame))));
+            push(rt, &mut list, Event::Arrive(Octets::of(frame)));
         }
-        done(rt, schedule.push(list));
+        push(rt, schedule, list);
     }
 }
 
@@ -231,7 +237,7 @@ fn drive<N: Nic>(rt: &impl Hand, nic: &mut N, pmd: &mut Pmd) {
 fn schedule_with(rt: &impl Hand, list: Vec<Event>) -> Schedule {
     let mut schedule = Vec::new(rt.alloc());
     traffic(rt, &mut schedule, 40);
-    done(rt, schedule.push(list));
+    push(rt, &mut schedule, list);
     traffic(rt, &mut schedule, 300);
     schedule
 }
@@ -326,19 +332,20 @@ fn first_told(history: &mut [Entry]) -> Told<u64> {
 }
 
 /// The history of a driver that endures a row, and where its rings were.
-fn endured(rt: &impl Hand, on: On, blocks: (u32, u32), deeds: &[Deed]) -> (Vec<Entry>, Rings) {
+fn endured(rt: &impl Hand, on: On, blocks: (u32, u32), deeds: Deeds) -> (Vec<Entry>, Rings) {
     let begun = begin_on(rt, &on.setup());
     let rings = begun.rings;
+    let [first, second, third] = deeds;
     let mut doing = Doing::new(rt, rings, blocks);
-    for deed in deeds {
-        doing.add(rt, *deed);
-    }
+    doing.add(rt, first);
+    doing.add(rt, second);
+    doing.add(rt, third);
     (endures(rt, begun, doing), rings)
 }
 
 /// Sees that a bus address told in the row of this name is the one that is wanted.
 fn is_address(rt: &impl Hand, name: &str, what: &str, told: u64, wanted: u32) {
-    assert!(rt; told == u64::from(wanted), "{name}: {what} {told:#x}");
+    holds(rt, name, what, told == u64::from(wanted));
 }
 
 /// A driver endures a row, whose history is judged as it says. One that doesn't leave the queue alone would not if the
@@ -371,10 +378,10 @@ fn a_driver_stops_whatever_others_do(rt: HostRuntime) {
 fn check_writes(rt: &impl Hand, writes: &[(u32, u32, bool)]) {
     for (address, word, spares) in writes {
         let name = done(rt, format!(in rt.alloc(); "a write at {address:#07x}"));
-        let deeds = [Writes(Port::Pf, *address, *word)];
+        let deeds = [Writes(Port::Pf, *address, *word), NONE, NONE];
         check(
             rt,
-            (name.as_str(), On::Plain, SAME, &deeds, *spares, NO_WRITE),
+            (name.as_str(), On::Plain, SAME, deeds, *spares, NO_WRITE),
         );
     }
 }

@@ -1,10 +1,10 @@
 //! A driver among foreign events that are told beforehand.
 
 use crate::bench::{
-    end, frame_of, has_bytes, in_hand, is_frame, make, opened, reap, reap_once, received, release,
-    send, started, stepped, stop, stop_times_out, taken_apart,
+    end, frame_of, holds_frame, in_hand, is_done, is_frame, make, opened, reap, reap_once,
+    received, release, send, started, stepped, stop_times_out, stops, taken_apart,
 };
-use crate::outcome::{Hand, done, emptied, none, same, some};
+use crate::outcome::{Hand, done, emptied, fail, none, push, same, sees, some};
 use crate::rig::Rig;
 use crate::schedule::{Left, Schedule, all_home, finish, push_switches, take_all};
 use nic_device::{Arena, Buf, Device, Dir, Event, Octets, Port, Reply};
@@ -26,7 +26,7 @@ fn switched(rt: &impl Hand, device: Device) -> Interleaved {
     for _list in 0..200 {
         let mut list = Vec::new(rt.alloc());
         push_switches(rt, &mut list);
-        done(rt, schedule.push(list));
+        push(rt, &mut schedule, list);
     }
     amid(rt, device, schedule)
 }
@@ -52,9 +52,20 @@ fn own_packet(rt: &impl Hand, pmd: &mut Pmd) -> Packet {
 fn is_full(rt: &impl Hand, nic: &mut Interleaved, pmd: &mut Pmd) {
     let eighth = own_packet(rt, pmd);
     match done(rt, pmd.tx(rt.alloc(), nic, eighth)) {
-        TxAnswer::Taken => panic!(rt; "the eighth packet is taken"),
+        TxAnswer::Taken => fail(rt, "the eighth packet is taken"),
         TxAnswer::RingFull(packet) => release(rt, pmd, packet),
     }
+}
+
+/// A driver whose ring takes seven packets, which nobody sends, and whose stop times out.
+fn seven_are_taken(rt: &impl Hand, nic: &mut Interleaved, pmd: Pmd) -> Pmd {
+    let mut pmd = pmd;
+    for _packet in 0..7 {
+        let packet = own_packet(rt, &mut pmd);
+        send(rt, nic, &mut pmd, packet);
+    }
+    is_full(rt, nic, &mut pmd);
+    stop_times_out(rt, nic, pmd)
 }
 
 /// Both sides are switched on at the start, and nothing is stepped on after it: seven packets are taken, and no more.
@@ -62,16 +73,11 @@ fn is_full(rt: &impl Hand, nic: &mut Interleaved, pmd: &mut Pmd) {
 fn a_ring_of_eight_takes_seven_packets_that_nobody_sends(rt: HostRuntime) {
     let rt = &rt;
     let mut nic = switched(rt, in_hand(opened(rt, 64, 0)));
-    let mut pmd = started(rt, &mut nic);
+    let pmd = started(rt, &mut nic);
     let mut nic = unstepped(rt, without_blocks(rt, nic));
-    for _packet in 0..7 {
-        let packet = own_packet(rt, &mut pmd);
-        send(rt, &mut nic, &mut pmd, packet);
-    }
-    is_full(rt, &mut nic, &mut pmd);
-    let pmd = stop_times_out(rt, &mut nic, pmd);
+    let pmd = seven_are_taken(rt, &mut nic, pmd);
     let mut nic = switched(rt, without_blocks(rt, nic));
-    assert!(rt; stop(rt, &mut nic, pmd) == (0, 7));
+    stops(rt, &mut nic, pmd, (0, 7));
     same(rt, end(rt, without_blocks(rt, nic)).len(), 0);
 }
 
@@ -79,13 +85,10 @@ fn a_ring_of_eight_takes_seven_packets_that_nobody_sends(rt: HostRuntime) {
 fn last_is_a_fault(rt: &impl Hand, mut replies: Vec<Reply>) {
     match some(rt, replies.pop()) {
         Reply::Fault { queue: 0, .. } => {}
-        _other => panic!(rt; "no fault"),
+        _other => fail(rt, "no fault"),
     }
     for _reply in 0..replies.len() {
-        match some(rt, replies.pop()) {
-            Reply::Done => {}
-            _other => panic!(rt; "not done"),
-        }
+        is_done(rt, some(rt, replies.pop()));
     }
     emptied(rt, replies);
 }
@@ -93,9 +96,9 @@ fn last_is_a_fault(rt: &impl Hand, mut replies: Vec<Reply>) {
 /// Lists for two calls: a frame arrives and a tail beyond the ring is written, and then the device receives.
 fn foreign_tail(rt: &impl Hand) -> Schedule {
     let (mut first, mut second) = (Vec::new(rt.alloc()), Vec::new(rt.alloc()));
-    done(rt, first.push(Event::Arrive(Octets::of(frame_of(rt, 0)))));
-    done(rt, first.push(Event::Write(Port::Pf, 0x01018, 200))); // RDT
-    done(rt, second.push(Event::RxStep));
+    push(rt, &mut first, Event::Arrive(Octets::of(frame_of(rt, 0))));
+    push(rt, &mut first, Event::Write(Port::Pf, 0x01018, 200)); // RDT
+    push(rt, &mut second, Event::RxStep);
     done(rt, Vec::from_array(rt.alloc(), [first, second]))
 }
 
@@ -113,18 +116,22 @@ fn after_a_fault(rt: &impl Hand, nic: Interleaved) -> Device {
     device
 }
 
+/// The driver hands nothing out where somebody writes a tail beyond its ring.
+fn amid_a_foreign_tail(rt: &impl Hand, rig: Rig) -> Rig {
+    let Rig { direct, mut pmd } = rig;
+    let mut nic = amid(rt, in_hand(direct), foreign_tail(rt));
+    none(rt, received(rt, &mut nic, &mut pmd));
+    none(rt, received(rt, &mut nic, &mut pmd));
+    let direct = stepped(rt, after_a_fault(rt, nic));
+    Rig { direct, pmd }
+}
+
 /// Somebody writes a tail beyond the driver's ring: the frame meets a fault, which switches the receive side off. The
 /// driver hands nothing out, and all its blocks come home.
 #[test]
 fn a_foreign_tail_switches_the_queue_off(rt: HostRuntime) {
     let rt = &rt;
-    let Rig { direct, mut pmd } = Rig::new(rt, 8, (4, 32));
-    let mut nic = amid(rt, in_hand(direct), foreign_tail(rt));
-    for _call in 0..2 {
-        none(rt, received(rt, &mut nic, &mut pmd));
-    }
-    let direct = stepped(rt, after_a_fault(rt, nic));
-    Rig { direct, pmd }.end(rt, (0, 0));
+    amid_a_foreign_tail(rt, Rig::new(rt, 8, (4, 32))).end(rt, (0, 0));
 }
 
 /// The transmit ring of another queue, of 8 slots in the lower of two lent blocks: each names 60 bytes of the other.
@@ -156,25 +163,25 @@ fn busy(rt: &impl Hand, count: u16) -> Schedule {
         };
         let mut list = Vec::new(rt.alloc());
         if number < 200 {
-            done(rt, list.push(Event::QueueStep(Dir::Tx, queue)));
+            push(rt, &mut list, Event::QueueStep(Dir::Tx, queue));
             push_switches(rt, &mut list);
         } else if number % 8 == 0 && number < 8200 {
             let frame = frame_of(rt, number / 8 - 25);
-            done(rt, list.push(Event::Arrive(Octets::of(frame))));
+            push(rt, &mut list, Event::Arrive(Octets::of(frame)));
         }
         let slot = u32::from(number / 2 % 8);
-        done(rt, list.push(Event::Write(Port::Pf, tail, slot))); // TDT
-        done(rt, list.push(Event::TxStep(queue)));
-        done(rt, list.push(Event::TxStep(0)));
-        done(rt, list.push(Event::RxStep));
-        done(rt, schedule.push(list));
+        push(rt, &mut list, Event::Write(Port::Pf, tail, slot)); // TDT
+        push(rt, &mut list, Event::TxStep(queue));
+        push(rt, &mut list, Event::TxStep(0));
+        push(rt, &mut list, Event::RxStep);
+        push(rt, &mut schedule, list);
     }
     schedule
 }
 
 /// The frames of queue 0 among those that went out are the first so many, in order. Others went out beside them.
 fn went_out(rt: &impl Hand, frames: &[(u8, Octets)], count: u16) {
-    assert!(rt; frames.len() > 5 * usize::from(count));
+    sees(rt, frames.len() > 5 * usize::from(count));
     let mut number: u16 = 0;
     for (queue, bytes) in frames {
         if *queue == 0 {
@@ -199,7 +206,7 @@ fn with_two_queues(rt: &impl Hand, others: &mut Arena) -> Device {
 fn next_goes_on(rt: &impl Hand, nic: &mut Interleaved, pmd: &mut Pmd, number: u16) -> u16 {
     match received(rt, nic, pmd) {
         Some(packet) => {
-            assert!(rt; has_bytes(&packet, frame_of(rt, number).as_slice()));
+            holds_frame(rt, &packet, number);
             send(rt, nic, pmd, packet);
             number.saturating_add(1)
         }
@@ -220,6 +227,16 @@ fn a_thousand_go_on(rt: &impl Hand, nic: &mut Interleaved, pmd: &mut Pmd) {
     reap(rt, nic, pmd);
 }
 
+/// A driver starts on a device, sees a thousand frames go on while other queues are busy, and is stopped.
+fn a_thousand_go_through(rt: &impl Hand, device: Device) -> Device {
+    let mut nic = amid(rt, device, busy(rt, 12_000));
+    let mut pmd = started(rt, &mut nic);
+    a_thousand_go_on(rt, &mut nic, &mut pmd);
+    let mut direct = stepped(rt, without_blocks(rt, nic));
+    stops(rt, &mut direct, pmd, (1000, 1000));
+    in_hand(direct)
+}
+
 /// Takes a device apart to which blocks of one arena are lent. Answers its frames out.
 fn apart(rt: &impl Hand, device: Device, others: Arena) -> Vec<(u8, Octets)> {
     let mut bufs = Vec::new(rt.alloc());
@@ -237,11 +254,7 @@ fn a_thousand_frames_go_through_a_ring_of_eight_beside_two_queues(rt: HostRuntim
     let rt = &rt;
     let mut others = done(rt, Arena::new(rt.alloc(), 100, 4));
     let device = with_two_queues(rt, &mut others);
-    let mut nic = amid(rt, device, busy(rt, 12_000));
-    let mut pmd = started(rt, &mut nic);
-    a_thousand_go_on(rt, &mut nic, &mut pmd);
-    let mut direct = stepped(rt, without_blocks(rt, nic));
-    assert!(rt; stop(rt, &mut direct, pmd) == (1000, 1000));
-    let frames = apart(rt, in_hand(direct), others);
+    let device = a_thousand_go_through(rt, device);
+    let frames = apart(rt, device, others);
     went_out(rt, frames.as_slice(), 1000);
 }

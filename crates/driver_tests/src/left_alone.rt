@@ -1,12 +1,11 @@
 //! What a closed history says of a queue beside which another pass made an event.
 
-use crate::bench::end;
-use crate::outcome::{Hand, done, holds, some};
+use crate::bench::{block_in, end};
+use crate::outcome::{Hand, done, fail, holds, some};
+use crate::stranger::reply;
+use crate::team::Bench;
 use nic_device::{Arena, Buf, Event, Port, Reply};
-use workers::{Pass, Shared};
-
-/// A shared device of one virtual function.
-type Bench = Shared<1, 64>;
+use workers::Pass;
 
 /// The register by which the queues are parted among pools.
 const GCR_EXT: u32 = 0x11050;
@@ -61,23 +60,20 @@ const ROWS: [Row<'static>; 19] = [
 
 /// An event that gives no block back.
 fn make(rt: &impl Hand, bench: &Bench, pass: &mut Pass, event: Event) {
-    match done(rt, bench.call(rt, rt.alloc(), pass, event)) {
+    match reply(rt, bench, pass, event) {
         Reply::Done
         | Reply::Word(_)
         | Reply::Stray(_)
         | Reply::NotLent
         | Reply::Misaligned
         | Reply::Idle => {}
-        _other => panic!(rt; "another reply"),
+        _other => fail(rt, "another reply"),
     }
 }
 
 /// The block 5, which the driver takes back.
 fn taken(rt: &impl Hand, bench: &Bench, driver: &mut Pass) -> Buf {
-    match done(rt, bench.call(rt, rt.alloc(), driver, Event::Take(5))) {
-        Reply::Buf(block) => block,
-        _other => panic!(rt; "the block"),
-    }
+    block_in(rt, reply(rt, bench, driver, Event::Take(5)))
 }
 
 /// The driver of queue 0 reads a register and lends block 5, and then another pass makes the event. Before all that

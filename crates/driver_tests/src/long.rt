@@ -1,10 +1,11 @@
 //! A driver of long frames, of up to 9,728 bytes with their frame check sequence.
 
 use crate::bench::{
-    PLAIN, Why, close, count_calls, end, has_bytes, in_hand, reason, set_up, stopped, untouched,
+    PLAIN, Why, close, count_calls, end, holds_bytes, in_hand, is_why, reason, set_up, stopped,
+    untouched,
 };
 use crate::driver::free_blocks;
-use crate::outcome::{Hand, done, refused, same, some};
+use crate::outcome::{Hand, done, fail, push, refused, same, same_bytes, same_pair, sees, some};
 use crate::rig::Rig;
 use nic_device::{Arena, Event, Octets, Port, Reply};
 use workers::{Direct, Nic, Packet, Pmd, Rest, Setup, StartRefused, pf_setup};
@@ -30,14 +31,14 @@ fn rig_for_long_frames(rt: &impl Hand) -> Rig {
 fn stop_with_320(rt: &impl Hand, direct: &mut Direct, pmd: Pmd, packets: (usize, usize)) {
     let home = stopped(rt, direct, pmd);
     same(rt, home.arena.free_blocks() as usize, 320);
-    assert!(rt; close(rt, home) == packets);
+    same_pair(rt, close(rt, home), packets);
 }
 
 /// A frame of 5,000 bytes to the broadcast address.
 fn long_frame(rt: &impl Hand) -> Vec<u8> {
     let mut bytes = done(rt, Vec::from_array(rt.alloc(), [0xFF; 6]));
     for number in 6..5000_u16 {
-        done(rt, bytes.push((number % 251) as u8));
+        push(rt, &mut bytes, (number % 251) as u8);
     }
     bytes
 }
@@ -49,15 +50,40 @@ fn received_soon(rt: &impl Hand, rig: &mut Rig) -> Packet {
             return packet;
         }
     }
-    panic!(rt; "no packet comes")
+    fail(rt, "no packet comes")
 }
 
 /// The oldest frame that went out.
 fn collected(rt: &impl Hand, direct: &mut Direct) -> Octets {
     match done(rt, direct.call(rt.alloc(), Event::Collect)) {
         Reply::Frame { bytes, .. } => bytes,
-        _other => panic!(rt; "no frame went out"),
+        _other => fail(rt, "no frame went out"),
     }
+}
+
+/// The long frame goes out.
+fn is_collected(rt: &impl Hand, direct: &mut Direct) {
+    let frame = collected(rt, direct);
+    same_bytes(rt, frame.bytes(), long_frame(rt).as_slice());
+}
+
+/// A packet of three Bufs that holds the long frame is sent, which goes out whole and alone. Then the driver is
+/// stopped, by which so many packets came and went.
+fn goes_out(rt: &impl Hand, rig: Rig, packet: Packet, packets: (usize, usize)) {
+    let mut rig = rig;
+    same(rt, packet.bufs.count(), 3);
+    holds_bytes(rt, &packet, long_frame(rt).as_slice());
+    rig.send(rt, packet);
+    rig.reap(rt);
+    is_collected(rt, &mut rig.direct);
+    ends_empty(rt, rig, packets);
+}
+
+/// The driver is stopped, and no frame is left to go out.
+fn ends_empty(rt: &impl Hand, rig: Rig, packets: (usize, usize)) {
+    let Rig { mut direct, pmd } = rig;
+    stop_with_320(rt, &mut direct, pmd, packets);
+    same(rt, end(rt, in_hand(direct)).len(), 0);
 }
 
 /// The frame fills two blocks, and a third in part: three descriptors of each ring.
@@ -66,17 +92,9 @@ fn a_frame_of_5_000_bytes_is_received_and_sent_again(rt: HostRuntime) {
     let rt = &rt;
     let mut rig = rig_for_long_frames(rt);
     same(rt, free_blocks(rt, &mut rig.pmd, 100) as usize, 61);
-    let frame = long_frame(rt);
     rig.arrive(rt, long_frame(rt));
     let packet = received_soon(rt, &mut rig);
-    assert_eq!(rt; packet.bufs.count(), 3);
-    assert!(rt; has_bytes(&packet, frame.as_slice()));
-    rig.send(rt, packet);
-    rig.reap(rt);
-    assert!(rt; collected(rt, &mut rig.direct).bytes() == frame.as_slice());
-    let Rig { mut direct, pmd } = rig;
-    stop_with_320(rt, &mut direct, pmd, (1, 1));
-    assert!(rt; end(rt, in_hand(direct)).is_empty());
+    goes_out(rt, rig, packet, (1, 1));
 }
 
 /// Ends a device by which no call was made.
@@ -91,10 +109,10 @@ fn filled(rt: &impl Hand, pmd: &mut Pmd, frame: &[u8]) -> Packet {
     let (first, others) = frame.split_at(frame.len() / 2);
     let mut packet = some(rt, pmd.packet(5000));
     same(rt, packet.bufs.count(), 3);
-    assert!(rt; packet.write_at(first.len(), others));
-    assert!(rt; packet.write_at(0, first));
-    assert!(rt; !packet.write_at(4999, &[1, 1]));
-    assert!(rt; !packet.write_at(usize::MAX, &[1, 1]));
+    sees(rt, packet.write_at(first.len(), others));
+    sees(rt, packet.write_at(0, first));
+    sees(rt, !packet.write_at(4999, &[1, 1]));
+    sees(rt, !packet.write_at(usize::MAX, &[1, 1]));
     packet
 }
 
@@ -102,15 +120,8 @@ fn filled(rt: &impl Hand, pmd: &mut Pmd, frame: &[u8]) -> Packet {
 fn a_packet_of_5_000_bytes_is_filled_and_sent(rt: HostRuntime) {
     let rt = &rt;
     let mut rig = rig_for_long_frames(rt);
-    let frame = long_frame(rt);
-    let packet = filled(rt, &mut rig.pmd, frame.as_slice());
-    assert!(rt; has_bytes(&packet, frame.as_slice()));
-    rig.send(rt, packet);
-    rig.reap(rt);
-    assert!(rt; collected(rt, &mut rig.direct).bytes() == frame.as_slice());
-    let Rig { mut direct, pmd } = rig;
-    stop_with_320(rt, &mut direct, pmd, (0, 1));
-    assert!(rt; end(rt, in_hand(direct)).is_empty());
+    let packet = filled(rt, &mut rig.pmd, long_frame(rt).as_slice());
+    goes_out(rt, rig, packet, (0, 1));
 }
 
 /// Rings and frames that no driver has: how many descriptors, and how many bytes.
@@ -120,39 +131,38 @@ const NO_SIZES: [(u16, u16); 3] = [(1032, 9728), (256, 9729), (256, 1517)];
 fn refused_start(rt: &impl Hand, direct: &mut Direct, size: u16, frame: u16) -> Why {
     let StartRefused { fault, rest } = refused(rt, start(rt, direct, size, frame));
     match rest {
-        Rest::Home(home) => assert!(rt; close(rt, home) == (0, 0)),
-        Rest::Running(_pmd) => panic!(rt; "blocks are lent"),
+        Rest::Home(home) => same_pair(rt, close(rt, home), (0, 0)),
+        Rest::Running(_pmd) => fail(rt, "blocks are lent"),
     }
     reason(&fault)
 }
 
+/// A driver of this size for these frames makes no call.
+fn starts_nothing(rt: &impl Hand, size: u16, frame: u16) {
+    let mut direct = untouched(rt, 64, 0);
+    let why = refused_start(rt, &mut direct, size, frame);
+    sees(rt, why == Why::BadSize);
+    made_no_call(rt, direct);
+}
+
 #[test]
 fn a_driver_of_no_such_size_makes_no_call(rt: HostRuntime) {
-    let rt = &rt;
     for (size, frame) in NO_SIZES {
-        let mut direct = untouched(rt, 64, 0);
-        let why = refused_start(rt, &mut direct, size, frame);
-        assert!(rt;
-            why == Why::BadSize,
-            "rings of {size}, frames of {frame} bytes"
-        );
-        made_no_call(rt, direct);
+        starts_nothing(&rt, size, frame);
     }
 }
 
-/// Why a set-up of this device for frames of so many bytes at most is refused.
-fn refused_set_up(rt: &impl Hand, direct: &mut Direct, frame: u16) -> Why {
+/// A set-up for frames of so many bytes at most makes no call.
+fn sets_nothing_up(rt: &impl Hand, frame: u16) {
     let setup = Setup { frame, ..PLAIN };
-    reason(&refused(rt, pf_setup(rt.alloc(), direct, &setup)))
+    let mut direct = untouched(rt, 64, 0);
+    let fault = refused(rt, pf_setup(rt.alloc(), &mut direct, &setup));
+    is_why(rt, &fault, Why::BadSize);
+    made_no_call(rt, direct);
 }
 
 #[test]
 fn a_set_up_for_no_such_frames_writes_nothing(rt: HostRuntime) {
-    let rt = &rt;
-    for frame in [9729, 1517] {
-        let mut direct = untouched(rt, 64, 0);
-        let why = refused_set_up(rt, &mut direct, frame);
-        assert!(rt; why == Why::BadSize, "frames of {frame} bytes");
-        made_no_call(rt, direct);
-    }
+    sets_nothing_up(&rt, 9729);
+    sets_nothing_up(&rt, 1517);
 }

@@ -1,6 +1,6 @@
 //! Tasks that meet at a place of their own, and workers that meet point by point.
 
-use crate::outcome::Hand;
+use crate::outcome::{Hand, fail, same, sees};
 use std::sync::atomic::{AtomicU64, Ordering};
 use std::sync::{Mutex, Wait};
 use std::thread;
@@ -77,12 +77,12 @@ fn two_tasks_meet(rt: HostRuntime) {
     );
     for seat in seats {
         match seat {
-            Seat::Ended(met) => assert!(rt; met),
-            Seat::Waits(Meet { rt: _, come: _ }) => panic!(rt; "a task that wasn't done"),
-            Seat::Empty => panic!(rt; "no end"),
+            Seat::Ended(met) => sees(&rt, met),
+            Seat::Waits(Meet { rt: _, come: _ }) => fail(&rt, "a task that wasn't done"),
+            Seat::Empty => fail(&rt, "no end"),
         }
     }
-    assert_eq!(rt; missing, 0);
+    same(&rt, missing as usize, 0);
 }
 
 /// Comes to each point in turn. Behind a point it finds that each worker came there.
@@ -95,9 +95,9 @@ fn go_through<G: Gate>(
 ) {
     for point in 0..POINTS {
         own.store(u64::from(point), Ordering::SeqCst);
-        assert!(rt; gate.pass(worker, point));
+        sees(rt, gate.pass(worker, point));
         for at in all {
-            assert!(rt; at.load(Ordering::SeqCst) >= u64::from(point));
+            sees(rt, at.load(Ordering::SeqCst) >= u64::from(point));
         }
     }
     gate.leave(worker);
@@ -114,7 +114,7 @@ fn three_workers_meet_at_each_point(rt: HostRuntime) {
                 .spawn(move || go_through(runtime, gate, worker, own, all))
                 .is_err()
             {
-                panic!(runtime; "no thread");
+                fail(runtime, "no thread");
             }
         }
     });
@@ -125,9 +125,9 @@ fn three_workers_meet_at_each_point(rt: HostRuntime) {
 fn no_one_waits_for_who_is_ahead_or_left(rt: HostRuntime) {
     let gate = Lockstep::new(&rt, 2);
     gate.leave(1);
-    assert!(rt; gate.pass(0, 7));
-    assert!(rt; gate.pass(0, 3));
-    assert!(rt; gate.pass(1, 5));
+    sees(&rt, gate.pass(0, 7));
+    sees(&rt, gate.pass(0, 3));
+    sees(&rt, gate.pass(1, 5));
     gate.leave(2);
-    assert!(rt; !gate.pass(2, 0));
+    sees(&rt, !gate.pass(2, 0));
 }

@@ -1,7 +1,7 @@
 //! Foreign events that are drawn at random, none of which touches queue 0 of a driver or its blocks.
 
 use crate::bench::frame_of;
-use crate::outcome::{Hand, done};
+use crate::outcome::{Hand, done, push};
 use crate::schedule::Schedule;
 use nic_device::{Arena, Dir, Event, Group, Octets, Port};
 
@@ -134,9 +134,9 @@ impl Others {
         for _list in 0..count {
             let mut list = Vec::new(rt.alloc());
             for _event in 0..self.random.byte() % 6 {
-                done(rt, list.push(self.event(rt)));
+                push(rt, &mut list, self.event(rt));
             }
-            done(rt, schedule.push(list));
+            push(rt, &mut schedule, list);
         }
         schedule
     }

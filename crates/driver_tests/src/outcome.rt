@@ -11,11 +11,23 @@ pub trait Hand: Abort + Wait + Threads + Sync + AllocGlobal {}
 
 impl<R: Abort + Wait + Threads + Sync + AllocGlobal> Hand for R {}
 
+/// Ends a test that failed, and tells at what.
+pub fn fail(rt: &impl Abort, what: &str) -> ! {
+    panic!(rt; "{what}")
+}
+
+/// Sees that something holds.
+pub fn sees(rt: &impl Abort, is_so: bool) {
+    if !is_so {
+        fail(rt, "not so");
+    }
+}
+
 /// The value of an answer that is no refusal.
 pub fn done<T, E>(rt: &impl Abort, answer: Result<T, E>) -> T {
     match answer {
         Ok(value) => value,
-        Err(_refused) => panic!(rt; "refused"),
+        Err(_refused) => fail(rt, "refused"),
     }
 }
 
@@ -23,14 +35,14 @@ pub fn done<T, E>(rt: &impl Abort, answer: Result<T, E>) -> T {
 pub fn some<T>(rt: &impl Abort, answer: Option<T>) -> T {
     match answer {
         Some(value) => value,
-        None => panic!(rt; "none"),
+        None => fail(rt, "none"),
     }
 }
 
 /// Why an answer was refused.
 pub fn refused<T, E>(rt: &impl Abort, answer: Result<T, E>) -> E {
     match answer {
-        Ok(_value) => panic!(rt; "not refused"),
+        Ok(_value) => fail(rt, "not refused"),
         Err(fault) => fault,
     }
 }
@@ -45,6 +57,22 @@ pub fn holds(rt: &impl Abort, name: &str, what: &str, is_so: bool) {
     assert!(rt; is_so, "{name}: {what}");
 }
 
+/// Sees that two pairs of numbers are the same.
+pub fn same_pair(rt: &impl Abort, told: (usize, usize), wanted: (usize, usize)) {
+    same(rt, told.0, wanted.0);
+    same(rt, told.1, wanted.1);
+}
+
+/// Sees that two lists of bytes are the same.
+pub fn same_bytes(rt: &impl Abort, told: &[u8], wanted: &[u8]) {
+    sees(rt, told == wanted);
+}
+
+/// Puts an item behind a list.
+pub fn push<T>(rt: &impl Abort, list: &mut Vec<T>, item: T) {
+    done(rt, list.push(item));
+}
+
 /// Puts a value where none is.
 pub fn put<T>(rt: &impl Abort, at: &mut Option<T>, value: T) {
     none(rt, mem::replace(at, Some(value)));
@@ -53,7 +81,7 @@ pub fn put<T>(rt: &impl Abort, at: &mut Option<T>, value: T) {
 /// Sees that an answer is none.
 pub fn none<T>(rt: &impl Abort, answer: Option<T>) {
     match answer {
-        Some(_value) => panic!(rt; "not none"),
+        Some(_value) => fail(rt, "not none"),
         None => {}
     }
 }

@@ -1,7 +1,7 @@
 //! A queue at a port of a device in hand.
 
 use crate::bench::{PLAIN, Why, end, in_hand, reason};
-use crate::outcome::{Hand, done, holds, refused, same, some};
+use crate::outcome::{Hand, done, holds, refused, same, sees, some};
 use nic_device::{Config, Device, Dir, Mode, Port};
 use workers::{Direct, POLLS, Queue, Setup, pf_setup};
 
@@ -35,7 +35,7 @@ fn bring_up(rt: &impl Hand, direct: &mut Direct, queue: &Queue) {
         done(rt, queue.ask(alloc, direct, side, true));
         let left = done(rt, queue.poll(alloc, direct, side, true, POLLS));
         same(rt, left as usize, POLLS as usize);
-        assert!(rt; done(rt, queue.is_on(alloc, direct, side)));
+        sees(rt, done(rt, queue.is_on(alloc, direct, side)));
     }
 }
 
@@ -119,6 +119,6 @@ fn ports_name_the_queues_that_they_have_room_for(rt: HostRuntime) {
         (Port::Vf(0), 63, true),
         (Port::Vf(0), 64, false),
     ] {
-        assert!(rt; Queue::new(port, number).is_some() == is_there, "{number}");
+        sees(&rt, Queue::new(port, number).is_some() == is_there);
     }
 }

@@ -6,7 +6,7 @@ use crate::bench::{
 use crate::history::{DRIVER, OTHERS, add_entries, finished, is_left_alone};
 use crate::interleaved::amid;
 use crate::others::{Others, Random};
-use crate::outcome::{Hand, done, same, some};
+use crate::outcome::{Hand, done, fail, push, same, sees, some};
 use crate::schedule::{Left, all_home, finish, take_all};
 use nic_device::{Buf, Device, Event, LentMemory, Octets, Reply};
 use std::collections::VecDeque;
@@ -52,15 +52,15 @@ impl<'a> Tally<'a> {
             }
             (Event::RxStep, Reply::Wrote { end, len, .. }) => {
                 let frame = some(rt, self.waiting.pop_front());
-                assert!(rt; *end && frame.len() == *len);
-                done(rt, self.written.push(frame));
+                sees(rt, *end && frame.len() == *len);
+                push(rt, &mut self.written, frame);
             }
             (Event::RxStep, Reply::Dropped(_)) => {
                 let _frame = some(rt, self.waiting.pop_front());
             }
             (Event::TxStep(_), Reply::Sent { .. }) => self.sent = self.sent.saturating_add(1),
             (Event::Collect, Reply::Frame { bytes, .. }) => {
-                done(rt, self.collected.push(bytes.bytes()));
+                push(rt, &mut self.collected, bytes.bytes());
             }
             _other => {}
         }
@@ -132,11 +132,11 @@ fn driven(rt: &impl Hand, others: &mut Others) -> Amid {
 /// What was handed out are the first of the frames that a history wrote for queue 0, and no more went out than was
 /// accepted. The history leaves queue 0 alone.
 fn is_well(rt: &impl Hand, history: &[Entry], pmd: &Pmd) {
-    assert!(rt; is_left_alone(history));
+    sees(rt, is_left_alone(history));
     let mut tally = Tally::new(rt);
     tally.add_all(rt, history);
-    assert!(rt; are_first(pmd.handed(), tally.written.as_slice()));
-    assert!(rt; tally.sent as usize <= pmd.accepted().len());
+    sees(rt, are_first(pmd.handed(), tally.written.as_slice()));
+    sees(rt, tally.sent as usize <= pmd.accepted().len());
 }
 
 /// With the link up and nothing but the steps of its queue before each call, the driver hands out what waits, and what
@@ -144,7 +144,7 @@ fn is_well(rt: &impl Hand, history: &[Entry], pmd: &Pmd) {
 fn settle(rt: &impl Hand, others: &mut Others, nic: &mut Direct, pmd: &mut Pmd) {
     match done(rt, nic.call(rt.alloc(), Event::Link(true))) {
         Reply::Done | Reply::Idle => {}
-        _other => panic!(rt; "the link"),
+        _other => fail(rt, "the link"),
     }
     drive(rt, &mut others.random, nic, pmd, 100);
     reap(rt, nic, pmd);
@@ -165,7 +165,7 @@ fn counts_agree(rt: &impl Hand, device: &Device, tally: &Tally<'_>) {
 /// The records are these frames.
 fn are_all(rt: &impl Hand, records: &[Record], frames: &[&[u8]]) {
     same(rt, records.len(), frames.len());
-    assert!(rt; are_first(records, frames));
+    sees(rt, are_first(records, frames));
 }
 
 /// All that was written was handed out, and these frames, which went out, are all that was accepted.
@@ -204,7 +204,7 @@ fn driven_and_stopped(rt: &impl Hand, others: &mut Others) -> Settled {
     settle(rt, others, &mut direct, &mut pmd);
     let home = stopped(rt, &mut direct, pmd);
     let device = finished(rt, &mut history, DRIVER, direct);
-    assert!(rt; is_left_alone(history.as_slice()));
+    sees(rt, is_left_alone(history.as_slice()));
     Settled {
         home,
         device,
@@ -218,10 +218,10 @@ fn driven_and_stopped(rt: &impl Hand, others: &mut Others) -> Settled {
 fn out<'a>(rt: &impl Hand, collected: &[&'a [u8]], frames: &'a [(u8, Octets)]) -> Vec<&'a [u8]> {
     let mut out: Vec<&[u8]> = Vec::new(rt.alloc());
     for frame in collected {
-        done(rt, out.push(*frame));
+        push(rt, &mut out, *frame);
     }
     for (_queue, frame) in frames {
-        done(rt, out.push(frame.bytes()));
+        push(rt, &mut out, frame.bytes());
     }
     out
 }
@@ -264,5 +264,5 @@ fn a_driver_is_well_among_random_events(rt: HostRuntime) {
     for seed in SEEDS {
         made = made.saturating_add(among_events_of(&rt, seed));
     }
-    assert!(rt; made >= 100_000, "made {made}");
+    sees(&rt, made >= 100_000);
 }

@@ -1,7 +1,7 @@
 //! A device in hand and a driver of one of its queues, as one value.
 
 use crate::bench::{
-    arrive, end, frame_of, has_bytes, in_hand, opened, reap, received, send, started_with, stop,
+    arrive, end, frame_of, holds_bytes, in_hand, opened, reap, received, send, started_with, stops,
 };
 use crate::outcome::{Hand, some};
 use nic_device::Octets;
@@ -46,7 +46,7 @@ impl Rig {
     /// The next packet that waits, which holds these bytes, is sent again.
     pub fn echo(&mut self, rt: &impl Hand, frame: &[u8]) {
         let packet = some(rt, self.received(rt));
-        assert!(rt; has_bytes(&packet, frame));
+        holds_bytes(rt, &packet, frame);
         self.send(rt, packet);
     }
 
@@ -72,7 +72,7 @@ impl Rig {
     /// frames out.
     pub fn end(self, rt: &impl Hand, packets: (usize, usize)) -> Vec<(u8, Octets)> {
         let Rig { mut direct, pmd } = self;
-        assert!(rt; stop(rt, &mut direct, pmd) == packets);
+        stops(rt, &mut direct, pmd, packets);
         end(rt, in_hand(direct))
     }
 }

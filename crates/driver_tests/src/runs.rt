@@ -1,7 +1,7 @@
 //! Runs of two workers: at gates of the test's own, under a limit of entries, and with somebody beside them.
 
 use crate::meeting::meets;
-use crate::outcome::{Hand, holds};
+use crate::outcome::{Hand, holds, same, sees};
 use crate::stranger::{Beside, How, LEAST};
 use crate::team::{Came, Order, run_team};
 use std::sync::atomic::{AtomicU64, Ordering};
@@ -58,8 +58,15 @@ const ONE_FRAME: Order = Order {
 /// Runs two workers with nobody beside them.
 fn alone<G: Gate + Sync>(rt: &impl Hand, gate: &G, order: Order) -> Came {
     let came = run_team(rt, gate, order, Beside::new(rt, How::Nothing, 1));
-    assert!(rt; came.failed == 0 && came.lost == [0, 0]);
+    sees(rt, came.failed == 0 && came.lost == [0, 0]);
     came
+}
+
+/// So many frames were let in, and so many workers ended by a gate that was shut and by a full history.
+fn is_counted(rt: &impl Hand, came: &Came, (fed, shut, full): (usize, u32, u32)) {
+    same(rt, came.fed, fed);
+    same(rt, came.shut as usize, shut as usize);
+    same(rt, came.full as usize, full as usize);
 }
 
 /// Two workers run at one time: each finds the other at the first point.
@@ -71,15 +78,15 @@ fn two_workers_stand_at_one_point(rt: HostRuntime) {
         alone: AtomicU64::new(0),
     };
     let came = alone(&rt, &gate, ONE_FRAME);
-    assert!(rt; came.fed == 1 && came.shut == 0 && came.full == 0);
-    assert_eq!(rt; gate.alone.load(Ordering::SeqCst), 0);
+    is_counted(&rt, &came, (1, 0, 0));
+    sees(&rt, gate.alone.load(Ordering::SeqCst) == 0);
 }
 
 /// Workers that a gate doesn't let on say so and have all at home, and no frame arrives.
 #[test]
 fn a_gate_that_is_shut_ends_both_workers(rt: HostRuntime) {
     let came = alone(&rt, &Shut, ONE_FRAME);
-    assert!(rt; came.fed == 0 && came.shut == 2 && came.full == 0);
+    is_counted(&rt, &came, (0, 2, 0));
 }
 
 /// Two workers and ten frames under a limit. Answers whether it was met.
@@ -91,15 +98,11 @@ fn limited(rt: &impl Hand, limit: u32) -> bool {
     };
     let came = alone(rt, &Lockstep::new(rt, 3), order);
     let met = came.full > 0 || came.fed < 10;
-    assert!(rt;
-        came.shut == 0 && (met || came.packets == 10),
-        "{} of {limit}",
-        came.packets
-    );
+    sees(rt, came.shut == 0 && (met || came.packets == 10));
     let made = came.made;
-    assert!(rt;
+    sees(
+        rt,
         made <= limit as usize && (!met || made == limit as usize),
-        "{made} of {limit}"
     );
     met
 }
@@ -108,11 +111,11 @@ fn limited(rt: &impl Hand, limit: u32) -> bool {
 /// from just behind the set-up on to where both workers are done.
 #[test]
 fn a_full_history_ends_both_workers(rt: HostRuntime) {
-    assert!(rt; limited(&rt, 300));
+    sees(&rt, limited(&rt, 300));
     for step in 1..40u32 {
         let _met = limited(&rt, 300 + 50 * step);
     }
-    assert!(rt; !limited(&rt, 2_300));
+    sees(&rt, !limited(&rt, 2_300));
 }
 
 /// Visits of a neighbour by name: how many blocks each worker loses, for each queue whether it is left alone, and how
@@ -145,6 +148,13 @@ fn a_neighbour_visits_two_workers(rt: HostRuntime) {
     }
 }
 
+/// Two workers end beside a stranger, who makes no fewer events than it is to make.
+fn end_beside(rt: &impl Hand, order: Order, seed: u32) {
+    let beside = Beside::new(rt, How::Meddles, seed);
+    let came = run_team(rt, &Lockstep::new(rt, 3), order, beside);
+    sees(rt, came.beside >= LEAST as usize);
+}
+
 /// However the threads take turns, every call returns, and nothing is lost. A worker may end with a fault.
 #[test]
 fn workers_end_beside_a_stranger(rt: HostRuntime) {
@@ -154,12 +164,6 @@ fn workers_end_beside_a_stranger(rt: HostRuntime) {
         frames: 40,
     };
     for seed in [1, 82_599, 0x2021_1123, 0xFFFF_FFFF] {
-        let beside = Beside::new(&rt, How::Meddles, seed);
-        let came = run_team(&rt, &Lockstep::new(&rt, 3), order, beside);
-        assert!(rt;
-            came.beside >= LEAST as usize,
-            "{seed}: {} events",
-            came.beside
-        );
+        end_beside(&rt, order, seed);
     }
 }

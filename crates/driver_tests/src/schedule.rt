@@ -1,7 +1,7 @@
 //! Lists of foreign events for an `Interleaved`, what is left of them at its end, and blocks that come home.
 
 use crate::history::add_marked;
-use crate::outcome::{Hand, done, emptied, none, put, some};
+use crate::outcome::{Hand, done, emptied, none, push, put, some};
 use nic_device::{Arena, Buf, Device, Dir, Event, LentMemory, Reply};
 use workers::{Entry, Finished, Interleaved};
 
@@ -10,28 +10,28 @@ pub type Schedule = Vec<Vec<Event>>;
 
 /// Puts the switches of both sides of queue 0 behind a list.
 pub fn push_switches(rt: &impl Hand, list: &mut Vec<Event>) {
-    done(rt, list.push(Event::QueueStep(Dir::Rx, 0)));
-    done(rt, list.push(Event::QueueStep(Dir::Tx, 0)));
+    push(rt, list, Event::QueueStep(Dir::Rx, 0));
+    push(rt, list, Event::QueueStep(Dir::Tx, 0));
 }
 
 /// Puts the steps of queue 0 behind a list: both sides are switched, it sends, and the device receives.
 pub fn push_steps(rt: &impl Hand, list: &mut Vec<Event>) {
     push_switches(rt, list);
-    done(rt, list.push(Event::TxStep(0)));
-    done(rt, list.push(Event::RxStep));
+    push(rt, list, Event::TxStep(0));
+    push(rt, list, Event::RxStep);
 }
 
 /// Lets an event go. The block that it would have lent is its hand's.
 fn let_go(rt: &impl Hand, bufs: &mut Vec<Buf>, event: Event) {
     if let Some(buf) = event.into_buf() {
-        done(rt, bufs.push(buf));
+        push(rt, bufs, buf);
     }
 }
 
 /// Lets a reply go. The block that it hands out is its hand's.
 pub fn let_reply_go(rt: &impl Hand, bufs: &mut Vec<Buf>, reply: Reply) {
     if let Some(buf) = reply.into_buf() {
-        done(rt, bufs.push(buf));
+        push(rt, bufs, buf);
     }
 }
 
@@ -94,7 +94,7 @@ pub fn finish(rt: &impl Hand, nic: Interleaved) -> Left {
 pub fn take_all(rt: &impl Hand, bufs: &mut Vec<Buf>, mut memory: LentMemory) {
     for _block in 0..1000 {
         match memory.lowest() {
-            Some(block) => done(rt, bufs.push(some(rt, memory.take(block)))),
+            Some(block) => push(rt, bufs, some(rt, memory.take(block))),
             None => {}
         }
     }

@@ -1,7 +1,7 @@
 //! Calls of several passes at a shared device: their replies, what is refused, and the history.
 
-use crate::bench::{count_calls, end};
-use crate::outcome::{Hand, done, refused, same, some};
+use crate::bench::{count_calls, end, is_done, word_in};
+use crate::outcome::{Hand, done, fail, push, refused, same, same_pair, sees, some};
 use nic_device::{Dir, Event, Port, Reply};
 use std::thread::join_mut;
 use workers::{
@@ -25,8 +25,13 @@ fn why(rt: &impl Hand, fault: CallFault) -> CallFault<()> {
     };
     match event {
         Event::RxStep => why,
-        _other => panic!(rt; "another event came back"),
+        _other => fail(rt, "another event came back"),
     }
+}
+
+/// This is a full history.
+fn is_full(rt: &impl Hand, why: CallFault<()>) {
+    sees(rt, matches!(why, CallFault::HistoryFull(())));
 }
 
 /// Closes a shared device with its passes.
@@ -75,50 +80,32 @@ fn passes_of(rt: &impl Hand, passes: [Pass; 2]) -> Vec<Pass> {
 
 /// Writes a register.
 fn write(rt: &impl Hand, bench: &Bench, pass: &mut Pass, address: u32, word: u32) {
-    match reply(rt, bench, pass, Event::Write(Port::Pf, address, word)) {
-        Reply::Done => {}
-        _other => panic!(rt; "the write"),
-    }
+    is_done(
+        rt,
+        reply(rt, bench, pass, Event::Write(Port::Pf, address, word)),
+    );
 }
 
 /// Reads a register.
 fn read(rt: &impl Hand, bench: &Bench, pass: &mut Pass, address: u32) -> u32 {
-    match reply(rt, bench, pass, Event::Read(Port::Pf, address)) {
-        Reply::Word(read) => read,
-        _other => panic!(rt; "the read"),
-    }
+    word_in(rt, reply(rt, bench, pass, Event::Read(Port::Pf, address)))
+}
+
+/// Writes a word and reads it back.
+fn write_and_see(rt: &impl Hand, bench: &Bench, pass: &mut Pass, address: u32, word: u32) {
+    write(rt, bench, pass, address, word);
+    let told = read(rt, bench, pass, address);
+    same(rt, told as usize, word as usize);
 }
 
 /// Writes the EITR word that a pass has for itself and reads it back, in turn, ten calls in all.
-fn write_and_read(rt: &impl Hand, bench: &Bench, pass: &mut Pass) {
-    let address = 0x00820 + 4 * u32::from(pass.tag());
+fn write_and_read(rt: &impl Hand, bench: &Bench, pass: Pass) -> Pass {
+    let mut pass = pass;
+    let tag = u32::from(pass.tag());
     for turn in 0..5u32 {
-        let word = 100 * turn + u32::from(pass.tag());
-        write(rt, bench, pass, address, word);
-        let told = read(rt, bench, pass, address);
-        same(rt, told as usize, word as usize);
+        write_and_see(rt, bench, &mut pass, 0x00820 + 4 * tag, 100 * turn + tag);
     }
-}
-
-/// Two passes write and read so on threads of their own.
-fn both_write_and_read(rt: &impl Hand, bench: &Bench, passes: Vec<Pass>) -> Vec<Pass> {
-    let mut passes = passes;
-    let mut second = some(rt, passes.pop());
-    let mut first = some(rt, passes.pop());
-    join_mut(
-        rt,
-        &mut || write_and_read(rt, bench, &mut first),
-        &mut || write_and_read(rt, bench, &mut second),
-    );
-    passes_of(rt, [first, second])
-}
-
-#[test]
-fn two_threads_read_what_they_wrote(rt: HostRuntime) {
-    let rt = &rt;
-    let (bench, passes) = shared(rt, 1, 2, 100);
-    let passes = both_write_and_read(rt, &bench, passes);
-    assert!(rt; counted(rt, bench, passes, 0) == (20, 10));
+    pass
 }
 
 /// Switches a side of a queue on and off through the lock. Each is a write and a poll, and each of these four calls has
@@ -133,33 +120,58 @@ fn switch(rt: &impl Hand, bench: &Bench, pass: Pass, queue: u16) -> Pass {
     nic.finish()
 }
 
-/// Two passes switch queues so on threads of their own.
-fn both_switch(rt: &impl Hand, bench: &Bench, passes: Vec<Pass>) -> Vec<Pass> {
+/// What a thread does with its pass: it writes and reads a word, or it switches queue 5 or 6.
+#[derive(Clone, Copy)]
+enum Deed {
+    Words,
+    Switches,
+}
+
+/// Does it.
+fn work(rt: &impl Hand, bench: &Bench, pass: Pass, work: Deed) -> Pass {
+    match work {
+        Deed::Words => write_and_read(rt, bench, pass),
+        Deed::Switches => {
+            let queue = 5 + u16::from(pass.tag() % 2);
+            switch(rt, bench, pass, queue)
+        }
+    }
+}
+
+/// Two passes do so on threads of their own.
+fn both_work(rt: &impl Hand, bench: &Bench, passes: Vec<Pass>, what: Deed) -> Vec<Pass> {
     let mut passes = passes;
     let mut second = passes.pop();
     let mut first = passes.pop();
     join_mut(
         rt,
-        &mut || first = Some(switch(rt, bench, some(rt, first.take()), 5)),
-        &mut || second = Some(switch(rt, bench, some(rt, second.take()), 6)),
+        &mut || first = Some(work(rt, bench, some(rt, first.take()), what)),
+        &mut || second = Some(work(rt, bench, some(rt, second.take()), what)),
     );
     passes_of(rt, [some(rt, first), some(rt, second)])
 }
 
+/// Two threads work at one device. So many calls are made in all, and so many by each pass.
+fn two_threads(rt: &impl Hand, what: Deed, tag: u8, calls: (usize, usize)) {
+    let (bench, passes) = shared(rt, 1, 2, 1000);
+    let passes = both_work(rt, &bench, passes, what);
+    same_pair(rt, counted(rt, bench, passes, tag), calls);
+}
+
+#[test]
+fn two_threads_read_what_they_wrote(rt: HostRuntime) {
+    two_threads(&rt, Deed::Words, 0, (20, 10));
+}
+
 #[test]
 fn two_threads_switch_queues_of_one_device(rt: HostRuntime) {
-    let rt = &rt;
-    let (bench, passes) = shared(rt, 1, 2, 1000);
-    let passes = both_switch(rt, &bench, passes);
-    assert!(rt; counted(rt, bench, passes, 1) == (40, 20));
+    two_threads(&rt, Deed::Switches, 1, (40, 20));
 }
 
 /// Reads HLREG0.
 fn read_hlreg0<N: Nic>(rt: &impl Hand, nic: &mut N) {
-    match done(rt, nic.call(rt.alloc(), Event::Read(Port::Pf, 0x04240))) {
-        Reply::Word(0x403) => {}
-        _other => panic!(rt; "HLREG0"),
-    }
+    let told = done(rt, nic.call(rt.alloc(), Event::Read(Port::Pf, 0x04240)));
+    same(rt, word_in(rt, told) as usize, 0x403);
 }
 
 /// Why a step of receiving is refused.
@@ -173,8 +185,7 @@ fn five_and_seven(rt: &impl Hand, bench: &Bench, pass: Pass) -> Pass {
     let mut nic = ThroughLock::new(rt, bench, pass, 9);
     read_hlreg0(rt, &mut nic);
     same(rt, count_calls(nic.calls()), 5);
-    let why = refused_at(rt, &mut nic);
-    assert!(rt; matches!(why, CallFault::HistoryFull(())));
+    is_full(rt, refused_at(rt, &mut nic));
     let pass = nic.finish();
     same(rt, count_calls(pass.calls()), 7);
     pass
@@ -185,7 +196,7 @@ fn a_call_is_behind_the_steps_of_its_queue(rt: HostRuntime) {
     let rt = &rt;
     let (bench, mut passes) = shared(rt, 1, 1, 7);
     let pass = five_and_seven(rt, &bench, some(rt, passes.pop()));
-    done(rt, passes.push(pass));
+    push(rt, &mut passes, pass);
     same(rt, closed(rt, bench, passes), 7);
 }
 
@@ -199,8 +210,8 @@ fn a_withheld_pass_is_missing(rt: HostRuntime) {
         shared,
         mut passes,
     } = refused(rt, bench.close(passes));
-    assert!(rt; fault == CloseFault::MissingPass(1));
-    done(rt, passes.push(withheld));
+    sees(rt, fault == CloseFault::MissingPass(1));
+    push(rt, &mut passes, withheld);
     same(rt, closed(rt, shared, passes), 0);
 }
 
@@ -211,9 +222,9 @@ fn a_pass_of_another_bench_is_foreign(rt: HostRuntime) {
     let (other, mut others) = shared(rt, 2, 2, 100);
     let mut foreign = some(rt, others.pop());
     let why = refused_step(rt, &bench, &mut foreign);
-    assert!(rt; matches!(why, CallFault::ForeignPass(())));
+    sees(rt, matches!(why, CallFault::ForeignPass(())));
     same(rt, closed(rt, bench, passes), 0);
-    done(rt, others.push(foreign));
+    push(rt, &mut others, foreign);
     same(rt, closed(rt, other, others), 0);
 }
 
@@ -222,19 +233,24 @@ fn three_steps(rt: &impl Hand, bench: &Bench, pass: &mut Pass) {
     for _call in 0..3u32 {
         match reply(rt, bench, pass, Event::RxStep) {
             Reply::Idle => {}
-            _other => panic!(rt; "one of three calls"),
+            _other => fail(rt, "one of three calls"),
         }
     }
+}
+
+/// Three steps of receiving, and then one that a full history refuses. Answers the pass.
+fn three_and_no_more(rt: &impl Hand, bench: &Bench, pass: Pass) -> Pass {
+    let mut pass = pass;
+    three_steps(rt, bench, &mut pass);
+    is_full(rt, refused_step(rt, bench, &mut pass));
+    pass
 }
 
 #[test]
 fn a_full_history_takes_no_call(rt: HostRuntime) {
     let rt = &rt;
     let (bench, mut passes) = shared(rt, 1, 1, 3);
-    let mut pass = some(rt, passes.pop());
-    three_steps(rt, &bench, &mut pass);
-    let why = refused_step(rt, &bench, &mut pass);
-    assert!(rt; matches!(why, CallFault::HistoryFull(())));
-    done(rt, passes.push(pass));
+    let pass = three_and_no_more(rt, &bench, some(rt, passes.pop()));
+    push(rt, &mut passes, pass);
     same(rt, closed(rt, bench, passes), 3);
 }

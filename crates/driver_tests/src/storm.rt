@@ -4,7 +4,7 @@
 use crate::bench::segment;
 use crate::hostile::offer;
 use crate::others::Random;
-use crate::outcome::{Hand, done, none, put, some};
+use crate::outcome::{Hand, done, none, put, sees, some};
 use crate::random::SEEDS;
 use crate::schedule::let_reply_go;
 use crate::stranger::reply;
@@ -116,7 +116,7 @@ impl Driver {
         } = self;
         none(rt, pmd);
         let arena = some(rt, arena);
-        assert!(rt; arena.free_blocks().saturating_add(lost) == BLOCKS);
+        sees(rt, arena.free_blocks().saturating_add(lost) == BLOCKS);
         (some(rt, pass), arena)
     }
 }
@@ -273,5 +273,5 @@ fn two_drivers_endure_a_storm(rt: HostRuntime) {
     for seed in SEEDS {
         sent = sent.saturating_add(run_of(&rt, seed));
     }
-    assert!(rt; sent > 500, "{sent} sent");
+    sees(&rt, sent > 500);
 }

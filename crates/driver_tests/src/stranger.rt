@@ -1,9 +1,10 @@
 //! Who is beside two workers: a neighbour who visits while they wait for the frames, or a stranger who makes random
 //! events on the queues and the blocks of both.
 
+use crate::bench::{is_done, word_in};
 use crate::hostile::WRITES;
 use crate::others::{Others, lend};
-use crate::outcome::{Hand, done};
+use crate::outcome::{Hand, done, fail, sees};
 use crate::schedule::let_reply_go;
 use crate::team::{BLOCKS, Bench};
 use nic_device::{Arena, Buf, Event, Port, Reply};
@@ -79,7 +80,7 @@ impl Beside {
         match self.how {
             How::Nothing => {}
             How::Takes | How::Redirects => {
-                assert!(rt; gate.pass(NEIGHBOUR, 0));
+                sees(rt, gate.pass(NEIGHBOUR, 0));
                 self.visit(rt, bench, pass);
                 gate.leave(NEIGHBOUR);
             }
@@ -98,7 +99,7 @@ impl Beside {
         if let How::Takes = self.how {
             self.take(rt, bench, pass, 5);
             self.take(rt, bench, pass, 6);
-            assert!(rt; self.bufs.len() == 2);
+            sees(rt, self.bufs.len() == 2);
         } else {
             redirect(rt, bench, pass);
         }
@@ -155,10 +156,7 @@ impl Beside {
 fn redirect(rt: &impl Hand, bench: &Bench, pass: &mut Pass) {
     let (at, _named) = descriptor(rt, bench, pass, 0, 0);
     let (_at, other) = descriptor(rt, bench, pass, 1, 0);
-    match reply(rt, bench, pass, Event::Poke16(at, other)) {
-        Reply::Done => {}
-        _other => panic!(rt; "not poked"),
-    }
+    is_done(rt, reply(rt, bench, pass, Event::Poke16(at, other)));
 }
 
 /// A call through a pass.
@@ -175,13 +173,10 @@ fn descriptor(
     slot: u32,
 ) -> (u32, [u8; 16]) {
     let rdbal = 0x01000 + 0x40 * (queue % 2);
-    let base = match reply(rt, bench, pass, Event::Read(Port::Pf, rdbal)) {
-        Reply::Word(base) => base,
-        _other => panic!(rt; "no word"),
-    };
+    let base = word_in(rt, reply(rt, bench, pass, Event::Read(Port::Pf, rdbal)));
     let at = base.saturating_add(16 * (slot % 8));
     match reply(rt, bench, pass, Event::Peek16(at)) {
         Reply::Bytes(bytes) => (at, bytes),
-        _other => panic!(rt; "no descriptor"),
+        _other => fail(rt, "no descriptor"),
     }
 }

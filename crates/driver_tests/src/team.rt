@@ -3,7 +3,7 @@
 
 use crate::bench::{count_calls, segment, taken_apart};
 use crate::hostile::stopped_again;
-use crate::outcome::{Hand, done, emptied, none, put, same, some};
+use crate::outcome::{Hand, done, emptied, none, push, put, same, sees, some};
 use crate::schedule::{all_home, take_all};
 use crate::stranger::Beside;
 use nic_device::{Arena, Buf, Device, Mode, Octets, Port, ReplyNote};
@@ -79,7 +79,7 @@ fn jobs(rt: &impl Hand, passes: Vec<Pass>, rounds: u32) -> Vec<Job> {
             arena: blocks_of(rt, queue),
             rounds,
         };
-        done(rt, jobs.push(job));
+        push(rt, &mut jobs, job);
     }
     jobs
 }
@@ -96,7 +96,7 @@ fn work<G: Gate + Sync>(
 ) -> Ran {
     let mut frames = Vec::new(rt.alloc());
     for number in 0..count {
-        done(rt, frames.push(segment(rt, number)));
+        push(rt, &mut frames, segment(rt, number));
     }
     let ran = run_workers(rt, rt.alloc(), gate, bench, jobs, host, frames);
     ended.store(1, Ordering::SeqCst);
@@ -207,9 +207,9 @@ impl Ending {
             handed: _,
             accepted: _,
         } = home;
-        assert!(rt; arena.free_blocks().saturating_add(lost) == BLOCKS);
+        sees(rt, arena.free_blocks().saturating_add(lost) == BLOCKS);
         self.came.lost[usize::from(queue % 2)] = lost;
-        done(rt, self.arenas.push(arena));
+        push(rt, &mut self.arenas, arena);
     }
 
     /// Takes one worker's end apart. Answers its pass.
@@ -282,9 +282,9 @@ pub fn sent_in(rt: &impl Hand, history: &[Entry]) -> Sent {
 
 /// The frames out are those that were told of, in order.
 fn are_sent(rt: &impl Hand, sent: &Sent, frames: &[(u8, Octets)]) {
-    assert!(rt; sent.len() == frames.len());
+    sees(rt, sent.len() == frames.len());
     for (told, (queue, bytes)) in sent.iter().zip(frames.iter()) {
-        assert!(rt; *told == (u16::from(*queue), bytes.bytes().len()));
+        sees(rt, *told == (u16::from(*queue), bytes.bytes().len()));
     }
 }
 
@@ -310,7 +310,7 @@ fn begin_ending(rt: &impl Hand, ran: Ran, host: Pass, other: Pass) -> (Ending, V
     let mut passes = done(rt, Vec::from_array(rt.alloc(), [host, other]));
     for _end in 0..ends.len() {
         let pass = ending.add(rt, some(rt, ends.pop()));
-        done(rt, passes.push(pass));
+        push(rt, &mut passes, pass);
     }
     emptied(rt, ends);
     (ending, passes)

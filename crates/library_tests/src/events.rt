@@ -1,31 +1,34 @@
-use crate::outcome::{done, some};
-use nic_device::{Config, Device, Event, Parts, Port, Reply};
-use std::process::Abort;
+//! A list of events.
+
+use crate::device::{device, end};
+use crate::outcome::{Hand, done, some};
+use nic_device::{Device, Event, Port, Reply};
+
+/// What a device answers that reads two addresses.
+fn two_replies(rt: &impl Hand, device: &mut Device, first: u32, second: u32) -> Vec<Reply> {
+    let list = [Event::Read(Port::Pf, first), Event::Read(Port::Pf, second)];
+    let events = match Vec::from_array(rt.alloc(), list) {
+        Ok(events) => events,
+        Err(_refused) => panic!(rt; "memory"),
+    };
+    done(rt, device.run(rt.alloc(), events))
+}
 
 /// A device that reads HLREG0 and then an address of nothing.
 #[test]
 fn a_run_answers_in_order(rt: HostRuntime) {
-    let alloc = rt.alloc();
-    let mut device = done(&rt, Device::new(alloc, Config { vfs: 0, fifo: 64 }));
-    let mut events = Vec::with_capacity(alloc, 2).expect(&rt, "memory");
-    events.push_reserved(Event::Read(Port::Pf, 0x04240));
-    events.push_reserved(Event::Read(Port::Pf, 0x0000C));
-    let mut replies = done(&rt, device.run(alloc, events));
-    match some(&rt, replies.pop()) {
+    let rt = &rt;
+    let mut device = device(rt);
+    let mut replies = two_replies(rt, &mut device, 0x04240, 0x0000C);
+    match some(rt, replies.pop()) {
         Reply::Stray(0) => {}
         _other => panic!(rt; "an address of nothing"),
     }
-    match some(&rt, replies.pop()) {
+    match some(rt, replies.pop()) {
         Reply::Word(0x403) => {}
         _other => panic!(rt; "HLREG0"),
     }
     assert!(rt; replies.is_empty());
     replies.destroy_empty();
-    let Parts {
-        memory,
-        frames,
-        image: _,
-    } = device.dismantle();
-    assert_eq!(rt; frames.len(), 0);
-    done(&rt, memory.finish());
+    let _blank = end(rt, device);
 }

@@ -1,10 +1,11 @@
 //! What is read, and reads and writes that fail.
 
 use crate::fakes::{Drip, FailingFlush, FailingReader, FailingWriter, Flood, Newlines};
+use crate::outcome::{done, holds, refused, same};
 use bench::{Failure, Input, InputFault, Outcome, Output, answer, bench, read_input};
 use command_line::{Request, RunOptions, TextRequest};
 use std::alloc::Global;
-use std::io::{ErrorKind, Read};
+use std::io::{ErrorKind, Read, Write};
 use std::process::Abort;
 
 const RUN: [&str; 2] = ["nicbench", "run"];
@@ -31,6 +32,14 @@ const HASHED: &[u8] =
 
 const LOAD: [&str; 3] = ["nicbench", "eeprom", "--load"];
 
+/// What the program writes for a reader, and how it ends.
+pub fn ran<R: Read>(alloc: Global, words: &[&str], reader: &mut R) -> (Vec<u8>, Outcome) {
+    let mut written = Vec::new(alloc);
+    let mut output = Output::of(&mut written);
+    let outcome = bench(alloc, &mut Input::of(reader), &mut output, words);
+    (written, outcome)
+}
+
 /// The program writes this for a reader, and ends with this status.
 fn answers<R: Read>(
     rt: &impl Abort,
@@ -40,11 +49,9 @@ fn answers<R: Read>(
     answer: &str,
     wanted: u8,
 ) {
-    let mut written = Vec::new(alloc);
-    let mut output = Output::of(&mut written);
-    let outcome = bench(alloc, &mut Input::of(reader), &mut output, words);
-    assert!(rt; written.as_slice() == answer.as_bytes(), "{answer:?}");
-    assert!(rt; outcome == Outcome::Ended(wanted), "{answer:?}");
+    let (written, outcome) = ran(alloc, words, reader);
+    holds(rt, answer, written.as_slice() == answer.as_bytes());
+    holds(rt, answer, outcome == Outcome::Ended(wanted));
 }
 
 /// A text of 8,388,608 bytes is read, and one more byte is too long.
@@ -78,20 +85,39 @@ fn failing_readers(rt: HostRuntime) {
     answers(&rt, rt.alloc(), &RUN, &mut Drip, "refused Input\n", 2);
 }
 
+/// What is read of a reader, and whether a read failed.
+fn read<R: Read + Drop>(alloc: Global, reader: R) -> (Result<Vec<u8>, InputFault>, bool) {
+    let mut input = Input::of(reader);
+    let read = read_input(alloc, &mut input);
+    (read, input.has_failed())
+}
+
+/// A reader's input can't be read, for this reason, with or without a read that failed.
+fn has_fault<R: Read + Drop>(
+    rt: &impl Abort,
+    alloc: Global,
+    reader: R,
+    wanted: InputFault,
+    wanted_failed: bool,
+) {
+    let (read, has_failed) = read(alloc, reader);
+    holds(rt, "why it isn't read", refused(rt, read) == wanted);
+    holds(rt, "whether a read failed", has_failed == wanted_failed);
+}
+
 /// Each fault of an input by itself.
 #[test]
 fn input_faults(rt: HostRuntime) {
     let alloc = rt.alloc();
-    let too_long = read_input(alloc, &mut Input::of(&mut Flood)).err();
-    assert!(rt; too_long == Some(InputFault::TooLong));
-    let mut failing = Input::of(FailingReader(3));
-    let failed = read_input(alloc, &mut failing).err();
-    assert!(rt; failed == Some(InputFault::Unread) && failing.has_failed());
-    let mut endless = Input::of(Drip);
-    let unread = read_input(alloc, &mut endless).err();
-    assert!(rt; unread == Some(InputFault::Unread) && !endless.has_failed());
-    let input = read_input(alloc, &mut Input::of(SCRIPT)).expect(&rt, "the input");
-    assert!(rt; input.as_slice() == SCRIPT);
+    has_fault(&rt, alloc, Flood, InputFault::TooLong, false);
+    has_fault(&rt, alloc, FailingReader(3), InputFault::Unread, true);
+    has_fault(&rt, alloc, Drip, InputFault::Unread, false);
+    let (input, _has_failed) = read(alloc, SCRIPT);
+    holds(
+        &rt,
+        "a script is read",
+        done(&rt, input).as_slice() == SCRIPT,
+    );
 }
 
 /// A writer that takes so many writes and fails at the next, with an error of this kind.
@@ -104,12 +130,15 @@ fn writer(taken: u32, kind: ErrorKind) -> FailingWriter {
     }
 }
 
+/// Words, an input, and the status that it ends with.
+type Case<'a> = (&'a [&'a str], &'a [u8], u8);
+
 /// The program ends with this status and no later write where a writer fails with an error of this kind, and else with
 /// the input's own. Gives whether it came to fail.
 fn fails_at(
     rt: &impl Abort,
     alloc: Global,
-    (words, input, own): (&[&str], &[u8], u8),
+    (words, input, own): Case<'_>,
     taken: u32,
     (kind, failed): (ErrorKind, u8),
 ) -> bool {
@@ -117,55 +146,75 @@ fn fails_at(
     let mut output = Output::of(&mut writer);
     let outcome = bench(alloc, &mut Input::of(input), &mut output, words);
     let wanted = if output.has_failed() { failed } else { own };
-    assert!(rt; outcome == Outcome::Ended(wanted), "{taken} writes");
-    assert_eq!(rt; output.flush(wanted), wanted);
-    assert!(rt; writer.later == 0, "{taken} writes");
+    holds(rt, "how it ends", outcome == Outcome::Ended(wanted));
+    same(rt, u64::from(output.flush(wanted)), u64::from(wanted));
+    same(rt, u64::from(writer.later), 0);
     writer.has_failed
 }
 
 /// A writer that fails, at whatever write: the status is 2, or 4 where its error is want of memory.
-#[test]
-fn failing_writers(rt: HostRuntime) {
+fn fails_at_each(rt: &impl Abort, alloc: Global, case: Case<'_>) {
     let pipe = (ErrorKind::BrokenPipe, 2);
     let memory = (ErrorKind::OutOfMemory, 4);
-    for (words, input, own) in [
-        (&RUN[..], SCRIPT, 0),
-        (&RUN[..], FAILED_SCRIPT, 1),
-        (&HASH[..], HASHED, 0),
-    ] {
-        for taken in 0..4 {
-            assert!(rt; fails_at(&rt, rt.alloc(), (words, input, own), taken, pipe));
-            assert!(rt; fails_at(&rt, rt.alloc(), (words, input, own), taken, memory));
-        }
-        assert!(rt; !fails_at(&rt, rt.alloc(), (words, input, own), 1_000, pipe));
+    for taken in 0..4 {
+        holds(rt, "it fails", fails_at(rt, alloc, case, taken, pipe));
+        holds(rt, "it fails", fails_at(rt, alloc, case, taken, memory));
     }
+    holds(rt, "none fails", !fails_at(rt, alloc, case, 1_000, pipe));
 }
 
-/// A writer that can't write what it keeps back: the same, and it isn't asked again.
+#[test]
+fn failing_writers(rt: HostRuntime) {
+    fails_at_each(&rt, rt.alloc(), (&RUN, SCRIPT, 0));
+    fails_at_each(&rt, rt.alloc(), (&RUN, FAILED_SCRIPT, 1));
+    fails_at_each(&rt, rt.alloc(), (&HASH, HASHED, 0));
+}
+
+/// A writer that can't write what it keeps back, with an error of this kind: the status is this, and it isn't asked
+/// again.
+fn flush_fails(rt: &impl Abort, kind: ErrorKind, wanted: u8) {
+    let mut output = Output::of(FailingFlush(kind));
+    same(rt, u64::from(output.flush(1)), u64::from(wanted));
+    holds(rt, "it has failed", output.has_failed());
+    same(rt, u64::from(output.failed_status()), u64::from(wanted));
+    same(rt, u64::from(output.flush(1)), 1);
+}
+
 #[test]
 fn failing_flushes(rt: HostRuntime) {
-    for (kind, wanted) in [(ErrorKind::BrokenPipe, 2), (ErrorKind::OutOfMemory, 4)] {
-        let mut output = Output::of(FailingFlush(kind));
-        assert_eq!(rt; output.flush(1), wanted);
-        assert!(rt; output.has_failed() && output.failed_status() == wanted);
-        assert_eq!(rt; output.flush(1), 1);
-    }
+    flush_fails(&rt, ErrorKind::BrokenPipe, 2);
+    flush_fails(&rt, ErrorKind::OutOfMemory, 4);
+}
+
+/// What a request of a reader is answered, and whether a write failed.
+fn answered<R: Read + Drop, W: Write + Drop>(
+    alloc: Global,
+    reader: R,
+    writer: W,
+    request: Request,
+) -> (Result<u8, Failure>, bool) {
+    let mut output = Output::of(writer);
+    let answered = answer(alloc, &mut Input::of(reader), &mut output, request);
+    (answered, output.has_failed())
 }
 
 /// What is below the program tells which of reading and writing failed.
+fn tells_failures(rt: &impl Abort, alloc: Global, request: Request, input: &[u8]) {
+    let mut written = Vec::new(alloc);
+    let (read, _) = answered(alloc, FailingReader(1), &mut written, request);
+    holds(rt, "a read", refused(rt, read) == Failure::Read);
+    holds(rt, "nothing is written", written.is_empty());
+    let pipe = writer(0, ErrorKind::BrokenPipe);
+    let (write, has_failed) = answered(alloc, input, pipe, request);
+    holds(rt, "a write", refused(rt, write) == Failure::Write);
+    holds(rt, "it has failed", has_failed);
+    let (status, has_failed) = answered(alloc, input, &mut written, request);
+    same(rt, u64::from(done(rt, status)), 0);
+    holds(rt, "none has failed", !has_failed);
+}
+
 #[test]
 fn failures(rt: HostRuntime) {
-    let alloc = rt.alloc();
-    for (request, input) in [(RUN_REQUEST, SCRIPT), (HASH_REQUEST, HASHED)] {
-        let mut written = Vec::new(alloc);
-        let mut failing = Input::of(FailingReader(1));
-        let read = answer(alloc, &mut failing, &mut Output::of(&mut written), request);
-        assert!(rt; read == Err(Failure::Read) && written.is_empty());
-        let mut output = Output::of(writer(0, ErrorKind::BrokenPipe));
-        let write = answer(alloc, &mut Input::of(input), &mut output, request);
-        assert!(rt; write == Err(Failure::Write) && output.has_failed());
-        let mut output = Output::of(&mut written);
-        let done = answer(alloc, &mut Input::of(input), &mut output, request);
-        assert!(rt; done == Ok(0) && !output.has_failed());
-    }
+    tells_failures(&rt, rt.alloc(), RUN_REQUEST, SCRIPT);
+    tells_failures(&rt, rt.alloc(), HASH_REQUEST, HASHED);
 }

@@ -7,6 +7,8 @@
 #![tactic(auto)]
 
 #[cfg(test)]
+mod device;
+#[cfg(test)]
 mod events;
 #[cfg(test)]
 mod fakes;

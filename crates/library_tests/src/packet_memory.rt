@@ -1,4 +1,7 @@
-use crate::outcome::{done, refused, some};
+//! Packet memory where there is ample room. Each call is made by a function of its own, which says nothing of blocks:
+//! what a test knows of all blocks would cost each of its steps.
+
+use crate::outcome::{Hand, done, holds, none, refused, same, some};
 use dma_arena::{
     Arena, ArenaFault, Buf, LendRefused, LentMemory, Octets, Run, SplitFault, SplitRefused,
 };
@@ -6,22 +9,65 @@ use dma_arena::{
 /// What is asked of a value that goes to another thread.
 fn can_be_sent<T: Send>() {}
 
+/// An arena of so many blocks from a number on.
+fn arena(rt: &impl Hand, first: u32, count: u32) -> Arena {
+    done(rt, Arena::new(rt.alloc(), first, count))
+}
+
+fn taken(rt: &impl Hand, arena: &mut Arena, block: u32) -> Buf {
+    some(rt, arena.take_at(block))
+}
+
+fn give(rt: &impl Hand, arena: &mut Arena, buf: Buf) {
+    done(rt, arena.give(buf));
+}
+
+/// All its blocks are home.
+fn close(rt: &impl Hand, arena: Arena) {
+    done(rt, arena.close());
+}
+
+/// A block is still out.
+fn stays_open(rt: &impl Hand, arena: Arena) -> Arena {
+    refused(rt, arena.close())
+}
+
+fn lend(rt: &impl Hand, memory: &mut LentMemory, buf: Buf) {
+    done(rt, memory.lend(buf));
+}
+
+fn back(rt: &impl Hand, memory: &mut LentMemory, block: u32) -> Buf {
+    some(rt, memory.take(block))
+}
+
+/// Each block is back.
+fn finish(rt: &impl Hand, memory: LentMemory) {
+    done(rt, memory.finish());
+}
+
+fn halves(rt: &impl Hand, arena: Arena, at: u32) -> (Arena, Arena) {
+    done(rt, arena.split(at))
+}
+
+/// An arena that isn't split there, for this reason.
+fn whole(rt: &impl Hand, arena: Arena, at: u32, wanted: SplitFault) -> Arena {
+    let SplitRefused { fault, arena } = refused(rt, arena.split(at));
+    holds(rt, "why it isn't split", fault == wanted);
+    arena
+}
+
 #[test]
 fn blocks_are_lent_and_come_back(rt: HostRuntime) {
-    let arena = done(&rt, Arena::new(rt.alloc(), 0, 8));
-    let (mut below, above) = done(&rt, arena.split(4));
+    let rt = &rt;
+    let (mut below, above) = halves(rt, arena(rt, 0, 8), 4);
     let mut memory = LentMemory::new(rt.alloc());
-    let zero = some(&rt, below.take());
-    done(&rt, memory.lend(zero));
-    let three = some(&rt, below.take_at(3));
-    done(&rt, memory.lend(three));
-    let zero = some(&rt, memory.take(0));
-    done(&rt, below.give(zero));
-    let three = some(&rt, memory.take(3));
-    done(&rt, below.give(three));
-    done(&rt, memory.finish());
-    done(&rt, below.close());
-    done(&rt, above.close());
+    lend(rt, &mut memory, some(rt, below.take()));
+    lend(rt, &mut memory, taken(rt, &mut below, 3));
+    give(rt, &mut below, back(rt, &mut memory, 0));
+    give(rt, &mut below, back(rt, &mut memory, 3));
+    finish(rt, memory);
+    close(rt, below);
+    close(rt, above);
 }
 
 #[test]
@@ -33,112 +79,142 @@ fn packet_memory_goes_to_other_threads(_rt: HostRuntime) {
     can_be_sent::<Octets>();
 }
 
+/// The next block, which is the last one.
+fn last(rt: &impl Hand, arena: &mut Arena) -> Buf {
+    let buf = some(rt, arena.take());
+    none(rt, arena.take());
+    buf
+}
+
 /// Both blocks of an arena are taken, one by its number. It closes once both are given.
 #[test]
 fn an_arena_closes_once_all_blocks_are_given(rt: HostRuntime) {
-    let mut arena = done(&rt, Arena::new(rt.alloc(), 4, 2));
-    let five = some(&rt, arena.take_at(5));
-    let four = some(&rt, arena.take());
-    assert_eq!(rt; (five.block(), four.block()), (5, 4));
-    match arena.take() {
-        Some(_buf) => panic!(rt; "a third block"),
-        None => {}
-    }
-    let mut arena = refused(&rt, arena.close());
-    done(&rt, arena.give(five));
-    let mut arena = refused(&rt, arena.close());
-    done(&rt, arena.give(four));
-    assert_eq!(rt; arena.free_blocks(), 2);
-    done(&rt, arena.close());
+    let rt = &rt;
+    let mut arena = arena(rt, 4, 2);
+    let five = taken(rt, &mut arena, 5);
+    let four = last(rt, &mut arena);
+    same(rt, u64::from(five.block()), 5);
+    same(rt, u64::from(four.block()), 4);
+    let mut arena = stays_open(rt, arena);
+    give(rt, &mut arena, five);
+    let mut arena = stays_open(rt, arena);
+    give(rt, &mut arena, four);
+    same(rt, u64::from(arena.free_blocks()), 2);
+    close(rt, arena);
+}
+
+/// The lowest run of two, with its first block and how many it has.
+fn run_of_two(rt: &impl Hand, arena: &mut Arena) -> (Run, u64, u64) {
+    let run = some(rt, arena.take_run(2));
+    let (first, count) = (u64::from(run.first()), u64::from(run.count()));
+    (run, first, count)
+}
+
+/// There is no run of two.
+fn no_run_of_two(rt: &impl Hand, arena: &mut Arena) {
+    none(rt, arena.take_run(2));
+}
+
+/// The highest block of a run of two, and the other one. It is finished once both are out.
+fn both_of(rt: &impl Hand, run: Run) -> (Buf, Buf) {
+    let mut run = run;
+    let high = some(rt, run.pop());
+    let mut run = refused(rt, run.finish());
+    let low = some(rt, run.pop());
+    none(rt, run.pop());
+    done(rt, run.finish());
+    (high, low)
 }
 
 /// With block 1 in hand, the lowest run of two is of blocks 2 and 3. It gives the highest first, and is finished once
 /// both are out.
 #[test]
 fn a_run_is_taken_and_comes_back(rt: HostRuntime) {
-    let mut arena = done(&rt, Arena::new(rt.alloc(), 0, 4));
-    let one = some(&rt, arena.take_at(1));
-    let mut run = some(&rt, arena.take_run(2));
-    assert_eq!(rt; (run.first(), run.count()), (2, 2));
-    match arena.take_run(2) {
-        Some(_run) => panic!(rt; "a second run"),
-        None => {}
-    }
-    assert_eq!(rt; arena.free_blocks(), 1);
-    let three = some(&rt, run.pop());
-    let mut run = refused(&rt, run.finish());
-    let two = some(&rt, run.pop());
-    assert_eq!(rt; (two.block(), three.block()), (2, 3));
-    match run.pop() {
-        Some(_buf) => panic!(rt; "a third block"),
-        None => {}
-    }
-    done(&rt, run.finish());
-    done(&rt, arena.give(one));
-    done(&rt, arena.give(two));
-    done(&rt, arena.give(three));
-    done(&rt, arena.close());
+    let rt = &rt;
+    let mut arena = arena(rt, 0, 4);
+    let one = taken(rt, &mut arena, 1);
+    let (run, first, count) = run_of_two(rt, &mut arena);
+    same(rt, first, 2);
+    same(rt, count, 2);
+    no_run_of_two(rt, &mut arena);
+    same(rt, u64::from(arena.free_blocks()), 1);
+    let (three, two) = both_of(rt, run);
+    same(rt, u64::from(two.block()), 2);
+    same(rt, u64::from(three.block()), 3);
+    give(rt, &mut arena, one);
+    give(rt, &mut arena, two);
+    give(rt, &mut arena, three);
+    close(rt, arena);
+}
+
+/// There is no such arena, for this reason.
+fn no_arena(rt: &impl Hand, first: u32, count: u32, wanted: ArenaFault) {
+    let fault = refused(rt, Arena::new(rt.alloc(), first, count));
+    holds(rt, "why there is no arena", fault == wanted);
 }
 
 /// An arena has a block at least, and no number from 65,536 on.
 #[test]
 fn arenas_have_their_limits(rt: HostRuntime) {
-    for (first, count, fault) in [
-        (0, 0, ArenaFault::Empty),
-        (65_535, 2, ArenaFault::TooMany),
-        (0, 65_537, ArenaFault::TooMany),
-    ] {
-        assert_eq!(rt; refused(&rt, Arena::new(rt.alloc(), first, count)), fault);
-    }
-    done(&rt, done(&rt, Arena::new(rt.alloc(), 65_535, 1)).close());
+    let rt = &rt;
+    no_arena(rt, 0, 0, ArenaFault::Empty);
+    no_arena(rt, 65_535, 2, ArenaFault::TooMany);
+    no_arena(rt, 0, 65_537, ArenaFault::TooMany);
+    close(rt, arena(rt, 65_535, 1));
+}
+
+/// Sees which is an arena's first block, and how many of its blocks are free.
+fn is_free_from(rt: &impl Hand, arena: &Arena, first: u64, free: u64) {
+    same(rt, u64::from(arena.first()), first);
+    same(rt, u64::from(arena.free_blocks()), free);
 }
 
 /// An arena is split strictly inside, while all its blocks are free.
 #[test]
 fn arenas_are_split_inside(rt: HostRuntime) {
-    let mut arena = done(&rt, Arena::new(rt.alloc(), 0, 8));
+    let rt = &rt;
+    let mut arena = arena(rt, 0, 8);
     for at in [0, 8, 9] {
-        let SplitRefused {
-            fault,
-            arena: whole,
-        } = refused(&rt, arena.split(at));
-        assert_eq!(rt; fault, SplitFault::OutsideArena);
-        arena = whole;
+        arena = whole(rt, arena, at, SplitFault::OutsideArena);
     }
-    let seven = some(&rt, arena.take_at(7));
-    let SplitRefused {
-        fault,
-        arena: mut whole,
-    } = refused(&rt, arena.split(8));
-    assert_eq!(rt; fault, SplitFault::InUse);
-    done(&rt, whole.give(seven));
-    let (below, above) = done(&rt, whole.split(4));
-    assert_eq!(rt; (below.free_blocks(), above.free_blocks()), (4, 4));
-    assert_eq!(rt; (below.first(), above.first()), (0, 4));
-    done(&rt, below.close());
-    done(&rt, above.close());
+    let seven = taken(rt, &mut arena, 7);
+    let mut arena = whole(rt, arena, 8, SplitFault::InUse);
+    give(rt, &mut arena, seven);
+    let (below, above) = halves(rt, arena, 4);
+    is_free_from(rt, &below, 0, 4);
+    is_free_from(rt, &above, 4, 4);
+    close(rt, below);
+    close(rt, above);
+}
+
+/// The block comes back from an arena where its number is free.
+fn handed_back(rt: &impl Hand, arena: &mut Arena, buf: Buf) -> Buf {
+    refused(rt, arena.give(buf))
+}
+
+/// The block comes back from memory to which its number is lent.
+fn lent_once(rt: &impl Hand, memory: &mut LentMemory, buf: Buf) -> Buf {
+    match refused(rt, memory.lend(buf)) {
+        LendRefused::Twice(buf) => buf,
+        LendRefused::OutOfMemory(_buf) => panic!(rt; "memory"),
+    }
 }
 
 /// A block of another arena is handed back while the number is free here, and lent but once at a time.
 #[test]
 fn blocks_of_another_arena_are_told(rt: HostRuntime) {
-    let alloc = rt.alloc();
-    let mut arena = done(&rt, Arena::new(alloc, 4, 2));
-    let mut other = done(&rt, Arena::new(alloc, 4, 2));
-    let foreign = some(&rt, other.take_at(4));
-    let foreign = refused(&rt, arena.give(foreign));
-    let mut memory = LentMemory::new(alloc);
-    let own = some(&rt, arena.take_at(4));
-    done(&rt, memory.lend(own));
-    let foreign = match refused(&rt, memory.lend(foreign)) {
-        LendRefused::Twice(buf) => buf,
-        LendRefused::OutOfMemory(_buf) => panic!(rt; "memory"),
-    };
-    assert_eq!(rt; foreign.block(), 4);
-    let own = some(&rt, memory.take(4));
-    done(&rt, memory.finish());
-    done(&rt, arena.give(own));
-    done(&rt, other.give(foreign));
-    done(&rt, arena.close());
-    done(&rt, other.close());
+    let rt = &rt;
+    let mut other = arena(rt, 4, 2);
+    let mut arena = arena(rt, 4, 2);
+    let foreign = taken(rt, &mut other, 4);
+    let foreign = handed_back(rt, &mut arena, foreign);
+    let mut memory = LentMemory::new(rt.alloc());
+    lend(rt, &mut memory, taken(rt, &mut arena, 4));
+    let foreign = lent_once(rt, &mut memory, foreign);
+    same(rt, u64::from(foreign.block()), 4);
+    give(rt, &mut arena, back(rt, &mut memory, 4));
+    finish(rt, memory);
+    give(rt, &mut other, foreign);
+    close(rt, arena);
+    close(rt, other);
 }

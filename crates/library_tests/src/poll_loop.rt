@@ -1,13 +1,13 @@
 //! A poll loop of a driver, on each of two threads that share a controller.
 
-use crate::outcome::{done, some};
+use crate::outcome::{done, holds, same, some};
 use nic_device::{Arena, Event, Mode, Octets, Parts, Port, Reply};
 use std::alloc::Global;
 use std::process::Abort;
 use std::sync::Wait;
 use std::thread::join_mut;
 use threads_bench::{KEY, OVER_IPV4, OVER_IPV6};
-use workers::{Home, Nic, Pass, Pmd, Setup, Shared, ThroughLock, TxAnswer, pf_setup};
+use workers::{Home, Nic, Packet, Pass, Pmd, Setup, Shared, ThroughLock, TxAnswer, pf_setup};
 
 type Bench = Shared<0, 64>;
 
@@ -17,24 +17,70 @@ const FRAMES: usize = 5;
 /// How often a loop looks at most.
 const LOOKS: u32 = 10_000;
 
+/// A redirection table whose entry i has i mod 2.
+fn in_turn() -> [u8; 128] {
+    let mut reta = [0; 128];
+    let mut queue = 0;
+    for entry in reta.iter_mut() {
+        *entry = queue;
+        queue ^= 1;
+    }
+    reta
+}
+
 /// Frames of TCP go to queue 0 or 1 by their hash: entry i of the redirection table has i mod 2.
 fn two_queues() -> Setup {
-    let mut reta = [0; 128];
-    for entry in 0..128u8 {
-        reta[usize::from(entry)] = entry % 2;
-    }
     Setup {
         mode: Mode::Off,
         mrqc: 0x0021_0001,
         key: KEY,
-        reta,
+        reta: in_turn(),
         promiscuous: true,
         frame: 1518,
     }
 }
 
-/// Starts a driver with 16 blocks of its own, has frames arrive that go to its queue, sends each again that comes in,
-/// and stops.
+/// A driver of a queue with 16 blocks of its own.
+fn started<N: Nic>(rt: &impl Abort, alloc: Global, nic: &mut N, queue: u16) -> Pmd {
+    let arena = done(rt, Arena::new(alloc, 16 * u32::from(queue), 16));
+    done(rt, Pmd::start(alloc, nic, Port::Pf, queue, 8, 1518, arena))
+}
+
+/// A frame arrives.
+fn arrive<N: Nic>(rt: &impl Abort, alloc: Global, nic: &mut N, frame: &[u8]) {
+    let bytes = done(rt, frame.to_vec(alloc));
+    match done(rt, nic.call(alloc, Event::Arrive(Octets::of(bytes)))) {
+        Reply::Done => {}
+        _other => panic!(rt; "the frame was dropped"),
+    }
+}
+
+/// Whether a driver received all its frames and nothing is outstanding.
+fn is_idle<N: Nic>(rt: &impl Abort, alloc: Global, nic: &mut N, pmd: &mut Pmd) -> bool {
+    pmd.handed().len() == FRAMES && done(rt, pmd.reap(alloc, nic)).idle
+}
+
+/// Sends a packet again, for which there may be no room.
+fn send<N: Nic>(rt: &impl Abort, alloc: Global, nic: &mut N, pmd: &mut Pmd, packet: Packet) {
+    match done(rt, pmd.tx(alloc, nic, packet)) {
+        TxAnswer::Taken => {}
+        TxAnswer::RingFull(packet) => done(rt, pmd.release(packet)),
+    }
+}
+
+/// Looks until the driver is idle, and sends each packet again that comes in.
+fn poll<N: Nic>(rt: &impl Abort, alloc: Global, nic: &mut N, pmd: &mut Pmd) {
+    for _look in 0..LOOKS {
+        if is_idle(rt, alloc, nic, pmd) {
+            break;
+        }
+        if let Some(packet) = done(rt, pmd.rx(alloc, nic)) {
+            send(rt, alloc, nic, pmd, packet);
+        }
+    }
+}
+
+/// Starts a driver, has frames arrive that go to its queue, sends each again that comes in, and stops.
 fn drive<R: Abort + Wait>(
     rt: &R,
     alloc: Global,
@@ -43,30 +89,12 @@ fn drive<R: Abort + Wait>(
     queue: u16,
     frame: &[u8],
 ) -> Pass {
-    let arena = done(rt, Arena::new(alloc, 16 * u32::from(queue), 16));
     let mut nic = ThroughLock::new(rt, bench, pass, queue);
-    let mut pmd = done(
-        rt,
-        Pmd::start(alloc, &mut nic, Port::Pf, queue, 8, 1518, arena),
-    );
+    let mut pmd = started(rt, alloc, &mut nic, queue);
     for _frame in 0..FRAMES {
-        let bytes = frame.to_vec(alloc).expect(rt, "memory");
-        match done(rt, nic.call(alloc, Event::Arrive(Octets::of(bytes)))) {
-            Reply::Done => {}
-            _other => panic!(rt; "the frame was dropped"),
-        }
+        arrive(rt, alloc, &mut nic, frame);
     }
-    for _look in 0..LOOKS {
-        if pmd.handed().len() == FRAMES && done(rt, pmd.reap(alloc, &mut nic)).idle {
-            break;
-        }
-        if let Some(packet) = done(rt, pmd.rx(alloc, &mut nic)) {
-            match done(rt, pmd.tx(alloc, &mut nic, packet)) {
-                TxAnswer::Taken => {}
-                TxAnswer::RingFull(packet) => done(rt, pmd.release(packet)),
-            }
-        }
-    }
+    poll(rt, alloc, &mut nic, &mut pmd);
     close(rt, done(rt, pmd.stop(alloc, &mut nic)), frame);
     nic.finish()
 }
@@ -79,21 +107,42 @@ fn close(rt: &impl Abort, home: Home, frame: &[u8]) {
         handed,
         accepted,
     } = home;
-    assert!(rt; lost == 0 && accepted.len() == FRAMES);
-    assert_eq!(rt; handed.len(), FRAMES);
+    same(rt, u64::from(lost), 0);
+    same(rt, accepted.len() as u64, FRAMES as u64);
+    same(rt, handed.len() as u64, FRAMES as u64);
     for record in &handed {
-        assert!(rt; record.bytes() == frame);
+        holds(rt, "the frame", record.bytes() == frame);
     }
     done(rt, arena.close());
+}
+
+/// A shared device of three passes that is set up by the last one.
+fn opened<R: Abort + Wait>(rt: &R, alloc: Global) -> (Bench, Vec<Pass>, Pass) {
+    let (bench, mut passes) = done(rt, Bench::new(alloc, 0, 3, 100_000));
+    let mut nic = ThroughLock::new(rt, &bench, some(rt, passes.pop()), 0);
+    done(rt, pf_setup(alloc, &mut nic, &two_queues()));
+    let set_up = nic.finish();
+    (bench, passes, set_up)
+}
+
+/// Closes the device with its passes. Each driver's queue is left alone, and all frames are out.
+fn judge(rt: &impl Abort, bench: Bench, passes: Vec<Pass>) {
+    let closed = done(rt, bench.close(passes));
+    holds(rt, "queue 0 is left alone", closed.left_alone(0, 0));
+    holds(rt, "queue 1 is left alone", closed.left_alone(1, 1));
+    let Parts {
+        memory,
+        frames,
+        image: _,
+    } = closed.into_device().dismantle();
+    same(rt, frames.len() as u64, 2 * FRAMES as u64);
+    done(rt, memory.finish());
 }
 
 #[test]
 fn two_drivers_poll_on_two_threads(rt: HostRuntime) {
     let alloc = rt.alloc();
-    let (bench, mut passes) = done(&rt, Bench::new(alloc, 0, 3, 100_000));
-    let mut nic = ThroughLock::new(&rt, &bench, some(&rt, passes.pop()), 0);
-    done(&rt, pf_setup(alloc, &mut nic, &two_queues()));
-    let set_up = nic.finish();
+    let (bench, mut passes, set_up) = opened(&rt, alloc);
     let mut second = passes.pop();
     let mut first = passes.pop();
     join_mut(
@@ -108,15 +157,7 @@ fn two_drivers_poll_on_two_threads(rt: HostRuntime) {
         },
     );
     for pass in [some(&rt, first), some(&rt, second), set_up] {
-        passes.push(pass).expect(&rt, "memory");
+        done(&rt, passes.push(pass));
     }
-    let closed = done(&rt, bench.close(passes));
-    assert!(rt; closed.left_alone(0, 0) && closed.left_alone(1, 1));
-    let Parts {
-        memory,
-        frames,
-        image: _,
-    } = closed.into_device().dismantle();
-    assert_eq!(rt; frames.len(), 2 * FRAMES);
-    done(&rt, memory.finish());
+    judge(&rt, bench, passes);
 }

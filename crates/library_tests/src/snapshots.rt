@@ -1,89 +1,89 @@
 //! Snapshots of devices and machines, and what is restored from them.
 
-use crate::outcome::{done, refused, some};
+use crate::device::{CONFIG, device, make, stepped, write};
+use crate::images::image;
+use crate::outcome::{Hand, done, holds, refused, same, some};
 use dma_arena::Arena;
 use machine::Machine;
-use nic_device::{
-    Config, Device, Event, Parts, Port, Reply, RestoreRefused, Snapshot, assemble as image_of,
-};
+use nic_device::{Device, Event, Parts, Reply, RestoreRefused, Snapshot};
 use script_asm::assemble;
-use std::alloc::Global;
-use std::process::Abort;
 
-/// What the devices are made with.
-const CONFIG: Config = Config { vfs: 0, fifo: 64 };
-
-/// An event that is answered with `Done`.
-fn make(rt: &impl Abort, device: &mut Device, event: Event) {
-    match done(rt, device.step(event)) {
-        Reply::Done => {}
-        _other => panic!(rt; "not done"),
-    }
+/// An arena of so many blocks from block 0 on.
+fn arena(rt: &impl Hand, count: u32) -> Arena {
+    done(rt, Arena::new(rt.alloc(), 0, count))
 }
 
 /// Ends a device to which block 4 is lent, and the arena that the block is of.
-fn end(rt: &impl Abort, device: Device, mut arena: Arena) {
+fn end(rt: &impl Hand, device: Device, mut arena: Arena) {
     let Parts {
         mut memory,
         frames: _,
         image: _,
     } = device.dismantle();
     let four = some(rt, memory.take(4));
-    done(rt, arena.give(four));
     done(rt, memory.finish());
+    done(rt, arena.give(four));
     done(rt, arena.close());
 }
 
 /// A snapshot of a device to which block 4 is lent, with bytes in it and a word in CTRL_EXT.
-fn snapshot(rt: &impl Abort, alloc: Global) -> Snapshot {
-    let mut arena = done(rt, Arena::new(alloc, 0, 8));
-    let mut device = done(rt, Device::new(alloc, CONFIG));
+fn snapshot(rt: &impl Hand) -> Snapshot {
+    let mut arena = arena(rt, 8);
+    let mut device = device(rt);
     let four = some(rt, arena.take_at(4));
     make(rt, &mut device, Event::Lend(four));
     make(rt, &mut device, Event::Poke16(0x2010, [7; 16]));
-    make(
-        rt,
-        &mut device,
-        Event::Write(Port::Pf, 0x00018, 0x0400_0000),
-    );
+    write(rt, &mut device, 0x00018, 0x0400_0000);
     let snapshot = done(rt, device.snapshot());
     end(rt, device, arena);
     snapshot
 }
 
+/// Sees which of an arena's blocks are free: block 4 or not, and how many.
+fn are_free(rt: &impl Hand, arena: &Arena, is_four: bool, count: u64) {
+    holds(rt, "whether block 4 is free", arena.is_free(4) == is_four);
+    same(rt, u64::from(arena.free_blocks()), count);
+}
+
 /// Block 4 isn't free in an arena that ends with block 3, and nothing leaves it.
 #[test]
 fn a_device_needs_its_blocks(rt: HostRuntime) {
-    let snapshot = snapshot(&rt, rt.alloc());
-    let mut arena = done(&rt, Arena::new(rt.alloc(), 0, 4));
-    assert_eq!(rt;
-        refused(&rt, Device::restore(&snapshot, &mut arena)),
-        RestoreRefused::NotFree(4)
+    let rt = &rt;
+    let mut arena = arena(rt, 4);
+    let why = refused(rt, Device::restore(&snapshot(rt), &mut arena));
+    holds(rt, "block 4 isn't free", why == RestoreRefused::NotFree(4));
+    are_free(rt, &arena, false, 4);
+    done(rt, arena.close());
+}
+
+/// Sees that a device is the one of the snapshot, by CTRL_EXT and the bytes of block 4.
+fn is_the_one(rt: &impl Hand, device: &mut Device) {
+    holds(
+        rt,
+        "CTRL_EXT",
+        device.peek_register(0x00018) == Some(0x0400_0000),
     );
-    assert_eq!(rt; arena.free_blocks(), 4);
-    done(&rt, arena.close());
+    match stepped(rt, device, Event::Peek16(0x2010)) {
+        Reply::Bytes(bytes) => holds(rt, "the bytes of block 4", bytes == [7; 16]),
+        _other => panic!(rt; "no bytes"),
+    }
 }
 
 /// Block 4 leaves an arena that has it, and the device is the one that it was.
 #[test]
 fn a_device_is_restored(rt: HostRuntime) {
-    let snapshot = snapshot(&rt, rt.alloc());
-    let mut arena = done(&rt, Arena::new(rt.alloc(), 0, 8));
-    let mut device = done(&rt, Device::restore(&snapshot, &mut arena));
-    assert_eq!(rt; (arena.is_free(4), arena.free_blocks()), (false, 7));
-    assert_eq!(rt; device.peek_register(0x00018), Some(0x0400_0000));
-    match done(&rt, device.step(Event::Peek16(0x2010))) {
-        Reply::Bytes(bytes) => assert_eq!(rt; bytes, [7; 16]),
-        _other => panic!(rt; "no bytes"),
-    }
-    end(&rt, device, arena);
+    let rt = &rt;
+    let mut arena = arena(rt, 8);
+    let mut device = done(rt, Device::restore(&snapshot(rt), &mut arena));
+    are_free(rt, &arena, false, 7);
+    is_the_one(rt, &mut device);
+    end(rt, device, arena);
 }
 
-/// A machine after three steps is restored as one after three steps.
-#[test]
-fn a_machine_is_restored(rt: HostRuntime) {
+/// A machine after three steps.
+fn machine(rt: &impl Hand) -> Machine {
     let program = done(
-        &rt,
+        rt,
         assemble(rt.alloc(), "lend 3\nr STATUS\nand 0xff\nhalt\n"),
     );
     let mut machine = match Machine::new(rt.alloc(), program, CONFIG) {
@@ -91,27 +91,37 @@ fn a_machine_is_restored(rt: HostRuntime) {
         Err(_refused) => panic!(rt; "no machine"),
     };
     for _ in 0..3 {
-        let _answer = done(&rt, machine.step());
+        let _answer = done(rt, machine.step());
     }
-    let snapshot = done(&rt, machine.snapshot());
-    assert_eq!(rt; snapshot.steps(), 3);
-    let restored = done(&rt, Machine::restore(&snapshot));
-    assert_eq!(rt; (restored.steps(), restored.pc()), (3, 3));
-    assert_eq!(rt; restored.acc(), machine.acc());
+    machine
+}
+
+/// A machine after three steps is restored as one after three steps.
+#[test]
+fn a_machine_is_restored(rt: HostRuntime) {
+    let rt = &rt;
+    let machine = machine(rt);
+    let snapshot = done(rt, machine.snapshot());
+    same(rt, snapshot.steps(), 3);
+    let restored = done(rt, Machine::restore(&snapshot));
+    same(rt, restored.steps(), 3);
+    same(rt, u64::from(restored.pc()), 3);
+    same(rt, u64::from(restored.acc()), u64::from(machine.acc()));
     restored.finish();
     machine.finish();
+}
+
+/// The copy of a text's image has its words, and this one as the last of 64.
+fn is_copied(rt: &impl Hand, text: &str, last: u16) {
+    let image = image(rt, text);
+    let copy = done(rt, image.copy());
+    holds(rt, text, copy.words() == image.words());
+    same(rt, u64::from(copy.word(0x3F)), u64::from(last));
 }
 
 /// A copy of an image has its words.
 #[test]
 fn an_image_is_copied(rt: HostRuntime) {
-    for (text, last) in [
-        ("size 64\n", 0xBAF9),
-        ("size 128\ncsr 0x05080 0x400\n", 0xA298),
-    ] {
-        let image = done(&rt, image_of(rt.alloc(), text));
-        let copy = done(&rt, image.copy());
-        assert_eq!(rt; copy.words(), image.words());
-        assert_eq!(rt; copy.word(0x3F), last);
-    }
+    is_copied(&rt, "size 64\n", 0xBAF9);
+    is_copied(&rt, "size 128\ncsr 0x05080 0x400\n", 0xA298);
 }

@@ -1,52 +1,51 @@
 //! Workers that drive queues of one controller on threads, as the program runs them.
 
 use crate::fakes::FailingWriter;
-use bench::{Input, Outcome, Output, bench};
-use std::alloc::Global;
+use crate::input::ran;
+use crate::outcome::{Hand, holds, same};
+use bench::{Outcome, Output};
 use std::io::ErrorKind;
-use std::process::Abort;
 use std::sync::Wait;
 use std::thread::Threads;
 use threads_bench::bench_threads;
 
-/// Sees what is printed for so many workers and frames.
-fn prints<R: Abort + Threads + Wait + Sync>(
-    rt: &R,
-    alloc: Global,
-    workers: u8,
-    frames: u8,
-    text: &str,
-) {
-    let mut written = Vec::new(alloc);
+/// A test's runtime that starts threads too.
+trait Team: Hand + Threads + Wait + Sync {}
+
+impl<R: Hand + Threads + Wait + Sync> Team for R {}
+
+/// The status of a run of so many workers and frames, and what it writes.
+fn run(rt: &impl Team, workers: u8, frames: u8) -> (u8, Vec<u8>) {
+    let mut written = Vec::new(rt.alloc());
     let mut output = Output::of(&mut written);
-    let status = bench_threads(rt, alloc, &mut output, workers, frames);
-    assert!(rt;
-        written.as_slice() == text.as_bytes(),
-        "{workers} workers {frames} frames"
-    );
-    assert_eq!(rt; status, 0);
+    let status = bench_threads(rt, rt.alloc(), &mut output, workers, frames);
+    (status, written)
+}
+
+/// Sees what is printed for so many workers and frames.
+fn prints(rt: &impl Team, workers: u8, frames: u8, text: &str) {
+    let (status, written) = run(rt, workers, frames);
+    holds(rt, text, written.as_slice() == text.as_bytes());
+    same(rt, u64::from(status), 0);
 }
 
 #[test]
 fn two_workers_part_ten_frames(rt: HostRuntime) {
     let text = "queue 0 packets 5 bytes 300\nqueue 1 packets 5 bytes 370\nsent 10\nhistory legal\n";
-    prints(&rt, rt.alloc(), 2, 10, text);
+    prints(&rt, 2, 10, text);
 }
 
 /// A worker alone has all frames, and there may be none.
 #[test]
 fn one_worker_has_all_frames(rt: HostRuntime) {
-    let alloc = rt.alloc();
     prints(
         &rt,
-        alloc,
         1,
         0,
         "queue 0 packets 0 bytes 0\nsent 0\nhistory legal\n",
     );
     prints(
         &rt,
-        alloc,
         1,
         3,
         "queue 0 packets 3 bytes 194\nsent 3\nhistory legal\n",
@@ -60,89 +59,90 @@ fn two_of_eight_workers_have_sixty_frames(rt: HostRuntime) {
         "queue 0 packets 30 bytes 1800\nqueue 1 packets 0 bytes 0\nqueue 2 packets 0 bytes 0\n\
 queue 3 packets 0 bytes 0\nqueue 4 packets 0 bytes 0\nqueue 5 packets 30 bytes 2220\n\
 queue 6 packets 0 bytes 0\nqueue 7 packets 0 bytes 0\nsent 60\nhistory legal\n";
-    prints(&rt, rt.alloc(), 8, 60, text);
+    prints(&rt, 8, 60, text);
 }
 
 /// No worker and nine are refused without a word.
 #[test]
 fn no_worker_and_nine_print_nothing(rt: HostRuntime) {
-    let alloc = rt.alloc();
     for workers in [0, 9] {
-        let mut written = Vec::new(alloc);
-        let mut output = Output::of(&mut written);
-        assert_eq!(rt; bench_threads(&rt, alloc, &mut output, workers, 1), 2);
-        assert!(rt; written.is_empty());
+        let (status, written) = run(&rt, workers, 1);
+        same(&rt, u64::from(status), 2);
+        holds(&rt, "nothing is written", written.is_empty());
     }
+}
+
+/// Of one worker with one frame so many writes are taken, and the next fails.
+fn summary_fails(rt: &impl Team, taken: u32) {
+    let mut writer = FailingWriter {
+        taken,
+        kind: ErrorKind::BrokenPipe,
+        has_failed: false,
+        later: 0,
+    };
+    let mut output = Output::of(&mut writer);
+    let status = bench_threads(rt, rt.alloc(), &mut output, 1, 1);
+    same(rt, u64::from(status), 2);
+    same(rt, u64::from(output.flush(2)), 2);
+    holds(rt, "it has failed", writer.has_failed);
+    same(rt, u64::from(writer.later), 0);
 }
 
 /// A writer that fails at its first write or later: the status is 2, and no write follows.
 #[test]
 fn a_failed_write_ends_the_summary(rt: HostRuntime) {
-    let alloc = rt.alloc();
     for taken in 0..4 {
-        let mut writer = FailingWriter {
-            taken,
-            kind: ErrorKind::BrokenPipe,
-            has_failed: false,
-            later: 0,
-        };
-        let mut output = Output::of(&mut writer);
-        assert_eq!(rt; bench_threads(&rt, alloc, &mut output, 1, 1), 2);
-        assert_eq!(rt; output.flush(2), 2);
-        assert!(rt; writer.has_failed && writer.later == 0, "{taken} writes");
+        summary_fails(&rt, taken);
     }
 }
 
 /// Sees how words end that are to read and write nothing but what is said of them.
-fn ends(rt: &impl Abort, alloc: Global, words: &[&str], wanted: Outcome) {
-    let mut written = Vec::new(alloc);
-    let mut output = Output::of(&mut written);
-    let outcome = bench(alloc, &mut Input::of(&b""[..]), &mut output, words);
-    assert!(rt; outcome == wanted);
-    assert!(rt; written.is_empty() == matches!(outcome, Outcome::Threads { .. }));
+fn ends(rt: &impl Team, words: &[&str], wanted: Outcome) {
+    let (written, outcome) = ran(rt.alloc(), words, &mut &b""[..]);
+    holds(rt, "how they end", outcome == wanted);
+    let is_left = matches!(outcome, Outcome::Threads { .. });
+    holds(rt, "what is written", written.is_empty() == is_left);
+}
+
+/// So many workers and frames are refused.
+fn is_refused(rt: &impl Team, workers: &str, frames: &str) {
+    let words = [
+        "nicbench",
+        "threads",
+        "--workers",
+        workers,
+        "--frames",
+        frames,
+    ];
+    ends(rt, &words, Outcome::Ended(3));
 }
 
 #[test]
 fn workers_and_frames_are_in_range(rt: HostRuntime) {
-    let alloc = rt.alloc();
-    for (workers, frames) in [
-        ("0", "1"),
-        ("9", "1"),
-        ("1", "61"),
-        ("-1", "1"),
-        ("1", "-1"),
-        ("two", "1"),
-    ] {
-        let words = [
-            "nicbench",
-            "threads",
-            "--workers",
-            workers,
-            "--frames",
-            frames,
-        ];
-        ends(&rt, alloc, &words, Outcome::Ended(3));
-    }
+    let rt = &rt;
+    is_refused(rt, "0", "1");
+    is_refused(rt, "9", "1");
+    is_refused(rt, "1", "61");
+    is_refused(rt, "-1", "1");
+    is_refused(rt, "1", "-1");
+    is_refused(rt, "two", "1");
     ends(
-        &rt,
-        alloc,
+        rt,
         &["nicbench", "threads", "--workers", "1"],
         Outcome::Ended(3),
     );
     ends(
-        &rt,
-        alloc,
+        rt,
         &["nicbench", "threads", "--frames", "1"],
         Outcome::Ended(3),
     );
-    let words = ["nicbench", "threads", "--frames=60", "--workers", "8"];
+    let wanted = Outcome::Threads {
+        workers: 8,
+        frames: 60,
+    };
     ends(
-        &rt,
-        alloc,
-        &words,
-        Outcome::Threads {
-            workers: 8,
-            frames: 60,
-        },
+        rt,
+        &["nicbench", "threads", "--frames=60", "--workers", "8"],
+        wanted,
     );
 }

@@ -1,22 +1,43 @@
--- Which blocks are lent, after an event.
-use Rattle.std.proofs.Common.{◌≡◌, ◌≢◌, ℕ, inl, inr, Bool, true, false, not, refl, ap, sym, ◌∙◌, subst}
+-- Which blocks are lent, after memory calls and after any event.
+use Rattle.std.proofs.Common.{◌%◌, ◌||◌, ◌∙◌, ◌≡◌, ◌≢◌, Bool, List, Some, ap, false, inl, inr, not, refl, subst, sym}
+use Rattle.std.proofs.lemmas.Bool.{and_from, and_parts, both_ways, cases_eq, eq-eqb, eqb-false, ne_eqb, not-true}
+use Rattle.std.proofs.{Common.true, Common.ℕ, lemmas.Bool.or_cases, lemmas.Bool.or_left, lemmas.Bool.or_right}
 use Rattle.std.specs.Prelude.{◌==◌, is_some}
-use Rattle.std.specs.FinMap as map
-use Rattle.std.proofs.lemmas.Bool.{cases_eq, both_ways, and_from, or_left, or_right, eq-eqb, ne_eqb}
-use Rattle.nic_device.specs.DmaArena.Block.{Block}
-use Rattle.nic_device.specs.DmaArena.Memory.{has_block}
-use Rattle.nic_device.proofs.DmaArena.Bus.{get-remove_same, get-remove_other}
-use Rattle.nic_device.specs.Outcome.{Outcome}
-use Rattle.nic_device.specs.State.{State}
-use Rattle.nic_device.specs.Step.{step_of, after}
-use Rattle.nic_device.specs.declared.event.Event.{Event}
-use Rattle.nic_device.specs.declared.event.Event.TheVariants as event
-use Rattle.nic_device.specs.declared.event.Reply.TheVariants.{Buf}
-use Rattle.nic_device.proofs.Cases.{taken_cases}
-use Rattle.nic_device.proofs.KeptBlocks.{keeps_blocks}
-use Rattle.device_lock.specs.Alone.{Blocks}
+use Rattle.history_laws.specs.Prelude.{Block, Blocks, Done, Event, Memory, Outcome, Reply, State, after, gives}
+use Rattle.history_laws.specs.Prelude.{has_block, is_lent, reply_to, step_of, write_at}
+use Rattle.nic_device.proofs.{Cases.lent_cases, Cases.taken_cases, DmaArena.Bus.get-remove_other}
+use Rattle.nic_device.proofs.{DmaArena.Bus.get-remove_same, KeptBlocks.keeps_blocks}
+use Rattle.nic_device.specs.declared.event.Reply.TheVariants.{Buf, Twice}
+use Rattle.history_laws.specs.Lent.{AnewIsDone, LendsNone, OnlyLent, OnlyLentStays, either, with_lent, without}
 use Rattle.device_laws.proofs.Standing.{memory_blocks}
-use Rattle.history_laws.specs.Lent.{OnlyLent, LendsNone, with_lent, without, OnlyLentStays}
+use Rattle.std.specs.FinMap as map
+use Rattle.nic_device.specs.declared.event.Event.TheVariants as event
+
+-- Memory calls that are done.
+
+-- a block that isn't lent yet is lent
+lent_anew : (s : State) (block : Block) → has_block s.memory block.number ≡ false
+    → step_of s (event.Lend block) ≡ gives Done (record s { memory = map.insert s.memory block.number block.bytes })
+unfolding step_of
+lent_anew s block none = rw none refl
+
+pub anew_is_done : AnewIsDone
+anew_is_done s block none = ap (λ (o : Outcome). o.reply) (lent_anew s block none)
+
+-- one that is lent is taken back
+pub taken_is : (s : State) (b : ℕ) (bytes : List ℕ) → map.get s.memory b ≡ Some bytes
+    → step_of s (event.Take b)
+    ≡ gives (Buf (record { number = b; bytes = bytes })) (record s { memory = map.remove s.memory b })
+unfolding step_of
+taken_is s b bytes is = rw is refl
+
+-- and its bytes are written, 16 at a time
+pub poked_is : (s : State) (a : ℕ) (bytes : List ℕ) → (a % 16 == 0) ≡ true → is_lent s.memory a 16 ≡ true
+    → step_of s (event.Poke16 a bytes) ≡ gives Done (record s { memory = write_at s.memory a bytes })
+unfolding step_of
+poked_is s a bytes straight lent = rw (straight, lent) refl
+
+-- Which blocks are lent, after an event.
 
 module _ (s : State) (n : ℕ) where
   abbrev Was : Outcome → Type 0
@@ -81,3 +102,66 @@ only_lent_stays = record {
   anew = λ own known s block only is.
       not_so (has_block s.memory block.number) (known block.number) (only block.number is);
 }
+
+-- Of some numbers only those stay lent that one half of a driver has lent, or others, as that half lends and takes.
+
+-- by the reply to a taking the half has lent still what it had, but for a block that came back
+abbrev pub KeepsTaken : Blocks → ℕ → (Reply Block → Blocks) → Reply Block → Type 0
+KeepsTaken had n has (Buf b) = (k : ℕ) → k ≢ n → had k ≡ true → has (Buf b) k ≡ true
+KeepsTaken had n has r = (k : ℕ) → had k ≡ true → has r k ≡ true
+
+module _ (own others : Blocks) (s : State) (had : Blocks) (only : OnlyLent own (either had others) s.memory) where
+  abbrev pub Known : Blocks → Memory → Type 0
+  Known has m = OnlyLent own (either has others) m
+
+  wider : (has : Blocks) (k : ℕ) → (had k ≡ true → has k ≡ true) → either had others k ≡ true
+      → either has others k ≡ true
+  wider has k keeps known = elim (or_cases (had k) (others k) known) [
+    | inl mine ↦ or_left (has k) (others k) (keeps mine)
+    | inr theirs ↦ or_right (has k) (others k) theirs
+  ]
+
+  -- an event that neither lends nor takes
+  pub still_known : (e : Event Block) (has : Blocks) → LendsNone own e → ((k : ℕ) → had k ≡ true → has k ≡ true)
+      → Known has (after s e).memory
+  still_known e has none keeps k is there =
+      wider has k (keeps k) (only_lent_stays.others own (either had others) s e none only k is there)
+
+  -- a block is lent
+  with_one : (has : Blocks) (n k : ℕ) → ((k == n || had k) ≡ true → has k ≡ true)
+      → with_lent (either had others) n k ≡ true → either has others k ≡ true
+  with_one has n k mine is = elim (or_cases (k == n) (had k || others k) is) [
+    | inl same ↦ or_left (has k) (others k) (mine (or_left (k == n) (had k) same))
+    | inr known ↦ wider has k (λ h. mine (or_right (k == n) (had k) h)) known
+  ]
+
+  pub lend_known : (b : Block) (has : Reply Block → Blocks)
+      → ((k : ℕ) → (k == b.number || had k) ≡ true → has Done k ≡ true)
+      → ((k : ℕ) → had k ≡ true → has (Twice b) k ≡ true)
+      → Known (has (reply_to s (event.Lend b))) (after s (event.Lend b)).memory
+  unfolding step_of
+  lend_known b has lends twice =
+      lent_cases (λ o. OnlyLent own (with_lent (either had others) b.number) o.state.memory
+      → Known (has o.reply) o.state.memory) s b
+      (λ given k is there. wider (has (Twice b)) k (twice k) (only k is there))
+      (λ given k is there. with_one (has Done) b.number k (lends k) (given k is there))
+      (only_lent_stays.lend own (either had others) s b only)
+
+  -- one is taken
+  without_one : (has : Blocks) (n k : ℕ) → (k ≢ n → had k ≡ true → has k ≡ true)
+      → without (either had others) n k ≡ true → either has others k ≡ true
+  without_one has n k keeps is =
+      let both = and_parts (not (k == n)) (had k || others k) is in
+      wider has k (keeps (eqb-false k n (not-true (k == n) both.0))) both.1
+
+  taken_by : (n : ℕ) (has : Reply Block → Blocks) (r : Reply Block) → KeepsTaken had n has r
+      → reply_to s (event.Take n) ≡ r → Known (has r) (after s (event.Take n)).memory
+  taken_by n has (Buf b) keeps told k is there =
+      without_one (has (Buf b)) n k (keeps k) (only_lent_stays.take own (either had others) s n b only told k is there)
+  taken_by n has r keeps told k is there =
+      wider (has r) k (keeps k) (only_lent_stays.others own (either had others) s (event.Take n) tt only k is there)
+
+  pub take_known : (n : ℕ) (has : Reply Block → Blocks) → ((r : Reply Block) → KeepsTaken had n has r)
+      → Known (has (reply_to s (event.Take n))) (after s (event.Take n)).memory
+  take_known n has keeps =
+      taken_by n has (reply_to s (event.Take n)) (keeps (reply_to s (event.Take n))) refl

@@ -1,35 +1,17 @@
 -- The frames that wait after an event.
-use Rattle.std.proofs.Common.{◌≡◌, ℕ, ◌≤◌, false, true, List, [], ◌∷◌, ◌++◌, length, refl, sym, subst, nat_lt, Ok, Err}
-use Rattle.std.specs.Prelude.{Result, ⊤, filter, not}
-use Rattle.std.proofs.lemmas.Bool.{cond_both, ltb-false}
-use Rattle.nic_device.specs.DmaArena.Block.{Block}
-use Rattle.nic_device.specs.DmaRing.declared.dir.Dir.TheVariants.{Rx, Tx}
-use Rattle.nic_device.specs.RegTable.Rows.{row_of}
-use Rattle.nic_device.specs.RegTable.declared.place.Place.{Place}
-use Rattle.nic_device.specs.VfMap.Owner.{has_queue}
-use Rattle.nic_device.specs.RegisterFile.Access.{asks_pool_reset, asks_reset}
-use Rattle.nic_device.specs.RegisterFile.Pools.{mode_in}
-use Rattle.nic_device.specs.RegisterFile.Registers.{is_wanted}
-use Rattle.nic_device.specs.RegisterFile.Settings.{can_receive, frame_limit}
-use Rattle.nic_device.specs.RxFilter.Sorting.{sorted}
-use Rattle.nic_device.specs.RxFilter.declared.target.Target.{Target}
-use Rattle.nic_device.specs.RxFilter.declared.unwanted.Unwanted.{Unwanted}
-use Rattle.nic_device.specs.Access.{named_written}
-use Rattle.nic_device.specs.Arrival.{let_in, sorted_in}
-use Rattle.nic_device.specs.Named.{named}
-use Rattle.nic_device.specs.Outcome.{Outcome}
-use Rattle.nic_device.specs.State.{State, Waiting}
-use Rattle.nic_device.specs.Step.{step_of, after}
-use Rattle.nic_device.specs.Switching.{without_part}
-use Rattle.nic_device.specs.declared.event.Event.{Event}
-use Rattle.nic_device.specs.declared.event.Event.TheVariants as event
-use Rattle.nic_device.specs.declared.event.Port.{Port}
-use Rattle.nic_device.specs.declared.named.Named.{Named}
-use Rattle.nic_device.specs.declared.named.Named.TheVariants.{Nothing, Register}
+use Rattle.std.proofs.Common.{[], ◌++◌, ◌∷◌, ◌≡◌, ◌≤◌, Err, List, Ok, false, length, nat_lt, refl, subst, sym, true, ℕ}
+use Rattle.std.proofs.{lemmas.Bool.cond_both, lemmas.Bool.ltb-false}
+use Rattle.std.specs.Prelude.{Result, filter, not, ⊤}
+use Rattle.history_laws.specs.Prelude.{Block, Event, Named, Nothing, Outcome, Place, Port, Register, Rx, State, Tx}
+use Rattle.history_laws.specs.Prelude.{Waiting, after, asks_reset, frame_limit, has_queue, is_wanted, mode_in, named}
+use Rattle.history_laws.specs.Prelude.{named_written, row_of, step_of}
 use Rattle.nic_device.proofs.Cases.{either_way, switched_cases}
-use Rattle.history_laws.proofs.DeviceLaws.Resetting.{is_reset}
-use Rattle.history_laws.proofs.DeviceLaws.Standing.{stays_within}
-use Rattle.history_laws.proofs.DeviceLaws.StandingAccesses.{read_rest}
+use Rattle.nic_device.specs.RxFilter.declared.unwanted.Unwanted.{Unwanted}
+use Rattle.nic_device.specs.{Arrival.let_in, Arrival.sorted_in, RegisterFile.Access.asks_pool_reset}
+use Rattle.nic_device.specs.{RegisterFile.Settings.can_receive, RxFilter.Sorting.sorted}
+use Rattle.nic_device.specs.{RxFilter.declared.target.Target.Target, Switching.without_part}
+use Rattle.device_laws.proofs.{Resetting.is_reset, Standing.stays_within, StandingAccesses.read_rest}
+use Rattle.nic_device.specs.declared.event.Event.TheVariants as event
 
 -- those of a pool's queues are gone after a reset of the pool, and all after one of the device
 pub record Resets (P : List Waiting → Type 0) (s : State) (p : Place) (word : ℕ) : Type 0 where

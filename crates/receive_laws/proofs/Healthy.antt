@@ -1,39 +1,26 @@
 -- The replies to the driver's own events are those of a healthy queue.
-use Rattle.std.proofs.Common.{◌≡◌, ℕ, suc, ◌+◌, ◌<◌, ◌≤◌, inl, inr, Bool, true, false, not, cond, List, [], ◌∷◌, ◌++◌, length, refl, sym, ap, ◌∙◌, subst, arith, nat_lt}
-use Rattle.std.specs.Prelude.{nat_le}
-use Rattle.std.specs.FinMap as map
-use Rattle.std.proofs.lemmas.Bool.{cases_Bool, or_left, or_right, and_from, eq-eqb}
+use Rattle.std.proofs.Common.{[], ◌++◌, ◌+◌, ◌<◌, ◌∙◌, ◌∷◌, ◌≡◌, ◌≤◌, Bool, List, ap, arith, cond, false, inl, inr}
+use Rattle.std.proofs.Common.{length, nat_lt, not, refl, subst, suc, sym, true, ℕ}
+use Rattle.std.proofs.lemmas.Bool.{and_from, cases_Bool, eq-eqb, or_left, or_right}
 use Rattle.std.proofs.lemmas.Bool.Decides.{nat_tests}
-use Rattle.nic_device.specs.DmaArena.Block.{Block}
-use Rattle.nic_device.specs.DmaArena.Memory.{read_at}
+use Rattle.std.specs.Prelude.{nat_le}
+use Rattle.history_laws.specs.Prelude.{Block, Event, Outcome, Port, Reply, State, bytes_in, ends_packet, is_done}
+use Rattle.history_laws.specs.Prelude.{read_at, reply_to, second_half}
+use Rattle.receive_laws.specs.Prelude.{IsOwn, LendsAnew, Looks, Packet, Receive, Stage, Told, block_at, descriptor_at}
+use Rattle.receive_laws.specs.Prelude.{left_of, reach, slot_at, vacant}
 use Rattle.nic_device.proofs.DmaArena.Bus.{of_some}
-use Rattle.nic_device.specs.DmaRing.Descriptor.{second_half}
-use Rattle.nic_device.specs.DmaRing.Receive.{is_done, ends_packet, bytes_in}
-use Rattle.nic_device.specs.Outcome.{Outcome}
-use Rattle.nic_device.specs.State.{State}
-use Rattle.nic_device.specs.Step.{reply_to}
-use Rattle.nic_device.specs.declared.event.Event.{Event}
+use Rattle.pmd_rx.specs.Receive.{MovesNext, NamesNext, PeeksNext, TakesNext, is_part}
+use Rattle.pmd_rx.specs.{Wrong.is_healthy, Wrong.is_whole}
+use Rattle.history_laws.proofs.Lent.{anew_is_done, poked_is, taken_is}
+use Rattle.receive_laws.proofs.{Kept.aligned, Kept.posted_block, Kept.posted_in, Leaving.descriptor_lent}
+use Rattle.receive_laws.proofs.{Leaving.look_tells, Leaving.looked_is, Naming.tail_written, Parts.none_left}
+use Rattle.receive_laws.proofs.{Parts.seen_within}
+use Rattle.receive_laws.specs.Joint.{AreOpen, AreSeen, Holds, IsAt}
+use Rattle.receive_laws.specs.Pieces.{AllFit, Fits, Piece, open_after, piece_at}
+use Rattle.receive_laws.specs.{Healthy.OwnRepliesAreHealthy, Steps.TellsSlot}
+use Rattle.std.specs.FinMap as map
 use Rattle.nic_device.specs.declared.event.Event.TheVariants as event
-use Rattle.nic_device.specs.declared.event.Port.{Port}
-use Rattle.nic_device.specs.declared.event.Reply.{Reply}
 use Rattle.nic_device.specs.declared.event.Reply.TheVariants as reply
-use Rattle.history_laws.specs.Lent.{LendsAnew}
-use Rattle.history_laws.proofs.Calls.{anew_is_done, taken_is, poked_is}
-use Rattle.pmd_rx.specs.PmdSeam.declared.packet.Packet.{Packet}
-use Rattle.pmd_rx.specs.Receive.{Receive, IsOwn, PeeksNext, TakesNext, NamesNext, MovesNext, is_part, left_of, slot_at, descriptor_at, block_at, vacant, reach}
-use Rattle.pmd_rx.specs.declared.ring.Stage.{Stage}
-use Rattle.pmd_rx.specs.declared.ring.Stage.TheVariants.{Looks}
-use Rattle.pmd_rx.specs.declared.ring.Told.{Told}
-use Rattle.pmd_rx.specs.Wrong.{is_whole, is_healthy}
-use Rattle.receive_laws.specs.Healthy.{OwnRepliesAreHealthy}
-use Rattle.receive_laws.specs.Joint.{AreSeen, AreOpen, IsAt, Holds}
-use Rattle.receive_laws.specs.Pieces.{Piece, Fits, AllFit, open_after, piece_at}
-use Rattle.receive_laws.specs.Steps.{TellsSlot}
-use Rattle.receive_laws.proofs.Looking.{descriptor_lent, look_tells, looked_is}
-use Rattle.receive_laws.proofs.Parts.{seen_within, none_left}
-use Rattle.receive_laws.proofs.Places.{aligned}
-use Rattle.receive_laws.proofs.Reach.{posted_in, posted_block}
-use Rattle.receive_laws.proofs.Tail.{tail_written}
 
 -- the pieces that stand in slots fit, as all do, and the one behind those that were seen
 

@@ -1,20 +1,204 @@
--- Each event of the driver's own keeps the agreement.
-use Rattle.std.proofs.Common.{ℕ, List, [], ◌++◌, refl, sym, subst}
-use Rattle.std.proofs.lemmas.List.{append-nil}
-use Rattle.nic_device.specs.DmaArena.Block.{Block}
-use Rattle.nic_device.specs.State.{State}
-use Rattle.nic_device.specs.Step.{after, reply_to}
-use Rattle.nic_device.specs.declared.event.Event.{Event}
+-- Each event of the driver's own keeps the agreement; here it takes the block of the next slot.
+use Rattle.std.proofs.Common.{[], ◌*◌, ◌++◌, ◌+◌, ◌<◌, ◌∙◌, ◌∷◌, ◌≡◌, ◌≢◌, ◌≤◌, List, Some, ap, arith, drop, false}
+use Rattle.std.proofs.lemmas.List.{append-nil, get_or-drop, length-drop}
+use Rattle.std.proofs.{Common.length, Common.refl, Common.subst, Common.sym, Common.take, Common.ℕ}
+use Rattle.history_laws.specs.Prelude.{Block, Event, IsWhole, Memory, Outcome, ReceiveQueue, State, after, bytes_in}
+use Rattle.history_laws.specs.Prelude.{receive_queue_of, reply_to}
+use Rattle.receive_laws.specs.Prelude.{Layout, Receive, Told, block_at, descriptor_at, drive, is_ring_block, reach}
+use Rattle.receive_laws.specs.Prelude.{slot_at, took}
+use Rattle.nic_device.proofs.{DmaArena.Blocks.read_at_in, DmaArena.Bus.get-remove_other, DmaArena.Bus.of_some}
+use Rattle.nic_device.specs.DmaArena.Memory.{part}
+use Rattle.pmd_rx.proofs.{PmdSeam.Places.next_below, PmdSeam.Places.wrapped_next, PmdSeam.Rings.ring_block_apart}
+use Rattle.pmd_rx.specs.{PmdSeam.Slots.wrapped, Receive.TakesNext, Receive.consumed}
+use Rattle.history_laws.proofs.Lent.{taken_is}
+use Rattle.receive_laws.proofs.Kept.{SameRing, filled_kept, named_kept, posted_block, posted_kept, reach_long, same_has}
+use Rattle.receive_laws.proofs.{Kept.took_reach, Leaving.lend_keeps, Leaving.look_keeps, Naming.move_keeps}
+use Rattle.receive_laws.proofs.{Naming.name_keeps, Parts.first_seen, Parts.order_on, Parts.seen_within}
+use Rattle.receive_laws.specs.Joint.{Agree, AreSeen, HasSlots, IsFilled, IsPosted, IsRing, IsSetUp, Saw}
+use Rattle.receive_laws.specs.{Pieces.Piece, Pieces.no_piece, Pieces.piece_at, Steps.OwnEventKeeps}
+use Rattle.std.specs.FinMap as map
 use Rattle.nic_device.specs.declared.event.Event.TheVariants as event
-use Rattle.pmd_rx.specs.Receive.{Receive, drive}
-use Rattle.receive_laws.specs.Joint.{Agree}
-use Rattle.receive_laws.specs.Pieces.{Piece}
-use Rattle.receive_laws.specs.Steps.{OwnEventKeeps}
-use Rattle.receive_laws.proofs.Lending.{lend_keeps}
-use Rattle.receive_laws.proofs.Looking.{look_keeps}
-use Rattle.receive_laws.proofs.Moving.{move_keeps}
-use Rattle.receive_laws.proofs.Naming.{name_keeps}
-use Rattle.receive_laws.proofs.Taking.{take_keeps}
+
+-- The ring without its next slot.
+
+slot_on : (l : Layout) (k : ℕ) → l.next < l.size → k + 1 < l.size → slot_at (consumed l) k ≡ slot_at l (1 + k)
+slot_on l k next h =
+    wrapped_next l.size l.next k next (omega (arith, h))
+    ∙ ap (wrapped l.size) (let e : l.next + (k + 1) ≡ l.next + (1 + k) = omega arith in e)
+
+-- the ring without its next slot
+module _ (m : Memory) (l : Layout) (here : List Piece) (ring : IsRing l) (h : HasSlots m l here)
+    (some : 0 < length here) where
+  abbrev n : Memory
+  n = map.remove m (block_at l 0)
+
+  outs : 0 < length l.blocks
+  outs = let within = h.within in omega (arith, within, some)
+
+  fewer : length (drop 1 here) + 1 ≡ length here
+  fewer = omega (arith, length-drop 1 here, some)
+
+  less : length (drop 1 l.blocks) + 1 ≡ length l.blocks
+  less = omega (arith, length-drop 1 l.blocks, outs)
+
+  block_on : (k : ℕ) → block_at (consumed l) k ≡ block_at l (1 + k)
+  block_on k = get_or-drop 1 l.blocks k 0
+
+  piece_on : (k : ℕ) → piece_at (drop 1 here) k ≡ piece_at here (1 + k)
+  piece_on k = get_or-drop 1 here k no_piece
+
+  desc_on : (k : ℕ) → k + 1 < l.size → descriptor_at (consumed l) k ≡ descriptor_at l (1 + k)
+  desc_on k i = ap (λ x. 2048 * l.ring + 16 * x) (slot_on l k ring.next i)
+
+  kept_ring : SameRing l m n
+  kept_ring k i =
+      get-remove_other m (block_at l 0) (l.ring + k)
+      (λ e. ring_block_apart l.ring l.size (block_at l 0) (ring.not_ring 0 outs) k i (sym e))
+
+  kept_block : (k : ℕ) → 0 < k → k < length l.blocks → map.get n (block_at l k) ≡ map.get m (block_at l k)
+  kept_block k i j =
+      get-remove_other m (block_at l 0) (block_at l k) (ring.apart k 0 j outs (λ e. absurd (omega (arith, e, i))))
+
+  filled_on : (k : ℕ) → k < length (drop 1 here)
+      → IsFilled n (descriptor_at (consumed l) k) (block_at (consumed l) k) (piece_at (drop 1 here) k)
+  filled_on k i =
+      let within = h.within in
+      let room = ring.room in
+      let j : 1 + k < length here = omega (arith, fewer, i) in
+      let inside : 1 + k < length l.blocks = omega (arith, within, j) in
+      subst (λ a. IsFilled n a (block_at (consumed l) k) (piece_at (drop 1 here) k))
+      (sym (desc_on k (omega (arith, room, inside))))
+      (subst (λ b. IsFilled n (descriptor_at l (1 + k)) b (piece_at (drop 1 here) k)) (sym (block_on k))
+      (subst (λ p. IsFilled n (descriptor_at l (1 + k)) (block_at l (1 + k)) p) (sym (piece_on k))
+      (filled_kept l m n ring kept_ring (1 + k) (block_at l (1 + k)) (piece_at here (1 + k)) (omega (arith, inside))
+      (kept_block (1 + k) (omega arith) inside) (h.filled (1 + k) j))))
+
+  posted_on : (k : ℕ) → length (drop 1 here) ≤ k → k < length (drop 1 l.blocks)
+      → IsPosted n (descriptor_at (consumed l) k) (block_at (consumed l) k)
+  posted_on k i j =
+      let room = ring.room in
+      let inside : 1 + k < length l.blocks = omega (arith, less, j) in
+      subst (λ a. IsPosted n a (block_at (consumed l) k)) (sym (desc_on k (omega (arith, room, inside))))
+      (subst (λ b. IsPosted n (descriptor_at l (1 + k)) b) (sym (block_on k))
+      (posted_kept l m n ring kept_ring (1 + k) (block_at l (1 + k)) (omega (arith, inside))
+      (kept_block (1 + k) (omega arith) inside) (h.posted (1 + k) (omega (arith, fewer, i)) inside)))
+
+  pub ring_on : IsRing (consumed l)
+  ring_on =
+      let room = ring.room in
+      record {
+        some = ring.some;
+        few = ring.few;
+        next = next_below l.size l.next ring.next;
+        ring = ring.ring;
+        room = omega (arith, less, room);
+        low = λ k i. subst (λ b. b < 65536) (sym (block_on k)) (ring.low (1 + k) (omega (arith, less, i)));
+        not_ring = λ k i.
+            subst (λ b. is_ring_block l.ring l.size b ≡ false) (sym (block_on k))
+            (ring.not_ring (1 + k) (omega (arith, less, i)));
+        apart = λ i j a b ne.
+            subst (λ x. x ≢ block_at (consumed l) j) (sym (block_on i))
+            (subst (λ x. block_at l (1 + i) ≢ x) (sym (block_on j))
+            (ring.apart (1 + i) (1 + j) (omega (arith, less, a)) (omega (arith, less, b))
+            (λ e. ne (omega (arith, e)))));
+      }
+
+  pub slots_on : HasSlots n (consumed l) (drop 1 here)
+  slots_on =
+      let within = h.within in
+      record {
+        there = λ k i. same_has m n (l.ring + k) (kept_ring k i) ∙ h.there k i;
+        within = omega (arith, fewer, less, within);
+        filled = filled_on;
+        posted = posted_on;
+      }
+
+-- the queue's side, by the posted slots
+module _ (l : Layout) (here : List Piece) (next : l.next < l.size) (room : length l.blocks < l.size)
+    (within : length here ≤ length l.blocks) (some : 0 < length here) where
+  pub posted_less : length (drop 1 here) ≤ length (drop 1 l.blocks)
+  posted_less = omega (arith, length-drop 1 here, length-drop 1 l.blocks, within, some)
+
+  pub set_up_on : (q : ReceiveQueue) → IsSetUp q l (length here) → IsSetUp q (consumed l) (length (drop 1 here))
+  set_up_on q up =
+      let e : 1 + length (drop 1 here) ≡ length here = omega (arith, length-drop 1 here, some) in
+      let f : 1 + length (drop 1 l.blocks) ≡ length l.blocks =
+      omega (arith, length-drop 1 l.blocks, within, some) in
+      record {
+        one_buffer = up.one_buffer;
+        buffer_size = up.buffer_size;
+        base = up.base;
+        sized = up.sized;
+        head = up.head ∙ ap (slot_at l) (sym e)
+            ∙ sym (slot_on l (length (drop 1 here)) next (omega (arith, e, within, room)));
+        tail = up.tail ∙ ap (slot_at l) (sym f)
+            ∙ sym (slot_on l (length (drop 1 l.blocks)) next (omega (arith, f, room)));
+      }
+
+-- The block of the next slot is taken: its piece is the oldest that was written and not consumed.
+
+part_front : (xs : List ℕ) (n : ℕ) → part xs 0 n ≡ take n xs
+unfolding part
+part_front xs n = refl
+
+-- the bytes of the packet are those at the head of the block
+packet_bytes : (m : Memory) (b : ℕ) (bytes : List ℕ) (a : ℕ) (p : Piece) (len : ℕ) → map.get m b ≡ Some bytes
+    → length bytes ≡ 2048 → IsFilled m a b p → len ≡ length p.bytes → take len bytes ≡ p.bytes
+packet_bytes m b bytes a p len is whole f e =
+    let short = f.short in
+    ap (λ n. take n bytes) e ∙ sym (part_front bytes (length p.bytes))
+    ∙ sym (read_at_in m (2048 * b) (length p.bytes) b 0 bytes is whole (omega arith) (omega (arith, short))) ∙ f.bytes
+
+some_here : (seen : List Told) (here : List Piece) → AreSeen seen here → 0 < length seen → 0 < length here
+some_here seen here are some = let within = seen_within seen here are in omega (arith, within, some)
+
+pub take_keeps : (queue : ℕ) (s : State) (out : List Piece) (v : Receive) (n : ℕ) (seen : List Told) → IsWhole s.memory
+    → Agree queue s out v → TakesNext v n → v.seen ≡ seen
+    → Agree queue (after s (event.Take n)) out (drive v (event.Take n) (reply_to s (event.Take n)))
+take_keeps queue s out v n [] whole j own is =
+    let some = own.some in
+    let none = ap (λ (xs : List Told). length xs) is in
+    absurd (omega (arith, some, none))
+take_keeps queue s out v n (t ∷ ts) whole (gone, here, h) own is =
+    let l = reach v in
+    let some = some_here v.seen here h.order.seen own.some in
+    let within = h.posted in
+    let free = h.ring.room in
+    let outs : 0 < length v.layout.blocks = omega (arith, within, some) in
+    let room : length v.layout.blocks < v.layout.size = omega (arith, free, reach_long v) in
+    let saw : Saw t (piece_at here 0) = first_seen v.seen here t ts h.order.seen is in
+    let f : IsFilled s.memory (descriptor_at l 0) (block_at l 0) (piece_at here 0) = h.slots.filled 0 some in
+    let there = of_some (map.get s.memory (block_at l 0)) f.there in
+    let bytes : List ℕ = there.0 in
+    let b : Block = record { number = block_at l 0; bytes = bytes } in
+    let size = (whole.block (block_at l 0) bytes there.1) in
+    let u : State = record s { memory = map.remove s.memory (block_at l 0) } in
+    let w : Receive = took v (t ∷ ts) b in
+    let same : consumed l ≡ reach w = took_reach v t ts b outs in
+    let here_is : take (bytes_in t.second) b.bytes ≡ (piece_at here 0).bytes =
+    packet_bytes s.memory (block_at l 0) bytes (descriptor_at l 0) (piece_at here 0) (bytes_in t.second) there.1
+    size.size f saw.len_is in
+    let after_it : Agree queue u out w = (
+      gone ++ piece_at here 0 ∷ [],
+      drop 1 here,
+      record {
+        named = record { low = h.named.low; tail = (named_kept s u queue v.layout refl refl h.named).tail };
+        ring = subst IsRing same (ring_on s.memory l here h.ring h.slots some);
+        side = set_up_on v.layout here h.ring.next room within some (receive_queue_of s.registers queue) h.side;
+        posted = posted_less v.layout here h.ring.next room within some;
+        slots = subst (λ (x : Layout). HasSlots u.memory x (drop 1 here)) same
+            (slots_on s.memory l here h.ring h.slots some);
+        stage = tt;
+        order = order_on out gone here v t ts b h.order is own.stage some here_is size.size;
+      },
+    ) in
+    subst (λ x. Agree queue (after s (event.Take x)) out (drive v (event.Take x) (reply_to s (event.Take x))))
+    (sym (own.block ∙ sym (posted_block v 0 outs)))
+    (subst (λ (o : Outcome). Agree queue o.state out (drive v (event.Take (block_at l 0)) o.reply))
+    (sym (taken_is s (block_at l 0) bytes there.1))
+    (subst (λ (xs : List Told). Agree queue u out (took v xs b)) (sym is) after_it))
+
+-- Each event of the driver's own keeps the agreement.
 
 abbrev Driven : ℕ → State → List Piece → Receive → Event Block → Type 0
 Driven queue s out v e = Agree queue (after s e) out (drive v e (reply_to s e))

@@ -47,18 +47,16 @@ head_even high low head even = omega (arith, even)
 lies : (r : Registers) (queue : ℕ) → IsAligned (ring_of r Tx queue)
     → LiesIn (report_of r queue / 2048) (report_of r queue) (report_length (writeback_of r queue))
 lies r queue a =
-    let base = a.base in
     lies_by (has_bit 0 (word_of r Tdwbal queue)) (word_of r Tdwbah queue) (word_of r Tdwbal queue)
     (descriptor_address (ring_of r Tx queue) (ring_of r Tx queue).head)
-    (head_even (word_of r Tdbah queue) (word_of r Tdbal queue) (ring_of r Tx queue).head (omega (arith, base)))
+    (head_even (word_of r Tdbah queue) (word_of r Tdbal queue) (ring_of r Tx queue).head (omega (arith, a.base)))
 
 pub reports_lie : ReportsLieInBlocks
 reports_lie s sound queue back told =
-    let r = s.registers in
     let is = reported queue (reply_to s (event.TxStep queue)) s (after s (event.TxStep queue))
     (transmitting_tells s sound queue) back told in
-    subst (λ x. LiesIn (x / 2048) x (report_length (writeback_of r queue))) (sym is)
-    (lies r queue (rings_aligned r sound.registers Tx queue))
+    subst (λ x. LiesIn (x / 2048) x (report_length (writeback_of s.registers queue))) (sym is)
+    (lies s.registers queue (rings_aligned s.registers sound.registers Tx queue))
 
 -- Blocks that a step of receiving writes nothing into: also where it writes no byte of a frame.
 

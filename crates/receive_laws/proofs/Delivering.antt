@@ -337,8 +337,8 @@ no_rest hs xs ys is =
     let long = ap (λ (ks : List Kept). length ks) is in
     nil_from_length xs (omega (arith, long, length-append (hs ++ xs) ys, length-append hs xs))
 
-pub between : (hs ds all : List Kept) → IsPrefixOf hs ds → IsPrefixOf ds all → all ≡ hs → hs ≡ ds
-between hs ds all (xs, is) (ys, then) same =
+pub between : (hs ds ks : List Kept) → IsPrefixOf hs ds → IsPrefixOf ds ks → ks ≡ hs → hs ≡ ds
+between hs ds ks (xs, is) (ys, then) same =
     let none : xs ≡ [] = no_rest hs xs ys (ap (λ (ks : List Kept). ks ++ ys) is ∙ then ∙ same) in
     sym (append-nil hs) ∙ ap (λ (ks : List Kept). hs ++ ks) (sym none) ∙ is
 

@@ -68,12 +68,11 @@ module _ (queue : ℕ) (s : State) (out : List Piece) (v : Receive) (sound : IsS
   took : Takes Rx queue s e → Agree queue t (out ++ pieces queue s e) v
   took x =
       let w = x.work in
-      let here = j.1 in
       let fit : (rest_of w.frame).first < 2 ^ 64 = told-lt w.frame (subst AreWaiting w.first.waits sound.waiting).0 in
       subst (λ xs. Agree queue t (out ++ xs) v) (sym w.piece) (
         j.0,
-        here ++ piece_in (rest_of w.frame) w.filled ∷ [],
-        filled_holds queue s out v sound j.0 here j.2 (slot_left queue s out v j.0 here j.2 x.tried)
+        j.1 ++ piece_in (rest_of w.frame) w.filled ∷ [],
+        filled_holds queue s out v sound j.0 j.1 j.2 (slot_left queue s out v j.0 j.1 j.2 x.tried)
             (rest_of w.frame) w.filled t fit w.answer w.memory (ap receive_of x.side) (settings_stand s e none).mode
             (stays_within s e).vfs,
       )
@@ -132,9 +131,7 @@ module _ (queue : ℕ) (s : State) (out : List Piece) (v : Receive) (gone here :
   filled_inside w f room is =
       let own = receive_queue_of s.registers queue in
       let t = takes_piece s.memory own.ring own.control (rest_of w) f is in
-      let size = h.side.buffer_size in
-      let len = t.len in
-      let short : f.len ≤ 2048 = omega (arith, len, size) in
+      let short : f.len ≤ 2048 = omega (arith, t.len, h.side.buffer_size) in
       record {
         descriptor =
             subst (IsInRing l.ring l.size) (sym (t.desc ∙ head_is queue s out v gone here h))

@@ -4,8 +4,8 @@ use Rattle.std.proofs.Common.{length, nat_lt, not, refl, subst, suc, sym, true, 
 use Rattle.std.proofs.lemmas.Bool.{and_from, cases_Bool, eq-eqb, or_left, or_right}
 use Rattle.std.proofs.lemmas.Bool.Decides.{nat_tests}
 use Rattle.std.specs.Prelude.{nat_le}
-use Rattle.history_laws.specs.Prelude.{Block, Event, Outcome, Port, Reply, State, bytes_in, ends_packet, is_done}
-use Rattle.history_laws.specs.Prelude.{read_at, reply_to, second_half}
+use Rattle.history_laws.specs.Prelude.{Block, Event, Outcome, Port, State, bytes_in, ends_packet, is_done, read_at}
+use Rattle.history_laws.specs.Prelude.{reply_to, second_half, step_of}
 use Rattle.receive_laws.specs.Prelude.{IsOwn, LendsAnew, Looks, Packet, Receive, Stage, Told, block_at, descriptor_at}
 use Rattle.receive_laws.specs.Prelude.{left_of, reach, slot_at, vacant}
 use Rattle.nic_device.proofs.DmaArena.Bus.{of_some}
@@ -62,8 +62,10 @@ module _ (queue : ℕ) (s : State) (out : List Piece) (v : Receive) (gone here :
     abbrev Healthy : Event Block → Type 0
     Healthy e = is_healthy v e (reply_to s e) ≡ true
 
-    by_reply : (e : Event Block) (r : Reply Block) → reply_to s e ≡ r → is_healthy v e r ≡ true → Healthy e
-    by_reply e r is healthy = ap (is_healthy v e) is ∙ healthy
+    -- as the event is written otherwise, by its outcome
+    by_outcome : (e d : Event Block) (o : Outcome) → e ≡ d → step_of s d ≡ o → is_healthy v d o.reply ≡ true → Healthy e
+    by_outcome e d o same is healthy =
+        subst Healthy (sym same) (ap (λ (x : Outcome). is_healthy v d x.reply) is ∙ healthy)
 
     -- a look that finds a descriptor done
     told_part : AllFit v.layout.most 0 out → v.stage ≡ Looks → (d : List ℕ) → TellsSlot here (length v.seen) d
@@ -95,45 +97,37 @@ module _ (queue : ℕ) (s : State) (out : List Piece) (v : Receive) (gone here :
     look_healthy all a own =
         let k = length v.seen in
         let at = descriptor_at v.layout k in
-        let posted = own.posted in
-        let is = ap (λ (o : Outcome). o.reply)
-        (looked_is s (reach v) here k h.ring h.slots (posted_in v k (omega (arith, posted)))) in
-        subst (λ x. Healthy (event.Peek16 x)) (sym own.address)
-        (by_reply (event.Peek16 at) _ is
-        (whole_told all own.stage (read_at s.memory at 16) (look_tells queue s out v gone here k h own.posted _ is)))
+        let is = looked_is s (reach v) here k h.ring h.slots (posted_in v k (omega (arith, own.posted))) in
+        by_outcome (event.Peek16 a) (event.Peek16 at) _ (ap event.Peek16 own.address) is
+        (whole_told all own.stage (read_at s.memory at 16)
+        (look_tells queue s out v gone here k h own.posted _ (ap (λ (o : Outcome). o.reply) is)))
 
     take_healthy : (n : ℕ) → TakesNext v n → Healthy (event.Take n)
     take_healthy n own =
         let within = seen_within v.seen here h.order.seen in
-        let posted = h.posted in
-        let some = own.some in
         let first = block_at (reach v) 0 in
-        let there = of_some (map.get s.memory first) (h.slots.filled 0 (omega (arith, within, some))).there in
-        subst (λ k. Healthy (event.Take k))
-        (sym (own.block ∙ sym (posted_block v 0 (omega (arith, within, posted, some)))))
-        (by_reply (event.Take first) _
-        (ap (λ (o : Outcome). o.reply) (taken_is s first there.0 there.1)) refl)
+        let there = of_some (map.get s.memory first) (h.slots.filled 0 (omega (arith, within, own.some))).there in
+        by_outcome (event.Take n) (event.Take first) _
+        (ap event.Take (own.block ∙ sym (posted_block v 0 (omega (arith, within, h.posted, own.some)))))
+        (taken_is s first there.0 there.1) refl
 
     name_healthy : (a : ℕ) (bytes : List ℕ) → NamesNext v a bytes → Healthy (event.Poke16 a bytes)
     name_healthy a bytes own =
         let l = reach v in
         let at = descriptor_at l (vacant l) in
-        subst (λ x. Healthy (event.Poke16 x bytes)) (sym own.address)
-        (by_reply (event.Poke16 at bytes) _
-        (ap (λ (o : Outcome). o.reply) (poked_is s at bytes (aligned l.ring (slot_at l (vacant l)))
-        (descriptor_lent s.memory l here h.ring h.slots (vacant l) (omega arith)))) refl)
+        by_outcome (event.Poke16 a bytes) (event.Poke16 at bytes) _ (ap (λ x. event.Poke16 x bytes) own.address)
+        (poked_is s at bytes (aligned l.ring (slot_at l (vacant l)))
+        (descriptor_lent s.memory l here h.ring h.slots (vacant l) (omega arith))) refl
 
     move_healthy : (port : Port) (n word : ℕ) → MovesNext v port n word → Healthy (event.Write port n word)
     move_healthy port n word own =
-        subst (λ x. Healthy (event.Write x n word)) (sym own.port_is)
-        (subst (λ x. Healthy (event.Write v.layout.port x word)) (sym own.number_is)
-        (by_reply (event.Write v.layout.port v.layout.tail word) _
-        (ap (λ (o : Outcome). o.reply) (tail_written s queue v.layout word h.named)) refl))
+        by_outcome (event.Write port n word) (event.Write v.layout.port v.layout.tail word) _
+        (λ k. event.Write (own.port_is k) (own.number_is k) word) (tail_written s queue v.layout word h.named) refl
 
     healthy : AllFit v.layout.most 0 out → (e : Event Block) → IsOwn v e → LendsAnew s e → Healthy e
     healthy all (event.Peek16 a) own anew = look_healthy all a own
     healthy all (event.Take n) own anew = take_healthy n own
-    healthy all (event.Lend b) own anew = by_reply (event.Lend b) reply.Done (anew_is_done s b anew) refl
+    healthy all (event.Lend b) own anew = ap (is_healthy v (event.Lend b)) (anew_is_done s b anew)
     healthy all (event.Poke16 a bytes) own anew = name_healthy a bytes own
     healthy all (event.Write port n word) own anew = move_healthy port n word own
     healthy all e own anew = absurd own

@@ -207,14 +207,11 @@ slot_below l k ring h =
 pub slot_low : (l : Layout) (k : ℕ) → IsRing l → k ≤ length l.blocks → slot_at l k < 1024
 slot_low l k ring h =
     let slot = slot_below l k ring h in
-    let few = ring.few in
-    omega (arith, slot, few)
+    omega (arith, slot, ring.few)
 
 pub ring_low : (l : Layout) → IsRing l → l.ring < 65536
 ring_low l ring =
-    let some = ring.some in
-    let low = ring.ring in
-    omega (arith, some, low)
+    omega (arith, ring.some, ring.ring)
 
 -- the same blocks of the ring
 abbrev pub SameRing : Layout → Memory → Memory → Type 0

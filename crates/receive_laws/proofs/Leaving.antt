@@ -3,9 +3,9 @@ use Rattle.std.proofs.Common.{[], ◌%◌, ◌&&◌, ◌*◌, ◌++◌, ◌+◌,
 use Rattle.std.proofs.Common.{cond, false, inl, inr, length, nat_lt, refl, subst, sym, true, ℕ}
 use Rattle.std.proofs.lemmas.Bool.{and_parts, both_ways, cases_lt, eqb-true}
 use Rattle.std.specs.Prelude.{if◌then◌else◌, ◌==◌}
-use Rattle.history_laws.specs.Prelude.{Block, Memory, Outcome, ReceiveQueue, Reply, Ring, State, after, buffer_size_of}
-use Rattle.history_laws.specs.Prelude.{bytes_in, ends_packet, gives, has_block, is_done, is_lent, read_at}
-use Rattle.history_laws.specs.Prelude.{receive_queue_of, reply_to, second_half, step_of}
+use Rattle.history_laws.specs.Prelude.{Block, Event, Memory, Outcome, ReceiveQueue, Reply, Ring, State, after}
+use Rattle.history_laws.specs.Prelude.{buffer_size_of, bytes_in, ends_packet, gives, has_block, is_done, is_lent}
+use Rattle.history_laws.specs.Prelude.{read_at, receive_queue_of, reply_to, second_half, step_of}
 use Rattle.receive_laws.specs.Prelude.{Layout, Lent, Looks, Receive, Stage, Takes, Told, block_at, descriptor_at, drive}
 use Rattle.receive_laws.specs.Prelude.{reach, slot_at}
 use Rattle.nic_device.proofs.{Cases.lent_cases, DmaArena.Blocks.is_lent_in, DmaArena.Bus.get-insert_other}
@@ -173,21 +173,26 @@ looked_holds queue s out v gone here d true h looks tells is =
     (at_after v (told_by d) (ends_packet (second_half d)) refl at.0 at.1
     (part_open v.layout.most (length v.seen) (second_half d) both.1)))
 
+-- an event of the driver's own, as it is written otherwise, by its outcome
+pub by_outcome : (queue : ℕ) (s : State) (out : List Piece) (v : Receive) (e d : Event Block) (o : Outcome) → e ≡ d
+    → step_of s d ≡ o → Agree queue o.state out (drive v d o.reply)
+    → Agree queue (after s e) out (drive v e (reply_to s e))
+by_outcome queue s out v e d o same is agree =
+    subst (λ x. Agree queue (after s x) out (drive v x (reply_to s x))) (sym same)
+    (subst (λ (p : Outcome). Agree queue p.state out (drive v d p.reply)) (sym is) agree)
+
 -- the driver's look at the slot behind those that it saw keeps the agreement
 pub look_keeps : (queue : ℕ) (s : State) (out : List Piece) (v : Receive) (a : ℕ) → Agree queue s out v → PeeksNext v a
     → Agree queue (after s (event.Peek16 a)) out (drive v (event.Peek16 a) (reply_to s (event.Peek16 a)))
 look_keeps queue s out v a (gone, here, h) own =
     let k = length v.seen in
-    let at = descriptor_at v.layout k in
-    subst (λ x. Agree queue (after s (event.Peek16 x)) out (drive v (event.Peek16 x) (reply_to s (event.Peek16 x))))
-    (sym own.address)
-    (subst (λ (o : Outcome). Agree queue o.state out (drive v (event.Peek16 at) o.reply))
-    (sym (looked_is s (reach v) here k h.ring h.slots (posted_in v k (let i = own.posted in omega (arith, i))))) (
+    by_outcome queue s out v (event.Peek16 a) (event.Peek16 (descriptor_at v.layout k)) _ (ap event.Peek16 own.address)
+    (looked_is s (reach v) here k h.ring h.slots (posted_in v k (let i = own.posted in omega (arith, i)))) (
       gone,
       here,
-      looked_holds queue s out v gone here (read_at s.memory at 16) _ h own.stage
+      looked_holds queue s out v gone here (read_at s.memory (descriptor_at v.layout k) 16) _ h own.stage
           (tells_bytes s.memory (reach v) here k h.slots (posted_below v k own.posted)) refl,
-    ))
+    )
 
 -- A fresh block is lent.
 

@@ -5,10 +5,9 @@ use Rattle.std.proofs.lemmas.Bool.{cases_lt, eqb-false, eqb-true}
 use Rattle.std.proofs.lemmas.List.{append-nil, length-append, length-take-le, length_push, map-append, take-append-drop}
 use Rattle.std.proofs.lemmas.List.{take_all}
 use Rattle.std.specs.Prelude.{◌==◌}
-use Rattle.history_laws.specs.Prelude.{AreApart, Done, GcrExt, IsWhole, Memory, Outcome, Place, Port, ReceiveQueue}
-use Rattle.history_laws.specs.Prelude.{Registers, State, after, first_half, gives, is_done, is_lent, mode_in}
-use Rattle.history_laws.specs.Prelude.{named_written, place, read_at, receive_queue_of, reply_to, second_half, step_of}
-use Rattle.history_laws.specs.Prelude.{write_at}
+use Rattle.history_laws.specs.Prelude.{AreApart, Done, GcrExt, IsWhole, Memory, Place, Port, ReceiveQueue, Registers}
+use Rattle.history_laws.specs.Prelude.{State, after, first_half, gives, is_done, is_lent, mode_in, named_written, place}
+use Rattle.history_laws.specs.Prelude.{read_at, receive_queue_of, reply_to, second_half, step_of, write_at}
 use Rattle.receive_laws.specs.Prelude.{Kept, Layout, Lent, Looks, Packet, Receive, Stage, Told, block_at, descriptor_at}
 use Rattle.receive_laws.specs.Prelude.{drive, ended_of, is_ring_block, kept_of, reach, records_of, slot_at, vacant}
 use Rattle.nic_device.proofs.DmaArena.Bus.{SameLent-write_at, read_at-write_at_apart, read_at-write_at_same}
@@ -24,7 +23,7 @@ use Rattle.history_laws.proofs.{Lent.poked_is, Written.receive-tail, Written.rec
 use Rattle.receive_laws.proofs.Kept.{IsFilled-kept, IsLoose-kept, IsPosted-kept, aligned, buffer_and_slot, named_kept}
 use Rattle.receive_laws.proofs.Parts.{end_last, left_twice, next_at, none_twice, order_same}
 use Rattle.receive_laws.proofs.{Kept.names_reach, Kept.posts_reach, Kept.push_place, Kept.reach_long, Kept.slot_below}
-use Rattle.receive_laws.proofs.{Kept.slots_apart, Leaving.descriptor_lent}
+use Rattle.receive_laws.proofs.{Kept.slots_apart, Leaving.by_outcome, Leaving.descriptor_lent}
 use Rattle.receive_laws.specs.Joint.{Agree, HasSlots, Holds, InOrder, IsFilled, IsLoose, IsNamed, IsPosted, IsRing}
 use Rattle.receive_laws.specs.{Joint.IsSetUp, Joint.StageHolds, Joint.packets_had, Pieces.Piece, Pieces.piece_at}
 use Rattle.nic_device.specs.declared.event.Event.TheVariants as event
@@ -63,13 +62,12 @@ module _ (m : Memory) (l : Layout) (here : List Piece) (b : ℕ) (ring : IsRing 
 
   pub ring_more : IsRing on
   ring_more =
-      let room = loose.room in
       record {
         some = ring.some;
         few = ring.few;
         next = ring.next;
         ring = ring.ring;
-        room = omega (arith, more, room);
+        room = omega (arith, more, loose.room);
         low = λ k i. each_place k (λ c. c < 65536) i (ring.low k) (λ e. loose.low);
         not_ring = λ k i.
             each_place k (λ c. is_ring_block l.ring l.size c ≡ false) i (ring.not_ring k) (λ e. loose.not_ring);
@@ -81,13 +79,12 @@ module _ (m : Memory) (l : Layout) (here : List Piece) (b : ℕ) (ring : IsRing 
 
   pub slots_more : HasSlots m on here
   slots_more =
-      let within = h.within in
       record {
         there = h.there;
-        within = omega (arith, more, within);
+        within = omega (arith, more, h.within);
         filled = λ k i.
-            each_place k (λ c. IsFilled m (descriptor_at l k) c (piece_at here k)) (omega (arith, more, within, i))
-            (λ low. h.filled k i) (λ e. absurd (omega (arith, e, i, within)));
+            each_place k (λ c. IsFilled m (descriptor_at l k) c (piece_at here k)) (omega (arith, more, h.within, i))
+            (λ low. h.filled k i) (λ e. absurd (omega (arith, e, i, h.within)));
         posted = λ k i j.
             each_place k (λ c. IsPosted m (descriptor_at l k) c) j (h.posted k i)
             (λ e. subst (λ x. IsPosted m (descriptor_at l x) b) (sym e) posted);
@@ -105,9 +102,8 @@ module _ (m : Memory) (l : Layout) (here : List Piece) (ring : IsRing l) (h : Ha
 
   slot_kept : (k : ℕ) → k < length l.blocks → read_at n (descriptor_at l k) 16 ≡ read_at m (descriptor_at l k) 16
   slot_kept k i =
-      let room = ring.room in
       let apart = slots_apart l.ring (slot_at l k) (slot_at l (vacant l))
-      (wrapped_apart l.size l.next k (vacant l) ring.next (omega (arith, i, room)) room
+      (wrapped_apart l.size l.next k (vacant l) ring.next (omega (arith, i, ring.room)) ring.room
       (λ e. absurd (omega (arith, e, i)))) in
       read_at-write_at_apart m (descriptor_at l (vacant l)) (naming b) (descriptor_at l k) 16
       (subst (λ len. AreApart (descriptor_at l k) 16 (descriptor_at l (vacant l)) len) (sym halves.size) apart)
@@ -132,21 +128,19 @@ module _ (m : Memory) (l : Layout) (here : List Piece) (ring : IsRing l) (h : Ha
 
   pub posted_here : IsPosted n (descriptor_at l (vacant l)) b
   posted_here =
-      let low = loose.low in
       record {
-        buffer = ap first_half read_back ∙ halves.first (omega (arith, low));
+        buffer = ap first_half read_back ∙ halves.first (omega (arith, loose.low));
         waits = ap (λ d. is_done (second_half d)) read_back ∙ ap is_done (halves.second (omega arith));
         there = same b ∙ loose.there;
       }
 
   pub named_slots : HasSlots n l here
   named_slots =
-      let within = h.within in
       record {
         there = λ k i. same (l.ring + k) ∙ h.there k i;
         within = h.within;
         filled = λ k i.
-            let j : k < length l.blocks = omega (arith, within, i) in
+            let j : k < length l.blocks = omega (arith, h.within, i) in
             let f = h.filled k i in
             IsFilled-kept m n (descriptor_at l k) (block_at l k) (piece_at here k) (slot_kept k j)
             (block_kept (block_at l k) (length (piece_at here k).bytes) (ring.not_ring k j) f.short)
@@ -197,13 +191,10 @@ name_keeps queue s out v a bytes whole (gone, here, h) own =
     let slots = named_slots s.memory l here h.ring h.slots whole b loose in
     let free = named_loose s.memory l here h.ring h.slots whole b loose in
     let posted = posted_here s.memory l here h.ring h.slots whole b loose in
-    subst (λ x. Agree queue (after s (event.Poke16 x bytes)) out
-    (drive v (event.Poke16 x bytes) (reply_to s (event.Poke16 x bytes)))) (sym own.address)
-    (subst (λ x. Agree queue (after s (event.Poke16 at x)) out
-    (drive v (event.Poke16 at x) (reply_to s (event.Poke16 at x)))) (sym own.bytes_are)
-    (subst (λ (x : Outcome). Agree queue x.state out (drive v (event.Poke16 at (naming b)) x.reply))
-    (sym (poked_is s at (naming b) (aligned l.ring (slot_at l (vacant l)))
-    (descriptor_lent s.memory l here h.ring h.slots (vacant l) (omega arith)))) (
+    by_outcome queue s out v (event.Poke16 a bytes) (event.Poke16 at (naming b)) _
+    (λ k. event.Poke16 (own.address k) (own.bytes_are k))
+    (poked_is s at (naming b) (aligned l.ring (slot_at l (vacant l)))
+    (descriptor_lent s.memory l here h.ring h.slots (vacant l) (omega arith))) (
       gone,
       here,
       record {
@@ -216,7 +207,7 @@ name_keeps queue s out v a bytes whole (gone, here, h) own =
         stage = next_holds t.memory (reach (names v)) v.seen;
         order = order_named out gone here v own.stage h.order;
       },
-    )))
+    )
 
 -- The tail moves on over slots that name blocks: these are posted, and whole packets handed out.
 
@@ -227,13 +218,12 @@ many v blocks = length (take blocks v.named)
 -- the tail behind them is one of the ring's slots
 tail_low : (v : Receive) (blocks : ℕ) → IsRing (reach v) → tail_behind v.layout (many v blocks) < 65536
 tail_low v blocks ring =
-    let few = ring.few in
     let all = ap (λ (bs : List ℕ). length bs) (take-append-drop blocks v.named) in
     let within : many v blocks ≤ length v.named =
     omega (arith, all, length-append (take blocks v.named) (drop blocks v.named)) in
     let below : tail_behind v.layout (many v blocks) < v.layout.size =
     slot_below (reach v) (vacant v.layout + many v blocks) ring (omega (arith, within, reach_long v)) in
-    omega (arith, below, few)
+    omega (arith, below, ring.few)
 
 -- the tail moves on over them, and so many packets are handed out
 module _ (v : Receive) (blocks packets : ℕ) where
@@ -272,7 +262,6 @@ module _ (v : Receive) (blocks packets : ℕ) where
 
     posts_holds : Holds queue t out w gone here
     posts_holds =
-        let posted = h.posted in
         let same : reach v ≡ reach w = posts_reach v blocks packets in
         record {
           named = record {
@@ -283,7 +272,7 @@ module _ (v : Receive) (blocks packets : ℕ) where
           side = subst (λ q. IsSetUp q w.layout (length here))
               (sym (receive-tail s.registers queue to shape h.named.low (tail_low v blocks h.ring)))
               (set_up_posted (receive_queue_of s.registers queue) (length here) h.side);
-          posted = omega (arith, posted, length-append v.layout.blocks (take blocks v.named));
+          posted = omega (arith, h.posted, length-append v.layout.blocks (take blocks v.named));
           slots = subst (λ (l : Layout). HasSlots s.memory l here) same h.slots;
           stage = subst (λ (l : Layout). StageHolds s.memory l v.stage) same h.stage;
           order = order_same out gone here v w h.order posts_had refl h.order.seen h.order.stage;
@@ -320,8 +309,7 @@ over_one v word is by (inr few) =
       driver = refl;
     }
 over_one v word is (inl one) (inl more) =
-    let few = one.few in
-    absurd (omega (arith, few, more))
+    absurd (omega (arith, one.few, more))
 over_one v word is (inr all) (inl more) =
     over_all v (parts_first v.whole) 1 word (posts_one v) (omega (arith, more)) all refl
 
@@ -353,14 +341,9 @@ pub move_keeps : (queue : ℕ) (s : State) (out : List Piece) (v : Receive) (por
     → Agree queue (after s (event.Write port number word)) out
     (drive v (event.Write port number word) (reply_to s (event.Write port number word)))
 move_keeps queue s out v port number word shape (gone, here, h) own =
-    let l = v.layout in
     let m = moved_is v port number word own in
-    subst (λ x. Agree queue (after s (event.Write x number word)) out
-    (drive v (event.Write x number word) (reply_to s (event.Write x number word)))) (sym own.port_is)
-    (subst (λ x. Agree queue (after s (event.Write l.port x word)) out
-    (drive v (event.Write l.port x word) (reply_to s (event.Write l.port x word)))) (sym own.number_is)
-    (subst (λ (x : Outcome). Agree queue x.state out (drive v (event.Write l.port l.tail word) x.reply))
-    (sym (tail_written s queue l word h.named))
+    by_outcome queue s out v (event.Write port number word) (event.Write v.layout.port v.layout.tail word) _
+    (λ k. event.Write (own.port_is k) (own.number_is k) word) (tail_written s queue v.layout word h.named)
     (subst (Agree queue (record s { registers = after_write s.registers (place Rdt queue) 0xFFFFFFFF word }) out)
     (sym m.driver)
     (subst (λ x. Agree queue (record s { registers = after_write s.registers (place Rdt queue) 0xFFFFFFFF x }) out
@@ -368,4 +351,4 @@ move_keeps queue s out v port number word shape (gone, here, h) own =
       gone,
       here,
       posts_holds v m.blocks m.packets queue s out gone here shape h,
-    )))))
+    )))

@@ -2,7 +2,7 @@
 use Rattle.std.proofs.Common.{[], ◌*◌, ◌++◌, ◌+◌, ◌<◌, ◌∙◌, ◌∷◌, ◌≡◌, ◌≢◌, ◌≤◌, List, Some, ap, arith, drop, false}
 use Rattle.std.proofs.lemmas.List.{append-nil, get_or-drop, length-drop}
 use Rattle.std.proofs.{Common.length, Common.refl, Common.subst, Common.sym, Common.take, Common.ℕ}
-use Rattle.history_laws.specs.Prelude.{Block, Event, IsWhole, Memory, Outcome, ReceiveQueue, State, after, bytes_in}
+use Rattle.history_laws.specs.Prelude.{Block, Event, IsWhole, Memory, ReceiveQueue, State, after, bytes_in}
 use Rattle.history_laws.specs.Prelude.{receive_queue_of, reply_to}
 use Rattle.receive_laws.specs.Prelude.{Layout, Receive, Told, block_at, descriptor_at, drive, is_ring_block, reach}
 use Rattle.receive_laws.specs.Prelude.{slot_at, took}
@@ -12,8 +12,9 @@ use Rattle.pmd_rx.proofs.{PmdSeam.Places.next_below, PmdSeam.Places.wrapped_next
 use Rattle.pmd_rx.specs.{PmdSeam.Slots.wrapped, Receive.TakesNext, Receive.consumed}
 use Rattle.history_laws.proofs.Lent.{taken_is}
 use Rattle.receive_laws.proofs.Kept.{SameRing, filled_kept, named_kept, posted_block, posted_kept, reach_long, same_has}
-use Rattle.receive_laws.proofs.{Kept.took_reach, Leaving.lend_keeps, Leaving.look_keeps, Naming.move_keeps}
-use Rattle.receive_laws.proofs.{Naming.name_keeps, Parts.first_seen, Parts.order_on, Parts.seen_within}
+use Rattle.receive_laws.proofs.{Kept.took_reach, Leaving.by_outcome, Leaving.lend_keeps, Leaving.look_keeps}
+use Rattle.receive_laws.proofs.{Naming.move_keeps, Naming.name_keeps, Parts.first_seen, Parts.order_on}
+use Rattle.receive_laws.proofs.{Parts.seen_within}
 use Rattle.receive_laws.specs.Joint.{Agree, AreSeen, HasSlots, IsFilled, IsPosted, IsRing, IsSetUp, Saw}
 use Rattle.receive_laws.specs.{Pieces.Piece, Pieces.no_piece, Pieces.piece_at, Steps.OwnEventKeeps}
 use Rattle.std.specs.FinMap as map
@@ -62,12 +63,10 @@ module _ (m : Memory) (l : Layout) (here : List Piece) (ring : IsRing l) (h : Ha
   filled_on : (k : ℕ) → k < length (drop 1 here)
       → IsFilled n (descriptor_at (consumed l) k) (block_at (consumed l) k) (piece_at (drop 1 here) k)
   filled_on k i =
-      let within = h.within in
-      let room = ring.room in
       let j : 1 + k < length here = omega (arith, fewer, i) in
-      let inside : 1 + k < length l.blocks = omega (arith, within, j) in
+      let inside : 1 + k < length l.blocks = omega (arith, h.within, j) in
       subst (λ a. IsFilled n a (block_at (consumed l) k) (piece_at (drop 1 here) k))
-      (sym (desc_on k (omega (arith, room, inside))))
+      (sym (desc_on k (omega (arith, ring.room, inside))))
       (subst (λ b. IsFilled n (descriptor_at l (1 + k)) b (piece_at (drop 1 here) k)) (sym (block_on k))
       (subst (λ p. IsFilled n (descriptor_at l (1 + k)) (block_at l (1 + k)) p) (sym (piece_on k))
       (filled_kept l m n ring kept_ring (1 + k) (block_at l (1 + k)) (piece_at here (1 + k)) (omega (arith, inside))
@@ -76,22 +75,20 @@ module _ (m : Memory) (l : Layout) (here : List Piece) (ring : IsRing l) (h : Ha
   posted_on : (k : ℕ) → length (drop 1 here) ≤ k → k < length (drop 1 l.blocks)
       → IsPosted n (descriptor_at (consumed l) k) (block_at (consumed l) k)
   posted_on k i j =
-      let room = ring.room in
       let inside : 1 + k < length l.blocks = omega (arith, less, j) in
-      subst (λ a. IsPosted n a (block_at (consumed l) k)) (sym (desc_on k (omega (arith, room, inside))))
+      subst (λ a. IsPosted n a (block_at (consumed l) k)) (sym (desc_on k (omega (arith, ring.room, inside))))
       (subst (λ b. IsPosted n (descriptor_at l (1 + k)) b) (sym (block_on k))
       (posted_kept l m n ring kept_ring (1 + k) (block_at l (1 + k)) (omega (arith, inside))
       (kept_block (1 + k) (omega arith) inside) (h.posted (1 + k) (omega (arith, fewer, i)) inside)))
 
   pub ring_on : IsRing (consumed l)
   ring_on =
-      let room = ring.room in
       record {
         some = ring.some;
         few = ring.few;
         next = next_below l.size l.next ring.next;
         ring = ring.ring;
-        room = omega (arith, less, room);
+        room = omega (arith, less, ring.room);
         low = λ k i. subst (λ b. b < 65536) (sym (block_on k)) (ring.low (1 + k) (omega (arith, less, i)));
         not_ring = λ k i.
             subst (λ b. is_ring_block l.ring l.size b ≡ false) (sym (block_on k))
@@ -105,10 +102,9 @@ module _ (m : Memory) (l : Layout) (here : List Piece) (ring : IsRing l) (h : Ha
 
   pub slots_on : HasSlots n (consumed l) (drop 1 here)
   slots_on =
-      let within = h.within in
       record {
         there = λ k i. same_has m n (l.ring + k) (kept_ring k i) ∙ h.there k i;
-        within = omega (arith, fewer, less, within);
+        within = omega (arith, fewer, less, h.within);
         filled = filled_on;
         posted = posted_on;
       }
@@ -145,9 +141,8 @@ part_front xs n = refl
 packet_bytes : (m : Memory) (b : ℕ) (bytes : List ℕ) (a : ℕ) (p : Piece) (len : ℕ) → map.get m b ≡ Some bytes
     → length bytes ≡ 2048 → IsFilled m a b p → len ≡ length p.bytes → take len bytes ≡ p.bytes
 packet_bytes m b bytes a p len is whole f e =
-    let short = f.short in
     ap (λ n. take n bytes) e ∙ sym (part_front bytes (length p.bytes))
-    ∙ sym (read_at_in m (2048 * b) (length p.bytes) b 0 bytes is whole (omega arith) (omega (arith, short))) ∙ f.bytes
+    ∙ sym (read_at_in m (2048 * b) (length p.bytes) b 0 bytes is whole (omega arith) (omega (arith, f.short))) ∙ f.bytes
 
 some_here : (seen : List Told) (here : List Piece) → AreSeen seen here → 0 < length seen → 0 < length here
 some_here seen here are some = let within = seen_within seen here are in omega (arith, within, some)
@@ -156,16 +151,13 @@ pub take_keeps : (queue : ℕ) (s : State) (out : List Piece) (v : Receive) (n :
     → Agree queue s out v → TakesNext v n → v.seen ≡ seen
     → Agree queue (after s (event.Take n)) out (drive v (event.Take n) (reply_to s (event.Take n)))
 take_keeps queue s out v n [] whole j own is =
-    let some = own.some in
     let none = ap (λ (xs : List Told). length xs) is in
-    absurd (omega (arith, some, none))
+    absurd (omega (arith, own.some, none))
 take_keeps queue s out v n (t ∷ ts) whole (gone, here, h) own is =
     let l = reach v in
     let some = some_here v.seen here h.order.seen own.some in
-    let within = h.posted in
-    let free = h.ring.room in
-    let outs : 0 < length v.layout.blocks = omega (arith, within, some) in
-    let room : length v.layout.blocks < v.layout.size = omega (arith, free, reach_long v) in
+    let outs : 0 < length v.layout.blocks = omega (arith, h.posted, some) in
+    let room : length v.layout.blocks < v.layout.size = omega (arith, h.ring.room, reach_long v) in
     let saw : Saw t (piece_at here 0) = first_seen v.seen here t ts h.order.seen is in
     let f : IsFilled s.memory (descriptor_at l 0) (block_at l 0) (piece_at here 0) = h.slots.filled 0 some in
     let there = of_some (map.get s.memory (block_at l 0)) f.there in
@@ -184,19 +176,17 @@ take_keeps queue s out v n (t ∷ ts) whole (gone, here, h) own is =
       record {
         named = record { low = h.named.low; tail = (named_kept s u queue v.layout refl refl h.named).tail };
         ring = subst IsRing same (ring_on s.memory l here h.ring h.slots some);
-        side = set_up_on v.layout here h.ring.next room within some (receive_queue_of s.registers queue) h.side;
-        posted = posted_less v.layout here h.ring.next room within some;
+        side = set_up_on v.layout here h.ring.next room h.posted some (receive_queue_of s.registers queue) h.side;
+        posted = posted_less v.layout here h.ring.next room h.posted some;
         slots = subst (λ (x : Layout). HasSlots u.memory x (drop 1 here)) same
             (slots_on s.memory l here h.ring h.slots some);
         stage = tt;
         order = order_on out gone here v t ts b h.order is own.stage some here_is size.size;
       },
     ) in
-    subst (λ x. Agree queue (after s (event.Take x)) out (drive v (event.Take x) (reply_to s (event.Take x))))
-    (sym (own.block ∙ sym (posted_block v 0 outs)))
-    (subst (λ (o : Outcome). Agree queue o.state out (drive v (event.Take (block_at l 0)) o.reply))
-    (sym (taken_is s (block_at l 0) bytes there.1))
-    (subst (λ (xs : List Told). Agree queue u out (took v xs b)) (sym is) after_it))
+    by_outcome queue s out v (event.Take n) (event.Take (block_at l 0)) _
+    (ap event.Take (own.block ∙ sym (posted_block v 0 outs))) (taken_is s (block_at l 0) bytes there.1)
+    (subst (λ (xs : List Told). Agree queue u out (took v xs b)) (sym is) after_it)
 
 -- Each event of the driver's own keeps the agreement.
 

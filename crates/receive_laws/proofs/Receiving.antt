@@ -46,9 +46,8 @@ fills_slot m r srrctl rest f ring size slot b whole fits is buffers head buffer 
     let same : SameLent n m = (fill_keeps_blocks m r srrctl rest).0 in
     let desc : f.desc ≡ 2048 * ring + 16 * slot = t.desc ∙ head in
     let at : f.at ≡ 2048 * b = t.at ∙ buffer in
-    let len = t.len in
-    let short : f.len ≤ 2048 = omega (arith, len, buffers) in
-    let within : f.len ≤ length rest.bytes = omega (arith, len) in
+    let short : f.len ≤ 2048 = omega (arith, t.len, buffers) in
+    let within : f.len ≤ length rest.bytes = omega (arith, t.len) in
     let long : length (take f.len rest.bytes) ≡ f.len = length-take-le f.len rest.bytes within in
     let apart : AreApart f.at f.len f.desc 16 =
     subst (λ x. AreApart x f.len f.desc 16) (sym at)
@@ -147,26 +146,24 @@ module _ (queue : ℕ) (s : State) (out : List Piece) (v : Receive) (gone here :
       → length here < length v.layout.blocks
   room_left some (inl is) = is
   room_left some (inr all) =
-      let within = h.posted in
-      let e : length here ≡ length v.layout.blocks = omega (arith, within, all) in
+      let e : length here ≡ length v.layout.blocks = omega (arith, h.posted, all) in
       let same : own.ring.head ≡ own.ring.tail = h.side.head ∙ ap (slot_at l) e ∙ sym h.side.tail in
       let empty : is_empty own.ring ≡ true = and_from _ _ (not_from_false _ inside) (eq-eqb _ _ same) in
       absurd (both_ways _ some empty)
 
   pub healthy : HasRoom → IsHealthy s.memory own.ring own.control
   healthy room =
-      let size = h.side.buffer_size in
       record {
         set_up = record {
           inside = inside;
           one_buffer = h.side.one_buffer;
-          sized = λ e. absurd (omega (arith, size, e));
+          sized = λ e. absurd (omega (arith, h.side.buffer_size, e));
         };
         descriptor =
             subst (λ a. is_lent s.memory a 16 ≡ true) (sym head_is)
             (descriptor_lent s.memory l here h.ring h.slots (length here) h.slots.within);
         buffer =
-            subst (λ n. is_lent s.memory (buffer_address s.memory own.ring) n ≡ true) (sym size)
+            subst (λ n. is_lent s.memory (buffer_address s.memory own.ring) n ≡ true) (sym h.side.buffer_size)
             (subst (λ a. is_lent s.memory a 2048 ≡ true) (sym (buffer_is room))
             (is_lent_in s.memory (2048 * block_at l (length here)) 2048 (block_at l (length here)) 0
             (first_waits room).there (omega arith) (omega arith)));
@@ -194,18 +191,13 @@ module _ (queue : ℕ) (s : State) (out : List Piece) (v : Receive) (gone here :
   head_on room rest f is =
       let r : Ring = own.ring in
       let t = takes_piece s.memory r own.control rest f is in
-      let sized = h.side.sized in
-      let slots : slots_of r ≡ l.size = omega (arith, sized) in
-      let some = h.ring.some in
-      let few = h.ring.few in
-      let next = h.ring.next in
-      let free = h.ring.room in
+      let slots : slots_of r ≡ l.size = omega (arith, h.side.sized) in
       let low = posted_below v (length here) room in
       let below = t.inside in (
         t.head ∙ ap (λ n. next_of n r.head) slots ∙ ap (next_of l.size) h.side.head
-            ∙ next_wrapped l.size (l.next + length here) some (omega (arith, next, free, low))
+            ∙ next_wrapped l.size (l.next + length here) h.ring.some (omega (arith, h.ring.next, h.ring.room, low))
             ∙ ap (wrapped l.size) (let e : l.next + length here + 1 ≡ l.next + (length here + 1) = omega arith in e),
-        omega (arith, below, slots, few),
+        omega (arith, below, slots, h.ring.few),
       )
 
 -- the slots with one more filled

@@ -172,10 +172,9 @@ module _ (s : State) (queue : ℕ) (sent : List (List ℕ)) (v : Sender) (f : �
   pub ask_one : (a : ℕ) (bytes : List ℕ) → IsOwn v Asks (event.Poke16 a bytes) → IsEvent (event.Poke16 a bytes)
       → After queue sent v Asks (step_of s (event.Poke16 a bytes))
   ask_one a bytes own made =
-      subst (λ x. IsEvent (event.Poke16 a x) → After queue sent v Asks (step_of s (event.Poke16 a x))) (sym own.2)
-      (subst (λ x. IsEvent (event.Poke16 x (asking (segment_at v v.poked)))
-      → After queue sent v Asks (step_of s (event.Poke16 x (asking (segment_at v v.poked))))) (sym own.1)
-      (ask_at own.0)) made
+      let same : event.Poke16 a bytes ≡ event.Poke16 (descriptor_at v.layout v.poked) (asking (segment_at v v.poked)) =
+      λ k. event.Poke16 (own.1 k) (own.2 k) in
+      subst (λ d. After queue sent v Asks (step_of s d)) (sym same) (ask_at own.0 (subst IsEvent same made))
 
   -- a look tells whether the oldest packet was sent
 

@@ -256,18 +256,17 @@ module _ (v : Sender) (p : Outgoing) (b : Block) (may : MayAccept v p b) where
     turn-accepted : (staged : List ℕ) → IsInTurn v.layout.limit staged sent left v.accepted
         → IsInTurn v.layout.limit staged sent (left ++ segments_of p) (v.accepted ++ p.kept ∷ [])
     turn-accepted staged t =
-        let limit = v.layout.limit in
         record {
           packets =
-              packets-append limit staged left (segments_of p) t.packets
-              (packets-segments p may.long may.each limit may.short);
+              packets-append v.layout.limit staged left (segments_of p) t.packets
+              (packets-segments p may.long may.each v.layout.limit may.short);
           in_order =
               more ∙ ap (λ (l : List (List ℕ)). l ++ p.kept.bytes ∷ []) t.in_order
               ∙ append_assoc sent (frames_from staged left) (p.kept.bytes ∷ [])
               ∙ ap (λ (l : List (List ℕ)). sent ++ (frames_from staged left ++ l))
               (sym (frames-segments p may.long may.each))
               ∙ ap (λ (l : List (List ℕ)). sent ++ l)
-              (sym (frames-append limit staged left (segments_of p) t.packets));
+              (sym (frames-append v.layout.limit staged left (segments_of p) t.packets));
         }
 
     cut-accepted : (side : TransmitQueue) → IsCutOff side sent left v.accepted

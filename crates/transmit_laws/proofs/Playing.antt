@@ -3,16 +3,17 @@ use Rattle.std.proofs.Common.{[], ◌%◌, ◌++◌, ◌+◌, ◌-◌, ◌<◌, 
 use Rattle.std.proofs.lemmas.List.{append-nil, drop-drop, get_or-drop, length-drop}
 use Rattle.std.proofs.{Common.subst, Common.sym, Common.true, Common.ℕ, lemmas.Bool.eq-eqb}
 use Rattle.std.specs.Prelude.{is_some, slice_index_or}
-use Rattle.history_laws.specs.Prelude.{Block, Event, IsEvent, LeavesTransmit, Memory, Outcome, State, TransmitQueue, Tx}
-use Rattle.history_laws.specs.Prelude.{after, read_at, reply_to, step_of, transmit_queue_of}
+use Rattle.history_laws.specs.Prelude.{Block, Event, IsEvent, Memory, Outcome, State, TransmitQueue, Tx, after, read_at}
+use Rattle.history_laws.specs.Prelude.{reply_to, step_of, transmit_queue_of}
 use Rattle.transmit_laws.specs.Prelude.{Accepts, Advances, Asks, Elsewhere, IsOwn, Looks, Move, Outgoing, Reaps}
 use Rattle.transmit_laws.specs.Prelude.{Segment, Sender, asking, descriptor_at, moved, no_segment, segment_at, slot_at}
 use Rattle.nic_device.proofs.{Cases.lent_cases, Cases.taken_cases, DmaArena.Bus.get-remove_other, DmaArena.Bus.of_some}
 use Rattle.pmd_tx.proofs.PmdSeam.Rings.{ring_block_apart}
 use Rattle.pmd_tx.specs.Sending.{Lends, MayAccept, is_healthy, reaped, segments_of}
 use Rattle.pmd_tx.specs.PmdSeam.Slots.{EachRingBlock}
-use Rattle.history_laws.proofs.{Leaving.transmit_left, Lent.anew_is_done, Lent.poked_is, Lent.taken_is, Steady.up_kept}
+use Rattle.history_laws.proofs.{Leaving.queues_left, Lent.anew_is_done, Lent.poked_is, Lent.taken_is, Steady.up_kept}
 use Rattle.history_laws.proofs.DeviceLaws.Standing.{memory_rest}
+use Rattle.history_laws.specs.DeviceLaws.Leaving.{LeavesQueues}
 use Rattle.transmit_laws.proofs.Advancing.{advance-stays-up, advance_one, ask_one, look, look_one, written_tail}
 use Rattle.transmit_laws.proofs.Blocks.{descriptor-later, later-layout, ready-same, slot-even, slot-later, slot-lent}
 use Rattle.transmit_laws.proofs.Packets.{count-accepted, counted-lent, early-accepted, known-accepted, sends-accepted}
@@ -205,9 +206,8 @@ module _ (s : State) (queue : ℕ) (sent : List (List ℕ)) (v : Sender) (f : �
       subst (λ x. IsEvent (event.Take x) → After queue sent v Reaps (step_of s (event.Take x))) (sym own.1)
       (reap_at (f - 1) e) made
 
--- Each move of the driver's keeps what it and the device agree on, with the frame that the event sends, if any.
+  -- each of them, with the frame that the event sends, if any
 
-module _ (s : State) (queue : ℕ) (sent : List (List ℕ)) (v : Sender) (f : ℕ) (h : AgreesAt s queue sent v f) where
   abbrev Kept : Move → Event Block → Type 0
   Kept m e = Agrees (after s e) queue (sent ++ sent_by queue s e) (moved v m (reply_to s e))
 
@@ -217,18 +217,14 @@ module _ (s : State) (queue : ℕ) (sent : List (List ℕ)) (v : Sender) (f : �
   quiet m e none is = rw (none, append-nil sent) is
 
   pub move-keeps : (m : Move) (e : Event Block) → MayMove queue v s e m → Kept m e
-  move-keeps (Accepts p) (event.Lend b) may =
-      quiet (Accepts p) (event.Lend b) refl (accept_one s queue sent v f h p b may.0 may.1)
-  move-keeps Lends (event.Lend b) may =
-      quiet Lends (event.Lend b) refl (lend_one s queue sent v f h b may.0 may.1)
+  move-keeps (Accepts p) (event.Lend b) may = quiet (Accepts p) (event.Lend b) refl (accept_one p b may.0 may.1)
+  move-keeps Lends (event.Lend b) may = quiet Lends (event.Lend b) refl (lend_one b may.0 may.1)
   move-keeps Asks (event.Poke16 a bytes) may =
       quiet Asks (event.Poke16 a bytes) refl (ask_one s queue sent v f h a bytes may.0 may.1)
   move-keeps Advances (event.Write port n word) may =
       quiet Advances (event.Write port n word) refl (advance_one s queue sent v f h port n word may.0 may.1)
-  move-keeps Looks (event.Peek16 a) may =
-      quiet Looks (event.Peek16 a) refl (look_one s queue sent v f h a may.0)
-  move-keeps Reaps (event.Take n) may =
-      quiet Reaps (event.Take n) refl (reap_one s queue sent v f h n may.0 may.1)
+  move-keeps Looks (event.Peek16 a) may = quiet Looks (event.Peek16 a) refl (look_one s queue sent v f h a may.0)
+  move-keeps Reaps (event.Take n) may = quiet Reaps (event.Take n) refl (reap_one n may.0 may.1)
   move-keeps Elsewhere e may = spares-keeps s queue sent v f h e may
   move-keeps m e may = absurd may.0
 
@@ -237,23 +233,19 @@ moves_keep s queue sent v e m (f, h) may = move-keeps s queue sent v f h m e may
 
 -- A transmit side that is on and wanted on stays so, where device and driver agree.
 
-pub left_up : (queue : ℕ) (s t : State) → LeavesTransmit queue s t → IsUp queue s → IsUp queue t
-left_up queue s t left up = subst sides.IsUp (sym (transmit_left queue s t left)) up
-
 module _ (s : State) (queue : ℕ) (sent : List (List ℕ)) (v : Sender) (f : ℕ) (h : AgreesAt s queue sent v f)
     (up : IsUp queue s) where
+  same_up : (t : State) → LeavesQueues s t → IsUp queue t
+  same_up t left = subst sides.IsUp (sym (queues_left queue s t Tx left)) up
+
   pub moved-stays-up : (m : Move) (e : Event Block) → MayMove queue v s e m → IsUp queue (after s e)
-  moved-stays-up (Accepts p) (event.Lend b) may =
-      left_up queue s (after s (event.Lend b)) ((memory_rest.lend s b).queues.transmit queue) up
-  moved-stays-up Lends (event.Lend b) may =
-      left_up queue s (after s (event.Lend b)) ((memory_rest.lend s b).queues.transmit queue) up
+  moved-stays-up (Accepts p) (event.Lend b) may = same_up (after s (event.Lend b)) (memory_rest.lend s b).queues
+  moved-stays-up Lends (event.Lend b) may = same_up (after s (event.Lend b)) (memory_rest.lend s b).queues
   moved-stays-up Asks (event.Poke16 a bytes) may =
-      left_up queue s (after s (event.Poke16 a bytes)) ((memory_rest.poke s a bytes).queues.transmit queue) up
+      same_up (after s (event.Poke16 a bytes)) (memory_rest.poke s a bytes).queues
   moved-stays-up Advances (event.Write port n word) may = advance-stays-up s queue sent v f h port n word may.0 up
-  moved-stays-up Looks (event.Peek16 a) may =
-      left_up queue s (after s (event.Peek16 a)) ((memory_rest.peek s a).queues.transmit queue) up
-  moved-stays-up Reaps (event.Take n) may =
-      left_up queue s (after s (event.Take n)) ((memory_rest.take s n).queues.transmit queue) up
+  moved-stays-up Looks (event.Peek16 a) may = same_up (after s (event.Peek16 a)) (memory_rest.peek s a).queues
+  moved-stays-up Reaps (event.Take n) may = same_up (after s (event.Take n)) (memory_rest.take s n).queues
   moved-stays-up Elsewhere e may =
       up_kept Tx queue s e up (never-shuts s queue sent v f h e) (spared_did s queue sent v f h e may)
   moved-stays-up m e may = absurd may.0
@@ -267,38 +259,38 @@ module _ (s : State) (queue : ℕ) (sent : List (List ℕ)) (v : Sender) (f : �
   abbrev Healthy : Move → Event Block → Type 0
   Healthy m e = is_healthy m (reply_to s e) ≡ true
 
-  by_outcome : (m : Move) (o p : Outcome) → o ≡ p → is_healthy m p.reply ≡ true → is_healthy m o.reply ≡ true
-  by_outcome m o p is healthy = ap (λ (x : Outcome). is_healthy m x.reply) is ∙ healthy
+  -- as the event is written otherwise, by its outcome
+  by_outcome : (m : Move) (e d : Event Block) (o : Outcome) → e ≡ d → step_of s d ≡ o → is_healthy m o.reply ≡ true
+      → Healthy m e
+  by_outcome m e d o same is healthy =
+      subst (Healthy m) (sym same) (ap (λ (x : Outcome). is_healthy m x.reply) is ∙ healthy)
 
-  ask_healthy : v.poked < v.lent
-      → Healthy Asks (event.Poke16 (descriptor_at v.layout v.poked) (asking (segment_at v v.poked)))
-  ask_healthy more =
-      let a = descriptor_at v.layout v.poked in
-      by_outcome Asks _ _ (poked_is s a (asking (segment_at v v.poked))
-      (eq-eqb (a % 16) 0 (slot-even v h.based.layout v.poked))
-      (slot-lent v h.based.layout s.memory v.poked (omega (arith, h.counted.room, h.counted.lent_known, more))
+  ask_healthy : (a : ℕ) (bytes : List ℕ) → IsOwn v Asks (event.Poke16 a bytes) → Healthy Asks (event.Poke16 a bytes)
+  ask_healthy a bytes own =
+      let at = descriptor_at v.layout v.poked in
+      by_outcome Asks (event.Poke16 a bytes) (event.Poke16 at (asking (segment_at v v.poked))) _
+      (λ k. event.Poke16 (own.1 k) (own.2 k))
+      (poked_is s at (asking (segment_at v v.poked)) (eq-eqb (at % 16) 0 (slot-even v h.based.layout v.poked))
+      (slot-lent v h.based.layout s.memory v.poked (omega (arith, h.counted.room, h.counted.lent_known, own.0))
       h.shows.ring)) refl
 
-  reap_healthy : 0 < v.done → Healthy Reaps (event.Take (segment_at v 0).block)
-  reap_healthy some =
+  reap_healthy : (n : ℕ) → IsOwn v Reaps (event.Take n) → Healthy Reaps (event.Take n)
+  reap_healthy n own =
       let c = h.counted in
-      let known : 0 < v.lent = omega (arith, c.done_fetched, c.fetched_posted, c.posted_poked, c.poked_lent) in
-      let there = of_some (fin.get s.memory (segment_at v 0).block) (h.shows.ready 0 known).lent in
-      by_outcome Reaps _ _ (taken_is s (segment_at v 0).block there.0 there.1) refl
+      let some : 0 < v.lent = omega (arith, own.0, c.done_fetched, c.fetched_posted, c.posted_poked, c.poked_lent) in
+      let there = of_some (fin.get s.memory (segment_at v 0).block) (h.shows.ready 0 some).lent in
+      by_outcome Reaps (event.Take n) (event.Take (segment_at v 0).block) _ (ap event.Take own.1)
+      (taken_is s (segment_at v 0).block there.0 there.1) refl
 
   healthy : (m : Move) (e : Event Block) → IsOwn v m e → LendsAnew s m e → Healthy m e
   healthy (Accepts p) (event.Lend b) own anew = ap (is_healthy (Accepts p)) (anew_is_done s b anew)
   healthy Lends (event.Lend b) own anew = ap (is_healthy Lends) (anew_is_done s b anew)
-  healthy Asks (event.Poke16 a bytes) own anew =
-      subst (λ x. Healthy Asks (event.Poke16 a x)) (sym own.2)
-      (subst (λ x. Healthy Asks (event.Poke16 x (asking (segment_at v v.poked)))) (sym own.1) (ask_healthy own.0))
+  healthy Asks (event.Poke16 a bytes) own anew = ask_healthy a bytes own
   healthy Advances (event.Write port n word) own anew =
-      by_outcome Advances _ _ (written_tail s queue sent v f h port n word own) refl
+      ap (λ (x : Outcome). is_healthy Advances x.reply) (written_tail s queue sent v f h port n word own)
   healthy Looks (event.Peek16 a) own anew =
-      subst (λ x. Healthy Looks (event.Peek16 x)) (sym own.1)
-      (by_outcome Looks _ _ (look s queue sent v f h own.0) refl)
-  healthy Reaps (event.Take n) own anew =
-      subst (λ x. Healthy Reaps (event.Take x)) (sym own.1) (reap_healthy own.0)
+      by_outcome Looks (event.Peek16 a) _ _ (ap event.Peek16 own.1) (look s queue sent v f h own.0) refl
+  healthy Reaps (event.Take n) own anew = reap_healthy n own
   healthy Elsewhere e own anew = refl
   healthy m e own anew = absurd own
 

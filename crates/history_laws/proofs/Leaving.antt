@@ -21,7 +21,7 @@ use Rattle.device_laws.proofs.StandingQueues.{receiving_rest, switching_rest, tr
 use Rattle.device_laws.proofs.StandingRest.{arrival_rest, collecting_rest, eeprom_rest, link_rest, message_rest}
 use Rattle.device_laws.proofs.{Settings.no_reset, Standing.memory_rest, Standing.missed, Standing.stays_within}
 use Rattle.device_laws.proofs.{StandingAccesses.read_rest, StandingAccesses.write_rest}
-use Rattle.device_laws.specs.Leaving.{LeavesQueues}
+use Rattle.device_laws.specs.Leaving.{LeavesOtherSides, LeavesQueues}
 use Rattle.nic_device.specs.RegTable.declared.bank.Bank.TheVariants as bank
 use Rattle.nic_device.specs.RegisterFile.declared.owner.Owner.TheVariants as owner
 use Rattle.nic_device.specs.declared.event.Event.TheVariants as event
@@ -228,28 +228,16 @@ module _ (w : Watched) (s : State) (functions : w.vfs ≡ s.vfs) where
   written_side Rx t left = receive_left w.queue s t left.receive
   written_side Tx t left = transmit_left w.queue s t left.transmit
 
-  sent_elsewhere : (dir : Dir) (on : ℕ) → is_step_of dir w.queue (event.TxStep on) ≡ false
-      → LeavesSide dir w.queue s (after s (event.TxStep on))
-  sent_elsewhere Rx on other =
-      receive_left w.queue s (after s (event.TxStep on)) ((transmitting_rest s on).sides.receive w.queue (inl refl))
-  sent_elsewhere Tx on other =
-      transmit_left w.queue s (after s (event.TxStep on))
-      ((transmitting_rest s on).sides.transmit w.queue (inr (λ x. eqb-false on w.queue other (sym x))))
+  others_left : (dir side : Dir) (on : ℕ) (t : State) → LeavesOtherSides side on s t → (dir ≡ side → on ≢ w.queue)
+      → LeavesSide dir w.queue s t
+  others_left Rx Rx on t left ne = receive_left w.queue s t (left.receive w.queue (inr (λ x. ne refl (sym x))))
+  others_left Rx Tx on t left ne = receive_left w.queue s t (left.receive w.queue (inl refl))
+  others_left Tx Rx on t left ne = transmit_left w.queue s t (left.transmit w.queue (inl refl))
+  others_left Tx Tx on t left ne = transmit_left w.queue s t (left.transmit w.queue (inr (λ x. ne refl (sym x))))
 
-  switched_elsewhere : (dir side : Dir) (on : ℕ) → is_switch_of dir w.queue (event.QueueStep side on) ≡ false
-      → LeavesSide dir w.queue s (after s (event.QueueStep side on))
-  switched_elsewhere Rx Rx on apart =
-      receive_left w.queue s (after s (event.QueueStep Rx on))
-      ((switching_rest s Rx on).sides.receive w.queue (inr (λ x. eqb-false on w.queue apart (sym x))))
-  switched_elsewhere Rx Tx on apart =
-      receive_left w.queue s (after s (event.QueueStep Tx on))
-      ((switching_rest s Tx on).sides.receive w.queue (inl refl))
-  switched_elsewhere Tx Rx on apart =
-      transmit_left w.queue s (after s (event.QueueStep Rx on))
-      ((switching_rest s Rx on).sides.transmit w.queue (inl refl))
-  switched_elsewhere Tx Tx on apart =
-      transmit_left w.queue s (after s (event.QueueStep Tx on))
-      ((switching_rest s Tx on).sides.transmit w.queue (inr (λ x. eqb-false on w.queue apart (sym x))))
+  switches : (dir : Dir) (on : ℕ) → is_switch_of dir w.queue (event.QueueStep dir on) ≡ false → on ≢ w.queue
+  switches Rx on apart = eqb-false on w.queue apart
+  switches Tx on apart = eqb-false on w.queue apart
 
   received_elsewhere : (dir : Dir) → is_step_of dir w.queue event.RxStep ≡ false
       → LeavesSide dir w.queue s (after s event.RxStep)
@@ -269,9 +257,13 @@ module _ (w : Watched) (s : State) (functions : w.vfs ≡ s.vfs) where
         queues_left w.queue s _ dir (memory_rest.poke s a bytes).queues
     left-side (event.Arrive frame) left other apart = queues_left w.queue s _ dir (arrival_rest s frame).queues
     left-side event.RxStep left other apart = received_elsewhere dir other
-    left-side (event.TxStep on) left other apart = sent_elsewhere dir on other
+    left-side (event.TxStep on) left other apart =
+        others_left dir Tx on _ (transmitting_rest s on).sides
+        (λ e. eqb-false on w.queue (subst (λ d. is_step_of d w.queue (event.TxStep on) ≡ false) e other))
     left-side (event.IntStep g) left other apart = queues_left w.queue s _ dir (message_rest s g).queues
-    left-side (event.QueueStep side on) left other apart = switched_elsewhere dir side on apart
+    left-side (event.QueueStep side on) left other apart =
+        others_left dir side on _ (switching_rest s side on).sides
+        (λ e. switches side on (subst (λ d. is_switch_of d w.queue (event.QueueStep side on) ≡ false) e apart))
     left-side event.EepromStep left other apart = queues_left w.queue s _ dir (eeprom_rest s).queues
     left-side (event.Link up) left other apart = queues_left w.queue s _ dir (link_rest s up).queues
     left-side event.Collect left other apart = queues_left w.queue s _ dir (collecting_rest s).queues

@@ -242,9 +242,8 @@ module _ (queue most : ℕ) (s : State) (out : List Piece) (v : Receive) (gone h
         leaves (not_ours (λ own.
         let open_ring : receive.is_empty (receive_queue_of s.registers queue).ring ≡ false =
         subst (λ (q : ℕ). receive.is_empty (receive_queue_of s.registers q).ring ≡ false) own some in
-        let room = room_left queue s out v gone here h open_ring
-        (cases_lt (length here) (length v.layout.blocks)) in
-        no_fault queue s out v gone here h room (rest_of w) fault (rw own at is)))
+        let room = room_left h open_ring (cases_lt (length here) (length v.layout.blocks)) in
+        no_fault h room (rest_of w) fault (rw own at is)))
 
     -- a piece of a frame of the queue is written
     module _ (f : Filled) (is : (filled_by s w).answer ≡ Ok f) (own : w.queue ≡ queue) where

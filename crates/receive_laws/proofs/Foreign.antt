@@ -23,6 +23,7 @@ use Rattle.history_laws.proofs.DeviceLaws.{Delivered.told-lt, KeptSettings.setti
 use Rattle.history_laws.proofs.DeviceLaws.{Standing.stays_within, StandingQueues.switching_rest}
 use Rattle.history_laws.specs.Left.{Deed, Did, IsLeft, Rested, Rests, Shuts, Takes, Took, fill_on}
 use Rattle.history_laws.specs.{Segments.piece_in, Sides.IsTried, Sides.receive_side, Sides.side_of}
+use Rattle.history_laws.specs.DeviceLaws.Leaving.{LeavesQueues}
 use Rattle.receive_laws.proofs.Kept.{bytes_inside, each_map, each_of, posted_block, slot_below}
 use Rattle.receive_laws.proofs.Receiving.{buffer_is, filled_holds, head_is, no_fault, room_left}
 use Rattle.receive_laws.proofs.{Leaving.switching_keeps, Naming.tail_written, Naming.word_low}
@@ -49,16 +50,14 @@ no_registers w mode mine other is = (tt, tt)
 
 -- a slot is left where one is tried, and so there is no fault
 
-pub slot_left : (queue : ℕ) (s : State) (out : List Piece) (v : Receive) (gone here : List Piece)
+pub slot_left : {queue : ℕ} {s : State} {out : List Piece} {v : Receive} {gone here : List Piece}
     → Holds queue s out v gone here → IsTried (side_of Rx queue s) → length here < length v.layout.blocks
-slot_left queue s out v gone here h tried =
-    room_left queue s out v gone here h tried.some (cases_lt (length here) (length v.layout.blocks))
+slot_left {v = v} {here = here} h tried = room_left h tried.some (cases_lt (length here) (length v.layout.blocks))
 
 pub never_shuts : (queue : ℕ) (s : State) (out : List Piece) (v : Receive) (e : Event Block) → Agree queue s out v
     → Shuts Rx queue s e → ⊥
 never_shuts queue s out v e (gone, here, h) x =
-    no_fault queue s out v gone here h (slot_left queue s out v gone here h x.tried)
-    (rest_of x.fault.frame) x.fault.fault x.fault.answer
+    no_fault h (slot_left h x.tried) (rest_of x.fault.frame) x.fault.fault x.fault.answer
 
 module _ (queue : ℕ) (s : State) (out : List Piece) (v : Receive) (sound : IsSound s) (j : Agree queue s out v)
     (e : Event Block) (none : WritesNoSetting s e) where
@@ -72,9 +71,8 @@ module _ (queue : ℕ) (s : State) (out : List Piece) (v : Receive) (sound : IsS
       subst (λ xs. Agree queue t (out ++ xs) v) (sym w.piece) (
         j.0,
         j.1 ++ piece_in (rest_of w.frame) w.filled ∷ [],
-        filled_holds queue s out v sound j.0 j.1 j.2 (slot_left queue s out v j.0 j.1 j.2 x.tried)
-            (rest_of w.frame) w.filled t fit w.answer w.memory (ap receive_of x.side) (settings_stand s e none).mode
-            (stays_within s e).vfs,
+        filled_holds queue s out v sound j.0 j.1 j.2 (slot_left j.2 x.tried) (rest_of w.frame) w.filled t fit w.answer
+            w.memory (ap receive_of x.side) (settings_stand s e none).mode (stays_within s e).vfs,
       )
 
   -- where no slot is taken nothing of it changes but whether the side is on
@@ -121,7 +119,7 @@ slot_in_ring ring size slot below = record {
   descriptor = slot_lies ring slot;
 }
 
-module _ (queue : ℕ) (s : State) (out : List Piece) (v : Receive) (gone here : List Piece)
+module _ {queue : ℕ} {s : State} {out : List Piece} {v : Receive} {gone here : List Piece}
     (h : Holds queue s out v gone here) where
   abbrev l : Layout
   l = v.layout
@@ -134,15 +132,14 @@ module _ (queue : ℕ) (s : State) (out : List Piece) (v : Receive) (gone here :
       let short : f.len ≤ 2048 = omega (arith, t.len, h.side.buffer_size) in
       record {
         descriptor =
-            subst (IsInRing l.ring l.size) (sym (t.desc ∙ head_is queue s out v gone here h))
+            subst (IsInRing l.ring l.size) (sym (t.desc ∙ head_is h))
             (slot_in_ring l.ring l.size (slot_at l (length here))
             (slot_below (reach v) (length here) h.ring h.slots.within));
         slot = length here;
         known = room;
         bytes =
             subst (λ a. LiesIn (block_at l (length here)) a f.len)
-            (sym (t.at ∙ buffer_is queue s out v gone here h room
-            ∙ ap (λ (b : ℕ). 2048 * b) (posted_block v (length here) room)))
+            (sym (t.at ∙ buffer_is h room ∙ ap (λ (b : ℕ). 2048 * b) (posted_block v (length here) room)))
             (bytes_inside (block_at l (length here)) f.len short);
       }
 
@@ -155,8 +152,7 @@ pub piece_inside : PieceIsInside
 piece_inside queue s out v sound (gone, here, h) slot end desc at len is = elim (receiving_did queue s sound) [
   | Took x ↦
       subst (TellsInside v.layout) (sym x.work.told ∙ is)
-      (filled_inside queue s out v gone here h x.work.frame x.work.filled
-      (slot_left queue s out v gone here h x.tried) x.work.answer)
+      (filled_inside h x.work.frame x.work.filled (slot_left h x.tried) x.work.answer)
   | Rested none rests ↦
       absurd (let e = rw (is, eq-eqb queue queue refl) at none in cc)
 ]
@@ -215,15 +211,14 @@ move_up queue s out v port number word i (gone, here, h) own up =
     (subst (λ (x : Outcome). IsUp queue x.state) (sym (tail_written s queue v.layout word h.named))
     (subst sides.IsUp (sym (ap receive_side side)) (record { on = up.on; wanted = up.wanted })))
 
+calls_up : (queue : ℕ) (s t : State) → LeavesQueues s t → IsUp queue s → IsUp queue t
+calls_up queue s t left up = left_up queue s t (left.receive queue) up
+
 pub own_stays_up : OwnEventStaysUp
-own_stays_up queue s out v (event.Peek16 a) i j own up =
-    left_up queue s (after s (event.Peek16 a)) ((memory_rest.peek s a).queues.receive queue) up
-own_stays_up queue s out v (event.Take n) i j own up =
-    left_up queue s (after s (event.Take n)) ((memory_rest.take s n).queues.receive queue) up
-own_stays_up queue s out v (event.Lend b) i j own up =
-    left_up queue s (after s (event.Lend b)) ((memory_rest.lend s b).queues.receive queue) up
-own_stays_up queue s out v (event.Poke16 a bytes) i j own up =
-    left_up queue s (after s (event.Poke16 a bytes)) ((memory_rest.poke s a bytes).queues.receive queue) up
+own_stays_up queue s out v (event.Peek16 a) i j own up = calls_up queue s _ (memory_rest.peek s a).queues up
+own_stays_up queue s out v (event.Take n) i j own up = calls_up queue s _ (memory_rest.take s n).queues up
+own_stays_up queue s out v (event.Lend b) i j own up = calls_up queue s _ (memory_rest.lend s b).queues up
+own_stays_up queue s out v (event.Poke16 a bytes) i j own up = calls_up queue s _ (memory_rest.poke s a bytes).queues up
 own_stays_up queue s out v (event.Write port number word) i j own up =
     move_up queue s out v port number word i j own up
 own_stays_up queue s out v e i j own up = absurd own

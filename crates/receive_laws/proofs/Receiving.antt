@@ -107,7 +107,7 @@ module _ (l : Layout) (ring : IsRing l) (m n : Memory) (at : ℕ) (p : Piece) (r
 -- leaves it alone.
 
 -- the head of the queue is the first slot that isn't filled
-module _ (queue : ℕ) (s : State) (out : List Piece) (v : Receive) (gone here : List Piece)
+module _ {queue : ℕ} {s : State} {out : List Piece} {v : Receive} {gone here : List Piece}
     (h : Holds queue s out v gone here) where
   abbrev l : Layout
   l = reach v
@@ -259,9 +259,9 @@ module _ (queue : ℕ) (s : State) (out : List Piece) (v : Receive) (sound : IsS
       let p : Piece = piece_in rest f in
       let n : Memory = (fill_on s queue rest).memory in
       let fill : Fills s.memory n (descriptor_at l (length here)) (block_at l (length here)) p =
-      fills_here queue s out v gone here h room sound.blocks.whole rest f fits is in
+      fills_here h room sound.blocks.whole rest f fits is in
       let taken = takes_piece s.memory _ _ rest f is in
-      let head = head_on queue s out v gone here h room rest f is in
+      let head = head_on h room rest f is in
       let low = posted_below v (length here) room in
       let more : length (here ++ p ∷ []) ≡ length here + 1 = length_push here p in
       record {

@@ -13,9 +13,9 @@ use Rattle.nic_device.specs.RegTable.declared.rows.RowId.TheVariants.{Tdt}
 use Rattle.nic_device.specs.RegisterLaws.Laws.{after_write}
 use Rattle.pmd_tx.specs.Sending.{advanced, asked, first_end, looked}
 use Rattle.history_laws.proofs.{Leaving.plain-write, Written.transmit-tail}
-use Rattle.transmit_laws.proofs.Blocks.{lent-still, read-here, read-other, ready-still, slot-below, slot-even}
+use Rattle.transmit_laws.proofs.Blocks.{IsWritten, descriptor-written, slot-below, slot-even, slot-lent}
 use Rattle.transmit_laws.proofs.Sparing.{After, Keeps, based-after, counted-on, sends_on}
-use Rattle.transmit_laws.proofs.{Blocks.slot-lent, Fetching.asking-waits, Fetching.done-sent, Fetching.length-asking}
+use Rattle.transmit_laws.proofs.{Fetching.asking-waits, Fetching.done-sent, Fetching.length-asking}
 use Rattle.transmit_laws.specs.Agreeing.{AgreesAt, IsBased, IsPosted, Shows}
 use Rattle.transmit_laws.specs.Up.{IsUp}
 use Rattle.nic_device.specs.declared.event.Event.TheVariants as event
@@ -119,36 +119,29 @@ module _ (s : State) (queue : ℕ) (sent : List (List ℕ)) (v : Sender) (f : �
     asks_fit : v.poked < v.layout.size
     asks_fit = omega (arith, h.counted.room, h.counted.lent_known, more)
 
+    written : IsWritten s.memory new v v.poked (asking x)
+    written =
+        descriptor-written s.memory h.based.sound.blocks.whole v h.based.layout h.shows.ring v.poked asks_fit (asking x)
+        (length-asking x)
+
     other : (k : ℕ) → k < v.poked
         → read_at new (descriptor_at v.layout k) 16 ≡ read_at s.memory (descriptor_at v.layout k) 16
-    other k before =
-        read-other s.memory h.based.sound.blocks.whole v h.based.layout h.shows.ring v.poked asks_fit (asking x)
-        (length-asking x) k (omega (arith, asks_fit)) (omega arith)
+    other k before = written.other k (omega (arith, asks_fit)) (omega arith)
 
     waits_more : (k : ℕ) → f ≤ k → k < v.poked + 1 → IsPosted new (descriptor_at v.layout k) (segment_at v k)
     waits_more k i j = elim (cases_lt k v.poked) [
       | inl before ↦ other k before ∙ h.shows.waits k i before
-      | inr le ↦
-          let e : k ≡ v.poked = omega arith in
-          rw e
-          (read-here s.memory h.based.sound.blocks.whole v h.based.layout h.shows.ring v.poked asks_fit (asking x)
-          (length-asking x))
+      | inr le ↦ let e : k ≡ v.poked = omega arith in rw e written.here
     ]
 
     shows-asked : Shows new (asked v) f
-    shows-asked =
-        let whole = h.based.sound.blocks.whole in
-        let lents = lent-still s.memory whole v h.based.layout h.shows.ring v.poked asks_fit (asking x)
-        (length-asking x) in
-        let readies = ready-still s.memory whole v h.based.layout h.shows.ring v.poked asks_fit (asking x)
-        (length-asking x) in
-        record {
-          ring = λ k i. lents (v.layout.ring + k) (h.shows.ring k i);
-          ready = λ k i. readies (segment_at v k) (h.shows.ready k i);
-          done = λ k i end.
-              other k (omega (arith, h.counted.fetched_posted, h.counted.posted_poked)) ∙ h.shows.done k i end;
-          waits = waits_more;
-        }
+    shows-asked = record {
+      ring = λ k i. written.lent (v.layout.ring + k) (h.shows.ring k i);
+      ready = λ k i. written.ready (segment_at v k) (h.shows.ready k i);
+      done = λ k i end.
+          other k (omega (arith, h.counted.fetched_posted, h.counted.posted_poked)) ∙ h.shows.done k i end;
+      waits = waits_more;
+    }
 
     ask_at : IsEvent (event.Poke16 (descriptor_at v.layout v.poked) (asking x))
         → After queue sent v Asks (step_of s (event.Poke16 (descriptor_at v.layout v.poked) (asking x)))

@@ -170,38 +170,33 @@ module _ (m n : Memory) (v : Sender) (f : ℕ) (l : IsLayout v.layout) (c : IsCo
       waits = λ k i j. stays k (omega (arith, c.room, c.lent_known, c.poked_lent)) ∙ h.waits k i j;
     }
 
--- A descriptor of the ring that is written: the others and the segments stay.
+-- a descriptor of the ring that is written has these bytes; the others and the segments stay
+pub record IsWritten (m n : Memory) (v : Sender) (k : ℕ) (bytes : List ℕ) : Type 0 where
+  pub here : read_at n (descriptor_at v.layout k) 16 ≡ bytes
+  pub other :
+      (j : ℕ) → j < v.layout.size → j ≢ k
+      → read_at n (descriptor_at v.layout j) 16 ≡ read_at m (descriptor_at v.layout j) 16
+  pub lent : (b : ℕ) → has_block m b ≡ true → has_block n b ≡ true
+  pub ready : (x : Segment) → IsReady m v.layout.ring v.layout.size x → IsReady n v.layout.ring v.layout.size x
 
-module _ (m : Memory) (whole : IsWhole m) (v : Sender) (l : IsLayout v.layout)
-    (has : EachRingBlock v.layout.ring v.layout.size (λ n. IsTrue (has_block m n)))
-    (k : ℕ) (below : k < v.layout.size) (bytes : List ℕ) (size : length bytes ≡ 16)
-  where
-    abbrev pub written : Memory
-    written = write_at m (descriptor_at v.layout k) bytes
-
-    reads : (a n : ℕ) → AreApart a n (descriptor_at v.layout k) 16 → read_at written a n ≡ read_at m a n
-    reads a n apart = read_at-write_at_apart m (descriptor_at v.layout k) bytes a n (rw size apart)
-
-    -- the descriptor that was written, and another one
-    pub read-here : read_at written (descriptor_at v.layout k) 16 ≡ bytes
-    read-here =
-        rw size at
-        (read_at-write_at_same m (descriptor_at v.layout k) bytes whole (rw size (slot-lent v l m k (omega arith) has)))
-
-    pub read-other : (j : ℕ) → j < v.layout.size → j ≢ k
-        → read_at written (descriptor_at v.layout j) 16 ≡ read_at m (descriptor_at v.layout j) 16
-    read-other j small ne = reads (descriptor_at v.layout j) 16 (slots-apart v l j k small below ne)
-
-    pub lent-still : (b : ℕ) → has_block m b ≡ true → has_block written b ≡ true
-    lent-still b is = SameLent-write_at m (descriptor_at v.layout k) bytes b ∙ is
-
-    pub ready-still : (x : Segment) → IsReady m v.layout.ring v.layout.size x
-        → IsReady written v.layout.ring v.layout.size x
-    ready-still x ready = record {
-      short = ready.short;
-      whole = ready.whole;
-      lent = lent-still x.block ready.lent;
-      apart = ready.apart;
-      bytes =
-          reads (2048 * x.block) (length x.part.bytes) (segment-apart v l m x k ready (omega arith)) ∙ ready.bytes;
+pub descriptor-written : (m : Memory) → IsWhole m → (v : Sender) → IsLayout v.layout
+    → EachRingBlock v.layout.ring v.layout.size (λ n. IsTrue (has_block m n)) → (k : ℕ) → k < v.layout.size
+    → (bytes : List ℕ) → length bytes ≡ 16 → IsWritten m (write_at m (descriptor_at v.layout k) bytes) v k bytes
+descriptor-written m whole v l has k below bytes size =
+    let a = descriptor_at v.layout k in
+    let n = write_at m a bytes in
+    let reads : (c len : ℕ) → AreApart c len a 16 → read_at n c len ≡ read_at m c len =
+    λ c len apart. read_at-write_at_apart m a bytes c len (rw size apart) in
+    let lent : (b : ℕ) → has_block m b ≡ true → has_block n b ≡ true = λ b is. SameLent-write_at m a bytes b ∙ is in
+    record {
+      here = rw size at (read_at-write_at_same m a bytes whole (rw size (slot-lent v l m k (omega arith) has)));
+      other = λ j small ne. reads (descriptor_at v.layout j) 16 (slots-apart v l j k small below ne);
+      lent = lent;
+      ready = λ x ready. record {
+        short = ready.short;
+        whole = ready.whole;
+        lent = lent x.block ready.lent;
+        apart = ready.apart;
+        bytes = reads (2048 * x.block) (length x.part.bytes) (segment-apart v l m x k ready (omega arith)) ∙ ready.bytes;
+      };
     }

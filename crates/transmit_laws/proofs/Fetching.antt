@@ -4,8 +4,8 @@ use Rattle.std.proofs.Common.{None, Ok, Some, ap, arith, drop, false, inl, inr, 
 use Rattle.std.proofs.lemmas.Bool.{and_cases, both_ways, cases_Bool, cases_eq, cases_lt, eqb-false, lt-ltb, or_right}
 use Rattle.std.proofs.{Math.Nat.mod-eq_of_lt, lemmas.List.append-nil, lemmas.List.length-append}
 use Rattle.std.specs.Prelude.{◌==◌, IsTrue}
-use Rattle.history_laws.specs.Prelude.{Fetched, IsWhole, Memory, Ring, State, TransmitQueue, first_half, has_block}
-use Rattle.history_laws.specs.Prelude.{is_empty, is_lent, read_at, second_half, transmit_queue_of, write_at}
+use Rattle.history_laws.specs.Prelude.{Fetched, Memory, Ring, State, TransmitQueue, first_half, has_block, is_empty}
+use Rattle.history_laws.specs.Prelude.{is_lent, read_at, second_half, transmit_queue_of, write_at}
 use Rattle.transmit_laws.specs.Prelude.{Segment, Sender, asking, descriptor_at, is_sent, segment_at, slot_at}
 use Rattle.nic_device.proofs.{DmaArena.Blocks.is_lent_in, DmaArena.Bus.small_of_lent, DmaRing.Agreement.data_is_asked}
 use Rattle.nic_device.proofs.{DmaRing.Fields.halves_come_back, TxRing.Reports.done_changes_done_alone}
@@ -18,7 +18,7 @@ use Rattle.nic_device.specs.{DmaRing.declared.transmit.Command.Command, Transmit
 use Rattle.nic_device.specs.{TxRing.Fetch.fetch_of, TxRing.Frame.frame_of, TxRing.Laws.HasData, TxRing.Laws.command_at}
 use Rattle.nic_device.specs.{TxRing.declared.tx.Tx.Tx}
 use Rattle.pmd_tx.proofs.PmdSeam.Rings.{each_first}
-use Rattle.transmit_laws.proofs.Blocks.{lent-still, read-here, read-other, ready-still, slot-below, slot-lent}
+use Rattle.transmit_laws.proofs.Blocks.{IsWritten, descriptor-written, slot-below, slot-lent}
 use Rattle.transmit_laws.specs.Agreeing.{AgreesAt, ArePackets, IsDone, IsPosted, Shows, staged_behind}
 
 -- A posted slot that is fetched: its segment is staged, and at the end of a packet that goes out, and the descriptor is
@@ -208,81 +208,62 @@ module _ (s : State) (queue : ℕ) (sent : List (List ℕ)) (v : Sender) (f : �
           writeback = h.set_up.writeback;
         }
 
--- The memory after the oldest segment that wasn't fetched is: at the end of a packet its descriptor is done, and the
--- rest is as it was.
-
-module _ (s : State) (queue : ℕ) (sent : List (List ℕ)) (v : Sender) (f : ℕ) (h : AgreesAt s queue sent v f)
-    (posted : f < v.posted)
-  where
-    abbrev oldest : Segment
-    oldest = segment_at v f
+    -- the memory after it is fetched: at the end of a packet its descriptor is done, and the rest is as it was
 
     abbrev done : List ℕ
-    done = done_descriptor (asking oldest)
+    done = done_descriptor (asking x)
 
     abbrev new : Memory
     new = write_at s.memory (descriptor_at v.layout f) done
 
-    whole : IsWhole s.memory
-    whole = h.based.sound.blocks.whole
-
-    here : IsDone new (descriptor_at v.layout f) oldest
-    here =
-        read-here s.memory whole v h.based.layout h.shows.ring f (small s queue sent v f h posted) done
-        (length-done (asking oldest))
-
-    other : (k : ℕ) → k < v.layout.size → k ≢ f
-        → read_at new (descriptor_at v.layout k) 16 ≡ read_at s.memory (descriptor_at v.layout k) 16
-    other =
-        read-other s.memory whole v h.based.layout h.shows.ring f (small s queue sent v f h posted) done
-        (length-done (asking oldest))
+    written : IsWritten s.memory new v f done
+    written =
+        descriptor-written s.memory h.based.sound.blocks.whole v h.based.layout h.shows.ring f small done
+        (length-done (asking x))
 
     done_now : (k : ℕ) → k < f + 1 → (segment_at v k).part.last ≡ true
         → IsDone new (descriptor_at v.layout k) (segment_at v k)
     done_now k low end = elim (cases_eq k f) [
-      | inl e ↦ rw e here
+      | inl e ↦ rw e written.here
       | inr ne ↦
           let before : k < f = omega (arith, ne) in
-          other k (omega (arith, small s queue sent v f h posted)) ne ∙ h.shows.done k before end
+          written.other k (omega (arith, small)) ne ∙ h.shows.done k before end
     ]
 
     -- at the end of a packet
     shows-end : Shows new v (f + 1)
     shows-end =
         let c = h.counted in
-        let fits = small s queue sent v f h posted in
-        let lents = lent-still s.memory whole v h.based.layout h.shows.ring f fits done (length-done (asking oldest)) in
-        let readies = ready-still s.memory whole v h.based.layout h.shows.ring f fits done (length-done (asking oldest)) in
         record {
-          ring = λ k i. lents (v.layout.ring + k) (h.shows.ring k i);
-          ready = λ k i. readies (segment_at v k) (h.shows.ready k i);
+          ring = λ k i. written.lent (v.layout.ring + k) (h.shows.ring k i);
+          ready = λ k i. written.ready (segment_at v k) (h.shows.ready k i);
           done = done_now;
           waits = λ k i j.
-              other k (omega (arith, c.poked_lent, c.lent_known, c.room)) (omega arith)
+              written.other k (omega (arith, c.poked_lent, c.lent_known, c.room)) (omega arith)
               ∙ h.shows.waits k (omega arith) j;
         }
 
     -- and before it
-    done_before : oldest.part.last ≡ false → (k : ℕ) → k < f + 1 → (segment_at v k).part.last ≡ true
+    done_before : x.part.last ≡ false → (k : ℕ) → k < f + 1 → (segment_at v k).part.last ≡ true
         → IsDone s.memory (descriptor_at v.layout k) (segment_at v k)
-    done_before more k low end = elim (cases_eq k f) [
+    done_before on k low end = elim (cases_eq k f) [
       | inl e ↦
-          absurd (both_ways oldest.part.last more (subst (λ (j : ℕ). (segment_at v j).part.last ≡ true) e end))
+          absurd (both_ways x.part.last on (subst (λ (j : ℕ). (segment_at v j).part.last ≡ true) e end))
       | inr ne ↦ h.shows.done k (omega (arith, ne)) end
     ]
 
-    shows-part : oldest.part.last ≡ false → Shows s.memory v (f + 1)
-    shows-part more = record {
+    shows-part : x.part.last ≡ false → Shows s.memory v (f + 1)
+    shows-part on = record {
       ring = h.shows.ring;
       ready = h.shows.ready;
-      done = done_before more;
+      done = done_before on;
       waits = λ k i j. h.shows.waits k (omega arith) j;
     }
 
-    pub shows-fetched : Shows (if oldest.part.last then new else s.memory) v (f + 1)
+    pub shows-fetched : Shows (if x.part.last then new else s.memory) v (f + 1)
     shows-fetched =
         let Showing : Bool → Type 0 = λ b. Shows (if b then new else s.memory) v (f + 1) in
-        elim (cases_Bool oldest.part.last) [
+        elim (cases_Bool x.part.last) [
           | inl last ↦ subst Showing (sym last) shows-end
-          | inr more ↦ subst Showing (sym more) (shows-part more)
+          | inr on ↦ subst Showing (sym on) (shows-part on)
         ]

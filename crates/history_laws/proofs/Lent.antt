@@ -90,6 +90,11 @@ module _ (own known : Blocks) (s : State) where
       let was = removed_was s n number has in
       and_from (not (n == number)) (known n) (ap not (ne_eqb n number was.0)) (only n is was.1))
 
+pub or_swap : (a b c : Bool) → (a || (b || c)) ≡ (b || (a || c))
+or_swap true true c = refl
+or_swap true false c = refl
+or_swap false b c = refl
+
 pub not_so : (b c : Bool) → (b ≡ true → c ≡ true) → c ≡ false → b ≡ false
 not_so true c so none = absurd (both_ways c none (so refl))
 not_so false c so none = refl

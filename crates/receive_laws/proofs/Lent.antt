@@ -1,7 +1,7 @@
 -- The blocks that the driver has lent for receiving, after each of its calls.
-use Rattle.std.proofs.Common.{[], ◌&&◌, ◌++◌, ◌<◌, ◌||◌, ◌∙◌, ◌∷◌, ◌≡◌, ◌≢◌, ◌⊎◌, Bool, List, ap, append_assoc, arith}
-use Rattle.std.proofs.Common.{cond, drop, false, inl, inr, length, refl, subst, sym, true, ℕ}
-use Rattle.std.proofs.lemmas.Bool.{cases_lt, eqb-true, ne_eqb, or_cases, or_from, or_left, or_right}
+use Rattle.std.proofs.Common.{[], ◌&&◌, ◌++◌, ◌<◌, ◌||◌, ◌∙◌, ◌∷◌, ◌≡◌, ◌≢◌, Bool, List, ap, append_assoc, arith, cond}
+use Rattle.std.proofs.Common.{drop, false, inl, inr, length, refl, subst, sym, true, ℕ}
+use Rattle.std.proofs.lemmas.Bool.{cases_lt, eqb-true, ne_eqb, or_cases, or_from}
 use Rattle.std.proofs.lemmas.List.Folds.{list_any-append}
 use Rattle.std.specs.Prelude.{if◌then◌else◌, ◌==◌, IsTrue, slice_index, suc, ⊤}
 use Rattle.std.specs.List.{list_any}
@@ -15,7 +15,7 @@ use Rattle.pmd_rx.specs.Receive.{CanLend, HasLent, LendsNext, MayLend, NamesNext
 use Rattle.pmd_rx.specs.Receive.{is_part, lent_one, looked, moved, names, next_stage, parts_first, posts, posts_all}
 use Rattle.pmd_rx.specs.{Keeping.fresh_block, Keeping.has_lent, PmdSeam.Slots.ring_blocks, Receive.posts_one}
 use Rattle.pmd_rx.specs.{Receive.saw, Receive.tail_behind}
-use Rattle.history_laws.proofs.Lent.{KeepsTaken, lend_known, only_lent_stays, still_known, take_known}
+use Rattle.history_laws.proofs.Lent.{KeepsTaken, lend_known, only_lent_stays, or_swap, still_known, take_known}
 use Rattle.history_laws.specs.Lent.{LendsNone, LendsOwn, OnlyLent, either}
 use Rattle.receive_laws.proofs.Kept.{drop_place, names_reach, posts_blocks, posts_reach, push_place}
 use Rattle.receive_laws.specs.{Lent.OwnLendsAreKnown, Steps.Each, Steps.IfFresh}
@@ -90,21 +90,14 @@ module _ (mine : Blocks) (v : Receive) (m : Mine mine v) where
 abbrev among : List ℕ → ℕ → Bool
 among xs n = list_any (λ b. n == b) xs
 
-in_either : (xs ys : List ℕ) (n : ℕ) → among (xs ++ ys) n ≡ true → (among xs n ≡ true) ⊎ (among ys n ≡ true)
-in_either xs ys n is =
-    or_cases (among xs n) (among ys n) (sym (list_any-append (λ (b : ℕ). n == b) xs ys) ∙ is)
+among-insert : (xs ys : List ℕ) (b n : ℕ) → among (xs ++ b ∷ ys) n ≡ (n == b || among (xs ++ ys) n)
+among-insert [] ys b n = refl
+among-insert (x ∷ xs) ys b n =
+    ap (λ (t : Bool). n == x || t) (among-insert xs ys b n) ∙ or_swap (n == x) (n == b) (among (xs ++ ys) n)
 
-in_first : (xs ys : List ℕ) (n : ℕ) → among xs n ≡ true → among (xs ++ ys) n ≡ true
-in_first xs ys n is =
-    list_any-append (λ (b : ℕ). n == b) xs ys ∙ or_left (among xs n) (among ys n) is
-
-in_last : (xs ys : List ℕ) (n : ℕ) → among ys n ≡ true → among (xs ++ ys) n ≡ true
-in_last xs ys n is =
-    list_any-append (λ (b : ℕ). n == b) xs ys ∙ or_right (among xs n) (among ys n) is
-
-in_later : (xs : List ℕ) (n : ℕ) → n ≢ slice_index xs 0 → among xs n ≡ true → among (drop 1 xs) n ≡ true
-in_later [] n ne is = is
-in_later (x ∷ xs) n ne is = elim (or_cases (n == x) (among xs n) is) [
+in_rest : (xs ys : List ℕ) (n : ℕ) → n ≢ slice_index xs 0 → among (xs ++ ys) n ≡ true → among (drop 1 xs ++ ys) n ≡ true
+in_rest [] ys n ne is = is
+in_rest (x ∷ xs) ys n ne is = elim (or_cases (n == x) (among (xs ++ ys) n) is) [
   | inl same ↦ absurd (ne (eqb-true n x same))
   | inr later ↦ later
 ]
@@ -171,40 +164,20 @@ module _ (v : Receive) (n : ℕ) where
       (has_posted (parts_first v.whole) 1) (has_posted (length v.named) (length v.whole))
 
   -- without the first block
-  slot_stays : (taken : ℕ) → taken ≡ slice_index v.layout.blocks 0 → n ≢ taken → among (slots_of v) n ≡ true
-      → among (drop 1 v.layout.blocks ++ v.named) n ≡ true
-  slot_stays taken own ne slot = elim (in_either v.layout.blocks v.named n slot) [
-    | inl posted ↦
-        in_first (drop 1 v.layout.blocks) v.named n
-        (in_later v.layout.blocks n (λ e. ne (e ∙ sym own)) posted)
-    | inr named ↦ in_last (drop 1 v.layout.blocks) v.named n named
-  ]
-
   took_has : (seen : List Told) (taken : ℕ) (b : Block) → v.stage ≡ Takes → taken ≡ slice_index v.layout.blocks 0
       → n ≢ taken → Has (took v seen b)
   took_has [] taken b is own ne has = has
   took_has (t ∷ seen) taken b is own ne has =
-      let others : List ℕ = drop 1 v.layout.blocks ++ v.named in
-      elim (in_either (slots_of v) (ring_of v) n (same_stage Looks (ap fresh_block is) has)) [
-        | inl slot ↦ in_first others (ring_of v) n (slot_stays taken own ne slot)
-        | inr ring ↦ in_last others (ring_of v) n ring
-      ]
+      let blocks = v.layout.blocks in
+      subst (λ (xs : List ℕ). among xs n ≡ true) (sym (append_assoc (drop 1 blocks) v.named (ring_of v)))
+      (in_rest blocks (v.named ++ ring_of v) n (λ e. ne (e ∙ sym own))
+      (subst (λ (xs : List ℕ). among xs n ≡ true) (append_assoc blocks v.named (ring_of v))
+      (same_stage Looks (ap fresh_block is) has)))
 
   pub has_took : (taken : ℕ) (b : Block) → TakesNext v taken → n ≢ taken → Has (took v v.seen b)
   has_took taken b own ne = took_has v.seen taken b own.stage own.block ne
 
   -- a fresh block is lent
-  lends_one : (b : ℕ) → fresh_block v.stage ≡ [] → (n == b || has_lent v n) ≡ true
-      → has_lent (record v { stage = Lent b }) n ≡ true
-  lends_one b none is = elim (or_cases (n == b) (has_lent v n) is) [
-    | inl same ↦
-        in_last (slots_of v) (b ∷ ring_of v) n (or_left (n == b) (among (ring_of v) n) same)
-    | inr has ↦ elim (in_either (slots_of v) (ring_of v) n (same_stage Looks none has)) [
-      | inl slot ↦ in_first (slots_of v) (b ∷ ring_of v) n slot
-      | inr ring ↦
-          in_last (slots_of v) (b ∷ ring_of v) n (or_right (n == b) (among (ring_of v) n) ring)
-    ]
-  ]
 
   pub lend_block : (stage : Stage) (seen : List Told) → CanLend stage seen → fresh_block stage ≡ []
   lend_block (Lent b) seen can = absurd can
@@ -212,7 +185,10 @@ module _ (v : Receive) (n : ℕ) where
 
   pub has_lent_one : (b : Block) → LendsNext v b → (n == b.number || has_lent v n) ≡ true
       → has_lent (lent_one v b.number) n ≡ true
-  has_lent_one b own = lends_one b.number (lend_block v.stage v.seen own.stage)
+  has_lent_one b own is =
+      let none = lend_block v.stage v.seen own.stage in
+      among-insert (slots_of v) (ring_of v) b.number n
+      ∙ ap (λ (fresh : List ℕ). n == b.number || among (slots_of v ++ (fresh ++ ring_of v)) n) (sym none) ∙ is
 
 -- a block that may be lent isn't lent yet
 pub unknown : (v : Receive) (b : Block) → fresh_block v.stage ≡ [] → MayLend (reach v) b → has_lent v b.number ≡ false

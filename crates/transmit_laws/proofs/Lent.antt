@@ -8,7 +8,7 @@ use Rattle.history_laws.specs.Prelude.{Block, Blocks, Event, Memory, Reply, Stat
 use Rattle.transmit_laws.specs.Prelude.{Accepts, Advances, Asks, Elsewhere, IsOwn, Kept, Looks, Move, Outgoing, Reaps}
 use Rattle.transmit_laws.specs.Prelude.{Segment, Sender, has_lent, is_ring_block, moved, no_segment, segment_at}
 use Rattle.pmd_tx.specs.Sending.{Lends, MayAccept, MayLend, accepted_by, blocks_of, lent_more, reaped, segments_of}
-use Rattle.history_laws.proofs.Lent.{KeepsTaken, lend_known, only_lent_stays, still_known, take_known}
+use Rattle.history_laws.proofs.Lent.{KeepsTaken, lend_known, only_lent_stays, or_swap, still_known, take_known}
 use Rattle.history_laws.specs.Lent.{LendsNone, LendsOwn, OnlyLent, either}
 use Rattle.transmit_laws.proofs.Packets.{length-segments, some-parts}
 use Rattle.transmit_laws.specs.{Alone.LendsOneOf, Healthy.LendsAnew, Lent.OwnLendsAreKnown, Lent.SparesNumbers}
@@ -27,11 +27,6 @@ first_at v p lent =
 
 abbrev pub among : List Segment → ℕ → Bool
 among ss n = list_any (λ b. n == b) (blocks_of ss)
-
-or_swap : (a b c : Bool) → (a || (b || c)) ≡ (b || (a || c))
-or_swap true true c = refl
-or_swap true false c = refl
-or_swap false b c = refl
 
 among-more : (n : ℕ) (ss : List Segment) (k : ℕ) → k < length ss
     → among (take (suc k) ss) n ≡ (n == (slice_index_or ss k no_segment).block || among (take k ss) n)

@@ -1,17 +1,16 @@
 -- Histories in two parts: soundness along them, what a pass lends and begins in each, and how they leave a queue alone.
 use Rattle.std.proofs.Common.{[], ◌++◌, ◌/◌, ◌∙◌, ◌∷◌, ◌≡◌, List, Some, ap, append_assoc, false, inl, inr, refl, subst}
 use Rattle.std.proofs.lemmas.Bool.{both_ways, or_cases, or_left, or_right}
-use Rattle.std.proofs.{Common.sym, Common.true, Common.ℕ}
 use Rattle.std.specs.Prelude.{◌==◌, ◌||◌, Bool, IsFalse, IsTrue}
+use Rattle.std.proofs.Common.{sym, true, ℕ}
 use Rattle.history_laws.specs.Prelude.{AreEvents, Block, Blocks, Entry, EntryLeavesAlone, Event, IsSound, LeavesBlocks}
 use Rattle.history_laws.specs.Prelude.{Mode, Off, Reply, Sent, State, Watched, WritesOutside, Wrote, after, has_begun}
-use Rattle.history_laws.specs.Prelude.{leads_to, lent_by, mode_in, new_state}
-use Rattle.nic_device.proofs.Steps.{keeps_sound}
-use Rattle.nic_device.specs.declared.event.Reply.TheVariants.{Advanced}
+use Rattle.history_laws.specs.Prelude.{leads_to, lent_by, mode_in, mode_through, new_state}
+use Rattle.nic_device.{proofs.Steps.keeps_sound, specs.declared.event.Reply.TheVariants.Advanced}
 use Rattle.device_lock.proofs.Histories.{events_before, leads-append}
-use Rattle.device_lock.specs.Alone.{LeavesAlone, lent_in, mode_through}
-use Rattle.history_laws.proofs.{Lent.not_so, Limits.mode_told_from, Limits.new_is_off}
+use Rattle.device_lock.specs.Alone.{LeavesAlone, lent_in}
 use Rattle.history_laws.specs.Laws.{AloneByEntries, BeginningIsAlone, HistoriesKeepSound, NewIsPlain, PlainIsLeftAlone}
+use Rattle.history_laws.proofs.{Lent.not_so, Limits.mode_told_from, Limits.new_is_off}
 use Rattle.history_laws.specs.{Alone.AllAlone, Alone.LeavesAloneFrom, Laws.RestIsAlone}
 use Rattle.nic_device.specs.declared.event.Event.TheVariants as event
 
@@ -68,7 +67,7 @@ module _ (mine less : Blocks) (fewer : (n : ℕ) → IsFalse (mine n) → IsFals
     steps = outside_left w.queue e.reply h.steps;
   }
 
--- what begins a history that leaves a queue alone leaves it alone, and so does what is behind: neither lends more blocks
+-- what begins a history that leaves a queue alone leaves it alone, and so does what is behind: neither lends more
 
 pub beginning_alone : BeginningIsAlone
 beginning_alone w s g h alone before e after split begun =

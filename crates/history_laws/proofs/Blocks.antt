@@ -3,18 +3,18 @@ use Rattle.std.proofs.Common.{[], ◌%◌, ◌*◌, ◌+◌, ◌/◌, ◌<◌, �
 use Rattle.std.proofs.Common.{false, inl, inr, length, refl, subst, sym, take, true, ℕ}
 use Rattle.std.proofs.lemmas.Bool.{cases_Bool, cases_eq, cases_lt, eq-eqb, eqb-false}
 use Rattle.std.specs.Prelude.{◌==◌, IsFalse, IsTrue, ⊤}
-use Rattle.history_laws.specs.Prelude.{Block, Blocks, Event, Filled, IsEvent, IsSound, LeavesBlock, LeavesBlocks}
-use Rattle.history_laws.specs.Prelude.{LiesIn, Memory, Outcome, Registers, Reply, Sent, State, Tx, Waiting}
-use Rattle.history_laws.specs.Prelude.{WritesOutside, Wrote, after, has_bit, reply_to, ring_of, step_of, told_back}
-use Rattle.history_laws.specs.Prelude.{transmit_queue_of, word_of, write_at}
+use Rattle.history_laws.specs.Prelude.{Avoids, Block, Blocks, Event, Filled, IsEvent, IsSound, LeavesBlock}
+use Rattle.history_laws.specs.Prelude.{LeavesBlocks, LiesIn, Memory, Outcome, Registers, Reply, Rest, Sent, State, Tx}
+use Rattle.history_laws.specs.Prelude.{Waiting, WritesOutside, Wrote, after, has_bit, reply_to, ring_of, step_of}
+use Rattle.history_laws.specs.Prelude.{told_back, transmit_queue_of, word_of, write_at}
+use Rattle.nic_device.specs.RegTable.declared.rows.RowId.TheVariants.{Tdbah, Tdbal, Tdwbah, Tdwbal}
 use Rattle.nic_device.proofs.{DmaArena.Blocks.get-write_at_out, DmaArena.Inside.inside_avoids}
 use Rattle.nic_device.proofs.{DmaRing.Fields.halves_come_back, QueueCases.received_cases}
 use Rattle.nic_device.proofs.{RegisterLaws.SoundWords.rings_aligned, RxRing.Fills.takes_piece}
-use Rattle.nic_device.specs.RegTable.declared.rows.RowId.TheVariants.{Tdbah, Tdbal, Tdwbah, Tdwbal}
-use Rattle.nic_device.specs.{DmaArena.Memory.Avoids, DmaRing.Descriptor.of_halves, DmaRing.Receive.written_back}
+use Rattle.nic_device.specs.{DmaRing.Descriptor.of_halves, DmaRing.Receive.written_back}
 use Rattle.nic_device.specs.{DmaRing.Ring.descriptor_address, RegisterFile.Settings.writeback_of}
-use Rattle.nic_device.specs.{RegisterLaws.SoundWords.IsAligned, RxRing.Fill.Rest, RxRing.Fill.memory_with}
-use Rattle.nic_device.specs.{TxRing.Report.report_length, declared.event.Reply.TheVariants.Advanced}
+use Rattle.nic_device.specs.{RegisterLaws.SoundWords.IsAligned, RxRing.Fill.memory_with, TxRing.Report.report_length}
+use Rattle.nic_device.specs.{declared.event.Reply.TheVariants.Advanced}
 use Rattle.device_lock.specs.Alone.{IsClear}
 use Rattle.history_laws.specs.{Left.IsOutside, Left.SendsNone, Reports.ReportsLieInBlocks, Segments.pieces}
 use Rattle.history_laws.specs.{Segments.pieces_told}

@@ -2,34 +2,32 @@
 use Rattle.std.proofs.Common.{[], ◌<◌, ◌||◌, ◌∙◌, ◌∷◌, ◌≡◌, ◌≢◌, ◌⊎◌, Bool, Err, List, None, Ok, Option, Some, ap}
 use Rattle.std.proofs.Common.{arith, cond, false, inl, inr, length, map, not, refl, subst, sym, true, ℕ}
 use Rattle.std.proofs.lemmas.Bool.{cases_Bool, cases_eq, cond_both, eq-eqb, lt-ltb, ne_eqb, not-false, or_parts}
-use Rattle.std.proofs.{lemmas.List.drop_all, lemmas.List.get_or-set_same}
 use Rattle.std.specs.Prelude.{◌&&◌, ◌==◌, IsFalse, Result, ⊤}
+use Rattle.std.proofs.lemmas.List.{drop_all, get_or-set_same}
 use Rattle.history_laws.specs.Prelude.{Block, Blocks, Dir, Event, Fetched, Filled, IsSound, LeavesReceive, Outcome}
 use Rattle.history_laws.specs.Prelude.{Registers, Reply, RingFault, Rx, State, TransmitQueue, Tx, Waiting, Watched}
-use Rattle.history_laws.specs.Prelude.{Wrote, after, gives, is_empty, is_wanted, receive_queue_of, reply_to, rest_of}
-use Rattle.history_laws.specs.Prelude.{ring_of, staged_by, step_of, transmit_queue_of}
+use Rattle.history_laws.specs.Prelude.{Wrote, after, gives, is_empty, is_wanted, moved_on, piece_of, receive_queue_of}
+use Rattle.history_laws.specs.Prelude.{reply_to, rest_of, ring_of, staged_by, step_of, transmit_queue_of}
 use Rattle.nic_device.proofs.RegisterLaws.Switches.{receive-switched, transmit-switched}
-use Rattle.nic_device.proofs.{Cases.either_way, Cases.switched_cases, Coming.counted_in, Raising.comes-itself}
-use Rattle.nic_device.proofs.{Raising.have_counters, RegisterLaws.Stands.receive_stands}
 use Rattle.nic_device.specs.RegTable.declared.rows.RowId.TheVariants.{Qprdc}
 use Rattle.nic_device.specs.RegisterFile.Settings.{can_transmit, drops, is_stopped}
 use Rattle.nic_device.specs.Transmit.{fetched_reply, is_muted, is_silent, slot_done}
 use Rattle.nic_device.specs.declared.event.Reply.TheVariants.{Dropped, Fault, Idle}
 use Rattle.nic_device.specs.declared.event.Why.TheVariants.{NoSlot, QueueOff}
+use Rattle.nic_device.proofs.{Cases.either_way, Cases.switched_cases, Coming.counted_in, Raising.comes-itself}
+use Rattle.nic_device.proofs.{Raising.have_counters, RegisterLaws.Stands.receive_stands}
 use Rattle.nic_device.specs.{Footprint.counts_and_causes, Receive.first_received, Receive.slotless_counted}
 use Rattle.nic_device.specs.{RegisterFile.Counters.counter_of, RegisterFile.Queue.switched, Switching.emptied}
 use Rattle.nic_device.specs.{Switching.side_switched}
 use Rattle.history_laws.proofs.Leaving.{left-setting, left-side, receive_left, step_event, step_is, switch_is}
-use Rattle.history_laws.proofs.Blocks.{left-block}
 use Rattle.history_laws.specs.Left.{Deed, IsFirst, IsLeft, IsSilent, LeftDid, Nothing, Rested, Rests, SendsNone, Shut}
 use Rattle.history_laws.specs.Segments.{Piece, first_of, frames_added, piece_in, pieces, pieces_told, sent_by}
 use Rattle.history_laws.specs.Sides.{IsTried, Side, as_wanted, receive_side, side_of, transmit_side}
-use Rattle.history_laws.specs.{Left.SidesDo, Left.Switched, Left.Took, Left.fetch_on, Left.fill_on, Left.is_step_of}
-use Rattle.history_laws.specs.{Left.is_switch_of}
+use Rattle.history_laws.proofs.Blocks.{left-block}
+use Rattle.history_laws.specs.Left.{SidesDo, Switched, Took, fetch_on, fill_on, is_step_of, is_switch_of}
 use Rattle.device_laws.proofs.{KeptSettings.settings_stand, Missed.counts-miss_side, RepliesReceived.receiving_tells}
 use Rattle.device_laws.proofs.{RepliesSent.transmitting_tells, Standing.stays_within, StandingQueues.receiving_rest}
-use Rattle.device_laws.specs.Replies.{TookTransmit, moved_on, received_tells, sent_tells}
-use Rattle.device_laws.specs.{Laws.piece_of, Leaving.IsFirstFor}
+use Rattle.device_laws.specs.{Leaving.IsFirstFor, Replies.TookTransmit, Replies.received_tells, Replies.sent_tells}
 use Rattle.nic_device.specs.Receive as receive
 use Rattle.nic_device.specs.declared.event.Event.TheVariants as event
 
@@ -180,10 +178,10 @@ pub added-none : (out : List (ℕ × List ℕ)) → frames_added out out ≡ []
 added-none out = ap (map (λ (f : ℕ × List ℕ). f.1)) (drop_all (length out) out (omega arith))
 
 -- what is told where a slot was taken
-took : (queue : ℕ) (s after_tx : State) (f : Fetched) (o : Option (List ℕ)) → sent_tells queue (fetched_reply queue f o) s after_tx
-    → TookTransmit queue queue f.back s after_tx
-took queue s after_tx f (Some frame) tx_tells = tx_tells
-took queue s after_tx f None tx_tells = tx_tells.0
+took : (queue : ℕ) (s t : State) (f : Fetched) (o : Option (List ℕ)) → sent_tells queue (fetched_reply queue f o) s t
+    → TookTransmit queue queue f.back s t
+took queue s t f (Some frame) tx_tells = tx_tells
+took queue s t f None tx_tells = tx_tells.0
 
 -- a queue that isn't silent is on, and its ring isn't empty
 loud_parts : (a b c on e f : Bool) → (a || b || c || not on || e || f) ≡ false → (on ≡ true) × (f ≡ false)
@@ -305,8 +303,6 @@ module _ (queue : ℕ) (s : State) (sound : IsSound s) (small : queue < 128) whe
 
 -- What an event that leaves a queue alone does to the queue's sides.
 
--- an event that is no step of a side receives or sends nothing
-
 pub received-none : (queue : ℕ) (s : State) (e : Event Block) → is_step_of Rx queue e ≡ false → pieces queue s e ≡ []
 received-none queue s event.RxStep other = cc
 received-none queue s e other = refl
@@ -326,8 +322,8 @@ module _ (queue : ℕ) (s : State) (sound : IsSound s) (small : queue < 128) whe
   stepped Tx = transmitting_did queue s sound small
 
   switch_done : (dir : Dir) → Deed dir queue s (event.QueueStep dir queue)
-  switch_done Rx = Rested (silent_else Rx queue s (event.QueueStep Rx queue) refl) (switching_did queue s sound small Rx)
-  switch_done Tx = Rested (silent_else Tx queue s (event.QueueStep Tx queue) refl) (switching_did queue s sound small Tx)
+  switch_done Rx = Rested refl (switching_did queue s sound small Rx)
+  switch_done Tx = Rested (silent_else Tx queue s _ refl) (switching_did queue s sound small Tx)
 
 pub side_did : SidesDo
 side_did dir queue s e sound small left = elim (cases_Bool (is_step_of dir queue e)) as (λ _. Deed dir queue s e) [

@@ -1,10 +1,11 @@
 -- An event that leaves a queue alone writes no setting, and leaves each side of it that it isn't a step of.
 use Rattle.std.proofs.Common.{◌∙◌, ◌≡◌, ◌≢◌, Some, ap, cond, false, inl, inr, refl, subst, sym, true, ℕ}
 use Rattle.std.proofs.lemmas.Bool.{cases_Bool, eqb-false, eqb-true}
-use Rattle.history_laws.specs.Prelude.{Block, Dir, Event, GcrExt, LeavesReceive, LeavesRegisters, LeavesTransmit}
-use Rattle.history_laws.specs.Prelude.{Maxfrs, Mode, Named, Nothing, Pf, Place, Port, ReceiveQueue, Register, RowId, Rx}
-use Rattle.history_laws.specs.Prelude.{State, TransmitQueue, Tx, Watched, WritesNoSetting, after, asks_reset, has_queue}
-use Rattle.history_laws.specs.Prelude.{mode_in, named, named_written, row_of, step_of}
+use Rattle.history_laws.specs.Prelude.{Block, Dir, Event, GcrExt, LeavesQueues, LeavesReceive, LeavesRegisters}
+use Rattle.history_laws.specs.Prelude.{LeavesTransmit, Maxfrs, Mode, Named, Nothing, Pf, Place, Port, ReceiveQueue}
+use Rattle.history_laws.specs.Prelude.{Register, RowId, Rx, State, TransmitQueue, Tx, Watched, WritesNoSetting, after}
+use Rattle.history_laws.specs.Prelude.{asks_pool_reset, asks_reset, has_queue, mode_in, named, named_written, row_of}
+use Rattle.history_laws.specs.Prelude.{step_of}
 use Rattle.nic_device.proofs.RegisterLaws.Covers.{covers-renewed, misses-narrower}
 use Rattle.nic_device.specs.Footprint.{StaysWithin, below_reset_reach, in_registers, pool_reach, reset_reach}
 use Rattle.nic_device.specs.RegTable.declared.rows.RowId.TheVariants.{Ctrl, Hlreg0}
@@ -12,16 +13,16 @@ use Rattle.nic_device.specs.RegisterFile.Owner.{is_owner, owner_in}
 use Rattle.nic_device.specs.RegisterLaws.Footprint.{Misses, of_side, of_write, pool_has, pool_renews}
 use Rattle.nic_device.specs.VfMap.Owner.{is_of_pool_by, is_receive_bank, is_transmit_bank}
 use Rattle.nic_device.specs.{Footprint.write_reach, Named.at_location, RegTable.declared.bank.Bank.Bank}
-use Rattle.nic_device.specs.{RegisterFile.Access.asks_pool_reset, VfMap.Map.located, declared.event.Port.TheVariants.Vf}
+use Rattle.nic_device.specs.{VfMap.Map.located, declared.event.Port.TheVariants.Vf}
 use Rattle.device_lock.specs.Alone.{Spares, SparesIfSome, is_setting, place_at}
-use Rattle.history_laws.proofs.Written.{place_in, place_named}
 use Rattle.history_laws.specs.Sides.{LeavesSide, Side, receive_side, transmit_side}
-use Rattle.history_laws.specs.{Left.is_step_of, Left.is_switch_of}
+use Rattle.history_laws.proofs.Written.{place_in, place_named}
+use Rattle.history_laws.specs.Left.{is_step_of, is_switch_of}
 use Rattle.device_laws.proofs.StandingQueues.{receiving_rest, switching_rest, transmitting_rest}
 use Rattle.device_laws.proofs.StandingRest.{arrival_rest, collecting_rest, eeprom_rest, link_rest, message_rest}
 use Rattle.device_laws.proofs.{Settings.no_reset, Standing.memory_rest, Standing.missed, Standing.stays_within}
 use Rattle.device_laws.proofs.{StandingAccesses.read_rest, StandingAccesses.write_rest}
-use Rattle.device_laws.specs.Leaving.{LeavesOtherSides, LeavesQueues}
+use Rattle.device_laws.specs.Leaving.{LeavesOtherSides}
 use Rattle.nic_device.specs.RegTable.declared.bank.Bank.TheVariants as bank
 use Rattle.nic_device.specs.RegisterFile.declared.owner.Owner.TheVariants as owner
 use Rattle.nic_device.specs.declared.event.Event.TheVariants as event
@@ -179,8 +180,6 @@ plain-write s port n word q view names plain p seen there =
     }
 
 -- An event that leaves a queue alone writes no setting, and leaves each side of it that it isn't a step of.
-
--- which events are steps of a side
 
 abbrev pub step_event : Dir → ℕ → Event Block
 step_event Rx queue = event.RxStep

@@ -10,7 +10,6 @@ pub mod SideNames
 pub mod Sound
 pub mod Steady
 pub mod Tails
-pub mod Waits
 pub mod Written
 pub use Rattle.history_laws.proofs.Steady as Asking
 pub use Rattle.history_laws.proofs.Alone as Beginning

@@ -5,18 +5,18 @@ use Rattle.std.proofs.{Common.refl, Common.subst, Common.sym, Common.true, Commo
 use Rattle.std.specs.Prelude.{if◌then◌else◌, ◌==◌}
 use Rattle.history_laws.specs.Prelude.{AreEvents, Block, Entry, Event, GcrExt, IsSound, Maxfrs, Mode, Named, Nothing}
 use Rattle.history_laws.specs.Prelude.{Off, Pf, Place, Port, Register, RowId, State, after, asks_reset, has_bit}
-use Rattle.history_laws.specs.Prelude.{leads_to, mode_in, named, named_written, new_state, place, row_of, step_of}
-use Rattle.history_laws.specs.Prelude.{word_of}
+use Rattle.history_laws.specs.Prelude.{leads_to, mode_in, mode_through, named, named_written, new_state, place, row_of}
+use Rattle.history_laws.specs.Prelude.{step_of, word_of}
+use Rattle.nic_device.specs.RegTable.declared.rows.RowId.TheVariants.{Ctrl, Hlreg0}
+use Rattle.nic_device.specs.VfMap.declared.mode.Mode.TheVariants.{Pools16, Pools32, Pools64}
 use Rattle.nic_device.proofs.{EepromImage.Blank.triples_of-blank, RegisterFile.ResetWords.word_at-reset}
 use Rattle.nic_device.proofs.{RegisterLaws.Accessed.none_written_by, RegisterLaws.Footprints.word_stands}
 use Rattle.nic_device.proofs.{RegisterLaws.Owners.is_place-other, RegisterLaws.Puts.same_parts}
 use Rattle.nic_device.proofs.{RegisterLaws.Shape.put_stands, Steps.keeps_sound, Steps.step_leads}
-use Rattle.nic_device.specs.RegTable.declared.rows.RowId.TheVariants.{Ctrl, Hlreg0}
-use Rattle.nic_device.specs.VfMap.declared.mode.Mode.TheVariants.{Pools16, Pools32, Pools64}
 use Rattle.nic_device.specs.{Eeprom.reset, Eeprom.with_triples, EepromImage.Image.blank, EepromImage.Triples.triples_of}
 use Rattle.nic_device.specs.{Footprint.below_reset_reach, Footprint.reset_reach, Footprint.write_reach}
 use Rattle.nic_device.specs.{PoolReset.written_below_reset, State.cleared, VfMap.Pools.mode_of}
-use Rattle.device_lock.specs.Alone.{is_setting, mode_after, mode_set, mode_through, mode_written}
+use Rattle.device_lock.specs.Alone.{is_setting, mode_after, mode_set, mode_written}
 use Rattle.device_lock.specs.Told.{first_settings, frames_set, frames_written, limit_of, settings_after}
 use Rattle.device_lock.specs.{Told.settings_through, Told.usual_frames, declared.told.Frames.Frames}
 use Rattle.device_lock.specs.{declared.told.Settings.Settings}
@@ -83,17 +83,16 @@ settings_in s = settings_by (word_of s.registers GcrExt 0) (word_of s.registers 
 abbrev by_low_bits : ℕ → Mode
 by_low_bits n = if n == 0 then Off else (if n == 1 then Pools16 else (if n == 2 then Pools32 else Pools64))
 
-settings_of_reset : (s : State) → s.image ≡ blank
-    → settings_in (with_triples (cleared s) (triples_of s.image)) ≡ first_settings
-settings_of_reset s image =
-    ap (λ ts. settings_in (with_triples (cleared s) ts)) (ap triples_of image ∙ triples_of-blank)
-    ∙ (λ i. settings_by (word_at-reset (place GcrExt 0) (omega arith) i) (word_at-reset (place Hlreg0 0) (omega arith) i)
-    (word_at-reset (place Maxfrs 0) (omega arith) i))
-
 new_settings : (vfs fifo : ℕ) → settings_in (new_state vfs fifo) ≡ first_settings
 new_settings vfs fifo = λ i.
     settings_by (word_at-reset (place GcrExt 0) (omega arith) i) (word_at-reset (place Hlreg0 0) (omega arith) i)
     (word_at-reset (place Maxfrs 0) (omega arith) i)
+
+settings_of_reset : (s : State) → s.image ≡ blank
+    → settings_in (with_triples (cleared s) (triples_of s.image)) ≡ first_settings
+settings_of_reset s image =
+    ap (λ ts. settings_in (with_triples (cleared s) ts)) (ap triples_of image ∙ triples_of-blank)
+    ∙ new_settings s.vfs s.fifo
 
 -- what a write tells of them is so of the device after it
 
@@ -236,8 +235,8 @@ told_from s (e ∷ es) sound image events =
 
 pub settings_told : SettingsAreTold
 settings_told vfs fifo h new events =
-    let told =
-    ap (λ m. settings_through vfs m h) (sym (new_settings vfs fifo)) ∙ told_from (new_state vfs fifo) h new refl events in
+    let told = ap (λ m. settings_through vfs m h) (sym (new_settings vfs fifo))
+    ∙ told_from (new_state vfs fifo) h new refl events in
     (ap (λ (m : Settings). m.mode) told, ap (λ (m : Settings). limit_of m.frames) told)
 
 -- the mode by itself is one of them
@@ -246,7 +245,8 @@ mode_after_is : (vfs : ℕ) (m : Settings) (e : Event Block) → mode_after vfs 
 mode_after_is vfs m (event.Write port n word) = refl
 mode_after_is vfs m other = refl
 
-mode_through_is : (vfs : ℕ) (m : Settings) (h : List Entry) → mode_through vfs m.mode h ≡ (settings_through vfs m h).mode
+mode_through_is : (vfs : ℕ) (m : Settings) (h : List Entry)
+    → mode_through vfs m.mode h ≡ (settings_through vfs m h).mode
 mode_through_is vfs m [] = refl
 mode_through_is vfs m (e ∷ es) =
     ap (λ mode. mode_through vfs mode es) (mode_after_is vfs m e.event)

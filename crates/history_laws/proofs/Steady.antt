@@ -1,18 +1,18 @@
 -- A side of a queue, whatever the device does to it, and as a driver asks for it to be on or off.
 use Rattle.std.proofs.Common.{[], ◌%◌, ◌&&◌, ◌/◌, ◌<◌, ◌^◌, ◌∙◌, ◌≡◌, ◌⊎◌, Bool, List, ap, arith, cond, false, inl, inr}
+use Rattle.std.specs.Prelude.{◌==◌, IsFalse, IsTrue, bit_and}
 use Rattle.std.proofs.{Common.not, Common.refl, Common.subst, Common.sym, Common.true, Common.ℕ, lemmas.Bool.both_ways}
 use Rattle.std.proofs.{lemmas.Bool.cases_Bool, lemmas.Nat.and_mask}
-use Rattle.std.specs.Prelude.{◌==◌, IsFalse, IsTrue, bit_and}
-use Rattle.history_laws.specs.Prelude.{Block, Dir, Event, IsSound, Port, Register, Rx, State, Tx, after, has_bit, named}
-use Rattle.history_laws.specs.Prelude.{named_written, place, receive_queue_of, reply_to, staged_by, step_of}
-use Rattle.history_laws.specs.Prelude.{transmit_queue_of, word_of}
+use Rattle.history_laws.specs.Prelude.{Block, Dir, Event, IsSound, Port, Register, Rx, State, Tx, Txdctl, after}
+use Rattle.history_laws.specs.Prelude.{has_bit, named, named_written, place, receive_queue_of, reply_to, staged_by}
+use Rattle.history_laws.specs.Prelude.{step_of, transmit_queue_of, word_of}
 use Rattle.nic_device.proofs.RegisterLaws.Switches.{receive-asked, transmit-asked}
-use Rattle.nic_device.specs.RegTable.declared.rows.RowId.TheVariants.{Rxdctl, Txdctl}
+use Rattle.nic_device.specs.RegTable.declared.rows.RowId.TheVariants.{Rxdctl}
 use Rattle.nic_device.specs.{Access.named_read, RegisterFile.Queue.enable_row, declared.event.Reply.TheVariants.Word}
-use Rattle.history_laws.proofs.Leaving.{queues_left, receive_left, transmit_left}
 use Rattle.history_laws.specs.Left.{Deed, IsSilent, Nothing, Rested, Rests, Shut, Shuts, Switched, Took}
 use Rattle.history_laws.specs.Sides.{IsOff, IsTried, IsUnwanted, IsUp, LeavesSide, Side, as_wanted, receive_side, shut}
-use Rattle.history_laws.specs.{Sides.side_of, Sides.taken, Sides.transmit_side}
+use Rattle.history_laws.proofs.Leaving.{queues_left, receive_left, transmit_left}
+use Rattle.history_laws.specs.Sides.{side_of, taken, transmit_side}
 use Rattle.device_laws.proofs.StandingAccesses.{read_rest, write_rest}
 use Rattle.nic_device.specs.declared.event.Event.TheVariants as event
 

@@ -3,18 +3,16 @@ use Rattle.std.proofs.Common.{[], ◌%◌, ◌&&◌, ◌+◌, ◌/◌, ◌<◌, 
 use Rattle.std.proofs.Common.{arith, cond, false, inl, inr, not, refl, sym, true, ℕ}
 use Rattle.std.proofs.lemmas.Bool.{and_parts, cases_Bool, cond-false, cond-true, eq-eqb}
 use Rattle.std.proofs.lemmas.Nat.{and_le_l, and_le_r, and_mask, and_mod, and_shr, or_disjoint, or_mod, or_shr}
-use Rattle.std.proofs.Math.Nat.{mod-eq_of_lt}
 use Rattle.std.specs.Prelude.{if◌then◌else◌, ◌==◌, bit_and, bit_or, ⊤}
-use Rattle.std.specs.List.{list_all}
-use Rattle.history_laws.specs.Prelude.{Maxfrs, Mode, Named, Nothing, Pf, Place, Port, ReceiveQueue, Register, Registers}
-use Rattle.history_laws.specs.Prelude.{RowId, State, TransmitQueue, has_bit, mode_in, named, place, receive_queue_of}
-use Rattle.history_laws.specs.Prelude.{row_of, transmit_queue_of, word_of}
+use Rattle.std.{proofs.Math.Nat.mod-eq_of_lt, specs.List.list_all}
+use Rattle.history_laws.specs.Prelude.{Maxfrs, Mode, Named, Nothing, Pf, Place, Port, Rdt, ReceiveQueue, Register}
+use Rattle.history_laws.specs.Prelude.{Registers, RowId, State, Tdt, TransmitQueue, after_write, has_bit, mode_in}
+use Rattle.history_laws.specs.Prelude.{named, place, receive_queue_of, row_of, transmit_queue_of, word_of}
 use Rattle.nic_device.proofs.RegisterLaws.SideWords.{receive-written, transmit-written}
+use Rattle.nic_device.specs.RegTable.Run.{Run, has_address, place_in as place_of}
+use Rattle.nic_device.specs.RegisterLaws.Laws.{HasShape, word_after}
 use Rattle.nic_device.proofs.{RegTable.Finding.found-named, RegTable.InRange.named_in_range}
 use Rattle.nic_device.proofs.{VfMap.Owners.located_in_range}
-use Rattle.nic_device.specs.RegTable.Run.{Run, has_address, place_in as place_of}
-use Rattle.nic_device.specs.RegTable.declared.rows.RowId.TheVariants.{Rdt, Tdt}
-use Rattle.nic_device.specs.RegisterLaws.Laws.{HasShape, after_write, word_after}
 use Rattle.nic_device.specs.{Named.at_location, Named.at_place, RegTable.Place.place_among, RegTable.Place.view_among}
 use Rattle.nic_device.specs.{RegTable.Rows.number_of, RegTable.Runs.runs, RegisterFile.Bits.merged, VfMap.Map.located}
 use Rattle.nic_device.specs.{VfMap.declared.located.Located.Located, declared.event.Port.TheVariants.Vf}
@@ -122,8 +120,6 @@ all_shown (r ∷ rs) row a p none is same =
     ]
 
 -- What a number of a port names.
-
--- what a number names, without the view
 
 abbrev pub place_in : Named → Option Place
 place_in (Nothing seen) = None

@@ -1,9 +1,8 @@
 -- Laws of legal histories, on which those of a driver's two sides rest.
 use Rattle.std.specs.Prelude.{◌++◌, ◌≡◌, IsTrue, List, ℕ}
 use Rattle.history_laws.specs.Prelude.{AreEvents, Entry, IsSound, Off, State, Watched, frame_limit, has_begun, leads_to}
-use Rattle.history_laws.specs.Prelude.{lent_by, mode_in, new_state}
-use Rattle.device_lock.specs.{Alone.LeavesAlone, Alone.mode_through, Told.first_settings, Told.limit_of}
-use Rattle.device_lock.specs.{Told.settings_through}
+use Rattle.history_laws.specs.Prelude.{lent_by, mode_in, mode_through, new_state}
+use Rattle.device_lock.specs.{Alone.LeavesAlone, Told.first_settings, Told.limit_of, Told.settings_through}
 use Rattle.history_laws.specs.Alone.{AllAlone, IsPlain, LeavesAloneFrom}
 
 -- the mode that the entries tell is the device's, from a new device on

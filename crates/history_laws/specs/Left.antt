@@ -1,12 +1,12 @@
 -- What an event that leaves a queue alone does to the queue's sides.
 use Rattle.std.specs.Prelude.{[], ◌<◌, ◌==◌, ◌∷◌, ◌≡◌, Bool, Err, IsFalse, IsTrue, List, Ok, false, true, ℕ}
-use Rattle.history_laws.specs.Prelude.{Block, Blocks, Dir, Event, Fetched, Filled, IsEvent, IsSound, LeavesBlock}
-use Rattle.history_laws.specs.Prelude.{LeavesBlocks, LeavesRegisters, RingFault, Rx, State, Tx, Waiting, Watched}
-use Rattle.history_laws.specs.Prelude.{WritesOutside, Wrote, after, frame_limit, mode_in, receive_queue_of, reply_to}
-use Rattle.history_laws.specs.Prelude.{rest_of, staged_by, step_of, transmit_queue_of}
-use Rattle.nic_device.specs.{DmaArena.Memory.Avoids, Transmit.is_silent, Transmit.sending_of}
+use Rattle.history_laws.specs.Prelude.{Avoids, Block, Blocks, Dir, Event, Fetched, Filled, IsEvent, IsSound}
+use Rattle.history_laws.specs.Prelude.{LeavesBlock, LeavesBlocks, LeavesRegisters, RingFault, Rx, State, Tx, Waiting}
+use Rattle.history_laws.specs.Prelude.{Watched, WritesOutside, Wrote, after, frame_limit, mode_in, receive_queue_of}
+use Rattle.history_laws.specs.Prelude.{reply_to, rest_of, sending_of, staged_by, step_of, transmit_queue_of}
+use Rattle.nic_device.specs.Transmit.{is_silent}
 use Rattle.history_laws.specs.Sides.{IsTried, LeavesSide, as_wanted, shut, side_of, taken}
-use Rattle.history_laws.specs.{Segments.piece_in, Segments.pieces, Segments.sent_by}
+use Rattle.history_laws.specs.Segments.{piece_in, pieces, sent_by}
 use Rattle.device_laws.specs.Leaving.{LeavesMemory}
 use Rattle.nic_device.specs.RxRing.Fill as rx
 use Rattle.nic_device.specs.TxRing.Fetch as tx

@@ -1,8 +1,8 @@
 -- What an event writes on a queue, piece by piece, and the frames that it sends there.
 use Rattle.std.specs.Prelude.{[], if◌then◌else◌, ◌==◌, ◌∷◌, Bool, List, drop, false, length, map, take, ℕ}
-use Rattle.history_laws.specs.Prelude.{Block, Event, Filled, Reply, State, Waiting, Wrote, after, reply_to}
-use Rattle.nic_device.specs.{DmaRing.Receive.told_of, Receive.packet_of, RxRing.Fill.Rest}
-use Rattle.device_laws.specs.Laws.{piece_of}
+use Rattle.history_laws.specs.Prelude.{Block, Event, Filled, Reply, Rest, State, Waiting, Wrote, after, piece_of}
+use Rattle.history_laws.specs.Prelude.{reply_to}
+use Rattle.nic_device.specs.{DmaRing.Receive.told_of, Receive.packet_of}
 use Rattle.nic_device.specs.declared.event.Event.TheVariants as event
 
 -- what one step writes on a queue: the bytes, the first half of the descriptor, and whether the frame ends there

@@ -1,8 +1,7 @@
 -- A side of a queue, by its direction.
 use Rattle.std.specs.Prelude.{[], if◌then◌else◌, ◌≡◌, Bool, IsFalse, IsTrue, List, None, Option, false, ℕ}
-use Rattle.history_laws.specs.Prelude.{Dir, ReceiveQueue, Ring, Rx, State, TransmitQueue, Tx, is_empty}
+use Rattle.history_laws.specs.Prelude.{Dir, ReceiveQueue, Ring, Rx, State, TransmitQueue, Tx, is_empty, moved_on}
 use Rattle.history_laws.specs.Prelude.{receive_queue_of, staged_by, transmit_queue_of}
-use Rattle.device_laws.specs.Replies.{moved_on}
 
 -- its ring, its control word, where it writes its head, its staged bytes, and whether it is on and wanted on. A receive
 -- side writes no head and stages nothing, and the control word of a transmit side is 0

@@ -4,8 +4,7 @@ use Rattle.std.proofs.Common.{[], ◌&&◌, ◌++◌, ◌<◌, ◌∙◌, ◌∷
 use Rattle.std.proofs.Common.{append_assoc, arith, cond, false, inl, inr, length, nat_lt, refl, subst, sym, true, ℕ}
 use Rattle.std.proofs.lemmas.Bool.{and_from, both_ways, cases_lt, eq-eqb, eqb-false, eqb-true, lt-ltb, or_left}
 use Rattle.std.proofs.lemmas.List.{append-nil, length-append, nil_from_length}
-use Rattle.std.proofs.lemmas.Bool.{or_right}
-use Rattle.std.specs.Prelude.{◌==◌, IsFalse, IsTrue}
+use Rattle.std.{proofs.lemmas.Bool.or_right, specs.Prelude.◌==◌, specs.Prelude.IsFalse, specs.Prelude.IsTrue}
 use Rattle.history_laws.specs.Prelude.{AreEvents, Block, Blocks, Entry, EntryLeavesAlone, Event, IsEvent, IsLegal}
 use Rattle.history_laws.specs.Prelude.{IsSound, Reply, Rx, State, Watched, after, calls_of, is_done, is_on, leads_to}
 use Rattle.history_laws.specs.Prelude.{lent_by, mode_in, reply_to, second_half}
@@ -18,13 +17,13 @@ use Rattle.pmd_rx.specs.Plays.{AllOwn, after_call, played_by}
 use Rattle.history_laws.proofs.{Alone.alone_by_entries, Alone.histories_sound, Steady.not_again}
 use Rattle.history_laws.specs.Alone.{AllAlone}
 use Rattle.receive_laws.proofs.Foreign.{entry_stays_up, foreign_keeps, left_up, own_stays_up, steps_keep}
-use Rattle.receive_laws.proofs.{Leaving.leaving_keeps, Leaving.look_tells, Lent.LendsMine, Lent.mine_driven}
-use Rattle.receive_laws.proofs.{Own.own_keeps, Parts.none_ended}
 use Rattle.receive_laws.specs.Delivered.{IsPrefixOf, delivered, packets_if_any, pieces_in, pieces_since}
 use Rattle.receive_laws.specs.Histories.{AllSpare, FindsNone, HandedIsPrefix, IsDriven, NoneIsAll, NoneIsAllBefore}
 use Rattle.receive_laws.specs.Histories.{NoneIsAllTaken, ShowsNone, Spares, SparesReceive, mark_of, marks_after}
 use Rattle.receive_laws.specs.Joint.{Agree, AreOpen, AreSeen, InOrder, IsAt, packets_had, still_held}
 use Rattle.receive_laws.specs.Pieces.{Piece, packet_told, packets_behind, packets_of, pieces}
+use Rattle.receive_laws.proofs.{Leaving.leaving_keeps, Leaving.look_tells, Lent.LendsMine, Lent.mine_driven}
+use Rattle.receive_laws.proofs.{Own.own_keeps, Parts.none_ended}
 use Rattle.receive_laws.specs.{Steps.Each, Steps.IsMetBy, Steps.OwnReportsSpare, Up.IsUp}
 use Rattle.nic_device.specs.declared.event.Event.TheVariants as event
 use Rattle.nic_device.specs.declared.event.Reply.TheVariants as reply
@@ -163,8 +162,6 @@ module _ (w : Watched) (mine : Blocks) (s : State) (out : List Piece) (v : Recei
 
 -- Over a whole history.
 
--- the calls of a pass, entry by entry
-
 pub calls_own : (pass : ℕ) (e : Entry) (h : List Entry) → (e.pass == pass) ≡ true
     → calls_of pass (e ∷ h) ≡ call_in e ∷ calls_of pass h
 calls_own pass e h is = rw is refl
@@ -237,8 +234,6 @@ plays w mine s out v marks (e ∷ h) m legal events alone own spare covers =
     alone.1 (owns_on v b marks (call_in e) cs owns) spare.1 (λ n is. covers n (or_right _ _ is))))
 
 -- What the driver handed out, and what a history from any sound device on delivered.
-
--- histories in two parts
 
 pub since-append : (queue : ℕ) (s : State) (so_far : Option (List Piece)) (g h : List Entry)
     → pieces_since queue s so_far (g ++ h) ≡ pieces_since queue (leads_to s g) (pieces_since queue s so_far g) h

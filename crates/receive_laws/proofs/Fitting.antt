@@ -7,19 +7,18 @@ use Rattle.std.proofs.lemmas.List.Elements.{All-cons, All-filter, All-head, All-
 use Rattle.std.specs.Prelude.{◌==◌, All, Result, filter, not}
 use Rattle.history_laws.specs.Prelude.{Block, Event, Filled, IsSound, Memory, Outcome, RingFault, Rx, State, Waiting}
 use Rattle.history_laws.specs.Prelude.{WritesNoSetting, after, buffer_size_of, frame_limit, has_queue, is_on, is_wanted}
-use Rattle.history_laws.specs.Prelude.{mode_in, receive_queue_of, rest_of, step_of}
+use Rattle.history_laws.specs.Prelude.{mode_in, piece_of, receive_queue_of, rest_of, step_of}
 use Rattle.receive_laws.specs.Prelude.{Receive}
 use Rattle.nic_device.proofs.{Cases.either_way, QueueCases.filled_by, QueueCases.received_cases}
 use Rattle.nic_device.proofs.{RxRing.Fills.takes_piece}
 use Rattle.nic_device.specs.{Arrival.let_in, Receive.after_piece, RegisterFile.Settings.drops}
 use Rattle.nic_device.specs.{RxFilter.declared.target.Target.Target, Sound.AreWaiting, Sound.IsBegunWhileOn}
 use Rattle.nic_device.specs.{Sound.IsUnbegun, Switching.without_part}
-use Rattle.history_laws.proofs.{Deeds.step_cases, Waits.Changes, Waits.waiting_changed}
+use Rattle.history_laws.proofs.{Deeds.step_cases, Lent.Changes, Lent.waiting_changed}
 use Rattle.history_laws.proofs.DeviceLaws.{KeptSettings.settings_stand, Settings.no_reset}
-use Rattle.history_laws.specs.DeviceLaws.Laws.{piece_of}
-use Rattle.receive_laws.proofs.{Parts.open_pushed, Receiving.no_fault, Receiving.room_left}
 use Rattle.receive_laws.specs.Fitting.{AreFitting, FitsBlocks, FramesStayFitting, NoneBegunWhileOff, ResetsNoPool}
 use Rattle.receive_laws.specs.Pieces.{AllFit, Fits, Piece, first_of, open_after, pieces, pieces_told}
+use Rattle.receive_laws.proofs.{Parts.open_pushed, Receiving.no_fault, Receiving.room_left}
 use Rattle.receive_laws.specs.{Fitting.begun_on, Joint.Holds, Up.IsUp}
 use Rattle.nic_device.specs.declared.event.Event.TheVariants as event
 use Rattle.nic_device.specs.Receive as receive
@@ -135,7 +134,8 @@ module _ (queue most : ℕ) (s : State) (limit : frame_limit s.registers ≤ 204
     device = λ asks. All-nil P;
     pool = λ asks. All-filter (λ w. not (has_queue (mode_in s.registers) p.index w.queue)) P s.waiting h;
   }
-  short_changes (event.Arrive frame) = λ t low. All-push P s.waiting (let_in frame t) h (λ own. omega (arith, low, limit))
+  short_changes (event.Arrive frame) = λ t low.
+      All-push P s.waiting (let_in frame t) h (λ own. omega (arith, low, limit))
   short_changes (event.QueueStep Rx on) = λ off. short_parted on s.waiting h
   short_changes e = tt
 
@@ -143,8 +143,6 @@ module _ (queue most : ℕ) (s : State) (limit : frame_limit s.registers ≤ 204
   frames_fit e = waiting_changed (All P) s h e (short_changes e)
 
 -- Frames that fit as many slots as the driver takes for a packet stay so, and the pieces that are written of them fit.
-
--- the frame that waits first, in lists
 
 other_first : (queue : ℕ) (w : Waiting) (others : List Waiting) → (w.queue == queue) ≡ false
     → begun_on queue (w ∷ others) ≡ 0

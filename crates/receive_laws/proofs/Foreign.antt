@@ -5,16 +5,15 @@ use Rattle.std.proofs.lemmas.Bool.{both_ways, cases_eq, cases_lt, cond_both, eq-
 use Rattle.std.proofs.lemmas.List.{append-nil}
 use Rattle.std.specs.{Bool.beq, Prelude.IsTrue, Prelude.nat_lt, Prelude.⊤}
 use Rattle.history_laws.specs.Prelude.{Block, Blocks, Done, Entry, Event, Filled, IsSound, LeavesBlock, LeavesBlocks}
-use Rattle.history_laws.specs.Prelude.{LeavesRegisters, LiesIn, Memory, Mode, Outcome, Port, Reply, Rx, State, Tx}
-use Rattle.history_laws.specs.Prelude.{Waiting, Watched, WritesNoSetting, WritesOutside, Wrote, after, gives, is_on}
-use Rattle.history_laws.specs.Prelude.{is_wanted, mode_in, receive_queue_of, reply_to, rest_of, step_of, told_back}
-use Rattle.receive_laws.specs.Prelude.{Layout, Receive, block_at, is_step, reach, slot_at}
-use Rattle.nic_device.proofs.RxRing.Fills.{takes_piece}
+use Rattle.history_laws.specs.Prelude.{LeavesQueues, LeavesRegisters, LiesIn, Memory, Mode, Outcome, Port, Reply, Rx}
+use Rattle.history_laws.specs.Prelude.{State, Tx, Waiting, Watched, WritesNoSetting, WritesOutside, Wrote, after, gives}
+use Rattle.history_laws.specs.Prelude.{is_on, is_wanted, mode_in, receive_queue_of, reply_to, rest_of, step_of}
+use Rattle.history_laws.specs.Prelude.{told_back}
+use Rattle.receive_laws.specs.Prelude.{Layout, MovesNext, Receive, block_at, is_step, reach, slot_at}
 use Rattle.nic_device.specs.declared.event.Reply.TheVariants.{Idle, NoQueue}
-use Rattle.nic_device.specs.{RegisterFile.Settings.is_stopped, Sound.AreWaiting, Switching.queue_switched}
-use Rattle.nic_device.specs.{Switching.side_switched}
-use Rattle.pmd_rx.proofs.PmdSeam.Rings.{slot_block, slot_lies}
-use Rattle.pmd_rx.specs.{PmdSeam.Slots.descriptor_in, Receive.MovesNext}
+use Rattle.nic_device.{proofs.RxRing.Fills.takes_piece, specs.RegisterFile.Settings.is_stopped, specs.Sound.AreWaiting}
+use Rattle.nic_device.{specs.Switching.queue_switched, specs.Switching.side_switched}
+use Rattle.pmd_rx.{proofs.PmdSeam.Rings.slot_block, proofs.PmdSeam.Rings.slot_lies, specs.PmdSeam.Slots.descriptor_in}
 use Rattle.history_laws.proofs.Deeds.{left_did, receiving_did, side_did, switching_did}
 use Rattle.history_laws.proofs.Leaving.{left-setting, left-side, receive_left, receive_of}
 use Rattle.history_laws.proofs.{Blocks.IsSparedBy, Blocks.reported_elsewhere, Blocks.spared_block, Steady.resting_same}
@@ -23,12 +22,11 @@ use Rattle.history_laws.proofs.DeviceLaws.{Delivered.told-lt, KeptSettings.setti
 use Rattle.history_laws.proofs.DeviceLaws.{Standing.stays_within, StandingQueues.switching_rest}
 use Rattle.history_laws.specs.Left.{Deed, Did, IsLeft, Rested, Rests, Shuts, Takes, Took, fill_on}
 use Rattle.history_laws.specs.{Segments.piece_in, Sides.IsTried, Sides.receive_side, Sides.side_of}
-use Rattle.history_laws.specs.DeviceLaws.Leaving.{LeavesQueues}
 use Rattle.receive_laws.proofs.Kept.{bytes_inside, each_map, each_of, posted_block, slot_below}
 use Rattle.receive_laws.proofs.Receiving.{buffer_is, filled_holds, head_is, no_fault, room_left}
-use Rattle.receive_laws.proofs.{Leaving.switching_keeps, Naming.tail_written, Naming.word_low}
 use Rattle.receive_laws.specs.Steps.{DeviceStepKeeps, Each, EnableStepKeeps, ForeignEntryKeeps, IsMetBy}
 use Rattle.receive_laws.specs.Up.{EnableStepChangesNothing, EntryStaysUp, IsUp, LeavingStaysUp, OwnEventStaysUp}
+use Rattle.receive_laws.proofs.{Leaving.switching_keeps, Naming.tail_written, Naming.word_low}
 use Rattle.receive_laws.specs.{Inside.IsInRing, Inside.IsInside, Inside.PieceIsInside, Joint.Agree, Joint.Holds}
 use Rattle.receive_laws.specs.{Pieces.Piece, Pieces.pieces, Pieces.pieces_told, Steps.OwnReportsSpare}
 use Rattle.receive_laws.specs.{Steps.ReceiveStepKeeps, Steps.SparesBlocks, Up.ReceiveStepStaysUp}
@@ -47,8 +45,6 @@ no_registers w mode mine (event.Poke16 a bytes) is = cc
 no_registers w mode mine other is = (tt, tt)
 
 -- What an event does to the queue's receive side keeps the agreement, with the piece that it writes, if any.
-
--- a slot is left where one is tried, and so there is no fault
 
 pub slot_left : {queue : ℕ} {s : State} {out : List Piece} {v : Receive} {gone here : List Piece}
     → Holds queue s out v gone here → IsTried (side_of Rx queue s) → length here < length v.layout.blocks

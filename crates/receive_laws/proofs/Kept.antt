@@ -2,26 +2,21 @@
 use Rattle.std.proofs.Common.{[], ◌%◌, ◌*◌, ◌++◌, ◌+◌, ◌/◌, ◌<◌, ◌^◌, ◌∙◌, ◌∷◌, ◌≡◌, ◌≢◌, ◌≤◌, ◌⊎◌, List, ap}
 use Rattle.std.proofs.Common.{append_assoc, arith, drop, false, inl, inr, length, refl, subst, suc, sym, take, true, ℕ}
 use Rattle.std.proofs.lemmas.List.{get_or_append_left, get_or_push, length-append, length_push, take-append-drop}
-use Rattle.std.proofs.{lemmas.Bool.cases_lt, lemmas.Bool.lt-ltb, lemmas.Bool.Decides.nat_tests}
 use Rattle.std.specs.Prelude.{◌==◌, is_some, nat_lt, slice_index}
+use Rattle.std.proofs.{lemmas.Bool.cases_lt, lemmas.Bool.lt-ltb, lemmas.Bool.Decides.nat_tests}
 use Rattle.history_laws.specs.Prelude.{AreApart, Block, LiesIn, Memory, Ring, State, bytes_in, ends_packet, first_half}
-use Rattle.history_laws.specs.Prelude.{has_block, is_done, mode_in, read_at, second_half}
+use Rattle.history_laws.specs.Prelude.{has_block, is_done, is_outside, mode_in, read_at, second_half}
 use Rattle.receive_laws.specs.Prelude.{EachRingBlock, Layout, Lent, Receive, Stage, Told, block_at, descriptor_at}
-use Rattle.receive_laws.specs.Prelude.{is_ring_block, reach, slot_at, took}
+use Rattle.receive_laws.specs.Prelude.{extended, fresh_of, is_ring_block, names, posts, reach, slot_at, took, wrapped}
 use Rattle.nic_device.proofs.DmaArena.Inside.{reads_its_block}
-use Rattle.nic_device.specs.DmaRing.Ring.{is_outside}
 use Rattle.pmd_rx.proofs.PmdSeam.Rings.{each_slot_block, ring_block_sides, slot_lies}
-use Rattle.pmd_rx.proofs.PmdSeam.Places.{wrapped_below}
-use Rattle.pmd_rx.specs.Receive.{consumed, extended, fresh_of, names, posts}
-use Rattle.pmd_rx.specs.PmdSeam.Slots.{wrapped}
+use Rattle.pmd_rx.{proofs.PmdSeam.Places.wrapped_below, specs.Receive.consumed}
 use Rattle.history_laws.proofs.Leaving.{named-same}
 use Rattle.receive_laws.specs.Joint.{HasSlots, IsFilled, IsLoose, IsNamed, IsPosted, IsRing, StageHolds}
 use Rattle.receive_laws.specs.{Pieces.Piece, Pieces.piece_at, Steps.Each, Steps.IfFresh}
 use Rattle.std.specs.FinMap as map
 
 -- Places around a ring, and the addresses of its descriptors and buffers.
-
--- places
 
 pub first_place : (n : ℕ) → 0 < n → 0 ≡ wrapped n (0 + 0)
 first_place n h = grind (arith, nat_tests)
@@ -133,8 +128,6 @@ posts_reach v k j = with_blocks v.layout _ _ (posts_blocks v k j)
 
 -- Facts of each block that the driver has lent for receiving.
 
--- the blocks that the driver has lent
-
 fresh_map : (stage : Stage) (P Q : ℕ → Type 0) → ((b : ℕ) → P b → Q b) → IfFresh stage P → IfFresh stage Q
 fresh_map (Lent b) P Q f h = f b h
 fresh_map other P Q f h = tt
@@ -163,8 +156,6 @@ pub each_posted : (v : Receive) (P : ℕ → Type 0) → Each v P
 each_posted v P e k i = subst P (posted_block v k i) (e.blocks k (posted_below v k i))
 
 -- What stays of the agreement where memory, the mode and the number of functions do.
-
--- a slot whose reads are the same stays what it is
 
 pub IsPosted-kept : (m n : Memory) (a b : ℕ) → read_at n a 16 ≡ read_at m a 16 → has_block n b ≡ has_block m b
     → IsPosted m a b → IsPosted n a b

@@ -3,23 +3,21 @@ use Rattle.std.proofs.Common.{[], ◌%◌, ◌&&◌, ◌*◌, ◌++◌, ◌+◌,
 use Rattle.std.proofs.Common.{cond, false, inl, inr, length, nat_lt, refl, subst, sym, true, ℕ}
 use Rattle.std.proofs.lemmas.Bool.{and_parts, both_ways, cases_lt, eqb-true}
 use Rattle.std.specs.Prelude.{if◌then◌else◌, ◌==◌}
-use Rattle.history_laws.specs.Prelude.{Block, Event, Memory, Outcome, ReceiveQueue, Reply, Ring, State, after}
-use Rattle.history_laws.specs.Prelude.{buffer_size_of, bytes_in, ends_packet, gives, has_block, is_done, is_lent}
-use Rattle.history_laws.specs.Prelude.{read_at, receive_queue_of, reply_to, second_half, step_of}
-use Rattle.receive_laws.specs.Prelude.{Layout, Lent, Looks, Receive, Stage, Takes, Told, block_at, descriptor_at, drive}
-use Rattle.receive_laws.specs.Prelude.{reach, slot_at}
+use Rattle.history_laws.specs.Prelude.{Block, Bytes, Event, Memory, Outcome, ReceiveQueue, Reply, Ring, State, after}
+use Rattle.history_laws.specs.Prelude.{buffer_size_of, bytes_in, descriptor_type_of, ends_packet, gives, has_block}
+use Rattle.history_laws.specs.Prelude.{is_done, is_lent, read_at, receive_queue_of, reply_to, second_half, step_of}
+use Rattle.receive_laws.specs.Prelude.{Layout, Lent, Looks, PeeksNext, Receive, Stage, Takes, Told, block_at}
+use Rattle.receive_laws.specs.Prelude.{descriptor_at, drive, extended, is_part, no_packet, reach, slot_at}
 use Rattle.nic_device.proofs.{Cases.lent_cases, DmaArena.Blocks.is_lent_in, DmaArena.Bus.get-insert_other}
 use Rattle.nic_device.proofs.{DmaArena.Bus.get-insert_same}
-use Rattle.nic_device.specs.{RxRing.Control.descriptor_type_of, declared.event.Reply.TheVariants.Bytes}
 use Rattle.pmd_rx.proofs.PmdSeam.Rings.{each_slot_block, ring_block_apart, slot_fits, slot_place}
-use Rattle.pmd_rx.specs.Receive.{CanLend, LendsNext, MayLend, PeeksNext, extended, is_part, lent_one, no_packet, saw}
+use Rattle.pmd_rx.specs.Receive.{CanLend, LendsNext, MayLend, lent_one, saw, told_by}
 use Rattle.pmd_rx.specs.declared.ring.Stage.TheVariants.{Owes}
-use Rattle.pmd_rx.specs.Receive.{told_by}
 use Rattle.receive_laws.proofs.Kept.{aligned, first_place, named_kept, posted_below, posted_in, slot_below, slots_kept}
 use Rattle.receive_laws.proofs.Parts.{end_last, end_more, none_held, open_more, order_same, seen_more}
-use Rattle.receive_laws.proofs.Kept.{stage_kept}
 use Rattle.receive_laws.specs.Joint.{Agree, AreOpen, HasSlots, Holds, InOrder, IsAt, IsNamed, IsRing, IsSetUp, Saw}
 use Rattle.receive_laws.specs.Steps.{IfFresh, Leaves, LeavesButOn, LeavingKeeps, LookTellsSlot, SwitchingKeeps}
+use Rattle.receive_laws.proofs.Kept.{stage_kept}
 use Rattle.receive_laws.specs.{Joint.StageHolds, Pieces.Piece, Pieces.piece_at, Starting.StartAgrees, Steps.TellsSlot}
 use Rattle.nic_device.specs.declared.event.Event.TheVariants as event
 use Rattle.std.specs.FinMap as map
@@ -195,8 +193,6 @@ look_keeps queue s out v a (gone, here, h) own =
     )
 
 -- A fresh block is lent.
-
--- a block is lent
 
 abbrev with_block : State → Block → State
 with_block s b = record s { memory = map.insert s.memory b.number b.bytes }

@@ -2,19 +2,18 @@
 use Rattle.std.proofs.Common.{[], ◌&&◌, ◌++◌, ◌<◌, ◌||◌, ◌∙◌, ◌∷◌, ◌≡◌, ◌≢◌, Bool, List, ap, append_assoc, arith, cond}
 use Rattle.std.proofs.Common.{drop, false, inl, inr, length, refl, subst, sym, true, ℕ}
 use Rattle.std.proofs.lemmas.Bool.{cases_lt, eqb-true, ne_eqb, or_cases, or_from}
-use Rattle.std.proofs.lemmas.List.Folds.{list_any-append}
 use Rattle.std.specs.Prelude.{if◌then◌else◌, ◌==◌, IsTrue, slice_index, suc, ⊤}
-use Rattle.std.specs.List.{list_any}
+use Rattle.std.{proofs.lemmas.List.Folds.list_any-append, specs.List.list_any}
 use Rattle.history_laws.specs.Prelude.{Block, Blocks, Event, Memory, Port, Reply, State, after, ends_packet, is_done}
 use Rattle.history_laws.specs.Prelude.{reply_to, second_half}
-use Rattle.receive_laws.specs.Prelude.{IsOwn, Layout, LendsAnew, Lent, Looks, Receive, Stage, Takes, Told, block_at}
-use Rattle.receive_laws.specs.Prelude.{drive, reach, took}
+use Rattle.receive_laws.specs.Prelude.{IsOwn, Layout, LendsAnew, Lent, Looks, NamesNext, PeeksNext, Receive, Stage}
+use Rattle.receive_laws.specs.Prelude.{Takes, Told, block_at, drive, fresh_of, is_part, names, next_stage, posts, reach}
+use Rattle.receive_laws.specs.Prelude.{took}
 use Rattle.nic_device.proofs.Cases.{either_way}
+use Rattle.pmd_rx.specs.Receive.{CanLend, HasLent, LendsNext, MayLend, TakesNext, lent_one, looked, moved, parts_first}
 use Rattle.pmd_rx.proofs.PmdSeam.Rings.{ring_block_among}
-use Rattle.pmd_rx.specs.Receive.{CanLend, HasLent, LendsNext, MayLend, NamesNext, PeeksNext, TakesNext, fresh_of}
-use Rattle.pmd_rx.specs.Receive.{is_part, lent_one, looked, moved, names, next_stage, parts_first, posts, posts_all}
-use Rattle.pmd_rx.specs.{Keeping.fresh_block, Keeping.has_lent, PmdSeam.Slots.ring_blocks, Receive.posts_one}
-use Rattle.pmd_rx.specs.{Receive.saw, Receive.tail_behind}
+use Rattle.pmd_rx.specs.{Keeping.fresh_block, Keeping.has_lent, PmdSeam.Slots.ring_blocks, Receive.posts_all}
+use Rattle.pmd_rx.specs.{Receive.posts_one, Receive.saw, Receive.tail_behind}
 use Rattle.history_laws.proofs.Lent.{KeepsTaken, lend_known, only_lent_stays, or_swap, still_known, take_known}
 use Rattle.history_laws.specs.Lent.{LendsNone, LendsOwn, OnlyLent, either}
 use Rattle.receive_laws.proofs.Kept.{drop_place, names_reach, posts_blocks, posts_reach, push_place}
@@ -84,8 +83,6 @@ module _ (mine : Blocks) (v : Receive) (m : Mine mine v) where
   mine_driven e r own l = m
 
 -- Which blocks the driver has lent for receiving, after each of its calls.
-
--- numbers among some
 
 abbrev among : List ℕ → ℕ → Bool
 among xs n = list_any (λ b. n == b) xs

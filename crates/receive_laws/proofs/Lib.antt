@@ -5,7 +5,6 @@ pub mod Delivering
 pub mod Examples
 pub mod Fitting
 pub mod Foreign
-pub mod Healthy
 pub mod Inside
 pub mod Kept
 pub mod Leaving
@@ -23,3 +22,4 @@ pub use Rattle.receive_laws.proofs.Delivering as Histories
 pub use Rattle.receive_laws.proofs.Lent as Mine
 pub use Rattle.receive_laws.proofs.Leaving as Starting
 pub use Rattle.receive_laws.proofs.Foreign as Up
+pub use Rattle.receive_laws.proofs.Own as Healthy

@@ -3,35 +3,31 @@ use Rattle.std.proofs.Common.{[], ◌*◌, ◌++◌, ◌+◌, ◌<◌, ◌∙◌
 use Rattle.std.proofs.Common.{arith, cond, drop, false, inl, inr, length, refl, subst, sym, take, true, ℕ}
 use Rattle.std.proofs.lemmas.Bool.{cases_lt, eqb-false, eqb-true}
 use Rattle.std.proofs.lemmas.List.{append-nil, length-append, length-take-le, length_push, map-append, take-append-drop}
-use Rattle.std.proofs.lemmas.List.{take_all}
-use Rattle.std.specs.Prelude.{◌==◌}
-use Rattle.history_laws.specs.Prelude.{AreApart, Done, GcrExt, IsWhole, Memory, Place, Port, ReceiveQueue, Registers}
-use Rattle.history_laws.specs.Prelude.{State, after, first_half, gives, is_done, is_lent, mode_in, named_written, place}
-use Rattle.history_laws.specs.Prelude.{read_at, receive_queue_of, reply_to, second_half, step_of, write_at}
-use Rattle.receive_laws.specs.Prelude.{Kept, Layout, Lent, Looks, Packet, Receive, Stage, Told, block_at, descriptor_at}
-use Rattle.receive_laws.specs.Prelude.{drive, ended_of, is_ring_block, kept_of, reach, records_of, slot_at, vacant}
+use Rattle.std.{proofs.lemmas.List.take_all, specs.Prelude.◌==◌}
+use Rattle.history_laws.specs.Prelude.{AreApart, Done, GcrExt, IsWhole, Memory, Place, Port, Rdt, ReceiveQueue}
+use Rattle.history_laws.specs.Prelude.{Registers, State, after, after_write, first_half, gives, is_done, is_lent}
+use Rattle.history_laws.specs.Prelude.{mode_in, named_written, place, read_at, receive_queue_of, reply_to, second_half}
+use Rattle.history_laws.specs.Prelude.{step_of, write_at}
+use Rattle.receive_laws.specs.Prelude.{Kept, Layout, Lent, Looks, MovesNext, NamesNext, Packet, Receive, Stage, Told}
+use Rattle.receive_laws.specs.Prelude.{block_at, descriptor_at, drive, ended_of, extended, fresh_of, is_ring_block}
+use Rattle.receive_laws.specs.Prelude.{kept_of, names, next_stage, posts, reach, records_of, slot_at, vacant}
 use Rattle.nic_device.proofs.DmaArena.Bus.{SameLent-write_at, read_at-write_at_apart, read_at-write_at_same}
 use Rattle.nic_device.proofs.{DmaRing.Fields.halves_come_back, RegisterLaws.Puts.word_at-put_other}
-use Rattle.nic_device.specs.RegTable.declared.rows.RowId.TheVariants.{Rdt}
-use Rattle.nic_device.specs.RegisterLaws.Laws.{after_write, word_after}
 use Rattle.nic_device.specs.{DmaArena.Memory.SameLent, DmaRing.Driver.posted, DmaRing.Laws.HasHalves}
-use Rattle.nic_device.specs.{RegisterLaws.Sound.HasShape, VfMap.Pools.mode_of}
+use Rattle.nic_device.specs.{RegisterLaws.Laws.word_after, RegisterLaws.Sound.HasShape, VfMap.Pools.mode_of}
+use Rattle.pmd_rx.specs.Receive.{HasLent, MovesOne, naming, parts_first, posts_all, posts_one, tail_behind}
 use Rattle.pmd_rx.proofs.PmdSeam.Places.{wrapped_apart}
-use Rattle.pmd_rx.specs.Receive.{HasLent, MovesNext, MovesOne, NamesNext, extended, fresh_of, names, naming, next_stage}
-use Rattle.pmd_rx.specs.Receive.{parts_first, posts, posts_all, posts_one, tail_behind}
 use Rattle.history_laws.proofs.{Lent.poked_is, Written.receive-tail, Written.receive_with_tail}
 use Rattle.receive_laws.proofs.Kept.{IsFilled-kept, IsLoose-kept, IsPosted-kept, aligned, buffer_and_slot, named_kept}
 use Rattle.receive_laws.proofs.Parts.{end_last, left_twice, next_at, none_twice, order_same}
+use Rattle.receive_laws.specs.Joint.{Agree, HasSlots, Holds, InOrder, IsFilled, IsLoose, IsNamed, IsPosted, IsRing}
 use Rattle.receive_laws.proofs.{Kept.names_reach, Kept.posts_reach, Kept.push_place, Kept.reach_long, Kept.slot_below}
 use Rattle.receive_laws.proofs.{Kept.slots_apart, Leaving.by_outcome, Leaving.descriptor_lent}
-use Rattle.receive_laws.specs.Joint.{Agree, HasSlots, Holds, InOrder, IsFilled, IsLoose, IsNamed, IsPosted, IsRing}
 use Rattle.receive_laws.specs.{Joint.IsSetUp, Joint.StageHolds, Joint.packets_had, Pieces.Piece, Pieces.piece_at}
 use Rattle.nic_device.specs.declared.event.Event.TheVariants as event
 use Rattle.nic_device.specs.declared.event.Reply.TheVariants as reply
 
 -- A write of the tail of the queue through the driver's number for it.
-
--- a write of it writes a register alone
 
 pub tail_written : (s : State) (queue : ℕ) (l : Layout) (word : ℕ) → IsNamed s queue l
     → step_of s (event.Write l.port l.tail word)

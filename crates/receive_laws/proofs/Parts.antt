@@ -4,10 +4,9 @@ use Rattle.std.proofs.Common.{false, length, refl, subst, suc, sym, take, true, 
 use Rattle.std.proofs.lemmas.List.{append-nil, length-append, length_push, map-append}
 use Rattle.history_laws.specs.Prelude.{Block, bytes_in, ends_packet}
 use Rattle.receive_laws.specs.Prelude.{Kept, Looks, Packet, Receive, Stage, Takes, Told, ended_of, kept_of, left_of}
-use Rattle.receive_laws.specs.Prelude.{records_of, took}
+use Rattle.receive_laws.specs.Prelude.{next_stage, no_packet, records_of, took}
 use Rattle.pmd_rx.proofs.PmdSeam.Copying.{bytes-more}
-use Rattle.pmd_rx.specs.Receive.{if_any, joined, next_stage, no_packet}
-use Rattle.pmd_rx.specs.PmdSeam.Bufs.{bytes_of}
+use Rattle.pmd_rx.specs.{PmdSeam.Bufs.bytes_of, Receive.if_any, Receive.joined}
 use Rattle.receive_laws.specs.Joint.{AreCut, AreOpen, AreSeen, EndLast, InOrder, IsAt, IsOpen, Saw, packets_had}
 use Rattle.receive_laws.specs.Pieces.{Piece, open_after, packet_told, packets_behind, packets_of, piece_at}
 use Rattle.receive_laws.specs.Joint.{still_held}

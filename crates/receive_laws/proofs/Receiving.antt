@@ -3,26 +3,25 @@ use Rattle.std.proofs.Common.{[], ◌*◌, ◌++◌, ◌+◌, ◌<◌, ◌^◌, 
 use Rattle.std.proofs.Common.{append_assoc, arith, false, inl, inr, length, refl, subst, sym, take, true, ℕ}
 use Rattle.std.proofs.lemmas.Bool.{and_from, both_ways, cases_lt, eq-eqb, not_from_false}
 use Rattle.std.proofs.lemmas.List.{get_or_append_left, get_or_push, length-take-le, length_push}
-use Rattle.history_laws.specs.Prelude.{AreApart, Filled, IsSound, IsWhole, Memory, ReceiveQueue, Ring, RingFault, Rx}
-use Rattle.history_laws.specs.Prelude.{State, buffer_size_of, bytes_in, ends_packet, first_half, has_block, is_done}
-use Rattle.history_laws.specs.Prelude.{is_empty, is_lent, mode_in, read_at, receive_queue_of, ring_of, second_half}
+use Rattle.history_laws.specs.Prelude.{AreApart, Filled, IsSound, IsWhole, Memory, ReceiveQueue, Rest, Ring, RingFault}
+use Rattle.history_laws.specs.Prelude.{Rx, State, buffer_size_of, bytes_in, ends_packet, first_half, has_block, is_done}
+use Rattle.history_laws.specs.Prelude.{is_empty, is_lent, is_outside, mode_in, moved_on, read_at, receive_queue_of}
+use Rattle.history_laws.specs.Prelude.{ring_of, second_half}
 use Rattle.receive_laws.specs.Prelude.{Layout, Lent, Receive, Stage, block_at, descriptor_at, is_ring_block, reach}
-use Rattle.receive_laws.specs.Prelude.{slot_at, vacant}
+use Rattle.receive_laws.specs.Prelude.{slot_at, vacant, wrapped}
 use Rattle.nic_device.proofs.RxRing.Fills.{driver_reads, fill_keeps_blocks, takes_piece, writes_inside_slot}
+use Rattle.nic_device.specs.RxRing.Fill.{Outcome, buffer_address, fill_of, head_address}
 use Rattle.nic_device.proofs.{DmaArena.Blocks.is_lent_in, RxRing.Tests.fill_healthy}
-use Rattle.nic_device.specs.DmaRing.Ring.{is_outside, next_of, slots_of}
-use Rattle.nic_device.specs.RxRing.Fill.{Outcome, Rest, buffer_address, fill_of, head_address}
-use Rattle.nic_device.specs.{DmaArena.Memory.SameLent, RxRing.Laws.IsHealthy, RxRing.Laws.TakesPiece}
+use Rattle.nic_device.specs.{DmaArena.Memory.SameLent, DmaRing.Ring.next_of, DmaRing.Ring.slots_of}
+use Rattle.nic_device.specs.{RxRing.Laws.IsHealthy, RxRing.Laws.TakesPiece}
 use Rattle.pmd_rx.proofs.PmdSeam.Places.{next_wrapped, wrapped_apart}
-use Rattle.pmd_rx.specs.PmdSeam.Slots.{wrapped}
 use Rattle.history_laws.specs.{Left.fill_on, Segments.piece_in}
-use Rattle.history_laws.specs.DeviceLaws.Replies.{moved_on}
 use Rattle.receive_laws.proofs.Kept.{IsFilled-kept, IsLoose-kept, IsPosted-kept, address_small, buffer_and_slot}
 use Rattle.receive_laws.proofs.Kept.{buffer_even, buffers_apart, inside_of, less_apart, named_kept, posted_below}
+use Rattle.receive_laws.specs.Joint.{HasSlots, Holds, IsFilled, IsPosted, IsRing, IsSetUp, StageHolds}
 use Rattle.receive_laws.proofs.{Kept.posted_in, Kept.ring_low, Kept.slot_and_buffer, Kept.slot_below, Kept.slot_low}
 use Rattle.receive_laws.proofs.{Kept.slots_apart, Leaving.descriptor_lent, Parts.seen_longer}
-use Rattle.receive_laws.specs.Joint.{HasSlots, Holds, IsFilled, IsPosted, IsRing, IsSetUp, StageHolds}
-use Rattle.receive_laws.specs.{Pieces.Piece, Pieces.no_piece, Pieces.piece_at}
+use Rattle.receive_laws.specs.Pieces.{Piece, no_piece, piece_at}
 
 -- What filling a slot does to memory: the slot gets a piece, and the others stay.
 

@@ -2,9 +2,8 @@
 use Rattle.std.specs.Prelude.{[], if◌then◌else◌, ◌*◌, ◌++◌, ◌==◌, ◌∷◌, ◌≡◌, ◌≤◌, All, IsFalse, IsTrue, List, length, ℕ}
 use Rattle.std.specs.Prelude.{⊤}
 use Rattle.history_laws.specs.Prelude.{Block, Event, IsSound, Place, Register, Rx, State, Waiting, WritesNoSetting}
-use Rattle.history_laws.specs.Prelude.{after, frame_limit, has_queue, is_on, mode_in, named, row_of}
+use Rattle.history_laws.specs.Prelude.{after, asks_pool_reset, frame_limit, has_queue, is_on, mode_in, named, row_of}
 use Rattle.receive_laws.specs.Prelude.{Receive}
-use Rattle.nic_device.specs.RegisterFile.Access.{asks_pool_reset}
 use Rattle.receive_laws.specs.Pieces.{AllFit, Piece, open_after, pieces}
 use Rattle.receive_laws.specs.{Joint.Agree, Up.IsUp}
 use Rattle.nic_device.specs.declared.event.Event.TheVariants as event

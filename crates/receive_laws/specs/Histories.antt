@@ -1,10 +1,9 @@
 -- What the driver hands out, over histories that leave its queue alone.
 use Rattle.std.specs.Prelude.{[], ◌++◌, ◌<◌, ◌==◌, ◌∷◌, ◌≡◌, ◌⊎◌, Bool, IsFalse, IsTrue, List, None, Some, false}
 use Rattle.std.specs.Prelude.{length, true, ℕ, ⊤}
-use Rattle.history_laws.specs.Prelude.{AreEvents, Entry, IsLegal, IsSound, State, Watched, after, calls_of, has_begun}
-use Rattle.history_laws.specs.Prelude.{is_done, leads_to, lent_by, reply_to, second_half}
+use Rattle.history_laws.specs.Prelude.{AreEvents, Bytes, Entry, IsLegal, IsSound, State, Watched, after, calls_of}
+use Rattle.history_laws.specs.Prelude.{has_begun, is_done, leads_to, lent_by, reply_to, second_half}
 use Rattle.receive_laws.specs.Prelude.{Looks, Receive, descriptor_at, is_step, records_of}
-use Rattle.nic_device.specs.declared.event.Reply.TheVariants.{Bytes}
 use Rattle.device_lock.specs.History.{call_in}
 use Rattle.pmd_rx.specs.Plays.{AllOwn, after_call, played_by}
 use Rattle.history_laws.specs.Alone.{LeavesAloneFrom}

@@ -1,8 +1,7 @@
 -- Where a step of receiving on the driver's own queue writes.
 use Rattle.std.specs.Prelude.{◌+◌, ◌<◌, ◌≡◌, Bool, List, length, ℕ}
 use Rattle.history_laws.specs.Prelude.{IsSound, LiesIn, State, Wrote, reply_to}
-use Rattle.receive_laws.specs.Prelude.{Layout, Receive, block_at}
-use Rattle.pmd_rx.specs.PmdSeam.Slots.{blocks_for}
+use Rattle.receive_laws.specs.Prelude.{Layout, Receive, block_at, blocks_for}
 use Rattle.receive_laws.specs.{Joint.Agree, Pieces.Piece}
 use Rattle.nic_device.specs.declared.event.Event.TheVariants as event
 

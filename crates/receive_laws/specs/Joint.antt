@@ -1,16 +1,14 @@
 -- What the device and a driver agree on, between two events, of the receive side of the driver's queue.
 use Rattle.std.specs.Prelude.{[], ◌*◌, ◌++◌, ◌+◌, ◌<◌, ◌∷◌, ◌≡◌, ◌≢◌, ◌≤◌, IsFalse, IsTrue, List, false, length, true}
 use Rattle.std.specs.Prelude.{ℕ, ⊤}
-use Rattle.history_laws.specs.Prelude.{Memory, ReceiveQueue, Register, State, buffer_size_of, bytes_in, ends_packet}
-use Rattle.history_laws.specs.Prelude.{first_half, has_block, is_done, named, place, read_at, receive_queue_of}
-use Rattle.history_laws.specs.Prelude.{second_half}
+use Rattle.history_laws.specs.Prelude.{Memory, Rdt, ReceiveQueue, Register, State, buffer_size_of, bytes_in}
+use Rattle.history_laws.specs.Prelude.{descriptor_type_of, ends_packet, first_half, has_block, is_done, named, place}
+use Rattle.history_laws.specs.Prelude.{read_at, receive_queue_of, second_half}
 use Rattle.receive_laws.specs.Prelude.{EachRingBlock, Kept, Layout, Lent, Looks, Packet, Receive, Stage, Takes, Told}
-use Rattle.receive_laws.specs.Prelude.{block_at, descriptor_at, ended_of, is_ring_block, kept_of, left_of, reach}
-use Rattle.receive_laws.specs.Prelude.{records_of, slot_at, vacant}
-use Rattle.nic_device.specs.RegTable.declared.rows.RowId.TheVariants.{Rdt}
-use Rattle.nic_device.specs.RxRing.Control.{descriptor_type_of}
+use Rattle.receive_laws.specs.Prelude.{block_at, blocks_for, descriptor_at, ended_of, is_ring_block, kept_of, left_of}
+use Rattle.receive_laws.specs.Prelude.{no_packet, reach, records_of, slot_at, vacant}
 use Rattle.pmd_rx.specs.declared.ring.Stage.TheVariants.{Owes}
-use Rattle.pmd_rx.specs.{PmdSeam.Bufs.bytes_of, PmdSeam.Slots.blocks_for, Receive.no_packet}
+use Rattle.pmd_rx.specs.PmdSeam.Bufs.{bytes_of}
 use Rattle.receive_laws.specs.Pieces.{Piece, open_after, packets_behind, packets_of, piece_at}
 
 -- a descriptor that waits: it names its block, and isn't done

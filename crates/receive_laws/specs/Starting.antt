@@ -1,9 +1,9 @@
 -- What a start of the driver leaves, as the receive side of its queue goes on.
 use Rattle.std.specs.Prelude.{[], ◌*◌, ◌+◌, ◌<◌, ◌≡◌, ◌≤◌, IsTrue, ℕ}
-use Rattle.history_laws.specs.Prelude.{Port, ReceiveQueue, State, buffer_size_of, has_block, receive_queue_of}
-use Rattle.receive_laws.specs.Prelude.{EachRingBlock}
-use Rattle.nic_device.specs.RxRing.Control.{descriptor_type_of}
-use Rattle.pmd_rx.specs.{PmdSeam.Slots.blocks_for, Receive.at_start}
+use Rattle.history_laws.specs.Prelude.{Port, ReceiveQueue, State, buffer_size_of, descriptor_type_of, has_block}
+use Rattle.history_laws.specs.Prelude.{receive_queue_of}
+use Rattle.receive_laws.specs.Prelude.{EachRingBlock, blocks_for}
+use Rattle.pmd_rx.specs.Receive.{at_start}
 use Rattle.receive_laws.specs.Joint.{Agree, IsNamed}
 
 -- the side has a ring of so many slots from a block's start on, of which none is posted, and one buffer of 2,048 bytes

@@ -1,13 +1,12 @@
 -- What single events do to what the device and a driver agree on.
 pub use Rattle.history_laws.specs.Left.{IsOutside}
 use Rattle.std.specs.Prelude.{◌++◌, ◌/◌, ◌<◌, ◌↔◌, ◌≡◌, ◌≢◌, IsTrue, List, Some, length, ℕ, ⊤}
-use Rattle.history_laws.specs.Prelude.{Block, Blocks, Entry, EntryLeavesAlone, Event, IsEvent, IsSound, LeavesBlock}
-use Rattle.history_laws.specs.Prelude.{LeavesReceive, Mode, Reply, Rx, State, Watched, Wrote, after, bytes_in}
-use Rattle.history_laws.specs.Prelude.{ends_packet, first_half, is_done, mode_in, receive_queue_of, reply_to}
+use Rattle.history_laws.specs.Prelude.{Block, Blocks, Bytes, Entry, EntryLeavesAlone, Event, IsEvent, IsSound}
+use Rattle.history_laws.specs.Prelude.{LeavesBlock, LeavesReceive, Mode, Reply, Rx, State, Watched, Wrote, after}
+use Rattle.history_laws.specs.Prelude.{bytes_in, ends_packet, first_half, is_done, mode_in, receive_queue_of, reply_to}
 use Rattle.history_laws.specs.Prelude.{second_half, told_back}
 use Rattle.receive_laws.specs.Prelude.{EachRingBlock, IsOwn, Lent, Receive, Stage, block_at, descriptor_at, drive}
 use Rattle.receive_laws.specs.Prelude.{is_step, reach}
-use Rattle.nic_device.specs.declared.event.Reply.TheVariants.{Bytes}
 use Rattle.receive_laws.specs.{Joint.Agree, Joint.Holds, Pieces.Piece, Pieces.piece_at, Pieces.pieces}
 use Rattle.nic_device.specs.declared.event.Event.TheVariants as event
 

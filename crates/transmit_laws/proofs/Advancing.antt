@@ -3,27 +3,23 @@ use Rattle.std.proofs.Common.{[], if◌then◌else◌, ◌%◌, ◌+◌, ◌<◌
 use Rattle.std.proofs.Common.{inl, inr, length, refl, subst, suc, sym, true, ℕ}
 use Rattle.std.proofs.lemmas.Bool.{both_ways, cases_lt, eq-eqb}
 use Rattle.std.specs.Prelude.{slice_index_or}
-use Rattle.history_laws.specs.Prelude.{IsEvent, Memory, Outcome, Port, State, TransmitQueue, Tx, WritesNoSetting, after}
-use Rattle.history_laws.specs.Prelude.{gives, named_written, place, read_at, ring_of, step_of, transmit_queue_of}
-use Rattle.history_laws.specs.Prelude.{write_at}
-use Rattle.transmit_laws.specs.Prelude.{Advances, Asks, IsOwn, Looks, Segment, Sender, asking, descriptor_at, is_sent}
-use Rattle.transmit_laws.specs.Prelude.{no_segment, segment_at, slot_at}
+use Rattle.history_laws.specs.Prelude.{IsEvent, Memory, Outcome, Port, State, Tdt, TransmitQueue, Tx, WritesNoSetting}
+use Rattle.history_laws.specs.Prelude.{after, after_write, gives, named_written, place, read_at, ring_of, step_of}
+use Rattle.history_laws.specs.Prelude.{transmit_queue_of, write_at}
+use Rattle.transmit_laws.specs.Prelude.{Advances, Asks, IsOwn, Looks, Segment, Sender, asking, descriptor_at, first_end}
+use Rattle.transmit_laws.specs.Prelude.{is_sent, no_segment, segment_at, slot_at}
 use Rattle.nic_device.proofs.{Cases.poked_cases, DmaArena.Bus.small_of_lent}
-use Rattle.nic_device.specs.RegTable.declared.rows.RowId.TheVariants.{Tdt}
-use Rattle.nic_device.specs.RegisterLaws.Laws.{after_write}
-use Rattle.pmd_tx.specs.Sending.{advanced, asked, first_end, looked}
+use Rattle.pmd_tx.specs.Sending.{advanced, asked, looked}
 use Rattle.history_laws.proofs.{Leaving.plain-write, Written.transmit-tail}
 use Rattle.transmit_laws.proofs.Blocks.{IsWritten, descriptor-written, slot-below, slot-even, slot-lent}
 use Rattle.transmit_laws.proofs.Sparing.{After, Keeps, based-after, counted-on, sends_on}
-use Rattle.transmit_laws.proofs.{Fetching.asking-waits, Fetching.done-sent, Fetching.length-asking}
 use Rattle.transmit_laws.specs.Agreeing.{AgreesAt, IsBased, IsPosted, Shows}
+use Rattle.transmit_laws.proofs.Fetching.{asking-waits, done-sent, length-asking}
 use Rattle.transmit_laws.specs.Up.{IsUp}
 use Rattle.nic_device.specs.declared.event.Event.TheVariants as event
 use Rattle.nic_device.specs.declared.event.Reply.TheVariants as reply
 
 -- The driver's writes of the tail keep what it and the device agree on.
-
--- the first end of a packet is one
 
 abbrev IsLast : List Segment → ℕ → Type 0
 IsLast ss k = (slice_index_or ss k no_segment).part.last ≡ true

@@ -1,20 +1,18 @@
 -- The ring of a driver that sends: its slots, its blocks, and what stays where memory does.
 use Rattle.std.proofs.Common.{◌%◌, ◌*◌, ◌+◌, ◌/◌, ◌<◌, ◌∙◌, ◌≡◌, ◌≢◌, ◌≤◌, ap, arith, false, inl, inr, length, refl}
 use Rattle.std.proofs.lemmas.Bool.{both_ways, cases_lt, eq-eqb, or_left, or_right}
-use Rattle.std.proofs.{Common.subst, Common.take, Common.true, Common.ℕ, lemmas.List.get_or-take}
-use Rattle.std.proofs.{lemmas.List.length-take-le}
 use Rattle.std.specs.Prelude.{[], ◌==◌, ◌∷◌, IsTrue, List, is_some, slice_index_or, suc, zero}
-use Rattle.std.specs.List.{list_any}
+use Rattle.std.{proofs.Common.subst, proofs.Common.take, proofs.Common.true, proofs.Common.ℕ}
+use Rattle.std.{proofs.lemmas.List.get_or-take, proofs.lemmas.List.length-take-le, specs.List.list_any}
 use Rattle.history_laws.specs.Prelude.{AreApart, IsWhole, LiesIn, Memory, has_block, is_lent, read_at, write_at}
-use Rattle.transmit_laws.specs.Prelude.{Segment, Sender, descriptor_at, has_lent, is_ring_block, no_segment, segment_at}
-use Rattle.transmit_laws.specs.Prelude.{slot_at}
+use Rattle.transmit_laws.specs.Prelude.{EachRingBlock, Layout, Segment, Sender, descriptor_at, has_lent, is_ring_block}
+use Rattle.transmit_laws.specs.Prelude.{no_segment, segment_at, slot_at}
 use Rattle.nic_device.proofs.DmaArena.Bus.{SameLent-write_at, read_at-write_at_apart, read_at-write_at_same}
 use Rattle.nic_device.proofs.{DmaArena.Blocks.is_lent_in, DmaArena.Inside.reads_its_block}
 use Rattle.nic_device.specs.DmaRing.Ring.{next_of}
 use Rattle.pmd_tx.proofs.PmdSeam.Places.{next_below, next_wrapped, wrapped_apart, wrapped_below, wrapped_next}
 use Rattle.pmd_tx.proofs.PmdSeam.Rings.{ring_block_apart, ring_block_is, slot_block, slot_lies}
-use Rattle.pmd_tx.specs.PmdSeam.Slots.{EachRingBlock, blocks_for, descriptor_in}
-use Rattle.pmd_tx.specs.{Sending.Layout, Sending.blocks_of}
+use Rattle.pmd_tx.specs.{PmdSeam.Slots.blocks_for, PmdSeam.Slots.descriptor_in, Sending.blocks_of}
 use Rattle.transmit_laws.specs.Agreeing.{IsCounted, IsLayout, IsReady, Shows}
 use Rattle.std.specs.FinMap as map
 
@@ -46,8 +44,6 @@ module _ (l : Layout) (is : IsLayout l) where
   later-layout = record { some = is.some; few = is.few; next = next_below l.size l.next is.next; limit = is.limit }
 
 -- The blocks of a driver that sends, and where its descriptors and segments are in them.
-
--- which blocks are lent
 
 any_at : (ss : List Segment) (k : ℕ) → k < length ss
     → list_any (λ b. (slice_index_or ss k no_segment).block == b) (blocks_of ss) ≡ true
@@ -197,6 +193,7 @@ descriptor-written m whole v l has k below bytes size =
         whole = ready.whole;
         lent = lent x.block ready.lent;
         apart = ready.apart;
-        bytes = reads (2048 * x.block) (length x.part.bytes) (segment-apart v l m x k ready (omega arith)) ∙ ready.bytes;
+        bytes =
+            reads (2048 * x.block) (length x.part.bytes) (segment-apart v l m x k ready (omega arith)) ∙ ready.bytes;
       };
     }

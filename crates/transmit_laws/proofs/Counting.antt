@@ -2,8 +2,7 @@
 use Rattle.std.proofs.Common.{[], if◌then◌else◌, ◌++◌, ◌+◌, ◌==◌, ◌∙◌, ◌∷◌, ◌≡◌, ◌≤◌, Bool, List, None, Some, ap}
 use Rattle.std.proofs.Common.{append_assoc, arith, false, length, length-append, map, refl, sym, true, ℕ}
 use Rattle.std.proofs.lemmas.List.{append-nil, drop_at, map-append}
-use Rattle.std.proofs.lemmas.Bool.{eqb-true}
-use Rattle.std.specs.List.{flat_map}
+use Rattle.std.{proofs.lemmas.Bool.eqb-true, specs.List.flat_map}
 use Rattle.history_laws.specs.Prelude.{Block, Entry, Event, IsEvent, IsSound, Reply, Sent, State, after, leads_to}
 use Rattle.history_laws.specs.Prelude.{reply_to}
 use Rattle.nic_device.proofs.{Answering.step_suits, Cases.either_way, Steps.keeps_sound}
@@ -111,8 +110,6 @@ pub sent_is_counted : SentIsCounted
 sent_is_counted = record { never = never; last = last; joined = joined; end = end; few = few }
 
 -- The frames that a history sends are those that its replies tell.
-
--- a step of transmitting
 
 one_told : (b : Bool) (frame : List ℕ) (len : ℕ) → length frame ≡ len
     → map length (if b then frame ∷ [] else []) ≡ (if b then len ∷ [] else [])

@@ -2,9 +2,9 @@
 use Rattle.std.proofs.Common.{[], ◌∷◌, ◌≡◌, None, Some, arith, refl, replicate, ℕ}
 use Rattle.std.proofs.lemmas.List.{length-replicate}
 use Rattle.history_laws.specs.Prelude.{Entry, Pf}
-use Rattle.transmit_laws.specs.Prelude.{Accepts, Advances, IsOwn, Looks, Move, Outgoing, Reaps, Sender}
+use Rattle.transmit_laws.specs.Prelude.{Accepts, Advances, IsOwn, Looks, Move, Outgoing, Reaps, Sender, accepted_by}
 use Rattle.device_lock.specs.History.{entry_of}
-use Rattle.pmd_tx.specs.Sending.{accepted_by, advanced, asked, at_start}
+use Rattle.pmd_tx.specs.Sending.{advanced, asked, at_start}
 use Rattle.transmit_laws.specs.{Sent.frames_added, Turns.Turn, Turns.turns_of}
 use Rattle.nic_device.specs.declared.event.Event.TheVariants as event
 use Rattle.nic_device.specs.declared.event.Reply.TheVariants as reply

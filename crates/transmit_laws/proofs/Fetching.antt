@@ -4,27 +4,25 @@ use Rattle.std.proofs.Common.{None, Ok, Some, ap, arith, drop, false, inl, inr, 
 use Rattle.std.proofs.lemmas.Bool.{and_cases, both_ways, cases_Bool, cases_eq, cases_lt, eqb-false, lt-ltb, or_right}
 use Rattle.std.proofs.{Math.Nat.mod-eq_of_lt, lemmas.List.append-nil, lemmas.List.length-append}
 use Rattle.std.specs.Prelude.{◌==◌, IsTrue}
-use Rattle.history_laws.specs.Prelude.{Fetched, Memory, Ring, State, TransmitQueue, first_half, has_block, is_empty}
-use Rattle.history_laws.specs.Prelude.{is_lent, read_at, second_half, transmit_queue_of, write_at}
+use Rattle.history_laws.specs.Prelude.{Fetched, Memory, Ring, State, TransmitQueue, done_descriptor, first_half}
+use Rattle.history_laws.specs.Prelude.{has_block, is_empty, is_lent, is_outside, read_at, second_half, sending_of}
+use Rattle.history_laws.specs.Prelude.{transmit_queue_of, write_at}
 use Rattle.transmit_laws.specs.Prelude.{Segment, Sender, asking, descriptor_at, is_sent, segment_at, slot_at}
+use Rattle.nic_device.specs.DmaRing.Driver.{IsDataWord, data_command, data_word}
+use Rattle.nic_device.specs.TxRing.Fetch.{CanSend, Outcome, buffer_bytes, buffer_in, command_in, data_outcome}
 use Rattle.nic_device.proofs.{DmaArena.Blocks.is_lent_in, DmaArena.Bus.small_of_lent, DmaRing.Agreement.data_is_asked}
 use Rattle.nic_device.proofs.{DmaRing.Fields.halves_come_back, TxRing.Reports.done_changes_done_alone}
 use Rattle.nic_device.proofs.{TxRing.Tests.tests_in_order}
-use Rattle.nic_device.specs.DmaRing.Driver.{IsDataWord, data_command, data_word}
-use Rattle.nic_device.specs.TxRing.Fetch.{CanSend, Outcome, buffer_bytes, buffer_in, command_in, data_outcome}
-use Rattle.nic_device.specs.TxRing.Report.{done_descriptor, head_address, new_head}
-use Rattle.nic_device.specs.{DmaRing.Ring.is_outside, DmaRing.Ring.slots_of, DmaRing.Transmit.with_done}
-use Rattle.nic_device.specs.{DmaRing.declared.transmit.Command.Command, Transmit.sending_of, TxRing.Fetch.descriptor_of}
+use Rattle.nic_device.specs.{DmaRing.Ring.slots_of, DmaRing.Transmit.with_done}
+use Rattle.nic_device.specs.{DmaRing.declared.transmit.Command.Command, TxRing.Fetch.descriptor_of}
 use Rattle.nic_device.specs.{TxRing.Fetch.fetch_of, TxRing.Frame.frame_of, TxRing.Laws.HasData, TxRing.Laws.command_at}
-use Rattle.nic_device.specs.{TxRing.declared.tx.Tx.Tx}
+use Rattle.nic_device.specs.{TxRing.Report.head_address, TxRing.Report.new_head, TxRing.declared.tx.Tx.Tx}
 use Rattle.pmd_tx.proofs.PmdSeam.Rings.{each_first}
 use Rattle.transmit_laws.proofs.Blocks.{IsWritten, descriptor-written, slot-below, slot-lent}
 use Rattle.transmit_laws.specs.Agreeing.{AgreesAt, ArePackets, IsDone, IsPosted, Shows, staged_behind}
 
 -- A posted slot that is fetched: its segment is staged, and at the end of a packet that goes out, and the descriptor is
 -- done.
-
--- what a segment's descriptor asks for
 
 abbrev word_of : Segment → ℕ
 word_of x = data_word (length x.part.bytes) x.part.last x.part.whole

@@ -5,9 +5,10 @@ use Rattle.std.proofs.lemmas.Bool.{eqb-true, or_cases, or_from, or_left, or_righ
 use Rattle.std.proofs.lemmas.List.{get_or-append-add, length-append, take-append-le}
 use Rattle.std.specs.{List.list_any, Prelude.◌==◌, Prelude.IsTrue, Prelude.slice_index_or}
 use Rattle.history_laws.specs.Prelude.{Block, Blocks, Event, Memory, Reply, State, after, has_block, reply_to}
-use Rattle.transmit_laws.specs.Prelude.{Accepts, Advances, Asks, Elsewhere, IsOwn, Kept, Looks, Move, Outgoing, Reaps}
-use Rattle.transmit_laws.specs.Prelude.{Segment, Sender, has_lent, is_ring_block, moved, no_segment, segment_at}
-use Rattle.pmd_tx.specs.Sending.{Lends, MayAccept, MayLend, accepted_by, blocks_of, lent_more, reaped, segments_of}
+use Rattle.transmit_laws.specs.Prelude.{Accepts, Advances, Asks, Elsewhere, IsOwn, Kept, Lends, Looks, MayAccept, Move}
+use Rattle.transmit_laws.specs.Prelude.{Outgoing, Reaps, Segment, Sender, accepted_by, has_lent, is_ring_block, moved}
+use Rattle.transmit_laws.specs.Prelude.{no_segment, segment_at, segments_of}
+use Rattle.pmd_tx.specs.Sending.{MayLend, blocks_of, lent_more, reaped}
 use Rattle.history_laws.proofs.Lent.{KeepsTaken, lend_known, only_lent_stays, or_swap, still_known, take_known}
 use Rattle.history_laws.specs.Lent.{LendsNone, LendsOwn, OnlyLent, either}
 use Rattle.transmit_laws.proofs.Packets.{length-segments, some-parts}

@@ -1,16 +1,15 @@
 -- The enable register of the driver's transmit side, and a side that is off.
 use Rattle.std.proofs.Common.{[], ◌<◌, ◌∙◌, ◌∷◌, ◌≡◌, List, ap, arith, drop, false, inl, inr, length, refl, ℕ}
 use Rattle.std.proofs.{lemmas.Bool.cases_Bool, lemmas.List.length-drop}
-use Rattle.history_laws.specs.Prelude.{Block, Entry, Event, Memory, State, Tx, after, has_bit, leads_to, place}
+use Rattle.history_laws.specs.Prelude.{Block, Entry, Event, Memory, State, Tx, Txdctl, after, has_bit, leads_to, place}
 use Rattle.history_laws.specs.Prelude.{transmit_queue_of}
 use Rattle.transmit_laws.specs.Prelude.{side_of}
-use Rattle.nic_device.specs.RegTable.declared.rows.RowId.TheVariants.{Txdctl}
 use Rattle.history_laws.proofs.Steady.{asked, idle_silent, off_idle, off_steady, seen_off, steady_kept, unwanted_steady}
 use Rattle.history_laws.proofs.{Deeds.side_did, Leaving.plain-write, Leaving.transmit_left}
 use Rattle.history_laws.proofs.DeviceLaws.StandingAccesses.{write_memory}
 use Rattle.history_laws.specs.{Left.Deed, Sides.Side}
-use Rattle.transmit_laws.proofs.Sparing.{sends_on, set_up-same, still-agrees}
 use Rattle.transmit_laws.specs.Off.{AllLeaveSide, GuardIsOff, IsOff, IsUnwanted, LeavesSide, OffStays}
+use Rattle.transmit_laws.proofs.Sparing.{sends_on, set_up-same, still-agrees}
 use Rattle.transmit_laws.specs.{Agreeing.SendsInOrder, Enable.EnableWordsKeep, Sent.sent_by, Sent.sent_in}
 use Rattle.std.specs.FinMap as map
 use Rattle.nic_device.specs.declared.event.Event.TheVariants as event

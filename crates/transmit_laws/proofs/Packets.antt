@@ -5,20 +5,18 @@ use Rattle.std.proofs.lemmas.List.{drop-append-le, get_or_append_left, length-ap
 use Rattle.std.proofs.{lemmas.Bool.cases_Bool, lemmas.Bool.cases_lt, lemmas.List.take-append-drop}
 use Rattle.std.specs.Prelude.{is_some, slice_index_or}
 use Rattle.history_laws.specs.Prelude.{Block, Memory, State, TransmitQueue, staged_by, transmit_queue_of}
-use Rattle.transmit_laws.specs.Prelude.{Kept, Outgoing, Segment, Sender, is_ring_block, no_segment, segment_at}
+use Rattle.transmit_laws.specs.Prelude.{Kept, MayAccept, Outgoing, Segment, Sender, accepted_by, is_ring_block}
+use Rattle.transmit_laws.specs.Prelude.{no_segment, segment_at, segments_of}
 use Rattle.nic_device.proofs.{DmaArena.Blocks.read_at_in, DmaArena.Bus.get-insert_other, DmaArena.Bus.get-insert_same}
 use Rattle.nic_device.specs.DmaArena.Memory.{part}
+use Rattle.pmd_tx.specs.Sending.{MayLend, Part, paired, parts_for, parts_in, parts_of}
 use Rattle.pmd_tx.proofs.PmdSeam.Rings.{ring_block_none}
-use Rattle.pmd_tx.specs.Sending.{MayAccept, MayLend, Part, accepted_by, paired, parts_for, parts_in, parts_of}
-use Rattle.pmd_tx.specs.Sending.{segments_of}
 use Rattle.transmit_laws.proofs.Blocks.{has_lent-ring, has_lent-segment, shows-same, unlike}
 use Rattle.transmit_laws.specs.Agreeing.{ArePackets, IsCounted, IsCutOff, IsInTurn, IsLayout, IsReady, SendsInOrder}
 use Rattle.transmit_laws.specs.Agreeing.{Shows, bytes_of, frame_ended, frames_from, staged_behind}
 use Rattle.std.specs.FinMap as fin
 
 -- Segments of whole packets, behind what is staged, and the frames that they become.
-
--- how many segments a packet has
 
 length-parts : (whole n : ℕ) (bytes : List ℕ) → length (parts_in whole n bytes) ≡ n
 length-parts whole zero bytes = refl
@@ -189,23 +187,25 @@ module _ (m : Memory) (v : Sender) (f : ℕ) (l : IsLayout v.layout) (c : IsCoun
           ∙ may.bytes;
     }
 
-    ready_now : (k : ℕ) → k < v.lent + 1 → IsReady lent v.layout.ring v.layout.size (segment_at w k)
-    ready_now k below = elim (cases_lt k v.lent) [
-      | inl lt ↦ rw (early k lt) (stays.ready k lt)
-      | inr le ↦ let e : k ≡ v.lent = omega arith in rw (e, next) ready
+    -- each of them is one that was lent, or the new one
+    each_now : (k : ℕ) (P : Segment → Type 0) → k < v.lent + 1 → (k < v.lent → P (segment_at v k)) → (k ≡ v.lent → P x)
+        → P (segment_at w k)
+    each_now k P below was now = elim (cases_lt k v.lent) [
+      | inl lt ↦ subst P (sym (early k lt)) (was lt)
+      | inr le ↦
+          let e : k ≡ v.lent = omega arith in
+          subst P (sym (ap (λ (i : ℕ). slice_index_or ss i no_segment) e ∙ next)) (now e)
     ]
 
+    ready_now : (k : ℕ) → k < v.lent + 1 → IsReady lent v.layout.ring v.layout.size (segment_at w k)
+    ready_now k below =
+        each_now k (IsReady lent v.layout.ring v.layout.size) below (λ lt. stays.ready k lt) (λ e. ready)
+
     apart_now : (i j : ℕ) → i < v.lent + 1 → j < v.lent + 1 → i ≢ j → (segment_at w i).block ≢ (segment_at w j).block
-    apart_now i j a b ne = elim (cases_lt i v.lent) [
-      | inl lt ↦ elim (cases_lt j v.lent) [
-        | inl lu ↦ rw (early i lt, early j lu) (c.apart i j lt lu ne)
-        | inr le ↦ let e : j ≡ v.lent = omega arith in rw (early i lt, e, next) (new i lt)
-      ]
-      | inr le ↦
-          let e : i ≡ v.lent = omega arith in
-          let lu : j < v.lent = omega arith in
-          rw (e, next, early j lu) (λ y. new j lu (sym y))
-    ]
+    apart_now i j a b ne =
+        each_now i (λ y. y.block ≢ (segment_at w j).block) a
+        (λ lt. each_now j (λ z. (segment_at v i).block ≢ z.block) b (λ lu. c.apart i j lt lu ne) (λ e. new i lt))
+        (λ e. each_now j (λ z. x.block ≢ z.block) b (λ lu y. new j lu (sym y)) (λ d. absurd (ne (e ∙ sym d))))
 
     pub counted-lent : length ss < v.layout.size → v.lent < length ss → IsCounted w f
     counted-lent room known = record {

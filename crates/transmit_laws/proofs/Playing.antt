@@ -3,23 +3,21 @@ use Rattle.std.proofs.Common.{[], ◌%◌, ◌++◌, ◌+◌, ◌-◌, ◌<◌, 
 use Rattle.std.proofs.lemmas.List.{append-nil, drop-drop, get_or-drop, length-drop}
 use Rattle.std.proofs.{Common.subst, Common.sym, Common.true, Common.ℕ, lemmas.Bool.eq-eqb}
 use Rattle.std.specs.Prelude.{is_some, slice_index_or}
-use Rattle.history_laws.specs.Prelude.{Block, Event, IsEvent, Memory, Outcome, State, TransmitQueue, Tx, after, read_at}
-use Rattle.history_laws.specs.Prelude.{reply_to, step_of, transmit_queue_of}
-use Rattle.transmit_laws.specs.Prelude.{Accepts, Advances, Asks, Elsewhere, IsOwn, Looks, Move, Outgoing, Reaps}
-use Rattle.transmit_laws.specs.Prelude.{Segment, Sender, asking, descriptor_at, moved, no_segment, segment_at, slot_at}
+use Rattle.history_laws.specs.Prelude.{Block, Event, IsEvent, LeavesQueues, Memory, Outcome, State, TransmitQueue, Tx}
+use Rattle.history_laws.specs.Prelude.{after, read_at, reply_to, step_of, transmit_queue_of}
+use Rattle.transmit_laws.specs.Prelude.{Accepts, Advances, Asks, EachRingBlock, Elsewhere, IsOwn, Lends, Looks}
+use Rattle.transmit_laws.specs.Prelude.{MayAccept, Move, Outgoing, Reaps, Segment, Sender, asking, descriptor_at, moved}
+use Rattle.transmit_laws.specs.Prelude.{no_segment, segment_at, segments_of, slot_at}
 use Rattle.nic_device.proofs.{Cases.lent_cases, Cases.taken_cases, DmaArena.Bus.get-remove_other, DmaArena.Bus.of_some}
-use Rattle.pmd_tx.proofs.PmdSeam.Rings.{ring_block_apart}
-use Rattle.pmd_tx.specs.Sending.{Lends, MayAccept, is_healthy, reaped, segments_of}
-use Rattle.pmd_tx.specs.PmdSeam.Slots.{EachRingBlock}
+use Rattle.pmd_tx.{proofs.PmdSeam.Rings.ring_block_apart, specs.Sending.is_healthy, specs.Sending.reaped}
 use Rattle.history_laws.proofs.{Leaving.queues_left, Lent.anew_is_done, Lent.poked_is, Lent.taken_is, Steady.up_kept}
 use Rattle.history_laws.proofs.DeviceLaws.Standing.{memory_rest}
-use Rattle.history_laws.specs.DeviceLaws.Leaving.{LeavesQueues}
 use Rattle.transmit_laws.proofs.Advancing.{advance-stays-up, advance_one, ask_one, look, look_one, written_tail}
 use Rattle.transmit_laws.proofs.Blocks.{descriptor-later, later-layout, ready-same, slot-even, slot-later, slot-lent}
 use Rattle.transmit_laws.proofs.Packets.{count-accepted, counted-lent, early-accepted, known-accepted, sends-accepted}
 use Rattle.transmit_laws.proofs.Sparing.{After, Keeps, based-after, never-shuts, spared_did, spares-keeps}
-use Rattle.transmit_laws.proofs.{Blocks.slot-same, Lent.first_at, Packets.shows-lent}
 use Rattle.transmit_laws.specs.Agreeing.{Agrees, AgreesAt, IsCounted, IsLayout, IsReady, IsSetUp, SendsInOrder, Shows}
+use Rattle.transmit_laws.proofs.{Blocks.slot-same, Lent.first_at, Packets.shows-lent}
 use Rattle.transmit_laws.specs.{Healthy.LendsAnew, Healthy.OwnRepliesAreHealthy, Laws.MovesKeep, Sent.sent_by}
 use Rattle.transmit_laws.specs.{Turns.MayMove, Up.IsUp, Up.UpStays}
 use Rattle.std.specs.FinMap as fin

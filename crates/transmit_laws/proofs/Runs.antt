@@ -6,20 +6,21 @@ use Rattle.std.proofs.lemmas.List.{append-nil, drop_all, get_or-drop, length-app
 use Rattle.std.specs.Prelude.{◌==◌, IsTrue, slice_index_or}
 use Rattle.history_laws.specs.Prelude.{Block, Blocks, Entry, Event, IsLegal, LeavesBlock, Reply, Rx, State, Tx, Watched}
 use Rattle.history_laws.specs.Prelude.{WritesOutside, Wrote, after, calls_of, leads_to, read_at, reply_to, staged_by}
-use Rattle.transmit_laws.specs.Prelude.{Accepts, Advances, Asks, Elsewhere, Kept, Looks, Move, Reaps, Segment, Sender}
-use Rattle.transmit_laws.specs.Prelude.{descriptor_at, has_lent, is_sent, moved, no_segment, segment_at}
-use Rattle.pmd_tx.specs.{Plays.played_by, Sending.Lends, Sending.first_end}
+use Rattle.transmit_laws.specs.Prelude.{Accepts, Advances, Asks, Elsewhere, Kept, Lends, Looks, Move, Reaps, Segment}
+use Rattle.transmit_laws.specs.Prelude.{Sender, descriptor_at, first_end, has_lent, is_sent, moved, no_segment}
+use Rattle.transmit_laws.specs.Prelude.{segment_at}
+use Rattle.pmd_tx.specs.Plays.{played_by}
 use Rattle.history_laws.proofs.Leaving.{left-setting, left-side, left_transmit, step_is}
 use Rattle.history_laws.proofs.{Blocks.clear_avoids, Blocks.left-block, Deeds.received-none, Deeds.silent_else}
 use Rattle.history_laws.proofs.DeviceLaws.{Standing.stays_within, StandingQueues.receiving_blocks}
 use Rattle.history_laws.specs.Left.{is_step_of}
 use Rattle.history_laws.specs.DeviceLaws.Leaving.{ReceivesOutside}
-use Rattle.transmit_laws.proofs.{Advancing.end-last, Advancing.look-fetched, Advancing.look-tells, Lent.AreMine}
-use Rattle.transmit_laws.proofs.{Lent.mine-moved, Packets.frame_of_end, Playing.move-keeps, Sparing.spares-keeps}
 use Rattle.transmit_laws.specs.Agreeing.{Agrees, AgreesAt, SendsInOrder, bytes_of, frames_from}
 use Rattle.transmit_laws.specs.Alone.{IsAlone, MayComeAlone, MayMoveAlone, MayRunAlone}
 use Rattle.transmit_laws.specs.Laws.{AloneMayRun, FindsWaiting, IdleIsAllSent, IsPrefixOf, LeftAloneIsSpared}
 use Rattle.transmit_laws.specs.Turns.{MayCome, MayMove, MayRun, Turn, entries_of, known, sender_after, turns_of}
+use Rattle.transmit_laws.proofs.{Advancing.end-last, Advancing.look-fetched, Advancing.look-tells, Lent.AreMine}
+use Rattle.transmit_laws.proofs.{Lent.mine-moved, Packets.frame_of_end, Playing.move-keeps, Sparing.spares-keeps}
 use Rattle.transmit_laws.specs.{Laws.SentIsPrefix, Laws.SentIsPrefixOfTaken, Laws.SentIsPrefixWhereAlone}
 use Rattle.transmit_laws.specs.{Laws.WaitingIsNotAllSent, Sent.sent_by, Sent.sent_in, Sparing.IsLeft}
 use Rattle.transmit_laws.specs.{Sparing.ReceiveOwes, Sparing.is_transmit_of}

@@ -5,23 +5,20 @@ use Rattle.std.proofs.lemmas.Bool.{both_ways, cases_Bool, cases_lt, eq-eqb}
 use Rattle.std.proofs.lemmas.List.{append-nil, drop_more, get_or-set_same, nil_from_length}
 use Rattle.std.specs.Prelude.{if◌then◌else◌, ◌==◌, IsFalse, IsTrue}
 use Rattle.history_laws.specs.Prelude.{Block, Event, Fetched, IsEvent, LeavesBlock, Memory, Outcome, State}
-use Rattle.history_laws.specs.Prelude.{TransmitQueue, Tx, WritesNoSetting, after, staged_by, transmit_queue_of}
-use Rattle.history_laws.specs.Prelude.{write_at}
-use Rattle.transmit_laws.specs.Prelude.{Kept, Move, Segment, Sender, asking, descriptor_at, has_lent, moved, no_segment}
-use Rattle.transmit_laws.specs.Prelude.{segment_at, side_of, slot_at}
-use Rattle.nic_device.proofs.Steps.{keeps_sound}
-use Rattle.nic_device.specs.{Transmit.sending_of, Transmit.with_frame, TxRing.Fetch.Outcome as Fetch}
-use Rattle.nic_device.specs.{TxRing.Report.done_descriptor}
-use Rattle.pmd_tx.specs.Sending.{Layout}
+use Rattle.history_laws.specs.Prelude.{TransmitQueue, Tx, WritesNoSetting, after, done_descriptor, sending_of}
+use Rattle.history_laws.specs.Prelude.{staged_by, transmit_queue_of, write_at}
+use Rattle.transmit_laws.specs.Prelude.{Kept, Layout, Move, Segment, Sender, asking, descriptor_at, has_lent, moved}
+use Rattle.transmit_laws.specs.Prelude.{no_segment, segment_at, side_of, slot_at}
+use Rattle.nic_device.{proofs.Steps.keeps_sound, specs.Transmit.with_frame, specs.TxRing.Fetch.Outcome as Fetch}
 use Rattle.history_laws.proofs.{Deeds.side_did, Leaving.named-same, Leaving.transmit_left, Steady.resting_same}
 use Rattle.history_laws.proofs.DeviceLaws.{KeptSettings.settings_stand, Standing.stays_within}
 use Rattle.history_laws.specs.Left.{Deed, Nothing, Rested, Rests, SendsNone, Shut, Shuts, Switched, Takes, Took}
 use Rattle.history_laws.specs.{Left.fetch_on, Sides.IsTried, Sides.Side, Sides.as_wanted}
 use Rattle.transmit_laws.proofs.Fetching.{fetch-segment, head_is, lent, more, segment_fetched, segment_outcome}
+use Rattle.transmit_laws.specs.Agreeing.{Agrees, AgreesAt, ArePackets, IsBased, IsCounted, IsCutOff, IsInTurn, IsSetUp}
 use Rattle.transmit_laws.proofs.{Blocks.shows-same, Blocks.slot-next, Counting.added-by, Fetching.shows-fetched}
 use Rattle.transmit_laws.proofs.{Fetching.slots, Fetching.small, Fetching.to_send, Packets.frame_left}
 use Rattle.transmit_laws.proofs.{Packets.some_left}
-use Rattle.transmit_laws.specs.Agreeing.{Agrees, AgreesAt, ArePackets, IsBased, IsCounted, IsCutOff, IsInTurn, IsSetUp}
 use Rattle.transmit_laws.specs.{Agreeing.SendsInOrder, Agreeing.frame_ended, Agreeing.frames_from}
 use Rattle.transmit_laws.specs.{Agreeing.staged_behind, Laws.SparingEventsKeep, Laws.StepsOfQueueKeep}
 use Rattle.transmit_laws.specs.{Sent.frames_added, Sent.sent_by, Sparing.Spares, Sparing.is_transmit_of}
@@ -245,8 +242,8 @@ module _ (s : State) (queue : ℕ) (sent : List (List ℕ)) (v : Sender) (f : �
     frames_more (x ∷ rest) some = (x, rest, refl)
 
     -- what is staged stays
-    same_sends : staged_by t queue ≡ staged_by s queue → IsInTurn v.layout.limit (staged_by s queue) sent left v.accepted
-        → Sends t
+    same_sends : staged_by t queue ≡ staged_by s queue
+        → IsInTurn v.layout.limit (staged_by s queue) sent left v.accepted → Sends t
     same_sends same x = inl (subst (λ (l : List ℕ). IsInTurn v.layout.limit l sent left v.accepted) (sym same) x)
 
     switched_turn : side_of Tx queue t ≡ as_wanted (side_of Tx queue s)

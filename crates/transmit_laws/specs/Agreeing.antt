@@ -1,13 +1,10 @@
 -- What a device and a driver that sends on one of its queues agree on.
 use Rattle.std.specs.Prelude.{[], if◌then◌else◌, ◌*◌, ◌++◌, ◌<◌, ◌∷◌, ◌≡◌, ◌≢◌, ◌≤◌, ◌⊎◌, IsFalse, IsTrue, List, None}
 use Rattle.std.specs.Prelude.{drop, false, length, map, true, ℕ}
-use Rattle.history_laws.specs.Prelude.{IsSound, Memory, Register, State, TransmitQueue, frame_limit, has_block, named}
-use Rattle.history_laws.specs.Prelude.{place, read_at, staged_by, transmit_queue_of}
-use Rattle.transmit_laws.specs.Prelude.{Kept, Segment, Sender, asking, descriptor_at, is_ring_block, segment_at}
-use Rattle.transmit_laws.specs.Prelude.{slot_at}
-use Rattle.nic_device.specs.RegTable.declared.rows.RowId.TheVariants.{Tdt}
-use Rattle.nic_device.specs.TxRing.Report.{done_descriptor}
-use Rattle.pmd_tx.specs.{PmdSeam.Slots.EachRingBlock, Sending.Layout}
+use Rattle.history_laws.specs.Prelude.{IsSound, Memory, Register, State, Tdt, TransmitQueue, done_descriptor}
+use Rattle.history_laws.specs.Prelude.{frame_limit, has_block, named, place, read_at, staged_by, transmit_queue_of}
+use Rattle.transmit_laws.specs.Prelude.{EachRingBlock, Kept, Layout, Segment, Sender, asking, descriptor_at}
+use Rattle.transmit_laws.specs.Prelude.{is_ring_block, segment_at, slot_at}
 
 -- the bytes of packets
 abbrev pub bytes_of : List Kept → List (List ℕ)

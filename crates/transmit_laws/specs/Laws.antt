@@ -2,8 +2,8 @@
 use Rattle.std.specs.Prelude.{[], ◌++◌, ◌<◌, ◌≡◌, ◌≢◌, IsTrue, List, false, ℕ}
 use Rattle.history_laws.specs.Prelude.{Block, Blocks, Entry, Event, IsLegal, State, Watched, after, calls_of, leads_to}
 use Rattle.history_laws.specs.Prelude.{reply_to}
-use Rattle.transmit_laws.specs.Prelude.{Move, Sender, descriptor_at, has_lent, is_sent, moved}
-use Rattle.pmd_tx.specs.{Plays.played_by, Sending.first_end}
+use Rattle.transmit_laws.specs.Prelude.{Move, Sender, descriptor_at, first_end, has_lent, is_sent, moved}
+use Rattle.pmd_tx.specs.Plays.{played_by}
 use Rattle.transmit_laws.specs.Turns.{IsOver, MayMove, MayRun, Turn, entries_of, sender_after, turns_of}
 use Rattle.transmit_laws.specs.{Agreeing.Agrees, Agreeing.bytes_of, Alone.MayRunAlone, Sent.sent_by, Sent.sent_in}
 use Rattle.transmit_laws.specs.{Sparing.IsLeft, Sparing.Spares}

@@ -1,9 +1,8 @@
 -- A queue whose transmit side is off, and isn't wanted on.
 use Rattle.std.specs.Prelude.{[], ◌<◌, ◌∷◌, ◌≡◌, IsFalse, List, ℕ, ⊤}
 use Rattle.history_laws.specs.Prelude.{Block, Entry, Event, IsEvent, IsSound, LeavesTransmit, Port, Register, State, Tx}
-use Rattle.history_laws.specs.Prelude.{after, has_bit, leads_to, named, place, reply_to}
+use Rattle.history_laws.specs.Prelude.{Txdctl, after, has_bit, leads_to, named, place, reply_to}
 use Rattle.transmit_laws.specs.Prelude.{side_of}
-use Rattle.nic_device.specs.RegTable.declared.rows.RowId.TheVariants.{Txdctl}
 use Rattle.transmit_laws.specs.{Sent.sent_in, Sparing.is_switch_of, Sparing.is_transmit_of}
 use Rattle.nic_device.specs.declared.event.Event.TheVariants as event
 use Rattle.nic_device.specs.declared.event.Reply.TheVariants as reply

@@ -1,10 +1,9 @@
 -- What it is for an event to spare a driver that sends: to leave what the driver rests on as it is.
 use Rattle.std.specs.Prelude.{◌<◌, ◌≡◌, Bool, IsFalse, IsTrue, ℕ, ⊤}
-use Rattle.history_laws.specs.Prelude.{Block, Blocks, Event, IsEvent, IsSound, LeavesBlock, LeavesBlocks}
+use Rattle.history_laws.specs.Prelude.{Avoids, Block, Blocks, Event, IsEvent, IsSound, LeavesBlock, LeavesBlocks}
 use Rattle.history_laws.specs.Prelude.{LeavesRegisters, LeavesTransmit, Reply, State, Tx, Watched, WritesNoSetting}
 use Rattle.history_laws.specs.Prelude.{WritesOutside, Wrote, after, mode_in, reply_to}
 use Rattle.transmit_laws.specs.Prelude.{Sender, has_lent}
-use Rattle.nic_device.specs.DmaArena.Memory.{Avoids}
 use Rattle.history_laws.specs.Left.{is_step_of}
 use Rattle.nic_device.specs.declared.event.Event.TheVariants as event
 use Rattle.history_laws.specs.Left as left

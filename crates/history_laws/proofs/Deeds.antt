@@ -6,8 +6,8 @@ use Rattle.std.specs.Prelude.{◌&&◌, ◌==◌, IsFalse, Result, ⊤}
 use Rattle.std.proofs.lemmas.List.{drop_all, get_or-set_same}
 use Rattle.history_laws.specs.Prelude.{Block, Blocks, Dir, Event, Fetched, Filled, IsSound, LeavesReceive, Outcome}
 use Rattle.history_laws.specs.Prelude.{Registers, Reply, RingFault, Rx, State, TransmitQueue, Tx, Waiting, Watched}
-use Rattle.history_laws.specs.Prelude.{Wrote, after, gives, is_empty, is_wanted, moved_on, piece_of, receive_queue_of}
-use Rattle.history_laws.specs.Prelude.{reply_to, rest_of, ring_of, staged_by, step_of, transmit_queue_of}
+use Rattle.history_laws.specs.Prelude.{Wrote, after, gives, is_empty, is_wanted, piece_of, receive_queue_of, reply_to}
+use Rattle.history_laws.specs.Prelude.{rest_of, staged_by, step_of, transmit_queue_of}
 use Rattle.nic_device.proofs.RegisterLaws.Switches.{receive-switched, transmit-switched}
 use Rattle.nic_device.specs.RegTable.declared.rows.RowId.TheVariants.{Qprdc}
 use Rattle.nic_device.specs.RegisterFile.Settings.{can_transmit, drops, is_stopped}
@@ -67,17 +67,57 @@ pub step_cases : (P : Outcome → Type 0) (s : State) → Receives P s → P (st
 unfolding step_of
 step_cases P s r = either_way P (is_stopped s.registers) _ _ r.idle (first_cases P s s.waiting refl r)
 
+-- where the queue's slot is tried for the frame that waits longest, that is filled or shuts the side
+module _ (s : State) (sound : IsSound s) (w : Waiting) (others : List Waiting) (e : s.waiting ≡ w ∷ others)
+    (tried : IsTried (side_of Rx w.queue s)) where
+  tells : (r : Reply Block) → reply_to s event.RxStep ≡ r → received_tells r s (after s event.RxStep)
+  tells r is = subst (λ x. received_tells x s (after s event.RxStep)) is (receiving_tells s sound)
+
+  first : IsFirst w.queue s w
+  first = record { others = others; waits = e; own = refl }
+
+  piece_told : (f : Filled) → pieces_told w.queue s.waiting (Wrote w.queue f.slot f.end f.desc f.at f.len)
+      ≡ piece_in (rest_of w) f ∷ []
+  piece_told f =
+      rw (eq-eqb w.queue w.queue refl)
+      (ap (λ (ws : List Waiting).
+      let p : Piece = record { bytes = piece_of ws f.len; first = first_of ws; end = f.end } in p ∷ []) e)
+
+  filled : (f : Filled) → (fill_on s w.queue (rest_of w)).answer ≡ Ok f
+      → step_of s event.RxStep ≡ receive.slot_done s w others (Ok f) (fill_on s w.queue (rest_of w)).memory
+      → Deed Rx w.queue s event.RxStep
+  filled f answer is =
+      let replied = ap (λ (x : Outcome). x.reply) is in
+      Took (record {
+        tried = tried;
+        staged = [];
+        side = ap receive_side (tells (Wrote w.queue f.slot f.end f.desc f.at f.len) replied).side;
+        work = record {
+          is = refl;
+          frame = w;
+          first = first;
+          filled = f;
+          answer = answer;
+          memory = ap (λ (x : Outcome). x.state.memory) is;
+          told = replied;
+          piece = ap (λ (x : Outcome). pieces_told w.queue s.waiting x.reply) is ∙ piece_told f;
+        };
+      })
+
+  failed : (fault : RingFault) → (fill_on s w.queue (rest_of w)).answer ≡ Err fault
+      → reply_to s event.RxStep ≡ Fault w.queue fault → Deed Rx w.queue s event.RxStep
+  failed fault answer is =
+      Rested (ap (pieces_told w.queue s.waiting) is) (Shut (record {
+        tried = tried;
+        side = ap receive_side (tells (Fault w.queue fault) is).side;
+        fault = record { frame = w; first = first; fault = fault; answer = answer };
+      }))
+
 module _ (queue : ℕ) (s : State) (sound : IsSound s) where
-  abbrev after_rx : State
-  after_rx = after s event.RxStep
-
-  rx_tells : (r : Reply Block) → reply_to s event.RxStep ≡ r → received_tells r s after_rx
-  rx_tells r is = subst (λ x. received_tells x s after_rx) is (receiving_tells s sound)
-
   -- nothing of the side changes
-  left : LeavesReceive queue s after_rx → pieces_told queue s.waiting (reply_to s event.RxStep) ≡ []
+  left : LeavesReceive queue s (after s event.RxStep) → pieces_told queue s.waiting (reply_to s event.RxStep) ≡ []
       → Deed Rx queue s event.RxStep
-  left side none = Rested none (Nothing (receive_left queue s after_rx side))
+  left side none = Rested none (Nothing (receive_left queue s (after s event.RxStep) side))
 
   stays : (o : Outcome) → LeavesReceive queue s o.state → pieces_told queue s.waiting o.reply ≡ []
       → step_of s event.RxStep ≡ o → Deed Rx queue s event.RxStep
@@ -91,71 +131,19 @@ module _ (queue : ℕ) (s : State) (sound : IsSound s) where
         → Deed Rx queue s event.RxStep
     other ne none = left ((receiving_rest s).receive queue (λ i. ne (subst (IsFirstFor queue) e i))) none
 
-    module _ (own : w.queue ≡ queue) (tried : IsTried (side_of Rx w.queue s)) where
-      first : IsFirst queue s w
-      first = record { others = others; waits = e; own = own }
-
-      tried_here : IsTried (side_of Rx queue s)
-      tried_here = subst (λ q. IsTried (side_of Rx q s)) own tried
-
-      piece_told : (f : Filled) → pieces_told queue s.waiting (Wrote w.queue f.slot f.end f.desc f.at f.len)
-          ≡ piece_in (rest_of w) f ∷ []
-      piece_told f =
-          rw (eq-eqb w.queue queue own)
-          (ap (λ (ws : List Waiting).
-          let p : Piece = record { bytes = piece_of ws f.len; first = first_of ws; end = f.end } in p ∷ []) e)
-
-      filled : (f : Filled) → (fill_on s w.queue (rest_of w)).answer ≡ Ok f
-          → step_of s event.RxStep ≡ receive.slot_done s w others (Ok f) (fill_on s w.queue (rest_of w)).memory
-          → Deed Rx queue s event.RxStep
-      filled f answer is =
-          let told = rx_tells (Wrote w.queue f.slot f.end f.desc f.at f.len) (ap (λ (x : Outcome). x.reply) is) in
-          let side = subst (λ q. receive_queue_of after_rx.registers q
-          ≡ record (receive_queue_of s.registers q) { ring = moved_on (ring_of s.registers Rx q) }) own told.side in
-          Took (record {
-            tried = tried_here;
-            staged = [];
-            side = ap receive_side side;
-            work = record {
-              is = refl;
-              frame = w;
-              first = first;
-              filled = f;
-              answer = subst (λ q. (fill_on s q (rest_of w)).answer ≡ Ok f) own answer;
-              memory = ap (λ (x : Outcome). x.state.memory) is ∙ ap (λ q. (fill_on s q (rest_of w)).memory) own;
-              told = ap (λ (x : Outcome). x.reply) is ∙ ap (λ q. Wrote q f.slot f.end f.desc f.at f.len) own;
-              piece = ap (λ (x : Outcome). pieces_told queue s.waiting x.reply) is ∙ piece_told f;
-            };
-          })
-
-      failed : (fault : RingFault) → (fill_on s w.queue (rest_of w)).answer ≡ Err fault
-          → reply_to s event.RxStep ≡ Fault w.queue fault → Deed Rx queue s event.RxStep
-      failed fault answer is =
-          let side = subst (λ q. receive_queue_of after_rx.registers q
-          ≡ record (receive_queue_of s.registers q) { on = false; wanted = false }) own
-          (rx_tells (Fault w.queue fault) is).side in
-          Rested (ap (pieces_told queue s.waiting) is) (Shut (record {
-            tried = tried_here;
-            side = ap receive_side side;
-            fault = record {
-              frame = w;
-              first = first;
-              fault = fault;
-              answer = subst (λ q. (fill_on s q (rest_of w)).answer ≡ Err fault) own answer;
-            };
-          }))
-
     tried_step : IsTried (side_of Rx w.queue s) → (answer : Result Filled RingFault)
         → (fill_on s w.queue (rest_of w)).answer ≡ answer
         → step_of s event.RxStep ≡ receive.slot_done s w others answer (fill_on s w.queue (rest_of w)).memory
         → Deed Rx queue s event.RxStep
     tried_step tried (Ok f) answer is = elim (cases_eq w.queue queue) [
-      | inl own ↦ filled own tried f answer is
+      | inl own ↦ subst (λ q. Deed Rx q s event.RxStep) own (filled s sound w others e tried f answer is)
       | inr ne ↦
           other ne (ap (λ (x : Outcome). pieces_told queue s.waiting x.reply) is ∙ rw (ne_eqb w.queue queue ne) refl)
     ]
     tried_step tried (Err fault) answer is = elim (cases_eq w.queue queue) [
-      | inl own ↦ failed own tried fault answer (ap (λ (x : Outcome). x.reply) is)
+      | inl own ↦
+          subst (λ q. Deed Rx q s event.RxStep) own
+          (failed s sound w others e tried fault answer (ap (λ (x : Outcome). x.reply) is))
       | inr ne ↦ other ne (ap (λ (x : Outcome). pieces_told queue s.waiting x.reply) is)
     ]
 

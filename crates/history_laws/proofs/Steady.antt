@@ -44,6 +44,10 @@ pub record HaveSameRing (x y : Side) : Type 0 where
   pub writeback : y.writeback ≡ x.writeback
   pub staged : x.staged ≡ [] → y.staged ≡ []
 
+ring_same : (x : Side) (on wanted : Bool) (staged : List ℕ) → (x.staged ≡ [] → staged ≡ [])
+    → HaveSameRing x (record x { on = on; wanted = wanted; staged = staged })
+ring_same x on wanted staged none = record { ring = refl; control = refl; writeback = refl; staged = none }
+
 pub none_staged : (wanted : Bool) (staged : List ℕ) → staged ≡ [] → cond wanted staged [] ≡ []
 none_staged true staged none = none
 none_staged false staged none = refl
@@ -73,19 +77,10 @@ module _ (dir : Dir) (queue : ℕ) (s : State) (e : Event Block) where
   -- an event that takes no slot leaves the ring
   pub resting_same : Rests dir queue s e → HaveSameRing old new
   resting_same (Nothing left) =
-      subst (HaveSameRing old) (sym left)
-      (record { ring = refl; control = refl; writeback = refl; staged = λ none. none })
-  resting_same (Shut x) =
-      subst (HaveSameRing old) (sym x.side)
-      (record { ring = refl; control = refl; writeback = refl; staged = λ none. refl })
+      subst (HaveSameRing old) (sym left) (ring_same old old.on old.wanted old.staged (λ none. none))
+  resting_same (Shut x) = subst (HaveSameRing old) (sym x.side) (ring_same old false false [] (λ none. refl))
   resting_same (Switched is) =
-      subst (HaveSameRing old) (sym is)
-      (record {
-        ring = refl;
-        control = refl;
-        writeback = refl;
-        staged = λ none. none_staged old.wanted old.staged none;
-      })
+      subst (HaveSameRing old) (sym is) (ring_same old old.wanted old.wanted _ (none_staged old.wanted old.staged))
 
   -- a side that is up stays so, where no fault can shut it
   module _ (up : IsUp old) (never : Shuts dir queue s e → ⊥) where

@@ -275,14 +275,11 @@ module _ (queue most : ℕ) (s : State) (out : List Piece) (v : Receive) (gone h
       abbrev piece : Piece
       piece = record { bytes = piece_of s.waiting f.len; first = first_of s.waiting; end = f.end }
 
-      bytes_are : piece.bytes ≡ take f.len (drop w.offset w.frame)
-      bytes_are = ap (λ (ws : List Waiting). piece_of ws f.len) e
-
       fits : Fits most n piece
       fits = record {
         full = λ on.
             let go = goes_on on in
-            ap (λ (xs : List ℕ). length xs) bytes_are
+            ap (λ (ws : List Waiting). length (piece_of ws f.len)) e
             ∙ (let l = length-take f.len (drop w.offset w.frame) in
             let k : length (take f.len (drop w.offset w.frame)) ≡ 2048 = omega (arith, l, go.0, taken) in k);
         more = λ on. (goes_on on).1;

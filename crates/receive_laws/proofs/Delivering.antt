@@ -1,13 +1,14 @@
 -- What the driver handed out, and what a history from any sound device on delivered.
 pub use Rattle.history_laws.proofs.Alone.{lent_behind}
-use Rattle.std.proofs.Common.{[], ◌&&◌, ◌++◌, ◌<◌, ◌∙◌, ◌∷◌, ◌≡◌, ◌≤◌, ◌⊎◌, Bool, List, None, Option, Some, ap}
-use Rattle.std.proofs.Common.{append_assoc, arith, cond, false, inl, inr, length, nat_lt, refl, subst, sym, true, ℕ}
-use Rattle.std.proofs.lemmas.Bool.{and_from, both_ways, cases_lt, eq-eqb, eqb-false, eqb-true, lt-ltb, or_left}
+use Rattle.std.proofs.Common.{[], ◌&&◌, ◌++◌, ◌∙◌, ◌∷◌, ◌≡◌, ◌≤◌, Bool, List, None, Option, Some, ap, append_assoc}
+use Rattle.std.proofs.Common.{arith, cond, false, inl, inr, length, nat_lt, refl, subst, sym, true, ℕ}
+use Rattle.std.proofs.lemmas.Bool.{and_from, both_ways, cases_Bool, cases_lt, eq-eqb, eqb-false, eqb-true, lt-ltb}
 use Rattle.std.proofs.lemmas.List.{append-nil, length-append, nil_from_length}
-use Rattle.std.{proofs.lemmas.Bool.or_right, specs.Prelude.◌==◌, specs.Prelude.IsFalse, specs.Prelude.IsTrue}
+use Rattle.std.proofs.lemmas.Bool.{or_left, or_right}
+use Rattle.std.specs.Prelude.{◌==◌, IsFalse, IsTrue}
 use Rattle.history_laws.specs.Prelude.{AreEvents, Block, Blocks, Entry, EntryLeavesAlone, Event, IsEvent, IsLegal}
-use Rattle.history_laws.specs.Prelude.{IsSound, Reply, Rx, State, Watched, after, calls_of, is_done, is_on, leads_to}
-use Rattle.history_laws.specs.Prelude.{lent_by, mode_in, reply_to, second_half}
+use Rattle.history_laws.specs.Prelude.{IsSound, Reply, Rx, State, Watched, after, calls_of, is_on, leads_to, lent_by}
+use Rattle.history_laws.specs.Prelude.{mode_in, reply_to}
 use Rattle.receive_laws.specs.Prelude.{IsOwn, Kept, Looks, Packet, Receive, Stage, Told, drive, ended_of, is_step}
 use Rattle.receive_laws.specs.Prelude.{kept_of, records_of}
 use Rattle.nic_device.proofs.Steps.{keeps_sound, step_leads}
@@ -52,18 +53,16 @@ none_whole front (t ∷ ts) (p ∷ here) opens are all =
     let rest = none_whole (front ++ p.bytes) ts here opens.1 are.1 (omega (arith, all)) in
     rw on rest
 
-none_more : (here : List Piece) (k : ℕ) (d : List ℕ) → is_done (second_half d) ≡ false
-    → ((k < length here) → is_done (second_half d) ≡ true) → (k < length here) ⊎ (length here ≤ k) → length here ≤ k
-none_more here k d none some (inl is) = absurd (both_ways _ none (some is))
-none_more here k d none some (inr no_more) = no_more
-
 -- where a look at the slot behind those that were seen finds it not done, all that was delivered was taken
 pub all_taken : (queue : ℕ) (s : State) (out : List Piece) (v : Receive) → Agree queue s out v → ShowsNone s v
     → packets_of out ≡ v.handed ++ records_of v.whole
 all_taken queue s out v (gone, here, h) f =
     let k = length v.seen in
     let t = look_tells queue s out v gone here k h f.posted f.bytes f.reply in
-    let all : length here ≤ k = none_more here k f.bytes f.waits t.done.1 (cases_lt k (length here)) in
+    let all : length here ≤ k = elim (cases_lt k (length here)) [
+      | inl more ↦ absurd (both_ways _ f.waits (t.done.1 more))
+      | inr no_more ↦ no_more
+    ] in
     let at : IsAt Looks v.seen v.held = subst (λ (x : Stage). IsAt x v.seen v.held) f.looks h.order.stage in
     let none : ended_of v.seen v.held ≡ [] =
     ap (λ (p : Packet). ended_of v.seen p) at.0 ∙ none_ended v.seen in
@@ -304,21 +303,15 @@ none_is_all_taken = taken
 
 -- what is delivered stays so
 
-grown : (p : Piece) (front : List ℕ) (xs ys : List Piece)
-    → ((f : List ℕ) → IsPrefixOf (packets_behind f xs) (packets_behind f (xs ++ ys))) → (ends : Bool)
-    → IsPrefixOf (cond ends (packet_told (front ++ p.bytes) p.first ∷ packets_behind [] xs)
-    (packets_behind (front ++ p.bytes) xs))
-    (cond ends (packet_told (front ++ p.bytes) p.first ∷ packets_behind [] (xs ++ ys))
-    (packets_behind (front ++ p.bytes) (xs ++ ys)))
-grown p front xs ys more true =
-    let rest = more [] in
-    (rest.0, ap (λ (ks : List Kept). packet_told (front ++ p.bytes) p.first ∷ ks) rest.1)
-grown p front xs ys more false = more (front ++ p.bytes)
-
 pub grows : (front : List ℕ) (xs ys : List Piece)
     → IsPrefixOf (packets_behind front xs) (packets_behind front (xs ++ ys))
 grows front [] ys = (packets_behind front ys, refl)
-grows front (p ∷ xs) ys = grown p front xs ys (λ f. grows f xs ys) p.end
+grows front (p ∷ xs) ys = elim (cases_Bool p.end) [
+  | inl ends ↦
+      let rest = grows [] xs ys in
+      rw ends (rest.0, ap (λ (ks : List Kept). packet_told (front ++ p.bytes) p.first ∷ ks) rest.1)
+  | inr on ↦ rw on (grows (front ++ p.bytes) xs ys)
+]
 
 pub pieces-append : (queue : ℕ) (s : State) (g h : List Entry)
     → pieces_in queue s (g ++ h) ≡ pieces_in queue s g ++ pieces_in queue (leads_to s g) h

@@ -1,6 +1,6 @@
 -- Where the agreement begins, and events that leave the receive side, looks and lends of the driver's own that keep it.
-use Rattle.std.proofs.Common.{[], ◌%◌, ◌&&◌, ◌*◌, ◌++◌, ◌+◌, ◌/◌, ◌<◌, ◌∙◌, ◌∷◌, ◌≡◌, ◌≤◌, ◌⊎◌, Bool, List, ap, arith}
-use Rattle.std.proofs.Common.{cond, false, inl, inr, length, nat_lt, refl, subst, sym, true, ℕ}
+use Rattle.std.proofs.Common.{[], ◌%◌, ◌&&◌, ◌*◌, ◌++◌, ◌+◌, ◌/◌, ◌<◌, ◌∙◌, ◌∷◌, ◌≡◌, ◌≤◌, Bool, List, ap, arith, cond}
+use Rattle.std.proofs.Common.{false, inl, inr, length, nat_lt, refl, subst, sym, true, ℕ}
 use Rattle.std.proofs.lemmas.Bool.{and_parts, both_ways, cases_lt, eqb-true}
 use Rattle.std.specs.Prelude.{if◌then◌else◌, ◌==◌}
 use Rattle.history_laws.specs.Prelude.{Block, Bytes, Event, Memory, Outcome, ReceiveQueue, Reply, Ring, State, after}
@@ -88,16 +88,16 @@ looked_is s l here k ring h within =
     descriptor_lent s.memory l here ring h k within in
     rw (straight, lent) refl
 
-some_here : (m : Memory) (l : Layout) (here : List Piece) (k : ℕ) → HasSlots m l here → k < length l.blocks
-    → is_done (second_half (read_at m (descriptor_at l k) 16)) ≡ true → (k < length here) ⊎ (length here ≤ k)
-    → k < length here
-some_here m l here k h some done (inl is) = is
-some_here m l here k h some done (inr none) = absurd (both_ways _ (h.posted k none some).waits done)
-
 pub tells_bytes : (m : Memory) (l : Layout) (here : List Piece) (k : ℕ) → HasSlots m l here → k < length l.blocks
     → TellsSlot here k (read_at m (descriptor_at l k) 16)
 tells_bytes m l here k h some = record {
-  done = (λ done. some_here m l here k h some done (cases_lt k (length here)), λ is. (h.filled k is).done);
+  done = (
+    λ done. elim (cases_lt k (length here)) [
+      | inl is ↦ is
+      | inr none ↦ absurd (both_ways _ (h.posted k none some).waits done)
+    ],
+    λ is. (h.filled k is).done,
+  );
   end = λ is. (h.filled k is).end;
   len = λ is. (h.filled k is).len;
   first = λ is. (h.filled k is).first;

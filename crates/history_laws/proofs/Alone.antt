@@ -1,27 +1,89 @@
--- Leaving a queue alone, entry by entry.
-use Rattle.std.proofs.Common.{inl, inr, ◌≡◌, ℕ, List, [], ◌∷◌, ◌++◌, refl, sym, ap, ◌∙◌, subst, append_assoc}
-use Rattle.std.specs.Prelude.{◌==◌, IsTrue}
-use Rattle.std.proofs.lemmas.Bool.{or_cases, or_left, or_right}
-use Rattle.nic_device.specs.VfMap.declared.mode.Mode.TheVariants.{Off}
-use Rattle.nic_device.specs.RegisterFile.Pools.{mode_in}
-use Rattle.nic_device.specs.Sound.{IsSound}
-use Rattle.nic_device.specs.State.{State, new_state}
-use Rattle.nic_device.specs.Step.{after}
-use Rattle.device_lock.specs.Alone.{Blocks, EntryLeavesAlone, LeavesAlone, has_begun, lent_by, mode_through}
-use Rattle.device_lock.specs.History.{AreEvents, leads_to}
-use Rattle.device_lock.specs.declared.alone.Watched.{Watched}
-use Rattle.device_lock.specs.declared.entry.Entry.{Entry}
+-- Histories in two parts: soundness along them, what a pass lends and begins in each, and how they leave a queue alone.
+use Rattle.std.proofs.Common.{[], ◌++◌, ◌/◌, ◌∙◌, ◌∷◌, ◌≡◌, List, Some, ap, append_assoc, false, inl, inr, refl, subst}
+use Rattle.std.proofs.lemmas.Bool.{both_ways, or_cases, or_left, or_right}
+use Rattle.std.specs.Prelude.{◌==◌, ◌||◌, Bool, IsFalse, IsTrue}
+use Rattle.std.proofs.Common.{sym, true, ℕ}
+use Rattle.history_laws.specs.Prelude.{AreEvents, Block, Blocks, Entry, EntryLeavesAlone, Event, IsSound, LeavesBlocks}
+use Rattle.history_laws.specs.Prelude.{Mode, Off, Reply, Sent, State, Watched, WritesOutside, Wrote, after, has_begun}
+use Rattle.history_laws.specs.Prelude.{leads_to, lent_by, mode_in, mode_through, new_state}
+use Rattle.nic_device.{proofs.Steps.keeps_sound, specs.declared.event.Reply.TheVariants.Advanced}
 use Rattle.device_lock.proofs.Histories.{events_before, leads-append}
-use Rattle.history_laws.specs.Alone.{AllAlone, LeavesAloneFrom}
-use Rattle.history_laws.specs.Laws.{AloneByEntries, NewIsPlain, PlainIsLeftAlone}
-use Rattle.history_laws.proofs.Modes.{new_is_off, told_from}
+use Rattle.device_lock.specs.Alone.{LeavesAlone, lent_in}
+use Rattle.history_laws.specs.Laws.{AloneByEntries, BeginningIsAlone, HistoriesKeepSound, NewIsPlain, PlainIsLeftAlone}
+use Rattle.history_laws.proofs.{Lent.not_so, Limits.mode_told_from, Limits.new_is_off}
+use Rattle.history_laws.specs.{Alone.AllAlone, Alone.LeavesAloneFrom, Laws.RestIsAlone}
+use Rattle.nic_device.specs.declared.event.Event.TheVariants as event
 
-begun-append : (pass : ℕ) (g h : List Entry) → IsTrue (has_begun pass g) → IsTrue (has_begun pass (g ++ h))
-begun-append pass [] h is = cc
-begun-append pass (e ∷ g) h is = elim (or_cases (e.pass == pass) (has_begun pass g) is) [
-  | inl own ↦ or_left _ _ own
-  | inr later ↦ or_right _ _ (begun-append pass g h later)
-]
+pub histories_sound : HistoriesKeepSound
+histories_sound s [] sound events = sound
+histories_sound s (e ∷ es) sound events =
+    histories_sound (after s e.event) es (keeps_sound s sound e.event events.0) events.1
+
+-- whether one of the entries is such: where one of its beginning is, or one behind that, one of the whole history is
+module _ (is_such : Entry → Bool) (any : List Entry → Bool) (none : any [] ≡ false)
+    (step : (e : Entry) (h : List Entry) → any (e ∷ h) ≡ (is_such e || any h)) where
+  any_before : (g h : List Entry) → any g ≡ true → any (g ++ h) ≡ true
+  any_before [] h is = absurd (both_ways (any []) none is)
+  any_before (e ∷ g) h is = step e (g ++ h) ∙ elim (or_cases (is_such e) (any g) (sym (step e g) ∙ is)) [
+    | inl here ↦ or_left _ _ here
+    | inr later ↦ or_right _ _ (any_before g h later)
+  ]
+
+  any_behind : (g h : List Entry) → any h ≡ true → any (g ++ h) ≡ true
+  any_behind [] h is = is
+  any_behind (e ∷ g) h is = step e (g ++ h) ∙ or_right _ _ (any_behind g h is)
+
+-- what a pass lends in a part of a history it lends in the whole
+
+pub lent_before : (pass n : ℕ) (g h : List Entry) → IsTrue (lent_by pass g n) → IsTrue (lent_by pass (g ++ h) n)
+lent_before pass n = any_before (λ e. lent_in pass e n) (λ h. lent_by pass h n) refl (λ e h. refl)
+
+pub lent_behind : (pass n : ℕ) (g h : List Entry) → IsTrue (lent_by pass h n) → IsTrue (lent_by pass (g ++ h) n)
+lent_behind pass n = any_behind (λ e. lent_in pass e n) (λ h. lent_by pass h n) refl (λ e h. refl)
+
+-- an entry that leaves blocks alone leaves fewer of them alone
+module _ (mine less : Blocks) (fewer : (n : ℕ) → IsFalse (mine n) → IsFalse (less n)) where
+  blocks_left : (e : Event Block) → LeavesBlocks mine e → LeavesBlocks less e
+  blocks_left (event.Lend b) h = fewer b.number h
+  blocks_left (event.Take n) h = fewer n h
+  blocks_left (event.Poke16 a bytes) h = fewer (a / 2048) h
+  blocks_left e h = tt
+
+  outside_left : (queue : ℕ) (r : Reply Block) → WritesOutside queue mine r → WritesOutside queue less r
+  outside_left queue (Wrote on slot end desc at len) h = λ ne.
+      let both = h ne in (
+        (λ a from below. fewer (a / 2048) (both.0 a from below)),
+        (λ a from below. fewer (a / 2048) (both.1 a from below)),
+      )
+  outside_left queue (Advanced on slot (Some back)) h = λ ne. fewer (back / 2048) (h ne)
+  outside_left queue (Sent on len (Some back)) h = λ ne. fewer (back / 2048) (h ne)
+  outside_left queue r h = tt
+
+  pub entry_left : (w : Watched) (mode : Mode) (e : Entry) → EntryLeavesAlone w mine mode e
+      → EntryLeavesAlone w less mode e
+  entry_left w mode e h = record {
+    registers = h.registers;
+    blocks = λ other. blocks_left e.event (h.blocks other);
+    steps = outside_left w.queue e.reply h.steps;
+  }
+
+-- what begins a history that leaves a queue alone leaves it alone, and so does what is behind: neither lends more
+
+pub beginning_alone : BeginningIsAlone
+beginning_alone w s g h alone before e after split begun =
+    entry_left (lent_by w.pass (g ++ h)) (lent_by w.pass g) (λ n. not_so _ _ (lent_before w.pass n g h)) w _ e
+    (alone before e (after ++ h)
+    (ap (λ (xs : List Entry). xs ++ h) split ∙ append_assoc before (e ∷ after) h) begun)
+
+pub rest_alone : RestIsAlone
+rest_alone w s g h alone before e after split begun =
+    subst (λ (x : State). EntryLeavesAlone w (lent_by w.pass h) (mode_in x.registers) e) (leads-append s g before)
+    (entry_left (lent_by w.pass (g ++ h)) (lent_by w.pass h) (λ n. not_so _ _ (lent_behind w.pass n g h)) w _ e
+    (alone (g ++ before) e after
+    (ap (λ (xs : List Entry). g ++ xs) split ∙ sym (append_assoc g before (e ∷ after)))
+    (any_behind (λ e. e.pass == w.pass) (has_begun w.pass) refl (λ e h. refl) g before begun)))
+
+-- and it leaves the queue alone entry by entry
 
 each_alone : (w : Watched) (mine : Blocks) (s : State) (rest : List Entry)
     → ((before : List Entry) (e : Entry) (after : List Entry) → rest ≡ before ++ e ∷ after
@@ -42,14 +104,14 @@ alone_by_entries w s before rest leaves begun =
     (leads-append s before b)
     (leaves (before ++ b) e a
     (ap (λ (xs : List Entry). before ++ xs) split ∙ sym (append_assoc before b (e ∷ a)))
-    (begun-append w.pass before b begun)))
+    (any_before (λ e. e.pass == w.pass) (has_begun w.pass) refl (λ e h. refl) before b begun)))
 
 -- where the entries tell the mode by themselves
 pub plain_is_left_alone : PlainIsLeftAlone
 plain_is_left_alone w s h sound plain events leaves before e after split begun =
     let early = events_before before (e ∷ after) (subst AreEvents split events) in
     let told : mode_through w.vfs Off before ≡ mode_in (leads_to s before).registers =
-    (λ i. mode_through (plain.vfs i) (sym plain.mode i) before) ∙ told_from s before sound plain.image early in
+    (λ i. mode_through (plain.vfs i) (sym plain.mode i) before) ∙ mode_told_from s before sound plain.image early in
     subst (λ m. EntryLeavesAlone w (lent_by w.pass h) m e) told (leaves before e after split begun)
 
 pub new_is_plain : NewIsPlain

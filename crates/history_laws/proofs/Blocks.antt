@@ -1,34 +1,110 @@
--- An event that leaves blocks alone, and neither receives nor sends on their queue, leaves each of them.
-use Rattle.std.proofs.Common.{◌≡◌, ◌≢◌, ℕ, ◌+◌, ◌*◌, ◌/◌, ◌%◌, ◌<◌, inl, inr, false, List, [], length, refl, ap, sym, ◌∙◌, subst, arith, Some, None}
-use Rattle.std.specs.Prelude.{IsTrue, IsFalse, ◌==◌}
-use Rattle.std.specs.FinMap as map
+-- The blocks that an event leaves.
+use Rattle.std.proofs.Common.{[], ◌%◌, ◌*◌, ◌+◌, ◌/◌, ◌<◌, ◌^◌, ◌∙◌, ◌≡◌, ◌≢◌, Bool, List, None, Some, ap, arith, cond}
+use Rattle.std.proofs.Common.{false, inl, inr, length, refl, subst, sym, take, true, ℕ}
 use Rattle.std.proofs.lemmas.Bool.{cases_Bool, cases_eq, cases_lt, eq-eqb, eqb-false}
-use Rattle.nic_device.specs.DmaArena.Block.{Block}
-use Rattle.nic_device.specs.DmaArena.Memory.{Memory, Avoids}
-use Rattle.nic_device.proofs.DmaArena.Inside.{inside_avoids}
-use Rattle.nic_device.specs.RegisterLaws.Sides.{transmit_queue_of}
-use Rattle.nic_device.specs.TxRing.Report.{report_length}
-use Rattle.nic_device.specs.Footprint.{told_back}
-use Rattle.nic_device.specs.Outcome.{Outcome}
-use Rattle.nic_device.specs.Sound.{IsEvent, IsSound}
-use Rattle.nic_device.specs.State.{State, Waiting}
-use Rattle.nic_device.specs.Step.{after, reply_to}
-use Rattle.nic_device.specs.declared.event.Event.{Event}
+use Rattle.std.specs.Prelude.{◌==◌, IsFalse, IsTrue, ⊤}
+use Rattle.history_laws.specs.Prelude.{Avoids, Block, Blocks, Event, Filled, IsEvent, IsSound, LeavesBlock}
+use Rattle.history_laws.specs.Prelude.{LeavesBlocks, LiesIn, Memory, Outcome, Registers, Reply, Rest, Sent, State, Tx}
+use Rattle.history_laws.specs.Prelude.{Waiting, WritesOutside, Wrote, after, has_bit, reply_to, ring_of, step_of}
+use Rattle.history_laws.specs.Prelude.{told_back, transmit_queue_of, word_of, write_at}
+use Rattle.nic_device.specs.RegTable.declared.rows.RowId.TheVariants.{Tdbah, Tdbal, Tdwbah, Tdwbal}
+use Rattle.nic_device.proofs.{DmaArena.Blocks.get-write_at_out, DmaArena.Inside.inside_avoids}
+use Rattle.nic_device.proofs.{DmaRing.Fields.halves_come_back, QueueCases.received_cases}
+use Rattle.nic_device.proofs.{RegisterLaws.SoundWords.rings_aligned, RxRing.Fills.takes_piece}
+use Rattle.nic_device.specs.{DmaRing.Descriptor.of_halves, DmaRing.Receive.written_back}
+use Rattle.nic_device.specs.{DmaRing.Ring.descriptor_address, RegisterFile.Settings.writeback_of}
+use Rattle.nic_device.specs.{RegisterLaws.SoundWords.IsAligned, RxRing.Fill.memory_with, TxRing.Report.report_length}
+use Rattle.nic_device.specs.{declared.event.Reply.TheVariants.Advanced}
+use Rattle.device_lock.specs.Alone.{IsClear}
+use Rattle.history_laws.specs.{Left.IsOutside, Left.SendsNone, Reports.ReportsLieInBlocks, Segments.pieces}
+use Rattle.history_laws.specs.{Segments.pieces_told}
+use Rattle.device_laws.proofs.StandingQueues.{receiving_blocks, switching_rest, transmitting_blocks}
+use Rattle.device_laws.proofs.{RepliesOut.misaligned, RepliesSent.transmitting_tells, Standing.memory_blocks}
+use Rattle.device_laws.proofs.{Standing.stays_within, StandingAccesses.read_rest, StandingAccesses.write_memory}
+use Rattle.device_laws.specs.{Leaving.ReceivesOutside, Replies.report_of, Replies.sent_tells}
 use Rattle.nic_device.specs.declared.event.Event.TheVariants as event
-use Rattle.nic_device.specs.declared.event.Reply.{Reply}
-use Rattle.nic_device.specs.declared.event.Reply.TheVariants.{Wrote, Advanced, Sent}
-use Rattle.device_lock.specs.Alone.{Blocks, IsClear, LeavesBlocks, WritesOutside}
-use Rattle.history_laws.specs.DeviceLaws.Leaving.{LeavesBlock}
-use Rattle.history_laws.specs.DeviceLaws.Replies.{sent_tells}
-use Rattle.history_laws.proofs.DeviceLaws.RepliesOut.{misaligned}
-use Rattle.history_laws.proofs.DeviceLaws.RepliesSent.{transmitting_tells}
-use Rattle.history_laws.proofs.DeviceLaws.Standing.{memory_blocks, stays_within}
-use Rattle.history_laws.proofs.DeviceLaws.StandingAccesses.{read_rest, write_memory}
-use Rattle.history_laws.proofs.DeviceLaws.StandingQueues.{transmitting_blocks, switching_rest}
-use Rattle.history_laws.proofs.Reported.{reports_lie}
-use Rattle.history_laws.specs.Left.{IsOutside, SendsNone}
-use Rattle.history_laws.specs.Segments.{pieces, pieces_told}
-use Rattle.history_laws.proofs.Spared.{IsSparedBy, spared_block}
+use Rattle.std.specs.FinMap as map
+
+-- What a step of transmitting reports lies in the block where it begins, since rings are aligned.
+
+-- what is told is where the queue reports
+pub reported : (own : ℕ) (r : Reply Block) (s t : State) → sent_tells own r s t → (back : ℕ)
+    → told_back r ≡ Some back → back ≡ report_of s.registers own
+reported own (Sent queue len o) s t tells back is = tells.reported back is
+reported own (Advanced queue slot o) s t tells back is = tells.0.reported back is
+reported own other s t tells back is = cc
+
+-- 4 bytes at a multiple of 4, or 16 at a multiple of 16
+lies_by : (b : Bool) (high low at : ℕ) → at % 16 ≡ 0
+    → LiesIn (cond b (high * 2 ^ 32 + 4 * (low / 4)) at / 2048) (cond b (high * 2 ^ 32 + 4 * (low / 4)) at)
+    (report_length (cond b (Some (high * 2 ^ 32 + 4 * (low / 4))) None))
+lies_by true high low at even = (omega arith, omega arith)
+lies_by false high low at even = (omega (arith, even), omega (arith, even))
+
+head_even : (high low head : ℕ) → low % 16 ≡ 0 → (high * 2 ^ 32 + low + 16 * head) % 2 ^ 64 % 16 ≡ 0
+head_even high low head even = omega (arith, even)
+
+lies : (r : Registers) (queue : ℕ) → IsAligned (ring_of r Tx queue)
+    → LiesIn (report_of r queue / 2048) (report_of r queue) (report_length (writeback_of r queue))
+lies r queue a =
+    lies_by (has_bit 0 (word_of r Tdwbal queue)) (word_of r Tdwbah queue) (word_of r Tdwbal queue)
+    (descriptor_address (ring_of r Tx queue) (ring_of r Tx queue).head)
+    (head_even (word_of r Tdbah queue) (word_of r Tdbal queue) (ring_of r Tx queue).head (omega (arith, a.base)))
+
+pub reports_lie : ReportsLieInBlocks
+reports_lie s sound queue back told =
+    let is = reported queue (reply_to s (event.TxStep queue)) s (after s (event.TxStep queue))
+    (transmitting_tells s sound queue) back told in
+    subst (λ x. LiesIn (x / 2048) x (report_length (writeback_of s.registers queue))) (sym is)
+    (lies s.registers queue (rings_aligned s.registers sound.registers Tx queue))
+
+-- Blocks that a step of receiving writes nothing into: also where it writes no byte of a frame.
+
+-- what a reply says was received is outside a block
+abbrev pub IsSparedBy : Reply Block → ℕ → Type 0
+IsSparedBy (Wrote on slot end desc at len) b = IsOutside desc at len b
+IsSparedBy other b = ⊤
+
+-- a reply that tells of no bytes
+abbrev IsEmpty : Reply Block → ℕ → Type 0
+IsEmpty (Wrote on slot end desc at len) b = (len ≡ 0) × Avoids b desc 16
+IsEmpty other b = ⊤
+
+none_written : (m : Memory) (rest : Rest) (f : Filled) (b : ℕ) → f.len ≡ 0 → Avoids b f.desc 16
+    → map.get (memory_with m rest f) b ≡ map.get m b
+unfolding write_at
+none_written m rest f b none avoids =
+    ap (λ n. map.get (write_at (write_at m f.at (take n rest.bytes)) f.desc
+    (of_halves rest.first (written_back f.len f.end))) b) none
+    ∙ get-write_at_out m f.desc (of_halves rest.first (written_back f.len f.end)) b
+    (subst (λ k. Avoids b f.desc k) (sym (halves_come_back rest.first (written_back f.len f.end)).size) avoids)
+
+empty_kept : (s : State) (b : ℕ) → IsEmpty (reply_to s event.RxStep) b → LeavesBlock b s (after s event.RxStep)
+unfolding step_of
+empty_kept s b =
+    received_cases (λ (o : Outcome). IsEmpty o.reply b → map.get o.state.memory b ≡ map.get s.memory b) s (record {
+      idle = λ e. refl;
+      dropped = λ w others e why k. refl;
+      slotless = λ w others e k. refl;
+      fault = λ w others e fault k. refl;
+      filled = λ w others e f is k.
+          ap (λ m. map.get m b) (takes_piece s.memory _ _ _ f is).memory ∙ none_written s.memory _ f b k.0 k.1;
+    })
+
+by_reply : (s : State) (b : ℕ) (r : Reply Block) → IsSparedBy r b
+    → (ReceivesOutside r b → LeavesBlock b s (after s event.RxStep))
+    → (IsEmpty r b → LeavesBlock b s (after s event.RxStep)) → LeavesBlock b s (after s event.RxStep)
+by_reply s b (Wrote on slot end desc at len) spared full empty = elim (cases_lt 0 len) [
+  | inl some ↦ full (spared.descriptor, spared.bytes some)
+  | inr none ↦ empty (omega (arith, none), spared.descriptor)
+]
+by_reply s b other spared full empty = full tt
+
+pub spared_block : (s : State) (b : ℕ) → IsSparedBy (reply_to s event.RxStep) b
+    → LeavesBlock b s (after s event.RxStep)
+spared_block s b spared = by_reply s b (reply_to s event.RxStep) spared (receiving_blocks s b) (empty_kept s b)
+
+-- An event that leaves blocks alone, and neither receives nor sends on their queue, leaves each of them.
 
 -- a block that is one of these and one that is none
 pub not_mine : (mine : Blocks) (b n : ℕ) → IsFalse (mine n) → IsTrue (mine b) → b ≢ n

@@ -1,26 +1,295 @@
 -- What an event that leaves a queue alone does to the queue's sides.
-use Rattle.std.proofs.Common.{◌≡◌, ℕ, ◌<◌, inl, inr, false, [], refl, sym, subst}
-use Rattle.std.proofs.lemmas.Bool.{cases_Bool}
-use Rattle.nic_device.specs.DmaArena.Block.{Block}
-use Rattle.nic_device.specs.DmaRing.declared.dir.Dir.{Dir}
-use Rattle.nic_device.specs.DmaRing.declared.dir.Dir.TheVariants.{Rx, Tx}
-use Rattle.nic_device.specs.Sound.{IsSound}
-use Rattle.nic_device.specs.State.{State}
-use Rattle.nic_device.specs.declared.event.Event.{Event}
-use Rattle.nic_device.specs.declared.event.Event.TheVariants as event
-use Rattle.device_lock.specs.Alone.{Blocks}
-use Rattle.device_lock.specs.declared.alone.Watched.{Watched}
-use Rattle.history_laws.proofs.DeviceLaws.KeptSettings.{settings_stand}
-use Rattle.history_laws.proofs.DeviceLaws.Standing.{stays_within}
-use Rattle.history_laws.specs.Left.{Deed, Rested, Nothing, IsLeft, IsSilent, LeftDid, SidesDo, is_step_of, is_switch_of}
-use Rattle.history_laws.specs.Segments.{pieces, sent_by}
+use Rattle.std.proofs.Common.{[], ◌<◌, ◌||◌, ◌∙◌, ◌∷◌, ◌≡◌, ◌≢◌, ◌⊎◌, Bool, Err, List, None, Ok, Option, Some, ap}
+use Rattle.std.proofs.Common.{arith, cond, false, inl, inr, length, map, not, refl, subst, sym, true, ℕ}
+use Rattle.std.proofs.lemmas.Bool.{cases_Bool, cases_eq, cond_both, eq-eqb, lt-ltb, ne_eqb, not-false, or_parts}
+use Rattle.std.specs.Prelude.{◌&&◌, ◌==◌, IsFalse, Result, ⊤}
+use Rattle.std.proofs.lemmas.List.{drop_all, get_or-set_same}
+use Rattle.history_laws.specs.Prelude.{Block, Blocks, Dir, Event, Fetched, Filled, IsSound, LeavesReceive, Outcome}
+use Rattle.history_laws.specs.Prelude.{Registers, Reply, RingFault, Rx, State, TransmitQueue, Tx, Waiting, Watched}
+use Rattle.history_laws.specs.Prelude.{Wrote, after, gives, is_empty, is_wanted, piece_of, receive_queue_of, reply_to}
+use Rattle.history_laws.specs.Prelude.{rest_of, staged_by, step_of, transmit_queue_of}
+use Rattle.nic_device.proofs.RegisterLaws.Switches.{receive-switched, transmit-switched}
+use Rattle.nic_device.specs.RegTable.declared.rows.RowId.TheVariants.{Qprdc}
+use Rattle.nic_device.specs.RegisterFile.Settings.{can_transmit, drops, is_stopped}
+use Rattle.nic_device.specs.Transmit.{fetched_reply, is_muted, is_silent, slot_done}
+use Rattle.nic_device.specs.declared.event.Reply.TheVariants.{Dropped, Fault, Idle}
+use Rattle.nic_device.specs.declared.event.Why.TheVariants.{NoSlot, QueueOff}
+use Rattle.nic_device.proofs.{Cases.either_way, Cases.switched_cases, Coming.counted_in, Raising.comes-itself}
+use Rattle.nic_device.proofs.{Raising.have_counters, RegisterLaws.Stands.receive_stands}
+use Rattle.nic_device.specs.{Footprint.counts_and_causes, Receive.first_received, Receive.slotless_counted}
+use Rattle.nic_device.specs.{RegisterFile.Counters.counter_of, RegisterFile.Queue.switched, Switching.emptied}
+use Rattle.nic_device.specs.{Switching.side_switched}
+use Rattle.history_laws.proofs.Leaving.{left-setting, left-side, receive_left, step_event, step_is, switch_is}
+use Rattle.history_laws.specs.Left.{Deed, IsFirst, IsLeft, IsSilent, LeftDid, Nothing, Rested, Rests, SendsNone, Shut}
+use Rattle.history_laws.specs.Segments.{Piece, first_of, frames_added, piece_in, pieces, pieces_told, sent_by}
+use Rattle.history_laws.specs.Sides.{IsTried, Side, as_wanted, receive_side, side_of, transmit_side}
 use Rattle.history_laws.proofs.Blocks.{left-block}
-use Rattle.history_laws.proofs.Fetching.{transmitting_did}
-use Rattle.history_laws.proofs.Filling.{receiving_did}
-use Rattle.history_laws.proofs.Leaving.{left-setting, left-side, step_event, step_is, switch_is}
-use Rattle.history_laws.proofs.Switching.{switching_did}
+use Rattle.history_laws.specs.Left.{SidesDo, Switched, Took, fetch_on, fill_on, is_step_of, is_switch_of}
+use Rattle.device_laws.proofs.{KeptSettings.settings_stand, Missed.counts-miss_side, RepliesReceived.receiving_tells}
+use Rattle.device_laws.proofs.{RepliesSent.transmitting_tells, Standing.stays_within, StandingQueues.receiving_rest}
+use Rattle.device_laws.specs.{Leaving.IsFirstFor, Replies.TookTransmit, Replies.received_tells, Replies.sent_tells}
+use Rattle.nic_device.specs.Receive as receive
+use Rattle.nic_device.specs.declared.event.Event.TheVariants as event
 
--- an event that is no step of a side receives or sends nothing
+-- A frame that is dropped for want of a slot leaves every receive side.
+
+pub slotless_stands : (r : Registers) (first queue : ℕ) → receive_queue_of (slotless_counted r first) queue
+    ≡ receive_queue_of r queue
+slotless_stands r first queue =
+    receive_stands counts_and_causes r _ queue (counts-miss_side Rx queue)
+    (counted_in {good = ⊤} counts_and_causes r r Qprdc (counter_of r Rx first) have_counters
+    (record { bank = refl; kind = refl }) (comes-itself counts_and_causes r)).within
+
+-- A step of receiving, by what it rests on: only where a queue is on and a slot is the device's is a slot tried.
+
+pub record Receives (P : Outcome → Type 0) (s : State) : Type 0 where
+  pub idle : P (gives Idle s)
+  pub dropped : (w : Waiting) (others : List Waiting) → s.waiting ≡ w ∷ others
+      → (receive_queue_of s.registers w.queue).on ≡ false → P (gives (Dropped QueueOff) (record s { waiting = others }))
+  pub slotless : (w : Waiting) (others : List Waiting) → s.waiting ≡ w ∷ others
+      → (drops s.registers w.queue && w.offset == 0) ≡ true
+      → P (gives (Dropped NoSlot)
+      (record s { registers = slotless_counted s.registers w.queue; waiting = others }))
+  pub tried : (w : Waiting) (others : List Waiting) → s.waiting ≡ w ∷ others → IsTried (side_of Rx w.queue s)
+      → (answer : Result Filled RingFault) → (fill_on s w.queue (rest_of w)).answer ≡ answer
+      → P (receive.slot_done s w others answer (fill_on s w.queue (rest_of w)).memory)
+
+first_cases : (P : Outcome → Type 0) (s : State) (ws : List Waiting) → s.waiting ≡ ws → Receives P s
+    → P (first_received s ws)
+first_cases P s [] e r = r.idle
+first_cases P s (w ∷ others) e r =
+    cond_both (receive_queue_of s.registers w.queue).on _ _ P
+    (λ on. cond_both (is_empty (receive_queue_of s.registers w.queue).ring) _ _ P
+    (λ none. cond_both (drops s.registers w.queue && w.offset == 0) _ _ P (r.slotless w others e) (λ stays. r.idle))
+    (λ some. r.tried w others e (record { on = on; some = some }) _ refl)) (r.dropped w others e)
+
+pub step_cases : (P : Outcome → Type 0) (s : State) → Receives P s → P (step_of s event.RxStep)
+unfolding step_of
+step_cases P s r = either_way P (is_stopped s.registers) _ _ r.idle (first_cases P s s.waiting refl r)
+
+-- where the queue's slot is tried for the frame that waits longest, that is filled or shuts the side
+module _ (s : State) (sound : IsSound s) (w : Waiting) (others : List Waiting) (e : s.waiting ≡ w ∷ others)
+    (tried : IsTried (side_of Rx w.queue s)) where
+  tells : (r : Reply Block) → reply_to s event.RxStep ≡ r → received_tells r s (after s event.RxStep)
+  tells r is = subst (λ x. received_tells x s (after s event.RxStep)) is (receiving_tells s sound)
+
+  first : IsFirst w.queue s w
+  first = record { others = others; waits = e; own = refl }
+
+  piece_told : (f : Filled) → pieces_told w.queue s.waiting (Wrote w.queue f.slot f.end f.desc f.at f.len)
+      ≡ piece_in (rest_of w) f ∷ []
+  piece_told f =
+      rw (eq-eqb w.queue w.queue refl)
+      (ap (λ (ws : List Waiting).
+      let p : Piece = record { bytes = piece_of ws f.len; first = first_of ws; end = f.end } in p ∷ []) e)
+
+  filled : (f : Filled) → (fill_on s w.queue (rest_of w)).answer ≡ Ok f
+      → step_of s event.RxStep ≡ receive.slot_done s w others (Ok f) (fill_on s w.queue (rest_of w)).memory
+      → Deed Rx w.queue s event.RxStep
+  filled f answer is =
+      let replied = ap (λ (x : Outcome). x.reply) is in
+      Took (record {
+        tried = tried;
+        staged = [];
+        side = ap receive_side (tells (Wrote w.queue f.slot f.end f.desc f.at f.len) replied).side;
+        work = record {
+          is = refl;
+          frame = w;
+          first = first;
+          filled = f;
+          answer = answer;
+          memory = ap (λ (x : Outcome). x.state.memory) is;
+          told = replied;
+          piece = ap (λ (x : Outcome). pieces_told w.queue s.waiting x.reply) is ∙ piece_told f;
+        };
+      })
+
+  failed : (fault : RingFault) → (fill_on s w.queue (rest_of w)).answer ≡ Err fault
+      → reply_to s event.RxStep ≡ Fault w.queue fault → Deed Rx w.queue s event.RxStep
+  failed fault answer is =
+      Rested (ap (pieces_told w.queue s.waiting) is) (Shut (record {
+        tried = tried;
+        side = ap receive_side (tells (Fault w.queue fault) is).side;
+        fault = record { frame = w; first = first; fault = fault; answer = answer };
+      }))
+
+module _ (queue : ℕ) (s : State) (sound : IsSound s) where
+  -- nothing of the side changes
+  left : LeavesReceive queue s (after s event.RxStep) → pieces_told queue s.waiting (reply_to s event.RxStep) ≡ []
+      → Deed Rx queue s event.RxStep
+  left side none = Rested none (Nothing (receive_left queue s (after s event.RxStep) side))
+
+  stays : (o : Outcome) → LeavesReceive queue s o.state → pieces_told queue s.waiting o.reply ≡ []
+      → step_of s event.RxStep ≡ o → Deed Rx queue s event.RxStep
+  stays o side none is =
+      left (ap (λ (x : Outcome). receive_queue_of x.state.registers queue) is ∙ side)
+      (ap (λ (x : Outcome). pieces_told queue s.waiting x.reply) is ∙ none)
+
+  module _ (w : Waiting) (others : List Waiting) (e : s.waiting ≡ w ∷ others) where
+    -- the first frame is another queue's
+    other : w.queue ≢ queue → pieces_told queue s.waiting (reply_to s event.RxStep) ≡ []
+        → Deed Rx queue s event.RxStep
+    other ne none = left ((receiving_rest s).receive queue (λ i. ne (subst (IsFirstFor queue) e i))) none
+
+    tried_step : IsTried (side_of Rx w.queue s) → (answer : Result Filled RingFault)
+        → (fill_on s w.queue (rest_of w)).answer ≡ answer
+        → step_of s event.RxStep ≡ receive.slot_done s w others answer (fill_on s w.queue (rest_of w)).memory
+        → Deed Rx queue s event.RxStep
+    tried_step tried (Ok f) answer is = elim (cases_eq w.queue queue) [
+      | inl own ↦ subst (λ q. Deed Rx q s event.RxStep) own (filled s sound w others e tried f answer is)
+      | inr ne ↦
+          other ne (ap (λ (x : Outcome). pieces_told queue s.waiting x.reply) is ∙ rw (ne_eqb w.queue queue ne) refl)
+    ]
+    tried_step tried (Err fault) answer is = elim (cases_eq w.queue queue) [
+      | inl own ↦
+          subst (λ q. Deed Rx q s event.RxStep) own
+          (failed s sound w others e tried fault answer (ap (λ (x : Outcome). x.reply) is))
+      | inr ne ↦ other ne (ap (λ (x : Outcome). pieces_told queue s.waiting x.reply) is)
+    ]
+
+  pub receiving_did : Deed Rx queue s event.RxStep
+  receiving_did =
+      step_cases (λ o. step_of s event.RxStep ≡ o → Deed Rx queue s event.RxStep) s (record {
+        idle = stays (gives Idle s) refl refl;
+        dropped = λ w others e off. stays (gives (Dropped QueueOff) (record s { waiting = others })) refl refl;
+        slotless = λ w others e drop.
+            stays
+            (gives (Dropped NoSlot)
+            (record s { registers = slotless_counted s.registers w.queue; waiting = others }))
+            (slotless_stands s.registers w.queue queue) refl;
+        tried = λ w others e tried answer is. tried_step w others e tried answer is;
+      }) refl
+
+-- A step of transmitting, by what it rests on: only where the queue isn't silent is a slot fetched.
+
+pub added-none : (out : List (ℕ × List ℕ)) → frames_added out out ≡ []
+added-none out = ap (map (λ (f : ℕ × List ℕ). f.1)) (drop_all (length out) out (omega arith))
+
+-- what is told where a slot was taken
+took : (queue : ℕ) (s t : State) (f : Fetched) (o : Option (List ℕ)) → sent_tells queue (fetched_reply queue f o) s t
+    → TookTransmit queue queue f.back s t
+took queue s t f (Some frame) tx_tells = tx_tells
+took queue s t f None tx_tells = tx_tells.0
+
+-- a queue that isn't silent is on, and its ring isn't empty
+loud_parts : (a b c on e f : Bool) → (a || b || c || not on || e || f) ≡ false → (on ≡ true) × (f ≡ false)
+loud_parts a b c on e f h =
+    let last = or_parts (a || b || c || not on || e) f h in
+    let rest = or_parts (a || b || c || not on) e last.0 in
+    (not-false on (or_parts (a || b || c) (not on) rest.0).1, last.1)
+
+module _ (queue : ℕ) (s : State) (sound : IsSound s) (small : queue < 128) where
+  abbrev after_tx : State
+  after_tx = after s (event.TxStep queue)
+
+  abbrev side : TransmitQueue
+  side = transmit_queue_of s.registers queue
+
+  -- where memory and the frames out stay
+  none : after_tx.memory ≡ s.memory → after_tx.out ≡ s.out → SendsNone queue s (event.TxStep queue)
+  none memory out = record {
+    sent = rw (eq-eqb queue queue refl) (ap (frames_added s.out) out ∙ added-none s.out);
+    memory = λ own. memory;
+  }
+
+  pub idle : is_silent s queue side ≡ true → step_of s (event.TxStep queue) ≡ gives Idle s
+  unfolding step_of
+  idle silent = rw (lt-ltb queue 128 small, silent) refl
+
+  tx_tells : (r : Reply Block) → reply_to s (event.TxStep queue) ≡ r → sent_tells queue r s after_tx
+  tx_tells r is = subst (λ x. sent_tells queue x s after_tx) is (transmitting_tells s sound queue)
+
+  module _ (loud : IsFalse (is_silent s queue side)) where
+    pub tried : IsTried (side_of Tx queue s)
+    tried =
+        let parts = loud_parts (is_stopped s.registers) (not s.link) (not (can_transmit s.registers)) side.on
+        (is_muted s.registers queue) (is_empty side.ring) loud in
+        record { on = parts.0; some = parts.1 }
+
+    fetched : step_of s (event.TxStep queue)
+        ≡ slot_done s queue (fetch_on s queue).answer (fetch_on s queue).memory (fetch_on s queue).staged
+    unfolding step_of
+    fetched = rw (lt-ltb queue 128 small, loud) refl
+
+    by_answer : (answer : Result Fetched RingFault) → (fetch_on s queue).answer ≡ answer
+        → step_of s (event.TxStep queue)
+        ≡ slot_done s queue answer (fetch_on s queue).memory (fetch_on s queue).staged
+        → Deed Tx queue s (event.TxStep queue)
+    by_answer (Ok f) answer is =
+        let replied = ap (λ (x : Outcome). x.reply) is in
+        let told = took queue s after_tx f f.frame (tx_tells (fetched_reply queue f f.frame) replied) in
+        Took (record {
+          tried = tried;
+          staged = staged_by after_tx queue;
+          side = ap (λ (q : TransmitQueue). transmit_side q (staged_by after_tx queue)) told.side;
+          work = record { is = refl; loud = loud; fetched = f; answer = answer; step = is };
+        })
+    by_answer (Err fault) answer is =
+        let told = tx_tells (Fault queue fault) (ap (λ (x : Outcome). x.reply) is) in
+        Rested
+        (none (ap (λ (x : Outcome). x.state.memory) is) (ap (λ (x : Outcome). x.state.out) is))
+        (Shut (record {
+          tried = tried;
+          side = λ k. transmit_side (told.side k) (told.staged k);
+          fault = record { loud = loud; fault = fault; answer = answer };
+        }))
+
+  pub transmitting_did : Deed Tx queue s (event.TxStep queue)
+  transmitting_did = elim (cases_Bool (is_silent s queue side)) [
+    | inl silent ↦
+        let is = idle silent in
+        Rested
+        (none (ap (λ (x : Outcome). x.state.memory) is) (ap (λ (x : Outcome). x.state.out) is))
+        (Nothing (ap (λ (x : Outcome). side_of Tx queue x.state) is))
+    | inr loud ↦
+        by_answer loud (fetch_on s queue).answer refl (fetched loud)
+  ]
+
+-- A step of a side's enable: the side becomes what it is wanted to be, or nothing changes there.
+
+-- a side that is as it is wanted, with what it has staged then
+with_staged : (x : Side) (b : Bool) (staged : List ℕ) → x.wanted ≡ b → staged ≡ cond b x.staged []
+    → record x { on = x.wanted; staged = staged } ≡ as_wanted x
+with_staged x b staged is e =
+    let f : staged ≡ cond x.wanted x.staged [] = e ∙ ap (λ c. cond c x.staged []) (sym is) in
+    λ k. record x { on = x.wanted; staged = f k }
+
+none_staged : (x : Side) (b : Bool) → x.staged ≡ [] → [] ≡ cond b x.staged []
+none_staged x true none = sym none
+none_staged x false none = refl
+
+module _ (queue : ℕ) (s : State) (sound : IsSound s) (small : queue < 128) where
+  on_then : (dir : Dir) → side_of dir queue (side_switched s dir queue) ≡ as_wanted (side_of dir queue s)
+  on_then Rx =
+      let e = ap receive_side (receive-switched s.registers sound.registers.shape queue small) in
+      let x : Side = side_of Rx queue s in
+      let then = with_staged x x.wanted [] refl (none_staged x x.wanted refl) in
+      cond_both (is_wanted s.registers Rx queue) (record s { registers = switched s.registers Rx queue })
+      (record (emptied s Rx queue) { registers = switched s.registers Rx queue })
+      (λ (t : State). side_of Rx queue t ≡ as_wanted (side_of Rx queue s)) (λ is. e ∙ then) (λ not. e ∙ then)
+  on_then Tx =
+      let e = transmit-switched s.registers sound.registers.shape queue small in
+      let x : Side = side_of Tx queue s in
+      let bare = get_or-set_same s.staged queue [] [] (subst (λ n. queue < n) (sym sound.staged.queues) small) in
+      cond_both (is_wanted s.registers Tx queue) (record s { registers = switched s.registers Tx queue })
+      (record (emptied s Tx queue) { registers = switched s.registers Tx queue })
+      (λ (t : State). side_of Tx queue t ≡ as_wanted (side_of Tx queue s))
+      (λ is. ap (λ (q : TransmitQueue). transmit_side q (staged_by s queue)) e
+      ∙ with_staged x true (staged_by s queue) is refl)
+      (λ not. (λ k. transmit_side (e k) (bare k)) ∙ with_staged x false [] not refl)
+
+  pub switching_did : (dir : Dir) → Rests dir queue s (event.QueueStep dir queue)
+  unfolding step_of
+  switching_did dir =
+      elim (switched_cases
+      (λ (o : Outcome). (side_of dir queue o.state ≡ side_of dir queue s)
+      ⊎ (side_of dir queue o.state ≡ as_wanted (side_of dir queue s))) s dir queue (inl refl) (inl refl)
+      (inr (on_then dir))) [
+        | inl same ↦ Nothing same
+        | inr then ↦ Switched then
+      ]
+
+-- What an event that leaves a queue alone does to the queue's sides.
 
 pub received-none : (queue : ℕ) (s : State) (e : Event Block) → is_step_of Rx queue e ≡ false → pieces queue s e ≡ []
 received-none queue s event.RxStep other = cc
@@ -40,15 +309,15 @@ module _ (queue : ℕ) (s : State) (sound : IsSound s) (small : queue < 128) whe
   stepped Rx = receiving_did queue s sound
   stepped Tx = transmitting_did queue s sound small
 
-  switched : (dir : Dir) → Deed dir queue s (event.QueueStep dir queue)
-  switched Rx = Rested (silent_else Rx queue s (event.QueueStep Rx queue) refl) (switching_did queue s sound small Rx)
-  switched Tx = Rested (silent_else Tx queue s (event.QueueStep Tx queue) refl) (switching_did queue s sound small Tx)
+  switch_done : (dir : Dir) → Deed dir queue s (event.QueueStep dir queue)
+  switch_done Rx = Rested refl (switching_did queue s sound small Rx)
+  switch_done Tx = Rested (silent_else Tx queue s _ refl) (switching_did queue s sound small Tx)
 
 pub side_did : SidesDo
 side_did dir queue s e sound small left = elim (cases_Bool (is_step_of dir queue e)) as (λ _. Deed dir queue s e) [
   | inl own ↦ subst (Deed dir queue s) (sym (step_is dir queue e own)) (stepped queue s sound small dir)
   | inr other ↦ elim (cases_Bool (is_switch_of dir queue e)) as (λ _. Deed dir queue s e) [
-    | inl own ↦ subst (Deed dir queue s) (sym (switch_is dir queue e own)) (switched queue s sound small dir)
+    | inl own ↦ subst (Deed dir queue s) (sym (switch_is dir queue e own)) (switch_done queue s sound small dir)
     | inr apart ↦ Rested (silent_else dir queue s e other) (Nothing (left other apart))
   ]
 ]

@@ -1,33 +1,185 @@
 -- An event that leaves a queue alone writes no setting, and leaves each side of it that it isn't a step of.
-use Rattle.std.proofs.Common.{◌≡◌, ℕ, inl, inr, true, false, refl, ap, sym, ◌∙◌, subst, Some}
-use Rattle.std.proofs.lemmas.Bool.{eqb-false, eqb-true}
-use Rattle.nic_device.specs.DmaArena.Block.{Block}
-use Rattle.nic_device.specs.DmaRing.declared.dir.Dir.{Dir}
-use Rattle.nic_device.specs.DmaRing.declared.dir.Dir.TheVariants.{Rx, Tx}
-use Rattle.nic_device.specs.RegTable.declared.place.Place.{Place}
-use Rattle.nic_device.specs.RegisterFile.Pools.{mode_in}
-use Rattle.nic_device.specs.Named.{named}
-use Rattle.nic_device.specs.State.{State}
-use Rattle.nic_device.specs.Step.{after}
-use Rattle.nic_device.specs.declared.event.Event.{Event}
-use Rattle.nic_device.specs.declared.event.Event.TheVariants as event
-use Rattle.nic_device.specs.declared.event.Port.{Port}
-use Rattle.nic_device.specs.declared.named.Named.{Named}
-use Rattle.nic_device.specs.declared.named.Named.TheVariants.{Nothing, Register}
-use Rattle.device_lock.specs.Alone.{LeavesRegisters, Spares, SparesIfSome, place_at}
-use Rattle.device_lock.specs.declared.alone.Watched.{Watched}
-use Rattle.history_laws.specs.DeviceLaws.Laws.{WritesNoSetting}
-use Rattle.history_laws.proofs.DeviceLaws.Standing.{memory_rest}
-use Rattle.history_laws.proofs.DeviceLaws.StandingAccesses.{read_rest}
-use Rattle.history_laws.proofs.DeviceLaws.StandingQueues.{receiving_rest, transmitting_rest, switching_rest}
-use Rattle.history_laws.proofs.DeviceLaws.StandingRest.{arrival_rest, message_rest, eeprom_rest, link_rest, collecting_rest}
-use Rattle.history_laws.proofs.Naming.{place_in, place_named}
-use Rattle.history_laws.proofs.Sparing.{LeavesSides, no_setting, spared_written, stray_written}
+use Rattle.std.proofs.Common.{◌∙◌, ◌≡◌, ◌≢◌, Some, ap, cond, false, inl, inr, refl, subst, sym, true, ℕ}
+use Rattle.std.proofs.lemmas.Bool.{cases_Bool, eqb-false, eqb-true}
+use Rattle.history_laws.specs.Prelude.{Block, Dir, Event, GcrExt, LeavesQueues, LeavesReceive, LeavesRegisters}
+use Rattle.history_laws.specs.Prelude.{LeavesTransmit, Maxfrs, Mode, Named, Nothing, Pf, Place, Port, ReceiveQueue}
+use Rattle.history_laws.specs.Prelude.{Register, RowId, Rx, State, TransmitQueue, Tx, Watched, WritesNoSetting, after}
+use Rattle.history_laws.specs.Prelude.{asks_pool_reset, asks_reset, has_queue, mode_in, named, named_written, row_of}
+use Rattle.history_laws.specs.Prelude.{step_of}
+use Rattle.nic_device.proofs.RegisterLaws.Covers.{covers-renewed, misses-narrower}
+use Rattle.nic_device.specs.Footprint.{StaysWithin, below_reset_reach, in_registers, pool_reach, reset_reach}
+use Rattle.nic_device.specs.RegTable.declared.rows.RowId.TheVariants.{Ctrl, Hlreg0}
+use Rattle.nic_device.specs.RegisterFile.Owner.{is_owner, owner_in}
+use Rattle.nic_device.specs.RegisterLaws.Footprint.{Misses, of_side, of_write, pool_has, pool_renews}
+use Rattle.nic_device.specs.VfMap.Owner.{is_of_pool_by, is_receive_bank, is_transmit_bank}
+use Rattle.nic_device.specs.{Footprint.write_reach, Named.at_location, RegTable.declared.bank.Bank.Bank}
+use Rattle.nic_device.specs.{VfMap.Map.located, declared.event.Port.TheVariants.Vf}
+use Rattle.device_lock.specs.Alone.{Spares, SparesIfSome, is_setting, place_at}
+use Rattle.history_laws.specs.Sides.{LeavesSide, Side, receive_side, transmit_side}
+use Rattle.history_laws.proofs.Written.{place_in, place_named}
 use Rattle.history_laws.specs.Left.{is_step_of, is_switch_of}
-use Rattle.history_laws.specs.Sides.{LeavesSide}
-use Rattle.history_laws.proofs.Sides.{queues_left, receive_left, transmit_left}
+use Rattle.device_laws.proofs.StandingQueues.{receiving_rest, switching_rest, transmitting_rest}
+use Rattle.device_laws.proofs.StandingRest.{arrival_rest, collecting_rest, eeprom_rest, link_rest, message_rest}
+use Rattle.device_laws.proofs.{Settings.no_reset, Standing.memory_rest, Standing.missed, Standing.stays_within}
+use Rattle.device_laws.proofs.{StandingAccesses.read_rest, StandingAccesses.write_rest}
+use Rattle.device_laws.specs.Leaving.{LeavesOtherSides}
+use Rattle.nic_device.specs.RegTable.declared.bank.Bank.TheVariants as bank
+use Rattle.nic_device.specs.RegisterFile.declared.owner.Owner.TheVariants as owner
+use Rattle.nic_device.specs.declared.event.Event.TheVariants as event
 
--- which events are steps of a side
+-- A side of a queue and its direction's own records.
+
+-- what a side is among those of its direction
+abbrev pub receive_of : Side → ReceiveQueue
+receive_of x = record { ring = x.ring; control = x.control; on = x.on; wanted = x.wanted }
+
+abbrev pub transmit_of : Side → TransmitQueue
+transmit_of x = record { ring = x.ring; writeback = x.writeback; on = x.on; wanted = x.wanted }
+
+module _ (queue : ℕ) (s t : State) where
+  pub receive_left : LeavesReceive queue s t → LeavesSide Rx queue s t
+  receive_left left = ap receive_side left
+
+  pub transmit_left : LeavesTransmit queue s t → LeavesSide Tx queue s t
+  transmit_left left = λ k. transmit_side (left.side k) (left.staged k)
+
+  pub queues_left : (dir : Dir) → LeavesQueues s t → LeavesSide dir queue s t
+  queues_left Rx left = receive_left (left.receive queue)
+  queues_left Tx left = transmit_left (left.transmit queue)
+
+  pub left_transmit : LeavesSide Tx queue s t → LeavesTransmit queue s t
+  left_transmit left = record { side = ap transmit_of left; staged = ap (λ (x : Side). x.staged) left }
+
+-- The write of a register that a queue doesn't rest on leaves both sides of the queue.
+
+-- a register that is no setting is none of these
+pub no_setting : (row : RowId) → is_setting row ≡ false
+    → (row ≢ Ctrl) × (row ≢ Hlreg0) × (row ≢ Maxfrs) × (row ≢ GcrExt)
+no_setting row none = (
+  (λ e. let f : true ≡ false = ap is_setting (sym e) ∙ none in cc),
+  (λ e. let f : true ≡ false = ap is_setting (sym e) ∙ none in cc),
+  (λ e. let f : true ≡ false = ap is_setting (sym e) ∙ none in cc),
+  (λ e. let f : true ≡ false = ap is_setting (sym e) ∙ none in cc),
+)
+
+-- a register of a side of the queue is one that the queue rests on
+
+not_receive : (b : Bank) (index queue : ℕ) → (is_receive_bank b ≡ true → index ≢ queue)
+    → owner_in b index ≢ owner.Side Rx queue
+not_receive bank.Receive index queue other e = other refl (cc)
+not_receive bank.Transmit index queue other e = cc
+not_receive b index queue other e = cc
+
+not_transmit : (b : Bank) (index queue : ℕ) → (is_transmit_bank b ≡ true → index ≢ queue)
+    → owner_in b index ≢ owner.Side Tx queue
+not_transmit bank.Transmit index queue other e = other refl (cc)
+not_transmit bank.Receive index queue other e = cc
+not_transmit b index queue other e = cc
+
+-- a pool that hasn't the queue has nothing of its sides
+
+pool_none : (b : Bank) (dir : Dir) (mode : Mode) (v index queue : ℕ) → has_queue mode v queue ≡ false
+    → is_owner (owner.Side dir queue) (owner_in b index) ≡ true → is_of_pool_by b mode v index ≡ false
+pool_none bank.Receive Rx mode v index queue none is = ap (has_queue mode v) (sym (eqb-true queue index is)) ∙ none
+pool_none bank.Receive Tx mode v index queue none is = cc
+pool_none bank.Transmit Tx mode v index queue none is = ap (has_queue mode v) (sym (eqb-true queue index is)) ∙ none
+pool_none bank.Transmit Rx mode v index queue none is = cc
+pool_none b dir mode v index queue none is = cc
+
+wanted_none : (side dir : Dir) (mode : Mode) (v queue number : ℕ) → has_queue mode v queue ≡ false
+    → is_owner (owner.Side side queue) (owner.Side dir number) ≡ true → has_queue mode v number ≡ false
+wanted_none Rx Rx mode v queue number none is = ap (has_queue mode v) (sym (eqb-true queue number is)) ∙ none
+wanted_none Tx Tx mode v queue number none is = ap (has_queue mode v) (sym (eqb-true queue number is)) ∙ none
+wanted_none Rx Tx mode v queue number none is = cc
+wanted_none Tx Rx mode v queue number none is = cc
+
+pub pool_misses : (side : Dir) (mode : Mode) (v queue : ℕ) → has_queue mode v queue ≡ false
+    → Misses (pool_renews mode v) (of_side side queue)
+pool_misses side mode v queue none = misses-narrower (pool_has mode v) (pool_renews mode v) (of_side side queue)
+    (covers-renewed (pool_has mode v)) (record {
+      bits = λ p bit is. pool_none (row_of p.row).bank side mode v p.index queue none is;
+      wanted = λ dir number is. wanted_none side dir mode v queue number none is;
+      told = λ g is. cc;
+    })
+
+-- a write
+
+pub record LeavesSides (queue : ℕ) (s t : State) : Type 0 where
+  pub receive : LeavesReceive queue s t
+  pub transmit : LeavesTransmit queue s t
+
+module _ (queue : ℕ) (s : State) (port : Port) (n word : ℕ) where
+  abbrev t : State
+  t = after s (event.Write port n word)
+
+  -- where the number names nothing
+  pub stray_written : (seen : ℕ) → named s port n ≡ Nothing seen → t ≡ s
+  unfolding step_of
+  stray_written seen is = ap (λ (m : Named). (named_written s m word).state) is
+
+  module _ (p : Place) (view : ℕ) (is : named s port n ≡ Register p view)
+      (spares : Spares queue (mode_in s.registers) p word)
+    where
+      plain : asks_reset (row_of p.row).kind word ≡ false
+      plain = no_reset p.row word (no_setting p.row spares.setting).0
+
+      -- a reset of another pool
+      pool_stays : asks_pool_reset (row_of p.row).kind word ≡ true
+          → StaysWithin (pool_reach (mode_in s.registers) p.index) s t
+      pool_stays asks =
+          let mode = mode_in s.registers in
+          let reach : write_reach mode (named s port n) word ≡ pool_reach mode p.index =
+          ap (λ m. write_reach mode m word) is
+          ∙ ap (λ b. cond b reset_reach (below_reset_reach mode p word)) plain
+          ∙ ap (λ b. cond b (pool_reach mode p.index) (in_registers (of_write p))) asks in
+          subst (λ r. StaysWithin r s t) reach (stays_within s (event.Write port n word))
+
+      pool_left : asks_pool_reset (row_of p.row).kind word ≡ true → LeavesSides queue s t
+      pool_left asks =
+          let mode = mode_in s.registers in
+          let left = missed _ s t (pool_stays asks) in
+          record {
+            receive = left.receive queue (pool_misses Rx mode p.index queue (spares.pool asks));
+            transmit = left.transmit queue (pool_misses Tx mode p.index queue (spares.pool asks)) (spares.pool asks);
+          }
+
+      pub spared_written : LeavesSides queue s t
+      spared_written =
+          let asks = asks_pool_reset (row_of p.row).kind word in
+          elim (cases_Bool asks) as (λ _. LeavesSides queue s t) [
+            | inl reset ↦ pool_left reset
+            | inr none ↦
+                let rest = write_rest s port n word p view is plain none in
+                record {
+                  receive = rest.receive queue (not_receive (row_of p.row).bank p.index queue spares.receive);
+                  transmit = rest.transmit queue (not_transmit (row_of p.row).bank p.index queue spares.transmit);
+                }
+          ]
+
+-- What numbers name where no setting is written, and writes of registers that are none.
+
+-- a number names the same, as long as the queues are parted alike
+pub named-same : (s t : State) → mode_in t.registers ≡ mode_in s.registers → t.vfs ≡ s.vfs → (port : Port) (n : ℕ)
+    → named t port n ≡ named s port n
+named-same s t mode vfs Pf n = refl
+named-same s t mode vfs (Vf v) n = λ k. at_location (located (mode k) (vfs k) v n)
+
+-- a write of a register that is no setting
+pub plain-write : (s : State) (port : Port) (n word : ℕ) (q : Place) (view : ℕ) → named s port n ≡ Register q view
+    → is_setting q.row ≡ false → WritesNoSetting s (event.Write port n word)
+plain-write s port n word q view names plain p seen there =
+    let same : Register q view ≡ Register p seen = sym names ∙ there in
+    let both : q ≡ p = cc in
+    let own = no_setting q.row plain in
+    let e = ap (λ (x : Place). x.row) both in
+    record {
+      control = λ x. own.0 (e ∙ x);
+      jumbo = λ x. own.1 (e ∙ x);
+      limit = λ x. own.2 (e ∙ x);
+      mode = λ x. own.3 (e ∙ x);
+    }
+
+-- An event that leaves a queue alone writes no setting, and leaves each side of it that it isn't a step of.
 
 abbrev pub step_event : Dir → ℕ → Event Block
 step_event Rx queue = event.RxStep
@@ -75,28 +227,16 @@ module _ (w : Watched) (s : State) (functions : w.vfs ≡ s.vfs) where
   written_side Rx t left = receive_left w.queue s t left.receive
   written_side Tx t left = transmit_left w.queue s t left.transmit
 
-  sent_elsewhere : (dir : Dir) (on : ℕ) → is_step_of dir w.queue (event.TxStep on) ≡ false
-      → LeavesSide dir w.queue s (after s (event.TxStep on))
-  sent_elsewhere Rx on other =
-      receive_left w.queue s (after s (event.TxStep on)) ((transmitting_rest s on).sides.receive w.queue (inl refl))
-  sent_elsewhere Tx on other =
-      transmit_left w.queue s (after s (event.TxStep on))
-      ((transmitting_rest s on).sides.transmit w.queue (inr (λ x. eqb-false on w.queue other (sym x))))
+  others_left : (dir side : Dir) (on : ℕ) (t : State) → LeavesOtherSides side on s t → (dir ≡ side → on ≢ w.queue)
+      → LeavesSide dir w.queue s t
+  others_left Rx Rx on t left ne = receive_left w.queue s t (left.receive w.queue (inr (λ x. ne refl (sym x))))
+  others_left Rx Tx on t left ne = receive_left w.queue s t (left.receive w.queue (inl refl))
+  others_left Tx Rx on t left ne = transmit_left w.queue s t (left.transmit w.queue (inl refl))
+  others_left Tx Tx on t left ne = transmit_left w.queue s t (left.transmit w.queue (inr (λ x. ne refl (sym x))))
 
-  switched_elsewhere : (dir side : Dir) (on : ℕ) → is_switch_of dir w.queue (event.QueueStep side on) ≡ false
-      → LeavesSide dir w.queue s (after s (event.QueueStep side on))
-  switched_elsewhere Rx Rx on apart =
-      receive_left w.queue s (after s (event.QueueStep Rx on))
-      ((switching_rest s Rx on).sides.receive w.queue (inr (λ x. eqb-false on w.queue apart (sym x))))
-  switched_elsewhere Rx Tx on apart =
-      receive_left w.queue s (after s (event.QueueStep Tx on))
-      ((switching_rest s Tx on).sides.receive w.queue (inl refl))
-  switched_elsewhere Tx Rx on apart =
-      transmit_left w.queue s (after s (event.QueueStep Rx on))
-      ((switching_rest s Rx on).sides.transmit w.queue (inl refl))
-  switched_elsewhere Tx Tx on apart =
-      transmit_left w.queue s (after s (event.QueueStep Tx on))
-      ((switching_rest s Tx on).sides.transmit w.queue (inr (λ x. eqb-false on w.queue apart (sym x))))
+  switches : (dir : Dir) (on : ℕ) → is_switch_of dir w.queue (event.QueueStep dir on) ≡ false → on ≢ w.queue
+  switches Rx on apart = eqb-false on w.queue apart
+  switches Tx on apart = eqb-false on w.queue apart
 
   received_elsewhere : (dir : Dir) → is_step_of dir w.queue event.RxStep ≡ false
       → LeavesSide dir w.queue s (after s event.RxStep)
@@ -116,9 +256,13 @@ module _ (w : Watched) (s : State) (functions : w.vfs ≡ s.vfs) where
         queues_left w.queue s _ dir (memory_rest.poke s a bytes).queues
     left-side (event.Arrive frame) left other apart = queues_left w.queue s _ dir (arrival_rest s frame).queues
     left-side event.RxStep left other apart = received_elsewhere dir other
-    left-side (event.TxStep on) left other apart = sent_elsewhere dir on other
+    left-side (event.TxStep on) left other apart =
+        others_left dir Tx on _ (transmitting_rest s on).sides
+        (λ e. eqb-false on w.queue (subst (λ d. is_step_of d w.queue (event.TxStep on) ≡ false) e other))
     left-side (event.IntStep g) left other apart = queues_left w.queue s _ dir (message_rest s g).queues
-    left-side (event.QueueStep side on) left other apart = switched_elsewhere dir side on apart
+    left-side (event.QueueStep side on) left other apart =
+        others_left dir side on _ (switching_rest s side on).sides
+        (λ e. switches side on (subst (λ d. is_switch_of d w.queue (event.QueueStep side on) ≡ false) e apart))
     left-side event.EepromStep left other apart = queues_left w.queue s _ dir (eeprom_rest s).queues
     left-side (event.Link up) left other apart = queues_left w.queue s _ dir (link_rest s up).queues
     left-side event.Collect left other apart = queues_left w.queue s _ dir (collecting_rest s).queues

@@ -1,22 +1,50 @@
--- Which blocks are lent, after an event.
-use Rattle.std.proofs.Common.{◌≡◌, ◌≢◌, ℕ, inl, inr, Bool, true, false, not, refl, ap, sym, ◌∙◌, subst}
-use Rattle.std.specs.Prelude.{◌==◌, is_some}
+-- Which blocks are lent, and which frames wait, after an event.
+use Rattle.std.proofs.Common.{[], ◌%◌, ◌++◌, ◌||◌, ◌∙◌, ◌∷◌, ◌≡◌, ◌≢◌, ◌≤◌, Bool, Err, List, Ok, Some, ap, false, inl}
+use Rattle.std.proofs.Common.{inr, length, nat_lt, not, refl, subst, sym, true, ℕ}
+use Rattle.std.proofs.lemmas.Bool.{and_from, and_parts, both_ways, cases_eq, cond_both, eq-eqb, eqb-false, ltb-false}
+use Rattle.std.proofs.lemmas.Bool.{ne_eqb, not-true, or_cases, or_left, or_right}
+use Rattle.std.specs.Prelude.{◌==◌, Result, filter, is_some, ⊤}
+use Rattle.history_laws.specs.Prelude.{Block, Blocks, Done, Event, Memory, Named, Nothing, Outcome, Place, Port}
+use Rattle.history_laws.specs.Prelude.{Register, Reply, Rx, State, Tx, Waiting, after, asks_pool_reset, asks_reset}
+use Rattle.history_laws.specs.Prelude.{frame_limit, gives, has_block, has_queue, is_lent, is_wanted, mode_in, named}
+use Rattle.history_laws.specs.Prelude.{named_written, reply_to, row_of, step_of, write_at}
+use Rattle.nic_device.proofs.Cases.{either_way, lent_cases, switched_cases, taken_cases}
+use Rattle.nic_device.specs.RxFilter.declared.unwanted.Unwanted.{Unwanted}
+use Rattle.nic_device.specs.declared.event.Reply.TheVariants.{Buf, Twice}
+use Rattle.nic_device.proofs.{DmaArena.Bus.get-remove_other, DmaArena.Bus.get-remove_same, KeptBlocks.keeps_blocks}
+use Rattle.nic_device.specs.{Arrival.let_in, Arrival.sorted_in, RegisterFile.Settings.can_receive}
+use Rattle.nic_device.specs.{RxFilter.Sorting.sorted, RxFilter.declared.target.Target.Target, Switching.without_part}
+use Rattle.history_laws.specs.Lent.{AnewIsDone, LendsNone, OnlyLent, OnlyLentStays, either, with_lent, without}
+use Rattle.device_laws.proofs.{Resetting.is_reset, Standing.memory_blocks, Standing.stays_within}
+use Rattle.device_laws.proofs.{StandingAccesses.read_rest}
 use Rattle.std.specs.FinMap as map
-use Rattle.std.proofs.lemmas.Bool.{cases_eq, both_ways, and_from, or_left, or_right, eq-eqb, ne_eqb}
-use Rattle.nic_device.specs.DmaArena.Block.{Block}
-use Rattle.nic_device.specs.DmaArena.Memory.{has_block}
-use Rattle.nic_device.proofs.DmaArena.Bus.{get-remove_same, get-remove_other}
-use Rattle.nic_device.specs.Outcome.{Outcome}
-use Rattle.nic_device.specs.State.{State}
-use Rattle.nic_device.specs.Step.{step_of, after}
-use Rattle.nic_device.specs.declared.event.Event.{Event}
 use Rattle.nic_device.specs.declared.event.Event.TheVariants as event
-use Rattle.nic_device.specs.declared.event.Reply.TheVariants.{Buf}
-use Rattle.nic_device.proofs.Cases.{taken_cases}
-use Rattle.nic_device.proofs.KeptBlocks.{keeps_blocks}
-use Rattle.device_lock.specs.Alone.{Blocks}
-use Rattle.device_laws.proofs.Standing.{memory_blocks}
-use Rattle.history_laws.specs.Lent.{OnlyLent, LendsNone, with_lent, without, OnlyLentStays}
+
+-- Memory calls that are done.
+
+-- a block that isn't lent yet is lent
+lent_anew : (s : State) (block : Block) → has_block s.memory block.number ≡ false
+    → step_of s (event.Lend block) ≡ gives Done (record s { memory = map.insert s.memory block.number block.bytes })
+unfolding step_of
+lent_anew s block none = rw none refl
+
+pub anew_is_done : AnewIsDone
+anew_is_done s block none = ap (λ (o : Outcome). o.reply) (lent_anew s block none)
+
+-- one that is lent is taken back
+pub taken_is : (s : State) (b : ℕ) (bytes : List ℕ) → map.get s.memory b ≡ Some bytes
+    → step_of s (event.Take b)
+    ≡ gives (Buf (record { number = b; bytes = bytes })) (record s { memory = map.remove s.memory b })
+unfolding step_of
+taken_is s b bytes is = rw is refl
+
+-- and its bytes are written, 16 at a time
+pub poked_is : (s : State) (a : ℕ) (bytes : List ℕ) → (a % 16 == 0) ≡ true → is_lent s.memory a 16 ≡ true
+    → step_of s (event.Poke16 a bytes) ≡ gives Done (record s { memory = write_at s.memory a bytes })
+unfolding step_of
+poked_is s a bytes straight lent = rw (straight, lent) refl
+
+-- Which blocks are lent, after an event.
 
 module _ (s : State) (n : ℕ) where
   abbrev Was : Outcome → Type 0
@@ -69,6 +97,11 @@ module _ (own known : Blocks) (s : State) where
       let was = removed_was s n number has in
       and_from (not (n == number)) (known n) (ap not (ne_eqb n number was.0)) (only n is was.1))
 
+pub or_swap : (a b c : Bool) → (a || (b || c)) ≡ (b || (a || c))
+or_swap true true c = refl
+or_swap true false c = refl
+or_swap false b c = refl
+
 pub not_so : (b c : Bool) → (b ≡ true → c ≡ true) → c ≡ false → b ≡ false
 not_so true c so none = absurd (both_ways c none (so refl))
 not_so false c so none = refl
@@ -81,3 +114,138 @@ only_lent_stays = record {
   anew = λ own known s block only is.
       not_so (has_block s.memory block.number) (known block.number) (only block.number is);
 }
+
+-- Of some numbers only those stay lent that one half of a driver has lent, or others, as that half lends and takes.
+
+-- by the reply to a taking the half has lent still what it had, but for a block that came back
+abbrev pub KeepsTaken : Blocks → ℕ → (Reply Block → Blocks) → Reply Block → Type 0
+KeepsTaken had n has (Buf b) = (k : ℕ) → k ≢ n → had k ≡ true → has (Buf b) k ≡ true
+KeepsTaken had n has r = (k : ℕ) → had k ≡ true → has r k ≡ true
+
+module _ (own others : Blocks) (s : State) (had : Blocks) (only : OnlyLent own (either had others) s.memory) where
+  abbrev pub Known : Blocks → Memory → Type 0
+  Known has m = OnlyLent own (either has others) m
+
+  wider : (has : Blocks) (k : ℕ) → (had k ≡ true → has k ≡ true) → either had others k ≡ true
+      → either has others k ≡ true
+  wider has k keeps known = elim (or_cases (had k) (others k) known) [
+    | inl mine ↦ or_left (has k) (others k) (keeps mine)
+    | inr theirs ↦ or_right (has k) (others k) theirs
+  ]
+
+  -- an event that neither lends nor takes
+  pub still_known : (e : Event Block) (has : Blocks) → LendsNone own e → ((k : ℕ) → had k ≡ true → has k ≡ true)
+      → Known has (after s e).memory
+  still_known e has none keeps k is there =
+      wider has k (keeps k) (only_lent_stays.others own (either had others) s e none only k is there)
+
+  -- a block is lent
+  with_one : (has : Blocks) (n k : ℕ) → ((k == n || had k) ≡ true → has k ≡ true)
+      → with_lent (either had others) n k ≡ true → either has others k ≡ true
+  with_one has n k mine is = elim (or_cases (k == n) (had k || others k) is) [
+    | inl same ↦ or_left (has k) (others k) (mine (or_left (k == n) (had k) same))
+    | inr known ↦ wider has k (λ h. mine (or_right (k == n) (had k) h)) known
+  ]
+
+  pub lend_known : (b : Block) (has : Reply Block → Blocks)
+      → ((k : ℕ) → (k == b.number || had k) ≡ true → has Done k ≡ true)
+      → ((k : ℕ) → had k ≡ true → has (Twice b) k ≡ true)
+      → Known (has (reply_to s (event.Lend b))) (after s (event.Lend b)).memory
+  unfolding step_of
+  lend_known b has lends twice =
+      lent_cases (λ o. OnlyLent own (with_lent (either had others) b.number) o.state.memory
+      → Known (has o.reply) o.state.memory) s b
+      (λ given k is there. wider (has (Twice b)) k (twice k) (only k is there))
+      (λ given k is there. with_one (has Done) b.number k (lends k) (given k is there))
+      (only_lent_stays.lend own (either had others) s b only)
+
+  -- one is taken
+  without_one : (has : Blocks) (n k : ℕ) → (k ≢ n → had k ≡ true → has k ≡ true)
+      → without (either had others) n k ≡ true → either has others k ≡ true
+  without_one has n k keeps is =
+      let both = and_parts (not (k == n)) (had k || others k) is in
+      wider has k (keeps (eqb-false k n (not-true (k == n) both.0))) both.1
+
+  taken_by : (n : ℕ) (has : Reply Block → Blocks) (r : Reply Block) → KeepsTaken had n has r
+      → reply_to s (event.Take n) ≡ r → Known (has r) (after s (event.Take n)).memory
+  taken_by n has (Buf b) keeps told k is there =
+      without_one (has (Buf b)) n k (keeps k) (only_lent_stays.take own (either had others) s n b only told k is there)
+  taken_by n has r keeps told k is there =
+      wider (has r) k (keeps k) (only_lent_stays.others own (either had others) s (event.Take n) tt only k is there)
+
+  pub take_known : (n : ℕ) (has : Reply Block → Blocks) → ((r : Reply Block) → KeepsTaken had n has r)
+      → Known (has (reply_to s (event.Take n))) (after s (event.Take n)).memory
+  take_known n has keeps =
+      taken_by n has (reply_to s (event.Take n)) (keeps (reply_to s (event.Take n))) refl
+
+-- The frames that wait after an event.
+
+-- those of a pool's queues are gone after a reset of the pool, and all after one of the device
+pub record Resets (P : List Waiting → Type 0) (s : State) (p : Place) (word : ℕ) : Type 0 where
+  pub device : asks_reset (row_of p.row).kind word ≡ true → P []
+  pub pool :
+      asks_pool_reset (row_of p.row).kind word ≡ true
+      → P (filter (λ (w : Waiting). not (has_queue (mode_in s.registers) p.index w.queue)) s.waiting)
+
+-- what holds where an event changes them: beside these, a frame of at most the limit may come, and a receive side that
+-- goes off takes its own away if some of it is written
+abbrev pub Changes : (List Waiting → Type 0) → State → Event Block → Type 0
+Changes P s event.RxStep = P (after s event.RxStep).waiting
+Changes P s (event.Write port n word) =
+    (p : Place) (view : ℕ) → named s port n ≡ Register p view → Resets P s p word
+Changes P s (event.Arrive frame) =
+    (t : Target) → length frame ≤ frame_limit s.registers → P (s.waiting ++ let_in frame t ∷ [])
+Changes P s (event.QueueStep Rx on) = is_wanted s.registers Rx on ≡ false → P (without_part on s.waiting)
+Changes P s other = ⊤
+
+module _ (P : List Waiting → Type 0) (s : State) (now : P s.waiting) where
+  abbrev Wait : Outcome → Type 0
+  Wait o = P o.state.waiting
+
+  written : (word : ℕ) (m : Named) → ((p : Place) (view : ℕ) → m ≡ Register p view → Resets P s p word)
+      → Wait (named_written s m word)
+  written word (Nothing seen) resets = now
+  written word (Register p view) resets =
+      cond_both (asks_reset (row_of p.row).kind word) _ _ (λ (t : State). P t.waiting)
+      (λ asks. subst P (sym (is_reset s).waiting) ((resets p view refl).device asks))
+      (λ no. cond_both (asks_pool_reset (row_of p.row).kind word) _ _ (λ (t : State). P t.waiting)
+      (λ asks. (resets p view refl).pool asks) (λ none. now))
+
+  written_here : (port : Port) (n word : ℕ) → Changes P s (event.Write port n word)
+      → Wait (step_of s (event.Write port n word))
+  unfolding step_of
+  written_here port n word resets = written word (named s port n) resets
+
+  sorted_wait : (frame : List ℕ) → Changes P s (event.Arrive frame) → length frame ≤ frame_limit s.registers
+      → (answer : Result Target Unwanted) → Wait (sorted_in s frame answer)
+  sorted_wait frame comes low (Ok t) = either_way Wait (nat_lt (length s.waiting) s.fifo) _ _ (comes t low) now
+  sorted_wait frame comes low (Err why) = now
+
+  arrived : (frame : List ℕ) → Changes P s (event.Arrive frame) → Wait (step_of s (event.Arrive frame))
+  unfolding step_of
+  arrived frame comes =
+      either_way Wait s.link _ _
+      (either_way Wait (can_receive s.registers) _ _
+      (either_way Wait (nat_lt (length frame) 60) _ _ now
+      (cond_both (nat_lt (frame_limit s.registers) (length frame)) _ _ Wait (λ long. now)
+      (λ low. sorted_wait frame comes (ltb-false (frame_limit s.registers) (length frame) low)
+      (sorted s.registers frame)))) now) now
+
+  switched : (on : ℕ) → Changes P s (event.QueueStep Rx on) → Wait (step_of s (event.QueueStep Rx on))
+  unfolding step_of
+  switched on parts =
+      switched_cases Wait s Rx on now now
+      (cond_both (is_wanted s.registers Rx on) _ _ (λ (t : State). P t.waiting) (λ wanted. now) parts)
+
+  same : (e : Event Block) → (after s e).waiting ≡ s.waiting → Wait (step_of s e)
+  same e is = subst P (sym is) now
+
+  pub waiting_changed : (e : Event Block) → Changes P s e → P (after s e).waiting
+  waiting_changed event.RxStep received = received
+  waiting_changed (event.Write port n word) resets = written_here port n word resets
+  waiting_changed (event.Arrive frame) comes = arrived frame comes
+  waiting_changed (event.QueueStep Rx on) parts = switched on parts
+  waiting_changed (event.QueueStep Tx on) none =
+      same (event.QueueStep Tx on) ((stays_within s (event.QueueStep Tx on)).waiting refl)
+  waiting_changed (event.Read port n) none = same (event.Read port n) (read_rest s port n).frames.waiting
+  waiting_changed e none = same e ((stays_within s e).waiting refl)

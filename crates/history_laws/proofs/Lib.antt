@@ -1,28 +1,20 @@
 pub use Rattle.device_laws.proofs as DeviceLaws
 pub mod Alone
-pub mod Asking
-pub mod Beginning
 pub mod Blocks
-pub mod Calls
 pub mod Deeds
-pub mod Fetching
-pub mod Filling
-pub mod HalfLent
 pub mod Leaving
 pub mod Lent
 pub mod Limits
-pub mod Modes
-pub mod Naming
-pub mod Parting
 pub mod Reported
 pub mod SideNames
-pub mod Sides
-pub mod Slotless
 pub mod Sound
-pub mod Spared
-pub mod Sparing
 pub mod Steady
-pub mod Switching
 pub mod Tails
-pub mod Waits
 pub mod Written
+pub use Rattle.history_laws.proofs.Steady as Asking
+pub use Rattle.history_laws.proofs.Alone as Beginning
+pub use Rattle.history_laws.proofs.Lent as Calls
+pub use Rattle.history_laws.proofs.Deeds as Filling
+pub use Rattle.history_laws.proofs.Written as Naming
+pub use Rattle.history_laws.proofs.Leaving as Sides
+pub use Rattle.history_laws.proofs.Blocks as Spared

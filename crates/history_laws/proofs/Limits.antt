@@ -1,70 +1,98 @@
--- The frame limit that the entries of a history tell is the device's.
-use Rattle.std.proofs.Common.{◌≡◌, ◌≢◌, ℕ, ◌/◌, ◌%◌, ◌^◌, ◌<◌, ◌⊎◌, inl, inr, Bool, true, false, List, [], ◌∷◌, refl, sym, ap, ◌∙◌, subst, arith, cond}
-use Rattle.std.proofs.lemmas.Bool.{cases_eq}
-use Rattle.nic_device.specs.DmaArena.Block.{Block}
-use Rattle.nic_device.specs.EepromImage.Image.{blank}
-use Rattle.nic_device.specs.EepromImage.Triples.{triples_of}
-use Rattle.nic_device.proofs.EepromImage.Blank.{triples_of-blank}
-use Rattle.nic_device.specs.RegTable.Rows.{row_of, number_of}
-use Rattle.nic_device.specs.RegTable.declared.place.Place.{Place}
-use Rattle.nic_device.specs.RegTable.declared.rows.RowId.{RowId}
-use Rattle.nic_device.specs.RegTable.declared.rows.RowId.TheVariants.{Ctrl, GcrExt, Hlreg0, Maxfrs}
-use Rattle.nic_device.proofs.RegTable.FirstAddresses.{same_number}
-use Rattle.nic_device.specs.VfMap.Pools.{mode_of}
-use Rattle.nic_device.specs.RegisterFile.Access.{asks_reset}
-use Rattle.nic_device.specs.RegisterFile.Bits.{has_bit}
-use Rattle.nic_device.specs.RegisterFile.Columns.{place}
-use Rattle.nic_device.specs.RegisterFile.Pools.{mode_in}
-use Rattle.nic_device.specs.RegisterFile.Registers.{Registers, word_of}
-use Rattle.nic_device.proofs.RegisterFile.ResetWords.{word_at-reset}
-use Rattle.nic_device.proofs.RegisterLaws.Puts.{same_parts}
-use Rattle.nic_device.proofs.RegisterLaws.Shape.{put_stands}
-use Rattle.nic_device.specs.Access.{named_written}
-use Rattle.nic_device.specs.Eeprom.{reset, with_triples}
-use Rattle.nic_device.specs.PoolReset.{written_below_reset}
-use Rattle.nic_device.specs.Named.{named}
-use Rattle.nic_device.specs.Sound.{IsSound}
-use Rattle.nic_device.specs.State.{State, cleared, new_state}
-use Rattle.nic_device.specs.Step.{step_of, after}
-use Rattle.nic_device.specs.declared.event.Event.{Event}
+-- The settings that the entries of a history tell are the device's: how the queues are parted among pools, and how
+-- long frames may be.
+use Rattle.std.proofs.Common.{[], ◌%◌, ◌/◌, ◌<◌, ◌^◌, ◌∙◌, ◌∷◌, ◌≡◌, ◌≢◌, Bool, List, ap, arith, cond, false, inl, inr}
+use Rattle.std.proofs.{Common.refl, Common.subst, Common.sym, Common.true, Common.ℕ, lemmas.Bool.cases_Bool}
+use Rattle.std.specs.Prelude.{if◌then◌else◌, ◌==◌}
+use Rattle.history_laws.specs.Prelude.{AreEvents, Block, Entry, Event, GcrExt, IsSound, Maxfrs, Mode, Named, Nothing}
+use Rattle.history_laws.specs.Prelude.{Off, Pf, Place, Port, Register, RowId, State, after, asks_reset, has_bit}
+use Rattle.history_laws.specs.Prelude.{leads_to, mode_in, mode_through, named, named_written, new_state, place, row_of}
+use Rattle.history_laws.specs.Prelude.{step_of, word_of}
+use Rattle.nic_device.specs.RegTable.declared.rows.RowId.TheVariants.{Ctrl, Hlreg0}
+use Rattle.nic_device.specs.VfMap.declared.mode.Mode.TheVariants.{Pools16, Pools32, Pools64}
+use Rattle.nic_device.proofs.{EepromImage.Blank.triples_of-blank, RegisterFile.ResetWords.word_at-reset}
+use Rattle.nic_device.proofs.{RegisterLaws.Accessed.none_written_by, RegisterLaws.Footprints.word_stands}
+use Rattle.nic_device.proofs.{RegisterLaws.Owners.is_place-other, RegisterLaws.Puts.same_parts}
+use Rattle.nic_device.proofs.{RegisterLaws.Shape.put_stands, Steps.keeps_sound, Steps.step_leads}
+use Rattle.nic_device.specs.{Eeprom.reset, Eeprom.with_triples, EepromImage.Image.blank, EepromImage.Triples.triples_of}
+use Rattle.nic_device.specs.{Footprint.below_reset_reach, Footprint.reset_reach, Footprint.write_reach}
+use Rattle.nic_device.specs.{PoolReset.written_below_reset, State.cleared, VfMap.Pools.mode_of}
+use Rattle.device_lock.specs.Alone.{is_setting, mode_after, mode_set, mode_written}
+use Rattle.device_lock.specs.Told.{first_settings, frames_set, frames_written, limit_of, settings_after}
+use Rattle.device_lock.specs.{Told.settings_through, Told.usual_frames, declared.told.Frames.Frames}
+use Rattle.device_lock.specs.{declared.told.Settings.Settings}
+use Rattle.history_laws.proofs.Written.{AreReal, IsReal, low_bit_merged, low_merged, merged_high, place_in, place_named}
+use Rattle.history_laws.proofs.{Leaving.no_setting, Written.real}
+use Rattle.history_laws.specs.Laws.{ModeIsTold, SettingsAreTold}
+use Rattle.device_laws.proofs.Settings.{IsSetting, setting_stands}
 use Rattle.nic_device.specs.declared.event.Event.TheVariants as event
-use Rattle.nic_device.specs.declared.event.Port.{Port}
-use Rattle.nic_device.specs.declared.named.Named.{Named}
-use Rattle.nic_device.specs.declared.named.Named.TheVariants.{Nothing, Register}
-use Rattle.nic_device.proofs.Steps.{step_leads, keeps_sound}
-use Rattle.device_laws.proofs.Settings.{setting_stands}
-use Rattle.device_lock.specs.Alone.{place_at}
-use Rattle.device_lock.specs.History.{leads_to, AreEvents}
-use Rattle.device_lock.specs.Told.{first_settings, frames_set, frames_written, limit_of, settings_after, settings_through, usual_frames}
-use Rattle.device_lock.specs.declared.entry.Entry.{Entry}
-use Rattle.device_lock.specs.declared.told.Frames.{Frames}
-use Rattle.device_lock.specs.declared.told.Settings.{Settings}
-use Rattle.history_laws.specs.Laws.{SettingsAreTold}
-use Rattle.history_laws.proofs.Modes.{event_told}
-use Rattle.history_laws.proofs.Naming.{place_in, place_named, IsReal, AreReal, real}
-use Rattle.history_laws.proofs.Parting.{control_stands, jumbo_setting, longest_setting, other_stands}
-use Rattle.history_laws.proofs.Written.{low_bit_merged, merged_high}
 
--- how long frames may be, by two words and by the registers
+-- no step of the device changes GCR_EXT, HLREG0 or MAXFRS
+
+setting : IsSetting GcrExt
+setting = record { bank = refl; alone = refl; still = λ bit. refl; unread = λ e. cc }
+
+jumbo_setting : IsSetting Hlreg0
+jumbo_setting = record { bank = refl; alone = refl; still = λ bit. refl; unread = λ e. cc }
+
+longest_setting : IsSetting Maxfrs
+longest_setting = record { bank = refl; alone = refl; still = λ bit. refl; unread = λ e. cc }
+
+-- nor does a write of CTRL that asks for no reset
+control_stands : (row : RowId) → IsSetting row → row ≢ Ctrl → (s : State) (port : Port) (n word index view : ℕ)
+    → named s port n ≡ Register (place Ctrl index) view → asks_reset (row_of Ctrl).kind word ≡ false
+    → word_of (after s (event.Write port n word)).registers row 0 ≡ word_of s.registers row 0
+control_stands row is other s port n word index view found none =
+    word_stands (step_leads s (event.Write port n word)).stays.registers (place row 0)
+    (λ bit. ap (λ m. (write_reach (mode_in s.registers) m word).registers.bits (place row 0) bit) found
+    ∙ ap (λ b. (cond b reset_reach (below_reset_reach (mode_in s.registers) (place Ctrl index) word)).registers.bits
+    (place row 0) bit) none
+    ∙ none_written_by (place row 0) is.alone (row_of Ctrl).kind (place Ctrl index)
+    (is_place-other (place Ctrl index) (place row 0) (λ e. other (ap (λ (q : Place). q.row) e))) bit)
+
+-- or of a register that is neither its own nor CTRL
+
+abbrev row_in : Named → RowId
+row_in (Nothing seen) = GcrExt
+row_in (Register p view) = p.row
+
+abbrev event_parts : Event Block → (Port × (ℕ × ℕ))
+event_parts (event.Write port n word) = (port, (n, word))
+event_parts other = (Pf, (0, 0))
+
+other_stands : (row : RowId) → IsSetting row → (s : State) (port : Port) (n word : ℕ) (p : Place) (view : ℕ)
+    → named s port n ≡ Register p view → p.row ≢ row → p.row ≢ Ctrl
+    → word_of (after s (event.Write port n word)).registers row 0 ≡ word_of s.registers row 0
+other_stands row is s port n word p view found own control =
+    setting_stands row is s (event.Write port n word) (λ port' n' word' q view' same there.
+    let parts = ap event_parts same in
+    let row : q.row ≡ p.row =
+    ap row_in (sym there ∙ (λ k. named s (sym (ap (λ x. x.0) parts) k) (sym (ap (λ x. x.1.0) parts) k)) ∙ found) in
+    record { control = λ e. control (sym row ∙ e); other = λ e. own (sym row ∙ e) })
+
+-- the settings, by three words and by a device's registers
 
 abbrev frames_by : ℕ → ℕ → Frames
 frames_by control longest = record { jumbo = has_bit 2 control; longest = longest / 2 ^ 16 }
 
-abbrev frames_in : Registers → Frames
-frames_in r = frames_by (word_of r Hlreg0 0) (word_of r Maxfrs 0)
+abbrev settings_by : ℕ → ℕ → ℕ → Settings
+settings_by ext control longest = record { mode = mode_of ext; frames = frames_by control longest }
 
-other_frames : (f : Frames) (row : RowId) (word : ℕ) → row ≢ Hlreg0 → row ≢ Maxfrs → row ≢ Ctrl
-    → frames_set f row word ≡ f
-other_frames f Hlreg0 word n m k = absurd (n refl)
-other_frames f Maxfrs word n m k = absurd (m refl)
-other_frames f Ctrl word n m k = absurd (k refl)
-other_frames f other word n m k = refl
+abbrev settings_in : State → Settings
+settings_in s = settings_by (word_of s.registers GcrExt 0) (word_of s.registers Hlreg0 0) (word_of s.registers Maxfrs 0)
 
-frames_of_reset : (s : State) → s.image ≡ blank
-    → frames_in (with_triples (cleared s) (triples_of s.image)).registers ≡ usual_frames
-frames_of_reset s image =
-    ap (λ ts. frames_in (with_triples (cleared s) ts).registers) (ap triples_of image ∙ triples_of-blank)
-    ∙ (λ i. frames_by (word_at-reset (place Hlreg0 0) (omega arith) i) (word_at-reset (place Maxfrs 0) (omega arith) i))
+abbrev by_low_bits : ℕ → Mode
+by_low_bits n = if n == 0 then Off else (if n == 1 then Pools16 else (if n == 2 then Pools32 else Pools64))
+
+new_settings : (vfs fifo : ℕ) → settings_in (new_state vfs fifo) ≡ first_settings
+new_settings vfs fifo = λ i.
+    settings_by (word_at-reset (place GcrExt 0) (omega arith) i) (word_at-reset (place Hlreg0 0) (omega arith) i)
+    (word_at-reset (place Maxfrs 0) (omega arith) i)
+
+settings_of_reset : (s : State) → s.image ≡ blank
+    → settings_in (with_triples (cleared s) (triples_of s.image)) ≡ first_settings
+settings_of_reset s image =
+    ap (λ ts. settings_in (with_triples (cleared s) ts)) (ap triples_of image ∙ triples_of-blank)
+    ∙ new_settings s.vfs s.fifo
 
 -- what a write tells of them is so of the device after it
 
@@ -72,124 +100,128 @@ module _ (s : State) (sound : IsSound s) (image : s.image ≡ blank) (port : Por
   abbrev t : State
   t = after s (event.Write port n word)
 
+  abbrev told : RowId → Settings
+  told row = record {
+    mode = mode_set (mode_in s.registers) row word;
+    frames = frames_set (settings_in s).frames row word;
+  }
+
   left_by : (m : Named) → named s port n ≡ m → t ≡ (named_written s m word).state
   unfolding step_of
   left_by m found = ap (λ x. (named_written s x word).state) found
 
-  -- a word of its own stays where another is written
-  word_stays : (p : Place) (view : ℕ) → named s port n ≡ Register p view → p.row ≢ Ctrl
-      → (p.row ≢ Hlreg0 → word_of t.registers Hlreg0 0 ≡ word_of s.registers Hlreg0 0)
-      × (p.row ≢ Maxfrs → word_of t.registers Maxfrs 0 ≡ word_of s.registers Maxfrs 0)
-  word_stays p view found control = (
-    λ own. other_stands Hlreg0 jumbo_setting s port n word p view found own control,
-    λ own. other_stands Maxfrs longest_setting s port n word p view found own control,
-  )
+  module _ (p : Place) (view : ℕ) (found : named s port n ≡ Register p view) (real : IsReal p view) where
+    stays : (row own : RowId) → IsSetting row → p.row ≡ own → own ≢ row → own ≢ Ctrl
+        → word_of t.registers row 0 ≡ word_of s.registers row 0
+    stays row own is at other control =
+        other_stands row is s port n word p view found (λ e. other (sym at ∙ e)) (λ e. control (sym at ∙ e))
 
-  control_written : (index view : ℕ) (b : Bool) → named s port n ≡ Register (place Ctrl index) view
-      → asks_reset (row_of Ctrl).kind word ≡ b
-      → cond b usual_frames (frames_in s.registers) ≡ frames_in t.registers
-  control_written index view true found asks =
-      sym (ap (λ (x : State). frames_in x.registers) (left_by (Register (place Ctrl index) view) found)
-      ∙ ap (λ b. frames_in (cond b (reset s) (written_below_reset s (place Ctrl index) view word)).registers) asks
-      ∙ frames_of_reset s image)
-  control_written index view false found asks =
-      sym (λ i. frames_by
-      (control_stands Hlreg0 jumbo_setting (λ e. cc) s port n word index view found asks i)
-      (control_stands Maxfrs longest_setting (λ e. cc) s port n word index view found asks i))
+    -- a setting's register is the only one of its row
+    written_by : (row : RowId) → p.row ≡ row → (row_of row).count ≡ 1 → (seen : ℕ) → view ≡ seen
+        → t ≡ (named_written s (Register (place row 0) seen) word).state
+    written_by row at one seen is =
+        let inside : p.index < (row_of row).count = subst (λ r. p.index < (row_of r).count) at real.inside in
+        let here : p ≡ place row 0 = same_parts p (place row 0) at (omega (arith, inside, one)) in
+        left_by (Register (place row 0) seen) (found ∙ (λ i. Register (here i) (is i)))
 
-  -- HLREG0 is written, and MAXFRS
-  own_written : (row : RowId) (p : Place) (view : ℕ) → named s port n ≡ Register p view → IsReal p view
-      → p.row ≡ row → (row_of row).count ≡ 1 → p ≡ place row 0
-  own_written row p view found real is one =
-      let inside : p.index < (row_of row).count = subst (λ r. p.index < (row_of r).count) is real.inside in
-      let index : p.index ≡ 0 = omega (arith, inside, one) in
-      same_parts p (place row 0) is index
+    control : (index : ℕ) (b : Bool) → named s port n ≡ Register (place Ctrl index) view
+        → asks_reset (row_of Ctrl).kind word ≡ b → cond b first_settings (settings_in s) ≡ settings_in t
+    control index true there asks =
+        sym (ap settings_in (left_by (Register (place Ctrl index) view) there)
+        ∙ ap (λ b. settings_in (cond b (reset s) (written_below_reset s (place Ctrl index) view word))) asks
+        ∙ settings_of_reset s image)
+    control index false there asks = sym (λ i. settings_by
+        (control_stands GcrExt setting (λ e. cc) s port n word index view there asks i)
+        (control_stands Hlreg0 jumbo_setting (λ e. cc) s port n word index view there asks i)
+        (control_stands Maxfrs longest_setting (λ e. cc) s port n word index view there asks i))
 
-  jumbo_written : (p : Place) (view : ℕ) → named s port n ≡ Register p view → IsReal p view → p.row ≡ Hlreg0
-      → frames_set (frames_in s.registers) p.row word ≡ frames_in t.registers
-  jumbo_written p view found real row =
-      let here : p ≡ place Hlreg0 0 = own_written Hlreg0 p view found real row refl in
-      let there : named s port n ≡ Register (place Hlreg0 0) view = found ∙ ap (λ q. Register q view) here in
-      let bit : has_bit 2 (word_of t.registers Hlreg0 0) ≡ has_bit 2 word =
-      ap (λ (x : State). has_bit 2 (word_of x.registers Hlreg0 0)) (left_by (Register (place Hlreg0 0) view) there)
-      ∙ ap (has_bit 2) (put_stands s.registers (place Hlreg0 0) _ sound.registers.shape (omega arith))
-      ∙ low_bit_merged view (word_of s.registers Hlreg0 0) word real.shown in
-      let stays = (word_stays (place Hlreg0 0) view there (λ e. cc)).1 (λ e. cc) in
-      ap (λ r. frames_set (frames_in s.registers) r word) row
-      ∙ sym (λ i. record { jumbo = bit i; longest = stays i / 2 ^ 16 })
+    control_told : (b : Bool) (was : Settings) → record {
+      mode = cond b Off was.mode;
+      frames = cond b usual_frames was.frames;
+    } ≡ cond b first_settings was
+    control_told true was = refl
+    control_told false was = refl
 
-  longest_written : (p : Place) (view : ℕ) → named s port n ≡ Register p view → IsReal p view → p.row ≡ Maxfrs
-      → frames_set (frames_in s.registers) p.row word ≡ frames_in t.registers
-  longest_written p view found real row =
-      let here : p ≡ place Maxfrs 0 = own_written Maxfrs p view found real row refl in
-      let there : named s port n ≡ Register (place Maxfrs 0) 0xFFFFFFFF =
-      found ∙ (λ i. Register (here i) (real.whole row i)) in
-      let high : word_of t.registers Maxfrs 0 / 2 ^ 16 ≡ word / 2 ^ 16 % 2 ^ 16 =
-      ap (λ (x : State). word_of x.registers Maxfrs 0 / 2 ^ 16) (left_by (Register (place Maxfrs 0) 0xFFFFFFFF) there)
-      ∙ ap (λ (w : ℕ). w / 2 ^ 16) (put_stands s.registers (place Maxfrs 0) _ sound.registers.shape (omega arith))
-      ∙ merged_high (word_of s.registers Maxfrs 0) word in
-      let stays = (word_stays (place Maxfrs 0) 0xFFFFFFFF there (λ e. cc)).0 (λ e. cc) in
-      ap (λ r. frames_set (frames_in s.registers) r word) row
-      ∙ sym (λ i. record { jumbo = has_bit 2 (stays i); longest = high i })
+    written : (row : RowId) → p.row ≡ row → is_setting row ≡ true → told row ≡ settings_in t
+    written GcrExt at own =
+        let mode : mode_in t.registers ≡ mode_of word =
+        ap (λ (x : State). mode_in x.registers) (written_by GcrExt at refl view refl)
+        ∙ ap mode_of (put_stands s.registers (place GcrExt 0) _ sound.registers.shape (omega arith))
+        ∙ ap by_low_bits (low_merged view (word_of s.registers GcrExt 0) word real.shown) in
+        sym (λ i. record {
+          mode = mode i;
+          frames = frames_by (stays Hlreg0 GcrExt jumbo_setting at (λ e. cc) (λ e. cc) i)
+              (stays Maxfrs GcrExt longest_setting at (λ e. cc) (λ e. cc) i);
+        })
+    written Hlreg0 at own =
+        let bit : has_bit 2 (word_of t.registers Hlreg0 0) ≡ has_bit 2 word =
+        ap (λ (x : State). has_bit 2 (word_of x.registers Hlreg0 0)) (written_by Hlreg0 at refl view refl)
+        ∙ ap (has_bit 2) (put_stands s.registers (place Hlreg0 0) _ sound.registers.shape (omega arith))
+        ∙ low_bit_merged view (word_of s.registers Hlreg0 0) word real.shown in
+        sym (λ i. record {
+          mode = mode_of (stays GcrExt Hlreg0 setting at (λ e. cc) (λ e. cc) i);
+          frames = record {
+            jumbo = bit i;
+            longest = stays Maxfrs Hlreg0 longest_setting at (λ e. cc) (λ e. cc) i / 2 ^ 16;
+          };
+        })
+    written Maxfrs at own =
+        let high : word_of t.registers Maxfrs 0 / 2 ^ 16 ≡ word / 2 ^ 16 % 2 ^ 16 =
+        ap (λ (x : State). word_of x.registers Maxfrs 0 / 2 ^ 16)
+        (written_by Maxfrs at refl 0xFFFFFFFF (real.whole at))
+        ∙ ap (λ (w : ℕ). w / 2 ^ 16) (put_stands s.registers (place Maxfrs 0) _ sound.registers.shape (omega arith))
+        ∙ merged_high (word_of s.registers Maxfrs 0) word in
+        sym (λ i. record {
+          mode = mode_of (stays GcrExt Maxfrs setting at (λ e. cc) (λ e. cc) i);
+          frames = record {
+            jumbo = has_bit 2 (stays Hlreg0 Maxfrs jumbo_setting at (λ e. cc) (λ e. cc) i);
+            longest = high i;
+          };
+        })
+    written Ctrl at own =
+        control_told (asks_reset (row_of Ctrl).kind word) (settings_in s)
+        ∙ control p.index _ (found ∙ ap (λ q. Register q view) (same_parts p (place Ctrl p.index) at refl)) refl
+    written other at own = cc
 
-  register_written : (p : Place) (view : ℕ) → named s port n ≡ Register p view → IsReal p view
-      → (number_of p.row ≡ number_of Hlreg0) ⊎ (number_of p.row ≢ number_of Hlreg0)
-      → (number_of p.row ≡ number_of Maxfrs) ⊎ (number_of p.row ≢ number_of Maxfrs)
-      → (number_of p.row ≡ number_of Ctrl) ⊎ (number_of p.row ≢ number_of Ctrl)
-      → frames_set (frames_in s.registers) p.row word ≡ frames_in t.registers
-  register_written p view found real (inl jumbo) l c =
-      jumbo_written p view found real (same_number p.row Hlreg0 jumbo)
-  register_written p view found real (inr jumbo) (inl longest) c =
-      longest_written p view found real (same_number p.row Maxfrs longest)
-  register_written p view found real (inr jumbo) (inr longest) (inl control) =
-      let row : p.row ≡ Ctrl = same_number p.row Ctrl control in
-      let here : p ≡ place Ctrl p.index = same_parts p (place Ctrl p.index) row refl in
-      ap (λ r. frames_set (frames_in s.registers) r word) row
-      ∙ control_written p.index view _ (found ∙ ap (λ q. Register q view) here) refl
-  register_written p view found real (inr jumbo) (inr longest) (inr control) =
-      let no_jumbo : p.row ≢ Hlreg0 = λ e. jumbo (ap number_of e) in
-      let no_longest : p.row ≢ Maxfrs = λ e. longest (ap number_of e) in
-      let no_control : p.row ≢ Ctrl = λ e. control (ap number_of e) in
-      let stays = word_stays p view found no_control in
-      other_frames (frames_in s.registers) p.row word no_jumbo no_longest no_control
-      ∙ sym (λ i. frames_by (stays.0 no_jumbo i) (stays.1 no_longest i))
+  plain : (row : RowId) → is_setting row ≡ false → told row ≡ settings_in s
+  plain GcrExt none = cc
+  plain Hlreg0 none = cc
+  plain Maxfrs none = cc
+  plain Ctrl none = cc
+  plain other none = refl
 
-  named_frames : (m : Named) → named s port n ≡ m → AreReal m
-      → frames_written (frames_in s.registers) (place_in m) word ≡ frames_in t.registers
-  named_frames (Nothing seen) found real =
-      sym (ap (λ (x : State). frames_in x.registers) (left_by (Nothing seen) found))
-  named_frames (Register p view) found real =
-      register_written p view found real (cases_eq (number_of p.row) (number_of Hlreg0))
-      (cases_eq (number_of p.row) (number_of Maxfrs)) (cases_eq (number_of p.row) (number_of Ctrl))
+  named_told : (m : Named) → named s port n ≡ m → AreReal m → record {
+    mode = mode_written (mode_in s.registers) (place_in m) word;
+    frames = frames_written (settings_in s).frames (place_in m) word;
+  } ≡ settings_in t
+  named_told (Nothing seen) found real = sym (ap settings_in (left_by (Nothing seen) found))
+  named_told (Register p view) found real = elim (cases_Bool (is_setting p.row)) [
+    | inl own ↦ written p view found real p.row refl own
+    | inr none ↦
+        let no = no_setting p.row none in
+        plain p.row none ∙ sym (λ i. settings_by
+        (other_stands GcrExt setting s port n word p view found no.3 no.0 i)
+        (other_stands Hlreg0 jumbo_setting s port n word p view found no.1 no.0 i)
+        (other_stands Maxfrs longest_setting s port n word p view found no.2 no.0 i))
+  ]
 
-  write_told : frames_written (frames_in s.registers) (place_at (mode_in s.registers) s.vfs port n) word
-      ≡ frames_in t.registers
+  write_told : settings_after s.vfs (settings_in s) (event.Write port n word) ≡ settings_in t
   write_told =
-      ap (λ o. frames_written (frames_in s.registers) o word) (place_named s port n)
-      ∙ named_frames (named s port n) refl (real s port n)
+      ap (λ o. record {
+        mode = mode_written (mode_in s.registers) o word;
+        frames = frames_written (settings_in s).frames o word;
+      }) (place_named s port n)
+      ∙ named_told (named s port n) refl (real s port n)
 
--- and so of both settings, over every event and along a history
+-- and over every event and along a history
 
-abbrev settings_in : State → Settings
-settings_in s = record { mode = mode_in s.registers; frames = frames_in s.registers }
-
-frames_stay : (s : State) (e : Event Block)
-    → ((port : Port) (n word : ℕ) → ◌≢◌ {A = Event Block} e (event.Write port n word))
-    → frames_in (after s e).registers ≡ frames_in s.registers
-frames_stay s e none = λ i. frames_by
-    (setting_stands Hlreg0 jumbo_setting s e (λ port n word p view is there. absurd (none port n word is)) i)
-    (setting_stands Maxfrs longest_setting s e (λ port n word p view is there. absurd (none port n word is)) i)
-
-event_settings : (s : State) → IsSound s → s.image ≡ blank → (e : Event Block)
+event_told : (s : State) → IsSound s → s.image ≡ blank → (e : Event Block)
     → settings_after s.vfs (settings_in s) e ≡ settings_in (after s e)
-event_settings s sound image (event.Write port n word) = λ i. record {
-  mode = event_told s sound image (event.Write port n word) i;
-  frames = write_told s sound image port n word i;
-}
-event_settings s sound image e = λ i. record {
-  mode = event_told s sound image e i;
-  frames = sym (frames_stay s e (λ port n word is. cc)) i;
-}
+event_told s sound image (event.Write port n word) = write_told s sound image port n word
+event_told s sound image e = sym (λ i. settings_by
+    (setting_stands GcrExt setting s e (λ port n word p view is there. cc) i)
+    (setting_stands Hlreg0 jumbo_setting s e (λ port n word p view is there. cc) i)
+    (setting_stands Maxfrs longest_setting s e (λ port n word p view is there. cc) i))
 
 told_from : (s : State) (h : List Entry) → IsSound s → s.image ≡ blank → AreEvents h
     → settings_through s.vfs (settings_in s) h ≡ settings_in (leads_to s h)
@@ -197,18 +229,37 @@ told_from s [] sound image events = refl
 told_from s (e ∷ es) sound image events =
     let t = after s e.event in
     let stays = (step_leads s e.event).stays in
-    ap (λ m. settings_through s.vfs m es) (event_settings s sound image e.event)
+    ap (λ m. settings_through s.vfs m es) (event_told s sound image e.event)
     ∙ ap (λ vfs. settings_through vfs (settings_in t) es) (sym stays.vfs)
     ∙ told_from t es (keeps_sound s sound e.event events.0) (stays.image ∙ image) events.1
 
-first_told : (vfs fifo : ℕ) → first_settings ≡ settings_in (new_state vfs fifo)
-first_told vfs fifo = sym (λ i. record {
-  mode = mode_of (word_at-reset (place GcrExt 0) (omega arith) i);
-  frames = frames_by (word_at-reset (place Hlreg0 0) (omega arith) i) (word_at-reset (place Maxfrs 0) (omega arith) i);
-})
-
 pub settings_told : SettingsAreTold
 settings_told vfs fifo h new events =
-    let told =
-    ap (λ m. settings_through vfs m h) (first_told vfs fifo) ∙ told_from (new_state vfs fifo) h new refl events in
+    let told = ap (λ m. settings_through vfs m h) (sym (new_settings vfs fifo))
+    ∙ told_from (new_state vfs fifo) h new refl events in
     (ap (λ (m : Settings). m.mode) told, ap (λ (m : Settings). limit_of m.frames) told)
+
+-- the mode by itself is one of them
+
+mode_after_is : (vfs : ℕ) (m : Settings) (e : Event Block) → mode_after vfs m.mode e ≡ (settings_after vfs m e).mode
+mode_after_is vfs m (event.Write port n word) = refl
+mode_after_is vfs m other = refl
+
+mode_through_is : (vfs : ℕ) (m : Settings) (h : List Entry)
+    → mode_through vfs m.mode h ≡ (settings_through vfs m h).mode
+mode_through_is vfs m [] = refl
+mode_through_is vfs m (e ∷ es) =
+    ap (λ mode. mode_through vfs mode es) (mode_after_is vfs m e.event)
+    ∙ mode_through_is vfs (settings_after vfs m e.event) es
+
+pub mode_told_from : (s : State) (h : List Entry) → IsSound s → s.image ≡ blank → AreEvents h
+    → mode_through s.vfs (mode_in s.registers) h ≡ mode_in (leads_to s h).registers
+mode_told_from s h sound image events =
+    mode_through_is s.vfs (settings_in s) h ∙ ap (λ (m : Settings). m.mode) (told_from s h sound image events)
+
+pub mode_told : ModeIsTold
+mode_told vfs fifo h new events =
+    mode_through_is vfs first_settings h ∙ (settings_told vfs fifo h new events).0
+
+pub new_is_off : (vfs fifo : ℕ) → mode_in (new_state vfs fifo).registers ≡ Off
+new_is_off vfs fifo = ap (λ (m : Settings). m.mode) (new_settings vfs fifo)

@@ -1,14 +1,22 @@
+-- A side of a queue, whatever the device does to it, and as a driver asks for it to be on or off.
+use Rattle.std.proofs.Common.{[], ◌%◌, ◌&&◌, ◌/◌, ◌<◌, ◌^◌, ◌∙◌, ◌≡◌, ◌⊎◌, Bool, List, ap, arith, cond, false, inl, inr}
+use Rattle.std.specs.Prelude.{◌==◌, IsFalse, IsTrue, bit_and}
+use Rattle.std.proofs.{Common.not, Common.refl, Common.subst, Common.sym, Common.true, Common.ℕ, lemmas.Bool.both_ways}
+use Rattle.std.proofs.{lemmas.Bool.cases_Bool, lemmas.Nat.and_mask}
+use Rattle.history_laws.specs.Prelude.{Block, Dir, Event, IsSound, Port, Register, Rx, State, Tx, Txdctl, after}
+use Rattle.history_laws.specs.Prelude.{has_bit, named, named_written, place, receive_queue_of, reply_to, staged_by}
+use Rattle.history_laws.specs.Prelude.{step_of, transmit_queue_of, word_of}
+use Rattle.nic_device.proofs.RegisterLaws.Switches.{receive-asked, transmit-asked}
+use Rattle.nic_device.specs.RegTable.declared.rows.RowId.TheVariants.{Rxdctl}
+use Rattle.nic_device.specs.{Access.named_read, RegisterFile.Queue.enable_row, declared.event.Reply.TheVariants.Word}
+use Rattle.history_laws.specs.Left.{Deed, IsSilent, Nothing, Rested, Rests, Shut, Shuts, Switched, Took}
+use Rattle.history_laws.specs.Sides.{IsOff, IsTried, IsUnwanted, IsUp, LeavesSide, Side, as_wanted, receive_side, shut}
+use Rattle.history_laws.proofs.Leaving.{queues_left, receive_left, transmit_left}
+use Rattle.history_laws.specs.Sides.{side_of, taken, transmit_side}
+use Rattle.device_laws.proofs.StandingAccesses.{read_rest, write_rest}
+use Rattle.nic_device.specs.declared.event.Event.TheVariants as event
+
 -- What stays of a side whatever the device does to it.
-use Rattle.std.proofs.Common.{◌≡◌, ℕ, ◌⊎◌, inl, inr, Bool, true, false, not, ◌&&◌, List, [], refl, sym, ap, ◌∙◌, subst, cond}
-use Rattle.std.specs.Prelude.{IsTrue, IsFalse}
-use Rattle.std.proofs.lemmas.Bool.{both_ways, cases_Bool}
-use Rattle.nic_device.specs.DmaArena.Block.{Block}
-use Rattle.nic_device.specs.DmaRing.declared.dir.Dir.{Dir}
-use Rattle.nic_device.specs.State.{State}
-use Rattle.nic_device.specs.Step.{after}
-use Rattle.nic_device.specs.declared.event.Event.{Event}
-use Rattle.history_laws.specs.Left.{Deed, Took, Rested, IsSilent, Rests, Nothing, Shut, Switched, Shuts}
-use Rattle.history_laws.specs.Sides.{IsOff, IsTried, IsUnwanted, IsUp, Side, as_wanted, shut, side_of, taken}
 
 -- it stays as the side's slot is taken, as the side is shut, and as it becomes what it is wanted to be
 pub record IsSteady (P : Side → Type 0) : Type 0 where
@@ -35,6 +43,10 @@ pub record HaveSameRing (x y : Side) : Type 0 where
   pub control : y.control ≡ x.control
   pub writeback : y.writeback ≡ x.writeback
   pub staged : x.staged ≡ [] → y.staged ≡ []
+
+ring_same : (x : Side) (on wanted : Bool) (staged : List ℕ) → (x.staged ≡ [] → staged ≡ [])
+    → HaveSameRing x (record x { on = on; wanted = wanted; staged = staged })
+ring_same x on wanted staged none = record { ring = refl; control = refl; writeback = refl; staged = none }
 
 pub none_staged : (wanted : Bool) (staged : List ℕ) → staged ≡ [] → cond wanted staged [] ≡ []
 none_staged true staged none = none
@@ -65,19 +77,10 @@ module _ (dir : Dir) (queue : ℕ) (s : State) (e : Event Block) where
   -- an event that takes no slot leaves the ring
   pub resting_same : Rests dir queue s e → HaveSameRing old new
   resting_same (Nothing left) =
-      subst (HaveSameRing old) (sym left)
-      (record { ring = refl; control = refl; writeback = refl; staged = λ none. none })
-  resting_same (Shut x) =
-      subst (HaveSameRing old) (sym x.side)
-      (record { ring = refl; control = refl; writeback = refl; staged = λ none. refl })
+      subst (HaveSameRing old) (sym left) (ring_same old old.on old.wanted old.staged (λ none. none))
+  resting_same (Shut x) = subst (HaveSameRing old) (sym x.side) (ring_same old false false [] (λ none. refl))
   resting_same (Switched is) =
-      subst (HaveSameRing old) (sym is)
-      (record {
-        ring = refl;
-        control = refl;
-        writeback = refl;
-        staged = λ none. none_staged old.wanted old.staged none;
-      })
+      subst (HaveSameRing old) (sym is) (ring_same old old.wanted old.wanted _ (none_staged old.wanted old.staged))
 
   -- a side that is up stays so, where no fault can shut it
   module _ (up : IsUp old) (never : Shuts dir queue s e → ⊥) where
@@ -162,3 +165,89 @@ module _ (dir : Dir) (queue : ℕ) (s : State) (e : Event Block) (did : Deed dir
     settled = steady_kept dir queue s e IsSettled is settled_steady did;
     never = not_again (side_of dir queue s).on (side_of dir queue (after s e)).on (stays_off is);
   }
+
+-- A word that is written to the enable register of a side of a queue asks for that side to be on or off, and nothing
+-- else; and a read tells whether it is on.
+
+-- a number of a port names the enable register of a side, with all its bits
+abbrev pub NamesEnable : Dir → ℕ → State → Port → ℕ → Type 0
+NamesEnable dir queue s port n = named s port n ≡ Register (place (enable_row dir) queue) 0xFFFFFFFF
+
+abbrev pub other : Dir → Dir
+other Rx = Tx
+other Tx = Rx
+
+module _ (queue : ℕ) (s : State) (sound : IsSound s) (small : queue < 128) (port : Port) (n word : ℕ) where
+  abbrev t : State
+  t = after s (event.Write port n word)
+
+  -- the side is asked
+  abbrev pub Asks : Dir → Type 0
+  Asks dir = side_of dir queue t ≡ record (side_of dir queue s) { wanted = has_bit 25 word }
+
+  pub asked : (dir : Dir) → NamesEnable dir queue s port n → Asks dir
+  unfolding step_of
+  asked Rx names =
+      ap receive_side
+      (ap (λ m. receive_queue_of (named_written s m word).state.registers queue) names
+      ∙ receive-asked s.registers sound.registers.shape queue small 0xFFFFFFFF word)
+  asked Tx names =
+      let staged = ap (λ m. staged_by (named_written s m word).state queue) names in
+      let side = ap (λ m. transmit_queue_of (named_written s m word).state.registers queue) names
+      ∙ transmit-asked s.registers sound.registers.shape queue small 0xFFFFFFFF word in
+      λ k. transmit_side (side k) (staged k)
+
+  -- and the other is left
+  pub other_left : (side : Dir) → NamesEnable side queue s port n → LeavesSide (other side) queue s t
+  other_left Rx names =
+      transmit_left queue s t
+      ((write_rest s port n word (place Rxdctl queue) 0xFFFFFFFF names refl refl).transmit queue (λ x. cc))
+  other_left Tx names =
+      receive_left queue s t
+      ((write_rest s port n word (place Txdctl queue) 0xFFFFFFFF names refl refl).receive queue (λ x. cc))
+
+  pub asked_or_left : (side dir : Dir) → NamesEnable side queue s port n → Asks dir ⊎ LeavesSide dir queue s t
+  asked_or_left Rx Rx names = inl (asked Rx names)
+  asked_or_left Tx Tx names = inl (asked Tx names)
+  asked_or_left Rx Tx names = inr (other_left Rx names)
+  asked_or_left Tx Rx names = inr (other_left Tx names)
+
+  -- so a side that is off stays so, and one that is settled, where bit 25 is 0
+  module _ (side dir : Dir) (names : NamesEnable side queue s port n) (none : IsFalse (has_bit 25 word)) where
+    pub word_off : IsOff (side_of dir queue s) → IsOff (side_of dir queue t)
+    word_off off = elim (asked_or_left side dir names) [
+      | inl is ↦ subst IsOff (sym is) (record { off = off.off; unwanted = none })
+      | inr left ↦ subst IsOff (sym left) off
+    ]
+
+    pub word_settles : IsSettled (side_of dir queue s) → Settles (side_of dir queue s) (side_of dir queue t)
+    word_settles settled = elim (asked_or_left side dir names) [
+      | inl is ↦ asked_settles (side_of dir queue s) (side_of dir queue t) (has_bit 25 word) is none
+      | inr left ↦ same_settles (side_of dir queue s) (side_of dir queue t) left settled
+    ]
+
+bit-shown : (word : ℕ) → has_bit 25 (bit_and word 0xFFFFFFFF) ≡ has_bit 25 word
+bit-shown word =
+    let low : word % 2 ^ 32 / 2 ^ 25 % 2 ≡ word / 2 ^ 25 % 2 = omega arith in
+    ap (has_bit 25) (and_mask word 32) ∙ ap (λ x. x == 1) low
+
+module _ (queue : ℕ) (s : State) (port : Port) (n word : ℕ) (told : reply_to s (event.Read port n) ≡ Word word) where
+  told_is : (seen : ℕ) → reply_to s (event.Read port n) ≡ Word (bit_and seen 0xFFFFFFFF)
+      → has_bit 25 word ≡ has_bit 25 seen
+  told_is seen looked =
+      let both : Word word ≡ Word (bit_and seen 0xFFFFFFFF) = sym told ∙ looked in
+      let same : word ≡ bit_and seen 0xFFFFFFFF = cc in
+      ap (has_bit 25) same ∙ bit-shown seen
+
+  -- bit 25 is whether the side is on
+  pub told_on : (dir : Dir) → NamesEnable dir queue s port n → has_bit 25 word ≡ (side_of dir queue s).on
+  unfolding step_of
+  told_on Rx names = told_is (word_of s.registers Rxdctl queue) (ap (λ m. (named_read s m).reply) names)
+  told_on Tx names = told_is (word_of s.registers Txdctl queue) (ap (λ m. (named_read s m).reply) names)
+
+  -- so a side that isn't wanted on is off where it is 0
+  pub seen_off : (dir : Dir) → NamesEnable dir queue s port n → IsFalse (has_bit 25 word)
+      → IsUnwanted (side_of dir queue s) → IsOff (side_of dir queue (after s (event.Read port n)))
+  seen_off dir names zero none =
+      subst IsOff (sym (queues_left queue s (after s (event.Read port n)) dir (read_rest s port n).queues))
+      (record { off = sym (told_on dir names) ∙ zero; unwanted = none })

@@ -1,15 +1,25 @@
+-- What a number of a port names, and the low bits of the words that are written there.
+use Rattle.std.proofs.Common.{[], ◌%◌, ◌&&◌, ◌+◌, ◌/◌, ◌<◌, ◌^◌, ◌∙◌, ◌∷◌, ◌≡◌, ◌⊎◌, Bool, List, None, Option, Some, ap}
+use Rattle.std.proofs.Common.{arith, cond, false, inl, inr, not, refl, sym, true, ℕ}
+use Rattle.std.proofs.lemmas.Bool.{and_parts, cases_Bool, cond-false, cond-true, eq-eqb}
+use Rattle.std.proofs.lemmas.Nat.{and_le_l, and_le_r, and_mask, and_mod, and_shr, or_disjoint, or_mod, or_shr}
+use Rattle.std.specs.Prelude.{if◌then◌else◌, ◌==◌, bit_and, bit_or, ⊤}
+use Rattle.std.{proofs.Math.Nat.mod-eq_of_lt, specs.List.list_all}
+use Rattle.history_laws.specs.Prelude.{Maxfrs, Mode, Named, Nothing, Pf, Place, Port, Rdt, ReceiveQueue, Register}
+use Rattle.history_laws.specs.Prelude.{Registers, RowId, State, Tdt, TransmitQueue, after_write, has_bit, mode_in}
+use Rattle.history_laws.specs.Prelude.{named, place, receive_queue_of, row_of, transmit_queue_of, word_of}
+use Rattle.nic_device.proofs.RegisterLaws.SideWords.{receive-written, transmit-written}
+use Rattle.nic_device.specs.RegTable.Run.{Run, has_address, place_in as place_of}
+use Rattle.nic_device.specs.RegisterLaws.Laws.{HasShape, word_after}
+use Rattle.nic_device.proofs.{RegTable.Finding.found-named, RegTable.InRange.named_in_range}
+use Rattle.nic_device.proofs.{VfMap.Owners.located_in_range}
+use Rattle.nic_device.specs.{Named.at_location, Named.at_place, RegTable.Place.place_among, RegTable.Place.view_among}
+use Rattle.nic_device.specs.{RegTable.Rows.number_of, RegTable.Runs.runs, RegisterFile.Bits.merged, VfMap.Map.located}
+use Rattle.nic_device.specs.{VfMap.declared.located.Located.Located, declared.event.Port.TheVariants.Vf}
+use Rattle.device_lock.specs.Alone.{place_at, register_at}
+use Rattle.nic_device.specs.VfMap.declared.located.Located.TheVariants as located_as
+
 -- Low bits that are written through a view that shows them.
-use Rattle.std.proofs.Common.{◌≡◌, ℕ, ◌+◌, ◌/◌, ◌%◌, ◌^◌, ◌⊎◌, inl, inr, Bool, true, false, not, ◌&&◌, List, [], ◌∷◌, Some, refl, sym, ap, ◌∙◌, arith, cond}
-use Rattle.std.specs.Prelude.{bit_and, bit_or, ◌==◌, if◌then◌else◌}
-use Rattle.std.specs.List.{list_all}
-use Rattle.std.proofs.lemmas.Bool.{and_parts, cases_Bool, cond-true, cond-false, eq-eqb}
-use Rattle.std.proofs.lemmas.Nat.{or_mod, or_shr, and_mod, and_shr, and_mask, and_le_l, and_le_r, or_disjoint}
-use Rattle.nic_device.specs.RegTable.Place.{place_among, view_among}
-use Rattle.nic_device.specs.RegTable.Rows.{number_of}
-use Rattle.nic_device.specs.RegTable.Run.{Run, has_address, place_in}
-use Rattle.nic_device.specs.RegTable.declared.place.Place.{Place}
-use Rattle.nic_device.specs.RegTable.declared.rows.RowId.{RowId}
-use Rattle.nic_device.specs.RegisterFile.Bits.{has_bit, merged}
 
 none_or : (x : ℕ) → bit_or 0 x ≡ x
 none_or x =
@@ -96,8 +106,8 @@ all_shown (r ∷ rs) row a p none is same =
     let x = and_parts (not (r.low && (number_of r.row == number_of row))) (none_low row rs) none in
     elim (cases_Bool (has_address r a)) as (λ _. view_among (r ∷ rs) a ≡ 0xFFFFFFFF) [
       | inl here ↦
-          let found : place_in r a ≡ p =
-          Some_one (sym (cond-true (has_address r a) (Some (place_in r a)) (place_among rs a) here) ∙ is) in
+          let found : place_of r a ≡ p =
+          Some_one (sym (cond-true (has_address r a) (Some (place_of r a)) (place_among rs a) here) ∙ is) in
           let own : r.row ≡ row = ap (λ (q : Place). q.row) found ∙ same in
           let whole : r.low ≡ false =
           shown_whole r.low _ x.0 (eq-eqb (number_of r.row) (number_of row) (ap number_of own)) in
@@ -106,5 +116,83 @@ all_shown (r ∷ rs) row a p none is same =
       | inr there ↦
           cond-false (has_address r a) (if r.low then 0xFFFF else 0xFFFFFFFF) (view_among rs a) there
           ∙ all_shown rs row a p x.1
-          (sym (cond-false (has_address r a) (Some (place_in r a)) (place_among rs a) there) ∙ is) same
+          (sym (cond-false (has_address r a) (Some (place_of r a)) (place_among rs a) there) ∙ is) same
     ]
+
+-- What a number of a port names.
+
+abbrev pub place_in : Named → Option Place
+place_in (Nothing seen) = None
+place_in (Register p view) = Some p
+
+place_placed : (o : Option Place) (view : ℕ) → place_in (at_place o view) ≡ o
+place_placed None view = refl
+place_placed (Some p) view = refl
+
+place_located : (m : Located) → place_in (at_location m) ≡ register_at m
+place_located located_as.Absent = refl
+place_located located_as.Hole = refl
+place_located (located_as.Register p) = refl
+
+pub place_named : (s : State) (port : Port) (number : ℕ)
+    → place_at (mode_in s.registers) s.vfs port number ≡ place_in (named s port number)
+place_named s Pf number = sym (place_placed (place_among runs number) (view_among runs number))
+place_named s (Vf v) number = sym (place_located (located (mode_in s.registers) s.vfs v number))
+
+-- a named register is in its row, and its low bits are shown; of MAXFRS all are
+
+pub record IsReal (p : Place) (view : ℕ) : Type 0 where
+  pub inside : p.index < (row_of p.row).count
+  pub shown : ShowsLow view
+  pub whole : p.row ≡ Maxfrs → view ≡ 0xFFFFFFFF
+
+abbrev pub AreReal : Named → Type 0
+AreReal (Nothing seen) = ⊤
+AreReal (Register p view) = IsReal p view
+
+maxfrs_whole : none_low Maxfrs runs ≡ true
+unfolding runs
+maxfrs_whole = refl
+
+real_placed : (a : ℕ) (o : Option Place) → place_among runs a ≡ o → AreReal (at_place o (view_among runs a))
+real_placed a None e = tt
+real_placed a (Some p) e = record {
+  inside = named_in_range a p ((found-named a p).0 e);
+  shown = shows_low runs a;
+  whole = λ is. all_shown runs Maxfrs a p maxfrs_whole e is;
+}
+
+real_located : (mode : Mode) (vfs v o : ℕ) (m : Located) → located mode vfs v o ≡ m → AreReal (at_location m)
+real_located mode vfs v o located_as.Absent e = tt
+real_located mode vfs v o located_as.Hole e = tt
+real_located mode vfs v o (located_as.Register p) e =
+    record { inside = located_in_range mode vfs v o p e; shown = inr refl; whole = λ is. refl }
+
+pub real : (s : State) (port : Port) (number : ℕ) → AreReal (named s port number)
+real s Pf number = real_placed number (place_among runs number) refl
+real s (Vf v) number = real_located (mode_in s.registers) s.vfs v number _ refl
+
+-- A word of 16 bits that is written to the register of a side's tail is the tail, and all else of the side stays.
+
+abbrev pub receive_with_tail : ReceiveQueue → ℕ → ReceiveQueue
+receive_with_tail q tail = record q { ring = record q.ring { tail = tail } }
+
+abbrev pub transmit_with_tail : TransmitQueue → ℕ → TransmitQueue
+transmit_with_tail q tail = record q { ring = record q.ring { tail = tail } }
+
+module _ (r : Registers) (queue word : ℕ) (h : HasShape r) (b : queue < 128) (small : word < 65536) where
+  pub receive-tail : receive_queue_of (after_write r (place Rdt queue) 0xFFFFFFFF word) queue
+      ≡ receive_with_tail (receive_queue_of r queue) word
+  receive-tail =
+      let there : word_after r (place Rdt queue) 0xFFFFFFFF word % 2 ^ 16 ≡ word =
+      merged_low (word_of r Rdt queue) word ∙ mod-eq_of_lt small in
+      receive-written r h Rdt queue refl b (inl refl) 0xFFFFFFFF word
+      ∙ (λ k. receive_with_tail (receive_queue_of r queue) (there k))
+
+  pub transmit-tail : transmit_queue_of (after_write r (place Tdt queue) 0xFFFFFFFF word) queue
+      ≡ transmit_with_tail (transmit_queue_of r queue) word
+  transmit-tail =
+      let there : word_after r (place Tdt queue) 0xFFFFFFFF word % 2 ^ 16 ≡ word =
+      merged_low (word_of r Tdt queue) word ∙ mod-eq_of_lt small in
+      transmit-written r h Tdt queue refl b (inl refl) 0xFFFFFFFF word
+      ∙ (λ k. transmit_with_tail (transmit_queue_of r queue) (there k))

@@ -1,14 +1,8 @@
 -- What it is to leave a queue alone, from a state of the device on.
-use Rattle.std.specs.Prelude.{◌≡◌, ⊤, IsTrue, List, [], ◌∷◌, ◌++◌}
+use Rattle.std.specs.Prelude.{[], ◌++◌, ◌∷◌, ◌≡◌, IsTrue, List, ⊤}
+use Rattle.history_laws.specs.Prelude.{Blocks, Entry, EntryLeavesAlone, Off, State, Watched, after, has_begun, leads_to}
+use Rattle.history_laws.specs.Prelude.{lent_by, mode_in}
 use Rattle.nic_device.specs.EepromImage.Image.{blank}
-use Rattle.nic_device.specs.VfMap.declared.mode.Mode.TheVariants.{Off}
-use Rattle.nic_device.specs.RegisterFile.Pools.{mode_in}
-use Rattle.nic_device.specs.State.{State}
-use Rattle.nic_device.specs.Step.{after}
-use Rattle.device_lock.specs.Alone.{Blocks, EntryLeavesAlone, has_begun, lent_by}
-use Rattle.device_lock.specs.History.{leads_to}
-use Rattle.device_lock.specs.declared.alone.Watched.{Watched}
-use Rattle.device_lock.specs.declared.entry.Entry.{Entry}
 
 -- a history leaves the queue of a pass alone, from a state of the device on, which any sound device may be in: each
 -- entry behind the pass's first does, while the queues are parted as the device says there, and spares all blocks that

@@ -1,15 +1,8 @@
 -- Laws of legal histories, on which those of a driver's two sides rest.
-use Rattle.std.specs.Prelude.{ℕ, ◌≡◌, IsTrue, List, ◌++◌}
-use Rattle.nic_device.specs.VfMap.declared.mode.Mode.TheVariants.{Off}
-use Rattle.nic_device.specs.RegisterFile.Pools.{mode_in}
-use Rattle.nic_device.specs.RegisterFile.Settings.{frame_limit}
-use Rattle.nic_device.specs.Sound.{IsSound}
-use Rattle.nic_device.specs.State.{State, new_state}
-use Rattle.device_lock.specs.Alone.{LeavesAlone, has_begun, lent_by, mode_through}
-use Rattle.device_lock.specs.History.{leads_to, AreEvents}
-use Rattle.device_lock.specs.Told.{first_settings, limit_of, settings_through}
-use Rattle.device_lock.specs.declared.alone.Watched.{Watched}
-use Rattle.device_lock.specs.declared.entry.Entry.{Entry}
+use Rattle.std.specs.Prelude.{◌++◌, ◌≡◌, IsTrue, List, ℕ}
+use Rattle.history_laws.specs.Prelude.{AreEvents, Entry, IsSound, Off, State, Watched, frame_limit, has_begun, leads_to}
+use Rattle.history_laws.specs.Prelude.{lent_by, mode_in, mode_through, new_state}
+use Rattle.device_lock.specs.{Alone.LeavesAlone, Told.first_settings, Told.limit_of, Told.settings_through}
 use Rattle.history_laws.specs.Alone.{AllAlone, IsPlain, LeavesAloneFrom}
 
 -- the mode that the entries tell is the device's, from a new device on

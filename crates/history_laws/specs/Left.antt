@@ -1,31 +1,17 @@
 -- What an event that leaves a queue alone does to the queue's sides.
-use Rattle.std.specs.Prelude.{ℕ, ◌≡◌, ◌==◌, ◌<◌, Bool, true, false, IsTrue, IsFalse, List, [], ◌∷◌, Ok, Err}
-use Rattle.nic_device.specs.DmaArena.Block.{Block}
-use Rattle.nic_device.specs.DmaArena.Memory.{Avoids}
-use Rattle.nic_device.specs.DmaRing.declared.dir.Dir.{Dir}
-use Rattle.nic_device.specs.DmaRing.declared.dir.Dir.TheVariants.{Rx, Tx}
-use Rattle.nic_device.specs.DmaRing.declared.fault.RingFault.{RingFault}
-use Rattle.nic_device.specs.RegisterFile.Pools.{mode_in}
-use Rattle.nic_device.specs.RegisterFile.Settings.{frame_limit}
-use Rattle.nic_device.specs.RegisterLaws.Sides.{receive_queue_of, transmit_queue_of}
-use Rattle.nic_device.specs.RxRing.Fill as rx
-use Rattle.nic_device.specs.RxRing.declared.filled.Filled.{Filled}
-use Rattle.nic_device.specs.TxRing.Fetch as tx
-use Rattle.nic_device.specs.TxRing.declared.fetched.Fetched.{Fetched}
-use Rattle.nic_device.specs.Receive.{rest_of}
-use Rattle.nic_device.specs.Sound.{IsEvent, IsSound}
-use Rattle.nic_device.specs.State.{State, Waiting}
-use Rattle.nic_device.specs.Step.{after, reply_to, step_of}
-use Rattle.nic_device.specs.Transmit as transmit
-use Rattle.nic_device.specs.Transmit.{staged_by, sending_of, is_silent}
-use Rattle.nic_device.specs.declared.event.Event.{Event}
-use Rattle.nic_device.specs.declared.event.Event.TheVariants as event
-use Rattle.nic_device.specs.declared.event.Reply.TheVariants.{Wrote}
-use Rattle.device_lock.specs.Alone.{Blocks, LeavesRegisters, LeavesBlocks, WritesOutside}
-use Rattle.device_lock.specs.declared.alone.Watched.{Watched}
-use Rattle.history_laws.specs.DeviceLaws.Leaving.{LeavesBlock, LeavesMemory}
-use Rattle.history_laws.specs.Segments.{piece_in, pieces, sent_by}
+use Rattle.std.specs.Prelude.{[], ◌<◌, ◌==◌, ◌∷◌, ◌≡◌, Bool, Err, IsFalse, IsTrue, List, Ok, false, true, ℕ}
+use Rattle.history_laws.specs.Prelude.{Avoids, Block, Blocks, Dir, Event, Fetched, Filled, IsEvent, IsSound}
+use Rattle.history_laws.specs.Prelude.{LeavesBlock, LeavesBlocks, LeavesRegisters, RingFault, Rx, State, Tx, Waiting}
+use Rattle.history_laws.specs.Prelude.{Watched, WritesOutside, Wrote, after, frame_limit, mode_in, receive_queue_of}
+use Rattle.history_laws.specs.Prelude.{reply_to, rest_of, sending_of, staged_by, step_of, transmit_queue_of}
+use Rattle.nic_device.specs.Transmit.{is_silent}
 use Rattle.history_laws.specs.Sides.{IsTried, LeavesSide, as_wanted, shut, side_of, taken}
+use Rattle.history_laws.specs.Segments.{piece_in, pieces, sent_by}
+use Rattle.device_laws.specs.Leaving.{LeavesMemory}
+use Rattle.nic_device.specs.RxRing.Fill as rx
+use Rattle.nic_device.specs.TxRing.Fetch as tx
+use Rattle.nic_device.specs.Transmit as transmit
+use Rattle.nic_device.specs.declared.event.Event.TheVariants as event
 
 -- an event that leaves a queue and these blocks alone, by the clauses by which a closed history is judged, made on a
 -- sound device

@@ -1,13 +1,8 @@
 -- Which blocks are lent to a device, and whose they are.
-use Rattle.std.specs.Prelude.{ℕ, ◌≡◌, ◌==◌, ◌&&◌, ◌||◌, not, ⊤, IsTrue, IsFalse}
-use Rattle.nic_device.specs.DmaArena.Block.{Block}
-use Rattle.nic_device.specs.DmaArena.Memory.{Memory, has_block}
-use Rattle.nic_device.specs.State.{State}
-use Rattle.nic_device.specs.Step.{after, reply_to}
-use Rattle.nic_device.specs.declared.event.Event.{Event}
+use Rattle.std.specs.Prelude.{◌&&◌, ◌==◌, ◌||◌, ◌≡◌, IsFalse, IsTrue, not, ℕ, ⊤}
+use Rattle.history_laws.specs.Prelude.{Block, Blocks, Done, Event, Memory, State, after, has_block, reply_to}
+use Rattle.nic_device.specs.declared.event.Reply.TheVariants.{Buf}
 use Rattle.nic_device.specs.declared.event.Event.TheVariants as event
-use Rattle.nic_device.specs.declared.event.Reply.TheVariants.{Done, Buf}
-use Rattle.device_lock.specs.Alone.{Blocks}
 
 -- of these numbers, an arena's for one, only those are lent that its driver knows to be
 abbrev pub OnlyLent : Blocks → Blocks → Memory → Type 0

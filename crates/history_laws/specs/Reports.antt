@@ -1,12 +1,7 @@
 -- Where a step of transmitting reports.
-use Rattle.std.specs.Prelude.{ℕ, ◌/◌, ◌≡◌, Some}
-use Rattle.nic_device.specs.DmaArena.Memory.{LiesIn}
-use Rattle.nic_device.specs.RegisterLaws.Sides.{transmit_queue_of}
+use Rattle.std.specs.Prelude.{◌/◌, ◌≡◌, Some, ℕ}
+use Rattle.history_laws.specs.Prelude.{IsSound, LiesIn, State, reply_to, told_back, transmit_queue_of}
 use Rattle.nic_device.specs.TxRing.Report.{report_length}
-use Rattle.nic_device.specs.Footprint.{told_back}
-use Rattle.nic_device.specs.Sound.{IsSound}
-use Rattle.nic_device.specs.State.{State}
-use Rattle.nic_device.specs.Step.{reply_to}
 use Rattle.nic_device.specs.declared.event.Event.TheVariants as event
 
 -- what is written back lies in the block where it begins

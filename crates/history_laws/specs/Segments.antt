@@ -1,17 +1,9 @@
 -- What an event writes on a queue, piece by piece, and the frames that it sends there.
-use Rattle.std.specs.Prelude.{ℕ, ◌==◌, Bool, false, List, [], ◌∷◌, length, drop, map, take, if◌then◌else◌}
-use Rattle.nic_device.specs.DmaArena.Block.{Block}
-use Rattle.nic_device.specs.DmaRing.Receive.{told_of}
-use Rattle.nic_device.specs.RxRing.Fill.{Rest}
-use Rattle.nic_device.specs.RxRing.declared.filled.Filled.{Filled}
-use Rattle.nic_device.specs.Receive.{packet_of}
-use Rattle.nic_device.specs.State.{State, Waiting}
-use Rattle.nic_device.specs.Step.{after, reply_to}
-use Rattle.nic_device.specs.declared.event.Event.{Event}
+use Rattle.std.specs.Prelude.{[], if◌then◌else◌, ◌==◌, ◌∷◌, Bool, List, drop, false, length, map, take, ℕ}
+use Rattle.history_laws.specs.Prelude.{Block, Event, Filled, Reply, Rest, State, Waiting, Wrote, after, piece_of}
+use Rattle.history_laws.specs.Prelude.{reply_to}
+use Rattle.nic_device.specs.{DmaRing.Receive.told_of, Receive.packet_of}
 use Rattle.nic_device.specs.declared.event.Event.TheVariants as event
-use Rattle.nic_device.specs.declared.event.Reply.{Reply}
-use Rattle.nic_device.specs.declared.event.Reply.TheVariants.{Wrote}
-use Rattle.history_laws.specs.DeviceLaws.Laws.{piece_of}
 
 -- what one step writes on a queue: the bytes, the first half of the descriptor, and whether the frame ends there
 pub record Piece : Type 0 where

@@ -1,13 +1,7 @@
 -- A side of a queue, by its direction.
-use Rattle.std.specs.Prelude.{ℕ, ◌≡◌, Bool, false, IsTrue, IsFalse, List, [], Option, None, if◌then◌else◌}
-use Rattle.nic_device.specs.DmaRing.declared.dir.Dir.{Dir}
-use Rattle.nic_device.specs.DmaRing.declared.dir.Dir.TheVariants.{Rx, Tx}
-use Rattle.nic_device.specs.DmaRing.declared.ring.Ring.{Ring}
-use Rattle.nic_device.specs.RegisterLaws.Sides.{ReceiveQueue, TransmitQueue, receive_queue_of, transmit_queue_of}
-use Rattle.nic_device.specs.Receive.{is_empty}
-use Rattle.nic_device.specs.State.{State}
-use Rattle.nic_device.specs.Transmit.{staged_by}
-use Rattle.history_laws.specs.DeviceLaws.Replies.{moved_on}
+use Rattle.std.specs.Prelude.{[], if◌then◌else◌, ◌≡◌, Bool, IsFalse, IsTrue, List, None, Option, false, ℕ}
+use Rattle.history_laws.specs.Prelude.{Dir, ReceiveQueue, Ring, Rx, State, TransmitQueue, Tx, is_empty, moved_on}
+use Rattle.history_laws.specs.Prelude.{receive_queue_of, staged_by, transmit_queue_of}
 
 -- its ring, its control word, where it writes its head, its staged bytes, and whether it is on and wanted on. A receive
 -- side writes no head and stages nothing, and the control word of a transmit side is 0

@@ -1,50 +1,148 @@
--- Frames that fit as many slots as the driver takes for a packet stay so, and the pieces that are written of them fit.
-use Rattle.std.proofs.Common.{◌≡◌, ◌≢◌, ℕ, ◌+◌, ◌*◌, ◌-◌, ◌<◌, ◌≤◌, inl, inr, Bool, true, false, ◌&&◌, min, cond, List, [], ◌∷◌, ◌++◌, length, take, drop, refl, sym, ap, ◌∙◌, subst, arith, Ok, Err}
-use Rattle.std.specs.Prelude.{◌==◌, Result, All, filter, not}
-use Rattle.std.proofs.lemmas.Bool.{cond_both, cases_eq, cases_lt, and_parts, eqb-true, eq-eqb, ne_eqb, both_ways}
-use Rattle.std.proofs.lemmas.List.{append-nil, length-take, length-drop}
-use Rattle.std.proofs.lemmas.List.Elements.{All-head, All-filter}
-use Rattle.nic_device.specs.DmaArena.Block.{Block}
-use Rattle.nic_device.specs.DmaArena.Memory.{Memory}
-use Rattle.nic_device.specs.DmaRing.declared.fault.RingFault.{RingFault}
-use Rattle.nic_device.specs.DmaRing.declared.dir.Dir.TheVariants.{Rx}
-use Rattle.nic_device.specs.VfMap.Owner.{has_queue}
-use Rattle.nic_device.specs.RegisterFile.Pools.{mode_in}
-use Rattle.nic_device.specs.RegisterFile.Queue.{is_on}
-use Rattle.nic_device.specs.RegisterFile.Registers.{is_wanted}
-use Rattle.nic_device.specs.RegisterFile.Settings.{drops}
-use Rattle.nic_device.specs.RegisterLaws.Sides.{receive_queue_of}
-use Rattle.nic_device.specs.RxRing.declared.filled.Filled.{Filled}
-use Rattle.nic_device.specs.RxRing.Control.{buffer_size_of}
-use Rattle.nic_device.proofs.RxRing.Fills.{takes_piece}
-use Rattle.nic_device.specs.Arrival.{let_in}
-use Rattle.nic_device.specs.Outcome.{Outcome}
-use Rattle.nic_device.specs.Receive as receive
-use Rattle.nic_device.specs.Receive.{rest_of}
-use Rattle.nic_device.specs.Sound.{IsSound, AreWaiting, IsUnbegun, IsBegunWhileOn}
-use Rattle.nic_device.specs.State.{State, Waiting}
-use Rattle.nic_device.specs.Step.{step_of, after}
-use Rattle.nic_device.specs.Switching.{without_part}
-use Rattle.nic_device.specs.declared.event.Event.{Event}
+-- The frames that wait for a queue: they are as short as the driver's packets, and so are the pieces that are written.
+use Rattle.std.proofs.Common.{[], ◌&&◌, ◌*◌, ◌++◌, ◌+◌, ◌-◌, ◌<◌, ◌∙◌, ◌∷◌, ◌≡◌, ◌≢◌, ◌≤◌, Bool, Err, List, Ok, ap}
+use Rattle.std.proofs.Common.{arith, cond, drop, false, inl, inr, length, min, refl, subst, sym, take, true, ℕ}
+use Rattle.std.proofs.lemmas.Bool.{and_parts, both_ways, cases_eq, cases_lt, cond_both, eq-eqb, eqb-true, ne_eqb}
+use Rattle.std.proofs.lemmas.List.{append-nil, length-drop, length-take}
+use Rattle.std.proofs.lemmas.List.Elements.{All-cons, All-filter, All-head, All-nil, All-push, All-tail}
+use Rattle.std.specs.Prelude.{◌==◌, All, Result, filter, not}
+use Rattle.history_laws.specs.Prelude.{Block, Event, Filled, IsSound, Memory, Outcome, RingFault, Rx, State, Waiting}
+use Rattle.history_laws.specs.Prelude.{WritesNoSetting, after, buffer_size_of, frame_limit, has_queue, is_on, is_wanted}
+use Rattle.history_laws.specs.Prelude.{mode_in, piece_of, receive_queue_of, rest_of, step_of}
+use Rattle.receive_laws.specs.Prelude.{Receive}
+use Rattle.nic_device.proofs.{Cases.either_way, QueueCases.filled_by, QueueCases.received_cases}
+use Rattle.nic_device.proofs.{RxRing.Fills.takes_piece}
+use Rattle.nic_device.specs.{Arrival.let_in, Receive.after_piece, RegisterFile.Settings.drops}
+use Rattle.nic_device.specs.{RxFilter.declared.target.Target.Target, Sound.AreWaiting, Sound.IsBegunWhileOn}
+use Rattle.nic_device.specs.{Sound.IsUnbegun, Switching.without_part}
+use Rattle.history_laws.proofs.{Deeds.step_cases, Lent.Changes, Lent.waiting_changed}
+use Rattle.history_laws.proofs.DeviceLaws.{KeptSettings.settings_stand, Settings.no_reset}
+use Rattle.receive_laws.specs.Fitting.{AreFitting, FitsBlocks, FramesStayFitting, NoneBegunWhileOff, ResetsNoPool}
+use Rattle.receive_laws.specs.Pieces.{AllFit, Fits, Piece, first_of, open_after, pieces, pieces_told}
+use Rattle.receive_laws.proofs.{Parts.open_pushed, Receiving.no_fault, Receiving.room_left}
+use Rattle.receive_laws.specs.{Fitting.begun_on, Joint.Holds, Up.IsUp}
 use Rattle.nic_device.specs.declared.event.Event.TheVariants as event
-use Rattle.nic_device.proofs.Cases.{either_way}
-use Rattle.nic_device.proofs.QueueCases.{filled_by}
-use Rattle.history_laws.specs.DeviceLaws.Laws.{WritesNoSetting}
-use Rattle.history_laws.specs.DeviceLaws.Laws.{piece_of}
-use Rattle.history_laws.proofs.DeviceLaws.KeptSettings.{settings_stand}
-use Rattle.history_laws.proofs.DeviceLaws.Settings.{no_reset}
-use Rattle.history_laws.proofs.Waits.{Changes, waiting_changed}
-use Rattle.pmd_rx.specs.Receive.{Receive}
-use Rattle.receive_laws.specs.Fitting.{FitsBlocks, begun_on, AreFitting, ResetsNoPool, FramesStayFitting, NoneBegunWhileOff}
-use Rattle.receive_laws.specs.Joint.{Holds}
-use Rattle.receive_laws.specs.Pieces.{Piece, Fits, AllFit, open_after, first_of, pieces, pieces_told}
-use Rattle.receive_laws.specs.Up.{IsUp}
-use Rattle.receive_laws.proofs.Begun.{either_zero, unbegun_none}
-use Rattle.receive_laws.proofs.Parts.{open_pushed}
-use Rattle.receive_laws.proofs.Receiving.{room_left, no_fault}
-use Rattle.receive_laws.proofs.Waiting.{frames_fit}
+use Rattle.nic_device.specs.Receive as receive
 
--- the frame that waits first, in lists
+-- Where nothing is written yet of a frame that waits for a queue, each event leaves it so that writes no piece there.
+
+pub either_zero : (b : Bool) → let z : ℕ = 0 in cond b z z ≡ z
+either_zero true = refl
+either_zero false = refl
+
+no_piece : (b : Bool) (p : Piece) (none : List Piece) → none ≡ [] → cond b (p ∷ []) none ≡ [] → b ≡ false
+no_piece true p none is told = cc
+no_piece false p none is told = refl
+
+module _ (queue : ℕ) where
+  -- frames of which the first, where it is the queue's, isn't begun
+  abbrev IsNone : List Waiting → Type 0
+  IsNone ws = begun_on queue ws ≡ 0
+
+  pub unbegun_none : (ws : List Waiting) → All IsUnbegun ws → IsNone ws
+  unbegun_none [] none = refl
+  unbegun_none (w ∷ others) none =
+      ap (λ (n : ℕ). cond (w.queue == queue) n 0) (All-head IsUnbegun w others none).none
+      ∙ either_zero (w.queue == queue)
+
+  filtered : (f : Waiting → Bool) (ws : List Waiting) → AreWaiting ws → IsNone ws → IsNone (filter f ws)
+  filtered f [] are none = refl
+  filtered f (w ∷ others) are none =
+      either_way IsNone (f w) (w ∷ filter f others) (filter f others) none
+      (unbegun_none (filter f others) (All-filter f IsUnbegun others are.1))
+
+  pushed : (ws : List Waiting) (frame : List ℕ) (t : Target) → IsNone ws → IsNone (ws ++ let_in frame t ∷ [])
+  pushed [] frame t none = either_zero ((let_in frame t).queue == queue)
+  pushed (w ∷ ws) frame t none = none
+
+  none_parted : (on : ℕ) (ws : List Waiting) → AreWaiting ws → IsNone ws → IsNone (without_part on ws)
+  none_parted on [] are none = refl
+  none_parted on (w ∷ others) are none = either_way IsNone _ others (w ∷ others) (unbegun_none others are.1) none
+
+  module _ (s : State) (sound : IsSound s) (none : IsNone s.waiting) where
+    abbrev Leaves : Outcome → Type 0
+    Leaves o = IsNone o.state.waiting
+
+    -- a step of receiving
+
+    gone : (w : Waiting) (others : List Waiting) → s.waiting ≡ w ∷ others → IsNone others
+    gone w others e = unbegun_none others (subst AreWaiting e sound.waiting).1
+
+    other_filled : (w : Waiting) (others : List Waiting) (f : Filled) → s.waiting ≡ w ∷ others
+        → (w.queue == queue) ≡ false → IsNone (after_piece w others f)
+    other_filled w others f e other =
+        either_way IsNone f.end others (record w { offset = w.offset + f.len } ∷ others) (gone w others e)
+        (ap (λ (b : Bool). cond b (w.offset + f.len) 0) other)
+
+    abbrev LeavesWhere : Outcome → Type 0
+    LeavesWhere o = pieces_told queue s.waiting o.reply ≡ [] → Leaves o
+
+    none_received : LeavesWhere (step_of s event.RxStep)
+    unfolding step_of
+    none_received = received_cases LeavesWhere s (record {
+      idle = λ told. none;
+      dropped = λ w others e why told. gone w others e;
+      slotless = λ w others e told. gone w others e;
+      fault = λ w others e fault told. gone w others e;
+      filled = λ w others e f is told.
+          other_filled w others f e (no_piece (w.queue == queue) _ [] refl told);
+    })
+
+    none_changes : (e : Event Block) → pieces queue s e ≡ [] → Changes IsNone s e
+    none_changes event.RxStep told = none_received told
+    none_changes (event.Write port n word) told = λ p view is. record {
+      device = λ asks. refl;
+      pool = λ asks.
+          filtered (λ w. not (has_queue (mode_in s.registers) p.index w.queue)) s.waiting sound.waiting none;
+    }
+    none_changes (event.Arrive frame) told = λ t low. pushed s.waiting frame t none
+    none_changes (event.QueueStep Rx on) told = λ off. none_parted on s.waiting sound.waiting none
+    none_changes e told = tt
+
+    pub begun_stays : (e : Event Block) → pieces queue s e ≡ [] → IsNone (after s e).waiting
+    begun_stays e told = waiting_changed IsNone s none e (none_changes e told)
+
+-- The frames that wait for a queue stay as short as its driver's packets.
+
+module _ (queue most : ℕ) (s : State) (limit : frame_limit s.registers ≤ 2048 * most)
+    (h : All (FitsBlocks queue most) s.waiting) where
+  abbrev P : Waiting → Type 0
+  P = FitsBlocks queue most
+
+  short_first : (w : Waiting) (others : List Waiting) → s.waiting ≡ w ∷ others → All P (w ∷ others)
+  short_first w others e = subst (All P) e h
+
+  short_received : All P (after s event.RxStep).waiting
+  unfolding step_of
+  short_received = received_cases (λ (o : Outcome). All P o.state.waiting) s (record {
+    idle = h;
+    dropped = λ w others e why. All-tail P w others (short_first w others e);
+    slotless = λ w others e. All-tail P w others (short_first w others e);
+    fault = λ w others e fault. All-tail P w others (short_first w others e);
+    filled = λ w others e f is.
+        let rest = All-tail P w others (short_first w others e) in
+        either_way (All P) f.end others (record w { offset = w.offset + f.len } ∷ others) rest
+        (All-cons P _ others (All-head P w others (short_first w others e)) rest);
+  })
+
+  short_parted : (on : ℕ) (ws : List Waiting) → All P ws → All P (without_part on ws)
+  short_parted on [] all = all
+  short_parted on (w ∷ others) all = either_way (All P) _ others (w ∷ others) (All-tail P w others all) all
+
+  short_changes : (e : Event Block) → Changes (All P) s e
+  short_changes event.RxStep = short_received
+  short_changes (event.Write port n word) = λ p view is. record {
+    device = λ asks. All-nil P;
+    pool = λ asks. All-filter (λ w. not (has_queue (mode_in s.registers) p.index w.queue)) P s.waiting h;
+  }
+  short_changes (event.Arrive frame) = λ t low.
+      All-push P s.waiting (let_in frame t) h (λ own. omega (arith, low, limit))
+  short_changes (event.QueueStep Rx on) = λ off. short_parted on s.waiting h
+  short_changes e = tt
+
+  pub frames_fit : (e : Event Block) → All P (after s e).waiting
+  frames_fit e = waiting_changed (All P) s h e (short_changes e)
+
+-- Frames that fit as many slots as the driver takes for a packet stay so, and the pieces that are written of them fit.
 
 other_first : (queue : ℕ) (w : Waiting) (others : List Waiting) → (w.queue == queue) ≡ false
     → begun_on queue (w ∷ others) ≡ 0
@@ -142,9 +240,8 @@ module _ (queue most : ℕ) (s : State) (out : List Piece) (v : Receive) (gone h
         leaves (not_ours (λ own.
         let open_ring : receive.is_empty (receive_queue_of s.registers queue).ring ≡ false =
         subst (λ (q : ℕ). receive.is_empty (receive_queue_of s.registers q).ring ≡ false) own some in
-        let room = room_left queue s out v gone here h open_ring
-        (cases_lt (length here) (length v.layout.blocks)) in
-        no_fault queue s out v gone here h room (rest_of w) fault (rw own at is)))
+        let room = room_left h open_ring (cases_lt (length here) (length v.layout.blocks)) in
+        no_fault h room (rest_of w) fault (rw own at is)))
 
     -- a piece of a frame of the queue is written
     module _ (f : Filled) (is : (filled_by s w).answer ≡ Ok f) (own : w.queue ≡ queue) where
@@ -178,14 +275,11 @@ module _ (queue most : ℕ) (s : State) (out : List Piece) (v : Receive) (gone h
       abbrev piece : Piece
       piece = record { bytes = piece_of s.waiting f.len; first = first_of s.waiting; end = f.end }
 
-      bytes_are : piece.bytes ≡ take f.len (drop w.offset w.frame)
-      bytes_are = ap (λ (ws : List Waiting). piece_of ws f.len) e
-
       fits : Fits most n piece
       fits = record {
         full = λ on.
             let go = goes_on on in
-            ap (λ (xs : List ℕ). length xs) bytes_are
+            ap (λ (ws : List Waiting). length (piece_of ws f.len)) e
             ∙ (let l = length-take f.len (drop w.offset w.frame) in
             let k : length (take f.len (drop w.offset w.frame)) ≡ 2048 = omega (arith, l, go.0, taken) in k);
         more = λ on. (goes_on on).1;
@@ -237,23 +331,13 @@ module _ (queue most : ℕ) (s : State) (out : List Piece) (v : Receive) (gone h
     answered (Ok f) is some memory = writes f is memory
     answered (Err fault) is some memory = fault_leaves fault is some
 
-    -- the first frame that waits
-    waits : Step (receive.first_received s (w ∷ others))
-    waits =
-        cond_both (receive_queue_of s.registers w.queue).on _ _ Step
-        (λ on. cond_both (receive.is_empty (receive_queue_of s.registers w.queue).ring) _ _ Step
-        (λ none. cond_both (drops s.registers w.queue && w.offset == 0) _ _ Step dropped_leaves
-        (λ stays. none_written s.waiting refl))
-        (λ some. answered (filled_by s w).answer refl some (filled_by s w).memory))
-        off_leaves
-
-  first : (ws : List Waiting) → s.waiting ≡ ws → Step (receive.first_received s ws)
-  first [] e = none_written s.waiting refl
-  first (w ∷ others) e = waits w others e
-
   received : Step (step_of s event.RxStep)
-  unfolding step_of
-  received = either_way Step _ _ _ (none_written s.waiting refl) (first s.waiting refl)
+  received = step_cases Step s (record {
+    idle = none_written s.waiting refl;
+    dropped = off_leaves;
+    slotless = dropped_leaves;
+    tried = λ w others e tried answer is. answered w others e answer is tried.some (filled_by s w).memory;
+  })
 
   -- any other event
 

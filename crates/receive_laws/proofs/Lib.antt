@@ -1,39 +1,25 @@
 pub use Rattle.history_laws.proofs.DeviceLaws
 pub use Rattle.history_laws.proofs as HistoryLaws
-pub mod Advancing
-pub mod Begun
 pub mod Clear
-pub mod Consuming
 pub mod Delivering
-pub mod Each
-pub mod Entries
 pub mod Examples
-pub mod Filled
 pub mod Fitting
 pub mod Foreign
-pub mod HasLent
-pub mod Healthy
-pub mod Histories
 pub mod Inside
 pub mod Kept
 pub mod Leaving
-pub mod Lending
 pub mod Lent
-pub mod Looking
-pub mod Mine
-pub mod More
-pub mod Moving
 pub mod Naming
 pub mod Own
-pub mod Places
 pub mod Parts
+pub mod Places
 pub mod Prefix
-pub mod Reach
-pub mod Received
 pub mod Receiving
-pub mod Starting
-pub mod Switching
-pub mod Tail
-pub mod Taking
-pub mod Up
 pub mod Waiting
+pub use Rattle.receive_laws.proofs.Fitting as Begun
+pub use Rattle.receive_laws.proofs.Kept as Each
+pub use Rattle.receive_laws.proofs.Delivering as Histories
+pub use Rattle.receive_laws.proofs.Lent as Mine
+pub use Rattle.receive_laws.proofs.Leaving as Starting
+pub use Rattle.receive_laws.proofs.Foreign as Up
+pub use Rattle.receive_laws.proofs.Own as Healthy

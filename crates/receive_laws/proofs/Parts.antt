@@ -1,18 +1,15 @@
 -- Parts of packets: what the driver saw of them, and how the pieces are cut behind those that were consumed.
-use Rattle.std.proofs.Common.{◌≡◌, ℕ, suc, ◌+◌, ◌<◌, ◌≤◌, Bool, true, false, cond, List, [], ◌∷◌, ◌++◌, length, take, drop, refl, sym, ap, ◌∙◌, subst, arith, append_assoc}
-use Rattle.std.proofs.lemmas.List.{append-nil, length_push, length-append, map-append}
-use Rattle.nic_device.specs.DmaArena.Block.{Block}
-use Rattle.nic_device.specs.DmaRing.Receive.{ends_packet, bytes_in}
-use Rattle.pmd_rx.specs.PmdSeam.Bufs.{bytes_of}
-use Rattle.pmd_rx.specs.PmdSeam.Packet.{Kept, kept_of}
-use Rattle.pmd_rx.specs.PmdSeam.declared.packet.Packet.{Packet}
+use Rattle.std.proofs.Common.{[], ◌++◌, ◌+◌, ◌<◌, ◌∙◌, ◌∷◌, ◌≡◌, ◌≤◌, Bool, List, ap, append_assoc, arith, cond, drop}
+use Rattle.std.proofs.Common.{false, length, refl, subst, suc, sym, take, true, ℕ}
+use Rattle.std.proofs.lemmas.List.{append-nil, length-append, length_push, map-append}
+use Rattle.history_laws.specs.Prelude.{Block, bytes_in, ends_packet}
+use Rattle.receive_laws.specs.Prelude.{Kept, Looks, Packet, Receive, Stage, Takes, Told, ended_of, kept_of, left_of}
+use Rattle.receive_laws.specs.Prelude.{next_stage, no_packet, records_of, took}
 use Rattle.pmd_rx.proofs.PmdSeam.Copying.{bytes-more}
-use Rattle.pmd_rx.specs.Receive.{Receive, no_packet, joined, took, ended_of, if_any, left_of, next_stage, records_of}
-use Rattle.pmd_rx.specs.declared.ring.Stage.{Stage}
-use Rattle.pmd_rx.specs.declared.ring.Stage.TheVariants.{Looks, Takes}
-use Rattle.pmd_rx.specs.declared.ring.Told.{Told}
-use Rattle.receive_laws.specs.Joint.{Saw, AreSeen, IsOpen, AreOpen, EndLast, IsAt, AreCut, InOrder, packets_had}
-use Rattle.receive_laws.specs.Pieces.{Piece, packet_told, packets_of, packets_behind, open_after, piece_at}
+use Rattle.pmd_rx.specs.{PmdSeam.Bufs.bytes_of, Receive.if_any, Receive.joined}
+use Rattle.receive_laws.specs.Joint.{AreCut, AreOpen, AreSeen, EndLast, InOrder, IsAt, IsOpen, Saw, packets_had}
+use Rattle.receive_laws.specs.Pieces.{Piece, open_after, packet_told, packets_behind, packets_of, piece_at}
+use Rattle.receive_laws.specs.Joint.{still_held}
 
 -- what was seen stays so as a piece more is written
 pub seen_longer : (seen : List Told) (here : List Piece) (p : Piece) → AreSeen seen here
@@ -223,38 +220,27 @@ pub first_seen : (seen : List Told) (here : List Piece) (t : Told) (ts : List To
     → Saw t (piece_at here 0)
 first_seen seen here t ts are is = first_saw t ts here (subst (λ (xs : List Told). AreSeen xs here) is are)
 
+-- where the same packets are had, and the same parts are held, the driver's state beside them may change
+pub order_same : (out gone here : List Piece) (v w : Receive) → InOrder out v gone here → packets_had v ≡ packets_had w
+    → still_held v ≡ still_held w → AreSeen w.seen here → IsAt w.stage w.seen w.held → InOrder out w gone here
+order_same out gone here v w o had still seen stage = record {
+  cut = λ rest. o.cut rest ∙ (λ k. had k ++ packets_behind (kept_of (still k)).bytes rest);
+  parts = o.parts ∙ ap (λ (p : Packet). length p.bufs) still;
+  full = ap (λ (p : Packet). length (bytes_of p.bufs)) (sym still) ∙ o.full ∙ ap (λ (p : Packet). p.len) still;
+  seen = seen;
+  stage = stage;
+  order = o.order;
+}
+
 -- while nothing is held, what is seen may change
 pub none_held : (out gone here : List Piece) (v w : Receive) → InOrder out v gone here → v.held ≡ no_packet
     → w.held ≡ no_packet → w.handed ≡ v.handed → w.whole ≡ v.whole → AreSeen w.seen here
     → IsAt w.stage w.seen w.held → InOrder out w gone here
 none_held out gone here v w o none still same whole seen stage =
-    let was : left_of v.seen v.held ≡ no_packet = ap (λ (p : Packet). left_of v.seen p) none ∙ none_left v.seen in
-    let now : left_of w.seen w.held ≡ no_packet = ap (λ (p : Packet). left_of w.seen p) still ∙ none_left w.seen in
-    let both : left_of v.seen v.held ≡ left_of w.seen w.held = was ∙ sym now in
-    let ended : ended_of v.seen v.held ≡ ended_of w.seen w.held =
-    ap (λ (p : Packet). ended_of v.seen p) none ∙ none_ended v.seen
-    ∙ sym (ap (λ (p : Packet). ended_of w.seen p) still ∙ none_ended w.seen) in
-    let had : packets_had v ≡ packets_had w =
-    λ k. sym same k ++ records_of (sym whole k ++ ended k) in
-    record {
-      cut = λ rest. o.cut rest
-          ∙ ap (λ (ks : List Kept). ks ++ packets_behind (kept_of (left_of v.seen v.held)).bytes rest) had
-          ∙ ap (λ (p : Packet). packets_had w ++ packets_behind (kept_of p).bytes rest) both;
-      parts = o.parts ∙ ap (λ (p : Packet). length p.bufs) both;
-      full = ap (λ (p : Packet). length (bytes_of p.bufs)) (sym both) ∙ o.full ∙ ap (λ (p : Packet). p.len) both;
-      seen = seen;
-      stage = stage;
-      order = o.order;
-    }
-
--- the stage alone changes
-pub staged : (out gone here : List Piece) (v : Receive) (stage : Stage) → InOrder out v gone here
-    → IsAt stage v.seen v.held → InOrder out (record v { stage = stage }) gone here
-staged out gone here v stage o is = record {
-  cut = o.cut;
-  parts = o.parts;
-  full = o.full;
-  seen = o.seen;
-  stage = is;
-  order = o.order;
-}
+    let left : (u : Receive) → u.held ≡ no_packet → still_held u ≡ no_packet =
+    λ u is. ap (λ (p : Packet). left_of u.seen p) is ∙ none_left u.seen in
+    let ended : (u : Receive) → u.held ≡ no_packet → ended_of u.seen u.held ≡ [] =
+    λ u is. ap (λ (p : Packet). ended_of u.seen p) is ∙ none_ended u.seen in
+    let had = ended v none ∙ sym (ended w still) in
+    order_same out gone here v w o (λ k. sym same k ++ records_of (sym whole k ++ had k))
+    (left v none ∙ sym (left w still)) seen stage

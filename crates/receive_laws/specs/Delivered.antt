@@ -1,12 +1,9 @@
 -- What a history delivers on a queue.
-use Rattle.std.specs.Prelude.{ℕ, ◌≡◌, ◌&&◌, not, Bool, List, [], ◌∷◌, ◌++◌, Option, Some, None, option_map, if◌then◌else◌}
-use Rattle.nic_device.specs.RegisterFile.Queue.{is_on}
-use Rattle.nic_device.specs.DmaRing.declared.dir.Dir.TheVariants.{Rx}
-use Rattle.nic_device.specs.State.{State}
-use Rattle.nic_device.specs.Step.{after}
-use Rattle.device_lock.specs.declared.entry.Entry.{Entry}
-use Rattle.pmd_rx.specs.PmdSeam.Packet.{Kept}
-use Rattle.receive_laws.specs.Pieces.{Piece, pieces, packets_of}
+use Rattle.std.specs.Prelude.{[], if◌then◌else◌, ◌&&◌, ◌++◌, ◌∷◌, ◌≡◌, Bool, List, None, Option, Some, not, option_map}
+use Rattle.std.specs.Prelude.{ℕ}
+use Rattle.history_laws.specs.Prelude.{Entry, Rx, State, after, is_on}
+use Rattle.receive_laws.specs.Prelude.{Kept}
+use Rattle.receive_laws.specs.Pieces.{Piece, packets_of, pieces}
 
 -- the pieces that a history writes on a queue, from a state on
 abbrev pub pieces_in : ℕ → State → List Entry → List Piece

@@ -1,26 +1,12 @@
 -- Frames of several pieces: each fits as many slots as the driver takes for a packet.
-use Rattle.std.specs.Prelude.{ℕ, ◌≡◌, ◌*◌, ◌≤◌, ◌==◌, List, [], ◌∷◌, ◌++◌, length, All, ⊤, IsTrue, IsFalse, if◌then◌else◌}
-use Rattle.nic_device.specs.DmaArena.Block.{Block}
-use Rattle.nic_device.specs.RegTable.Rows.{row_of}
-use Rattle.nic_device.specs.RegTable.declared.place.Place.{Place}
-use Rattle.nic_device.specs.RegisterFile.Access.{asks_pool_reset}
-use Rattle.nic_device.specs.RegisterFile.Pools.{mode_in}
-use Rattle.nic_device.specs.RegisterFile.Queue.{is_on}
-use Rattle.nic_device.specs.DmaRing.declared.dir.Dir.TheVariants.{Rx}
-use Rattle.nic_device.specs.RegisterFile.Settings.{frame_limit}
-use Rattle.nic_device.specs.VfMap.Owner.{has_queue}
-use Rattle.nic_device.specs.Named.{named}
-use Rattle.nic_device.specs.Sound.{IsSound}
-use Rattle.nic_device.specs.State.{State, Waiting}
-use Rattle.nic_device.specs.Step.{after}
-use Rattle.nic_device.specs.declared.event.Event.{Event}
+use Rattle.std.specs.Prelude.{[], if◌then◌else◌, ◌*◌, ◌++◌, ◌==◌, ◌∷◌, ◌≡◌, ◌≤◌, All, IsFalse, IsTrue, List, length, ℕ}
+use Rattle.std.specs.Prelude.{⊤}
+use Rattle.history_laws.specs.Prelude.{Block, Event, IsSound, Place, Register, Rx, State, Waiting, WritesNoSetting}
+use Rattle.history_laws.specs.Prelude.{after, asks_pool_reset, frame_limit, has_queue, is_on, mode_in, named, row_of}
+use Rattle.receive_laws.specs.Prelude.{Receive}
+use Rattle.receive_laws.specs.Pieces.{AllFit, Piece, open_after, pieces}
+use Rattle.receive_laws.specs.{Joint.Agree, Up.IsUp}
 use Rattle.nic_device.specs.declared.event.Event.TheVariants as event
-use Rattle.nic_device.specs.declared.named.Named.TheVariants.{Register}
-use Rattle.history_laws.specs.DeviceLaws.Laws.{WritesNoSetting}
-use Rattle.pmd_rx.specs.Receive.{Receive}
-use Rattle.receive_laws.specs.Joint.{Agree}
-use Rattle.receive_laws.specs.Pieces.{Piece, AllFit, open_after, pieces}
-use Rattle.receive_laws.specs.Up.{IsUp}
 
 -- a frame, where it waits for this queue, fits so many blocks
 abbrev pub FitsBlocks : ℕ → ℕ → Waiting → Type 0

@@ -1,14 +1,9 @@
 -- The replies to the driver's own events: those of a healthy queue, wherever the device and the driver agree.
-use Rattle.std.specs.Prelude.{ℕ, List, IsTrue}
-use Rattle.nic_device.specs.DmaArena.Block.{Block}
-use Rattle.nic_device.specs.State.{State}
-use Rattle.nic_device.specs.Step.{reply_to}
-use Rattle.nic_device.specs.declared.event.Event.{Event}
-use Rattle.history_laws.specs.Lent.{LendsAnew}
-use Rattle.pmd_rx.specs.Receive.{Receive, IsOwn}
+use Rattle.std.specs.Prelude.{IsTrue, List, ℕ}
+use Rattle.history_laws.specs.Prelude.{Block, Event, State, reply_to}
+use Rattle.receive_laws.specs.Prelude.{IsOwn, LendsAnew, Receive}
 use Rattle.pmd_rx.specs.Wrong.{is_healthy}
-use Rattle.receive_laws.specs.Joint.{Agree}
-use Rattle.receive_laws.specs.Pieces.{Piece, AllFit}
+use Rattle.receive_laws.specs.{Joint.Agree, Pieces.AllFit, Pieces.Piece}
 
 -- each event of the driver's own gets such a reply, where the packets that were written have no more pieces than the
 -- driver takes, each but its last of 2,048 bytes, and a block that is lent isn't lent yet

@@ -1,25 +1,15 @@
 -- What the driver hands out, over histories that leave its queue alone.
-use Rattle.std.specs.Prelude.{ℕ, ◌≡◌, ◌<◌, ◌==◌, ◌⊎◌, Bool, true, false, List, [], ◌∷◌, ◌++◌, length, Some, None, ⊤, IsTrue, IsFalse}
-use Rattle.nic_device.specs.DmaRing.Descriptor.{second_half}
-use Rattle.nic_device.specs.DmaRing.Receive.{is_done}
-use Rattle.nic_device.specs.Sound.{IsSound}
-use Rattle.nic_device.specs.State.{State}
-use Rattle.nic_device.specs.Step.{after, reply_to}
-use Rattle.nic_device.specs.declared.event.Event.TheVariants as event
-use Rattle.nic_device.specs.declared.event.Reply.TheVariants.{Bytes}
-use Rattle.device_lock.specs.Alone.{has_begun, lent_by}
-use Rattle.device_lock.specs.History.{IsLegal, AreEvents, calls_of, call_in, leads_to}
-use Rattle.device_lock.specs.declared.alone.Watched.{Watched}
-use Rattle.device_lock.specs.declared.entry.Entry.{Entry}
-use Rattle.pmd_rx.specs.PmdSeam.Events.{is_step}
+use Rattle.std.specs.Prelude.{[], ◌++◌, ◌<◌, ◌==◌, ◌∷◌, ◌≡◌, ◌⊎◌, Bool, IsFalse, IsTrue, List, None, Some, false}
+use Rattle.std.specs.Prelude.{length, true, ℕ, ⊤}
+use Rattle.history_laws.specs.Prelude.{AreEvents, Bytes, Entry, IsLegal, IsSound, State, Watched, after, calls_of}
+use Rattle.history_laws.specs.Prelude.{has_begun, is_done, leads_to, lent_by, reply_to, second_half}
+use Rattle.receive_laws.specs.Prelude.{Looks, Receive, descriptor_at, is_step, records_of}
+use Rattle.device_lock.specs.History.{call_in}
 use Rattle.pmd_rx.specs.Plays.{AllOwn, after_call, played_by}
-use Rattle.pmd_rx.specs.Receive.{Receive, descriptor_at, records_of}
-use Rattle.pmd_rx.specs.declared.ring.Stage.TheVariants.{Looks}
 use Rattle.history_laws.specs.Alone.{LeavesAloneFrom}
-use Rattle.receive_laws.specs.Delivered.{IsPrefixOf, delivered, pieces_since}
-use Rattle.receive_laws.specs.Joint.{Agree}
-use Rattle.receive_laws.specs.Steps.{Each, Leaves, OwnReportsSpare}
-use Rattle.receive_laws.specs.Up.{IsUp}
+use Rattle.receive_laws.specs.{Delivered.IsPrefixOf, Delivered.delivered, Delivered.pieces_since, Joint.Agree}
+use Rattle.receive_laws.specs.{Steps.Each, Steps.Leaves, Steps.OwnReportsSpare, Up.IsUp}
+use Rattle.nic_device.specs.declared.event.Event.TheVariants as event
 
 -- the mark of an entry, of the pass or of another, and the marks that are left after it: the entries of the pass are
 -- marked in turn, and the marked ones are the calls of the driver's receive side

@@ -1,15 +1,9 @@
 -- Where a step of receiving on the driver's own queue writes.
-use Rattle.std.specs.Prelude.{ℕ, ◌≡◌, ◌+◌, ◌<◌, Bool, List, length}
-use Rattle.nic_device.specs.DmaArena.Memory.{LiesIn}
-use Rattle.nic_device.specs.Sound.{IsSound}
-use Rattle.nic_device.specs.State.{State}
-use Rattle.nic_device.specs.Step.{reply_to}
+use Rattle.std.specs.Prelude.{◌+◌, ◌<◌, ◌≡◌, Bool, List, length, ℕ}
+use Rattle.history_laws.specs.Prelude.{IsSound, LiesIn, State, Wrote, reply_to}
+use Rattle.receive_laws.specs.Prelude.{Layout, Receive, block_at, blocks_for}
+use Rattle.receive_laws.specs.{Joint.Agree, Pieces.Piece}
 use Rattle.nic_device.specs.declared.event.Event.TheVariants as event
-use Rattle.nic_device.specs.declared.event.Reply.TheVariants.{Wrote}
-use Rattle.pmd_rx.specs.PmdSeam.Slots.{blocks_for}
-use Rattle.pmd_rx.specs.Receive.{Layout, Receive, block_at}
-use Rattle.receive_laws.specs.Joint.{Agree}
-use Rattle.receive_laws.specs.Pieces.{Piece}
 
 -- a descriptor is in one of the blocks of a ring of so many slots, from this block on
 pub record IsInRing (ring size desc : ℕ) : Type 0 where

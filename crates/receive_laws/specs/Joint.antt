@@ -1,24 +1,15 @@
 -- What the device and a driver agree on, between two events, of the receive side of the driver's queue.
-use Rattle.std.specs.Prelude.{ℕ, ◌≡◌, ◌≢◌, ◌+◌, ◌*◌, ◌<◌, ◌≤◌, true, false, List, [], ◌∷◌, ◌++◌, length, ⊤, IsTrue, IsFalse}
-use Rattle.nic_device.specs.DmaArena.Memory.{Memory, has_block, read_at}
-use Rattle.nic_device.specs.DmaRing.Descriptor.{first_half, second_half}
-use Rattle.nic_device.specs.DmaRing.Receive.{is_done, ends_packet, bytes_in}
-use Rattle.nic_device.specs.RegTable.declared.rows.RowId.TheVariants.{Rdt}
-use Rattle.nic_device.specs.RegisterFile.Columns.{place}
-use Rattle.nic_device.specs.RegisterLaws.Sides.{ReceiveQueue, receive_queue_of}
-use Rattle.nic_device.specs.RxRing.Control.{descriptor_type_of, buffer_size_of}
-use Rattle.nic_device.specs.Named.{named}
-use Rattle.nic_device.specs.State.{State}
-use Rattle.nic_device.specs.declared.named.Named.TheVariants.{Register}
-use Rattle.pmd_rx.specs.PmdSeam.Slots.{blocks_for, is_ring_block, EachRingBlock}
+use Rattle.std.specs.Prelude.{[], ◌*◌, ◌++◌, ◌+◌, ◌<◌, ◌∷◌, ◌≡◌, ◌≢◌, ◌≤◌, IsFalse, IsTrue, List, false, length, true}
+use Rattle.std.specs.Prelude.{ℕ, ⊤}
+use Rattle.history_laws.specs.Prelude.{Memory, Rdt, ReceiveQueue, Register, State, buffer_size_of, bytes_in}
+use Rattle.history_laws.specs.Prelude.{descriptor_type_of, ends_packet, first_half, has_block, is_done, named, place}
+use Rattle.history_laws.specs.Prelude.{read_at, receive_queue_of, second_half}
+use Rattle.receive_laws.specs.Prelude.{EachRingBlock, Kept, Layout, Lent, Looks, Packet, Receive, Stage, Takes, Told}
+use Rattle.receive_laws.specs.Prelude.{block_at, blocks_for, descriptor_at, ended_of, is_ring_block, kept_of, left_of}
+use Rattle.receive_laws.specs.Prelude.{no_packet, reach, records_of, slot_at, vacant}
+use Rattle.pmd_rx.specs.declared.ring.Stage.TheVariants.{Owes}
 use Rattle.pmd_rx.specs.PmdSeam.Bufs.{bytes_of}
-use Rattle.pmd_rx.specs.PmdSeam.Packet.{Kept, kept_of}
-use Rattle.pmd_rx.specs.PmdSeam.declared.packet.Packet.{Packet}
-use Rattle.pmd_rx.specs.Receive.{Layout, Receive, slot_at, descriptor_at, block_at, vacant, reach, no_packet, left_of, ended_of, records_of}
-use Rattle.pmd_rx.specs.declared.ring.Stage.{Stage}
-use Rattle.pmd_rx.specs.declared.ring.Stage.TheVariants.{Looks, Takes, Owes, Lent}
-use Rattle.pmd_rx.specs.declared.ring.Told.{Told}
-use Rattle.receive_laws.specs.Pieces.{Piece, packets_behind, packets_of, open_after, piece_at}
+use Rattle.receive_laws.specs.Pieces.{Piece, open_after, packets_behind, packets_of, piece_at}
 
 -- a descriptor that waits: it names its block, and isn't done
 pub record IsPosted (m : Memory) (a block : ℕ) : Type 0 where

@@ -1,12 +1,8 @@
 -- Which blocks the driver has lent for receiving.
-use Rattle.nic_device.specs.DmaArena.Block.{Block}
-use Rattle.device_lock.specs.Alone.{Blocks}
-use Rattle.nic_device.specs.State.{State}
-use Rattle.nic_device.specs.Step.{after, reply_to}
-use Rattle.nic_device.specs.declared.event.Event.{Event}
-use Rattle.history_laws.specs.Lent.{OnlyLent, LendsAnew, LendsOwn, either}
+use Rattle.history_laws.specs.Prelude.{Block, Blocks, Event, State, after, reply_to}
+use Rattle.receive_laws.specs.Prelude.{IsOwn, LendsAnew, Receive, drive}
 use Rattle.pmd_rx.specs.Keeping.{has_lent}
-use Rattle.pmd_rx.specs.Receive.{Receive, IsOwn, drive}
+use Rattle.history_laws.specs.Lent.{LendsOwn, OnlyLent, either}
 
 -- where of some numbers only those are lent that the driver has lent for receiving, or others have, each event of the
 -- driver's own leaves it so; and a block that it lends of these numbers, and others haven't lent, it lends anew

@@ -8,6 +8,7 @@ pub mod Inside
 pub mod Joint
 pub mod Lent
 pub mod Pieces
+pub mod Prelude
 pub mod Starting
 pub mod Steps
 pub mod Up

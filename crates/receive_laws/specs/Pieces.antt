@@ -1,8 +1,8 @@
 -- The packets that the pieces make that were written on a queue.
-use Rattle.std.specs.Prelude.{ℕ, ◌≡◌, ◌+◌, ◌<◌, false, length, List, [], ◌∷◌, ◌++◌, slice_index_or, if◌then◌else◌, ⊤}
-use Rattle.nic_device.specs.DmaRing.Driver.{rss_in, hash_in}
 pub use Rattle.history_laws.specs.Segments.{Piece, no_piece, first_of, pieces_told, pieces}
-use Rattle.pmd_rx.specs.PmdSeam.Packet.{Kept}
+use Rattle.std.specs.Prelude.{[], if◌then◌else◌, ◌++◌, ◌+◌, ◌<◌, ◌∷◌, ◌≡◌, List, false, length, slice_index_or, ℕ, ⊤}
+use Rattle.receive_laws.specs.Prelude.{Kept}
+use Rattle.nic_device.specs.DmaRing.Driver.{hash_in, rss_in}
 
 -- a packet of these bytes, with what the first half of its descriptor tells
 abbrev pub packet_told : List ℕ → ℕ → Kept

@@ -1,11 +1,8 @@
 -- What a start of the driver leaves, as the receive side of its queue goes on.
-use Rattle.std.specs.Prelude.{ℕ, ◌≡◌, ◌+◌, ◌*◌, ◌<◌, ◌≤◌, [], IsTrue}
-use Rattle.nic_device.specs.DmaArena.Memory.{has_block}
-use Rattle.nic_device.specs.RegisterLaws.Sides.{ReceiveQueue, receive_queue_of}
-use Rattle.nic_device.specs.RxRing.Control.{descriptor_type_of, buffer_size_of}
-use Rattle.nic_device.specs.State.{State}
-use Rattle.nic_device.specs.declared.event.Port.{Port}
-use Rattle.pmd_rx.specs.PmdSeam.Slots.{blocks_for, EachRingBlock}
+use Rattle.std.specs.Prelude.{[], ◌*◌, ◌+◌, ◌<◌, ◌≡◌, ◌≤◌, IsTrue, ℕ}
+use Rattle.history_laws.specs.Prelude.{Port, ReceiveQueue, State, buffer_size_of, descriptor_type_of, has_block}
+use Rattle.history_laws.specs.Prelude.{receive_queue_of}
+use Rattle.receive_laws.specs.Prelude.{EachRingBlock, blocks_for}
 use Rattle.pmd_rx.specs.Receive.{at_start}
 use Rattle.receive_laws.specs.Joint.{Agree, IsNamed}
 

@@ -1,32 +1,14 @@
 -- What single events do to what the device and a driver agree on.
-use Rattle.std.specs.Prelude.{ℕ, ◌≡◌, ◌≢◌, ◌↔◌, ◌/◌, ◌<◌, List, ◌++◌, length, Some, ⊤, IsTrue}
-use Rattle.nic_device.specs.DmaArena.Block.{Block}
-use Rattle.nic_device.specs.DmaRing.Descriptor.{first_half, second_half}
-use Rattle.nic_device.specs.DmaRing.Receive.{is_done, ends_packet, bytes_in}
-use Rattle.nic_device.specs.RegisterFile.Pools.{mode_in}
-use Rattle.nic_device.specs.DmaRing.declared.dir.Dir.TheVariants.{Rx}
-use Rattle.nic_device.specs.RegisterLaws.Sides.{receive_queue_of}
-use Rattle.nic_device.specs.VfMap.declared.mode.Mode.{Mode}
-use Rattle.device_lock.specs.Alone.{Blocks, EntryLeavesAlone}
-use Rattle.device_lock.specs.declared.alone.Watched.{Watched}
-use Rattle.device_lock.specs.declared.entry.Entry.{Entry}
-use Rattle.nic_device.specs.Footprint.{told_back}
-use Rattle.pmd_rx.specs.PmdSeam.Events.{is_step}
-use Rattle.nic_device.specs.Sound.{IsSound, IsEvent}
-use Rattle.nic_device.specs.State.{State}
-use Rattle.nic_device.specs.Step.{after, reply_to}
-use Rattle.nic_device.specs.declared.event.Event.{Event}
-use Rattle.nic_device.specs.declared.event.Event.TheVariants as event
-use Rattle.nic_device.specs.declared.event.Reply.{Reply}
-use Rattle.nic_device.specs.declared.event.Reply.TheVariants.{Bytes, Wrote}
-use Rattle.history_laws.specs.DeviceLaws.Leaving.{LeavesReceive, LeavesBlock}
 pub use Rattle.history_laws.specs.Left.{IsOutside}
-use Rattle.pmd_rx.specs.PmdSeam.Slots.{EachRingBlock}
-use Rattle.pmd_rx.specs.Receive.{Receive, IsOwn, drive, descriptor_at, block_at, reach}
-use Rattle.pmd_rx.specs.declared.ring.Stage.{Stage}
-use Rattle.pmd_rx.specs.declared.ring.Stage.TheVariants.{Lent}
-use Rattle.receive_laws.specs.Joint.{Holds, Agree}
-use Rattle.receive_laws.specs.Pieces.{Piece, pieces, piece_at}
+use Rattle.std.specs.Prelude.{◌++◌, ◌/◌, ◌<◌, ◌↔◌, ◌≡◌, ◌≢◌, IsTrue, List, Some, length, ℕ, ⊤}
+use Rattle.history_laws.specs.Prelude.{Block, Blocks, Bytes, Entry, EntryLeavesAlone, Event, IsEvent, IsSound}
+use Rattle.history_laws.specs.Prelude.{LeavesBlock, LeavesReceive, Mode, Reply, Rx, State, Watched, Wrote, after}
+use Rattle.history_laws.specs.Prelude.{bytes_in, ends_packet, first_half, is_done, mode_in, receive_queue_of, reply_to}
+use Rattle.history_laws.specs.Prelude.{second_half, told_back}
+use Rattle.receive_laws.specs.Prelude.{EachRingBlock, IsOwn, Lent, Receive, Stage, block_at, descriptor_at, drive}
+use Rattle.receive_laws.specs.Prelude.{is_step, reach}
+use Rattle.receive_laws.specs.{Joint.Agree, Joint.Holds, Pieces.Piece, Pieces.piece_at, Pieces.pieces}
+use Rattle.nic_device.specs.declared.event.Event.TheVariants as event
 
 -- what a look at a slot tells: its descriptor is done exactly where the slot is filled, and then tells of the slot's
 -- piece

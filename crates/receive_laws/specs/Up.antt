@@ -1,24 +1,12 @@
 -- A queue whose receive side is on, and wanted on.
-use Rattle.std.specs.Prelude.{ℕ, ◌≡◌, ◌≢◌, ◌⊎◌, IsTrue, List}
-use Rattle.nic_device.specs.DmaArena.Block.{Block}
-use Rattle.nic_device.specs.DmaRing.declared.dir.Dir.TheVariants.{Rx}
-use Rattle.nic_device.specs.VfMap.declared.mode.Mode.{Mode}
-use Rattle.nic_device.specs.Sound.{IsSound}
-use Rattle.nic_device.specs.State.{State}
-use Rattle.nic_device.specs.Step.{after}
-use Rattle.nic_device.specs.declared.event.Event.{Event}
-use Rattle.nic_device.specs.declared.event.Event.TheVariants as event
-use Rattle.history_laws.specs.DeviceLaws.Leaving.{LeavesReceive}
-use Rattle.history_laws.specs.Sides as sides
+use Rattle.std.specs.Prelude.{◌≡◌, ◌≢◌, ◌⊎◌, IsTrue, List, ℕ}
+use Rattle.history_laws.specs.Prelude.{Block, Blocks, Entry, EntryLeavesAlone, Event, IsSound, LeavesReceive, Mode, Rx}
+use Rattle.history_laws.specs.Prelude.{State, Watched, after}
+use Rattle.receive_laws.specs.Prelude.{IsOwn, Receive, is_step}
 use Rattle.history_laws.specs.Sides.{side_of}
-use Rattle.device_lock.specs.Alone.{Blocks, EntryLeavesAlone}
-use Rattle.device_lock.specs.declared.alone.Watched.{Watched}
-use Rattle.device_lock.specs.declared.entry.Entry.{Entry}
-use Rattle.pmd_rx.specs.PmdSeam.Events.{is_step}
-use Rattle.pmd_rx.specs.Receive.{Receive, IsOwn}
-use Rattle.receive_laws.specs.Joint.{Agree}
-use Rattle.receive_laws.specs.Pieces.{Piece}
-use Rattle.receive_laws.specs.Steps.{IsMetBy}
+use Rattle.receive_laws.specs.{Joint.Agree, Pieces.Piece, Steps.IsMetBy}
+use Rattle.nic_device.specs.declared.event.Event.TheVariants as event
+use Rattle.history_laws.specs.Sides as sides
 
 abbrev pub IsUp : ℕ → State → Type 0
 IsUp queue s = sides.IsUp (side_of Rx queue s)

@@ -1,20 +1,49 @@
--- The blocks of a driver that sends, and where its descriptors and segments are in them.
-use Rattle.std.proofs.Common.{◌≡◌, ◌≢◌, ℕ, ◌+◌, ◌*◌, ◌/◌, ◌%◌, ◌<◌, ◌≤◌, inl, inr, true, false, length, take, refl, ap, ◌∙◌, subst, arith}
-use Rattle.std.specs.Prelude.{◌==◌, zero, suc, List, [], ◌∷◌, slice_index_or, is_some, IsTrue}
-use Rattle.std.specs.List.{list_any}
+-- The ring of a driver that sends: its slots, its blocks, and what stays where memory does.
+use Rattle.std.proofs.Common.{◌%◌, ◌*◌, ◌+◌, ◌/◌, ◌<◌, ◌∙◌, ◌≡◌, ◌≢◌, ◌≤◌, ap, arith, false, inl, inr, length, refl}
+use Rattle.std.proofs.lemmas.Bool.{both_ways, cases_lt, eq-eqb, or_left, or_right}
+use Rattle.std.specs.Prelude.{[], ◌==◌, ◌∷◌, IsTrue, List, is_some, slice_index_or, suc, zero}
+use Rattle.std.{proofs.Common.subst, proofs.Common.take, proofs.Common.true, proofs.Common.ℕ}
+use Rattle.std.{proofs.lemmas.List.get_or-take, proofs.lemmas.List.length-take-le, specs.List.list_any}
+use Rattle.history_laws.specs.Prelude.{AreApart, IsWhole, LiesIn, Memory, has_block, is_lent, read_at, write_at}
+use Rattle.transmit_laws.specs.Prelude.{EachRingBlock, Layout, Segment, Sender, descriptor_at, has_lent, is_ring_block}
+use Rattle.transmit_laws.specs.Prelude.{no_segment, segment_at, slot_at}
+use Rattle.nic_device.proofs.DmaArena.Bus.{SameLent-write_at, read_at-write_at_apart, read_at-write_at_same}
+use Rattle.nic_device.proofs.{DmaArena.Blocks.is_lent_in, DmaArena.Inside.reads_its_block}
+use Rattle.nic_device.specs.DmaRing.Ring.{next_of}
+use Rattle.pmd_tx.proofs.PmdSeam.Places.{next_below, next_wrapped, wrapped_apart, wrapped_below, wrapped_next}
+use Rattle.pmd_tx.proofs.PmdSeam.Rings.{ring_block_apart, ring_block_is, slot_block, slot_lies}
+use Rattle.pmd_tx.specs.{PmdSeam.Slots.blocks_for, PmdSeam.Slots.descriptor_in, Sending.blocks_of}
+use Rattle.transmit_laws.specs.Agreeing.{IsCounted, IsLayout, IsReady, Shows}
 use Rattle.std.specs.FinMap as map
-use Rattle.std.proofs.lemmas.Bool.{cases_lt, eq-eqb, both_ways, or_left, or_right}
-use Rattle.std.proofs.lemmas.List.{get_or-take, length-take-le}
-use Rattle.nic_device.specs.DmaArena.Memory.{Memory, has_block, is_lent, read_at, AreApart, LiesIn}
-use Rattle.nic_device.proofs.DmaArena.Blocks.{is_lent_in}
-use Rattle.nic_device.proofs.DmaArena.Inside.{reads_its_block}
-use Rattle.pmd_tx.specs.PmdSeam.Slots.{blocks_for, is_ring_block, EachRingBlock}
-use Rattle.pmd_tx.proofs.PmdSeam.Rings.{slot_block, slot_lies, ring_block_is, ring_block_apart}
-use Rattle.pmd_tx.specs.Sending.{Segment, Sender, no_segment, segment_at, slot_at, descriptor_at, has_lent, blocks_of}
-use Rattle.transmit_laws.specs.Agreeing.{IsLayout, IsReady, IsCounted, Shows}
-use Rattle.transmit_laws.proofs.Slots.{slot-below, slot-apart}
 
--- which blocks are lent
+-- The slots of a ring, which go round once at most.
+
+module _ (l : Layout) (is : IsLayout l) where
+  pub slot-below : (k : ℕ) → k ≤ l.size → slot_at l k < l.size
+  slot-below k h = wrapped_below l.size (l.next + k) (omega (arith, is.next, h))
+
+  pub slot-next : (k : ℕ) → k < l.size → next_of l.size (slot_at l k) ≡ slot_at l (k + 1)
+  slot-next k h =
+      let e : (l.next + k) + 1 ≡ l.next + (k + 1) = omega arith in
+      rw (← e) (next_wrapped l.size (l.next + k) is.some (omega (arith, is.next, h)))
+
+  pub slot-apart : (i j : ℕ) → i < l.size → j < l.size → i ≢ j → slot_at l i ≢ slot_at l j
+  slot-apart i j a b ne = wrapped_apart l.size l.next i j is.next a b ne
+
+  -- once the oldest is let go
+  abbrev pub later : Layout
+  later = record l { next = next_of l.size l.next }
+
+  pub slot-later : (k : ℕ) → k < l.size → slot_at later k ≡ slot_at l (k + 1)
+  slot-later k h = wrapped_next l.size l.next k is.next h
+
+  pub descriptor-later : (k : ℕ) → k < l.size → descriptor_at later k ≡ descriptor_at l (k + 1)
+  descriptor-later k h = ap (descriptor_in l.ring) (slot-later k h)
+
+  pub later-layout : IsLayout later
+  later-layout = record { some = is.some; few = is.few; next = next_below l.size l.next is.next; limit = is.limit }
+
+-- The blocks of a driver that sends, and where its descriptors and segments are in them.
 
 any_at : (ss : List Segment) (k : ℕ) → k < length ss
     → list_any (λ b. (slice_index_or ss k no_segment).block == b) (blocks_of ss) ≡ true
@@ -135,4 +164,36 @@ module _ (m n : Memory) (v : Sender) (f : ℕ) (l : IsLayout v.layout) (c : IsCo
           stays k (omega (arith, c.room, c.lent_known, c.poked_lent, c.posted_poked, c.fetched_posted))
           ∙ h.done k i end;
       waits = λ k i j. stays k (omega (arith, c.room, c.lent_known, c.poked_lent)) ∙ h.waits k i j;
+    }
+
+-- a descriptor of the ring that is written has these bytes; the others and the segments stay
+pub record IsWritten (m n : Memory) (v : Sender) (k : ℕ) (bytes : List ℕ) : Type 0 where
+  pub here : read_at n (descriptor_at v.layout k) 16 ≡ bytes
+  pub other :
+      (j : ℕ) → j < v.layout.size → j ≢ k
+      → read_at n (descriptor_at v.layout j) 16 ≡ read_at m (descriptor_at v.layout j) 16
+  pub lent : (b : ℕ) → has_block m b ≡ true → has_block n b ≡ true
+  pub ready : (x : Segment) → IsReady m v.layout.ring v.layout.size x → IsReady n v.layout.ring v.layout.size x
+
+pub descriptor-written : (m : Memory) → IsWhole m → (v : Sender) → IsLayout v.layout
+    → EachRingBlock v.layout.ring v.layout.size (λ n. IsTrue (has_block m n)) → (k : ℕ) → k < v.layout.size
+    → (bytes : List ℕ) → length bytes ≡ 16 → IsWritten m (write_at m (descriptor_at v.layout k) bytes) v k bytes
+descriptor-written m whole v l has k below bytes size =
+    let a = descriptor_at v.layout k in
+    let n = write_at m a bytes in
+    let reads : (c len : ℕ) → AreApart c len a 16 → read_at n c len ≡ read_at m c len =
+    λ c len apart. read_at-write_at_apart m a bytes c len (rw size apart) in
+    let lent : (b : ℕ) → has_block m b ≡ true → has_block n b ≡ true = λ b is. SameLent-write_at m a bytes b ∙ is in
+    record {
+      here = rw size at (read_at-write_at_same m a bytes whole (rw size (slot-lent v l m k (omega arith) has)));
+      other = λ j small ne. reads (descriptor_at v.layout j) 16 (slots-apart v l j k small below ne);
+      lent = lent;
+      ready = λ x ready. record {
+        short = ready.short;
+        whole = ready.whole;
+        lent = lent x.block ready.lent;
+        apart = ready.apart;
+        bytes =
+            reads (2048 * x.block) (length x.part.bytes) (segment-apart v l m x k ready (omega arith)) ∙ ready.bytes;
+      };
     }

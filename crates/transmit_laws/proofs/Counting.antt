@@ -1,22 +1,33 @@
--- What is counted of the frames that a queue sends, over whole histories.
-use Rattle.std.proofs.Common.{◌≡◌, ℕ, ◌+◌, ◌≤◌, ◌==◌, Bool, true, false, List, [], ◌∷◌, ◌++◌, length, length-append, if◌then◌else◌, refl, sym, ap, ◌∙◌, append_assoc, arith}
-use Rattle.std.proofs.lemmas.List.{append-nil}
-use Rattle.nic_device.specs.DmaArena.Block.{Block}
-use Rattle.nic_device.specs.State.{State}
-use Rattle.nic_device.specs.Step.{after, reply_to}
-use Rattle.nic_device.specs.declared.event.Event.{Event}
-use Rattle.nic_device.specs.declared.event.Event.TheVariants as event
-use Rattle.nic_device.specs.declared.event.Reply.{Reply}
-use Rattle.nic_device.specs.declared.event.Reply.TheVariants.{Sent}
-use Rattle.nic_device.proofs.Cases.{either_way}
-use Rattle.device_lock.specs.declared.entry.Entry.{Entry}
-use Rattle.device_lock.specs.History.{leads_to}
-use Rattle.history_laws.specs.DeviceLaws.Replies.{out_sent}
+-- The frames that a history sends: how they are counted, and that its replies tell them.
+use Rattle.std.proofs.Common.{[], if◌then◌else◌, ◌++◌, ◌+◌, ◌==◌, ◌∙◌, ◌∷◌, ◌≡◌, ◌≤◌, Bool, List, None, Some, ap}
+use Rattle.std.proofs.Common.{append_assoc, arith, false, length, length-append, map, refl, sym, true, ℕ}
+use Rattle.std.proofs.lemmas.List.{append-nil, drop_at, map-append}
+use Rattle.std.{proofs.lemmas.Bool.eqb-true, specs.List.flat_map}
+use Rattle.history_laws.specs.Prelude.{Block, Entry, Event, IsEvent, IsSound, Reply, Sent, State, after, leads_to}
+use Rattle.history_laws.specs.Prelude.{reply_to}
+use Rattle.nic_device.proofs.{Answering.step_suits, Cases.either_way, Steps.keeps_sound}
+use Rattle.nic_device.specs.{Answering.may_answer, Transmit.with_frame}
+use Rattle.history_laws.proofs.Deeds.{added-none}
 use Rattle.history_laws.proofs.DeviceLaws.RepliesOut.{frames_out}
-use Rattle.transmit_laws.specs.Counting.{NeverGoesOn, IsEndOf, SentIsCounted}
-use Rattle.transmit_laws.specs.Sent.{frames_added, sent_by, sent_in, goes_on, counted_by, sent_since}
-use Rattle.history_laws.proofs.Fetching.{added-none}
-use Rattle.transmit_laws.proofs.Frames.{added-one}
+use Rattle.history_laws.specs.DeviceLaws.Replies.{out_sent}
+use Rattle.transmit_laws.specs.Counting.{IsEndOf, NeverGoesOn, SentIsCounted, SentIsTold, lengths_told}
+use Rattle.transmit_laws.specs.Sent.{counted_by, frames_added, goes_on, sent_by, sent_in, sent_since}
+use Rattle.nic_device.specs.declared.event.Event.TheVariants as event
+
+-- The frames that a step of transmitting adds.
+
+pub added-one : (out : List (ℕ × List ℕ)) (queue : ℕ) (bytes : List ℕ)
+    → frames_added out (out ++ (queue, bytes) ∷ []) ≡ bytes ∷ []
+added-one out queue bytes =
+    ap (map (λ (f : ℕ × List ℕ). f.1)) (drop_at out ((queue, bytes) ∷ []) (length out) refl)
+
+-- one where a packet ends
+pub added-by : (out : List (ℕ × List ℕ)) (queue : ℕ) (ends : Bool) (bytes : List ℕ)
+    → frames_added out (with_frame out queue (if ends then Some bytes else None)) ≡ (if ends then bytes ∷ [] else [])
+added-by out queue true bytes = added-one out queue bytes
+added-by out queue false bytes = added-none out
+
+-- What is counted of the frames that a queue sends, over whole histories.
 
 -- one history after the other
 joined : (queue : ℕ) (s : State) (sent : List (List ℕ)) (g h : List Entry)
@@ -97,3 +108,57 @@ few queue s sent (e ∷ es) =
 
 pub sent_is_counted : SentIsCounted
 sent_is_counted = record { never = never; last = last; joined = joined; end = end; few = few }
+
+-- The frames that a history sends are those that its replies tell.
+
+one_told : (b : Bool) (frame : List ℕ) (len : ℕ) → length frame ≡ len
+    → map length (if b then frame ∷ [] else []) ≡ (if b then len ∷ [] else [])
+one_told true frame len is = ap (λ (n : ℕ). n ∷ []) is
+one_told false frame len is = refl
+
+none_told : (b : Bool) (none : List (List ℕ)) → none ≡ [] → map length (if b then none else []) ≡ []
+none_told true none is = ap (map length) is
+none_told false none is = refl
+
+transmitted_told : (queue on : ℕ) (s t : State) (r : Reply Block) → may_answer (event.TxStep on) r ≡ true
+    → out_sent r s t → map length (if on == queue then frames_added s.out t.out else []) ≡ lengths_told queue r
+transmitted_told queue on s t (Sent own len back) fits adds =
+    rw (eqb-true own on fits, adds.out, added-one s.out own adds.frame)
+    (one_told (on == queue) adds.frame len adds.long)
+transmitted_told queue on s t other fits same =
+    none_told (on == queue) (frames_added s.out t.out) (rw same (added-none s.out))
+
+-- no other event is answered so
+
+abbrev transmits : Event Block → Bool
+transmits (event.TxStep on) = true
+transmits other = false
+
+never_sent : (e : Event Block) (r : Reply Block) (queue : ℕ) → transmits e ≡ false → may_answer e r ≡ true
+    → lengths_told queue r ≡ []
+never_sent (event.TxStep on) r queue other fits = cc
+never_sent e (Sent own len back) queue other fits = cc
+never_sent e r queue other fits = refl
+
+event_told : (queue : ℕ) (s : State) (e : Event Block) → IsSound s → IsEvent e
+    → map length (sent_by queue s e) ≡ lengths_told queue (reply_to s e)
+event_told queue s (event.TxStep on) sound made =
+    transmitted_told queue on s (after s (event.TxStep on)) (reply_to s (event.TxStep on))
+    (step_suits s (event.TxStep on) sound made).fits (frames_out s (event.TxStep on))
+event_told queue s e sound made =
+    sym (never_sent e (reply_to s e) queue refl (step_suits s e sound made).fits)
+
+-- a history
+
+pub sent_is_told : SentIsTold
+sent_is_told queue s [] sound events legal = refl
+sent_is_told queue s (e ∷ es) sound events legal =
+    let one : List (List ℕ) = sent_by queue s e.event in
+    let rest : List (List ℕ) = sent_in queue (after s e.event) es in
+    let told : map length one ≡ lengths_told queue e.reply =
+    event_told queue s e.event sound events.0 ∙ ap (lengths_told queue) (sym legal.0) in
+    let more : map length rest ≡ flat_map (λ (f : Entry). lengths_told queue f.reply) es =
+    sent_is_told queue (after s e.event) es (keeps_sound s sound e.event events.0) events.1 legal.1 in
+    map-append length one rest
+    ∙ ap (λ (l : List ℕ). l ++ map length rest) told
+    ∙ ap (λ (l : List ℕ). lengths_told queue e.reply ++ l) more

@@ -1,14 +1,13 @@
 -- The definitions on small examples.
-use Rattle.std.proofs.Common.{◌≡◌, ℕ, [], ◌∷◌, replicate, refl, Some, None, arith}
+use Rattle.std.proofs.Common.{[], ◌∷◌, ◌≡◌, None, Some, arith, refl, replicate, ℕ}
 use Rattle.std.proofs.lemmas.List.{length-replicate}
-use Rattle.nic_device.specs.declared.event.Event.TheVariants as event
-use Rattle.nic_device.specs.declared.event.Port.TheVariants.{Pf}
-use Rattle.nic_device.specs.declared.event.Reply.TheVariants as reply
+use Rattle.history_laws.specs.Prelude.{Entry, Pf}
+use Rattle.transmit_laws.specs.Prelude.{Accepts, Advances, IsOwn, Looks, Move, Outgoing, Reaps, Sender, accepted_by}
 use Rattle.device_lock.specs.History.{entry_of}
-use Rattle.device_lock.specs.declared.entry.Entry.{Entry}
-use Rattle.pmd_tx.specs.Sending.{Accepts, Advances, IsOwn, Looks, Move, Outgoing, Reaps, Sender, accepted_by, advanced, asked, at_start}
-use Rattle.transmit_laws.specs.Sent.{frames_added}
-use Rattle.transmit_laws.specs.Turns.{Turn, turns_of}
+use Rattle.pmd_tx.specs.Sending.{advanced, asked, at_start}
+use Rattle.transmit_laws.specs.{Sent.frames_added, Turns.Turn, Turns.turns_of}
+use Rattle.nic_device.specs.declared.event.Event.TheVariants as event
+use Rattle.nic_device.specs.declared.event.Reply.TheVariants as reply
 
 -- of two frames out, of queues 3 and 5, the second was added
 one_added : frames_added ((3, 1 ∷ []) ∷ []) ((3, 1 ∷ []) ∷ (5, 7 ∷ 8 ∷ []) ∷ []) ≡ (7 ∷ 8 ∷ []) ∷ []

@@ -1,30 +1,28 @@
+-- A posted slot of the driver's ring is fetched.
+use Rattle.std.proofs.Common.{if◌then◌else◌, ◌%◌, ◌*◌, ◌++◌, ◌+◌, ◌-◌, ◌<◌, ◌^◌, ◌∙◌, ◌∷◌, ◌≡◌, ◌≢◌, ◌≤◌, Bool, List}
+use Rattle.std.proofs.Common.{None, Ok, Some, ap, arith, drop, false, inl, inr, length, not, refl, subst, sym, true, ℕ}
+use Rattle.std.proofs.lemmas.Bool.{and_cases, both_ways, cases_Bool, cases_eq, cases_lt, eqb-false, lt-ltb, or_right}
+use Rattle.std.proofs.{Math.Nat.mod-eq_of_lt, lemmas.List.append-nil, lemmas.List.length-append}
+use Rattle.std.specs.Prelude.{◌==◌, IsTrue}
+use Rattle.history_laws.specs.Prelude.{Fetched, Memory, Ring, State, TransmitQueue, done_descriptor, first_half}
+use Rattle.history_laws.specs.Prelude.{has_block, is_empty, is_lent, is_outside, read_at, second_half, sending_of}
+use Rattle.history_laws.specs.Prelude.{transmit_queue_of, write_at}
+use Rattle.transmit_laws.specs.Prelude.{Segment, Sender, asking, descriptor_at, is_sent, segment_at, slot_at}
+use Rattle.nic_device.specs.DmaRing.Driver.{IsDataWord, data_command, data_word}
+use Rattle.nic_device.specs.TxRing.Fetch.{CanSend, Outcome, buffer_bytes, buffer_in, command_in, data_outcome}
+use Rattle.nic_device.proofs.{DmaArena.Blocks.is_lent_in, DmaArena.Bus.small_of_lent, DmaRing.Agreement.data_is_asked}
+use Rattle.nic_device.proofs.{DmaRing.Fields.halves_come_back, TxRing.Reports.done_changes_done_alone}
+use Rattle.nic_device.proofs.{TxRing.Tests.tests_in_order}
+use Rattle.nic_device.specs.{DmaRing.Ring.slots_of, DmaRing.Transmit.with_done}
+use Rattle.nic_device.specs.{DmaRing.declared.transmit.Command.Command, TxRing.Fetch.descriptor_of}
+use Rattle.nic_device.specs.{TxRing.Fetch.fetch_of, TxRing.Frame.frame_of, TxRing.Laws.HasData, TxRing.Laws.command_at}
+use Rattle.nic_device.specs.{TxRing.Report.head_address, TxRing.Report.new_head, TxRing.declared.tx.Tx.Tx}
+use Rattle.pmd_tx.proofs.PmdSeam.Rings.{each_first}
+use Rattle.transmit_laws.proofs.Blocks.{IsWritten, descriptor-written, slot-below, slot-lent}
+use Rattle.transmit_laws.specs.Agreeing.{AgreesAt, ArePackets, IsDone, IsPosted, Shows, staged_behind}
+
 -- A posted slot that is fetched: its segment is staged, and at the end of a packet that goes out, and the descriptor is
 -- done.
-use Rattle.std.proofs.Common.{◌≡◌, ℕ, ◌-◌, ◌*◌, ◌<◌, ◌≤◌, ◌^◌, Bool, true, false, not, inl, inr, List, ◌++◌, length, if◌then◌else◌, refl, ap, ◌∙◌, arith, Some, None, Ok}
-use Rattle.std.proofs.lemmas.Bool.{cases_Bool, or_right}
-use Rattle.std.proofs.lemmas.List.{append-nil, length-append}
-use Rattle.nic_device.specs.DmaArena.Memory.{Memory, has_block, is_lent, read_at, write_at}
-use Rattle.nic_device.proofs.DmaArena.Blocks.{is_lent_in}
-use Rattle.nic_device.specs.DmaRing.Descriptor.{first_half, second_half}
-use Rattle.nic_device.specs.DmaRing.Driver.{data_word, data_command, IsDataWord}
-use Rattle.nic_device.specs.DmaRing.Ring.{is_outside}
-use Rattle.nic_device.specs.DmaRing.Transmit.{with_done}
-use Rattle.nic_device.specs.DmaRing.declared.ring.Ring.{Ring}
-use Rattle.nic_device.specs.DmaRing.declared.transmit.Command.{Command}
-use Rattle.nic_device.proofs.DmaRing.Agreement.{data_is_asked}
-use Rattle.nic_device.proofs.DmaRing.Fields.{halves_come_back}
-use Rattle.nic_device.specs.TxRing.Fetch.{Outcome, descriptor_of, command_in, buffer_in, buffer_bytes, CanSend, data_outcome, fetch_of}
-use Rattle.nic_device.specs.TxRing.Frame.{frame_of}
-use Rattle.nic_device.specs.TxRing.Laws.{command_at, HasData}
-use Rattle.nic_device.specs.TxRing.Report.{head_address, new_head, done_descriptor}
-use Rattle.nic_device.specs.TxRing.declared.fetched.Fetched.{Fetched}
-use Rattle.nic_device.specs.TxRing.declared.tx.Tx.{Tx}
-use Rattle.nic_device.proofs.TxRing.Reports.{done_changes_done_alone}
-use Rattle.nic_device.proofs.TxRing.Tests.{tests_in_order}
-use Rattle.pmd_tx.specs.Sending.{Segment, asking, is_sent}
-use Rattle.transmit_laws.specs.Agreeing.{IsPosted, staged_behind}
-
--- what a segment's descriptor asks for
 
 abbrev word_of : Segment → ℕ
 word_of x = data_word (length x.part.bytes) x.part.last x.part.whole
@@ -130,3 +128,140 @@ module _ (m : Memory) (r : Ring) (tx : Tx) (staged : List ℕ) (x : Segment) (h 
         report = rw (report, h.writeback) (or_right (not x.part.last) (is_lent m (head_address r) 16) h.lent);
       } in
       (tests_in_order m staged r tx).sent full can ∙ ap (data_outcome m staged r tx) d ∙ outcome-segment
+
+-- Steps of transmitting of the driver's own queue.
+
+module _ (s : State) (queue : ℕ) (sent : List (List ℕ)) (v : Sender) (f : ℕ) (h : AgreesAt s queue sent v f) where
+  abbrev pub side : TransmitQueue
+  side = transmit_queue_of s.registers queue
+
+  abbrev pub x : Segment
+  x = segment_at v f
+
+  pub slots : slots_of side.ring ≡ v.layout.size
+  slots = omega (arith, h.set_up.length)
+
+  -- the posted ones have slots
+  known : v.posted < v.layout.size
+  known =
+      let c = h.counted in omega (arith, c.posted_poked, c.poked_lent, c.lent_known, c.room)
+
+  below : (k : ℕ) → k ≤ v.posted → slot_at v.layout k < v.layout.size
+  below k le =
+      slot-below v.layout h.based.layout k (omega (arith, known))
+
+  inside : is_outside side.ring ≡ false
+  inside =
+      let a : side.ring.head < slots_of side.ring = rw (slots, h.set_up.head) (below f h.counted.fetched_posted) in
+      let b : side.ring.tail < slots_of side.ring = rw (slots, h.set_up.tail) (below v.posted (omega arith)) in
+      rw (lt-ltb side.ring.head (slots_of side.ring) a, lt-ltb side.ring.tail (slots_of side.ring) b) refl
+
+  pub head_is : head_address side.ring ≡ descriptor_at v.layout f
+  head_is =
+      let e : side.ring.base + 16 * side.ring.head ≡ descriptor_at v.layout f =
+      rw (h.set_up.base, h.set_up.head) refl in
+      let low = below f h.counted.fetched_posted in
+      let few = h.based.layout.few in
+      let first = each_first v.layout.ring v.layout.size (λ n. IsTrue (has_block s.memory n)) h.based.layout.some
+      h.shows.ring in
+      let small = small_of_lent s.memory v.layout.ring h.based.sound.blocks.whole first in
+      ap (λ (n : ℕ). n % 2 ^ 64) e ∙ mod-eq_of_lt (omega arith)
+
+  -- where the queue isn't silent, a segment is posted and not fetched
+  pub more : is_empty side.ring ≡ false → f < v.posted
+  more full = elim (and_cases (not (is_outside side.ring)) (side.ring.head == side.ring.tail) full) [
+    | inl out ↦ absurd (both_ways (not (is_outside side.ring)) out (rw inside refl))
+    | inr apart ↦
+        let ne : side.ring.head ≢ side.ring.tail = eqb-false side.ring.head side.ring.tail apart in
+        elim (cases_lt f v.posted) [
+          | inl lt ↦ lt
+          | inr le ↦
+              let same : f ≡ v.posted = omega (arith, h.counted.fetched_posted) in
+              absurd (ne (h.set_up.head ∙ ap (slot_at v.layout) same ∙ sym h.set_up.tail))
+        ]
+  ]
+
+  module _ (posted : f < v.posted) where
+    pub lent : f < v.lent
+    lent = omega (arith, posted, h.counted.posted_poked, h.counted.poked_lent)
+
+    pub small : f < v.layout.size
+    small = omega (arith, posted, known)
+
+    pub to_send : (staged : List ℕ) → ArePackets v.layout.limit staged (x ∷ drop (f + 1) v.outstanding)
+        → IsToSend s.memory side.ring (sending_of s.registers side) staged x
+    to_send staged packets =
+        let ready = h.shows.ready f lent in
+        record {
+          inside = inside;
+          lent = rw head_is (slot-lent v h.based.layout s.memory f (omega (arith, small)) h.shows.ring);
+          posted = rw head_is (h.shows.waits f (omega arith) (omega (arith, posted, h.counted.posted_poked)));
+          bytes = ready.bytes;
+          buffer = ready.lent;
+          low = small_of_lent s.memory x.block h.based.sound.blocks.whole ready.lent;
+          short = ready.short;
+          whole = ready.whole;
+          fits = rw h.based.limit packets.0;
+          long = packets.1;
+          writeback = h.set_up.writeback;
+        }
+
+    -- the memory after it is fetched: at the end of a packet its descriptor is done, and the rest is as it was
+
+    abbrev done : List ℕ
+    done = done_descriptor (asking x)
+
+    abbrev new : Memory
+    new = write_at s.memory (descriptor_at v.layout f) done
+
+    written : IsWritten s.memory new v f done
+    written =
+        descriptor-written s.memory h.based.sound.blocks.whole v h.based.layout h.shows.ring f small done
+        (length-done (asking x))
+
+    done_now : (k : ℕ) → k < f + 1 → (segment_at v k).part.last ≡ true
+        → IsDone new (descriptor_at v.layout k) (segment_at v k)
+    done_now k low end = elim (cases_eq k f) [
+      | inl e ↦ rw e written.here
+      | inr ne ↦
+          let before : k < f = omega (arith, ne) in
+          written.other k (omega (arith, small)) ne ∙ h.shows.done k before end
+    ]
+
+    -- at the end of a packet
+    shows-end : Shows new v (f + 1)
+    shows-end =
+        let c = h.counted in
+        record {
+          ring = λ k i. written.lent (v.layout.ring + k) (h.shows.ring k i);
+          ready = λ k i. written.ready (segment_at v k) (h.shows.ready k i);
+          done = done_now;
+          waits = λ k i j.
+              written.other k (omega (arith, c.poked_lent, c.lent_known, c.room)) (omega arith)
+              ∙ h.shows.waits k (omega arith) j;
+        }
+
+    -- and before it
+    done_before : x.part.last ≡ false → (k : ℕ) → k < f + 1 → (segment_at v k).part.last ≡ true
+        → IsDone s.memory (descriptor_at v.layout k) (segment_at v k)
+    done_before on k low end = elim (cases_eq k f) [
+      | inl e ↦
+          absurd (both_ways x.part.last on (subst (λ (j : ℕ). (segment_at v j).part.last ≡ true) e end))
+      | inr ne ↦ h.shows.done k (omega (arith, ne)) end
+    ]
+
+    shows-part : x.part.last ≡ false → Shows s.memory v (f + 1)
+    shows-part on = record {
+      ring = h.shows.ring;
+      ready = h.shows.ready;
+      done = done_before on;
+      waits = λ k i j. h.shows.waits k (omega arith) j;
+    }
+
+    pub shows-fetched : Shows (if x.part.last then new else s.memory) v (f + 1)
+    shows-fetched =
+        let Showing : Bool → Type 0 = λ b. Shows (if b then new else s.memory) v (f + 1) in
+        elim (cases_Bool x.part.last) [
+          | inl last ↦ subst Showing (sym last) shows-end
+          | inr on ↦ subst Showing (sym on) (shows-part on)
+        ]

@@ -1,33 +1,18 @@
-pub mod Accepting
 pub mod Advancing
-pub mod Alone
-pub mod Asking
-pub mod Basing
 pub mod Blocks
 pub mod Counting
-pub mod Done
-pub mod Enable
 pub mod Examples
 pub mod Fetching
-pub mod Frames
-pub mod Guard
-pub mod HasLent
 pub mod Healthy
-pub mod LeftBlocks
 pub mod Lent
-pub mod Looking
-pub mod Mine
-pub mod Moving
 pub mod Off
 pub mod Packets
 pub mod Playing
-pub mod Reaping
 pub mod Runs
-pub mod Sending
-pub mod Slots
 pub mod Sparing
-pub mod Stepping
-pub mod Taken
-pub mod Told
-pub mod Up
-pub mod Writing
+pub use Rattle.transmit_laws.proofs.Off as Enable
+pub use Rattle.transmit_laws.proofs.Runs as LeftBlocks
+pub use Rattle.transmit_laws.proofs.Lent as Mine
+pub use Rattle.transmit_laws.proofs.Blocks as Slots
+pub use Rattle.transmit_laws.proofs.Fetching as Stepping
+pub use Rattle.transmit_laws.proofs.Playing as Up

@@ -1,19 +1,51 @@
--- A transmit side that isn't wanted on stays so; one that is off besides stays off, and sends nothing.
-use Rattle.std.proofs.Common.{◌≡◌, ℕ, ◌<◌, List, [], ◌∷◌, refl}
-use Rattle.nic_device.specs.DmaArena.Block.{Block}
-use Rattle.nic_device.specs.DmaRing.declared.dir.Dir.TheVariants.{Tx}
-use Rattle.nic_device.specs.State.{State}
-use Rattle.nic_device.specs.Step.{after}
-use Rattle.nic_device.specs.declared.event.Event.{Event}
-use Rattle.device_lock.specs.History.{leads_to}
-use Rattle.device_lock.specs.declared.entry.Entry.{Entry}
-use Rattle.history_laws.specs.Left.{Deed}
+-- The enable register of the driver's transmit side, and a side that is off.
+use Rattle.std.proofs.Common.{[], ◌<◌, ◌∙◌, ◌∷◌, ◌≡◌, List, ap, arith, drop, false, inl, inr, length, refl, ℕ}
+use Rattle.std.proofs.{lemmas.Bool.cases_Bool, lemmas.List.length-drop}
+use Rattle.history_laws.specs.Prelude.{Block, Entry, Event, Memory, State, Tx, Txdctl, after, has_bit, leads_to, place}
+use Rattle.history_laws.specs.Prelude.{transmit_queue_of}
+use Rattle.transmit_laws.specs.Prelude.{side_of}
+use Rattle.history_laws.proofs.Steady.{asked, idle_silent, off_idle, off_steady, seen_off, steady_kept, unwanted_steady}
+use Rattle.history_laws.proofs.{Deeds.side_did, Leaving.plain-write, Leaving.transmit_left}
+use Rattle.history_laws.proofs.DeviceLaws.StandingAccesses.{write_memory}
+use Rattle.history_laws.specs.{Left.Deed, Sides.Side}
+use Rattle.transmit_laws.specs.Off.{AllLeaveSide, GuardIsOff, IsOff, IsUnwanted, LeavesSide, OffStays}
+use Rattle.transmit_laws.proofs.Sparing.{sends_on, set_up-same, still-agrees}
+use Rattle.transmit_laws.specs.{Agreeing.SendsInOrder, Enable.EnableWordsKeep, Sent.sent_by, Sent.sent_in}
+use Rattle.std.specs.FinMap as map
+use Rattle.nic_device.specs.declared.event.Event.TheVariants as event
 use Rattle.history_laws.specs.Sides as sides
-use Rattle.history_laws.proofs.Deeds.{side_did}
-use Rattle.history_laws.proofs.Sides.{transmit_left}
-use Rattle.history_laws.proofs.Steady.{idle_silent, off_idle, off_steady, steady_kept, unwanted_steady}
-use Rattle.transmit_laws.specs.Off.{IsUnwanted, IsOff, LeavesSide, AllLeaveSide, OffStays}
-use Rattle.transmit_laws.specs.Sent.{sent_by, sent_in}
+
+-- A word that is written to the enable register of the driver's transmit side keeps what the two agree on.
+
+pub enable_words_keep : EnableWordsKeep
+enable_words_keep s queue sent v port n word made names rests (f, h) =
+    let e = event.Write port n word in
+    let is = asked queue s h.based.sound h.based.small port n word Tx names in
+    still-agrees s queue sent v f h e made (plain-write s port n word (place Txdctl queue) 0xFFFFFFFF names refl)
+    (set_up-same (transmit_queue_of s.registers queue) (transmit_queue_of (after s e).registers queue) v.layout v.posted
+    f (ap (λ (x : Side). x.ring) is) (ap (λ (x : Side). x.writeback) is) h.set_up)
+    (sends is h.sends)
+    (λ number is. ap (λ (m : Memory). map.get m number) (write_memory s port n word))
+  where
+    Sends : State → Type 0
+    Sends t = SendsInOrder t queue sent v.layout.limit (drop f v.outstanding) v.accepted
+
+    -- a side that was cut off isn't asked to be on: segments are outstanding
+    still_off : 0 < length (drop f v.outstanding) → has_bit 25 word ≡ false
+    still_off more = elim (cases_Bool (has_bit 25 word)) [
+      | inl on ↦ absurd (omega (arith, more, length-drop f v.outstanding, ap length (rests on)))
+      | inr off ↦ off
+    ]
+
+    sends : side_of Tx queue (after s (event.Write port n word))
+        ≡ record (side_of Tx queue s) { wanted = has_bit 25 word }
+        → Sends s → Sends (after s (event.Write port n word))
+    sends is =
+        sends_on s (after s (event.Write port n word)) queue sent v.layout.limit (drop f v.outstanding) v.accepted
+        (ap (λ (y : Side). y.staged) is)
+        (λ x. (ap (λ (y : Side). y.on) is ∙ x.off, ap (λ (y : Side). y.wanted) is ∙ still_off x.more))
+
+-- A transmit side that isn't wanted on stays so; one that is off besides stays off, and sends nothing.
 
 -- one event
 module _ (queue : ℕ) (s : State) (small : queue < 128) (e : Event Block) (x : LeavesSide queue s e) where
@@ -49,4 +81,13 @@ off_stays = record {
   unwanted = λ queue s e small x none. unwanted-stays queue s small e x none;
   off = off_history;
   silent = silent_history;
+}
+
+-- What a driver does by the enable word: it asks for the side to be on or off, and sees the side off.
+
+pub guard_is_off : GuardIsOff
+guard_is_off = record {
+  written = λ queue s port n word small sound names none.
+      ap (λ (x : Side). x.wanted) (asked queue s sound small port n word Tx names) ∙ none;
+  read = λ queue s port n word none names told zero. seen_off queue s port n word told Tx names zero none;
 }

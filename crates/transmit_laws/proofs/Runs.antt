@@ -1,27 +1,71 @@
 -- Over a whole history.
-use Rattle.std.proofs.Common.{◌≡◌, ◌≢◌, ℕ, ◌+◌, ◌-◌, ◌<◌, ◌≤◌, inl, inr, true, List, [], ◌∷◌, ◌++◌, length, drop, refl, ap, sym, ◌∙◌, subst, arith, append_assoc, Option, Some, None}
-use Rattle.std.specs.Prelude.{slice_index_or}
-use Rattle.std.proofs.lemmas.Bool.{cases_lt, both_ways}
+use Rattle.std.proofs.Common.{[], ◌++◌, ◌+◌, ◌-◌, ◌<◌, ◌∙◌, ◌∷◌, ◌≡◌, ◌≢◌, ◌≤◌, List, None, Option, Some, ap}
+use Rattle.std.proofs.Common.{append_assoc, arith, drop, false, inl, inr, length, refl, subst, sym, true, ℕ}
+use Rattle.std.proofs.lemmas.Bool.{both_ways, cases_Bool, cases_eq, cases_lt}
 use Rattle.std.proofs.lemmas.List.{append-nil, drop_all, get_or-drop, length-append, length-drop, map-append}
-use Rattle.nic_device.specs.DmaArena.Block.{Block}
-use Rattle.nic_device.specs.DmaArena.Memory.{read_at}
-use Rattle.nic_device.specs.State.{State}
-use Rattle.nic_device.specs.Step.{after, reply_to}
-use Rattle.nic_device.specs.Transmit.{staged_by}
-use Rattle.nic_device.specs.declared.event.Event.{Event}
-use Rattle.nic_device.specs.declared.event.Reply.{Reply}
-use Rattle.device_lock.specs.History.{IsLegal, leads_to}
-use Rattle.device_lock.specs.declared.entry.Entry.{Entry}
-use Rattle.pmd_tx.specs.PmdSeam.Packet.{Kept}
-use Rattle.pmd_tx.specs.Sending.{Segment, Sender, Move, no_segment, segment_at, is_sent, descriptor_at, first_end, moved}
-use Rattle.transmit_laws.specs.Agreeing.{SendsInOrder, AgreesAt, Agrees, bytes_of, frames_from}
-use Rattle.transmit_laws.specs.Laws.{FindsWaiting, IsPrefixOf, SentIsPrefix, IdleIsAllSent, WaitingIsNotAllSent}
-use Rattle.transmit_laws.specs.Sent.{sent_by, sent_in}
-use Rattle.transmit_laws.specs.Turns.{Turn, entries_of, known, sender_after, MayCome, MayRun}
-use Rattle.transmit_laws.proofs.Looking.{end-last, look-fetched, look-tells}
-use Rattle.transmit_laws.proofs.Packets.{frame_of_end}
-use Rattle.transmit_laws.proofs.Playing.{move-keeps}
-use Rattle.transmit_laws.proofs.Sparing.{spares-keeps}
+use Rattle.std.specs.Prelude.{◌==◌, IsTrue, slice_index_or}
+use Rattle.history_laws.specs.Prelude.{Block, Blocks, Entry, Event, IsLegal, LeavesBlock, Reply, Rx, State, Tx, Watched}
+use Rattle.history_laws.specs.Prelude.{WritesOutside, Wrote, after, calls_of, leads_to, read_at, reply_to, staged_by}
+use Rattle.transmit_laws.specs.Prelude.{Accepts, Advances, Asks, Elsewhere, Kept, Lends, Looks, Move, Reaps, Segment}
+use Rattle.transmit_laws.specs.Prelude.{Sender, descriptor_at, first_end, has_lent, is_sent, moved, no_segment}
+use Rattle.transmit_laws.specs.Prelude.{segment_at}
+use Rattle.pmd_tx.specs.Plays.{played_by}
+use Rattle.history_laws.proofs.Leaving.{left-setting, left-side, left_transmit, step_is}
+use Rattle.history_laws.proofs.{Blocks.clear_avoids, Blocks.left-block, Deeds.received-none, Deeds.silent_else}
+use Rattle.history_laws.proofs.DeviceLaws.{Standing.stays_within, StandingQueues.receiving_blocks}
+use Rattle.history_laws.specs.Left.{is_step_of}
+use Rattle.history_laws.specs.DeviceLaws.Leaving.{ReceivesOutside}
+use Rattle.transmit_laws.specs.Agreeing.{Agrees, AgreesAt, SendsInOrder, bytes_of, frames_from}
+use Rattle.transmit_laws.specs.Alone.{IsAlone, MayComeAlone, MayMoveAlone, MayRunAlone}
+use Rattle.transmit_laws.specs.Laws.{AloneMayRun, FindsWaiting, IdleIsAllSent, IsPrefixOf, LeftAloneIsSpared}
+use Rattle.transmit_laws.specs.Turns.{MayCome, MayMove, MayRun, Turn, entries_of, known, sender_after, turns_of}
+use Rattle.transmit_laws.proofs.{Advancing.end-last, Advancing.look-fetched, Advancing.look-tells, Lent.AreMine}
+use Rattle.transmit_laws.proofs.{Lent.mine-moved, Packets.frame_of_end, Playing.move-keeps, Sparing.spares-keeps}
+use Rattle.transmit_laws.specs.{Laws.SentIsPrefix, Laws.SentIsPrefixOfTaken, Laws.SentIsPrefixWhereAlone}
+use Rattle.transmit_laws.specs.{Laws.WaitingIsNotAllSent, Sent.sent_by, Sent.sent_in, Sparing.IsLeft}
+use Rattle.transmit_laws.specs.{Sparing.ReceiveOwes, Sparing.is_transmit_of}
+use Rattle.nic_device.specs.declared.event.Event.TheVariants as event
+
+-- An event that leaves blocks alone leaves those of a driver that sends.
+
+-- what is received, as the reply tells
+received_outside : (queue : ℕ) (mine : Blocks) (v : Sender) (r : Reply Block) (b : ℕ) → IsTrue (has_lent v b)
+    → IsTrue (mine b) → WritesOutside queue mine r → ReceiveOwes queue v r → ReceivesOutside r b
+received_outside queue mine v (Wrote on slot end desc at len) b lent is outside owes = elim (cases_eq on queue) [
+  | inl own ↦ owes.1 own b lent
+  | inr ne ↦
+      (clear_avoids mine desc 16 b (outside ne).1 is (omega arith), clear_avoids mine at len b (outside ne).0 is owes.0)
+]
+received_outside queue mine v other b lent is outside owes = tt
+
+module _ (w : Watched) (mine : Blocks) (v : Sender) (s : State) (b : ℕ) (lent : IsTrue (has_lent v b)) where
+  received_block : IsLeft w mine v s event.RxStep → LeavesBlock b s (after s event.RxStep)
+  received_block x =
+      receiving_blocks s b
+      (received_outside w.queue mine v (reply_to s event.RxStep) b lent (x.lent b lent) x.steps x.owed)
+
+  spared_block : (e : Event Block) → IsLeft w mine v s e → is_transmit_of w.queue e ≡ false
+      → LeavesBlock b s (after s e)
+  spared_block e x other = elim (cases_Bool (is_step_of Rx w.queue e)) as (λ _. LeavesBlock b s (after s e)) [
+    | inl own ↦
+        let is = step_is Rx w.queue e own in
+        subst (λ (n : Event Block). LeavesBlock b s (after s n)) (sym is)
+        (received_block (subst (IsLeft w mine v s) is x))
+    | inr none ↦
+        left-block w.queue mine s x.sound b (x.lent b lent) e x.made x.blocks x.steps
+        (received-none w.queue s e none) (silent_else Tx w.queue s e other)
+  ]
+
+pub left_alone_is_spared : LeftAloneIsSpared
+left_alone_is_spared w mine v s e h = record {
+  made = h.made;
+  setting = left-setting w s h.functions e h.registers;
+  side = λ other apart.
+      left_transmit w.queue s (after s e) (left-side w s h.functions Tx e h.registers other apart);
+  blocks = λ other b lent. spared_block w mine v s b lent e h other;
+}
+
+-- Over a whole history.
 
 -- one turn
 pub one-turn : (s : State) (queue : ℕ) (sent : List (List ℕ)) (v : Sender) (e : Event Block) (r : Reply Block)
@@ -140,3 +184,110 @@ waiting_is_not_all_sent queue s v ts us o finds same all_sent =
     (sent_in queue s gone) (sent_in queue (leads_to s gone) (entries_of us))
     (ap (sent_in queue s) (map-append _ ts us) ∙ sent_in-append queue s gone (entries_of us))
     (ap bytes_of same ∙ all_sent)
+
+-- A history by the calls of a pass.
+
+-- the turns are the history's entries
+entries-turns : (pass : ℕ) (moves : List Move) (h : List Entry) → entries_of (turns_of pass moves h) ≡ h
+entries-turns pass [] [] = refl
+entries-turns pass (m ∷ moves) [] = refl
+entries-turns pass [] (e ∷ es) = ap (λ (xs : List Entry). e ∷ xs) (entries-turns pass [] es)
+entries-turns pass (m ∷ moves) (e ∷ es) =
+    elim (cases_Bool (e.pass == pass)) as (λ _. entries_of (turns_of pass (m ∷ moves) (e ∷ es)) ≡ e ∷ es) [
+      | inl own ↦ rw own (ap (λ (xs : List Entry). e ∷ xs) (entries-turns pass moves es))
+      | inr other ↦ rw other (ap (λ (xs : List Entry). e ∷ xs) (entries-turns pass (m ∷ moves) es))
+    ]
+
+-- no move is made by a driver that has none to make
+none-turns : (pass : ℕ) (v : Sender) (h : List Entry) → sender_after v (turns_of pass [] h) ≡ v
+none-turns pass v [] = refl
+none-turns pass v (e ∷ es) = none-turns pass v es
+
+-- the driver after them is the one that its calls lead to
+played-turns : (pass : ℕ) (v : Sender) (moves : List Move) (h : List Entry)
+    → sender_after v (turns_of pass moves h) ≡ played_by v moves (calls_of pass h)
+played-turns pass v [] h = none-turns pass v h
+played-turns pass v (m ∷ moves) [] = refl
+played-turns pass v (m ∷ moves) (e ∷ es) =
+    elim (cases_Bool (e.pass == pass)) as (λ _. sender_after v (turns_of pass (m ∷ moves) (e ∷ es))
+    ≡ played_by v (m ∷ moves) (calls_of pass (e ∷ es))) [
+      | inl own ↦ rw own (played-turns pass (moved v m e.reply) moves es)
+      | inr other ↦ rw other (played-turns pass v (m ∷ moves) es)
+    ]
+
+pub sent_is_prefix_of_taken : SentIsPrefixOfTaken
+sent_is_prefix_of_taken pass queue s v moves h agreed legal may =
+    let ts = turns_of pass moves h in
+    let same = entries-turns pass moves h in
+    let prefix = sent_is_prefix queue s v ts (record {
+      agreed = agreed;
+      legal = subst (IsLegal s) (sym same) legal;
+      may = may;
+    }) in
+    subst (λ (xs : List Entry). IsPrefixOf (sent_in queue s xs)
+    (bytes_of (played_by v moves (calls_of pass h)).accepted)) same
+    (subst (λ (w : Sender). IsPrefixOf (sent_in queue s (entries_of ts)) (bytes_of w.accepted))
+    (played-turns pass v moves h) prefix)
+
+-- A history that leaves the queue of a driver alone may run, and so what is sent is a prefix of what was accepted.
+
+module _ (w : Watched) (mine : Blocks) (s : State) (sent : List (List ℕ)) (v : Sender) (j : Agrees s w.queue sent v)
+    (functions : w.vfs ≡ s.vfs) (all : AreMine mine v) (e : Event Block)
+  where
+    spared : (blocks : Blocks) → AreMine blocks v → IsAlone w blocks v s e → MayCome w.queue v s e None
+    spared blocks lent a = left_alone_is_spared w blocks v s e (record {
+      sound = j.1.based.sound;
+      made = a.made;
+      functions = functions;
+      lent = lent;
+      registers = a.registers;
+      blocks = a.blocks;
+      steps = a.steps;
+      owed = a.owed;
+    })
+
+    move_may : (m : Move) → MayMoveAlone w mine v s e m → MayMove w.queue v s e m
+    move_may Elsewhere a = spared (has_lent v) (λ number is. is) a
+    move_may m a = (a.0, a.1)
+
+    may : (o : Option Move) → MayComeAlone w mine v s e o → MayCome w.queue v s e o
+    may None a = spared mine all a
+    may (Some m) a = move_may m a
+
+    moved_mine : (m : Move) → MayMoveAlone w mine v s e m → AreMine mine (moved v m (reply_to s e))
+    moved_mine Elsewhere a = all
+    moved_mine (Accepts p) a = mine-moved mine v all (Accepts p) e (reply_to s e) a.0 a.2
+    moved_mine Lends a = mine-moved mine v all Lends e (reply_to s e) a.0 a.2
+    moved_mine Asks a = mine-moved mine v all Asks e (reply_to s e) a.0 a.2
+    moved_mine Advances a = mine-moved mine v all Advances e (reply_to s e) a.0 a.2
+    moved_mine Looks a = mine-moved mine v all Looks e (reply_to s e) a.0 a.2
+    moved_mine Reaps a = mine-moved mine v all Reaps e (reply_to s e) a.0 a.2
+
+    mine_after : (o : Option Move) → MayComeAlone w mine v s e o → AreMine mine (known v o (reply_to s e))
+    mine_after None a = all
+    mine_after (Some m) a = moved_mine m a
+
+run : (w : Watched) (mine : Blocks) (s : State) (sent : List (List ℕ)) (v : Sender) (ts : List Turn)
+    → Agrees s w.queue sent v → w.vfs ≡ s.vfs → AreMine mine v → IsLegal s (entries_of ts)
+    → MayRunAlone w mine v s ts → MayRun w.queue v s ts
+run w mine s sent v [] j functions all legal alone = tt
+run w mine s sent v (t ∷ ts) j functions all legal alone =
+    let e = t.entry.event in
+    let m = may w mine s sent v j functions all e t.move alone.0 in
+    let next = one-turn s w.queue sent v e t.entry.reply t.move j legal.0 m in
+    let left : AreMine mine (known v t.move t.entry.reply) =
+    subst (λ r. AreMine mine (known v t.move r)) (sym legal.0)
+    (mine_after w mine s sent v j functions all e t.move alone.0) in (
+      m,
+      run w mine (after s e) (sent ++ sent_by w.queue s e) (known v t.move t.entry.reply) ts next
+          (functions ∙ sym (stays_within s e).vfs) left legal.1 alone.1,
+    )
+
+pub alone_may_run : AloneMayRun
+alone_may_run w mine s v ts agreed functions lent legal alone =
+    run w mine s [] v ts agreed functions lent legal alone
+
+pub sent_is_prefix_where_alone : SentIsPrefixWhereAlone
+sent_is_prefix_where_alone w mine s v ts agreed functions lent legal alone =
+    sent_is_prefix w.queue s v ts
+    (record { agreed = agreed; legal = legal; may = alone_may_run w mine s v ts agreed functions lent legal alone })

@@ -1,19 +1,10 @@
 -- What a device and a driver that sends on one of its queues agree on.
-use Rattle.std.specs.Prelude.{ℕ, ◌*◌, ◌≡◌, ◌≢◌, ◌<◌, ◌≤◌, ◌⊎◌, true, false, IsTrue, IsFalse, List, [], ◌∷◌, ◌++◌, length, drop, map, None, if◌then◌else◌}
-use Rattle.nic_device.specs.DmaArena.Memory.{Memory, has_block, read_at}
-use Rattle.nic_device.specs.RegTable.declared.rows.RowId.TheVariants.{Tdt}
-use Rattle.nic_device.specs.RegisterFile.Columns.{place}
-use Rattle.nic_device.specs.RegisterFile.Settings.{frame_limit}
-use Rattle.nic_device.specs.RegisterLaws.Sides.{TransmitQueue, transmit_queue_of}
-use Rattle.nic_device.specs.TxRing.Report.{done_descriptor}
-use Rattle.nic_device.specs.Named.{named}
-use Rattle.nic_device.specs.Sound.{IsSound}
-use Rattle.nic_device.specs.State.{State}
-use Rattle.nic_device.specs.Transmit.{staged_by}
-use Rattle.nic_device.specs.declared.named.Named.TheVariants.{Register}
-use Rattle.pmd_tx.specs.PmdSeam.Packet.{Kept}
-use Rattle.pmd_tx.specs.PmdSeam.Slots.{is_ring_block, EachRingBlock}
-use Rattle.pmd_tx.specs.Sending.{Layout, Segment, Sender, segment_at, slot_at, descriptor_at, asking}
+use Rattle.std.specs.Prelude.{[], if◌then◌else◌, ◌*◌, ◌++◌, ◌<◌, ◌∷◌, ◌≡◌, ◌≢◌, ◌≤◌, ◌⊎◌, IsFalse, IsTrue, List, None}
+use Rattle.std.specs.Prelude.{drop, false, length, map, true, ℕ}
+use Rattle.history_laws.specs.Prelude.{IsSound, Memory, Register, State, Tdt, TransmitQueue, done_descriptor}
+use Rattle.history_laws.specs.Prelude.{frame_limit, has_block, named, place, read_at, staged_by, transmit_queue_of}
+use Rattle.transmit_laws.specs.Prelude.{EachRingBlock, Kept, Layout, Segment, Sender, asking, descriptor_at}
+use Rattle.transmit_laws.specs.Prelude.{is_ring_block, segment_at, slot_at}
 
 -- the bytes of packets
 abbrev pub bytes_of : List Kept → List (List ℕ)

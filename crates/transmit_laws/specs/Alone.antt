@@ -1,19 +1,11 @@
 -- A history that leaves the queue of a driver alone, turn by turn.
-use Rattle.std.specs.Prelude.{⊤, IsTrue, List, [], ◌∷◌, Option, Some, None}
-use Rattle.nic_device.specs.DmaArena.Block.{Block}
-use Rattle.nic_device.specs.RegisterFile.Pools.{mode_in}
-use Rattle.nic_device.specs.Sound.{IsEvent}
-use Rattle.nic_device.specs.State.{State}
-use Rattle.nic_device.specs.Step.{after, reply_to}
-use Rattle.nic_device.specs.declared.event.Event.{Event}
+use Rattle.std.specs.Prelude.{[], ◌∷◌, IsTrue, List, None, Option, Some, ⊤}
+use Rattle.history_laws.specs.Prelude.{Block, Blocks, Event, IsEvent, LeavesBlocks, LeavesRegisters, Reply, State}
+use Rattle.history_laws.specs.Prelude.{Watched, WritesOutside, after, mode_in, reply_to}
+use Rattle.transmit_laws.specs.Prelude.{Elsewhere, IsOwn, Move, Sender, has_lent}
+use Rattle.transmit_laws.specs.{Sparing.Owes, Turns.Turn, Turns.known}
 use Rattle.nic_device.specs.declared.event.Event.TheVariants as event
-use Rattle.nic_device.specs.declared.event.Reply.{Reply}
 use Rattle.nic_device.specs.declared.event.Reply.TheVariants as reply
-use Rattle.device_lock.specs.Alone.{Blocks, LeavesRegisters, LeavesBlocks, WritesOutside}
-use Rattle.device_lock.specs.declared.alone.Watched.{Watched}
-use Rattle.pmd_tx.specs.Sending.{Sender, Move, Elsewhere, IsOwn, has_lent}
-use Rattle.transmit_laws.specs.Sparing.{Owes}
-use Rattle.transmit_laws.specs.Turns.{Turn, known}
 
 -- an event leaves the queue and these blocks alone, by the clauses by which a closed history is judged, and what the
 -- driver's receive half owes is met

@@ -1,14 +1,9 @@
 -- Words that are written to the enable register of a queue's transmit side.
-use Rattle.std.specs.Prelude.{ℕ, ◌≡◌, true, List, []}
-use Rattle.nic_device.specs.RegisterFile.Bits.{has_bit}
-use Rattle.nic_device.specs.Sound.{IsEvent}
-use Rattle.nic_device.specs.State.{State}
-use Rattle.nic_device.specs.Step.{after}
+use Rattle.std.specs.Prelude.{[], ◌≡◌, List, true, ℕ}
+use Rattle.history_laws.specs.Prelude.{IsEvent, Port, State, after, has_bit}
+use Rattle.transmit_laws.specs.Prelude.{Sender}
+use Rattle.transmit_laws.specs.{Agreeing.Agrees, Off.NamesEnable}
 use Rattle.nic_device.specs.declared.event.Event.TheVariants as event
-use Rattle.nic_device.specs.declared.event.Port.{Port}
-use Rattle.pmd_tx.specs.Sending.{Sender}
-use Rattle.transmit_laws.specs.Agreeing.{Agrees}
-use Rattle.transmit_laws.specs.Off.{NamesEnable}
 
 -- device and driver agree on behind such a word as before it, where it doesn't ask for the side to be on, or nothing is
 -- outstanding

@@ -1,13 +1,10 @@
 -- The replies to the driver's own moves: those of a healthy queue, wherever device and driver agree.
-use Rattle.std.specs.Prelude.{ℕ, IsTrue, IsFalse, List, ⊤}
-use Rattle.nic_device.specs.DmaArena.Block.{Block}
-use Rattle.nic_device.specs.DmaArena.Memory.{has_block}
-use Rattle.nic_device.specs.State.{State}
-use Rattle.nic_device.specs.Step.{reply_to}
-use Rattle.nic_device.specs.declared.event.Event.{Event}
-use Rattle.nic_device.specs.declared.event.Event.TheVariants as event
-use Rattle.pmd_tx.specs.Sending.{Sender, Move, Elsewhere, IsOwn, is_healthy}
+use Rattle.std.specs.Prelude.{IsFalse, IsTrue, List, ℕ, ⊤}
+use Rattle.history_laws.specs.Prelude.{Block, Event, State, has_block, reply_to}
+use Rattle.transmit_laws.specs.Prelude.{Elsewhere, IsOwn, Move, Sender}
+use Rattle.pmd_tx.specs.Sending.{is_healthy}
 use Rattle.transmit_laws.specs.Agreeing.{Agrees}
+use Rattle.nic_device.specs.declared.event.Event.TheVariants as event
 
 -- a block that is lent by a move of the driver's own isn't lent yet
 abbrev pub LendsAnew : State → Move → Event Block → Type 0

@@ -1,22 +1,14 @@
 -- What holds of a driver that sends on a queue of a shared device.
-use Rattle.std.specs.Prelude.{ℕ, ◌≡◌, ◌≢◌, ◌<◌, false, IsTrue, List, [], ◌++◌}
-use Rattle.nic_device.specs.DmaArena.Block.{Block}
-use Rattle.nic_device.specs.State.{State}
-use Rattle.nic_device.specs.Step.{after, reply_to}
-use Rattle.nic_device.specs.declared.event.Event.{Event}
-use Rattle.nic_device.specs.declared.event.Event.TheVariants as event
-use Rattle.device_lock.specs.declared.entry.Entry.{Entry}
-use Rattle.device_lock.specs.Alone.{Blocks}
-use Rattle.device_lock.specs.declared.alone.Watched.{Watched}
-use Rattle.device_lock.specs.History.{IsLegal, leads_to, calls_of}
+use Rattle.std.specs.Prelude.{[], ◌++◌, ◌<◌, ◌≡◌, ◌≢◌, IsTrue, List, false, ℕ}
+use Rattle.history_laws.specs.Prelude.{Block, Blocks, Entry, Event, IsLegal, State, Watched, after, calls_of, leads_to}
+use Rattle.history_laws.specs.Prelude.{reply_to}
+use Rattle.transmit_laws.specs.Prelude.{Move, Sender, descriptor_at, first_end, has_lent, is_sent, moved}
 use Rattle.pmd_tx.specs.Plays.{played_by}
-use Rattle.pmd_tx.specs.Sending.{Sender, Move, is_sent, descriptor_at, first_end, has_lent, moved}
+use Rattle.transmit_laws.specs.Turns.{IsOver, MayMove, MayRun, Turn, entries_of, sender_after, turns_of}
+use Rattle.transmit_laws.specs.{Agreeing.Agrees, Agreeing.bytes_of, Alone.MayRunAlone, Sent.sent_by, Sent.sent_in}
+use Rattle.transmit_laws.specs.{Sparing.IsLeft, Sparing.Spares}
+use Rattle.nic_device.specs.declared.event.Event.TheVariants as event
 use Rattle.nic_device.specs.declared.event.Reply.TheVariants as reply
-use Rattle.transmit_laws.specs.Agreeing.{Agrees, bytes_of}
-use Rattle.transmit_laws.specs.Alone.{MayRunAlone}
-use Rattle.transmit_laws.specs.Sent.{sent_by, sent_in}
-use Rattle.transmit_laws.specs.Sparing.{Spares, IsLeft}
-use Rattle.transmit_laws.specs.Turns.{Turn, entries_of, turns_of, sender_after, MayMove, MayRun, IsOver}
 
 -- a step of transmitting of the driver's queue keeps what the two agree on, with the frame that it sends, if any
 abbrev pub StepsOfQueueKeep : Type 0

@@ -1,12 +1,8 @@
 -- Of an arena's blocks only those are lent that its driver has lent.
 use Rattle.std.specs.Prelude.{⊤}
-use Rattle.nic_device.specs.DmaArena.Block.{Block}
-use Rattle.device_lock.specs.Alone.{Blocks}
-use Rattle.nic_device.specs.State.{State}
-use Rattle.nic_device.specs.Step.{after, reply_to}
-use Rattle.nic_device.specs.declared.event.Event.{Event}
-use Rattle.history_laws.specs.Lent.{OnlyLent, LendsNone, LendsOwn, either}
-use Rattle.pmd_tx.specs.Sending.{Sender, Move, Elsewhere, IsOwn, has_lent, moved}
+use Rattle.history_laws.specs.Prelude.{Block, Blocks, Event, State, after, reply_to}
+use Rattle.transmit_laws.specs.Prelude.{Elsewhere, IsOwn, Move, Sender, has_lent, moved}
+use Rattle.history_laws.specs.Lent.{LendsNone, LendsOwn, OnlyLent, either}
 use Rattle.transmit_laws.specs.Healthy.{LendsAnew}
 
 -- a call that is none of the sender's lends none of these numbers

@@ -6,6 +6,7 @@ pub mod Healthy
 pub mod Laws
 pub mod Lent
 pub mod Off
+pub mod Prelude
 pub mod Sent
 pub mod Sparing
 pub mod Turns

@@ -1,26 +1,12 @@
 -- A queue whose transmit side is off, and isn't wanted on.
-use Rattle.std.specs.Prelude.{ℕ, ◌≡◌, ◌<◌, IsFalse, ⊤, List, [], ◌∷◌}
-use Rattle.nic_device.specs.DmaArena.Block.{Block}
-use Rattle.nic_device.specs.RegTable.declared.rows.RowId.TheVariants.{Txdctl}
-use Rattle.nic_device.specs.RegisterFile.Bits.{has_bit}
-use Rattle.nic_device.specs.RegisterFile.Columns.{place}
-use Rattle.nic_device.specs.DmaRing.declared.dir.Dir.TheVariants.{Tx}
-use Rattle.nic_device.specs.Named.{named}
-use Rattle.nic_device.specs.Sound.{IsEvent, IsSound}
-use Rattle.nic_device.specs.State.{State}
-use Rattle.nic_device.specs.Step.{after, reply_to}
-use Rattle.nic_device.specs.declared.event.Event.{Event}
+use Rattle.std.specs.Prelude.{[], ◌<◌, ◌∷◌, ◌≡◌, IsFalse, List, ℕ, ⊤}
+use Rattle.history_laws.specs.Prelude.{Block, Entry, Event, IsEvent, IsSound, LeavesTransmit, Port, Register, State, Tx}
+use Rattle.history_laws.specs.Prelude.{Txdctl, after, has_bit, leads_to, named, place, reply_to}
+use Rattle.transmit_laws.specs.Prelude.{side_of}
+use Rattle.transmit_laws.specs.{Sent.sent_in, Sparing.is_switch_of, Sparing.is_transmit_of}
 use Rattle.nic_device.specs.declared.event.Event.TheVariants as event
-use Rattle.nic_device.specs.declared.event.Port.{Port}
 use Rattle.nic_device.specs.declared.event.Reply.TheVariants as reply
-use Rattle.nic_device.specs.declared.named.Named.TheVariants.{Register}
-use Rattle.device_lock.specs.History.{leads_to}
-use Rattle.device_lock.specs.declared.entry.Entry.{Entry}
-use Rattle.history_laws.specs.DeviceLaws.Leaving.{LeavesTransmit}
 use Rattle.history_laws.specs.Sides as sides
-use Rattle.history_laws.specs.Sides.{side_of}
-use Rattle.transmit_laws.specs.Sent.{sent_in}
-use Rattle.transmit_laws.specs.Sparing.{is_transmit_of, is_switch_of}
 
 -- the side isn't wanted on, and it is off besides
 abbrev pub IsUnwanted : ℕ → State → Type 0

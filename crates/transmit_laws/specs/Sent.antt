@@ -1,13 +1,7 @@
 -- The frames that a queue sends, counted since its transmit side last went on.
-use Rattle.std.specs.Prelude.{ℕ, Bool, not, ◌&&◌, List, [], ◌∷◌, ◌++◌, if◌then◌else◌}
-use Rattle.nic_device.specs.DmaArena.Block.{Block}
-use Rattle.device_lock.specs.declared.entry.Entry.{Entry}
-use Rattle.nic_device.specs.RegisterFile.Queue.{is_on}
-use Rattle.nic_device.specs.DmaRing.declared.dir.Dir.TheVariants.{Tx}
-use Rattle.nic_device.specs.State.{State}
-use Rattle.nic_device.specs.Step.{after}
-use Rattle.nic_device.specs.declared.event.Event.{Event}
 pub use Rattle.history_laws.specs.Segments.{frames_added, sent_by}
+use Rattle.std.specs.Prelude.{[], if◌then◌else◌, ◌&&◌, ◌++◌, ◌∷◌, Bool, List, not, ℕ}
+use Rattle.history_laws.specs.Prelude.{Block, Entry, Event, State, Tx, after, is_on}
 
 -- the frames that the entries of a history send on a queue, from a state on
 abbrev pub sent_in : ℕ → State → List Entry → List (List ℕ)

@@ -1,23 +1,12 @@
 -- What it is for an event to spare a driver that sends: to leave what the driver rests on as it is.
-use Rattle.std.specs.Prelude.{ℕ, ◌≡◌, ◌<◌, Bool, ⊤, IsTrue, IsFalse}
-use Rattle.nic_device.specs.DmaArena.Block.{Block}
-use Rattle.nic_device.specs.DmaArena.Memory.{Avoids}
-use Rattle.nic_device.specs.RegisterFile.Pools.{mode_in}
-use Rattle.nic_device.specs.DmaRing.declared.dir.Dir.TheVariants.{Tx}
-use Rattle.nic_device.specs.Sound.{IsEvent, IsSound}
-use Rattle.nic_device.specs.State.{State}
-use Rattle.nic_device.specs.Step.{after, reply_to}
-use Rattle.nic_device.specs.declared.event.Event.{Event}
-use Rattle.nic_device.specs.declared.event.Event.TheVariants as event
-use Rattle.nic_device.specs.declared.event.Reply.{Reply}
-use Rattle.nic_device.specs.declared.event.Reply.TheVariants.{Wrote}
-use Rattle.device_lock.specs.Alone.{Blocks, LeavesRegisters, LeavesBlocks, WritesOutside}
-use Rattle.device_lock.specs.declared.alone.Watched.{Watched}
-use Rattle.history_laws.specs.DeviceLaws.Laws.{WritesNoSetting}
-use Rattle.history_laws.specs.DeviceLaws.Leaving.{LeavesTransmit, LeavesBlock}
-use Rattle.history_laws.specs.Left as left
+use Rattle.std.specs.Prelude.{◌<◌, ◌≡◌, Bool, IsFalse, IsTrue, ℕ, ⊤}
+use Rattle.history_laws.specs.Prelude.{Avoids, Block, Blocks, Event, IsEvent, IsSound, LeavesBlock, LeavesBlocks}
+use Rattle.history_laws.specs.Prelude.{LeavesRegisters, LeavesTransmit, Reply, State, Tx, Watched, WritesNoSetting}
+use Rattle.history_laws.specs.Prelude.{WritesOutside, Wrote, after, mode_in, reply_to}
+use Rattle.transmit_laws.specs.Prelude.{Sender, has_lent}
 use Rattle.history_laws.specs.Left.{is_step_of}
-use Rattle.pmd_tx.specs.Sending.{Sender, has_lent}
+use Rattle.nic_device.specs.declared.event.Event.TheVariants as event
+use Rattle.history_laws.specs.Left as left
 
 -- whether an event is a step of transmitting of this queue, and whether it is one of its transmit side's enable
 abbrev pub is_transmit_of : ℕ → Event Block → Bool

@@ -1,16 +1,8 @@
 -- A history in which one pass is a driver that sends: each entry of the pass is a move of the driver's.
-use Rattle.std.specs.Prelude.{ℕ, ◌==◌, ⊤, List, [], ◌∷◌, map, Option, Some, None, if◌then◌else◌}
-use Rattle.nic_device.specs.DmaArena.Block.{Block}
-use Rattle.device_lock.specs.declared.entry.Entry.{Entry}
-use Rattle.device_lock.specs.History.{IsLegal}
-use Rattle.nic_device.specs.Sound.{IsEvent}
-use Rattle.nic_device.specs.State.{State}
-use Rattle.nic_device.specs.Step.{after}
-use Rattle.nic_device.specs.declared.event.Event.{Event}
-use Rattle.nic_device.specs.declared.event.Reply.{Reply}
-use Rattle.pmd_tx.specs.Sending.{Sender, Move, Elsewhere, IsOwn, moved}
-use Rattle.transmit_laws.specs.Agreeing.{Agrees}
-use Rattle.transmit_laws.specs.Sparing.{Spares}
+use Rattle.std.specs.Prelude.{[], if◌then◌else◌, ◌==◌, ◌∷◌, List, None, Option, Some, map, ℕ, ⊤}
+use Rattle.history_laws.specs.Prelude.{Block, Entry, Event, IsEvent, IsLegal, Reply, State, after}
+use Rattle.transmit_laws.specs.Prelude.{Elsewhere, IsOwn, Move, Sender, moved}
+use Rattle.transmit_laws.specs.{Agreeing.Agrees, Sparing.Spares}
 
 -- an entry of a history, and which move it is, where it is one of the driver's
 pub record Turn : Type 0 where

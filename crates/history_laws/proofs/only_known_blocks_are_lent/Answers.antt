@@ -1,5 +1,4 @@
-use Rattle.history_laws.proofs.Calls.{anew_is_done}
-use Rattle.history_laws.proofs.Lent.{only_lent_stays}
+use Rattle.history_laws.proofs.Lent.{anew_is_done, only_lent_stays}
 use Rattle.history_laws.proofs.only_known_blocks_are_lent.Goals as goal
 
 pub returns : goal.returns

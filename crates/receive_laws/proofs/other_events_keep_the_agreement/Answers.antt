@@ -1,5 +1,4 @@
-use Rattle.receive_laws.proofs.Leaving.{leaving_keeps, switching_keeps}
-use Rattle.receive_laws.proofs.Switching.{enable_keeps}
+use Rattle.receive_laws.proofs.{Foreign.enable_keeps, Leaving.leaving_keeps, Leaving.switching_keeps}
 use Rattle.receive_laws.proofs.other_events_keep_the_agreement.Goals as goal
 
 pub returns : goal.returns

@@ -1,4 +1,4 @@
-use Rattle.receive_laws.proofs.Up.{enable_same, entry_stays_up, left_up, own_stays_up, receive_stays_up}
+use Rattle.receive_laws.proofs.Foreign.{enable_same, entry_stays_up, left_up, own_stays_up, receive_stays_up}
 use Rattle.receive_laws.proofs.queue_up_stays_up.Goals as goal
 
 pub returns : goal.returns

@@ -1,4 +1,4 @@
-use Rattle.receive_laws.proofs.Received.{receive_keeps}
+use Rattle.receive_laws.proofs.Foreign.{receive_keeps}
 use Rattle.receive_laws.proofs.receive_step_keeps_the_agreement.Goals as goal
 
 pub returns : goal.returns

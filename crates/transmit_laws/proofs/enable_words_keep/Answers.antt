@@ -1,4 +1,4 @@
-use Rattle.transmit_laws.proofs.Enable.{enable_words_keep}
+use Rattle.transmit_laws.proofs.Off.{enable_words_keep}
 use Rattle.transmit_laws.proofs.enable_words_keep.Goals as goal
 
 pub returns : goal.returns

@@ -1,4 +1,4 @@
-use Rattle.transmit_laws.proofs.LeftBlocks.{left_alone_is_spared}
+use Rattle.transmit_laws.proofs.Runs.{left_alone_is_spared}
 use Rattle.transmit_laws.proofs.left_alone_is_spared.Goals as goal
 
 pub returns : goal.returns

@@ -1,4 +1,4 @@
-use Rattle.transmit_laws.proofs.Up.{up_stays}
+use Rattle.transmit_laws.proofs.Playing.{up_stays}
 use Rattle.transmit_laws.proofs.queue_up_stays_up.Goals as goal
 
 pub returns : goal.returns

@@ -1,4 +1,4 @@
-use Rattle.transmit_laws.proofs.Told.{sent_is_told}
+use Rattle.transmit_laws.proofs.Counting.{sent_is_told}
 use Rattle.transmit_laws.proofs.sent_frames_are_told.Goals as goal
 
 pub returns : goal.returns

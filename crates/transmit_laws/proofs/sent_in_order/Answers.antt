@@ -1,5 +1,5 @@
-use Rattle.transmit_laws.proofs.Runs.{sent_is_prefix, idle_is_all_sent, waiting_is_not_all_sent}
-use Rattle.transmit_laws.proofs.Taken.{sent_is_prefix_of_taken}
+use Rattle.transmit_laws.proofs.Runs.{idle_is_all_sent, sent_is_prefix, sent_is_prefix_of_taken}
+use Rattle.transmit_laws.proofs.Runs.{waiting_is_not_all_sent}
 use Rattle.transmit_laws.proofs.sent_in_order.Goals as goal
 
 pub returns : goal.returns

@@ -1,4 +1,4 @@
-use Rattle.transmit_laws.proofs.Alone.{alone_may_run, sent_is_prefix_where_alone}
+use Rattle.transmit_laws.proofs.Runs.{alone_may_run, sent_is_prefix_where_alone}
 use Rattle.transmit_laws.proofs.sent_in_order_where_left_alone.Goals as goal
 
 pub returns : goal.returns

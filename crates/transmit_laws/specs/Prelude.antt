@@ -1,0 +1,6 @@
+-- The names that the laws on sending cite most, passed on from one place. Declares nothing.
+pub use Rattle.pmd_tx.specs.Sending.{Accepts, Advances, Asks, Elsewhere, IsOwn, Layout, Lends, Looks, MayAccept, Move}
+pub use Rattle.pmd_tx.specs.Sending.{Outgoing, Reaps, Segment, Sender, accepted_by, asking, descriptor_at, first_end}
+pub use Rattle.pmd_tx.specs.Sending.{has_lent, is_sent, moved, no_segment, segment_at, segments_of, slot_at}
+pub use Rattle.pmd_tx.specs.{PmdSeam.Packet.Kept, PmdSeam.Slots.EachRingBlock, PmdSeam.Slots.is_ring_block}
+pub use Rattle.history_laws.specs.Sides.{side_of}

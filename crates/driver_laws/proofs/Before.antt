@@ -1,17 +1,19 @@
 -- Entries ahead of the place where the device agrees with both halves.
-use Rattle.std.proofs.Common.{◌≡◌, ◌≢◌, ℕ, inl, inr, ◌*◌, Bool, true, false, ◌||◌, ◌&&◌, ◌<◌, ◌≤◌, [], ◌∷◌, refl, sym, subst, nat_lt}
+use Rattle.std.proofs.Common.{[], ◌&&◌, ◌*◌, ◌<◌, ◌||◌, ◌∷◌, ◌≡◌, ◌≢◌, ◌≤◌, Bool, false, inl, inr, nat_lt, refl, subst}
+use Rattle.std.proofs.Common.{sym, true, ℕ}
 use Rattle.std.specs.Prelude.{◌==◌}
-use Rattle.std.proofs.lemmas.Bool.{or_cases, or_left, or_right, and_from, eqb-false, eqb-true, eq-eqb, lt-ltb}
-use Rattle.driver_laws.specs.Prelude.{Block, IsEvent, State, after, reply_to, Event, Reply, Blocks, lent_by, Entry, OnlyLent, WritesNoSetting, lends, LendsNone, either}
+use Rattle.std.proofs.lemmas.Bool.{and_from, eq-eqb, eqb-false, eqb-true, lt-ltb, or_cases, or_left, or_right}
+use Rattle.driver_laws.specs.Prelude.{Block, Blocks, Entry, Event, IsEvent, LendsNone, OnlyLent, Reply, State}
+use Rattle.driver_laws.specs.Prelude.{WritesNoSetting, after, either, lends, lent_by, reply_to}
+use Rattle.device_lock.specs.Alone.{lent_in}
+use Rattle.nic_device.proofs.Cases.{lent_cases}
 use Rattle.nic_device.specs.Step.{step_of}
 use Rattle.nic_device.specs.declared.event.Event.TheVariants as event
 use Rattle.nic_device.specs.declared.event.Reply.TheVariants as reply
-use Rattle.nic_device.proofs.Cases.{lent_cases}
-use Rattle.device_lock.specs.Alone.{lent_in}
-use Rattle.receive_laws.specs.HistoryLaws.Lent.{with_lent}
-use Rattle.receive_laws.proofs.HistoryLaws.Lent.{only_lent_stays}
 use Rattle.receive_laws.proofs.DeviceLaws.KeptSettings.{settings_stand}
+use Rattle.receive_laws.proofs.HistoryLaws.Lent.{only_lent_stays}
 use Rattle.receive_laws.proofs.Waiting.{frames_fit}
+use Rattle.receive_laws.specs.HistoryLaws.Lent.{with_lent}
 use Rattle.driver_laws.specs.Before.{AreShort, FramesStayShortAlong, OnlyPassLent}
 
 -- the frames that wait stay short over one event

@@ -1,21 +1,22 @@
 -- A word that is written to an enable register of the driver's queue keeps what the device and both halves agree on.
-use Rattle.std.proofs.Common.{◌≡◌, ℕ, true, List, [], refl, ap, subst}
-use Rattle.std.specs.FinMap as map
+use Rattle.std.proofs.Common.{[], ◌≡◌, List, ap, refl, subst, true, ℕ}
 use Rattle.std.proofs.lemmas.List.{append-nil}
-use Rattle.driver_laws.specs.Prelude.{Block, Memory, Rxdctl, has_bit, place, Rx, Tx, named, IsEvent, State, after, Event, Port, Register, WritesNoSetting, Piece, Halves, LeavesBlock}
+use Rattle.std.specs.FinMap as map
+use Rattle.driver_laws.specs.Prelude.{Block, Event, Halves, IsEvent, LeavesBlock, Memory, Piece, Port, Register, Rx}
+use Rattle.driver_laws.specs.Prelude.{Rxdctl, State, Tx, WritesNoSetting, after, has_bit, named, place}
 use Rattle.nic_device.specs.RegTable.declared.rows.RowId.TheVariants.{Txdctl}
 use Rattle.nic_device.specs.declared.event.Event.TheVariants as event
 use Rattle.receive_laws.proofs.DeviceLaws.KeptSettings.{settings_stand}
 use Rattle.receive_laws.proofs.DeviceLaws.Standing.{stays_within}
 use Rattle.receive_laws.proofs.DeviceLaws.StandingAccesses.{write_memory, write_rest}
-use Rattle.receive_laws.specs.HistoryLaws.Sides.{Side}
+use Rattle.receive_laws.proofs.Each.{each_of}
 use Rattle.receive_laws.proofs.HistoryLaws.Asking.{asked}
 use Rattle.receive_laws.proofs.HistoryLaws.SideNames.{plain-write}
-use Rattle.receive_laws.proofs.Each.{each_of}
 use Rattle.receive_laws.proofs.Leaving.{leaving_keeps, switching_keeps}
-use Rattle.transmit_laws.specs.Agreeing.{Agrees}
+use Rattle.receive_laws.specs.HistoryLaws.Sides.{Side}
 use Rattle.transmit_laws.proofs.Enable.{enable_words_keep as transmit_word_keeps}
 use Rattle.transmit_laws.proofs.Sparing.{sparing_events_keep}
+use Rattle.transmit_laws.specs.Agreeing.{Agrees}
 use Rattle.driver_laws.specs.Agreeing.{BothAgree}
 use Rattle.driver_laws.specs.Enabling.{EnableWordsKeep}
 

@@ -1,3 +1,3 @@
--- Names that stand in Settled.
+-- Names that stand in SwitchedOff.
 pub use Rattle.start_laws.proofs.Reached.{all_lead, free_left}
-pub use Rattle.start_laws.proofs.Settled.{ending_plain, ending_settles}
+pub use Rattle.start_laws.proofs.SwitchedOff.{ending_plain, ending_settles}

@@ -23,13 +23,12 @@ use Rattle.start_laws.specs.Filling.{NoFaultIsEarly}
 use Rattle.start_laws.proofs.Ground.{IsDriven, IsWrite, asked_are_writes, ground_kept, named_registers_reply}
 use Rattle.start_laws.proofs.Ground.{off_sides_are_seen_off, plain_keeps, polled_driven, read_ground, reads_driven}
 use Rattle.start_laws.proofs.Ground.{words_are_writes, write_ground, writes_driven}
-use Rattle.start_laws.proofs.Lent.{lending}
 use Rattle.start_laws.proofs.Made.{OfCall, accesses_keep, all_before, all_missed, before_made, first_access, made_some}
 use Rattle.start_laws.proofs.Made.{of_map, some_made}
 use Rattle.start_laws.proofs.On.{switched_sides_agree, switched_sides_go_on}
 use Rattle.start_laws.proofs.Parts.{ends_some}
 use Rattle.start_laws.proofs.Reached.{RefutesNext, calls_lead, last_never, next_refuted, then_refuted}
-use Rattle.start_laws.proofs.StopCalls.{MayAsk}
+use Rattle.start_laws.proofs.StopCalls.{MayAsk, lending}
 use Rattle.start_laws.proofs.SwitchedOff.{ending_quiet, may_call, quiet_kept}
 use Rattle.start_laws.proofs.Words.{side_driven}
 

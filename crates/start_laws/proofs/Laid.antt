@@ -25,8 +25,8 @@ use Rattle.start_laws.specs.Standing.{IsLeft}
 use Rattle.start_laws.proofs.Ground.{ground_kept, ground_names, plain_keeps}
 use Rattle.start_laws.proofs.Parts.{own_some, still_some}
 use Rattle.start_laws.proofs.Reached.{entry_is, foreign_left, reached_next}
-use Rattle.start_laws.proofs.Settled.{alone_left, watching}
 use Rattle.start_laws.proofs.Standing.{with_beside}
+use Rattle.start_laws.proofs.SwitchedOff.{alone_left, watching}
 use Rattle.start_laws.proofs.Words.{words_taken}
 
 -- transmit sides that are off, or whose ring is empty, as the words of an empty ring are written to them

@@ -9,18 +9,20 @@ use Rattle.start_laws.specs.Prelude.{is_size, leads_to, lent_by, quiet, ring_blo
 use Rattle.start_laws.proofs.Prelude.{AtCalls, AtEntries, BeforeLast, HasGround, IsAlong, Sides, after_accesses}
 use Rattle.pmd.proofs.PmdSeam.Rings.{some_blocks}
 use Rattle.pmd.specs.PmdSeam.Frames.{most_blocks}
+use Rattle.pmd.specs.Running.{Running}
+use Rattle.pmd.specs.Started.{AreUp}
 use Rattle.start_laws.specs.Moves.{IsSized}
 use Rattle.start_laws.specs.On.{AreOn, SwitchedSidesAgree, SwitchedSidesBeginNone, SwitchedSidesGoOn}
 use Rattle.start_laws.specs.Points.{Point}
 use Rattle.start_laws.specs.Quieting.{are_off}
+use Rattle.start_laws.specs.Start.{BeginsWell, StartAgrees, StartGoesOn}
 use Rattle.start_laws.specs.Unused.{AreUnused, WentOn}
 use Rattle.start_laws.proofs.Ground.{ground_names}
-use Rattle.start_laws.proofs.Lent.{Has, IsLentBy, has_more, lending, lent_along, prepared_adds, prepared_has}
-use Rattle.start_laws.proofs.Lent.{prepared_some, ring_in, stays_in}
 use Rattle.start_laws.proofs.Made.{first_made, some_made}
 use Rattle.start_laws.proofs.Points.{At, accesses_at, laid_with, prepared_at, unused_kept}
 use Rattle.start_laws.proofs.Reached.{sound_at}
-use Rattle.start_laws.proofs.StopCalls.{accesses_add}
+use Rattle.start_laws.proofs.StopCalls.{Has, IsLentBy, accesses_add, has_more, lending, lent_along, prepared_adds}
+use Rattle.start_laws.proofs.StopCalls.{prepared_has, prepared_some, ring_in, stays_in}
 use Rattle.start_laws.proofs.SwitchedOff.{quiet_sides_stand, quieting_leads}
 use Rattle.start_laws.proofs.Switching.{came_up, comes_up, fresh_receive_agrees, fresh_transmit_agrees, laid, may_lay}
 use Rattle.start_laws.proofs.Switching.{may_switch, switching}
@@ -222,3 +224,44 @@ switched_sides_go_on w origin h q size frame old a new v t up along well =
 pub switched_sides_begin_none : SwitchedSidesBeginNone
 switched_sides_begin_none w origin h q size frame old a new v t up along well =
     begun_at w origin h q size frame old a new v t up along up.sized well
+
+-- a start of the driver leaves a state where the device and the driver agree on both sides
+
+module _ (w : Watched) (origin : State) (h : List Entry) (q : AtPort) (size frame : ℕ) (old : List Call) (a : Numbers)
+    (new : List Call) (r : Running) (up : AreUp q size frame old a new r) (along : IsAlong w origin h)
+    (well : BeginsWell w origin h q size frame old a new r up)
+  where
+    -- before the receive ring is filled both sides are on
+
+    abbrev pub on : AreOn q size frame old a up.on.mid up.empty r.transmit
+    on = record {
+      sized = up.sized;
+      framed = up.framed;
+      ready_made = up.ready_made;
+      both_made = up.both_made;
+      ready_arena = up.ready_arena;
+      both_arena = up.both_arena;
+      receive = up.receive;
+      transmit = up.transmit;
+      switched = up.on.switched;
+    }
+
+    -- port and queue name this queue there
+    pub start_ground : AtCalls w origin h up.on.mid (HasGround w.queue q frame)
+    start_ground =
+        ground_at w origin h q size frame old a up.on.mid up.empty r.transmit on along up.sized well.ground
+
+    -- some calls were made before both were on
+    pub start_some : up.on.mid ≢ []
+    start_some =
+        on_some w origin h q size frame old a up.on.mid up.empty r.transmit on along up.sized well.ground
+
+pub start_agrees : StartAgrees
+start_agrees w origin h q size frame old a new r up along well =
+    switched_sides_agree w origin h q size frame old a up.on.mid up.empty r.transmit
+    (on w origin h q size frame old a new r up along well) along well.ground
+
+pub start_goes_on : StartGoesOn
+start_goes_on w origin h q size frame old a new r up along well =
+    switched_sides_go_on w origin h q size frame old a up.on.mid up.empty r.transmit
+    (on w origin h q size frame old a new r up along well) along well.ground

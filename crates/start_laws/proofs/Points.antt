@@ -19,11 +19,11 @@ use Rattle.start_laws.specs.Points.{AccessesLead, AllMay, IsEnable, May, Point, 
 use Rattle.start_laws.specs.Standing.{Stand}
 use Rattle.start_laws.specs.Unused.{AreUnused}
 use Rattle.start_laws.proofs.Ground.{ground_names, ground_same, plain_keeps, read_ground, write_ground}
-use Rattle.start_laws.proofs.Lent.{IsLentBy, and_all, lending}
 use Rattle.start_laws.proofs.Made.{OfCall, made_some, over_access, some_made}
 use Rattle.start_laws.proofs.Parts.{ends_some}
 use Rattle.start_laws.proofs.Reached.{KeptOver, LeadsOver, entries_lead, reached_next, state_leads}
 use Rattle.start_laws.proofs.Standing.{lend_stands, read_stands, standing_sides_are_left, write_stands}
+use Rattle.start_laws.proofs.StopCalls.{IsLentBy, and_all, lending}
 use Rattle.start_laws.proofs.Words.{driven, side_driven}
 
 -- by a call nothing is received or sent

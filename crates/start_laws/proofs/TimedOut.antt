@@ -22,9 +22,8 @@ use Rattle.pmd.specs.Started.{IsShut, has_room}
 use Rattle.pmd.specs.Starting.{GoingOnFails}
 use Rattle.start_laws.specs.Polls.{AreEnables, Enables, PollsAreTold, asked_after, is_missed, missed_in, same_port}
 use Rattle.start_laws.specs.TimedOut.{Asked, IsOfEnable, TimeoutsPoll, TimesOut, asked_by, is_miss, misses, none_asked}
-use Rattle.start_laws.proofs.Lent.{prepared_adds}
 use Rattle.start_laws.proofs.Made.{OfCall, all_both, all_missed, all_polled, made_by}
-use Rattle.start_laws.proofs.StopCalls.{Grows, accesses_add, then_made}
+use Rattle.start_laws.proofs.StopCalls.{Grows, accesses_add, prepared_adds, then_made}
 
 -- so many reads of a side that is asked on, in vain
 

@@ -1,4 +1,4 @@
-use Rattle.start_laws.proofs.Start.{start_agrees, start_goes_on}
+use Rattle.start_laws.proofs.On.{start_agrees, start_goes_on}
 use Rattle.start_laws.proofs.start_leaves_sides_that_agree.Goals as goal
 
 pub returns : goal.returns

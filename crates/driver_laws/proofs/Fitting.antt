@@ -1,22 +1,24 @@
 -- One call beside a driver that receives: the frames that wait for its queue go on fitting, its reply is healthy, and
 -- what that rests on holds behind it.
-use Rattle.std.proofs.Common.{[], ◌&&◌, ◌++◌, ◌==◌, ◌∙◌, ◌∷◌, ◌≡◌, List, None, Option, Some, ap, arith, false, inl, inr}
-use Rattle.std.proofs.Common.{length, refl, subst, sym, true, ℕ}
+use Rattle.std.proofs.Common.{[], ◌&&◌, ◌*◌, ◌++◌, ◌<◌, ◌==◌, ◌||◌, ◌∙◌, ◌∷◌, ◌≡◌, ◌≢◌, ◌≤◌, Bool, List, None, Option}
+use Rattle.std.proofs.Common.{Some, ap, arith, false, inl, inr, length, nat_lt, refl, subst, sym, true, ℕ}
 use Rattle.std.specs.Prelude.{option_map}
-use Rattle.std.proofs.lemmas.Bool.{and_parts, both_ways, cond_both, not-true, or_cases, or_left, or_right}
+use Rattle.std.proofs.lemmas.Bool.{and_from, and_parts, both_ways, cond_both, eq-eqb, eqb-false, eqb-true, lt-ltb}
+use Rattle.std.proofs.lemmas.Bool.{not-true, or_cases, or_left, or_right}
 use Rattle.std.proofs.lemmas.List.{length-append, nil_from_length}
 use Rattle.driver_laws.specs.Prelude.{Advances, AreEvents, Block, Blocks, Call, Doer, Elsewhere, Entry, Event, Halves}
 use Rattle.driver_laws.specs.Prelude.{IsEvent, IsSound, LeavesRegisters, LendsApart, LendsNone, Memory, Move, OnlyLent}
 use Rattle.driver_laws.specs.Prelude.{OwnCall, Piece, Place, Port, Rdt, Receive, Receives, Register, Reply, Rx, Sends}
 use Rattle.driver_laws.specs.Prelude.{State, Watched, WritesNoSetting, after, after_call, asks_pool_reset, call_of}
-use Rattle.driver_laws.specs.Prelude.{drive, either, is_neither, is_on, leads_to, mode_in, named, pieces, pieces_since}
-use Rattle.driver_laws.specs.Prelude.{place, reply_to, row_of}
-use Rattle.device_lock.specs.Alone.{Spares, SparesIfSome, place_at}
-use Rattle.nic_device.proofs.Cases.{either_way}
+use Rattle.driver_laws.specs.Prelude.{drive, either, is_neither, is_on, leads_to, lends, lent_by, mode_in, named}
+use Rattle.driver_laws.specs.Prelude.{pieces, pieces_since, place, reply_to, row_of}
+use Rattle.device_lock.specs.Alone.{Spares, SparesIfSome, lent_in, place_at}
+use Rattle.nic_device.proofs.Cases.{either_way, lent_cases}
 use Rattle.nic_device.proofs.Steps.{keeps_sound}
 use Rattle.nic_device.specs.DmaRing.Descriptor.{second_half}
 use Rattle.nic_device.specs.DmaRing.Receive.{is_done}
 use Rattle.nic_device.specs.RegTable.declared.rows.RowId.TheVariants.{Tdt}
+use Rattle.nic_device.specs.Step.{step_of}
 use Rattle.nic_device.specs.declared.event.Event.TheVariants as event
 use Rattle.nic_device.specs.declared.event.Reply.TheVariants as reply
 use Rattle.pmd.specs.PmdRx.Keeping as received
@@ -25,23 +27,28 @@ use Rattle.pmd.specs.PmdRx.Receive.{is_part, looked, moved, parts_first, posts_a
 use Rattle.pmd.specs.PmdRx.declared.ring.Told.{Told}
 use Rattle.pmd.specs.PmdTx.Sending as sending
 use Rattle.receive_laws.proofs.Begun.{begun_stays}
+use Rattle.receive_laws.proofs.DeviceLaws.KeptSettings.{settings_stand}
 use Rattle.receive_laws.proofs.Fitting.{frames_stay_fitting, none_begun_while_off}
 use Rattle.receive_laws.proofs.Healthy as receive
 use Rattle.receive_laws.proofs.HistoryLaws.Filling.{receiving_did}
 use Rattle.receive_laws.proofs.HistoryLaws.Leaving.{left-setting}
+use Rattle.receive_laws.proofs.HistoryLaws.Lent.{only_lent_stays}
 use Rattle.receive_laws.proofs.HistoryLaws.Naming.{place_in, place_named}
 use Rattle.receive_laws.proofs.Lent as receive_lent
+use Rattle.receive_laws.proofs.Waiting.{frames_fit}
 use Rattle.receive_laws.specs.Delivered.{gathered, goes_on}
 use Rattle.receive_laws.specs.Fitting.{AreFitting, ResetsNoPool, begun_on}
 use Rattle.receive_laws.specs.HistoryLaws.Left.{Deed, Rested, Took}
-use Rattle.receive_laws.specs.HistoryLaws.Lent.{LendsOwn}
+use Rattle.receive_laws.specs.HistoryLaws.Lent.{LendsOwn, with_lent}
 use Rattle.receive_laws.specs.Pieces.{AllFit}
 use Rattle.receive_laws.specs.Up.{IsUp}
 use Rattle.transmit_laws.proofs.Healthy as transmit
 use Rattle.transmit_laws.proofs.Lent as transmit_lent
 use Rattle.transmit_laws.specs.Healthy.{LendsAnew}
 use Rattle.transmit_laws.specs.Lent.{SparesNumbers}
-use Rattle.driver_laws.specs.Healthy.{IsHealthy, lent_by}
+use Rattle.driver_laws.specs.Before.{AreShort, FramesStayShortAlong, OnlyPassLent}
+use Rattle.driver_laws.specs.Healthy as healthy
+use Rattle.driver_laws.specs.Healthy.{IsHealthy}
 use Rattle.driver_laws.proofs.Lending.{receive_lent}
 use Rattle.driver_laws.proofs.Meeting.{Meets}
 use Rattle.driver_laws.proofs.Sending.{is_elsewhere, move_setting, own_spares, sender_lent, writes_tail}
@@ -131,9 +138,7 @@ module _ {w : Watched} {mine : Blocks} {s : State} {out : List Piece} {sent : Li
       (frames_stay_fitting w.queue h.receive.layout.most s out h.receive e m.sound m.both.receive up fit none
       (none_reset d e own others))
 
--- nothing is written of a frame that waits where no piece was since the side went on
-
--- while the side is off no piece is written
+-- nothing is written of a frame that waits where no piece was since the side went on: none is while it is off
 
 silent : (queue : ℕ) (s : State) → is_on s.registers Rx queue ≡ false → Deed Rx queue s event.RxStep
     → pieces queue s event.RxStep ≡ []
@@ -218,7 +223,7 @@ swapped own xs ys m only n is has = elim (or_cases (xs n) (ys n) (only n is has)
 ]
 
 module _ {w : Watched} {mine : Blocks} {s : State} {out : List Piece} {sent : List (List ℕ)} {h : Halves} (own : Blocks)
-    (m : Meets w mine s out sent h) (known : OnlyLent own (lent_by h) s.memory) (e : Event Block) where
+    (m : Meets w mine s out sent h) (known : OnlyLent own (healthy.lent_by h) s.memory) (e : Event Block) where
   abbrev rx : Blocks
   rx = received.has_lent h.receive
 
@@ -251,7 +256,7 @@ module _ {w : Watched} {mine : Blocks} {s : State} {out : List Piece} {sent : Li
       (transmit_lent.own_lends_are_known.kept own rx s h.transmit move e other_first mine spares)
 
   pub known_after : (d : Doer) → OwnCall h d (call_of e (reply_to s e)) → LendsApart own h d e
-      → OnlyLent own (lent_by (after_call h d (call_of e (reply_to s e)))) (after s e).memory
+      → OnlyLent own (healthy.lent_by (after_call h d (call_of e (reply_to s e)))) (after s e).memory
   known_after Receives mine apart = receive_lent.own_lends_are_known.kept own tx s h.receive e known mine
   known_after (Sends Elsewhere) mine apart = move_known Elsewhere mine (lends_none own h e apart)
   known_after (Sends move) mine apart = move_known move mine tt
@@ -267,3 +272,79 @@ module _ {w : Watched} {mine : Blocks} {s : State} {out : List Piece} {sent : Li
       left-setting w s m.vfs e (others refl)
   no_setting made (Sends move) mine others =
       move_setting s w.queue sent h.transmit m.both.transmit.0 m.both.transmit.1 move e refl mine
+
+-- entries ahead of the place where the device agrees with both halves
+
+-- the frames that wait stay short over one event
+pub frames_stay_short : (queue most : ℕ) (s : State) (e : Event Block) → AreShort queue most s → WritesNoSetting s e
+    → AreShort queue most (after s e)
+frames_stay_short queue most s e h none =
+    record {
+      limit = subst (λ n. n ≤ 2048 * most) (sym (settings_stand s e none).limit) h.limit;
+      waiting = frames_fit queue most s h.limit h.waiting e;
+    }
+
+pub frames_stay_short_along : FramesStayShortAlong
+frames_stay_short_along queue most s [] h none = h
+frames_stay_short_along queue most s (e ∷ es) h none =
+    frames_stay_short_along queue most (after s e.event) es (frames_stay_short queue most s e.event h none.0) none.1
+
+pub lends_is : (b : Block) (r : Reply Block) (n : ℕ) → lends (event.Lend b) r n ≡ true → b.number ≡ n
+lends_is b reply.Done n is = eqb-true b.number n is
+lends_is b r n is = cc
+
+module _ (own known : Blocks) (s : State) (only : OnlyLent own known s.memory) where
+  -- a block is lent, by whichever pass
+  lent_here : (b : Block)
+      → OnlyLent own (λ n. known n || lends (event.Lend b) (reply_to s (event.Lend b)) n)
+      (after s (event.Lend b)).memory
+  unfolding step_of
+  lent_here b =
+      lent_cases (λ o. OnlyLent own (with_lent known b.number) o.state.memory
+      → OnlyLent own (λ n. known n || lends (event.Lend b) o.reply n) o.state.memory) s b
+      (λ given n is has. or_left (known n) false (only n is has))
+      (λ given n is has. elim (or_cases (n == b.number) (known n) (given n is has)) [
+        | inl same ↦ or_right (known n) (b.number == n) (eq-eqb b.number n (sym (eqb-true n b.number same)))
+        | inr before ↦ or_left (known n) (b.number == n) before
+      ]) (only_lent_stays.lend own known s b only)
+
+  -- an event of the pass
+  abbrev Lent : Event Block → Reply Block → Blocks
+  Lent e r n = known n || (nat_lt n 65536 && lends e r n)
+
+  pass_lent : (e : Event Block) → IsEvent e → OnlyLent own (Lent e (reply_to s e)) (after s e).memory
+  pass_lent (event.Lend b) made n is has =
+      let r = reply_to s (event.Lend b) in
+      let now = nat_lt n 65536 && lends (event.Lend b) r n in
+      elim (or_cases (known n) (lends (event.Lend b) r n) (lent_here b n is has)) [
+        | inl before ↦ or_left (known n) now before
+        | inr lent ↦
+            let low = subst (λ (k : ℕ). k < 65536) (lends_is b r n lent) made.whole.small in
+            or_right (known n) now (and_from (nat_lt n 65536) (lends (event.Lend b) r n) (lt-ltb n 65536 low) lent)
+      ]
+  pass_lent e made n is has =
+      or_left (known n) (nat_lt n 65536 && lends e (reply_to s e) n)
+      (only_lent_stays.others own known s e tt only n is has)
+
+  entry_lent : (pass : ℕ) (e : Entry) → e.reply ≡ reply_to s e.event → IsEvent e.event
+      → (e.pass ≢ pass → LendsNone own e.event) → (b : Bool) → (e.pass == pass) ≡ b
+      → OnlyLent own (either known (lent_in pass e)) (after s e.event).memory
+  entry_lent pass e legal made none true mine n is has =
+      subst (λ (r : Reply Block). (known n || (nat_lt n 65536 && ((e.pass == pass) && lends e.event r n))) ≡ true)
+      (sym legal)
+      (subst (λ (b : Bool). (known n || (nat_lt n 65536 && (b && lends e.event (reply_to s e.event) n))) ≡ true)
+      (sym mine) (pass_lent e.event made n is has))
+  entry_lent pass e legal made none false other n is has =
+      or_left (known n) (lent_in pass e n)
+      (only_lent_stays.others own known s e.event (none (eqb-false e.pass pass other)) only n is has)
+
+joined : (a b c : Bool) → ((a || b) || c) ≡ true → (a || (b || c)) ≡ true
+joined true b c is = refl
+joined false b c is = is
+
+pub only_pass_lent : OnlyPassLent
+only_pass_lent pass own known s [] legal events none only n is has = or_left (known n) false (only n is has)
+only_pass_lent pass own known s (e ∷ es) legal events none only n is has =
+    joined (known n) (lent_in pass e n) (lent_by pass es n)
+    (only_pass_lent pass own (either known (lent_in pass e)) (after s e.event) es legal.1 events.1 none.1
+    (entry_lent own known s only pass e legal.0 events.0 none.0 (e.pass == pass) refl) n is has)

@@ -77,8 +77,7 @@ driven_most v (event.Poke16 a bytes) reply.Done = refl
 driven_most v (event.Write port number word) reply.Done = moved_most v word
 driven_most v e r = refl
 
-most_after : (h : Halves) (d : Doer) (n : Call)
-    → (after_call h d n).receive.layout.most ≡ h.receive.layout.most
+most_after : (h : Halves) (d : Doer) (n : Call) → (after_call h d n).receive.layout.most ≡ h.receive.layout.most
 most_after h Receives n = driven_most h.receive n.event n.reply
 most_after h (Sends m) n = refl
 
@@ -124,8 +123,7 @@ module _ {w : Watched} {mine : Blocks} {s : State} {out : List Piece} {sent : Li
   none_reset : (d : Doer) (e : Event Block) → OwnCall h d (call_of e (reply_to s e))
       → (is_neither d ≡ true → LeavesRegisters w (mode_in s.registers) e) → ResetsNoPool w.queue s e
   none_reset Receives e own others = own_resets e own
-  none_reset (Sends Elsewhere) e own others =
-      spared_resets w s m.vfs e (others refl)
+  none_reset (Sends Elsewhere) e own others = spared_resets w s m.vfs e (others refl)
   none_reset (Sends move) e own others = move_resets move e refl own
 
   pub fitting_after : IsUp w.queue s → AreFitting w.queue h.receive.layout.most s out → (d : Doer) (e : Event Block)
@@ -268,8 +266,7 @@ module _ {w : Watched} {mine : Blocks} {s : State} {out : List Piece} {sent : Li
       let (gone, here, holds) = m.both.receive in
       let blocks = sender_lent s w.queue sent h.transmit m.both.transmit.0 m.both.transmit.1 in
       (own_spares w.queue s out h.receive gone here holds h.transmit blocks m.both.apart e made mine).setting
-  no_setting made (Sends Elsewhere) mine others =
-      left-setting w s m.vfs e (others refl)
+  no_setting made (Sends Elsewhere) mine others = left-setting w s m.vfs e (others refl)
   no_setting made (Sends move) mine others =
       move_setting s w.queue sent h.transmit m.both.transmit.0 m.both.transmit.1 move e refl mine
 
@@ -295,8 +292,7 @@ lends_is b r n is = cc
 
 module _ (own known : Blocks) (s : State) (only : OnlyLent own known s.memory) where
   -- a block is lent, by whichever pass
-  lent_here : (b : Block)
-      → OnlyLent own (λ n. known n || lends (event.Lend b) (reply_to s (event.Lend b)) n)
+  lent_here : (b : Block) → OnlyLent own (λ n. known n || lends (event.Lend b) (reply_to s (event.Lend b)) n)
       (after s (event.Lend b)).memory
   unfolding step_of
   lent_here b =

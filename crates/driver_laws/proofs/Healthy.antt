@@ -7,8 +7,7 @@ use Rattle.std.proofs.lemmas.List.{append_cancel_left, map-append}
 use Rattle.std.proofs.lemmas.List.Elements.{filter-append}
 use Rattle.driver_laws.specs.Prelude.{AllLendApart, AllOwn, AreSteps, Blocks, Call, Doer, Entry, FindsFault, Halves}
 use Rattle.driver_laws.specs.Prelude.{LendsApart, LendsNone, OnlyLent, Piece, State, Watched, after, after_call}
-use Rattle.driver_laws.specs.Prelude.{call_in, call_of, calls_of, doers_other, is_neither, leads_to, lent_by, pieces}
-use Rattle.driver_laws.specs.Prelude.{played_by, sent_by}
+use Rattle.driver_laws.specs.Prelude.{call_in, call_of, calls_of, doers_other, is_neither, leads_to, pieces, played_by}
 use Rattle.device_lock.proofs.Histories.{events_before}
 use Rattle.pmd.proofs.Apart.{both_apart, step_apart}
 use Rattle.pmd.specs.Apart.{is_healthy}
@@ -82,69 +81,66 @@ record Goes (w : Watched) (own : Blocks) (s : State) (out : List Piece) (h : Hal
 
 -- the first entry of a history that runs
 module _ {w : Watched} {mine : Blocks} {s : State} {out : List Piece} {sent : List (List ℕ)} {h : Halves}
-    (own : Blocks) (doers : List Doer) (e : Entry) (es : List Entry) (m : Meets w mine s out sent h)
+    {doers : List Doer} {e : Entry} {es : List Entry} (own : Blocks) (m : Meets w mine s out sent h)
     (r : Runs w mine s h doers (e ∷ es)) where
   abbrev d : Doer
-  d = first_doer doers e es m r
+  d = first_doer m r
 
   -- only those of the numbers are lent that the halves have lent
   known_on : OnlyLent own (healthy.lent_by h) s.memory → LendsApart own h d e.event
-      → OnlyLent own (healthy.lent_by (first_after doers e es m r)) (after s e.event).memory
+      → OnlyLent own (healthy.lent_by (first_after m r)) (after s e.event).memory
   known_on known apart =
       subst (λ (x : _). OnlyLent own (healthy.lent_by (after_call h d (call_of e.event x))) (after s e.event).memory)
       (sym r.legal.0)
-      (known_after own m known e.event d (own_here doers e es m r) apart)
+      (known_after own m known e.event d (own_here m r) apart)
 
   one_goes : Rests w.queue own s out h → LendsApart own h d e.event → Goes w own s out h d e
   one_goes x apart =
-      let here = own_here doers e es m r in
-      let others = λ (neither : is_neither d ≡ true). (left_alone doers e es m r neither).0 in
+      let here = own_here m r in
+      let others = λ (neither : is_neither d ≡ true). (left_alone m r neither).0 in
       let none = no_setting own m x.known e.event r.events.0 d here others in
       record {
         here = subst (λ (y : _). IsHealthy h d (call_of e.event y)) (sym r.legal.0)
             (healthy_call own m x.known e.event d here apart x.fit.pieces);
         rests = record {
-          up = one_receives_up doers e es m r x.up;
+          up = one_receives_up m r x.up;
           fit = fitting_after m x.up x.fit d e.event here others none e.reply;
           known = known_on x.known apart;
         };
       }
 
-module _ (w : Watched) (mine own : Blocks) where
-  along : (s : State) (out : List Piece) (sent : List (List ℕ)) (h : Halves) (doers : List Doer) (es : List Entry)
-      → Meets w mine s out sent h → Runs w mine s h doers es → Rests w.queue own s out h → OnlyPassLends w.pass own es
-      → AllLendApart own h doers (calls_of w.pass es) → AreHealthy h doers (calls_of w.pass es)
-  along s out sent h doers [] m r x none apart = none_healthy h doers
-  along s out sent h doers (e ∷ es) m r x none apart =
+module _ (own : Blocks) where
+  along : {w : Watched} {mine : Blocks} (doers : List Doer) (es : List Entry) {s : State} {out : List Piece}
+      {sent : List (List ℕ)} {h : Halves} → Meets w mine s out sent h → Runs w mine s h doers es
+      → Rests w.queue own s out h → OnlyPassLends w.pass own es → AllLendApart own h doers (calls_of w.pass es)
+      → AreHealthy h doers (calls_of w.pass es)
+  along doers [] {h = h} m r x none apart = none_healthy h doers
+  along {w = w} doers (e ∷ es) {h = h} m r x none apart =
       let b = e.pass == w.pass in
       let lends = apart_by w.pass own h doers e es b refl r.own none.0 apart in
-      let goes = one_goes own doers e es m r x lends.0 in
+      let goes = one_goes own m r x lends.0 in
       all_healthy h doers e es w.pass b refl goes.here
-      (along (after s e.event) (out ++ pieces w.queue s e.event) (sent ++ sent_by w.queue s e.event)
-      (first_after doers e es m r) (doers_after b doers) es (one_entry doers e es m r) (runs_on doers e es m r)
-      goes.rests none.1 lends.1)
+      (along (doers_after b doers) es (one_entry m r) (runs_on m r) goes.rests none.1 lends.1)
 
   -- of numbers that no other pass lends only those are lent that the halves have lent
-  knows : (s : State) (out : List Piece) (sent : List (List ℕ)) (h : Halves) (doers : List Doer) (es : List Entry)
-      → Meets w mine s out sent h → Runs w mine s h doers es → OnlyLent own (healthy.lent_by h) s.memory
-      → OnlyPassLends w.pass own es → AllLendApart own h doers (calls_of w.pass es)
+  knows : {w : Watched} {mine : Blocks} (doers : List Doer) (es : List Entry) {s : State} {out : List Piece}
+      {sent : List (List ℕ)} {h : Halves} → Meets w mine s out sent h → Runs w mine s h doers es
+      → OnlyLent own (healthy.lent_by h) s.memory → OnlyPassLends w.pass own es
+      → AllLendApart own h doers (calls_of w.pass es)
       → OnlyLent own (healthy.lent_by (played_by h doers (calls_of w.pass es))) (leads_to s es).memory
-  knows s out sent h [] [] m r known none apart = known
-  knows s out sent h (d ∷ doers) [] m r known none apart = absurd r.own
-  knows s out sent h doers (e ∷ es) m r known none apart =
+  knows [] [] m r known none apart = known
+  knows (doer ∷ doers) [] m r known none apart = absurd r.own
+  knows {w = w} doers (e ∷ es) {s = s} {h = h} m r known none apart =
       let b = e.pass == w.pass in
       let lends = apart_by w.pass own h doers e es b refl r.own none.0 apart in
-      let t = after s e.event in
-      subst (λ (k : Halves). OnlyLent own (healthy.lent_by k) (leads_to t es).memory) (sym (next doers e es m r).played)
-      (knows t (out ++ pieces w.queue s e.event) (sent ++ sent_by w.queue s e.event) (first_after doers e es m r)
-      (doers_after b doers) es (one_entry doers e es m r) (runs_on doers e es m r)
-      (known_on own doers e es m r known lends.0) none.1 lends.1)
+      subst (λ (k : Halves). OnlyLent own (healthy.lent_by k) (leads_to (after s e.event) es).memory)
+      (sym (next m r).played)
+      (knows (doers_after b doers) es (one_entry m r) (runs_on m r) (known_on own m r known lends.0) none.1 lends.1)
 
 pub own_replies_are_healthy : OwnRepliesAreHealthy
 own_replies_are_healthy w origin start rest h doers own x apart =
     let d = x.driven in
-    along w (lent_by w.pass (start ++ rest)) own (leads_to origin start) [] [] h doers rest (driven_meets d)
-    (driven_runs d) (record {
+    along own doers rest (driven_meets d) (driven_runs d) (record {
       up = d.up;
       fit = record {
         limit = x.short.limit;
@@ -163,9 +159,7 @@ pub known_along : (w : Watched) (origin : State) (start rest : List Entry) (h : 
     → AllLendApart own h doers (calls_of w.pass rest)
     → OnlyLent own (healthy.lent_by (played_by h doers (calls_of w.pass rest)))
     (leads_to (leads_to origin start) rest).memory
-known_along w origin start rest h doers own d =
-    knows w (lent_by w.pass (start ++ rest)) own (leads_to origin start) [] [] h doers rest (driven_meets d)
-    (driven_runs d)
+known_along w origin start rest h doers own d = knows own doers rest (driven_meets d) (driven_runs d)
 
 -- the calls behind some, and the one behind calls of neither half
 

@@ -147,7 +147,7 @@ driven_runs {w = w} {origin = origin} {start = start} {rest = rest} d = record {
 
 -- the first of them
 module _ {w : Watched} {mine : Blocks} {s : State} {out : List Piece} {sent : List (List ℕ)} {h : Halves}
-    (doers : List Doer) (e : Entry) (es : List Entry) (m : Meets w mine s out sent h)
+    {doers : List Doer} {e : Entry} {es : List Entry} (m : Meets w mine s out sent h)
     (r : Runs w mine s h doers (e ∷ es)) where
   abbrev pub first_doer : Doer
   first_doer = doer_of (e.pass == w.pass) doers
@@ -211,17 +211,16 @@ module _ {w : Watched} {mine : Blocks} {s : State} {out : List Piece} {sent : Li
   one_stays_up : IsUp w.queue s → IsUp w.queue (after s e.event)
   one_stays_up = doer_stays_up m e.event r.events.0 steps first_doer own_here left_alone
 
-pub leads : (w : Watched) (mine : Blocks) (s : State) (out : List Piece) (sent : List (List ℕ)) (h : Halves)
-    (doers : List Doer) (es : List Entry) → Meets w mine s out sent h → Runs w mine s h doers es
+pub leads : {w : Watched} {mine : Blocks} (doers : List Doer) (es : List Entry) {s : State} {out : List Piece}
+    {sent : List (List ℕ)} {h : Halves} → Meets w mine s out sent h → Runs w mine s h doers es
     → Led w mine s out sent es (played_by h doers (calls_of w.pass es))
-leads w mine s out sent h [] [] m r = ended w mine s out sent h m.both m.lent
-leads w mine s out sent h (d ∷ doers) [] m r = absurd r.own
-leads w mine s out sent h doers (e ∷ es) m r =
-    subst (Led w mine s out sent (e ∷ es)) (sym (next doers e es m r).played)
-    (led_on w mine s out sent e es _ (one_receives_up doers e es m r) (one_stays_up doers e es m r)
-    (leads w mine (after s e.event) (out ++ pieces w.queue s e.event) (sent ++ sent_by w.queue s e.event)
-    (first_after doers e es m r) (doers_after (e.pass == w.pass) doers) es (one_entry doers e es m r)
-    (runs_on doers e es m r)))
+leads {w = w} {mine = mine} [] [] {s = s} {out = out} {sent = sent} {h = h} m r =
+    ended w mine s out sent h m.both m.lent
+leads (d ∷ doers) [] m r = absurd r.own
+leads {w = w} {mine = mine} doers (e ∷ es) {s = s} {out = out} {sent = sent} m r =
+    subst (Led w mine s out sent (e ∷ es)) (sym (next m r).played)
+    (led_on w mine s out sent e es _ (one_receives_up m r) (one_stays_up m r)
+    (leads (doers_after (e.pass == w.pass) doers) es (one_entry m r) (runs_on m r)))
 
 module _ (w : Watched) (origin : State) (start rest : List Entry) (h : Halves) (doers : List Doer)
     (d : IsDriven w origin start rest h doers) where
@@ -232,7 +231,7 @@ module _ (w : Watched) (origin : State) (start rest : List Entry) (h : Halves) (
   last = played_by h doers (calls_of w.pass rest)
 
   pub led : Led w (lent_by w.pass (start ++ rest)) here [] [] rest last
-  led = leads w (lent_by w.pass (start ++ rest)) here [] [] h doers rest (driven_meets d) (driven_runs d)
+  led = leads doers rest (driven_meets d) (driven_runs d)
 
   pub delivered_is : delivered w.queue origin (start ++ rest) ≡ packets_of (pieces_in w.queue here rest)
   delivered_is =

@@ -193,12 +193,10 @@ module _ {w : Watched} {mine : Blocks} {s : State} {out : List Piece} {sent : Li
       → (is_neither d ≡ true → LeavesRegisters w (mode_in s.registers) e × LeavesBlocks mine e)
       → (is_neither d ≡ false → LendsMine mine e (reply_to s e)) → KeptBy (after_call h d (call_of e (reply_to s e)))
   doer_keeps Receives own others lends = receives_keeps own (lends refl)
-  doer_keeps (Sends Elsewhere) own others lends =
-      neither_keeps m e made steps (others refl).0 (others refl).1
+  doer_keeps (Sends Elsewhere) own others lends = neither_keeps m e made steps (others refl).0 (others refl).1
   doer_keeps (Sends move) own others lends = sends_keeps move refl own (lends refl)
 
-  pub goes_on : (k : Halves) → KeptBy k
-      → Meets w mine t (out ++ pieces w.queue s e) (sent ++ sent_by w.queue s e) k
+  pub goes_on : (k : Halves) → KeptBy k → Meets w mine t (out ++ pieces w.queue s e) (sent ++ sent_by w.queue s e) k
   goes_on k agrees =
       let stays = (step_leads s e).stays in
       record { sound = keeps_sound s m.sound e made; vfs = m.vfs ∙ sym stays.vfs; both = agrees.0; lent = agrees.1 }

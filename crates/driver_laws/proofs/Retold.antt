@@ -38,8 +38,7 @@ events_same h g same = subst (λ (T : Type 0). T) (same_by AreEvents events_alik
 
 legal_alike : (s : State) (h : List Entry) → IsLegal s h ≡ IsLegal s (alike h)
 legal_alike s [] = refl
-legal_alike s (e ∷ es) =
-    ap (λ (T : Type 0). (e.reply ≡ reply_to s e.event) × T) (legal_alike (after s e.event) es)
+legal_alike s (e ∷ es) = ap (λ (T : Type 0). (e.reply ≡ reply_to s e.event) × T) (legal_alike (after s e.event) es)
 
 pub legal_same : (s : State) (h g : List Entry) → AreSame h g → IsLegal s h → IsLegal s g
 legal_same s h g same = subst (λ (T : Type 0). T) (same_by (IsLegal s) (legal_alike s) h g same)

@@ -180,13 +180,11 @@ module _ (s : State) (queue : ℕ) (sent : List (List ℕ)) (u : Sender) (f : �
         memory_blocks.take s n number
         (λ e. away (segment_at u 0).block (has_lent-segment u 0 c.lent_known known) (e ∙ own.1))
 
-    move_leaves : (m : Move) (e : Event Block) → is_elsewhere m ≡ false → IsOwn u m e
-        → LeavesBlock number s (after s e)
+    move_leaves : (m : Move) (e : Event Block) → is_elsewhere m ≡ false → IsOwn u m e → LeavesBlock number s (after s e)
     move_leaves (Accepts p) (event.Lend b) real own = lend_leaves s b number has
     move_leaves Lends (event.Lend b) real own = lend_leaves s b number has
     move_leaves Asks (event.Poke16 a bytes) real own = ask_leaves a bytes own
-    move_leaves Advances (event.Write port n word) real own =
-        ap (λ m. map.get m number) (write_memory s port n word)
+    move_leaves Advances (event.Write port n word) real own = ap (λ m. map.get m number) (write_memory s port n word)
     move_leaves Looks (event.Peek16 a) real own = (stays_within s (event.Peek16 a)).blocks number refl
     move_leaves Reaps (event.Take n) real own = reap_leaves n own
     move_leaves Elsewhere e real own = cc

@@ -241,8 +241,7 @@ module _ {w : Watched} {origin : State} {h : List Entry} (q : AtPort) (frame : �
 
   switching_never_fails : (old new : List Call) → Grounded old → SwitchFails DeviceFault q old new true 1000
       → Never w origin h new
-  switching_never_fails old new at (inl stops) =
-      writes_never_stop (both_asked true) old new asked_are_writes stops at
+  switching_never_fails old new at (inl stops) = writes_never_stop (both_asked true) old new asked_are_writes stops at
   switching_never_fails old new at (inr (inl (mid, made, polls))) =
       polls_never_stray Rx 1000 mid new
       (accesses_grounded (both_asked true) old mid (writes_driven (both_asked true) asked_are_writes) made at) polls

@@ -150,8 +150,7 @@ module _ (w : Watched) (origin : State) (h : List Entry) (q : AtPort) (size fram
         (prepared_has up.receive.prepared k below))
 
     pub ring_lent : AtEntries w h new (λ done. EachRingBlock ring size (λ n. IsLentBy w.pass n h))
-    ring_lent done rest all calls k below =
-        lent_along (ring + k) new along (ring_has k below) done rest all calls
+    ring_lent done rest all calls k below = lent_along (ring + k) new along (ring_has k below) done rest all calls
 
     pub other_lent : AtEntries w h new (λ done. EachRingBlock other size (λ n. IsLentBy w.pass n h))
     other_lent done rest all calls k below =
@@ -248,13 +247,11 @@ module _ (w : Watched) (origin : State) (h : List Entry) (q : AtPort) (size fram
 
     -- port and queue name this queue there
     pub start_ground : AtCalls w origin h up.on.mid (HasGround w.queue q frame)
-    start_ground =
-        ground_at w origin h q size frame old a up.on.mid up.empty r.transmit on along up.sized well.ground
+    start_ground = ground_at w origin h q size frame old a up.on.mid up.empty r.transmit on along up.sized well.ground
 
     -- some calls were made before both were on
     pub start_some : up.on.mid ≢ []
-    start_some =
-        on_some w origin h q size frame old a up.on.mid up.empty r.transmit on along up.sized well.ground
+    start_some = on_some w origin h q size frame old a up.on.mid up.empty r.transmit on along up.sized well.ground
 
 pub start_agrees : StartAgrees
 start_agrees w origin h q size frame old a new r up along well =

@@ -116,8 +116,7 @@ around pass h calls c more is =
       before = p.front ++ f.before;
       entry = f.entry;
       behind = f.behind;
-      all =
-          append_assoc p.front f.before (f.entry ∷ f.behind) ∙ ap (λ (l : List Entry). p.front ++ l) f.all ∙ p.both;
+      all = append_assoc p.front f.before (f.entry ∷ f.behind) ∙ ap (λ (l : List Entry). p.front ++ l) f.all ∙ p.both;
       made = calls_joined pass p.front f.before ∙ (λ i. p.fronts i ++ f.made i) ∙ append-nil calls;
       own = f.own;
       call = f.call;

@@ -186,8 +186,7 @@ pub all_lead : (w : Watched) (origin : State) (h : List Entry) (P : List Entry �
     → IsAlong w origin h → KeptOver w origin (lent_by w.pass h) P
     → ((c : Call) → Own c → LeadsOver w origin (lent_by w.pass h) c P P)
     → (calls old : List Call) → Each Own calls → old ≢ [] → AtEntries w h old P → AtEntries w h (old ++ calls) P
-all_lead w origin h P Own x kept leads =
-    each_here x P Own kept (λ c own. over_here x P P c (leads c own))
+all_lead w origin h P Own x kept leads = each_here x P Own kept (λ c own. over_here x P P c (leads c own))
 
 each_step : (calls : List Call) → AreSteps calls → Each (λ c. IsTrue (is_step c.event)) calls
 each_step [] steps = tt

@@ -207,8 +207,7 @@ unswitched_asks f q old new x =
 
 -- a block that is taken back
 taking_ends : (q : AtPort) (s t : Bringing) → BringsOne s t → Ends q s.made t.made
-taking_ends q s t (n, first, inl brought) =
-    adds_made (IsEnding q) (step_ends q) s.made t.made _ _ brought.taken.2 tt
+taking_ends q s t (n, first, inl brought) = adds_made (IsEnding q) (step_ends q) s.made t.made _ _ brought.taken.2 tt
 taking_ends q s t (n, first, inr missed) = adds_made (IsEnding q) (step_ends q) s.made t.made _ _ missed.taken tt
 
 pub bringing_ends : BringingEnds

@@ -104,8 +104,7 @@ module _ (dir : Dir) (P : Side → Type 0) (R : Side → Side → Type 0) (same 
       subst (λ p. Does (event.Write p number word)) (sym is) (write_does number word none side named)
   ending_does (event.Read port number) made ends =
       same _ _ (queues_left queue s _ dir (read_rest s port number).queues) p
-  ending_does (event.Take number) made ends =
-      same _ _ (queues_left queue s _ dir (memory_rest.take s number).queues) p
+  ending_does (event.Take number) made ends = same _ _ (queues_left queue s _ dir (memory_rest.take s number).queues) p
   ending_does e made ends =
       deed queue s e (left_deed dir (watching queue s) no_block s e (step_left queue s e met made ends)) p
 

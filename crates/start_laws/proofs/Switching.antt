@@ -72,8 +72,7 @@ may_append : (xs ys : List Access) (p : Sides) → AllMay xs p → AllMay ys (af
 may_append [] ys p may more = more
 may_append (x ∷ xs) ys p may more = (may.0, may_append xs ys (after_access x p) may.1 more)
 
-after-append : (xs ys : List Access) (p : Sides)
-    → after_accesses (xs ++ ys) p ≡ after_accesses ys (after_accesses xs p)
+after-append : (xs ys : List Access) (p : Sides) → after_accesses (xs ++ ys) p ≡ after_accesses ys (after_accesses xs p)
 after-append [] ys p = refl
 after-append (x ∷ xs) ys p = after-append xs ys (after_access x p)
 
@@ -125,8 +124,7 @@ module _ (ring size other : ℕ) (one : IsSized ring size) (two : IsSized other 
   -- both are asked on
 
   abbrev asked_on : Sides
-  asked_on =
-      after_access (Sets Txdctl 0x2000000) (after_access (Sets Rxdctl 0x2000000) (laid ring size other p))
+  asked_on = after_access (Sets Txdctl 0x2000000) (after_access (Sets Rxdctl 0x2000000) (laid ring size other p))
 
   polls_may : (polls more : ℕ)
       → AllMay ((missed Rx true polls ++ Sees Rxdctl true ∷ []) ++ polled Tx true more) asked_on

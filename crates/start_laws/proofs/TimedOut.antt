@@ -103,54 +103,51 @@ module _ (q : AtPort) (size frame : ℕ) where
   never_preparing side old a new b out (ring, free, inl (stops, same, empty)) = stops.6
   never_preparing side old a new b out (ring, free, inr (mid, made, stops)) = stops.fails
 
-  never_receiving : (old : List Call) (a : Numbers) (new : List Call) (b : Numbers) (out : List ℕ)
-      → ReceiveFails StartTimeout q size old a new b out → ⊥
-  never_receiving old a new b out (inl (stops, same, empty)) = stops.6
-  never_receiving old a new b out (inr (mid, made, fails)) = never_preparing Rx mid a new b out fails
+  module _ (old : List Call) (a : Numbers) (new : List Call) (e : StartRefused) where
+    never_receiving : (b : Numbers) (out : List ℕ) → ReceiveFails StartTimeout q size old a new b out → ⊥
+    never_receiving b out (inl (stops, same, empty)) = stops.6
+    never_receiving b out (inr (mid, made, fails)) = never_preparing Rx mid a new b out fails
 
-  going_on : (old mid : List Call) (a : Numbers) (v : Receive) (new : List Call) (b : Numbers) (w : Receive)
-      → Grows old mid → GoingOnFails StartTimeout q mid a v new b w → TimesOut q old new
-  going_on old mid a v new b w before (inl (fails, same, left)) = switching_times_out old mid new before fails
-  going_on old mid a v new b w before (inr (on, switched, filling)) = absurd filling.fails
+    going_on : (mid : List Call) (b c : Numbers) (v w : Receive) → Grows old mid
+        → GoingOnFails StartTimeout q mid b v new c w → TimesOut q old new
+    going_on mid b c v w before (inl (fails, same, left)) = switching_times_out old mid new before fails
+    going_on mid b c v w before (inr (on, switched, filling)) = absurd filling.fails
 
-  amid : (old : List Call) (a : Numbers) (new : List Call) (e : StartRefused) → StopsStarting q size frame old a new e
-      → e.fault ≡ StartTimeout → TimesOut q old new
-  amid old a new e (inl x) is =
-      absurd
-      (never_receiving old a new x.arena x.out
-      (subst (λ (f : PmdFault). ReceiveFails f q size old a new x.arena x.out) is x.fails))
-  amid old a new e (inr (inl x)) is =
-      absurd
-      (never_preparing Tx x.made x.ready_arena new x.arena x.out
-      (subst (λ (f : PmdFault). PreparingFails f q Tx size x.made x.ready_arena new x.arena x.out) is x.fails))
-  amid old a new e (inr (inr x)) is =
-      going_on old x.both_made x.both_arena x.empty new x.arena x.filled
-      (then_made (λ e. ⊤) old x.ready_made x.both_made
-      (receive_adds old a x.ready_made x.ready_arena x.empty x.receive) (prepared_adds x.transmit.prepared))
-      (subst (λ (f : PmdFault). GoingOnFails f q x.both_made x.both_arena x.empty new x.arena x.filled) is x.fails)
+    amid : StopsStarting q size frame old a new e → e.fault ≡ StartTimeout → TimesOut q old new
+    amid (inl x) is =
+        absurd
+        (never_receiving x.arena x.out
+        (subst (λ (f : PmdFault). ReceiveFails f q size old a new x.arena x.out) is x.fails))
+    amid (inr (inl x)) is =
+        absurd
+        (never_preparing Tx x.made x.ready_arena new x.arena x.out
+        (subst (λ (f : PmdFault). PreparingFails f q Tx size x.made x.ready_arena new x.arena x.out) is x.fails))
+    amid (inr (inr x)) is =
+        going_on x.both_made x.both_arena x.arena x.empty x.filled
+        (then_made (λ e. ⊤) old x.ready_made x.both_made
+        (receive_adds old a x.ready_made x.ready_arena x.empty x.receive) (prepared_adds x.transmit.prepared))
+        (subst (λ (f : PmdFault). GoingOnFails f q x.both_made x.both_arena x.empty new x.arena x.filled) is x.fails)
 
-  -- before any event it answers no such fault
-  abbrev IsEarly : List Call → Numbers → List Call → StartRefused → Option PmdFault → Type 0
-  IsEarly old a new e g =
-      IsShut g a old new (Err e) → (g ≡ None → e.fault ≡ StartTimeout → TimesOut q old new)
-      → e.fault ≡ StartTimeout → TimesOut q old new
+    -- before any event it answers no such fault
+    abbrev IsEarly : Option PmdFault → Type 0
+    IsEarly g =
+        IsShut g a old new (Err e) → (g ≡ None → StopsStarting q size frame old a new e) → e.fault ≡ StartTimeout
+        → TimesOut q old new
 
-  by_gate : (old : List Call) (a : Numbers) (new : List Call) (e : StartRefused)
-      → IsEarly old a new e (start_gate a q size frame)
-  by_gate old a new e =
-      cond_both (is_size size && is_frame frame) _ _ (IsEarly old a new e)
-      (λ sized. cond_both (has_room a size) _ _ (IsEarly old a new e)
-      (λ some. cond_both (nat_lt q.queue (queues_named q.port)) _ _ (IsEarly old a new e)
-      (λ named shut late is. late refl is) (λ none shut late timed. other DeviceFault (λ d. cc) shut.0 timed))
-      (λ none shut late timed. other NoBuffer (λ d. cc) shut.0 timed))
-      (λ none shut late timed. other BadSize (λ d. cc) shut.0 timed)
-    where
-      other : (f : PmdFault) → f ≢ StartTimeout → e.fault ≡ f → e.fault ≡ StartTimeout → TimesOut q old new
-      other f apart is timed = absurd (apart (sym is ∙ timed))
+    other : (f : PmdFault) → f ≢ StartTimeout → IsEarly (Some f)
+    other f apart shut stops is = absurd (apart (sym shut.0 ∙ is))
+
+    by_gate : IsEarly (start_gate a q size frame)
+    by_gate =
+        cond_both (is_size size && is_frame frame) _ _ IsEarly
+        (λ sized. cond_both (has_room a size) _ _ IsEarly
+        (λ some. cond_both (nat_lt q.queue (queues_named q.port)) _ _ IsEarly
+        (λ named shut stops is. amid (stops refl) is) (λ none. other DeviceFault (λ d. cc)))
+        (λ none. other NoBuffer (λ d. cc)))
+        (λ none. other BadSize (λ d. cc))
 
 pub timeouts_poll : TimeoutsPoll
-timeouts_poll q size frame old a new e shut stops =
-    by_gate q size frame old a new e shut (λ none timed. amid q size frame old a new e (stops none) timed)
+timeouts_poll q size frame old a new e = by_gate q size frame old a new e
 
 port_same : (p : Port) → same_port p p ≡ true
 port_same Pf = refl
@@ -195,8 +192,7 @@ module _ (q : AtPort) (w : Enables) (are : AreEnables q w) where
   here : same_port q.port w.port ≡ true
   here = ap (same_port q.port) are.port ∙ port_same q.port
 
-  same : (row : RowId) (n m : ℕ) → IsNumberOf q.port row q.queue n → IsNumberOf q.port row q.queue m
-      → (n == m) ≡ true
+  same : (row : RowId) (n m : ℕ) → IsNumberOf q.port row q.queue n → IsNumberOf q.port row q.queue m → (n == m) ≡ true
   same row n m a b = eq-eqb n m (number_same q.port row q.queue n m a b)
 
   apart : (n : ℕ) → IsNumberOf q.port Txdctl q.queue n → (n == w.receive) ≡ false
@@ -204,8 +200,7 @@ module _ (q : AtPort) (w : Enables) (are : AreEnables q w) where
 
   -- what its call tells of an access
   abbrev Tells : Access → Call → Type 0
-  Tells a c =
-      (x : Asked) → (is_missed w x c.event c.reply ≡ is_miss x a) × (asked_after w x c.event ≡ asked_by a x)
+  Tells a c = (x : Asked) → (is_missed w x c.event c.reply ≡ is_miss x a) × (asked_after w x c.event ≡ asked_by a x)
 
   access_tells : (a : Access) → IsOfEnable a → OfCall q a (Tells a)
   access_tells (Sees Rxdctl on) of = λ number word named is x.

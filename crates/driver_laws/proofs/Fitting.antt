@@ -49,7 +49,6 @@ use Rattle.transmit_laws.specs.Lent.{SparesNumbers}
 use Rattle.driver_laws.specs.Before.{AreShort, FramesStayShortAlong, OnlyPassLent}
 use Rattle.driver_laws.specs.Healthy as healthy
 use Rattle.driver_laws.specs.Healthy.{IsHealthy}
-use Rattle.driver_laws.proofs.Lending.{receive_lent}
 use Rattle.driver_laws.proofs.Meeting.{Meets}
 use Rattle.driver_laws.proofs.Sending.{is_elsewhere, move_setting, own_spares, sender_lent, writes_tail}
 

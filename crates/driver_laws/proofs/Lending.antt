@@ -1,8 +1,7 @@
 -- The blocks that the halves have lent: each is lent, none by both, and all are among those that the pass lends.
-use Rattle.std.proofs.Common.{◌<◌, ◌∙◌, ◌≡◌, ◌≢◌, Bool, List, ap, false, inl, inr, length, not, refl, subst, sym, true}
-use Rattle.std.proofs.Common.{ℕ}
+use Rattle.std.proofs.Common.{◌<◌, ◌∙◌, ◌≡◌, ◌≢◌, List, ap, inl, inr, length, not, refl, subst, sym, true, ℕ}
 use Rattle.std.specs.Prelude.{◌==◌, IsTrue}
-use Rattle.std.proofs.lemmas.Bool.{cases_eq, cases_lt, eqb-false, ne_eqb}
+use Rattle.std.proofs.lemmas.Bool.{cases_eq, cases_lt, eqb-false, ne_eqb, not-true}
 use Rattle.driver_laws.specs.Prelude.{Agree, Block, Blocks, Event, LeavesBlock, Memory, Move, Piece, Receive, Reply}
 use Rattle.driver_laws.specs.Prelude.{Sender, State, after, drive, has_block, has_lent, reply_to}
 use Rattle.nic_device.specs.Outcome.{Outcome, gives}
@@ -108,12 +107,13 @@ but n b = not (b == n)
 off : (b n : ℕ) → b ≢ n → IsTrue (but n b)
 off b n ne = ap not (ne_eqb b n ne)
 
-not_true : (b : Bool) → not b ≡ true → b ≡ false
-not_true true e = cc
-not_true false e = refl
-
 on : (b n : ℕ) → IsTrue (but n b) → b ≢ n
-on b n is = eqb-false b n (not_true (b == n) is)
+on b n is = eqb-false b n (not-true (b == n) is)
+
+-- a block that is lent by a move of the transmit half
+pub lends_one : (mine : Blocks) (e : Event Block) (r : Reply Block) → LendsMine mine e r → LendsOneOf mine e r
+lends_one mine (event.Lend b) reply.Done is = is
+lends_one mine e r is = tt
 
 module _ (s : State) where
   -- a block that is lent by a call wasn't lent before
@@ -121,11 +121,6 @@ module _ (s : State) where
       → LendsMine (but n) e r
   lends_other (event.Lend b) reply.Done is n has = off b.number n (lent_apart s b n has is)
   lends_other e r is n has = tt
-
-  moves_other : (e : Event Block) (r : Reply Block) → reply_to s e ≡ r → (n : ℕ) → has_block s.memory n ≡ true
-      → LendsOneOf (but n) e r
-  moves_other (event.Lend b) reply.Done is n has = off b.number n (lent_apart s b n has is)
-  moves_other e r is n has = tt
 
   -- the receive half's own
   pub receives_apart : (v : Receive) (u : Sender) (e : Event Block) → receiving.IsOwn v e
@@ -147,12 +142,8 @@ module _ (s : State) where
       each_map v (λ b. (has_block s.memory b ≡ true) × ((k : ℕ) → IsTrue (has_lent u k) → b ≢ k)) (λ b. b ≢ n)
       (λ b both same.
       on n b
-      (mine-moved (but b) u (λ k i. off k b (λ e. both.1 k i (sym e))) m e r own (moves_other e r refl b both.0) n is)
+      (mine-moved (but b) u (λ k i. off k b (λ e. both.1 k i (sym e))) m e r own
+      (lends_one (but b) e r (lends_other e r refl b both.0)) n is)
       (sym same))
       (each_both v (λ b. has_block s.memory b ≡ true) (λ b. (k : ℕ) → IsTrue (has_lent u k) → b ≢ k) lent
       (each_all v (λ k. IsTrue (has_lent u k)) (λ b k. b ≢ k) apart))
-
--- a block that the pass lends by a move of the transmit half
-pub lends_one : (mine : Blocks) (e : Event Block) (r : Reply Block) → LendsMine mine e r → LendsOneOf mine e r
-lends_one mine (event.Lend b) reply.Done is = is
-lends_one mine e r is = tt

@@ -110,8 +110,6 @@ named_queue_has_the_numbers s q queue is row number driven of_row =
 pub ground_names : (queue : ℕ) (q : AtPort) (frame : ℕ) (s : State) → HasGround queue q frame s → NumbersName s q queue
 ground_names queue q frame s g = named_queue_has_the_numbers s q queue g.names
 
--- packets.
-
 pub ground_same : (queue : ℕ) (q : AtPort) (frame : ℕ) (s t : State) → mode_in t.registers ≡ mode_in s.registers
     → t.vfs ≡ s.vfs → frame_limit t.registers ≡ frame_limit s.registers → HasGround queue q frame s
     → HasGround queue q frame t
@@ -203,8 +201,6 @@ off_sides_are_seen_off queue q frame s number word quiet (inl named) told =
 off_sides_are_seen_off queue q frame s number word quiet (inr named) told =
     told_on queue s q.port number word told Tx (ground_names queue q frame s quiet.ground Txdctl number refl named)
     ∙ quiet.transmit.off
-
--- What a driver rests on, over its accesses: none of them is stray.
 
 -- a driver's register is accessed, or written
 

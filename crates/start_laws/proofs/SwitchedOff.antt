@@ -1,7 +1,7 @@
--- The sides of a queue while its driver stops or starts: one that is on, or isn't wanted on, doesn't go on; and both are
--- asked off and seen off, and stay so.
+-- The sides of a queue while its driver stops or starts: one that is on, or isn't wanted on, doesn't go on; and both
+-- are asked off and seen off, and stay so.
 use Rattle.std.proofs.Common.{[], ◌&&◌, ◌++◌, ◌∙◌, ◌∷◌, ◌≡◌, ◌≢◌, Bool, List, Some, ap, false, inl, inr, not, refl}
-use Rattle.std.proofs.Common.{subst, sym, true, zero, ℕ}
+use Rattle.std.proofs.Common.{subst, sym, true, ℕ}
 use Rattle.std.specs.Prelude.{IsFalse}
 use Rattle.std.proofs.lemmas.Bool.{both_ways}
 use Rattle.start_laws.specs.Prelude.{Access, AreMade, AtPort, Block, Blocks, Call, Dir, Entry, Event, IsEvent, IsMade}
@@ -210,7 +210,8 @@ module _ {w : Watched} {origin : State} {h : List Entry} (q : AtPort) (frame : �
   shut_at : (before between behind : List Access) (old m1 m2 m3 m4 new : List Call) → AllAre MayAsk before
       → AllAre MayAsk between → AllAre MayAsk behind → AreMade q old m1 before
       → IsMade q m1 m2 (Sets (enable_row dir) 0) → AreMade q m2 m3 between
-      → IsMade q m3 m4 (Sees (enable_row dir) false) → AreMade q m4 new behind → old ≢ [] → AtCalls w origin h old Ground → AtCalls w origin h new (One IsOff)
+      → IsMade q m3 m4 (Sees (enable_row dir) false) → AreMade q m4 new behind → old ≢ []
+      → AtCalls w origin h old Ground → AtCalls w origin h new (One IsOff)
   shut_at before between behind old m1 m2 m3 m4 new one two three first asks then sees rest some at =
       let some_two = made_some q m1 m2 (Sets (enable_row dir) 0) asks in
       let asked_at = access_leads q along Ground (One IsUnwanted) (Sets (enable_row dir) 0)

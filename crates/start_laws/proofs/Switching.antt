@@ -1,10 +1,10 @@
 -- The words of both rings are written where neither side is wanted on, and both are asked on and polled until they are:
 -- the fresh sides that that leads to, where device and driver agree.
-use Rattle.std.proofs.Common.{[], ◌%◌, ◌*◌, ◌++◌, ◌+◌, ◌/◌, ◌<◌, ◌^◌, ◌||◌, ◌∙◌, ◌∷◌, ◌≡◌, ◌≤◌, Bool, List, None, ap}
-use Rattle.std.proofs.Common.{arith, false, inl, refl, replicate, suc, true, zero, ℕ}
+use Rattle.std.proofs.Common.{[], ◌%◌, ◌*◌, ◌++◌, ◌+◌, ◌/◌, ◌<◌, ◌^◌, ◌∙◌, ◌∷◌, ◌≡◌, ◌≤◌, Bool, List, None, ap, arith}
+use Rattle.std.proofs.Common.{false, inl, refl, replicate, suc, true, zero, ℕ}
 use Rattle.std.specs.Prelude.{nat_le}
 use Rattle.std.proofs.Math.Bool.{or-false}
-use Rattle.std.proofs.lemmas.Bool.{and_parts, both_ways, leb-true}
+use Rattle.std.proofs.lemmas.Bool.{and_parts, both_ways, leb-true, or_right}
 use Rattle.start_laws.specs.Prelude.{Access, Dir, Memory, Rdbah, Rdbal, Rdh, Rdlen, Rdt, Ring, RowId, Rx, Rxdctl, Sees}
 use Rattle.start_laws.specs.Prelude.{Sets, Side, Srrctl, Tdbah, Tdbal, Tdh, Tdlen, Tdt, Tdwbal, Tx, Txdctl, enable_row}
 use Rattle.start_laws.specs.Prelude.{has_block, is_empty, is_frame, missed, packet_limit, polled, receive_polled}
@@ -94,10 +94,6 @@ missed_same dir (suc n) p =
     missed_same dir n (seen_by (enable_row dir) false p)
     ∙ (λ k. record p { side = λ d. not_seen dir d (p.side d) k })
 
-or_some : (b : Bool) → (b || true) ≡ true
-or_some true = refl
-or_some false = refl
-
 -- the ring of each side
 abbrev ring_at : Dir → (ring other : ℕ) → ℕ
 ring_at Rx ring other = ring
@@ -156,13 +152,13 @@ module _ (ring size other : ℕ) (one : IsSized ring size) (two : IsSized other 
   sides_on Rx = λ k. record (p.side Rx) {
     ring = record (fresh_ring ring size) { base = base_is (p.side Rx).ring.base ring (first_low ring size one) k };
     control = 0x2000002;
-    on = or_some (p.side Rx).on k;
+    on = or_right (p.side Rx).on true refl k;
     wanted = true;
   }
   sides_on Tx = λ k. record (p.side Tx) {
     ring = record (fresh_ring other size) { base = base_is (p.side Tx).ring.base other (first_low other size two) k };
     writeback = None;
-    on = or_some (p.side Tx).on k;
+    on = or_right (p.side Tx).on true refl k;
     wanted = true;
   }
 

@@ -19,8 +19,8 @@ pub record AreOn (q : AtPort) (size frame : ℕ) (old : List Call) (a : Numbers)
   pub transmit : IsTransmitReady q size frame ready_made ready_arena both_made both_arena t
   pub switched : IsSwitched q both_made new true 1000
 
--- it holds wherever both sides went on so, over a history that leaves the queue alone, where port and queue name it just
--- before the driver's first access
+-- it holds wherever both sides went on so, over a history that leaves the queue alone, where port and queue name it
+-- just before the driver's first access
 abbrev pub WhereOn : (Watched → State → List Entry → List Call → Receive → Sender → Type 0) → Type 0
 WhereOn P =
     (w : Watched) (origin : State) (h : List Entry) (q : AtPort) (size frame : ℕ) (old : List Call) (a : Numbers)

@@ -1,18 +1,25 @@
 -- Harmless calls beside the driver's lead both halves on, and leave the queue alone.
-use Rattle.std.proofs.Common.{◌≡◌, ℕ, Bool, true, false, not, ◌&&◌, Option, Some, None, List, [], ◌∷◌, ◌++◌, length, refl, sym, ap, ◌∙◌, subst, append_assoc, arith}
+use Rattle.std.proofs.Common.{[], ◌&&◌, ◌++◌, ◌∙◌, ◌∷◌, ◌≡◌, Bool, List, None, Option, Some, ap, append_assoc, arith}
+use Rattle.std.proofs.Common.{false, length, not, refl, subst, sym, true, ℕ}
 use Rattle.std.specs.Prelude.{◌==◌, IsTrue}
 use Rattle.std.proofs.lemmas.Bool.{eqb-false}
-use Rattle.driver_laws.specs.Prelude.{Block, row_of, asks_pool_reset, Event, mode_in, after, Blocks, LeavesBlocks, LeavesRegisters, call_in, calls_of, call_of, Watched, Call, Entry, is_step, AreSteps, AllOwn, Doer, is_neither, played_by, Place, Mode, doers_other}
+use Rattle.driver_laws.specs.Prelude.{AllLendApart, AllOwn, AreSteps, Block, Blocks, Call, Doer, DrivesApart, Elsewhere}
+use Rattle.driver_laws.specs.Prelude.{Entry, Event, Halves, LeavesBlocks, LeavesRegisters, LendsApart, Mode, Place}
+use Rattle.driver_laws.specs.Prelude.{Sends, Watched, after, asks_pool_reset, call_in, call_of, calls_of, doers_other}
+use Rattle.driver_laws.specs.Prelude.{is_neither, is_step, mode_in, played_by, row_of}
+use Rattle.device_lock.specs.Alone.{SparesIfSome, is_setting}
 use Rattle.nic_device.specs.RegTable.Place.{place_among}
 use Rattle.nic_device.specs.RegTable.Runs.{runs}
 use Rattle.nic_device.specs.VfMap.Owner.{is_receive, is_transmit}
 use Rattle.nic_device.specs.declared.event.Event.TheVariants as event
 use Rattle.nic_device.specs.declared.event.Port.TheVariants.{Pf, Vf}
-use Rattle.device_lock.specs.Alone.{SparesIfSome, is_setting}
-use Rattle.pmd.specs.Halves.{OthersStep}
+use Rattle.pmd.proofs.Apart.{both_apart}
 use Rattle.pmd.proofs.Followed.{both_own, both_played, others_own, others_played, own_length}
-use Rattle.receive_laws.proofs.Histories.{calls_own, calls_other}
-use Rattle.driver_laws.specs.Beside.{AreHarmless, CallsAddHarmless, DrivesLead, HarmlessLead, HarmlessLeaveAlone, LeadsOn, OthersHarmless, StepsAddHarmless, is_harmless, spares_all}
+use Rattle.pmd.specs.Halves.{OthersStep}
+use Rattle.receive_laws.proofs.Histories.{calls_other, calls_own}
+use Rattle.driver_laws.specs.Beside.{AddsHarmless, AreHarmless, CallsAddHarmless, DrivesLead, HarmlessLead}
+use Rattle.driver_laws.specs.Beside.{HarmlessLeaveAlone, Leads, LeadsOn, OthersHarmless, StepsAddHarmless, is_harmless}
+use Rattle.driver_laws.specs.Beside.{spares_all}
 use Rattle.driver_laws.specs.Histories.{doer_of, doers_after}
 
 -- steps of the device are harmless
@@ -137,3 +144,47 @@ harmless_leave_alone w mine s doers (e ∷ es) harmless =
       here.0,
       harmless_leave_alone w mine (after s e.event) (doers_after (e.pass == w.pass) doers) es here.1,
     )
+
+-- calls that lead both halves on, and lend as a driver's own do
+
+
+-- the halves were led on so
+pub record LeadsApart (own : Blocks) (old : List Call) (h : Halves) (new : List Call) (k : Halves) : Type 0 where
+  pub leads : Leads old h new k
+  pub apart : AllLendApart own h leads.0 leads.1
+
+-- by the driver's calls
+pub driven_apart : (own : Blocks) (old new : List Call) (h k : Halves) → DrivesApart own old h new k
+    → LeadsApart own old h new k
+unfolding drives_lead
+driven_apart own old new h k p = record { leads = drives_lead old new h k p.drives; apart = p.apart }
+
+-- by harmless calls, which lend nothing
+
+one_apart : (own : Blocks) (h : Halves) (e : Event Block) → IsTrue (is_harmless e)
+    → LendsApart own h (Sends Elsewhere) e
+one_apart own h (event.Lend b) is = cc
+one_apart own h e is = tt
+
+others_apart : (own : Blocks) (h : Halves) (calls : List Call) → AreHarmless calls
+    → AllLendApart own h (doers_other calls) calls
+others_apart own h [] harmless = tt
+others_apart own h (c ∷ calls) harmless = (one_apart own h c.event harmless.0, others_apart own h calls harmless.1)
+
+pub harmless_apart : (own : Blocks) (old new : List Call) (h : Halves) → AddsHarmless old new
+    → LeadsApart own old h new h
+unfolding harmless_lead
+harmless_apart own old new h (more, made, harmless) = record {
+  leads = harmless_lead old new h (more, made, harmless);
+  apart = others_apart own h more harmless;
+}
+
+-- and by calls behind such calls
+pub apart_leads_on : (own : Blocks) (old mid new : List Call) (h j k : Halves) → LeadsApart own old h mid j
+    → LeadsApart own mid j new k → LeadsApart own old h new k
+unfolding leads_on
+apart_leads_on own old mid new h j k p q = record {
+  leads = leads_on old mid new h j k p.leads q.leads;
+  apart = both_apart own h p.leads.0 q.leads.0 p.leads.1 q.leads.1 p.leads.3 p.apart
+      (subst (λ (x : Halves). AllLendApart own x q.leads.0 q.leads.1) p.leads.4 q.apart);
+}

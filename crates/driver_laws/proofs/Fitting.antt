@@ -1,25 +1,56 @@
--- One call beside a driver that receives keeps it so that the frames which wait for its queue fit.
-use Rattle.std.proofs.Common.{◌≡◌, ◌==◌, ℕ, true, false, ◌&&◌, List, [], ◌∷◌, ◌++◌, length, refl, sym, ap, ◌∙◌, subst, Some}
-use Rattle.std.proofs.lemmas.Bool.{both_ways}
-use Rattle.driver_laws.specs.Prelude.{Block, row_of, asks_pool_reset, place, mode_in, named, State, after, reply_to, Event, Port, Reply, Register, Blocks, LeavesRegisters, call_of, Watched, Call, WritesNoSetting, Receive, Move, Advances, Elsewhere, Piece, pieces, Halves, Doer, Receives, Sends, OwnCall, after_call, is_neither, Place, Rdt, drive}
+-- One call beside a driver that receives: the frames that wait for its queue go on fitting, its reply is healthy, and
+-- what that rests on holds behind it.
+use Rattle.std.proofs.Common.{[], ◌&&◌, ◌*◌, ◌++◌, ◌<◌, ◌==◌, ◌||◌, ◌∙◌, ◌∷◌, ◌≡◌, ◌≢◌, ◌≤◌, Bool, List, None, Option}
+use Rattle.std.proofs.Common.{Some, ap, arith, false, inl, inr, length, nat_lt, refl, subst, sym, true, ℕ}
+use Rattle.std.specs.Prelude.{option_map}
+use Rattle.std.proofs.lemmas.Bool.{and_from, and_parts, both_ways, cond_both, eq-eqb, eqb-false, eqb-true, lt-ltb}
+use Rattle.std.proofs.lemmas.Bool.{not-true, or_cases, or_left, or_right}
+use Rattle.std.proofs.lemmas.List.{length-append, nil_from_length}
+use Rattle.driver_laws.specs.Prelude.{Advances, AreEvents, Block, Blocks, Call, Doer, Elsewhere, Entry, Event, Halves}
+use Rattle.driver_laws.specs.Prelude.{IsEvent, IsSound, LeavesRegisters, LendsApart, LendsNone, Memory, Move, OnlyLent}
+use Rattle.driver_laws.specs.Prelude.{OwnCall, Piece, Place, Port, Rdt, Receive, Receives, Register, Reply, Rx, Sends}
+use Rattle.driver_laws.specs.Prelude.{State, Watched, WritesNoSetting, after, after_call, asks_pool_reset, call_of}
+use Rattle.driver_laws.specs.Prelude.{drive, either, is_neither, is_on, leads_to, lends, lent_by, mode_in, named}
+use Rattle.driver_laws.specs.Prelude.{pieces, pieces_since, place, reply_to, row_of}
+use Rattle.device_lock.specs.Alone.{Spares, SparesIfSome, lent_in, place_at}
+use Rattle.nic_device.proofs.Cases.{either_way, lent_cases}
+use Rattle.nic_device.proofs.Steps.{keeps_sound}
 use Rattle.nic_device.specs.DmaRing.Descriptor.{second_half}
 use Rattle.nic_device.specs.DmaRing.Receive.{is_done}
 use Rattle.nic_device.specs.RegTable.declared.rows.RowId.TheVariants.{Tdt}
+use Rattle.nic_device.specs.Step.{step_of}
 use Rattle.nic_device.specs.declared.event.Event.TheVariants as event
 use Rattle.nic_device.specs.declared.event.Reply.TheVariants as reply
-use Rattle.nic_device.proofs.Cases.{either_way}
-use Rattle.device_lock.specs.Alone.{Spares, SparesIfSome, place_at}
+use Rattle.pmd.specs.PmdRx.Keeping as received
 use Rattle.pmd.specs.PmdRx.Receive as receiving
 use Rattle.pmd.specs.PmdRx.Receive.{is_part, looked, moved, parts_first, posts_all, posts_one, saw, tail_behind, took}
 use Rattle.pmd.specs.PmdRx.declared.ring.Told.{Told}
 use Rattle.pmd.specs.PmdTx.Sending as sending
-use Rattle.receive_laws.specs.Fitting.{AreFitting, ResetsNoPool}
-use Rattle.receive_laws.specs.Up.{IsUp}
-use Rattle.receive_laws.proofs.Fitting.{frames_stay_fitting}
+use Rattle.receive_laws.proofs.Begun.{begun_stays}
+use Rattle.receive_laws.proofs.DeviceLaws.KeptSettings.{settings_stand}
+use Rattle.receive_laws.proofs.Fitting.{frames_stay_fitting, none_begun_while_off}
+use Rattle.receive_laws.proofs.Healthy as receive
+use Rattle.receive_laws.proofs.HistoryLaws.Filling.{receiving_did}
+use Rattle.receive_laws.proofs.HistoryLaws.Leaving.{left-setting}
+use Rattle.receive_laws.proofs.HistoryLaws.Lent.{only_lent_stays}
 use Rattle.receive_laws.proofs.HistoryLaws.Naming.{place_in, place_named}
+use Rattle.receive_laws.proofs.Lent as receive_lent
+use Rattle.receive_laws.proofs.Waiting.{frames_fit}
+use Rattle.receive_laws.specs.Delivered.{gathered, goes_on}
+use Rattle.receive_laws.specs.Fitting.{AreFitting, ResetsNoPool, begun_on}
+use Rattle.receive_laws.specs.HistoryLaws.Left.{Deed, Rested, Took}
+use Rattle.receive_laws.specs.HistoryLaws.Lent.{LendsOwn, with_lent}
+use Rattle.receive_laws.specs.Pieces.{AllFit}
+use Rattle.receive_laws.specs.Up.{IsUp}
+use Rattle.transmit_laws.proofs.Healthy as transmit
+use Rattle.transmit_laws.proofs.Lent as transmit_lent
+use Rattle.transmit_laws.specs.Healthy.{LendsAnew}
+use Rattle.transmit_laws.specs.Lent.{SparesNumbers}
+use Rattle.driver_laws.specs.Before.{AreShort, FramesStayShortAlong, OnlyPassLent}
+use Rattle.driver_laws.specs.Healthy as healthy
+use Rattle.driver_laws.specs.Healthy.{IsHealthy}
 use Rattle.driver_laws.proofs.Meeting.{Meets}
-use Rattle.driver_laws.proofs.Receiving.{writes_tail}
-use Rattle.driver_laws.proofs.Sending.{is_elsewhere}
+use Rattle.driver_laws.proofs.Sending.{is_elsewhere, move_setting, own_spares, sender_lent, writes_tail}
 
 -- a driver takes as many blocks for a packet as before
 
@@ -45,8 +76,7 @@ driven_most v (event.Poke16 a bytes) reply.Done = refl
 driven_most v (event.Write port number word) reply.Done = moved_most v word
 driven_most v e r = refl
 
-most_after : (h : Halves) (d : Doer) (n : Call)
-    → (after_call h d n).receive.layout.most ≡ h.receive.layout.most
+most_after : (h : Halves) (d : Doer) (n : Call) → (after_call h d n).receive.layout.most ≡ h.receive.layout.most
 most_after h Receives n = driven_most h.receive n.event n.reply
 most_after h (Sends m) n = refl
 
@@ -72,37 +102,244 @@ spared_resets w s vfs (event.Write port n word) left = λ p view is asks.
     spares.pool asks
 spared_resets w s vfs other left = tt
 
-module _ (w : Watched) (mine : Blocks) (s : State) (out : List Piece) (sent : List (List ℕ)) (h : Halves)
-    (m : Meets w mine s out sent h)
-  where
-    own_resets : (e : Event Block) → receiving.IsOwn h.receive e → ResetsNoPool w.queue s e
-    own_resets (event.Write port n word) own =
-        plain_resets w.queue s port n word (place Rdt w.queue) 0xFFFFFFFF
-        (writes_tail s w.queue h.receive m.both.receive.2.named port n word own) refl
-    own_resets other own = tt
+module _ {w : Watched} {mine : Blocks} {s : State} {out : List Piece} {sent : List (List ℕ)} {h : Halves}
+    (m : Meets w mine s out sent h) where
+  own_resets : (e : Event Block) → receiving.IsOwn h.receive e → ResetsNoPool w.queue s e
+  own_resets (event.Write port n word) own =
+      plain_resets w.queue s port n word (place Rdt w.queue) 0xFFFFFFFF
+      (writes_tail s w.queue h.receive m.both.receive.2.named port n word own) refl
+  own_resets other own = tt
 
-    move_resets : (move : Move) (e : Event Block) → is_elsewhere move ≡ false → sending.IsOwn h.transmit move e
-        → ResetsNoPool w.queue s e
-    move_resets Advances (event.Write port n word) real own =
-        plain_resets w.queue s port n word (place Tdt w.queue) 0xFFFFFFFF
-        (rw (own.2, own.3) m.both.transmit.1.based.tail) refl
-    move_resets Elsewhere e real own = cc
-    move_resets move (event.Write port n word) real own = absurd own
-    move_resets move e real own = tt
+  move_resets : (move : Move) (e : Event Block) → is_elsewhere move ≡ false → sending.IsOwn h.transmit move e
+      → ResetsNoPool w.queue s e
+  move_resets Advances (event.Write port n word) real own =
+      plain_resets w.queue s port n word (place Tdt w.queue) 0xFFFFFFFF
+      (rw (own.2, own.3) m.both.transmit.1.based.tail) refl
+  move_resets Elsewhere e real own = cc
+  move_resets move (event.Write port n word) real own = absurd own
+  move_resets move e real own = tt
 
-    none_reset : (d : Doer) (e : Event Block) → OwnCall h d (call_of e (reply_to s e))
-        → (is_neither d ≡ true → LeavesRegisters w (mode_in s.registers) e) → ResetsNoPool w.queue s e
-    none_reset Receives e own others = own_resets e own
-    none_reset (Sends Elsewhere) e own others =
-        spared_resets w s m.vfs e (others refl)
-    none_reset (Sends move) e own others = move_resets move e refl own
+  none_reset : (d : Doer) (e : Event Block) → OwnCall h d (call_of e (reply_to s e))
+      → (is_neither d ≡ true → LeavesRegisters w (mode_in s.registers) e) → ResetsNoPool w.queue s e
+  none_reset Receives e own others = own_resets e own
+  none_reset (Sends Elsewhere) e own others = spared_resets w s m.vfs e (others refl)
+  none_reset (Sends move) e own others = move_resets move e refl own
 
-    pub fitting_after : IsUp w.queue s → AreFitting w.queue h.receive.layout.most s out → (d : Doer) (e : Event Block)
-        → OwnCall h d (call_of e (reply_to s e)) → (is_neither d ≡ true → LeavesRegisters w (mode_in s.registers) e)
-        → WritesNoSetting s e → (r : Reply Block)
-        → AreFitting w.queue (after_call h d (call_of e r)).receive.layout.most (after s e) (out ++ pieces w.queue s e)
-    fitting_after up fit d e own others none r =
-        subst (λ (most : ℕ). AreFitting w.queue most (after s e) (out ++ pieces w.queue s e))
-        (sym (most_after h d (call_of e r)))
-        (frames_stay_fitting w.queue h.receive.layout.most s out h.receive e m.sound m.both.receive up fit none
-        (none_reset d e own others))
+  pub fitting_after : IsUp w.queue s → AreFitting w.queue h.receive.layout.most s out → (d : Doer) (e : Event Block)
+      → OwnCall h d (call_of e (reply_to s e)) → (is_neither d ≡ true → LeavesRegisters w (mode_in s.registers) e)
+      → WritesNoSetting s e → (r : Reply Block)
+      → AreFitting w.queue (after_call h d (call_of e r)).receive.layout.most (after s e) (out ++ pieces w.queue s e)
+  fitting_after up fit d e own others none r =
+      subst (λ (most : ℕ). AreFitting w.queue most (after s e) (out ++ pieces w.queue s e))
+      (sym (most_after h d (call_of e r)))
+      (frames_stay_fitting w.queue h.receive.layout.most s out h.receive e m.sound m.both.receive up fit none
+      (none_reset d e own others))
+
+-- nothing is written of a frame that waits where no piece was since the side went on: none is while it is off
+
+silent : (queue : ℕ) (s : State) → is_on s.registers Rx queue ≡ false → Deed Rx queue s event.RxStep
+    → pieces queue s event.RxStep ≡ []
+silent queue s off (Took x) = absurd (both_ways _ off x.tried.on)
+silent queue s off (Rested none rests) = none
+
+off_silent : (queue : ℕ) (s : State) (e : Event Block) → IsSound s → is_on s.registers Rx queue ≡ false
+    → pieces queue s e ≡ []
+off_silent queue s event.RxStep sound off = silent queue s off (receiving_did queue s sound)
+off_silent queue s e sound off = refl
+
+-- over a history
+
+abbrev Unbegun : ℕ → State → Option (List Piece) → Type 0
+Unbegun queue s so_far = so_far ≡ Some [] → begun_on queue s.waiting ≡ 0
+
+none_more : (qs ps : List Piece) → qs ++ ps ≡ [] → (qs ≡ []) × (ps ≡ [])
+none_more qs ps empty =
+    let long = ap (λ (xs : List Piece). length xs) empty in
+    let both = length-append qs ps in
+    (nil_from_length qs (omega (arith, long, both)), nil_from_length ps (omega (arith, long, both)))
+
+module _ (queue : ℕ) (s : State) (e : Event Block) (sound : IsSound s) where
+  went_on : goes_on queue s (after s e) ≡ true → begun_on queue (after s e).waiting ≡ 0
+  went_on goes =
+      let off = not-true (is_on s.registers Rx queue) (and_parts _ _ goes).0 in
+      begun_stays queue s sound (none_begun_while_off queue s sound off) e (off_silent queue s e sound off)
+
+  stayed : (so_far : Option (List Piece)) → Unbegun queue s so_far
+      → Unbegun queue (after s e) (option_map (λ (qs : List Piece). qs ++ pieces queue s e) so_far)
+  stayed None before is = cc
+  stayed (Some qs) before is =
+      let empty : qs ++ pieces queue s e ≡ [] = cc in
+      let both = none_more qs (pieces queue s e) empty in
+      begun_stays queue s sound (before (ap (λ (xs : List Piece). Some xs) both.0)) e both.1
+
+  one_on : (so_far : Option (List Piece)) → Unbegun queue s so_far
+      → Unbegun queue (after s e) (gathered queue s (after s e) (pieces queue s e) so_far)
+  one_on so_far before =
+      cond_both (goes_on queue s (after s e)) (Some [])
+      (option_map (λ (qs : List Piece). qs ++ pieces queue s e) so_far) (Unbegun queue (after s e))
+      (λ goes is. went_on goes) (λ empty. stayed so_far before)
+
+unbegun_on : (queue : ℕ) (s : State) (so_far : Option (List Piece)) (es : List Entry) → IsSound s → AreEvents es
+    → Unbegun queue s so_far → pieces_since queue s so_far es ≡ Some [] → begun_on queue (leads_to s es).waiting ≡ 0
+unbegun_on queue s so_far [] sound events before is = before is
+unbegun_on queue s so_far (e ∷ es) sound events before is =
+    unbegun_on queue (after s e.event) (gathered queue s (after s e.event) (pieces queue s e.event) so_far) es
+    (keeps_sound s sound e.event events.0) events.1 (one_on queue s e.event sound so_far before) is
+
+-- so it is where the side went on, and nothing is written since
+pub unbegun_since : (queue : ℕ) (s : State) (es : List Entry) → IsSound s → AreEvents es
+    → pieces_since queue s None es ≡ Some [] → begun_on queue (leads_to s es).waiting ≡ 0
+unbegun_since queue s es sound events is = unbegun_on queue s None es sound events (λ e. cc) is
+
+-- what a half lends, by the kind of its call
+
+lends_received : (own : Blocks) (h : Halves) (e : Event Block) → LendsApart own h Receives e
+    → LendsOwn own (sending.has_lent h.transmit) e
+lends_received own h (event.Lend b) apart = apart
+lends_received own h e apart = tt
+
+lends_sent : (own : Blocks) (h : Halves) (m : Move) (e : Event Block) → is_elsewhere m ≡ false
+    → LendsApart own h (Sends m) e → LendsOwn own (received.has_lent h.receive) e
+lends_sent own h Elsewhere e real apart = cc
+lends_sent own h m (event.Lend b) real apart = apart
+lends_sent own h m e real apart = tt
+
+lends_none : (own : Blocks) (h : Halves) (e : Event Block) → LendsApart own h (Sends Elsewhere) e → LendsNone own e
+lends_none own h (event.Lend b) apart = apart
+lends_none own h e apart = tt
+
+pub none_apart : (own : Blocks) (h : Halves) (e : Event Block) → LendsNone own e → LendsApart own h (Sends Elsewhere) e
+none_apart own h (event.Lend b) none = none
+none_apart own h e none = tt
+
+-- what either has lent, the other first
+swapped : (own xs ys : Blocks) (m : Memory) → OnlyLent own (either xs ys) m → OnlyLent own (either ys xs) m
+swapped own xs ys m only n is has = elim (or_cases (xs n) (ys n) (only n is has)) [
+  | inl first ↦ or_right (ys n) (xs n) first
+  | inr second ↦ or_left (ys n) (xs n) second
+]
+
+module _ {w : Watched} {mine : Blocks} {s : State} {out : List Piece} {sent : List (List ℕ)} {h : Halves} (own : Blocks)
+    (m : Meets w mine s out sent h) (known : OnlyLent own (healthy.lent_by h) s.memory) (e : Event Block) where
+  abbrev rx : Blocks
+  rx = received.has_lent h.receive
+
+  abbrev tx : Blocks
+  tx = sending.has_lent h.transmit
+
+  other_first : OnlyLent own (either tx rx) s.memory
+  other_first = swapped own rx tx s.memory known
+
+  -- a move lends a block anew
+  anew : (move : Move) → sending.IsOwn h.transmit move e → LendsApart own h (Sends move) e → LendsAnew s move e
+  anew Elsewhere mine apart = tt
+  anew move mine apart =
+      transmit_lent.own_lends_are_known.anew own rx s h.transmit move e other_first mine
+      (lends_sent own h move e refl apart)
+
+  pub healthy_call : (d : Doer) → OwnCall h d (call_of e (reply_to s e)) → LendsApart own h d e
+      → AllFit h.receive.layout.most 0 out → IsHealthy h d (call_of e (reply_to s e))
+  healthy_call Receives mine apart fit =
+      receive.own_replies_are_healthy w.queue s out h.receive e m.both.receive fit mine
+      (receive_lent.own_lends_are_known.anew own tx s h.receive e known mine (lends_received own h e apart))
+  healthy_call (Sends move) mine apart fit =
+      transmit.own_replies_are_healthy s w.queue sent h.transmit move e m.both.transmit mine (anew move mine apart)
+
+  -- only blocks are lent that the halves have lent
+  move_known : (move : Move) → sending.IsOwn h.transmit move e → SparesNumbers own move e
+      → OnlyLent own (either rx (sending.has_lent (sending.moved h.transmit move (reply_to s e)))) (after s e).memory
+  move_known move mine spares =
+      swapped own (sending.has_lent (sending.moved h.transmit move (reply_to s e))) rx (after s e).memory
+      (transmit_lent.own_lends_are_known.kept own rx s h.transmit move e other_first mine spares)
+
+  pub known_after : (d : Doer) → OwnCall h d (call_of e (reply_to s e)) → LendsApart own h d e
+      → OnlyLent own (healthy.lent_by (after_call h d (call_of e (reply_to s e)))) (after s e).memory
+  known_after Receives mine apart = receive_lent.own_lends_are_known.kept own tx s h.receive e known mine
+  known_after (Sends Elsewhere) mine apart = move_known Elsewhere mine (lends_none own h e apart)
+  known_after (Sends move) mine apart = move_known move mine tt
+
+  -- and no setting is written
+  pub no_setting : IsEvent e → (d : Doer) → OwnCall h d (call_of e (reply_to s e))
+      → (is_neither d ≡ true → LeavesRegisters w (mode_in s.registers) e) → WritesNoSetting s e
+  no_setting made Receives mine others =
+      let (gone, here, holds) = m.both.receive in
+      let blocks = sender_lent s w.queue sent h.transmit m.both.transmit.0 m.both.transmit.1 in
+      (own_spares w.queue s out h.receive gone here holds h.transmit blocks m.both.apart e made mine).setting
+  no_setting made (Sends Elsewhere) mine others = left-setting w s m.vfs e (others refl)
+  no_setting made (Sends move) mine others =
+      move_setting s w.queue sent h.transmit m.both.transmit.0 m.both.transmit.1 move e refl mine
+
+-- entries ahead of the place where the device agrees with both halves
+
+-- the frames that wait stay short over one event
+pub frames_stay_short : (queue most : ℕ) (s : State) (e : Event Block) → AreShort queue most s → WritesNoSetting s e
+    → AreShort queue most (after s e)
+frames_stay_short queue most s e h none =
+    record {
+      limit = subst (λ n. n ≤ 2048 * most) (sym (settings_stand s e none).limit) h.limit;
+      waiting = frames_fit queue most s h.limit h.waiting e;
+    }
+
+pub frames_stay_short_along : FramesStayShortAlong
+frames_stay_short_along queue most s [] h none = h
+frames_stay_short_along queue most s (e ∷ es) h none =
+    frames_stay_short_along queue most (after s e.event) es (frames_stay_short queue most s e.event h none.0) none.1
+
+pub lends_is : (b : Block) (r : Reply Block) (n : ℕ) → lends (event.Lend b) r n ≡ true → b.number ≡ n
+lends_is b reply.Done n is = eqb-true b.number n is
+lends_is b r n is = cc
+
+module _ (own known : Blocks) (s : State) (only : OnlyLent own known s.memory) where
+  -- a block is lent, by whichever pass
+  lent_here : (b : Block) → OnlyLent own (λ n. known n || lends (event.Lend b) (reply_to s (event.Lend b)) n)
+      (after s (event.Lend b)).memory
+  unfolding step_of
+  lent_here b =
+      lent_cases (λ o. OnlyLent own (with_lent known b.number) o.state.memory
+      → OnlyLent own (λ n. known n || lends (event.Lend b) o.reply n) o.state.memory) s b
+      (λ given n is has. or_left (known n) false (only n is has))
+      (λ given n is has. elim (or_cases (n == b.number) (known n) (given n is has)) [
+        | inl same ↦ or_right (known n) (b.number == n) (eq-eqb b.number n (sym (eqb-true n b.number same)))
+        | inr before ↦ or_left (known n) (b.number == n) before
+      ]) (only_lent_stays.lend own known s b only)
+
+  -- an event of the pass
+  abbrev Lent : Event Block → Reply Block → Blocks
+  Lent e r n = known n || (nat_lt n 65536 && lends e r n)
+
+  pass_lent : (e : Event Block) → IsEvent e → OnlyLent own (Lent e (reply_to s e)) (after s e).memory
+  pass_lent (event.Lend b) made n is has =
+      let r = reply_to s (event.Lend b) in
+      let now = nat_lt n 65536 && lends (event.Lend b) r n in
+      elim (or_cases (known n) (lends (event.Lend b) r n) (lent_here b n is has)) [
+        | inl before ↦ or_left (known n) now before
+        | inr lent ↦
+            let low = subst (λ (k : ℕ). k < 65536) (lends_is b r n lent) made.whole.small in
+            or_right (known n) now (and_from (nat_lt n 65536) (lends (event.Lend b) r n) (lt-ltb n 65536 low) lent)
+      ]
+  pass_lent e made n is has =
+      or_left (known n) (nat_lt n 65536 && lends e (reply_to s e) n)
+      (only_lent_stays.others own known s e tt only n is has)
+
+  entry_lent : (pass : ℕ) (e : Entry) → e.reply ≡ reply_to s e.event → IsEvent e.event
+      → (e.pass ≢ pass → LendsNone own e.event) → (b : Bool) → (e.pass == pass) ≡ b
+      → OnlyLent own (either known (lent_in pass e)) (after s e.event).memory
+  entry_lent pass e legal made none true mine n is has =
+      subst (λ (r : Reply Block). (known n || (nat_lt n 65536 && ((e.pass == pass) && lends e.event r n))) ≡ true)
+      (sym legal)
+      (subst (λ (b : Bool). (known n || (nat_lt n 65536 && (b && lends e.event (reply_to s e.event) n))) ≡ true)
+      (sym mine) (pass_lent e.event made n is has))
+  entry_lent pass e legal made none false other n is has =
+      or_left (known n) (lent_in pass e n)
+      (only_lent_stays.others own known s e.event (none (eqb-false e.pass pass other)) only n is has)
+
+joined : (a b c : Bool) → ((a || b) || c) ≡ true → (a || (b || c)) ≡ true
+joined true b c is = refl
+joined false b c is = is
+
+pub only_pass_lent : OnlyPassLent
+only_pass_lent pass own known s [] legal events none only n is has = or_left (known n) false (only n is has)
+only_pass_lent pass own known s (e ∷ es) legal events none only n is has =
+    joined (known n) (lent_in pass e n) (lent_by pass es n)
+    (only_pass_lent pass own (either known (lent_in pass e)) (after s e.event) es legal.1 events.1 none.1
+    (entry_lent own known s only pass e legal.0 events.0 none.0 (e.pass == pass) refl) n is has)

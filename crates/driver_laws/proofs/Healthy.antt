@@ -1,25 +1,48 @@
--- Over a whole history.
-use Rattle.std.proofs.Common.{◌≡◌, ℕ, ◌*◌, Bool, true, false, List, [], ◌∷◌, ◌++◌, refl, sym, ◌∙◌, subst, arith}
-use Rattle.std.specs.Prelude.{◌==◌, IsTrue}
-use Rattle.std.proofs.lemmas.Bool.{or_left, or_right}
-use Rattle.driver_laws.specs.Prelude.{played_by, mode_in, IsEvent, State, after, reply_to, Blocks, LeavesRegisters, lent_by, IsLegal, AreEvents, call_in, calls_of, leads_to, call_of, Watched, Entry, OnlyLent, Piece, pieces, sent_by, AllLendApart, Halves, Doer, OwnCall, AllOwn, after_call, is_neither, LendsApart}
-use Rattle.receive_laws.specs.HistoryLaws.Alone.{AllAlone}
-use Rattle.receive_laws.proofs.HistoryLaws.Alone.{alone_by_entries}
+-- Over a whole history each call of either half gets a healthy reply, and no call ends with the device at fault.
+use Rattle.std.proofs.Common.{[], ◌*◌, ◌++◌, ◌∙◌, ◌∷◌, ◌≡◌, ◌≢◌, Bool, List, ap, append_assoc, arith, false, refl}
+use Rattle.std.proofs.Common.{subst, sym, true, ℕ}
+use Rattle.std.specs.Prelude.{◌==◌}
+use Rattle.std.proofs.lemmas.Bool.{both_ways, eqb-false}
+use Rattle.std.proofs.lemmas.List.{append_cancel_left, map-append}
+use Rattle.std.proofs.lemmas.List.Elements.{filter-append}
+use Rattle.driver_laws.specs.Prelude.{AllLendApart, AllOwn, AreSteps, Blocks, Call, Doer, Entry, FindsFault, Halves}
+use Rattle.driver_laws.specs.Prelude.{LendsApart, LendsNone, OnlyLent, Piece, State, Watched, after, after_call}
+use Rattle.driver_laws.specs.Prelude.{call_in, call_of, calls_of, doers_other, is_neither, leads_to, pieces, played_by}
+use Rattle.device_lock.proofs.Histories.{events_before}
+use Rattle.pmd.proofs.Apart.{both_apart, step_apart}
+use Rattle.pmd.specs.Apart.{is_healthy}
 use Rattle.receive_laws.specs.Fitting.{AreFitting}
 use Rattle.receive_laws.specs.Up.{IsUp}
-use Rattle.device_lock.proofs.Histories.{events_before, events_behind, legal_behind}
-use Rattle.receive_laws.proofs.Delivering.{lent_behind}
-use Rattle.driver_laws.specs.Histories.{IsDriven, OthersLeaveAlone, doer_of, doers_after}
-use Rattle.driver_laws.proofs.Meeting.{Meets, driven_meets}
-use Rattle.driver_laws.proofs.Next.{next_by}
-use Rattle.driver_laws.proofs.Fitting.{fitting_after}
-use Rattle.driver_laws.proofs.Runs.{others_leave, one_entry, one_receives_up}
-use Rattle.driver_laws.specs.Healthy as healthy
 use Rattle.driver_laws.specs.Before.{OnlyPassLends}
-use Rattle.driver_laws.specs.Healthy.{IsHealthy, AreHealthy, OwnRepliesAreHealthy}
-use Rattle.driver_laws.proofs.HealthyApart.{apart_by}
-use Rattle.driver_laws.proofs.HealthyStepping.{healthy_call, known_after, no_setting}
-use Rattle.driver_laws.proofs.Unbegun.{unbegun_since}
+use Rattle.driver_laws.specs.Faults.{NoFault, doers_of}
+use Rattle.driver_laws.specs.Healthy as healthy
+use Rattle.driver_laws.specs.Healthy.{AreHealthy, IsHealthy, IsUnshared, OwnRepliesAreHealthy}
+use Rattle.driver_laws.specs.Histories.{IsDriven, doer_of, doers_after}
+use Rattle.driver_laws.proofs.Fitting.{fitting_after, healthy_call, known_after, no_setting, none_apart, unbegun_since}
+use Rattle.driver_laws.proofs.InOrder.{Runs, driven_runs, first_after, first_doer, left_alone, next, one_entry}
+use Rattle.driver_laws.proofs.InOrder.{one_receives_up, own_here, runs_on}
+use Rattle.driver_laws.proofs.Meeting.{Meets, driven_meets}
+
+abbrev pub Parts : Blocks → Halves → List Doer → Entry → Bool → List Call → Type 0
+Parts own h doers e b behind =
+    LendsApart own h (doer_of b doers) e.event
+    × AllLendApart own (after_call h (doer_of b doers) (call_in e)) (doers_after b doers) behind
+
+call_apart : (own : Blocks) (h : Halves) (doers : List Doer) (e : Entry) (calls : List Call)
+    → AllOwn h doers (call_in e ∷ calls) → AllLendApart own h doers (call_in e ∷ calls) → Parts own h doers e true calls
+call_apart own h [] e calls did apart = absurd did
+call_apart own h (d ∷ doers) e calls did apart = apart
+
+pub apart_by : (pass : ℕ) (own : Blocks) (h : Halves) (doers : List Doer) (e : Entry) (es : List Entry) (b : Bool)
+    → (e.pass == pass) ≡ b → AllOwn h doers (calls_of pass (e ∷ es)) → (e.pass ≢ pass → LendsNone own e.event)
+    → AllLendApart own h doers (calls_of pass (e ∷ es)) → Parts own h doers e b (calls_of pass es)
+apart_by pass own h doers e es true is did none apart =
+    let same : calls_of pass (e ∷ es) ≡ call_in e ∷ calls_of pass es = rw is refl in
+    call_apart own h doers e (calls_of pass es) (subst (AllOwn h doers) same did)
+    (subst (AllLendApart own h doers) same apart)
+apart_by pass own h doers e es false is did none apart =
+    let same : calls_of pass (e ∷ es) ≡ calls_of pass es = rw is refl in
+    (none_apart own h e.event (none (eqb-false e.pass pass is)), subst (AllLendApart own h doers) same apart)
 
 -- the calls of a pass, where the first entry's reply is healthy if the entry is the pass's
 
@@ -56,100 +79,164 @@ record Goes (w : Watched) (own : Blocks) (s : State) (out : List Piece) (h : Hal
     here : IsHealthy h d (call_in e)
     rests : Rests w.queue own (after s e.event) (out ++ pieces w.queue s e.event) (after_call h d (call_in e))
 
-module _ (w : Watched) (mine own : Blocks) where
-  one_goes : (s : State) (out : List Piece) (sent : List (List ℕ)) (h : Halves) (d : Doer) (e : Entry)
-      → Meets w mine s out sent h → Rests w.queue own s out h → e.reply ≡ reply_to s e.event → IsEvent e.event
-      → OwnCall h d (call_in e) → (is_neither d ≡ true → LeavesRegisters w (mode_in s.registers) e.event)
-      → LendsApart own h d e.event → IsUp w.queue (after s e.event) → Goes w own s out h d e
-  one_goes s out sent h d e m r legal made did others apart up =
-      let t = after s e.event in
-      let here = subst (λ (x : _). OwnCall h d (call_of e.event x)) legal did in
-      let none = no_setting w mine own s out sent h m r.known e.event made d here others in
+-- the first entry of a history that runs
+module _ {w : Watched} {mine : Blocks} {s : State} {out : List Piece} {sent : List (List ℕ)} {h : Halves}
+    {doers : List Doer} {e : Entry} {es : List Entry} (own : Blocks) (m : Meets w mine s out sent h)
+    (r : Runs w mine s h doers (e ∷ es)) where
+  abbrev d : Doer
+  d = first_doer m r
+
+  -- only those of the numbers are lent that the halves have lent
+  known_on : OnlyLent own (healthy.lent_by h) s.memory → LendsApart own h d e.event
+      → OnlyLent own (healthy.lent_by (first_after m r)) (after s e.event).memory
+  known_on known apart =
+      subst (λ (x : _). OnlyLent own (healthy.lent_by (after_call h d (call_of e.event x))) (after s e.event).memory)
+      (sym r.legal.0)
+      (known_after own m known e.event d (own_here m r) apart)
+
+  one_goes : Rests w.queue own s out h → LendsApart own h d e.event → Goes w own s out h d e
+  one_goes x apart =
+      let here = own_here m r in
+      let others = λ (neither : is_neither d ≡ true). (left_alone m r neither).0 in
+      let none = no_setting own m x.known e.event r.events.0 d here others in
       record {
-        here = subst (λ (x : _). IsHealthy h d (call_of e.event x)) (sym legal)
-            (healthy_call w mine own s out sent h m r.known e.event d here apart r.fit.pieces);
+        here = subst (λ (y : _). IsHealthy h d (call_of e.event y)) (sym r.legal.0)
+            (healthy_call own m x.known e.event d here apart x.fit.pieces);
         rests = record {
-          up = up;
-          fit = fitting_after w mine s out sent h m r.up r.fit d e.event here others none e.reply;
-          known = subst (λ (x : _). OnlyLent own (healthy.lent_by (after_call h d (call_of e.event x))) t.memory)
-              (sym legal) (known_after w mine own s out sent h m r.known e.event d here apart);
+          up = one_receives_up m r x.up;
+          fit = fitting_after m x.up x.fit d e.event here others none e.reply;
+          known = known_on x.known apart;
         };
       }
 
-  along : (s : State) (out : List Piece) (sent : List (List ℕ)) (h : Halves) (doers : List Doer)
-      (es : List Entry) → Meets w mine s out sent h → Rests w.queue own s out h → IsLegal s es → AreEvents es
-      → AllAlone w mine s es → AllOwn h doers (calls_of w.pass es) → OthersLeaveAlone w mine s doers es
-      → ((n : ℕ) → IsTrue (lent_by w.pass es n) → IsTrue (mine n)) → OnlyPassLends w.pass own es
-      → AllLendApart own h doers (calls_of w.pass es) → AreHealthy h doers (calls_of w.pass es)
-  along s out sent h doers [] m r legal events alone did others covers none apart = none_healthy h doers
-  along s out sent h doers (e ∷ es) m r legal events alone did others covers none apart =
+module _ (own : Blocks) where
+  along : {w : Watched} {mine : Blocks} (doers : List Doer) (es : List Entry) {s : State} {out : List Piece}
+      {sent : List (List ℕ)} {h : Halves} → Meets w mine s out sent h → Runs w mine s h doers es
+      → Rests w.queue own s out h → OnlyPassLends w.pass own es → AllLendApart own h doers (calls_of w.pass es)
+      → AreHealthy h doers (calls_of w.pass es)
+  along doers [] {h = h} m r x none apart = none_healthy h doers
+  along {w = w} doers (e ∷ es) {h = h} m r x none apart =
       let b = e.pass == w.pass in
-      let d = doer_of b doers in
-      let next = next_by w.pass h doers e es b refl did in
-      let lends = apart_by w.pass own h doers e es b refl did none.0 apart in
-      let goes = one_goes s out sent h d e m r legal.0 events.0 next.own
-      (λ neither. (others_leave w mine (mode_in s.registers) doers e b refl alone.0 others.0 neither).0) lends.0
-      (one_receives_up w mine s out sent h doers e b refl m legal.0 events.0 alone.0 others.0 next.own r.up) in
-      let then = one_entry w mine s out sent h doers e b refl m legal.0 events.0 alone.0 others.0 next.own
-      (λ n is. covers n (or_left _ _ is)) in
+      let lends = apart_by w.pass own h doers e es b refl r.own none.0 apart in
+      let goes = one_goes own m r x lends.0 in
       all_healthy h doers e es w.pass b refl goes.here
-      (along (after s e.event) (out ++ pieces w.queue s e.event)
-      (sent ++ sent_by w.queue s e.event) (after_call h d (call_in e)) (doers_after b doers) es then goes.rests legal.1
-      events.1 alone.1 next.rest others.1 (λ n is. covers n (or_right _ _ is)) none.1 lends.1)
+      (along (doers_after b doers) es (one_entry m r) (runs_on m r) goes.rests none.1 lends.1)
 
   -- of numbers that no other pass lends only those are lent that the halves have lent
-  knows : (s : State) (out : List Piece) (sent : List (List ℕ)) (h : Halves) (doers : List Doer)
-      (es : List Entry) → Meets w mine s out sent h → OnlyLent own (healthy.lent_by h) s.memory → IsLegal s es
-      → AreEvents es → AllAlone w mine s es → AllOwn h doers (calls_of w.pass es)
-      → OthersLeaveAlone w mine s doers es → ((n : ℕ) → IsTrue (lent_by w.pass es n) → IsTrue (mine n))
-      → OnlyPassLends w.pass own es → AllLendApart own h doers (calls_of w.pass es)
+  knows : {w : Watched} {mine : Blocks} (doers : List Doer) (es : List Entry) {s : State} {out : List Piece}
+      {sent : List (List ℕ)} {h : Halves} → Meets w mine s out sent h → Runs w mine s h doers es
+      → OnlyLent own (healthy.lent_by h) s.memory → OnlyPassLends w.pass own es
+      → AllLendApart own h doers (calls_of w.pass es)
       → OnlyLent own (healthy.lent_by (played_by h doers (calls_of w.pass es))) (leads_to s es).memory
-  knows s out sent h [] [] m known legal events spared did others covers none apart = known
-  knows s out sent h (d ∷ doers) [] m known legal events spared did others covers none apart = absurd did
-  knows s out sent h doers (e ∷ es) m known legal events spared did others covers none apart =
+  knows [] [] m r known none apart = known
+  knows (doer ∷ doers) [] m r known none apart = absurd r.own
+  knows {w = w} doers (e ∷ es) {s = s} {h = h} m r known none apart =
       let b = e.pass == w.pass in
-      let d = doer_of b doers in
-      let t = after s e.event in
-      let next = next_by w.pass h doers e es b refl did in
-      let lends = apart_by w.pass own h doers e es b refl did none.0 apart in
-      let here = subst (λ (x : _). OwnCall h d (call_of e.event x)) legal.0 next.own in
-      let then = one_entry w mine s out sent h doers e b refl m legal.0 events.0 spared.0 others.0 next.own
-      (λ n is. covers n (or_left _ _ is)) in
-      let stays =
-      subst (λ (x : _). OnlyLent own (healthy.lent_by (after_call h d (call_of e.event x))) t.memory) (sym legal.0)
-      (known_after w mine own s out sent h m known e.event d here lends.0) in
-      subst (λ (k : Halves). OnlyLent own (healthy.lent_by k) (leads_to t es).memory) (sym next.played)
-      (knows t (out ++ pieces w.queue s e.event) (sent ++ sent_by w.queue s e.event)
-      (after_call h d (call_in e)) (doers_after b doers) es then stays legal.1 events.1 spared.1 next.rest others.1
-      (λ n is. covers n (or_right _ _ is)) none.1 lends.1)
+      let lends = apart_by w.pass own h doers e es b refl r.own none.0 apart in
+      subst (λ (k : Halves). OnlyLent own (healthy.lent_by k) (leads_to (after s e.event) es).memory)
+      (sym (next m r).played)
+      (knows (doers_after b doers) es (one_entry m r) (runs_on m r) (known_on own m r known lends.0) none.1 lends.1)
 
 pub own_replies_are_healthy : OwnRepliesAreHealthy
 own_replies_are_healthy w origin start rest h doers own x apart =
     let d = x.driven in
-    let before = events_before start rest d.events in
-    along w (lent_by w.pass (start ++ rest)) own (leads_to origin start) [] [] h doers rest (driven_meets d)
-    (record {
+    along own doers rest (driven_meets d) (driven_runs d) (record {
       up = d.up;
       fit = record {
         limit = x.short.limit;
         waiting = x.short.waiting;
-        begun = unbegun_since w.queue origin start d.sound before d.on ∙ (let z : 0 ≡ 2048 * 0 = omega arith in z);
+        begun = unbegun_since w.queue origin start d.sound (events_before start rest d.events) d.on
+            ∙ (let z : 0 ≡ 2048 * 0 = omega arith in z);
         pieces = tt;
       };
       known = x.known;
-    }) (legal_behind origin start rest d.legal)
-    (events_behind start rest d.events) (alone_by_entries w origin start rest d.alone d.begun) d.own d.others
-    (λ n is. lent_behind w.pass n start rest is) x.others apart
+    }) x.others apart
 
 -- so it is of the blocks that are lent, also where no frame is known to fit
 pub known_along : (w : Watched) (origin : State) (start rest : List Entry) (h : Halves) (doers : List Doer)
-    (own : Blocks)
-    → IsDriven w origin start rest h doers → OnlyLent own (healthy.lent_by h) (leads_to origin start).memory
-    → OnlyPassLends w.pass own rest → AllLendApart own h doers (calls_of w.pass rest)
+    (own : Blocks) → IsDriven w origin start rest h doers
+    → OnlyLent own (healthy.lent_by h) (leads_to origin start).memory → OnlyPassLends w.pass own rest
+    → AllLendApart own h doers (calls_of w.pass rest)
     → OnlyLent own (healthy.lent_by (played_by h doers (calls_of w.pass rest)))
     (leads_to (leads_to origin start) rest).memory
-known_along w origin start rest h doers own d known others apart =
-    knows w (lent_by w.pass (start ++ rest)) own (leads_to origin start) [] [] h doers rest (driven_meets d) known
-    (legal_behind origin start rest d.legal) (events_behind start rest d.events)
-    (alone_by_entries w origin start rest d.alone d.begun) d.own d.others (λ n is. lent_behind w.pass n start rest is)
-    others apart
+known_along w origin start rest h doers own d = knows own doers rest (driven_meets d) (driven_runs d)
+
+-- the calls behind some, and the one behind calls of neither half
+
+healthy_behind : (h : Halves) (ds es : List Doer) (ms ns : List Call) → AllOwn h ds ms
+    → AreHealthy h (ds ++ es) (ms ++ ns) → AreHealthy (played_by h ds ms) es ns
+healthy_behind h [] es [] ns own are = are
+healthy_behind h [] es (m ∷ ms) ns own are = absurd own
+healthy_behind h (d ∷ ds) es [] ns own are = absurd own
+healthy_behind h (d ∷ ds) es (m ∷ ms) ns own are = healthy_behind (after_call h d m) ds es ms ns own.1 are.1
+
+last_healthy : (h : Halves) (before : List Call) (d : Doer) (n : Call)
+    → AreHealthy h (doers_other before ++ d ∷ []) (before ++ n ∷ []) → IsHealthy h d n
+last_healthy h [] d n are = are.0
+last_healthy h (m ∷ before) d n are = last_healthy h before d n are.1
+
+-- steps of the device lend nothing, and then comes a call
+last_apart : (own : Blocks) (h : Halves) (before : List Call) (d : Doer) (n : Call) → AreSteps before
+    → LendsApart own h d n.event → AllLendApart own h (doers_other before ++ d ∷ []) (before ++ n ∷ [])
+last_apart own h [] d n steps apart = (apart, tt)
+last_apart own h (m ∷ before) d n steps apart =
+    (step_apart own h m.event steps.0, last_apart own h before d n steps.1 apart)
+
+module _ (w : Watched) (origin : State) (start rest more : List Entry) (h : Halves) (doers : List Doer) (own : Blocks)
+    (old new : List Call) (f : FindsFault own old (played_by h doers (calls_of w.pass rest)) new)
+    (did : AllOwn h doers (calls_of w.pass rest)) (apart : AllLendApart own h doers (calls_of w.pass rest))
+    (made : new ≡ old ++ calls_of w.pass more)
+    (x : IsUnshared w origin start (rest ++ more) h
+    (doers ++ doers_of own old (played_by h doers (calls_of w.pass rest)) new f) own)
+  where
+    abbrev there : Halves
+    there = played_by h doers (calls_of w.pass rest)
+
+    abbrev since : List Call
+    since = f.drives.drives.1
+
+    abbrev last : Call
+    last = call_of f.event f.reply
+
+    abbrev ends : List Doer
+    ends = doers_other f.adds.0 ++ f.doer ∷ []
+
+    joined : calls_of w.pass (rest ++ more) ≡ calls_of w.pass rest ++ calls_of w.pass more
+    joined = rw (filter-append, map-append) refl
+
+    made_last : calls_of w.pass more ≡ since ++ (f.adds.0 ++ last ∷ [])
+    made_last =
+        append_cancel_left old (calls_of w.pass more) (since ++ (f.adds.0 ++ last ∷ []))
+        (sym made ∙ f.adds.1 ∙ ap (λ (calls : List Call). calls ++ (f.adds.0 ++ last ∷ [])) f.drives.drives.2
+        ∙ append_assoc old since (f.adds.0 ++ last ∷ []))
+
+    -- what these calls lend, the last among them
+    end_apart : AllLendApart own (played_by there f.drives.drives.0 since) ends (f.adds.0 ++ last ∷ [])
+    end_apart =
+        subst (λ (k : Halves). AllLendApart own k ends (f.adds.0 ++ last ∷ [])) f.drives.drives.4
+        (last_apart own f.there f.adds.0 f.doer last f.adds.2 f.apart)
+
+    all_apart : AllLendApart own h (doers ++ (f.drives.drives.0 ++ ends)) (calls_of w.pass (rest ++ more))
+    all_apart =
+        subst (AllLendApart own h (doers ++ (f.drives.drives.0 ++ ends))) (sym joined)
+        (both_apart own h doers (f.drives.drives.0 ++ ends) (calls_of w.pass rest) (calls_of w.pass more) did apart
+        (subst (AllLendApart own there (f.drives.drives.0 ++ ends)) (sym made_last)
+        (both_apart own there f.drives.drives.0 ends since (f.adds.0 ++ last ∷ []) f.drives.drives.3 f.drives.apart
+        end_apart)))
+
+    -- the last call's reply is healthy
+    last_is : IsHealthy f.there f.doer last
+    last_is =
+        let all = subst (AreHealthy h (doers ++ (f.drives.drives.0 ++ ends))) joined
+        (own_replies_are_healthy w origin start (rest ++ more) h (doers ++ (f.drives.drives.0 ++ ends)) own x all_apart)
+        in
+        let here = subst (AreHealthy there (f.drives.drives.0 ++ ends)) made_last
+        (healthy_behind h doers (f.drives.drives.0 ++ ends) (calls_of w.pass rest) (calls_of w.pass more) did all) in
+        last_healthy f.there f.adds.0 f.doer last
+        (subst (λ (k : Halves). AreHealthy k ends (f.adds.0 ++ last ∷ [])) (sym f.drives.drives.4)
+        (healthy_behind there f.drives.drives.0 ends since (f.adds.0 ++ last ∷ []) f.drives.drives.3 here))
+
+pub no_fault : NoFault
+no_fault w origin start rest more h doers own old new f did apart made x =
+    both_ways (is_healthy f.there f.doer (call_of f.event f.reply)) f.sick
+    (last_is w origin start rest more h doers own old new f did apart made x)

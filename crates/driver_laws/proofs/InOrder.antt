@@ -1,19 +1,226 @@
 -- What the driver handed out and what it sent, over a history that leaves its queue alone.
-use Rattle.std.proofs.Common.{◌≡◌, List, [], ◌++◌, length, drop, None, sym, ap, ◌∙◌, subst}
-use Rattle.driver_laws.specs.Prelude.{State, lent_by, calls_of, leads_to, Watched, Entry, delivered, pieces_since, bytes_of, sent_in, sent_since, IsUp, Halves, Doer, played_by, packets_if_any, pieces_in, FindsNone, ShowsNone, records_of}
-use Rattle.receive_laws.proofs.HistoryLaws.Alone.{alone_by_entries}
-use Rattle.receive_laws.specs.Delivered as receive
-use Rattle.receive_laws.specs.Pieces.{packets_of}
+use Rattle.std.proofs.Common.{[], ◌&&◌, ◌++◌, ◌∙◌, ◌∷◌, ◌≡◌, Bool, List, None, Some, ap, append_assoc, cond, drop}
+use Rattle.std.proofs.Common.{false, inl, length, nat_lt, refl, subst, sym, true, ℕ}
+use Rattle.std.specs.Prelude.{◌==◌, IsTrue}
+use Rattle.std.proofs.lemmas.Bool.{and_from, eq-eqb, eqb-false, eqb-true, lt-ltb, or_left, or_right}
+use Rattle.std.proofs.lemmas.List.{append-nil}
+use Rattle.driver_laws.specs.Prelude.{AllOwn, AreEvents, Block, Blocks, Call, Doer, Entry, Event, FindsNone, Halves}
+use Rattle.driver_laws.specs.Prelude.{IsEvent, IsLegal, IsUp, LeavesBlocks, LeavesRegisters, OwnCall, Piece, Reply, Rx}
+use Rattle.driver_laws.specs.Prelude.{ShowsNone, State, Tx, Watched, WritesOutside, after, after_call, bytes_of}
+use Rattle.driver_laws.specs.Prelude.{call_in, call_of, calls_of, delivered, is_neither, is_on, leads_to, lends}
+use Rattle.driver_laws.specs.Prelude.{lent_by, mode_in, packets_if_any, pieces, pieces_in, pieces_since, played_by}
+use Rattle.driver_laws.specs.Prelude.{records_of, reply_to, sent_by, sent_in, sent_since}
 use Rattle.device_lock.proofs.Histories.{events_behind, leads-append, legal_behind}
-use Rattle.receive_laws.proofs.Delivering.{lent_behind, since-append}
+use Rattle.nic_device.specs.declared.event.Event.TheVariants as event
+use Rattle.nic_device.specs.declared.event.Reply.TheVariants as reply
+use Rattle.pmd.specs.PmdSeam.Packet.{Kept}
+use Rattle.receive_laws.proofs.Delivering.{between, grows, lent_behind, pieces-append, since-append}
+use Rattle.receive_laws.proofs.HistoryLaws.Alone.{alone_by_entries}
+use Rattle.receive_laws.proofs.HistoryLaws.Steady.{not_again}
+use Rattle.receive_laws.proofs.Mine.{LendsMine}
 use Rattle.receive_laws.proofs.Prefix.{all_taken, drained, handed_first}
-use Rattle.transmit_laws.specs.Laws as transmit
+use Rattle.receive_laws.specs.Delivered as receive
+use Rattle.receive_laws.specs.Delivered.{IsPrefixOf}
+use Rattle.receive_laws.specs.HistoryLaws.Alone.{AllAlone}
+use Rattle.receive_laws.specs.Pieces.{packets_of}
+use Rattle.receive_laws.specs.Up as received
 use Rattle.transmit_laws.proofs.Counting.{sent_is_counted}
-use Rattle.transmit_laws.proofs.Runs.{first_sent, idle-all}
-use Rattle.driver_laws.specs.Histories.{IsDriven, HandedIsPrefix, NoneIsAll, NoneIsAllTaken, SentIsPrefix, IdleIsAllSent, CountedWhereUp}
-use Rattle.driver_laws.proofs.Led.{Led}
-use Rattle.driver_laws.proofs.Meeting.{driven_meets}
-use Rattle.driver_laws.proofs.Runs.{leads}
+use Rattle.transmit_laws.proofs.Runs.{first_sent, idle-all, sent_in-append, waiting-left}
+use Rattle.transmit_laws.specs.Laws as transmit
+use Rattle.transmit_laws.specs.Laws.{FindsWaiting}
+use Rattle.driver_laws.specs.Agreeing.{AreLent, BothAgree}
+use Rattle.driver_laws.specs.Histories.{IsDriven, NoneIsAllBefore, OthersLeaveAlone, doer_of, doers_after}
+use Rattle.driver_laws.specs.Waiting.{WaitingIsNotAll}
+use Rattle.driver_laws.proofs.Meeting.{Meets, doer_keeps, doer_receives_up, doer_stays_up, driven_meets, goes_on}
+
+-- what the pass lends is among these blocks
+pub lends_mine : (pass : ℕ) (mine : Blocks) (own : ℕ) (e : Event Block) (r : Reply Block) → own ≡ pass → IsEvent e
+    → ((n : ℕ) → IsTrue (nat_lt n 65536 && ((own == pass) && lends e r n)) → IsTrue (mine n))
+    → LendsMine mine e r
+lends_mine pass mine own (event.Lend b) reply.Done same made all =
+    all b.number (and_from _ _ (lt-ltb b.number 65536 made.whole.small)
+    (and_from _ _ (eq-eqb own pass same) (eq-eqb b.number b.number refl)))
+lends_mine pass mine own e r same made all = tt
+
+-- the next call, and those behind it
+
+pub record Next (h : Halves) (doers : List Doer) (e : Entry) (b : Bool) (before behind : List Call) : Type 0 where
+  pub own : OwnCall h (doer_of b doers) (call_in e)
+  pub rest : AllOwn (after_call h (doer_of b doers) (call_in e)) (doers_after b doers) behind
+  pub played : played_by h doers before
+      ≡ played_by (after_call h (doer_of b doers) (call_in e)) (doers_after b doers) behind
+
+next_call : (h : Halves) (doers : List Doer) (e : Entry) (calls : List Call) → AllOwn h doers (call_in e ∷ calls)
+    → Next h doers e true (call_in e ∷ calls) calls
+next_call h [] e calls own = absurd own
+next_call h (d ∷ doers) e calls own = record { own = own.0; rest = own.1; played = refl }
+
+pub next_by : (pass : ℕ) (h : Halves) (doers : List Doer) (e : Entry) (es : List Entry) (b : Bool)
+    → (e.pass == pass) ≡ b
+    → AllOwn h doers (calls_of pass (e ∷ es)) → Next h doers e b (calls_of pass (e ∷ es)) (calls_of pass es)
+next_by pass h doers e es true is own =
+    let same : calls_of pass (e ∷ es) ≡ call_in e ∷ calls_of pass es = rw is refl in
+    subst (λ calls. Next h doers e true calls (calls_of pass es)) (sym same)
+    (next_call h doers e (calls_of pass es) (subst (AllOwn h doers) same own))
+next_by pass h doers e es false is own =
+    let same : calls_of pass (e ∷ es) ≡ calls_of pass es = rw is refl in
+    record { own = tt; rest = subst (AllOwn h doers) same own; played = ap (played_by h doers) same }
+
+-- where a history leads from a place where the device and both halves agree
+
+-- the device agrees with both halves there, which have lent these blocks; and a side that was up is so
+pub record Led (w : Watched) (mine : Blocks) (s : State) (out : List Piece) (sent : List (List ℕ)) (es : List Entry)
+    (k : Halves) : Type 0 where
+  pub both : BothAgree w.queue (leads_to s es) (out ++ pieces_in w.queue s es) (sent ++ sent_in w.queue s es) k
+  pub lent : AreLent mine k
+  pub receives : received.IsUp w.queue s → received.IsUp w.queue (leads_to s es)
+  pub sends : IsUp w.queue s → IsUp w.queue (leads_to s es)
+  pub since : received.IsUp w.queue s → (so_far : List Piece)
+      → pieces_since w.queue s (Some so_far) es ≡ Some (so_far ++ pieces_in w.queue s es)
+  pub counted : IsUp w.queue s → (so_far : List (List ℕ))
+      → sent_since w.queue s so_far es ≡ so_far ++ sent_in w.queue s es
+
+pub ended : (w : Watched) (mine : Blocks) (s : State) (out : List Piece) (sent : List (List ℕ)) (h : Halves)
+    → BothAgree w.queue s out sent h → AreLent mine h → Led w mine s out sent [] h
+ended w mine s out sent h both lent = record {
+  both =
+      subst (λ xs. BothAgree w.queue s xs (sent ++ []) h) (sym (append-nil out))
+      (subst (λ ys. BothAgree w.queue s out ys h) (sym (append-nil sent)) both);
+  lent = lent;
+  receives = λ up. up;
+  sends = λ up. up;
+  since = λ up so_far. ap (λ xs. Some xs) (sym (append-nil so_far));
+  counted = λ up so_far. sym (append-nil so_far);
+}
+
+pub led_on : (w : Watched) (mine : Blocks) (s : State) (out : List Piece) (sent : List (List ℕ)) (e : Entry)
+    (es : List Entry) (k : Halves) → (received.IsUp w.queue s → received.IsUp w.queue (after s e.event))
+    → (IsUp w.queue s → IsUp w.queue (after s e.event))
+    → Led w mine (after s e.event) (out ++ pieces w.queue s e.event) (sent ++ sent_by w.queue s e.event) es k
+    → Led w mine s out sent (e ∷ es) k
+led_on w mine s out sent e es k receives stays l =
+    let t = after s e.event in
+    let ps = pieces w.queue s e.event in
+    let fs = sent_by w.queue s e.event in
+    record {
+      both =
+          subst (λ xs. BothAgree w.queue (leads_to t es) xs (sent ++ (fs ++ sent_in w.queue t es)) k)
+          (append_assoc out ps (pieces_in w.queue t es))
+          (subst (λ ys. BothAgree w.queue (leads_to t es) ((out ++ ps) ++ pieces_in w.queue t es) ys k)
+          (append_assoc sent fs (sent_in w.queue t es)) l.both);
+      lent = l.lent;
+      receives = λ up. l.receives (receives up);
+      sends = λ up. l.sends (stays up);
+      since = λ up so_far.
+          ap (λ b. pieces_since w.queue t (cond b (Some []) (Some (so_far ++ ps))) es)
+          (not_again (is_on s.registers Rx w.queue) (is_on t.registers Rx w.queue) (inl up.on))
+          ∙ l.since (receives up) (so_far ++ ps) ∙ ap (λ xs. Some xs) (append_assoc so_far ps (pieces_in w.queue t es));
+      counted = λ up so_far.
+          ap (λ b. sent_since w.queue t (cond b [] (so_far ++ fs)) es)
+          (not_again (is_on s.registers Tx w.queue) (is_on t.registers Tx w.queue) (inl up.on))
+          ∙ l.counted (stays up) (so_far ++ fs) ∙ append_assoc so_far fs (sent_in w.queue t es);
+    }
+
+-- entries of a history behind a place where the halves meet the device: it is legal, leaves the queue and these blocks
+-- alone but for the halves, whose calls the doers make in turn, and the pass lends these blocks alone
+pub record Runs (w : Watched) (mine : Blocks) (s : State) (h : Halves) (doers : List Doer) (es : List Entry) : Type 0
+  where
+    pub legal : IsLegal s es
+    pub events : AreEvents es
+    pub alone : AllAlone w mine s es
+    pub own : AllOwn h doers (calls_of w.pass es)
+    pub others : OthersLeaveAlone w mine s doers es
+    pub covers : (n : ℕ) → IsTrue (lent_by w.pass es n) → IsTrue (mine n)
+
+-- so do those of a driven history
+pub driven_runs : {w : Watched} {origin : State} {start rest : List Entry} {h : Halves} {doers : List Doer}
+    → IsDriven w origin start rest h doers
+    → Runs w (lent_by w.pass (start ++ rest)) (leads_to origin start) h doers rest
+driven_runs {w = w} {origin = origin} {start = start} {rest = rest} d = record {
+  legal = legal_behind origin start rest d.legal;
+  events = events_behind start rest d.events;
+  alone = alone_by_entries w origin start rest d.alone d.begun;
+  own = d.own;
+  others = d.others;
+  covers = λ n is. lent_behind w.pass n start rest is;
+}
+
+-- the first of them
+module _ {w : Watched} {mine : Blocks} {s : State} {out : List Piece} {sent : List (List ℕ)} {h : Halves}
+    {doers : List Doer} {e : Entry} {es : List Entry} (m : Meets w mine s out sent h)
+    (r : Runs w mine s h doers (e ∷ es)) where
+  abbrev pub first_doer : Doer
+  first_doer = doer_of (e.pass == w.pass) doers
+
+  abbrev pub first_after : Halves
+  first_after = after_call h first_doer (call_in e)
+
+  pub next : Next h doers e (e.pass == w.pass) (calls_of w.pass (e ∷ es)) (calls_of w.pass es)
+  next = next_by w.pass h doers e es (e.pass == w.pass) refl r.own
+
+  pub runs_on : Runs w mine (after s e.event) first_after (doers_after (e.pass == w.pass) doers) es
+  runs_on = record {
+    legal = r.legal.1;
+    events = r.events.1;
+    alone = r.alone.1;
+    own = next.rest;
+    others = r.others.1;
+    covers = λ n is. r.covers n (or_right _ _ is);
+  }
+
+  steps : WritesOutside w.queue mine (reply_to s e.event)
+  steps = subst (WritesOutside w.queue mine) r.legal.0 r.alone.0.steps
+
+  pub own_here : OwnCall h first_doer (call_of e.event (reply_to s e.event))
+  own_here = subst (λ x. OwnCall h first_doer (call_of e.event x)) r.legal.0 next.own
+
+  -- one that is neither half's leaves the queue alone
+  pub left_alone : is_neither first_doer ≡ true
+      → LeavesRegisters w (mode_in s.registers) e.event × LeavesBlocks mine e.event
+  left_alone = by_pass (e.pass == w.pass) refl
+    where
+      by_pass : (b : Bool) → (e.pass == w.pass) ≡ b → is_neither (doer_of b doers) ≡ true
+          → LeavesRegisters w (mode_in s.registers) e.event × LeavesBlocks mine e.event
+      by_pass true is neither = r.others.0 (eqb-true e.pass w.pass is) neither
+      by_pass false is neither =
+          let other = eqb-false e.pass w.pass is in (r.alone.0.registers other, r.alone.0.blocks other)
+
+  -- and one of a half is of the pass
+  own_lends : is_neither first_doer ≡ false → LendsMine mine e.event e.reply
+  own_lends = by_pass (e.pass == w.pass) refl
+    where
+      by_pass : (b : Bool) → (e.pass == w.pass) ≡ b → is_neither (doer_of b doers) ≡ false
+          → LendsMine mine e.event e.reply
+      by_pass true is half =
+          lends_mine w.pass mine e.pass e.event e.reply (eqb-true e.pass w.pass is) r.events.0
+          (λ n is. r.covers n (or_left _ _ is))
+      by_pass false is half = cc
+
+  pub one_entry : Meets w mine (after s e.event) (out ++ pieces w.queue s e.event) (sent ++ sent_by w.queue s e.event)
+      first_after
+  one_entry =
+      let keeps = doer_keeps m e.event r.events.0 steps first_doer own_here left_alone
+      (λ half. subst (λ x. LendsMine mine e.event x) r.legal.0 (own_lends half)) in
+      subst (λ x. Meets w mine (after s e.event) (out ++ pieces w.queue s e.event)
+      (sent ++ sent_by w.queue s e.event) (after_call h first_doer (call_of e.event x))) (sym r.legal.0)
+      (goes_on m e.event r.events.0 steps (after_call h first_doer (call_of e.event (reply_to s e.event))) keeps)
+
+  pub one_receives_up : received.IsUp w.queue s → received.IsUp w.queue (after s e.event)
+  one_receives_up = doer_receives_up m e.event r.events.0 steps first_doer own_here left_alone
+
+  one_stays_up : IsUp w.queue s → IsUp w.queue (after s e.event)
+  one_stays_up = doer_stays_up m e.event r.events.0 steps first_doer own_here left_alone
+
+pub leads : {w : Watched} {mine : Blocks} (doers : List Doer) (es : List Entry) {s : State} {out : List Piece}
+    {sent : List (List ℕ)} {h : Halves} → Meets w mine s out sent h → Runs w mine s h doers es
+    → Led w mine s out sent es (played_by h doers (calls_of w.pass es))
+leads {w = w} {mine = mine} [] [] {s = s} {out = out} {sent = sent} {h = h} m r =
+    ended w mine s out sent h m.both m.lent
+leads (d ∷ doers) [] m r = absurd r.own
+leads {w = w} {mine = mine} doers (e ∷ es) {s = s} {out = out} {sent = sent} m r =
+    subst (Led w mine s out sent (e ∷ es)) (sym (next m r).played)
+    (led_on w mine s out sent e es _ (one_receives_up m r) (one_stays_up m r)
+    (leads (doers_after (e.pass == w.pass) doers) es (one_entry m r) (runs_on m r)))
 
 module _ (w : Watched) (origin : State) (start rest : List Entry) (h : Halves) (doers : List Doer)
     (d : IsDriven w origin start rest h doers) where
@@ -24,65 +231,70 @@ module _ (w : Watched) (origin : State) (start rest : List Entry) (h : Halves) (
   last = played_by h doers (calls_of w.pass rest)
 
   pub led : Led w (lent_by w.pass (start ++ rest)) here [] [] rest last
-  led =
-      leads w (lent_by w.pass (start ++ rest)) here [] [] h doers rest (driven_meets d)
-      (legal_behind origin start rest d.legal) (events_behind start rest d.events)
-      (alone_by_entries w origin start rest d.alone d.begun) d.own d.others (λ n is. lent_behind w.pass n start rest is)
+  led = leads doers rest (driven_meets d) (driven_runs d)
 
   pub delivered_is : delivered w.queue origin (start ++ rest) ≡ packets_of (pieces_in w.queue here rest)
   delivered_is =
       ap packets_if_any (since-append w.queue origin None start rest
       ∙ ap (λ so_far. pieces_since w.queue here so_far rest) d.on ∙ led.since d.up [])
 
-  handed : receive.IsPrefixOf last.receive.handed (delivered w.queue origin (start ++ rest))
-  handed =
+  pub handed_is_prefix : receive.IsPrefixOf last.receive.handed (delivered w.queue origin (start ++ rest))
+  handed_is_prefix =
       subst (receive.IsPrefixOf last.receive.handed) (sym delivered_is)
       (handed_first w.queue (leads_to here rest) (pieces_in w.queue here rest) last.receive led.both.receive)
 
-  taken : ShowsNone (leads_to origin (start ++ rest)) last.receive
+  pub none_is_all_taken : ShowsNone (leads_to origin (start ++ rest)) last.receive
       → last.receive.handed ++ records_of last.receive.whole ≡ delivered w.queue origin (start ++ rest)
-  taken shows =
+  none_is_all_taken shows =
       sym (all_taken w.queue (leads_to here rest) (pieces_in w.queue here rest) last.receive led.both.receive
       (subst (λ s. ShowsNone s last.receive) (leads-append origin start rest) shows))
       ∙ sym delivered_is
 
-  none_left : FindsNone (leads_to origin (start ++ rest)) last.receive
+  pub none_is_all : FindsNone (leads_to origin (start ++ rest)) last.receive
       → last.receive.handed ≡ delivered w.queue origin (start ++ rest)
-  none_left finds =
+  none_is_all finds =
       sym (drained w.queue (leads_to here rest) (pieces_in w.queue here rest) last.receive led.both.receive
       (subst (λ s. FindsNone s last.receive) (leads-append origin start rest) finds))
       ∙ sym delivered_is
 
-  sent : transmit.IsPrefixOf (sent_in w.queue here rest) (bytes_of last.transmit.accepted)
-  sent =
+  pub sent_is_prefix : transmit.IsPrefixOf (sent_in w.queue here rest) (bytes_of last.transmit.accepted)
+  sent_is_prefix =
       let (f, agrees) = led.both.transmit in
       first_sent (leads_to here rest) w.queue (sent_in w.queue here rest) last.transmit.layout.limit
       (drop f last.transmit.outstanding) last.transmit.accepted agrees.sends
 
-  idle : last.transmit.outstanding ≡ [] → bytes_of last.transmit.accepted ≡ sent_in w.queue here rest
-  idle none =
+  pub idle_is_all_sent : last.transmit.outstanding ≡ [] → bytes_of last.transmit.accepted ≡ sent_in w.queue here rest
+  idle_is_all_sent none =
       let (f, agrees) = led.both.transmit in
       idle-all (leads_to here rest) w.queue (sent_in w.queue here rest) last.transmit f agrees (ap length none)
 
-  counted : IsUp w.queue here
+  pub counted_where_up : IsUp w.queue here
       → sent_since w.queue origin [] (start ++ rest) ≡ sent_since w.queue origin [] start ++ sent_in w.queue here rest
-  counted up =
+  counted_where_up up =
       sent_is_counted.joined w.queue origin [] start rest ∙ led.counted up (sent_since w.queue origin [] start)
 
-pub handed_is_prefix : HandedIsPrefix
-handed_is_prefix = handed
+pub none_is_all_before : NoneIsAllBefore
+none_is_all_before w origin start before rest h early doers d e finds same =
+    let here : State = leads_to origin start in
+    let whole : pieces_in w.queue here (before ++ rest)
+    ≡ pieces_in w.queue here before ++ pieces_in w.queue (leads_to here before) rest =
+    pieces-append w.queue here before rest in
+    between (played_by h early (calls_of w.pass before)).receive.handed
+    (delivered w.queue origin (start ++ before))
+    (delivered w.queue origin (start ++ (before ++ rest)))
+    (handed_is_prefix w origin start before h early d)
+    (subst (λ (ks : List Kept). IsPrefixOf ks (delivered w.queue origin (start ++ (before ++ rest))))
+    (sym (delivered_is w origin start before h early d))
+    (subst (IsPrefixOf (packets_of (pieces_in w.queue here before)))
+    (sym (delivered_is w origin start (before ++ rest) h doers e ∙ ap (λ (ps : List Piece). packets_of ps) whole))
+    (grows [] (pieces_in w.queue here before) (pieces_in w.queue (leads_to here before) rest))))
+    (sym (none_is_all w origin start (before ++ rest) h doers e finds) ∙ same)
 
-pub none_is_all_taken : NoneIsAllTaken
-none_is_all_taken = taken
-
-pub none_is_all : NoneIsAll
-none_is_all = none_left
-
-pub sent_is_prefix : SentIsPrefix
-sent_is_prefix = sent
-
-pub idle_is_all_sent : IdleIsAllSent
-idle_is_all_sent = idle
-
-pub counted_where_up : CountedWhereUp
-counted_where_up = counted
+pub waiting_is_not_all : WaitingIsNotAll
+waiting_is_not_all w origin start rest more h doers d finds =
+    let here : State = leads_to origin start in
+    let last : Halves = played_by h doers (calls_of w.pass (rest ++ more)) in
+    waiting-left (leads_to here (rest ++ more)) w.queue (sent_in w.queue here (rest ++ more)) last.transmit
+    (led w origin start (rest ++ more) h doers d).both.transmit
+    (subst (λ s. FindsWaiting s last.transmit) (leads-append origin start (rest ++ more)) finds)
+    (sent_in w.queue here rest) (sent_in w.queue (leads_to here rest) more) (sent_in-append w.queue here rest more)

@@ -1,30 +1,128 @@
--- What a move of the transmit half leaves: all blocks but its own, and the receive side.
-use Rattle.std.proofs.Common.{◌≡◌, ◌≢◌, ℕ, suc, ◌+◌, ◌/◌, ◌<◌, Bool, true, false, List, [], ◌∷◌, length, take, inl, inr, refl, sym, ap, ◌∙◌, subst, arith}
+-- What an event of one half's own leaves: all blocks but its own, and the other side; and so do steps of the device.
+use Rattle.std.proofs.Common.{[], ◌*◌, ◌+◌, ◌/◌, ◌<◌, ◌^◌, ◌∙◌, ◌∷◌, ◌≡◌, ◌≢◌, Bool, List, None, Option, Some, ap}
+use Rattle.std.proofs.Common.{arith, cond, false, inl, inr, length, refl, subst, suc, sym, take, true, ℕ}
+use Rattle.std.specs.Prelude.{◌==◌, IsTrue, slice_index_or}
+use Rattle.std.proofs.lemmas.Bool.{cases_eq, eqb-true, or_cases}
+use Rattle.std.proofs.lemmas.List.{get_or-take, length-take-le}
 use Rattle.std.specs.FinMap as map
 use Rattle.std.specs.List.{list_any}
-use Rattle.std.specs.Prelude.{◌==◌, IsTrue, slice_index_or}
-use Rattle.std.proofs.lemmas.Bool.{or_cases, eqb-true}
-use Rattle.std.proofs.lemmas.List.{get_or-take, length-take-le}
-use Rattle.driver_laws.specs.Prelude.{Block, has_block, place, named, State, after, Event, Register, WritesNoSetting, Receive, Sender, Move, Accepts, Lends, Asks, Advances, Reaps, Elsewhere, has_lent, LeavesBlock, is_ring_block, Looks}
-use Rattle.nic_device.specs.DmaArena.Memory.{Avoids}
+use Rattle.driver_laws.specs.Prelude.{Accepts, Advances, Agree, Asks, Block, Blocks, Elsewhere, Event, IsEvent, IsSound}
+use Rattle.driver_laws.specs.Prelude.{LeavesBlock, Lends, Looks, Move, Piece, Port, Rdt, Reaps, Receive, Register}
+use Rattle.driver_laws.specs.Prelude.{Reply, Sender, State, Tx, WritesNoSetting, WritesOutside, after, has_bit}
+use Rattle.driver_laws.specs.Prelude.{has_block, has_lent, is_ring_block, named, place, reply_to}
 use Rattle.nic_device.proofs.DmaArena.Inside.{inside_avoids}
-use Rattle.nic_device.specs.RegTable.declared.rows.RowId.TheVariants.{Tdt}
+use Rattle.nic_device.proofs.DmaRing.Fields.{halves_come_back}
+use Rattle.nic_device.specs.DmaArena.Memory.{Avoids}
+use Rattle.nic_device.specs.DmaRing.Driver.{posted}
+use Rattle.nic_device.specs.DmaRing.Ring.{descriptor_address}
+use Rattle.nic_device.specs.RegTable.declared.rows.RowId.TheVariants.{Tdt, Tdwbah, Tdwbal}
+use Rattle.nic_device.specs.RegisterFile.Queue.{ring_of}
+use Rattle.nic_device.specs.RegisterFile.Registers.{word_of}
 use Rattle.nic_device.specs.declared.event.Event.TheVariants as event
-use Rattle.receive_laws.specs.DeviceLaws.Leaving.{LeavesReceive}
+use Rattle.nic_device.specs.declared.event.Reply.TheVariants.{Wrote}
+use Rattle.pmd.proofs.PmdSeam.Rings.{each_ring_block, slot_block, slot_lies}
+use Rattle.pmd.specs.PmdRx.Receive as receiving
+use Rattle.pmd.specs.PmdRx.Receive.{MovesNext, NamesNext, TakesNext, block_at, fresh_of, reach, vacant}
+use Rattle.pmd.specs.PmdTx.Sending.{IsOwn, Segment, blocks_of, descriptor_at, no_segment, segment_at, slot_at}
 use Rattle.receive_laws.proofs.DeviceLaws.KeptSettings.{settings_stand}
+use Rattle.receive_laws.proofs.DeviceLaws.RepliesSent.{transmitting_tells}
 use Rattle.receive_laws.proofs.DeviceLaws.Standing.{memory_blocks, memory_rest, stays_within}
 use Rattle.receive_laws.proofs.DeviceLaws.StandingAccesses.{write_memory, write_rest}
-use Rattle.pmd.proofs.PmdSeam.Rings.{each_ring_block, slot_block, slot_lies}
-use Rattle.pmd.specs.PmdTx.Sending.{Segment, IsOwn, blocks_of, no_segment, segment_at, slot_at}
-use Rattle.receive_laws.specs.Steps.{Each, Leaves}
-use Rattle.receive_laws.proofs.Each.{each_map}
-use Rattle.transmit_laws.specs.Agreeing.{AgreesAt}
+use Rattle.receive_laws.proofs.DeviceLaws.StandingQueues.{receiving_rest}
+use Rattle.receive_laws.proofs.Each.{each_map, each_posted}
+use Rattle.receive_laws.proofs.HistoryLaws.Blocks.{clear_outside}
+use Rattle.receive_laws.proofs.HistoryLaws.Reported.{reported}
+use Rattle.receive_laws.proofs.HistoryLaws.SideNames.{plain-write}
+use Rattle.receive_laws.proofs.HistoryLaws.Spared.{IsSparedBy, spared_block}
+use Rattle.receive_laws.proofs.Inside.{piece_inside}
+use Rattle.receive_laws.proofs.Kept.{slot_below}
+use Rattle.receive_laws.proofs.Parts.{seen_within}
+use Rattle.receive_laws.specs.DeviceLaws.Leaving.{LeavesReceive, LeavesTransmit}
+use Rattle.receive_laws.specs.DeviceLaws.Replies.{report_of}
+use Rattle.receive_laws.specs.Joint.{Holds, IsNamed}
+use Rattle.receive_laws.specs.Steps.{Each, IsOutside, Leaves, OwnReportsSpare}
 use Rattle.transmit_laws.proofs.Advancing.{setting_kept}
 use Rattle.transmit_laws.proofs.Blocks.{has_lent-ring, has_lent-segment}
-use Rattle.transmit_laws.proofs.Slots.{slot-below}
 use Rattle.transmit_laws.proofs.Fetching.{length-asking}
-use Rattle.driver_laws.proofs.Each.{each_both}
-use Rattle.driver_laws.proofs.Lending.{lend_leaves}
+use Rattle.transmit_laws.proofs.Slots.{slot-below}
+use Rattle.transmit_laws.proofs.Stepping.{head_is}
+use Rattle.transmit_laws.specs.Agreeing.{AgreesAt}
+use Rattle.transmit_laws.specs.Sparing.{Spares}
+use Rattle.driver_laws.proofs.Lending.{each_both, lend_leaves}
+
+-- the register of a write of the receive half's
+
+module _ (s : State) (queue : ℕ) (v : Receive) (name : IsNamed s queue v.layout) (port : Port) (number word : ℕ) where
+  pub writes_tail : MovesNext v port number word → named s port number ≡ Register (place Rdt queue) 0xFFFFFFFF
+  writes_tail own = rw (own.port_is, own.number_is) name.tail
+
+  transmit_left : named s port number ≡ Register (place Rdt queue) 0xFFFFFFFF
+      → LeavesTransmit queue s (after s (event.Write port number word))
+  transmit_left here =
+      (write_rest s port number word (place Rdt queue) 0xFFFFFFFF here refl refl).transmit queue (λ e. cc)
+
+module _ (queue : ℕ) (s : State) (out : List Piece) (v : Receive) (gone here : List Piece)
+    (h : Holds queue s out v gone here) where
+  -- blocks
+
+  module _ (number : ℕ) (has : has_block s.memory number ≡ true) (away : Each v (λ b. b ≢ number)) where
+    take_leaves : (n : ℕ) → TakesNext v n → LeavesBlock number s (after s (event.Take n))
+    take_leaves n own =
+        let some = own.some in
+        let seen = seen_within v.seen here h.order.seen in
+        let within = h.posted in
+        memory_blocks.take s n number
+        (λ e.
+        each_posted v (λ b. b ≢ number) away 0 (omega (arith, some, seen, within)) (sym (e ∙ own.block)))
+
+    name_leaves : (a : ℕ) (bytes : List ℕ) → NamesNext v a bytes → LeavesBlock number s (after s (event.Poke16 a bytes))
+    name_leaves a bytes own =
+        let l = reach v in
+        let slot : ℕ = receiving.slot_at l (vacant l) in
+        let size : length bytes ≡ 16 =
+        ap length own.bytes_are ∙ (halves_come_back (posted (2048 * fresh_of v.stage)) 0).size in
+        memory_blocks.poke s a bytes number
+        (subst (Avoids number a) (sym size)
+        (inside_avoids (l.ring + slot / 128) number a 16 (rw own.address (slot_lies l.ring slot))
+        (λ e.
+        away.ring (slot / 128) (slot_block l.size slot (slot_below l (vacant l) h.ring (omega arith))) (sym e))))
+
+    own_leaves : (e : Event Block) → receiving.IsOwn v e → LeavesBlock number s (after s e)
+    own_leaves (event.Peek16 a) own = (stays_within s (event.Peek16 a)).blocks number refl
+    own_leaves (event.Take n) own = take_leaves n own
+    own_leaves (event.Lend b) own = lend_leaves s b number has
+    own_leaves (event.Poke16 a bytes) own = name_leaves a bytes own
+    own_leaves (event.Write port n word) own = ap (λ m. map.get m number) (write_memory s port n word)
+    own_leaves e own = absurd own
+
+  -- registers
+
+  own_setting : (e : Event Block) → receiving.IsOwn v e → WritesNoSetting s e
+  own_setting (event.Write port n word) own =
+      plain-write s port n word (place Rdt queue) 0xFFFFFFFF (writes_tail s queue v h.named port n word own) refl
+  own_setting e own = tt
+
+  own_side : (e : Event Block) → receiving.IsOwn v e → LeavesTransmit queue s (after s e)
+  own_side (event.Write port n word) own =
+      transmit_left s queue v h.named port n word (writes_tail s queue v h.named port n word own)
+  own_side (event.Peek16 a) own = (memory_rest.peek s a).queues.transmit queue
+  own_side (event.Take n) own = (memory_rest.take s n).queues.transmit queue
+  own_side (event.Lend b) own = (memory_rest.lend s b).queues.transmit queue
+  own_side (event.Poke16 a bytes) own = (memory_rest.poke s a bytes).queues.transmit queue
+  own_side e own = absurd own
+
+  -- so it spares the driver's transmit half
+  pub own_spares : (u : Sender) → ((number : ℕ) → IsTrue (has_lent u number) → has_block s.memory number ≡ true)
+      → ((number : ℕ) → IsTrue (has_lent u number) → Each v (λ b. b ≢ number)) → (e : Event Block) → IsEvent e
+      → receiving.IsOwn v e → Spares queue u s e
+  own_spares u lent apart e made own = record {
+    made = made;
+    setting = own_setting e own;
+    side = λ other switch. own_side e own;
+    blocks = λ other number is. own_leaves number (lent number is) (apart number is) e own;
+  }
+
+-- a move of the transmit half
 
 abbrev pub is_elsewhere : Move → Bool
 is_elsewhere Elsewhere = true
@@ -82,13 +180,11 @@ module _ (s : State) (queue : ℕ) (sent : List (List ℕ)) (u : Sender) (f : �
         memory_blocks.take s n number
         (λ e. away (segment_at u 0).block (has_lent-segment u 0 c.lent_known known) (e ∙ own.1))
 
-    move_leaves : (m : Move) (e : Event Block) → is_elsewhere m ≡ false → IsOwn u m e
-        → LeavesBlock number s (after s e)
+    move_leaves : (m : Move) (e : Event Block) → is_elsewhere m ≡ false → IsOwn u m e → LeavesBlock number s (after s e)
     move_leaves (Accepts p) (event.Lend b) real own = lend_leaves s b number has
     move_leaves Lends (event.Lend b) real own = lend_leaves s b number has
     move_leaves Asks (event.Poke16 a bytes) real own = ask_leaves a bytes own
-    move_leaves Advances (event.Write port n word) real own =
-        ap (λ m. map.get m number) (write_memory s port n word)
+    move_leaves Advances (event.Write port n word) real own = ap (λ m. map.get m number) (write_memory s port n word)
     move_leaves Looks (event.Peek16 a) real own = (stays_within s (event.Peek16 a)).blocks number refl
     move_leaves Reaps (event.Take n) real own = reap_leaves n own
     move_leaves Elsewhere e real own = cc
@@ -126,3 +222,69 @@ module _ (s : State) (queue : ℕ) (sent : List (List ℕ)) (u : Sender) (f : �
         (λ b. LeavesBlock b s (after s e)) (λ b both. move_leaves b both.0 both.1 m e real own)
         (each_both v (λ b. has_block s.memory b ≡ true) (λ b. (n : ℕ) → IsTrue (has_lent u n) → b ≢ n) lent apart);
   }
+
+-- steps of the device on the driver's own queue: one of receiving writes into blocks that the receive half has lent,
+-- and what one of transmitting reports goes into the transmit ring's blocks
+
+
+module _ (queue : ℕ) (mine : Blocks) (s : State) (sound : IsSound s) (out : List Piece) (v : Receive)
+    (j : Agree queue s out v) (outside : WritesOutside queue mine (reply_to s event.RxStep)) where
+  -- what is received is outside a block of the other half's
+  told_outside : (n : ℕ) → IsTrue (mine n) → Each v (λ b. b ≢ n) → (r : Reply Block) → reply_to s event.RxStep ≡ r
+      → WritesOutside queue mine r → IsSparedBy r n
+  told_outside n is away (Wrote on slot end desc at len) told left =
+      elim (cases_eq on queue) as (λ _. IsOutside desc at len n) [
+        | inl own ↦
+            let here = piece_inside queue s out v sound j slot end desc at len
+            (subst (λ q. reply_to s event.RxStep ≡ Wrote q slot end desc at len) own told) in
+            record {
+              descriptor = inside_avoids (v.layout.ring + here.descriptor.part) n desc 16 here.descriptor.descriptor
+                  (λ e. away.ring here.descriptor.part here.descriptor.known (sym e));
+              bytes = λ some.
+                  inside_avoids (block_at v.layout here.slot) n at len here.bytes
+                  (λ e. each_posted v (λ b. b ≢ n) away here.slot here.known (sym e));
+            }
+        | inr ne ↦ clear_outside mine desc at len n (left ne) is
+      ]
+  told_outside n is away other told left = tt
+
+  -- so it spares the transmit half
+  pub received_spares : (u : Sender) → ((n : ℕ) → IsTrue (has_lent u n) → IsTrue (mine n))
+      → ((n : ℕ) → IsTrue (has_lent u n) → Each v (λ b. b ≢ n)) → Spares queue u s event.RxStep
+  received_spares u lent apart = record {
+    made = tt;
+    setting = tt;
+    side = λ other switch. (receiving_rest s).transmit queue;
+    blocks = λ other n is.
+        spared_block s n (told_outside n (lent n is) (apart n is) (reply_to s event.RxStep) refl outside);
+  }
+
+none_written_back : (b : Bool) (x : ℕ) → ◌≡◌ {A = Option ℕ} (cond b (Some x) None) None → b ≡ false
+none_written_back true x e = cc
+none_written_back false x e = refl
+
+in_block : (ring slot : ℕ) → (2048 * ring + 16 * slot) / 2048 ≡ ring + slot / 128
+in_block ring slot = omega arith
+
+-- what the queue's own transmit side reports is in a block of its ring
+pub reports_spare : (s : State) (queue : ℕ) (sent : List (List ℕ)) (u : Sender) (f : ℕ) → AgreesAt s queue sent u f
+    → (v : Receive) → ((n : ℕ) → IsTrue (has_lent u n) → Each v (λ b. b ≢ n)) → OwnReportsSpare queue v s
+reports_spare s queue sent u f h v apart back told =
+    let l = u.layout in
+    let r = s.registers in
+    let ring = ring_of r Tx queue in
+    let low = none_written_back (has_bit 0 (word_of r Tdwbal queue))
+    (word_of r Tdwbah queue * 2 ^ 32 + 4 * (word_of r Tdwbal queue / 4)) h.set_up.writeback in
+    let at = reported queue (reply_to s (event.TxStep queue)) s (after s (event.TxStep queue))
+    (transmitting_tells s h.based.sound queue) back told in
+    let head : report_of r queue ≡ descriptor_at l f =
+    ap (λ b. cond b (word_of r Tdwbah queue * 2 ^ 32 + 4 * (word_of r Tdwbal queue / 4))
+    (descriptor_address ring ring.head)) low
+    ∙ head_is s queue sent u f h in
+    let c = h.counted in
+    let below = slot-below l h.based.layout f
+    (omega (arith, c.fetched_posted, c.posted_poked, c.poked_lent, c.lent_known, c.room)) in
+    let part : ℕ = l.ring + slot_at l f / 128 in
+    let here : back / 2048 ≡ part = ap (λ a. a / 2048) (at ∙ head) ∙ in_block l.ring (slot_at l f) in
+    each_map v (λ b. b ≢ part) (λ b. b ≢ back / 2048) (λ b ne e. ne (e ∙ here))
+    (apart part (has_lent-ring u (slot_at l f / 128) (slot_block l.size (slot_at l f) below)))

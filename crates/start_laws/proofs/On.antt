@@ -1,41 +1,57 @@
--- Once both sides went on the device and the driver agree on both.
-use Rattle.std.proofs.Common.{◌≡◌, ◌≢◌, ℕ, ◌+◌, true, List, [], refl, sym, ap, subst}
-use Rattle.nic_device.specs.DmaArena.Numbers.{Numbers}
-use Rattle.nic_device.specs.RegTable.declared.rows.RowId.TheVariants.{Rdt, Tdt}
-use Rattle.nic_device.specs.DmaRing.declared.dir.Dir.TheVariants.{Rx, Tx}
-use Rattle.nic_device.specs.Sound.{IsSound}
-use Rattle.nic_device.specs.State.{State}
-use Rattle.device_lock.specs.History.{AreEvents}
-use Rattle.device_lock.specs.Alone.{lent_by}
-use Rattle.device_lock.specs.declared.alone.Watched.{Watched}
-use Rattle.device_lock.specs.declared.entry.Call.{Call}
-use Rattle.device_lock.specs.declared.entry.Entry.{Entry}
-use Rattle.receive_laws.proofs.HistoryLaws.Sound.{histories_sound}
-use Rattle.receive_laws.specs.HistoryLaws.Sides.{Side}
-use Rattle.pmd.specs.PmdSeam.Frames.{is_frame, most_blocks}
-use Rattle.pmd.specs.PmdSeam.Named.{AtPort}
-use Rattle.pmd.specs.PmdSeam.Sides.{ring_words}
-use Rattle.pmd.specs.PmdSeam.Slots.{ring_blocks, EachRingBlock}
-use Rattle.pmd.specs.PmdRx.Receive.{Receive}
-use Rattle.pmd.specs.PmdTx.Sending.{Sender}
-use Rattle.pmd.specs.Started.{is_size}
-use Rattle.receive_laws.specs.Fitting.{begun_on}
-use Rattle.receive_laws.specs.Joint.{Agree}
-use Rattle.device_lock.proofs.Histories.{events_before}
-use Rattle.transmit_laws.specs.Agreeing.{Agrees}
-use Rattle.start_laws.specs.Along.{AtCalls, AtEntries, BeforeLast, IsAlong}
+-- Once both rings came up and both sides went on the device and the driver agree on both.
+use Rattle.std.proofs.Common.{[], ◌%◌, ◌&&◌, ◌*◌, ◌+◌, ◌-◌, ◌<◌, ◌∷◌, ◌≡◌, ◌≢◌, ◌≤◌, Bool, List, ap, arith, false, not}
+use Rattle.std.proofs.Common.{refl, subst, sym, true, ℕ}
+use Rattle.std.specs.Prelude.{IsTrue}
+use Rattle.std.proofs.lemmas.Bool.{and_parts, both_ways, eqb-true, leb-true, not-true}
+use Rattle.start_laws.specs.Prelude.{Agree, Agrees, AtPort, Call, EachRingBlock, Entry, Numbers, Rdt, Receive, Rx}
+use Rattle.start_laws.specs.Prelude.{Rxdctl, Sees, Sender, Sets, Side, State, Tdt, Tx, Watched, begun_on, blocks_for}
+use Rattle.start_laws.specs.Prelude.{is_size, leads_to, lent_by, quiet, ring_blocks}
+use Rattle.start_laws.proofs.Prelude.{AtCalls, AtEntries, BeforeLast, HasGround, IsAlong, Sides, after_accesses}
+use Rattle.pmd.proofs.PmdSeam.Rings.{some_blocks}
+use Rattle.pmd.specs.PmdSeam.Frames.{most_blocks}
+use Rattle.pmd.specs.Running.{Running}
+use Rattle.pmd.specs.Started.{AreUp}
+use Rattle.start_laws.specs.Moves.{IsSized}
 use Rattle.start_laws.specs.On.{AreOn, SwitchedSidesAgree, SwitchedSidesBeginNone, SwitchedSidesGoOn}
-use Rattle.start_laws.specs.Points.{HasGround, Point, Sides}
+use Rattle.start_laws.specs.Points.{Point}
+use Rattle.start_laws.specs.Quieting.{are_off}
+use Rattle.start_laws.specs.Start.{BeginsWell, StartAgrees, StartGoesOn}
 use Rattle.start_laws.specs.Unused.{AreUnused, WentOn}
-use Rattle.start_laws.proofs.Reached.{reached}
-use Rattle.start_laws.proofs.Fresh.{fresh_receive_agrees, fresh_transmit_agrees}
-use Rattle.start_laws.proofs.Lent.{Has, has_more, IsLentBy, made_has, lent_along}
-use Rattle.start_laws.proofs.Lends.{lending, ring_in, stays_in}
-use Rattle.start_laws.proofs.Numbers.{ground_names}
-use Rattle.start_laws.proofs.Switching.{came_up, switching}
-use Rattle.start_laws.proofs.Made.{some_made}
-use Rattle.start_laws.proofs.Rising.{came_up_at, sized_ring}
-use Rattle.start_laws.proofs.Prepared.{lends_extend, prepared_some, prepared_has}
+use Rattle.start_laws.proofs.Ground.{ground_names}
+use Rattle.start_laws.proofs.Made.{first_made, some_made}
+use Rattle.start_laws.proofs.Points.{At, accesses_at, laid_with, prepared_at, unused_kept}
+use Rattle.start_laws.proofs.Reached.{sound_at}
+use Rattle.start_laws.proofs.StopCalls.{Has, IsLentBy, accesses_add, has_more, lending, lent_along, prepared_adds}
+use Rattle.start_laws.proofs.StopCalls.{prepared_has, prepared_some, ring_in, stays_in}
+use Rattle.start_laws.proofs.SwitchedOff.{quiet_sides_stand, quieting_leads}
+use Rattle.start_laws.proofs.Switching.{came_up, comes_up, fresh_receive_agrees, fresh_transmit_agrees, laid, may_lay}
+use Rattle.start_laws.proofs.Switching.{may_switch, switching}
+
+-- the numbers of slots that a driver may have
+
+pub sized : (size : ℕ) → is_size size ≡ true → (0 < size) × (size ≤ 1024) × (16 * size % 128 ≡ 0)
+sized size is =
+    let one = and_parts _ _ is in
+    let two = and_parts _ _ one.1 in
+    let some : 8 ≤ size = leb-true 8 size one.0 in
+    let few : size ≤ 1024 = leb-true size 1024 two.0 in
+    let even : size % 8 ≡ 0 = eqb-true (size % 8) 0 two.1 in
+    (omega (arith, some), few, omega (arith, even))
+
+-- a ring whose blocks a pass lends
+sized_ring : (pass : ℕ) (h : List Entry) (size ring : ℕ) → is_size size ≡ true
+    → EachRingBlock ring size (λ n. IsLentBy pass n h) → IsSized ring size
+sized_ring pass h size ring is lent =
+    let count = sized size is in
+    let some : 0 < blocks_for size = some_blocks size count.0 in
+    let last = lent (blocks_for size - 1) (omega (arith, some)) in
+    record { some = count.0; few = count.1; low = omega (arith, some, last.low) }
+
+-- sides that are off aren't wanted on
+unwanted : (a b c d : Bool) → ((not a && not b) && (not c && not d)) ≡ true → (b ≡ false) × (d ≡ false)
+unwanted a b c d is =
+    let both = and_parts (not a && not b) (not c && not d) is in
+    (not-true b (and_parts (not a) (not b) both.0).1, not-true d (and_parts (not c) (not d) both.1).1)
 
 module _ (w : Watched) (origin : State) (h : List Entry) (q : AtPort) (size frame : ℕ) (old : List Call) (a : Numbers)
     (new : List Call) (v : Receive) (t : Sender) (up : AreOn q size frame old a new v t)
@@ -48,72 +64,127 @@ module _ (w : Watched) (origin : State) (h : List Entry) (q : AtPort) (size fram
     abbrev other : ℕ
     other = up.transmit.ring
 
+    abbrev Unused : List Entry → Type 0
+    Unused = AreUnused w.queue origin
+
+    abbrev Known : Sides → Type 0
+    Known p = IsTrue (are_off p)
+
+    abbrev Reaches : List Call → (Sides → Sides) → Type 0
+    Reaches = At q frame along Known Unused (unused_kept w origin)
+
+    abbrev CameUp : List Entry → Type 0
+    CameUp done =
+        (p : Sides) × Point w.queue (lent_by w.pass h) q frame (came_up ring size other p) (leads_to origin done)
+        × Unused done
+
+    -- both sides are quiet, and stand
+    quiet_at : Reaches up.receive.mid (λ p. p)
+    quiet_at done rest all calls =
+        let off = quieting_leads w q frame origin h old up.receive.mid along up.receive.quiet well in
+        let quiet = off done rest all calls in
+        let (p, known, x) = quiet_sides_stand w q frame origin h up.receive.mid along off done rest all calls in (
+          p,
+          known,
+          x,
+          record {
+            receive = λ on. absurd (both_ways _ quiet.receive.off on);
+            transmit = λ on. absurd (both_ways _ quiet.transmit.off on);
+          },
+        )
+
+    -- as both rings come up, where their blocks are the pass's
+    module _ (one : EachRingBlock ring size (λ n. IsLentBy w.pass n h))
+        (two : EachRingBlock other size (λ n. IsLentBy w.pass n h)) where
+      abbrev of_size : (number : ℕ) → EachRingBlock number size (λ n. IsLentBy w.pass n h) → IsSized number size
+      of_size number lent = sized_ring w.pass h size number is lent
+
+      off : (p : Sides) → Known p → ((p.side Rx).wanted ≡ false) × ((p.side Tx).wanted ≡ false)
+      off p known = unwanted (p.side Rx).on (p.side Rx).wanted (p.side Tx).on (p.side Tx).wanted known
+
+      even : 16 * size % 128 ≡ 0
+      even = (sized size is).2
+
+      ready_at : Reaches up.ready_made (laid_with Rx ring size)
+      ready_at =
+          prepared_at q frame along Known Unused (unused_kept w origin) (λ p. p) up.receive.prepared
+          (λ p known. may_lay ring size (of_size ring one) even p Rx (off p known).0) one
+          (first_made q (Sees Rxdctl false) (Sets Rxdctl 0 ∷ Sees Rxdctl false ∷ quiet Tx) old up.receive.mid
+          up.receive.quiet) quiet_at
+
+      both_at : Reaches up.both_made (laid ring size other)
+      both_at =
+          prepared_at q frame along Known Unused (unused_kept w origin) (laid_with Rx ring size) up.transmit.prepared
+          (λ p known. may_lay other size (of_size other two) even (laid_with Rx ring size p) Tx (off p known).1) two
+          (prepared_some up.receive.prepared) ready_at
+
+      on_at : Reaches new (λ p. after_accesses (switching up.switched.0 up.switched.1) (laid ring size other p))
+      on_at =
+          accesses_at q frame along Known Unused (unused_kept w origin) (switching up.switched.0 up.switched.1)
+          (laid ring size other) up.both_made new
+          (λ p known.
+          may_switch ring size other (of_size ring one) (of_size other two) p (off p known).0 (off p known).1
+          up.switched.0 up.switched.1) up.switched.3 (prepared_some up.transmit.prepared) both_at
+
+      came_up_at : AtEntries w h new CameUp
+      came_up_at done rest all calls =
+          let (p, known, x, unused) = on_at done rest all calls in (
+            p,
+            subst (λ (z : Sides). Point w.queue (lent_by w.pass h) q frame z (leads_to origin done))
+                (comes_up ring size other (of_size ring one) (of_size other two) p (off p known).0 (off p known).1
+                up.switched.0 up.switched.1) x,
+            unused,
+          )
+
     -- wherever the pass has made these calls it has lent both rings
 
     on_has : (number : ℕ) → Has (lending number) up.both_made → Has (lending number) new
     on_has number has =
-        made_has q (lending number) (switching up.switched.0 up.switched.1) up.both_made new up.switched.3 has
+        has_more (lending number) up.both_made new
+        (accesses_add q (switching up.switched.0 up.switched.1) up.both_made new up.switched.3) has
 
     ring_has : EachRingBlock ring size (λ n. Has (lending n) new)
     ring_has k below =
-        let prepared = up.transmit.prepared in
-        let more = lends_extend (ring_blocks other size) prepared.mid up.both_made prepared.lent in
         on_has (ring + k)
-        (has_more (lending (ring + k)) prepared.mid up.both_made more.0 more.1
-        (made_has q (lending (ring + k)) (ring_words Tx other size) up.ready_made prepared.mid prepared.words
-        (prepared_has q Rx size up.receive.mid a up.ready_made up.ready_arena ring up.receive.prepared k below)))
+        (has_more (lending (ring + k)) up.ready_made up.both_made (prepared_adds up.transmit.prepared)
+        (prepared_has up.receive.prepared k below))
 
     pub ring_lent : AtEntries w h new (λ done. EachRingBlock ring size (λ n. IsLentBy w.pass n h))
-    ring_lent done rest all calls k below =
-        lent_along w origin h (ring + k) new along (ring_has k below) done rest all calls
+    ring_lent done rest all calls k below = lent_along (ring + k) new along (ring_has k below) done rest all calls
 
     pub other_lent : AtEntries w h new (λ done. EachRingBlock other size (λ n. IsLentBy w.pass n h))
     other_lent done rest all calls k below =
-        lent_along w origin h (other + k) new along
-        (on_has (other + k)
-        (prepared_has q Tx size up.ready_made up.ready_arena up.both_made up.both_arena other up.transmit.prepared k
-        below)) done rest all calls
-
-    abbrev CameUp : List Entry → Type 0
-    CameUp done =
-        (p : Sides) × Point w.queue (lent_by w.pass h) q frame (came_up ring size other p) (reached w origin done)
-        × AreUnused w.queue origin done
+        lent_along (other + k) new along (on_has (other + k) (prepared_has up.transmit.prepared k below)) done rest all
+        calls
 
     up_at : AtEntries w h new CameUp
     up_at done rest all calls =
-        came_up_at w origin h q size frame old a new v t up along is well (ring_lent done rest all calls)
-        (other_lent done rest all calls) done rest all calls
+        came_up_at (ring_lent done rest all calls) (other_lent done rest all calls) done rest all calls
 
     -- there they are fresh, and so device and driver agree
-    agrees : is_frame frame ≡ true → EachRingBlock ring size (λ n. IsLentBy w.pass n h)
-        → EachRingBlock other size (λ n. IsLentBy w.pass n h) → (s : State) → IsSound s → (p : Sides)
-        → Point w.queue (lent_by w.pass h) q frame (came_up ring size other p) s
-        → Agree w.queue s [] v × Agrees s w.queue [] t
-    agrees long one two s sound p x =
-        let zero = x.stand.zero in (
+    agrees_at : AtCalls w origin h new (λ s. Agree w.queue s [] v × Agrees s w.queue [] t)
+    agrees_at done rest all calls =
+        let s = leads_to origin done in
+        let (p, x, unused) = up_at done rest all calls in
+        let one = sized_ring w.pass h size ring is (ring_lent done rest all calls) in
+        let two = sized_ring w.pass h size other is (other_lent done rest all calls) in
+        let zeros = x.stand.zero in (
           subst (λ (v : Receive). Agree w.queue s [] v) (sym up.receive.fresh)
               (fresh_receive_agrees w.queue s (p.side Rx) true true q.port up.receive.tail ring size (most_blocks frame)
-              (sized_ring w.pass h size ring is one)
+              one
               (record {
                 low = along.small;
                 tail = ground_names w.queue q frame s x.ground Rdt up.receive.tail refl up.receive.named;
               })
               (λ k below.
-              zero _ (stays_in (ring_blocks other size) _ (ring + k) (ring_in ring size p.rings k below)))
+              zeros _ (stays_in (ring_blocks other size) _ (ring + k) (ring_in ring size p.rings k below)))
               (x.stand.side Rx)),
           subst (λ (v : Sender). Agrees s w.queue [] v) (sym up.transmit.fresh)
               (fresh_transmit_agrees w.queue s (p.side Tx) true true q.port up.transmit.tail other size frame
-              along.small sound (sized_ring w.pass h size other is two)
-              (ground_names w.queue q frame s x.ground Tdt up.transmit.tail refl up.transmit.named) long x.ground.limit
-              (λ k below. zero _ (ring_in other size _ k below)) (x.stand.side Tx)),
+              along.small (sound_at along done rest all) two
+              (ground_names w.queue q frame s x.ground Tdt up.transmit.tail refl up.transmit.named) up.framed
+              x.ground.limit (λ k below. zeros _ (ring_in other size _ k below)) (x.stand.side Tx)),
         )
-
-    agrees_at : is_frame frame ≡ true → AtCalls w origin h new (λ s. Agree w.queue s [] v × Agrees s w.queue [] t)
-    agrees_at long done rest all calls =
-        let sound = histories_sound origin done along.sound
-        (events_before done rest (subst AreEvents (sym all) along.events)) in
-        let (p, x, unused) = up_at done rest all calls in
-        agrees long (ring_lent done rest all calls) (other_lent done rest all calls) (reached w origin done) sound p x
 
     -- and nothing went over them since they went on
     goes_on_at : AtEntries w h new (WentOn w.queue origin)
@@ -139,11 +210,11 @@ module _ (w : Watched) (origin : State) (h : List Entry) (q : AtPort) (size fram
     pub on_some : new ≢ []
     on_some =
         some_made q (switching up.switched.0 up.switched.1) up.both_made new up.switched.3
-        (prepared_some q Tx size up.ready_made up.ready_arena up.both_made up.both_arena other up.transmit.prepared)
+        (prepared_some up.transmit.prepared)
 
 pub switched_sides_agree : SwitchedSidesAgree
 switched_sides_agree w origin h q size frame old a new v t up along well =
-    agrees_at w origin h q size frame old a new v t up along up.sized well up.framed
+    agrees_at w origin h q size frame old a new v t up along up.sized well
 
 pub switched_sides_go_on : SwitchedSidesGoOn
 switched_sides_go_on w origin h q size frame old a new v t up along well =
@@ -152,3 +223,42 @@ switched_sides_go_on w origin h q size frame old a new v t up along well =
 pub switched_sides_begin_none : SwitchedSidesBeginNone
 switched_sides_begin_none w origin h q size frame old a new v t up along well =
     begun_at w origin h q size frame old a new v t up along up.sized well
+
+-- a start of the driver leaves a state where the device and the driver agree on both sides
+
+module _ (w : Watched) (origin : State) (h : List Entry) (q : AtPort) (size frame : ℕ) (old : List Call) (a : Numbers)
+    (new : List Call) (r : Running) (up : AreUp q size frame old a new r) (along : IsAlong w origin h)
+    (well : BeginsWell w origin h q size frame old a new r up)
+  where
+    -- before the receive ring is filled both sides are on
+
+    abbrev pub on : AreOn q size frame old a up.on.mid up.empty r.transmit
+    on = record {
+      sized = up.sized;
+      framed = up.framed;
+      ready_made = up.ready_made;
+      both_made = up.both_made;
+      ready_arena = up.ready_arena;
+      both_arena = up.both_arena;
+      receive = up.receive;
+      transmit = up.transmit;
+      switched = up.on.switched;
+    }
+
+    -- port and queue name this queue there
+    pub start_ground : AtCalls w origin h up.on.mid (HasGround w.queue q frame)
+    start_ground = ground_at w origin h q size frame old a up.on.mid up.empty r.transmit on along up.sized well.ground
+
+    -- some calls were made before both were on
+    pub start_some : up.on.mid ≢ []
+    start_some = on_some w origin h q size frame old a up.on.mid up.empty r.transmit on along up.sized well.ground
+
+pub start_agrees : StartAgrees
+start_agrees w origin h q size frame old a new r up along well =
+    switched_sides_agree w origin h q size frame old a up.on.mid up.empty r.transmit
+    (on w origin h q size frame old a new r up along well) along well.ground
+
+pub start_goes_on : StartGoesOn
+start_goes_on w origin h q size frame old a new r up along well =
+    switched_sides_go_on w origin h q size frame old a up.on.mid up.empty r.transmit
+    (on w origin h q size frame old a new r up along well) along well.ground

@@ -1,14 +1,21 @@
 -- A history in parts, by the calls that a pass made.
-use Rattle.std.proofs.Common.{◌≡◌, ◌≢◌, ℕ, inl, inr, true, List, [], ◌∷◌, ◌++◌, refl, sym, ap, ◌∙◌, append_assoc, ◌⊎◌}
+use Rattle.std.proofs.Common.{[], ◌++◌, ◌∙◌, ◌∷◌, ◌≡◌, ◌≢◌, ◌⊎◌, List, ap, append_assoc, inl, inr, refl, sym, true, ℕ}
 use Rattle.std.specs.Prelude.{◌==◌}
-use Rattle.std.proofs.lemmas.Bool.{cases_Bool, or_left, or_right, eqb-true}
+use Rattle.std.proofs.lemmas.Bool.{cases_Bool, eq-eqb, eqb-true, or_left, or_right}
 use Rattle.std.proofs.lemmas.List.{append-nil, map-append}
 use Rattle.std.proofs.lemmas.List.Elements.{filter-append}
+use Rattle.start_laws.specs.Prelude.{Call, Entry, call_in, calls_of}
+use Rattle.start_laws.proofs.Prelude.{calls_other, calls_own}
 use Rattle.device_lock.specs.Alone.{has_begun}
-use Rattle.device_lock.specs.History.{calls_of, call_in}
-use Rattle.device_lock.specs.declared.entry.Call.{Call}
-use Rattle.device_lock.specs.declared.entry.Entry.{Entry}
-use Rattle.receive_laws.proofs.Histories.{calls_own, calls_other}
+
+pub ends_some : (old before : List Call) (c : Call) → old ++ (before ++ c ∷ []) ≢ []
+ends_some [] [] c e = cc
+ends_some [] (b ∷ before) c e = cc
+ends_some (o ∷ old) before c e = cc
+
+pub more_some : (old more : List Call) → old ≢ [] → old ++ more ≢ []
+more_some [] more some = absurd (some refl)
+more_some (o ∷ old) more some = λ e. cc
 
 -- a history in two parts, by its calls
 pub record Parts (pass : ℕ) (h : List Entry) (xs ys : List Call) : Type 0 where
@@ -49,45 +56,20 @@ begun pass (e ∷ h) some = elim (cases_Bool (e.pass == pass)) [
   | inr other ↦ or_right _ _ (begun pass h (λ none. some (calls_other pass e h other ∙ none)))
 ]
 
--- a history around the first entry of a pass
-pub record First (pass : ℕ) (h : List Entry) (c : Call) (ys : List Call) : Type 0 where
-  pub front : List Entry
-  pub entry : Entry
-  pub back : List Entry
-  pub both : front ++ entry ∷ back ≡ h
-  pub none : calls_of pass front ≡ []
-  pub own : entry.pass ≡ pass
-  pub call : call_in entry ≡ c
-  pub backs : calls_of pass back ≡ ys
+-- the calls of two histories in turn
+pub calls_joined : (pass : ℕ) (g h : List Entry) → calls_of pass (g ++ h) ≡ calls_of pass g ++ calls_of pass h
+calls_joined pass g h = rw (filter-append, map-append) refl
 
-pub first_own : (pass : ℕ) (h : List Entry) (c : Call) (ys : List Call) → calls_of pass h ≡ c ∷ ys → First pass h c ys
-first_own pass [] c ys is = cc
-first_own pass (e ∷ es) c ys is = elim (cases_Bool (e.pass == pass)) as (λ _. First pass (e ∷ es) c ys) [
-  | inl own ↦
-      let here : call_in e ∷ calls_of pass es ≡ c ∷ ys = sym (calls_own pass e es own) ∙ is in record {
-        front = [];
-        entry = e;
-        back = es;
-        both = refl;
-        none = refl;
-        own = eqb-true e.pass pass own;
-        call = cc;
-        backs = cc;
-      }
-  | inr other ↦
-      let f = first_own pass es c ys (sym (calls_other pass e es other) ∙ is) in record {
-        front = e ∷ f.front;
-        entry = f.entry;
-        back = f.back;
-        both = ap (λ (l : List Entry). e ∷ l) f.both;
-        none = calls_other pass e f.front other ∙ f.none;
-        own = f.own;
-        call = f.call;
-        backs = f.backs;
-      }
-]
+pub still_some : (pass : ℕ) (g h : List Entry) → calls_of pass g ≢ [] → calls_of pass (g ++ h) ≢ []
+still_some pass g h some none = more_some (calls_of pass g) (calls_of pass h) some (sym (calls_joined pass g h) ∙ none)
 
--- and so around the entry of a call that the pass made
+pub own_some : (pass : ℕ) (g : List Entry) (e : Entry) → e.pass ≡ pass → calls_of pass (g ++ e ∷ []) ≢ []
+own_some pass g e own none =
+    ends_some (calls_of pass g) [] (call_in e)
+    ((λ i. calls_of pass g ++ sym (calls_own pass e [] (eq-eqb e.pass pass own)) i) ∙ sym (calls_joined pass g (e ∷ []))
+    ∙ none)
+
+-- a history around the entry of a call that the pass made
 pub record Around (pass : ℕ) (h : List Entry) (calls : List Call) (c : Call) (more : List Call) : Type 0 where
   pub before : List Entry
   pub entry : Entry
@@ -98,24 +80,47 @@ pub record Around (pass : ℕ) (h : List Entry) (calls : List Call) (c : Call) (
   pub call : call_in entry ≡ c
   pub later : calls_of pass behind ≡ more
 
--- the calls of two histories in turn
-pub calls_joined : (pass : ℕ) (g h : List Entry) → calls_of pass (g ++ h) ≡ calls_of pass g ++ calls_of pass h
-calls_joined pass g h = rw (filter-append, map-append) refl
+-- the first entry of a pass
+first_own : (pass : ℕ) (h : List Entry) (c : Call) (ys : List Call) → calls_of pass h ≡ c ∷ ys → Around pass h [] c ys
+first_own pass [] c ys is = cc
+first_own pass (e ∷ es) c ys is = elim (cases_Bool (e.pass == pass)) as (λ _. Around pass (e ∷ es) [] c ys) [
+  | inl own ↦
+      let here : call_in e ∷ calls_of pass es ≡ c ∷ ys = sym (calls_own pass e es own) ∙ is in record {
+        before = [];
+        entry = e;
+        behind = es;
+        all = refl;
+        made = refl;
+        own = eqb-true e.pass pass own;
+        call = cc;
+        later = cc;
+      }
+  | inr other ↦
+      let f = first_own pass es c ys (sym (calls_other pass e es other) ∙ is) in record {
+        before = e ∷ f.before;
+        entry = f.entry;
+        behind = f.behind;
+        all = ap (λ (l : List Entry). e ∷ l) f.all;
+        made = calls_other pass e f.before other ∙ f.made;
+        own = f.own;
+        call = f.call;
+        later = f.later;
+      }
+]
 
 pub around : (pass : ℕ) (h : List Entry) (calls : List Call) (c : Call) (more : List Call)
     → calls_of pass h ≡ calls ++ c ∷ more → Around pass h calls c more
 around pass h calls c more is =
     let p = parts pass h calls (c ∷ more) is in
     let f = first_own pass p.back c more p.backs in record {
-      before = p.front ++ f.front;
+      before = p.front ++ f.before;
       entry = f.entry;
-      behind = f.back;
-      all =
-          append_assoc p.front f.front (f.entry ∷ f.back) ∙ ap (λ (l : List Entry). p.front ++ l) f.both ∙ p.both;
-      made = calls_joined pass p.front f.front ∙ (λ i. p.fronts i ++ f.none i) ∙ append-nil calls;
+      behind = f.behind;
+      all = append_assoc p.front f.before (f.entry ∷ f.behind) ∙ ap (λ (l : List Entry). p.front ++ l) f.all ∙ p.both;
+      made = calls_joined pass p.front f.before ∙ (λ i. p.fronts i ++ f.made i) ∙ append-nil calls;
       own = f.own;
       call = f.call;
-      later = f.backs;
+      later = f.later;
     }
 
 -- two beginnings of a list, as of a history or of the calls that a pass made: one begins the other
@@ -132,7 +137,3 @@ one_begins (x ∷ xs) ys (z ∷ zs) ws is =
       | inl (back, both) ↦ inl (back, λ i. first i ∷ both i)
       | inr (back, both) ↦ inr (back, λ i. sym first i ∷ both i)
     ]
-
-pub none_behind : (xs ys : List Call) → xs ++ ys ≡ xs → ys ≡ []
-none_behind [] ys is = is
-none_behind (x ∷ xs) ys is = none_behind xs ys (cc)

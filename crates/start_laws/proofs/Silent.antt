@@ -1,47 +1,71 @@
 -- On a queue whose sides are off nothing is received or sent, over events that leave it alone and calls of a stop.
-use Rattle.std.proofs.Common.{cond, ◌≡◌, ◌≢◌, ℕ, inl, inr, List, [], ◌∷◌, ◌++◌, Option, Some, None, option_map, refl, sym, ap, ◌∙◌, subst, append_assoc}
-use Rattle.std.proofs.lemmas.List.{append-nil}
-use Rattle.nic_device.specs.RegisterFile.Queue.{is_on}
-use Rattle.nic_device.specs.DmaRing.declared.dir.Dir.TheVariants.{Rx, Tx}
-use Rattle.nic_device.specs.State.{State}
-use Rattle.nic_device.specs.Step.{after}
-use Rattle.device_lock.specs.Alone.{Blocks, lent_by}
-use Rattle.device_lock.specs.History.{calls_of}
-use Rattle.device_lock.specs.declared.alone.Watched.{Watched}
-use Rattle.device_lock.specs.declared.entry.Call.{Call}
-use Rattle.device_lock.specs.declared.entry.Entry.{Entry}
-use Rattle.pmd.specs.PmdSeam.Named.{AtPort}
-use Rattle.receive_laws.proofs.HistoryLaws.Steady.{not_again}
-use Rattle.receive_laws.specs.Delivered.{packets_if_any, pieces_since}
-use Rattle.receive_laws.specs.Pieces.{Piece, packets_of, pieces}
+use Rattle.std.proofs.Common.{[], ◌++◌, ◌∙◌, ◌∷◌, ◌≡◌, ◌≢◌, List, None, Option, Some, ap, append_assoc, cond, inl, inr}
+use Rattle.std.proofs.Common.{option_map, refl, subst, sym, ℕ}
+use Rattle.std.specs.Prelude.{◌==◌}
+use Rattle.std.proofs.lemmas.Bool.{cases_Bool, eqb-false}
+use Rattle.std.proofs.lemmas.List.{append-nil, append_cancel_left}
+use Rattle.start_laws.specs.Prelude.{AtPort, Block, Blocks, Call, Entry, Event, IsEvent, Rx, State, Tx, Watched, after}
+use Rattle.start_laws.specs.Prelude.{calls_of, is_on, leads_to, lent_by, pieces, pieces_since, sent_by, sent_since}
+use Rattle.start_laws.proofs.Prelude.{IsAlong, IsEnding, IsMet, IsQuiet, calls_other, calls_own, idle_silent, left_deed}
+use Rattle.start_laws.proofs.Prelude.{no_block}
+use Rattle.nic_device.specs.declared.event.Event.TheVariants as event
 use Rattle.receive_laws.proofs.Delivering.{since-append}
-use Rattle.transmit_laws.specs.Sent.{sent_by, sent_since}
+use Rattle.receive_laws.proofs.HistoryLaws.Steady.{not_again, off_idle}
+use Rattle.receive_laws.specs.Delivered.{packets_if_any}
+use Rattle.receive_laws.specs.HistoryLaws.Sides.{IsOff}
+use Rattle.receive_laws.specs.Pieces.{Piece, packets_of}
 use Rattle.transmit_laws.proofs.Counting.{sent_is_counted}
-use Rattle.start_laws.specs.Along.{AtCalls, AtEntries, IsAlong}
-use Rattle.start_laws.specs.Ending.{IsEnding}
-use Rattle.start_laws.specs.Quieting.{IsQuiet}
+use Rattle.start_laws.specs.Ending.{Each}
 use Rattle.start_laws.specs.Silent.{IsSilent, QuietQueueIsSilent}
-use Rattle.start_laws.specs.Stopping.{Ends}
-use Rattle.start_laws.proofs.Reached.{KeptOver, LeadsOver, reached, reached_next}
-use Rattle.start_laws.proofs.Along.{kept_on}
-use Rattle.start_laws.proofs.Ending.{all_lead}
-use Rattle.start_laws.proofs.Parts.{calls_joined, Begins, one_begins, none_behind}
-use Rattle.start_laws.proofs.StaysQuiet.{StaysQuiet, left_stays, ending_stays}
+use Rattle.start_laws.specs.Standing.{IsLeft}
+use Rattle.start_laws.proofs.Parts.{calls_joined, still_some}
+use Rattle.start_laws.proofs.Reached.{entry_is, foreign_left, reached_next}
+use Rattle.start_laws.proofs.SwitchedOff.{ending_quiet, quiet_kept, step_left, watching}
+
+-- an event by which nothing is received or sent, and behind which the sides are off
+record StaysQuiet (queue : ℕ) (q : AtPort) (frame : ℕ) (s : State) (e : Event Block) : Type 0 where
+  quiet : IsQuiet queue q frame (after s e)
+  received : pieces queue s e ≡ []
+  sent : sent_by queue s e ≡ []
+
+left_stays : (w : Watched) (mine : Blocks) (q : AtPort) (frame : ℕ) (s : State) (e : Event Block) → IsLeft w mine s e
+    → IsQuiet w.queue q frame s → StaysQuiet w.queue q frame s e
+left_stays w mine q frame s e left x = record {
+  quiet = quiet_kept w mine q frame s e left x;
+  received = idle_silent Rx w.queue s e IsOff x.receive off_idle (left_deed Rx w mine s e left);
+  sent = (idle_silent Tx w.queue s e IsOff x.transmit off_idle (left_deed Tx w mine s e left)).sent;
+}
+
+ending_stays : (queue : ℕ) (q : AtPort) (frame : ℕ) (s : State) (e : Event Block) → IsMet queue s → IsEvent e
+    → IsEnding q e → IsQuiet queue q frame s → StaysQuiet queue q frame s e
+ending_stays queue q frame s e met made ends x =
+    let silent = none_told e met made ends in
+    record { quiet = ending_quiet queue q frame s e met made ends x; received = silent.0; sent = silent.1 }
+  where
+    none_told : (e : Event Block) → IsMet queue s → IsEvent e → IsEnding q e
+        → (pieces queue s e ≡ []) × (sent_by queue s e ≡ [])
+    none_told (event.Write port number word) met made ends = (refl, refl)
+    none_told (event.Read port number) met made ends = (refl, refl)
+    none_told (event.Take number) met made ends = (refl, refl)
+    none_told e met made ends =
+        let stays = left_stays (watching queue s) no_block q frame s e (step_left queue s e met made ends) x in
+        (stays.received, stays.sent)
 
 none_more : (so_far : Option (List Piece)) → packets_if_any (option_map (λ qs. qs ++ []) so_far) ≡ packets_if_any so_far
 none_more None = refl
 none_more (Some qs) = ap packets_of (append-nil qs)
 
-module _ (w : Watched) (q : AtPort) (frame : ℕ) (origin : State) (done : List Entry) where
+module _ {w : Watched} {origin : State} {h : List Entry} (q : AtPort) (frame : ℕ) (along : IsAlong w origin h)
+    (done : List Entry) where
   -- the sides are off, and no more was received or sent than before
   record Silent (now : List Entry) : Type 0 where
-    quiet : IsQuiet w.queue q frame (reached w origin now)
+    quiet : IsQuiet w.queue q frame (leads_to origin now)
     same : IsSilent w origin now done
 
-  silent_on : (now : List Entry) (e : Entry) → StaysQuiet w.queue q frame (reached w origin now) e.event → Silent now
+  silent_on : (now : List Entry) (e : Entry) → StaysQuiet w.queue q frame (leads_to origin now) e.event → Silent now
       → Silent (now ++ e ∷ [])
   silent_on now e stays x =
-      let s = reached w origin now in
+      let s = leads_to origin now in
       let t = after s e.event in
       let so_far = pieces_since w.queue origin None now in
       let sent = sent_since w.queue origin [] now in
@@ -64,57 +88,34 @@ module _ (w : Watched) (q : AtPort) (frame : ℕ) (origin : State) (done : List 
         };
       }
 
-  others_silent : (mine : Blocks) → KeptOver w origin mine Silent
-  others_silent mine now e left x =
-      silent_on now e (left_stays w mine q frame (reached w origin now) e.event left x.quiet) x
-
-  ending_silent : (mine : Blocks) (c : Call) → IsEnding q c.event → LeadsOver w origin mine c Silent Silent
-  ending_silent mine c own now e same met made told steps x =
-      let ends = subst (λ (n : Call). IsEnding q n.event) (sym same) own in
-      silent_on now e (ending_stays w.queue q frame (reached w origin now) e.event met made ends x.quiet) x
-
-module _ (w : Watched) (q : AtPort) (frame : ℕ) (origin : State) (h done rest : List Entry) (old : List Call)
-    (along : IsAlong w origin h) (some : old ≢ []) (at : AtCalls w origin h old (IsQuiet w.queue q frame))
-    (all : done ++ rest ≡ h) (calls : calls_of w.pass done ≡ old) where
-  here : (base now after : List Entry) → now ++ after ≡ h → calls_of w.pass now ≡ old → IsSilent w origin now base
-      → Silent w q frame origin base now
-  here base now after both made same = record { quiet = at now after both made; same = same }
-
-  itself : (now : List Entry) → IsSilent w origin now now
-  itself now = record { delivered = refl; sent = refl }
-
-  -- entries of others alone lie between
-  between : (one two after : List Entry) → two ++ after ≡ h → calls_of w.pass one ≡ old → calls_of w.pass two ≡ old
-      → Begins one two → IsSilent w origin two one
-  between one two after both made then (back, is) =
-      let none : calls_of w.pass back ≡ [] =
-      none_behind old (calls_of w.pass back)
-      (ap (λ (cs : List Call). cs ++ calls_of w.pass back) (sym made) ∙ sym (calls_joined w.pass one back)
-      ∙ ap (calls_of w.pass) is ∙ then) in
-      let whole : (one ++ back) ++ after ≡ h = ap (λ (l : List Entry). l ++ after) is ∙ both in
-      let first = here one one (back ++ after) (sym (append_assoc one back after) ∙ whole) made (itself one) in
-      subst (λ (l : List Entry). IsSilent w origin l one) is
-      (kept_on w origin h along (Silent w q frame origin one) (others_silent w q frame origin one (lent_by w.pass h))
-      one
-      back after whole (λ nil. some (sym made ∙ nil)) none first).same
-
-  silent_at : AtEntries w h old (Silent w q frame origin done)
-  silent_at now after both made =
-      here done now after both made
-      (elim (one_begins done rest now after (all ∙ sym both)) as (λ _. IsSilent w origin now done) [
-        | inl begins ↦ between done now after both calls made begins
-        | inr begins ↦
-            let back = between now done rest all made calls begins in
-            record { delivered = sym back.delivered; sent = sym back.sent }
-      ])
-
-  pub silent_whole : (made : List Call) → Ends q old made → calls_of w.pass h ≡ made → IsSilent w origin h done
-  silent_whole whole (ends, is, own) made =
-      (all_lead w origin h (Silent w q frame origin done) (λ c. IsEnding q c.event) along
-      (others_silent w q frame origin done (lent_by w.pass h)) (ending_silent w q frame origin done (lent_by w.pass h))
-      ends old own some silent_at h []
-      (append-nil h) (made ∙ is)).same
+  -- so it is over entries of others, and those of a stop
+  silent_over : (now rest : List Entry) → now ++ rest ≡ h → calls_of w.pass now ≢ []
+      → Each (λ c. IsEnding q c.event) (calls_of w.pass rest) → Silent now → IsSilent w origin h done
+  silent_over now [] all some ends x =
+      subst (λ (l : List Entry). IsSilent w origin l done) (sym (append-nil now) ∙ all) x.same
+  silent_over now (e ∷ rest) all some ends x =
+      let s = leads_to origin now in
+      let is = entry_is along now rest e all in
+      let on : StaysQuiet w.queue q frame s e.event → Each (λ c. IsEnding q c.event) (calls_of w.pass rest)
+      → IsSilent w origin h done =
+      λ stays later.
+      silent_over (now ++ e ∷ []) rest (append_assoc now (e ∷ []) rest ∙ all) (still_some w.pass now (e ∷ []) some)
+      later (silent_on now e stays x) in
+      elim (cases_Bool (e.pass == w.pass)) as (λ _. IsSilent w origin h done) [
+        | inl own ↦
+            let each = subst (Each (λ c. IsEnding q c.event)) (calls_own w.pass e rest own) ends in
+            on (ending_stays w.queue q frame s e.event is.met is.made each.0 x.quiet) each.1
+        | inr other ↦
+            let left = foreign_left along now rest e all some (eqb-false e.pass w.pass other) in
+            on (left_stays w (lent_by w.pass h) q frame s e.event left x.quiet)
+            (subst (Each (λ c. IsEnding q c.event)) (calls_other w.pass e rest other) ends)
+      ]
 
 pub quiet_queue_is_silent : QuietQueueIsSilent
-quiet_queue_is_silent w q frame origin h done rest old new along some at ends made all calls =
-    silent_whole w q frame origin h done rest old along some at all calls new ends made
+quiet_queue_is_silent w q frame origin h done rest old new along some at (ends, is, own) made all calls =
+    let both = ap (λ (cs : List Call). cs ++ calls_of w.pass rest) (sym calls) ∙ sym (calls_joined w.pass done rest) in
+    let later : calls_of w.pass rest ≡ ends =
+    append_cancel_left old (calls_of w.pass rest) ends (both ∙ ap (calls_of w.pass) all ∙ made ∙ is) in
+    silent_over q frame along done done rest all (λ none. some (sym calls ∙ none))
+    (subst (Each (λ c. IsEnding q c.event)) (sym later) own)
+    (record { quiet = at done rest all calls; same = record { delivered = refl; sent = refl } })

@@ -1,16 +1,8 @@
 -- A legal history of a sound device that leaves a queue alone, and what holds wherever its pass has made so many calls.
-use Rattle.std.specs.Prelude.{ℕ, ◌≡◌, ◌≢◌, ◌<◌, List, [], ◌∷◌, ◌++◌}
-use Rattle.nic_device.specs.DmaArena.Block.{Block}
-use Rattle.nic_device.specs.Sound.{IsEvent, IsSound}
-use Rattle.nic_device.specs.State.{State}
-use Rattle.nic_device.specs.Step.{after, reply_to}
-use Rattle.nic_device.specs.declared.event.Event.{Event}
-use Rattle.device_lock.specs.Alone.{Blocks, lent_by}
-use Rattle.device_lock.specs.History.{IsLegal, AreEvents, call_in, calls_of, leads_to}
-use Rattle.device_lock.specs.declared.alone.Watched.{Watched}
-use Rattle.device_lock.specs.declared.entry.Call.{Call}
-use Rattle.device_lock.specs.declared.entry.Entry.{Entry}
-use Rattle.pmd.specs.PmdSeam.Made.{AreSteps}
+use Rattle.std.specs.Prelude.{[], ◌++◌, ◌<◌, ◌∷◌, ◌≡◌, ◌≢◌, List, ℕ}
+use Rattle.start_laws.specs.Prelude.{AreSteps, Block, Blocks, Call, Entry, Event, IsEvent, IsSound, State, Watched}
+use Rattle.start_laws.specs.Prelude.{after, call_in, calls_of, leads_to, lent_by, reply_to}
+use Rattle.device_lock.specs.History.{AreEvents, IsLegal}
 use Rattle.receive_laws.specs.HistoryLaws.Alone.{LeavesAloneFrom}
 use Rattle.start_laws.specs.Moves.{IsMet}
 use Rattle.start_laws.specs.Standing.{IsLeft}

@@ -1,16 +1,8 @@
 -- What a driver's own calls do to its queue once its sides are on, and what those of its stop do.
-use Rattle.std.specs.Prelude.{ℕ, ◌≡◌, true, ⊤, IsTrue, IsFalse, List, [], ◌∷◌}
-use Rattle.nic_device.specs.DmaArena.Block.{Block}
-use Rattle.nic_device.specs.RegTable.declared.rows.RowId.{RowId}
-use Rattle.nic_device.specs.RegisterFile.Bits.{has_bit}
-use Rattle.nic_device.specs.RegisterFile.Queue.{enable_row}
-use Rattle.nic_device.specs.DmaRing.declared.dir.Dir.{Dir}
-use Rattle.nic_device.specs.declared.event.Event.{Event}
+use Rattle.std.specs.Prelude.{[], ⊤, ◌∷◌, ◌≡◌, IsFalse, IsTrue, List, true, ℕ}
+use Rattle.start_laws.specs.Prelude.{AtPort, Block, Call, Dir, Event, IsNumberOf, Port, RowId, enable_row, has_bit}
+use Rattle.start_laws.specs.Prelude.{is_driven, is_step}
 use Rattle.nic_device.specs.declared.event.Event.TheVariants as event
-use Rattle.nic_device.specs.declared.event.Port.{Port}
-use Rattle.device_lock.specs.declared.entry.Call.{Call}
-use Rattle.pmd.specs.PmdSeam.Events.{is_step}
-use Rattle.pmd.specs.PmdSeam.Named.{AtPort, IsNumberOf, is_driven}
 
 -- it holds of each of these calls
 abbrev pub Each : (Call → Type 0) → List Call → Type 0

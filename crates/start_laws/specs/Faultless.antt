@@ -1,20 +1,9 @@
 -- A start on a queue whose sides are off finds no device at fault, over a history that leaves the queue alone.
-use Rattle.std.specs.Prelude.{ℕ, ◌≡◌, true, IsFalse, List, [], ◌∷◌, ◌++◌}
-use Rattle.nic_device.specs.DmaArena.Memory.{has_block}
-use Rattle.nic_device.specs.DmaArena.Numbers.{Numbers, is_free}
-use Rattle.nic_device.specs.DmaRing.declared.dir.Dir.TheVariants.{Tx}
-use Rattle.nic_device.specs.State.{State}
-use Rattle.device_lock.specs.declared.alone.Watched.{Watched}
-use Rattle.device_lock.specs.declared.entry.Call.{Call}
-use Rattle.device_lock.specs.declared.entry.Entry.{Entry}
-use Rattle.pmd.specs.PmdSeam.Events.{is_step}
-use Rattle.pmd.specs.PmdSeam.declared.fault.PmdFault.TheVariants.{DeviceFault}
-use Rattle.pmd.specs.PmdSeam.Made.{AreSteps}
-use Rattle.pmd.specs.PmdSeam.Both.{SwitchFails}
-use Rattle.pmd.specs.PmdSeam.Named.{AtPort}
-use Rattle.pmd.specs.PmdRx.Receive.{Receive}
-use Rattle.pmd.specs.PmdTx.Sending.{Sender}
-use Rattle.pmd.specs.Starting.{IsReceiveReady, IsTransmitReady, PreparingFails, ReceiveFails}
+use Rattle.std.specs.Prelude.{[], ◌++◌, ◌∷◌, ◌≡◌, IsFalse, List, true, ℕ}
+use Rattle.start_laws.specs.Prelude.{AreSteps, AtPort, Call, DeviceFault, Entry, IsReceiveReady, IsTransmitReady}
+use Rattle.start_laws.specs.Prelude.{Numbers, PreparingFails, Receive, ReceiveFails, Sender, State, SwitchFails, Tx}
+use Rattle.start_laws.specs.Prelude.{Watched, has_block, is_step}
+use Rattle.nic_device.specs.DmaArena.Numbers.{is_free}
 use Rattle.start_laws.specs.Along.{AtCalls, BeforeLast, IsAlong}
 use Rattle.start_laws.specs.Quieting.{IsQuiet}
 

@@ -1,28 +1,15 @@
 -- A start that ends with the device at fault: where it came to.
-use Rattle.std.specs.Prelude.{ℕ, ◌≡◌, ◌⊎◌, ⊤, true, List, []}
+use Rattle.std.specs.Prelude.{[], ⊤, ◌≡◌, ◌⊎◌, List, true, ℕ}
 use mathlib.Core.Logic.{inl, inr}
-use Rattle.nic_device.specs.DmaArena.Numbers.{Numbers}
-use Rattle.nic_device.specs.DmaRing.declared.dir.Dir.TheVariants.{Tx}
-use Rattle.nic_device.specs.State.{State}
-use Rattle.device_lock.specs.declared.alone.Watched.{Watched}
-use Rattle.device_lock.specs.declared.entry.Call.{Call}
-use Rattle.device_lock.specs.declared.entry.Entry.{Entry}
-use Rattle.pmd.specs.PmdSeam.declared.fault.PmdFault.TheVariants.{DeviceFault}
-use Rattle.pmd.specs.PmdSeam.Both.{SwitchFails}
-use Rattle.pmd.specs.PmdSeam.Named.{AtPort}
+use Rattle.start_laws.specs.Prelude.{Agree, Agrees, AtPort, Call, DeviceFault, Entry, IsReceiveReady, IsTransmitReady}
+use Rattle.start_laws.specs.Prelude.{Numbers, PreparingFails, Receive, ReceiveFails, Sender, StartRefused, State}
+use Rattle.start_laws.specs.Prelude.{StopsStarting, SwitchFails, Tx, Watched}
 use Rattle.pmd.specs.PmdRx.Filling.{StopsFilling}
-use Rattle.pmd.specs.PmdRx.Receive.{Receive}
-use Rattle.pmd.specs.PmdTx.Sending.{Sender}
-use Rattle.pmd.specs.Started.{StopsStarting}
-use Rattle.pmd.specs.Starting.{IsReceiveReady, IsTransmitReady, PreparingFails, ReceiveFails}
-use Rattle.pmd.specs.declared.start.StartRefused.{StartRefused}
-use Rattle.receive_laws.specs.Joint.{Agree}
 use Rattle.receive_laws.specs.Up.{IsUp}
-use Rattle.transmit_laws.specs.Agreeing.{Agrees}
 use Rattle.start_laws.specs.Along.{AtCalls, IsAlong}
+use Rattle.start_laws.specs.Faultless.{BeforeNext, Never, NoneIsLent}
 use Rattle.start_laws.specs.On.{AreOn}
 use Rattle.start_laws.specs.Quieting.{IsQuiet}
-use Rattle.start_laws.specs.Faultless.{BeforeNext, Never, NoneIsLent}
 
 -- the receive ring isn't made ready; some blocks of it may be out then
 pub record FaultsBeforeOne (q : AtPort) (size : ℕ) (old : List Call) (a : Numbers) (new : List Call) : Type 0 where

@@ -13,6 +13,7 @@ pub mod Numbers
 pub mod On
 pub mod Points
 pub mod Polls
+pub mod Prelude
 pub mod Quiet
 pub mod Quieting
 pub mod Replies

@@ -1,34 +1,17 @@
 -- What a driver's own accesses do to sides that stand still, and what these are in the end.
-use Rattle.std.specs.Prelude.{ℕ, ◌≡◌, ◌+◌, ◌*◌, ◌<◌, ◌≤◌, ◌==◌, ◌||◌, Bool, true, IsFalse, [], None}
-use Rattle.nic_device.specs.DmaArena.Block.{zero_block}
-use Rattle.nic_device.specs.RegTable.declared.rows.RowId.{RowId}
-use Rattle.nic_device.specs.RegTable.declared.rows.RowId.TheVariants.{Rxdctl, Txdctl, Tdt}
-use Rattle.nic_device.specs.RegisterFile.Bits.{has_bit}
-use Rattle.nic_device.specs.RegisterFile.Columns.{place}
-use Rattle.nic_device.specs.RegisterFile.Queue.{enable_row}
-use Rattle.nic_device.specs.RegisterFile.Settings.{frame_limit}
-use Rattle.nic_device.specs.DmaRing.declared.dir.Dir.{Dir}
-use Rattle.nic_device.specs.DmaRing.declared.dir.Dir.TheVariants.{Rx, Tx}
-use Rattle.nic_device.specs.DmaRing.declared.ring.Ring.{Ring}
+use Rattle.std.specs.Prelude.{[], ◌*◌, ◌+◌, ◌<◌, ◌==◌, ◌||◌, ◌≡◌, ◌≤◌, Bool, IsFalse, None, true, ℕ}
+use Rattle.start_laws.specs.Prelude.{Agree, Agrees, Blocks, Dir, EachRingBlock, IsSound, Port, Register, Ring, RowId}
+use Rattle.start_laws.specs.Prelude.{Rx, Rxdctl, Side, State, Tdt, Tx, Txdctl, after, blocks_for, enable_row}
+use Rattle.start_laws.specs.Prelude.{frame_limit, has_bit, is_empty, is_frame, packet_limit, place, reply_to, side_of}
+use Rattle.start_laws.specs.Prelude.{zero_block}
 use Rattle.nic_device.specs.Named.{named}
-use Rattle.nic_device.specs.Receive.{is_empty}
-use Rattle.nic_device.specs.Sound.{IsSound}
-use Rattle.nic_device.specs.State.{State}
-use Rattle.nic_device.specs.Step.{after, reply_to}
 use Rattle.nic_device.specs.declared.event.Event.TheVariants as event
-use Rattle.nic_device.specs.declared.event.Port.{Port}
 use Rattle.nic_device.specs.declared.event.Reply.TheVariants as reply
-use Rattle.nic_device.specs.declared.named.Named.TheVariants.{Register}
-use Rattle.device_lock.specs.Alone.{Blocks}
 use Rattle.pmd.specs.PmdRx.Receive as receive
-use Rattle.pmd.specs.PmdSeam.Frames.{is_frame, packet_limit}
-use Rattle.pmd.specs.PmdSeam.Slots.{blocks_for, EachRingBlock}
 use Rattle.pmd.specs.PmdTx.Sending as transmit
-use Rattle.receive_laws.specs.HistoryLaws.Sides.{Side, side_of}
-use Rattle.receive_laws.specs.Joint.{IsNamed, Agree}
-use Rattle.transmit_laws.specs.Agreeing.{Agrees}
+use Rattle.receive_laws.specs.Joint.{IsNamed}
 use Rattle.start_laws.specs.Standing.{IsZero, Stand, Stands}
-use Rattle.start_laws.specs.Words.{side_with, Fits, NamesRow}
+use Rattle.start_laws.specs.Words.{Fits, NamesRow, side_with}
 
 -- a device in which a driver makes its accesses
 pub record IsMet (queue : ℕ) (s : State) : Type 0 where

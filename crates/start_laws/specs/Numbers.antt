@@ -1,13 +1,8 @@
 -- Which queue of the device a port and a queue's number there name.
-use Rattle.std.specs.Prelude.{ℕ, ◌≡◌, ◌+◌, nat_lt, true, Option, Some, None, if◌then◌else◌}
-use Rattle.nic_device.specs.RegTable.declared.rows.RowId.{RowId}
+use Rattle.std.specs.Prelude.{◌+◌, ◌≡◌, None, Option, Some, if◌then◌else◌, nat_lt, true, ℕ}
+use Rattle.start_laws.specs.Prelude.{AtPort, IsNumberOf, Pf, Port, RowId, State, Vf, is_driven, mode_in}
 use Rattle.nic_device.specs.VfMap.Pools.{queues_of}
 use Rattle.nic_device.specs.VfMap.declared.mode.Mode.{Mode}
-use Rattle.nic_device.specs.RegisterFile.Pools.{mode_in}
-use Rattle.nic_device.specs.State.{State}
-use Rattle.nic_device.specs.declared.event.Port.{Port}
-use Rattle.nic_device.specs.declared.event.Port.TheVariants.{Pf, Vf}
-use Rattle.pmd.specs.PmdSeam.Named.{AtPort, IsNumberOf, is_driven}
 use Rattle.start_laws.specs.Words.{NamesRow}
 
 -- a pool's queue of a number, counted from its first

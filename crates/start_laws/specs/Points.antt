@@ -1,23 +1,12 @@
 -- How the sides of a queue stand at a point of a history, and how a driver's accesses move that on.
-use Rattle.std.specs.Prelude.{ℕ, ◌≡◌, ◌≢◌, ◌<◌, ⊤, Bool, IsTrue, IsFalse, List, [], ◌∷◌}
-use Rattle.nic_device.specs.RegTable.declared.rows.RowId.{RowId}
-use Rattle.nic_device.specs.RegTable.declared.rows.RowId.TheVariants.{Rxdctl, Txdctl}
-use Rattle.nic_device.specs.RegisterFile.Settings.{frame_limit}
-use Rattle.nic_device.specs.DmaRing.declared.dir.Dir.{Dir}
-use Rattle.nic_device.specs.State.{State}
-use Rattle.device_lock.specs.Alone.{Blocks, lent_by}
-use Rattle.device_lock.specs.declared.alone.Watched.{Watched}
-use Rattle.device_lock.specs.declared.entry.Entry.{Entry}
-use Rattle.device_lock.specs.declared.entry.Call.{Call}
-use Rattle.pmd.specs.PmdSeam.QueueMade.{Access, Sees, Sets, AreMade}
-use Rattle.pmd.specs.PmdSeam.Frames.{packet_limit}
-use Rattle.pmd.specs.PmdSeam.Named.{AtPort}
-use Rattle.receive_laws.specs.HistoryLaws.Sides.{Side}
+use Rattle.std.specs.Prelude.{[], ⊤, ◌<◌, ◌∷◌, ◌≡◌, ◌≢◌, Bool, IsFalse, IsTrue, List, ℕ}
+use Rattle.start_laws.specs.Prelude.{Access, AreMade, AtPort, Blocks, Call, Dir, Entry, RowId, Rxdctl, Sees, Sets, Side}
+use Rattle.start_laws.specs.Prelude.{State, Txdctl, Watched, frame_limit, lent_by, packet_limit}
 use Rattle.start_laws.specs.Along.{AtCalls, IsAlong}
 use Rattle.start_laws.specs.Moves.{MayGoOn, side_seen}
 use Rattle.start_laws.specs.Numbers.{NamesQueue}
 use Rattle.start_laws.specs.Standing.{Stand}
-use Rattle.start_laws.specs.Words.{side_with, Fits}
+use Rattle.start_laws.specs.Words.{Fits, side_with}
 
 -- what a driver rests on beside its sides: port and queue name this queue, and frames have at most as many bytes as
 -- the driver's packets

@@ -1,16 +1,9 @@
 -- The polls of a start that timed out, among the calls that its pass made.
-use Rattle.std.specs.Prelude.{ℕ, ◌≡◌, ◌==◌, ◌+◌, ◌&&◌, Bool, true, false, not, List, [], ◌∷◌, ◌++◌, if◌then◌else◌}
-use Rattle.nic_device.specs.DmaArena.Block.{Block}
-use Rattle.nic_device.specs.RegTable.declared.rows.RowId.TheVariants.{Rxdctl, Txdctl}
-use Rattle.nic_device.specs.RegisterFile.Bits.{has_bit}
-use Rattle.nic_device.specs.declared.event.Event.{Event}
+use Rattle.std.specs.Prelude.{[], ◌&&◌, ◌++◌, ◌+◌, ◌==◌, ◌∷◌, ◌≡◌, Bool, List, false, if◌then◌else◌, not, true, ℕ}
+use Rattle.start_laws.specs.Prelude.{AtPort, Block, Call, Event, IsNumberOf, Pf, Port, Reply, Rxdctl, Txdctl, Vf}
+use Rattle.start_laws.specs.Prelude.{has_bit}
 use Rattle.nic_device.specs.declared.event.Event.TheVariants as event
-use Rattle.nic_device.specs.declared.event.Port.{Port}
-use Rattle.nic_device.specs.declared.event.Port.TheVariants.{Pf, Vf}
-use Rattle.nic_device.specs.declared.event.Reply.{Reply}
 use Rattle.nic_device.specs.declared.event.Reply.TheVariants as reply
-use Rattle.device_lock.specs.declared.entry.Call.{Call}
-use Rattle.pmd.specs.PmdSeam.Named.{AtPort, IsNumberOf}
 use Rattle.start_laws.specs.TimedOut.{Asked, TimesOut, none_asked}
 
 abbrev pub same_port : Port → Port → Bool

@@ -1,20 +1,10 @@
 -- A queue whose receive side isn't wanted on, and one whose two sides are off.
-use Rattle.std.specs.Prelude.{ℕ, ◌≡◌, false, IsFalse}
-use Rattle.nic_device.specs.DmaArena.Block.{Block}
-use Rattle.nic_device.specs.RegTable.declared.rows.RowId.TheVariants.{Rxdctl}
-use Rattle.nic_device.specs.RegisterFile.Bits.{has_bit}
-use Rattle.nic_device.specs.DmaRing.declared.dir.Dir.TheVariants.{Rx}
-use Rattle.nic_device.specs.Sound.{IsSound}
-use Rattle.nic_device.specs.State.{State}
-use Rattle.nic_device.specs.Step.{after, reply_to}
-use Rattle.nic_device.specs.declared.event.Event.{Event}
+use Rattle.std.specs.Prelude.{◌≡◌, IsFalse, false, ℕ}
+use Rattle.start_laws.specs.Prelude.{Block, Blocks, Event, IsSound, Port, Rx, Rxdctl, State, Watched, after, has_bit}
+use Rattle.start_laws.specs.Prelude.{reply_to, side_of}
 use Rattle.nic_device.specs.declared.event.Event.TheVariants as event
-use Rattle.nic_device.specs.declared.event.Port.{Port}
 use Rattle.nic_device.specs.declared.event.Reply.TheVariants as reply
-use Rattle.device_lock.specs.Alone.{Blocks}
-use Rattle.device_lock.specs.declared.alone.Watched.{Watched}
 use Rattle.receive_laws.specs.HistoryLaws.Sides as sides
-use Rattle.receive_laws.specs.HistoryLaws.Sides.{side_of}
 use Rattle.transmit_laws.specs.Off as transmit
 use Rattle.start_laws.specs.Moves.{IsMet}
 use Rattle.start_laws.specs.Standing.{IsLeft, Stand}

@@ -1,15 +1,8 @@
 -- A driver that starts sees both sides of its queue off, over a history that leaves the queue alone.
-use Rattle.std.specs.Prelude.{ℕ, Bool, not, ◌&&◌, IsTrue, List}
-use Rattle.nic_device.specs.DmaRing.declared.dir.Dir.TheVariants.{Rx, Tx}
-use Rattle.nic_device.specs.State.{State}
-use Rattle.device_lock.specs.Alone.{lent_by}
-use Rattle.device_lock.specs.declared.alone.Watched.{Watched}
-use Rattle.device_lock.specs.declared.entry.Call.{Call}
-use Rattle.device_lock.specs.declared.entry.Entry.{Entry}
-use Rattle.pmd.specs.PmdSeam.Both.{both_quiet}
-use Rattle.pmd.specs.PmdSeam.QueueMade.{AreMade}
-use Rattle.pmd.specs.PmdSeam.Named.{AtPort}
-use Rattle.receive_laws.specs.HistoryLaws.Sides.{IsOff, Side, side_of}
+use Rattle.std.specs.Prelude.{◌&&◌, Bool, IsTrue, List, not, ℕ}
+use Rattle.start_laws.specs.Prelude.{AreMade, AtPort, Call, Entry, Rx, Side, State, Tx, Watched, both_quiet, lent_by}
+use Rattle.start_laws.specs.Prelude.{side_of}
+use Rattle.receive_laws.specs.HistoryLaws.Sides.{IsOff}
 use Rattle.start_laws.specs.Along.{AtCalls, BeforeLast, IsAlong}
 use Rattle.start_laws.specs.Points.{HasGround, Point, Sides}
 

@@ -1,13 +1,8 @@
 -- What the device replies to the accesses of a driver that starts on a queue whose sides are off.
-use Rattle.std.specs.Prelude.{ℕ, ◌≡◌, ◌⊎◌, true, IsFalse}
-use Rattle.nic_device.specs.RegTable.declared.rows.RowId.{RowId}
-use Rattle.nic_device.specs.RegTable.declared.rows.RowId.TheVariants.{Rxdctl, Txdctl}
-use Rattle.nic_device.specs.RegisterFile.Bits.{has_bit}
-use Rattle.nic_device.specs.State.{State}
-use Rattle.nic_device.specs.Step.{reply_to}
+use Rattle.std.specs.Prelude.{◌≡◌, ◌⊎◌, IsFalse, true, ℕ}
+use Rattle.start_laws.specs.Prelude.{AtPort, IsNumberOf, RowId, Rxdctl, State, Txdctl, has_bit, is_driven, reply_to}
 use Rattle.nic_device.specs.declared.event.Event.TheVariants as event
 use Rattle.nic_device.specs.declared.event.Reply.TheVariants as reply
-use Rattle.pmd.specs.PmdSeam.Named.{AtPort, IsNumberOf, is_driven}
 use Rattle.start_laws.specs.Points.{HasGround}
 use Rattle.start_laws.specs.Quieting.{IsQuiet}
 

@@ -1,14 +1,7 @@
 -- A queue whose sides were switched off, and what is received and sent there from then on.
-use Rattle.std.specs.Prelude.{ℕ, ◌≡◌, ◌≢◌, false, List, [], ◌++◌}
-use Rattle.nic_device.specs.State.{State}
-use Rattle.device_lock.specs.History.{calls_of}
-use Rattle.device_lock.specs.declared.alone.Watched.{Watched}
-use Rattle.device_lock.specs.declared.entry.Call.{Call}
-use Rattle.device_lock.specs.declared.entry.Entry.{Entry}
-use Rattle.pmd.specs.PmdSeam.Both.{IsSwitched}
-use Rattle.pmd.specs.PmdSeam.Named.{AtPort}
+use Rattle.std.specs.Prelude.{[], ◌++◌, ◌≡◌, ◌≢◌, List, false, ℕ}
+use Rattle.start_laws.specs.Prelude.{AtPort, Call, Entry, IsSwitched, State, Watched, calls_of, sent_since}
 use Rattle.receive_laws.specs.Delivered.{delivered}
-use Rattle.transmit_laws.specs.Sent.{sent_since}
 use Rattle.start_laws.specs.Along.{AtCalls, IsAlong}
 use Rattle.start_laws.specs.Points.{HasGround}
 use Rattle.start_laws.specs.Quieting.{IsQuiet}

@@ -1,22 +1,10 @@
 -- The two sides of a queue that stand still: each is off, or on with an empty ring.
-use Rattle.std.specs.Prelude.{ℕ, ◌≡◌, IsTrue, [], Some}
-use Rattle.std.specs.FinMap as map
-use Rattle.nic_device.specs.DmaArena.Block.{Block, zero_block}
-use Rattle.nic_device.specs.DmaArena.Memory.{Memory}
-use Rattle.nic_device.specs.RegisterFile.Pools.{mode_in}
-use Rattle.nic_device.specs.RegisterFile.Settings.{frame_limit}
-use Rattle.nic_device.specs.DmaRing.declared.dir.Dir.{Dir}
-use Rattle.nic_device.specs.Receive.{is_empty}
-use Rattle.nic_device.specs.State.{State}
-use Rattle.nic_device.specs.Step.{after}
-use Rattle.nic_device.specs.declared.event.Event.{Event}
-use Rattle.device_lock.specs.Alone.{Blocks}
-use Rattle.device_lock.specs.declared.alone.Watched.{Watched}
 pub use Rattle.receive_laws.specs.HistoryLaws.Left.{IsLeft}
-use Rattle.receive_laws.specs.HistoryLaws.Sides.{Side, side_of}
-use Rattle.receive_laws.specs.Fitting.{begun_on}
-use Rattle.receive_laws.specs.Pieces.{pieces}
-use Rattle.transmit_laws.specs.Sent.{sent_by}
+use Rattle.std.specs.Prelude.{[], ◌≡◌, IsTrue, Some, ℕ}
+use Rattle.std.specs.FinMap as map
+use Rattle.start_laws.specs.Prelude.{Block, Blocks, Dir, Event, Memory, Side, State, Watched, after, begun_on}
+use Rattle.start_laws.specs.Prelude.{frame_limit, is_empty, mode_in, pieces, sent_by, side_of, zero_block}
+use Rattle.receive_laws.specs.HistoryLaws.Left.{IsLeft}
 
 -- a side is as this one says but for being on, with nothing staged. It is on where this one is, and only where it is
 -- wanted on; and where it is wanted on its ring is empty, so that the device does nothing there

@@ -1,15 +1,8 @@
 -- What a start of the driver leaves, over a legal history that leaves its queue alone.
-use Rattle.std.specs.Prelude.{ℕ, List, []}
-use Rattle.nic_device.specs.DmaArena.Numbers.{Numbers}
-use Rattle.nic_device.specs.State.{State}
-use Rattle.device_lock.specs.declared.alone.Watched.{Watched}
-use Rattle.device_lock.specs.declared.entry.Call.{Call}
-use Rattle.device_lock.specs.declared.entry.Entry.{Entry}
+use Rattle.std.specs.Prelude.{[], List, ℕ}
+use Rattle.start_laws.specs.Prelude.{Agree, Agrees, AtPort, Call, Entry, Numbers, State, Watched}
 use Rattle.pmd.specs.Running.{Running}
 use Rattle.pmd.specs.Started.{AreUp}
-use Rattle.pmd.specs.PmdSeam.Named.{AtPort}
-use Rattle.receive_laws.specs.Joint.{Agree}
-use Rattle.transmit_laws.specs.Agreeing.{Agrees}
 use Rattle.start_laws.specs.Along.{AtCalls, AtEntries, BeforeLast, IsAlong}
 use Rattle.start_laws.specs.Points.{HasGround}
 use Rattle.start_laws.specs.Unused.{WentOn}

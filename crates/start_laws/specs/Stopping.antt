@@ -1,12 +1,7 @@
 -- The calls by which both sides of a queue are switched off and blocks are taken back, beside steps of the device.
-use Rattle.std.specs.Prelude.{ℕ, ◌≡◌, ◌⊎◌, false, List, ◌++◌}
-use Rattle.nic_device.specs.DmaArena.Block.{Block}
-use Rattle.nic_device.specs.declared.event.Event.{Event}
-use Rattle.device_lock.specs.declared.entry.Call.{Call}
+use Rattle.std.specs.Prelude.{◌++◌, ◌≡◌, ◌⊎◌, List, false, ℕ}
+use Rattle.start_laws.specs.Prelude.{AtPort, Block, Call, Event, IsSwitched, PmdFault, SwitchFails}
 use Rattle.pmd.specs.PmdSeam.Home.{Bringing, Brings}
-use Rattle.pmd.specs.PmdSeam.declared.fault.PmdFault.{PmdFault}
-use Rattle.pmd.specs.PmdSeam.Both.{IsSwitched, SwitchFails}
-use Rattle.pmd.specs.PmdSeam.Named.{AtPort}
 use Rattle.start_laws.specs.Ending.{Each, IsAsking, IsEnding}
 
 -- the events of the calls that were made between are such

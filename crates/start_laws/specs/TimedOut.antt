@@ -1,14 +1,8 @@
 -- A start that times out: the reads by which it saw a side of its queue still off.
-use Rattle.std.specs.Prelude.{ℕ, ◌≡◌, ◌+◌, ◌&&◌, ⊤, Bool, false, not, List, [], ◌∷◌, ◌++◌, if◌then◌else◌, None, Err}
-use Rattle.nic_device.specs.DmaArena.Numbers.{Numbers}
-use Rattle.nic_device.specs.RegTable.declared.rows.RowId.TheVariants.{Rxdctl, Txdctl}
-use Rattle.nic_device.specs.RegisterFile.Bits.{has_bit}
-use Rattle.device_lock.specs.declared.entry.Call.{Call}
-use Rattle.pmd.specs.Started.{IsShut, StopsStarting, start_gate}
-use Rattle.pmd.specs.declared.start.StartRefused.{StartRefused}
-use Rattle.pmd.specs.PmdSeam.declared.fault.PmdFault.TheVariants.{StartTimeout}
-use Rattle.pmd.specs.PmdSeam.QueueMade.{Access, Sees, Sets, AreMade}
-use Rattle.pmd.specs.PmdSeam.Named.{AtPort}
+use Rattle.std.specs.Prelude.{[], ⊤, ◌&&◌, ◌++◌, ◌+◌, ◌∷◌, ◌≡◌, Bool, Err, List, None, false, if◌then◌else◌, not, ℕ}
+use Rattle.start_laws.specs.Prelude.{Access, AreMade, AtPort, Call, Numbers, Rxdctl, Sees, Sets, StartRefused}
+use Rattle.start_laws.specs.Prelude.{StartTimeout, StopsStarting, Txdctl, has_bit, start_gate}
+use Rattle.pmd.specs.Started.{IsShut}
 
 -- whether the word that was last written to RXDCTL, and to TXDCTL, has bit 25
 pub record Asked : Type 0 where
@@ -36,8 +30,7 @@ abbrev pub misses : Asked → List Access → ℕ
 misses x [] = 0
 misses x (a ∷ rest) = (if is_miss x a then 1 else 0) + misses (asked_by a x) rest
 
--- an access of RXDCTL or TXDCTL, and accesses that all are
-
+-- an access of RXDCTL or TXDCTL
 abbrev pub IsOfEnable : Access → Type 0
 IsOfEnable (Sees Rxdctl on) = ⊤
 IsOfEnable (Sees Txdctl on) = ⊤
@@ -45,15 +38,16 @@ IsOfEnable (Sets Rxdctl word) = ⊤
 IsOfEnable (Sets Txdctl word) = ⊤
 IsOfEnable other = ⊥
 
-abbrev pub AllEnable : List Access → Type 0
-AllEnable [] = ⊤
-AllEnable (a ∷ rest) = IsOfEnable a × AllEnable rest
+-- each of these accesses is so
+abbrev pub AllAre : (Access → Type 0) → List Access → Type 0
+AllAre K [] = ⊤
+AllAre K (a ∷ rest) = K a × AllAre K rest
 
 -- after some calls come accesses of the queue that have 1,000 such reads, each after a write among them
 pub record TimesOut (q : AtPort) (old new : List Call) : Type 0 where
   pub before : List Call
   pub all : List Access
-  pub enables : AllEnable all
+  pub enables : AllAre IsOfEnable all
   pub made : AreMade q (old ++ before) new all
   pub polls : misses none_asked all ≡ 1000
 

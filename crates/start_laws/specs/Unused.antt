@@ -1,13 +1,7 @@
 -- The sides of a queue over which nothing went since they went on.
-use Rattle.std.specs.Prelude.{ℕ, ◌≡◌, IsTrue, List, [], Some, None}
-use Rattle.nic_device.specs.RegisterFile.Queue.{is_on}
-use Rattle.nic_device.specs.DmaRing.declared.dir.Dir.TheVariants.{Rx, Tx}
-use Rattle.nic_device.specs.State.{State}
-use Rattle.device_lock.specs.History.{leads_to}
-use Rattle.device_lock.specs.declared.entry.Entry.{Entry}
-use Rattle.receive_laws.specs.Delivered.{pieces_since}
+use Rattle.std.specs.Prelude.{[], ◌≡◌, IsTrue, List, None, Some, ℕ}
+use Rattle.start_laws.specs.Prelude.{Entry, Rx, State, Tx, is_on, leads_to, pieces_since, sent_since}
 use Rattle.receive_laws.specs.Up as receiving
-use Rattle.transmit_laws.specs.Sent.{sent_since}
 use Rattle.transmit_laws.specs.Up.{IsUp}
 
 -- where a side is on after these entries, nothing was received or sent since it last went on

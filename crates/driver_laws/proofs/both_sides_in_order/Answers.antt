@@ -1,5 +1,5 @@
-use Rattle.driver_laws.proofs.Earlier.{none_is_all_before}
-use Rattle.driver_laws.proofs.InOrder.{handed_is_prefix, none_is_all, none_is_all_taken, sent_is_prefix, idle_is_all_sent, counted_where_up}
+use Rattle.driver_laws.proofs.InOrder.{counted_where_up, handed_is_prefix, idle_is_all_sent, none_is_all}
+use Rattle.driver_laws.proofs.InOrder.{none_is_all_before, none_is_all_taken, sent_is_prefix}
 use Rattle.driver_laws.proofs.both_sides_in_order.Goals as goal
 
 pub returns : goal.returns

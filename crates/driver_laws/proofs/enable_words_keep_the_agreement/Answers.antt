@@ -1,4 +1,4 @@
-use Rattle.driver_laws.proofs.Enabling.{enable_words_keep}
+use Rattle.driver_laws.proofs.Meeting.{enable_words_keep}
 use Rattle.driver_laws.proofs.enable_words_keep_the_agreement.Goals as goal
 
 pub returns : goal.returns

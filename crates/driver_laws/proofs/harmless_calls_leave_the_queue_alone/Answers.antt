@@ -1,4 +1,5 @@
-use Rattle.driver_laws.proofs.Beside.{calls_add_harmless, drives_lead, harmless_lead, harmless_leave_alone, leads_on, steps_add_harmless}
+use Rattle.driver_laws.proofs.Beside.{calls_add_harmless, drives_lead, harmless_lead, harmless_leave_alone}
+use Rattle.driver_laws.proofs.Beside.{leads_on, steps_add_harmless}
 use Rattle.driver_laws.proofs.harmless_calls_leave_the_queue_alone.Goals as goal
 
 pub returns : goal.returns

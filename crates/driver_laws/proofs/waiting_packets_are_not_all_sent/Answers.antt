@@ -1,4 +1,4 @@
-use Rattle.driver_laws.proofs.Waiting.{waiting_is_not_all}
+use Rattle.driver_laws.proofs.InOrder.{waiting_is_not_all}
 use Rattle.driver_laws.proofs.waiting_packets_are_not_all_sent.Goals as goal
 
 pub returns : goal.returns

@@ -1,19 +1,12 @@
 use Rattle.nic_device.specs.DmaRing.declared.dir.Dir.TheVariants.{Rx, Tx}
-use Rattle.start_laws.proofs.Moves.{write_stands}
-use Rattle.start_laws.proofs.Accesses.{read_stands, lend_stands}
+use Rattle.start_laws.proofs.Standing.{lend_stands, read_stands, write_stands}
 use Rattle.start_laws.proofs.accesses_keep_sides_standing.Goals as goal
 
-pub returns-clause-receive_write : goal.returns-clause-receive_write
-returns-clause-receive_write c = write_stands Rx
-
-pub returns-clause-transmit_write : goal.returns-clause-transmit_write
-returns-clause-transmit_write c = write_stands Tx
-
-pub returns-clause-receive_read : goal.returns-clause-receive_read
-returns-clause-receive_read c = read_stands Rx
-
-pub returns-clause-transmit_read : goal.returns-clause-transmit_read
-returns-clause-transmit_read c = read_stands Tx
-
-pub returns-clause-lend : goal.returns-clause-lend
-returns-clause-lend c = lend_stands
+pub returns : goal.returns
+returns c = record {
+  receive_write = write_stands Rx;
+  transmit_write = write_stands Tx;
+  receive_read = read_stands Rx;
+  transmit_read = read_stands Tx;
+  lend = lend_stands;
+}

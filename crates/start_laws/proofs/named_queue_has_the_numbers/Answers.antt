@@ -1,4 +1,4 @@
-use Rattle.start_laws.proofs.Numbers.{named_queue_has_the_numbers as law}
+use Rattle.start_laws.proofs.Ground.{named_queue_has_the_numbers as law}
 use Rattle.start_laws.proofs.named_queue_has_the_numbers.Goals as goal
 
 pub returns : goal.returns

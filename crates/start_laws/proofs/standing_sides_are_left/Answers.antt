@@ -1,5 +1,5 @@
-use Rattle.start_laws.proofs.Standing.{standing_sides_are_left}
+use Rattle.start_laws.proofs.Standing.{standing_sides_are_left as law}
 use Rattle.start_laws.proofs.standing_sides_are_left.Goals as goal
 
 pub returns : goal.returns
-returns c = standing_sides_are_left
+returns c = law

@@ -1,38 +1,121 @@
--- A side of a queue that is off and not wanted on stays so over every event that doesn't ask the queue on.
-use Rattle.std.proofs.Common.{◌≡◌, ℕ, ◌<◌, ◌&&◌, inl, inr, true, false, Some, cond, refl, sym, ap, ◌∙◌, subst}
-use Rattle.std.proofs.lemmas.Bool.{cases_Bool, eq-eqb}
-use Rattle.pmd_laws.specs.DriverLaws.Prelude.{Block, Dir, Rx, Tx, row_of, Rxdctl, asks_pool_reset, has_bit, place, mode_in, named, IsSound, State, after, Event, Port, Register, Watched, Place, RowId, Mode, enable_row, is_on}
+-- What the entries before a driver's start tell is so of the device there: which queue port and number name, how long
+-- frames are; and that a queue that was never asked on is off.
+use Rattle.nic_device.proofs.EepromImage.Blank.{triples_of-blank}
+use Rattle.nic_device.proofs.RegisterLaws.Owners.{is_place-same}
+use Rattle.nic_device.proofs.RegisterLaws.ReadBack.{off-reset}
+use Rattle.nic_device.proofs.RegisterLaws.Switches.{receive-asked, transmit-asked}
+use Rattle.nic_device.proofs.RegisterLaws.Within.{within-written}
+use Rattle.nic_device.proofs.SidesOn.{sides-after_write}
+use Rattle.nic_device.specs.Access.{named_written}
+use Rattle.nic_device.specs.Eeprom.{reset, with_triples}
 use Rattle.nic_device.specs.EepromImage.Image.{blank}
 use Rattle.nic_device.specs.EepromImage.Triples.{triples_of}
-use Rattle.nic_device.proofs.EepromImage.Blank.{triples_of-blank}
-use Rattle.nic_device.specs.RegTable.declared.rows.RowId.TheVariants.{Txdctl}
-use Rattle.nic_device.specs.VfMap.Owner.{has_queue}
+use Rattle.nic_device.specs.PoolReset.{with_pool_reset, written_below_reset}
 use Rattle.nic_device.specs.RegisterFile.Access.{asks_reset}
 use Rattle.nic_device.specs.RegisterFile.Registers.{Registers, is_wanted}
 use Rattle.nic_device.specs.RegisterLaws.Footprint.{is_place, of_write, pool_renews}
 use Rattle.nic_device.specs.RegisterLaws.Laws.{after_write}
 use Rattle.nic_device.specs.RegisterLaws.Sides.{ReceiveQueue, TransmitQueue}
-use Rattle.nic_device.proofs.RegisterLaws.Owners.{is_place-same}
-use Rattle.nic_device.proofs.RegisterLaws.ReadBack.{off-reset}
-use Rattle.nic_device.proofs.RegisterLaws.Switches.{receive-asked, transmit-asked}
-use Rattle.nic_device.proofs.RegisterLaws.Within.{within-written}
-use Rattle.nic_device.specs.Access.{named_written}
-use Rattle.nic_device.specs.Eeprom.{reset, with_triples}
-use Rattle.nic_device.specs.PoolReset.{with_pool_reset, written_below_reset}
-use Rattle.nic_device.specs.State.{cleared}
 use Rattle.nic_device.specs.Step.{step_of}
-use Rattle.nic_device.specs.declared.event.Event.TheVariants as event
+use Rattle.nic_device.specs.VfMap.Pools.{pools_in, queues_each, queues_of}
+use Rattle.nic_device.specs.VfMap.declared.mode.Mode.TheVariants.{Off, Pools16, Pools32, Pools64}
+use Rattle.nic_device.specs.declared.event.Port.TheVariants.{Pf, Vf}
 use Rattle.nic_device.specs.declared.named.Named.{Named}
 use Rattle.nic_device.specs.declared.named.Named.TheVariants.{Nothing}
-use Rattle.nic_device.proofs.SidesOn.{sides-after_write}
+use Rattle.workers.specs.Beginning.{BeginsWell}
 use Rattle.workers.specs.DeviceLock.Alone.{place_at}
+use Rattle.workers.specs.DeviceLock.Told.{first_settings, settings_through}
+use Rattle.workers.specs.DeviceLock.declared.told.Settings.{Settings}
+use Rattle.workers.specs.Quiet.{NoneAsksOn, asks_on, is_enable}
+use Rattle.workers.specs.Starts.{Starts}
+use Rattle.workers.specs.declared.beginning.Given.{Given}
 use Rattle.pmd_laws.specs.StartLaws.HistoryLaws.Sides.{IsOff, side_of}
+use Rattle.pmd_laws.specs.StartLaws.Numbers.{queue_at, queue_in}
+use Rattle.pmd_laws.proofs.Prelude.{[], ◌&&◌, ◌*◌, ◌++◌, ◌+◌, ◌<◌, ◌∙◌, ◌∷◌, ◌≡◌, AreEvents, Block, Call, Dir, Entry,
+    Event, HasGround, IsSound, List, Mode, None, Option, Place, Port, Register, RowId, Rx, Rxdctl, Some, State, Tx,
+    Txdctl, Watched, ℕ, after, ap, append-nil, append_assoc, arith, asks_pool_reset, cases_Bool, cleared, cond,
+    enable_row, eq-eqb, events_before, false, has_bit, has_queue, if◌then◌else◌, image_stays, inl, inr, is_on, leads_to,
+    left-side, length, ltb-true, mode_in, named, nat_lt, new_sound, new_state, place, refl, row_of, subst, sym, true,
+    vfs_stays}
+use Rattle.pmd_laws.proofs.StartLaws.Histories.{leads-append}
 use Rattle.pmd_laws.proofs.StartLaws.HistoryLaws.Deeds.{side_did}
 use Rattle.pmd_laws.proofs.StartLaws.HistoryLaws.DeviceLaws.PoolResets.{asked_pool_resets}
-use Rattle.pmd_laws.proofs.StartLaws.HistoryLaws.Leaving.{left-side}
+use Rattle.pmd_laws.proofs.StartLaws.HistoryLaws.Limits.{settings_told}
 use Rattle.pmd_laws.proofs.StartLaws.HistoryLaws.Naming.{place_in, place_named}
+use Rattle.pmd_laws.proofs.StartLaws.HistoryLaws.Sound.{histories_sound}
 use Rattle.pmd_laws.proofs.StartLaws.HistoryLaws.Steady.{off_steady, steady_kept}
-use Rattle.workers.specs.Quiet.{asks_on, is_enable}
+use Rattle.pmd_laws.proofs.StartLaws.QueueIn.{is_in, some_where}
+use Rattle.worker_laws.specs.Quiet.{NeverAskedIsQuiet}
+use Rattle.nic_device.specs.declared.event.Event.TheVariants as event
+use Rattle.workers.specs.Queues as told
+
+-- what a history tells is what the device has
+
+same_in : (queues : Option (ℕ × ℕ)) (number : ℕ) → told.queue_in queues number ≡ queue_in queues number
+same_in None number = refl
+same_in (Some queues) number = refl
+
+pub same_named : (mode : Mode) (vfs : ℕ) (port : Port) (number : ℕ)
+    → told.queue_at mode vfs port number ≡ queue_at mode vfs port number
+same_named mode vfs Pf number = refl
+same_named mode vfs (Vf v) number =
+    ap (λ (o : Option ℕ). if nat_lt v vfs then o else None) (same_in (queues_of mode v) number)
+
+-- each of a pool's queues is
+pool_below : (mode : Mode) (pool number : ℕ) → pool < pools_in mode → number < queues_each mode
+    → pool * queues_each mode + number < 128
+pool_below Off pool number in_mode few = absurd (omega (arith, few))
+pool_below Pools16 pool number in_mode few = omega (arith, in_mode, few)
+pool_below Pools32 pool number in_mode few = omega (arith, in_mode, few)
+pool_below Pools64 pool number in_mode few = omega (arith, in_mode, few)
+
+abbrev first_in : Option (ℕ × ℕ) → ℕ
+first_in None = 0
+first_in (Some queues) = queues.0
+
+abbrev count_in : Option (ℕ × ℕ) → ℕ
+count_in None = 0
+count_in (Some queues) = queues.1
+
+pub named_below : (mode : Mode) (vfs : ℕ) (port : Port) (number queue : ℕ)
+    → queue_at mode vfs port number ≡ Some queue → queue < 128
+named_below mode vfs Pf number queue is =
+    let (few, same) = some_where (nat_lt number 128) (Some number) queue is in
+    let below : number < 128 = ltb-true number 128 few in
+    let named : number ≡ queue = cc in
+    subst (λ n. n < 128) named below
+named_below mode vfs (Vf v) number queue is =
+    let (few, there) = some_where (nat_lt v vfs) (queue_in (queues_of mode v) number) queue is in
+    let x = is_in (queues_of mode v) number queue there in
+    let (in_mode, queues) =
+    some_where (nat_lt v (pools_in mode)) (Some (v * queues_each mode, queues_each mode)) (x.first, x.count) x.pool in
+    let first : v * queues_each mode ≡ x.first = ap first_in queues in
+    let count : queues_each mode ≡ x.count = ap count_in queues in
+    let below : v * queues_each mode + number < 128 =
+    pool_below mode v number (ltb-true v (pools_in mode) in_mode) (subst (λ n. number < n) (sym count) x.few) in
+    subst (λ n. n < 128) (sym x.same) (subst (λ n. n + number < 128) first below)
+
+-- port and queue name the watched queue there, and frames are as long as the driver was told
+pub ground_there : (w : Watched) (fifo : ℕ) (old : List Call) (given : Given) (h : List Entry)
+    → IsSound (new_state w.vfs fifo) → AreEvents h → BeginsWell w (length old) given h → (x : Starts w.pass old h)
+    → HasGround w.queue (record { port = given.port; queue = given.queue }) given.frame
+    (leads_to (new_state w.vfs fifo) x.before)
+ground_there w fifo old given h sound events well x =
+    let s : State = leads_to (new_state w.vfs fifo) x.before in
+    let early = events_before x.before (x.first ∷ x.behind) (subst AreEvents (sym x.all) events) in
+    let told : Settings = settings_through w.vfs first_settings x.before in
+    let is = settings_told w.vfs fifo x.before sound early in
+    let vfs : s.vfs ≡ w.vfs = vfs_stays (new_state w.vfs fifo) x.before in
+    let fits = well old refl x in
+    record {
+      names =
+          ap (λ (m : Mode). queue_at m s.vfs given.port given.queue) (sym is.0)
+          ∙ ap (λ (v : ℕ). queue_at told.mode v given.port given.queue) vfs
+          ∙ sym (same_named told.mode w.vfs given.port given.queue) ∙ fits.names;
+      limit = sym is.1 ∙ fits.limit;
+    }
+
+-- a side of a queue that is off and not wanted on stays so over every event that doesn't ask the queue on
 
 -- by the registers
 
@@ -194,3 +277,41 @@ stays_off w s small sound image functions dir (event.Write port n word) none off
 stays_off w s small sound image functions dir e none off =
     steady_kept dir w.queue s e IsOff off off_steady
     (side_did dir w.queue s e sound small (left-side w s functions dir e tt))
+
+-- so a queue that was never asked on is off where its driver starts
+
+module _ (w : Watched) (fifo : ℕ) (sound : IsSound (new_state w.vfs fifo)) (small : w.queue < 128) (dir : Dir)
+    (h : List Entry) (events : AreEvents h) (none : NoneAsksOn w h) where
+  abbrev new : State
+  new = new_state w.vfs fifo
+
+  abbrev OffAt : State → Type 0
+  OffAt s = IsOff (side_of dir w.queue s)
+
+  along : (done rest : List Entry) → done ++ rest ≡ h → OffAt (leads_to new done) → OffAt (leads_to new h)
+  along done [] both off =
+      subst (λ (l : List Entry). OffAt (leads_to new l)) (sym (append-nil done) ∙ both) off
+  along done (e ∷ rest) both off =
+      let early = events_before done (e ∷ rest) (subst AreEvents (sym both) events) in
+      let told = settings_told w.vfs fifo done sound early in
+      let asks = subst (λ m. asks_on w m e.event ≡ false) told.0 (none done e rest both) in
+      let next = stays_off w (leads_to new done) small (histories_sound new done sound early) (image_stays new done)
+      (sym (vfs_stays new done)) dir e.event asks off in
+      along (done ++ e ∷ []) rest (append_assoc done (e ∷ []) rest ∙ both)
+      (subst OffAt (sym (leads-append new done (e ∷ []))) next)
+
+  pub never_on : OffAt (leads_to new h)
+  never_on = along [] h refl (reset_off dir w.queue new small)
+
+pub never_asked_is_quiet : NeverAskedIsQuiet
+never_asked_is_quiet w fifo old given h device events well never x =
+    let sound = new_sound w.vfs fifo device.0 device.1 device.2 in
+    let ground = ground_there w fifo old given h sound events well x in
+    let small = named_below _ _ given.port given.queue w.queue ground.names in
+    let early = events_before x.before (x.first ∷ x.behind) (subst AreEvents (sym x.all) events) in
+    let none = never old refl x in
+    record {
+      ground = ground;
+      receive = never_on w fifo sound small Rx x.before early none;
+      transmit = never_on w fifo sound small Tx x.before early none;
+    }

@@ -2,13 +2,13 @@
 -- from there on.
 use Rattle.start_laws.specs.ReceiveLaws.Steps.{Each}
 use Rattle.driver_laws.specs.Healthy.{lent_by}
-use Rattle.pmd_laws.proofs.Prelude.{[], ◌++◌, ◌+◌, ◌<◌, ◌∙◌, ◌∷◌, ◌≡◌, ◌≢◌, AreApart, AreLent, AreOn, AreUp, AtPort,
-    Blocks, Call, DrivesApart, EachRingBlock, Halves, IsDrawn, IsReceiveReady, IsTransmitReady, IsTrue, List, Lives,
-    MayLend, Numbers, OwnsSame, Receive, Receives, Running, Sender, ℕ, all_drawn, all_exchanged, apart_on, arith,
-    both_ways, cases_eq, each_ring_block, false, false_from_ne_true, first_of, free_before, halves_of, has_lent, inl,
-    inr, is_free, is_free-with_free_other, is_free-with_free_same, is_own, is_own-of_free, is_ring_block, or_cases,
-    or_left, or_right, receiving_apart, refl, ring_block_among, ring_block_is, ring_block_out, ring_blocks, subst, sym,
-    times_among, times_in_hand, times_rest, true, with_free}
+use Rattle.pmd_laws.proofs.Prelude.{[], ◌++◌, ◌+◌, ◌<◌, ◌∙◌, ◌∷◌, ◌≡◌, ◌≢◌, AreApart, AreLent, AreOn, AtPort, Blocks,
+    Call, DrivesApart, EachRingBlock, Halves, IsDrawn, IsReceiveReady, IsTransmitReady, IsTrue, List, Lives, MayLend,
+    Numbers, OwnsSame, Receive, Receives, Running, Sender, ℕ, all_drawn, all_exchanged, apart_on, arith, both_ways,
+    cases_eq, each_ring_block, false, false_from_ne_true, first_of, free_before, halves_of, has_lent, inl, inr, is_free,
+    is_free-with_free_other, is_free-with_free_same, is_own, is_own-of_free, is_ring_block, or_cases, or_left, or_right,
+    receiving_apart, refl, ring_block_among, ring_block_is, ring_block_out, ring_blocks, subst, sym, times_among,
+    times_in_hand, times_rest, true, with_free}
 use Rattle.pmd.specs.PmdRx.Receive as receive
 use Rattle.pmd.specs.PmdTx.Sending as transmit
 
@@ -116,37 +116,32 @@ module _ {q : AtPort} {size frame : ℕ} {old : List Call} {a : Numbers} {ready_
       ∙ (all_drawn a (ring_blocks receive.ring size) ready_arena [] receive.prepared.drawn).owns n
 
   -- what is free then, the transmit ring hasn't lent
-  unlent : (n : ℕ) → is_free both_arena n ≡ true → has_lent t n ≡ false
-  unlent n free =
-      false_from_ne_true (has_lent t n)
-      (λ has.
-      both_ways (is_ring_block transmit.ring size n)
-      (ring_gone ready_arena transmit.ring size both_arena n transmit.prepared.drawn free)
-      (lent_ring transmit n has))
-
   pub may : (n : ℕ) → is_free both_arena n ≡ true
       → MayLend (is_own a) (record { receive = v; transmit = t }) Receives n
-  may n free = (sym (both_own n) ∙ is_own-of_free both_arena n free, unlent n free)
+  may n free = (
+    sym (both_own n) ∙ is_own-of_free both_arena n free,
+    false_from_ne_true (has_lent t n) (λ has.
+        both_ways (is_ring_block transmit.ring size n)
+        (ring_gone ready_arena transmit.ring size both_arena n transmit.prepared.drawn free)
+        (lent_ring transmit n has)),
+  )
 
 -- so a driver lends from there on
 module _ {q : AtPort} {size frame : ℕ} {old : List Call} {a : Numbers} {new : List Call} {r : Running}
     (x : Lives q size frame old a new r) where
-  abbrev up : AreUp q size frame old a x.made x.fresh
-  up = x.up
-
-  abbrev first : Halves
-  first = first_of q size frame old a new r x
-
   pub fresh_own : OwnsSame a x.fresh.arena
   fresh_own n =
-      let posts = up.on.filled.2 in
-      (all_exchanged up.both_arena [] x.fresh.arena (posts.blocks ++ []) (posts.blocks, posts.drawn, λ k. refl)).owns n
-      ∙ both_own up.receive up.transmit n
+      let posts = x.up.on.filled.2 in
+      (all_exchanged x.up.both_arena [] x.fresh.arena (posts.blocks ++ [])
+      (posts.blocks, posts.drawn, λ k. refl)).owns n
+      ∙ both_own x.up.receive x.up.transmit n
 
-  pub all_apart : DrivesApart (is_own a) up.on.mid first new (halves_of r)
+  pub all_apart : DrivesApart (is_own a) x.up.on.mid (first_of q size frame old a new r x) new (halves_of r)
   all_apart =
-      apart_on (is_own a) up.on.mid x.made new first (halves_of x.fresh) (halves_of r)
-      (receiving_apart (is_own a) up.both_arena up.on.mid x.made first (halves_of x.fresh)
-      (may up.receive up.transmit) up.on.plays refl)
+      let on = x.up.on in
+      let first = first_of q size frame old a new r x in
+      apart_on (is_own a) on.mid x.made new first (halves_of x.fresh) (halves_of r)
+      (receiving_apart (is_own a) x.up.both_arena on.mid x.made first (halves_of x.fresh)
+      (may x.up.receive x.up.transmit) on.plays refl)
       (subst (λ (own : Blocks). DrivesApart own x.made (halves_of x.fresh) new (halves_of r))
       (λ i n. fresh_own n i) x.drives.apart)

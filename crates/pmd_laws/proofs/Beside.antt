@@ -51,12 +51,9 @@ own_anew {old = old} {m = m} {later = later} {ahead = ahead} {own = own} x =
 -- the history is along, told anew
 pub retold_along : {w : Watched} {origin : State} {h g : List Entry} → IsRetold w origin h g → IsAlong w origin g
 retold_along {origin = origin} {h = h} {g = g} x = record {
-  small = x.small;
-  sound = x.was.sound;
-  vfs = x.vfs;
+  small = x.small; sound = x.was.sound; vfs = x.vfs; alone = x.alone;
   events = events_same h g x.was.same x.was.events;
-  legal = legal_same origin h g x.was.same x.was.legal;
-  alone = x.alone;
+  legal = legal_same origin h g x.was.same x.was.legal
 }
 
 -- and the driver is told there
@@ -64,21 +61,17 @@ module _ (x : Beside) where
   abbrev anew : IsToldAnew x.q x.size x.frame x.old x.a x.m x.later x.ahead x.own x.told
   anew = own_anew x.told
 
-  abbrev pub told : Told
-  told = record {
-    w = x.w; origin = x.origin; h = x.g; q = x.q; size = x.size; frame = x.frame; old = x.ahead; a = x.a;
-    m = by_own (x.ahead ++ x.told.start) x.m; later = anew.others; along = retold_along x.retold; told = anew.told;
-    begins = record {
-      ground =
-          subst (λ (l : List Call). BeforeLast x.w x.origin x.g l (HasGround x.w.queue x.q x.frame))
-          (sym anew.access) x.ground;
-    }
-  }
-
   -- what held just before its first access holds so
   pub at_access : (P : State → Type 0) → BeforeLast x.w x.origin x.g (x.ahead ++ x.told.first) P
       → BeforeLast x.w x.origin x.g anew.told.started.2.receive.quiet.0 P
   at_access P = subst (λ (l : List Call). BeforeLast x.w x.origin x.g l P) (sym anew.access)
+
+  abbrev pub told : Told
+  told = record {
+    w = x.w; origin = x.origin; h = x.g; q = x.q; size = x.size; frame = x.frame; old = x.ahead; a = x.a;
+    m = by_own (x.ahead ++ x.told.start) x.m; later = anew.others; along = retold_along x.retold; told = anew.told;
+    begins = record { ground = at_access (HasGround x.w.queue x.q x.frame) x.ground }
+  }
 
   pub same_rings : (now x).driver.rings ≡ (own.now told).driver.rings
   same_rings = ap (λ (z : Moment). z.driver.rings) (sym anew.ends)

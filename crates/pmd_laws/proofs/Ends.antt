@@ -17,10 +17,8 @@ life x = record {
   w = x.w; origin = x.origin; h = x.h; q = x.q; size = x.size; frame = x.frame; old = x.old; a = x.a;
   started = x.lived.lives.made; r = x.lived.lives.fresh; made = x.lived.made; k = halves_of x.lived.last;
   is = record {
-    along = x.along;
-    up = x.lived.lives.up;
-    begins = x.begins;
-    since = drives_lead _ _ _ _ x.lived.lives.drives.apart.drives;
+    along = x.along; up = x.lived.lives.up; begins = x.begins;
+    since = drives_lead _ _ _ _ x.lived.lives.drives.apart.drives
   }
 }
 
@@ -81,10 +79,7 @@ silent_over_stop x off done rest y stop all calls =
     sym y.calls ∙ sym (ap (calls_of x.w.pass) all) ∙ calls_joined x.w.pass done rest
     ∙ ap (λ (cs : List Call). cs ++ later) calls in
     let z : EndsOnceOff x.q made (here x y) = record {
-      mid = made;
-      off = off;
-      asks = none_made (IsAsking x.q) made made refl;
-      switched = switched;
-      ends = first_made (IsEnding x.q) off (here x y) x.new later y.rest ends on y.all;
+      mid = made; off = off; asks = none_made (IsAsking x.q) made made refl; switched = switched;
+      ends = first_made (IsEnding x.q) off (here x y) x.new later y.rest ends on y.all
     } in
     silent_off (life x) (here x y) (is_stopping x y) z done rest all calls

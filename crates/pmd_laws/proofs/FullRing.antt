@@ -4,7 +4,7 @@ use Rattle.driver_laws.specs.Prelude.{Asks}
 use Rattle.pmd.specs.PmdTx.Sends.{IsFullWhereTold}
 use Rattle.pmd.specs.PmdTx.declared.answer.TxAnswer.TheVariants.{RingFull}
 use Rattle.start_laws.proofs.TransmitLaws.Packets.{length-segments}
-use Rattle.pmd_laws.specs.FullRing.{AcceptsNone, FullHasNoRoom, NoneHasNoRoom, TellsFull, outstanding}
+use Rattle.pmd_laws.specs.FullRing.{AcceptsNone, TellsFull, outstanding}
 use Rattle.pmd_laws.proofs.Prelude.{[], ◌+◌, ◌<◌, ◌∷◌, ◌≡◌, ◌≤◌, Accepts, Advances, AllOwn, AtPort, Block, Call, Doer,
     Down, Drove, Err, Event, Halves, IfSome, IsOwn, IsTold, Leads, Lends, List, Looks, Moment, Move, None, Numbers, Ok,
     Option, Packet, PmdFault, Reaps, Receives, Reply, Result, Rings, Running, Sender, Sends, SendsWith, Some, Stops, Up,
@@ -112,11 +112,3 @@ module _ (size : ℕ) (m n : Moment) (r : Running) (p : Packet) (is : m.driver.r
       let lacks = by_room_made burst.failed given rest p burst.made n.made burst.there s burst.sends in
       let told = ap outstanding up in
       (omega (arith, left.1, told), omega (arith, lacks, left.0, told))
-
-pub full_has_no_room : FullHasNoRoom
-full_has_no_room q size frame old a m later n p x =
-    full_lacks size (last m later) n (runs x).rings p (runs x).up (room x)
-
-pub none_has_no_room : NoneHasNoRoom
-none_has_no_room q size frame old a m later n p x =
-    none_lacks size (last m later) n (runs x).rings p (runs x).up (room x)

@@ -1,14 +1,9 @@
--- What was made of a device in hand is a history of it.
+-- What was made of a device in hand is a history of it: the calls of pass 0 are those behind what others made.
 use Rattle.pmd_laws.specs.InHand.{DirectIsHistory, InterleavedIsHistory, IsHistoryOf, WasMade, in_hand}
 use Rattle.pmd_laws.proofs.Prelude.{[], ◌++◌, ◌<◌, ◌==◌, ◌||◌, ◌∙◌, ◌∷◌, ◌≡◌, Bool, Call, Entry, IsTrue, LeadsTo,
-    LeavesAlone, LeavesAloneFrom, List, State, ℕ, ap, call_in, calls_of, calls_other, calls_own, cases_Bool, entries_in,
-    events-append, false, filter-append, has_begun, inl, inr, leads-append, leads_to, legal-append, map-append,
+    LeavesAlone, LeavesAloneFrom, List, State, ℕ, ap, call_in, calls_joined, calls_of, calls_other, calls_own,
+    cases_Bool, entries_in, events-append, false, has_begun, inl, inr, leads-append, leads_to, legal-append,
     marked_entries, own_calls, refl, subst, sym, true}
-
--- the calls of pass 0 are those behind what others made
-calls_behind : (before h : List Entry) (calls : List Call) → calls_of 0 before ≡ [] → calls_of 0 h ≡ calls
-    → calls_of 0 (before ++ h) ≡ calls
-calls_behind before h calls none is = rw (filter-append, map-append, none, is) refl
 
 history : (s : State) (queue : ℕ) (before h : List Entry) (calls : List Call) (device : State) → queue < 128
     → WasMade s before → LeadsTo (leads_to s before) h device → calls_of 0 h ≡ calls
@@ -22,7 +17,7 @@ history s queue before h calls device small was led made alone = record {
     legal = legal-append s before h was.legal led.legal;
     alone = alone;
   };
-  made = calls_behind before h calls was.others made;
+  made = calls_joined 0 before h ∙ (λ i. was.others i ++ made i);
   leads = leads-append s before h ∙ led.leads;
 }
 

@@ -119,23 +119,17 @@ module _ (q : AtPort) (lent : Blocks) where
   lent_is : (pass : ℕ) (es : List Entry) → Each (λ c. IsRising c.event) (calls_of pass es) → (n : ℕ)
       → lent_by pass es n ≡ true → lent n ≡ true
   lent_is pass [] are n is = cc
-  lent_is pass (e ∷ es) are n is = elim (cases_Bool (e.pass == pass)) as (λ _. lent n ≡ true) [
-    | inl own ↦
+  lent_is pass (e ∷ es) are n is = elim (or_cases (lent_in pass e n) (lent_by pass es n) is) as (λ _. lent n ≡ true) [
+    | inl here ↦
+        let mine = and_parts _ _ (and_parts _ _ here).1 in
         let each : Each (λ c. IsRising c.event) (call_in e ∷ calls_of pass es) =
-        subst (Each (λ c. IsRising c.event)) (calls_own pass e es own) are in
-        elim (or_cases (lent_in pass e n) (lent_by pass es n) is) [
-          | inl here ↦
-              let mine = (and_parts _ _ here).1 in
-              lends_lent e.event e.reply n each.0 (and_parts _ _ mine).1
-          | inr later ↦ lent_is pass es each.1 n later
-        ]
-    | inr other ↦
-        let each : Each (λ c. IsRising c.event) (calls_of pass es) =
-        subst (Each (λ c. IsRising c.event)) (calls_other pass e es other) are in
-        elim (or_cases (lent_in pass e n) (lent_by pass es n) is) [
-          | inl here ↦ absurd (both_ways _ other (and_parts _ _ (and_parts _ _ here).1).0)
-          | inr later ↦ lent_is pass es each n later
-        ]
+        subst (Each (λ c. IsRising c.event)) (calls_own pass e es mine.0) are in
+        lends_lent e.event e.reply n each.0 mine.1
+    | inr later ↦
+        lent_is pass es (elim (cases_Bool (e.pass == pass)) as (λ _. Each (λ c. IsRising c.event) (calls_of pass es)) [
+          | inl own ↦ (subst (Each (λ c. IsRising c.event)) (calls_own pass e es own) are).1
+          | inr other ↦ subst (Each (λ c. IsRising c.event)) (calls_other pass e es other) are
+        ]) n later
   ]
 
 -- what a part of a history lends
@@ -159,8 +153,8 @@ module _ (w : Watched) (origin : State) (h : List Entry) (q : AtPort) (old first
     (along : IsAlong w origin h) (own lent : Blocks) (begins : IsMade q old first (Sees Rxdctl false))
     (fresh : BeforeLast w origin h first (NoneLent own)) (others : OnlyPassLends w.pass own h)
   where
-    lent_since : {calls more : List Call} {c : Call} (done rest : List Entry) → done ++ rest ≡ h → calls ++ c ∷ [] ≡ first
-        → Each (λ d. IsRising q lent d.event) (c ∷ more) → Around w.pass done calls c more
+    lent_since : {calls more : List Call} {c : Call} (done rest : List Entry) → done ++ rest ≡ h
+        → calls ++ c ∷ [] ≡ first → Each (λ d. IsRising q lent d.event) (c ∷ more) → Around w.pass done calls c more
         → OnlyLent own lent (leads_to origin done).memory
     lent_since done rest all made rising x =
         let es : List Entry = x.entry ∷ x.behind in

@@ -4,10 +4,10 @@ use Rattle.driver_laws.proofs.Earlier.{none_is_all_before}
 use Rattle.driver_laws.proofs.Waiting.{waiting_is_not_all}
 use Rattle.pmd_laws.specs.Looks.{EndsAt, LooksInVain, NoneIsAllAtFirst, NoneIsAllBefore}
 use Rattle.pmd_laws.proofs.Order.{Later, early_parts, late_parts, life_early, life_then, none_of_life, parts_join}
-use Rattle.pmd_laws.proofs.Prelude.{[], ◌++◌, ◌∙◌, ◌∷◌, ◌≡◌, Adds, AddsHarmless, Block, Call, Drives, Entry, Event,
-    FindsNone, FindsWaiting, Halves, IsLegal, Life, List, Receive, Reply, WaitingIsNotAllBefore, ap, append_assoc,
-    bytes_of, call_in, call_of, calls_of, delivered, drives_lead, halves_of, harmless_lead, leads_on, leads_to,
-    legal_behind, receiving_drives, refl, reply_to, same_from_push, sending_drives, steps_harmless, subst, sym}
+use Rattle.pmd_laws.proofs.Prelude.{[], ◌++◌, ◌∙◌, ◌∷◌, ◌≡◌, Adds, Block, Call, Drives, Entry, Event, FindsNone,
+    FindsWaiting, Halves, IsLegal, Life, List, Receive, Reply, WaitingIsNotAllBefore, ap, append_assoc, bytes_of,
+    call_in, call_of, calls_of, delivered, drives_lead, halves_of, harmless_lead, leads_on, leads_to, legal_behind,
+    receiving_drives, refl, reply_to, same_from_push, sending_drives, steps_harmless, subst, sym}
 use Rattle.pmd_laws.proofs.Order as order
 
 -- behind a life come calls that drive its halves on, and then one call more, at an entry of the history
@@ -29,16 +29,11 @@ module _ (x : Life) {mid new : List Call} (e : Event Block) (reply : Reply Block
   -- and the life goes on up to it
   abbrev up_to : Later x
   up_to = record {
-    late = at.before;
-    rest = at.entry ∷ at.behind;
-    split = at.all;
-    calls = mid ++ adds.0;
-    then = then;
+    late = at.before; rest = at.entry ∷ at.behind; split = at.all; calls = mid ++ adds.0; then = then; made = ends.0;
     goes =
         leads_on x.started mid (mid ++ adds.0) (halves_of x.r) then then
         (leads_on x.started x.made mid (halves_of x.r) x.k then x.is.since (drives_lead x.made mid x.k then drives))
-        (harmless_lead mid (mid ++ adds.0) then (adds.0, refl, steps_harmless adds.0 adds.2));
-    made = ends.0;
+        (harmless_lead mid (mid ++ adds.0) then (adds.0, refl, steps_harmless adds.0 adds.2))
   }
 
 module _ (x : Life) (new : List Call) (v : Receive) (y : LooksInVain x new v) where
@@ -58,11 +53,8 @@ module _ (x : Life) (new : List Call) (v : Receive) (y : LooksInVain x new v) wh
   finds : FindsNone (leads_to origin y.look.before) v
   finds = record {
     shows = record {
-      looks = y.looks.stage;
-      posted = y.looks.posted;
-      bytes = y.looks.bytes;
-      reply = answered x _ _ vain_drives y.looks.last y.look;
-      waits = y.looks.waits;
+      looks = y.looks.stage; posted = y.looks.posted; bytes = y.looks.bytes; waits = y.looks.waits;
+      reply = answered x _ _ vain_drives y.looks.last y.look
     };
     none_whole = y.looks.none_whole;
   }
@@ -71,30 +63,28 @@ module _ (x : Life) (new : List Call) (v : Receive) (y : LooksInVain x new v) wh
   same : v.handed ≡ k.receive.handed
   same = ap (λ (z : Receive). z.handed) y.looks.left
 
-  -- both places, from where the sides went on
-  all_at_first : (early more : List Entry) → early ++ more ≡ y.look.before → AddsHarmless made (calls_of w.pass early)
-      → k.receive.handed ≡ delivered w.queue origin early
-  all_at_first early more all is =
-      let sooner = life_early x vain_at early more all is in
-      let p = early_parts x vain_at early more all is in
-      let p_late = late_parts x vain_at early more all is in
-      let here = order.last sooner p in
-      let there = order.last (life_then x vain_at) p_late in
-      ap (λ (z : Halves). z.receive.handed) (sym here)
-      ∙ none_is_all_before w origin p.front p.back more (order.first x) (order.whole sooner).0
-      (order.whole (life_then x vain_at)).0 (order.driven sooner p) (order.driven (life_then x vain_at) p_late)
-      (subst (λ (z : Halves). FindsNone (leads_to origin (p.front ++ (p.back ++ more))) z.receive) (sym there)
-      (subst (λ (es : List Entry). FindsNone (leads_to origin es) v) (sym (parts_join x vain_at early more all is))
-      finds))
-      (ap (λ (z : Halves). z.receive.handed) there ∙ same ∙ ap (λ (z : Halves). z.receive.handed) (sym here))
-      ∙ ap (delivered w.queue origin) p.both
-
 pub none_before_look : NoneIsAllBefore
 none_before_look x new v y =
     sym (same x new v y) ∙ none_of_life (life_then x (vain_at x new v y)) (vain_at x new v y).made (finds x new v y)
 
+-- both places, from where the sides went on
 pub none_at_first : NoneIsAllAtFirst
-none_at_first = all_at_first
+none_at_first x new v y early more all is =
+    let l = vain_at x new v y in
+    let sooner = life_early x l early more all is in
+    let p = early_parts x l early more all is in
+    let p_late = late_parts x l early more all is in
+    let here = order.last sooner p in
+    let there = order.last (life_then x l) p_late in
+    ap (λ (z : Halves). z.receive.handed) (sym here)
+    ∙ none_is_all_before x.w x.origin p.front p.back more (order.first x) (order.whole sooner).0
+    (order.whole (life_then x l)).0 (order.driven sooner p) (order.driven (life_then x l) p_late)
+    (subst (λ (z : Halves). FindsNone (leads_to x.origin (p.front ++ (p.back ++ more))) z.receive) (sym there)
+    (subst (λ (es : List Entry). FindsNone (leads_to x.origin es) v) (sym (parts_join x l early more all is))
+    (finds x new v y)))
+    (ap (λ (z : Halves). z.receive.handed) there ∙ same x new v y
+    ∙ ap (λ (z : Halves). z.receive.handed) (sym here))
+    ∙ ap (delivered x.w.queue x.origin) p.both
 
 -- a look that finds a packet waiting
 
@@ -106,10 +96,8 @@ waiting_before_look x new v y early more all is same =
     let drives = sending_drives x.made y.looks.mid x.k then y.looks.plays refl in
     let l = up_to x _ _ drives y.looks.looks y.look in
     let finds : FindsWaiting (leads_to x.origin l.late) sender = record {
-      bytes = y.looks.bytes;
-      posted = y.looks.posted;
-      told = answered x _ _ drives y.looks.looks y.look;
-      waits = y.looks.waits;
+      bytes = y.looks.bytes; posted = y.looks.posted; waits = y.looks.waits;
+      told = answered x _ _ drives y.looks.looks y.look
     } in
     -- both places, from where the sides went on
     let p = early_parts x l early more all is in

@@ -10,12 +10,12 @@ use Rattle.pmd_laws.proofs.Lent.{known_at, others_before, others_behind, short_a
 use Rattle.pmd_laws.proofs.Order.{along_before, driven_by, last_before}
 use Rattle.pmd_laws.proofs.Prelude.{[], ◌++◌, ◌∙◌, ◌∷◌, ◌≡◌, AllLendApart, AllOwn, AreOn, AreShort, AtPort, BeforeLast,
     Blocks, Call, DeviceFault, Doer, DrivesApart, DrivesRings, Elsewhere, Entry, FailedAmid, FindsBy, FindsFault,
-    Halves, HasGround, IfErr, IfSome, IsAlong, IsFresh, IsUnshared, LeadsApart, List, NoBurstMeetsFault,
-    NoCallFindsFault, None, Numbers, OnlyPassLends, Option, OthersHarmless, OwnCall, Packet, Parts, PmdFault, Receive,
-    Receives, Result, Running, Sender, Sends, SendsAtFault, SendsWith, Some, State, Told, Watched, ℕ, ap, apart_none,
-    apart_on, append-nil, append_assoc, append_cancel_left, both_own, call_of, calls_joined, calls_of, doers_other,
-    driven_apart, false, halves_of, harmless_both, is_healthy, is_neither, is_own, leads_to, met_by, on,
-    others_harmless, others_own, others_played, own_length, parts, played_by, refl, subst, sym}
+    Halves, HasGround, IfErr, IfSome, IsAlong, IsFresh, LeadsApart, List, NoBurstMeetsFault, NoCallFindsFault, None,
+    Numbers, OnlyPassLends, Option, OthersHarmless, OwnCall, Packet, Parts, PmdFault, Receive, Receives, Result,
+    Running, Sender, Sends, SendsAtFault, SendsWith, Some, State, Told, Watched, ℕ, ap, apart_none, apart_on,
+    append-nil, append_assoc, append_cancel_left, both_own, call_of, calls_joined, calls_of, doers_other, driven_apart,
+    false, halves_of, harmless_both, is_healthy, is_neither, is_own, leads_to, met_by, on, others_harmless, others_own,
+    others_played, own_length, parts, played_by, refl, subst, sym}
 use Rattle.pmd_laws.proofs.Told.{goes, led, owns_still, up_next}
 
 -- a call whose reply no healthy queue gives is a half's
@@ -32,28 +32,27 @@ module _ {own : Blocks} {on : List Call} {h : Halves} {new : List Call} (f : Fin
   abbrev last : Call
   last = call_of f.event f.reply
 
-  abbrev since : List Call
-  since = f.drives.drives.1
-
   abbrev made : List Call
-  made = since ++ (before ++ last ∷ [])
+  made = f.drives.drives.1 ++ (before ++ last ∷ [])
 
   made_is : new ≡ on ++ made
   made_is =
       f.adds.1 ∙ ap (λ (l : List Call). l ++ (before ++ last ∷ [])) f.drives.drives.2
-      ∙ append_assoc on since (before ++ last ∷ [])
+      ∙ append_assoc on f.drives.drives.1 (before ++ last ∷ [])
 
   own_all : AllOwn h (doers_of own on h new f) made
   own_all =
-      let there : Halves = played_by h f.drives.drives.0 since in
-      both_own h f.drives.drives.0 (doers_other before ++ f.doer ∷ []) since (before ++ last ∷ []) f.drives.drives.3
+      let (doers, since, made, own, is, steps) = f.drives.drives in
+      let there : Halves = played_by h doers since in
+      both_own h doers (doers_other before ++ f.doer ∷ []) since (before ++ last ∷ []) own
       (both_own there (doers_other before) (f.doer ∷ []) before (last ∷ []) (others_own there before)
-      (subst (λ (k : Halves). OwnCall k f.doer last) (f.drives.drives.4 ∙ others_played there before) f.mine, tt))
+      (subst (λ (k : Halves). OwnCall k f.doer last) (is ∙ others_played there before) f.mine, tt))
 
   others_step : OthersStep (doers_of own on h new f) made
   others_step =
-      steps_both is_neither f.drives.drives.0 (doers_other before ++ f.doer ∷ []) since (before ++ last ∷ [])
-      (own_length h f.drives.drives.0 since f.drives.drives.3) f.drives.drives.5
+      let (doers, since, made, own, is, steps) = f.drives.drives in
+      steps_both is_neither doers (doers_other before ++ f.doer ∷ []) since (before ++ last ∷ [])
+      (own_length h doers since own) steps
       (steps_last is_neither (Sends Elsewhere) f.doer before last (sick_own f.there f.doer last f.sick) f.adds.2)
 
 -- calls that lead to such a call are part of it
@@ -101,11 +100,12 @@ module _ {w : Watched} {origin : State} {h : List Entry} {q : AtPort} {size fram
           (own_length first doers (calls_of w.pass rest) did) harmless (others_harmless ends (made f) (others_step f)))
 
       -- the driver takes as many blocks for a packet as its start was told
-      unshared : IsUnshared w origin front (rest ++ more) first (doers ++ ends) own
-      unshared =
+      none_there : ⊥
+      none_there =
           let p : Parts w.pass h on (calls_of w.pass (rest ++ more)) =
           record { front = front; back = rest ++ more; both = all; fronts = fronts; backs = refl } in
-          let short = short_at up along own well fresh front (rest ++ more) all fronts in record {
+          let short = short_at up along own well fresh front (rest ++ more) all fronts in
+          no_fault w origin front rest more first doers own mid (calls_of w.pass h) f did apart mids (record {
             driven = driven_by up along well p (doers ++ ends) own_both others_both;
             short =
                 subst (λ (most : ℕ). AreShort w.queue most (leads_to origin front))
@@ -116,11 +116,7 @@ module _ {w : Watched} {origin : State} {h : List Entry} {q : AtPort} {size fram
                 others front (rest ++ more) all fronts;
             others =
                 others_behind w.pass own front (rest ++ more) (subst (OnlyPassLends w.pass own) (sym all) others);
-          }
-
-      none_there : ⊥
-      none_there =
-          no_fault w origin front rest more first doers own mid (calls_of w.pass h) f did apart mids unshared
+          })
 
     pub no_fault_led_on : (mid : List Call) (k : Halves) → LeadsApart own on first mid k
         → FindsFault own mid k (calls_of w.pass h) → ⊥

@@ -1,19 +1,17 @@
 -- What a driver handed out and what it sent in its life, and within a longer history: what begins a life is one too, at
 -- a place where only harmless calls came behind it, and at a later one.
 use Rattle.device_lock.proofs.Histories.{events_before, legal_before}
-use Rattle.start_laws.proofs.Lent.{IsLentBy}
 use Rattle.start_laws.proofs.On.{on_some, other_lent, ring_lent, switched_sides_agree, switched_sides_go_on}
 use Rattle.start_laws.proofs.Parts.{begun as begun_by}
-use Rattle.start_laws.specs.TransmitLaws.Agreeing.{Agrees}
 use Rattle.driver_laws.specs.Histories.{IsDriven}
 use Rattle.pmd_laws.proofs.Begun.{first_halves, halves_apart, halves_lent}
-use Rattle.pmd_laws.proofs.Prelude.{[], ◌++◌, ◌∙◌, ◌∷◌, ◌≡◌, AddsHarmless, Agree, AllOwn, AreEvents, AreLent, AreOn,
-    AreUp, AtPort, BeforeLast, Call, Doer, EachRingBlock, Entry, FindsNone, Halves, HasGround, IsAlong, IsLegal, Leads,
-    LeavesAloneFrom, Life, List, Numbers, OthersHarmless, Parts, Receive, Sender, ShowsNone, State, Watched, WentOn, ℕ,
-    ap, append_assoc, append_cancel_left, beginning_alone, bytes_of, calls_joined, calls_of, counted_where_up,
-    delivered, drives_lead, halves_of, handed_is_prefix, harmless_lead, harmless_leave_alone, idle_is_all_sent,
-    leads_on, leads_to, lent_by, none_is_all, none_is_all_taken, on, parts, played_by, receiving_drives, records_of,
-    refl, sent_in, sent_is_prefix, sent_since, subst, sym}
+use Rattle.pmd_laws.proofs.Prelude.{[], ◌++◌, ◌∙◌, ◌∷◌, ◌≡◌, AddsHarmless, AllOwn, AreEvents, AreLent, AreOn, AreUp,
+    AtPort, BeforeLast, Call, Doer, Entry, FindsNone, Halves, HasGround, IsAlong, IsLegal, Leads, LeavesAloneFrom, Life,
+    List, Numbers, OthersHarmless, Parts, Receive, Sender, ShowsNone, State, Watched, WentOn, ℕ, ap, append_assoc,
+    append_cancel_left, beginning_alone, bytes_of, calls_joined, calls_of, counted_where_up, delivered, drives_lead,
+    halves_of, handed_is_prefix, harmless_lead, harmless_leave_alone, idle_is_all_sent, leads_on, leads_to, lent_by,
+    none_is_all, none_is_all_taken, on, parts, played_by, receiving_drives, records_of, refl, sent_in, sent_is_prefix,
+    sent_since, subst, sym}
 use Rattle.pmd_laws.specs.Order as order
 use Rattle.start_laws.specs.ReceiveLaws.Delivered as receive
 use Rattle.start_laws.specs.TransmitLaws.Laws as transmit
@@ -27,31 +25,24 @@ module _ {w : Watched} {origin : State} {h : List Entry} {q : AtPort} {size fram
   sides_went_on =
       switched_sides_go_on w origin h q size frame old a mid v t up along well p.front p.back p.both p.fronts
 
-  agrees : Agree w.queue (leads_to origin p.front) [] v × Agrees (leads_to origin p.front) w.queue [] t
-  agrees =
-      switched_sides_agree w origin h q size frame old a mid v t up along well p.front p.back p.both p.fronts
-
-  one : EachRingBlock up.receive.ring size (λ n. IsLentBy w.pass n h)
-  one = ring_lent w origin h q size frame old a mid v t up along up.sized well p.front p.back p.both p.fronts
-
-  two : EachRingBlock up.transmit.ring size (λ n. IsLentBy w.pass n h)
-  two = other_lent w origin h q size frame old a mid v t up along up.sized well p.front p.back p.both p.fronts
-
   -- by the doers of the calls behind it
   pub driven_by : (doers : List Doer) → AllOwn (first_halves up) doers ys → OthersHarmless doers ys
       → IsDriven w origin p.front p.back (first_halves up) doers
   driven_by doers own harmless =
-      let all = sym p.both in record {
-        sound = along.sound;
-        vfs = along.vfs;
+      let all = sym p.both in
+      let agrees =
+      switched_sides_agree w origin h q size frame old a mid v t up along well p.front p.back p.both p.fronts in
+      let one = ring_lent w origin h q size frame old a mid v t up along up.sized well p.front p.back p.both p.fronts in
+      let two =
+      other_lent w origin h q size frame old a mid v t up along up.sized well p.front p.back p.both p.fronts in
+      record {
+        sound = along.sound; vfs = along.vfs; on = sides_went_on.received; up = sides_went_on.receives;
         events = subst AreEvents all along.events;
         legal = subst (IsLegal origin) all along.legal;
         alone = subst (LeavesAloneFrom w origin) all along.alone;
         begun =
             begun_by w.pass p.front
             (λ none. on_some w origin h q size frame old a mid v t up along up.sized well (sym p.fronts ∙ none));
-        on = sides_went_on.received;
-        up = sides_went_on.receives;
         agree = record { receive = agrees.0; transmit = agrees.1; apart = halves_apart up };
         lent =
             subst (λ (l : List Entry). AreLent (lent_by w.pass l) (first_halves up)) all
@@ -95,7 +86,7 @@ module _ (x : Life) where
     last = ap (played_by first whole.0) p.backs ∙ sym whole.4
 
     -- and so it holds of the whole history
-    in_all : (P : Halves → List Entry → Type 0)
+    pub in_all : (P : Halves → List Entry → Type 0)
         → P (played_by first whole.0 (calls_of w.pass p.back)) (p.front ++ p.back) → P k h
     in_all P holds = subst (P k) p.both (subst (λ (z : Halves). P z (p.front ++ p.back)) last holds)
 
@@ -146,9 +137,7 @@ idle_of_life x lived none =
 module _ (w : Watched) (origin : State) {h : List Entry} (before rest : List Entry) (all : before ++ rest ≡ h) where
   pub along_before : IsAlong w origin h → IsAlong w origin before
   along_before x = record {
-    small = x.small;
-    sound = x.sound;
-    vfs = x.vfs;
+    small = x.small; sound = x.sound; vfs = x.vfs;
     events = events_before before rest (subst AreEvents (sym all) x.events);
     legal = legal_before origin before rest (subst (IsLegal origin) (sym all) x.legal);
     alone = beginning_alone w origin before rest (subst (LeavesAloneFrom w origin) (sym all) x.alone);
@@ -217,10 +206,7 @@ module _ (x : Life) (l : Later x) where
     -- both begin as the sides went on
     abbrev pub late_parts : Parts x.w.pass l.late x.is.up.on.mid (whole life_then).1
     late_parts = record {
-      front = early_parts.front;
-      back = early_parts.back ++ more;
-      both = parts_join;
-      fronts = early_parts.fronts;
+      front = early_parts.front; back = early_parts.back ++ more; both = parts_join; fronts = early_parts.fronts;
       backs =
           append_cancel_left x.is.up.on.mid (calls_of x.w.pass (early_parts.back ++ more)) (whole life_then).1
           (ap (λ (cs : List Call). cs ++ calls_of x.w.pass (early_parts.back ++ more)) (sym early_parts.fronts)

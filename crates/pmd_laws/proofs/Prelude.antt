@@ -7,15 +7,13 @@ pub use Rattle.std.proofs.lemmas.Bool.{and_from, and_parts, both_ways, cases_Boo
     true_from_ne_false}
 pub use Rattle.std.proofs.lemmas.List.{append-nil, append_cancel_left, length-append, length-drop, map-append,
     same_from_push}
-pub use Rattle.std.proofs.lemmas.List.Elements.{All-cons, All-filter, All-head, All-nil, All-push, All-tail, All-weaker,
-    filter-append}
 pub use Rattle.std.specs.List.{list_any}
 pub use Rattle.std.specs.Prelude.{⊤, ◌==◌, All, IsFalse, IsTrue, is_some, slice_index}
-pub use Rattle.driver_laws.specs.Prelude.{Accepts, Access, Adds, Advances, Agree, AllLendApart, AllOwn, AreEvents,
-    AreMade, AreSteps, AreUp, AtPort, Block, Blocks, Call, DeviceFault, Dir, Doer, Down, DrivesApart, DrivesRings,
-    EachRingBlock, Elsewhere, Entry, Event, FindsFault, FindsNone, FitsBlocks, Halted, Halves, HasAll, IsEvent, IsLegal,
-    IsMade, IsNumberOf, IsPrepared, IsReceiveReady, IsSound, IsSwitched, IsUp, LeavesAloneFrom, Lends, LendsNone, Looks,
-    Memory, Mode, Move, Numbers, OnlyLent, OwnCall, Packet, Piece, Place, PmdFault, Port, Rdt, Reaps, Receive, Receives,
+pub use Rattle.driver_laws.specs.Prelude.{Accepts, Access, Adds, Advances, AllLendApart, AllOwn, AreEvents, AreMade,
+    AreSteps, AreUp, AtPort, Block, Blocks, Call, DeviceFault, Dir, Doer, Down, DrivesApart, DrivesRings, EachRingBlock,
+    Elsewhere, Entry, Event, FindsFault, FindsNone, FitsBlocks, Halted, Halves, HasAll, IsEvent, IsLegal, IsMade,
+    IsNumberOf, IsPrepared, IsReceiveReady, IsSound, IsSwitched, IsUp, LeavesAloneFrom, Lends, LendsNone, Looks, Memory,
+    Mode, Move, Numbers, OnlyLent, OwnCall, Packet, Piece, Place, PmdFault, Port, Rdt, Reaps, Receive, Receives,
     Register, Reply, Rest, Rings, RowId, Running, Rx, Rxdctl, Sees, Sender, Sends, Sets, ShowsNone, StartRefused, State,
     StopsBy, StopsStarting, Tx, Up, Watched, WhereUp, WritesOutside, accepted_of, after, after_call, arena_of,
     asks_pool_reset, both_quiet, bytes_of, call_in, call_of, calls_of, delivered, doers_other, drive, enable_row,
@@ -94,12 +92,11 @@ pub use Rattle.driver_laws.proofs.Retold.{events_same, legal_same, same_delivers
 pub use Rattle.driver_laws.specs.Agreeing.{AreApart, AreLent, BothAgree}
 pub use Rattle.driver_laws.specs.Before.{AreShort, OnlyPassLends}
 pub use Rattle.driver_laws.specs.Beside.{AddsHarmless, Leads, OthersHarmless, is_harmless}
-pub use Rattle.driver_laws.specs.Healthy.{IsUnshared}
 pub use Rattle.pmd_laws.specs.Beside.{AllFollowBy, Beside, FollowsBy, GoesOn, IsCalledBeside, IsRetold, IsToldAnew,
     IsToldBeside, IsToldBy, WasTold, by_own, now}
 pub use Rattle.pmd_laws.specs.Ends.{Ended, HandedOverStop, IsOver, LeftIsPrefix, SentOverStop}
 pub use Rattle.pmd_laws.specs.Faultless.{BeginsApart, IsFresh, IsQuietAndFresh, NoBurstMeetsFault, NoCallFindsFault,
-    NoStartFindsFault, NoneLent, SendsAtFault, met_by}
+    NoneLent, SendsAtFault, met_by}
 pub use Rattle.pmd_laws.specs.Lends.{first_of}
 pub use Rattle.pmd_laws.specs.Life.{IsLife, Life}
 pub use Rattle.pmd_laws.specs.Order.{IsLived}

@@ -12,12 +12,12 @@ use Rattle.pmd_laws.proofs.NoFault.{found_on, no_fault_once_on}
 use Rattle.pmd_laws.proofs.Order.{along_before, last_before}
 use Rattle.pmd_laws.proofs.Prelude.{[], ◌++◌, ◌+◌, ◌<◌, ◌==◌, ◌∙◌, ◌∷◌, ◌≡◌, ◌⊎◌, Access, Adds, AllAre, AreMade, AtPort,
     BeforeLast, BeforeNext, BeginsApart, Block, Blocks, Call, DeviceFault, Dir, Entry, Event, FaultsEarly,
-    FaultsFilling, FindsFault, Halves, IsDrawn, IsDriven, IsFalse, IsMade, IsOtherwise, IsQuietAndFresh, List, MayLend,
-    NoStartFindsFault, Numbers, OnlyPassLends, PreparingFails, ReceiveFails, Receives, Reply, Rx, Rxdctl, Sees, Sets,
-    State, StopsBy, Tx, Watched, ℕ, all_before, among_times, ap, arith, both_quiet, both_ways, call_of, false,
-    faults_are_early_or_filling, free_before, has_block, inl, inr, is_free, is_own, is_own-of_free, is_step, list_any,
-    no_fault_is_early, none_made, parts, receiving_apart, refl, ring_block_is, ring_block_out, ring_blocks, ring_words,
-    some_made, subst, sym, then_made, times-append, times_among, times_in_hand, true, words_are_writes, writes_driven}
+    FaultsFilling, FindsFault, Halves, IsDrawn, IsDriven, IsFalse, IsMade, IsOtherwise, IsQuietAndFresh, List, Numbers,
+    OnlyPassLends, PreparingFails, ReceiveFails, Reply, Rx, Rxdctl, Sees, Sets, State, StopsBy, Tx, Watched, ℕ,
+    all_before, among_times, ap, arith, both_quiet, both_ways, call_of, false, free_before, has_block, inl, inr, is_own,
+    is_own-of_free, is_step, list_any, no_fault_is_early, none_made, parts, receiving_apart, refl, ring_block_is,
+    ring_block_out, ring_blocks, ring_words, some_made, subst, sym, then_made, times-append, times_among, times_in_hand,
+    true, words_are_writes, writes_driven}
 use Rattle.nic_device.specs.declared.event.Event.TheVariants as event
 use Rattle.nic_device.specs.declared.event.Reply.TheVariants as reply
 
@@ -146,14 +146,10 @@ module _ (x : BeginsApart) where
     abbrev first : Halves
     first = record { receive = f.empty; transmit = f.sender }
 
-    abbrev filled : Halves
-    filled = record { receive = f.fails.ring; transmit = f.sender }
-
-    abbrev may_first : (n : ℕ) → is_free f.on.both_arena n ≡ true → MayLend (is_own a) first Receives n
-    may_first = may f.on.receive f.on.transmit
-
     found : FindsFault (is_own a) f.mid first new
     found =
+        let filled : Halves = record { receive = f.fails.ring; transmit = f.sender } in
+        let may_first = may f.on.receive f.on.transmit in
         found_on
         (receiving_apart (is_own a) f.on.both_arena f.mid f.fails.mid first filled may_first
         (record { plays = f.fails.plays; free = f.fails.free }) refl)
@@ -179,7 +175,3 @@ module _ (x : BeginsApart) where
       (others_before w.pass (is_own a) p.front p.back
       (subst (OnlyPassLends w.pass (is_own a)) (sym p.both) x.others))
       (subst (FindsFault (is_own a) f.mid (first f)) (sym p.fronts) (found f))
-
-pub no_start_finds_fault : NoStartFindsFault
-no_start_finds_fault x e stops is =
-    never_at_fault x (faults_are_early_or_filling x.q x.size x.frame x.old x.a x.new e stops is)

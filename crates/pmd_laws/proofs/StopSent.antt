@@ -12,7 +12,7 @@ use Rattle.start_laws.specs.Standing.{IsLeft}
 use Rattle.driver_laws.proofs.Enabling.{enable_words_keep}
 use Rattle.driver_laws.proofs.Meeting.{Meets, neither_keeps}
 use Rattle.driver_laws.specs.Enabling.{MayAsk}
-use Rattle.pmd_laws.proofs.Order.{counted, driven, first, in_parts, last, life_before, went_on, whole}
+use Rattle.pmd_laws.proofs.Order.{counted, driven, first, in_all, in_parts, last, life_before, went_on, whole}
 use Rattle.pmd_laws.proofs.Prelude.{[], ◌++◌, ◌∙◌, ◌∷◌, ◌≡◌, ◌≢◌, AreLent, Asks, AtCalls, AtEntries, AtPort, Block,
     Blocks, BothAgree, Call, Dir, EndsOnceOff, Entry, Event, Halves, HasGround, IsAsking, IsEvent, IsFalse, IsLived,
     IsNumberOf, IsPrefixOf, IsQuiet, IsSettled, IsSilent, IsStopping, IsTrue, IsUp, KeptOver, LeadsOver, Life, List,
@@ -145,7 +145,6 @@ keeps_lived x rest lived =
     let p = in_parts x lived in
     let start = leads_to x.origin p.front in
     let l = led x.w x.origin p.front p.back (first x) (whole x).0 (driven x p) in
-    let is = last x p in
     let at = sym (leads-append x.origin p.front p.back) ∙ ap (leads_to x.origin) p.both in
     let out : List Piece = pieces_in queue start p.back in
     record {
@@ -154,12 +153,9 @@ keeps_lived x rest lived =
       both =
           subst (λ (s : State). BothAgree queue s out (sent_since queue x.origin [] x.h) x.k) at
           (subst (λ (xs : List (List ℕ)). BothAgree queue (leads_to start p.back) out xs x.k) (sym (counted x p))
-          (subst (λ (z : Halves). BothAgree queue (leads_to start p.back) out (sent_in queue start p.back) z) is
-          l.both));
-      lent =
-          more_lent x.w.pass x.h rest x.k
-          (subst (λ (g : List Entry). AreLent (lent_by x.w.pass g) x.k) p.both
-          (subst (AreLent (lent_by x.w.pass (p.front ++ p.back))) is l.lent));
+          (subst (λ (z : Halves). BothAgree queue (leads_to start p.back) out (sent_in queue start p.back) z)
+          (last x p) l.both));
+      lent = more_lent x.w.pass x.h rest x.k (in_all x p (λ z g. AreLent (lent_by x.w.pass g) z) l.lent);
       settled = inl (subst (IsUp queue) at (l.sends (went_on x p).sends)).on;
     }
 

@@ -26,11 +26,8 @@ pub record FirstCall (old new : List Call) : Type 0 where
 pub first_read : (q : AtPort) (row : RowId) (on : Bool) (old new : List Call) → IsMade q old new (Sees row on)
     → FirstCall old new
 first_read q row on old new (number, word, named, is, (before, added, stepped)) = record {
-  steps = before;
-  call = call_of (event.Read q.port number) (reply.Word word);
-  is = added;
-  stepped = stepped;
-  event = refl;
+  steps = before; call = call_of (event.Read q.port number) (reply.Word word); is = added; stepped = stepped;
+  event = refl
 }
 
 -- and more calls behind it

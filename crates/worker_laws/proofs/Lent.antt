@@ -53,13 +53,6 @@ module _ (own known : Blocks) (s : State) (only : OnlyLent own known s.memory) w
       or_right (nat_lt n 65536 && false) (known n && true)
       (and_from (known n) true (only_lent_stays.others own known s e tt only n is has) refl)
 
-  -- and behind an entry
-  entry_behind : (e : Entry) → e.reply ≡ reply_to s e.event → IsEvent e.event
-      → OnlyLent own (lent_behind known e) (after s e.event).memory
-  entry_behind e legal made =
-      subst (λ (r : Reply Block). OnlyLent own (Behind e.event r) (after s e.event).memory) (sym legal)
-      (behind e.event made)
-
 -- behind the entries of a history
 
 through : (own known : Blocks) (s : State) (h : List Entry) → IsLegal s h → AreEvents h → OnlyLent own known s.memory
@@ -67,7 +60,8 @@ through : (own known : Blocks) (s : State) (h : List Entry) → IsLegal s h → 
 through own known s [] legal events only = only
 through own known s (e ∷ es) legal events only =
     through own (lent_behind known e) (after s e.event) es legal.1 events.1
-    (entry_behind own known s only e legal.0 events.0)
+    (subst (λ (r : Reply Block). OnlyLent own (Behind own known s only e.event r) (after s e.event).memory)
+    (sym legal.0) (behind own known s only e.event events.0))
 
 new_has_none : (own : Blocks) (vfs fifo : ℕ) → OnlyLent own no_block (new_state vfs fifo).memory
 new_has_none own vfs fifo n is has =

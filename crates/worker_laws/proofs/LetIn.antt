@@ -1,6 +1,7 @@
 -- No frame waits at a device that is longer than the longest that was let in, as the entries of its history tell; so
 -- where these say that frames fit a driver's packets, those that wait as it starts do.
 use Rattle.std.proofs.Math.Nat.{le-max_left, le-max_right}
+use Rattle.std.proofs.lemmas.List.Elements.{All-cons, All-filter, All-head, All-nil, All-push, All-tail, All-weaker}
 use Rattle.std.specs.Prelude.{Result, not}
 use Rattle.nic_device.proofs.QueueCases.{received_cases}
 use Rattle.nic_device.specs.Arrival.{let_in, sorted_in}
@@ -13,10 +14,9 @@ use Rattle.nic_device.specs.Step.{step_of}
 use Rattle.nic_device.specs.Switching.{without_part}
 use Rattle.workers.specs.Before.{known_through}
 use Rattle.workers.specs.Fitting.{let_in_by, longest_behind, longest_let_in}
-use Rattle.pmd_laws.proofs.Prelude.{[], ◌+◌, ◌∷◌, ◌≡◌, ◌≤◌, All, All-cons, All-filter, All-head, All-nil, All-push,
-    All-tail, All-weaker, Block, Entry, Err, Event, FitsBlocks, IsLegal, List, Ok, Reply, Rx, State, Waiting, ℕ, after,
-    arith, either_way, has_queue, leads_to, legal_before, length, max, mode_in, most_blocks, nat_lt, new_state, refl,
-    subst, sym}
+use Rattle.pmd_laws.proofs.Prelude.{[], ◌+◌, ◌∷◌, ◌≡◌, ◌≤◌, All, Block, Entry, Err, Event, FitsBlocks, IsLegal, List,
+    Ok, Reply, Rx, State, Waiting, ℕ, after, arith, either_way, has_queue, leads_to, legal_before, length, max, mode_in,
+    most_blocks, nat_lt, new_state, refl, subst, sym}
 use Rattle.pmd_laws.proofs.StartLaws.HistoryLaws.Waits.{waiting_changed}
 use Rattle.worker_laws.specs.Fitting.{AllFitBlocks, FramesFitIsShort}
 use Rattle.worker_laws.proofs.FirstCalls.{holds_at_first}

@@ -7,7 +7,7 @@ use Rattle.pmd_laws.proofs.Prelude.{[], ◌++◌, ◌∙◌, ◌∷◌, ◌≡�
     both_ways, bytes_of, calls_joined, calls_of, delivered, extends, false, halted_of, inl, inr, is_on, is_step,
     leads_to, left_accepted, left_handed, new_state, one_begins, parts, quiet, sent_since, start_goes_on, subst, sym,
     true}
-use Rattle.pmd_laws.proofs.Shifted.{Shifts, paired, prepared_shift, switched_shift}
+use Rattle.pmd_laws.proofs.Shifted.{paired, prepared_shift, switched_shift}
 use Rattle.pmd_laws.proofs.StartLaws.Histories.{leads-append}
 use Rattle.pmd_laws.proofs.StartLaws.Quieting.{quieting_leads}
 use Rattle.pmd_laws.proofs.StopCalls.{stopped_ends}
@@ -24,9 +24,6 @@ GoesOn old new = (more : List Call) × (new ≡ old ++ more)
 goes_on : (old mid new : List Call) → GoesOn old mid → GoesOn mid new → GoesOn old new
 goes_on old mid new (cs, one) (ds, two) =
     (cs ++ ds, two ∙ ap (λ (l : List Call). l ++ ds) one ∙ append_assoc old cs ds)
-
-added : {R : List Call → List Call → Type 0} {old new : List Call} → Shifts R old new → GoesOn old new
-added x = (x.since, x.made)
 
 -- each of some steps of the device is one
 steps_have : (before : List Call) (c : Call) (more : List Call) → AreSteps (before ++ c ∷ more)
@@ -51,9 +48,9 @@ module _ (w : Watched) (fifo : ℕ) (h : List Entry) {q : AtPort} {size frame : 
 
   up_goes : GoesOn up.receive.mid up.on.mid
   up_goes =
-      added (paired (prepared_shift up.receive.prepared)
+      let calls = paired (prepared_shift up.receive.prepared)
       (paired (prepared_shift up.transmit.prepared)
-      (switched_shift q true 1000 up.both_made up.on.mid up.on.switched)))
+      (switched_shift q true 1000 up.both_made up.on.mid up.on.switched)) in (calls.since, calls.made)
 
   stop_goes : GoesOn lived.made new
   stop_goes =

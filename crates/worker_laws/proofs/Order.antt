@@ -137,10 +137,7 @@ module _ (vfs fifo : ℕ) (h : List Entry) (j : Job) (e : WorkerEnd) (x : IsEndI
           small =
               named_below _ _ j.port j.queue j.pf_queue
               (ground (starts_more e.pass.tag old u.done u.rest h u.all s)).names;
-          sound = new;
-          vfs = refl;
-          events = x.events;
-          legal = x.legal;
+          sound = new; vfs = refl; events = x.events; legal = x.legal;
           alone = new_is_left_alone w fifo h new x.events x.alone;
         })
 

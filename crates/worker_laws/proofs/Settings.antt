@@ -166,20 +166,25 @@ unasked Txdctl index Rx queue other = refl
 unasked Txdctl index Tx queue other = other
 unasked row index dir queue other = refl
 
-module _ (queue : ℕ) (small : queue < 128) (s : State) (sound : IsSound s) where
-  asked : (dir : Dir) (view word : ℕ)
-      → is_wanted (after_write s.registers (enable dir queue) view word) dir queue ≡ has_bit 25 word
-  asked Rx view word =
-      ap (λ (q : ReceiveQueue). q.wanted) (receive-asked s.registers sound.registers.shape queue small view word)
-  asked Tx view word =
-      ap (λ (q : TransmitQueue). q.wanted) (transmit-asked s.registers sound.registers.shape queue small view word)
+asked_of : (dir : Dir) (queue : ℕ) → queue < 128 → (s : State) → IsSound s → (view word : ℕ)
+    → is_wanted (after_write s.registers (enable dir queue) view word) dir queue ≡ has_bit 25 word
+asked_of Rx queue small s sound view word =
+    ap (λ (q : ReceiveQueue). q.wanted) (receive-asked s.registers sound.registers.shape queue small view word)
+asked_of Tx queue small s sound view word =
+    ap (λ (q : TransmitQueue). q.wanted) (transmit-asked s.registers sound.registers.shape queue small view word)
 
-  module _ (image : s.image ≡ blank) (dir : Dir) (down : IsDown dir queue s.registers) (port : Port) (n word : ℕ) where
+module _ (w : Watched) (small : w.queue < 128) (s : State) (sound : IsSound s) (dir : Dir) where
+  open w use {queue}
+
+  abbrev here : Place
+  here = enable dir queue
+
+  abbrev Down : State → Type 0
+  Down x = IsDown dir queue x.registers
+
+  module _ (image : s.image ≡ blank) (down : Down s) (port : Port) (n word : ℕ) where
     abbrev t : State
     t = after s (event.Write port n word)
-
-    abbrev here : Place
-    here = enable dir queue
 
     left_by : (m : Named) → named s port n ≡ m → t ≡ (named_written s m word).state
     unfolding step_of
@@ -187,20 +192,20 @@ module _ (queue : ℕ) (small : queue < 128) (s : State) (sound : IsSound s) whe
 
     module _ (p : Place) (view : ℕ) (found : named s port n ≡ Register p view) where
       -- the device is reset
-      reset_down : asks_reset (row_of p.row).kind word ≡ true → IsDown dir queue t.registers
+      reset_down : asks_reset (row_of p.row).kind word ≡ true → Down t
       reset_down asks =
-          let is : t ≡ cleared s =
-          left_by (Register p view) found
+          subst Down
+          (sym (left_by (Register p view) found
           ∙ ap (λ b. cond b (reset s) (written_below_reset s p view word)) asks
-          ∙ ap (λ ts. with_triples (cleared s) ts) (ap triples_of image ∙ triples_of-blank) in
-          subst (λ (x : State). IsDown dir queue x.registers) (sym is) (off-reset dir queue small)
+          ∙ ap (λ ts. with_triples (cleared s) ts) (ap triples_of image ∙ triples_of-blank)))
+          (off-reset dir queue small)
 
       -- a pool is
-      pool_down : asks_pool_reset (row_of p.row).kind word ≡ true → IsDown dir queue t.registers
+      pool_down : asks_pool_reset (row_of p.row).kind word ≡ true → Down t
       pool_down asks =
           let mode = mode_in s.registers in
           let x = asked_pool_resets s sound port n word p view found asks in
-          elim (cases_Bool (has_queue mode p.index queue)) as (λ _. IsDown dir queue t.registers) [
+          elim (cases_Bool (has_queue mode p.index queue)) as (λ _. Down t) [
             | inl has ↦ (
               x.registers.bits here 25 (of_pool dir mode p.index queue ∙ has) (inside dir queue small) ∙ reset_word dir,
               x.registers.wanted dir queue has small,
@@ -219,36 +224,33 @@ module _ (queue : ℕ) (small : queue < 128) (s : State) (sound : IsSound s) whe
             as (λ _. is_wanted (after_write s.registers p view word) dir queue ≡ false) [
               | inl same ↦
                   ap (λ q. is_wanted (after_write s.registers q view word) dir queue) (is_place-same p here same)
-                  ∙ asked dir view word ∙ zero same
+                  ∙ asked_of dir queue small s sound view word ∙ zero same
               | inr other ↦
                   (within-written s.registers p view word).wanted dir queue (unasked p.row p.index dir queue other)
                   ∙ down.1
             ]
 
         written_down : asks_reset (row_of p.row).kind word ≡ false → asks_pool_reset (row_of p.row).kind word ≡ false
-            → IsDown dir queue t.registers
+            → Down t
         written_down no_reset no_pool =
             let r = after_write s.registers p view word in
-            let is : t ≡ record s { registers = r } =
-            left_by (Register p view) found
+            subst Down
+            (sym (left_by (Register p view) found
             ∙ ap (λ b. cond b (reset s) (written_below_reset s p view word)) no_reset
-            ∙ ap (λ b. cond b (with_pool_reset s p.index) (record s { registers = r })) no_pool in
-            subst (λ (x : State). IsDown dir queue x.registers) (sym is)
+            ∙ ap (λ b. cond b (with_pool_reset s p.index) (record s { registers = r })) no_pool))
             (sides-after_write s.registers sound.registers view word p dir queue ∙ down.0, written_unwanted)
 
-        register_down : IsDown dir queue t.registers
-        register_down = elim (cases_Bool (asks_reset (row_of p.row).kind word))
-            as (λ _. IsDown dir queue t.registers) [
-              | inl asks ↦ reset_down asks
-              | inr no_reset ↦ elim (cases_Bool (asks_pool_reset (row_of p.row).kind word))
-                  as (λ _. IsDown dir queue t.registers) [
-                    | inl asks ↦ pool_down asks
-                    | inr no_pool ↦ written_down no_reset no_pool
-                  ]
+        register_down : Down t
+        register_down = elim (cases_Bool (asks_reset (row_of p.row).kind word)) as (λ _. Down t) [
+          | inl asks ↦ reset_down asks
+          | inr no_reset ↦ elim (cases_Bool (asks_pool_reset (row_of p.row).kind word)) as (λ _. Down t) [
+              | inl asks ↦ pool_down asks
+              | inr no_pool ↦ written_down no_reset no_pool
             ]
+        ]
 
-    module _ (w : Watched) (own : w.queue ≡ queue) (functions : w.vfs ≡ s.vfs)
-        (none : asks_on w (mode_in s.registers) (event.Write port n word) ≡ false) where
+    module _ (functions : w.vfs ≡ s.vfs) (none : asks_on w (mode_in s.registers) (event.Write port n word) ≡ false)
+      where
       zero_there : (p : Place) (view : ℕ) → named s port n ≡ Register p view → is_place p here ≡ true
           → has_bit 25 word ≡ false
       zero_there p view found same =
@@ -256,24 +258,20 @@ module _ (queue : ℕ) (small : queue < 128) (s : State) (sound : IsSound s) whe
           let there : place_at mode w.vfs port n ≡ Some here =
           ap (λ v. place_at mode v port n) functions ∙ place_named s port n ∙ ap place_in found
           ∙ ap (λ q. Some q) (is_place-same p here same) in
-          let is : is_enable w.queue (place_at mode w.vfs port n) ≡ true =
-          ap (λ q. is_enable q (place_at mode w.vfs port n)) own ∙ ap (is_enable queue) there ∙ is_own dir queue in
-          sym (ap (λ b. b && has_bit 25 word) is) ∙ none
+          sym (ap (λ b. b && has_bit 25 word) (ap (is_enable queue) there ∙ is_own dir queue)) ∙ none
 
-      named_down : (m : Named) → named s port n ≡ m → IsDown dir queue t.registers
-      named_down (Nothing seen) found =
-          subst (λ (x : State). IsDown dir queue x.registers) (sym (left_by (Nothing seen) found)) down
+      named_down : (m : Named) → named s port n ≡ m → Down t
+      named_down (Nothing seen) found = subst Down (sym (left_by (Nothing seen) found)) down
       named_down (Register p view) found = register_down p view found (zero_there p view found)
 
 -- every event
 
-pub stays_off : (w : Watched) (s : State) → w.queue < 128 → IsSound s → s.image ≡ blank → w.vfs ≡ s.vfs → (dir : Dir)
+stays_off : (w : Watched) (s : State) → w.queue < 128 → IsSound s → s.image ≡ blank → w.vfs ≡ s.vfs → (dir : Dir)
     → (e : Event Block) → asks_on w (mode_in s.registers) e ≡ false → IsOff (side_of dir w.queue s)
     → IsOff (side_of dir w.queue (after s e))
 stays_off w s small sound image functions dir (event.Write port n word) none off =
     down_off dir w.queue (after s (event.Write port n word))
-    (named_down w.queue small s sound image dir (off_down dir w.queue s off) port n word w refl functions none
-    (named s port n) refl)
+    (named_down w small s sound dir image (off_down dir w.queue s off) port n word functions none (named s port n) refl)
 stays_off w s small sound image functions dir e none off =
     steady_kept dir w.queue s e IsOff off off_steady
     (side_did dir w.queue s e sound small (left-side w s functions dir e tt))
@@ -300,9 +298,6 @@ module _ (w : Watched) (fifo : ℕ) (sound : IsSound (new_state w.vfs fifo)) (sm
       along (done ++ e ∷ []) rest (append_assoc done (e ∷ []) rest ∙ both)
       (subst OffAt (sym (leads-append new done (e ∷ []))) next)
 
-  pub never_on : OffAt (leads_to new h)
-  never_on = along [] h refl (reset_off dir w.queue new small)
-
 pub never_asked_is_quiet : NeverAskedIsQuiet
 never_asked_is_quiet w fifo old given h device events well never x =
     let sound = new_sound w.vfs fifo device.0 device.1 device.2 in
@@ -310,8 +305,7 @@ never_asked_is_quiet w fifo old given h device events well never x =
     let small = named_below _ _ given.port given.queue w.queue ground.names in
     let early = events_before x.before (x.first ∷ x.behind) (subst AreEvents (sym x.all) events) in
     let none = never old refl x in
-    record {
-      ground = ground;
-      receive = never_on w fifo sound small Rx x.before early none;
-      transmit = never_on w fifo sound small Tx x.before early none;
-    }
+    let off = λ (dir : Dir).
+    along w fifo sound small dir x.before early none [] x.before refl
+    (reset_off dir w.queue (new_state w.vfs fifo) small) in
+    record { ground = ground; receive = off Rx; transmit = off Tx }

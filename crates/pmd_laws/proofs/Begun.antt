@@ -1,18 +1,16 @@
--- The halves as both sides of a queue are on: each has lent its ring's blocks, and no other.
-use Rattle.std.proofs.Common.{◌≡◌, ◌≢◌, ℕ, ◌<◌, inl, inr, true, false, List, [], ◌∷◌, ◌++◌, refl, sym, ◌∙◌, subst, arith}
-use Rattle.std.specs.Prelude.{IsTrue}
-use Rattle.std.proofs.lemmas.Bool.{both_ways, cases_eq, or_cases}
-use Rattle.driver_laws.specs.Prelude.{Numbers, is_free, times_in_hand, Port, Blocks, ring_blocks, has_lent, Halves, is_ring_block, EachRingBlock}
-use Rattle.nic_device.specs.DmaArena.Numbers.{with_free}
-use Rattle.nic_device.proofs.DmaArena.Arenas.{is_free-with_free_same, is_free-with_free_other, is_own-of_free}
-use Rattle.pmd.specs.PmdSeam.Home.{IsDrawn}
-use Rattle.pmd.proofs.PmdSeam.Outside.{times_rest}
-use Rattle.pmd.proofs.PmdSeam.Rings.{each_ring_block, ring_block_among, ring_block_out, times_among}
-use Rattle.pmd.proofs.PmdRx.Earlier.{free_before}
+-- The halves as both sides of a queue are on: each has lent its ring's blocks, and no other; and what a driver lends
+-- from there on.
+use Rattle.start_laws.specs.ReceiveLaws.Steps.{Each}
+use Rattle.driver_laws.specs.Healthy.{lent_by}
+use Rattle.pmd_laws.proofs.Prelude.{[], ◌++◌, ◌+◌, ◌<◌, ◌∙◌, ◌∷◌, ◌≡◌, ◌≢◌, AreApart, AreLent, AreOn, AtPort, Blocks,
+    Call, DrivesApart, EachRingBlock, Halves, IsDrawn, IsReceiveReady, IsTransmitReady, IsTrue, List, Lives, MayLend,
+    Numbers, OwnsSame, Receive, Receives, Running, Sender, ℕ, all_drawn, all_exchanged, apart_on, arith, both_ways,
+    cases_eq, each_ring_block, false, false_from_ne_true, first_of, free_before, halves_of, has_lent, inl, inr, is_free,
+    is_free-with_free_other, is_free-with_free_same, is_own, is_own-of_free, is_ring_block, or_cases, or_left, or_right,
+    receiving_apart, refl, ring_block_among, ring_block_is, ring_block_out, ring_blocks, subst, sym, times_among,
+    times_in_hand, times_rest, true, with_free}
 use Rattle.pmd.specs.PmdRx.Receive as receive
 use Rattle.pmd.specs.PmdTx.Sending as transmit
-use Rattle.start_laws.specs.ReceiveLaws.Steps.{Each}
-use Rattle.driver_laws.specs.Agreeing.{AreApart, AreLent}
 
 -- blocks that were drawn from an arena were free there, and aren't any more
 
@@ -30,7 +28,7 @@ drawn_gone a (x ∷ ns) b n (here, drawn) free =
       | inr ne ↦ times_rest ns x n ne ∙ drawn_gone (with_free a x false) ns b n drawn free
     ]
 
-pub drawn_free : (a : Numbers) (ns : List ℕ) (b : Numbers) (n : ℕ) → IsDrawn a ns b → 0 < times_in_hand ns n
+drawn_free : (a : Numbers) (ns : List ℕ) (b : Numbers) (n : ℕ) → IsDrawn a ns b → 0 < times_in_hand ns n
     → is_free a n ≡ true
 drawn_free a [] b n drawn some = absurd (omega (arith, some))
 drawn_free a (x ∷ ns) b n (here, drawn) some = elim (cases_eq n x) [
@@ -46,45 +44,104 @@ drawn_both a [] b ys c first then = subst (λ (x : Numbers). IsDrawn x ys c) fir
 drawn_both a (x ∷ xs) b ys c (here, first) then = (here, drawn_both (with_free a x false) xs b ys c first then)
 
 -- so it is with a ring's
-pub ring_gone : (a : Numbers) (ring size : ℕ) (b : Numbers) (n : ℕ) → IsDrawn a (ring_blocks ring size) b
+
+ring_gone : (a : Numbers) (ring size : ℕ) (b : Numbers) (n : ℕ) → IsDrawn a (ring_blocks ring size) b
     → is_free b n ≡ true → is_ring_block ring size n ≡ false
 ring_gone a ring size b n drawn free =
     sym (ring_block_among ring size n)
     ∙ times_among (ring_blocks ring size) n (drawn_gone a (ring_blocks ring size) b n drawn free)
 
-pub ring_free : (a : Numbers) (ring size : ℕ) (b : Numbers) (n : ℕ) → IsDrawn a (ring_blocks ring size) b
-    → is_ring_block ring size n ≡ true → is_free a n ≡ true
-ring_free a ring size b n drawn is =
-    drawn_free a (ring_blocks ring size) b n drawn ((ring_block_out ring size n).0 is)
+-- a transmit ring that is ready has lent its own blocks alone
+module _ {q : AtPort} {size frame : ℕ} {old : List Call} {a : Numbers} {new : List Call} {b : Numbers} {t : Sender}
+    (ready : IsTransmitReady q size frame old a new b t) where
+  lent_ring : (n : ℕ) → has_lent t n ≡ true → is_ring_block ready.ring size n ≡ true
+  lent_ring n is = elim (or_cases (is_ring_block ready.ring size n) false
+      (subst (λ (s : Sender). has_lent s n ≡ true) ready.fresh is)) [
+        | inl own ↦ own
+        | inr none ↦ cc
+      ]
 
-each_at_start : (port : Port) (tail ring size most : ℕ) (P : ℕ → Type 0) → EachRingBlock ring size P
-    → Each (receive.at_start port tail ring size most) P
-each_at_start port tail ring size most P is =
-    record { ring = is; blocks = λ k low. absurd (omega (arith, low)); fresh = tt }
+-- as both sides are on the receive ring is empty
+module _ {q : AtPort} {size frame : ℕ} {old : List Call} {a : Numbers} {new : List Call} {v : Receive} {t : Sender}
+    (up : AreOn q size frame old a new v t) where
+  abbrev pub first_halves : Halves
+  first_halves = record { receive = v; transmit = t }
 
-pub lent_at_start : (port : Port) (tail ring size limit n : ℕ)
-    → has_lent (transmit.at_start port tail ring size limit) n ≡ true → is_ring_block ring size n ≡ true
-lent_at_start port tail ring size limit n is = elim (or_cases (is_ring_block ring size n) false is) [
-  | inl own ↦ own
-  | inr none ↦ cc
-]
+  each_first : (P : ℕ → Type 0) → EachRingBlock up.receive.ring size P → Each v P
+  each_first P is =
+      subst (λ (r : Receive). Each r P) (sym up.receive.fresh)
+      (record { ring = is; blocks = λ k low. absurd (omega (arith, low)); fresh = tt })
 
-module _ (port : Port) (size most limit ring tail other end : ℕ) where
-  abbrev pub at_first : Halves
-  at_first = record {
-    receive = receive.at_start port tail ring size most;
-    transmit = transmit.at_start port end other size limit;
-  }
+  pub halves_apart : AreApart first_halves
+  halves_apart n is =
+      each_first (λ b. b ≢ n) (λ k below same.
+      both_ways (is_ring_block up.receive.ring size n)
+      (ring_gone a up.receive.ring size up.ready_arena n up.receive.prepared.drawn
+      (drawn_free up.ready_arena (ring_blocks up.transmit.ring size) up.both_arena n up.transmit.prepared.drawn
+      ((ring_block_out up.transmit.ring size n).0 (lent_ring up.transmit n is))))
+      (subst (λ (m : ℕ). is_ring_block up.receive.ring size m ≡ true) same
+      (ring_block_is up.receive.ring size k below)))
 
-  pub first_apart : ((n : ℕ) → is_ring_block other size n ≡ true → EachRingBlock ring size (λ b. b ≢ n))
-      → AreApart at_first
-  first_apart apart n is =
-      each_at_start port tail ring size most (λ b. b ≢ n) (apart n (lent_at_start port end other size limit n is))
-
-  pub first_lent : (mine : Blocks) → EachRingBlock ring size (λ n. IsTrue (mine n))
-      → EachRingBlock other size (λ n. IsTrue (mine n)) → AreLent mine at_first
-  first_lent mine one two = record {
-    receive = each_at_start port tail ring size most (λ b. IsTrue (mine b)) one;
+  pub halves_lent : (mine : Blocks) → EachRingBlock up.receive.ring size (λ n. IsTrue (mine n))
+      → EachRingBlock up.transmit.ring size (λ n. IsTrue (mine n)) → AreLent mine first_halves
+  halves_lent mine one two = record {
+    receive = each_first (λ n. IsTrue (mine n)) one;
     transmit = λ n is.
-        each_ring_block other size (λ b. IsTrue (mine b)) two n (lent_at_start port end other size limit n is);
+        each_ring_block up.transmit.ring size (λ b. IsTrue (mine b)) two n (lent_ring up.transmit n is);
   }
+
+  -- both rings are lent
+
+  pub receive_lent : EachRingBlock up.receive.ring size (λ n. IsTrue (lent_by first_halves n))
+  receive_lent k below =
+      let n : ℕ = up.receive.ring + k in
+      subst (λ (r : Receive). IsTrue (lent_by (record { receive = r; transmit = t }) n)) (sym up.receive.fresh)
+      (or_left _ _ (ring_block_among up.receive.ring size n ∙ ring_block_is up.receive.ring size k below))
+
+  pub transmit_lent : EachRingBlock up.transmit.ring size (λ n. IsTrue (lent_by first_halves n))
+  transmit_lent k below =
+      let n : ℕ = up.transmit.ring + k in
+      subst (λ (s : Sender). IsTrue (lent_by (record { receive = v; transmit = s }) n)) (sym up.transmit.fresh)
+      (or_right _ _
+      (or_left (is_ring_block up.transmit.ring size n) _ (ring_block_is up.transmit.ring size k below)))
+
+-- as both rings came up: the arena keeps its numbers, and what is free then the receive half may lend
+module _ {q : AtPort} {size frame : ℕ} {old : List Call} {a : Numbers} {ready_made : List Call} {ready_arena : Numbers}
+    {both_made : List Call} {both_arena : Numbers} {v : Receive} {t : Sender}
+    (receive : IsReceiveReady q size frame old a ready_made ready_arena v)
+    (transmit : IsTransmitReady q size frame ready_made ready_arena both_made both_arena t) where
+  both_own : OwnsSame a both_arena
+  both_own n =
+      (all_drawn ready_arena (ring_blocks transmit.ring size) both_arena [] transmit.prepared.drawn).owns n
+      ∙ (all_drawn a (ring_blocks receive.ring size) ready_arena [] receive.prepared.drawn).owns n
+
+  -- what is free then, the transmit ring hasn't lent
+  pub may : (n : ℕ) → is_free both_arena n ≡ true
+      → MayLend (is_own a) (record { receive = v; transmit = t }) Receives n
+  may n free = (
+    sym (both_own n) ∙ is_own-of_free both_arena n free,
+    false_from_ne_true (has_lent t n) (λ has.
+        both_ways (is_ring_block transmit.ring size n)
+        (ring_gone ready_arena transmit.ring size both_arena n transmit.prepared.drawn free)
+        (lent_ring transmit n has)),
+  )
+
+-- so a driver lends from there on
+module _ {q : AtPort} {size frame : ℕ} {old : List Call} {a : Numbers} {new : List Call} {r : Running}
+    (x : Lives q size frame old a new r) where
+  pub fresh_own : OwnsSame a x.fresh.arena
+  fresh_own n =
+      let posts = x.up.on.filled.2 in
+      (all_exchanged x.up.both_arena [] x.fresh.arena (posts.blocks ++ [])
+      (posts.blocks, posts.drawn, λ k. refl)).owns n
+      ∙ both_own x.up.receive x.up.transmit n
+
+  pub all_apart : DrivesApart (is_own a) x.up.on.mid (first_of q size frame old a new r x) new (halves_of r)
+  all_apart =
+      let on = x.up.on in
+      let first = first_of q size frame old a new r x in
+      apart_on (is_own a) on.mid x.made new first (halves_of x.fresh) (halves_of r)
+      (receiving_apart (is_own a) x.up.both_arena on.mid x.made first (halves_of x.fresh)
+      (may x.up.receive x.up.transmit) on.plays refl)
+      (subst (λ (own : Blocks). DrivesApart own x.made (halves_of x.fresh) new (halves_of r))
+      (λ i n. fresh_own n i) x.drives.apart)

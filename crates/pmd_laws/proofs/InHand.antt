@@ -1,21 +1,9 @@
--- What was made of a device in hand is a history of it.
-use Rattle.std.proofs.Common.{inl, inr, ◌≡◌, ◌<◌, ℕ, Bool, true, false, ◌||◌, List, [], ◌∷◌, ◌++◌, refl, sym, ap, ◌∙◌, subst}
-use Rattle.std.specs.Prelude.{◌==◌, IsTrue}
-use Rattle.std.proofs.lemmas.Bool.{cases_Bool}
-use Rattle.std.proofs.lemmas.List.{map-append}
-use Rattle.std.proofs.lemmas.List.Elements.{filter-append}
-use Rattle.driver_laws.specs.Prelude.{State, call_in, calls_of, leads_to, Call, Entry, LeavesAloneFrom, entries_in, marked_entries}
-use Rattle.device_lock.specs.Alone.{LeavesAlone, has_begun}
-use Rattle.device_lock.proofs.Histories.{events-append, leads-append, legal-append}
-use Rattle.pmd.specs.PmdSeam.Begun.{LeadsTo}
-use Rattle.pmd.specs.PmdSeam.Scheduled.{own_calls}
-use Rattle.start_laws.proofs.ReceiveLaws.Histories.{calls_other, calls_own}
+-- What was made of a device in hand is a history of it: the calls of pass 0 are those behind what others made.
 use Rattle.pmd_laws.specs.InHand.{DirectIsHistory, InterleavedIsHistory, IsHistoryOf, WasMade, in_hand}
-
--- the calls of pass 0 are those behind what others made
-calls_behind : (before h : List Entry) (calls : List Call) → calls_of 0 before ≡ [] → calls_of 0 h ≡ calls
-    → calls_of 0 (before ++ h) ≡ calls
-calls_behind before h calls none is = rw (filter-append, map-append, none, is) refl
+use Rattle.pmd_laws.proofs.Prelude.{[], ◌++◌, ◌<◌, ◌==◌, ◌||◌, ◌∙◌, ◌∷◌, ◌≡◌, Bool, Call, Entry, IsTrue, LeadsTo,
+    LeavesAlone, LeavesAloneFrom, List, State, ℕ, ap, call_in, calls_joined, calls_of, calls_other, calls_own,
+    cases_Bool, entries_in, events-append, false, has_begun, inl, inr, leads-append, leads_to, legal-append,
+    marked_entries, own_calls, refl, subst, sym, true}
 
 history : (s : State) (queue : ℕ) (before h : List Entry) (calls : List Call) (device : State) → queue < 128
     → WasMade s before → LeadsTo (leads_to s before) h device → calls_of 0 h ≡ calls
@@ -29,7 +17,7 @@ history s queue before h calls device small was led made alone = record {
     legal = legal-append s before h was.legal led.legal;
     alone = alone;
   };
-  made = calls_behind before h calls was.others made;
+  made = calls_joined 0 before h ∙ (λ i. was.others i ++ made i);
   leads = leads-append s before h ∙ led.leads;
 }
 

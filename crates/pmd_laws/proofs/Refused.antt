@@ -1,46 +1,149 @@
--- A driver whose start was refused sent nothing on its queue.
-use Rattle.std.proofs.Common.{◌≡◌, ℕ, List, [], ◌∷◌, ◌++◌, refl, sym, ap, ◌∙◌, subst, append_assoc}
-use Rattle.std.proofs.lemmas.Bool.{eq-eqb}
-use Rattle.std.proofs.lemmas.List.{append_cancel_left}
-use Rattle.driver_laws.specs.Prelude.{State, after, calls_of, call_in, leads_to, Call, Entry, delivered, bytes_of, sent_by, sent_in, sent_since}
-use Rattle.pmd_laws.specs.Prelude.{Laid, Off}
-use Rattle.nic_device.proofs.Cases.{either_way}
-use Rattle.start_laws.specs.ReceiveLaws.Delivered as receive
-use Rattle.start_laws.proofs.ReceiveLaws.Histories.{calls_own}
-use Rattle.start_laws.specs.TransmitLaws.Laws as transmit
-use Rattle.start_laws.specs.TransmitLaws.Sent.{counted_by, goes_on}
-use Rattle.start_laws.specs.Laid.{LaysOn}
+-- The calls of a driver whose start was refused lay out an empty transmit ring so far, up to where it came down; so it
+-- sent nothing on its queue.
+use Rattle.pmd.specs.PmdSeam.Frames.{is_frame}
+use Rattle.pmd.specs.PmdSeam.declared.fault.PmdFault.TheVariants.{BadSize}
 use Rattle.start_laws.proofs.Laid.{laid_queue_is_silent}
-use Rattle.start_laws.proofs.Parts.{calls_joined}
+use Rattle.start_laws.specs.TransmitLaws.Sent.{counted_by, goes_on}
 use Rattle.pmd_laws.specs.Refused.{LeftOfRefusedIsPrefix, Refused, RefusedSendsNothing}
-use Rattle.pmd_laws.proofs.LaidCalls.{first_lays, lays_behind}
-use Rattle.pmd_laws.proofs.RefusedCalls.{never_lays}
+use Rattle.pmd_laws.proofs.Laid.{LaysBetween, LaysSome, Stays, first_lays, going_on_fails, lays_behind, lending_stays,
+    lends_stay, receive_fails, receive_ready, stays_between, then_between, words_lay, words_stop}
+use Rattle.pmd_laws.proofs.Prelude.{[], ◌&&◌, ◌++◌, ◌∙◌, ◌∷◌, ◌≡◌, AtPort, Block, Bool, Call, ComesDown, Each, Empty,
+    Entry, Err, Event, GoingOnFails, Halted, IsEnding, IsHalfStarted, IsHome, IsLeftWith, IsShut, Laid, LaysOn, List,
+    MayAsk, NeverLived, None, Numbers, Off, Option, PmdFault, PreparingFails, Receive, Rest, Rx, Rxdctl, Some,
+    StartRefused, State, StopsStarting, Tx, Txdctl, ℕ, after, and_parts, ap, append-nil, append_assoc,
+    append_cancel_left, bytes_of, call_in, calls_joined, calls_of, calls_own, cond, delivered, either_way, eq-eqb,
+    false, has_bit, inl, inr, is_size, leads_to, most_blocks, refl, ring_blocks, sent_by, sent_in, sent_since, sized,
+    start_gate, subst, sym, then_made, true}
+use Rattle.pmd_laws.proofs.StopCalls.{stopped_ends}
+use Rattle.nic_device.specs.declared.event.Event.TheVariants as event
+use Rattle.pmd.specs.declared.start.Rest.TheVariants as rest
+use Rattle.start_laws.specs.ReceiveLaws.Delivered as receive
+use Rattle.start_laws.specs.TransmitLaws.Laws as transmit
+
+module _ (q : AtPort) (size frame : ℕ) (is : is_size size ≡ true) where
+  -- the transmit ring isn't prepared
+  transmit_fails : (f : PmdFault) (old : List Call) (a : Numbers) (new : List Call) (b : Numbers) (out : List ℕ)
+      → PreparingFails f q Tx size old a new b out → LaysSome q Off old new
+  transmit_fails f old a new b out (ring, free, inl (stops, same, none)) = words_stop q ring size is f old new stops
+  transmit_fails f old a new b out (ring, free, inr (mid, words, stops)) = (
+    Empty,
+    then_between q Off Empty Empty old mid new (words_lay q ring size is old mid words)
+        (stays_between q Empty mid new
+        (then_made (Stays q Empty) mid stops.mid new (lends_stay q Empty out mid stops.mid stops.lent)
+        (lending_stays q Empty f stops.mid new _ stops.fails))),
+  )
+
+  -- a start that was refused amid its events
+  starting_lays : (old : List Call) (a : Numbers) (new : List Call) (e : StartRefused)
+      → StopsStarting q size frame old a new e → LaysSome q Off old new
+  starting_lays old a new e (inl x) =
+      (Off, stays_between q Off old new (receive_fails q e.fault size old a new x.arena x.out x.fails))
+  starting_lays old a new e (inr (inl x)) =
+      let (last, more) = transmit_fails e.fault x.made x.ready_arena new x.arena x.out x.fails in (
+        last,
+        then_between q Off Off last old x.made new
+            (stays_between q Off old x.made (receive_ready q size frame old a x.made x.ready_arena x.empty x.receive))
+            more,
+      )
+  starting_lays old a new e (inr (inr x)) =
+      let ring = x.receive.ring in
+      let sent = x.transmit.prepared in
+      let fails = subst
+      (λ (v : Receive). GoingOnFails e.fault q x.both_made x.both_arena v new x.arena x.filled) x.receive.fresh
+      x.fails in (
+        Empty,
+        then_between q Off Off Empty old x.ready_made new
+            (stays_between q Off old x.ready_made
+            (receive_ready q size frame old a x.ready_made x.ready_arena x.empty x.receive))
+            (then_between q Off Empty Empty x.ready_made sent.mid new
+            (words_lay q x.transmit.ring size is x.ready_made sent.mid sent.words)
+            (stays_between q Empty sent.mid new
+            (then_made (Stays q Empty) sent.mid x.both_made new
+            (lends_stay q Empty (ring_blocks x.transmit.ring size) sent.mid x.both_made sent.lent)
+            (going_on_fails q e.fault x.both_made x.both_arena x.receive.tail ring size (most_blocks frame) new x.arena
+            x.filled x.receive.named fails)))),
+      )
+
+-- a call of a stop lays nothing out
+
+ask_none : (l : Laid) (word : ℕ) → has_bit 25 word ≡ false → MayAsk l word
+ask_none Empty word none = tt
+ask_none l word none = none
+
+ending_stays : (q : AtPort) (l : Laid) (e : Event Block) → IsEnding q e → Stays q l e
+ending_stays q l (event.Write port number word) (Rx, same, none, named) = (Rxdctl, same, refl, named, tt, refl)
+ending_stays q l (event.Write port number word) (Tx, same, none, named) =
+    (Txdctl, same, refl, named, ask_none l word none, refl)
+ending_stays q l e ends = refl
+
+each_stays : (q : AtPort) (l : Laid) (cs : List Call) → Each (λ c. IsEnding q c.event) cs
+    → Each (λ c. Stays q l c.event) cs
+each_stays q l [] are = tt
+each_stays q l (c ∷ cs) are = (ending_stays q l c.event are.0, each_stays q l cs are.1)
+
+-- what is left comes down
+
+home_lays : (q : AtPort) (l : Laid) (a : Numbers) (r : Rest) (old new : List Call) (left : Rest) → IsHome a r
+    → ComesDown old r new left → LaysBetween q l old new l
+home_lays q l a (rest.Home home) old new left is (same, none) = ([], none ∙ sym (append-nil old), refl)
+home_lays q l a (rest.Running p) old new left is down = absurd is
+
+half_lays : (q : AtPort) (l : Laid) (h : Halted) (r : Rest) (old new : List Call) (left : Rest) → IsHalfStarted q h r
+    → ComesDown old r new left → LaysBetween q l old new l
+half_lays q l h r old new left is down =
+    let (late, stopped) = subst (λ (x : Rest). ComesDown old x new left) is down in
+    let (calls, made, are) = stopped_ends q old h new left late stopped in
+    stays_between q l old new (calls, made, each_stays q l calls are)
+
+left_lays : (q : AtPort) (l : Laid) (a : Numbers) (out : List ℕ) (r : Rest) (old new : List Call) (left : Rest)
+    → IsLeftWith q a out r → ComesDown old r new left → LaysBetween q l old new l
+left_lays q l a [] r old new left is down = home_lays q l a r old new left is down
+left_lays q l a (n ∷ ns) r old new left is down = half_lays q l _ r old new left is down
+
+stopping_lays : (q : AtPort) (size frame : ℕ) (old : List Call) (a : Numbers) (made : List Call) (e : StartRefused)
+    (new : List Call) (left : Rest) (l : Laid) → StopsStarting q size frame old a made e
+    → ComesDown made e.rest new left → LaysBetween q l made new l
+stopping_lays q size frame old a made e new left l (inl x) down =
+    left_lays q l x.arena x.out e.rest made new left x.left down
+stopping_lays q size frame old a made e new left l (inr (inl x)) down = half_lays q l _ e.rest made new left x.left down
+stopping_lays q size frame old a made e new left l (inr (inr x)) down = half_lays q l _ e.rest made new left x.left down
+
+-- a start that isn't refused before any event has a size
+is_passed : (b : Bool) (more : Option PmdFault) (f : PmdFault) → cond b more (Some f) ≡ None → b ≡ true
+is_passed true more f none = refl
+is_passed false more f none = cc
+
+module _ (q : AtPort) (size frame : ℕ) (old : List Call) (a : Numbers) (e : StartRefused) (new : List Call)
+    (left : Rest) (x : NeverLived q size frame old a e new left) where
+  by_gate : (g : Option PmdFault) → start_gate a q size frame ≡ g → LaysSome q Off old new
+  by_gate None is =
+      let stops = x.stops is in
+      let sized = (and_parts _ _ (is_passed (is_size size && is_frame frame) _ BadSize is)).0 in
+      let (l, so_far) = starting_lays q size frame sized old a x.made e stops in
+      (l, then_between q Off l l old x.made new so_far
+        (stopping_lays q size frame old a x.made e new left l stops x.down))
+  by_gate (Some f) is =
+      let (why, home, none) = subst (λ (g : Option PmdFault). IsShut g a old x.made (Err e)) is x.shut in
+      (Off, subst (λ (made : List Call). LaysBetween q Off made new Off) none
+        (home_lays q Off a e.rest x.made new left home x.down))
 
 -- where nothing is sent at all, nothing is counted
 
-first_none : (xs ys : List (List ℕ)) → xs ++ ys ≡ [] → xs ≡ []
-first_none [] ys is = refl
+first_none : (xs ys : List (List ℕ)) → xs ++ ys ≡ [] → (xs ≡ []) × (ys ≡ [])
+first_none [] ys is = (refl, is)
 first_none (x ∷ xs) ys is = cc
-
-rest_none : (xs ys : List (List ℕ)) → xs ++ ys ≡ [] → ys ≡ []
-rest_none [] ys is = is
-rest_none (x ∷ xs) ys is = cc
 
 since_none : (queue : ℕ) (s : State) (h : List Entry) → sent_in queue s h ≡ [] → sent_since queue s [] h ≡ []
 since_none queue s [] none = refl
 since_none queue s (e ∷ h) none =
     let t = after s e.event in
+    let (now, later) = first_none (sent_by queue s e.event) (sent_in queue t h) none in
     let here : counted_by queue s e.event [] ≡ [] =
-    either_way (λ (sent : List (List ℕ)). sent ≡ []) (goes_on queue s e.event) [] (sent_by queue s e.event) refl
-    (first_none (sent_by queue s e.event) (sent_in queue t h) none) in
-    ap (λ (sent : List (List ℕ)). sent_since queue t sent h) here
-    ∙ since_none queue t h (rest_none (sent_by queue s e.event) (sent_in queue t h) none)
+    either_way (λ (sent : List (List ℕ)). sent ≡ []) (goes_on queue s e.event) [] (sent_by queue s e.event) refl now in
+    ap (λ (sent : List (List ℕ)). sent_since queue t sent h) here ∙ since_none queue t h later
 
 module _ (x : Refused) where
   open x use {w, origin, q, old, first, behind}
-
-  abbrev here : State
-  here = leads_to origin x.before
 
   abbrev calls : List Call
   calls = call_in first ∷ calls_of w.pass behind
@@ -55,32 +158,25 @@ module _ (x : Refused) where
 
   lays : (last : Laid) × LaysOn q Off calls last
   lays =
-      let (end, (made, is, all)) = never_lays q x.size x.frame old x.a x.e x.new x.left x.never in
+      let (end, (made, is, all)) = by_gate q x.size x.frame old x.a x.e x.new x.left x.never _ refl in
       let both : made ≡ x.since ++ x.rest =
       append_cancel_left old made (x.since ++ x.rest) (sym is ∙ x.all ∙ append_assoc old x.since x.rest) in
       let (last, so_far, more) = first_lays q Off end x.since x.rest
-      (subst (λ (cs : List Call). LaysOn q Off cs end) both all) in (
-        last,
-        lays_behind q Off last x.steps calls x.stepped
-            (subst (λ (cs : List Call). LaysOn q Off cs last) since_is so_far),
-      )
-
-  none_sent : sent_in w.queue here (first ∷ behind) ≡ []
-  none_sent =
-      laid_queue_is_silent w q x.frame origin x.h x.before behind first lays.0 x.along x.split x.own x.quiet.ground
-      x.quiet.transmit lays.1
-
-  none_handed : receive.IsPrefixOf [] (delivered w.queue here (first ∷ behind))
-  none_handed = (delivered w.queue here (first ∷ behind), refl)
-
-  none_accepted : transmit.IsPrefixOf (sent_since w.queue here [] (first ∷ behind)) (bytes_of [])
-  none_accepted = (
-    [],
-    ap (λ (sent : List (List ℕ)). sent ++ []) (sym (since_none w.queue here (first ∷ behind) none_sent)),
-  )
+      (subst (λ (cs : List Call). LaysOn q Off cs end) both all) in
+      (last, lays_behind q Off last x.steps calls x.stepped
+        (subst (λ (cs : List Call). LaysOn q Off cs last) since_is so_far))
 
 pub refused_sends_nothing : RefusedSendsNothing
-refused_sends_nothing = none_sent
+refused_sends_nothing x =
+    laid_queue_is_silent x.w x.q x.frame x.origin x.h x.before x.behind x.first (lays x).0 x.along x.split x.own
+    x.quiet.ground x.quiet.transmit (lays x).1
 
 pub left_of_refused_is_prefix : LeftOfRefusedIsPrefix
-left_of_refused_is_prefix x = (rw x.never.handed (none_handed x), rw x.never.accepted (none_accepted x))
+left_of_refused_is_prefix x =
+    let s = leads_to x.origin x.before in
+    let none = since_none x.w.queue s (x.first ∷ x.behind) (refused_sends_nothing x) in
+    let handed : receive.IsPrefixOf [] (delivered x.w.queue s (x.first ∷ x.behind)) =
+    (delivered x.w.queue s (x.first ∷ x.behind), refl) in
+    let sent : transmit.IsPrefixOf (sent_since x.w.queue s [] (x.first ∷ x.behind)) (bytes_of []) =
+    ([], ap (λ (frames : List (List ℕ)). frames ++ []) (sym none)) in
+    (rw x.never.handed handed, rw x.never.accepted sent)

@@ -1,77 +1,177 @@
--- No start finds the device at fault as it fills its receive ring, nor before.
-use Rattle.std.proofs.Common.{◌≡◌, ℕ, inl, inr, ◌⊎◌, true, refl, sym, subst}
-use Rattle.driver_laws.specs.Prelude.{is_free, is_own, DeviceFault, FindsFault, Halves, Receives}
-use Rattle.pmd_laws.specs.Prelude.{FaultsEarly, FaultsFilling}
-use Rattle.pmd.proofs.PmdRx.Earlier.{free_before}
-use Rattle.pmd.specs.Apart.{MayLend}
-use Rattle.pmd.proofs.Apart.{receiving_apart}
+-- No start finds the device at fault as it fills its receive ring, nor before: where it ends so before both sides are
+-- on, none of the blocks that are free then is lent.
+use Rattle.std.proofs.lemmas.List.{append_assoc}
 use Rattle.pmd.proofs.Finding.{wrong_by}
-use Rattle.start_laws.proofs.Parts.{Parts, parts}
-use Rattle.start_laws.proofs.Filling.{faults_are_early_or_filling, no_fault_is_early}
-use Rattle.driver_laws.specs.Before.{OnlyPassLends}
-use Rattle.pmd_laws.specs.Faultless.{BeginsApart, IsQuietAndFresh, NoFillingFindsFault, NoStartFindsFault}
-use Rattle.pmd_laws.proofs.Faultless.{found_on, last_before}
-use Rattle.pmd_laws.proofs.Lends.{may}
-use Rattle.pmd_laws.proofs.Lived.{along_before}
-use Rattle.pmd_laws.proofs.NoFault.{no_fault_once_on}
-use Rattle.pmd_laws.proofs.PassLends.{others_before}
-use Rattle.pmd_laws.proofs.StartLends.{first_read, none_early}
+use Rattle.pmd.proofs.Starting.{preparing_drawn}
+use Rattle.start_laws.specs.Faultless.{NoneIsLent}
+use Rattle.start_laws.specs.Filling.{LendsFresh}
+use Rattle.pmd_laws.proofs.Begun.{drawn_both, drawn_gone, may}
+use Rattle.pmd_laws.proofs.Lent.{IsRising, Rises, RisesToLast, all_rise, lends_rise, off_driven, others_before,
+    quieted_rises, ready_rises, step_rises, unlent_before, words_rise}
+use Rattle.pmd_laws.proofs.NoFault.{found_on, no_fault_once_on}
+use Rattle.pmd_laws.proofs.Order.{along_before, last_before}
+use Rattle.pmd_laws.proofs.Prelude.{[], ◌++◌, ◌+◌, ◌<◌, ◌==◌, ◌∙◌, ◌∷◌, ◌≡◌, ◌⊎◌, Access, Adds, AllAre, AreMade, AtPort,
+    BeforeLast, BeforeNext, BeginsApart, Block, Blocks, Call, DeviceFault, Dir, Entry, Event, FaultsEarly,
+    FaultsFilling, FindsFault, Halves, IsDrawn, IsDriven, IsFalse, IsMade, IsOtherwise, IsQuietAndFresh, List, Numbers,
+    OnlyPassLends, PreparingFails, ReceiveFails, Reply, Rx, Rxdctl, Sees, Sets, State, StopsBy, Tx, Watched, ℕ,
+    all_before, among_times, ap, arith, both_quiet, both_ways, call_of, false, free_before, has_block, inl, inr, is_own,
+    is_own-of_free, is_step, list_any, no_fault_is_early, none_made, parts, receiving_apart, refl, ring_block_is,
+    ring_block_out, ring_blocks, ring_words, some_made, subst, sym, then_made, times-append, times_among, times_in_hand,
+    true, words_are_writes, writes_driven}
+use Rattle.nic_device.specs.declared.event.Event.TheVariants as event
+use Rattle.nic_device.specs.declared.event.Reply.TheVariants as reply
 
-module _ (x : BeginsApart) (f : FaultsFilling x.q x.size x.frame x.old x.a x.new) where
+-- just before the first read
+first_read : (w : Watched) (q : AtPort) (origin : State) (h : List Entry) (P : State → Type 0) (old new : List Call)
+    → BeforeNext w origin h old P → IsMade q old new (Sees Rxdctl false) → BeforeLast w origin h new P
+first_read w q origin h P old new at (number, word, named, is, (before, added, steps)) =
+    subst (λ (calls : List Call). BeforeLast w origin h calls P) (sym added)
+    (at before (call_of (event.Read q.port number) (reply.Word word)) steps refl)
+
+-- an access that is answered otherwise adds a call, which is no step of the device
+otherwise_adds : (q : AtPort) (old new : List Call) (a : Access) → IsOtherwise q old new a
+    → (e : Event Block) × (r : Reply Block) × IsFalse (is_step e) × Adds old new e r
+otherwise_adds q old new (Sees row on) (inl (number, word, named, is, adds)) = (_, _, refl, adds)
+otherwise_adds q old new (Sees row on) (inr (number, word, named, adds)) = (_, _, refl, adds)
+otherwise_adds q old new (Sets row word) (number, told, named, adds) = (_, _, refl, adds)
+
+-- behind the first access the calls lend no block but these, up to the last one
+module _ (q : AtPort) (lent : Blocks) (first : List Call) where
+  adds_rise : (old new : List Call) (e : Event Block) (r : Reply Block) → Rises q lent first old → Adds old new e r
+      → RisesToLast q lent first new
+  adds_rise old new e r rises (before, added, steps) = (
+    old ++ before,
+    call_of e r,
+    added ∙ sym (append_assoc old before (call_of e r ∷ [])),
+    then_made (IsRising q lent) first old (old ++ before) rises
+        (some_made (IsRising q lent) (step_rises q lent) old (old ++ before) (before, refl, steps)),
+  )
+
+  stops_rise : (done : List Access) (old mid new : List Call) (access : Access) → AllAre IsDriven done
+      → Rises q lent first old → AreMade q old mid done → IsOtherwise q mid new access → RisesToLast q lent first new
+  stops_rise done old mid new access driven rises made fails =
+      let x = otherwise_adds q mid new access fails in
+      adds_rise mid new x.0 x.1
+      (then_made (IsRising q lent) first old mid rises (all_rise q lent done old mid driven made)) x.3
+
+  preparing_rise : (side : Dir) (size : ℕ) (old : List Call) (a : Numbers) (new : List Call) (b : Numbers)
+      (out : List ℕ) → ((n : ℕ) → 0 < times_in_hand out n → lent n ≡ true) → Rises q lent first old
+      → PreparingFails DeviceFault q side size old a new b out → RisesToLast q lent first new
+  preparing_rise side size old a new b out each rises
+      (ring, free, inl ((done, access, rest, mid, is, made, fails), same, none)) =
+      let driven = writes_driven (ring_words side ring size) (words_are_writes side ring size) in
+      let are = all_before IsDriven done access rest (subst (AllAre IsDriven) is driven) in
+      stops_rise done old mid new access are.0 rises made fails
+  preparing_rise side size old a new b out each rises (ring, free, inr (mid, made, stops)) =
+      let (back, lends) = stops.fails in
+      adds_rise stops.mid new _ _
+      (then_made (IsRising q lent) first mid stops.mid
+      (then_made (IsRising q lent) first old mid rises (words_rise q lent side ring size old mid made))
+      (lends_rise q lent out mid stops.mid each stops.lent)) lends
+
+-- blocks of these numbers alone are lent, which were drawn
+
+abbrev among : List ℕ → Blocks
+among ns = λ n. list_any (λ b. n == b) ns
+
+module _ (x : BeginsApart) where
   open x use {w, origin, h, q, size, frame, old, a, new}
 
-  abbrev first : Halves
-  first = record { receive = f.empty; transmit = f.sender }
+  abbrev AtFirst : State → Type 0
+  AtFirst = IsQuietAndFresh w.queue q frame (is_own a)
 
-  abbrev filled : Halves
-  filled = record { receive = f.fails.ring; transmit = f.sender }
+  -- behind the first access
+  unlent : (lent : Blocks) (first : List Call) → IsMade q old first (Sees Rxdctl false)
+      → RisesToLast q lent first new → (number : ℕ) → is_own a number ≡ true → (lent number ≡ true → ⊥)
+      → BeforeLast w origin h new (λ s. has_block s.memory number ≡ false)
+  unlent lent first begins =
+      unlent_before w origin h q old first x.along (is_own a) lent begins
+      (λ done rest e both own is.
+      (first_read w q origin h AtFirst old first x.begins begins done rest e both own is).1.none)
+      x.others new
 
-  may_first : (n : ℕ) → is_free f.on.both_arena n ≡ true → MayLend (is_own a) first Receives n
-  may_first =
-      may q size frame old a f.on.ready_made f.on.ready_arena f.on.both_made f.on.both_arena f.empty f.sender
-      f.on.receive f.on.transmit
+  undrawn : (b : Numbers) (ns : List ℕ) (first : List Call) → IsMade q old first (Sees Rxdctl false) → IsDrawn a ns b
+      → RisesToLast q (among ns) first new → NoneIsLent w origin h new b
+  undrawn b ns first begins drawn rises number free =
+      unlent (among ns) first begins rises number (is_own-of_free a number (free_before a ns b drawn number free))
+      (λ is. both_ways (among ns number) (times_among ns number (drawn_gone a ns b number drawn free)) is)
+
+  -- a side is seen on, or an access is stray
+  none_quieting : StopsBy DeviceFault q old new both_quiet → NoneIsLent w origin h new a
+  none_quieting ([], access, rest, mid, is, made, fails) number free =
+      let (e, r, apart, (before, added, steps)) = otherwise_adds q mid new access fails in
+      subst (λ (calls : List Call). BeforeLast w origin h calls (λ s. has_block s.memory number ≡ false))
+      (sym (added ∙ ap (λ (l : List Call). l ++ (before ++ call_of e r ∷ [])) made))
+      (λ done more entry both own calls.
+      (x.begins before (call_of e r) steps apart done more entry both own calls).1.none number
+      (is_own-of_free a number free))
+  none_quieting (d ∷ done, access, rest, mid, is, made, fails) number free =
+      let same : Sees Rxdctl false ≡ d = cc in
+      let are = all_before IsDriven (d ∷ done) access rest (subst (AllAre IsDriven) is (refl, off_driven)) in
+      let none : Blocks = λ n. false in
+      unlent none made.0 (subst (IsMade q old made.0) (sym same) made.1)
+      (stops_rise q none made.0 done made.0 mid new access are.0.1
+      (none_made (IsRising q none) made.0 made.0 refl) made.2 fails)
+      number (is_own-of_free a number free) (λ lent. cc)
+
+  -- the receive ring isn't prepared
+  none_before : (b : Numbers) (out : List ℕ) → ReceiveFails DeviceFault q size old a new b out
+      → NoneIsLent w origin h new b
+  none_before b out (inl (stops, same, empty)) =
+      subst (λ (z : Numbers). NoneIsLent w origin h new z) (sym same) (none_quieting stops)
+  none_before b out (inr (mid, made, fails)) =
+      undrawn b out made.0 made.1 (preparing_drawn DeviceFault q Rx size mid a new b out fails)
+      (preparing_rise q (among out) made.0 Rx size mid a new b out (among_times out)
+      (quieted_rises q (among out) old mid made) fails)
+
+  none_early : (early : FaultsEarly q size frame old a new) → LendsFresh w origin h q size frame old a new early
+  none_early (inl y) = none_before y.arena y.out y.fails
+  none_early (inr (inl y)) =
+      let ring = ring_blocks y.receive.ring size in
+      let all : List ℕ = ring ++ y.out in
+      undrawn y.arena all y.receive.quiet.0 y.receive.quiet.1
+      (drawn_both a ring y.ready_arena y.out y.arena y.receive.prepared.drawn
+      (preparing_drawn DeviceFault q Tx size y.made y.ready_arena new y.arena y.out y.fails))
+      (preparing_rise q (among all) y.receive.quiet.0 Tx size y.made y.ready_arena new y.arena y.out
+      (λ n some. among_times all n (omega (arith, some, times-append ring y.out n)))
+      (ready_rises q (among all) y.receive
+      (λ k below.
+      let n : ℕ = y.receive.ring + k in
+      let some = (ring_block_out y.receive.ring size n).0 (ring_block_is y.receive.ring size k below) in
+      among_times all n (omega (arith, some, times-append ring y.out n)))) y.fails)
+  none_early (inr (inr y)) = tt
 
   -- the slots that were filled, and the call that wasn't answered well
-  found : FindsFault (is_own a) f.mid first new
-  found =
-      found_on (is_own a) f.mid f.fails.mid new first filled
-      (receiving_apart (is_own a) f.on.both_arena f.mid f.fails.mid first filled may_first
-      (record { plays = f.fails.plays; free = f.fails.free }) refl)
-      (wrong_by DeviceFault (is_own a) f.fails.arena f.arena f.fails.mid new filled f.filled
-      (λ n free.
-      may_first n (free_before f.on.both_arena f.fails.posts.blocks f.fails.arena f.fails.posts.drawn n free))
-      f.fails.fails)
+  module _ (f : FaultsFilling q size frame old a new) where
+    abbrev first : Halves
+    first = record { receive = f.empty; transmit = f.sender }
 
-  refuted : Parts w.pass h new x.more → ⊥
-  refuted p =
+    found : FindsFault (is_own a) f.mid first new
+    found =
+        let filled : Halves = record { receive = f.fails.ring; transmit = f.sender } in
+        let may_first = may f.on.receive f.on.transmit in
+        found_on
+        (receiving_apart (is_own a) f.on.both_arena f.mid f.fails.mid first filled may_first
+        (record { plays = f.fails.plays; free = f.fails.free }) refl)
+        (wrong_by DeviceFault (is_own a) f.fails.arena f.arena f.fails.mid new filled f.filled
+        (λ n free.
+        may_first n (free_before f.on.both_arena f.fails.posts.blocks f.fails.arena f.fails.posts.drawn n free))
+        f.fails.fails)
+
+  pub never_at_fault : FaultsEarly q size frame old a new ⊎ FaultsFilling q size frame old a new → ⊥
+  never_at_fault (inl early) =
+      let p = parts w.pass h new x.more x.made in
+      no_fault_is_early w q origin h size frame old a new x.along
+      (λ before c steps apart done rest e all own is. (x.begins before c steps apart done rest e all own is).0) early
+      (none_early early) p.front p.back p.both p.fronts
+  never_at_fault (inr f) =
+      let p = parts w.pass h new x.more x.made in
       let quiet = f.on.receive.quiet in
-      let at = last_before w origin h p.front p.back quiet.0 (IsQuietAndFresh w.queue q frame (is_own a)) p.both
-      (first_read w q origin h (IsQuietAndFresh w.queue q frame (is_own a)) old quiet.0 x.begins quiet.1) in
-      no_fault_once_on w origin p.front q size frame old a f.mid f.empty f.sender f.on
-      (along_before w origin h p.front p.back p.both x.along)
+      let at = last_before w origin p.front p.back p.both quiet.0 AtFirst
+      (first_read w q origin h AtFirst old quiet.0 x.begins quiet.1) in
+      no_fault_once_on f.on (along_before w origin p.front p.back p.both x.along)
       (λ done more e both own is. (at done more e both own is).0.ground) (is_own a)
       (λ done more e both own is. (at done more e both own is).1)
       (others_before w.pass (is_own a) p.front p.back
       (subst (OnlyPassLends w.pass (is_own a)) (sym p.both) x.others))
-      (subst (FindsFault (is_own a) f.mid first) (sym p.fronts) found)
-
-pub no_filling_finds_fault : NoFillingFindsFault
-no_filling_finds_fault x f = refuted x f (parts x.w.pass x.h x.new x.more x.made)
-
--- nor amid its events at all
-module _ (x : BeginsApart) where
-  open x use {w, origin, h, q, size, frame, old, a, new}
-
-  never_early : FaultsEarly q size frame old a new → Parts w.pass h new x.more → ⊥
-  never_early early p =
-      no_fault_is_early w q origin h size frame old a new x.along
-      (λ before c steps apart done rest e all own is. (x.begins before c steps apart done rest e all own is).0) early
-      (none_early x early) p.front p.back p.both p.fronts
-
-  pub never_at_fault : FaultsEarly q size frame old a new ⊎ FaultsFilling q size frame old a new → ⊥
-  never_at_fault (inl early) = never_early early (parts w.pass h new x.more x.made)
-  never_at_fault (inr filling) = no_filling_finds_fault x filling
-
-pub no_start_finds_fault : NoStartFindsFault
-no_start_finds_fault x e stops is =
-    never_at_fault x (faults_are_early_or_filling x.q x.size x.frame x.old x.a x.new e stops is)
+      (subst (FindsFault (is_own a) f.mid (first f)) (sym p.fronts) (found f))

@@ -1,24 +1,55 @@
 -- The calls of a driver's stop are those of a stop, beside steps of the device, and take blocks back once both sides
--- are off.
-use Rattle.std.proofs.Common.{inl, inr, false, refl, sym, subst, List}
-use Rattle.driver_laws.specs.Prelude.{Call, PmdFault, Halted, IsSwitched, AtPort}
-use Rattle.pmd_laws.specs.Prelude.{IsAsking, IsEnding, Ends, TakesOnceOff}
-use Rattle.pmd.specs.Stopping.{ComesHome, IsLeft, IsLeftAmid, bringing, brought, closed}
+-- are off; and so do those of them that were made so far.
 use Rattle.pmd.specs.declared.home.Home.{Home}
-use Rattle.start_laws.specs.Stopping.{Asks}
 use Rattle.start_laws.proofs.Stopping.{bringing_ends, switched_off_asks, unswitched_asks}
-use Rattle.start_laws.proofs.StopCalls.{asks_end, none_made, some_made, step_ends, then_made}
-use Rattle.pmd_laws.specs.Stopped.{FailedStopEnds, FailedStopTakesOnceOff, NoCallTakes, StopEnds, StopTakesOnceOff}
+use Rattle.pmd_laws.proofs.Prelude.{[], ◌++◌, ◌∙◌, ◌∷◌, ◌≡◌, ◌⊎◌, AreMadeOf, Asks, AtPort, Begins, Block, Call,
+    ComesHome, Each, Ends, EndsOnceOff, Event, FailedStopEnds, FailedStopTakesOnceOff, Halted, IsAsking, IsEnding,
+    IsLeftAmid, IsStopped, IsSwitched, List, NoCallTakes, None, Option, PmdFault, Rest, Some, StopEnds,
+    StopTakesOnceOff, TakesOnceOff, ap, append_assoc, append_cancel_left, asks_end, bringing, brought, closed, false,
+    inl, inr, none_made, one_begins, refl, some_made, step_ends, subst, sym, then_made}
+use Rattle.pmd.specs.declared.start.Rest.TheVariants as rest
+
+module _ (P : Event Block → Type 0) where
+  each_first : (cs ds : List Call) → Each (λ c. P c.event) (cs ++ ds) → Each (λ c. P c.event) cs
+  each_first [] ds are = tt
+  each_first (c ∷ cs) ds are = (are.0, each_first cs ds are.1)
+
+  pub first_made : (old now new since rest : List Call) → AreMadeOf P old new → now ≡ old ++ since → new ≡ now ++ rest
+      → AreMadeOf P old now
+  first_made old now new since rest (calls, is, are) some all =
+      let both : calls ≡ since ++ rest =
+      append_cancel_left old calls (since ++ rest)
+      (sym is ∙ all ∙ ap (λ (l : List Call). l ++ rest) some ∙ append_assoc old since rest) in
+      (since, some, each_first since rest (subst (Each (λ c. P c.event)) both are))
+
+-- up to where both sides are off the calls ask
+pub off_asks : (q : AtPort) (old new : List Call) (x : EndsOnceOff q old new) → Asks q old x.off
+off_asks q old new x = then_made (IsAsking q) old x.mid x.off x.asks (switched_off_asks q x.mid x.off x.switched)
+
+pub takes_ends : (q : AtPort) (old new : List Call) → TakesOnceOff q old new → Ends q old new
+takes_ends q old new (inl asks) = asks_end q old new asks
+takes_ends q old new (inr x) =
+    then_made (IsEnding q) old x.off new (asks_end q old x.off (off_asks q old new x)) x.ends
+
+module _ (q : AtPort) (old now new since rest : List Call) (some : now ≡ old ++ since) (all : new ≡ now ++ rest) where
+  so_far : (x : EndsOnceOff q old new) → Begins now x.off ⊎ Begins x.off now → TakesOnceOff q old now
+  so_far x (inl (back, is)) =
+      inl (first_made (IsAsking q) old now x.off since back (off_asks q old new x) some (sym is))
+  so_far x (inr (back, is)) = inr (record {
+    mid = x.mid; off = x.off; asks = x.asks; switched = x.switched;
+    ends = first_made (IsEnding q) x.off now new back rest x.ends (sym is) all
+  })
+
+  pub first_takes : TakesOnceOff q old new → TakesOnceOff q old now
+  first_takes (inl asks) = inl (first_made (IsAsking q) old now new since rest asks some all)
+  first_takes (inr x) = so_far x (one_begins now rest x.off x.ends.0 (sym all ∙ x.ends.1))
+
+-- what comes behind a switch off
 
 pub home_ends : (q : AtPort) (old : List Call) (h : Halted) (new : List Call) (home : Home)
     → ComesHome old h new home → Ends q old new
 home_ends q old h new home comes =
     bringing_ends q comes.brings.0 (bringing old h) (brought new home) comes.brings.1
-
-pub stop_ends : StopEnds
-stop_ends q old h new home (mid, switched, comes) =
-    then_made (IsEnding q) old mid new (asks_end q old mid (switched_off_asks q old mid switched))
-    (home_ends q mid (closed h) new home comes)
 
 pub amid_ends : (f : PmdFault) (q : AtPort) (old : List Call) (h : Halted) (new : List Call) (left : Halted)
     → IsLeftAmid f old h new left → Ends q old new
@@ -26,42 +57,25 @@ amid_ends f q old h new left (refusal, is, (count, mid, some, more, arena, way, 
     then_made (IsEnding q) old mid.made new (bringing_ends q count (bringing old h) mid some)
     (some_made (IsEnding q) (step_ends q) mid.made new more)
 
-left_ends : (f : PmdFault) (q : AtPort) (old : List Call) (h : Halted) (new : List Call) (left : Halted)
-    → IsLeft f q old h new left → Ends q old new
-left_ends f q old h new left (inl (fails, same)) = asks_end q old new (unswitched_asks f q old new fails)
-left_ends f q old h new left (inr (mid, switched, amid)) =
-    then_made (IsEnding q) old mid new (asks_end q old mid (switched_off_asks q old mid switched))
-    (amid_ends f q mid h new left amid)
-
-pub failed_stop_ends : FailedStopEnds
-failed_stop_ends f q old h new left (inl (is, same, after)) = none_made (IsEnding q) old new same
-failed_stop_ends f q old h new left (inr x) = left_ends f q old (closed h) new left x
-
 -- blocks are taken back behind a switch off
+
+on_ends : (q : AtPort) (old mid new : List Call) → EndsOnceOff q old mid → Ends q mid new → EndsOnceOff q old new
+on_ends q old mid new x more = record {
+  mid = x.mid; off = x.off; asks = x.asks; switched = x.switched;
+  ends = then_made (IsEnding q) x.off mid new x.ends more
+}
 
 once_off : (q : AtPort) (old mid off new : List Call) → TakesOnceOff q old mid → IsSwitched q mid off false 1000
     → Ends q off new → TakesOnceOff q old new
 once_off q old mid off new (inl asks) x ends =
     inr (record { mid = mid; off = off; asks = asks; switched = x; ends = ends })
-once_off q old mid off new (inr was) x ends = inr (record {
-  mid = was.mid;
-  off = was.off;
-  asks = was.asks;
-  switched = was.switched;
-  ends =
-      then_made (IsEnding q) was.off mid new was.ends
-      (then_made (IsEnding q) mid off new (asks_end q mid off (switched_off_asks q mid off x)) ends);
-})
+once_off q old mid off new (inr was) x ends =
+    inr (on_ends q old mid new was
+    (then_made (IsEnding q) mid off new (asks_end q mid off (switched_off_asks q mid off x)) ends))
 
 more_asks : (q : AtPort) (old mid new : List Call) → TakesOnceOff q old mid → Asks q mid new → TakesOnceOff q old new
 more_asks q old mid new (inl asks) more = inl (then_made (IsAsking q) old mid new asks more)
-more_asks q old mid new (inr was) more = inr (record {
-  mid = was.mid;
-  off = was.off;
-  asks = was.asks;
-  switched = was.switched;
-  ends = then_made (IsEnding q) was.off mid new was.ends (asks_end q mid new more);
-})
+more_asks q old mid new (inr was) more = inr (on_ends q old mid new was (asks_end q mid new more))
 
 pub no_call_takes : NoCallTakes
 no_call_takes q old = inl (none_made (IsAsking q) old old refl)
@@ -70,15 +84,31 @@ pub stop_takes_once_off : StopTakesOnceOff
 stop_takes_once_off q old mid h new home (off, switched, comes) before =
     once_off q old mid off new before switched (home_ends q off (closed h) new home comes)
 
-left_takes : (f : PmdFault) (q : AtPort) (old mid : List Call) (h : Halted) (new : List Call) (left : Halted)
-    → IsLeft f q mid h new left → TakesOnceOff q old mid → TakesOnceOff q old new
-left_takes f q old mid h new left (inl (fails, same)) before =
-    more_asks q old mid new before (unswitched_asks f q mid new fails)
-left_takes f q old mid h new left (inr (off, switched, amid)) before =
-    once_off q old mid off new before switched (amid_ends f q off h new left amid)
-
 pub failed_stop_takes_once_off : FailedStopTakesOnceOff
 failed_stop_takes_once_off f q old mid h new left (inl (is, same, after)) before =
     subst (TakesOnceOff q old) (sym same) before
-failed_stop_takes_once_off f q old mid h new left (inr x) before =
-    left_takes f q old mid (closed h) new left x before
+failed_stop_takes_once_off f q old mid h new left (inr (inl (fails, same))) before =
+    more_asks q old mid new before (unswitched_asks f q mid new fails)
+failed_stop_takes_once_off f q old mid h new left (inr (inr (off, switched, amid))) before =
+    once_off q old mid off new before switched (amid_ends f q off (closed h) new left amid)
+
+pub stop_ends : StopEnds
+stop_ends q old h new home x =
+    takes_ends q old new (stop_takes_once_off q old old h new home x (no_call_takes q old))
+
+pub failed_stop_ends : FailedStopEnds
+failed_stop_ends f q old h new left x =
+    takes_ends q old new (failed_stop_takes_once_off f q old old h new left x (no_call_takes q old))
+
+-- so it is of a driver that lived, and was stopped
+pub stopped_takes : (q : AtPort) (old : List Call) (h : Halted) (new : List Call) (left : Rest) (late : Option PmdFault)
+    → IsStopped q old h new left late → TakesOnceOff q old new
+stopped_takes q old h new (rest.Home home) None x = stop_takes_once_off q old old h new home x (no_call_takes q old)
+stopped_takes q old h new (rest.Home home) (Some f) x = absurd x
+stopped_takes q old h new (rest.Running p) None x = absurd x
+stopped_takes q old h new (rest.Running p) (Some f) (after, is, fails) =
+    failed_stop_takes_once_off f q old old h new after fails (no_call_takes q old)
+
+pub stopped_ends : (q : AtPort) (old : List Call) (h : Halted) (new : List Call) (left : Rest) (late : Option PmdFault)
+    → IsStopped q old h new left late → Ends q old new
+stopped_ends q old h new left late x = takes_ends q old new (stopped_takes q old h new left late x)

@@ -1,28 +1,188 @@
--- What a driver handed out, over its stop and on.
-use Rattle.std.proofs.Common.{◌≢◌, ℕ, inl, inr, false, List, [], ◌∷◌, ◌++◌, refl, sym, ◌∙◌, subst}
-use Rattle.std.proofs.lemmas.List.{append-nil}
-use Rattle.driver_laws.specs.Prelude.{Rx, Block, mode_in, State, after, Event, lent_by, leads_to, Watched, Call, Entry, AtPort, Receive, Sender}
-use Rattle.pmd_laws.specs.Prelude.{IsEnding, HasGround}
-use Rattle.device_lock.proofs.Histories.{leads-append}
-use Rattle.start_laws.specs.Along.{AtEntries}
-use Rattle.start_laws.specs.Ending.{NamesDriven}
-use Rattle.start_laws.proofs.Reached.{reached, state_kept, state_leads}
-use Rattle.start_laws.proofs.Ending.{all_lead}
-use Rattle.start_laws.proofs.Ground.{ground_kept, ground_same, plain_keeps}
+-- What a driver handed out stays in order over its stop and on: the calls of its life are harmless, or write no
+-- register but the tails of its queue, and behind them the receive side doesn't go on.
+use Rattle.driver_laws.specs.Prelude.{Asks}
+use Rattle.pmd.specs.PmdRx.Receive.{moved}
+use Rattle.pmd.specs.PmdRx.declared.ring.Told.{Told}
+use Rattle.pmd.specs.PmdSeam.Packet.{Kept}
 use Rattle.start_laws.proofs.ReceiveLaws.DeviceLaws.KeptSettings.{settings_stand}
 use Rattle.start_laws.proofs.ReceiveLaws.DeviceLaws.Standing.{stays_within}
-use Rattle.start_laws.proofs.HistoryLaws.Leaving.{left-setting}
-use Rattle.start_laws.proofs.Settled.{IsSettled}
-use Rattle.start_laws.proofs.Start.{ground_at, on_some}
-use Rattle.driver_laws.proofs.Beside.{left}
-use Rattle.driver_laws.proofs.InOrder.{led}
-use Rattle.pmd_laws.specs.Life.{Life}
-use Rattle.pmd_laws.specs.Order.{IsLived}
-use Rattle.pmd_laws.specs.Stopped.{HandedIsPrefix, IsStopping}
-use Rattle.pmd_laws.proofs.Lived.{life_before}
-use Rattle.pmd_laws.proofs.Order.{driven, first, handed_of_life, in_parts, whole}
-use Rattle.pmd_laws.proofs.Plain.{ArePlaced, IsOfLife, all_plain}
-use Rattle.pmd_laws.proofs.HandedOn.{Keeps, ending_keeps, others_keep}
+use Rattle.start_laws.specs.ReceiveLaws.Delivered.{IsPrefixOf}
+use Rattle.start_laws.specs.ReceiveLaws.Pieces.{packet_told, packets_behind}
+use Rattle.pmd_laws.proofs.Order.{driven, first, handed_of_life, in_parts, life_before, whole}
+use Rattle.pmd_laws.proofs.Prelude.{[], ◌++◌, ◌∙◌, ◌∷◌, ◌≡◌, ◌≢◌, ◌⊎◌, Accepts, Advances, AllOwn, AtEntries, AtPort,
+    Block, Blocks, Call, Doer, Each, Elsewhere, Entry, Event, Halves, HandedIsPrefix, HasGround, IsEnding, IsLived,
+    IsPlain, IsSettled, IsStopping, IsTrue, KeptOver, LeadsOver, Lends, Life, List, Move, NamesDriven, None, Option,
+    OthersHarmless, OwnCall, Piece, Port, Reaps, Receive, Receives, Reply, Rx, Sender, Sends, Settles, Some, State,
+    Watched, ℕ, after, after_call, all_lead, ap, append-nil, append_assoc, cases_Bool, cond, delivered, drive,
+    either_way, ending_plain, ending_settles, false, ground_at, ground_kept, ground_same, inl, inr, is_harmless,
+    is_neither, leads-append, leads_to, led, left, left-setting, left_settles, lent_by, looked, mode_in, on_some,
+    option_map, packets_if_any, pieces, pieces_since, plain_keeps, posts_all, reached, reached_next, refl, since-append,
+    state_kept, state_leads, subst, sym, took}
+use Rattle.nic_device.specs.declared.event.Event.TheVariants as event
+use Rattle.nic_device.specs.declared.event.Reply.TheVariants as reply
+use Rattle.pmd.specs.PmdRx.Receive as receiving
+use Rattle.pmd.specs.PmdTx.Sending as sending
+
+-- the tail's number stays
+
+abbrev pub SameTail : Receive → Receive → Type 0
+SameTail v u = (u.layout.port ≡ v.layout.port) × (u.layout.tail ≡ v.layout.tail)
+
+looked_same : (v : Receive) (d : List ℕ) → SameTail v (looked v d)
+looked_same v d = either_way (SameTail v) _ _ v (refl, refl) (refl, refl)
+
+took_same : (v : Receive) (seen : List Told) (b : Block) → SameTail v (took v seen b)
+took_same v [] b = (refl, refl)
+took_same v (t ∷ seen) b = (refl, refl)
+
+moved_same : (v : Receive) (word : ℕ) → SameTail v (moved v word)
+moved_same v word = either_way (SameTail v) _ _ (posts_all v) (refl, refl) (refl, refl)
+
+pub drive_same : (v : Receive) (e : Event Block) (r : Reply Block) → SameTail v (drive v e r)
+drive_same v (event.Peek16 a) (reply.Bytes d) = looked_same v d
+drive_same v (event.Take n) (reply.Buf b) = took_same v v.seen b
+drive_same v (event.Lend b) reply.Done = (refl, refl)
+drive_same v (event.Poke16 a bytes) reply.Done = (refl, refl)
+drive_same v (event.Write port number word) reply.Done = moved_same v word
+drive_same v e r = (refl, refl)
+
+sent_same : (v : Sender) (m : Move) (r : Reply Block)
+    → ((sending.moved v m r).layout.port ≡ v.layout.port) × ((sending.moved v m r).layout.tail ≡ v.layout.tail)
+sent_same v (Accepts p) reply.Done = (refl, refl)
+sent_same v Lends reply.Done = (refl, refl)
+sent_same v Asks reply.Done = (refl, refl)
+sent_same v Advances reply.Done = (refl, refl)
+sent_same v sending.Looks (reply.Bytes d) = (refl, refl)
+sent_same v Reaps (reply.Buf b) = (refl, refl)
+sent_same v m r = (refl, refl)
+
+module _ (q : AtPort) where
+  abbrev At : ℕ → Port → Type 0
+  At number port = NamesDriven q port number
+
+  same_named : (port to : Port) (number goal : ℕ) → port ≡ to → number ≡ goal → NamesDriven q to goal
+      → NamesDriven q port number
+  same_named port to number goal same is at =
+      subst (At number) (sym same) (subst (NamesDriven q to) (sym is) at)
+
+  -- both tails are registers of the queue
+  pub record ArePlaced (k : Halves) : Type 0 where
+    pub receive : NamesDriven q k.receive.layout.port k.receive.layout.tail
+    pub transmit : NamesDriven q k.transmit.layout.port k.transmit.layout.tail
+
+  next_placed : (k : Halves) (d : Doer) (c : Call) → ArePlaced k → ArePlaced (after_call k d c)
+  next_placed k Receives c x =
+      let same = drive_same k.receive c.event c.reply in
+      record { receive = same_named _ _ _ _ same.0 same.1 x.receive; transmit = x.transmit }
+  next_placed k (Sends m) c x =
+      let same = sent_same k.transmit m c.reply in
+      record { receive = x.receive; transmit = same_named _ _ _ _ same.0 same.1 x.transmit }
+
+  receive_plain : (v : Receive) (e : Event Block) → receiving.IsOwn v e → NamesDriven q v.layout.port v.layout.tail
+      → IsPlain q e
+  receive_plain v (event.Write port number word) own at =
+      same_named port v.layout.port number v.layout.tail own.port_is own.number_is at
+  receive_plain v e own at = tt
+
+  -- an event of a life
+  abbrev pub IsOfLife : Event Block → Type 0
+  IsOfLife e = IsPlain q e ⊎ IsTrue (is_harmless e)
+
+  write_plain : (v : Sender) (m : Move) (port : Port) (number word : ℕ)
+      → sending.IsOwn v m (event.Write port number word)
+      → (IsTrue (is_neither (Sends m)) → IsTrue (is_harmless (event.Write port number word)))
+      → NamesDriven q v.layout.port v.layout.tail → IsOfLife (event.Write port number word)
+  write_plain v Advances port number word (all, some, to, is, what) harmless at =
+      inl (same_named port v.layout.port number v.layout.tail to is at)
+  write_plain v Elsewhere port number word own harmless at = inr (harmless refl)
+  write_plain v m port number word own harmless at = absurd own
+
+  transmit_plain : (v : Sender) (m : Move) (e : Event Block) → sending.IsOwn v m e
+      → (IsTrue (is_neither (Sends m)) → IsTrue (is_harmless e)) → NamesDriven q v.layout.port v.layout.tail
+      → IsOfLife e
+  transmit_plain v m (event.Write port number word) own harmless at = write_plain v m port number word own harmless at
+  transmit_plain v m e own harmless at = inl tt
+
+  own_plain : (k : Halves) (d : Doer) (c : Call) → OwnCall k d c
+      → (IsTrue (is_neither d) → IsTrue (is_harmless c.event))
+      → ArePlaced k → IsOfLife c.event
+  own_plain k Receives c own harmless x = inl (receive_plain k.receive c.event own x.receive)
+  own_plain k (Sends m) c own harmless x = transmit_plain k.transmit m c.event own harmless x.transmit
+
+  pub all_plain : (k : Halves) (doers : List Doer) (calls : List Call) → AllOwn k doers calls
+      → OthersHarmless doers calls → ArePlaced k → Each (λ c. IsOfLife c.event) calls
+  all_plain k [] [] own harmless x = tt
+  all_plain k [] (c ∷ cs) own harmless x = absurd own
+  all_plain k (d ∷ doers) [] own harmless x = absurd own
+  all_plain k (d ∷ doers) (c ∷ cs) own harmless x = (
+    own_plain k d c own.0 harmless.0 x,
+    all_plain (after_call k d c) doers cs own.1 harmless.1 (next_placed k d c x),
+  )
+
+-- where more pieces come the packets so far stay first
+
+more_behind : (front : List ℕ) (ps qs : List Piece)
+    → (rest : List Kept) × (packets_behind front ps ++ rest ≡ packets_behind front (ps ++ qs))
+more_behind front [] qs = (packets_behind front qs, refl)
+more_behind front (p ∷ ps) qs = elim (cases_Bool p.end)
+    as (λ _. (rest : List Kept) × (packets_behind front (p ∷ ps) ++ rest ≡ packets_behind front (p ∷ (ps ++ qs)))) [
+      | inl ends ↦
+          let (rest, is) = more_behind [] ps qs in
+          let joined : packets_behind front (p ∷ ps) ++ rest ≡ packets_behind front (p ∷ (ps ++ qs)) =
+          rw ends (ap (λ (l : List Kept). packet_told (front ++ p.bytes) p.first ∷ l) is) in
+          (rest, joined)
+      | inr goes ↦
+          let (rest, is) = more_behind (front ++ p.bytes) ps qs in
+          let joined : packets_behind front (p ∷ ps) ++ rest ≡ packets_behind front (p ∷ (ps ++ qs)) = rw goes is in
+          (rest, joined)
+    ]
+
+more_if_any : (so_far : Option (List Piece)) (ps : List Piece)
+    → IsPrefixOf (packets_if_any so_far) (packets_if_any (option_map (λ qs. qs ++ ps) so_far))
+more_if_any None ps = ([], refl)
+more_if_any (Some qs) ps = more_behind [] qs ps
+
+then_prefix : (xs ys zs : List Kept) → IsPrefixOf xs ys → IsPrefixOf ys zs → IsPrefixOf xs zs
+then_prefix xs ys zs (one, is) (two, more) =
+    (one ++ two, sym (append_assoc xs one two) ∙ ap (λ (l : List Kept). l ++ two) is ∙ more)
+
+-- from where the receive side is settled on it doesn't go on
+
+module _ (w : Watched) (origin : State) (q : AtPort) (frame : ℕ) (handed : List Kept) where
+  pub record Keeps (done : List Entry) : Type 0 where
+    pub ground : HasGround w.queue q frame (reached w origin done)
+    pub settled : IsSettled Rx w.queue (reached w origin done)
+    pub ahead : IsPrefixOf handed (delivered w.queue origin done)
+
+  keeps_on : (done : List Entry) (e : Entry) → HasGround w.queue q frame (after (reached w origin done) e.event)
+      → Settles Rx w.queue (reached w origin done) (after (reached w origin done) e.event) → Keeps done
+      → Keeps (done ++ e ∷ [])
+  keeps_on done e g on kept =
+      let s = reached w origin done in
+      let so_far = pieces_since w.queue origin None done in
+      let ps = pieces w.queue s e.event in
+      let more : delivered w.queue origin (done ++ e ∷ []) ≡ packets_if_any (option_map (λ qs. qs ++ ps) so_far) =
+      ap packets_if_any (since-append w.queue origin None done (e ∷ []))
+      ∙ ap (λ b. packets_if_any (cond b (Some []) (option_map (λ qs. qs ++ ps) so_far))) on.never in
+      record {
+        ground = subst (HasGround w.queue q frame) (sym (reached_next w origin done e)) g;
+        settled = subst (IsSettled Rx w.queue) (sym (reached_next w origin done e)) on.settled;
+        ahead =
+            subst (IsPrefixOf handed) (sym more)
+            (then_prefix handed (delivered w.queue origin done) _ kept.ahead (more_if_any so_far ps));
+      }
+
+  pub others_keep : (mine : Blocks) → KeptOver w origin mine Keeps
+  others_keep mine done e left kept =
+      keeps_on done e (ground_kept w mine q frame (reached w origin done) e.event left kept.ground)
+      (left_settles Rx w mine (reached w origin done) e.event left kept.settled) kept
+
+  pub ending_keeps : (mine : Blocks) (c : Call) → IsEnding q c.event → LeadsOver w origin mine c Keeps Keeps
+  ending_keeps mine c own done e same met made told steps kept =
+      let s = reached w origin done in
+      let ends : IsEnding q e.event = subst (λ (n : Call). IsEnding q n.event) (sym same) own in
+      keeps_on done e (plain_keeps w.queue q frame s e.event (ending_plain q e.event ends) kept.ground)
+      (ending_settles w.queue q frame s e.event met made ends kept.ground kept.settled) kept
 
 -- an event of a life keeps what port and queue name, and the frame limit
 life_keeps : (queue : ℕ) (q : AtPort) (frame : ℕ) (s : State) (e : Event Block) → IsOfLife q e
@@ -98,7 +258,7 @@ module _ (x : Life) (new : List Call) (y : IsStopping x new) where
   lived_at : AtEntries w h x.made Here
   lived_at done rest all calls =
       let l = life_before x done rest all x.made x.k x.is.since in
-      record { ground = ground_lived l calls; settled = settled_lived l calls; first = handed_of_life l calls }
+      record { ground = ground_lived l calls; settled = settled_lived l calls; ahead = handed_of_life l calls }
 
   over_stop : Here h
   over_stop =
@@ -108,4 +268,4 @@ module _ (x : Life) (new : List Call) (y : IsStopping x new) where
       x.made y.ends.2 (made_some x) lived_at h [] (append-nil h) (y.calls ∙ y.ends.1)
 
 pub handed_over_stop : HandedIsPrefix
-handed_over_stop x new y = (over_stop x new y).first
+handed_over_stop x new y = (over_stop x new y).ahead

@@ -1,43 +1,33 @@
--- No frame waits at a device that is longer than the longest that was let in, as the entries of its history tell.
-use Rattle.std.proofs.Common.{◌≡◌, ℕ, ◌+◌, ◌≤◌, nat_lt, max, List, [], ◌∷◌, length, Ok, Err, refl, subst, sym, arith}
-use Rattle.std.specs.Prelude.{Result, All, not}
+-- No frame waits at a device that is longer than the longest that was let in, as the entries of its history tell; so
+-- where these say that frames fit a driver's packets, those that wait as it starts do.
 use Rattle.std.proofs.Math.Nat.{le-max_left, le-max_right}
 use Rattle.std.proofs.lemmas.List.Elements.{All-cons, All-filter, All-head, All-nil, All-push, All-tail, All-weaker}
-use Rattle.pmd_laws.specs.DriverLaws.Prelude.{Block, Rx, Tx, row_of, asks_pool_reset, mode_in, named, State, new_state, after, reply_to, Event, Port, Reply, Register, IsLegal, leads_to, Entry}
-use Rattle.nic_device.specs.RegisterFile.Access.{asks_reset}
-use Rattle.nic_device.specs.RegisterFile.Registers.{is_wanted}
+use Rattle.std.specs.Prelude.{Result, not}
+use Rattle.nic_device.proofs.QueueCases.{received_cases}
+use Rattle.nic_device.specs.Arrival.{let_in, sorted_in}
+use Rattle.nic_device.specs.Outcome.{Outcome}
 use Rattle.nic_device.specs.RegisterFile.Settings.{can_receive, frame_limit}
 use Rattle.nic_device.specs.RxFilter.Sorting.{sorted}
 use Rattle.nic_device.specs.RxFilter.declared.target.Target.{Target}
 use Rattle.nic_device.specs.RxFilter.declared.unwanted.Unwanted.{Unwanted}
-use Rattle.nic_device.specs.VfMap.Owner.{has_queue}
-use Rattle.nic_device.specs.Access.{named_written}
-use Rattle.nic_device.specs.Arrival.{let_in, sorted_in}
-use Rattle.nic_device.specs.Outcome.{Outcome}
-use Rattle.nic_device.specs.State.{Waiting}
 use Rattle.nic_device.specs.Step.{step_of}
 use Rattle.nic_device.specs.Switching.{without_part}
-use Rattle.nic_device.specs.declared.event.Event.TheVariants as event
-use Rattle.nic_device.specs.declared.named.Named.{Named}
-use Rattle.nic_device.specs.declared.named.Named.TheVariants.{Nothing}
-use Rattle.nic_device.proofs.Cases.{either_way, switched_cases}
-use Rattle.nic_device.proofs.QueueCases.{received_cases}
-use Rattle.pmd_laws.proofs.StartLaws.HistoryLaws.DeviceLaws.Resetting.{is_reset}
-use Rattle.pmd_laws.proofs.StartLaws.HistoryLaws.DeviceLaws.Standing.{stays_within}
-use Rattle.pmd_laws.proofs.StartLaws.HistoryLaws.DeviceLaws.StandingAccesses.{read_rest}
 use Rattle.workers.specs.Before.{known_through}
-use Rattle.workers.specs.Fitting.{let_in_by, longest_behind}
+use Rattle.workers.specs.Fitting.{let_in_by, longest_behind, longest_let_in}
+use Rattle.pmd_laws.proofs.Prelude.{[], ◌+◌, ◌∷◌, ◌≡◌, ◌≤◌, All, Block, Entry, Err, Event, FitsBlocks, IsLegal, List,
+    Ok, Reply, Rx, State, Waiting, ℕ, after, arith, either_way, has_queue, leads_to, legal_before, length, max, mode_in,
+    most_blocks, nat_lt, new_state, refl, subst, sym}
+use Rattle.pmd_laws.proofs.StartLaws.HistoryLaws.Waits.{waiting_changed}
+use Rattle.worker_laws.specs.Fitting.{AllFitBlocks, FramesFitIsShort}
+use Rattle.worker_laws.proofs.FirstCalls.{holds_at_first}
+use Rattle.nic_device.specs.declared.event.Event.TheVariants as event
 
 -- a frame that waits has no more bytes than this
-abbrev pub IsUpTo : ℕ → Waiting → Type 0
+abbrev IsUpTo : ℕ → Waiting → Type 0
 IsUpTo longest w = length w.frame ≤ longest
 
 module _ (longest : ℕ) (s : State) (h : All (IsUpTo longest) s.waiting) where
-  abbrev Wait : Outcome → Type 0
-  Wait o = All (IsUpTo longest) o.state.waiting
-
   -- with the frame that an event lets in, where it lets one in
-
   abbrev Behind : Event Block → Outcome → Type 0
   Behind e o = All (IsUpTo (max longest (let_in_by e o.reply))) o.state.waiting
 
@@ -67,27 +57,12 @@ module _ (longest : ℕ) (s : State) (h : All (IsUpTo longest) s.waiting) where
 
   -- no other event does
 
-  written : (word : ℕ) (m : Named) → Wait (named_written s m word)
-  written word (Nothing seen) = h
-  written word (Register p view) =
-      either_way (λ (t : State). All (IsUpTo longest) t.waiting) (asks_reset (row_of p.row).kind word) _ _
-      (subst (All (IsUpTo longest)) (sym (is_reset s).waiting) (All-nil (IsUpTo longest)))
-      (either_way (λ (t : State). All (IsUpTo longest) t.waiting) (asks_pool_reset (row_of p.row).kind word) _ _
-      (All-filter (λ w. not (has_queue (mode_in s.registers) p.index w.queue)) (IsUpTo longest) s.waiting h) h)
-
-  written_here : (port : Port) (n word : ℕ) → Wait (step_of s (event.Write port n word))
-  unfolding step_of
-  written_here port n word = written word (named s port n)
-
-  first : (w : Waiting) (others : List Waiting) → s.waiting ≡ w ∷ others → All (IsUpTo longest) (w ∷ others)
-  first w others e = subst (All (IsUpTo longest)) e h
-
   rest : (w : Waiting) (others : List Waiting) → s.waiting ≡ w ∷ others → All (IsUpTo longest) others
-  rest w others e = All-tail (IsUpTo longest) w others (first w others e)
+  rest w others e = All-tail (IsUpTo longest) w others (subst (All (IsUpTo longest)) e h)
 
-  received : Wait (step_of s event.RxStep)
+  received : All (IsUpTo longest) (after s event.RxStep).waiting
   unfolding step_of
-  received = received_cases Wait s (record {
+  received = received_cases (λ o. All (IsUpTo longest) o.state.waiting) s (record {
     idle = h;
     dropped = λ w others e why. rest w others e;
     slotless = λ w others e. rest w others e;
@@ -95,8 +70,8 @@ module _ (longest : ℕ) (s : State) (h : All (IsUpTo longest) s.waiting) where
     filled = λ w others e f is.
         either_way (All (IsUpTo longest)) f.end others (record w { offset = w.offset + f.len } ∷ others)
         (rest w others e)
-        (All-cons (IsUpTo longest) _ others (All-head (IsUpTo longest) w others (first w others e))
-        (rest w others e));
+        (All-cons (IsUpTo longest) _ others
+        (All-head (IsUpTo longest) w others (subst (All (IsUpTo longest)) e h)) (rest w others e));
   })
 
   parted : (queue : ℕ) (ws : List Waiting) → All (IsUpTo longest) ws → All (IsUpTo longest) (without_part queue ws)
@@ -104,42 +79,35 @@ module _ (longest : ℕ) (s : State) (h : All (IsUpTo longest) s.waiting) where
   parted queue (w ∷ others) all =
       either_way (All (IsUpTo longest)) _ others (w ∷ others) (All-tail (IsUpTo longest) w others all) all
 
-  switched : (queue : ℕ) → Wait (step_of s (event.QueueStep Rx queue))
-  unfolding step_of
-  switched queue =
-      switched_cases Wait s Rx queue h h
-      (either_way (λ (t : State). All (IsUpTo longest) t.waiting) (is_wanted s.registers Rx queue) _ _ h
-      (parted queue s.waiting h))
-
-  same : (e : Event Block) → (after s e).waiting ≡ s.waiting → Wait (step_of s e)
-  same e is = subst (All (IsUpTo longest)) (sym is) h
-
   behind : (e : Event Block) → Behind e (step_of s e)
-  behind (event.Read port n) = more 0 _ (same (event.Read port n) (read_rest s port n).frames.waiting)
-  behind (event.Write port n word) = more 0 _ (written_here port n word)
   behind (event.Arrive frame) = arrived frame
   behind event.RxStep = more 0 _ received
-  behind (event.QueueStep Rx queue) = more 0 _ (switched queue)
-  behind (event.QueueStep Tx queue) =
-      more 0 _ (same (event.QueueStep Tx queue) ((stays_within s (event.QueueStep Tx queue)).waiting refl))
-  behind e = more 0 _ (same e ((stays_within s e).waiting refl))
-
-  -- and behind an entry
-  entry_behind : (e : Entry) → e.reply ≡ reply_to s e.event
-      → All (IsUpTo (longest_behind longest e)) (after s e.event).waiting
-  entry_behind e legal =
-      subst (λ (r : Reply Block). All (IsUpTo (max longest (let_in_by e.event r))) (after s e.event).waiting)
-      (sym legal) (behind e.event)
+  behind (event.QueueStep Rx queue) =
+      more 0 _ (waiting_changed (All (IsUpTo longest)) s h (event.QueueStep Rx queue)
+      (λ unwanted. parted queue s.waiting h))
+  behind (event.Write port n word) =
+      more 0 _ (waiting_changed (All (IsUpTo longest)) s h (event.Write port n word) (λ p view found. record {
+        device = λ asks. All-nil (IsUpTo longest);
+        pool = λ asks.
+            All-filter (λ w. not (has_queue (mode_in s.registers) p.index w.queue)) (IsUpTo longest) s.waiting h;
+      }))
+  behind e = more 0 _ (waiting_changed (All (IsUpTo longest)) s h e tt)
 
 -- behind the entries of a history
-
 through : (longest : ℕ) (s : State) (h : List Entry) → IsLegal s h → All (IsUpTo longest) s.waiting
     → All (IsUpTo (known_through longest_behind longest h)) (leads_to s h).waiting
 through longest s [] legal all = all
 through longest s (e ∷ es) legal all =
-    through (longest_behind longest e) (after s e.event) es legal.1 (entry_behind longest s all e legal.0)
+    through (longest_behind longest e) (after s e.event) es legal.1
+    (subst (λ (r : Reply Block). All (IsUpTo (max longest (let_in_by e.event r))) (after s e.event).waiting)
+    (sym legal.0) (behind longest s all e.event))
 
--- of a device that was new
-pub up_to_longest : (vfs fifo : ℕ) (h : List Entry) → IsLegal (new_state vfs fifo) h
-    → All (IsUpTo (known_through longest_behind 0 h)) (leads_to (new_state vfs fifo) h).waiting
-up_to_longest vfs fifo h legal = through 0 (new_state vfs fifo) h legal (All-nil (IsUpTo 0))
+pub frames_fit_is_short : FramesFitIsShort
+frames_fit_is_short w fifo old frame h legal fit =
+    let new : State = new_state w.vfs fifo in
+    let most = most_blocks frame in
+    holds_at_first w fifo old h (AllFitBlocks w.queue frame) (λ x.
+    let few = fit old refl x in
+    All-weaker (IsUpTo (longest_let_in x.before)) (FitsBlocks w.queue most) (λ w len own. omega (arith, len, few)) _
+    (through 0 new x.before (legal_before new x.before (x.first ∷ x.behind) (subst (IsLegal new) (sym x.all) legal))
+    (All-nil (IsUpTo 0))))

@@ -1,15 +1,7 @@
 pub mod Counted
-pub mod Early
 pub mod FirstCalls
-pub mod Grounded
-pub mod LentThere
+pub mod Lent
 pub mod LetIn
 pub mod Lived
-pub mod Named
-pub mod NeverOn
-pub mod Off
 pub mod Order
-pub mod OwnBlocks
-pub mod Refused
-pub mod Short
-pub mod Standing
+pub mod Settings

@@ -1,29 +1,38 @@
 -- A driver that lived: what it left, counted from its first event on.
-use Rattle.std.proofs.Common.{◌≡◌, ℕ, inl, inr, false, List, [], ◌∷◌, ◌++◌, Option, sym, ap, ◌∙◌, subst, append_assoc}
-use Rattle.std.specs.Prelude.{IsTrue, IsFalse}
-use Rattle.std.proofs.lemmas.Bool.{both_ways}
-use Rattle.std.proofs.lemmas.List.{append-nil, append_cancel_left}
-use Rattle.pmd_laws.specs.DriverLaws.Prelude.{Numbers, Rxdctl, Rx, Tx, State, new_state, calls_of, leads_to, Watched, Call, Entry, is_step, AreSteps, AtPort, PmdFault, halted_of, halves_of, AreUp, left_accepted, left_handed, Up, Rest, delivered, bytes_of, sent_since, is_on}
-use Rattle.pmd_laws.specs.Prelude.{IsAlong, HasGround, IsQuiet, BeginsWell}
 use Rattle.workers.specs.Starts.{Starts}
-use Rattle.pmd.specs.Life.{HasLived}
-use Rattle.pmd_laws.specs.StartLaws.ReceiveLaws.Delivered as receive
+use Rattle.pmd_laws.proofs.Ends.{left_handed_over_stop, left_sent_over_stop}
+use Rattle.pmd_laws.proofs.Prelude.{[], ◌++◌, ◌∙◌, ◌∷◌, ◌≡◌, AreSteps, AreUp, AtPort, Begins, BeginsWell, Call, Ended,
+    Entry, HasGround, HasLived, IsAlong, IsFalse, IsOver, IsQuiet, IsTrue, List, Numbers, Option, Parts, PmdFault, Rest,
+    Rx, Rxdctl, Sees, Sets, State, Tx, Up, Watched, WentOn, ℕ, ap, append-nil, append_assoc, append_cancel_left, around,
+    both_ways, bytes_of, calls_joined, calls_of, delivered, extends, false, halted_of, inl, inr, is_on, is_step,
+    leads_to, left_accepted, left_handed, new_state, one_begins, parts, quiet, sent_since, start_goes_on, subst, sym,
+    true}
+use Rattle.pmd_laws.proofs.Shifted.{paired, prepared_shift, switched_shift}
 use Rattle.pmd_laws.proofs.StartLaws.Histories.{leads-append}
-use Rattle.pmd_laws.specs.StartLaws.TransmitLaws.Laws as transmit
-use Rattle.pmd_laws.specs.StartLaws.Unused.{WentOn}
-use Rattle.pmd_laws.proofs.StartLaws.Parts.{Begins, Parts, around, calls_joined, one_begins, parts}
 use Rattle.pmd_laws.proofs.StartLaws.Quieting.{quieting_leads}
-use Rattle.pmd_laws.proofs.StartLaws.Start.{start_goes_on}
-use Rattle.pmd_laws.specs.Ends.{Ended, IsOver}
-use Rattle.pmd_laws.proofs.Ends.{left_handed_over_stop, left_sent_over_stop, stopped_ends}
+use Rattle.pmd_laws.proofs.StopCalls.{stopped_ends}
 use Rattle.worker_laws.specs.Points.{JustBefore}
-use Rattle.worker_laws.proofs.FirstCalls.{FirstCall, first_read, more_behind, steps_have}
 use Rattle.worker_laws.proofs.Counted.{delivered_from, sent_from}
-use Rattle.worker_laws.proofs.OwnBlocks.{before_first}
-use Rattle.worker_laws.proofs.Early.{GoesOn, drives_goes, filling_goes, goes_on, quieted_goes, rising_goes}
+use Rattle.worker_laws.proofs.FirstCalls.{FirstCall, before_first, first_read, more_behind}
+use Rattle.pmd_laws.specs.StartLaws.ReceiveLaws.Delivered as receive
+use Rattle.pmd_laws.specs.StartLaws.TransmitLaws.Laws as transmit
 
-module _ (w : Watched) (fifo : ℕ) (h : List Entry) (q : AtPort) (size frame : ℕ) (old : List Call) (a : Numbers)
-    (new : List Call) (left : Rest) (late : Option PmdFault) (lived : HasLived q size frame old a new left late)
+-- some calls were made
+abbrev GoesOn : List Call → List Call → Type 0
+GoesOn old new = (more : List Call) × (new ≡ old ++ more)
+
+goes_on : (old mid new : List Call) → GoesOn old mid → GoesOn mid new → GoesOn old new
+goes_on old mid new (cs, one) (ds, two) =
+    (cs ++ ds, two ∙ ap (λ (l : List Call). l ++ ds) one ∙ append_assoc old cs ds)
+
+-- each of some steps of the device is one
+steps_have : (before : List Call) (c : Call) (more : List Call) → AreSteps (before ++ c ∷ more)
+    → IsTrue (is_step c.event)
+steps_have [] c more are = are.0
+steps_have (b ∷ before) c more are = steps_have before c more are.1
+
+module _ (w : Watched) (fifo : ℕ) (h : List Entry) {q : AtPort} {size frame : ℕ} {old : List Call} {a : Numbers}
+    {new : List Call} {left : Rest} {late : Option PmdFault} (lived : HasLived q size frame old a new left late)
     (made : calls_of w.pass h ≡ new) where
   abbrev up : AreUp q size frame old a lived.lives.made lived.lives.fresh
   up = lived.lives.up
@@ -31,7 +40,17 @@ module _ (w : Watched) (fifo : ℕ) (h : List Entry) (q : AtPort) (size frame : 
   first : FirstCall old up.receive.quiet.0
   first = first_read q Rxdctl false old up.receive.quiet.0 up.receive.quiet.1
 
-  -- the calls that it made, in parts
+  -- the calls that it made, in parts: behind the first, from where both sides were seen off on, from where both are on
+
+  off_goes : GoesOn up.receive.quiet.0 up.receive.mid
+  off_goes =
+      extends q (Sets Rxdctl 0 ∷ Sees Rxdctl false ∷ quiet Tx) up.receive.quiet.0 up.receive.mid up.receive.quiet.2
+
+  up_goes : GoesOn up.receive.mid up.on.mid
+  up_goes =
+      let calls = paired (prepared_shift up.receive.prepared)
+      (paired (prepared_shift up.transmit.prepared)
+      (switched_shift q true 1000 up.both_made up.on.mid up.on.switched)) in (calls.since, calls.made)
 
   stop_goes : GoesOn lived.made new
   stop_goes =
@@ -40,40 +59,21 @@ module _ (w : Watched) (fifo : ℕ) (h : List Entry) (q : AtPort) (size frame : 
 
   on_goes : GoesOn up.on.mid new
   on_goes =
-      goes_on up.on.mid lived.lives.made new (filling_goes q size frame old a lived.lives.made lived.lives.fresh up)
-      (goes_on lived.lives.made lived.made new
-      (drives_goes lived.lives.made lived.made (halves_of lived.lives.fresh) (halves_of lived.last)
-      lived.lives.drives.apart.drives) stop_goes)
-
-  up_goes : GoesOn up.receive.mid up.on.mid
-  up_goes = rising_goes q size frame old a lived.lives.made lived.lives.fresh up
-
-  off_goes : GoesOn up.receive.quiet.0 up.receive.mid
-  off_goes = quieted_goes q old up.receive.mid up.receive.quiet
-
-  all_goes : GoesOn up.receive.quiet.0 new
-  all_goes =
-      goes_on up.receive.quiet.0 up.receive.mid new off_goes
-      (goes_on up.receive.mid up.on.mid new up_goes on_goes)
+      let drives = lived.lives.drives.apart.drives in
+      goes_on up.on.mid lived.lives.made new (up.on.plays.plays.1, up.on.plays.plays.2)
+      (goes_on lived.lives.made lived.made new (drives.1, drives.2) stop_goes)
 
   -- so its first entry stands in the history
   pub starts : Starts w.pass old h
   starts =
-      let more = all_goes.0 in
+      let (more, all) = goes_on up.receive.quiet.0 up.receive.mid new off_goes
+      (goes_on up.receive.mid up.on.mid new up_goes on_goes) in
       let x =
       around w.pass h (old ++ first.steps) first.call more
-      (made ∙ all_goes.1 ∙ more_behind old up.receive.quiet.0 more first
-      ∙ sym (append_assoc old first.steps (first.call ∷ more))) in
-      record {
-        before = x.before;
-        first = x.entry;
-        behind = x.behind;
-        all = x.all;
-        own = x.own;
-        event = ap (λ (c : Call). is_step c.event) x.call ∙ first.event;
-        steps = first.steps;
-        stepped = first.stepped;
-        calls = x.made;
+      (made ∙ all ∙ more_behind old up.receive.quiet.0 more first
+      ∙ sym (append_assoc old first.steps (first.call ∷ more))) in record {
+        before = x.before; first = x.entry; behind = x.behind; all = x.all; own = x.own; steps = first.steps;
+        stepped = first.stepped; calls = x.made; event = ap (λ (c : Call). is_step c.event) x.call ∙ first.event
       }
 
   module _ (along : IsAlong w (new_state w.vfs fifo) h)
@@ -88,20 +88,8 @@ module _ (w : Watched) (fifo : ℕ) (h : List Entry) (q : AtPort) (size frame : 
 
     abbrev ended : Ended
     ended = record {
-      w = w;
-      origin = origin;
-      h = h;
-      q = q;
-      size = size;
-      frame = frame;
-      old = old;
-      a = a;
-      new = new;
-      left = left;
-      late = late;
-      lived = lived;
-      along = along;
-      begins = begins;
+      w = w; origin = origin; h = h; q = q; size = size; frame = frame; old = old; a = a; new = new; left = left;
+      late = late; lived = lived; along = along; begins = begins
     }
 
     over : IsOver ended
@@ -128,11 +116,10 @@ module _ (w : Watched) (fifo : ℕ) (h : List Entry) (q : AtPort) (size frame : 
         sym (append_assoc both_off.front both_off.back both_on.back)
         ∙ ap (λ (l : List Entry). l ++ both_on.back) both_off.both ∙ both_on.both
 
-    quiet : IsQuiet w.queue q frame (leads_to origin both_off.front)
-    quiet =
+    quieted : IsQuiet w.queue q frame (leads_to origin both_off.front)
+    quieted =
         quieting_leads w q frame origin h old up.receive.mid along up.receive.quiet begins.ground both_off.front rest
-        whole
-        both_off.fronts
+        whole both_off.fronts
 
     went_on : WentOn w.queue origin both_on.front
     went_on =
@@ -171,42 +158,32 @@ module _ (w : Watched) (fifo : ℕ) (h : List Entry) (q : AtPort) (size frame : 
       in_parts : (x.before ++ begun.0) ++ rest ≡ h
       in_parts = ap (λ (l : List Entry). l ++ rest) begun.1 ∙ whole
 
-      abbrev off_at : State
-      off_at = leads_to origin (x.before ++ begun.0)
-
-      there : leads_to origin both_on.front ≡ leads_to off_at both_off.back
+      there : leads_to origin both_on.front ≡ leads_to (leads_to origin (x.before ++ begun.0)) both_off.back
       there =
           ap (leads_to origin)
           (sym (ap (λ (l : List Entry). l ++ both_off.back) begun.1 ∙ both_off.both))
           ∙ leads-append origin (x.before ++ begun.0) both_off.back
 
-      received : delivered w.queue origin h ≡ delivered w.queue (leads_to origin x.before) (x.first ∷ x.behind)
-      received =
-          ap (delivered w.queue origin) (sym in_parts)
-          ∙ delivered_from w.queue origin x.before begun.0 both_off.back both_on.back
-          (subst (λ (l : List Entry). IsFalse (is_on (leads_to origin l).registers Rx w.queue)) (sym begun.1)
-          quiet.receive.off)
-          (subst (λ (s : State). IsTrue (is_on s.registers Rx w.queue)) there went_on.receives.on)
-          ∙ ap (delivered w.queue (leads_to origin x.before)) (sym from_first)
-
-      counted : sent_since w.queue origin [] h
-          ≡ sent_since w.queue (leads_to origin x.before) [] (x.first ∷ x.behind)
-      counted =
-          ap (sent_since w.queue origin []) (sym in_parts)
-          ∙ sent_from w.queue origin x.before begun.0 both_off.back both_on.back
-          (subst (λ (l : List Entry). IsFalse (is_on (leads_to origin l).registers Tx w.queue)) (sym begun.1)
-          quiet.transmit.off)
-          (subst (λ (s : State). IsTrue (is_on s.registers Tx w.queue)) there went_on.sends.on)
-          ∙ ap (sent_since w.queue (leads_to origin x.before) []) (sym from_first)
-
       pub handed_since : receive.IsPrefixOf (left_handed left)
           (delivered w.queue (leads_to origin x.before) (x.first ∷ x.behind))
       handed_since =
-          subst (receive.IsPrefixOf (left_handed left)) received
+          subst (receive.IsPrefixOf (left_handed left))
+          (ap (delivered w.queue origin) (sym in_parts)
+          ∙ delivered_from w.queue origin x.before begun.0 both_off.back both_on.back
+          (subst (λ (l : List Entry). IsFalse (is_on (leads_to origin l).registers Rx w.queue)) (sym begun.1)
+          quieted.receive.off)
+          (subst (λ (s : State). IsTrue (is_on s.registers Rx w.queue)) there went_on.receives.on)
+          ∙ ap (delivered w.queue (leads_to origin x.before)) (sym from_first))
           (left_handed_over_stop ended over)
 
       pub sent_on : transmit.IsPrefixOf (sent_since w.queue (leads_to origin x.before) [] (x.first ∷ x.behind))
           (bytes_of (left_accepted left))
       sent_on =
-          subst (λ (sent : List (List ℕ)). transmit.IsPrefixOf sent (bytes_of (left_accepted left))) counted
+          subst (λ (sent : List (List ℕ)). transmit.IsPrefixOf sent (bytes_of (left_accepted left)))
+          (ap (sent_since w.queue origin []) (sym in_parts)
+          ∙ sent_from w.queue origin x.before begun.0 both_off.back both_on.back
+          (subst (λ (l : List Entry). IsFalse (is_on (leads_to origin l).registers Tx w.queue)) (sym begun.1)
+          quieted.transmit.off)
+          (subst (λ (s : State). IsTrue (is_on s.registers Tx w.queue)) there went_on.sends.on)
+          ∙ ap (sent_since w.queue (leads_to origin x.before) []) (sym from_first))
           (left_sent_over_stop ended over)

@@ -1,15 +1,5 @@
--- What a worker's end tells is in order.
-use Rattle.std.proofs.Common.{◌≡◌, ◌≢◌, ◌⊎◌, ◌<◌, ℕ, inl, inr, List, [], ◌∷◌, ◌++◌, Option, Some, None, refl, sym, ◌∙◌, subst}
-use Rattle.pmd_laws.specs.DriverLaws.Prelude.{Numbers, IsSound, new_state, call_in, calls_of, leads_to, Watched, Call, Entry, AtPort, left_accepted, left_handed, Rest, delivered, bytes_of, sent_since}
-use Rattle.pmd_laws.specs.Prelude.{IsAlong, HasGround, IsQuiet}
-use Rattle.nic_device.proofs.Steps.{new_sound}
-use Rattle.pmd.specs.Started.{IsHome}
-use Rattle.pmd.specs.declared.start.Rest.TheVariants as rest
-use Rattle.pmd_laws.specs.StartLaws.ReceiveLaws.Delivered as receive
-use Rattle.pmd_laws.specs.StartLaws.TransmitLaws.Laws as transmit
-use Rattle.pmd_laws.proofs.StartLaws.HistoryLaws.Alone.{new_is_left_alone}
-use Rattle.pmd_laws.proofs.StartLaws.Parts.{none_behind}
-use Rattle.pmd_laws.proofs.Lived.{along_before}
+-- What a worker's end tells is in order, over the history that its pass closes.
+use Rattle.workers.specs.DeviceLock.Closing.{StandsIn}
 use Rattle.workers.specs.Ends.{AreEnds, IsEnd}
 use Rattle.workers.specs.Lived.{HasRun}
 use Rattle.workers.specs.Starts.{Starts}
@@ -17,13 +7,68 @@ use Rattle.workers.specs.declared.ends.WorkerEnd.{WorkerEnd}
 use Rattle.workers.specs.declared.fault.WorkerFault.{WorkerFault}
 use Rattle.workers.specs.declared.fault.WorkerFault.TheVariants.{GateShut, NoThread, Pmd}
 use Rattle.workers.specs.declared.job.Job.{Job}
-use Rattle.worker_laws.specs.Order.{HandedIsPrefix, IsEndAmong, IsEndIn, NoneIsLeft, SentIsPrefix, UpTo, given_of, queue_of}
+use Rattle.pmd_laws.proofs.Order.{along_before}
+use Rattle.pmd_laws.proofs.Prelude.{[], ◌++◌, ◌∙◌, ◌∷◌, ◌≡◌, ◌≢◌, ◌⊎◌, Call, Entry, HasGround, IsAlong, IsHome, IsQuiet,
+    IsSound, List, None, Numbers, Option, Rest, Some, State, Watched, ℕ, ap, append-nil, append_assoc, around, bytes_of,
+    call_in, calls_joined, calls_of, calls_own, delivered, eq-eqb, inl, inr, leads_to, left_accepted, left_handed,
+    new_sound, new_state, none_behind, refl, same_from_push, sent_since, subst, sym}
+use Rattle.pmd_laws.proofs.Refused.{left_of_refused_is_prefix}
+use Rattle.pmd_laws.proofs.StartLaws.HistoryLaws.Alone.{new_is_left_alone}
+use Rattle.worker_laws.specs.Order.{CallsStand, EndOwn, IsEndAmong, IsEndIn, UpTo, given_of, queue_of}
 use Rattle.worker_laws.specs.Points.{JustBefore}
 use Rattle.worker_laws.proofs.FirstCalls.{calls_from, starts_more}
-use Rattle.worker_laws.proofs.Grounded.{ground_there}
 use Rattle.worker_laws.proofs.Lived.{handed_since, sent_on, starts}
-use Rattle.worker_laws.proofs.Named.{named_below}
-use Rattle.worker_laws.proofs.Refused.{nothing_left}
+use Rattle.worker_laws.proofs.Settings.{ground_there, named_below}
+use Rattle.pmd.specs.declared.start.Rest.TheVariants as rest
+use Rattle.pmd_laws.specs.StartLaws.ReceiveLaws.Delivered as receive
+use Rattle.pmd_laws.specs.StartLaws.TransmitLaws.Laws as transmit
+
+isnt_none : {A : Type 0} (xs : List A) (x : A) (more : List A) → xs ++ x ∷ more ≢ []
+isnt_none [] x more is = cc
+isnt_none (y ∷ xs) x more is = cc
+
+-- the calls that a pass had stand in the history that it closes
+
+-- some calls have a last one, or there are none
+last_or_none : (cs : List Call) → (cs ≡ []) ⊎ ((before : List Call) × (c : Call) × (cs ≡ before ++ c ∷ []))
+last_or_none [] = inl refl
+last_or_none (d ∷ cs) =
+    elim (last_or_none cs)
+    as (λ _. (d ∷ cs ≡ []) ⊎ ((before : List Call) × (c : Call) × (d ∷ cs ≡ before ++ c ∷ []))) [
+      | inl none ↦ inr ([], d, λ i. d ∷ none i)
+      | inr (before, c, is) ↦ inr (d ∷ before, c, λ i. d ∷ is i)
+    ]
+
+up_to : (tag : ℕ) (h : List Entry) (calls more : List Call) → calls_of tag h ≡ calls ++ more
+    → (u : UpTo tag h calls) × EndOwn tag u.done
+up_to tag h calls more is = elim (last_or_none calls) as (λ _. (u : UpTo tag h calls) × EndOwn tag u.done) [
+  | inl none ↦ (
+    record { done = []; rest = h; all = refl; made = sym none },
+    λ before e both. absurd (isnt_none before e [] both),
+  )
+  | inr (front, c, ends) ↦
+      let x =
+      around tag h front c more
+      (is ∙ ap (λ (l : List Call). l ++ more) ends ∙ append_assoc front (c ∷ []) more) in (
+        record {
+          done = x.before ++ x.entry ∷ [];
+          rest = x.behind;
+          all = append_assoc x.before (x.entry ∷ []) x.behind ∙ x.all;
+          made =
+              calls_joined tag x.before (x.entry ∷ [])
+              ∙ (λ i. x.made i ++ calls_own tag x.entry [] (eq-eqb x.entry.pass tag x.own) i)
+              ∙ ap (λ (d : Call). front ++ d ∷ []) x.call ∙ sym ends;
+        },
+        λ before e both.
+            ap (λ (f : Entry). f.pass) (same_from_push before x.before e x.entry both).1 ∙ x.own,
+      )
+]
+
+pub calls_stand : CallsStand
+calls_stand bench count h ps pass closes x =
+    let (k, low, is) = x.among in
+    let stands : calls_of x.later.tag h ≡ x.later.calls = subst (StandsIn h) is (closes.stand k x.later low) in
+    up_to pass.tag h pass.calls x.more (ap (λ (tag : ℕ). calls_of tag h) (sym x.tag) ∙ stands ∙ x.calls)
 
 -- the end of a job among some
 end_of : (jobs : List Job) (ran : List WorkerEnd) (j : Job) (e : WorkerEnd) → AreEnds jobs ran
@@ -49,49 +94,16 @@ home_left : (a : Numbers) (left : Rest) → IsHome a left → NothingLeft left
 home_left a (rest.Home home) (arena, lost, handed, accepted) = (handed, accepted)
 home_left a (rest.Running p) is = absurd is
 
--- what was handed out and sent is in order, from a place on
-abbrev InOrder : (queue vfs fifo tag : ℕ) (old : List Call) (h : List Entry) → Starts tag old h → Rest → Type 0
-InOrder queue vfs fifo tag old h x left =
-    receive.IsPrefixOf (left_handed left)
-    (delivered queue (leads_to (new_state vfs fifo) x.before) (x.first ∷ x.behind))
-    × transmit.IsPrefixOf (sent_since queue (leads_to (new_state vfs fifo) x.before) [] (x.first ∷ x.behind))
-    (bytes_of (left_accepted left))
-
-some_isnt_none : (cs : List Call) (c : Call) (more : List Call) → cs ++ c ∷ more ≢ []
-some_isnt_none [] c more is = cc
-some_isnt_none (d ∷ cs) c more is = cc
-
--- a worker with a thread
-
-module _ (w : Watched) (fifo : ℕ) (h : List Entry) (q : AtPort) (size frame : ℕ) (old : List Call) (a : Numbers)
-    (new : List Call) (left : Rest) (fault : Option WorkerFault) (made : calls_of w.pass h ≡ new) where
-  run_starts : HasRun q size frame old a new left fault → Starts w.pass old h ⊎ NothingLeft left
-  run_starts (inl (worked, late, is, lived)) = inl (starts w fifo h q size frame old a new left late lived made)
-  run_starts (inr (e, is, never)) = inr (never.handed, never.accepted)
-
-  module _ (along : IsAlong w (new_state w.vfs fifo) h)
-      (ground : JustBefore w.vfs fifo w.pass old h (HasGround w.queue q frame)) (x : Starts w.pass old h) where
-    run_in_order : HasRun q size frame old a new left fault
-        → (fault ≡ None) ⊎ IsQuiet w.queue q frame (leads_to (new_state w.vfs fifo) x.before)
-        → InOrder w.queue w.vfs fifo w.pass old h x left
-    run_in_order (inl (worked, late, is, lived)) quiet = (
-      handed_since w fifo h q size frame old a new left late lived made along ground x,
-      sent_on w fifo h q size frame old a new left late lived made along ground x,
-    )
-    run_in_order (inr (e, is, never)) (inl none) = cc
-    run_in_order (inr (e, is, never)) (inr quiet) =
-        nothing_left w fifo h q size frame old a e new left never made along x quiet
-
 module _ (vfs fifo : ℕ) (h : List Entry) (j : Job) (e : WorkerEnd) (x : IsEndIn vfs fifo h j e)
     (u : UpTo e.pass.tag h e.pass.calls) where
   abbrev w : Watched
   w = record { vfs = vfs; pass = e.pass.tag; queue = j.pf_queue }
 
-  abbrev q : AtPort
-  q = queue_of j
-
   abbrev old : List Call
   old = j.pass.calls
+
+  abbrev HasRunSo : Type 0
+  HasRunSo = HasRun (queue_of j) j.size j.frame old j.arena e.pass.calls e.rest e.fault
 
   ends : IsEnd j e
   ends = end_of x.jobs x.ran j e x.ends x.among
@@ -101,66 +113,75 @@ module _ (vfs fifo : ℕ) (h : List Entry) (j : Job) (e : WorkerEnd) (x : IsEndI
   new : IsSound (new_state vfs fifo)
   new = new_sound vfs fifo x.device.0 x.device.1 x.device.2
 
-  ground : JustBefore vfs fifo e.pass.tag old h (HasGround j.pf_queue q j.frame)
+  ground : JustBefore vfs fifo e.pass.tag old h (HasGround j.pf_queue (queue_of j) j.frame)
   ground = ground_there w fifo old (given_of j) h new x.events x.begins
+
+  run_starts : HasRunSo → Starts e.pass.tag old u.done ⊎ NothingLeft e.rest
+  run_starts (inl (worked, late, is, lived)) = inl (starts w fifo u.done lived u.made)
+  run_starts (inr (f, is, never)) = inr (never.handed, never.accepted)
 
   pub starts_or_none : Starts e.pass.tag old u.done ⊎ NothingLeft e.rest
   starts_or_none =
       elim (threads e.fault) as (λ _. Starts e.pass.tag old u.done ⊎ NothingLeft e.rest) [
         | inl none ↦ inr (home_left j.arena e.rest (ends.idle none).1)
-        | inr some ↦
-            run_starts w fifo u.done q j.size j.frame old j.arena e.pass.calls e.rest e.fault u.made (ends.lived some)
+        | inr some ↦ run_starts (ends.lived some)
       ]
 
   module _ (s : Starts e.pass.tag old u.done) where
-    small : j.pf_queue < 128
-    small =
-        named_below _ _ j.port j.queue j.pf_queue
-        (ground (starts_more e.pass.tag old u.done u.rest h u.all s)).names
+    abbrev at_first : State
+    at_first = leads_to (new_state vfs fifo) s.before
 
     along : IsAlong w (new_state vfs fifo) u.done
     along =
-        along_before w (new_state vfs fifo) h u.done u.rest u.all (record {
-          small = small;
-          sound = new;
-          vfs = refl;
-          events = x.events;
-          legal = x.legal;
+        along_before w (new_state vfs fifo) u.done u.rest u.all (record {
+          small =
+              named_below _ _ j.port j.queue j.pf_queue
+              (ground (starts_more e.pass.tag old u.done u.rest h u.all s)).names;
+          sound = new; vfs = refl; events = x.events; legal = x.legal;
           alone = new_is_left_alone w fifo h new x.events x.alone;
         })
 
-    ground_so_far : JustBefore vfs fifo e.pass.tag old u.done (HasGround j.pf_queue q j.frame)
-    ground_so_far here = ground (starts_more e.pass.tag old u.done u.rest h u.all here)
-
-    quiet : (e.fault ≡ None) ⊎ IsQuiet j.pf_queue q j.frame (leads_to (new_state vfs fifo) s.before)
+    quiet : (e.fault ≡ None) ⊎ IsQuiet j.pf_queue (queue_of j) j.frame at_first
     quiet =
-        elim x.quiet
-        as (λ _. (e.fault ≡ None) ⊎ IsQuiet j.pf_queue q j.frame (leads_to (new_state vfs fifo) s.before)) [
+        elim x.quiet as (λ _. (e.fault ≡ None) ⊎ IsQuiet j.pf_queue (queue_of j) j.frame at_first) [
           | inl none ↦ inl none
           | inr at ↦ inr (at (starts_more e.pass.tag old u.done u.rest h u.all s))
         ]
 
+    -- what was handed out and sent is in order, from that entry on
+    abbrev InOrder : Type 0
+    InOrder =
+        receive.IsPrefixOf (left_handed e.rest) (delivered j.pf_queue at_first (s.first ∷ s.behind))
+        × transmit.IsPrefixOf (sent_since j.pf_queue at_first [] (s.first ∷ s.behind)) (bytes_of (left_accepted e.rest))
+
+    run_in_order : HasRunSo → (e.fault ≡ None) ⊎ IsQuiet j.pf_queue (queue_of j) j.frame at_first → InOrder
+    run_in_order (inl (worked, late, is, lived)) so =
+        let here = λ (t : Starts e.pass.tag old u.done).
+        ground (starts_more e.pass.tag old u.done u.rest h u.all t) in (
+          handed_since w fifo u.done lived u.made along here s,
+          sent_on w fifo u.done lived u.made along here s,
+        )
+    run_in_order (inr (f, is, never)) (inl none) = cc
+    run_in_order (inr (f, is, never)) (inr at) =
+        let calls = calls_from e.pass.tag old u.done s in
+        let since : List Call = s.steps ++ call_in s.first ∷ calls_of e.pass.tag s.behind in
+        left_of_refused_is_prefix (record {
+          w = w; origin = new_state vfs fifo; h = u.done; q = queue_of j; size = j.size; frame = j.frame; old = old;
+          a = j.arena; e = f; new = e.pass.calls; left = e.rest; never = never; along = along; before = s.before;
+          first = s.first; behind = s.behind; split = s.all; own = s.own; steps = s.steps; stepped = s.stepped;
+          ahead = s.calls; quiet = at; since = since; rest = []; calls = calls;
+          all = sym u.made ∙ calls ∙ sym (append-nil (old ++ since))
+        })
+
     -- without a thread there is no such entry
     never_idle : e.fault ≡ Some NoThread → ⊥
     never_idle none =
-        some_isnt_none s.steps (call_in s.first) (calls_of e.pass.tag s.behind)
+        isnt_none s.steps (call_in s.first) (calls_of e.pass.tag s.behind)
         (none_behind old (s.steps ++ call_in s.first ∷ calls_of e.pass.tag s.behind)
         (sym (calls_from e.pass.tag old u.done s) ∙ u.made ∙ (λ i. ((ends.idle none).0 i).calls)))
 
-    pub in_order : InOrder j.pf_queue vfs fifo e.pass.tag old u.done s e.rest
-    in_order =
-        elim (threads e.fault) as (λ _. InOrder j.pf_queue vfs fifo e.pass.tag old u.done s e.rest) [
-          | inl none ↦ absurd (never_idle none)
-          | inr some ↦
-              run_in_order w fifo u.done q j.size j.frame old j.arena e.pass.calls e.rest e.fault u.made along
-              ground_so_far s (ends.lived some) quiet
-        ]
-
-pub none_is_left : NoneIsLeft
-none_is_left vfs fifo h j e x u = starts_or_none vfs fifo h j e x u
-
-pub handed_is_prefix : HandedIsPrefix
-handed_is_prefix vfs fifo h j e x u s = (in_order vfs fifo h j e x u s).0
-
-pub sent_is_prefix : SentIsPrefix
-sent_is_prefix vfs fifo h j e x u s = (in_order vfs fifo h j e x u s).1
+    pub in_order : InOrder
+    in_order = elim (threads e.fault) as (λ _. InOrder) [
+      | inl none ↦ absurd (never_idle none)
+      | inr some ↦ run_in_order (ends.lived some) quiet
+    ]

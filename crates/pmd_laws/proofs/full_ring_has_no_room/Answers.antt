@@ -1,5 +1,10 @@
-use Rattle.pmd_laws.proofs.FullRing.{full_has_no_room, none_has_no_room}
+use Rattle.pmd_laws.proofs.FullRing.{full_lacks, none_lacks, room}
+use Rattle.pmd_laws.proofs.Prelude.{last}
+use Rattle.pmd_laws.proofs.Told.{runs}
 use Rattle.pmd_laws.proofs.full_ring_has_no_room.Goals as goal
 
 pub returns : goal.returns
-returns c = record { told = full_has_no_room; none = none_has_no_room }
+returns c = record {
+  told = λ q size frame old a m later n p x. full_lacks size (last m later) n (runs x).rings p (runs x).up (room x);
+  none = λ q size frame old a m later n p x. none_lacks size (last m later) n (runs x).rings p (runs x).up (room x);
+}

@@ -1,5 +1,5 @@
-use Rattle.pmd_laws.proofs.Lends.{life_lends_apart}
+use Rattle.pmd_laws.proofs.Begun.{all_apart}
 use Rattle.pmd_laws.proofs.lives_lend_apart.Goals as goal
 
 pub returns : goal.returns
-returns c = life_lends_apart
+returns c q size frame old a new r x = all_apart x

@@ -1,5 +1,10 @@
-use Rattle.pmd_laws.proofs.StartFaultless.{no_filling_finds_fault, no_start_finds_fault}
+use Rattle.pmd_laws.proofs.Prelude.{faults_are_early_or_filling, inr}
+use Rattle.pmd_laws.proofs.StartFaultless.{never_at_fault}
 use Rattle.pmd_laws.proofs.no_start_finds_the_device_at_fault.Goals as goal
 
 pub returns : goal.returns
-returns c = record { filling = no_filling_finds_fault; amid = no_start_finds_fault }
+returns c = record {
+  filling = λ x f. never_at_fault x (inr f);
+  amid = λ x e stops is.
+      never_at_fault x (faults_are_early_or_filling x.q x.size x.frame x.old x.a x.new e stops is);
+}

@@ -1,5 +1,5 @@
-use Rattle.pmd_laws.proofs.Stopped.{handed_over_stop}
 use Rattle.pmd_laws.proofs.StopSent.{sent_over_stop}
+use Rattle.pmd_laws.proofs.Stopped.{handed_over_stop}
 use Rattle.pmd_laws.proofs.stopped_life_in_order.Goals as goal
 
 pub returns : goal.returns

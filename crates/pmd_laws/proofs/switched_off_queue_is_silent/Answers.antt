@@ -1,5 +1,6 @@
-use Rattle.pmd_laws.proofs.Silent.{silent_once_off, silent_over_stop}
+use Rattle.pmd_laws.proofs.Ends.{silent_over_stop}
+use Rattle.pmd_laws.proofs.StopSent.{silent_off}
 use Rattle.pmd_laws.proofs.switched_off_queue_is_silent.Goals as goal
 
 pub returns : goal.returns
-returns c = record { once = silent_once_off; over = silent_over_stop }
+returns c = record { once = λ x new done rest y z. silent_off x new y z done rest; over = silent_over_stop }

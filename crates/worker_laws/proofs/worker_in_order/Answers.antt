@@ -1,11 +1,10 @@
-use Rattle.worker_laws.proofs.Order.{handed_is_prefix, none_is_left, sent_is_prefix}
-use Rattle.worker_laws.proofs.Standing.{calls_stand}
+use Rattle.worker_laws.proofs.Order.{calls_stand, in_order, starts_or_none}
 use Rattle.worker_laws.proofs.worker_in_order.Goals as goal
 
 pub returns : goal.returns
 returns c = record {
   stands = calls_stand;
-  none = none_is_left;
-  handed = handed_is_prefix;
-  sent = sent_is_prefix;
+  none = λ vfs fifo h j e x u. starts_or_none vfs fifo h j e x u;
+  handed = λ vfs fifo h j e x u s. (in_order vfs fifo h j e x u s).0;
+  sent = λ vfs fifo h j e x u s. (in_order vfs fifo h j e x u s).1;
 }

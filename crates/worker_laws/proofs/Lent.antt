@@ -1,18 +1,17 @@
 -- The entries of a history tell which of some blocks are lent at the device.
-use Rattle.std.proofs.Common.{◌≡◌, ℕ, ◌<◌, inl, inr, true, false, not, ◌&&◌, ◌||◌, nat_lt, nat_cmp, List, [], ◌∷◌, refl, sym, ap, subst}
-use Rattle.std.specs.Prelude.{◌==◌, is_some}
-use Rattle.std.specs.FinMap as map
-use Rattle.std.proofs.lemmas.Bool.{and_from, and_parts, both_ways, eq-eqb, eqb-true, lt-ltb, or_cases, or_left, or_right}
-use Rattle.pmd_laws.specs.DriverLaws.Prelude.{Block, has_block, IsEvent, State, new_state, after, reply_to, Event, Reply, Blocks, AreEvents, IsLegal, leads_to, Entry, OnlyLent, lends}
 use Rattle.nic_device.specs.Sound.{IsLendable}
 use Rattle.nic_device.specs.Step.{step_of}
-use Rattle.nic_device.specs.declared.event.Event.TheVariants as event
 use Rattle.nic_device.specs.declared.event.Reply.TheVariants.{Buf}
-use Rattle.nic_device.proofs.Cases.{lent_cases, taken_cases}
 use Rattle.workers.specs.Before.{known_through}
 use Rattle.workers.specs.Lending.{lent_behind, no_block, takes}
 use Rattle.pmd_laws.specs.StartLaws.ReceiveLaws.HistoryLaws.Lent.{with_lent, without}
+use Rattle.pmd_laws.proofs.Prelude.{[], ◌&&◌, ◌<◌, ◌==◌, ◌||◌, ◌∷◌, ◌≡◌, AreEvents, Block, Blocks, Entry, Event,
+    IsEvent, IsLegal, List, OnlyLent, Reply, State, ℕ, after, and_from, and_parts, ap, both_ways, eq-eqb, eqb-true,
+    false, has_block, inl, inr, is_some, leads_to, lends, lent_cases, lt-ltb, nat_cmp, nat_lt, new_state, not, or_cases,
+    or_left, or_right, refl, reply_to, subst, sym, taken_cases, true}
 use Rattle.pmd_laws.proofs.StartLaws.HistoryLaws.Lent.{only_lent_stays}
+use Rattle.nic_device.specs.declared.event.Event.TheVariants as event
+use Rattle.std.specs.FinMap as map
 
 module _ (own known : Blocks) (s : State) (only : OnlyLent own known s.memory) where
   -- what is told behind an event and its reply
@@ -54,13 +53,6 @@ module _ (own known : Blocks) (s : State) (only : OnlyLent own known s.memory) w
       or_right (nat_lt n 65536 && false) (known n && true)
       (and_from (known n) true (only_lent_stays.others own known s e tt only n is has) refl)
 
-  -- and behind an entry
-  entry_behind : (e : Entry) → e.reply ≡ reply_to s e.event → IsEvent e.event
-      → OnlyLent own (lent_behind known e) (after s e.event).memory
-  entry_behind e legal made =
-      subst (λ (r : Reply Block). OnlyLent own (Behind e.event r) (after s e.event).memory) (sym legal)
-      (behind e.event made)
-
 -- behind the entries of a history
 
 through : (own known : Blocks) (s : State) (h : List Entry) → IsLegal s h → AreEvents h → OnlyLent own known s.memory
@@ -68,7 +60,8 @@ through : (own known : Blocks) (s : State) (h : List Entry) → IsLegal s h → 
 through own known s [] legal events only = only
 through own known s (e ∷ es) legal events only =
     through own (lent_behind known e) (after s e.event) es legal.1 events.1
-    (entry_behind own known s only e legal.0 events.0)
+    (subst (λ (r : Reply Block). OnlyLent own (Behind own known s only e.event r) (after s e.event).memory)
+    (sym legal.0) (behind own known s only e.event events.0))
 
 new_has_none : (own : Blocks) (vfs fifo : ℕ) → OnlyLent own no_block (new_state vfs fifo).memory
 new_has_none own vfs fifo n is has =

@@ -1,0 +1,255 @@
+-- The calls by which a driver's rings come up write no register but its queue's, and lend no block but the rings'. So
+-- of an arena's blocks, none of which is lent just before its first access, only the rings' are lent as both sides are
+-- on, and the frames that wait fit a buffer.
+use Rattle.nic_device.specs.DmaArena.Block.{zero_block}
+use Rattle.start_laws.proofs.First.{first_seen}
+use Rattle.start_laws.specs.DeviceLaws.Laws.{WritesNoSetting}
+use Rattle.driver_laws.proofs.Before.{frames_stay_short, lends_is, only_pass_lent}
+use Rattle.driver_laws.specs.Healthy.{lent_by as halves_lent_by}
+use Rattle.pmd_laws.proofs.Begun.{first_halves, receive_lent, transmit_lent}
+use Rattle.pmd_laws.proofs.Order.{along_before}
+use Rattle.pmd_laws.proofs.Prelude.{[], ⊤, ◌++◌, ◌<◌, ◌==◌, ◌∙◌, ◌∷◌, ◌≡◌, Access, All, AllAre, AreEvents, AreMade,
+    AreMadeOf, AreOn, AreShort, Around, AtCalls, AtPort, BeforeLast, Block, Blocks, Call, Dir, Each, EachRingBlock,
+    Entry, Event, FitsBlocks, Halves, HasGround, IsAlong, IsDriven, IsFresh, IsKept, IsLegal, IsMade, IsNumberOf,
+    IsPlain, IsPrepared, IsReceiveReady, IsTrue, LendsEach, List, NamesDriven, NoneLent, Numbers, OnlyLent,
+    OnlyPassLends, Receive, Reply, RowId, Rxdctl, Sees, Sender, Sets, State, Tx, Watched, ℕ, accesses_are, adds_made,
+    after, all_lead, and_parts, ap, append_assoc, arith, around, both_quiet, both_ways, call_in, call_of, calls_of,
+    calls_other, calls_own, cases_Bool, each_ring_block, eq-eqb, events_behind, false, false_from_ne_true, ground_kept,
+    has_block, inl, inr, is_step, leads-append, leads_to, left-setting, legal_behind, lends, lent_by, lent_in,
+    made_some, most_blocks, none_made, or_cases, plain_keeps, plain_setting, quiet, reached, reads_driven, refl,
+    ring_block_out, ring_blocks, ring_words, same_from_push, state_kept, state_leads, subst, switched_are, sym,
+    then_made, times-cons, times_first, times_in_hand, true, words_are_writes, writes_driven}
+use Rattle.nic_device.specs.declared.event.Event.TheVariants as event
+use Rattle.nic_device.specs.declared.event.Reply.TheVariants as reply
+
+-- blocks that are lent are calls of a kind where each lend is
+pub lends_made : (P : Event Block → Type 0) → ((e : Event Block) → is_step e ≡ true → P e) → (ns : List ℕ)
+    (old new : List Call) → ((n : ℕ) → 0 < times_in_hand ns n → P (event.Lend (zero_block n))) → LendsEach old new ns
+    → AreMadeOf P old new
+lends_made P steps [] old new each x = none_made P old new x
+lends_made P steps (n ∷ ns) old new each (mid, here, more) =
+    then_made P old mid new (adds_made P steps old mid _ _ here (each n (omega (arith, times_first ns n))))
+    (lends_made P steps ns mid new (λ k some. each k (omega (arith, some, times-cons n ns k))) more)
+
+-- what is made behind the first access to see both sides off
+abbrev off : List Access
+off = Sets Rxdctl 0 ∷ Sees Rxdctl false ∷ quiet Tx
+
+pub off_driven : AllAre IsDriven off
+off_driven = (refl, (refl, (refl, (refl, (refl, tt)))))
+
+module _ (q : AtPort) (lent : Blocks) where
+  abbrev pub IsRising : Event Block → Type 0
+  IsRising (event.Write port number word) = NamesDriven q port number
+  IsRising (event.Lend block) = IsTrue (lent block.number)
+  IsRising e = ⊤
+
+  abbrev pub Rises : List Call → List Call → Type 0
+  Rises old new = AreMadeOf IsRising old new
+
+  pub step_rises : (e : Event Block) → is_step e ≡ true → IsRising e
+  step_rises (event.Write port number word) is = cc
+  step_rises (event.Lend block) is = cc
+  step_rises e is = tt
+
+  write_rises : (row : RowId) (word number : ℕ) → IsDriven (Sets row word) → IsNumberOf q.port row q.queue number
+      → IsRising (event.Write q.port number word)
+  write_rises row word number driven named = (row, refl, driven, named)
+
+  pub all_rise : (all : List Access) (old new : List Call) → AllAre IsDriven all → AreMade q old new all
+      → Rises old new
+  all_rise = accesses_are q IsRising IsDriven step_rises (λ port number. tt) write_rises
+
+  pub words_rise : (side : Dir) (ring size : ℕ) (old new : List Call) → AreMade q old new (ring_words side ring size)
+      → Rises old new
+  words_rise side ring size old new =
+      all_rise (ring_words side ring size) old new
+      (writes_driven (ring_words side ring size) (words_are_writes side ring size))
+
+  -- blocks that are lent, all of them such
+  pub lends_rise : (ns : List ℕ) (old new : List Call) → ((n : ℕ) → 0 < times_in_hand ns n → IsTrue (lent n))
+      → LendsEach old new ns → Rises old new
+  lends_rise = lends_made IsRising step_rises
+
+  prepared_rises : {side : Dir} {size : ℕ} {old : List Call} {a : Numbers} {new : List Call} {b : Numbers} {ring : ℕ}
+      → EachRingBlock ring size (λ n. IsTrue (lent n)) → IsPrepared q side size old a new b ring → Rises old new
+  prepared_rises {side = side} {size = size} {old = old} {new = new} {ring = ring} own x =
+      then_made IsRising old x.mid new (words_rise side ring size old x.mid x.words)
+      (lends_rise (ring_blocks ring size) x.mid new
+      (λ n some.
+      each_ring_block ring size (λ k. IsTrue (lent k)) own n ((ring_block_out ring size n).1 some))
+      x.lent)
+
+  -- behind the first access
+
+  pub quieted_rises : (old new : List Call) → (made : AreMade q old new both_quiet) → Rises made.0 new
+  quieted_rises old new made = all_rise off made.0 new off_driven made.2
+
+  pub ready_rises : {size frame : ℕ} {old : List Call} {a : Numbers} {new : List Call} {b : Numbers} {v : Receive}
+      (x : IsReceiveReady q size frame old a new b v) → EachRingBlock x.ring size (λ n. IsTrue (lent n))
+      → Rises x.quiet.0 new
+  ready_rises {old = old} {new = new} x own =
+      then_made IsRising x.quiet.0 x.mid new (quieted_rises old x.mid x.quiet) (prepared_rises own x.prepared)
+
+  on_rises : {size frame : ℕ} {old : List Call} {a : Numbers} {new : List Call} {v : Receive} {t : Sender}
+      (up : AreOn q size frame old a new v t) → EachRingBlock up.receive.ring size (λ n. IsTrue (lent n))
+      → EachRingBlock up.transmit.ring size (λ n. IsTrue (lent n)) → Rises up.receive.quiet.0 new
+  on_rises {new = new} up one two =
+      then_made IsRising up.receive.quiet.0 up.ready_made new (ready_rises up.receive one)
+      (then_made IsRising up.ready_made up.both_made new (prepared_rises two up.transmit.prepared)
+      (switched_are q IsRising IsDriven step_rises (λ port number. tt) write_rises true reads_driven
+      (refl, (refl, tt)) up.both_made new up.switched))
+
+  -- such a call writes no register but the queue's
+
+  rising_plain : (e : Event Block) → IsRising e → IsPlain q e
+  rising_plain (event.Write port number word) rises = rises
+  rising_plain e rises = tt
+
+  rising_are_plain : (calls : List Call) → Each (λ c. IsRising c.event) calls → Each (λ c. IsPlain q c.event) calls
+  rising_are_plain [] are = tt
+  rising_are_plain (c ∷ calls) are = (rising_plain c.event are.0, rising_are_plain calls are.1)
+
+  -- a pass lends what its calls do
+
+  lends_lent : (e : Event Block) (r : Reply Block) (n : ℕ) → IsRising e → lends e r n ≡ true → lent n ≡ true
+  lends_lent (event.Lend block) r n own is = subst (λ (k : ℕ). lent k ≡ true) (lends_is block r n is) own
+  lends_lent e r n own is = cc
+
+  lent_is : (pass : ℕ) (es : List Entry) → Each (λ c. IsRising c.event) (calls_of pass es) → (n : ℕ)
+      → lent_by pass es n ≡ true → lent n ≡ true
+  lent_is pass [] are n is = cc
+  lent_is pass (e ∷ es) are n is = elim (or_cases (lent_in pass e n) (lent_by pass es n) is) as (λ _. lent n ≡ true) [
+    | inl here ↦
+        let mine = and_parts _ _ (and_parts _ _ here).1 in
+        let each : Each (λ c. IsRising c.event) (call_in e ∷ calls_of pass es) =
+        subst (Each (λ c. IsRising c.event)) (calls_own pass e es mine.0) are in
+        lends_lent e.event e.reply n each.0 mine.1
+    | inr later ↦
+        lent_is pass es (elim (cases_Bool (e.pass == pass)) as (λ _. Each (λ c. IsRising c.event) (calls_of pass es)) [
+          | inl own ↦ (subst (Each (λ c. IsRising c.event)) (calls_own pass e es own) are).1
+          | inr other ↦ subst (Each (λ c. IsRising c.event)) (calls_other pass e es other) are
+        ]) n later
+  ]
+
+-- what a part of a history lends
+
+pub others_before : (pass : ℕ) (own : Blocks) (g l : List Entry) → OnlyPassLends pass own (g ++ l)
+    → OnlyPassLends pass own g
+others_before pass own [] l none = tt
+others_before pass own (e ∷ g) l none = (none.0, others_before pass own g l none.1)
+
+pub others_behind : (pass : ℕ) (own : Blocks) (g l : List Entry) → OnlyPassLends pass own (g ++ l)
+    → OnlyPassLends pass own l
+others_behind pass own [] l none = none
+others_behind pass own (e ∷ g) l none = others_behind pass own g l none.1
+
+-- behind some calls come others that lend no block but these, and one call more
+abbrev pub RisesToLast : AtPort → Blocks → List Call → List Call → Type 0
+RisesToLast q lent first new =
+    (before : List Call) × (last : Call) × (new ≡ before ++ last ∷ []) × Rises q lent first before
+
+module _ (w : Watched) (origin : State) (h : List Entry) (q : AtPort) (old first : List Call)
+    (along : IsAlong w origin h) (own lent : Blocks) (begins : IsMade q old first (Sees Rxdctl false))
+    (fresh : BeforeLast w origin h first (NoneLent own)) (others : OnlyPassLends w.pass own h)
+  where
+    lent_since : {calls more : List Call} {c : Call} (done rest : List Entry) → done ++ rest ≡ h
+        → calls ++ c ∷ [] ≡ first → Each (λ d. IsRising q lent d.event) (c ∷ more) → Around w.pass done calls c more
+        → OnlyLent own lent (leads_to origin done).memory
+    lent_since done rest all made rising x =
+        let es : List Entry = x.entry ∷ x.behind in
+        let so_far = along_before w origin done rest all along in
+        let here = fresh x.before (x.behind ++ rest) x.entry
+        (sym (append_assoc x.before es rest) ∙ ap (λ (l : List Entry). l ++ rest) x.all ∙ all) x.own
+        ((λ i. x.made i ++ x.call i ∷ []) ∙ made) in
+        let spared = others_behind w.pass own x.before es
+        (subst (OnlyPassLends w.pass own) (sym x.all)
+        (others_before w.pass own done rest (subst (OnlyPassLends w.pass own) (sym all) others))) in
+        let then = only_pass_lent w.pass own (λ n. false) (leads_to origin x.before) es
+        (legal_behind origin x.before es (subst (IsLegal origin) (sym x.all) so_far.legal))
+        (events_behind x.before es (subst AreEvents (sym x.all) so_far.events)) spared
+        (λ n is has. absurd (both_ways _ (here n is) has)) in
+        let are : Each (λ d. IsRising q lent d.event) (calls_of w.pass es) =
+        subst (Each (λ d. IsRising q lent d.event))
+        (sym (calls_own w.pass x.entry x.behind (eq-eqb x.entry.pass w.pass x.own) ∙ (λ i. x.call i ∷ x.later i)))
+        rising in
+        subst (λ (z : State). OnlyLent own lent z.memory)
+        (sym (leads-append origin x.before es) ∙ ap (leads_to origin) x.all)
+        (λ n is has. lent_is q lent w.pass es are n (then n is has))
+
+    lent_at : (new : List Call) → Rises q lent first new → AtCalls w origin h new (λ s. OnlyLent own lent s.memory)
+    lent_at new rises done rest all calls =
+        let (number, word, named, seen, (before, added, steps)) = begins in
+        let c : Call = call_of (event.Read q.port number) (reply.Word word) in
+        let made : (old ++ before) ++ c ∷ [] ≡ first = append_assoc old before (c ∷ []) ∙ sym added in
+        lent_since done rest all made (tt, rises.2)
+        (around w.pass done (old ++ before) c rises.0
+        (calls ∙ rises.1 ∙ ap (λ (l : List Call). l ++ rises.0) (sym made)
+        ∙ append_assoc (old ++ before) (c ∷ []) rises.0))
+
+    -- so none but those is lent just before one call more
+    pub unlent_before : (new : List Call) → RisesToLast q lent first new → (number : ℕ) → IsTrue (own number)
+        → (IsTrue (lent number) → ⊥) → BeforeLast w origin h new (λ s. has_block s.memory number ≡ false)
+    unlent_before new (before, last, is, rises) number mine not done rest e both own calls =
+        let made = same_from_push (calls_of w.pass done) before (call_in e) last (calls ∙ is) in
+        false_from_ne_true (has_block (leads_to origin done).memory number)
+        (λ has. not (lent_at before rises done (e ∷ rest) both made.0 number mine has))
+
+-- frames of such a length fit as many blocks as a packet has at most
+pub short_by : (queue : ℕ) (q : AtPort) (frame : ℕ) (s : State) → HasGround queue q frame s
+    → All (FitsBlocks queue (most_blocks frame)) s.waiting → AreShort queue (most_blocks frame) s
+short_by queue q frame s g short =
+    record { limit = (let limit = g.limit in omega (arith, limit)); waiting = short }
+
+-- as both sides are on
+module _ {w : Watched} {origin : State} {h : List Entry} {q : AtPort} {size frame : ℕ} {old : List Call} {a : Numbers}
+    {new : List Call} {v : Receive} {t : Sender} (up : AreOn q size frame old a new v t) (along : IsAlong w origin h)
+    (own : Blocks) where
+  abbrev first : Halves
+  first = first_halves up
+
+  rises : Rises q (halves_lent_by first) up.receive.quiet.0 new
+  rises = on_rises q (halves_lent_by first) up (receive_lent up) (transmit_lent up)
+
+  -- the blocks that are lent are the rings'
+  pub known_at : BeforeLast w origin h up.receive.quiet.0 (NoneLent own) → OnlyPassLends w.pass own h
+      → AtCalls w origin h new (λ s. OnlyLent own (halves_lent_by first) s.memory)
+  known_at fresh others =
+      lent_at w origin h q old up.receive.quiet.0 along own (halves_lent_by first) up.receive.quiet.1 fresh others new
+      rises
+
+  -- the frames that wait
+
+  abbrev Short : State → Type 0
+  Short s = HasGround w.queue q frame s × All (FitsBlocks w.queue (most_blocks frame)) s.waiting
+
+  short_after : (s : State) (e : Event Block) → Short s → WritesNoSetting s e
+      → All (FitsBlocks w.queue (most_blocks frame)) (after s e).waiting
+  short_after s e (g, short) none =
+      (frames_stay_short w.queue (most_blocks frame) s e (short_by w.queue q frame s g short) none).waiting
+
+  short_kept : IsKept w (lent_by w.pass h) Short
+  short_kept s e left x = (
+    ground_kept w (lent_by w.pass h) q frame s e left x.0,
+    short_after s e x (left-setting w s left.vfs e left.registers),
+  )
+
+  plain_short : (s : State) (e : Event Block) → IsPlain q e → Short s → Short (after s e)
+  plain_short s e plain x =
+      (plain_keeps w.queue q frame s e plain x.0, short_after s e x (plain_setting w.queue q frame s e plain x.0))
+
+  pub short_at : BeforeLast w origin h up.receive.quiet.0 (HasGround w.queue q frame)
+      → BeforeLast w origin h up.receive.quiet.0 (IsFresh w.queue frame own) → AtCalls w origin h new Short
+  short_at well fresh done rest all calls =
+      all_lead w origin h (λ so_far. Short (reached w origin so_far)) (λ c. IsPlain q c.event) along
+      (state_kept w origin (lent_by w.pass h) Short short_kept)
+      (λ c plain.
+      state_leads w origin (lent_by w.pass h) c Short Short (λ s met made told x. plain_short s c.event plain x))
+      rises.0 up.receive.quiet.0 (rising_are_plain q (halves_lent_by first) rises.0 rises.2)
+      (made_some q old up.receive.quiet.0 (Sees Rxdctl false) up.receive.quiet.1)
+      (first_seen w q origin h Short along short_kept
+      (λ s number x. plain_short s (event.Read q.port number) tt x) Rxdctl false old up.receive.quiet.0
+      up.receive.quiet.1
+      (λ before behind e split mine is.
+      (well before behind e split mine is, (fresh before behind e split mine is).short)))
+      done rest all (calls ∙ rises.1)

@@ -1,0 +1,108 @@
+-- The names that the proofs here and in worker_laws cite most, passed on from one place. Declares nothing.
+pub use Rattle.std.proofs.Common.{[], ◌%◌, ◌&&◌, ◌*◌, ◌++◌, ◌+◌, ◌-◌, ◌<◌, ◌^◌, ◌||◌, ◌∙◌, ◌∷◌, ◌≡◌, ◌≢◌, ◌≤◌, ◌⊎◌,
+    Bool, Err, IfErr, IfSome, List, None, Ok, Option, Result, Some, ℕ, ap, append_assoc, arith, cond, drop, false,
+    if◌then◌else◌, inl, inr, length, max, nat_cmp, nat_lt, not, option_map, refl, subst, suc, sym, take, true, zero}
+pub use Rattle.std.proofs.lemmas.Bool.{and_from, and_parts, both_ways, cases_Bool, cases_eq, eq-eqb, eqb-false,
+    eqb-true, false_from_ne_true, lt-ltb, ltb-true, not-true, or_cases, or_from, or_left, or_parts, or_right,
+    true_from_ne_false}
+pub use Rattle.std.proofs.lemmas.List.{append-nil, append_cancel_left, length-append, length-drop, map-append,
+    same_from_push}
+pub use Rattle.std.specs.List.{list_any}
+pub use Rattle.std.specs.Prelude.{⊤, ◌==◌, All, IsFalse, IsTrue, is_some, slice_index}
+pub use Rattle.driver_laws.specs.Prelude.{Accepts, Access, Adds, Advances, AllLendApart, AllOwn, AreEvents, AreMade,
+    AreSteps, AreUp, AtPort, Block, Blocks, Call, DeviceFault, Dir, Doer, Down, DrivesApart, DrivesRings, EachRingBlock,
+    Elsewhere, Entry, Event, FindsFault, FindsNone, FitsBlocks, Halted, Halves, HasAll, IsEvent, IsLegal, IsMade,
+    IsNumberOf, IsPrepared, IsReceiveReady, IsSound, IsSwitched, IsUp, LeavesAloneFrom, Lends, LendsNone, Looks, Memory,
+    Mode, Move, Numbers, OnlyLent, OwnCall, Packet, Piece, Place, PmdFault, Port, Rdt, Reaps, Receive, Receives,
+    Register, Reply, Rest, Rings, RowId, Running, Rx, Rxdctl, Sees, Sender, Sends, Sets, ShowsNone, StartRefused, State,
+    StopsBy, StopsStarting, Tx, Up, Watched, WhereUp, WritesOutside, accepted_of, after, after_call, arena_of,
+    asks_pool_reset, both_quiet, bytes_of, call_in, call_of, calls_of, delivered, doers_other, drive, enable_row,
+    entries_in, halted_of, halves_of, handed_of, has_bit, has_block, has_lent, is_free, is_neither, is_on, is_own,
+    is_ring_block, is_step, leads_to, left_accepted, left_handed, lends, lent_by, marked_entries, mode_in, most_blocks,
+    named, new_state, packets_if_any, parts_for, pieces, pieces_in, pieces_since, place, places_of, played_by,
+    records_of, reply_to, ring_blocks, ring_words, row_of, sent_by, sent_in, sent_since, times_in_hand}
+pub use Rattle.pmd_laws.specs.Prelude.{AreMadeOf, AreOn, BeforeLast, BeforeNext, BeginsWell, Empty, Ends, EndsOnceOff,
+    FaultsEarly, FaultsFilling, HasGround, IsAlong, IsAsking, IsEnding, IsQuiet, IsSilent, Laid, Off, TakesOnceOff}
+pub use Rattle.nic_device.proofs.Cases.{either_way, lent_cases, taken_cases}
+pub use Rattle.nic_device.proofs.DmaArena.Arenas.{is_free-with_free_other, is_free-with_free_same, is_own-of_free}
+pub use Rattle.nic_device.proofs.Steps.{new_sound}
+pub use Rattle.nic_device.specs.DmaArena.Numbers.{count_of, with_free}
+pub use Rattle.nic_device.specs.RegTable.declared.rows.RowId.TheVariants.{Txdctl}
+pub use Rattle.nic_device.specs.State.{Waiting, cleared}
+pub use Rattle.nic_device.specs.VfMap.Owner.{has_queue}
+pub use Rattle.device_lock.proofs.Histories.{events-append, events_behind, leads-append, legal-append, legal_behind}
+pub use Rattle.device_lock.specs.Alone.{LeavesAlone, has_begun, lent_in}
+pub use Rattle.pmd.proofs.Apart.{apart_none, apart_on, receiving_apart}
+pub use Rattle.pmd.proofs.Followed.{both_own, others_own, others_played, own_length, receiving_drives, sending_drives}
+pub use Rattle.pmd.proofs.PmdRx.Earlier.{free_before}
+pub use Rattle.pmd.proofs.PmdSeam.Outside.{times-append, times-cons, times_first, times_rest}
+pub use Rattle.pmd.proofs.PmdSeam.Rings.{among_times, each_ring_block, ring_block_among, ring_block_is, ring_block_out,
+    times_among}
+pub use Rattle.pmd.proofs.Whole.{all_drawn, all_exchanged, keeps_beside, keeps_counted, keeps_then}
+pub use Rattle.pmd.specs.Apart.{FindsBy, MayLend, OwnsSame, is_healthy}
+pub use Rattle.pmd.specs.Bursts.{FailedAmid, SendsWith, Stops}
+pub use Rattle.pmd.specs.Halves.{Drives}
+pub use Rattle.pmd.specs.Life.{ComesDown, HasLived, IsStopped, Lives, NeverLived}
+pub use Rattle.pmd.specs.PmdRx.Plays.{OthersStep, Plays, PlaysFrom}
+pub use Rattle.pmd.specs.PmdRx.Receive.{at_start, looked, posts_all, reach, took}
+pub use Rattle.pmd.specs.PmdSeam.Begun.{LeadsTo}
+pub use Rattle.pmd.specs.PmdSeam.Both.{SwitchFails, both_asked, receive_polled}
+pub use Rattle.pmd.specs.PmdSeam.Home.{IsDrawn}
+pub use Rattle.pmd.specs.PmdSeam.QueueMade.{FailsBy, IsOtherwise, IsStrayRead}
+pub use Rattle.pmd.specs.PmdSeam.Scheduled.{own_calls}
+pub use Rattle.pmd.specs.PmdSeam.Sides.{PollsEnd, missed, polled, quiet}
+pub use Rattle.pmd.specs.PmdTx.Plays.{LooksLast}
+pub use Rattle.pmd.specs.PmdTx.Sending.{IsOwn, blocks_of, moved, segments_of}
+pub use Rattle.pmd.specs.Started.{IsHalfStarted, IsHome, IsLeftWith, IsShut, is_size, start_gate}
+pub use Rattle.pmd.specs.Starting.{GoingOnFails, IsTransmitReady, LendingFails, LendsEach, PreparingFails, ReceiveFails,
+    StopsLending}
+pub use Rattle.pmd.specs.Stopping.{ComesHome, IsLeftAmid, bringing, brought, closed}
+pub use Rattle.start_laws.proofs.AccessCalls.{accesses_are, stops_are, switched_are, unswitched_are}
+pub use Rattle.start_laws.proofs.AllAre.{AllAre, all_before}
+pub use Rattle.start_laws.proofs.DrivenAccesses.{IsDriven, reads_driven, words_are_writes, writes_driven}
+pub use Rattle.start_laws.proofs.Ending.{all_lead, ending_plain, ending_settles, free_left}
+pub use Rattle.start_laws.proofs.Filling.{faults_are_early_or_filling, no_fault_is_early}
+pub use Rattle.start_laws.proofs.Ground.{ground_kept, ground_same, plain_keeps, plain_setting, write_ground}
+pub use Rattle.start_laws.proofs.Histories.{events_before, legal_before}
+pub use Rattle.start_laws.proofs.HistoryLaws.Beginning.{beginning_alone, lent_before}
+pub use Rattle.start_laws.proofs.HistoryLaws.Leaving.{left-setting, left-side}
+pub use Rattle.start_laws.proofs.Made.{extends, made_some}
+pub use Rattle.start_laws.proofs.Parts.{Around, Begins, Parts, around, calls_joined, none_behind, one_begins, parts}
+pub use Rattle.start_laws.proofs.Reached.{KeptOver, LeadsOver, reached, reached_next, state_kept, state_leads}
+pub use Rattle.start_laws.proofs.ReceiveLaws.Delivering.{image_stays, since-append, vfs_stays}
+pub use Rattle.start_laws.proofs.ReceiveLaws.Histories.{calls_other, calls_own}
+pub use Rattle.start_laws.proofs.Rising.{sized}
+pub use Rattle.start_laws.proofs.Settled.{IsSettled, Settles, left_settles, word_settles}
+pub use Rattle.start_laws.proofs.Start.{ground_at, on, on_some, start_goes_on}
+pub use Rattle.start_laws.proofs.StopCalls.{adds_made, asks_end, none_made, some_made, step_ends, then_made}
+pub use Rattle.start_laws.proofs.TransmitLaws.Counting.{sent_is_counted}
+pub use Rattle.start_laws.specs.Along.{AtCalls, AtEntries, IsKept}
+pub use Rattle.start_laws.specs.Ending.{Each, IsPlain, NamesDriven}
+pub use Rattle.start_laws.specs.Laid.{Headed, Lays, LaysOn, MayAsk, MayLay, Sized, laid_by}
+pub use Rattle.start_laws.specs.ReceiveLaws.Steps.{IfFresh}
+pub use Rattle.start_laws.specs.Stopping.{Asks}
+pub use Rattle.start_laws.specs.TransmitLaws.Laws.{FindsWaiting, IsPrefixOf}
+pub use Rattle.start_laws.specs.Unused.{WentOn}
+pub use Rattle.driver_laws.proofs.Beside.{drives_lead, harmless_both, harmless_lead, harmless_leave_alone, leads_on,
+    left, others_harmless, steps_harmless}
+pub use Rattle.driver_laws.proofs.InOrder.{counted_where_up, handed_is_prefix, idle_is_all_sent, led, none_is_all,
+    none_is_all_taken, sent_is_prefix}
+pub use Rattle.driver_laws.proofs.LeadsApart.{LeadsApart, apart_leads_on, driven_apart, harmless_apart}
+pub use Rattle.driver_laws.proofs.Retold.{events_same, legal_same, same_delivers, same_leads, same_sends}
+pub use Rattle.driver_laws.specs.Agreeing.{AreApart, AreLent, BothAgree}
+pub use Rattle.driver_laws.specs.Before.{AreShort, OnlyPassLends}
+pub use Rattle.driver_laws.specs.Beside.{AddsHarmless, Leads, OthersHarmless, is_harmless}
+pub use Rattle.pmd_laws.specs.Beside.{AllFollowBy, Beside, FollowsBy, GoesOn, IsCalledBeside, IsRetold, IsToldAnew,
+    IsToldBeside, IsToldBy, WasTold, by_own, now}
+pub use Rattle.pmd_laws.specs.Ends.{Ended, HandedOverStop, IsOver, LeftIsPrefix, SentOverStop}
+pub use Rattle.pmd_laws.specs.Faultless.{BeginsApart, IsFresh, IsQuietAndFresh, NoBurstMeetsFault, NoCallFindsFault,
+    NoneLent, SendsAtFault, met_by}
+pub use Rattle.pmd_laws.specs.Lends.{first_of}
+pub use Rattle.pmd_laws.specs.Life.{IsLife, Life}
+pub use Rattle.pmd_laws.specs.Order.{IsLived}
+pub use Rattle.pmd_laws.specs.Places.{EachInOnePlace, IsToldAlone, LentIsOut, OutIsLent, is_out, memory_after}
+pub use Rattle.pmd_laws.specs.Stopped.{FailedStopEnds, FailedStopTakesOnceOff, HandedIsPrefix, IsStopping, NoCallTakes,
+    SentIsPrefix, StopEnds, StopTakesOnceOff}
+pub use Rattle.pmd_laws.specs.Told.{AllFollow, Drove, Follows, HasNoneOut, IsTold, IsToldOf, IsToldToLook, LooksInVain,
+    Moment, Told, last}
+pub use Rattle.pmd_laws.specs.Waits.{IsToldToWait, WaitingIsNotAllAsTold, WaitingIsNotAllBefore, Waits}

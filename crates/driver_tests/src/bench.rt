@@ -1,6 +1,6 @@
 //! A controller that is set up, a driver of its queue 0, and frames.
 
-use crate::outcome::{Hand, done, fail, push, refused, same, same_bytes, same_pair, sees};
+use crate::outcome::{Hand, done, empty, fail, push, refused, same, same_bytes, same_pair, sees};
 use nic_device::{Arena, Buf, Config, Device, Event, LentMemory, Mode, Octets, Parts, Port, Reply};
 use std::process::Abort;
 use workers::{
@@ -195,7 +195,7 @@ pub fn arrive<N: Nic>(rt: &impl Hand, nic: &mut N, bytes: Vec<u8>) {
 /// The frame of this number, of 60 to 315 bytes, with the number in front.
 pub fn frame_of(rt: &impl Hand, number: u16) -> Vec<u8> {
     let [low, high] = number.to_le_bytes();
-    let mut bytes = Vec::new(rt.alloc());
+    let mut bytes = empty(rt);
     let mut word = u32::from(number);
     for _word in 0..15 + low / 4 {
         done(rt, bytes.extend_from_slice(&word.to_le_bytes()));

@@ -75,11 +75,14 @@ impl Bursts {
         writes(self.direct.calls(), register)
     }
 
-    /// The packets are the frames from number 0 on, so many at most.
+    /// The packets are the frames from number 0 on, so many.
     fn are_frames(&self, rt: &impl Hand, count: u16) {
-        for (number, packet) in (0..count).zip(self.packets.iter()) {
+        let mut number: u16 = 0;
+        for packet in self.packets.iter() {
             holds_frame(rt, packet, number);
+            number = number.saturating_add(1);
         }
+        same(rt, usize::from(number), usize::from(count));
     }
 
     /// Ends all, once each packet is sent. So many packets were handed out and accepted. Answers the frames out.
@@ -110,9 +113,8 @@ fn forty_come(rt: &impl Hand, bursts: &mut Bursts) {
     same(rt, bursts.writes(RDT), before.saturating_add(2));
 }
 
-#[test]
-fn packets_come_and_go_by_bursts_with_one_tail_write_each(rt: HostRuntime) {
-    let rt = &rt;
+/// Forty packets come by bursts and go by one.
+fn forty_come_and_go(rt: &impl Hand) {
     let mut bursts = Bursts::new(rt, 64, 128);
     forty_come(rt, &mut bursts);
     bursts.are_frames(rt, 40);
@@ -120,6 +122,11 @@ fn packets_come_and_go_by_bursts_with_one_tail_write_each(rt: HostRuntime) {
     same(rt, usize::from(bursts.sent(rt, 0)), 40);
     same(rt, bursts.writes(TDT), before.saturating_add(1));
     are_first_frames(rt, bursts.end(rt, 40).as_slice(), 40);
+}
+
+#[test]
+fn packets_come_and_go_by_bursts_with_one_tail_write_each(rt: HostRuntime) {
+    forty_come_and_go(&rt);
 }
 
 /// What is done by bursts: frames of these numbers arrive; a burst hands out so many packets at most; it sends, and
@@ -155,14 +162,18 @@ fn make_step(rt: &impl Hand, bursts: &mut Bursts, step: Step) -> u16 {
     }
 }
 
+/// Does so step by step with rings of 8, by which nine packets come and go.
+fn make_steps(rt: &impl Hand, steps: &[(Step, u16)]) {
+    let mut bursts = Bursts::new(rt, 8, 32);
+    for (step, wanted) in steps {
+        let told = make_step(rt, &mut bursts, *step);
+        same(rt, usize::from(told), usize::from(*wanted));
+    }
+    bursts.end(rt, 9);
+}
+
 /// Rings of 8: seven packets may be outstanding, and three are, which went out.
 #[test]
 fn a_burst_frees_what_was_sent_where_too_few_slots_are_vacant(rt: HostRuntime) {
-    let rt = &rt;
-    let mut bursts = Bursts::new(rt, 8, 32);
-    for (done, wanted) in STEPS {
-        let told = make_step(rt, &mut bursts, done);
-        same(rt, usize::from(told), usize::from(wanted));
-    }
-    bursts.end(rt, 9);
+    make_steps(&rt, &STEPS);
 }

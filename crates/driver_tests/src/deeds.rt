@@ -1,7 +1,7 @@
 //! What others do beside a driver of queue 0, told as data, and the events that it is.
 
 use crate::bench::TCP_FRAME;
-use crate::outcome::{Hand, done, push, some};
+use crate::outcome::{Hand, done, empty, push, some};
 use nic_device::{Arena, Dir, Event, Octets, Port};
 
 /// A place in memory.
@@ -51,8 +51,8 @@ pub enum Deed {
     Lends(u32, u32),
     /// They write a byte all over the eight slots of a ring.
     Fills(At, u8),
-    /// They write a descriptor into the eight slots of a ring: a buffer's place, and its second half.
-    Names(At, At, [u8; 8]),
+    /// They write a descriptor into the eight slots of a ring: a buffer's place, and its second half as a word.
+    Names(At, At, u64),
     /// Queue 3 receives a segment of TCP by a ring of 8.
     Receives(At),
     /// Queue 3 fetches so many slots of a ring of 8, and writes its head back to a place where one is given.
@@ -70,7 +70,7 @@ impl Doing {
     /// No events, and so many blocks from a number on.
     pub fn new(rt: &impl Hand, rings: Rings, (first, count): (u32, u32)) -> Doing {
         Doing {
-            list: Vec::new(rt.alloc()),
+            list: empty(rt),
             blocks: done(rt, Arena::new(rt.alloc(), first, count)),
             rings,
         }
@@ -104,7 +104,7 @@ impl Doing {
             Deed::Fills(ring, byte) => self.poke_slots(rt, ring, [byte; 16]),
             Deed::Names(ring, buffer, half) => {
                 let [a, b, c, d] = self.rings.address(buffer).to_le_bytes();
-                let [e, f, g, h, i, j, k, l] = half;
+                let [e, f, g, h, i, j, k, l] = half.to_le_bytes();
                 let descriptor = [a, b, c, d, 0, 0, 0, 0, e, f, g, h, i, j, k, l];
                 self.poke_slots(rt, ring, descriptor);
             }

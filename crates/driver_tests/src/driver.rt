@@ -156,22 +156,22 @@ const STARTS: [Start<'static>; 7] = [
     ("a queue that is never stepped", Steps::Nothing, 8, (4, 32), Why::StartTimeout, true),
 ];
 
-/// A start that is refused.
-fn refused_start<N: Nic>(
+/// A start that is refused, for frames of so many bytes at most.
+pub fn refused_start<N: Nic>(
     rt: &impl Hand,
     nic: &mut N,
-    size: u16,
+    (size, frame): (u16, u16),
     (first, count): (u32, u32),
 ) -> StartRefused {
     let arena = done(rt, Arena::new(rt.alloc(), first, count));
     refused(
         rt,
-        Pmd::start(rt.alloc(), nic, Port::Pf, 0, size, 1518, arena),
+        Pmd::start(rt.alloc(), nic, Port::Pf, 0, size, frame, arena),
     )
 }
 
 /// What is left of it comes home. Answers why it is refused, and whether blocks were lent.
-fn come_home<N: Nic>(rt: &impl Hand, nic: &mut N, refusal: StartRefused) -> (Why, bool) {
+pub fn come_home<N: Nic>(rt: &impl Hand, nic: &mut N, refusal: StartRefused) -> (Why, bool) {
     let StartRefused { fault, rest } = refusal;
     let (packets, is_lent) = match rest {
         Rest::Home(home) => (close(rt, home), false),
@@ -186,14 +186,14 @@ fn start_beside(rt: &impl Hand, steps: Steps, size: u16, numbers: (u32, u32)) ->
     match steps {
         Steps::OnQueue(queue) => {
             let mut direct = opened(rt, 64, queue);
-            let refusal = refused_start(rt, &mut direct, size, numbers);
+            let refusal = refused_start(rt, &mut direct, (size, 1518), numbers);
             let answer = come_home(rt, &mut direct, refusal);
             end(rt, in_hand(direct));
             answer
         }
         Steps::Nothing => {
             let mut nic = unstepped(rt, in_hand(opened(rt, 64, 0)));
-            let refusal = refused_start(rt, &mut nic, size, numbers);
+            let refusal = refused_start(rt, &mut nic, (size, 1518), numbers);
             let answer = come_home(rt, &mut nic, refusal);
             end(rt, without_blocks(rt, nic));
             answer
@@ -201,11 +201,16 @@ fn start_beside(rt: &impl Hand, steps: Steps, size: u16, numbers: (u32, u32)) ->
     }
 }
 
+/// A start is refused as its row says.
+fn check_start(rt: &impl Hand, (name, steps, size, numbers, wanted, is_lent): Start<'_>) {
+    let (why, was_lent) = start_beside(rt, steps, size, numbers);
+    holds(rt, name, "refused", why == wanted && was_lent == is_lent);
+}
+
 /// Each of these starts is refused as its row says.
 fn check_starts(rt: &impl Hand, rows: &[Start<'_>]) {
-    for (name, steps, size, numbers, wanted, is_lent) in rows {
-        let (why, was_lent) = start_beside(rt, *steps, *size, *numbers);
-        holds(rt, name, "refused", why == *wanted && was_lent == *is_lent);
+    for row in rows {
+        check_start(rt, *row);
     }
 }
 
@@ -274,17 +279,21 @@ fn runs_no_more(rt: &impl Hand, direct: &mut Direct, pmd: &mut Pmd) {
     release(rt, pmd, packet);
 }
 
-/// The device is stepped on another queue for a while: the first stop finds that the queue doesn't go off, the second
-/// one succeeds. In between the driver answers that it doesn't run, and still makes packets and takes them back.
-#[test]
-fn a_stop_that_was_refused_is_tried_again(rt: HostRuntime) {
-    let rt = &rt;
+/// A stop is refused, and tried again.
+fn stop_twice(rt: &impl Hand) {
     let Rig { direct, pmd } = Rig::new(rt, 8, (4, 32));
     let mut direct = stepped_on(rt, direct, 5);
     let mut pmd = stop_times_out(rt, &mut direct, pmd);
     runs_no_more(rt, &mut direct, &mut pmd);
     let direct = stepped_on(rt, direct, 0);
     Rig { direct, pmd }.end(rt, (0, 0));
+}
+
+/// The device is stepped on another queue for a while: the first stop finds that the queue doesn't go off, the second
+/// one succeeds. In between the driver answers that it doesn't run, and still makes packets and takes them back.
+#[test]
+fn a_stop_that_was_refused_is_tried_again(rt: HostRuntime) {
+    stop_twice(&rt);
 }
 
 /// Takes a block that is lent to a device in hand.
@@ -300,14 +309,18 @@ fn stop_with_a_loss(rt: &impl Hand, direct: &mut Direct, pmd: Pmd) -> Arena {
     arena
 }
 
-/// A block is taken from the device behind the driver's back: it is lost, and all others come home.
-#[test]
-fn a_block_that_is_gone_is_lost(rt: HostRuntime) {
-    let rt = &rt;
+/// A block is lost, and all others come home.
+fn lose_a_block(rt: &impl Hand) {
     let Rig { mut direct, pmd } = Rig::new(rt, 8, (4, 32));
     let gone = taken(rt, &mut direct, 9);
     let mut arena = stop_with_a_loss(rt, &mut direct, pmd);
     done(rt, arena.give(gone));
     done(rt, arena.close());
     end(rt, in_hand(direct));
+}
+
+/// A block is taken from the device behind the driver's back: it is lost, and all others come home.
+#[test]
+fn a_block_that_is_gone_is_lost(rt: HostRuntime) {
+    lose_a_block(&rt);
 }

@@ -1,7 +1,7 @@
 //! What a closed history says of the frames that were let in before a driver's start.
 
 use crate::bench::{PLAIN, end, word_in};
-use crate::outcome::{Hand, done, fail, holds, push, sees, some};
+use crate::outcome::{Hand, done, empty, fail, holds, push, sees, some};
 use nic_device::{Event, Octets, Port, Reply};
 use workers::{Pass, Setup, Shared, ThroughLock, Watched, frames_fit, pf_setup};
 
@@ -25,7 +25,7 @@ const ROWS: [(&str, u16, u16, bool, bool); 8] = [
 
 /// A frame of so many bytes to the broadcast address arrives. Answers whether it is let in.
 fn arrive(rt: &impl Hand, bench: &Bench, pass: &mut Pass, len: u16) -> bool {
-    let mut bytes = Vec::new(rt.alloc());
+    let mut bytes = empty(rt);
     for _byte in 0..len {
         push(rt, &mut bytes, 0xFF);
     }

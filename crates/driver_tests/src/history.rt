@@ -1,6 +1,6 @@
 //! The calls on a device in hand as a history: a driver of queue 0 made some of them, and others the rest.
 
-use crate::outcome::{Hand, done, push};
+use crate::outcome::{Hand, done, push, some};
 use nic_device::Device;
 use workers::{Call, Direct, Entry, Watched, left_alone};
 
@@ -39,9 +39,12 @@ pub fn finished(rt: &impl Hand, history: &mut Vec<Entry>, pass: u8, direct: Dire
 
 /// Puts calls behind a history. The marked ones are the driver's.
 pub fn add_marked(rt: &impl Hand, history: &mut Vec<Entry>, marks: &[bool], calls: Vec<Call>) {
-    for (call, is_own) in calls.into_iter().zip(marks.iter()) {
-        let pass = if *is_own { DRIVER } else { OTHERS };
+    let mut number: usize = 0;
+    for call in calls {
+        let is_own = *some(rt, marks.get(number));
+        let pass = if is_own { DRIVER } else { OTHERS };
         add_call(rt, history, pass, call);
+        number = number.saturating_add(1);
     }
 }
 

@@ -9,7 +9,7 @@ use crate::deeds::Deed::{self, Fills, Lends, Names, Receives, Sends, Takes, Writ
 use crate::deeds::{Doing, Rings};
 use crate::history::{DRIVER, OTHERS, add_entries, finished, is_left_alone};
 use crate::interleaved::amid;
-use crate::outcome::{Hand, done, holds, push, same, some};
+use crate::outcome::{Hand, done, empty, holds, push, same, some};
 use crate::schedule::{Left, Schedule, all_home, finish, push_steps, take_all};
 use nic_device::{Arena, Buf, Device, Event, Mode, Octets, Port, Reply};
 use workers::{Direct, Entry, Home, Nic, Packet, Pmd, Setup, StopRefused, TxAnswer, TxFault};
@@ -85,8 +85,8 @@ type Told<P> = (What, P, P);
 
 const NO_WRITE: Told<At> = (What::Nothing, Zero, Zero);
 
-/// What others do, one after the other.
-type Deeds = [Deed; 3];
+/// What others do, one after the other. (A table of lists isn't a constant, and costs its proof a step for each part.)
+type Deeds = (Deed, Deed, Deed);
 
 /// No deed: no block is taken.
 const NONE: Deed = Takes(0, 0);
@@ -118,53 +118,53 @@ const POOL_RESET: Deed = Writes(Port::Pf, 0x00300, 0x0400_0000);
 const OTHER_RDT: Deed = Writes(Port::Vf(0), 0x1058, 5);
 
 /// The second halves of descriptors: of a buffer for a frame, and of 60 bytes by which a packet goes on or ends.
-const FRAME: [u8; 8] = [0; 8];
+const FRAME: u64 = 0;
 
-const GOES_ON: [u8; 8] = [0x3c, 0, 0x30, 0x2a, 0, 0, 0x0f, 0];
+const GOES_ON: u64 = 0x000F_0000_2A30_003C;
 
-const ENDS: [u8; 8] = [0x3c, 0, 0x30, 0x2b, 0, 0, 0x0f, 0];
+const ENDS: u64 = 0x000F_0000_2B30_003C;
 
 /// In the first rows others write registers, take and lend blocks and write descriptors. In the last, some step of
 /// queue 3 writes, in places into the driver's blocks: only its reply tells so, whoever makes it. The queue's ring may
 /// be in a block of the driver's, where all bytes are 0, and so name block 0; and it may be the driver's own.
 #[rattlefmt::skip]
 const ROWS: [Row<'static>; 28] = [
-    ("nothing is done", On::Plain, SAME, [NONE, NONE, NONE], true, NO_WRITE),
-    ("it becomes a function's, which writes RDT", On::Plain, SAME, [POOLS, VF_RDT, NONE], false, NO_WRITE),
-    ("it becomes a function's, which writes RXDCTL", On::Plain, SAME, [POOLS, VF_RXDCTL, NONE], false, NO_WRITE),
-    ("it becomes a function's, which is reset", On::Plain, SAME, [POOLS, VF_RESET, NONE], false, NO_WRITE),
-    ("the function writes RDT", On::Pools, SAME, [VF_RDT, NONE, NONE], false, NO_WRITE),
-    ("the function writes RXDCTL", On::Pools, SAME, [VF_RXDCTL, NONE, NONE], false, NO_WRITE),
-    ("the function is reset", On::Pools, SAME, [VF_RESET, NONE, NONE], false, NO_WRITE),
-    ("the pool is reset", On::Pools, SAME, [POOL_RESET, NONE, NONE], false, NO_WRITE),
-    ("the function writes RDT of its other queue", On::Pools, SAME, [OTHER_RDT, NONE, NONE], true, NO_WRITE),
-    ("the receive ring's block is taken", On::Plain, SAME, [Takes(4, 1), NONE, NONE], false, NO_WRITE),
-    ("the transmit ring's block is taken", On::Plain, SAME, [Takes(5, 1), NONE, NONE], false, NO_WRITE),
-    ("a posted block is taken", On::Plain, SAME, [Takes(9, 1), NONE, NONE], false, NO_WRITE),
-    ("all blocks are taken", On::Plain, SAME, [Takes(4, 32), NONE, NONE], false, NO_WRITE),
-    ("one of the receive ring's number is lent", On::Plain, SAME, [Lends(4, 1), NONE, NONE], false, NO_WRITE),
-    ("one of the transmit ring's number is lent", On::Plain, SAME, [Lends(5, 1), NONE, NONE], false, NO_WRITE),
-    ("one of a posted one's number is lent", On::Plain, SAME, [Lends(9, 1), NONE, NONE], false, NO_WRITE),
-    ("one of each number is lent", On::Plain, SAME, [Lends(4, 32), NONE, NONE], false, NO_WRITE),
-    ("descriptors of 0x00", On::Plain, SAME, [Fills(Receive, 0x00), Fills(Transmit, 0x00), NONE], false, NO_WRITE),
-    ("descriptors of 0x01", On::Plain, SAME, [Fills(Receive, 0x01), Fills(Transmit, 0x01), NONE], false, NO_WRITE),
-    ("descriptors of 0xFF", On::Plain, SAME, [Fills(Receive, 0xFF), Fills(Transmit, 0xFF), NONE], false, NO_WRITE),
+    ("nothing is done", On::Plain, SAME, (NONE, NONE, NONE), true, NO_WRITE),
+    ("it becomes a function's, which writes RDT", On::Plain, SAME, (POOLS, VF_RDT, NONE), false, NO_WRITE),
+    ("it becomes a function's, which writes RXDCTL", On::Plain, SAME, (POOLS, VF_RXDCTL, NONE), false, NO_WRITE),
+    ("it becomes a function's, which is reset", On::Plain, SAME, (POOLS, VF_RESET, NONE), false, NO_WRITE),
+    ("the function writes RDT", On::Pools, SAME, (VF_RDT, NONE, NONE), false, NO_WRITE),
+    ("the function writes RXDCTL", On::Pools, SAME, (VF_RXDCTL, NONE, NONE), false, NO_WRITE),
+    ("the function is reset", On::Pools, SAME, (VF_RESET, NONE, NONE), false, NO_WRITE),
+    ("the pool is reset", On::Pools, SAME, (POOL_RESET, NONE, NONE), false, NO_WRITE),
+    ("the function writes RDT of its other queue", On::Pools, SAME, (OTHER_RDT, NONE, NONE), true, NO_WRITE),
+    ("the receive ring's block is taken", On::Plain, SAME, (Takes(4, 1), NONE, NONE), false, NO_WRITE),
+    ("the transmit ring's block is taken", On::Plain, SAME, (Takes(5, 1), NONE, NONE), false, NO_WRITE),
+    ("a posted block is taken", On::Plain, SAME, (Takes(9, 1), NONE, NONE), false, NO_WRITE),
+    ("all blocks are taken", On::Plain, SAME, (Takes(4, 32), NONE, NONE), false, NO_WRITE),
+    ("one of the receive ring's number is lent", On::Plain, SAME, (Lends(4, 1), NONE, NONE), false, NO_WRITE),
+    ("one of the transmit ring's number is lent", On::Plain, SAME, (Lends(5, 1), NONE, NONE), false, NO_WRITE),
+    ("one of a posted one's number is lent", On::Plain, SAME, (Lends(9, 1), NONE, NONE), false, NO_WRITE),
+    ("one of each number is lent", On::Plain, SAME, (Lends(4, 32), NONE, NONE), false, NO_WRITE),
+    ("descriptors of 0x00", On::Plain, SAME, (Fills(Receive, 0x00), Fills(Transmit, 0x00), NONE), false, NO_WRITE),
+    ("descriptors of 0x01", On::Plain, SAME, (Fills(Receive, 0x01), Fills(Transmit, 0x01), NONE), false, NO_WRITE),
+    ("descriptors of 0xFF", On::Plain, SAME, (Fills(Receive, 0xFF), Fills(Transmit, 0xFF), NONE), false, NO_WRITE),
     ("a frame of queue 3 goes elsewhere", On::Hashed, TWO,
-        [Lends(100, 2), Names(Ring, Buffer, FRAME), Receives(Ring)], true, (What::Frame, Buffer, Ring)),
+        (Lends(100, 2), Names(Ring, Buffer, FRAME), Receives(Ring)), true, (What::Frame, Buffer, Ring)),
     ("a frame of queue 3 goes into its block", On::Hashed, TWO,
-        [Lends(100, 2), Names(Ring, Free, FRAME), Receives(Ring)], false, (What::Frame, Free, Ring)),
+        (Lends(100, 2), Names(Ring, Free, FRAME), Receives(Ring)), false, (What::Frame, Free, Ring)),
     ("a descriptor of queue 3 goes into its block", On::Hashed, (0, 1),
-        [Lends(0, 1), Receives(Free), NONE], false, (What::Frame, Zero, Free)),
+        (Lends(0, 1), Receives(Free), NONE), false, (What::Frame, Zero, Free)),
     ("queue 3 reports a fetch in its own slot", On::Plain, TWO,
-        [Lends(100, 2), Names(Ring, Buffer, GOES_ON), Sends(Ring, None, 1)], true, (What::Advanced, Ring, Zero)),
+        (Lends(100, 2), Names(Ring, Buffer, GOES_ON), Sends(Ring, None, 1)), true, (What::Advanced, Ring, Zero)),
     ("queue 3 reports a packet in its own slot", On::Plain, TWO,
-        [Lends(100, 2), Names(Ring, Buffer, ENDS), Sends(Ring, None, 1)], true, (What::Sent, Ring, Zero)),
+        (Lends(100, 2), Names(Ring, Buffer, ENDS), Sends(Ring, None, 1)), true, (What::Sent, Ring, Zero)),
     ("queue 3 reports a fetch in its block", On::Plain, TWO,
-        [Lends(100, 2), Names(Ring, Buffer, GOES_ON), Sends(Ring, Some(Free), 1)], false,
+        (Lends(100, 2), Names(Ring, Buffer, GOES_ON), Sends(Ring, Some(Free), 1)), false,
         (What::Advanced, Free, Zero)),
     ("queue 3 reports a packet in its block", On::Plain, TWO,
-        [Lends(100, 2), Names(Ring, Buffer, ENDS), Sends(Ring, Some(Free), 1)], false, (What::Sent, Free, Zero)),
-    ("queue 3 is laid over its transmit ring", On::Plain, TWO, [Sends(Transmit, None, 7), NONE, NONE], false,
+        (Lends(100, 2), Names(Ring, Buffer, ENDS), Sends(Ring, Some(Free), 1)), false, (What::Sent, Free, Zero)),
+    ("queue 3 is laid over its transmit ring", On::Plain, TWO, (Sends(Transmit, None, 7), NONE, NONE), false,
         (What::Sent, Transmit, Zero)),
 ];
 
@@ -178,7 +178,7 @@ struct Begun {
 
 /// A driver that starts while its queue is left alone, on a device that others set up.
 fn begin_on(rt: &impl Hand, setup: &Setup) -> Begun {
-    let mut history = Vec::new(rt.alloc());
+    let mut history = empty(rt);
     let device = finished(rt, &mut history, OTHERS, set_up(rt, 64, 0, setup));
     let mut direct = stepped(rt, device);
     let pmd = started(rt, &mut direct);
@@ -196,7 +196,7 @@ fn begin_on(rt: &impl Hand, setup: &Setup) -> Begun {
 /// So many lists of the steps of queue 0, with a frame that arrives in each fifth.
 fn traffic(rt: &impl Hand, schedule: &mut Schedule, count: u16) {
     for number in 0..count {
-        let mut list = Vec::new(rt.alloc());
+        let mut list = empty(rt);
         push_steps(rt, &mut list);
         if number % 5 == 0 {
             let frame = frame_of(rt, number);
@@ -235,7 +235,7 @@ fn drive<N: Nic>(rt: &impl Hand, nic: &mut N, pmd: &mut Pmd) {
 
 /// Lists of the steps of queue 0 with a list of others between them.
 fn schedule_with(rt: &impl Hand, list: Vec<Event>) -> Schedule {
-    let mut schedule = Vec::new(rt.alloc());
+    let mut schedule = empty(rt);
     traffic(rt, &mut schedule, 40);
     push(rt, &mut schedule, list);
     traffic(rt, &mut schedule, 300);
@@ -335,7 +335,7 @@ fn first_told(history: &mut [Entry]) -> Told<u64> {
 fn endured(rt: &impl Hand, on: On, blocks: (u32, u32), deeds: Deeds) -> (Vec<Entry>, Rings) {
     let begun = begin_on(rt, &on.setup());
     let rings = begun.rings;
-    let [first, second, third] = deeds;
+    let (first, second, third) = deeds;
     let mut doing = Doing::new(rt, rings, blocks);
     doing.add(rt, first);
     doing.add(rt, second);
@@ -378,7 +378,7 @@ fn a_driver_stops_whatever_others_do(rt: HostRuntime) {
 fn check_writes(rt: &impl Hand, writes: &[(u32, u32, bool)]) {
     for (address, word, spares) in writes {
         let name = done(rt, format!(in rt.alloc(); "a write at {address:#07x}"));
-        let deeds = [Writes(Port::Pf, *address, *word), NONE, NONE];
+        let deeds = (Writes(Port::Pf, *address, *word), NONE, NONE);
         check(
             rt,
             (name.as_str(), On::Plain, SAME, deeds, *spares, NO_WRITE),

@@ -4,7 +4,7 @@ use crate::bench::{
     end, frame_of, holds_frame, in_hand, is_done, is_frame, make, opened, reap, reap_once,
     received, release, send, started, stepped, stop_times_out, stops, taken_apart,
 };
-use crate::outcome::{Hand, done, emptied, fail, none, push, same, sees, some};
+use crate::outcome::{Hand, done, emptied, empty, fail, none, push, same, sees, some};
 use crate::rig::Rig;
 use crate::schedule::{Left, Schedule, all_home, finish, push_switches, take_all};
 use nic_device::{Arena, Buf, Device, Dir, Event, Octets, Port, Reply};
@@ -17,14 +17,14 @@ pub fn amid(rt: &impl Hand, device: Device, schedule: Schedule) -> Interleaved {
 
 /// A device among no foreign events, which nobody steps on.
 pub fn unstepped(rt: &impl Hand, device: Device) -> Interleaved {
-    amid(rt, device, Vec::new(rt.alloc()))
+    amid(rt, device, empty(rt))
 }
 
 /// The same where both sides of queue 0 are switched before each of the next 200 calls.
 fn switched(rt: &impl Hand, device: Device) -> Interleaved {
-    let mut schedule = Vec::new(rt.alloc());
+    let mut schedule = empty(rt);
     for _list in 0..200 {
-        let mut list = Vec::new(rt.alloc());
+        let mut list = empty(rt);
         push_switches(rt, &mut list);
         push(rt, &mut schedule, list);
     }
@@ -68,10 +68,8 @@ fn seven_are_taken(rt: &impl Hand, nic: &mut Interleaved, pmd: Pmd) -> Pmd {
     stop_times_out(rt, nic, pmd)
 }
 
-/// Both sides are switched on at the start, and nothing is stepped on after it: seven packets are taken, and no more.
-#[test]
-fn a_ring_of_eight_takes_seven_packets_that_nobody_sends(rt: HostRuntime) {
-    let rt = &rt;
+/// A ring is full, and what is in it goes out when the driver is stopped.
+fn fill_a_ring(rt: &impl Hand) {
     let mut nic = switched(rt, in_hand(opened(rt, 64, 0)));
     let pmd = started(rt, &mut nic);
     let mut nic = unstepped(rt, without_blocks(rt, nic));
@@ -79,6 +77,12 @@ fn a_ring_of_eight_takes_seven_packets_that_nobody_sends(rt: HostRuntime) {
     let mut nic = switched(rt, without_blocks(rt, nic));
     stops(rt, &mut nic, pmd, (0, 7));
     same(rt, end(rt, without_blocks(rt, nic)).len(), 0);
+}
+
+/// Both sides are switched on at the start, and nothing is stepped on after it: seven packets are taken, and no more.
+#[test]
+fn a_ring_of_eight_takes_seven_packets_that_nobody_sends(rt: HostRuntime) {
+    fill_a_ring(&rt);
 }
 
 /// Sees that the last of these replies is the fault of queue 0, and that the others are done.
@@ -95,7 +99,7 @@ fn last_is_a_fault(rt: &impl Hand, mut replies: Vec<Reply>) {
 
 /// Lists for two calls: a frame arrives and a tail beyond the ring is written, and then the device receives.
 fn foreign_tail(rt: &impl Hand) -> Schedule {
-    let (mut first, mut second) = (Vec::new(rt.alloc()), Vec::new(rt.alloc()));
+    let (mut first, mut second) = (empty(rt), empty(rt));
     push(rt, &mut first, Event::Arrive(Octets::of(frame_of(rt, 0))));
     push(rt, &mut first, Event::Write(Port::Pf, 0x01018, 200)); // RDT
     push(rt, &mut second, Event::RxStep);
@@ -154,14 +158,14 @@ fn lay_out<N: Nic>(rt: &impl Hand, nic: &mut N, queue: u16, [ring, data]: [Buf; 
 /// Lists in which queues 3 and 6 send in turn, queue 0 sends, and the device receives. The first 200 switch these
 /// queues. From then on a frame arrives in each eighth.
 fn busy(rt: &impl Hand, count: u16) -> Schedule {
-    let mut schedule = Vec::new(rt.alloc());
+    let mut schedule = empty(rt);
     for number in 0..count {
         let (queue, tail) = if number % 2 == 0 {
             (3, 0x060D8)
         } else {
             (6, 0x06198)
         };
-        let mut list = Vec::new(rt.alloc());
+        let mut list = empty(rt);
         if number < 200 {
             push(rt, &mut list, Event::QueueStep(Dir::Tx, queue));
             push_switches(rt, &mut list);
@@ -239,7 +243,7 @@ fn a_thousand_go_through(rt: &impl Hand, device: Device) -> Device {
 
 /// Takes a device apart to which blocks of one arena are lent. Answers its frames out.
 fn apart(rt: &impl Hand, device: Device, others: Arena) -> Vec<(u8, Octets)> {
-    let mut bufs = Vec::new(rt.alloc());
+    let mut bufs = empty(rt);
     let (memory, frames) = taken_apart(device);
     take_all(rt, &mut bufs, memory);
     let arenas = done(rt, Vec::from_array(rt.alloc(), [others]));
@@ -247,14 +251,18 @@ fn apart(rt: &impl Hand, device: Device, others: Arena) -> Vec<(u8, Octets)> {
     frames
 }
 
-/// A thousand frames arrive while two other queues send. Each comes out of a ring of eight, in order, and goes out
-/// again.
-#[test]
-fn a_thousand_frames_go_through_a_ring_of_eight_beside_two_queues(rt: HostRuntime) {
-    let rt = &rt;
+/// A thousand frames go through beside two busy queues.
+fn go_through_beside_two(rt: &impl Hand) {
     let mut others = done(rt, Arena::new(rt.alloc(), 100, 4));
     let device = with_two_queues(rt, &mut others);
     let device = a_thousand_go_through(rt, device);
     let frames = apart(rt, device, others);
     went_out(rt, frames.as_slice(), 1000);
+}
+
+/// A thousand frames arrive while two other queues send. Each comes out of a ring of eight, in order, and goes out
+/// again.
+#[test]
+fn a_thousand_frames_go_through_a_ring_of_eight_beside_two_queues(rt: HostRuntime) {
+    go_through_beside_two(&rt);
 }

@@ -4,17 +4,11 @@ use crate::bench::{
     PLAIN, Why, close, count_calls, end, holds_bytes, in_hand, is_why, reason, set_up, stopped,
     untouched,
 };
-use crate::driver::free_blocks;
+use crate::driver::{come_home, free_blocks, refused_start};
 use crate::outcome::{Hand, done, fail, push, refused, same, same_bytes, same_pair, sees, some};
 use crate::rig::Rig;
 use nic_device::{Arena, Event, Octets, Port, Reply};
-use workers::{Direct, Nic, Packet, Pmd, Rest, Setup, StartRefused, pf_setup};
-
-/// Starts a driver with the blocks 0 to 319: rings of so many descriptors, and frames of so many bytes at most.
-fn start(rt: &impl Hand, direct: &mut Direct, size: u16, frame: u16) -> Result<Pmd, StartRefused> {
-    let arena = done(rt, Arena::new(rt.alloc(), 0, 320));
-    Pmd::start(rt.alloc(), direct, Port::Pf, 0, size, frame, arena)
-}
+use workers::{Direct, Nic, Packet, Pmd, Setup, pf_setup};
 
 /// A device and a driver of queue 0 for the longest frames.
 fn rig_for_long_frames(rt: &impl Hand) -> Rig {
@@ -23,7 +17,9 @@ fn rig_for_long_frames(rt: &impl Hand) -> Rig {
         ..PLAIN
     };
     let mut direct = set_up(rt, 64, 0, &setup);
-    let pmd = done(rt, start(rt, &mut direct, 256, 9728));
+    let arena = done(rt, Arena::new(rt.alloc(), 0, 320));
+    let start = Pmd::start(rt.alloc(), &mut direct, Port::Pf, 0, 256, 9728, arena);
+    let pmd = done(rt, start);
     Rig { direct, pmd }
 }
 
@@ -127,21 +123,12 @@ fn a_packet_of_5_000_bytes_is_filled_and_sent(rt: HostRuntime) {
 /// Rings and frames that no driver has: how many descriptors, and how many bytes.
 const NO_SIZES: [(u16, u16); 3] = [(1032, 9728), (256, 9729), (256, 1517)];
 
-/// Why a start over this device is refused, where no block is lent.
-fn refused_start(rt: &impl Hand, direct: &mut Direct, size: u16, frame: u16) -> Why {
-    let StartRefused { fault, rest } = refused(rt, start(rt, direct, size, frame));
-    match rest {
-        Rest::Home(home) => same_pair(rt, close(rt, home), (0, 0)),
-        Rest::Running(_pmd) => fail(rt, "blocks are lent"),
-    }
-    reason(&fault)
-}
-
 /// A driver of this size for these frames makes no call.
 fn starts_nothing(rt: &impl Hand, size: u16, frame: u16) {
     let mut direct = untouched(rt, 64, 0);
-    let why = refused_start(rt, &mut direct, size, frame);
-    sees(rt, why == Why::BadSize);
+    let refusal = refused_start(rt, &mut direct, (size, frame), (0, 320));
+    let (why, is_lent) = come_home(rt, &mut direct, refusal);
+    sees(rt, why == Why::BadSize && !is_lent);
     made_no_call(rt, direct);
 }
 

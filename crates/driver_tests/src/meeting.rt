@@ -49,6 +49,26 @@ impl<'a, R: Wait> Task<bool> for Meet<'a, R> {
     }
 }
 
+/// How many tasks have no thread.
+fn count_missing(starts: &[Start]) -> u32 {
+    let mut missing: u32 = 0;
+    for start in starts {
+        if start.is_missing() {
+            missing = missing.saturating_add(1);
+        }
+    }
+    missing
+}
+
+/// A task has met the other.
+fn has_met<R: Hand>(rt: &R, seat: Seat<Meet<'_, R>, bool>) {
+    match seat {
+        Seat::Ended(met) => sees(rt, met),
+        Seat::Waits(Meet { rt: _, come: _ }) => fail(rt, "a task that wasn't done"),
+        Seat::Empty => fail(rt, "no end"),
+    }
+}
+
 #[test]
 fn two_tasks_meet(rt: HostRuntime) {
     let come = Mutex::new(0);
@@ -66,22 +86,12 @@ fn two_tasks_meet(rt: HostRuntime) {
     run(
         &rt,
         &starts,
-        &mut || {
-            for start in &starts {
-                if start.is_missing() {
-                    missing = missing.saturating_add(1);
-                }
-            }
-        },
+        &mut || missing = missing.saturating_add(count_missing(&starts)),
         &mut seats,
     );
-    for seat in seats {
-        match seat {
-            Seat::Ended(met) => sees(&rt, met),
-            Seat::Waits(Meet { rt: _, come: _ }) => fail(&rt, "a task that wasn't done"),
-            Seat::Empty => fail(&rt, "no end"),
-        }
-    }
+    let [first, second] = seats;
+    has_met(&rt, first);
+    has_met(&rt, second);
     same(&rt, missing as usize, 0);
 }
 

@@ -1,7 +1,7 @@
 //! Foreign events that are drawn at random, none of which touches queue 0 of a driver or its blocks.
 
 use crate::bench::frame_of;
-use crate::outcome::{Hand, done, push};
+use crate::outcome::{Hand, done, empty, push};
 use crate::schedule::Schedule;
 use nic_device::{Arena, Dir, Event, Group, Octets, Port};
 
@@ -130,9 +130,9 @@ impl Others {
 
     /// So many lists of up to five such events.
     pub fn lists(&mut self, rt: &impl Hand, count: usize) -> Schedule {
-        let mut schedule = Vec::new(rt.alloc());
+        let mut schedule = empty(rt);
         for _list in 0..count {
-            let mut list = Vec::new(rt.alloc());
+            let mut list = empty(rt);
             for _event in 0..self.random.byte() % 6 {
                 push(rt, &mut list, self.event(rt));
             }

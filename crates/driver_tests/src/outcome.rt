@@ -68,6 +68,11 @@ pub fn same_bytes(rt: &impl Abort, told: &[u8], wanted: &[u8]) {
     sees(rt, told == wanted);
 }
 
+/// A list of no items.
+pub fn empty<T>(rt: &impl Hand) -> Vec<T> {
+    Vec::new(rt.alloc())
+}
+
 /// Puts an item behind a list.
 pub fn push<T>(rt: &impl Abort, list: &mut Vec<T>, item: T) {
     done(rt, list.push(item));

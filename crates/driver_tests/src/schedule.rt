@@ -1,7 +1,7 @@
 //! Lists of foreign events for an `Interleaved`, what is left of them at its end, and blocks that come home.
 
 use crate::history::add_marked;
-use crate::outcome::{Hand, done, emptied, none, push, put, some};
+use crate::outcome::{Hand, done, emptied, empty, none, push, put, some};
 use nic_device::{Arena, Buf, Device, Dir, Event, LentMemory, Reply};
 use workers::{Entry, Finished, Interleaved};
 
@@ -58,7 +58,7 @@ pub struct Left {
 
 /// Ends an `Interleaved`, and lets its schedule and the foreign replies go.
 pub fn finish(rt: &impl Hand, nic: Interleaved) -> Left {
-    let (mut marks, mut history) = (Vec::new(rt.alloc()), Vec::new(rt.alloc()));
+    let (mut marks, mut history) = (empty(rt), empty(rt));
     done(rt, marks.extend_from_slice(nic.own()));
     let Finished {
         device,
@@ -72,7 +72,7 @@ pub fn finish(rt: &impl Hand, nic: Interleaved) -> Left {
         marks.as_slice(),
         done(rt, calls.into_vec(rt.alloc())),
     );
-    let mut bufs = Vec::new(rt.alloc());
+    let mut bufs = empty(rt);
     let foreign = replies.len();
     for _reply in 0..foreign {
         let_reply_go(rt, &mut bufs, some(rt, replies.pop()));
@@ -118,7 +118,7 @@ fn give_home(rt: &impl Hand, buf: Buf, arenas: &mut [Arena]) {
 
 /// Closes arenas, and answers those that refuse since blocks are away.
 fn not_whole(rt: &impl Hand, mut arenas: Vec<Arena>) -> Vec<Arena> {
-    let mut away = Vec::new(rt.alloc());
+    let mut away = empty(rt);
     for _arena in 0..arenas.len() {
         match some(rt, arenas.pop()).close() {
             Ok(()) => {}

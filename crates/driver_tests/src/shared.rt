@@ -67,9 +67,7 @@ fn counted(rt: &impl Hand, bench: Bench, passes: Vec<Pass>, tag: u8) -> (usize, 
 /// Closes a shared device to which no memory is lent, and from which no frame went out. Answers how many calls its
 /// history has.
 fn closed(rt: &impl Hand, bench: Bench, passes: Vec<Pass>) -> usize {
-    let closed = close(rt, bench, passes);
-    let made = closed.history().len();
-    same(rt, end(rt, closed.into_device()).len(), 0);
+    let (made, _own) = counted(rt, bench, passes, 0);
     made
 }
 
@@ -191,9 +189,8 @@ fn five_and_seven(rt: &impl Hand, bench: &Bench, pass: Pass) -> Pass {
     pass
 }
 
-#[test]
-fn a_call_is_behind_the_steps_of_its_queue(rt: HostRuntime) {
-    let rt = &rt;
+/// Calls by one pass are behind steps, until the history is full.
+fn call_behind_steps(rt: &impl Hand) {
     let (bench, mut passes) = shared(rt, 1, 1, 7);
     let pass = five_and_seven(rt, &bench, some(rt, passes.pop()));
     push(rt, &mut passes, pass);
@@ -201,8 +198,12 @@ fn a_call_is_behind_the_steps_of_its_queue(rt: HostRuntime) {
 }
 
 #[test]
-fn a_withheld_pass_is_missing(rt: HostRuntime) {
-    let rt = &rt;
+fn a_call_is_behind_the_steps_of_its_queue(rt: HostRuntime) {
+    call_behind_steps(&rt);
+}
+
+/// A shared device is closed without a pass, and then with it.
+fn withhold_a_pass(rt: &impl Hand) {
     let (bench, mut passes) = shared(rt, 1, 2, 100);
     let withheld = some(rt, passes.pop());
     let CloseRefused {
@@ -216,8 +217,12 @@ fn a_withheld_pass_is_missing(rt: HostRuntime) {
 }
 
 #[test]
-fn a_pass_of_another_bench_is_foreign(rt: HostRuntime) {
-    let rt = &rt;
+fn a_withheld_pass_is_missing(rt: HostRuntime) {
+    withhold_a_pass(&rt);
+}
+
+/// A pass of another bench is refused.
+fn call_by_a_foreign_pass(rt: &impl Hand) {
     let (bench, passes) = shared(rt, 1, 2, 100);
     let (other, mut others) = shared(rt, 2, 2, 100);
     let mut foreign = some(rt, others.pop());
@@ -226,6 +231,11 @@ fn a_pass_of_another_bench_is_foreign(rt: HostRuntime) {
     same(rt, closed(rt, bench, passes), 0);
     push(rt, &mut others, foreign);
     same(rt, closed(rt, other, others), 0);
+}
+
+#[test]
+fn a_pass_of_another_bench_is_foreign(rt: HostRuntime) {
+    call_by_a_foreign_pass(&rt);
 }
 
 /// Three steps of receiving by a pass, each of which finds nothing.
@@ -246,11 +256,15 @@ fn three_and_no_more(rt: &impl Hand, bench: &Bench, pass: Pass) -> Pass {
     pass
 }
 
-#[test]
-fn a_full_history_takes_no_call(rt: HostRuntime) {
-    let rt = &rt;
+/// A history of three calls takes no other.
+fn fill_a_history(rt: &impl Hand) {
     let (bench, mut passes) = shared(rt, 1, 1, 3);
     let pass = three_and_no_more(rt, &bench, some(rt, passes.pop()));
     push(rt, &mut passes, pass);
     same(rt, closed(rt, bench, passes), 3);
+}
+
+#[test]
+fn a_full_history_takes_no_call(rt: HostRuntime) {
+    fill_a_history(&rt);
 }

@@ -4,7 +4,7 @@
 use crate::bench::segment;
 use crate::hostile::offer;
 use crate::others::Random;
-use crate::outcome::{Hand, done, none, put, sees, some};
+use crate::outcome::{Hand, done, empty, none, put, sees, some};
 use crate::random::SEEDS;
 use crate::schedule::let_reply_go;
 use crate::stranger::reply;
@@ -161,7 +161,7 @@ impl Storm {
             drivers: [first, second],
             host,
             stranger,
-            bufs: Vec::new(rt.alloc()),
+            bufs: empty(rt),
         }
     }
 

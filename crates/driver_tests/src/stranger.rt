@@ -4,7 +4,7 @@
 use crate::bench::{is_done, word_in};
 use crate::hostile::WRITES;
 use crate::others::{Others, lend};
-use crate::outcome::{Hand, done, fail, sees};
+use crate::outcome::{Hand, done, empty, fail, sees};
 use crate::schedule::let_reply_go;
 use crate::team::{BLOCKS, Bench};
 use nic_device::{Arena, Buf, Event, Port, Reply};
@@ -48,7 +48,7 @@ impl Beside {
             how,
             others: Others::new(rt, seed),
             same: done(rt, Arena::new(rt.alloc(), 0, 2 * BLOCKS)),
-            bufs: Vec::new(rt.alloc()),
+            bufs: empty(rt),
         }
     }
 

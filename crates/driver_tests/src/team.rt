@@ -3,7 +3,7 @@
 
 use crate::bench::{count_calls, segment, taken_apart};
 use crate::hostile::stopped_again;
-use crate::outcome::{Hand, done, emptied, none, push, put, same, sees, some};
+use crate::outcome::{Hand, done, emptied, empty, none, push, put, same, sees, some};
 use crate::schedule::{all_home, take_all};
 use crate::stranger::Beside;
 use nic_device::{Arena, Buf, Device, Mode, Octets, Port, ReplyNote};
@@ -66,7 +66,7 @@ pub fn blocks_of(rt: &impl Hand, queue: u16) -> Arena {
 
 /// A job for each of two passes, on the queue of the pass's number.
 fn jobs(rt: &impl Hand, passes: Vec<Pass>, rounds: u32) -> Vec<Job> {
-    let mut jobs = Vec::new(rt.alloc());
+    let mut jobs = empty(rt);
     for pass in passes {
         let queue = u16::from(pass.tag() % 2);
         let job = Job {
@@ -94,7 +94,7 @@ fn work<G: Gate + Sync>(
     count: u8,
     ended: &AtomicU64,
 ) -> Ran {
-    let mut frames = Vec::new(rt.alloc());
+    let mut frames = empty(rt);
     for number in 0..count {
         push(rt, &mut frames, segment(rt, number));
     }
@@ -181,8 +181,8 @@ impl Ending {
         };
         Ending {
             came,
-            running: Vec::new(rt.alloc()),
-            arenas: Vec::new(rt.alloc()),
+            running: empty(rt),
+            arenas: empty(rt),
         }
     }
 
@@ -280,11 +280,19 @@ pub fn sent_in(rt: &impl Hand, history: &[Entry]) -> Sent {
     sent
 }
 
+/// A frame of this queue and length was told of.
+fn is_sent(rt: &impl Hand, told: Option<&(u16, usize)>, queue: u16, len: usize) {
+    let (of, bytes) = some(rt, told);
+    sees(rt, *of == queue && *bytes == len);
+}
+
 /// The frames out are those that were told of, in order.
 fn are_sent(rt: &impl Hand, sent: &Sent, frames: &[(u8, Octets)]) {
-    sees(rt, sent.len() == frames.len());
-    for (told, (queue, bytes)) in sent.iter().zip(frames.iter()) {
-        sees(rt, *told == (u16::from(*queue), bytes.bytes().len()));
+    same(rt, sent.len(), frames.len());
+    let mut number: usize = 0;
+    for (queue, bytes) in frames {
+        is_sent(rt, sent.get(number), u16::from(*queue), bytes.bytes().len());
+        number = number.saturating_add(1);
     }
 }
 

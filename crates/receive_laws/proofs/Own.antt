@@ -26,7 +26,6 @@ use Rattle.receive_laws.{proofs.Naming.name_keeps, proofs.Naming.tail_written, s
 use Rattle.receive_laws.{specs.Joint.IsSetUp, specs.Joint.Saw, specs.Steps.OwnEventKeeps, specs.Steps.TellsSlot}
 use Rattle.std.specs.FinMap as map
 use Rattle.nic_device.specs.declared.event.Event.TheVariants as event
-use Rattle.nic_device.specs.declared.event.Reply.TheVariants as reply
 
 -- the pieces that stand in slots fit, as all do, and the one behind those that were seen
 

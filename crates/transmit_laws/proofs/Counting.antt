@@ -1,8 +1,8 @@
 -- The frames that a history sends: how they are counted, and that its replies tell them.
 use Rattle.std.proofs.Common.{[], if◌then◌else◌, ◌++◌, ◌+◌, ◌==◌, ◌∙◌, ◌∷◌, ◌≡◌, ◌≤◌, Bool, List, None, Some, ap}
-use Rattle.std.proofs.Common.{append_assoc, arith, false, length, length-append, map, refl, sym, true, ℕ}
+use Rattle.std.proofs.Common.{append_assoc, arith, false, inl, inr, length, length-append, map, refl, sym, true, ℕ}
 use Rattle.std.proofs.lemmas.List.{append-nil, drop_at, map-append}
-use Rattle.std.{proofs.lemmas.Bool.eqb-true, specs.List.flat_map}
+use Rattle.std.{proofs.lemmas.Bool.cases_Bool, proofs.lemmas.Bool.eqb-true, specs.List.flat_map}
 use Rattle.history_laws.specs.Prelude.{Block, Entry, Event, IsEvent, IsSound, Reply, Sent, State, after, leads_to}
 use Rattle.history_laws.specs.Prelude.{reply_to}
 use Rattle.nic_device.proofs.{Answering.step_suits, Cases.either_way, Steps.keeps_sound}
@@ -59,24 +59,23 @@ last queue s sent g e h goes off =
 
 -- what is counted is an end of all
 
-end_by : (queue : ℕ) (t : State) (es : List Entry) (sent one : List (List ℕ)) (goes : Bool)
-    → ((before : List (List ℕ)) → IsEndOf (sent_since queue t before es) (before ++ sent_in queue t es))
-    → IsEndOf (sent_since queue t (if goes then [] else sent ++ one) es) (sent ++ (one ++ sent_in queue t es))
-end_by queue t es sent one true rest =
-    let more = rest [] in (
-      (sent ++ one) ++ more.0,
-      sym (append_assoc sent one (sent_in queue t es)) ∙ ap (λ (l : List (List ℕ)). (sent ++ one) ++ l) more.1
-          ∙ sym (append_assoc (sent ++ one) more.0 (sent_since queue t [] es)),
-    )
-end_by queue t es sent one false rest =
-    let more = rest (sent ++ one) in (more.0, sym (append_assoc sent one (sent_in queue t es)) ∙ more.1)
-
 end : (queue : ℕ) (s : State) (sent : List (List ℕ)) (h : List Entry)
     → IsEndOf (sent_since queue s sent h) (sent ++ sent_in queue s h)
 end queue s sent [] = ([], append-nil sent)
 end queue s sent (e ∷ es) =
-    end_by queue (after s e.event) es sent (sent_by queue s e.event) (goes_on queue s e.event)
-    (λ before. end queue (after s e.event) before es)
+    let t = after s e.event in
+    let one = sent_by queue s e.event in
+    let joins = sym (append_assoc sent one (sent_in queue t es)) in
+    elim (cases_Bool (goes_on queue s e.event)) [
+      | inl goes ↦
+          let more = end queue t [] es in
+          rw goes (
+            (sent ++ one) ++ more.0,
+            joins ∙ ap (λ (l : List (List ℕ)). (sent ++ one) ++ l) more.1
+                ∙ sym (append_assoc (sent ++ one) more.0 (sent_since queue t [] es)),
+          )
+      | inr stays ↦ let more = end queue t (sent ++ one) es in rw stays (more.0, joins ∙ more.1)
+    ]
 
 -- an entry sends one frame at most
 
@@ -93,18 +92,18 @@ few_by queue s (event.TxStep on) =
     (omega arith)
 few_by queue s other = omega arith
 
-few_counted : (queue : ℕ) (s : State) (e : Event Block) (sent : List (List ℕ)) (goes : Bool)
-    → length (if goes then [] else sent ++ sent_by queue s e) ≤ length sent + 1
-few_counted queue s e sent true = omega arith
-few_counted queue s e sent false = omega (arith, length-append sent (sent_by queue s e), few_by queue s e)
+few_counted : (queue : ℕ) (s : State) (e : Event Block) (sent : List (List ℕ))
+    → length (counted_by queue s e sent) ≤ length sent + 1
+few_counted queue s e sent =
+    either_way (λ (l : List (List ℕ)). length l ≤ length sent + 1) (goes_on queue s e) [] (sent ++ sent_by queue s e)
+    (omega arith) (omega (arith, length-append sent (sent_by queue s e), few_by queue s e))
 
 few : (queue : ℕ) (s : State) (sent : List (List ℕ)) (h : List Entry)
     → length (sent_since queue s sent h) ≤ length sent + length h
 few queue s sent [] = omega arith
 few queue s sent (e ∷ es) =
     let rest = few queue (after s e.event) (counted_by queue s e.event sent) es in
-    let one = few_counted queue s e.event sent (goes_on queue s e.event) in
-    omega (arith, rest, one)
+    omega (arith, rest, few_counted queue s e.event sent)
 
 pub sent_is_counted : SentIsCounted
 sent_is_counted = record { never = never; last = last; joined = joined; end = end; few = few }

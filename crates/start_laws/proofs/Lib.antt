@@ -18,6 +18,8 @@ pub mod On
 pub mod Parts
 pub mod Points
 pub mod Prelude
+pub mod QueueIn
+pub mod Quieting
 pub mod Reached
 pub mod Rising
 pub mod Settled

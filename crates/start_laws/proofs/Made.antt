@@ -1,7 +1,8 @@
 -- The calls that a driver's accesses add, and what they lead to over a history.
 use Rattle.std.proofs.Common.{[], ◌++◌, ◌∙◌, ◌∷◌, ◌≡◌, ◌≢◌, Bool, List, append_assoc, not, refl, subst, suc, sym, zero}
-use Rattle.std.proofs.Common.{ℕ}
+use Rattle.std.proofs.Common.{ap, ℕ}
 use Rattle.std.specs.Prelude.{IsFalse}
+use Rattle.std.proofs.lemmas.List.{append-nil}
 use Rattle.start_laws.specs.Prelude.{Access, AreMade, AreSteps, AtPort, Blocks, Call, Dir, Entry, IsMade, IsNumberOf}
 use Rattle.start_laws.specs.Prelude.{RowId, Sees, Sets, State, Watched, after, call_of, enable_row, has_bit, is_step}
 use Rattle.start_laws.specs.Prelude.{lent_by, missed, polled}
@@ -75,6 +76,17 @@ module _ (q : AtPort) where
 
   pub first_made : (a : Access) (rest : List Access) (old new : List Call) → AreMade q old new (a ∷ rest) → new ≢ []
   first_made a rest old new (mid, here, more) = some_made rest mid new more (made_some old mid a here)
+
+  pub extends : (all : List Access) (old new : List Call) → AreMade q old new all
+      → (more : List Call) × (new ≡ old ++ more)
+  extends [] old new made = ([], made ∙ sym (append-nil old))
+  extends (a ∷ rest) old new (mid, here, more) =
+      let later = extends rest mid new more in
+      let x = made_by (λ c. IsFalse (is_step c.event)) a (no_step a) old mid here in
+      let own : List Call = x.before ++ x.call ∷ [] in (
+        own ++ later.0,
+        later.1 ∙ ap (λ (xs : List Call). xs ++ later.0) x.added ∙ append_assoc old own later.0,
+      )
 
   module _ (w : Watched) (origin : State) (h : List Entry) (P : State → Type 0) where
     -- what holds just before the next call holds just before an access that is made

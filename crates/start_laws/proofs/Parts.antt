@@ -137,3 +137,7 @@ one_begins (x ∷ xs) ys (z ∷ zs) ws is =
       | inl (back, both) ↦ inl (back, λ i. first i ∷ both i)
       | inr (back, both) ↦ inr (back, λ i. sym first i ∷ both i)
     ]
+
+pub none_behind : (xs ys : List Call) → xs ++ ys ≡ xs → ys ≡ []
+none_behind [] ys is = is
+none_behind (x ∷ xs) ys is = none_behind xs ys (cc)

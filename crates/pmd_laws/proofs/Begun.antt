@@ -9,8 +9,6 @@ use Rattle.pmd_laws.proofs.Prelude.{[], ◌++◌, ◌+◌, ◌<◌, ◌∙◌, �
     is_free-with_free_other, is_free-with_free_same, is_own, is_own-of_free, is_ring_block, or_cases, or_left, or_right,
     receiving_apart, refl, ring_block_among, ring_block_is, ring_block_out, ring_blocks, subst, sym, times_among,
     times_in_hand, times_rest, true, with_free}
-use Rattle.pmd.specs.PmdRx.Receive as receive
-use Rattle.pmd.specs.PmdTx.Sending as transmit
 
 -- blocks that were drawn from an arena were free there, and aren't any more
 

@@ -12,7 +12,7 @@ use Rattle.pmd_laws.proofs.Prelude.{[], ◌&&◌, ◌++◌, ◌∙◌, ◌∷◌
     MayAsk, NeverLived, None, Numbers, Off, Option, PmdFault, PreparingFails, Receive, Rest, Rx, Rxdctl, Some,
     StartRefused, State, StopsStarting, Tx, Txdctl, ℕ, after, and_parts, ap, append-nil, append_assoc,
     append_cancel_left, bytes_of, call_in, calls_joined, calls_of, calls_own, cond, delivered, either_way, eq-eqb,
-    false, has_bit, inl, inr, is_size, leads_to, most_blocks, refl, ring_blocks, sent_by, sent_in, sent_since, sized,
+    false, has_bit, inl, inr, is_size, leads_to, most_blocks, refl, ring_blocks, sent_by, sent_in, sent_since,
     start_gate, subst, sym, then_made, true}
 use Rattle.pmd_laws.proofs.StopCalls.{stopped_ends}
 use Rattle.nic_device.specs.declared.event.Event.TheVariants as event

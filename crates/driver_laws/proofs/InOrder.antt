@@ -17,8 +17,8 @@ use Rattle.pmd.specs.PmdSeam.Packet.{Kept}
 use Rattle.receive_laws.proofs.Delivering.{between, grows, lent_behind, pieces-append, since-append}
 use Rattle.receive_laws.proofs.HistoryLaws.Alone.{alone_by_entries}
 use Rattle.receive_laws.proofs.HistoryLaws.Steady.{not_again}
-use Rattle.receive_laws.proofs.Mine.{LendsMine}
-use Rattle.receive_laws.proofs.Prefix.{all_taken, drained, handed_first}
+use Rattle.receive_laws.proofs.Lent.{LendsMine}
+use Rattle.receive_laws.proofs.Delivering.{all_taken, drained, handed_first}
 use Rattle.receive_laws.specs.Delivered as receive
 use Rattle.receive_laws.specs.Delivered.{IsPrefixOf}
 use Rattle.receive_laws.specs.HistoryLaws.Alone.{AllAlone}

@@ -1,14 +1,8 @@
-pub mod Before
 pub mod Beside
-pub mod Earlier
-pub mod Enabling
-pub mod Faults
 pub mod Fitting
 pub mod Healthy
 pub mod InOrder
-pub mod LeadsApart
 pub mod Lending
 pub mod Meeting
 pub mod Retold
 pub mod Sending
-pub mod Waiting

@@ -20,24 +20,24 @@ use Rattle.receive_laws.proofs.Delivering.{vfs_stays}
 use Rattle.receive_laws.proofs.DeviceLaws.KeptSettings.{settings_stand}
 use Rattle.receive_laws.proofs.DeviceLaws.Standing.{stays_within}
 use Rattle.receive_laws.proofs.DeviceLaws.StandingAccesses.{write_memory, write_rest}
-use Rattle.receive_laws.proofs.Each.{each_of}
+use Rattle.receive_laws.proofs.Kept.{each_of}
 use Rattle.receive_laws.proofs.Foreign.{left_keeps}
-use Rattle.receive_laws.proofs.HistoryLaws.Asking.{asked}
-use Rattle.receive_laws.proofs.HistoryLaws.SideNames.{plain-write}
-use Rattle.receive_laws.proofs.HistoryLaws.Sound.{histories_sound}
+use Rattle.receive_laws.proofs.HistoryLaws.Steady.{asked}
+use Rattle.receive_laws.proofs.HistoryLaws.Leaving.{plain-write}
+use Rattle.receive_laws.proofs.HistoryLaws.Alone.{histories_sound}
 use Rattle.receive_laws.proofs.Leaving.{leaving_keeps, switching_keeps}
-use Rattle.receive_laws.proofs.Mine.{LendsMine, mine_driven}
+use Rattle.receive_laws.proofs.Lent.{LendsMine, mine_driven}
 use Rattle.receive_laws.proofs.Own.{own_keeps}
-use Rattle.receive_laws.proofs.Up.{alone_stays_up, left_up, own_stays_up}
+use Rattle.receive_laws.proofs.Foreign.{alone_stays_up, left_up, own_stays_up}
 use Rattle.receive_laws.specs.HistoryLaws.Left.{IsLeft}
 use Rattle.receive_laws.specs.HistoryLaws.Sides.{Side}
 use Rattle.receive_laws.specs.Up as received
-use Rattle.transmit_laws.proofs.Enable.{enable_words_keep as transmit_word_keeps}
-use Rattle.transmit_laws.proofs.LeftBlocks.{left_alone_is_spared}
-use Rattle.transmit_laws.proofs.Mine.{mine-moved}
+use Rattle.transmit_laws.proofs.Off.{enable_words_keep as transmit_word_keeps}
+use Rattle.transmit_laws.proofs.Runs.{left_alone_is_spared}
+use Rattle.transmit_laws.proofs.Lent.{mine-moved}
 use Rattle.transmit_laws.proofs.Playing.{moves_keep}
 use Rattle.transmit_laws.proofs.Sparing.{sparing_events_keep}
-use Rattle.transmit_laws.proofs.Up.{up_stays}
+use Rattle.transmit_laws.proofs.Playing.{up_stays}
 use Rattle.transmit_laws.specs.Agreeing.{Agrees}
 use Rattle.transmit_laws.specs.Sparing.{Spares}
 use Rattle.transmit_laws.specs.Turns.{MayMove}

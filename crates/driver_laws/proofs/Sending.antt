@@ -29,12 +29,12 @@ use Rattle.receive_laws.proofs.DeviceLaws.RepliesSent.{transmitting_tells}
 use Rattle.receive_laws.proofs.DeviceLaws.Standing.{memory_blocks, memory_rest, stays_within}
 use Rattle.receive_laws.proofs.DeviceLaws.StandingAccesses.{write_memory, write_rest}
 use Rattle.receive_laws.proofs.DeviceLaws.StandingQueues.{receiving_rest}
-use Rattle.receive_laws.proofs.Each.{each_map, each_posted}
+use Rattle.receive_laws.proofs.Kept.{each_map, each_posted}
 use Rattle.receive_laws.proofs.HistoryLaws.Blocks.{clear_outside}
-use Rattle.receive_laws.proofs.HistoryLaws.Reported.{reported}
-use Rattle.receive_laws.proofs.HistoryLaws.SideNames.{plain-write}
-use Rattle.receive_laws.proofs.HistoryLaws.Spared.{IsSparedBy, spared_block}
-use Rattle.receive_laws.proofs.Inside.{piece_inside}
+use Rattle.receive_laws.proofs.HistoryLaws.Blocks.{reported}
+use Rattle.receive_laws.proofs.HistoryLaws.Leaving.{plain-write}
+use Rattle.receive_laws.proofs.HistoryLaws.Blocks.{IsSparedBy, spared_block}
+use Rattle.receive_laws.proofs.Foreign.{piece_inside}
 use Rattle.receive_laws.proofs.Kept.{slot_below}
 use Rattle.receive_laws.proofs.Parts.{seen_within}
 use Rattle.receive_laws.specs.DeviceLaws.Leaving.{LeavesReceive, LeavesTransmit}
@@ -44,8 +44,8 @@ use Rattle.receive_laws.specs.Steps.{Each, IsOutside, Leaves, OwnReportsSpare}
 use Rattle.transmit_laws.proofs.Advancing.{setting_kept}
 use Rattle.transmit_laws.proofs.Blocks.{has_lent-ring, has_lent-segment}
 use Rattle.transmit_laws.proofs.Fetching.{length-asking}
-use Rattle.transmit_laws.proofs.Slots.{slot-below}
-use Rattle.transmit_laws.proofs.Stepping.{head_is}
+use Rattle.transmit_laws.proofs.Blocks.{slot-below}
+use Rattle.transmit_laws.proofs.Fetching.{head_is}
 use Rattle.transmit_laws.specs.Agreeing.{AgreesAt}
 use Rattle.transmit_laws.specs.Sparing.{Spares}
 use Rattle.driver_laws.proofs.Lending.{each_both, lend_leaves}

@@ -1,7 +1,7 @@
 -- A call of a driver that looks last and finds no packet whole, or the oldest outstanding one not done, within a longer
 -- history.
-use Rattle.driver_laws.proofs.Earlier.{none_is_all_before}
-use Rattle.driver_laws.proofs.Waiting.{waiting_is_not_all}
+use Rattle.driver_laws.proofs.InOrder.{none_is_all_before}
+use Rattle.driver_laws.proofs.InOrder.{waiting_is_not_all}
 use Rattle.pmd_laws.specs.Looks.{EndsAt, LooksInVain, NoneIsAllAtFirst, NoneIsAllBefore}
 use Rattle.pmd_laws.proofs.Order.{Later, early_parts, late_parts, life_early, life_then, none_of_life, parts_join}
 use Rattle.pmd_laws.proofs.Prelude.{[], ◌++◌, ◌∙◌, ◌∷◌, ◌≡◌, Adds, Block, Call, Drives, Entry, Event, FindsNone,

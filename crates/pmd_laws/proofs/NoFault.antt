@@ -2,7 +2,7 @@
 -- its whole life; nor does a burst meet it at fault, whatever it answers.
 use Rattle.pmd.proofs.PmdSeam.Steps.{steps_both, steps_last}
 use Rattle.pmd.specs.Halves.{OthersStep}
-use Rattle.driver_laws.proofs.Faults.{no_fault}
+use Rattle.driver_laws.proofs.Healthy.{no_fault}
 use Rattle.driver_laws.specs.Faults.{doers_of}
 use Rattle.pmd_laws.specs.Told.{now}
 use Rattle.pmd_laws.proofs.Begun.{first_halves}

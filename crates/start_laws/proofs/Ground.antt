@@ -24,7 +24,7 @@ use Rattle.pmd.specs.PmdSeam.Named.{offset_of, queues_named}
 use Rattle.pmd.specs.Started.{has_room}
 use Rattle.receive_laws.proofs.DeviceLaws.KeptSettings.{settings_stand}
 use Rattle.receive_laws.proofs.DeviceLaws.Standing.{stays_within}
-use Rattle.receive_laws.proofs.HistoryLaws.Asking.{told_on}
+use Rattle.receive_laws.proofs.HistoryLaws.Steady.{told_on}
 use Rattle.receive_laws.proofs.HistoryLaws.Deeds.{left_did}
 use Rattle.receive_laws.specs.DeviceLaws.Laws.{WritesNoSetting}
 use Rattle.start_laws.specs.Gate.{NamedQueuesPass}

@@ -15,8 +15,8 @@ use Rattle.nic_device.specs.RegisterFile.Owner.{owner_of}
 use Rattle.nic_device.specs.RegisterFile.declared.owner.Owner.TheVariants as owner
 use Rattle.nic_device.specs.declared.event.Event.TheVariants as event
 use Rattle.receive_laws.proofs.DeviceLaws.StandingAccesses.{write_rest}
-use Rattle.receive_laws.proofs.HistoryLaws.Asking.{asked}
-use Rattle.receive_laws.proofs.HistoryLaws.Sides.{transmit_left}
+use Rattle.receive_laws.proofs.HistoryLaws.Steady.{asked}
+use Rattle.receive_laws.proofs.HistoryLaws.Leaving.{transmit_left}
 use Rattle.receive_laws.proofs.HistoryLaws.Steady.{IsIdle, idle_steady, none_staged}
 use Rattle.transmit_laws.specs.Sent.{sent_in}
 use Rattle.start_laws.specs.Laid.{Empty, Headed, Laid, LaidQueueIsSilent, Lays, LaysOn, MayAsk, MayLay, MayRing, Off}

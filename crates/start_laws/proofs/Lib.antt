@@ -2,32 +2,21 @@ pub use Rattle.device_lock.proofs.Histories
 pub use Rattle.receive_laws.proofs.HistoryLaws
 pub use Rattle.receive_laws.proofs as ReceiveLaws
 pub use Rattle.transmit_laws.proofs as TransmitLaws
-pub mod AccessCalls
 pub mod AllAre
-pub mod DrivenAccesses
-pub mod DrivenRows
 pub mod Ending
 pub mod Filling
-pub mod First
 pub mod Ground
 pub mod Laid
-pub mod Lent
 pub mod Made
-pub mod Numbers
 pub mod On
 pub mod Parts
 pub mod Points
 pub mod Prelude
-pub mod QueueIn
-pub mod Quieting
 pub mod Reached
-pub mod Rising
-pub mod Settled
 pub mod Silent
 pub mod Standing
 pub mod Start
 pub mod StopCalls
-pub mod Stopping
 pub mod SwitchedOff
 pub mod Switching
 pub mod TimedOut

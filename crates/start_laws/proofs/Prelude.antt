@@ -1,5 +1,5 @@
 -- The definitions of these laws that their proofs cite most, passed on from one place. Declares nothing.
-pub use Rattle.receive_laws.proofs.Histories.{calls_other, calls_own}
+pub use Rattle.receive_laws.proofs.Delivering.{calls_other, calls_own}
 pub use Rattle.receive_laws.proofs.HistoryLaws.Deeds.{left_deed}
 pub use Rattle.receive_laws.proofs.HistoryLaws.Steady.{idle_silent, steady_kept}
 pub use Rattle.start_laws.specs.Along.{AtCalls, AtEntries, BeforeLast, IsAlong, IsKept, Leads}

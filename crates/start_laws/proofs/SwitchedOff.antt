@@ -14,15 +14,13 @@ use Rattle.device_lock.specs.Alone.{WritesOutside}
 use Rattle.nic_device.specs.declared.event.Event.TheVariants as event
 use Rattle.nic_device.specs.declared.event.Reply.TheVariants.{Advanced, Sent, Wrote}
 use Rattle.pmd.proofs.PmdSeam.QueueSequences.{both_made}
-use Rattle.receive_laws.proofs.Clear.{no_registers}
+use Rattle.receive_laws.proofs.Foreign.{no_registers}
 use Rattle.receive_laws.proofs.DeviceLaws.Standing.{memory_rest}
 use Rattle.receive_laws.proofs.DeviceLaws.StandingAccesses.{read_rest}
 use Rattle.receive_laws.proofs.Fitting.{none_begun_while_off}
-use Rattle.receive_laws.proofs.HistoryLaws.Asking as asking
-use Rattle.receive_laws.proofs.HistoryLaws.Asking.{asked, seen_off}
-use Rattle.receive_laws.proofs.HistoryLaws.Sides.{queues_left}
+use Rattle.receive_laws.proofs.HistoryLaws.Leaving.{queues_left}
 use Rattle.receive_laws.proofs.HistoryLaws.Steady as steady
-use Rattle.receive_laws.proofs.HistoryLaws.Steady.{IsSteady, deed_settles, off_steady, unwanted_steady}
+use Rattle.receive_laws.proofs.HistoryLaws.Steady.{IsSteady, asked, deed_settles, off_steady, seen_off, unwanted_steady}
 use Rattle.receive_laws.specs.HistoryLaws.Left.{Deed}
 use Rattle.receive_laws.specs.HistoryLaws.Sides.{IsOff, IsUnwanted}
 use Rattle.start_laws.specs.Quiet.{OffSidesStand, ReceiveGuardIsOff}
@@ -53,7 +51,7 @@ pub word_settles : (dir : Dir) (queue : ℕ) (q : AtPort) (frame : ℕ) (s : Sta
     → IsNumberOf q.port (enable_row side) q.queue number → IsSettled dir queue s
     → Settles dir queue s (after s (event.Write q.port number word))
 word_settles dir queue q frame s number word met none g side named is =
-    asking.word_settles queue s met.sound met.small q.port number word side dir
+    steady.word_settles queue s met.sound met.small q.port number word side dir
     (ground_names queue q frame s g (enable_row side) number (side_driven side) named) none is
 
 -- a step of the device leaves each queue alone
@@ -94,7 +92,7 @@ module _ (dir : Dir) (P : Side → Type 0) (R : Side → Side → Type 0) (same 
       → IsNumberOf q.port (enable_row side) q.queue number → Does (event.Write q.port number word)
   write_does number word none side named =
       let names = ground_names queue q frame s g (enable_row side) number (side_driven side) named in
-      elim (asking.asked_or_left queue s met.sound met.small q.port number word side dir names) [
+      elim (steady.asked_or_left queue s met.sound met.small q.port number word side dir names) [
         | inl is ↦ asks _ _ (has_bit 25 word) is none p
         | inr left ↦ same _ _ left p
       ]

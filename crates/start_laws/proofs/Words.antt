@@ -32,9 +32,9 @@ use Rattle.nic_device.specs.declared.event.Reply.TheVariants.{Done}
 use Rattle.receive_laws.proofs.DeviceLaws.KeptSettings.{settings_stand}
 use Rattle.receive_laws.proofs.DeviceLaws.Standing.{stays_within}
 use Rattle.receive_laws.proofs.DeviceLaws.StandingAccesses.{write_memory, write_rest}
-use Rattle.receive_laws.proofs.HistoryLaws.SideNames.{plain-write}
-use Rattle.receive_laws.proofs.HistoryLaws.Sides.{receive_left, transmit_left}
-use Rattle.receive_laws.proofs.HistoryLaws.Tails.{receive-tail, transmit-tail}
+use Rattle.receive_laws.proofs.HistoryLaws.Leaving.{plain-write}
+use Rattle.receive_laws.proofs.HistoryLaws.Leaving.{receive_left, transmit_left}
+use Rattle.receive_laws.proofs.HistoryLaws.Written.{receive-tail, transmit-tail}
 use Rattle.receive_laws.proofs.HistoryLaws.Written.{merged_all, merged_low}
 use Rattle.receive_laws.specs.DeviceLaws.Laws.{WritesNoSetting}
 use Rattle.receive_laws.specs.HistoryLaws.Sides.{LeavesSide, receive_side, transmit_side}

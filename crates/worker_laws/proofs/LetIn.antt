@@ -17,7 +17,7 @@ use Rattle.workers.specs.Fitting.{let_in_by, longest_behind, longest_let_in}
 use Rattle.pmd_laws.proofs.Prelude.{[], ◌+◌, ◌∷◌, ◌≡◌, ◌≤◌, All, Block, Entry, Err, Event, FitsBlocks, IsLegal, List,
     Ok, Reply, Rx, State, Waiting, ℕ, after, arith, either_way, has_queue, leads_to, legal_before, length, max, mode_in,
     most_blocks, nat_lt, new_state, refl, subst, sym}
-use Rattle.pmd_laws.proofs.StartLaws.HistoryLaws.Waits.{waiting_changed}
+use Rattle.pmd_laws.proofs.StartLaws.HistoryLaws.Lent.{waiting_changed}
 use Rattle.worker_laws.specs.Fitting.{AllFitBlocks, FramesFitIsShort}
 use Rattle.worker_laws.proofs.FirstCalls.{holds_at_first}
 use Rattle.nic_device.specs.declared.event.Event.TheVariants as event

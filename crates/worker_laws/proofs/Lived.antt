@@ -9,7 +9,7 @@ use Rattle.pmd_laws.proofs.Prelude.{[], ◌++◌, ◌∙◌, ◌∷◌, ◌≡�
     true}
 use Rattle.pmd_laws.proofs.Shifted.{paired, prepared_shift, switched_shift}
 use Rattle.pmd_laws.proofs.StartLaws.Histories.{leads-append}
-use Rattle.pmd_laws.proofs.StartLaws.Quieting.{quieting_leads}
+use Rattle.pmd_laws.proofs.StartLaws.SwitchedOff.{quieting_leads}
 use Rattle.pmd_laws.proofs.StopCalls.{stopped_ends}
 use Rattle.worker_laws.specs.Points.{JustBefore}
 use Rattle.worker_laws.proofs.Counted.{delivered_from, sent_from}

@@ -41,10 +41,10 @@ use Rattle.pmd_laws.proofs.StartLaws.Histories.{leads-append}
 use Rattle.pmd_laws.proofs.StartLaws.HistoryLaws.Deeds.{side_did}
 use Rattle.pmd_laws.proofs.StartLaws.HistoryLaws.DeviceLaws.PoolResets.{asked_pool_resets}
 use Rattle.pmd_laws.proofs.StartLaws.HistoryLaws.Limits.{settings_told}
-use Rattle.pmd_laws.proofs.StartLaws.HistoryLaws.Naming.{place_in, place_named}
-use Rattle.pmd_laws.proofs.StartLaws.HistoryLaws.Sound.{histories_sound}
+use Rattle.pmd_laws.proofs.StartLaws.HistoryLaws.Written.{place_in, place_named}
+use Rattle.pmd_laws.proofs.StartLaws.HistoryLaws.Alone.{histories_sound}
 use Rattle.pmd_laws.proofs.StartLaws.HistoryLaws.Steady.{off_steady, steady_kept}
-use Rattle.pmd_laws.proofs.StartLaws.QueueIn.{is_in, some_where}
+use Rattle.pmd_laws.proofs.StartLaws.Ground.{is_in, some_where}
 use Rattle.worker_laws.specs.Quiet.{NeverAskedIsQuiet}
 use Rattle.nic_device.specs.declared.event.Event.TheVariants as event
 use Rattle.workers.specs.Queues as told

@@ -147,7 +147,6 @@ harmless_leave_alone w mine s doers (e ∷ es) harmless =
 
 -- calls that lead both halves on, and lend as a driver's own do
 
-
 -- the halves were led on so
 pub record LeadsApart (own : Blocks) (old : List Call) (h : Halves) (new : List Call) (k : Halves) : Type 0 where
   pub leads : Leads old h new k

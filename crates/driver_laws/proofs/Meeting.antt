@@ -117,7 +117,6 @@ module _ {w : Watched} {mine : Blocks} {s : State} {out : List Piece} {sent : Li
 
 -- one entry
 
-
 -- a move is an event that writes no piece
 no_pieces : (queue : ℕ) (s : State) (h : Halves) (m : Move) (e : Event Block) → is_elsewhere m ≡ false
     → sending.IsOwn h.transmit m e → pieces queue s e ≡ []

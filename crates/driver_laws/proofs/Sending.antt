@@ -226,7 +226,6 @@ module _ (s : State) (queue : ℕ) (sent : List (List ℕ)) (u : Sender) (f : �
 -- steps of the device on the driver's own queue: one of receiving writes into blocks that the receive half has lent,
 -- and what one of transmitting reports goes into the transmit ring's blocks
 
-
 module _ (queue : ℕ) (mine : Blocks) (s : State) (sound : IsSound s) (out : List Piece) (v : Receive)
     (j : Agree queue s out v) (outside : WritesOutside queue mine (reply_to s event.RxStep)) where
   -- what is received is outside a block of the other half's

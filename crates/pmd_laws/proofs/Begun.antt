@@ -2,13 +2,15 @@
 -- from there on.
 use Rattle.start_laws.specs.ReceiveLaws.Steps.{Each}
 use Rattle.driver_laws.specs.Healthy.{lent_by}
-use Rattle.pmd_laws.proofs.Prelude.{[], ◌++◌, ◌+◌, ◌<◌, ◌∙◌, ◌∷◌, ◌≡◌, ◌≢◌, AreApart, AreLent, AreOn, AtPort, Blocks,
-    Call, DrivesApart, EachRingBlock, Halves, IsDrawn, IsReceiveReady, IsTransmitReady, IsTrue, List, Lives, MayLend,
-    Numbers, OwnsSame, Receive, Receives, Running, Sender, ℕ, all_drawn, all_exchanged, apart_on, arith, both_ways,
-    cases_eq, each_ring_block, false, false_from_ne_true, first_of, free_before, halves_of, has_lent, inl, inr, is_free,
-    is_free-with_free_other, is_free-with_free_same, is_own, is_own-of_free, is_ring_block, or_cases, or_left, or_right,
-    receiving_apart, refl, ring_block_among, ring_block_is, ring_block_out, ring_blocks, subst, sym, times_among,
-    times_in_hand, times_rest, true, with_free}
+use Rattle.pmd_laws.proofs.Prelude.{[], ◌++◌, ◌+◌, ◌<◌, ◌∙◌, ◌∷◌, ◌≡◌, ◌≢◌, AreApart, AreLent, AreOn, AtPort, Blocks}
+use Rattle.pmd_laws.proofs.Prelude.{Call, DrivesApart, EachRingBlock, Halves, IsDrawn, IsReceiveReady, IsTransmitReady}
+use Rattle.pmd_laws.proofs.Prelude.{IsTrue, List, Lives, MayLend, Numbers, OwnsSame, Receive, Receives, Running, Sender}
+use Rattle.pmd_laws.proofs.Prelude.{ℕ, all_drawn, all_exchanged, apart_on, arith, both_ways, cases_eq, each_ring_block}
+use Rattle.pmd_laws.proofs.Prelude.{false, false_from_ne_true, first_of, free_before, halves_of, has_lent, inl, inr}
+use Rattle.pmd_laws.proofs.Prelude.{is_free, is_free-with_free_other, is_free-with_free_same, is_own, is_own-of_free}
+use Rattle.pmd_laws.proofs.Prelude.{is_ring_block, or_cases, or_left, or_right, receiving_apart, refl, ring_block_among}
+use Rattle.pmd_laws.proofs.Prelude.{ring_block_is, ring_block_out, ring_blocks, subst, sym, times_among, times_in_hand}
+use Rattle.pmd_laws.proofs.Prelude.{times_rest, true, with_free}
 
 -- blocks that were drawn from an arena were free there, and aren't any more
 

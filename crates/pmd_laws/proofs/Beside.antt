@@ -1,8 +1,10 @@
 -- A driver beside any calls of its author's is told by its own calls alone, over the history as it is told anew.
-use Rattle.pmd_laws.proofs.Prelude.{[], ◌++◌, ◌∙◌, ◌∷◌, ◌≡◌, AllFollow, AllFollowBy, AtPort, BeforeLast, Beside, Call,
-    Down, DrivesRings, Drove, Entry, Follows, FollowsBy, HasGround, IsAlong, IsLife, IsRetold, IsToldAnew, IsToldBeside,
-    IsToldBy, IsToldOf, List, Moment, Numbers, Rings, Running, State, Told, Up, Watched, WhereUp, ℕ, ap, append-nil,
-    append_cancel_left, by_own, events_same, halves_of, inl, inr, last, legal_same, now, subst, sym}
+use Rattle.pmd_laws.proofs.Prelude.{[], ◌++◌, ◌∙◌, ◌∷◌, ◌≡◌, AllFollow, AllFollowBy, AtPort, BeforeLast, Beside, Call}
+use Rattle.pmd_laws.proofs.Prelude.{Down, DrivesRings, Drove, Entry, Follows, FollowsBy, HasGround, IsAlong, IsLife}
+use Rattle.pmd_laws.proofs.Prelude.{IsRetold, IsToldAnew, IsToldBeside, IsToldBy, IsToldOf, List, Moment, Numbers}
+use Rattle.pmd_laws.proofs.Prelude.{Rings, Running, State, Told, Up, Watched, WhereUp, ℕ, ap, append-nil}
+use Rattle.pmd_laws.proofs.Prelude.{append_cancel_left, by_own, events_same, halves_of, inl, inr, last, legal_same, now}
+use Rattle.pmd_laws.proofs.Prelude.{subst, sym}
 use Rattle.pmd_laws.proofs.Shifted.{Shifts, rings_shift, shifted, up_shift}
 use Rattle.pmd_laws.proofs.Told.{goes, life}
 use Rattle.pmd_laws.specs.Told as own
@@ -51,9 +53,12 @@ own_anew {old = old} {m = m} {later = later} {ahead = ahead} {own = own} x =
 -- the history is along, told anew
 pub retold_along : {w : Watched} {origin : State} {h g : List Entry} → IsRetold w origin h g → IsAlong w origin g
 retold_along {origin = origin} {h = h} {g = g} x = record {
-  small = x.small; sound = x.was.sound; vfs = x.vfs; alone = x.alone;
+  small = x.small;
+  sound = x.was.sound;
+  vfs = x.vfs;
+  alone = x.alone;
   events = events_same h g x.was.same x.was.events;
-  legal = legal_same origin h g x.was.same x.was.legal
+  legal = legal_same origin h g x.was.same x.was.legal;
 }
 
 -- and the driver is told there
@@ -68,9 +73,19 @@ module _ (x : Beside) where
 
   abbrev pub told : Told
   told = record {
-    w = x.w; origin = x.origin; h = x.g; q = x.q; size = x.size; frame = x.frame; old = x.ahead; a = x.a;
-    m = by_own (x.ahead ++ x.told.start) x.m; later = anew.others; along = retold_along x.retold; told = anew.told;
-    begins = record { ground = at_access (HasGround x.w.queue x.q x.frame) x.ground }
+    w = x.w;
+    origin = x.origin;
+    h = x.g;
+    q = x.q;
+    size = x.size;
+    frame = x.frame;
+    old = x.ahead;
+    a = x.a;
+    m = by_own (x.ahead ++ x.told.start) x.m;
+    later = anew.others;
+    along = retold_along x.retold;
+    told = anew.told;
+    begins = record { ground = at_access (HasGround x.w.queue x.q x.frame) x.ground };
   }
 
   pub same_rings : (now x).driver.rings ≡ (own.now told).driver.rings

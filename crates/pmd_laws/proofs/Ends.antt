@@ -2,10 +2,11 @@
 -- goes on.
 use Rattle.pmd_laws.specs.Silent.{SilentOverStop, SwitchesOff}
 use Rattle.pmd_laws.proofs.Order.{handed_of_life, sent_of_life}
-use Rattle.pmd_laws.proofs.Prelude.{◌++◌, ◌∙◌, ◌≡◌, AtPort, Call, Ended, Ends, EndsOnceOff, Halted, HandedOverStop,
-    IsAsking, IsEnding, IsOver, IsStopped, IsStopping, IsSwitched, LeftIsPrefix, Life, List, None, Option, PmdFault,
-    Rest, SentOverStop, Some, Up, ap, calls_joined, calls_of, closed, drives_lead, false, halted_of, halves_of, inl,
-    inr, none_made, refl, subst, sym}
+use Rattle.pmd_laws.proofs.Prelude.{◌++◌, ◌∙◌, ◌≡◌, AtPort, Call, Ended, Ends, EndsOnceOff, Halted, HandedOverStop}
+use Rattle.pmd_laws.proofs.Prelude.{IsAsking, IsEnding, IsOver, IsStopped, IsStopping, IsSwitched, LeftIsPrefix, Life}
+use Rattle.pmd_laws.proofs.Prelude.{List, None, Option, PmdFault, Rest, SentOverStop, Some, Up, ap, calls_joined}
+use Rattle.pmd_laws.proofs.Prelude.{calls_of, closed, drives_lead, false, halted_of, halves_of, inl, inr, none_made}
+use Rattle.pmd_laws.proofs.Prelude.{refl, subst, sym}
 use Rattle.pmd_laws.proofs.StopCalls.{amid_ends, first_made, first_takes, home_ends, stopped_ends, stopped_takes}
 use Rattle.pmd_laws.proofs.StopSent.{sent_over_stop, silent_off}
 use Rattle.pmd_laws.proofs.Stopped.{handed_over_stop}
@@ -14,12 +15,24 @@ use Rattle.pmd.specs.declared.start.Rest.TheVariants as rest
 -- it lived, up to where it was to stop
 abbrev life : Ended → Life
 life x = record {
-  w = x.w; origin = x.origin; h = x.h; q = x.q; size = x.size; frame = x.frame; old = x.old; a = x.a;
-  started = x.lived.lives.made; r = x.lived.lives.fresh; made = x.lived.made; k = halves_of x.lived.last;
+  w = x.w;
+  origin = x.origin;
+  h = x.h;
+  q = x.q;
+  size = x.size;
+  frame = x.frame;
+  old = x.old;
+  a = x.a;
+  started = x.lived.lives.made;
+  r = x.lived.lives.fresh;
+  made = x.lived.made;
+  k = halves_of x.lived.last;
   is = record {
-    along = x.along; up = x.lived.lives.up; begins = x.begins;
-    since = drives_lead _ _ _ _ x.lived.lives.drives.apart.drives
-  }
+    along = x.along;
+    up = x.lived.lives.up;
+    begins = x.begins;
+    since = drives_lead _ _ _ _ x.lived.lives.drives.apart.drives;
+  };
 }
 
 pub left_is_prefix : LeftIsPrefix
@@ -79,7 +92,10 @@ silent_over_stop x off done rest y stop all calls =
     sym y.calls ∙ sym (ap (calls_of x.w.pass) all) ∙ calls_joined x.w.pass done rest
     ∙ ap (λ (cs : List Call). cs ++ later) calls in
     let z : EndsOnceOff x.q made (here x y) = record {
-      mid = made; off = off; asks = none_made (IsAsking x.q) made made refl; switched = switched;
-      ends = first_made (IsEnding x.q) off (here x y) x.new later y.rest ends on y.all
+      mid = made;
+      off = off;
+      asks = none_made (IsAsking x.q) made made refl;
+      switched = switched;
+      ends = first_made (IsEnding x.q) off (here x y) x.new later y.rest ends on y.all;
     } in
     silent_off (life x) (here x y) (is_stopping x y) z done rest all calls

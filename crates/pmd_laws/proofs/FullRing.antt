@@ -5,11 +5,12 @@ use Rattle.pmd.specs.PmdTx.Sends.{IsFullWhereTold}
 use Rattle.pmd.specs.PmdTx.declared.answer.TxAnswer.TheVariants.{RingFull}
 use Rattle.start_laws.proofs.TransmitLaws.Packets.{length-segments}
 use Rattle.pmd_laws.specs.FullRing.{AcceptsNone, TellsFull, outstanding}
-use Rattle.pmd_laws.proofs.Prelude.{[], ◌+◌, ◌<◌, ◌∷◌, ◌≡◌, ◌≤◌, Accepts, Advances, AllOwn, AtPort, Block, Call, Doer,
-    Down, Drove, Err, Event, Halves, IfSome, IsOwn, IsTold, Leads, Lends, List, Looks, Moment, Move, None, Numbers, Ok,
-    Option, Packet, PmdFault, Reaps, Receives, Reply, Result, Rings, Running, Sender, Sends, SendsWith, Some, Stops, Up,
-    WhereUp, ℕ, after_call, ap, arith, driven_apart, halves_of, last, length, length-append, length-drop, moved,
-    parts_for, played_by, refl, segments_of, sized, subst, sym}
+use Rattle.pmd_laws.proofs.Prelude.{[], ◌+◌, ◌<◌, ◌∷◌, ◌≡◌, ◌≤◌, Accepts, Advances, AllOwn, AtPort, Block, Call, Doer}
+use Rattle.pmd_laws.proofs.Prelude.{Down, Drove, Err, Event, Halves, IfSome, IsOwn, IsTold, Leads, Lends, List, Looks}
+use Rattle.pmd_laws.proofs.Prelude.{Moment, Move, None, Numbers, Ok, Option, Packet, PmdFault, Reaps, Receives, Reply}
+use Rattle.pmd_laws.proofs.Prelude.{Result, Rings, Running, Sender, Sends, SendsWith, Some, Stops, Up, WhereUp, ℕ}
+use Rattle.pmd_laws.proofs.Prelude.{after_call, ap, arith, driven_apart, halves_of, last, length, length-append}
+use Rattle.pmd_laws.proofs.Prelude.{length-drop, moved, parts_for, played_by, refl, segments_of, sized, subst, sym}
 use Rattle.pmd_laws.proofs.Told.{runs, up_next}
 use Rattle.nic_device.specs.declared.event.Event.TheVariants as event
 use Rattle.nic_device.specs.declared.event.Reply.TheVariants as reply
@@ -22,14 +23,16 @@ HasRoom size v = (v.layout.size ≡ size) × (length v.outstanding < size)
 
 moved_room : (size : ℕ) (v : Sender) (m : Move) (e : Event Block) (r : Reply Block) → IsOwn v m e → HasRoom size v
     → HasRoom size (moved v m r)
-moved_room size v (Accepts p) (event.Lend b) reply.Done own x =
-    (x.0, omega (
-      arith,
-      own.room,
-      x.0,
-      length-append v.outstanding (segments_of p),
-      length-segments p own.each,
-    ))
+moved_room size v (Accepts p) (event.Lend b) reply.Done own x = (
+  x.0,
+  omega (
+    arith,
+    own.room,
+    x.0,
+    length-append v.outstanding (segments_of p),
+    length-segments p own.each,
+  ),
+)
 moved_room size v (Accepts p) e reply.Done own x = absurd own
 moved_room size v Lends e reply.Done own x = x
 moved_room size v Asks e reply.Done own x = x

@@ -1,9 +1,10 @@
 -- What was made of a device in hand is a history of it: the calls of pass 0 are those behind what others made.
 use Rattle.pmd_laws.specs.InHand.{DirectIsHistory, InterleavedIsHistory, IsHistoryOf, WasMade, in_hand}
-use Rattle.pmd_laws.proofs.Prelude.{[], ◌++◌, ◌<◌, ◌==◌, ◌||◌, ◌∙◌, ◌∷◌, ◌≡◌, Bool, Call, Entry, IsTrue, LeadsTo,
-    LeavesAlone, LeavesAloneFrom, List, State, ℕ, ap, call_in, calls_joined, calls_of, calls_other, calls_own,
-    cases_Bool, entries_in, events-append, false, has_begun, inl, inr, leads-append, leads_to, legal-append,
-    marked_entries, own_calls, refl, subst, sym, true}
+use Rattle.pmd_laws.proofs.Prelude.{[], ◌++◌, ◌<◌, ◌==◌, ◌||◌, ◌∙◌, ◌∷◌, ◌≡◌, Bool, Call, Entry, IsTrue, LeadsTo}
+use Rattle.pmd_laws.proofs.Prelude.{LeavesAlone, LeavesAloneFrom, List, State, ℕ, ap, call_in, calls_joined, calls_of}
+use Rattle.pmd_laws.proofs.Prelude.{calls_other, calls_own, cases_Bool, entries_in, events-append, false, has_begun}
+use Rattle.pmd_laws.proofs.Prelude.{inl, inr, leads-append, leads_to, legal-append, marked_entries, own_calls, refl}
+use Rattle.pmd_laws.proofs.Prelude.{subst, sym, true}
 
 history : (s : State) (queue : ℕ) (before h : List Entry) (calls : List Call) (device : State) → queue < 128
     → WasMade s before → LeadsTo (leads_to s before) h device → calls_of 0 h ≡ calls

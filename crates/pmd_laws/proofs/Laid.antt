@@ -4,13 +4,15 @@ use Rattle.pmd.specs.PmdRx.Plays.{AllOwn}
 use Rattle.pmd.specs.PmdRx.Receive.{IsOwn}
 use Rattle.pmd.specs.PmdSeam.Named.{is_driven}
 use Rattle.pmd_laws.proofs.Lent.{lends_made}
-use Rattle.pmd_laws.proofs.Prelude.{[], ⊤, ◌%◌, ◌*◌, ◌++◌, ◌<◌, ◌^◌, ◌∙◌, ◌∷◌, ◌≡◌, ◌≤◌, Access, Adds, AllAre, AreMade,
-    AreMadeOf, AreSteps, AtPort, Block, Bool, Call, DeviceFault, Each, Empty, Event, FailsBy, GoingOnFails, Headed,
-    IsMade, IsNumberOf, IsOtherwise, IsReceiveReady, Laid, Lays, LaysOn, LendingFails, LendsEach, List, MayLay, Numbers,
-    Off, OthersStep, PmdFault, Rdt, Receive, ReceiveFails, Reply, RowId, Rx, Sees, Sets, Sized, StopsBy, Tx, ℕ,
-    accesses_are, adds_made, ap, append-nil, append_assoc, arith, at_start, both_asked, both_quiet, call_of, drive,
-    false, inl, inr, is_size, is_step, laid_by, not, refl, ring_blocks, ring_words, sized, some_made, stops_are, subst,
-    switched_are, sym, then_made, true, unswitched_are}
+use Rattle.pmd_laws.proofs.Prelude.{[], ⊤, ◌%◌, ◌*◌, ◌++◌, ◌<◌, ◌^◌, ◌∙◌, ◌∷◌, ◌≡◌, ◌≤◌, Access, Adds, AllAre, AreMade}
+use Rattle.pmd_laws.proofs.Prelude.{AreMadeOf, AreSteps, AtPort, Block, Bool, Call, DeviceFault, Each, Empty, Event}
+use Rattle.pmd_laws.proofs.Prelude.{FailsBy, GoingOnFails, Headed, IsMade, IsNumberOf, IsOtherwise, IsReceiveReady}
+use Rattle.pmd_laws.proofs.Prelude.{Laid, Lays, LaysOn, LendingFails, LendsEach, List, MayLay, Numbers, Off, OthersStep}
+use Rattle.pmd_laws.proofs.Prelude.{PmdFault, Rdt, Receive, ReceiveFails, Reply, RowId, Rx, Sees, Sets, Sized, StopsBy}
+use Rattle.pmd_laws.proofs.Prelude.{Tx, ℕ, accesses_are, adds_made, ap, append-nil, append_assoc, arith, at_start}
+use Rattle.pmd_laws.proofs.Prelude.{both_asked, both_quiet, call_of, drive, false, inl, inr, is_size, is_step, laid_by}
+use Rattle.pmd_laws.proofs.Prelude.{not, refl, ring_blocks, ring_words, sized, some_made, stops_are, subst}
+use Rattle.pmd_laws.proofs.Prelude.{switched_are, sym, then_made, true, unswitched_are}
 use Rattle.pmd_laws.proofs.Stopped.{drive_same}
 use Rattle.nic_device.specs.declared.event.Event.TheVariants as event
 use Rattle.pmd.specs.PmdSeam.declared.fault.PmdFault.TheVariants as fault
@@ -135,10 +137,17 @@ module _ (q : AtPort) where
         let base : 2048 * ring % 128 ≡ 0 = omega arith in
         let low : 16 * size < 2 ^ 20 = omega (arith, few) in
         let slots : 16 ≤ 16 * size = omega (arith, some) in (
-          Off, (refl, (refl, base), refl), (
-            Off, (refl, refl, refl), (
-              Sized, (refl, (refl, even, low, slots), refl), (
-                Sized, (refl, (refl, refl), refl),
+          Off,
+          (refl, (refl, base), refl),
+          (
+            Off,
+            (refl, refl, refl),
+            (
+              Sized,
+              (refl, (refl, even, low, slots), refl),
+              (
+                Sized,
+                (refl, (refl, refl), refl),
                 (Headed, (refl, (refl, refl), refl), (Empty, (refl, (refl, refl), refl), refl)),
               ),
             ),
@@ -164,8 +173,12 @@ module _ (q : AtPort) where
 
   own_stays : (l : Laid) (v : Receive) (e : Event Block) → IsOwn v e → AtTail v → Stays q l e
   own_stays l v (event.Write port number word) own at = (
-    Rdt, own.port_is ∙ at.0, refl,
-    subst (λ n. IsNumberOf q.port Rdt q.queue n) (sym own.number_is) at.1, tt, refl,
+    Rdt,
+    own.port_is ∙ at.0,
+    refl,
+    subst (λ n. IsNumberOf q.port Rdt q.queue n) (sym own.number_is) at.1,
+    tt,
+    refl,
   )
   own_stays l v e own at = refl
 

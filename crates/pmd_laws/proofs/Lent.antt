@@ -8,17 +8,21 @@ use Rattle.driver_laws.proofs.Fitting.{frames_stay_short, lends_is, only_pass_le
 use Rattle.driver_laws.specs.Healthy.{lent_by as halves_lent_by}
 use Rattle.pmd_laws.proofs.Begun.{first_halves, receive_lent, transmit_lent}
 use Rattle.pmd_laws.proofs.Order.{along_before}
-use Rattle.pmd_laws.proofs.Prelude.{[], ⊤, ◌++◌, ◌<◌, ◌==◌, ◌∙◌, ◌∷◌, ◌≡◌, Access, All, AllAre, AreEvents, AreMade,
-    AreMadeOf, AreOn, AreShort, Around, AtCalls, AtPort, BeforeLast, Block, Blocks, Call, Dir, Each, EachRingBlock,
-    Entry, Event, FitsBlocks, Halves, HasGround, IsAlong, IsDriven, IsFresh, IsKept, IsLegal, IsMade, IsNumberOf,
-    IsPlain, IsPrepared, IsReceiveReady, IsTrue, LendsEach, List, NamesDriven, NoneLent, Numbers, OnlyLent,
-    OnlyPassLends, Receive, Reply, RowId, Rxdctl, Sees, Sender, Sets, State, Tx, Watched, ℕ, accesses_are, adds_made,
-    after, all_lead, and_parts, ap, append_assoc, arith, around, both_quiet, both_ways, call_in, call_of, calls_of,
-    calls_other, calls_own, cases_Bool, each_ring_block, eq-eqb, events_behind, false, false_from_ne_true, ground_kept,
-    has_block, inl, inr, is_step, leads-append, leads_to, left-setting, legal_behind, lends, lent_by, lent_in,
-    made_some, most_blocks, none_made, or_cases, plain_keeps, plain_setting, quiet, reached, reads_driven, refl,
-    ring_block_out, ring_blocks, ring_words, same_from_push, state_kept, state_leads, subst, switched_are, sym,
-    then_made, times-cons, times_first, times_in_hand, true, words_are_writes, writes_driven}
+use Rattle.pmd_laws.proofs.Prelude.{[], ⊤, ◌++◌, ◌<◌, ◌==◌, ◌∙◌, ◌∷◌, ◌≡◌, Access, All, AllAre, AreEvents, AreMade}
+use Rattle.pmd_laws.proofs.Prelude.{AreMadeOf, AreOn, AreShort, Around, AtCalls, AtPort, BeforeLast, Block, Blocks}
+use Rattle.pmd_laws.proofs.Prelude.{Call, Dir, Each, EachRingBlock, Entry, Event, FitsBlocks, Halves, HasGround}
+use Rattle.pmd_laws.proofs.Prelude.{IsAlong, IsDriven, IsFresh, IsKept, IsLegal, IsMade, IsNumberOf, IsPlain}
+use Rattle.pmd_laws.proofs.Prelude.{IsPrepared, IsReceiveReady, IsTrue, LendsEach, List, NamesDriven, NoneLent, Numbers}
+use Rattle.pmd_laws.proofs.Prelude.{OnlyLent, OnlyPassLends, Receive, Reply, RowId, Rxdctl, Sees, Sender, Sets, State}
+use Rattle.pmd_laws.proofs.Prelude.{Tx, Watched, ℕ, accesses_are, adds_made, after, all_lead, and_parts, ap}
+use Rattle.pmd_laws.proofs.Prelude.{append_assoc, arith, around, both_quiet, both_ways, call_in, call_of, calls_of}
+use Rattle.pmd_laws.proofs.Prelude.{calls_other, calls_own, cases_Bool, each_ring_block, eq-eqb, events_behind, false}
+use Rattle.pmd_laws.proofs.Prelude.{false_from_ne_true, ground_kept, has_block, inl, inr, is_step, leads-append}
+use Rattle.pmd_laws.proofs.Prelude.{leads_to, left-setting, legal_behind, lends, lent_by, lent_in, made_some}
+use Rattle.pmd_laws.proofs.Prelude.{most_blocks, none_made, or_cases, plain_keeps, plain_setting, quiet, reached}
+use Rattle.pmd_laws.proofs.Prelude.{reads_driven, refl, ring_block_out, ring_blocks, ring_words, same_from_push}
+use Rattle.pmd_laws.proofs.Prelude.{state_kept, state_leads, subst, switched_are, sym, then_made, times-cons}
+use Rattle.pmd_laws.proofs.Prelude.{times_first, times_in_hand, true, words_are_writes, writes_driven}
 use Rattle.nic_device.specs.declared.event.Event.TheVariants as event
 use Rattle.nic_device.specs.declared.event.Reply.TheVariants as reply
 

@@ -4,10 +4,11 @@ use Rattle.driver_laws.proofs.InOrder.{none_is_all_before}
 use Rattle.driver_laws.proofs.InOrder.{waiting_is_not_all}
 use Rattle.pmd_laws.specs.Looks.{EndsAt, LooksInVain, NoneIsAllAtFirst, NoneIsAllBefore}
 use Rattle.pmd_laws.proofs.Order.{Later, early_parts, late_parts, life_early, life_then, none_of_life, parts_join}
-use Rattle.pmd_laws.proofs.Prelude.{[], ◌++◌, ◌∙◌, ◌∷◌, ◌≡◌, Adds, Block, Call, Drives, Entry, Event, FindsNone,
-    FindsWaiting, Halves, IsLegal, Life, List, Receive, Reply, WaitingIsNotAllBefore, ap, append_assoc, bytes_of,
-    call_in, call_of, calls_of, delivered, drives_lead, halves_of, harmless_lead, leads_on, leads_to, legal_behind,
-    receiving_drives, refl, reply_to, same_from_push, sending_drives, steps_harmless, subst, sym}
+use Rattle.pmd_laws.proofs.Prelude.{[], ◌++◌, ◌∙◌, ◌∷◌, ◌≡◌, Adds, Block, Call, Drives, Entry, Event, FindsNone}
+use Rattle.pmd_laws.proofs.Prelude.{FindsWaiting, Halves, IsLegal, Life, List, Receive, Reply, WaitingIsNotAllBefore}
+use Rattle.pmd_laws.proofs.Prelude.{ap, append_assoc, bytes_of, call_in, call_of, calls_of, delivered, drives_lead}
+use Rattle.pmd_laws.proofs.Prelude.{halves_of, harmless_lead, leads_on, leads_to, legal_behind, receiving_drives, refl}
+use Rattle.pmd_laws.proofs.Prelude.{reply_to, same_from_push, sending_drives, steps_harmless, subst, sym}
 use Rattle.pmd_laws.proofs.Order as order
 
 -- behind a life come calls that drive its halves on, and then one call more, at an entry of the history
@@ -29,11 +30,16 @@ module _ (x : Life) {mid new : List Call} (e : Event Block) (reply : Reply Block
   -- and the life goes on up to it
   abbrev up_to : Later x
   up_to = record {
-    late = at.before; rest = at.entry ∷ at.behind; split = at.all; calls = mid ++ adds.0; then = then; made = ends.0;
+    late = at.before;
+    rest = at.entry ∷ at.behind;
+    split = at.all;
+    calls = mid ++ adds.0;
+    then = then;
+    made = ends.0;
     goes =
         leads_on x.started mid (mid ++ adds.0) (halves_of x.r) then then
         (leads_on x.started x.made mid (halves_of x.r) x.k then x.is.since (drives_lead x.made mid x.k then drives))
-        (harmless_lead mid (mid ++ adds.0) then (adds.0, refl, steps_harmless adds.0 adds.2))
+        (harmless_lead mid (mid ++ adds.0) then (adds.0, refl, steps_harmless adds.0 adds.2));
   }
 
 module _ (x : Life) (new : List Call) (v : Receive) (y : LooksInVain x new v) where
@@ -53,8 +59,11 @@ module _ (x : Life) (new : List Call) (v : Receive) (y : LooksInVain x new v) wh
   finds : FindsNone (leads_to origin y.look.before) v
   finds = record {
     shows = record {
-      looks = y.looks.stage; posted = y.looks.posted; bytes = y.looks.bytes; waits = y.looks.waits;
-      reply = answered x _ _ vain_drives y.looks.last y.look
+      looks = y.looks.stage;
+      posted = y.looks.posted;
+      bytes = y.looks.bytes;
+      waits = y.looks.waits;
+      reply = answered x _ _ vain_drives y.looks.last y.look;
     };
     none_whole = y.looks.none_whole;
   }
@@ -96,8 +105,10 @@ waiting_before_look x new v y early more all is same =
     let drives = sending_drives x.made y.looks.mid x.k then y.looks.plays refl in
     let l = up_to x _ _ drives y.looks.looks y.look in
     let finds : FindsWaiting (leads_to x.origin l.late) sender = record {
-      bytes = y.looks.bytes; posted = y.looks.posted; waits = y.looks.waits;
-      told = answered x _ _ drives y.looks.looks y.look
+      bytes = y.looks.bytes;
+      posted = y.looks.posted;
+      waits = y.looks.waits;
+      told = answered x _ _ drives y.looks.looks y.look;
     } in
     -- both places, from where the sides went on
     let p = early_parts x l early more all is in

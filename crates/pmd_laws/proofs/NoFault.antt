@@ -8,14 +8,17 @@ use Rattle.pmd_laws.specs.Told.{now}
 use Rattle.pmd_laws.proofs.Begun.{first_halves}
 use Rattle.pmd_laws.proofs.Lent.{known_at, others_before, others_behind, short_at, short_by}
 use Rattle.pmd_laws.proofs.Order.{along_before, driven_by, last_before}
-use Rattle.pmd_laws.proofs.Prelude.{[], ◌++◌, ◌∙◌, ◌∷◌, ◌≡◌, AllLendApart, AllOwn, AreOn, AreShort, AtPort, BeforeLast,
-    Blocks, Call, DeviceFault, Doer, DrivesApart, DrivesRings, Elsewhere, Entry, FailedAmid, FindsBy, FindsFault,
-    Halves, HasGround, IfErr, IfSome, IsAlong, IsFresh, LeadsApart, List, NoBurstMeetsFault, NoCallFindsFault, None,
-    Numbers, OnlyPassLends, Option, OthersHarmless, OwnCall, Packet, Parts, PmdFault, Receive, Receives, Result,
-    Running, Sender, Sends, SendsAtFault, SendsWith, Some, State, Told, Watched, ℕ, ap, apart_none, apart_on,
-    append-nil, append_assoc, append_cancel_left, both_own, call_of, calls_joined, calls_of, doers_other, driven_apart,
-    false, halves_of, harmless_both, is_healthy, is_neither, is_own, leads_to, met_by, on, others_harmless, others_own,
-    others_played, own_length, parts, played_by, refl, subst, sym}
+use Rattle.pmd_laws.proofs.Prelude.{[], ◌++◌, ◌∙◌, ◌∷◌, ◌≡◌, AllLendApart, AllOwn, AreOn, AreShort, AtPort, BeforeLast}
+use Rattle.pmd_laws.proofs.Prelude.{Blocks, Call, DeviceFault, Doer, DrivesApart, DrivesRings, Elsewhere, Entry}
+use Rattle.pmd_laws.proofs.Prelude.{FailedAmid, FindsBy, FindsFault, Halves, HasGround, IfErr, IfSome, IsAlong, IsFresh}
+use Rattle.pmd_laws.proofs.Prelude.{LeadsApart, List, NoBurstMeetsFault, NoCallFindsFault, None, Numbers, OnlyPassLends}
+use Rattle.pmd_laws.proofs.Prelude.{Option, OthersHarmless, OwnCall, Packet, Parts, PmdFault, Receive, Receives, Result}
+use Rattle.pmd_laws.proofs.Prelude.{Running, Sender, Sends, SendsAtFault, SendsWith, Some, State, Told, Watched, ℕ, ap}
+use Rattle.pmd_laws.proofs.Prelude.{apart_none, apart_on, append-nil, append_assoc, append_cancel_left, both_own}
+use Rattle.pmd_laws.proofs.Prelude.{call_of, calls_joined, calls_of, doers_other, driven_apart, false, halves_of}
+use Rattle.pmd_laws.proofs.Prelude.{harmless_both, is_healthy, is_neither, is_own, leads_to, met_by, on}
+use Rattle.pmd_laws.proofs.Prelude.{others_harmless, others_own, others_played, own_length, parts, played_by, refl}
+use Rattle.pmd_laws.proofs.Prelude.{subst, sym}
 use Rattle.pmd_laws.proofs.Told.{goes, led, owns_still, up_next}
 
 -- a call whose reply no healthy queue gives is a half's
@@ -59,9 +62,16 @@ module _ {own : Blocks} {on : List Call} {h : Halves} {new : List Call} (f : Fin
 pub found_on : {own : Blocks} {old mid new : List Call} {h j : Halves} → DrivesApart own old h mid j
     → FindsFault own mid j new → FindsFault own old h new
 found_on {own = own} {old = old} {mid = mid} {h = h} {j = j} drives f = record {
-  mid = f.mid; there = f.there; doer = f.doer; event = f.event; reply = f.reply;
+  mid = f.mid;
+  there = f.there;
+  doer = f.doer;
+  event = f.event;
+  reply = f.reply;
   drives = apart_on own old mid f.mid h j f.there drives f.drives;
-  mine = f.mine; apart = f.apart; adds = f.adds; sick = f.sick
+  mine = f.mine;
+  apart = f.apart;
+  adds = f.adds;
+  sick = f.sick;
 }
 
 module _ {w : Watched} {origin : State} {h : List Entry} {q : AtPort} {size frame : ℕ} {old : List Call} {a : Numbers}

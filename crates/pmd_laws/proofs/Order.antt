@@ -5,13 +5,15 @@ use Rattle.start_laws.proofs.On.{on_some, other_lent, ring_lent, switched_sides_
 use Rattle.start_laws.proofs.Parts.{begun as begun_by}
 use Rattle.driver_laws.specs.Histories.{IsDriven}
 use Rattle.pmd_laws.proofs.Begun.{first_halves, halves_apart, halves_lent}
-use Rattle.pmd_laws.proofs.Prelude.{[], ◌++◌, ◌∙◌, ◌∷◌, ◌≡◌, AddsHarmless, AllOwn, AreEvents, AreLent, AreOn, AreUp,
-    AtPort, BeforeLast, Call, Doer, Entry, FindsNone, Halves, HasGround, IsAlong, IsLegal, Leads, LeavesAloneFrom, Life,
-    List, Numbers, OthersHarmless, Parts, Receive, Sender, ShowsNone, State, Watched, WentOn, ℕ, ap, append_assoc,
-    append_cancel_left, beginning_alone, bytes_of, calls_joined, calls_of, counted_where_up, delivered, drives_lead,
-    halves_of, handed_is_prefix, harmless_lead, harmless_leave_alone, idle_is_all_sent, leads_on, leads_to, lent_by,
-    none_is_all, none_is_all_taken, on, parts, played_by, receiving_drives, records_of, refl, sent_in, sent_is_prefix,
-    sent_since, subst, sym}
+use Rattle.pmd_laws.proofs.Prelude.{[], ◌++◌, ◌∙◌, ◌∷◌, ◌≡◌, AddsHarmless, AllOwn, AreEvents, AreLent, AreOn, AreUp}
+use Rattle.pmd_laws.proofs.Prelude.{AtPort, BeforeLast, Call, Doer, Entry, FindsNone, Halves, HasGround, IsAlong}
+use Rattle.pmd_laws.proofs.Prelude.{IsLegal, Leads, LeavesAloneFrom, Life, List, Numbers, OthersHarmless, Parts}
+use Rattle.pmd_laws.proofs.Prelude.{Receive, Sender, ShowsNone, State, Watched, WentOn, ℕ, ap, append_assoc}
+use Rattle.pmd_laws.proofs.Prelude.{append_cancel_left, beginning_alone, bytes_of, calls_joined, calls_of}
+use Rattle.pmd_laws.proofs.Prelude.{counted_where_up, delivered, drives_lead, halves_of, handed_is_prefix}
+use Rattle.pmd_laws.proofs.Prelude.{harmless_lead, harmless_leave_alone, idle_is_all_sent, leads_on, leads_to, lent_by}
+use Rattle.pmd_laws.proofs.Prelude.{none_is_all, none_is_all_taken, on, parts, played_by, receiving_drives, records_of}
+use Rattle.pmd_laws.proofs.Prelude.{refl, sent_in, sent_is_prefix, sent_since, subst, sym}
 use Rattle.pmd_laws.specs.Order as order
 use Rattle.start_laws.specs.ReceiveLaws.Delivered as receive
 use Rattle.start_laws.specs.TransmitLaws.Laws as transmit
@@ -36,7 +38,10 @@ module _ {w : Watched} {origin : State} {h : List Entry} {q : AtPort} {size fram
       let two =
       other_lent w origin h q size frame old a mid v t up along up.sized well p.front p.back p.both p.fronts in
       record {
-        sound = along.sound; vfs = along.vfs; on = sides_went_on.received; up = sides_went_on.receives;
+        sound = along.sound;
+        vfs = along.vfs;
+        on = sides_went_on.received;
+        up = sides_went_on.receives;
         events = subst AreEvents all along.events;
         legal = subst (IsLegal origin) all along.legal;
         alone = subst (LeavesAloneFrom w origin) all along.alone;
@@ -137,7 +142,9 @@ idle_of_life x lived none =
 module _ (w : Watched) (origin : State) {h : List Entry} (before rest : List Entry) (all : before ++ rest ≡ h) where
   pub along_before : IsAlong w origin h → IsAlong w origin before
   along_before x = record {
-    small = x.small; sound = x.sound; vfs = x.vfs;
+    small = x.small;
+    sound = x.sound;
+    vfs = x.vfs;
     events = events_before before rest (subst AreEvents (sym all) x.events);
     legal = legal_before origin before rest (subst (IsLegal origin) (sym all) x.legal);
     alone = beginning_alone w origin before rest (subst (LeavesAloneFrom w origin) (sym all) x.alone);
@@ -206,7 +213,10 @@ module _ (x : Life) (l : Later x) where
     -- both begin as the sides went on
     abbrev pub late_parts : Parts x.w.pass l.late x.is.up.on.mid (whole life_then).1
     late_parts = record {
-      front = early_parts.front; back = early_parts.back ++ more; both = parts_join; fronts = early_parts.fronts;
+      front = early_parts.front;
+      back = early_parts.back ++ more;
+      both = parts_join;
+      fronts = early_parts.fronts;
       backs =
           append_cancel_left x.is.up.on.mid (calls_of x.w.pass (early_parts.back ++ more)) (whole life_then).1
           (ap (λ (cs : List Call). cs ++ calls_of x.w.pass (early_parts.back ++ more)) (sym early_parts.fronts)

@@ -13,14 +13,16 @@ use Rattle.driver_laws.specs.Histories.{IsDriven}
 use Rattle.pmd_laws.specs.Told.{now}
 use Rattle.pmd_laws.proofs.Lent.{known_at, others_behind}
 use Rattle.pmd_laws.proofs.Order.{driven_by}
-use Rattle.pmd_laws.proofs.Prelude.{[], ◌++◌, ◌+◌, ◌<◌, ◌==◌, ◌∙◌, ◌∷◌, ◌≡◌, AllLendApart, AreOn, AreUp, Blocks, Bool,
-    BothAgree, Doer, EachInOnePlace, Halves, HasAll, IfFresh, IsToldOf, IsTrue, LeadsApart, LentIsOut, List, Memory,
-    Numbers, OnlyLent, OnlyPassLends, OutIsLent, Parts, Piece, Receive, Rings, Running, Sender, State, Told, Up, ℕ, ap,
-    arena_of, arith, blocks_of, both_ways, calls_of, cond, each_ring_block, eqb-false, eqb-true, false, halted_of,
-    halves_of, has_block, has_lent, inl, inr, is_free, is_out, is_own, is_ring_block, leads-append, leads_to, led,
-    length, list_any, memory_after, on, or_cases, or_from, or_parts, parts, places_of, played_by, reach, refl,
-    ring_block_among, ring_blocks, slice_index, subst, suc, sym, take, times-append, times_among, times_in_hand,
-    times_rest, true, true_from_ne_false, zero}
+use Rattle.pmd_laws.proofs.Prelude.{[], ◌++◌, ◌+◌, ◌<◌, ◌==◌, ◌∙◌, ◌∷◌, ◌≡◌, AllLendApart, AreOn, AreUp, Blocks, Bool}
+use Rattle.pmd_laws.proofs.Prelude.{BothAgree, Doer, EachInOnePlace, Halves, HasAll, IfFresh, IsToldOf, IsTrue}
+use Rattle.pmd_laws.proofs.Prelude.{LeadsApart, LentIsOut, List, Memory, Numbers, OnlyLent, OnlyPassLends, OutIsLent}
+use Rattle.pmd_laws.proofs.Prelude.{Parts, Piece, Receive, Rings, Running, Sender, State, Told, Up, ℕ, ap, arena_of}
+use Rattle.pmd_laws.proofs.Prelude.{arith, blocks_of, both_ways, calls_of, cond, each_ring_block, eqb-false, eqb-true}
+use Rattle.pmd_laws.proofs.Prelude.{false, halted_of, halves_of, has_block, has_lent, inl, inr, is_free, is_out, is_own}
+use Rattle.pmd_laws.proofs.Prelude.{is_ring_block, leads-append, leads_to, led, length, list_any, memory_after, on}
+use Rattle.pmd_laws.proofs.Prelude.{or_cases, or_from, or_parts, parts, places_of, played_by, reach, refl}
+use Rattle.pmd_laws.proofs.Prelude.{ring_block_among, ring_blocks, slice_index, subst, suc, sym, take, times-append}
+use Rattle.pmd_laws.proofs.Prelude.{times_among, times_in_hand, times_rest, true, true_from_ne_false, zero}
 use Rattle.pmd_laws.proofs.Told.{begins, goes, led as told_led}
 use Rattle.pmd.specs.PmdRx.Keeping as received
 use Rattle.pmd.specs.PmdTx.Leaving as leaving
@@ -184,8 +186,13 @@ module _ (h : Halves) (n : ℕ) where
   some_out : 0 < times_in_hand lent n → lent_by h n ≡ true
   some_out some = true_from_ne_false (lent_by h n) (λ is.
       let apart = or_parts (received.has_lent h.receive n) (has_lent h.transmit n) is in
-      absurd (omega (arith, some, both, any_none (received.lent_of h.receive) n apart.0,
-      unlent_none h.transmit n apart.1)))
+      absurd (omega (
+        arith,
+        some,
+        both,
+        any_none (received.lent_of h.receive) n apart.0,
+        unlent_none h.transmit n apart.1,
+      )))
 
 -- so it counts as lent
 placed : (has f g : Bool) (t k : ℕ) → (has ≡ true → 0 < t) → (0 < t → has ≡ true)

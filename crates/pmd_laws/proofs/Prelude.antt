@@ -1,28 +1,36 @@
 -- The names that the proofs here and in worker_laws cite most, passed on from one place. Declares nothing.
-pub use Rattle.std.proofs.Common.{[], ◌%◌, ◌&&◌, ◌*◌, ◌++◌, ◌+◌, ◌-◌, ◌<◌, ◌^◌, ◌||◌, ◌∙◌, ◌∷◌, ◌≡◌, ◌≢◌, ◌≤◌, ◌⊎◌,
-    Bool, Err, IfErr, IfSome, List, None, Ok, Option, Result, Some, ℕ, ap, append_assoc, arith, cond, drop, false,
-    if◌then◌else◌, inl, inr, length, max, nat_cmp, nat_lt, not, option_map, refl, subst, suc, sym, take, true, zero}
-pub use Rattle.std.proofs.lemmas.Bool.{and_from, and_parts, both_ways, cases_Bool, cases_eq, eq-eqb, eqb-false,
-    eqb-true, false_from_ne_true, lt-ltb, ltb-true, not-true, or_cases, or_from, or_left, or_parts, or_right,
-    true_from_ne_false}
-pub use Rattle.std.proofs.lemmas.List.{append-nil, append_cancel_left, length-append, length-drop, map-append,
-    same_from_push}
+pub use Rattle.std.proofs.Common.{[], ◌%◌, ◌&&◌, ◌*◌, ◌++◌, ◌+◌, ◌-◌, ◌<◌, ◌^◌, ◌||◌, ◌∙◌, ◌∷◌, ◌≡◌, ◌≢◌, ◌≤◌, ◌⊎◌}
+pub use Rattle.std.proofs.Common.{Bool, Err, IfErr, IfSome, List, None, Ok, Option, Result, Some, ℕ, ap, append_assoc}
+pub use Rattle.std.proofs.Common.{arith, cond, drop, false, if◌then◌else◌, inl, inr, length, max, nat_cmp, nat_lt, not}
+pub use Rattle.std.proofs.Common.{option_map, refl, subst, suc, sym, take, true, zero}
+pub use Rattle.std.proofs.lemmas.Bool.{and_from, and_parts, both_ways, cases_Bool, cases_eq, eq-eqb, eqb-false}
+pub use Rattle.std.proofs.lemmas.Bool.{eqb-true, false_from_ne_true, lt-ltb, ltb-true, not-true, or_cases, or_from}
+pub use Rattle.std.proofs.lemmas.Bool.{or_left, or_parts, or_right, true_from_ne_false}
+pub use Rattle.std.proofs.lemmas.List.{append-nil, append_cancel_left, length-append, length-drop, map-append}
+pub use Rattle.std.proofs.lemmas.List.{same_from_push}
 pub use Rattle.std.specs.List.{list_any}
 pub use Rattle.std.specs.Prelude.{⊤, ◌==◌, All, IsFalse, IsTrue, is_some, slice_index}
-pub use Rattle.driver_laws.specs.Prelude.{Accepts, Access, Adds, Advances, AllLendApart, AllOwn, AreEvents, AreMade,
-    AreSteps, AreUp, AtPort, Block, Blocks, Call, DeviceFault, Dir, Doer, Down, DrivesApart, DrivesRings, EachRingBlock,
-    Elsewhere, Entry, Event, FindsFault, FindsNone, FitsBlocks, Halted, Halves, HasAll, IsEvent, IsLegal, IsMade,
-    IsNumberOf, IsPrepared, IsReceiveReady, IsSound, IsSwitched, IsUp, LeavesAloneFrom, Lends, LendsNone, Looks, Memory,
-    Mode, Move, Numbers, OnlyLent, OwnCall, Packet, Piece, Place, PmdFault, Port, Rdt, Reaps, Receive, Receives,
-    Register, Reply, Rest, Rings, RowId, Running, Rx, Rxdctl, Sees, Sender, Sends, Sets, ShowsNone, StartRefused, State,
-    StopsBy, StopsStarting, Tx, Up, Watched, WhereUp, WritesOutside, accepted_of, after, after_call, arena_of,
-    asks_pool_reset, both_quiet, bytes_of, call_in, call_of, calls_of, delivered, doers_other, drive, enable_row,
-    entries_in, halted_of, halves_of, handed_of, has_bit, has_block, has_lent, is_free, is_neither, is_on, is_own,
-    is_ring_block, is_step, leads_to, left_accepted, left_handed, lends, lent_by, marked_entries, mode_in, most_blocks,
-    named, new_state, packets_if_any, parts_for, pieces, pieces_in, pieces_since, place, places_of, played_by,
-    records_of, reply_to, ring_blocks, ring_words, row_of, sent_by, sent_in, sent_since, times_in_hand}
-pub use Rattle.pmd_laws.specs.Prelude.{AreMadeOf, AreOn, BeforeLast, BeforeNext, BeginsWell, Empty, Ends, EndsOnceOff,
-    FaultsEarly, FaultsFilling, HasGround, IsAlong, IsAsking, IsEnding, IsQuiet, IsSilent, Laid, Off, TakesOnceOff}
+pub use Rattle.driver_laws.specs.Prelude.{Accepts, Access, Adds, Advances, AllLendApart, AllOwn, AreEvents, AreMade}
+pub use Rattle.driver_laws.specs.Prelude.{AreSteps, AreUp, AtPort, Block, Blocks, Call, DeviceFault, Dir, Doer, Down}
+pub use Rattle.driver_laws.specs.Prelude.{DrivesApart, DrivesRings, EachRingBlock, Elsewhere, Entry, Event, FindsFault}
+pub use Rattle.driver_laws.specs.Prelude.{FindsNone, FitsBlocks, Halted, Halves, HasAll, IsEvent, IsLegal, IsMade}
+pub use Rattle.driver_laws.specs.Prelude.{IsNumberOf, IsPrepared, IsReceiveReady, IsSound, IsSwitched, IsUp}
+pub use Rattle.driver_laws.specs.Prelude.{LeavesAloneFrom, Lends, LendsNone, Looks, Memory, Mode, Move, Numbers}
+pub use Rattle.driver_laws.specs.Prelude.{OnlyLent, OwnCall, Packet, Piece, Place, PmdFault, Port, Rdt, Reaps, Receive}
+pub use Rattle.driver_laws.specs.Prelude.{Receives, Register, Reply, Rest, Rings, RowId, Running, Rx, Rxdctl, Sees}
+pub use Rattle.driver_laws.specs.Prelude.{Sender, Sends, Sets, ShowsNone, StartRefused, State, StopsBy, StopsStarting}
+pub use Rattle.driver_laws.specs.Prelude.{Tx, Up, Watched, WhereUp, WritesOutside, accepted_of, after, after_call}
+pub use Rattle.driver_laws.specs.Prelude.{arena_of, asks_pool_reset, both_quiet, bytes_of, call_in, call_of, calls_of}
+pub use Rattle.driver_laws.specs.Prelude.{delivered, doers_other, drive, enable_row, entries_in, halted_of, halves_of}
+pub use Rattle.driver_laws.specs.Prelude.{handed_of, has_bit, has_block, has_lent, is_free, is_neither, is_on, is_own}
+pub use Rattle.driver_laws.specs.Prelude.{is_ring_block, is_step, leads_to, left_accepted, left_handed, lends, lent_by}
+pub use Rattle.driver_laws.specs.Prelude.{marked_entries, mode_in, most_blocks, named, new_state, packets_if_any}
+pub use Rattle.driver_laws.specs.Prelude.{parts_for, pieces, pieces_in, pieces_since, place, places_of, played_by}
+pub use Rattle.driver_laws.specs.Prelude.{records_of, reply_to, ring_blocks, ring_words, row_of, sent_by, sent_in}
+pub use Rattle.driver_laws.specs.Prelude.{sent_since, times_in_hand}
+pub use Rattle.pmd_laws.specs.Prelude.{AreMadeOf, AreOn, BeforeLast, BeforeNext, BeginsWell, Empty, Ends, EndsOnceOff}
+pub use Rattle.pmd_laws.specs.Prelude.{FaultsEarly, FaultsFilling, HasGround, IsAlong, IsAsking, IsEnding, IsQuiet}
+pub use Rattle.pmd_laws.specs.Prelude.{IsSilent, Laid, Off, TakesOnceOff}
 pub use Rattle.nic_device.proofs.Cases.{either_way, lent_cases, taken_cases}
 pub use Rattle.nic_device.proofs.DmaArena.Arenas.{is_free-with_free_other, is_free-with_free_same, is_own-of_free}
 pub use Rattle.nic_device.proofs.Steps.{new_sound}
@@ -36,8 +44,8 @@ pub use Rattle.pmd.proofs.Apart.{apart_none, apart_on, receiving_apart}
 pub use Rattle.pmd.proofs.Followed.{both_own, others_own, others_played, own_length, receiving_drives, sending_drives}
 pub use Rattle.pmd.proofs.PmdRx.Earlier.{free_before}
 pub use Rattle.pmd.proofs.PmdSeam.Outside.{times-append, times-cons, times_first, times_rest}
-pub use Rattle.pmd.proofs.PmdSeam.Rings.{among_times, each_ring_block, ring_block_among, ring_block_is, ring_block_out,
-    times_among}
+pub use Rattle.pmd.proofs.PmdSeam.Rings.{among_times, each_ring_block, ring_block_among, ring_block_is, ring_block_out}
+pub use Rattle.pmd.proofs.PmdSeam.Rings.{times_among}
 pub use Rattle.pmd.proofs.Whole.{all_drawn, all_exchanged, keeps_beside, keeps_counted, keeps_then}
 pub use Rattle.pmd.specs.Apart.{FindsBy, MayLend, OwnsSame, is_healthy}
 pub use Rattle.pmd.specs.Bursts.{FailedAmid, SendsWith, Stops}
@@ -54,8 +62,8 @@ pub use Rattle.pmd.specs.PmdSeam.Sides.{PollsEnd, missed, polled, quiet}
 pub use Rattle.pmd.specs.PmdTx.Plays.{LooksLast}
 pub use Rattle.pmd.specs.PmdTx.Sending.{IsOwn, blocks_of, moved, segments_of}
 pub use Rattle.pmd.specs.Started.{IsHalfStarted, IsHome, IsLeftWith, IsShut, is_size, start_gate}
-pub use Rattle.pmd.specs.Starting.{GoingOnFails, IsTransmitReady, LendingFails, LendsEach, PreparingFails, ReceiveFails,
-    StopsLending}
+pub use Rattle.pmd.specs.Starting.{GoingOnFails, IsTransmitReady, LendingFails, LendsEach, PreparingFails, ReceiveFails}
+pub use Rattle.pmd.specs.Starting.{StopsLending}
 pub use Rattle.pmd.specs.Stopping.{ComesHome, IsLeftAmid, bringing, brought, closed}
 pub use Rattle.start_laws.proofs.StopCalls.{accesses_are, stops_are, switched_are, unswitched_are}
 pub use Rattle.start_laws.proofs.AllAre.{AllAre, all_before}
@@ -83,26 +91,26 @@ pub use Rattle.start_laws.specs.ReceiveLaws.Steps.{IfFresh}
 pub use Rattle.start_laws.specs.Stopping.{Asks}
 pub use Rattle.start_laws.specs.TransmitLaws.Laws.{FindsWaiting, IsPrefixOf}
 pub use Rattle.start_laws.specs.Unused.{WentOn}
-pub use Rattle.driver_laws.proofs.Beside.{drives_lead, harmless_both, harmless_lead, harmless_leave_alone, leads_on,
-    left, others_harmless, steps_harmless}
-pub use Rattle.driver_laws.proofs.InOrder.{counted_where_up, handed_is_prefix, idle_is_all_sent, led, none_is_all,
-    none_is_all_taken, sent_is_prefix}
+pub use Rattle.driver_laws.proofs.Beside.{drives_lead, harmless_both, harmless_lead, harmless_leave_alone, leads_on}
+pub use Rattle.driver_laws.proofs.Beside.{left, others_harmless, steps_harmless}
+pub use Rattle.driver_laws.proofs.InOrder.{counted_where_up, handed_is_prefix, idle_is_all_sent, led, none_is_all}
+pub use Rattle.driver_laws.proofs.InOrder.{none_is_all_taken, sent_is_prefix}
 pub use Rattle.driver_laws.proofs.Beside.{LeadsApart, apart_leads_on, driven_apart, harmless_apart}
 pub use Rattle.driver_laws.proofs.Retold.{events_same, legal_same, same_delivers, same_leads, same_sends}
 pub use Rattle.driver_laws.specs.Agreeing.{AreApart, AreLent, BothAgree}
 pub use Rattle.driver_laws.specs.Before.{AreShort, OnlyPassLends}
 pub use Rattle.driver_laws.specs.Beside.{AddsHarmless, Leads, OthersHarmless, is_harmless}
-pub use Rattle.pmd_laws.specs.Beside.{AllFollowBy, Beside, FollowsBy, GoesOn, IsCalledBeside, IsRetold, IsToldAnew,
-    IsToldBeside, IsToldBy, WasTold, by_own, now}
+pub use Rattle.pmd_laws.specs.Beside.{AllFollowBy, Beside, FollowsBy, GoesOn, IsCalledBeside, IsRetold, IsToldAnew}
+pub use Rattle.pmd_laws.specs.Beside.{IsToldBeside, IsToldBy, WasTold, by_own, now}
 pub use Rattle.pmd_laws.specs.Ends.{Ended, HandedOverStop, IsOver, LeftIsPrefix, SentOverStop}
-pub use Rattle.pmd_laws.specs.Faultless.{BeginsApart, IsFresh, IsQuietAndFresh, NoBurstMeetsFault, NoCallFindsFault,
-    NoneLent, SendsAtFault, met_by}
+pub use Rattle.pmd_laws.specs.Faultless.{BeginsApart, IsFresh, IsQuietAndFresh, NoBurstMeetsFault, NoCallFindsFault}
+pub use Rattle.pmd_laws.specs.Faultless.{NoneLent, SendsAtFault, met_by}
 pub use Rattle.pmd_laws.specs.Lends.{first_of}
 pub use Rattle.pmd_laws.specs.Life.{IsLife, Life}
 pub use Rattle.pmd_laws.specs.Order.{IsLived}
 pub use Rattle.pmd_laws.specs.Places.{EachInOnePlace, IsToldAlone, LentIsOut, OutIsLent, is_out, memory_after}
-pub use Rattle.pmd_laws.specs.Stopped.{FailedStopEnds, FailedStopTakesOnceOff, HandedIsPrefix, IsStopping, NoCallTakes,
-    SentIsPrefix, StopEnds, StopTakesOnceOff}
-pub use Rattle.pmd_laws.specs.Told.{AllFollow, Drove, Follows, HasNoneOut, IsTold, IsToldOf, IsToldToLook, LooksInVain,
-    Moment, Told, last}
+pub use Rattle.pmd_laws.specs.Stopped.{FailedStopEnds, FailedStopTakesOnceOff, HandedIsPrefix, IsStopping, NoCallTakes}
+pub use Rattle.pmd_laws.specs.Stopped.{SentIsPrefix, StopEnds, StopTakesOnceOff}
+pub use Rattle.pmd_laws.specs.Told.{AllFollow, Drove, Follows, HasNoneOut, IsTold, IsToldOf, IsToldToLook, LooksInVain}
+pub use Rattle.pmd_laws.specs.Told.{Moment, Told, last}
 pub use Rattle.pmd_laws.specs.Waits.{IsToldToWait, WaitingIsNotAllAsTold, WaitingIsNotAllBefore, Waits}

@@ -5,15 +5,18 @@ use Rattle.pmd.specs.PmdSeam.declared.fault.PmdFault.TheVariants.{BadSize}
 use Rattle.start_laws.proofs.Laid.{laid_queue_is_silent}
 use Rattle.start_laws.specs.TransmitLaws.Sent.{counted_by, goes_on}
 use Rattle.pmd_laws.specs.Refused.{LeftOfRefusedIsPrefix, Refused, RefusedSendsNothing}
-use Rattle.pmd_laws.proofs.Laid.{LaysBetween, LaysSome, Stays, first_lays, going_on_fails, lays_behind, lending_stays,
-    lends_stay, receive_fails, receive_ready, stays_between, then_between, words_lay, words_stop}
-use Rattle.pmd_laws.proofs.Prelude.{[], ◌&&◌, ◌++◌, ◌∙◌, ◌∷◌, ◌≡◌, AtPort, Block, Bool, Call, ComesDown, Each, Empty,
-    Entry, Err, Event, GoingOnFails, Halted, IsEnding, IsHalfStarted, IsHome, IsLeftWith, IsShut, Laid, LaysOn, List,
-    MayAsk, NeverLived, None, Numbers, Off, Option, PmdFault, PreparingFails, Receive, Rest, Rx, Rxdctl, Some,
-    StartRefused, State, StopsStarting, Tx, Txdctl, ℕ, after, and_parts, ap, append-nil, append_assoc,
-    append_cancel_left, bytes_of, call_in, calls_joined, calls_of, calls_own, cond, delivered, either_way, eq-eqb,
-    false, has_bit, inl, inr, is_size, leads_to, most_blocks, refl, ring_blocks, sent_by, sent_in, sent_since,
-    start_gate, subst, sym, then_made, true}
+use Rattle.pmd_laws.proofs.Laid.{LaysBetween, LaysSome, Stays, first_lays, going_on_fails, lays_behind, lending_stays}
+use Rattle.pmd_laws.proofs.Laid.{lends_stay, receive_fails, receive_ready, stays_between, then_between, words_lay}
+use Rattle.pmd_laws.proofs.Laid.{words_stop}
+use Rattle.pmd_laws.proofs.Prelude.{[], ◌&&◌, ◌++◌, ◌∙◌, ◌∷◌, ◌≡◌, AtPort, Block, Bool, Call, ComesDown, Each, Empty}
+use Rattle.pmd_laws.proofs.Prelude.{Entry, Err, Event, GoingOnFails, Halted, IsEnding, IsHalfStarted, IsHome}
+use Rattle.pmd_laws.proofs.Prelude.{IsLeftWith, IsShut, Laid, LaysOn, List, MayAsk, NeverLived, None, Numbers, Off}
+use Rattle.pmd_laws.proofs.Prelude.{Option, PmdFault, PreparingFails, Receive, Rest, Rx, Rxdctl, Some, StartRefused}
+use Rattle.pmd_laws.proofs.Prelude.{State, StopsStarting, Tx, Txdctl, ℕ, after, and_parts, ap, append-nil, append_assoc}
+use Rattle.pmd_laws.proofs.Prelude.{append_cancel_left, bytes_of, call_in, calls_joined, calls_of, calls_own, cond}
+use Rattle.pmd_laws.proofs.Prelude.{delivered, either_way, eq-eqb, false, has_bit, inl, inr, is_size, leads_to}
+use Rattle.pmd_laws.proofs.Prelude.{most_blocks, refl, ring_blocks, sent_by, sent_in, sent_since, start_gate, subst}
+use Rattle.pmd_laws.proofs.Prelude.{sym, then_made, true}
 use Rattle.pmd_laws.proofs.StopCalls.{stopped_ends}
 use Rattle.nic_device.specs.declared.event.Event.TheVariants as event
 use Rattle.pmd.specs.declared.start.Rest.TheVariants as rest
@@ -119,13 +122,17 @@ module _ (q : AtPort) (size frame : ℕ) (old : List Call) (a : Numbers) (e : St
   by_gate None is =
       let stops = x.stops is in
       let sized = (and_parts _ _ (is_passed (is_size size && is_frame frame) _ BadSize is)).0 in
-      let (l, so_far) = starting_lays q size frame sized old a x.made e stops in
-      (l, then_between q Off l l old x.made new so_far
-        (stopping_lays q size frame old a x.made e new left l stops x.down))
+      let (l, so_far) = starting_lays q size frame sized old a x.made e stops in (
+        l,
+        then_between q Off l l old x.made new so_far
+            (stopping_lays q size frame old a x.made e new left l stops x.down),
+      )
   by_gate (Some f) is =
-      let (why, home, none) = subst (λ (g : Option PmdFault). IsShut g a old x.made (Err e)) is x.shut in
-      (Off, subst (λ (made : List Call). LaysBetween q Off made new Off) none
-        (home_lays q Off a e.rest x.made new left home x.down))
+      let (why, home, none) = subst (λ (g : Option PmdFault). IsShut g a old x.made (Err e)) is x.shut in (
+        Off,
+        subst (λ (made : List Call). LaysBetween q Off made new Off) none
+            (home_lays q Off a e.rest x.made new left home x.down),
+      )
 
 -- where nothing is sent at all, nothing is counted
 
@@ -162,9 +169,11 @@ module _ (x : Refused) where
       let both : made ≡ x.since ++ x.rest =
       append_cancel_left old made (x.since ++ x.rest) (sym is ∙ x.all ∙ append_assoc old x.since x.rest) in
       let (last, so_far, more) = first_lays q Off end x.since x.rest
-      (subst (λ (cs : List Call). LaysOn q Off cs end) both all) in
-      (last, lays_behind q Off last x.steps calls x.stepped
-        (subst (λ (cs : List Call). LaysOn q Off cs last) since_is so_far))
+      (subst (λ (cs : List Call). LaysOn q Off cs end) both all) in (
+        last,
+        lays_behind q Off last x.steps calls x.stepped
+            (subst (λ (cs : List Call). LaysOn q Off cs last) since_is so_far),
+      )
 
 pub refused_sends_nothing : RefusedSendsNothing
 refused_sends_nothing x =

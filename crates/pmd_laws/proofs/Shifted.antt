@@ -3,13 +3,15 @@ use Rattle.pmd.specs.PmdRx.Filling.{StopsFilling}
 use Rattle.pmd.specs.PmdRx.Plays.{LooksInVain}
 use Rattle.pmd.specs.PmdRx.Wrong.{EndsWrong}
 use Rattle.pmd.specs.Starting.{GoesOn}
-use Rattle.pmd_laws.proofs.Prelude.{[], ◌++◌, ◌∙◌, ◌∷◌, ◌≡◌, ◌⊎◌, Access, Adds, AreMade, AreMadeOf, AreUp, AtPort,
-    Block, Blocks, Bool, Call, DeviceFault, Dir, DrivesApart, DrivesRings, EndsOnceOff, Event, FaultsEarly,
-    FaultsFilling, FindsFault, Halves, IsAsking, IsEnding, IsMade, IsOtherwise, IsPrepared, IsReceiveReady, IsStrayRead,
-    IsSwitched, IsTransmitReady, LendsEach, List, LooksLast, Numbers, Plays, PlaysFrom, PollsEnd, PreparingFails,
-    Receive, ReceiveFails, Reply, RowId, Running, Rx, Sees, Sender, Sets, StopsBy, StopsLending, SwitchFails,
-    TakesOnceOff, Tx, ℕ, ap, append-nil, append_assoc, append_cancel_left, both_asked, both_quiet, call_of, enable_row,
-    false, inl, inr, missed, not, polled, quiet, receive_polled, refl, ring_words, subst, sym, true}
+use Rattle.pmd_laws.proofs.Prelude.{[], ◌++◌, ◌∙◌, ◌∷◌, ◌≡◌, ◌⊎◌, Access, Adds, AreMade, AreMadeOf, AreUp, AtPort}
+use Rattle.pmd_laws.proofs.Prelude.{Block, Blocks, Bool, Call, DeviceFault, Dir, DrivesApart, DrivesRings, EndsOnceOff}
+use Rattle.pmd_laws.proofs.Prelude.{Event, FaultsEarly, FaultsFilling, FindsFault, Halves, IsAsking, IsEnding, IsMade}
+use Rattle.pmd_laws.proofs.Prelude.{IsOtherwise, IsPrepared, IsReceiveReady, IsStrayRead, IsSwitched, IsTransmitReady}
+use Rattle.pmd_laws.proofs.Prelude.{LendsEach, List, LooksLast, Numbers, Plays, PlaysFrom, PollsEnd, PreparingFails}
+use Rattle.pmd_laws.proofs.Prelude.{Receive, ReceiveFails, Reply, RowId, Running, Rx, Sees, Sender, Sets, StopsBy}
+use Rattle.pmd_laws.proofs.Prelude.{StopsLending, SwitchFails, TakesOnceOff, Tx, ℕ, ap, append-nil, append_assoc}
+use Rattle.pmd_laws.proofs.Prelude.{append_cancel_left, both_asked, both_quiet, call_of, enable_row, false, inl, inr}
+use Rattle.pmd_laws.proofs.Prelude.{missed, not, polled, quiet, receive_polled, refl, ring_words, subst, sym, true}
 use Rattle.pmd.specs.PmdTx.Plays as sending
 
 -- some calls were added, of which this holds, whatever calls are before them
@@ -103,8 +105,17 @@ in_vain_shift v w old new x =
     record { since = since; made = made; behind = λ front. (marks, since, refl, own, is, steps) } in
     joined looks (adds_shift _ _ x.mid new x.last)
     (λ o m n plays last. record {
-      mid = m; looks = plays; bytes = x.bytes; last = last; waits = x.waits; stage = x.stage; posted = x.posted;
-      holds_none = x.holds_none; none_whole = x.none_whole; none_named = x.none_named; left = x.left
+      mid = m;
+      looks = plays;
+      bytes = x.bytes;
+      last = last;
+      waits = x.waits;
+      stage = x.stage;
+      posted = x.posted;
+      holds_none = x.holds_none;
+      none_whole = x.none_whole;
+      none_named = x.none_named;
+      left = x.left;
     })
 
 pub waiting_shift : (v w : Sender) (old new : List Call) → LooksLast old v new w
@@ -115,8 +126,15 @@ waiting_shift v w old new x =
     record { since = since; made = made; behind = λ front. (moves, since, refl, own, is, steps) } in
     joined plays (adds_shift _ _ x.mid new x.looks)
     (λ o m n before looks. record {
-      mid = m; before = x.before; bytes = x.bytes; plays = before; looks = looks; waits = x.waits; posted = x.posted;
-      accepted = x.accepted; left = x.left
+      mid = m;
+      before = x.before;
+      bytes = x.bytes;
+      plays = before;
+      looks = looks;
+      waits = x.waits;
+      posted = x.posted;
+      accepted = x.accepted;
+      left = x.left;
     })
 
 -- a call that finds the device at fault
@@ -125,8 +143,16 @@ pub finds_shift : {own : Blocks} {h : Halves} {old new : List Call} → FindsFau
 finds_shift {new = new} x =
     joined (apart_shift x.drives) (adds_shift x.event x.reply x.mid new x.adds)
     (λ o m n drives adds. record {
-      mid = m; there = x.there; doer = x.doer; event = x.event; reply = x.reply; drives = drives; mine = x.mine;
-      apart = x.apart; adds = adds; sick = x.sick
+      mid = m;
+      there = x.there;
+      doer = x.doer;
+      event = x.event;
+      reply = x.reply;
+      drives = drives;
+      mine = x.mine;
+      apart = x.apart;
+      adds = adds;
+      sick = x.sick;
     })
 
 -- accesses of registers, and those that stop
@@ -231,8 +257,14 @@ lending_shift {out = out} {old = old} {new = new} x =
     let (back, adds) = x.fails in
     joined (lends_shift out old x.mid x.lent) (adds_shift _ _ x.mid new adds)
     (λ o m n lent again. record {
-      next = x.next; rest = x.rest; parts = x.parts; drawn = x.drawn; free = x.free; mid = m; lent = lent;
-      fails = (back, again)
+      next = x.next;
+      rest = x.rest;
+      parts = x.parts;
+      drawn = x.drawn;
+      free = x.free;
+      mid = m;
+      lent = lent;
+      fails = (back, again);
     })
 
 preparing_shift : (q : AtPort) (side : Dir) (size : ℕ) (a b : Numbers) (out : List ℕ) (old new : List Call)
@@ -265,8 +297,17 @@ filling_shift {w = w} {new = new} x =
     mapped
     (both (paired (plays_shift so_far) (wrong_shift x.arena x.ring w x.mid new x.fails)) (plays_shift x.made))
     (λ o n y. record {
-      count = x.count; few = x.few; mid = y.0.0; arena = x.arena; ring = x.ring; plays = y.0.1.plays;
-      free = y.0.1.free; posts = x.posts; fails = y.0.2; made = y.1; none = x.none
+      count = x.count;
+      few = x.few;
+      mid = y.0.0;
+      arena = x.arena;
+      ring = x.ring;
+      plays = y.0.1.plays;
+      free = y.0.1.free;
+      posts = x.posts;
+      fails = y.0.2;
+      made = y.1;
+      none = x.none;
     })
 
 -- a start, with the place behind its first access
@@ -278,22 +319,47 @@ ready_shift : {q : AtPort} {size frame : ℕ} {a b : Numbers} {v : Receive} {old
 ready_shift {q = q} {old = old} x =
     let (at, is, first) =
     first_made_shift q (Sees (enable_row Rx) false) (Sets (enable_row Rx) 0 ∷ Sees (enable_row Rx) false ∷ quiet Tx) old
-    x.mid x.quiet in (at, is, joined first (prepared_shift x.prepared) (λ o m n y prepared. (
-      record {
-        mid = m; quiet = y.0; ring = x.ring; prepared = prepared; tail = x.tail; named = x.named; fresh = x.fresh
-      }, y.1)))
+    x.mid x.quiet in (
+      at,
+      is,
+      joined first (prepared_shift x.prepared) (λ o m n y prepared. (
+        record {
+          mid = m;
+          quiet = y.0;
+          ring = x.ring;
+          prepared = prepared;
+          tail = x.tail;
+          named = x.named;
+          fresh = x.fresh;
+        },
+        y.1,
+      )),
+    )
 
 pub up_shift : {q : AtPort} {size frame : ℕ} {a : Numbers} {r : Running} {old new : List Call}
     (x : AreUp q size frame old a new r)
     → (at : List Call) × (x.receive.quiet.0 ≡ old ++ at)
     × Shifts (λ o n. (y : AreUp q size frame o a n r) × (y.receive.quiet.0 ≡ o ++ at)) old new
 up_shift x =
-    let (at, is, ready) = ready_shift x.receive in
-    (at, is, joined ready (paired (transmit_shift x.transmit) (goes_on_shift x.on)) (λ o m n y z. (
-      record {
-        sized = x.sized; framed = x.framed; ready_made = m; both_made = z.0; ready_arena = x.ready_arena;
-        both_arena = x.both_arena; empty = x.empty; receive = y.0; transmit = z.1; on = z.2
-      }, y.1)))
+    let (at, is, ready) = ready_shift x.receive in (
+      at,
+      is,
+      joined ready (paired (transmit_shift x.transmit) (goes_on_shift x.on)) (λ o m n y z. (
+        record {
+          sized = x.sized;
+          framed = x.framed;
+          ready_made = m;
+          both_made = z.0;
+          ready_arena = x.ready_arena;
+          both_arena = x.both_arena;
+          empty = x.empty;
+          receive = y.0;
+          transmit = z.1;
+          on = z.2;
+        },
+        y.1,
+      )),
+    )
 
 -- one that ends with the device at fault
 
@@ -310,14 +376,27 @@ module _ (q : AtPort) (size frame : ℕ) (a : Numbers) (old new : List Call) whe
       joined (receive_shift x.receive)
       (preparing_shift q Tx size x.ready_arena x.arena x.out x.made new x.fails)
       (λ o m n y z. inr (inl (record {
-        made = m; ready_arena = x.ready_arena; arena = x.arena; empty = x.empty; out = x.out; receive = y; fails = z
+        made = m;
+        ready_arena = x.ready_arena;
+        arena = x.arena;
+        empty = x.empty;
+        out = x.out;
+        receive = y;
+        fails = z;
       })))
   early_shift (inr (inr x)) =
       joined (paired (receive_shift x.receive) (transmit_shift x.transmit))
       (switch_fails_shift q true 1000 x.both_made new x.fails)
       (λ o m n y z. inr (inr (record {
-        ready_made = y.0; both_made = m; ready_arena = x.ready_arena; both_arena = x.both_arena; empty = x.empty;
-        sender = x.sender; receive = y.1; transmit = y.2; fails = z
+        ready_made = y.0;
+        both_made = m;
+        ready_arena = x.ready_arena;
+        both_arena = x.both_arena;
+        empty = x.empty;
+        sender = x.sender;
+        receive = y.1;
+        transmit = y.2;
+        fails = z;
       })))
 
   pub fault_shift : FaultsEarly q size frame old a new ⊎ FaultsFilling q size frame old a new
@@ -329,11 +408,23 @@ module _ (q : AtPort) (size frame : ℕ) (a : Numbers) (old new : List Call) whe
       (paired (paired (receive_shift on.receive) (transmit_shift on.transmit))
       (switched_shift q true 1000 on.both_made x.mid on.switched)) (filling_shift x.fails)
       (λ o m n y fails. inr (record {
-        mid = m; empty = x.empty; sender = x.sender; arena = x.arena; filled = x.filled; fails = fails;
+        mid = m;
+        empty = x.empty;
+        sender = x.sender;
+        arena = x.arena;
+        filled = x.filled;
+        fails = fails;
         on = record {
-          sized = on.sized; framed = on.framed; ready_made = y.1.0; both_made = y.0; ready_arena = on.ready_arena;
-          both_arena = on.both_arena; receive = y.1.1; transmit = y.1.2; switched = y.2
-        }
+          sized = on.sized;
+          framed = on.framed;
+          ready_made = y.1.0;
+          both_made = y.0;
+          ready_arena = on.ready_arena;
+          both_arena = on.both_arena;
+          receive = y.1.1;
+          transmit = y.1.2;
+          switched = y.2;
+        };
       }))
 
 -- a stop: where both sides were off
@@ -341,9 +432,12 @@ module _ (q : AtPort) (size frame : ℕ) (a : Numbers) (old new : List Call) whe
 pub once_off_shift : {q : AtPort} {old new : List Call} (x : EndsOnceOff q old new)
     → (at : List Call) × (x.off ≡ old ++ at) × Shifts (λ o n. (y : EndsOnceOff q o n) × (y.off ≡ o ++ at)) old new
 once_off_shift {q = q} {old = old} x =
-    let off = paired (of_shift (IsAsking q) x.asks) (switched_shift q false 1000 x.mid x.off x.switched) in
-    (off.since, off.made, joined (known off) (of_shift (IsEnding q) x.ends) (λ o m n y ends.
-      (record { mid = y.0.0; off = m; asks = y.0.1; switched = y.0.2; ends = ends }, y.1)))
+    let off = paired (of_shift (IsAsking q) x.asks) (switched_shift q false 1000 x.mid x.off x.switched) in (
+      off.since,
+      off.made,
+      joined (known off) (of_shift (IsEnding q) x.ends) (λ o m n y ends.
+          (record { mid = y.0.0; off = m; asks = y.0.1; switched = y.0.2; ends = ends }, y.1)),
+    )
 
 pub takes_shift : (q : AtPort) (old new : List Call) → TakesOnceOff q old new
     → Shifts (λ o n. TakesOnceOff q o n) old new

@@ -6,18 +6,20 @@ use Rattle.pmd.proofs.Starting.{preparing_drawn}
 use Rattle.start_laws.specs.Faultless.{NoneIsLent}
 use Rattle.start_laws.specs.Filling.{LendsFresh}
 use Rattle.pmd_laws.proofs.Begun.{drawn_both, drawn_gone, may}
-use Rattle.pmd_laws.proofs.Lent.{IsRising, Rises, RisesToLast, all_rise, lends_rise, off_driven, others_before,
-    quieted_rises, ready_rises, step_rises, unlent_before, words_rise}
+use Rattle.pmd_laws.proofs.Lent.{IsRising, Rises, RisesToLast, all_rise, lends_rise, off_driven, others_before}
+use Rattle.pmd_laws.proofs.Lent.{quieted_rises, ready_rises, step_rises, unlent_before, words_rise}
 use Rattle.pmd_laws.proofs.NoFault.{found_on, no_fault_once_on}
 use Rattle.pmd_laws.proofs.Order.{along_before, last_before}
-use Rattle.pmd_laws.proofs.Prelude.{[], ◌++◌, ◌+◌, ◌<◌, ◌==◌, ◌∙◌, ◌∷◌, ◌≡◌, ◌⊎◌, Access, Adds, AllAre, AreMade, AtPort,
-    BeforeLast, BeforeNext, BeginsApart, Block, Blocks, Call, DeviceFault, Dir, Entry, Event, FaultsEarly,
-    FaultsFilling, FindsFault, Halves, IsDrawn, IsDriven, IsFalse, IsMade, IsOtherwise, IsQuietAndFresh, List, Numbers,
-    OnlyPassLends, PreparingFails, ReceiveFails, Reply, Rx, Rxdctl, Sees, Sets, State, StopsBy, Tx, Watched, ℕ,
-    all_before, among_times, ap, arith, both_quiet, both_ways, call_of, false, free_before, has_block, inl, inr, is_own,
-    is_own-of_free, is_step, list_any, no_fault_is_early, none_made, parts, receiving_apart, refl, ring_block_is,
-    ring_block_out, ring_blocks, ring_words, some_made, subst, sym, then_made, times-append, times_among, times_in_hand,
-    true, words_are_writes, writes_driven}
+use Rattle.pmd_laws.proofs.Prelude.{[], ◌++◌, ◌+◌, ◌<◌, ◌==◌, ◌∙◌, ◌∷◌, ◌≡◌, ◌⊎◌, Access, Adds, AllAre, AreMade, AtPort}
+use Rattle.pmd_laws.proofs.Prelude.{BeforeLast, BeforeNext, BeginsApart, Block, Blocks, Call, DeviceFault, Dir, Entry}
+use Rattle.pmd_laws.proofs.Prelude.{Event, FaultsEarly, FaultsFilling, FindsFault, Halves, IsDrawn, IsDriven, IsFalse}
+use Rattle.pmd_laws.proofs.Prelude.{IsMade, IsOtherwise, IsQuietAndFresh, List, Numbers, OnlyPassLends, PreparingFails}
+use Rattle.pmd_laws.proofs.Prelude.{ReceiveFails, Reply, Rx, Rxdctl, Sees, Sets, State, StopsBy, Tx, Watched, ℕ}
+use Rattle.pmd_laws.proofs.Prelude.{all_before, among_times, ap, arith, both_quiet, both_ways, call_of, false}
+use Rattle.pmd_laws.proofs.Prelude.{free_before, has_block, inl, inr, is_own, is_own-of_free, is_step, list_any}
+use Rattle.pmd_laws.proofs.Prelude.{no_fault_is_early, none_made, parts, receiving_apart, refl, ring_block_is}
+use Rattle.pmd_laws.proofs.Prelude.{ring_block_out, ring_blocks, ring_words, some_made, subst, sym, then_made}
+use Rattle.pmd_laws.proofs.Prelude.{times-append, times_among, times_in_hand, true, words_are_writes, writes_driven}
 use Rattle.nic_device.specs.declared.event.Event.TheVariants as event
 use Rattle.nic_device.specs.declared.event.Reply.TheVariants as reply
 

@@ -2,11 +2,12 @@
 -- are off; and so do those of them that were made so far.
 use Rattle.pmd.specs.declared.home.Home.{Home}
 use Rattle.start_laws.proofs.StopCalls.{bringing_ends, switched_off_asks, unswitched_asks}
-use Rattle.pmd_laws.proofs.Prelude.{[], ◌++◌, ◌∙◌, ◌∷◌, ◌≡◌, ◌⊎◌, AreMadeOf, Asks, AtPort, Begins, Block, Call,
-    ComesHome, Each, Ends, EndsOnceOff, Event, FailedStopEnds, FailedStopTakesOnceOff, Halted, IsAsking, IsEnding,
-    IsLeftAmid, IsStopped, IsSwitched, List, NoCallTakes, None, Option, PmdFault, Rest, Some, StopEnds,
-    StopTakesOnceOff, TakesOnceOff, ap, append_assoc, append_cancel_left, asks_end, bringing, brought, closed, false,
-    inl, inr, none_made, one_begins, refl, some_made, step_ends, subst, sym, then_made}
+use Rattle.pmd_laws.proofs.Prelude.{[], ◌++◌, ◌∙◌, ◌∷◌, ◌≡◌, ◌⊎◌, AreMadeOf, Asks, AtPort, Begins, Block, Call}
+use Rattle.pmd_laws.proofs.Prelude.{ComesHome, Each, Ends, EndsOnceOff, Event, FailedStopEnds, FailedStopTakesOnceOff}
+use Rattle.pmd_laws.proofs.Prelude.{Halted, IsAsking, IsEnding, IsLeftAmid, IsStopped, IsSwitched, List, NoCallTakes}
+use Rattle.pmd_laws.proofs.Prelude.{None, Option, PmdFault, Rest, Some, StopEnds, StopTakesOnceOff, TakesOnceOff, ap}
+use Rattle.pmd_laws.proofs.Prelude.{append_assoc, append_cancel_left, asks_end, bringing, brought, closed, false, inl}
+use Rattle.pmd_laws.proofs.Prelude.{inr, none_made, one_begins, refl, some_made, step_ends, subst, sym, then_made}
 use Rattle.pmd.specs.declared.start.Rest.TheVariants as rest
 
 module _ (P : Event Block → Type 0) where
@@ -36,8 +37,11 @@ module _ (q : AtPort) (old now new since rest : List Call) (some : now ≡ old +
   so_far x (inl (back, is)) =
       inl (first_made (IsAsking q) old now x.off since back (off_asks q old new x) some (sym is))
   so_far x (inr (back, is)) = inr (record {
-    mid = x.mid; off = x.off; asks = x.asks; switched = x.switched;
-    ends = first_made (IsEnding q) x.off now new back rest x.ends (sym is) all
+    mid = x.mid;
+    off = x.off;
+    asks = x.asks;
+    switched = x.switched;
+    ends = first_made (IsEnding q) x.off now new back rest x.ends (sym is) all;
   })
 
   pub first_takes : TakesOnceOff q old new → TakesOnceOff q old now
@@ -61,8 +65,11 @@ amid_ends f q old h new left (refusal, is, (count, mid, some, more, arena, way, 
 
 on_ends : (q : AtPort) (old mid new : List Call) → EndsOnceOff q old mid → Ends q mid new → EndsOnceOff q old new
 on_ends q old mid new x more = record {
-  mid = x.mid; off = x.off; asks = x.asks; switched = x.switched;
-  ends = then_made (IsEnding q) x.off mid new x.ends more
+  mid = x.mid;
+  off = x.off;
+  asks = x.asks;
+  switched = x.switched;
+  ends = then_made (IsEnding q) x.off mid new x.ends more;
 }
 
 once_off : (q : AtPort) (old mid off new : List Call) → TakesOnceOff q old mid → IsSwitched q mid off false 1000

@@ -13,14 +13,16 @@ use Rattle.driver_laws.proofs.Meeting.{enable_words_keep}
 use Rattle.driver_laws.proofs.Meeting.{Meets, neither_keeps}
 use Rattle.driver_laws.specs.Enabling.{MayAsk}
 use Rattle.pmd_laws.proofs.Order.{counted, driven, first, in_all, in_parts, last, life_before, went_on, whole}
-use Rattle.pmd_laws.proofs.Prelude.{[], ◌++◌, ◌∙◌, ◌∷◌, ◌≡◌, ◌≢◌, AreLent, Asks, AtCalls, AtEntries, AtPort, Block,
-    Blocks, BothAgree, Call, Dir, EndsOnceOff, Entry, Event, Halves, HasGround, IsAsking, IsEvent, IsFalse, IsLived,
-    IsNumberOf, IsPrefixOf, IsQuiet, IsSettled, IsSilent, IsStopping, IsTrue, IsUp, KeptOver, LeadsOver, Life, List,
-    Piece, Rx, SentIsPrefix, Settles, State, TakesOnceOff, Tx, Watched, WritesOutside, ℕ, after, all_lead, ap,
-    append-nil, both_ways, bytes_of, calls_of, cond, drop, enable_row, false, free_left, ground_kept, has_bit, inl, inr,
-    leads-append, leads_to, led, left_settles, lent_before, lent_by, mode_in, parts, pieces, pieces_in, reached,
-    reached_next, reply_to, sent_by, sent_in, sent_is_counted, sent_since, subst, sym, vfs_stays, word_settles,
-    write_ground}
+use Rattle.pmd_laws.proofs.Prelude.{[], ◌++◌, ◌∙◌, ◌∷◌, ◌≡◌, ◌≢◌, AreLent, Asks, AtCalls, AtEntries, AtPort, Block}
+use Rattle.pmd_laws.proofs.Prelude.{Blocks, BothAgree, Call, Dir, EndsOnceOff, Entry, Event, Halves, HasGround}
+use Rattle.pmd_laws.proofs.Prelude.{IsAsking, IsEvent, IsFalse, IsLived, IsNumberOf, IsPrefixOf, IsQuiet, IsSettled}
+use Rattle.pmd_laws.proofs.Prelude.{IsSilent, IsStopping, IsTrue, IsUp, KeptOver, LeadsOver, Life, List, Piece, Rx}
+use Rattle.pmd_laws.proofs.Prelude.{SentIsPrefix, Settles, State, TakesOnceOff, Tx, Watched, WritesOutside, ℕ, after}
+use Rattle.pmd_laws.proofs.Prelude.{all_lead, ap, append-nil, both_ways, bytes_of, calls_of, cond, drop, enable_row}
+use Rattle.pmd_laws.proofs.Prelude.{false, free_left, ground_kept, has_bit, inl, inr, leads-append, leads_to, led}
+use Rattle.pmd_laws.proofs.Prelude.{left_settles, lent_before, lent_by, mode_in, parts, pieces, pieces_in, reached}
+use Rattle.pmd_laws.proofs.Prelude.{reached_next, reply_to, sent_by, sent_in, sent_is_counted, sent_since, subst, sym}
+use Rattle.pmd_laws.proofs.Prelude.{vfs_stays, word_settles, write_ground}
 use Rattle.pmd_laws.proofs.StopCalls.{off_asks}
 use Rattle.pmd_laws.proofs.Stopped.{ground_lived, made_some, some_more}
 use Rattle.nic_device.specs.declared.event.Event.TheVariants as event

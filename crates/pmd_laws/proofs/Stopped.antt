@@ -9,15 +9,18 @@ use Rattle.start_laws.proofs.ReceiveLaws.DeviceLaws.Standing.{stays_within}
 use Rattle.start_laws.specs.ReceiveLaws.Delivered.{IsPrefixOf}
 use Rattle.start_laws.specs.ReceiveLaws.Pieces.{packet_told, packets_behind}
 use Rattle.pmd_laws.proofs.Order.{driven, first, handed_of_life, in_parts, life_before, whole}
-use Rattle.pmd_laws.proofs.Prelude.{[], ◌++◌, ◌∙◌, ◌∷◌, ◌≡◌, ◌≢◌, ◌⊎◌, Accepts, Advances, AllOwn, AtEntries, AtPort,
-    Block, Blocks, Call, Doer, Each, Elsewhere, Entry, Event, Halves, HandedIsPrefix, HasGround, IsEnding, IsLived,
-    IsPlain, IsSettled, IsStopping, IsTrue, KeptOver, LeadsOver, Lends, Life, List, Move, NamesDriven, None, Option,
-    OthersHarmless, OwnCall, Piece, Port, Reaps, Receive, Receives, Reply, Rx, Sender, Sends, Settles, Some, State,
-    Watched, ℕ, after, after_call, all_lead, ap, append-nil, append_assoc, cases_Bool, cond, delivered, drive,
-    either_way, ending_plain, ending_settles, false, ground_at, ground_kept, ground_same, inl, inr, is_harmless,
-    is_neither, leads-append, leads_to, led, left, left-setting, left_settles, lent_by, looked, mode_in, on_some,
-    option_map, packets_if_any, pieces, pieces_since, plain_keeps, posts_all, reached, reached_next, refl, since-append,
-    state_kept, state_leads, subst, sym, took}
+use Rattle.pmd_laws.proofs.Prelude.{[], ◌++◌, ◌∙◌, ◌∷◌, ◌≡◌, ◌≢◌, ◌⊎◌, Accepts, Advances, AllOwn, AtEntries, AtPort}
+use Rattle.pmd_laws.proofs.Prelude.{Block, Blocks, Call, Doer, Each, Elsewhere, Entry, Event, Halves, HandedIsPrefix}
+use Rattle.pmd_laws.proofs.Prelude.{HasGround, IsEnding, IsLived, IsPlain, IsSettled, IsStopping, IsTrue, KeptOver}
+use Rattle.pmd_laws.proofs.Prelude.{LeadsOver, Lends, Life, List, Move, NamesDriven, None, Option, OthersHarmless}
+use Rattle.pmd_laws.proofs.Prelude.{OwnCall, Piece, Port, Reaps, Receive, Receives, Reply, Rx, Sender, Sends, Settles}
+use Rattle.pmd_laws.proofs.Prelude.{Some, State, Watched, ℕ, after, after_call, all_lead, ap, append-nil, append_assoc}
+use Rattle.pmd_laws.proofs.Prelude.{cases_Bool, cond, delivered, drive, either_way, ending_plain, ending_settles, false}
+use Rattle.pmd_laws.proofs.Prelude.{ground_at, ground_kept, ground_same, inl, inr, is_harmless, is_neither}
+use Rattle.pmd_laws.proofs.Prelude.{leads-append, leads_to, led, left, left-setting, left_settles, lent_by, looked}
+use Rattle.pmd_laws.proofs.Prelude.{mode_in, on_some, option_map, packets_if_any, pieces, pieces_since, plain_keeps}
+use Rattle.pmd_laws.proofs.Prelude.{posts_all, reached, reached_next, refl, since-append, state_kept, state_leads}
+use Rattle.pmd_laws.proofs.Prelude.{subst, sym, took}
 use Rattle.nic_device.specs.declared.event.Event.TheVariants as event
 use Rattle.nic_device.specs.declared.event.Reply.TheVariants as reply
 use Rattle.pmd.specs.PmdRx.Receive as receiving

@@ -5,10 +5,11 @@ use Rattle.pmd_laws.specs.Told.{now}
 use Rattle.pmd_laws.proofs.Begun.{all_apart, fresh_own}
 use Rattle.pmd_laws.proofs.Looks.{none_at_first, none_before_look, waiting_before_look}
 use Rattle.pmd_laws.proofs.Order.{handed_of_life, idle_of_life, sent_of_life}
-use Rattle.pmd_laws.proofs.Prelude.{[], ◌∙◌, ◌∷◌, ◌≡◌, AllFollow, AtPort, Blocks, Call, Down, DrivesRings, Follows,
-    Halves, HasNoneOut, IsTold, IsToldToLook, LeadsApart, Life, List, Lives, Moment, Numbers, OwnsSame, Rings, Running,
-    Told, Up, WaitingIsNotAllAsTold, WhereUp, ℕ, accepted_of, ap, apart_leads_on, bytes_of, driven_apart, first_of,
-    halves_of, handed_of, harmless_apart, inl, inr, is_own, last, refl, subst, sym}
+use Rattle.pmd_laws.proofs.Prelude.{[], ◌∙◌, ◌∷◌, ◌≡◌, AllFollow, AtPort, Blocks, Call, Down, DrivesRings, Follows}
+use Rattle.pmd_laws.proofs.Prelude.{Halves, HasNoneOut, IsTold, IsToldToLook, LeadsApart, Life, List, Lives, Moment}
+use Rattle.pmd_laws.proofs.Prelude.{Numbers, OwnsSame, Rings, Running, Told, Up, WaitingIsNotAllAsTold, WhereUp, ℕ}
+use Rattle.pmd_laws.proofs.Prelude.{accepted_of, ap, apart_leads_on, bytes_of, driven_apart, first_of, halves_of}
+use Rattle.pmd_laws.proofs.Prelude.{handed_of, harmless_apart, inl, inr, is_own, last, refl, subst, sym}
 use Rattle.pmd_laws.specs.Looks as looks
 use Rattle.pmd_laws.specs.Told as told
 
@@ -103,9 +104,19 @@ module _ (x : Told) where
 
   abbrev pub life : Life
   life = record {
-    w = x.w; origin = x.origin; h = x.h; q = x.q; size = x.size; frame = x.frame; old = x.old; a = x.a;
-    started = x.m.made; r = x.told.started.0; made = (now x).made; k = halves_of goes.rings;
-    is = record { along = x.along; up = x.told.started.2; begins = x.begins; since = goes.leads.apart.leads }
+    w = x.w;
+    origin = x.origin;
+    h = x.h;
+    q = x.q;
+    size = x.size;
+    frame = x.frame;
+    old = x.old;
+    a = x.a;
+    started = x.m.made;
+    r = x.told.started.0;
+    made = (now x).made;
+    k = halves_of goes.rings;
+    is = record { along = x.along; up = x.told.started.2; begins = x.begins; since = goes.leads.apart.leads };
   }
 
   -- a call behind it that looks in vain does so behind that life

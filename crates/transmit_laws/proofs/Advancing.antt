@@ -82,8 +82,10 @@ module _ (s : State) (queue : ℕ) (sent : List (List ℕ)) (v : Sender) (f : �
         (omega (arith, h.counted.fetched_posted, h.counted.posted_poked)) (omega arith) h.counted.poked_lent;
     shows = record { ring = h.shows.ring; ready = h.shows.ready; done = h.shows.done; waits = h.shows.waits };
     sends = sends_on s t queue sent v.layout.limit (drop f v.outstanding) v.accepted refl
-        (λ x. (ap (λ (y : TransmitQueue). y.on) side_moved ∙ x.off,
-        ap (λ (y : TransmitQueue). y.wanted) side_moved ∙ x.unwanted)) h.sends;
+        (λ x. (
+          ap (λ (y : TransmitQueue). y.on) side_moved ∙ x.off,
+          ap (λ (y : TransmitQueue). y.wanted) side_moved ∙ x.unwanted,
+        )) h.sends;
   }
 
   pub advance_one : (port : Port) (n word : ℕ) → IsOwn v Advances (event.Write port n word)

@@ -1,8 +1,8 @@
 -- What is counted once a side is on is counted anew, whatever was before a place where it was off.
-use Rattle.pmd_laws.proofs.Prelude.{[], ◌&&◌, ◌++◌, ◌∙◌, ◌∷◌, ◌≡◌, Bool, Dir, Entry, IsFalse, IsTrue, List, None, Rx,
-    Some, State, Tx, ℕ, after, ap, both_ways, cases_Bool, cond, delivered, false, inl, inr, is_on, leads_to, not,
-    option_map, packets_if_any, pieces, pieces_since, refl, sent_by, sent_is_counted, sent_since, since-append, sym,
-    true}
+use Rattle.pmd_laws.proofs.Prelude.{[], ◌&&◌, ◌++◌, ◌∙◌, ◌∷◌, ◌≡◌, Bool, Dir, Entry, IsFalse, IsTrue, List, None, Rx}
+use Rattle.pmd_laws.proofs.Prelude.{Some, State, Tx, ℕ, after, ap, both_ways, cases_Bool, cond, delivered, false, inl}
+use Rattle.pmd_laws.proofs.Prelude.{inr, is_on, leads_to, not, option_map, packets_if_any, pieces, pieces_since, refl}
+use Rattle.pmd_laws.proofs.Prelude.{sent_by, sent_is_counted, sent_since, since-append, sym, true}
 use Rattle.pmd_laws.proofs.StartLaws.Histories.{leads-append}
 
 -- where a side goes on what was before doesn't count

@@ -2,11 +2,12 @@
 -- driver.
 use Rattle.workers.specs.Lending.{lends_none, lent_through}
 use Rattle.workers.specs.Starts.{Starts}
-use Rattle.pmd_laws.proofs.Prelude.{[], ◌++◌, ◌∙◌, ◌∷◌, ◌≡◌, AreEvents, AreSteps, AtPort, BeforeLast, Block, Blocks,
-    Bool, Call, Entry, Event, IsFalse, IsLegal, IsMade, LendsNone, List, NoneLent, OnlyPassLends, RowId, Rxdctl, Sees,
-    State, Watched, ℕ, ap, append_assoc, both_ways, call_in, call_of, calls_joined, calls_of, calls_own, eq-eqb,
-    events_before, false, has_block, is_own, is_step, leads_to, legal_before, new_state, not-true, refl, same_from_push,
-    subst, sym, true}
+use Rattle.pmd_laws.proofs.Prelude.{[], ◌++◌, ◌∙◌, ◌∷◌, ◌≡◌, AreEvents, AreSteps, AtPort, BeforeLast, Block, Blocks}
+use Rattle.pmd_laws.proofs.Prelude.{Bool, Call, Entry, Event, IsFalse, IsLegal, IsMade, LendsNone, List, NoneLent}
+use Rattle.pmd_laws.proofs.Prelude.{OnlyPassLends, RowId, Rxdctl, Sees, State, Watched, ℕ, ap, append_assoc, both_ways}
+use Rattle.pmd_laws.proofs.Prelude.{call_in, call_of, calls_joined, calls_of, calls_own, eq-eqb, events_before, false}
+use Rattle.pmd_laws.proofs.Prelude.{has_block, is_own, is_step, leads_to, legal_before, new_state, not-true, refl}
+use Rattle.pmd_laws.proofs.Prelude.{same_from_push, subst, sym, true}
 use Rattle.worker_laws.specs.Lending.{OthersLendNoneIsAlone}
 use Rattle.worker_laws.specs.Points.{HoldsAtFirst, JustBefore}
 use Rattle.worker_laws.proofs.Lent.{lent_is_told}
@@ -26,8 +27,11 @@ pub record FirstCall (old new : List Call) : Type 0 where
 pub first_read : (q : AtPort) (row : RowId) (on : Bool) (old new : List Call) → IsMade q old new (Sees row on)
     → FirstCall old new
 first_read q row on old new (number, word, named, is, (before, added, stepped)) = record {
-  steps = before; call = call_of (event.Read q.port number) (reply.Word word); is = added; stepped = stepped;
-  event = refl
+  steps = before;
+  call = call_of (event.Read q.port number) (reply.Word word);
+  is = added;
+  stepped = stepped;
+  event = refl;
 }
 
 -- and more calls behind it
@@ -49,9 +53,15 @@ calls_from tag old h x =
 abbrev pub starts_more : (tag : ℕ) (old : List Call) (h rest whole : List Entry) → h ++ rest ≡ whole
     → Starts tag old h → Starts tag old whole
 starts_more tag old h rest whole all x = record {
-  before = x.before; first = x.first; behind = x.behind ++ rest;
+  before = x.before;
+  first = x.first;
+  behind = x.behind ++ rest;
   all = sym (append_assoc x.before (x.first ∷ x.behind) rest) ∙ ap (λ (l : List Entry). l ++ rest) x.all ∙ all;
-  own = x.own; event = x.event; steps = x.steps; stepped = x.stepped; calls = x.calls
+  own = x.own;
+  event = x.event;
+  steps = x.steps;
+  stepped = x.stepped;
+  calls = x.calls;
 }
 
 -- what is so just before it is so just before those calls
@@ -63,8 +73,15 @@ module _ (w : Watched) (fifo : ℕ) (old : List Call) (h : List Entry) (P : Stat
       same_from_push (calls_of w.pass done) (old ++ f.steps) (call_in e) f.call
       (is ∙ f.is ∙ sym (append_assoc old f.steps (f.call ∷ []))) in
       just (record {
-        before = done; first = e; behind = rest; all = all; own = own; steps = f.steps; stepped = f.stepped;
-        calls = calls; event = ap (λ (c : Call). is_step c.event) call ∙ f.event
+        before = done;
+        first = e;
+        behind = rest;
+        all = all;
+        own = own;
+        steps = f.steps;
+        stepped = f.stepped;
+        calls = calls;
+        event = ap (λ (c : Call). is_step c.event) call ∙ f.event;
       })
 
   pub holds_at_first : HoldsAtFirst w fifo old h P

@@ -14,9 +14,10 @@ use Rattle.nic_device.specs.Step.{step_of}
 use Rattle.nic_device.specs.Switching.{without_part}
 use Rattle.workers.specs.Before.{known_through}
 use Rattle.workers.specs.Fitting.{let_in_by, longest_behind, longest_let_in}
-use Rattle.pmd_laws.proofs.Prelude.{[], ◌+◌, ◌∷◌, ◌≡◌, ◌≤◌, All, Block, Entry, Err, Event, FitsBlocks, IsLegal, List,
-    Ok, Reply, Rx, State, Waiting, ℕ, after, arith, either_way, has_queue, leads_to, legal_before, length, max, mode_in,
-    most_blocks, nat_lt, new_state, refl, subst, sym}
+use Rattle.pmd_laws.proofs.Prelude.{[], ◌+◌, ◌∷◌, ◌≡◌, ◌≤◌, All, Block, Entry, Err, Event, FitsBlocks, IsLegal, List}
+use Rattle.pmd_laws.proofs.Prelude.{Ok, Reply, Rx, State, Waiting, ℕ, after, arith, either_way, has_queue, leads_to}
+use Rattle.pmd_laws.proofs.Prelude.{legal_before, length, max, mode_in, most_blocks, nat_lt, new_state, refl, subst}
+use Rattle.pmd_laws.proofs.Prelude.{sym}
 use Rattle.pmd_laws.proofs.StartLaws.HistoryLaws.Lent.{waiting_changed}
 use Rattle.worker_laws.specs.Fitting.{AllFitBlocks, FramesFitIsShort}
 use Rattle.worker_laws.proofs.FirstCalls.{holds_at_first}

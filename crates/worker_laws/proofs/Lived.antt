@@ -1,12 +1,13 @@
 -- A driver that lived: what it left, counted from its first event on.
 use Rattle.workers.specs.Starts.{Starts}
 use Rattle.pmd_laws.proofs.Ends.{left_handed_over_stop, left_sent_over_stop}
-use Rattle.pmd_laws.proofs.Prelude.{[], ◌++◌, ◌∙◌, ◌∷◌, ◌≡◌, AreSteps, AreUp, AtPort, Begins, BeginsWell, Call, Ended,
-    Entry, HasGround, HasLived, IsAlong, IsFalse, IsOver, IsQuiet, IsTrue, List, Numbers, Option, Parts, PmdFault, Rest,
-    Rx, Rxdctl, Sees, Sets, State, Tx, Up, Watched, WentOn, ℕ, ap, append-nil, append_assoc, append_cancel_left, around,
-    both_ways, bytes_of, calls_joined, calls_of, delivered, extends, false, halted_of, inl, inr, is_on, is_step,
-    leads_to, left_accepted, left_handed, new_state, one_begins, parts, quiet, sent_since, start_goes_on, subst, sym,
-    true}
+use Rattle.pmd_laws.proofs.Prelude.{[], ◌++◌, ◌∙◌, ◌∷◌, ◌≡◌, AreSteps, AreUp, AtPort, Begins, BeginsWell, Call, Ended}
+use Rattle.pmd_laws.proofs.Prelude.{Entry, HasGround, HasLived, IsAlong, IsFalse, IsOver, IsQuiet, IsTrue, List}
+use Rattle.pmd_laws.proofs.Prelude.{Numbers, Option, Parts, PmdFault, Rest, Rx, Rxdctl, Sees, Sets, State, Tx, Up}
+use Rattle.pmd_laws.proofs.Prelude.{Watched, WentOn, ℕ, ap, append-nil, append_assoc, append_cancel_left, around}
+use Rattle.pmd_laws.proofs.Prelude.{both_ways, bytes_of, calls_joined, calls_of, delivered, extends, false, halted_of}
+use Rattle.pmd_laws.proofs.Prelude.{inl, inr, is_on, is_step, leads_to, left_accepted, left_handed, new_state}
+use Rattle.pmd_laws.proofs.Prelude.{one_begins, parts, quiet, sent_since, start_goes_on, subst, sym, true}
 use Rattle.pmd_laws.proofs.Shifted.{paired, prepared_shift, switched_shift}
 use Rattle.pmd_laws.proofs.StartLaws.Histories.{leads-append}
 use Rattle.pmd_laws.proofs.StartLaws.SwitchedOff.{quieting_leads}
@@ -72,8 +73,15 @@ module _ (w : Watched) (fifo : ℕ) (h : List Entry) {q : AtPort} {size frame : 
       around w.pass h (old ++ first.steps) first.call more
       (made ∙ all ∙ more_behind old up.receive.quiet.0 more first
       ∙ sym (append_assoc old first.steps (first.call ∷ more))) in record {
-        before = x.before; first = x.entry; behind = x.behind; all = x.all; own = x.own; steps = first.steps;
-        stepped = first.stepped; calls = x.made; event = ap (λ (c : Call). is_step c.event) x.call ∙ first.event
+        before = x.before;
+        first = x.entry;
+        behind = x.behind;
+        all = x.all;
+        own = x.own;
+        steps = first.steps;
+        stepped = first.stepped;
+        calls = x.made;
+        event = ap (λ (c : Call). is_step c.event) x.call ∙ first.event;
       }
 
   module _ (along : IsAlong w (new_state w.vfs fifo) h)
@@ -88,8 +96,20 @@ module _ (w : Watched) (fifo : ℕ) (h : List Entry) {q : AtPort} {size frame : 
 
     abbrev ended : Ended
     ended = record {
-      w = w; origin = origin; h = h; q = q; size = size; frame = frame; old = old; a = a; new = new; left = left;
-      late = late; lived = lived; along = along; begins = begins
+      w = w;
+      origin = origin;
+      h = h;
+      q = q;
+      size = size;
+      frame = frame;
+      old = old;
+      a = a;
+      new = new;
+      left = left;
+      late = late;
+      lived = lived;
+      along = along;
+      begins = begins;
     }
 
     over : IsOver ended

@@ -8,10 +8,11 @@ use Rattle.workers.specs.declared.fault.WorkerFault.{WorkerFault}
 use Rattle.workers.specs.declared.fault.WorkerFault.TheVariants.{GateShut, NoThread, Pmd}
 use Rattle.workers.specs.declared.job.Job.{Job}
 use Rattle.pmd_laws.proofs.Order.{along_before}
-use Rattle.pmd_laws.proofs.Prelude.{[], ◌++◌, ◌∙◌, ◌∷◌, ◌≡◌, ◌≢◌, ◌⊎◌, Call, Entry, HasGround, IsAlong, IsHome, IsQuiet,
-    IsSound, List, None, Numbers, Option, Rest, Some, State, Watched, ℕ, ap, append-nil, append_assoc, around, bytes_of,
-    call_in, calls_joined, calls_of, calls_own, delivered, eq-eqb, inl, inr, leads_to, left_accepted, left_handed,
-    new_sound, new_state, none_behind, refl, same_from_push, sent_since, subst, sym}
+use Rattle.pmd_laws.proofs.Prelude.{[], ◌++◌, ◌∙◌, ◌∷◌, ◌≡◌, ◌≢◌, ◌⊎◌, Call, Entry, HasGround, IsAlong, IsHome, IsQuiet}
+use Rattle.pmd_laws.proofs.Prelude.{IsSound, List, None, Numbers, Option, Rest, Some, State, Watched, ℕ, ap, append-nil}
+use Rattle.pmd_laws.proofs.Prelude.{append_assoc, around, bytes_of, call_in, calls_joined, calls_of, calls_own}
+use Rattle.pmd_laws.proofs.Prelude.{delivered, eq-eqb, inl, inr, leads_to, left_accepted, left_handed, new_sound}
+use Rattle.pmd_laws.proofs.Prelude.{new_state, none_behind, refl, same_from_push, sent_since, subst, sym}
 use Rattle.pmd_laws.proofs.Refused.{left_of_refused_is_prefix}
 use Rattle.pmd_laws.proofs.StartLaws.HistoryLaws.Alone.{new_is_left_alone}
 use Rattle.worker_laws.specs.Order.{CallsStand, EndOwn, IsEndAmong, IsEndIn, UpTo, given_of, queue_of}
@@ -137,7 +138,10 @@ module _ (vfs fifo : ℕ) (h : List Entry) (j : Job) (e : WorkerEnd) (x : IsEndI
           small =
               named_below _ _ j.port j.queue j.pf_queue
               (ground (starts_more e.pass.tag old u.done u.rest h u.all s)).names;
-          sound = new; vfs = refl; events = x.events; legal = x.legal;
+          sound = new;
+          vfs = refl;
+          events = x.events;
+          legal = x.legal;
           alone = new_is_left_alone w fifo h new x.events x.alone;
         })
 
@@ -166,11 +170,32 @@ module _ (vfs fifo : ℕ) (h : List Entry) (j : Job) (e : WorkerEnd) (x : IsEndI
         let calls = calls_from e.pass.tag old u.done s in
         let since : List Call = s.steps ++ call_in s.first ∷ calls_of e.pass.tag s.behind in
         left_of_refused_is_prefix (record {
-          w = w; origin = new_state vfs fifo; h = u.done; q = queue_of j; size = j.size; frame = j.frame; old = old;
-          a = j.arena; e = f; new = e.pass.calls; left = e.rest; never = never; along = along; before = s.before;
-          first = s.first; behind = s.behind; split = s.all; own = s.own; steps = s.steps; stepped = s.stepped;
-          ahead = s.calls; quiet = at; since = since; rest = []; calls = calls;
-          all = sym u.made ∙ calls ∙ sym (append-nil (old ++ since))
+          w = w;
+          origin = new_state vfs fifo;
+          h = u.done;
+          q = queue_of j;
+          size = j.size;
+          frame = j.frame;
+          old = old;
+          a = j.arena;
+          e = f;
+          new = e.pass.calls;
+          left = e.rest;
+          never = never;
+          along = along;
+          before = s.before;
+          first = s.first;
+          behind = s.behind;
+          split = s.all;
+          own = s.own;
+          steps = s.steps;
+          stepped = s.stepped;
+          ahead = s.calls;
+          quiet = at;
+          since = since;
+          rest = [];
+          calls = calls;
+          all = sym u.made ∙ calls ∙ sym (append-nil (old ++ since));
         })
 
     -- without a thread there is no such entry

@@ -31,12 +31,13 @@ use Rattle.workers.specs.Starts.{Starts}
 use Rattle.workers.specs.declared.beginning.Given.{Given}
 use Rattle.pmd_laws.specs.StartLaws.HistoryLaws.Sides.{IsOff, side_of}
 use Rattle.pmd_laws.specs.StartLaws.Numbers.{queue_at, queue_in}
-use Rattle.pmd_laws.proofs.Prelude.{[], ◌&&◌, ◌*◌, ◌++◌, ◌+◌, ◌<◌, ◌∙◌, ◌∷◌, ◌≡◌, AreEvents, Block, Call, Dir, Entry,
-    Event, HasGround, IsSound, List, Mode, None, Option, Place, Port, Register, RowId, Rx, Rxdctl, Some, State, Tx,
-    Txdctl, Watched, ℕ, after, ap, append-nil, append_assoc, arith, asks_pool_reset, cases_Bool, cleared, cond,
-    enable_row, eq-eqb, events_before, false, has_bit, has_queue, if◌then◌else◌, image_stays, inl, inr, is_on, leads_to,
-    left-side, length, ltb-true, mode_in, named, nat_lt, new_sound, new_state, place, refl, row_of, subst, sym, true,
-    vfs_stays}
+use Rattle.pmd_laws.proofs.Prelude.{[], ◌&&◌, ◌*◌, ◌++◌, ◌+◌, ◌<◌, ◌∙◌, ◌∷◌, ◌≡◌, AreEvents, Block, Call, Dir, Entry}
+use Rattle.pmd_laws.proofs.Prelude.{Event, HasGround, IsSound, List, Mode, None, Option, Place, Port, Register, RowId}
+use Rattle.pmd_laws.proofs.Prelude.{Rx, Rxdctl, Some, State, Tx, Txdctl, Watched, ℕ, after, ap, append-nil}
+use Rattle.pmd_laws.proofs.Prelude.{append_assoc, arith, asks_pool_reset, cases_Bool, cleared, cond, enable_row, eq-eqb}
+use Rattle.pmd_laws.proofs.Prelude.{events_before, false, has_bit, has_queue, if◌then◌else◌, image_stays, inl, inr}
+use Rattle.pmd_laws.proofs.Prelude.{is_on, leads_to, left-side, length, ltb-true, mode_in, named, nat_lt, new_sound}
+use Rattle.pmd_laws.proofs.Prelude.{new_state, place, refl, row_of, subst, sym, true, vfs_stays}
 use Rattle.pmd_laws.proofs.StartLaws.Histories.{leads-append}
 use Rattle.pmd_laws.proofs.StartLaws.HistoryLaws.Deeds.{side_did}
 use Rattle.pmd_laws.proofs.StartLaws.HistoryLaws.DeviceLaws.PoolResets.{asked_pool_resets}
@@ -244,25 +245,25 @@ module _ (w : Watched) (small : w.queue < 128) (s : State) (sound : IsSound s) (
         register_down = elim (cases_Bool (asks_reset (row_of p.row).kind word)) as (λ _. Down t) [
           | inl asks ↦ reset_down asks
           | inr no_reset ↦ elim (cases_Bool (asks_pool_reset (row_of p.row).kind word)) as (λ _. Down t) [
-              | inl asks ↦ pool_down asks
-              | inr no_pool ↦ written_down no_reset no_pool
-            ]
+            | inl asks ↦ pool_down asks
+            | inr no_pool ↦ written_down no_reset no_pool
+          ]
         ]
 
     module _ (functions : w.vfs ≡ s.vfs) (none : asks_on w (mode_in s.registers) (event.Write port n word) ≡ false)
       where
-      zero_there : (p : Place) (view : ℕ) → named s port n ≡ Register p view → is_place p here ≡ true
-          → has_bit 25 word ≡ false
-      zero_there p view found same =
-          let mode = mode_in s.registers in
-          let there : place_at mode w.vfs port n ≡ Some here =
-          ap (λ v. place_at mode v port n) functions ∙ place_named s port n ∙ ap place_in found
-          ∙ ap (λ q. Some q) (is_place-same p here same) in
-          sym (ap (λ b. b && has_bit 25 word) (ap (is_enable queue) there ∙ is_own dir queue)) ∙ none
+        zero_there : (p : Place) (view : ℕ) → named s port n ≡ Register p view → is_place p here ≡ true
+            → has_bit 25 word ≡ false
+        zero_there p view found same =
+            let mode = mode_in s.registers in
+            let there : place_at mode w.vfs port n ≡ Some here =
+            ap (λ v. place_at mode v port n) functions ∙ place_named s port n ∙ ap place_in found
+            ∙ ap (λ q. Some q) (is_place-same p here same) in
+            sym (ap (λ b. b && has_bit 25 word) (ap (is_enable queue) there ∙ is_own dir queue)) ∙ none
 
-      named_down : (m : Named) → named s port n ≡ m → Down t
-      named_down (Nothing seen) found = subst Down (sym (left_by (Nothing seen) found)) down
-      named_down (Register p view) found = register_down p view found (zero_there p view found)
+        named_down : (m : Named) → named s port n ≡ m → Down t
+        named_down (Nothing seen) found = subst Down (sym (left_by (Nothing seen) found)) down
+        named_down (Register p view) found = register_down p view found (zero_there p view found)
 
 -- every event
 

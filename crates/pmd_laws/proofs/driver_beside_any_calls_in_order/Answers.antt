@@ -1,14 +1,15 @@
 use Rattle.driver_laws.specs.Retold.{AreSame}
 use Rattle.pmd_laws.proofs.Beside.{is_life, moved, own_anew, own_made, rings_up, same_rings, told, told_of}
 use Rattle.pmd_laws.proofs.InHand.{own_are}
-use Rattle.pmd_laws.proofs.Prelude.{[], ◌++◌, ◌∙◌, ◌∷◌, ◌≡◌, AddsHarmless, Beside, Bool, Call, Entry, GoesOn,
-    HasNoneOut, IsCalledBeside, IsToldToLook, IsToldToWait, LeadsTo, List, LooksInVain, LooksLast, Moment, Rings, State,
-    Waits, WasTold, accepted_of, ap, arith, by_own, bytes_of, call_in, calls_joined, calls_of, entries_in,
-    events-append, handed_of, leads-append, leads_to, legal-append, length, map-append, marked_entries, now, own_calls,
-    refl, same_delivers, same_sends, subst, sym}
+use Rattle.pmd_laws.proofs.Prelude.{[], ◌++◌, ◌∙◌, ◌∷◌, ◌≡◌, AddsHarmless, Beside, Bool, Call, Entry, GoesOn}
+use Rattle.pmd_laws.proofs.Prelude.{HasNoneOut, IsCalledBeside, IsToldToLook, IsToldToWait, LeadsTo, List, LooksInVain}
+use Rattle.pmd_laws.proofs.Prelude.{LooksLast, Moment, Rings, State, Waits, WasTold, accepted_of, ap, arith, by_own}
+use Rattle.pmd_laws.proofs.Prelude.{bytes_of, call_in, calls_joined, calls_of, entries_in, events-append, handed_of}
+use Rattle.pmd_laws.proofs.Prelude.{leads-append, leads_to, legal-append, length, map-append, marked_entries, now}
+use Rattle.pmd_laws.proofs.Prelude.{own_calls, refl, same_delivers, same_sends, subst, sym}
 use Rattle.pmd_laws.proofs.Shifted.{in_vain_shift, waiting_shift}
-use Rattle.pmd_laws.proofs.Told.{goes, handed_as_told, idle_as_told, none_as_told, none_at_first_as_told, sent_as_told,
-    waiting_as_told}
+use Rattle.pmd_laws.proofs.Told.{goes, handed_as_told, idle_as_told, none_as_told, none_at_first_as_told, sent_as_told}
+use Rattle.pmd_laws.proofs.Told.{waiting_as_told}
 use Rattle.pmd.specs.PmdRx.Plays as receiving
 use Rattle.pmd_laws.proofs.driver_beside_any_calls_in_order.Goals as goal
 use Rattle.pmd_laws.specs.Told as own_now

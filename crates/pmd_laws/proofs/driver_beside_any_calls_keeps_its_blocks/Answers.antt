@@ -2,9 +2,10 @@ use Rattle.pmd_laws.specs.BesideApart.{IsAloneBeside, IsCalledApart}
 use Rattle.pmd_laws.proofs.Beside.{at_access, own_made, rings_up, same_rings, told, told_of}
 use Rattle.pmd_laws.proofs.NoFault.{never_finds, sends_find}
 use Rattle.pmd_laws.proofs.Places.{each_in_one_place, lent_is_out, out_is_lent}
-use Rattle.pmd_laws.proofs.Prelude.{[], ◌++◌, ◌∙◌, ◌≡◌, Beside, Call, FindsFault, HasAll, IsFresh, IsToldAlone, IsTrue,
-    List, Memory, Moment, NoneLent, Rings, State, ap, append-nil, append_assoc, append_cancel_left, arena_of, halted_of,
-    halves_of, has_block, is_out, is_own, memory_after, now, places_of, same_leads, subst, sym}
+use Rattle.pmd_laws.proofs.Prelude.{[], ◌++◌, ◌∙◌, ◌≡◌, Beside, Call, FindsFault, HasAll, IsFresh, IsToldAlone, IsTrue}
+use Rattle.pmd_laws.proofs.Prelude.{List, Memory, Moment, NoneLent, Rings, State, ap, append-nil, append_assoc}
+use Rattle.pmd_laws.proofs.Prelude.{append_cancel_left, arena_of, halted_of, halves_of, has_block, is_out, is_own}
+use Rattle.pmd_laws.proofs.Prelude.{memory_after, now, places_of, same_leads, subst, sym}
 use Rattle.pmd_laws.proofs.Shifted.{finds_shift}
 use Rattle.pmd_laws.proofs.Told.{goes, up_next}
 use Rattle.pmd_laws.proofs.driver_beside_any_calls_keeps_its_blocks.Goals as goal

@@ -11,9 +11,20 @@ never : (x : BeginsBeside)
 never x faults =
     never_at_fault
     (record {
-      w = x.w; origin = x.origin; h = x.g; q = x.q; size = x.size; frame = x.frame; old = x.ahead; a = x.a;
-      new = x.ahead ++ x.since; along = retold_along x.retold; begins = x.begins; others = x.others; more = x.more;
-      made = x.all
+      w = x.w;
+      origin = x.origin;
+      h = x.g;
+      q = x.q;
+      size = x.size;
+      frame = x.frame;
+      old = x.ahead;
+      a = x.a;
+      new = x.ahead ++ x.since;
+      along = retold_along x.retold;
+      begins = x.begins;
+      others = x.others;
+      more = x.more;
+      made = x.all;
     })
     (shifted (fault_shift x.q x.size x.frame x.a x.old x.new faults) x.since x.ahead x.made)
 

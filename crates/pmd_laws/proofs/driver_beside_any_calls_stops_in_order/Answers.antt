@@ -1,7 +1,7 @@
 use Rattle.pmd_laws.specs.BesideStop.{IsStoppedBeside}
 use Rattle.pmd_laws.proofs.Beside.{is_life, rings_up, told}
-use Rattle.pmd_laws.proofs.Prelude.{◌++◌, ◌∙◌, ◌≡◌, Beside, Call, IsEnding, IsStopping, Life, List, ap,
-    append_cancel_left, halves_of, now, refl, same_delivers, same_sends, sym}
+use Rattle.pmd_laws.proofs.Prelude.{◌++◌, ◌∙◌, ◌≡◌, Beside, Call, IsEnding, IsStopping, Life, List, ap}
+use Rattle.pmd_laws.proofs.Prelude.{append_cancel_left, halves_of, now, refl, same_delivers, same_sends, sym}
 use Rattle.pmd_laws.proofs.Shifted.{of_shift, once_off_shift, shifted, takes_shift}
 use Rattle.pmd_laws.proofs.StopCalls.{first_made, first_takes}
 use Rattle.pmd_laws.proofs.StopSent.{sent_over_stop, silent_off}
@@ -11,9 +11,19 @@ use Rattle.pmd_laws.proofs.driver_beside_any_calls_stops_in_order.Goals as goal
 
 abbrev life : Beside → Life
 life x = record {
-  w = x.w; origin = x.origin; h = x.g; q = x.q; size = x.size; frame = x.frame; old = x.ahead; a = x.a;
-  started = x.ahead ++ x.told.start; r = x.told.started.0; made = x.own; k = halves_of (goes (told x)).rings;
-  is = is_life x
+  w = x.w;
+  origin = x.origin;
+  h = x.g;
+  q = x.q;
+  size = x.size;
+  frame = x.frame;
+  old = x.ahead;
+  a = x.a;
+  started = x.ahead ++ x.told.start;
+  r = x.told.started.0;
+  made = x.own;
+  k = halves_of (goes (told x)).rings;
+  is = is_life x;
 }
 
 -- the calls of its stop are told of what they add

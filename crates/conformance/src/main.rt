@@ -12,6 +12,7 @@ mod interrupts;
 mod library;
 mod objects;
 mod pools;
+mod printed;
 mod registers;
 mod scripts;
 mod texts;

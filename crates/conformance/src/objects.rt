@@ -6,6 +6,7 @@
 //! blanks.
 
 use crate::call::Call;
+use crate::printed::{said, shown};
 use crate::texts::hex_in;
 use program::{Program, read};
 use std::alloc::{AllocError, Global};
@@ -18,7 +19,7 @@ pub fn answer(alloc: Global, call: Call<'_>) -> Result<String, AllocError> {
         "read" => call.text,
         "cut" => call.behind().text,
         "byte" => call.behind().behind().text,
-        _ => return format!(in alloc; "no such call"),
+        _ => return said(alloc, "no such call"),
     };
     let mut bytes = hex_in(alloc, hex)?;
     let at = usize::from(call.half(0));
@@ -29,16 +30,16 @@ pub fn answer(alloc: Global, call: Call<'_>) -> Result<String, AllocError> {
     }
     match read(alloc, &bytes) {
         Ok(program) => program_text(alloc, &program, &bytes),
-        Err(fault) => format!(in alloc; "{fault:?}"),
+        Err(fault) => shown(alloc, &fault),
     }
 }
 
 /// A program, whose object is made again.
 fn program_text(alloc: Global, program: &Program, bytes: &[u8]) -> Result<String, AllocError> {
     if program.to_bytes(alloc)?.as_slice() != bytes {
-        return format!(in alloc; "other");
+        return said(alloc, "other");
     }
-    let mut text = format!(in alloc; "program")?;
+    let mut text = said(alloc, "program")?;
     for instruction in program.code() {
         write!(text, " {instruction:?}")?;
     }

@@ -4,6 +4,7 @@
 //! for each line its number, what it says and a bar; `words` the words between bars.
 
 use crate::call::Call;
+use crate::printed::{decimal, said, shown};
 use std::alloc::{AllocError, Global};
 use std::fmt::Write;
 use text_format::{Lines, NAME_LIMIT, Words, hex_bytes, is_name, number};
@@ -14,16 +15,16 @@ pub fn answer(alloc: Global, call: Call<'_>) -> Result<String, AllocError> {
         "lines" => lines_text(alloc, call.text),
         "words" => words_text(alloc, call.text),
         "number" => match number(call.text) {
-            Ok(number) => format!(in alloc; "{number}"),
-            Err(fault) => format!(in alloc; "{fault:?}"),
+            Ok(number) => decimal(alloc, u64::from(number)),
+            Err(fault) => shown(alloc, &fault),
         },
-        "name" => format!(in alloc; "{}", is_name(call.text)),
-        "name_limit" => format!(in alloc; "{NAME_LIMIT}"),
+        "name" => shown(alloc, &is_name(call.text)),
+        "name_limit" => decimal(alloc, NAME_LIMIT as u64),
         "hex" => match hex_bytes(alloc, call.text) {
-            Ok(bytes) => format!(in alloc; "{:?}", bytes.as_slice()),
-            Err(fault) => format!(in alloc; "{fault:?}"),
+            Ok(bytes) => shown(alloc, &bytes.as_slice()),
+            Err(fault) => shown(alloc, &fault),
         },
-        _ => format!(in alloc; "no such call"),
+        _ => said(alloc, "no such call"),
     }
 }
 
@@ -42,7 +43,7 @@ pub fn plain(alloc: Global, text: &str) -> Result<String, AllocError> {
 
 fn lines_text(alloc: Global, text: &str) -> Result<String, AllocError> {
     let text = plain(alloc, text)?;
-    let mut answer = format!(in alloc; "|")?;
+    let mut answer = said(alloc, "|")?;
     for line in Lines::of(text.as_str()) {
         write!(answer, "{} {:?}|", line.number, line.text)?;
     }
@@ -51,7 +52,7 @@ fn lines_text(alloc: Global, text: &str) -> Result<String, AllocError> {
 
 fn words_text(alloc: Global, text: &str) -> Result<String, AllocError> {
     let text = plain(alloc, text)?;
-    let mut answer = format!(in alloc; "|")?;
+    let mut answer = said(alloc, "|")?;
     for word in Words::of(text.as_str()) {
         write!(answer, "{word}|")?;
     }

@@ -1,19 +1,24 @@
 //! The debugger.
 
 use crate::machines::{Building, CONFIG, OfProgram, program};
-use crate::outcome::done;
+use crate::outcome::{done, holds};
 use crate::sums::{START, with};
 use crate::trial::{Trial, tried};
-use debugger::{Command, DebugRefusal, Debugger};
+use debugger::{Command, DebugRefusal, Debugger, View};
 use machine::NewRefused;
 use program::Program;
 use std::alloc::Global;
 use std::process::Abort;
 use std::sync::Wait;
 
+/// What a command is answered.
+fn told<R: Abort>(rt: &R, debugger: &mut Debugger, command: Command) -> View {
+    done(rt, debugger.exec(command))
+}
+
 /// What a command is answered: the number of steps and the accumulator.
 fn view<R: Abort>(rt: &R, debugger: &mut Debugger, command: Command) -> u64 {
-    let view = done(rt, debugger.exec(command));
+    let view = told(rt, debugger, command);
     with(with(START, view.steps), u64::from(view.acc))
 }
 
@@ -21,7 +26,7 @@ fn view<R: Abort>(rt: &R, debugger: &mut Debugger, command: Command) -> u64 {
 fn end_debugger<R: Abort>(rt: &R, debugger: Debugger) -> u64 {
     let mut debugger = debugger;
     let end = view(rt, &mut debugger, Command::Step(20));
-    let shown = done(rt, debugger.exec(Command::Show(0x04074)));
+    let shown = told(rt, &mut debugger, Command::Show(0x04074));
     debugger.finish();
     with(end, u64::from(shown.shown.unwrap_or(0xFFFF_FFFF)))
 }
@@ -65,17 +70,14 @@ enum Kind {
 impl Moving {
     /// One at a step of its script.
     fn new<R: Abort>(rt: &R, alloc: Global, kind: Kind, from: u64, to: u64) -> Moving {
-        let mut debugger = match Debugger::new(alloc, program(rt, alloc), CONFIG) {
-            Ok(debugger) => debugger,
-            Err(_refused) => panic!(rt; "a debugger"),
-        };
+        let mut debugger = done(rt, Debugger::new(alloc, program(rt, alloc), CONFIG));
         let _view = view(rt, &mut debugger, Command::Step(from));
         Moving { debugger, kind, to }
     }
 
     /// At how many steps it is.
     fn at<R: Abort>(&mut self, rt: &R) -> u64 {
-        done(rt, self.debugger.exec(Command::Step(0))).steps
+        told(rt, &mut self.debugger, Command::Step(0)).steps
     }
 }
 
@@ -91,7 +93,8 @@ impl Trial for Moving {
             Ok(view) => view.steps == self.to,
             Err(DebugRefusal::OutOfMemory) => {
                 let now = self.at(rt);
-                assert!(rt; at <= now && (now == at || !matches!(self.kind, Kind::Back)));
+                let goes_back = matches!(self.kind, Kind::Back);
+                holds(rt, "where it is", at <= now && (now == at || !goes_back));
                 false
             }
             Err(_refusal) => panic!(rt; "another refusal"),

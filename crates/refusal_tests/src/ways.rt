@@ -2,7 +2,7 @@
 
 use crate::devices::{frame, number_of, ready, to_lend};
 use crate::locks::{Bench, Opened, closed, lends_in, open_bench};
-use crate::outcome::{done, none, put, some};
+use crate::outcome::{emptied, holds, list, none, put, some};
 use crate::sums::{START, end_device, with, with_event};
 use crate::trial::{Trial, tried};
 use device_lock::{CallFault, Pass};
@@ -104,13 +104,12 @@ impl Ends for Interleaved {
             schedule,
         } = self.finish();
         let mut sum = with(sum, calls.kept().0.len() as u64);
-        assert!(rt; foreign.len() == 3 && schedule.is_empty());
-        schedule.destroy_empty();
+        holds(rt, "how many are foreign", foreign.len() == 3);
+        emptied(rt, schedule);
         for _reply in 0..3 {
             sum = with(sum, number_of(rt, some(rt, foreign.pop())));
         }
-        assert!(rt; foreign.is_empty());
-        foreign.destroy_empty();
+        emptied(rt, foreign);
         (device, sum)
     }
 }
@@ -119,14 +118,7 @@ impl Ends for Interleaved {
 fn amid<R: Abort>(rt: &R, alloc: Global) -> InHand<Interleaved> {
     let (device, mut arena) = ready(rt, alloc);
     let foreign = [Event::RxStep, to_lend(rt, &mut arena), Event::TxStep(0)];
-    let list = match Vec::from_array(alloc, foreign) {
-        Ok(list) => list,
-        Err(_refused) => panic!(rt; "memory"),
-    };
-    let schedule = match Vec::from_array(alloc, [list]) {
-        Ok(schedule) => schedule,
-        Err(_refused) => panic!(rt; "memory"),
-    };
+    let schedule = list(rt, alloc, [list(rt, alloc, foreign)]);
     InHand {
         nic: Interleaved::new(alloc, device, schedule),
         arena,

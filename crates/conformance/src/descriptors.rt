@@ -3,7 +3,6 @@
 //! A ring is a length, a head and a tail. `ring` gives its slots, and how many of them are the device's or `outside`.
 
 use crate::call::Call;
-use crate::printed::{decimal, hex, said, shown};
 use dma_ring::{
     Ring, buffer_address, command_in, done, done_word, first_half, of_halves, second_half,
 };
@@ -13,19 +12,19 @@ use std::alloc::{AllocError, Global};
 pub fn answer(alloc: Global, call: Call<'_>) -> Result<String, AllocError> {
     match call.name {
         "ring" | "next" | "descriptor" => ring_text(alloc, call),
-        "halves" => halves_text(alloc, &of_halves(call.long(0, 1), call.long(2, 3))),
-        "done_word" => { hex(alloc, done_word(call.half(0), call.word(1) == "end")) }
-        "buffer" => hex(alloc, buffer_address(call.long(0, 1))),
-        "command" => shown(alloc, &command_in(call.long(0, 1))),
-        "done" => hex(alloc, done(call.long(0, 1))),
-        _ => said(alloc, "no such call"),
+        "halves" => {
+            let bytes = of_halves(call.long(0, 1), call.long(2, 3));
+            let (first, second) = (first_half(&bytes), second_half(&bytes));
+            format!(in alloc; "{bytes:?} {first:#x} {second:#x}")
+        }
+        "done_word" => {
+            format!(in alloc; "{:#x}", done_word(call.half(0), call.word(1) == "end"))
+        }
+        "buffer" => format!(in alloc; "{:#x}", buffer_address(call.long(0, 1))),
+        "command" => format!(in alloc; "{:?}", command_in(call.long(0, 1))),
+        "done" => format!(in alloc; "{:#x}", done(call.long(0, 1))),
+        _ => format!(in alloc; "no such call"),
     }
-}
-
-/// A descriptor's bytes and its halves.
-fn halves_text(alloc: Global, bytes: &[u8; 16]) -> Result<String, AllocError> {
-    let (first, second) = (first_half(bytes), second_half(bytes));
-    format!(in alloc; "{bytes:?} {first:#x} {second:#x}")
 }
 
 /// What a call on a ring answers.
@@ -40,13 +39,13 @@ fn ring_text(alloc: Global, call: Call<'_>) -> Result<String, AllocError> {
     match call.name {
         "ring" if ring.outside() => format!(in alloc; "{slots} outside"),
         "ring" => format!(in alloc; "{slots} {}", ring.available()),
-        "descriptor" => hex(alloc, ring.descriptor(call.half(5))),
+        "descriptor" => format!(in alloc; "{:#x}", ring.descriptor(call.half(5))),
         _ => {
             let slot = call.half(3);
             if u32::from(slot) < slots && slots <= 65536 {
-                return decimal(alloc, u64::from(ring.next(slot)));
+                return format!(in alloc; "{}", ring.next(slot));
             }
-            said(alloc, "none")
+            format!(in alloc; "none")
         }
     }
 }

@@ -1,9 +1,8 @@
 //! `rss_hash`: what frames are, what of them is hashed, and which entry of the redirection table a hash selects.
 
 use crate::call::Call;
-use crate::printed::{decimal, said};
 use crate::texts::hex_in;
-use rss_hash::{Flow, QueueMode, choose, classify, entry};
+use rss_hash::{QueueMode, choose, classify, entry};
 use std::alloc::{AllocError, Global};
 use text_format::BytesText;
 
@@ -12,29 +11,13 @@ pub fn answer(alloc: Global, call: Call<'_>) -> Result<String, AllocError> {
     match call.name {
         "flow" | "input" => frame_text(alloc, call, call.word(0)),
         "choose" => frame_text(alloc, call, call.word(1)),
-        "mode" => mode_text(alloc, QueueMode::of(call.number(0))),
-        "entry" => decimal(alloc, u64::from(entry(&table_in(call), call.number(0)))),
-        _ => said(alloc, "no such call"),
+        "mode" => {
+            let mode = QueueMode::of(call.number(0));
+            format!(in alloc; "{mode:?} {}", mode.is_hashing())
+        }
+        "entry" => format!(in alloc; "{}", entry(&table_in(call), call.number(0))),
+        _ => format!(in alloc; "no such call"),
     }
-}
-
-/// A mode, and whether frames are hashed in it.
-fn mode_text(alloc: Global, mode: QueueMode) -> Result<String, AllocError> {
-    format!(in alloc; "{mode:?} {}", mode.is_hashing())
-}
-
-/// A flow: its version of IP, its protocol with ports, and how many bytes can be hashed.
-fn flow_text(alloc: Global, flow: &Flow) -> Result<String, AllocError> {
-    let tcp = if flow.tcp { " tcp" } else { "" };
-    let udp = if flow.udp { " udp" } else { "" };
-    let count = flow.input.as_slice().len();
-    format!(in alloc; "{}{tcp}{udp} {count}", flow.version)
-}
-
-/// By a word of MRQC the RSS type of a flow, and how many bytes are hashed.
-fn choice_text(alloc: Global, mrqc: u32, flow: &Flow) -> Result<String, AllocError> {
-    let (rss_type, input) = choose(mrqc, flow);
-    format!(in alloc; "{rss_type} {}", input.as_slice().len())
 }
 
 /// Of a frame the version of IP, the protocol with ports, and how many bytes can be hashed; or these bytes; or by a
@@ -42,10 +25,18 @@ fn choice_text(alloc: Global, mrqc: u32, flow: &Flow) -> Result<String, AllocErr
 fn frame_text(alloc: Global, call: Call<'_>, frame: &str) -> Result<String, AllocError> {
     let frame = hex_in(alloc, frame)?;
     let flow = classify(frame.as_slice());
+    let bytes = flow.input.as_slice();
     match call.name {
-        "flow" => flow_text(alloc, &flow),
-        "input" => format!(in alloc; "{}", BytesText(flow.input.as_slice())),
-        _ => choice_text(alloc, call.number(0), &flow),
+        "flow" => {
+            let tcp = if flow.tcp { " tcp" } else { "" };
+            let udp = if flow.udp { " udp" } else { "" };
+            format!(in alloc; "{}{tcp}{udp} {}", flow.version, bytes.len())
+        }
+        "input" => format!(in alloc; "{}", BytesText(bytes)),
+        _ => {
+            let (rss_type, input) = choose(call.number(0), &flow);
+            format!(in alloc; "{rss_type} {}", input.as_slice().len())
+        }
     }
 }
 

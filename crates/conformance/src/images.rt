@@ -6,7 +6,6 @@
 //! and values follow.
 
 use crate::call::Call;
-use crate::printed::{said, shown};
 use crate::texts::plain;
 use eeprom_image::{Image, assemble, load};
 use std::alloc::{AllocError, Global};
@@ -20,17 +19,17 @@ pub fn answer(alloc: Global, call: Call<'_>) -> Result<String, AllocError> {
             let text = plain(alloc, call.text)?;
             match assemble(alloc, text.as_str()) {
                 Ok(image) => again_text(alloc, &image),
-                Err(fault) => shown(alloc, &fault),
+                Err(fault) => format!(in alloc; "{fault:?}"),
             }
         }
         "load" => {
             let file = file_in(alloc, call)?;
             match load(alloc, file.as_slice()) {
                 Ok(image) => image_text(alloc, &image),
-                Err(fault) => shown(alloc, &fault),
+                Err(fault) => format!(in alloc; "{fault:?}"),
             }
         }
-        _ => said(alloc, "no such call"),
+        _ => format!(in alloc; "no such call"),
     }
 }
 
@@ -39,7 +38,7 @@ fn again_text(alloc: Global, image: &Image) -> Result<String, AllocError> {
     let file = image.to_bytes(alloc)?;
     match load(alloc, file.as_slice()) {
         Ok(loaded) if loaded.words() == image.words() => image_text(alloc, &loaded),
-        _ => said(alloc, "other"),
+        _ => format!(in alloc; "other"),
     }
 }
 

@@ -1,7 +1,6 @@
 //! `intr_unit`: the groups, by the number of the virtual function or `pf`.
 
 use crate::call::Call;
-use crate::printed::{hex, said, shown};
 use intr_unit::Group;
 use std::alloc::{AllocError, Global};
 
@@ -13,9 +12,9 @@ pub fn answer(alloc: Global, call: Call<'_>) -> Result<String, AllocError> {
         Group::Vf(call.byte(0))
     };
     match call.name {
-        "bits" => hex(alloc, u64::from(group.bits())),
-        "vector" => shown(alloc, &group.vector_of(call.byte(1), call.number(2))),
-        "causes" => hex(alloc, u64::from(group.queue_causes(call.byte(1)))),
-        _ => said(alloc, "no such call"),
+        "bits" => format!(in alloc; "{:#x}", group.bits()),
+        "vector" => format!(in alloc; "{:?}", group.vector_of(call.byte(1), call.number(2))),
+        "causes" => format!(in alloc; "{:#x}", group.queue_causes(call.byte(1))),
+        _ => format!(in alloc; "no such call"),
     }
 }

@@ -6,7 +6,6 @@
 //! so that a case which a call can show stands here and not in a test.
 
 use crate::call::Call;
-use crate::printed::said;
 use std::alloc::{AllocError, Global};
 use std::{fs, io};
 
@@ -33,7 +32,7 @@ fn answer(alloc: Global, library: &str, call: Call<'_>) -> Result<String, AllocE
         "intr_unit" => crate::interrupts::answer(alloc, call),
         "eeprom_image" => crate::images::answer(alloc, call),
         "program" => crate::objects::answer(alloc, call),
-        _ => said(alloc, "no such library"),
+        _ => format!(in alloc; "no such library"),
     }
 }
 

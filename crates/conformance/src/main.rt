@@ -12,7 +12,6 @@ mod interrupts;
 mod library;
 mod objects;
 mod pools;
-mod printed;
 mod registers;
 mod scripts;
 mod texts;

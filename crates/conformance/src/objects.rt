@@ -6,7 +6,6 @@
 //! blanks.
 
 use crate::call::Call;
-use crate::printed::{said, shown};
 use crate::texts::hex_in;
 use program::{Program, read};
 use std::alloc::{AllocError, Global};
@@ -19,7 +18,7 @@ pub fn answer(alloc: Global, call: Call<'_>) -> Result<String, AllocError> {
         "read" => call.text,
         "cut" => call.behind().text,
         "byte" => call.behind().behind().text,
-        _ => return said(alloc, "no such call"),
+        _ => return format!(in alloc; "no such call"),
     };
     let mut bytes = hex_in(alloc, hex)?;
     let at = usize::from(call.half(0));
@@ -30,16 +29,16 @@ pub fn answer(alloc: Global, call: Call<'_>) -> Result<String, AllocError> {
     }
     match read(alloc, &bytes) {
         Ok(program) => program_text(alloc, &program, &bytes),
-        Err(fault) => shown(alloc, &fault),
+        Err(fault) => format!(in alloc; "{fault:?}"),
     }
 }
 
 /// A program, whose object is made again.
 fn program_text(alloc: Global, program: &Program, bytes: &[u8]) -> Result<String, AllocError> {
     if program.to_bytes(alloc)?.as_slice() != bytes {
-        return said(alloc, "other");
+        return format!(in alloc; "other");
     }
-    let mut text = said(alloc, "program")?;
+    let mut text = format!(in alloc; "program")?;
     for instruction in program.code() {
         write!(text, " {instruction:?}")?;
     }

@@ -1,7 +1,6 @@
 //! `vf_map`: the mode in a word of GCR_EXT, the queues of a pool, and the offsets of virtual functions.
 
 use crate::call::Call;
-use crate::printed::{said, shown};
 use std::alloc::{AllocError, Global};
 use vf_map::{Mapped, map, mode_of, queues_of};
 
@@ -9,13 +8,13 @@ use vf_map::{Mapped, map, mode_of, queues_of};
 pub fn answer(alloc: Global, call: Call<'_>) -> Result<String, AllocError> {
     let mode = mode_of(call.number(0));
     match call.name {
-        "mode" => shown(alloc, &mode),
-        "queues" => shown(alloc, &queues_of(mode, call.byte(1))),
+        "mode" => format!(in alloc; "{mode:?}"),
+        "queues" => format!(in alloc; "{:?}", queues_of(mode, call.byte(1))),
         "map" => match map(mode, call.byte(1), call.byte(2), call.number(3)) {
             Mapped::Pf(address) => format!(in alloc; "{address:#07x}"),
-            Mapped::Hole => said(alloc, "hole"),
-            Mapped::Absent => said(alloc, "absent"),
+            Mapped::Hole => format!(in alloc; "hole"),
+            Mapped::Absent => format!(in alloc; "absent"),
         },
-        _ => said(alloc, "no such call"),
+        _ => format!(in alloc; "no such call"),
     }
 }

@@ -5,24 +5,22 @@
 //! show.
 
 use crate::call::Call;
-use crate::printed::{hex, said};
 use reg_table::{
     Place, RowId, addr_of, bump, count_of, kind_of, mask_of, name_of, place_of, reset_of,
     row_named, view_of,
 };
 use std::alloc::{AllocError, Global};
-use std::fmt::Write;
 
 /// What a call answers.
 pub fn answer(alloc: Global, call: Call<'_>) -> Result<String, AllocError> {
     match call.name {
         "row" => match row_named(call.text) {
             Some(row) => row_text(alloc, row),
-            None => said(alloc, "none"),
+            None => format!(in alloc; "none"),
         },
         "place" => place_text(alloc, call.number(0)),
-        "bump" => hex(alloc, u64::from(bump(call.number(0)))),
-        _ => said(alloc, "no such call"),
+        "bump" => format!(in alloc; "{:#x}", bump(call.number(0))),
+        _ => format!(in alloc; "no such call"),
     }
 }
 
@@ -35,25 +33,17 @@ fn address(row: RowId, index: u16) -> u32 {
     }
 }
 
-/// Puts an address behind a text.
-fn put_address(text: &mut String, address: u32) -> Result<(), AllocError> {
-    write!(text, " {address:#07x}")
-}
-
-/// Puts a word behind a text.
-fn put_word(text: &mut String, word: u32) -> Result<(), AllocError> {
-    write!(text, " {word:#010x}")
-}
-
 fn row_text(alloc: Global, row: RowId) -> Result<String, AllocError> {
     let count = count_of(row);
-    let mut text = format!(in alloc; "{} {count}", name_of(row))?;
-    put_address(&mut text, address(row, 0))?;
-    put_address(&mut text, address(row, count.saturating_sub(1)))?;
-    put_word(&mut text, mask_of(row))?;
-    put_word(&mut text, reset_of(row))?;
-    write!(text, " {:?}", kind_of(row))?;
-    Ok(text)
+    let first = address(row, 0);
+    let last = address(row, count.saturating_sub(1));
+    let mask = mask_of(row);
+    let reset = reset_of(row);
+    format!(in alloc;
+        "{} {count} {first:#07x} {last:#07x} {mask:#010x} {reset:#010x} {:?}",
+        name_of(row),
+        kind_of(row)
+    )
 }
 
 fn place_text(alloc: Global, at: u32) -> Result<String, AllocError> {

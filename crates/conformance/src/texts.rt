@@ -4,7 +4,6 @@
 //! for each line its number, what it says and a bar; `words` the words between bars.
 
 use crate::call::Call;
-use crate::printed::{decimal, said, shown};
 use std::alloc::{AllocError, Global};
 use std::fmt::Write;
 use text_format::{Lines, NAME_LIMIT, Words, hex_bytes, is_name, number};
@@ -15,16 +14,16 @@ pub fn answer(alloc: Global, call: Call<'_>) -> Result<String, AllocError> {
         "lines" => lines_text(alloc, call.text),
         "words" => words_text(alloc, call.text),
         "number" => match number(call.text) {
-            Ok(number) => decimal(alloc, u64::from(number)),
-            Err(fault) => shown(alloc, &fault),
+            Ok(number) => format!(in alloc; "{number}"),
+            Err(fault) => format!(in alloc; "{fault:?}"),
         },
-        "name" => shown(alloc, &is_name(call.text)),
-        "name_limit" => decimal(alloc, NAME_LIMIT as u64),
+        "name" => format!(in alloc; "{}", is_name(call.text)),
+        "name_limit" => format!(in alloc; "{NAME_LIMIT}"),
         "hex" => match hex_bytes(alloc, call.text) {
-            Ok(bytes) => shown(alloc, &bytes.as_slice()),
-            Err(fault) => shown(alloc, &fault),
+            Ok(bytes) => format!(in alloc; "{:?}", bytes.as_slice()),
+            Err(fault) => format!(in alloc; "{fault:?}"),
         },
-        _ => said(alloc, "no such call"),
+        _ => format!(in alloc; "no such call"),
     }
 }
 
@@ -43,7 +42,7 @@ pub fn plain(alloc: Global, text: &str) -> Result<String, AllocError> {
 
 fn lines_text(alloc: Global, text: &str) -> Result<String, AllocError> {
     let text = plain(alloc, text)?;
-    let mut answer = said(alloc, "|")?;
+    let mut answer = format!(in alloc; "|")?;
     for line in Lines::of(text.as_str()) {
         write!(answer, "{} {:?}|", line.number, line.text)?;
     }
@@ -52,7 +51,7 @@ fn lines_text(alloc: Global, text: &str) -> Result<String, AllocError> {
 
 fn words_text(alloc: Global, text: &str) -> Result<String, AllocError> {
     let text = plain(alloc, text)?;
-    let mut answer = said(alloc, "|")?;
+    let mut answer = format!(in alloc; "|")?;
     for word in Words::of(text.as_str()) {
         write!(answer, "{word}|")?;
     }

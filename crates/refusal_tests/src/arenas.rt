@@ -1,9 +1,7 @@
 //! Packet memory, and a descriptor that is fetched.
 
-use crate::outcome::{done, holds, none, put, some};
-use crate::sums::{
-    START, arena, end_arena, end_memory, taken, with, with_arena, with_buf, with_bytes,
-};
+use crate::outcome::{done, none, put, some};
+use crate::sums::{START, end_arena, end_memory, with, with_arena, with_buf, with_bytes};
 use crate::trial::{Trial, tried};
 use dma_arena::{LendRefused, SplitFault, SplitRefused};
 use dma_ring::Ring;
@@ -23,7 +21,7 @@ impl Splitting {
     /// One of eight blocks.
     fn new<R: Abort>(rt: &R, alloc: Global) -> Splitting {
         Splitting {
-            whole: Some(arena(rt, alloc, 0, 8)),
+            whole: Some(done(rt, Arena::new(alloc, 0, 8))),
             parts: None,
         }
     }
@@ -37,7 +35,7 @@ impl Trial for Splitting {
                 true
             }
             Err(SplitRefused { fault, arena }) => {
-                holds(rt, "another refusal", fault == SplitFault::OutOfMemory);
+                assert!(rt; fault == SplitFault::OutOfMemory);
                 put(rt, &mut self.whole, arena);
                 false
             }
@@ -70,11 +68,6 @@ fn an_arena_is_split(rt: HostRuntime) {
     );
 }
 
-/// Lends a block.
-fn lend<R: Abort>(rt: &R, memory: &mut LentMemory, buf: Buf) {
-    done(rt, memory.lend(buf));
-}
-
 /// A block that is to be lent.
 struct Lending {
     arena: Arena,
@@ -85,13 +78,13 @@ struct Lending {
 impl Lending {
     /// Block 1 with bytes, beside fifteen that are lent: as many as the map of lent blocks has room for in one node.
     fn new<R: Abort>(rt: &R, alloc: Global) -> Lending {
-        let mut arena = arena(rt, alloc, 0, 16);
+        let mut arena = done(rt, Arena::new(alloc, 0, 16));
         let mut memory = LentMemory::new(alloc);
-        lend(rt, &mut memory, taken(rt, &mut arena, 0));
+        done(rt, memory.lend(some(rt, arena.take_at(0))));
         for block in 2..16 {
-            lend(rt, &mut memory, taken(rt, &mut arena, block));
+            done(rt, memory.lend(some(rt, arena.take_at(block))));
         }
-        let mut buf = taken(rt, &mut arena, 1);
+        let mut buf = some(rt, arena.take_at(1));
         buf.bytes_mut()[7] = 0x5A;
         Lending {
             arena,
@@ -150,17 +143,17 @@ struct Fetching {
 impl Fetching {
     /// One of a frame of 60 bytes, in slot 0.
     fn new<R: Abort>(rt: &R, alloc: Global) -> Fetching {
-        let mut arena = arena(rt, alloc, 0, 2);
+        let mut arena = done(rt, Arena::new(alloc, 0, 2));
         let mut memory = LentMemory::new(alloc);
-        let mut ring = taken(rt, &mut arena, 0);
+        let mut ring = some(rt, arena.take_at(0));
         ring.bytes_mut()[1] = 8;
         ring.bytes_mut()[8] = 60;
         ring.bytes_mut()[10] = 0x30;
         ring.bytes_mut()[11] = 0x2B;
-        let mut frame = taken(rt, &mut arena, 1);
+        let mut frame = some(rt, arena.take_at(1));
         frame.bytes_mut()[3] = 0x77;
-        lend(rt, &mut memory, ring);
-        lend(rt, &mut memory, frame);
+        done(rt, memory.lend(ring));
+        done(rt, memory.lend(frame));
         Fetching {
             arena,
             memory,

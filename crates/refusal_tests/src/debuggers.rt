@@ -1,24 +1,19 @@
 //! The debugger.
 
 use crate::machines::{Building, CONFIG, OfProgram, program};
-use crate::outcome::{done, holds};
+use crate::outcome::done;
 use crate::sums::{START, with};
 use crate::trial::{Trial, tried};
-use debugger::{Command, DebugRefusal, Debugger, View};
+use debugger::{Command, DebugRefusal, Debugger};
 use machine::NewRefused;
 use program::Program;
 use std::alloc::Global;
 use std::process::Abort;
 use std::sync::Wait;
 
-/// What a command is answered.
-fn told<R: Abort>(rt: &R, debugger: &mut Debugger, command: Command) -> View {
-    done(rt, debugger.exec(command))
-}
-
 /// What a command is answered: the number of steps and the accumulator.
 fn view<R: Abort>(rt: &R, debugger: &mut Debugger, command: Command) -> u64 {
-    let view = told(rt, debugger, command);
+    let view = done(rt, debugger.exec(command));
     with(with(START, view.steps), u64::from(view.acc))
 }
 
@@ -26,7 +21,7 @@ fn view<R: Abort>(rt: &R, debugger: &mut Debugger, command: Command) -> u64 {
 fn end_debugger<R: Abort>(rt: &R, debugger: Debugger) -> u64 {
     let mut debugger = debugger;
     let end = view(rt, &mut debugger, Command::Step(20));
-    let shown = told(rt, &mut debugger, Command::Show(0x04074));
+    let shown = done(rt, debugger.exec(Command::Show(0x04074)));
     debugger.finish();
     with(end, u64::from(shown.shown.unwrap_or(0xFFFF_FFFF)))
 }
@@ -70,14 +65,17 @@ enum Kind {
 impl Moving {
     /// One at a step of its script.
     fn new<R: Abort>(rt: &R, alloc: Global, kind: Kind, from: u64, to: u64) -> Moving {
-        let mut debugger = done(rt, Debugger::new(alloc, program(rt, alloc), CONFIG));
+        let mut debugger = match Debugger::new(alloc, program(rt, alloc), CONFIG) {
+            Ok(debugger) => debugger,
+            Err(_refused) => panic!(rt; "a debugger"),
+        };
         let _view = view(rt, &mut debugger, Command::Step(from));
         Moving { debugger, kind, to }
     }
 
     /// At how many steps it is.
     fn at<R: Abort>(&mut self, rt: &R) -> u64 {
-        told(rt, &mut self.debugger, Command::Step(0)).steps
+        done(rt, self.debugger.exec(Command::Step(0))).steps
     }
 }
 
@@ -93,8 +91,7 @@ impl Trial for Moving {
             Ok(view) => view.steps == self.to,
             Err(DebugRefusal::OutOfMemory) => {
                 let now = self.at(rt);
-                let goes_back = matches!(self.kind, Kind::Back);
-                holds(rt, "where it is", at <= now && (now == at || !goes_back));
+                assert!(rt; at <= now && (now == at || !matches!(self.kind, Kind::Back)));
                 false
             }
             Err(_refusal) => panic!(rt; "another refusal"),

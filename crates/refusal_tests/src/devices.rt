@@ -1,7 +1,7 @@
 //! Events of a device in hand, and a run of several.
 
-use crate::outcome::{done, emptied, list, none, put, some};
-use crate::sums::{START, arena, end_device, stepped, taken, with, with_device, with_event};
+use crate::outcome::{done, none, put, some};
+use crate::sums::{START, end_device, with, with_device, with_event};
 use crate::trial::{Trial, tried};
 use nic_device::{Arena, Config, Device, Dir, Event, Octets, OutOfMemory, Port, Reply, RunStop};
 use std::alloc::Global;
@@ -40,14 +40,9 @@ pub fn frame<R: Abort>(rt: &R, alloc: Global) -> Octets {
     Octets::of(bytes)
 }
 
-/// A new device without virtual functions.
-pub fn device<R: Abort>(rt: &R, alloc: Global) -> Device {
-    done(rt, Device::new(alloc, Config { vfs: 0, fifo: 64 }))
-}
-
 /// Makes an event that the device just does.
 fn make<R: Abort>(rt: &R, device: &mut Device, event: Event) {
-    match stepped(rt, device, event) {
+    match done(rt, device.step(event)) {
         Reply::Done => {}
         _other => panic!(rt; "not done"),
     }
@@ -55,10 +50,10 @@ fn make<R: Abort>(rt: &R, device: &mut Device, event: Event) {
 
 /// A device whose queue 0 is ready, to which the blocks 0 to 2 of an arena are lent, and the arena.
 pub fn ready<R: Abort>(rt: &R, alloc: Global) -> (Device, Arena) {
-    let mut device = device(rt, alloc);
-    let mut arena = arena(rt, alloc, 0, 24);
+    let mut device = done(rt, Device::new(alloc, Config { vfs: 0, fifo: 64 }));
+    let mut arena = done(rt, Arena::new(alloc, 0, 24));
     for block in 0..3 {
-        make(rt, &mut device, Event::Lend(taken(rt, &mut arena, block)));
+        make(rt, &mut device, Event::Lend(some(rt, arena.take_at(block))));
     }
     make(rt, &mut device, Event::Poke16(0, POSTED));
     make(rt, &mut device, Event::Poke16(0x400, OUTGOING));
@@ -72,7 +67,7 @@ pub fn ready<R: Abort>(rt: &R, alloc: Global) -> (Device, Arena) {
 
 /// A block with bytes, to be lent.
 pub fn to_lend<R: Abort>(rt: &R, arena: &mut Arena) -> Event {
-    let mut buf = taken(rt, arena, 3);
+    let mut buf = some(rt, arena.take_at(3));
     buf.bytes_mut()[100] = 0xA5;
     Event::Lend(buf)
 }
@@ -103,7 +98,7 @@ impl Stepping {
     fn new<R: Abort>(rt: &R, alloc: Global, event: Option<Event>) -> Stepping {
         let (mut device, mut arena) = ready(rt, alloc);
         for block in 4..16 {
-            make(rt, &mut device, Event::Lend(taken(rt, &mut arena, block)));
+            make(rt, &mut device, Event::Lend(some(rt, arena.take_at(block))));
         }
         let event = match event {
             Some(event) => event,
@@ -145,7 +140,7 @@ impl Trial for Stepping {
         } = self;
         none(rt, event);
         for _step in 0..2 {
-            sum = with(sum, number_of(rt, stepped(rt, &mut device, Event::RxStep)));
+            sum = with(sum, number_of(rt, done(rt, device.step(Event::RxStep))));
         }
         end_device(rt, sum, device, arena)
     }
@@ -190,17 +185,21 @@ impl Running {
     /// A block is lent, a frame arrives and is written, one is sent, and a register is read.
     fn new<R: Abort>(rt: &R, alloc: Global) -> Running {
         let (device, mut arena) = ready(rt, alloc);
-        let events = [
+        let list = [
             to_lend(rt, &mut arena),
             Event::Arrive(frame(rt, alloc)),
             Event::RxStep,
             Event::TxStep(0),
             Event::Read(Port::Pf, 0x04074),
         ];
+        let events = match Vec::from_array(alloc, list) {
+            Ok(events) => events,
+            Err(_refused) => panic!(rt; "memory"),
+        };
         Running {
             device,
             arena,
-            events: Some(list(rt, alloc, events)),
+            events: Some(events),
             sum: START,
         }
     }
@@ -213,7 +212,8 @@ impl Running {
             let reply = some(rt, replies.pop());
             self.sum = with(self.sum, number_of(rt, reply));
         }
-        emptied(rt, replies);
+        assert!(rt; replies.is_empty());
+        replies.destroy_empty();
     }
 }
 

@@ -1,11 +1,11 @@
 //! The set-up of a device, and the calls of a driver.
 
-use crate::devices::{device, frame, number_of};
-use crate::outcome::{done, holds, none, put, some};
-use crate::sums::{START, arena, end_device, give, taken, with, with_arena, with_bytes};
+use crate::devices::{frame, number_of};
+use crate::outcome::{done, none, put, some};
+use crate::sums::{START, end_device, with, with_arena, with_bytes};
 use crate::trial::{Trial, tried};
 use device_lock::CallFault;
-use nic_device::{Arena, Event, Mode, Port};
+use nic_device::{Arena, Config, Device, Event, Mode, Port};
 use std::alloc::Global;
 use std::process::Abort;
 use std::sync::Wait;
@@ -26,7 +26,8 @@ pub const PLAIN: Setup = Setup {
 
 /// A new device in hand.
 fn direct<R: Abort>(rt: &R, alloc: Global) -> Direct {
-    Direct::new(alloc, device(rt, alloc), 0)
+    let device = done(rt, Device::new(alloc, Config { vfs: 0, fifo: 64 }));
+    Direct::new(alloc, device, 0)
 }
 
 /// A device that is to be set up.
@@ -39,7 +40,7 @@ impl Setting {
     fn new<R: Abort>(rt: &R, alloc: Global) -> Setting {
         Setting {
             nic: direct(rt, alloc),
-            arena: arena(rt, alloc, 0, 1),
+            arena: done(rt, Arena::new(alloc, 0, 1)),
         }
     }
 }
@@ -93,7 +94,7 @@ pub fn arena_of<R: Abort>(rt: &R, home: Home) -> Arena {
         handed: _,
         accepted: _,
     } = home;
-    holds(rt, "blocks are lost", lost == 0);
+    assert!(rt; lost == 0);
     arena
 }
 
@@ -102,8 +103,8 @@ pub fn arena_of<R: Abort>(rt: &R, home: Home) -> Arena {
 fn in_turn<R: Abort>(rt: &R, arena: Arena) -> Arena {
     let mut arena = arena;
     for block in 0..32 {
-        let buf = taken(rt, &mut arena, block);
-        give(rt, &mut arena, buf);
+        let buf = some(rt, arena.take_at(block));
+        done(rt, arena.give(buf));
     }
     arena
 }
@@ -137,13 +138,13 @@ impl Driving {
         let mut driving = Driving {
             kind,
             nic,
-            arena: Some(arena(rt, alloc, 0, 32)),
+            arena: Some(done(rt, Arena::new(alloc, 0, 32))),
             pmd: None,
             packet: None,
             home: None,
         };
         if kind != Kind::Start {
-            holds(rt, "it starts", driving.start(rt, alloc));
+            assert!(rt; driving.start(rt, alloc));
             driving.ready(rt, alloc);
         }
         driving
@@ -155,13 +156,15 @@ impl Driving {
         match self.kind {
             Kind::Rx | Kind::Stop => {
                 let arrived = self.nic.call(alloc, Event::Arrive(frame(rt, alloc)));
-                holds(rt, "it arrives", number_of(rt, done(rt, arrived)) == 1);
+                assert!(rt; number_of(rt, done(rt, arrived)) == 1);
             }
             Kind::Tx => put(rt, &mut self.packet, some(rt, pmd.packet(60))),
             Kind::Reap => {
                 let packet = some(rt, pmd.packet(60));
-                put(rt, &mut self.packet, packet);
-                holds(rt, "it is sent", self.tx(rt, alloc, &mut pmd));
+                match done(rt, pmd.tx(alloc, &mut self.nic, packet)) {
+                    TxAnswer::Taken => {}
+                    TxAnswer::RingFull(_packet) => panic!(rt; "the ring is full"),
+                }
             }
             Kind::Start => {}
         }
@@ -178,9 +181,12 @@ impl Driving {
             }
             Err(StartRefused { fault, rest }) => {
                 is_for_memory(rt, fault);
-                let home = self.home_of(rt, alloc, rest);
+                let home = match rest {
+                    Rest::Home(home) => home,
+                    Rest::Running(pmd) => done(rt, pmd.stop(alloc, &mut self.nic)),
+                };
                 let arena = arena_of(rt, home);
-                holds(rt, "blocks are out", arena.free_blocks() == 32);
+                assert!(rt; arena.free_blocks() == 32);
                 put(rt, &mut self.arena, arena);
                 false
             }
@@ -212,11 +218,7 @@ impl Driving {
             Ok(TxAnswer::RingFull(_packet)) => panic!(rt; "the ring is full"),
             Err(TxFault { fault, packet }) => {
                 is_for_memory(rt, fault);
-                holds(
-                    rt,
-                    "how many are accepted",
-                    pmd.accepted().len() == usize::from(packet.is_none()),
-                );
+                assert!(rt; pmd.accepted().len() == usize::from(packet.is_none()));
                 if let Some(packet) = packet {
                     put(rt, &mut self.packet, packet);
                 }
@@ -232,18 +234,6 @@ impl Driving {
             Err(fault) => {
                 is_for_memory(rt, fault);
                 false
-            }
-        }
-    }
-
-    /// What is left of a refused start comes home.
-    fn home_of<R: Abort>(&mut self, rt: &R, alloc: Global, rest: Rest) -> Home {
-        match rest {
-            Rest::Home(home) => home,
-            Rest::Running(pmd) => {
-                put(rt, &mut self.pmd, pmd);
-                holds(rt, "it stops", self.stop(rt, alloc));
-                some(rt, self.home.take())
             }
         }
     }
@@ -285,7 +275,7 @@ impl Driving {
             let _reaped = done(rt, pmd.reap(alloc, &mut self.nic));
         }
         put(rt, &mut self.pmd, pmd);
-        holds(rt, "it stops", self.stop(rt, alloc));
+        assert!(rt; self.stop(rt, alloc));
     }
 }
 
@@ -336,7 +326,7 @@ impl Trial for Driving {
             handed,
             accepted,
         } = some(rt, home);
-        holds(rt, "blocks are lost", lost == 0);
+        assert!(rt; lost == 0);
         let sum = with_records(with_records(START, handed.as_slice()), accepted.as_slice());
         let (device, _calls) = nic.finish();
         end_device(rt, sum, device, arena)

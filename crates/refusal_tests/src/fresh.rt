@@ -1,11 +1,11 @@
 //! Calls that make something anew, and change nothing else.
 
 use crate::outcome::done;
-use crate::sums::{START, close_device, end_arena, with, with_bytes, with_device};
+use crate::sums::{START, end_arena, with, with_bytes, with_device};
 use crate::trial::{Maker, makes};
 use dma_arena::ArenaFault;
 use nic_device::{
-    Arena, AsmFault, Config, Device, Image, LoadFault, NewFault, assemble as image_of, load,
+    Arena, AsmFault, Config, Device, Image, LoadFault, NewFault, Parts, assemble as image_of, load,
 };
 use std::alloc::Global;
 use std::process::Abort;
@@ -52,7 +52,12 @@ fn sum_of_image(image: &Image) -> u64 {
 fn sum_of_device<R: Abort>(rt: &R, device: Device) -> u64 {
     let mut device = device;
     let sum = with_device(rt, START, &mut device);
-    close_device(rt, device);
+    let Parts {
+        memory,
+        frames: _,
+        image: _,
+    } = device.dismantle();
+    done(rt, memory.finish());
     sum
 }
 
@@ -119,7 +124,7 @@ impl Maker for Fresh {
     }
 }
 
-/// Makes something of a kind.
+/// Maker something of a kind.
 fn made<R: Abort + Wait + Print>(rt: &R, alloc: Global, kind: Kind) {
     makes(
         rt,

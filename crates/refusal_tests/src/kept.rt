@@ -2,8 +2,8 @@
 
 use crate::devices::{number_of, ready, to_lend};
 use crate::machines::{end_machine, machine_after, with_machine};
-use crate::outcome::{done, holds, none, put, some};
-use crate::sums::{self, START, end_device, stepped, with_arena, with_device};
+use crate::outcome::{done, none, put, some};
+use crate::sums::{START, end_device, with_arena, with_device};
 use crate::trial::{Trial, tried};
 use machine::{Machine, MachineSnapshot};
 use nic_device::{Arena, Device, RestoreRefused, Snapshot};
@@ -22,7 +22,7 @@ impl Keeping {
     /// One to which four blocks are lent.
     fn new<R: Abort>(rt: &R, alloc: Global) -> Keeping {
         let (mut device, mut arena) = ready(rt, alloc);
-        let _number = number_of(rt, stepped(rt, &mut device, to_lend(rt, &mut arena)));
+        let _number = number_of(rt, done(rt, device.step(to_lend(rt, &mut arena))));
         Keeping {
             device,
             arena,
@@ -52,13 +52,13 @@ impl Trial for Keeping {
             arena,
             snapshot,
         } = self;
-        let mut other = sums::arena(rt, alloc, 0, 24);
+        let mut other = done(rt, Arena::new(alloc, 0, 24));
         let restored = done(rt, Device::restore(&some(rt, snapshot), &mut other));
         let (kept, again) = (
             end_device(rt, START, device, arena),
             end_device(rt, START, restored, other),
         );
-        holds(rt, "what is restored is another device", kept == again);
+        assert!(rt; kept == again, "what is restored is another device");
         kept
     }
 }
@@ -93,7 +93,7 @@ impl Restoring {
         let _sum = end_device(rt, START, device, arena);
         Restoring {
             snapshot,
-            arena: sums::arena(rt, alloc, 0, 24),
+            arena: done(rt, Arena::new(alloc, 0, 24)),
             device: None,
         }
     }
@@ -171,7 +171,7 @@ impl Trial for KeepingMachine {
         let KeepingMachine { machine, snapshot } = self;
         let restored = done(rt, Machine::restore(&some(rt, snapshot)));
         let (kept, again) = (end_machine(rt, machine), end_machine(rt, restored));
-        holds(rt, "what is restored is another machine", kept == again);
+        assert!(rt; kept == again, "what is restored is another machine");
         kept
     }
 }

@@ -1,11 +1,11 @@
 //! The calls that were made of a device in hand, one by one and as a history.
 
-use crate::devices::{device, number_of};
-use crate::outcome::{done, holds, none, put, some};
-use crate::sums::{START, arena, end_device, with};
+use crate::devices::number_of;
+use crate::outcome::{done, none, put, some};
+use crate::sums::{START, end_device, with};
 use crate::trial::{Trial, tried};
 use device_lock::{Call, Calls, Entry};
-use nic_device::{Arena, Device, Event, Port, Reply};
+use nic_device::{Arena, Config, Device, Event, Port, Reply};
 use std::alloc::Global;
 use std::process::Abort;
 use std::sync::Wait;
@@ -50,25 +50,20 @@ fn with_calls(sum: u64, calls: &Calls) -> u64 {
     sum
 }
 
-/// The queue's steps are idle, and are made.
-fn rest<R: Abort>(rt: &R, calls: &mut Calls, device: &Device) {
-    holds(rt, "the steps aren't idle", calls.rest(device, QUEUE));
-}
-
 impl Listing {
     /// Three writes, with idle steps before each and behind the last.
     fn new<R: Abort>(rt: &R, alloc: Global) -> Listing {
-        let mut device = device(rt, alloc);
+        let mut device = done(rt, Device::new(alloc, Config { vfs: 0, fifo: 64 }));
         let mut calls = Calls::new(alloc);
         for word in 1..4u32 {
-            rest(rt, &mut calls, &device);
+            assert!(rt; calls.rest(&device, QUEUE), "the steps aren't idle");
             let event = Event::Write(Port::Pf, 0x05400, word);
             let _number = number_of(rt, done(rt, calls.make(alloc, &mut device, event)));
         }
-        rest(rt, &mut calls, &device);
+        assert!(rt; calls.rest(&device, QUEUE), "the steps aren't idle");
         Listing {
             device,
-            arena: arena(rt, alloc, 0, 1),
+            arena: done(rt, Arena::new(alloc, 0, 1)),
             calls: Some(calls),
             listed: None,
         }
@@ -109,7 +104,7 @@ impl Trial for Listing {
         for call in &listed {
             sum = with_call(sum, call);
         }
-        holds(rt, "calls are absent", listed.len() == 19);
+        assert!(rt; listed.len() == 19, "calls are absent");
         end_device(rt, sum, device, arena)
     }
 }
@@ -130,17 +125,6 @@ struct Telling {
     is_marked: bool,
     calls: Option<Vec<Call>>,
     told: Option<Vec<Entry>>,
-}
-
-/// How many entries are of a pass.
-fn of_pass(entries: &[Entry], pass: u8) -> usize {
-    let mut count: usize = 0;
-    for it in entries {
-        if it.pass == pass {
-            count = count.saturating_add(1);
-        }
-    }
-    count
 }
 
 /// Which of three calls are own.
@@ -203,12 +187,11 @@ impl Trial for Telling {
         } = self;
         none(rt, calls);
         let told = some(rt, told);
-        let foreign = of_pass(told.as_slice(), 1);
-        holds(rt, "calls are absent", told.len() == 3);
-        holds(
-            rt,
-            "a call is of another pass",
+        let foreign = told.iter().filter(|it| it.pass == 1).count();
+        assert!(rt; told.len() == 3, "calls are absent");
+        assert!(rt;
             foreign == usize::from(is_marked),
+            "a call is of another pass"
         );
         foreign as u64
     }

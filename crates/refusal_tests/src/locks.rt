@@ -1,8 +1,8 @@
 //! A device that passes share.
 
 use crate::devices::{frame, number_of, to_lend};
-use crate::outcome::{done, holds, list, none, put, some};
-use crate::sums::{START, arena, end_device, with, with_event};
+use crate::outcome::{done, none, put, some};
+use crate::sums::{START, end_device, with, with_event};
 use crate::trial::{Trial, tried};
 use device_lock::{CallFault, Closed, NewFault, Pass, Shared};
 use nic_device::{Arena, Event, Port};
@@ -23,32 +23,23 @@ pub struct Opened {
     pub arena: Arena,
 }
 
-/// Writes a register.
-fn write<R: Abort + Wait>(
-    rt: &R,
-    alloc: Global,
-    bench: &Bench,
-    pass: &mut Pass,
-    address: u32,
-    word: u32,
-) {
-    let event = Event::Write(Port::Pf, address, word);
-    let _number = number_of(rt, done(rt, bench.call(rt, alloc, pass, event)));
-}
-
 /// A shared device that lets frames in.
 pub fn open_bench<R: Abort + Wait>(rt: &R, alloc: Global) -> Opened {
     let (bench, mut passes) = done(rt, Bench::new(alloc, 7, 1, 100));
     let mut pass = some(rt, passes.pop());
-    write(rt, alloc, &bench, &mut pass, 0x03000, 1);
-    write(rt, alloc, &bench, &mut pass, 0x05080, 0x700);
-    let arena = arena(rt, alloc, 0, 8);
+    for (address, word) in [(0x03000, 1), (0x05080, 0x700)] {
+        let event = Event::Write(Port::Pf, address, word);
+        let _number = number_of(rt, done(rt, bench.call(rt, alloc, &mut pass, event)));
+    }
+    let arena = done(rt, Arena::new(alloc, 0, 8));
     Opened { bench, pass, arena }
 }
 
 /// Closes a shared device with its pass.
 pub fn closed<R: Abort>(rt: &R, alloc: Global, bench: Bench, pass: Pass) -> Closed<0, 64> {
-    done(rt, bench.close(list(rt, alloc, [pass])))
+    let mut passes = Vec::new(alloc);
+    passes.push(pass).expect(rt, "memory");
+    done(rt, bench.close(passes))
 }
 
 /// How many entries a history has, and how many of them lent a block or let a frame arrive.
@@ -186,7 +177,7 @@ impl Trial for Opening {
         let (bench, passes) = some(rt, made);
         let count = passes.len() as u64;
         let closed = done(rt, bench.close(passes));
-        let arena = arena(rt, alloc, 0, 1);
+        let arena = done(rt, Arena::new(alloc, 0, 1));
         end_device(
             rt,
             with_history(count, &closed),
@@ -245,7 +236,7 @@ impl Trial for Positions {
             arena,
             found,
         } = self;
-        holds(rt, "how many are found", found == 2);
+        assert!(rt; found == 2);
         end_device(
             rt,
             with_history(found, &closed),

@@ -1,6 +1,6 @@
 //! The machine of scripts.
 
-use crate::outcome::{done, holds, put, some};
+use crate::outcome::{done, none, put, some};
 use crate::sums::{START, with};
 use crate::trial::{Trial, tried};
 use machine::{Machine, NewRefused, OutOfMemory, StepAnswer};
@@ -86,7 +86,7 @@ impl<M: OfProgram> Trial for Building<M> {
                 true
             }
             Err(NewRefused { fault, program }) => {
-                holds(rt, "another refusal", fault == NewFault::OutOfMemory);
+                assert!(rt; fault == NewFault::OutOfMemory);
                 put(rt, &mut self.program, program);
                 false
             }
@@ -127,16 +127,14 @@ fn a_machine_is_made(rt: HostRuntime) {
     );
 }
 
-/// Makes a step that there is memory for.
-fn step<R: Abort>(rt: &R, machine: &mut Machine) {
-    let _answer = done(rt, machine.step());
-}
-
 /// A machine that has made so many steps of the script.
 pub fn machine_after<R: Abort>(rt: &R, alloc: Global, steps: u32) -> Machine {
-    let mut machine = done(rt, Machine::new(alloc, program(rt, alloc), CONFIG));
+    let mut machine = match Machine::new(alloc, program(rt, alloc), CONFIG) {
+        Ok(machine) => machine,
+        Err(_refused) => panic!(rt; "a machine"),
+    };
     for _step in 0..steps {
-        step(rt, &mut machine);
+        let _answer = done(rt, machine.step());
     }
     machine
 }
@@ -145,7 +143,7 @@ pub fn machine_after<R: Abort>(rt: &R, alloc: Global, steps: u32) -> Machine {
 pub fn end_machine<R: Abort>(rt: &R, machine: Machine) -> u64 {
     let (mut machine, mut sum) = (machine, START);
     for _step in 0..20 {
-        step(rt, &mut machine);
+        let _answer = done(rt, machine.step());
         sum = with(with(sum, machine.steps()), u64::from(machine.acc()));
     }
     let sum = with_machine(sum, &machine);

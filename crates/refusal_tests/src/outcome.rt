@@ -1,6 +1,5 @@
 //! Answers that a test goes on with.
 
-use std::alloc::Global;
 use std::mem;
 use std::process::Abort;
 
@@ -39,20 +38,4 @@ pub fn none<T>(rt: &impl Abort, answer: Option<T>) {
         Some(_value) => panic!(rt; "not none"),
         None => {}
     }
-}
-
-/// Sees that something holds.
-pub fn holds(rt: &impl Abort, what: &str, is_so: bool) {
-    assert!(rt; is_so, "{what}");
-}
-
-/// A list of these items.
-pub fn list<T, const N: usize>(rt: &impl Abort, alloc: Global, items: [T; N]) -> Vec<T> {
-    done(rt, Vec::from_array(alloc, items))
-}
-
-/// Lets a list go, all of whose items were taken out.
-pub fn emptied<T>(rt: &impl Abort, list: Vec<T>) {
-    assert!(rt; list.is_empty());
-    list.destroy_empty();
 }

@@ -1,8 +1,7 @@
 //! Numbers that show all of a value.
 
-use crate::outcome::{done, some};
+use crate::outcome::done;
 use nic_device::{Arena, Buf, Device, Event, LentMemory, Octets, Parts, Reply};
-use std::alloc::Global;
 use std::process::Abort;
 
 /// What a sum begins with.
@@ -20,42 +19,6 @@ pub fn with_bytes(sum: u64, bytes: &[u8]) -> u64 {
         sum = with(sum, u64::from(*byte));
     }
     sum
-}
-
-/// An arena of so many blocks from a number on.
-pub fn arena<R: Abort>(rt: &R, alloc: Global, first: u32, count: u32) -> Arena {
-    done(rt, Arena::new(alloc, first, count))
-}
-
-/// Takes a block by its number.
-pub fn taken<R: Abort>(rt: &R, arena: &mut Arena, block: u32) -> Buf {
-    some(rt, arena.take_at(block))
-}
-
-/// Gives a block back.
-pub fn give<R: Abort>(rt: &R, arena: &mut Arena, buf: Buf) {
-    done(rt, arena.give(buf));
-}
-
-/// Makes an event that there is memory for.
-pub fn stepped<R: Abort>(rt: &R, device: &mut Device, event: Event) -> Reply {
-    done(rt, device.step(event))
-}
-
-/// Takes a device apart: its memory, with the frames out in the sum.
-fn taken_apart(sum: u64, device: Device) -> (LentMemory, u64) {
-    let Parts {
-        memory,
-        frames,
-        image: _,
-    } = device.dismantle();
-    (memory, with_frames(sum, frames.as_slice()))
-}
-
-/// Ends a device to which nothing is lent.
-pub fn close_device<R: Abort>(rt: &R, device: Device) {
-    let (memory, _sum) = taken_apart(START, device);
-    done(rt, memory.finish());
 }
 
 /// A sum with a word in it, or with none.
@@ -97,7 +60,7 @@ pub fn with_device<R: Abort>(rt: &R, sum: u64, device: &mut Device) -> u64 {
         sum = with_word(sum, device.peek_register(4 * number));
     }
     for number in 0..512u32 {
-        match stepped(rt, device, Event::Peek16(16 * number)) {
+        match done(rt, device.step(Event::Peek16(16 * number))) {
             Reply::Bytes(bytes) => sum = with_bytes(sum, &bytes),
             Reply::NotLent => sum = with(sum, 0),
             _other => panic!(rt; "not a peek's reply"),
@@ -119,7 +82,7 @@ pub fn end_memory<R: Abort>(rt: &R, sum: u64, memory: LentMemory, arena: Arena) 
     for block in 0..300 {
         if let Some(buf) = memory.take(block) {
             sum = with_buf(sum, &buf);
-            give(rt, &mut arena, buf);
+            done(rt, arena.give(buf));
         }
     }
     done(rt, memory.finish());
@@ -139,6 +102,10 @@ pub fn with_frames(sum: u64, frames: &[(u8, Octets)]) -> u64 {
 pub fn end_device<R: Abort>(rt: &R, sum: u64, device: Device, arena: Arena) -> u64 {
     let mut device = device;
     let sum = with_device(rt, sum, &mut device);
-    let (memory, sum) = taken_apart(sum, device);
-    end_memory(rt, sum, memory, arena)
+    let Parts {
+        memory,
+        frames,
+        image: _,
+    } = device.dismantle();
+    end_memory(rt, with_frames(sum, frames.as_slice()), memory, arena)
 }

@@ -3,17 +3,15 @@
 use crate::devices::frame;
 use crate::drivers::{PLAIN, arena_of};
 use crate::locks::Bench;
-use crate::outcome::{done, emptied, holds, list, some};
-use crate::sums::{arena, close_device};
-use crate::trial::tell;
-use nic_device::Port;
+use crate::outcome::{done, some};
+use nic_device::{Arena, Parts, Port};
 use std::alloc::Global;
 use std::process::Abort;
 use std::sync::Wait;
 use std::thread::Threads;
 use workers::{
-    CallFault, Gate, Job, Lockstep, Pass, PmdFault, Ran, Rest, RunFault, RunRefused, Setup,
-    ThroughLock, WorkerEnd, WorkerFault, pf_setup, run_workers,
+    CallFault, Job, Lockstep, Pass, PmdFault, Ran, Rest, RunFault, RunRefused, Setup, ThroughLock,
+    WorkerEnd, WorkerFault, pf_setup, run_workers,
 };
 
 /// With hashing. Frames of no known kind go to queue 0.
@@ -31,31 +29,26 @@ fn jobs<R: Abort>(rt: &R, alloc: Global, passes: Vec<Pass>) -> Vec<Job> {
             pf_queue: queue,
             size: 8,
             frame: 1518,
-            arena: arena(rt, alloc, 32 * u32::from(queue), 32),
+            arena: done(rt, Arena::new(alloc, 32 * u32::from(queue), 32)),
             rounds: 4,
         };
-        done(rt, jobs.push(job));
+        match jobs.push(job) {
+            Ok(()) => {}
+            Err(_refused) => panic!(rt; "memory"),
+        }
     }
     jobs
 }
 
 /// Two frames.
 fn frames<R: Abort>(rt: &R, alloc: Global) -> Vec<Vec<u8>> {
-    let (first, second) = (frame(rt, alloc), frame(rt, alloc));
-    list(rt, alloc, [first.into_vec(), second.into_vec()])
-}
-
-/// Runs the workers, which may be refused.
-fn ran<R: Abort + Threads + Wait + Sync, G: Gate + Sync>(
-    rt: &R,
-    alloc: Global,
-    gate: &G,
-    bench: &Bench,
-    host: &mut Pass,
-    jobs: Vec<Job>,
-    frames: Vec<Vec<u8>>,
-) -> Result<Ran, RunRefused> {
-    run_workers(rt, alloc, gate, bench, jobs, host, frames)
+    let mut frames = Vec::new(alloc);
+    for _frame in 0..2 {
+        frames
+            .push(frame(rt, alloc).into_vec())
+            .expect(rt, "memory");
+    }
+    frames
 }
 
 /// Runs the workers. Where that was refused all jobs and frames are back, and it is done again.
@@ -68,10 +61,10 @@ fn run_team<R: Abort + Threads + Wait + Sync + Print>(
 ) -> Ran {
     let gate = Lockstep::new(rt, 3);
     let frames = frames(rt, alloc);
-    tell(rt, "call");
-    let answer = ran(rt, alloc, &gate, bench, host, jobs, frames);
-    tell(rt, "end");
-    match answer {
+    let _told = println!(rt; "call");
+    let ran = run_workers(rt, alloc, &gate, bench, jobs, host, frames);
+    let _told = println!(rt; "end");
+    match ran {
         Ok(ran) => ran,
         Err(
             RunRefused {
@@ -80,10 +73,8 @@ fn run_team<R: Abort + Threads + Wait + Sync + Print>(
                 frames,
             },
         ) => {
-            holds(rt, "another refusal", fault == RunFault::OutOfMemory);
-            holds(rt, "jobs are gone", jobs.len() == 2);
-            holds(rt, "frames are gone", frames.len() == 2);
-            done(rt, ran(rt, alloc, &gate, bench, host, jobs, frames))
+            assert!(rt; fault == RunFault::OutOfMemory && jobs.len() == 2 && frames.len() == 2);
+            done(rt, run_workers(rt, alloc, &gate, bench, jobs, host, frames))
         }
     }
 }
@@ -119,61 +110,32 @@ fn bring_home<R: Abort + Wait>(
     pass
 }
 
-/// How the workers ended together.
-struct Together {
-    /// The passes that came back.
-    passes: Vec<Pass>,
-    /// Whether each came to its end.
-    all: bool,
-    /// The most packets that one of them reported.
-    packets: usize,
-}
-
-impl Together {
-    /// One more has ended. Its blocks come home.
-    fn add<R: Abort + Wait>(&mut self, rt: &R, alloc: Global, bench: &Bench, end: WorkerEnd) {
+/// Sees how the workers ended, and closes the shared device.
+fn settle<R: Abort + Wait>(rt: &R, alloc: Global, bench: Bench, ran: Ran, host: Pass) {
+    let Ran { mut ends, fed } = ran;
+    let (mut passes, mut all, mut packets) = (Vec::new(alloc), true, 0);
+    for _end in 0..ends.len() {
         let WorkerEnd {
             pass,
             rest,
             reports,
             fault,
-        } = end;
-        self.all = is_whole(rt, fault) && self.all;
-        self.packets = reports.len().max(self.packets);
-        done(
-            rt,
-            self.passes.push(bring_home(rt, alloc, bench, pass, rest)),
-        );
+        } = some(rt, ends.pop());
+        all = is_whole(rt, fault) && all;
+        packets = reports.len().max(packets);
+        passes
+            .push(bring_home(rt, alloc, &bench, pass, rest))
+            .expect(rt, "memory");
     }
-}
-
-/// Sees how the workers ended. Gives their passes.
-fn ended<R: Abort + Wait>(rt: &R, alloc: Global, bench: &Bench, ran: Ran) -> Vec<Pass> {
-    let Ran { mut ends, fed } = ran;
-    let mut together = Together {
-        passes: Vec::new(alloc),
-        all: true,
-        packets: 0,
-    };
-    for _end in 0..ends.len() {
-        let end = some(rt, ends.pop());
-        together.add(rt, alloc, bench, end);
-    }
-    emptied(rt, ends);
-    let Together {
-        passes,
-        all,
-        packets,
-    } = together;
-    holds(rt, "how many are fed", fed <= 2 && (!all || packets == fed));
-    passes
-}
-
-/// Sees how the workers ended, and closes the shared device.
-fn settle<R: Abort + Wait>(rt: &R, alloc: Global, bench: Bench, ran: Ran, host: Pass) {
-    let mut passes = ended(rt, alloc, &bench, ran);
-    done(rt, passes.push(host));
-    close_device(rt, done(rt, bench.close(passes)).into_device());
+    assert!(rt; ends.is_empty() && fed <= 2 && (!all || packets == fed));
+    ends.destroy_empty();
+    passes.push(host).expect(rt, "memory");
+    let Parts {
+        memory,
+        frames: _,
+        image: _,
+    } = done(rt, bench.close(passes)).into_device().dismantle();
+    done(rt, memory.finish());
 }
 
 /// Two workers at a shared device, whichever growth is refused: each is back with its pass and its blocks, and the

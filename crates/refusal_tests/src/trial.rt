@@ -1,13 +1,12 @@
 //! The way of one call whose growths are refused.
 
-use crate::outcome::holds;
 use std::alloc::Global;
 use std::process::Abort;
 use std::sync::Wait;
 
 /// A call with all that it needs.
 pub trait Trial {
-    /// Makes the call. False where it was refused for want of memory: then what was moved in is back here.
+    /// Maker the call. False where it was refused for want of memory: then what was moved in is back here.
     fn call<R: Abort + Wait>(&mut self, rt: &R, alloc: Global) -> bool;
 
     /// A number that shows what a refused call leaves as it was, with what is moved in.
@@ -17,28 +16,23 @@ pub trait Trial {
     fn end<R: Abort + Wait>(self, rt: &R, alloc: Global) -> u64;
 }
 
-/// Prints a line.
-pub fn tell(rt: &impl Print, line: &str) {
-    let _told = rt.println(line);
-}
-
-/// Makes a call that may be refused for want of memory, and sees that all ends as for one, set up alike, that isn't.
+/// Maker a call that may be refused for want of memory, and sees that all ends as for one, set up alike, that isn't.
 pub fn tried<R: Abort + Wait + Print, T: Trial>(rt: &R, alloc: Global, subject: T, calm: T) {
     let (mut subject, mut calm) = (subject, calm);
     let before = subject.picture(rt);
-    tell(rt, "call");
+    let _told = println!(rt; "call");
     let made = subject.call(rt, alloc);
-    tell(rt, "end");
+    let _told = println!(rt; "end");
     if !made {
-        let is_kept = subject.picture(rt) == before;
-        holds(rt, "a refused call changed something", is_kept);
-        let is_made = subject.call(rt, alloc);
-        holds(rt, "with memory the call is refused", is_made);
+        assert!(rt;
+            subject.picture(rt) == before,
+            "a refused call changed something"
+        );
+        assert!(rt; subject.call(rt, alloc), "with memory the call is refused");
     }
-    let is_made = calm.call(rt, alloc);
-    holds(rt, "the call is refused", is_made);
+    assert!(rt; calm.call(rt, alloc), "the call is refused");
     let (ends, wanted) = (subject.end(rt, alloc), calm.end(rt, alloc));
-    holds(rt, "it ends otherwise", ends == wanted);
+    assert!(rt; ends == wanted, "it ends otherwise");
 }
 
 /// A call that makes something anew, and changes nothing else.
@@ -77,7 +71,7 @@ impl<M: Maker> Trial for Making<M> {
     }
 }
 
-/// Makes something by a call that may be refused for want of memory, and sees that it is the same as by one that isn't.
+/// Maker something by a call that may be refused for want of memory, and sees that it is the same as by one that isn't.
 pub fn makes<R: Abort + Wait + Print, M: Maker>(rt: &R, alloc: Global, subject: M, calm: M) {
     let subject = Making {
         maker: subject,

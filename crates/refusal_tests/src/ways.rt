@@ -2,7 +2,7 @@
 
 use crate::devices::{frame, number_of, ready, to_lend};
 use crate::locks::{Bench, Opened, closed, lends_in, open_bench};
-use crate::outcome::{emptied, holds, list, none, put, some};
+use crate::outcome::{done, none, put, some};
 use crate::sums::{START, end_device, with, with_event};
 use crate::trial::{Trial, tried};
 use device_lock::{CallFault, Pass};
@@ -104,12 +104,13 @@ impl Ends for Interleaved {
             schedule,
         } = self.finish();
         let mut sum = with(sum, calls.kept().0.len() as u64);
-        holds(rt, "how many are foreign", foreign.len() == 3);
-        emptied(rt, schedule);
+        assert!(rt; foreign.len() == 3 && schedule.is_empty());
+        schedule.destroy_empty();
         for _reply in 0..3 {
             sum = with(sum, number_of(rt, some(rt, foreign.pop())));
         }
-        emptied(rt, foreign);
+        assert!(rt; foreign.is_empty());
+        foreign.destroy_empty();
         (device, sum)
     }
 }
@@ -118,7 +119,14 @@ impl Ends for Interleaved {
 fn amid<R: Abort>(rt: &R, alloc: Global) -> InHand<Interleaved> {
     let (device, mut arena) = ready(rt, alloc);
     let foreign = [Event::RxStep, to_lend(rt, &mut arena), Event::TxStep(0)];
-    let schedule = list(rt, alloc, [list(rt, alloc, foreign)]);
+    let list = match Vec::from_array(alloc, foreign) {
+        Ok(list) => list,
+        Err(_refused) => panic!(rt; "memory"),
+    };
+    let schedule = match Vec::from_array(alloc, [list]) {
+        Ok(schedule) => schedule,
+        Err(_refused) => panic!(rt; "memory"),
+    };
     InHand {
         nic: Interleaved::new(alloc, device, schedule),
         arena,

@@ -5,7 +5,8 @@ use Rattle.pmd_laws.proofs.Prelude.{IsRetold, IsToldAnew, IsToldBeside, IsToldBy
 use Rattle.pmd_laws.proofs.Prelude.{Rings, Running, State, Told, Up, Watched, WhereUp, ℕ, ap, append-nil}
 use Rattle.pmd_laws.proofs.Prelude.{append_cancel_left, by_own, events_same, halves_of, inl, inr, last, legal_same, now}
 use Rattle.pmd_laws.proofs.Prelude.{subst, sym}
-use Rattle.pmd_laws.proofs.Shifted.{Shifts, rings_shift, shifted, up_shift}
+use Rattle.pmd_laws.proofs.Shifted.{Shifts, rings_shift, shifted}
+use Rattle.pmd_laws.proofs.StartShifted.{up_shift}
 use Rattle.pmd_laws.proofs.Told.{goes, life}
 use Rattle.pmd_laws.specs.Told as own
 

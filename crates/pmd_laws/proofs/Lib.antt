@@ -14,6 +14,7 @@ pub mod Prelude
 pub mod Refused
 pub mod Shifted
 pub mod StartFaultless
+pub mod StartShifted
 pub mod StopCalls
 pub mod StopSent
 pub mod Stopped

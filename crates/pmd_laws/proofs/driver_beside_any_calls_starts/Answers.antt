@@ -1,7 +1,8 @@
 use Rattle.pmd_laws.specs.BesideStart.{BeginsBeside}
 use Rattle.pmd_laws.proofs.Beside.{retold_along}
 use Rattle.pmd_laws.proofs.Prelude.{◌++◌, ◌⊎◌, FaultsEarly, FaultsFilling, faults_are_early_or_filling, inr}
-use Rattle.pmd_laws.proofs.Shifted.{fault_shift, shifted, up_shift}
+use Rattle.pmd_laws.proofs.Shifted.{shifted}
+use Rattle.pmd_laws.proofs.StartShifted.{fault_shift, up_shift}
 use Rattle.pmd_laws.proofs.StartFaultless.{never_at_fault}
 use Rattle.pmd_laws.proofs.driver_beside_any_calls_starts.Goals as goal
 

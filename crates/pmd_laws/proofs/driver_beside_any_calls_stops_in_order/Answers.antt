@@ -2,7 +2,8 @@ use Rattle.pmd_laws.specs.BesideStop.{IsStoppedBeside}
 use Rattle.pmd_laws.proofs.Beside.{is_life, rings_up, told}
 use Rattle.pmd_laws.proofs.Prelude.{◌++◌, ◌∙◌, ◌≡◌, Beside, Call, IsEnding, IsStopping, Life, List, ap}
 use Rattle.pmd_laws.proofs.Prelude.{append_cancel_left, halves_of, now, refl, same_delivers, same_sends, sym}
-use Rattle.pmd_laws.proofs.Shifted.{of_shift, once_off_shift, shifted, takes_shift}
+use Rattle.pmd_laws.proofs.Shifted.{of_shift, shifted}
+use Rattle.pmd_laws.proofs.StartShifted.{once_off_shift, takes_shift}
 use Rattle.pmd_laws.proofs.StopCalls.{first_made, first_takes}
 use Rattle.pmd_laws.proofs.StopSent.{sent_over_stop, silent_off}
 use Rattle.pmd_laws.proofs.Stopped.{handed_over_stop}

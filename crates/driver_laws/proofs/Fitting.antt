@@ -26,7 +26,7 @@ use Rattle.pmd.specs.PmdRx.Receive as receiving
 use Rattle.pmd.specs.PmdRx.Receive.{is_part, looked, moved, parts_first, posts_all, posts_one, saw, tail_behind, took}
 use Rattle.pmd.specs.PmdRx.declared.ring.Told.{Told}
 use Rattle.pmd.specs.PmdTx.Sending as sending
-use Rattle.receive_laws.proofs.Fitting.{begun_stays}
+use Rattle.receive_laws.proofs.Begun.{begun_stays}
 use Rattle.receive_laws.proofs.DeviceLaws.KeptSettings.{settings_stand}
 use Rattle.receive_laws.proofs.Fitting.{frames_stay_fitting, none_begun_while_off}
 use Rattle.receive_laws.proofs.Own as receive

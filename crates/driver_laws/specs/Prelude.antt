@@ -33,7 +33,8 @@ pub use Rattle.pmd.specs.Apart.{AllLendApart, DrivesApart, DrivesRings, FindsFau
 pub use Rattle.pmd.specs.Blocks.{HasAll}
 pub use Rattle.pmd.specs.Driver.{WhereUp, accepted_of, arena_of, halted_of, handed_of}
 pub use Rattle.pmd.specs.Halted.{Halted}
-pub use Rattle.pmd.specs.Halves.{AllOwn, Doer, Halves, OwnCall, Receives, Sends, after_call, doers_other, halves_of, is_neither, played_by}
+pub use Rattle.pmd.specs.Halves.{AllOwn, Doer, Halves, OwnCall, Receives, Sends, after_call, doers_other, halves_of}
+pub use Rattle.pmd.specs.Halves.{is_neither, played_by}
 pub use Rattle.pmd.specs.PmdRx.Receive.{Receive, drive, records_of}
 pub use Rattle.pmd.specs.PmdSeam.Begun.{entries_in, marked_entries}
 pub use Rattle.pmd.specs.PmdSeam.Both.{IsSwitched, both_quiet}
@@ -47,7 +48,8 @@ pub use Rattle.pmd.specs.PmdSeam.Slots.{EachRingBlock, is_ring_block, ring_block
 pub use Rattle.pmd.specs.PmdSeam.declared.fault.PmdFault.{PmdFault}
 pub use Rattle.pmd.specs.PmdSeam.declared.fault.PmdFault.TheVariants.{DeviceFault}
 pub use Rattle.pmd.specs.PmdSeam.declared.packet.Packet.{Packet}
-pub use Rattle.pmd.specs.PmdTx.Sending.{Accepts, Advances, Asks, Elsewhere, Lends, Looks, Move, Reaps, Sender, has_lent, parts_for}
+pub use Rattle.pmd.specs.PmdTx.Sending.{Accepts, Advances, Asks, Elsewhere, Lends, Looks, Move, Reaps, Sender, has_lent}
+pub use Rattle.pmd.specs.PmdTx.Sending.{parts_for}
 pub use Rattle.pmd.specs.Running.{Running}
 pub use Rattle.pmd.specs.Started.{AreUp, StopsStarting, left_accepted, left_handed}
 pub use Rattle.pmd.specs.Starting.{IsPrepared, IsReceiveReady}

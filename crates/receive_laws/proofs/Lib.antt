@@ -1,5 +1,6 @@
 pub use Rattle.history_laws.proofs.DeviceLaws
 pub use Rattle.history_laws.proofs as HistoryLaws
+pub mod Begun
 pub mod Delivering
 pub mod Examples
 pub mod Fitting

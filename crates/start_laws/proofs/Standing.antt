@@ -13,7 +13,7 @@ use Rattle.nic_device.specs.State.{Waiting}
 use Rattle.nic_device.specs.Step.{step_of}
 use Rattle.nic_device.specs.declared.event.Event.TheVariants as event
 use Rattle.nic_device.specs.declared.event.Reply.TheVariants as reply
-use Rattle.receive_laws.proofs.Fitting.{begun_stays}
+use Rattle.receive_laws.proofs.Begun.{begun_stays}
 use Rattle.receive_laws.proofs.DeviceLaws.StandingAccesses.{read_rest}
 use Rattle.receive_laws.proofs.HistoryLaws.Steady.{told_on}
 use Rattle.receive_laws.proofs.HistoryLaws.Deeds.{left_did}

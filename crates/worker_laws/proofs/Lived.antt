@@ -8,7 +8,8 @@ use Rattle.pmd_laws.proofs.Prelude.{Watched, WentOn, ℕ, ap, append-nil, append
 use Rattle.pmd_laws.proofs.Prelude.{both_ways, bytes_of, calls_joined, calls_of, delivered, extends, false, halted_of}
 use Rattle.pmd_laws.proofs.Prelude.{inl, inr, is_on, is_step, leads_to, left_accepted, left_handed, new_state}
 use Rattle.pmd_laws.proofs.Prelude.{one_begins, parts, quiet, sent_since, start_goes_on, subst, sym, true}
-use Rattle.pmd_laws.proofs.Shifted.{paired, prepared_shift, switched_shift}
+use Rattle.pmd_laws.proofs.Shifted.{paired}
+use Rattle.pmd_laws.proofs.StartShifted.{prepared_shift, switched_shift}
 use Rattle.pmd_laws.proofs.StartLaws.Histories.{leads-append}
 use Rattle.pmd_laws.proofs.StartLaws.SwitchedOff.{quieting_leads}
 use Rattle.pmd_laws.proofs.StopCalls.{stopped_ends}

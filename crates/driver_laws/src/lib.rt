@@ -1,20 +1,166 @@
-//! What holds of a driver that receives and sends on a queue of a shared device, over whatever others do meanwhile.
+//! What holds of a driver on a queue of a shared device, over whatever others do meanwhile: where its start leads, the
+//! device and the driver agreeing on both sides of its queue, and why one is refused; and what holds of both its halves
+//! from there on.
 //!
-//! Each law is the contract of a function that does nothing. How a driver's two halves follow from the calls of its
-//! pass is said by crate `pmd`; `specs/Agreeing` says what the device and both halves agree on, and `specs/Histories`
-//! what a history is that leaves the driver's queue alone; `specs/Healthy` over which histories the device never
-//! replies what a queue at fault replies.
+//! Each law is the contract of a function that does nothing. `specs/Along` says which histories the laws on a start
+//! speak of, and `specs/Histories` those on both halves; how the halves follow from the calls of a driver's pass is said
+//! by crate `pmd`, and what the device and both halves agree on by `specs/Agreeing`. `specs/Healthy` says over which
+//! histories the device never replies what a queue at fault replies.
 #![tactic(auto)]
 
 ghost use Rattle.driver_laws.specs.Before.{FramesStayShortAlong, OnlyPassLent};
 ghost use Rattle.driver_laws.specs.Beside.{CallsAddHarmless, StepsAddHarmless, DrivesLead, HarmlessLead, LeadsOn, HarmlessLeaveAlone};
 ghost use Rattle.driver_laws.specs.Enabling.{EnableWordsKeep};
+ghost use Rattle.driver_laws.specs.Faultless.{ReceiveIsReady, TransmitIsReady, SwitchingIsNeverStray};
 ghost use Rattle.driver_laws.specs.Faults.{NoFault};
+ghost use Rattle.driver_laws.specs.Filling.{FaultsAreEarlyOrFilling, NoFaultIsEarly, FillingBeginsWell};
+ghost use Rattle.driver_laws.specs.Gate.{NamedQueuesPass};
 ghost use Rattle.driver_laws.specs.Healthy.{OwnRepliesAreHealthy};
 ghost use Rattle.driver_laws.specs.Histories.{HandedIsPrefix, NoneIsAll, NoneIsAllBefore, NoneIsAllTaken, SentIsPrefix, IdleIsAllSent, CountedWhereUp};
+ghost use Rattle.driver_laws.specs.Laid.{LaidQueueIsSilent};
+ghost use Rattle.driver_laws.specs.Moves.{WriteStands, ReadStands, LendStands, FreshReceiveAgrees, FreshTransmitAgrees};
+ghost use Rattle.driver_laws.specs.Numbers.{NamedQueueHasTheNumbers};
+ghost use Rattle.driver_laws.specs.On.{SwitchedSidesAgree, SwitchedSidesBeginNone, SwitchedSidesGoOn};
+ghost use Rattle.driver_laws.specs.Points.{AccessesLead};
+ghost use Rattle.driver_laws.specs.Polls.{PollsAreTold};
+ghost use Rattle.driver_laws.specs.Quiet.{ReceiveGuardIsOff, OffSidesStand};
+ghost use Rattle.driver_laws.specs.Quieting.{QuietingLeads, QuietSidesStand};
+ghost use Rattle.driver_laws.specs.Replies.{NamedRegistersReply, OffSidesAreSeenOff};
 ghost use Rattle.driver_laws.specs.Retold.{RetoldIsSame, SameDelivers, SameIsLegal, SameLeads, SameSends};
+ghost use Rattle.driver_laws.specs.Standing.{StandingSidesAreLeft};
+ghost use Rattle.driver_laws.specs.Start.{StartAgrees, StartGoesOn};
+ghost use Rattle.driver_laws.specs.TimedOut.{TimeoutsPoll};
 ghost use Rattle.driver_laws.specs.Waiting.{WaitingIsNotAll};
+ghost use Rattle.driver_laws.specs.Words.{WordsAreTaken};
+ghost use Rattle.nic_device.specs.DmaRing.declared.dir.Dir.TheVariants.{Rx, Tx};
 ghost use Rattle.pmd.specs.Halves.{ReceivingDrives, SendingDrives, OthersDrive, DrivesOn};
+
+/// The numbers that a driver uses at its port name the registers of the queue that port and queue name: at the physical
+/// function each of the device's queues by its number there, at a virtual function those of its pool, from the first
+/// on.
+pub fn named_queue_has_the_numbers()
+    ensures { NamedQueueHasTheNumbers }
+{}
+
+/// A word that a driver writes to a register of a side that is off is the side's, whole: its ring's base, length, head
+/// or tail, its control word, or no write-back of the head; and a write of the enable word asks. The queue's other
+/// side, memory, the frame limit and how the queues are parted stay.
+pub fn words_of_an_off_side_are_taken()
+    ensures receive { WordsAreTaken Rx }
+    ensures transmit { WordsAreTaken Tx }
+{}
+
+/// Two sides of a queue that are off, or on with an empty ring, stay as they are but for going on where they are wanted
+/// on, over every event that leaves the queue alone: nothing is received or sent there, and blocks that are lent with
+/// each byte 0 stay so.
+pub fn standing_sides_are_left()
+    ensures { StandingSidesAreLeft }
+{}
+
+/// While a driver lays out the empty transmit ring of a queue whose transmit side is off, and asks the side on only
+/// behind that, nothing is sent on the queue, over a legal history that leaves it alone: be the side off yet, or on.
+pub fn laid_queue_is_silent()
+    ensures { LaidQueueIsSilent }
+{}
+
+/// A driver's own accesses keep such sides: one with the word that is written to it, one that is on where its enable
+/// word was read with bit 25, and the block of zero bytes that was lent.
+pub fn accesses_keep_sides_standing()
+    ensures receive_write { WriteStands Rx }
+    ensures transmit_write { WriteStands Tx }
+    ensures receive_read { ReadStands Rx }
+    ensures transmit_read { ReadStands Tx }
+    ensures lend { LendStands }
+{}
+
+/// Where the words of a fresh ring stand and the ring's block is lent, the device and the driver agree: on the receive
+/// side, with nothing posted, and on the transmit side, with nothing sent; each on or off.
+pub fn fresh_sides_agree()
+    ensures receive { FreshReceiveAgrees }
+    ensures transmit { FreshTransmitAgrees }
+{}
+
+/// After a write of the receive side's enable word without bit 25 the side isn't wanted on, and stays so over every
+/// event that leaves the queue alone; a read that tells bit 25 as 0 then finds it off. Two sides that are off so stand
+/// as they are.
+pub fn guarded_receive_side_is_off()
+    ensures guard { ReceiveGuardIsOff }
+    ensures stand { OffSidesStand }
+{}
+
+/// Over a legal history that leaves the queue alone, both sides are off, and not wanted on, wherever the driver's pass
+/// has made the accesses that see them off; and so they stand as they are.
+pub fn both_sides_are_seen_off()
+    ensures quieting { QuietingLeads }
+    ensures stand { QuietSidesStand }
+{}
+
+/// Over such a history, from where the sides stand as some that are known, they stand as after the driver's accesses
+/// wherever its pass has made these.
+pub fn accesses_lead_over_a_history()
+    ensures { AccessesLead }
+{}
+
+/// Over such a history, wherever the driver's pass has made the calls by which both rings came up and both sides went
+/// on, the device and the driver agree on both, with nothing posted or sent yet; both are on, nothing was received or
+/// sent since they went on, and nothing is written yet of a frame that waits for the queue. That holds whether or not
+/// the receive ring is filled next.
+pub fn switched_sides_agree()
+    ensures agree { SwitchedSidesAgree }
+    ensures on { SwitchedSidesGoOn }
+    ensures begun { SwitchedSidesBeginNone }
+{}
+
+/// Over such a history, wherever the driver's pass has made the calls by which a start of it brought both sides up, the
+/// device and the driver agree on both: nothing is posted or sent yet. Both are on there, and nothing was received or
+/// sent since they went on. Just before its first access its port and queue name this queue, and frames have at most as
+/// many bytes as its packets.
+pub fn start_leaves_sides_that_agree()
+    ensures agree { StartAgrees }
+    ensures on { StartGoesOn }
+{}
+
+/// A start that answers `StartTimeout` made 1,000 reads of its queue's RXDCTL or TXDCTL, of both together, each
+/// answered without bit 25, and each after a write of it there, the last of which before the read has bit 25.
+pub fn timeouts_poll_a_thousand_times()
+    ensures { TimeoutsPoll }
+{}
+
+/// These reads are among the calls of the start's pass, by the numbers that RXDCTL and TXDCTL have at its port.
+pub fn polls_of_a_timeout_are_told()
+    ensures { PollsAreTold }
+{}
+
+/// Where port and queue name a queue of the device, a start isn't refused with `DeviceFault` before any event: the port
+/// can name the queue.
+pub fn named_queues_pass_the_gate()
+    ensures { NamedQueuesPass }
+{}
+
+/// Where port and queue name a queue of the device, a driver's reads of its registers give words and its writes are
+/// done; and the enable word of a side that is off is read without bit 25.
+pub fn replies_at_a_start_are_healthy()
+    ensures registers { NamedRegistersReply }
+    ensures off { OffSidesAreSeenOff }
+{}
+
+/// Over a legal history that leaves the queue alone, where port and queue name it, its sides are off and not wanted on
+/// just before the start's first call, and no block that the start lends is lent already: no start finds the device at
+/// fault as it makes its rings ready, one after the other, or switches both sides on.
+pub fn starts_find_no_device_at_fault()
+    ensures receive { ReceiveIsReady }
+    ensures transmit { TransmitIsReady }
+    ensures switch { SwitchingIsNeverStray }
+{}
+
+/// A start that answers `DeviceFault` amid its events does so before both sides are on, or as it fills its receive
+/// ring. Over such a history the first never comes; and as the ring began to be filled the device and the driver
+/// agreed on both sides.
+pub fn faults_at_a_start_come_filling()
+    ensures cases { FaultsAreEarlyOrFilling }
+    ensures early { NoFaultIsEarly }
+    ensures filling { FillingBeginsWell }
+{}
 
 /// The calls of one half lead both on, where the other half stays as it was; steps of the device leave both; and calls
 /// lead on, one after another. So the halves follow from whatever calls of a driver that runs were made, and each call

@@ -2,8 +2,8 @@
 -- of an arena's blocks, none of which is lent just before its first access, only the rings' are lent as both sides are
 -- on, and the frames that wait fit a buffer.
 use Rattle.nic_device.specs.DmaArena.Block.{zero_block}
-use Rattle.start_laws.proofs.Made.{first_seen}
-use Rattle.start_laws.specs.DeviceLaws.Laws.{WritesNoSetting}
+use Rattle.driver_laws.proofs.Made.{first_seen}
+use Rattle.driver_laws.specs.DeviceLaws.Laws.{WritesNoSetting}
 use Rattle.driver_laws.proofs.Fitting.{frames_stay_short, lends_is, only_pass_lent}
 use Rattle.driver_laws.specs.Healthy.{lent_by as halves_lent_by}
 use Rattle.pmd_laws.proofs.Begun.{first_halves, receive_lent, transmit_lent}

@@ -1,4 +1,4 @@
-pub use Rattle.start_laws.proofs as StartLaws
+pub use Rattle.driver_laws.proofs as DriverLaws
 pub mod Begun
 pub mod Beside
 pub mod Ends

@@ -1,8 +1,8 @@
 -- What a driver handed out and what it sent in its life, and within a longer history: what begins a life is one too, at
 -- a place where only harmless calls came behind it, and at a later one.
 use Rattle.device_lock.proofs.Histories.{events_before, legal_before}
-use Rattle.start_laws.proofs.On.{on_some, other_lent, ring_lent, switched_sides_agree, switched_sides_go_on}
-use Rattle.start_laws.proofs.Parts.{begun as begun_by}
+use Rattle.driver_laws.proofs.On.{on_some, other_lent, ring_lent, switched_sides_agree, switched_sides_go_on}
+use Rattle.driver_laws.proofs.Parts.{begun as begun_by}
 use Rattle.driver_laws.specs.Histories.{IsDriven}
 use Rattle.pmd_laws.proofs.Begun.{first_halves, halves_apart, halves_lent}
 use Rattle.pmd_laws.proofs.Prelude.{[], ◌++◌, ◌∙◌, ◌∷◌, ◌≡◌, AddsHarmless, AllOwn, AreEvents, AreLent, AreOn, AreUp}
@@ -15,8 +15,8 @@ use Rattle.pmd_laws.proofs.Prelude.{harmless_lead, harmless_leave_alone, idle_is
 use Rattle.pmd_laws.proofs.Prelude.{none_is_all, none_is_all_taken, on, parts, played_by, receiving_drives, records_of}
 use Rattle.pmd_laws.proofs.Prelude.{refl, sent_in, sent_is_prefix, sent_since, subst, sym}
 use Rattle.pmd_laws.specs.Order as order
-use Rattle.start_laws.specs.ReceiveLaws.Delivered as receive
-use Rattle.start_laws.specs.TransmitLaws.Laws as transmit
+use Rattle.driver_laws.specs.ReceiveLaws.Delivered as receive
+use Rattle.driver_laws.specs.TransmitLaws.Laws as transmit
 
 -- from the place on where both sides of a driver's queue are on, a history drives its halves
 module _ {w : Watched} {origin : State} {h : List Entry} {q : AtPort} {size frame : ℕ} {old : List Call} {a : Numbers}

@@ -65,32 +65,32 @@ pub use Rattle.pmd.specs.Started.{IsHalfStarted, IsHome, IsLeftWith, IsShut, is_
 pub use Rattle.pmd.specs.Starting.{GoingOnFails, IsTransmitReady, LendingFails, LendsEach, PreparingFails, ReceiveFails}
 pub use Rattle.pmd.specs.Starting.{StopsLending}
 pub use Rattle.pmd.specs.Stopping.{ComesHome, IsLeftAmid, bringing, brought, closed}
-pub use Rattle.start_laws.proofs.StopCalls.{accesses_are, stops_are, switched_are, unswitched_are}
-pub use Rattle.start_laws.proofs.AllAre.{AllAre, all_before}
-pub use Rattle.start_laws.proofs.Ground.{IsDriven, reads_driven, words_are_writes, writes_driven}
-pub use Rattle.start_laws.proofs.Ending.{all_lead, ending_plain, ending_settles, free_left}
-pub use Rattle.start_laws.proofs.Filling.{faults_are_early_or_filling, no_fault_is_early}
-pub use Rattle.start_laws.proofs.Ground.{ground_kept, ground_same, plain_keeps, plain_setting, write_ground}
-pub use Rattle.start_laws.proofs.Histories.{events_before, legal_before}
-pub use Rattle.start_laws.proofs.HistoryLaws.Alone.{beginning_alone, lent_before}
-pub use Rattle.start_laws.proofs.HistoryLaws.Leaving.{left-setting, left-side}
-pub use Rattle.start_laws.proofs.Made.{extends, made_some}
-pub use Rattle.start_laws.proofs.Parts.{Around, Begins, Parts, around, calls_joined, none_behind, one_begins, parts}
-pub use Rattle.start_laws.proofs.Reached.{KeptOver, LeadsOver, reached, reached_next, state_kept, state_leads}
-pub use Rattle.start_laws.proofs.ReceiveLaws.Delivering.{image_stays, since-append, vfs_stays}
-pub use Rattle.start_laws.proofs.ReceiveLaws.Delivering.{calls_other, calls_own}
-pub use Rattle.start_laws.proofs.On.{sized}
-pub use Rattle.start_laws.proofs.SwitchedOff.{IsSettled, Settles, left_settles, word_settles}
-pub use Rattle.start_laws.proofs.Start.{ground_at, on, on_some, start_goes_on}
-pub use Rattle.start_laws.proofs.StopCalls.{adds_made, asks_end, none_made, some_made, step_ends, then_made}
-pub use Rattle.start_laws.proofs.TransmitLaws.Counting.{sent_is_counted}
-pub use Rattle.start_laws.specs.Along.{AtCalls, AtEntries, IsKept}
-pub use Rattle.start_laws.specs.Ending.{Each, IsPlain, NamesDriven}
-pub use Rattle.start_laws.specs.Laid.{Headed, Lays, LaysOn, MayAsk, MayLay, Sized, laid_by}
-pub use Rattle.start_laws.specs.ReceiveLaws.Steps.{IfFresh}
-pub use Rattle.start_laws.specs.Stopping.{Asks}
-pub use Rattle.start_laws.specs.TransmitLaws.Laws.{FindsWaiting, IsPrefixOf}
-pub use Rattle.start_laws.specs.Unused.{WentOn}
+pub use Rattle.driver_laws.proofs.StopCalls.{accesses_are, stops_are, switched_are, unswitched_are}
+pub use Rattle.driver_laws.proofs.AllAre.{AllAre, all_before}
+pub use Rattle.driver_laws.proofs.Ground.{IsDriven, reads_driven, words_are_writes, writes_driven}
+pub use Rattle.driver_laws.proofs.Ending.{all_lead, ending_plain, ending_settles, free_left}
+pub use Rattle.driver_laws.proofs.Filling.{faults_are_early_or_filling, no_fault_is_early}
+pub use Rattle.driver_laws.proofs.Ground.{ground_kept, ground_same, plain_keeps, plain_setting, write_ground}
+pub use Rattle.driver_laws.proofs.Histories.{events_before, legal_before}
+pub use Rattle.driver_laws.proofs.HistoryLaws.Alone.{beginning_alone, lent_before}
+pub use Rattle.driver_laws.proofs.HistoryLaws.Leaving.{left-setting, left-side}
+pub use Rattle.driver_laws.proofs.Made.{extends, made_some}
+pub use Rattle.driver_laws.proofs.Parts.{Around, Begins, Parts, around, calls_joined, none_behind, one_begins, parts}
+pub use Rattle.driver_laws.proofs.Reached.{KeptOver, LeadsOver, reached, reached_next, state_kept, state_leads}
+pub use Rattle.driver_laws.proofs.ReceiveLaws.Delivering.{image_stays, since-append, vfs_stays}
+pub use Rattle.driver_laws.proofs.ReceiveLaws.Delivering.{calls_other, calls_own}
+pub use Rattle.driver_laws.proofs.On.{sized}
+pub use Rattle.driver_laws.proofs.SwitchedOff.{IsSettled, Settles, left_settles, word_settles}
+pub use Rattle.driver_laws.proofs.Start.{ground_at, on, on_some, start_goes_on}
+pub use Rattle.driver_laws.proofs.StopCalls.{adds_made, asks_end, none_made, some_made, step_ends, then_made}
+pub use Rattle.driver_laws.proofs.TransmitLaws.Counting.{sent_is_counted}
+pub use Rattle.driver_laws.specs.Along.{AtCalls, AtEntries, IsKept}
+pub use Rattle.driver_laws.specs.Ending.{Each, IsPlain, NamesDriven}
+pub use Rattle.driver_laws.specs.Laid.{Headed, Lays, LaysOn, MayAsk, MayLay, Sized, laid_by}
+pub use Rattle.driver_laws.specs.ReceiveLaws.Steps.{IfFresh}
+pub use Rattle.driver_laws.specs.Stopping.{Asks}
+pub use Rattle.driver_laws.specs.TransmitLaws.Laws.{FindsWaiting, IsPrefixOf}
+pub use Rattle.driver_laws.specs.Unused.{WentOn}
 pub use Rattle.driver_laws.proofs.Beside.{drives_lead, harmless_both, harmless_lead, harmless_leave_alone, leads_on}
 pub use Rattle.driver_laws.proofs.Beside.{left, others_harmless, steps_harmless}
 pub use Rattle.driver_laws.proofs.InOrder.{counted_where_up, handed_is_prefix, idle_is_all_sent, led, none_is_all}

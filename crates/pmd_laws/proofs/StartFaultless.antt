@@ -3,8 +3,8 @@
 use Rattle.std.proofs.lemmas.List.{append_assoc}
 use Rattle.pmd.proofs.Finding.{wrong_by}
 use Rattle.pmd.proofs.Starting.{preparing_drawn}
-use Rattle.start_laws.specs.Faultless.{NoneIsLent}
-use Rattle.start_laws.specs.Filling.{LendsFresh}
+use Rattle.driver_laws.specs.Faultless.{NoneIsLent}
+use Rattle.driver_laws.specs.Filling.{LendsFresh}
 use Rattle.pmd_laws.proofs.Begun.{drawn_both, drawn_gone, may}
 use Rattle.pmd_laws.proofs.Lent.{IsRising, Rises, RisesToLast, all_rise, lends_rise, off_driven, others_before}
 use Rattle.pmd_laws.proofs.Lent.{quieted_rises, ready_rises, step_rises, unlent_before, words_rise}

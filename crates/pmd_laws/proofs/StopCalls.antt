@@ -1,7 +1,7 @@
 -- The calls of a driver's stop are those of a stop, beside steps of the device, and take blocks back once both sides
 -- are off; and so do those of them that were made so far.
 use Rattle.pmd.specs.declared.home.Home.{Home}
-use Rattle.start_laws.proofs.StopCalls.{bringing_ends, switched_off_asks, unswitched_asks}
+use Rattle.driver_laws.proofs.StopCalls.{bringing_ends, switched_off_asks, unswitched_asks}
 use Rattle.pmd_laws.proofs.Prelude.{[], ◌++◌, ◌∙◌, ◌∷◌, ◌≡◌, ◌⊎◌, AreMadeOf, Asks, AtPort, Begins, Block, Call}
 use Rattle.pmd_laws.proofs.Prelude.{ComesHome, Each, Ends, EndsOnceOff, Event, FailedStopEnds, FailedStopTakesOnceOff}
 use Rattle.pmd_laws.proofs.Prelude.{Halted, IsAsking, IsEnding, IsLeftAmid, IsStopped, IsSwitched, List, NoCallTakes}

@@ -1,5 +1,4 @@
 pub use Rattle.driver_laws.specs as DriverLaws
-pub use Rattle.start_laws.specs as StartLaws
 pub mod Beside
 pub mod BesideApart
 pub mod BesideRoom

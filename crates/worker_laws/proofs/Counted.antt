@@ -3,7 +3,7 @@ use Rattle.pmd_laws.proofs.Prelude.{[], ◌&&◌, ◌++◌, ◌∙◌, ◌∷◌
 use Rattle.pmd_laws.proofs.Prelude.{Some, State, Tx, ℕ, after, ap, both_ways, cases_Bool, cond, delivered, false, inl}
 use Rattle.pmd_laws.proofs.Prelude.{inr, is_on, leads_to, not, option_map, packets_if_any, pieces, pieces_since, refl}
 use Rattle.pmd_laws.proofs.Prelude.{sent_by, sent_is_counted, sent_since, since-append, sym, true}
-use Rattle.pmd_laws.proofs.StartLaws.Histories.{leads-append}
+use Rattle.pmd_laws.proofs.DriverLaws.Histories.{leads-append}
 
 -- where a side goes on what was before doesn't count
 anew : {A : Type 0} (was is : Bool) (x y z : A) → was ≡ false → is ≡ true

@@ -4,13 +4,13 @@ use Rattle.nic_device.specs.Step.{step_of}
 use Rattle.nic_device.specs.declared.event.Reply.TheVariants.{Buf}
 use Rattle.workers.specs.Before.{known_through}
 use Rattle.workers.specs.Lending.{lent_behind, no_block, takes}
-use Rattle.pmd_laws.specs.StartLaws.ReceiveLaws.HistoryLaws.Lent.{with_lent, without}
+use Rattle.pmd_laws.specs.DriverLaws.ReceiveLaws.HistoryLaws.Lent.{with_lent, without}
 use Rattle.pmd_laws.proofs.Prelude.{[], ◌&&◌, ◌<◌, ◌==◌, ◌||◌, ◌∷◌, ◌≡◌, AreEvents, Block, Blocks, Entry, Event}
 use Rattle.pmd_laws.proofs.Prelude.{IsEvent, IsLegal, List, OnlyLent, Reply, State, ℕ, after, and_from, and_parts, ap}
 use Rattle.pmd_laws.proofs.Prelude.{both_ways, eq-eqb, eqb-true, false, has_block, inl, inr, is_some, leads_to, lends}
 use Rattle.pmd_laws.proofs.Prelude.{lent_cases, lt-ltb, nat_cmp, nat_lt, new_state, not, or_cases, or_left, or_right}
 use Rattle.pmd_laws.proofs.Prelude.{refl, reply_to, subst, sym, taken_cases, true}
-use Rattle.pmd_laws.proofs.StartLaws.HistoryLaws.Lent.{only_lent_stays}
+use Rattle.pmd_laws.proofs.DriverLaws.HistoryLaws.Lent.{only_lent_stays}
 use Rattle.nic_device.specs.declared.event.Event.TheVariants as event
 use Rattle.std.specs.FinMap as map
 

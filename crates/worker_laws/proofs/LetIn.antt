@@ -18,7 +18,7 @@ use Rattle.pmd_laws.proofs.Prelude.{[], ◌+◌, ◌∷◌, ◌≡◌, ◌≤◌
 use Rattle.pmd_laws.proofs.Prelude.{Ok, Reply, Rx, State, Waiting, ℕ, after, arith, either_way, has_queue, leads_to}
 use Rattle.pmd_laws.proofs.Prelude.{legal_before, length, max, mode_in, most_blocks, nat_lt, new_state, refl, subst}
 use Rattle.pmd_laws.proofs.Prelude.{sym}
-use Rattle.pmd_laws.proofs.StartLaws.HistoryLaws.Lent.{waiting_changed}
+use Rattle.pmd_laws.proofs.DriverLaws.HistoryLaws.Lent.{waiting_changed}
 use Rattle.worker_laws.specs.Fitting.{AllFitBlocks, FramesFitIsShort}
 use Rattle.worker_laws.proofs.FirstCalls.{holds_at_first}
 use Rattle.nic_device.specs.declared.event.Event.TheVariants as event

@@ -10,14 +10,14 @@ use Rattle.pmd_laws.proofs.Prelude.{inl, inr, is_on, is_step, leads_to, left_acc
 use Rattle.pmd_laws.proofs.Prelude.{one_begins, parts, quiet, sent_since, start_goes_on, subst, sym, true}
 use Rattle.pmd_laws.proofs.Shifted.{paired}
 use Rattle.pmd_laws.proofs.StartShifted.{prepared_shift, switched_shift}
-use Rattle.pmd_laws.proofs.StartLaws.Histories.{leads-append}
-use Rattle.pmd_laws.proofs.StartLaws.SwitchedOff.{quieting_leads}
+use Rattle.pmd_laws.proofs.DriverLaws.Histories.{leads-append}
+use Rattle.pmd_laws.proofs.DriverLaws.SwitchedOff.{quieting_leads}
 use Rattle.pmd_laws.proofs.StopCalls.{stopped_ends}
 use Rattle.worker_laws.specs.Points.{JustBefore}
 use Rattle.worker_laws.proofs.Counted.{delivered_from, sent_from}
 use Rattle.worker_laws.proofs.FirstCalls.{FirstCall, before_first, first_read, more_behind}
-use Rattle.pmd_laws.specs.StartLaws.ReceiveLaws.Delivered as receive
-use Rattle.pmd_laws.specs.StartLaws.TransmitLaws.Laws as transmit
+use Rattle.pmd_laws.specs.DriverLaws.ReceiveLaws.Delivered as receive
+use Rattle.pmd_laws.specs.DriverLaws.TransmitLaws.Laws as transmit
 
 -- some calls were made
 abbrev GoesOn : List Call → List Call → Type 0

@@ -14,15 +14,15 @@ use Rattle.pmd_laws.proofs.Prelude.{append_assoc, around, bytes_of, call_in, cal
 use Rattle.pmd_laws.proofs.Prelude.{delivered, eq-eqb, inl, inr, leads_to, left_accepted, left_handed, new_sound}
 use Rattle.pmd_laws.proofs.Prelude.{new_state, none_behind, refl, same_from_push, sent_since, subst, sym}
 use Rattle.pmd_laws.proofs.Refused.{left_of_refused_is_prefix}
-use Rattle.pmd_laws.proofs.StartLaws.HistoryLaws.Alone.{new_is_left_alone}
+use Rattle.pmd_laws.proofs.DriverLaws.HistoryLaws.Alone.{new_is_left_alone}
 use Rattle.worker_laws.specs.Order.{CallsStand, EndOwn, IsEndAmong, IsEndIn, UpTo, given_of, queue_of}
 use Rattle.worker_laws.specs.Points.{JustBefore}
 use Rattle.worker_laws.proofs.FirstCalls.{calls_from, starts_more}
 use Rattle.worker_laws.proofs.Lived.{handed_since, sent_on, starts}
 use Rattle.worker_laws.proofs.Settings.{ground_there, named_below}
 use Rattle.pmd.specs.declared.start.Rest.TheVariants as rest
-use Rattle.pmd_laws.specs.StartLaws.ReceiveLaws.Delivered as receive
-use Rattle.pmd_laws.specs.StartLaws.TransmitLaws.Laws as transmit
+use Rattle.pmd_laws.specs.DriverLaws.ReceiveLaws.Delivered as receive
+use Rattle.pmd_laws.specs.DriverLaws.TransmitLaws.Laws as transmit
 
 isnt_none : {A : Type 0} (xs : List A) (x : A) (more : List A) → xs ++ x ∷ more ≢ []
 isnt_none [] x more is = cc

@@ -29,8 +29,8 @@ use Rattle.workers.specs.DeviceLock.declared.told.Settings.{Settings}
 use Rattle.workers.specs.Quiet.{NoneAsksOn, asks_on, is_enable}
 use Rattle.workers.specs.Starts.{Starts}
 use Rattle.workers.specs.declared.beginning.Given.{Given}
-use Rattle.pmd_laws.specs.StartLaws.HistoryLaws.Sides.{IsOff, side_of}
-use Rattle.pmd_laws.specs.StartLaws.Numbers.{queue_at, queue_in}
+use Rattle.pmd_laws.specs.DriverLaws.HistoryLaws.Sides.{IsOff, side_of}
+use Rattle.pmd_laws.specs.DriverLaws.Numbers.{queue_at, queue_in}
 use Rattle.pmd_laws.proofs.Prelude.{[], ◌&&◌, ◌*◌, ◌++◌, ◌+◌, ◌<◌, ◌∙◌, ◌∷◌, ◌≡◌, AreEvents, Block, Call, Dir, Entry}
 use Rattle.pmd_laws.proofs.Prelude.{Event, HasGround, IsSound, List, Mode, None, Option, Place, Port, Register, RowId}
 use Rattle.pmd_laws.proofs.Prelude.{Rx, Rxdctl, Some, State, Tx, Txdctl, Watched, ℕ, after, ap, append-nil}
@@ -38,14 +38,14 @@ use Rattle.pmd_laws.proofs.Prelude.{append_assoc, arith, asks_pool_reset, cases_
 use Rattle.pmd_laws.proofs.Prelude.{events_before, false, has_bit, has_queue, if◌then◌else◌, image_stays, inl, inr}
 use Rattle.pmd_laws.proofs.Prelude.{is_on, leads_to, left-side, length, ltb-true, mode_in, named, nat_lt, new_sound}
 use Rattle.pmd_laws.proofs.Prelude.{new_state, place, refl, row_of, subst, sym, true, vfs_stays}
-use Rattle.pmd_laws.proofs.StartLaws.Histories.{leads-append}
-use Rattle.pmd_laws.proofs.StartLaws.HistoryLaws.Deeds.{side_did}
-use Rattle.pmd_laws.proofs.StartLaws.HistoryLaws.DeviceLaws.PoolResets.{asked_pool_resets}
-use Rattle.pmd_laws.proofs.StartLaws.HistoryLaws.Limits.{settings_told}
-use Rattle.pmd_laws.proofs.StartLaws.HistoryLaws.Written.{place_in, place_named}
-use Rattle.pmd_laws.proofs.StartLaws.HistoryLaws.Alone.{histories_sound}
-use Rattle.pmd_laws.proofs.StartLaws.HistoryLaws.Steady.{off_steady, steady_kept}
-use Rattle.pmd_laws.proofs.StartLaws.Ground.{is_in, some_where}
+use Rattle.pmd_laws.proofs.DriverLaws.Histories.{leads-append}
+use Rattle.pmd_laws.proofs.DriverLaws.HistoryLaws.Deeds.{side_did}
+use Rattle.pmd_laws.proofs.DriverLaws.HistoryLaws.DeviceLaws.PoolResets.{asked_pool_resets}
+use Rattle.pmd_laws.proofs.DriverLaws.HistoryLaws.Limits.{settings_told}
+use Rattle.pmd_laws.proofs.DriverLaws.HistoryLaws.Written.{place_in, place_named}
+use Rattle.pmd_laws.proofs.DriverLaws.HistoryLaws.Alone.{histories_sound}
+use Rattle.pmd_laws.proofs.DriverLaws.HistoryLaws.Steady.{off_steady, steady_kept}
+use Rattle.pmd_laws.proofs.DriverLaws.Ground.{is_in, some_where}
 use Rattle.worker_laws.specs.Quiet.{NeverAskedIsQuiet}
 use Rattle.nic_device.specs.declared.event.Event.TheVariants as event
 use Rattle.workers.specs.Queues as told

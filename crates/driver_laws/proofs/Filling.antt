@@ -1,0 +1,341 @@
+-- A start on a queue whose sides are off finds no device at fault but as it fills its receive ring.
+use Rattle.std.proofs.Common.{[], ◌++◌, ◌-◌, ◌∙◌, ◌∷◌, ◌≡◌, ◌≢◌, ◌⊎◌, List, ap, append_assoc, false, inl, inr, not}
+use Rattle.std.proofs.Common.{refl, subst, sym, true, ℕ}
+use Rattle.std.specs.Prelude.{IsFalse}
+use Rattle.std.proofs.lemmas.Bool.{both_ways}
+use Rattle.driver_laws.specs.Prelude.{Access, AreMade, AtPort, Block, Call, DeviceFault, Dir, Entry, IsMade, IsNumberOf}
+use Rattle.driver_laws.specs.Prelude.{IsPrepared, IsReceiveReady, LendsEach, Numbers, PmdFault, Port, PreparingFails}
+use Rattle.driver_laws.specs.Prelude.{Receive, ReceiveFails, RowId, Rx, Rxdctl, Sees, Sets, State, SwitchFails, Tx}
+use Rattle.driver_laws.specs.Prelude.{Txdctl, Watched, both_asked, both_quiet, call_of, enable_row, has_bit, has_block}
+use Rattle.driver_laws.specs.Prelude.{is_driven, lent_by, missed, quiet, receive_polled, ring_blocks, ring_words}
+use Rattle.driver_laws.specs.Prelude.{zero_block}
+use Rattle.driver_laws.proofs.Prelude.{AllAre, AtCalls, BeforeLast, BeforeNext, HasGround, IsAlong, IsEnding, IsKept}
+use Rattle.driver_laws.proofs.Prelude.{IsQuiet, Leads}
+use Rattle.nic_device.specs.declared.event.Event.TheVariants as event
+use Rattle.nic_device.specs.declared.event.Reply.TheVariants as reply
+use Rattle.pmd.specs.PmdSeam.QueueMade.{IsOtherwise, IsStrayRead, IsStrayWrite, StopsBy}
+use Rattle.pmd.specs.PmdSeam.Sides.{PollsEnd}
+use Rattle.pmd.specs.Starting.{GoingOnFails}
+use Rattle.receive_laws.proofs.HistoryLaws.Lent.{anew_is_done}
+use Rattle.driver_laws.specs.Faultless.{Never, NoneIsLent, ReceiveIsReady, SwitchingIsNeverStray, TransmitIsReady}
+use Rattle.driver_laws.specs.Filling.{FaultsAreEarlyOrFilling, FaultsEarly, FaultsFilling, FillingBeginsWell}
+use Rattle.driver_laws.specs.Filling.{NoFaultIsEarly}
+use Rattle.driver_laws.proofs.Ground.{IsDriven, IsWrite, asked_are_writes, ground_kept, named_registers_reply}
+use Rattle.driver_laws.proofs.Ground.{off_sides_are_seen_off, plain_keeps, polled_driven, read_ground, reads_driven}
+use Rattle.driver_laws.proofs.Ground.{words_are_writes, write_ground, writes_driven}
+use Rattle.driver_laws.proofs.Made.{OfCall, accesses_keep, all_before, all_missed, before_made, first_access, made_some}
+use Rattle.driver_laws.proofs.Made.{of_map, some_made}
+use Rattle.driver_laws.proofs.On.{switched_sides_agree, switched_sides_go_on}
+use Rattle.driver_laws.proofs.Parts.{ends_some}
+use Rattle.driver_laws.proofs.Reached.{RefutesNext, calls_lead, last_never, next_refuted, then_refuted}
+use Rattle.driver_laws.proofs.StopCalls.{MayAsk, lending}
+use Rattle.driver_laws.proofs.SwitchedOff.{ending_quiet, may_call, quiet_kept}
+use Rattle.driver_laws.proofs.Words.{side_driven}
+
+-- an access by which a side is seen off, or asked to be
+abbrev IsQuieting : Access → Type 0
+IsQuieting (Sees row on) = (side : Dir) × (row ≡ enable_row side) × (on ≡ false)
+IsQuieting (Sets row word) = (side : Dir) × (row ≡ enable_row side) × IsFalse (has_bit 25 word)
+
+quieting_may : (a : Access) → IsQuieting a → MayAsk a
+quieting_may (Sees row on) is = tt
+quieting_may (Sets row word) is = is
+
+quieting : AllAre IsQuieting both_quiet
+quieting = (
+  (Rx, refl, refl),
+  ((Rx, refl, refl), ((Rx, refl, refl), ((Tx, refl, refl), ((Tx, refl, refl), ((Tx, refl, refl), tt))))),
+)
+
+-- the register is one that a driver has
+quieting_driven : (row : RowId) (side : Dir) → row ≡ enable_row side → is_driven row ≡ true
+quieting_driven row side is = subst (λ (r : RowId). is_driven r ≡ true) (sym is) (side_driven side)
+
+enables : (port : Port) (queue number : ℕ) (side : Dir) → IsNumberOf port (enable_row side) queue number
+    → IsNumberOf port Rxdctl queue number ⊎ IsNumberOf port Txdctl queue number
+enables port queue number Rx named = inl named
+enables port queue number Tx named = inr named
+
+module _ {w : Watched} {origin : State} {h : List Entry} (q : AtPort) (frame : ℕ) (along : IsAlong w origin h) where
+  abbrev Ground : State → Type 0
+  Ground = HasGround w.queue q frame
+
+  abbrev Off : State → Type 0
+  Off = IsQuiet w.queue q frame
+
+  abbrev Grounded : List Call → Type 0
+  Grounded calls = AtCalls w origin h calls Ground × (calls ≢ [])
+
+  ground_stays : IsKept w (lent_by w.pass h) Ground
+  ground_stays = ground_kept w (lent_by w.pass h) q frame
+
+  off_stays : IsKept w (lent_by w.pass h) Off
+  off_stays = quiet_kept w (lent_by w.pass h) q frame
+
+  accesses_grounded : (all : List Access) (old new : List Call) → AllAre IsDriven all → AreMade q old new all
+      → Grounded old → Grounded new
+  accesses_grounded all old new are made at = (
+    accesses_keep q along IsDriven Ground ground_stays own_call all old new are made at.1 at.0,
+    some_made q all old new made at.1,
+  )
+    where
+      own_call : (a : Access) → IsDriven a → OfCall q a (λ c. Leads w.queue c Ground Ground)
+      own_call (Sees row on) driven = λ number word named is s met can told g. read_ground w.queue q frame s number g
+      own_call (Sets row word) driven = λ number named s met can told g.
+          write_ground w.queue q frame s row word number driven named g
+
+  -- no access is stray
+
+  abbrev NextOnGround : List Call → Type 0
+  NextOnGround old = RefutesNext along Ground old
+
+  abbrev NextOff : List Call → Type 0
+  NextOff old = RefutesNext along Off old
+
+  next_on_ground : (old : List Call) → Grounded old → NextOnGround old
+  next_on_ground old at = then_refuted along Ground old ground_stays at.1 at.0
+
+  read_never_stray : (old new : List Call) (row : RowId) → is_driven row ≡ true → NextOnGround old
+      → IsStrayRead q old new row → Never w origin h new
+  read_never_stray old new row driven next (number, word, named, (before, added, steps)) =
+      subst (Never w origin h) (sym added)
+      (next before (call_of (event.Read q.port number) (reply.Stray word)) steps refl
+      (λ s g told.
+      let is = (named_registers_reply w.queue q frame s row number g driven named).read in
+      let no_such : reply.Stray word ≡ reply.Word is.0 = told ∙ is.1 in
+      cc))
+
+  write_never_stray : (old new : List Call) (row : RowId) (word : ℕ) → is_driven row ≡ true → NextOnGround old
+      → IsStrayWrite q old new row word → Never w origin h new
+  write_never_stray old new row word driven next (number, seen, named, (before, added, steps)) =
+      subst (Never w origin h) (sym added)
+      (next before (call_of (event.Write q.port number word) (reply.Stray seen)) steps refl
+      (λ s g told.
+      let is = (named_registers_reply w.queue q frame s row number g driven named).write word in
+      let no_such : reply.Stray seen ≡ reply.Done = told ∙ is in
+      cc))
+
+  write_never_fails : (old new : List Call) (a : Access) → IsWrite a → NextOnGround old → IsOtherwise q old new a
+      → Never w origin h new
+  write_never_fails old new (Sees row on) is next fails = absurd is
+  write_never_fails old new (Sets row word) is next fails = write_never_stray old new row word is next fails
+
+  writes_never_stop : (all : List Access) (old new : List Call) → AllAre IsWrite all
+      → StopsBy DeviceFault q old new all → Grounded old → Never w origin h new
+  writes_never_stop all old new are (done, a, rest, mid, is, made, fails) at =
+      let both = all_before IsWrite done a rest (subst (AllAre IsWrite) is are) in
+      write_never_fails mid new a both.1
+      (next_on_ground mid (accesses_grounded done old mid (writes_driven done both.0) made at)) fails
+
+  -- while the sides are off none is seen on
+  never_otherwise : (old new : List Call) (a : Access) → IsQuieting a → NextOff old → IsOtherwise q old new a
+      → Never w origin h new
+  never_otherwise old new (Sees row on) (side, is, off) next
+      (inl (number, word, named, seen, (before, added, steps))) =
+      subst (Never w origin h) (sym added)
+      (next before (call_of (event.Read q.port number) (reply.Word word)) steps refl
+      (λ s x told.
+      both_ways (has_bit 25 word)
+      (off_sides_are_seen_off w.queue q frame s number word x
+      (enables q.port q.queue number side (subst (λ (r : RowId). IsNumberOf q.port r q.queue number) is named))
+      (sym told))
+      (seen ∙ ap not off)))
+  never_otherwise old new (Sees row on) (side, is, off) next (inr stray) =
+      read_never_stray old new row (quieting_driven row side is)
+      (λ before c steps apart refutes. next before c steps apart (λ s x told. refutes s x.ground told)) stray
+  never_otherwise old new (Sets row word) (side, is, none) next fails =
+      write_never_stray old new row word (quieting_driven row side is)
+      (λ before c steps apart refutes. next before c steps apart (λ s x told. refutes s x.ground told)) fails
+
+  off_call : (a : Access) → IsQuieting a → OfCall q a (λ c. Leads w.queue c Off Off)
+  off_call a is =
+      of_map q a (λ c. IsEnding q c.event) (λ c. Leads w.queue c Off Off)
+      (λ c ends s met made told x. ending_quiet w.queue q frame s c.event met made ends x)
+      (may_call q a (quieting_may a is))
+
+  -- so it is over the accesses that see both off, of which the first may be the pass's first call
+
+  accesses_off : (all : List Access) (old new : List Call) → AllAre IsQuieting all → AreMade q old new all → old ≢ []
+      → AtCalls w origin h old Off → AtCalls w origin h new Off
+  accesses_off = accesses_keep q along IsQuieting Off off_stays off_call
+
+  begun_off : (a : Access) (old new : List Call) → IsQuieting a → IsMade q old new a → BeforeNext w origin h old Off
+      → AtCalls w origin h new Off
+  begun_off a old new is made at =
+      first_access q along Off Off a off_stays (off_call a is) old new made
+      (before_made q w origin h Off a old new made at)
+
+  quieting_never_stops : (old new : List Call) → BeforeNext w origin h old Off
+      → StopsBy DeviceFault q old new both_quiet → Never w origin h new
+  quieting_never_stops old new at ([], a, rest, mid, is, made, fails) =
+      let both = all_before IsQuieting [] a rest (subst (AllAre IsQuieting) is quieting) in
+      never_otherwise mid new a both.1 (subst NextOff (sym made) (next_refuted along Off old at)) fails
+  quieting_never_stops old new at (d ∷ done, a, rest, mid, is, made, fails) =
+      let both = all_before IsQuieting (d ∷ done) a rest (subst (AllAre IsQuieting) is quieting) in
+      let some = made_some q old made.0 d made.1 in
+      let off = accesses_off done made.0 mid both.0.1 made.2 some (begun_off d old made.0 both.0.0 made.1 at) in
+      never_otherwise mid new a both.1
+      (then_refuted along Off mid off_stays (some_made q done made.0 mid made.2 some) off) fails
+
+  quiet_grounded : (old new : List Call) → AreMade q old new both_quiet → BeforeNext w origin h old Off → Grounded new
+  quiet_grounded old new (mid, here, more) at =
+      let others : List Access = Sets Rxdctl 0 ∷ Sees Rxdctl false ∷ quiet Tx in
+      let some = made_some q old mid (Sees Rxdctl false) here in
+      let off = accesses_off others mid new quieting.1 more some
+      (begun_off (Sees Rxdctl false) old mid quieting.0 here at) in
+      (λ done rest all is. (off done rest all is).ground, some_made q others mid new more some)
+
+  -- a ring is prepared
+
+  lending_is_done : (ring : ℕ) (old new : List Call) (before : List Call) (back : Block)
+      → new ≡ old ++ (before ++ call_of (event.Lend (zero_block ring)) (reply.Twice back) ∷ [])
+      → BeforeLast w origin h new (λ s. IsFalse (has_block s.memory ring)) → Never w origin h new
+  lending_is_done ring old new before back added at =
+      let c = call_of (event.Lend (zero_block ring)) (reply.Twice back) in
+      let all : new ≡ (old ++ before) ++ c ∷ [] = added ∙ sym (append_assoc old before (c ∷ [])) in
+      subst (Never w origin h) (sym all)
+      (last_never along (λ s. IsFalse (has_block s.memory ring)) (old ++ before) c
+      (λ s none told.
+      let no_such : reply.Twice back ≡ reply.Done = told ∙ anew_is_done s (zero_block ring) none in
+      cc)
+      (subst (λ (calls : List Call). BeforeLast w origin h calls (λ s. IsFalse (has_block s.memory ring))) all at))
+
+  preparing_never_fails : (side : Dir) (size : ℕ) (old : List Call) (a : Numbers) (new : List Call) (b : Numbers)
+      (out : List ℕ) → Grounded old → PreparingFails DeviceFault q side size old a new b out
+      → NoneIsLent w origin h new b → Never w origin h new
+  preparing_never_fails side size old a new b out at (ring, free, inl (stops, same, empty)) none =
+      writes_never_stop (ring_words side ring size) old new (words_are_writes side ring size) stops at
+  preparing_never_fails side size old a new b out at (ring, free, inr (mid, made, stops)) none =
+      let (back, lent) = stops.fails in
+      lending_is_done stops.next stops.mid new lent.0 back lent.1 (none stops.next stops.free)
+
+  lends_grounded : (ns : List ℕ) (old new : List Call) → LendsEach old new ns → Grounded old → Grounded new
+  lends_grounded [] old new is at = subst Grounded (sym is) at
+  lends_grounded (n ∷ ns) old new (mid, lent, rest) at =
+      lends_grounded ns mid new rest
+      (subst Grounded (sym lent.1) (
+        calls_lead w origin h Ground Ground old lent.0 (lending n) along ground_stays ground_stays
+            (λ s met can told g. plain_keeps w.queue q frame s (event.Lend (zero_block n)) tt g) lent.2 at.1 at.0,
+        ends_some old lent.0 (lending n),
+      ))
+
+  prepared_grounded : {side : Dir} {size : ℕ} {old : List Call} {a : Numbers} {new : List Call} {b : Numbers} {ring : ℕ}
+      → IsPrepared q side size old a new b ring → Grounded old → Grounded new
+  prepared_grounded {side = side} {size = size} {old = old} {new = new} {ring = ring} x at =
+      lends_grounded (ring_blocks ring size) x.mid new x.lent
+      (accesses_grounded (ring_words side ring size) old x.mid
+      (writes_driven (ring_words side ring size) (words_are_writes side ring size)) x.words at)
+
+  ready_grounded : {size : ℕ} {old : List Call} {a : Numbers} {new : List Call} {b : Numbers} {v : Receive}
+      → IsReceiveReady q size frame old a new b v → BeforeNext w origin h old Off → Grounded new
+  ready_grounded {old = old} x at = prepared_grounded x.prepared (quiet_grounded old x.mid x.quiet at)
+
+  -- both sides are asked on and polled
+
+  polls_never_stray : (side : Dir) (polls : ℕ) (old new : List Call) → Grounded old
+      → PollsEnd DeviceFault q old new side true polls → Never w origin h new
+  polls_never_stray side polls old new at (misses, mid, few, made, stray) =
+      read_never_stray mid new (enable_row side) (side_driven side)
+      (next_on_ground mid (accesses_grounded (missed side true misses) old mid
+      (all_missed IsDriven true reads_driven side misses) made at)) stray
+
+  switching_never_fails : (old new : List Call) → Grounded old → SwitchFails DeviceFault q old new true 1000
+      → Never w origin h new
+  switching_never_fails old new at (inl stops) = writes_never_stop (both_asked true) old new asked_are_writes stops at
+  switching_never_fails old new at (inr (inl (mid, made, polls))) =
+      polls_never_stray Rx 1000 mid new
+      (accesses_grounded (both_asked true) old mid (writes_driven (both_asked true) asked_are_writes) made at) polls
+  switching_never_fails old new at (inr (inr (first, mid, few, made, polls))) =
+      polls_never_stray Tx (1000 - first) mid new
+      (accesses_grounded (receive_polled true first) old mid (polled_driven first) made at) polls
+
+pub receive_is_ready : ReceiveIsReady
+receive_is_ready w q origin h size frame old a new b out along at (inl (stops, same, empty)) none =
+    quieting_never_stops q frame along old new at stops
+receive_is_ready w q origin h size frame old a new b out along at (inr (mid, made, fails)) none =
+    preparing_never_fails q frame along Rx size mid a new b out
+    (quiet_grounded q frame along old mid made at) fails none
+
+pub transmit_is_ready : TransmitIsReady
+transmit_is_ready w q origin h size frame old a mid b v new c out along at ready fails none =
+    preparing_never_fails q frame along Tx size mid b new c out (ready_grounded q frame along ready at) fails none
+
+pub switching_is_never_stray : SwitchingIsNeverStray
+switching_is_never_stray w q origin h size frame old a mid b v both c t new along at ready more fails =
+    switching_never_fails q frame along both new
+    (prepared_grounded q frame along more.prepared (ready_grounded q frame along ready at)) fails
+
+pub faults_are_early_or_filling : FaultsAreEarlyOrFilling
+faults_are_early_or_filling q size frame old a new e (inl x) is = inl (inl (record {
+  arena = x.arena;
+  out = x.out;
+  fails = subst (λ (f : PmdFault). ReceiveFails f q size old a new x.arena x.out) is x.fails;
+}))
+faults_are_early_or_filling q size frame old a new e (inr (inl x)) is = inl (inr (inl (record {
+  made = x.made;
+  ready_arena = x.ready_arena;
+  arena = x.arena;
+  empty = x.empty;
+  out = x.out;
+  receive = x.receive;
+  fails = subst (λ (f : PmdFault). PreparingFails f q Tx size x.made x.ready_arena new x.arena x.out) is x.fails;
+})))
+faults_are_early_or_filling q size frame old a new e (inr (inr x)) is =
+    by_going
+    (subst (λ (f : PmdFault). GoingOnFails f q x.both_made x.both_arena x.empty new x.arena x.filled) is x.fails)
+  where
+    by_going : GoingOnFails DeviceFault q x.both_made x.both_arena x.empty new x.arena x.filled
+        → FaultsEarly q size frame old a new ⊎ FaultsFilling q size frame old a new
+    by_going (inl (fails, same, left)) = inl (inr (inr (record {
+      ready_made = x.ready_made;
+      both_made = x.both_made;
+      ready_arena = x.ready_arena;
+      both_arena = x.both_arena;
+      empty = x.empty;
+      sender = x.sender;
+      receive = x.receive;
+      transmit = x.transmit;
+      fails = fails;
+    })))
+    by_going (inr (mid, switched, fails)) = inr (record {
+      mid = mid;
+      empty = x.empty;
+      sender = x.sender;
+      on = record {
+        sized = x.sized;
+        framed = x.framed;
+        ready_made = x.ready_made;
+        both_made = x.both_made;
+        ready_arena = x.ready_arena;
+        both_arena = x.both_arena;
+        receive = x.receive;
+        transmit = x.transmit;
+        switched = switched;
+      };
+      arena = x.arena;
+      filled = x.filled;
+      fails = fails;
+    })
+
+pub no_fault_is_early : NoFaultIsEarly
+no_fault_is_early w q origin h size frame old a new along at (inl x) fresh =
+    receive_is_ready w q origin h size frame old a new x.arena x.out along at x.fails fresh
+no_fault_is_early w q origin h size frame old a new along at (inr (inl x)) fresh =
+    transmit_is_ready w q origin h size frame old a x.made x.ready_arena x.empty new x.arena x.out along at x.receive
+    x.fails fresh
+no_fault_is_early w q origin h size frame old a new along at (inr (inr x)) fresh =
+    switching_is_never_stray w q origin h size frame old a x.ready_made x.ready_arena x.empty x.both_made x.both_arena
+    x.sender new along at x.receive x.transmit x.fails
+
+pub filling_begins_well : FillingBeginsWell
+filling_begins_well w q origin h size frame old a new along at x done rest all calls =
+    let quiet = x.on.receive.quiet in
+    let well : BeforeLast w origin h quiet.0 (HasGround w.queue q frame) =
+    λ before behind e split own is.
+    (before_made q w origin h (IsQuiet w.queue q frame) (Sees Rxdctl false) old quiet.0 quiet.1 at before behind e split
+    own is).ground in
+    let on = switched_sides_go_on w origin h q size frame old a x.mid x.empty x.sender x.on along well done rest
+    all calls in
+    let agree = switched_sides_agree w origin h q size frame old a x.mid x.empty x.sender x.on along well done
+    rest all calls in
+    (on.receives, agree.0, agree.1)

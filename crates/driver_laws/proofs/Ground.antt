@@ -1,0 +1,231 @@
+-- What a driver rests on beside its sides: port and queue name its queue, and frames are no longer than its packets.
+use Rattle.std.proofs.Common.{[], ◌*◌, ◌+◌, ◌<◌, ◌∙◌, ◌∷◌, ◌≡◌, ◌≢◌, Bool, List, None, Option, Some, ap, arith, false}
+use Rattle.std.proofs.Common.{if◌then◌else◌, inl, inr, nat_lt, refl, subst, sym, true, ℕ}
+use Rattle.std.specs.Prelude.{◌&&◌}
+use Rattle.std.proofs.lemmas.Bool.{both_ways, cond_both, lt-ltb, ltb-true}
+use Rattle.driver_laws.specs.Prelude.{Access, AtPort, Block, Blocks, DeviceFault, Dir, Event, IsNumberOf, Pf, PmdFault}
+use Rattle.driver_laws.specs.Prelude.{Port, Rdbah, Rdbal, Rdh, Rdlen, Rdt, RowId, Rx, Rxdctl, Sees, Sets, Srrctl, State}
+use Rattle.driver_laws.specs.Prelude.{Tdbah, Tdbal, Tdh, Tdlen, Tdt, Tdwbal, Tx, Txdctl, Vf, Watched, after, both_asked}
+use Rattle.driver_laws.specs.Prelude.{enable_row, frame_limit, is_driven, is_frame, is_size, mode_in, place}
+use Rattle.driver_laws.specs.Prelude.{receive_polled, reply_to, ring_words}
+use Rattle.driver_laws.proofs.Prelude.{AllAre, HasGround, IsKept, IsPlain, NamesRow}
+use Rattle.nic_device.proofs.VfMap.Queues.{few_queues, queue_registers}
+use Rattle.nic_device.specs.Access.{named_read, named_written}
+use Rattle.nic_device.specs.Named.{at_location, at_place}
+use Rattle.nic_device.specs.Step.{step_of}
+use Rattle.nic_device.specs.VfMap.Map.{behind, located}
+use Rattle.nic_device.specs.VfMap.Owner.{is_receive, is_transmit}
+use Rattle.nic_device.specs.VfMap.Pools.{queues_of}
+use Rattle.nic_device.specs.VfMap.declared.located.Located.TheVariants as located_as
+use Rattle.nic_device.specs.VfMap.declared.mode.Mode.{Mode}
+use Rattle.nic_device.specs.declared.event.Event.TheVariants as event
+use Rattle.nic_device.specs.declared.event.Reply.TheVariants as reply
+use Rattle.pmd.specs.PmdSeam.Named.{offset_of, queues_named}
+use Rattle.pmd.specs.Started.{has_room}
+use Rattle.receive_laws.proofs.DeviceLaws.KeptSettings.{settings_stand}
+use Rattle.receive_laws.proofs.DeviceLaws.Standing.{stays_within}
+use Rattle.receive_laws.proofs.HistoryLaws.Steady.{told_on}
+use Rattle.receive_laws.proofs.HistoryLaws.Deeds.{left_did}
+use Rattle.receive_laws.specs.DeviceLaws.Laws.{WritesNoSetting}
+use Rattle.driver_laws.specs.Gate.{NamedQueuesPass}
+use Rattle.driver_laws.specs.Numbers.{NamedQueueHasTheNumbers, NumbersName, queue_at, queue_in}
+use Rattle.driver_laws.specs.Replies.{NamedRegistersReply, OffSidesAreSeenOff}
+use Rattle.driver_laws.proofs.Made.{all_polled}
+use Rattle.driver_laws.proofs.Words.{driven_plain, ground, settings, side_driven}
+
+-- what names a queue says
+pub some_where : {A : Type 0} (b : Bool) (o : Option A) (x : A) → (if b then o else None) ≡ Some x
+    → (b ≡ true) × (o ≡ Some x)
+some_where true o x e = (refl, e)
+some_where false o x e = cc
+
+pub record IsIn (o : Option (ℕ × ℕ)) (number queue : ℕ) : Type 0 where
+  pub first : ℕ
+  pub count : ℕ
+  pub pool : o ≡ Some (first, count)
+  pub few : number < count
+  pub same : queue ≡ first + number
+
+pub is_in : (o : Option (ℕ × ℕ)) (number queue : ℕ) → queue_in o number ≡ Some queue → IsIn o number queue
+is_in None number queue e = cc
+is_in (Some queues) number queue e =
+    let parts = some_where (nat_lt number queues.1) (Some (queues.0 + number)) queue e in
+    let there = parts.1 in record {
+      first = queues.0;
+      count = queues.1;
+      pool = refl;
+      few = ltb-true number queues.1 parts.0;
+      same = cc;
+    }
+
+module _ (mode : Mode) (vfs v number queue : ℕ) (there : v < vfs) (x : IsIn (queues_of mode v) number queue) where
+  received : (row : RowId) → is_receive row ≡ true
+      → located mode vfs v (0x1000 + 0x40 * number + behind Rdbal row) ≡ located_as.Register (place row queue)
+  received row side =
+      queue_registers.receive mode vfs v x.first x.count number row there x.pool x.few side
+      ∙ ap (λ n. located_as.Register (place row n)) (sym x.same)
+
+  sent : (row : RowId) → is_transmit row ≡ true
+      → located mode vfs v (0x2000 + 0x40 * number + behind Tdbal row) ≡ located_as.Register (place row queue)
+  sent row side =
+      queue_registers.transmit mode vfs v x.first x.count number row there x.pool x.few side
+      ∙ ap (λ n. located_as.Register (place row n)) (sym x.same)
+
+  row_there : (row : RowId) → is_driven row ≡ true
+      → located mode vfs v (offset_of row number) ≡ located_as.Register (place row queue)
+  row_there Rdbal e = received Rdbal refl
+  row_there Rdbah e = received Rdbah refl
+  row_there Rdlen e = received Rdlen refl
+  row_there Rdh e = received Rdh refl
+  row_there Srrctl e = received Srrctl refl
+  row_there Rdt e = received Rdt refl
+  row_there Rxdctl e = received Rxdctl refl
+  row_there Tdbal e = sent Tdbal refl
+  row_there Tdbah e = sent Tdbah refl
+  row_there Tdlen e = sent Tdlen refl
+  row_there Tdh e = sent Tdh refl
+  row_there Tdt e = sent Tdt refl
+  row_there Txdctl e = sent Txdctl refl
+  row_there Tdwbal e = sent Tdwbal refl
+  row_there other e = cc
+
+named_at : (s : State) (port : Port) (own queue : ℕ) → queue_at (mode_in s.registers) s.vfs port own ≡ Some queue
+    → (row : RowId) (number : ℕ) → is_driven row ≡ true → IsNumberOf port row own number
+    → NamesRow s port number row queue
+named_at s Pf own queue is row number driven of_row =
+    let there = (some_where (nat_lt own 128) (Some own) queue is).1 in
+    let same : own ≡ queue = cc in
+    (λ k. at_place (of_row.names k) (of_row.whole k)) ∙ ap (λ n. at_place (Some (place row n)) 0xFFFFFFFF) same
+named_at s (Vf v) own queue is row number driven of_row =
+    let mode = mode_in s.registers in
+    let parts = some_where (nat_lt v s.vfs) (queue_in (queues_of mode v) own) queue is in
+    let x = is_in (queues_of mode v) own queue parts.1 in
+    ap (λ o. at_location (located mode s.vfs v o)) of_row
+    ∙ ap at_location (row_there mode s.vfs v own queue (ltb-true v s.vfs parts.0) x row driven)
+
+pub named_queue_has_the_numbers : NamedQueueHasTheNumbers
+named_queue_has_the_numbers s q queue is row number driven of_row =
+    named_at s q.port q.queue queue is row number driven of_row
+
+pub ground_names : (queue : ℕ) (q : AtPort) (frame : ℕ) (s : State) → HasGround queue q frame s → NumbersName s q queue
+ground_names queue q frame s g = named_queue_has_the_numbers s q queue g.names
+
+pub ground_same : (queue : ℕ) (q : AtPort) (frame : ℕ) (s t : State) → mode_in t.registers ≡ mode_in s.registers
+    → t.vfs ≡ s.vfs → frame_limit t.registers ≡ frame_limit s.registers → HasGround queue q frame s
+    → HasGround queue q frame t
+ground_same queue q frame s t mode vfs limit g = record {
+  names = (λ k. queue_at (mode k) (vfs k) q.port q.queue) ∙ g.names;
+  limit = limit ∙ g.limit;
+}
+
+-- events that leave the queue alone
+pub ground_kept : (w : Watched) (mine : Blocks) (q : AtPort) (frame : ℕ) → IsKept w mine (HasGround w.queue q frame)
+ground_kept w mine q frame s e x g =
+    let did = left_did w mine s e x in
+    ground_same w.queue q frame s (after s e) did.mode did.vfs did.limit g
+
+-- a driver's own events
+module _ (queue : ℕ) (q : AtPort) (frame : ℕ) (s : State) where
+  pub write_ground : (row : RowId) (word number : ℕ) → is_driven row ≡ true → IsNumberOf q.port row q.queue number
+      → HasGround queue q frame s → HasGround queue q frame (after s (event.Write q.port number word))
+  write_ground row word number is named g =
+      let k = ground queue s q.port number word row (ground_names queue q frame s g row number is named)
+      (driven_plain row is) in
+      ground_same queue q frame s (after s (event.Write q.port number word)) k.mode k.vfs k.limit g
+
+  -- write no setting
+  pub plain_setting : (e : Event Block) → IsPlain q e → HasGround queue q frame s → WritesNoSetting s e
+  plain_setting (event.Write port number word) (row, same, is, named) g =
+      subst (λ p. WritesNoSetting s (event.Write p number word)) (sym same)
+      (settings queue s q.port number word row (ground_names queue q frame s g row number is named)
+      (driven_plain row is))
+  plain_setting e plain g = tt
+
+  pub plain_keeps : (e : Event Block) → IsPlain q e → HasGround queue q frame s → HasGround queue q frame (after s e)
+  plain_keeps e plain g =
+      let stay = settings_stand s e (plain_setting e plain g) in
+      ground_same queue q frame s (after s e) stay.mode (stays_within s e).vfs stay.limit g
+
+  pub read_ground : (number : ℕ) → HasGround queue q frame s
+      → HasGround queue q frame (after s (event.Read q.port number))
+  read_ground number g = plain_keeps (event.Read q.port number) tt g
+
+-- a port can name each queue that port and queue name
+
+named_below : (s : State) (port : Port) (own queue : ℕ)
+    → queue_at (mode_in s.registers) s.vfs port own ≡ Some queue → nat_lt own (queues_named port) ≡ true
+named_below s Pf own queue names = (some_where (nat_lt own 128) (Some own) queue names).0
+named_below s (Vf v) own queue names =
+    let mode = mode_in s.registers in
+    let inside = (some_where (nat_lt v s.vfs) (queue_in (queues_of mode v) own) queue names).1 in
+    let x = is_in (queues_of mode v) own queue inside in
+    let few = few_queues mode v x.first x.count x.pool in
+    let below = x.few in
+    lt-ltb own 64 (omega (arith, few, below))
+
+abbrev Passes : Option PmdFault → Type 0
+Passes g = g ≢ Some DeviceFault
+
+pub named_queues_pass : NamedQueuesPass
+named_queues_pass s a q size frame queue names =
+    cond_both (is_size size && is_frame frame) _ _ Passes
+    (λ sized. cond_both (has_room a size) _ _ Passes
+    (λ some. cond_both (nat_lt q.queue (queues_named q.port)) _ _ Passes (λ named is. cc)
+    (λ none. absurd (both_ways (nat_lt q.queue (queues_named q.port)) none (named_below s q.port q.queue queue names))))
+    (λ none is. cc))
+    (λ none is. cc)
+
+-- replies to a driver that starts
+
+module _ (queue : ℕ) (s : State) (port : Port) (number : ℕ) (row : RowId) (names : NamesRow s port number row queue)
+  where
+    read_told : (word : ℕ) × (reply_to s (event.Read port number) ≡ reply.Word word)
+    unfolding step_of
+    read_told = (_, ap (λ m. (named_read s m).reply) names)
+
+    write_done : (word : ℕ) → reply_to s (event.Write port number word) ≡ reply.Done
+    unfolding step_of
+    write_done word = ap (λ m. (named_written s m word).reply) names
+
+pub named_registers_reply : NamedRegistersReply
+named_registers_reply queue q frame s row number g is named =
+    let names = ground_names queue q frame s g row number is named in record {
+      read = read_told queue s q.port number row names;
+      write = write_done queue s q.port number row names;
+    }
+
+pub off_sides_are_seen_off : OffSidesAreSeenOff
+off_sides_are_seen_off queue q frame s number word quiet (inl named) told =
+    told_on queue s q.port number word told Rx (ground_names queue q frame s quiet.ground Rxdctl number refl named)
+    ∙ quiet.receive.off
+off_sides_are_seen_off queue q frame s number word quiet (inr named) told =
+    told_on queue s q.port number word told Tx (ground_names queue q frame s quiet.ground Txdctl number refl named)
+    ∙ quiet.transmit.off
+
+-- a driver's register is accessed, or written
+
+abbrev pub IsDriven : Access → Type 0
+IsDriven (Sees row on) = is_driven row ≡ true
+IsDriven (Sets row word) = is_driven row ≡ true
+
+abbrev pub IsWrite : Access → Type 0
+IsWrite (Sees row on) = ⊥
+IsWrite (Sets row word) = is_driven row ≡ true
+
+pub writes_driven : (all : List Access) → AllAre IsWrite all → AllAre IsDriven all
+writes_driven [] are = tt
+writes_driven (Sees row on ∷ rest) are = absurd are.0
+writes_driven (Sets row word ∷ rest) are = (are.0, writes_driven rest are.1)
+
+pub words_are_writes : (side : Dir) (ring size : ℕ) → AllAre IsWrite (ring_words side ring size)
+words_are_writes Rx ring size = (refl, (refl, (refl, (refl, (refl, (refl, tt))))))
+words_are_writes Tx ring size = (refl, (refl, (refl, (refl, (refl, (refl, tt))))))
+
+pub asked_are_writes : AllAre IsWrite (both_asked true)
+asked_are_writes = (refl, (refl, tt))
+
+pub reads_driven : (side : Dir) (seen : Bool) → IsDriven (Sees (enable_row side) seen)
+reads_driven side seen = side_driven side
+
+pub polled_driven : (n : ℕ) → AllAre IsDriven (receive_polled true n)
+polled_driven n = (refl, (refl, all_polled IsDriven true reads_driven Rx n))

@@ -1,0 +1,268 @@
+-- A history over which a driver lays out an empty transmit ring sends nothing on its queue.
+use Rattle.std.proofs.Common.{[], ◌++◌, ◌/◌, ◌<◌, ◌^◌, ◌∙◌, ◌∷◌, ◌≡◌, ◌≢◌, ◌≤◌, List, ap, append_assoc, arith, false}
+use Rattle.std.proofs.Common.{inl, inr, refl, subst, sym, true, ℕ}
+use Rattle.std.specs.Prelude.{◌==◌}
+use Rattle.std.proofs.lemmas.Bool.{both_ways, cases_Bool, eqb-false, lt-ltb}
+use Rattle.driver_laws.specs.Prelude.{AtPort, Block, Blocks, Call, Entry, Event, IsEvent, LeavesBlocks, LeavesRegisters}
+use Rattle.driver_laws.specs.Prelude.{Port, Rdbah, Rdbal, Rdh, Rdlen, Rdt, Ring, RowId, Rxdctl, Side, Srrctl, State}
+use Rattle.driver_laws.specs.Prelude.{Tdbah, Tdbal, Tdh, Tdlen, Tdt, Tdwbal, Tx, Txdctl, Watched, after, calls_of}
+use Rattle.driver_laws.specs.Prelude.{has_bit, is_empty, leads_to, lent_by, mode_in, place, sent_by, side_of}
+use Rattle.driver_laws.proofs.Prelude.{Fits, HasGround, IsAlong, IsMet, IsPlain, NamesRow, calls_other, calls_own}
+use Rattle.driver_laws.proofs.Prelude.{idle_silent, left_deed, no_block, side_with, steady_kept}
+use Rattle.nic_device.specs.RegTable.Rows.{row_of}
+use Rattle.nic_device.specs.RegisterFile.Access.{asks_pool_reset, asks_reset}
+use Rattle.nic_device.specs.RegisterFile.Owner.{owner_of}
+use Rattle.nic_device.specs.RegisterFile.declared.owner.Owner.TheVariants as owner
+use Rattle.nic_device.specs.declared.event.Event.TheVariants as event
+use Rattle.receive_laws.proofs.DeviceLaws.StandingAccesses.{write_rest}
+use Rattle.receive_laws.proofs.HistoryLaws.Steady.{asked}
+use Rattle.receive_laws.proofs.HistoryLaws.Leaving.{transmit_left}
+use Rattle.receive_laws.proofs.HistoryLaws.Steady.{IsIdle, idle_steady, none_staged}
+use Rattle.transmit_laws.specs.Sent.{sent_in}
+use Rattle.driver_laws.specs.Laid.{Empty, Headed, Laid, LaidQueueIsSilent, Lays, LaysOn, MayAsk, MayLay, MayRing, Off}
+use Rattle.driver_laws.specs.Laid.{Sized, laid_by}
+use Rattle.driver_laws.specs.Standing.{IsLeft}
+use Rattle.driver_laws.proofs.Ground.{ground_kept, ground_names, plain_keeps}
+use Rattle.driver_laws.proofs.Parts.{own_some, still_some}
+use Rattle.driver_laws.proofs.Reached.{entry_is, foreign_left, reached_next}
+use Rattle.driver_laws.proofs.Standing.{with_beside}
+use Rattle.driver_laws.proofs.SwitchedOff.{alone_left, watching}
+use Rattle.driver_laws.proofs.Words.{words_taken}
+
+-- transmit sides that are off, or whose ring is empty, as the words of an empty ring are written to them
+
+abbrev pub IsDown : Side → Type 0
+IsDown q = (q.on ≡ false) × (q.wanted ≡ false)
+
+-- what holds of a side that is laid out so far
+abbrev pub IsLaid : Laid → Side → Type 0
+IsLaid Off q = IsDown q
+IsLaid Sized q = IsDown q × (16 ≤ q.ring.length)
+IsLaid Headed q = IsDown q × (16 ≤ q.ring.length) × (q.ring.head ≡ 0)
+IsLaid Empty q = is_empty q.ring ≡ true
+
+-- no slot of it is tried, and it is laid out so still as it becomes what it is wanted to be
+
+not_tried : (l : Laid) (q : Side) → IsLaid l q → q.on ≡ true → is_empty q.ring ≡ false → ⊥
+not_tried Off q x on some = both_ways q.on x.0 on
+not_tried Sized q x on some = both_ways q.on x.0.0 on
+not_tried Headed q x on some = both_ways q.on x.0.0 on
+not_tried Empty q x on some = both_ways (is_empty q.ring) some x
+
+then_wanted : (l : Laid) (q : Side) (staged : List ℕ) → IsLaid l q
+    → IsLaid l (record q { on = q.wanted; staged = staged })
+then_wanted Off q staged x = (x.1, x.1)
+then_wanted Sized q staged x = ((x.0.1, x.0.1), x.1)
+then_wanted Headed q staged x = ((x.0.1, x.0.1), x.1, x.2)
+then_wanted Empty q staged x = x
+
+-- with nothing staged
+abbrev pub SideLaid : Laid → Side → Type 0
+SideLaid l x = IsLaid l x × (x.staged ≡ [])
+
+pub laid_idle : (l : Laid) → IsIdle (SideLaid l)
+laid_idle l = record {
+  idle = λ x h tried. not_tried l x h.0 tried.on tried.some;
+  switches = λ x h. (then_wanted l x _ h.0, none_staged x.wanted x.staged h.1);
+}
+
+-- the enable word is written
+pub asked_laid : (l : Laid) (word : ℕ) (q : Side) → MayAsk l word → IsLaid l q
+    → IsLaid l (record q { wanted = has_bit 25 word })
+asked_laid Off word q may x = (x.0, may)
+asked_laid Sized word q may x = ((x.0.0, may), x.1)
+asked_laid Headed word q may x = ((x.0.0, may), x.1, x.2)
+asked_laid Empty word q may x = x
+
+-- head and tail are slot 0 of a ring that has one
+first_slot : (ring : Ring) → 16 ≤ ring.length → ring.head ≡ 0 → is_empty (record ring { tail = 0 }) ≡ true
+first_slot ring some first =
+    let slots : 0 < ring.length / 16 = omega (arith, some) in
+    rw (first, lt-ltb 0 (ring.length / 16) slots) refl
+
+-- a word of the ring is written, in a side that is off
+pub record IsLaying (row : RowId) (l : Laid) (word : ℕ) (q : Side) : Type 0 where
+  pub off : q.on ≡ false
+  pub fits : Fits Tx row word
+  pub then : IsLaid (laid_by row l) (side_with Tx row word q)
+
+-- where so much is laid out, all holds that holds of it
+from : (row : RowId) (l k : Laid) (word : ℕ) (q : Side) → l ≡ k → (IsLaid k q → IsLaying row k word q)
+    → IsLaid l q → IsLaying row l word q
+from row l k word q is then = subst (λ (z : Laid). IsLaid z q → IsLaying row z word q) (sym is) then
+
+short : (word n : ℕ) → word ≡ 0 → 0 < n → word < n
+short word n none some = omega (arith, none, some)
+
+pub word_laid : (row : RowId) (l : Laid) (word : ℕ) (q : Side) → word < 2 ^ 32 → MayRing row l word
+    → IsLaid l q → IsLaying row l word q
+word_laid Tdbal l word q low may =
+    from Tdbal l Off word q may.0 (λ x. record { off = x.0; fits = (may.1, low); then = x })
+word_laid Tdbah l word q low may = from Tdbah l Off word q may (λ x. record { off = x.0; fits = low; then = x })
+word_laid Tdlen l word q low may =
+    from Tdlen l Off word q may.0
+    (λ x. record { off = x.0; fits = (may.1, may.2); then = (x, may.3) })
+word_laid Tdwbal l word q low may =
+    from Tdwbal l Sized word q may.0 (λ x. record { off = x.0.0; fits = may.1; then = x })
+word_laid Tdh l word q low may =
+    from Tdh l Sized word q may.0
+    (λ x. record { off = x.0.0; fits = short word 65536 may.1 (omega arith); then = (x.0, x.1, may.1) })
+word_laid Tdt l word q low may =
+    from Tdt l Headed word q may.0
+    (λ x. record {
+      off = x.0.0;
+      fits = short word 65536 may.1 (omega arith);
+      then = subst (λ n. is_empty (record q.ring { tail = n }) ≡ true) (sym may.1) (first_slot q.ring x.1 x.2);
+    })
+word_laid other l word q low may = absurd may
+
+-- the events by which a driver lays out an empty transmit ring, and those that leave its queue alone
+
+-- port and queue name the queue, and its transmit side is laid out so far
+pub record LaidTo (queue : ℕ) (q : AtPort) (frame : ℕ) (l : Laid) (s : State) : Type 0 where
+  pub ground : HasGround queue q frame s
+  pub side : SideLaid l (side_of Tx queue s)
+
+-- a word that the driver writes
+module _ (queue : ℕ) (s : State) (met : IsMet queue s) (l : Laid) (x : SideLaid l (side_of Tx queue s)) (port : Port)
+    (n word : ℕ) (low : word < 2 ^ 32) where
+  abbrev t : State
+  t = after s (event.Write port n word)
+
+  abbrev side : Side
+  side = side_of Tx queue s
+
+  ring_written : (row : RowId) → MayRing row l word → NamesRow s port n row queue
+      → SideLaid (laid_by row l) (side_of Tx queue t)
+  ring_written row may names =
+      let laying = word_laid row l word side low may x.0 in
+      let taken = words_taken Tx queue s port n word row met.small met.sound laying.off laying.fits names in
+      subst (SideLaid (laid_by row l)) (sym taken.side)
+      (laying.then, ap (λ (z : Side). z.staged) (with_beside Tx row word side side.on side.staged) ∙ x.1)
+
+  asks : MayAsk l word → NamesRow s port n Txdctl queue → SideLaid l (side_of Tx queue t)
+  asks may names =
+      subst (SideLaid l) (sym (asked queue s met.sound met.small port n word Tx names))
+      (asked_laid l word side may x.0, x.1)
+
+  beside : (row : RowId) → NamesRow s port n row queue → asks_reset (row_of row).kind word ≡ false
+      → asks_pool_reset (row_of row).kind word ≡ false → owner_of (place row queue) ≢ owner.Side Tx queue
+      → SideLaid l (side_of Tx queue t)
+  beside row names none none_pool other =
+      subst (SideLaid l)
+      (sym (transmit_left queue s t
+      ((write_rest s port n word (place row queue) 0xFFFFFFFF names none none_pool).transmit queue other))) x
+
+  pub written : (row : RowId) → MayLay row l word → NamesRow s port n row queue
+      → SideLaid (laid_by row l) (side_of Tx queue t)
+  written Txdctl may names = asks may names
+  written Rdbal may names = beside Rdbal names refl refl (λ e. cc)
+  written Rdbah may names = beside Rdbah names refl refl (λ e. cc)
+  written Rdlen may names = beside Rdlen names refl refl (λ e. cc)
+  written Rdh may names = beside Rdh names refl refl (λ e. cc)
+  written Rdt may names = beside Rdt names refl refl (λ e. cc)
+  written Srrctl may names = beside Srrctl names refl refl (λ e. cc)
+  written Rxdctl may names = beside Rxdctl names refl refl (λ e. cc)
+  written row may names = ring_written row may names
+
+-- an event that leaves the queue alone
+module _ (w : Watched) (mine : Blocks) (s : State) (e : Event Block) (left : IsLeft w mine s e) (l : Laid)
+    (x : SideLaid l (side_of Tx w.queue s)) where
+  left_laid : SideLaid l (side_of Tx w.queue (after s e))
+  left_laid =
+      steady_kept Tx w.queue s e (SideLaid l) x (idle_steady (SideLaid l) (laid_idle l)) (left_deed Tx w mine s e left)
+
+  left_sends_none : sent_by w.queue s e ≡ []
+  left_sends_none = (idle_silent Tx w.queue s e (SideLaid l) x (laid_idle l) (left_deed Tx w mine s e left)).sent
+
+-- an event of the driver's own, which sends nothing
+pub record LeadsTo (queue : ℕ) (q : AtPort) (frame : ℕ) (l : Laid) (s : State) (e : Event Block) : Type 0 where
+  pub then : LaidTo queue q frame l (after s e)
+  pub none : sent_by queue s e ≡ []
+
+module _ (queue : ℕ) (q : AtPort) (frame : ℕ) (l m : Laid) (s : State) (met : IsMet queue s)
+    (x : LaidTo queue q frame l s) where
+  write_lays : (port : Port) (n word : ℕ) → IsEvent (event.Write port n word) → Lays q l (event.Write port n word) m
+      → LeadsTo queue q frame m s (event.Write port n word)
+  write_lays port n word made (row, same, driven, named, may, is) =
+      let names = subst (λ p. NamesRow s p n row queue) (sym same)
+      (ground_names queue q frame s x.ground row n driven named) in
+      record {
+        then = record {
+          ground = plain_keeps queue q frame s (event.Write port n word) (row, same, driven, named) x.ground;
+          side = subst (λ (k : Laid). SideLaid k (side_of Tx queue (after s (event.Write port n word)))) (sym is)
+              (written queue s met l x.side port n word made.2 row may names);
+        };
+        none = refl;
+      }
+
+  -- one that writes no register
+  free_lays : (e : Event Block) → IsEvent e → IsPlain q e → m ≡ l
+      → LeavesRegisters (watching queue s) (mode_in s.registers) e × LeavesBlocks no_block e
+      → LeadsTo queue q frame m s e
+  free_lays e made plain is free =
+      let left = alone_left queue s e met made free in
+      record {
+        then = record {
+          ground = plain_keeps queue q frame s e plain x.ground;
+          side = subst (λ (k : Laid). SideLaid k (side_of Tx queue (after s e))) (sym is)
+              (left_laid (watching queue s) no_block s e left l x.side);
+        };
+        none = left_sends_none (watching queue s) no_block s e left l x.side;
+      }
+
+  pub own_lays : (e : Event Block) → IsEvent e → Lays q l e m → LeadsTo queue q frame m s e
+  own_lays (event.Write port n word) made lays = write_lays port n word made lays
+  own_lays (event.Lend b) made lays = free_lays (event.Lend b) made tt lays (tt, refl)
+  own_lays (event.Take n) made lays = free_lays (event.Take n) made tt lays (tt, refl)
+  own_lays (event.Poke16 a bytes) made lays = free_lays (event.Poke16 a bytes) made tt lays (tt, refl)
+  own_lays e made lays = free_lays e made tt lays (tt, tt)
+
+-- an event that leaves the queue alone
+pub left_lays : (w : Watched) (mine : Blocks) (q : AtPort) (frame : ℕ) (l : Laid) (s : State) (e : Event Block)
+    → IsLeft w mine s e → LaidTo w.queue q frame l s → LeadsTo w.queue q frame l s e
+left_lays w mine q frame l s e left x = record {
+  then = record { ground = ground_kept w mine q frame s e left x.ground; side = left_laid w mine s e left l x.side };
+  none = left_sends_none w mine s e left l x.side;
+}
+
+-- over a history, behind a call of the pass
+module _ {w : Watched} {origin : State} {h : List Entry} (q : AtPort) (frame : ℕ) (along : IsAlong w origin h) where
+  silent : (done rest : List Entry) (l last : Laid) → done ++ rest ≡ h → calls_of w.pass done ≢ []
+      → LaidTo w.queue q frame l (leads_to origin done) → LaysOn q l (calls_of w.pass rest) last
+      → sent_in w.queue (leads_to origin done) rest ≡ []
+  silent done [] l last all some x lays = refl
+  silent done (e ∷ rest) l last all some x lays =
+      let s = leads_to origin done in
+      let is = entry_is along done rest e all in
+      let next = reached_next w origin done e in
+      let on : (m : Laid) → LeadsTo w.queue q frame m s e.event → LaysOn q m (calls_of w.pass rest) last
+      → sent_in w.queue s (e ∷ rest) ≡ [] =
+      λ m leads more.
+      ap (λ sent. sent ++ sent_in w.queue (after s e.event) rest) leads.none
+      ∙ subst (λ (t : State). sent_in w.queue t rest ≡ []) next
+      (silent (done ++ e ∷ []) rest m last (append_assoc done (e ∷ []) rest ∙ all)
+      (still_some w.pass done (e ∷ []) some) (subst (LaidTo w.queue q frame m) (sym next) leads.then) more) in
+      elim (cases_Bool (e.pass == w.pass)) as (λ _. sent_in w.queue s (e ∷ rest) ≡ []) [
+        | inl own ↦
+            let (m, lay, more) = subst (λ (cs : List Call). LaysOn q l cs last) (calls_own w.pass e rest own) lays in
+            on m (own_lays w.queue q frame l m s is.met x e.event is.made lay) more
+        | inr other ↦
+            on l
+            (left_lays w (lent_by w.pass h) q frame l s e.event
+            (foreign_left along done rest e all some (eqb-false e.pass w.pass other)) x)
+            (subst (λ (cs : List Call). LaysOn q l cs last) (calls_other w.pass e rest other) lays)
+      ]
+
+pub laid_queue_is_silent : LaidQueueIsSilent
+laid_queue_is_silent w q frame origin h done rest e last along all own ground off (m, lay, more) =
+    let s = leads_to origin done in
+    let is = entry_is along done rest e all in
+    let next = reached_next w origin done e in
+    let x : LaidTo w.queue q frame Off s =
+    record { ground = ground; side = ((off.off, off.unwanted), is.met.sound.bare w.queue off.off) } in
+    let leads = own_lays w.queue q frame Off m s is.met x e.event is.made lay in
+    ap (λ sent. sent ++ sent_in w.queue (after s e.event) rest) leads.none
+    ∙ subst (λ (t : State). sent_in w.queue t rest ≡ []) next
+    (silent q frame along (done ++ e ∷ []) rest m last (append_assoc done (e ∷ []) rest ∙ all)
+    (own_some w.pass done e own) (subst (LaidTo w.queue q frame m) (sym next) leads.then) more)

@@ -1,0 +1,146 @@
+-- The calls that a driver's accesses add, and what they lead to over a history.
+use Rattle.std.proofs.Common.{[], ◌++◌, ◌∙◌, ◌∷◌, ◌≡◌, ◌≢◌, Bool, List, append_assoc, not, refl, subst, suc, sym, zero}
+use Rattle.std.proofs.Common.{ap, ℕ}
+use Rattle.std.specs.Prelude.{IsFalse}
+use Rattle.std.proofs.lemmas.List.{append-nil}
+use Rattle.driver_laws.specs.Prelude.{Access, AreMade, AreSteps, AtPort, Blocks, Call, Dir, Entry, IsMade, IsNumberOf}
+use Rattle.driver_laws.specs.Prelude.{RowId, Sees, Sets, State, Watched, after, call_of, enable_row, has_bit, is_step}
+use Rattle.driver_laws.specs.Prelude.{lent_by, missed, polled}
+use Rattle.driver_laws.proofs.Prelude.{AllAre, AtCalls, AtEntries, BeforeLast, BeforeNext, IsAlong, IsKept, Leads}
+use Rattle.nic_device.specs.declared.event.Event.TheVariants as event
+use Rattle.nic_device.specs.declared.event.Reply.TheVariants as reply
+use Rattle.driver_laws.proofs.Parts.{ends_some}
+use Rattle.driver_laws.proofs.Reached.{KeptOver, LeadsOver, calls_lead, entries_lead, first_leads}
+
+module _ (K : Access → Type 0) where
+  pub all_both : (xs ys : List Access) → AllAre K xs → AllAre K ys → AllAre K (xs ++ ys)
+  all_both [] ys are more = more
+  all_both (x ∷ xs) ys are more = (are.0, all_both xs ys are.1 more)
+
+  pub all_before : (done : List Access) (a : Access) (rest : List Access) → AllAre K (done ++ a ∷ rest)
+      → AllAre K done × K a
+  all_before [] a rest are = (tt, are.0)
+  all_before (d ∷ done) a rest are =
+      let more = all_before done a rest are.1 in ((are.0, more.0), more.1)
+
+  -- polls of enable words
+  module _ (on : Bool) (reads : (side : Dir) (seen : Bool) → K (Sees (enable_row side) seen)) where
+    pub all_missed : (side : Dir) (count : ℕ) → AllAre K (missed side on count)
+    all_missed side zero = tt
+    all_missed side (suc count) = (reads side (not on), all_missed side count)
+
+    pub all_polled : (side : Dir) (count : ℕ) → AllAre K (polled side on count)
+    all_polled side count =
+        all_both (missed side on count) (Sees (enable_row side) on ∷ []) (all_missed side count) (reads side on, tt)
+
+-- it holds of an access's call, whichever its number and the word that is read
+abbrev pub OfCall : AtPort → Access → (Call → Type 0) → Type 0
+OfCall q (Sees row on) P =
+    (number word : ℕ) → IsNumberOf q.port row q.queue number → has_bit 25 word ≡ on
+    → P (call_of (event.Read q.port number) (reply.Word word))
+OfCall q (Sets row word) P =
+    (number : ℕ) → IsNumberOf q.port row q.queue number → P (call_of (event.Write q.port number word) reply.Done)
+
+pub of_map : (q : AtPort) (a : Access) (P R : Call → Type 0) → ((c : Call) → P c → R c) → OfCall q a P → OfCall q a R
+of_map q (Sees row on) P R f of = λ number word named is. f _ (of number word named is)
+of_map q (Sets row word) P R f of = λ number named. f _ (of number named)
+
+-- steps of the device are added, and then such a call
+pub record AddsCall (P : Call → Type 0) (old new : List Call) : Type 0 where
+  pub before : List Call
+  pub call : Call
+  pub added : new ≡ old ++ (before ++ call ∷ [])
+  pub steps : AreSteps before
+  pub is : P call
+
+module _ (q : AtPort) where
+  pub made_by : (P : Call → Type 0) (a : Access) → OfCall q a P → (old new : List Call) → IsMade q old new a
+      → AddsCall P old new
+  made_by P (Sees row on) of old new (number, word, named, is, (before, added, steps)) =
+      record { before = before; call = _; added = added; steps = steps; is = of number word named is }
+  made_by P (Sets row word) of old new (number, named, (before, added, steps)) =
+      record { before = before; call = _; added = added; steps = steps; is = of number named }
+
+  no_step : (a : Access) → OfCall q a (λ c. IsFalse (is_step c.event))
+  no_step (Sees row on) = λ number word named is. refl
+  no_step (Sets row word) = λ number named. refl
+
+  pub made_some : (old new : List Call) (a : Access) → IsMade q old new a → new ≢ []
+  made_some old new a made none =
+      let x = made_by (λ c. IsFalse (is_step c.event)) a (no_step a) old new made in
+      ends_some old x.before x.call (sym x.added ∙ none)
+
+  pub some_made : (all : List Access) (old new : List Call) → AreMade q old new all → old ≢ [] → new ≢ []
+  some_made [] old new made some = λ none. some (sym made ∙ none)
+  some_made (a ∷ rest) old new (mid, here, more) some = some_made rest mid new more (made_some old mid a here)
+
+  pub first_made : (a : Access) (rest : List Access) (old new : List Call) → AreMade q old new (a ∷ rest) → new ≢ []
+  first_made a rest old new (mid, here, more) = some_made rest mid new more (made_some old mid a here)
+
+  pub extends : (all : List Access) (old new : List Call) → AreMade q old new all
+      → (more : List Call) × (new ≡ old ++ more)
+  extends [] old new made = ([], made ∙ sym (append-nil old))
+  extends (a ∷ rest) old new (mid, here, more) =
+      let later = extends rest mid new more in
+      let x = made_by (λ c. IsFalse (is_step c.event)) a (no_step a) old mid here in
+      let own : List Call = x.before ++ x.call ∷ [] in (
+        own ++ later.0,
+        later.1 ∙ ap (λ (xs : List Call). xs ++ later.0) x.added ∙ append_assoc old own later.0,
+      )
+
+  module _ (w : Watched) (origin : State) (h : List Entry) (P : State → Type 0) where
+    -- what holds just before the next call holds just before an access that is made
+    pub before_made : (a : Access) (old new : List Call) → IsMade q old new a → BeforeNext w origin h old P
+        → BeforeLast w origin h new P
+    before_made a old new made at =
+        let x = made_by (λ c. IsFalse (is_step c.event)) a (no_step a) old new made in
+        subst (λ (calls : List Call). BeforeLast w origin h calls P) (sym x.added) (at x.before x.call x.steps x.is)
+
+  module _ {w : Watched} {origin : State} {h : List Entry} (along : IsAlong w origin h) where
+    abbrev mine : Blocks
+    mine = lent_by w.pass h
+
+    -- an access leads from what holds of the entries before it to what holds behind it; so it does of a state
+    pub over_access : (P Q : List Entry → Type 0) (a : Access) → KeptOver w origin mine P → KeptOver w origin mine Q
+        → OfCall q a (λ c. LeadsOver w origin mine c P Q) → (old new : List Call) → IsMade q old new a → old ≢ []
+        → AtEntries w h old P → AtEntries w h new Q
+    over_access P Q a kept kept_q leads old new made some at =
+        let x = made_by (λ c. LeadsOver w origin mine c P Q) a leads old new made in
+        subst (λ (calls : List Call). AtEntries w h calls Q) (sym x.added)
+        (entries_lead P Q old x.before x.call along kept kept_q x.is x.steps some at)
+
+    pub access_leads : (P Q : State → Type 0) (a : Access) → IsKept w mine P → IsKept w mine Q
+        → OfCall q a (λ c. Leads w.queue c P Q) → (old new : List Call) → IsMade q old new a → old ≢ []
+        → AtCalls w origin h old P → AtCalls w origin h new Q
+    access_leads P Q a kept kept_q leads old new made some at =
+        let x = made_by (λ c. Leads w.queue c P Q) a leads old new made in
+        subst (λ (calls : List Call). AtCalls w origin h calls Q) (sym x.added)
+        (calls_lead w origin h P Q old x.before x.call along kept kept_q x.is x.steps some at)
+
+    -- one that may be the pass's first call
+    pub first_access : (P Q : State → Type 0) (a : Access) → IsKept w mine Q → OfCall q a (λ c. Leads w.queue c P Q)
+        → (old new : List Call) → IsMade q old new a → BeforeLast w origin h new P → AtCalls w origin h new Q
+    first_access P Q a kept leads old new made at =
+        let x = made_by (λ c. Leads w.queue c P Q) a leads old new made in
+        let same : (old ++ x.before) ++ x.call ∷ [] ≡ new = append_assoc old x.before (x.call ∷ []) ∙ sym x.added in
+        subst (λ (calls : List Call). AtCalls w origin h calls Q) same
+        (first_leads along P Q (old ++ x.before) x.call kept x.is
+        (subst (λ (calls : List Call). BeforeLast w origin h calls P) (sym same) at))
+
+    -- accesses of a kind keep what each of them keeps
+    pub accesses_keep : (K : Access → Type 0) (P : State → Type 0) → IsKept w mine P
+        → ((a : Access) → K a → OfCall q a (λ c. Leads w.queue c P P)) → (all : List Access) (old new : List Call)
+        → AllAre K all → AreMade q old new all → old ≢ [] → AtCalls w origin h old P → AtCalls w origin h new P
+    accesses_keep K P kept leads [] old new are made some at =
+        subst (λ (calls : List Call). AtCalls w origin h calls P) (sym made) at
+    accesses_keep K P kept leads (a ∷ rest) old new are (mid, here, more) some at =
+        accesses_keep K P kept leads rest mid new are.1 more (made_some old mid a here)
+        (access_leads P P a kept kept (leads a are.0) old mid here some at)
+
+-- a read that may be the pass's first call
+pub first_seen : (w : Watched) (q : AtPort) (origin : State) (h : List Entry) (P : State → Type 0) → IsAlong w origin h
+    → IsKept w (lent_by w.pass h) P → ((s : State) (number : ℕ) → P s → P (after s (event.Read q.port number)))
+    → (row : RowId) (on : Bool) (old new : List Call) → IsMade q old new (Sees row on) → BeforeLast w origin h new P
+    → AtCalls w origin h new P
+first_seen w q origin h P along kept read row on =
+    first_access q along P P (Sees row on) kept (λ number word named is s met made told p. read s number p)

@@ -1,0 +1,264 @@
+-- Once both rings came up and both sides went on the device and the driver agree on both.
+use Rattle.std.proofs.Common.{[], ◌%◌, ◌&&◌, ◌*◌, ◌+◌, ◌-◌, ◌<◌, ◌∷◌, ◌≡◌, ◌≢◌, ◌≤◌, Bool, List, ap, arith, false, not}
+use Rattle.std.proofs.Common.{refl, subst, sym, true, ℕ}
+use Rattle.std.specs.Prelude.{IsTrue}
+use Rattle.std.proofs.lemmas.Bool.{and_parts, both_ways, eqb-true, leb-true, not-true}
+use Rattle.driver_laws.specs.Prelude.{Agree, Agrees, AtPort, Call, EachRingBlock, Entry, Numbers, Rdt, Receive, Rx}
+use Rattle.driver_laws.specs.Prelude.{Rxdctl, Sees, Sender, Sets, Side, State, Tdt, Tx, Watched, begun_on, blocks_for}
+use Rattle.driver_laws.specs.Prelude.{is_size, leads_to, lent_by, quiet, ring_blocks}
+use Rattle.driver_laws.proofs.Prelude.{AtCalls, AtEntries, BeforeLast, HasGround, IsAlong, Sides, after_accesses}
+use Rattle.pmd.proofs.PmdSeam.Rings.{some_blocks}
+use Rattle.pmd.specs.PmdSeam.Frames.{most_blocks}
+use Rattle.pmd.specs.Running.{Running}
+use Rattle.pmd.specs.Started.{AreUp}
+use Rattle.driver_laws.specs.Moves.{IsSized}
+use Rattle.driver_laws.specs.On.{AreOn, SwitchedSidesAgree, SwitchedSidesBeginNone, SwitchedSidesGoOn}
+use Rattle.driver_laws.specs.Points.{Point}
+use Rattle.driver_laws.specs.Quieting.{are_off}
+use Rattle.driver_laws.specs.Start.{BeginsWell, StartAgrees, StartGoesOn}
+use Rattle.driver_laws.specs.Unused.{AreUnused, WentOn}
+use Rattle.driver_laws.proofs.Ground.{ground_names}
+use Rattle.driver_laws.proofs.Made.{first_made, some_made}
+use Rattle.driver_laws.proofs.Points.{At, accesses_at, laid_with, prepared_at, unused_kept}
+use Rattle.driver_laws.proofs.Reached.{sound_at}
+use Rattle.driver_laws.proofs.StopCalls.{Has, IsLentBy, accesses_add, has_more, lending, lent_along, prepared_adds}
+use Rattle.driver_laws.proofs.StopCalls.{prepared_has, prepared_some, ring_in, stays_in}
+use Rattle.driver_laws.proofs.SwitchedOff.{quiet_sides_stand, quieting_leads}
+use Rattle.driver_laws.proofs.Switching.{came_up, comes_up, fresh_receive_agrees, fresh_transmit_agrees, laid, may_lay}
+use Rattle.driver_laws.proofs.Switching.{may_switch, switching}
+
+-- the numbers of slots that a driver may have
+
+pub sized : (size : ℕ) → is_size size ≡ true → (0 < size) × (size ≤ 1024) × (16 * size % 128 ≡ 0)
+sized size is =
+    let one = and_parts _ _ is in
+    let two = and_parts _ _ one.1 in
+    let some : 8 ≤ size = leb-true 8 size one.0 in
+    let few : size ≤ 1024 = leb-true size 1024 two.0 in
+    let even : size % 8 ≡ 0 = eqb-true (size % 8) 0 two.1 in
+    (omega (arith, some), few, omega (arith, even))
+
+-- a ring whose blocks a pass lends
+sized_ring : (pass : ℕ) (h : List Entry) (size ring : ℕ) → is_size size ≡ true
+    → EachRingBlock ring size (λ n. IsLentBy pass n h) → IsSized ring size
+sized_ring pass h size ring is lent =
+    let count = sized size is in
+    let some : 0 < blocks_for size = some_blocks size count.0 in
+    let last = lent (blocks_for size - 1) (omega (arith, some)) in
+    record { some = count.0; few = count.1; low = omega (arith, some, last.low) }
+
+-- sides that are off aren't wanted on
+unwanted : (a b c d : Bool) → ((not a && not b) && (not c && not d)) ≡ true → (b ≡ false) × (d ≡ false)
+unwanted a b c d is =
+    let both = and_parts (not a && not b) (not c && not d) is in
+    (not-true b (and_parts (not a) (not b) both.0).1, not-true d (and_parts (not c) (not d) both.1).1)
+
+module _ (w : Watched) (origin : State) (h : List Entry) (q : AtPort) (size frame : ℕ) (old : List Call) (a : Numbers)
+    (new : List Call) (v : Receive) (t : Sender) (up : AreOn q size frame old a new v t)
+    (along : IsAlong w origin h) (is : is_size size ≡ true)
+    (well : BeforeLast w origin h up.receive.quiet.0 (HasGround w.queue q frame))
+  where
+    abbrev ring : ℕ
+    ring = up.receive.ring
+
+    abbrev other : ℕ
+    other = up.transmit.ring
+
+    abbrev Unused : List Entry → Type 0
+    Unused = AreUnused w.queue origin
+
+    abbrev Known : Sides → Type 0
+    Known p = IsTrue (are_off p)
+
+    abbrev Reaches : List Call → (Sides → Sides) → Type 0
+    Reaches = At q frame along Known Unused (unused_kept w origin)
+
+    abbrev CameUp : List Entry → Type 0
+    CameUp done =
+        (p : Sides) × Point w.queue (lent_by w.pass h) q frame (came_up ring size other p) (leads_to origin done)
+        × Unused done
+
+    -- both sides are quiet, and stand
+    quiet_at : Reaches up.receive.mid (λ p. p)
+    quiet_at done rest all calls =
+        let off = quieting_leads w q frame origin h old up.receive.mid along up.receive.quiet well in
+        let quiet = off done rest all calls in
+        let (p, known, x) = quiet_sides_stand w q frame origin h up.receive.mid along off done rest all calls in (
+          p,
+          known,
+          x,
+          record {
+            receive = λ on. absurd (both_ways _ quiet.receive.off on);
+            transmit = λ on. absurd (both_ways _ quiet.transmit.off on);
+          },
+        )
+
+    -- as both rings come up, where their blocks are the pass's
+    module _ (one : EachRingBlock ring size (λ n. IsLentBy w.pass n h))
+        (two : EachRingBlock other size (λ n. IsLentBy w.pass n h)) where
+      abbrev of_size : (number : ℕ) → EachRingBlock number size (λ n. IsLentBy w.pass n h) → IsSized number size
+      of_size number lent = sized_ring w.pass h size number is lent
+
+      off : (p : Sides) → Known p → ((p.side Rx).wanted ≡ false) × ((p.side Tx).wanted ≡ false)
+      off p known = unwanted (p.side Rx).on (p.side Rx).wanted (p.side Tx).on (p.side Tx).wanted known
+
+      even : 16 * size % 128 ≡ 0
+      even = (sized size is).2
+
+      ready_at : Reaches up.ready_made (laid_with Rx ring size)
+      ready_at =
+          prepared_at q frame along Known Unused (unused_kept w origin) (λ p. p) up.receive.prepared
+          (λ p known. may_lay ring size (of_size ring one) even p Rx (off p known).0) one
+          (first_made q (Sees Rxdctl false) (Sets Rxdctl 0 ∷ Sees Rxdctl false ∷ quiet Tx) old up.receive.mid
+          up.receive.quiet) quiet_at
+
+      both_at : Reaches up.both_made (laid ring size other)
+      both_at =
+          prepared_at q frame along Known Unused (unused_kept w origin) (laid_with Rx ring size) up.transmit.prepared
+          (λ p known. may_lay other size (of_size other two) even (laid_with Rx ring size p) Tx (off p known).1) two
+          (prepared_some up.receive.prepared) ready_at
+
+      on_at : Reaches new (λ p. after_accesses (switching up.switched.0 up.switched.1) (laid ring size other p))
+      on_at =
+          accesses_at q frame along Known Unused (unused_kept w origin) (switching up.switched.0 up.switched.1)
+          (laid ring size other) up.both_made new
+          (λ p known.
+          may_switch ring size other (of_size ring one) (of_size other two) p (off p known).0 (off p known).1
+          up.switched.0 up.switched.1) up.switched.3 (prepared_some up.transmit.prepared) both_at
+
+      came_up_at : AtEntries w h new CameUp
+      came_up_at done rest all calls =
+          let (p, known, x, unused) = on_at done rest all calls in (
+            p,
+            subst (λ (z : Sides). Point w.queue (lent_by w.pass h) q frame z (leads_to origin done))
+                (comes_up ring size other (of_size ring one) (of_size other two) p (off p known).0 (off p known).1
+                up.switched.0 up.switched.1) x,
+            unused,
+          )
+
+    -- wherever the pass has made these calls it has lent both rings
+
+    on_has : (number : ℕ) → Has (lending number) up.both_made → Has (lending number) new
+    on_has number has =
+        has_more (lending number) up.both_made new
+        (accesses_add q (switching up.switched.0 up.switched.1) up.both_made new up.switched.3) has
+
+    ring_has : EachRingBlock ring size (λ n. Has (lending n) new)
+    ring_has k below =
+        on_has (ring + k)
+        (has_more (lending (ring + k)) up.ready_made up.both_made (prepared_adds up.transmit.prepared)
+        (prepared_has up.receive.prepared k below))
+
+    pub ring_lent : AtEntries w h new (λ done. EachRingBlock ring size (λ n. IsLentBy w.pass n h))
+    ring_lent done rest all calls k below = lent_along (ring + k) new along (ring_has k below) done rest all calls
+
+    pub other_lent : AtEntries w h new (λ done. EachRingBlock other size (λ n. IsLentBy w.pass n h))
+    other_lent done rest all calls k below =
+        lent_along (other + k) new along (on_has (other + k) (prepared_has up.transmit.prepared k below)) done rest all
+        calls
+
+    up_at : AtEntries w h new CameUp
+    up_at done rest all calls =
+        came_up_at (ring_lent done rest all calls) (other_lent done rest all calls) done rest all calls
+
+    -- there they are fresh, and so device and driver agree
+    agrees_at : AtCalls w origin h new (λ s. Agree w.queue s [] v × Agrees s w.queue [] t)
+    agrees_at done rest all calls =
+        let s = leads_to origin done in
+        let (p, x, unused) = up_at done rest all calls in
+        let one = sized_ring w.pass h size ring is (ring_lent done rest all calls) in
+        let two = sized_ring w.pass h size other is (other_lent done rest all calls) in
+        let zeros = x.stand.zero in (
+          subst (λ (v : Receive). Agree w.queue s [] v) (sym up.receive.fresh)
+              (fresh_receive_agrees w.queue s (p.side Rx) true true q.port up.receive.tail ring size (most_blocks frame)
+              one
+              (record {
+                low = along.small;
+                tail = ground_names w.queue q frame s x.ground Rdt up.receive.tail refl up.receive.named;
+              })
+              (λ k below.
+              zeros _ (stays_in (ring_blocks other size) _ (ring + k) (ring_in ring size p.rings k below)))
+              (x.stand.side Rx)),
+          subst (λ (v : Sender). Agrees s w.queue [] v) (sym up.transmit.fresh)
+              (fresh_transmit_agrees w.queue s (p.side Tx) true true q.port up.transmit.tail other size frame
+              along.small (sound_at along done rest all) two
+              (ground_names w.queue q frame s x.ground Tdt up.transmit.tail refl up.transmit.named) up.framed
+              x.ground.limit (λ k below. zeros _ (ring_in other size _ k below)) (x.stand.side Tx)),
+        )
+
+    -- and nothing went over them since they went on
+    goes_on_at : AtEntries w h new (WentOn w.queue origin)
+    goes_on_at done rest all calls =
+        let (p, x, unused) = up_at done rest all calls in
+        let receives = (x.stand.side Rx).seen refl in
+        let sends = (x.stand.side Tx).seen refl in record {
+          received = unused.receive receives;
+          receives = record { on = receives; wanted = ap (λ (k : Side). k.wanted) (x.stand.side Rx).same };
+          sent = unused.transmit sends;
+          sends = record { on = sends; wanted = ap (λ (k : Side). k.wanted) (x.stand.side Tx).same };
+        }
+
+    -- nothing is written of a frame that waits
+    begun_at : AtCalls w origin h new (λ s. begun_on w.queue s.waiting ≡ 0)
+    begun_at done rest all calls = let (p, x, unused) = up_at done rest all calls in x.stand.begun
+
+    -- and port and queue name this queue
+    pub ground_at : AtCalls w origin h new (HasGround w.queue q frame)
+    ground_at done rest all calls = let (p, x, unused) = up_at done rest all calls in x.ground
+
+    -- some calls were made before both were on
+    pub on_some : new ≢ []
+    on_some =
+        some_made q (switching up.switched.0 up.switched.1) up.both_made new up.switched.3
+        (prepared_some up.transmit.prepared)
+
+pub switched_sides_agree : SwitchedSidesAgree
+switched_sides_agree w origin h q size frame old a new v t up along well =
+    agrees_at w origin h q size frame old a new v t up along up.sized well
+
+pub switched_sides_go_on : SwitchedSidesGoOn
+switched_sides_go_on w origin h q size frame old a new v t up along well =
+    goes_on_at w origin h q size frame old a new v t up along up.sized well
+
+pub switched_sides_begin_none : SwitchedSidesBeginNone
+switched_sides_begin_none w origin h q size frame old a new v t up along well =
+    begun_at w origin h q size frame old a new v t up along up.sized well
+
+-- a start of the driver leaves a state where the device and the driver agree on both sides
+
+module _ (w : Watched) (origin : State) (h : List Entry) (q : AtPort) (size frame : ℕ) (old : List Call) (a : Numbers)
+    (new : List Call) (r : Running) (up : AreUp q size frame old a new r) (along : IsAlong w origin h)
+    (well : BeginsWell w origin h q size frame old a new r up)
+  where
+    -- before the receive ring is filled both sides are on
+
+    abbrev pub on : AreOn q size frame old a up.on.mid up.empty r.transmit
+    on = record {
+      sized = up.sized;
+      framed = up.framed;
+      ready_made = up.ready_made;
+      both_made = up.both_made;
+      ready_arena = up.ready_arena;
+      both_arena = up.both_arena;
+      receive = up.receive;
+      transmit = up.transmit;
+      switched = up.on.switched;
+    }
+
+    -- port and queue name this queue there
+    pub start_ground : AtCalls w origin h up.on.mid (HasGround w.queue q frame)
+    start_ground = ground_at w origin h q size frame old a up.on.mid up.empty r.transmit on along up.sized well.ground
+
+    -- some calls were made before both were on
+    pub start_some : up.on.mid ≢ []
+    start_some = on_some w origin h q size frame old a up.on.mid up.empty r.transmit on along up.sized well.ground
+
+pub start_agrees : StartAgrees
+start_agrees w origin h q size frame old a new r up along well =
+    switched_sides_agree w origin h q size frame old a up.on.mid up.empty r.transmit
+    (on w origin h q size frame old a new r up along well) along well.ground
+
+pub start_goes_on : StartGoesOn
+start_goes_on w origin h q size frame old a new r up along well =
+    switched_sides_go_on w origin h q size frame old a up.on.mid up.empty r.transmit
+    (on w origin h q size frame old a new r up along well) along well.ground

@@ -1,0 +1,253 @@
+-- A history that leaves a queue alone, entry by entry and call by call of its pass.
+use Rattle.std.proofs.Common.{[], ◌++◌, ◌∙◌, ◌∷◌, ◌≡◌, ◌≢◌, List, ap, append_assoc, inl, inr, subst, sym, true}
+use Rattle.std.specs.Prelude.{◌==◌, IsFalse, IsTrue}
+use Rattle.std.proofs.lemmas.Bool.{cases_Bool, eqb-false}
+use Rattle.std.proofs.lemmas.List.{append-nil}
+use Rattle.driver_laws.specs.Prelude.{AreSteps, Block, Blocks, Call, Entry, Event, IsEvent, IsSound, LeavesBlocks}
+use Rattle.driver_laws.specs.Prelude.{LeavesRegisters, State, Watched, after, call_in, calls_of, is_step, leads_to}
+use Rattle.driver_laws.specs.Prelude.{lent_by, mode_in, reply_to}
+use Rattle.driver_laws.proofs.Prelude.{AtCalls, AtEntries, BeforeLast, BeforeNext, IsAlong, IsKept, IsMet, Leads}
+use Rattle.driver_laws.proofs.Prelude.{calls_other, calls_own}
+use Rattle.device_lock.proofs.Histories.{events_before, events_behind, leads-append, legal_behind}
+use Rattle.device_lock.specs.Alone.{EntryLeavesAlone, WritesOutside}
+use Rattle.device_lock.specs.History.{AreEvents, IsLegal}
+use Rattle.receive_laws.proofs.Foreign.{no_registers}
+use Rattle.receive_laws.proofs.Delivering.{vfs_stays}
+use Rattle.receive_laws.proofs.HistoryLaws.Alone.{histories_sound}
+use Rattle.driver_laws.specs.Along.{CallsLead}
+use Rattle.driver_laws.specs.Ending.{Each}
+use Rattle.driver_laws.specs.Faultless.{Never}
+use Rattle.driver_laws.specs.Standing.{IsLeft}
+use Rattle.driver_laws.proofs.Parts.{around, begun, ends_some, more_some, own_some, still_some}
+
+-- where the entries so far lead a device
+abbrev pub reached : Watched → State → List Entry → State
+reached w origin done = leads_to origin done
+
+pub reached_next : (w : Watched) (origin : State) (done : List Entry) (e : Entry)
+    → leads_to origin (done ++ e ∷ []) ≡ after (leads_to origin done) e.event
+reached_next w origin done e = leads-append origin done (e ∷ [])
+
+-- each entry that leaves the queue alone keeps what holds of the entries so far; and the driver's own call leads from
+-- one to the other
+
+abbrev pub KeptOver : Watched → State → Blocks → (List Entry → Type 0) → Type 0
+KeptOver w origin mine P =
+    (done : List Entry) (e : Entry) → IsLeft w mine (leads_to origin done) e.event → P done → P (done ++ e ∷ [])
+
+abbrev pub LeadsOver : Watched → State → Blocks → Call → (List Entry → Type 0) → (List Entry → Type 0) → Type 0
+LeadsOver w origin mine c P Q =
+    (done : List Entry) (e : Entry) → call_in e ≡ c → IsMet w.queue (leads_to origin done) → IsEvent e.event
+    → e.reply ≡ reply_to (leads_to origin done) e.event → WritesOutside w.queue mine e.reply → P done
+    → Q (done ++ e ∷ [])
+
+-- of a state alone
+
+pub state_kept : (w : Watched) (origin : State) (mine : Blocks) (P : State → Type 0) → IsKept w mine P
+    → KeptOver w origin mine (λ done. P (leads_to origin done))
+state_kept w origin mine P kept done e left p =
+    subst P (sym (reached_next w origin done e)) (kept (leads_to origin done) e.event left p)
+
+pub state_leads : (w : Watched) (origin : State) (mine : Blocks) (c : Call) (P Q : State → Type 0) → Leads w.queue c P Q
+    → LeadsOver w origin mine c (λ done. P (leads_to origin done)) (λ done. Q (leads_to origin done))
+state_leads w origin mine c P Q leads done e same met made told steps p =
+    subst Q (sym (reached_next w origin done e))
+    (subst (λ (x : Call). Leads w.queue x P Q) (sym same) leads (leads_to origin done) met made told p)
+
+-- an event that writes no register that the queue rests on, and none of these blocks
+pub free_left : (w : Watched) (mine : Blocks) (s : State) (e : Event Block) → IsMet w.queue s → IsEvent e
+    → w.vfs ≡ s.vfs → WritesOutside w.queue mine (reply_to s e)
+    → LeavesRegisters w (mode_in s.registers) e × LeavesBlocks mine e → IsLeft w mine s e
+free_left w mine s e met made vfs steps free = record {
+  small = met.small;
+  sound = met.sound;
+  vfs = vfs;
+  made = made;
+  registers = free.0;
+  blocks = free.1;
+  steps = steps;
+}
+
+module _ {w : Watched} {origin : State} {h : List Entry} (x : IsAlong w origin h) where
+  abbrev mine : Blocks
+  mine = lent_by w.pass h
+
+  pub sound_at : (done rest : List Entry) → done ++ rest ≡ h → IsSound (leads_to origin done)
+  sound_at done rest all =
+      histories_sound origin done x.sound (events_before done rest (subst AreEvents (sym all) x.events))
+
+  -- what is known of an entry
+  pub record IsEntry (done : List Entry) (e : Entry) : Type 0 where
+    pub met : IsMet w.queue (leads_to origin done)
+    pub vfs : w.vfs ≡ (leads_to origin done).vfs
+    pub made : IsEvent e.event
+    pub told : e.reply ≡ reply_to (leads_to origin done) e.event
+
+  pub entry_is : (done rest : List Entry) (e : Entry) → done ++ e ∷ rest ≡ h → IsEntry done e
+  entry_is done rest e all =
+      let events = events_behind done (e ∷ rest) (subst AreEvents (sym all) x.events) in
+      let legal = legal_behind origin done (e ∷ rest) (subst (IsLegal origin) (sym all) x.legal) in record {
+        met = record { small = x.small; sound = sound_at done (e ∷ rest) all };
+        vfs = x.vfs ∙ sym (vfs_stays origin done);
+        made = events.0;
+        told = legal.0;
+      }
+
+  -- once the pass has made a call
+  module _ (done rest : List Entry) (e : Entry) (all : done ++ e ∷ rest ≡ h) (some : calls_of w.pass done ≢ []) where
+    alone : EntryLeavesAlone w mine (mode_in (leads_to origin done).registers) e
+    alone = x.alone done e rest (sym all) (begun w.pass done some)
+
+    free_here : LeavesRegisters w (mode_in (leads_to origin done).registers) e.event × LeavesBlocks mine e.event
+        → IsLeft w mine (leads_to origin done) e.event
+    free_here free =
+        let is = entry_is done rest e all in
+        free_left w mine (leads_to origin done) e.event is.met is.made is.vfs
+        (subst (WritesOutside w.queue mine) is.told alone.steps) free
+
+    pub foreign_left : e.pass ≢ w.pass → IsLeft w mine (leads_to origin done) e.event
+    foreign_left other = free_here (alone.registers other, alone.blocks other)
+
+    step_left : is_step e.event ≡ true → IsLeft w mine (leads_to origin done) e.event
+    step_left is = free_here (no_registers w (mode_in (leads_to origin done).registers) mine e.event is)
+
+  -- entries of others keep it
+  pub kept_on : (P : List Entry → Type 0) → KeptOver w origin mine P → (front back rest : List Entry)
+      → (front ++ back) ++ rest ≡ h → calls_of w.pass front ≢ [] → calls_of w.pass back ≡ [] → P front
+      → P (front ++ back)
+  kept_on P kept front [] rest all some none p = subst P (sym (append-nil front)) p
+  kept_on P kept front (e ∷ back) rest all some none p =
+      elim (cases_Bool (e.pass == w.pass)) as (λ _. P (front ++ e ∷ back)) [
+        | inl own ↦
+            let made : call_in e ∷ calls_of w.pass back ≡ [] = sym (calls_own w.pass e back own) ∙ none in
+            absurd (cc)
+        | inr other ↦
+            let here : front ++ e ∷ (back ++ rest) ≡ h = sym (append_assoc front (e ∷ back) rest) ∙ all in
+            let left = foreign_left front (back ++ rest) e here some (eqb-false e.pass w.pass other) in
+            let next : (front ++ e ∷ []) ++ back ≡ front ++ e ∷ back = append_assoc front (e ∷ []) back in
+            subst P next
+            (kept_on P kept (front ++ e ∷ []) back rest (ap (λ (l : List Entry). l ++ rest) next ∙ all)
+            (still_some w.pass front (e ∷ []) some) (sym (calls_other w.pass e back other) ∙ none)
+            (kept front e left p))
+      ]
+
+  -- what holds behind a call holds wherever that is the last which the pass made
+  pub last_leads : (Q : List Entry → Type 0) → KeptOver w origin mine Q → (old : List Call) (c : Call)
+      → ((done rest : List Entry) (e : Entry) → done ++ e ∷ rest ≡ h → e.pass ≡ w.pass → calls_of w.pass done ≡ old
+      → call_in e ≡ c → Q (done ++ e ∷ []))
+      → AtEntries w h (old ++ c ∷ []) Q
+  last_leads Q kept old c leads done rest all is =
+      let a = around w.pass done old c [] is in
+      let e : Entry = a.entry in
+      let till : List Entry = a.before ++ e ∷ [] in
+      let split : till ++ a.behind ≡ done = append_assoc a.before (e ∷ []) a.behind ∙ a.all in
+      let whole : a.before ++ e ∷ (a.behind ++ rest) ≡ h =
+      sym (append_assoc a.before (e ∷ a.behind) rest) ∙ ap (λ (l : List Entry). l ++ rest) a.all ∙ all in
+      subst Q split
+      (kept_on Q kept till a.behind rest (ap (λ (l : List Entry). l ++ rest) split ∙ all)
+      (own_some w.pass a.before e a.own) a.later
+      (leads a.before (a.behind ++ rest) e whole a.own a.made a.call))
+
+  -- a call leads from one to the other, once the pass has made a call
+  abbrev LeadsHere : (List Entry → Type 0) → (List Entry → Type 0) → Call → Type 0
+  LeadsHere P Q c =
+      (done rest : List Entry) (e : Entry) → done ++ e ∷ rest ≡ h → calls_of w.pass done ≢ [] → call_in e ≡ c → P done
+      → Q (done ++ e ∷ [])
+
+  over_here : (P Q : List Entry → Type 0) (c : Call) → LeadsOver w origin mine c P Q → LeadsHere P Q c
+  over_here P Q c leads done rest e all some same p =
+      let is = entry_is done rest e all in
+      leads done e same is.met is.made is.told (alone done rest e all some).steps p
+
+  step_here : (P : List Entry → Type 0) → KeptOver w origin mine P → (c : Call) → IsTrue (is_step c.event)
+      → LeadsHere P P c
+  step_here P kept c is done rest e all some same p =
+      kept done e (step_left done rest e all some (subst (λ (n : Call). is_step n.event ≡ true) (sym same) is)) p
+
+  here_leads : (P Q : List Entry → Type 0) → KeptOver w origin mine Q → (old : List Call) (c : Call) → LeadsHere P Q c
+      → old ≢ [] → AtEntries w h old P → AtEntries w h (old ++ c ∷ []) Q
+  here_leads P Q kept old c leads some at =
+      last_leads Q kept old c
+      (λ done rest e all own made same.
+      leads done rest e all (λ none. some (sym made ∙ none)) same (at done (e ∷ rest) all made))
+
+  each_here : (P : List Entry → Type 0) (Own : Call → Type 0) → KeptOver w origin mine P
+      → ((c : Call) → Own c → LeadsHere P P c) → (calls old : List Call) → Each Own calls → old ≢ []
+      → AtEntries w h old P → AtEntries w h (old ++ calls) P
+  each_here P Own kept leads [] old each some at =
+      subst (λ (cs : List Call). AtEntries w h cs P) (sym (append-nil old)) at
+  each_here P Own kept leads (c ∷ cs) old each some at =
+      subst (λ (all : List Call). AtEntries w h all P) (append_assoc old (c ∷ []) cs)
+      (each_here P Own kept leads cs (old ++ c ∷ []) each.1 (ends_some old [] c)
+      (here_leads P P kept old c (leads c each.0) some at))
+
+-- calls of one kind keep what each of them keeps
+pub all_lead : (w : Watched) (origin : State) (h : List Entry) (P : List Entry → Type 0) (Own : Call → Type 0)
+    → IsAlong w origin h → KeptOver w origin (lent_by w.pass h) P
+    → ((c : Call) → Own c → LeadsOver w origin (lent_by w.pass h) c P P)
+    → (calls old : List Call) → Each Own calls → old ≢ [] → AtEntries w h old P → AtEntries w h (old ++ calls) P
+all_lead w origin h P Own x kept leads = each_here x P Own kept (λ c own. over_here x P P c (leads c own))
+
+each_step : (calls : List Call) → AreSteps calls → Each (λ c. IsTrue (is_step c.event)) calls
+each_step [] steps = tt
+each_step (c ∷ calls) steps = (steps.0, each_step calls steps.1)
+
+-- after some steps of the device and one call more the other holds of the entries so far, where both are kept
+pub entries_lead : {w : Watched} {origin : State} {h : List Entry} (P Q : List Entry → Type 0)
+    (old before : List Call) (c : Call) → IsAlong w origin h → KeptOver w origin (lent_by w.pass h) P
+    → KeptOver w origin (lent_by w.pass h) Q → LeadsOver w origin (lent_by w.pass h) c P Q → AreSteps before → old ≢ []
+    → AtEntries w h old P → AtEntries w h (old ++ (before ++ c ∷ [])) Q
+entries_lead {w = w} {h = h} P Q old before c x kept kept_q leads steps some at =
+    subst (λ (all : List Call). AtEntries w h all Q) (append_assoc old before (c ∷ []))
+    (here_leads x P Q kept_q (old ++ before) c (over_here x P Q c leads) (more_some old before some)
+    (each_here x P (λ b. IsTrue (is_step b.event)) kept (step_here x P kept) before old (each_step before steps) some
+    at))
+
+pub calls_lead : CallsLead
+calls_lead w origin h P Q old before c x kept kept_q leads steps some at =
+    entries_lead (λ done. P (leads_to origin done)) (λ done. Q (leads_to origin done)) old before c x
+    (state_kept w origin (lent_by w.pass h) P kept) (state_kept w origin (lent_by w.pass h) Q kept_q)
+    (state_leads w origin (lent_by w.pass h) c P Q leads) steps some at
+
+-- what holds just before a call
+
+-- the device replies otherwise to it, wherever this holds
+abbrev pub Refutes : (State → Type 0) → Call → Type 0
+Refutes P c = (s : State) → P s → c.reply ≡ reply_to s c.event → ⊥
+
+module _ {w : Watched} {origin : State} {h : List Entry} (x : IsAlong w origin h) (P : State → Type 0) where
+  -- behind it the other holds, wherever it is the last
+  pub first_leads : (Q : State → Type 0) (old : List Call) (c : Call) → IsKept w (lent_by w.pass h) Q
+      → Leads w.queue c P Q → BeforeLast w origin h (old ++ c ∷ []) P → AtCalls w origin h (old ++ c ∷ []) Q
+  first_leads Q old c kept leads at =
+      last_leads x (λ done. Q (leads_to origin done)) (state_kept w origin (lent_by w.pass h) Q kept) old c
+      (λ done rest e all own made same.
+      let is = entry_is x done rest e all in
+      let before : P (leads_to origin done) = at done rest e all own (λ i. made i ++ same i ∷ []) in
+      subst Q (sym (reached_next w origin done e))
+      (subst (λ (n : Call). Leads w.queue n P Q) (sym same) leads (leads_to origin done) is.met is.made is.told before))
+
+  -- one that the device answers otherwise is never the last
+  pub last_never : (old : List Call) (c : Call) → Refutes P c → BeforeLast w origin h (old ++ c ∷ []) P
+      → Never w origin h (old ++ c ∷ [])
+  last_never old c refutes at =
+      first_leads (λ s. ⊥) old c (λ s e left none. none) (λ s met made told p. refutes s p told) at
+
+  -- no call to which the device replies otherwise comes next behind these, beside steps of the device
+  abbrev pub RefutesNext : List Call → Type 0
+  RefutesNext old =
+      (before : List Call) (c : Call) → AreSteps before → IsFalse (is_step c.event) → Refutes P c
+      → Never w origin h (old ++ (before ++ c ∷ []))
+
+  pub next_refuted : (old : List Call) → BeforeNext w origin h old P → RefutesNext old
+  next_refuted old at before c steps apart refutes =
+      let same = append_assoc old before (c ∷ []) in
+      subst (Never w origin h) same
+      (last_never (old ++ before) c refutes
+      (subst (λ (calls : List Call). BeforeLast w origin h calls P) (sym same) (at before c steps apart)))
+
+  pub then_refuted : (old : List Call) → IsKept w (lent_by w.pass h) P → old ≢ [] → AtCalls w origin h old P
+      → RefutesNext old
+  then_refuted old kept some at before c steps apart refutes =
+      calls_lead w origin h P (λ s. ⊥) old before c x kept (λ s e left none. none)
+      (λ s met made told p. refutes s p told) steps some at

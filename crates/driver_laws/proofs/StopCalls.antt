@@ -1,0 +1,336 @@
+-- Calls of a kind, one after the other and with steps of the device beside them: those of a driver's accesses, made or
+-- failed, those that lend its blocks, and those of its stop; and which blocks a pass lends by them.
+use Rattle.std.proofs.Common.{[], ◌++◌, ◌+◌, ◌-◌, ◌<◌, ◌∙◌, ◌∷◌, ◌≡◌, ◌≢◌, Bool, List, ap, append_assoc, arith, false}
+use Rattle.std.proofs.Common.{inl, inr, length, refl, subst, suc, sym, true, zero, ℕ}
+use Rattle.std.specs.Prelude.{⊤, ◌==◌, IsFalse}
+use Rattle.std.proofs.lemmas.Bool.{and_from, eq-eqb, lt-ltb, or_left, or_right}
+use Rattle.std.proofs.lemmas.List.{append-nil}
+use Rattle.std.specs.List.{range_with_len}
+use Rattle.driver_laws.specs.Prelude.{Access, AreMade, AreSteps, AtPort, Block, Blocks, Call, DeviceFault, Dir}
+use Rattle.driver_laws.specs.Prelude.{EachRingBlock, Entry, Event, IsEvent, IsMade, IsNumberOf, IsPrepared, IsSwitched}
+use Rattle.driver_laws.specs.Prelude.{LendsEach, Numbers, PmdFault, Port, Reply, RowId, Rx, Sees, Sets, StartTimeout}
+use Rattle.driver_laws.specs.Prelude.{State, SwitchFails, Tx, Watched, blocks_for, both_asked, call_in, call_of}
+use Rattle.driver_laws.specs.Prelude.{enable_row, has_bit, is_step, lent_by, missed, polled, receive_polled, ring_blocks}
+use Rattle.driver_laws.specs.Prelude.{ring_words, zero_block}
+use Rattle.driver_laws.proofs.Prelude.{AllAre, AtEntries, IsAlong, IsEnding, and_one}
+use Rattle.device_lock.specs.Alone.{lends}
+use Rattle.nic_device.specs.declared.event.Event.TheVariants as event
+use Rattle.nic_device.specs.declared.event.Reply.TheVariants as reply
+use Rattle.pmd.specs.PmdSeam.Home.{Bringing, BringsOne}
+use Rattle.pmd.specs.PmdSeam.Made.{Adds, AddsSome}
+use Rattle.pmd.specs.PmdSeam.QueueMade.{FailsBy, IsOtherwise, IsStrayRead, StopsBy}
+use Rattle.pmd.specs.PmdSeam.Sides.{PollsEnd}
+use Rattle.pmd.specs.PmdSeam.declared.fault.PmdFault.TheVariants as fault
+use Rattle.receive_laws.proofs.HistoryLaws.Alone.{lent_behind}
+use Rattle.driver_laws.specs.Ending.{Each, IsAsking}
+use Rattle.driver_laws.specs.Stopping.{AreMadeOf, Asks, BringingEnds, Ends, SwitchedOffAsks, UnswitchedAsks}
+use Rattle.driver_laws.proofs.Made.{all_before, all_both, all_missed, all_polled, first_made}
+use Rattle.driver_laws.proofs.Parts.{around, more_some}
+use Rattle.driver_laws.proofs.Reached.{entry_is}
+
+module _ (P : Event Block → Type 0) where
+  -- calls in parts
+
+  each_both : (cs ds : List Call) → Each (λ c. P c.event) cs → Each (λ c. P c.event) ds
+      → Each (λ c. P c.event) (cs ++ ds)
+  each_both [] ds are more = more
+  each_both (c ∷ cs) ds are more = (are.0, each_both cs ds are.1 more)
+
+  pub none_made : (old new : List Call) → new ≡ old → AreMadeOf P old new
+  none_made old new e = ([], e ∙ sym (append-nil old), tt)
+
+  pub then_made : (old mid new : List Call) → AreMadeOf P old mid → AreMadeOf P mid new → AreMadeOf P old new
+  then_made old mid new (cs, one, are) (ds, two, more) = (
+    cs ++ ds,
+    two ∙ ap (λ (l : List Call). l ++ ds) one ∙ append_assoc old cs ds,
+    each_both cs ds are more,
+  )
+
+  -- where steps of the device are such
+  module _ (stepping : (e : Event Block) → is_step e ≡ true → P e) where
+    steps_are : (cs : List Call) → AreSteps cs → Each (λ c. P c.event) cs
+    steps_are [] are = tt
+    steps_are (c ∷ cs) are = (stepping c.event are.0, steps_are cs are.1)
+
+    pub adds_made : (old new : List Call) (e : Event Block) (r : Reply Block) → Adds old new e r → P e
+        → AreMadeOf P old new
+    adds_made old new e r (before, is, steps) own =
+        (before ++ call_of e r ∷ [], is, each_both before (call_of e r ∷ []) (steps_are before steps) (own, tt))
+
+    pub some_made : (old new : List Call) → AddsSome old new → AreMadeOf P old new
+    some_made old new (before, is, steps) = (before, is, steps_are before steps)
+
+    -- the blocks of a list are lent
+    pub lends_are : ((n : ℕ) → P (event.Lend (zero_block n))) → (ns : List ℕ) (old new : List Call)
+        → LendsEach old new ns → AreMadeOf P old new
+    lends_are lends [] old new is = none_made old new is
+    lends_are lends (n ∷ ns) old new (mid, lent, rest) =
+        then_made old mid new (adds_made old mid _ _ lent (lends n)) (lends_are lends ns mid new rest)
+
+-- events of a kind, with the steps of the device and all reads, and the accesses whose writes are such
+module _ (q : AtPort) (P : Event Block → Type 0) (K : Access → Type 0)
+    (steps : (e : Event Block) → is_step e ≡ true → P e)
+    (reads : (port : Port) (number : ℕ) → P (event.Read port number))
+    (writes : (row : RowId) (word number : ℕ) → K (Sets row word) → IsNumberOf q.port row q.queue number
+    → P (event.Write q.port number word)) where
+  abbrev Are : List Call → List Call → Type 0
+  Are old new = AreMadeOf P old new
+
+  made_is : (a : Access) (old new : List Call) → K a → IsMade q old new a → Are old new
+  made_is (Sees row on) old new own (number, word, named, is, adds) =
+      adds_made P steps old new _ _ adds (reads q.port number)
+  made_is (Sets row word) old new own (number, named, adds) =
+      adds_made P steps old new _ _ adds (writes row word number own named)
+
+  pub accesses_are : (all : List Access) (old new : List Call) → AllAre K all → AreMade q old new all → Are old new
+  accesses_are [] old new own x = none_made P old new x
+  accesses_are (a ∷ rest) old new own (mid, here, more) =
+      then_made P old mid new (made_is a old mid own.0 here) (accesses_are rest mid new own.1 more)
+
+  -- those that fail
+
+  stray_is : (old new : List Call) (row : RowId) → IsStrayRead q old new row → Are old new
+  stray_is old new row (number, word, named, adds) = adds_made P steps old new _ _ adds (reads q.port number)
+
+  otherwise_is : (a : Access) (old new : List Call) → K a → IsOtherwise q old new a → Are old new
+  otherwise_is (Sees row on) old new own (inl (number, word, named, is, adds)) =
+      adds_made P steps old new _ _ adds (reads q.port number)
+  otherwise_is (Sees row on) old new own (inr stray) = stray_is old new row stray
+  otherwise_is (Sets row word) old new own (number, told, named, adds) =
+      adds_made P steps old new _ _ adds (writes row word number own named)
+
+  fails_is : (f : PmdFault) (a : Access) (old new : List Call) → K a → FailsBy f q old new a → Are old new
+  fails_is DeviceFault a old new own x = otherwise_is a old new own x
+  fails_is (fault.Call refused) a old new own x = some_made P steps old new x
+  fails_is other a old new own x = absurd x
+
+  pub stops_are : (f : PmdFault) (all : List Access) (old new : List Call) → AllAre K all → StopsBy f q old new all
+      → Are old new
+  stops_are f all old new own (done, a, rest, mid, is, made, fails) =
+      let parts = all_before K done a rest (subst (AllAre K) is own) in
+      then_made P old mid new (accesses_are done old mid parts.0 made) (fails_is f a mid new parts.1 fails)
+
+  -- both sides are asked and polled
+  module _ (on : Bool) (sees : (side : Dir) (seen : Bool) → K (Sees (enable_row side) seen))
+      (asked : AllAre K (both_asked on)) where
+    receive_own : (count : ℕ) → AllAre K (receive_polled on count)
+    receive_own count = all_both K (both_asked on) (polled Rx on count) asked (all_polled K on sees Rx count)
+
+    missed_are : (side : Dir) (count : ℕ) (old new : List Call) → AreMade q old new (missed side on count) → Are old new
+    missed_are side count old new made =
+        accesses_are (missed side on count) old new (all_missed K on sees side count) made
+
+    polls_are : (f : PmdFault) (side : Dir) (polls : ℕ) (old new : List Call) → PollsEnd f q old new side on polls
+        → Are old new
+    polls_are StartTimeout side polls old new x = missed_are side polls old new x
+    polls_are DeviceFault side polls old new (misses, mid, few, made, stray) =
+        then_made P old mid new (missed_are side misses old mid made) (stray_is mid new (enable_row side) stray)
+    polls_are (fault.Call refused) side polls old new (misses, mid, few, made, more) =
+        then_made P old mid new (missed_are side misses old mid made) (some_made P steps mid new more)
+    polls_are other side polls old new x = absurd x
+
+    pub switched_are : (old new : List Call) → IsSwitched q old new on 1000 → Are old new
+    switched_are old new (first, second, few, made) =
+        accesses_are (receive_polled on first ++ polled Tx on second) old new
+        (all_both K (receive_polled on first) (polled Tx on second) (receive_own first)
+        (all_polled K on sees Tx second)) made
+
+    pub unswitched_are : (f : PmdFault) (old new : List Call) → SwitchFails f q old new on 1000 → Are old new
+    unswitched_are f old new (inl stops) = stops_are f (both_asked on) old new asked stops
+    unswitched_are f old new (inr (inl (mid, made, polls))) =
+        then_made P old mid new (accesses_are (both_asked on) old mid asked made) (polls_are f Rx 1000 mid new polls)
+    unswitched_are f old new (inr (inr (first, mid, few, made, polls))) =
+        then_made P old mid new (accesses_are (receive_polled on first) old mid (receive_own first) made)
+        (polls_are f Tx (1000 - first) mid new polls)
+
+-- some calls are added, whichever
+
+abbrev pub Grows : List Call → List Call → Type 0
+Grows old new = AreMadeOf (λ e. ⊤) old new
+
+all_some : (all : List Access) → AllAre (λ a. ⊤) all
+all_some [] = tt
+all_some (a ∷ rest) = (tt, all_some rest)
+
+pub accesses_add : (q : AtPort) (all : List Access) (old new : List Call) → AreMade q old new all → Grows old new
+accesses_add q all old new made =
+    accesses_are q (λ e. ⊤) (λ a. ⊤) (λ e is. tt) (λ port number. tt) (λ row word number own named. tt) all old new
+    (all_some all) made
+
+pub lends_add : (ns : List ℕ) (old new : List Call) → LendsEach old new ns → Grows old new
+lends_add = lends_are (λ e. ⊤) (λ e is. tt) (λ n. tt)
+
+-- a step of the device asks, and calls that ask are those of a stop
+module _ (q : AtPort) where
+  step_asks : (e : Event Block) → is_step e ≡ true → IsAsking q e
+  step_asks (event.Read port number) is = tt
+  step_asks (event.Write port number word) is = cc
+  step_asks e is = is
+
+  asking_ends : (e : Event Block) → IsAsking q e → IsEnding q e
+  asking_ends (event.Take number) asks = tt
+  asking_ends e asks = asks
+
+  pub step_ends : (e : Event Block) → is_step e ≡ true → IsEnding q e
+  step_ends e is = asking_ends e (step_asks e is)
+
+  each_ends : (cs : List Call) → Each (λ c. IsAsking q c.event) cs → Each (λ c. IsEnding q c.event) cs
+  each_ends [] are = tt
+  each_ends (c ∷ cs) are = (asking_ends c.event are.0, each_ends cs are.1)
+
+  pub asks_end : (old new : List Call) → Asks q old new → Ends q old new
+  asks_end old new (cs, is, are) = (cs, is, each_ends cs are)
+
+-- accesses that ask
+
+abbrev pub MayAsk : Access → Type 0
+MayAsk (Sees row on) = ⊤
+MayAsk (Sets row word) = (side : Dir) × (row ≡ enable_row side) × IsFalse (has_bit 25 word)
+
+pub may_asks : (q : AtPort) (row : RowId) (word number : ℕ) → MayAsk (Sets row word)
+    → IsNumberOf q.port row q.queue number → IsAsking q (event.Write q.port number word)
+may_asks q row word number (side, is, none) named =
+    (side, refl, none, subst (λ (x : RowId). IsNumberOf q.port x q.queue number) is named)
+
+asked_may : AllAre MayAsk (both_asked false)
+asked_may = ((Rx, refl, refl), ((Tx, refl, refl), tt))
+
+pub switched_off_asks : SwitchedOffAsks
+switched_off_asks q old new x =
+    switched_are q (IsAsking q) MayAsk (step_asks q) (λ port number. tt) (may_asks q) false (λ side seen. tt) asked_may
+    old new x
+
+pub unswitched_asks : UnswitchedAsks
+unswitched_asks f q old new x =
+    unswitched_are q (IsAsking q) MayAsk (step_asks q) (λ port number. tt) (may_asks q) false (λ side seen. tt)
+    asked_may f old new x
+
+-- a block that is taken back
+taking_ends : (q : AtPort) (s t : Bringing) → BringsOne s t → Ends q s.made t.made
+taking_ends q s t (n, first, inl brought) = adds_made (IsEnding q) (step_ends q) s.made t.made _ _ brought.taken.2 tt
+taking_ends q s t (n, first, inr missed) = adds_made (IsEnding q) (step_ends q) s.made t.made _ _ missed.taken tt
+
+pub bringing_ends : BringingEnds
+bringing_ends q zero s t x = none_made (IsEnding q) s.made t.made (ap (λ (b : Bringing). b.made) x)
+bringing_ends q (suc count) s t (mid, some, one) =
+    then_made (IsEnding q) s.made mid.made t.made (bringing_ends q count s mid some)
+    (taking_ends q mid t one)
+
+-- the blocks of rings that a pass lends
+
+abbrev pub lending : ℕ → Call
+lending ring = call_of (event.Lend (zero_block ring)) reply.Done
+
+-- a call is among those that were made
+pub record Has (c : Call) (calls : List Call) : Type 0 where
+  pub before : List Call
+  pub behind : List Call
+  pub all : calls ≡ before ++ c ∷ behind
+
+pub has_more : (c : Call) (calls new : List Call) → Grows calls new → Has c calls → Has c new
+has_more c calls new (more, is, any) has = record {
+  before = has.before;
+  behind = has.behind ++ more;
+  all = is ∙ ap (λ xs. xs ++ more) has.all ∙ append_assoc has.before (c ∷ has.behind) more;
+}
+
+-- and so the block that it lends is one of those that the pass lends
+pub record IsLentBy (pass ring : ℕ) (h : List Entry) : Type 0 where
+  pub low : ring < 65536
+  pub mine : lent_by pass h ring ≡ true
+
+first : (pass ring : ℕ) (e : Entry) (h : List Entry) → e.pass ≡ pass → call_in e ≡ lending ring → IsEvent e.event
+    → IsLentBy pass ring (e ∷ h)
+first pass ring e h own is made =
+    let event_is : e.event ≡ event.Lend (zero_block ring) = ap (λ (c : Call). c.event) is in
+    let reply_is : e.reply ≡ reply.Done = ap (λ (c : Call). c.reply) is in
+    let low = (subst IsEvent event_is made).whole.small in
+    let lent : lends e.event e.reply ring ≡ true =
+    (λ k. lends (event_is k) (reply_is k) ring) ∙ eq-eqb ring ring refl in
+    record {
+      low = low;
+      mine = or_left _ _ (and_from _ _ (lt-ltb ring 65536 low) (and_from _ _ (eq-eqb e.pass pass own) lent));
+    }
+
+pub lent_along : {w : Watched} {origin : State} {h : List Entry} (number : ℕ) (calls : List Call)
+    → IsAlong w origin h → Has (lending number) calls → AtEntries w h calls (λ done. IsLentBy w.pass number h)
+lent_along {w = w} {h = h} number calls along has done rest all is =
+    let x = around w.pass done has.before (lending number) has.behind (is ∙ has.all) in
+    let whole : x.before ++ x.entry ∷ (x.behind ++ rest) ≡ h =
+    sym (append_assoc x.before (x.entry ∷ x.behind) rest) ∙ ap (λ (l : List Entry). l ++ rest) x.all ∙ all in
+    let there = first w.pass number x.entry (x.behind ++ rest) x.own x.call
+    (entry_is along x.before (x.behind ++ rest) x.entry whole).made in
+    record {
+      low = there.low;
+      mine = subst (λ (l : List Entry). lent_by w.pass l number ≡ true) whole
+          (lent_behind w.pass number x.before (x.entry ∷ (x.behind ++ rest)) there.mine);
+    }
+
+-- where a ring was prepared some calls were made, and each of its blocks was lent by one of them
+
+listed_some : (q : AtPort) (all : List Access) (old new : List Call) → 0 < length all → AreMade q old new all → new ≢ []
+listed_some q [] old new some made = absurd (omega (arith, some))
+listed_some q (a ∷ rest) old new some made = first_made q a rest old new made
+
+words_some : (q : AtPort) (side : Dir) (ring size : ℕ) (old new : List Call)
+    → AreMade q old new (ring_words side ring size) → new ≢ []
+words_some q Rx ring size old new made = listed_some q (ring_words Rx ring size) old new (omega arith) made
+words_some q Tx ring size old new made = listed_some q (ring_words Tx ring size) old new (omega arith) made
+
+pub lends_some : (ns : List ℕ) (old new : List Call) → LendsEach old new ns → old ≢ [] → new ≢ []
+lends_some ns old new lent some none =
+    let (more, is, any) = lends_add ns old new lent in more_some old more some (sym is ∙ none)
+
+run_has : (many first k : ℕ) (old new : List Call) → LendsEach old new (range_with_len first many) → k < many
+    → Has (lending (first + k)) new
+run_has zero first k old new is below = absurd (omega (arith, below))
+run_has (suc many) first zero old new (mid, lent, rest) below =
+    let at : first ≡ first + 0 = omega arith in
+    subst (λ (n : ℕ). Has (lending n) new) at
+    (has_more (lending first) mid new (lends_add (range_with_len (first + 1) many) mid new rest) (record {
+      before = old ++ lent.0;
+      behind = [];
+      all = lent.1 ∙ sym (append_assoc old lent.0 (lending first ∷ []));
+    }))
+run_has (suc many) first (suc k) old new (mid, lent, rest) below =
+    let at : first + 1 + k ≡ first + suc k = omega arith in
+    subst (λ (n : ℕ). Has (lending n) new) at (run_has many (first + 1) k mid new rest (omega (arith, below)))
+
+module _ {q : AtPort} {side : Dir} {size : ℕ} {old : List Call} {a : Numbers} {new : List Call} {b : Numbers} {ring : ℕ}
+    (x : IsPrepared q side size old a new b ring) where
+  pub prepared_some : new ≢ []
+  prepared_some = lends_some (ring_blocks ring size) x.mid new x.lent (words_some q side ring size old x.mid x.words)
+
+  pub prepared_has : EachRingBlock ring size (λ n. Has (lending n) new)
+  prepared_has k below = run_has (blocks_for size) ring k x.mid new x.lent below
+
+  pub prepared_adds : Grows old new
+  prepared_adds =
+      then_made (λ e. ⊤) old x.mid new (accesses_add q (ring_words side ring size) old x.mid x.words)
+      (lends_add (ring_blocks ring size) x.mid new x.lent)
+
+-- the blocks of a list are among those that are lent
+
+abbrev pub and_all : List ℕ → Blocks → Blocks
+and_all [] rings = rings
+and_all (n ∷ ns) rings = and_all ns (and_one n rings)
+
+pub stays_in : (ns : List ℕ) (rings : Blocks) (k : ℕ) → rings k ≡ true → and_all ns rings k ≡ true
+stays_in [] rings k is = is
+stays_in (n ∷ ns) rings k is = stays_in ns (and_one n rings) k (or_right (k == n) (rings k) is)
+
+run_in : (many first k : ℕ) (rings : Blocks) → k < many → and_all (range_with_len first many) rings (first + k) ≡ true
+run_in zero first k rings below = absurd (omega (arith, below))
+run_in (suc many) first zero rings below =
+    let at : first + 0 ≡ first = omega arith in
+    stays_in (range_with_len (first + 1) many) (and_one first rings) (first + 0)
+    (or_left (first + 0 == first) _ (eq-eqb (first + 0) first at))
+run_in (suc many) first (suc k) rings below =
+    let at : first + suc k ≡ first + 1 + k = omega arith in
+    subst (λ (n : ℕ). and_all (range_with_len (first + 1) many) (and_one first rings) n ≡ true) (sym at)
+    (run_in many (first + 1) k (and_one first rings) (omega (arith, below)))
+
+-- each block of a ring is one of these
+pub ring_in : (ring size : ℕ) (rings : Blocks)
+    → EachRingBlock ring size (λ n. and_all (ring_blocks ring size) rings n ≡ true)
+ring_in ring size rings k below = run_in (blocks_for size) ring k rings below

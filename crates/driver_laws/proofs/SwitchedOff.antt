@@ -1,0 +1,330 @@
+-- The sides of a queue while its driver stops or starts: one that is on, or isn't wanted on, doesn't go on; and both
+-- are asked off and seen off, and stay so.
+use Rattle.std.proofs.Common.{[], ◌&&◌, ◌++◌, ◌∙◌, ◌∷◌, ◌≡◌, ◌≢◌, Bool, List, Some, ap, false, inl, inr, not, refl}
+use Rattle.std.proofs.Common.{subst, sym, true, ℕ}
+use Rattle.std.specs.Prelude.{IsFalse}
+use Rattle.std.proofs.lemmas.Bool.{both_ways}
+use Rattle.driver_laws.specs.Prelude.{Access, AreMade, AtPort, Block, Blocks, Call, Dir, Entry, Event, IsEvent, IsMade}
+use Rattle.driver_laws.specs.Prelude.{IsNumberOf, LeavesBlocks, LeavesRegisters, Reply, Rx, Rxdctl, Sees, Sets, Side}
+use Rattle.driver_laws.specs.Prelude.{State, Tx, Txdctl, Watched, after, enable_row, has_bit, is_step, leads_to, lent_by}
+use Rattle.driver_laws.specs.Prelude.{missed, mode_in, polled, quiet, receive_polled, reply_to, side_of}
+use Rattle.driver_laws.proofs.Prelude.{AllAre, AtCalls, HasGround, IsAlong, IsEnding, IsKept, IsMet, IsPlain, IsQuiet}
+use Rattle.driver_laws.proofs.Prelude.{Leads, NamesRow, left_deed, no_block, steady_kept}
+use Rattle.device_lock.specs.Alone.{WritesOutside}
+use Rattle.nic_device.specs.declared.event.Event.TheVariants as event
+use Rattle.nic_device.specs.declared.event.Reply.TheVariants.{Advanced, Sent, Wrote}
+use Rattle.pmd.proofs.PmdSeam.QueueSequences.{both_made}
+use Rattle.receive_laws.proofs.Foreign.{no_registers}
+use Rattle.receive_laws.proofs.DeviceLaws.Standing.{memory_rest}
+use Rattle.receive_laws.proofs.DeviceLaws.StandingAccesses.{read_rest}
+use Rattle.receive_laws.proofs.Fitting.{none_begun_while_off}
+use Rattle.receive_laws.proofs.HistoryLaws.Leaving.{queues_left}
+use Rattle.receive_laws.proofs.HistoryLaws.Steady as steady
+use Rattle.receive_laws.proofs.HistoryLaws.Steady.{IsSteady, asked, deed_settles, off_steady, seen_off, unwanted_steady}
+use Rattle.receive_laws.specs.HistoryLaws.Left.{Deed}
+use Rattle.receive_laws.specs.HistoryLaws.Sides.{IsOff, IsUnwanted}
+use Rattle.driver_laws.specs.Quiet.{OffSidesStand, ReceiveGuardIsOff}
+use Rattle.driver_laws.specs.Quieting.{QuietSidesStand, QuietingLeads}
+use Rattle.driver_laws.specs.Silent.{SwitchingOffLeads}
+use Rattle.driver_laws.specs.Standing.{IsLeft, Stands}
+use Rattle.driver_laws.proofs.Ground.{ground_kept, ground_names, plain_keeps, read_ground, write_ground}
+use Rattle.driver_laws.proofs.Made.{OfCall, access_leads, accesses_keep, all_both, all_missed, all_polled, first_seen}
+use Rattle.driver_laws.proofs.Made.{made_some, of_map, some_made}
+use Rattle.driver_laws.proofs.Reached.{free_left, sound_at}
+use Rattle.driver_laws.proofs.StopCalls.{MayAsk, may_asks}
+use Rattle.driver_laws.proofs.Words.{each_side, side_driven}
+
+abbrev pub IsSettled : Dir → ℕ → State → Type 0
+IsSettled dir queue s = steady.IsSettled (side_of dir queue s)
+
+-- so it still is, and it didn't go on
+abbrev pub Settles : Dir → ℕ → State → State → Type 0
+Settles dir queue s t = steady.Settles (side_of dir queue s) (side_of dir queue t)
+
+pub left_settles : (dir : Dir) (w : Watched) (mine : Blocks) (s : State) (e : Event Block) → IsLeft w mine s e
+    → IsSettled dir w.queue s → Settles dir w.queue s (after s e)
+left_settles dir w mine s e x is = deed_settles dir w.queue s e (left_deed dir w mine s e x) is
+
+-- so it is where a side is asked not to be on
+pub word_settles : (dir : Dir) (queue : ℕ) (q : AtPort) (frame : ℕ) (s : State) (number word : ℕ) → IsMet queue s
+    → IsFalse (has_bit 25 word) → HasGround queue q frame s → (side : Dir)
+    → IsNumberOf q.port (enable_row side) q.queue number → IsSettled dir queue s
+    → Settles dir queue s (after s (event.Write q.port number word))
+word_settles dir queue q frame s number word met none g side named is =
+    steady.word_settles queue s met.sound met.small q.port number word side dir
+    (ground_names queue q frame s g (enable_row side) number (side_driven side) named) none is
+
+-- a step of the device leaves each queue alone
+
+pub outside_none : (queue : ℕ) (r : Reply Block) → WritesOutside queue no_block r
+outside_none queue (Wrote on slot end desc at len) = λ other. (λ a low high. refl, λ a low high. refl)
+outside_none queue (Advanced on slot (Some back)) = λ other. refl
+outside_none queue (Sent on len (Some back)) = λ other. refl
+outside_none queue other = tt
+
+abbrev pub watching : ℕ → State → Watched
+watching queue s = record { vfs = s.vfs; pass = 0; queue = queue }
+
+-- so does an event that writes no register
+pub alone_left : (queue : ℕ) (s : State) (e : Event Block) → IsMet queue s → IsEvent e
+    → LeavesRegisters (watching queue s) (mode_in s.registers) e × LeavesBlocks no_block e
+    → IsLeft (watching queue s) no_block s e
+alone_left queue s e met made free =
+    free_left (watching queue s) no_block s e met made refl (outside_none queue (reply_to s e)) free
+
+pub step_left : (queue : ℕ) (s : State) (e : Event Block) → IsMet queue s → IsEvent e → is_step e ≡ true
+    → IsLeft (watching queue s) no_block s e
+step_left queue s e met made is =
+    alone_left queue s e met made (no_registers (watching queue s) (mode_in s.registers) no_block e is)
+
+-- what an event of a stop does to a side: it leaves it or asks it not to be on; or the device does what it does
+module _ (dir : Dir) (P : Side → Type 0) (R : Side → Side → Type 0) (same : (x y : Side) → y ≡ x → P x → R x y)
+    (asks : (x y : Side) (wanted : Bool) → y ≡ record x { wanted = wanted } → wanted ≡ false → P x → R x y)
+    (deed :
+    (queue : ℕ) (s : State) (e : Event Block) → Deed dir queue s e → P (side_of dir queue s)
+    → R (side_of dir queue s) (side_of dir queue (after s e)))
+    (queue : ℕ) (q : AtPort) (frame : ℕ) (s : State) (met : IsMet queue s) (g : HasGround queue q frame s)
+    (p : P (side_of dir queue s)) where
+  abbrev Does : Event Block → Type 0
+  Does e = R (side_of dir queue s) (side_of dir queue (after s e))
+
+  write_does : (number word : ℕ) → IsFalse (has_bit 25 word) → (side : Dir)
+      → IsNumberOf q.port (enable_row side) q.queue number → Does (event.Write q.port number word)
+  write_does number word none side named =
+      let names = ground_names queue q frame s g (enable_row side) number (side_driven side) named in
+      elim (steady.asked_or_left queue s met.sound met.small q.port number word side dir names) [
+        | inl is ↦ asks _ _ (has_bit 25 word) is none p
+        | inr left ↦ same _ _ left p
+      ]
+
+  pub ending_does : (e : Event Block) → IsEvent e → IsEnding q e → Does e
+  ending_does (event.Write port number word) made (side, is, none, named) =
+      subst (λ p. Does (event.Write p number word)) (sym is) (write_does number word none side named)
+  ending_does (event.Read port number) made ends =
+      same _ _ (queues_left queue s _ dir (read_rest s port number).queues) p
+  ending_does (event.Take number) made ends = same _ _ (queues_left queue s _ dir (memory_rest.take s number).queues) p
+  ending_does e made ends =
+      deed queue s e (left_deed dir (watching queue s) no_block s e (step_left queue s e met made ends)) p
+
+-- it keeps the receive side settled
+pub ending_settles : (queue : ℕ) (q : AtPort) (frame : ℕ) (s : State) (e : Event Block) → IsMet queue s → IsEvent e
+    → IsEnding q e → HasGround queue q frame s → IsSettled Rx queue s → Settles Rx queue s (after s e)
+ending_settles queue q frame s e met made ends g is =
+    ending_does Rx steady.IsSettled steady.Settles steady.same_settles
+    (λ x y wanted same none p. steady.asked_settles x y wanted same none)
+    (λ queue s e did is. deed_settles Rx queue s e did is) queue q frame s met g is e made ends
+
+-- what a stop's event writes is a register of the queue
+pub ending_plain : (q : AtPort) (e : Event Block) → IsEnding q e → IsPlain q e
+ending_plain q (event.Write port number word) (side, same, none, named) =
+    (enable_row side, same, side_driven side, named)
+ending_plain q e ending = tt
+
+-- what stays of a side whatever the device does to it, and where it is asked not to be on
+record IsShutting (P : Side → Type 0) : Type 0 where
+  stays : IsSteady P
+  asks : (x : Side) (wanted : Bool) → wanted ≡ false → P x → P (record x { wanted = wanted })
+
+unwanted_shutting : IsShutting IsUnwanted
+unwanted_shutting = record { stays = unwanted_steady; asks = λ x wanted none p. none }
+
+off_shutting : IsShutting IsOff
+off_shutting = record {
+  stays = off_steady;
+  asks = λ x wanted none p. record { off = p.off; unwanted = none };
+}
+
+-- so events of a stop keep it
+module _ (P : Side → Type 0) (is : IsShutting P) (queue : ℕ) (q : AtPort) (frame : ℕ) (s : State) where
+  ending_keeps : (dir : Dir) (e : Event Block) → IsMet queue s → IsEvent e → IsEnding q e → HasGround queue q frame s
+      → P (side_of dir queue s) → P (side_of dir queue (after s e))
+  ending_keeps dir e met made ends g p =
+      ending_does dir P (λ x y. P y) (λ x y same p. subst P (sym same) p)
+      (λ x y wanted same none p. subst P (sym same) (is.asks x wanted none p))
+      (λ queue s e did p. steady_kept dir queue s e P p is.stays did) queue q frame s met g p e made ends
+
+-- both sides stay off
+
+pub quiet_kept : (w : Watched) (mine : Blocks) (q : AtPort) (frame : ℕ) → IsKept w mine (IsQuiet w.queue q frame)
+quiet_kept w mine q frame s e x b = record {
+  ground = ground_kept w mine q frame s e x b.ground;
+  receive = steady_kept Rx w.queue s e IsOff b.receive off_steady (left_deed Rx w mine s e x);
+  transmit = steady_kept Tx w.queue s e IsOff b.transmit off_steady (left_deed Tx w mine s e x);
+}
+
+pub ending_quiet : (queue : ℕ) (q : AtPort) (frame : ℕ) (s : State) (e : Event Block) → IsMet queue s → IsEvent e
+    → IsEnding q e → IsQuiet queue q frame s → IsQuiet queue q frame (after s e)
+ending_quiet queue q frame s e met made ends b = record {
+  ground = plain_keeps queue q frame s e (ending_plain q e ends) b.ground;
+  receive = ending_keeps IsOff off_shutting queue q frame s Rx e met made ends b.ground b.receive;
+  transmit = ending_keeps IsOff off_shutting queue q frame s Tx e met made ends b.ground b.transmit;
+}
+
+-- calls that ask are those of a stop
+pub may_call : (q : AtPort) (a : Access) → MayAsk a → OfCall q a (λ c. IsEnding q c.event)
+may_call q (Sees row on) may = λ number word named is. tt
+may_call q (Sets row word) may = λ number named. may_asks q row word number may named
+
+-- over a history, one side
+module _ {w : Watched} {origin : State} {h : List Entry} (q : AtPort) (frame : ℕ) (along : IsAlong w origin h)
+    (dir : Dir) where
+  abbrev mine : Blocks
+  mine = lent_by w.pass h
+
+  abbrev Ground : State → Type 0
+  Ground = HasGround w.queue q frame
+
+  abbrev One : (Side → Type 0) → State → Type 0
+  One P s = Ground s × P (side_of dir w.queue s)
+
+  one_kept : (P : Side → Type 0) → IsSteady P → IsKept w mine (One P)
+  one_kept P stays s e x (g, p) =
+      (ground_kept w mine q frame s e x g, steady_kept dir w.queue s e P p stays (left_deed dir w mine s e x))
+
+  names : (s : State) → Ground s → (number : ℕ) → IsNumberOf q.port (enable_row dir) q.queue number
+      → NamesRow s q.port number (enable_row dir) w.queue
+  names s g number named = ground_names w.queue q frame s g (enable_row dir) number (side_driven dir) named
+
+  -- accesses that ask keep what they find
+  asking_keeps : (P : Side → Type 0) → IsShutting P → (all : List Access) (old new : List Call) → AllAre MayAsk all
+      → AreMade q old new all → old ≢ [] → AtCalls w origin h old (One P) → AtCalls w origin h new (One P)
+  asking_keeps P is =
+      accesses_keep q along MayAsk (One P) (one_kept P is.stays)
+      (λ a may. of_map q a (λ c. IsEnding q c.event) (λ c. Leads w.queue c (One P) (One P))
+      (λ c ends s met made told (g, p). (
+        plain_keeps w.queue q frame s c.event (ending_plain q c.event ends) g,
+        ending_keeps P is w.queue q frame s dir c.event met made ends g p,
+      )) (may_call q a may))
+
+  ground_keeps : (all : List Access) (old new : List Call) → AllAre MayAsk all → AreMade q old new all → old ≢ []
+      → AtCalls w origin h old Ground → AtCalls w origin h new Ground
+  ground_keeps =
+      accesses_keep q along MayAsk Ground (ground_kept w mine q frame)
+      (λ a may. of_map q a (λ c. IsEnding q c.event) (λ c. Leads w.queue c Ground Ground)
+      (λ c ends s met made told g. plain_keeps w.queue q frame s c.event (ending_plain q c.event ends) g)
+      (may_call q a may))
+
+  -- amid such accesses the side is asked off, and seen off then
+  shut_at : (before between behind : List Access) (old m1 m2 m3 m4 new : List Call) → AllAre MayAsk before
+      → AllAre MayAsk between → AllAre MayAsk behind → AreMade q old m1 before
+      → IsMade q m1 m2 (Sets (enable_row dir) 0) → AreMade q m2 m3 between
+      → IsMade q m3 m4 (Sees (enable_row dir) false) → AreMade q m4 new behind → old ≢ []
+      → AtCalls w origin h old Ground → AtCalls w origin h new (One IsOff)
+  shut_at before between behind old m1 m2 m3 m4 new one two three first asks then sees rest some at =
+      let some_two = made_some q m1 m2 (Sets (enable_row dir) 0) asks in
+      let asked_at = access_leads q along Ground (One IsUnwanted) (Sets (enable_row dir) 0)
+      (ground_kept w mine q frame) (one_kept IsUnwanted unwanted_steady)
+      (λ number named s met made told g. (
+        write_ground w.queue q frame s (enable_row dir) 0 number (side_driven dir) named g,
+        ap (λ (x : Side). x.wanted)
+            (asked w.queue s met.sound met.small q.port number 0 dir (names s g number named)),
+      ))
+      m1 m2 asks (some_made q before old m1 first some) (ground_keeps before old m1 one first some at) in
+      let off_at = access_leads q along (One IsUnwanted) (One IsOff) (Sees (enable_row dir) false)
+      (one_kept IsUnwanted unwanted_steady) (one_kept IsOff off_steady)
+      (λ number word named zero s met made told (g, none). (
+        read_ground w.queue q frame s number g,
+        seen_off w.queue s q.port number word (sym told) dir (names s g number named) zero none,
+      ))
+      m3 m4 sees (some_made q between m2 m3 then some_two)
+      (asking_keeps IsUnwanted unwanted_shutting between m2 m3 two then some_two asked_at) in
+      asking_keeps IsOff off_shutting behind m4 new three rest (made_some q m3 m4 (Sees (enable_row dir) false) sees)
+      off_at
+
+-- both sides are seen off where each is
+both_off : {w : Watched} {origin : State} {h : List Entry} (q : AtPort) (frame : ℕ) (along : IsAlong w origin h)
+    (calls : List Call) → AtCalls w origin h calls (One q frame along Rx IsOff)
+    → AtCalls w origin h calls (One q frame along Tx IsOff)
+    → AtCalls w origin h calls (IsQuiet w.queue q frame)
+both_off q frame along calls receive transmit done rest all is =
+    let (ground, off) = receive done rest all is in
+    record { ground = ground; receive = off; transmit = (transmit done rest all is).1 }
+
+quiet_may : (side : Dir) → AllAre MayAsk (quiet side)
+quiet_may side = (tt, ((side, refl, refl), (tt, tt)))
+
+pub quieting_leads : QuietingLeads
+quieting_leads w q frame origin h old new along (m1, a1, (m2, a2, (m3, a3, (m4, a4, (m5, a5, (m6, a6, e)))))) at =
+    let some = made_some q old m1 (Sees Rxdctl false) a1 in
+    let named = first_seen w q origin h (HasGround w.queue q frame) along (ground_kept w (lent_by w.pass h) q frame)
+    (λ s number g. read_ground w.queue q frame s number g) Rxdctl false old m1 a1 at in
+    both_off q frame along new
+    (shut_at q frame along Rx [] [] (quiet Tx) m1 m1 m2 m2 m3 new tt tt (quiet_may Tx) refl a2 refl a3
+    (m4, a4, (m5, a5, (m6, a6, e))) some named)
+    (shut_at q frame along Tx (Sets Rxdctl 0 ∷ Sees Rxdctl false ∷ Sees Txdctl false ∷ []) [] [] m1 m4 m5 m5
+    m6 new ((Rx, refl, refl), (tt, (tt, tt))) tt tt (m2, a2, (m3, a3, (m4, a4, refl))) a5 refl a6 e some named)
+
+-- accesses in two parts
+both_parts : (q : AtPort) (xs ys : List Access) (old new : List Call) → AreMade q old new (xs ++ ys)
+    → (mid : List Call) × AreMade q old mid xs × AreMade q mid new ys
+both_parts q [] ys old new made = (old, refl, made)
+both_parts q (x ∷ xs) ys old new (next, here, more) =
+    let (mid, first, then) = both_parts q xs ys next new more in (mid, (next, here, first), then)
+
+pub switching_off_leads : SwitchingOffLeads
+switching_off_leads w q frame origin h old new along (first, second, few, made) some at =
+    let (mid, (m1, a1, (m2, a2, polls)), more) =
+    both_parts q (receive_polled false first) (polled Tx false second) old new made in
+    let (m3, missed_rx, (m4, seen_rx, is)) =
+    both_parts q (missed Rx false first) (Sees Rxdctl false ∷ []) m2 mid polls in
+    let (m5, missed_tx, (m6, seen_tx, e)) =
+    both_parts q (missed Tx false second) (Sees Txdctl false ∷ []) mid new more in
+    let reads : (side : Dir) (seen : Bool) → MayAsk (Sees (enable_row side) seen) = λ side seen. tt in
+    both_off q frame along new
+    (shut_at q frame along Rx [] (Sets Txdctl 0 ∷ missed Rx false first) (polled Tx false second) old old m1
+    m3 m4 new tt ((Tx, refl, refl), all_missed MayAsk false reads Rx first) (all_polled MayAsk false reads Tx second)
+    refl a1 (m2, a2, missed_rx) seen_rx (subst (λ m. AreMade q m new (polled Tx false second)) is more) some at)
+    (shut_at q frame along Tx (Sets Rxdctl 0 ∷ []) (polled Rx false first ++ missed Tx false second) [] old
+    m1 m2 m5 m6 new ((Rx, refl, refl), tt)
+    (all_both MayAsk (polled Rx false first) (missed Tx false second) (all_polled MayAsk false reads Rx first)
+    (all_missed MayAsk false reads Tx second)) tt (m1, a1, refl) a2
+    (both_made q m2 mid m5 (polled Rx false first) (missed Tx false second) polls missed_tx) seen_tx e some at)
+
+-- a receive side that isn't wanted on stays so
+
+pub receive_guard_is_off : ReceiveGuardIsOff
+receive_guard_is_off = record {
+  written = λ queue s port n word met names none.
+      ap (λ (x : Side). x.wanted) (asked queue s met.sound met.small port n word Rx names) ∙ none;
+  left = λ w mine s e x none.
+      steady_kept Rx w.queue s e IsUnwanted none unwanted_steady (left_deed Rx w mine s e x);
+  read = λ queue s port n word none names told zero. seen_off queue s port n word told Rx names zero none;
+}
+
+-- a side that is off stands as it is, with nothing staged
+off_stands : (x : Side) → x.staged ≡ [] → IsOff x → Stands x x
+off_stands x none off = record {
+  same = λ k. record x { staged = none k };
+  seen = λ on. on;
+  wanted = λ on. absurd (both_ways x.on off.off on);
+  empty = λ wanted. absurd (both_ways x.wanted off.unwanted wanted);
+}
+
+pub off_sides_stand : OffSidesStand
+off_sides_stand queue s sound off transmit_off = record {
+  side = each_side (λ dir. Stands (side_of dir queue s) (side_of dir queue s))
+      (off_stands (side_of Rx queue s) refl off)
+      (off_stands (side_of Tx queue s) (sound.bare queue transmit_off.off) transmit_off);
+  begun = none_begun_while_off queue s sound off.off;
+  zero = λ b is. cc;
+}
+
+-- two sides that are seen off stand as they are, with no block lent
+
+all_off : (a b c d : Bool) → a ≡ false → b ≡ false → c ≡ false → d ≡ false
+    → ((not a && not b) && (not c && not d)) ≡ true
+all_off a b c d e f g i = rw (e, f, g, i) refl
+
+pub quiet_sides_stand : QuietSidesStand
+quiet_sides_stand w q frame origin h calls along quiet done rest all is =
+    let s = leads_to origin done in
+    let x = quiet done rest all is in (
+      record { side = λ dir. side_of dir w.queue s; rings = no_block },
+      all_off _ _ _ _ x.receive.off x.receive.unwanted x.transmit.off x.transmit.unwanted,
+      record {
+        stand = off_sides_stand w.queue s (sound_at along done rest all) x.receive x.transmit;
+        ground = x.ground;
+        covers = λ n is. cc;
+        low = λ n is. cc;
+      },
+    )

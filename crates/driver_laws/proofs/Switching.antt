@@ -1,0 +1,245 @@
+-- The words of both rings are written where neither side is wanted on, and both are asked on and polled until they are:
+-- the fresh sides that that leads to, where device and driver agree.
+use Rattle.std.proofs.Common.{[], ◌%◌, ◌*◌, ◌++◌, ◌+◌, ◌/◌, ◌<◌, ◌^◌, ◌∙◌, ◌∷◌, ◌≡◌, ◌≤◌, Bool, List, None, ap, arith}
+use Rattle.std.proofs.Common.{false, inl, refl, replicate, suc, true, zero, ℕ}
+use Rattle.std.specs.Prelude.{nat_le}
+use Rattle.std.proofs.Math.Bool.{or-false}
+use Rattle.std.proofs.lemmas.Bool.{and_parts, both_ways, leb-true, or_right}
+use Rattle.driver_laws.specs.Prelude.{Access, Dir, Memory, Rdbah, Rdbal, Rdh, Rdlen, Rdt, Ring, RowId, Rx, Rxdctl, Sees}
+use Rattle.driver_laws.specs.Prelude.{Sets, Side, Srrctl, Tdbah, Tdbal, Tdh, Tdlen, Tdt, Tdwbal, Tx, Txdctl, enable_row}
+use Rattle.driver_laws.specs.Prelude.{has_block, is_empty, is_frame, missed, packet_limit, polled, receive_polled}
+use Rattle.driver_laws.specs.Prelude.{ring_words}
+use Rattle.driver_laws.proofs.Prelude.{Fits, Sides, after_accesses, side_with}
+use Rattle.pmd.proofs.PmdSeam.Rings.{some_blocks}
+use Rattle.pmd.specs.PmdSeam.Frames.{longest_frame, shortest_frame}
+use Rattle.receive_laws.proofs.Kept.{first_place, inside_of}
+use Rattle.receive_laws.proofs.Leaving.{start_agrees}
+use Rattle.driver_laws.specs.Moves.{FreshReceiveAgrees, FreshTransmitAgrees, IsSized, fresh_ring, fresh_side, side_seen}
+use Rattle.driver_laws.specs.Points.{AllMay, IsEnable, MayWrite, after_access, seen_by}
+use Rattle.driver_laws.specs.Standing.{IsZero}
+use Rattle.driver_laws.proofs.Points.{laid_with}
+
+-- the sides after the words of both rings were written and their blocks lent
+abbrev pub laid : (ring size other : ℕ) → Sides → Sides
+laid ring size other p = laid_with Tx other size (laid_with Rx ring size p)
+
+-- a word that leaves a side that isn't wanted on so
+still : (dir : Dir) (row : RowId) (word : ℕ) (x : Side) → x.wanted ≡ false → Fits dir row word
+    → (side_with dir row word x).wanted ≡ false → MayWrite dir row word x
+still dir row word x off fits none = record {
+  unwanted = off;
+  fits = fits;
+  goes = λ on. absurd (both_ways (side_with dir row word x).wanted none on);
+}
+
+-- a ring's first block
+first_low : (ring size : ℕ) → IsSized ring size → ring < 65536
+first_low ring size sized =
+    let low = sized.low in
+    omega (arith, low, some_blocks size sized.some)
+
+base_even : (n : ℕ) → 2048 * n % 128 ≡ 0
+base_even n = omega arith
+
+module _ (ring size : ℕ) (is : IsSized ring size) (even : 16 * size % 128 ≡ 0) (p : Sides) where
+  base_low : 2048 * ring < 2 ^ 32
+  base_low = let low = first_low ring size is in omega (arith, low)
+
+  length_low : 16 * size < 2 ^ 20
+  length_low = let few = is.few in omega (arith, few)
+
+  pub may_lay : (dir : Dir) → (p.side dir).wanted ≡ false → AllMay (ring_words dir ring size) p
+  may_lay Rx off =
+      let low = still Rx Rdbal _ _ off (base_even ring, base_low) off in
+      let high = still Rx Rdbah _ _ off (omega arith) off in
+      let length = still Rx Rdlen _ _ off (even, length_low) off in
+      let control = still Rx Srrctl _ _ off (omega arith) off in
+      let head = still Rx Rdh _ _ off (omega arith) off in
+      let tail = still Rx Rdt _ _ off (omega arith) off in
+      ((Rx, low), ((Rx, high), ((Rx, length), ((Rx, control), ((Rx, head), ((Rx, tail), tt))))))
+  may_lay Tx off =
+      let low = still Tx Tdbal _ _ off (base_even ring, base_low) off in
+      let high = still Tx Tdbah _ _ off (omega arith) off in
+      let length = still Tx Tdlen _ _ off (even, length_low) off in
+      let back = still Tx Tdwbal _ _ off refl off in
+      let head = still Tx Tdh _ _ off (omega arith) off in
+      let tail = still Tx Tdt _ _ off (omega arith) off in
+      ((Tx, low), ((Tx, high), ((Tx, length), ((Tx, back), ((Tx, head), ((Tx, tail), tt))))))
+
+-- accesses in order
+
+may_append : (xs ys : List Access) (p : Sides) → AllMay xs p → AllMay ys (after_accesses xs p) → AllMay (xs ++ ys) p
+may_append [] ys p may more = more
+may_append (x ∷ xs) ys p may more = (may.0, may_append xs ys (after_access x p) may.1 more)
+
+after-append : (xs ys : List Access) (p : Sides) → after_accesses (xs ++ ys) p ≡ after_accesses ys (after_accesses xs p)
+after-append [] ys p = refl
+after-append (x ∷ xs) ys p = after-append xs ys (after_access x p)
+
+-- polls that see a side off tell nothing
+
+may_miss : (row : RowId) (on : Bool) → IsEnable row → (n : ℕ) (p : Sides) → AllMay (replicate n (Sees row on)) p
+may_miss row on is zero p = tt
+may_miss row on is (suc n) p = (is, may_miss row on is n (seen_by row on p))
+
+not_seen : (dir d : Dir) (x : Side) → side_seen d (enable_row dir) false x ≡ x
+not_seen Rx Rx x = λ k. record x { on = or-false x.on k }
+not_seen Tx Tx x = λ k. record x { on = or-false x.on k }
+not_seen Rx Tx x = refl
+not_seen Tx Rx x = refl
+
+missed_same : (dir : Dir) (n : ℕ) (p : Sides) → after_accesses (missed dir true n) p ≡ p
+missed_same dir zero p = refl
+missed_same dir (suc n) p =
+    missed_same dir n (seen_by (enable_row dir) false p)
+    ∙ (λ k. record p { side = λ d. not_seen dir d (p.side d) k })
+
+-- the ring of each side
+abbrev ring_at : Dir → (ring other : ℕ) → ℕ
+ring_at Rx ring other = ring
+ring_at Tx ring other = other
+
+abbrev pub came_up : (ring size other : ℕ) → Sides → Sides
+came_up ring size other p = record {
+  side = λ dir. fresh_side dir (ring_at dir ring other) size true true (p.side dir);
+  rings = (laid ring size other p).rings;
+}
+
+abbrev pub switching : (polls more : ℕ) → List Access
+switching polls more = receive_polled true polls ++ polled Tx true more
+
+-- an empty ring
+empty_ring : (ring : Ring) (size : ℕ) → 0 < size → ring.length ≡ 16 * size → ring.head ≡ 0 → ring.tail ≡ 0
+    → is_empty ring ≡ true
+empty_ring ring size some length head tail =
+    let inside = inside_of ring size length (rw head some) (rw tail some) in
+    rw (inside, head, tail) refl
+
+module _ (ring size other : ℕ) (one : IsSized ring size) (two : IsSized other size) (p : Sides)
+    (receive_off : (p.side Rx).wanted ≡ false) (transmit_off : (p.side Tx).wanted ≡ false) where
+  -- both are asked on
+
+  abbrev asked_on : Sides
+  asked_on = after_access (Sets Txdctl 0x2000000) (after_access (Sets Rxdctl 0x2000000) (laid ring size other p))
+
+  polls_may : (polls more : ℕ)
+      → AllMay ((missed Rx true polls ++ Sees Rxdctl true ∷ []) ++ polled Tx true more) asked_on
+  polls_may polls more =
+      may_append (missed Rx true polls ++ Sees Rxdctl true ∷ []) (polled Tx true more) asked_on
+      (may_append (missed Rx true polls) (Sees Rxdctl true ∷ []) asked_on (may_miss Rxdctl false tt polls asked_on)
+      (tt, tt))
+      (may_append (missed Tx true more) (Sees Txdctl true ∷ []) _ (may_miss Txdctl false tt more _) (tt, tt))
+
+  goes : (dir : Dir) → is_empty (asked_on.side dir).ring ≡ true
+  goes Rx = empty_ring (asked_on.side Rx).ring size one.some refl refl refl
+  goes Tx = empty_ring (asked_on.side Tx).ring size one.some refl refl refl
+
+  pub may_switch : (polls more : ℕ) → AllMay (switching polls more) (laid ring size other p)
+  may_switch polls more = (
+    (Rx, record { unwanted = receive_off; fits = omega arith; goes = λ on. goes Rx }),
+    (
+      (Tx, record { unwanted = transmit_off; fits = omega arith; goes = λ on. goes Tx }),
+      polls_may polls more,
+    ),
+  )
+
+  -- and end up fresh
+  base_is : (old n : ℕ) → n < 65536 → 0 * 2 ^ 32 + (old / 2 ^ 32 * 2 ^ 32 + 2048 * n) % 2 ^ 32 ≡ 2048 * n
+  base_is old n low = omega (arith, low)
+
+  sides_on : (dir : Dir)
+      → (seen_by Txdctl true (seen_by Rxdctl true asked_on)).side dir ≡ (came_up ring size other p).side dir
+  sides_on Rx = λ k. record (p.side Rx) {
+    ring = record (fresh_ring ring size) { base = base_is (p.side Rx).ring.base ring (first_low ring size one) k };
+    control = 0x2000002;
+    on = or_right (p.side Rx).on true refl k;
+    wanted = true;
+  }
+  sides_on Tx = λ k. record (p.side Tx) {
+    ring = record (fresh_ring other size) { base = base_is (p.side Tx).ring.base other (first_low other size two) k };
+    writeback = None;
+    on = or_right (p.side Tx).on true refl k;
+    wanted = true;
+  }
+
+  polls_end : (polls more : ℕ)
+      → after_accesses ((missed Rx true polls ++ Sees Rxdctl true ∷ []) ++ polled Tx true more) asked_on
+      ≡ seen_by Txdctl true (seen_by Rxdctl true asked_on)
+  polls_end polls more =
+      after-append (missed Rx true polls ++ Sees Rxdctl true ∷ []) (polled Tx true more) asked_on
+      ∙ ap (after_accesses (polled Tx true more))
+      (after-append (missed Rx true polls) (Sees Rxdctl true ∷ []) asked_on
+      ∙ ap (seen_by Rxdctl true) (missed_same Rx polls asked_on))
+      ∙ after-append (missed Tx true more) (Sees Txdctl true ∷ []) (seen_by Rxdctl true asked_on)
+      ∙ ap (seen_by Txdctl true) (missed_same Tx more (seen_by Rxdctl true asked_on))
+
+  pub comes_up : (polls more : ℕ) → after_accesses (switching polls more) (laid ring size other p)
+      ≡ came_up ring size other p
+  comes_up polls more =
+      polls_end polls more ∙ (λ k. record (came_up ring size other p) { side = λ dir. sides_on dir k })
+
+zero_lent : (m : Memory) (b : ℕ) → IsZero m b → has_block m b ≡ true
+zero_lent m b is = rw is refl
+
+pub fresh_receive_agrees : FreshReceiveAgrees
+fresh_receive_agrees queue s y on wanted port tail ring size most sized names empty x =
+    start_agrees queue port tail ring size most s (record {
+      some = sized.some;
+      few = sized.few;
+      low = sized.low;
+      named = names;
+      side = record {
+        one_buffer = ap (λ (q : Side). q.control / 2 ^ 25 % 2 ^ 3) x.same;
+        buffer_size = ap (λ (q : Side). 1024 * (q.control % 2 ^ 5)) x.same;
+        base = ap (λ (q : Side). q.ring.base) x.same;
+        sized = ap (λ (q : Side). q.ring.length) x.same;
+        head = ap (λ (q : Side). q.ring.head) x.same;
+        tail = ap (λ (q : Side). q.ring.tail) x.same;
+      };
+      there = λ k below. zero_lent s.memory (ring + k) (empty k below);
+    })
+
+-- how long a driver's packets are at most
+few_bytes : (frame : ℕ) → is_frame frame ≡ true → packet_limit frame ≤ 10240
+few_bytes frame is =
+    let both = and_parts (nat_le shortest_frame frame) (nat_le frame longest_frame) is in
+    let most : frame ≤ 9728 = leb-true frame longest_frame both.1 in
+    omega (arith, most)
+
+pub fresh_transmit_agrees : FreshTransmitAgrees
+fresh_transmit_agrees queue s y on wanted port tail ring size frame small sound sized names is limit empty x =
+    let same = x.same in (
+      0,
+      record {
+        based = record {
+          sound = sound;
+          small = small;
+          layout = record { some = sized.some; few = sized.few; next = sized.some; limit = few_bytes frame is };
+          tail = names;
+          limit = limit;
+        };
+        set_up = record {
+          base = ap (λ (q : Side). q.ring.base) same;
+          length = ap (λ (q : Side). q.ring.length) same;
+          head = ap (λ (q : Side). q.ring.head) same ∙ first_place size sized.some;
+          tail = ap (λ (q : Side). q.ring.tail) same ∙ first_place size sized.some;
+          writeback = ap (λ (q : Side). q.writeback) same;
+        };
+        counted = record {
+          room = sized.some;
+          done_fetched = omega arith;
+          fetched_posted = omega arith;
+          posted_poked = omega arith;
+          poked_lent = omega arith;
+          lent_known = omega arith;
+          apart = λ i j a b ne. absurd (omega (arith, a));
+        };
+        shows = record {
+          ring = λ k below. zero_lent s.memory (ring + k) (empty k below);
+          ready = λ k a. absurd (omega (arith, a));
+          done = λ k a. absurd (omega (arith, a));
+          waits = λ k a b. absurd (omega (arith, b));
+        };
+        sends = inl (record { packets = ap (λ (q : Side). q.staged) same; in_order = refl });
+      },
+    )

@@ -1,0 +1,236 @@
+-- A start that times out polled 1,000 times, and its polls are among its pass's calls.
+use Rattle.std.proofs.Common.{[], ◌*◌, ◌++◌, ◌+◌, ◌-◌, ◌<◌, ◌∙◌, ◌∷◌, ◌≡◌, ◌≢◌, Bool, List, ap, append_assoc, arith}
+use Rattle.std.proofs.Common.{false, inl, inr, refl, subst, suc, sym, true, zero, ℕ}
+use Rattle.std.specs.Prelude.{⊤, ◌&&◌, ◌==◌, Err, None, Option, Some, if◌then◌else◌, nat_lt}
+use Rattle.std.proofs.lemmas.Bool.{cond_both, eq-eqb, ne_eqb}
+use Rattle.std.proofs.lemmas.List.{append-nil}
+use Rattle.driver_laws.specs.Prelude.{Access, AreMade, AreSteps, AtPort, Block, Call, DeviceFault, Dir, Event}
+use Rattle.driver_laws.specs.Prelude.{IsNumberOf, IsReceiveReady, Numbers, Pf, PmdFault, Port, PreparingFails, Receive}
+use Rattle.driver_laws.specs.Prelude.{ReceiveFails, Reply, RowId, Rx, Rxdctl, Sees, Sets, StartRefused, StartTimeout}
+use Rattle.driver_laws.specs.Prelude.{StopsStarting, SwitchFails, Tx, Txdctl, Vf, both_asked, both_quiet, enable_row}
+use Rattle.driver_laws.specs.Prelude.{is_frame, is_size, is_step, missed, place, receive_polled, start_gate}
+use Rattle.driver_laws.proofs.Prelude.{AllAre}
+use Rattle.nic_device.specs.RegTable.Place.{place_among}
+use Rattle.nic_device.specs.RegTable.Rows.{rows}
+use Rattle.nic_device.specs.RegTable.Runs.{runs}
+use Rattle.nic_device.specs.RegTable.declared.place.Place.{Place}
+use Rattle.nic_device.specs.declared.event.Event.TheVariants as event
+use Rattle.pmd.proofs.PmdSeam.QueueSequences.{both_made as made_after}
+use Rattle.pmd.specs.PmdSeam.Named.{queues_named}
+use Rattle.pmd.specs.PmdSeam.declared.fault.PmdFault.TheVariants.{BadSize, NoBuffer}
+use Rattle.pmd.specs.Started.{IsShut, has_room}
+use Rattle.pmd.specs.Starting.{GoingOnFails}
+use Rattle.driver_laws.specs.Polls.{AreEnables, Enables, PollsAreTold, asked_after, is_missed, missed_in, same_port}
+use Rattle.driver_laws.specs.TimedOut.{Asked, IsOfEnable, TimeoutsPoll, TimesOut, asked_by, is_miss, misses, none_asked}
+use Rattle.driver_laws.proofs.Made.{OfCall, all_both, all_missed, all_polled, made_by}
+use Rattle.driver_laws.proofs.StopCalls.{Grows, accesses_add, prepared_adds, then_made}
+
+-- so many reads of a side that is asked on, in vain
+
+abbrev both : Asked
+both = record { receive = true; transmit = true }
+
+none_more : (k : ℕ) → k ≡ 0 + k
+none_more k = omega arith
+
+one_more : (n k : ℕ) → 1 + (n + k) ≡ suc n + k
+one_more n k = omega arith
+
+side_misses : (side : Dir) (n : ℕ) (rest : List Access)
+    → misses both (missed side true n ++ rest) ≡ n + misses both rest
+side_misses side zero rest = none_more (misses both rest)
+side_misses Rx (suc n) rest = ap (λ k. 1 + k) (side_misses Rx n rest) ∙ one_more n (misses both rest)
+side_misses Tx (suc n) rest = ap (λ k. 1 + k) (side_misses Tx n rest) ∙ one_more n (misses both rest)
+
+asks : (rest : List Access) → misses none_asked (both_asked true ++ rest) ≡ misses both rest
+asks rest = sym (none_more (0 + misses both rest)) ∙ sym (none_more (misses both rest))
+
+receive_alone : misses none_asked (both_asked true ++ missed Rx true 1000) ≡ 1000
+receive_alone =
+    subst (λ (l : List Access). misses both l ≡ 1000) (append-nil (missed Rx true 1000)) (side_misses Rx 1000 [])
+
+one_after_the_other : (first : ℕ) → first < 1000
+    → misses none_asked (receive_polled true first ++ missed Tx true (1000 - first)) ≡ 1000
+one_after_the_other first few =
+    let more : List Access = missed Tx true (1000 - first) in
+    let all : first + ((1000 - first) + 0) ≡ 1000 = omega (arith, few) in
+    asks ((missed Rx true first ++ Sees Rxdctl true ∷ []) ++ more)
+    ∙ ap (misses both) (append_assoc (missed Rx true first) (Sees Rxdctl true ∷ []) more)
+    ∙ side_misses Rx first (Sees Rxdctl true ∷ more)
+    ∙ ap (λ k. first + k)
+    (sym (none_more (misses both more)) ∙ ap (misses both) (sym (append-nil more)) ∙ side_misses Tx (1000 - first) [])
+    ∙ all
+
+-- these are accesses of the enable words alone
+enable_reads : (side : Dir) (seen : Bool) → IsOfEnable (Sees (enable_row side) seen)
+enable_reads Rx seen = tt
+enable_reads Tx seen = tt
+
+module _ (q : AtPort) (size frame : ℕ) where
+  receive_adds : (old : List Call) (a : Numbers) (new : List Call) (b : Numbers) (v : Receive)
+      → IsReceiveReady q size frame old a new b v → Grows old new
+  receive_adds old a new b v x =
+      then_made (λ e. ⊤) old x.mid new (accesses_add q both_quiet old x.mid x.quiet)
+      (prepared_adds x.prepared)
+
+  -- how it comes to this
+  switching_times_out : (old mid new : List Call) → Grows old mid → SwitchFails StartTimeout q mid new true 1000
+      → TimesOut q old new
+  switching_times_out old mid new before (inl stops) = absurd stops.6
+  switching_times_out old mid new (before, is, any) (inr (inl (between, asked, polls))) = record {
+    before = before;
+    all = both_asked true ++ missed Rx true 1000;
+    enables = (tt, (tt, all_missed IsOfEnable true enable_reads Rx 1000));
+    made = subst (λ (m : List Call). AreMade q m new (both_asked true ++ missed Rx true 1000)) is
+        (made_after q mid between new (both_asked true) (missed Rx true 1000) asked polls);
+    polls = receive_alone;
+  }
+  switching_times_out old mid new (before, is, any) (inr (inr (first, between, few, asked, polls))) = record {
+    before = before;
+    all = receive_polled true first ++ missed Tx true (1000 - first);
+    enables =
+        all_both IsOfEnable (receive_polled true first) (missed Tx true (1000 - first))
+        (tt, (tt, all_polled IsOfEnable true enable_reads Rx first))
+        (all_missed IsOfEnable true enable_reads Tx (1000 - first));
+    made =
+        subst (λ (m : List Call). AreMade q m new (receive_polled true first ++ missed Tx true (1000 - first))) is
+        (made_after q mid between new (receive_polled true first) (missed Tx true (1000 - first)) asked polls);
+    polls = one_after_the_other first few;
+  }
+
+  never_preparing : (side : Dir) (old : List Call) (a : Numbers) (new : List Call) (b : Numbers) (out : List ℕ)
+      → PreparingFails StartTimeout q side size old a new b out → ⊥
+  never_preparing side old a new b out (ring, free, inl (stops, same, empty)) = stops.6
+  never_preparing side old a new b out (ring, free, inr (mid, made, stops)) = stops.fails
+
+  module _ (old : List Call) (a : Numbers) (new : List Call) (e : StartRefused) where
+    never_receiving : (b : Numbers) (out : List ℕ) → ReceiveFails StartTimeout q size old a new b out → ⊥
+    never_receiving b out (inl (stops, same, empty)) = stops.6
+    never_receiving b out (inr (mid, made, fails)) = never_preparing Rx mid a new b out fails
+
+    going_on : (mid : List Call) (b c : Numbers) (v w : Receive) → Grows old mid
+        → GoingOnFails StartTimeout q mid b v new c w → TimesOut q old new
+    going_on mid b c v w before (inl (fails, same, left)) = switching_times_out old mid new before fails
+    going_on mid b c v w before (inr (on, switched, filling)) = absurd filling.fails
+
+    amid : StopsStarting q size frame old a new e → e.fault ≡ StartTimeout → TimesOut q old new
+    amid (inl x) is =
+        absurd
+        (never_receiving x.arena x.out
+        (subst (λ (f : PmdFault). ReceiveFails f q size old a new x.arena x.out) is x.fails))
+    amid (inr (inl x)) is =
+        absurd
+        (never_preparing Tx x.made x.ready_arena new x.arena x.out
+        (subst (λ (f : PmdFault). PreparingFails f q Tx size x.made x.ready_arena new x.arena x.out) is x.fails))
+    amid (inr (inr x)) is =
+        going_on x.both_made x.both_arena x.arena x.empty x.filled
+        (then_made (λ e. ⊤) old x.ready_made x.both_made
+        (receive_adds old a x.ready_made x.ready_arena x.empty x.receive) (prepared_adds x.transmit.prepared))
+        (subst (λ (f : PmdFault). GoingOnFails f q x.both_made x.both_arena x.empty new x.arena x.filled) is x.fails)
+
+    -- before any event it answers no such fault
+    abbrev IsEarly : Option PmdFault → Type 0
+    IsEarly g =
+        IsShut g a old new (Err e) → (g ≡ None → StopsStarting q size frame old a new e) → e.fault ≡ StartTimeout
+        → TimesOut q old new
+
+    other : (f : PmdFault) → f ≢ StartTimeout → IsEarly (Some f)
+    other f apart shut stops is = absurd (apart (sym shut.0 ∙ is))
+
+    by_gate : IsEarly (start_gate a q size frame)
+    by_gate =
+        cond_both (is_size size && is_frame frame) _ _ IsEarly
+        (λ sized. cond_both (has_room a size) _ _ IsEarly
+        (λ some. cond_both (nat_lt q.queue (queues_named q.port)) _ _ IsEarly
+        (λ named shut stops is. amid (stops refl) is) (λ none. other DeviceFault (λ d. cc)))
+        (λ none. other NoBuffer (λ d. cc)))
+        (λ none. other BadSize (λ d. cc))
+
+pub timeouts_poll : TimeoutsPoll
+timeouts_poll q size frame old a new e = by_gate q size frame old a new e
+
+port_same : (p : Port) → same_port p p ≡ true
+port_same Pf = refl
+port_same (Vf v) = eq-eqb v v refl
+
+number_same : (port : Port) (row : RowId) (queue n m : ℕ) → IsNumberOf port row queue n → IsNumberOf port row queue m
+    → n ≡ m
+number_same Pf row queue n m a b =
+    let e : Some n ≡ Some m = sym a.first ∙ b.first in
+    cc
+number_same (Vf v) row queue n m a b = a ∙ sym b
+
+numbers_apart : (port : Port) (queue n m : ℕ) → IsNumberOf port Rxdctl queue n → IsNumberOf port Txdctl queue m → m ≢ n
+unfolding rows
+numbers_apart Pf queue n m a b e =
+    let both = sym b.names ∙ ap (λ k. place_among runs k) e ∙ a.names in
+    let same : place Txdctl queue ≡ place Rxdctl queue = cc in
+    let row_same : Txdctl ≡ Rxdctl = ap (λ (p : Place). p.row) same in
+    cc
+numbers_apart (Vf v) queue n m a b e =
+    let first : n ≡ 0x1000 + 0x40 * queue + 0x28 = a in
+    let second : m ≡ 0x2000 + 0x40 * queue + 0x28 = b in
+    omega (arith, first, second, e)
+
+module _ (w : Enables) where
+  -- steps of the device are none of them
+  step_plain : (x : Asked) (e : Event Block) (r : Reply Block) → is_step e ≡ true
+      → (is_missed w x e r ≡ false) × (asked_after w x e ≡ x)
+  step_plain x (event.Read port number) r is = cc
+  step_plain x (event.Write port number word) r is = cc
+  step_plain x other r is = (refl, refl)
+
+  skipped : (before : List Call) → AreSteps before → (x : Asked) (cs : List Call)
+      → missed_in w x (before ++ cs) ≡ missed_in w x cs
+  skipped [] steps x cs = refl
+  skipped (c ∷ before) steps x cs =
+      let plain = step_plain x c.event c.reply steps.0 in
+      (λ i. (if plain.0 i then 1 else 0) + missed_in w (plain.1 i) (before ++ cs))
+      ∙ sym (none_more (missed_in w x (before ++ cs))) ∙ skipped before steps.1 x cs
+
+module _ (q : AtPort) (w : Enables) (are : AreEnables q w) where
+  here : same_port q.port w.port ≡ true
+  here = ap (same_port q.port) are.port ∙ port_same q.port
+
+  same : (row : RowId) (n m : ℕ) → IsNumberOf q.port row q.queue n → IsNumberOf q.port row q.queue m → (n == m) ≡ true
+  same row n m a b = eq-eqb n m (number_same q.port row q.queue n m a b)
+
+  apart : (n : ℕ) → IsNumberOf q.port Txdctl q.queue n → (n == w.receive) ≡ false
+  apart n named = ne_eqb n w.receive (numbers_apart q.port q.queue w.receive n are.receive named)
+
+  -- what its call tells of an access
+  abbrev Tells : Access → Call → Type 0
+  Tells a c = (x : Asked) → (is_missed w x c.event c.reply ≡ is_miss x a) × (asked_after w x c.event ≡ asked_by a x)
+
+  access_tells : (a : Access) → IsOfEnable a → OfCall q a (Tells a)
+  access_tells (Sees Rxdctl on) of = λ number word named is x.
+      (rw (here, same Rxdctl number w.receive named are.receive, is) refl, refl)
+  access_tells (Sees Txdctl on) of = λ number word named is x.
+      (rw (here, apart number named, same Txdctl number w.transmit named are.transmit, is) refl, refl)
+  access_tells (Sets Rxdctl word) of = λ number named x.
+      (refl, rw (here, same Rxdctl number w.receive named are.receive) refl)
+  access_tells (Sets Txdctl word) of = λ number named x.
+      (refl, rw (here, apart number named, same Txdctl number w.transmit named are.transmit) refl)
+  access_tells (Sees other on) of = absurd of
+  access_tells (Sets other word) of = absurd of
+
+  accesses_told : (all : List Access) (old new : List Call) (x : Asked) → AllAre IsOfEnable all → AreMade q old new all
+      → (these : List Call) × (new ≡ old ++ these) × (missed_in w x these ≡ misses x all)
+  accesses_told [] old new x of made = ([], made ∙ sym (append-nil old), refl)
+  accesses_told (a ∷ rest) old new x of (mid, one, more) =
+      let t = made_by q (Tells a) a (access_tells a of.0) old mid one in
+      let (missed, asked) = t.is x in
+      let later = accesses_told rest mid new (asked_by a x) of.1 more in
+      let own : List Call = t.before ++ t.call ∷ [] in (
+        own ++ later.0,
+        later.1 ∙ ap (λ (l : List Call). l ++ later.0) t.added ∙ append_assoc old own later.0,
+        ap (missed_in w x) (append_assoc t.before (t.call ∷ []) later.0)
+            ∙ skipped w t.before t.steps x (t.call ∷ later.0)
+            ∙ (λ i. (if missed i then 1 else 0) + missed_in w (asked i) later.0)
+            ∙ ap (λ k. (if is_miss x a then 1 else 0) + k) later.2,
+      )
+
+pub polls_are_told : PollsAreTold
+polls_are_told q old new x w are =
+    let told = accesses_told q w are x.all (old ++ x.before) new none_asked x.enables x.made in
+    (told.0, told.1, told.2 ∙ x.polls)

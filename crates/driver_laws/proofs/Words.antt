@@ -1,0 +1,264 @@
+-- The words that a driver writes to the registers of a queue: each is its side's, whole, while that is off.
+use Rattle.std.proofs.Common.{◌%◌, ◌*◌, ◌+◌, ◌/◌, ◌<◌, ◌^◌, ◌∙◌, ◌≡◌, ap, arith, false, inl, inr, refl, true, ℕ}
+use Rattle.std.specs.Prelude.{◌==◌, IsFalse, None, Some, bit_and, bit_or, if◌then◌else◌}
+use Rattle.std.proofs.Math.Nat.{mod-eq_of_lt}
+use Rattle.std.proofs.lemmas.Nat.{and_comm, and_mask, and_mod, or_mod}
+use Rattle.std.proofs.lemmas.Nat.Bits.{and_high_mask}
+use Rattle.std.specs.Int.Bits.{and_zero_l, or_zero_l}
+use Rattle.driver_laws.specs.Prelude.{Dir, IsSound, Port, Rdbah, Rdbal, Rdh, Rdlen, Rdt, Register, RowId, Rx, Rxdctl}
+use Rattle.driver_laws.specs.Prelude.{Side, Srrctl, State, Tdbah, Tdbal, Tdh, Tdlen, Tdt, Tdwbal, Tx, Txdctl, after}
+use Rattle.driver_laws.specs.Prelude.{enable_row, has_bit, is_driven, place, side_of}
+use Rattle.driver_laws.proofs.Prelude.{Fits, NamesRow, side_with}
+use Rattle.device_lock.specs.Alone.{is_setting}
+use Rattle.nic_device.proofs.RegisterLaws.RowBits.{word_small}
+use Rattle.nic_device.proofs.RegisterLaws.SideWords.{receive-written, transmit-written}
+use Rattle.nic_device.proofs.RegisterLaws.SoundWords.{low_bits}
+use Rattle.nic_device.proofs.RegisterLaws.Switches.{receive-asked, transmit-asked}
+use Rattle.nic_device.specs.Access.{named_written}
+use Rattle.nic_device.specs.Outcome.{Outcome, gives}
+use Rattle.nic_device.specs.RegTable.Rows.{row_of}
+use Rattle.nic_device.specs.RegTable.declared.rows.RowId.TheVariants.{Ctrl, GcrExt, Hlreg0, Maxfrs, Tdwbah}
+use Rattle.nic_device.specs.RegisterFile.Access.{asks_pool_reset, asks_reset}
+use Rattle.nic_device.specs.RegisterFile.Bits.{merged}
+use Rattle.nic_device.specs.RegisterFile.Owner.{owner_of}
+use Rattle.nic_device.specs.RegisterFile.Registers.{Registers, word_of}
+use Rattle.nic_device.specs.RegisterFile.declared.owner.Owner.TheVariants as owner
+use Rattle.nic_device.specs.RegisterLaws.Laws.{HasShape, after_write, word_after}
+use Rattle.nic_device.specs.RegisterLaws.Sides.{TransmitQueue}
+use Rattle.nic_device.specs.Step.{step_of}
+use Rattle.nic_device.specs.Transmit.{staged_by}
+use Rattle.nic_device.specs.declared.event.Event.TheVariants as event
+use Rattle.nic_device.specs.declared.event.Reply.TheVariants.{Done}
+use Rattle.receive_laws.proofs.DeviceLaws.KeptSettings.{settings_stand}
+use Rattle.receive_laws.proofs.DeviceLaws.Standing.{stays_within}
+use Rattle.receive_laws.proofs.DeviceLaws.StandingAccesses.{write_memory, write_rest}
+use Rattle.receive_laws.proofs.HistoryLaws.Leaving.{plain-write}
+use Rattle.receive_laws.proofs.HistoryLaws.Leaving.{receive_left, transmit_left}
+use Rattle.receive_laws.proofs.HistoryLaws.Written.{receive-tail, transmit-tail}
+use Rattle.receive_laws.proofs.HistoryLaws.Written.{merged_all, merged_low}
+use Rattle.receive_laws.specs.DeviceLaws.Laws.{WritesNoSetting}
+use Rattle.receive_laws.specs.HistoryLaws.Sides.{LeavesSide, receive_side, transmit_side}
+use Rattle.driver_laws.specs.Words.{KeepsGround, WordsAreTaken, across}
+
+-- what holds of either side holds of each
+pub each_side : (P : Dir → Type 0) → P Rx → P Tx → (dir : Dir) → P dir
+each_side P receive transmit Rx = receive
+each_side P receive transmit Tx = transmit
+
+-- rows of one side are none of the other's and no settings, and a word that is written there asks for no reset, and
+-- writes the register alone
+pub driven : (dir : Dir) (row : RowId) (word : ℕ) → Fits dir row word
+    → (is_driven row ≡ true) × ((x : Side) → x ≡ side_with (across dir) row word x) × (is_setting row ≡ false)
+    × (asks_reset (row_of row).kind word ≡ false) × (asks_pool_reset (row_of row).kind word ≡ false)
+    × ((queue : ℕ) → owner_of (place row queue) ≡ owner.Side dir queue)
+    × ((queue : ℕ) (s : State) → named_written s (Register (place row queue) 0xFFFFFFFF) word
+    ≡ gives Done (record s { registers = after_write s.registers (place row queue) 0xFFFFFFFF word }))
+driven Rx Rdbal word fits = (refl, λ x. refl, refl, refl, refl, λ queue. refl, λ queue s. refl)
+driven Rx Rdbah word fits = (refl, λ x. refl, refl, refl, refl, λ queue. refl, λ queue s. refl)
+driven Rx Rdlen word fits = (refl, λ x. refl, refl, refl, refl, λ queue. refl, λ queue s. refl)
+driven Rx Rdh word fits = (refl, λ x. refl, refl, refl, refl, λ queue. refl, λ queue s. refl)
+driven Rx Rdt word fits = (refl, λ x. refl, refl, refl, refl, λ queue. refl, λ queue s. refl)
+driven Rx Srrctl word fits = (refl, λ x. refl, refl, refl, refl, λ queue. refl, λ queue s. refl)
+driven Rx Rxdctl word fits = (refl, λ x. refl, refl, refl, refl, λ queue. refl, λ queue s. refl)
+driven Tx Tdbal word fits = (refl, λ x. refl, refl, refl, refl, λ queue. refl, λ queue s. refl)
+driven Tx Tdbah word fits = (refl, λ x. refl, refl, refl, refl, λ queue. refl, λ queue s. refl)
+driven Tx Tdlen word fits = (refl, λ x. refl, refl, refl, refl, λ queue. refl, λ queue s. refl)
+driven Tx Tdh word fits = (refl, λ x. refl, refl, refl, refl, λ queue. refl, λ queue s. refl)
+driven Tx Tdt word fits = (refl, λ x. refl, refl, refl, refl, λ queue. refl, λ queue s. refl)
+driven Tx Tdwbal word fits = (refl, λ x. refl, refl, refl, refl, λ queue. refl, λ queue s. refl)
+driven Tx Txdctl word fits = (refl, λ x. refl, refl, refl, refl, λ queue. refl, λ queue s. refl)
+driven dir other word fits = absurd fits
+
+-- the enable register of each side is one of them
+pub side_driven : (side : Dir) → is_driven (enable_row side) ≡ true
+side_driven Rx = refl
+side_driven Tx = refl
+
+-- none of them is a setting
+pub driven_plain : (row : RowId) → is_driven row ≡ true → is_setting row ≡ false
+driven_plain Ctrl e = cc
+driven_plain Hlreg0 e = cc
+driven_plain Maxfrs e = cc
+driven_plain GcrExt e = cc
+driven_plain other e = refl
+
+-- words that a register takes whole, whatever stood there
+
+-- a multiple of 128 through a mask of bits 31 to 7
+pub merged-high : (old new : ℕ) → old % 2 ^ 7 ≡ 0 → new % 128 ≡ 0 → new < 2 ^ 32 → merged 0xFFFFFF80 old new ≡ new
+merged-high old new low even small =
+    let kept : bit_and old 0x7F ≡ 0 = and_mask old 7 ∙ low in
+    let taken : bit_and new 0xFFFFFF80 ≡ new =
+    and_high_mask 32 7 (omega arith) new small ∙ (let e : new / 2 ^ 7 * 2 ^ 7 ≡ new = omega (arith, even) in e) in
+    (λ k. bit_or (kept k) (taken k)) ∙ or_zero_l new
+
+-- and one of 20 bits through a mask of bits 19 to 7
+pub merged-length : (old new : ℕ) → old % 2 ^ 7 ≡ 0 → new % 128 ≡ 0 → new < 2 ^ 20
+    → merged 0x000FFF80 old new % 2 ^ 20 ≡ new
+merged-length old new low even small =
+    let kept : bit_and old 0xFFF0007F % 2 ^ 20 ≡ 0 =
+    and_mod old 0xFFF0007F 20 ∙ and_mask (old % 2 ^ 20) 7
+    ∙ (let e : old % 2 ^ 20 % 2 ^ 7 ≡ 0 = omega (arith, low) in e) in
+    let whole : bit_and new 0x000FFF80 ≡ new =
+    and_high_mask 20 7 (omega arith) new small ∙ (let e : new / 2 ^ 7 * 2 ^ 7 ≡ new = omega (arith, even) in e) in
+    let taken : bit_and new 0x000FFF80 % 2 ^ 20 ≡ new =
+    ap (λ n. n % 2 ^ 20) whole ∙ (let e : new % 2 ^ 20 ≡ new = omega (arith, small) in e) in
+    or_mod (bit_and old 0xFFF0007F) (bit_and new 0x000FFF80) 20 ∙ (λ k. bit_or (kept k) (taken k)) ∙ or_zero_l new
+
+-- an even word through a mask of all bits but bit 1
+pub merged-even : (old new : ℕ) → new % 2 ≡ 0 → merged 0xFFFFFFFD old new % 2 ^ 1 ≡ 0
+merged-even old new even =
+    let kept : bit_and old 0x2 % 2 ^ 1 ≡ 0 =
+    and_mod old 0x2 1 ∙ and_comm (old % 2 ^ 1) 0 ∙ and_zero_l (old % 2 ^ 1) in
+    let taken : bit_and new 0xFFFFFFFD % 2 ^ 1 ≡ 0 =
+    and_mod new 0xFFFFFFFD 1 ∙ ap (λ n. bit_and n 1) even ∙ and_zero_l 1 in
+    or_mod (bit_and old 0x2) (bit_and new 0xFFFFFFFD) 1 ∙ (λ k. bit_or (kept k) (taken k)) ∙ or_zero_l 0
+
+-- a register of the queue is written
+
+module _ (queue : ℕ) (s : State) (port : Port) (n word : ℕ) (row : RowId) (names : NamesRow s port n row queue) where
+  -- the register is no setting
+  pub settings : is_setting row ≡ false → WritesNoSetting s (event.Write port n word)
+  settings plain = plain-write s port n word (place row queue) 0xFFFFFFFF names plain
+
+  pub ground : is_setting row ≡ false → KeepsGround s (after s (event.Write port n word))
+  ground plain =
+      let stand = settings_stand s (event.Write port n word) (settings plain) in record {
+        memory = write_memory s port n word;
+        limit = stand.limit;
+        mode = stand.mode;
+        vfs = (stays_within s (event.Write port n word)).vfs;
+      }
+
+  -- the write writes the register alone
+  pub wrote : named_written s (Register (place row queue) 0xFFFFFFFF) word
+      ≡ gives Done (record s { registers = after_write s.registers (place row queue) 0xFFFFFFFF word })
+      → after s (event.Write port n word)
+      ≡ record s { registers = after_write s.registers (place row queue) 0xFFFFFFFF word }
+  unfolding step_of
+  wrote plain = ap (λ m. (named_written s m word).state) names ∙ ap (λ (o : Outcome). o.state) plain
+
+-- a word of a row of a side that is off
+
+-- what a register has of such a word, whatever stood there
+
+base_low : (high low word : ℕ) → low < 2 ^ 32 → low % 2 ^ 7 ≡ 0 → (word % 128 ≡ 0) × (word < 2 ^ 32)
+    → high * 2 ^ 32 + merged 0xFFFFFF80 low word ≡ (high * 2 ^ 32 + low) / 2 ^ 32 * 2 ^ 32 + word
+base_low high low word short even fits =
+    let kept : high ≡ (high * 2 ^ 32 + low) / 2 ^ 32 = omega (arith, short) in
+    λ k. kept k * 2 ^ 32 + merged-high low word even fits.0 fits.1 k
+
+whole : (old word : ℕ) → word < 2 ^ 32 → merged 0xFFFFFFFF old word ≡ word
+whole old word fits = merged_all old word ∙ mod-eq_of_lt fits
+
+base_high : (high low word : ℕ) → low < 2 ^ 32 → word < 2 ^ 32
+    → merged 0xFFFFFFFF high word * 2 ^ 32 + low ≡ word * 2 ^ 32 + (high * 2 ^ 32 + low) % 2 ^ 32
+base_high high low word short fits =
+    let kept : low ≡ (high * 2 ^ 32 + low) % 2 ^ 32 = omega (arith, short) in
+    λ k. whole high word fits k * 2 ^ 32 + kept k
+
+slot : (old word : ℕ) → word < 2 ^ 16 → merged 0xFFFF old word % 2 ^ 16 ≡ word
+slot old word fits = merged_low old word ∙ mod-eq_of_lt fits
+
+no_bit : (word : ℕ) → word % 2 ^ 1 ≡ 0 → has_bit 0 word ≡ false
+no_bit word even =
+    let e : word / 2 ^ 0 % 2 ≡ 0 = omega (arith, even) in
+    ap (λ n. n == 1) e
+
+module _ (queue : ℕ) (s : State) (small : queue < 128) (sound : IsSound s) where
+  abbrev r : Registers
+  r = s.registers
+
+  abbrev shape : HasShape r
+  shape = sound.registers.shape
+
+  abbrev rx : Side
+  rx = side_of Rx queue s
+
+  abbrev tx : Side
+  tx = side_of Tx queue s
+
+  abbrev old : RowId → ℕ
+  old row = word_of r row queue
+
+  abbrev written : RowId → ℕ → State
+  written row word = record s { registers = after_write r (place row queue) 0xFFFFFFFF word }
+
+  short : (row : RowId) → old row < 2 ^ 32
+  short row = word_small r sound.registers (place row queue)
+
+  sends : {q p : TransmitQueue} → q ≡ p → transmit_side q (staged_by s queue) ≡ transmit_side p (staged_by s queue)
+  sends e = ap (λ (q : TransmitQueue). transmit_side q (staged_by s queue)) e
+
+  side_taken : (dir : Dir) → IsFalse (side_of dir queue s).on → (row : RowId) (word : ℕ) → Fits dir row word
+      → side_of dir queue (written row word) ≡ side_with dir row word (side_of dir queue s)
+  side_taken Rx off Rdbal word fits =
+      let even = low_bits r sound.registers Rdbal queue refl in
+      let base = base_low (old Rdbah) (old Rdbal) word (short Rdbal) even fits in
+      ap receive_side (receive-written r shape Rdbal queue refl small (inr (refl, off)) 0xFFFFFFFF word)
+      ∙ (λ k. record rx { ring = record rx.ring { base = base k } })
+  side_taken Rx off Rdbah word fits =
+      let base = base_high (old Rdbah) (old Rdbal) word (short Rdbal) fits in
+      ap receive_side (receive-written r shape Rdbah queue refl small (inr (refl, off)) 0xFFFFFFFF word)
+      ∙ (λ k. record rx { ring = record rx.ring { base = base k } })
+  side_taken Rx off Rdlen word fits =
+      let taken = merged-length (old Rdlen) word (low_bits r sound.registers Rdlen queue refl) fits.0 fits.1 in
+      ap receive_side (receive-written r shape Rdlen queue refl small (inr (refl, off)) 0xFFFFFFFF word)
+      ∙ (λ k. record rx { ring = record rx.ring { length = taken k } })
+  side_taken Rx off Rdh word fits =
+      ap receive_side (receive-written r shape Rdh queue refl small (inr (refl, off)) 0xFFFFFFFF word)
+      ∙ (λ k. record rx { ring = record rx.ring { head = slot (old Rdh) word fits k } })
+  side_taken Rx off Rdt word fits = ap receive_side (receive-tail r queue word shape small fits)
+  side_taken Rx off Srrctl word fits =
+      ap receive_side (receive-written r shape Srrctl queue refl small (inl refl) 0xFFFFFFFF word)
+      ∙ (λ k. record rx { control = whole (old Srrctl) word fits k })
+  side_taken Rx off Rxdctl word fits = ap receive_side (receive-asked r shape queue small 0xFFFFFFFF word)
+  side_taken Tx off Tdbal word fits =
+      let even = low_bits r sound.registers Tdbal queue refl in
+      let base = base_low (old Tdbah) (old Tdbal) word (short Tdbal) even fits in
+      sends (transmit-written r shape Tdbal queue refl small (inr (refl, off)) 0xFFFFFFFF word)
+      ∙ (λ k. record tx { ring = record tx.ring { base = base k } })
+  side_taken Tx off Tdbah word fits =
+      let base = base_high (old Tdbah) (old Tdbal) word (short Tdbal) fits in
+      sends (transmit-written r shape Tdbah queue refl small (inr (refl, off)) 0xFFFFFFFF word)
+      ∙ (λ k. record tx { ring = record tx.ring { base = base k } })
+  side_taken Tx off Tdlen word fits =
+      let taken = merged-length (old Tdlen) word (low_bits r sound.registers Tdlen queue refl) fits.0 fits.1 in
+      sends (transmit-written r shape Tdlen queue refl small (inr (refl, off)) 0xFFFFFFFF word)
+      ∙ (λ k. record tx { ring = record tx.ring { length = taken k } })
+  side_taken Tx off Tdh word fits =
+      sends (transmit-written r shape Tdh queue refl small (inr (refl, off)) 0xFFFFFFFF word)
+      ∙ (λ k. record tx { ring = record tx.ring { head = slot (old Tdh) word fits k } })
+  side_taken Tx off Tdt word fits = sends (transmit-tail r queue word shape small fits)
+  side_taken Tx off Tdwbal word fits =
+      let new : ℕ = word_after r (place Tdwbal queue) 0xFFFFFFFF word in
+      let none : has_bit 0 new ≡ false = no_bit new (merged-even (old Tdwbal) word fits) in
+      sends (transmit-written r shape Tdwbal queue refl small (inl refl) 0xFFFFFFFF word)
+      ∙ (λ k. record tx { writeback = if none k then Some (old Tdwbah * 2 ^ 32 + 4 * (new / 4)) else None })
+  side_taken Tx off Txdctl word fits = sends (transmit-asked r shape queue small 0xFFFFFFFF word)
+  side_taken dir off other word fits = absurd fits
+
+module _ (queue : ℕ) (s : State) (port : Port) (n word : ℕ) (small : queue < 128) (sound : IsSound s) where
+  abbrev t : State
+  t = after s (event.Write port n word)
+
+  -- a register of one side is none of the other's
+  other_left : (d : Dir) (row : RowId) → NamesRow s port n row queue → asks_reset (row_of row).kind word ≡ false
+      → asks_pool_reset (row_of row).kind word ≡ false → owner_of (place row queue) ≡ owner.Side d queue
+      → LeavesSide (across d) queue s t
+  other_left Rx row names none none_pool own =
+      transmit_left queue s t
+      ((write_rest s port n word (place row queue) 0xFFFFFFFF names none none_pool).transmit queue (λ e. cc))
+  other_left Tx row names none none_pool own =
+      receive_left queue s t
+      ((write_rest s port n word (place row queue) 0xFFFFFFFF names none none_pool).receive queue (λ e. cc))
+
+pub words_taken : (dir : Dir) → WordsAreTaken dir
+words_taken dir queue s port n word row small sound off fits names =
+    let (own, apart, plain, none, none_pool, of, only) = driven dir row word fits in record {
+      side =
+          ap (side_of dir queue) (wrote queue s port n word row names (only queue s))
+          ∙ side_taken queue s small sound dir off row word fits;
+      other = other_left queue s port n word small sound dir row names none none_pool (of queue);
+      ground = ground queue s port n word row names plain;
+    }

@@ -1,5 +1,0 @@
-use Rattle.start_laws.proofs.Filling.{faults_are_early_or_filling, filling_begins_well, no_fault_is_early}
-use Rattle.start_laws.proofs.faults_at_a_start_come_filling.Goals as goal
-
-pub returns : goal.returns
-returns c = record { cases = faults_are_early_or_filling; early = no_fault_is_early; filling = filling_begins_well }

@@ -1,5 +1,0 @@
-use Rattle.start_laws.proofs.Switching.{fresh_receive_agrees, fresh_transmit_agrees}
-use Rattle.start_laws.proofs.fresh_sides_agree.Goals as goal
-
-pub returns : goal.returns
-returns c = record { receive = fresh_receive_agrees; transmit = fresh_transmit_agrees }

@@ -1,5 +1,0 @@
-use Rattle.start_laws.proofs.Laid.{laid_queue_is_silent as law}
-use Rattle.start_laws.proofs.laid_queue_is_silent.Goals as goal
-
-pub returns : goal.returns
-returns c = law

@@ -1,5 +1,0 @@
-use Rattle.start_laws.proofs.Standing.{standing_sides_are_left as law}
-use Rattle.start_laws.proofs.standing_sides_are_left.Goals as goal
-
-pub returns : goal.returns
-returns c = law

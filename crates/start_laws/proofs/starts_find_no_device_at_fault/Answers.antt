@@ -1,5 +1,0 @@
-use Rattle.start_laws.proofs.Filling.{receive_is_ready, switching_is_never_stray, transmit_is_ready}
-use Rattle.start_laws.proofs.starts_find_no_device_at_fault.Goals as goal
-
-pub returns : goal.returns
-returns c = record { receive = receive_is_ready; transmit = transmit_is_ready; switch = switching_is_never_stray }

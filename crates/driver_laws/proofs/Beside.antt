@@ -16,7 +16,7 @@ use Rattle.nic_device.specs.declared.event.Port.TheVariants.{Pf, Vf}
 use Rattle.pmd.proofs.Apart.{both_apart}
 use Rattle.pmd.proofs.Followed.{both_own, both_played, others_own, others_played, own_length}
 use Rattle.pmd.specs.Halves.{OthersStep}
-use Rattle.receive_laws.proofs.Delivering.{calls_other, calls_own}
+use Rattle.ring_laws.proofs.Delivering.{calls_other, calls_own}
 use Rattle.driver_laws.specs.Beside.{AddsHarmless, AreHarmless, CallsAddHarmless, DrivesLead, HarmlessLead}
 use Rattle.driver_laws.specs.Beside.{HarmlessLeaveAlone, Leads, LeadsOn, OthersHarmless, StepsAddHarmless, is_harmless}
 use Rattle.driver_laws.specs.Beside.{spares_all}

@@ -16,7 +16,7 @@ use Rattle.nic_device.specs.declared.event.Reply.TheVariants as reply
 use Rattle.pmd.specs.PmdSeam.QueueMade.{IsOtherwise, IsStrayRead, IsStrayWrite, StopsBy}
 use Rattle.pmd.specs.PmdSeam.Sides.{PollsEnd}
 use Rattle.pmd.specs.Starting.{GoingOnFails}
-use Rattle.receive_laws.proofs.HistoryLaws.Lent.{anew_is_done}
+use Rattle.ring_laws.proofs.HistoryLaws.Lent.{anew_is_done}
 use Rattle.driver_laws.specs.Faultless.{Never, NoneIsLent, ReceiveIsReady, SwitchingIsNeverStray, TransmitIsReady}
 use Rattle.driver_laws.specs.Filling.{FaultsAreEarlyOrFilling, FaultsEarly, FaultsFilling, FillingBeginsWell}
 use Rattle.driver_laws.specs.Filling.{NoFaultIsEarly}

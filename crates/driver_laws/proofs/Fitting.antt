@@ -26,26 +26,26 @@ use Rattle.pmd.specs.PmdRx.Receive as receiving
 use Rattle.pmd.specs.PmdRx.Receive.{is_part, looked, moved, parts_first, posts_all, posts_one, saw, tail_behind, took}
 use Rattle.pmd.specs.PmdRx.declared.ring.Told.{Told}
 use Rattle.pmd.specs.PmdTx.Sending as sending
-use Rattle.receive_laws.proofs.Begun.{begun_stays}
-use Rattle.receive_laws.proofs.DeviceLaws.KeptSettings.{settings_stand}
-use Rattle.receive_laws.proofs.Fitting.{frames_stay_fitting, none_begun_while_off}
-use Rattle.receive_laws.proofs.Own as receive
-use Rattle.receive_laws.proofs.HistoryLaws.Deeds.{receiving_did}
-use Rattle.receive_laws.proofs.HistoryLaws.Leaving.{left-setting}
-use Rattle.receive_laws.proofs.HistoryLaws.Lent.{only_lent_stays}
-use Rattle.receive_laws.proofs.HistoryLaws.Written.{place_in, place_named}
-use Rattle.receive_laws.proofs.Lent as receive_lent
-use Rattle.receive_laws.proofs.Fitting.{frames_fit}
-use Rattle.receive_laws.specs.Delivered.{gathered, goes_on}
-use Rattle.receive_laws.specs.Fitting.{AreFitting, ResetsNoPool, begun_on}
-use Rattle.receive_laws.specs.HistoryLaws.Left.{Deed, Rested, Took}
-use Rattle.receive_laws.specs.HistoryLaws.Lent.{LendsOwn, with_lent}
-use Rattle.receive_laws.specs.Pieces.{AllFit}
-use Rattle.receive_laws.specs.Up.{IsUp}
-use Rattle.transmit_laws.proofs.Playing as transmit
-use Rattle.transmit_laws.proofs.Lent as transmit_lent
-use Rattle.transmit_laws.specs.Healthy.{LendsAnew}
-use Rattle.transmit_laws.specs.Lent.{SparesNumbers}
+use Rattle.ring_laws.proofs.Begun.{begun_stays}
+use Rattle.ring_laws.proofs.DeviceLaws.KeptSettings.{settings_stand}
+use Rattle.ring_laws.proofs.Fitting.{frames_stay_fitting, none_begun_while_off}
+use Rattle.ring_laws.proofs.Own as receive
+use Rattle.ring_laws.proofs.HistoryLaws.Deeds.{receiving_did}
+use Rattle.ring_laws.proofs.HistoryLaws.Leaving.{left-setting}
+use Rattle.ring_laws.proofs.HistoryLaws.Lent.{only_lent_stays}
+use Rattle.ring_laws.proofs.HistoryLaws.Written.{place_in, place_named}
+use Rattle.ring_laws.proofs.ReceiveLent as receive_lent
+use Rattle.ring_laws.proofs.Fitting.{frames_fit}
+use Rattle.ring_laws.specs.Delivered.{gathered, goes_on}
+use Rattle.ring_laws.specs.Fitting.{AreFitting, ResetsNoPool, begun_on}
+use Rattle.ring_laws.specs.HistoryLaws.Left.{Deed, Rested, Took}
+use Rattle.ring_laws.specs.HistoryLaws.Lent.{LendsOwn, with_lent}
+use Rattle.ring_laws.specs.Pieces.{AllFit}
+use Rattle.ring_laws.specs.ReceiveUp.{IsUp}
+use Rattle.ring_laws.proofs.Playing as transmit
+use Rattle.ring_laws.proofs.TransmitLent as transmit_lent
+use Rattle.ring_laws.specs.TransmitHealthy.{LendsAnew}
+use Rattle.ring_laws.specs.TransmitLent.{SparesNumbers}
 use Rattle.driver_laws.specs.Before.{AreShort, FramesStayShortAlong, OnlyPassLent}
 use Rattle.driver_laws.specs.Healthy as healthy
 use Rattle.driver_laws.specs.Healthy.{IsHealthy}

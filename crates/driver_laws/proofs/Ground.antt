@@ -22,11 +22,11 @@ use Rattle.nic_device.specs.declared.event.Event.TheVariants as event
 use Rattle.nic_device.specs.declared.event.Reply.TheVariants as reply
 use Rattle.pmd.specs.PmdSeam.Named.{offset_of, queues_named}
 use Rattle.pmd.specs.Started.{has_room}
-use Rattle.receive_laws.proofs.DeviceLaws.KeptSettings.{settings_stand}
-use Rattle.receive_laws.proofs.DeviceLaws.Standing.{stays_within}
-use Rattle.receive_laws.proofs.HistoryLaws.Steady.{told_on}
-use Rattle.receive_laws.proofs.HistoryLaws.Deeds.{left_did}
-use Rattle.receive_laws.specs.DeviceLaws.Laws.{WritesNoSetting}
+use Rattle.ring_laws.proofs.DeviceLaws.KeptSettings.{settings_stand}
+use Rattle.ring_laws.proofs.DeviceLaws.Standing.{stays_within}
+use Rattle.ring_laws.proofs.HistoryLaws.Steady.{told_on}
+use Rattle.ring_laws.proofs.HistoryLaws.Deeds.{left_did}
+use Rattle.ring_laws.specs.DeviceLaws.Laws.{WritesNoSetting}
 use Rattle.driver_laws.specs.Gate.{NamedQueuesPass}
 use Rattle.driver_laws.specs.Numbers.{NamedQueueHasTheNumbers, NumbersName, queue_at, queue_in}
 use Rattle.driver_laws.specs.Replies.{NamedRegistersReply, OffSidesAreSeenOff}

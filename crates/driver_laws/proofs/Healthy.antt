@@ -11,8 +11,8 @@ use Rattle.driver_laws.specs.Prelude.{call_in, call_of, calls_of, doers_other, i
 use Rattle.device_lock.proofs.Histories.{events_before}
 use Rattle.pmd.proofs.Apart.{both_apart, step_apart}
 use Rattle.pmd.specs.Apart.{is_healthy}
-use Rattle.receive_laws.specs.Fitting.{AreFitting}
-use Rattle.receive_laws.specs.Up.{IsUp}
+use Rattle.ring_laws.specs.Fitting.{AreFitting}
+use Rattle.ring_laws.specs.ReceiveUp.{IsUp}
 use Rattle.driver_laws.specs.Before.{OnlyPassLends}
 use Rattle.driver_laws.specs.Faults.{NoFault, doers_of}
 use Rattle.driver_laws.specs.Healthy as healthy

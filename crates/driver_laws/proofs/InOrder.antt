@@ -14,20 +14,20 @@ use Rattle.device_lock.proofs.Histories.{events_behind, leads-append, legal_behi
 use Rattle.nic_device.specs.declared.event.Event.TheVariants as event
 use Rattle.nic_device.specs.declared.event.Reply.TheVariants as reply
 use Rattle.pmd.specs.PmdSeam.Packet.{Kept}
-use Rattle.receive_laws.proofs.Delivering.{between, grows, lent_behind, pieces-append, since-append}
-use Rattle.receive_laws.proofs.HistoryLaws.Alone.{alone_by_entries}
-use Rattle.receive_laws.proofs.HistoryLaws.Steady.{not_again}
-use Rattle.receive_laws.proofs.Lent.{LendsMine}
-use Rattle.receive_laws.proofs.Delivering.{all_taken, drained, handed_first}
-use Rattle.receive_laws.specs.Delivered as receive
-use Rattle.receive_laws.specs.Delivered.{IsPrefixOf}
-use Rattle.receive_laws.specs.HistoryLaws.Alone.{AllAlone}
-use Rattle.receive_laws.specs.Pieces.{packets_of}
-use Rattle.receive_laws.specs.Up as received
-use Rattle.transmit_laws.proofs.Counting.{sent_is_counted}
-use Rattle.transmit_laws.proofs.Runs.{first_sent, idle-all, sent_in-append, waiting-left}
-use Rattle.transmit_laws.specs.Laws as transmit
-use Rattle.transmit_laws.specs.Laws.{FindsWaiting}
+use Rattle.ring_laws.proofs.Delivering.{between, grows, lent_behind, pieces-append, since-append}
+use Rattle.ring_laws.proofs.HistoryLaws.Alone.{alone_by_entries}
+use Rattle.ring_laws.proofs.HistoryLaws.Steady.{not_again}
+use Rattle.ring_laws.proofs.ReceiveLent.{LendsMine}
+use Rattle.ring_laws.proofs.Delivering.{all_taken, drained, handed_first}
+use Rattle.ring_laws.specs.Delivered as receive
+use Rattle.ring_laws.specs.Delivered.{IsPrefixOf}
+use Rattle.ring_laws.specs.HistoryLaws.Alone.{AllAlone}
+use Rattle.ring_laws.specs.Pieces.{packets_of}
+use Rattle.ring_laws.specs.ReceiveUp as received
+use Rattle.ring_laws.proofs.Counting.{sent_is_counted}
+use Rattle.ring_laws.proofs.Runs.{first_sent, idle-all, sent_in-append, waiting-left}
+use Rattle.ring_laws.specs.Laws as transmit
+use Rattle.ring_laws.specs.Laws.{FindsWaiting}
 use Rattle.driver_laws.specs.Agreeing.{AreLent, BothAgree}
 use Rattle.driver_laws.specs.Histories.{IsDriven, NoneIsAllBefore, OthersLeaveAlone, doer_of, doers_after}
 use Rattle.driver_laws.specs.Waiting.{WaitingIsNotAll}

@@ -14,11 +14,11 @@ use Rattle.nic_device.specs.RegisterFile.Access.{asks_pool_reset, asks_reset}
 use Rattle.nic_device.specs.RegisterFile.Owner.{owner_of}
 use Rattle.nic_device.specs.RegisterFile.declared.owner.Owner.TheVariants as owner
 use Rattle.nic_device.specs.declared.event.Event.TheVariants as event
-use Rattle.receive_laws.proofs.DeviceLaws.StandingAccesses.{write_rest}
-use Rattle.receive_laws.proofs.HistoryLaws.Steady.{asked}
-use Rattle.receive_laws.proofs.HistoryLaws.Leaving.{transmit_left}
-use Rattle.receive_laws.proofs.HistoryLaws.Steady.{IsIdle, idle_steady, none_staged}
-use Rattle.transmit_laws.specs.Sent.{sent_in}
+use Rattle.ring_laws.proofs.DeviceLaws.StandingAccesses.{write_rest}
+use Rattle.ring_laws.proofs.HistoryLaws.Steady.{asked}
+use Rattle.ring_laws.proofs.HistoryLaws.Leaving.{transmit_left}
+use Rattle.ring_laws.proofs.HistoryLaws.Steady.{IsIdle, idle_steady, none_staged}
+use Rattle.ring_laws.specs.Sent.{sent_in}
 use Rattle.driver_laws.specs.Laid.{Empty, Headed, Laid, LaidQueueIsSilent, Lays, LaysOn, MayAsk, MayLay, MayRing, Off}
 use Rattle.driver_laws.specs.Laid.{Sized, laid_by}
 use Rattle.driver_laws.specs.Standing.{IsLeft}

@@ -14,13 +14,13 @@ use Rattle.pmd.specs.PmdRx.Receive.{Layout, block_at, reach}
 use Rattle.pmd.specs.PmdRx.declared.ring.Stage.{Stage}
 use Rattle.pmd.specs.PmdRx.declared.ring.Stage.TheVariants.{Lent}
 use Rattle.pmd.specs.PmdTx.Sending.{IsOwn, moved}
-use Rattle.receive_laws.proofs.DeviceLaws.Standing.{memory_blocks}
-use Rattle.receive_laws.proofs.Kept.{each_map}
-use Rattle.receive_laws.proofs.Lent.{LendsMine, mine_driven}
-use Rattle.receive_laws.specs.Joint.{HasSlots, StageHolds}
-use Rattle.receive_laws.specs.Steps.{Each, IfFresh}
-use Rattle.transmit_laws.proofs.Lent.{mine-moved}
-use Rattle.transmit_laws.specs.Alone.{LendsOneOf}
+use Rattle.ring_laws.proofs.DeviceLaws.Standing.{memory_blocks}
+use Rattle.ring_laws.proofs.Kept.{each_map}
+use Rattle.ring_laws.proofs.ReceiveLent.{LendsMine, mine_driven}
+use Rattle.ring_laws.specs.Joint.{HasSlots, StageHolds}
+use Rattle.ring_laws.specs.Steps.{Each, IfFresh}
+use Rattle.ring_laws.proofs.TransmitLent.{mine-moved}
+use Rattle.ring_laws.specs.Alone.{LendsOneOf}
 
 fresh_both : (stage : Stage) (P Q : ℕ → Type 0) → IfFresh stage P → IfFresh stage Q → IfFresh stage (λ b. P b × Q b)
 fresh_both (Lent b) P Q p q = (p, q)

@@ -1,7 +1,6 @@
 pub use Rattle.device_lock.proofs.Histories
-pub use Rattle.receive_laws.proofs as ReceiveLaws
-pub use Rattle.receive_laws.proofs.HistoryLaws
-pub use Rattle.transmit_laws.proofs as TransmitLaws
+pub use Rattle.ring_laws.proofs as RingLaws
+pub use Rattle.ring_laws.proofs.HistoryLaws
 pub mod AllAre
 pub mod Beside
 pub mod Ending

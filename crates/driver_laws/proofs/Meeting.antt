@@ -16,31 +16,31 @@ use Rattle.nic_device.specs.declared.event.Event.TheVariants as event
 use Rattle.pmd.specs.PmdRx.Receive as receiving
 use Rattle.pmd.specs.PmdTx.Sending as sending
 use Rattle.pmd.specs.PmdTx.Sending.{moved}
-use Rattle.receive_laws.proofs.Delivering.{vfs_stays}
-use Rattle.receive_laws.proofs.DeviceLaws.KeptSettings.{settings_stand}
-use Rattle.receive_laws.proofs.DeviceLaws.Standing.{stays_within}
-use Rattle.receive_laws.proofs.DeviceLaws.StandingAccesses.{write_memory, write_rest}
-use Rattle.receive_laws.proofs.Kept.{each_of}
-use Rattle.receive_laws.proofs.Foreign.{left_keeps}
-use Rattle.receive_laws.proofs.HistoryLaws.Steady.{asked}
-use Rattle.receive_laws.proofs.HistoryLaws.Leaving.{plain-write}
-use Rattle.receive_laws.proofs.HistoryLaws.Alone.{histories_sound}
-use Rattle.receive_laws.proofs.Leaving.{leaving_keeps, switching_keeps}
-use Rattle.receive_laws.proofs.Lent.{LendsMine, mine_driven}
-use Rattle.receive_laws.proofs.Own.{own_keeps}
-use Rattle.receive_laws.proofs.Foreign.{alone_stays_up, left_up, own_stays_up}
-use Rattle.receive_laws.specs.HistoryLaws.Left.{IsLeft}
-use Rattle.receive_laws.specs.HistoryLaws.Sides.{Side}
-use Rattle.receive_laws.specs.Up as received
-use Rattle.transmit_laws.proofs.Off.{enable_words_keep as transmit_word_keeps}
-use Rattle.transmit_laws.proofs.Runs.{left_alone_is_spared}
-use Rattle.transmit_laws.proofs.Lent.{mine-moved}
-use Rattle.transmit_laws.proofs.Playing.{moves_keep}
-use Rattle.transmit_laws.proofs.Sparing.{sparing_events_keep}
-use Rattle.transmit_laws.proofs.Playing.{up_stays}
-use Rattle.transmit_laws.specs.Agreeing.{Agrees}
-use Rattle.transmit_laws.specs.Sparing.{Spares}
-use Rattle.transmit_laws.specs.Turns.{MayMove}
+use Rattle.ring_laws.proofs.Delivering.{vfs_stays}
+use Rattle.ring_laws.proofs.DeviceLaws.KeptSettings.{settings_stand}
+use Rattle.ring_laws.proofs.DeviceLaws.Standing.{stays_within}
+use Rattle.ring_laws.proofs.DeviceLaws.StandingAccesses.{write_memory, write_rest}
+use Rattle.ring_laws.proofs.Kept.{each_of}
+use Rattle.ring_laws.proofs.Foreign.{left_keeps}
+use Rattle.ring_laws.proofs.HistoryLaws.Steady.{asked}
+use Rattle.ring_laws.proofs.HistoryLaws.Leaving.{plain-write}
+use Rattle.ring_laws.proofs.HistoryLaws.Alone.{histories_sound}
+use Rattle.ring_laws.proofs.Leaving.{leaving_keeps, switching_keeps}
+use Rattle.ring_laws.proofs.ReceiveLent.{LendsMine, mine_driven}
+use Rattle.ring_laws.proofs.Own.{own_keeps}
+use Rattle.ring_laws.proofs.Foreign.{alone_stays_up, left_up, own_stays_up}
+use Rattle.ring_laws.specs.HistoryLaws.Left.{IsLeft}
+use Rattle.ring_laws.specs.HistoryLaws.Sides.{Side}
+use Rattle.ring_laws.specs.ReceiveUp as received
+use Rattle.ring_laws.proofs.Off.{enable_words_keep as transmit_word_keeps}
+use Rattle.ring_laws.proofs.Runs.{left_alone_is_spared}
+use Rattle.ring_laws.proofs.TransmitLent.{mine-moved}
+use Rattle.ring_laws.proofs.Playing.{moves_keep}
+use Rattle.ring_laws.proofs.Sparing.{sparing_events_keep}
+use Rattle.ring_laws.proofs.Playing.{up_stays}
+use Rattle.ring_laws.specs.Agreeing.{Agrees}
+use Rattle.ring_laws.specs.Sparing.{Spares}
+use Rattle.ring_laws.specs.Turns.{MayMove}
 use Rattle.driver_laws.specs.Agreeing.{AreLent, BothAgree}
 use Rattle.driver_laws.specs.Enabling.{EnableWordsKeep}
 use Rattle.driver_laws.specs.Histories.{IsDriven}

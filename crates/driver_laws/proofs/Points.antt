@@ -12,9 +12,9 @@ use Rattle.driver_laws.specs.Prelude.{zero_block}
 use Rattle.driver_laws.proofs.Prelude.{AtEntries, IsAlong, IsKept, Leads, Sides, after_accesses, and_one}
 use Rattle.nic_device.specs.declared.event.Event.TheVariants as event
 use Rattle.nic_device.specs.declared.event.Reply.TheVariants as reply
-use Rattle.receive_laws.proofs.Delivering.{since-append}
-use Rattle.receive_laws.specs.Pieces.{Piece}
-use Rattle.transmit_laws.proofs.Counting.{sent_is_counted}
+use Rattle.ring_laws.proofs.Delivering.{since-append}
+use Rattle.ring_laws.specs.Pieces.{Piece}
+use Rattle.ring_laws.proofs.Counting.{sent_is_counted}
 use Rattle.driver_laws.specs.Points.{AccessesLead, AllMay, IsEnable, May, Point, after_access, seen_by}
 use Rattle.driver_laws.specs.Standing.{Stand}
 use Rattle.driver_laws.specs.Unused.{AreUnused}

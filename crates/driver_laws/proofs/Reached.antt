@@ -11,9 +11,9 @@ use Rattle.driver_laws.proofs.Prelude.{calls_other, calls_own}
 use Rattle.device_lock.proofs.Histories.{events_before, events_behind, leads-append, legal_behind}
 use Rattle.device_lock.specs.Alone.{EntryLeavesAlone, WritesOutside}
 use Rattle.device_lock.specs.History.{AreEvents, IsLegal}
-use Rattle.receive_laws.proofs.Foreign.{no_registers}
-use Rattle.receive_laws.proofs.Delivering.{vfs_stays}
-use Rattle.receive_laws.proofs.HistoryLaws.Alone.{histories_sound}
+use Rattle.ring_laws.proofs.Foreign.{no_registers}
+use Rattle.ring_laws.proofs.Delivering.{vfs_stays}
+use Rattle.ring_laws.proofs.HistoryLaws.Alone.{histories_sound}
 use Rattle.driver_laws.specs.Along.{CallsLead}
 use Rattle.driver_laws.specs.Ending.{Each}
 use Rattle.driver_laws.specs.Faultless.{Never}

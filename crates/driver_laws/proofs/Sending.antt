@@ -24,30 +24,30 @@ use Rattle.pmd.proofs.PmdSeam.Rings.{each_ring_block, slot_block, slot_lies}
 use Rattle.pmd.specs.PmdRx.Receive as receiving
 use Rattle.pmd.specs.PmdRx.Receive.{MovesNext, NamesNext, TakesNext, block_at, fresh_of, reach, vacant}
 use Rattle.pmd.specs.PmdTx.Sending.{IsOwn, Segment, blocks_of, descriptor_at, no_segment, segment_at, slot_at}
-use Rattle.receive_laws.proofs.DeviceLaws.KeptSettings.{settings_stand}
-use Rattle.receive_laws.proofs.DeviceLaws.RepliesSent.{transmitting_tells}
-use Rattle.receive_laws.proofs.DeviceLaws.Standing.{memory_blocks, memory_rest, stays_within}
-use Rattle.receive_laws.proofs.DeviceLaws.StandingAccesses.{write_memory, write_rest}
-use Rattle.receive_laws.proofs.DeviceLaws.StandingQueues.{receiving_rest}
-use Rattle.receive_laws.proofs.Kept.{each_map, each_posted}
-use Rattle.receive_laws.proofs.HistoryLaws.Blocks.{clear_outside}
-use Rattle.receive_laws.proofs.HistoryLaws.Blocks.{reported}
-use Rattle.receive_laws.proofs.HistoryLaws.Leaving.{plain-write}
-use Rattle.receive_laws.proofs.HistoryLaws.Blocks.{IsSparedBy, spared_block}
-use Rattle.receive_laws.proofs.Foreign.{piece_inside}
-use Rattle.receive_laws.proofs.Kept.{slot_below}
-use Rattle.receive_laws.proofs.Parts.{seen_within}
-use Rattle.receive_laws.specs.DeviceLaws.Leaving.{LeavesReceive, LeavesTransmit}
-use Rattle.receive_laws.specs.DeviceLaws.Replies.{report_of}
-use Rattle.receive_laws.specs.Joint.{Holds, IsNamed}
-use Rattle.receive_laws.specs.Steps.{Each, IsOutside, Leaves, OwnReportsSpare}
-use Rattle.transmit_laws.proofs.Advancing.{setting_kept}
-use Rattle.transmit_laws.proofs.Blocks.{has_lent-ring, has_lent-segment}
-use Rattle.transmit_laws.proofs.Fetching.{length-asking}
-use Rattle.transmit_laws.proofs.Blocks.{slot-below}
-use Rattle.transmit_laws.proofs.Fetching.{head_is}
-use Rattle.transmit_laws.specs.Agreeing.{AgreesAt}
-use Rattle.transmit_laws.specs.Sparing.{Spares}
+use Rattle.ring_laws.proofs.DeviceLaws.KeptSettings.{settings_stand}
+use Rattle.ring_laws.proofs.DeviceLaws.RepliesSent.{transmitting_tells}
+use Rattle.ring_laws.proofs.DeviceLaws.Standing.{memory_blocks, memory_rest, stays_within}
+use Rattle.ring_laws.proofs.DeviceLaws.StandingAccesses.{write_memory, write_rest}
+use Rattle.ring_laws.proofs.DeviceLaws.StandingQueues.{receiving_rest}
+use Rattle.ring_laws.proofs.Kept.{each_map, each_posted}
+use Rattle.ring_laws.proofs.HistoryLaws.Blocks.{clear_outside}
+use Rattle.ring_laws.proofs.HistoryLaws.Blocks.{reported}
+use Rattle.ring_laws.proofs.HistoryLaws.Leaving.{plain-write}
+use Rattle.ring_laws.proofs.HistoryLaws.Blocks.{IsSparedBy, spared_block}
+use Rattle.ring_laws.proofs.Foreign.{piece_inside}
+use Rattle.ring_laws.proofs.Kept.{slot_below}
+use Rattle.ring_laws.proofs.Parts.{seen_within}
+use Rattle.ring_laws.specs.DeviceLaws.Leaving.{LeavesReceive, LeavesTransmit}
+use Rattle.ring_laws.specs.DeviceLaws.Replies.{report_of}
+use Rattle.ring_laws.specs.Joint.{Holds, IsNamed}
+use Rattle.ring_laws.specs.Steps.{Each, IsOutside, Leaves, OwnReportsSpare}
+use Rattle.ring_laws.proofs.Advancing.{setting_kept}
+use Rattle.ring_laws.proofs.Blocks.{has_lent-ring, has_lent-segment}
+use Rattle.ring_laws.proofs.Fetching.{length-asking}
+use Rattle.ring_laws.proofs.Blocks.{slot-below}
+use Rattle.ring_laws.proofs.Fetching.{head_is}
+use Rattle.ring_laws.specs.Agreeing.{AgreesAt}
+use Rattle.ring_laws.specs.Sparing.{Spares}
 use Rattle.driver_laws.proofs.Lending.{each_both, lend_leaves}
 
 -- the register of a write of the receive half's

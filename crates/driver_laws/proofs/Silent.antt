@@ -9,12 +9,12 @@ use Rattle.driver_laws.specs.Prelude.{calls_of, is_on, leads_to, lent_by, pieces
 use Rattle.driver_laws.proofs.Prelude.{IsAlong, IsEnding, IsMet, IsQuiet, calls_other, calls_own, idle_silent, left_deed}
 use Rattle.driver_laws.proofs.Prelude.{no_block}
 use Rattle.nic_device.specs.declared.event.Event.TheVariants as event
-use Rattle.receive_laws.proofs.Delivering.{since-append}
-use Rattle.receive_laws.proofs.HistoryLaws.Steady.{not_again, off_idle}
-use Rattle.receive_laws.specs.Delivered.{packets_if_any}
-use Rattle.receive_laws.specs.HistoryLaws.Sides.{IsOff}
-use Rattle.receive_laws.specs.Pieces.{Piece, packets_of}
-use Rattle.transmit_laws.proofs.Counting.{sent_is_counted}
+use Rattle.ring_laws.proofs.Delivering.{since-append}
+use Rattle.ring_laws.proofs.HistoryLaws.Steady.{not_again, off_idle}
+use Rattle.ring_laws.specs.Delivered.{packets_if_any}
+use Rattle.ring_laws.specs.HistoryLaws.Sides.{IsOff}
+use Rattle.ring_laws.specs.Pieces.{Piece, packets_of}
+use Rattle.ring_laws.proofs.Counting.{sent_is_counted}
 use Rattle.driver_laws.specs.Ending.{Each}
 use Rattle.driver_laws.specs.Silent.{IsSilent, QuietQueueIsSilent}
 use Rattle.driver_laws.specs.Standing.{IsLeft}

@@ -13,13 +13,13 @@ use Rattle.nic_device.specs.State.{Waiting}
 use Rattle.nic_device.specs.Step.{step_of}
 use Rattle.nic_device.specs.declared.event.Event.TheVariants as event
 use Rattle.nic_device.specs.declared.event.Reply.TheVariants as reply
-use Rattle.receive_laws.proofs.Begun.{begun_stays}
-use Rattle.receive_laws.proofs.DeviceLaws.StandingAccesses.{read_rest}
-use Rattle.receive_laws.proofs.HistoryLaws.Steady.{told_on}
-use Rattle.receive_laws.proofs.HistoryLaws.Deeds.{left_did}
-use Rattle.receive_laws.proofs.HistoryLaws.Lent.{not_so}
-use Rattle.receive_laws.proofs.HistoryLaws.Leaving.{queues_left}
-use Rattle.receive_laws.proofs.HistoryLaws.Steady.{IsIdle, idle_steady, none_staged}
+use Rattle.ring_laws.proofs.Begun.{begun_stays}
+use Rattle.ring_laws.proofs.DeviceLaws.StandingAccesses.{read_rest}
+use Rattle.ring_laws.proofs.HistoryLaws.Steady.{told_on}
+use Rattle.ring_laws.proofs.HistoryLaws.Deeds.{left_did}
+use Rattle.ring_laws.proofs.HistoryLaws.Lent.{not_so}
+use Rattle.ring_laws.proofs.HistoryLaws.Leaving.{queues_left}
+use Rattle.ring_laws.proofs.HistoryLaws.Steady.{IsIdle, idle_steady, none_staged}
 use Rattle.driver_laws.specs.Moves.{LendStands, MayGoOn, ReadStands, WriteStands, side_seen}
 use Rattle.driver_laws.specs.Standing.{IsZero, Stand, StandingSidesAreLeft, Stands}
 use Rattle.driver_laws.specs.Words.{across}

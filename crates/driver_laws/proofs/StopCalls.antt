@@ -21,7 +21,7 @@ use Rattle.pmd.specs.PmdSeam.Made.{Adds, AddsSome}
 use Rattle.pmd.specs.PmdSeam.QueueMade.{FailsBy, IsOtherwise, IsStrayRead, StopsBy}
 use Rattle.pmd.specs.PmdSeam.Sides.{PollsEnd}
 use Rattle.pmd.specs.PmdSeam.declared.fault.PmdFault.TheVariants as fault
-use Rattle.receive_laws.proofs.HistoryLaws.Alone.{lent_behind}
+use Rattle.ring_laws.proofs.HistoryLaws.Alone.{lent_behind}
 use Rattle.driver_laws.specs.Ending.{Each, IsAsking}
 use Rattle.driver_laws.specs.Stopping.{AreMadeOf, Asks, BringingEnds, Ends, SwitchedOffAsks, UnswitchedAsks}
 use Rattle.driver_laws.proofs.Made.{all_before, all_both, all_missed, all_polled, first_made}

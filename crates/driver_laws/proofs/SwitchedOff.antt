@@ -14,15 +14,15 @@ use Rattle.device_lock.specs.Alone.{WritesOutside}
 use Rattle.nic_device.specs.declared.event.Event.TheVariants as event
 use Rattle.nic_device.specs.declared.event.Reply.TheVariants.{Advanced, Sent, Wrote}
 use Rattle.pmd.proofs.PmdSeam.QueueSequences.{both_made}
-use Rattle.receive_laws.proofs.Foreign.{no_registers}
-use Rattle.receive_laws.proofs.DeviceLaws.Standing.{memory_rest}
-use Rattle.receive_laws.proofs.DeviceLaws.StandingAccesses.{read_rest}
-use Rattle.receive_laws.proofs.Fitting.{none_begun_while_off}
-use Rattle.receive_laws.proofs.HistoryLaws.Leaving.{queues_left}
-use Rattle.receive_laws.proofs.HistoryLaws.Steady as steady
-use Rattle.receive_laws.proofs.HistoryLaws.Steady.{IsSteady, asked, deed_settles, off_steady, seen_off, unwanted_steady}
-use Rattle.receive_laws.specs.HistoryLaws.Left.{Deed}
-use Rattle.receive_laws.specs.HistoryLaws.Sides.{IsOff, IsUnwanted}
+use Rattle.ring_laws.proofs.Foreign.{no_registers}
+use Rattle.ring_laws.proofs.DeviceLaws.Standing.{memory_rest}
+use Rattle.ring_laws.proofs.DeviceLaws.StandingAccesses.{read_rest}
+use Rattle.ring_laws.proofs.Fitting.{none_begun_while_off}
+use Rattle.ring_laws.proofs.HistoryLaws.Leaving.{queues_left}
+use Rattle.ring_laws.proofs.HistoryLaws.Steady as steady
+use Rattle.ring_laws.proofs.HistoryLaws.Steady.{IsSteady, asked, deed_settles, off_steady, seen_off, unwanted_steady}
+use Rattle.ring_laws.specs.HistoryLaws.Left.{Deed}
+use Rattle.ring_laws.specs.HistoryLaws.Sides.{IsOff, IsUnwanted}
 use Rattle.driver_laws.specs.Quiet.{OffSidesStand, ReceiveGuardIsOff}
 use Rattle.driver_laws.specs.Quieting.{QuietSidesStand, QuietingLeads}
 use Rattle.driver_laws.specs.Silent.{SwitchingOffLeads}

@@ -12,8 +12,8 @@ use Rattle.driver_laws.specs.Prelude.{ring_words}
 use Rattle.driver_laws.proofs.Prelude.{Fits, Sides, after_accesses, side_with}
 use Rattle.pmd.proofs.PmdSeam.Rings.{some_blocks}
 use Rattle.pmd.specs.PmdSeam.Frames.{longest_frame, shortest_frame}
-use Rattle.receive_laws.proofs.Kept.{first_place, inside_of}
-use Rattle.receive_laws.proofs.Leaving.{start_agrees}
+use Rattle.ring_laws.proofs.Kept.{first_place, inside_of}
+use Rattle.ring_laws.proofs.Leaving.{start_agrees}
 use Rattle.driver_laws.specs.Moves.{FreshReceiveAgrees, FreshTransmitAgrees, IsSized, fresh_ring, fresh_side, side_seen}
 use Rattle.driver_laws.specs.Points.{AllMay, IsEnable, MayWrite, after_access, seen_by}
 use Rattle.driver_laws.specs.Standing.{IsZero}

@@ -29,15 +29,15 @@ use Rattle.nic_device.specs.Step.{step_of}
 use Rattle.nic_device.specs.Transmit.{staged_by}
 use Rattle.nic_device.specs.declared.event.Event.TheVariants as event
 use Rattle.nic_device.specs.declared.event.Reply.TheVariants.{Done}
-use Rattle.receive_laws.proofs.DeviceLaws.KeptSettings.{settings_stand}
-use Rattle.receive_laws.proofs.DeviceLaws.Standing.{stays_within}
-use Rattle.receive_laws.proofs.DeviceLaws.StandingAccesses.{write_memory, write_rest}
-use Rattle.receive_laws.proofs.HistoryLaws.Leaving.{plain-write}
-use Rattle.receive_laws.proofs.HistoryLaws.Leaving.{receive_left, transmit_left}
-use Rattle.receive_laws.proofs.HistoryLaws.Written.{receive-tail, transmit-tail}
-use Rattle.receive_laws.proofs.HistoryLaws.Written.{merged_all, merged_low}
-use Rattle.receive_laws.specs.DeviceLaws.Laws.{WritesNoSetting}
-use Rattle.receive_laws.specs.HistoryLaws.Sides.{LeavesSide, receive_side, transmit_side}
+use Rattle.ring_laws.proofs.DeviceLaws.KeptSettings.{settings_stand}
+use Rattle.ring_laws.proofs.DeviceLaws.Standing.{stays_within}
+use Rattle.ring_laws.proofs.DeviceLaws.StandingAccesses.{write_memory, write_rest}
+use Rattle.ring_laws.proofs.HistoryLaws.Leaving.{plain-write}
+use Rattle.ring_laws.proofs.HistoryLaws.Leaving.{receive_left, transmit_left}
+use Rattle.ring_laws.proofs.HistoryLaws.Written.{receive-tail, transmit-tail}
+use Rattle.ring_laws.proofs.HistoryLaws.Written.{merged_all, merged_low}
+use Rattle.ring_laws.specs.DeviceLaws.Laws.{WritesNoSetting}
+use Rattle.ring_laws.specs.HistoryLaws.Sides.{LeavesSide, receive_side, transmit_side}
 use Rattle.driver_laws.specs.Words.{KeepsGround, WordsAreTaken, across}
 
 -- what holds of either side holds of each

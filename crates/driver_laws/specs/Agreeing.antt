@@ -1,8 +1,8 @@
 -- What a device and both halves of a driver agree on.
 use Rattle.std.specs.Prelude.{ℕ, ◌≢◌, IsTrue, List}
 use Rattle.driver_laws.specs.Prelude.{Blocks, State, has_lent, Piece, Halves, Agree}
-use Rattle.receive_laws.specs.Steps.{Each}
-use Rattle.transmit_laws.specs.Agreeing.{Agrees}
+use Rattle.ring_laws.specs.Steps.{Each}
+use Rattle.ring_laws.specs.Agreeing.{Agrees}
 
 -- no block is lent by both halves
 abbrev pub AreApart : Halves → Type 0

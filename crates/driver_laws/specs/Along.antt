@@ -3,7 +3,7 @@ use Rattle.std.specs.Prelude.{[], ◌++◌, ◌<◌, ◌∷◌, ◌≡◌, ◌�
 use Rattle.driver_laws.specs.Prelude.{AreSteps, Block, Blocks, Call, Entry, Event, IsEvent, IsSound, State, Watched}
 use Rattle.driver_laws.specs.Prelude.{after, call_in, calls_of, leads_to, lent_by, reply_to}
 use Rattle.device_lock.specs.History.{AreEvents, IsLegal}
-use Rattle.receive_laws.specs.HistoryLaws.Alone.{LeavesAloneFrom}
+use Rattle.ring_laws.specs.HistoryLaws.Alone.{LeavesAloneFrom}
 use Rattle.driver_laws.specs.Moves.{IsMet}
 use Rattle.driver_laws.specs.Standing.{IsLeft}
 

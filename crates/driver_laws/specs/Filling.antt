@@ -5,7 +5,7 @@ use Rattle.driver_laws.specs.Prelude.{Agree, Agrees, AtPort, Call, DeviceFault, 
 use Rattle.driver_laws.specs.Prelude.{Numbers, PreparingFails, Receive, ReceiveFails, Sender, StartRefused, State}
 use Rattle.driver_laws.specs.Prelude.{StopsStarting, SwitchFails, Tx, Watched}
 use Rattle.pmd.specs.PmdRx.Filling.{StopsFilling}
-use Rattle.receive_laws.specs.Up.{IsUp}
+use Rattle.ring_laws.specs.ReceiveUp.{IsUp}
 use Rattle.driver_laws.specs.Along.{AtCalls, IsAlong}
 use Rattle.driver_laws.specs.Faultless.{BeforeNext, Never, NoneIsLent}
 use Rattle.driver_laws.specs.On.{AreOn}

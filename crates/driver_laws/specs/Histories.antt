@@ -2,9 +2,9 @@
 use Rattle.std.specs.Prelude.{◌≡◌, ◌==◌, Bool, true, false, List, [], ◌∷◌, ◌++◌, Some, None, ⊤, IsTrue}
 use Rattle.driver_laws.specs.Prelude.{mode_in, IsSound, State, after, Blocks, LeavesRegisters, LeavesBlocks, lent_by, IsLegal, AreEvents, calls_of, leads_to, Watched, Entry, Elsewhere, delivered, pieces_since, LeavesAloneFrom, bytes_of, sent_in, sent_since, IsUp, Halves, Doer, Sends, AllOwn, is_neither, played_by, records_of, FindsNone, ShowsNone}
 use Rattle.device_lock.specs.Alone.{has_begun}
-use Rattle.receive_laws.specs.Delivered as receive
-use Rattle.receive_laws.specs.Up as receiving
-use Rattle.transmit_laws.specs.Laws as transmit
+use Rattle.ring_laws.specs.Delivered as receive
+use Rattle.ring_laws.specs.ReceiveUp as receiving
+use Rattle.ring_laws.specs.Laws as transmit
 use Rattle.driver_laws.specs.Agreeing.{AreLent, BothAgree}
 
 -- whose an entry is, of the driver's pass or of another, and the doers that are left after it: the entries of the pass

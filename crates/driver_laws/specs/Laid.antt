@@ -4,8 +4,8 @@ use Rattle.driver_laws.specs.Prelude.{AtPort, Block, Call, Entry, Event, IsNumbe
 use Rattle.driver_laws.specs.Prelude.{RowId, Rxdctl, Srrctl, State, Tdbah, Tdbal, Tdh, Tdlen, Tdt, Tdwbal, Txdctl}
 use Rattle.driver_laws.specs.Prelude.{Watched, call_in, calls_of, has_bit, is_driven, leads_to}
 use Rattle.nic_device.specs.declared.event.Event.TheVariants as event
-use Rattle.transmit_laws.specs.Off as transmit
-use Rattle.transmit_laws.specs.Sent.{sent_in}
+use Rattle.ring_laws.specs.Off as transmit
+use Rattle.ring_laws.specs.Sent.{sent_in}
 use Rattle.driver_laws.specs.Along.{IsAlong}
 use Rattle.driver_laws.specs.Points.{HasGround}
 

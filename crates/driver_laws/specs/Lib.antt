@@ -1,7 +1,6 @@
-pub use Rattle.receive_laws.specs as ReceiveLaws
-pub use Rattle.receive_laws.specs.DeviceLaws
-pub use Rattle.receive_laws.specs.HistoryLaws
-pub use Rattle.transmit_laws.specs as TransmitLaws
+pub use Rattle.ring_laws.specs as RingLaws
+pub use Rattle.ring_laws.specs.DeviceLaws
+pub use Rattle.ring_laws.specs.HistoryLaws
 pub mod Agreeing
 pub mod Along
 pub mod Before

@@ -9,7 +9,7 @@ use Rattle.nic_device.specs.declared.event.Event.TheVariants as event
 use Rattle.nic_device.specs.declared.event.Reply.TheVariants as reply
 use Rattle.pmd.specs.PmdRx.Receive as receive
 use Rattle.pmd.specs.PmdTx.Sending as transmit
-use Rattle.receive_laws.specs.Joint.{IsNamed}
+use Rattle.ring_laws.specs.Joint.{IsNamed}
 use Rattle.driver_laws.specs.Standing.{IsZero, Stand, Stands}
 use Rattle.driver_laws.specs.Words.{Fits, NamesRow, side_with}
 

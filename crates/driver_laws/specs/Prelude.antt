@@ -60,20 +60,20 @@ pub use Rattle.pmd.specs.declared.driver.Rings.{Rings}
 pub use Rattle.pmd.specs.declared.driver.Rings.TheVariants.{Down, Up}
 pub use Rattle.pmd.specs.declared.start.Rest.{Rest}
 pub use Rattle.pmd.specs.declared.start.StartRefused.{StartRefused}
-pub use Rattle.receive_laws.specs.Delivered.{delivered, packets_if_any, pieces_in, pieces_since}
-pub use Rattle.receive_laws.specs.DeviceLaws.Laws.{WritesNoSetting}
-pub use Rattle.receive_laws.specs.DeviceLaws.Leaving.{LeavesBlock}
-pub use Rattle.receive_laws.specs.Fitting.{FitsBlocks, begun_on}
-pub use Rattle.receive_laws.specs.Histories.{FindsNone, ShowsNone}
-pub use Rattle.receive_laws.specs.HistoryLaws.Alone.{LeavesAloneFrom}
-pub use Rattle.receive_laws.specs.HistoryLaws.Lent.{LendsNone, OnlyLent, either}
-pub use Rattle.receive_laws.specs.Joint.{Agree}
-pub use Rattle.receive_laws.specs.Pieces.{Piece, pieces}
-pub use Rattle.transmit_laws.specs.Agreeing.{Agrees, bytes_of}
-pub use Rattle.transmit_laws.specs.Sent.{sent_by, sent_in, sent_since}
-pub use Rattle.transmit_laws.specs.Up.{IsUp}
+pub use Rattle.ring_laws.specs.Delivered.{delivered, packets_if_any, pieces_in, pieces_since}
+pub use Rattle.ring_laws.specs.DeviceLaws.Laws.{WritesNoSetting}
+pub use Rattle.ring_laws.specs.DeviceLaws.Leaving.{LeavesBlock}
+pub use Rattle.ring_laws.specs.Fitting.{FitsBlocks, begun_on}
+pub use Rattle.ring_laws.specs.Histories.{FindsNone, ShowsNone}
+pub use Rattle.ring_laws.specs.HistoryLaws.Alone.{LeavesAloneFrom}
+pub use Rattle.ring_laws.specs.HistoryLaws.Lent.{LendsNone, OnlyLent, either}
+pub use Rattle.ring_laws.specs.Joint.{Agree}
+pub use Rattle.ring_laws.specs.Pieces.{Piece, pieces}
+pub use Rattle.ring_laws.specs.Agreeing.{Agrees, bytes_of}
+pub use Rattle.ring_laws.specs.Sent.{sent_by, sent_in, sent_since}
+pub use Rattle.ring_laws.specs.TransmitUp.{IsUp}
 pub use Rattle.nic_device.specs.DmaRing.declared.ring.Ring.{Ring}
 pub use Rattle.nic_device.specs.Receive.{is_empty}
 pub use Rattle.nic_device.specs.RegisterFile.Settings.{frame_limit}
 pub use Rattle.nic_device.specs.declared.event.Port.TheVariants.{Pf, Vf}
-pub use Rattle.receive_laws.specs.HistoryLaws.Sides.{Side, side_of}
+pub use Rattle.ring_laws.specs.HistoryLaws.Sides.{Side, side_of}

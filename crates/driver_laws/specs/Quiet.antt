@@ -4,8 +4,8 @@ use Rattle.driver_laws.specs.Prelude.{Block, Blocks, Event, IsSound, Port, Rx, R
 use Rattle.driver_laws.specs.Prelude.{reply_to, side_of}
 use Rattle.nic_device.specs.declared.event.Event.TheVariants as event
 use Rattle.nic_device.specs.declared.event.Reply.TheVariants as reply
-use Rattle.receive_laws.specs.HistoryLaws.Sides as sides
-use Rattle.transmit_laws.specs.Off as transmit
+use Rattle.ring_laws.specs.HistoryLaws.Sides as sides
+use Rattle.ring_laws.specs.Off as transmit
 use Rattle.driver_laws.specs.Moves.{IsMet}
 use Rattle.driver_laws.specs.Standing.{IsLeft, Stand}
 use Rattle.driver_laws.specs.Words.{NamesRow}

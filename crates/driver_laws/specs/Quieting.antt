@@ -2,7 +2,7 @@
 use Rattle.std.specs.Prelude.{◌&&◌, Bool, IsTrue, List, not, ℕ}
 use Rattle.driver_laws.specs.Prelude.{AreMade, AtPort, Call, Entry, Rx, Side, State, Tx, Watched, both_quiet, lent_by}
 use Rattle.driver_laws.specs.Prelude.{side_of}
-use Rattle.receive_laws.specs.HistoryLaws.Sides.{IsOff}
+use Rattle.ring_laws.specs.HistoryLaws.Sides.{IsOff}
 use Rattle.driver_laws.specs.Along.{AtCalls, BeforeLast, IsAlong}
 use Rattle.driver_laws.specs.Points.{HasGround, Point, Sides}
 

@@ -1,7 +1,7 @@
 -- A queue whose sides were switched off, and what is received and sent there from then on.
 use Rattle.std.specs.Prelude.{[], ◌++◌, ◌≡◌, ◌≢◌, List, false, ℕ}
 use Rattle.driver_laws.specs.Prelude.{AtPort, Call, Entry, IsSwitched, State, Watched, calls_of, sent_since}
-use Rattle.receive_laws.specs.Delivered.{delivered}
+use Rattle.ring_laws.specs.Delivered.{delivered}
 use Rattle.driver_laws.specs.Along.{AtCalls, IsAlong}
 use Rattle.driver_laws.specs.Points.{HasGround}
 use Rattle.driver_laws.specs.Quieting.{IsQuiet}

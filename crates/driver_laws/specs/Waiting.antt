@@ -1,7 +1,7 @@
 -- Before a look that finds a packet waiting not all that the driver accepted was sent.
 use Rattle.std.specs.Prelude.{◌≢◌, List, ◌++◌}
 use Rattle.driver_laws.specs.Prelude.{State, calls_of, leads_to, Watched, Entry, bytes_of, sent_in, Halves, Doer, played_by}
-use Rattle.transmit_laws.specs.Laws.{FindsWaiting}
+use Rattle.ring_laws.specs.Laws.{FindsWaiting}
 use Rattle.driver_laws.specs.Histories.{IsDriven}
 
 -- where a look that comes next finds the oldest outstanding packet not done, what was sent up to any place before isn't

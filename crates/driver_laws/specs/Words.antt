@@ -5,8 +5,8 @@ use Rattle.driver_laws.specs.Prelude.{Rxdctl, Side, Srrctl, State, Tdbah, Tdbal,
 use Rattle.driver_laws.specs.Prelude.{after, frame_limit, has_bit, mode_in, place, side_of}
 use Rattle.nic_device.specs.Named.{named}
 use Rattle.nic_device.specs.declared.event.Event.TheVariants as event
-use Rattle.receive_laws.specs.DeviceLaws.Leaving.{LeavesMemory}
-use Rattle.receive_laws.specs.HistoryLaws.Sides.{LeavesSide}
+use Rattle.ring_laws.specs.DeviceLaws.Leaving.{LeavesMemory}
+use Rattle.ring_laws.specs.HistoryLaws.Sides.{LeavesSide}
 
 -- a ring with another low or high half of its base
 

@@ -1,6 +1,6 @@
 -- The halves as both sides of a queue are on: each has lent its ring's blocks, and no other; and what a driver lends
 -- from there on.
-use Rattle.driver_laws.specs.ReceiveLaws.Steps.{Each}
+use Rattle.driver_laws.specs.RingLaws.Steps.{Each}
 use Rattle.driver_laws.specs.Healthy.{lent_by}
 use Rattle.pmd_laws.proofs.Prelude.{[], ◌++◌, ◌+◌, ◌<◌, ◌∙◌, ◌∷◌, ◌≡◌, ◌≢◌, AreApart, AreLent, AreOn, AtPort, Blocks}
 use Rattle.pmd_laws.proofs.Prelude.{Call, DrivesApart, EachRingBlock, Halves, IsDrawn, IsReceiveReady, IsTransmitReady}

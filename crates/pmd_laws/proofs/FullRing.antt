@@ -3,7 +3,7 @@
 use Rattle.driver_laws.specs.Prelude.{Asks}
 use Rattle.pmd.specs.PmdTx.Sends.{IsFullWhereTold}
 use Rattle.pmd.specs.PmdTx.declared.answer.TxAnswer.TheVariants.{RingFull}
-use Rattle.driver_laws.proofs.TransmitLaws.Packets.{length-segments}
+use Rattle.driver_laws.proofs.RingLaws.Packets.{length-segments}
 use Rattle.pmd_laws.specs.FullRing.{AcceptsNone, TellsFull, outstanding}
 use Rattle.pmd_laws.proofs.Prelude.{[], ◌+◌, ◌<◌, ◌∷◌, ◌≡◌, ◌≤◌, Accepts, Advances, AllOwn, AtPort, Block, Call, Doer}
 use Rattle.pmd_laws.proofs.Prelude.{Down, Drove, Err, Event, Halves, IfSome, IsOwn, IsTold, Leads, Lends, List, Looks}

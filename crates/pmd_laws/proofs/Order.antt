@@ -15,8 +15,8 @@ use Rattle.pmd_laws.proofs.Prelude.{harmless_lead, harmless_leave_alone, idle_is
 use Rattle.pmd_laws.proofs.Prelude.{none_is_all, none_is_all_taken, on, parts, played_by, receiving_drives, records_of}
 use Rattle.pmd_laws.proofs.Prelude.{refl, sent_in, sent_is_prefix, sent_since, subst, sym}
 use Rattle.pmd_laws.specs.Order as order
-use Rattle.driver_laws.specs.ReceiveLaws.Delivered as receive
-use Rattle.driver_laws.specs.TransmitLaws.Laws as transmit
+use Rattle.driver_laws.specs.RingLaws.Delivered as receive
+use Rattle.driver_laws.specs.RingLaws.Laws as transmit
 
 -- from the place on where both sides of a driver's queue are on, a history drives its halves
 module _ {w : Watched} {origin : State} {h : List Entry} {q : AtPort} {size frame : ℕ} {old : List Call} {a : Numbers}

@@ -4,7 +4,7 @@ use Rattle.std.proofs.lemmas.List.Folds.{list_any-append}
 use Rattle.pmd.specs.PmdRx.Keeping.{fresh_block}
 use Rattle.pmd.specs.PmdRx.declared.ring.Stage.{Stage}
 use Rattle.pmd.specs.PmdRx.declared.ring.Stage.TheVariants.{Lent}
-use Rattle.driver_laws.specs.ReceiveLaws.Steps.{Each}
+use Rattle.driver_laws.specs.RingLaws.Steps.{Each}
 use Rattle.driver_laws.proofs.Healthy.{known_along}
 use Rattle.driver_laws.proofs.Lending.{receive_lent}
 use Rattle.driver_laws.proofs.Sending.{sender_lent}

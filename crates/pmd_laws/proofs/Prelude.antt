@@ -77,19 +77,19 @@ pub use Rattle.driver_laws.proofs.HistoryLaws.Leaving.{left-setting, left-side}
 pub use Rattle.driver_laws.proofs.Made.{extends, made_some}
 pub use Rattle.driver_laws.proofs.Parts.{Around, Begins, Parts, around, calls_joined, none_behind, one_begins, parts}
 pub use Rattle.driver_laws.proofs.Reached.{KeptOver, LeadsOver, reached, reached_next, state_kept, state_leads}
-pub use Rattle.driver_laws.proofs.ReceiveLaws.Delivering.{image_stays, since-append, vfs_stays}
-pub use Rattle.driver_laws.proofs.ReceiveLaws.Delivering.{calls_other, calls_own}
+pub use Rattle.driver_laws.proofs.RingLaws.Delivering.{image_stays, since-append, vfs_stays}
+pub use Rattle.driver_laws.proofs.RingLaws.Delivering.{calls_other, calls_own}
 pub use Rattle.driver_laws.proofs.On.{sized}
 pub use Rattle.driver_laws.proofs.SwitchedOff.{IsSettled, Settles, left_settles, word_settles}
 pub use Rattle.driver_laws.proofs.Start.{ground_at, on, on_some, start_goes_on}
 pub use Rattle.driver_laws.proofs.StopCalls.{adds_made, asks_end, none_made, some_made, step_ends, then_made}
-pub use Rattle.driver_laws.proofs.TransmitLaws.Counting.{sent_is_counted}
+pub use Rattle.driver_laws.proofs.RingLaws.Counting.{sent_is_counted}
 pub use Rattle.driver_laws.specs.Along.{AtCalls, AtEntries, IsKept}
 pub use Rattle.driver_laws.specs.Ending.{Each, IsPlain, NamesDriven}
 pub use Rattle.driver_laws.specs.Laid.{Headed, Lays, LaysOn, MayAsk, MayLay, Sized, laid_by}
-pub use Rattle.driver_laws.specs.ReceiveLaws.Steps.{IfFresh}
+pub use Rattle.driver_laws.specs.RingLaws.Steps.{IfFresh}
 pub use Rattle.driver_laws.specs.Stopping.{Asks}
-pub use Rattle.driver_laws.specs.TransmitLaws.Laws.{FindsWaiting, IsPrefixOf}
+pub use Rattle.driver_laws.specs.RingLaws.Laws.{FindsWaiting, IsPrefixOf}
 pub use Rattle.driver_laws.specs.Unused.{WentOn}
 pub use Rattle.driver_laws.proofs.Beside.{drives_lead, harmless_both, harmless_lead, harmless_leave_alone, leads_on}
 pub use Rattle.driver_laws.proofs.Beside.{left, others_harmless, steps_harmless}

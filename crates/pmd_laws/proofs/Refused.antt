@@ -3,7 +3,7 @@
 use Rattle.pmd.specs.PmdSeam.Frames.{is_frame}
 use Rattle.pmd.specs.PmdSeam.declared.fault.PmdFault.TheVariants.{BadSize}
 use Rattle.driver_laws.proofs.Laid.{laid_queue_is_silent}
-use Rattle.driver_laws.specs.TransmitLaws.Sent.{counted_by, goes_on}
+use Rattle.driver_laws.specs.RingLaws.Sent.{counted_by, goes_on}
 use Rattle.pmd_laws.specs.Refused.{LeftOfRefusedIsPrefix, Refused, RefusedSendsNothing}
 use Rattle.pmd_laws.proofs.Laid.{LaysBetween, LaysSome, Stays, first_lays, going_on_fails, lays_behind, lending_stays}
 use Rattle.pmd_laws.proofs.Laid.{lends_stay, receive_fails, receive_ready, stays_between, then_between, words_lay}
@@ -20,8 +20,8 @@ use Rattle.pmd_laws.proofs.Prelude.{sym, then_made, true}
 use Rattle.pmd_laws.proofs.StopCalls.{stopped_ends}
 use Rattle.nic_device.specs.declared.event.Event.TheVariants as event
 use Rattle.pmd.specs.declared.start.Rest.TheVariants as rest
-use Rattle.driver_laws.specs.ReceiveLaws.Delivered as receive
-use Rattle.driver_laws.specs.TransmitLaws.Laws as transmit
+use Rattle.driver_laws.specs.RingLaws.Delivered as receive
+use Rattle.driver_laws.specs.RingLaws.Laws as transmit
 
 module _ (q : AtPort) (size frame : ℕ) (is : is_size size ≡ true) where
   -- the transmit ring isn't prepared

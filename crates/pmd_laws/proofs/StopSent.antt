@@ -2,11 +2,11 @@
 -- sent is in order over its stop and on, and nothing goes on there once both sides are off.
 use Rattle.driver_laws.proofs.Words.{side_driven}
 use Rattle.driver_laws.proofs.Ground.{ground_names}
-use Rattle.driver_laws.proofs.ReceiveLaws.Foreign.{no_registers}
-use Rattle.driver_laws.proofs.ReceiveLaws.Kept.{each_map}
+use Rattle.driver_laws.proofs.RingLaws.Foreign.{no_registers}
+use Rattle.driver_laws.proofs.RingLaws.Kept.{each_map}
 use Rattle.driver_laws.proofs.Silent.{quiet_queue_is_silent}
 use Rattle.driver_laws.proofs.SwitchedOff.{switching_off_leads}
-use Rattle.driver_laws.proofs.TransmitLaws.Runs.{first_sent}
+use Rattle.driver_laws.proofs.RingLaws.Runs.{first_sent}
 use Rattle.driver_laws.specs.Moves.{IsMet}
 use Rattle.driver_laws.specs.Standing.{IsLeft}
 use Rattle.driver_laws.proofs.Meeting.{enable_words_keep}

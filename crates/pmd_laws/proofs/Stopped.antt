@@ -4,10 +4,10 @@ use Rattle.driver_laws.specs.Prelude.{Asks}
 use Rattle.pmd.specs.PmdRx.Receive.{moved}
 use Rattle.pmd.specs.PmdRx.declared.ring.Told.{Told}
 use Rattle.pmd.specs.PmdSeam.Packet.{Kept}
-use Rattle.driver_laws.proofs.ReceiveLaws.DeviceLaws.KeptSettings.{settings_stand}
-use Rattle.driver_laws.proofs.ReceiveLaws.DeviceLaws.Standing.{stays_within}
-use Rattle.driver_laws.specs.ReceiveLaws.Delivered.{IsPrefixOf}
-use Rattle.driver_laws.specs.ReceiveLaws.Pieces.{packet_told, packets_behind}
+use Rattle.driver_laws.proofs.RingLaws.DeviceLaws.KeptSettings.{settings_stand}
+use Rattle.driver_laws.proofs.RingLaws.DeviceLaws.Standing.{stays_within}
+use Rattle.driver_laws.specs.RingLaws.Delivered.{IsPrefixOf}
+use Rattle.driver_laws.specs.RingLaws.Pieces.{packet_told, packets_behind}
 use Rattle.pmd_laws.proofs.Order.{driven, first, handed_of_life, in_parts, life_before, whole}
 use Rattle.pmd_laws.proofs.Prelude.{[], ◌++◌, ◌∙◌, ◌∷◌, ◌≡◌, ◌≢◌, ◌⊎◌, Accepts, Advances, AllOwn, AtEntries, AtPort}
 use Rattle.pmd_laws.proofs.Prelude.{Block, Blocks, Call, Doer, Each, Elsewhere, Entry, Event, Halves, HandedIsPrefix}

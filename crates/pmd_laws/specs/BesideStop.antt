@@ -2,8 +2,8 @@
 use Rattle.std.specs.Prelude.{◌≡◌, List, [], ◌++◌}
 use Rattle.driver_laws.specs.Prelude.{calls_of, Call, Entry, accepted_of, handed_of, delivered, bytes_of, sent_since}
 use Rattle.pmd_laws.specs.Prelude.{Ends, EndsOnceOff, TakesOnceOff, IsSilent}
-use Rattle.driver_laws.specs.ReceiveLaws.Delivered as receive
-use Rattle.driver_laws.specs.TransmitLaws.Laws as transmit
+use Rattle.driver_laws.specs.RingLaws.Delivered as receive
+use Rattle.driver_laws.specs.RingLaws.Laws as transmit
 use Rattle.driver_laws.specs.Retold.{AreSame}
 use Rattle.pmd_laws.specs.Beside.{Beside, now}
 

@@ -3,8 +3,8 @@ use Rattle.std.specs.Prelude.{ℕ, ◌≡◌, List, [], ◌++◌, Option}
 use Rattle.driver_laws.specs.Prelude.{Numbers, State, calls_of, Watched, Call, Entry, left_accepted, left_handed, Rest, PmdFault, AtPort, delivered, bytes_of, sent_since}
 use Rattle.pmd_laws.specs.Prelude.{IsAlong, BeginsWell}
 use Rattle.pmd.specs.Life.{HasLived}
-use Rattle.driver_laws.specs.ReceiveLaws.Delivered as receive
-use Rattle.driver_laws.specs.TransmitLaws.Laws as transmit
+use Rattle.driver_laws.specs.RingLaws.Delivered as receive
+use Rattle.driver_laws.specs.RingLaws.Laws as transmit
 
 -- a driver that lived over a legal history of a sound device that leaves the queue alone, and was stopped
 pub record Ended : Type 0 where

@@ -3,8 +3,8 @@ use Rattle.std.specs.Prelude.{ℕ, ◌≡◌, List, [], ◌∷◌, ◌++◌}
 use Rattle.driver_laws.specs.Prelude.{Numbers, State, calls_of, leads_to, Watched, Call, Entry, left_accepted, left_handed, Rest, StartRefused, AreSteps, AtPort, delivered, bytes_of, sent_in, sent_since}
 use Rattle.pmd_laws.specs.Prelude.{IsAlong, IsQuiet}
 use Rattle.pmd.specs.Life.{NeverLived}
-use Rattle.driver_laws.specs.ReceiveLaws.Delivered as receive
-use Rattle.driver_laws.specs.TransmitLaws.Laws as transmit
+use Rattle.driver_laws.specs.RingLaws.Delivered as receive
+use Rattle.driver_laws.specs.RingLaws.Laws as transmit
 
 -- a driver's start was refused over a legal history of a sound device that leaves the queue alone, up to some place
 -- amid the start and the stop of what it left, or to where these ended

@@ -4,8 +4,8 @@ use Rattle.driver_laws.specs.Prelude.{calls_of, Call, PmdFault, Halted, AtPort, 
 use Rattle.pmd_laws.specs.Prelude.{Ends, TakesOnceOff}
 use Rattle.pmd.specs.Stopping.{StopFails, Stops}
 use Rattle.pmd.specs.declared.home.Home.{Home}
-use Rattle.driver_laws.specs.ReceiveLaws.Delivered as receive
-use Rattle.driver_laws.specs.TransmitLaws.Laws as transmit
+use Rattle.driver_laws.specs.RingLaws.Delivered as receive
+use Rattle.driver_laws.specs.RingLaws.Laws as transmit
 use Rattle.pmd_laws.specs.Life.{Life}
 
 -- behind a life the pass made the calls of a stop, and no others: none writes the queue's enable words with bit 25

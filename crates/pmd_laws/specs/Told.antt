@@ -7,8 +7,8 @@ use Rattle.pmd.specs.Driver.{Driver}
 use Rattle.pmd.specs.Life.{RunsOn, KeepsHalves}
 use Rattle.pmd.specs.Started.{HasStarted}
 use Rattle.pmd.specs.PmdRx.Plays as receiving
-use Rattle.driver_laws.specs.ReceiveLaws.Delivered as receive
-use Rattle.driver_laws.specs.TransmitLaws.Laws as transmit
+use Rattle.driver_laws.specs.RingLaws.Delivered as receive
+use Rattle.driver_laws.specs.RingLaws.Laws as transmit
 use Rattle.driver_laws.specs.Beside.{AddsHarmless}
 use Rattle.pmd_laws.specs.Looks.{EndsAt}
 

@@ -4,7 +4,7 @@ use Rattle.nic_device.specs.Step.{step_of}
 use Rattle.nic_device.specs.declared.event.Reply.TheVariants.{Buf}
 use Rattle.workers.specs.Before.{known_through}
 use Rattle.workers.specs.Lending.{lent_behind, no_block, takes}
-use Rattle.pmd_laws.specs.DriverLaws.ReceiveLaws.HistoryLaws.Lent.{with_lent, without}
+use Rattle.pmd_laws.specs.DriverLaws.RingLaws.HistoryLaws.Lent.{with_lent, without}
 use Rattle.pmd_laws.proofs.Prelude.{[], ◌&&◌, ◌<◌, ◌==◌, ◌||◌, ◌∷◌, ◌≡◌, AreEvents, Block, Blocks, Entry, Event}
 use Rattle.pmd_laws.proofs.Prelude.{IsEvent, IsLegal, List, OnlyLent, Reply, State, ℕ, after, and_from, and_parts, ap}
 use Rattle.pmd_laws.proofs.Prelude.{both_ways, eq-eqb, eqb-true, false, has_block, inl, inr, is_some, leads_to, lends}

@@ -16,8 +16,8 @@ use Rattle.pmd_laws.proofs.StopCalls.{stopped_ends}
 use Rattle.worker_laws.specs.Points.{JustBefore}
 use Rattle.worker_laws.proofs.Counted.{delivered_from, sent_from}
 use Rattle.worker_laws.proofs.FirstCalls.{FirstCall, before_first, first_read, more_behind}
-use Rattle.pmd_laws.specs.DriverLaws.ReceiveLaws.Delivered as receive
-use Rattle.pmd_laws.specs.DriverLaws.TransmitLaws.Laws as transmit
+use Rattle.pmd_laws.specs.DriverLaws.RingLaws.Delivered as receive
+use Rattle.pmd_laws.specs.DriverLaws.RingLaws.Laws as transmit
 
 -- some calls were made
 abbrev GoesOn : List Call → List Call → Type 0

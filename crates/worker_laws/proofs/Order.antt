@@ -21,8 +21,8 @@ use Rattle.worker_laws.proofs.FirstCalls.{calls_from, starts_more}
 use Rattle.worker_laws.proofs.Lived.{handed_since, sent_on, starts}
 use Rattle.worker_laws.proofs.Settings.{ground_there, named_below}
 use Rattle.pmd.specs.declared.start.Rest.TheVariants as rest
-use Rattle.pmd_laws.specs.DriverLaws.ReceiveLaws.Delivered as receive
-use Rattle.pmd_laws.specs.DriverLaws.TransmitLaws.Laws as transmit
+use Rattle.pmd_laws.specs.DriverLaws.RingLaws.Delivered as receive
+use Rattle.pmd_laws.specs.DriverLaws.RingLaws.Laws as transmit
 
 isnt_none : {A : Type 0} (xs : List A) (x : A) (more : List A) → xs ++ x ∷ more ≢ []
 isnt_none [] x more is = cc

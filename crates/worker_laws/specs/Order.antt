@@ -2,8 +2,8 @@
 use Rattle.std.specs.Prelude.{ℕ, ◌≡◌, ◌⊎◌, ◌<◌, ◌≤◌, List, [], ◌∷◌, ◌++◌, length, Contains, None}
 use Rattle.pmd_laws.specs.DriverLaws.Prelude.{new_state, AtPort, left_accepted, left_handed, delivered, bytes_of, sent_since, AreEvents, IsLegal, calls_of, leads_to, Call, Entry}
 use Rattle.pmd_laws.specs.Prelude.{IsQuiet}
-use Rattle.pmd_laws.specs.DriverLaws.ReceiveLaws.Delivered as receive
-use Rattle.pmd_laws.specs.DriverLaws.TransmitLaws.Laws as transmit
+use Rattle.pmd_laws.specs.DriverLaws.RingLaws.Delivered as receive
+use Rattle.pmd_laws.specs.DriverLaws.RingLaws.Laws as transmit
 use Rattle.workers.specs.DeviceLock.Alone.{LeavesAlone}
 use Rattle.workers.specs.DeviceLock.Closing.{Closes}
 use Rattle.workers.specs.DeviceLock.Pass.{PassValue}

@@ -1,5 +1,0 @@
-use Rattle.receive_laws.proofs.{Foreign.enable_keeps, Leaving.leaving_keeps, Leaving.switching_keeps}
-use Rattle.receive_laws.proofs.other_events_keep_the_agreement.Goals as goal
-
-pub returns : goal.returns
-returns c = record { leaving = leaving_keeps; switching = switching_keeps; enable = enable_keeps }

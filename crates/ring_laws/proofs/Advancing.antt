@@ -1,0 +1,237 @@
+-- The driver's writes of the tail, its descriptors and its looks keep what it and the device agree on.
+use Rattle.std.proofs.Common.{[], if◌then◌else◌, ◌%◌, ◌+◌, ◌<◌, ◌∙◌, ◌∷◌, ◌≡◌, ◌≤◌, Bool, List, ap, arith, drop, false}
+use Rattle.std.proofs.Common.{inl, inr, length, refl, subst, suc, sym, true, ℕ}
+use Rattle.std.proofs.lemmas.Bool.{both_ways, cases_lt, eq-eqb}
+use Rattle.std.specs.Prelude.{slice_index_or}
+use Rattle.history_laws.specs.Prelude.{IsEvent, Memory, Outcome, Port, State, Tdt, TransmitQueue, Tx, WritesNoSetting}
+use Rattle.history_laws.specs.Prelude.{after, after_write, gives, named_written, place, read_at, ring_of, step_of}
+use Rattle.history_laws.specs.Prelude.{transmit_queue_of, write_at}
+use Rattle.ring_laws.specs.TransmitPrelude.{Advances, Asks, IsOwn, Looks, Segment, Sender, asking, descriptor_at, first_end}
+use Rattle.ring_laws.specs.TransmitPrelude.{is_sent, no_segment, segment_at, slot_at}
+use Rattle.nic_device.proofs.{Cases.poked_cases, DmaArena.Bus.small_of_lent}
+use Rattle.pmd_tx.specs.Sending.{advanced, asked, looked}
+use Rattle.history_laws.proofs.{Leaving.plain-write, Written.transmit-tail}
+use Rattle.ring_laws.proofs.Blocks.{IsWritten, descriptor-written, slot-below, slot-even, slot-lent}
+use Rattle.ring_laws.proofs.Sparing.{After, Keeps, based-after, counted-on, sends_on}
+use Rattle.ring_laws.specs.Agreeing.{AgreesAt, IsBased, IsPosted, Shows}
+use Rattle.ring_laws.proofs.Fetching.{asking-waits, done-sent, length-asking}
+use Rattle.ring_laws.specs.TransmitUp.{IsUp}
+use Rattle.nic_device.specs.declared.event.Event.TheVariants as event
+use Rattle.nic_device.specs.declared.event.Reply.TheVariants as reply
+
+-- The driver's writes of the tail keep what it and the device agree on.
+
+abbrev IsLast : List Segment → ℕ → Type 0
+IsLast ss k = (slice_index_or ss k no_segment).part.last ≡ true
+
+end-of : (x : Segment) (ss : List Segment) → (first_end ss < length ss → IsLast ss (first_end ss)) → (last : Bool)
+    → x.part.last ≡ last → (if last then 0 else first_end ss + 1) < suc (length ss)
+    → IsLast (x ∷ ss) (if last then 0 else first_end ss + 1)
+end-of x ss later true is below = is
+end-of x ss later false is below =
+    let e : suc (first_end ss) ≡ first_end ss + 1 = omega arith in
+    subst (λ (k : ℕ). IsLast (x ∷ ss) k) e (later (omega arith))
+
+pub end-last : (ss : List Segment) → first_end ss < length ss → IsLast ss (first_end ss)
+end-last [] below = absurd (omega arith)
+end-last (x ∷ ss) below = end-of x ss (end-last ss) x.part.last refl below
+
+module _ (s : State) (queue : ℕ) (sent : List (List ℕ)) (v : Sender) (f : ℕ) (h : AgreesAt s queue sent v f) where
+  -- the tail is written
+
+  abbrev slot : ℕ
+  slot = slot_at v.layout v.poked
+
+  abbrev t : State
+  t = record s { registers = after_write s.registers (place Tdt queue) 0xFFFFFFFF slot }
+
+  pub written_tail : (port : Port) (n word : ℕ) → IsOwn v Advances (event.Write port n word)
+      → step_of s (event.Write port n word) ≡ gives reply.Done t
+  unfolding step_of
+  written_tail port n word own = rw (own.2, own.3, own.4) (ap (λ m. named_written s m slot) h.based.tail)
+
+  pub setting_kept : (port : Port) (n word : ℕ) → IsOwn v Advances (event.Write port n word)
+      → WritesNoSetting s (event.Write port n word)
+  setting_kept port n word own =
+      plain-write s port n word (place Tdt queue) 0xFFFFFFFF (rw (own.2, own.3) h.based.tail) refl
+
+  fits : v.poked < v.layout.size
+  fits = omega (arith, h.counted.poked_lent, h.counted.lent_known, h.counted.room)
+
+  -- the side has that tail, and is else as it was
+  side_moved :
+      transmit_queue_of t.registers queue
+      ≡ record (transmit_queue_of s.registers queue) { ring = record (ring_of s.registers Tx queue) { tail = slot } }
+  side_moved =
+      let below = slot-below v.layout h.based.layout v.poked (omega (arith, fits)) in
+      let few = h.based.layout.few in
+      transmit-tail s.registers queue slot h.based.sound.registers.shape h.based.small (omega arith)
+
+  tail_keeps : IsBased t queue v.layout → AgreesAt t queue sent (advanced v) f
+  tail_keeps based = record {
+    based = based;
+    set_up = rw side_moved (record {
+      base = h.set_up.base;
+      length = h.set_up.length;
+      head = h.set_up.head;
+      tail = refl;
+      writeback = h.set_up.writeback;
+    });
+    counted =
+        counted-on v f f v.done v.poked v.poked h.counted h.counted.done_fetched
+        (omega (arith, h.counted.fetched_posted, h.counted.posted_poked)) (omega arith) h.counted.poked_lent;
+    shows = record { ring = h.shows.ring; ready = h.shows.ready; done = h.shows.done; waits = h.shows.waits };
+    sends = sends_on s t queue sent v.layout.limit (drop f v.outstanding) v.accepted refl
+        (λ x. (
+          ap (λ (y : TransmitQueue). y.on) side_moved ∙ x.off,
+          ap (λ (y : TransmitQueue). y.wanted) side_moved ∙ x.unwanted,
+        )) h.sends;
+  }
+
+  pub advance_one : (port : Port) (n word : ℕ) → IsOwn v Advances (event.Write port n word)
+      → IsEvent (event.Write port n word) → After queue sent v Advances (step_of s (event.Write port n word))
+  advance_one port n word own made =
+      let is = written_tail port n word own in
+      let based = subst (λ (o : Outcome). IsBased o.state queue v.layout) is
+      (based-after s queue v.layout (event.Write port n word) h.based made (setting_kept port n word own)) in
+      subst (After queue sent v Advances) (sym is) (f, tail_keeps based)
+
+  pub advance-stays-up : (port : Port) (n word : ℕ) → IsOwn v Advances (event.Write port n word) → IsUp queue s
+      → IsUp queue (after s (event.Write port n word))
+  advance-stays-up port n word own up =
+      let same = side_moved in
+      subst (λ (o : Outcome). IsUp queue o.state) (sym (written_tail port n word own)) (record {
+        on = ap (λ (x : TransmitQueue). x.on) same ∙ up.on;
+        wanted = ap (λ (x : TransmitQueue). x.wanted) same ∙ up.wanted;
+      })
+
+  -- the descriptor of the next segment is written
+
+  module _ (more : v.poked < v.lent) where
+    abbrev x : Segment
+    x = segment_at v v.poked
+
+    abbrev new : Memory
+    new = write_at s.memory (descriptor_at v.layout v.poked) (asking x)
+
+    asks_fit : v.poked < v.layout.size
+    asks_fit = omega (arith, h.counted.room, h.counted.lent_known, more)
+
+    written : IsWritten s.memory new v v.poked (asking x)
+    written =
+        descriptor-written s.memory h.based.sound.blocks.whole v h.based.layout h.shows.ring v.poked asks_fit (asking x)
+        (length-asking x)
+
+    other : (k : ℕ) → k < v.poked
+        → read_at new (descriptor_at v.layout k) 16 ≡ read_at s.memory (descriptor_at v.layout k) 16
+    other k before = written.other k (omega (arith, asks_fit)) (omega arith)
+
+    waits_more : (k : ℕ) → f ≤ k → k < v.poked + 1 → IsPosted new (descriptor_at v.layout k) (segment_at v k)
+    waits_more k i j = elim (cases_lt k v.poked) [
+      | inl before ↦ other k before ∙ h.shows.waits k i before
+      | inr le ↦ let e : k ≡ v.poked = omega arith in rw e written.here
+    ]
+
+    shows-asked : Shows new (asked v) f
+    shows-asked = record {
+      ring = λ k i. written.lent (v.layout.ring + k) (h.shows.ring k i);
+      ready = λ k i. written.ready (segment_at v k) (h.shows.ready k i);
+      done = λ k i end.
+          other k (omega (arith, h.counted.fetched_posted, h.counted.posted_poked)) ∙ h.shows.done k i end;
+      waits = waits_more;
+    }
+
+    ask_at : IsEvent (event.Poke16 (descriptor_at v.layout v.poked) (asking x))
+        → After queue sent v Asks (step_of s (event.Poke16 (descriptor_at v.layout v.poked) (asking x)))
+    unfolding step_of
+    ask_at made =
+        poked_cases (Keeps queue sent v Asks) s (descriptor_at v.layout v.poked) (asking x) (λ based. (f, h))
+        (λ based. (f, h)) (λ based. (
+          f,
+          record {
+            based = based;
+            set_up = h.set_up;
+            counted =
+                counted-on v f f v.done v.posted (v.poked + 1) h.counted h.counted.done_fetched
+                h.counted.fetched_posted (omega (arith, h.counted.posted_poked)) (omega (arith, more));
+            shows = shows-asked;
+            sends = h.sends;
+          },
+        ))
+        (based-after s queue v.layout (event.Poke16 (descriptor_at v.layout v.poked) (asking x)) h.based made tt)
+
+  pub ask_one : (a : ℕ) (bytes : List ℕ) → IsOwn v Asks (event.Poke16 a bytes) → IsEvent (event.Poke16 a bytes)
+      → After queue sent v Asks (step_of s (event.Poke16 a bytes))
+  ask_one a bytes own made =
+      let same : event.Poke16 a bytes ≡ event.Poke16 (descriptor_at v.layout v.poked) (asking (segment_at v v.poked)) =
+      λ k. event.Poke16 (own.1 k) (own.2 k) in
+      subst (λ d. After queue sent v Asks (step_of s d)) (sym same) (ask_at own.0 (subst IsEvent same made))
+
+  -- a look tells whether the oldest packet was sent
+
+  abbrev end : ℕ
+  end = first_end v.outstanding
+
+  abbrev descriptor : List ℕ
+  descriptor = read_at s.memory (descriptor_at v.layout end) 16
+
+  module _ (posted : end < v.posted) where
+    known : end < v.lent
+    known = omega (arith, h.counted.posted_poked, h.counted.poked_lent)
+
+    last : (segment_at v end).part.last ≡ true
+    last = end-last v.outstanding (omega (arith, known, h.counted.lent_known))
+
+    -- a look at the end of the oldest outstanding packet answers that descriptor's bytes and changes nothing
+    pub look : step_of s (event.Peek16 (descriptor_at v.layout end)) ≡ gives (reply.Bytes descriptor) s
+    unfolding step_of
+    look =
+        rw (
+          eq-eqb (descriptor_at v.layout end % 16) 0 (slot-even v h.based.layout end),
+          slot-lent v h.based.layout s.memory end (omega (arith, known, h.counted.lent_known, h.counted.room))
+              h.shows.ring,
+        ) refl
+
+    -- and tells whether it was fetched
+    pub look-fetched : end < f → is_sent descriptor ≡ true
+    look-fetched before =
+        let ready = h.shows.ready end known in
+        let x = segment_at v end in
+        let low = small_of_lent s.memory x.block h.based.sound.blocks.whole ready.lent in
+        rw (h.shows.done end before last) (done-sent x ready.short ready.whole low)
+
+    pub look-waits : f ≤ end → is_sent descriptor ≡ false
+    look-waits none =
+        let ready = h.shows.ready end known in
+        let poked : end < v.poked = omega (arith, h.counted.posted_poked) in
+        rw (h.shows.waits end none poked) (asking-waits (segment_at v end) ready.short ready.whole)
+
+    pub look-tells : (bytes : List ℕ)
+        → (step_of s (event.Peek16 (descriptor_at v.layout end))).reply ≡ reply.Bytes bytes → bytes ≡ descriptor
+    look-tells bytes told =
+        let same : reply.Bytes bytes ≡ reply.Bytes descriptor = sym told ∙ ap (λ (o : Outcome). o.reply) look in cc
+
+    -- those that are told to be done were fetched
+    done_tells : (b : Bool) → is_sent descriptor ≡ b → (if b then end + 1 else 0) ≤ f
+    done_tells true is = elim (cases_lt end f) [
+      | inl before ↦ omega arith
+      | inr none ↦ absurd (both_ways (is_sent descriptor) (look-waits none) is)
+    ]
+    done_tells false is = omega arith
+
+    look_at : After queue sent v Looks (step_of s (event.Peek16 (descriptor_at v.layout end)))
+    look_at = subst (After queue sent v Looks) (sym look) (
+      f,
+      record {
+        based = h.based;
+        set_up = h.set_up;
+        counted =
+            counted-on v f f (looked v descriptor).done v.posted v.poked h.counted
+            (done_tells (is_sent descriptor) refl) h.counted.fetched_posted h.counted.posted_poked h.counted.poked_lent;
+        shows = record { ring = h.shows.ring; ready = h.shows.ready; done = h.shows.done; waits = h.shows.waits };
+        sends = h.sends;
+      },
+    )
+
+  pub look_one : (a : ℕ) → IsOwn v Looks (event.Peek16 a) → After queue sent v Looks (step_of s (event.Peek16 a))
+  look_one a own = subst (λ x. After queue sent v Looks (step_of s (event.Peek16 x))) (sym own.1) (look_at own.0)

@@ -1,0 +1,267 @@
+-- A posted slot of the driver's ring is fetched.
+use Rattle.std.proofs.Common.{if◌then◌else◌, ◌%◌, ◌*◌, ◌++◌, ◌+◌, ◌-◌, ◌<◌, ◌^◌, ◌∙◌, ◌∷◌, ◌≡◌, ◌≢◌, ◌≤◌, Bool, List}
+use Rattle.std.proofs.Common.{None, Ok, Some, ap, arith, drop, false, inl, inr, length, not, refl, subst, sym, true, ℕ}
+use Rattle.std.proofs.lemmas.Bool.{and_cases, both_ways, cases_Bool, cases_eq, cases_lt, eqb-false, lt-ltb, or_right}
+use Rattle.std.proofs.{Math.Nat.mod-eq_of_lt, lemmas.List.append-nil, lemmas.List.length-append}
+use Rattle.std.specs.Prelude.{◌==◌, IsTrue}
+use Rattle.history_laws.specs.Prelude.{Fetched, Memory, Ring, State, TransmitQueue, done_descriptor, first_half}
+use Rattle.history_laws.specs.Prelude.{has_block, is_empty, is_lent, is_outside, read_at, second_half, sending_of}
+use Rattle.history_laws.specs.Prelude.{transmit_queue_of, write_at}
+use Rattle.ring_laws.specs.TransmitPrelude.{Segment, Sender, asking, descriptor_at, is_sent, segment_at, slot_at}
+use Rattle.nic_device.specs.DmaRing.Driver.{IsDataWord, data_command, data_word}
+use Rattle.nic_device.specs.TxRing.Fetch.{CanSend, Outcome, buffer_bytes, buffer_in, command_in, data_outcome}
+use Rattle.nic_device.proofs.{DmaArena.Blocks.is_lent_in, DmaArena.Bus.small_of_lent, DmaRing.Agreement.data_is_asked}
+use Rattle.nic_device.proofs.{DmaRing.Fields.halves_come_back, TxRing.Reports.done_changes_done_alone}
+use Rattle.nic_device.proofs.{TxRing.Tests.tests_in_order}
+use Rattle.nic_device.specs.{DmaRing.Ring.slots_of, DmaRing.Transmit.with_done}
+use Rattle.nic_device.specs.{DmaRing.declared.transmit.Command.Command, TxRing.Fetch.descriptor_of}
+use Rattle.nic_device.specs.{TxRing.Fetch.fetch_of, TxRing.Frame.frame_of, TxRing.Laws.HasData, TxRing.Laws.command_at}
+use Rattle.nic_device.specs.{TxRing.Report.head_address, TxRing.Report.new_head, TxRing.declared.tx.Tx.Tx}
+use Rattle.pmd_tx.proofs.PmdSeam.Rings.{each_first}
+use Rattle.ring_laws.proofs.Blocks.{IsWritten, descriptor-written, slot-below, slot-lent}
+use Rattle.ring_laws.specs.Agreeing.{AgreesAt, ArePackets, IsDone, IsPosted, Shows, staged_behind}
+
+-- A posted slot that is fetched: its segment is staged, and at the end of a packet that goes out, and the descriptor is
+-- done.
+
+abbrev word_of : Segment → ℕ
+word_of x = data_word (length x.part.bytes) x.part.last x.part.whole
+
+module _ (x : Segment) (short : length x.part.bytes ≤ 2048) (whole : x.part.whole ≤ 10240) where
+  word-asked : IsDataWord (word_of x) (length x.part.bytes) x.part.last x.part.whole
+  word-asked = data_is_asked (length x.part.bytes) x.part.last x.part.whole (omega arith) (omega arith)
+
+  second-asking : second_half (asking x) ≡ word_of x
+  second-asking = (halves_come_back (2048 * x.block) (word_of x)).second word-asked.fits
+
+  command-asking : command_in (asking x) ≡ data_command (length x.part.bytes) x.part.last
+  command-asking = rw second-asking word-asked.command
+
+  buffer-asking : x.block < 65536 → buffer_in (asking x) ≡ 2048 * x.block
+  buffer-asking low = (halves_come_back (2048 * x.block) (word_of x)).first (omega arith)
+
+  -- it isn't done; once it is, it tells so
+  pub asking-waits : is_sent (asking x) ≡ false
+  asking-waits = rw second-asking word-asked.waits
+
+  pub done-sent : x.block < 65536 → is_sent (done_descriptor (asking x)) ≡ true
+  done-sent low =
+      let first : first_half (asking x) < 2 ^ 64 = rw (buffer-asking low) (omega arith) in
+      let second : second_half (asking x) < 2 ^ 64 = rw second-asking word-asked.fits in
+      (done_changes_done_alone (asking x) first second).1.done
+
+pub length-asking : (x : Segment) → length (asking x) ≡ 16
+length-asking x = (halves_come_back (2048 * x.block) (word_of x)).size
+
+pub length-done : (d : List ℕ) → length (done_descriptor d) ≡ 16
+length-done d = (halves_come_back (first_half d) (with_done (second_half d))).size
+
+-- the slot at the head asks for a segment that can be sent behind what is staged
+pub record IsToSend (m : Memory) (r : Ring) (tx : Tx) (staged : List ℕ) (x : Segment) : Type 0 where
+  pub inside : is_outside r ≡ false
+  pub lent : is_lent m (head_address r) 16 ≡ true
+  pub posted : IsPosted m (head_address r) x
+  pub bytes : read_at m (2048 * x.block) (length x.part.bytes) ≡ x.part.bytes
+  pub buffer : has_block m x.block ≡ true
+  pub low : x.block < 65536
+  pub short : length x.part.bytes ≤ 2048
+  pub whole : x.part.whole ≤ 10240
+  pub fits : length (staged ++ x.part.bytes) ≤ tx.limit
+  pub long : x.part.last ≡ true → 60 ≤ length (staged ++ x.part.bytes)
+  pub writeback : tx.writeback ≡ None
+
+-- what is told of the slot, and what fetching it leaves
+abbrev pub segment_fetched : Ring → List ℕ → Segment → Fetched
+segment_fetched r staged x = record {
+  slot = r.head;
+  head = new_head r;
+  back = if x.part.last then Some (head_address r) else None;
+  rs = x.part.last;
+  frame = if x.part.last then Some (staged ++ x.part.bytes) else None;
+}
+
+abbrev pub segment_outcome : Memory → Ring → List ℕ → Segment → Outcome
+segment_outcome m r staged x = record {
+  answer = Ok (segment_fetched r staged x);
+  memory = if x.part.last then write_at m (head_address r) (done_descriptor (asking x)) else m;
+  staged = staged_behind staged x;
+}
+
+-- a frame of 60 bytes isn't padded
+frame-long : (pad : Bool) (bytes : List ℕ) → 60 ≤ length bytes → frame_of pad bytes ≡ bytes
+frame-long true bytes long = let none : 60 - length bytes ≡ 0 = omega arith in rw none (append-nil bytes)
+frame-long false bytes long = refl
+
+module _ (m : Memory) (r : Ring) (tx : Tx) (staged : List ℕ) (x : Segment) (h : IsToSend m r tx staged x) where
+  command : command_in (asking x) ≡ data_command (length x.part.bytes) x.part.last
+  command = command-asking x h.short h.whole
+
+  named : buffer_bytes m (asking x) ≡ x.part.bytes
+  named = rw (command, buffer-asking x h.short h.whole h.low) h.bytes
+
+  outcome-segment : data_outcome m staged r tx (asking x) ≡ segment_outcome m r staged x
+  outcome-segment = elim (cases_Bool x.part.last) [
+    | inl last ↦ rw (named, command, last, h.writeback, frame-long tx.pad (staged ++ x.part.bytes) (h.long last)) refl
+    | inr other ↦ rw (named, command, other) refl
+  ]
+
+  pub fetch-segment : fetch_of m staged r tx ≡ segment_outcome m r staged x
+  fetch-segment =
+      let d : descriptor_of m r ≡ asking x = h.posted in
+      let c : command_at m r ≡ data_command (length x.part.bytes) x.part.last = ap command_in d ∙ command in
+      let b : buffer_in (descriptor_of m r) ≡ 2048 * x.block =
+      ap buffer_in d ∙ buffer-asking x h.short h.whole h.low in
+      let len : (command_at m r).len ≡ length x.part.bytes = ap (λ (y : Command). y.len) c in
+      let report : (command_at m r).report ≡ x.part.last = ap (λ (y : Command). y.report) c in
+      let full : HasData m r = record {
+        descriptor = record { inside = h.inside; lent = h.lent };
+        extended = ap (λ (y : Command). y.extended) c;
+        type = ap (λ (y : Command). y.kind) c;
+      } in
+      let can : CanSend m r tx (length staged) (descriptor_of m r) = record {
+        no_offload = ap (λ (y : Command). y.offload) c;
+        room = omega (arith, len, h.fits, length-append staged x.part.bytes);
+        buffer =
+            rw (b, len)
+            (is_lent_in m (2048 * x.block) (length x.part.bytes) x.block 0 h.buffer (omega arith)
+            (omega (arith, h.short)));
+        report = rw (report, h.writeback) (or_right (not x.part.last) (is_lent m (head_address r) 16) h.lent);
+      } in
+      (tests_in_order m staged r tx).sent full can ∙ ap (data_outcome m staged r tx) d ∙ outcome-segment
+
+-- Steps of transmitting of the driver's own queue.
+
+module _ (s : State) (queue : ℕ) (sent : List (List ℕ)) (v : Sender) (f : ℕ) (h : AgreesAt s queue sent v f) where
+  abbrev pub side : TransmitQueue
+  side = transmit_queue_of s.registers queue
+
+  abbrev pub x : Segment
+  x = segment_at v f
+
+  pub slots : slots_of side.ring ≡ v.layout.size
+  slots = omega (arith, h.set_up.length)
+
+  -- the posted ones have slots
+  known : v.posted < v.layout.size
+  known =
+      let c = h.counted in omega (arith, c.posted_poked, c.poked_lent, c.lent_known, c.room)
+
+  below : (k : ℕ) → k ≤ v.posted → slot_at v.layout k < v.layout.size
+  below k le =
+      slot-below v.layout h.based.layout k (omega (arith, known))
+
+  inside : is_outside side.ring ≡ false
+  inside =
+      let a : side.ring.head < slots_of side.ring = rw (slots, h.set_up.head) (below f h.counted.fetched_posted) in
+      let b : side.ring.tail < slots_of side.ring = rw (slots, h.set_up.tail) (below v.posted (omega arith)) in
+      rw (lt-ltb side.ring.head (slots_of side.ring) a, lt-ltb side.ring.tail (slots_of side.ring) b) refl
+
+  pub head_is : head_address side.ring ≡ descriptor_at v.layout f
+  head_is =
+      let e : side.ring.base + 16 * side.ring.head ≡ descriptor_at v.layout f =
+      rw (h.set_up.base, h.set_up.head) refl in
+      let low = below f h.counted.fetched_posted in
+      let few = h.based.layout.few in
+      let first = each_first v.layout.ring v.layout.size (λ n. IsTrue (has_block s.memory n)) h.based.layout.some
+      h.shows.ring in
+      let small = small_of_lent s.memory v.layout.ring h.based.sound.blocks.whole first in
+      ap (λ (n : ℕ). n % 2 ^ 64) e ∙ mod-eq_of_lt (omega arith)
+
+  -- where the queue isn't silent, a segment is posted and not fetched
+  pub more : is_empty side.ring ≡ false → f < v.posted
+  more full = elim (and_cases (not (is_outside side.ring)) (side.ring.head == side.ring.tail) full) [
+    | inl out ↦ absurd (both_ways (not (is_outside side.ring)) out (rw inside refl))
+    | inr apart ↦
+        let ne : side.ring.head ≢ side.ring.tail = eqb-false side.ring.head side.ring.tail apart in
+        elim (cases_lt f v.posted) [
+          | inl lt ↦ lt
+          | inr le ↦
+              let same : f ≡ v.posted = omega (arith, h.counted.fetched_posted) in
+              absurd (ne (h.set_up.head ∙ ap (slot_at v.layout) same ∙ sym h.set_up.tail))
+        ]
+  ]
+
+  module _ (posted : f < v.posted) where
+    pub lent : f < v.lent
+    lent = omega (arith, posted, h.counted.posted_poked, h.counted.poked_lent)
+
+    pub small : f < v.layout.size
+    small = omega (arith, posted, known)
+
+    pub to_send : (staged : List ℕ) → ArePackets v.layout.limit staged (x ∷ drop (f + 1) v.outstanding)
+        → IsToSend s.memory side.ring (sending_of s.registers side) staged x
+    to_send staged packets =
+        let ready = h.shows.ready f lent in
+        record {
+          inside = inside;
+          lent = rw head_is (slot-lent v h.based.layout s.memory f (omega (arith, small)) h.shows.ring);
+          posted = rw head_is (h.shows.waits f (omega arith) (omega (arith, posted, h.counted.posted_poked)));
+          bytes = ready.bytes;
+          buffer = ready.lent;
+          low = small_of_lent s.memory x.block h.based.sound.blocks.whole ready.lent;
+          short = ready.short;
+          whole = ready.whole;
+          fits = rw h.based.limit packets.0;
+          long = packets.1;
+          writeback = h.set_up.writeback;
+        }
+
+    -- the memory after it is fetched: at the end of a packet its descriptor is done, and the rest is as it was
+
+    abbrev done : List ℕ
+    done = done_descriptor (asking x)
+
+    abbrev new : Memory
+    new = write_at s.memory (descriptor_at v.layout f) done
+
+    written : IsWritten s.memory new v f done
+    written =
+        descriptor-written s.memory h.based.sound.blocks.whole v h.based.layout h.shows.ring f small done
+        (length-done (asking x))
+
+    done_now : (k : ℕ) → k < f + 1 → (segment_at v k).part.last ≡ true
+        → IsDone new (descriptor_at v.layout k) (segment_at v k)
+    done_now k low end = elim (cases_eq k f) [
+      | inl e ↦ rw e written.here
+      | inr ne ↦
+          let before : k < f = omega (arith, ne) in
+          written.other k (omega (arith, small)) ne ∙ h.shows.done k before end
+    ]
+
+    -- at the end of a packet
+    shows-end : Shows new v (f + 1)
+    shows-end =
+        let c = h.counted in
+        record {
+          ring = λ k i. written.lent (v.layout.ring + k) (h.shows.ring k i);
+          ready = λ k i. written.ready (segment_at v k) (h.shows.ready k i);
+          done = done_now;
+          waits = λ k i j.
+              written.other k (omega (arith, c.poked_lent, c.lent_known, c.room)) (omega arith)
+              ∙ h.shows.waits k (omega arith) j;
+        }
+
+    -- and before it
+    done_before : x.part.last ≡ false → (k : ℕ) → k < f + 1 → (segment_at v k).part.last ≡ true
+        → IsDone s.memory (descriptor_at v.layout k) (segment_at v k)
+    done_before on k low end = elim (cases_eq k f) [
+      | inl e ↦
+          absurd (both_ways x.part.last on (subst (λ (j : ℕ). (segment_at v j).part.last ≡ true) e end))
+      | inr ne ↦ h.shows.done k (omega (arith, ne)) end
+    ]
+
+    shows-part : x.part.last ≡ false → Shows s.memory v (f + 1)
+    shows-part on = record {
+      ring = h.shows.ring;
+      ready = h.shows.ready;
+      done = done_before on;
+      waits = λ k i j. h.shows.waits k (omega arith) j;
+    }
+
+    pub shows-fetched : Shows (if x.part.last then new else s.memory) v (f + 1)
+    shows-fetched =
+        let Showing : Bool → Type 0 = λ b. Shows (if b then new else s.memory) v (f + 1) in
+        elim (cases_Bool x.part.last) [
+          | inl last ↦ subst Showing (sym last) shows-end
+          | inr on ↦ subst Showing (sym on) (shows-part on)
+        ]

@@ -1,0 +1,297 @@
+-- Events that aren't the driver's own: they keep the agreement, and a side up that is.
+use Rattle.std.proofs.Common.{[], ◌*◌, ◌++◌, ◌/◌, ◌<◌, ◌^◌, ◌||◌, ◌∙◌, ◌∷◌, ◌≡◌, ◌≢◌, ◌≤◌, Bool, List, None, Ok, Option}
+use Rattle.std.proofs.Common.{Some, ap, arith, cond, false, inl, inr, length, refl, subst, sym, true, ℕ}
+use Rattle.std.proofs.lemmas.Bool.{both_ways, cases_eq, cases_lt, cond_both, eq-eqb, or_parts}
+use Rattle.std.proofs.lemmas.List.{append-nil}
+use Rattle.std.specs.{Bool.beq, Prelude.IsTrue, Prelude.nat_lt, Prelude.⊤}
+use Rattle.history_laws.specs.Prelude.{Block, Blocks, Done, Entry, Event, Filled, IsSound, LeavesBlock, LeavesBlocks}
+use Rattle.history_laws.specs.Prelude.{LeavesQueues, LeavesRegisters, LiesIn, Memory, Mode, Outcome, Port, Reply, Rx}
+use Rattle.history_laws.specs.Prelude.{State, Tx, Waiting, Watched, WritesNoSetting, WritesOutside, Wrote, after, gives}
+use Rattle.history_laws.specs.Prelude.{is_on, is_wanted, mode_in, receive_queue_of, reply_to, rest_of, step_of}
+use Rattle.history_laws.specs.Prelude.{told_back}
+use Rattle.ring_laws.specs.ReceivePrelude.{Layout, MovesNext, Receive, block_at, is_step, reach, slot_at}
+use Rattle.nic_device.specs.declared.event.Reply.TheVariants.{Idle, NoQueue}
+use Rattle.nic_device.{proofs.RxRing.Fills.takes_piece, specs.RegisterFile.Settings.is_stopped, specs.Sound.AreWaiting}
+use Rattle.nic_device.{specs.Switching.queue_switched, specs.Switching.side_switched}
+use Rattle.pmd_rx.{proofs.PmdSeam.Rings.slot_block, proofs.PmdSeam.Rings.slot_lies, specs.PmdSeam.Slots.descriptor_in}
+use Rattle.history_laws.proofs.Deeds.{left_did, receiving_did, side_did, switching_did}
+use Rattle.history_laws.proofs.Leaving.{left-setting, left-side, receive_left, receive_of}
+use Rattle.history_laws.proofs.{Blocks.IsSparedBy, Blocks.reported_elsewhere, Blocks.spared_block, Steady.resting_same}
+use Rattle.history_laws.proofs.{Steady.up_kept, Written.receive-tail}
+use Rattle.history_laws.proofs.DeviceLaws.{Delivered.told-lt, KeptSettings.settings_stand, Standing.memory_rest}
+use Rattle.history_laws.proofs.DeviceLaws.{Standing.stays_within, StandingQueues.switching_rest}
+use Rattle.history_laws.specs.Left.{Deed, Did, IsLeft, Rested, Rests, Shuts, Takes, Took, fill_on}
+use Rattle.history_laws.specs.{Segments.piece_in, Sides.IsTried, Sides.receive_side, Sides.side_of}
+use Rattle.ring_laws.proofs.Kept.{bytes_inside, each_map, each_of, posted_block, slot_below}
+use Rattle.ring_laws.proofs.Receiving.{buffer_is, filled_holds, head_is, no_fault, room_left}
+use Rattle.ring_laws.specs.Steps.{DeviceStepKeeps, Each, EnableStepKeeps, ForeignEntryKeeps, IsMetBy}
+use Rattle.ring_laws.specs.ReceiveUp.{EnableStepChangesNothing, EntryStaysUp, IsUp, LeavingStaysUp, OwnEventStaysUp}
+use Rattle.ring_laws.proofs.{Leaving.switching_keeps, Naming.tail_written, Naming.word_low}
+use Rattle.ring_laws.specs.{Inside.IsInRing, Inside.IsInside, Inside.PieceIsInside, Joint.Agree, Joint.Holds}
+use Rattle.ring_laws.specs.{Pieces.Piece, Pieces.pieces, Pieces.pieces_told, Steps.OwnReportsSpare}
+use Rattle.ring_laws.specs.{Steps.ReceiveStepKeeps, Steps.SparesBlocks, ReceiveUp.ReceiveStepStaysUp}
+use Rattle.nic_device.specs.declared.event.Event.TheVariants as event
+use Rattle.std.specs.FinMap as map
+use Rattle.history_laws.specs.Sides as sides
+
+-- A step of the device writes no register by a number, and moves and pokes no block.
+
+pub no_registers : (w : Watched) (mode : Mode) (mine : Blocks) (e : Event Block) → is_step e ≡ true
+    → LeavesRegisters w mode e × LeavesBlocks mine e
+no_registers w mode mine (event.Write port n word) is = cc
+no_registers w mode mine (event.Lend b) is = cc
+no_registers w mode mine (event.Take n) is = cc
+no_registers w mode mine (event.Poke16 a bytes) is = cc
+no_registers w mode mine other is = (tt, tt)
+
+-- What an event does to the queue's receive side keeps the agreement, with the piece that it writes, if any.
+
+pub slot_left : {queue : ℕ} {s : State} {out : List Piece} {v : Receive} {gone here : List Piece}
+    → Holds queue s out v gone here → IsTried (side_of Rx queue s) → length here < length v.layout.blocks
+slot_left {v = v} {here = here} h tried = room_left h tried.some (cases_lt (length here) (length v.layout.blocks))
+
+pub never_shuts : (queue : ℕ) (s : State) (out : List Piece) (v : Receive) (e : Event Block) → Agree queue s out v
+    → Shuts Rx queue s e → ⊥
+never_shuts queue s out v e (gone, here, h) x =
+    no_fault h (slot_left h x.tried) (rest_of x.fault.frame) x.fault.fault x.fault.answer
+
+module _ (queue : ℕ) (s : State) (out : List Piece) (v : Receive) (sound : IsSound s) (j : Agree queue s out v)
+    (e : Event Block) (none : WritesNoSetting s e) where
+  abbrev t : State
+  t = after s e
+
+  took : Takes Rx queue s e → Agree queue t (out ++ pieces queue s e) v
+  took x =
+      let w = x.work in
+      let fit : (rest_of w.frame).first < 2 ^ 64 = told-lt w.frame (subst AreWaiting w.first.waits sound.waiting).0 in
+      subst (λ xs. Agree queue t (out ++ xs) v) (sym w.piece) (
+        j.0,
+        j.1 ++ piece_in (rest_of w.frame) w.filled ∷ [],
+        filled_holds queue s out v sound j.0 j.1 j.2 (slot_left j.2 x.tried) (rest_of w.frame) w.filled t fit w.answer
+            w.memory (ap receive_of x.side) (settings_stand s e none).mode (stays_within s e).vfs,
+      )
+
+  -- where no slot is taken nothing of it changes but whether the side is on
+  pub rested : Rests Rx queue s e → Each v (λ b. LeavesBlock b s t) → Agree queue t out v
+  rested rests blocks =
+      let same = resting_same Rx queue s e rests in
+      switching_keeps queue s t out v (record {
+        ring = same.ring;
+        control = same.control;
+        mode = (settings_stand s e none).mode;
+        vfs = (stays_within s e).vfs;
+        blocks = blocks;
+      }) j
+
+  pub deed_keeps : Deed Rx queue s e → (pieces queue s e ≡ [] → Each v (λ b. LeavesBlock b s t))
+      → Agree queue t (out ++ pieces queue s e) v
+  deed_keeps (Took x) blocks = took x
+  deed_keeps (Rested no_piece rests) blocks =
+      subst (λ xs. Agree queue t xs v) (sym (ap (λ ps. out ++ ps) no_piece ∙ append-nil out))
+      (rested rests (blocks no_piece))
+
+-- a step of receiving that writes no piece on the queue spares the driver's blocks
+spares_each : (queue : ℕ) (v : Receive) (ws : List Waiting) (r : Reply Block) → pieces_told queue ws r ≡ []
+    → SparesBlocks queue v r → Each v (λ b. IsSparedBy r b)
+spares_each queue v ws (Wrote on slot end desc at len) none spares = elim (cases_eq on queue) [
+  | inl own ↦ absurd (let e = rw (eq-eqb on queue own) at none in cc)
+  | inr ne ↦ spares ne
+]
+spares_each queue v ws other none spares = each_of v _ (λ b. tt)
+
+pub receive_keeps : ReceiveStepKeeps
+receive_keeps queue s out v sound j spares =
+    let r = reply_to s event.RxStep in
+    deed_keeps queue s out v sound j event.RxStep tt (receiving_did queue s sound)
+    (λ none. each_map v (λ b. IsSparedBy r b) (λ b. LeavesBlock b s (after s event.RxStep))
+    (λ b o. spared_block s b o) (spares_each queue v s.waiting r none spares))
+
+-- A step of receiving on the driver's own queue writes into blocks that the driver has lent for it.
+
+slot_in_ring : (ring size slot : ℕ) → slot < size → IsInRing ring size (descriptor_in ring slot)
+slot_in_ring ring size slot below = record {
+  part = slot / 128;
+  known = slot_block size slot below;
+  descriptor = slot_lies ring slot;
+}
+
+module _ {queue : ℕ} {s : State} {out : List Piece} {v : Receive} {gone here : List Piece}
+    (h : Holds queue s out v gone here) where
+  abbrev l : Layout
+  l = v.layout
+
+  filled_inside : (w : Waiting) (f : Filled) → length here < length l.blocks
+      → (fill_on s queue (rest_of w)).answer ≡ Ok f → IsInside l f.desc f.at f.len
+  filled_inside w f room is =
+      let own = receive_queue_of s.registers queue in
+      let t = takes_piece s.memory own.ring own.control (rest_of w) f is in
+      let short : f.len ≤ 2048 = omega (arith, t.len, h.side.buffer_size) in
+      record {
+        descriptor =
+            subst (IsInRing l.ring l.size) (sym (t.desc ∙ head_is h))
+            (slot_in_ring l.ring l.size (slot_at l (length here))
+            (slot_below (reach v) (length here) h.ring h.slots.within));
+        slot = length here;
+        known = room;
+        bytes =
+            subst (λ a. LiesIn (block_at l (length here)) a f.len)
+            (sym (t.at ∙ buffer_is h room ∙ ap (λ (b : ℕ). 2048 * b) (posted_block v (length here) room)))
+            (bytes_inside (block_at l (length here)) f.len short);
+      }
+
+-- what a reply tells is inside
+abbrev TellsInside : Layout → Reply Block → Type 0
+TellsInside l (Wrote on slot end desc at len) = IsInside l desc at len
+TellsInside l other = ⊤
+
+pub piece_inside : PieceIsInside
+piece_inside queue s out v sound (gone, here, h) slot end desc at len is = elim (receiving_did queue s sound) [
+  | Took x ↦
+      subst (TellsInside v.layout) (sym x.work.told ∙ is)
+      (filled_inside h x.work.frame x.work.filled (slot_left h x.tried) x.work.answer)
+  | Rested none rests ↦
+      absurd (let e = rw (is, eq-eqb queue queue refl) at none in cc)
+]
+
+-- A step of the enable of the queue's receive side keeps the agreement; and where the side is on and wanted on nothing
+-- changes.
+
+as_wanted : (w o : Bool) → w ≡ true → o ≡ true → beq w o ≡ true
+as_wanted true true e f = refl
+as_wanted true false e f = cc
+as_wanted false o e f = cc
+
+pub switched_same : (s : State) (queue : ℕ) → is_wanted s.registers Rx queue ≡ true → is_on s.registers Rx queue ≡ true
+    → (queue_switched s Rx queue).state ≡ s
+switched_same s queue wanted on =
+    let P : Outcome → Type 0 = λ o. o.state ≡ s in
+    let same : Bool = is_stopped s.registers || beq (is_wanted s.registers Rx queue) (is_on s.registers Rx queue) in
+    let inner : Outcome = cond same (gives Idle s) (gives Done (side_switched s Rx queue)) in
+    cond_both (nat_lt queue 128) inner (gives NoQueue s) P
+    (λ small. cond_both same (gives Idle s) (gives Done (side_switched s Rx queue)) P (λ idle. refl)
+    (λ other. absurd (both_ways (beq (is_wanted s.registers Rx queue) (is_on s.registers Rx queue))
+    (or_parts (is_stopped s.registers) _ other).1 (as_wanted _ _ wanted on))))
+    (λ high. refl)
+
+pub enable_keeps : EnableStepKeeps
+enable_keeps queue s out v sound j =
+    rested queue s out v sound j (event.QueueStep Rx queue) tt (switching_did queue s sound j.2.named.low Rx)
+    (each_of v (λ b. LeavesBlock b s (after s (event.QueueStep Rx queue)))
+    (λ b. ap (λ (m : Memory). map.get m b) (switching_rest s Rx queue).memory))
+
+-- A receive side that is on and wanted on stays so, where device and driver agree.
+
+pub left_up : LeavingStaysUp
+left_up queue s t left up = subst sides.IsUp (sym (receive_left queue s t left)) up
+
+pub enable_same : EnableStepChangesNothing
+unfolding step_of
+enable_same queue s up = switched_same s queue up.wanted up.on
+
+deed_up : (queue : ℕ) (s : State) (out : List Piece) (v : Receive) (e : Event Block) → Agree queue s out v
+    → Deed Rx queue s e → IsUp queue s → IsUp queue (after s e)
+deed_up queue s out v e j did up = up_kept Rx queue s e up (never_shuts queue s out v e j) did
+
+pub receive_stays_up : ReceiveStepStaysUp
+receive_stays_up queue s out v sound j up = deed_up queue s out v event.RxStep j (receiving_did queue s sound) up
+
+-- the driver's own
+
+move_up : (queue : ℕ) (s : State) (out : List Piece) (v : Receive) (port : Port) (number word : ℕ)
+    → IsSound s → Agree queue s out v → MovesNext v port number word → IsUp queue s
+    → IsUp queue (after s (event.Write port number word))
+move_up queue s out v port number word i (gone, here, h) own up =
+    let side = receive-tail s.registers queue word i.registers.shape h.named.low
+    (word_low v port number word h.ring own) in
+    rw (own.port_is, own.number_is)
+    (subst (λ (x : Outcome). IsUp queue x.state) (sym (tail_written s queue v.layout word h.named))
+    (subst sides.IsUp (sym (ap receive_side side)) (record { on = up.on; wanted = up.wanted })))
+
+calls_up : (queue : ℕ) (s t : State) → LeavesQueues s t → IsUp queue s → IsUp queue t
+calls_up queue s t left up = left_up queue s t (left.receive queue) up
+
+pub own_stays_up : OwnEventStaysUp
+own_stays_up queue s out v (event.Peek16 a) i j own up = calls_up queue s _ (memory_rest.peek s a).queues up
+own_stays_up queue s out v (event.Take n) i j own up = calls_up queue s _ (memory_rest.take s n).queues up
+own_stays_up queue s out v (event.Lend b) i j own up = calls_up queue s _ (memory_rest.lend s b).queues up
+own_stays_up queue s out v (event.Poke16 a bytes) i j own up = calls_up queue s _ (memory_rest.poke s a bytes).queues up
+own_stays_up queue s out v (event.Write port number word) i j own up =
+    move_up queue s out v port number word i j own up
+own_stays_up queue s out v e i j own up = absurd own
+
+-- an event that leaves the queue's registers alone
+pub alone_stays_up : (w : Watched) (s : State) (out : List Piece) (v : Receive) (e : Event Block) → w.vfs ≡ s.vfs
+    → IsSound s → Agree w.queue s out v → LeavesRegisters w (mode_in s.registers) e → IsUp w.queue s
+    → IsUp w.queue (after s e)
+alone_stays_up w s out v e vfs sound j registers up =
+    deed_up w.queue s out v e j
+    (side_did Rx w.queue s e sound j.2.named.low (left-side w s vfs Rx e registers)) up
+
+pub entry_stays_up : EntryStaysUp
+entry_stays_up w mine mode s out v e met j alone (inl other) up =
+    alone_stays_up w s out v e.event met.vfs met.sound j
+    (subst (λ k. LeavesRegisters w k e.event) met.mode_is (alone.registers other)) up
+entry_stays_up w mine mode s out v e met j alone (inr is) up =
+    alone_stays_up w s out v e.event met.vfs met.sound j (no_registers w (mode_in s.registers) mine e.event is).0 up
+
+-- Entries that aren't the driver's own and leave its queue alone keep the agreement.
+
+module _ (queue : ℕ) (mine : Blocks) (s : State) (v : Receive) (sound : IsSound s)
+    (m : Each v (λ b. IsTrue (mine b))) (spare : OwnReportsSpare queue v s) where
+  -- a report of the queue's own is in none of the driver's blocks
+  reported : (o : Option ℕ) → told_back (reply_to s (event.TxStep queue)) ≡ o
+      → Each v (λ b. LeavesBlock b s (after s (event.TxStep queue)))
+  reported None is =
+      each_of v _
+      (λ b. reported_elsewhere s sound queue b (λ back told.
+      absurd (let both : None ≡ Some back = sym is ∙ told in cc)))
+  reported (Some at) is =
+      each_map v (λ b. b ≢ at / 2048) (λ b. LeavesBlock b s (after s (event.TxStep queue)))
+      (λ b ne. reported_elsewhere s sound queue b (λ back told.
+      let same : at ≡ back = cc in subst (λ x. b ≢ x / 2048) same ne))
+      (spare at is)
+
+  -- nor is what another queue's steps write
+  spared : (e : Event Block) → Did queue mine s e → pieces queue s e ≡ [] → Deed Tx queue s e
+      → Each v (λ b. LeavesBlock b s (after s e))
+  spared e did none (Took x) =
+      subst (λ (n : Event Block). Each v (λ b. LeavesBlock b s (after s n))) (sym x.work.is)
+      (reported (told_back (reply_to s (event.TxStep queue))) refl)
+  spared e did none (Rested silent rests) =
+      each_map v (λ b. IsTrue (mine b)) (λ b. LeavesBlock b s (after s e)) (λ b i. did.blocks none silent b i) m
+
+-- an event that leaves the queue and all these blocks alone
+pub left_keeps : (w : Watched) (mine : Blocks) (s : State) (out : List Piece) (v : Receive) (e : Event Block)
+    → IsLeft w mine s e → Agree w.queue s out v → Each v (λ b. IsTrue (mine b)) → OwnReportsSpare w.queue v s
+    → Agree w.queue (after s e) (out ++ pieces w.queue s e) v
+left_keeps w mine s out v e x j m spare =
+    let did = left_did w mine s e x in
+    deed_keeps w.queue s out v x.sound j e (left-setting w s x.vfs e x.registers) did.receive
+    (λ none. spared w.queue mine s v x.sound m spare e did none did.transmit)
+
+-- an entry is such an event, by what it leaves alone
+left_entry : (w : Watched) (mine : Blocks) (mode : Mode) (s : State) (e : Entry) → IsMetBy w mode s e → w.queue < 128
+    → LeavesRegisters w (mode_in s.registers) e.event → LeavesBlocks mine e.event
+    → WritesOutside w.queue mine e.reply → IsLeft w mine s e.event
+left_entry w mine mode s e met small registers blocks steps = record {
+  small = small;
+  sound = met.sound;
+  vfs = met.vfs;
+  made = met.event;
+  registers = registers;
+  blocks = blocks;
+  steps = subst (WritesOutside w.queue mine) met.reply steps;
+}
+
+pub foreign_keeps : ForeignEntryKeeps
+foreign_keeps w mine mode s out v e met j m spare alone other =
+    left_keeps w mine s out v e.event
+    (left_entry w mine mode s e met j.2.named.low
+    (subst (λ k. LeavesRegisters w k e.event) met.mode_is (alone.registers other)) (alone.blocks other) alone.steps)
+    j m spare
+
+pub steps_keep : DeviceStepKeeps
+steps_keep w mine mode s out v e met j m spare alone is =
+    let free = no_registers w (mode_in s.registers) mine e.event is in
+    left_keeps w mine s out v e.event
+    (left_entry w mine mode s e met j.2.named.low free.0 free.1 alone.steps) j m spare

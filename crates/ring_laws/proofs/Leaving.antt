@@ -1,0 +1,289 @@
+-- Where the agreement begins, and events that leave the receive side, looks and lends of the driver's own that keep it.
+use Rattle.std.proofs.Common.{[], ◌%◌, ◌&&◌, ◌*◌, ◌++◌, ◌+◌, ◌/◌, ◌<◌, ◌∙◌, ◌∷◌, ◌≡◌, ◌≤◌, Bool, List, ap, arith, cond}
+use Rattle.std.proofs.Common.{false, inl, inr, length, nat_lt, refl, subst, sym, true, ℕ}
+use Rattle.std.proofs.lemmas.Bool.{and_parts, both_ways, cases_lt, eqb-true}
+use Rattle.std.specs.Prelude.{if◌then◌else◌, ◌==◌}
+use Rattle.history_laws.specs.Prelude.{Block, Bytes, Event, Memory, Outcome, ReceiveQueue, Reply, Ring, State, after}
+use Rattle.history_laws.specs.Prelude.{buffer_size_of, bytes_in, descriptor_type_of, ends_packet, gives, has_block}
+use Rattle.history_laws.specs.Prelude.{is_done, is_lent, read_at, receive_queue_of, reply_to, second_half, step_of}
+use Rattle.ring_laws.specs.ReceivePrelude.{Layout, Lent, Looks, PeeksNext, Receive, Stage, Takes, Told, block_at}
+use Rattle.ring_laws.specs.ReceivePrelude.{descriptor_at, drive, extended, is_part, no_packet, reach, slot_at}
+use Rattle.nic_device.proofs.{Cases.lent_cases, DmaArena.Blocks.is_lent_in, DmaArena.Bus.get-insert_other}
+use Rattle.nic_device.proofs.{DmaArena.Bus.get-insert_same}
+use Rattle.pmd_rx.proofs.PmdSeam.Rings.{each_slot_block, ring_block_apart, slot_fits, slot_place}
+use Rattle.pmd_rx.specs.Receive.{CanLend, LendsNext, MayLend, lent_one, saw, told_by}
+use Rattle.pmd_rx.specs.declared.ring.Stage.TheVariants.{Owes}
+use Rattle.ring_laws.proofs.Kept.{aligned, first_place, named_kept, posted_below, posted_in, slot_below, slots_kept}
+use Rattle.ring_laws.proofs.Parts.{end_last, end_more, none_held, open_more, order_same, seen_more}
+use Rattle.ring_laws.specs.Joint.{Agree, AreOpen, HasSlots, Holds, InOrder, IsAt, IsNamed, IsRing, IsSetUp, Saw}
+use Rattle.ring_laws.specs.Steps.{IfFresh, Leaves, LeavesButOn, LeavingKeeps, LookTellsSlot, SwitchingKeeps}
+use Rattle.ring_laws.proofs.Kept.{stage_kept}
+use Rattle.ring_laws.specs.{Joint.StageHolds, Pieces.Piece, Pieces.piece_at, Starting.StartAgrees, Steps.TellsSlot}
+use Rattle.nic_device.specs.declared.event.Event.TheVariants as event
+use Rattle.std.specs.FinMap as map
+
+-- An event that leaves a queue's receive side, but whether it is on and wanted on, keeps the agreement.
+
+-- a side with the same ring and control word, on or off
+set_up_kept : (q r : ReceiveQueue) (l : Layout) (filled : ℕ) → r.ring ≡ q.ring → r.control ≡ q.control
+    → IsSetUp q l filled → IsSetUp r l filled
+set_up_kept q r l filled ring control h = record {
+  one_buffer = ap descriptor_type_of control ∙ h.one_buffer;
+  buffer_size = ap buffer_size_of control ∙ h.buffer_size;
+  base = ap (λ (x : Ring). x.base) ring ∙ h.base;
+  sized = ap (λ (x : Ring). x.length) ring ∙ h.sized;
+  head = ap (λ (x : Ring). x.head) ring ∙ h.head;
+  tail = ap (λ (x : Ring). x.tail) ring ∙ h.tail;
+}
+
+switching_holds : (queue : ℕ) (s t : State) (out : List Piece) (v : Receive) (gone here : List Piece)
+    → LeavesButOn queue v s t → Holds queue s out v gone here → Holds queue t out v gone here
+switching_holds queue s t out v gone here l h = record {
+  named = named_kept s t queue v.layout l.mode l.vfs h.named;
+  ring = h.ring;
+  side = set_up_kept (receive_queue_of s.registers queue) (receive_queue_of t.registers queue) v.layout (length here)
+      l.ring l.control h.side;
+  posted = h.posted;
+  slots = slots_kept (reach v) s.memory t.memory h.ring l.blocks.ring here l.blocks.blocks h.slots;
+  stage = stage_kept (reach v) s.memory t.memory h.ring l.blocks.ring v.stage l.blocks.fresh h.stage;
+  order = h.order;
+}
+
+pub switching_keeps : SwitchingKeeps
+switching_keeps queue s t out v l (gone, here, h) = (gone, here, switching_holds queue s t out v gone here l h)
+
+pub leaving_holds : (queue : ℕ) (s t : State) (out : List Piece) (v : Receive) (gone here : List Piece)
+    → Leaves queue v s t → Holds queue s out v gone here → Holds queue t out v gone here
+leaving_holds queue s t out v gone here l =
+    switching_holds queue s t out v gone here (record {
+      ring = ap (λ (q : ReceiveQueue). q.ring) l.receive;
+      control = ap (λ (q : ReceiveQueue). q.control) l.receive;
+      mode = l.mode;
+      vfs = l.vfs;
+      blocks = l.blocks;
+    })
+
+pub leaving_keeps : LeavingKeeps
+leaving_keeps queue s t out v l (gone, here, h) = (gone, here, leaving_holds queue s t out v gone here l h)
+
+-- What a driver reads of its next slot, and what it then knows.
+
+-- the descriptor of each slot up to the vacant one is lent
+pub descriptor_lent : (m : Memory) (l : Layout) (here : List Piece) → IsRing l → HasSlots m l here → (k : ℕ)
+    → k ≤ length l.blocks → is_lent m (descriptor_at l k) 16 ≡ true
+descriptor_lent m l here ring h k within =
+    let slot = slot_at l k in
+    is_lent_in m (descriptor_at l k) 16 (l.ring + slot / 128) (16 * (slot % 128))
+    (each_slot_block l.ring l.size (λ b. has_block m b ≡ true) h.there slot (slot_below l k ring within))
+    (slot_place l.ring slot) (slot_fits slot)
+
+-- a look at a slot gives its descriptor, and changes nothing
+pub looked_is : (s : State) (l : Layout) (here : List Piece) (k : ℕ) → IsRing l → HasSlots s.memory l here
+    → k ≤ length l.blocks
+    → step_of s (event.Peek16 (descriptor_at l k)) ≡ gives (Bytes (read_at s.memory (descriptor_at l k) 16)) s
+unfolding step_of
+looked_is s l here k ring h within =
+    let straight : (descriptor_at l k % 16 == 0) ≡ true = aligned l.ring (slot_at l k) in
+    let lent : is_lent s.memory (descriptor_at l k) 16 ≡ true =
+    descriptor_lent s.memory l here ring h k within in
+    rw (straight, lent) refl
+
+pub tells_bytes : (m : Memory) (l : Layout) (here : List Piece) (k : ℕ) → HasSlots m l here → k < length l.blocks
+    → TellsSlot here k (read_at m (descriptor_at l k) 16)
+tells_bytes m l here k h some = record {
+  done = (
+    λ done. elim (cases_lt k (length here)) [
+      | inl is ↦ is
+      | inr none ↦ absurd (both_ways _ (h.posted k none some).waits done)
+    ],
+    λ is. (h.filled k is).done,
+  );
+  end = λ is. (h.filled k is).end;
+  len = λ is. (h.filled k is).len;
+  first = λ is. (h.filled k is).first;
+}
+
+same_bytes : (r : Reply Block) (d e : List ℕ) → r ≡ Bytes d → r ≡ Bytes e → e ≡ d
+same_bytes r d e f g = let both : Bytes d ≡ Bytes e = sym f ∙ g in cc
+
+pub look_tells : LookTellsSlot
+look_tells queue s out v gone here k h some d is =
+    subst (TellsSlot here k)
+    (same_bytes (reply_to s (event.Peek16 (descriptor_at v.layout k))) d _ is
+    (ap (λ (o : Outcome). o.reply)
+    (looked_is s (reach v) here k h.ring h.slots (posted_in v k (omega (arith, some))))))
+    (tells_bytes s.memory (reach v) here k h.slots (posted_below v k some))
+
+-- the driver's state beside its ring changes
+pub with_driver : (queue : ℕ) (s : State) (out : List Piece) (v w : Receive) (gone here : List Piece)
+    → Holds queue s out v gone here → w.layout ≡ v.layout → w.named ≡ v.named
+    → StageHolds s.memory (reach v) w.stage → InOrder out w gone here → Holds queue s out w gone here
+with_driver queue s out v w gone here h same names is order =
+    let to : reach v ≡ reach w = λ k. extended (sym same k) (sym names k) in
+    record {
+      named = subst (IsNamed s queue) (sym same) h.named;
+      ring = subst IsRing to h.ring;
+      side = subst (λ (l : Layout). IsSetUp (receive_queue_of s.registers queue) l (length here)) (sym same) h.side;
+      posted = subst (λ (l : Layout). length here ≤ length l.blocks) (sym same) h.posted;
+      slots = subst (λ (l : Layout). HasSlots s.memory l here) to h.slots;
+      stage = subst (λ (l : Layout). StageHolds s.memory l w.stage) to is;
+      order = order;
+    }
+
+-- a driver that saw a part more
+
+part_open : (most before second : ℕ) → is_part most before second ≡ true → ends_packet second ≡ false
+    → bytes_in second ≡ 2048
+part_open most before second part on =
+    let both : (bytes_in second == 2048 && nat_lt (before + 1) most) ≡ true = rw on at part in
+    eqb-true (bytes_in second) 2048 (and_parts _ _ both).0
+
+stage_after : (m : Memory) (l : Layout) (ends : Bool) → StageHolds m l (cond ends Takes Looks)
+stage_after m l true = tt
+stage_after m l false = tt
+
+at_after : (v : Receive) (t : Told) (ends : Bool) → ends_packet t.second ≡ ends → v.held ≡ no_packet → AreOpen v.seen
+    → (ends_packet t.second ≡ false → bytes_in t.second ≡ 2048)
+    → IsAt (cond ends Takes Looks) (v.seen ++ t ∷ []) v.held
+at_after v t true is none opens full = end_more v.seen t opens is
+at_after v t false is none opens full =
+    (none, open_more v.seen t opens (record { goes_on = is; full = full is }))
+
+saw_tells : (here : List Piece) (k : ℕ) (d : List ℕ) → TellsSlot here k d → is_done (second_half d) ≡ true
+    → Saw (told_by d) (piece_at here k)
+saw_tells here k d t done =
+    let some : k < length here = t.done.0 done in
+    record { first_is = t.first some; len_is = t.len some; end_is = t.end some }
+
+looked_holds : (queue : ℕ) (s : State) (out : List Piece) (v : Receive) (gone here : List Piece) (d : List ℕ) (t : Bool)
+    → Holds queue s out v gone here → v.stage ≡ Looks → TellsSlot here (length v.seen) d
+    → (is_done (second_half d) && is_part v.layout.most (length v.seen) (second_half d)) ≡ t
+    → Holds queue s out (if t then saw v d else v) gone here
+looked_holds queue s out v gone here d false h looks tells is = h
+looked_holds queue s out v gone here d true h looks tells is =
+    let both = and_parts (is_done (second_half d)) _ is in
+    let at : IsAt Looks v.seen v.held = subst (λ (x : Stage). IsAt x v.seen v.held) looks h.order.stage in
+    with_driver queue s out v (saw v d) gone here h refl refl
+    (stage_after s.memory (reach v) (ends_packet (second_half d)))
+    (none_held out gone here v (saw v d) h.order at.0 at.0 refl refl
+    (seen_more v.seen here (told_by d) h.order.seen (tells.done.0 both.0)
+    (saw_tells here (length v.seen) d tells both.0))
+    (at_after v (told_by d) (ends_packet (second_half d)) refl at.0 at.1
+    (part_open v.layout.most (length v.seen) (second_half d) both.1)))
+
+-- an event of the driver's own, as it is written otherwise, by its outcome
+pub by_outcome : (queue : ℕ) (s : State) (out : List Piece) (v : Receive) (e d : Event Block) (o : Outcome) → e ≡ d
+    → step_of s d ≡ o → Agree queue o.state out (drive v d o.reply)
+    → Agree queue (after s e) out (drive v e (reply_to s e))
+by_outcome queue s out v e d o same is agree =
+    subst (λ x. Agree queue (after s x) out (drive v x (reply_to s x))) (sym same)
+    (subst (λ (p : Outcome). Agree queue p.state out (drive v d p.reply)) (sym is) agree)
+
+-- the driver's look at the slot behind those that it saw keeps the agreement
+pub look_keeps : (queue : ℕ) (s : State) (out : List Piece) (v : Receive) (a : ℕ) → Agree queue s out v → PeeksNext v a
+    → Agree queue (after s (event.Peek16 a)) out (drive v (event.Peek16 a) (reply_to s (event.Peek16 a)))
+look_keeps queue s out v a (gone, here, h) own =
+    let k = length v.seen in
+    by_outcome queue s out v (event.Peek16 a) (event.Peek16 (descriptor_at v.layout k)) _ (ap event.Peek16 own.address)
+    (looked_is s (reach v) here k h.ring h.slots (posted_in v k (let i = own.posted in omega (arith, i)))) (
+      gone,
+      here,
+      looked_holds queue s out v gone here (read_at s.memory (descriptor_at v.layout k) 16) _ h own.stage
+          (tells_bytes s.memory (reach v) here k h.slots (posted_below v k own.posted)) refl,
+    )
+
+-- A fresh block is lent.
+
+abbrev with_block : State → Block → State
+with_block s b = record s { memory = map.insert s.memory b.number b.bytes }
+
+-- a fresh block that is lent before another one is the same
+abbrev FreshStays : State → Block → Stage → Type 0
+FreshStays s b stage = IfFresh stage (λ c. map.get (with_block s b).memory c ≡ map.get s.memory c)
+
+fresh_stays : (s : State) (b : Block) (stage : Stage) (seen : List Told) → CanLend stage seen → FreshStays s b stage
+fresh_stays s b Looks seen can = tt
+fresh_stays s b Takes seen can = absurd can
+fresh_stays s b Owes seen can = tt
+fresh_stays s b (Lent c) seen can = absurd can
+
+none_looked : (stage : Stage) (seen : List Told) → CanLend stage seen → stage ≡ Looks → seen ≡ []
+none_looked Looks seen can is = can
+none_looked Takes seen can is = absurd can
+none_looked Owes seen can is = cc
+none_looked (Lent c) seen can is = absurd can
+
+fresh_leaves : (queue : ℕ) (s : State) (v : Receive) (b : Block) → MayLend (reach v) b
+    → FreshStays s b v.stage
+    → Leaves queue v s (with_block s b)
+fresh_leaves queue s v b may none = record {
+  receive = refl;
+  mode = refl;
+  vfs = refl;
+  blocks = record {
+    ring = λ k i.
+        get-insert_other s.memory b.number b.bytes (v.layout.ring + k)
+        (λ e. ring_block_apart v.layout.ring v.layout.size b.number may.not_ring k i (sym e));
+    blocks = λ k i. get-insert_other s.memory b.number b.bytes (block_at (reach v) k) (may.apart k i);
+    fresh = none;
+  };
+}
+
+lent_holds : (queue : ℕ) (s : State) (out : List Piece) (v : Receive) (gone here : List Piece) (b : Block)
+    → Holds queue s out v gone here → LendsNext v b → Holds queue (with_block s b) out (lent_one v b.number) gone here
+lent_holds queue s out v gone here b h own =
+    let t = with_block s b in
+    let may = own.may in
+    let there : has_block t.memory b.number ≡ true = rw (get-insert_same s.memory b.number b.bytes) refl in
+    with_driver queue t out v (lent_one v b.number) gone here
+    (leaving_holds queue s t out v gone here
+    (fresh_leaves queue s v b may (fresh_stays s b v.stage v.seen own.stage)) h) refl refl
+    (record { low = may.low; not_ring = may.not_ring; apart = may.apart; room = may.room; there = there })
+    (order_same out gone here v (lent_one v b.number) h.order refl refl h.order.seen
+    (end_last v.stage v.seen v.held (none_looked v.stage v.seen own.stage) h.order.stage))
+
+pub lend_keeps : (queue : ℕ) (s : State) (out : List Piece) (v : Receive) (b : Block) → Agree queue s out v
+    → LendsNext v b
+    → Agree queue (after s (event.Lend b)) out (drive v (event.Lend b) (reply_to s (event.Lend b)))
+unfolding step_of
+lend_keeps queue s out v b (gone, here, h) own =
+    lent_cases (λ o. Agree queue o.state out (drive v (event.Lend b) o.reply)) s b (gone, here, h)
+    (gone, here, lent_holds queue s out v gone here b h own)
+
+-- The device and a driver that posted nothing yet agree.
+
+pub start_agrees : StartAgrees
+start_agrees queue port tail ring size most s r = (
+  [],
+  [],
+  record {
+    named = r.named;
+    ring = record {
+      some = r.some;
+      few = r.few;
+      next = r.some;
+      ring = r.low;
+      room = r.some;
+      low = λ k i. absurd (omega (arith, i));
+      not_ring = λ k i. absurd (omega (arith, i));
+      apart = λ i j a b ne. absurd (omega (arith, a));
+    };
+    side = record {
+      one_buffer = r.side.one_buffer;
+      buffer_size = r.side.buffer_size;
+      base = r.side.base;
+      sized = r.side.sized;
+      head = r.side.head ∙ first_place size r.some;
+      tail = r.side.tail ∙ first_place size r.some;
+    };
+    posted = omega arith;
+    slots = record {
+      there = r.there;
+      within = omega arith;
+      filled = λ k i. absurd (omega (arith, i));
+      posted = λ k i j. absurd (omega (arith, j));
+    };
+    stage = tt;
+    order = record { cut = λ rest. refl; parts = refl; full = refl; seen = tt; stage = (refl, tt); order = refl };
+  },
+)

@@ -1,0 +1,350 @@
+-- The driver names a block in a descriptor, and moves the tail on: both keep the agreement.
+use Rattle.std.proofs.Common.{[], ◌*◌, ◌++◌, ◌+◌, ◌<◌, ◌∙◌, ◌∷◌, ◌≡◌, ◌≢◌, ◌≤◌, ◌⊎◌, Bool, List, ap, append_assoc}
+use Rattle.std.proofs.Common.{arith, cond, drop, false, inl, inr, length, refl, subst, sym, take, true, ℕ}
+use Rattle.std.proofs.lemmas.Bool.{cases_lt, eqb-false, eqb-true}
+use Rattle.std.proofs.lemmas.List.{append-nil, length-append, length-take-le, length_push, map-append, take-append-drop}
+use Rattle.std.{proofs.lemmas.List.take_all, specs.Prelude.◌==◌}
+use Rattle.history_laws.specs.Prelude.{AreApart, Done, GcrExt, IsWhole, Memory, Place, Port, Rdt, ReceiveQueue}
+use Rattle.history_laws.specs.Prelude.{Registers, State, after, after_write, first_half, gives, is_done, is_lent}
+use Rattle.history_laws.specs.Prelude.{mode_in, named_written, place, read_at, receive_queue_of, reply_to, second_half}
+use Rattle.history_laws.specs.Prelude.{step_of, write_at}
+use Rattle.ring_laws.specs.ReceivePrelude.{Kept, Layout, Lent, Looks, MovesNext, NamesNext, Packet, Receive, Stage, Told}
+use Rattle.ring_laws.specs.ReceivePrelude.{block_at, descriptor_at, drive, ended_of, extended, fresh_of, is_ring_block}
+use Rattle.ring_laws.specs.ReceivePrelude.{kept_of, names, next_stage, posts, reach, records_of, slot_at, vacant}
+use Rattle.nic_device.proofs.DmaArena.Bus.{SameLent-write_at, read_at-write_at_apart, read_at-write_at_same}
+use Rattle.nic_device.proofs.{DmaRing.Fields.halves_come_back, RegisterLaws.Puts.word_at-put_other}
+use Rattle.nic_device.specs.{DmaArena.Memory.SameLent, DmaRing.Driver.posted, DmaRing.Laws.HasHalves}
+use Rattle.nic_device.specs.{RegisterLaws.Laws.word_after, RegisterLaws.Sound.HasShape, VfMap.Pools.mode_of}
+use Rattle.pmd_rx.specs.Receive.{HasLent, MovesOne, naming, parts_first, posts_all, posts_one, tail_behind}
+use Rattle.pmd_rx.proofs.PmdSeam.Places.{wrapped_apart}
+use Rattle.history_laws.proofs.{Lent.poked_is, Written.receive-tail, Written.receive_with_tail}
+use Rattle.ring_laws.proofs.Kept.{IsFilled-kept, IsLoose-kept, IsPosted-kept, aligned, buffer_and_slot, named_kept}
+use Rattle.ring_laws.proofs.Parts.{end_last, left_twice, next_at, none_twice, order_same}
+use Rattle.ring_laws.specs.Joint.{Agree, HasSlots, Holds, InOrder, IsFilled, IsLoose, IsNamed, IsPosted, IsRing}
+use Rattle.ring_laws.proofs.{Kept.names_reach, Kept.posts_reach, Kept.push_place, Kept.reach_long, Kept.slot_below}
+use Rattle.ring_laws.proofs.{Kept.slots_apart, Leaving.by_outcome, Leaving.descriptor_lent}
+use Rattle.ring_laws.specs.{Joint.IsSetUp, Joint.StageHolds, Joint.packets_had, Pieces.Piece, Pieces.piece_at}
+use Rattle.nic_device.specs.declared.event.Event.TheVariants as event
+use Rattle.nic_device.specs.declared.event.Reply.TheVariants as reply
+
+-- A write of the tail of the queue through the driver's number for it.
+
+pub tail_written : (s : State) (queue : ℕ) (l : Layout) (word : ℕ) → IsNamed s queue l
+    → step_of s (event.Write l.port l.tail word)
+    ≡ gives Done (record s { registers = after_write s.registers (place Rdt queue) 0xFFFFFFFF word })
+unfolding step_of
+tail_written s queue l word h = ap (λ n. named_written s n word) h.tail
+
+pub mode_after_tail : (r : Registers) (queue word : ℕ)
+    → mode_in (after_write r (place Rdt queue) 0xFFFFFFFF word) ≡ mode_in r
+mode_after_tail r queue word =
+    ap mode_of (word_at-put_other r.words (place Rdt queue) (place GcrExt 0)
+    (word_after r (place Rdt queue) 0xFFFFFFFF word)
+    (λ e. let other : GcrExt ≡ Rdt = ap (λ (p : Place). p.row) e in cc))
+
+-- The ring with one more slot, whose descriptor names a block.
+
+module _ (m : Memory) (l : Layout) (here : List Piece) (b : ℕ) (ring : IsRing l) (h : HasSlots m l here)
+    (loose : IsLoose m l b) (posted : IsPosted m (descriptor_at l (vacant l)) b) where
+  abbrev on : Layout
+  on = extended l (b ∷ [])
+
+  more : length (l.blocks ++ b ∷ []) ≡ length l.blocks + 1
+  more = length_push l.blocks b
+
+  each_place : (k : ℕ) (P : ℕ → Type 0) → k < length (l.blocks ++ b ∷ [])
+      → (k < length l.blocks → P (block_at l k)) → (k ≡ length l.blocks → P b) → P (block_at on k)
+  each_place k P i f g = push_place l.blocks b k P i f g (cases_lt k (length l.blocks))
+
+  pub ring_more : IsRing on
+  ring_more =
+      record {
+        some = ring.some;
+        few = ring.few;
+        next = ring.next;
+        ring = ring.ring;
+        room = omega (arith, more, loose.room);
+        low = λ k i. each_place k (λ c. c < 65536) i (ring.low k) (λ e. loose.low);
+        not_ring = λ k i.
+            each_place k (λ c. is_ring_block l.ring l.size c ≡ false) i (ring.not_ring k) (λ e. loose.not_ring);
+        apart = λ i j a c ne.
+            each_place i (λ x. x ≢ block_at on j) a
+            (λ p. each_place j (λ y. block_at l i ≢ y) c (λ r. ring.apart i j p r ne) (λ r. loose.apart i p))
+            (λ p. each_place j (λ y. b ≢ y) c (λ r z. loose.apart j r (sym z)) (λ r. absurd (ne (p ∙ sym r))));
+      }
+
+  pub slots_more : HasSlots m on here
+  slots_more =
+      record {
+        there = h.there;
+        within = omega (arith, more, h.within);
+        filled = λ k i.
+            each_place k (λ c. IsFilled m (descriptor_at l k) c (piece_at here k)) (omega (arith, more, h.within, i))
+            (λ low. h.filled k i) (λ e. absurd (omega (arith, e, i, h.within)));
+        posted = λ k i j.
+            each_place k (λ c. IsPosted m (descriptor_at l k) c) j (h.posted k i)
+            (λ e. subst (λ x. IsPosted m (descriptor_at l x) b) (sym e) posted);
+      }
+
+-- The descriptor at the first slot without a block names the one that was lent: a packet may be whole then.
+
+module _ (m : Memory) (l : Layout) (here : List Piece) (ring : IsRing l) (h : HasSlots m l here) (whole : IsWhole m)
+    (b : ℕ) (loose : IsLoose m l b) where
+  abbrev n : Memory
+  n = write_at m (descriptor_at l (vacant l)) (naming b)
+
+  halves : HasHalves (posted (2048 * b)) 0
+  halves = halves_come_back (posted (2048 * b)) 0
+
+  slot_kept : (k : ℕ) → k < length l.blocks → read_at n (descriptor_at l k) 16 ≡ read_at m (descriptor_at l k) 16
+  slot_kept k i =
+      let apart = slots_apart l.ring (slot_at l k) (slot_at l (vacant l))
+      (wrapped_apart l.size l.next k (vacant l) ring.next (omega (arith, i, ring.room)) ring.room
+      (λ e. absurd (omega (arith, e, i)))) in
+      read_at-write_at_apart m (descriptor_at l (vacant l)) (naming b) (descriptor_at l k) 16
+      (subst (λ len. AreApart (descriptor_at l k) 16 (descriptor_at l (vacant l)) len) (sym halves.size) apart)
+
+  block_kept : (c len : ℕ) → is_ring_block l.ring l.size c ≡ false → len ≤ 2048
+      → read_at n (2048 * c) len ≡ read_at m (2048 * c) len
+  block_kept c len other short =
+      read_at-write_at_apart m (descriptor_at l (vacant l)) (naming b) (2048 * c) len
+      (subst (λ k. AreApart (2048 * c) len (descriptor_at l (vacant l)) k) (sym halves.size)
+      (buffer_and_slot c len l.ring l.size (slot_at l (vacant l)) other short
+      (slot_below l (vacant l) ring (omega arith))))
+
+  same : SameLent n m
+  same = SameLent-write_at m (descriptor_at l (vacant l)) (naming b)
+
+  read_back : read_at n (descriptor_at l (vacant l)) 16 ≡ naming b
+  read_back =
+      subst (λ k. read_at n (descriptor_at l (vacant l)) k ≡ naming b) halves.size
+      (read_at-write_at_same m (descriptor_at l (vacant l)) (naming b) whole
+      (subst (λ k. is_lent m (descriptor_at l (vacant l)) k ≡ true) (sym halves.size)
+      (descriptor_lent m l here ring h (vacant l) (omega arith))))
+
+  pub posted_here : IsPosted n (descriptor_at l (vacant l)) b
+  posted_here =
+      record {
+        buffer = ap first_half read_back ∙ halves.first (omega (arith, loose.low));
+        waits = ap (λ d. is_done (second_half d)) read_back ∙ ap is_done (halves.second (omega arith));
+        there = same b ∙ loose.there;
+      }
+
+  pub named_slots : HasSlots n l here
+  named_slots =
+      record {
+        there = λ k i. same (l.ring + k) ∙ h.there k i;
+        within = h.within;
+        filled = λ k i.
+            let j : k < length l.blocks = omega (arith, h.within, i) in
+            let f = h.filled k i in
+            IsFilled-kept m n (descriptor_at l k) (block_at l k) (piece_at here k) (slot_kept k j)
+            (block_kept (block_at l k) (length (piece_at here k).bytes) (ring.not_ring k j) f.short)
+            (same (block_at l k)) f;
+        posted = λ k i j.
+            IsPosted-kept m n (descriptor_at l k) (block_at l k) (slot_kept k j) (same (block_at l k)) (h.posted k i j);
+      }
+
+  pub named_loose : IsLoose n l b
+  named_loose = IsLoose-kept m n l b (same b) loose
+
+loose_of : (m : Memory) (l : Layout) (stage : Stage) → HasLent stage → StageHolds m l stage
+    → IsLoose m l (fresh_of stage)
+loose_of m l (Lent b) lent h = h
+loose_of m l other lent h = absurd lent
+
+not_looks : (stage : Stage) (seen : List Told) → HasLent stage → stage ≡ Looks → seen ≡ []
+not_looks (Lent b) seen lent is = cc
+not_looks other seen lent is = absurd lent
+
+next_holds : (m : Memory) (l : Layout) (seen : List Told) → StageHolds m l (next_stage seen)
+next_holds m l [] = tt
+next_holds m l (t ∷ ts) = tt
+
+names_had : (v : Receive) → packets_had v ≡ packets_had (names v)
+names_had v =
+    let all = v.whole ++ ended_of v.seen v.held in
+    ap (λ (ps : List Packet). v.handed ++ records_of ps)
+    (sym (append-nil all) ∙ ap (λ (ps : List Packet). all ++ ps) (sym (none_twice v.seen v.held)))
+
+order_named : (out gone here : List Piece) (v : Receive) → HasLent v.stage → InOrder out v gone here
+    → InOrder out (names v) gone here
+order_named out gone here v lent o =
+    order_same out gone here v (names v) o (names_had v) (sym (left_twice v.seen v.held)) o.seen
+    (next_at v.seen v.held (end_last v.stage v.seen v.held (not_looks v.stage v.seen lent) o.stage))
+
+pub name_keeps : (queue : ℕ) (s : State) (out : List Piece) (v : Receive) (a : ℕ) (bytes : List ℕ) → IsWhole s.memory
+    → Agree queue s out v → NamesNext v a bytes
+    → Agree queue (after s (event.Poke16 a bytes)) out
+    (drive v (event.Poke16 a bytes) (reply_to s (event.Poke16 a bytes)))
+name_keeps queue s out v a bytes whole (gone, here, h) own =
+    let l = reach v in
+    let b = fresh_of v.stage in
+    let at = descriptor_at l (vacant l) in
+    let t : State = record s { memory = write_at s.memory at (naming b) } in
+    let loose : IsLoose s.memory l b = loose_of s.memory l v.stage own.stage h.stage in
+    let same : extended l (b ∷ []) ≡ reach (names v) = names_reach v in
+    let slots = named_slots s.memory l here h.ring h.slots whole b loose in
+    let free = named_loose s.memory l here h.ring h.slots whole b loose in
+    let posted = posted_here s.memory l here h.ring h.slots whole b loose in
+    by_outcome queue s out v (event.Poke16 a bytes) (event.Poke16 at (naming b)) _
+    (λ k. event.Poke16 (own.address k) (own.bytes_are k))
+    (poked_is s at (naming b) (aligned l.ring (slot_at l (vacant l)))
+    (descriptor_lent s.memory l here h.ring h.slots (vacant l) (omega arith))) (
+      gone,
+      here,
+      record {
+        named = record { low = h.named.low; tail = h.named.tail };
+        ring = subst IsRing same (ring_more t.memory l here b h.ring slots free posted);
+        side = h.side;
+        posted = h.posted;
+        slots = subst (λ (x : Layout). HasSlots t.memory x here) same
+            (slots_more t.memory l here b h.ring slots free posted);
+        stage = next_holds t.memory (reach (names v)) v.seen;
+        order = order_named out gone here v own.stage h.order;
+      },
+    )
+
+-- The tail moves on over slots that name blocks: these are posted, and whole packets handed out.
+
+-- so many named slots, or all where there are fewer
+abbrev many : Receive → ℕ → ℕ
+many v blocks = length (take blocks v.named)
+
+-- the tail behind them is one of the ring's slots
+tail_low : (v : Receive) (blocks : ℕ) → IsRing (reach v) → tail_behind v.layout (many v blocks) < 65536
+tail_low v blocks ring =
+    let all = ap (λ (bs : List ℕ). length bs) (take-append-drop blocks v.named) in
+    let within : many v blocks ≤ length v.named =
+    omega (arith, all, length-append (take blocks v.named) (drop blocks v.named)) in
+    let below : tail_behind v.layout (many v blocks) < v.layout.size =
+    slot_below (reach v) (vacant v.layout + many v blocks) ring (omega (arith, within, reach_long v)) in
+    omega (arith, below, ring.few)
+
+-- the tail moves on over them, and so many packets are handed out
+module _ (v : Receive) (blocks packets : ℕ) where
+  abbrev w : Receive
+  w = posts v blocks packets
+
+  posts_had : packets_had v ≡ packets_had w
+  posts_had =
+      let ended = ended_of v.seen v.held in
+      let first = take packets v.whole in
+      let rest = drop packets v.whole in
+      ap (λ (ps : List Packet). v.handed ++ records_of ps)
+      (ap (λ (ps : List Packet). ps ++ ended) (sym (take-append-drop packets v.whole))
+      ∙ append_assoc first rest ended)
+      ∙ ap (λ (ks : List Kept). v.handed ++ ks) (map-append kept_of first (rest ++ ended))
+      ∙ sym (append_assoc v.handed (records_of first) (records_of (rest ++ ended)))
+
+  set_up_posted : (q : ReceiveQueue) (filled : ℕ) → IsSetUp q v.layout filled
+      → IsSetUp (receive_with_tail q (tail_behind v.layout (many v blocks))) w.layout filled
+  set_up_posted q filled up = record {
+    one_buffer = up.one_buffer;
+    buffer_size = up.buffer_size;
+    base = up.base;
+    sized = up.sized;
+    head = up.head;
+    tail = ap (slot_at v.layout) (sym (length-append v.layout.blocks (take blocks v.named)));
+  }
+
+  module _ (queue : ℕ) (s : State) (out gone here : List Piece) (shape : HasShape s.registers)
+      (h : Holds queue s out v gone here) where
+    abbrev to : ℕ
+    to = tail_behind v.layout (many v blocks)
+
+    abbrev t : State
+    t = record s { registers = after_write s.registers (place Rdt queue) 0xFFFFFFFF to }
+
+    posts_holds : Holds queue t out w gone here
+    posts_holds =
+        let same : reach v ≡ reach w = posts_reach v blocks packets in
+        record {
+          named = record {
+            low = h.named.low;
+            tail = (named_kept s t queue v.layout (mode_after_tail s.registers queue to) refl h.named).tail;
+          };
+          ring = subst IsRing same h.ring;
+          side = subst (λ q. IsSetUp q w.layout (length here))
+              (sym (receive-tail s.registers queue to shape h.named.low (tail_low v blocks h.ring)))
+              (set_up_posted (receive_queue_of s.registers queue) (length here) h.side);
+          posted = omega (arith, h.posted, length-append v.layout.blocks (take blocks v.named));
+          slots = subst (λ (l : Layout). HasSlots s.memory l here) same h.slots;
+          stage = subst (λ (l : Layout). StageHolds s.memory l v.stage) same h.stage;
+          order = order_same out gone here v w h.order posts_had refl h.order.seen h.order.stage;
+        }
+
+-- how far a word moves it on, and which packets go with it
+record IsMoved (v : Receive) (word : ℕ) (w : Receive) : Type 0 where
+  pub blocks : ℕ
+  pub packets : ℕ
+  pub word_is : word ≡ tail_behind v.layout (many v blocks)
+  pub driver : w ≡ posts v blocks packets
+
+-- a word over one packet's blocks, or over all
+abbrev IsWord : Receive → ℕ → Type 0
+IsWord v word = MovesOne v word ⊎ (word ≡ tail_behind v.layout (length v.named))
+
+-- over all that are named, or more
+over_all : (v : Receive) (blocks packets word : ℕ) (w : Receive) → length v.named ≤ blocks
+    → word ≡ tail_behind v.layout (length v.named) → w ≡ posts v blocks packets → IsMoved v word w
+over_all v blocks packets word w all is same =
+    let e : many v blocks ≡ length v.named = ap (λ (bs : List ℕ). length bs) (take_all blocks v.named all) in
+    record { blocks = blocks; packets = packets; word_is = is ∙ ap (tail_behind v.layout) (sym e); driver = same }
+
+over_one : (v : Receive) (word : ℕ) → word ≡ tail_behind v.layout (parts_first v.whole) → IsWord v word
+    → (length v.named < parts_first v.whole) ⊎ (parts_first v.whole ≤ length v.named)
+    → IsMoved v word (posts_one v)
+over_one v word is by (inr few) =
+    let e : many v (parts_first v.whole) ≡ parts_first v.whole =
+    length-take-le (parts_first v.whole) v.named few in
+    record {
+      blocks = parts_first v.whole;
+      packets = 1;
+      word_is = is ∙ ap (tail_behind v.layout) (sym e);
+      driver = refl;
+    }
+over_one v word is (inl one) (inl more) =
+    absurd (omega (arith, one.few, more))
+over_one v word is (inr all) (inl more) =
+    over_all v (parts_first v.whole) 1 word (posts_one v) (omega (arith, more)) all refl
+
+not_one : (v : Receive) (word : ℕ) → (word == tail_behind v.layout (parts_first v.whole)) ≡ false → IsWord v word
+    → word ≡ tail_behind v.layout (length v.named)
+not_one v word other (inl one) = absurd (eqb-false word _ other one.word_is)
+not_one v word other (inr all) = all
+
+moved_by : (v : Receive) (word : ℕ) (t : Bool) → (word == tail_behind v.layout (parts_first v.whole)) ≡ t
+    → IsWord v word → IsMoved v word (cond t (posts_one v) (posts_all v))
+moved_by v word true is by =
+    over_one v word (eqb-true word _ is) by (cases_lt (length v.named) (parts_first v.whole))
+moved_by v word false is by =
+    over_all v (length v.named) (length v.whole) word (posts_all v) (omega arith) (not_one v word is by) refl
+
+moved_is : (v : Receive) (port : Port) (number word : ℕ) → MovesNext v port number word
+    → IsMoved v word (drive v (event.Write port number word) reply.Done)
+moved_is v port number word own =
+    moved_by v word (word == tail_behind v.layout (parts_first v.whole)) refl own.word_is
+
+pub word_low : (v : Receive) (port : Port) (number word : ℕ) → IsRing (reach v) → MovesNext v port number word
+    → word < 65536
+word_low v port number word ring own =
+    let m = moved_is v port number word own in
+    subst (λ (x : ℕ). x < 65536) (sym m.word_is) (tail_low v m.blocks ring)
+
+pub move_keeps : (queue : ℕ) (s : State) (out : List Piece) (v : Receive) (port : Port) (number word : ℕ)
+    → HasShape s.registers → Agree queue s out v → MovesNext v port number word
+    → Agree queue (after s (event.Write port number word)) out
+    (drive v (event.Write port number word) (reply_to s (event.Write port number word)))
+move_keeps queue s out v port number word shape (gone, here, h) own =
+    let m = moved_is v port number word own in
+    by_outcome queue s out v (event.Write port number word) (event.Write v.layout.port v.layout.tail word) _
+    (λ k. event.Write (own.port_is k) (own.number_is k) word) (tail_written s queue v.layout word h.named)
+    (subst (Agree queue (record s { registers = after_write s.registers (place Rdt queue) 0xFFFFFFFF word }) out)
+    (sym m.driver)
+    (subst (λ x. Agree queue (record s { registers = after_write s.registers (place Rdt queue) 0xFFFFFFFF x }) out
+    (posts v m.blocks m.packets)) (sym m.word_is) (
+      gone,
+      here,
+      posts_holds v m.blocks m.packets queue s out gone here shape h,
+    )))

@@ -1,0 +1,93 @@
+-- The enable register of the driver's transmit side, and a side that is off.
+use Rattle.std.proofs.Common.{[], ◌<◌, ◌∙◌, ◌∷◌, ◌≡◌, List, ap, arith, drop, false, inl, inr, length, refl, ℕ}
+use Rattle.std.proofs.{lemmas.Bool.cases_Bool, lemmas.List.length-drop}
+use Rattle.history_laws.specs.Prelude.{Block, Entry, Event, Memory, State, Tx, Txdctl, after, has_bit, leads_to, place}
+use Rattle.history_laws.specs.Prelude.{transmit_queue_of}
+use Rattle.ring_laws.specs.TransmitPrelude.{side_of}
+use Rattle.history_laws.proofs.Steady.{asked, idle_silent, off_idle, off_steady, seen_off, steady_kept, unwanted_steady}
+use Rattle.history_laws.proofs.{Deeds.side_did, Leaving.plain-write, Leaving.transmit_left}
+use Rattle.history_laws.proofs.DeviceLaws.StandingAccesses.{write_memory}
+use Rattle.history_laws.specs.{Left.Deed, Sides.Side}
+use Rattle.ring_laws.specs.Off.{AllLeaveSide, GuardIsOff, IsOff, IsUnwanted, LeavesSide, OffStays}
+use Rattle.ring_laws.proofs.Sparing.{sends_on, set_up-same, still-agrees}
+use Rattle.ring_laws.specs.{Agreeing.SendsInOrder, Enable.EnableWordsKeep, Sent.sent_by, Sent.sent_in}
+use Rattle.std.specs.FinMap as map
+use Rattle.nic_device.specs.declared.event.Event.TheVariants as event
+use Rattle.history_laws.specs.Sides as sides
+
+-- A word that is written to the enable register of the driver's transmit side keeps what the two agree on.
+
+pub enable_words_keep : EnableWordsKeep
+enable_words_keep s queue sent v port n word made names rests (f, h) =
+    let e = event.Write port n word in
+    let is = asked queue s h.based.sound h.based.small port n word Tx names in
+    still-agrees s queue sent v f h e made (plain-write s port n word (place Txdctl queue) 0xFFFFFFFF names refl)
+    (set_up-same (transmit_queue_of s.registers queue) (transmit_queue_of (after s e).registers queue) v.layout v.posted
+    f (ap (λ (x : Side). x.ring) is) (ap (λ (x : Side). x.writeback) is) h.set_up)
+    (sends is h.sends)
+    (λ number is. ap (λ (m : Memory). map.get m number) (write_memory s port n word))
+  where
+    Sends : State → Type 0
+    Sends t = SendsInOrder t queue sent v.layout.limit (drop f v.outstanding) v.accepted
+
+    -- a side that was cut off isn't asked to be on: segments are outstanding
+    still_off : 0 < length (drop f v.outstanding) → has_bit 25 word ≡ false
+    still_off more = elim (cases_Bool (has_bit 25 word)) [
+      | inl on ↦ absurd (omega (arith, more, length-drop f v.outstanding, ap length (rests on)))
+      | inr off ↦ off
+    ]
+
+    sends : side_of Tx queue (after s (event.Write port n word))
+        ≡ record (side_of Tx queue s) { wanted = has_bit 25 word }
+        → Sends s → Sends (after s (event.Write port n word))
+    sends is =
+        sends_on s (after s (event.Write port n word)) queue sent v.layout.limit (drop f v.outstanding) v.accepted
+        (ap (λ (y : Side). y.staged) is)
+        (λ x. (ap (λ (y : Side). y.on) is ∙ x.off, ap (λ (y : Side). y.wanted) is ∙ still_off x.more))
+
+-- A transmit side that isn't wanted on stays so; one that is off besides stays off, and sends nothing.
+
+-- one event
+module _ (queue : ℕ) (s : State) (small : queue < 128) (e : Event Block) (x : LeavesSide queue s e) where
+  did : Deed Tx queue s e
+  did = side_did Tx queue s e x.sound small (λ other apart. transmit_left queue s (after s e) (x.side other apart))
+
+  unwanted-stays : IsUnwanted queue s → IsUnwanted queue (after s e)
+  unwanted-stays none = steady_kept Tx queue s e sides.IsUnwanted none unwanted_steady did
+
+  off-stays : IsOff queue s → IsOff queue (after s e)
+  off-stays is = steady_kept Tx queue s e sides.IsOff is off_steady did
+
+  off-sends-none : IsOff queue s → sent_by queue s e ≡ []
+  off-sends-none is = (idle_silent Tx queue s e sides.IsOff is off_idle did).sent
+
+-- a history
+
+off_history : (queue : ℕ) (s : State) (h : List Entry) → queue < 128 → AllLeaveSide queue s h → IsOff queue s
+    → IsOff queue (leads_to s h)
+off_history queue s [] small all is = is
+off_history queue s (e ∷ es) small all is =
+    off_history queue (after s e.event) es small all.1 (off-stays queue s small e.event all.0 is)
+
+silent_history : (queue : ℕ) (s : State) (h : List Entry) → queue < 128 → AllLeaveSide queue s h → IsOff queue s
+    → sent_in queue s h ≡ []
+silent_history queue s [] small all is = refl
+silent_history queue s (e ∷ es) small all is =
+    rw (off-sends-none queue s small e.event all.0 is)
+    (silent_history queue (after s e.event) es small all.1 (off-stays queue s small e.event all.0 is))
+
+pub off_stays : OffStays
+off_stays = record {
+  unwanted = λ queue s e small x none. unwanted-stays queue s small e x none;
+  off = off_history;
+  silent = silent_history;
+}
+
+-- What a driver does by the enable word: it asks for the side to be on or off, and sees the side off.
+
+pub guard_is_off : GuardIsOff
+guard_is_off = record {
+  written = λ queue s port n word small sound names none.
+      ap (λ (x : Side). x.wanted) (asked queue s sound small port n word Tx names) ∙ none;
+  read = λ queue s port n word none names told zero. seen_off queue s port n word told Tx names zero none;
+}

@@ -1,0 +1,246 @@
+-- Parts of packets: what the driver saw of them, and how the pieces are cut behind those that were consumed.
+use Rattle.std.proofs.Common.{[], ◌++◌, ◌+◌, ◌<◌, ◌∙◌, ◌∷◌, ◌≡◌, ◌≤◌, Bool, List, ap, append_assoc, arith, cond, drop}
+use Rattle.std.proofs.Common.{false, length, refl, subst, suc, sym, take, true, ℕ}
+use Rattle.std.proofs.lemmas.List.{append-nil, length-append, length_push, map-append}
+use Rattle.history_laws.specs.Prelude.{Block, bytes_in, ends_packet}
+use Rattle.ring_laws.specs.ReceivePrelude.{Kept, Looks, Packet, Receive, Stage, Takes, Told, ended_of, kept_of, left_of}
+use Rattle.ring_laws.specs.ReceivePrelude.{next_stage, no_packet, records_of, took}
+use Rattle.pmd_rx.proofs.PmdSeam.Copying.{bytes-more}
+use Rattle.pmd_rx.specs.{PmdSeam.Bufs.bytes_of, Receive.if_any, Receive.joined}
+use Rattle.ring_laws.specs.Joint.{AreCut, AreOpen, AreSeen, EndLast, InOrder, IsAt, IsOpen, Saw, packets_had}
+use Rattle.ring_laws.specs.Pieces.{Piece, open_after, packet_told, packets_behind, packets_of, piece_at}
+use Rattle.ring_laws.specs.Joint.{still_held}
+
+-- what was seen stays so as a piece more is written
+pub seen_longer : (seen : List Told) (here : List Piece) (p : Piece) → AreSeen seen here
+    → AreSeen seen (here ++ p ∷ [])
+seen_longer [] here p is = tt
+seen_longer (t ∷ ts) [] p is = absurd is
+seen_longer (t ∷ ts) (q ∷ here) p is = (is.0, seen_longer ts here p is.1)
+
+-- a slot more is seen
+pub seen_more : (seen : List Told) (here : List Piece) (t : Told) → AreSeen seen here → length seen < length here
+    → Saw t (piece_at here (length seen)) → AreSeen (seen ++ t ∷ []) here
+seen_more [] [] t is below saw = absurd (omega (arith, below))
+seen_more [] (q ∷ here) t is below saw = (saw, tt)
+seen_more (u ∷ ts) [] t is below saw = absurd is
+seen_more (u ∷ ts) (q ∷ here) t is below saw =
+    (is.0, seen_more ts here t is.1 (omega (arith, below)) saw)
+
+pub seen_within : (seen : List Told) (here : List Piece) → AreSeen seen here → length seen ≤ length here
+seen_within [] here is = omega arith
+seen_within (t ∷ ts) [] is = absurd is
+seen_within (t ∷ ts) (q ∷ here) is = let e = seen_within ts here is.1 in omega (arith, e)
+
+pub open_more : (seen : List Told) (t : Told) → AreOpen seen → IsOpen t → AreOpen (seen ++ t ∷ [])
+open_more [] t is opens = (opens, tt)
+open_more (u ∷ ts) t is opens = (is.0, open_more ts t is.1 opens)
+
+pub end_more : (seen : List Told) (t : Told) → AreOpen seen → ends_packet t.second ≡ true → EndLast (seen ++ t ∷ [])
+end_more [] t is end = end
+end_more (u ∷ []) t is end = (is.0, end)
+end_more (u ∷ w ∷ ts) t is end = (is.0, end_more (w ∷ ts) t is.1 end)
+
+-- behind the looks, an end was seen or nothing is
+pub end_last : (stage : Stage) (seen : List Told) (held : Packet) → (stage ≡ Looks → seen ≡ []) → IsAt stage seen held
+    → EndLast seen
+end_last Looks seen held none is = subst (λ (ts : List Told). EndLast ts) (sym (none refl)) tt
+end_last other seen held none is = is
+
+pub next_at : (seen : List Told) (held : Packet) → EndLast seen → IsAt (next_stage seen) seen (left_of seen held)
+next_at [] held is = (refl, tt)
+next_at (t ∷ ts) held is = is
+
+-- no packet is whole twice, and what is left stays
+pub none_twice : (seen : List Told) (held : Packet) → ended_of seen (left_of seen held) ≡ []
+none_twice [] held = refl
+none_twice (t ∷ ts) held = refl
+
+pub left_twice : (seen : List Told) (held : Packet) → left_of seen (left_of seen held) ≡ left_of seen held
+left_twice [] held = refl
+left_twice (t ∷ ts) held = refl
+
+-- where nothing is held, it is the same whatever was seen
+pub none_ended : (seen : List Told) → ended_of seen no_packet ≡ []
+none_ended [] = refl
+none_ended (t ∷ ts) = refl
+
+pub none_left : (seen : List Told) → left_of seen no_packet ≡ no_packet
+none_left [] = refl
+none_left (t ∷ ts) = refl
+
+-- a part joins a packet
+
+take_past : (xs ys : List ℕ) (n : ℕ) → take (length xs + n) (xs ++ ys) ≡ xs ++ take n ys
+take_past [] ys n = ap (λ (k : ℕ). take k ys) (let e : 0 + n ≡ n = omega arith in e)
+take_past (x ∷ xs) ys n =
+    ap (λ (k : ℕ). take k (x ∷ (xs ++ ys))) (let e : suc (length xs) + n ≡ suc (length xs + n) = omega arith in e)
+    ∙ ap (λ (zs : List ℕ). x ∷ zs) (take_past xs ys n)
+
+take_all : (xs : List ℕ) → take (length xs) xs ≡ xs
+take_all [] = refl
+take_all (x ∷ xs) = ap (λ (zs : List ℕ). x ∷ zs) (take_all xs)
+
+joined_bytes : (p : Packet) (b : Block) (t : Told) → length (bytes_of p.bufs) ≡ p.len
+    → (kept_of (joined p b t)).bytes ≡ (kept_of p).bytes ++ take (bytes_in t.second) b.bytes
+joined_bytes p b t full =
+    let xs = bytes_of p.bufs in
+    let n = bytes_in t.second in
+    ap (λ (ys : List ℕ). take (p.len + n) ys) (bytes-more p.bufs b)
+    ∙ ap (λ (k : ℕ). take (k + n) (xs ++ b.bytes)) (sym full)
+    ∙ take_past xs b.bytes n
+    ∙ ap (λ (ys : List ℕ). ys ++ take n b.bytes) (sym (ap (λ (k : ℕ). take k xs) (sym full) ∙ take_all xs))
+
+joined_length : (p : Packet) (b : Block) (t : Told) → length (bytes_of p.bufs) ≡ p.len → length b.bytes ≡ 2048
+    → bytes_in t.second ≡ 2048 → length (bytes_of (joined p b t).bufs) ≡ (joined p b t).len
+joined_length p b t full whole fills =
+    let e = ap (λ (ys : List ℕ). length ys) (bytes-more p.bufs b) in
+    omega (arith, e, length-append (bytes_of p.bufs) b.bytes, full, whole, fills)
+
+any_pushed : (bs : List Block) (b : Block) (p : Packet) → if_any (bs ++ b ∷ []) p ≡ p ∷ []
+any_pushed [] b p = refl
+any_pushed (c ∷ bs) b p = refl
+
+pub open_pushed : (n : ℕ) (ps : List Piece) (p : Piece)
+    → open_after n (ps ++ p ∷ []) ≡ cond p.end 0 (open_after n ps + 1)
+open_pushed n [] p = refl
+open_pushed n (q ∷ ps) p = open_pushed (cond q.end 0 (n + 1)) ps p
+
+-- what stands behind a piece that ends its packet, and behind one that doesn't
+
+behind_end : (front : List ℕ) (p : Piece) (rest : List Piece) → p.end ≡ true
+    → packets_behind front (p ∷ rest) ≡ packet_told (front ++ p.bytes) p.first ∷ packets_behind [] rest
+behind_end front p rest is = rw is refl
+
+behind_open : (front : List ℕ) (p : Piece) (rest : List Piece) → p.end ≡ false
+    → packets_behind front (p ∷ rest) ≡ packets_behind (front ++ p.bytes) rest
+behind_open front p rest is = rw is refl
+
+-- a packet is whole behind some
+put_before : (hs : List Kept) (ws : List Packet) (p : Packet) (ks : List Kept)
+    → (hs ++ records_of (ws ++ [])) ++ kept_of p ∷ ks ≡ (hs ++ records_of (ws ++ p ∷ [])) ++ ks
+put_before hs ws p ks =
+    let k : Kept = kept_of p in
+    ap (λ (xs : List Packet). (hs ++ records_of xs) ++ k ∷ ks) (append-nil ws)
+    ∙ sym (append_assoc (hs ++ records_of ws) (k ∷ []) ks)
+    ∙ ap (λ (xs : List Kept). xs ++ ks) (append_assoc hs (records_of ws) (k ∷ [])
+    ∙ ap (λ (xs : List Kept). hs ++ xs) (sym (map-append kept_of ws (p ∷ []))))
+
+-- the part of the next slot is taken
+module _ (out gone ps : List Piece) (v : Receive) (p : Piece) (t : Told) (b : Block)
+    (bytes : take (bytes_in t.second) b.bytes ≡ p.bytes) (whole : length b.bytes ≡ 2048) where
+  kept_is : length (bytes_of v.held.bufs) ≡ v.held.len → Saw t p
+      → packet_told ((kept_of v.held).bytes ++ p.bytes) p.first ≡ kept_of (joined v.held b t)
+  kept_is full saw = λ k.
+      packet_told
+      ((ap (λ (xs : List ℕ). (kept_of v.held).bytes ++ xs) (sym bytes) ∙ sym (joined_bytes v.held b t full)) k)
+      (sym saw.first_is k)
+
+  shift : (rest : List Piece) → packets_of ((gone ++ p ∷ []) ++ rest) ≡ packets_of (gone ++ p ∷ rest)
+  shift rest = ap (λ (xs : List Piece). packets_of xs) (append_assoc gone (p ∷ []) rest)
+
+  -- before it was taken, by what was seen
+  module _ (cut : (rest : List Piece)
+      → packets_of (gone ++ rest)
+      ≡ (v.handed ++ records_of (v.whole ++ [])) ++ packets_behind (kept_of v.held).bytes rest)
+      (parts : open_after 0 gone ≡ length v.held.bufs) (full : length (bytes_of v.held.bufs) ≡ v.held.len)
+      (saw : Saw t p) where
+    last_cut : p.end ≡ true → AreCut (gone ++ p ∷ []) (took v (t ∷ []) b)
+    last_cut end rest =
+        shift rest ∙ cut (p ∷ rest)
+        ∙ ap (λ (ks : List Kept). (v.handed ++ records_of (v.whole ++ [])) ++ ks)
+        (behind_end (kept_of v.held).bytes p rest end
+        ∙ ap (λ (k : Kept). k ∷ packets_behind [] rest) (kept_is full saw))
+        ∙ put_before v.handed v.whole (joined v.held b t) (packets_behind [] rest)
+        ∙ ap (λ (ps : List Packet). (v.handed ++ records_of (v.whole ++ ps)) ++ packets_behind [] rest)
+        (sym (any_pushed v.held.bufs b (joined v.held b t)))
+
+    more_cut : (u : Told) (ts : List Told) → p.end ≡ false → AreCut (gone ++ p ∷ []) (took v (t ∷ u ∷ ts) b)
+    more_cut u ts opens rest =
+        shift rest ∙ cut (p ∷ rest)
+        ∙ ap (λ (ks : List Kept). (v.handed ++ records_of (v.whole ++ [])) ++ ks)
+        (behind_open (kept_of v.held).bytes p rest opens)
+        ∙ ap (λ (xs : List ℕ). (v.handed ++ records_of (v.whole ++ [])) ++ packets_behind xs rest)
+        (ap (λ (xs : List ℕ). (kept_of v.held).bytes ++ xs) (sym bytes) ∙ sym (joined_bytes v.held b t full))
+
+    taken : (ts : List Told) → EndLast (t ∷ ts) → AreSeen ts ps → out ≡ gone ++ p ∷ ps
+        → InOrder out (took v (t ∷ ts) b) (gone ++ p ∷ []) ps
+    taken [] last seen order =
+        let end : p.end ≡ true = sym saw.end_is ∙ last in
+        record {
+          cut = last_cut end;
+          parts = open_pushed 0 gone p ∙ rw end refl;
+          full = refl;
+          seen = tt;
+          stage = tt;
+          order = order ∙ sym (append_assoc gone (p ∷ []) ps);
+        }
+    taken (u ∷ ts) last seen order =
+        let opens : p.end ≡ false = sym saw.end_is ∙ last.0.goes_on in
+        record {
+          cut = more_cut u ts opens;
+          parts = open_pushed 0 gone p ∙ ap (λ (e : Bool). cond e 0 (open_after 0 gone + 1)) opens
+              ∙ (let e : open_after 0 gone + 1 ≡ length (v.held.bufs ++ b ∷ []) =
+              omega (arith, parts, length_push v.held.bufs b) in e);
+          full = joined_length v.held b t full whole last.0.full;
+          seen = seen;
+          stage = last.1;
+          order = order ∙ sym (append_assoc gone (p ∷ []) ps);
+        }
+
+pub order_on : (out gone here : List Piece) (v : Receive) (t : Told) (ts : List Told) (b : Block)
+    → InOrder out v gone here → v.seen ≡ t ∷ ts → v.stage ≡ Takes → 0 < length here
+    → take (bytes_in t.second) b.bytes ≡ (piece_at here 0).bytes → length b.bytes ≡ 2048
+    → InOrder out (took v (t ∷ ts) b) (gone ++ piece_at here 0 ∷ []) (drop 1 here)
+order_on out gone [] v t ts b o is takes some bytes whole = absurd (omega (arith, some))
+order_on out gone (p ∷ ps) v t ts b o is takes some bytes whole =
+    let seen : AreSeen (t ∷ ts) (p ∷ ps) = subst (λ (xs : List Told). AreSeen xs (p ∷ ps)) is o.seen in
+    let last : EndLast (t ∷ ts) =
+    subst (λ (xs : List Told). EndLast xs) is
+    (subst (λ (s : Stage). IsAt s v.seen v.held) takes o.stage) in
+    let cut : (rest : List Piece)
+    → packets_of (gone ++ rest)
+    ≡ (v.handed ++ records_of (v.whole ++ [])) ++ packets_behind (kept_of v.held).bytes rest =
+    λ rest. o.cut rest
+    ∙ ap (λ (xs : List Told). (v.handed ++ records_of (v.whole ++ ended_of xs v.held))
+    ++ packets_behind (kept_of (left_of xs v.held)).bytes rest) is in
+    taken out gone ps v p t b bytes whole cut
+    (o.parts ∙ ap (λ (xs : List Told). length (left_of xs v.held).bufs) is)
+    (ap (λ (xs : List Told). length (bytes_of (left_of xs v.held).bufs)) (sym is) ∙ o.full
+    ∙ ap (λ (xs : List Told). (left_of xs v.held).len) is)
+    seen.0 ts last seen.1 o.order
+
+-- the first part of what was seen is that of the first slot
+
+first_saw : (t : Told) (ts : List Told) (ps : List Piece) → AreSeen (t ∷ ts) ps → Saw t (piece_at ps 0)
+first_saw t ts [] are = absurd are
+first_saw t ts (p ∷ ps) are = are.0
+
+pub first_seen : (seen : List Told) (here : List Piece) (t : Told) (ts : List Told) → AreSeen seen here → seen ≡ t ∷ ts
+    → Saw t (piece_at here 0)
+first_seen seen here t ts are is = first_saw t ts here (subst (λ (xs : List Told). AreSeen xs here) is are)
+
+-- where the same packets are had, and the same parts are held, the driver's state beside them may change
+pub order_same : (out gone here : List Piece) (v w : Receive) → InOrder out v gone here → packets_had v ≡ packets_had w
+    → still_held v ≡ still_held w → AreSeen w.seen here → IsAt w.stage w.seen w.held → InOrder out w gone here
+order_same out gone here v w o had still seen stage = record {
+  cut = λ rest. o.cut rest ∙ (λ k. had k ++ packets_behind (kept_of (still k)).bytes rest);
+  parts = o.parts ∙ ap (λ (p : Packet). length p.bufs) still;
+  full = ap (λ (p : Packet). length (bytes_of p.bufs)) (sym still) ∙ o.full ∙ ap (λ (p : Packet). p.len) still;
+  seen = seen;
+  stage = stage;
+  order = o.order;
+}
+
+-- while nothing is held, what is seen may change
+pub none_held : (out gone here : List Piece) (v w : Receive) → InOrder out v gone here → v.held ≡ no_packet
+    → w.held ≡ no_packet → w.handed ≡ v.handed → w.whole ≡ v.whole → AreSeen w.seen here
+    → IsAt w.stage w.seen w.held → InOrder out w gone here
+none_held out gone here v w o none still same whole seen stage =
+    let left : (u : Receive) → u.held ≡ no_packet → still_held u ≡ no_packet =
+    λ u is. ap (λ (p : Packet). left_of u.seen p) is ∙ none_left u.seen in
+    let ended : (u : Receive) → u.held ≡ no_packet → ended_of u.seen u.held ≡ [] =
+    λ u is. ap (λ (p : Packet). ended_of u.seen p) is ∙ none_ended u.seen in
+    let had = ended v none ∙ sym (ended w still) in
+    order_same out gone here v w o (λ k. sym same k ++ records_of (sym whole k ++ had k))
+    (left v none ∙ sym (left w still)) seen stage

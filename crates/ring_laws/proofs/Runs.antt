@@ -1,0 +1,293 @@
+-- Over a whole history.
+use Rattle.std.proofs.Common.{[], ◌++◌, ◌+◌, ◌-◌, ◌<◌, ◌∙◌, ◌∷◌, ◌≡◌, ◌≢◌, ◌≤◌, List, None, Option, Some, ap}
+use Rattle.std.proofs.Common.{append_assoc, arith, drop, false, inl, inr, length, refl, subst, sym, true, ℕ}
+use Rattle.std.proofs.lemmas.Bool.{both_ways, cases_Bool, cases_eq, cases_lt}
+use Rattle.std.proofs.lemmas.List.{append-nil, drop_all, get_or-drop, length-append, length-drop, map-append}
+use Rattle.std.specs.Prelude.{◌==◌, IsTrue, slice_index_or}
+use Rattle.history_laws.specs.Prelude.{Block, Blocks, Entry, Event, IsLegal, LeavesBlock, Reply, Rx, State, Tx, Watched}
+use Rattle.history_laws.specs.Prelude.{WritesOutside, Wrote, after, calls_of, leads_to, read_at, reply_to, staged_by}
+use Rattle.ring_laws.specs.TransmitPrelude.{Accepts, Advances, Asks, Elsewhere, Kept, Lends, Looks, Move, Reaps, Segment}
+use Rattle.ring_laws.specs.TransmitPrelude.{Sender, descriptor_at, first_end, has_lent, is_sent, moved, no_segment}
+use Rattle.ring_laws.specs.TransmitPrelude.{segment_at}
+use Rattle.pmd_tx.specs.Plays.{played_by}
+use Rattle.history_laws.proofs.Leaving.{left-setting, left-side, left_transmit, step_is}
+use Rattle.history_laws.proofs.{Blocks.clear_avoids, Blocks.left-block, Deeds.received-none, Deeds.silent_else}
+use Rattle.history_laws.proofs.DeviceLaws.{Standing.stays_within, StandingQueues.receiving_blocks}
+use Rattle.history_laws.specs.Left.{is_step_of}
+use Rattle.history_laws.specs.DeviceLaws.Leaving.{ReceivesOutside}
+use Rattle.ring_laws.specs.Agreeing.{Agrees, AgreesAt, SendsInOrder, bytes_of, frames_from}
+use Rattle.ring_laws.specs.Alone.{IsAlone, MayComeAlone, MayMoveAlone, MayRunAlone}
+use Rattle.ring_laws.specs.Laws.{AloneMayRun, FindsWaiting, IdleIsAllSent, IsPrefixOf, LeftAloneIsSpared}
+use Rattle.ring_laws.specs.Turns.{MayCome, MayMove, MayRun, Turn, entries_of, known, sender_after, turns_of}
+use Rattle.ring_laws.proofs.{Advancing.end-last, Advancing.look-fetched, Advancing.look-tells, TransmitLent.AreMine}
+use Rattle.ring_laws.proofs.{TransmitLent.mine-moved, Packets.frame_of_end, Playing.move-keeps, Sparing.spares-keeps}
+use Rattle.ring_laws.specs.{Laws.SentIsPrefix, Laws.SentIsPrefixOfTaken, Laws.SentIsPrefixWhereAlone}
+use Rattle.ring_laws.specs.{Laws.WaitingIsNotAllSent, Sent.sent_by, Sent.sent_in, Sparing.IsLeft}
+use Rattle.ring_laws.specs.{Sparing.ReceiveOwes, Sparing.is_transmit_of}
+use Rattle.nic_device.specs.declared.event.Event.TheVariants as event
+
+-- An event that leaves blocks alone leaves those of a driver that sends.
+
+-- what is received, as the reply tells
+received_outside : (queue : ℕ) (mine : Blocks) (v : Sender) (r : Reply Block) (b : ℕ) → IsTrue (has_lent v b)
+    → IsTrue (mine b) → WritesOutside queue mine r → ReceiveOwes queue v r → ReceivesOutside r b
+received_outside queue mine v (Wrote on slot end desc at len) b lent is outside owes = elim (cases_eq on queue) [
+  | inl own ↦ owes.1 own b lent
+  | inr ne ↦
+      (clear_avoids mine desc 16 b (outside ne).1 is (omega arith), clear_avoids mine at len b (outside ne).0 is owes.0)
+]
+received_outside queue mine v other b lent is outside owes = tt
+
+module _ (w : Watched) (mine : Blocks) (v : Sender) (s : State) (b : ℕ) (lent : IsTrue (has_lent v b)) where
+  received_block : IsLeft w mine v s event.RxStep → LeavesBlock b s (after s event.RxStep)
+  received_block x =
+      receiving_blocks s b
+      (received_outside w.queue mine v (reply_to s event.RxStep) b lent (x.lent b lent) x.steps x.owed)
+
+  spared_block : (e : Event Block) → IsLeft w mine v s e → is_transmit_of w.queue e ≡ false
+      → LeavesBlock b s (after s e)
+  spared_block e x other = elim (cases_Bool (is_step_of Rx w.queue e)) as (λ _. LeavesBlock b s (after s e)) [
+    | inl own ↦
+        let is = step_is Rx w.queue e own in
+        subst (λ (n : Event Block). LeavesBlock b s (after s n)) (sym is)
+        (received_block (subst (IsLeft w mine v s) is x))
+    | inr none ↦
+        left-block w.queue mine s x.sound b (x.lent b lent) e x.made x.blocks x.steps
+        (received-none w.queue s e none) (silent_else Tx w.queue s e other)
+  ]
+
+pub left_alone_is_spared : LeftAloneIsSpared
+left_alone_is_spared w mine v s e h = record {
+  made = h.made;
+  setting = left-setting w s h.functions e h.registers;
+  side = λ other apart.
+      left_transmit w.queue s (after s e) (left-side w s h.functions Tx e h.registers other apart);
+  blocks = λ other b lent. spared_block w mine v s b lent e h other;
+}
+
+-- Over a whole history.
+
+-- one turn
+pub one-turn : (s : State) (queue : ℕ) (sent : List (List ℕ)) (v : Sender) (e : Event Block) (r : Reply Block)
+    (o : Option Move) → Agrees s queue sent v → r ≡ reply_to s e → MayCome queue v s e o
+    → Agrees (after s e) queue (sent ++ sent_by queue s e) (known v o r)
+one-turn s queue sent v e r None (f, h) is may = spares-keeps s queue sent v f h e may
+one-turn s queue sent v e r (Some m) (f, h) is may =
+    subst (λ x. Agrees (after s e) queue (sent ++ sent_by queue s e) (moved v m x)) (sym is)
+    (move-keeps s queue sent v f h m e may)
+
+pub over-turns : (s : State) (queue : ℕ) (sent : List (List ℕ)) (v : Sender) (ts : List Turn) → Agrees s queue sent v
+    → IsLegal s (entries_of ts) → MayRun queue v s ts
+    → Agrees (leads_to s (entries_of ts)) queue (sent ++ sent_in queue s (entries_of ts)) (sender_after v ts)
+over-turns s queue sent v [] j legal may = rw (append-nil sent) j
+over-turns s queue sent v (t ∷ ts) j legal may =
+    let e = t.entry.event in
+    let first = sent_by queue s e in
+    let rest = over-turns (after s e) queue (sent ++ first) (known v t.move t.entry.reply) ts
+    (one-turn s queue sent v e t.entry.reply t.move j legal.0 may.0) legal.1 may.1 in
+    subst (λ xs. Agrees (leads_to (after s e) (entries_of ts)) queue xs
+    (sender_after (known v t.move t.entry.reply) ts))
+    (append_assoc sent first (sent_in queue (after s e) (entries_of ts))) rest
+
+-- what was sent are the first frames of those accepted
+pub first_sent : (s : State) (queue : ℕ) (sent : List (List ℕ)) (limit : ℕ) (left : List Segment) (ks : List Kept)
+    → SendsInOrder s queue sent limit left ks → IsPrefixOf sent (bytes_of ks)
+first_sent s queue sent limit left ks (inl x) = (frames_from (staged_by s queue) left, x.in_order)
+first_sent s queue sent limit left ks (inr x) = (x.frame ∷ x.rest, x.in_order)
+
+pub sent_is_prefix : SentIsPrefix
+sent_is_prefix queue s v ts o =
+    let j = over-turns s queue [] v ts o.agreed o.legal o.may in
+    let w = sender_after v ts in
+    first_sent (leads_to s (entries_of ts)) queue (sent_in queue s (entries_of ts)) w.layout.limit
+    (drop j.0 w.outstanding) w.accepted j.1.sends
+
+-- what is left to be sent
+
+-- nothing, where nothing is left
+all_sent : (s : State) (queue : ℕ) (sent : List (List ℕ)) (limit : ℕ) (left : List Segment) (ks : List Kept)
+    → SendsInOrder s queue sent limit left ks → left ≡ [] → bytes_of ks ≡ sent
+all_sent s queue sent limit left ks (inl x) none =
+    x.in_order ∙ ap (λ (ss : List Segment). sent ++ frames_from (staged_by s queue) ss) none ∙ append-nil sent
+all_sent s queue sent limit left ks (inr x) none = absurd (omega (arith, x.more, ap length none))
+
+-- something, where the end of a packet is left
+some_unsent : (s : State) (queue : ℕ) (sent : List (List ℕ)) (limit : ℕ) (left : List Segment) (ks : List Kept)
+    → SendsInOrder s queue sent limit left ks → (k : ℕ) → k < length left
+    → (slice_index_or left k no_segment).part.last ≡ true → length sent < length (bytes_of ks)
+some_unsent s queue sent limit left ks (inl x) k below end =
+    omega (
+      arith,
+      ap length x.in_order,
+      length-append sent (frames_from (staged_by s queue) left),
+      frame_of_end (staged_by s queue) left k below end,
+    )
+some_unsent s queue sent limit left ks (inr x) k below end =
+    omega (arith, ap length x.in_order, length-append sent (x.frame ∷ x.rest))
+
+module _ (s : State) (queue : ℕ) (sent : List (List ℕ)) (v : Sender) (f : ℕ) (h : AgreesAt s queue sent v f) where
+  -- with none outstanding all that was accepted is sent
+  pub idle-all : length v.outstanding ≡ 0 → bytes_of v.accepted ≡ sent
+  idle-all none =
+      all_sent s queue sent v.layout.limit (drop f v.outstanding) v.accepted h.sends
+      (drop_all f v.outstanding (omega arith))
+
+  -- with the end of the oldest packet left it isn't, nor was it when fewer were sent
+  left-over : (xs more : List (List ℕ)) → sent ≡ xs ++ more → first_end v.outstanding < v.posted
+      → f ≤ first_end v.outstanding → bytes_of v.accepted ≢ xs
+  left-over xs more split posted rest same =
+      let end = first_end v.outstanding in
+      let c = h.counted in
+      let known : end < length v.outstanding = omega (arith, posted, c.posted_poked, c.poked_lent, c.lent_known) in
+      let at : f + (end - f) ≡ end = omega (arith, rest) in
+      let last : (slice_index_or (drop f v.outstanding) (end - f) no_segment).part.last ≡ true =
+      ap (λ (x : Segment). x.part.last) (get_or-drop f v.outstanding (end - f) no_segment)
+      ∙ ap (λ (k : ℕ). (segment_at v k).part.last) at ∙ end-last v.outstanding known in
+      let longer = some_unsent s queue sent v.layout.limit (drop f v.outstanding) v.accepted h.sends (end - f)
+      (omega (arith, length-drop f v.outstanding, known, rest)) last in
+      omega (arith, longer, ap length same, ap length split, length-append xs more)
+
+pub idle_is_all_sent : IdleIsAllSent
+idle_is_all_sent queue s v ts o none =
+    let j = over-turns s queue [] v ts o.agreed o.legal o.may in
+    idle-all (leads_to s (entries_of ts)) queue (sent_in queue s (entries_of ts)) (sender_after v ts) j.0 j.1
+    (ap length none)
+
+pub sent_in-append : (queue : ℕ) (s : State) (g h : List Entry)
+    → sent_in queue s (g ++ h) ≡ sent_in queue s g ++ sent_in queue (leads_to s g) h
+sent_in-append queue s [] h = refl
+sent_in-append queue s (e ∷ g) h =
+    let n : State = after s e.event in
+    ap (λ xs. sent_by queue s e.event ++ xs) (sent_in-append queue n g h)
+    ∙ sym (append_assoc (sent_by queue s e.event) (sent_in queue n g) (sent_in queue (leads_to n g) h))
+
+-- where a look finds the end of the oldest packet not done it isn't fetched, so all that was accepted is more than was
+-- sent, or fewer
+pub waiting-left : (s : State) (queue : ℕ) (sent : List (List ℕ)) (v : Sender) → Agrees s queue sent v
+    → FindsWaiting s v → (xs more : List (List ℕ)) → sent ≡ xs ++ more → bytes_of v.accepted ≢ xs
+waiting-left s queue sent v (f, h) finds xs more split same =
+    let end = first_end v.outstanding in
+    let seen : finds.bytes ≡ read_at s.memory (descriptor_at v.layout end) 16 =
+    look-tells s queue sent v f h finds.posted finds.bytes finds.told in
+    elim (cases_lt end f) [
+      | inl some ↦
+          both_ways (is_sent finds.bytes) finds.waits
+          (ap is_sent seen ∙ look-fetched s queue sent v f h finds.posted some)
+      | inr none ↦ left-over s queue sent v f h xs more split finds.posted none same
+    ]
+
+pub waiting_is_not_all_sent : WaitingIsNotAllSent
+waiting_is_not_all_sent queue s v ts us o finds same all_sent =
+    let gone = entries_of ts in
+    waiting-left (leads_to s (entries_of (ts ++ us))) queue (sent_in queue s (entries_of (ts ++ us)))
+    (sender_after v (ts ++ us)) (over-turns s queue [] v (ts ++ us) o.agreed o.legal o.may) finds
+    (sent_in queue s gone) (sent_in queue (leads_to s gone) (entries_of us))
+    (ap (sent_in queue s) (map-append _ ts us) ∙ sent_in-append queue s gone (entries_of us))
+    (ap bytes_of same ∙ all_sent)
+
+-- A history by the calls of a pass.
+
+-- the turns are the history's entries
+entries-turns : (pass : ℕ) (moves : List Move) (h : List Entry) → entries_of (turns_of pass moves h) ≡ h
+entries-turns pass [] [] = refl
+entries-turns pass (m ∷ moves) [] = refl
+entries-turns pass [] (e ∷ es) = ap (λ (xs : List Entry). e ∷ xs) (entries-turns pass [] es)
+entries-turns pass (m ∷ moves) (e ∷ es) =
+    elim (cases_Bool (e.pass == pass)) as (λ _. entries_of (turns_of pass (m ∷ moves) (e ∷ es)) ≡ e ∷ es) [
+      | inl own ↦ rw own (ap (λ (xs : List Entry). e ∷ xs) (entries-turns pass moves es))
+      | inr other ↦ rw other (ap (λ (xs : List Entry). e ∷ xs) (entries-turns pass (m ∷ moves) es))
+    ]
+
+-- no move is made by a driver that has none to make
+none-turns : (pass : ℕ) (v : Sender) (h : List Entry) → sender_after v (turns_of pass [] h) ≡ v
+none-turns pass v [] = refl
+none-turns pass v (e ∷ es) = none-turns pass v es
+
+-- the driver after them is the one that its calls lead to
+played-turns : (pass : ℕ) (v : Sender) (moves : List Move) (h : List Entry)
+    → sender_after v (turns_of pass moves h) ≡ played_by v moves (calls_of pass h)
+played-turns pass v [] h = none-turns pass v h
+played-turns pass v (m ∷ moves) [] = refl
+played-turns pass v (m ∷ moves) (e ∷ es) =
+    elim (cases_Bool (e.pass == pass)) as (λ _. sender_after v (turns_of pass (m ∷ moves) (e ∷ es))
+    ≡ played_by v (m ∷ moves) (calls_of pass (e ∷ es))) [
+      | inl own ↦ rw own (played-turns pass (moved v m e.reply) moves es)
+      | inr other ↦ rw other (played-turns pass v (m ∷ moves) es)
+    ]
+
+pub sent_is_prefix_of_taken : SentIsPrefixOfTaken
+sent_is_prefix_of_taken pass queue s v moves h agreed legal may =
+    let ts = turns_of pass moves h in
+    let same = entries-turns pass moves h in
+    let prefix = sent_is_prefix queue s v ts (record {
+      agreed = agreed;
+      legal = subst (IsLegal s) (sym same) legal;
+      may = may;
+    }) in
+    subst (λ (xs : List Entry). IsPrefixOf (sent_in queue s xs)
+    (bytes_of (played_by v moves (calls_of pass h)).accepted)) same
+    (subst (λ (w : Sender). IsPrefixOf (sent_in queue s (entries_of ts)) (bytes_of w.accepted))
+    (played-turns pass v moves h) prefix)
+
+-- A history that leaves the queue of a driver alone may run, and so what is sent is a prefix of what was accepted.
+
+module _ (w : Watched) (mine : Blocks) (s : State) (sent : List (List ℕ)) (v : Sender) (j : Agrees s w.queue sent v)
+    (functions : w.vfs ≡ s.vfs) (all : AreMine mine v) (e : Event Block)
+  where
+    spared : (blocks : Blocks) → AreMine blocks v → IsAlone w blocks v s e → MayCome w.queue v s e None
+    spared blocks lent a = left_alone_is_spared w blocks v s e (record {
+      sound = j.1.based.sound;
+      made = a.made;
+      functions = functions;
+      lent = lent;
+      registers = a.registers;
+      blocks = a.blocks;
+      steps = a.steps;
+      owed = a.owed;
+    })
+
+    move_may : (m : Move) → MayMoveAlone w mine v s e m → MayMove w.queue v s e m
+    move_may Elsewhere a = spared (has_lent v) (λ number is. is) a
+    move_may m a = (a.0, a.1)
+
+    may : (o : Option Move) → MayComeAlone w mine v s e o → MayCome w.queue v s e o
+    may None a = spared mine all a
+    may (Some m) a = move_may m a
+
+    moved_mine : (m : Move) → MayMoveAlone w mine v s e m → AreMine mine (moved v m (reply_to s e))
+    moved_mine Elsewhere a = all
+    moved_mine (Accepts p) a = mine-moved mine v all (Accepts p) e (reply_to s e) a.0 a.2
+    moved_mine Lends a = mine-moved mine v all Lends e (reply_to s e) a.0 a.2
+    moved_mine Asks a = mine-moved mine v all Asks e (reply_to s e) a.0 a.2
+    moved_mine Advances a = mine-moved mine v all Advances e (reply_to s e) a.0 a.2
+    moved_mine Looks a = mine-moved mine v all Looks e (reply_to s e) a.0 a.2
+    moved_mine Reaps a = mine-moved mine v all Reaps e (reply_to s e) a.0 a.2
+
+    mine_after : (o : Option Move) → MayComeAlone w mine v s e o → AreMine mine (known v o (reply_to s e))
+    mine_after None a = all
+    mine_after (Some m) a = moved_mine m a
+
+run : (w : Watched) (mine : Blocks) (s : State) (sent : List (List ℕ)) (v : Sender) (ts : List Turn)
+    → Agrees s w.queue sent v → w.vfs ≡ s.vfs → AreMine mine v → IsLegal s (entries_of ts)
+    → MayRunAlone w mine v s ts → MayRun w.queue v s ts
+run w mine s sent v [] j functions all legal alone = tt
+run w mine s sent v (t ∷ ts) j functions all legal alone =
+    let e = t.entry.event in
+    let m = may w mine s sent v j functions all e t.move alone.0 in
+    let next = one-turn s w.queue sent v e t.entry.reply t.move j legal.0 m in
+    let left : AreMine mine (known v t.move t.entry.reply) =
+    subst (λ r. AreMine mine (known v t.move r)) (sym legal.0)
+    (mine_after w mine s sent v j functions all e t.move alone.0) in (
+      m,
+      run w mine (after s e) (sent ++ sent_by w.queue s e) (known v t.move t.entry.reply) ts next
+          (functions ∙ sym (stays_within s e).vfs) left legal.1 alone.1,
+    )
+
+pub alone_may_run : AloneMayRun
+alone_may_run w mine s v ts agreed functions lent legal alone =
+    run w mine s [] v ts agreed functions lent legal alone
+
+pub sent_is_prefix_where_alone : SentIsPrefixWhereAlone
+sent_is_prefix_where_alone w mine s v ts agreed functions lent legal alone =
+    sent_is_prefix w.queue s v ts
+    (record { agreed = agreed; legal = legal; may = alone_may_run w mine s v ts agreed functions lent legal alone })

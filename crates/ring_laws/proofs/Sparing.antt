@@ -1,0 +1,323 @@
+-- Steps of the driver's own queue, and events that spare the driver, keep what it and the device agree on.
+use Rattle.std.proofs.Common.{[], ◌++◌, ◌+◌, ◌<◌, ◌∙◌, ◌∷◌, ◌≡◌, ◌≤◌, List, Ok, ap, append_assoc, arith, drop, false}
+use Rattle.std.proofs.Common.{inl, inr, length, refl, subst, sym, true, ℕ}
+use Rattle.std.proofs.lemmas.Bool.{both_ways, cases_Bool, cases_lt, eq-eqb}
+use Rattle.std.proofs.lemmas.List.{append-nil, drop_more, get_or-set_same, nil_from_length}
+use Rattle.std.specs.Prelude.{if◌then◌else◌, ◌==◌, IsFalse, IsTrue}
+use Rattle.history_laws.specs.Prelude.{Block, Event, Fetched, IsEvent, LeavesBlock, Memory, Outcome, State}
+use Rattle.history_laws.specs.Prelude.{TransmitQueue, Tx, WritesNoSetting, after, done_descriptor, sending_of}
+use Rattle.history_laws.specs.Prelude.{staged_by, transmit_queue_of, write_at}
+use Rattle.ring_laws.specs.TransmitPrelude.{Kept, Layout, Move, Segment, Sender, asking, descriptor_at, has_lent, moved}
+use Rattle.ring_laws.specs.TransmitPrelude.{no_segment, segment_at, side_of, slot_at}
+use Rattle.nic_device.{proofs.Steps.keeps_sound, specs.Transmit.with_frame, specs.TxRing.Fetch.Outcome as Fetch}
+use Rattle.history_laws.proofs.{Deeds.side_did, Leaving.named-same, Leaving.transmit_left, Steady.resting_same}
+use Rattle.history_laws.proofs.DeviceLaws.{KeptSettings.settings_stand, Standing.stays_within}
+use Rattle.history_laws.specs.Left.{Deed, Nothing, Rested, Rests, SendsNone, Shut, Shuts, Switched, Takes, Took}
+use Rattle.history_laws.specs.{Left.fetch_on, Sides.IsTried, Sides.Side, Sides.as_wanted}
+use Rattle.ring_laws.proofs.Fetching.{fetch-segment, head_is, lent, more, segment_fetched, segment_outcome}
+use Rattle.ring_laws.specs.Agreeing.{Agrees, AgreesAt, ArePackets, IsBased, IsCounted, IsCutOff, IsInTurn, IsSetUp}
+use Rattle.ring_laws.proofs.{Blocks.shows-same, Blocks.slot-next, Counting.added-by, Fetching.shows-fetched}
+use Rattle.ring_laws.proofs.{Fetching.slots, Fetching.small, Fetching.to_send, Packets.frame_left}
+use Rattle.ring_laws.proofs.{Packets.some_left}
+use Rattle.ring_laws.specs.{Agreeing.SendsInOrder, Agreeing.frame_ended, Agreeing.frames_from}
+use Rattle.ring_laws.specs.{Agreeing.staged_behind, Laws.SparingEventsKeep, Laws.StepsOfQueueKeep}
+use Rattle.ring_laws.specs.{Sent.frames_added, Sent.sent_by, Sparing.Spares, Sparing.is_transmit_of}
+use Rattle.nic_device.specs.declared.event.Event.TheVariants as event
+use Rattle.std.specs.FinMap as map
+
+-- What an event keeps that writes no setting.
+
+pub based-after : (s : State) (queue : ℕ) (l : Layout) (e : Event Block) → IsBased s queue l → IsEvent e
+    → WritesNoSetting s e → IsBased (after s e) queue l
+based-after s queue l e b made none = record {
+  sound = keeps_sound s b.sound e made;
+  small = b.small;
+  layout = b.layout;
+  tail = named-same s (after s e) (settings_stand s e none).mode (stays_within s e).vfs l.port l.tail ∙ b.tail;
+  limit = (settings_stand s e none).limit ∙ b.limit;
+}
+
+-- the segments are counted on where only how many are done, fetched, posted and written changes
+pub counted-on : (v : Sender) (f g done posted poked : ℕ) → IsCounted v f → done ≤ g → g ≤ posted → posted ≤ poked
+    → poked ≤ v.lent → IsCounted (record v { poked = poked; posted = posted; done = done }) g
+counted-on v f g done posted poked c a b d e = record {
+  room = c.room;
+  done_fetched = a;
+  fetched_posted = b;
+  posted_poked = d;
+  poked_lent = e;
+  lent_known = c.lent_known;
+  apart = c.apart;
+}
+
+-- after a move of the driver's, by its outcome, the two agree
+abbrev pub After : ℕ → List (List ℕ) → Sender → Move → Outcome → Type 0
+After queue sent v m o = Agrees o.state queue sent (moved v m o.reply)
+
+-- so they do where the outcome is as sound as the event leaves it, which changes memory alone
+abbrev pub Keeps : ℕ → List (List ℕ) → Sender → Move → Outcome → Type 0
+Keeps queue sent v m o = IsBased o.state queue v.layout → After queue sent v m o
+
+-- A step of transmitting of the driver's own queue that fetches the next segment.
+
+module _ (s : State) (queue : ℕ) (sent : List (List ℕ)) (v : Sender) (f : ℕ) (h : AgreesAt s queue sent v f) where
+  abbrev side : TransmitQueue
+  side = transmit_queue_of s.registers queue
+
+  abbrev staged : List ℕ
+  staged = staged_by s queue
+
+  abbrev x : Segment
+  x = segment_at v f
+
+  abbrev rest : List Segment
+  rest = drop (f + 1) v.outstanding
+
+  -- a side whose slot is tried isn't cut off, and sends the next segment
+
+  module _ (tried : IsTried (side_of Tx queue s)) where
+    posted : f < v.posted
+    posted = more s queue sent v f h tried.some
+
+    next_left : drop f v.outstanding ≡ x ∷ rest
+    next_left =
+        drop_more v.outstanding f no_segment
+        (omega (arith, lent s queue sent v f h posted, h.counted.lent_known))
+
+    in_turn : SendsInOrder s queue sent v.layout.limit (drop f v.outstanding) v.accepted
+        → IsInTurn v.layout.limit staged sent (x ∷ rest) v.accepted
+    in_turn (inl u) = subst (λ (ss : List Segment). IsInTurn v.layout.limit staged sent ss v.accepted) next_left u
+    in_turn (inr u) = absurd (both_ways side.on u.off tried.on)
+
+    turn : IsInTurn v.layout.limit staged sent (x ∷ rest) v.accepted
+    turn = in_turn h.sends
+
+    fetches : fetch_on s queue ≡ segment_outcome s.memory side.ring staged x
+    fetches =
+        fetch-segment s.memory side.ring (sending_of s.registers side) staged x
+        (to_send s queue sent v f h posted staged turn.packets)
+
+  -- it meets no fault
+  pub never-shuts : (e : Event Block) → Shuts Tx queue s e → ⊥
+  never-shuts e y =
+      let clash = sym (ap (λ (o : Fetch). o.answer) (fetches y.tried)) ∙ y.fault.answer in cc
+
+  module _ (e : Event Block) (y : Takes Tx queue s e) where
+    abbrev u : State
+    u = after s e
+
+    abbrev told : Fetched
+    told = segment_fetched side.ring staged x
+
+    fetched_is : y.work.fetched ≡ told
+    fetched_is =
+        let same : Ok y.work.fetched ≡ Ok told =
+        sym y.work.answer ∙ ap (λ (o : Fetch). o.answer) (fetches y.tried) in cc
+
+    memory_is : u.memory ≡ (if x.part.last then write_at s.memory (descriptor_at v.layout f)
+        (done_descriptor (asking x)) else s.memory)
+    memory_is =
+        ap (λ (o : Outcome). o.state.memory) y.work.step ∙ ap (λ (o : Fetch). o.memory) (fetches y.tried)
+        ∙ ap (λ (a : ℕ). if x.part.last then write_at s.memory a (done_descriptor (asking x)) else s.memory)
+        (head_is s queue sent v f h)
+
+    staged_is : staged_by u queue ≡ staged_behind staged x
+    staged_is =
+        ap (λ (o : Outcome). staged_by o.state queue) y.work.step
+        ∙ get_or-set_same s.staged queue (fetch_on s queue).staged []
+        (subst (λ n. queue < n) (sym h.based.sound.staged.queues) h.based.small)
+        ∙ ap (λ (o : Fetch). o.staged) (fetches y.tried)
+
+    out_is : u.out ≡ with_frame s.out queue told.frame
+    out_is =
+        ap (λ (o : Outcome). o.state.out) y.work.step
+        ∙ ap (λ (g : Fetched). with_frame s.out queue g.frame) fetched_is
+
+    sent_is : sent_by queue s e ≡ frame_ended staged x
+    sent_is =
+        let own : (queue == queue) ≡ true = eq-eqb queue queue refl in
+        let at : sent_by queue s (event.TxStep queue) ≡ frames_added s.out (after s (event.TxStep queue)).out =
+        rw own refl in
+        ap (sent_by queue s) y.work.is ∙ at
+        ∙ ap (λ (d : Event Block). frames_added s.out (after s d).out) (sym y.work.is)
+        ∙ ap (frames_added s.out) out_is
+        ∙ added-by s.out queue x.part.last (staged ++ x.part.bytes)
+
+    ring_is : (transmit_queue_of u.registers queue).ring ≡ record side.ring { head = slot_at v.layout (f + 1) }
+    ring_is =
+        ap (λ (z : Side). z.ring) y.side
+        ∙ ap (λ (n : ℕ). record side.ring { head = n })
+        (rw (slots s queue sent v f h, h.set_up.head)
+        (slot-next v.layout h.based.layout f (small s queue sent v f h (posted y.tried))))
+
+    pub takes-keeps : IsEvent e → WritesNoSetting s e → Agrees u queue (sent ++ sent_by queue s e) v
+    takes-keeps made none = (
+      f + 1,
+      record {
+        based = based-after s queue v.layout e h.based made none;
+        set_up = record {
+          base = ap (λ r. r.base) ring_is ∙ h.set_up.base;
+          length = ap (λ r. r.length) ring_is ∙ h.set_up.length;
+          head = ap (λ r. r.head) ring_is;
+          tail = ap (λ r. r.tail) ring_is ∙ h.set_up.tail;
+          writeback = ap (λ (z : Side). z.writeback) y.side ∙ h.set_up.writeback;
+        };
+        counted =
+            counted-on v f (f + 1) v.done v.posted v.poked h.counted (omega (arith, h.counted.done_fetched))
+            (omega (arith, posted y.tried)) h.counted.posted_poked h.counted.poked_lent;
+        shows = rw memory_is (shows-fetched s queue sent v f h (posted y.tried));
+        sends = inl (record {
+          packets =
+              subst (λ (l : List ℕ). ArePackets v.layout.limit l rest) (sym staged_is) (turn y.tried).packets.2;
+          in_order =
+              (turn y.tried).in_order
+              ∙ sym (append_assoc sent (frame_ended staged x) (frames_from (staged_behind staged x) rest))
+              ∙ ap (λ (l : List (List ℕ)). (sent ++ l) ++ frames_from (staged_behind staged x) rest) (sym sent_is)
+              ∙ ap (λ (l : List ℕ). (sent ++ sent_by queue s e) ++ frames_from l rest) (sym staged_is);
+        });
+      },
+    )
+
+-- An event that spares a driver keeps what it and the device agree on.
+
+-- a side with the same ring, that writes its head to the same place, is set up alike
+pub set_up-same : (q r : TransmitQueue) (l : Layout) (n f : ℕ) → r.ring ≡ q.ring → r.writeback ≡ q.writeback
+    → IsSetUp q l n f → IsSetUp r l n f
+set_up-same q r l n f ring back h = record {
+  base = ap (λ x. x.base) ring ∙ h.base;
+  length = ap (λ x. x.length) ring ∙ h.length;
+  head = ap (λ x. x.head) ring ∙ h.head;
+  tail = ap (λ x. x.tail) ring ∙ h.tail;
+  writeback = back ∙ h.writeback;
+}
+
+-- a side that was cut off stays so while it is off and not wanted on
+pub cut_stays : (q r : TransmitQueue) (sent : List (List ℕ)) (left : List Segment) (ks : List Kept) → IsFalse r.on
+    → IsFalse r.wanted → IsCutOff q sent left ks → IsCutOff r sent left ks
+cut_stays q r sent left ks off unwanted x =
+    record { off = off; unwanted = unwanted; more = x.more; frame = x.frame; rest = x.rest; in_order = x.in_order }
+
+-- what is left goes out as before where what is staged stays, and a side that was cut off is so still
+pub sends_on : (s t : State) (queue : ℕ) (sent : List (List ℕ)) (limit : ℕ) (left : List Segment) (ks : List Kept)
+    → staged_by t queue ≡ staged_by s queue
+    → (IsCutOff (transmit_queue_of s.registers queue) sent left ks
+    → IsFalse (transmit_queue_of t.registers queue).on × IsFalse (transmit_queue_of t.registers queue).wanted)
+    → SendsInOrder s queue sent limit left ks → SendsInOrder t queue sent limit left ks
+sends_on s t queue sent limit left ks same off (inl x) =
+    inl (subst (λ (l : List ℕ). IsInTurn limit l sent left ks) (sym same) x)
+sends_on s t queue sent limit left ks same off (inr x) = inr (cut_stays _ _ _ _ _ (off x).0 (off x).1 x)
+
+module _ (s : State) (queue : ℕ) (sent : List (List ℕ)) (v : Sender) (f : ℕ) (h : AgreesAt s queue sent v f)
+    (e : Event Block)
+  where
+    abbrev t : State
+    t = after s e
+
+    abbrev left : List Segment
+    left = drop f v.outstanding
+
+    abbrev Sends : State → Type 0
+    Sends u = SendsInOrder u queue sent v.layout.limit left v.accepted
+
+    -- they agree on, with no frame more, where the side's ring stays, and no block of the driver's changes
+    pub still-agrees : IsEvent e → WritesNoSetting s e
+        → IsSetUp (transmit_queue_of t.registers queue) v.layout v.posted f → Sends t
+        → ((number : ℕ) → IsTrue (has_lent v number) → LeavesBlock number s t) → Agrees t queue sent v
+    still-agrees made none set_up sends blocks = (
+      f,
+      record {
+        based = based-after s queue v.layout e h.based made none;
+        set_up = set_up;
+        counted = h.counted;
+        shows = shows-same s.memory t.memory v f h.based.layout h.counted h.shows blocks;
+        sends = sends;
+      },
+    )
+
+    -- a side that becomes what it is wanted to be, and goes off amid a packet, is cut off
+
+    frames_more : (frames : List (List ℕ)) → 0 < length frames → (frame : List ℕ) × (rest : List (List ℕ))
+        × (frames ≡ frame ∷ rest)
+    frames_more [] some = absurd (omega arith)
+    frames_more (x ∷ rest) some = (x, rest, refl)
+
+    -- what is staged stays
+    same_sends : staged_by t queue ≡ staged_by s queue
+        → IsInTurn v.layout.limit (staged_by s queue) sent left v.accepted → Sends t
+    same_sends same x = inl (subst (λ (l : List ℕ). IsInTurn v.layout.limit l sent left v.accepted) (sym same) x)
+
+    switched_turn : side_of Tx queue t ≡ as_wanted (side_of Tx queue s)
+        → IsInTurn v.layout.limit (staged_by s queue) sent left v.accepted → Sends t
+    switched_turn is x = elim (cases_Bool (transmit_queue_of s.registers queue).wanted) [
+      | inl wanted ↦ same_sends (ap (λ (y : Side). y.staged) is ∙ rw wanted refl) x
+      | inr none ↦
+          let gone : staged_by t queue ≡ [] = ap (λ (y : Side). y.staged) is ∙ rw none refl in
+          elim (cases_lt 0 (length (staged_by s queue))) [
+            | inl some ↦
+                let more = frames_more (frames_from (staged_by s queue) left)
+                (frame_left v.layout.limit (staged_by s queue) left some x.packets) in
+                inr (record {
+                  off = ap (λ (y : Side). y.on) is ∙ none;
+                  unwanted = ap (λ (y : Side). y.wanted) is ∙ none;
+                  more = some_left v.layout.limit (staged_by s queue) left some x.packets;
+                  frame = more.0;
+                  rest = more.1;
+                  in_order = x.in_order ∙ ap (λ (l : List (List ℕ)). sent ++ l) more.2;
+                })
+            | inr few ↦ same_sends (gone ∙ sym (nil_from_length (staged_by s queue) (omega arith))) x
+          ]
+    ]
+
+    switched_sends : side_of Tx queue t ≡ as_wanted (side_of Tx queue s) → Sends s → Sends t
+    switched_sends is (inl x) = switched_turn is x
+    switched_sends is (inr x) =
+        inr (cut_stays _ _ _ _ _ (ap (λ (y : Side). y.on) is ∙ x.unwanted)
+        (ap (λ (y : Side). y.wanted) is ∙ x.unwanted) x)
+
+    rest_sends : Rests Tx queue s e → Sends t
+    rest_sends (Nothing is) =
+        sends_on s t queue sent v.layout.limit left v.accepted (ap (λ (y : Side). y.staged) is)
+        (λ x. (ap (λ (y : Side). y.on) is ∙ x.off, ap (λ (y : Side). y.wanted) is ∙ x.unwanted)) h.sends
+    rest_sends (Shut x) = absurd (never-shuts s queue sent v f h e x)
+    rest_sends (Switched is) = switched_sends is h.sends
+
+    module _ (x : Spares queue v s e) where
+      pub spared_did : Deed Tx queue s e
+      spared_did =
+          side_did Tx queue s e h.based.sound h.based.small
+          (λ other apart. transmit_left queue s t (x.side other apart))
+
+      -- where it sends nothing the blocks that the driver has lent stay
+      left_blocks : SendsNone queue s e → (number : ℕ) → IsTrue (has_lent v number) → LeavesBlock number s t
+      left_blocks none number is = elim (cases_Bool (is_transmit_of queue e)) as (λ _. LeavesBlock number s t) [
+        | inl own ↦ ap (λ (m : Memory). map.get m number) (none.memory own)
+        | inr other ↦ x.blocks other number is
+      ]
+
+      by_deed : Deed Tx queue s e → Agrees t queue (sent ++ sent_by queue s e) v
+      by_deed (Took y) = takes-keeps s queue sent v f h e y x.made x.setting
+      by_deed (Rested none rests) =
+          let same = resting_same Tx queue s e rests in
+          rw (none.sent, append-nil sent)
+          (still-agrees x.made x.setting
+          (set_up-same (transmit_queue_of s.registers queue) (transmit_queue_of t.registers queue) v.layout v.posted f
+          same.ring same.writeback h.set_up) (rest_sends rests) (left_blocks none))
+
+      pub spares-keeps : Agrees t queue (sent ++ sent_by queue s e) v
+      spares-keeps = by_deed spared_did
+
+pub sparing_events_keep : SparingEventsKeep
+sparing_events_keep s queue sent v e (f, h) x = spares-keeps s queue sent v f h e x
+
+-- a step of transmitting of the driver's own queue spares it
+pub step_of_queue_keeps : StepsOfQueueKeep
+step_of_queue_keeps s queue sent v (f, h) =
+    let own : (queue == queue) ≡ true = eq-eqb queue queue refl in
+    let small = h.based.small in
+    let none : (A : Type 0) → (queue == queue) ≡ false → A = λ A other. absurd (both_ways (queue == queue) other own) in
+    spares-keeps s queue sent v f h (event.TxStep queue) (record {
+      made = omega arith;
+      setting = tt;
+      side = λ other apart. none _ other;
+      blocks = λ other number lent. none _ other;
+    })

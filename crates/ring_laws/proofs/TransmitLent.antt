@@ -1,0 +1,200 @@
+-- Which blocks the driver has lent to be sent, after each of its moves.
+use Rattle.std.proofs.Common.{[], ◌++◌, ◌+◌, ◌-◌, ◌<◌, ◌||◌, ◌∙◌, ◌∷◌, ◌≡◌, ◌≢◌, Bool, List, ap, arith, drop, false}
+use Rattle.std.proofs.Common.{inl, inr, length, refl, subst, suc, sym, take, true, zero, ℕ}
+use Rattle.std.proofs.lemmas.Bool.{eqb-true, or_cases, or_from, or_left, or_right}
+use Rattle.std.proofs.lemmas.List.{get_or-append-add, length-append, take-append-le}
+use Rattle.std.specs.{List.list_any, Prelude.◌==◌, Prelude.IsTrue, Prelude.slice_index_or}
+use Rattle.history_laws.specs.Prelude.{Block, Blocks, Event, Memory, Reply, State, after, has_block, reply_to}
+use Rattle.ring_laws.specs.TransmitPrelude.{Accepts, Advances, Asks, Elsewhere, IsOwn, Kept, Lends, Looks, MayAccept, Move}
+use Rattle.ring_laws.specs.TransmitPrelude.{Outgoing, Reaps, Segment, Sender, accepted_by, has_lent, is_ring_block, moved}
+use Rattle.ring_laws.specs.TransmitPrelude.{no_segment, segment_at, segments_of}
+use Rattle.pmd_tx.specs.Sending.{MayLend, blocks_of, lent_more, reaped}
+use Rattle.history_laws.proofs.Lent.{KeepsTaken, lend_known, only_lent_stays, or_swap, still_known, take_known}
+use Rattle.history_laws.specs.Lent.{LendsNone, LendsOwn, OnlyLent, either}
+use Rattle.ring_laws.proofs.Packets.{length-segments, some-parts}
+use Rattle.ring_laws.specs.{Alone.LendsOneOf, TransmitHealthy.LendsAnew, TransmitLent.OwnLendsAreKnown, TransmitLent.SparesNumbers}
+use Rattle.nic_device.specs.declared.event.Reply.TheVariants as reply
+use Rattle.nic_device.specs.declared.event.Event.TheVariants as event
+
+-- the first segment of a packet behind those that are outstanding
+pub first_at : (v : Sender) (p : Outgoing) → v.lent ≡ length v.outstanding
+    → segment_at (accepted_by v p) v.lent ≡ slice_index_or (segments_of p) 0 no_segment
+first_at v p lent =
+    let e : length v.outstanding + 0 ≡ v.lent = omega (arith, lent) in
+    ap (λ (k : ℕ). slice_index_or (v.outstanding ++ segments_of p) k no_segment) (sym e)
+    ∙ get_or-append-add v.outstanding (segments_of p) 0 no_segment
+
+-- the blocks of segments, of one more, and without the oldest
+
+abbrev pub among : List Segment → ℕ → Bool
+among ss n = list_any (λ b. n == b) (blocks_of ss)
+
+among-more : (n : ℕ) (ss : List Segment) (k : ℕ) → k < length ss
+    → among (take (suc k) ss) n ≡ (n == (slice_index_or ss k no_segment).block || among (take k ss) n)
+among-more n [] k below = absurd (omega arith)
+among-more n (x ∷ ss) zero below = refl
+among-more n (x ∷ ss) (suc k) below =
+    ap (λ (b : Bool). n == x.block || b) (among-more n ss k (omega arith))
+    ∙ or_swap (n == x.block) (n == (slice_index_or ss k no_segment).block) (among (take k ss) n)
+
+later_at : (n : ℕ) (ss : List Segment) (k : ℕ) → n ≢ (slice_index_or ss 0 no_segment).block
+    → among (take k ss) n ≡ true → among (take (k - 1) (drop 1 ss)) n ≡ true
+later_at n [] zero ne is = cc
+later_at n [] (suc k) ne is = cc
+later_at n (x ∷ ss) zero ne is = cc
+later_at n (x ∷ ss) (suc k) ne is = elim (or_cases (n == x.block) (among (take k ss) n) is) [
+  | inl same ↦ absurd (ne (eqb-true n x.block same))
+  | inr later ↦ let e : k ≡ suc k - 1 = omega arith in subst (λ (j : ℕ). among (take j ss) n ≡ true) e later
+]
+
+before_at : (n : ℕ) (ss : List Segment) (k : ℕ) → among (take (k - 1) (drop 1 ss)) n ≡ true
+    → among (take k ss) n ≡ true
+before_at n ss zero is = cc
+before_at n [] (suc k) is =
+    let e : suc k - 1 ≡ k = omega arith in
+    absurd (none k (subst (λ (j : ℕ). among (take j []) n ≡ true) e is))
+  where
+    none : (j : ℕ) → among (take j []) n ≡ true → ⊥
+    none zero f = cc
+    none (suc j) f = cc
+before_at n (x ∷ ss) (suc k) is =
+    let e : suc k - 1 ≡ k = omega arith in
+    or_right (n == x.block) (among (take k ss) n) (subst (λ (j : ℕ). among (take j ss) n ≡ true) e is)
+
+module _ (v : Sender) (n : ℕ) where
+  abbrev pub Has : Sender → Type 0
+  Has w = has_lent v n ≡ true → has_lent w n ≡ true
+
+  abbrev own : Bool
+  own = is_ring_block v.layout.ring v.layout.size n
+
+  -- one more is lent, the next of these
+  next_lent : (ss : List Segment) (ks : List Kept) (b : ℕ) → take v.lent ss ≡ take v.lent v.outstanding
+      → v.lent < length ss → b ≡ (slice_index_or ss v.lent no_segment).block
+      → has_lent (record v { outstanding = ss; lent = v.lent + 1; accepted = ks }) n ≡ (n == b || has_lent v n)
+  next_lent ss ks b same below next =
+      let e : v.lent + 1 ≡ suc v.lent = omega arith in
+      ap (λ (k : ℕ). own || among (take k ss) n) e
+      ∙ ap (λ (x : Bool). own || x) (among-more n ss v.lent below)
+      ∙ (λ i. own || (n == sym next i || among (same i) n))
+      ∙ or_swap own (n == b) (among (take v.lent v.outstanding) n)
+
+  pub more_is : (b : ℕ) → v.lent < length v.outstanding → b ≡ (segment_at v v.lent).block
+      → has_lent (lent_more v) n ≡ (n == b || has_lent v n)
+  more_is b below next = next_lent v.outstanding v.accepted b refl below next
+
+  pub accepted_is : (p : Outgoing) (b : Block) → MayAccept v p b
+      → has_lent (accepted_by v p) n ≡ (n == b.number || has_lent v n)
+  accepted_is p b may =
+      let some = some-parts (length p.kept.bytes) may.long in
+      next_lent (v.outstanding ++ segments_of p) (v.accepted ++ p.kept ∷ []) b.number
+      (take-append-le v.lent v.outstanding (segments_of p) (omega (arith, may.lent)))
+      (omega (arith, may.lent, may.each, length-segments p may.each, some, length-append v.outstanding (segments_of p)))
+      (may.first.number ∙ ap (λ (x : Segment). x.block) (sym (first_at v p may.lent)))
+
+  pub has_reaped : n ≢ (segment_at v 0).block → Has (reaped v)
+  has_reaped ne has = elim (or_cases own (among (take v.lent v.outstanding) n) has) [
+    | inl ring ↦ or_left own _ ring
+    | inr there ↦ or_right own _ (later_at n v.outstanding v.lent ne there)
+  ]
+
+  reaped_had : has_lent (reaped v) n ≡ true → has_lent v n ≡ true
+  reaped_had has = elim (or_cases own (among (take (v.lent - 1) (drop 1 v.outstanding)) n) has) [
+    | inl ring ↦ or_left own _ ring
+    | inr there ↦ or_right own _ (before_at n v.outstanding v.lent there)
+  ]
+
+  pub has_asked : (r : Reply Block) → Has (moved v Asks r)
+  has_asked reply.Done has = has
+  has_asked r has = has
+
+  pub has_advanced : (r : Reply Block) → Has (moved v Advances r)
+  has_advanced reply.Done has = has
+  has_advanced r has = has
+
+  pub has_looked : (r : Reply Block) → Has (moved v Looks r)
+  has_looked (reply.Bytes d) has = has
+  has_looked r has = has
+
+-- every block that the driver has lent is one of these, as it moves: a move lends one of them at most
+abbrev pub AreMine : Blocks → Sender → Type 0
+AreMine mine v = (number : ℕ) → IsTrue (has_lent v number) → IsTrue (mine number)
+
+module _ (mine : Blocks) (v : Sender) (all : AreMine mine v) where
+  one_more : (w : Sender) (b : ℕ) → ((n : ℕ) → has_lent w n ≡ (n == b || has_lent v n)) → mine b ≡ true → AreMine mine w
+  one_more w b is has n there = elim (or_cases (n == b) (has_lent v n) (sym (is n) ∙ there)) [
+    | inl same ↦ ap mine (eqb-true n b same) ∙ has
+    | inr old ↦ all n old
+  ]
+
+  pub mine-moved : (m : Move) (e : Event Block) (r : Reply Block) → IsOwn v m e → LendsOneOf mine e r
+      → AreMine mine (moved v m r)
+  mine-moved (Accepts p) (event.Lend b) reply.Done may has =
+      one_more (accepted_by v p) b.number (λ n. accepted_is v n p b may) has
+  mine-moved (Accepts p) e reply.Done may has = absurd may
+  mine-moved Lends (event.Lend b) reply.Done may has =
+      one_more (lent_more v) b.number (λ n. more_is v n b.number may.0 may.1.number) has
+  mine-moved Lends e reply.Done may has = absurd may
+  mine-moved Asks e reply.Done may has = all
+  mine-moved Advances e reply.Done may has = all
+  mine-moved Looks e (reply.Bytes d) may has = all
+  mine-moved Reaps e (reply.Buf b) may has = λ n is. all n (reaped_had v n is)
+  mine-moved m e other may has = all
+
+-- Of some numbers only known ones stay lent over the driver's own moves.
+
+module _ (own others : Blocks) (s : State) (v : Sender)
+    (only : OnlyLent own (either (has_lent v) others) s.memory)
+  where
+    abbrev Known : Sender → Memory → Type 0
+    Known w m = OnlyLent own (either (has_lent w) others) m
+
+    reap_has : (n : ℕ) → n ≡ (segment_at v 0).block → (r : Reply Block)
+        → KeepsTaken (has_lent v) n (λ r. has_lent (moved v Reaps r)) r
+    reap_has n same (reply.Buf b) = λ k ne. has_reaped v k (subst (λ (x : ℕ). k ≢ x) same ne)
+    reap_has n same r = λ k has. has
+
+    still : (m : Move) (e : Event Block) → LendsNone own e → ((r : Reply Block) (n : ℕ) → Has v n (moved v m r))
+        → Known (moved v m (reply_to s e)) (after s e).memory
+    still m e none has =
+        let r = reply_to s e in still_known own others s (has_lent v) only e (has_lent (moved v m r)) none (has r)
+
+    own_known : (m : Move) (e : Event Block) → IsOwn v m e → SparesNumbers own m e
+        → Known (moved v m (reply_to s e)) (after s e).memory
+    own_known (Accepts p) (event.Lend b) may spares =
+        lend_known own others s (has_lent v) only b (λ r. has_lent (moved v (Accepts p) r))
+        (λ k is. accepted_is v k p b may ∙ is) (λ k has. has)
+    own_known Lends (event.Lend b) may spares =
+        lend_known own others s (has_lent v) only b (λ r. has_lent (moved v Lends r))
+        (λ k is. more_is v k b.number may.0 may.1.number ∙ is) (λ k has. has)
+    own_known Asks (event.Poke16 a bytes) may spares =
+        still Asks (event.Poke16 a bytes) tt (λ r n. has_asked v n r)
+    own_known Advances (event.Write port number word) may spares =
+        still Advances (event.Write port number word) tt (λ r n. has_advanced v n r)
+    own_known Looks (event.Peek16 a) may spares =
+        still Looks (event.Peek16 a) tt (λ r n. has_looked v n r)
+    own_known Reaps (event.Take n) may spares =
+        take_known own others s (has_lent v) only n (λ r. has_lent (moved v Reaps r)) (reap_has n may.1)
+    own_known Elsewhere e may spares = still Elsewhere e spares (λ r n has. has)
+    own_known m e may spares = absurd may
+
+    lends_anew : (x : Segment) (b : Block) → MayLend v x b → LendsOwn own others (event.Lend b)
+        → has_block s.memory b.number ≡ false
+    lends_anew x b may is =
+        only_lent_stays.anew own (either (has_lent v) others) s b only is.0
+        (or_from (has_lent v b.number) (others b.number)
+        (subst (λ (n : ℕ). has_lent v n ≡ false) (sym may.number) may.away) is.1)
+
+    own_anew : (m : Move) (e : Event Block) → IsOwn v m e → LendsOwn own others e → LendsAnew s m e
+    own_anew (Accepts p) (event.Lend b) may is =
+        lends_anew (slice_index_or (segments_of p) 0 no_segment) b may.first is
+    own_anew Lends (event.Lend b) may is = lends_anew (segment_at v v.lent) b may.1 is
+    own_anew Elsewhere e may is = tt
+    own_anew m (event.Lend b) may is = absurd may
+    own_anew m e may is = tt
+
+pub own_lends_are_known : OwnLendsAreKnown
+own_lends_are_known = record {
+  kept = λ own others s v m e only may spares. own_known own others s v only m e may spares;
+  anew = λ own others s v m e only may is. own_anew own others s v only m e may is;
+}

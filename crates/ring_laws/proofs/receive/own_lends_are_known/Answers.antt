@@ -1,0 +1,5 @@
+use Rattle.ring_laws.proofs.ReceiveLent.{own_lends_are_known}
+use Rattle.ring_laws.proofs.receive.own_lends_are_known.Goals as goal
+
+pub returns : goal.returns
+returns c = own_lends_are_known

@@ -1,0 +1,129 @@
+-- What a device and a driver that sends on one of its queues agree on.
+use Rattle.std.specs.Prelude.{[], if◌then◌else◌, ◌*◌, ◌++◌, ◌<◌, ◌∷◌, ◌≡◌, ◌≢◌, ◌≤◌, ◌⊎◌, IsFalse, IsTrue, List, None}
+use Rattle.std.specs.Prelude.{drop, false, length, map, true, ℕ}
+use Rattle.history_laws.specs.Prelude.{IsSound, Memory, Register, State, Tdt, TransmitQueue, done_descriptor}
+use Rattle.history_laws.specs.Prelude.{frame_limit, has_block, named, place, read_at, staged_by, transmit_queue_of}
+use Rattle.ring_laws.specs.TransmitPrelude.{EachRingBlock, Kept, Layout, Segment, Sender, asking, descriptor_at}
+use Rattle.ring_laws.specs.TransmitPrelude.{is_ring_block, segment_at, slot_at}
+
+-- the bytes of packets
+abbrev pub bytes_of : List Kept → List (List ℕ)
+bytes_of packets = map (λ (p : Kept). p.bytes) packets
+
+-- the bytes that a segment leaves staged, behind those that are, and the frame that ends with it, where one does
+abbrev pub staged_behind : List ℕ → Segment → List ℕ
+staged_behind staged s = if s.part.last then [] else staged ++ s.part.bytes
+
+abbrev pub frame_ended : List ℕ → Segment → List (List ℕ)
+frame_ended staged s = if s.part.last then (staged ++ s.part.bytes) ∷ [] else []
+
+-- the frames that segments become, behind what is staged
+abbrev pub frames_from : List ℕ → List Segment → List (List ℕ)
+frames_from staged [] = []
+frames_from staged (s ∷ segments) = frame_ended staged s ++ frames_from (staged_behind staged s) segments
+
+-- behind the bytes that are staged segments go on with their packet, and with others, and end one: each has the limit
+-- at most, and 60 bytes at least
+abbrev pub ArePackets : ℕ → List ℕ → List Segment → Type 0
+ArePackets limit staged [] = staged ≡ []
+ArePackets limit staged (s ∷ segments) =
+    (length (staged ++ s.part.bytes) ≤ limit) × (s.part.last ≡ true → 60 ≤ length (staged ++ s.part.bytes))
+    × ArePackets limit (staged_behind staged s) segments
+
+-- a descriptor asks for the segment, and one that did is done
+abbrev pub IsPosted : Memory → ℕ → Segment → Type 0
+IsPosted m address s = read_at m address 16 ≡ asking s
+
+abbrev pub IsDone : Memory → ℕ → Segment → Type 0
+IsDone m address s = read_at m address 16 ≡ done_descriptor (asking s)
+
+-- a ring of at most 1,024 slots, whose packets have at most 10,240 bytes
+pub record IsLayout (l : Layout) : Type 0 where
+  pub some : 0 < l.size
+  pub few : l.size ≤ 1024
+  pub next : l.next < l.size
+  pub limit : l.limit ≤ 10240
+
+-- what an event keeps that writes no setting: the device is sound, the driver's number of its tail's register names
+-- TDT of the queue, and frames have at most as many bytes as the driver's packets
+pub record IsBased (s : State) (queue : ℕ) (l : Layout) : Type 0 where
+  pub sound : IsSound s
+  pub small : queue < 128
+  pub layout : IsLayout l
+  pub tail : named s l.port l.tail ≡ Register (place Tdt queue) 0xFFFFFFFF
+  pub limit : frame_limit s.registers ≡ l.limit
+
+-- the transmit side is the driver's, where so many of the outstanding segments are posted and so many were fetched: its
+-- ring begins with the driver's block, its head is the slot of the first segment that wasn't fetched, its tail that of
+-- the first that isn't posted, and the head isn't written to memory. The side may be on or off
+pub record IsSetUp (side : TransmitQueue) (l : Layout) (posted fetched : ℕ) : Type 0 where
+  pub base : side.ring.base ≡ 2048 * l.ring
+  pub length : side.ring.length ≡ 16 * l.size
+  pub head : side.ring.head ≡ slot_at l fetched
+  pub tail : side.ring.tail ≡ slot_at l posted
+  pub writeback : side.writeback ≡ None
+
+-- a segment can be sent: its block, lent beside those of a ring of so many slots, which begins with the block of this
+-- number, begins with its bytes
+pub record IsReady (m : Memory) (ring size : ℕ) (s : Segment) : Type 0 where
+  pub short : length s.part.bytes ≤ 2048
+  pub whole : s.part.whole ≤ 10240
+  pub lent : IsTrue (has_block m s.block)
+  pub apart : is_ring_block ring size s.block ≡ false
+  pub bytes : read_at m (2048 * s.block) (length s.part.bytes) ≡ s.part.bytes
+
+-- the segments have a slot each beside one; those that are done were fetched, those that were fetched are posted, those
+-- that are posted have their descriptor written, and those have their block lent; and no two are in one block
+pub record IsCounted (v : Sender) (fetched : ℕ) : Type 0 where
+  pub room : length v.outstanding < v.layout.size
+  pub done_fetched : v.done ≤ fetched
+  pub fetched_posted : fetched ≤ v.posted
+  pub posted_poked : v.posted ≤ v.poked
+  pub poked_lent : v.poked ≤ v.lent
+  pub lent_known : v.lent ≤ length v.outstanding
+  pub apart : (i j : ℕ) → i < v.lent → j < v.lent → i ≢ j → (segment_at v i).block ≢ (segment_at v j).block
+
+-- memory has the ring and the segments: of those that were fetched, the descriptors of the last ones of their packets
+-- are done, and those of the others, where they are written, ask for them
+pub record Shows (m : Memory) (v : Sender) (fetched : ℕ) : Type 0 where
+  pub ring : EachRingBlock v.layout.ring v.layout.size (λ n. IsTrue (has_block m n))
+  pub ready : (k : ℕ) → k < v.lent → IsReady m v.layout.ring v.layout.size (segment_at v k)
+  pub done :
+      (k : ℕ) → k < fetched → (segment_at v k).part.last ≡ true
+      → IsDone m (descriptor_at v.layout k) (segment_at v k)
+  pub waits : (k : ℕ) → fetched ≤ k → k < v.poked → IsPosted m (descriptor_at v.layout k) (segment_at v k)
+
+-- what is staged and the segments that are left are whole packets, and the frames sent are those of all accepted
+-- packets but these
+pub record IsInTurn (limit : ℕ) (staged : List ℕ) (sent : List (List ℕ)) (left : List Segment) (accepted : List Kept) :
+    Type 0 where
+  pub packets : ArePackets limit staged left
+  pub in_order : bytes_of accepted ≡ sent ++ frames_from staged left
+
+-- the side went off amid a packet, and isn't wanted on: not all packets are sent that were accepted
+pub record IsCutOff (side : TransmitQueue) (sent : List (List ℕ)) (left : List Segment) (accepted : List Kept) : Type 0
+  where
+    pub off : IsFalse side.on
+    pub unwanted : IsFalse side.wanted
+    pub more : 0 < length left
+    pub frame : List ℕ
+    pub rest : List (List ℕ)
+    pub in_order : bytes_of accepted ≡ sent ++ frame ∷ rest
+
+-- the frames sent are the first of those of the accepted packets, where these segments are left
+abbrev pub SendsInOrder : State → ℕ → List (List ℕ) → ℕ → List Segment → List Kept → Type 0
+SendsInOrder s queue sent limit left accepted =
+    IsInTurn limit (staged_by s queue) sent left accepted
+    ⊎ IsCutOff (transmit_queue_of s.registers queue) sent left accepted
+
+-- so many of the outstanding segments were fetched
+pub record AgreesAt (s : State) (queue : ℕ) (sent : List (List ℕ)) (v : Sender) (fetched : ℕ) : Type 0 where
+  pub based : IsBased s queue v.layout
+  pub set_up : IsSetUp (transmit_queue_of s.registers queue) v.layout v.posted fetched
+  pub counted : IsCounted v fetched
+  pub shows : Shows s.memory v fetched
+  pub sends : SendsInOrder s queue sent v.layout.limit (drop fetched v.outstanding) v.accepted
+
+-- for some number of fetched segments: what every event keeps that is the driver's own, or spares it
+abbrev pub Agrees : State → ℕ → List (List ℕ) → Sender → Type 0
+Agrees s queue sent v = (fetched : ℕ) × AgreesAt s queue sent v fetched

@@ -1,0 +1,46 @@
+-- What is counted of the frames that a queue sends, over whole histories.
+use Rattle.std.specs.Prelude.{[], if◌then◌else◌, ◌++◌, ◌+◌, ◌==◌, ◌∷◌, ◌≡◌, ◌≤◌, IsFalse, IsTrue, List, length, map, ℕ}
+use Rattle.std.specs.{List.flat_map, Prelude.⊤}
+use Rattle.history_laws.specs.Prelude.{AreEvents, Block, Entry, IsLegal, IsSound, Reply, Sent, State, after, leads_to}
+use Rattle.ring_laws.specs.Sent.{goes_on, sent_in, sent_since}
+
+-- the transmit side of the queue doesn't go on by any entry
+abbrev pub NeverGoesOn : ℕ → State → List Entry → Type 0
+NeverGoesOn queue s [] = ⊤
+NeverGoesOn queue s (e ∷ es) = IsFalse (goes_on queue s e.event) × NeverGoesOn queue (after s e.event) es
+
+-- some frames end with others
+abbrev pub IsEndOf : List (List ℕ) → List (List ℕ) → Type 0
+IsEndOf xs ys = (before : List (List ℕ)) × (ys ≡ before ++ xs)
+
+-- where the side never goes on, all that is sent is counted, behind what was counted before; where it goes on, all that
+-- is sent since the last time. What is counted over two histories in turn is counted on over the second. It is an end
+-- of all that was counted before and sent, and an entry adds one frame at most
+pub record SentIsCounted : Type 0 where
+  pub never :
+      (queue : ℕ) (s : State) (sent : List (List ℕ)) (h : List Entry) → NeverGoesOn queue s h
+      → sent_since queue s sent h ≡ sent ++ sent_in queue s h
+  pub last :
+      (queue : ℕ) (s : State) (sent : List (List ℕ)) (g : List Entry) (e : Entry) (h : List Entry)
+      → IsTrue (goes_on queue (leads_to s g) e.event) → NeverGoesOn queue (after (leads_to s g) e.event) h
+      → sent_since queue s sent (g ++ e ∷ h) ≡ sent_in queue (after (leads_to s g) e.event) h
+  pub joined :
+      (queue : ℕ) (s : State) (sent : List (List ℕ)) (g h : List Entry)
+      → sent_since queue s sent (g ++ h) ≡ sent_since queue (leads_to s g) (sent_since queue s sent g) h
+  pub end :
+      (queue : ℕ) (s : State) (sent : List (List ℕ)) (h : List Entry)
+      → IsEndOf (sent_since queue s sent h) (sent ++ sent_in queue s h)
+  pub few :
+      (queue : ℕ) (s : State) (sent : List (List ℕ)) (h : List Entry)
+      → length (sent_since queue s sent h) ≤ length sent + length h
+
+-- how long the frame is that a reply tells as sent on a queue, where it does
+abbrev pub lengths_told : ℕ → Reply Block → List ℕ
+lengths_told queue (Sent on len back) = if on == queue then len ∷ [] else []
+lengths_told queue other = []
+
+-- the frames that a legal history of a sound device sends on a queue are those that its replies tell, by their lengths
+abbrev pub SentIsTold : Type 0
+SentIsTold =
+    (queue : ℕ) (s : State) (h : List Entry) → IsSound s → AreEvents h → IsLegal s h →
+    map length (sent_in queue s h) ≡ flat_map (λ (e : Entry). lengths_told queue e.reply) h

@@ -1,0 +1,15 @@
+-- Words that are written to the enable register of a queue's transmit side.
+use Rattle.std.specs.Prelude.{[], ◌≡◌, List, true, ℕ}
+use Rattle.history_laws.specs.Prelude.{IsEvent, Port, State, after, has_bit}
+use Rattle.ring_laws.specs.TransmitPrelude.{Sender}
+use Rattle.ring_laws.specs.{Agreeing.Agrees, Off.NamesEnable}
+use Rattle.nic_device.specs.declared.event.Event.TheVariants as event
+
+-- device and driver agree on behind such a word as before it, where it doesn't ask for the side to be on, or nothing is
+-- outstanding
+abbrev pub EnableWordsKeep : Type 0
+EnableWordsKeep =
+    (s : State) (queue : ℕ) (sent : List (List ℕ)) (v : Sender) (port : Port) (number word : ℕ) →
+    IsEvent (event.Write port number word) → NamesEnable queue s port number →
+    (has_bit 25 word ≡ true → v.outstanding ≡ []) → Agrees s queue sent v →
+    Agrees (after s (event.Write port number word)) queue sent v

@@ -1,0 +1,46 @@
+-- Frames of several pieces: each fits as many slots as the driver takes for a packet.
+use Rattle.std.specs.Prelude.{[], if◌then◌else◌, ◌*◌, ◌++◌, ◌==◌, ◌∷◌, ◌≡◌, ◌≤◌, All, IsFalse, IsTrue, List, length, ℕ}
+use Rattle.std.specs.Prelude.{⊤}
+use Rattle.history_laws.specs.Prelude.{Block, Event, IsSound, Place, Register, Rx, State, Waiting, WritesNoSetting}
+use Rattle.history_laws.specs.Prelude.{after, asks_pool_reset, frame_limit, has_queue, is_on, mode_in, named, row_of}
+use Rattle.ring_laws.specs.ReceivePrelude.{Receive}
+use Rattle.ring_laws.specs.Pieces.{AllFit, Piece, open_after, pieces}
+use Rattle.ring_laws.specs.{Joint.Agree, ReceiveUp.IsUp}
+use Rattle.nic_device.specs.declared.event.Event.TheVariants as event
+
+-- a frame, where it waits for this queue, fits so many blocks
+abbrev pub FitsBlocks : ℕ → ℕ → Waiting → Type 0
+FitsBlocks queue most w = w.queue ≡ queue → length w.frame ≤ 2048 * most
+
+-- how much is written of the frame that waits first, where it is this queue's
+abbrev pub begun_on : ℕ → List Waiting → ℕ
+begun_on queue [] = 0
+begun_on queue (w ∷ others) = if w.queue == queue then w.offset else 0
+
+-- the frames that wait for the queue fit, longer ones aren't let in, so do the packets of the pieces that were written,
+-- and of a packet that doesn't end yet so much is written as its pieces fill
+pub record AreFitting (queue most : ℕ) (s : State) (out : List Piece) : Type 0 where
+  pub limit : frame_limit s.registers ≤ 2048 * most
+  pub waiting : All (FitsBlocks queue most) s.waiting
+  pub begun : begun_on queue s.waiting ≡ 2048 * open_after 0 out
+  pub pieces : AllFit most 0 out
+
+-- an event asks for no reset of the pool that the queue is in
+abbrev pub ResetsNoPool : ℕ → State → Event Block → Type 0
+ResetsNoPool queue s (event.Write port number word) =
+    (p : Place) (view : ℕ) → named s port number ≡ Register p view → IsTrue (asks_pool_reset (row_of p.row).kind word)
+    → IsFalse (has_queue (mode_in s.registers) p.index queue)
+ResetsNoPool queue s other = ⊤
+
+-- where the device and the driver agree and the side is up, it stays so over every event that writes no setting and
+-- resets not the queue's pool
+abbrev pub FramesStayFitting : Type 0
+FramesStayFitting =
+    (queue most : ℕ) (s : State) (out : List Piece) (v : Receive) (e : Event Block) → IsSound s →
+    Agree queue s out v → IsUp queue s → AreFitting queue most s out → WritesNoSetting s e → ResetsNoPool queue s e →
+    AreFitting queue most (after s e) (out ++ pieces queue s e)
+
+-- while the side is off nothing is written of a frame that waits for the queue
+abbrev pub NoneBegunWhileOff : Type 0
+NoneBegunWhileOff =
+    (queue : ℕ) (s : State) → IsSound s → IsFalse (is_on s.registers Rx queue) → begun_on queue s.waiting ≡ 0

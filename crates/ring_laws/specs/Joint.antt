@@ -1,0 +1,148 @@
+-- What the device and a driver agree on, between two events, of the receive side of the driver's queue.
+use Rattle.std.specs.Prelude.{[], ◌*◌, ◌++◌, ◌+◌, ◌<◌, ◌∷◌, ◌≡◌, ◌≢◌, ◌≤◌, IsFalse, IsTrue, List, false, length, true}
+use Rattle.std.specs.Prelude.{ℕ, ⊤}
+use Rattle.history_laws.specs.Prelude.{Memory, Rdt, ReceiveQueue, Register, State, buffer_size_of, bytes_in}
+use Rattle.history_laws.specs.Prelude.{descriptor_type_of, ends_packet, first_half, has_block, is_done, named, place}
+use Rattle.history_laws.specs.Prelude.{read_at, receive_queue_of, second_half}
+use Rattle.ring_laws.specs.ReceivePrelude.{EachRingBlock, Kept, Layout, Lent, Looks, Packet, Receive, Stage, Takes, Told}
+use Rattle.ring_laws.specs.ReceivePrelude.{block_at, blocks_for, descriptor_at, ended_of, is_ring_block, kept_of, left_of}
+use Rattle.ring_laws.specs.ReceivePrelude.{no_packet, reach, records_of, slot_at, vacant}
+use Rattle.pmd_rx.specs.declared.ring.Stage.TheVariants.{Owes}
+use Rattle.pmd_rx.specs.PmdSeam.Bufs.{bytes_of}
+use Rattle.ring_laws.specs.Pieces.{Piece, open_after, packets_behind, packets_of, piece_at}
+
+-- a descriptor that waits: it names its block, and isn't done
+pub record IsPosted (m : Memory) (a block : ℕ) : Type 0 where
+  pub buffer : first_half (read_at m a 16) ≡ 2048 * block
+  pub waits : IsFalse (is_done (second_half (read_at m a 16)))
+  pub there : IsTrue (has_block m block)
+
+-- a descriptor that was written back with a piece, whose bytes are at the head of the block
+pub record IsFilled (m : Memory) (a block : ℕ) (p : Piece) : Type 0 where
+  pub done : IsTrue (is_done (second_half (read_at m a 16)))
+  pub end : ends_packet (second_half (read_at m a 16)) ≡ p.end
+  pub len : bytes_in (second_half (read_at m a 16)) ≡ length p.bytes
+  pub first : first_half (read_at m a 16) ≡ p.first
+  pub bytes : read_at m (2048 * block) (length p.bytes) ≡ p.bytes
+  pub short : length p.bytes ≤ 2048
+  pub there : IsTrue (has_block m block)
+
+-- a ring in blocks that follow one another, of which at least one slot is vacant, and the blocks of its slots: no two
+-- are one
+pub record IsRing (l : Layout) : Type 0 where
+  pub some : 0 < l.size
+  pub few : l.size ≤ 1024
+  pub next : l.next < l.size
+  pub ring : l.ring + blocks_for l.size ≤ 65536
+  pub room : length l.blocks < l.size
+  pub low : (k : ℕ) → k < length l.blocks → block_at l k < 65536
+  pub not_ring : (k : ℕ) → k < length l.blocks → is_ring_block l.ring l.size (block_at l k) ≡ false
+  pub apart : (i j : ℕ) → i < length l.blocks → j < length l.blocks → i ≢ j → block_at l i ≢ block_at l j
+
+-- the queue's receive side is the driver's: one buffer of 2,048 bytes a descriptor, and of its slots so many are filled
+-- and not consumed. The side may be on or off
+pub record IsSetUp (q : ReceiveQueue) (l : Layout) (filled : ℕ) : Type 0 where
+  pub one_buffer : descriptor_type_of q.control ≡ 1
+  pub buffer_size : buffer_size_of q.control ≡ 2048
+  pub base : q.ring.base ≡ 2048 * l.ring
+  pub sized : q.ring.length ≡ 16 * l.size
+  pub head : q.ring.head ≡ slot_at l filled
+  pub tail : q.ring.tail ≡ slot_at l (vacant l)
+
+-- the driver's number for the tail names the queue's, at the driver's port
+pub record IsNamed (s : State) (queue : ℕ) (l : Layout) : Type 0 where
+  pub low : queue < 128
+  pub tail : named s l.port l.tail ≡ Register (place Rdt queue) 0xFFFFFFFF
+
+-- a block that is lent and that no descriptor names yet
+pub record IsLoose (m : Memory) (l : Layout) (block : ℕ) : Type 0 where
+  pub low : block < 65536
+  pub not_ring : is_ring_block l.ring l.size block ≡ false
+  pub apart : (k : ℕ) → k < length l.blocks → block_at l k ≢ block
+  pub room : length l.blocks + 1 < l.size
+  pub there : IsTrue (has_block m block)
+
+abbrev pub StageHolds : Memory → Layout → Stage → Type 0
+StageHolds m l (Lent b) = IsLoose m l b
+StageHolds m l other = ⊤
+
+-- the slots from the next one on that have a block: the first are filled with these pieces, and those behind them wait;
+-- of all others, which are consumed or vacant, nothing is said
+pub record HasSlots (m : Memory) (l : Layout) (here : List Piece) : Type 0 where
+  pub there : EachRingBlock l.ring l.size (λ b. IsTrue (has_block m b))
+  pub within : length here ≤ length l.blocks
+  pub filled : (k : ℕ) → k < length here → IsFilled m (descriptor_at l k) (block_at l k) (piece_at here k)
+  pub posted : (k : ℕ) → length here ≤ k → k < length l.blocks → IsPosted m (descriptor_at l k) (block_at l k)
+
+-- what the driver saw of the first pieces that stand in slots
+pub record Saw (t : Told) (p : Piece) : Type 0 where
+  pub first_is : t.first ≡ p.first
+  pub len_is : bytes_in t.second ≡ length p.bytes
+  pub end_is : ends_packet t.second ≡ p.end
+
+abbrev pub AreSeen : List Told → List Piece → Type 0
+AreSeen [] ps = ⊤
+AreSeen (t ∷ ts) [] = ⊥
+AreSeen (t ∷ ts) (p ∷ ps) = Saw t p × AreSeen ts ps
+
+-- a part that fills its block and doesn't end its packet
+pub record IsOpen (t : Told) : Type 0 where
+  pub goes_on : ends_packet t.second ≡ false
+  pub full : bytes_in t.second ≡ 2048
+
+abbrev pub AreOpen : List Told → Type 0
+AreOpen [] = ⊤
+AreOpen (t ∷ ts) = IsOpen t × AreOpen ts
+
+-- the last parts of a packet, of which the last alone ends it. There may be none
+abbrev pub EndLast : List Told → Type 0
+EndLast [] = ⊤
+EndLast (t ∷ []) = ends_packet t.second ≡ true
+EndLast (t ∷ u ∷ ts) = IsOpen t × EndLast (u ∷ ts)
+
+-- while the driver looks, it holds nothing and saw no end; else it saw where the packet ends
+abbrev pub IsAt : Stage → List Told → Packet → Type 0
+IsAt Looks seen held = (held ≡ no_packet) × AreOpen seen
+IsAt Takes seen held = EndLast seen
+IsAt Owes seen held = EndLast seen
+IsAt (Lent b) seen held = EndLast seen
+
+-- the packet that the driver holds, where parts of it are to be taken still, and else none
+abbrev pub still_held : Receive → Packet
+still_held v = left_of v.seen v.held
+
+-- the packets that the driver handed out, those that are whole, and the one whose last part was taken
+abbrev pub packets_had : Receive → List Kept
+packets_had v = v.handed ++ records_of (v.whole ++ ended_of v.seen v.held)
+
+-- the pieces that were consumed are those packets, and the parts of one that is held: whatever comes behind them is cut
+-- as behind those parts
+abbrev pub AreCut : List Piece → Receive → Type 0
+AreCut gone v =
+    (rest : List Piece)
+    → packets_of (gone ++ rest) ≡ packets_had v ++ packets_behind (kept_of (still_held v)).bytes rest
+
+-- the pieces that were written on the queue since its side went on: those that were consumed, and then those that
+-- stand in slots, of which the driver saw the first. A packet that isn't whole fills its blocks
+pub record InOrder (out : List Piece) (v : Receive) (gone here : List Piece) : Type 0 where
+  pub cut : AreCut gone v
+  pub parts : open_after 0 gone ≡ length (still_held v).bufs
+  pub full : length (bytes_of (still_held v).bufs) ≡ (still_held v).len
+  pub seen : AreSeen v.seen here
+  pub stage : IsAt v.stage v.seen v.held
+  pub order : out ≡ gone ++ here
+
+-- the device and the driver agree, where these pieces were consumed and these stand in slots. The slots behind the tail
+-- whose descriptors name a block wait as the posted ones do, and none of them is filled
+pub record Holds (queue : ℕ) (s : State) (out : List Piece) (v : Receive) (gone here : List Piece) : Type 0 where
+  pub named : IsNamed s queue v.layout
+  pub ring : IsRing (reach v)
+  pub side : IsSetUp (receive_queue_of s.registers queue) v.layout (length here)
+  pub posted : length here ≤ length v.layout.blocks
+  pub slots : HasSlots s.memory (reach v) here
+  pub stage : StageHolds s.memory (reach v) v.stage
+  pub order : InOrder out v gone here
+
+-- the device and the driver agree on the queue, since whose receive side went on these pieces were written
+abbrev pub Agree : ℕ → State → List Piece → Receive → Type 0
+Agree queue s out v = (gone : List Piece) × (here : List Piece) × Holds queue s out v gone here

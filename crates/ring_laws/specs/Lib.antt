@@ -1,0 +1,27 @@
+pub use Rattle.history_laws.specs.DeviceLaws
+pub use Rattle.history_laws.specs as HistoryLaws
+pub mod Agreeing
+pub mod Alone
+pub mod Counting
+pub mod Delivered
+pub mod Enable
+pub mod Fitting
+pub mod Histories
+pub mod Inside
+pub mod Joint
+pub mod Laws
+pub mod Off
+pub mod Pieces
+pub mod ReceiveHealthy
+pub mod ReceiveLent
+pub mod ReceivePrelude
+pub mod ReceiveUp
+pub mod Sent
+pub mod Sparing
+pub mod Starting
+pub mod Steps
+pub mod TransmitHealthy
+pub mod TransmitLent
+pub mod TransmitPrelude
+pub mod TransmitUp
+pub mod Turns

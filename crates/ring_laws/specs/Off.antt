@@ -1,0 +1,55 @@
+-- A queue whose transmit side is off, and isn't wanted on.
+use Rattle.std.specs.Prelude.{[], ◌<◌, ◌∷◌, ◌≡◌, IsFalse, List, ℕ, ⊤}
+use Rattle.history_laws.specs.Prelude.{Block, Entry, Event, IsEvent, IsSound, LeavesTransmit, Port, Register, State, Tx}
+use Rattle.history_laws.specs.Prelude.{Txdctl, after, has_bit, leads_to, named, place, reply_to}
+use Rattle.ring_laws.specs.TransmitPrelude.{side_of}
+use Rattle.ring_laws.specs.{Sent.sent_in, Sparing.is_switch_of, Sparing.is_transmit_of}
+use Rattle.nic_device.specs.declared.event.Event.TheVariants as event
+use Rattle.nic_device.specs.declared.event.Reply.TheVariants as reply
+use Rattle.history_laws.specs.Sides as sides
+
+-- the side isn't wanted on, and it is off besides
+abbrev pub IsUnwanted : ℕ → State → Type 0
+IsUnwanted queue s = sides.IsUnwanted (side_of Tx queue s)
+
+abbrev pub IsOff : ℕ → State → Type 0
+IsOff queue s = sides.IsOff (side_of Tx queue s)
+
+-- an event of a sound device is a step of the side's own, or leaves it
+pub record LeavesSide (queue : ℕ) (s : State) (e : Event Block) : Type 0 where
+  pub sound : IsSound s
+  pub made : IsEvent e
+  pub side : IsFalse (is_transmit_of queue e) → IsFalse (is_switch_of queue e) → LeavesTransmit queue s (after s e)
+
+-- each event of a history is
+abbrev pub AllLeaveSide : ℕ → State → List Entry → Type 0
+AllLeaveSide queue s [] = ⊤
+AllLeaveSide queue s (e ∷ es) = LeavesSide queue s e.event × AllLeaveSide queue (after s e.event) es
+
+-- a side that isn't wanted on stays so, one that is off besides stays off, and sends nothing
+pub record OffStays : Type 0 where
+  pub unwanted :
+      (queue : ℕ) (s : State) (e : Event Block) → queue < 128 → LeavesSide queue s e → IsUnwanted queue s
+      → IsUnwanted queue (after s e)
+  pub off :
+      (queue : ℕ) (s : State) (h : List Entry) → queue < 128 → AllLeaveSide queue s h → IsOff queue s
+      → IsOff queue (leads_to s h)
+  pub silent :
+      (queue : ℕ) (s : State) (h : List Entry) → queue < 128 → AllLeaveSide queue s h → IsOff queue s
+      → sent_in queue s h ≡ []
+
+-- a number of a port names the enable register of the side, with all its bits
+abbrev pub NamesEnable : ℕ → State → Port → ℕ → Type 0
+NamesEnable queue s port number = named s port number ≡ Register (place Txdctl queue) 0xFFFFFFFF
+
+-- a write of a word without bit 25 to the enable register leaves the side not wanted on; and a side that isn't is off
+-- where a read of the register tells bit 25 as 0
+pub record GuardIsOff : Type 0 where
+  pub written :
+      (queue : ℕ) (s : State) (port : Port) (number word : ℕ) → queue < 128 → IsSound s
+      → NamesEnable queue s port number → IsFalse (has_bit 25 word)
+      → IsUnwanted queue (after s (event.Write port number word))
+  pub read :
+      (queue : ℕ) (s : State) (port : Port) (number word : ℕ) → IsUnwanted queue s
+      → NamesEnable queue s port number → reply_to s (event.Read port number) ≡ reply.Word word
+      → IsFalse (has_bit 25 word) → IsOff queue (after s (event.Read port number))

@@ -1,0 +1,37 @@
+-- The packets that the pieces make that were written on a queue.
+pub use Rattle.history_laws.specs.Segments.{Piece, no_piece, first_of, pieces_told, pieces}
+use Rattle.std.specs.Prelude.{[], if◌then◌else◌, ◌++◌, ◌+◌, ◌<◌, ◌∷◌, ◌≡◌, List, false, length, slice_index_or, ℕ, ⊤}
+use Rattle.ring_laws.specs.ReceivePrelude.{Kept}
+use Rattle.nic_device.specs.DmaRing.Driver.{hash_in, rss_in}
+
+-- a packet of these bytes, with what the first half of its descriptor tells
+abbrev pub packet_told : List ℕ → ℕ → Kept
+packet_told bytes first = record { bytes = bytes; rss = rss_in first; hash = hash_in first }
+
+-- pieces cut into packets, after each that ends a frame, behind the bytes of those that came before; a rest without an
+-- end is left out
+abbrev pub packets_behind : List ℕ → List Piece → List Kept
+packets_behind front [] = []
+packets_behind front (p ∷ ps) =
+    if p.end then packet_told (front ++ p.bytes) p.first ∷ packets_behind [] ps
+    else packets_behind (front ++ p.bytes) ps
+
+abbrev pub packets_of : List Piece → List Kept
+packets_of ps = packets_behind [] ps
+
+-- how many pieces there are of a packet that doesn't end yet, behind so many of it and these
+abbrev pub open_after : ℕ → List Piece → ℕ
+open_after n [] = n
+open_after n (p ∷ ps) = open_after (if p.end then 0 else n + 1) ps
+
+-- a packet has at most so many pieces, and each but its last has 2,048 bytes: this one comes behind so many of it
+pub record Fits (most before : ℕ) (p : Piece) : Type 0 where
+  pub full : p.end ≡ false → length p.bytes ≡ 2048
+  pub more : p.end ≡ false → before + 1 < most
+
+abbrev pub AllFit : ℕ → ℕ → List Piece → Type 0
+AllFit most before [] = ⊤
+AllFit most before (p ∷ ps) = Fits most before p × AllFit most (if p.end then 0 else before + 1) ps
+
+abbrev pub piece_at : List Piece → ℕ → Piece
+piece_at ps k = slice_index_or ps k no_piece

@@ -1,0 +1,117 @@
+-- What single events do to what the device and a driver agree on.
+pub use Rattle.history_laws.specs.Left.{IsOutside}
+use Rattle.std.specs.Prelude.{◌++◌, ◌/◌, ◌<◌, ◌↔◌, ◌≡◌, ◌≢◌, IsTrue, List, Some, length, ℕ, ⊤}
+use Rattle.history_laws.specs.Prelude.{Block, Blocks, Bytes, Entry, EntryLeavesAlone, Event, IsEvent, IsSound}
+use Rattle.history_laws.specs.Prelude.{LeavesBlock, LeavesReceive, Mode, Reply, Rx, State, Watched, Wrote, after}
+use Rattle.history_laws.specs.Prelude.{bytes_in, ends_packet, first_half, is_done, mode_in, receive_queue_of, reply_to}
+use Rattle.history_laws.specs.Prelude.{second_half, told_back}
+use Rattle.ring_laws.specs.ReceivePrelude.{EachRingBlock, IsOwn, Lent, Receive, Stage, block_at, descriptor_at, drive}
+use Rattle.ring_laws.specs.ReceivePrelude.{is_step, reach}
+use Rattle.ring_laws.specs.{Joint.Agree, Joint.Holds, Pieces.Piece, Pieces.piece_at, Pieces.pieces}
+use Rattle.nic_device.specs.declared.event.Event.TheVariants as event
+
+-- what a look at a slot tells: its descriptor is done exactly where the slot is filled, and then tells of the slot's
+-- piece
+pub record TellsSlot (here : List Piece) (k : ℕ) (d : List ℕ) : Type 0 where
+  pub done : IsTrue (is_done (second_half d)) ↔ (k < length here)
+  pub end : k < length here → ends_packet (second_half d) ≡ (piece_at here k).end
+  pub len : k < length here → bytes_in (second_half d) ≡ length (piece_at here k).bytes
+  pub first : k < length here → first_half d ≡ (piece_at here k).first
+
+abbrev pub LookTellsSlot : Type 0
+LookTellsSlot =
+    (queue : ℕ) (s : State) (out : List Piece) (v : Receive) (gone here : List Piece) (k : ℕ) →
+    Holds queue s out v gone here → k < length v.layout.blocks → (d : List ℕ) →
+    reply_to s (event.Peek16 (descriptor_at v.layout k)) ≡ Bytes d → TellsSlot here k d
+
+-- of a block that is lent and not named yet, where there is one
+abbrev pub IfFresh : Stage → (ℕ → Type 0) → Type 0
+IfFresh (Lent b) P = P b
+IfFresh other P = ⊤
+
+-- each block that the driver has lent for receiving: those that the ring is in, those of its slots up to the last named
+-- one, and a fresh one
+pub record Each (v : Receive) (P : ℕ → Type 0) : Type 0 where
+  pub ring : EachRingBlock v.layout.ring v.layout.size P
+  pub blocks : (k : ℕ) → k < length (reach v).blocks → P (block_at (reach v) k)
+  pub fresh : IfFresh v.stage P
+
+-- an event leaves the queue's receive side, what numbers name, and the driver's blocks
+pub record Leaves (queue : ℕ) (v : Receive) (old new : State) : Type 0 where
+  pub receive : LeavesReceive queue old new
+  pub mode : mode_in new.registers ≡ mode_in old.registers
+  pub vfs : new.vfs ≡ old.vfs
+  pub blocks : Each v (λ b. LeavesBlock b old new)
+
+-- what a step wrote on another queue is in none of the driver's blocks
+abbrev pub SparesBlocks : ℕ → Receive → Reply Block → Type 0
+SparesBlocks queue v (Wrote on slot end desc at len) = on ≢ queue → Each v (λ b. IsOutside desc at len b)
+SparesBlocks queue v other = ⊤
+
+-- what the queue's own transmit side reports is in none of the blocks that the driver has lent for receiving
+abbrev pub OwnReportsSpare : ℕ → Receive → State → Type 0
+OwnReportsSpare queue v s =
+    (back : ℕ) → told_back (reply_to s (event.TxStep queue)) ≡ Some back → Each v (λ b. b ≢ back / 2048)
+
+-- what an entry that isn't the driver's own is made on: a sound device, whose queues are parted by this mode
+pub record IsMetBy (w : Watched) (mode : Mode) (s : State) (e : Entry) : Type 0 where
+  pub sound : IsSound s
+  pub vfs : w.vfs ≡ s.vfs
+  pub mode_is : mode ≡ mode_in s.registers
+  pub reply : e.reply ≡ reply_to s e.event
+  pub event : IsEvent e.event
+
+-- an entry of another pass that leaves the queue alone, with all blocks that the driver has lent, keeps the agreement
+abbrev pub ForeignEntryKeeps : Type 0
+ForeignEntryKeeps =
+    (w : Watched) (mine : Blocks) (mode : Mode) (s : State) (out : List Piece) (v : Receive) (e : Entry) →
+    IsMetBy w mode s e → Agree w.queue s out v → Each v (λ b. IsTrue (mine b)) → OwnReportsSpare w.queue v s →
+    EntryLeavesAlone w mine mode e → e.pass ≢ w.pass →
+    Agree w.queue (after s e.event) (out ++ pieces w.queue s e.event) v
+
+-- and so does a step of the device, whoever made it
+abbrev pub DeviceStepKeeps : Type 0
+DeviceStepKeeps =
+    (w : Watched) (mine : Blocks) (mode : Mode) (s : State) (out : List Piece) (v : Receive) (e : Entry) →
+    IsMetBy w mode s e → Agree w.queue s out v → Each v (λ b. IsTrue (mine b)) → OwnReportsSpare w.queue v s →
+    EntryLeavesAlone w mine mode e → IsTrue (is_step e.event) →
+    Agree w.queue (after s e.event) (out ++ pieces w.queue s e.event) v
+
+-- a step of receiving, of whichever queue, keeps the agreement: on the driver's queue its first posted slot becomes the
+-- last filled one, or nothing changes there
+abbrev pub ReceiveStepKeeps : Type 0
+ReceiveStepKeeps =
+    (queue : ℕ) (s : State) (out : List Piece) (v : Receive) → IsSound s → Agree queue s out v →
+    SparesBlocks queue v (reply_to s event.RxStep) →
+    Agree queue (after s event.RxStep) (out ++ pieces queue s event.RxStep) v
+
+-- an event that leaves all of it but whether the side is on and wanted on keeps the agreement
+pub record LeavesButOn (queue : ℕ) (v : Receive) (old new : State) : Type 0 where
+  pub ring : (receive_queue_of new.registers queue).ring ≡ (receive_queue_of old.registers queue).ring
+  pub control : (receive_queue_of new.registers queue).control ≡ (receive_queue_of old.registers queue).control
+  pub mode : mode_in new.registers ≡ mode_in old.registers
+  pub vfs : new.vfs ≡ old.vfs
+  pub blocks : Each v (λ b. LeavesBlock b old new)
+
+abbrev pub SwitchingKeeps : Type 0
+SwitchingKeeps =
+    (queue : ℕ) (s t : State) (out : List Piece) (v : Receive) → LeavesButOn queue v s t → Agree queue s out v →
+    Agree queue t out v
+
+-- and so does a step of the enable of the queue's receive side
+abbrev pub EnableStepKeeps : Type 0
+EnableStepKeeps =
+    (queue : ℕ) (s : State) (out : List Piece) (v : Receive) → IsSound s → Agree queue s out v →
+    Agree queue (after s (event.QueueStep Rx queue)) out v
+
+-- an event that leaves the receive side keeps the agreement
+abbrev pub LeavingKeeps : Type 0
+LeavingKeeps =
+    (queue : ℕ) (s t : State) (out : List Piece) (v : Receive) → Leaves queue v s t → Agree queue s out v →
+    Agree queue t out v
+
+-- each event of the driver's own keeps the agreement, with the driver that it leads to
+abbrev pub OwnEventKeeps : Type 0
+OwnEventKeeps =
+    (queue : ℕ) (s : State) (out : List Piece) (v : Receive) (e : Event Block) → IsSound s → Agree queue s out v →
+    IsOwn v e → Agree queue (after s e) (out ++ pieces queue s e) (drive v e (reply_to s e))

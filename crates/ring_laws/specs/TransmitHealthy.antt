@@ -1,0 +1,19 @@
+-- The replies to the driver's own moves: those of a healthy queue, wherever device and driver agree.
+use Rattle.std.specs.Prelude.{IsFalse, IsTrue, List, ℕ, ⊤}
+use Rattle.history_laws.specs.Prelude.{Block, Event, State, has_block, reply_to}
+use Rattle.ring_laws.specs.TransmitPrelude.{Elsewhere, IsOwn, Move, Sender}
+use Rattle.pmd_tx.specs.Sending.{is_healthy}
+use Rattle.ring_laws.specs.Agreeing.{Agrees}
+use Rattle.nic_device.specs.declared.event.Event.TheVariants as event
+
+-- a block that is lent by a move of the driver's own isn't lent yet
+abbrev pub LendsAnew : State → Move → Event Block → Type 0
+LendsAnew s Elsewhere e = ⊤
+LendsAnew s m (event.Lend b) = IsFalse (has_block s.memory b.number)
+LendsAnew s m other = ⊤
+
+-- each move of the driver's own gets such a reply
+abbrev pub OwnRepliesAreHealthy : Type 0
+OwnRepliesAreHealthy =
+    (s : State) (queue : ℕ) (sent : List (List ℕ)) (v : Sender) (m : Move) (e : Event Block) → Agrees s queue sent v →
+    IsOwn v m e → LendsAnew s m e → IsTrue (is_healthy m (reply_to s e))

@@ -1,0 +1,104 @@
+//! What holds of a driver that sends on a queue of a shared device, over whatever others do meanwhile.
+//!
+//! Each law is the contract of a function that does nothing. `specs/Sent` says which frames a queue sends,
+//! `specs/Agreeing` what device and driver agree on, `specs/Sparing` what it is for an event to spare the driver, and
+//! `specs/Turns` what a history is in which a pass is the driver.
+
+ghost use Rattle.ring_laws.specs.Counting.{SentIsCounted, SentIsTold};
+ghost use Rattle.ring_laws.specs.Enable.{EnableWordsKeep};
+ghost use Rattle.ring_laws.specs.TransmitHealthy.{OwnRepliesAreHealthy};
+ghost use Rattle.ring_laws.specs.TransmitLent.{OwnLendsAreKnown};
+ghost use Rattle.ring_laws.specs.Off.{OffStays, GuardIsOff};
+ghost use Rattle.ring_laws.specs.TransmitUp.{UpStays};
+ghost use Rattle.ring_laws.specs.Laws.{StepsOfQueueKeep, SparingEventsKeep, LeftAloneIsSpared, MovesKeep, SentIsPrefix, IdleIsAllSent, WaitingIsNotAllSent, SentIsPrefixOfTaken, AloneMayRun, SentIsPrefixWhereAlone};
+
+/// A step of transmitting of the driver's own queue keeps what device and driver agree on, with the frame that it
+/// sends: the next packet that was accepted and not sent, or none.
+pub fn steps_of_queue_keep()
+    ensures { StepsOfQueueKeep }
+{}
+
+/// An event that spares the driver keeps what device and driver agree on, with the frame that it sends on the queue, if
+/// any.
+pub fn sparing_events_keep()
+    ensures { SparingEventsKeep }
+{}
+
+/// An event that leaves the queue alone, by the clauses by which a closed history is judged, spares its driver.
+pub fn left_alone_is_spared()
+    ensures { LeftAloneIsSpared }
+{}
+
+/// Each move of the driver's own keeps what device and driver agree on.
+pub fn moves_keep()
+    ensures { MovesKeep }
+{}
+
+/// Over every legal history in which each event is the driver's next move or spares it, the frames sent on its queue
+/// are a prefix of those that it accepted, byte for byte; with none outstanding they are all of them; and where a look
+/// finds the oldest outstanding packet not done, not all that was accepted was sent before.
+pub fn sent_in_order()
+    ensures prefix { SentIsPrefix }
+    ensures idle { IdleIsAllSent }
+    ensures waiting { WaitingIsNotAllSent }
+    ensures taken { SentIsPrefixOfTaken }
+{}
+
+/// Over every legal history in which each turn is the driver's next move, or leaves the queue alone by the clauses by
+/// which a closed history is judged, the frames sent are a prefix of those accepted. What the driver's receive half
+/// owes is a premise: a piece that is received isn't empty, and on the driver's own queue it is outside the sender's
+/// blocks.
+pub fn sent_in_order_where_left_alone()
+    ensures runs { AloneMayRun }
+    ensures prefix { SentIsPrefixWhereAlone }
+{}
+
+/// The frames that a history sends on a queue, counted since the queue's transmit side last went on, are all that it
+/// sends where the side never goes on, and else all that it sends since the last time: an end of all, of one frame an
+/// entry at most.
+pub fn sent_is_counted_since_the_side_went_on()
+    ensures { SentIsCounted }
+{}
+
+/// The frames that a legal history of a sound device sends on a queue are as many, and as long, as its replies tell.
+pub fn sent_frames_are_told()
+    ensures { SentIsTold }
+{}
+
+/// A transmit side that isn't wanted on stays so, and one that is off besides stays off and sends nothing, over every
+/// history whose events leave it or are steps of its own.
+pub fn queue_off_stays_off()
+    ensures { OffStays }
+{}
+
+/// A transmit side that is on and wanted on stays so where device and driver agree, over each of the driver's moves and
+/// over every event that spares the driver.
+pub fn queue_up_stays_up()
+    ensures { UpStays }
+{}
+
+/// A write of the enable register of the queue's transmit side keeps what device and driver agree on, whatever the
+/// word: they agree whether the side is on or not.
+pub fn enable_words_keep()
+    ensures { EnableWordsKeep }
+{}
+
+/// After a write of the enable register without bit 25 the side isn't wanted on; and where it isn't, a read that tells
+/// bit 25 as 0 finds it off.
+pub fn guarded_queue_is_off()
+    ensures { GuardIsOff }
+{}
+
+/// Each move of the driver's own gets the reply of a healthy queue where the two agree, and the block of a packet that
+/// is accepted isn't lent yet: the block is lent, its descriptor written and the tail moved on, the oldest descriptor
+/// told, and the block of a packet that was seen sent is taken back.
+pub fn own_replies_are_healthy()
+    ensures { OwnRepliesAreHealthy }
+{}
+
+/// Where of some numbers, as an arena's, only those are lent that the sender has lent or others have, each move of the
+/// driver's own leaves it so, with the sender that it leads to; and a packet that is accepted, whose block is of these
+/// numbers and lent by no other, has a block that isn't lent yet.
+pub fn own_lends_are_known()
+    ensures { OwnLendsAreKnown }
+{}

@@ -1,5 +1,0 @@
-use Rattle.transmit_laws.proofs.Off.{enable_words_keep}
-use Rattle.transmit_laws.proofs.enable_words_keep.Goals as goal
-
-pub returns : goal.returns
-returns c = enable_words_keep

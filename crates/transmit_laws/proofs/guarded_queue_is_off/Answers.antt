@@ -1,5 +1,0 @@
-use Rattle.transmit_laws.proofs.Off.{guard_is_off}
-use Rattle.transmit_laws.proofs.guarded_queue_is_off.Goals as goal
-
-pub returns : goal.returns
-returns c = guard_is_off

@@ -1,5 +1,0 @@
-use Rattle.transmit_laws.proofs.Counting.{sent_is_told}
-use Rattle.transmit_laws.proofs.sent_frames_are_told.Goals as goal
-
-pub returns : goal.returns
-returns c = sent_is_told

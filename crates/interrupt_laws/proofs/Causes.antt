@@ -5,7 +5,7 @@ use Rattle.nic_device.specs.RegTable.Place.{Names, view_among}
 use Rattle.nic_device.specs.RegTable.Runs.{runs}
 use Rattle.nic_device.specs.RegTable.declared.rows.RowId.TheVariants.{Eicr, Eics, Pvteicr, Pvteics}
 use Rattle.nic_device.specs.IntrUnit.BitSet.{BitSet, contains}
-use Rattle.nic_device.specs.IntrUnit.Interrupts.{Interrupts, IsConsistent, raised, after_read, after_write_one}
+use Rattle.nic_device.specs.IntrUnit.Interrupts.{Interrupts, raised, after_read, after_write_one}
 use Rattle.nic_device.specs.IntrUnit.Laws.{keeps_cause}
 use Rattle.nic_device.specs.IntrUnit.declared.group.Group.{Group}
 use Rattle.nic_device.specs.IntrUnit.declared.group.Group.TheVariants.{Pf, Vf}
@@ -13,12 +13,9 @@ use Rattle.nic_device.proofs.IntrUnit.BitLaws.{raises_change, writes_of_ones_cha
 use Rattle.nic_device.specs.RegisterFile.Bits.{has_bit}
 use Rattle.nic_device.specs.RegisterFile.Columns.{place}
 use Rattle.nic_device.specs.RegisterFile.Groups.{interrupts_of, with_interrupts, auto_masks, clears_others}
-use Rattle.nic_device.specs.RegisterFile.Registers.{Registers}
 use Rattle.nic_device.proofs.RegisterFile.Own.{intersection-lt}
 use Rattle.nic_device.proofs.RegisterLaws.GroupChanges.{settled}
 use Rattle.nic_device.proofs.RegisterLaws.Settled.{settled-raised, settled-after_read, settled-after_write_one}
-use Rattle.nic_device.proofs.RegisterLaws.Standing.{interrupts_of-with_interrupts}
-use Rattle.nic_device.specs.RegisterLaws.Sound.{HasShape}
 use Rattle.nic_device.specs.Access.{state_read, state_written}
 use Rattle.nic_device.specs.Sound.{IsSound}
 use Rattle.nic_device.specs.State.{State}
@@ -29,29 +26,24 @@ use Rattle.device_laws.specs.Laws.{after_write}
 use Rattle.device_laws.proofs.Accesses.{state-read, state-written}
 use Rattle.interrupt_laws.specs.Accesses.{writes_one, cause_set, cause_cleared, read_keeps, causes_read, WriteOfCauseSetSets, WriteOfCausesClears, ReadOfCausesClears}
 use Rattle.interrupt_laws.specs.Names.{IsGroup, bits_in, cause_register, cause_set_register}
-use Rattle.interrupt_laws.specs.Shown.{Bit, bit_of, masks_by_access}
+use Rattle.interrupt_laws.specs.Shown.{bit_of, masks_by_access}
 use Rattle.interrupt_laws.proofs.Alone.{write_alone, read_alone, written}
 use Rattle.interrupt_laws.proofs.Bits.{and_true}
-use Rattle.interrupt_laws.proofs.Groups.{index_small, own_bit, bit_in, bit_of-in, bit_left, shows_then}
-use Rattle.interrupt_laws.proofs.Words.{acting, general_bit, small}
+use Rattle.interrupt_laws.proofs.Changes.{bit_then, own_written, shows}
+use Rattle.interrupt_laws.proofs.Groups.{own_bit, bit_in, shows_then}
+use Rattle.interrupt_laws.proofs.Words.{acting, general_bit}
 
 -- writes of the register that sets causes
 
 pub set_bit : (i : Interrupts) (raise : BitSet) (acts : Bool) (bit : ℕ) → bit < bits_in i.group
     → bit_in (raised i raise acts) bit ≡ cause_set acts (contains raise bit) (bit_in i bit)
 set_bit i raise acts bit b =
-    let left = raises_change i raise acts in
-    let high = small i.group bit b in
-    let cause = left.causes bit high
-    ∙ ap (λ x. contains i.causes bit || (contains raise bit && x)) (own_bit i.group bit b)
-    ∙ ap (λ x. contains i.causes bit || x) (and_true (contains raise bit)) in
-    let mask = left.masks bit high in
-    λ k. record {
-      cause = cause k;
-      mask = mask k;
-      auto_clear = contains (left.auto_clear k) bit;
-      auto_mask = contains (left.auto_mask k) bit;
-    }
+    let own = ap (λ x. contains raise bit && x) (own_bit i.group bit b) ∙ and_true (contains raise bit) in
+    bit_then i (raised i raise acts) _ (raises_change i raise acts) bit b
+    ∙ (λ k. record (bit_in i bit) {
+      cause = contains i.causes bit || own k;
+      mask = contains i.enabled bit || (acts && contains raise bit && contains i.auto_mask bit);
+    })
 
 registers_set : (s : State) (g : Group) (view word : ℕ)
     → (state_written s (cause_set_register g) view word).registers
@@ -65,25 +57,20 @@ set_alone : (s : State) (g : Group) (a word : ℕ) → Names a (cause_set_regist
 set_alone s Pf a word is h apart = write_alone s Pf (place Eics 0) a word is refl refl refl h apart
 set_alone s (Vf v) a word is h apart = write_alone s (Vf v) (place Pvteics v) a word is refl refl refl h apart
 
-raised_there : (r : Registers) (g : Group) (bits : BitSet) (acts : Bool) → HasShape r → IsGroup g
-    → interrupts_of (with_interrupts r (raised (interrupts_of r g) bits acts)) g ≡ raised (interrupts_of r g) bits acts
-raised_there r g bits acts shape h =
-    let is = settled-raised (interrupts_of r g) (settled r g) bits acts in
-    interrupts_of-with_interrupts r shape (raised (interrupts_of r g) bits acts) (index_small g h) is.consistent
-    is.causes is.enabled (intersection-lt _ _)
-
 pub set_at : (s : State) (g : Group) (view word : ℕ) → IsSound s → IsGroup g → (bit : ℕ) → bit < bits_in g
     → bit_of (state_written s (cause_set_register g) view word) g bit
     ≡ cause_set (masks_by_access s g) (has_bit bit word && has_bit bit view) (bit_of s g bit)
 set_at s g view word h there bit b =
-    let r = s.registers in
-    let bits = bit_and word view in
-    let acts = auto_masks r g in
-    bit_left (state_written s (cause_set_register g) view word) g (raised (interrupts_of r g) bits acts) there
-    (ap (λ t. interrupts_of t g) (registers_set s g view word) ∙ raised_there r g bits acts h.registers.shape there)
-    bit b
-    ∙ set_bit (interrupts_of r g) bits acts bit b
-    ∙ (λ k. cause_set (sym (acting s g) k) (written word view bit k) (sym (bit_of-in s g there bit b) k))
+    let i = interrupts_of s.registers g in
+    let raise = bit_and word view in
+    let acts = auto_masks s.registers g in
+    shows s (state_written s (cause_set_register g) view word) g (raised i raise acts) _ h there refl
+    (settled-raised i (settled s.registers g) raise acts) (intersection-lt _ _) (raises_change i raise acts)
+    (registers_set s g view word) (cause_set (masks_by_access s g) (has_bit bit word && has_bit bit view)) bit b
+    (λ k. record (bit_in i bit) {
+      cause = contains i.causes bit || own_written g word view bit b k;
+      mask = contains i.enabled bit || (sym (acting s g) k && written word view bit k && contains i.auto_mask bit);
+    })
 
 pub cause_set_sets : WriteOfCauseSetSets
 cause_set_sets s h g there a word is =
@@ -93,20 +80,6 @@ cause_set_sets s h g there a word is =
     (set_at s g (view_among runs a) word h there)
 
 -- writes of the causes
-
-cleared_bit : (i : Interrupts) (ones : BitSet) (acts : Bool) (bit : ℕ) → bit < bits_in i.group
-    → bit_in (after_write_one i ones acts) bit ≡ cause_cleared acts (contains ones bit) (bit_in i bit)
-cleared_bit i ones acts bit b =
-    let left = writes_of_ones_change i ones acts in
-    let high = small i.group bit b in
-    let cause = left.causes bit high in
-    let mask = left.masks bit high in
-    λ k. record {
-      cause = cause k;
-      mask = mask k;
-      auto_clear = contains (left.auto_clear k) bit;
-      auto_mask = contains (left.auto_mask k) bit;
-    }
 
 registers_cleared : (s : State) (g : Group) (view word : ℕ)
     → (state_written s (cause_register g) view word).registers
@@ -120,27 +93,22 @@ cleared_alone : (s : State) (g : Group) (a word : ℕ) → Names a (cause_regist
 cleared_alone s Pf a word is h apart = write_alone s Pf (place Eicr 0) a word is refl refl refl h apart
 cleared_alone s (Vf v) a word is h apart = write_alone s (Vf v) (place Pvteicr v) a word is refl refl refl h apart
 
-cleared_there : (r : Registers) (g : Group) (bits : BitSet) (acts : Bool) → HasShape r → IsGroup g
-    → interrupts_of (with_interrupts r (after_write_one (interrupts_of r g) bits acts)) g
-    ≡ after_write_one (interrupts_of r g) bits acts
-cleared_there r g bits acts shape h =
-    let is = settled-after_write_one (interrupts_of r g) (settled r g) bits acts in
-    interrupts_of-with_interrupts r shape (after_write_one (interrupts_of r g) bits acts) (index_small g h)
-    is.consistent is.causes is.enabled (intersection-lt _ _)
-
 pub cleared_at : (s : State) (g : Group) (view word : ℕ) → IsSound s → IsGroup g → (bit : ℕ) → bit < bits_in g
     → bit_of (state_written s (cause_register g) view word) g bit
     ≡ cause_cleared (masks_by_access s g) (has_bit bit word && has_bit bit view) (bit_of s g bit)
 cleared_at s g view word h there bit b =
-    let r = s.registers in
-    let bits = bit_and word view in
-    let acts = auto_masks r g in
-    bit_left (state_written s (cause_register g) view word) g (after_write_one (interrupts_of r g) bits acts) there
-    (ap (λ t. interrupts_of t g) (registers_cleared s g view word)
-    ∙ cleared_there r g bits acts h.registers.shape there)
-    bit b
-    ∙ cleared_bit (interrupts_of r g) bits acts bit b
-    ∙ (λ k. cause_cleared (sym (acting s g) k) (written word view bit k) (sym (bit_of-in s g there bit b) k))
+    let i = interrupts_of s.registers g in
+    let ones = bit_and word view in
+    let acts = auto_masks s.registers g in
+    shows s (state_written s (cause_register g) view word) g (after_write_one i ones acts) _ h there refl
+    (settled-after_write_one i (settled s.registers g) ones acts) (intersection-lt _ _)
+    (writes_of_ones_change i ones acts) (registers_cleared s g view word)
+    (cause_cleared (masks_by_access s g) (has_bit bit word && has_bit bit view)) bit b
+    (λ k. record (bit_in i bit) {
+      cause = contains i.causes bit && not (written word view bit k);
+      mask = contains i.enabled bit
+          && not (sym (acting s g) k && written word view bit k && contains i.auto_mask bit);
+    })
 
 pub causes_clear : WriteOfCausesClears
 causes_clear s h g there a word is =
@@ -150,25 +118,6 @@ causes_clear s h g there a word is =
     (cleared_at s g (view_among runs a) word h there)
 
 -- reads of the causes
-
--- a bit after a read, which keeps its cause or doesn't
-read_bit : (keeps acts : Bool) → Bit → Bit
-read_bit keeps acts b = record b { cause = b.cause && keeps; mask = b.mask && not (acts && b.auto_mask) }
-
-was_read : (i : Interrupts) (others acts : Bool) (bit : ℕ) → IsConsistent i → bit < bits_in i.group
-    → bit_in (after_read i others acts) bit ≡ read_bit (keeps_cause i.group others bit) acts (bit_in i bit)
-unfolding read_bit
-was_read i others acts bit ok b =
-    let left = reads_change i others acts ok in
-    let high = small i.group bit b in
-    let cause = left.causes bit high in
-    let mask = left.masks bit high in
-    λ k. record {
-      cause = cause k;
-      mask = mask k;
-      auto_clear = contains (left.auto_clear k) bit;
-      auto_mask = contains (left.auto_mask k) bit;
-    }
 
 keeps : (s : State) (g : Group) (bit : ℕ) → keeps_cause g (clears_others s.registers) bit ≡ read_keeps s g bit
 keeps s Pf bit =
@@ -187,26 +136,19 @@ others_unread : (s : State) (g : Group) (a : ℕ) → Names a (cause_register g)
 others_unread s Pf a is h apart = read_alone s Pf (place Eicr 0) a is refl h apart
 others_unread s (Vf v) a is h apart = read_alone s (Vf v) (place Pvteicr v) a is refl h apart
 
-read_there : (r : Registers) (g : Group) (others acts : Bool) → HasShape r → IsGroup g
-    → interrupts_of (with_interrupts r (after_read (interrupts_of r g) others acts)) g
-    ≡ after_read (interrupts_of r g) others acts
-read_there r g others acts shape h =
-    let is = settled-after_read (interrupts_of r g) (settled r g) others acts in
-    interrupts_of-with_interrupts r shape (after_read (interrupts_of r g) others acts) (index_small g h)
-    is.consistent is.causes is.enabled (intersection-lt _ _)
-
 pub read_at : (s : State) (g : Group) → IsSound s → IsGroup g → (bit : ℕ) → bit < bits_in g
     → bit_of (state_read s (cause_register g)) g bit ≡ causes_read s g bit (bit_of s g bit)
-unfolding read_bit
 read_at s g h there bit b =
-    let r = s.registers in
-    let others = clears_others r in
-    let acts = auto_masks r g in
-    bit_left (state_read s (cause_register g)) g (after_read (interrupts_of r g) others acts) there
-    (ap (λ t. interrupts_of t g) (registers_read s g) ∙ read_there r g others acts h.registers.shape there)
-    bit b
-    ∙ was_read (interrupts_of r g) others acts bit (settled r g).consistent b
-    ∙ (λ k. read_bit (keeps s g bit k) (sym (acting s g) k) (sym (bit_of-in s g there bit b) k))
+    let i = interrupts_of s.registers g in
+    let others = clears_others s.registers in
+    let acts = auto_masks s.registers g in
+    shows s (state_read s (cause_register g)) g (after_read i others acts) _ h there refl
+    (settled-after_read i (settled s.registers g) others acts) (intersection-lt _ _)
+    (reads_change i others acts (settled s.registers g).consistent) (registers_read s g) (causes_read s g bit) bit b
+    (λ k. record (bit_in i bit) {
+      cause = contains i.causes bit && keeps s g bit k;
+      mask = contains i.enabled bit && not (sym (acting s g) k && contains i.auto_mask bit);
+    })
 
 pub read_clears : ReadOfCausesClears
 read_clears s h g there a is =

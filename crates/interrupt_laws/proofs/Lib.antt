@@ -5,6 +5,7 @@ pub mod AutoWords
 pub mod Bits
 pub mod Bytes
 pub mod Causes
+pub mod Changes
 pub mod Counters
 pub mod Groups
 pub mod Holding

@@ -127,16 +127,6 @@ module _ (q : AtPort) where
         (first_leads along P Q (old ++ x.before) x.call kept x.is
         (subst (λ (calls : List Call). BeforeLast w origin h calls P) (sym same) at))
 
-    -- accesses of a kind keep what each of them keeps
-    pub accesses_keep : (K : Access → Type 0) (P : State → Type 0) → IsKept w mine P
-        → ((a : Access) → K a → OfCall q a (λ c. Leads w.queue c P P)) → (all : List Access) (old new : List Call)
-        → AllAre K all → AreMade q old new all → old ≢ [] → AtCalls w origin h old P → AtCalls w origin h new P
-    accesses_keep K P kept leads [] old new are made some at =
-        subst (λ (calls : List Call). AtCalls w origin h calls P) (sym made) at
-    accesses_keep K P kept leads (a ∷ rest) old new are (mid, here, more) some at =
-        accesses_keep K P kept leads rest mid new are.1 more (made_some old mid a here)
-        (access_leads P P a kept kept (leads a are.0) old mid here some at)
-
 -- a read that may be the pass's first call
 pub first_seen : (w : Watched) (q : AtPort) (origin : State) (h : List Entry) (P : State → Type 0) → IsAlong w origin h
     → IsKept w (lent_by w.pass h) P → ((s : State) (number : ℕ) → P s → P (after s (event.Read q.port number)))

@@ -1,5 +1,5 @@
 -- A history that leaves a queue alone, entry by entry and call by call of its pass.
-use Rattle.std.proofs.Common.{[], ◌++◌, ◌∙◌, ◌∷◌, ◌≡◌, ◌≢◌, List, ap, append_assoc, inl, inr, subst, sym, true}
+use Rattle.std.proofs.Common.{[], ◌++◌, ◌∙◌, ◌∷◌, ◌≡◌, ◌≢◌, List, ap, append_assoc, inl, inr, refl, subst, sym, true}
 use Rattle.std.specs.Prelude.{◌==◌, IsFalse, IsTrue}
 use Rattle.std.proofs.lemmas.Bool.{cases_Bool, eqb-false}
 use Rattle.std.proofs.lemmas.List.{append-nil}
@@ -18,7 +18,8 @@ use Rattle.driver_laws.specs.Along.{CallsLead}
 use Rattle.driver_laws.specs.Ending.{Each}
 use Rattle.driver_laws.specs.Faultless.{Never}
 use Rattle.driver_laws.specs.Standing.{IsLeft}
-use Rattle.driver_laws.proofs.Parts.{around, begun, ends_some, more_some, own_some, still_some}
+use Rattle.driver_laws.specs.Stopping.{AreMadeOf}
+use Rattle.driver_laws.proofs.Parts.{around, begun, more_some, own_some, parts, still_some}
 
 -- where the entries so far lead a device
 abbrev pub reached : Watched → State → List Entry → State
@@ -111,25 +112,33 @@ module _ {w : Watched} {origin : State} {h : List Entry} (x : IsAlong w origin h
     step_left : is_step e.event ≡ true → IsLeft w mine (leads_to origin done) e.event
     step_left is = free_here (no_registers w (mode_in (leads_to origin done).registers) mine e.event is)
 
-  -- entries of others keep it
-  pub kept_on : (P : List Entry → Type 0) → KeptOver w origin mine P → (front back rest : List Entry)
-      → (front ++ back) ++ rest ≡ h → calls_of w.pass front ≢ [] → calls_of w.pass back ≡ [] → P front
-      → P (front ++ back)
-  kept_on P kept front [] rest all some none p = subst P (sym (append-nil front)) p
-  kept_on P kept front (e ∷ back) rest all some none p =
-      elim (cases_Bool (e.pass == w.pass)) as (λ _. P (front ++ e ∷ back)) [
-        | inl own ↦
-            let made : call_in e ∷ calls_of w.pass back ≡ [] = sym (calls_own w.pass e back own) ∙ none in
-            absurd (cc)
-        | inr other ↦
-            let here : front ++ e ∷ (back ++ rest) ≡ h = sym (append_assoc front (e ∷ back) rest) ∙ all in
-            let left = foreign_left front (back ++ rest) e here some (eqb-false e.pass w.pass other) in
-            let next : (front ++ e ∷ []) ++ back ≡ front ++ e ∷ back = append_assoc front (e ∷ []) back in
-            subst P next
-            (kept_on P kept (front ++ e ∷ []) back rest (ap (λ (l : List Entry). l ++ rest) next ∙ all)
-            (still_some w.pass front (e ∷ []) some) (sym (calls_other w.pass e back other) ∙ none)
-            (kept front e left p))
-      ]
+  -- what holds of the entries so far, and of the calls that the pass makes behind them, goes on holding over entries of
+  -- others, and over each of these calls
+  module _ (P : List Entry → List Call → Type 0)
+      (kept : (cs : List Call) → KeptOver w origin mine (λ done. P done cs))
+      (leads :
+      (done rest : List Entry) (e : Entry) (cs : List Call) → done ++ e ∷ rest ≡ h → calls_of w.pass done ≢ []
+      → P done (call_in e ∷ cs) → P (done ++ e ∷ []) cs) where
+    pub walk : (done back rest : List Entry) → (done ++ back) ++ rest ≡ h → calls_of w.pass done ≢ []
+        → P done (calls_of w.pass back) → P (done ++ back) []
+    walk done [] rest all some p = subst (λ (es : List Entry). P es []) (sym (append-nil done)) p
+    walk done (e ∷ back) rest all some p =
+        let here : done ++ e ∷ (back ++ rest) ≡ h = sym (append_assoc done (e ∷ back) rest) ∙ all in
+        let next : (done ++ e ∷ []) ++ back ≡ done ++ e ∷ back = append_assoc done (e ∷ []) back in
+        let on : P (done ++ e ∷ []) (calls_of w.pass back) → P (done ++ e ∷ back) [] =
+        λ q.
+        subst (λ (es : List Entry). P es []) next
+        (walk (done ++ e ∷ []) back rest (ap (λ (l : List Entry). l ++ rest) next ∙ all)
+        (still_some w.pass done (e ∷ []) some) q) in
+        elim (cases_Bool (e.pass == w.pass)) as (λ _. P (done ++ e ∷ back) []) [
+          | inl own ↦
+              on (leads done (back ++ rest) e (calls_of w.pass back) here some
+              (subst (P done) (calls_own w.pass e back own) p))
+          | inr other ↦
+              on (kept (calls_of w.pass back) done e
+              (foreign_left done (back ++ rest) e here some (eqb-false e.pass w.pass other))
+              (subst (P done) (calls_other w.pass e back other) p))
+        ]
 
   -- what holds behind a call holds wherever that is the last which the pass made
   pub last_leads : (Q : List Entry → Type 0) → KeptOver w origin mine Q → (old : List Call) (c : Call)
@@ -144,9 +153,10 @@ module _ {w : Watched} {origin : State} {h : List Entry} (x : IsAlong w origin h
       let whole : a.before ++ e ∷ (a.behind ++ rest) ≡ h =
       sym (append_assoc a.before (e ∷ a.behind) rest) ∙ ap (λ (l : List Entry). l ++ rest) a.all ∙ all in
       subst Q split
-      (kept_on Q kept till a.behind rest (ap (λ (l : List Entry). l ++ rest) split ∙ all)
-      (own_some w.pass a.before e a.own) a.later
-      (leads a.before (a.behind ++ rest) e whole a.own a.made a.call))
+      (walk (λ so_far cs. Q so_far × (cs ≡ [])) (λ cs so_far f left p. (kept so_far f left p.0, p.1))
+      (λ so_far more f cs here some p. let none : call_in f ∷ cs ≡ [] = p.1 in absurd (cc)) till a.behind rest
+      (ap (λ (l : List Entry). l ++ rest) split ∙ all) (own_some w.pass a.before e a.own)
+      (leads a.before (a.behind ++ rest) e whole a.own a.made a.call, a.later)).0
 
   -- a call leads from one to the other, once the pass has made a call
   abbrev LeadsHere : (List Entry → Type 0) → (List Entry → Type 0) → Call → Type 0
@@ -174,12 +184,16 @@ module _ {w : Watched} {origin : State} {h : List Entry} (x : IsAlong w origin h
   each_here : (P : List Entry → Type 0) (Own : Call → Type 0) → KeptOver w origin mine P
       → ((c : Call) → Own c → LeadsHere P P c) → (calls old : List Call) → Each Own calls → old ≢ []
       → AtEntries w h old P → AtEntries w h (old ++ calls) P
-  each_here P Own kept leads [] old each some at =
-      subst (λ (cs : List Call). AtEntries w h cs P) (sym (append-nil old)) at
-  each_here P Own kept leads (c ∷ cs) old each some at =
-      subst (λ (all : List Call). AtEntries w h all P) (append_assoc old (c ∷ []) cs)
-      (each_here P Own kept leads cs (old ++ c ∷ []) each.1 (ends_some old [] c)
-      (here_leads P P kept old c (leads c each.0) some at))
+  each_here P Own kept leads calls old each some at done rest all is =
+      let p = parts w.pass done old calls is in
+      let whole : (p.front ++ p.back) ++ rest ≡ h = ap (λ (l : List Entry). l ++ rest) p.both ∙ all in
+      subst P p.both
+      (walk (λ so_far cs. P so_far × Each Own cs) (λ cs so_far e left x. (kept so_far e left x.0, x.1))
+      (λ so_far more e cs here made x. (leads (call_in e) x.1.0 so_far more e here made refl x.0, x.1.1)) p.front p.back
+      rest whole (λ none. some (sym p.fronts ∙ none)) (
+        at p.front (p.back ++ rest) (sym (append_assoc p.front p.back rest) ∙ whole) p.fronts,
+        subst (Each Own) (sym p.backs) each,
+      )).0
 
 -- calls of one kind keep what each of them keeps
 pub all_lead : (w : Watched) (origin : State) (h : List Entry) (P : List Entry → Type 0) (Own : Call → Type 0)
@@ -187,6 +201,19 @@ pub all_lead : (w : Watched) (origin : State) (h : List Entry) (P : List Entry �
     → ((c : Call) → Own c → LeadsOver w origin (lent_by w.pass h) c P P)
     → (calls old : List Call) → Each Own calls → old ≢ [] → AtEntries w h old P → AtEntries w h (old ++ calls) P
 all_lead w origin h P Own x kept leads = each_here x P Own kept (λ c own. over_here x P P c (leads c own))
+
+-- so do calls of events of a kind
+pub made_keep : {w : Watched} {origin : State} {h : List Entry} (P : State → Type 0) (K : Event Block → Type 0)
+    → IsAlong w origin h → IsKept w (lent_by w.pass h) P
+    → ((s : State) (e : Event Block) → IsMet w.queue s → IsEvent e → K e → P s → P (after s e)) → (old new : List Call)
+    → AreMadeOf K old new → old ≢ [] → AtCalls w origin h old P → AtCalls w origin h new P
+made_keep {w = w} {origin = origin} {h = h} P K x kept own old new (calls, is, each) some at =
+    subst (λ (cs : List Call). AtCalls w origin h cs P) (sym is)
+    (all_lead w origin h (λ done. P (leads_to origin done)) (λ c. K c.event) x
+    (state_kept w origin (lent_by w.pass h) P kept)
+    (λ c k.
+    state_leads w origin (lent_by w.pass h) c P P (λ s met made told p. own s c.event met made k p)) calls old each some
+    at)
 
 each_step : (calls : List Call) → AreSteps calls → Each (λ c. IsTrue (is_step c.event)) calls
 each_step [] steps = tt

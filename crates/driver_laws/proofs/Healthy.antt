@@ -7,7 +7,7 @@ use Rattle.std.proofs.lemmas.List.{append_cancel_left, map-append}
 use Rattle.std.proofs.lemmas.List.Elements.{filter-append}
 use Rattle.driver_laws.specs.Prelude.{AllLendApart, AllOwn, AreSteps, Blocks, Call, Doer, Entry, FindsFault, Halves}
 use Rattle.driver_laws.specs.Prelude.{LendsApart, LendsNone, OnlyLent, Piece, State, Watched, after, after_call}
-use Rattle.driver_laws.specs.Prelude.{call_in, call_of, calls_of, doers_other, is_neither, leads_to, pieces, played_by}
+use Rattle.driver_laws.specs.Prelude.{call_in, call_of, calls_of, doers_other, leads_to, pieces, played_by}
 use Rattle.device_lock.proofs.Histories.{events_before}
 use Rattle.pmd.proofs.Apart.{both_apart, step_apart}
 use Rattle.pmd.specs.Apart.{is_healthy}
@@ -18,9 +18,9 @@ use Rattle.driver_laws.specs.Faults.{NoFault, doers_of}
 use Rattle.driver_laws.specs.Healthy as healthy
 use Rattle.driver_laws.specs.Healthy.{AreHealthy, IsHealthy, IsUnshared, OwnRepliesAreHealthy}
 use Rattle.driver_laws.specs.Histories.{IsDriven, doer_of, doers_after}
-use Rattle.driver_laws.proofs.Fitting.{fitting_after, healthy_call, known_after, no_setting, none_apart, unbegun_since}
-use Rattle.driver_laws.proofs.InOrder.{Runs, driven_runs, first_after, first_doer, left_alone, next, one_entry}
-use Rattle.driver_laws.proofs.InOrder.{one_receives_up, own_here, runs_on}
+use Rattle.driver_laws.proofs.Fitting.{fitting_after, healthy_call, known_after, most_after, none_apart, unbegun_since}
+use Rattle.driver_laws.proofs.InOrder.{Runs, driven_runs, first_after, first_doer, goes, next}
+use Rattle.driver_laws.proofs.InOrder.{own_here, runs_on}
 use Rattle.driver_laws.proofs.Meeting.{Meets, driven_meets}
 
 abbrev pub Parts : Blocks → Halves → List Doer → Entry → Bool → List Call → Type 0
@@ -96,15 +96,12 @@ module _ {w : Watched} {mine : Blocks} {s : State} {out : List Piece} {sent : Li
 
   one_goes : Rests w.queue own s out h → LendsApart own h d e.event → Goes w own s out h d e
   one_goes x apart =
-      let here = own_here m r in
-      let others = λ (neither : is_neither d ≡ true). (left_alone m r neither).0 in
-      let none = no_setting own m x.known e.event r.events.0 d here others in
       record {
         here = subst (λ (y : _). IsHealthy h d (call_of e.event y)) (sym r.legal.0)
-            (healthy_call own m x.known e.event d here apart x.fit.pieces);
+            (healthy_call own m x.known e.event d (own_here m r) apart x.fit.pieces);
         rests = record {
-          up = one_receives_up m r x.up;
-          fit = fitting_after m x.up x.fit d e.event here others none e.reply;
+          up = (goes m r).receives x.up;
+          fit = fitting_after m (goes m r) x.up x.fit (most_after h d (call_in e));
           known = known_on x.known apart;
         };
       }
@@ -118,9 +115,9 @@ module _ (own : Blocks) where
   along {w = w} doers (e ∷ es) {h = h} m r x none apart =
       let b = e.pass == w.pass in
       let lends = apart_by w.pass own h doers e es b refl r.own none.0 apart in
-      let goes = one_goes own m r x lends.0 in
-      all_healthy h doers e es w.pass b refl goes.here
-      (along (doers_after b doers) es (one_entry m r) (runs_on m r) goes.rests none.1 lends.1)
+      let one = one_goes own m r x lends.0 in
+      all_healthy h doers e es w.pass b refl one.here
+      (along (doers_after b doers) es (goes m r).meets (runs_on m r) one.rests none.1 lends.1)
 
   -- of numbers that no other pass lends only those are lent that the halves have lent
   knows : {w : Watched} {mine : Blocks} (doers : List Doer) (es : List Entry) {s : State} {out : List Piece}
@@ -135,7 +132,7 @@ module _ (own : Blocks) where
       let lends = apart_by w.pass own h doers e es b refl r.own none.0 apart in
       subst (λ (k : Halves). OnlyLent own (healthy.lent_by k) (leads_to (after s e.event) es).memory)
       (sym (next m r).played)
-      (knows (doers_after b doers) es (one_entry m r) (runs_on m r) (known_on own m r known lends.0) none.1 lends.1)
+      (knows (doers_after b doers) es (goes m r).meets (runs_on m r) (known_on own m r known lends.0) none.1 lends.1)
 
 pub own_replies_are_healthy : OwnRepliesAreHealthy
 own_replies_are_healthy w origin start rest h doers own x apart =

@@ -31,7 +31,7 @@ use Rattle.ring_laws.specs.Laws.{FindsWaiting}
 use Rattle.driver_laws.specs.Agreeing.{AreLent, BothAgree}
 use Rattle.driver_laws.specs.Histories.{IsDriven, NoneIsAllBefore, OthersLeaveAlone, doer_of, doers_after}
 use Rattle.driver_laws.specs.Waiting.{WaitingIsNotAll}
-use Rattle.driver_laws.proofs.Meeting.{Meets, doer_keeps, doer_receives_up, doer_stays_up, driven_meets, goes_on}
+use Rattle.driver_laws.proofs.Meeting.{Goes, Meets, doer_goes, driven_meets}
 
 -- what the pass lends is among these blocks
 pub lends_mine : (pass : ℕ) (mine : Blocks) (own : ℕ) (e : Event Block) (r : Reply Block) → own ≡ pass → IsEvent e
@@ -196,20 +196,11 @@ module _ {w : Watched} {mine : Blocks} {s : State} {out : List Piece} {sent : Li
           (λ n is. r.covers n (or_left _ _ is))
       by_pass false is half = cc
 
-  pub one_entry : Meets w mine (after s e.event) (out ++ pieces w.queue s e.event) (sent ++ sent_by w.queue s e.event)
-      first_after
-  one_entry =
-      let keeps = doer_keeps m e.event r.events.0 steps first_doer own_here left_alone
-      (λ half. subst (λ x. LendsMine mine e.event x) r.legal.0 (own_lends half)) in
-      subst (λ x. Meets w mine (after s e.event) (out ++ pieces w.queue s e.event)
-      (sent ++ sent_by w.queue s e.event) (after_call h first_doer (call_of e.event x))) (sym r.legal.0)
-      (goes_on m e.event r.events.0 steps (after_call h first_doer (call_of e.event (reply_to s e.event))) keeps)
-
-  pub one_receives_up : received.IsUp w.queue s → received.IsUp w.queue (after s e.event)
-  one_receives_up = doer_receives_up m e.event r.events.0 steps first_doer own_here left_alone
-
-  one_stays_up : IsUp w.queue s → IsUp w.queue (after s e.event)
-  one_stays_up = doer_stays_up m e.event r.events.0 steps first_doer own_here left_alone
+  pub goes : Goes w mine s out sent e.event first_after
+  goes =
+      subst (λ x. Goes w mine s out sent e.event (after_call h first_doer (call_of e.event x))) (sym r.legal.0)
+      (doer_goes m e.event r.events.0 steps first_doer own_here left_alone
+      (λ half. subst (λ x. LendsMine mine e.event x) r.legal.0 (own_lends half)))
 
 pub leads : {w : Watched} {mine : Blocks} (doers : List Doer) (es : List Entry) {s : State} {out : List Piece}
     {sent : List (List ℕ)} {h : Halves} → Meets w mine s out sent h → Runs w mine s h doers es
@@ -219,8 +210,8 @@ leads {w = w} {mine = mine} [] [] {s = s} {out = out} {sent = sent} {h = h} m r 
 leads (d ∷ doers) [] m r = absurd r.own
 leads {w = w} {mine = mine} doers (e ∷ es) {s = s} {out = out} {sent = sent} m r =
     subst (Led w mine s out sent (e ∷ es)) (sym (next m r).played)
-    (led_on w mine s out sent e es _ (one_receives_up m r) (one_stays_up m r)
-    (leads (doers_after (e.pass == w.pass) doers) es (one_entry m r) (runs_on m r)))
+    (led_on w mine s out sent e es _ (goes m r).receives (goes m r).sends
+    (leads (doers_after (e.pass == w.pass) doers) es (goes m r).meets (runs_on m r)))
 
 module _ (w : Watched) (origin : State) (start rest : List Entry) (h : Halves) (doers : List Doer)
     (d : IsDriven w origin start rest h doers) where

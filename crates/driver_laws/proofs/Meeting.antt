@@ -45,8 +45,26 @@ use Rattle.driver_laws.specs.Agreeing.{AreLent, BothAgree}
 use Rattle.driver_laws.specs.Enabling.{EnableWordsKeep}
 use Rattle.driver_laws.specs.Histories.{IsDriven}
 use Rattle.driver_laws.proofs.Lending.{each_all, lends_one, receive_lent, receives_apart, sends_apart}
-use Rattle.driver_laws.proofs.Sending.{is_elsewhere, move_side, move_spares, own_spares, received_spares, reports_spare}
+use Rattle.driver_laws.proofs.Sending.{is_elsewhere, move_spares, own_spares, received_spares, reports_spare}
 use Rattle.driver_laws.proofs.Sending.{sender_lent}
+use Rattle.ring_laws.specs.Fitting.{ResetsNoPool}
+use Rattle.driver_laws.specs.Prelude.{Place}
+use Rattle.driver_laws.proofs.Sending.{move_setting}
+use Rattle.driver_laws.specs.Prelude.{asks_pool_reset}
+use Rattle.driver_laws.specs.Prelude.{Tdt}
+use Rattle.driver_laws.specs.Prelude.{Rdt}
+use Rattle.device_lock.specs.Alone.{place_at}
+use Rattle.std.proofs.Common.{Some}
+use Rattle.driver_laws.specs.Prelude.{row_of}
+use Rattle.driver_laws.proofs.Sending.{writes_tail}
+use Rattle.driver_laws.specs.Prelude.{Advances}
+use Rattle.std.proofs.Common.{Some}
+use Rattle.driver_laws.specs.Prelude.{row_of}
+use Rattle.driver_laws.proofs.Sending.{writes_tail}
+use Rattle.std.proofs.lemmas.Bool.{both_ways}
+use Rattle.ring_laws.proofs.HistoryLaws.Written.{place_named}
+use Rattle.ring_laws.proofs.HistoryLaws.Written.{place_in}
+use Rattle.device_lock.specs.Alone.{SparesIfSome}
 
 -- what holds between two entries: the device is sound and agrees with both halves, and their blocks are among these
 pub record Meets (w : Watched) (mine : Blocks) (s : State) (out : List Piece) (sent : List (List ℕ))
@@ -129,105 +147,154 @@ pub may_move : (queue : ℕ) (s : State) (h : Halves) (m : Move) (e : Event Bloc
 may_move queue s h Elsewhere e real own made = cc
 may_move queue s h m e real own made = (own, made)
 
+-- an event resets not the queue's pool
+
+-- a write of a register by which no pool is reset
+plain_resets : (queue : ℕ) (s : State) (port : Port) (n word : ℕ) (q : Place) (view : ℕ)
+    → named s port n ≡ Register q view → asks_pool_reset (row_of q.row).kind word ≡ false
+    → ResetsNoPool queue s (event.Write port n word)
+plain_resets queue s port n word q view names plain p seen there asks =
+    let same : Register q view ≡ Register p seen = sym names ∙ there in
+    let both : q ≡ p = cc in
+    absurd (both_ways (asks_pool_reset (row_of q.row).kind word) plain
+    (subst (λ (x : Place). asks_pool_reset (row_of x.row).kind word ≡ true) (sym both) asks))
+
+spared_resets : (w : Watched) (s : State) → w.vfs ≡ s.vfs → (e : Event Block)
+    → LeavesRegisters w (mode_in s.registers) e → ResetsNoPool w.queue s e
+spared_resets w s vfs (event.Write port n word) left = λ p view is asks.
+    let mode = mode_in s.registers in
+    let there : place_at mode w.vfs port n ≡ Some p =
+    ap (λ x. place_at mode x port n) vfs ∙ place_named s port n ∙ ap place_in is in
+    let spares : SparesIfSome w.queue mode (Some p) word = subst (λ o. SparesIfSome w.queue mode o word) there left in
+    spares.pool asks
+spared_resets w s vfs other left = tt
+
+-- what holds behind an event: these halves meet the device, a side that was up is so still, no setting is written, and
+-- the queue's pool isn't reset
+pub record Goes (w : Watched) (mine : Blocks) (s : State) (out : List Piece) (sent : List (List ℕ)) (e : Event Block)
+    (k : Halves) : Type 0 where
+  pub meets : Meets w mine (after s e) (out ++ pieces w.queue s e) (sent ++ sent_by w.queue s e) k
+  pub receives : received.IsUp w.queue s → received.IsUp w.queue (after s e)
+  pub sends : IsUp w.queue s → IsUp w.queue (after s e)
+  pub setting : WritesNoSetting s e
+  pub resets : ResetsNoPool w.queue s e
+
 module _ {w : Watched} {mine : Blocks} {s : State} {out : List Piece} {sent : List (List ℕ)} {h : Halves}
     (m : Meets w mine s out sent h) (e : Event Block) (made : IsEvent e)
     (steps : WritesOutside w.queue mine (reply_to s e)) where
   abbrev t : State
   t = after s e
 
-  abbrev KeptBy : Halves → Type 0
-  KeptBy = Kept w mine s out sent e
+  abbrev GoesBy : Halves → Type 0
+  GoesBy = Goes w mine s out sent e
 
   sender_blocks : (n : ℕ) → IsTrue (has_lent h.transmit n) → has_block s.memory n ≡ true
   sender_blocks = sender_lent s w.queue sent h.transmit m.both.transmit.0 m.both.transmit.1
 
-  -- the receive half's
-
-  receives_keeps : receiving.IsOwn h.receive e → LendsMine mine e (reply_to s e)
-      → KeptBy (record h { receive = drive h.receive e (reply_to s e) })
-  receives_keeps own lends =
-      let (gone, here, holds) = m.both.receive in (
-        record {
-          receive = own_keeps w.queue s out h.receive e m.sound m.both.receive own;
-          transmit =
-              sparing_events_keep s w.queue sent h.transmit e m.both.transmit
-              (own_spares w.queue s out h.receive gone here holds h.transmit sender_blocks m.both.apart e made own);
-          apart = receives_apart s h.receive h.transmit e own sender_blocks m.both.apart;
-        },
-        record {
-          receive = mine_driven mine h.receive m.lent.receive e (reply_to s e) own lends;
-          transmit = m.lent.transmit;
-        },
-      )
-
-  -- the transmit half's
-
-  sends_keeps : (move : Move) → is_elsewhere move ≡ false → sending.IsOwn h.transmit move e
-      → LendsMine mine e (reply_to s e)
-      → KeptBy (record h { transmit = moved h.transmit move (reply_to s e) })
-  sends_keeps move real own lends =
-      let there = receive_lent w.queue s out h.receive m.both.receive in
-      let left = move_spares s w.queue sent h.transmit m.both.transmit.0 m.both.transmit.1 h.receive there
-      (each_all h.receive (λ n. IsTrue (has_lent h.transmit n)) (λ b n. b ≢ n) m.both.apart) move e real own in (
-        record {
-          receive =
-              subst (λ xs. Agree w.queue t (out ++ xs) h.receive) (sym (no_pieces w.queue s h move e real own))
-              (subst (λ xs. Agree w.queue t xs h.receive) (sym (append-nil out))
-              (leaving_keeps w.queue s t out h.receive left m.both.receive));
-          transmit =
-              moves_keep s w.queue sent h.transmit e move m.both.transmit (may_move w.queue s h move e real own made);
-          apart = sends_apart s h.receive h.transmit move e own there m.both.apart;
-        },
-        record {
-          receive = m.lent.receive;
-          transmit =
-              mine-moved mine h.transmit m.lent.transmit move e (reply_to s e) own
-              (lends_one mine e (reply_to s e) lends);
-        },
-      )
-
-  -- by whose it is
-
-  pub doer_keeps : (d : Doer) → OwnCall h d (call_of e (reply_to s e))
-      → (is_neither d ≡ true → LeavesRegisters w (mode_in s.registers) e × LeavesBlocks mine e)
-      → (is_neither d ≡ false → LendsMine mine e (reply_to s e)) → KeptBy (after_call h d (call_of e (reply_to s e)))
-  doer_keeps Receives own others lends = receives_keeps own (lends refl)
-  doer_keeps (Sends Elsewhere) own others lends = neither_keeps m e made steps (others refl).0 (others refl).1
-  doer_keeps (Sends move) own others lends = sends_keeps move refl own (lends refl)
-
-  pub goes_on : (k : Halves) → KeptBy k → Meets w mine t (out ++ pieces w.queue s e) (sent ++ sent_by w.queue s e) k
-  goes_on k agrees =
-      let stays = (step_leads s e).stays in
-      record { sound = keeps_sound s m.sound e made; vfs = m.vfs ∙ sym stays.vfs; both = agrees.0; lent = agrees.1 }
-
-  -- a side of the queue that is up stays so
+  still : (k : Halves) → Kept w mine s out sent e k
+      → Meets w mine t (out ++ pieces w.queue s e) (sent ++ sent_by w.queue s e) k
+  still k kept = record {
+    sound = keeps_sound s m.sound e made;
+    vfs = m.vfs ∙ sym (step_leads s e).stays.vfs;
+    both = kept.0;
+    lent = kept.1;
+  }
 
   stays_up : (move : Move) → MayMove w.queue h.transmit s e move → IsUp w.queue s → IsUp w.queue t
   stays_up move may up = up_stays s w.queue sent h.transmit e move m.both.transmit may up
 
-  pub doer_stays_up : (d : Doer) → OwnCall h d (call_of e (reply_to s e))
-      → (is_neither d ≡ true → LeavesRegisters w (mode_in s.registers) e × LeavesBlocks mine e) → IsUp w.queue s
-      → IsUp w.queue t
-  doer_stays_up Receives own others up =
-      let (gone, here, holds) = m.both.receive in
-      stays_up Elsewhere
-      (own_spares w.queue s out h.receive gone here holds h.transmit sender_blocks m.both.apart e made own) up
-  doer_stays_up (Sends Elsewhere) own others up =
-      let registers = (others refl).0 in
-      stays_up Elsewhere
-      (spared_by m e made steps e made registers (others refl).1 steps) up
-  doer_stays_up (Sends move) own others up = stays_up move (may_move w.queue s h move e refl own made) up
+  -- the receive half's
 
-  pub doer_receives_up : (d : Doer) → OwnCall h d (call_of e (reply_to s e))
+  own_resets : (e : Event Block) → receiving.IsOwn h.receive e → ResetsNoPool w.queue s e
+  own_resets (event.Write port n word) own =
+      plain_resets w.queue s port n word (place Rdt w.queue) 0xFFFFFFFF
+      (writes_tail s w.queue h.receive m.both.receive.2.named port n word own) refl
+  own_resets other own = tt
+
+  receives_goes : receiving.IsOwn h.receive e → LendsMine mine e (reply_to s e)
+      → GoesBy (record h { receive = drive h.receive e (reply_to s e) })
+  receives_goes own lends =
+      let (gone, here, holds) = m.both.receive in
+      let spares = own_spares w.queue s out h.receive gone here holds h.transmit sender_blocks m.both.apart e made own in
+      record {
+        meets = still _ (
+          record {
+            receive = own_keeps w.queue s out h.receive e m.sound m.both.receive own;
+            transmit = sparing_events_keep s w.queue sent h.transmit e m.both.transmit spares;
+            apart = receives_apart s h.receive h.transmit e own sender_blocks m.both.apart;
+          },
+          record {
+            receive = mine_driven mine h.receive m.lent.receive e (reply_to s e) own lends;
+            transmit = m.lent.transmit;
+          },
+        );
+        receives = own_stays_up w.queue s out h.receive e m.sound m.both.receive own;
+        sends = stays_up Elsewhere spares;
+        setting = spares.setting;
+        resets = own_resets e own;
+      }
+
+  -- the transmit half's
+
+  move_resets : (move : Move) (e : Event Block) → is_elsewhere move ≡ false → sending.IsOwn h.transmit move e
+      → ResetsNoPool w.queue s e
+  move_resets Advances (event.Write port n word) real own =
+      plain_resets w.queue s port n word (place Tdt w.queue) 0xFFFFFFFF
+      (rw (own.2, own.3) m.both.transmit.1.based.tail) refl
+  move_resets Elsewhere e real own = cc
+  move_resets move (event.Write port n word) real own = absurd own
+  move_resets move e real own = tt
+
+  sends_goes : (move : Move) → is_elsewhere move ≡ false → sending.IsOwn h.transmit move e
+      → LendsMine mine e (reply_to s e) → GoesBy (record h { transmit = moved h.transmit move (reply_to s e) })
+  sends_goes move real own lends =
+      let (f, agrees) = m.both.transmit in
+      let there = receive_lent w.queue s out h.receive m.both.receive in
+      let left = move_spares s w.queue sent h.transmit f agrees h.receive there
+      (each_all h.receive (λ n. IsTrue (has_lent h.transmit n)) (λ b n. b ≢ n) m.both.apart) move e real own in
+      let may = may_move w.queue s h move e real own made in
+      record {
+        meets = still _ (
+          record {
+            receive =
+                subst (λ xs. Agree w.queue t (out ++ xs) h.receive) (sym (no_pieces w.queue s h move e real own))
+                (subst (λ xs. Agree w.queue t xs h.receive) (sym (append-nil out))
+                (leaving_keeps w.queue s t out h.receive left m.both.receive));
+            transmit = moves_keep s w.queue sent h.transmit e move m.both.transmit may;
+            apart = sends_apart s h.receive h.transmit move e own there m.both.apart;
+          },
+          record {
+            receive = m.lent.receive;
+            transmit =
+                mine-moved mine h.transmit m.lent.transmit move e (reply_to s e) own
+                (lends_one mine e (reply_to s e) lends);
+          },
+        );
+        receives = left_up w.queue s t left.receive;
+        sends = stays_up move may;
+        setting = move_setting s w.queue sent h.transmit f agrees move e real own;
+        resets = move_resets move e real own;
+      }
+
+  -- neither's
+
+  neither_goes : LeavesRegisters w (mode_in s.registers) e → LeavesBlocks mine e → GoesBy h
+  neither_goes registers blocks =
+      let spares = spared_by m e made steps e made registers blocks steps in record {
+        meets = still h (neither_keeps m e made steps registers blocks);
+        receives = alone_stays_up w s out h.receive e m.vfs m.sound m.both.receive registers;
+        sends = stays_up Elsewhere spares;
+        setting = spares.setting;
+        resets = spared_resets w s m.vfs e registers;
+      }
+
+  -- by whose it is
+  pub doer_goes : (d : Doer) → OwnCall h d (call_of e (reply_to s e))
       → (is_neither d ≡ true → LeavesRegisters w (mode_in s.registers) e × LeavesBlocks mine e)
-      → received.IsUp w.queue s → received.IsUp w.queue t
-  doer_receives_up Receives own others up = own_stays_up w.queue s out h.receive e m.sound m.both.receive own up
-  doer_receives_up (Sends Elsewhere) own others up =
-      alone_stays_up w s out h.receive e m.vfs m.sound m.both.receive
-      (others refl).0 up
-  doer_receives_up (Sends move) own others up =
-      left_up w.queue s t
-      (move_side s w.queue sent h.transmit m.both.transmit.0 m.both.transmit.1 move e refl own) up
+      → (is_neither d ≡ false → LendsMine mine e (reply_to s e)) → GoesBy (after_call h d (call_of e (reply_to s e)))
+  doer_goes Receives own others lends = receives_goes own (lends refl)
+  doer_goes (Sends Elsewhere) own others lends = neither_goes (others refl).0 (others refl).1
+  doer_goes (Sends move) own others lends = sends_goes move refl own (lends refl)
 
 -- a word that is written to an enable register of the queue keeps what the device and both halves agree on
 

@@ -142,7 +142,8 @@ own_replies_are_healthy w origin start rest h doers own x apart =
       fit = record {
         limit = x.short.limit;
         waiting = x.short.waiting;
-        begun = unbegun_since w.queue origin start d.sound (events_before start rest d.events) d.on
+        begun = unbegun_since w.queue origin start d.along.sound
+            (events_before start rest d.along.events) d.on
             ∙ (let z : 0 ≡ 2048 * 0 = omega arith in z);
         pieces = tt;
       };

@@ -137,9 +137,9 @@ pub driven_runs : {w : Watched} {origin : State} {start rest : List Entry} {h : 
     → IsDriven w origin start rest h doers
     → Runs w (lent_by w.pass (start ++ rest)) (leads_to origin start) h doers rest
 driven_runs {w = w} {origin = origin} {start = start} {rest = rest} d = record {
-  legal = legal_behind origin start rest d.legal;
-  events = events_behind start rest d.events;
-  alone = alone_by_entries w origin start rest d.alone d.begun;
+  legal = legal_behind origin start rest d.along.legal;
+  events = events_behind start rest d.along.events;
+  alone = alone_by_entries w origin start rest d.along.alone d.begun;
   own = d.own;
   others = d.others;
   covers = λ n is. lent_behind w.pass n start rest is;

@@ -10,7 +10,8 @@ use Rattle.driver_laws.proofs.Prelude.{AllAre, AtCalls, AtEntries, BeforeLast, B
 use Rattle.nic_device.specs.declared.event.Event.TheVariants as event
 use Rattle.nic_device.specs.declared.event.Reply.TheVariants as reply
 use Rattle.driver_laws.proofs.Parts.{ends_some}
-use Rattle.driver_laws.proofs.Reached.{KeptOver, LeadsOver, calls_lead, entries_lead, first_leads}
+use Rattle.driver_laws.proofs.Reached.{KeptOver, LeadsOver, entries_lead, first_leads, state_kept, state_leads}
+use Rattle.driver_laws.specs.Prelude.{leads_to}
 
 module _ (K : Access → Type 0) where
   pub all_both : (xs ys : List Access) → AllAre K xs → AllAre K ys → AllAre K (xs ++ ys)
@@ -112,10 +113,10 @@ module _ (q : AtPort) where
     pub access_leads : (P Q : State → Type 0) (a : Access) → IsKept w mine P → IsKept w mine Q
         → OfCall q a (λ c. Leads w.queue c P Q) → (old new : List Call) → IsMade q old new a → old ≢ []
         → AtCalls w origin h old P → AtCalls w origin h new Q
-    access_leads P Q a kept kept_q leads old new made some at =
-        let x = made_by (λ c. Leads w.queue c P Q) a leads old new made in
-        subst (λ (calls : List Call). AtCalls w origin h calls Q) (sym x.added)
-        (calls_lead w origin h P Q old x.before x.call along kept kept_q x.is x.steps some at)
+    access_leads P Q a kept kept_q leads =
+        over_access (λ done. P (leads_to origin done)) (λ done. Q (leads_to origin done)) a
+        (state_kept w origin mine P kept) (state_kept w origin mine Q kept_q)
+        (of_map q a _ _ (λ c. state_leads w origin mine c P Q) leads)
 
     -- one that may be the pass's first call
     pub first_access : (P Q : State → Type 0) (a : Access) → IsKept w mine Q → OfCall q a (λ c. Leads w.queue c P Q)

@@ -79,8 +79,8 @@ pub driven_meets : {w : Watched} {origin : State} {start rest : List Entry} {h :
     → IsDriven w origin start rest h doers
     → Meets w (lent_by w.pass (start ++ rest)) (leads_to origin start) [] [] h
 driven_meets {origin = origin} {start = start} {rest = rest} d = record {
-  sound = histories_sound origin start d.sound (events_before start rest d.events);
-  vfs = d.vfs ∙ sym (vfs_stays origin start);
+  sound = histories_sound origin start d.along.sound (events_before start rest d.along.events);
+  vfs = d.along.vfs ∙ sym (vfs_stays origin start);
   both = d.agree;
   lent = d.lent;
 }

@@ -58,8 +58,8 @@ unwanted a b c d is =
     let both = and_parts (not a && not b) (not c && not d) is in
     (not-true b (and_parts (not a) (not b) both.0).1, not-true d (and_parts (not c) (not d) both.1).1)
 
-module _ (w : Watched) (origin : State) (h : List Entry) (q : AtPort) (size frame : ℕ) (old : List Call) (a : Numbers)
-    (new : List Call) (v : Receive) (t : Sender) (up : AreOn q size frame old a new v t)
+module _ {w : Watched} {origin : State} {h : List Entry} {q : AtPort} {size frame : ℕ} {old : List Call} {a : Numbers}
+    {new : List Call} {v : Receive} {t : Sender} (up : AreOn q size frame old a new v t)
     (along : IsAlong w origin h) (well : BeforeLast w origin h up.receive.quiet.0 (HasGround w.queue q frame))
   where
     abbrev ring : ℕ
@@ -226,18 +226,18 @@ module _ (w : Watched) (origin : State) (h : List Entry) (q : AtPort) (size fram
     ground_at done rest all calls = let (p, x, unused) = up_at done rest all calls in x.ground
 
 pub switched_sides_agree : SwitchedSidesAgree
-switched_sides_agree = agrees_at
+switched_sides_agree w origin h q size frame old a new v t = agrees_at
 
 pub switched_sides_go_on : SwitchedSidesGoOn
-switched_sides_go_on = goes_on_at
+switched_sides_go_on w origin h q size frame old a new v t = goes_on_at
 
 pub switched_sides_begin_none : SwitchedSidesBeginNone
-switched_sides_begin_none = begun_at
+switched_sides_begin_none w origin h q size frame old a new v t = begun_at
 
 -- a start of the driver leaves a state where the device and the driver agree on both sides
 
-module _ (w : Watched) (origin : State) (h : List Entry) (q : AtPort) (size frame : ℕ) (old : List Call) (a : Numbers)
-    (new : List Call) (r : Running) (up : AreUp q size frame old a new r) (along : IsAlong w origin h)
+module _ {w : Watched} {origin : State} {h : List Entry} {q : AtPort} {size frame : ℕ} {old : List Call} {a : Numbers}
+    {new : List Call} {r : Running} (up : AreUp q size frame old a new r) (along : IsAlong w origin h)
     (well : BeginsWell w origin h q size frame old a new r up)
   where
     -- before the receive ring is filled both sides are on
@@ -257,18 +257,14 @@ module _ (w : Watched) (origin : State) (h : List Entry) (q : AtPort) (size fram
 
     -- port and queue name this queue there
     pub start_ground : AtCalls w origin h up.on.mid (HasGround w.queue q frame)
-    start_ground = ground_at w origin h q size frame old a up.on.mid up.empty r.transmit on along well.ground
+    start_ground = ground_at on along well.ground
 
     -- some calls were made before both were on
     pub start_some : up.on.mid ≢ []
-    start_some = on_some w origin h q size frame old a up.on.mid up.empty r.transmit on along well.ground
+    start_some = on_some on along well.ground
 
 pub start_agrees : StartAgrees
-start_agrees w origin h q size frame old a new r up along well =
-    agrees_at w origin h q size frame old a up.on.mid up.empty r.transmit
-    (on w origin h q size frame old a new r up along well) along well.ground
+start_agrees w origin h q size frame old a new r up along well = agrees_at (on up along well) along well.ground
 
 pub start_goes_on : StartGoesOn
-start_goes_on w origin h q size frame old a new r up along well =
-    goes_on_at w origin h q size frame old a up.on.mid up.empty r.transmit
-    (on w origin h q size frame old a new r up along well) along well.ground
+start_goes_on w origin h q size frame old a new r up along well = goes_on_at (on up along well) along well.ground

@@ -14,7 +14,6 @@ use Rattle.device_lock.specs.History.{AreEvents, IsLegal}
 use Rattle.ring_laws.proofs.Foreign.{no_registers}
 use Rattle.ring_laws.proofs.Delivering.{vfs_stays}
 use Rattle.ring_laws.proofs.HistoryLaws.Alone.{histories_sound}
-use Rattle.driver_laws.specs.Along.{CallsLead}
 use Rattle.driver_laws.specs.Ending.{Each}
 use Rattle.driver_laws.specs.Faultless.{Never}
 use Rattle.driver_laws.specs.Standing.{IsLeft}
@@ -230,12 +229,6 @@ entries_lead {w = w} {h = h} P Q old before c x kept kept_q leads steps some at 
     (each_here x P (λ b. IsTrue (is_step b.event)) kept (step_here x P kept) before old (each_step before steps) some
     at))
 
-pub calls_lead : CallsLead
-calls_lead w origin h P Q old before c x kept kept_q leads steps some at =
-    entries_lead (λ done. P (leads_to origin done)) (λ done. Q (leads_to origin done)) old before c x
-    (state_kept w origin (lent_by w.pass h) P kept) (state_kept w origin (lent_by w.pass h) Q kept_q)
-    (state_leads w origin (lent_by w.pass h) c P Q leads) steps some at
-
 -- what holds just before a call
 
 -- the device replies otherwise to it, wherever this holds
@@ -276,5 +269,7 @@ module _ {w : Watched} {origin : State} {h : List Entry} (x : IsAlong w origin h
   pub then_refuted : (old : List Call) → IsKept w (lent_by w.pass h) P → old ≢ [] → AtCalls w origin h old P
       → RefutesNext old
   then_refuted old kept some at before c steps apart refutes =
-      calls_lead w origin h P (λ s. ⊥) old before c x kept (λ s e left none. none)
-      (λ s met made told p. refutes s p told) steps some at
+      let mine = lent_by w.pass h in
+      entries_lead (λ done. P (leads_to origin done)) (λ done. ⊥) old before c x (state_kept w origin mine P kept)
+      (λ done e left none. none) (state_leads w origin mine c P (λ s. ⊥) (λ s met made told p. refutes s p told)) steps
+      some at

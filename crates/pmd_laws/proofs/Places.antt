@@ -86,7 +86,7 @@ module _ (x : Told) where
   up = told.started.2
 
   abbrev begun : AreOn q size frame old a up.on.mid up.empty told.started.0.transmit
-  begun = on w origin h q size frame old a x.m.made told.started.0 up x.along x.begins
+  begun = on up x.along x.begins
 
   -- the calls from there on
   abbrev apart : LeadsApart (is_own a) up.on.mid (begins told) (now x).made (halves_of (goes x).rings)

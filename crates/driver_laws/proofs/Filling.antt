@@ -1,44 +1,30 @@
 -- A start on a queue whose sides are off finds no device at fault but as it fills its receive ring.
 use Rattle.std.proofs.Common.{[], ◌++◌, ◌-◌, ◌∙◌, ◌∷◌, ◌≡◌, ◌≢◌, ◌⊎◌, List, ap, append_assoc, false, inl, inr, not}
 use Rattle.std.proofs.Common.{refl, subst, sym, true, ℕ}
-use Rattle.std.specs.Prelude.{IsFalse}
-use Rattle.std.proofs.lemmas.Bool.{both_ways}
-use Rattle.driver_laws.specs.Prelude.{Access, AreMade, AtPort, Block, Call, DeviceFault, Dir, Entry, IsMade, IsNumberOf}
-use Rattle.driver_laws.specs.Prelude.{IsReceiveReady, Numbers, PmdFault, Port, PreparingFails}
-use Rattle.driver_laws.specs.Prelude.{Receive, ReceiveFails, RowId, Rx, Rxdctl, Sees, Sets, State, SwitchFails, Tx}
-use Rattle.driver_laws.specs.Prelude.{Txdctl, Watched, both_asked, both_quiet, call_of, enable_row, has_bit, has_block}
-use Rattle.driver_laws.specs.Prelude.{is_driven, lent_by, missed, quiet, receive_polled, ring_words}
-use Rattle.driver_laws.specs.Prelude.{zero_block}
-use Rattle.driver_laws.proofs.Prelude.{AllAre, AtCalls, BeforeLast, BeforeNext, HasGround, IsAlong, IsEnding, IsKept}
-use Rattle.driver_laws.proofs.Prelude.{IsQuiet, Leads}
-use Rattle.nic_device.specs.declared.event.Event.TheVariants as event
-use Rattle.nic_device.specs.declared.event.Reply.TheVariants as reply
-use Rattle.pmd.specs.PmdSeam.QueueMade.{IsOtherwise, IsStrayRead, IsStrayWrite, StopsBy}
-use Rattle.pmd.specs.PmdSeam.Sides.{PollsEnd}
-use Rattle.pmd.specs.Starting.{GoingOnFails}
+use Rattle.std.{proofs.lemmas.Bool.both_ways, specs.Prelude.IsFalse}
+use Rattle.pmd.specs.PmdSeam.QueueMade.{IsStrayWrite}
 use Rattle.ring_laws.proofs.HistoryLaws.Lent.{anew_is_done}
-use Rattle.driver_laws.specs.Faultless.{Never, NoneIsLent, ReceiveIsReady, SwitchingIsNeverStray, TransmitIsReady}
+use Rattle.driver_laws.specs.Faultless.{NoneIsLent, ReceiveIsReady, SwitchingIsNeverStray, TransmitIsReady}
 use Rattle.driver_laws.specs.Filling.{FaultsAreEarlyOrFilling, FaultsEarly, FaultsFilling, FillingBeginsWell}
 use Rattle.driver_laws.specs.Filling.{NoFaultIsEarly}
+use Rattle.driver_laws.specs.Prelude.{Access, AreMade, AtPort, Block, Call, DeviceFault, Dir, Entry, IsMade, IsNumberOf}
+use Rattle.driver_laws.specs.Prelude.{IsReceiveReady, Numbers, PmdFault, Port, PreparingFails, Receive, ReceiveFails}
+use Rattle.driver_laws.specs.Prelude.{RowId, Rx, Rxdctl, Sees, Sets, State, SwitchFails, Tx, Txdctl, Watched}
+use Rattle.driver_laws.specs.Prelude.{both_asked, both_quiet, call_of, enable_row, has_bit, has_block, is_driven}
+use Rattle.driver_laws.specs.Prelude.{lent_by, missed, quiet, receive_polled, ring_words, zero_block}
 use Rattle.driver_laws.proofs.Ground.{IsDriven, IsWrite, asked_are_writes, ground_kept, named_registers_reply}
 use Rattle.driver_laws.proofs.Ground.{off_sides_are_seen_off, plain_keeps, polled_driven, reads_driven}
 use Rattle.driver_laws.proofs.Ground.{words_are_writes, writes_driven}
-use Rattle.driver_laws.proofs.Made.{OfCall, all_before, all_missed, before_made, first_access, made_some}
-use Rattle.driver_laws.proofs.Made.{some_made}
-use Rattle.driver_laws.proofs.On.{switched_sides_agree, switched_sides_go_on}
-use Rattle.driver_laws.proofs.Reached.{RefutesNext, last_never, next_refuted, then_refuted}
-use Rattle.driver_laws.proofs.SwitchedOff.{ending_quiet, quiet_kept}
-use Rattle.driver_laws.proofs.Words.{side_driven}
-use Rattle.driver_laws.proofs.StopCalls.{prepared_plain}
-use Rattle.driver_laws.proofs.StopCalls.{may_asks}
-use Rattle.driver_laws.proofs.StopCalls.{accesses_plain}
-use Rattle.driver_laws.proofs.Reached.{made_keep}
-use Rattle.driver_laws.proofs.StopCalls.{accesses_are}
-use Rattle.driver_laws.specs.Stopping.{AreMadeOf}
-use Rattle.driver_laws.proofs.StopCalls.{accesses_are}
-use Rattle.driver_laws.proofs.StopCalls.{step_ends}
-use Rattle.driver_laws.proofs.Prelude.{IsPlain}
-use Rattle.driver_laws.proofs.StopCalls.{stays_some}
+use Rattle.driver_laws.proofs.Made.{OfCall, all_before, all_missed, before_made, first_access, made_some, some_made}
+use Rattle.driver_laws.proofs.Prelude.{AllAre, AreMadeOf, AtCalls, BeforeLast, BeforeNext, GoingOnFails, HasGround}
+use Rattle.driver_laws.proofs.Prelude.{IsAlong, IsEnding, IsKept, IsOtherwise, IsPlain, IsQuiet, IsStrayRead, Leads}
+use Rattle.driver_laws.proofs.Prelude.{Never, PollsEnd, StopsBy}
+use Rattle.driver_laws.proofs.Reached.{RefutesNext, last_never, made_keep, next_refuted, then_refuted}
+use Rattle.driver_laws.proofs.StopCalls.{accesses_are, accesses_plain, may_asks, prepared_plain, stays_some, step_ends}
+use Rattle.driver_laws.proofs.{On.switched_sides_agree, On.switched_sides_go_on, SwitchedOff.ending_quiet}
+use Rattle.driver_laws.proofs.{SwitchedOff.quiet_kept, Words.side_driven}
+use Rattle.nic_device.specs.declared.event.Event.TheVariants as event
+use Rattle.nic_device.specs.declared.event.Reply.TheVariants as reply
 
 -- an access by which a side is seen off, or asked to be
 abbrev IsQuieting : Access → Type 0

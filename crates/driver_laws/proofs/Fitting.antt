@@ -1,52 +1,38 @@
 -- One call beside a driver that receives: the frames that wait for its queue go on fitting, its reply is healthy, and
 -- what that rests on holds behind it.
-use Rattle.std.proofs.Common.{[], ◌&&◌, ◌*◌, ◌++◌, ◌<◌, ◌==◌, ◌||◌, ◌∷◌, ◌≡◌, ◌≢◌, ◌≤◌, Bool, List, None, Option}
-use Rattle.std.proofs.Common.{Some, ap, arith, false, inl, inr, length, nat_lt, refl, subst, sym, true, ℕ}
-use Rattle.std.specs.Prelude.{option_map}
+use Rattle.std.proofs.Common.{[], ◌&&◌, ◌*◌, ◌++◌, ◌<◌, ◌==◌, ◌||◌, ◌∷◌, ◌≡◌, ◌≢◌, ◌≤◌, Bool, List, None, Option, Some}
+use Rattle.std.proofs.Common.{ap, arith, false, inl, inr, length, nat_lt, refl, subst, sym, true, ℕ}
 use Rattle.std.proofs.lemmas.Bool.{and_from, and_parts, both_ways, cond_both, eq-eqb, eqb-false, eqb-true, lt-ltb}
 use Rattle.std.proofs.lemmas.Bool.{not-true, or_cases, or_left, or_right}
-use Rattle.std.proofs.lemmas.List.{length-append, nil_from_length}
-use Rattle.driver_laws.specs.Prelude.{AreEvents, Block, Blocks, Call, Doer, Elsewhere, Entry, Event, Halves}
-use Rattle.driver_laws.specs.Prelude.{IsEvent, IsSound, LendsApart, LendsNone, Memory, Move, OnlyLent}
-use Rattle.driver_laws.specs.Prelude.{OwnCall, Piece, Receive, Receives, Reply, Rx, Sends}
-use Rattle.driver_laws.specs.Prelude.{State, Watched, WritesNoSetting, after, after_call, call_of}
-use Rattle.driver_laws.specs.Prelude.{drive, either, is_on, leads_to, lends, lent_by}
-use Rattle.driver_laws.specs.Prelude.{pieces, pieces_since, reply_to}
+use Rattle.std.{proofs.lemmas.List.length-append, proofs.lemmas.List.nil_from_length, specs.Prelude.option_map}
+use Rattle.nic_device.specs.{DmaRing.Descriptor.second_half, DmaRing.Receive.is_done}
+use Rattle.nic_device.proofs.Cases.{either_way}
 use Rattle.device_lock.specs.Alone.{lent_in}
-use Rattle.nic_device.proofs.Cases.{either_way, lent_cases}
-use Rattle.nic_device.proofs.Steps.{keeps_sound}
-use Rattle.nic_device.specs.DmaRing.Descriptor.{second_half}
-use Rattle.nic_device.specs.DmaRing.Receive.{is_done}
-use Rattle.nic_device.specs.Step.{step_of}
+use Rattle.pmd.specs.PmdRx.Receive.{is_part, looked, moved, parts_first, posts_all, posts_one, saw, tail_behind, took}
+use Rattle.pmd.specs.PmdRx.declared.ring.Told.{Told}
+use Rattle.ring_laws.specs.{Delivered.goes_on, Fitting.begun_on, HistoryLaws.Left.Rested, HistoryLaws.Left.Took}
+use Rattle.ring_laws.specs.{HistoryLaws.Lent.LendsOwn, HistoryLaws.Lent.with_lent, Pieces.AllFit}
+use Rattle.ring_laws.specs.{TransmitHealthy.LendsAnew, TransmitLent.SparesNumbers}
+use Rattle.ring_laws.proofs.{Fitting.frames_fit, Fitting.frames_stay_fitting, HistoryLaws.Deeds.receiving_did}
+use Rattle.ring_laws.proofs.{HistoryLaws.Lent.only_lent_stays}
+use Rattle.driver_laws.specs.Before.{AreShort, FramesStayShortAlong, OnlyPassLent}
+use Rattle.driver_laws.specs.Prelude.{AreEvents, Block, Blocks, Call, Doer, Elsewhere, Entry, Event, Halves, IsEvent}
+use Rattle.driver_laws.specs.Prelude.{IsSound, LendsApart, LendsNone, Memory, Move, OnlyLent, OwnCall, Piece, Receive}
+use Rattle.driver_laws.specs.Prelude.{Receives, Reply, Rx, Sends, State, Watched, WritesNoSetting, after, after_call}
+use Rattle.driver_laws.specs.Prelude.{call_of, drive, either, is_on, leads_to, lends, lent_by, pieces, pieces_since}
+use Rattle.driver_laws.specs.Prelude.{reply_to}
+use Rattle.driver_laws.proofs.Prelude.{AreFitting, Deed, IsHealthy, IsUp, begun_stays, gathered, keeps_sound}
+use Rattle.driver_laws.proofs.Prelude.{lent_cases, none_begun_while_off, settings_stand, step_of}
+use Rattle.driver_laws.proofs.{Meeting.Goes, Meeting.Meets, Sending.is_elsewhere}
 use Rattle.nic_device.specs.declared.event.Event.TheVariants as event
 use Rattle.nic_device.specs.declared.event.Reply.TheVariants as reply
 use Rattle.pmd.specs.PmdRx.Keeping as received
-use Rattle.pmd.specs.PmdRx.Receive.{is_part, looked, moved, parts_first, posts_all, posts_one, saw, tail_behind, took}
-use Rattle.pmd.specs.PmdRx.declared.ring.Told.{Told}
 use Rattle.pmd.specs.PmdTx.Sending as sending
-use Rattle.ring_laws.proofs.Begun.{begun_stays}
-use Rattle.ring_laws.proofs.DeviceLaws.KeptSettings.{settings_stand}
-use Rattle.ring_laws.proofs.Fitting.{frames_stay_fitting, none_begun_while_off}
 use Rattle.ring_laws.proofs.Own as receive
-use Rattle.ring_laws.proofs.HistoryLaws.Deeds.{receiving_did}
-use Rattle.ring_laws.proofs.HistoryLaws.Lent.{only_lent_stays}
 use Rattle.ring_laws.proofs.ReceiveLent as receive_lent
-use Rattle.ring_laws.proofs.Fitting.{frames_fit}
-use Rattle.ring_laws.specs.Delivered.{gathered, goes_on}
-use Rattle.ring_laws.specs.Fitting.{AreFitting, begun_on}
-use Rattle.ring_laws.specs.HistoryLaws.Left.{Deed, Rested, Took}
-use Rattle.ring_laws.specs.HistoryLaws.Lent.{LendsOwn, with_lent}
-use Rattle.ring_laws.specs.Pieces.{AllFit}
-use Rattle.ring_laws.specs.ReceiveUp.{IsUp}
 use Rattle.ring_laws.proofs.Playing as transmit
 use Rattle.ring_laws.proofs.TransmitLent as transmit_lent
-use Rattle.ring_laws.specs.TransmitHealthy.{LendsAnew}
-use Rattle.ring_laws.specs.TransmitLent.{SparesNumbers}
-use Rattle.driver_laws.specs.Before.{AreShort, FramesStayShortAlong, OnlyPassLent}
 use Rattle.driver_laws.specs.Healthy as healthy
-use Rattle.driver_laws.specs.Healthy.{IsHealthy}
-use Rattle.driver_laws.proofs.Meeting.{Goes, Meets}
-use Rattle.driver_laws.proofs.Sending.{is_elsewhere}
 
 -- a driver takes as many blocks for a packet as before
 

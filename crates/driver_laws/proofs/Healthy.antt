@@ -2,26 +2,21 @@
 use Rattle.std.proofs.Common.{[], ◌*◌, ◌++◌, ◌∙◌, ◌∷◌, ◌≡◌, ◌≢◌, Bool, List, ap, append_assoc, arith, false, refl}
 use Rattle.std.proofs.Common.{subst, sym, true, ℕ}
 use Rattle.std.specs.Prelude.{◌==◌}
-use Rattle.std.proofs.lemmas.Bool.{both_ways, eqb-false}
-use Rattle.std.proofs.lemmas.List.{append_cancel_left, map-append}
-use Rattle.std.proofs.lemmas.List.Elements.{filter-append}
+use Rattle.std.{proofs.lemmas.Bool.both_ways, proofs.lemmas.Bool.eqb-false, proofs.lemmas.List.append_cancel_left}
+use Rattle.std.{proofs.lemmas.List.map-append, proofs.lemmas.List.Elements.filter-append}
+use Rattle.pmd.specs.Apart.{is_healthy}
+use Rattle.pmd.proofs.Apart.{step_apart}
 use Rattle.driver_laws.specs.Prelude.{AllLendApart, AllOwn, AreSteps, Blocks, Call, Doer, Entry, FindsFault, Halves}
 use Rattle.driver_laws.specs.Prelude.{LendsApart, LendsNone, OnlyLent, Piece, State, Watched, after, after_call}
 use Rattle.driver_laws.specs.Prelude.{call_in, call_of, calls_of, doers_other, leads_to, pieces, played_by}
-use Rattle.device_lock.proofs.Histories.{events_before}
-use Rattle.pmd.proofs.Apart.{both_apart, step_apart}
-use Rattle.pmd.specs.Apart.{is_healthy}
-use Rattle.ring_laws.specs.Fitting.{AreFitting}
-use Rattle.ring_laws.specs.ReceiveUp.{IsUp}
-use Rattle.driver_laws.specs.Before.{OnlyPassLends}
-use Rattle.driver_laws.specs.Faults.{NoFault, doers_of}
-use Rattle.driver_laws.specs.Healthy as healthy
-use Rattle.driver_laws.specs.Healthy.{AreHealthy, IsHealthy, IsUnshared, OwnRepliesAreHealthy}
-use Rattle.driver_laws.specs.Histories.{IsDriven, doer_of, doers_after}
+use Rattle.driver_laws.specs.{Before.OnlyPassLends, Faults.NoFault, Faults.doers_of, Healthy.AreHealthy}
+use Rattle.driver_laws.specs.{Healthy.IsUnshared, Healthy.OwnRepliesAreHealthy}
 use Rattle.driver_laws.proofs.Fitting.{fitting_after, healthy_call, known_after, most_after, none_apart, unbegun_since}
-use Rattle.driver_laws.proofs.InOrder.{Runs, driven_runs, first_after, first_doer, goes, next}
-use Rattle.driver_laws.proofs.InOrder.{own_here, runs_on}
+use Rattle.driver_laws.proofs.InOrder.{Runs, driven_runs, first_after, first_doer, goes, next, own_here, runs_on}
 use Rattle.driver_laws.proofs.Meeting.{Meets, driven_meets}
+use Rattle.driver_laws.proofs.Prelude.{AreFitting, IsDriven, IsHealthy, IsUp, both_apart, doer_of, doers_after}
+use Rattle.driver_laws.proofs.Prelude.{events_before}
+use Rattle.driver_laws.specs.Healthy as healthy
 
 abbrev pub Parts : Blocks → Halves → List Doer → Entry → Bool → List Call → Type 0
 Parts own h doers e b behind =

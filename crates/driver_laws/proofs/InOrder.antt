@@ -1,37 +1,29 @@
 -- What the driver handed out and what it sent, over a history that leaves its queue alone.
 use Rattle.std.proofs.Common.{[], ◌&&◌, ◌++◌, ◌∙◌, ◌∷◌, ◌≡◌, Bool, List, None, Some, ap, append_assoc, cond, drop}
 use Rattle.std.proofs.Common.{false, inl, length, nat_lt, refl, subst, sym, true, ℕ}
-use Rattle.std.specs.Prelude.{◌==◌, IsTrue}
 use Rattle.std.proofs.lemmas.Bool.{and_from, eq-eqb, eqb-false, eqb-true, lt-ltb, or_left, or_right}
 use Rattle.std.proofs.lemmas.List.{append-nil}
+use Rattle.std.specs.Prelude.{◌==◌, IsTrue}
+use Rattle.pmd.specs.PmdSeam.Packet.{Kept}
+use Rattle.ring_laws.specs.{Delivered.IsPrefixOf, HistoryLaws.Alone.AllAlone, Laws.FindsWaiting}
+use Rattle.ring_laws.proofs.Delivering.{all_taken, between, drained, grows, handed_first, lent_behind, pieces-append}
+use Rattle.ring_laws.proofs.{HistoryLaws.Alone.alone_by_entries, Runs.first_sent, Runs.idle-all, Runs.sent_in-append}
+use Rattle.ring_laws.proofs.{Runs.waiting-left}
 use Rattle.driver_laws.specs.Prelude.{AllOwn, AreEvents, Block, Blocks, Call, Doer, Entry, Event, FindsNone, Halves}
 use Rattle.driver_laws.specs.Prelude.{IsEvent, IsLegal, IsUp, LeavesBlocks, LeavesRegisters, OwnCall, Piece, Reply, Rx}
 use Rattle.driver_laws.specs.Prelude.{ShowsNone, State, Tx, Watched, WritesOutside, after, after_call, bytes_of}
 use Rattle.driver_laws.specs.Prelude.{call_in, call_of, calls_of, delivered, is_neither, is_on, leads_to, lends}
 use Rattle.driver_laws.specs.Prelude.{lent_by, mode_in, packets_if_any, pieces, pieces_in, pieces_since, played_by}
 use Rattle.driver_laws.specs.Prelude.{records_of, reply_to, sent_by, sent_in, sent_since}
-use Rattle.device_lock.proofs.Histories.{events_behind, leads-append, legal_behind}
+use Rattle.driver_laws.specs.{Histories.NoneIsAllBefore, Histories.OthersLeaveAlone, Waiting.WaitingIsNotAll}
+use Rattle.driver_laws.proofs.Meeting.{Goes, Meets, doer_goes, driven_meets}
+use Rattle.driver_laws.proofs.Prelude.{AreLent, BothAgree, IsDriven, LendsMine, doer_of, doers_after, events_behind}
+use Rattle.driver_laws.proofs.Prelude.{leads-append, legal_behind, not_again, packets_of, sent_is_counted, since-append}
 use Rattle.nic_device.specs.declared.event.Event.TheVariants as event
 use Rattle.nic_device.specs.declared.event.Reply.TheVariants as reply
-use Rattle.pmd.specs.PmdSeam.Packet.{Kept}
-use Rattle.ring_laws.proofs.Delivering.{between, grows, lent_behind, pieces-append, since-append}
-use Rattle.ring_laws.proofs.HistoryLaws.Alone.{alone_by_entries}
-use Rattle.ring_laws.proofs.HistoryLaws.Steady.{not_again}
-use Rattle.ring_laws.proofs.ReceiveLent.{LendsMine}
-use Rattle.ring_laws.proofs.Delivering.{all_taken, drained, handed_first}
 use Rattle.ring_laws.specs.Delivered as receive
-use Rattle.ring_laws.specs.Delivered.{IsPrefixOf}
-use Rattle.ring_laws.specs.HistoryLaws.Alone.{AllAlone}
-use Rattle.ring_laws.specs.Pieces.{packets_of}
 use Rattle.ring_laws.specs.ReceiveUp as received
-use Rattle.ring_laws.proofs.Counting.{sent_is_counted}
-use Rattle.ring_laws.proofs.Runs.{first_sent, idle-all, sent_in-append, waiting-left}
 use Rattle.ring_laws.specs.Laws as transmit
-use Rattle.ring_laws.specs.Laws.{FindsWaiting}
-use Rattle.driver_laws.specs.Agreeing.{AreLent, BothAgree}
-use Rattle.driver_laws.specs.Histories.{IsDriven, NoneIsAllBefore, OthersLeaveAlone, doer_of, doers_after}
-use Rattle.driver_laws.specs.Waiting.{WaitingIsNotAll}
-use Rattle.driver_laws.proofs.Meeting.{Goes, Meets, doer_goes, driven_meets}
 
 -- what the pass lends is among these blocks
 pub lends_mine : (pass : ℕ) (mine : Blocks) (own : ℕ) (e : Event Block) (r : Reply Block) → own ≡ pass → IsEvent e

@@ -1,33 +1,25 @@
 -- A history over which a driver lays out an empty transmit ring sends nothing on its queue.
 use Rattle.std.proofs.Common.{[], ◌++◌, ◌/◌, ◌<◌, ◌^◌, ◌∙◌, ◌∷◌, ◌≡◌, ◌≢◌, ◌≤◌, List, ap, append_assoc, arith, false}
 use Rattle.std.proofs.Common.{inl, inr, refl, subst, sym, true, ℕ}
-use Rattle.std.specs.Prelude.{◌==◌}
 use Rattle.std.proofs.lemmas.Bool.{both_ways, cases_Bool, eqb-false, lt-ltb}
+use Rattle.std.specs.Prelude.{◌==◌}
+use Rattle.ring_laws.specs.Sent.{sent_in}
+use Rattle.driver_laws.specs.Laid.{Empty, Headed, Laid, LaidQueueIsSilent, Lays, LaysOn, MayAsk, MayLay, MayRing, Off}
+use Rattle.driver_laws.specs.Laid.{Sized, laid_by}
 use Rattle.driver_laws.specs.Prelude.{AtPort, Block, Blocks, Call, Entry, Event, IsEvent, LeavesBlocks, LeavesRegisters}
 use Rattle.driver_laws.specs.Prelude.{Port, Rdbah, Rdbal, Rdh, Rdlen, Rdt, Ring, RowId, Rxdctl, Side, Srrctl, State}
 use Rattle.driver_laws.specs.Prelude.{Tdbah, Tdbal, Tdh, Tdlen, Tdt, Tdwbal, Tx, Txdctl, Watched, after, calls_of}
 use Rattle.driver_laws.specs.Prelude.{has_bit, is_empty, leads_to, lent_by, mode_in, place, sent_by, side_of}
-use Rattle.driver_laws.proofs.Prelude.{Fits, HasGround, IsAlong, IsMet, IsPlain, NamesRow, calls_other, calls_own}
-use Rattle.driver_laws.proofs.Prelude.{idle_silent, left_deed, no_block, side_with, steady_kept}
-use Rattle.nic_device.specs.RegTable.Rows.{row_of}
-use Rattle.nic_device.specs.RegisterFile.Access.{asks_pool_reset, asks_reset}
-use Rattle.nic_device.specs.RegisterFile.Owner.{owner_of}
+use Rattle.driver_laws.specs.Standing.{IsLeft}
+use Rattle.driver_laws.proofs.Prelude.{Fits, HasGround, IsAlong, IsIdle, IsMet, IsPlain, NamesRow, asked}
+use Rattle.driver_laws.proofs.Prelude.{asks_pool_reset, asks_reset, calls_other, calls_own, idle_silent, idle_steady}
+use Rattle.driver_laws.proofs.Prelude.{left_deed, no_block, none_staged, owner_of, row_of, side_with, steady_kept}
+use Rattle.driver_laws.proofs.Prelude.{transmit_left, write_rest}
+use Rattle.driver_laws.proofs.{Ground.ground_kept, Ground.ground_names, Ground.plain_keeps, Parts.own_some}
+use Rattle.driver_laws.proofs.{Parts.still_some, Reached.entry_is, Reached.foreign_left, Reached.reached_next}
+use Rattle.driver_laws.proofs.{Standing.with_beside, SwitchedOff.alone_left, SwitchedOff.watching, Words.words_taken}
 use Rattle.nic_device.specs.RegisterFile.declared.owner.Owner.TheVariants as owner
 use Rattle.nic_device.specs.declared.event.Event.TheVariants as event
-use Rattle.ring_laws.proofs.DeviceLaws.StandingAccesses.{write_rest}
-use Rattle.ring_laws.proofs.HistoryLaws.Steady.{asked}
-use Rattle.ring_laws.proofs.HistoryLaws.Leaving.{transmit_left}
-use Rattle.ring_laws.proofs.HistoryLaws.Steady.{IsIdle, idle_steady, none_staged}
-use Rattle.ring_laws.specs.Sent.{sent_in}
-use Rattle.driver_laws.specs.Laid.{Empty, Headed, Laid, LaidQueueIsSilent, Lays, LaysOn, MayAsk, MayLay, MayRing, Off}
-use Rattle.driver_laws.specs.Laid.{Sized, laid_by}
-use Rattle.driver_laws.specs.Standing.{IsLeft}
-use Rattle.driver_laws.proofs.Ground.{ground_kept, ground_names, plain_keeps}
-use Rattle.driver_laws.proofs.Parts.{own_some, still_some}
-use Rattle.driver_laws.proofs.Reached.{entry_is, foreign_left, reached_next}
-use Rattle.driver_laws.proofs.Standing.{with_beside}
-use Rattle.driver_laws.proofs.SwitchedOff.{alone_left, watching}
-use Rattle.driver_laws.proofs.Words.{words_taken}
 
 -- transmit sides that are off, or whose ring is empty, as the words of an empty ring are written to them
 

@@ -1,26 +1,18 @@
 -- The blocks that the halves have lent: each is lent, none by both, and all are among those that the pass lends.
 use Rattle.std.proofs.Common.{◌<◌, ◌∙◌, ◌≡◌, ◌≢◌, List, ap, inl, inr, length, not, refl, subst, sym, true, ℕ}
-use Rattle.std.specs.Prelude.{◌==◌, IsTrue}
 use Rattle.std.proofs.lemmas.Bool.{cases_eq, cases_lt, eqb-false, ne_eqb, not-true}
+use Rattle.std.specs.Prelude.{◌==◌, IsTrue}
+use Rattle.nic_device.specs.declared.event.Reply.TheVariants.{Twice}
+use Rattle.pmd.specs.{PmdRx.Receive.Layout, PmdRx.declared.ring.Stage.Stage, PmdRx.declared.ring.Stage.TheVariants.Lent}
+use Rattle.pmd.specs.{PmdTx.Sending.moved}
+use Rattle.ring_laws.specs.{Alone.LendsOneOf, Joint.HasSlots, Joint.StageHolds, Steps.Each, Steps.IfFresh}
 use Rattle.driver_laws.specs.Prelude.{Agree, Block, Blocks, Event, LeavesBlock, Memory, Move, Piece, Receive, Reply}
 use Rattle.driver_laws.specs.Prelude.{Sender, State, after, drive, has_block, has_lent, reply_to}
-use Rattle.nic_device.specs.Outcome.{Outcome, gives}
-use Rattle.nic_device.specs.Step.{step_of}
+use Rattle.driver_laws.proofs.Prelude.{Done, IsOwn, LendsMine, Outcome, block_at, each_map, gives, memory_blocks}
+use Rattle.driver_laws.proofs.Prelude.{mine-moved, mine_driven, reach, step_of}
 use Rattle.nic_device.specs.declared.event.Event.TheVariants as event
 use Rattle.nic_device.specs.declared.event.Reply.TheVariants as reply
-use Rattle.nic_device.specs.declared.event.Reply.TheVariants.{Done, Twice}
 use Rattle.pmd.specs.PmdRx.Receive as receiving
-use Rattle.pmd.specs.PmdRx.Receive.{Layout, block_at, reach}
-use Rattle.pmd.specs.PmdRx.declared.ring.Stage.{Stage}
-use Rattle.pmd.specs.PmdRx.declared.ring.Stage.TheVariants.{Lent}
-use Rattle.pmd.specs.PmdTx.Sending.{IsOwn, moved}
-use Rattle.ring_laws.proofs.DeviceLaws.Standing.{memory_blocks}
-use Rattle.ring_laws.proofs.Kept.{each_map}
-use Rattle.ring_laws.proofs.ReceiveLent.{LendsMine, mine_driven}
-use Rattle.ring_laws.specs.Joint.{HasSlots, StageHolds}
-use Rattle.ring_laws.specs.Steps.{Each, IfFresh}
-use Rattle.ring_laws.proofs.TransmitLent.{mine-moved}
-use Rattle.ring_laws.specs.Alone.{LendsOneOf}
 
 fresh_both : (stage : Stage) (P Q : ℕ → Type 0) → IfFresh stage P → IfFresh stage Q → IfFresh stage (λ b. P b × Q b)
 fresh_both (Lent b) P Q p q = (p, q)

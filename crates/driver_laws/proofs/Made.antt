@@ -1,17 +1,15 @@
 -- The calls that a driver's accesses add, and what they lead to over a history.
-use Rattle.std.proofs.Common.{[], ◌++◌, ◌∙◌, ◌∷◌, ◌≡◌, ◌≢◌, Bool, List, append_assoc, not, refl, subst, suc, sym, zero}
-use Rattle.std.proofs.Common.{ap, ℕ}
-use Rattle.std.specs.Prelude.{IsFalse}
-use Rattle.std.proofs.lemmas.List.{append-nil}
+use Rattle.std.proofs.Common.{[], ◌++◌, ◌∙◌, ◌∷◌, ◌≡◌, ◌≢◌, Bool, List, ap, append_assoc, not, refl, subst, suc, sym}
+use Rattle.std.proofs.Common.{zero, ℕ}
+use Rattle.std.{proofs.lemmas.List.append-nil, specs.Prelude.IsFalse}
 use Rattle.driver_laws.specs.Prelude.{Access, AreMade, AreSteps, AtPort, Blocks, Call, Dir, Entry, IsMade, IsNumberOf}
 use Rattle.driver_laws.specs.Prelude.{RowId, Sees, Sets, State, Watched, after, call_of, enable_row, has_bit, is_step}
-use Rattle.driver_laws.specs.Prelude.{lent_by, missed, polled}
+use Rattle.driver_laws.specs.Prelude.{leads_to, lent_by, missed, polled}
+use Rattle.driver_laws.proofs.Parts.{ends_some}
 use Rattle.driver_laws.proofs.Prelude.{AllAre, AtCalls, AtEntries, BeforeLast, BeforeNext, IsAlong, IsKept, Leads}
+use Rattle.driver_laws.proofs.Reached.{KeptOver, LeadsOver, entries_lead, first_leads, state_kept, state_leads}
 use Rattle.nic_device.specs.declared.event.Event.TheVariants as event
 use Rattle.nic_device.specs.declared.event.Reply.TheVariants as reply
-use Rattle.driver_laws.proofs.Parts.{ends_some}
-use Rattle.driver_laws.proofs.Reached.{KeptOver, LeadsOver, entries_lead, first_leads, state_kept, state_leads}
-use Rattle.driver_laws.specs.Prelude.{leads_to}
 
 module _ (K : Access → Type 0) where
   pub all_both : (xs ys : List Access) → AllAre K xs → AllAre K ys → AllAre K (xs ++ ys)

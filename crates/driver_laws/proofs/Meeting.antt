@@ -1,70 +1,36 @@
 -- What holds between two entries of a history, and that an event which is either half's, or neither's and leaves the
 -- queue alone, keeps it; so it does a side of the queue that is up.
-use Rattle.std.proofs.Common.{[], ◌++◌, ◌∙◌, ◌≡◌, ◌≢◌, List, ap, false, refl, subst, sym, true, ℕ}
-use Rattle.std.specs.Prelude.{IsTrue}
-use Rattle.std.proofs.lemmas.List.{append-nil}
-use Rattle.std.specs.FinMap as map
-use Rattle.driver_laws.specs.Prelude.{Agree, Block, Blocks, Doer, Elsewhere, Entry, Event, Halves, IsEvent, IsSound}
-use Rattle.driver_laws.specs.Prelude.{IsUp, LeavesBlock, LeavesBlocks, LeavesRegisters, Memory, Move, OwnCall, Piece}
-use Rattle.driver_laws.specs.Prelude.{Port, Receives, Register, Rx, Rxdctl, Sends, State, Tx, Watched, WritesNoSetting}
-use Rattle.driver_laws.specs.Prelude.{WritesOutside, after, after_call, call_of, drive, has_bit, has_block, has_lent}
-use Rattle.driver_laws.specs.Prelude.{is_neither, leads_to, lent_by, mode_in, named, pieces, place, reply_to, sent_by}
-use Rattle.device_lock.proofs.Histories.{events_before}
-use Rattle.nic_device.proofs.Steps.{keeps_sound, step_leads}
+use Rattle.std.proofs.Common.{[], ◌++◌, ◌∙◌, ◌≡◌, ◌≢◌, List, Some, ap, false, refl, subst, sym, true, ℕ}
+use Rattle.std.{proofs.lemmas.Bool.both_ways, proofs.lemmas.List.append-nil, specs.Prelude.IsTrue}
 use Rattle.nic_device.specs.RegTable.declared.rows.RowId.TheVariants.{Txdctl}
+use Rattle.nic_device.proofs.Steps.{step_leads}
+use Rattle.device_lock.specs.Alone.{place_at}
+use Rattle.pmd.specs.PmdTx.Sending.{moved}
+use Rattle.ring_laws.specs.{Agreeing.Agrees, Fitting.ResetsNoPool, HistoryLaws.Left.IsLeft, HistoryLaws.Sides.Side}
+use Rattle.ring_laws.specs.{Turns.MayMove}
+use Rattle.ring_laws.proofs.Foreign.{alone_stays_up, left_keeps, left_up, own_stays_up}
+use Rattle.ring_laws.proofs.{HistoryLaws.Written.place_in, HistoryLaws.Written.place_named, Kept.each_of}
+use Rattle.ring_laws.proofs.{Leaving.leaving_keeps, Leaving.switching_keeps}
+use Rattle.ring_laws.proofs.{Off.enable_words_keep as transmit_word_keeps, Own.own_keeps, Playing.moves_keep}
+use Rattle.ring_laws.proofs.{Playing.up_stays, Runs.left_alone_is_spared, Sparing.sparing_events_keep}
+use Rattle.driver_laws.specs.Enabling.{EnableWordsKeep}
+use Rattle.driver_laws.specs.Prelude.{Advances, Agree, Block, Blocks, Doer, Elsewhere, Entry, Event, Halves, IsEvent}
+use Rattle.driver_laws.specs.Prelude.{IsSound, IsUp, LeavesBlock, LeavesBlocks, LeavesRegisters, Memory, Move, OwnCall}
+use Rattle.driver_laws.specs.Prelude.{Piece, Place, Port, Rdt, Receives, Register, Rx, Rxdctl, Sends, State, Tdt, Tx}
+use Rattle.driver_laws.specs.Prelude.{Watched, WritesNoSetting, WritesOutside, after, after_call, asks_pool_reset}
+use Rattle.driver_laws.specs.Prelude.{call_of, drive, has_bit, has_block, has_lent, is_neither, leads_to, lent_by}
+use Rattle.driver_laws.specs.Prelude.{mode_in, named, pieces, place, reply_to, row_of, sent_by}
+use Rattle.driver_laws.proofs.Lending.{each_all, lends_one, receive_lent, receives_apart, sends_apart}
+use Rattle.driver_laws.proofs.Prelude.{AreLent, BothAgree, IsDriven, LendsMine, Spares, SparesIfSome, asked}
+use Rattle.driver_laws.proofs.Prelude.{events_before, histories_sound, keeps_sound, mine-moved, mine_driven}
+use Rattle.driver_laws.proofs.Prelude.{plain-write, settings_stand, stays_within, vfs_stays, write_memory, write_rest}
+use Rattle.driver_laws.proofs.Sending.{is_elsewhere, move_setting, move_spares, own_spares, received_spares}
+use Rattle.driver_laws.proofs.Sending.{reports_spare, sender_lent, writes_tail}
+use Rattle.std.specs.FinMap as map
 use Rattle.nic_device.specs.declared.event.Event.TheVariants as event
 use Rattle.pmd.specs.PmdRx.Receive as receiving
 use Rattle.pmd.specs.PmdTx.Sending as sending
-use Rattle.pmd.specs.PmdTx.Sending.{moved}
-use Rattle.ring_laws.proofs.Delivering.{vfs_stays}
-use Rattle.ring_laws.proofs.DeviceLaws.KeptSettings.{settings_stand}
-use Rattle.ring_laws.proofs.DeviceLaws.Standing.{stays_within}
-use Rattle.ring_laws.proofs.DeviceLaws.StandingAccesses.{write_memory, write_rest}
-use Rattle.ring_laws.proofs.Kept.{each_of}
-use Rattle.ring_laws.proofs.Foreign.{left_keeps}
-use Rattle.ring_laws.proofs.HistoryLaws.Steady.{asked}
-use Rattle.ring_laws.proofs.HistoryLaws.Leaving.{plain-write}
-use Rattle.ring_laws.proofs.HistoryLaws.Alone.{histories_sound}
-use Rattle.ring_laws.proofs.Leaving.{leaving_keeps, switching_keeps}
-use Rattle.ring_laws.proofs.ReceiveLent.{LendsMine, mine_driven}
-use Rattle.ring_laws.proofs.Own.{own_keeps}
-use Rattle.ring_laws.proofs.Foreign.{alone_stays_up, left_up, own_stays_up}
-use Rattle.ring_laws.specs.HistoryLaws.Left.{IsLeft}
-use Rattle.ring_laws.specs.HistoryLaws.Sides.{Side}
 use Rattle.ring_laws.specs.ReceiveUp as received
-use Rattle.ring_laws.proofs.Off.{enable_words_keep as transmit_word_keeps}
-use Rattle.ring_laws.proofs.Runs.{left_alone_is_spared}
-use Rattle.ring_laws.proofs.TransmitLent.{mine-moved}
-use Rattle.ring_laws.proofs.Playing.{moves_keep}
-use Rattle.ring_laws.proofs.Sparing.{sparing_events_keep}
-use Rattle.ring_laws.proofs.Playing.{up_stays}
-use Rattle.ring_laws.specs.Agreeing.{Agrees}
-use Rattle.ring_laws.specs.Sparing.{Spares}
-use Rattle.ring_laws.specs.Turns.{MayMove}
-use Rattle.driver_laws.specs.Agreeing.{AreLent, BothAgree}
-use Rattle.driver_laws.specs.Enabling.{EnableWordsKeep}
-use Rattle.driver_laws.specs.Histories.{IsDriven}
-use Rattle.driver_laws.proofs.Lending.{each_all, lends_one, receive_lent, receives_apart, sends_apart}
-use Rattle.driver_laws.proofs.Sending.{is_elsewhere, move_spares, own_spares, received_spares, reports_spare}
-use Rattle.driver_laws.proofs.Sending.{sender_lent}
-use Rattle.ring_laws.specs.Fitting.{ResetsNoPool}
-use Rattle.driver_laws.specs.Prelude.{Place}
-use Rattle.driver_laws.proofs.Sending.{move_setting}
-use Rattle.driver_laws.specs.Prelude.{asks_pool_reset}
-use Rattle.driver_laws.specs.Prelude.{Tdt}
-use Rattle.driver_laws.specs.Prelude.{Rdt}
-use Rattle.device_lock.specs.Alone.{place_at}
-use Rattle.std.proofs.Common.{Some}
-use Rattle.driver_laws.specs.Prelude.{row_of}
-use Rattle.driver_laws.proofs.Sending.{writes_tail}
-use Rattle.driver_laws.specs.Prelude.{Advances}
-use Rattle.std.proofs.Common.{Some}
-use Rattle.driver_laws.specs.Prelude.{row_of}
-use Rattle.driver_laws.proofs.Sending.{writes_tail}
-use Rattle.std.proofs.lemmas.Bool.{both_ways}
-use Rattle.ring_laws.proofs.HistoryLaws.Written.{place_named}
-use Rattle.ring_laws.proofs.HistoryLaws.Written.{place_in}
-use Rattle.device_lock.specs.Alone.{SparesIfSome}
 
 -- what holds between two entries: the device is sound and agrees with both halves, and their blocks are among these
 pub record Meets (w : Watched) (mine : Blocks) (s : State) (out : List Piece) (sent : List (List ℕ))

@@ -1,36 +1,23 @@
 -- Once both rings came up and both sides went on the device and the driver agree on both.
 use Rattle.std.proofs.Common.{[], ◌%◌, ◌&&◌, ◌*◌, ◌+◌, ◌-◌, ◌<◌, ◌∷◌, ◌≡◌, ◌≢◌, ◌≤◌, Bool, List, ap, arith, false, not}
 use Rattle.std.proofs.Common.{refl, subst, sym, true, ℕ}
-use Rattle.std.specs.Prelude.{IsTrue}
 use Rattle.std.proofs.lemmas.Bool.{and_parts, both_ways, eqb-true, leb-true, not-true}
+use Rattle.std.specs.Prelude.{IsTrue}
+use Rattle.pmd.specs.{PmdSeam.Frames.most_blocks, Running.Running, Started.AreUp}
+use Rattle.driver_laws.specs.On.{AreOn, SwitchedSidesAgree, SwitchedSidesBeginNone, SwitchedSidesGoOn}
 use Rattle.driver_laws.specs.Prelude.{Agree, Agrees, AtPort, Call, EachRingBlock, Entry, Numbers, Rdt, Receive, Rx}
 use Rattle.driver_laws.specs.Prelude.{Rxdctl, Sees, Sender, Sets, Side, State, Tdt, Tx, Watched, begun_on, blocks_for}
 use Rattle.driver_laws.specs.Prelude.{is_size, leads_to, lent_by, quiet, ring_blocks}
-use Rattle.driver_laws.proofs.Prelude.{AtCalls, AtEntries, BeforeLast, HasGround, IsAlong, Sides, after_accesses}
-use Rattle.pmd.proofs.PmdSeam.Rings.{some_blocks}
-use Rattle.pmd.specs.PmdSeam.Frames.{most_blocks}
-use Rattle.pmd.specs.Running.{Running}
-use Rattle.pmd.specs.Started.{AreUp}
-use Rattle.driver_laws.specs.Moves.{IsSized}
-use Rattle.driver_laws.specs.On.{AreOn, SwitchedSidesAgree, SwitchedSidesBeginNone, SwitchedSidesGoOn}
-use Rattle.driver_laws.specs.Points.{Point}
-use Rattle.driver_laws.specs.Quieting.{are_off}
-use Rattle.driver_laws.specs.Start.{BeginsWell, StartAgrees, StartGoesOn}
-use Rattle.driver_laws.specs.Unused.{AreUnused, WentOn}
-use Rattle.driver_laws.proofs.Ground.{ground_names}
-use Rattle.driver_laws.proofs.Made.{first_made, some_made}
+use Rattle.driver_laws.specs.{Quieting.are_off, Start.BeginsWell, Start.StartAgrees, Start.StartGoesOn, Unused.WentOn}
 use Rattle.driver_laws.proofs.Points.{At, accesses_at, laid_with, prepared_at, unused_kept}
-use Rattle.driver_laws.proofs.Reached.{sound_at}
-use Rattle.driver_laws.proofs.StopCalls.{Has, IsLentBy, has_more, lending, lent_along}
-use Rattle.driver_laws.proofs.StopCalls.{prepared_has, ring_in, stays_in}
-use Rattle.driver_laws.proofs.SwitchedOff.{quiet_sides_stand, quieting_leads}
+use Rattle.driver_laws.proofs.Prelude.{AreUnused, AtCalls, AtEntries, BeforeLast, HasGround, IsAlong, IsPlain, IsSized}
+use Rattle.driver_laws.proofs.Prelude.{Point, Sides, after_accesses, some_blocks}
+use Rattle.driver_laws.proofs.StopCalls.{Has, IsLentBy, has_more, lending, lent_along, prepared_has, prepared_plain}
+use Rattle.driver_laws.proofs.StopCalls.{ring_in, stays_in, stays_some}
 use Rattle.driver_laws.proofs.Switching.{came_up, comes_up, fresh_receive_agrees, fresh_transmit_agrees, laid, may_lay}
 use Rattle.driver_laws.proofs.Switching.{may_switch, switching}
-use Rattle.driver_laws.proofs.StopCalls.{stays_some}
-use Rattle.driver_laws.proofs.StopCalls.{prepared_plain}
-use Rattle.driver_laws.proofs.Made.{extends}
-use Rattle.driver_laws.proofs.Prelude.{IsPlain}
-use Rattle.driver_laws.proofs.Prelude.{IsPlain}
+use Rattle.driver_laws.proofs.{Ground.ground_names, Made.extends, Made.first_made, Made.some_made, Reached.sound_at}
+use Rattle.driver_laws.proofs.{SwitchedOff.quiet_sides_stand, SwitchedOff.quieting_leads}
 
 -- the numbers of slots that a driver may have
 

@@ -1,24 +1,17 @@
 -- A history that leaves a queue alone, entry by entry and call by call of its pass.
 use Rattle.std.proofs.Common.{[], ◌++◌, ◌∙◌, ◌∷◌, ◌≡◌, ◌≢◌, List, ap, append_assoc, inl, inr, refl, subst, sym, true}
 use Rattle.std.specs.Prelude.{◌==◌, IsFalse, IsTrue}
-use Rattle.std.proofs.lemmas.Bool.{cases_Bool, eqb-false}
-use Rattle.std.proofs.lemmas.List.{append-nil}
+use Rattle.std.{proofs.lemmas.Bool.cases_Bool, proofs.lemmas.Bool.eqb-false, proofs.lemmas.List.append-nil}
+use Rattle.device_lock.specs.{Alone.EntryLeavesAlone, History.AreEvents, History.IsLegal}
 use Rattle.driver_laws.specs.Prelude.{AreSteps, Block, Blocks, Call, Entry, Event, IsEvent, IsSound, LeavesBlocks}
 use Rattle.driver_laws.specs.Prelude.{LeavesRegisters, State, Watched, after, call_in, calls_of, is_step, leads_to}
 use Rattle.driver_laws.specs.Prelude.{lent_by, mode_in, reply_to}
-use Rattle.driver_laws.proofs.Prelude.{AtCalls, AtEntries, BeforeLast, BeforeNext, IsAlong, IsKept, IsMet, Leads}
-use Rattle.driver_laws.proofs.Prelude.{calls_other, calls_own}
-use Rattle.device_lock.proofs.Histories.{events_before, events_behind, leads-append, legal_behind}
-use Rattle.device_lock.specs.Alone.{EntryLeavesAlone, WritesOutside}
-use Rattle.device_lock.specs.History.{AreEvents, IsLegal}
-use Rattle.ring_laws.proofs.Foreign.{no_registers}
-use Rattle.ring_laws.proofs.Delivering.{vfs_stays}
-use Rattle.ring_laws.proofs.HistoryLaws.Alone.{histories_sound}
-use Rattle.driver_laws.specs.Ending.{Each}
-use Rattle.driver_laws.specs.Faultless.{Never}
-use Rattle.driver_laws.specs.Standing.{IsLeft}
-use Rattle.driver_laws.specs.Stopping.{AreMadeOf}
+use Rattle.driver_laws.specs.{Ending.Each, Standing.IsLeft}
 use Rattle.driver_laws.proofs.Parts.{around, begun, more_some, own_some, parts, still_some}
+use Rattle.driver_laws.proofs.Prelude.{AreMadeOf, AtCalls, AtEntries, BeforeLast, BeforeNext, IsAlong, IsKept, IsMet}
+use Rattle.driver_laws.proofs.Prelude.{Leads, Never, WritesOutside, calls_other, calls_own, events_before}
+use Rattle.driver_laws.proofs.Prelude.{events_behind, histories_sound, leads-append, legal_behind, no_registers}
+use Rattle.driver_laws.proofs.Prelude.{vfs_stays}
 
 -- where the entries so far lead a device
 abbrev pub reached : Watched → State → List Entry → State

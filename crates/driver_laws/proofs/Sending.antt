@@ -1,54 +1,35 @@
 -- What an event of one half's own leaves: all blocks but its own, and the other side; and so do steps of the device.
 use Rattle.std.proofs.Common.{[], ◌*◌, ◌+◌, ◌/◌, ◌<◌, ◌^◌, ◌∙◌, ◌∷◌, ◌≡◌, ◌≢◌, Bool, List, None, Option, Some, ap}
 use Rattle.std.proofs.Common.{arith, cond, false, inl, inr, length, refl, subst, suc, sym, take, true, ℕ}
-use Rattle.std.specs.Prelude.{◌==◌, IsTrue, slice_index_or}
 use Rattle.std.proofs.lemmas.Bool.{cases_eq, eqb-true, or_cases}
-use Rattle.std.proofs.lemmas.List.{get_or-take, length-take-le}
-use Rattle.std.specs.FinMap as map
-use Rattle.std.specs.List.{list_any}
+use Rattle.std.specs.Prelude.{◌==◌, IsTrue, slice_index_or}
+use Rattle.std.{proofs.lemmas.List.get_or-take, proofs.lemmas.List.length-take-le, specs.List.list_any}
+use Rattle.nic_device.specs.RegTable.declared.rows.RowId.TheVariants.{Tdt, Tdwbal}
+use Rattle.nic_device.specs.{DmaArena.Memory.Avoids, DmaRing.Driver.posted, DmaRing.Ring.descriptor_address}
+use Rattle.nic_device.specs.{RegisterFile.Queue.ring_of}
+use Rattle.nic_device.proofs.{DmaArena.Inside.inside_avoids, DmaRing.Fields.halves_come_back}
+use Rattle.pmd.specs.PmdRx.Receive.{MovesNext, NamesNext, TakesNext, fresh_of, vacant}
+use Rattle.pmd.specs.PmdTx.Sending.{Segment, blocks_of, descriptor_at, no_segment, segment_at, slot_at}
+use Rattle.pmd.proofs.PmdSeam.Rings.{each_ring_block, slot_block, slot_lies}
+use Rattle.ring_laws.specs.{Agreeing.AgreesAt, DeviceLaws.Leaving.LeavesReceive, DeviceLaws.Leaving.LeavesTransmit}
+use Rattle.ring_laws.specs.{DeviceLaws.Replies.report_of, Joint.Holds, Joint.IsNamed, Steps.Each, Steps.IsOutside}
+use Rattle.ring_laws.specs.{Steps.Leaves, Steps.OwnReportsSpare}
+use Rattle.ring_laws.proofs.HistoryLaws.Blocks.{IsSparedBy, clear_outside, reported, spared_block}
+use Rattle.ring_laws.proofs.{Advancing.setting_kept, Blocks.has_lent-ring, Blocks.has_lent-segment, Blocks.slot-below}
+use Rattle.ring_laws.proofs.{DeviceLaws.RepliesSent.transmitting_tells, DeviceLaws.StandingQueues.receiving_rest}
+use Rattle.ring_laws.proofs.{Fetching.head_is, Fetching.length-asking, Foreign.piece_inside, Kept.each_posted}
+use Rattle.ring_laws.proofs.{Kept.slot_below, Parts.seen_within}
 use Rattle.driver_laws.specs.Prelude.{Accepts, Advances, Agree, Asks, Block, Blocks, Elsewhere, Event, IsEvent, IsSound}
 use Rattle.driver_laws.specs.Prelude.{LeavesBlock, Lends, Looks, Move, Piece, Port, Rdt, Reaps, Receive, Register}
 use Rattle.driver_laws.specs.Prelude.{Reply, Sender, State, Tx, WritesNoSetting, WritesOutside, after, has_bit}
 use Rattle.driver_laws.specs.Prelude.{has_block, has_lent, is_ring_block, named, place, reply_to}
-use Rattle.nic_device.proofs.DmaArena.Inside.{inside_avoids}
-use Rattle.nic_device.proofs.DmaRing.Fields.{halves_come_back}
-use Rattle.nic_device.specs.DmaArena.Memory.{Avoids}
-use Rattle.nic_device.specs.DmaRing.Driver.{posted}
-use Rattle.nic_device.specs.DmaRing.Ring.{descriptor_address}
-use Rattle.nic_device.specs.RegTable.declared.rows.RowId.TheVariants.{Tdt, Tdwbah, Tdwbal}
-use Rattle.nic_device.specs.RegisterFile.Queue.{ring_of}
-use Rattle.nic_device.specs.RegisterFile.Registers.{word_of}
-use Rattle.nic_device.specs.declared.event.Event.TheVariants as event
-use Rattle.nic_device.specs.declared.event.Reply.TheVariants.{Wrote}
-use Rattle.pmd.proofs.PmdSeam.Rings.{each_ring_block, slot_block, slot_lies}
-use Rattle.pmd.specs.PmdRx.Receive as receiving
-use Rattle.pmd.specs.PmdRx.Receive.{MovesNext, NamesNext, TakesNext, block_at, fresh_of, reach, vacant}
-use Rattle.pmd.specs.PmdTx.Sending.{IsOwn, Segment, blocks_of, descriptor_at, no_segment, segment_at, slot_at}
-use Rattle.ring_laws.proofs.DeviceLaws.KeptSettings.{settings_stand}
-use Rattle.ring_laws.proofs.DeviceLaws.RepliesSent.{transmitting_tells}
-use Rattle.ring_laws.proofs.DeviceLaws.Standing.{memory_blocks, memory_rest, stays_within}
-use Rattle.ring_laws.proofs.DeviceLaws.StandingAccesses.{write_memory, write_rest}
-use Rattle.ring_laws.proofs.DeviceLaws.StandingQueues.{receiving_rest}
-use Rattle.ring_laws.proofs.Kept.{each_map, each_posted}
-use Rattle.ring_laws.proofs.HistoryLaws.Blocks.{clear_outside}
-use Rattle.ring_laws.proofs.HistoryLaws.Blocks.{reported}
-use Rattle.ring_laws.proofs.HistoryLaws.Leaving.{plain-write}
-use Rattle.ring_laws.proofs.HistoryLaws.Blocks.{IsSparedBy, spared_block}
-use Rattle.ring_laws.proofs.Foreign.{piece_inside}
-use Rattle.ring_laws.proofs.Kept.{slot_below}
-use Rattle.ring_laws.proofs.Parts.{seen_within}
-use Rattle.ring_laws.specs.DeviceLaws.Leaving.{LeavesReceive, LeavesTransmit}
-use Rattle.ring_laws.specs.DeviceLaws.Replies.{report_of}
-use Rattle.ring_laws.specs.Joint.{Holds, IsNamed}
-use Rattle.ring_laws.specs.Steps.{Each, IsOutside, Leaves, OwnReportsSpare}
-use Rattle.ring_laws.proofs.Advancing.{setting_kept}
-use Rattle.ring_laws.proofs.Blocks.{has_lent-ring, has_lent-segment}
-use Rattle.ring_laws.proofs.Fetching.{length-asking}
-use Rattle.ring_laws.proofs.Blocks.{slot-below}
-use Rattle.ring_laws.proofs.Fetching.{head_is}
-use Rattle.ring_laws.specs.Agreeing.{AgreesAt}
-use Rattle.ring_laws.specs.Sparing.{Spares}
 use Rattle.driver_laws.proofs.Lending.{each_both, lend_leaves}
+use Rattle.driver_laws.proofs.Prelude.{IsOwn, Spares, Tdwbah, Wrote, block_at, each_map, memory_blocks, memory_rest}
+use Rattle.driver_laws.proofs.Prelude.{plain-write, reach, settings_stand, stays_within, word_of, write_memory}
+use Rattle.driver_laws.proofs.Prelude.{write_rest}
+use Rattle.std.specs.FinMap as map
+use Rattle.nic_device.specs.declared.event.Event.TheVariants as event
+use Rattle.pmd.specs.PmdRx.Receive as receiving
 
 -- the register of a write of the receive half's
 

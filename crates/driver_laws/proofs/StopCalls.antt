@@ -2,39 +2,29 @@
 -- failed, those that lend its blocks, and those of its stop; and which blocks a pass lends by them.
 use Rattle.std.proofs.Common.{[], ◌++◌, ◌+◌, ◌-◌, ◌<◌, ◌∙◌, ◌∷◌, ◌≡◌, ◌≢◌, Bool, List, ap, append_assoc, arith, false}
 use Rattle.std.proofs.Common.{inl, inr, refl, subst, suc, sym, true, zero, ℕ}
-use Rattle.std.specs.Prelude.{⊤, ◌==◌, IsFalse}
 use Rattle.std.proofs.lemmas.Bool.{and_from, eq-eqb, lt-ltb, or_left, or_right}
-use Rattle.std.proofs.lemmas.List.{append-nil}
-use Rattle.std.specs.List.{range_with_len}
-use Rattle.driver_laws.specs.Prelude.{Access, AreMade, AreSteps, AtPort, Block, Blocks, Call, DeviceFault, Dir}
-use Rattle.driver_laws.specs.Prelude.{EachRingBlock, Entry, Event, IsEvent, IsMade, IsNumberOf, IsPrepared, IsSwitched}
-use Rattle.driver_laws.specs.Prelude.{LendsEach, Numbers, PmdFault, Port, Reply, RowId, Rx, Sees, Sets, StartTimeout}
-use Rattle.driver_laws.specs.Prelude.{State, SwitchFails, Tx, Watched, blocks_for, both_asked, call_in, call_of}
-use Rattle.driver_laws.specs.Prelude.{enable_row, has_bit, is_step, lent_by, missed, polled, receive_polled, ring_blocks}
-use Rattle.driver_laws.specs.Prelude.{ring_words, zero_block}
-use Rattle.driver_laws.proofs.Prelude.{AllAre, AtEntries, IsAlong, IsEnding, and_one}
+use Rattle.std.specs.Prelude.{⊤, ◌==◌, IsFalse}
+use Rattle.std.{proofs.lemmas.List.append-nil, specs.List.range_with_len}
 use Rattle.device_lock.specs.Alone.{lends}
-use Rattle.nic_device.specs.declared.event.Event.TheVariants as event
-use Rattle.nic_device.specs.declared.event.Reply.TheVariants as reply
-use Rattle.pmd.specs.PmdSeam.Home.{Bringing, BringsOne}
-use Rattle.pmd.specs.PmdSeam.Made.{Adds, AddsSome}
-use Rattle.pmd.specs.PmdSeam.QueueMade.{FailsBy, IsOtherwise, IsStrayRead, StopsBy}
-use Rattle.pmd.specs.PmdSeam.Sides.{PollsEnd}
-use Rattle.pmd.specs.PmdSeam.declared.fault.PmdFault.TheVariants as fault
+use Rattle.pmd.specs.{PmdSeam.Home.Bringing, PmdSeam.Home.BringsOne, PmdSeam.Made.Adds, PmdSeam.Made.AddsSome}
+use Rattle.pmd.specs.{PmdSeam.QueueMade.FailsBy}
 use Rattle.ring_laws.proofs.HistoryLaws.Alone.{lent_behind}
 use Rattle.driver_laws.specs.Ending.{Each, IsAsking}
-use Rattle.driver_laws.specs.Stopping.{AreMadeOf, Asks, BringingEnds, Ends, SwitchedOffAsks, UnswitchedAsks}
-use Rattle.driver_laws.proofs.Made.{all_before, all_both, all_missed, all_polled}
-use Rattle.driver_laws.proofs.Parts.{around, more_some}
-use Rattle.driver_laws.proofs.Reached.{entry_is}
-use Rattle.driver_laws.specs.Prelude.{Receive}
-use Rattle.driver_laws.proofs.Prelude.{IsPlain}
-use Rattle.driver_laws.specs.Prelude.{IsReceiveReady}
-use Rattle.driver_laws.specs.Prelude.{IsReceiveReady}
-use Rattle.driver_laws.proofs.Ground.{IsDriven}
-use Rattle.driver_laws.proofs.Ground.{writes_driven}
-use Rattle.driver_laws.specs.Prelude.{both_quiet}
-use Rattle.driver_laws.proofs.Ground.{words_are_writes}
+use Rattle.driver_laws.specs.Prelude.{Access, AreMade, AreSteps, AtPort, Block, Blocks, Call, DeviceFault, Dir}
+use Rattle.driver_laws.specs.Prelude.{EachRingBlock, Entry, Event, IsEvent, IsMade, IsNumberOf, IsPrepared}
+use Rattle.driver_laws.specs.Prelude.{IsReceiveReady, IsSwitched, LendsEach, Numbers, PmdFault, Port, Receive, Reply}
+use Rattle.driver_laws.specs.Prelude.{RowId, Rx, Sees, Sets, StartTimeout, State, SwitchFails, Tx, Watched, blocks_for}
+use Rattle.driver_laws.specs.Prelude.{both_asked, both_quiet, call_in, call_of, enable_row, has_bit, is_step, lent_by}
+use Rattle.driver_laws.specs.Prelude.{missed, polled, receive_polled, ring_blocks, ring_words, zero_block}
+use Rattle.driver_laws.specs.Stopping.{Asks, BringingEnds, SwitchedOffAsks, UnswitchedAsks}
+use Rattle.driver_laws.proofs.Prelude.{AllAre, AreMadeOf, AtEntries, Ends, IsAlong, IsEnding, IsOtherwise, IsPlain}
+use Rattle.driver_laws.proofs.Prelude.{IsStrayRead, PollsEnd, StopsBy, and_one}
+use Rattle.driver_laws.proofs.{Ground.IsDriven, Ground.words_are_writes, Ground.writes_driven, Made.all_before}
+use Rattle.driver_laws.proofs.{Made.all_both, Made.all_missed, Made.all_polled, Parts.around, Parts.more_some}
+use Rattle.driver_laws.proofs.{Reached.entry_is}
+use Rattle.nic_device.specs.declared.event.Event.TheVariants as event
+use Rattle.nic_device.specs.declared.event.Reply.TheVariants as reply
+use Rattle.pmd.specs.PmdSeam.declared.fault.PmdFault.TheVariants as fault
 
 module _ (P : Event Block → Type 0) where
   -- calls in parts

@@ -2,43 +2,27 @@
 -- are asked off and seen off, and stay so.
 use Rattle.std.proofs.Common.{[], ◌&&◌, ◌++◌, ◌∙◌, ◌∷◌, ◌≡◌, ◌≢◌, Bool, List, Some, ap, false, inl, inr, not, refl}
 use Rattle.std.proofs.Common.{subst, sym, true, ℕ}
-use Rattle.std.specs.Prelude.{IsFalse}
-use Rattle.std.proofs.lemmas.Bool.{both_ways}
+use Rattle.std.{proofs.lemmas.Bool.both_ways, specs.Prelude.IsFalse}
+use Rattle.nic_device.specs.declared.event.Reply.TheVariants.{Advanced, Sent}
+use Rattle.ring_laws.specs.HistoryLaws.Sides.{IsUnwanted}
+use Rattle.ring_laws.proofs.HistoryLaws.Steady.{IsSteady, deed_settles, off_steady, seen_off, unwanted_steady}
 use Rattle.driver_laws.specs.Prelude.{Access, AreMade, AtPort, Block, Blocks, Call, Dir, Entry, Event, IsEvent, IsMade}
 use Rattle.driver_laws.specs.Prelude.{IsNumberOf, LeavesBlocks, LeavesRegisters, Reply, Rx, Rxdctl, Sees, Sets, Side}
-use Rattle.driver_laws.specs.Prelude.{State, Tx, Txdctl, Watched, after, enable_row, has_bit, is_step, leads_to, lent_by}
-use Rattle.driver_laws.specs.Prelude.{missed, mode_in, polled, quiet, receive_polled, reply_to, side_of}
-use Rattle.driver_laws.proofs.Prelude.{AllAre, AtCalls, HasGround, IsAlong, IsEnding, IsKept, IsMet, IsPlain, IsQuiet}
-use Rattle.driver_laws.proofs.Prelude.{NamesRow, left_deed, no_block, steady_kept}
-use Rattle.device_lock.specs.Alone.{WritesOutside}
-use Rattle.nic_device.specs.declared.event.Event.TheVariants as event
-use Rattle.nic_device.specs.declared.event.Reply.TheVariants.{Advanced, Sent, Wrote}
-use Rattle.ring_laws.proofs.Foreign.{no_registers}
-use Rattle.ring_laws.proofs.DeviceLaws.Standing.{memory_rest}
-use Rattle.ring_laws.proofs.DeviceLaws.StandingAccesses.{read_rest}
-use Rattle.ring_laws.proofs.Fitting.{none_begun_while_off}
-use Rattle.ring_laws.proofs.HistoryLaws.Leaving.{queues_left}
-use Rattle.ring_laws.proofs.HistoryLaws.Steady as steady
-use Rattle.ring_laws.proofs.HistoryLaws.Steady.{IsSteady, asked, deed_settles, off_steady, seen_off, unwanted_steady}
-use Rattle.ring_laws.specs.HistoryLaws.Left.{Deed}
-use Rattle.ring_laws.specs.HistoryLaws.Sides.{IsOff, IsUnwanted}
-use Rattle.driver_laws.specs.Quiet.{OffSidesStand, ReceiveGuardIsOff}
-use Rattle.driver_laws.specs.Quieting.{QuietSidesStand, QuietingLeads}
-use Rattle.driver_laws.specs.Silent.{SwitchingOffLeads}
-use Rattle.driver_laws.specs.Standing.{IsLeft, Stands}
+use Rattle.driver_laws.specs.Prelude.{State, Tx, Txdctl, Watched, after, enable_row, has_bit, is_step, leads_to}
+use Rattle.driver_laws.specs.Prelude.{lent_by, missed, mode_in, polled, quiet, receive_polled, reply_to, side_of}
+use Rattle.driver_laws.specs.{Quiet.OffSidesStand, Quiet.ReceiveGuardIsOff, Quieting.QuietSidesStand}
+use Rattle.driver_laws.specs.{Quieting.QuietingLeads, Silent.SwitchingOffLeads, Standing.IsLeft}
 use Rattle.driver_laws.proofs.Ground.{ground_kept, ground_names, plain_keeps, read_ground, write_ground}
-use Rattle.driver_laws.proofs.Made.{access_leads, all_missed, all_polled, first_seen}
-use Rattle.driver_laws.proofs.Made.{made_some}
-use Rattle.driver_laws.proofs.Reached.{free_left, sound_at}
-use Rattle.driver_laws.proofs.StopCalls.{MayAsk, may_asks}
-use Rattle.driver_laws.proofs.Words.{each_side, side_driven}
-use Rattle.driver_laws.specs.Stopping.{Ends}
-use Rattle.driver_laws.proofs.StopCalls.{stays_some}
-use Rattle.driver_laws.proofs.StopCalls.{none_made}
-use Rattle.driver_laws.proofs.StopCalls.{accesses_are}
-use Rattle.driver_laws.proofs.Reached.{made_keep}
-use Rattle.driver_laws.proofs.StopCalls.{then_made}
-use Rattle.driver_laws.proofs.StopCalls.{step_ends}
+use Rattle.driver_laws.proofs.Made.{access_leads, all_missed, all_polled, first_seen, made_some}
+use Rattle.driver_laws.proofs.Prelude.{AllAre, AtCalls, Deed, Ends, HasGround, IsAlong, IsEnding, IsKept, IsMet, IsOff}
+use Rattle.driver_laws.proofs.Prelude.{IsPlain, IsQuiet, NamesRow, Stands, WritesOutside, Wrote, asked, left_deed}
+use Rattle.driver_laws.proofs.Prelude.{memory_rest, no_block, no_registers, none_begun_while_off, queues_left}
+use Rattle.driver_laws.proofs.Prelude.{read_rest, steady_kept}
+use Rattle.driver_laws.proofs.StopCalls.{MayAsk, accesses_are, may_asks, none_made, stays_some, step_ends, then_made}
+use Rattle.driver_laws.proofs.{Reached.free_left, Reached.made_keep, Reached.sound_at, Words.each_side}
+use Rattle.driver_laws.proofs.{Words.side_driven}
+use Rattle.nic_device.specs.declared.event.Event.TheVariants as event
+use Rattle.ring_laws.proofs.HistoryLaws.Steady as steady
 
 abbrev pub IsSettled : Dir → ℕ → State → Type 0
 IsSettled dir queue s = steady.IsSettled (side_of dir queue s)

@@ -1,31 +1,25 @@
 -- A start that times out polled 1,000 times, and its polls are among its pass's calls.
 use Rattle.std.proofs.Common.{[], ◌*◌, ◌++◌, ◌+◌, ◌-◌, ◌<◌, ◌∙◌, ◌∷◌, ◌≡◌, ◌≢◌, Bool, List, ap, append_assoc, arith}
 use Rattle.std.proofs.Common.{false, inl, inr, refl, subst, suc, sym, true, zero, ℕ}
-use Rattle.std.specs.Prelude.{◌&&◌, ◌==◌, Err, None, Option, Some, if◌then◌else◌, nat_lt}
 use Rattle.std.proofs.lemmas.Bool.{cond_both, eq-eqb, ne_eqb}
 use Rattle.std.proofs.lemmas.List.{append-nil}
-use Rattle.driver_laws.specs.Prelude.{Access, AreMade, AreSteps, AtPort, Block, Call, DeviceFault, Dir, Event}
-use Rattle.driver_laws.specs.Prelude.{IsNumberOf, Numbers, Pf, PmdFault, Port, PreparingFails, Receive}
-use Rattle.driver_laws.specs.Prelude.{ReceiveFails, Reply, RowId, Rx, Rxdctl, Sees, Sets, StartRefused, StartTimeout}
-use Rattle.driver_laws.specs.Prelude.{StopsStarting, SwitchFails, Tx, Txdctl, Vf, both_asked, enable_row}
-use Rattle.driver_laws.specs.Prelude.{is_frame, is_size, is_step, missed, place, receive_polled, start_gate}
-use Rattle.driver_laws.proofs.Prelude.{AllAre}
-use Rattle.nic_device.specs.RegTable.Place.{place_among}
-use Rattle.nic_device.specs.RegTable.Rows.{rows}
-use Rattle.nic_device.specs.RegTable.Runs.{runs}
-use Rattle.nic_device.specs.RegTable.declared.place.Place.{Place}
-use Rattle.nic_device.specs.declared.event.Event.TheVariants as event
-use Rattle.pmd.proofs.PmdSeam.QueueSequences.{both_made as made_after}
-use Rattle.pmd.specs.PmdSeam.Named.{queues_named}
+use Rattle.std.specs.Prelude.{◌&&◌, ◌==◌, Err, None, Option, Some, if◌then◌else◌, nat_lt}
+use Rattle.nic_device.specs.{RegTable.Rows.rows, RegTable.declared.place.Place.Place}
 use Rattle.pmd.specs.PmdSeam.declared.fault.PmdFault.TheVariants.{BadSize, NoBuffer}
-use Rattle.pmd.specs.Started.{IsShut, has_room}
-use Rattle.pmd.specs.Starting.{GoingOnFails}
+use Rattle.pmd.specs.Started.{IsShut}
+use Rattle.pmd.proofs.PmdSeam.QueueSequences.{both_made as made_after}
 use Rattle.driver_laws.specs.Polls.{AreEnables, Enables, PollsAreTold, asked_after, is_missed, missed_in, same_port}
+use Rattle.driver_laws.specs.Prelude.{Access, AreMade, AreSteps, AtPort, Block, Call, DeviceFault, Dir, Event}
+use Rattle.driver_laws.specs.Prelude.{IsNumberOf, Numbers, Pf, PmdFault, Port, PreparingFails, Receive, ReceiveFails}
+use Rattle.driver_laws.specs.Prelude.{Reply, RowId, Rx, Rxdctl, Sees, Sets, StartRefused, StartTimeout, StopsStarting}
+use Rattle.driver_laws.specs.Prelude.{SwitchFails, Tx, Txdctl, Vf, both_asked, enable_row, is_frame, is_size, is_step}
+use Rattle.driver_laws.specs.Prelude.{missed, place, receive_polled, start_gate}
 use Rattle.driver_laws.specs.TimedOut.{Asked, IsOfEnable, TimeoutsPoll, TimesOut, asked_by, is_miss, misses, none_asked}
-use Rattle.driver_laws.proofs.Made.{OfCall, all_both, all_missed, all_polled, made_by}
-use Rattle.driver_laws.specs.Stopping.{AreMadeOf}
-use Rattle.driver_laws.proofs.StopCalls.{prepared_plain, ready_plain, then_made}
-use Rattle.driver_laws.proofs.Prelude.{IsPlain}
+use Rattle.driver_laws.proofs.Prelude.{AllAre, AreMadeOf, GoingOnFails, IsPlain, has_room, place_among, queues_named}
+use Rattle.driver_laws.proofs.Prelude.{runs}
+use Rattle.driver_laws.proofs.{Made.OfCall, Made.all_both, Made.all_missed, Made.all_polled, Made.made_by}
+use Rattle.driver_laws.proofs.{StopCalls.prepared_plain, StopCalls.ready_plain, StopCalls.then_made}
+use Rattle.nic_device.specs.declared.event.Event.TheVariants as event
 
 -- so many reads of a side that is asked on, in vain
 

@@ -1,11 +1,10 @@
 -- A legal history of a sound device that leaves a queue alone, and what holds wherever its pass has made so many calls.
 use Rattle.std.specs.Prelude.{[], ◌++◌, ◌<◌, ◌∷◌, ◌≡◌, List, ℕ}
-use Rattle.driver_laws.specs.Prelude.{Block, Blocks, Call, Entry, Event, IsEvent, IsSound, State, Watched}
-use Rattle.driver_laws.specs.Prelude.{after, call_in, calls_of, leads_to, reply_to}
 use Rattle.device_lock.specs.History.{AreEvents, IsLegal}
 use Rattle.ring_laws.specs.HistoryLaws.Alone.{LeavesAloneFrom}
-use Rattle.driver_laws.specs.Moves.{IsMet}
-use Rattle.driver_laws.specs.Standing.{IsLeft}
+use Rattle.driver_laws.specs.Prelude.{Block, Blocks, Call, Entry, Event, IsEvent, IsSound, State, Watched, after}
+use Rattle.driver_laws.specs.Prelude.{call_in, calls_of, leads_to, reply_to}
+use Rattle.driver_laws.specs.{Moves.IsMet, Standing.IsLeft}
 
 -- the history begins with a sound device, whichever its state, of as many virtual functions as are told
 pub record IsAlong (w : Watched) (origin : State) (h : List Entry) : Type 0 where

@@ -1,12 +1,14 @@
 -- What a driver hands out and what it sends, over histories that leave its queue alone.
-use Rattle.std.specs.Prelude.{◌≡◌, ◌==◌, Bool, true, false, List, [], ◌∷◌, ◌++◌, Some, None, ⊤, IsTrue}
-use Rattle.driver_laws.specs.Prelude.{mode_in, State, after, Blocks, LeavesRegisters, LeavesBlocks, lent_by, calls_of, leads_to, Watched, Entry, Elsewhere, delivered, pieces_since, bytes_of, sent_in, sent_since, IsUp, Halves, Doer, Sends, AllOwn, is_neither, played_by, records_of, FindsNone, ShowsNone}
+use Rattle.std.specs.Prelude.{[], ⊤, ◌++◌, ◌==◌, ◌∷◌, ◌≡◌, Bool, IsTrue, List, None, Some, false, true}
 use Rattle.device_lock.specs.Alone.{has_begun}
+use Rattle.driver_laws.specs.Prelude.{AllOwn, Blocks, Doer, Elsewhere, Entry, FindsNone, Halves, IsUp, LeavesBlocks}
+use Rattle.driver_laws.specs.Prelude.{LeavesRegisters, Sends, ShowsNone, State, Watched, after, bytes_of, calls_of}
+use Rattle.driver_laws.specs.Prelude.{delivered, is_neither, leads_to, lent_by, mode_in, pieces_since, played_by}
+use Rattle.driver_laws.specs.Prelude.{records_of, sent_in, sent_since}
+use Rattle.driver_laws.specs.{Agreeing.AreLent, Agreeing.BothAgree, Along.IsAlong}
 use Rattle.ring_laws.specs.Delivered as receive
 use Rattle.ring_laws.specs.ReceiveUp as receiving
 use Rattle.ring_laws.specs.Laws as transmit
-use Rattle.driver_laws.specs.Agreeing.{AreLent, BothAgree}
-use Rattle.driver_laws.specs.Along.{IsAlong}
 
 -- whose an entry is, of the driver's pass or of another, and the doers that are left after it: the entries of the pass
 -- are theirs in turn, and those of other passes neither half's

@@ -40,22 +40,14 @@ took_most : (v : Receive) (seen : List Told) (b : Block) → (took v seen b).lay
 took_most v [] b = refl
 took_most v (t ∷ seen) b = refl
 
-looked_most : (v : Receive) (d : List ℕ) → (looked v d).layout.most ≡ v.layout.most
-looked_most v d =
-    either_way (λ (x : Receive). x.layout.most ≡ v.layout.most)
-    (is_done (second_half d) && is_part v.layout.most (length v.seen) (second_half d)) (saw v d) v refl refl
-
-moved_most : (v : Receive) (word : ℕ) → (moved v word).layout.most ≡ v.layout.most
-moved_most v word =
-    either_way (λ (x : Receive). x.layout.most ≡ v.layout.most)
-    (word == tail_behind v.layout (parts_first v.whole)) (posts_one v) (posts_all v) refl refl
-
 driven_most : (v : Receive) (e : Event Block) (r : Reply Block) → (drive v e r).layout.most ≡ v.layout.most
-driven_most v (event.Peek16 a) (reply.Bytes d) = looked_most v d
+driven_most v (event.Peek16 a) (reply.Bytes d) =
+    either_way (λ (x : Receive). x.layout.most ≡ v.layout.most) _ (saw v d) v refl refl
 driven_most v (event.Take n) (reply.Buf b) = took_most v v.seen b
 driven_most v (event.Lend b) reply.Done = refl
 driven_most v (event.Poke16 a bytes) reply.Done = refl
-driven_most v (event.Write port number word) reply.Done = moved_most v word
+driven_most v (event.Write port number word) reply.Done =
+    either_way (λ (x : Receive). x.layout.most ≡ v.layout.most) _ (posts_one v) (posts_all v) refl refl
 driven_most v e r = refl
 
 pub most_after : (h : Halves) (d : Doer) (n : Call) → (after_call h d n).receive.layout.most ≡ h.receive.layout.most

@@ -91,18 +91,11 @@ module _ {w : Watched} {origin : State} {h : List Entry} (x : IsAlong w origin h
     alone : EntryLeavesAlone w mine (mode_in (leads_to origin done).registers) e
     alone = x.alone done e rest (sym all) (begun w.pass done some)
 
-    free_here : LeavesRegisters w (mode_in (leads_to origin done).registers) e.event × LeavesBlocks mine e.event
-        → IsLeft w mine (leads_to origin done) e.event
-    free_here free =
+    pub foreign_left : e.pass ≢ w.pass → IsLeft w mine (leads_to origin done) e.event
+    foreign_left other =
         let is = entry_is done rest e all in
         free_left w mine (leads_to origin done) e.event is.met is.made is.vfs
-        (subst (WritesOutside w.queue mine) is.told alone.steps) free
-
-    pub foreign_left : e.pass ≢ w.pass → IsLeft w mine (leads_to origin done) e.event
-    foreign_left other = free_here (alone.registers other, alone.blocks other)
-
-    step_left : is_step e.event ≡ true → IsLeft w mine (leads_to origin done) e.event
-    step_left is = free_here (no_registers w (mode_in (leads_to origin done).registers) mine e.event is)
+        (subst (WritesOutside w.queue mine) is.told alone.steps) (alone.registers other, alone.blocks other)
 
   -- what holds of the entries so far, and of the calls that the pass makes behind them, goes on holding over entries of
   -- others, and over each of these calls
@@ -151,48 +144,39 @@ module _ {w : Watched} {origin : State} {h : List Entry} (x : IsAlong w origin h
       (leads a.before (a.behind ++ rest) e whole a.own a.made a.call, a.later)).0
 
   -- a call leads from one to the other, once the pass has made a call
-  abbrev LeadsHere : (List Entry → Type 0) → (List Entry → Type 0) → Call → Type 0
-  LeadsHere P Q c =
-      (done rest : List Entry) (e : Entry) → done ++ e ∷ rest ≡ h → calls_of w.pass done ≢ [] → call_in e ≡ c → P done
-      → Q (done ++ e ∷ [])
-
-  over_here : (P Q : List Entry → Type 0) (c : Call) → LeadsOver w origin mine c P Q → LeadsHere P Q c
-  over_here P Q c leads done rest e all some same p =
+  over : (P Q : List Entry → Type 0) (c : Call) → LeadsOver w origin mine c P Q → (done rest : List Entry) (e : Entry)
+      → done ++ e ∷ rest ≡ h → calls_of w.pass done ≢ [] → call_in e ≡ c → P done → Q (done ++ e ∷ [])
+  over P Q c leads done rest e all some same p =
       let is = entry_is done rest e all in
       leads done e same is.met is.made is.told (alone done rest e all some).steps p
 
-  step_here : (P : List Entry → Type 0) → KeptOver w origin mine P → (c : Call) → IsTrue (is_step c.event)
-      → LeadsHere P P c
-  step_here P kept c is done rest e all some same p =
-      kept done e (step_left done rest e all some (subst (λ (n : Call). is_step n.event ≡ true) (sym same) is)) p
-
-  here_leads : (P Q : List Entry → Type 0) → KeptOver w origin mine Q → (old : List Call) (c : Call) → LeadsHere P Q c
-      → old ≢ [] → AtEntries w h old P → AtEntries w h (old ++ c ∷ []) Q
-  here_leads P Q kept old c leads some at =
-      last_leads Q kept old c
-      (λ done rest e all own made same.
-      leads done rest e all (λ none. some (sym made ∙ none)) same (at done (e ∷ rest) all made))
-
-  each_here : (P : List Entry → Type 0) (Own : Call → Type 0) → KeptOver w origin mine P
-      → ((c : Call) → Own c → LeadsHere P P c) → (calls old : List Call) → Each Own calls → old ≢ []
-      → AtEntries w h old P → AtEntries w h (old ++ calls) P
-  each_here P Own kept leads calls old each some at done rest all is =
-      let p = parts w.pass done old calls is in
-      let whole : (p.front ++ p.back) ++ rest ≡ h = ap (λ (l : List Entry). l ++ rest) p.both ∙ all in
-      subst P p.both
-      (walk (λ so_far cs. P so_far × Each Own cs) (λ cs so_far e left x. (kept so_far e left x.0, x.1))
-      (λ so_far more e cs here made x. (leads (call_in e) x.1.0 so_far more e here made refl x.0, x.1.1)) p.front p.back
-      rest whole (λ none. some (sym p.fronts ∙ none)) (
-        at p.front (p.back ++ rest) (sym (append_assoc p.front p.back rest) ∙ whole) p.fronts,
-        subst (Each Own) (sym p.backs) each,
-      )).0
+  -- a step of the device leaves the queue alone
+  step_over : (P : List Entry → Type 0) → KeptOver w origin mine P → (c : Call) → IsTrue (is_step c.event)
+      → LeadsOver w origin mine c P P
+  step_over P kept c is done e same met made told outside p =
+      let s = leads_to origin done in
+      kept done e
+      (free_left w mine s e.event met made (x.vfs ∙ sym (vfs_stays origin done))
+      (subst (WritesOutside w.queue mine) told outside)
+      (no_registers w (mode_in s.registers) mine e.event (subst (λ (n : Call). is_step n.event ≡ true) (sym same) is)))
+      p
 
 -- calls of one kind keep what each of them keeps
 pub all_lead : (w : Watched) (origin : State) (h : List Entry) (P : List Entry → Type 0) (Own : Call → Type 0)
     → IsAlong w origin h → KeptOver w origin (lent_by w.pass h) P
     → ((c : Call) → Own c → LeadsOver w origin (lent_by w.pass h) c P P)
     → (calls old : List Call) → Each Own calls → old ≢ [] → AtEntries w h old P → AtEntries w h (old ++ calls) P
-all_lead w origin h P Own x kept leads = each_here x P Own kept (λ c own. over_here x P P c (leads c own))
+all_lead w origin h P Own x kept leads calls old each some at done rest all is =
+    let p = parts w.pass done old calls is in
+    let whole : (p.front ++ p.back) ++ rest ≡ h = ap (λ (l : List Entry). l ++ rest) p.both ∙ all in
+    subst P p.both
+    (walk x (λ so_far cs. P so_far × Each Own cs) (λ cs so_far e left y. (kept so_far e left y.0, y.1))
+    (λ so_far more e cs here made y.
+    (over x P P (call_in e) (leads (call_in e) y.1.0) so_far more e here made refl y.0, y.1.1)) p.front p.back rest
+    whole (λ none. some (sym p.fronts ∙ none)) (
+      at p.front (p.back ++ rest) (sym (append_assoc p.front p.back rest) ∙ whole) p.fronts,
+      subst (Each Own) (sym p.backs) each,
+    )).0
 
 -- so do calls of events of a kind
 pub made_keep : {w : Watched} {origin : State} {h : List Entry} (P : State → Type 0) (K : Event Block → Type 0)
@@ -216,11 +200,13 @@ pub entries_lead : {w : Watched} {origin : State} {h : List Entry} (P Q : List E
     (old before : List Call) (c : Call) → IsAlong w origin h → KeptOver w origin (lent_by w.pass h) P
     → KeptOver w origin (lent_by w.pass h) Q → LeadsOver w origin (lent_by w.pass h) c P Q → AreSteps before → old ≢ []
     → AtEntries w h old P → AtEntries w h (old ++ (before ++ c ∷ [])) Q
-entries_lead {w = w} {h = h} P Q old before c x kept kept_q leads steps some at =
+entries_lead {w = w} {origin = origin} {h = h} P Q old before c x kept kept_q leads steps some at =
     subst (λ (all : List Call). AtEntries w h all Q) (append_assoc old before (c ∷ []))
-    (here_leads x P Q kept_q (old ++ before) c (over_here x P Q c leads) (more_some old before some)
-    (each_here x P (λ b. IsTrue (is_step b.event)) kept (step_here x P kept) before old (each_step before steps) some
-    at))
+    (last_leads x Q kept_q (old ++ before) c
+    (λ done rest e all own made same.
+    over x P Q c leads done rest e all (λ none. more_some old before some (sym made ∙ none)) same
+    (all_lead w origin h P (λ b. IsTrue (is_step b.event)) x kept (step_over x P kept) before old
+    (each_step before steps) some at done (e ∷ rest) all made)))
 
 -- what holds just before a call
 

@@ -64,8 +64,8 @@ enable_reads Tx seen = tt
 
 module _ (q : AtPort) (size frame : ℕ) where
   -- how it comes to this
-  switching_times_out : (old mid new : List Call) → AreMadeOf (IsPlain q) old mid → SwitchFails StartTimeout q mid new true 1000
-      → TimesOut q old new
+  switching_times_out : (old mid new : List Call) → AreMadeOf (IsPlain q) old mid
+      → SwitchFails StartTimeout q mid new true 1000 → TimesOut q old new
   switching_times_out old mid new before (inl stops) = absurd stops.6
   switching_times_out old mid new (before, is, any) (inr (inl (between, asked, polls))) = record {
     before = before;

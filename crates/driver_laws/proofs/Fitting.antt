@@ -5,10 +5,9 @@ use Rattle.std.proofs.Common.{ap, arith, false, inl, inr, length, nat_lt, refl, 
 use Rattle.std.proofs.lemmas.Bool.{and_from, and_parts, both_ways, cond_both, eq-eqb, eqb-false, eqb-true, lt-ltb}
 use Rattle.std.proofs.lemmas.Bool.{not-true, or_cases, or_left, or_right}
 use Rattle.std.{proofs.lemmas.List.length-append, proofs.lemmas.List.nil_from_length, specs.Prelude.option_map}
-use Rattle.nic_device.specs.{DmaRing.Descriptor.second_half, DmaRing.Receive.is_done}
 use Rattle.nic_device.proofs.Cases.{either_way}
 use Rattle.device_lock.specs.Alone.{lent_in}
-use Rattle.pmd.specs.PmdRx.Receive.{is_part, looked, moved, parts_first, posts_all, posts_one, saw, tail_behind, took}
+use Rattle.pmd.specs.PmdRx.Receive.{posts_all, posts_one, saw, took}
 use Rattle.pmd.specs.PmdRx.declared.ring.Told.{Told}
 use Rattle.ring_laws.specs.{Delivered.goes_on, Fitting.begun_on, HistoryLaws.Left.Rested, HistoryLaws.Left.Took}
 use Rattle.ring_laws.specs.{HistoryLaws.Lent.LendsOwn, HistoryLaws.Lent.with_lent, Pieces.AllFit}

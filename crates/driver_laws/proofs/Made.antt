@@ -60,28 +60,24 @@ module _ (q : AtPort) where
   made_by P (Sets row word) of old new (number, named, (before, added, steps)) =
       record { before = before; call = _; added = added; steps = steps; is = of number named }
 
-  no_step : (a : Access) → OfCall q a (λ c. IsFalse (is_step c.event))
-  no_step (Sees row on) = λ number word named is. refl
-  no_step (Sets row word) = λ number named. refl
+  made_own : (a : Access) (old new : List Call) → IsMade q old new a → AddsCall (λ c. IsFalse (is_step c.event)) old new
+  made_own (Sees row on) = made_by _ (Sees row on) (λ number word named is. refl)
+  made_own (Sets row word) = made_by _ (Sets row word) (λ number named. refl)
 
   pub made_some : (old new : List Call) (a : Access) → IsMade q old new a → new ≢ []
   made_some old new a made none =
-      let x = made_by (λ c. IsFalse (is_step c.event)) a (no_step a) old new made in
-      ends_some old x.before x.call (sym x.added ∙ none)
+      let x = made_own a old new made in ends_some old x.before x.call (sym x.added ∙ none)
 
   pub some_made : (all : List Access) (old new : List Call) → AreMade q old new all → old ≢ [] → new ≢ []
   some_made [] old new made some = λ none. some (sym made ∙ none)
   some_made (a ∷ rest) old new (mid, here, more) some = some_made rest mid new more (made_some old mid a here)
-
-  pub first_made : (a : Access) (rest : List Access) (old new : List Call) → AreMade q old new (a ∷ rest) → new ≢ []
-  first_made a rest old new (mid, here, more) = some_made rest mid new more (made_some old mid a here)
 
   pub extends : (all : List Access) (old new : List Call) → AreMade q old new all
       → (more : List Call) × (new ≡ old ++ more)
   extends [] old new made = ([], made ∙ sym (append-nil old))
   extends (a ∷ rest) old new (mid, here, more) =
       let later = extends rest mid new more in
-      let x = made_by (λ c. IsFalse (is_step c.event)) a (no_step a) old mid here in
+      let x = made_own a old mid here in
       let own : List Call = x.before ++ x.call ∷ [] in (
         own ++ later.0,
         later.1 ∙ ap (λ (xs : List Call). xs ++ later.0) x.added ∙ append_assoc old own later.0,
@@ -92,7 +88,7 @@ module _ (q : AtPort) where
     pub before_made : (a : Access) (old new : List Call) → IsMade q old new a → BeforeNext w origin h old P
         → BeforeLast w origin h new P
     before_made a old new made at =
-        let x = made_by (λ c. IsFalse (is_step c.event)) a (no_step a) old new made in
+        let x = made_own a old new made in
         subst (λ (calls : List Call). BeforeLast w origin h calls P) (sym x.added) (at x.before x.call x.steps x.is)
 
   module _ {w : Watched} {origin : State} {h : List Entry} (along : IsAlong w origin h) where

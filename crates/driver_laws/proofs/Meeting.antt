@@ -6,7 +6,7 @@ use Rattle.nic_device.specs.RegTable.declared.rows.RowId.TheVariants.{Txdctl}
 use Rattle.nic_device.proofs.Steps.{step_leads}
 use Rattle.device_lock.specs.Alone.{place_at}
 use Rattle.pmd.specs.PmdTx.Sending.{moved}
-use Rattle.ring_laws.specs.{Agreeing.Agrees, Fitting.ResetsNoPool, HistoryLaws.Left.IsLeft, HistoryLaws.Sides.Side}
+use Rattle.ring_laws.specs.{Agreeing.Agrees, Fitting.ResetsNoPool, HistoryLaws.Sides.Side}
 use Rattle.ring_laws.specs.{Turns.MayMove}
 use Rattle.ring_laws.proofs.Foreign.{alone_stays_up, left_keeps, left_up, own_stays_up}
 use Rattle.ring_laws.proofs.{HistoryLaws.Written.place_in, HistoryLaws.Written.place_named, Kept.each_of}
@@ -31,6 +31,8 @@ use Rattle.nic_device.specs.declared.event.Event.TheVariants as event
 use Rattle.pmd.specs.PmdRx.Receive as receiving
 use Rattle.pmd.specs.PmdTx.Sending as sending
 use Rattle.ring_laws.specs.ReceiveUp as received
+use Rattle.driver_laws.proofs.Prelude.{IsMet}
+use Rattle.driver_laws.proofs.Reached.{free_left}
 
 -- what holds between two entries: the device is sound and agrees with both halves, and their blocks are among these
 pub record Meets (w : Watched) (mine : Blocks) (s : State) (out : List Piece) (sent : List (List ℕ))
@@ -79,15 +81,8 @@ module _ {w : Watched} {mine : Blocks} {s : State} {out : List Piece} {sent : Li
 
   pub neither_keeps : LeavesRegisters w (mode_in s.registers) e → LeavesBlocks mine e → Kept w mine s out sent e h
   neither_keeps registers blocks =
-      let left : IsLeft w mine s e = record {
-        small = m.both.transmit.1.based.small;
-        sound = m.sound;
-        vfs = m.vfs;
-        made = made;
-        registers = registers;
-        blocks = blocks;
-        steps = steps;
-      } in (
+      let met : IsMet w.queue s = record { small = m.both.transmit.1.based.small; sound = m.sound } in
+      let left = free_left w mine s e met made m.vfs steps (registers, blocks) in (
         record {
           receive =
               left_keeps w mine s out h.receive e left m.both.receive m.lent.receive
@@ -181,7 +176,8 @@ module _ {w : Watched} {mine : Blocks} {s : State} {out : List Piece} {sent : Li
       → GoesBy (record h { receive = drive h.receive e (reply_to s e) })
   receives_goes own lends =
       let (gone, here, holds) = m.both.receive in
-      let spares = own_spares w.queue s out h.receive gone here holds h.transmit sender_blocks m.both.apart e made own in
+      let spares = own_spares w.queue s out h.receive gone here holds h.transmit sender_blocks m.both.apart e made own
+      in
       record {
         meets = still _ (
           record {

@@ -16,8 +16,9 @@ use Rattle.driver_laws.proofs.StopCalls.{Has, IsLentBy, has_more, lending, lent_
 use Rattle.driver_laws.proofs.StopCalls.{ring_in, stays_in, stays_some}
 use Rattle.driver_laws.proofs.Switching.{came_up, comes_up, fresh_receive_agrees, fresh_transmit_agrees, laid, may_lay}
 use Rattle.driver_laws.proofs.Switching.{may_switch, switching}
-use Rattle.driver_laws.proofs.{Ground.ground_names, Made.extends, Made.first_made, Made.some_made, Reached.sound_at}
+use Rattle.driver_laws.proofs.{Ground.ground_names, Made.extends, Made.some_made, Reached.sound_at}
 use Rattle.driver_laws.proofs.{SwitchedOff.quiet_sides_stand, SwitchedOff.quieting_leads}
+use Rattle.driver_laws.proofs.Made.{made_some}
 
 -- the numbers of slots that a driver may have
 
@@ -65,8 +66,9 @@ module _ {w : Watched} {origin : State} {h : List Entry} {q : AtPort} {size fram
 
     mid_some : up.receive.mid ≢ []
     mid_some =
-        first_made q (Sees Rxdctl false) (Sets Rxdctl 0 ∷ Sees Rxdctl false ∷ quiet Tx) old up.receive.mid
-        up.receive.quiet
+        let (mid, first, more) = up.receive.quiet in
+        some_made q (Sets Rxdctl 0 ∷ Sees Rxdctl false ∷ quiet Tx) mid up.receive.mid more
+        (made_some q old mid (Sees Rxdctl false) first)
 
     ready_some : up.ready_made ≢ []
     ready_some = stays_some (IsPlain q) up.receive.mid up.ready_made (prepared_plain up.receive.prepared) mid_some

@@ -2,7 +2,8 @@
 unfoldable pub use Rattle.nic_device.specs.Step.{step_of}
 pub use Rattle.nic_device.specs.declared.event.Reply.TheVariants.{Done, Wrote}
 pub use Rattle.nic_device.specs.{Access.named_written, Outcome.Outcome, Outcome.gives, RegTable.Place.place_among}
-pub use Rattle.nic_device.specs.{RegTable.Rows.row_of, RegTable.Runs.runs, RegTable.declared.rows.RowId.TheVariants.Tdwbah}
+pub use Rattle.nic_device.specs.{RegTable.Rows.row_of, RegTable.Runs.runs}
+pub use Rattle.nic_device.specs.RegTable.declared.rows.RowId.TheVariants.{Tdwbah}
 pub use Rattle.nic_device.specs.{RegisterFile.Access.asks_pool_reset, RegisterFile.Access.asks_reset}
 pub use Rattle.nic_device.specs.{RegisterFile.Owner.owner_of, RegisterFile.Registers.word_of}
 pub use Rattle.nic_device.specs.{VfMap.Owner.is_receive, VfMap.Owner.is_transmit}
@@ -10,8 +11,8 @@ pub use Rattle.nic_device.proofs.{Cases.lent_cases, Steps.keeps_sound}
 pub use Rattle.device_lock.specs.Alone.{SparesIfSome, WritesOutside, is_setting}
 pub use Rattle.device_lock.proofs.Histories.{events_before, events_behind, leads-append, legal_behind}
 pub use Rattle.pmd.specs.PmdSeam.QueueMade.{IsOtherwise, IsStrayRead, StopsBy}
-pub use Rattle.pmd.specs.{PmdRx.Receive.block_at, PmdRx.Receive.reach, PmdSeam.Named.queues_named, PmdSeam.Sides.PollsEnd}
-pub use Rattle.pmd.specs.{PmdTx.Sending.IsOwn, Started.has_room, Starting.GoingOnFails}
+pub use Rattle.pmd.specs.{PmdRx.Receive.block_at, PmdRx.Receive.reach, PmdSeam.Named.queues_named}
+pub use Rattle.pmd.specs.{PmdSeam.Sides.PollsEnd, PmdTx.Sending.IsOwn, Started.has_room, Starting.GoingOnFails}
 pub use Rattle.pmd.proofs.{Apart.both_apart, PmdSeam.Rings.some_blocks}
 pub use Rattle.ring_laws.specs.{Delivered.gathered, DeviceLaws.Laws.WritesNoSetting, Fitting.AreFitting}
 pub use Rattle.ring_laws.specs.{HistoryLaws.Left.Deed, HistoryLaws.Sides.IsOff, Pieces.Piece, Pieces.packets_of}
@@ -27,7 +28,8 @@ pub use Rattle.ring_laws.proofs.{Fitting.none_begun_while_off, Foreign.no_regist
 pub use Rattle.ring_laws.proofs.{HistoryLaws.Deeds.left_deed, HistoryLaws.Deeds.left_did, Kept.each_map}
 pub use Rattle.ring_laws.proofs.{ReceiveLent.LendsMine, ReceiveLent.mine_driven, TransmitLent.mine-moved}
 pub use Rattle.driver_laws.specs.Along.{AtCalls, AtEntries, BeforeLast, IsAlong, IsKept, Leads}
-pub use Rattle.driver_laws.specs.Points.{AllMay, HasGround, IsEnable, Point, Sides, after_access, after_accesses, seen_by}
+pub use Rattle.driver_laws.specs.Points.{AllMay, HasGround, IsEnable, Point, Sides, after_access, after_accesses}
+pub use Rattle.driver_laws.specs.Points.{seen_by}
 pub use Rattle.driver_laws.specs.{Agreeing.AreLent, Agreeing.BothAgree, Ending.IsEnding, Ending.IsPlain}
 pub use Rattle.driver_laws.specs.{Faultless.BeforeNext, Faultless.Never, Healthy.IsHealthy, Histories.IsDriven}
 pub use Rattle.driver_laws.specs.{Histories.doer_of, Histories.doers_after, Moves.IsMet, Moves.IsSized, Moves.and_one}

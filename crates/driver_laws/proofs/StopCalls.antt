@@ -156,7 +156,8 @@ accesses_plain q =
     accesses_are q (IsPlain q) IsDriven (step_plain q) (λ port number. tt)
     (λ row word number own named. (row, refl, own, named))
 
-pub lends_plain : (q : AtPort) (ns : List ℕ) (old new : List Call) → LendsEach old new ns → AreMadeOf (IsPlain q) old new
+lends_plain : (q : AtPort) (ns : List ℕ) (old new : List Call) → LendsEach old new ns
+    → AreMadeOf (IsPlain q) old new
 lends_plain q = lends_are (IsPlain q) (step_plain q) (λ n. tt)
 
 -- a step of the device asks, and calls that ask are those of a stop

@@ -212,7 +212,8 @@ module _ {w : Watched} {origin : State} {h : List Entry} (q : AtPort) (frame : â
         read_ground w.queue q frame s number g,
         seen_off w.queue s q.port number word (sym told) dir (names s g number named) zero none,
       ))
-      m3 m4 sees (stays_some (IsEnding q) m2 m3 then some_two) (asking_keeps IsUnwanted unwanted_shutting m2 m3 then some_two asked_at) in
+      m3 m4 sees (stays_some (IsEnding q) m2 m3 then some_two)
+      (asking_keeps IsUnwanted unwanted_shutting m2 m3 then some_two asked_at) in
       asking_keeps IsOff off_shutting m4 new rest (made_some q m3 m4 (Sees (enable_row dir) false) sees) off_at
 
 -- both sides are seen off where each is

@@ -114,7 +114,8 @@ module _ (q : AtPort) (size frame : ℕ) where
         (subst (λ (f : PmdFault). PreparingFails f q Tx size x.made x.ready_arena new x.arena x.out) is x.fails))
     amid (inr (inr x)) is =
         going_on x.both_made x.both_arena x.arena x.empty x.filled
-        (then_made (IsPlain q) old x.ready_made x.both_made (ready_plain x.receive) (prepared_plain x.transmit.prepared))
+        (then_made (IsPlain q) old x.ready_made x.both_made (ready_plain x.receive)
+        (prepared_plain x.transmit.prepared))
         (subst (λ (f : PmdFault). GoingOnFails f q x.both_made x.both_arena x.empty new x.arena x.filled) is x.fails)
 
     -- before any event it answers no such fault

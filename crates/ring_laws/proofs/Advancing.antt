@@ -13,7 +13,7 @@ use Rattle.pmd_tx.specs.Sending.{advanced, asked, looked}
 use Rattle.history_laws.proofs.{Leaving.plain-write, Written.transmit-tail}
 use Rattle.ring_laws.proofs.Blocks.{IsWritten, descriptor-written, slot-below, slot-even, slot-lent}
 use Rattle.ring_laws.proofs.Sparing.{After, Keeps, based-after, counted-on, sends_on}
-use Rattle.ring_laws.specs.Agreeing.{AgreesAt, IsBased, IsPosted, Shows}
+use Rattle.ring_laws.specs.Agreeing.{AgreesAt, IsBased, IsPosted, IsSetUp, Shows}
 use Rattle.ring_laws.proofs.Fetching.{asking-waits, done-sent, length-asking}
 use Rattle.ring_laws.specs.TransmitUp.{IsUp}
 use Rattle.nic_device.specs.declared.event.Event.TheVariants as event
@@ -70,17 +70,11 @@ module _ (s : State) (queue : ℕ) (sent : List (List ℕ)) (v : Sender) (f : �
   tail_keeps : IsBased t queue v.layout → AgreesAt t queue sent (advanced v) f
   tail_keeps based = record {
     based = based;
-    set_up = rw side_moved (record {
-      base = h.set_up.base;
-      length = h.set_up.length;
-      head = h.set_up.head;
-      tail = refl;
-      writeback = h.set_up.writeback;
-    });
+    set_up = subst (λ q. IsSetUp q v.layout v.poked f) (sym side_moved) (assumption h.set_up);
     counted =
         counted-on v f f v.done v.poked v.poked h.counted h.counted.done_fetched
         (omega (arith, h.counted.fetched_posted, h.counted.posted_poked)) (omega arith) h.counted.poked_lent;
-    shows = record { ring = h.shows.ring; ready = h.shows.ready; done = h.shows.done; waits = h.shows.waits };
+    shows = assumption h.shows;
     sends = sends_on s t queue sent v.layout.limit (drop f v.outstanding) v.accepted refl
         (λ x. (
           ap (λ (y : TransmitQueue). y.on) side_moved ∙ x.off,
@@ -228,7 +222,7 @@ module _ (s : State) (queue : ℕ) (sent : List (List ℕ)) (v : Sender) (f : �
         counted =
             counted-on v f f (looked v descriptor).done v.posted v.poked h.counted
             (done_tells (is_sent descriptor) refl) h.counted.fetched_posted h.counted.posted_poked h.counted.poked_lent;
-        shows = record { ring = h.shows.ring; ready = h.shows.ready; done = h.shows.done; waits = h.shows.waits };
+        shows = assumption h.shows;
         sends = h.sends;
       },
     )

@@ -132,16 +132,14 @@ module _ (v : Sender) (l : IsLayout v.layout) where
 -- what a segment's block has stays where the block does
 pub ready-same : (m n : Memory) (ring size : ℕ) (x : Segment) → map.get n x.block ≡ map.get m x.block
     → IsReady m ring size x → IsReady n ring size x
-ready-same m n ring size x same ready = record {
-  short = ready.short;
-  whole = ready.whole;
-  lent = ap is_some same ∙ ready.lent;
-  apart = ready.apart;
-  bytes =
+ready-same m n ring size x same ready =
+    let lent : has_block n x.block ≡ true = ap is_some same ∙ ready.lent in
+    assumption (
+      lent,
       (reads_its_block n m x.block (2048 * x.block) (length x.part.bytes) same
-      (omega arith, omega (arith, ready.short))).0
-      ∙ ready.bytes;
-}
+          (omega arith, omega (arith, ready.short))).0
+          ∙ ready.bytes,
+    )
 
 -- and all that is shown, where none of the driver's blocks changes
 module _ (m n : Memory) (v : Sender) (f : ℕ) (l : IsLayout v.layout) (c : IsCounted v f) (h : Shows m v f)

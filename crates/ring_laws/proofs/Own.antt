@@ -240,16 +240,12 @@ module _ (l : Layout) (here : List Piece) (next : l.next < l.size) (room : lengt
       let e : 1 + length (drop 1 here) ≡ length here = omega (arith, length-drop 1 here, some) in
       let f : 1 + length (drop 1 l.blocks) ≡ length l.blocks =
       omega (arith, length-drop 1 l.blocks, within, some) in
-      record {
-        one_buffer = up.one_buffer;
-        buffer_size = up.buffer_size;
-        base = up.base;
-        sized = up.sized;
-        head = up.head ∙ ap (slot_at l) (sym e)
-            ∙ sym (slot_on l (length (drop 1 here)) next (omega (arith, e, within, room)));
-        tail = up.tail ∙ ap (slot_at l) (sym f)
-            ∙ sym (slot_on l (length (drop 1 l.blocks)) next (omega (arith, f, room)));
-      }
+      assumption (
+        up.head ∙ ap (slot_at l) (sym e)
+            ∙ sym (slot_on l (length (drop 1 here)) next (omega (arith, e, within, room))),
+        up.tail ∙ ap (slot_at l) (sym f)
+            ∙ sym (slot_on l (length (drop 1 l.blocks)) next (omega (arith, f, room))),
+      )
 
 -- The block of the next slot is taken: its piece is the oldest that was written and not consumed.
 
@@ -294,7 +290,7 @@ take_keeps queue s out v n (t ∷ ts) whole (gone, here, h) own is =
       gone ++ piece_at here 0 ∷ [],
       drop 1 here,
       record {
-        named = record { low = h.named.low; tail = (named_kept s u queue v.layout refl refl h.named).tail };
+        named = assumption (named_kept s u queue v.layout refl refl h.named);
         ring = subst IsRing same (ring_on s.memory l here h.ring h.slots some);
         side = set_up_on v.layout here h.ring.next room h.posted some (receive_queue_of s.registers queue) h.side;
         posted = posted_less v.layout here h.ring.next room h.posted some;

@@ -208,15 +208,10 @@ module _ (m : Memory) (v : Sender) (f : ℕ) (l : IsLayout v.layout) (c : IsCoun
         (λ e. each_now j (λ z. x.block ≢ z.block) b (λ lu y. new j lu (sym y)) (λ d. absurd (ne (e ∙ sym d))))
 
     pub counted-lent : length ss < v.layout.size → v.lent < length ss → IsCounted w f
-    counted-lent room known = record {
-      room = room;
-      done_fetched = c.done_fetched;
-      fetched_posted = c.fetched_posted;
-      posted_poked = c.posted_poked;
-      poked_lent = omega (arith, c.poked_lent);
-      lent_known = omega arith;
-      apart = apart_now;
-    }
+    counted-lent room known =
+        let poked : v.poked ≤ v.lent + 1 = omega (arith, c.poked_lent) in
+        let lent : v.lent + 1 ≤ length ss = omega arith in
+        assumption (poked, lent, apart_now)
 
     pub shows-lent : Shows lent w f
     shows-lent = record {

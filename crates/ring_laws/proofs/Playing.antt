@@ -5,18 +5,18 @@ use Rattle.std.proofs.{Common.subst, Common.sym, Common.true, Common.ℕ, lemmas
 use Rattle.std.specs.Prelude.{is_some, slice_index_or}
 use Rattle.history_laws.specs.Prelude.{Block, Event, IsEvent, LeavesQueues, Memory, Outcome, State, TransmitQueue, Tx}
 use Rattle.history_laws.specs.Prelude.{after, read_at, reply_to, step_of, transmit_queue_of}
-use Rattle.ring_laws.specs.TransmitPrelude.{Accepts, Advances, Asks, EachRingBlock, Elsewhere, IsOwn, Lends, Looks}
+use Rattle.ring_laws.specs.TransmitPrelude.{Accepts, Advances, Asks, EachRingBlock, Elsewhere, IsOwn, Kept, Lends, Looks}
 use Rattle.ring_laws.specs.TransmitPrelude.{MayAccept, Move, Outgoing, Reaps, Segment, Sender, asking, descriptor_at, moved}
 use Rattle.ring_laws.specs.TransmitPrelude.{no_segment, segment_at, segments_of, slot_at}
 use Rattle.nic_device.proofs.{Cases.lent_cases, Cases.taken_cases, DmaArena.Bus.get-remove_other, DmaArena.Bus.of_some}
-use Rattle.pmd_tx.{proofs.PmdSeam.Rings.ring_block_apart, specs.Sending.is_healthy, specs.Sending.reaped}
+use Rattle.pmd_tx.{proofs.PmdSeam.Rings.ring_block_apart, specs.Sending.MayLend, specs.Sending.is_healthy, specs.Sending.reaped}
 use Rattle.history_laws.proofs.{Leaving.queues_left, Lent.anew_is_done, Lent.poked_is, Lent.taken_is, Steady.up_kept}
 use Rattle.history_laws.proofs.DeviceLaws.Standing.{memory_rest}
 use Rattle.ring_laws.proofs.Advancing.{advance-stays-up, advance_one, ask_one, look, look_one, written_tail}
 use Rattle.ring_laws.proofs.Blocks.{descriptor-later, later-layout, ready-same, slot-even, slot-later, slot-lent}
 use Rattle.ring_laws.proofs.Packets.{count-accepted, counted-lent, early-accepted, known-accepted, sends-accepted}
 use Rattle.ring_laws.proofs.Sparing.{After, Keeps, based-after, never-shuts, spared_did, spares-keeps}
-use Rattle.ring_laws.specs.Agreeing.{Agrees, AgreesAt, IsCounted, IsLayout, IsReady, IsSetUp, SendsInOrder, Shows}
+use Rattle.ring_laws.specs.Agreeing.{Agrees, AgreesAt, IsBased, IsCounted, IsLayout, IsReady, IsSetUp, SendsInOrder, Shows}
 use Rattle.ring_laws.proofs.{Blocks.slot-same, TransmitLent.first_at, Packets.shows-lent}
 use Rattle.ring_laws.specs.{TransmitHealthy.LendsAnew, TransmitHealthy.OwnRepliesAreHealthy, Laws.MovesKeep, Sent.sent_by}
 use Rattle.ring_laws.specs.{Turns.MayMove, TransmitUp.IsUp, TransmitUp.UpStays}
@@ -46,16 +46,13 @@ module _ (v : Sender) (g : ℕ) (l : IsLayout v.layout) (c : IsCounted v (g + 1)
 
   pub set_up-reaped : (side : TransmitQueue) → IsSetUp side v.layout v.posted (g + 1)
       → IsSetUp side (reaped v).layout (v.posted - 1) g
-  set_up-reaped side u = record {
-    base = u.base;
-    length = u.length;
-    head = u.head ∙ sym (slot_is g (g + 1) refl (omega (arith, posted)));
-    tail =
+  set_up-reaped side u =
+      assumption (
+        u.head ∙ sym (slot_is g (g + 1) refl (omega (arith, posted))),
         u.tail
-        ∙ sym (slot_is (v.posted - 1) v.posted (omega (arith, c.fetched_posted))
-        (omega (arith, c.posted_poked, c.poked_lent, c.lent_known, c.room)));
-    writeback = u.writeback;
-  }
+            ∙ sym (slot_is (v.posted - 1) v.posted (omega (arith, c.fetched_posted))
+            (omega (arith, c.posted_poked, c.poked_lent, c.lent_known, c.room))),
+      )
 
   pub counted-reaped : IsCounted (reaped v) g
   counted-reaped = record {
@@ -119,29 +116,34 @@ module _ (s : State) (queue : ℕ) (sent : List (List ℕ)) (v : Sender) (f : �
   known =
       let c = h.counted in omega (arith, c.fetched_posted, c.posted_poked, c.poked_lent, c.lent_known)
 
+  -- a block is lent for a segment, the next one of these, which begin with those that are lent
+  lent_agrees : (x : Segment) (b : Block) → MayLend v x b → (ss : List Segment) (ks : List Kept)
+      → ((k : ℕ) → k < v.lent → slice_index_or ss k no_segment ≡ segment_at v k)
+      → slice_index_or ss v.lent no_segment ≡ x → length ss < v.layout.size → v.lent < length ss
+      → SendsInOrder s queue sent v.layout.limit (drop f ss) ks
+      → IsBased (record s { memory = fin.insert s.memory b.number b.bytes }) queue v.layout
+      → Agrees (record s { memory = fin.insert s.memory b.number b.bytes }) queue sent
+      (record v { outstanding = ss; lent = v.lent + 1; accepted = ks })
+  lent_agrees x b may ss ks early next room known sends based =
+      let l = h.based.layout in (
+        f,
+        assumption (
+          h.set_up,
+          counted-lent s.memory v f l h.counted h.shows x b may ss ks early next room known,
+          shows-lent s.memory v f l h.counted h.shows x b may ss ks early next,
+        ),
+      )
+
   -- the first block of a packet is lent
   pub accept_one : (p : Outgoing) (b : Block) → MayAccept v p b → IsEvent (event.Lend b)
       → After queue sent v (Accepts p) (step_of s (event.Lend b))
   unfolding step_of
   accept_one p b may made =
-      let x = slice_index_or (segments_of p) 0 no_segment in
-      let ss = v.outstanding ++ segments_of p in
-      let ks = v.accepted ++ p.kept ∷ [] in
-      let early = early-accepted v p b may in
-      let next = first_at v p may.lent in
-      let room : length ss < v.layout.size = omega (arith, count-accepted v p b may, may.room) in
-      lent_cases (Keeps queue sent v (Accepts p)) s b (λ based. (f, h)) (λ based. (
-        f,
-        record {
-          based = based;
-          set_up = h.set_up;
-          counted =
-              counted-lent s.memory v f h.based.layout h.counted h.shows x b may.first ss ks early next room
-              (known-accepted v p b may);
-          shows = shows-lent s.memory v f h.based.layout h.counted h.shows x b may.first ss ks early next;
-          sends = sends-accepted v p b may f known sent s queue h.sends;
-        },
-      ))
+      lent_cases (Keeps queue sent v (Accepts p)) s b (λ based. (f, h))
+      (lent_agrees (slice_index_or (segments_of p) 0 no_segment) b may.first (v.outstanding ++ segments_of p)
+      (v.accepted ++ p.kept ∷ []) (early-accepted v p b may) (first_at v p may.lent)
+      (omega (arith, count-accepted v p b may, may.room)) (known-accepted v p b may)
+      (sends-accepted v p b may f known sent s queue h.sends))
       (based-after s queue v.layout (event.Lend b) h.based made tt)
 
   -- the next one of a packet is lent
@@ -149,49 +151,26 @@ module _ (s : State) (queue : ℕ) (sent : List (List ℕ)) (v : Sender) (f : �
       → After queue sent v Lends (step_of s (event.Lend b))
   unfolding step_of
   lend_one b own made =
-      let x = segment_at v v.lent in
-      lent_cases (Keeps queue sent v Lends) s b (λ based. (f, h)) (λ based. (
-        f,
-        record {
-          based = based;
-          set_up = h.set_up;
-          counted =
-              counted-lent s.memory v f h.based.layout h.counted h.shows x b own.1 v.outstanding v.accepted
-              (λ k below. refl) refl h.counted.room own.0;
-          shows =
-              shows-lent s.memory v f h.based.layout h.counted h.shows x b own.1 v.outstanding v.accepted
-              (λ k below. refl) refl;
-          sends = h.sends;
-        },
-      ))
+      lent_cases (Keeps queue sent v Lends) s b (λ based. (f, h))
+      (lent_agrees (segment_at v v.lent) b own.1 v.outstanding v.accepted (λ k below. refl) refl h.counted.room own.0
+      h.sends)
       (based-after s queue v.layout (event.Lend b) h.based made tt)
 
   -- the oldest is taken back
-  reap_at : (g : ℕ) → f ≡ g + 1 → IsEvent (event.Take (segment_at v 0).block)
+  reap_at : (g : ℕ) → AgreesAt s queue sent v (g + 1) → IsEvent (event.Take (segment_at v 0).block)
       → After queue sent v Reaps (step_of s (event.Take (segment_at v 0).block))
   unfolding step_of
-  reap_at g e made =
-      let c : IsCounted v (g + 1) = subst (IsCounted v) e h.counted in
-      let shows : Shows s.memory v (g + 1) = subst (Shows s.memory v) e h.shows in
-      let side = transmit_queue_of s.registers queue in
-      let u : IsSetUp side v.layout v.posted (g + 1) = subst (IsSetUp side v.layout v.posted) e h.set_up in
-      let Left : ℕ → Type 0 = λ n. SendsInOrder s queue sent v.layout.limit (drop n v.outstanding) v.accepted in
-      let sends : Left (g + 1) = subst Left e h.sends in
+  reap_at g at made =
+      let l = at.based.layout in
       let Rest : List Segment → Type 0 = λ ss. SendsInOrder s queue sent v.layout.limit ss v.accepted in
       taken_cases (Keeps queue sent v Reaps) s (segment_at v 0).block (λ based. (f, h)) (λ block based. (
         g,
         record {
-          based = record {
-            sound = based.sound;
-            small = based.small;
-            layout = later-layout v.layout based.layout;
-            tail = based.tail;
-            limit = based.limit;
-          };
-          set_up = set_up-reaped v g h.based.layout c side u;
-          counted = counted-reaped v g h.based.layout c;
-          shows = shows-reaped v g h.based.layout c s.memory shows;
-          sends = subst Rest (dropped v g h.based.layout c) sends;
+          based = assumption (later-layout v.layout l, based);
+          set_up = set_up-reaped v g l at.counted (transmit_queue_of s.registers queue) at.set_up;
+          counted = counted-reaped v g l at.counted;
+          shows = shows-reaped v g l at.counted s.memory at.shows;
+          sends = subst Rest (dropped v g l at.counted) at.sends;
         },
       ))
       (based-after s queue v.layout (event.Take (segment_at v 0).block) h.based made tt)
@@ -202,19 +181,19 @@ module _ (s : State) (queue : ℕ) (sent : List (List ℕ)) (v : Sender) (f : �
       let done = h.counted.done_fetched in
       let e : f ≡ (f - 1) + 1 = omega (arith, own.0) in
       subst (λ x. IsEvent (event.Take x) → After queue sent v Reaps (step_of s (event.Take x))) (sym own.1)
-      (reap_at (f - 1) e) made
+      (reap_at (f - 1) (subst (AgreesAt s queue sent v) e h)) made
 
   -- each of them, with the frame that the event sends, if any
 
-  abbrev Kept : Move → Event Block → Type 0
-  Kept m e = Agrees (after s e) queue (sent ++ sent_by queue s e) (moved v m (reply_to s e))
+  abbrev IsKept : Move → Event Block → Type 0
+  IsKept m e = Agrees (after s e) queue (sent ++ sent_by queue s e) (moved v m (reply_to s e))
 
   -- an event that sends nothing
   quiet : (m : Move) (e : Event Block) → sent_by queue s e ≡ []
-      → Agrees (after s e) queue sent (moved v m (reply_to s e)) → Kept m e
+      → Agrees (after s e) queue sent (moved v m (reply_to s e)) → IsKept m e
   quiet m e none is = rw (none, append-nil sent) is
 
-  pub move-keeps : (m : Move) (e : Event Block) → MayMove queue v s e m → Kept m e
+  pub move-keeps : (m : Move) (e : Event Block) → MayMove queue v s e m → IsKept m e
   move-keeps (Accepts p) (event.Lend b) may = quiet (Accepts p) (event.Lend b) refl (accept_one p b may.0 may.1)
   move-keeps Lends (event.Lend b) may = quiet Lends (event.Lend b) refl (lend_one b may.0 may.1)
   move-keeps Asks (event.Poke16 a bytes) may =

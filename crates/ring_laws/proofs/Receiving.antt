@@ -235,14 +235,7 @@ module _ (m n : Memory) (l : Layout) (here : List Piece) (p : Piece) (ring : IsR
 set_up_more : (l : Layout) (q : ReceiveQueue) (n m : ℕ) → IsSetUp q l n → m ≡ n + 1
     → next_of (slots_of q.ring) q.ring.head ≡ slot_at l (n + 1)
     → IsSetUp (record q { ring = moved_on q.ring }) l m
-set_up_more l q n m h e is = record {
-  one_buffer = h.one_buffer;
-  buffer_size = h.buffer_size;
-  base = h.base;
-  sized = h.sized;
-  head = is ∙ ap (slot_at l) (sym e);
-  tail = h.tail;
-}
+set_up_more l q n m h e is = assumption (is ∙ ap (slot_at l) (sym e))
 
 module _ (queue : ℕ) (s : State) (out : List Piece) (v : Receive) (sound : IsSound s) where
   -- the slot at the head was filled, and the frames that wait and the registers are what they are
@@ -274,12 +267,8 @@ module _ (queue : ℕ) (s : State) (out : List Piece) (v : Receive) (sound : IsS
             (slots_more s.memory n l here p h.ring h.slots low fill);
         stage = subst (λ m. StageHolds m l v.stage) (sym memory)
             (stage_beside l h.ring s.memory n (length here) p low fill v.stage h.stage);
-        order = record {
-          cut = h.order.cut;
-          parts = h.order.parts;
-          full = h.order.full;
-          seen = seen_longer v.seen here p h.order.seen;
-          stage = h.order.stage;
-          order = ap (λ xs. xs ++ p ∷ []) h.order.order ∙ append_assoc gone here (p ∷ []);
-        };
+        order = assumption (
+          seen_longer v.seen here p h.order.seen,
+          ap (λ xs. xs ++ p ∷ []) h.order.order ∙ append_assoc gone here (p ∷ []),
+        );
       }

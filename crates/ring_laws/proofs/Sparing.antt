@@ -10,7 +10,7 @@ use Rattle.history_laws.specs.Prelude.{staged_by, transmit_queue_of, write_at}
 use Rattle.ring_laws.specs.TransmitPrelude.{Kept, Layout, Move, Segment, Sender, asking, descriptor_at, has_lent, moved}
 use Rattle.ring_laws.specs.TransmitPrelude.{no_segment, segment_at, side_of, slot_at}
 use Rattle.nic_device.{proofs.Steps.keeps_sound, specs.Transmit.with_frame, specs.TxRing.Fetch.Outcome as Fetch}
-use Rattle.history_laws.proofs.{Deeds.side_did, Leaving.named-same, Leaving.transmit_left, Steady.resting_same}
+use Rattle.history_laws.proofs.{Deeds.side_did, Leaving.named-same, Leaving.transmit_left, Leaving.transmit_of, Steady.resting_same}
 use Rattle.history_laws.proofs.DeviceLaws.{KeptSettings.settings_stand, Standing.stays_within}
 use Rattle.history_laws.specs.Left.{Deed, Nothing, Rested, Rests, SendsNone, Shut, Shuts, Switched, Takes, Took}
 use Rattle.history_laws.specs.{Left.fetch_on, Sides.IsTried, Sides.Side, Sides.as_wanted}
@@ -29,26 +29,18 @@ use Rattle.std.specs.FinMap as map
 
 pub based-after : (s : State) (queue : ℕ) (l : Layout) (e : Event Block) → IsBased s queue l → IsEvent e
     → WritesNoSetting s e → IsBased (after s e) queue l
-based-after s queue l e b made none = record {
-  sound = keeps_sound s b.sound e made;
-  small = b.small;
-  layout = b.layout;
-  tail = named-same s (after s e) (settings_stand s e none).mode (stays_within s e).vfs l.port l.tail ∙ b.tail;
-  limit = (settings_stand s e none).limit ∙ b.limit;
-}
+based-after s queue l e b made none =
+    let stays = settings_stand s e none in
+    assumption (
+      keeps_sound s b.sound e made,
+      named-same s (after s e) stays.mode (stays_within s e).vfs l.port l.tail ∙ b.tail,
+      stays.limit ∙ b.limit,
+    )
 
 -- the segments are counted on where only how many are done, fetched, posted and written changes
 pub counted-on : (v : Sender) (f g done posted poked : ℕ) → IsCounted v f → done ≤ g → g ≤ posted → posted ≤ poked
     → poked ≤ v.lent → IsCounted (record v { poked = poked; posted = posted; done = done }) g
-counted-on v f g done posted poked c a b d e = record {
-  room = c.room;
-  done_fetched = a;
-  fetched_posted = b;
-  posted_poked = d;
-  poked_lent = e;
-  lent_known = c.lent_known;
-  apart = c.apart;
-}
+counted-on v f g done posted poked c a b d e = assumption
 
 -- after a move of the driver's, by its outcome, the two agree
 abbrev pub After : ℕ → List (List ℕ) → Sender → Move → Outcome → Type 0
@@ -143,10 +135,11 @@ module _ (s : State) (queue : ℕ) (sent : List (List ℕ)) (v : Sender) (f : �
         ∙ ap (frames_added s.out) out_is
         ∙ added-by s.out queue x.part.last (staged ++ x.part.bytes)
 
-    ring_is : (transmit_queue_of u.registers queue).ring ≡ record side.ring { head = slot_at v.layout (f + 1) }
-    ring_is =
-        ap (λ (z : Side). z.ring) y.side
-        ∙ ap (λ (n : ℕ). record side.ring { head = n })
+    side_is : transmit_queue_of u.registers queue
+        ≡ record side { ring = record side.ring { head = slot_at v.layout (f + 1) } }
+    side_is =
+        ap transmit_of y.side
+        ∙ ap (λ (n : ℕ). record side { ring = record side.ring { head = n } })
         (rw (slots s queue sent v f h, h.set_up.head)
         (slot-next v.layout h.based.layout f (small s queue sent v f h (posted y.tried))))
 
@@ -155,13 +148,7 @@ module _ (s : State) (queue : ℕ) (sent : List (List ℕ)) (v : Sender) (f : �
       f + 1,
       record {
         based = based-after s queue v.layout e h.based made none;
-        set_up = record {
-          base = ap (λ r. r.base) ring_is ∙ h.set_up.base;
-          length = ap (λ r. r.length) ring_is ∙ h.set_up.length;
-          head = ap (λ r. r.head) ring_is;
-          tail = ap (λ r. r.tail) ring_is ∙ h.set_up.tail;
-          writeback = ap (λ (z : Side). z.writeback) y.side ∙ h.set_up.writeback;
-        };
+        set_up = subst (λ q. IsSetUp q v.layout v.posted (f + 1)) (sym side_is) (assumption h.set_up);
         counted =
             counted-on v f (f + 1) v.done v.posted v.poked h.counted (omega (arith, h.counted.done_fetched))
             (omega (arith, posted y.tried)) h.counted.posted_poked h.counted.poked_lent;
@@ -225,13 +212,10 @@ module _ (s : State) (queue : ℕ) (sent : List (List ℕ)) (v : Sender) (f : �
         → ((number : ℕ) → IsTrue (has_lent v number) → LeavesBlock number s t) → Agrees t queue sent v
     still-agrees made none set_up sends blocks = (
       f,
-      record {
-        based = based-after s queue v.layout e h.based made none;
-        set_up = set_up;
-        counted = h.counted;
-        shows = shows-same s.memory t.memory v f h.based.layout h.counted h.shows blocks;
-        sends = sends;
-      },
+      assumption (
+        based-after s queue v.layout e h.based made none,
+        shows-same s.memory t.memory v f h.based.layout h.counted h.shows blocks,
+      ),
     )
 
     -- a side that becomes what it is wanted to be, and goes off amid a packet, is cut off

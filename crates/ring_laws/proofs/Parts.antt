@@ -167,26 +167,19 @@ module _ (out gone ps : List Piece) (v : Receive) (p : Piece) (t : Told) (b : Bl
         → InOrder out (took v (t ∷ ts) b) (gone ++ p ∷ []) ps
     taken [] last seen order =
         let end : p.end ≡ true = sym saw.end_is ∙ last in
-        record {
-          cut = last_cut end;
-          parts = open_pushed 0 gone p ∙ rw end refl;
-          full = refl;
-          seen = tt;
-          stage = tt;
-          order = order ∙ sym (append_assoc gone (p ∷ []) ps);
-        }
+        let parts : open_after 0 (gone ++ p ∷ []) ≡ 0 = open_pushed 0 gone p ∙ rw end refl in
+        assumption (last_cut end, parts, order ∙ sym (append_assoc gone (p ∷ []) ps))
     taken (u ∷ ts) last seen order =
         let opens : p.end ≡ false = sym saw.end_is ∙ last.0.goes_on in
-        record {
-          cut = more_cut u ts opens;
-          parts = open_pushed 0 gone p ∙ ap (λ (e : Bool). cond e 0 (open_after 0 gone + 1)) opens
-              ∙ (let e : open_after 0 gone + 1 ≡ length (v.held.bufs ++ b ∷ []) =
-              omega (arith, parts, length_push v.held.bufs b) in e);
-          full = joined_length v.held b t full whole last.0.full;
-          seen = seen;
-          stage = last.1;
-          order = order ∙ sym (append_assoc gone (p ∷ []) ps);
-        }
+        let more : open_after 0 gone + 1 ≡ length (v.held.bufs ++ b ∷ []) =
+        omega (arith, parts, length_push v.held.bufs b) in
+        assumption (
+          more_cut u ts opens,
+          open_pushed 0 gone p ∙ ap (λ (e : Bool). cond e 0 (open_after 0 gone + 1)) opens ∙ more,
+          joined_length v.held b t full whole last.0.full,
+          last.1,
+          order ∙ sym (append_assoc gone (p ∷ []) ps),
+        )
 
 pub order_on : (out gone here : List Piece) (v : Receive) (t : Told) (ts : List Told) (b : Block)
     → InOrder out v gone here → v.seen ≡ t ∷ ts → v.stage ≡ Takes → 0 < length here

@@ -219,11 +219,7 @@ pub sent_is_prefix_of_taken : SentIsPrefixOfTaken
 sent_is_prefix_of_taken pass queue s v moves h agreed legal may =
     let ts = turns_of pass moves h in
     let same = entries-turns pass moves h in
-    let prefix = sent_is_prefix queue s v ts (record {
-      agreed = agreed;
-      legal = subst (IsLegal s) (sym same) legal;
-      may = may;
-    }) in
+    let prefix = sent_is_prefix queue s v ts (assumption (subst (IsLegal s) (sym same) legal)) in
     subst (λ (xs : List Entry). IsPrefixOf (sent_in queue s xs)
     (bytes_of (played_by v moves (calls_of pass h)).accepted)) same
     (subst (λ (w : Sender). IsPrefixOf (sent_in queue s (entries_of ts)) (bytes_of w.accepted))
@@ -235,16 +231,7 @@ module _ (w : Watched) (mine : Blocks) (s : State) (sent : List (List ℕ)) (v :
     (functions : w.vfs ≡ s.vfs) (all : AreMine mine v) (e : Event Block)
   where
     spared : (blocks : Blocks) → AreMine blocks v → IsAlone w blocks v s e → MayCome w.queue v s e None
-    spared blocks lent a = left_alone_is_spared w blocks v s e (record {
-      sound = j.1.based.sound;
-      made = a.made;
-      functions = functions;
-      lent = lent;
-      registers = a.registers;
-      blocks = a.blocks;
-      steps = a.steps;
-      owed = a.owed;
-    })
+    spared blocks lent a = left_alone_is_spared w blocks v s e (assumption (j.1.based.sound, lent, a))
 
     move_may : (m : Move) → MayMoveAlone w mine v s e m → MayMove w.queue v s e m
     move_may Elsewhere a = spared (has_lent v) (λ number is. is) a
@@ -290,4 +277,4 @@ alone_may_run w mine s v ts agreed functions lent legal alone =
 pub sent_is_prefix_where_alone : SentIsPrefixWhereAlone
 sent_is_prefix_where_alone w mine s v ts agreed functions lent legal alone =
     sent_is_prefix w.queue s v ts
-    (record { agreed = agreed; legal = legal; may = alone_may_run w mine s v ts agreed functions lent legal alone })
+    (assumption (alone_may_run w mine s v ts agreed functions lent legal alone))

@@ -36,7 +36,7 @@ pub end-last : (ss : List Segment) → first_end ss < length ss → IsLast ss (f
 end-last [] below = absurd (omega arith)
 end-last (x ∷ ss) below = end-of x ss (end-last ss) x.part.last refl below
 
-module _ (s : State) (queue : ℕ) (sent : List (List ℕ)) (v : Sender) (f : ℕ) (h : AgreesAt s queue sent v f) where
+module _ {s : State} {queue : ℕ} {sent : List (List ℕ)} {v : Sender} {f : ℕ} (h : AgreesAt s queue sent v f) where
   -- the tail is written
 
   abbrev slot : ℕ

@@ -131,7 +131,7 @@ module _ (m : Memory) (r : Ring) (tx : Tx) (staged : List ℕ) (x : Segment) (h 
 
 -- Steps of transmitting of the driver's own queue.
 
-module _ (s : State) (queue : ℕ) (sent : List (List ℕ)) (v : Sender) (f : ℕ) (h : AgreesAt s queue sent v f) where
+module _ {s : State} {queue : ℕ} {sent : List (List ℕ)} {v : Sender} {f : ℕ} (h : AgreesAt s queue sent v f) where
   abbrev pub side : TransmitQueue
   side = transmit_queue_of s.registers queue
 

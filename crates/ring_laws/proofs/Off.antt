@@ -21,7 +21,7 @@ pub enable_words_keep : EnableWordsKeep
 enable_words_keep s queue sent v port n word made names rests (f, h) =
     let e = event.Write port n word in
     let is = asked queue s h.based.sound h.based.small port n word Tx names in
-    still-agrees s queue sent v f h e made (plain-write s port n word (place Txdctl queue) 0xFFFFFFFF names refl)
+    still-agrees h e made (plain-write s port n word (place Txdctl queue) 0xFFFFFFFF names refl)
     (set_up-same (transmit_queue_of s.registers queue) (transmit_queue_of (after s e).registers queue) v.layout v.posted
     f (ap (λ (x : Side). x.ring) is) (ap (λ (x : Side). x.writeback) is) h.set_up)
     (sends is h.sends)

@@ -111,7 +111,7 @@ module _ (v : Sender) (g : ℕ) (l : IsLayout v.layout) (c : IsCounted v (g + 1)
 
 -- The driver's own moves that lend a block and take one back keep what it and the device agree on.
 
-module _ (s : State) (queue : ℕ) (sent : List (List ℕ)) (v : Sender) (f : ℕ) (h : AgreesAt s queue sent v f) where
+module _ {s : State} {queue : ℕ} {sent : List (List ℕ)} {v : Sender} {f : ℕ} (h : AgreesAt s queue sent v f) where
   known : f ≤ length v.outstanding
   known =
       let c = h.counted in omega (arith, c.fetched_posted, c.posted_poked, c.poked_lent, c.lent_known)
@@ -197,20 +197,20 @@ module _ (s : State) (queue : ℕ) (sent : List (List ℕ)) (v : Sender) (f : �
   move-keeps (Accepts p) (event.Lend b) may = quiet (Accepts p) (event.Lend b) refl (accept_one p b may.0 may.1)
   move-keeps Lends (event.Lend b) may = quiet Lends (event.Lend b) refl (lend_one b may.0 may.1)
   move-keeps Asks (event.Poke16 a bytes) may =
-      quiet Asks (event.Poke16 a bytes) refl (ask_one s queue sent v f h a bytes may.0 may.1)
+      quiet Asks (event.Poke16 a bytes) refl (ask_one h a bytes may.0 may.1)
   move-keeps Advances (event.Write port n word) may =
-      quiet Advances (event.Write port n word) refl (advance_one s queue sent v f h port n word may.0 may.1)
-  move-keeps Looks (event.Peek16 a) may = quiet Looks (event.Peek16 a) refl (look_one s queue sent v f h a may.0)
+      quiet Advances (event.Write port n word) refl (advance_one h port n word may.0 may.1)
+  move-keeps Looks (event.Peek16 a) may = quiet Looks (event.Peek16 a) refl (look_one h a may.0)
   move-keeps Reaps (event.Take n) may = quiet Reaps (event.Take n) refl (reap_one n may.0 may.1)
-  move-keeps Elsewhere e may = spares-keeps s queue sent v f h e may
+  move-keeps Elsewhere e may = spares-keeps h e may
   move-keeps m e may = absurd may.0
 
 pub moves_keep : MovesKeep
-moves_keep s queue sent v e m (f, h) may = move-keeps s queue sent v f h m e may
+moves_keep s queue sent v e m (f, h) may = move-keeps h m e may
 
 -- A transmit side that is on and wanted on stays so, where device and driver agree.
 
-module _ (s : State) (queue : ℕ) (sent : List (List ℕ)) (v : Sender) (f : ℕ) (h : AgreesAt s queue sent v f)
+module _ {s : State} {queue : ℕ} {sent : List (List ℕ)} {v : Sender} {f : ℕ} (h : AgreesAt s queue sent v f)
     (up : IsUp queue s) where
   same_up : (t : State) → LeavesQueues s t → IsUp queue t
   same_up t left = subst sides.IsUp (sym (queues_left queue s t Tx left)) up
@@ -220,19 +220,19 @@ module _ (s : State) (queue : ℕ) (sent : List (List ℕ)) (v : Sender) (f : �
   moved-stays-up Lends (event.Lend b) may = same_up (after s (event.Lend b)) (memory_rest.lend s b).queues
   moved-stays-up Asks (event.Poke16 a bytes) may =
       same_up (after s (event.Poke16 a bytes)) (memory_rest.poke s a bytes).queues
-  moved-stays-up Advances (event.Write port n word) may = advance-stays-up s queue sent v f h port n word may.0 up
+  moved-stays-up Advances (event.Write port n word) may = advance-stays-up h port n word may.0 up
   moved-stays-up Looks (event.Peek16 a) may = same_up (after s (event.Peek16 a)) (memory_rest.peek s a).queues
   moved-stays-up Reaps (event.Take n) may = same_up (after s (event.Take n)) (memory_rest.take s n).queues
   moved-stays-up Elsewhere e may =
-      up_kept Tx queue s e up (never-shuts s queue sent v f h e) (spared_did s queue sent v f h e may)
+      up_kept Tx queue s e up (never-shuts h e) (spared_did h e may)
   moved-stays-up m e may = absurd may.0
 
 pub up_stays : UpStays
-up_stays s queue sent v e m (f, h) may up = moved-stays-up s queue sent v f h up m e may
+up_stays s queue sent v e m (f, h) may up = moved-stays-up h up m e may
 
 -- The replies to the driver's own moves are those of a healthy queue.
 
-module _ (s : State) (queue : ℕ) (sent : List (List ℕ)) (v : Sender) (f : ℕ) (h : AgreesAt s queue sent v f) where
+module _ {s : State} {queue : ℕ} {sent : List (List ℕ)} {v : Sender} {f : ℕ} (h : AgreesAt s queue sent v f) where
   abbrev Healthy : Move → Event Block → Type 0
   Healthy m e = is_healthy m (reply_to s e) ≡ true
 
@@ -264,12 +264,12 @@ module _ (s : State) (queue : ℕ) (sent : List (List ℕ)) (v : Sender) (f : �
   healthy Lends (event.Lend b) own anew = ap (is_healthy Lends) (anew_is_done s b anew)
   healthy Asks (event.Poke16 a bytes) own anew = ask_healthy a bytes own
   healthy Advances (event.Write port n word) own anew =
-      ap (λ (x : Outcome). is_healthy Advances x.reply) (written_tail s queue sent v f h port n word own)
+      ap (λ (x : Outcome). is_healthy Advances x.reply) (written_tail h port n word own)
   healthy Looks (event.Peek16 a) own anew =
-      by_outcome Looks (event.Peek16 a) _ _ (ap event.Peek16 own.1) (look s queue sent v f h own.0) refl
+      by_outcome Looks (event.Peek16 a) _ _ (ap event.Peek16 own.1) (look h own.0) refl
   healthy Reaps (event.Take n) own anew = reap_healthy n own
   healthy Elsewhere e own anew = refl
   healthy m e own anew = absurd own
 
 pub own_replies_are_healthy : OwnRepliesAreHealthy
-own_replies_are_healthy s queue sent v m e (f, h) own anew = healthy s queue sent v f h m e own anew
+own_replies_are_healthy s queue sent v m e (f, h) own anew = healthy h m e own anew

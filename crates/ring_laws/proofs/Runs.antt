@@ -71,10 +71,10 @@ left_alone_is_spared w mine v s e h = record {
 pub one-turn : (s : State) (queue : ℕ) (sent : List (List ℕ)) (v : Sender) (e : Event Block) (r : Reply Block)
     (o : Option Move) → Agrees s queue sent v → r ≡ reply_to s e → MayCome queue v s e o
     → Agrees (after s e) queue (sent ++ sent_by queue s e) (known v o r)
-one-turn s queue sent v e r None (f, h) is may = spares-keeps s queue sent v f h e may
+one-turn s queue sent v e r None (f, h) is may = spares-keeps h e may
 one-turn s queue sent v e r (Some m) (f, h) is may =
     subst (λ x. Agrees (after s e) queue (sent ++ sent_by queue s e) (moved v m x)) (sym is)
-    (move-keeps s queue sent v f h m e may)
+    (move-keeps h m e may)
 
 pub over-turns : (s : State) (queue : ℕ) (sent : List (List ℕ)) (v : Sender) (ts : List Turn) → Agrees s queue sent v
     → IsLegal s (entries_of ts) → MayRun queue v s ts
@@ -125,7 +125,7 @@ some_unsent s queue sent limit left ks (inl x) k below end =
 some_unsent s queue sent limit left ks (inr x) k below end =
     omega (arith, ap length x.in_order, length-append sent (x.frame ∷ x.rest))
 
-module _ (s : State) (queue : ℕ) (sent : List (List ℕ)) (v : Sender) (f : ℕ) (h : AgreesAt s queue sent v f) where
+module _ {s : State} {queue : ℕ} {sent : List (List ℕ)} {v : Sender} {f : ℕ} (h : AgreesAt s queue sent v f) where
   -- with none outstanding all that was accepted is sent
   pub idle-all : length v.outstanding ≡ 0 → bytes_of v.accepted ≡ sent
   idle-all none =
@@ -149,9 +149,7 @@ module _ (s : State) (queue : ℕ) (sent : List (List ℕ)) (v : Sender) (f : �
 
 pub idle_is_all_sent : IdleIsAllSent
 idle_is_all_sent queue s v ts o none =
-    let j = over-turns s queue [] v ts o.agreed o.legal o.may in
-    idle-all (leads_to s (entries_of ts)) queue (sent_in queue s (entries_of ts)) (sender_after v ts) j.0 j.1
-    (ap length none)
+    idle-all (over-turns s queue [] v ts o.agreed o.legal o.may).1 (ap length none)
 
 pub sent_in-append : (queue : ℕ) (s : State) (g h : List Entry)
     → sent_in queue s (g ++ h) ≡ sent_in queue s g ++ sent_in queue (leads_to s g) h
@@ -168,12 +166,12 @@ pub waiting-left : (s : State) (queue : ℕ) (sent : List (List ℕ)) (v : Sende
 waiting-left s queue sent v (f, h) finds xs more split same =
     let end = first_end v.outstanding in
     let seen : finds.bytes ≡ read_at s.memory (descriptor_at v.layout end) 16 =
-    look-tells s queue sent v f h finds.posted finds.bytes finds.told in
+    look-tells h finds.posted finds.bytes finds.told in
     elim (cases_lt end f) [
       | inl some ↦
           both_ways (is_sent finds.bytes) finds.waits
-          (ap is_sent seen ∙ look-fetched s queue sent v f h finds.posted some)
-      | inr none ↦ left-over s queue sent v f h xs more split finds.posted none same
+          (ap is_sent seen ∙ look-fetched h finds.posted some)
+      | inr none ↦ left-over h xs more split finds.posted none same
     ]
 
 pub waiting_is_not_all_sent : WaitingIsNotAllSent

@@ -52,7 +52,7 @@ Keeps queue sent v m o = IsBased o.state queue v.layout → After queue sent v m
 
 -- A step of transmitting of the driver's own queue that fetches the next segment.
 
-module _ (s : State) (queue : ℕ) (sent : List (List ℕ)) (v : Sender) (f : ℕ) (h : AgreesAt s queue sent v f) where
+module _ {s : State} {queue : ℕ} {sent : List (List ℕ)} {v : Sender} {f : ℕ} (h : AgreesAt s queue sent v f) where
   abbrev side : TransmitQueue
   side = transmit_queue_of s.registers queue
 
@@ -69,12 +69,12 @@ module _ (s : State) (queue : ℕ) (sent : List (List ℕ)) (v : Sender) (f : �
 
   module _ (tried : IsTried (side_of Tx queue s)) where
     posted : f < v.posted
-    posted = more s queue sent v f h tried.some
+    posted = more h tried.some
 
     next_left : drop f v.outstanding ≡ x ∷ rest
     next_left =
         drop_more v.outstanding f no_segment
-        (omega (arith, lent s queue sent v f h posted, h.counted.lent_known))
+        (omega (arith, lent h posted, h.counted.lent_known))
 
     in_turn : SendsInOrder s queue sent v.layout.limit (drop f v.outstanding) v.accepted
         → IsInTurn v.layout.limit staged sent (x ∷ rest) v.accepted
@@ -87,7 +87,7 @@ module _ (s : State) (queue : ℕ) (sent : List (List ℕ)) (v : Sender) (f : �
     fetches : fetch_on s queue ≡ segment_outcome s.memory side.ring staged x
     fetches =
         fetch-segment s.memory side.ring (sending_of s.registers side) staged x
-        (to_send s queue sent v f h posted staged turn.packets)
+        (to_send h posted staged turn.packets)
 
   -- it meets no fault
   pub never-shuts : (e : Event Block) → Shuts Tx queue s e → ⊥
@@ -111,7 +111,7 @@ module _ (s : State) (queue : ℕ) (sent : List (List ℕ)) (v : Sender) (f : �
     memory_is =
         ap (λ (o : Outcome). o.state.memory) y.work.step ∙ ap (λ (o : Fetch). o.memory) (fetches y.tried)
         ∙ ap (λ (a : ℕ). if x.part.last then write_at s.memory a (done_descriptor (asking x)) else s.memory)
-        (head_is s queue sent v f h)
+        (head_is h)
 
     staged_is : staged_by u queue ≡ staged_behind staged x
     staged_is =
@@ -140,8 +140,8 @@ module _ (s : State) (queue : ℕ) (sent : List (List ℕ)) (v : Sender) (f : �
     side_is =
         ap transmit_of y.side
         ∙ ap (λ (n : ℕ). record side { ring = record side.ring { head = n } })
-        (rw (slots s queue sent v f h, h.set_up.head)
-        (slot-next v.layout h.based.layout f (small s queue sent v f h (posted y.tried))))
+        (rw (slots h, h.set_up.head)
+        (slot-next v.layout h.based.layout f (small h (posted y.tried))))
 
     pub takes-keeps : IsEvent e → WritesNoSetting s e → Agrees u queue (sent ++ sent_by queue s e) v
     takes-keeps made none = (
@@ -152,7 +152,7 @@ module _ (s : State) (queue : ℕ) (sent : List (List ℕ)) (v : Sender) (f : �
         counted =
             counted-on v f (f + 1) v.done v.posted v.poked h.counted (omega (arith, h.counted.done_fetched))
             (omega (arith, posted y.tried)) h.counted.posted_poked h.counted.poked_lent;
-        shows = rw memory_is (shows-fetched s queue sent v f h (posted y.tried));
+        shows = rw memory_is (shows-fetched h (posted y.tried));
         sends = inl (record {
           packets =
               subst (λ (l : List ℕ). ArePackets v.layout.limit l rest) (sym staged_is) (turn y.tried).packets.2;
@@ -194,7 +194,7 @@ sends_on s t queue sent limit left ks same off (inl x) =
     inl (subst (λ (l : List ℕ). IsInTurn limit l sent left ks) (sym same) x)
 sends_on s t queue sent limit left ks same off (inr x) = inr (cut_stays _ _ _ _ _ (off x).0 (off x).1 x)
 
-module _ (s : State) (queue : ℕ) (sent : List (List ℕ)) (v : Sender) (f : ℕ) (h : AgreesAt s queue sent v f)
+module _ {s : State} {queue : ℕ} {sent : List (List ℕ)} {v : Sender} {f : ℕ} (h : AgreesAt s queue sent v f)
     (e : Event Block)
   where
     abbrev t : State
@@ -262,7 +262,7 @@ module _ (s : State) (queue : ℕ) (sent : List (List ℕ)) (v : Sender) (f : �
     rest_sends (Nothing is) =
         sends_on s t queue sent v.layout.limit left v.accepted (ap (λ (y : Side). y.staged) is)
         (λ x. (ap (λ (y : Side). y.on) is ∙ x.off, ap (λ (y : Side). y.wanted) is ∙ x.unwanted)) h.sends
-    rest_sends (Shut x) = absurd (never-shuts s queue sent v f h e x)
+    rest_sends (Shut x) = absurd (never-shuts h e x)
     rest_sends (Switched is) = switched_sends is h.sends
 
     module _ (x : Spares queue v s e) where
@@ -279,7 +279,7 @@ module _ (s : State) (queue : ℕ) (sent : List (List ℕ)) (v : Sender) (f : �
       ]
 
       by_deed : Deed Tx queue s e → Agrees t queue (sent ++ sent_by queue s e) v
-      by_deed (Took y) = takes-keeps s queue sent v f h e y x.made x.setting
+      by_deed (Took y) = takes-keeps h e y x.made x.setting
       by_deed (Rested none rests) =
           let same = resting_same Tx queue s e rests in
           rw (none.sent, append-nil sent)
@@ -291,7 +291,7 @@ module _ (s : State) (queue : ℕ) (sent : List (List ℕ)) (v : Sender) (f : �
       spares-keeps = by_deed spared_did
 
 pub sparing_events_keep : SparingEventsKeep
-sparing_events_keep s queue sent v e (f, h) x = spares-keeps s queue sent v f h e x
+sparing_events_keep s queue sent v e (f, h) x = spares-keeps h e x
 
 -- a step of transmitting of the driver's own queue spares it
 pub step_of_queue_keeps : StepsOfQueueKeep
@@ -299,7 +299,7 @@ step_of_queue_keeps s queue sent v (f, h) =
     let own : (queue == queue) ≡ true = eq-eqb queue queue refl in
     let small = h.based.small in
     let none : (A : Type 0) → (queue == queue) ≡ false → A = λ A other. absurd (both_ways (queue == queue) other own) in
-    spares-keeps s queue sent v f h (event.TxStep queue) (record {
+    spares-keeps h (event.TxStep queue) (record {
       made = omega arith;
       setting = tt;
       side = λ other apart. none _ other;

@@ -1,6 +1,6 @@
 -- What the driver handed out, and what a history from any sound device on delivered.
 pub use Rattle.history_laws.proofs.Alone.{lent_behind}
-use Rattle.std.proofs.Common.{[], ◌&&◌, ◌++◌, ◌∙◌, ◌∷◌, ◌≡◌, ◌≤◌, Bool, List, None, Option, Some, ap, append_assoc}
+use Rattle.std.proofs.Common.{[], ◌&&◌, ◌++◌, ◌∙◌, ◌∷◌, ◌≡◌, ◌≢◌, ◌≤◌, ◌⊎◌, Bool, List, None, Option, Some, ap, append_assoc}
 use Rattle.std.proofs.Common.{arith, cond, false, inl, inr, length, nat_lt, refl, subst, sym, true, ℕ}
 use Rattle.std.proofs.lemmas.Bool.{and_from, both_ways, cases_Bool, cases_lt, eq-eqb, eqb-false, eqb-true, lt-ltb}
 use Rattle.std.proofs.lemmas.List.{append-nil, length-append, nil_from_length}
@@ -17,7 +17,7 @@ use Rattle.device_lock.specs.{Alone.lends, Alone.lent_in, History.call_in, decla
 use Rattle.pmd_rx.specs.Plays.{AllOwn, after_call, played_by}
 use Rattle.history_laws.proofs.{Alone.alone_by_entries, Alone.histories_sound, Steady.not_again}
 use Rattle.history_laws.specs.Alone.{AllAlone}
-use Rattle.ring_laws.proofs.Foreign.{entry_stays_up, foreign_keeps, left_up, own_stays_up, steps_keep}
+use Rattle.ring_laws.proofs.Foreign.{entry_keeps, entry_stays_up, left_up, own_stays_up}
 use Rattle.ring_laws.specs.Delivered.{IsPrefixOf, delivered, packets_if_any, pieces_in, pieces_since}
 use Rattle.ring_laws.specs.Histories.{AllSpare, FindsNone, HandedIsPrefix, IsDriven, NoneIsAll, NoneIsAllBefore}
 use Rattle.ring_laws.specs.Histories.{NoneIsAllTaken, ShowsNone, Spares, SparesReceive, mark_of, marks_after}
@@ -134,11 +134,15 @@ module _ (w : Watched) (mine : Blocks) (s : State) (out : List Piece) (v : Recei
       (mine_driven mine v m.lent e.event e.reply own
       (lends_mine w.pass mine v e.pass e.event e.reply same own covers))
 
+  -- one of another pass, or a step
+  other_entry : OwnReportsSpare w.queue v s → (e.pass ≢ w.pass) ⊎ IsTrue (is_step e.event) → Meets w mine t more v
+  other_entry reports who =
+      goes_to v (entry_keeps w mine (mode_in s.registers) s out v e met m.agree m.lent reports alone who)
+      (entry_stays_up w mine (mode_in s.registers) s out v e met m.agree alone who m.up) m.lent
+
   -- another call of the pass
   unmarked_entry : OwnReportsSpare w.queue v s → SparesReceive w.queue v s e → Meets w mine t more v
-  unmarked_entry reports (inl step) =
-      goes_to v (steps_keep w mine (mode_in s.registers) s out v e met m.agree m.lent reports alone step)
-      (entry_stays_up w mine (mode_in s.registers) s out v e met m.agree alone (inr step) m.up) m.lent
+  unmarked_entry reports (inl step) = other_entry reports (inr step)
   unmarked_entry reports (inr free) =
       goes_to v
       (rw (none_written w.queue s e.event free.0, append-nil out) (leaving_keeps w.queue s t out v free.1 m.agree))
@@ -149,10 +153,7 @@ module _ (w : Watched) (mine : Blocks) (s : State) (out : List Piece) (v : Recei
       → AllOwn v marks (cond own (call_in e ∷ rest) rest) → Spares w s v marks e
       → ((n : ℕ) → IsTrue (lent_in w.pass e n) → IsTrue (mine n))
       → Meets w mine t more (after_call v (mark_of own marks) (call_in e))
-  entry marks false is rest owns spares covers =
-      let other = eqb-false e.pass w.pass is in
-      goes_to v (foreign_keeps w mine (mode_in s.registers) s out v e met m.agree m.lent spares.reports alone other)
-      (entry_stays_up w mine (mode_in s.registers) s out v e met m.agree alone (inl other) m.up) m.lent
+  entry marks false is rest owns spares covers = other_entry spares.reports (inl (eqb-false e.pass w.pass is))
   entry [] true is rest owns spares covers = absurd owns
   entry (true ∷ marks) true is rest owns spares covers = own_entry (eqb-true e.pass w.pass is) owns.0 covers
   entry (false ∷ marks) true is rest owns spares covers =

@@ -1,10 +1,10 @@
 -- Events that aren't the driver's own: they keep the agreement, and a side up that is.
-use Rattle.std.proofs.Common.{[], ◌*◌, ◌++◌, ◌/◌, ◌<◌, ◌^◌, ◌||◌, ◌∙◌, ◌∷◌, ◌≡◌, ◌≢◌, ◌≤◌, Bool, List, None, Ok, Option}
+use Rattle.std.proofs.Common.{[], ◌*◌, ◌++◌, ◌/◌, ◌<◌, ◌^◌, ◌||◌, ◌∙◌, ◌∷◌, ◌≡◌, ◌≢◌, ◌≤◌, ◌⊎◌, Bool, List, None, Ok, Option}
 use Rattle.std.proofs.Common.{Some, ap, arith, cond, false, inl, inr, length, refl, subst, sym, true, ℕ}
 use Rattle.std.proofs.lemmas.Bool.{both_ways, cases_eq, cases_lt, cond_both, eq-eqb, or_parts}
 use Rattle.std.proofs.lemmas.List.{append-nil}
 use Rattle.std.specs.{Bool.beq, Prelude.IsTrue, Prelude.nat_lt, Prelude.⊤}
-use Rattle.history_laws.specs.Prelude.{Block, Blocks, Done, Entry, Event, Filled, IsSound, LeavesBlock, LeavesBlocks}
+use Rattle.history_laws.specs.Prelude.{Block, Blocks, Done, Entry, EntryLeavesAlone, Event, Filled, IsSound, LeavesBlock, LeavesBlocks}
 use Rattle.history_laws.specs.Prelude.{LeavesQueues, LeavesRegisters, LiesIn, Memory, Mode, Outcome, Port, Reply, Rx}
 use Rattle.history_laws.specs.Prelude.{State, Tx, Waiting, Watched, WritesNoSetting, WritesOutside, Wrote, after, gives}
 use Rattle.history_laws.specs.Prelude.{is_on, is_wanted, mode_in, receive_queue_of, reply_to, rest_of, step_of}
@@ -14,7 +14,7 @@ use Rattle.nic_device.specs.declared.event.Reply.TheVariants.{Idle, NoQueue}
 use Rattle.nic_device.{proofs.RxRing.Fills.takes_piece, specs.RegisterFile.Settings.is_stopped, specs.Sound.AreWaiting}
 use Rattle.nic_device.{specs.Switching.queue_switched, specs.Switching.side_switched}
 use Rattle.pmd_rx.{proofs.PmdSeam.Rings.slot_block, proofs.PmdSeam.Rings.slot_lies, specs.PmdSeam.Slots.descriptor_in}
-use Rattle.history_laws.proofs.Deeds.{left_did, receiving_did, side_did, switching_did}
+use Rattle.history_laws.proofs.Deeds.{left_deed, left_did, receiving_did, side_did, switching_did}
 use Rattle.history_laws.proofs.Leaving.{left-setting, left-side, receive_left, receive_of}
 use Rattle.history_laws.proofs.{Blocks.IsSparedBy, Blocks.reported_elsewhere, Blocks.spared_block, Steady.resting_same}
 use Rattle.history_laws.proofs.{Steady.up_kept, Written.receive-tail}
@@ -24,7 +24,7 @@ use Rattle.history_laws.specs.Left.{Deed, Did, IsLeft, Rested, Rests, Shuts, Tak
 use Rattle.history_laws.specs.{Segments.piece_in, Sides.IsTried, Sides.receive_side, Sides.side_of}
 use Rattle.ring_laws.proofs.Kept.{bytes_inside, each_map, each_of, posted_block, slot_below}
 use Rattle.ring_laws.proofs.Receiving.{buffer_is, filled_holds, head_is, no_fault, room_left}
-use Rattle.ring_laws.specs.Steps.{DeviceStepKeeps, Each, EnableStepKeeps, ForeignEntryKeeps, IsMetBy}
+use Rattle.ring_laws.specs.Steps.{Each, EnableStepKeeps, EntryKeeps, IsMetBy}
 use Rattle.ring_laws.specs.ReceiveUp.{EnableStepChangesNothing, EntryStaysUp, IsUp, LeavingStaysUp, OwnEventStaysUp}
 use Rattle.ring_laws.proofs.{Leaving.switching_keeps, Naming.tail_written, Naming.word_low}
 use Rattle.ring_laws.specs.{Inside.IsInRing, Inside.IsInside, Inside.PieceIsInside, Joint.Agree, Joint.Holds}
@@ -222,13 +222,6 @@ alone_stays_up w s out v e vfs sound j registers up =
     deed_up w.queue s out v e j
     (side_did Rx w.queue s e sound j.2.named.low (left-side w s vfs Rx e registers)) up
 
-pub entry_stays_up : EntryStaysUp
-entry_stays_up w mine mode s out v e met j alone (inl other) up =
-    alone_stays_up w s out v e.event met.vfs met.sound j
-    (subst (λ k. LeavesRegisters w k e.event) met.mode_is (alone.registers other)) up
-entry_stays_up w mine mode s out v e met j alone (inr is) up =
-    alone_stays_up w s out v e.event met.vfs met.sound j (no_registers w (mode_in s.registers) mine e.event is).0 up
-
 -- Entries that aren't the driver's own and leave its queue alone keep the agreement.
 
 module _ (queue : ℕ) (mine : Blocks) (s : State) (v : Receive) (sound : IsSound s)
@@ -264,22 +257,22 @@ left_keeps w mine s out v e x j m spare =
     deed_keeps w.queue s out v x.sound j e (left-setting w s x.vfs e x.registers) did.receive
     (λ none. spared w.queue mine s v x.sound m spare e did none did.transmit)
 
--- an entry is such an event, by what it leaves alone
-left_entry : (w : Watched) (mine : Blocks) (mode : Mode) (s : State) (e : Entry) → IsMetBy w mode s e → w.queue < 128
-    → LeavesRegisters w (mode_in s.registers) e.event → LeavesBlocks mine e.event
-    → WritesOutside w.queue mine e.reply → IsLeft w mine s e.event
-left_entry w mine mode s e met small registers blocks steps =
-    assumption (subst (WritesOutside w.queue mine) met.reply steps)
+-- an entry of another pass that leaves them alone is such an event, and so is a step, whoever made it
+entry_left : (w : Watched) (mine : Blocks) (mode : Mode) (s : State) (e : Entry) → IsMetBy w mode s e → w.queue < 128
+    → EntryLeavesAlone w mine mode e → (e.pass ≢ w.pass) ⊎ IsTrue (is_step e.event) → IsLeft w mine s e.event
+entry_left w mine mode s e met small alone who =
+    let free : LeavesRegisters w (mode_in s.registers) e.event × LeavesBlocks mine e.event = elim who [
+      | inl other ↦
+          (subst (λ k. LeavesRegisters w k e.event) met.mode_is (alone.registers other), alone.blocks other)
+      | inr step ↦ no_registers w (mode_in s.registers) mine e.event step
+    ] in
+    assumption (free.0, free.1, subst (WritesOutside w.queue mine) met.reply alone.steps)
 
-pub foreign_keeps : ForeignEntryKeeps
-foreign_keeps w mine mode s out v e met j m spare alone other =
-    left_keeps w mine s out v e.event
-    (left_entry w mine mode s e met j.2.named.low
-    (subst (λ k. LeavesRegisters w k e.event) met.mode_is (alone.registers other)) (alone.blocks other) alone.steps)
-    j m spare
+pub entry_keeps : EntryKeeps
+entry_keeps w mine mode s out v e met j m spare alone who =
+    left_keeps w mine s out v e.event (entry_left w mine mode s e met j.2.named.low alone who) j m spare
 
-pub steps_keep : DeviceStepKeeps
-steps_keep w mine mode s out v e met j m spare alone is =
-    let free = no_registers w (mode_in s.registers) mine e.event is in
-    left_keeps w mine s out v e.event
-    (left_entry w mine mode s e met j.2.named.low free.0 free.1 alone.steps) j m spare
+pub entry_stays_up : EntryStaysUp
+entry_stays_up w mine mode s out v e met j alone who =
+    deed_up w.queue s out v e.event j
+    (left_deed Rx w mine s e.event (entry_left w mine mode s e met j.2.named.low alone who))

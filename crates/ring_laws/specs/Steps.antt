@@ -1,6 +1,6 @@
 -- What single events do to what the device and a driver agree on.
 pub use Rattle.history_laws.specs.Left.{IsOutside}
-use Rattle.std.specs.Prelude.{◌++◌, ◌/◌, ◌<◌, ◌↔◌, ◌≡◌, ◌≢◌, IsTrue, List, Some, length, ℕ, ⊤}
+use Rattle.std.specs.Prelude.{◌++◌, ◌/◌, ◌<◌, ◌↔◌, ◌≡◌, ◌≢◌, ◌⊎◌, IsTrue, List, Some, length, ℕ, ⊤}
 use Rattle.history_laws.specs.Prelude.{Block, Blocks, Bytes, Entry, EntryLeavesAlone, Event, IsEvent, IsSound}
 use Rattle.history_laws.specs.Prelude.{LeavesBlock, LeavesReceive, Mode, Reply, Rx, State, Watched, Wrote, after}
 use Rattle.history_laws.specs.Prelude.{bytes_in, ends_packet, first_half, is_done, mode_in, receive_queue_of, reply_to}
@@ -61,20 +61,13 @@ pub record IsMetBy (w : Watched) (mode : Mode) (s : State) (e : Entry) : Type 0 
   pub reply : e.reply ≡ reply_to s e.event
   pub event : IsEvent e.event
 
--- an entry of another pass that leaves the queue alone, with all blocks that the driver has lent, keeps the agreement
-abbrev pub ForeignEntryKeeps : Type 0
-ForeignEntryKeeps =
-    (w : Watched) (mine : Blocks) (mode : Mode) (s : State) (out : List Piece) (v : Receive) (e : Entry) →
-    IsMetBy w mode s e → Agree w.queue s out v → Each v (λ b. IsTrue (mine b)) → OwnReportsSpare w.queue v s →
-    EntryLeavesAlone w mine mode e → e.pass ≢ w.pass →
-    Agree w.queue (after s e.event) (out ++ pieces w.queue s e.event) v
-
+-- an entry of another pass that leaves the queue alone, with all blocks that the driver has lent, keeps the agreement;
 -- and so does a step of the device, whoever made it
-abbrev pub DeviceStepKeeps : Type 0
-DeviceStepKeeps =
+abbrev pub EntryKeeps : Type 0
+EntryKeeps =
     (w : Watched) (mine : Blocks) (mode : Mode) (s : State) (out : List Piece) (v : Receive) (e : Entry) →
     IsMetBy w mode s e → Agree w.queue s out v → Each v (λ b. IsTrue (mine b)) → OwnReportsSpare w.queue v s →
-    EntryLeavesAlone w mine mode e → IsTrue (is_step e.event) →
+    EntryLeavesAlone w mine mode e → (e.pass ≢ w.pass) ⊎ IsTrue (is_step e.event) →
     Agree w.queue (after s e.event) (out ++ pieces w.queue s e.event) v
 
 -- a step of receiving, of whichever queue, keeps the agreement: on the driver's queue its first posted slot becomes the

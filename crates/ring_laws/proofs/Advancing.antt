@@ -6,7 +6,8 @@ use Rattle.std.specs.Prelude.{slice_index_or}
 use Rattle.history_laws.specs.Prelude.{IsEvent, Memory, Outcome, Port, State, Tdt, TransmitQueue, Tx, WritesNoSetting}
 use Rattle.history_laws.specs.Prelude.{after, after_write, gives, named_written, place, read_at, ring_of, step_of}
 use Rattle.history_laws.specs.Prelude.{transmit_queue_of, write_at}
-use Rattle.ring_laws.specs.TransmitPrelude.{Advances, Asks, IsOwn, Looks, Segment, Sender, asking, descriptor_at, first_end}
+use Rattle.ring_laws.specs.TransmitPrelude.{Advances, Asks, IsOwn, Looks, Segment, Sender, asking, descriptor_at}
+use Rattle.ring_laws.specs.TransmitPrelude.{first_end}
 use Rattle.ring_laws.specs.TransmitPrelude.{is_sent, no_segment, segment_at, slot_at}
 use Rattle.nic_device.proofs.{Cases.poked_cases, DmaArena.Bus.small_of_lent}
 use Rattle.pmd_tx.specs.Sending.{advanced, asked, looked}

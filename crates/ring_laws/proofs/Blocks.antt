@@ -5,7 +5,8 @@ use Rattle.std.specs.Prelude.{[], ◌==◌, ◌∷◌, IsTrue, List, is_some, sl
 use Rattle.std.{proofs.Common.subst, proofs.Common.take, proofs.Common.true, proofs.Common.ℕ}
 use Rattle.std.{proofs.lemmas.List.get_or-take, proofs.lemmas.List.length-take-le, specs.List.list_any}
 use Rattle.history_laws.specs.Prelude.{AreApart, IsWhole, LiesIn, Memory, has_block, is_lent, read_at, write_at}
-use Rattle.ring_laws.specs.TransmitPrelude.{EachRingBlock, Layout, Segment, Sender, descriptor_at, has_lent, is_ring_block}
+use Rattle.ring_laws.specs.TransmitPrelude.{EachRingBlock, Layout, Segment, Sender, descriptor_at, has_lent}
+use Rattle.ring_laws.specs.TransmitPrelude.{is_ring_block}
 use Rattle.ring_laws.specs.TransmitPrelude.{no_segment, segment_at, slot_at}
 use Rattle.nic_device.proofs.DmaArena.Bus.{SameLent-write_at, read_at-write_at_apart, read_at-write_at_same}
 use Rattle.nic_device.proofs.{DmaArena.Blocks.is_lent_in, DmaArena.Inside.reads_its_block}

@@ -7,7 +7,8 @@ use Rattle.std.proofs.{lemmas.Bool.cases_lt, lemmas.Bool.lt-ltb, lemmas.Bool.Dec
 use Rattle.history_laws.specs.Prelude.{AreApart, Block, LiesIn, Memory, Ring, State, bytes_in, ends_packet, first_half}
 use Rattle.history_laws.specs.Prelude.{has_block, is_done, is_outside, mode_in, read_at, second_half}
 use Rattle.ring_laws.specs.ReceivePrelude.{EachRingBlock, Layout, Lent, Receive, Stage, Told, block_at, descriptor_at}
-use Rattle.ring_laws.specs.ReceivePrelude.{extended, fresh_of, is_ring_block, names, posts, reach, slot_at, took, wrapped}
+use Rattle.ring_laws.specs.ReceivePrelude.{extended, fresh_of, is_ring_block, names, posts, reach, slot_at, took}
+use Rattle.ring_laws.specs.ReceivePrelude.{wrapped}
 use Rattle.nic_device.proofs.DmaArena.Inside.{reads_its_block}
 use Rattle.pmd_rx.proofs.PmdSeam.Rings.{each_slot_block, ring_block_sides, slot_lies}
 use Rattle.pmd_rx.{proofs.PmdSeam.Places.wrapped_below, specs.Receive.consumed}

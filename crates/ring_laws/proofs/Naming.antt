@@ -8,7 +8,8 @@ use Rattle.history_laws.specs.Prelude.{AreApart, Done, GcrExt, IsWhole, Memory, 
 use Rattle.history_laws.specs.Prelude.{Registers, State, after, after_write, first_half, gives, is_done, is_lent}
 use Rattle.history_laws.specs.Prelude.{mode_in, named_written, place, read_at, receive_queue_of, reply_to, second_half}
 use Rattle.history_laws.specs.Prelude.{step_of, write_at}
-use Rattle.ring_laws.specs.ReceivePrelude.{Kept, Layout, Lent, Looks, MovesNext, NamesNext, Packet, Receive, Stage, Told}
+use Rattle.ring_laws.specs.ReceivePrelude.{Kept, Layout, Lent, Looks, MovesNext, NamesNext, Packet, Receive, Stage}
+use Rattle.ring_laws.specs.ReceivePrelude.{Told}
 use Rattle.ring_laws.specs.ReceivePrelude.{block_at, descriptor_at, drive, ended_of, extended, fresh_of, is_ring_block}
 use Rattle.ring_laws.specs.ReceivePrelude.{kept_of, names, next_stage, posts, reach, records_of, slot_at, vacant}
 use Rattle.nic_device.proofs.DmaArena.Bus.{SameLent-write_at, read_at-write_at_apart, read_at-write_at_same}

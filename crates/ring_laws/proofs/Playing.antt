@@ -5,20 +5,25 @@ use Rattle.std.proofs.{Common.subst, Common.sym, Common.true, Common.ℕ, lemmas
 use Rattle.std.specs.Prelude.{is_some, slice_index_or}
 use Rattle.history_laws.specs.Prelude.{Block, Event, IsEvent, LeavesQueues, Memory, Outcome, State, TransmitQueue, Tx}
 use Rattle.history_laws.specs.Prelude.{after, read_at, reply_to, step_of, transmit_queue_of}
-use Rattle.ring_laws.specs.TransmitPrelude.{Accepts, Advances, Asks, EachRingBlock, Elsewhere, IsOwn, Kept, Lends, Looks}
-use Rattle.ring_laws.specs.TransmitPrelude.{MayAccept, Move, Outgoing, Reaps, Segment, Sender, asking, descriptor_at, moved}
+use Rattle.ring_laws.specs.TransmitPrelude.{Accepts, Advances, Asks, EachRingBlock, Elsewhere, IsOwn, Kept, Lends}
+use Rattle.ring_laws.specs.TransmitPrelude.{Looks}
+use Rattle.ring_laws.specs.TransmitPrelude.{MayAccept, Move, Outgoing, Reaps, Segment, Sender, asking, descriptor_at}
+use Rattle.ring_laws.specs.TransmitPrelude.{moved}
 use Rattle.ring_laws.specs.TransmitPrelude.{no_segment, segment_at, segments_of, slot_at}
 use Rattle.nic_device.proofs.{Cases.lent_cases, Cases.taken_cases, DmaArena.Bus.get-remove_other, DmaArena.Bus.of_some}
-use Rattle.pmd_tx.{proofs.PmdSeam.Rings.ring_block_apart, specs.Sending.MayLend, specs.Sending.is_healthy, specs.Sending.reaped}
+use Rattle.pmd_tx.{proofs.PmdSeam.Rings.ring_block_apart, specs.Sending.MayLend, specs.Sending.is_healthy}
+use Rattle.pmd_tx.{specs.Sending.reaped}
 use Rattle.history_laws.proofs.{Leaving.queues_left, Lent.anew_is_done, Lent.poked_is, Lent.taken_is, Steady.up_kept}
 use Rattle.history_laws.proofs.DeviceLaws.Standing.{memory_rest}
 use Rattle.ring_laws.proofs.Advancing.{advance-stays-up, advance_one, ask_one, look, look_one, written_tail}
 use Rattle.ring_laws.proofs.Blocks.{descriptor-later, later-layout, ready-same, slot-even, slot-later, slot-lent}
 use Rattle.ring_laws.proofs.Packets.{count-accepted, counted-lent, early-accepted, known-accepted, sends-accepted}
 use Rattle.ring_laws.proofs.Sparing.{After, Keeps, based-after, never-shuts, spared_did, spares-keeps}
-use Rattle.ring_laws.specs.Agreeing.{Agrees, AgreesAt, IsBased, IsCounted, IsLayout, IsReady, IsSetUp, SendsInOrder, Shows}
+use Rattle.ring_laws.specs.Agreeing.{Agrees, AgreesAt, IsBased, IsCounted, IsLayout, IsReady, IsSetUp, SendsInOrder}
+use Rattle.ring_laws.specs.Agreeing.{Shows}
 use Rattle.ring_laws.proofs.{Blocks.slot-same, TransmitLent.first_at, Packets.shows-lent}
-use Rattle.ring_laws.specs.{TransmitHealthy.LendsAnew, TransmitHealthy.OwnRepliesAreHealthy, Laws.MovesKeep, Sent.sent_by}
+use Rattle.ring_laws.specs.{TransmitHealthy.LendsAnew, TransmitHealthy.OwnRepliesAreHealthy, Laws.MovesKeep}
+use Rattle.ring_laws.specs.{Sent.sent_by}
 use Rattle.ring_laws.specs.{Turns.MayMove, TransmitUp.IsUp, TransmitUp.UpStays}
 use Rattle.std.specs.FinMap as fin
 use Rattle.nic_device.specs.declared.event.Event.TheVariants as event

@@ -7,7 +7,8 @@ use Rattle.std.{proofs.lemmas.List.Folds.list_any-append, specs.List.list_any}
 use Rattle.history_laws.specs.Prelude.{Block, Blocks, Event, Memory, Port, Reply, State, after, ends_packet, is_done}
 use Rattle.history_laws.specs.Prelude.{reply_to, second_half}
 use Rattle.ring_laws.specs.ReceivePrelude.{IsOwn, Layout, LendsAnew, Lent, Looks, NamesNext, PeeksNext, Receive, Stage}
-use Rattle.ring_laws.specs.ReceivePrelude.{Takes, Told, block_at, drive, fresh_of, is_part, names, next_stage, posts, reach}
+use Rattle.ring_laws.specs.ReceivePrelude.{Takes, Told, block_at, drive, fresh_of, is_part, names, next_stage, posts}
+use Rattle.ring_laws.specs.ReceivePrelude.{reach}
 use Rattle.ring_laws.specs.ReceivePrelude.{took}
 use Rattle.nic_device.proofs.Cases.{either_way}
 use Rattle.pmd_rx.specs.Receive.{CanLend, HasLent, LendsNext, MayLend, TakesNext, lent_one, looked, moved, parts_first}

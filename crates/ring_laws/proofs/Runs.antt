@@ -6,7 +6,8 @@ use Rattle.std.proofs.lemmas.List.{append-nil, drop_all, get_or-drop, length-app
 use Rattle.std.specs.Prelude.{◌==◌, IsTrue, slice_index_or}
 use Rattle.history_laws.specs.Prelude.{Block, Blocks, Entry, Event, IsLegal, LeavesBlock, Reply, Rx, State, Tx, Watched}
 use Rattle.history_laws.specs.Prelude.{WritesOutside, Wrote, after, calls_of, leads_to, read_at, reply_to, staged_by}
-use Rattle.ring_laws.specs.TransmitPrelude.{Accepts, Advances, Asks, Elsewhere, Kept, Lends, Looks, Move, Reaps, Segment}
+use Rattle.ring_laws.specs.TransmitPrelude.{Accepts, Advances, Asks, Elsewhere, Kept, Lends, Looks, Move, Reaps}
+use Rattle.ring_laws.specs.TransmitPrelude.{Segment}
 use Rattle.ring_laws.specs.TransmitPrelude.{Sender, descriptor_at, first_end, has_lent, is_sent, moved, no_segment}
 use Rattle.ring_laws.specs.TransmitPrelude.{segment_at}
 use Rattle.pmd_tx.specs.Plays.{played_by}

@@ -5,19 +5,20 @@ use Rattle.std.proofs.lemmas.Bool.{both_ways, cases_Bool, cases_lt, eq-eqb}
 use Rattle.std.proofs.lemmas.List.{append-nil, drop_more, get_or-set_same, nil_from_length}
 use Rattle.std.specs.Prelude.{if◌then◌else◌, ◌==◌, IsFalse, IsTrue}
 use Rattle.history_laws.specs.Prelude.{Block, Event, Fetched, IsEvent, LeavesBlock, Memory, Outcome, State}
-use Rattle.history_laws.specs.Prelude.{TransmitQueue, Tx, WritesNoSetting, after, done_descriptor, sending_of}
+use Rattle.history_laws.specs.Prelude.{TransmitQueue, Tx, WritesNoSetting, after, done_descriptor}
 use Rattle.history_laws.specs.Prelude.{staged_by, transmit_queue_of, write_at}
 use Rattle.ring_laws.specs.TransmitPrelude.{Kept, Layout, Move, Segment, Sender, asking, descriptor_at, has_lent, moved}
 use Rattle.ring_laws.specs.TransmitPrelude.{no_segment, segment_at, side_of, slot_at}
 use Rattle.nic_device.{proofs.Steps.keeps_sound, specs.Transmit.with_frame, specs.TxRing.Fetch.Outcome as Fetch}
-use Rattle.history_laws.proofs.{Deeds.side_did, Leaving.named-same, Leaving.transmit_left, Leaving.transmit_of, Steady.resting_same}
+use Rattle.history_laws.proofs.{Deeds.side_did, Leaving.named-same, Leaving.transmit_left, Leaving.transmit_of}
+use Rattle.history_laws.proofs.{Steady.resting_same}
 use Rattle.history_laws.proofs.DeviceLaws.{KeptSettings.settings_stand, Standing.stays_within}
 use Rattle.history_laws.specs.Left.{Deed, Nothing, Rested, Rests, SendsNone, Shut, Shuts, Switched, Takes, Took}
 use Rattle.history_laws.specs.{Left.fetch_on, Sides.IsTried, Sides.Side, Sides.as_wanted}
 use Rattle.ring_laws.proofs.Fetching.{fetch-segment, head_is, lent, more, segment_fetched, segment_outcome}
 use Rattle.ring_laws.specs.Agreeing.{Agrees, AgreesAt, ArePackets, IsBased, IsCounted, IsCutOff, IsInTurn, IsSetUp}
 use Rattle.ring_laws.proofs.{Blocks.shows-same, Blocks.slot-next, Counting.added-by, Fetching.shows-fetched}
-use Rattle.ring_laws.proofs.{Fetching.slots, Fetching.small, Fetching.to_send, Packets.frame_left}
+use Rattle.ring_laws.proofs.{Fetching.slots, Fetching.small, Packets.frame_left}
 use Rattle.ring_laws.proofs.{Packets.some_left}
 use Rattle.ring_laws.specs.{Agreeing.SendsInOrder, Agreeing.frame_ended, Agreeing.frames_from}
 use Rattle.ring_laws.specs.{Agreeing.staged_behind, Laws.SparingEventsKeep, Laws.StepsOfQueueKeep}
@@ -85,9 +86,7 @@ module _ {s : State} {queue : ℕ} {sent : List (List ℕ)} {v : Sender} {f : �
     turn = in_turn h.sends
 
     fetches : fetch_on s queue ≡ segment_outcome s.memory side.ring staged x
-    fetches =
-        fetch-segment s.memory side.ring (sending_of s.registers side) staged x
-        (to_send h posted staged turn.packets)
+    fetches = fetch-segment h posted staged turn.packets
 
   -- it meets no fault
   pub never-shuts : (e : Event Block) → Shuts Tx queue s e → ⊥

@@ -5,14 +5,17 @@ use Rattle.std.proofs.lemmas.Bool.{eqb-true, or_cases, or_from, or_left, or_righ
 use Rattle.std.proofs.lemmas.List.{get_or-append-add, length-append, take-append-le}
 use Rattle.std.specs.{List.list_any, Prelude.◌==◌, Prelude.IsTrue, Prelude.slice_index_or}
 use Rattle.history_laws.specs.Prelude.{Block, Blocks, Event, Memory, Reply, State, after, has_block, reply_to}
-use Rattle.ring_laws.specs.TransmitPrelude.{Accepts, Advances, Asks, Elsewhere, IsOwn, Kept, Lends, Looks, MayAccept, Move}
-use Rattle.ring_laws.specs.TransmitPrelude.{Outgoing, Reaps, Segment, Sender, accepted_by, has_lent, is_ring_block, moved}
+use Rattle.ring_laws.specs.TransmitPrelude.{Accepts, Advances, Asks, Elsewhere, IsOwn, Kept, Lends, Looks, MayAccept}
+use Rattle.ring_laws.specs.TransmitPrelude.{Move}
+use Rattle.ring_laws.specs.TransmitPrelude.{Outgoing, Reaps, Segment, Sender, accepted_by, has_lent, is_ring_block}
+use Rattle.ring_laws.specs.TransmitPrelude.{moved}
 use Rattle.ring_laws.specs.TransmitPrelude.{no_segment, segment_at, segments_of}
 use Rattle.pmd_tx.specs.Sending.{MayLend, blocks_of, lent_more, reaped}
 use Rattle.history_laws.proofs.Lent.{KeepsTaken, lend_known, only_lent_stays, or_swap, still_known, take_known}
 use Rattle.history_laws.specs.Lent.{LendsNone, LendsOwn, OnlyLent, either}
 use Rattle.ring_laws.proofs.Packets.{length-segments, some-parts}
-use Rattle.ring_laws.specs.{Alone.LendsOneOf, TransmitHealthy.LendsAnew, TransmitLent.OwnLendsAreKnown, TransmitLent.SparesNumbers}
+use Rattle.ring_laws.specs.{Alone.LendsOneOf, TransmitHealthy.LendsAnew, TransmitLent.OwnLendsAreKnown}
+use Rattle.ring_laws.specs.{TransmitLent.SparesNumbers}
 use Rattle.nic_device.specs.declared.event.Reply.TheVariants as reply
 use Rattle.nic_device.specs.declared.event.Event.TheVariants as event
 

@@ -24,7 +24,8 @@ use Rattle.history_laws.proofs.DeviceLaws.{Delivered.told-lt, KeptSettings.setti
 use Rattle.history_laws.proofs.DeviceLaws.{Standing.stays_within, StandingQueues.switching_rest}
 use Rattle.history_laws.specs.Left.{Deed, Did, IsLeft, Rested, Rests, Shuts, Takes, Took, fill_on}
 use Rattle.history_laws.specs.{Segments.piece_in, Sides.IsTried, Sides.receive_side, Sides.side_of}
-use Rattle.ring_laws.proofs.Kept.{bytes_inside, each_map, each_of, posted_block, slot_below}
+use Rattle.ring_laws.proofs.Kept.{each_map, each_of, posted_block, slot_below}
+use Rattle.ring_laws.proofs.Ring.{bytes_inside}
 use Rattle.ring_laws.proofs.Receiving.{buffer_is, filled_holds, head_is, no_fault, room_left}
 use Rattle.ring_laws.specs.Steps.{Each, EnableStepKeeps, EntryKeeps, IsMetBy}
 use Rattle.ring_laws.specs.ReceiveUp.{EnableStepChangesNothing, EntryStaysUp, IsUp, LeavingStaysUp, OwnEventStaysUp}

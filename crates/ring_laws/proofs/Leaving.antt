@@ -1,23 +1,23 @@
 -- Where the agreement begins, and events that leave the receive side, looks and lends of the driver's own that keep it.
-use Rattle.std.proofs.Common.{[], ◌%◌, ◌&&◌, ◌*◌, ◌++◌, ◌+◌, ◌/◌, ◌<◌, ◌∙◌, ◌∷◌, ◌≡◌, ◌≤◌, Bool, List, ap, arith, cond}
+use Rattle.std.proofs.Common.{[], ◌&&◌, ◌++◌, ◌+◌, ◌<◌, ◌∙◌, ◌∷◌, ◌≡◌, ◌≤◌, Bool, List, ap, arith, cond}
 use Rattle.std.proofs.Common.{false, inl, inr, length, nat_lt, refl, subst, sym, true, ℕ}
 use Rattle.std.proofs.lemmas.Bool.{and_parts, both_ways, cases_lt, eqb-true}
 use Rattle.std.specs.Prelude.{if◌then◌else◌, ◌==◌}
 use Rattle.history_laws.specs.Prelude.{Block, Bytes, Event, Memory, Outcome, ReceiveQueue, Reply, Ring, State, after}
 use Rattle.history_laws.specs.Prelude.{buffer_size_of, bytes_in, descriptor_type_of, ends_packet, gives, has_block}
-use Rattle.history_laws.specs.Prelude.{is_done, is_lent, read_at, receive_queue_of, reply_to, second_half, step_of}
+use Rattle.history_laws.specs.Prelude.{is_done, read_at, receive_queue_of, reply_to, second_half, step_of}
 use Rattle.ring_laws.specs.ReceivePrelude.{Layout, Lent, Looks, PeeksNext, Receive, Stage, Takes, Told, block_at}
 use Rattle.ring_laws.specs.ReceivePrelude.{descriptor_at, drive, extended, is_part, no_packet, reach, slot_at}
-use Rattle.nic_device.proofs.{Cases.lent_cases, DmaArena.Blocks.is_lent_in, DmaArena.Bus.get-insert_other}
+use Rattle.nic_device.proofs.{Cases.lent_cases, DmaArena.Bus.get-insert_other}
 use Rattle.nic_device.proofs.{DmaArena.Bus.get-insert_same}
-use Rattle.pmd_rx.proofs.PmdSeam.Rings.{each_slot_block, ring_block_apart, slot_fits, slot_place}
+use Rattle.pmd_rx.proofs.PmdSeam.Rings.{ring_block_apart}
 use Rattle.pmd_rx.specs.Receive.{CanLend, LendsNext, MayLend, lent_one, saw, told_by}
 use Rattle.pmd_rx.specs.declared.ring.Stage.TheVariants.{Owes}
-use Rattle.ring_laws.proofs.Kept.{aligned, first_place, named_kept, posted_below, posted_in, slot_below, slots_kept}
+use Rattle.ring_laws.proofs.Kept.{first_place, named_kept, posted_below, posted_in, slot_below, slots_stay}
 use Rattle.ring_laws.proofs.Parts.{end_last, end_more, none_held, open_more, order_same, seen_more}
 use Rattle.ring_laws.specs.Joint.{Agree, AreOpen, HasSlots, Holds, InOrder, IsAt, IsNamed, IsRing, IsSetUp, Saw}
 use Rattle.ring_laws.specs.Steps.{IfFresh, Leaves, LeavesButOn, LeavingKeeps, LookTellsSlot, SwitchingKeeps}
-use Rattle.ring_laws.proofs.Kept.{stage_kept}
+use Rattle.ring_laws.proofs.{Kept.stage_stays, Ring.same_stays, Ring.slot_looked}
 use Rattle.ring_laws.specs.{Joint.StageHolds, Pieces.Piece, Pieces.piece_at, Starting.StartAgrees, Steps.TellsSlot}
 use Rattle.nic_device.specs.declared.event.Event.TheVariants as event
 use Rattle.std.specs.FinMap as map
@@ -39,12 +39,13 @@ set_up_kept q r l filled ring control h = record {
 switching_holds : (queue : ℕ) (s t : State) (out : List Piece) (v : Receive) (gone here : List Piece)
     → LeavesButOn queue v s t → Holds queue s out v gone here → Holds queue t out v gone here
 switching_holds queue s t out v gone here l h =
+    let stays = same_stays v.layout.ring v.layout.size s.memory t.memory l.blocks.ring in
     assumption (
       named_kept s t queue v.layout l.mode l.vfs h.named,
       set_up_kept (receive_queue_of s.registers queue) (receive_queue_of t.registers queue) v.layout (length here)
           l.ring l.control h.side,
-      slots_kept (reach v) s.memory t.memory h.ring l.blocks.ring here l.blocks.blocks h.slots,
-      stage_kept (reach v) s.memory t.memory h.ring l.blocks.ring v.stage l.blocks.fresh h.stage,
+      slots_stay h.ring stays here (λ k i. tt) l.blocks.blocks h.slots,
+      stage_stays h.ring stays v.stage l.blocks.fresh h.stage,
     )
 
 pub switching_keeps : SwitchingKeeps
@@ -61,25 +62,11 @@ leaving_keeps queue s t out v l (gone, here, h) = (gone, here, leaving_holds que
 
 -- What a driver reads of its next slot, and what it then knows.
 
--- the descriptor of each slot up to the vacant one is lent
-pub descriptor_lent : (m : Memory) (l : Layout) (here : List Piece) → IsRing l → HasSlots m l here → (k : ℕ)
-    → k ≤ length l.blocks → is_lent m (descriptor_at l k) 16 ≡ true
-descriptor_lent m l here ring h k within =
-    let slot = slot_at l k in
-    is_lent_in m (descriptor_at l k) 16 (l.ring + slot / 128) (16 * (slot % 128))
-    (each_slot_block l.ring l.size (λ b. has_block m b ≡ true) h.there slot (slot_below l k ring within))
-    (slot_place l.ring slot) (slot_fits slot)
-
 -- a look at a slot gives its descriptor, and changes nothing
 pub looked_is : (s : State) (l : Layout) (here : List Piece) (k : ℕ) → IsRing l → HasSlots s.memory l here
     → k ≤ length l.blocks
     → step_of s (event.Peek16 (descriptor_at l k)) ≡ gives (Bytes (read_at s.memory (descriptor_at l k) 16)) s
-unfolding step_of
-looked_is s l here k ring h within =
-    let straight : (descriptor_at l k % 16 == 0) ≡ true = aligned l.ring (slot_at l k) in
-    let lent : is_lent s.memory (descriptor_at l k) 16 ≡ true =
-    descriptor_lent s.memory l here ring h k within in
-    rw (straight, lent) refl
+looked_is s l here k ring h within = slot_looked l.ring l.size (slot_at l k) (slot_below l k ring within) s h.there
 
 pub tells_bytes : (m : Memory) (l : Layout) (here : List Piece) (k : ℕ) → HasSlots m l here → k < length l.blocks
     → TellsSlot here k (read_at m (descriptor_at l k) 16)

@@ -3,7 +3,7 @@ use Rattle.std.proofs.Common.{if◌then◌else◌, ◌%◌, ◌*◌, ◌++◌, �
 use Rattle.std.proofs.Common.{None, Ok, Some, ap, arith, drop, false, inl, inr, length, not, refl, subst, sym, true, ℕ}
 use Rattle.std.proofs.lemmas.Bool.{and_cases, both_ways, cases_Bool, cases_eq, cases_lt, eqb-false, lt-ltb, or_right}
 use Rattle.std.proofs.{Math.Nat.mod-eq_of_lt, lemmas.List.append-nil, lemmas.List.length-append}
-use Rattle.std.specs.Prelude.{◌==◌, IsTrue}
+use Rattle.std.specs.Prelude.{◌==◌, IsTrue, ⊤}
 use Rattle.history_laws.specs.Prelude.{Fetched, Memory, Ring, State, TransmitQueue, done_descriptor, first_half}
 use Rattle.history_laws.specs.Prelude.{has_block, is_empty, is_lent, is_outside, read_at, second_half, sending_of}
 use Rattle.history_laws.specs.Prelude.{transmit_queue_of, write_at}
@@ -18,7 +18,8 @@ use Rattle.nic_device.specs.{DmaRing.declared.transmit.Command.Command, TxRing.F
 use Rattle.nic_device.specs.{TxRing.Fetch.fetch_of, TxRing.Frame.frame_of, TxRing.Laws.HasData, TxRing.Laws.command_at}
 use Rattle.nic_device.specs.{TxRing.Report.head_address, TxRing.Report.new_head, TxRing.declared.tx.Tx.Tx}
 use Rattle.pmd_tx.proofs.PmdSeam.Rings.{each_first}
-use Rattle.ring_laws.proofs.Blocks.{descriptor-written, slot-below, slot-lent}
+use Rattle.ring_laws.proofs.Blocks.{ready_stays, slot-apart, slot-below, slot-lent}
+use Rattle.ring_laws.proofs.Ring.{Stays, written_here, written_stays}
 use Rattle.ring_laws.specs.Agreeing.{AgreesAt, ArePackets, IsDone, IsReady, Shows, staged_behind}
 
 -- A posted slot that is fetched: its segment is staged, and at the end of a packet that goes out, and the descriptor is
@@ -141,7 +142,7 @@ module _ {s : State} {queue : ℕ} {sent : List (List ℕ)} {v : Sender} {f : �
     ready = h.shows.ready f lent
 
     slot_lent : is_lent s.memory (head_address side.ring) 16 ≡ true
-    slot_lent = rw head_is (slot-lent v h.based.layout s.memory f (omega (arith, small)) h.shows.ring)
+    slot_lent = rw head_is (slot-lent v.layout h.based.layout s.memory f (omega (arith, small)) h.shows.ring)
 
     asks : descriptor_of s.memory side.ring ≡ asking x
     asks = rw head_is (h.shows.waits f (omega arith) (omega (arith, posted, h.counted.posted_poked)))
@@ -204,39 +205,41 @@ module _ {s : State} {queue : ℕ} {sent : List (List ℕ)} {v : Sender} {f : �
     abbrev new : Memory
     new = write_at s.memory (descriptor_at v.layout f) done
 
-    record IsFetched (n : Memory) : Type 0 where
-      pub here : x.part.last ≡ true → IsDone n (descriptor_at v.layout f) x
-      pub other :
-          (j : ℕ) → j < v.layout.size → j ≢ f
-          → read_at n (descriptor_at v.layout j) 16 ≡ read_at s.memory (descriptor_at v.layout j) 16
-      pub lent : (b : ℕ) → has_block s.memory b ≡ true → has_block n b ≡ true
-      pub ready :
-          (y : Segment) → IsReady s.memory v.layout.ring v.layout.size y → IsReady n v.layout.ring v.layout.size y
+    here : slot_at v.layout f < v.layout.size
+    here = slot-below v.layout h.based.layout f (omega (arith, small))
 
-    fetched_by : (last : Bool) → x.part.last ≡ last → IsFetched (if last then new else s.memory)
-    fetched_by true is =
-        let w = descriptor-written s.memory h.based.sound.blocks.whole v h.based.layout h.shows.ring f small done
-        (length-done (asking x)) in
-        record { here = λ end. w.here; other = w.other; lent = w.lent; ready = w.ready }
-    fetched_by false is = record {
-      here = λ end. absurd (both_ways x.part.last is end);
-      other = λ j below ne. refl;
-      lent = λ b there. there;
-      ready = λ y can. can;
-    }
+    stays : (last : Bool) → Stays v.layout.ring v.layout.size s.memory (if last then new else s.memory)
+        (λ j. j ≢ slot_at v.layout f) (λ b. ⊤)
+    stays true =
+        written_stays v.layout.ring v.layout.size (slot_at v.layout f) here s.memory done (length-done (asking x))
+    stays false =
+        record { has = λ k i. refl; slot = λ j i ne. refl; bytes = λ b len out is few. refl; there = λ b is. refl }
+
+    now_done : (last : Bool) → last ≡ true
+        → IsDone (if last then new else s.memory) (descriptor_at v.layout f) x
+    now_done true is =
+        written_here v.layout.ring v.layout.size (slot_at v.layout f) here s.memory done (length-done (asking x))
+        h.based.sound.blocks.whole h.shows.ring
+    now_done false is = cc
 
     pub shows-fetched : Shows (if x.part.last then new else s.memory) v (f + 1)
     shows-fetched =
-        let n = fetched_by x.part.last refl in
+        let t = stays x.part.last in
         let c = h.counted in
+        let other : (k : ℕ) → k < v.layout.size → k ≢ f
+        → read_at (if x.part.last then new else s.memory) (descriptor_at v.layout k) 16
+        ≡ read_at s.memory (descriptor_at v.layout k) 16 =
+        λ k below ne. t.slot (slot_at v.layout k) (slot-below v.layout h.based.layout k (omega (arith, below)))
+        (slot-apart v.layout h.based.layout k f below small ne) in
         record {
-          ring = λ k i. n.lent (v.layout.ring + k) (h.shows.ring k i);
-          ready = λ k i. n.ready (segment_at v k) (h.shows.ready k i);
+          ring = λ k i. t.has k i ∙ h.shows.ring k i;
+          ready = λ k i. ready_stays t (segment_at v k) tt (h.shows.ready k i);
           done = λ k i end. elim (cases_eq k f) [
-            | inl e ↦ rw e (n.here (subst (λ (j : ℕ). (segment_at v j).part.last ≡ true) e end))
-            | inr ne ↦ n.other k (omega (arith, small)) ne ∙ h.shows.done k (omega (arith, ne)) end
+            | inl e ↦
+                rw e (now_done x.part.last (subst (λ (j : ℕ). (segment_at v j).part.last ≡ true) e end))
+            | inr ne ↦ other k (omega (arith, small)) ne ∙ h.shows.done k (omega (arith, ne)) end
           ];
           waits = λ k i j.
-              n.other k (omega (arith, c.poked_lent, c.lent_known, c.room)) (omega arith)
+              other k (omega (arith, c.poked_lent, c.lent_known, c.room)) (omega arith)
               ∙ h.shows.waits k (omega arith) j;
         }

@@ -1,11 +1,11 @@
 -- Each move of the driver's keeps what it and the device agree on, and its replies are those of a healthy queue.
-use Rattle.std.proofs.Common.{[], ◌%◌, ◌++◌, ◌+◌, ◌-◌, ◌<◌, ◌∙◌, ◌∷◌, ◌≡◌, ◌≤◌, List, ap, arith, drop, length, refl}
+use Rattle.std.proofs.Common.{[], ◌++◌, ◌+◌, ◌-◌, ◌<◌, ◌∙◌, ◌∷◌, ◌≡◌, ◌≤◌, List, ap, arith, drop, length, refl}
 use Rattle.std.proofs.lemmas.List.{append-nil, drop-drop, get_or-drop, length-drop}
-use Rattle.std.proofs.{Common.subst, Common.sym, Common.true, Common.ℕ, lemmas.Bool.eq-eqb}
-use Rattle.std.specs.Prelude.{is_some, slice_index_or}
+use Rattle.std.proofs.{Common.subst, Common.sym, Common.true, Common.ℕ}
+use Rattle.std.specs.Prelude.{slice_index_or, ⊤}
 use Rattle.history_laws.specs.Prelude.{Block, Event, IsEvent, LeavesQueues, Memory, Outcome, State, TransmitQueue, Tx}
 use Rattle.history_laws.specs.Prelude.{after, read_at, reply_to, step_of, transmit_queue_of}
-use Rattle.ring_laws.specs.TransmitPrelude.{Accepts, Advances, Asks, EachRingBlock, Elsewhere, IsOwn, Kept, Lends}
+use Rattle.ring_laws.specs.TransmitPrelude.{Accepts, Advances, Asks, Elsewhere, IsOwn, Kept, Lends}
 use Rattle.ring_laws.specs.TransmitPrelude.{Looks}
 use Rattle.ring_laws.specs.TransmitPrelude.{MayAccept, Move, Outgoing, Reaps, Segment, Sender, asking, descriptor_at}
 use Rattle.ring_laws.specs.TransmitPrelude.{moved}
@@ -13,15 +13,16 @@ use Rattle.ring_laws.specs.TransmitPrelude.{no_segment, segment_at, segments_of,
 use Rattle.nic_device.proofs.{Cases.lent_cases, Cases.taken_cases, DmaArena.Bus.get-remove_other, DmaArena.Bus.of_some}
 use Rattle.pmd_tx.{proofs.PmdSeam.Rings.ring_block_apart, specs.Sending.MayLend, specs.Sending.is_healthy}
 use Rattle.pmd_tx.{specs.Sending.reaped}
-use Rattle.history_laws.proofs.{Leaving.queues_left, Lent.anew_is_done, Lent.poked_is, Lent.taken_is, Steady.up_kept}
+use Rattle.history_laws.proofs.{Leaving.queues_left, Lent.anew_is_done, Lent.taken_is, Steady.up_kept}
 use Rattle.history_laws.proofs.DeviceLaws.Standing.{memory_rest}
 use Rattle.ring_laws.proofs.Advancing.{advance-stays-up, advance_one, ask_one, look, look_one, written_tail}
-use Rattle.ring_laws.proofs.Blocks.{descriptor-later, later-layout, ready-same, slot-even, slot-later, slot-lent}
+use Rattle.ring_laws.proofs.Blocks.{descriptor-later, later-layout, ready_stays, slot-below, slot-later}
+use Rattle.ring_laws.proofs.Ring.{Stays, same_stays, slot_poked}
 use Rattle.ring_laws.proofs.Packets.{count-accepted, counted-lent, early-accepted, known-accepted, sends-accepted}
 use Rattle.ring_laws.proofs.Sparing.{After, Keeps, based-after, never-shuts, spared_did, spares-keeps}
 use Rattle.ring_laws.specs.Agreeing.{Agrees, AgreesAt, IsBased, IsCounted, IsLayout, IsReady, IsSetUp, SendsInOrder}
 use Rattle.ring_laws.specs.Agreeing.{Shows}
-use Rattle.ring_laws.proofs.{Blocks.slot-same, TransmitLent.first_at, Packets.shows-lent}
+use Rattle.ring_laws.proofs.{TransmitLent.first_at, Packets.shows-lent}
 use Rattle.ring_laws.specs.{TransmitHealthy.LendsAnew, TransmitHealthy.OwnRepliesAreHealthy, Laws.MovesKeep}
 use Rattle.ring_laws.specs.{Sent.sent_by}
 use Rattle.ring_laws.specs.{Turns.MayMove, TransmitUp.IsUp, TransmitUp.UpStays}
@@ -83,28 +84,29 @@ module _ (v : Sender) (g : ℕ) (l : IsLayout v.layout) (c : IsCounted v (g + 1)
     abbrev pub without : Memory
     without = fin.remove m (segment_at v 0).block
 
+    stays : Stays v.layout.ring v.layout.size m without (λ j. ⊤) (λ b. fin.get without b ≡ fin.get m b)
+    stays =
+        let x = segment_at v 0 in
+        same_stays v.layout.ring v.layout.size m without (λ k below.
+        let other = ring_block_apart v.layout.ring v.layout.size x.block (h.ready 0 oldest).apart k below in
+        get-remove_other m x.block (v.layout.ring + k) (λ e. other (sym e)))
+
     other_block : (k : ℕ) → k + 1 < v.lent → IsReady without v.layout.ring v.layout.size (segment_at v (k + 1))
     other_block k there =
-        ready-same m without v.layout.ring v.layout.size (segment_at v (k + 1))
+        ready_stays stays (segment_at v (k + 1))
         (get-remove_other m (segment_at v 0).block (segment_at v (k + 1)).block
         (c.apart (k + 1) 0 there oldest (omega arith)))
         (h.ready (k + 1) there)
-
-    ring_stays : EachRingBlock v.layout.ring v.layout.size (λ n. fin.get without n ≡ fin.get m n)
-    ring_stays k below =
-        let x = segment_at v 0 in
-        let other = ring_block_apart v.layout.ring v.layout.size x.block (h.ready 0 oldest).apart k below in
-        get-remove_other m x.block (v.layout.ring + k) (λ e. other (sym e))
 
     slot_stays : (k : ℕ) → k < v.layout.size
         → read_at without (descriptor_at (reaped v).layout k) 16 ≡ read_at m (descriptor_at v.layout (k + 1)) 16
     slot_stays k h =
         ap (λ (a : ℕ). read_at without a 16) (descriptor-later v.layout l k h)
-        ∙ slot-same v l m without ring_stays (k + 1) (omega (arith, h))
+        ∙ stays.slot (slot_at v.layout (k + 1)) (slot-below v.layout l (k + 1) (omega (arith, h))) tt
 
     pub shows-reaped : Shows without (reaped v) g
     shows-reaped = record {
-      ring = λ k below. ap is_some (ring_stays k below) ∙ h.ring k below;
+      ring = λ k below. stays.has k below ∙ h.ring k below;
       ready = λ k i. rw (behind k) (other_block k (omega arith));
       done = λ k i end. rw (behind k)
           (slot_stays k (omega (arith, posted))
@@ -252,9 +254,9 @@ module _ {s : State} {queue : ℕ} {sent : List (List ℕ)} {v : Sender} {f : �
       let at = descriptor_at v.layout v.poked in
       by_outcome Asks (event.Poke16 a bytes) (event.Poke16 at (asking (segment_at v v.poked))) _
       (λ k. event.Poke16 (own.1 k) (own.2 k))
-      (poked_is s at (asking (segment_at v v.poked)) (eq-eqb (at % 16) 0 (slot-even v h.based.layout v.poked))
-      (slot-lent v h.based.layout s.memory v.poked (omega (arith, h.counted.room, h.counted.lent_known, own.0))
-      h.shows.ring)) refl
+      (slot_poked v.layout.ring v.layout.size (slot_at v.layout v.poked)
+      (slot-below v.layout h.based.layout v.poked (omega (arith, h.counted.room, h.counted.lent_known, own.0))) s
+      (asking (segment_at v v.poked)) h.shows.ring) refl
 
   reap_healthy : (n : ℕ) → IsOwn v Reaps (event.Take n) → Healthy Reaps (event.Take n)
   reap_healthy n own =

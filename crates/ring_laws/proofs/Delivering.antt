@@ -17,14 +17,14 @@ use Rattle.device_lock.proofs.Histories.{events_before, events_behind, leads-app
 use Rattle.device_lock.specs.{Alone.lends, Alone.lent_in, History.call_in, declared.entry.Call.Call}
 use Rattle.pmd_rx.specs.Plays.{AllOwn, after_call, played_by}
 use Rattle.history_laws.proofs.{Alone.alone_by_entries, Alone.histories_sound, Steady.not_again}
-use Rattle.history_laws.specs.Alone.{AllAlone}
+use Rattle.history_laws.specs.{Alone.AllAlone, Lent.LendsOneOf}
 use Rattle.ring_laws.proofs.Foreign.{entry_keeps, entry_stays_up, left_up, own_stays_up}
 use Rattle.ring_laws.specs.Delivered.{IsPrefixOf, delivered, packets_if_any, pieces_in, pieces_since}
 use Rattle.ring_laws.specs.Histories.{AllSpare, FindsNone, HandedIsPrefix, IsDriven, NoneIsAll, NoneIsAllBefore}
 use Rattle.ring_laws.specs.Histories.{NoneIsAllTaken, ShowsNone, Spares, SparesReceive, mark_of, marks_after}
 use Rattle.ring_laws.specs.Joint.{Agree, AreOpen, AreSeen, InOrder, IsAt, packets_had, still_held}
 use Rattle.ring_laws.specs.Pieces.{Piece, packet_told, packets_behind, packets_of, pieces}
-use Rattle.ring_laws.proofs.{Leaving.leaving_keeps, Leaving.look_tells, ReceiveLent.LendsMine, ReceiveLent.mine_driven}
+use Rattle.ring_laws.proofs.{Leaving.leaving_keeps, Leaving.look_tells, ReceiveLent.mine_driven}
 use Rattle.ring_laws.proofs.{Own.own_keeps, Parts.none_ended}
 use Rattle.ring_laws.specs.{Steps.Each, Steps.IsMetBy, Steps.OwnReportsSpare, ReceiveUp.IsUp}
 use Rattle.nic_device.specs.declared.event.Event.TheVariants as event
@@ -101,7 +101,7 @@ none_written queue s e no_step = refl
 lends_mine : (pass : ℕ) (mine : Blocks) (v : Receive) (own : ℕ) (e : Event Block) (r : Reply Block) → own ≡ pass
     → IsOwn v e
     → ((n : ℕ) → IsTrue (nat_lt n 65536 && ((own == pass) && lends e r n)) → IsTrue (mine n))
-    → LendsMine mine e r
+    → LendsOneOf mine e r
 lends_mine pass mine v own (event.Lend b) reply.Done same may all =
     all b.number (and_from _ _ (lt-ltb b.number 65536 may.may.low)
     (and_from _ _ (eq-eqb own pass same) (eq-eqb b.number b.number refl)))
@@ -132,7 +132,7 @@ module _ (w : Watched) (mine : Blocks) (s : State) (out : List Piece) (v : Recei
       (subst (λ r. Agree w.queue t more (drive v e.event r)) (sym legal)
       (own_keeps w.queue s out v e.event m.sound m.agree own))
       (own_stays_up w.queue s out v e.event m.sound m.agree own m.up)
-      (mine_driven mine v m.lent e.event e.reply own
+      (mine_driven v mine m.lent e.event e.reply own
       (lends_mine w.pass mine v e.pass e.event e.reply same own covers))
 
   -- one of another pass, or a step

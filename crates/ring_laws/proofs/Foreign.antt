@@ -1,7 +1,6 @@
 -- Events that aren't the driver's own: they keep the agreement, and a side up that is.
-use Rattle.std.proofs.Common.{[], ◌*◌, ◌++◌, ◌/◌, ◌<◌, ◌^◌, ◌||◌, ◌∙◌, ◌∷◌, ◌≡◌, ◌≢◌, ◌≤◌, ◌⊎◌, Bool, List, None, Ok}
-use Rattle.std.proofs.Common.{Option}
-use Rattle.std.proofs.Common.{Some, ap, arith, cond, false, inl, inr, length, refl, subst, sym, true, ℕ}
+use Rattle.std.proofs.Common.{[], ◌*◌, ◌++◌, ◌/◌, ◌<◌, ◌^◌, ◌||◌, ◌∙◌, ◌∷◌, ◌≡◌, ◌≢◌, ◌≤◌, ◌⊎◌, Bool, List, Ok}
+use Rattle.std.proofs.Common.{ap, arith, cond, false, inl, inr, length, refl, subst, sym, true, ℕ}
 use Rattle.std.proofs.lemmas.Bool.{both_ways, cases_eq, cases_lt, cond_both, eq-eqb, or_parts}
 use Rattle.std.proofs.lemmas.List.{append-nil}
 use Rattle.std.specs.{Bool.beq, Prelude.IsTrue, Prelude.nat_lt, Prelude.⊤}
@@ -10,7 +9,6 @@ use Rattle.history_laws.specs.Prelude.{LeavesBlock, LeavesBlocks}
 use Rattle.history_laws.specs.Prelude.{LeavesQueues, LeavesRegisters, LiesIn, Memory, Mode, Outcome, Port, Reply, Rx}
 use Rattle.history_laws.specs.Prelude.{State, Tx, Waiting, Watched, WritesNoSetting, WritesOutside, Wrote, after, gives}
 use Rattle.history_laws.specs.Prelude.{is_on, is_wanted, mode_in, receive_queue_of, reply_to, rest_of, step_of}
-use Rattle.history_laws.specs.Prelude.{told_back}
 use Rattle.ring_laws.specs.ReceivePrelude.{Layout, MovesNext, Receive, block_at, is_step, reach, slot_at}
 use Rattle.nic_device.specs.declared.event.Reply.TheVariants.{Idle, NoQueue}
 use Rattle.nic_device.{proofs.RxRing.Fills.takes_piece, specs.RegisterFile.Settings.is_stopped, specs.Sound.AreWaiting}
@@ -24,7 +22,7 @@ use Rattle.history_laws.proofs.DeviceLaws.{Delivered.told-lt, KeptSettings.setti
 use Rattle.history_laws.proofs.DeviceLaws.{Standing.stays_within, StandingQueues.switching_rest}
 use Rattle.history_laws.specs.Left.{Deed, Did, IsLeft, Rested, Rests, Shuts, Takes, Took, fill_on}
 use Rattle.history_laws.specs.{Segments.piece_in, Sides.IsTried, Sides.receive_side, Sides.side_of}
-use Rattle.ring_laws.proofs.Kept.{each_map, each_of, posted_block, slot_below}
+use Rattle.ring_laws.proofs.Kept.{posted_block, slot_below}
 use Rattle.ring_laws.proofs.Ring.{bytes_inside}
 use Rattle.ring_laws.proofs.Receiving.{buffer_is, filled_holds, head_is, no_fault, room_left}
 use Rattle.ring_laws.specs.Steps.{Each, EnableStepKeeps, EntryKeeps, IsMetBy}
@@ -91,18 +89,17 @@ module _ (queue : ℕ) (s : State) (out : List Piece) (v : Receive) (sound : IsS
 -- a step of receiving that writes no piece on the queue spares the driver's blocks
 spares_each : (queue : ℕ) (v : Receive) (ws : List Waiting) (r : Reply Block) → pieces_told queue ws r ≡ []
     → SparesBlocks queue v r → Each v (λ b. IsSparedBy r b)
-spares_each queue v ws (Wrote on slot end desc at len) none spares = elim (cases_eq on queue) [
+spares_each queue v ws (Wrote on slot end desc at len) none spares b lent = elim (cases_eq on queue) [
   | inl own ↦ absurd (let e = rw (eq-eqb on queue own) at none in cc)
-  | inr ne ↦ spares ne
+  | inr ne ↦ spares ne b lent
 ]
-spares_each queue v ws other none spares = each_of v _ (λ b. tt)
+spares_each queue v ws other none spares b lent = tt
 
 pub receive_keeps : ReceiveStepKeeps
 receive_keeps queue s out v sound j spares =
     let r = reply_to s event.RxStep in
     deed_keeps queue s out v sound j event.RxStep tt (receiving_did queue s sound)
-    (λ none. each_map v (λ b. IsSparedBy r b) (λ b. LeavesBlock b s (after s event.RxStep))
-    (λ b o. spared_block s b o) (spares_each queue v s.waiting r none spares))
+    (λ none b lent. spared_block s b (spares_each queue v s.waiting r none spares b lent))
 
 -- A step of receiving on the driver's own queue writes into blocks that the driver has lent for it.
 
@@ -174,8 +171,7 @@ switched_same s queue wanted on =
 pub enable_keeps : EnableStepKeeps
 enable_keeps queue s out v sound j =
     rested queue s out v sound j (event.QueueStep Rx queue) tt (switching_did queue s sound j.2.named.low Rx)
-    (each_of v (λ b. LeavesBlock b s (after s (event.QueueStep Rx queue)))
-    (λ b. ap (λ (m : Memory). map.get m b) (switching_rest s Rx queue).memory))
+    (λ b lent. ap (λ (m : Memory). map.get m b) (switching_rest s Rx queue).memory)
 
 -- A receive side that is on and wanted on stays so, where device and driver agree.
 
@@ -229,27 +225,14 @@ alone_stays_up w s out v e vfs sound j registers up =
 
 module _ (queue : ℕ) (mine : Blocks) (s : State) (v : Receive) (sound : IsSound s)
     (m : Each v (λ b. IsTrue (mine b))) (spare : OwnReportsSpare queue v s) where
-  -- a report of the queue's own is in none of the driver's blocks
-  reported : (o : Option ℕ) → told_back (reply_to s (event.TxStep queue)) ≡ o
-      → Each v (λ b. LeavesBlock b s (after s (event.TxStep queue)))
-  reported None is =
-      each_of v _
-      (λ b. reported_elsewhere s sound queue b (λ back told.
-      absurd (let both : None ≡ Some back = sym is ∙ told in cc)))
-  reported (Some at) is =
-      each_map v (λ b. b ≢ at / 2048) (λ b. LeavesBlock b s (after s (event.TxStep queue)))
-      (λ b ne. reported_elsewhere s sound queue b (λ back told.
-      let same : at ≡ back = cc in subst (λ x. b ≢ x / 2048) same ne))
-      (spare at is)
-
-  -- nor is what another queue's steps write
+  -- neither a report of the queue's own nor what another queue's steps write is in one of the driver's blocks
   spared : (e : Event Block) → Did queue mine s e → pieces queue s e ≡ [] → Deed Tx queue s e
       → Each v (λ b. LeavesBlock b s (after s e))
   spared e did none (Took x) =
       subst (λ (n : Event Block). Each v (λ b. LeavesBlock b s (after s n))) (sym x.work.is)
-      (reported (told_back (reply_to s (event.TxStep queue))) refl)
+      (λ b lent. reported_elsewhere s sound queue b (λ back told. spare back told b lent))
   spared e did none (Rested silent rests) =
-      each_map v (λ b. IsTrue (mine b)) (λ b. LeavesBlock b s (after s e)) (λ b i. did.blocks none silent b i) m
+      λ b lent. did.blocks none silent b (m b lent)
 
 -- an event that leaves the queue and all these blocks alone
 pub left_keeps : (w : Watched) (mine : Blocks) (s : State) (out : List Piece) (v : Receive) (e : Event Block)

@@ -13,6 +13,12 @@ use Rattle.pmd_rx.{proofs.PmdSeam.Places.wrapped_below, specs.Receive.consumed}
 use Rattle.history_laws.proofs.Leaving.{named-same}
 use Rattle.ring_laws.specs.Joint.{HasSlots, IsFilled, IsNamed, IsPosted, IsRing, StageHolds}
 use Rattle.ring_laws.proofs.Ring.{Stays}
+use Rattle.ring_laws.specs.ReceivePrelude.{EachRingBlock}
+use Rattle.pmd_rx.specs.{Keeping.fresh_block, Keeping.has_lent, PmdSeam.Slots.ring_blocks}
+use Rattle.pmd_rx.proofs.PmdSeam.Rings.{each_ring_block, ring_block_among, ring_block_is}
+use Rattle.std.proofs.lemmas.Bool.{eq-eqb, eqb-true, or_cases, or_left, or_right}
+use Rattle.std.{proofs.lemmas.List.Folds.list_any-append, specs.List.list_any}
+use Rattle.std.specs.Prelude.{◌==◌, ◌||◌, Bool, zero}
 use Rattle.ring_laws.specs.{Pieces.Piece, Pieces.piece_at, Steps.Each, Steps.IfFresh}
 
 -- Places around a ring, and the addresses of its descriptors and buffers.
@@ -60,13 +66,6 @@ push_place xs b k P i f g (inr high) =
     let e : k ≡ length xs = omega (arith, length_push xs b, i, high) in
     subst P (sym (get_or_push xs b 0 k (sym e))) (g e)
 
--- without the first of some of them, each is one that was there
-pub drop_place : (xs ys : List ℕ) (P : ℕ → Type 0)
-    → ((k : ℕ) → k < length (xs ++ ys) → P (slice_index (xs ++ ys) k))
-    → (k : ℕ) → k < length (drop 1 xs ++ ys) → P (slice_index (drop 1 xs ++ ys) k)
-drop_place [] ys P f = f
-drop_place (x ∷ xs) ys P f = λ k i. f (suc k) (omega (arith, i))
-
 -- a layout with other blocks
 with_blocks : (l : Layout) (xs ys : List ℕ) → xs ≡ ys → record l { blocks = xs } ≡ record l { blocks = ys }
 with_blocks l xs ys is = ap (λ (bs : List ℕ). record l { blocks = bs }) is
@@ -95,34 +94,96 @@ posts_blocks v k j =
 pub posts_reach : (v : Receive) (k j : ℕ) → reach v ≡ reach (posts v k j)
 posts_reach v k j = with_blocks v.layout _ _ (posts_blocks v k j)
 
--- Facts of each block that the driver has lent for receiving.
+-- Facts of each block that the driver has lent for receiving: of those that the ring is in, of those of its slots up to
+-- the last named one, and of a fresh one.
 
-fresh_map : (stage : Stage) (P Q : ℕ → Type 0) → ((b : ℕ) → P b → Q b) → IfFresh stage P → IfFresh stage Q
-fresh_map (Lent b) P Q f h = f b h
-fresh_map other P Q f h = tt
+abbrev pub among : List ℕ → ℕ → Bool
+among xs n = list_any (λ b. n == b) xs
 
-fresh_each : (stage : Stage) (P : ℕ → Type 0) → ((b : ℕ) → P b) → IfFresh stage P
-fresh_each (Lent b) P f = f b
-fresh_each other P f = tt
+among-both : (xs ys : List ℕ) (n : ℕ) → among (xs ++ ys) n ≡ (among xs n || among ys n)
+among-both xs ys n = list_any-append (λ (b : ℕ). n == b) xs ys
+
+-- each of some blocks that come before others
+among_first : (xs ys : List ℕ) (k : ℕ) → k < length xs → among (xs ++ ys) (slice_index xs k) ≡ true
+among_first [] ys k below = absurd (omega (arith, below))
+among_first (x ∷ xs) ys zero below = or_left (x == x) (among (xs ++ ys) x) (eq-eqb x x refl)
+among_first (x ∷ xs) ys (suc k) below =
+    or_right (slice_index xs k == x) _ (among_first xs ys k (omega (arith, below)))
+
+-- where a block is in a list
+any_place : (xs : List ℕ) (n : ℕ) → among xs n ≡ true → (k : ℕ) × (k < length xs) × (slice_index xs k ≡ n)
+any_place [] n is = cc
+any_place (x ∷ xs) n is = elim (or_cases (n == x) (among xs n) is) [
+  | inl here ↦ (0, omega arith, sym (eqb-true n x here))
+  | inr later ↦ let (k, known, same) = any_place xs n later in (suc k, omega (arith, known), same)
+]
+
+module _ (v : Receive) where
+  abbrev pub ring_of : List ℕ
+  ring_of = ring_blocks v.layout.ring v.layout.size
+
+  -- the blocks of its slots
+  abbrev pub slots_of : List ℕ
+  slots_of = (reach v).blocks
+
+  -- it has lent a block by where that is
+  pub parted : (n : ℕ) → has_lent v n
+      ≡ (among slots_of n || (among (fresh_block v.stage) n || is_ring_block v.layout.ring v.layout.size n))
+  parted n =
+      among-both slots_of (fresh_block v.stage ++ ring_of) n
+      ∙ ap (λ (b : Bool). among slots_of n || b)
+      (among-both (fresh_block v.stage) ring_of n
+      ∙ ap (λ (b : Bool). among (fresh_block v.stage) n || b) (ring_block_among v.layout.ring v.layout.size n))
+
+  module _ (P : ℕ → Type 0) where
+    fresh_is : (n : ℕ) (stage : Stage) → IfFresh stage P → among (fresh_block stage) n ≡ true → P n
+    fresh_is n (Lent b) is has = elim (or_cases (n == b) false has) as (λ _. P n) [
+      | inl same ↦ subst P (sym (eqb-true n b same)) is
+      | inr none ↦ cc
+    ]
+    fresh_is n other is has = cc
+
+    pub each_by : EachRingBlock v.layout.ring v.layout.size P → ((k : ℕ) → k < length slots_of → P (block_at (reach v) k))
+        → IfFresh v.stage P → Each v P
+    each_by ring slots fresh n has =
+        let own = is_ring_block v.layout.ring v.layout.size n in
+        elim (or_cases (among slots_of n) (among (fresh_block v.stage) n || own) (sym (parted n) ∙ has))
+        as (λ _. P n) [
+          | inl slot ↦ let (k, known, same) = any_place slots_of n slot in subst P same (slots k known)
+          | inr rest ↦ elim (or_cases (among (fresh_block v.stage) n) own rest) as (λ _. P n) [
+            | inl is ↦ fresh_is n v.stage fresh is
+            | inr own ↦ each_ring_block v.layout.ring v.layout.size P ring n own
+          ]
+        ]
+
+    module _ (each : Each v P) where
+      pub each_ring : EachRingBlock v.layout.ring v.layout.size P
+      each_ring k below =
+          each (v.layout.ring + k)
+          (parted (v.layout.ring + k)
+          ∙ or_right _ _ (or_right _ _ (ring_block_is v.layout.ring v.layout.size k below)))
+
+      pub each_slot : (k : ℕ) → k < length slots_of → P (block_at (reach v) k)
+      each_slot k below = each (block_at (reach v) k) (among_first slots_of (fresh_block v.stage ++ ring_of) k below)
+
+      -- so of the block of each posted slot
+      pub each_posted : (k : ℕ) → k < length v.layout.blocks → P (block_at v.layout k)
+      each_posted k below = subst P (posted_block v k below) (each_slot k (posted_below v k below))
+
+      fresh_each : (stage : Stage) → fresh_block stage ≡ fresh_block v.stage → IfFresh stage P
+      fresh_each (Lent b) same =
+          each b (parted b
+          ∙ or_right _ _ (or_left _ _ (ap (λ (xs : List ℕ). among xs b) (sym same) ∙ or_left _ _ (eq-eqb b b refl))))
+      fresh_each other same = tt
+
+      pub each_fresh : IfFresh v.stage P
+      each_fresh = fresh_each v.stage refl
 
 pub each_map : (v : Receive) (P Q : ℕ → Type 0) → ((b : ℕ) → P b → Q b) → Each v P → Each v Q
-each_map v P Q f e = record {
-  ring = λ k i. f (v.layout.ring + k) (e.ring k i);
-  blocks = λ k i. f (block_at (reach v) k) (e.blocks k i);
-  fresh = fresh_map v.stage P Q f e.fresh;
-}
+each_map v P Q f each n has = f n (each n has)
 
 pub each_of : (v : Receive) (P : ℕ → Type 0) → ((b : ℕ) → P b) → Each v P
-each_of v P f = record {
-  ring = λ k i. f (v.layout.ring + k);
-  blocks = λ k i. f (block_at (reach v) k);
-  fresh = fresh_each v.stage P f;
-}
-
--- so of the block of each posted slot
-pub each_posted : (v : Receive) (P : ℕ → Type 0) → Each v P
-    → (k : ℕ) → k < length v.layout.blocks → P (block_at v.layout k)
-each_posted v P e k i = subst P (posted_block v k i) (e.blocks k (posted_below v k i))
+each_of v P f n has = f n
 
 -- What stays of the agreement where memory, the mode and the number of functions do.
 

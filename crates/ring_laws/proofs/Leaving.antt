@@ -6,18 +6,20 @@ use Rattle.std.specs.Prelude.{if◌then◌else◌, ◌==◌}
 use Rattle.history_laws.specs.Prelude.{Block, Bytes, Event, Memory, Outcome, ReceiveQueue, Reply, Ring, State, after}
 use Rattle.history_laws.specs.Prelude.{buffer_size_of, bytes_in, descriptor_type_of, ends_packet, gives, has_block}
 use Rattle.history_laws.specs.Prelude.{is_done, read_at, receive_queue_of, reply_to, second_half, step_of}
-use Rattle.ring_laws.specs.ReceivePrelude.{Layout, Lent, Looks, PeeksNext, Receive, Stage, Takes, Told, block_at}
+use Rattle.ring_laws.specs.ReceivePrelude.{Layout, Lent, Looks, PeeksNext, Receive, Stage, Takes, Told}
 use Rattle.ring_laws.specs.ReceivePrelude.{descriptor_at, drive, extended, is_part, no_packet, reach, slot_at}
 use Rattle.nic_device.proofs.{Cases.lent_cases, DmaArena.Bus.get-insert_other}
 use Rattle.nic_device.proofs.{DmaArena.Bus.get-insert_same}
-use Rattle.pmd_rx.proofs.PmdSeam.Rings.{ring_block_apart}
-use Rattle.pmd_rx.specs.Receive.{CanLend, LendsNext, MayLend, lent_one, saw, told_by}
+use Rattle.pmd_rx.specs.Receive.{CanLend, LendsNext, lent_one, saw, told_by}
 use Rattle.pmd_rx.specs.declared.ring.Stage.TheVariants.{Owes}
 use Rattle.ring_laws.proofs.Kept.{first_place, named_kept, posted_below, posted_in, slot_below, slots_stay}
 use Rattle.ring_laws.proofs.Parts.{end_last, end_more, none_held, open_more, order_same, seen_more}
 use Rattle.ring_laws.specs.Joint.{Agree, AreOpen, HasSlots, Holds, InOrder, IsAt, IsNamed, IsRing, IsSetUp, Saw}
-use Rattle.ring_laws.specs.Steps.{IfFresh, Leaves, LeavesButOn, LeavingKeeps, LookTellsSlot, SwitchingKeeps}
+use Rattle.ring_laws.specs.Steps.{Each, Leaves, LeavesButOn, LeavingKeeps, LookTellsSlot, SwitchingKeeps}
 use Rattle.ring_laws.proofs.{Kept.stage_stays, Ring.same_stays, Ring.slot_looked}
+use Rattle.ring_laws.proofs.Kept.{each_fresh, each_ring, each_slot}
+use Rattle.ring_laws.proofs.ReceiveLent.{unknown}
+use Rattle.pmd_rx.specs.Keeping.{has_lent}
 use Rattle.ring_laws.specs.{Joint.StageHolds, Pieces.Piece, Pieces.piece_at, Starting.StartAgrees, Steps.TellsSlot}
 use Rattle.nic_device.specs.declared.event.Event.TheVariants as event
 use Rattle.std.specs.FinMap as map
@@ -39,13 +41,14 @@ set_up_kept q r l filled ring control h = record {
 switching_holds : (queue : ℕ) (s t : State) (out : List Piece) (v : Receive) (gone here : List Piece)
     → LeavesButOn queue v s t → Holds queue s out v gone here → Holds queue t out v gone here
 switching_holds queue s t out v gone here l h =
-    let stays = same_stays v.layout.ring v.layout.size s.memory t.memory l.blocks.ring in
+    let Same : ℕ → Type 0 = λ b. map.get t.memory b ≡ map.get s.memory b in
+    let stays = same_stays v.layout.ring v.layout.size s.memory t.memory (each_ring v Same l.blocks) in
     assumption (
       named_kept s t queue v.layout l.mode l.vfs h.named,
       set_up_kept (receive_queue_of s.registers queue) (receive_queue_of t.registers queue) v.layout (length here)
           l.ring l.control h.side,
-      slots_stay h.ring stays here (λ k i. tt) l.blocks.blocks h.slots,
-      stage_stays h.ring stays v.stage l.blocks.fresh h.stage,
+      slots_stay h.ring stays here (λ k i. tt) (each_slot v Same l.blocks) h.slots,
+      stage_stays h.ring stays v.stage (each_fresh v Same l.blocks) h.stage,
     )
 
 pub switching_keeps : SwitchingKeeps
@@ -177,37 +180,18 @@ look_keeps queue s out v a (gone, here, h) own =
 abbrev with_block : State → Block → State
 with_block s b = record s { memory = map.insert s.memory b.number b.bytes }
 
--- a fresh block that is lent before another one is the same
-abbrev FreshStays : State → Block → Stage → Type 0
-FreshStays s b stage = IfFresh stage (λ c. map.get (with_block s b).memory c ≡ map.get s.memory c)
-
-fresh_stays : (s : State) (b : Block) (stage : Stage) (seen : List Told) → CanLend stage seen → FreshStays s b stage
-fresh_stays s b Looks seen can = tt
-fresh_stays s b Takes seen can = absurd can
-fresh_stays s b Owes seen can = tt
-fresh_stays s b (Lent c) seen can = absurd can
-
 none_looked : (stage : Stage) (seen : List Told) → CanLend stage seen → stage ≡ Looks → seen ≡ []
 none_looked Looks seen can is = can
 none_looked Takes seen can is = absurd can
 none_looked Owes seen can is = cc
 none_looked (Lent c) seen can is = absurd can
 
-fresh_leaves : (queue : ℕ) (s : State) (v : Receive) (b : Block) → MayLend (reach v) b
-    → FreshStays s b v.stage
-    → Leaves queue v s (with_block s b)
-fresh_leaves queue s v b may none = record {
-  receive = refl;
-  mode = refl;
-  vfs = refl;
-  blocks = record {
-    ring = λ k i.
-        get-insert_other s.memory b.number b.bytes (v.layout.ring + k)
-        (λ e. ring_block_apart v.layout.ring v.layout.size b.number may.not_ring k i (sym e));
-    blocks = λ k i. get-insert_other s.memory b.number b.bytes (block_at (reach v) k) (may.apart k i);
-    fresh = none;
-  };
-}
+fresh_leaves : (queue : ℕ) (s : State) (v : Receive) (b : Block) → LendsNext v b → Leaves queue v s (with_block s b)
+fresh_leaves queue s v b own =
+    let blocks : Each v (λ n. map.get (with_block s b).memory n ≡ map.get s.memory n) =
+    λ n has. get-insert_other s.memory b.number b.bytes n
+    (λ e. both_ways (has_lent v b.number) (unknown v b own) (subst (λ k. has_lent v k ≡ true) e has)) in
+    assumption blocks
 
 lent_holds : (queue : ℕ) (s : State) (out : List Piece) (v : Receive) (gone here : List Piece) (b : Block)
     → Holds queue s out v gone here → LendsNext v b → Holds queue (with_block s b) out (lent_one v b.number) gone here
@@ -217,7 +201,7 @@ lent_holds queue s out v gone here b h own =
     let there : has_block t.memory b.number ≡ true = rw (get-insert_same s.memory b.number b.bytes) refl in
     with_driver queue t out v (lent_one v b.number) gone here
     (leaving_holds queue s t out v gone here
-    (fresh_leaves queue s v b may (fresh_stays s b v.stage v.seen own.stage)) h) refl refl
+    (fresh_leaves queue s v b own) h) refl refl
     (assumption (may, there))
     (order_same out gone here v (lent_one v b.number) h.order refl refl h.order.seen
     (end_last v.stage v.seen v.held (none_looked v.stage v.seen own.stage) h.order.stage))

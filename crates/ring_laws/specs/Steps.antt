@@ -5,8 +5,9 @@ use Rattle.history_laws.specs.Prelude.{Block, Blocks, Bytes, Entry, EntryLeavesA
 use Rattle.history_laws.specs.Prelude.{LeavesBlock, LeavesReceive, Mode, Reply, Rx, State, Watched, Wrote, after}
 use Rattle.history_laws.specs.Prelude.{bytes_in, ends_packet, first_half, is_done, mode_in, receive_queue_of, reply_to}
 use Rattle.history_laws.specs.Prelude.{second_half, told_back}
-use Rattle.ring_laws.specs.ReceivePrelude.{EachRingBlock, IsOwn, Lent, Receive, Stage, block_at, descriptor_at, drive}
-use Rattle.ring_laws.specs.ReceivePrelude.{is_step, reach}
+use Rattle.ring_laws.specs.ReceivePrelude.{IsOwn, Lent, Receive, Stage, descriptor_at, drive}
+use Rattle.ring_laws.specs.ReceivePrelude.{is_step}
+use Rattle.pmd_rx.specs.Keeping.{has_lent}
 use Rattle.ring_laws.specs.{Joint.Agree, Joint.Holds, Pieces.Piece, Pieces.piece_at, Pieces.pieces}
 use Rattle.nic_device.specs.declared.event.Event.TheVariants as event
 
@@ -29,12 +30,9 @@ abbrev pub IfFresh : Stage → (ℕ → Type 0) → Type 0
 IfFresh (Lent b) P = P b
 IfFresh other P = ⊤
 
--- each block that the driver has lent for receiving: those that the ring is in, those of its slots up to the last named
--- one, and a fresh one
-pub record Each (v : Receive) (P : ℕ → Type 0) : Type 0 where
-  pub ring : EachRingBlock v.layout.ring v.layout.size P
-  pub blocks : (k : ℕ) → k < length (reach v).blocks → P (block_at (reach v) k)
-  pub fresh : IfFresh v.stage P
+-- of each block that the driver has lent for receiving
+abbrev pub Each : Receive → (ℕ → Type 0) → Type 0
+Each v P = (number : ℕ) → IsTrue (has_lent v number) → P number
 
 -- an event leaves the queue's receive side, what numbers name, and the driver's blocks
 pub record Leaves (queue : ℕ) (v : Receive) (old new : State) : Type 0 where

@@ -15,38 +15,21 @@ use Rattle.pmd.specs.PmdRx.declared.ring.Stage.{Stage}
 use Rattle.pmd.specs.PmdRx.declared.ring.Stage.TheVariants.{Lent}
 use Rattle.pmd.specs.PmdTx.Sending.{IsOwn, moved}
 use Rattle.ring_laws.proofs.DeviceLaws.Standing.{memory_blocks}
-use Rattle.ring_laws.proofs.Kept.{each_map}
-use Rattle.ring_laws.proofs.ReceiveLent.{LendsMine, mine_driven}
+use Rattle.ring_laws.proofs.Kept.{each_by, each_map}
+use Rattle.ring_laws.proofs.ReceiveLent.{mine_driven}
 use Rattle.ring_laws.specs.Joint.{HasSlots, StageHolds}
 use Rattle.ring_laws.specs.Steps.{Each, IfFresh}
 use Rattle.ring_laws.proofs.TransmitLent.{mine-moved}
 use Rattle.ring_laws.specs.Alone.{LendsOneOf}
 
-fresh_both : (stage : Stage) (P Q : ℕ → Type 0) → IfFresh stage P → IfFresh stage Q → IfFresh stage (λ b. P b × Q b)
-fresh_both (Lent b) P Q p q = (p, q)
-fresh_both other P Q p q = tt
-
 -- two facts of each
 pub each_both : (v : Receive) (P Q : ℕ → Type 0) → Each v P → Each v Q → Each v (λ b. P b × Q b)
-each_both v P Q p q = record {
-  ring = λ k below. (p.ring k below, q.ring k below);
-  blocks = λ k i. (p.blocks k i, q.blocks k i);
-  fresh = fresh_both v.stage P Q p.fresh q.fresh;
-}
-
-fresh_all : (stage : Stage) (Q : ℕ → Type 0) (P : ℕ → ℕ → Type 0)
-    → ((n : ℕ) → Q n → IfFresh stage (λ b. P b n)) → IfFresh stage (λ b. (n : ℕ) → Q n → P b n)
-fresh_all (Lent b) Q P f = f
-fresh_all other Q P f = tt
+each_both v P Q p q b has = (p b has, q b has)
 
 -- a fact of each and of all such numbers
 pub each_all : (v : Receive) (Q : ℕ → Type 0) (P : ℕ → ℕ → Type 0) → ((n : ℕ) → Q n → Each v (λ b. P b n))
     → Each v (λ b. (n : ℕ) → Q n → P b n)
-each_all v Q P f = record {
-  ring = λ k below n q. (f n q).ring k below;
-  blocks = λ k i n q. (f n q).blocks k i;
-  fresh = fresh_all v.stage Q P (λ n q. (f n q).fresh);
-}
+each_all v Q P f b has n q = f n q b has
 
 -- the blocks of the receive half are lent
 
@@ -65,11 +48,9 @@ slot_lent m l here h k i =
 
 pub receive_lent : (queue : ℕ) (s : State) (out : List Piece) (v : Receive) → Agree queue s out v
     → Each v (λ b. has_block s.memory b ≡ true)
-receive_lent queue s out v (gone, here, h) = record {
-  ring = h.slots.there;
-  blocks = slot_lent s.memory (reach v) here h.slots;
-  fresh = fresh_lent s.memory (reach v) v.stage h.stage;
-}
+receive_lent queue s out v (gone, here, h) =
+    each_by v (λ b. has_block s.memory b ≡ true) h.slots.there (slot_lent s.memory (reach v) here h.slots)
+    (fresh_lent s.memory (reach v) v.stage h.stage)
 
 -- a block is lent
 
@@ -111,14 +92,13 @@ on : (b n : ℕ) → IsTrue (but n b) → b ≢ n
 on b n is = eqb-false b n (not-true (b == n) is)
 
 -- a block that is lent by a move of the transmit half
-pub lends_one : (mine : Blocks) (e : Event Block) (r : Reply Block) → LendsMine mine e r → LendsOneOf mine e r
-lends_one mine (event.Lend b) reply.Done is = is
-lends_one mine e r is = tt
+pub lends_one : (mine : Blocks) (e : Event Block) (r : Reply Block) → LendsOneOf mine e r → LendsOneOf mine e r
+lends_one mine e r is = is
 
 module _ (s : State) where
   -- a block that is lent by a call wasn't lent before
   lends_other : (e : Event Block) (r : Reply Block) → reply_to s e ≡ r → (n : ℕ) → has_block s.memory n ≡ true
-      → LendsMine (but n) e r
+      → LendsOneOf (but n) e r
   lends_other (event.Lend b) reply.Done is n has = off b.number n (lent_apart s b n has is)
   lends_other e r is n has = tt
 

@@ -16,6 +16,7 @@ use Rattle.nic_device.specs.declared.event.Event.TheVariants as event
 use Rattle.pmd.specs.PmdRx.Receive as receiving
 use Rattle.pmd.specs.PmdTx.Sending as sending
 use Rattle.pmd.specs.PmdTx.Sending.{moved}
+use Rattle.ring_laws.specs.Alone.{LendsOneOf}
 use Rattle.ring_laws.proofs.Delivering.{vfs_stays}
 use Rattle.ring_laws.proofs.DeviceLaws.KeptSettings.{settings_stand}
 use Rattle.ring_laws.proofs.DeviceLaws.Standing.{stays_within}
@@ -26,7 +27,7 @@ use Rattle.ring_laws.proofs.HistoryLaws.Steady.{asked}
 use Rattle.ring_laws.proofs.HistoryLaws.Leaving.{plain-write}
 use Rattle.ring_laws.proofs.HistoryLaws.Alone.{histories_sound}
 use Rattle.ring_laws.proofs.Leaving.{leaving_keeps, switching_keeps}
-use Rattle.ring_laws.proofs.ReceiveLent.{LendsMine, mine_driven}
+use Rattle.ring_laws.proofs.ReceiveLent.{mine_driven}
 use Rattle.ring_laws.proofs.Own.{own_keeps}
 use Rattle.ring_laws.proofs.Foreign.{alone_stays_up, left_up, own_stays_up}
 use Rattle.ring_laws.specs.HistoryLaws.Left.{IsLeft}
@@ -143,7 +144,7 @@ module _ {w : Watched} {mine : Blocks} {s : State} {out : List Piece} {sent : Li
 
   -- the receive half's
 
-  receives_keeps : receiving.IsOwn h.receive e → LendsMine mine e (reply_to s e)
+  receives_keeps : receiving.IsOwn h.receive e → LendsOneOf mine e (reply_to s e)
       → KeptBy (record h { receive = drive h.receive e (reply_to s e) })
   receives_keeps own lends =
       let (gone, here, holds) = m.both.receive in (
@@ -163,7 +164,7 @@ module _ {w : Watched} {mine : Blocks} {s : State} {out : List Piece} {sent : Li
   -- the transmit half's
 
   sends_keeps : (move : Move) → is_elsewhere move ≡ false → sending.IsOwn h.transmit move e
-      → LendsMine mine e (reply_to s e)
+      → LendsOneOf mine e (reply_to s e)
       → KeptBy (record h { transmit = moved h.transmit move (reply_to s e) })
   sends_keeps move real own lends =
       let there = receive_lent w.queue s out h.receive m.both.receive in
@@ -190,7 +191,7 @@ module _ {w : Watched} {mine : Blocks} {s : State} {out : List Piece} {sent : Li
 
   pub doer_keeps : (d : Doer) → OwnCall h d (call_of e (reply_to s e))
       → (is_neither d ≡ true → LeavesRegisters w (mode_in s.registers) e × LeavesBlocks mine e)
-      → (is_neither d ≡ false → LendsMine mine e (reply_to s e)) → KeptBy (after_call h d (call_of e (reply_to s e)))
+      → (is_neither d ≡ false → LendsOneOf mine e (reply_to s e)) → KeptBy (after_call h d (call_of e (reply_to s e)))
   doer_keeps Receives own others lends = receives_keeps own (lends refl)
   doer_keeps (Sends Elsewhere) own others lends = neither_keeps m e made steps (others refl).0 (others refl).1
   doer_keeps (Sends move) own others lends = sends_keeps move refl own (lends refl)

@@ -29,7 +29,7 @@ use Rattle.ring_laws.proofs.DeviceLaws.RepliesSent.{transmitting_tells}
 use Rattle.ring_laws.proofs.DeviceLaws.Standing.{memory_blocks, memory_rest, stays_within}
 use Rattle.ring_laws.proofs.DeviceLaws.StandingAccesses.{write_memory, write_rest}
 use Rattle.ring_laws.proofs.DeviceLaws.StandingQueues.{receiving_rest}
-use Rattle.ring_laws.proofs.Kept.{each_map, each_posted}
+use Rattle.ring_laws.proofs.Kept.{each_ring, each_map, each_posted}
 use Rattle.ring_laws.proofs.HistoryLaws.Blocks.{clear_outside}
 use Rattle.ring_laws.proofs.HistoryLaws.Blocks.{reported}
 use Rattle.ring_laws.proofs.HistoryLaws.Leaving.{plain-write}
@@ -85,7 +85,8 @@ module _ (queue : ℕ) (s : State) (out : List Piece) (v : Receive) (gone here :
         (subst (Avoids number a) (sym size)
         (inside_avoids (l.ring + slot / 128) number a 16 (rw own.address (slot_lies l.ring slot))
         (λ e.
-        away.ring (slot / 128) (slot_block l.size slot (slot_below l (vacant l) h.ring (omega arith))) (sym e))))
+        each_ring v (λ b. b ≢ number) away (slot / 128)
+        (slot_block l.size slot (slot_below l (vacant l) h.ring (omega arith))) (sym e))))
 
     own_leaves : (e : Event Block) → receiving.IsOwn v e → LeavesBlock number s (after s e)
     own_leaves (event.Peek16 a) own = (stays_within s (event.Peek16 a)).blocks number refl
@@ -191,7 +192,7 @@ module _ (s : State) (queue : ℕ) (sent : List (List ℕ)) (u : Sender) (f : �
     move_leaves m e real own = absurd own
 
   pub move_setting : (m : Move) (e : Event Block) → is_elsewhere m ≡ false → IsOwn u m e → WritesNoSetting s e
-  move_setting Advances (event.Write port n word) real own = setting_kept s queue sent u f h port n word own
+  move_setting Advances (event.Write port n word) real own = setting_kept h port n word own
   move_setting Elsewhere e real own = cc
   move_setting m (event.Write port n word) real own = absurd own
   move_setting m e real own = tt
@@ -238,7 +239,7 @@ module _ (queue : ℕ) (mine : Blocks) (s : State) (sound : IsSound s) (out : Li
             (subst (λ q. reply_to s event.RxStep ≡ Wrote q slot end desc at len) own told) in
             record {
               descriptor = inside_avoids (v.layout.ring + here.descriptor.part) n desc 16 here.descriptor.descriptor
-                  (λ e. away.ring here.descriptor.part here.descriptor.known (sym e));
+                  (λ e. each_ring v (λ b. b ≢ n) away here.descriptor.part here.descriptor.known (sym e));
               bytes = λ some.
                   inside_avoids (block_at v.layout here.slot) n at len here.bytes
                   (λ e. each_posted v (λ b. b ≢ n) away here.slot here.known (sym e));
@@ -279,7 +280,7 @@ reports_spare s queue sent u f h v apart back told =
     let head : report_of r queue ≡ descriptor_at l f =
     ap (λ b. cond b (word_of r Tdwbah queue * 2 ^ 32 + 4 * (word_of r Tdwbal queue / 4))
     (descriptor_address ring ring.head)) low
-    ∙ head_is s queue sent u f h in
+    ∙ head_is h in
     let c = h.counted in
     let below = slot-below l h.based.layout f
     (omega (arith, c.fetched_posted, c.posted_poked, c.poked_lent, c.lent_known, c.room)) in

@@ -132,7 +132,7 @@ module _ (w : Watched) (mine : Blocks) (s : State) (out : List Piece) (v : Recei
       (subst (λ r. Agree w.queue t more (drive v e.event r)) (sym legal)
       (own_keeps w.queue s out v e.event m.sound m.agree own))
       (own_stays_up w.queue s out v e.event m.sound m.agree own m.up)
-      (mine_driven v mine m.lent e.event e.reply own
+      (mine_driven mine v m.lent e.event e.reply own
       (lends_mine w.pass mine v e.pass e.event e.reply same own covers))
 
   -- one of another pass, or a step

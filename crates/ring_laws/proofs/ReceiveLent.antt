@@ -124,11 +124,6 @@ module _ (v : Receive) where
   follows (event.Write port number word) may r n = refl
   follows e may r n = absurd may
 
-  -- they stay among those that its pass lends
-  pub mine_driven : (mine : Blocks) → Each v (λ b. IsTrue (mine b)) → (e : Event Block) (r : Reply Block) → IsOwn v e
-      → LendsOneOf mine e r → Each (drive v e r) (λ b. IsTrue (mine b))
-  mine_driven mine m e r own l = follows_in mine (has_lent v) m e (λ r. has_lent (drive v e r)) (follows e own) r l
-
   -- a block that may be lent isn't lent yet
   pub unknown : (b : Block) → LendsNext v b → has_lent v b.number ≡ false
   unknown b own =
@@ -136,6 +131,11 @@ module _ (v : Receive) where
       parted v b.number
       ∙ or_from _ _ (in_none (slots_of v) b.number own.may.apart)
       (or_from _ _ (ap (λ (xs : List ℕ). among xs b.number) none) own.may.not_ring)
+
+-- they stay among those that its pass lends
+pub mine_driven : (mine : Blocks) (v : Receive) → Each v (λ b. IsTrue (mine b)) → (e : Event Block) (r : Reply Block)
+    → IsOwn v e → LendsOneOf mine e r → Each (drive v e r) (λ b. IsTrue (mine b))
+mine_driven mine v m e r own l = follows_in mine (has_lent v) m e (λ r. has_lent (drive v e r)) (follows v e own) r l
 
 -- Of some numbers only known ones stay lent over the driver's own events.
 

@@ -62,8 +62,7 @@ pub has_lent-ring : (v : Sender) (k : ℕ) → k < blocks_for v.layout.size → 
 has_lent-ring v k below =
     let n = v.layout.ring + k in
     or_left (is_ring_block v.layout.ring v.layout.size n)
-    (list_any (λ b. n == b) (blocks_of (take v.lent v.outstanding)))
-    (ring_block_is v.layout.ring v.layout.size k below)
+    (list_any (λ b. n == b) (blocks_of (take v.lent v.outstanding))) (ring_block_is v.layout.ring v.layout.size k below)
 
 pub has_lent-segment : (v : Sender) (k : ℕ) → v.lent ≤ length v.outstanding → k < v.lent
     → has_lent v (segment_at v k).block ≡ true

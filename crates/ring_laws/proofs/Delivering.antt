@@ -65,8 +65,7 @@ all_taken queue s out v (gone, here, h) f =
       | inr no_more ↦ no_more
     ] in
     let at : IsAt Looks v.seen v.held = subst (λ (x : Stage). IsAt x v.seen v.held) f.looks h.order.stage in
-    let none : ended_of v.seen v.held ≡ [] =
-    ap (λ (p : Packet). ended_of v.seen p) at.0 ∙ none_ended v.seen in
+    let none : ended_of v.seen v.held ≡ [] = ap (λ (p : Packet). ended_of v.seen p) at.0 ∙ none_ended v.seen in
     packets_held out v gone here h.order
     ∙ ap (λ (xs : List Kept). packets_had v ++ xs)
     (none_whole (kept_of (still_held v)).bytes v.seen here at.1 h.order.seen all)
@@ -132,8 +131,7 @@ module _ (w : Watched) (mine : Blocks) (s : State) (out : List Piece) (v : Recei
       (subst (λ r. Agree w.queue t more (drive v e.event r)) (sym legal)
       (own_keeps w.queue s out v e.event m.sound m.agree own))
       (own_stays_up w.queue s out v e.event m.sound m.agree own m.up)
-      (mine_driven mine v m.lent e.event e.reply own
-      (lends_mine w.pass mine v e.pass e.event e.reply same own covers))
+      (mine_driven mine v m.lent e.event e.reply own (lends_mine w.pass mine v e.pass e.event e.reply same own covers))
 
   -- one of another pass, or a step
   other_entry : OwnReportsSpare w.queue v s → (e.pass ≢ w.pass) ⊎ IsTrue (is_step e.event) → Meets w mine t more v
@@ -173,8 +171,7 @@ calls_other pass e h is = rw is refl
 -- where a history leads from a place where the two agree: they agree, and the side stayed on
 pub record Led (w : Watched) (s : State) (out : List Piece) (v : Receive) (h : List Entry) (u : Receive) : Type 0 where
   pub agree : Agree w.queue (leads_to s h) (out ++ pieces_in w.queue s h) u
-  pub since : (so_far : List Piece)
-      → pieces_since w.queue s (Some so_far) h ≡ Some (so_far ++ pieces_in w.queue s h)
+  pub since : (so_far : List Piece) → pieces_since w.queue s (Some so_far) h ≡ Some (so_far ++ pieces_in w.queue s h)
 
 on_after : (w : Watched) (s : State) (out : List Piece) (v x : Receive) (e : Entry) (es : List Entry) (u : Receive)
     → IsUp w.queue s → Led w (after s e.event) (out ++ pieces w.queue s e.event) x es u → Led w s out v (e ∷ es) u
@@ -264,8 +261,7 @@ module _ (w : Watched) (origin : State) (start rest : List Entry) (v : Receive) 
         d.vfs ∙ sym (vfs_stays origin start),
       ))
       (legal_behind origin start rest d.legal) (events_behind start rest d.events)
-      (alone_by_entries w origin start rest d.alone d.begun) d.own d.spares
-      (λ n is. lent_behind w.pass n start rest is)
+      (alone_by_entries w origin start rest d.alone d.begun) d.own d.spares (λ n is. lent_behind w.pass n start rest is)
 
   delivered_is : delivered w.queue origin (start ++ rest) ≡ packets_of (pieces_in w.queue here rest)
   delivered_is =

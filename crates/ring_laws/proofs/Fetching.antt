@@ -93,12 +93,10 @@ module _ {s : State} {queue : ℕ} {sent : List (List ℕ)} {v : Sender} {f : �
 
   -- the posted ones have slots
   known : v.posted < v.layout.size
-  known =
-      let c = h.counted in omega (arith, c.posted_poked, c.poked_lent, c.lent_known, c.room)
+  known = let c = h.counted in omega (arith, c.posted_poked, c.poked_lent, c.lent_known, c.room)
 
   below : (k : ℕ) → k ≤ v.posted → slot_at v.layout k < v.layout.size
-  below k le =
-      slot-below v.layout h.based.layout k (omega (arith, known))
+  below k le = slot-below v.layout h.based.layout k (omega (arith, known))
 
   inside : is_outside side.ring ≡ false
   inside =
@@ -152,8 +150,7 @@ module _ {s : State} {queue : ℕ} {sent : List (List ℕ)} {v : Sender} {f : �
 
     buffer : buffer_in (asking x) ≡ 2048 * x.block
     buffer =
-        buffer-asking x ready.short ready.whole
-        (small_of_lent s.memory x.block h.based.sound.blocks.whole ready.lent)
+        buffer-asking x ready.short ready.whole (small_of_lent s.memory x.block h.based.sound.blocks.whole ready.lent)
 
     -- it is sent behind what is staged, where that and it are of packets
     module _ (staged : List ℕ) (packets : ArePackets v.layout.limit staged (x ∷ drop (f + 1) v.outstanding)) where
@@ -215,8 +212,7 @@ module _ {s : State} {queue : ℕ} {sent : List (List ℕ)} {v : Sender} {f : �
     stays false =
         record { has = λ k i. refl; slot = λ j i ne. refl; bytes = λ b len out is few. refl; there = λ b is. refl }
 
-    now_done : (last : Bool) → last ≡ true
-        → IsDone (if last then new else s.memory) (descriptor_at v.layout f) x
+    now_done : (last : Bool) → last ≡ true → IsDone (if last then new else s.memory) (descriptor_at v.layout f) x
     now_done true is =
         written_here v.layout.ring v.layout.size (slot_at v.layout f) here s.memory done (length-done (asking x))
         h.based.sound.blocks.whole h.shows.ring

@@ -209,8 +209,7 @@ own_stays_up queue s out v (event.Peek16 a) i j own up = calls_up queue s _ (mem
 own_stays_up queue s out v (event.Take n) i j own up = calls_up queue s _ (memory_rest.take s n).queues up
 own_stays_up queue s out v (event.Lend b) i j own up = calls_up queue s _ (memory_rest.lend s b).queues up
 own_stays_up queue s out v (event.Poke16 a bytes) i j own up = calls_up queue s _ (memory_rest.poke s a bytes).queues up
-own_stays_up queue s out v (event.Write port number word) i j own up =
-    move_up queue s out v port number word i j own up
+own_stays_up queue s out v (event.Write port number word) i j own up = move_up queue s out v port number word i j own up
 own_stays_up queue s out v e i j own up = absurd own
 
 -- an event that leaves the queue's registers alone
@@ -218,8 +217,7 @@ pub alone_stays_up : (w : Watched) (s : State) (out : List Piece) (v : Receive) 
     → IsSound s → Agree w.queue s out v → LeavesRegisters w (mode_in s.registers) e → IsUp w.queue s
     → IsUp w.queue (after s e)
 alone_stays_up w s out v e vfs sound j registers up =
-    deed_up w.queue s out v e j
-    (side_did Rx w.queue s e sound j.2.named.low (left-side w s vfs Rx e registers)) up
+    deed_up w.queue s out v e j (side_did Rx w.queue s e sound j.2.named.low (left-side w s vfs Rx e registers)) up
 
 -- Entries that aren't the driver's own and leave its queue alone keep the agreement.
 
@@ -231,8 +229,7 @@ module _ (queue : ℕ) (mine : Blocks) (s : State) (v : Receive) (sound : IsSoun
   spared e did none (Took x) =
       subst (λ (n : Event Block). Each v (λ b. LeavesBlock b s (after s n))) (sym x.work.is)
       (λ b lent. reported_elsewhere s sound queue b (λ back told. spare back told b lent))
-  spared e did none (Rested silent rests) =
-      λ b lent. did.blocks none silent b (m b lent)
+  spared e did none (Rested silent rests) = λ b lent. did.blocks none silent b (m b lent)
 
 -- an event that leaves the queue and all these blocks alone
 pub left_keeps : (w : Watched) (mine : Blocks) (s : State) (out : List Piece) (v : Receive) (e : Event Block)

@@ -72,8 +72,7 @@ with_blocks l xs ys is = ap (λ (bs : List ℕ). record l { blocks = bs }) is
 
 -- a slot more names a block
 pub names_reach : (v : Receive) → extended (reach v) (fresh_of v.stage ∷ []) ≡ reach (names v)
-names_reach v =
-    with_blocks v.layout _ _ (append_assoc v.layout.blocks v.named (fresh_of v.stage ∷ []))
+names_reach v = with_blocks v.layout _ _ (append_assoc v.layout.blocks v.named (fresh_of v.stage ∷ []))
 
 -- the next slot is consumed
 drop_front : (xs ys : List ℕ) → 0 < length xs → drop 1 (xs ++ ys) ≡ drop 1 xs ++ ys
@@ -82,8 +81,7 @@ drop_front (x ∷ xs) ys some = refl
 
 pub took_reach : (v : Receive) (t : Told) (ts : List Told) (b : Block) → 0 < length v.layout.blocks
     → consumed (reach v) ≡ reach (took v (t ∷ ts) b)
-took_reach v t ts b some =
-    with_blocks (consumed v.layout) _ _ (drop_front v.layout.blocks v.named some)
+took_reach v t ts b some = with_blocks (consumed v.layout) _ _ (drop_front v.layout.blocks v.named some)
 
 -- the tail moves on: the same slots have a block
 pub posts_blocks : (v : Receive) (k j : ℕ) → (reach v).blocks ≡ (reach (posts v k j)).blocks
@@ -107,8 +105,7 @@ among-both xs ys n = list_any-append (λ (b : ℕ). n == b) xs ys
 among_first : (xs ys : List ℕ) (k : ℕ) → k < length xs → among (xs ++ ys) (slice_index xs k) ≡ true
 among_first [] ys k below = absurd (omega (arith, below))
 among_first (x ∷ xs) ys zero below = or_left (x == x) (among (xs ++ ys) x) (eq-eqb x x refl)
-among_first (x ∷ xs) ys (suc k) below =
-    or_right (slice_index xs k == x) _ (among_first xs ys k (omega (arith, below)))
+among_first (x ∷ xs) ys (suc k) below = or_right (slice_index xs k == x) _ (among_first xs ys k (omega (arith, below)))
 
 -- where a block is in a list
 any_place : (xs : List ℕ) (n : ℕ) → among xs n ≡ true → (k : ℕ) × (k < length xs) × (slice_index xs k ≡ n)
@@ -200,8 +197,7 @@ slot_low l k ring h =
     omega (arith, slot, ring.few)
 
 pub ring_low : (l : Layout) → IsRing l → l.ring < 65536
-ring_low l ring =
-    omega (arith, ring.some, ring.ring)
+ring_low l ring = omega (arith, ring.some, ring.ring)
 
 -- what a slot tells, the blocks that are lent, and all slots that have a block
 module _ {l : Layout} (ring : IsRing l) {m n : Memory} {slots blocks : ℕ → Type 0}

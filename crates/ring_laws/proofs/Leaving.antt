@@ -129,8 +129,7 @@ at_after : (v : Receive) (t : Told) (ends : Bool) → ends_packet t.second ≡ e
     → (ends_packet t.second ≡ false → bytes_in t.second ≡ 2048)
     → IsAt (cond ends Takes Looks) (v.seen ++ t ∷ []) v.held
 at_after v t true is none opens full = end_more v.seen t opens is
-at_after v t false is none opens full =
-    (none, open_more v.seen t opens (record { goes_on = is; full = full is }))
+at_after v t false is none opens full = (none, open_more v.seen t opens (record { goes_on = is; full = full is }))
 
 saw_tells : (here : List Piece) (k : ℕ) (d : List ℕ) → TellsSlot here k d → is_done (second_half d) ≡ true
     → Saw (told_by d) (piece_at here k)

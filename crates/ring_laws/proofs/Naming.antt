@@ -104,8 +104,7 @@ module _ (m : Memory) (l : Layout) (here : List Piece) (ring : IsRing l) (h : Ha
   stays = written_stays l.ring l.size (slot_at l (vacant l)) vacant_below m (naming b) halves.size
 
   read_back : read_at n (descriptor_at l (vacant l)) 16 ≡ naming b
-  read_back =
-      written_here l.ring l.size (slot_at l (vacant l)) vacant_below m (naming b) halves.size whole h.there
+  read_back = written_here l.ring l.size (slot_at l (vacant l)) vacant_below m (naming b) halves.size whole h.there
 
   pub posted_here : IsPosted n (descriptor_at l (vacant l)) b
   posted_here =
@@ -263,16 +262,14 @@ over_one : (v : Receive) (word : ℕ) → word ≡ tail_behind v.layout (parts_f
     → (length v.named < parts_first v.whole) ⊎ (parts_first v.whole ≤ length v.named)
     → IsMoved v word (posts_one v)
 over_one v word is by (inr few) =
-    let e : many v (parts_first v.whole) ≡ parts_first v.whole =
-    length-take-le (parts_first v.whole) v.named few in
+    let e : many v (parts_first v.whole) ≡ parts_first v.whole = length-take-le (parts_first v.whole) v.named few in
     record {
       blocks = parts_first v.whole;
       packets = 1;
       word_is = is ∙ ap (tail_behind v.layout) (sym e);
       driver = refl;
     }
-over_one v word is (inl one) (inl more) =
-    absurd (omega (arith, one.few, more))
+over_one v word is (inl one) (inl more) = absurd (omega (arith, one.few, more))
 over_one v word is (inr all) (inl more) =
     over_all v (parts_first v.whole) 1 word (posts_one v) (omega (arith, more)) all refl
 
@@ -283,15 +280,13 @@ not_one v word other (inr all) = all
 
 moved_by : (v : Receive) (word : ℕ) (t : Bool) → (word == tail_behind v.layout (parts_first v.whole)) ≡ t
     → IsWord v word → IsMoved v word (cond t (posts_one v) (posts_all v))
-moved_by v word true is by =
-    over_one v word (eqb-true word _ is) by (cases_lt (length v.named) (parts_first v.whole))
+moved_by v word true is by = over_one v word (eqb-true word _ is) by (cases_lt (length v.named) (parts_first v.whole))
 moved_by v word false is by =
     over_all v (length v.named) (length v.whole) word (posts_all v) (omega arith) (not_one v word is by) refl
 
 moved_is : (v : Receive) (port : Port) (number word : ℕ) → MovesNext v port number word
     → IsMoved v word (drive v (event.Write port number word) reply.Done)
-moved_is v port number word own =
-    moved_by v word (word == tail_behind v.layout (parts_first v.whole)) refl own.word_is
+moved_is v port number word own = moved_by v word (word == tail_behind v.layout (parts_first v.whole)) refl own.word_is
 
 pub word_low : (v : Receive) (port : Port) (number word : ℕ) → IsRing (reach v) → MovesNext v port number word
     → word < 65536

@@ -24,8 +24,7 @@ enable_words_keep s queue sent v port n word made names rests (f, h) =
     still-agrees h e made (plain-write s port n word (place Txdctl queue) 0xFFFFFFFF names refl)
     (set_up-same (transmit_queue_of s.registers queue) (transmit_queue_of (after s e).registers queue) v.layout v.posted
     f (ap (λ (x : Side). x.ring) is) (ap (λ (x : Side). x.writeback) is) h.set_up)
-    (sends is h.sends)
-    (λ number is. ap (λ (m : Memory). map.get m number) (write_memory s port n word))
+    (sends is h.sends) (λ number is. ap (λ (m : Memory). map.get m number) (write_memory s port n word))
   where
     Sends : State → Type 0
     Sends t = SendsInOrder t queue sent v.layout.limit (drop f v.outstanding) v.accepted

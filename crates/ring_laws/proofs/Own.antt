@@ -239,8 +239,7 @@ module _ (l : Layout) (here : List Piece) (next : l.next < l.size) (room : lengt
   pub set_up_on : (q : ReceiveQueue) → IsSetUp q l (length here) → IsSetUp q (consumed l) (length (drop 1 here))
   set_up_on q up =
       let e : 1 + length (drop 1 here) ≡ length here = omega (arith, length-drop 1 here, some) in
-      let f : 1 + length (drop 1 l.blocks) ≡ length l.blocks =
-      omega (arith, length-drop 1 l.blocks, within, some) in
+      let f : 1 + length (drop 1 l.blocks) ≡ length l.blocks = omega (arith, length-drop 1 l.blocks, within, some) in
       assumption (
         up.head ∙ ap (slot_at l) (sym e)
             ∙ sym (slot_on l (length (drop 1 here)) next (omega (arith, e, within, room))),
@@ -312,8 +311,7 @@ Driven queue s out v e = Agree queue (after s e) out (drive v e (reply_to s e))
 
 quiet : (queue : ℕ) (s : State) (out : List Piece) (v : Receive) (e : Event Block) → Driven queue s out v e
     → Agree queue (after s e) (out ++ []) (drive v e (reply_to s e))
-quiet queue s out v e d =
-    subst (λ xs. Agree queue (after s e) xs (drive v e (reply_to s e))) (sym (append-nil out)) d
+quiet queue s out v e d = subst (λ xs. Agree queue (after s e) xs (drive v e (reply_to s e))) (sym (append-nil out)) d
 
 pub own_keeps : OwnEventKeeps
 own_keeps queue s out v (event.Peek16 a) i j own =

@@ -12,8 +12,7 @@ use Rattle.ring_laws.specs.Pieces.{Piece, open_after, packet_told, packets_behin
 use Rattle.ring_laws.specs.Joint.{still_held}
 
 -- what was seen stays so as a piece more is written
-pub seen_longer : (seen : List Told) (here : List Piece) (p : Piece) → AreSeen seen here
-    → AreSeen seen (here ++ p ∷ [])
+pub seen_longer : (seen : List Told) (here : List Piece) (p : Piece) → AreSeen seen here → AreSeen seen (here ++ p ∷ [])
 seen_longer [] here p is = tt
 seen_longer (t ∷ ts) [] p is = absurd is
 seen_longer (t ∷ ts) (q ∷ here) p is = (is.0, seen_longer ts here p is.1)
@@ -24,8 +23,7 @@ pub seen_more : (seen : List Told) (here : List Piece) (t : Told) → AreSeen se
 seen_more [] [] t is below saw = absurd (omega (arith, below))
 seen_more [] (q ∷ here) t is below saw = (saw, tt)
 seen_more (u ∷ ts) [] t is below saw = absurd is
-seen_more (u ∷ ts) (q ∷ here) t is below saw =
-    (is.0, seen_more ts here t is.1 (omega (arith, below)) saw)
+seen_more (u ∷ ts) (q ∷ here) t is below saw = (is.0, seen_more ts here t is.1 (omega (arith, below)) saw)
 
 pub seen_within : (seen : List Told) (here : List Piece) → AreSeen seen here → length seen ≤ length here
 seen_within [] here is = omega arith

@@ -120,8 +120,7 @@ module _ (v : Sender) (g : ℕ) (l : IsLayout v.layout) (c : IsCounted v (g + 1)
 
 module _ {s : State} {queue : ℕ} {sent : List (List ℕ)} {v : Sender} {f : ℕ} (h : AgreesAt s queue sent v f) where
   known : f ≤ length v.outstanding
-  known =
-      let c = h.counted in omega (arith, c.fetched_posted, c.posted_poked, c.poked_lent, c.lent_known)
+  known = let c = h.counted in omega (arith, c.fetched_posted, c.posted_poked, c.poked_lent, c.lent_known)
 
   -- a block is lent for a segment, the next one of these, which begin with those that are lent
   lent_agrees : (x : Segment) (b : Block) → MayLend v x b → (ss : List Segment) (ks : List Kept)
@@ -203,8 +202,7 @@ module _ {s : State} {queue : ℕ} {sent : List (List ℕ)} {v : Sender} {f : �
   pub move-keeps : (m : Move) (e : Event Block) → MayMove queue v s e m → IsKept m e
   move-keeps (Accepts p) (event.Lend b) may = quiet (Accepts p) (event.Lend b) refl (accept_one p b may.0 may.1)
   move-keeps Lends (event.Lend b) may = quiet Lends (event.Lend b) refl (lend_one b may.0 may.1)
-  move-keeps Asks (event.Poke16 a bytes) may =
-      quiet Asks (event.Poke16 a bytes) refl (ask_one h a bytes may.0 may.1)
+  move-keeps Asks (event.Poke16 a bytes) may = quiet Asks (event.Poke16 a bytes) refl (ask_one h a bytes may.0 may.1)
   move-keeps Advances (event.Write port n word) may =
       quiet Advances (event.Write port n word) refl (advance_one h port n word may.0 may.1)
   move-keeps Looks (event.Peek16 a) may = quiet Looks (event.Peek16 a) refl (look_one h a may.0)
@@ -230,8 +228,7 @@ module _ {s : State} {queue : ℕ} {sent : List (List ℕ)} {v : Sender} {f : �
   moved-stays-up Advances (event.Write port n word) may = advance-stays-up h port n word may.0 up
   moved-stays-up Looks (event.Peek16 a) may = same_up (after s (event.Peek16 a)) (memory_rest.peek s a).queues
   moved-stays-up Reaps (event.Take n) may = same_up (after s (event.Take n)) (memory_rest.take s n).queues
-  moved-stays-up Elsewhere e may =
-      up_kept Tx queue s e up (never-shuts h e) (spared_did h e may)
+  moved-stays-up Elsewhere e may = up_kept Tx queue s e up (never-shuts h e) (spared_did h e may)
   moved-stays-up m e may = absurd may.0
 
 pub up_stays : UpStays

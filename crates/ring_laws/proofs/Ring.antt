@@ -52,8 +52,7 @@ module _ (ring size slot : ℕ) (below : slot < size) where
       is_lent_in m (descriptor_in ring slot) 16 (ring + slot / 128) (16 * (slot % 128))
       (each_slot_block ring size (λ b. IsTrue (has_block m b)) has slot below) (slot_place ring slot) (slot_fits slot)
 
-  pub slot_looked : (s : State) → Has s.memory
-      → step_of s (event.Peek16 (descriptor_in ring slot))
+  pub slot_looked : (s : State) → Has s.memory → step_of s (event.Peek16 (descriptor_in ring slot))
       ≡ gives (Bytes (read_at s.memory (descriptor_in ring slot) 16)) s
   unfolding step_of
   slot_looked s has = rw (aligned ring slot, slot_lent s.memory has) refl
@@ -61,8 +60,7 @@ module _ (ring size slot : ℕ) (below : slot < size) where
   pub slot_poked : (s : State) (bytes : List ℕ) → Has s.memory
       → step_of s (event.Poke16 (descriptor_in ring slot) bytes)
       ≡ gives Done (record s { memory = write_at s.memory (descriptor_in ring slot) bytes })
-  slot_poked s bytes has =
-      poked_is s (descriptor_in ring slot) bytes (aligned ring slot) (slot_lent s.memory has)
+  slot_poked s bytes has = poked_is s (descriptor_in ring slot) bytes (aligned ring slot) (slot_lent s.memory has)
 
 -- What stays from one memory to another: which of the ring's blocks are lent, these of its descriptors, and the bytes of
 -- these of the blocks beside it.

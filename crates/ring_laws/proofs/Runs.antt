@@ -74,8 +74,7 @@ pub one-turn : (s : State) (queue : ℕ) (sent : List (List ℕ)) (v : Sender) (
     → Agrees (after s e) queue (sent ++ sent_by queue s e) (known v o r)
 one-turn s queue sent v e r None (f, h) is may = spares-keeps h e may
 one-turn s queue sent v e r (Some m) (f, h) is may =
-    subst (λ x. Agrees (after s e) queue (sent ++ sent_by queue s e) (moved v m x)) (sym is)
-    (move-keeps h m e may)
+    subst (λ x. Agrees (after s e) queue (sent ++ sent_by queue s e) (moved v m x)) (sym is) (move-keeps h m e may)
 
 pub over-turns : (s : State) (queue : ℕ) (sent : List (List ℕ)) (v : Sender) (ts : List Turn) → Agrees s queue sent v
     → IsLegal s (entries_of ts) → MayRun queue v s ts
@@ -149,8 +148,7 @@ module _ {s : State} {queue : ℕ} {sent : List (List ℕ)} {v : Sender} {f : �
       omega (arith, longer, ap length same, ap length split, length-append xs more)
 
 pub idle_is_all_sent : IdleIsAllSent
-idle_is_all_sent queue s v ts o none =
-    idle-all (over-turns s queue [] v ts o.agreed o.legal o.may).1 (ap length none)
+idle_is_all_sent queue s v ts o none = idle-all (over-turns s queue [] v ts o.agreed o.legal o.may).1 (ap length none)
 
 pub sent_in-append : (queue : ℕ) (s : State) (g h : List Entry)
     → sent_in queue s (g ++ h) ≡ sent_in queue s g ++ sent_in queue (leads_to s g) h
@@ -170,8 +168,7 @@ waiting-left s queue sent v (f, h) finds xs more split same =
     look-tells h finds.posted finds.bytes finds.told in
     elim (cases_lt end f) [
       | inl some ↦
-          both_ways (is_sent finds.bytes) finds.waits
-          (ap is_sent seen ∙ look-fetched h finds.posted some)
+          both_ways (is_sent finds.bytes) finds.waits (ap is_sent seen ∙ look-fetched h finds.posted some)
       | inr none ↦ left-over h xs more split finds.posted none same
     ]
 
@@ -270,10 +267,8 @@ run w mine s sent v (t ∷ ts) j functions all legal alone =
     )
 
 pub alone_may_run : AloneMayRun
-alone_may_run w mine s v ts agreed functions lent legal alone =
-    run w mine s [] v ts agreed functions lent legal alone
+alone_may_run w mine s v ts agreed functions lent legal alone = run w mine s [] v ts agreed functions lent legal alone
 
 pub sent_is_prefix_where_alone : SentIsPrefixWhereAlone
 sent_is_prefix_where_alone w mine s v ts agreed functions lent legal alone =
-    sent_is_prefix w.queue s v ts
-    (assumption (alone_may_run w mine s v ts agreed functions lent legal alone))
+    sent_is_prefix w.queue s v ts (assumption (alone_may_run w mine s v ts agreed functions lent legal alone))

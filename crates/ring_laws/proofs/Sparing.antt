@@ -73,9 +73,7 @@ module _ {s : State} {queue : ℕ} {sent : List (List ℕ)} {v : Sender} {f : �
     posted = more h tried.some
 
     next_left : drop f v.outstanding ≡ x ∷ rest
-    next_left =
-        drop_more v.outstanding f no_segment
-        (omega (arith, lent h posted, h.counted.lent_known))
+    next_left = drop_more v.outstanding f no_segment (omega (arith, lent h posted, h.counted.lent_known))
 
     in_turn : SendsInOrder s queue sent v.layout.limit (drop f v.outstanding) v.accepted
         → IsInTurn v.layout.limit staged sent (x ∷ rest) v.accepted
@@ -90,8 +88,7 @@ module _ {s : State} {queue : ℕ} {sent : List (List ℕ)} {v : Sender} {f : �
 
   -- it meets no fault
   pub never-shuts : (e : Event Block) → Shuts Tx queue s e → ⊥
-  never-shuts e y =
-      let clash = sym (ap (λ (o : Fetch). o.answer) (fetches y.tried)) ∙ y.fault.answer in cc
+  never-shuts e y = let clash = sym (ap (λ (o : Fetch). o.answer) (fetches y.tried)) ∙ y.fault.answer in cc
 
   module _ (e : Event Block) (y : Takes Tx queue s e) where
     abbrev u : State
@@ -109,8 +106,7 @@ module _ {s : State} {queue : ℕ} {sent : List (List ℕ)} {v : Sender} {f : �
         (done_descriptor (asking x)) else s.memory)
     memory_is =
         ap (λ (o : Outcome). o.state.memory) y.work.step ∙ ap (λ (o : Fetch). o.memory) (fetches y.tried)
-        ∙ ap (λ (a : ℕ). if x.part.last then write_at s.memory a (done_descriptor (asking x)) else s.memory)
-        (head_is h)
+        ∙ ap (λ (a : ℕ). if x.part.last then write_at s.memory a (done_descriptor (asking x)) else s.memory) (head_is h)
 
     staged_is : staged_by u queue ≡ staged_behind staged x
     staged_is =
@@ -139,8 +135,7 @@ module _ {s : State} {queue : ℕ} {sent : List (List ℕ)} {v : Sender} {f : �
     side_is =
         ap transmit_of y.side
         ∙ ap (λ (n : ℕ). record side { ring = record side.ring { head = n } })
-        (rw (slots h, h.set_up.head)
-        (slot-next v.layout h.based.layout f (small h (posted y.tried))))
+        (rw (slots h, h.set_up.head) (slot-next v.layout h.based.layout f (small h (posted y.tried))))
 
     pub takes-keeps : IsEvent e → WritesNoSetting s e → Agrees u queue (sent ++ sent_by queue s e) v
     takes-keeps made none = (
@@ -153,8 +148,7 @@ module _ {s : State} {queue : ℕ} {sent : List (List ℕ)} {v : Sender} {f : �
             (omega (arith, posted y.tried)) h.counted.posted_poked h.counted.poked_lent;
         shows = rw memory_is (shows-fetched h (posted y.tried));
         sends = inl (record {
-          packets =
-              subst (λ (l : List ℕ). ArePackets v.layout.limit l rest) (sym staged_is) (turn y.tried).packets.2;
+          packets = subst (λ (l : List ℕ). ArePackets v.layout.limit l rest) (sym staged_is) (turn y.tried).packets.2;
           in_order =
               (turn y.tried).in_order
               ∙ sym (append_assoc sent (frame_ended staged x) (frames_from (staged_behind staged x) rest))

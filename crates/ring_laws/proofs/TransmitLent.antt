@@ -50,8 +50,7 @@ later_at n (x ∷ ss) (suc k) ne is = elim (or_cases (n == x.block) (among (take
   | inr later ↦ let e : k ≡ suc k - 1 = omega arith in subst (λ (j : ℕ). among (take j ss) n ≡ true) e later
 ]
 
-before_at : (n : ℕ) (ss : List Segment) (k : ℕ) → among (take (k - 1) (drop 1 ss)) n ≡ true
-    → among (take k ss) n ≡ true
+before_at : (n : ℕ) (ss : List Segment) (k : ℕ) → among (take (k - 1) (drop 1 ss)) n ≡ true → among (take k ss) n ≡ true
 before_at n ss zero is = cc
 before_at n [] (suc k) is =
     let e : suc k - 1 ≡ k = omega arith in
@@ -155,8 +154,7 @@ module _ (own others : Blocks) (s : State) (v : Sender)
         (subst (λ (n : ℕ). has_lent v n ≡ false) (sym may.number) may.away) is.1)
 
     own_anew : (m : Move) (e : Event Block) → IsOwn v m e → LendsOwn own others e → LendsAnew s m e
-    own_anew (Accepts p) (event.Lend b) may is =
-        lends_anew (slice_index_or (segments_of p) 0 no_segment) b may.first is
+    own_anew (Accepts p) (event.Lend b) may is = lends_anew (slice_index_or (segments_of p) 0 no_segment) b may.first is
     own_anew Lends (event.Lend b) may is = lends_anew (segment_at v v.lent) b may.1 is
     own_anew Elsewhere e may is = tt
     own_anew m (event.Lend b) may is = absurd may

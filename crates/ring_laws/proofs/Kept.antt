@@ -17,8 +17,8 @@ use Rattle.ring_laws.specs.ReceivePrelude.{EachRingBlock}
 use Rattle.pmd_rx.specs.{Keeping.fresh_block, Keeping.has_lent, PmdSeam.Slots.ring_blocks}
 use Rattle.pmd_rx.proofs.PmdSeam.Rings.{each_ring_block, ring_block_among, ring_block_is}
 use Rattle.std.proofs.lemmas.Bool.{eq-eqb, eqb-true, or_cases, or_left, or_right}
-use Rattle.std.{proofs.lemmas.List.Folds.list_any-append, specs.List.list_any}
-use Rattle.std.specs.Prelude.{◌==◌, ◌||◌, Bool, zero}
+use Rattle.std.{proofs.lemmas.List.Folds.list_any-append, proofs.lemmas.List.Folds.list_any_at, specs.List.list_any}
+use Rattle.std.specs.Prelude.{◌==◌, ◌||◌, Bool}
 use Rattle.ring_laws.specs.{Pieces.Piece, Pieces.piece_at, Steps.Each, Steps.IfFresh}
 
 -- Places around a ring, and the addresses of its descriptors and buffers.
@@ -103,9 +103,9 @@ among-both xs ys n = list_any-append (λ (b : ℕ). n == b) xs ys
 
 -- each of some blocks that come before others
 among_first : (xs ys : List ℕ) (k : ℕ) → k < length xs → among (xs ++ ys) (slice_index xs k) ≡ true
-among_first [] ys k below = absurd (omega (arith, below))
-among_first (x ∷ xs) ys zero below = or_left (x == x) (among (xs ++ ys) x) (eq-eqb x x refl)
-among_first (x ∷ xs) ys (suc k) below = or_right (slice_index xs k == x) _ (among_first xs ys k (omega (arith, below)))
+among_first xs ys k below =
+    list_any_at (λ b. slice_index xs k == b) (xs ++ ys) k 0 (omega (arith, below, length-append xs ys))
+    (eq-eqb _ _ (sym (get_or_append_left xs ys 0 k below)))
 
 -- where a block is in a list
 any_place : (xs : List ℕ) (n : ℕ) → among xs n ≡ true → (k : ℕ) × (k < length xs) × (slice_index xs k ≡ n)

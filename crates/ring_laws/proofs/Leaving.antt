@@ -153,17 +153,20 @@ looked_holds queue s out v gone here d true h looks tells is =
     (at_after v (told_by d) (ends_packet (second_half d)) refl at.0 at.1
     (part_open v.layout.most (length v.seen) (second_half d) both.1)))
 
--- an event of the driver's own, as it is written otherwise, by its outcome
+-- after an event of the driver's own the two agree, with the driver that it leads to
+abbrev pub Driven : ℕ → State → List Piece → Receive → Event Block → Type 0
+Driven queue s out v e = Agree queue (after s e) out (drive v e (reply_to s e))
+
+-- as the event is written otherwise, by its outcome
 pub by_outcome : (queue : ℕ) (s : State) (out : List Piece) (v : Receive) (e d : Event Block) (o : Outcome) → e ≡ d
-    → step_of s d ≡ o → Agree queue o.state out (drive v d o.reply)
-    → Agree queue (after s e) out (drive v e (reply_to s e))
+    → step_of s d ≡ o → Agree queue o.state out (drive v d o.reply) → Driven queue s out v e
 by_outcome queue s out v e d o same is agree =
-    subst (λ x. Agree queue (after s x) out (drive v x (reply_to s x))) (sym same)
+    subst (Driven queue s out v) (sym same)
     (subst (λ (p : Outcome). Agree queue p.state out (drive v d p.reply)) (sym is) agree)
 
 -- the driver's look at the slot behind those that it saw keeps the agreement
 pub look_keeps : (queue : ℕ) (s : State) (out : List Piece) (v : Receive) (a : ℕ) → Agree queue s out v → PeeksNext v a
-    → Agree queue (after s (event.Peek16 a)) out (drive v (event.Peek16 a) (reply_to s (event.Peek16 a)))
+    → Driven queue s out v (event.Peek16 a)
 look_keeps queue s out v a (gone, here, h) own =
     let k = length v.seen in
     by_outcome queue s out v (event.Peek16 a) (event.Peek16 (descriptor_at v.layout k)) _ (ap event.Peek16 own.address)
@@ -206,8 +209,7 @@ lent_holds queue s out v gone here b h own =
     (end_last v.stage v.seen v.held (none_looked v.stage v.seen own.stage) h.order.stage))
 
 pub lend_keeps : (queue : ℕ) (s : State) (out : List Piece) (v : Receive) (b : Block) → Agree queue s out v
-    → LendsNext v b
-    → Agree queue (after s (event.Lend b)) out (drive v (event.Lend b) (reply_to s (event.Lend b)))
+    → LendsNext v b → Driven queue s out v (event.Lend b)
 unfolding step_of
 lend_keeps queue s out v b (gone, here, h) own =
     lent_cases (λ o. Agree queue o.state out (drive v (event.Lend b) o.reply)) s b (gone, here, h)

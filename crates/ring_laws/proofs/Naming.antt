@@ -5,8 +5,8 @@ use Rattle.std.proofs.lemmas.Bool.{cases_lt, eqb-false, eqb-true}
 use Rattle.std.proofs.lemmas.List.{append-nil, length-append, length-take-le, length_push, map-append, take-append-drop}
 use Rattle.std.{proofs.lemmas.List.take_all, specs.Prelude.◌==◌, specs.Prelude.⊤}
 use Rattle.history_laws.specs.Prelude.{Done, GcrExt, IsWhole, Memory, Place, Port, Rdt, ReceiveQueue}
-use Rattle.history_laws.specs.Prelude.{Registers, State, after, after_write, first_half, gives, is_done}
-use Rattle.history_laws.specs.Prelude.{mode_in, named_written, place, read_at, receive_queue_of, reply_to, second_half}
+use Rattle.history_laws.specs.Prelude.{Registers, State, after_write, first_half, gives, is_done}
+use Rattle.history_laws.specs.Prelude.{mode_in, named_written, place, read_at, receive_queue_of, second_half}
 use Rattle.history_laws.specs.Prelude.{step_of, write_at}
 use Rattle.ring_laws.specs.ReceivePrelude.{Kept, Layout, Lent, Looks, MovesNext, NamesNext, Packet, Receive, Stage}
 use Rattle.ring_laws.specs.ReceivePrelude.{Told}
@@ -23,7 +23,7 @@ use Rattle.ring_laws.proofs.Ring.{Stays, slot_poked, written_here, written_stays
 use Rattle.ring_laws.proofs.Parts.{end_last, left_twice, next_at, none_twice, order_same}
 use Rattle.ring_laws.specs.Joint.{Agree, HasSlots, Holds, InOrder, IsFilled, IsLoose, IsNamed, IsPosted, IsRing}
 use Rattle.ring_laws.proofs.{Kept.names_reach, Kept.posts_reach, Kept.push_place, Kept.reach_long, Kept.slot_below}
-use Rattle.ring_laws.proofs.{Leaving.by_outcome}
+use Rattle.ring_laws.proofs.{Leaving.Driven, Leaving.by_outcome}
 use Rattle.ring_laws.specs.{Joint.IsSetUp, Joint.StageHolds, Joint.packets_had, Pieces.Piece, Pieces.piece_at}
 use Rattle.nic_device.specs.declared.event.Event.TheVariants as event
 use Rattle.nic_device.specs.declared.event.Reply.TheVariants as reply
@@ -149,9 +149,7 @@ order_named out gone here v lent o =
     (next_at v.seen v.held (end_last v.stage v.seen v.held (not_looks v.stage v.seen lent) o.stage))
 
 pub name_keeps : (queue : ℕ) (s : State) (out : List Piece) (v : Receive) (a : ℕ) (bytes : List ℕ) → IsWhole s.memory
-    → Agree queue s out v → NamesNext v a bytes
-    → Agree queue (after s (event.Poke16 a bytes)) out
-    (drive v (event.Poke16 a bytes) (reply_to s (event.Poke16 a bytes)))
+    → Agree queue s out v → NamesNext v a bytes → Driven queue s out v (event.Poke16 a bytes)
 name_keeps queue s out v a bytes whole (gone, here, h) own =
     let l = reach v in
     let b = fresh_of v.stage in
@@ -247,46 +245,40 @@ record IsMoved (v : Receive) (word : ℕ) (w : Receive) : Type 0 where
   pub word_is : word ≡ tail_behind v.layout (many v blocks)
   pub driver : w ≡ posts v blocks packets
 
--- a word over one packet's blocks, or over all
-abbrev IsWord : Receive → ℕ → Type 0
-IsWord v word = MovesOne v word ⊎ (word ≡ tail_behind v.layout (length v.named))
-
--- over all that are named, or more
-over_all : (v : Receive) (blocks packets word : ℕ) (w : Receive) → length v.named ≤ blocks
-    → word ≡ tail_behind v.layout (length v.named) → w ≡ posts v blocks packets → IsMoved v word w
-over_all v blocks packets word w all is same =
-    let e : many v blocks ≡ length v.named = ap (λ (bs : List ℕ). length bs) (take_all blocks v.named all) in
-    record { blocks = blocks; packets = packets; word_is = is ∙ ap (tail_behind v.layout) (sym e); driver = same }
-
-over_one : (v : Receive) (word : ℕ) → word ≡ tail_behind v.layout (parts_first v.whole) → IsWord v word
-    → (length v.named < parts_first v.whole) ⊎ (parts_first v.whole ≤ length v.named)
-    → IsMoved v word (posts_one v)
-over_one v word is by (inr few) =
-    let e : many v (parts_first v.whole) ≡ parts_first v.whole = length-take-le (parts_first v.whole) v.named few in
-    record {
-      blocks = parts_first v.whole;
-      packets = 1;
-      word_is = is ∙ ap (tail_behind v.layout) (sym e);
-      driver = refl;
-    }
-over_one v word is (inl one) (inl more) = absurd (omega (arith, one.few, more))
-over_one v word is (inr all) (inl more) =
-    over_all v (parts_first v.whole) 1 word (posts_one v) (omega (arith, more)) all refl
-
-not_one : (v : Receive) (word : ℕ) → (word == tail_behind v.layout (parts_first v.whole)) ≡ false → IsWord v word
-    → word ≡ tail_behind v.layout (length v.named)
-not_one v word other (inl one) = absurd (eqb-false word _ other one.word_is)
-not_one v word other (inr all) = all
-
-moved_by : (v : Receive) (word : ℕ) (t : Bool) → (word == tail_behind v.layout (parts_first v.whole)) ≡ t
-    → IsWord v word → IsMoved v word (cond t (posts_one v) (posts_all v))
-moved_by v word true is by = over_one v word (eqb-true word _ is) by (cases_lt (length v.named) (parts_first v.whole))
-moved_by v word false is by =
-    over_all v (length v.named) (length v.whole) word (posts_all v) (omega arith) (not_one v word is by) refl
-
 moved_is : (v : Receive) (port : Port) (number word : ℕ) → MovesNext v port number word
     → IsMoved v word (drive v (event.Write port number word) reply.Done)
-moved_is v port number word own = moved_by v word (word == tail_behind v.layout (parts_first v.whole)) refl own.word_is
+moved_is v port number word own = by_word (word == tail_behind v.layout first) refl own.word_is
+  where
+    -- how many blocks the oldest whole packet has
+    first : ℕ
+    first = parts_first v.whole
+
+    many_all : (blocks : ℕ) → length v.named ≤ blocks → many v blocks ≡ length v.named
+    many_all blocks all = ap (λ (bs : List ℕ). length bs) (take_all blocks v.named all)
+
+    -- a word over that packet's blocks, or over all
+    by_word : (t : Bool) → (word == tail_behind v.layout first) ≡ t
+        → MovesOne v word ⊎ (word ≡ tail_behind v.layout (length v.named))
+        → IsMoved v word (cond t (posts_one v) (posts_all v))
+    by_word true is by = record {
+      blocks = first;
+      packets = 1;
+      word_is = elim (cases_lt (length v.named) first) [
+        | inl more ↦ elim by [
+          | inl one ↦ absurd (omega (arith, one.few, more))
+          | inr all ↦ all ∙ ap (tail_behind v.layout) (sym (many_all first (omega (arith, more))))
+        ]
+        | inr few ↦ eqb-true word _ is ∙ ap (tail_behind v.layout) (sym (length-take-le first v.named few))
+      ];
+      driver = refl;
+    }
+    by_word false is (inl one) = absurd (eqb-false word _ is one.word_is)
+    by_word false is (inr all) = record {
+      blocks = length v.named;
+      packets = length v.whole;
+      word_is = all ∙ ap (tail_behind v.layout) (sym (many_all (length v.named) (omega arith)));
+      driver = refl;
+    }
 
 pub word_low : (v : Receive) (port : Port) (number word : ℕ) → IsRing (reach v) → MovesNext v port number word
     → word < 65536
@@ -296,8 +288,7 @@ word_low v port number word ring own =
 
 pub move_keeps : (queue : ℕ) (s : State) (out : List Piece) (v : Receive) (port : Port) (number word : ℕ)
     → HasShape s.registers → Agree queue s out v → MovesNext v port number word
-    → Agree queue (after s (event.Write port number word)) out
-    (drive v (event.Write port number word) (reply_to s (event.Write port number word)))
+    → Driven queue s out v (event.Write port number word)
 move_keeps queue s out v port number word shape (gone, here, h) own =
     let m = moved_is v port number word own in
     by_outcome queue s out v (event.Write port number word) (event.Write v.layout.port v.layout.tail word) _

@@ -63,23 +63,17 @@ module _ (queue : ℕ) (s : State) (small : queue < 128) (e : Event Block) (x : 
 -- a history
 
 off_history : (queue : ℕ) (s : State) (h : List Entry) → queue < 128 → AllLeaveSide queue s h → IsOff queue s
-    → IsOff queue (leads_to s h)
-off_history queue s [] small all is = is
+    → IsOff queue (leads_to s h) × (sent_in queue s h ≡ [])
+off_history queue s [] small all is = (is, refl)
 off_history queue s (e ∷ es) small all is =
-    off_history queue (after s e.event) es small all.1 (off-stays queue s small e.event all.0 is)
-
-silent_history : (queue : ℕ) (s : State) (h : List Entry) → queue < 128 → AllLeaveSide queue s h → IsOff queue s
-    → sent_in queue s h ≡ []
-silent_history queue s [] small all is = refl
-silent_history queue s (e ∷ es) small all is =
-    rw (off-sends-none queue s small e.event all.0 is)
-    (silent_history queue (after s e.event) es small all.1 (off-stays queue s small e.event all.0 is))
+    let rest = off_history queue (after s e.event) es small all.1 (off-stays queue s small e.event all.0 is) in
+    (rest.0, rw (off-sends-none queue s small e.event all.0 is) rest.1)
 
 pub off_stays : OffStays
 off_stays = record {
   unwanted = λ queue s e small x none. unwanted-stays queue s small e x none;
-  off = off_history;
-  silent = silent_history;
+  off = λ queue s h small all is. (off_history queue s h small all is).0;
+  silent = λ queue s h small all is. (off_history queue s h small all is).1;
 }
 
 -- What a driver does by the enable word: it asks for the side to be on or off, and sees the side off.

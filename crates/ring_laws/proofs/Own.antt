@@ -1,10 +1,10 @@
 -- The driver's own events: each gets the reply of a healthy queue, and keeps the agreement; here one takes the block of
 -- the next slot.
 use Rattle.std.proofs.Common.{[], ◌*◌, ◌++◌, ◌+◌, ◌<◌, ◌∙◌, ◌∷◌, ◌≡◌, ◌≢◌, ◌≤◌, Bool, List, Some, ap, arith, cond, drop}
-use Rattle.std.proofs.Common.{false, inl, inr, length, nat_lt, not, refl, subst, suc, sym, take, true, ℕ}
-use Rattle.std.proofs.lemmas.Bool.{and_from, cases_Bool, eq-eqb, or_left, or_right}
+use Rattle.std.proofs.Common.{false, inl, inr, length, not, refl, subst, suc, sym, take, true, ℕ}
+use Rattle.std.proofs.lemmas.Bool.{and_from, cases_Bool, eq-eqb, le-leb, lt-ltb, or_left, or_right}
 use Rattle.std.proofs.lemmas.List.{append-nil, get_or-drop, length-drop}
-use Rattle.std.{proofs.lemmas.Bool.Decides.nat_tests, specs.Prelude.nat_le, specs.Prelude.⊤}
+use Rattle.std.{specs.Prelude.⊤}
 use Rattle.history_laws.specs.Prelude.{Block, Event, IsWhole, Memory, Outcome, Port, ReceiveQueue, State, after}
 use Rattle.history_laws.specs.Prelude.{bytes_in, ends_packet, is_done, read_at, receive_queue_of, reply_to, second_half}
 use Rattle.history_laws.specs.Prelude.{step_of}
@@ -18,7 +18,7 @@ use Rattle.pmd_rx.specs.{Receive.TakesNext, Receive.consumed, Wrong.is_healthy, 
 use Rattle.history_laws.proofs.Lent.{anew_is_done, taken_is}
 use Rattle.ring_laws.proofs.Kept.{filled_stays, named_kept, posted_block, posted_in, posted_stays, slot_below}
 use Rattle.ring_laws.proofs.Ring.{Stays, same_stays, slot_poked}
-use Rattle.ring_laws.proofs.Leaving.{by_outcome, lend_keeps, look_keeps, look_tells, looked_is}
+use Rattle.ring_laws.proofs.Leaving.{Driven, by_outcome, lend_keeps, look_keeps, look_tells, looked_is}
 use Rattle.ring_laws.proofs.Parts.{first_seen, none_left, order_on, seen_within}
 use Rattle.ring_laws.specs.Joint.{Agree, AreOpen, AreSeen, HasSlots, Holds, IsAt, IsFilled, IsPosted, IsRing}
 use Rattle.ring_laws.specs.Pieces.{AllFit, Fits, Piece, no_piece, open_after, piece_at}
@@ -47,20 +47,14 @@ next-fits most n (t ∷ ts) (p ∷ here) all are opens below =
     (let e : n + 1 + length ts ≡ n + suc (length ts) = omega arith in e)
     (next-fits most (n + 1) ts here rest are.1 opens.1 (omega (arith, below)))
 
-le_of : (m n : ℕ) → m ≤ n → nat_le m n ≡ true
-le_of m n is = grind (arith, nat_tests)
-
-lt_of : (m n : ℕ) → m < n → nat_lt m n ≡ true
-lt_of m n is = grind (arith, nat_tests)
-
 part_is : (most before second : ℕ) (p : Piece) (ends : Bool) → ends_packet second ≡ ends → ends_packet second ≡ p.end
     → bytes_in second ≡ length p.bytes → length p.bytes ≤ 2048 → Fits most before p
     → is_part most before second ≡ true
 part_is most before second p true is end len short fits =
-    rw is (le_of (bytes_in second) 2048 (subst (λ (n : ℕ). n ≤ 2048) (sym len) short))
+    rw is (le-leb (bytes_in second) 2048 (subst (λ (n : ℕ). n ≤ 2048) (sym len) short))
 part_is most before second p false is end len short fits =
     let on : p.end ≡ false = sym end ∙ is in
-    rw is (and_from _ _ (eq-eqb (bytes_in second) 2048 (len ∙ fits.full on)) (lt_of (before + 1) most (fits.more on)))
+    rw is (and_from _ _ (eq-eqb (bytes_in second) 2048 (len ∙ fits.full on)) (lt-ltb (before + 1) most (fits.more on)))
 
 module _ (queue : ℕ) (s : State) (out : List Piece) (v : Receive) (gone here : List Piece)
     (h : Holds queue s out v gone here)
@@ -264,8 +258,7 @@ some_here : (seen : List Told) (here : List Piece) → AreSeen seen here → 0 <
 some_here seen here are some = let within = seen_within seen here are in omega (arith, within, some)
 
 pub take_keeps : (queue : ℕ) (s : State) (out : List Piece) (v : Receive) (n : ℕ) (seen : List Told) → IsWhole s.memory
-    → Agree queue s out v → TakesNext v n → v.seen ≡ seen
-    → Agree queue (after s (event.Take n)) out (drive v (event.Take n) (reply_to s (event.Take n)))
+    → Agree queue s out v → TakesNext v n → v.seen ≡ seen → Driven queue s out v (event.Take n)
 take_keeps queue s out v n [] whole j own is =
     let none = ap (λ (xs : List Told). length xs) is in
     absurd (omega (arith, own.some, none))
@@ -305,9 +298,6 @@ take_keeps queue s out v n (t ∷ ts) whole (gone, here, h) own is =
     (subst (λ (xs : List Told). Agree queue u out (took v xs b)) (sym is) after_it)
 
 -- Each event of the driver's own keeps the agreement.
-
-abbrev Driven : ℕ → State → List Piece → Receive → Event Block → Type 0
-Driven queue s out v e = Agree queue (after s e) out (drive v e (reply_to s e))
 
 quiet : (queue : ℕ) (s : State) (out : List Piece) (v : Receive) (e : Event Block) → Driven queue s out v e
     → Agree queue (after s e) (out ++ []) (drive v e (reply_to s e))

@@ -1,7 +1,8 @@
 -- Parts of packets: what the driver saw of them, and how the pieces are cut behind those that were consumed.
 use Rattle.std.proofs.Common.{[], ◌++◌, ◌+◌, ◌<◌, ◌∙◌, ◌∷◌, ◌≡◌, ◌≤◌, Bool, List, ap, append_assoc, arith, cond, drop}
-use Rattle.std.proofs.Common.{false, length, refl, subst, suc, sym, take, true, ℕ}
+use Rattle.std.proofs.Common.{false, length, refl, subst, sym, take, true, ℕ}
 use Rattle.std.proofs.lemmas.List.{append-nil, length-append, length_push, map-append}
+use Rattle.std.proofs.Math.Seq.{take-append-add, take-length}
 use Rattle.history_laws.specs.Prelude.{Block, bytes_in, ends_packet}
 use Rattle.ring_laws.specs.ReceivePrelude.{Kept, Looks, Packet, Receive, Stage, Takes, Told, ended_of, kept_of, left_of}
 use Rattle.ring_laws.specs.ReceivePrelude.{next_stage, no_packet, records_of, took}
@@ -69,16 +70,6 @@ none_left (t ∷ ts) = refl
 
 -- a part joins a packet
 
-take_past : (xs ys : List ℕ) (n : ℕ) → take (length xs + n) (xs ++ ys) ≡ xs ++ take n ys
-take_past [] ys n = ap (λ (k : ℕ). take k ys) (let e : 0 + n ≡ n = omega arith in e)
-take_past (x ∷ xs) ys n =
-    ap (λ (k : ℕ). take k (x ∷ (xs ++ ys))) (let e : suc (length xs) + n ≡ suc (length xs + n) = omega arith in e)
-    ∙ ap (λ (zs : List ℕ). x ∷ zs) (take_past xs ys n)
-
-take_all : (xs : List ℕ) → take (length xs) xs ≡ xs
-take_all [] = refl
-take_all (x ∷ xs) = ap (λ (zs : List ℕ). x ∷ zs) (take_all xs)
-
 joined_bytes : (p : Packet) (b : Block) (t : Told) → length (bytes_of p.bufs) ≡ p.len
     → (kept_of (joined p b t)).bytes ≡ (kept_of p).bytes ++ take (bytes_in t.second) b.bytes
 joined_bytes p b t full =
@@ -86,8 +77,8 @@ joined_bytes p b t full =
     let n = bytes_in t.second in
     ap (λ (ys : List ℕ). take (p.len + n) ys) (bytes-more p.bufs b)
     ∙ ap (λ (k : ℕ). take (k + n) (xs ++ b.bytes)) (sym full)
-    ∙ take_past xs b.bytes n
-    ∙ ap (λ (ys : List ℕ). ys ++ take n b.bytes) (sym (ap (λ (k : ℕ). take k xs) (sym full) ∙ take_all xs))
+    ∙ take-append-add xs b.bytes n
+    ∙ ap (λ (ys : List ℕ). ys ++ take n b.bytes) (sym (ap (λ (k : ℕ). take k xs) (sym full) ∙ take-length xs))
 
 joined_length : (p : Packet) (b : Block) (t : Told) → length (bytes_of p.bufs) ≡ p.len → length b.bytes ≡ 2048
     → bytes_in t.second ≡ 2048 → length (bytes_of (joined p b t).bufs) ≡ (joined p b t).len

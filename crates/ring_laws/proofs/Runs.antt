@@ -6,7 +6,7 @@ use Rattle.std.proofs.lemmas.List.{append-nil, drop_all, get_or-drop, length-app
 use Rattle.std.specs.Prelude.{◌==◌, IsTrue, slice_index_or}
 use Rattle.history_laws.specs.Prelude.{Block, Blocks, Entry, Event, IsLegal, LeavesBlock, Reply, Rx, State, Tx, Watched}
 use Rattle.history_laws.specs.Prelude.{WritesOutside, Wrote, after, calls_of, leads_to, read_at, reply_to, staged_by}
-use Rattle.ring_laws.specs.TransmitPrelude.{Accepts, Advances, Asks, Elsewhere, Kept, Lends, Looks, Move, Reaps}
+use Rattle.ring_laws.specs.TransmitPrelude.{Elsewhere, Kept, Move}
 use Rattle.ring_laws.specs.TransmitPrelude.{Segment}
 use Rattle.ring_laws.specs.TransmitPrelude.{Sender, descriptor_at, first_end, has_lent, is_sent, moved, no_segment}
 use Rattle.ring_laws.specs.TransmitPrelude.{segment_at}
@@ -239,12 +239,7 @@ module _ (w : Watched) (mine : Blocks) (s : State) (sent : List (List ℕ)) (v :
 
     moved_mine : (m : Move) → MayMoveAlone w mine v s e m → AreMine mine (moved v m (reply_to s e))
     moved_mine Elsewhere a = all
-    moved_mine (Accepts p) a = mine-moved mine v all (Accepts p) e (reply_to s e) a.0 a.2
-    moved_mine Lends a = mine-moved mine v all Lends e (reply_to s e) a.0 a.2
-    moved_mine Asks a = mine-moved mine v all Asks e (reply_to s e) a.0 a.2
-    moved_mine Advances a = mine-moved mine v all Advances e (reply_to s e) a.0 a.2
-    moved_mine Looks a = mine-moved mine v all Looks e (reply_to s e) a.0 a.2
-    moved_mine Reaps a = mine-moved mine v all Reaps e (reply_to s e) a.0 a.2
+    moved_mine m a = mine-moved mine v all m e (reply_to s e) a.0 a.2
 
     mine_after : (o : Option Move) → MayComeAlone w mine v s e o → AreMine mine (known v o (reply_to s e))
     mine_after None a = all

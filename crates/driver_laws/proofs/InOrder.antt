@@ -17,18 +17,19 @@ use Rattle.driver_laws.specs.Prelude.{lent_by, mode_in, packets_if_any, pieces, 
 use Rattle.driver_laws.specs.Prelude.{records_of, reply_to, sent_by, sent_in, sent_since}
 use Rattle.driver_laws.specs.{Histories.NoneIsAllBefore, Histories.OthersLeaveAlone, Waiting.WaitingIsNotAll}
 use Rattle.driver_laws.proofs.Meeting.{Goes, Meets, doer_goes, driven_meets}
-use Rattle.driver_laws.proofs.Prelude.{AreLent, BothAgree, IsDriven, LendsMine, doer_of, doers_after, events_behind}
+use Rattle.driver_laws.proofs.Prelude.{AreLent, BothAgree, IsDriven, doer_of, doers_after, events_behind}
 use Rattle.driver_laws.proofs.Prelude.{leads-append, legal_behind, not_again, packets_of, sent_is_counted, since-append}
 use Rattle.nic_device.specs.declared.event.Event.TheVariants as event
 use Rattle.nic_device.specs.declared.event.Reply.TheVariants as reply
 use Rattle.ring_laws.specs.Delivered as receive
 use Rattle.ring_laws.specs.ReceiveUp as received
 use Rattle.ring_laws.specs.Laws as transmit
+use Rattle.ring_laws.specs.Alone.{LendsOneOf}
 
 -- what the pass lends is among these blocks
 pub lends_mine : (pass : ℕ) (mine : Blocks) (own : ℕ) (e : Event Block) (r : Reply Block) → own ≡ pass → IsEvent e
     → ((n : ℕ) → IsTrue (nat_lt n 65536 && ((own == pass) && lends e r n)) → IsTrue (mine n))
-    → LendsMine mine e r
+    → LendsOneOf mine e r
 lends_mine pass mine own (event.Lend b) reply.Done same made all =
     all b.number (and_from _ _ (lt-ltb b.number 65536 made.whole.small)
     (and_from _ _ (eq-eqb own pass same) (eq-eqb b.number b.number refl)))
@@ -178,11 +179,11 @@ module _ {w : Watched} {mine : Blocks} {s : State} {out : List Piece} {sent : Li
           let other = eqb-false e.pass w.pass is in (r.alone.0.registers other, r.alone.0.blocks other)
 
   -- and one of a half is of the pass
-  own_lends : is_neither first_doer ≡ false → LendsMine mine e.event e.reply
+  own_lends : is_neither first_doer ≡ false → LendsOneOf mine e.event e.reply
   own_lends = by_pass (e.pass == w.pass) refl
     where
       by_pass : (b : Bool) → (e.pass == w.pass) ≡ b → is_neither (doer_of b doers) ≡ false
-          → LendsMine mine e.event e.reply
+          → LendsOneOf mine e.event e.reply
       by_pass true is half =
           lends_mine w.pass mine e.pass e.event e.reply (eqb-true e.pass w.pass is) r.events.0
           (λ n is. r.covers n (or_left _ _ is))
@@ -192,7 +193,7 @@ module _ {w : Watched} {mine : Blocks} {s : State} {out : List Piece} {sent : Li
   goes =
       subst (λ x. Goes w mine s out sent e.event (after_call h first_doer (call_of e.event x))) (sym r.legal.0)
       (doer_goes m e.event r.events.0 steps first_doer own_here left_alone
-      (λ half. subst (λ x. LendsMine mine e.event x) r.legal.0 (own_lends half)))
+      (λ half. subst (λ x. LendsOneOf mine e.event x) r.legal.0 (own_lends half)))
 
 pub leads : {w : Watched} {mine : Blocks} (doers : List Doer) (es : List Entry) {s : State} {out : List Piece}
     {sent : List (List ℕ)} {h : Halves} → Meets w mine s out sent h → Runs w mine s h doers es
@@ -249,7 +250,7 @@ module _ (w : Watched) (origin : State) (start rest : List Entry) (h : Halves) (
   pub idle_is_all_sent : last.transmit.outstanding ≡ [] → bytes_of last.transmit.accepted ≡ sent_in w.queue here rest
   idle_is_all_sent none =
       let (f, agrees) = led.both.transmit in
-      idle-all (leads_to here rest) w.queue (sent_in w.queue here rest) last.transmit f agrees (ap length none)
+      idle-all agrees (ap length none)
 
   pub counted_where_up : IsUp w.queue here
       → sent_since w.queue origin [] (start ++ rest) ≡ sent_since w.queue origin [] start ++ sent_in w.queue here rest

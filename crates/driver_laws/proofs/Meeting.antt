@@ -1,6 +1,6 @@
 -- What holds between two entries of a history, and that an event which is either half's, or neither's and leaves the
 -- queue alone, keeps it; so it does a side of the queue that is up.
-use Rattle.std.proofs.Common.{[], ◌++◌, ◌∙◌, ◌≡◌, ◌≢◌, List, Some, ap, false, refl, subst, sym, true, ℕ}
+use Rattle.std.proofs.Common.{[], ◌++◌, ◌∙◌, ◌≡◌, List, Some, ap, false, refl, subst, sym, true, ℕ}
 use Rattle.std.{proofs.lemmas.Bool.both_ways, proofs.lemmas.List.append-nil, specs.Prelude.IsTrue}
 use Rattle.nic_device.specs.RegTable.declared.rows.RowId.TheVariants.{Txdctl}
 use Rattle.nic_device.proofs.Steps.{step_leads}
@@ -9,7 +9,7 @@ use Rattle.pmd.specs.PmdTx.Sending.{moved}
 use Rattle.ring_laws.specs.{Agreeing.Agrees, Fitting.ResetsNoPool, HistoryLaws.Sides.Side}
 use Rattle.ring_laws.specs.{Turns.MayMove}
 use Rattle.ring_laws.proofs.Foreign.{alone_stays_up, left_keeps, left_up, own_stays_up}
-use Rattle.ring_laws.proofs.{HistoryLaws.Written.place_in, HistoryLaws.Written.place_named, Kept.each_of}
+use Rattle.ring_laws.proofs.{HistoryLaws.Written.place_in, HistoryLaws.Written.place_named}
 use Rattle.ring_laws.proofs.{Leaving.leaving_keeps, Leaving.switching_keeps}
 use Rattle.ring_laws.proofs.{Off.enable_words_keep as transmit_word_keeps, Own.own_keeps, Playing.moves_keep}
 use Rattle.ring_laws.proofs.{Playing.up_stays, Runs.left_alone_is_spared, Sparing.sparing_events_keep}
@@ -20,8 +20,8 @@ use Rattle.driver_laws.specs.Prelude.{Piece, Place, Port, Rdt, Receives, Registe
 use Rattle.driver_laws.specs.Prelude.{Watched, WritesNoSetting, WritesOutside, after, after_call, asks_pool_reset}
 use Rattle.driver_laws.specs.Prelude.{call_of, drive, has_bit, has_block, has_lent, is_neither, leads_to, lent_by}
 use Rattle.driver_laws.specs.Prelude.{mode_in, named, pieces, place, reply_to, row_of, sent_by}
-use Rattle.driver_laws.proofs.Lending.{each_all, lends_one, receive_lent, receives_apart, sends_apart}
-use Rattle.driver_laws.proofs.Prelude.{AreLent, BothAgree, IsDriven, LendsMine, Spares, SparesIfSome, asked}
+use Rattle.driver_laws.proofs.Lending.{receive_lent, receives_apart, sends_apart}
+use Rattle.driver_laws.proofs.Prelude.{AreLent, BothAgree, IsDriven, Spares, SparesIfSome, asked}
 use Rattle.driver_laws.proofs.Prelude.{events_before, histories_sound, keeps_sound, mine-moved, mine_driven}
 use Rattle.driver_laws.proofs.Prelude.{plain-write, settings_stand, stays_within, vfs_stays, write_memory, write_rest}
 use Rattle.driver_laws.proofs.Sending.{is_elsewhere, move_setting, move_spares, own_spares, received_spares}
@@ -33,6 +33,7 @@ use Rattle.pmd.specs.PmdTx.Sending as sending
 use Rattle.ring_laws.specs.ReceiveUp as received
 use Rattle.driver_laws.proofs.Prelude.{IsMet}
 use Rattle.driver_laws.proofs.Reached.{free_left}
+use Rattle.ring_laws.specs.Alone.{LendsOneOf}
 
 -- what holds between two entries: the device is sound and agrees with both halves, and their blocks are among these
 pub record Meets (w : Watched) (mine : Blocks) (s : State) (out : List Piece) (sent : List (List ℕ))
@@ -172,7 +173,7 @@ module _ {w : Watched} {mine : Blocks} {s : State} {out : List Piece} {sent : Li
       (writes_tail s w.queue h.receive m.both.receive.2.named port n word own) refl
   own_resets other own = tt
 
-  receives_goes : receiving.IsOwn h.receive e → LendsMine mine e (reply_to s e)
+  receives_goes : receiving.IsOwn h.receive e → LendsOneOf mine e (reply_to s e)
       → GoesBy (record h { receive = drive h.receive e (reply_to s e) })
   receives_goes own lends =
       let (gone, here, holds) = m.both.receive in
@@ -208,12 +209,11 @@ module _ {w : Watched} {mine : Blocks} {s : State} {out : List Piece} {sent : Li
   move_resets move e real own = tt
 
   sends_goes : (move : Move) → is_elsewhere move ≡ false → sending.IsOwn h.transmit move e
-      → LendsMine mine e (reply_to s e) → GoesBy (record h { transmit = moved h.transmit move (reply_to s e) })
+      → LendsOneOf mine e (reply_to s e) → GoesBy (record h { transmit = moved h.transmit move (reply_to s e) })
   sends_goes move real own lends =
       let (f, agrees) = m.both.transmit in
       let there = receive_lent w.queue s out h.receive m.both.receive in
-      let left = move_spares s w.queue sent h.transmit f agrees h.receive there
-      (each_all h.receive (λ n. IsTrue (has_lent h.transmit n)) (λ b n. b ≢ n) m.both.apart) move e real own in
+      let left = move_spares s w.queue sent h.transmit f agrees h.receive there m.both.apart move e real own in
       let may = may_move w.queue s h move e real own made in
       record {
         meets = still _ (
@@ -227,9 +227,7 @@ module _ {w : Watched} {mine : Blocks} {s : State} {out : List Piece} {sent : Li
           },
           record {
             receive = m.lent.receive;
-            transmit =
-                mine-moved mine h.transmit m.lent.transmit move e (reply_to s e) own
-                (lends_one mine e (reply_to s e) lends);
+            transmit = mine-moved mine h.transmit m.lent.transmit move e (reply_to s e) own lends;
           },
         );
         receives = left_up w.queue s t left.receive;
@@ -253,7 +251,7 @@ module _ {w : Watched} {mine : Blocks} {s : State} {out : List Piece} {sent : Li
   -- by whose it is
   pub doer_goes : (d : Doer) → OwnCall h d (call_of e (reply_to s e))
       → (is_neither d ≡ true → LeavesRegisters w (mode_in s.registers) e × LeavesBlocks mine e)
-      → (is_neither d ≡ false → LendsMine mine e (reply_to s e)) → GoesBy (after_call h d (call_of e (reply_to s e)))
+      → (is_neither d ≡ false → LendsOneOf mine e (reply_to s e)) → GoesBy (after_call h d (call_of e (reply_to s e)))
   doer_goes Receives own others lends = receives_goes own (lends refl)
   doer_goes (Sends Elsewhere) own others lends = neither_goes (others refl).0 (others refl).1
   doer_goes (Sends move) own others lends = sends_goes move refl own (lends refl)
@@ -284,7 +282,7 @@ module _ (queue : ℕ) (s : State) (port : Port) (n word : ℕ) (out : List Piec
                 control = ap (λ (x : Side). x.control) is;
                 mode = (settings_stand s e none).mode;
                 vfs = (stays_within s e).vfs;
-                blocks = each_of h.receive (λ b. LeavesBlock b s later) block_stays;
+                blocks = λ b has. block_stays b;
               }) both.receive;
           transmit =
               subst (λ xs. Agrees later queue xs h.transmit) (append-nil sent)
@@ -308,7 +306,7 @@ module _ (queue : ℕ) (s : State) (port : Port) (n word : ℕ) (out : List Piec
                 (write_rest s port n word (place Txdctl queue) 0xFFFFFFFF names refl refl).receive queue (λ x. cc);
             mode = (settings_stand s e (plain-write s port n word (place Txdctl queue) 0xFFFFFFFF names refl)).mode;
             vfs = (stays_within s e).vfs;
-            blocks = each_of h.receive (λ b. LeavesBlock b s later) block_stays;
+            blocks = λ b has. block_stays b;
           }) both.receive;
       transmit = transmit_word_keeps s queue sent h.transmit port n word made names rests both.transmit;
       apart = both.apart;

@@ -26,7 +26,7 @@ pub use Rattle.ring_laws.proofs.HistoryLaws.Steady.{steady_kept, told_on}
 pub use Rattle.ring_laws.proofs.{Begun.begun_stays, Counting.sent_is_counted, DeviceLaws.KeptSettings.settings_stand}
 pub use Rattle.ring_laws.proofs.{Fitting.none_begun_while_off, Foreign.no_registers, HistoryLaws.Alone.histories_sound}
 pub use Rattle.ring_laws.proofs.{HistoryLaws.Deeds.left_deed, HistoryLaws.Deeds.left_did, Kept.each_map}
-pub use Rattle.ring_laws.proofs.{ReceiveLent.LendsMine, ReceiveLent.mine_driven, TransmitLent.mine-moved}
+pub use Rattle.ring_laws.proofs.{ReceiveLent.mine_driven, TransmitLent.mine-moved}
 pub use Rattle.driver_laws.specs.Along.{AtCalls, AtEntries, BeforeLast, IsAlong, IsKept, Leads}
 pub use Rattle.driver_laws.specs.Points.{AllMay, HasGround, IsEnable, Point, Sides, after_access, after_accesses}
 pub use Rattle.driver_laws.specs.Points.{seen_by}

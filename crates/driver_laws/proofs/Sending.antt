@@ -23,13 +23,14 @@ use Rattle.driver_laws.specs.Prelude.{Accepts, Advances, Agree, Asks, Block, Blo
 use Rattle.driver_laws.specs.Prelude.{LeavesBlock, Lends, Looks, Move, Piece, Port, Rdt, Reaps, Receive, Register}
 use Rattle.driver_laws.specs.Prelude.{Reply, Sender, State, Tx, WritesNoSetting, WritesOutside, after, has_bit}
 use Rattle.driver_laws.specs.Prelude.{has_block, has_lent, is_ring_block, named, place, reply_to}
-use Rattle.driver_laws.proofs.Lending.{each_both, lend_leaves}
-use Rattle.driver_laws.proofs.Prelude.{IsOwn, Spares, Tdwbah, Wrote, block_at, each_map, memory_blocks, memory_rest}
+use Rattle.driver_laws.proofs.Lending.{lend_leaves}
+use Rattle.driver_laws.proofs.Prelude.{IsOwn, Spares, Tdwbah, Wrote, block_at, memory_blocks, memory_rest}
 use Rattle.driver_laws.proofs.Prelude.{plain-write, reach, settings_stand, stays_within, word_of, write_memory}
 use Rattle.driver_laws.proofs.Prelude.{write_rest}
 use Rattle.std.specs.FinMap as map
 use Rattle.nic_device.specs.declared.event.Event.TheVariants as event
 use Rattle.pmd.specs.PmdRx.Receive as receiving
+use Rattle.ring_laws.proofs.Kept.{each_ring}
 
 -- the register of a write of the receive half's
 
@@ -66,7 +67,8 @@ module _ (queue : ℕ) (s : State) (out : List Piece) (v : Receive) (gone here :
         (subst (Avoids number a) (sym size)
         (inside_avoids (l.ring + slot / 128) number a 16 (rw own.address (slot_lies l.ring slot))
         (λ e.
-        away.ring (slot / 128) (slot_block l.size slot (slot_below l (vacant l) h.ring (omega arith))) (sym e))))
+        each_ring v (λ b. b ≢ number) away (slot / 128)
+        (slot_block l.size slot (slot_below l (vacant l) h.ring (omega arith))) (sym e))))
 
     own_leaves : (e : Event Block) → receiving.IsOwn v e → LeavesBlock number s (after s e)
     own_leaves (event.Peek16 a) own = (stays_within s (event.Peek16 a)).blocks number refl
@@ -172,7 +174,7 @@ module _ (s : State) (queue : ℕ) (sent : List (List ℕ)) (u : Sender) (f : �
     move_leaves m e real own = absurd own
 
   pub move_setting : (m : Move) (e : Event Block) → is_elsewhere m ≡ false → IsOwn u m e → WritesNoSetting s e
-  move_setting Advances (event.Write port n word) real own = setting_kept s queue sent u f h port n word own
+  move_setting Advances (event.Write port n word) real own = setting_kept h port n word own
   move_setting Elsewhere e real own = cc
   move_setting m (event.Write port n word) real own = absurd own
   move_setting m e real own = tt
@@ -192,16 +194,13 @@ module _ (s : State) (queue : ℕ) (sent : List (List ℕ)) (u : Sender) (f : �
 
   -- so it leaves what the receive half rests on
   pub move_spares : (v : Receive) → Each v (λ b. has_block s.memory b ≡ true)
-      → Each v (λ b. (n : ℕ) → IsTrue (has_lent u n) → b ≢ n) → (m : Move) (e : Event Block)
+      → ((n : ℕ) → IsTrue (has_lent u n) → Each v (λ b. b ≢ n)) → (m : Move) (e : Event Block)
       → is_elsewhere m ≡ false → IsOwn u m e → Leaves queue v s (after s e)
   move_spares v lent apart m e real own = record {
     receive = move_side m e real own;
     mode = (settings_stand s e (move_setting m e real own)).mode;
     vfs = (stays_within s e).vfs;
-    blocks =
-        each_map v (λ b. (has_block s.memory b ≡ true) × ((n : ℕ) → IsTrue (has_lent u n) → b ≢ n))
-        (λ b. LeavesBlock b s (after s e)) (λ b both. move_leaves b both.0 both.1 m e real own)
-        (each_both v (λ b. has_block s.memory b ≡ true) (λ b. (n : ℕ) → IsTrue (has_lent u n) → b ≢ n) lent apart);
+    blocks = λ b has. move_leaves b (lent b has) (λ n is. apart n is b has) m e real own;
   }
 
 -- steps of the device on the driver's own queue: one of receiving writes into blocks that the receive half has lent,
@@ -219,7 +218,7 @@ module _ (queue : ℕ) (mine : Blocks) (s : State) (sound : IsSound s) (out : Li
             (subst (λ q. reply_to s event.RxStep ≡ Wrote q slot end desc at len) own told) in
             record {
               descriptor = inside_avoids (v.layout.ring + here.descriptor.part) n desc 16 here.descriptor.descriptor
-                  (λ e. away.ring here.descriptor.part here.descriptor.known (sym e));
+                  (λ e. each_ring v (λ b. b ≢ n) away here.descriptor.part here.descriptor.known (sym e));
               bytes = λ some.
                   inside_avoids (block_at v.layout here.slot) n at len here.bytes
                   (λ e. each_posted v (λ b. b ≢ n) away here.slot here.known (sym e));
@@ -260,11 +259,11 @@ reports_spare s queue sent u f h v apart back told =
     let head : report_of r queue ≡ descriptor_at l f =
     ap (λ b. cond b (word_of r Tdwbah queue * 2 ^ 32 + 4 * (word_of r Tdwbal queue / 4))
     (descriptor_address ring ring.head)) low
-    ∙ head_is s queue sent u f h in
+    ∙ head_is h in
     let c = h.counted in
     let below = slot-below l h.based.layout f
     (omega (arith, c.fetched_posted, c.posted_poked, c.poked_lent, c.lent_known, c.room)) in
     let part : ℕ = l.ring + slot_at l f / 128 in
     let here : back / 2048 ≡ part = ap (λ a. a / 2048) (at ∙ head) ∙ in_block l.ring (slot_at l f) in
-    each_map v (λ b. b ≢ part) (λ b. b ≢ back / 2048) (λ b ne e. ne (e ∙ here))
-    (apart part (has_lent-ring u (slot_at l f / 128) (slot_block l.size (slot_at l f) below)))
+    λ b has e.
+    apart part (has_lent-ring u (slot_at l f / 128) (slot_block l.size (slot_at l f) below)) b has (e ∙ here)

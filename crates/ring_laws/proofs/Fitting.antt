@@ -86,8 +86,7 @@ begun-filter queue f (w ∷ others) are all = filtered_first queue f w others ar
 
 begun-push : (queue : ℕ) (ws : List Waiting) (x : Waiting) → x.offset ≡ 0
     → begun_on queue (ws ++ x ∷ []) ≡ begun_on queue ws
-begun-push queue [] x none =
-    ap (λ (n : ℕ). cond (x.queue == queue) n 0) none ∙ either_zero (x.queue == queue)
+begun-push queue [] x none = ap (λ (n : ℕ). cond (x.queue == queue) n 0) none ∙ either_zero (x.queue == queue)
 begun-push queue (w ∷ ws) x none = refl
 
 begun-parted : (queue on : ℕ) (ws : List Waiting) → AreWaiting ws → on ≢ queue
@@ -236,8 +235,7 @@ module _ (queue most : ℕ) (s : State) (out : List Piece) (v : Receive) (gone h
     writes f is memory = elim (cases_eq w.queue queue) [
       | inl own ↦
           subst (λ (ps : List Piece). Goes (receive.after_piece w others f) ps)
-          (sym (ap (λ (b : Bool). cond b (piece f is own ∷ []) []) (eq-eqb w.queue queue own)))
-          (writes_own f is own)
+          (sym (ap (λ (b : Bool). cond b (piece f is own ∷ []) []) (eq-eqb w.queue queue own))) (writes_own f is own)
       | inr ne ↦
           subst (λ (ps : List Piece). Goes (receive.after_piece w others f) ps)
           (sym (ap (λ (b : Bool). cond b (record {
@@ -283,8 +281,7 @@ module _ (queue most : ℕ) (s : State) (out : List Piece) (v : Receive) (gone h
       (λ own. both_ways _ (subst (λ (q : ℕ). is_wanted s.registers Rx q ≡ false) own off) up.wanted)
   changes e other none spares = tt
 
-  stays : (e : Event Block) → WritesNoSetting s e → ResetsNoPool queue s e
-      → Goes (after s e).waiting (pieces queue s e)
+  stays : (e : Event Block) → WritesNoSetting s e → ResetsNoPool queue s e → Goes (after s e).waiting (pieces queue s e)
   stays event.RxStep none spares = received
   stays e none spares =
       none_written (after s e).waiting (waiting_changed Same s refl e (changes e (λ is. cc) none spares))

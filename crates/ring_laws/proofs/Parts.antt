@@ -1,7 +1,8 @@
 -- Parts of packets: what the driver saw of them, and how the pieces are cut behind those that were consumed.
 use Rattle.std.proofs.Common.{[], ◌++◌, ◌+◌, ◌<◌, ◌∙◌, ◌∷◌, ◌≡◌, ◌≤◌, Bool, List, ap, append_assoc, arith, cond, drop}
-use Rattle.std.proofs.Common.{false, length, refl, subst, suc, sym, take, true, ℕ}
+use Rattle.std.proofs.Common.{false, length, refl, subst, sym, take, true, ℕ}
 use Rattle.std.proofs.lemmas.List.{append-nil, length-append, length_push, map-append}
+use Rattle.std.proofs.Math.Seq.{take-append-add, take-length}
 use Rattle.history_laws.specs.Prelude.{Block, bytes_in, ends_packet}
 use Rattle.ring_laws.specs.ReceivePrelude.{Kept, Looks, Packet, Receive, Stage, Takes, Told, ended_of, kept_of, left_of}
 use Rattle.ring_laws.specs.ReceivePrelude.{next_stage, no_packet, records_of, took}
@@ -12,8 +13,7 @@ use Rattle.ring_laws.specs.Pieces.{Piece, open_after, packet_told, packets_behin
 use Rattle.ring_laws.specs.Joint.{still_held}
 
 -- what was seen stays so as a piece more is written
-pub seen_longer : (seen : List Told) (here : List Piece) (p : Piece) → AreSeen seen here
-    → AreSeen seen (here ++ p ∷ [])
+pub seen_longer : (seen : List Told) (here : List Piece) (p : Piece) → AreSeen seen here → AreSeen seen (here ++ p ∷ [])
 seen_longer [] here p is = tt
 seen_longer (t ∷ ts) [] p is = absurd is
 seen_longer (t ∷ ts) (q ∷ here) p is = (is.0, seen_longer ts here p is.1)
@@ -24,8 +24,7 @@ pub seen_more : (seen : List Told) (here : List Piece) (t : Told) → AreSeen se
 seen_more [] [] t is below saw = absurd (omega (arith, below))
 seen_more [] (q ∷ here) t is below saw = (saw, tt)
 seen_more (u ∷ ts) [] t is below saw = absurd is
-seen_more (u ∷ ts) (q ∷ here) t is below saw =
-    (is.0, seen_more ts here t is.1 (omega (arith, below)) saw)
+seen_more (u ∷ ts) (q ∷ here) t is below saw = (is.0, seen_more ts here t is.1 (omega (arith, below)) saw)
 
 pub seen_within : (seen : List Told) (here : List Piece) → AreSeen seen here → length seen ≤ length here
 seen_within [] here is = omega arith
@@ -71,16 +70,6 @@ none_left (t ∷ ts) = refl
 
 -- a part joins a packet
 
-take_past : (xs ys : List ℕ) (n : ℕ) → take (length xs + n) (xs ++ ys) ≡ xs ++ take n ys
-take_past [] ys n = ap (λ (k : ℕ). take k ys) (let e : 0 + n ≡ n = omega arith in e)
-take_past (x ∷ xs) ys n =
-    ap (λ (k : ℕ). take k (x ∷ (xs ++ ys))) (let e : suc (length xs) + n ≡ suc (length xs + n) = omega arith in e)
-    ∙ ap (λ (zs : List ℕ). x ∷ zs) (take_past xs ys n)
-
-take_all : (xs : List ℕ) → take (length xs) xs ≡ xs
-take_all [] = refl
-take_all (x ∷ xs) = ap (λ (zs : List ℕ). x ∷ zs) (take_all xs)
-
 joined_bytes : (p : Packet) (b : Block) (t : Told) → length (bytes_of p.bufs) ≡ p.len
     → (kept_of (joined p b t)).bytes ≡ (kept_of p).bytes ++ take (bytes_in t.second) b.bytes
 joined_bytes p b t full =
@@ -88,8 +77,8 @@ joined_bytes p b t full =
     let n = bytes_in t.second in
     ap (λ (ys : List ℕ). take (p.len + n) ys) (bytes-more p.bufs b)
     ∙ ap (λ (k : ℕ). take (k + n) (xs ++ b.bytes)) (sym full)
-    ∙ take_past xs b.bytes n
-    ∙ ap (λ (ys : List ℕ). ys ++ take n b.bytes) (sym (ap (λ (k : ℕ). take k xs) (sym full) ∙ take_all xs))
+    ∙ take-append-add xs b.bytes n
+    ∙ ap (λ (ys : List ℕ). ys ++ take n b.bytes) (sym (ap (λ (k : ℕ). take k xs) (sym full) ∙ take-length xs))
 
 joined_length : (p : Packet) (b : Block) (t : Told) → length (bytes_of p.bufs) ≡ p.len → length b.bytes ≡ 2048
     → bytes_in t.second ≡ 2048 → length (bytes_of (joined p b t).bufs) ≡ (joined p b t).len
@@ -167,26 +156,19 @@ module _ (out gone ps : List Piece) (v : Receive) (p : Piece) (t : Told) (b : Bl
         → InOrder out (took v (t ∷ ts) b) (gone ++ p ∷ []) ps
     taken [] last seen order =
         let end : p.end ≡ true = sym saw.end_is ∙ last in
-        record {
-          cut = last_cut end;
-          parts = open_pushed 0 gone p ∙ rw end refl;
-          full = refl;
-          seen = tt;
-          stage = tt;
-          order = order ∙ sym (append_assoc gone (p ∷ []) ps);
-        }
+        let parts : open_after 0 (gone ++ p ∷ []) ≡ 0 = open_pushed 0 gone p ∙ rw end refl in
+        assumption (last_cut end, parts, order ∙ sym (append_assoc gone (p ∷ []) ps))
     taken (u ∷ ts) last seen order =
         let opens : p.end ≡ false = sym saw.end_is ∙ last.0.goes_on in
-        record {
-          cut = more_cut u ts opens;
-          parts = open_pushed 0 gone p ∙ ap (λ (e : Bool). cond e 0 (open_after 0 gone + 1)) opens
-              ∙ (let e : open_after 0 gone + 1 ≡ length (v.held.bufs ++ b ∷ []) =
-              omega (arith, parts, length_push v.held.bufs b) in e);
-          full = joined_length v.held b t full whole last.0.full;
-          seen = seen;
-          stage = last.1;
-          order = order ∙ sym (append_assoc gone (p ∷ []) ps);
-        }
+        let more : open_after 0 gone + 1 ≡ length (v.held.bufs ++ b ∷ []) =
+        omega (arith, parts, length_push v.held.bufs b) in
+        assumption (
+          more_cut u ts opens,
+          open_pushed 0 gone p ∙ ap (λ (e : Bool). cond e 0 (open_after 0 gone + 1)) opens ∙ more,
+          joined_length v.held b t full whole last.0.full,
+          last.1,
+          order ∙ sym (append_assoc gone (p ∷ []) ps),
+        )
 
 pub order_on : (out gone here : List Piece) (v : Receive) (t : Told) (ts : List Told) (b : Block)
     → InOrder out v gone here → v.seen ≡ t ∷ ts → v.stage ≡ Takes → 0 < length here

@@ -11,7 +11,7 @@ ghost use Rattle.ring_laws.specs.Histories.{HandedIsPrefix, NoneIsAll, NoneIsAll
 ghost use Rattle.ring_laws.specs.Inside.{PieceIsInside};
 ghost use Rattle.ring_laws.specs.ReceiveLent.{OwnLendsAreKnown};
 ghost use Rattle.ring_laws.specs.Starting.{StartAgrees};
-ghost use Rattle.ring_laws.specs.Steps.{LookTellsSlot, ReceiveStepKeeps, EnableStepKeeps, LeavingKeeps, SwitchingKeeps, OwnEventKeeps, ForeignEntryKeeps, DeviceStepKeeps};
+ghost use Rattle.ring_laws.specs.Steps.{LookTellsSlot, ReceiveStepKeeps, EnableStepKeeps, LeavingKeeps, SwitchingKeeps, OwnEventKeeps, EntryKeeps};
 ghost use Rattle.ring_laws.specs.ReceiveUp.{LeavingStaysUp, EnableStepChangesNothing, ReceiveStepStaysUp, OwnEventStaysUp, EntryStaysUp};
 
 /// A look at the next slot tells done exactly where the slot is filled, and then tells of the slot's piece.
@@ -59,8 +59,7 @@ pub fn own_event_keeps_the_agreement()
 /// An entry of another pass that leaves the queue alone keeps what they agree on, and so does a step of the device,
 /// whoever made it.
 pub fn foreign_entry_keeps_the_agreement()
-    ensures foreign { ForeignEntryKeeps }
-    ensures step { DeviceStepKeeps }
+    ensures { EntryKeeps }
 {}
 
 /// Over a history of any sound device that leaves the driver's queue alone, from a place on where the two agree and the

@@ -5,7 +5,7 @@ use Rattle.std.proofs.lemmas.Bool.{and_from, eq-eqb, eqb-false, eqb-true, lt-ltb
 use Rattle.std.proofs.lemmas.List.{append-nil}
 use Rattle.std.specs.Prelude.{◌==◌, IsTrue}
 use Rattle.pmd.specs.PmdSeam.Packet.{Kept}
-use Rattle.ring_laws.specs.{Delivered.IsPrefixOf, HistoryLaws.Alone.AllAlone, Laws.FindsWaiting}
+use Rattle.ring_laws.specs.{Alone.LendsOneOf, Delivered.IsPrefixOf, HistoryLaws.Alone.AllAlone, Laws.FindsWaiting}
 use Rattle.ring_laws.proofs.Delivering.{all_taken, between, drained, grows, handed_first, lent_behind, pieces-append}
 use Rattle.ring_laws.proofs.{HistoryLaws.Alone.alone_by_entries, Runs.first_sent, Runs.idle-all, Runs.sent_in-append}
 use Rattle.ring_laws.proofs.{Runs.waiting-left}
@@ -17,14 +17,13 @@ use Rattle.driver_laws.specs.Prelude.{lent_by, mode_in, packets_if_any, pieces, 
 use Rattle.driver_laws.specs.Prelude.{records_of, reply_to, sent_by, sent_in, sent_since}
 use Rattle.driver_laws.specs.{Histories.NoneIsAllBefore, Histories.OthersLeaveAlone, Waiting.WaitingIsNotAll}
 use Rattle.driver_laws.proofs.Meeting.{Goes, Meets, doer_goes, driven_meets}
-use Rattle.driver_laws.proofs.Prelude.{AreLent, BothAgree, IsDriven, doer_of, doers_after, events_behind}
-use Rattle.driver_laws.proofs.Prelude.{leads-append, legal_behind, not_again, packets_of, sent_is_counted, since-append}
+use Rattle.driver_laws.proofs.Prelude.{AreLent, BothAgree, IsDriven, doer_of, doers_after, events_behind, leads-append}
+use Rattle.driver_laws.proofs.Prelude.{legal_behind, not_again, packets_of, sent_is_counted, since-append}
 use Rattle.nic_device.specs.declared.event.Event.TheVariants as event
 use Rattle.nic_device.specs.declared.event.Reply.TheVariants as reply
 use Rattle.ring_laws.specs.Delivered as receive
 use Rattle.ring_laws.specs.ReceiveUp as received
 use Rattle.ring_laws.specs.Laws as transmit
-use Rattle.ring_laws.specs.Alone.{LendsOneOf}
 
 -- what the pass lends is among these blocks
 pub lends_mine : (pass : ℕ) (mine : Blocks) (own : ℕ) (e : Event Block) (r : Reply Block) → own ≡ pass → IsEvent e

@@ -6,15 +6,14 @@ use Rattle.nic_device.specs.declared.event.Reply.TheVariants.{Twice}
 use Rattle.pmd.specs.{PmdRx.Receive.Layout, PmdRx.declared.ring.Stage.Stage, PmdRx.declared.ring.Stage.TheVariants.Lent}
 use Rattle.pmd.specs.{PmdTx.Sending.moved}
 use Rattle.ring_laws.specs.{Alone.LendsOneOf, Joint.HasSlots, Joint.StageHolds, Steps.Each, Steps.IfFresh}
+use Rattle.ring_laws.proofs.Kept.{each_by}
 use Rattle.driver_laws.specs.Prelude.{Agree, Block, Blocks, Event, LeavesBlock, Memory, Move, Piece, Receive, Reply}
 use Rattle.driver_laws.specs.Prelude.{Sender, State, after, drive, has_block, has_lent, reply_to}
-use Rattle.driver_laws.proofs.Prelude.{Done, IsOwn, Outcome, block_at, gives, memory_blocks}
-use Rattle.driver_laws.proofs.Prelude.{mine-moved, mine_driven, reach, step_of}
+use Rattle.driver_laws.proofs.Prelude.{Done, IsOwn, Outcome, block_at, gives, memory_blocks, mine-moved, mine_driven}
+use Rattle.driver_laws.proofs.Prelude.{reach, step_of}
 use Rattle.nic_device.specs.declared.event.Event.TheVariants as event
 use Rattle.nic_device.specs.declared.event.Reply.TheVariants as reply
 use Rattle.pmd.specs.PmdRx.Receive as receiving
-use Rattle.ring_laws.proofs.Kept.{each_by}
-use Rattle.ring_laws.specs.Alone.{LendsOneOf}
 
 -- the blocks of the receive half are lent
 

@@ -6,34 +6,34 @@ use Rattle.nic_device.specs.RegTable.declared.rows.RowId.TheVariants.{Txdctl}
 use Rattle.nic_device.proofs.Steps.{step_leads}
 use Rattle.device_lock.specs.Alone.{place_at}
 use Rattle.pmd.specs.PmdTx.Sending.{moved}
-use Rattle.ring_laws.specs.{Agreeing.Agrees, Fitting.ResetsNoPool, HistoryLaws.Sides.Side}
+use Rattle.ring_laws.specs.{Agreeing.Agrees, Alone.LendsOneOf, Fitting.ResetsNoPool, HistoryLaws.Sides.Side}
 use Rattle.ring_laws.specs.{Turns.MayMove}
 use Rattle.ring_laws.proofs.Foreign.{alone_stays_up, left_keeps, left_up, own_stays_up}
-use Rattle.ring_laws.proofs.{HistoryLaws.Written.place_in, HistoryLaws.Written.place_named}
-use Rattle.ring_laws.proofs.{Leaving.leaving_keeps, Leaving.switching_keeps}
-use Rattle.ring_laws.proofs.{Off.enable_words_keep as transmit_word_keeps, Own.own_keeps, Playing.moves_keep}
-use Rattle.ring_laws.proofs.{Playing.up_stays, Runs.left_alone_is_spared, Sparing.sparing_events_keep}
+use Rattle.ring_laws.proofs.{HistoryLaws.Written.place_in, HistoryLaws.Written.place_named, Leaving.leaving_keeps}
+use Rattle.ring_laws.proofs.{Leaving.switching_keeps, Off.enable_words_keep as transmit_word_keeps, Own.own_keeps}
+use Rattle.ring_laws.proofs.{Playing.moves_keep, Playing.up_stays, Runs.left_alone_is_spared}
+use Rattle.ring_laws.proofs.{Sparing.sparing_events_keep}
 use Rattle.driver_laws.specs.Enabling.{EnableWordsKeep}
-use Rattle.driver_laws.specs.Prelude.{Advances, Agree, Block, Blocks, Doer, Elsewhere, Entry, Event, Halves, IsEvent}
+use Rattle.driver_laws.specs.Prelude.{Agree, Block, Blocks, Dir, Doer, Elsewhere, Entry, Event, Halves, IsEvent}
 use Rattle.driver_laws.specs.Prelude.{IsSound, IsUp, LeavesBlock, LeavesBlocks, LeavesRegisters, Memory, Move, OwnCall}
-use Rattle.driver_laws.specs.Prelude.{Piece, Place, Port, Rdt, Receives, Register, Rx, Rxdctl, Sends, State, Tdt, Tx}
-use Rattle.driver_laws.specs.Prelude.{Watched, WritesNoSetting, WritesOutside, after, after_call, asks_pool_reset}
-use Rattle.driver_laws.specs.Prelude.{call_of, drive, has_bit, has_block, has_lent, is_neither, leads_to, lent_by}
-use Rattle.driver_laws.specs.Prelude.{mode_in, named, pieces, place, reply_to, row_of, sent_by}
-use Rattle.driver_laws.proofs.Lending.{receive_lent, receives_apart, sends_apart}
-use Rattle.driver_laws.proofs.Prelude.{AreLent, BothAgree, IsDriven, Spares, SparesIfSome, asked}
-use Rattle.driver_laws.proofs.Prelude.{events_before, histories_sound, keeps_sound, mine-moved, mine_driven}
-use Rattle.driver_laws.proofs.Prelude.{plain-write, settings_stand, stays_within, vfs_stays, write_memory, write_rest}
-use Rattle.driver_laws.proofs.Sending.{is_elsewhere, move_setting, move_spares, own_spares, received_spares}
-use Rattle.driver_laws.proofs.Sending.{reports_spare, sender_lent, writes_tail}
+use Rattle.driver_laws.specs.Prelude.{Piece, Place, Port, Receives, Register, Rx, Rxdctl, Sends, State, Tx, Watched}
+use Rattle.driver_laws.specs.Prelude.{WritesNoSetting, WritesOutside, after, after_call, asks_pool_reset, call_of}
+use Rattle.driver_laws.specs.Prelude.{drive, has_bit, has_block, has_lent, is_neither, leads_to, lent_by, mode_in}
+use Rattle.driver_laws.specs.Prelude.{named, pieces, place, reply_to, row_of, sent_by}
+use Rattle.driver_laws.proofs.Prelude.{AreLent, BothAgree, IsDriven, IsMet, Spares, SparesIfSome, asked, events_before}
+use Rattle.driver_laws.proofs.Prelude.{histories_sound, keeps_sound, mine-moved, mine_driven, plain-write}
+use Rattle.driver_laws.proofs.Prelude.{settings_stand, stays_within, vfs_stays, write_memory, write_rest}
+use Rattle.driver_laws.proofs.Sending.{Touches, is_elsewhere, move_spares, move_touches, own_spares, own_touches}
+use Rattle.driver_laws.proofs.Sending.{received_spares, reports_spare, sender_lent, tail_row, touch_pieces}
+use Rattle.driver_laws.proofs.Sending.{touch_setting}
+use Rattle.driver_laws.proofs.{Lending.receive_lent, Lending.receives_apart, Lending.sends_apart, Reached.free_left}
+use Rattle.driver_laws.proofs.{Words.each_side}
 use Rattle.std.specs.FinMap as map
 use Rattle.nic_device.specs.declared.event.Event.TheVariants as event
+use Rattle.pmd.specs.PmdRx.Keeping as received_half
 use Rattle.pmd.specs.PmdRx.Receive as receiving
 use Rattle.pmd.specs.PmdTx.Sending as sending
 use Rattle.ring_laws.specs.ReceiveUp as received
-use Rattle.driver_laws.proofs.Prelude.{IsMet}
-use Rattle.driver_laws.proofs.Reached.{free_left}
-use Rattle.ring_laws.specs.Alone.{LendsOneOf}
 
 -- what holds between two entries: the device is sound and agrees with both halves, and their blocks are among these
 pub record Meets (w : Watched) (mine : Blocks) (s : State) (out : List Piece) (sent : List (List ℕ))
@@ -97,29 +97,23 @@ module _ {w : Watched} {mine : Blocks} {s : State} {out : List Piece} {sent : Li
 
 -- one entry
 
--- a move is an event that writes no piece
-no_pieces : (queue : ℕ) (s : State) (h : Halves) (m : Move) (e : Event Block) → is_elsewhere m ≡ false
-    → sending.IsOwn h.transmit m e → pieces queue s e ≡ []
-no_pieces queue s h Elsewhere e real own = cc
-no_pieces queue s h m event.RxStep real own = absurd own
-no_pieces queue s h m e real own = refl
-
 pub may_move : (queue : ℕ) (s : State) (h : Halves) (m : Move) (e : Event Block) → is_elsewhere m ≡ false
     → sending.IsOwn h.transmit m e → IsEvent e → MayMove queue h.transmit s e m
 may_move queue s h Elsewhere e real own made = cc
 may_move queue s h m e real own made = (own, made)
 
--- an event resets not the queue's pool
+-- such events reset not the queue's pool, and nor do those that leave its registers alone
 
--- a write of a register by which no pool is reset
-plain_resets : (queue : ℕ) (s : State) (port : Port) (n word : ℕ) (q : Place) (view : ℕ)
-    → named s port n ≡ Register q view → asks_pool_reset (row_of q.row).kind word ≡ false
-    → ResetsNoPool queue s (event.Write port n word)
-plain_resets queue s port n word q view names plain p seen there asks =
-    let same : Register q view ≡ Register p seen = sym names ∙ there in
-    let both : q ≡ p = cc in
-    absurd (both_ways (asks_pool_reset (row_of q.row).kind word) plain
+touch_resets : (dir : Dir) (queue : ℕ) (own : Blocks) (s : State) (e : Event Block) → Touches dir queue own s e
+    → ResetsNoPool queue s e
+touch_resets dir queue own s (event.Write port n word) is = λ p seen there asks.
+    let tail : Place = place (tail_row dir) queue in
+    let same : Register tail 0xFFFFFFFF ≡ Register p seen = sym is ∙ there in
+    let both : tail ≡ p = cc in
+    absurd (both_ways (asks_pool_reset (row_of (tail_row dir)).kind word)
+    (each_side (λ d. asks_pool_reset (row_of (tail_row d)).kind word ≡ false) refl refl dir)
     (subst (λ (x : Place). asks_pool_reset (row_of x.row).kind word ≡ true) (sym both) asks))
+touch_resets dir queue own s e is = tt
 
 spared_resets : (w : Watched) (s : State) → w.vfs ≡ s.vfs → (e : Event Block)
     → LeavesRegisters w (mode_in s.registers) e → ResetsNoPool w.queue s e
@@ -167,12 +161,6 @@ module _ {w : Watched} {mine : Blocks} {s : State} {out : List Piece} {sent : Li
 
   -- the receive half's
 
-  own_resets : (e : Event Block) → receiving.IsOwn h.receive e → ResetsNoPool w.queue s e
-  own_resets (event.Write port n word) own =
-      plain_resets w.queue s port n word (place Rdt w.queue) 0xFFFFFFFF
-      (writes_tail s w.queue h.receive m.both.receive.2.named port n word own) refl
-  own_resets other own = tt
-
   receives_goes : receiving.IsOwn h.receive e → LendsOneOf mine e (reply_to s e)
       → GoesBy (record h { receive = drive h.receive e (reply_to s e) })
   receives_goes own lends =
@@ -194,32 +182,26 @@ module _ {w : Watched} {mine : Blocks} {s : State} {out : List Piece} {sent : Li
         receives = own_stays_up w.queue s out h.receive e m.sound m.both.receive own;
         sends = stays_up Elsewhere spares;
         setting = spares.setting;
-        resets = own_resets e own;
+        resets =
+            touch_resets Rx w.queue (received_half.has_lent h.receive) s e
+            (own_touches w.queue s out h.receive gone here holds e own);
       }
 
   -- the transmit half's
-
-  move_resets : (move : Move) (e : Event Block) → is_elsewhere move ≡ false → sending.IsOwn h.transmit move e
-      → ResetsNoPool w.queue s e
-  move_resets Advances (event.Write port n word) real own =
-      plain_resets w.queue s port n word (place Tdt w.queue) 0xFFFFFFFF
-      (rw (own.2, own.3) m.both.transmit.1.based.tail) refl
-  move_resets Elsewhere e real own = cc
-  move_resets move (event.Write port n word) real own = absurd own
-  move_resets move e real own = tt
 
   sends_goes : (move : Move) → is_elsewhere move ≡ false → sending.IsOwn h.transmit move e
       → LendsOneOf mine e (reply_to s e) → GoesBy (record h { transmit = moved h.transmit move (reply_to s e) })
   sends_goes move real own lends =
       let (f, agrees) = m.both.transmit in
       let there = receive_lent w.queue s out h.receive m.both.receive in
-      let left = move_spares s w.queue sent h.transmit f agrees h.receive there m.both.apart move e real own in
+      let touches = move_touches s w.queue sent h.transmit f agrees move e real own in
+      let left = move_spares s w.queue sent h.transmit f agrees h.receive there m.both.apart e touches in
       let may = may_move w.queue s h move e real own made in
       record {
         meets = still _ (
           record {
             receive =
-                subst (λ xs. Agree w.queue t (out ++ xs) h.receive) (sym (no_pieces w.queue s h move e real own))
+                subst (λ xs. Agree w.queue t (out ++ xs) h.receive) (sym (touch_pieces Tx w.queue (has_lent h.transmit) s e touches))
                 (subst (λ xs. Agree w.queue t xs h.receive) (sym (append-nil out))
                 (leaving_keeps w.queue s t out h.receive left m.both.receive));
             transmit = moves_keep s w.queue sent h.transmit e move m.both.transmit may;
@@ -232,8 +214,8 @@ module _ {w : Watched} {mine : Blocks} {s : State} {out : List Piece} {sent : Li
         );
         receives = left_up w.queue s t left.receive;
         sends = stays_up move may;
-        setting = move_setting s w.queue sent h.transmit f agrees move e real own;
-        resets = move_resets move e real own;
+        setting = touch_setting Tx w.queue (has_lent h.transmit) s e touches;
+        resets = touch_resets Tx w.queue (has_lent h.transmit) s e touches;
       }
 
   -- neither's

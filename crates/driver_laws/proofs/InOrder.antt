@@ -24,6 +24,8 @@ use Rattle.nic_device.specs.declared.event.Reply.TheVariants as reply
 use Rattle.ring_laws.specs.Delivered as receive
 use Rattle.ring_laws.specs.ReceiveUp as received
 use Rattle.ring_laws.specs.Laws as transmit
+use Rattle.driver_laws.proofs.Prelude.{calls_own}
+use Rattle.driver_laws.proofs.Prelude.{calls_other}
 
 -- what the pass lends is among these blocks
 pub lends_mine : (pass : ℕ) (mine : Blocks) (own : ℕ) (e : Event Block) (r : Reply Block) → own ≡ pass → IsEvent e
@@ -34,29 +36,30 @@ lends_mine pass mine own (event.Lend b) reply.Done same made all =
     (and_from _ _ (eq-eqb own pass same) (eq-eqb b.number b.number refl)))
 lends_mine pass mine own e r same made all = tt
 
+-- the calls of a pass, by whether an entry is the pass's
+
+abbrev pub with_call : Bool → Entry → List Call → List Call
+with_call true e calls = call_in e ∷ calls
+with_call false e calls = calls
+
+pub calls_are : (pass : ℕ) (e : Entry) (es : List Entry) (b : Bool) → (e.pass == pass) ≡ b
+    → calls_of pass (e ∷ es) ≡ with_call b e (calls_of pass es)
+calls_are pass e es true is = calls_own pass e es is
+calls_are pass e es false is = calls_other pass e es is
+
 -- the next call, and those behind it
 
-pub record Next (h : Halves) (doers : List Doer) (e : Entry) (b : Bool) (before behind : List Call) : Type 0 where
+pub record Next (h : Halves) (doers : List Doer) (e : Entry) (b : Bool) (behind : List Call) : Type 0 where
   pub own : OwnCall h (doer_of b doers) (call_in e)
   pub rest : AllOwn (after_call h (doer_of b doers) (call_in e)) (doers_after b doers) behind
-  pub played : played_by h doers before
+  pub played : played_by h doers (with_call b e behind)
       ≡ played_by (after_call h (doer_of b doers) (call_in e)) (doers_after b doers) behind
 
-next_call : (h : Halves) (doers : List Doer) (e : Entry) (calls : List Call) → AllOwn h doers (call_in e ∷ calls)
-    → Next h doers e true (call_in e ∷ calls) calls
-next_call h [] e calls own = absurd own
-next_call h (d ∷ doers) e calls own = record { own = own.0; rest = own.1; played = refl }
-
-pub next_by : (pass : ℕ) (h : Halves) (doers : List Doer) (e : Entry) (es : List Entry) (b : Bool)
-    → (e.pass == pass) ≡ b
-    → AllOwn h doers (calls_of pass (e ∷ es)) → Next h doers e b (calls_of pass (e ∷ es)) (calls_of pass es)
-next_by pass h doers e es true is own =
-    let same : calls_of pass (e ∷ es) ≡ call_in e ∷ calls_of pass es = rw is refl in
-    subst (λ calls. Next h doers e true calls (calls_of pass es)) (sym same)
-    (next_call h doers e (calls_of pass es) (subst (AllOwn h doers) same own))
-next_by pass h doers e es false is own =
-    let same : calls_of pass (e ∷ es) ≡ calls_of pass es = rw is refl in
-    record { own = tt; rest = subst (AllOwn h doers) same own; played = ap (played_by h doers) same }
+next_call : (h : Halves) (doers : List Doer) (e : Entry) (b : Bool) (behind : List Call)
+    → AllOwn h doers (with_call b e behind) → Next h doers e b behind
+next_call h [] e true behind own = absurd own
+next_call h (d ∷ doers) e true behind own = record { own = own.0; rest = own.1; played = refl }
+next_call h doers e false behind own = record { own = tt; rest = own; played = refl }
 
 -- where a history leads from a place where the device and both halves agree
 
@@ -147,8 +150,15 @@ module _ {w : Watched} {mine : Blocks} {s : State} {out : List Piece} {sent : Li
   abbrev pub first_after : Halves
   first_after = after_call h first_doer (call_in e)
 
-  pub next : Next h doers e (e.pass == w.pass) (calls_of w.pass (e ∷ es)) (calls_of w.pass es)
-  next = next_by w.pass h doers e es (e.pass == w.pass) refl r.own
+  pub heads : calls_of w.pass (e ∷ es) ≡ with_call (e.pass == w.pass) e (calls_of w.pass es)
+  heads = calls_are w.pass e es (e.pass == w.pass) refl
+
+  next : Next h doers e (e.pass == w.pass) (calls_of w.pass es)
+  next = next_call h doers e (e.pass == w.pass) (calls_of w.pass es) (subst (AllOwn h doers) heads r.own)
+
+  pub played_on : played_by h doers (calls_of w.pass (e ∷ es))
+      ≡ played_by first_after (doers_after (e.pass == w.pass) doers) (calls_of w.pass es)
+  played_on = ap (played_by h doers) heads ∙ next.played
 
   pub runs_on : Runs w mine (after s e.event) first_after (doers_after (e.pass == w.pass) doers) es
   runs_on = record {
@@ -201,7 +211,7 @@ leads {w = w} {mine = mine} [] [] {s = s} {out = out} {sent = sent} {h = h} m r 
     ended w mine s out sent h m.both m.lent
 leads (d ∷ doers) [] m r = absurd r.own
 leads {w = w} {mine = mine} doers (e ∷ es) {s = s} {out = out} {sent = sent} m r =
-    subst (Led w mine s out sent (e ∷ es)) (sym (next m r).played)
+    subst (Led w mine s out sent (e ∷ es)) (sym (played_on m r))
     (led_on w mine s out sent e es _ (goes m r).receives (goes m r).sends
     (leads (doers_after (e.pass == w.pass) doers) es (goes m r).meets (runs_on m r)))
 

@@ -1,5 +1,5 @@
 -- What the driver handed out and what it sent, over a history that leaves its queue alone.
-use Rattle.std.proofs.Common.{[], ◌&&◌, ◌++◌, ◌∙◌, ◌∷◌, ◌≡◌, Bool, List, None, Some, ap, append_assoc, cond, drop}
+use Rattle.std.proofs.Common.{[], ◌&&◌, ◌++◌, ◌∙◌, ◌∷◌, ◌≡◌, Bool, List, None, Some, ap, append_assoc, cond}
 use Rattle.std.proofs.Common.{false, inl, length, nat_lt, refl, subst, sym, true, ℕ}
 use Rattle.std.proofs.lemmas.Bool.{and_from, eq-eqb, eqb-false, eqb-true, lt-ltb, or_left, or_right}
 use Rattle.std.proofs.lemmas.List.{append-nil}
@@ -17,15 +17,14 @@ use Rattle.driver_laws.specs.Prelude.{lent_by, mode_in, packets_if_any, pieces, 
 use Rattle.driver_laws.specs.Prelude.{records_of, reply_to, sent_by, sent_in, sent_since}
 use Rattle.driver_laws.specs.{Histories.NoneIsAllBefore, Histories.OthersLeaveAlone, Waiting.WaitingIsNotAll}
 use Rattle.driver_laws.proofs.Meeting.{Goes, Meets, doer_goes, driven_meets}
-use Rattle.driver_laws.proofs.Prelude.{AreLent, BothAgree, IsDriven, doer_of, doers_after, events_behind, leads-append}
-use Rattle.driver_laws.proofs.Prelude.{legal_behind, not_again, packets_of, sent_is_counted, since-append}
+use Rattle.driver_laws.proofs.Prelude.{AreLent, BothAgree, IsDriven, calls_other, calls_own, doer_of, doers_after}
+use Rattle.driver_laws.proofs.Prelude.{events_behind, leads-append, legal_behind, not_again, packets_of}
+use Rattle.driver_laws.proofs.Prelude.{sent_is_counted, since-append}
 use Rattle.nic_device.specs.declared.event.Event.TheVariants as event
 use Rattle.nic_device.specs.declared.event.Reply.TheVariants as reply
 use Rattle.ring_laws.specs.Delivered as receive
 use Rattle.ring_laws.specs.ReceiveUp as received
 use Rattle.ring_laws.specs.Laws as transmit
-use Rattle.driver_laws.proofs.Prelude.{calls_own}
-use Rattle.driver_laws.proofs.Prelude.{calls_other}
 
 -- what the pass lends is among these blocks
 pub lends_mine : (pass : ℕ) (mine : Blocks) (own : ℕ) (e : Event Block) (r : Reply Block) → own ≡ pass → IsEvent e
@@ -231,35 +230,32 @@ module _ (w : Watched) (origin : State) (start rest : List Entry) (h : Halves) (
       ap packets_if_any (since-append w.queue origin None start rest
       ∙ ap (λ so_far. pieces_since w.queue here so_far rest) d.on ∙ led.since d.up [])
 
+  agreed : BothAgree w.queue (leads_to origin (start ++ rest)) (pieces_in w.queue here rest) (sent_in w.queue here rest)
+      last
+  agreed =
+      subst (λ (s : State). BothAgree w.queue s (pieces_in w.queue here rest) (sent_in w.queue here rest) last)
+      (sym (leads-append origin start rest)) led.both
+
   pub handed_is_prefix : receive.IsPrefixOf last.receive.handed (delivered w.queue origin (start ++ rest))
   handed_is_prefix =
       subst (receive.IsPrefixOf last.receive.handed) (sym delivered_is)
-      (handed_first w.queue (leads_to here rest) (pieces_in w.queue here rest) last.receive led.both.receive)
+      (handed_first w.queue _ _ last.receive agreed.receive)
 
   pub none_is_all_taken : ShowsNone (leads_to origin (start ++ rest)) last.receive
       → last.receive.handed ++ records_of last.receive.whole ≡ delivered w.queue origin (start ++ rest)
-  none_is_all_taken shows =
-      sym (all_taken w.queue (leads_to here rest) (pieces_in w.queue here rest) last.receive led.both.receive
-      (subst (λ s. ShowsNone s last.receive) (leads-append origin start rest) shows))
-      ∙ sym delivered_is
+  none_is_all_taken shows = sym (all_taken w.queue _ _ last.receive agreed.receive shows) ∙ sym delivered_is
 
   pub none_is_all : FindsNone (leads_to origin (start ++ rest)) last.receive
       → last.receive.handed ≡ delivered w.queue origin (start ++ rest)
-  none_is_all finds =
-      sym (drained w.queue (leads_to here rest) (pieces_in w.queue here rest) last.receive led.both.receive
-      (subst (λ s. FindsNone s last.receive) (leads-append origin start rest) finds))
-      ∙ sym delivered_is
+  none_is_all finds = sym (drained w.queue _ _ last.receive agreed.receive finds) ∙ sym delivered_is
 
   pub sent_is_prefix : transmit.IsPrefixOf (sent_in w.queue here rest) (bytes_of last.transmit.accepted)
   sent_is_prefix =
-      let (f, agrees) = led.both.transmit in
-      first_sent (leads_to here rest) w.queue (sent_in w.queue here rest) last.transmit.layout.limit
-      (drop f last.transmit.outstanding) last.transmit.accepted agrees.sends
+      let (f, agrees) = agreed.transmit in
+      first_sent (leads_to origin (start ++ rest)) w.queue _ _ _ last.transmit.accepted agrees.sends
 
   pub idle_is_all_sent : last.transmit.outstanding ≡ [] → bytes_of last.transmit.accepted ≡ sent_in w.queue here rest
-  idle_is_all_sent none =
-      let (f, agrees) = led.both.transmit in
-      idle-all agrees (ap length none)
+  idle_is_all_sent none = let (f, agrees) = agreed.transmit in idle-all agrees (ap length none)
 
   pub counted_where_up : IsUp w.queue here
       → sent_since w.queue origin [] (start ++ rest) ≡ sent_since w.queue origin [] start ++ sent_in w.queue here rest
@@ -286,8 +282,6 @@ none_is_all_before w origin start before rest h early doers d e finds same =
 pub waiting_is_not_all : WaitingIsNotAll
 waiting_is_not_all w origin start rest more h doers d finds =
     let here : State = leads_to origin start in
-    let last : Halves = played_by h doers (calls_of w.pass (rest ++ more)) in
-    waiting-left (leads_to here (rest ++ more)) w.queue (sent_in w.queue here (rest ++ more)) last.transmit
-    (led w origin start (rest ++ more) h doers d).both.transmit
-    (subst (λ s. FindsWaiting s last.transmit) (leads-append origin start (rest ++ more)) finds)
-    (sent_in w.queue here rest) (sent_in w.queue (leads_to here rest) more) (sent_in-append w.queue here rest more)
+    waiting-left _ w.queue _ (played_by h doers (calls_of w.pass (rest ++ more))).transmit
+    (agreed w origin start (rest ++ more) h doers d).transmit finds (sent_in w.queue here rest)
+    (sent_in w.queue (leads_to here rest) more) (sent_in-append w.queue here rest more)

@@ -2,7 +2,7 @@
 use Rattle.std.proofs.Common.{[], ◌++◌, ◌/◌, ◌<◌, ◌^◌, ◌∙◌, ◌∷◌, ◌≡◌, ◌≢◌, ◌≤◌, List, ap, append_assoc, arith, false}
 use Rattle.std.proofs.Common.{inl, inr, refl, subst, sym, true, ℕ}
 use Rattle.std.proofs.lemmas.Bool.{both_ways, cases_Bool, eqb-false, lt-ltb}
-use Rattle.std.specs.Prelude.{◌==◌}
+use Rattle.std.specs.Prelude.{⊤, ◌==◌}
 use Rattle.ring_laws.specs.Sent.{sent_in}
 use Rattle.driver_laws.specs.Laid.{Empty, Headed, Laid, LaidQueueIsSilent, Lays, LaysOn, MayAsk, MayLay, MayRing, Off}
 use Rattle.driver_laws.specs.Laid.{Sized, laid_by}
@@ -20,7 +20,6 @@ use Rattle.driver_laws.proofs.{Parts.still_some, Reached.entry_is, Reached.forei
 use Rattle.driver_laws.proofs.{Standing.with_beside, SwitchedOff.alone_left, SwitchedOff.watching, Words.words_taken}
 use Rattle.nic_device.specs.RegisterFile.declared.owner.Owner.TheVariants as owner
 use Rattle.nic_device.specs.declared.event.Event.TheVariants as event
-use Rattle.std.specs.Prelude.{⊤}
 
 -- transmit sides that are off, or whose ring is empty, as the words of an empty ring are written to them
 

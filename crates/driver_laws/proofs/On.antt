@@ -16,9 +16,8 @@ use Rattle.driver_laws.proofs.StopCalls.{Has, IsLentBy, has_more, lending, lent_
 use Rattle.driver_laws.proofs.StopCalls.{ring_in, stays_in, stays_some}
 use Rattle.driver_laws.proofs.Switching.{came_up, comes_up, fresh_receive_agrees, fresh_transmit_agrees, laid, may_lay}
 use Rattle.driver_laws.proofs.Switching.{may_switch, switching}
-use Rattle.driver_laws.proofs.{Ground.ground_names, Made.extends, Made.some_made, Reached.sound_at}
+use Rattle.driver_laws.proofs.{Ground.ground_names, Made.extends, Made.made_some, Made.some_made, Reached.sound_at}
 use Rattle.driver_laws.proofs.{SwitchedOff.quiet_sides_stand, SwitchedOff.quieting_leads}
-use Rattle.driver_laws.proofs.Made.{made_some}
 
 -- the numbers of slots that a driver may have
 

@@ -1,7 +1,7 @@
 -- A slot of the driver's ring is filled: there is no fault, and the agreement has one piece more.
 use Rattle.std.proofs.Common.{[], ◌*◌, ◌++◌, ◌+◌, ◌<◌, ◌^◌, ◌∙◌, ◌∷◌, ◌≡◌, ◌≢◌, ◌≤◌, ◌⊎◌, Err, List, Ok, ap}
 use Rattle.std.proofs.Common.{append_assoc, arith, false, inl, inr, length, refl, subst, sym, take, true, ℕ}
-use Rattle.std.proofs.lemmas.Bool.{and_from, both_ways, cases_lt, eq-eqb, not_from_false}
+use Rattle.std.proofs.lemmas.Bool.{cases_lt}
 use Rattle.std.proofs.lemmas.List.{get_or_append_left, get_or_push, length-take-le, length_push}
 use Rattle.history_laws.specs.Prelude.{AreApart, Filled, IsSound, IsWhole, Memory, ReceiveQueue, Rest, Ring, RingFault}
 use Rattle.history_laws.specs.Prelude.{Rx, State, bytes_in, ends_packet, first_half, is_done}
@@ -16,9 +16,10 @@ use Rattle.nic_device.specs.{DmaArena.Memory.SameLent, DmaRing.Ring.next_of, Dma
 use Rattle.nic_device.specs.{RxRing.Laws.IsHealthy, RxRing.Laws.TakesPiece}
 use Rattle.pmd_rx.proofs.PmdSeam.Places.{next_wrapped, wrapped_apart}
 use Rattle.history_laws.specs.{Left.fill_on, Segments.piece_in}
-use Rattle.ring_laws.proofs.Kept.{address_small, filled_stays, posted_stays, stage_stays}
+use Rattle.ring_laws.proofs.Kept.{filled_stays, posted_stays, stage_stays}
+use Rattle.ring_laws.proofs.Ring.{address_small, ends_apart, inside_of}
 use Rattle.ring_laws.proofs.Ring.{Stays, buffer_and_slot, buffers_apart, slot_and_buffer, slot_lent, slots_apart}
-use Rattle.ring_laws.proofs.Kept.{buffer_even, inside_of, named_kept, posted_below}
+use Rattle.ring_laws.proofs.Kept.{buffer_even, named_kept, posted_below}
 use Rattle.ring_laws.specs.Joint.{HasSlots, Holds, IsFilled, IsPosted, IsRing, IsSetUp, StageHolds}
 use Rattle.ring_laws.specs.Steps.{IfFresh}
 use Rattle.pmd_rx.specs.PmdSeam.Slots.{descriptor_in}
@@ -76,9 +77,7 @@ module _ {queue : ℕ} {s : State} {out : List Piece} {v : Receive} {gone here :
   room_left some (inl is) = is
   room_left some (inr all) =
       let e : length here ≡ length v.layout.blocks = omega (arith, h.posted, all) in
-      let same : own.ring.head ≡ own.ring.tail = h.side.head ∙ ap (slot_at l) e ∙ sym h.side.tail in
-      let empty : is_empty own.ring ≡ true = and_from _ _ (not_from_false _ inside) (eq-eqb _ _ same) in
-      absurd (both_ways _ some empty)
+      absurd (ends_apart own.ring inside some (h.side.head ∙ ap (slot_at l) e ∙ sym h.side.tail))
 
   pub healthy : HasRoom → IsHealthy s.memory own.ring own.control
   healthy room =

@@ -262,8 +262,7 @@ run w mine s sent v (t ∷ ts) j functions all legal alone =
     )
 
 pub alone_may_run : AloneMayRun
-alone_may_run w mine s v ts agreed functions lent legal alone = run w mine s [] v ts agreed functions lent legal alone
+alone_may_run w mine s v ts o = assumption (run w mine s [] v ts o.agreed o.functions o.lent o.legal o.alone)
 
 pub sent_is_prefix_where_alone : SentIsPrefixWhereAlone
-sent_is_prefix_where_alone w mine s v ts agreed functions lent legal alone =
-    sent_is_prefix w.queue s v ts (assumption (alone_may_run w mine s v ts agreed functions lent legal alone))
+sent_is_prefix_where_alone w mine s v ts o = sent_is_prefix w.queue s v ts (alone_may_run w mine s v ts o)

@@ -16,7 +16,7 @@ use Rattle.nic_device.specs.DmaArena.Memory.{part}
 use Rattle.pmd_rx.proofs.{PmdSeam.Places.next_below, PmdSeam.Places.wrapped_next, PmdSeam.Rings.ring_block_apart}
 use Rattle.pmd_rx.specs.{Receive.TakesNext, Receive.consumed, Wrong.is_healthy, Wrong.is_whole}
 use Rattle.history_laws.proofs.Lent.{anew_is_done, taken_is}
-use Rattle.ring_laws.proofs.Kept.{filled_stays, named_kept, posted_block, posted_in, posted_stays, slot_below}
+use Rattle.ring_laws.proofs.Kept.{filled_stays, posted_block, posted_in, posted_stays, slot_below}
 use Rattle.ring_laws.proofs.Ring.{Stays, same_stays, slot_poked}
 use Rattle.ring_laws.proofs.Leaving.{Driven, by_outcome, lend_keeps, look_keeps, look_tells, looked_is}
 use Rattle.ring_laws.proofs.Parts.{first_seen, none_left, order_on, seen_within}
@@ -283,7 +283,7 @@ take_keeps queue s out v n (t ∷ ts) whole (gone, here, h) own is =
       gone ++ piece_at here 0 ∷ [],
       drop 1 here,
       record {
-        named = assumption (named_kept s u queue v.layout refl refl h.named);
+        named = assumption;
         ring = subst IsRing same (ring_on s.memory l here h.ring h.slots some);
         side = set_up_on v.layout here h.ring.next room h.posted some (receive_queue_of s.registers queue) h.side;
         posted = posted_less v.layout here h.ring.next room h.posted some;

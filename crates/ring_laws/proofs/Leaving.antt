@@ -13,7 +13,7 @@ use Rattle.nic_device.proofs.{DmaArena.Bus.get-insert_same}
 use Rattle.pmd_rx.specs.Receive.{CanLend, LendsNext, lent_one, saw, told_by}
 use Rattle.pmd_rx.specs.declared.ring.Stage.TheVariants.{Owes}
 use Rattle.ring_laws.proofs.Kept.{first_place, named_kept, posted_below, posted_in, slot_below, slots_stay}
-use Rattle.ring_laws.proofs.Parts.{end_last, end_more, none_held, open_more, order_same, seen_more}
+use Rattle.ring_laws.proofs.Parts.{end_last, end_more, none_held, open_more, seen_more}
 use Rattle.ring_laws.specs.Joint.{Agree, AreOpen, HasSlots, Holds, IsAt, IsLoose, IsRing, IsSetUp, Saw}
 use Rattle.ring_laws.specs.Steps.{Each, Leaves, LeavesButOn, LeavingKeeps, LookTellsSlot, SwitchingKeeps}
 use Rattle.ring_laws.proofs.{Kept.stage_stays, Ring.same_stays, Ring.slot_looked}
@@ -190,8 +190,7 @@ lent_holds queue s out v gone here b h own =
     assumption (
       leaving_holds h (fresh_leaves queue s v b own),
       loose,
-      order_same out gone here v (lent_one v b.number) h.order refl refl h.order.seen
-          (end_last v.stage v.seen v.held (none_looked v.stage v.seen own.stage) h.order.stage),
+      end_last v.stage v.seen v.held (none_looked v.stage v.seen own.stage) h.order.stage,
     )
 
 pub lend_keeps : (queue : ℕ) (s : State) (out : List Piece) (v : Receive) (b : Block) → Agree queue s out v

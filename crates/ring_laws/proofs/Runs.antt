@@ -18,11 +18,11 @@ use Rattle.history_laws.specs.Left.{is_step_of}
 use Rattle.history_laws.specs.DeviceLaws.Leaving.{ReceivesOutside}
 use Rattle.ring_laws.specs.Agreeing.{Agrees, AgreesAt, SendsInOrder, bytes_of, frames_from}
 use Rattle.ring_laws.specs.Alone.{IsAlone, MayComeAlone, MayMoveAlone, MayRunAlone}
-use Rattle.ring_laws.specs.Laws.{AloneMayRun, FindsWaiting, IdleIsAllSent, IsPrefixOf, LeftAloneIsSpared}
-use Rattle.ring_laws.specs.Turns.{MayCome, MayMove, MayRun, Turn, entries_of, known, sender_after, turns_of}
+use Rattle.ring_laws.specs.Laws.{AloneMayRun, FindsWaiting, IsPrefixOf, LeftAloneIsSpared}
+use Rattle.ring_laws.specs.Turns.{IsOver, MayCome, MayMove, MayRun, Turn, entries_of, known, sender_after, turns_of}
 use Rattle.ring_laws.proofs.{Advancing.end-last, Advancing.look-fetched, Advancing.look-tells, TransmitLent.AreMine}
 use Rattle.ring_laws.proofs.{TransmitLent.mine-moved, Packets.frame_of_end, Playing.move-keeps, Sparing.spares-keeps}
-use Rattle.ring_laws.specs.{Laws.SentIsPrefix, Laws.SentIsPrefixOfTaken, Laws.SentIsPrefixWhereAlone}
+use Rattle.ring_laws.specs.{Laws.SentIsPrefixOfTaken, Laws.SentIsPrefixWhereAlone}
 use Rattle.ring_laws.specs.{Laws.WaitingIsNotAllSent, Sent.sent_by, Sent.sent_in, Sparing.IsLeft}
 use Rattle.ring_laws.specs.{Sparing.ReceiveOwes, Sparing.is_transmit_of}
 use Rattle.nic_device.specs.declared.event.Event.TheVariants as event
@@ -95,13 +95,6 @@ pub first_sent : (s : State) (queue : ℕ) (sent : List (List ℕ)) (limit : ℕ
 first_sent s queue sent limit left ks (inl x) = (frames_from (staged_by s queue) left, x.in_order)
 first_sent s queue sent limit left ks (inr x) = (x.frame ∷ x.rest, x.in_order)
 
-pub sent_is_prefix : SentIsPrefix
-sent_is_prefix queue s v ts o =
-    let j = over-turns s queue [] v ts o.agreed o.legal o.may in
-    let w = sender_after v ts in
-    first_sent (leads_to s (entries_of ts)) queue (sent_in queue s (entries_of ts)) w.layout.limit
-    (drop j.0 w.outstanding) w.accepted j.1.sends
-
 -- what is left to be sent
 
 -- nothing, where nothing is left
@@ -147,8 +140,20 @@ module _ {s : State} {queue : ℕ} {sent : List (List ℕ)} {v : Sender} {f : �
       (omega (arith, length-drop f v.outstanding, known, rest)) last in
       omega (arith, longer, ap length same, ap length split, length-append xs more)
 
-pub idle_is_all_sent : IdleIsAllSent
-idle_is_all_sent queue s v ts o none = idle-all (over-turns s queue [] v ts o.agreed o.legal o.may).1 (ap length none)
+module _ (queue : ℕ) (s : State) (v : Sender) (ts : List Turn) (o : IsOver queue s v ts) where
+  abbrev last : Sender
+  last = sender_after v ts
+
+  agreed : Agrees (leads_to s (entries_of ts)) queue (sent_in queue s (entries_of ts)) last
+  agreed = over-turns s queue [] v ts o.agreed o.legal o.may
+
+  pub sent_is_prefix : IsPrefixOf (sent_in queue s (entries_of ts)) (bytes_of last.accepted)
+  sent_is_prefix =
+      first_sent (leads_to s (entries_of ts)) queue (sent_in queue s (entries_of ts)) last.layout.limit
+      (drop agreed.0 last.outstanding) last.accepted agreed.1.sends
+
+  pub idle_is_all_sent : last.outstanding ≡ [] → bytes_of last.accepted ≡ sent_in queue s (entries_of ts)
+  idle_is_all_sent none = idle-all agreed.1 (ap length none)
 
 pub sent_in-append : (queue : ℕ) (s : State) (g h : List Entry)
     → sent_in queue s (g ++ h) ≡ sent_in queue s g ++ sent_in queue (leads_to s g) h
@@ -176,7 +181,7 @@ pub waiting_is_not_all_sent : WaitingIsNotAllSent
 waiting_is_not_all_sent queue s v ts us o finds same all_sent =
     let gone = entries_of ts in
     waiting-left (leads_to s (entries_of (ts ++ us))) queue (sent_in queue s (entries_of (ts ++ us)))
-    (sender_after v (ts ++ us)) (over-turns s queue [] v (ts ++ us) o.agreed o.legal o.may) finds
+    (sender_after v (ts ++ us)) (agreed queue s v (ts ++ us) o) finds
     (sent_in queue s gone) (sent_in queue (leads_to s gone) (entries_of us))
     (ap (sent_in queue s) (map-append _ ts us) ∙ sent_in-append queue s gone (entries_of us))
     (ap bytes_of same ∙ all_sent)

@@ -233,17 +233,8 @@ module _ (queue most : ℕ) (s : State) (out : List Piece) (v : Receive) (gone h
     writes : (f : Filled) → (filled_by s w).answer ≡ Ok f → (memory : Memory)
         → Step (receive.slot_done s w others (Ok f) memory)
     writes f is memory = elim (cases_eq w.queue queue) [
-      | inl own ↦
-          subst (λ (ps : List Piece). Goes (receive.after_piece w others f) ps)
-          (sym (ap (λ (b : Bool). cond b (piece f is own ∷ []) []) (eq-eqb w.queue queue own))) (writes_own f is own)
-      | inr ne ↦
-          subst (λ (ps : List Piece). Goes (receive.after_piece w others f) ps)
-          (sym (ap (λ (b : Bool). cond b (record {
-            bytes = piece_of s.waiting f.len;
-            first = first_of s.waiting;
-            end = f.end;
-          } ∷ []) []) (ne_eqb w.queue queue ne)))
-          (writes_other f ne)
+      | inl own ↦ rw (eq-eqb w.queue queue own) (writes_own f is own)
+      | inr ne ↦ rw (ne_eqb w.queue queue ne) (writes_other f ne)
     ]
 
     answered : (answer : Result Filled RingFault) → (filled_by s w).answer ≡ answer

@@ -129,9 +129,7 @@ module _ (queue most : ℕ) (s : State) (out : List Piece) (v : Receive) (gone h
   Step o = Goes o.state.waiting (pieces_told queue s.waiting o.reply)
 
   none_written : (ws : List Waiting) → begun_on queue ws ≡ begun_on queue s.waiting → Goes ws []
-  none_written ws same =
-      subst (λ (xs : List Piece). (begun_on queue ws ≡ 2048 * open_after 0 xs) × AllFit most 0 xs)
-      (sym (append-nil out)) (same ∙ fit.begun, fit.pieces)
+  none_written ws same = rw (append-nil out) (same ∙ fit.begun, fit.pieces)
 
   module _ (w : Waiting) (others : List Waiting) (e : s.waiting ≡ w ∷ others) where
     are : AreWaiting (w ∷ others)

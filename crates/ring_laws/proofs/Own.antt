@@ -43,9 +43,8 @@ next-fits most n (t ∷ ts) [] all are opens below = absurd are
 next-fits most n (t ∷ ts) (p ∷ here) all are opens below =
     let on : p.end ≡ false = sym are.0.end_is ∙ opens.0.goes_on in
     let rest : AllFit most (n + 1) here = subst (λ (e : Bool). AllFit most (cond e 0 (n + 1)) here) on all.1 in
-    subst (λ (k : ℕ). Fits most k (piece_at here (length ts)))
-    (let e : n + 1 + length ts ≡ n + suc (length ts) = omega arith in e)
-    (next-fits most (n + 1) ts here rest are.1 opens.1 (omega (arith, below)))
+    let same : n + suc (length ts) ≡ n + 1 + length ts = omega arith in
+    rw same (next-fits most (n + 1) ts here rest are.1 opens.1 (omega (arith, below)))
 
 part_is : (most before second : ℕ) (p : Piece) (ends : Bool) → ends_packet second ≡ ends → ends_packet second ≡ p.end
     → bytes_in second ≡ length p.bytes → length p.bytes ≤ 2048 → Fits most before p

@@ -49,9 +49,7 @@ module _ (w : Watched) (mine : Blocks) (v : Sender) (s : State) (b : ℕ) (lent 
       → LeavesBlock b s (after s e)
   spared_block e x other = elim (cases_Bool (is_step_of Rx w.queue e)) as (λ _. LeavesBlock b s (after s e)) [
     | inl own ↦
-        let is = step_is Rx w.queue e own in
-        subst (λ (n : Event Block). LeavesBlock b s (after s n)) (sym is)
-        (received_block (subst (IsLeft w mine v s) is x))
+        let is = step_is Rx w.queue e own in rw is (received_block (subst (IsLeft w mine v s) is x))
     | inr none ↦
         left-block w.queue mine s x.sound b (x.lent b lent) e x.made x.blocks x.steps
         (received-none w.queue s e none) (silent_else Tx w.queue s e other)
@@ -83,11 +81,9 @@ over-turns s queue sent v [] j legal may = rw (append-nil sent) j
 over-turns s queue sent v (t ∷ ts) j legal may =
     let e = t.entry.event in
     let first = sent_by queue s e in
-    let rest = over-turns (after s e) queue (sent ++ first) (known v t.move t.entry.reply) ts
-    (one-turn s queue sent v e t.entry.reply t.move j legal.0 may.0) legal.1 may.1 in
-    subst (λ xs. Agrees (leads_to (after s e) (entries_of ts)) queue xs
-    (sender_after (known v t.move t.entry.reply) ts))
-    (append_assoc sent first (sent_in queue (after s e) (entries_of ts))) rest
+    rw (← append_assoc sent first (sent_in queue (after s e) (entries_of ts)))
+    (over-turns (after s e) queue (sent ++ first) (known v t.move t.entry.reply) ts
+    (one-turn s queue sent v e t.entry.reply t.move j legal.0 may.0) legal.1 may.1)
 
 -- what was sent are the first frames of those accepted
 pub first_sent : (s : State) (queue : ℕ) (sent : List (List ℕ)) (limit : ℕ) (left : List Segment) (ks : List Kept)

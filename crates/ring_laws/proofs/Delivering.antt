@@ -20,8 +20,8 @@ use Rattle.history_laws.proofs.{Alone.alone_by_entries, Alone.histories_sound, S
 use Rattle.history_laws.specs.{Alone.AllAlone, Lent.LendsOneOf}
 use Rattle.ring_laws.proofs.Foreign.{entry_keeps, entry_stays_up, left_up, own_stays_up}
 use Rattle.ring_laws.specs.Delivered.{IsPrefixOf, delivered, packets_if_any, pieces_in, pieces_since}
-use Rattle.ring_laws.specs.Histories.{AllSpare, FindsNone, HandedIsPrefix, IsDriven, NoneIsAll, NoneIsAllBefore}
-use Rattle.ring_laws.specs.Histories.{NoneIsAllTaken, ShowsNone, Spares, SparesReceive, mark_of, marks_after}
+use Rattle.ring_laws.specs.Histories.{AllSpare, FindsNone, IsDriven, NoneIsAllBefore}
+use Rattle.ring_laws.specs.Histories.{ShowsNone, Spares, SparesReceive, mark_of, marks_after}
 use Rattle.ring_laws.specs.Joint.{Agree, AreOpen, AreSeen, InOrder, IsAt, packets_had, still_held}
 use Rattle.ring_laws.specs.Pieces.{Piece, packet_told, packets_behind, packets_of, pieces}
 use Rattle.ring_laws.proofs.{Leaving.leaving_keeps, Leaving.look_tells, ReceiveLent.mine_driven}
@@ -268,32 +268,21 @@ module _ (w : Watched) (origin : State) (start rest : List Entry) (v : Receive) 
       ap packets_if_any (since-append w.queue origin None start rest
       ∙ ap (λ so_far. pieces_since w.queue here so_far rest) d.on ∙ led.since [])
 
-  prefix : IsPrefixOf last.handed (delivered w.queue origin (start ++ rest))
-  prefix =
-      subst (IsPrefixOf last.handed) (sym delivered_is)
-      (handed_first w.queue (leads_to here rest) (pieces_in w.queue here rest) last led.agree)
+  agreed : Agree w.queue (leads_to origin (start ++ rest)) (pieces_in w.queue here rest) last
+  agreed =
+      subst (λ (s : State). Agree w.queue s (pieces_in w.queue here rest) last) (sym (leads-append origin start rest))
+      led.agree
 
-  all : FindsNone (leads_to origin (start ++ rest)) last → last.handed ≡ delivered w.queue origin (start ++ rest)
-  all finds =
-      sym (drained w.queue (leads_to here rest) (pieces_in w.queue here rest) last led.agree
-      (subst (λ s. FindsNone s last) (leads-append origin start rest) finds))
-      ∙ sym delivered_is
+  pub handed_is_prefix : IsPrefixOf last.handed (delivered w.queue origin (start ++ rest))
+  handed_is_prefix = subst (IsPrefixOf last.handed) (sym delivered_is) (handed_first w.queue _ _ last agreed)
 
-  taken : ShowsNone (leads_to origin (start ++ rest)) last
+  pub none_is_all : FindsNone (leads_to origin (start ++ rest)) last
+      → last.handed ≡ delivered w.queue origin (start ++ rest)
+  none_is_all finds = sym (drained w.queue _ _ last agreed finds) ∙ sym delivered_is
+
+  pub none_is_all_taken : ShowsNone (leads_to origin (start ++ rest)) last
       → last.handed ++ records_of last.whole ≡ delivered w.queue origin (start ++ rest)
-  taken shows =
-      sym (all_taken w.queue (leads_to here rest) (pieces_in w.queue here rest) last led.agree
-      (subst (λ s. ShowsNone s last) (leads-append origin start rest) shows))
-      ∙ sym delivered_is
-
-pub handed_is_prefix : HandedIsPrefix
-handed_is_prefix = prefix
-
-pub none_is_all : NoneIsAll
-none_is_all = all
-
-pub none_is_all_taken : NoneIsAllTaken
-none_is_all_taken = taken
+  none_is_all_taken shows = sym (all_taken w.queue _ _ last agreed shows) ∙ sym delivered_is
 
 -- what is delivered stays so
 
@@ -333,10 +322,10 @@ none_is_all_before w origin start before rest v early marks d e finds same =
     between (played_by v early (calls_of w.pass before)).handed
     (delivered w.queue origin (start ++ before))
     (delivered w.queue origin (start ++ (before ++ rest)))
-    (prefix w origin start before v early d)
+    (handed_is_prefix w origin start before v early d)
     (subst (λ (ks : List Kept). IsPrefixOf ks (delivered w.queue origin (start ++ (before ++ rest))))
     (sym (delivered_is w origin start before v early d))
     (subst (IsPrefixOf (packets_of (pieces_in w.queue here before)))
     (sym (delivered_is w origin start (before ++ rest) v marks e ∙ ap (λ (ps : List Piece). packets_of ps) whole))
     (grows [] (pieces_in w.queue here before) (pieces_in w.queue (leads_to here before) rest))))
-    (sym (all w origin start (before ++ rest) v marks e finds) ∙ same)
+    (sym (none_is_all w origin start (before ++ rest) v marks e finds) ∙ same)

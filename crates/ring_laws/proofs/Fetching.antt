@@ -1,9 +1,9 @@
 -- A posted slot of the driver's ring is fetched.
-use Rattle.std.proofs.Common.{if◌then◌else◌, ◌%◌, ◌*◌, ◌++◌, ◌+◌, ◌-◌, ◌<◌, ◌^◌, ◌∙◌, ◌∷◌, ◌≡◌, ◌≢◌, ◌≤◌, Bool, List}
+use Rattle.std.proofs.Common.{if◌then◌else◌, ◌*◌, ◌++◌, ◌+◌, ◌-◌, ◌<◌, ◌^◌, ◌∙◌, ◌∷◌, ◌≡◌, ◌≢◌, ◌≤◌, Bool, List}
 use Rattle.std.proofs.Common.{None, Ok, Some, ap, arith, drop, false, inl, inr, length, not, refl, subst, sym, true, ℕ}
-use Rattle.std.proofs.lemmas.Bool.{and_cases, both_ways, cases_Bool, cases_eq, cases_lt, eqb-false, lt-ltb, or_right}
-use Rattle.std.proofs.{Math.Nat.mod-eq_of_lt, lemmas.List.append-nil, lemmas.List.length-append}
-use Rattle.std.specs.Prelude.{◌==◌, IsTrue, ⊤}
+use Rattle.std.proofs.lemmas.Bool.{cases_Bool, cases_eq, cases_lt, or_right}
+use Rattle.std.proofs.{lemmas.List.append-nil, lemmas.List.length-append}
+use Rattle.std.specs.Prelude.{IsTrue, ⊤}
 use Rattle.history_laws.specs.Prelude.{Fetched, Memory, Ring, State, TransmitQueue, done_descriptor, first_half}
 use Rattle.history_laws.specs.Prelude.{has_block, is_empty, is_lent, is_outside, read_at, second_half, sending_of}
 use Rattle.history_laws.specs.Prelude.{transmit_queue_of, write_at}
@@ -19,7 +19,7 @@ use Rattle.nic_device.specs.{TxRing.Fetch.fetch_of, TxRing.Frame.frame_of, TxRin
 use Rattle.nic_device.specs.{TxRing.Report.head_address, TxRing.Report.new_head, TxRing.declared.tx.Tx.Tx}
 use Rattle.pmd_tx.proofs.PmdSeam.Rings.{each_first}
 use Rattle.ring_laws.proofs.Blocks.{ready_stays, slot-apart, slot-below, slot-lent}
-use Rattle.ring_laws.proofs.Ring.{Stays, written_here, written_stays}
+use Rattle.ring_laws.proofs.Ring.{Stays, address_small, ends_apart, inside_of, written_here, written_stays}
 use Rattle.ring_laws.specs.Agreeing.{AgreesAt, ArePackets, IsDone, IsReady, Shows, staged_behind}
 
 -- A posted slot that is fetched: its segment is staged, and at the end of a packet that goes out, and the descriptor is
@@ -100,33 +100,24 @@ module _ {s : State} {queue : ℕ} {sent : List (List ℕ)} {v : Sender} {f : �
 
   inside : is_outside side.ring ≡ false
   inside =
-      let a : side.ring.head < slots_of side.ring = rw (slots, h.set_up.head) (below f h.counted.fetched_posted) in
-      let b : side.ring.tail < slots_of side.ring = rw (slots, h.set_up.tail) (below v.posted (omega arith)) in
-      rw (lt-ltb side.ring.head (slots_of side.ring) a, lt-ltb side.ring.tail (slots_of side.ring) b) refl
+      inside_of side.ring v.layout.size h.set_up.length (rw h.set_up.head (below f h.counted.fetched_posted))
+      (rw h.set_up.tail (below v.posted (omega arith)))
 
   pub head_is : head_address side.ring ≡ descriptor_at v.layout f
   head_is =
-      let e : side.ring.base + 16 * side.ring.head ≡ descriptor_at v.layout f =
-      rw (h.set_up.base, h.set_up.head) refl in
       let low = below f h.counted.fetched_posted in
-      let few = h.based.layout.few in
       let first = each_first v.layout.ring v.layout.size (λ n. IsTrue (has_block s.memory n)) h.based.layout.some
       h.shows.ring in
-      let small = small_of_lent s.memory v.layout.ring h.based.sound.blocks.whole first in
-      ap (λ (n : ℕ). n % 2 ^ 64) e ∙ mod-eq_of_lt (omega arith)
+      address_small side.ring.base side.ring.head v.layout.ring (slot_at v.layout f) h.set_up.base h.set_up.head
+      (small_of_lent s.memory v.layout.ring h.based.sound.blocks.whole first) (omega (arith, low, h.based.layout.few))
 
   -- where the queue isn't silent, a segment is posted and not fetched
   pub more : is_empty side.ring ≡ false → f < v.posted
-  more full = elim (and_cases (not (is_outside side.ring)) (side.ring.head == side.ring.tail) full) [
-    | inl out ↦ absurd (both_ways (not (is_outside side.ring)) out (rw inside refl))
-    | inr apart ↦
-        let ne : side.ring.head ≢ side.ring.tail = eqb-false side.ring.head side.ring.tail apart in
-        elim (cases_lt f v.posted) [
-          | inl lt ↦ lt
-          | inr le ↦
-              let same : f ≡ v.posted = omega (arith, h.counted.fetched_posted) in
-              absurd (ne (h.set_up.head ∙ ap (slot_at v.layout) same ∙ sym h.set_up.tail))
-        ]
+  more some = elim (cases_lt f v.posted) [
+    | inl lt ↦ lt
+    | inr le ↦
+        let same : f ≡ v.posted = omega (arith, h.counted.fetched_posted) in
+        absurd (ends_apart side.ring inside some (h.set_up.head ∙ ap (slot_at v.layout) same ∙ sym h.set_up.tail))
   ]
 
   module _ (posted : f < v.posted) where

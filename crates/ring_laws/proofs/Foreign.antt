@@ -82,9 +82,7 @@ module _ (queue : ℕ) (s : State) (out : List Piece) (v : Receive) (sound : IsS
   pub deed_keeps : Deed Rx queue s e → (pieces queue s e ≡ [] → Each v (λ b. LeavesBlock b s t))
       → Agree queue t (out ++ pieces queue s e) v
   deed_keeps (Took x) blocks = took x
-  deed_keeps (Rested no_piece rests) blocks =
-      subst (λ xs. Agree queue t xs v) (sym (ap (λ ps. out ++ ps) no_piece ∙ append-nil out))
-      (rested rests (blocks no_piece))
+  deed_keeps (Rested no_piece rests) blocks = rw (no_piece, append-nil out) (rested rests (blocks no_piece))
 
 -- a step of receiving that writes no piece on the queue spares the driver's blocks
 spares_each : (queue : ℕ) (v : Receive) (ws : List Waiting) (r : Reply Block) → pieces_told queue ws r ≡ []

@@ -1,11 +1,12 @@
 -- The ring of a driver that receives: its places, its blocks, and what stays where memory does.
-use Rattle.std.proofs.Common.{[], ◌%◌, ◌*◌, ◌++◌, ◌+◌, ◌/◌, ◌<◌, ◌^◌, ◌∙◌, ◌∷◌, ◌≡◌, ◌≤◌, ◌⊎◌, List, ap}
+pub use Rattle.ring_laws.proofs.Ring.{inside_of}
+use Rattle.std.proofs.Common.{[], ◌*◌, ◌++◌, ◌+◌, ◌/◌, ◌<◌, ◌∙◌, ◌∷◌, ◌≡◌, ◌≤◌, ◌⊎◌, List, ap}
 use Rattle.std.proofs.Common.{append_assoc, arith, drop, false, inl, inr, length, refl, subst, suc, sym, take, true, ℕ}
 use Rattle.std.proofs.lemmas.List.{get_or_append_left, get_or_push, length-append, length_push, take-append-drop}
-use Rattle.std.specs.Prelude.{nat_lt, slice_index}
-use Rattle.std.proofs.{lemmas.Bool.lt-ltb, lemmas.Bool.Decides.nat_tests}
-use Rattle.history_laws.specs.Prelude.{Block, Memory, Ring, State, bytes_in, ends_packet, first_half}
-use Rattle.history_laws.specs.Prelude.{is_done, is_outside, mode_in, second_half}
+use Rattle.std.specs.Prelude.{slice_index}
+use Rattle.std.proofs.{lemmas.Bool.Decides.nat_tests}
+use Rattle.history_laws.specs.Prelude.{Block, Memory, State, bytes_in, ends_packet, first_half}
+use Rattle.history_laws.specs.Prelude.{is_done, mode_in, second_half}
 use Rattle.ring_laws.specs.ReceivePrelude.{Layout, Lent, Receive, Stage, Told, block_at, descriptor_at}
 use Rattle.ring_laws.specs.ReceivePrelude.{extended, fresh_of, is_ring_block, names, posts, reach, slot_at, took}
 use Rattle.ring_laws.specs.ReceivePrelude.{wrapped}
@@ -25,19 +26,6 @@ use Rattle.ring_laws.specs.{Pieces.Piece, Pieces.piece_at, Steps.Each, Steps.IfF
 
 pub first_place : (n : ℕ) → 0 < n → 0 ≡ wrapped n (0 + 0)
 first_place n h = grind (arith, nat_tests)
-
-pub inside_of : (r : Ring) (n : ℕ) → r.length ≡ 16 * n → r.head < n → r.tail < n → is_outside r ≡ false
-inside_of r n len head tail =
-    let slots : r.length / 16 ≡ n = omega (arith, len) in
-    let h : nat_lt r.head n ≡ true = lt-ltb r.head n head in
-    let t : nat_lt r.tail n ≡ true = lt-ltb r.tail n tail in
-    rw (slots, h, t) refl
-
--- addresses
-
-pub address_small : (base head ring slot : ℕ) → base ≡ 2048 * ring → head ≡ slot → ring < 65536 → slot < 1024
-    → (base + 16 * head) % 2 ^ 64 ≡ 2048 * ring + 16 * slot
-address_small base head ring slot e f h k = omega arith
 
 pub buffer_even : (first block : ℕ) → first ≡ 2048 * block → 2 * (first / 2) ≡ 2048 * block
 buffer_even first block e = omega arith

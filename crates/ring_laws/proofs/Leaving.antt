@@ -7,14 +7,14 @@ use Rattle.history_laws.specs.Prelude.{Block, Bytes, Event, Memory, Outcome, Rec
 use Rattle.history_laws.specs.Prelude.{buffer_size_of, bytes_in, descriptor_type_of, ends_packet, gives, has_block}
 use Rattle.history_laws.specs.Prelude.{is_done, read_at, receive_queue_of, reply_to, second_half, step_of}
 use Rattle.ring_laws.specs.ReceivePrelude.{Layout, Lent, Looks, PeeksNext, Receive, Stage, Takes, Told}
-use Rattle.ring_laws.specs.ReceivePrelude.{descriptor_at, drive, extended, is_part, no_packet, reach, slot_at}
+use Rattle.ring_laws.specs.ReceivePrelude.{descriptor_at, drive, is_part, no_packet, reach, slot_at}
 use Rattle.nic_device.proofs.{Cases.lent_cases, DmaArena.Bus.get-insert_other}
 use Rattle.nic_device.proofs.{DmaArena.Bus.get-insert_same}
 use Rattle.pmd_rx.specs.Receive.{CanLend, LendsNext, lent_one, saw, told_by}
 use Rattle.pmd_rx.specs.declared.ring.Stage.TheVariants.{Owes}
 use Rattle.ring_laws.proofs.Kept.{first_place, named_kept, posted_below, posted_in, slot_below, slots_stay}
-use Rattle.ring_laws.proofs.Parts.{end_last, end_more, none_held, open_more, order_same, seen_more}
-use Rattle.ring_laws.specs.Joint.{Agree, AreOpen, HasSlots, Holds, InOrder, IsAt, IsNamed, IsRing, IsSetUp, Saw}
+use Rattle.ring_laws.proofs.Parts.{end_last, end_more, none_held, open_more, seen_more}
+use Rattle.ring_laws.specs.Joint.{Agree, AreOpen, HasSlots, Holds, IsAt, IsLoose, IsRing, IsSetUp, Saw}
 use Rattle.ring_laws.specs.Steps.{Each, Leaves, LeavesButOn, LeavingKeeps, LookTellsSlot, SwitchingKeeps}
 use Rattle.ring_laws.proofs.{Kept.stage_stays, Ring.same_stays, Ring.slot_looked}
 use Rattle.ring_laws.proofs.Kept.{each_fresh, each_ring, each_slot}
@@ -38,30 +38,30 @@ set_up_kept q r l filled ring control h = record {
   tail = ap (λ (x : Ring). x.tail) ring ∙ h.tail;
 }
 
-switching_holds : (queue : ℕ) (s t : State) (out : List Piece) (v : Receive) (gone here : List Piece)
-    → LeavesButOn queue v s t → Holds queue s out v gone here → Holds queue t out v gone here
-switching_holds queue s t out v gone here l h =
-    let Same : ℕ → Type 0 = λ b. map.get t.memory b ≡ map.get s.memory b in
-    let stays = same_stays v.layout.ring v.layout.size s.memory t.memory (each_ring v Same l.blocks) in
-    assumption (
-      named_kept s t queue v.layout l.mode l.vfs h.named,
-      set_up_kept (receive_queue_of s.registers queue) (receive_queue_of t.registers queue) v.layout (length here)
-          l.ring l.control h.side,
-      slots_stay h.ring stays here (λ k i. tt) (each_slot v Same l.blocks) h.slots,
-      stage_stays h.ring stays v.stage (each_fresh v Same l.blocks) h.stage,
-    )
+module _ {queue : ℕ} {s t : State} {out : List Piece} {v : Receive} {gone here : List Piece}
+    (h : Holds queue s out v gone here) where
+  switching_holds : LeavesButOn queue v s t → Holds queue t out v gone here
+  switching_holds l =
+      let Same : ℕ → Type 0 = λ b. map.get t.memory b ≡ map.get s.memory b in
+      let stays = same_stays v.layout.ring v.layout.size s.memory t.memory (each_ring v Same l.blocks) in
+      assumption (
+        named_kept s t queue v.layout l.mode l.vfs h.named,
+        set_up_kept (receive_queue_of s.registers queue) (receive_queue_of t.registers queue) v.layout (length here)
+            l.ring l.control h.side,
+        slots_stay h.ring stays here (λ k i. tt) (each_slot v Same l.blocks) h.slots,
+        stage_stays h.ring stays v.stage (each_fresh v Same l.blocks) h.stage,
+      )
+
+  leaving_holds : Leaves queue v s t → Holds queue t out v gone here
+  leaving_holds l =
+      switching_holds
+      (assumption (ap (λ (q : ReceiveQueue). q.ring) l.receive, ap (λ (q : ReceiveQueue). q.control) l.receive))
 
 pub switching_keeps : SwitchingKeeps
-switching_keeps queue s t out v l (gone, here, h) = (gone, here, switching_holds queue s t out v gone here l h)
-
-pub leaving_holds : (queue : ℕ) (s t : State) (out : List Piece) (v : Receive) (gone here : List Piece)
-    → Leaves queue v s t → Holds queue s out v gone here → Holds queue t out v gone here
-leaving_holds queue s t out v gone here l =
-    switching_holds queue s t out v gone here
-    (assumption (ap (λ (q : ReceiveQueue). q.ring) l.receive, ap (λ (q : ReceiveQueue). q.control) l.receive))
+switching_keeps queue s t out v l (gone, here, h) = (gone, here, switching_holds h l)
 
 pub leaving_keeps : LeavingKeeps
-leaving_keeps queue s t out v l (gone, here, h) = (gone, here, leaving_holds queue s t out v gone here l h)
+leaving_keeps queue s t out v l (gone, here, h) = (gone, here, leaving_holds h l)
 
 -- What a driver reads of its next slot, and what it then knows.
 
@@ -97,22 +97,6 @@ look_tells queue s out v gone here k h some d is =
     (looked_is s (reach v) here k h.ring h.slots (posted_in v k (omega (arith, some))))))
     (tells_bytes s.memory (reach v) here k h.slots (posted_below v k some))
 
--- the driver's state beside its ring changes
-pub with_driver : (queue : ℕ) (s : State) (out : List Piece) (v w : Receive) (gone here : List Piece)
-    → Holds queue s out v gone here → w.layout ≡ v.layout → w.named ≡ v.named
-    → StageHolds s.memory (reach v) w.stage → InOrder out w gone here → Holds queue s out w gone here
-with_driver queue s out v w gone here h same names is order =
-    let to : reach v ≡ reach w = λ k. extended (sym same k) (sym names k) in
-    record {
-      named = subst (IsNamed s queue) (sym same) h.named;
-      ring = subst IsRing to h.ring;
-      side = subst (λ (l : Layout). IsSetUp (receive_queue_of s.registers queue) l (length here)) (sym same) h.side;
-      posted = subst (λ (l : Layout). length here ≤ length l.blocks) (sym same) h.posted;
-      slots = subst (λ (l : Layout). HasSlots s.memory l here) to h.slots;
-      stage = subst (λ (l : Layout). StageHolds s.memory l w.stage) to is;
-      order = order;
-    }
-
 -- a driver that saw a part more
 
 part_open : (most before second : ℕ) → is_part most before second ≡ true → ends_packet second ≡ false
@@ -145,13 +129,14 @@ looked_holds queue s out v gone here d false h looks tells is = h
 looked_holds queue s out v gone here d true h looks tells is =
     let both = and_parts (is_done (second_half d)) _ is in
     let at : IsAt Looks v.seen v.held = subst (λ (x : Stage). IsAt x v.seen v.held) looks h.order.stage in
-    with_driver queue s out v (saw v d) gone here h refl refl
-    (stage_after s.memory (reach v) (ends_packet (second_half d)))
-    (none_held out gone here v (saw v d) h.order at.0 at.0 refl refl
-    (seen_more v.seen here (told_by d) h.order.seen (tells.done.0 both.0)
-    (saw_tells here (length v.seen) d tells both.0))
-    (at_after v (told_by d) (ends_packet (second_half d)) refl at.0 at.1
-    (part_open v.layout.most (length v.seen) (second_half d) both.1)))
+    assumption (
+      stage_after s.memory (reach v) (ends_packet (second_half d)),
+      none_held out gone here v (saw v d).seen (saw v d).stage h.order at.0
+          (seen_more v.seen here (told_by d) h.order.seen (tells.done.0 both.0)
+          (saw_tells here (length v.seen) d tells both.0))
+          (at_after v (told_by d) (ends_packet (second_half d)) refl at.0 at.1
+          (part_open v.layout.most (length v.seen) (second_half d) both.1)),
+    )
 
 -- after an event of the driver's own the two agree, with the driver that it leads to
 abbrev pub Driven : ℕ → State → List Piece → Receive → Event Block → Type 0
@@ -201,12 +186,12 @@ lent_holds queue s out v gone here b h own =
     let t = with_block s b in
     let may = own.may in
     let there : has_block t.memory b.number ≡ true = rw (get-insert_same s.memory b.number b.bytes) refl in
-    with_driver queue t out v (lent_one v b.number) gone here
-    (leaving_holds queue s t out v gone here
-    (fresh_leaves queue s v b own) h) refl refl
-    (assumption (may, there))
-    (order_same out gone here v (lent_one v b.number) h.order refl refl h.order.seen
-    (end_last v.stage v.seen v.held (none_looked v.stage v.seen own.stage) h.order.stage))
+    let loose : IsLoose t.memory (reach v) b.number = assumption (may, there) in
+    assumption (
+      leaving_holds h (fresh_leaves queue s v b own),
+      loose,
+      end_last v.stage v.seen v.held (none_looked v.stage v.seen own.stage) h.order.stage,
+    )
 
 pub lend_keeps : (queue : ℕ) (s : State) (out : List Piece) (v : Receive) (b : Block) → Agree queue s out v
     → LendsNext v b → Driven queue s out v (event.Lend b)

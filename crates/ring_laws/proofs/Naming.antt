@@ -166,16 +166,13 @@ name_keeps queue s out v a bytes whole (gone, here, h) own =
     h.slots.there) (
       gone,
       here,
-      record {
-        named = assumption;
-        ring = subst IsRing same (ring_more t.memory l here b h.ring slots free posted);
-        side = h.side;
-        posted = h.posted;
-        slots = subst (λ (x : Layout). HasSlots t.memory x here) same
-            (slots_more t.memory l here b h.ring slots free posted);
-        stage = next_holds t.memory (reach (names v)) v.seen;
-        order = order_named out gone here v own.stage h.order;
-      },
+      assumption (
+        subst IsRing same (ring_more t.memory l here b h.ring slots free posted),
+        subst (λ (x : Layout). HasSlots t.memory x here) same
+            (slots_more t.memory l here b h.ring slots free posted),
+        next_holds t.memory (reach (names v)) v.seen,
+        order_named out gone here v own.stage h.order,
+      ),
     )
 
 -- The tail moves on over slots that name blocks: these are posted, and whole packets handed out.

@@ -1,22 +1,22 @@
 -- The driver's own events: each gets the reply of a healthy queue, and keeps the agreement; here one takes the block of
 -- the next slot.
-use Rattle.std.proofs.Common.{[], ◌*◌, ◌++◌, ◌+◌, ◌<◌, ◌∙◌, ◌∷◌, ◌≡◌, ◌≢◌, ◌≤◌, Bool, List, Some, ap, arith, cond, drop}
+use Rattle.std.proofs.Common.{[], ◌*◌, ◌++◌, ◌+◌, ◌<◌, ◌∙◌, ◌∷◌, ◌≡◌, ◌≤◌, Bool, List, Some, ap, arith, cond, drop}
 use Rattle.std.proofs.Common.{false, inl, inr, length, not, refl, subst, suc, sym, take, true, ℕ}
 use Rattle.std.proofs.lemmas.Bool.{and_from, cases_Bool, eq-eqb, le-leb, lt-ltb, or_left, or_right}
 use Rattle.std.proofs.lemmas.List.{append-nil, get_or-drop, length-drop}
 use Rattle.std.{specs.Prelude.⊤}
-use Rattle.history_laws.specs.Prelude.{Block, Event, IsWhole, Memory, Outcome, Port, ReceiveQueue, State, after}
+use Rattle.history_laws.specs.Prelude.{Block, Event, IsWhole, Memory, Outcome, Port, ReceiveQueue, State}
 use Rattle.history_laws.specs.Prelude.{bytes_in, ends_packet, is_done, read_at, receive_queue_of, reply_to, second_half}
 use Rattle.history_laws.specs.Prelude.{step_of}
 use Rattle.ring_laws.specs.ReceivePrelude.{IsOwn, Layout, LendsAnew, Looks, MovesNext, NamesNext, Packet, PeeksNext}
-use Rattle.ring_laws.specs.ReceivePrelude.{Receive, Stage, Told, block_at, descriptor_at, drive, is_part, is_ring_block}
+use Rattle.ring_laws.specs.ReceivePrelude.{Receive, Stage, Told, block_at, descriptor_at, is_part}
 use Rattle.ring_laws.specs.ReceivePrelude.{left_of, reach, slot_at, took, vacant, wrapped}
 use Rattle.nic_device.proofs.{DmaArena.Blocks.read_at_in, DmaArena.Bus.get-remove_other, DmaArena.Bus.of_some}
 use Rattle.nic_device.specs.DmaArena.Memory.{part}
 use Rattle.pmd_rx.proofs.{PmdSeam.Places.next_below, PmdSeam.Places.wrapped_next, PmdSeam.Rings.ring_block_apart}
 use Rattle.pmd_rx.specs.{Receive.TakesNext, Receive.consumed, Wrong.is_healthy, Wrong.is_whole}
 use Rattle.history_laws.proofs.Lent.{anew_is_done, taken_is}
-use Rattle.ring_laws.proofs.Kept.{filled_stays, named_kept, posted_block, posted_in, posted_stays, slot_below}
+use Rattle.ring_laws.proofs.Kept.{filled_stays, posted_block, posted_in, posted_stays, slot_below}
 use Rattle.ring_laws.proofs.Ring.{Stays, same_stays, slot_poked}
 use Rattle.ring_laws.proofs.Leaving.{Driven, by_outcome, lend_keeps, look_keeps, look_tells, looked_is}
 use Rattle.ring_laws.proofs.Parts.{first_seen, none_left, order_on, seen_within}
@@ -43,9 +43,8 @@ next-fits most n (t ∷ ts) [] all are opens below = absurd are
 next-fits most n (t ∷ ts) (p ∷ here) all are opens below =
     let on : p.end ≡ false = sym are.0.end_is ∙ opens.0.goes_on in
     let rest : AllFit most (n + 1) here = subst (λ (e : Bool). AllFit most (cond e 0 (n + 1)) here) on all.1 in
-    subst (λ (k : ℕ). Fits most k (piece_at here (length ts)))
-    (let e : n + 1 + length ts ≡ n + suc (length ts) = omega arith in e)
-    (next-fits most (n + 1) ts here rest are.1 opens.1 (omega (arith, below)))
+    let same : n + suc (length ts) ≡ n + 1 + length ts = omega arith in
+    rw same (next-fits most (n + 1) ts here rest are.1 opens.1 (omega (arith, below)))
 
 part_is : (most before second : ℕ) (p : Piece) (ends : Bool) → ends_packet second ≡ ends → ends_packet second ≡ p.end
     → bytes_in second ≡ length p.bytes → length p.bytes ≤ 2048 → Fits most before p
@@ -180,21 +179,17 @@ module _ (m : Memory) (l : Layout) (here : List Piece) (ring : IsRing l) (h : Ha
   filled_on k i =
       let j : 1 + k < length here = omega (arith, fewer, i) in
       let inside : 1 + k < length l.blocks = omega (arith, h.within, j) in
-      subst (λ a. IsFilled n a (block_at (consumed l) k) (piece_at (drop 1 here) k))
-      (sym (desc_on k (omega (arith, ring.room, inside))))
-      (subst (λ b. IsFilled n (descriptor_at l (1 + k)) b (piece_at (drop 1 here) k)) (sym (block_on k))
-      (subst (λ p. IsFilled n (descriptor_at l (1 + k)) (block_at l (1 + k)) p) (sym (piece_on k))
+      rw (desc_on k (omega (arith, ring.room, inside)), block_on k, piece_on k)
       (filled_stays ring stays (1 + k) (block_at l (1 + k)) (piece_at here (1 + k)) (omega (arith, inside))
-      (ring.not_ring (1 + k) inside) tt (kept_block (1 + k) (omega arith) inside) (h.filled (1 + k) j))))
+      (ring.not_ring (1 + k) inside) tt (kept_block (1 + k) (omega arith) inside) (h.filled (1 + k) j))
 
   posted_on : (k : ℕ) → length (drop 1 here) ≤ k → k < length (drop 1 l.blocks)
       → IsPosted n (descriptor_at (consumed l) k) (block_at (consumed l) k)
   posted_on k i j =
       let inside : 1 + k < length l.blocks = omega (arith, less, j) in
-      subst (λ a. IsPosted n a (block_at (consumed l) k)) (sym (desc_on k (omega (arith, ring.room, inside))))
-      (subst (λ b. IsPosted n (descriptor_at l (1 + k)) b) (sym (block_on k))
+      rw (desc_on k (omega (arith, ring.room, inside)), block_on k)
       (posted_stays ring stays (1 + k) (block_at l (1 + k)) (omega (arith, inside)) tt
-      (kept_block (1 + k) (omega arith) inside) (h.posted (1 + k) (omega (arith, fewer, i)) inside)))
+      (kept_block (1 + k) (omega arith) inside) (h.posted (1 + k) (omega (arith, fewer, i)) inside))
 
   pub ring_on : IsRing (consumed l)
   ring_on =
@@ -204,15 +199,11 @@ module _ (m : Memory) (l : Layout) (here : List Piece) (ring : IsRing l) (h : Ha
         next = next_below l.size l.next ring.next;
         ring = ring.ring;
         room = omega (arith, less, ring.room);
-        low = λ k i. subst (λ b. b < 65536) (sym (block_on k)) (ring.low (1 + k) (omega (arith, less, i)));
-        not_ring = λ k i.
-            subst (λ b. is_ring_block l.ring l.size b ≡ false) (sym (block_on k))
-            (ring.not_ring (1 + k) (omega (arith, less, i)));
+        low = λ k i. rw (block_on k) (ring.low (1 + k) (omega (arith, less, i)));
+        not_ring = λ k i. rw (block_on k) (ring.not_ring (1 + k) (omega (arith, less, i)));
         apart = λ i j a b ne.
-            subst (λ x. x ≢ block_at (consumed l) j) (sym (block_on i))
-            (subst (λ x. block_at l (1 + i) ≢ x) (sym (block_on j))
-            (ring.apart (1 + i) (1 + j) (omega (arith, less, a)) (omega (arith, less, b))
-            (λ e. ne (omega (arith, e)))));
+            rw (block_on i, block_on j)
+            (ring.apart (1 + i) (1 + j) (omega (arith, less, a)) (omega (arith, less, b)) (λ e. ne (omega (arith, e))));
       }
 
   pub slots_on : HasSlots n (consumed l) (drop 1 here)
@@ -283,7 +274,7 @@ take_keeps queue s out v n (t ∷ ts) whole (gone, here, h) own is =
       gone ++ piece_at here 0 ∷ [],
       drop 1 here,
       record {
-        named = assumption (named_kept s u queue v.layout refl refl h.named);
+        named = assumption;
         ring = subst IsRing same (ring_on s.memory l here h.ring h.slots some);
         side = set_up_on v.layout here h.ring.next room h.posted some (receive_queue_of s.registers queue) h.side;
         posted = posted_less v.layout here h.ring.next room h.posted some;
@@ -299,19 +290,13 @@ take_keeps queue s out v n (t ∷ ts) whole (gone, here, h) own is =
 
 -- Each event of the driver's own keeps the agreement.
 
-quiet : (queue : ℕ) (s : State) (out : List Piece) (v : Receive) (e : Event Block) → Driven queue s out v e
-    → Agree queue (after s e) (out ++ []) (drive v e (reply_to s e))
-quiet queue s out v e d = subst (λ xs. Agree queue (after s e) xs (drive v e (reply_to s e))) (sym (append-nil out)) d
-
 pub own_keeps : OwnEventKeeps
-own_keeps queue s out v (event.Peek16 a) i j own =
-    quiet queue s out v (event.Peek16 a) (look_keeps queue s out v a j own)
+own_keeps queue s out v (event.Peek16 a) i j own = rw (append-nil out) (look_keeps queue s out v a j own)
 own_keeps queue s out v (event.Take n) i j own =
-    quiet queue s out v (event.Take n) (take_keeps queue s out v n v.seen i.blocks.whole j own refl)
-own_keeps queue s out v (event.Lend b) i j own = quiet queue s out v (event.Lend b) (lend_keeps queue s out v b j own)
+    rw (append-nil out) (take_keeps queue s out v n v.seen i.blocks.whole j own refl)
+own_keeps queue s out v (event.Lend b) i j own = rw (append-nil out) (lend_keeps queue s out v b j own)
 own_keeps queue s out v (event.Poke16 a bytes) i j own =
-    quiet queue s out v (event.Poke16 a bytes) (name_keeps queue s out v a bytes i.blocks.whole j own)
-own_keeps queue s out v (event.Write port number word) i j own =
-    quiet queue s out v (event.Write port number word)
-    (move_keeps queue s out v port number word i.registers.shape j own)
+    rw (append-nil out) (name_keeps queue s out v a bytes i.blocks.whole j own)
+own_keeps queue s out v (event.Write port n word) i j own =
+    rw (append-nil out) (move_keeps queue s out v port n word i.registers.shape j own)
 own_keeps queue s out v e i j own = absurd own

@@ -215,14 +215,12 @@ order_same out gone here v w o had still seen stage = record {
 }
 
 -- while nothing is held, what is seen may change
-pub none_held : (out gone here : List Piece) (v w : Receive) → InOrder out v gone here → v.held ≡ no_packet
-    → w.held ≡ no_packet → w.handed ≡ v.handed → w.whole ≡ v.whole → AreSeen w.seen here
-    → IsAt w.stage w.seen w.held → InOrder out w gone here
-none_held out gone here v w o none still same whole seen stage =
-    let left : (u : Receive) → u.held ≡ no_packet → still_held u ≡ no_packet =
-    λ u is. ap (λ (p : Packet). left_of u.seen p) is ∙ none_left u.seen in
-    let ended : (u : Receive) → u.held ≡ no_packet → ended_of u.seen u.held ≡ [] =
-    λ u is. ap (λ (p : Packet). ended_of u.seen p) is ∙ none_ended u.seen in
-    let had = ended v none ∙ sym (ended w still) in
-    order_same out gone here v w o (λ k. sym same k ++ records_of (sym whole k ++ had k))
-    (left v none ∙ sym (left w still)) seen stage
+pub none_held : (out gone here : List Piece) (v : Receive) (seen : List Told) (stage : Stage) → InOrder out v gone here
+    → v.held ≡ no_packet → AreSeen seen here → IsAt stage seen v.held
+    → InOrder out (record v { seen = seen; stage = stage }) gone here
+none_held out gone here v seen stage o none are at =
+    let left : (ts : List Told) → left_of ts v.held ≡ no_packet = λ ts. ap (left_of ts) none ∙ none_left ts in
+    let ended : (ts : List Told) → ended_of ts v.held ≡ [] = λ ts. ap (ended_of ts) none ∙ none_ended ts in
+    order_same out gone here v (record v { seen = seen; stage = stage }) o
+    (ap (λ (ps : List Packet). v.handed ++ records_of (v.whole ++ ps)) (ended v.seen ∙ sym (ended seen)))
+    (left v.seen ∙ sym (left seen)) are at

@@ -194,19 +194,13 @@ module _ {s : State} {queue : ℕ} {sent : List (List ℕ)} {v : Sender} {f : �
   abbrev IsKept : Move → Event Block → Type 0
   IsKept m e = Agrees (after s e) queue (sent ++ sent_by queue s e) (moved v m (reply_to s e))
 
-  -- an event that sends nothing
-  quiet : (m : Move) (e : Event Block) → sent_by queue s e ≡ []
-      → Agrees (after s e) queue sent (moved v m (reply_to s e)) → IsKept m e
-  quiet m e none is = rw (none, append-nil sent) is
-
   pub move-keeps : (m : Move) (e : Event Block) → MayMove queue v s e m → IsKept m e
-  move-keeps (Accepts p) (event.Lend b) may = quiet (Accepts p) (event.Lend b) refl (accept_one p b may.0 may.1)
-  move-keeps Lends (event.Lend b) may = quiet Lends (event.Lend b) refl (lend_one b may.0 may.1)
-  move-keeps Asks (event.Poke16 a bytes) may = quiet Asks (event.Poke16 a bytes) refl (ask_one h a bytes may.0 may.1)
-  move-keeps Advances (event.Write port n word) may =
-      quiet Advances (event.Write port n word) refl (advance_one h port n word may.0 may.1)
-  move-keeps Looks (event.Peek16 a) may = quiet Looks (event.Peek16 a) refl (look_one h a may.0)
-  move-keeps Reaps (event.Take n) may = quiet Reaps (event.Take n) refl (reap_one n may.0 may.1)
+  move-keeps (Accepts p) (event.Lend b) may = rw (append-nil sent) (accept_one p b may.0 may.1)
+  move-keeps Lends (event.Lend b) may = rw (append-nil sent) (lend_one b may.0 may.1)
+  move-keeps Asks (event.Poke16 a bytes) may = rw (append-nil sent) (ask_one h a bytes may.0 may.1)
+  move-keeps Advances (event.Write port n word) may = rw (append-nil sent) (advance_one h port n word may.0 may.1)
+  move-keeps Looks (event.Peek16 a) may = rw (append-nil sent) (look_one h a may.0)
+  move-keeps Reaps (event.Take n) may = rw (append-nil sent) (reap_one n may.0 may.1)
   move-keeps Elsewhere e may = spares-keeps h e may
   move-keeps m e may = absurd may.0
 

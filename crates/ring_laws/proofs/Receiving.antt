@@ -1,11 +1,11 @@
 -- A slot of the driver's ring is filled: there is no fault, and the agreement has one piece more.
 use Rattle.std.proofs.Common.{[], ◌*◌, ◌++◌, ◌+◌, ◌<◌, ◌^◌, ◌∙◌, ◌∷◌, ◌≡◌, ◌≢◌, ◌≤◌, ◌⊎◌, Err, List, Ok, ap}
 use Rattle.std.proofs.Common.{append_assoc, arith, false, inl, inr, length, refl, subst, sym, take, true, ℕ}
-use Rattle.std.proofs.lemmas.Bool.{and_from, both_ways, cases_lt, eq-eqb, not_from_false}
+use Rattle.std.proofs.lemmas.Bool.{cases_lt}
 use Rattle.std.proofs.lemmas.List.{get_or_append_left, get_or_push, length-take-le, length_push}
 use Rattle.history_laws.specs.Prelude.{AreApart, Filled, IsSound, IsWhole, Memory, ReceiveQueue, Rest, Ring, RingFault}
 use Rattle.history_laws.specs.Prelude.{Rx, State, bytes_in, ends_packet, first_half, is_done}
-use Rattle.history_laws.specs.Prelude.{is_empty, is_lent, is_outside, mode_in, moved_on, read_at, receive_queue_of}
+use Rattle.history_laws.specs.Prelude.{is_empty, is_outside, mode_in, moved_on, read_at, receive_queue_of}
 use Rattle.history_laws.specs.Prelude.{ring_of, second_half}
 use Rattle.ring_laws.specs.ReceivePrelude.{Layout, Lent, Receive, Stage, block_at, descriptor_at, reach}
 use Rattle.ring_laws.specs.ReceivePrelude.{slot_at, vacant, wrapped}
@@ -16,9 +16,10 @@ use Rattle.nic_device.specs.{DmaArena.Memory.SameLent, DmaRing.Ring.next_of, Dma
 use Rattle.nic_device.specs.{RxRing.Laws.IsHealthy, RxRing.Laws.TakesPiece}
 use Rattle.pmd_rx.proofs.PmdSeam.Places.{next_wrapped, wrapped_apart}
 use Rattle.history_laws.specs.{Left.fill_on, Segments.piece_in}
-use Rattle.ring_laws.proofs.Kept.{address_small, filled_stays, posted_stays, stage_stays}
+use Rattle.ring_laws.proofs.Kept.{filled_stays, posted_stays, stage_stays}
+use Rattle.ring_laws.proofs.Ring.{address_small, ends_apart, inside_of}
 use Rattle.ring_laws.proofs.Ring.{Stays, buffer_and_slot, buffers_apart, slot_and_buffer, slot_lent, slots_apart}
-use Rattle.ring_laws.proofs.Kept.{buffer_even, inside_of, named_kept, posted_below}
+use Rattle.ring_laws.proofs.Kept.{buffer_even, named_kept, posted_below}
 use Rattle.ring_laws.specs.Joint.{HasSlots, Holds, IsFilled, IsPosted, IsRing, IsSetUp, StageHolds}
 use Rattle.ring_laws.specs.Steps.{IfFresh}
 use Rattle.pmd_rx.specs.PmdSeam.Slots.{descriptor_in}
@@ -76,9 +77,7 @@ module _ {queue : ℕ} {s : State} {out : List Piece} {v : Receive} {gone here :
   room_left some (inl is) = is
   room_left some (inr all) =
       let e : length here ≡ length v.layout.blocks = omega (arith, h.posted, all) in
-      let same : own.ring.head ≡ own.ring.tail = h.side.head ∙ ap (slot_at l) e ∙ sym h.side.tail in
-      let empty : is_empty own.ring ≡ true = and_from _ _ (not_from_false _ inside) (eq-eqb _ _ same) in
-      absurd (both_ways _ some empty)
+      absurd (ends_apart own.ring inside some (h.side.head ∙ ap (slot_at l) e ∙ sym h.side.tail))
 
   pub healthy : HasRoom → IsHealthy s.memory own.ring own.control
   healthy room =
@@ -89,14 +88,13 @@ module _ {queue : ℕ} {s : State} {out : List Piece} {v : Receive} {gone here :
           sized = λ e. absurd (omega (arith, h.side.buffer_size, e));
         };
         descriptor =
-            subst (λ a. is_lent s.memory a 16 ≡ true) (sym head_is)
+            rw head_is
             (slot_lent l.ring l.size (slot_at l (length here)) (slot_below l (length here) h.ring h.slots.within)
             s.memory h.slots.there);
         buffer =
-            subst (λ n. is_lent s.memory (buffer_address s.memory own.ring) n ≡ true) (sym h.side.buffer_size)
-            (subst (λ a. is_lent s.memory a 2048 ≡ true) (sym (buffer_is room))
+            rw (h.side.buffer_size, buffer_is room)
             (is_lent_in s.memory (2048 * block_at l (length here)) 2048 (block_at l (length here)) 0
-            (first_waits room).there (omega arith) (omega arith)));
+            (first_waits room).there (omega arith) (omega arith));
       }
 
   -- no fault
@@ -125,23 +123,19 @@ module _ {queue : ℕ} {s : State} {out : List Piece} {v : Receive} {gone here :
       let other = h.ring.not_ring (length here) (posted_below v (length here) room) in
       let low = slot_below l (length here) h.ring h.slots.within in
       let apart : AreApart f.at f.len f.desc 16 =
-      subst (λ x. AreApart x f.len f.desc 16) (sym at)
-      (subst (λ x. AreApart (2048 * b) f.len x 16) (sym desc) (buffer_and_slot b f.len l.ring l.size slot other short low))
-      in
+      rw (at, desc) (buffer_and_slot b f.len l.ring l.size slot other short low) in
       let reads : (c k : ℕ) → AreApart c k (descriptor_at l (length here)) 16 → AreApart c k (2048 * b) f.len
       → read_at n c k ≡ read_at m c k =
       λ c k o u.
-      (writes_inside_slot m own.ring own.control rest f is).reads c k (subst (λ x. AreApart c k x 16) (sym desc) o)
-      (subst (λ x. AreApart c k x f.len) (sym at) u) in
+      (writes_inside_slot m own.ring own.control rest f is).reads c k (rw desc o) (rw at u) in
       record {
         filled = record {
           done = subst (λ x. is_done (second_half (read_at n x 16)) ≡ true) desc d.done;
           end = subst (λ x. ends_packet (second_half (read_at n x 16)) ≡ f.end) desc d.end;
           len = subst (λ x. bytes_in (second_half (read_at n x 16)) ≡ f.len) desc d.len ∙ sym long;
           first = subst (λ x. first_half (read_at n x 16) ≡ rest.first) desc d.first;
-          bytes = subst (λ k. read_at n (2048 * b) k ≡ take f.len rest.bytes) (sym long)
-              (subst (λ x. read_at n x f.len ≡ take f.len rest.bytes) at (d.bytes apart));
-          short = subst (λ k. k ≤ 2048) (sym long) short;
+          bytes = rw (long, ← at) (d.bytes apart);
+          short = rw long short;
           there = same b ∙ (first_waits room).there;
         };
         stays = record {
@@ -189,9 +183,7 @@ module _ (m n : Memory) (l : Layout) (here : List Piece) (p : Piece) (ring : IsR
       (slot_beside k j ne) (ring.apart k (length here) j room ne) (h.filled k low))
   filled_more k i (inr high) =
       let e : k ≡ length here = omega (arith, length_push here p, i, high) in
-      subst (λ x. IsFilled n (descriptor_at l x) (block_at l x) (piece_at (here ++ p ∷ []) x)) (sym e)
-      (subst (IsFilled n (descriptor_at l (length here)) (block_at l (length here)))
-      (sym (get_or_push here p no_piece (length here) refl)) fill.filled)
+      rw (e, get_or_push here p no_piece (length here) refl) fill.filled
 
   pub slots_more : HasSlots n l (here ++ p ∷ [])
   slots_more =

@@ -1,9 +1,11 @@
 -- A ring in memory, of either half of a driver: its descriptors, the blocks beside it, and what stays of both.
 use Rattle.std.proofs.Common.{◌%◌, ◌*◌, ◌+◌, ◌/◌, ◌<◌, ◌≡◌, ◌≢◌, ◌≤◌, List, ap, arith, false, inl, inr, length, refl}
-use Rattle.std.proofs.{Common.subst, Common.sym, Common.true, Common.ℕ, lemmas.Bool.cases_lt}
+use Rattle.std.proofs.lemmas.Bool.{and_from, both_ways, cases_lt, eq-eqb, lt-ltb, not_from_false}
+use Rattle.std.proofs.{Common.subst, Common.sym, Common.true, Common.ℕ, Common.◌^◌}
 use Rattle.std.specs.Prelude.{◌==◌, IsTrue, is_some, ⊤}
-use Rattle.history_laws.specs.Prelude.{AreApart, Bytes, Done, IsWhole, LiesIn, Memory, State, gives, has_block, is_lent}
-use Rattle.history_laws.specs.Prelude.{read_at, step_of, write_at}
+use Rattle.history_laws.specs.Prelude.{AreApart, Bytes, Done, IsWhole, LiesIn, Memory, Ring, State, gives, has_block}
+use Rattle.history_laws.specs.Prelude.{is_empty, is_lent}
+use Rattle.history_laws.specs.Prelude.{is_outside, read_at, step_of, write_at}
 use Rattle.ring_laws.specs.TransmitPrelude.{EachRingBlock, is_ring_block}
 use Rattle.nic_device.proofs.DmaArena.Bus.{SameLent-write_at, read_at-write_at_apart, read_at-write_at_same}
 use Rattle.nic_device.proofs.{DmaArena.Blocks.is_lent_in, DmaArena.Inside.reads_its_block}
@@ -40,6 +42,21 @@ slot_and_buffer ring size slot b n other h l = elim (ring_block_sides ring size 
 
 pub buffers_apart : (b n c k : ℕ) → b ≢ c → n ≤ 2048 → k ≤ 2048 → AreApart (2048 * b) n (2048 * c) k
 buffers_apart b n c k ne h l = elim (cases_lt b c) [ inl o ↦ inl (omega arith) | inr o ↦ inr (omega arith) ]
+
+-- A ring whose head and tail are slots of it: it isn't outside, and where it isn't empty they are two.
+
+pub inside_of : (r : Ring) (n : ℕ) → r.length ≡ 16 * n → r.head < n → r.tail < n → is_outside r ≡ false
+inside_of r n len head tail =
+    let slots : r.length / 16 ≡ n = omega (arith, len) in
+    rw (slots, lt-ltb r.head n head, lt-ltb r.tail n tail) refl
+
+pub ends_apart : (r : Ring) → is_outside r ≡ false → is_empty r ≡ false → r.head ≢ r.tail
+ends_apart r inside some same =
+    both_ways (is_empty r) some (and_from _ _ (not_from_false _ inside) (eq-eqb r.head r.tail same))
+
+pub address_small : (base head ring slot : ℕ) → base ≡ 2048 * ring → head ≡ slot → ring < 65536 → slot < 1024
+    → (base + 16 * head) % 2 ^ 64 ≡ descriptor_in ring slot
+address_small base head ring slot e f h k = omega arith
 
 -- A descriptor of a ring whose blocks are lent: a look tells its bytes, and others are written there.
 

@@ -18,11 +18,11 @@ use Rattle.history_laws.specs.Left.{is_step_of}
 use Rattle.history_laws.specs.DeviceLaws.Leaving.{ReceivesOutside}
 use Rattle.ring_laws.specs.Agreeing.{Agrees, AgreesAt, SendsInOrder, bytes_of, frames_from}
 use Rattle.ring_laws.specs.Alone.{IsAlone, MayComeAlone, MayMoveAlone, MayRunAlone}
-use Rattle.ring_laws.specs.Laws.{AloneMayRun, FindsWaiting, IdleIsAllSent, IsPrefixOf, LeftAloneIsSpared}
-use Rattle.ring_laws.specs.Turns.{MayCome, MayMove, MayRun, Turn, entries_of, known, sender_after, turns_of}
+use Rattle.ring_laws.specs.Laws.{AloneMayRun, FindsWaiting, IsPrefixOf, LeftAloneIsSpared}
+use Rattle.ring_laws.specs.Turns.{IsOver, MayCome, MayMove, MayRun, Turn, entries_of, known, sender_after, turns_of}
 use Rattle.ring_laws.proofs.{Advancing.end-last, Advancing.look-fetched, Advancing.look-tells, TransmitLent.AreMine}
 use Rattle.ring_laws.proofs.{TransmitLent.mine-moved, Packets.frame_of_end, Playing.move-keeps, Sparing.spares-keeps}
-use Rattle.ring_laws.specs.{Laws.SentIsPrefix, Laws.SentIsPrefixOfTaken, Laws.SentIsPrefixWhereAlone}
+use Rattle.ring_laws.specs.{Laws.SentIsPrefixOfTaken, Laws.SentIsPrefixWhereAlone}
 use Rattle.ring_laws.specs.{Laws.WaitingIsNotAllSent, Sent.sent_by, Sent.sent_in, Sparing.IsLeft}
 use Rattle.ring_laws.specs.{Sparing.ReceiveOwes, Sparing.is_transmit_of}
 use Rattle.nic_device.specs.declared.event.Event.TheVariants as event
@@ -49,9 +49,7 @@ module _ (w : Watched) (mine : Blocks) (v : Sender) (s : State) (b : ℕ) (lent 
       → LeavesBlock b s (after s e)
   spared_block e x other = elim (cases_Bool (is_step_of Rx w.queue e)) as (λ _. LeavesBlock b s (after s e)) [
     | inl own ↦
-        let is = step_is Rx w.queue e own in
-        subst (λ (n : Event Block). LeavesBlock b s (after s n)) (sym is)
-        (received_block (subst (IsLeft w mine v s) is x))
+        let is = step_is Rx w.queue e own in rw is (received_block (subst (IsLeft w mine v s) is x))
     | inr none ↦
         left-block w.queue mine s x.sound b (x.lent b lent) e x.made x.blocks x.steps
         (received-none w.queue s e none) (silent_else Tx w.queue s e other)
@@ -83,24 +81,15 @@ over-turns s queue sent v [] j legal may = rw (append-nil sent) j
 over-turns s queue sent v (t ∷ ts) j legal may =
     let e = t.entry.event in
     let first = sent_by queue s e in
-    let rest = over-turns (after s e) queue (sent ++ first) (known v t.move t.entry.reply) ts
-    (one-turn s queue sent v e t.entry.reply t.move j legal.0 may.0) legal.1 may.1 in
-    subst (λ xs. Agrees (leads_to (after s e) (entries_of ts)) queue xs
-    (sender_after (known v t.move t.entry.reply) ts))
-    (append_assoc sent first (sent_in queue (after s e) (entries_of ts))) rest
+    rw (← append_assoc sent first (sent_in queue (after s e) (entries_of ts)))
+    (over-turns (after s e) queue (sent ++ first) (known v t.move t.entry.reply) ts
+    (one-turn s queue sent v e t.entry.reply t.move j legal.0 may.0) legal.1 may.1)
 
 -- what was sent are the first frames of those accepted
 pub first_sent : (s : State) (queue : ℕ) (sent : List (List ℕ)) (limit : ℕ) (left : List Segment) (ks : List Kept)
     → SendsInOrder s queue sent limit left ks → IsPrefixOf sent (bytes_of ks)
 first_sent s queue sent limit left ks (inl x) = (frames_from (staged_by s queue) left, x.in_order)
 first_sent s queue sent limit left ks (inr x) = (x.frame ∷ x.rest, x.in_order)
-
-pub sent_is_prefix : SentIsPrefix
-sent_is_prefix queue s v ts o =
-    let j = over-turns s queue [] v ts o.agreed o.legal o.may in
-    let w = sender_after v ts in
-    first_sent (leads_to s (entries_of ts)) queue (sent_in queue s (entries_of ts)) w.layout.limit
-    (drop j.0 w.outstanding) w.accepted j.1.sends
 
 -- what is left to be sent
 
@@ -147,8 +136,20 @@ module _ {s : State} {queue : ℕ} {sent : List (List ℕ)} {v : Sender} {f : �
       (omega (arith, length-drop f v.outstanding, known, rest)) last in
       omega (arith, longer, ap length same, ap length split, length-append xs more)
 
-pub idle_is_all_sent : IdleIsAllSent
-idle_is_all_sent queue s v ts o none = idle-all (over-turns s queue [] v ts o.agreed o.legal o.may).1 (ap length none)
+module _ (queue : ℕ) (s : State) (v : Sender) (ts : List Turn) (o : IsOver queue s v ts) where
+  abbrev last : Sender
+  last = sender_after v ts
+
+  agreed : Agrees (leads_to s (entries_of ts)) queue (sent_in queue s (entries_of ts)) last
+  agreed = over-turns s queue [] v ts o.agreed o.legal o.may
+
+  pub sent_is_prefix : IsPrefixOf (sent_in queue s (entries_of ts)) (bytes_of last.accepted)
+  sent_is_prefix =
+      first_sent (leads_to s (entries_of ts)) queue (sent_in queue s (entries_of ts)) last.layout.limit
+      (drop agreed.0 last.outstanding) last.accepted agreed.1.sends
+
+  pub idle_is_all_sent : last.outstanding ≡ [] → bytes_of last.accepted ≡ sent_in queue s (entries_of ts)
+  idle_is_all_sent none = idle-all agreed.1 (ap length none)
 
 pub sent_in-append : (queue : ℕ) (s : State) (g h : List Entry)
     → sent_in queue s (g ++ h) ≡ sent_in queue s g ++ sent_in queue (leads_to s g) h
@@ -176,7 +177,7 @@ pub waiting_is_not_all_sent : WaitingIsNotAllSent
 waiting_is_not_all_sent queue s v ts us o finds same all_sent =
     let gone = entries_of ts in
     waiting-left (leads_to s (entries_of (ts ++ us))) queue (sent_in queue s (entries_of (ts ++ us)))
-    (sender_after v (ts ++ us)) (over-turns s queue [] v (ts ++ us) o.agreed o.legal o.may) finds
+    (sender_after v (ts ++ us)) (agreed queue s v (ts ++ us) o) finds
     (sent_in queue s gone) (sent_in queue (leads_to s gone) (entries_of us))
     (ap (sent_in queue s) (map-append _ ts us) ∙ sent_in-append queue s gone (entries_of us))
     (ap bytes_of same ∙ all_sent)
@@ -262,8 +263,7 @@ run w mine s sent v (t ∷ ts) j functions all legal alone =
     )
 
 pub alone_may_run : AloneMayRun
-alone_may_run w mine s v ts agreed functions lent legal alone = run w mine s [] v ts agreed functions lent legal alone
+alone_may_run w mine s v ts o = assumption (run w mine s [] v ts o.agreed o.functions o.lent o.legal o.alone)
 
 pub sent_is_prefix_where_alone : SentIsPrefixWhereAlone
-sent_is_prefix_where_alone w mine s v ts agreed functions lent legal alone =
-    sent_is_prefix w.queue s v ts (assumption (alone_may_run w mine s v ts agreed functions lent legal alone))
+sent_is_prefix_where_alone w mine s v ts o = sent_is_prefix w.queue s v ts (alone_may_run w mine s v ts o)

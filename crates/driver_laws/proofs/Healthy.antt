@@ -42,8 +42,8 @@ all_here h doers e false calls here rest = rest
 
 -- over entries, of numbers that no other pass lends only those are lent that the halves have lent; and replies are
 -- healthy, where the frames that wait fit
-along : (own : Blocks) {w : Watched} {mine : Blocks} (doers : List Doer) (es : List Entry) {s : State} {out : List Piece}
-    {sent : List (List ℕ)} {h : Halves} → Meets w mine s out sent h → Runs w mine s h doers es
+along : (own : Blocks) {w : Watched} {mine : Blocks} (doers : List Doer) (es : List Entry) {s : State}
+    {out : List Piece} {sent : List (List ℕ)} {h : Halves} → Meets w mine s out sent h → Runs w mine s h doers es
     → OnlyLent own (healthy.lent_by h) s.memory → OnlyPassLends w.pass own es
     → AllLendApart own h doers (calls_of w.pass es)
     → (IsUp w.queue s → AreFitting w.queue h.receive.layout.most s out → AreHealthy h doers (calls_of w.pass es))

@@ -77,9 +77,7 @@ pub record Led (w : Watched) (mine : Blocks) (s : State) (out : List Piece) (sen
 pub ended : (w : Watched) (mine : Blocks) (s : State) (out : List Piece) (sent : List (List ℕ)) (h : Halves)
     → BothAgree w.queue s out sent h → AreLent mine h → Led w mine s out sent [] h
 ended w mine s out sent h both lent = record {
-  both =
-      subst (λ xs. BothAgree w.queue s xs (sent ++ []) h) (sym (append-nil out))
-      (subst (λ ys. BothAgree w.queue s out ys h) (sym (append-nil sent)) both);
+  both = rw (append-nil out, append-nil sent) both;
   lent = lent;
   receives = λ up. up;
   sends = λ up. up;
@@ -97,22 +95,16 @@ led_on w mine s out sent e es k receives stays l =
     let ps = pieces w.queue s e.event in
     let fs = sent_by w.queue s e.event in
     record {
-      both =
-          subst (λ xs. BothAgree w.queue (leads_to t es) xs (sent ++ (fs ++ sent_in w.queue t es)) k)
-          (append_assoc out ps (pieces_in w.queue t es))
-          (subst (λ ys. BothAgree w.queue (leads_to t es) ((out ++ ps) ++ pieces_in w.queue t es) ys k)
-          (append_assoc sent fs (sent_in w.queue t es)) l.both);
+      both = rw (← append_assoc out ps (pieces_in w.queue t es), ← append_assoc sent fs (sent_in w.queue t es)) l.both;
       lent = l.lent;
       receives = λ up. l.receives (receives up);
       sends = λ up. l.sends (stays up);
       since = λ up so_far.
-          ap (λ b. pieces_since w.queue t (cond b (Some []) (Some (so_far ++ ps))) es)
-          (not_again (is_on s.registers Rx w.queue) (is_on t.registers Rx w.queue) (inl up.on))
-          ∙ l.since (receives up) (so_far ++ ps) ∙ ap (λ xs. Some xs) (append_assoc so_far ps (pieces_in w.queue t es));
+          rw (not_again (is_on s.registers Rx w.queue) (is_on t.registers Rx w.queue) (inl up.on))
+          (l.since (receives up) (so_far ++ ps) ∙ ap (λ xs. Some xs) (append_assoc so_far ps (pieces_in w.queue t es)));
       counted = λ up so_far.
-          ap (λ b. sent_since w.queue t (cond b [] (so_far ++ fs)) es)
-          (not_again (is_on s.registers Tx w.queue) (is_on t.registers Tx w.queue) (inl up.on))
-          ∙ l.counted (stays up) (so_far ++ fs) ∙ append_assoc so_far fs (sent_in w.queue t es);
+          rw (not_again (is_on s.registers Tx w.queue) (is_on t.registers Tx w.queue) (inl up.on))
+          (l.counted (stays up) (so_far ++ fs) ∙ append_assoc so_far fs (sent_in w.queue t es));
     }
 
 -- entries of a history behind a place where the halves meet the device: it is legal, leaves the queue and these blocks

@@ -201,9 +201,8 @@ module _ {w : Watched} {mine : Blocks} {s : State} {out : List Piece} {sent : Li
         meets = still _ (
           record {
             receive =
-                subst (λ xs. Agree w.queue t (out ++ xs) h.receive) (sym (touch_pieces Tx w.queue (has_lent h.transmit) s e touches))
-                (subst (λ xs. Agree w.queue t xs h.receive) (sym (append-nil out))
-                (leaving_keeps w.queue s t out h.receive left m.both.receive));
+                rw (touch_pieces Tx w.queue (has_lent h.transmit) s e touches, append-nil out)
+                (leaving_keeps w.queue s t out h.receive left m.both.receive);
             transmit = moves_keep s w.queue sent h.transmit e move m.both.transmit may;
             apart = sends_apart s h.receive h.transmit move e own there m.both.apart;
           },

@@ -67,15 +67,11 @@ module _ {w : Watched} {origin : State} {h : List Entry} (q : AtPort) (frame : �
         quiet = subst (IsQuiet w.queue q frame) (sym (reached_next w origin now e)) stays.quiet;
         same = record {
           delivered =
-              ap packets_if_any (since-append w.queue origin None now (e ∷ []))
-              ∙ ap (λ b. packets_if_any
-              (cond b (Some []) (option_map (λ qs. qs ++ pieces w.queue s e.event) so_far))) rx
-              ∙ ap (λ ps. packets_if_any (option_map (λ qs. qs ++ ps) so_far)) stays.received
-              ∙ none_more so_far ∙ x.same.delivered;
+              rw (since-append w.queue origin None now (e ∷ []), rx, stays.received)
+              (none_more so_far ∙ x.same.delivered);
           sent =
-              sent_is_counted.joined w.queue origin [] now (e ∷ [])
-              ∙ ap (λ b. cond b [] (sent ++ sent_by w.queue s e.event)) tx
-              ∙ ap (λ more. sent ++ more) stays.sent ∙ append-nil sent ∙ x.same.sent;
+              rw (sent_is_counted.joined w.queue origin [] now (e ∷ []), tx, stays.sent)
+              (append-nil sent ∙ x.same.sent);
         };
       }
 

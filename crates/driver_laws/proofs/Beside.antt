@@ -1,26 +1,22 @@
 -- Harmless calls beside the driver's lead both halves on, and leave the queue alone.
 use Rattle.std.proofs.Common.{[], ◌&&◌, ◌++◌, ◌∙◌, ◌∷◌, ◌≡◌, Bool, List, None, Option, Some, ap, append_assoc, arith}
 use Rattle.std.proofs.Common.{false, length, not, refl, subst, sym, true, ℕ}
-use Rattle.std.specs.Prelude.{◌==◌, IsTrue}
 use Rattle.std.proofs.lemmas.Bool.{eqb-false}
-use Rattle.driver_laws.specs.Prelude.{AllLendApart, AllOwn, AreSteps, Block, Blocks, Call, Doer, DrivesApart, Elsewhere}
-use Rattle.driver_laws.specs.Prelude.{Entry, Event, Halves, LeavesBlocks, LeavesRegisters, LendsApart, Mode, Place}
-use Rattle.driver_laws.specs.Prelude.{Sends, Watched, after, asks_pool_reset, call_in, call_of, calls_of, doers_other}
-use Rattle.driver_laws.specs.Prelude.{is_neither, is_step, mode_in, played_by, row_of}
-use Rattle.device_lock.specs.Alone.{SparesIfSome, is_setting}
-use Rattle.nic_device.specs.RegTable.Place.{place_among}
-use Rattle.nic_device.specs.RegTable.Runs.{runs}
-use Rattle.nic_device.specs.VfMap.Owner.{is_receive, is_transmit}
-use Rattle.nic_device.specs.declared.event.Event.TheVariants as event
+use Rattle.std.specs.Prelude.{◌==◌, IsTrue}
 use Rattle.nic_device.specs.declared.event.Port.TheVariants.{Pf, Vf}
-use Rattle.pmd.proofs.Apart.{both_apart}
-use Rattle.pmd.proofs.Followed.{both_own, both_played, others_own, others_played, own_length}
 use Rattle.pmd.specs.Halves.{OthersStep}
+use Rattle.pmd.proofs.Followed.{both_own, both_played, others_own, others_played, own_length}
 use Rattle.ring_laws.proofs.Delivering.{calls_other, calls_own}
 use Rattle.driver_laws.specs.Beside.{AddsHarmless, AreHarmless, CallsAddHarmless, DrivesLead, HarmlessLead}
 use Rattle.driver_laws.specs.Beside.{HarmlessLeaveAlone, Leads, LeadsOn, OthersHarmless, StepsAddHarmless, is_harmless}
 use Rattle.driver_laws.specs.Beside.{spares_all}
-use Rattle.driver_laws.specs.Histories.{doer_of, doers_after}
+use Rattle.driver_laws.specs.Prelude.{AllLendApart, AllOwn, AreSteps, Block, Blocks, Call, Doer, DrivesApart, Elsewhere}
+use Rattle.driver_laws.specs.Prelude.{Entry, Event, Halves, LeavesBlocks, LeavesRegisters, LendsApart, Mode, Place}
+use Rattle.driver_laws.specs.Prelude.{Sends, Watched, after, asks_pool_reset, call_in, call_of, calls_of, doers_other}
+use Rattle.driver_laws.specs.Prelude.{is_neither, is_step, mode_in, played_by, row_of}
+use Rattle.driver_laws.proofs.Prelude.{SparesIfSome, both_apart, doer_of, doers_after, is_receive, is_setting}
+use Rattle.driver_laws.proofs.Prelude.{is_transmit, place_among, runs}
+use Rattle.nic_device.specs.declared.event.Event.TheVariants as event
 
 -- steps of the device are harmless
 

@@ -1,45 +1,35 @@
 -- A start on a queue whose sides are off finds no device at fault but as it fills its receive ring.
 use Rattle.std.proofs.Common.{[], ◌++◌, ◌-◌, ◌∙◌, ◌∷◌, ◌≡◌, ◌≢◌, ◌⊎◌, List, ap, append_assoc, false, inl, inr, not}
 use Rattle.std.proofs.Common.{refl, subst, sym, true, ℕ}
-use Rattle.std.specs.Prelude.{IsFalse}
-use Rattle.std.proofs.lemmas.Bool.{both_ways}
-use Rattle.driver_laws.specs.Prelude.{Access, AreMade, AtPort, Block, Call, DeviceFault, Dir, Entry, IsMade, IsNumberOf}
-use Rattle.driver_laws.specs.Prelude.{IsPrepared, IsReceiveReady, LendsEach, Numbers, PmdFault, Port, PreparingFails}
-use Rattle.driver_laws.specs.Prelude.{Receive, ReceiveFails, RowId, Rx, Rxdctl, Sees, Sets, State, SwitchFails, Tx}
-use Rattle.driver_laws.specs.Prelude.{Txdctl, Watched, both_asked, both_quiet, call_of, enable_row, has_bit, has_block}
-use Rattle.driver_laws.specs.Prelude.{is_driven, lent_by, missed, quiet, receive_polled, ring_blocks, ring_words}
-use Rattle.driver_laws.specs.Prelude.{zero_block}
-use Rattle.driver_laws.proofs.Prelude.{AllAre, AtCalls, BeforeLast, BeforeNext, HasGround, IsAlong, IsEnding, IsKept}
-use Rattle.driver_laws.proofs.Prelude.{IsQuiet, Leads}
-use Rattle.nic_device.specs.declared.event.Event.TheVariants as event
-use Rattle.nic_device.specs.declared.event.Reply.TheVariants as reply
-use Rattle.pmd.specs.PmdSeam.QueueMade.{IsOtherwise, IsStrayRead, IsStrayWrite, StopsBy}
-use Rattle.pmd.specs.PmdSeam.Sides.{PollsEnd}
-use Rattle.pmd.specs.Starting.{GoingOnFails}
+use Rattle.std.{proofs.lemmas.Bool.both_ways, specs.Prelude.IsFalse}
+use Rattle.pmd.specs.PmdSeam.QueueMade.{IsStrayWrite}
 use Rattle.ring_laws.proofs.HistoryLaws.Lent.{anew_is_done}
-use Rattle.driver_laws.specs.Faultless.{Never, NoneIsLent, ReceiveIsReady, SwitchingIsNeverStray, TransmitIsReady}
+use Rattle.driver_laws.specs.Faultless.{NoneIsLent, ReceiveIsReady, SwitchingIsNeverStray, TransmitIsReady}
 use Rattle.driver_laws.specs.Filling.{FaultsAreEarlyOrFilling, FaultsEarly, FaultsFilling, FillingBeginsWell}
 use Rattle.driver_laws.specs.Filling.{NoFaultIsEarly}
+use Rattle.driver_laws.specs.Prelude.{Access, AreMade, AtPort, Block, Call, DeviceFault, Dir, Entry, IsMade, IsNumberOf}
+use Rattle.driver_laws.specs.Prelude.{IsReceiveReady, Numbers, PmdFault, Port, PreparingFails, Receive, ReceiveFails}
+use Rattle.driver_laws.specs.Prelude.{RowId, Rx, Rxdctl, Sees, Sets, State, SwitchFails, Tx, Txdctl, Watched}
+use Rattle.driver_laws.specs.Prelude.{both_asked, both_quiet, call_of, enable_row, has_bit, has_block, is_driven}
+use Rattle.driver_laws.specs.Prelude.{lent_by, missed, quiet, receive_polled, ring_words, zero_block}
 use Rattle.driver_laws.proofs.Ground.{IsDriven, IsWrite, asked_are_writes, ground_kept, named_registers_reply}
-use Rattle.driver_laws.proofs.Ground.{off_sides_are_seen_off, plain_keeps, polled_driven, read_ground, reads_driven}
-use Rattle.driver_laws.proofs.Ground.{words_are_writes, write_ground, writes_driven}
-use Rattle.driver_laws.proofs.Made.{OfCall, accesses_keep, all_before, all_missed, before_made, first_access, made_some}
-use Rattle.driver_laws.proofs.Made.{of_map, some_made}
-use Rattle.driver_laws.proofs.On.{switched_sides_agree, switched_sides_go_on}
-use Rattle.driver_laws.proofs.Parts.{ends_some}
-use Rattle.driver_laws.proofs.Reached.{RefutesNext, calls_lead, last_never, next_refuted, then_refuted}
-use Rattle.driver_laws.proofs.StopCalls.{MayAsk, lending}
-use Rattle.driver_laws.proofs.SwitchedOff.{ending_quiet, may_call, quiet_kept}
-use Rattle.driver_laws.proofs.Words.{side_driven}
+use Rattle.driver_laws.proofs.Ground.{off_sides_are_seen_off, plain_keeps, polled_driven, reads_driven}
+use Rattle.driver_laws.proofs.Ground.{words_are_writes, writes_driven}
+use Rattle.driver_laws.proofs.Made.{OfCall, all_before, all_missed, before_made, first_access, made_some, some_made}
+use Rattle.driver_laws.proofs.Prelude.{AllAre, AreMadeOf, AtCalls, BeforeLast, BeforeNext, GoingOnFails, HasGround}
+use Rattle.driver_laws.proofs.Prelude.{IsAlong, IsEnding, IsKept, IsOtherwise, IsPlain, IsQuiet, IsStrayRead, Leads}
+use Rattle.driver_laws.proofs.Prelude.{Never, PollsEnd, StopsBy}
+use Rattle.driver_laws.proofs.Reached.{RefutesNext, last_never, made_keep, next_refuted, then_refuted}
+use Rattle.driver_laws.proofs.StopCalls.{accesses_are, accesses_plain, may_asks, prepared_plain, stays_some, step_ends}
+use Rattle.driver_laws.proofs.{On.switched_sides_agree, On.switched_sides_go_on, SwitchedOff.ending_quiet}
+use Rattle.driver_laws.proofs.{SwitchedOff.quiet_kept, Words.side_driven}
+use Rattle.nic_device.specs.declared.event.Event.TheVariants as event
+use Rattle.nic_device.specs.declared.event.Reply.TheVariants as reply
 
 -- an access by which a side is seen off, or asked to be
 abbrev IsQuieting : Access → Type 0
 IsQuieting (Sees row on) = (side : Dir) × (row ≡ enable_row side) × (on ≡ false)
 IsQuieting (Sets row word) = (side : Dir) × (row ≡ enable_row side) × IsFalse (has_bit 25 word)
-
-quieting_may : (a : Access) → IsQuieting a → MayAsk a
-quieting_may (Sees row on) is = tt
-quieting_may (Sets row word) is = is
 
 quieting : AllAre IsQuieting both_quiet
 quieting = (
@@ -72,17 +62,16 @@ module _ {w : Watched} {origin : State} {h : List Entry} (q : AtPort) (frame : �
   off_stays : IsKept w (lent_by w.pass h) Off
   off_stays = quiet_kept w (lent_by w.pass h) q frame
 
+  plain_grounded : (old new : List Call) → AreMadeOf (IsPlain q) old new → Grounded old → Grounded new
+  plain_grounded old new made at = (
+    made_keep Ground (IsPlain q) along ground_stays (λ s e met can plain g. plain_keeps w.queue q frame s e plain g) old
+        new made at.1 at.0,
+    stays_some (IsPlain q) old new made at.1,
+  )
+
   accesses_grounded : (all : List Access) (old new : List Call) → AllAre IsDriven all → AreMade q old new all
       → Grounded old → Grounded new
-  accesses_grounded all old new are made at = (
-    accesses_keep q along IsDriven Ground ground_stays own_call all old new are made at.1 at.0,
-    some_made q all old new made at.1,
-  )
-    where
-      own_call : (a : Access) → IsDriven a → OfCall q a (λ c. Leads w.queue c Ground Ground)
-      own_call (Sees row on) driven = λ number word named is s met can told g. read_ground w.queue q frame s number g
-      own_call (Sets row word) driven = λ number named s met can told g.
-          write_ground w.queue q frame s row word number driven named g
+  accesses_grounded all old new are made = plain_grounded old new (accesses_plain q all old new are made)
 
   -- no access is stray
 
@@ -91,6 +80,10 @@ module _ {w : Watched} {origin : State} {h : List Entry} (q : AtPort) (frame : �
 
   abbrev NextOff : List Call → Type 0
   NextOff old = RefutesNext along Off old
+
+  off_grounds : (old : List Call) → NextOff old → NextOnGround old
+  off_grounds old next before c steps apart refutes =
+      next before c steps apart (λ s x told. refutes s x.ground told)
 
   next_on_ground : (old : List Call) → Grounded old → NextOnGround old
   next_on_ground old at = then_refuted along Ground old ground_stays at.1 at.0
@@ -141,23 +134,23 @@ module _ {w : Watched} {origin : State} {h : List Entry} (q : AtPort) (frame : �
       (sym told))
       (seen ∙ ap not off)))
   never_otherwise old new (Sees row on) (side, is, off) next (inr stray) =
-      read_never_stray old new row (quieting_driven row side is)
-      (λ before c steps apart refutes. next before c steps apart (λ s x told. refutes s x.ground told)) stray
+      read_never_stray old new row (quieting_driven row side is) (off_grounds old next) stray
   never_otherwise old new (Sets row word) (side, is, none) next fails =
-      write_never_stray old new row word (quieting_driven row side is)
-      (λ before c steps apart refutes. next before c steps apart (λ s x told. refutes s x.ground told)) fails
+      write_never_stray old new row word (quieting_driven row side is) (off_grounds old next) fails
 
   off_call : (a : Access) → IsQuieting a → OfCall q a (λ c. Leads w.queue c Off Off)
-  off_call a is =
-      of_map q a (λ c. IsEnding q c.event) (λ c. Leads w.queue c Off Off)
-      (λ c ends s met made told x. ending_quiet w.queue q frame s c.event met made ends x)
-      (may_call q a (quieting_may a is))
+  off_call (Sees row on) is = λ number word named seen s met made told x.
+      ending_quiet w.queue q frame s (event.Read q.port number) met made tt x
+  off_call (Sets row word) is = λ number named s met made told x.
+      ending_quiet w.queue q frame s (event.Write q.port number word) met made (may_asks q row word number is named) x
 
   -- so it is over the accesses that see both off, of which the first may be the pass's first call
 
   accesses_off : (all : List Access) (old new : List Call) → AllAre IsQuieting all → AreMade q old new all → old ≢ []
       → AtCalls w origin h old Off → AtCalls w origin h new Off
-  accesses_off = accesses_keep q along IsQuieting Off off_stays off_call
+  accesses_off all old new are made =
+      made_keep Off (IsEnding q) along off_stays (λ s e. ending_quiet w.queue q frame s e) old new
+      (accesses_are q (IsEnding q) IsQuieting (step_ends q) (λ port number. tt) (may_asks q) all old new are made)
 
   begun_off : (a : Access) (old new : List Call) → IsQuieting a → IsMade q old new a → BeforeNext w origin h old Off
       → AtCalls w origin h new Off
@@ -179,11 +172,10 @@ module _ {w : Watched} {origin : State} {h : List Entry} (q : AtPort) (frame : �
 
   quiet_grounded : (old new : List Call) → AreMade q old new both_quiet → BeforeNext w origin h old Off → Grounded new
   quiet_grounded old new (mid, here, more) at =
-      let others : List Access = Sets Rxdctl 0 ∷ Sees Rxdctl false ∷ quiet Tx in
-      let some = made_some q old mid (Sees Rxdctl false) here in
-      let off = accesses_off others mid new quieting.1 more some
-      (begun_off (Sees Rxdctl false) old mid quieting.0 here at) in
-      (λ done rest all is. (off done rest all is).ground, some_made q others mid new more some)
+      let off = begun_off (Sees Rxdctl false) old mid quieting.0 here at in
+      accesses_grounded (Sets Rxdctl 0 ∷ Sees Rxdctl false ∷ quiet Tx) mid new
+      (refl, (refl, (refl, (refl, (refl, tt))))) more
+      (λ done rest all is. (off done rest all is).ground, made_some q old mid (Sees Rxdctl false) here)
 
   -- a ring is prepared
 
@@ -209,26 +201,10 @@ module _ {w : Watched} {origin : State} {h : List Entry} (q : AtPort) (frame : �
       let (back, lent) = stops.fails in
       lending_is_done stops.next stops.mid new lent.0 back lent.1 (none stops.next stops.free)
 
-  lends_grounded : (ns : List ℕ) (old new : List Call) → LendsEach old new ns → Grounded old → Grounded new
-  lends_grounded [] old new is at = subst Grounded (sym is) at
-  lends_grounded (n ∷ ns) old new (mid, lent, rest) at =
-      lends_grounded ns mid new rest
-      (subst Grounded (sym lent.1) (
-        calls_lead w origin h Ground Ground old lent.0 (lending n) along ground_stays ground_stays
-            (λ s met can told g. plain_keeps w.queue q frame s (event.Lend (zero_block n)) tt g) lent.2 at.1 at.0,
-        ends_some old lent.0 (lending n),
-      ))
-
-  prepared_grounded : {side : Dir} {size : ℕ} {old : List Call} {a : Numbers} {new : List Call} {b : Numbers} {ring : ℕ}
-      → IsPrepared q side size old a new b ring → Grounded old → Grounded new
-  prepared_grounded {side = side} {size = size} {old = old} {new = new} {ring = ring} x at =
-      lends_grounded (ring_blocks ring size) x.mid new x.lent
-      (accesses_grounded (ring_words side ring size) old x.mid
-      (writes_driven (ring_words side ring size) (words_are_writes side ring size)) x.words at)
-
   ready_grounded : {size : ℕ} {old : List Call} {a : Numbers} {new : List Call} {b : Numbers} {v : Receive}
       → IsReceiveReady q size frame old a new b v → BeforeNext w origin h old Off → Grounded new
-  ready_grounded {old = old} x at = prepared_grounded x.prepared (quiet_grounded old x.mid x.quiet at)
+  ready_grounded {old = old} {new = new} x at =
+      plain_grounded x.mid new (prepared_plain x.prepared) (quiet_grounded old x.mid x.quiet at)
 
   -- both sides are asked on and polled
 
@@ -263,7 +239,7 @@ transmit_is_ready w q origin h size frame old a mid b v new c out along at ready
 pub switching_is_never_stray : SwitchingIsNeverStray
 switching_is_never_stray w q origin h size frame old a mid b v both c t new along at ready more fails =
     switching_never_fails q frame along both new
-    (prepared_grounded q frame along more.prepared (ready_grounded q frame along ready at)) fails
+    (plain_grounded q frame along mid both (prepared_plain more.prepared) (ready_grounded q frame along ready at)) fails
 
 pub faults_are_early_or_filling : FaultsAreEarlyOrFilling
 faults_are_early_or_filling q size frame old a new e (inl x) is = inl (inl (record {

@@ -1,56 +1,37 @@
 -- One call beside a driver that receives: the frames that wait for its queue go on fitting, its reply is healthy, and
 -- what that rests on holds behind it.
-use Rattle.std.proofs.Common.{[], ◌&&◌, ◌*◌, ◌++◌, ◌<◌, ◌==◌, ◌||◌, ◌∙◌, ◌∷◌, ◌≡◌, ◌≢◌, ◌≤◌, Bool, List, None, Option}
-use Rattle.std.proofs.Common.{Some, ap, arith, false, inl, inr, length, nat_lt, refl, subst, sym, true, ℕ}
-use Rattle.std.specs.Prelude.{option_map}
+use Rattle.std.proofs.Common.{[], ◌&&◌, ◌*◌, ◌++◌, ◌<◌, ◌==◌, ◌||◌, ◌∷◌, ◌≡◌, ◌≢◌, ◌≤◌, Bool, List, None, Option, Some}
+use Rattle.std.proofs.Common.{ap, arith, false, inl, inr, length, nat_lt, refl, subst, sym, true, ℕ}
 use Rattle.std.proofs.lemmas.Bool.{and_from, and_parts, both_ways, cond_both, eq-eqb, eqb-false, eqb-true, lt-ltb}
 use Rattle.std.proofs.lemmas.Bool.{not-true, or_cases, or_left, or_right}
-use Rattle.std.proofs.lemmas.List.{length-append, nil_from_length}
-use Rattle.driver_laws.specs.Prelude.{Advances, AreEvents, Block, Blocks, Call, Doer, Elsewhere, Entry, Event, Halves}
-use Rattle.driver_laws.specs.Prelude.{IsEvent, IsSound, LeavesRegisters, LendsApart, LendsNone, Memory, Move, OnlyLent}
-use Rattle.driver_laws.specs.Prelude.{OwnCall, Piece, Place, Port, Rdt, Receive, Receives, Register, Reply, Rx, Sends}
-use Rattle.driver_laws.specs.Prelude.{State, Watched, WritesNoSetting, after, after_call, asks_pool_reset, call_of}
-use Rattle.driver_laws.specs.Prelude.{drive, either, is_neither, is_on, leads_to, lends, lent_by, mode_in, named}
-use Rattle.driver_laws.specs.Prelude.{pieces, pieces_since, place, reply_to, row_of}
-use Rattle.device_lock.specs.Alone.{Spares, SparesIfSome, lent_in, place_at}
-use Rattle.nic_device.proofs.Cases.{either_way, lent_cases}
-use Rattle.nic_device.proofs.Steps.{keeps_sound}
-use Rattle.nic_device.specs.DmaRing.Descriptor.{second_half}
-use Rattle.nic_device.specs.DmaRing.Receive.{is_done}
-use Rattle.nic_device.specs.RegTable.declared.rows.RowId.TheVariants.{Tdt}
-use Rattle.nic_device.specs.Step.{step_of}
+use Rattle.std.{proofs.lemmas.List.length-append, proofs.lemmas.List.nil_from_length, specs.Prelude.option_map}
+use Rattle.nic_device.proofs.Cases.{either_way}
+use Rattle.device_lock.specs.Alone.{lent_in}
+use Rattle.pmd.specs.PmdRx.Receive.{posts_all, posts_one, saw, took}
+use Rattle.pmd.specs.PmdRx.declared.ring.Told.{Told}
+use Rattle.ring_laws.specs.{Delivered.goes_on, Fitting.begun_on, HistoryLaws.Left.Rested, HistoryLaws.Left.Took}
+use Rattle.ring_laws.specs.{HistoryLaws.Lent.LendsOwn, HistoryLaws.Lent.with_lent, Pieces.AllFit}
+use Rattle.ring_laws.specs.{TransmitHealthy.LendsAnew, TransmitLent.SparesNumbers}
+use Rattle.ring_laws.proofs.{Fitting.frames_fit, Fitting.frames_stay_fitting, HistoryLaws.Deeds.receiving_did}
+use Rattle.ring_laws.proofs.{HistoryLaws.Lent.only_lent_stays}
+use Rattle.driver_laws.specs.Before.{AreShort, FramesStayShortAlong, OnlyPassLent}
+use Rattle.driver_laws.specs.Prelude.{AreEvents, Block, Blocks, Call, Doer, Elsewhere, Entry, Event, Halves, IsEvent}
+use Rattle.driver_laws.specs.Prelude.{IsSound, LendsApart, LendsNone, Memory, Move, OnlyLent, OwnCall, Piece, Receive}
+use Rattle.driver_laws.specs.Prelude.{Receives, Reply, Rx, Sends, State, Watched, WritesNoSetting, after, after_call}
+use Rattle.driver_laws.specs.Prelude.{call_of, drive, either, is_on, leads_to, lends, lent_by, pieces, pieces_since}
+use Rattle.driver_laws.specs.Prelude.{reply_to}
+use Rattle.driver_laws.proofs.Prelude.{AreFitting, Deed, IsHealthy, IsUp, begun_stays, gathered, keeps_sound}
+use Rattle.driver_laws.proofs.Prelude.{lent_cases, none_begun_while_off, settings_stand, step_of}
+use Rattle.driver_laws.proofs.{Meeting.Goes, Meeting.Meets, Sending.is_elsewhere}
 use Rattle.nic_device.specs.declared.event.Event.TheVariants as event
 use Rattle.nic_device.specs.declared.event.Reply.TheVariants as reply
 use Rattle.pmd.specs.PmdRx.Keeping as received
-use Rattle.pmd.specs.PmdRx.Receive as receiving
-use Rattle.pmd.specs.PmdRx.Receive.{is_part, looked, moved, parts_first, posts_all, posts_one, saw, tail_behind, took}
-use Rattle.pmd.specs.PmdRx.declared.ring.Told.{Told}
 use Rattle.pmd.specs.PmdTx.Sending as sending
-use Rattle.ring_laws.proofs.Begun.{begun_stays}
-use Rattle.ring_laws.proofs.DeviceLaws.KeptSettings.{settings_stand}
-use Rattle.ring_laws.proofs.Fitting.{frames_stay_fitting, none_begun_while_off}
 use Rattle.ring_laws.proofs.Own as receive
-use Rattle.ring_laws.proofs.HistoryLaws.Deeds.{receiving_did}
-use Rattle.ring_laws.proofs.HistoryLaws.Leaving.{left-setting}
-use Rattle.ring_laws.proofs.HistoryLaws.Lent.{only_lent_stays}
-use Rattle.ring_laws.proofs.HistoryLaws.Written.{place_in, place_named}
 use Rattle.ring_laws.proofs.ReceiveLent as receive_lent
-use Rattle.ring_laws.proofs.Fitting.{frames_fit}
-use Rattle.ring_laws.specs.Delivered.{gathered, goes_on}
-use Rattle.ring_laws.specs.Fitting.{AreFitting, ResetsNoPool, begun_on}
-use Rattle.ring_laws.specs.HistoryLaws.Left.{Deed, Rested, Took}
-use Rattle.ring_laws.specs.HistoryLaws.Lent.{LendsOwn, with_lent}
-use Rattle.ring_laws.specs.Pieces.{AllFit}
-use Rattle.ring_laws.specs.ReceiveUp.{IsUp}
 use Rattle.ring_laws.proofs.Playing as transmit
 use Rattle.ring_laws.proofs.TransmitLent as transmit_lent
-use Rattle.ring_laws.specs.TransmitHealthy.{LendsAnew}
-use Rattle.ring_laws.specs.TransmitLent.{SparesNumbers}
-use Rattle.driver_laws.specs.Before.{AreShort, FramesStayShortAlong, OnlyPassLent}
 use Rattle.driver_laws.specs.Healthy as healthy
-use Rattle.driver_laws.specs.Healthy.{IsHealthy}
-use Rattle.driver_laws.proofs.Meeting.{Meets}
-use Rattle.driver_laws.proofs.Sending.{is_elsewhere, move_setting, own_spares, sender_lent, writes_tail}
 
 -- a driver takes as many blocks for a packet as before
 
@@ -58,82 +39,29 @@ took_most : (v : Receive) (seen : List Told) (b : Block) → (took v seen b).lay
 took_most v [] b = refl
 took_most v (t ∷ seen) b = refl
 
-looked_most : (v : Receive) (d : List ℕ) → (looked v d).layout.most ≡ v.layout.most
-looked_most v d =
-    either_way (λ (x : Receive). x.layout.most ≡ v.layout.most)
-    (is_done (second_half d) && is_part v.layout.most (length v.seen) (second_half d)) (saw v d) v refl refl
-
-moved_most : (v : Receive) (word : ℕ) → (moved v word).layout.most ≡ v.layout.most
-moved_most v word =
-    either_way (λ (x : Receive). x.layout.most ≡ v.layout.most)
-    (word == tail_behind v.layout (parts_first v.whole)) (posts_one v) (posts_all v) refl refl
-
 driven_most : (v : Receive) (e : Event Block) (r : Reply Block) → (drive v e r).layout.most ≡ v.layout.most
-driven_most v (event.Peek16 a) (reply.Bytes d) = looked_most v d
+driven_most v (event.Peek16 a) (reply.Bytes d) =
+    either_way (λ (x : Receive). x.layout.most ≡ v.layout.most) _ (saw v d) v refl refl
 driven_most v (event.Take n) (reply.Buf b) = took_most v v.seen b
 driven_most v (event.Lend b) reply.Done = refl
 driven_most v (event.Poke16 a bytes) reply.Done = refl
-driven_most v (event.Write port number word) reply.Done = moved_most v word
+driven_most v (event.Write port number word) reply.Done =
+    either_way (λ (x : Receive). x.layout.most ≡ v.layout.most) _ (posts_one v) (posts_all v) refl refl
 driven_most v e r = refl
 
-most_after : (h : Halves) (d : Doer) (n : Call) → (after_call h d n).receive.layout.most ≡ h.receive.layout.most
+pub most_after : (h : Halves) (d : Doer) (n : Call) → (after_call h d n).receive.layout.most ≡ h.receive.layout.most
 most_after h Receives n = driven_most h.receive n.event n.reply
 most_after h (Sends m) n = refl
 
--- an event resets not the queue's pool
-
--- a write of a register by which no pool is reset
-plain_resets : (queue : ℕ) (s : State) (port : Port) (n word : ℕ) (q : Place) (view : ℕ)
-    → named s port n ≡ Register q view → asks_pool_reset (row_of q.row).kind word ≡ false
-    → ResetsNoPool queue s (event.Write port n word)
-plain_resets queue s port n word q view names plain p seen there asks =
-    let same : Register q view ≡ Register p seen = sym names ∙ there in
-    let both : q ≡ p = cc in
-    absurd (both_ways (asks_pool_reset (row_of q.row).kind word) plain
-    (subst (λ (x : Place). asks_pool_reset (row_of x.row).kind word ≡ true) (sym both) asks))
-
-spared_resets : (w : Watched) (s : State) → w.vfs ≡ s.vfs → (e : Event Block)
-    → LeavesRegisters w (mode_in s.registers) e → ResetsNoPool w.queue s e
-spared_resets w s vfs (event.Write port n word) left = λ p view is asks.
-    let mode = mode_in s.registers in
-    let there : place_at mode w.vfs port n ≡ Some p =
-    ap (λ x. place_at mode x port n) vfs ∙ place_named s port n ∙ ap place_in is in
-    let spares : Spares w.queue mode p word = subst (λ o. SparesIfSome w.queue mode o word) there left in
-    spares.pool asks
-spared_resets w s vfs other left = tt
-
-module _ {w : Watched} {mine : Blocks} {s : State} {out : List Piece} {sent : List (List ℕ)} {h : Halves}
-    (m : Meets w mine s out sent h) where
-  own_resets : (e : Event Block) → receiving.IsOwn h.receive e → ResetsNoPool w.queue s e
-  own_resets (event.Write port n word) own =
-      plain_resets w.queue s port n word (place Rdt w.queue) 0xFFFFFFFF
-      (writes_tail s w.queue h.receive m.both.receive.2.named port n word own) refl
-  own_resets other own = tt
-
-  move_resets : (move : Move) (e : Event Block) → is_elsewhere move ≡ false → sending.IsOwn h.transmit move e
-      → ResetsNoPool w.queue s e
-  move_resets Advances (event.Write port n word) real own =
-      plain_resets w.queue s port n word (place Tdt w.queue) 0xFFFFFFFF
-      (rw (own.2, own.3) m.both.transmit.1.based.tail) refl
-  move_resets Elsewhere e real own = cc
-  move_resets move (event.Write port n word) real own = absurd own
-  move_resets move e real own = tt
-
-  none_reset : (d : Doer) (e : Event Block) → OwnCall h d (call_of e (reply_to s e))
-      → (is_neither d ≡ true → LeavesRegisters w (mode_in s.registers) e) → ResetsNoPool w.queue s e
-  none_reset Receives e own others = own_resets e own
-  none_reset (Sends Elsewhere) e own others = spared_resets w s m.vfs e (others refl)
-  none_reset (Sends move) e own others = move_resets move e refl own
-
-  pub fitting_after : IsUp w.queue s → AreFitting w.queue h.receive.layout.most s out → (d : Doer) (e : Event Block)
-      → OwnCall h d (call_of e (reply_to s e)) → (is_neither d ≡ true → LeavesRegisters w (mode_in s.registers) e)
-      → WritesNoSetting s e → (r : Reply Block)
-      → AreFitting w.queue (after_call h d (call_of e r)).receive.layout.most (after s e) (out ++ pieces w.queue s e)
-  fitting_after up fit d e own others none r =
-      subst (λ (most : ℕ). AreFitting w.queue most (after s e) (out ++ pieces w.queue s e))
-      (sym (most_after h d (call_of e r)))
-      (frames_stay_fitting w.queue h.receive.layout.most s out h.receive e m.sound m.both.receive up fit none
-      (none_reset d e own others))
+-- the frames that wait stay fitting behind an event that meets both halves
+pub fitting_after : {w : Watched} {mine : Blocks} {s : State} {out : List Piece} {sent : List (List ℕ)} {h k : Halves}
+    {e : Event Block} → Meets w mine s out sent h → Goes w mine s out sent e k → IsUp w.queue s
+    → AreFitting w.queue h.receive.layout.most s out → k.receive.layout.most ≡ h.receive.layout.most
+    → AreFitting w.queue k.receive.layout.most (after s e) (out ++ pieces w.queue s e)
+fitting_after {w = w} {s = s} {out = out} {h = h} {e = e} m goes up fit most =
+    subst (λ n. AreFitting w.queue n (after s e) (out ++ pieces w.queue s e)) (sym most)
+    (frames_stay_fitting w.queue h.receive.layout.most s out h.receive e m.sound m.both.receive up fit goes.setting
+    goes.resets)
 
 -- nothing is written of a frame that waits where no piece was since the side went on: none is while it is off
 
@@ -257,17 +185,6 @@ module _ {w : Watched} {mine : Blocks} {s : State} {out : List Piece} {sent : Li
   known_after Receives mine apart = receive_lent.own_lends_are_known.kept own tx s h.receive e known mine
   known_after (Sends Elsewhere) mine apart = move_known Elsewhere mine (lends_none own h e apart)
   known_after (Sends move) mine apart = move_known move mine tt
-
-  -- and no setting is written
-  pub no_setting : IsEvent e → (d : Doer) → OwnCall h d (call_of e (reply_to s e))
-      → (is_neither d ≡ true → LeavesRegisters w (mode_in s.registers) e) → WritesNoSetting s e
-  no_setting made Receives mine others =
-      let (gone, here, holds) = m.both.receive in
-      let blocks = sender_lent s w.queue sent h.transmit m.both.transmit.0 m.both.transmit.1 in
-      (own_spares w.queue s out h.receive gone here holds h.transmit blocks m.both.apart e made mine).setting
-  no_setting made (Sends Elsewhere) mine others = left-setting w s m.vfs e (others refl)
-  no_setting made (Sends move) mine others =
-      move_setting s w.queue sent h.transmit m.both.transmit.0 m.both.transmit.1 move e refl mine
 
 -- entries ahead of the place where the device agrees with both halves
 

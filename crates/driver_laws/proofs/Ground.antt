@@ -1,37 +1,26 @@
 -- What a driver rests on beside its sides: port and queue name its queue, and frames are no longer than its packets.
 use Rattle.std.proofs.Common.{[], ◌*◌, ◌+◌, ◌<◌, ◌∙◌, ◌∷◌, ◌≡◌, ◌≢◌, Bool, List, None, Option, Some, ap, arith, false}
 use Rattle.std.proofs.Common.{if◌then◌else◌, inl, inr, nat_lt, refl, subst, sym, true, ℕ}
-use Rattle.std.specs.Prelude.{◌&&◌}
 use Rattle.std.proofs.lemmas.Bool.{both_ways, cond_both, lt-ltb, ltb-true}
+use Rattle.std.specs.Prelude.{◌&&◌}
+use Rattle.nic_device.specs.{Access.named_read, Named.at_location, Named.at_place, VfMap.Map.behind, VfMap.Map.located}
+use Rattle.nic_device.specs.{VfMap.Pools.queues_of, VfMap.declared.mode.Mode.Mode}
+use Rattle.nic_device.proofs.VfMap.Queues.{few_queues, queue_registers}
+use Rattle.pmd.specs.PmdSeam.Named.{offset_of}
+use Rattle.driver_laws.specs.Numbers.{NamedQueueHasTheNumbers, NumbersName, queue_at, queue_in}
 use Rattle.driver_laws.specs.Prelude.{Access, AtPort, Block, Blocks, DeviceFault, Dir, Event, IsNumberOf, Pf, PmdFault}
 use Rattle.driver_laws.specs.Prelude.{Port, Rdbah, Rdbal, Rdh, Rdlen, Rdt, RowId, Rx, Rxdctl, Sees, Sets, Srrctl, State}
 use Rattle.driver_laws.specs.Prelude.{Tdbah, Tdbal, Tdh, Tdlen, Tdt, Tdwbal, Tx, Txdctl, Vf, Watched, after, both_asked}
 use Rattle.driver_laws.specs.Prelude.{enable_row, frame_limit, is_driven, is_frame, is_size, mode_in, place}
 use Rattle.driver_laws.specs.Prelude.{receive_polled, reply_to, ring_words}
-use Rattle.driver_laws.proofs.Prelude.{AllAre, HasGround, IsKept, IsPlain, NamesRow}
-use Rattle.nic_device.proofs.VfMap.Queues.{few_queues, queue_registers}
-use Rattle.nic_device.specs.Access.{named_read, named_written}
-use Rattle.nic_device.specs.Named.{at_location, at_place}
-use Rattle.nic_device.specs.Step.{step_of}
-use Rattle.nic_device.specs.VfMap.Map.{behind, located}
-use Rattle.nic_device.specs.VfMap.Owner.{is_receive, is_transmit}
-use Rattle.nic_device.specs.VfMap.Pools.{queues_of}
+use Rattle.driver_laws.specs.{Gate.NamedQueuesPass, Replies.NamedRegistersReply, Replies.OffSidesAreSeenOff}
+use Rattle.driver_laws.proofs.Prelude.{AllAre, HasGround, IsKept, IsPlain, NamesRow, WritesNoSetting, has_room}
+use Rattle.driver_laws.proofs.Prelude.{is_receive, is_transmit, left_did, named_written, queues_named, settings_stand}
+use Rattle.driver_laws.proofs.Prelude.{stays_within, step_of, told_on}
+use Rattle.driver_laws.proofs.{Made.all_polled, Words.driven_plain, Words.ground, Words.settings, Words.side_driven}
 use Rattle.nic_device.specs.VfMap.declared.located.Located.TheVariants as located_as
-use Rattle.nic_device.specs.VfMap.declared.mode.Mode.{Mode}
 use Rattle.nic_device.specs.declared.event.Event.TheVariants as event
 use Rattle.nic_device.specs.declared.event.Reply.TheVariants as reply
-use Rattle.pmd.specs.PmdSeam.Named.{offset_of, queues_named}
-use Rattle.pmd.specs.Started.{has_room}
-use Rattle.ring_laws.proofs.DeviceLaws.KeptSettings.{settings_stand}
-use Rattle.ring_laws.proofs.DeviceLaws.Standing.{stays_within}
-use Rattle.ring_laws.proofs.HistoryLaws.Steady.{told_on}
-use Rattle.ring_laws.proofs.HistoryLaws.Deeds.{left_did}
-use Rattle.ring_laws.specs.DeviceLaws.Laws.{WritesNoSetting}
-use Rattle.driver_laws.specs.Gate.{NamedQueuesPass}
-use Rattle.driver_laws.specs.Numbers.{NamedQueueHasTheNumbers, NumbersName, queue_at, queue_in}
-use Rattle.driver_laws.specs.Replies.{NamedRegistersReply, OffSidesAreSeenOff}
-use Rattle.driver_laws.proofs.Made.{all_polled}
-use Rattle.driver_laws.proofs.Words.{driven_plain, ground, settings, side_driven}
 
 -- what names a queue says
 pub some_where : {A : Type 0} (b : Bool) (o : Option A) (x : A) → (if b then o else None) ≡ Some x

@@ -1,156 +1,84 @@
 -- Over a whole history each call of either half gets a healthy reply, and no call ends with the device at fault.
-use Rattle.std.proofs.Common.{[], ◌*◌, ◌++◌, ◌∙◌, ◌∷◌, ◌≡◌, ◌≢◌, Bool, List, ap, append_assoc, arith, false, refl}
-use Rattle.std.proofs.Common.{subst, sym, true, ℕ}
+use Rattle.std.proofs.Common.{[], ◌*◌, ◌++◌, ◌∙◌, ◌∷◌, ◌≡◌, Bool, List, ap, append_assoc, arith, false, refl, subst}
+use Rattle.std.proofs.Common.{sym, true, ℕ}
 use Rattle.std.specs.Prelude.{◌==◌}
-use Rattle.std.proofs.lemmas.Bool.{both_ways, eqb-false}
-use Rattle.std.proofs.lemmas.List.{append_cancel_left, map-append}
-use Rattle.std.proofs.lemmas.List.Elements.{filter-append}
+use Rattle.std.{proofs.lemmas.Bool.both_ways, proofs.lemmas.Bool.eqb-false, proofs.lemmas.List.append_cancel_left}
+use Rattle.std.{proofs.lemmas.List.map-append, proofs.lemmas.List.Elements.filter-append}
+use Rattle.pmd.specs.Apart.{is_healthy}
+use Rattle.pmd.proofs.Apart.{step_apart}
 use Rattle.driver_laws.specs.Prelude.{AllLendApart, AllOwn, AreSteps, Blocks, Call, Doer, Entry, FindsFault, Halves}
 use Rattle.driver_laws.specs.Prelude.{LendsApart, LendsNone, OnlyLent, Piece, State, Watched, after, after_call}
-use Rattle.driver_laws.specs.Prelude.{call_in, call_of, calls_of, doers_other, is_neither, leads_to, pieces, played_by}
-use Rattle.device_lock.proofs.Histories.{events_before}
-use Rattle.pmd.proofs.Apart.{both_apart, step_apart}
-use Rattle.pmd.specs.Apart.{is_healthy}
-use Rattle.ring_laws.specs.Fitting.{AreFitting}
-use Rattle.ring_laws.specs.ReceiveUp.{IsUp}
-use Rattle.driver_laws.specs.Before.{OnlyPassLends}
-use Rattle.driver_laws.specs.Faults.{NoFault, doers_of}
-use Rattle.driver_laws.specs.Healthy as healthy
-use Rattle.driver_laws.specs.Healthy.{AreHealthy, IsHealthy, IsUnshared, OwnRepliesAreHealthy}
-use Rattle.driver_laws.specs.Histories.{IsDriven, doer_of, doers_after}
-use Rattle.driver_laws.proofs.Fitting.{fitting_after, healthy_call, known_after, no_setting, none_apart, unbegun_since}
-use Rattle.driver_laws.proofs.InOrder.{Runs, driven_runs, first_after, first_doer, left_alone, next, one_entry}
-use Rattle.driver_laws.proofs.InOrder.{one_receives_up, own_here, runs_on}
+use Rattle.driver_laws.specs.Prelude.{call_in, call_of, calls_of, doers_other, leads_to, played_by}
+use Rattle.driver_laws.specs.{Before.OnlyPassLends, Faults.NoFault, Faults.doers_of, Healthy.AreHealthy}
+use Rattle.driver_laws.specs.{Healthy.IsUnshared, Healthy.OwnRepliesAreHealthy}
+use Rattle.driver_laws.proofs.Fitting.{fitting_after, healthy_call, known_after, most_after, none_apart, unbegun_since}
+use Rattle.driver_laws.proofs.InOrder.{Runs, driven_runs, first_doer, goes, heads, own_here, played_on, runs_on}
+use Rattle.driver_laws.proofs.InOrder.{with_call}
 use Rattle.driver_laws.proofs.Meeting.{Meets, driven_meets}
+use Rattle.driver_laws.proofs.Prelude.{AreFitting, IsDriven, IsHealthy, IsUp, both_apart, doer_of, doers_after}
+use Rattle.driver_laws.proofs.Prelude.{events_before}
+use Rattle.driver_laws.specs.Healthy as healthy
 
 abbrev pub Parts : Blocks → Halves → List Doer → Entry → Bool → List Call → Type 0
 Parts own h doers e b behind =
     LendsApart own h (doer_of b doers) e.event
     × AllLendApart own (after_call h (doer_of b doers) (call_in e)) (doers_after b doers) behind
 
-call_apart : (own : Blocks) (h : Halves) (doers : List Doer) (e : Entry) (calls : List Call)
-    → AllOwn h doers (call_in e ∷ calls) → AllLendApart own h doers (call_in e ∷ calls) → Parts own h doers e true calls
-call_apart own h [] e calls did apart = absurd did
-call_apart own h (d ∷ doers) e calls did apart = apart
+apart_here : (own : Blocks) (h : Halves) (doers : List Doer) (e : Entry) (b : Bool) (calls : List Call)
+    → AllOwn h doers (with_call b e calls) → (b ≡ false → LendsNone own e.event)
+    → AllLendApart own h doers (with_call b e calls) → Parts own h doers e b calls
+apart_here own h [] e true calls did none apart = absurd did
+apart_here own h (d ∷ doers) e true calls did none apart = apart
+apart_here own h doers e false calls did none apart = (none_apart own h e.event (none refl), apart)
 
-pub apart_by : (pass : ℕ) (own : Blocks) (h : Halves) (doers : List Doer) (e : Entry) (es : List Entry) (b : Bool)
-    → (e.pass == pass) ≡ b → AllOwn h doers (calls_of pass (e ∷ es)) → (e.pass ≢ pass → LendsNone own e.event)
-    → AllLendApart own h doers (calls_of pass (e ∷ es)) → Parts own h doers e b (calls_of pass es)
-apart_by pass own h doers e es true is did none apart =
-    let same : calls_of pass (e ∷ es) ≡ call_in e ∷ calls_of pass es = rw is refl in
-    call_apart own h doers e (calls_of pass es) (subst (AllOwn h doers) same did)
-    (subst (AllLendApart own h doers) same apart)
-apart_by pass own h doers e es false is did none apart =
-    let same : calls_of pass (e ∷ es) ≡ calls_of pass es = rw is refl in
-    (none_apart own h e.event (none (eqb-false e.pass pass is)), subst (AllLendApart own h doers) same apart)
+-- replies are healthy, where the first entry's is if the entry is the pass's
+all_here : (h : Halves) (doers : List Doer) (e : Entry) (b : Bool) (calls : List Call)
+    → IsHealthy h (doer_of b doers) (call_in e)
+    → AreHealthy (after_call h (doer_of b doers) (call_in e)) (doers_after b doers) calls
+    → AreHealthy h doers (with_call b e calls)
+all_here h [] e true calls here rest = tt
+all_here h (d ∷ doers) e true calls here rest = (here, rest)
+all_here h doers e false calls here rest = rest
 
--- the calls of a pass, where the first entry's reply is healthy if the entry is the pass's
-
-more_healthy : (h : Halves) (ds : List Doer) (e : Entry) (es : List Entry) (pass : ℕ)
-    → IsHealthy h (doer_of true ds) (call_in e)
-    → AreHealthy (after_call h (doer_of true ds) (call_in e)) (doers_after true ds) (calls_of pass es)
-    → AreHealthy h ds (call_in e ∷ calls_of pass es)
-more_healthy h [] e es pass here rest = tt
-more_healthy h (d ∷ doers) e es pass here rest = (here, rest)
-
-all_healthy : (h : Halves) (doers : List Doer) (e : Entry) (es : List Entry) (pass : ℕ) (b : Bool)
-    → (e.pass == pass) ≡ b → IsHealthy h (doer_of b doers) (call_in e)
-    → AreHealthy (after_call h (doer_of b doers) (call_in e)) (doers_after b doers) (calls_of pass es)
-    → AreHealthy h doers (calls_of pass (e ∷ es))
-all_healthy h doers e es pass true is here rest =
-    let same : calls_of pass (e ∷ es) ≡ call_in e ∷ calls_of pass es = rw is refl in
-    subst (AreHealthy h doers) (sym same) (more_healthy h doers e es pass here rest)
-all_healthy h doers e es pass false is here rest =
-    let same : calls_of pass (e ∷ es) ≡ calls_of pass es = rw is refl in subst (AreHealthy h doers) (sym same) rest
-
-none_healthy : (h : Halves) (doers : List Doer) → AreHealthy h doers []
-none_healthy h [] = tt
-none_healthy h (d ∷ doers) = tt
-
--- what replies rest on, between two entries
-record Rests (queue : ℕ) (own : Blocks) (s : State) (out : List Piece) (h : Halves) : Type 0 where
-  up : IsUp queue s
-  fit : AreFitting queue h.receive.layout.most s out
-  known : OnlyLent own (healthy.lent_by h) s.memory
-
--- an entry's reply is healthy, and it keeps what replies rest on
-record Goes (w : Watched) (own : Blocks) (s : State) (out : List Piece) (h : Halves) (d : Doer) (e : Entry) : Type 0
-  where
-    here : IsHealthy h d (call_in e)
-    rests : Rests w.queue own (after s e.event) (out ++ pieces w.queue s e.event) (after_call h d (call_in e))
-
--- the first entry of a history that runs
-module _ {w : Watched} {mine : Blocks} {s : State} {out : List Piece} {sent : List (List ℕ)} {h : Halves}
-    {doers : List Doer} {e : Entry} {es : List Entry} (own : Blocks) (m : Meets w mine s out sent h)
-    (r : Runs w mine s h doers (e ∷ es)) where
-  abbrev d : Doer
-  d = first_doer m r
-
-  -- only those of the numbers are lent that the halves have lent
-  known_on : OnlyLent own (healthy.lent_by h) s.memory → LendsApart own h d e.event
-      → OnlyLent own (healthy.lent_by (first_after m r)) (after s e.event).memory
-  known_on known apart =
-      subst (λ (x : _). OnlyLent own (healthy.lent_by (after_call h d (call_of e.event x))) (after s e.event).memory)
-      (sym r.legal.0)
-      (known_after own m known e.event d (own_here m r) apart)
-
-  one_goes : Rests w.queue own s out h → LendsApart own h d e.event → Goes w own s out h d e
-  one_goes x apart =
-      let here = own_here m r in
-      let others = λ (neither : is_neither d ≡ true). (left_alone m r neither).0 in
-      let none = no_setting own m x.known e.event r.events.0 d here others in
-      record {
-        here = subst (λ (y : _). IsHealthy h d (call_of e.event y)) (sym r.legal.0)
-            (healthy_call own m x.known e.event d here apart x.fit.pieces);
-        rests = record {
-          up = one_receives_up m r x.up;
-          fit = fitting_after m x.up x.fit d e.event here others none e.reply;
-          known = known_on x.known apart;
-        };
-      }
-
-module _ (own : Blocks) where
-  along : {w : Watched} {mine : Blocks} (doers : List Doer) (es : List Entry) {s : State} {out : List Piece}
-      {sent : List (List ℕ)} {h : Halves} → Meets w mine s out sent h → Runs w mine s h doers es
-      → Rests w.queue own s out h → OnlyPassLends w.pass own es → AllLendApart own h doers (calls_of w.pass es)
-      → AreHealthy h doers (calls_of w.pass es)
-  along doers [] {h = h} m r x none apart = none_healthy h doers
-  along {w = w} doers (e ∷ es) {h = h} m r x none apart =
-      let b = e.pass == w.pass in
-      let lends = apart_by w.pass own h doers e es b refl r.own none.0 apart in
-      let goes = one_goes own m r x lends.0 in
-      all_healthy h doers e es w.pass b refl goes.here
-      (along (doers_after b doers) es (one_entry m r) (runs_on m r) goes.rests none.1 lends.1)
-
-  -- of numbers that no other pass lends only those are lent that the halves have lent
-  knows : {w : Watched} {mine : Blocks} (doers : List Doer) (es : List Entry) {s : State} {out : List Piece}
-      {sent : List (List ℕ)} {h : Halves} → Meets w mine s out sent h → Runs w mine s h doers es
-      → OnlyLent own (healthy.lent_by h) s.memory → OnlyPassLends w.pass own es
-      → AllLendApart own h doers (calls_of w.pass es)
-      → OnlyLent own (healthy.lent_by (played_by h doers (calls_of w.pass es))) (leads_to s es).memory
-  knows [] [] m r known none apart = known
-  knows (doer ∷ doers) [] m r known none apart = absurd r.own
-  knows {w = w} doers (e ∷ es) {s = s} {h = h} m r known none apart =
-      let b = e.pass == w.pass in
-      let lends = apart_by w.pass own h doers e es b refl r.own none.0 apart in
+-- over entries, of numbers that no other pass lends only those are lent that the halves have lent; and replies are
+-- healthy, where the frames that wait fit
+along : (own : Blocks) {w : Watched} {mine : Blocks} (doers : List Doer) (es : List Entry) {s : State}
+    {out : List Piece} {sent : List (List ℕ)} {h : Halves} → Meets w mine s out sent h → Runs w mine s h doers es
+    → OnlyLent own (healthy.lent_by h) s.memory → OnlyPassLends w.pass own es
+    → AllLendApart own h doers (calls_of w.pass es)
+    → (IsUp w.queue s → AreFitting w.queue h.receive.layout.most s out → AreHealthy h doers (calls_of w.pass es))
+    × OnlyLent own (healthy.lent_by (played_by h doers (calls_of w.pass es))) (leads_to s es).memory
+along own [] [] m r known none apart = (λ up fit. tt, known)
+along own (d ∷ doers) [] m r known none apart = absurd r.own
+along own {w = w} doers (e ∷ es) {s = s} {h = h} m r known none apart =
+    let b = e.pass == w.pass in
+    let d = first_doer m r in
+    let mine = own_here m r in
+    let lends = apart_here own h doers e b (calls_of w.pass es) (subst (AllOwn h doers) (heads m r) r.own)
+    (λ other. none.0 (eqb-false e.pass w.pass other)) (subst (AllLendApart own h doers) (heads m r) apart) in
+    let behind = along own (doers_after b doers) es (goes m r).meets (runs_on m r)
+    (subst (λ (x : _). OnlyLent own (healthy.lent_by (after_call h d (call_of e.event x))) (after s e.event).memory)
+    (sym r.legal.0) (known_after own m known e.event d mine lends.0)) none.1 lends.1 in (
+      λ up fit.
+          subst (AreHealthy h doers) (sym (heads m r))
+          (all_here h doers e b (calls_of w.pass es)
+          (subst (λ (y : _). IsHealthy h d (call_of e.event y)) (sym r.legal.0)
+          (healthy_call own m known e.event d mine lends.0 fit.pieces))
+          (behind.0 ((goes m r).receives up) (fitting_after m (goes m r) up fit (most_after h d (call_in e))))),
       subst (λ (k : Halves). OnlyLent own (healthy.lent_by k) (leads_to (after s e.event) es).memory)
-      (sym (next m r).played)
-      (knows (doers_after b doers) es (one_entry m r) (runs_on m r) (known_on own m r known lends.0) none.1 lends.1)
+          (sym (played_on m r)) behind.1,
+    )
 
 pub own_replies_are_healthy : OwnRepliesAreHealthy
 own_replies_are_healthy w origin start rest h doers own x apart =
     let d = x.driven in
-    along own doers rest (driven_meets d) (driven_runs d) (record {
-      up = d.up;
-      fit = record {
-        limit = x.short.limit;
-        waiting = x.short.waiting;
-        begun = unbegun_since w.queue origin start d.sound (events_before start rest d.events) d.on
-            ∙ (let z : 0 ≡ 2048 * 0 = omega arith in z);
-        pieces = tt;
-      };
-      known = x.known;
-    }) x.others apart
+    (along own doers rest (driven_meets d) (driven_runs d) x.known x.others apart).0 d.up (record {
+      limit = x.short.limit;
+      waiting = x.short.waiting;
+      begun = unbegun_since w.queue origin start d.along.sound (events_before start rest d.along.events) d.on
+          ∙ (let z : 0 ≡ 2048 * 0 = omega arith in z);
+      pieces = tt;
+    })
 
 -- so it is of the blocks that are lent, also where no frame is known to fit
 pub known_along : (w : Watched) (origin : State) (start rest : List Entry) (h : Halves) (doers : List Doer)
@@ -159,7 +87,8 @@ pub known_along : (w : Watched) (origin : State) (start rest : List Entry) (h : 
     → AllLendApart own h doers (calls_of w.pass rest)
     → OnlyLent own (healthy.lent_by (played_by h doers (calls_of w.pass rest)))
     (leads_to (leads_to origin start) rest).memory
-known_along w origin start rest h doers own d = knows own doers rest (driven_meets d) (driven_runs d)
+known_along w origin start rest h doers own d known others apart =
+    (along own doers rest (driven_meets d) (driven_runs d) known others apart).1
 
 -- the calls behind some, and the one behind calls of neither half
 

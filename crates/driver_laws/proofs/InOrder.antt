@@ -1,70 +1,64 @@
 -- What the driver handed out and what it sent, over a history that leaves its queue alone.
-use Rattle.std.proofs.Common.{[], ◌&&◌, ◌++◌, ◌∙◌, ◌∷◌, ◌≡◌, Bool, List, None, Some, ap, append_assoc, cond, drop}
+use Rattle.std.proofs.Common.{[], ◌&&◌, ◌++◌, ◌∙◌, ◌∷◌, ◌≡◌, Bool, List, None, Some, ap, append_assoc, cond}
 use Rattle.std.proofs.Common.{false, inl, length, nat_lt, refl, subst, sym, true, ℕ}
-use Rattle.std.specs.Prelude.{◌==◌, IsTrue}
 use Rattle.std.proofs.lemmas.Bool.{and_from, eq-eqb, eqb-false, eqb-true, lt-ltb, or_left, or_right}
 use Rattle.std.proofs.lemmas.List.{append-nil}
+use Rattle.std.specs.Prelude.{◌==◌, IsTrue}
+use Rattle.pmd.specs.PmdSeam.Packet.{Kept}
+use Rattle.ring_laws.specs.{Alone.LendsOneOf, Delivered.IsPrefixOf, HistoryLaws.Alone.AllAlone, Laws.FindsWaiting}
+use Rattle.ring_laws.proofs.Delivering.{all_taken, between, drained, grows, handed_first, lent_behind, pieces-append}
+use Rattle.ring_laws.proofs.{HistoryLaws.Alone.alone_by_entries, Runs.first_sent, Runs.idle-all, Runs.sent_in-append}
+use Rattle.ring_laws.proofs.{Runs.waiting-left}
 use Rattle.driver_laws.specs.Prelude.{AllOwn, AreEvents, Block, Blocks, Call, Doer, Entry, Event, FindsNone, Halves}
 use Rattle.driver_laws.specs.Prelude.{IsEvent, IsLegal, IsUp, LeavesBlocks, LeavesRegisters, OwnCall, Piece, Reply, Rx}
 use Rattle.driver_laws.specs.Prelude.{ShowsNone, State, Tx, Watched, WritesOutside, after, after_call, bytes_of}
 use Rattle.driver_laws.specs.Prelude.{call_in, call_of, calls_of, delivered, is_neither, is_on, leads_to, lends}
 use Rattle.driver_laws.specs.Prelude.{lent_by, mode_in, packets_if_any, pieces, pieces_in, pieces_since, played_by}
 use Rattle.driver_laws.specs.Prelude.{records_of, reply_to, sent_by, sent_in, sent_since}
-use Rattle.device_lock.proofs.Histories.{events_behind, leads-append, legal_behind}
+use Rattle.driver_laws.specs.{Histories.NoneIsAllBefore, Histories.OthersLeaveAlone, Waiting.WaitingIsNotAll}
+use Rattle.driver_laws.proofs.Meeting.{Goes, Meets, doer_goes, driven_meets}
+use Rattle.driver_laws.proofs.Prelude.{AreLent, BothAgree, IsDriven, calls_other, calls_own, doer_of, doers_after}
+use Rattle.driver_laws.proofs.Prelude.{events_behind, leads-append, legal_behind, not_again, packets_of}
+use Rattle.driver_laws.proofs.Prelude.{sent_is_counted, since-append}
 use Rattle.nic_device.specs.declared.event.Event.TheVariants as event
 use Rattle.nic_device.specs.declared.event.Reply.TheVariants as reply
-use Rattle.pmd.specs.PmdSeam.Packet.{Kept}
-use Rattle.ring_laws.proofs.Delivering.{between, grows, lent_behind, pieces-append, since-append}
-use Rattle.ring_laws.proofs.HistoryLaws.Alone.{alone_by_entries}
-use Rattle.ring_laws.proofs.HistoryLaws.Steady.{not_again}
-use Rattle.ring_laws.proofs.ReceiveLent.{LendsMine}
-use Rattle.ring_laws.proofs.Delivering.{all_taken, drained, handed_first}
 use Rattle.ring_laws.specs.Delivered as receive
-use Rattle.ring_laws.specs.Delivered.{IsPrefixOf}
-use Rattle.ring_laws.specs.HistoryLaws.Alone.{AllAlone}
-use Rattle.ring_laws.specs.Pieces.{packets_of}
 use Rattle.ring_laws.specs.ReceiveUp as received
-use Rattle.ring_laws.proofs.Counting.{sent_is_counted}
-use Rattle.ring_laws.proofs.Runs.{first_sent, idle-all, sent_in-append, waiting-left}
 use Rattle.ring_laws.specs.Laws as transmit
-use Rattle.ring_laws.specs.Laws.{FindsWaiting}
-use Rattle.driver_laws.specs.Agreeing.{AreLent, BothAgree}
-use Rattle.driver_laws.specs.Histories.{IsDriven, NoneIsAllBefore, OthersLeaveAlone, doer_of, doers_after}
-use Rattle.driver_laws.specs.Waiting.{WaitingIsNotAll}
-use Rattle.driver_laws.proofs.Meeting.{Meets, doer_keeps, doer_receives_up, doer_stays_up, driven_meets, goes_on}
 
 -- what the pass lends is among these blocks
 pub lends_mine : (pass : ℕ) (mine : Blocks) (own : ℕ) (e : Event Block) (r : Reply Block) → own ≡ pass → IsEvent e
     → ((n : ℕ) → IsTrue (nat_lt n 65536 && ((own == pass) && lends e r n)) → IsTrue (mine n))
-    → LendsMine mine e r
+    → LendsOneOf mine e r
 lends_mine pass mine own (event.Lend b) reply.Done same made all =
     all b.number (and_from _ _ (lt-ltb b.number 65536 made.whole.small)
     (and_from _ _ (eq-eqb own pass same) (eq-eqb b.number b.number refl)))
 lends_mine pass mine own e r same made all = tt
 
+-- the calls of a pass, by whether an entry is the pass's
+
+abbrev pub with_call : Bool → Entry → List Call → List Call
+with_call true e calls = call_in e ∷ calls
+with_call false e calls = calls
+
+pub calls_are : (pass : ℕ) (e : Entry) (es : List Entry) (b : Bool) → (e.pass == pass) ≡ b
+    → calls_of pass (e ∷ es) ≡ with_call b e (calls_of pass es)
+calls_are pass e es true is = calls_own pass e es is
+calls_are pass e es false is = calls_other pass e es is
+
 -- the next call, and those behind it
 
-pub record Next (h : Halves) (doers : List Doer) (e : Entry) (b : Bool) (before behind : List Call) : Type 0 where
+pub record Next (h : Halves) (doers : List Doer) (e : Entry) (b : Bool) (behind : List Call) : Type 0 where
   pub own : OwnCall h (doer_of b doers) (call_in e)
   pub rest : AllOwn (after_call h (doer_of b doers) (call_in e)) (doers_after b doers) behind
-  pub played : played_by h doers before
+  pub played : played_by h doers (with_call b e behind)
       ≡ played_by (after_call h (doer_of b doers) (call_in e)) (doers_after b doers) behind
 
-next_call : (h : Halves) (doers : List Doer) (e : Entry) (calls : List Call) → AllOwn h doers (call_in e ∷ calls)
-    → Next h doers e true (call_in e ∷ calls) calls
-next_call h [] e calls own = absurd own
-next_call h (d ∷ doers) e calls own = record { own = own.0; rest = own.1; played = refl }
-
-pub next_by : (pass : ℕ) (h : Halves) (doers : List Doer) (e : Entry) (es : List Entry) (b : Bool)
-    → (e.pass == pass) ≡ b
-    → AllOwn h doers (calls_of pass (e ∷ es)) → Next h doers e b (calls_of pass (e ∷ es)) (calls_of pass es)
-next_by pass h doers e es true is own =
-    let same : calls_of pass (e ∷ es) ≡ call_in e ∷ calls_of pass es = rw is refl in
-    subst (λ calls. Next h doers e true calls (calls_of pass es)) (sym same)
-    (next_call h doers e (calls_of pass es) (subst (AllOwn h doers) same own))
-next_by pass h doers e es false is own =
-    let same : calls_of pass (e ∷ es) ≡ calls_of pass es = rw is refl in
-    record { own = tt; rest = subst (AllOwn h doers) same own; played = ap (played_by h doers) same }
+next_call : (h : Halves) (doers : List Doer) (e : Entry) (b : Bool) (behind : List Call)
+    → AllOwn h doers (with_call b e behind) → Next h doers e b behind
+next_call h [] e true behind own = absurd own
+next_call h (d ∷ doers) e true behind own = record { own = own.0; rest = own.1; played = refl }
+next_call h doers e false behind own = record { own = tt; rest = own; played = refl }
 
 -- where a history leads from a place where the device and both halves agree
 
@@ -83,9 +77,7 @@ pub record Led (w : Watched) (mine : Blocks) (s : State) (out : List Piece) (sen
 pub ended : (w : Watched) (mine : Blocks) (s : State) (out : List Piece) (sent : List (List ℕ)) (h : Halves)
     → BothAgree w.queue s out sent h → AreLent mine h → Led w mine s out sent [] h
 ended w mine s out sent h both lent = record {
-  both =
-      subst (λ xs. BothAgree w.queue s xs (sent ++ []) h) (sym (append-nil out))
-      (subst (λ ys. BothAgree w.queue s out ys h) (sym (append-nil sent)) both);
+  both = rw (append-nil out, append-nil sent) both;
   lent = lent;
   receives = λ up. up;
   sends = λ up. up;
@@ -103,22 +95,16 @@ led_on w mine s out sent e es k receives stays l =
     let ps = pieces w.queue s e.event in
     let fs = sent_by w.queue s e.event in
     record {
-      both =
-          subst (λ xs. BothAgree w.queue (leads_to t es) xs (sent ++ (fs ++ sent_in w.queue t es)) k)
-          (append_assoc out ps (pieces_in w.queue t es))
-          (subst (λ ys. BothAgree w.queue (leads_to t es) ((out ++ ps) ++ pieces_in w.queue t es) ys k)
-          (append_assoc sent fs (sent_in w.queue t es)) l.both);
+      both = rw (← append_assoc out ps (pieces_in w.queue t es), ← append_assoc sent fs (sent_in w.queue t es)) l.both;
       lent = l.lent;
       receives = λ up. l.receives (receives up);
       sends = λ up. l.sends (stays up);
       since = λ up so_far.
-          ap (λ b. pieces_since w.queue t (cond b (Some []) (Some (so_far ++ ps))) es)
-          (not_again (is_on s.registers Rx w.queue) (is_on t.registers Rx w.queue) (inl up.on))
-          ∙ l.since (receives up) (so_far ++ ps) ∙ ap (λ xs. Some xs) (append_assoc so_far ps (pieces_in w.queue t es));
+          rw (not_again (is_on s.registers Rx w.queue) (is_on t.registers Rx w.queue) (inl up.on))
+          (l.since (receives up) (so_far ++ ps) ∙ ap (λ xs. Some xs) (append_assoc so_far ps (pieces_in w.queue t es)));
       counted = λ up so_far.
-          ap (λ b. sent_since w.queue t (cond b [] (so_far ++ fs)) es)
-          (not_again (is_on s.registers Tx w.queue) (is_on t.registers Tx w.queue) (inl up.on))
-          ∙ l.counted (stays up) (so_far ++ fs) ∙ append_assoc so_far fs (sent_in w.queue t es);
+          rw (not_again (is_on s.registers Tx w.queue) (is_on t.registers Tx w.queue) (inl up.on))
+          (l.counted (stays up) (so_far ++ fs) ∙ append_assoc so_far fs (sent_in w.queue t es));
     }
 
 -- entries of a history behind a place where the halves meet the device: it is legal, leaves the queue and these blocks
@@ -137,9 +123,9 @@ pub driven_runs : {w : Watched} {origin : State} {start rest : List Entry} {h : 
     → IsDriven w origin start rest h doers
     → Runs w (lent_by w.pass (start ++ rest)) (leads_to origin start) h doers rest
 driven_runs {w = w} {origin = origin} {start = start} {rest = rest} d = record {
-  legal = legal_behind origin start rest d.legal;
-  events = events_behind start rest d.events;
-  alone = alone_by_entries w origin start rest d.alone d.begun;
+  legal = legal_behind origin start rest d.along.legal;
+  events = events_behind start rest d.along.events;
+  alone = alone_by_entries w origin start rest d.along.alone d.begun;
   own = d.own;
   others = d.others;
   covers = λ n is. lent_behind w.pass n start rest is;
@@ -155,8 +141,15 @@ module _ {w : Watched} {mine : Blocks} {s : State} {out : List Piece} {sent : Li
   abbrev pub first_after : Halves
   first_after = after_call h first_doer (call_in e)
 
-  pub next : Next h doers e (e.pass == w.pass) (calls_of w.pass (e ∷ es)) (calls_of w.pass es)
-  next = next_by w.pass h doers e es (e.pass == w.pass) refl r.own
+  pub heads : calls_of w.pass (e ∷ es) ≡ with_call (e.pass == w.pass) e (calls_of w.pass es)
+  heads = calls_are w.pass e es (e.pass == w.pass) refl
+
+  next : Next h doers e (e.pass == w.pass) (calls_of w.pass es)
+  next = next_call h doers e (e.pass == w.pass) (calls_of w.pass es) (subst (AllOwn h doers) heads r.own)
+
+  pub played_on : played_by h doers (calls_of w.pass (e ∷ es))
+      ≡ played_by first_after (doers_after (e.pass == w.pass) doers) (calls_of w.pass es)
+  played_on = ap (played_by h doers) heads ∙ next.played
 
   pub runs_on : Runs w mine (after s e.event) first_after (doers_after (e.pass == w.pass) doers) es
   runs_on = record {
@@ -186,30 +179,21 @@ module _ {w : Watched} {mine : Blocks} {s : State} {out : List Piece} {sent : Li
           let other = eqb-false e.pass w.pass is in (r.alone.0.registers other, r.alone.0.blocks other)
 
   -- and one of a half is of the pass
-  own_lends : is_neither first_doer ≡ false → LendsMine mine e.event e.reply
+  own_lends : is_neither first_doer ≡ false → LendsOneOf mine e.event e.reply
   own_lends = by_pass (e.pass == w.pass) refl
     where
       by_pass : (b : Bool) → (e.pass == w.pass) ≡ b → is_neither (doer_of b doers) ≡ false
-          → LendsMine mine e.event e.reply
+          → LendsOneOf mine e.event e.reply
       by_pass true is half =
           lends_mine w.pass mine e.pass e.event e.reply (eqb-true e.pass w.pass is) r.events.0
           (λ n is. r.covers n (or_left _ _ is))
       by_pass false is half = cc
 
-  pub one_entry : Meets w mine (after s e.event) (out ++ pieces w.queue s e.event) (sent ++ sent_by w.queue s e.event)
-      first_after
-  one_entry =
-      let keeps = doer_keeps m e.event r.events.0 steps first_doer own_here left_alone
-      (λ half. subst (λ x. LendsMine mine e.event x) r.legal.0 (own_lends half)) in
-      subst (λ x. Meets w mine (after s e.event) (out ++ pieces w.queue s e.event)
-      (sent ++ sent_by w.queue s e.event) (after_call h first_doer (call_of e.event x))) (sym r.legal.0)
-      (goes_on m e.event r.events.0 steps (after_call h first_doer (call_of e.event (reply_to s e.event))) keeps)
-
-  pub one_receives_up : received.IsUp w.queue s → received.IsUp w.queue (after s e.event)
-  one_receives_up = doer_receives_up m e.event r.events.0 steps first_doer own_here left_alone
-
-  one_stays_up : IsUp w.queue s → IsUp w.queue (after s e.event)
-  one_stays_up = doer_stays_up m e.event r.events.0 steps first_doer own_here left_alone
+  pub goes : Goes w mine s out sent e.event first_after
+  goes =
+      subst (λ x. Goes w mine s out sent e.event (after_call h first_doer (call_of e.event x))) (sym r.legal.0)
+      (doer_goes m e.event r.events.0 steps first_doer own_here left_alone
+      (λ half. subst (λ x. LendsOneOf mine e.event x) r.legal.0 (own_lends half)))
 
 pub leads : {w : Watched} {mine : Blocks} (doers : List Doer) (es : List Entry) {s : State} {out : List Piece}
     {sent : List (List ℕ)} {h : Halves} → Meets w mine s out sent h → Runs w mine s h doers es
@@ -218,9 +202,9 @@ leads {w = w} {mine = mine} [] [] {s = s} {out = out} {sent = sent} {h = h} m r 
     ended w mine s out sent h m.both m.lent
 leads (d ∷ doers) [] m r = absurd r.own
 leads {w = w} {mine = mine} doers (e ∷ es) {s = s} {out = out} {sent = sent} m r =
-    subst (Led w mine s out sent (e ∷ es)) (sym (next m r).played)
-    (led_on w mine s out sent e es _ (one_receives_up m r) (one_stays_up m r)
-    (leads (doers_after (e.pass == w.pass) doers) es (one_entry m r) (runs_on m r)))
+    subst (Led w mine s out sent (e ∷ es)) (sym (played_on m r))
+    (led_on w mine s out sent e es _ (goes m r).receives (goes m r).sends
+    (leads (doers_after (e.pass == w.pass) doers) es (goes m r).meets (runs_on m r)))
 
 module _ (w : Watched) (origin : State) (start rest : List Entry) (h : Halves) (doers : List Doer)
     (d : IsDriven w origin start rest h doers) where
@@ -238,35 +222,32 @@ module _ (w : Watched) (origin : State) (start rest : List Entry) (h : Halves) (
       ap packets_if_any (since-append w.queue origin None start rest
       ∙ ap (λ so_far. pieces_since w.queue here so_far rest) d.on ∙ led.since d.up [])
 
+  agreed : BothAgree w.queue (leads_to origin (start ++ rest)) (pieces_in w.queue here rest) (sent_in w.queue here rest)
+      last
+  agreed =
+      subst (λ (s : State). BothAgree w.queue s (pieces_in w.queue here rest) (sent_in w.queue here rest) last)
+      (sym (leads-append origin start rest)) led.both
+
   pub handed_is_prefix : receive.IsPrefixOf last.receive.handed (delivered w.queue origin (start ++ rest))
   handed_is_prefix =
       subst (receive.IsPrefixOf last.receive.handed) (sym delivered_is)
-      (handed_first w.queue (leads_to here rest) (pieces_in w.queue here rest) last.receive led.both.receive)
+      (handed_first w.queue _ _ last.receive agreed.receive)
 
   pub none_is_all_taken : ShowsNone (leads_to origin (start ++ rest)) last.receive
       → last.receive.handed ++ records_of last.receive.whole ≡ delivered w.queue origin (start ++ rest)
-  none_is_all_taken shows =
-      sym (all_taken w.queue (leads_to here rest) (pieces_in w.queue here rest) last.receive led.both.receive
-      (subst (λ s. ShowsNone s last.receive) (leads-append origin start rest) shows))
-      ∙ sym delivered_is
+  none_is_all_taken shows = sym (all_taken w.queue _ _ last.receive agreed.receive shows) ∙ sym delivered_is
 
   pub none_is_all : FindsNone (leads_to origin (start ++ rest)) last.receive
       → last.receive.handed ≡ delivered w.queue origin (start ++ rest)
-  none_is_all finds =
-      sym (drained w.queue (leads_to here rest) (pieces_in w.queue here rest) last.receive led.both.receive
-      (subst (λ s. FindsNone s last.receive) (leads-append origin start rest) finds))
-      ∙ sym delivered_is
+  none_is_all finds = sym (drained w.queue _ _ last.receive agreed.receive finds) ∙ sym delivered_is
 
   pub sent_is_prefix : transmit.IsPrefixOf (sent_in w.queue here rest) (bytes_of last.transmit.accepted)
   sent_is_prefix =
-      let (f, agrees) = led.both.transmit in
-      first_sent (leads_to here rest) w.queue (sent_in w.queue here rest) last.transmit.layout.limit
-      (drop f last.transmit.outstanding) last.transmit.accepted agrees.sends
+      let (f, agrees) = agreed.transmit in
+      first_sent (leads_to origin (start ++ rest)) w.queue _ _ _ last.transmit.accepted agrees.sends
 
   pub idle_is_all_sent : last.transmit.outstanding ≡ [] → bytes_of last.transmit.accepted ≡ sent_in w.queue here rest
-  idle_is_all_sent none =
-      let (f, agrees) = led.both.transmit in
-      idle-all (leads_to here rest) w.queue (sent_in w.queue here rest) last.transmit f agrees (ap length none)
+  idle_is_all_sent none = let (f, agrees) = agreed.transmit in idle-all agrees (ap length none)
 
   pub counted_where_up : IsUp w.queue here
       → sent_since w.queue origin [] (start ++ rest) ≡ sent_since w.queue origin [] start ++ sent_in w.queue here rest
@@ -293,8 +274,6 @@ none_is_all_before w origin start before rest h early doers d e finds same =
 pub waiting_is_not_all : WaitingIsNotAll
 waiting_is_not_all w origin start rest more h doers d finds =
     let here : State = leads_to origin start in
-    let last : Halves = played_by h doers (calls_of w.pass (rest ++ more)) in
-    waiting-left (leads_to here (rest ++ more)) w.queue (sent_in w.queue here (rest ++ more)) last.transmit
-    (led w origin start (rest ++ more) h doers d).both.transmit
-    (subst (λ s. FindsWaiting s last.transmit) (leads-append origin start (rest ++ more)) finds)
-    (sent_in w.queue here rest) (sent_in w.queue (leads_to here rest) more) (sent_in-append w.queue here rest more)
+    waiting-left _ w.queue _ (played_by h doers (calls_of w.pass (rest ++ more))).transmit
+    (agreed w origin start (rest ++ more) h doers d).transmit finds (sent_in w.queue here rest)
+    (sent_in w.queue (leads_to here rest) more) (sent_in-append w.queue here rest more)

@@ -1,60 +1,52 @@
 -- A history over which a driver lays out an empty transmit ring sends nothing on its queue.
 use Rattle.std.proofs.Common.{[], ◌++◌, ◌/◌, ◌<◌, ◌^◌, ◌∙◌, ◌∷◌, ◌≡◌, ◌≢◌, ◌≤◌, List, ap, append_assoc, arith, false}
 use Rattle.std.proofs.Common.{inl, inr, refl, subst, sym, true, ℕ}
-use Rattle.std.specs.Prelude.{◌==◌}
 use Rattle.std.proofs.lemmas.Bool.{both_ways, cases_Bool, eqb-false, lt-ltb}
+use Rattle.std.specs.Prelude.{⊤, ◌==◌}
+use Rattle.ring_laws.specs.Sent.{sent_in}
+use Rattle.driver_laws.specs.Laid.{Empty, Headed, Laid, LaidQueueIsSilent, Lays, LaysOn, MayAsk, MayLay, MayRing, Off}
+use Rattle.driver_laws.specs.Laid.{Sized, laid_by}
 use Rattle.driver_laws.specs.Prelude.{AtPort, Block, Blocks, Call, Entry, Event, IsEvent, LeavesBlocks, LeavesRegisters}
 use Rattle.driver_laws.specs.Prelude.{Port, Rdbah, Rdbal, Rdh, Rdlen, Rdt, Ring, RowId, Rxdctl, Side, Srrctl, State}
 use Rattle.driver_laws.specs.Prelude.{Tdbah, Tdbal, Tdh, Tdlen, Tdt, Tdwbal, Tx, Txdctl, Watched, after, calls_of}
 use Rattle.driver_laws.specs.Prelude.{has_bit, is_empty, leads_to, lent_by, mode_in, place, sent_by, side_of}
-use Rattle.driver_laws.proofs.Prelude.{Fits, HasGround, IsAlong, IsMet, IsPlain, NamesRow, calls_other, calls_own}
-use Rattle.driver_laws.proofs.Prelude.{idle_silent, left_deed, no_block, side_with, steady_kept}
-use Rattle.nic_device.specs.RegTable.Rows.{row_of}
-use Rattle.nic_device.specs.RegisterFile.Access.{asks_pool_reset, asks_reset}
-use Rattle.nic_device.specs.RegisterFile.Owner.{owner_of}
+use Rattle.driver_laws.specs.Standing.{IsLeft}
+use Rattle.driver_laws.proofs.Prelude.{Fits, HasGround, IsAlong, IsIdle, IsMet, IsPlain, NamesRow, asked}
+use Rattle.driver_laws.proofs.Prelude.{asks_pool_reset, asks_reset, calls_other, calls_own, idle_silent, idle_steady}
+use Rattle.driver_laws.proofs.Prelude.{left_deed, no_block, none_staged, owner_of, row_of, side_with, steady_kept}
+use Rattle.driver_laws.proofs.Prelude.{transmit_left, write_rest}
+use Rattle.driver_laws.proofs.{Ground.ground_kept, Ground.ground_names, Ground.plain_keeps, Parts.own_some}
+use Rattle.driver_laws.proofs.{Parts.still_some, Reached.entry_is, Reached.foreign_left, Reached.reached_next}
+use Rattle.driver_laws.proofs.{Standing.with_beside, SwitchedOff.alone_left, SwitchedOff.watching, Words.words_taken}
 use Rattle.nic_device.specs.RegisterFile.declared.owner.Owner.TheVariants as owner
 use Rattle.nic_device.specs.declared.event.Event.TheVariants as event
-use Rattle.ring_laws.proofs.DeviceLaws.StandingAccesses.{write_rest}
-use Rattle.ring_laws.proofs.HistoryLaws.Steady.{asked}
-use Rattle.ring_laws.proofs.HistoryLaws.Leaving.{transmit_left}
-use Rattle.ring_laws.proofs.HistoryLaws.Steady.{IsIdle, idle_steady, none_staged}
-use Rattle.ring_laws.specs.Sent.{sent_in}
-use Rattle.driver_laws.specs.Laid.{Empty, Headed, Laid, LaidQueueIsSilent, Lays, LaysOn, MayAsk, MayLay, MayRing, Off}
-use Rattle.driver_laws.specs.Laid.{Sized, laid_by}
-use Rattle.driver_laws.specs.Standing.{IsLeft}
-use Rattle.driver_laws.proofs.Ground.{ground_kept, ground_names, plain_keeps}
-use Rattle.driver_laws.proofs.Parts.{own_some, still_some}
-use Rattle.driver_laws.proofs.Reached.{entry_is, foreign_left, reached_next}
-use Rattle.driver_laws.proofs.Standing.{with_beside}
-use Rattle.driver_laws.proofs.SwitchedOff.{alone_left, watching}
-use Rattle.driver_laws.proofs.Words.{words_taken}
 
 -- transmit sides that are off, or whose ring is empty, as the words of an empty ring are written to them
 
-abbrev pub IsDown : Side → Type 0
-IsDown q = (q.on ≡ false) × (q.wanted ≡ false)
+abbrev pub IsDown : Laid → Side → Type 0
+IsDown Empty q = ⊤
+IsDown l q = (q.on ≡ false) × (q.wanted ≡ false)
+
+abbrev pub IsRinged : Laid → Ring → Type 0
+IsRinged Off r = ⊤
+IsRinged Sized r = 16 ≤ r.length
+IsRinged Headed r = (16 ≤ r.length) × (r.head ≡ 0)
+IsRinged Empty r = is_empty r ≡ true
 
 -- what holds of a side that is laid out so far
 abbrev pub IsLaid : Laid → Side → Type 0
-IsLaid Off q = IsDown q
-IsLaid Sized q = IsDown q × (16 ≤ q.ring.length)
-IsLaid Headed q = IsDown q × (16 ≤ q.ring.length) × (q.ring.head ≡ 0)
-IsLaid Empty q = is_empty q.ring ≡ true
+IsLaid l q = IsDown l q × IsRinged l q.ring
 
 -- no slot of it is tried, and it is laid out so still as it becomes what it is wanted to be
 
 not_tried : (l : Laid) (q : Side) → IsLaid l q → q.on ≡ true → is_empty q.ring ≡ false → ⊥
-not_tried Off q x on some = both_ways q.on x.0 on
-not_tried Sized q x on some = both_ways q.on x.0.0 on
-not_tried Headed q x on some = both_ways q.on x.0.0 on
-not_tried Empty q x on some = both_ways (is_empty q.ring) some x
+not_tried Empty q x on some = both_ways (is_empty q.ring) some x.1
+not_tried l q x on some = both_ways q.on x.0.0 on
 
 then_wanted : (l : Laid) (q : Side) (staged : List ℕ) → IsLaid l q
     → IsLaid l (record q { on = q.wanted; staged = staged })
-then_wanted Off q staged x = (x.1, x.1)
-then_wanted Sized q staged x = ((x.0.1, x.0.1), x.1)
-then_wanted Headed q staged x = ((x.0.1, x.0.1), x.1, x.2)
 then_wanted Empty q staged x = x
+then_wanted l q staged x = ((x.0.1, x.0.1), x.1)
 
 -- with nothing staged
 abbrev pub SideLaid : Laid → Side → Type 0
@@ -69,10 +61,8 @@ laid_idle l = record {
 -- the enable word is written
 pub asked_laid : (l : Laid) (word : ℕ) (q : Side) → MayAsk l word → IsLaid l q
     → IsLaid l (record q { wanted = has_bit 25 word })
-asked_laid Off word q may x = (x.0, may)
-asked_laid Sized word q may x = ((x.0.0, may), x.1)
-asked_laid Headed word q may x = ((x.0.0, may), x.1, x.2)
 asked_laid Empty word q may x = x
+asked_laid l word q may x = ((x.0.0, may), x.1)
 
 -- head and tail are slot 0 of a ring that has one
 first_slot : (ring : Ring) → 16 ≤ ring.length → ring.head ≡ 0 → is_empty (record ring { tail = 0 }) ≡ true
@@ -97,22 +87,23 @@ short word n none some = omega (arith, none, some)
 pub word_laid : (row : RowId) (l : Laid) (word : ℕ) (q : Side) → word < 2 ^ 32 → MayRing row l word
     → IsLaid l q → IsLaying row l word q
 word_laid Tdbal l word q low may =
-    from Tdbal l Off word q may.0 (λ x. record { off = x.0; fits = (may.1, low); then = x })
-word_laid Tdbah l word q low may = from Tdbah l Off word q may (λ x. record { off = x.0; fits = low; then = x })
+    from Tdbal l Off word q may.0 (λ x. record { off = x.0.0; fits = (may.1, low); then = x })
+word_laid Tdbah l word q low may = from Tdbah l Off word q may (λ x. record { off = x.0.0; fits = low; then = x })
 word_laid Tdlen l word q low may =
     from Tdlen l Off word q may.0
-    (λ x. record { off = x.0; fits = (may.1, may.2); then = (x, may.3) })
+    (λ x. record { off = x.0.0; fits = (may.1, may.2); then = (x.0, may.3) })
 word_laid Tdwbal l word q low may =
     from Tdwbal l Sized word q may.0 (λ x. record { off = x.0.0; fits = may.1; then = x })
 word_laid Tdh l word q low may =
     from Tdh l Sized word q may.0
-    (λ x. record { off = x.0.0; fits = short word 65536 may.1 (omega arith); then = (x.0, x.1, may.1) })
+    (λ x. record { off = x.0.0; fits = short word 65536 may.1 (omega arith); then = (x.0, (x.1, may.1)) })
 word_laid Tdt l word q low may =
     from Tdt l Headed word q may.0
     (λ x. record {
       off = x.0.0;
       fits = short word 65536 may.1 (omega arith);
-      then = subst (λ n. is_empty (record q.ring { tail = n }) ≡ true) (sym may.1) (first_slot q.ring x.1 x.2);
+      then =
+          (tt, subst (λ n. is_empty (record q.ring { tail = n }) ≡ true) (sym may.1) (first_slot q.ring x.1.0 x.1.1));
     })
 word_laid other l word q low may = absurd may
 
@@ -260,7 +251,7 @@ laid_queue_is_silent w q frame origin h done rest e last along all own ground of
     let is = entry_is along done rest e all in
     let next = reached_next w origin done e in
     let x : LaidTo w.queue q frame Off s =
-    record { ground = ground; side = ((off.off, off.unwanted), is.met.sound.bare w.queue off.off) } in
+    record { ground = ground; side = (((off.off, off.unwanted), tt), is.met.sound.bare w.queue off.off) } in
     let leads = own_lays w.queue q frame Off m s is.met x e.event is.made lay in
     ap (λ sent. sent ++ sent_in w.queue (after s e.event) rest) leads.none
     ∙ subst (λ (t : State). sent_in w.queue t rest ≡ []) next

@@ -1,52 +1,19 @@
 -- The blocks that the halves have lent: each is lent, none by both, and all are among those that the pass lends.
 use Rattle.std.proofs.Common.{◌<◌, ◌∙◌, ◌≡◌, ◌≢◌, List, ap, inl, inr, length, not, refl, subst, sym, true, ℕ}
-use Rattle.std.specs.Prelude.{◌==◌, IsTrue}
 use Rattle.std.proofs.lemmas.Bool.{cases_eq, cases_lt, eqb-false, ne_eqb, not-true}
+use Rattle.std.specs.Prelude.{◌==◌, IsTrue}
+use Rattle.nic_device.specs.declared.event.Reply.TheVariants.{Twice}
+use Rattle.pmd.specs.{PmdRx.Receive.Layout, PmdRx.declared.ring.Stage.Stage, PmdRx.declared.ring.Stage.TheVariants.Lent}
+use Rattle.pmd.specs.{PmdTx.Sending.moved}
+use Rattle.ring_laws.specs.{Alone.LendsOneOf, Joint.HasSlots, Joint.StageHolds, Steps.Each, Steps.IfFresh}
+use Rattle.ring_laws.proofs.Kept.{each_by}
 use Rattle.driver_laws.specs.Prelude.{Agree, Block, Blocks, Event, LeavesBlock, Memory, Move, Piece, Receive, Reply}
 use Rattle.driver_laws.specs.Prelude.{Sender, State, after, drive, has_block, has_lent, reply_to}
-use Rattle.nic_device.specs.Outcome.{Outcome, gives}
-use Rattle.nic_device.specs.Step.{step_of}
+use Rattle.driver_laws.proofs.Prelude.{Done, IsOwn, Outcome, block_at, gives, memory_blocks, mine-moved, mine_driven}
+use Rattle.driver_laws.proofs.Prelude.{reach, step_of}
 use Rattle.nic_device.specs.declared.event.Event.TheVariants as event
 use Rattle.nic_device.specs.declared.event.Reply.TheVariants as reply
-use Rattle.nic_device.specs.declared.event.Reply.TheVariants.{Done, Twice}
 use Rattle.pmd.specs.PmdRx.Receive as receiving
-use Rattle.pmd.specs.PmdRx.Receive.{Layout, block_at, reach}
-use Rattle.pmd.specs.PmdRx.declared.ring.Stage.{Stage}
-use Rattle.pmd.specs.PmdRx.declared.ring.Stage.TheVariants.{Lent}
-use Rattle.pmd.specs.PmdTx.Sending.{IsOwn, moved}
-use Rattle.ring_laws.proofs.DeviceLaws.Standing.{memory_blocks}
-use Rattle.ring_laws.proofs.Kept.{each_map}
-use Rattle.ring_laws.proofs.ReceiveLent.{LendsMine, mine_driven}
-use Rattle.ring_laws.specs.Joint.{HasSlots, StageHolds}
-use Rattle.ring_laws.specs.Steps.{Each, IfFresh}
-use Rattle.ring_laws.proofs.TransmitLent.{mine-moved}
-use Rattle.ring_laws.specs.Alone.{LendsOneOf}
-
-fresh_both : (stage : Stage) (P Q : ℕ → Type 0) → IfFresh stage P → IfFresh stage Q → IfFresh stage (λ b. P b × Q b)
-fresh_both (Lent b) P Q p q = (p, q)
-fresh_both other P Q p q = tt
-
--- two facts of each
-pub each_both : (v : Receive) (P Q : ℕ → Type 0) → Each v P → Each v Q → Each v (λ b. P b × Q b)
-each_both v P Q p q = record {
-  ring = λ k below. (p.ring k below, q.ring k below);
-  blocks = λ k i. (p.blocks k i, q.blocks k i);
-  fresh = fresh_both v.stage P Q p.fresh q.fresh;
-}
-
-fresh_all : (stage : Stage) (Q : ℕ → Type 0) (P : ℕ → ℕ → Type 0)
-    → ((n : ℕ) → Q n → IfFresh stage (λ b. P b n)) → IfFresh stage (λ b. (n : ℕ) → Q n → P b n)
-fresh_all (Lent b) Q P f = f
-fresh_all other Q P f = tt
-
--- a fact of each and of all such numbers
-pub each_all : (v : Receive) (Q : ℕ → Type 0) (P : ℕ → ℕ → Type 0) → ((n : ℕ) → Q n → Each v (λ b. P b n))
-    → Each v (λ b. (n : ℕ) → Q n → P b n)
-each_all v Q P f = record {
-  ring = λ k below n q. (f n q).ring k below;
-  blocks = λ k i n q. (f n q).blocks k i;
-  fresh = fresh_all v.stage Q P (λ n q. (f n q).fresh);
-}
 
 -- the blocks of the receive half are lent
 
@@ -65,11 +32,9 @@ slot_lent m l here h k i =
 
 pub receive_lent : (queue : ℕ) (s : State) (out : List Piece) (v : Receive) → Agree queue s out v
     → Each v (λ b. has_block s.memory b ≡ true)
-receive_lent queue s out v (gone, here, h) = record {
-  ring = h.slots.there;
-  blocks = slot_lent s.memory (reach v) here h.slots;
-  fresh = fresh_lent s.memory (reach v) v.stage h.stage;
-}
+receive_lent queue s out v (gone, here, h) =
+    each_by v (λ b. has_block s.memory b ≡ true) h.slots.there (slot_lent s.memory (reach v) here h.slots)
+    (fresh_lent s.memory (reach v) v.stage h.stage)
 
 -- a block is lent
 
@@ -110,15 +75,10 @@ off b n ne = ap not (ne_eqb b n ne)
 on : (b n : ℕ) → IsTrue (but n b) → b ≢ n
 on b n is = eqb-false b n (not-true (b == n) is)
 
--- a block that is lent by a move of the transmit half
-pub lends_one : (mine : Blocks) (e : Event Block) (r : Reply Block) → LendsMine mine e r → LendsOneOf mine e r
-lends_one mine (event.Lend b) reply.Done is = is
-lends_one mine e r is = tt
-
 module _ (s : State) where
   -- a block that is lent by a call wasn't lent before
   lends_other : (e : Event Block) (r : Reply Block) → reply_to s e ≡ r → (n : ℕ) → has_block s.memory n ≡ true
-      → LendsMine (but n) e r
+      → LendsOneOf (but n) e r
   lends_other (event.Lend b) reply.Done is n has = off b.number n (lent_apart s b n has is)
   lends_other e r is n has = tt
 
@@ -127,23 +87,17 @@ module _ (s : State) where
       → ((n : ℕ) → IsTrue (has_lent u n) → has_block s.memory n ≡ true)
       → ((n : ℕ) → IsTrue (has_lent u n) → Each v (λ b. b ≢ n))
       → (n : ℕ) → IsTrue (has_lent u n) → Each (drive v e (reply_to s e)) (λ b. b ≢ n)
-  receives_apart v u e own lent apart n is =
-      let r = reply_to s e in
-      each_map (drive v e r) (λ b. IsTrue (but n b)) (λ b. b ≢ n) (λ b i. on b n i)
-      (mine_driven (but n) v (each_map v (λ b. b ≢ n) (λ b. IsTrue (but n b)) (λ b ne. off b n ne) (apart n is)) e r own
-      (lends_other e r refl n (lent n is)))
+  receives_apart v u e own lent apart n is b has =
+      on b n
+      (mine_driven (but n) v (λ k i. off k n (apart n is k i)) e (reply_to s e) own (lends_other e _ refl n (lent n is))
+      b has)
 
   -- the transmit half's
   pub sends_apart : (v : Receive) (u : Sender) (m : Move) (e : Event Block) → IsOwn u m e
       → Each v (λ b. has_block s.memory b ≡ true) → ((n : ℕ) → IsTrue (has_lent u n) → Each v (λ b. b ≢ n))
       → (n : ℕ) → IsTrue (has_lent (moved u m (reply_to s e)) n) → Each v (λ b. b ≢ n)
-  sends_apart v u m e own lent apart n is =
-      let r = reply_to s e in
-      each_map v (λ b. (has_block s.memory b ≡ true) × ((k : ℕ) → IsTrue (has_lent u k) → b ≢ k)) (λ b. b ≢ n)
-      (λ b both same.
+  sends_apart v u m e own lent apart n is b has same =
       on n b
-      (mine-moved (but b) u (λ k i. off k b (λ e. both.1 k i (sym e))) m e r own
-      (lends_one (but b) e r (lends_other e r refl b both.0)) n is)
-      (sym same))
-      (each_both v (λ b. has_block s.memory b ≡ true) (λ b. (k : ℕ) → IsTrue (has_lent u k) → b ≢ k) lent
-      (each_all v (λ k. IsTrue (has_lent u k)) (λ b k. b ≢ k) apart))
+      (mine-moved (but b) u (λ k i. off k b (λ e. apart k i b has (sym e))) m e (reply_to s e) own
+      (lends_other e _ refl b (lent b has)) n is)
+      (sym same)

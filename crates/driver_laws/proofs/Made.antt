@@ -1,16 +1,15 @@
 -- The calls that a driver's accesses add, and what they lead to over a history.
-use Rattle.std.proofs.Common.{[], ◌++◌, ◌∙◌, ◌∷◌, ◌≡◌, ◌≢◌, Bool, List, append_assoc, not, refl, subst, suc, sym, zero}
-use Rattle.std.proofs.Common.{ap, ℕ}
-use Rattle.std.specs.Prelude.{IsFalse}
-use Rattle.std.proofs.lemmas.List.{append-nil}
+use Rattle.std.proofs.Common.{[], ◌++◌, ◌∙◌, ◌∷◌, ◌≡◌, ◌≢◌, Bool, List, ap, append_assoc, not, refl, subst, suc, sym}
+use Rattle.std.proofs.Common.{zero, ℕ}
+use Rattle.std.{proofs.lemmas.List.append-nil, specs.Prelude.IsFalse}
 use Rattle.driver_laws.specs.Prelude.{Access, AreMade, AreSteps, AtPort, Blocks, Call, Dir, Entry, IsMade, IsNumberOf}
 use Rattle.driver_laws.specs.Prelude.{RowId, Sees, Sets, State, Watched, after, call_of, enable_row, has_bit, is_step}
-use Rattle.driver_laws.specs.Prelude.{lent_by, missed, polled}
+use Rattle.driver_laws.specs.Prelude.{leads_to, lent_by, missed, polled}
+use Rattle.driver_laws.proofs.Parts.{ends_some}
 use Rattle.driver_laws.proofs.Prelude.{AllAre, AtCalls, AtEntries, BeforeLast, BeforeNext, IsAlong, IsKept, Leads}
+use Rattle.driver_laws.proofs.Reached.{KeptOver, LeadsOver, entries_lead, first_leads, state_kept, state_leads}
 use Rattle.nic_device.specs.declared.event.Event.TheVariants as event
 use Rattle.nic_device.specs.declared.event.Reply.TheVariants as reply
-use Rattle.driver_laws.proofs.Parts.{ends_some}
-use Rattle.driver_laws.proofs.Reached.{KeptOver, LeadsOver, calls_lead, entries_lead, first_leads}
 
 module _ (K : Access → Type 0) where
   pub all_both : (xs ys : List Access) → AllAre K xs → AllAre K ys → AllAre K (xs ++ ys)
@@ -61,28 +60,24 @@ module _ (q : AtPort) where
   made_by P (Sets row word) of old new (number, named, (before, added, steps)) =
       record { before = before; call = _; added = added; steps = steps; is = of number named }
 
-  no_step : (a : Access) → OfCall q a (λ c. IsFalse (is_step c.event))
-  no_step (Sees row on) = λ number word named is. refl
-  no_step (Sets row word) = λ number named. refl
+  made_own : (a : Access) (old new : List Call) → IsMade q old new a → AddsCall (λ c. IsFalse (is_step c.event)) old new
+  made_own (Sees row on) = made_by _ (Sees row on) (λ number word named is. refl)
+  made_own (Sets row word) = made_by _ (Sets row word) (λ number named. refl)
 
   pub made_some : (old new : List Call) (a : Access) → IsMade q old new a → new ≢ []
   made_some old new a made none =
-      let x = made_by (λ c. IsFalse (is_step c.event)) a (no_step a) old new made in
-      ends_some old x.before x.call (sym x.added ∙ none)
+      let x = made_own a old new made in ends_some old x.before x.call (sym x.added ∙ none)
 
   pub some_made : (all : List Access) (old new : List Call) → AreMade q old new all → old ≢ [] → new ≢ []
   some_made [] old new made some = λ none. some (sym made ∙ none)
   some_made (a ∷ rest) old new (mid, here, more) some = some_made rest mid new more (made_some old mid a here)
-
-  pub first_made : (a : Access) (rest : List Access) (old new : List Call) → AreMade q old new (a ∷ rest) → new ≢ []
-  first_made a rest old new (mid, here, more) = some_made rest mid new more (made_some old mid a here)
 
   pub extends : (all : List Access) (old new : List Call) → AreMade q old new all
       → (more : List Call) × (new ≡ old ++ more)
   extends [] old new made = ([], made ∙ sym (append-nil old))
   extends (a ∷ rest) old new (mid, here, more) =
       let later = extends rest mid new more in
-      let x = made_by (λ c. IsFalse (is_step c.event)) a (no_step a) old mid here in
+      let x = made_own a old mid here in
       let own : List Call = x.before ++ x.call ∷ [] in (
         own ++ later.0,
         later.1 ∙ ap (λ (xs : List Call). xs ++ later.0) x.added ∙ append_assoc old own later.0,
@@ -93,7 +88,7 @@ module _ (q : AtPort) where
     pub before_made : (a : Access) (old new : List Call) → IsMade q old new a → BeforeNext w origin h old P
         → BeforeLast w origin h new P
     before_made a old new made at =
-        let x = made_by (λ c. IsFalse (is_step c.event)) a (no_step a) old new made in
+        let x = made_own a old new made in
         subst (λ (calls : List Call). BeforeLast w origin h calls P) (sym x.added) (at x.before x.call x.steps x.is)
 
   module _ {w : Watched} {origin : State} {h : List Entry} (along : IsAlong w origin h) where
@@ -112,10 +107,10 @@ module _ (q : AtPort) where
     pub access_leads : (P Q : State → Type 0) (a : Access) → IsKept w mine P → IsKept w mine Q
         → OfCall q a (λ c. Leads w.queue c P Q) → (old new : List Call) → IsMade q old new a → old ≢ []
         → AtCalls w origin h old P → AtCalls w origin h new Q
-    access_leads P Q a kept kept_q leads old new made some at =
-        let x = made_by (λ c. Leads w.queue c P Q) a leads old new made in
-        subst (λ (calls : List Call). AtCalls w origin h calls Q) (sym x.added)
-        (calls_lead w origin h P Q old x.before x.call along kept kept_q x.is x.steps some at)
+    access_leads P Q a kept kept_q leads =
+        over_access (λ done. P (leads_to origin done)) (λ done. Q (leads_to origin done)) a
+        (state_kept w origin mine P kept) (state_kept w origin mine Q kept_q)
+        (of_map q a _ _ (λ c. state_leads w origin mine c P Q) leads)
 
     -- one that may be the pass's first call
     pub first_access : (P Q : State → Type 0) (a : Access) → IsKept w mine Q → OfCall q a (λ c. Leads w.queue c P Q)
@@ -126,16 +121,6 @@ module _ (q : AtPort) where
         subst (λ (calls : List Call). AtCalls w origin h calls Q) same
         (first_leads along P Q (old ++ x.before) x.call kept x.is
         (subst (λ (calls : List Call). BeforeLast w origin h calls P) (sym same) at))
-
-    -- accesses of a kind keep what each of them keeps
-    pub accesses_keep : (K : Access → Type 0) (P : State → Type 0) → IsKept w mine P
-        → ((a : Access) → K a → OfCall q a (λ c. Leads w.queue c P P)) → (all : List Access) (old new : List Call)
-        → AllAre K all → AreMade q old new all → old ≢ [] → AtCalls w origin h old P → AtCalls w origin h new P
-    accesses_keep K P kept leads [] old new are made some at =
-        subst (λ (calls : List Call). AtCalls w origin h calls P) (sym made) at
-    accesses_keep K P kept leads (a ∷ rest) old new are (mid, here, more) some at =
-        accesses_keep K P kept leads rest mid new are.1 more (made_some old mid a here)
-        (access_leads P P a kept kept (leads a are.0) old mid here some at)
 
 -- a read that may be the pass's first call
 pub first_seen : (w : Watched) (q : AtPort) (origin : State) (h : List Entry) (P : State → Type 0) → IsAlong w origin h

@@ -1,52 +1,39 @@
 -- What holds between two entries of a history, and that an event which is either half's, or neither's and leaves the
 -- queue alone, keeps it; so it does a side of the queue that is up.
-use Rattle.std.proofs.Common.{[], ◌++◌, ◌∙◌, ◌≡◌, ◌≢◌, List, ap, false, refl, subst, sym, true, ℕ}
-use Rattle.std.specs.Prelude.{IsTrue}
-use Rattle.std.proofs.lemmas.List.{append-nil}
-use Rattle.std.specs.FinMap as map
-use Rattle.driver_laws.specs.Prelude.{Agree, Block, Blocks, Doer, Elsewhere, Entry, Event, Halves, IsEvent, IsSound}
-use Rattle.driver_laws.specs.Prelude.{IsUp, LeavesBlock, LeavesBlocks, LeavesRegisters, Memory, Move, OwnCall, Piece}
-use Rattle.driver_laws.specs.Prelude.{Port, Receives, Register, Rx, Rxdctl, Sends, State, Tx, Watched, WritesNoSetting}
-use Rattle.driver_laws.specs.Prelude.{WritesOutside, after, after_call, call_of, drive, has_bit, has_block, has_lent}
-use Rattle.driver_laws.specs.Prelude.{is_neither, leads_to, lent_by, mode_in, named, pieces, place, reply_to, sent_by}
-use Rattle.device_lock.proofs.Histories.{events_before}
-use Rattle.nic_device.proofs.Steps.{keeps_sound, step_leads}
+use Rattle.std.proofs.Common.{[], ◌++◌, ◌∙◌, ◌≡◌, List, Some, ap, false, refl, subst, sym, true, ℕ}
+use Rattle.std.{proofs.lemmas.Bool.both_ways, proofs.lemmas.List.append-nil, specs.Prelude.IsTrue}
 use Rattle.nic_device.specs.RegTable.declared.rows.RowId.TheVariants.{Txdctl}
+use Rattle.nic_device.proofs.Steps.{step_leads}
+use Rattle.device_lock.specs.Alone.{place_at}
+use Rattle.pmd.specs.PmdTx.Sending.{moved}
+use Rattle.ring_laws.specs.{Agreeing.Agrees, Alone.LendsOneOf, Fitting.ResetsNoPool, HistoryLaws.Sides.Side}
+use Rattle.ring_laws.specs.{Turns.MayMove}
+use Rattle.ring_laws.proofs.Foreign.{alone_stays_up, left_keeps, left_up, own_stays_up}
+use Rattle.ring_laws.proofs.{HistoryLaws.Written.place_in, HistoryLaws.Written.place_named, Leaving.leaving_keeps}
+use Rattle.ring_laws.proofs.{Leaving.switching_keeps, Off.enable_words_keep as transmit_word_keeps, Own.own_keeps}
+use Rattle.ring_laws.proofs.{Playing.moves_keep, Playing.up_stays, Runs.left_alone_is_spared}
+use Rattle.ring_laws.proofs.{Sparing.sparing_events_keep}
+use Rattle.driver_laws.specs.Enabling.{EnableWordsKeep}
+use Rattle.driver_laws.specs.Prelude.{Agree, Block, Blocks, Dir, Doer, Elsewhere, Entry, Event, Halves, IsEvent}
+use Rattle.driver_laws.specs.Prelude.{IsSound, IsUp, LeavesBlock, LeavesBlocks, LeavesRegisters, Memory, Move, OwnCall}
+use Rattle.driver_laws.specs.Prelude.{Piece, Place, Port, Receives, Register, Rx, Rxdctl, Sends, State, Tx, Watched}
+use Rattle.driver_laws.specs.Prelude.{WritesNoSetting, WritesOutside, after, after_call, asks_pool_reset, call_of}
+use Rattle.driver_laws.specs.Prelude.{drive, has_bit, has_block, has_lent, is_neither, leads_to, lent_by, mode_in}
+use Rattle.driver_laws.specs.Prelude.{named, pieces, place, reply_to, row_of, sent_by}
+use Rattle.driver_laws.proofs.Prelude.{AreLent, BothAgree, IsDriven, IsMet, Spares, SparesIfSome, asked, events_before}
+use Rattle.driver_laws.proofs.Prelude.{histories_sound, keeps_sound, mine-moved, mine_driven, plain-write}
+use Rattle.driver_laws.proofs.Prelude.{settings_stand, stays_within, vfs_stays, write_memory, write_rest}
+use Rattle.driver_laws.proofs.Sending.{Touches, is_elsewhere, move_spares, move_touches, own_spares, own_touches}
+use Rattle.driver_laws.proofs.Sending.{received_spares, reports_spare, sender_lent, tail_row, touch_pieces}
+use Rattle.driver_laws.proofs.Sending.{touch_setting}
+use Rattle.driver_laws.proofs.{Lending.receive_lent, Lending.receives_apart, Lending.sends_apart, Reached.free_left}
+use Rattle.driver_laws.proofs.{Words.each_side}
+use Rattle.std.specs.FinMap as map
 use Rattle.nic_device.specs.declared.event.Event.TheVariants as event
+use Rattle.pmd.specs.PmdRx.Keeping as received_half
 use Rattle.pmd.specs.PmdRx.Receive as receiving
 use Rattle.pmd.specs.PmdTx.Sending as sending
-use Rattle.pmd.specs.PmdTx.Sending.{moved}
-use Rattle.ring_laws.proofs.Delivering.{vfs_stays}
-use Rattle.ring_laws.proofs.DeviceLaws.KeptSettings.{settings_stand}
-use Rattle.ring_laws.proofs.DeviceLaws.Standing.{stays_within}
-use Rattle.ring_laws.proofs.DeviceLaws.StandingAccesses.{write_memory, write_rest}
-use Rattle.ring_laws.proofs.Kept.{each_of}
-use Rattle.ring_laws.proofs.Foreign.{left_keeps}
-use Rattle.ring_laws.proofs.HistoryLaws.Steady.{asked}
-use Rattle.ring_laws.proofs.HistoryLaws.Leaving.{plain-write}
-use Rattle.ring_laws.proofs.HistoryLaws.Alone.{histories_sound}
-use Rattle.ring_laws.proofs.Leaving.{leaving_keeps, switching_keeps}
-use Rattle.ring_laws.proofs.ReceiveLent.{LendsMine, mine_driven}
-use Rattle.ring_laws.proofs.Own.{own_keeps}
-use Rattle.ring_laws.proofs.Foreign.{alone_stays_up, left_up, own_stays_up}
-use Rattle.ring_laws.specs.HistoryLaws.Left.{IsLeft}
-use Rattle.ring_laws.specs.HistoryLaws.Sides.{Side}
 use Rattle.ring_laws.specs.ReceiveUp as received
-use Rattle.ring_laws.proofs.Off.{enable_words_keep as transmit_word_keeps}
-use Rattle.ring_laws.proofs.Runs.{left_alone_is_spared}
-use Rattle.ring_laws.proofs.TransmitLent.{mine-moved}
-use Rattle.ring_laws.proofs.Playing.{moves_keep}
-use Rattle.ring_laws.proofs.Sparing.{sparing_events_keep}
-use Rattle.ring_laws.proofs.Playing.{up_stays}
-use Rattle.ring_laws.specs.Agreeing.{Agrees}
-use Rattle.ring_laws.specs.Sparing.{Spares}
-use Rattle.ring_laws.specs.Turns.{MayMove}
-use Rattle.driver_laws.specs.Agreeing.{AreLent, BothAgree}
-use Rattle.driver_laws.specs.Enabling.{EnableWordsKeep}
-use Rattle.driver_laws.specs.Histories.{IsDriven}
-use Rattle.driver_laws.proofs.Lending.{each_all, lends_one, receive_lent, receives_apart, sends_apart}
-use Rattle.driver_laws.proofs.Sending.{is_elsewhere, move_side, move_spares, own_spares, received_spares, reports_spare}
-use Rattle.driver_laws.proofs.Sending.{sender_lent}
 
 -- what holds between two entries: the device is sound and agrees with both halves, and their blocks are among these
 pub record Meets (w : Watched) (mine : Blocks) (s : State) (out : List Piece) (sent : List (List ℕ))
@@ -61,8 +48,8 @@ pub driven_meets : {w : Watched} {origin : State} {start rest : List Entry} {h :
     → IsDriven w origin start rest h doers
     → Meets w (lent_by w.pass (start ++ rest)) (leads_to origin start) [] [] h
 driven_meets {origin = origin} {start = start} {rest = rest} d = record {
-  sound = histories_sound origin start d.sound (events_before start rest d.events);
-  vfs = d.vfs ∙ sym (vfs_stays origin start);
+  sound = histories_sound origin start d.along.sound (events_before start rest d.along.events);
+  vfs = d.along.vfs ∙ sym (vfs_stays origin start);
   both = d.agree;
   lent = d.lent;
 }
@@ -95,15 +82,8 @@ module _ {w : Watched} {mine : Blocks} {s : State} {out : List Piece} {sent : Li
 
   pub neither_keeps : LeavesRegisters w (mode_in s.registers) e → LeavesBlocks mine e → Kept w mine s out sent e h
   neither_keeps registers blocks =
-      let left : IsLeft w mine s e = record {
-        small = m.both.transmit.1.based.small;
-        sound = m.sound;
-        vfs = m.vfs;
-        made = made;
-        registers = registers;
-        blocks = blocks;
-        steps = steps;
-      } in (
+      let met : IsMet w.queue s = record { small = m.both.transmit.1.based.small; sound = m.sound } in
+      let left = free_left w mine s e met made m.vfs steps (registers, blocks) in (
         record {
           receive =
               left_keeps w mine s out h.receive e left m.both.receive m.lent.receive
@@ -117,17 +97,43 @@ module _ {w : Watched} {mine : Blocks} {s : State} {out : List Piece} {sent : Li
 
 -- one entry
 
--- a move is an event that writes no piece
-no_pieces : (queue : ℕ) (s : State) (h : Halves) (m : Move) (e : Event Block) → is_elsewhere m ≡ false
-    → sending.IsOwn h.transmit m e → pieces queue s e ≡ []
-no_pieces queue s h Elsewhere e real own = cc
-no_pieces queue s h m event.RxStep real own = absurd own
-no_pieces queue s h m e real own = refl
-
 pub may_move : (queue : ℕ) (s : State) (h : Halves) (m : Move) (e : Event Block) → is_elsewhere m ≡ false
     → sending.IsOwn h.transmit m e → IsEvent e → MayMove queue h.transmit s e m
 may_move queue s h Elsewhere e real own made = cc
 may_move queue s h m e real own made = (own, made)
+
+-- such events reset not the queue's pool, and nor do those that leave its registers alone
+
+touch_resets : (dir : Dir) (queue : ℕ) (own : Blocks) (s : State) (e : Event Block) → Touches dir queue own s e
+    → ResetsNoPool queue s e
+touch_resets dir queue own s (event.Write port n word) is = λ p seen there asks.
+    let tail : Place = place (tail_row dir) queue in
+    let same : Register tail 0xFFFFFFFF ≡ Register p seen = sym is ∙ there in
+    let both : tail ≡ p = cc in
+    absurd (both_ways (asks_pool_reset (row_of (tail_row dir)).kind word)
+    (each_side (λ d. asks_pool_reset (row_of (tail_row d)).kind word ≡ false) refl refl dir)
+    (subst (λ (x : Place). asks_pool_reset (row_of x.row).kind word ≡ true) (sym both) asks))
+touch_resets dir queue own s e is = tt
+
+spared_resets : (w : Watched) (s : State) → w.vfs ≡ s.vfs → (e : Event Block)
+    → LeavesRegisters w (mode_in s.registers) e → ResetsNoPool w.queue s e
+spared_resets w s vfs (event.Write port n word) left = λ p view is asks.
+    let mode = mode_in s.registers in
+    let there : place_at mode w.vfs port n ≡ Some p =
+    ap (λ x. place_at mode x port n) vfs ∙ place_named s port n ∙ ap place_in is in
+    let spares : SparesIfSome w.queue mode (Some p) word = subst (λ o. SparesIfSome w.queue mode o word) there left in
+    spares.pool asks
+spared_resets w s vfs other left = tt
+
+-- what holds behind an event: these halves meet the device, a side that was up is so still, no setting is written, and
+-- the queue's pool isn't reset
+pub record Goes (w : Watched) (mine : Blocks) (s : State) (out : List Piece) (sent : List (List ℕ)) (e : Event Block)
+    (k : Halves) : Type 0 where
+  pub meets : Meets w mine (after s e) (out ++ pieces w.queue s e) (sent ++ sent_by w.queue s e) k
+  pub receives : received.IsUp w.queue s → received.IsUp w.queue (after s e)
+  pub sends : IsUp w.queue s → IsUp w.queue (after s e)
+  pub setting : WritesNoSetting s e
+  pub resets : ResetsNoPool w.queue s e
 
 module _ {w : Watched} {mine : Blocks} {s : State} {out : List Piece} {sent : List (List ℕ)} {h : Halves}
     (m : Meets w mine s out sent h) (e : Event Block) (made : IsEvent e)
@@ -135,99 +141,101 @@ module _ {w : Watched} {mine : Blocks} {s : State} {out : List Piece} {sent : Li
   abbrev t : State
   t = after s e
 
-  abbrev KeptBy : Halves → Type 0
-  KeptBy = Kept w mine s out sent e
+  abbrev GoesBy : Halves → Type 0
+  GoesBy = Goes w mine s out sent e
 
   sender_blocks : (n : ℕ) → IsTrue (has_lent h.transmit n) → has_block s.memory n ≡ true
   sender_blocks = sender_lent s w.queue sent h.transmit m.both.transmit.0 m.both.transmit.1
 
-  -- the receive half's
-
-  receives_keeps : receiving.IsOwn h.receive e → LendsMine mine e (reply_to s e)
-      → KeptBy (record h { receive = drive h.receive e (reply_to s e) })
-  receives_keeps own lends =
-      let (gone, here, holds) = m.both.receive in (
-        record {
-          receive = own_keeps w.queue s out h.receive e m.sound m.both.receive own;
-          transmit =
-              sparing_events_keep s w.queue sent h.transmit e m.both.transmit
-              (own_spares w.queue s out h.receive gone here holds h.transmit sender_blocks m.both.apart e made own);
-          apart = receives_apart s h.receive h.transmit e own sender_blocks m.both.apart;
-        },
-        record {
-          receive = mine_driven mine h.receive m.lent.receive e (reply_to s e) own lends;
-          transmit = m.lent.transmit;
-        },
-      )
-
-  -- the transmit half's
-
-  sends_keeps : (move : Move) → is_elsewhere move ≡ false → sending.IsOwn h.transmit move e
-      → LendsMine mine e (reply_to s e)
-      → KeptBy (record h { transmit = moved h.transmit move (reply_to s e) })
-  sends_keeps move real own lends =
-      let there = receive_lent w.queue s out h.receive m.both.receive in
-      let left = move_spares s w.queue sent h.transmit m.both.transmit.0 m.both.transmit.1 h.receive there
-      (each_all h.receive (λ n. IsTrue (has_lent h.transmit n)) (λ b n. b ≢ n) m.both.apart) move e real own in (
-        record {
-          receive =
-              subst (λ xs. Agree w.queue t (out ++ xs) h.receive) (sym (no_pieces w.queue s h move e real own))
-              (subst (λ xs. Agree w.queue t xs h.receive) (sym (append-nil out))
-              (leaving_keeps w.queue s t out h.receive left m.both.receive));
-          transmit =
-              moves_keep s w.queue sent h.transmit e move m.both.transmit (may_move w.queue s h move e real own made);
-          apart = sends_apart s h.receive h.transmit move e own there m.both.apart;
-        },
-        record {
-          receive = m.lent.receive;
-          transmit =
-              mine-moved mine h.transmit m.lent.transmit move e (reply_to s e) own
-              (lends_one mine e (reply_to s e) lends);
-        },
-      )
-
-  -- by whose it is
-
-  pub doer_keeps : (d : Doer) → OwnCall h d (call_of e (reply_to s e))
-      → (is_neither d ≡ true → LeavesRegisters w (mode_in s.registers) e × LeavesBlocks mine e)
-      → (is_neither d ≡ false → LendsMine mine e (reply_to s e)) → KeptBy (after_call h d (call_of e (reply_to s e)))
-  doer_keeps Receives own others lends = receives_keeps own (lends refl)
-  doer_keeps (Sends Elsewhere) own others lends = neither_keeps m e made steps (others refl).0 (others refl).1
-  doer_keeps (Sends move) own others lends = sends_keeps move refl own (lends refl)
-
-  pub goes_on : (k : Halves) → KeptBy k → Meets w mine t (out ++ pieces w.queue s e) (sent ++ sent_by w.queue s e) k
-  goes_on k agrees =
-      let stays = (step_leads s e).stays in
-      record { sound = keeps_sound s m.sound e made; vfs = m.vfs ∙ sym stays.vfs; both = agrees.0; lent = agrees.1 }
-
-  -- a side of the queue that is up stays so
+  still : (k : Halves) → Kept w mine s out sent e k
+      → Meets w mine t (out ++ pieces w.queue s e) (sent ++ sent_by w.queue s e) k
+  still k kept = record {
+    sound = keeps_sound s m.sound e made;
+    vfs = m.vfs ∙ sym (step_leads s e).stays.vfs;
+    both = kept.0;
+    lent = kept.1;
+  }
 
   stays_up : (move : Move) → MayMove w.queue h.transmit s e move → IsUp w.queue s → IsUp w.queue t
   stays_up move may up = up_stays s w.queue sent h.transmit e move m.both.transmit may up
 
-  pub doer_stays_up : (d : Doer) → OwnCall h d (call_of e (reply_to s e))
-      → (is_neither d ≡ true → LeavesRegisters w (mode_in s.registers) e × LeavesBlocks mine e) → IsUp w.queue s
-      → IsUp w.queue t
-  doer_stays_up Receives own others up =
-      let (gone, here, holds) = m.both.receive in
-      stays_up Elsewhere
-      (own_spares w.queue s out h.receive gone here holds h.transmit sender_blocks m.both.apart e made own) up
-  doer_stays_up (Sends Elsewhere) own others up =
-      let registers = (others refl).0 in
-      stays_up Elsewhere
-      (spared_by m e made steps e made registers (others refl).1 steps) up
-  doer_stays_up (Sends move) own others up = stays_up move (may_move w.queue s h move e refl own made) up
+  -- the receive half's
 
-  pub doer_receives_up : (d : Doer) → OwnCall h d (call_of e (reply_to s e))
+  receives_goes : receiving.IsOwn h.receive e → LendsOneOf mine e (reply_to s e)
+      → GoesBy (record h { receive = drive h.receive e (reply_to s e) })
+  receives_goes own lends =
+      let (gone, here, holds) = m.both.receive in
+      let spares = own_spares w.queue s out h.receive gone here holds h.transmit sender_blocks m.both.apart e made own
+      in
+      record {
+        meets = still _ (
+          record {
+            receive = own_keeps w.queue s out h.receive e m.sound m.both.receive own;
+            transmit = sparing_events_keep s w.queue sent h.transmit e m.both.transmit spares;
+            apart = receives_apart s h.receive h.transmit e own sender_blocks m.both.apart;
+          },
+          record {
+            receive = mine_driven mine h.receive m.lent.receive e (reply_to s e) own lends;
+            transmit = m.lent.transmit;
+          },
+        );
+        receives = own_stays_up w.queue s out h.receive e m.sound m.both.receive own;
+        sends = stays_up Elsewhere spares;
+        setting = spares.setting;
+        resets =
+            touch_resets Rx w.queue (received_half.has_lent h.receive) s e
+            (own_touches w.queue s out h.receive gone here holds e own);
+      }
+
+  -- the transmit half's
+
+  sends_goes : (move : Move) → is_elsewhere move ≡ false → sending.IsOwn h.transmit move e
+      → LendsOneOf mine e (reply_to s e) → GoesBy (record h { transmit = moved h.transmit move (reply_to s e) })
+  sends_goes move real own lends =
+      let (f, agrees) = m.both.transmit in
+      let there = receive_lent w.queue s out h.receive m.both.receive in
+      let touches = move_touches s w.queue sent h.transmit f agrees move e real own in
+      let left = move_spares s w.queue sent h.transmit f agrees h.receive there m.both.apart e touches in
+      let may = may_move w.queue s h move e real own made in
+      record {
+        meets = still _ (
+          record {
+            receive =
+                rw (touch_pieces Tx w.queue (has_lent h.transmit) s e touches, append-nil out)
+                (leaving_keeps w.queue s t out h.receive left m.both.receive);
+            transmit = moves_keep s w.queue sent h.transmit e move m.both.transmit may;
+            apart = sends_apart s h.receive h.transmit move e own there m.both.apart;
+          },
+          record {
+            receive = m.lent.receive;
+            transmit = mine-moved mine h.transmit m.lent.transmit move e (reply_to s e) own lends;
+          },
+        );
+        receives = left_up w.queue s t left.receive;
+        sends = stays_up move may;
+        setting = touch_setting Tx w.queue (has_lent h.transmit) s e touches;
+        resets = touch_resets Tx w.queue (has_lent h.transmit) s e touches;
+      }
+
+  -- neither's
+
+  neither_goes : LeavesRegisters w (mode_in s.registers) e → LeavesBlocks mine e → GoesBy h
+  neither_goes registers blocks =
+      let spares = spared_by m e made steps e made registers blocks steps in record {
+        meets = still h (neither_keeps m e made steps registers blocks);
+        receives = alone_stays_up w s out h.receive e m.vfs m.sound m.both.receive registers;
+        sends = stays_up Elsewhere spares;
+        setting = spares.setting;
+        resets = spared_resets w s m.vfs e registers;
+      }
+
+  -- by whose it is
+  pub doer_goes : (d : Doer) → OwnCall h d (call_of e (reply_to s e))
       → (is_neither d ≡ true → LeavesRegisters w (mode_in s.registers) e × LeavesBlocks mine e)
-      → received.IsUp w.queue s → received.IsUp w.queue t
-  doer_receives_up Receives own others up = own_stays_up w.queue s out h.receive e m.sound m.both.receive own up
-  doer_receives_up (Sends Elsewhere) own others up =
-      alone_stays_up w s out h.receive e m.vfs m.sound m.both.receive
-      (others refl).0 up
-  doer_receives_up (Sends move) own others up =
-      left_up w.queue s t
-      (move_side s w.queue sent h.transmit m.both.transmit.0 m.both.transmit.1 move e refl own) up
+      → (is_neither d ≡ false → LendsOneOf mine e (reply_to s e)) → GoesBy (after_call h d (call_of e (reply_to s e)))
+  doer_goes Receives own others lends = receives_goes own (lends refl)
+  doer_goes (Sends Elsewhere) own others lends = neither_goes (others refl).0 (others refl).1
+  doer_goes (Sends move) own others lends = sends_goes move refl own (lends refl)
 
 -- a word that is written to an enable register of the queue keeps what the device and both halves agree on
 
@@ -255,7 +263,7 @@ module _ (queue : ℕ) (s : State) (port : Port) (n word : ℕ) (out : List Piec
                 control = ap (λ (x : Side). x.control) is;
                 mode = (settings_stand s e none).mode;
                 vfs = (stays_within s e).vfs;
-                blocks = each_of h.receive (λ b. LeavesBlock b s later) block_stays;
+                blocks = λ b has. block_stays b;
               }) both.receive;
           transmit =
               subst (λ xs. Agrees later queue xs h.transmit) (append-nil sent)
@@ -279,7 +287,7 @@ module _ (queue : ℕ) (s : State) (port : Port) (n word : ℕ) (out : List Piec
                 (write_rest s port n word (place Txdctl queue) 0xFFFFFFFF names refl refl).receive queue (λ x. cc);
             mode = (settings_stand s e (plain-write s port n word (place Txdctl queue) 0xFFFFFFFF names refl)).mode;
             vfs = (stays_within s e).vfs;
-            blocks = each_of h.receive (λ b. LeavesBlock b s later) block_stays;
+            blocks = λ b has. block_stays b;
           }) both.receive;
       transmit = transmit_word_keeps s queue sent h.transmit port n word made names rests both.transmit;
       apart = both.apart;

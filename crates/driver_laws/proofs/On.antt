@@ -1,31 +1,23 @@
 -- Once both rings came up and both sides went on the device and the driver agree on both.
 use Rattle.std.proofs.Common.{[], ◌%◌, ◌&&◌, ◌*◌, ◌+◌, ◌-◌, ◌<◌, ◌∷◌, ◌≡◌, ◌≢◌, ◌≤◌, Bool, List, ap, arith, false, not}
 use Rattle.std.proofs.Common.{refl, subst, sym, true, ℕ}
-use Rattle.std.specs.Prelude.{IsTrue}
 use Rattle.std.proofs.lemmas.Bool.{and_parts, both_ways, eqb-true, leb-true, not-true}
+use Rattle.std.specs.Prelude.{IsTrue}
+use Rattle.pmd.specs.{PmdSeam.Frames.most_blocks, Running.Running, Started.AreUp}
+use Rattle.driver_laws.specs.On.{AreOn, SwitchedSidesAgree, SwitchedSidesBeginNone, SwitchedSidesGoOn}
 use Rattle.driver_laws.specs.Prelude.{Agree, Agrees, AtPort, Call, EachRingBlock, Entry, Numbers, Rdt, Receive, Rx}
 use Rattle.driver_laws.specs.Prelude.{Rxdctl, Sees, Sender, Sets, Side, State, Tdt, Tx, Watched, begun_on, blocks_for}
 use Rattle.driver_laws.specs.Prelude.{is_size, leads_to, lent_by, quiet, ring_blocks}
-use Rattle.driver_laws.proofs.Prelude.{AtCalls, AtEntries, BeforeLast, HasGround, IsAlong, Sides, after_accesses}
-use Rattle.pmd.proofs.PmdSeam.Rings.{some_blocks}
-use Rattle.pmd.specs.PmdSeam.Frames.{most_blocks}
-use Rattle.pmd.specs.Running.{Running}
-use Rattle.pmd.specs.Started.{AreUp}
-use Rattle.driver_laws.specs.Moves.{IsSized}
-use Rattle.driver_laws.specs.On.{AreOn, SwitchedSidesAgree, SwitchedSidesBeginNone, SwitchedSidesGoOn}
-use Rattle.driver_laws.specs.Points.{Point}
-use Rattle.driver_laws.specs.Quieting.{are_off}
-use Rattle.driver_laws.specs.Start.{BeginsWell, StartAgrees, StartGoesOn}
-use Rattle.driver_laws.specs.Unused.{AreUnused, WentOn}
-use Rattle.driver_laws.proofs.Ground.{ground_names}
-use Rattle.driver_laws.proofs.Made.{first_made, some_made}
+use Rattle.driver_laws.specs.{Quieting.are_off, Start.BeginsWell, Start.StartAgrees, Start.StartGoesOn, Unused.WentOn}
 use Rattle.driver_laws.proofs.Points.{At, accesses_at, laid_with, prepared_at, unused_kept}
-use Rattle.driver_laws.proofs.Reached.{sound_at}
-use Rattle.driver_laws.proofs.StopCalls.{Has, IsLentBy, accesses_add, has_more, lending, lent_along, prepared_adds}
-use Rattle.driver_laws.proofs.StopCalls.{prepared_has, prepared_some, ring_in, stays_in}
-use Rattle.driver_laws.proofs.SwitchedOff.{quiet_sides_stand, quieting_leads}
+use Rattle.driver_laws.proofs.Prelude.{AreUnused, AtCalls, AtEntries, BeforeLast, HasGround, IsAlong, IsPlain, IsSized}
+use Rattle.driver_laws.proofs.Prelude.{Point, Sides, after_accesses, some_blocks}
+use Rattle.driver_laws.proofs.StopCalls.{Has, IsLentBy, has_more, lending, lent_along, prepared_has, prepared_plain}
+use Rattle.driver_laws.proofs.StopCalls.{ring_in, stays_in, stays_some}
 use Rattle.driver_laws.proofs.Switching.{came_up, comes_up, fresh_receive_agrees, fresh_transmit_agrees, laid, may_lay}
 use Rattle.driver_laws.proofs.Switching.{may_switch, switching}
+use Rattle.driver_laws.proofs.{Ground.ground_names, Made.extends, Made.made_some, Made.some_made, Reached.sound_at}
+use Rattle.driver_laws.proofs.{SwitchedOff.quiet_sides_stand, SwitchedOff.quieting_leads}
 
 -- the numbers of slots that a driver may have
 
@@ -53,10 +45,9 @@ unwanted a b c d is =
     let both = and_parts (not a && not b) (not c && not d) is in
     (not-true b (and_parts (not a) (not b) both.0).1, not-true d (and_parts (not c) (not d) both.1).1)
 
-module _ (w : Watched) (origin : State) (h : List Entry) (q : AtPort) (size frame : ℕ) (old : List Call) (a : Numbers)
-    (new : List Call) (v : Receive) (t : Sender) (up : AreOn q size frame old a new v t)
-    (along : IsAlong w origin h) (is : is_size size ≡ true)
-    (well : BeforeLast w origin h up.receive.quiet.0 (HasGround w.queue q frame))
+module _ {w : Watched} {origin : State} {h : List Entry} {q : AtPort} {size frame : ℕ} {old : List Call} {a : Numbers}
+    {new : List Call} {v : Receive} {t : Sender} (up : AreOn q size frame old a new v t)
+    (along : IsAlong w origin h) (well : BeforeLast w origin h up.receive.quiet.0 (HasGround w.queue q frame))
   where
     abbrev ring : ℕ
     ring = up.receive.ring
@@ -69,6 +60,23 @@ module _ (w : Watched) (origin : State) (h : List Entry) (q : AtPort) (size fram
 
     abbrev Known : Sides → Type 0
     Known p = IsTrue (are_off p)
+
+    -- some calls were made there
+
+    mid_some : up.receive.mid ≢ []
+    mid_some =
+        let (mid, first, more) = up.receive.quiet in
+        some_made q (Sets Rxdctl 0 ∷ Sees Rxdctl false ∷ quiet Tx) mid up.receive.mid more
+        (made_some q old mid (Sees Rxdctl false) first)
+
+    ready_some : up.ready_made ≢ []
+    ready_some = stays_some (IsPlain q) up.receive.mid up.ready_made (prepared_plain up.receive.prepared) mid_some
+
+    both_some : up.both_made ≢ []
+    both_some = stays_some (IsPlain q) up.ready_made up.both_made (prepared_plain up.transmit.prepared) ready_some
+
+    pub on_some : new ≢ []
+    on_some = some_made q (switching up.switched.0 up.switched.1) up.both_made new up.switched.3 both_some
 
     abbrev Reaches : List Call → (Sides → Sides) → Type 0
     Reaches = At q frame along Known Unused (unused_kept w origin)
@@ -97,26 +105,24 @@ module _ (w : Watched) (origin : State) (h : List Entry) (q : AtPort) (size fram
     module _ (one : EachRingBlock ring size (λ n. IsLentBy w.pass n h))
         (two : EachRingBlock other size (λ n. IsLentBy w.pass n h)) where
       abbrev of_size : (number : ℕ) → EachRingBlock number size (λ n. IsLentBy w.pass n h) → IsSized number size
-      of_size number lent = sized_ring w.pass h size number is lent
+      of_size number lent = sized_ring w.pass h size number up.sized lent
 
       off : (p : Sides) → Known p → ((p.side Rx).wanted ≡ false) × ((p.side Tx).wanted ≡ false)
       off p known = unwanted (p.side Rx).on (p.side Rx).wanted (p.side Tx).on (p.side Tx).wanted known
 
       even : 16 * size % 128 ≡ 0
-      even = (sized size is).2
+      even = (sized size up.sized).2
 
       ready_at : Reaches up.ready_made (laid_with Rx ring size)
       ready_at =
           prepared_at q frame along Known Unused (unused_kept w origin) (λ p. p) up.receive.prepared
-          (λ p known. may_lay ring size (of_size ring one) even p Rx (off p known).0) one
-          (first_made q (Sees Rxdctl false) (Sets Rxdctl 0 ∷ Sees Rxdctl false ∷ quiet Tx) old up.receive.mid
-          up.receive.quiet) quiet_at
+          (λ p known. may_lay ring size (of_size ring one) even p Rx (off p known).0) one mid_some quiet_at
 
       both_at : Reaches up.both_made (laid ring size other)
       both_at =
           prepared_at q frame along Known Unused (unused_kept w origin) (laid_with Rx ring size) up.transmit.prepared
           (λ p known. may_lay other size (of_size other two) even (laid_with Rx ring size p) Tx (off p known).1) two
-          (prepared_some up.receive.prepared) ready_at
+          ready_some ready_at
 
       on_at : Reaches new (λ p. after_accesses (switching up.switched.0 up.switched.1) (laid ring size other p))
       on_at =
@@ -124,7 +130,7 @@ module _ (w : Watched) (origin : State) (h : List Entry) (q : AtPort) (size fram
           (laid ring size other) up.both_made new
           (λ p known.
           may_switch ring size other (of_size ring one) (of_size other two) p (off p known).0 (off p known).1
-          up.switched.0 up.switched.1) up.switched.3 (prepared_some up.transmit.prepared) both_at
+          up.switched.0 up.switched.1) up.switched.3 both_some both_at
 
       came_up_at : AtEntries w h new CameUp
       came_up_at done rest all calls =
@@ -141,12 +147,13 @@ module _ (w : Watched) (origin : State) (h : List Entry) (q : AtPort) (size fram
     on_has : (number : ℕ) → Has (lending number) up.both_made → Has (lending number) new
     on_has number has =
         has_more (lending number) up.both_made new
-        (accesses_add q (switching up.switched.0 up.switched.1) up.both_made new up.switched.3) has
+        (extends q (switching up.switched.0 up.switched.1) up.both_made new up.switched.3) has
 
     ring_has : EachRingBlock ring size (λ n. Has (lending n) new)
     ring_has k below =
+        let more = prepared_plain up.transmit.prepared in
         on_has (ring + k)
-        (has_more (lending (ring + k)) up.ready_made up.both_made (prepared_adds up.transmit.prepared)
+        (has_more (lending (ring + k)) up.ready_made up.both_made (more.0, more.1)
         (prepared_has up.receive.prepared k below))
 
     pub ring_lent : AtEntries w h new (λ done. EachRingBlock ring size (λ n. IsLentBy w.pass n h))
@@ -166,8 +173,8 @@ module _ (w : Watched) (origin : State) (h : List Entry) (q : AtPort) (size fram
     agrees_at done rest all calls =
         let s = leads_to origin done in
         let (p, x, unused) = up_at done rest all calls in
-        let one = sized_ring w.pass h size ring is (ring_lent done rest all calls) in
-        let two = sized_ring w.pass h size other is (other_lent done rest all calls) in
+        let one = sized_ring w.pass h size ring up.sized (ring_lent done rest all calls) in
+        let two = sized_ring w.pass h size other up.sized (other_lent done rest all calls) in
         let zeros = x.stand.zero in (
           subst (λ (v : Receive). Agree w.queue s [] v) (sym up.receive.fresh)
               (fresh_receive_agrees w.queue s (p.side Rx) true true q.port up.receive.tail ring size (most_blocks frame)
@@ -206,28 +213,19 @@ module _ (w : Watched) (origin : State) (h : List Entry) (q : AtPort) (size fram
     pub ground_at : AtCalls w origin h new (HasGround w.queue q frame)
     ground_at done rest all calls = let (p, x, unused) = up_at done rest all calls in x.ground
 
-    -- some calls were made before both were on
-    pub on_some : new ≢ []
-    on_some =
-        some_made q (switching up.switched.0 up.switched.1) up.both_made new up.switched.3
-        (prepared_some up.transmit.prepared)
-
 pub switched_sides_agree : SwitchedSidesAgree
-switched_sides_agree w origin h q size frame old a new v t up along well =
-    agrees_at w origin h q size frame old a new v t up along up.sized well
+switched_sides_agree w origin h q size frame old a new v t = agrees_at
 
 pub switched_sides_go_on : SwitchedSidesGoOn
-switched_sides_go_on w origin h q size frame old a new v t up along well =
-    goes_on_at w origin h q size frame old a new v t up along up.sized well
+switched_sides_go_on w origin h q size frame old a new v t = goes_on_at
 
 pub switched_sides_begin_none : SwitchedSidesBeginNone
-switched_sides_begin_none w origin h q size frame old a new v t up along well =
-    begun_at w origin h q size frame old a new v t up along up.sized well
+switched_sides_begin_none w origin h q size frame old a new v t = begun_at
 
 -- a start of the driver leaves a state where the device and the driver agree on both sides
 
-module _ (w : Watched) (origin : State) (h : List Entry) (q : AtPort) (size frame : ℕ) (old : List Call) (a : Numbers)
-    (new : List Call) (r : Running) (up : AreUp q size frame old a new r) (along : IsAlong w origin h)
+module _ {w : Watched} {origin : State} {h : List Entry} {q : AtPort} {size frame : ℕ} {old : List Call} {a : Numbers}
+    {new : List Call} {r : Running} (up : AreUp q size frame old a new r) (along : IsAlong w origin h)
     (well : BeginsWell w origin h q size frame old a new r up)
   where
     -- before the receive ring is filled both sides are on
@@ -247,18 +245,14 @@ module _ (w : Watched) (origin : State) (h : List Entry) (q : AtPort) (size fram
 
     -- port and queue name this queue there
     pub start_ground : AtCalls w origin h up.on.mid (HasGround w.queue q frame)
-    start_ground = ground_at w origin h q size frame old a up.on.mid up.empty r.transmit on along up.sized well.ground
+    start_ground = ground_at on along well.ground
 
     -- some calls were made before both were on
     pub start_some : up.on.mid ≢ []
-    start_some = on_some w origin h q size frame old a up.on.mid up.empty r.transmit on along up.sized well.ground
+    start_some = on_some on along well.ground
 
 pub start_agrees : StartAgrees
-start_agrees w origin h q size frame old a new r up along well =
-    switched_sides_agree w origin h q size frame old a up.on.mid up.empty r.transmit
-    (on w origin h q size frame old a new r up along well) along well.ground
+start_agrees w origin h q size frame old a new r up along well = agrees_at (on up along well) along well.ground
 
 pub start_goes_on : StartGoesOn
-start_goes_on w origin h q size frame old a new r up along well =
-    switched_sides_go_on w origin h q size frame old a up.on.mid up.empty r.transmit
-    (on w origin h q size frame old a new r up along well) along well.ground
+start_goes_on w origin h q size frame old a new r up along well = goes_on_at (on up along well) along well.ground

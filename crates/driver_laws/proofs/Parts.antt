@@ -1,12 +1,11 @@
 -- A history in parts, by the calls that a pass made.
 use Rattle.std.proofs.Common.{[], ◌++◌, ◌∙◌, ◌∷◌, ◌≡◌, ◌≢◌, ◌⊎◌, List, ap, append_assoc, inl, inr, refl, sym, true, ℕ}
-use Rattle.std.specs.Prelude.{◌==◌}
 use Rattle.std.proofs.lemmas.Bool.{cases_Bool, eq-eqb, eqb-true, or_left, or_right}
-use Rattle.std.proofs.lemmas.List.{append-nil, map-append}
-use Rattle.std.proofs.lemmas.List.Elements.{filter-append}
+use Rattle.std.specs.Prelude.{◌==◌}
+use Rattle.std.{proofs.lemmas.List.append-nil, proofs.lemmas.List.map-append, proofs.lemmas.List.Elements.filter-append}
+use Rattle.device_lock.specs.Alone.{has_begun}
 use Rattle.driver_laws.specs.Prelude.{Call, Entry, call_in, calls_of}
 use Rattle.driver_laws.proofs.Prelude.{calls_other, calls_own}
-use Rattle.device_lock.specs.Alone.{has_begun}
 
 pub ends_some : (old before : List Call) (c : Call) → old ++ (before ++ c ∷ []) ≢ []
 ends_some [] [] c e = cc

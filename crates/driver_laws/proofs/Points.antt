@@ -2,29 +2,24 @@
 use Rattle.std.proofs.Common.{[], ◌&&◌, ◌++◌, ◌+◌, ◌<◌, ◌∙◌, ◌∷◌, ◌≡◌, ◌≢◌, Bool, List, None, Option, Some, ap, arith}
 use Rattle.std.proofs.Common.{cond, false, inl, inr, not, option_map, refl, subst, suc, sym, true, zero, ℕ}
 use Rattle.std.specs.Prelude.{⊤, ◌==◌, IsTrue}
-use Rattle.std.proofs.lemmas.Bool.{eqb-true, or_cases}
-use Rattle.std.specs.List.{range_with_len}
+use Rattle.std.{proofs.lemmas.Bool.eqb-true, proofs.lemmas.Bool.or_cases, specs.List.range_with_len}
+use Rattle.driver_laws.specs.Points.{AccessesLead, May}
 use Rattle.driver_laws.specs.Prelude.{Access, AreMade, AtPort, Blocks, Call, Dir, EachRingBlock, Entry, IsNumberOf}
 use Rattle.driver_laws.specs.Prelude.{IsPrepared, LendsEach, Numbers, RowId, Rx, Rxdctl, Sees, Sets, State, Tx, Txdctl}
-use Rattle.driver_laws.specs.Prelude.{Watched, after, blocks_for, call_in, call_of, enable_row, has_bit, is_on, leads_to}
-use Rattle.driver_laws.specs.Prelude.{lent_by, pieces, pieces_since, ring_blocks, ring_words, sent_by, sent_since}
-use Rattle.driver_laws.specs.Prelude.{zero_block}
-use Rattle.driver_laws.proofs.Prelude.{AtEntries, IsAlong, IsKept, Leads, Sides, after_accesses, and_one}
-use Rattle.nic_device.specs.declared.event.Event.TheVariants as event
-use Rattle.nic_device.specs.declared.event.Reply.TheVariants as reply
-use Rattle.ring_laws.proofs.Delivering.{since-append}
-use Rattle.ring_laws.specs.Pieces.{Piece}
-use Rattle.ring_laws.proofs.Counting.{sent_is_counted}
-use Rattle.driver_laws.specs.Points.{AccessesLead, AllMay, IsEnable, May, Point, after_access, seen_by}
-use Rattle.driver_laws.specs.Standing.{Stand}
-use Rattle.driver_laws.specs.Unused.{AreUnused}
+use Rattle.driver_laws.specs.Prelude.{Watched, after, blocks_for, call_in, call_of, enable_row, has_bit, is_on}
+use Rattle.driver_laws.specs.Prelude.{leads_to, lent_by, pieces, pieces_since, ring_blocks, ring_words, sent_by}
+use Rattle.driver_laws.specs.Prelude.{sent_since, zero_block}
 use Rattle.driver_laws.proofs.Ground.{ground_names, ground_same, plain_keeps, read_ground, write_ground}
-use Rattle.driver_laws.proofs.Made.{OfCall, made_some, over_access, some_made}
-use Rattle.driver_laws.proofs.Parts.{ends_some}
+use Rattle.driver_laws.proofs.Prelude.{AllMay, AreUnused, AtEntries, IsAlong, IsEnable, IsKept, Leads, Piece, Point}
+use Rattle.driver_laws.proofs.Prelude.{Sides, Stand, after_access, after_accesses, and_one, seen_by, sent_is_counted}
+use Rattle.driver_laws.proofs.Prelude.{since-append}
 use Rattle.driver_laws.proofs.Reached.{KeptOver, LeadsOver, entries_lead, reached_next, state_leads}
 use Rattle.driver_laws.proofs.Standing.{lend_stands, read_stands, standing_sides_are_left, write_stands}
-use Rattle.driver_laws.proofs.StopCalls.{IsLentBy, and_all, lending}
-use Rattle.driver_laws.proofs.Words.{driven, side_driven}
+use Rattle.driver_laws.proofs.{Made.OfCall, Made.made_some, Made.over_access, Made.some_made, Parts.ends_some}
+use Rattle.driver_laws.proofs.{StopCalls.IsLentBy, StopCalls.and_all, StopCalls.lending, Words.driven}
+use Rattle.driver_laws.proofs.{Words.side_driven}
+use Rattle.nic_device.specs.declared.event.Event.TheVariants as event
+use Rattle.nic_device.specs.declared.event.Reply.TheVariants as reply
 
 -- by a call nothing is received or sent
 abbrev pub IsIdle : ℕ → Call → Type 0

@@ -1,24 +1,17 @@
 -- A history that leaves a queue alone, entry by entry and call by call of its pass.
-use Rattle.std.proofs.Common.{[], ◌++◌, ◌∙◌, ◌∷◌, ◌≡◌, ◌≢◌, List, ap, append_assoc, inl, inr, subst, sym, true}
+use Rattle.std.proofs.Common.{[], ◌++◌, ◌∙◌, ◌∷◌, ◌≡◌, ◌≢◌, List, ap, append_assoc, inl, inr, refl, subst, sym, true}
 use Rattle.std.specs.Prelude.{◌==◌, IsFalse, IsTrue}
-use Rattle.std.proofs.lemmas.Bool.{cases_Bool, eqb-false}
-use Rattle.std.proofs.lemmas.List.{append-nil}
+use Rattle.std.{proofs.lemmas.Bool.cases_Bool, proofs.lemmas.Bool.eqb-false, proofs.lemmas.List.append-nil}
+use Rattle.device_lock.specs.{Alone.EntryLeavesAlone, History.AreEvents, History.IsLegal}
 use Rattle.driver_laws.specs.Prelude.{AreSteps, Block, Blocks, Call, Entry, Event, IsEvent, IsSound, LeavesBlocks}
 use Rattle.driver_laws.specs.Prelude.{LeavesRegisters, State, Watched, after, call_in, calls_of, is_step, leads_to}
 use Rattle.driver_laws.specs.Prelude.{lent_by, mode_in, reply_to}
-use Rattle.driver_laws.proofs.Prelude.{AtCalls, AtEntries, BeforeLast, BeforeNext, IsAlong, IsKept, IsMet, Leads}
-use Rattle.driver_laws.proofs.Prelude.{calls_other, calls_own}
-use Rattle.device_lock.proofs.Histories.{events_before, events_behind, leads-append, legal_behind}
-use Rattle.device_lock.specs.Alone.{EntryLeavesAlone, WritesOutside}
-use Rattle.device_lock.specs.History.{AreEvents, IsLegal}
-use Rattle.ring_laws.proofs.Foreign.{no_registers}
-use Rattle.ring_laws.proofs.Delivering.{vfs_stays}
-use Rattle.ring_laws.proofs.HistoryLaws.Alone.{histories_sound}
-use Rattle.driver_laws.specs.Along.{CallsLead}
-use Rattle.driver_laws.specs.Ending.{Each}
-use Rattle.driver_laws.specs.Faultless.{Never}
-use Rattle.driver_laws.specs.Standing.{IsLeft}
-use Rattle.driver_laws.proofs.Parts.{around, begun, ends_some, more_some, own_some, still_some}
+use Rattle.driver_laws.specs.{Ending.Each, Standing.IsLeft}
+use Rattle.driver_laws.proofs.Parts.{around, begun, more_some, own_some, parts, still_some}
+use Rattle.driver_laws.proofs.Prelude.{AreMadeOf, AtCalls, AtEntries, BeforeLast, BeforeNext, IsAlong, IsKept, IsMet}
+use Rattle.driver_laws.proofs.Prelude.{Leads, Never, WritesOutside, calls_other, calls_own, events_before}
+use Rattle.driver_laws.proofs.Prelude.{events_behind, histories_sound, leads-append, legal_behind, no_registers}
+use Rattle.driver_laws.proofs.Prelude.{vfs_stays}
 
 -- where the entries so far lead a device
 abbrev pub reached : Watched → State → List Entry → State
@@ -98,38 +91,39 @@ module _ {w : Watched} {origin : State} {h : List Entry} (x : IsAlong w origin h
     alone : EntryLeavesAlone w mine (mode_in (leads_to origin done).registers) e
     alone = x.alone done e rest (sym all) (begun w.pass done some)
 
-    free_here : LeavesRegisters w (mode_in (leads_to origin done).registers) e.event × LeavesBlocks mine e.event
-        → IsLeft w mine (leads_to origin done) e.event
-    free_here free =
+    pub foreign_left : e.pass ≢ w.pass → IsLeft w mine (leads_to origin done) e.event
+    foreign_left other =
         let is = entry_is done rest e all in
         free_left w mine (leads_to origin done) e.event is.met is.made is.vfs
-        (subst (WritesOutside w.queue mine) is.told alone.steps) free
+        (subst (WritesOutside w.queue mine) is.told alone.steps) (alone.registers other, alone.blocks other)
 
-    pub foreign_left : e.pass ≢ w.pass → IsLeft w mine (leads_to origin done) e.event
-    foreign_left other = free_here (alone.registers other, alone.blocks other)
-
-    step_left : is_step e.event ≡ true → IsLeft w mine (leads_to origin done) e.event
-    step_left is = free_here (no_registers w (mode_in (leads_to origin done).registers) mine e.event is)
-
-  -- entries of others keep it
-  pub kept_on : (P : List Entry → Type 0) → KeptOver w origin mine P → (front back rest : List Entry)
-      → (front ++ back) ++ rest ≡ h → calls_of w.pass front ≢ [] → calls_of w.pass back ≡ [] → P front
-      → P (front ++ back)
-  kept_on P kept front [] rest all some none p = subst P (sym (append-nil front)) p
-  kept_on P kept front (e ∷ back) rest all some none p =
-      elim (cases_Bool (e.pass == w.pass)) as (λ _. P (front ++ e ∷ back)) [
-        | inl own ↦
-            let made : call_in e ∷ calls_of w.pass back ≡ [] = sym (calls_own w.pass e back own) ∙ none in
-            absurd (cc)
-        | inr other ↦
-            let here : front ++ e ∷ (back ++ rest) ≡ h = sym (append_assoc front (e ∷ back) rest) ∙ all in
-            let left = foreign_left front (back ++ rest) e here some (eqb-false e.pass w.pass other) in
-            let next : (front ++ e ∷ []) ++ back ≡ front ++ e ∷ back = append_assoc front (e ∷ []) back in
-            subst P next
-            (kept_on P kept (front ++ e ∷ []) back rest (ap (λ (l : List Entry). l ++ rest) next ∙ all)
-            (still_some w.pass front (e ∷ []) some) (sym (calls_other w.pass e back other) ∙ none)
-            (kept front e left p))
-      ]
+  -- what holds of the entries so far, and of the calls that the pass makes behind them, goes on holding over entries of
+  -- others, and over each of these calls
+  module _ (P : List Entry → List Call → Type 0)
+      (kept : (cs : List Call) → KeptOver w origin mine (λ done. P done cs))
+      (leads :
+      (done rest : List Entry) (e : Entry) (cs : List Call) → done ++ e ∷ rest ≡ h → calls_of w.pass done ≢ []
+      → P done (call_in e ∷ cs) → P (done ++ e ∷ []) cs) where
+    pub walk : (done back rest : List Entry) → (done ++ back) ++ rest ≡ h → calls_of w.pass done ≢ []
+        → P done (calls_of w.pass back) → P (done ++ back) []
+    walk done [] rest all some p = subst (λ (es : List Entry). P es []) (sym (append-nil done)) p
+    walk done (e ∷ back) rest all some p =
+        let here : done ++ e ∷ (back ++ rest) ≡ h = sym (append_assoc done (e ∷ back) rest) ∙ all in
+        let next : (done ++ e ∷ []) ++ back ≡ done ++ e ∷ back = append_assoc done (e ∷ []) back in
+        let on : P (done ++ e ∷ []) (calls_of w.pass back) → P (done ++ e ∷ back) [] =
+        λ q.
+        subst (λ (es : List Entry). P es []) next
+        (walk (done ++ e ∷ []) back rest (ap (λ (l : List Entry). l ++ rest) next ∙ all)
+        (still_some w.pass done (e ∷ []) some) q) in
+        elim (cases_Bool (e.pass == w.pass)) as (λ _. P (done ++ e ∷ back) []) [
+          | inl own ↦
+              on (leads done (back ++ rest) e (calls_of w.pass back) here some
+              (subst (P done) (calls_own w.pass e back own) p))
+          | inr other ↦
+              on (kept (calls_of w.pass back) done e
+              (foreign_left done (back ++ rest) e here some (eqb-false e.pass w.pass other))
+              (subst (P done) (calls_other w.pass e back other) p))
+        ]
 
   -- what holds behind a call holds wherever that is the last which the pass made
   pub last_leads : (Q : List Entry → Type 0) → KeptOver w origin mine Q → (old : List Call) (c : Call)
@@ -144,49 +138,58 @@ module _ {w : Watched} {origin : State} {h : List Entry} (x : IsAlong w origin h
       let whole : a.before ++ e ∷ (a.behind ++ rest) ≡ h =
       sym (append_assoc a.before (e ∷ a.behind) rest) ∙ ap (λ (l : List Entry). l ++ rest) a.all ∙ all in
       subst Q split
-      (kept_on Q kept till a.behind rest (ap (λ (l : List Entry). l ++ rest) split ∙ all)
-      (own_some w.pass a.before e a.own) a.later
-      (leads a.before (a.behind ++ rest) e whole a.own a.made a.call))
+      (walk (λ so_far cs. Q so_far × (cs ≡ [])) (λ cs so_far f left p. (kept so_far f left p.0, p.1))
+      (λ so_far more f cs here some p. let none : call_in f ∷ cs ≡ [] = p.1 in absurd (cc)) till a.behind rest
+      (ap (λ (l : List Entry). l ++ rest) split ∙ all) (own_some w.pass a.before e a.own)
+      (leads a.before (a.behind ++ rest) e whole a.own a.made a.call, a.later)).0
 
   -- a call leads from one to the other, once the pass has made a call
-  abbrev LeadsHere : (List Entry → Type 0) → (List Entry → Type 0) → Call → Type 0
-  LeadsHere P Q c =
-      (done rest : List Entry) (e : Entry) → done ++ e ∷ rest ≡ h → calls_of w.pass done ≢ [] → call_in e ≡ c → P done
-      → Q (done ++ e ∷ [])
-
-  over_here : (P Q : List Entry → Type 0) (c : Call) → LeadsOver w origin mine c P Q → LeadsHere P Q c
-  over_here P Q c leads done rest e all some same p =
+  over : (P Q : List Entry → Type 0) (c : Call) → LeadsOver w origin mine c P Q → (done rest : List Entry) (e : Entry)
+      → done ++ e ∷ rest ≡ h → calls_of w.pass done ≢ [] → call_in e ≡ c → P done → Q (done ++ e ∷ [])
+  over P Q c leads done rest e all some same p =
       let is = entry_is done rest e all in
       leads done e same is.met is.made is.told (alone done rest e all some).steps p
 
-  step_here : (P : List Entry → Type 0) → KeptOver w origin mine P → (c : Call) → IsTrue (is_step c.event)
-      → LeadsHere P P c
-  step_here P kept c is done rest e all some same p =
-      kept done e (step_left done rest e all some (subst (λ (n : Call). is_step n.event ≡ true) (sym same) is)) p
-
-  here_leads : (P Q : List Entry → Type 0) → KeptOver w origin mine Q → (old : List Call) (c : Call) → LeadsHere P Q c
-      → old ≢ [] → AtEntries w h old P → AtEntries w h (old ++ c ∷ []) Q
-  here_leads P Q kept old c leads some at =
-      last_leads Q kept old c
-      (λ done rest e all own made same.
-      leads done rest e all (λ none. some (sym made ∙ none)) same (at done (e ∷ rest) all made))
-
-  each_here : (P : List Entry → Type 0) (Own : Call → Type 0) → KeptOver w origin mine P
-      → ((c : Call) → Own c → LeadsHere P P c) → (calls old : List Call) → Each Own calls → old ≢ []
-      → AtEntries w h old P → AtEntries w h (old ++ calls) P
-  each_here P Own kept leads [] old each some at =
-      subst (λ (cs : List Call). AtEntries w h cs P) (sym (append-nil old)) at
-  each_here P Own kept leads (c ∷ cs) old each some at =
-      subst (λ (all : List Call). AtEntries w h all P) (append_assoc old (c ∷ []) cs)
-      (each_here P Own kept leads cs (old ++ c ∷ []) each.1 (ends_some old [] c)
-      (here_leads P P kept old c (leads c each.0) some at))
+  -- a step of the device leaves the queue alone
+  step_over : (P : List Entry → Type 0) → KeptOver w origin mine P → (c : Call) → IsTrue (is_step c.event)
+      → LeadsOver w origin mine c P P
+  step_over P kept c is done e same met made told outside p =
+      let s = leads_to origin done in
+      kept done e
+      (free_left w mine s e.event met made (x.vfs ∙ sym (vfs_stays origin done))
+      (subst (WritesOutside w.queue mine) told outside)
+      (no_registers w (mode_in s.registers) mine e.event (subst (λ (n : Call). is_step n.event ≡ true) (sym same) is)))
+      p
 
 -- calls of one kind keep what each of them keeps
 pub all_lead : (w : Watched) (origin : State) (h : List Entry) (P : List Entry → Type 0) (Own : Call → Type 0)
     → IsAlong w origin h → KeptOver w origin (lent_by w.pass h) P
     → ((c : Call) → Own c → LeadsOver w origin (lent_by w.pass h) c P P)
     → (calls old : List Call) → Each Own calls → old ≢ [] → AtEntries w h old P → AtEntries w h (old ++ calls) P
-all_lead w origin h P Own x kept leads = each_here x P Own kept (λ c own. over_here x P P c (leads c own))
+all_lead w origin h P Own x kept leads calls old each some at done rest all is =
+    let p = parts w.pass done old calls is in
+    let whole : (p.front ++ p.back) ++ rest ≡ h = ap (λ (l : List Entry). l ++ rest) p.both ∙ all in
+    subst P p.both
+    (walk x (λ so_far cs. P so_far × Each Own cs) (λ cs so_far e left y. (kept so_far e left y.0, y.1))
+    (λ so_far more e cs here made y.
+    (over x P P (call_in e) (leads (call_in e) y.1.0) so_far more e here made refl y.0, y.1.1)) p.front p.back rest
+    whole (λ none. some (sym p.fronts ∙ none)) (
+      at p.front (p.back ++ rest) (sym (append_assoc p.front p.back rest) ∙ whole) p.fronts,
+      subst (Each Own) (sym p.backs) each,
+    )).0
+
+-- so do calls of events of a kind
+pub made_keep : {w : Watched} {origin : State} {h : List Entry} (P : State → Type 0) (K : Event Block → Type 0)
+    → IsAlong w origin h → IsKept w (lent_by w.pass h) P
+    → ((s : State) (e : Event Block) → IsMet w.queue s → IsEvent e → K e → P s → P (after s e)) → (old new : List Call)
+    → AreMadeOf K old new → old ≢ [] → AtCalls w origin h old P → AtCalls w origin h new P
+made_keep {w = w} {origin = origin} {h = h} P K x kept own old new (calls, is, each) some at =
+    subst (λ (cs : List Call). AtCalls w origin h cs P) (sym is)
+    (all_lead w origin h (λ done. P (leads_to origin done)) (λ c. K c.event) x
+    (state_kept w origin (lent_by w.pass h) P kept)
+    (λ c k.
+    state_leads w origin (lent_by w.pass h) c P P (λ s met made told p. own s c.event met made k p)) calls old each some
+    at)
 
 each_step : (calls : List Call) → AreSteps calls → Each (λ c. IsTrue (is_step c.event)) calls
 each_step [] steps = tt
@@ -197,17 +200,13 @@ pub entries_lead : {w : Watched} {origin : State} {h : List Entry} (P Q : List E
     (old before : List Call) (c : Call) → IsAlong w origin h → KeptOver w origin (lent_by w.pass h) P
     → KeptOver w origin (lent_by w.pass h) Q → LeadsOver w origin (lent_by w.pass h) c P Q → AreSteps before → old ≢ []
     → AtEntries w h old P → AtEntries w h (old ++ (before ++ c ∷ [])) Q
-entries_lead {w = w} {h = h} P Q old before c x kept kept_q leads steps some at =
+entries_lead {w = w} {origin = origin} {h = h} P Q old before c x kept kept_q leads steps some at =
     subst (λ (all : List Call). AtEntries w h all Q) (append_assoc old before (c ∷ []))
-    (here_leads x P Q kept_q (old ++ before) c (over_here x P Q c leads) (more_some old before some)
-    (each_here x P (λ b. IsTrue (is_step b.event)) kept (step_here x P kept) before old (each_step before steps) some
-    at))
-
-pub calls_lead : CallsLead
-calls_lead w origin h P Q old before c x kept kept_q leads steps some at =
-    entries_lead (λ done. P (leads_to origin done)) (λ done. Q (leads_to origin done)) old before c x
-    (state_kept w origin (lent_by w.pass h) P kept) (state_kept w origin (lent_by w.pass h) Q kept_q)
-    (state_leads w origin (lent_by w.pass h) c P Q leads) steps some at
+    (last_leads x Q kept_q (old ++ before) c
+    (λ done rest e all own made same.
+    over x P Q c leads done rest e all (λ none. more_some old before some (sym made ∙ none)) same
+    (all_lead w origin h P (λ b. IsTrue (is_step b.event)) x kept (step_over x P kept) before old
+    (each_step before steps) some at done (e ∷ rest) all made)))
 
 -- what holds just before a call
 
@@ -249,5 +248,7 @@ module _ {w : Watched} {origin : State} {h : List Entry} (x : IsAlong w origin h
   pub then_refuted : (old : List Call) → IsKept w (lent_by w.pass h) P → old ≢ [] → AtCalls w origin h old P
       → RefutesNext old
   then_refuted old kept some at before c steps apart refutes =
-      calls_lead w origin h P (λ s. ⊥) old before c x kept (λ s e left none. none)
-      (λ s met made told p. refutes s p told) steps some at
+      let mine = lent_by w.pass h in
+      entries_lead (λ done. P (leads_to origin done)) (λ done. ⊥) old before c x (state_kept w origin mine P kept)
+      (λ done e left none. none) (state_leads w origin mine c P (λ s. ⊥) (λ s met made told p. refutes s p told)) steps
+      some at

@@ -1,11 +1,11 @@
 -- What of a history doesn't look at its tags.
 use Rattle.std.proofs.Common.{[], ◌∙◌, ◌∷◌, ◌≡◌, Bool, List, None, Option, ap, false, map, refl, subst, sym, true, ℕ}
+use Rattle.ring_laws.specs.Sent.{counted_by}
 use Rattle.driver_laws.specs.Prelude.{AreEvents, Call, Entry, IsEvent, IsLegal, Piece, State, after, call_in}
 use Rattle.driver_laws.specs.Prelude.{entries_in, leads_to, packets_if_any, pieces, pieces_since, reply_to, sent_since}
-use Rattle.ring_laws.specs.Delivered.{gathered}
-use Rattle.ring_laws.specs.Sent.{counted_by}
 use Rattle.driver_laws.specs.Retold.{AreSame, RetoldIsSame, SameDelivers, SameIsLegal, SameLeads, SameSends, retold}
 use Rattle.driver_laws.specs.Retold.{told_as}
+use Rattle.driver_laws.proofs.Prelude.{gathered}
 
 -- an entry is the same call, whoever made it
 

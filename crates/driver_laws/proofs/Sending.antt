@@ -1,126 +1,134 @@
 -- What an event of one half's own leaves: all blocks but its own, and the other side; and so do steps of the device.
 use Rattle.std.proofs.Common.{[], ◌*◌, ◌+◌, ◌/◌, ◌<◌, ◌^◌, ◌∙◌, ◌∷◌, ◌≡◌, ◌≢◌, Bool, List, None, Option, Some, ap}
 use Rattle.std.proofs.Common.{arith, cond, false, inl, inr, length, refl, subst, suc, sym, take, true, ℕ}
-use Rattle.std.specs.Prelude.{◌==◌, IsTrue, slice_index_or}
 use Rattle.std.proofs.lemmas.Bool.{cases_eq, eqb-true, or_cases}
-use Rattle.std.proofs.lemmas.List.{get_or-take, length-take-le}
-use Rattle.std.specs.FinMap as map
-use Rattle.std.specs.List.{list_any}
-use Rattle.driver_laws.specs.Prelude.{Accepts, Advances, Agree, Asks, Block, Blocks, Elsewhere, Event, IsEvent, IsSound}
-use Rattle.driver_laws.specs.Prelude.{LeavesBlock, Lends, Looks, Move, Piece, Port, Rdt, Reaps, Receive, Register}
-use Rattle.driver_laws.specs.Prelude.{Reply, Sender, State, Tx, WritesNoSetting, WritesOutside, after, has_bit}
-use Rattle.driver_laws.specs.Prelude.{has_block, has_lent, is_ring_block, named, place, reply_to}
-use Rattle.nic_device.proofs.DmaArena.Inside.{inside_avoids}
-use Rattle.nic_device.proofs.DmaRing.Fields.{halves_come_back}
-use Rattle.nic_device.specs.DmaArena.Memory.{Avoids}
-use Rattle.nic_device.specs.DmaRing.Driver.{posted}
-use Rattle.nic_device.specs.DmaRing.Ring.{descriptor_address}
-use Rattle.nic_device.specs.RegTable.declared.rows.RowId.TheVariants.{Tdt, Tdwbah, Tdwbal}
-use Rattle.nic_device.specs.RegisterFile.Queue.{ring_of}
-use Rattle.nic_device.specs.RegisterFile.Registers.{word_of}
-use Rattle.nic_device.specs.declared.event.Event.TheVariants as event
-use Rattle.nic_device.specs.declared.event.Reply.TheVariants.{Wrote}
+use Rattle.std.specs.Prelude.{⊤, ◌==◌, IsTrue, slice_index_or}
+use Rattle.std.{proofs.lemmas.List.get_or-take, proofs.lemmas.List.length-take-le, specs.List.list_any}
+use Rattle.nic_device.specs.RegTable.declared.rows.RowId.TheVariants.{Tdt, Tdwbal}
+use Rattle.nic_device.specs.{DmaArena.Memory.LiesIn, DmaRing.Driver.posted, DmaRing.Ring.descriptor_address}
+use Rattle.nic_device.specs.{RegisterFile.Queue.ring_of}
+use Rattle.nic_device.proofs.{DmaArena.Inside.inside_avoids, DmaRing.Fields.halves_come_back}
+use Rattle.pmd.specs.PmdRx.Receive.{MovesNext, NamesNext, TakesNext, fresh_of, vacant}
+use Rattle.pmd.specs.PmdTx.Sending.{Segment, blocks_of, descriptor_at, no_segment, segment_at, slot_at}
 use Rattle.pmd.proofs.PmdSeam.Rings.{each_ring_block, slot_block, slot_lies}
+use Rattle.ring_laws.specs.{Agreeing.AgreesAt, DeviceLaws.Leaving.LeavesReceive, DeviceLaws.Leaving.LeavesTransmit}
+use Rattle.ring_laws.specs.{DeviceLaws.Replies.report_of, Joint.Holds, Steps.Each, Steps.IsOutside, Steps.Leaves}
+use Rattle.ring_laws.specs.{Steps.OwnReportsSpare}
+use Rattle.ring_laws.proofs.HistoryLaws.Blocks.{IsSparedBy, clear_outside, reported, spared_block}
+use Rattle.ring_laws.proofs.{Blocks.has_lent-ring, Blocks.has_lent-segment, Blocks.slot-below}
+use Rattle.ring_laws.proofs.{DeviceLaws.RepliesSent.transmitting_tells, DeviceLaws.StandingQueues.receiving_rest}
+use Rattle.ring_laws.proofs.{Fetching.head_is, Fetching.length-asking, Foreign.piece_inside, Kept.each_posted}
+use Rattle.ring_laws.proofs.{Kept.each_ring, Kept.slot_below, Parts.seen_within}
+use Rattle.driver_laws.specs.Prelude.{Accepts, Advances, Agree, Asks, Block, Blocks, Dir, Elsewhere, Event, IsEvent}
+use Rattle.driver_laws.specs.Prelude.{IsSound, LeavesBlock, Lends, Looks, Move, Piece, Rdt, Reaps, Receive, Register}
+use Rattle.driver_laws.specs.Prelude.{Reply, RowId, Rx, Sender, State, Tx, WritesNoSetting, WritesOutside, after}
+use Rattle.driver_laws.specs.Prelude.{has_bit, has_block, has_lent, is_ring_block, named, pieces, place, reply_to}
+use Rattle.driver_laws.proofs.Prelude.{IsOwn, Spares, Tdwbah, Wrote, block_at, is_setting, memory_blocks, memory_rest}
+use Rattle.driver_laws.proofs.Prelude.{plain-write, reach, settings_stand, stays_within, word_of, write_memory}
+use Rattle.driver_laws.proofs.Prelude.{write_rest}
+use Rattle.driver_laws.proofs.{Lending.lend_leaves, Words.each_side}
+use Rattle.std.specs.FinMap as map
+use Rattle.nic_device.specs.declared.event.Event.TheVariants as event
+use Rattle.pmd.specs.PmdRx.Keeping as received
 use Rattle.pmd.specs.PmdRx.Receive as receiving
-use Rattle.pmd.specs.PmdRx.Receive.{MovesNext, NamesNext, TakesNext, block_at, fresh_of, reach, vacant}
-use Rattle.pmd.specs.PmdTx.Sending.{IsOwn, Segment, blocks_of, descriptor_at, no_segment, segment_at, slot_at}
-use Rattle.ring_laws.proofs.DeviceLaws.KeptSettings.{settings_stand}
-use Rattle.ring_laws.proofs.DeviceLaws.RepliesSent.{transmitting_tells}
-use Rattle.ring_laws.proofs.DeviceLaws.Standing.{memory_blocks, memory_rest, stays_within}
-use Rattle.ring_laws.proofs.DeviceLaws.StandingAccesses.{write_memory, write_rest}
-use Rattle.ring_laws.proofs.DeviceLaws.StandingQueues.{receiving_rest}
-use Rattle.ring_laws.proofs.Kept.{each_map, each_posted}
-use Rattle.ring_laws.proofs.HistoryLaws.Blocks.{clear_outside}
-use Rattle.ring_laws.proofs.HistoryLaws.Blocks.{reported}
-use Rattle.ring_laws.proofs.HistoryLaws.Leaving.{plain-write}
-use Rattle.ring_laws.proofs.HistoryLaws.Blocks.{IsSparedBy, spared_block}
-use Rattle.ring_laws.proofs.Foreign.{piece_inside}
-use Rattle.ring_laws.proofs.Kept.{slot_below}
-use Rattle.ring_laws.proofs.Parts.{seen_within}
-use Rattle.ring_laws.specs.DeviceLaws.Leaving.{LeavesReceive, LeavesTransmit}
-use Rattle.ring_laws.specs.DeviceLaws.Replies.{report_of}
-use Rattle.ring_laws.specs.Joint.{Holds, IsNamed}
-use Rattle.ring_laws.specs.Steps.{Each, IsOutside, Leaves, OwnReportsSpare}
-use Rattle.ring_laws.proofs.Advancing.{setting_kept}
-use Rattle.ring_laws.proofs.Blocks.{has_lent-ring, has_lent-segment}
-use Rattle.ring_laws.proofs.Fetching.{length-asking}
-use Rattle.ring_laws.proofs.Blocks.{slot-below}
-use Rattle.ring_laws.proofs.Fetching.{head_is}
-use Rattle.ring_laws.specs.Agreeing.{AgreesAt}
-use Rattle.ring_laws.specs.Sparing.{Spares}
-use Rattle.driver_laws.proofs.Lending.{each_both, lend_leaves}
 
--- the register of a write of the receive half's
+-- an event that takes or pokes some blocks alone, lends one, looks, or writes the tail of a side of the queue
 
-module _ (s : State) (queue : ℕ) (v : Receive) (name : IsNamed s queue v.layout) (port : Port) (number word : ℕ) where
-  pub writes_tail : MovesNext v port number word → named s port number ≡ Register (place Rdt queue) 0xFFFFFFFF
-  writes_tail own = rw (own.port_is, own.number_is) name.tail
+abbrev pub tail_row : Dir → RowId
+tail_row Rx = Rdt
+tail_row Tx = Tdt
 
-  transmit_left : named s port number ≡ Register (place Rdt queue) 0xFFFFFFFF
-      → LeavesTransmit queue s (after s (event.Write port number word))
-  transmit_left here =
-      (write_rest s port number word (place Rdt queue) 0xFFFFFFFF here refl refl).transmit queue (λ e. cc)
+abbrev pub Touches : Dir → ℕ → Blocks → State → Event Block → Type 0
+Touches dir queue own s (event.Peek16 a) = ⊤
+Touches dir queue own s (event.Lend b) = ⊤
+Touches dir queue own s (event.Take n) = IsTrue (own n)
+Touches dir queue own s (event.Poke16 a bytes) = (b : ℕ) × IsTrue (own b) × LiesIn b a (length bytes)
+Touches dir queue own s (event.Write port n word) =
+    named s port n ≡ Register (place (tail_row dir) queue) 0xFFFFFFFF
+Touches dir queue own s other = ⊥
+
+-- such an event leaves all other blocks that are lent, the other side and the settings, and tells no piece
+module _ (dir : Dir) (queue : ℕ) (own : Blocks) (s : State) where
+  touch_leaves : (number : ℕ) → has_block s.memory number ≡ true → ((n : ℕ) → IsTrue (own n) → number ≢ n)
+      → (e : Event Block) → Touches dir queue own s e → LeavesBlock number s (after s e)
+  touch_leaves number has away (event.Peek16 a) is = (stays_within s (event.Peek16 a)).blocks number refl
+  touch_leaves number has away (event.Take n) is = memory_blocks.take s n number (away n is)
+  touch_leaves number has away (event.Lend b) is = lend_leaves s b number has
+  touch_leaves number has away (event.Poke16 a bytes) (b, mine, lies) =
+      memory_blocks.poke s a bytes number (inside_avoids b number a (length bytes) lies (away b mine))
+  touch_leaves number has away (event.Write port n word) is = ap (λ m. map.get m number) (write_memory s port n word)
+  touch_leaves number has away e is = absurd is
+
+  pub touch_setting : (e : Event Block) → Touches dir queue own s e → WritesNoSetting s e
+  touch_setting (event.Write port n word) is =
+      plain-write s port n word (place (tail_row dir) queue) 0xFFFFFFFF is
+      (each_side (λ d. is_setting (tail_row d) ≡ false) refl refl dir)
+  touch_setting e is = tt
+
+  pub touch_pieces : (e : Event Block) → Touches dir queue own s e → pieces queue s e ≡ []
+  touch_pieces event.RxStep is = absurd is
+  touch_pieces e is = refl
+
+module _ (queue : ℕ) (own : Blocks) (s : State) where
+  touch_transmit : (e : Event Block) → Touches Rx queue own s e → LeavesTransmit queue s (after s e)
+  touch_transmit (event.Peek16 a) is = (memory_rest.peek s a).queues.transmit queue
+  touch_transmit (event.Take n) is = (memory_rest.take s n).queues.transmit queue
+  touch_transmit (event.Lend b) is = (memory_rest.lend s b).queues.transmit queue
+  touch_transmit (event.Poke16 a bytes) is = (memory_rest.poke s a bytes).queues.transmit queue
+  touch_transmit (event.Write port n word) is =
+      (write_rest s port n word (place Rdt queue) 0xFFFFFFFF is refl refl).transmit queue (λ e. cc)
+  touch_transmit e is = absurd is
+
+  touch_receive : (e : Event Block) → Touches Tx queue own s e → LeavesReceive queue s (after s e)
+  touch_receive (event.Peek16 a) is = (memory_rest.peek s a).queues.receive queue
+  touch_receive (event.Take n) is = (memory_rest.take s n).queues.receive queue
+  touch_receive (event.Lend b) is = (memory_rest.lend s b).queues.receive queue
+  touch_receive (event.Poke16 a bytes) is = (memory_rest.poke s a bytes).queues.receive queue
+  touch_receive (event.Write port n word) is =
+      (write_rest s port n word (place Tdt queue) 0xFFFFFFFF is refl refl).receive queue (λ e. cc)
+  touch_receive e is = absurd is
+
+-- an event of the receive half's own touches blocks that the half has lent
 
 module _ (queue : ℕ) (s : State) (out : List Piece) (v : Receive) (gone here : List Piece)
     (h : Holds queue s out v gone here) where
-  -- blocks
+  abbrev Lent : ℕ → Type 0
+  Lent b = IsTrue (received.has_lent v b)
 
-  module _ (number : ℕ) (has : has_block s.memory number ≡ true) (away : Each v (λ b. b ≢ number)) where
-    take_leaves : (n : ℕ) → TakesNext v n → LeavesBlock number s (after s (event.Take n))
-    take_leaves n own =
-        let some = own.some in
-        let seen = seen_within v.seen here h.order.seen in
-        let within = h.posted in
-        memory_blocks.take s n number
-        (λ e.
-        each_posted v (λ b. b ≢ number) away 0 (omega (arith, some, seen, within)) (sym (e ∙ own.block)))
-
-    name_leaves : (a : ℕ) (bytes : List ℕ) → NamesNext v a bytes → LeavesBlock number s (after s (event.Poke16 a bytes))
-    name_leaves a bytes own =
-        let l = reach v in
-        let slot : ℕ = receiving.slot_at l (vacant l) in
-        let size : length bytes ≡ 16 =
-        ap length own.bytes_are ∙ (halves_come_back (posted (2048 * fresh_of v.stage)) 0).size in
-        memory_blocks.poke s a bytes number
-        (subst (Avoids number a) (sym size)
-        (inside_avoids (l.ring + slot / 128) number a 16 (rw own.address (slot_lies l.ring slot))
-        (λ e.
-        away.ring (slot / 128) (slot_block l.size slot (slot_below l (vacant l) h.ring (omega arith))) (sym e))))
-
-    own_leaves : (e : Event Block) → receiving.IsOwn v e → LeavesBlock number s (after s e)
-    own_leaves (event.Peek16 a) own = (stays_within s (event.Peek16 a)).blocks number refl
-    own_leaves (event.Take n) own = take_leaves n own
-    own_leaves (event.Lend b) own = lend_leaves s b number has
-    own_leaves (event.Poke16 a bytes) own = name_leaves a bytes own
-    own_leaves (event.Write port n word) own = ap (λ m. map.get m number) (write_memory s port n word)
-    own_leaves e own = absurd own
-
-  -- registers
-
-  own_setting : (e : Event Block) → receiving.IsOwn v e → WritesNoSetting s e
-  own_setting (event.Write port n word) own =
-      plain-write s port n word (place Rdt queue) 0xFFFFFFFF (writes_tail s queue v h.named port n word own) refl
-  own_setting e own = tt
-
-  own_side : (e : Event Block) → receiving.IsOwn v e → LeavesTransmit queue s (after s e)
-  own_side (event.Write port n word) own =
-      transmit_left s queue v h.named port n word (writes_tail s queue v h.named port n word own)
-  own_side (event.Peek16 a) own = (memory_rest.peek s a).queues.transmit queue
-  own_side (event.Take n) own = (memory_rest.take s n).queues.transmit queue
-  own_side (event.Lend b) own = (memory_rest.lend s b).queues.transmit queue
-  own_side (event.Poke16 a bytes) own = (memory_rest.poke s a bytes).queues.transmit queue
-  own_side e own = absurd own
+  pub own_touches : (e : Event Block) → receiving.IsOwn v e → Touches Rx queue (received.has_lent v) s e
+  own_touches (event.Peek16 a) own = tt
+  own_touches (event.Take n) own =
+      let some = own.some in
+      let seen = seen_within v.seen here h.order.seen in
+      let within = h.posted in
+      subst Lent (sym own.block) (each_posted v Lent (λ b is. is) 0 (omega (arith, some, seen, within)))
+  own_touches (event.Lend b) own = tt
+  own_touches (event.Poke16 a bytes) own =
+      let l = reach v in
+      let slot : ℕ = receiving.slot_at l (vacant l) in
+      let size : length bytes ≡ 16 =
+      ap length own.bytes_are ∙ (halves_come_back (posted (2048 * fresh_of v.stage)) 0).size in (
+        l.ring + slot / 128,
+        each_ring v Lent (λ b is. is) (slot / 128)
+            (slot_block l.size slot (slot_below l (vacant l) h.ring (omega arith))),
+        subst (LiesIn (l.ring + slot / 128) a) (sym size) (rw own.address (slot_lies l.ring slot)),
+      )
+  own_touches (event.Write port n word) own = rw (own.port_is, own.number_is) h.named.tail
+  own_touches e own = absurd own
 
   -- so it spares the driver's transmit half
   pub own_spares : (u : Sender) → ((number : ℕ) → IsTrue (has_lent u number) → has_block s.memory number ≡ true)
       → ((number : ℕ) → IsTrue (has_lent u number) → Each v (λ b. b ≢ number)) → (e : Event Block) → IsEvent e
       → receiving.IsOwn v e → Spares queue u s e
-  own_spares u lent apart e made own = record {
-    made = made;
-    setting = own_setting e own;
-    side = λ other switch. own_side e own;
-    blocks = λ other number is. own_leaves number (lent number is) (apart number is) e own;
-  }
+  own_spares u lent apart e made own =
+      let touches = own_touches e own in record {
+        made = made;
+        setting = touch_setting Rx queue (received.has_lent v) s e touches;
+        side = λ other switch. touch_transmit queue (received.has_lent v) s e touches;
+        blocks = λ other number is.
+            touch_leaves Rx queue (received.has_lent v) s number (lent number is)
+            (λ n has same. apart number is n has (sym same)) e touches;
+      }
 
 -- a move of the transmit half
 
@@ -156,71 +164,43 @@ module _ (s : State) (queue : ℕ) (sent : List (List ℕ)) (u : Sender) (f : �
             subst (λ x. has_block s.memory x ≡ true) (sym at) (h.shows.ready k below).lent
       ]
 
-  module _ (number : ℕ) (has : has_block s.memory number ≡ true)
-      (away : (n : ℕ) → IsTrue (has_lent u n) → number ≢ n) where
-    ask_leaves : (a : ℕ) (bytes : List ℕ) → IsOwn u Asks (event.Poke16 a bytes)
-        → LeavesBlock number s (after s (event.Poke16 a bytes))
-    ask_leaves a bytes own =
-        let l = u.layout in
-        let slot : ℕ = slot_at l u.poked in
-        let size : length bytes ≡ 16 = ap length own.2 ∙ length-asking (segment_at u u.poked) in
-        let known = own.0 in
-        let below = slot-below l h.based.layout u.poked
-        (omega (arith, known, h.counted.lent_known, h.counted.room)) in
-        memory_blocks.poke s a bytes number
-        (subst (Avoids number a) (sym size)
-        (inside_avoids (l.ring + slot / 128) number a 16 (rw own.1 (slot_lies l.ring slot))
-        (away (l.ring + slot / 128) (has_lent-ring u (slot / 128) (slot_block l.size slot below)))))
+  abbrev Mine : ℕ → Type 0
+  Mine b = IsTrue (has_lent u b)
 
-    reap_leaves : (n : ℕ) → IsOwn u Reaps (event.Take n) → LeavesBlock number s (after s (event.Take n))
-    reap_leaves n own =
-        let c = h.counted in
-        let known : 0 < u.lent =
-        omega (arith, own.0, c.done_fetched, c.fetched_posted, c.posted_poked, c.poked_lent) in
-        memory_blocks.take s n number
-        (λ e. away (segment_at u 0).block (has_lent-segment u 0 c.lent_known known) (e ∙ own.1))
-
-    move_leaves : (m : Move) (e : Event Block) → is_elsewhere m ≡ false → IsOwn u m e → LeavesBlock number s (after s e)
-    move_leaves (Accepts p) (event.Lend b) real own = lend_leaves s b number has
-    move_leaves Lends (event.Lend b) real own = lend_leaves s b number has
-    move_leaves Asks (event.Poke16 a bytes) real own = ask_leaves a bytes own
-    move_leaves Advances (event.Write port n word) real own = ap (λ m. map.get m number) (write_memory s port n word)
-    move_leaves Looks (event.Peek16 a) real own = (stays_within s (event.Peek16 a)).blocks number refl
-    move_leaves Reaps (event.Take n) real own = reap_leaves n own
-    move_leaves Elsewhere e real own = cc
-    move_leaves m e real own = absurd own
-
-  pub move_setting : (m : Move) (e : Event Block) → is_elsewhere m ≡ false → IsOwn u m e → WritesNoSetting s e
-  move_setting Advances (event.Write port n word) real own = setting_kept s queue sent u f h port n word own
-  move_setting Elsewhere e real own = cc
-  move_setting m (event.Write port n word) real own = absurd own
-  move_setting m e real own = tt
-
-  pub move_side : (m : Move) (e : Event Block) → is_elsewhere m ≡ false → IsOwn u m e
-      → LeavesReceive queue s (after s e)
-  move_side (Accepts p) (event.Lend b) real own = (memory_rest.lend s b).queues.receive queue
-  move_side Lends (event.Lend b) real own = (memory_rest.lend s b).queues.receive queue
-  move_side Asks (event.Poke16 a bytes) real own = (memory_rest.poke s a bytes).queues.receive queue
-  move_side Advances (event.Write port n word) real own =
-      let here : named s port n ≡ Register (place Tdt queue) 0xFFFFFFFF = rw (own.2, own.3) h.based.tail in
-      (write_rest s port n word (place Tdt queue) 0xFFFFFFFF here refl refl).receive queue (λ e. cc)
-  move_side Looks (event.Peek16 a) real own = (memory_rest.peek s a).queues.receive queue
-  move_side Reaps (event.Take n) real own = (memory_rest.take s n).queues.receive queue
-  move_side Elsewhere e real own = cc
-  move_side m e real own = absurd own
+  pub move_touches : (m : Move) (e : Event Block) → is_elsewhere m ≡ false → IsOwn u m e
+      → Touches Tx queue (has_lent u) s e
+  move_touches (Accepts p) (event.Lend b) real own = tt
+  move_touches Lends (event.Lend b) real own = tt
+  move_touches Asks (event.Poke16 a bytes) real own =
+      let l = u.layout in
+      let slot : ℕ = slot_at l u.poked in
+      let size : length bytes ≡ 16 = ap length own.2 ∙ length-asking (segment_at u u.poked) in
+      let known = own.0 in
+      let below = slot-below l h.based.layout u.poked
+      (omega (arith, known, h.counted.lent_known, h.counted.room)) in (
+        l.ring + slot / 128,
+        has_lent-ring u (slot / 128) (slot_block l.size slot below),
+        subst (LiesIn (l.ring + slot / 128) a) (sym size) (rw own.1 (slot_lies l.ring slot)),
+      )
+  move_touches Advances (event.Write port n word) real own = rw (own.2, own.3) h.based.tail
+  move_touches Looks (event.Peek16 a) real own = tt
+  move_touches Reaps (event.Take n) real own =
+      let c = h.counted in
+      let known : 0 < u.lent =
+      omega (arith, own.0, c.done_fetched, c.fetched_posted, c.posted_poked, c.poked_lent) in
+      subst Mine (sym own.1) (has_lent-segment u 0 c.lent_known known)
+  move_touches Elsewhere e real own = cc
+  move_touches m e real own = absurd own
 
   -- so it leaves what the receive half rests on
   pub move_spares : (v : Receive) → Each v (λ b. has_block s.memory b ≡ true)
-      → Each v (λ b. (n : ℕ) → IsTrue (has_lent u n) → b ≢ n) → (m : Move) (e : Event Block)
-      → is_elsewhere m ≡ false → IsOwn u m e → Leaves queue v s (after s e)
-  move_spares v lent apart m e real own = record {
-    receive = move_side m e real own;
-    mode = (settings_stand s e (move_setting m e real own)).mode;
+      → ((n : ℕ) → Mine n → Each v (λ b. b ≢ n)) → (e : Event Block) → Touches Tx queue (has_lent u) s e
+      → Leaves queue v s (after s e)
+  move_spares v lent apart e touches = record {
+    receive = touch_receive queue (has_lent u) s e touches;
+    mode = (settings_stand s e (touch_setting Tx queue (has_lent u) s e touches)).mode;
     vfs = (stays_within s e).vfs;
-    blocks =
-        each_map v (λ b. (has_block s.memory b ≡ true) × ((n : ℕ) → IsTrue (has_lent u n) → b ≢ n))
-        (λ b. LeavesBlock b s (after s e)) (λ b both. move_leaves b both.0 both.1 m e real own)
-        (each_both v (λ b. has_block s.memory b ≡ true) (λ b. (n : ℕ) → IsTrue (has_lent u n) → b ≢ n) lent apart);
+    blocks = λ b has. touch_leaves Tx queue (has_lent u) s b (lent b has) (λ n is. apart n is b has) e touches;
   }
 
 -- steps of the device on the driver's own queue: one of receiving writes into blocks that the receive half has lent,
@@ -238,7 +218,7 @@ module _ (queue : ℕ) (mine : Blocks) (s : State) (sound : IsSound s) (out : Li
             (subst (λ q. reply_to s event.RxStep ≡ Wrote q slot end desc at len) own told) in
             record {
               descriptor = inside_avoids (v.layout.ring + here.descriptor.part) n desc 16 here.descriptor.descriptor
-                  (λ e. away.ring here.descriptor.part here.descriptor.known (sym e));
+                  (λ e. each_ring v (λ b. b ≢ n) away here.descriptor.part here.descriptor.known (sym e));
               bytes = λ some.
                   inside_avoids (block_at v.layout here.slot) n at len here.bytes
                   (λ e. each_posted v (λ b. b ≢ n) away here.slot here.known (sym e));
@@ -279,11 +259,11 @@ reports_spare s queue sent u f h v apart back told =
     let head : report_of r queue ≡ descriptor_at l f =
     ap (λ b. cond b (word_of r Tdwbah queue * 2 ^ 32 + 4 * (word_of r Tdwbal queue / 4))
     (descriptor_address ring ring.head)) low
-    ∙ head_is s queue sent u f h in
+    ∙ head_is h in
     let c = h.counted in
     let below = slot-below l h.based.layout f
     (omega (arith, c.fetched_posted, c.posted_poked, c.poked_lent, c.lent_known, c.room)) in
     let part : ℕ = l.ring + slot_at l f / 128 in
     let here : back / 2048 ≡ part = ap (λ a. a / 2048) (at ∙ head) ∙ in_block l.ring (slot_at l f) in
-    each_map v (λ b. b ≢ part) (λ b. b ≢ back / 2048) (λ b ne e. ne (e ∙ here))
-    (apart part (has_lent-ring u (slot_at l f / 128) (slot_block l.size (slot_at l f) below)))
+    λ b has e.
+    apart part (has_lent-ring u (slot_at l f / 128) (slot_block l.size (slot_at l f) below)) b has (e ∙ here)

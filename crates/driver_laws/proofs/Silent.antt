@@ -1,26 +1,17 @@
 -- On a queue whose sides are off nothing is received or sent, over events that leave it alone and calls of a stop.
-use Rattle.std.proofs.Common.{[], ◌++◌, ◌∙◌, ◌∷◌, ◌≡◌, ◌≢◌, List, None, Option, Some, ap, append_assoc, cond, inl, inr}
-use Rattle.std.proofs.Common.{option_map, refl, subst, sym, ℕ}
-use Rattle.std.specs.Prelude.{◌==◌}
-use Rattle.std.proofs.lemmas.Bool.{cases_Bool, eqb-false}
+use Rattle.std.proofs.Common.{[], ◌++◌, ◌∙◌, ◌∷◌, ◌≡◌, List, None, Option, Some, ap, cond, inr, option_map, refl, subst}
+use Rattle.std.proofs.Common.{sym, ℕ}
 use Rattle.std.proofs.lemmas.List.{append-nil, append_cancel_left}
+use Rattle.ring_laws.specs.Delivered.{packets_if_any}
+use Rattle.ring_laws.proofs.HistoryLaws.Steady.{off_idle}
 use Rattle.driver_laws.specs.Prelude.{AtPort, Block, Blocks, Call, Entry, Event, IsEvent, Rx, State, Tx, Watched, after}
 use Rattle.driver_laws.specs.Prelude.{calls_of, is_on, leads_to, lent_by, pieces, pieces_since, sent_by, sent_since}
-use Rattle.driver_laws.proofs.Prelude.{IsAlong, IsEnding, IsMet, IsQuiet, calls_other, calls_own, idle_silent, left_deed}
-use Rattle.driver_laws.proofs.Prelude.{no_block}
-use Rattle.nic_device.specs.declared.event.Event.TheVariants as event
-use Rattle.ring_laws.proofs.Delivering.{since-append}
-use Rattle.ring_laws.proofs.HistoryLaws.Steady.{not_again, off_idle}
-use Rattle.ring_laws.specs.Delivered.{packets_if_any}
-use Rattle.ring_laws.specs.HistoryLaws.Sides.{IsOff}
-use Rattle.ring_laws.specs.Pieces.{Piece, packets_of}
-use Rattle.ring_laws.proofs.Counting.{sent_is_counted}
-use Rattle.driver_laws.specs.Ending.{Each}
-use Rattle.driver_laws.specs.Silent.{IsSilent, QuietQueueIsSilent}
-use Rattle.driver_laws.specs.Standing.{IsLeft}
-use Rattle.driver_laws.proofs.Parts.{calls_joined, still_some}
-use Rattle.driver_laws.proofs.Reached.{entry_is, foreign_left, reached_next}
+use Rattle.driver_laws.specs.{Ending.Each, Silent.IsSilent, Silent.QuietQueueIsSilent, Standing.IsLeft}
+use Rattle.driver_laws.proofs.Prelude.{IsAlong, IsEnding, IsMet, IsOff, IsQuiet, Piece, idle_silent, left_deed}
+use Rattle.driver_laws.proofs.Prelude.{no_block, not_again, packets_of, sent_is_counted, since-append}
 use Rattle.driver_laws.proofs.SwitchedOff.{ending_quiet, quiet_kept, step_left, watching}
+use Rattle.driver_laws.proofs.{Parts.calls_joined, Reached.entry_is, Reached.reached_next, Reached.walk}
+use Rattle.nic_device.specs.declared.event.Event.TheVariants as event
 
 -- an event by which nothing is received or sent, and behind which the sides are off
 record StaysQuiet (queue : ℕ) (q : AtPort) (frame : ℕ) (s : State) (e : Event Block) : Type 0 where
@@ -76,46 +67,33 @@ module _ {w : Watched} {origin : State} {h : List Entry} (q : AtPort) (frame : �
         quiet = subst (IsQuiet w.queue q frame) (sym (reached_next w origin now e)) stays.quiet;
         same = record {
           delivered =
-              ap packets_if_any (since-append w.queue origin None now (e ∷ []))
-              ∙ ap (λ b. packets_if_any
-              (cond b (Some []) (option_map (λ qs. qs ++ pieces w.queue s e.event) so_far))) rx
-              ∙ ap (λ ps. packets_if_any (option_map (λ qs. qs ++ ps) so_far)) stays.received
-              ∙ none_more so_far ∙ x.same.delivered;
+              rw (since-append w.queue origin None now (e ∷ []), rx, stays.received)
+              (none_more so_far ∙ x.same.delivered);
           sent =
-              sent_is_counted.joined w.queue origin [] now (e ∷ [])
-              ∙ ap (λ b. cond b [] (sent ++ sent_by w.queue s e.event)) tx
-              ∙ ap (λ more. sent ++ more) stays.sent ∙ append-nil sent ∙ x.same.sent;
+              rw (sent_is_counted.joined w.queue origin [] now (e ∷ []), tx, stays.sent)
+              (append-nil sent ∙ x.same.sent);
         };
       }
-
-  -- so it is over entries of others, and those of a stop
-  silent_over : (now rest : List Entry) → now ++ rest ≡ h → calls_of w.pass now ≢ []
-      → Each (λ c. IsEnding q c.event) (calls_of w.pass rest) → Silent now → IsSilent w origin h done
-  silent_over now [] all some ends x =
-      subst (λ (l : List Entry). IsSilent w origin l done) (sym (append-nil now) ∙ all) x.same
-  silent_over now (e ∷ rest) all some ends x =
-      let s = leads_to origin now in
-      let is = entry_is along now rest e all in
-      let on : StaysQuiet w.queue q frame s e.event → Each (λ c. IsEnding q c.event) (calls_of w.pass rest)
-      → IsSilent w origin h done =
-      λ stays later.
-      silent_over (now ++ e ∷ []) rest (append_assoc now (e ∷ []) rest ∙ all) (still_some w.pass now (e ∷ []) some)
-      later (silent_on now e stays x) in
-      elim (cases_Bool (e.pass == w.pass)) as (λ _. IsSilent w origin h done) [
-        | inl own ↦
-            let each = subst (Each (λ c. IsEnding q c.event)) (calls_own w.pass e rest own) ends in
-            on (ending_stays w.queue q frame s e.event is.met is.made each.0 x.quiet) each.1
-        | inr other ↦
-            let left = foreign_left along now rest e all some (eqb-false e.pass w.pass other) in
-            on (left_stays w (lent_by w.pass h) q frame s e.event left x.quiet)
-            (subst (Each (λ c. IsEnding q c.event)) (calls_other w.pass e rest other) ends)
-      ]
 
 pub quiet_queue_is_silent : QuietQueueIsSilent
 quiet_queue_is_silent w q frame origin h done rest old new along some at (ends, is, own) made all calls =
     let both = ap (λ (cs : List Call). cs ++ calls_of w.pass rest) (sym calls) ∙ sym (calls_joined w.pass done rest) in
     let later : calls_of w.pass rest ≡ ends =
     append_cancel_left old (calls_of w.pass rest) ends (both ∙ ap (calls_of w.pass) all ∙ made ∙ is) in
-    silent_over q frame along done done rest all (λ none. some (sym calls ∙ none))
-    (subst (Each (λ c. IsEnding q c.event)) (sym later) own)
-    (record { quiet = at done rest all calls; same = record { delivered = refl; sent = refl } })
+    let mine = lent_by w.pass h in
+    let over = walk along (λ now cs. Silent q frame along done now × Each (λ c. IsEnding q c.event) cs)
+    (λ cs now e left x. (
+      silent_on q frame along done now e (left_stays w mine q frame (leads_to origin now) e.event left x.0.quiet) x.0,
+      x.1,
+    ))
+    (λ now more e cs here made x.
+    let entry = entry_is along now more e here in (
+      silent_on q frame along done now e
+          (ending_stays w.queue q frame (leads_to origin now) e.event entry.met entry.made x.1.0 x.0.quiet) x.0,
+      x.1.1,
+    ))
+    done rest [] (append-nil (done ++ rest) ∙ all) (λ none. some (sym calls ∙ none)) (
+      record { quiet = at done rest all calls; same = record { delivered = refl; sent = refl } },
+      subst (Each (λ c. IsEnding q c.event)) (sym later) own,
+    ) in
+    subst (λ (l : List Entry). IsSilent w origin l done) all over.0.same

@@ -1,29 +1,21 @@
 -- Two sides that stand still are left so by every event that leaves the queue alone, and by a driver's accesses.
 use Rattle.std.proofs.Common.{[], ◌||◌, ◌∙◌, ◌≡◌, Bool, List, ap, false, inl, inr, refl, subst, sym, true, ℕ}
-use Rattle.std.specs.Prelude.{◌==◌, IsTrue}
 use Rattle.std.proofs.lemmas.Bool.{both_ways, cases_Bool, eqb-false, eqb-true, or_cases}
-use Rattle.std.specs.FinMap as map
+use Rattle.std.specs.Prelude.{◌==◌, IsTrue}
+use Rattle.nic_device.specs.State.{Waiting}
+use Rattle.nic_device.proofs.DmaArena.Bus.{get-insert_other, get-insert_same}
+use Rattle.ring_laws.proofs.HistoryLaws.Lent.{not_so}
 use Rattle.driver_laws.specs.Prelude.{Blocks, Dir, Memory, Rdbal, RowId, Rx, Side, State, Tdbal, Tx, after, begun_on}
 use Rattle.driver_laws.specs.Prelude.{enable_row, has_bit, is_empty, side_of, zero_block}
-use Rattle.driver_laws.proofs.Prelude.{and_one, idle_silent, left_deed, side_with, steady_kept}
-use Rattle.nic_device.proofs.Cases.{lent_cases}
-use Rattle.nic_device.proofs.DmaArena.Bus.{get-insert_other, get-insert_same}
-use Rattle.nic_device.specs.Outcome.{Outcome}
-use Rattle.nic_device.specs.State.{Waiting}
-use Rattle.nic_device.specs.Step.{step_of}
+use Rattle.driver_laws.specs.{Moves.LendStands, Moves.MayGoOn, Moves.ReadStands, Moves.WriteStands}
+use Rattle.driver_laws.specs.{Standing.StandingSidesAreLeft}
+use Rattle.driver_laws.proofs.Prelude.{IsIdle, IsZero, Outcome, Stand, Stands, across, and_one, begun_stays}
+use Rattle.driver_laws.proofs.Prelude.{idle_silent, idle_steady, left_deed, left_did, lent_cases, none_staged}
+use Rattle.driver_laws.proofs.Prelude.{queues_left, read_rest, side_seen, side_with, steady_kept, step_of, told_on}
+use Rattle.driver_laws.proofs.Words.{driven, each_side, words_taken}
+use Rattle.std.specs.FinMap as map
 use Rattle.nic_device.specs.declared.event.Event.TheVariants as event
 use Rattle.nic_device.specs.declared.event.Reply.TheVariants as reply
-use Rattle.ring_laws.proofs.Begun.{begun_stays}
-use Rattle.ring_laws.proofs.DeviceLaws.StandingAccesses.{read_rest}
-use Rattle.ring_laws.proofs.HistoryLaws.Steady.{told_on}
-use Rattle.ring_laws.proofs.HistoryLaws.Deeds.{left_did}
-use Rattle.ring_laws.proofs.HistoryLaws.Lent.{not_so}
-use Rattle.ring_laws.proofs.HistoryLaws.Leaving.{queues_left}
-use Rattle.ring_laws.proofs.HistoryLaws.Steady.{IsIdle, idle_steady, none_staged}
-use Rattle.driver_laws.specs.Moves.{LendStands, MayGoOn, ReadStands, WriteStands, side_seen}
-use Rattle.driver_laws.specs.Standing.{IsZero, Stand, StandingSidesAreLeft, Stands}
-use Rattle.driver_laws.specs.Words.{across}
-use Rattle.driver_laws.proofs.Words.{driven, each_side, words_taken}
 
 -- a side that stands so is off, or its ring is empty
 stands_idle : (side : Side) → IsIdle (λ x. Stands x side)

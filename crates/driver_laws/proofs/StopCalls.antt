@@ -1,32 +1,30 @@
 -- Calls of a kind, one after the other and with steps of the device beside them: those of a driver's accesses, made or
 -- failed, those that lend its blocks, and those of its stop; and which blocks a pass lends by them.
 use Rattle.std.proofs.Common.{[], ◌++◌, ◌+◌, ◌-◌, ◌<◌, ◌∙◌, ◌∷◌, ◌≡◌, ◌≢◌, Bool, List, ap, append_assoc, arith, false}
-use Rattle.std.proofs.Common.{inl, inr, length, refl, subst, suc, sym, true, zero, ℕ}
-use Rattle.std.specs.Prelude.{⊤, ◌==◌, IsFalse}
+use Rattle.std.proofs.Common.{inl, inr, refl, subst, suc, sym, true, zero, ℕ}
 use Rattle.std.proofs.lemmas.Bool.{and_from, eq-eqb, lt-ltb, or_left, or_right}
-use Rattle.std.proofs.lemmas.List.{append-nil}
-use Rattle.std.specs.List.{range_with_len}
-use Rattle.driver_laws.specs.Prelude.{Access, AreMade, AreSteps, AtPort, Block, Blocks, Call, DeviceFault, Dir}
-use Rattle.driver_laws.specs.Prelude.{EachRingBlock, Entry, Event, IsEvent, IsMade, IsNumberOf, IsPrepared, IsSwitched}
-use Rattle.driver_laws.specs.Prelude.{LendsEach, Numbers, PmdFault, Port, Reply, RowId, Rx, Sees, Sets, StartTimeout}
-use Rattle.driver_laws.specs.Prelude.{State, SwitchFails, Tx, Watched, blocks_for, both_asked, call_in, call_of}
-use Rattle.driver_laws.specs.Prelude.{enable_row, has_bit, is_step, lent_by, missed, polled, receive_polled, ring_blocks}
-use Rattle.driver_laws.specs.Prelude.{ring_words, zero_block}
-use Rattle.driver_laws.proofs.Prelude.{AllAre, AtEntries, IsAlong, IsEnding, and_one}
+use Rattle.std.specs.Prelude.{⊤, ◌==◌, IsFalse}
+use Rattle.std.{proofs.lemmas.List.append-nil, specs.List.range_with_len}
 use Rattle.device_lock.specs.Alone.{lends}
-use Rattle.nic_device.specs.declared.event.Event.TheVariants as event
-use Rattle.nic_device.specs.declared.event.Reply.TheVariants as reply
-use Rattle.pmd.specs.PmdSeam.Home.{Bringing, BringsOne}
-use Rattle.pmd.specs.PmdSeam.Made.{Adds, AddsSome}
-use Rattle.pmd.specs.PmdSeam.QueueMade.{FailsBy, IsOtherwise, IsStrayRead, StopsBy}
-use Rattle.pmd.specs.PmdSeam.Sides.{PollsEnd}
-use Rattle.pmd.specs.PmdSeam.declared.fault.PmdFault.TheVariants as fault
+use Rattle.pmd.specs.{PmdSeam.Home.Bringing, PmdSeam.Home.BringsOne, PmdSeam.Made.Adds, PmdSeam.Made.AddsSome}
+use Rattle.pmd.specs.{PmdSeam.QueueMade.FailsBy}
 use Rattle.ring_laws.proofs.HistoryLaws.Alone.{lent_behind}
 use Rattle.driver_laws.specs.Ending.{Each, IsAsking}
-use Rattle.driver_laws.specs.Stopping.{AreMadeOf, Asks, BringingEnds, Ends, SwitchedOffAsks, UnswitchedAsks}
-use Rattle.driver_laws.proofs.Made.{all_before, all_both, all_missed, all_polled, first_made}
-use Rattle.driver_laws.proofs.Parts.{around, more_some}
-use Rattle.driver_laws.proofs.Reached.{entry_is}
+use Rattle.driver_laws.specs.Prelude.{Access, AreMade, AreSteps, AtPort, Block, Blocks, Call, DeviceFault, Dir}
+use Rattle.driver_laws.specs.Prelude.{EachRingBlock, Entry, Event, IsEvent, IsMade, IsNumberOf, IsPrepared}
+use Rattle.driver_laws.specs.Prelude.{IsReceiveReady, IsSwitched, LendsEach, Numbers, PmdFault, Port, Receive, Reply}
+use Rattle.driver_laws.specs.Prelude.{RowId, Rx, Sees, Sets, StartTimeout, State, SwitchFails, Tx, Watched, blocks_for}
+use Rattle.driver_laws.specs.Prelude.{both_asked, both_quiet, call_in, call_of, enable_row, has_bit, is_step, lent_by}
+use Rattle.driver_laws.specs.Prelude.{missed, polled, receive_polled, ring_blocks, ring_words, zero_block}
+use Rattle.driver_laws.specs.Stopping.{Asks, BringingEnds, SwitchedOffAsks, UnswitchedAsks}
+use Rattle.driver_laws.proofs.Prelude.{AllAre, AreMadeOf, AtEntries, Ends, IsAlong, IsEnding, IsOtherwise, IsPlain}
+use Rattle.driver_laws.proofs.Prelude.{IsStrayRead, PollsEnd, StopsBy, and_one}
+use Rattle.driver_laws.proofs.{Ground.IsDriven, Ground.words_are_writes, Ground.writes_driven, Made.all_before}
+use Rattle.driver_laws.proofs.{Made.all_both, Made.all_missed, Made.all_polled, Parts.around, Parts.more_some}
+use Rattle.driver_laws.proofs.{Reached.entry_is}
+use Rattle.nic_device.specs.declared.event.Event.TheVariants as event
+use Rattle.nic_device.specs.declared.event.Reply.TheVariants as reply
+use Rattle.pmd.specs.PmdSeam.declared.fault.PmdFault.TheVariants as fault
 
 module _ (P : Event Block → Type 0) where
   -- calls in parts
@@ -45,6 +43,9 @@ module _ (P : Event Block → Type 0) where
     two ∙ ap (λ (l : List Call). l ++ ds) one ∙ append_assoc old cs ds,
     each_both cs ds are more,
   )
+
+  pub stays_some : (old new : List Call) → AreMadeOf P old new → old ≢ [] → new ≢ []
+  stays_some old new (more, is, are) some none = more_some old more some (sym is ∙ none)
 
   -- where steps of the device are such
   module _ (stepping : (e : Event Block) → is_step e ≡ true → P e) where
@@ -143,22 +144,21 @@ module _ (q : AtPort) (P : Event Block → Type 0) (K : Access → Type 0)
         then_made P old mid new (accesses_are (receive_polled on first) old mid (receive_own first) made)
         (polls_are f Tx (1000 - first) mid new polls)
 
--- some calls are added, whichever
+-- what a driver writes as it starts are registers of its queue
 
-abbrev pub Grows : List Call → List Call → Type 0
-Grows old new = AreMadeOf (λ e. ⊤) old new
+step_plain : (q : AtPort) (e : Event Block) → is_step e ≡ true → IsPlain q e
+step_plain q (event.Write port number word) is = cc
+step_plain q e is = tt
 
-all_some : (all : List Access) → AllAre (λ a. ⊤) all
-all_some [] = tt
-all_some (a ∷ rest) = (tt, all_some rest)
+pub accesses_plain : (q : AtPort) (all : List Access) (old new : List Call) → AllAre IsDriven all
+    → AreMade q old new all → AreMadeOf (IsPlain q) old new
+accesses_plain q =
+    accesses_are q (IsPlain q) IsDriven (step_plain q) (λ port number. tt)
+    (λ row word number own named. (row, refl, own, named))
 
-pub accesses_add : (q : AtPort) (all : List Access) (old new : List Call) → AreMade q old new all → Grows old new
-accesses_add q all old new made =
-    accesses_are q (λ e. ⊤) (λ a. ⊤) (λ e is. tt) (λ port number. tt) (λ row word number own named. tt) all old new
-    (all_some all) made
-
-pub lends_add : (ns : List ℕ) (old new : List Call) → LendsEach old new ns → Grows old new
-lends_add = lends_are (λ e. ⊤) (λ e is. tt) (λ n. tt)
+lends_plain : (q : AtPort) (ns : List ℕ) (old new : List Call) → LendsEach old new ns
+    → AreMadeOf (IsPlain q) old new
+lends_plain q = lends_are (IsPlain q) (step_plain q) (λ n. tt)
 
 -- a step of the device asks, and calls that ask are those of a stop
 module _ (q : AtPort) where
@@ -227,8 +227,8 @@ pub record Has (c : Call) (calls : List Call) : Type 0 where
   pub behind : List Call
   pub all : calls ≡ before ++ c ∷ behind
 
-pub has_more : (c : Call) (calls new : List Call) → Grows calls new → Has c calls → Has c new
-has_more c calls new (more, is, any) has = record {
+pub has_more : (c : Call) (calls new : List Call) → (more : List Call) × (new ≡ calls ++ more) → Has c calls → Has c new
+has_more c calls new (more, is) has = record {
   before = has.before;
   behind = has.behind ++ more;
   all = is ∙ ap (λ xs. xs ++ more) has.all ∙ append_assoc has.before (c ∷ has.behind) more;
@@ -268,26 +268,14 @@ lent_along {w = w} {h = h} number calls along has done rest all is =
 
 -- where a ring was prepared some calls were made, and each of its blocks was lent by one of them
 
-listed_some : (q : AtPort) (all : List Access) (old new : List Call) → 0 < length all → AreMade q old new all → new ≢ []
-listed_some q [] old new some made = absurd (omega (arith, some))
-listed_some q (a ∷ rest) old new some made = first_made q a rest old new made
-
-words_some : (q : AtPort) (side : Dir) (ring size : ℕ) (old new : List Call)
-    → AreMade q old new (ring_words side ring size) → new ≢ []
-words_some q Rx ring size old new made = listed_some q (ring_words Rx ring size) old new (omega arith) made
-words_some q Tx ring size old new made = listed_some q (ring_words Tx ring size) old new (omega arith) made
-
-pub lends_some : (ns : List ℕ) (old new : List Call) → LendsEach old new ns → old ≢ [] → new ≢ []
-lends_some ns old new lent some none =
-    let (more, is, any) = lends_add ns old new lent in more_some old more some (sym is ∙ none)
-
 run_has : (many first k : ℕ) (old new : List Call) → LendsEach old new (range_with_len first many) → k < many
     → Has (lending (first + k)) new
 run_has zero first k old new is below = absurd (omega (arith, below))
 run_has (suc many) first zero old new (mid, lent, rest) below =
     let at : first ≡ first + 0 = omega arith in
+    let later = lends_are (λ e. ⊤) (λ e is. tt) (λ n. tt) (range_with_len (first + 1) many) mid new rest in
     subst (λ (n : ℕ). Has (lending n) new) at
-    (has_more (lending first) mid new (lends_add (range_with_len (first + 1) many) mid new rest) (record {
+    (has_more (lending first) mid new (later.0, later.1) (record {
       before = old ++ lent.0;
       behind = [];
       all = lent.1 ∙ sym (append_assoc old lent.0 (lending first ∷ []));
@@ -298,16 +286,23 @@ run_has (suc many) first (suc k) old new (mid, lent, rest) below =
 
 module _ {q : AtPort} {side : Dir} {size : ℕ} {old : List Call} {a : Numbers} {new : List Call} {b : Numbers} {ring : ℕ}
     (x : IsPrepared q side size old a new b ring) where
-  pub prepared_some : new ≢ []
-  prepared_some = lends_some (ring_blocks ring size) x.mid new x.lent (words_some q side ring size old x.mid x.words)
-
   pub prepared_has : EachRingBlock ring size (λ n. Has (lending n) new)
   prepared_has k below = run_has (blocks_for size) ring k x.mid new x.lent below
 
-  pub prepared_adds : Grows old new
-  prepared_adds =
-      then_made (λ e. ⊤) old x.mid new (accesses_add q (ring_words side ring size) old x.mid x.words)
-      (lends_add (ring_blocks ring size) x.mid new x.lent)
+  pub prepared_plain : AreMadeOf (IsPlain q) old new
+  prepared_plain =
+      let words = ring_words side ring size in
+      then_made (IsPlain q) old x.mid new
+      (accesses_plain q words old x.mid (writes_driven words (words_are_writes side ring size)) x.words)
+      (lends_plain q (ring_blocks ring size) x.mid new x.lent)
+
+-- both sides are seen off before the receive ring is
+pub ready_plain : {q : AtPort} {size frame : ℕ} {old : List Call} {a : Numbers} {new : List Call} {b : Numbers}
+    {v : Receive} → IsReceiveReady q size frame old a new b v → AreMadeOf (IsPlain q) old new
+ready_plain {q = q} {old = old} {new = new} x =
+    then_made (IsPlain q) old x.mid new
+    (accesses_plain q both_quiet old x.mid (refl, (refl, (refl, (refl, (refl, (refl, tt)))))) x.quiet)
+    (prepared_plain x.prepared)
 
 -- the blocks of a list are among those that are lent
 

@@ -2,37 +2,27 @@
 -- are asked off and seen off, and stay so.
 use Rattle.std.proofs.Common.{[], ◌&&◌, ◌++◌, ◌∙◌, ◌∷◌, ◌≡◌, ◌≢◌, Bool, List, Some, ap, false, inl, inr, not, refl}
 use Rattle.std.proofs.Common.{subst, sym, true, ℕ}
-use Rattle.std.specs.Prelude.{IsFalse}
-use Rattle.std.proofs.lemmas.Bool.{both_ways}
+use Rattle.std.{proofs.lemmas.Bool.both_ways, specs.Prelude.IsFalse}
+use Rattle.nic_device.specs.declared.event.Reply.TheVariants.{Advanced, Sent}
+use Rattle.ring_laws.specs.HistoryLaws.Sides.{IsUnwanted}
+use Rattle.ring_laws.proofs.HistoryLaws.Steady.{IsSteady, deed_settles, off_steady, seen_off, unwanted_steady}
 use Rattle.driver_laws.specs.Prelude.{Access, AreMade, AtPort, Block, Blocks, Call, Dir, Entry, Event, IsEvent, IsMade}
 use Rattle.driver_laws.specs.Prelude.{IsNumberOf, LeavesBlocks, LeavesRegisters, Reply, Rx, Rxdctl, Sees, Sets, Side}
-use Rattle.driver_laws.specs.Prelude.{State, Tx, Txdctl, Watched, after, enable_row, has_bit, is_step, leads_to, lent_by}
-use Rattle.driver_laws.specs.Prelude.{missed, mode_in, polled, quiet, receive_polled, reply_to, side_of}
-use Rattle.driver_laws.proofs.Prelude.{AllAre, AtCalls, HasGround, IsAlong, IsEnding, IsKept, IsMet, IsPlain, IsQuiet}
-use Rattle.driver_laws.proofs.Prelude.{Leads, NamesRow, left_deed, no_block, steady_kept}
-use Rattle.device_lock.specs.Alone.{WritesOutside}
-use Rattle.nic_device.specs.declared.event.Event.TheVariants as event
-use Rattle.nic_device.specs.declared.event.Reply.TheVariants.{Advanced, Sent, Wrote}
-use Rattle.pmd.proofs.PmdSeam.QueueSequences.{both_made}
-use Rattle.ring_laws.proofs.Foreign.{no_registers}
-use Rattle.ring_laws.proofs.DeviceLaws.Standing.{memory_rest}
-use Rattle.ring_laws.proofs.DeviceLaws.StandingAccesses.{read_rest}
-use Rattle.ring_laws.proofs.Fitting.{none_begun_while_off}
-use Rattle.ring_laws.proofs.HistoryLaws.Leaving.{queues_left}
-use Rattle.ring_laws.proofs.HistoryLaws.Steady as steady
-use Rattle.ring_laws.proofs.HistoryLaws.Steady.{IsSteady, asked, deed_settles, off_steady, seen_off, unwanted_steady}
-use Rattle.ring_laws.specs.HistoryLaws.Left.{Deed}
-use Rattle.ring_laws.specs.HistoryLaws.Sides.{IsOff, IsUnwanted}
-use Rattle.driver_laws.specs.Quiet.{OffSidesStand, ReceiveGuardIsOff}
-use Rattle.driver_laws.specs.Quieting.{QuietSidesStand, QuietingLeads}
-use Rattle.driver_laws.specs.Silent.{SwitchingOffLeads}
-use Rattle.driver_laws.specs.Standing.{IsLeft, Stands}
+use Rattle.driver_laws.specs.Prelude.{State, Tx, Txdctl, Watched, after, enable_row, has_bit, is_step, leads_to}
+use Rattle.driver_laws.specs.Prelude.{lent_by, missed, mode_in, polled, quiet, receive_polled, reply_to, side_of}
+use Rattle.driver_laws.specs.{Quiet.OffSidesStand, Quiet.ReceiveGuardIsOff, Quieting.QuietSidesStand}
+use Rattle.driver_laws.specs.{Quieting.QuietingLeads, Silent.SwitchingOffLeads, Standing.IsLeft}
 use Rattle.driver_laws.proofs.Ground.{ground_kept, ground_names, plain_keeps, read_ground, write_ground}
-use Rattle.driver_laws.proofs.Made.{OfCall, access_leads, accesses_keep, all_both, all_missed, all_polled, first_seen}
-use Rattle.driver_laws.proofs.Made.{made_some, of_map, some_made}
-use Rattle.driver_laws.proofs.Reached.{free_left, sound_at}
-use Rattle.driver_laws.proofs.StopCalls.{MayAsk, may_asks}
-use Rattle.driver_laws.proofs.Words.{each_side, side_driven}
+use Rattle.driver_laws.proofs.Made.{access_leads, all_missed, all_polled, first_seen, made_some}
+use Rattle.driver_laws.proofs.Prelude.{AllAre, AtCalls, Deed, Ends, HasGround, IsAlong, IsEnding, IsKept, IsMet, IsOff}
+use Rattle.driver_laws.proofs.Prelude.{IsPlain, IsQuiet, NamesRow, Stands, WritesOutside, Wrote, asked, left_deed}
+use Rattle.driver_laws.proofs.Prelude.{memory_rest, no_block, no_registers, none_begun_while_off, queues_left}
+use Rattle.driver_laws.proofs.Prelude.{read_rest, steady_kept}
+use Rattle.driver_laws.proofs.StopCalls.{MayAsk, accesses_are, may_asks, none_made, stays_some, step_ends, then_made}
+use Rattle.driver_laws.proofs.{Reached.free_left, Reached.made_keep, Reached.sound_at, Words.each_side}
+use Rattle.driver_laws.proofs.{Words.side_driven}
+use Rattle.nic_device.specs.declared.event.Event.TheVariants as event
+use Rattle.ring_laws.proofs.HistoryLaws.Steady as steady
 
 abbrev pub IsSettled : Dir → ℕ → State → Type 0
 IsSettled dir queue s = steady.IsSettled (side_of dir queue s)
@@ -160,10 +150,10 @@ ending_quiet queue q frame s e met made ends b = record {
   transmit = ending_keeps IsOff off_shutting queue q frame s Tx e met made ends b.ground b.transmit;
 }
 
--- calls that ask are those of a stop
-pub may_call : (q : AtPort) (a : Access) → MayAsk a → OfCall q a (λ c. IsEnding q c.event)
-may_call q (Sees row on) may = λ number word named is. tt
-may_call q (Sets row word) may = λ number named. may_asks q row word number may named
+-- accesses that ask are calls of a stop
+pub asks_are : (q : AtPort) (all : List Access) (old new : List Call) → AllAre MayAsk all → AreMade q old new all
+    → Ends q old new
+asks_are q = accesses_are q (IsEnding q) MayAsk (step_ends q) (λ port number. tt) (may_asks q)
 
 -- over a history, one side
 module _ {w : Watched} {origin : State} {h : List Entry} (q : AtPort) (frame : ℕ) (along : IsAlong w origin h)
@@ -185,32 +175,28 @@ module _ {w : Watched} {origin : State} {h : List Entry} (q : AtPort) (frame : �
       → NamesRow s q.port number (enable_row dir) w.queue
   names s g number named = ground_names w.queue q frame s g (enable_row dir) number (side_driven dir) named
 
-  -- accesses that ask keep what they find
-  asking_keeps : (P : Side → Type 0) → IsShutting P → (all : List Access) (old new : List Call) → AllAre MayAsk all
-      → AreMade q old new all → old ≢ [] → AtCalls w origin h old (One P) → AtCalls w origin h new (One P)
+  -- calls of a stop keep what they find
+
+  asking_keeps : (P : Side → Type 0) → IsShutting P → (old new : List Call) → Ends q old new → old ≢ []
+      → AtCalls w origin h old (One P) → AtCalls w origin h new (One P)
   asking_keeps P is =
-      accesses_keep q along MayAsk (One P) (one_kept P is.stays)
-      (λ a may. of_map q a (λ c. IsEnding q c.event) (λ c. Leads w.queue c (One P) (One P))
-      (λ c ends s met made told (g, p). (
-        plain_keeps w.queue q frame s c.event (ending_plain q c.event ends) g,
-        ending_keeps P is w.queue q frame s dir c.event met made ends g p,
-      )) (may_call q a may))
+      made_keep (One P) (IsEnding q) along (one_kept P is.stays)
+      (λ s e met made ends (g, p). (
+        plain_keeps w.queue q frame s e (ending_plain q e ends) g,
+        ending_keeps P is w.queue q frame s dir e met made ends g p,
+      ))
 
-  ground_keeps : (all : List Access) (old new : List Call) → AllAre MayAsk all → AreMade q old new all → old ≢ []
-      → AtCalls w origin h old Ground → AtCalls w origin h new Ground
+  ground_keeps : (old new : List Call) → Ends q old new → old ≢ [] → AtCalls w origin h old Ground
+      → AtCalls w origin h new Ground
   ground_keeps =
-      accesses_keep q along MayAsk Ground (ground_kept w mine q frame)
-      (λ a may. of_map q a (λ c. IsEnding q c.event) (λ c. Leads w.queue c Ground Ground)
-      (λ c ends s met made told g. plain_keeps w.queue q frame s c.event (ending_plain q c.event ends) g)
-      (may_call q a may))
+      made_keep Ground (IsEnding q) along (ground_kept w mine q frame)
+      (λ s e met made ends g. plain_keeps w.queue q frame s e (ending_plain q e ends) g)
 
-  -- amid such accesses the side is asked off, and seen off then
-  shut_at : (before between behind : List Access) (old m1 m2 m3 m4 new : List Call) → AllAre MayAsk before
-      → AllAre MayAsk between → AllAre MayAsk behind → AreMade q old m1 before
-      → IsMade q m1 m2 (Sets (enable_row dir) 0) → AreMade q m2 m3 between
-      → IsMade q m3 m4 (Sees (enable_row dir) false) → AreMade q m4 new behind → old ≢ []
-      → AtCalls w origin h old Ground → AtCalls w origin h new (One IsOff)
-  shut_at before between behind old m1 m2 m3 m4 new one two three first asks then sees rest some at =
+  -- amid such calls the side is asked off, and seen off then
+  shut_at : (old m1 m2 m3 m4 new : List Call) → Ends q old m1 → IsMade q m1 m2 (Sets (enable_row dir) 0) → Ends q m2 m3
+      → IsMade q m3 m4 (Sees (enable_row dir) false) → Ends q m4 new → old ≢ [] → AtCalls w origin h old Ground
+      → AtCalls w origin h new (One IsOff)
+  shut_at old m1 m2 m3 m4 new first asks then sees rest some at =
       let some_two = made_some q m1 m2 (Sets (enable_row dir) 0) asks in
       let asked_at = access_leads q along Ground (One IsUnwanted) (Sets (enable_row dir) 0)
       (ground_kept w mine q frame) (one_kept IsUnwanted unwanted_steady)
@@ -219,17 +205,16 @@ module _ {w : Watched} {origin : State} {h : List Entry} (q : AtPort) (frame : �
         ap (λ (x : Side). x.wanted)
             (asked w.queue s met.sound met.small q.port number 0 dir (names s g number named)),
       ))
-      m1 m2 asks (some_made q before old m1 first some) (ground_keeps before old m1 one first some at) in
+      m1 m2 asks (stays_some (IsEnding q) old m1 first some) (ground_keeps old m1 first some at) in
       let off_at = access_leads q along (One IsUnwanted) (One IsOff) (Sees (enable_row dir) false)
       (one_kept IsUnwanted unwanted_steady) (one_kept IsOff off_steady)
       (λ number word named zero s met made told (g, none). (
         read_ground w.queue q frame s number g,
         seen_off w.queue s q.port number word (sym told) dir (names s g number named) zero none,
       ))
-      m3 m4 sees (some_made q between m2 m3 then some_two)
-      (asking_keeps IsUnwanted unwanted_shutting between m2 m3 two then some_two asked_at) in
-      asking_keeps IsOff off_shutting behind m4 new three rest (made_some q m3 m4 (Sees (enable_row dir) false) sees)
-      off_at
+      m3 m4 sees (stays_some (IsEnding q) m2 m3 then some_two)
+      (asking_keeps IsUnwanted unwanted_shutting m2 m3 then some_two asked_at) in
+      asking_keeps IsOff off_shutting m4 new rest (made_some q m3 m4 (Sees (enable_row dir) false) sees) off_at
 
 -- both sides are seen off where each is
 both_off : {w : Watched} {origin : State} {h : List Entry} (q : AtPort) (frame : ℕ) (along : IsAlong w origin h)
@@ -240,19 +225,18 @@ both_off q frame along calls receive transmit done rest all is =
     let (ground, off) = receive done rest all is in
     record { ground = ground; receive = off; transmit = (transmit done rest all is).1 }
 
-quiet_may : (side : Dir) → AllAre MayAsk (quiet side)
-quiet_may side = (tt, ((side, refl, refl), (tt, tt)))
-
 pub quieting_leads : QuietingLeads
 quieting_leads w q frame origin h old new along (m1, a1, (m2, a2, (m3, a3, (m4, a4, (m5, a5, (m6, a6, e)))))) at =
     let some = made_some q old m1 (Sees Rxdctl false) a1 in
     let named = first_seen w q origin h (HasGround w.queue q frame) along (ground_kept w (lent_by w.pass h) q frame)
     (λ s number g. read_ground w.queue q frame s number g) Rxdctl false old m1 a1 at in
+    let none : (made : List Call) → Ends q made made = λ made. none_made (IsEnding q) made made refl in
     both_off q frame along new
-    (shut_at q frame along Rx [] [] (quiet Tx) m1 m1 m2 m2 m3 new tt tt (quiet_may Tx) refl a2 refl a3
-    (m4, a4, (m5, a5, (m6, a6, e))) some named)
-    (shut_at q frame along Tx (Sets Rxdctl 0 ∷ Sees Rxdctl false ∷ Sees Txdctl false ∷ []) [] [] m1 m4 m5 m5
-    m6 new ((Rx, refl, refl), (tt, (tt, tt))) tt tt (m2, a2, (m3, a3, (m4, a4, refl))) a5 refl a6 e some named)
+    (shut_at q frame along Rx m1 m1 m2 m2 m3 new (none m1) a2 (none m2) a3
+    (asks_are q (quiet Tx) m3 new (tt, ((Tx, refl, refl), (tt, tt))) (m4, a4, (m5, a5, (m6, a6, e)))) some named)
+    (shut_at q frame along Tx m1 m4 m5 m5 m6 new
+    (asks_are q (Sets Rxdctl 0 ∷ Sees Rxdctl false ∷ Sees Txdctl false ∷ []) m1 m4 ((Rx, refl, refl), (tt, (tt, tt)))
+    (m2, a2, (m3, a3, (m4, a4, refl)))) a5 (none m5) a6 (none_made (IsEnding q) m6 new e) some named)
 
 -- accesses in two parts
 both_parts : (q : AtPort) (xs ys : List Access) (old new : List Call) → AreMade q old new (xs ++ ys)
@@ -269,16 +253,19 @@ switching_off_leads w q frame origin h old new along (first, second, few, made) 
     both_parts q (missed Rx false first) (Sees Rxdctl false ∷ []) m2 mid polls in
     let (m5, missed_tx, (m6, seen_tx, e)) =
     both_parts q (missed Tx false second) (Sees Txdctl false ∷ []) mid new more in
-    let reads : (side : Dir) (seen : Bool) → MayAsk (Sees (enable_row side) seen) = λ side seen. tt in
+    let polled_ends : (side : Dir) (n : ℕ) (a b : List Call) → AreMade q a b (polled side false n) → Ends q a b =
+    λ side n a b. asks_are q (polled side false n) a b (all_polled MayAsk false (λ side seen. tt) side n) in
+    let missed_ends : (side : Dir) (n : ℕ) (a b : List Call) → AreMade q a b (missed side false n) → Ends q a b =
+    λ side n a b. asks_are q (missed side false n) a b (all_missed MayAsk false (λ side seen. tt) side n) in
+    let asked_ends : (side : Dir) (a b : List Call) → IsMade q a b (Sets (enable_row side) 0) → Ends q a b =
+    λ side a b is. asks_are q (Sets (enable_row side) 0 ∷ []) a b ((side, refl, refl), tt) (b, is, refl) in
     both_off q frame along new
-    (shut_at q frame along Rx [] (Sets Txdctl 0 ∷ missed Rx false first) (polled Tx false second) old old m1
-    m3 m4 new tt ((Tx, refl, refl), all_missed MayAsk false reads Rx first) (all_polled MayAsk false reads Tx second)
-    refl a1 (m2, a2, missed_rx) seen_rx (subst (λ m. AreMade q m new (polled Tx false second)) is more) some at)
-    (shut_at q frame along Tx (Sets Rxdctl 0 ∷ []) (polled Rx false first ++ missed Tx false second) [] old
-    m1 m2 m5 m6 new ((Rx, refl, refl), tt)
-    (all_both MayAsk (polled Rx false first) (missed Tx false second) (all_polled MayAsk false reads Rx first)
-    (all_missed MayAsk false reads Tx second)) tt (m1, a1, refl) a2
-    (both_made q m2 mid m5 (polled Rx false first) (missed Tx false second) polls missed_tx) seen_tx e some at)
+    (shut_at q frame along Rx old old m1 m3 m4 new (none_made (IsEnding q) old old refl) a1
+    (then_made (IsEnding q) m1 m2 m3 (asked_ends Tx m1 m2 a2) (missed_ends Rx first m2 m3 missed_rx)) seen_rx
+    (polled_ends Tx second m4 new (subst (λ m. AreMade q m new (polled Tx false second)) is more)) some at)
+    (shut_at q frame along Tx old m1 m2 m5 m6 new (asked_ends Rx old m1 a1) a2
+    (then_made (IsEnding q) m2 mid m5 (polled_ends Rx first m2 mid polls) (missed_ends Tx second mid m5 missed_tx))
+    seen_tx (none_made (IsEnding q) m6 new e) some at)
 
 -- a receive side that isn't wanted on stays so
 

@@ -2,22 +2,19 @@
 -- the fresh sides that that leads to, where device and driver agree.
 use Rattle.std.proofs.Common.{[], ◌%◌, ◌*◌, ◌++◌, ◌+◌, ◌/◌, ◌<◌, ◌^◌, ◌∙◌, ◌∷◌, ◌≡◌, ◌≤◌, Bool, List, None, ap, arith}
 use Rattle.std.proofs.Common.{false, inl, refl, replicate, suc, true, zero, ℕ}
-use Rattle.std.specs.Prelude.{nat_le}
-use Rattle.std.proofs.Math.Bool.{or-false}
 use Rattle.std.proofs.lemmas.Bool.{and_parts, both_ways, leb-true, or_right}
+use Rattle.std.{proofs.Math.Bool.or-false, specs.Prelude.nat_le}
+use Rattle.pmd.specs.PmdSeam.Frames.{longest_frame, shortest_frame}
+use Rattle.ring_laws.proofs.{Kept.first_place, Kept.inside_of, Leaving.start_agrees}
+use Rattle.driver_laws.specs.Moves.{FreshReceiveAgrees, FreshTransmitAgrees, fresh_ring, fresh_side}
+use Rattle.driver_laws.specs.Points.{MayWrite}
 use Rattle.driver_laws.specs.Prelude.{Access, Dir, Memory, Rdbah, Rdbal, Rdh, Rdlen, Rdt, Ring, RowId, Rx, Rxdctl, Sees}
 use Rattle.driver_laws.specs.Prelude.{Sets, Side, Srrctl, Tdbah, Tdbal, Tdh, Tdlen, Tdt, Tdwbal, Tx, Txdctl, enable_row}
 use Rattle.driver_laws.specs.Prelude.{has_block, is_empty, is_frame, missed, packet_limit, polled, receive_polled}
 use Rattle.driver_laws.specs.Prelude.{ring_words}
-use Rattle.driver_laws.proofs.Prelude.{Fits, Sides, after_accesses, side_with}
-use Rattle.pmd.proofs.PmdSeam.Rings.{some_blocks}
-use Rattle.pmd.specs.PmdSeam.Frames.{longest_frame, shortest_frame}
-use Rattle.ring_laws.proofs.Kept.{first_place, inside_of}
-use Rattle.ring_laws.proofs.Leaving.{start_agrees}
-use Rattle.driver_laws.specs.Moves.{FreshReceiveAgrees, FreshTransmitAgrees, IsSized, fresh_ring, fresh_side, side_seen}
-use Rattle.driver_laws.specs.Points.{AllMay, IsEnable, MayWrite, after_access, seen_by}
-use Rattle.driver_laws.specs.Standing.{IsZero}
 use Rattle.driver_laws.proofs.Points.{laid_with}
+use Rattle.driver_laws.proofs.Prelude.{AllMay, Fits, IsEnable, IsSized, IsZero, Sides, after_access, after_accesses}
+use Rattle.driver_laws.proofs.Prelude.{seen_by, side_seen, side_with, some_blocks}
 
 -- the sides after the words of both rings were written and their blocks lent
 abbrev pub laid : (ring size other : ℕ) → Sides → Sides

@@ -1,29 +1,25 @@
 -- A start that times out polled 1,000 times, and its polls are among its pass's calls.
 use Rattle.std.proofs.Common.{[], ◌*◌, ◌++◌, ◌+◌, ◌-◌, ◌<◌, ◌∙◌, ◌∷◌, ◌≡◌, ◌≢◌, Bool, List, ap, append_assoc, arith}
 use Rattle.std.proofs.Common.{false, inl, inr, refl, subst, suc, sym, true, zero, ℕ}
-use Rattle.std.specs.Prelude.{⊤, ◌&&◌, ◌==◌, Err, None, Option, Some, if◌then◌else◌, nat_lt}
 use Rattle.std.proofs.lemmas.Bool.{cond_both, eq-eqb, ne_eqb}
 use Rattle.std.proofs.lemmas.List.{append-nil}
-use Rattle.driver_laws.specs.Prelude.{Access, AreMade, AreSteps, AtPort, Block, Call, DeviceFault, Dir, Event}
-use Rattle.driver_laws.specs.Prelude.{IsNumberOf, IsReceiveReady, Numbers, Pf, PmdFault, Port, PreparingFails, Receive}
-use Rattle.driver_laws.specs.Prelude.{ReceiveFails, Reply, RowId, Rx, Rxdctl, Sees, Sets, StartRefused, StartTimeout}
-use Rattle.driver_laws.specs.Prelude.{StopsStarting, SwitchFails, Tx, Txdctl, Vf, both_asked, both_quiet, enable_row}
-use Rattle.driver_laws.specs.Prelude.{is_frame, is_size, is_step, missed, place, receive_polled, start_gate}
-use Rattle.driver_laws.proofs.Prelude.{AllAre}
-use Rattle.nic_device.specs.RegTable.Place.{place_among}
-use Rattle.nic_device.specs.RegTable.Rows.{rows}
-use Rattle.nic_device.specs.RegTable.Runs.{runs}
-use Rattle.nic_device.specs.RegTable.declared.place.Place.{Place}
-use Rattle.nic_device.specs.declared.event.Event.TheVariants as event
-use Rattle.pmd.proofs.PmdSeam.QueueSequences.{both_made as made_after}
-use Rattle.pmd.specs.PmdSeam.Named.{queues_named}
+use Rattle.std.specs.Prelude.{◌&&◌, ◌==◌, Err, None, Option, Some, if◌then◌else◌, nat_lt}
+use Rattle.nic_device.specs.{RegTable.Rows.rows, RegTable.declared.place.Place.Place}
 use Rattle.pmd.specs.PmdSeam.declared.fault.PmdFault.TheVariants.{BadSize, NoBuffer}
-use Rattle.pmd.specs.Started.{IsShut, has_room}
-use Rattle.pmd.specs.Starting.{GoingOnFails}
+use Rattle.pmd.specs.Started.{IsShut}
+use Rattle.pmd.proofs.PmdSeam.QueueSequences.{both_made as made_after}
 use Rattle.driver_laws.specs.Polls.{AreEnables, Enables, PollsAreTold, asked_after, is_missed, missed_in, same_port}
+use Rattle.driver_laws.specs.Prelude.{Access, AreMade, AreSteps, AtPort, Block, Call, DeviceFault, Dir, Event}
+use Rattle.driver_laws.specs.Prelude.{IsNumberOf, Numbers, Pf, PmdFault, Port, PreparingFails, Receive, ReceiveFails}
+use Rattle.driver_laws.specs.Prelude.{Reply, RowId, Rx, Rxdctl, Sees, Sets, StartRefused, StartTimeout, StopsStarting}
+use Rattle.driver_laws.specs.Prelude.{SwitchFails, Tx, Txdctl, Vf, both_asked, enable_row, is_frame, is_size, is_step}
+use Rattle.driver_laws.specs.Prelude.{missed, place, receive_polled, start_gate}
 use Rattle.driver_laws.specs.TimedOut.{Asked, IsOfEnable, TimeoutsPoll, TimesOut, asked_by, is_miss, misses, none_asked}
-use Rattle.driver_laws.proofs.Made.{OfCall, all_both, all_missed, all_polled, made_by}
-use Rattle.driver_laws.proofs.StopCalls.{Grows, accesses_add, prepared_adds, then_made}
+use Rattle.driver_laws.proofs.Prelude.{AllAre, AreMadeOf, GoingOnFails, IsPlain, has_room, place_among, queues_named}
+use Rattle.driver_laws.proofs.Prelude.{runs}
+use Rattle.driver_laws.proofs.{Made.OfCall, Made.all_both, Made.all_missed, Made.all_polled, Made.made_by}
+use Rattle.driver_laws.proofs.{StopCalls.prepared_plain, StopCalls.ready_plain, StopCalls.then_made}
+use Rattle.nic_device.specs.declared.event.Event.TheVariants as event
 
 -- so many reads of a side that is asked on, in vain
 
@@ -67,15 +63,9 @@ enable_reads Rx seen = tt
 enable_reads Tx seen = tt
 
 module _ (q : AtPort) (size frame : ℕ) where
-  receive_adds : (old : List Call) (a : Numbers) (new : List Call) (b : Numbers) (v : Receive)
-      → IsReceiveReady q size frame old a new b v → Grows old new
-  receive_adds old a new b v x =
-      then_made (λ e. ⊤) old x.mid new (accesses_add q both_quiet old x.mid x.quiet)
-      (prepared_adds x.prepared)
-
   -- how it comes to this
-  switching_times_out : (old mid new : List Call) → Grows old mid → SwitchFails StartTimeout q mid new true 1000
-      → TimesOut q old new
+  switching_times_out : (old mid new : List Call) → AreMadeOf (IsPlain q) old mid
+      → SwitchFails StartTimeout q mid new true 1000 → TimesOut q old new
   switching_times_out old mid new before (inl stops) = absurd stops.6
   switching_times_out old mid new (before, is, any) (inr (inl (between, asked, polls))) = record {
     before = before;
@@ -108,7 +98,7 @@ module _ (q : AtPort) (size frame : ℕ) where
     never_receiving b out (inl (stops, same, empty)) = stops.6
     never_receiving b out (inr (mid, made, fails)) = never_preparing Rx mid a new b out fails
 
-    going_on : (mid : List Call) (b c : Numbers) (v w : Receive) → Grows old mid
+    going_on : (mid : List Call) (b c : Numbers) (v w : Receive) → AreMadeOf (IsPlain q) old mid
         → GoingOnFails StartTimeout q mid b v new c w → TimesOut q old new
     going_on mid b c v w before (inl (fails, same, left)) = switching_times_out old mid new before fails
     going_on mid b c v w before (inr (on, switched, filling)) = absurd filling.fails
@@ -124,8 +114,8 @@ module _ (q : AtPort) (size frame : ℕ) where
         (subst (λ (f : PmdFault). PreparingFails f q Tx size x.made x.ready_arena new x.arena x.out) is x.fails))
     amid (inr (inr x)) is =
         going_on x.both_made x.both_arena x.arena x.empty x.filled
-        (then_made (λ e. ⊤) old x.ready_made x.both_made
-        (receive_adds old a x.ready_made x.ready_arena x.empty x.receive) (prepared_adds x.transmit.prepared))
+        (then_made (IsPlain q) old x.ready_made x.both_made (ready_plain x.receive)
+        (prepared_plain x.transmit.prepared))
         (subst (λ (f : PmdFault). GoingOnFails f q x.both_made x.both_arena x.empty new x.arena x.filled) is x.fails)
 
     -- before any event it answers no such fault

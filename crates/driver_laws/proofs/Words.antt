@@ -1,44 +1,29 @@
 -- The words that a driver writes to the registers of a queue: each is its side's, whole, while that is off.
 use Rattle.std.proofs.Common.{◌%◌, ◌*◌, ◌+◌, ◌/◌, ◌<◌, ◌^◌, ◌∙◌, ◌≡◌, ap, arith, false, inl, inr, refl, true, ℕ}
-use Rattle.std.specs.Prelude.{◌==◌, IsFalse, None, Some, bit_and, bit_or, if◌then◌else◌}
-use Rattle.std.proofs.Math.Nat.{mod-eq_of_lt}
 use Rattle.std.proofs.lemmas.Nat.{and_comm, and_mask, and_mod, or_mod}
-use Rattle.std.proofs.lemmas.Nat.Bits.{and_high_mask}
-use Rattle.std.specs.Int.Bits.{and_zero_l, or_zero_l}
+use Rattle.std.specs.Prelude.{◌==◌, IsFalse, None, Some, bit_and, bit_or, if◌then◌else◌}
+use Rattle.std.{proofs.Math.Nat.mod-eq_of_lt, proofs.lemmas.Nat.Bits.and_high_mask, specs.Int.Bits.and_zero_l}
+use Rattle.std.{specs.Int.Bits.or_zero_l}
+use Rattle.nic_device.specs.RegTable.declared.rows.RowId.TheVariants.{Ctrl, GcrExt, Hlreg0, Maxfrs}
+use Rattle.nic_device.specs.RegisterLaws.Laws.{HasShape, after_write, word_after}
+use Rattle.nic_device.specs.{RegisterFile.Bits.merged, RegisterFile.Registers.Registers}
+use Rattle.nic_device.specs.{RegisterLaws.Sides.TransmitQueue, Transmit.staged_by}
+use Rattle.nic_device.proofs.RegisterLaws.SideWords.{receive-written, transmit-written}
+use Rattle.nic_device.proofs.{RegisterLaws.RowBits.word_small, RegisterLaws.SoundWords.low_bits}
+use Rattle.nic_device.proofs.{RegisterLaws.Switches.receive-asked, RegisterLaws.Switches.transmit-asked}
+use Rattle.ring_laws.specs.HistoryLaws.Sides.{LeavesSide, receive_side, transmit_side}
+use Rattle.ring_laws.proofs.HistoryLaws.Leaving.{receive_left}
+use Rattle.ring_laws.proofs.HistoryLaws.Written.{merged_all, merged_low, receive-tail, transmit-tail}
 use Rattle.driver_laws.specs.Prelude.{Dir, IsSound, Port, Rdbah, Rdbal, Rdh, Rdlen, Rdt, Register, RowId, Rx, Rxdctl}
 use Rattle.driver_laws.specs.Prelude.{Side, Srrctl, State, Tdbah, Tdbal, Tdh, Tdlen, Tdt, Tdwbal, Tx, Txdctl, after}
 use Rattle.driver_laws.specs.Prelude.{enable_row, has_bit, is_driven, place, side_of}
-use Rattle.driver_laws.proofs.Prelude.{Fits, NamesRow, side_with}
-use Rattle.device_lock.specs.Alone.{is_setting}
-use Rattle.nic_device.proofs.RegisterLaws.RowBits.{word_small}
-use Rattle.nic_device.proofs.RegisterLaws.SideWords.{receive-written, transmit-written}
-use Rattle.nic_device.proofs.RegisterLaws.SoundWords.{low_bits}
-use Rattle.nic_device.proofs.RegisterLaws.Switches.{receive-asked, transmit-asked}
-use Rattle.nic_device.specs.Access.{named_written}
-use Rattle.nic_device.specs.Outcome.{Outcome, gives}
-use Rattle.nic_device.specs.RegTable.Rows.{row_of}
-use Rattle.nic_device.specs.RegTable.declared.rows.RowId.TheVariants.{Ctrl, GcrExt, Hlreg0, Maxfrs, Tdwbah}
-use Rattle.nic_device.specs.RegisterFile.Access.{asks_pool_reset, asks_reset}
-use Rattle.nic_device.specs.RegisterFile.Bits.{merged}
-use Rattle.nic_device.specs.RegisterFile.Owner.{owner_of}
-use Rattle.nic_device.specs.RegisterFile.Registers.{Registers, word_of}
+use Rattle.driver_laws.specs.Words.{KeepsGround, WordsAreTaken}
+use Rattle.driver_laws.proofs.Prelude.{Done, Fits, NamesRow, Outcome, Tdwbah, WritesNoSetting, across, asks_pool_reset}
+use Rattle.driver_laws.proofs.Prelude.{asks_reset, gives, is_setting, named_written, owner_of, plain-write, row_of}
+use Rattle.driver_laws.proofs.Prelude.{settings_stand, side_with, stays_within, step_of, transmit_left, word_of}
+use Rattle.driver_laws.proofs.Prelude.{write_memory, write_rest}
 use Rattle.nic_device.specs.RegisterFile.declared.owner.Owner.TheVariants as owner
-use Rattle.nic_device.specs.RegisterLaws.Laws.{HasShape, after_write, word_after}
-use Rattle.nic_device.specs.RegisterLaws.Sides.{TransmitQueue}
-use Rattle.nic_device.specs.Step.{step_of}
-use Rattle.nic_device.specs.Transmit.{staged_by}
 use Rattle.nic_device.specs.declared.event.Event.TheVariants as event
-use Rattle.nic_device.specs.declared.event.Reply.TheVariants.{Done}
-use Rattle.ring_laws.proofs.DeviceLaws.KeptSettings.{settings_stand}
-use Rattle.ring_laws.proofs.DeviceLaws.Standing.{stays_within}
-use Rattle.ring_laws.proofs.DeviceLaws.StandingAccesses.{write_memory, write_rest}
-use Rattle.ring_laws.proofs.HistoryLaws.Leaving.{plain-write}
-use Rattle.ring_laws.proofs.HistoryLaws.Leaving.{receive_left, transmit_left}
-use Rattle.ring_laws.proofs.HistoryLaws.Written.{receive-tail, transmit-tail}
-use Rattle.ring_laws.proofs.HistoryLaws.Written.{merged_all, merged_low}
-use Rattle.ring_laws.specs.DeviceLaws.Laws.{WritesNoSetting}
-use Rattle.ring_laws.specs.HistoryLaws.Sides.{LeavesSide, receive_side, transmit_side}
-use Rattle.driver_laws.specs.Words.{KeepsGround, WordsAreTaken, across}
 
 -- what holds of either side holds of each
 pub each_side : (P : Dir → Type 0) → P Rx → P Tx → (dir : Dir) → P dir

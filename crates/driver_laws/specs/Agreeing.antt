@@ -1,8 +1,7 @@
 -- What a device and both halves of a driver agree on.
-use Rattle.std.specs.Prelude.{ℕ, ◌≢◌, IsTrue, List}
-use Rattle.driver_laws.specs.Prelude.{Blocks, State, has_lent, Piece, Halves, Agree}
-use Rattle.ring_laws.specs.Steps.{Each}
-use Rattle.ring_laws.specs.Agreeing.{Agrees}
+use Rattle.std.specs.Prelude.{◌≢◌, IsTrue, List, ℕ}
+use Rattle.ring_laws.specs.{Agreeing.Agrees, Steps.Each}
+use Rattle.driver_laws.specs.Prelude.{Agree, Blocks, Halves, Piece, State, has_lent}
 
 -- no block is lent by both halves
 abbrev pub AreApart : Halves → Type 0

@@ -1,11 +1,10 @@
 -- A legal history of a sound device that leaves a queue alone, and what holds wherever its pass has made so many calls.
-use Rattle.std.specs.Prelude.{[], ◌++◌, ◌<◌, ◌∷◌, ◌≡◌, ◌≢◌, List, ℕ}
-use Rattle.driver_laws.specs.Prelude.{AreSteps, Block, Blocks, Call, Entry, Event, IsEvent, IsSound, State, Watched}
-use Rattle.driver_laws.specs.Prelude.{after, call_in, calls_of, leads_to, lent_by, reply_to}
+use Rattle.std.specs.Prelude.{[], ◌++◌, ◌<◌, ◌∷◌, ◌≡◌, List, ℕ}
 use Rattle.device_lock.specs.History.{AreEvents, IsLegal}
 use Rattle.ring_laws.specs.HistoryLaws.Alone.{LeavesAloneFrom}
-use Rattle.driver_laws.specs.Moves.{IsMet}
-use Rattle.driver_laws.specs.Standing.{IsLeft}
+use Rattle.driver_laws.specs.Prelude.{Block, Blocks, Call, Entry, Event, IsEvent, IsSound, State, Watched, after}
+use Rattle.driver_laws.specs.Prelude.{call_in, calls_of, leads_to, reply_to}
+use Rattle.driver_laws.specs.{Moves.IsMet, Standing.IsLeft}
 
 -- the history begins with a sound device, whichever its state, of as many virtual functions as are told
 pub record IsAlong (w : Watched) (origin : State) (h : List Entry) : Type 0 where
@@ -16,16 +15,14 @@ pub record IsAlong (w : Watched) (origin : State) (h : List Entry) : Type 0 wher
   pub legal : IsLegal origin h
   pub alone : LeavesAloneFrom w origin h
 
--- it holds wherever the history is at a point where the pass has made just these calls
-abbrev pub AtCalls : Watched → State → List Entry → List Call → (State → Type 0) → Type 0
-AtCalls w origin h calls P =
-    (done rest : List Entry) → done ++ rest ≡ h → calls_of w.pass done ≡ calls →
-    P (leads_to origin done)
-
--- it holds of all entries up to such a point
+-- it holds of the entries up to each point of the history where the pass has made just these calls
 abbrev pub AtEntries : Watched → List Entry → List Call → (List Entry → Type 0) → Type 0
 AtEntries w h calls P =
     (done rest : List Entry) → done ++ rest ≡ h → calls_of w.pass done ≡ calls → P done
+
+-- and of the state there
+abbrev pub AtCalls : Watched → State → List Entry → List Call → (State → Type 0) → Type 0
+AtCalls w origin h calls P = AtEntries w h calls (λ done. P (leads_to origin done))
 
 -- it holds just before the pass makes the last of these calls
 abbrev pub BeforeLast : Watched → State → List Entry → List Call → (State → Type 0) → Type 0
@@ -41,10 +38,3 @@ IsKept w mine P = (s : State) (e : Event Block) → IsLeft w mine s e → P s �
 abbrev pub Leads : ℕ → Call → (State → Type 0) → (State → Type 0) → Type 0
 Leads queue c P Q =
     (s : State) → IsMet queue s → IsEvent c.event → c.reply ≡ reply_to s c.event → P s → Q (after s c.event)
-
--- after some steps of the device and one call more the other holds, where both are kept
-abbrev pub CallsLead : Type 1
-CallsLead =
-    (w : Watched) (origin : State) (h : List Entry) (P Q : State → Type 0) (old before : List Call) (c : Call) →
-    IsAlong w origin h → IsKept w (lent_by w.pass h) P → IsKept w (lent_by w.pass h) Q → Leads w.queue c P Q →
-    AreSteps before → old ≢ [] → AtCalls w origin h old P → AtCalls w origin h (old ++ (before ++ c ∷ [])) Q

@@ -1,7 +1,8 @@
 -- Entries ahead of the place where the device agrees with both halves, as those of a driver's start.
-use Rattle.std.specs.Prelude.{ℕ, ◌≢◌, ◌*◌, ◌≤◌, List, [], ◌∷◌, All, ⊤}
+use Rattle.std.specs.Prelude.{[], ⊤, ◌*◌, ◌∷◌, ◌≢◌, ◌≤◌, All, List, ℕ}
 use Rattle.nic_device.specs.RegisterFile.Settings.{frame_limit}
-use Rattle.driver_laws.specs.Prelude.{State, after, WritesNoSetting, Blocks, lent_by, IsLegal, AreEvents, leads_to, Entry, OnlyLent, FitsBlocks, LendsNone, either}
+use Rattle.driver_laws.specs.Prelude.{AreEvents, Blocks, Entry, FitsBlocks, IsLegal, LendsNone, OnlyLent, State}
+use Rattle.driver_laws.specs.Prelude.{WritesNoSetting, after, either, leads_to, lent_by}
 
 -- the frames that wait for a queue fit so many blocks, and longer ones aren't let in
 pub record AreShort (queue most : ℕ) (s : State) : Type 0 where

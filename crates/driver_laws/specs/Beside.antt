@@ -1,15 +1,14 @@
 -- What the driver's pass may make beside the calls of the driver's halves: events that leave every queue alone.
-use Rattle.std.specs.Prelude.{ℕ, ◌≡◌, Bool, true, false, not, ◌&&◌, ⊤, IsTrue, List, [], ◌∷◌, ◌++◌, Option, Some, None}
-use Rattle.driver_laws.specs.Prelude.{Block, row_of, asks_pool_reset, State, Event, Reply, Blocks, calls_of, Watched, Call, Entry, Adds, AllOwn, Doer, Halves, is_neither, played_by, Place}
-use Rattle.nic_device.specs.RegTable.Place.{place_among}
-use Rattle.nic_device.specs.RegTable.Runs.{runs}
-use Rattle.nic_device.specs.VfMap.Owner.{is_receive, is_transmit}
-use Rattle.nic_device.specs.declared.event.Event.TheVariants as event
-use Rattle.nic_device.specs.declared.event.Port.TheVariants.{Pf, Vf}
+use Rattle.std.specs.Prelude.{[], ⊤, ◌&&◌, ◌++◌, ◌∷◌, ◌≡◌, Bool, IsTrue, List, None, Option, Some, false, not, true, ℕ}
+use Rattle.nic_device.specs.{RegTable.Place.place_among, RegTable.Runs.runs, VfMap.Owner.is_receive}
+use Rattle.nic_device.specs.{VfMap.Owner.is_transmit, declared.event.Port.TheVariants.Pf}
+use Rattle.nic_device.specs.{declared.event.Port.TheVariants.Vf}
 use Rattle.device_lock.specs.Alone.{is_setting}
-use Rattle.pmd.specs.PmdSeam.Made.{AddsSome}
-use Rattle.pmd.specs.Halves.{Drives}
+use Rattle.pmd.specs.{Halves.Drives, PmdSeam.Made.AddsSome}
 use Rattle.driver_laws.specs.Histories.{OthersLeaveAlone}
+use Rattle.driver_laws.specs.Prelude.{Adds, AllOwn, Block, Blocks, Call, Doer, Entry, Event, Halves, Place, Reply}
+use Rattle.driver_laws.specs.Prelude.{State, Watched, asks_pool_reset, calls_of, is_neither, played_by, row_of}
+use Rattle.nic_device.specs.declared.event.Event.TheVariants as event
 
 -- whether no queue rests on a register, whichever queue, where this word is written to it: it is no setting and of
 -- neither side of a queue, and the write asks for no reset of a pool. So it is where there is no register

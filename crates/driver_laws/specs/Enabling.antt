@@ -1,8 +1,9 @@
 -- Words that are written to the enable registers of a driver's queue.
-use Rattle.std.specs.Prelude.{ℕ, ◌≡◌, true, List, [], ⊤}
-use Rattle.driver_laws.specs.Prelude.{has_bit, place, Dir, Rx, Tx, named, IsEvent, State, after, Port, Register, Piece, Halves, enable_row}
-use Rattle.nic_device.specs.declared.event.Event.TheVariants as event
+use Rattle.std.specs.Prelude.{[], ⊤, ◌≡◌, List, true, ℕ}
 use Rattle.driver_laws.specs.Agreeing.{BothAgree}
+use Rattle.driver_laws.specs.Prelude.{Dir, Halves, IsEvent, Piece, Port, Register, Rx, State, Tx, after, enable_row}
+use Rattle.driver_laws.specs.Prelude.{has_bit, named, place}
+use Rattle.nic_device.specs.declared.event.Event.TheVariants as event
 
 -- nothing is outstanding where a word asks for the transmit side to be on. Of the receive side nothing is asked
 abbrev pub MayAsk : Dir → ℕ → Halves → Type 0

@@ -1,11 +1,10 @@
 -- A start on a queue whose sides are off finds no device at fault, over a history that leaves the queue alone.
 use Rattle.std.specs.Prelude.{[], ◌++◌, ◌∷◌, ◌≡◌, IsFalse, List, true, ℕ}
+use Rattle.nic_device.specs.DmaArena.Numbers.{is_free}
 use Rattle.driver_laws.specs.Prelude.{AreSteps, AtPort, Call, DeviceFault, Entry, IsReceiveReady, IsTransmitReady}
 use Rattle.driver_laws.specs.Prelude.{Numbers, PreparingFails, Receive, ReceiveFails, Sender, State, SwitchFails, Tx}
 use Rattle.driver_laws.specs.Prelude.{Watched, has_block, is_step}
-use Rattle.nic_device.specs.DmaArena.Numbers.{is_free}
-use Rattle.driver_laws.specs.Along.{AtCalls, BeforeLast, IsAlong}
-use Rattle.driver_laws.specs.Quieting.{IsQuiet}
+use Rattle.driver_laws.specs.{Along.AtCalls, Along.BeforeLast, Along.IsAlong, Quieting.IsQuiet}
 
 -- the history has no point where the pass has made just these calls
 abbrev pub Never : Watched → State → List Entry → List Call → Type 0

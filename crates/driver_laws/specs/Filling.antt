@@ -1,15 +1,13 @@
 -- A start that ends with the device at fault: where it came to.
 use Rattle.std.specs.Prelude.{[], ⊤, ◌≡◌, ◌⊎◌, List, true, ℕ}
-use mathlib.Core.Logic.{inl, inr}
+use Rattle.pmd.specs.PmdRx.Filling.{StopsFilling}
+use Rattle.ring_laws.specs.ReceiveUp.{IsUp}
 use Rattle.driver_laws.specs.Prelude.{Agree, Agrees, AtPort, Call, DeviceFault, Entry, IsReceiveReady, IsTransmitReady}
 use Rattle.driver_laws.specs.Prelude.{Numbers, PreparingFails, Receive, ReceiveFails, Sender, StartRefused, State}
 use Rattle.driver_laws.specs.Prelude.{StopsStarting, SwitchFails, Tx, Watched}
-use Rattle.pmd.specs.PmdRx.Filling.{StopsFilling}
-use Rattle.ring_laws.specs.ReceiveUp.{IsUp}
-use Rattle.driver_laws.specs.Along.{AtCalls, IsAlong}
-use Rattle.driver_laws.specs.Faultless.{BeforeNext, Never, NoneIsLent}
-use Rattle.driver_laws.specs.On.{AreOn}
-use Rattle.driver_laws.specs.Quieting.{IsQuiet}
+use Rattle.driver_laws.specs.{Along.AtCalls, Along.IsAlong, Faultless.BeforeNext, Faultless.Never, Faultless.NoneIsLent}
+use Rattle.driver_laws.specs.{On.AreOn, Quieting.IsQuiet}
+use mathlib.Core.Logic.{inl, inr}
 
 -- the receive ring isn't made ready; some blocks of it may be out then
 pub record FaultsBeforeOne (q : AtPort) (size : ℕ) (old : List Call) (a : Numbers) (new : List Call) : Type 0 where

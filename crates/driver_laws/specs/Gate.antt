@@ -1,7 +1,7 @@
 -- What a start is refused for before any event, where port and queue name a queue of the device.
 use Rattle.std.specs.Prelude.{◌≢◌, Some, ℕ}
-use Rattle.driver_laws.specs.Prelude.{AtPort, DeviceFault, Numbers, State, start_gate}
 use Rattle.driver_laws.specs.Numbers.{NamesQueue}
+use Rattle.driver_laws.specs.Prelude.{AtPort, DeviceFault, Numbers, State, start_gate}
 
 -- it isn't for a queue that the port can't name
 abbrev pub NamedQueuesPass : Type 0

@@ -1,11 +1,11 @@
 -- The replies to a driver's calls, over a history that leaves its queue alone: those of a healthy queue.
-use Rattle.std.specs.Prelude.{IsTrue, List, [], ◌∷◌, ⊤}
-use Rattle.driver_laws.specs.Prelude.{State, Blocks, calls_of, leads_to, Watched, Call, Entry, OnlyLent, AllLendApart, Halves, Doer, after_call, either}
+use Rattle.std.specs.Prelude.{[], ⊤, ◌∷◌, IsTrue, List}
+use Rattle.pmd.specs.Apart.{is_healthy}
+use Rattle.driver_laws.specs.Prelude.{AllLendApart, Blocks, Call, Doer, Entry, Halves, OnlyLent, State, Watched}
+use Rattle.driver_laws.specs.Prelude.{after_call, calls_of, either, leads_to}
+use Rattle.driver_laws.specs.{Before.AreShort, Before.OnlyPassLends, Histories.IsDriven}
 use Rattle.pmd.specs.PmdRx.Keeping as received
 use Rattle.pmd.specs.PmdTx.Sending as sending
-use Rattle.pmd.specs.Apart.{is_healthy}
-use Rattle.driver_laws.specs.Histories.{IsDriven}
-use Rattle.driver_laws.specs.Before.{AreShort, OnlyPassLends}
 
 -- the reply to a call is one that a healthy queue gives
 abbrev pub IsHealthy : Halves → Doer → Call → Type 0

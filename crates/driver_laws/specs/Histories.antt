@@ -1,11 +1,14 @@
 -- What a driver hands out and what it sends, over histories that leave its queue alone.
-use Rattle.std.specs.Prelude.{◌≡◌, ◌==◌, Bool, true, false, List, [], ◌∷◌, ◌++◌, Some, None, ⊤, IsTrue}
-use Rattle.driver_laws.specs.Prelude.{mode_in, IsSound, State, after, Blocks, LeavesRegisters, LeavesBlocks, lent_by, IsLegal, AreEvents, calls_of, leads_to, Watched, Entry, Elsewhere, delivered, pieces_since, LeavesAloneFrom, bytes_of, sent_in, sent_since, IsUp, Halves, Doer, Sends, AllOwn, is_neither, played_by, records_of, FindsNone, ShowsNone}
+use Rattle.std.specs.Prelude.{[], ⊤, ◌++◌, ◌==◌, ◌∷◌, ◌≡◌, Bool, IsTrue, List, None, Some, false, true}
 use Rattle.device_lock.specs.Alone.{has_begun}
+use Rattle.driver_laws.specs.Prelude.{AllOwn, Blocks, Doer, Elsewhere, Entry, FindsNone, Halves, IsUp, LeavesBlocks}
+use Rattle.driver_laws.specs.Prelude.{LeavesRegisters, Sends, ShowsNone, State, Watched, after, bytes_of, calls_of}
+use Rattle.driver_laws.specs.Prelude.{delivered, is_neither, leads_to, lent_by, mode_in, pieces_since, played_by}
+use Rattle.driver_laws.specs.Prelude.{records_of, sent_in, sent_since}
+use Rattle.driver_laws.specs.{Agreeing.AreLent, Agreeing.BothAgree, Along.IsAlong}
 use Rattle.ring_laws.specs.Delivered as receive
 use Rattle.ring_laws.specs.ReceiveUp as receiving
 use Rattle.ring_laws.specs.Laws as transmit
-use Rattle.driver_laws.specs.Agreeing.{AreLent, BothAgree}
 
 -- whose an entry is, of the driver's pass or of another, and the doers that are left after it: the entries of the pass
 -- are theirs in turn, and those of other passes neither half's
@@ -27,16 +30,12 @@ OthersLeaveAlone w mine s doers (e ∷ es) =
     → LeavesRegisters w (mode_in s.registers) e.event × LeavesBlocks mine e.event)
     × OthersLeaveAlone w mine (after s e.event) (doers_after (e.pass == w.pass) doers) es
 
--- a history of a sound device, whichever its state at first, that leaves the queue alone, with the driver's pass. As
--- its first entries end, the queue's receive side has gone on and is up, nothing is written yet, and the device agrees
--- with both halves. Of the others those of the pass are the halves', or leave the queue alone
+-- such a history, with the driver's pass. As its first entries end, the queue's receive side has gone on and is up,
+-- nothing is written yet, and the device agrees with both halves. Of the others those of the pass are the halves', or
+-- leave the queue alone
 pub record IsDriven (w : Watched) (origin : State) (start rest : List Entry) (h : Halves) (doers : List Doer) :
     Type 0 where
-  pub sound : IsSound origin
-  pub vfs : w.vfs ≡ origin.vfs
-  pub events : AreEvents (start ++ rest)
-  pub legal : IsLegal origin (start ++ rest)
-  pub alone : LeavesAloneFrom w origin (start ++ rest)
+  pub along : IsAlong w origin (start ++ rest)
   pub begun : IsTrue (has_begun w.pass start)
   pub on : pieces_since w.queue origin None start ≡ Some []
   pub up : receiving.IsUp w.queue (leads_to origin start)

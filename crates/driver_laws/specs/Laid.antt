@@ -1,13 +1,12 @@
 -- How far a driver has laid out the empty transmit ring of a queue that is off: nothing is sent there meanwhile.
 use Rattle.std.specs.Prelude.{[], ⊤, ◌%◌, ◌++◌, ◌<◌, ◌^◌, ◌∷◌, ◌≡◌, ◌≤◌, IsFalse, List, true, ℕ}
+use Rattle.ring_laws.specs.Sent.{sent_in}
 use Rattle.driver_laws.specs.Prelude.{AtPort, Block, Call, Entry, Event, IsNumberOf, Rdbah, Rdbal, Rdh, Rdlen, Rdt}
 use Rattle.driver_laws.specs.Prelude.{RowId, Rxdctl, Srrctl, State, Tdbah, Tdbal, Tdh, Tdlen, Tdt, Tdwbal, Txdctl}
 use Rattle.driver_laws.specs.Prelude.{Watched, call_in, calls_of, has_bit, is_driven, leads_to}
+use Rattle.driver_laws.specs.{Along.IsAlong, Points.HasGround}
 use Rattle.nic_device.specs.declared.event.Event.TheVariants as event
 use Rattle.ring_laws.specs.Off as transmit
-use Rattle.ring_laws.specs.Sent.{sent_in}
-use Rattle.driver_laws.specs.Along.{IsAlong}
-use Rattle.driver_laws.specs.Points.{HasGround}
 
 -- the side is off; its ring has a length besides; and its head is the first slot; or its ring is empty, on or off
 pub data Laid : Type 0 where

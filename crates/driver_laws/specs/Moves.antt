@@ -1,17 +1,17 @@
 -- What a driver's own accesses do to sides that stand still, and what these are in the end.
 use Rattle.std.specs.Prelude.{[], ◌*◌, ◌+◌, ◌<◌, ◌==◌, ◌||◌, ◌≡◌, ◌≤◌, Bool, IsFalse, None, true, ℕ}
+use Rattle.nic_device.specs.Named.{named}
+use Rattle.ring_laws.specs.Joint.{IsNamed}
 use Rattle.driver_laws.specs.Prelude.{Agree, Agrees, Blocks, Dir, EachRingBlock, IsSound, Port, Register, Ring, RowId}
 use Rattle.driver_laws.specs.Prelude.{Rx, Rxdctl, Side, State, Tdt, Tx, Txdctl, after, blocks_for, enable_row}
 use Rattle.driver_laws.specs.Prelude.{frame_limit, has_bit, is_empty, is_frame, packet_limit, place, reply_to, side_of}
 use Rattle.driver_laws.specs.Prelude.{zero_block}
-use Rattle.nic_device.specs.Named.{named}
+use Rattle.driver_laws.specs.{Standing.IsZero, Standing.Stand, Standing.Stands, Words.Fits, Words.NamesRow}
+use Rattle.driver_laws.specs.{Words.side_with}
 use Rattle.nic_device.specs.declared.event.Event.TheVariants as event
 use Rattle.nic_device.specs.declared.event.Reply.TheVariants as reply
 use Rattle.pmd.specs.PmdRx.Receive as receive
 use Rattle.pmd.specs.PmdTx.Sending as transmit
-use Rattle.ring_laws.specs.Joint.{IsNamed}
-use Rattle.driver_laws.specs.Standing.{IsZero, Stand, Stands}
-use Rattle.driver_laws.specs.Words.{Fits, NamesRow, side_with}
 
 -- a device in which a driver makes its accesses
 pub record IsMet (queue : ℕ) (s : State) : Type 0 where

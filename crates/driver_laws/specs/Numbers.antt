@@ -1,8 +1,7 @@
 -- Which queue of the device a port and a queue's number there name.
 use Rattle.std.specs.Prelude.{◌+◌, ◌≡◌, None, Option, Some, if◌then◌else◌, nat_lt, true, ℕ}
+use Rattle.nic_device.specs.{VfMap.Pools.queues_of, VfMap.declared.mode.Mode.Mode}
 use Rattle.driver_laws.specs.Prelude.{AtPort, IsNumberOf, Pf, Port, RowId, State, Vf, is_driven, mode_in}
-use Rattle.nic_device.specs.VfMap.Pools.{queues_of}
-use Rattle.nic_device.specs.VfMap.declared.mode.Mode.{Mode}
 use Rattle.driver_laws.specs.Words.{NamesRow}
 
 -- a pool's queue of a number, counted from its first

@@ -2,9 +2,8 @@
 use Rattle.std.specs.Prelude.{[], ◌≡◌, List, true, ℕ}
 use Rattle.driver_laws.specs.Prelude.{Agree, Agrees, AtPort, Call, Entry, IsReceiveReady, IsSwitched, IsTransmitReady}
 use Rattle.driver_laws.specs.Prelude.{Numbers, Receive, Sender, State, Watched, begun_on, is_frame, is_size}
-use Rattle.driver_laws.specs.Along.{AtCalls, AtEntries, BeforeLast, IsAlong}
-use Rattle.driver_laws.specs.Points.{HasGround}
-use Rattle.driver_laws.specs.Unused.{WentOn}
+use Rattle.driver_laws.specs.{Along.AtCalls, Along.AtEntries, Along.BeforeLast, Along.IsAlong, Points.HasGround}
+use Rattle.driver_laws.specs.{Unused.WentOn}
 
 -- the rings came up one after the other, and then both sides went on
 pub record AreOn (q : AtPort) (size frame : ℕ) (old : List Call) (a : Numbers) (new : List Call) (v : Receive)

@@ -1,12 +1,9 @@
 -- How the sides of a queue stand at a point of a history, and how a driver's accesses move that on.
 use Rattle.std.specs.Prelude.{[], ⊤, ◌<◌, ◌∷◌, ◌≡◌, ◌≢◌, Bool, IsFalse, IsTrue, List, ℕ}
-use Rattle.driver_laws.specs.Prelude.{Access, AreMade, AtPort, Blocks, Call, Dir, Entry, RowId, Rxdctl, Sees, Sets, Side}
-use Rattle.driver_laws.specs.Prelude.{State, Txdctl, Watched, frame_limit, lent_by, packet_limit}
-use Rattle.driver_laws.specs.Along.{AtCalls, IsAlong}
-use Rattle.driver_laws.specs.Moves.{MayGoOn, side_seen}
-use Rattle.driver_laws.specs.Numbers.{NamesQueue}
-use Rattle.driver_laws.specs.Standing.{Stand}
-use Rattle.driver_laws.specs.Words.{Fits, side_with}
+use Rattle.driver_laws.specs.Prelude.{Access, AreMade, AtPort, Blocks, Call, Dir, Entry, RowId, Rxdctl, Sees, Sets}
+use Rattle.driver_laws.specs.Prelude.{Side, State, Txdctl, Watched, frame_limit, lent_by, packet_limit}
+use Rattle.driver_laws.specs.{Along.AtCalls, Along.IsAlong, Moves.MayGoOn, Moves.side_seen, Numbers.NamesQueue}
+use Rattle.driver_laws.specs.{Standing.Stand, Words.Fits, Words.side_with}
 
 -- what a driver rests on beside its sides: port and queue name this queue, and frames have at most as many bytes as
 -- the driver's packets

@@ -2,9 +2,9 @@
 use Rattle.std.specs.Prelude.{[], ◌&&◌, ◌++◌, ◌+◌, ◌==◌, ◌∷◌, ◌≡◌, Bool, List, false, if◌then◌else◌, not, true, ℕ}
 use Rattle.driver_laws.specs.Prelude.{AtPort, Block, Call, Event, IsNumberOf, Pf, Port, Reply, Rxdctl, Txdctl, Vf}
 use Rattle.driver_laws.specs.Prelude.{has_bit}
+use Rattle.driver_laws.specs.TimedOut.{Asked, TimesOut, none_asked}
 use Rattle.nic_device.specs.declared.event.Event.TheVariants as event
 use Rattle.nic_device.specs.declared.event.Reply.TheVariants as reply
-use Rattle.driver_laws.specs.TimedOut.{Asked, TimesOut, none_asked}
 
 abbrev pub same_port : Port → Port → Bool
 same_port Pf Pf = true

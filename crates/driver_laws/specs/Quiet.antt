@@ -2,13 +2,11 @@
 use Rattle.std.specs.Prelude.{◌≡◌, IsFalse, false, ℕ}
 use Rattle.driver_laws.specs.Prelude.{Block, Blocks, Event, IsSound, Port, Rx, Rxdctl, State, Watched, after, has_bit}
 use Rattle.driver_laws.specs.Prelude.{reply_to, side_of}
+use Rattle.driver_laws.specs.{Moves.IsMet, Standing.IsLeft, Standing.Stand, Words.NamesRow}
 use Rattle.nic_device.specs.declared.event.Event.TheVariants as event
 use Rattle.nic_device.specs.declared.event.Reply.TheVariants as reply
 use Rattle.ring_laws.specs.HistoryLaws.Sides as sides
 use Rattle.ring_laws.specs.Off as transmit
-use Rattle.driver_laws.specs.Moves.{IsMet}
-use Rattle.driver_laws.specs.Standing.{IsLeft, Stand}
-use Rattle.driver_laws.specs.Words.{NamesRow}
 
 -- the receive side isn't wanted on, and it is off besides
 abbrev pub IsUnwanted : ℕ → State → Type 0

@@ -1,10 +1,10 @@
 -- A driver that starts sees both sides of its queue off, over a history that leaves the queue alone.
 use Rattle.std.specs.Prelude.{◌&&◌, Bool, IsTrue, List, not, ℕ}
+use Rattle.ring_laws.specs.HistoryLaws.Sides.{IsOff}
 use Rattle.driver_laws.specs.Prelude.{AreMade, AtPort, Call, Entry, Rx, Side, State, Tx, Watched, both_quiet, lent_by}
 use Rattle.driver_laws.specs.Prelude.{side_of}
-use Rattle.ring_laws.specs.HistoryLaws.Sides.{IsOff}
-use Rattle.driver_laws.specs.Along.{AtCalls, BeforeLast, IsAlong}
-use Rattle.driver_laws.specs.Points.{HasGround, Point, Sides}
+use Rattle.driver_laws.specs.{Along.AtCalls, Along.BeforeLast, Along.IsAlong, Points.HasGround, Points.Point}
+use Rattle.driver_laws.specs.{Points.Sides}
 
 -- port and queue name the queue, and of each of its sides something holds
 pub record Both (P Q : Side → Type 0) (queue : ℕ) (q : AtPort) (frame : ℕ) (s : State) : Type 0 where

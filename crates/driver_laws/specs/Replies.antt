@@ -1,10 +1,9 @@
 -- What the device replies to the accesses of a driver that starts on a queue whose sides are off.
 use Rattle.std.specs.Prelude.{◌≡◌, ◌⊎◌, IsFalse, true, ℕ}
 use Rattle.driver_laws.specs.Prelude.{AtPort, IsNumberOf, RowId, Rxdctl, State, Txdctl, has_bit, is_driven, reply_to}
+use Rattle.driver_laws.specs.{Points.HasGround, Quieting.IsQuiet}
 use Rattle.nic_device.specs.declared.event.Event.TheVariants as event
 use Rattle.nic_device.specs.declared.event.Reply.TheVariants as reply
-use Rattle.driver_laws.specs.Points.{HasGround}
-use Rattle.driver_laws.specs.Quieting.{IsQuiet}
 
 -- where port and queue name a queue of the device, a read of a register that a driver has of it gives a word, and a
 -- write is done

@@ -1,6 +1,6 @@
 -- A history told anew: the same calls in the same order, some of them with another pass's tag.
-use Rattle.std.specs.Prelude.{ℕ, ◌≡◌, Bool, true, false, List, [], ◌∷◌, map}
-use Rattle.driver_laws.specs.Prelude.{State, AreEvents, IsLegal, call_in, leads_to, Entry, delivered, sent_since}
+use Rattle.std.specs.Prelude.{[], ◌∷◌, ◌≡◌, Bool, List, false, map, true, ℕ}
+use Rattle.driver_laws.specs.Prelude.{AreEvents, Entry, IsLegal, State, call_in, delivered, leads_to, sent_since}
 
 -- two histories are of the same calls, in the same order, whoever made them
 abbrev pub AreSame : List Entry → List Entry → Type 0

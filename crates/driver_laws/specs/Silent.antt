@@ -1,11 +1,8 @@
 -- A queue whose sides were switched off, and what is received and sent there from then on.
 use Rattle.std.specs.Prelude.{[], ◌++◌, ◌≡◌, ◌≢◌, List, false, ℕ}
-use Rattle.driver_laws.specs.Prelude.{AtPort, Call, Entry, IsSwitched, State, Watched, calls_of, sent_since}
 use Rattle.ring_laws.specs.Delivered.{delivered}
-use Rattle.driver_laws.specs.Along.{AtCalls, IsAlong}
-use Rattle.driver_laws.specs.Points.{HasGround}
-use Rattle.driver_laws.specs.Quieting.{IsQuiet}
-use Rattle.driver_laws.specs.Stopping.{Ends}
+use Rattle.driver_laws.specs.Prelude.{AtPort, Call, Entry, IsSwitched, State, Watched, calls_of, sent_since}
+use Rattle.driver_laws.specs.{Along.AtCalls, Along.IsAlong, Points.HasGround, Quieting.IsQuiet, Stopping.Ends}
 
 -- wherever the pass has switched both sides off they are off and not wanted on, where the driver's port and queue name
 -- this queue before

@@ -1,10 +1,10 @@
 -- The two sides of a queue that stand still: each is off, or on with an empty ring.
 pub use Rattle.ring_laws.specs.HistoryLaws.Left.{IsLeft}
 use Rattle.std.specs.Prelude.{[], ◌≡◌, IsTrue, Some, ℕ}
-use Rattle.std.specs.FinMap as map
+use Rattle.ring_laws.specs.HistoryLaws.Left.{IsLeft}
 use Rattle.driver_laws.specs.Prelude.{Block, Blocks, Dir, Event, Memory, Side, State, Watched, after, begun_on}
 use Rattle.driver_laws.specs.Prelude.{frame_limit, is_empty, mode_in, pieces, sent_by, side_of, zero_block}
-use Rattle.ring_laws.specs.HistoryLaws.Left.{IsLeft}
+use Rattle.std.specs.FinMap as map
 
 -- a side is as this one says but for being on, with nothing staged. It is on where this one is, and only where it is
 -- wanted on; and where it is wanted on its ring is empty, so that the device does nothing there

@@ -1,11 +1,9 @@
 -- What a start of the driver leaves, over a legal history that leaves its queue alone.
 use Rattle.std.specs.Prelude.{[], List, ℕ}
+use Rattle.pmd.specs.{Running.Running, Started.AreUp}
 use Rattle.driver_laws.specs.Prelude.{Agree, Agrees, AtPort, Call, Entry, Numbers, State, Watched}
-use Rattle.pmd.specs.Running.{Running}
-use Rattle.pmd.specs.Started.{AreUp}
-use Rattle.driver_laws.specs.Along.{AtCalls, AtEntries, BeforeLast, IsAlong}
-use Rattle.driver_laws.specs.Points.{HasGround}
-use Rattle.driver_laws.specs.Unused.{WentOn}
+use Rattle.driver_laws.specs.{Along.AtCalls, Along.AtEntries, Along.BeforeLast, Along.IsAlong, Points.HasGround}
+use Rattle.driver_laws.specs.{Unused.WentOn}
 
 -- just before the driver's first access its port and queue name this queue, and frames have at most as many bytes as
 -- its packets

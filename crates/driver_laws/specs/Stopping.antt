@@ -1,8 +1,8 @@
 -- The calls by which both sides of a queue are switched off and blocks are taken back, beside steps of the device.
 use Rattle.std.specs.Prelude.{◌++◌, ◌≡◌, ◌⊎◌, List, false, ℕ}
-use Rattle.driver_laws.specs.Prelude.{AtPort, Block, Call, Event, IsSwitched, PmdFault, SwitchFails}
 use Rattle.pmd.specs.PmdSeam.Home.{Bringing, Brings}
 use Rattle.driver_laws.specs.Ending.{Each, IsAsking, IsEnding}
+use Rattle.driver_laws.specs.Prelude.{AtPort, Block, Call, Event, IsSwitched, PmdFault, SwitchFails}
 
 -- the events of the calls that were made between are such
 abbrev pub AreMadeOf : (Event Block → Type 0) → List Call → List Call → Type 0

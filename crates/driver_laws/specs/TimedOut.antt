@@ -1,8 +1,8 @@
 -- A start that times out: the reads by which it saw a side of its queue still off.
 use Rattle.std.specs.Prelude.{[], ⊤, ◌&&◌, ◌++◌, ◌+◌, ◌∷◌, ◌≡◌, Bool, Err, List, None, false, if◌then◌else◌, not, ℕ}
+use Rattle.pmd.specs.Started.{IsShut}
 use Rattle.driver_laws.specs.Prelude.{Access, AreMade, AtPort, Call, Numbers, Rxdctl, Sees, Sets, StartRefused}
 use Rattle.driver_laws.specs.Prelude.{StartTimeout, StopsStarting, Txdctl, has_bit, start_gate}
-use Rattle.pmd.specs.Started.{IsShut}
 
 -- whether the word that was last written to RXDCTL, and to TXDCTL, has bit 25
 pub record Asked : Type 0 where

@@ -1,8 +1,8 @@
 -- The sides of a queue over which nothing went since they went on.
 use Rattle.std.specs.Prelude.{[], ◌≡◌, IsTrue, List, None, Some, ℕ}
+use Rattle.ring_laws.specs.TransmitUp.{IsUp}
 use Rattle.driver_laws.specs.Prelude.{Entry, Rx, State, Tx, is_on, leads_to, pieces_since, sent_since}
 use Rattle.ring_laws.specs.ReceiveUp as receiving
-use Rattle.ring_laws.specs.TransmitUp.{IsUp}
 
 -- where a side is on after these entries, nothing was received or sent since it last went on
 pub record AreUnused (queue : ℕ) (s : State) (done : List Entry) : Type 0 where

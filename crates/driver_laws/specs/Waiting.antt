@@ -1,8 +1,9 @@
 -- Before a look that finds a packet waiting not all that the driver accepted was sent.
-use Rattle.std.specs.Prelude.{◌≢◌, List, ◌++◌}
-use Rattle.driver_laws.specs.Prelude.{State, calls_of, leads_to, Watched, Entry, bytes_of, sent_in, Halves, Doer, played_by}
+use Rattle.std.specs.Prelude.{◌++◌, ◌≢◌, List}
 use Rattle.ring_laws.specs.Laws.{FindsWaiting}
 use Rattle.driver_laws.specs.Histories.{IsDriven}
+use Rattle.driver_laws.specs.Prelude.{Doer, Entry, Halves, State, Watched, bytes_of, calls_of, leads_to, played_by}
+use Rattle.driver_laws.specs.Prelude.{sent_in}
 
 -- where a look that comes next finds the oldest outstanding packet not done, what was sent up to any place before isn't
 -- all that the driver accepted

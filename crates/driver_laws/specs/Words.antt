@@ -1,12 +1,11 @@
 -- The words of a side that is off: what is written to its registers is the side's.
 use Rattle.std.specs.Prelude.{◌%◌, ◌*◌, ◌+◌, ◌/◌, ◌<◌, ◌^◌, ◌≡◌, IsFalse, None, ℕ}
+use Rattle.nic_device.specs.Named.{named}
+use Rattle.ring_laws.specs.{DeviceLaws.Leaving.LeavesMemory, HistoryLaws.Sides.LeavesSide}
 use Rattle.driver_laws.specs.Prelude.{Dir, IsSound, Port, Rdbah, Rdbal, Rdh, Rdlen, Rdt, Register, Ring, RowId, Rx}
 use Rattle.driver_laws.specs.Prelude.{Rxdctl, Side, Srrctl, State, Tdbah, Tdbal, Tdh, Tdlen, Tdt, Tdwbal, Tx, Txdctl}
 use Rattle.driver_laws.specs.Prelude.{after, frame_limit, has_bit, mode_in, place, side_of}
-use Rattle.nic_device.specs.Named.{named}
 use Rattle.nic_device.specs.declared.event.Event.TheVariants as event
-use Rattle.ring_laws.specs.DeviceLaws.Leaving.{LeavesMemory}
-use Rattle.ring_laws.specs.HistoryLaws.Sides.{LeavesSide}
 
 -- a ring with another low or high half of its base
 

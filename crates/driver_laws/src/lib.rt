@@ -38,6 +38,7 @@ ghost use Rattle.pmd.specs.Halves.{ReceivingDrives, SendingDrives, OthersDrive, 
 /// The numbers that a driver uses at its port name the registers of the queue that port and queue name: at the physical
 /// function each of the device's queues by its number there, at a virtual function those of its pool, from the first
 /// on.
+#[tactic(auto, using(crate::proofs::Ground::named_queue_has_the_numbers))]
 pub fn named_queue_has_the_numbers()
     ensures { NamedQueueHasTheNumbers }
 {}
@@ -83,6 +84,7 @@ pub fn fresh_sides_agree()
 /// After a write of the receive side's enable word without bit 25 the side isn't wanted on, and stays so over every
 /// event that leaves the queue alone; a read that tells bit 25 as 0 then finds it off. Two sides that are off so stand
 /// as they are.
+#[tactic(auto, using(crate::proofs::SwitchedOff::off_sides_stand, crate::proofs::SwitchedOff::receive_guard_is_off))]
 pub fn guarded_receive_side_is_off()
     ensures guard { ReceiveGuardIsOff }
     ensures stand { OffSidesStand }
@@ -122,17 +124,20 @@ pub fn start_leaves_sides_that_agree()
 
 /// A start that answers `StartTimeout` made 1,000 reads of its queue's RXDCTL or TXDCTL, of both together, each
 /// answered without bit 25, and each after a write of it there, the last of which before the read has bit 25.
+#[tactic(auto, using(crate::proofs::TimedOut::timeouts_poll))]
 pub fn timeouts_poll_a_thousand_times()
     ensures { TimeoutsPoll }
 {}
 
 /// These reads are among the calls of the start's pass, by the numbers that RXDCTL and TXDCTL have at its port.
+#[tactic(auto, using(crate::proofs::TimedOut::polls_are_told))]
 pub fn polls_of_a_timeout_are_told()
     ensures { PollsAreTold }
 {}
 
 /// Where port and queue name a queue of the device, a start isn't refused with `DeviceFault` before any event: the port
 /// can name the queue.
+#[tactic(auto, using(crate::proofs::Ground::named_queues_pass))]
 pub fn named_queues_pass_the_gate()
     ensures { NamedQueuesPass }
 {}
@@ -222,6 +227,7 @@ pub fn waiting_packets_are_not_all_sent()
 /// let in; and of the driver's arena only blocks are lent that the driver has lent, and no other pass lends any. What
 /// the halves lend is as the clause `drives` of a driver's calls says: blocks of the arena alone, and none that the
 /// other half has lent.
+#[tactic(auto, using(crate::proofs::Healthy::own_replies_are_healthy))]
 pub fn own_replies_are_healthy()
     ensures { OwnRepliesAreHealthy }
 {}
@@ -243,6 +249,7 @@ pub fn entries_before_lead_there()
 /// The tags of a history say who made its calls, and nothing else looks at them: told anew, with other tags, a history
 /// is of the same calls. It is as legal, its events are such as a driver can make, it leads to the same state, and it
 /// delivers and sends the same on each queue.
+#[tactic(auto, using(crate::proofs::Retold::retold_same, crate::proofs::Retold::same_delivers, crate::proofs::Retold::same_is_legal, crate::proofs::Retold::same_leads, crate::proofs::Retold::same_sends))]
 pub fn history_is_told_anew()
     ensures retold { RetoldIsSame }
     ensures legal { SameIsLegal }

@@ -23,7 +23,7 @@ use Rattle.history_laws.proofs.Leaving.{left-setting, left-side, receive_left, s
 use Rattle.history_laws.specs.Left.{Deed, IsFirst, IsLeft, IsSilent, LeftDid, Nothing, Rested, Rests, SendsNone, Shut}
 use Rattle.history_laws.specs.Segments.{Piece, first_of, frames_added, piece_in, pieces, pieces_told, sent_by}
 use Rattle.history_laws.specs.Sides.{IsTried, Side, as_wanted, receive_side, side_of, transmit_side}
-use Rattle.history_laws.proofs.Blocks.{left-block}
+use Rattle.history_laws.proofs.{Blocks.left-block, Steady.none_staged}
 use Rattle.history_laws.specs.Left.{SidesDo, Switched, Took, fetch_on, fill_on, is_step_of, is_switch_of}
 use Rattle.device_laws.proofs.{KeptSettings.settings_stand, Missed.counts-miss_side, RepliesReceived.receiving_tells}
 use Rattle.device_laws.proofs.{RepliesSent.transmitting_tells, Standing.stays_within, StandingQueues.receiving_rest}
@@ -254,16 +254,12 @@ with_staged x b staged is e =
     let f : staged ≡ cond x.wanted x.staged [] = e ∙ ap (λ c. cond c x.staged []) (sym is) in
     λ k. record x { on = x.wanted; staged = f k }
 
-none_staged : (x : Side) (b : Bool) → x.staged ≡ [] → [] ≡ cond b x.staged []
-none_staged x true none = sym none
-none_staged x false none = refl
-
 module _ (queue : ℕ) (s : State) (sound : IsSound s) (small : queue < 128) where
   on_then : (dir : Dir) → side_of dir queue (side_switched s dir queue) ≡ as_wanted (side_of dir queue s)
   on_then Rx =
       let e = ap receive_side (receive-switched s.registers sound.registers.shape queue small) in
       let x : Side = side_of Rx queue s in
-      let then = with_staged x x.wanted [] refl (none_staged x x.wanted refl) in
+      let then = with_staged x x.wanted [] refl (sym (none_staged x.wanted x.staged refl)) in
       cond_both (is_wanted s.registers Rx queue) (record s { registers = switched s.registers Rx queue })
       (record (emptied s Rx queue) { registers = switched s.registers Rx queue })
       (λ (t : State). side_of Rx queue t ≡ as_wanted (side_of Rx queue s)) (λ is. e ∙ then) (λ not. e ∙ then)

@@ -43,9 +43,12 @@ module _ (queue : ℕ) (s t : State) where
   pub transmit_left : LeavesTransmit queue s t → LeavesSide Tx queue s t
   transmit_left left = λ k. transmit_side (left.side k) (left.staged k)
 
+  both_left : LeavesReceive queue s t → LeavesTransmit queue s t → (dir : Dir) → LeavesSide dir queue s t
+  both_left receive transmit Rx = receive_left receive
+  both_left receive transmit Tx = transmit_left transmit
+
   pub queues_left : (dir : Dir) → LeavesQueues s t → LeavesSide dir queue s t
-  queues_left Rx left = receive_left (left.receive queue)
-  queues_left Tx left = transmit_left (left.transmit queue)
+  queues_left dir left = both_left (left.receive queue) (left.transmit queue) dir
 
   pub left_transmit : LeavesSide Tx queue s t → LeavesTransmit queue s t
   left_transmit left = record { side = ap transmit_of left; staged = ap (λ (x : Side). x.staged) left }
@@ -104,9 +107,8 @@ pool_misses side mode v queue none = misses-narrower (pool_has mode v) (pool_ren
 
 -- a write
 
-pub record LeavesSides (queue : ℕ) (s t : State) : Type 0 where
-  pub receive : LeavesReceive queue s t
-  pub transmit : LeavesTransmit queue s t
+abbrev LeavesBoth : ℕ → State → State → Type 0
+LeavesBoth queue s t = (dir : Dir) → LeavesSide dir queue s t
 
 module _ (queue : ℕ) (s : State) (port : Port) (n word : ℕ) where
   abbrev t : State
@@ -134,27 +136,22 @@ module _ (queue : ℕ) (s : State) (port : Port) (n word : ℕ) where
           ∙ ap (λ b. cond b (pool_reach mode p.index) (in_registers (of_write p))) asks in
           subst (λ r. StaysWithin r s t) reach (stays_within s (event.Write port n word))
 
-      pool_left : asks_pool_reset (row_of p.row).kind word ≡ true → LeavesSides queue s t
+      pool_left : asks_pool_reset (row_of p.row).kind word ≡ true → LeavesBoth queue s t
       pool_left asks =
           let mode = mode_in s.registers in
           let left = missed _ s t (pool_stays asks) in
-          record {
-            receive = left.receive queue (pool_misses Rx mode p.index queue (spares.pool asks));
-            transmit = left.transmit queue (pool_misses Tx mode p.index queue (spares.pool asks)) (spares.pool asks);
-          }
+          both_left queue s t (left.receive queue (pool_misses Rx mode p.index queue (spares.pool asks)))
+          (left.transmit queue (pool_misses Tx mode p.index queue (spares.pool asks)) (spares.pool asks))
 
-      pub spared_written : LeavesSides queue s t
-      spared_written =
-          let asks = asks_pool_reset (row_of p.row).kind word in
-          elim (cases_Bool asks) as (λ _. LeavesSides queue s t) [
-            | inl reset ↦ pool_left reset
-            | inr none ↦
-                let rest = write_rest s port n word p view is plain none in
-                record {
-                  receive = rest.receive queue (not_receive (row_of p.row).bank p.index queue spares.receive);
-                  transmit = rest.transmit queue (not_transmit (row_of p.row).bank p.index queue spares.transmit);
-                }
-          ]
+      spared_written : LeavesBoth queue s t
+      spared_written = elim (cases_Bool (asks_pool_reset (row_of p.row).kind word)) as (λ _. LeavesBoth queue s t) [
+        | inl reset ↦ pool_left reset
+        | inr none ↦
+            let rest = write_rest s port n word p view is plain none in
+            both_left queue s t
+            (rest.receive queue (not_receive (row_of p.row).bank p.index queue spares.receive))
+            (rest.transmit queue (not_transmit (row_of p.row).bank p.index queue spares.transmit))
+      ]
 
 -- What numbers name where no setting is written, and writes of registers that are none.
 
@@ -214,18 +211,13 @@ module _ (w : Watched) (s : State) (functions : w.vfs ≡ s.vfs) where
 
   written_sides : (port : Port) (n word : ℕ) (m : Named) → named s port n ≡ m
       → LeavesRegisters w (mode_in s.registers) (event.Write port n word)
-      → LeavesSides w.queue s (after s (event.Write port n word))
+      → LeavesBoth w.queue s (after s (event.Write port n word))
   written_sides port n word (Nothing seen) is left =
-      subst (λ (t : State). LeavesSides w.queue s t) (sym (stray_written w.queue s port n word seen is))
-      (record { receive = refl; transmit = record { side = refl; staged = refl } })
+      subst (LeavesBoth w.queue s) (sym (stray_written w.queue s port n word seen is)) (λ dir. refl)
   written_sides port n word (Register p view) is left =
       spared_written w.queue s port n word p view is (spares-named port n word view p left is)
 
   -- and leaves each side, unless it is a step of that side's own
-
-  written_side : (dir : Dir) (t : State) → LeavesSides w.queue s t → LeavesSide dir w.queue s t
-  written_side Rx t left = receive_left w.queue s t left.receive
-  written_side Tx t left = transmit_left w.queue s t left.transmit
 
   others_left : (dir side : Dir) (on : ℕ) (t : State) → LeavesOtherSides side on s t → (dir ≡ side → on ≢ w.queue)
       → LeavesSide dir w.queue s t
@@ -248,7 +240,7 @@ module _ (w : Watched) (s : State) (functions : w.vfs ≡ s.vfs) where
         → is_switch_of dir w.queue e ≡ false → LeavesSide dir w.queue s (after s e)
     left-side (event.Read port n) left other apart = queues_left w.queue s _ dir (read_rest s port n).queues
     left-side (event.Write port n word) left other apart =
-        written_side dir _ (written_sides port n word (named s port n) refl left)
+        written_sides port n word (named s port n) refl left dir
     left-side (event.Lend block) left other apart = queues_left w.queue s _ dir (memory_rest.lend s block).queues
     left-side (event.Take number) left other apart = queues_left w.queue s _ dir (memory_rest.take s number).queues
     left-side (event.Peek16 a) left other apart = queues_left w.queue s _ dir (memory_rest.peek s a).queues

@@ -1,7 +1,8 @@
 -- Which blocks are lent, and which frames wait, after an event.
 use Rattle.std.proofs.Common.{[], ◌%◌, ◌++◌, ◌||◌, ◌∙◌, ◌∷◌, ◌≡◌, ◌≢◌, ◌≤◌, Bool, Err, List, Ok, Some, ap, false, inl}
 use Rattle.std.proofs.Common.{inr, length, nat_lt, not, refl, subst, sym, true, ℕ}
-use Rattle.std.proofs.lemmas.Bool.{and_from, and_parts, both_ways, cases_eq, cond_both, eq-eqb, eqb-false, ltb-false}
+use Rattle.std.proofs.lemmas.Bool.{and_from, and_parts, both_ways, cases_eq, cond_both, eq-eqb, eqb-false, eqb-true}
+use Rattle.std.proofs.lemmas.Bool.{ltb-false}
 use Rattle.std.proofs.lemmas.Bool.{ne_eqb, not-true, or_cases, or_left, or_right}
 use Rattle.std.specs.Prelude.{◌==◌, Result, filter, is_some, ⊤}
 use Rattle.history_laws.specs.Prelude.{Block, Blocks, Done, Event, Memory, Named, Nothing, Outcome, Place, Port}
@@ -14,7 +15,8 @@ use Rattle.nic_device.specs.declared.event.Reply.TheVariants.{Buf, Twice}
 use Rattle.nic_device.proofs.{DmaArena.Bus.get-remove_other, DmaArena.Bus.get-remove_same, KeptBlocks.keeps_blocks}
 use Rattle.nic_device.specs.{Arrival.let_in, Arrival.sorted_in, RegisterFile.Settings.can_receive}
 use Rattle.nic_device.specs.{RxFilter.Sorting.sorted, RxFilter.declared.target.Target.Target, Switching.without_part}
-use Rattle.history_laws.specs.Lent.{AnewIsDone, LendsNone, OnlyLent, OnlyLentStays, either, with_lent, without}
+use Rattle.history_laws.specs.Lent.{AnewIsDone, LendsNone, LendsOneOf, OnlyLent, OnlyLentStays, either, with_lent}
+use Rattle.history_laws.specs.Lent.{without}
 use Rattle.device_laws.proofs.{Resetting.is_reset, Standing.memory_blocks, Standing.stays_within}
 use Rattle.device_laws.proofs.{StandingAccesses.read_rest}
 use Rattle.std.specs.FinMap as map
@@ -115,13 +117,17 @@ only_lent_stays = record {
       not_so (has_block s.memory block.number) (known block.number) (only block.number is);
 }
 
--- Of some numbers only those stay lent that one half of a driver has lent, or others, as that half lends and takes.
+-- What one half of a driver has lent, after an event of its own, by the reply and what it had: a block that it lends
+-- joins that, one that comes back may leave it, and nothing else changes.
+abbrev pub Follows : Blocks → Blocks → Event Block → Reply Block → ℕ → Type 0
+Follows had has (event.Lend b) Done n = has n ≡ (n == b.number || had n)
+Follows had has (event.Take t) (Buf b) n = (n ≢ t → had n ≡ true → has n ≡ true) × (has n ≡ true → had n ≡ true)
+Follows had has e r n = has n ≡ had n
 
--- by the reply to a taking the half has lent still what it had, but for a block that came back
-abbrev pub KeepsTaken : Blocks → ℕ → (Reply Block → Blocks) → Reply Block → Type 0
-KeepsTaken had n has (Buf b) = (k : ℕ) → k ≢ n → had k ≡ true → has (Buf b) k ≡ true
-KeepsTaken had n has r = (k : ℕ) → had k ≡ true → has r k ≡ true
+abbrev pub AllFollow : Blocks → (Reply Block → Blocks) → Event Block → Type 0
+AllFollow had has e = (r : Reply Block) (n : ℕ) → Follows had (has r) e r n
 
+-- of some numbers only those stay lent that it has lent, or others have
 module _ (own others : Blocks) (s : State) (had : Blocks) (only : OnlyLent own (either had others) s.memory) where
   abbrev pub Known : Blocks → Memory → Type 0
   Known has m = OnlyLent own (either has others) m
@@ -133,13 +139,13 @@ module _ (own others : Blocks) (s : State) (had : Blocks) (only : OnlyLent own (
     | inr theirs ↦ or_right (has k) (others k) theirs
   ]
 
-  -- an event that neither lends nor takes
+  -- over an event that neither lends nor takes
   pub still_known : (e : Event Block) (has : Blocks) → LendsNone own e → ((k : ℕ) → had k ≡ true → has k ≡ true)
       → Known has (after s e).memory
   still_known e has none keeps k is there =
       wider has k (keeps k) (only_lent_stays.others own (either had others) s e none only k is there)
 
-  -- a block is lent
+  -- where a block is lent
   with_one : (has : Blocks) (n k : ℕ) → ((k == n || had k) ≡ true → has k ≡ true)
       → with_lent (either had others) n k ≡ true → either has others k ≡ true
   with_one has n k mine is = elim (or_cases (k == n) (had k || others k) is) [
@@ -147,36 +153,43 @@ module _ (own others : Blocks) (s : State) (had : Blocks) (only : OnlyLent own (
     | inr known ↦ wider has k (λ h. mine (or_right (k == n) (had k) h)) known
   ]
 
-  pub lend_known : (b : Block) (has : Reply Block → Blocks)
-      → ((k : ℕ) → (k == b.number || had k) ≡ true → has Done k ≡ true)
-      → ((k : ℕ) → had k ≡ true → has (Twice b) k ≡ true)
-      → Known (has (reply_to s (event.Lend b))) (after s (event.Lend b)).memory
+  -- and where one comes back
+  taken_by : (n : ℕ) (has : Blocks) (r : Reply Block) → ((k : ℕ) → Follows had has (event.Take n) r k)
+      → reply_to s (event.Take n) ≡ r
+      → Known has (after s (event.Take n)).memory
+  taken_by n has (Buf b) loses told k is there =
+      let left = only_lent_stays.take own (either had others) s n b only told k is there in
+      let both = and_parts (not (k == n)) (had k || others k) left in
+      wider has k ((loses k).0 (eqb-false k n (not-true (k == n) both.0))) both.1
+  taken_by n has r loses told k is there =
+      still_known (event.Take n) has tt (λ k had. loses k ∙ had) k is there
+
+  pub follows_known : (e : Event Block) (has : Reply Block → Blocks) → AllFollow had has e
+      → Known (has (reply_to s e)) (after s e).memory
   unfolding step_of
-  lend_known b has lends twice =
+  follows_known (event.Lend b) has f =
       lent_cases (λ o. OnlyLent own (with_lent (either had others) b.number) o.state.memory
       → Known (has o.reply) o.state.memory) s b
-      (λ given k is there. wider (has (Twice b)) k (twice k) (only k is there))
-      (λ given k is there. with_one (has Done) b.number k (lends k) (given k is there))
+      (λ given k is there. wider (has (Twice b)) k (λ h. f (Twice b) k ∙ h) (only k is there))
+      (λ given k is there. with_one (has Done) b.number k (λ h. f Done k ∙ h) (given k is there))
       (only_lent_stays.lend own (either had others) s b only)
+  follows_known (event.Take n) has f =
+      let r = reply_to s (event.Take n) in taken_by n (has r) r (f r) refl
+  follows_known e has f = still_known e (has (reply_to s e)) tt (λ k h. f (reply_to s e) k ∙ h)
 
-  -- one is taken
-  without_one : (has : Blocks) (n k : ℕ) → (k ≢ n → had k ≡ true → has k ≡ true)
-      → without (either had others) n k ≡ true → either has others k ≡ true
-  without_one has n k keeps is =
-      let both = and_parts (not (k == n)) (had k || others k) is in
-      wider has k (keeps (eqb-false k n (not-true (k == n) both.0))) both.1
-
-  taken_by : (n : ℕ) (has : Reply Block → Blocks) (r : Reply Block) → KeepsTaken had n has r
-      → reply_to s (event.Take n) ≡ r → Known (has r) (after s (event.Take n)).memory
-  taken_by n has (Buf b) keeps told k is there =
-      without_one (has (Buf b)) n k (keeps k) (only_lent_stays.take own (either had others) s n b only told k is there)
-  taken_by n has r keeps told k is there =
-      wider (has r) k (keeps k) (only_lent_stays.others own (either had others) s (event.Take n) tt only k is there)
-
-  pub take_known : (n : ℕ) (has : Reply Block → Blocks) → ((r : Reply Block) → KeepsTaken had n has r)
-      → Known (has (reply_to s (event.Take n))) (after s (event.Take n)).memory
-  take_known n has keeps =
-      taken_by n has (reply_to s (event.Take n)) (keeps (reply_to s (event.Take n))) refl
+-- and all that it has lent stays among such numbers, of which a block is that it lends
+pub follows_in : (mine had : Blocks) → ((n : ℕ) → had n ≡ true → mine n ≡ true) → (e : Event Block)
+    → (has : Reply Block → Blocks) → AllFollow had has e → (r : Reply Block) → LendsOneOf mine e r
+    → (n : ℕ) → has r n ≡ true → mine n ≡ true
+follows_in mine had all (event.Lend b) has f Done is n there =
+    elim (or_cases (n == b.number) (had n) (sym (f Done n) ∙ there)) [
+      | inl same ↦ ap mine (eqb-true n b.number same) ∙ is
+      | inr old ↦ all n old
+    ]
+follows_in mine had all (event.Lend b) has f r is n there = all n (sym (f r n) ∙ there)
+follows_in mine had all (event.Take t) has f (Buf b) is n there = all n ((f (Buf b) n).1 there)
+follows_in mine had all (event.Take t) has f r is n there = all n (sym (f r n) ∙ there)
+follows_in mine had all e has f r is n there = all n (sym (f r n) ∙ there)
 
 -- The frames that wait after an event.
 

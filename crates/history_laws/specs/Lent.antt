@@ -1,6 +1,6 @@
 -- Which blocks are lent to a device, and whose they are.
 use Rattle.std.specs.Prelude.{◌&&◌, ◌==◌, ◌||◌, ◌≡◌, IsFalse, IsTrue, not, ℕ, ⊤}
-use Rattle.history_laws.specs.Prelude.{Block, Blocks, Done, Event, Memory, State, after, has_block, reply_to}
+use Rattle.history_laws.specs.Prelude.{Block, Blocks, Done, Event, Memory, Reply, State, after, has_block, reply_to}
 use Rattle.nic_device.specs.declared.event.Reply.TheVariants.{Buf}
 use Rattle.nic_device.specs.declared.event.Event.TheVariants as event
 
@@ -26,6 +26,11 @@ either xs ys number = xs number || ys number
 abbrev pub LendsOwn : Blocks → Blocks → Event Block → Type 0
 LendsOwn own others (event.Lend block) = IsTrue (own block.number) × IsFalse (others block.number)
 LendsOwn own others other = ⊤
+
+-- a block that is lent is one of these
+abbrev pub LendsOneOf : Blocks → Event Block → Reply Block → Type 0
+LendsOneOf mine (event.Lend block) Done = IsTrue (mine block.number)
+LendsOneOf mine e other = ⊤
 
 -- what was lent, and a block that was lent now; and what was lent, without one that was taken back
 abbrev pub with_lent : Blocks → ℕ → Blocks

@@ -35,6 +35,7 @@ pub fn histories_keep_devices_sound()
 
 /// What a step of transmitting writes back lies in the block where it begins: the rings of a sound device lie at
 /// multiples of 128.
+#[tactic(auto, using(crate::proofs::Blocks::reports_lie))]
 pub fn reports_lie_in_their_blocks()
     ensures { ReportsLieInBlocks }
 {}
@@ -42,6 +43,7 @@ pub fn reports_lie_in_their_blocks()
 /// Where of some numbers only those are lent that a driver knows to be, it stays so over every event: over one that
 /// lends none of them, over the lending of a block, which the driver knows from then on, and over one that takes a
 /// block back, which it knows no longer. And a block whose number isn't known is lent as it is asked.
+#[tactic(auto, using(crate::proofs::Lent::only_lent_stays, crate::proofs::Lent::anew_is_done))]
 pub fn only_known_blocks_are_lent()
     ensures stays { OnlyLentStays }
     ensures done { AnewIsDone }

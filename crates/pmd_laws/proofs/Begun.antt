@@ -1,6 +1,9 @@
 -- The halves as both sides of a queue are on: each has lent its ring's blocks, and no other; and what a driver lends
 -- from there on.
+use Rattle.driver_laws.proofs.RingLaws.Kept.{each_by}
 use Rattle.driver_laws.specs.RingLaws.Steps.{Each}
+use Rattle.pmd.specs.PmdRx.Receive.{at_start}
+use Rattle.pmd.specs.PmdRx.PmdSeam.Frames.{most_blocks}
 use Rattle.driver_laws.specs.Healthy.{lent_by}
 use Rattle.pmd_laws.proofs.Prelude.{[], ◌++◌, ◌+◌, ◌<◌, ◌∙◌, ◌∷◌, ◌≡◌, ◌≢◌, AreApart, AreLent, AreOn, AtPort, Blocks}
 use Rattle.pmd_laws.proofs.Prelude.{Call, DrivesApart, EachRingBlock, Halves, IsDrawn, IsReceiveReady, IsTransmitReady}
@@ -70,7 +73,8 @@ module _ {q : AtPort} {size frame : ℕ} {old : List Call} {a : Numbers} {new : 
   each_first : (P : ℕ → Type 0) → EachRingBlock up.receive.ring size P → Each v P
   each_first P is =
       subst (λ (r : Receive). Each r P) (sym up.receive.fresh)
-      (record { ring = is; blocks = λ k low. absurd (omega (arith, low)); fresh = tt })
+      (each_by (at_start q.port up.receive.tail up.receive.ring size (most_blocks frame)) P is
+      (λ k low. absurd (omega (arith, low))) tt)
 
   pub halves_apart : AreApart first_halves
   halves_apart n is =

@@ -165,7 +165,7 @@ module _ (x : Told) where
       let found = subst (λ (own : Blocks). FindsFault own (now x).made (halves_of (goes x).rings) new)
       (λ i k. owns_still told k i) f in
       no_fault_led_on
-      (on w origin p.front q size frame old a x.m.made told.started.0 up along (record { ground = well })) along well
+      (on up along (record { ground = well })) along well
       (is_own a)
       (last_before w origin p.front p.back p.both up.receive.quiet.0 (IsFresh w.queue frame (is_own a)) fresh)
       (others_before w.pass (is_own a) p.front p.back (subst (OnlyPassLends w.pass (is_own a)) (sym p.both) others))

@@ -34,20 +34,16 @@ module _ {w : Watched} {origin : State} {h : List Entry} {q : AtPort} {size fram
       let all = sym p.both in
       let agrees =
       switched_sides_agree w origin h q size frame old a mid v t up along well p.front p.back p.both p.fronts in
-      let one = ring_lent w origin h q size frame old a mid v t up along up.sized well p.front p.back p.both p.fronts in
+      let one = ring_lent up along well p.front p.back p.both p.fronts in
       let two =
-      other_lent w origin h q size frame old a mid v t up along up.sized well p.front p.back p.both p.fronts in
+      other_lent up along well p.front p.back p.both p.fronts in
       record {
-        sound = along.sound;
-        vfs = along.vfs;
+        along = subst (IsAlong w origin) all along;
         on = sides_went_on.received;
         up = sides_went_on.receives;
-        events = subst AreEvents all along.events;
-        legal = subst (IsLegal origin) all along.legal;
-        alone = subst (LeavesAloneFrom w origin) all along.alone;
         begun =
             begun_by w.pass p.front
-            (λ none. on_some w origin h q size frame old a mid v t up along up.sized well (sym p.fronts ∙ none));
+            (λ none. on_some up along well (sym p.fronts ∙ none));
         agree = record { receive = agrees.0; transmit = agrees.1; apart = halves_apart up };
         lent =
             subst (λ (l : List Entry). AreLent (lent_by w.pass l) (first_halves up)) all
@@ -65,7 +61,7 @@ module _ (x : Life) where
   up = x.is.up
 
   abbrev pub begun : AreOn q size frame old a up.on.mid up.empty x.r.transmit
-  begun = on w origin h q size frame old a x.started x.r up x.is.along x.is.begins
+  begun = on up x.is.along x.is.begins
 
   abbrev pub first : Halves
   first = first_halves begun

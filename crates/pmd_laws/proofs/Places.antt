@@ -1,10 +1,5 @@
 -- Of an arena's blocks those are lent at the device that its driver has out with its halves; and each block of it is in
 -- one place: free there, in hand, or lent to the device.
-use Rattle.std.proofs.lemmas.List.Folds.{list_any-append}
-use Rattle.pmd.specs.PmdRx.Keeping.{fresh_block}
-use Rattle.pmd.specs.PmdRx.declared.ring.Stage.{Stage}
-use Rattle.pmd.specs.PmdRx.declared.ring.Stage.TheVariants.{Lent}
-use Rattle.driver_laws.specs.RingLaws.Steps.{Each}
 use Rattle.driver_laws.proofs.Healthy.{known_along}
 use Rattle.driver_laws.proofs.Lending.{receive_lent}
 use Rattle.driver_laws.proofs.Sending.{sender_lent}
@@ -14,59 +9,19 @@ use Rattle.pmd_laws.specs.Told.{now}
 use Rattle.pmd_laws.proofs.Lent.{known_at, others_behind}
 use Rattle.pmd_laws.proofs.Order.{driven_by}
 use Rattle.pmd_laws.proofs.Prelude.{[], ◌++◌, ◌+◌, ◌<◌, ◌==◌, ◌∙◌, ◌∷◌, ◌≡◌, AllLendApart, AreOn, AreUp, Blocks, Bool}
-use Rattle.pmd_laws.proofs.Prelude.{BothAgree, Doer, EachInOnePlace, Halves, HasAll, IfFresh, IsToldOf, IsTrue}
+use Rattle.pmd_laws.proofs.Prelude.{BothAgree, Doer, EachInOnePlace, Halves, HasAll, IsToldOf, IsTrue}
 use Rattle.pmd_laws.proofs.Prelude.{LeadsApart, LentIsOut, List, Memory, Numbers, OnlyLent, OnlyPassLends, OutIsLent}
-use Rattle.pmd_laws.proofs.Prelude.{Parts, Piece, Receive, Rings, Running, Sender, State, Told, Up, ℕ, ap, arena_of}
-use Rattle.pmd_laws.proofs.Prelude.{arith, blocks_of, both_ways, calls_of, cond, each_ring_block, eqb-false, eqb-true}
+use Rattle.pmd_laws.proofs.Prelude.{Parts, Piece, Rings, Running, Sender, State, Told, Up, ℕ, ap, arena_of}
+use Rattle.pmd_laws.proofs.Prelude.{arith, blocks_of, both_ways, calls_of, cond, eqb-false}
 use Rattle.pmd_laws.proofs.Prelude.{false, halted_of, halves_of, has_block, has_lent, inl, inr, is_free, is_out, is_own}
-use Rattle.pmd_laws.proofs.Prelude.{is_ring_block, leads-append, leads_to, led, length, list_any, memory_after, on}
-use Rattle.pmd_laws.proofs.Prelude.{or_cases, or_from, or_parts, parts, places_of, played_by, reach, refl}
-use Rattle.pmd_laws.proofs.Prelude.{ring_block_among, ring_blocks, slice_index, subst, suc, sym, take, times-append}
+use Rattle.pmd_laws.proofs.Prelude.{is_ring_block, leads-append, leads_to, led, list_any, memory_after, on}
+use Rattle.pmd_laws.proofs.Prelude.{or_cases, or_from, or_parts, parts, places_of, played_by, refl}
+use Rattle.pmd_laws.proofs.Prelude.{ring_block_among, ring_blocks, subst, suc, sym, take, times-append}
 use Rattle.pmd_laws.proofs.Prelude.{times_among, times_in_hand, times_rest, true, true_from_ne_false, zero}
 use Rattle.pmd_laws.proofs.Told.{begins, goes, led as told_led}
 use Rattle.pmd.specs.PmdRx.Keeping as received
 use Rattle.pmd.specs.PmdTx.Leaving as leaving
 use Rattle.pmd.specs.PmdTx.Sending as sending
-
--- a fact of each block that the receive half has lent
-
-any_place : (xs : List ℕ) (n : ℕ) → list_any (λ b. n == b) xs ≡ true
-    → (k : ℕ) × (k < length xs) × (n ≡ slice_index xs k)
-any_place [] n is = cc
-any_place (x ∷ xs) n is = elim (or_cases (n == x) (list_any (λ b. n == b) xs) is) [
-  | inl here ↦ (0, omega arith, eqb-true n x here)
-  | inr later ↦ let (k, known, same) = any_place xs n later in (suc k, omega (arith, known), same)
-]
-
-fresh_has : (P : ℕ → Type 0) (n : ℕ) (stage : Stage) → IfFresh stage P
-    → list_any (λ b. n == b) (fresh_block stage) ≡ true → P n
-fresh_has P n (Lent b) has is = elim (or_cases (n == b) false is) as (λ _. P n) [
-  | inl same ↦ subst P (sym (eqb-true n b same)) has
-  | inr none ↦ cc
-]
-fresh_has P n other has is = cc
-
-part : (P : ℕ → Type 0) (n : ℕ) (xs ys : List ℕ) → (list_any (λ b. n == b) xs ≡ true → P n)
-    → (list_any (λ b. n == b) ys ≡ true → P n) → list_any (λ b. n == b) (xs ++ ys) ≡ true → P n
-part P n xs ys first then is =
-    elim (or_cases (list_any (λ b. n == b) xs) (list_any (λ b. n == b) ys)
-    (sym (list_any-append (λ (b : ℕ). n == b) xs ys) ∙ is)) as (λ _. P n) [
-      | inl here ↦ first here
-      | inr later ↦ then later
-    ]
-
-each_has : (v : Receive) (P : ℕ → Type 0) (n : ℕ) → Each v P → received.has_lent v n ≡ true → P n
-each_has v P n each is =
-    let ring : List ℕ = ring_blocks v.layout.ring v.layout.size in
-    part P n (reach v).blocks (fresh_block v.stage ++ ring)
-    (λ slot.
-    let (k, known, same) = any_place (reach v).blocks n slot in
-    subst P (sym same) (each.blocks k known))
-    (part P n (fresh_block v.stage) ring (fresh_has P n v.stage each.fresh)
-    (λ own.
-    each_ring_block v.layout.ring v.layout.size P each.ring n
-    (sym (ring_block_among v.layout.ring v.layout.size n) ∙ own)))
-    is
 
 -- what either half has lent is lent at the device, where device and driver agree
 both_lent : {queue : ℕ} {s : State} {out : List Piece} {sent : List (List ℕ)} (h : Halves)
@@ -74,8 +29,7 @@ both_lent : {queue : ℕ} {s : State} {out : List Piece} {sent : List (List ℕ)
 both_lent {queue = queue} {s = s} {out = out} {sent = sent} h both n is =
     elim (or_cases (received.has_lent h.receive n) (sending.has_lent h.transmit n) is) [
       | inl first ↦
-          each_has h.receive (λ b. has_block s.memory b ≡ true) n (receive_lent queue s out h.receive both.receive)
-          first
+          receive_lent queue s out h.receive both.receive n first
       | inr second ↦ sender_lent s queue sent h.transmit both.transmit.0 both.transmit.1 n second
     ]
 
@@ -86,7 +40,7 @@ module _ (x : Told) where
   up = told.started.2
 
   abbrev begun : AreOn q size frame old a up.on.mid up.empty told.started.0.transmit
-  begun = on w origin h q size frame old a x.m.made told.started.0 up x.along x.begins
+  begun = on up x.along x.begins
 
   -- the calls from there on
   abbrev apart : LeadsApart (is_own a) up.on.mid (begins told) (now x).made (halves_of (goes x).rings)

@@ -218,13 +218,13 @@ module _ (x : Life) where
       }
 
   on_made : x.is.up.on.mid ≢ []
-  on_made = on_some w origin h q size frame old a started r x.is.up x.is.along x.is.begins
+  on_made = on_some x.is.up x.is.along x.is.begins
 
   -- port and queue name the queue there
   pub ground_lived : IsLived x → HasGround w.queue q frame (leads_to origin h)
   ground_lived lived =
       let goes = whole x in
-      let at = ground_at w origin h q size frame old a started r x.is.up x.is.along x.is.begins in
+      let at = ground_at x.is.up x.is.along x.is.begins in
       all_lead w origin h (λ done. HasGround w.queue q frame (reached w origin done)) (λ c. IsOfLife q c.event)
       x.is.along
       (state_kept w origin (lent_by w.pass h) (HasGround w.queue q frame) (ground_kept w (lent_by w.pass h) q frame))

@@ -1,19 +1,21 @@
 -- The driver's writes of the tail, its descriptors and its looks keep what it and the device agree on.
-use Rattle.std.proofs.Common.{[], if◌then◌else◌, ◌%◌, ◌+◌, ◌<◌, ◌∙◌, ◌∷◌, ◌≡◌, ◌≤◌, Bool, List, ap, arith, drop, false}
+use Rattle.std.proofs.Common.{[], if◌then◌else◌, ◌+◌, ◌<◌, ◌∙◌, ◌∷◌, ◌≡◌, ◌≢◌, ◌≤◌, Bool, List, ap, arith, drop, false}
 use Rattle.std.proofs.Common.{inl, inr, length, refl, subst, suc, sym, true, ℕ}
-use Rattle.std.proofs.lemmas.Bool.{both_ways, cases_lt, eq-eqb}
-use Rattle.std.specs.Prelude.{slice_index_or}
+use Rattle.std.proofs.lemmas.Bool.{both_ways, cases_lt}
+use Rattle.std.specs.Prelude.{slice_index_or, ⊤}
 use Rattle.history_laws.specs.Prelude.{IsEvent, Memory, Outcome, Port, State, Tdt, TransmitQueue, Tx, WritesNoSetting}
 use Rattle.history_laws.specs.Prelude.{after, after_write, gives, named_written, place, read_at, ring_of, step_of}
 use Rattle.history_laws.specs.Prelude.{transmit_queue_of, write_at}
-use Rattle.ring_laws.specs.TransmitPrelude.{Advances, Asks, IsOwn, Looks, Segment, Sender, asking, descriptor_at, first_end}
+use Rattle.ring_laws.specs.TransmitPrelude.{Advances, Asks, IsOwn, Looks, Segment, Sender, asking, descriptor_at}
+use Rattle.ring_laws.specs.TransmitPrelude.{first_end}
 use Rattle.ring_laws.specs.TransmitPrelude.{is_sent, no_segment, segment_at, slot_at}
 use Rattle.nic_device.proofs.{Cases.poked_cases, DmaArena.Bus.small_of_lent}
 use Rattle.pmd_tx.specs.Sending.{advanced, asked, looked}
 use Rattle.history_laws.proofs.{Leaving.plain-write, Written.transmit-tail}
-use Rattle.ring_laws.proofs.Blocks.{IsWritten, descriptor-written, slot-below, slot-even, slot-lent}
+use Rattle.ring_laws.proofs.Blocks.{ready_stays, slot-apart, slot-below}
+use Rattle.ring_laws.proofs.Ring.{Stays, slot_looked, written_here, written_stays}
 use Rattle.ring_laws.proofs.Sparing.{After, Keeps, based-after, counted-on, sends_on}
-use Rattle.ring_laws.specs.Agreeing.{AgreesAt, IsBased, IsPosted, Shows}
+use Rattle.ring_laws.specs.Agreeing.{AgreesAt, IsBased, IsPosted, IsSetUp, Shows}
 use Rattle.ring_laws.proofs.Fetching.{asking-waits, done-sent, length-asking}
 use Rattle.ring_laws.specs.TransmitUp.{IsUp}
 use Rattle.nic_device.specs.declared.event.Event.TheVariants as event
@@ -36,7 +38,7 @@ pub end-last : (ss : List Segment) → first_end ss < length ss → IsLast ss (f
 end-last [] below = absurd (omega arith)
 end-last (x ∷ ss) below = end-of x ss (end-last ss) x.part.last refl below
 
-module _ (s : State) (queue : ℕ) (sent : List (List ℕ)) (v : Sender) (f : ℕ) (h : AgreesAt s queue sent v f) where
+module _ {s : State} {queue : ℕ} {sent : List (List ℕ)} {v : Sender} {f : ℕ} (h : AgreesAt s queue sent v f) where
   -- the tail is written
 
   abbrev slot : ℕ
@@ -70,17 +72,11 @@ module _ (s : State) (queue : ℕ) (sent : List (List ℕ)) (v : Sender) (f : �
   tail_keeps : IsBased t queue v.layout → AgreesAt t queue sent (advanced v) f
   tail_keeps based = record {
     based = based;
-    set_up = rw side_moved (record {
-      base = h.set_up.base;
-      length = h.set_up.length;
-      head = h.set_up.head;
-      tail = refl;
-      writeback = h.set_up.writeback;
-    });
+    set_up = subst (λ q. IsSetUp q v.layout v.poked f) (sym side_moved) (assumption h.set_up);
     counted =
         counted-on v f f v.done v.poked v.poked h.counted h.counted.done_fetched
         (omega (arith, h.counted.fetched_posted, h.counted.posted_poked)) (omega arith) h.counted.poked_lent;
-    shows = record { ring = h.shows.ring; ready = h.shows.ready; done = h.shows.done; waits = h.shows.waits };
+    shows = assumption h.shows;
     sends = sends_on s t queue sent v.layout.limit (drop f v.outstanding) v.accepted refl
         (λ x. (
           ap (λ (y : TransmitQueue). y.on) side_moved ∙ x.off,
@@ -117,25 +113,32 @@ module _ (s : State) (queue : ℕ) (sent : List (List ℕ)) (v : Sender) (f : �
     asks_fit : v.poked < v.layout.size
     asks_fit = omega (arith, h.counted.room, h.counted.lent_known, more)
 
-    written : IsWritten s.memory new v v.poked (asking x)
-    written =
-        descriptor-written s.memory h.based.sound.blocks.whole v h.based.layout h.shows.ring v.poked asks_fit (asking x)
-        (length-asking x)
+    here : slot < v.layout.size
+    here = slot-below v.layout h.based.layout v.poked (omega (arith, asks_fit))
+
+    stays : Stays v.layout.ring v.layout.size s.memory new (λ j. j ≢ slot) (λ b. ⊤)
+    stays = written_stays v.layout.ring v.layout.size slot here s.memory (asking x) (length-asking x)
 
     other : (k : ℕ) → k < v.poked
         → read_at new (descriptor_at v.layout k) 16 ≡ read_at s.memory (descriptor_at v.layout k) 16
-    other k before = written.other k (omega (arith, asks_fit)) (omega arith)
+    other k before =
+        let l = h.based.layout in
+        stays.slot (slot_at v.layout k) (slot-below v.layout l k (omega (arith, asks_fit)))
+        (slot-apart v.layout l k v.poked (omega (arith, asks_fit)) asks_fit (omega arith))
 
     waits_more : (k : ℕ) → f ≤ k → k < v.poked + 1 → IsPosted new (descriptor_at v.layout k) (segment_at v k)
     waits_more k i j = elim (cases_lt k v.poked) [
       | inl before ↦ other k before ∙ h.shows.waits k i before
-      | inr le ↦ let e : k ≡ v.poked = omega arith in rw e written.here
+      | inr le ↦
+          let e : k ≡ v.poked = omega arith in
+          rw e (written_here v.layout.ring v.layout.size slot here s.memory (asking x) (length-asking x)
+          h.based.sound.blocks.whole h.shows.ring)
     ]
 
     shows-asked : Shows new (asked v) f
     shows-asked = record {
-      ring = λ k i. written.lent (v.layout.ring + k) (h.shows.ring k i);
-      ready = λ k i. written.ready (segment_at v k) (h.shows.ready k i);
+      ring = λ k i. stays.has k i ∙ h.shows.ring k i;
+      ready = λ k i. ready_stays stays (segment_at v k) tt (h.shows.ready k i);
       done = λ k i end.
           other k (omega (arith, h.counted.fetched_posted, h.counted.posted_poked)) ∙ h.shows.done k i end;
       waits = waits_more;
@@ -148,15 +151,11 @@ module _ (s : State) (queue : ℕ) (sent : List (List ℕ)) (v : Sender) (f : �
         poked_cases (Keeps queue sent v Asks) s (descriptor_at v.layout v.poked) (asking x) (λ based. (f, h))
         (λ based. (f, h)) (λ based. (
           f,
-          record {
-            based = based;
-            set_up = h.set_up;
-            counted =
-                counted-on v f f v.done v.posted (v.poked + 1) h.counted h.counted.done_fetched
-                h.counted.fetched_posted (omega (arith, h.counted.posted_poked)) (omega (arith, more));
-            shows = shows-asked;
-            sends = h.sends;
-          },
+          assumption (
+            counted-on v f f v.done v.posted (v.poked + 1) h.counted h.counted.done_fetched
+                h.counted.fetched_posted (omega (arith, h.counted.posted_poked)) (omega (arith, more)),
+            shows-asked,
+          ),
         ))
         (based-after s queue v.layout (event.Poke16 (descriptor_at v.layout v.poked) (asking x)) h.based made tt)
 
@@ -184,13 +183,10 @@ module _ (s : State) (queue : ℕ) (sent : List (List ℕ)) (v : Sender) (f : �
 
     -- a look at the end of the oldest outstanding packet answers that descriptor's bytes and changes nothing
     pub look : step_of s (event.Peek16 (descriptor_at v.layout end)) ≡ gives (reply.Bytes descriptor) s
-    unfolding step_of
     look =
-        rw (
-          eq-eqb (descriptor_at v.layout end % 16) 0 (slot-even v h.based.layout end),
-          slot-lent v h.based.layout s.memory end (omega (arith, known, h.counted.lent_known, h.counted.room))
-              h.shows.ring,
-        ) refl
+        slot_looked v.layout.ring v.layout.size (slot_at v.layout end)
+        (slot-below v.layout h.based.layout end (omega (arith, known, h.counted.lent_known, h.counted.room))) s
+        h.shows.ring
 
     -- and tells whether it was fetched
     pub look-fetched : end < f → is_sent descriptor ≡ true
@@ -222,15 +218,11 @@ module _ (s : State) (queue : ℕ) (sent : List (List ℕ)) (v : Sender) (f : �
     look_at : After queue sent v Looks (step_of s (event.Peek16 (descriptor_at v.layout end)))
     look_at = subst (After queue sent v Looks) (sym look) (
       f,
-      record {
-        based = h.based;
-        set_up = h.set_up;
-        counted =
-            counted-on v f f (looked v descriptor).done v.posted v.poked h.counted
-            (done_tells (is_sent descriptor) refl) h.counted.fetched_posted h.counted.posted_poked h.counted.poked_lent;
-        shows = record { ring = h.shows.ring; ready = h.shows.ready; done = h.shows.done; waits = h.shows.waits };
-        sends = h.sends;
-      },
+      assumption (
+        counted-on v f f (looked v descriptor).done v.posted v.poked h.counted
+            (done_tells (is_sent descriptor) refl) h.counted.fetched_posted h.counted.posted_poked h.counted.poked_lent,
+        h,
+      ),
     )
 
   pub look_one : (a : ℕ) → IsOwn v Looks (event.Peek16 a) → After queue sent v Looks (step_of s (event.Peek16 a))

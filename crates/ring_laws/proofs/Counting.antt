@@ -18,8 +18,7 @@ use Rattle.nic_device.specs.declared.event.Event.TheVariants as event
 
 pub added-one : (out : List (ℕ × List ℕ)) (queue : ℕ) (bytes : List ℕ)
     → frames_added out (out ++ (queue, bytes) ∷ []) ≡ bytes ∷ []
-added-one out queue bytes =
-    ap (map (λ (f : ℕ × List ℕ). f.1)) (drop_at out ((queue, bytes) ∷ []) (length out) refl)
+added-one out queue bytes = ap (map (λ (f : ℕ × List ℕ). f.1)) (drop_at out ((queue, bytes) ∷ []) (length out) refl)
 
 -- one where a packet ends
 pub added-by : (out : List (ℕ × List ℕ)) (queue : ℕ) (ends : Bool) (bytes : List ℕ)
@@ -144,8 +143,7 @@ event_told : (queue : ℕ) (s : State) (e : Event Block) → IsSound s → IsEve
 event_told queue s (event.TxStep on) sound made =
     transmitted_told queue on s (after s (event.TxStep on)) (reply_to s (event.TxStep on))
     (step_suits s (event.TxStep on) sound made).fits (frames_out s (event.TxStep on))
-event_told queue s e sound made =
-    sym (never_sent e (reply_to s e) queue refl (step_suits s e sound made).fits)
+event_told queue s e sound made = sym (never_sent e (reply_to s e) queue refl (step_suits s e sound made).fits)
 
 -- a history
 

@@ -1,6 +1,7 @@
 -- What the driver handed out, and what a history from any sound device on delivered.
 pub use Rattle.history_laws.proofs.Alone.{lent_behind}
-use Rattle.std.proofs.Common.{[], ◌&&◌, ◌++◌, ◌∙◌, ◌∷◌, ◌≡◌, ◌≤◌, Bool, List, None, Option, Some, ap, append_assoc}
+use Rattle.std.proofs.Common.{[], ◌&&◌, ◌++◌, ◌∙◌, ◌∷◌, ◌≡◌, ◌≢◌, ◌≤◌, ◌⊎◌, Bool, List, None, Option, Some, ap}
+use Rattle.std.proofs.Common.{append_assoc}
 use Rattle.std.proofs.Common.{arith, cond, false, inl, inr, length, nat_lt, refl, subst, sym, true, ℕ}
 use Rattle.std.proofs.lemmas.Bool.{and_from, both_ways, cases_Bool, cases_lt, eq-eqb, eqb-false, eqb-true, lt-ltb}
 use Rattle.std.proofs.lemmas.List.{append-nil, length-append, nil_from_length}
@@ -16,14 +17,14 @@ use Rattle.device_lock.proofs.Histories.{events_before, events_behind, leads-app
 use Rattle.device_lock.specs.{Alone.lends, Alone.lent_in, History.call_in, declared.entry.Call.Call}
 use Rattle.pmd_rx.specs.Plays.{AllOwn, after_call, played_by}
 use Rattle.history_laws.proofs.{Alone.alone_by_entries, Alone.histories_sound, Steady.not_again}
-use Rattle.history_laws.specs.Alone.{AllAlone}
-use Rattle.ring_laws.proofs.Foreign.{entry_stays_up, foreign_keeps, left_up, own_stays_up, steps_keep}
+use Rattle.history_laws.specs.{Alone.AllAlone, Lent.LendsOneOf}
+use Rattle.ring_laws.proofs.Foreign.{entry_keeps, entry_stays_up, left_up, own_stays_up}
 use Rattle.ring_laws.specs.Delivered.{IsPrefixOf, delivered, packets_if_any, pieces_in, pieces_since}
-use Rattle.ring_laws.specs.Histories.{AllSpare, FindsNone, HandedIsPrefix, IsDriven, NoneIsAll, NoneIsAllBefore}
-use Rattle.ring_laws.specs.Histories.{NoneIsAllTaken, ShowsNone, Spares, SparesReceive, mark_of, marks_after}
+use Rattle.ring_laws.specs.Histories.{AllSpare, FindsNone, IsDriven, NoneIsAllBefore}
+use Rattle.ring_laws.specs.Histories.{ShowsNone, Spares, SparesReceive, mark_of, marks_after}
 use Rattle.ring_laws.specs.Joint.{Agree, AreOpen, AreSeen, InOrder, IsAt, packets_had, still_held}
 use Rattle.ring_laws.specs.Pieces.{Piece, packet_told, packets_behind, packets_of, pieces}
-use Rattle.ring_laws.proofs.{Leaving.leaving_keeps, Leaving.look_tells, ReceiveLent.LendsMine, ReceiveLent.mine_driven}
+use Rattle.ring_laws.proofs.{Leaving.leaving_keeps, Leaving.look_tells, ReceiveLent.mine_driven}
 use Rattle.ring_laws.proofs.{Own.own_keeps, Parts.none_ended}
 use Rattle.ring_laws.specs.{Steps.Each, Steps.IsMetBy, Steps.OwnReportsSpare, ReceiveUp.IsUp}
 use Rattle.nic_device.specs.declared.event.Event.TheVariants as event
@@ -64,8 +65,7 @@ all_taken queue s out v (gone, here, h) f =
       | inr no_more ↦ no_more
     ] in
     let at : IsAt Looks v.seen v.held = subst (λ (x : Stage). IsAt x v.seen v.held) f.looks h.order.stage in
-    let none : ended_of v.seen v.held ≡ [] =
-    ap (λ (p : Packet). ended_of v.seen p) at.0 ∙ none_ended v.seen in
+    let none : ended_of v.seen v.held ≡ [] = ap (λ (p : Packet). ended_of v.seen p) at.0 ∙ none_ended v.seen in
     packets_held out v gone here h.order
     ∙ ap (λ (xs : List Kept). packets_had v ++ xs)
     (none_whole (kept_of (still_held v)).bytes v.seen here at.1 h.order.seen all)
@@ -100,7 +100,7 @@ none_written queue s e no_step = refl
 lends_mine : (pass : ℕ) (mine : Blocks) (v : Receive) (own : ℕ) (e : Event Block) (r : Reply Block) → own ≡ pass
     → IsOwn v e
     → ((n : ℕ) → IsTrue (nat_lt n 65536 && ((own == pass) && lends e r n)) → IsTrue (mine n))
-    → LendsMine mine e r
+    → LendsOneOf mine e r
 lends_mine pass mine v own (event.Lend b) reply.Done same may all =
     all b.number (and_from _ _ (lt-ltb b.number 65536 may.may.low)
     (and_from _ _ (eq-eqb own pass same) (eq-eqb b.number b.number refl)))
@@ -116,13 +116,12 @@ module _ (w : Watched) (mine : Blocks) (s : State) (out : List Piece) (v : Recei
   more = out ++ pieces w.queue s e.event
 
   met : IsMetBy w (mode_in s.registers) s e
-  met = record { sound = m.sound; vfs = m.vfs; mode_is = refl; reply = legal; event = made }
+  met = assumption
 
   goes_to : (u : Receive) → Agree w.queue t more u → IsUp w.queue t → Each u (λ b. IsTrue (mine b))
       → Meets w mine t more u
   goes_to u agree up lent =
-      let vfs = m.vfs ∙ sym (step_leads s e.event).stays.vfs in
-      record { sound = keeps_sound s m.sound e.event made; vfs = vfs; agree = agree; up = up; lent = lent }
+      assumption (keeps_sound s m.sound e.event made, m.vfs ∙ sym (step_leads s e.event).stays.vfs)
 
   -- a call of the driver's own
   own_entry : e.pass ≡ w.pass → IsOwn v e.event → ((n : ℕ) → IsTrue (lent_in w.pass e n) → IsTrue (mine n))
@@ -132,14 +131,17 @@ module _ (w : Watched) (mine : Blocks) (s : State) (out : List Piece) (v : Recei
       (subst (λ r. Agree w.queue t more (drive v e.event r)) (sym legal)
       (own_keeps w.queue s out v e.event m.sound m.agree own))
       (own_stays_up w.queue s out v e.event m.sound m.agree own m.up)
-      (mine_driven mine v m.lent e.event e.reply own
-      (lends_mine w.pass mine v e.pass e.event e.reply same own covers))
+      (mine_driven mine v m.lent e.event e.reply own (lends_mine w.pass mine v e.pass e.event e.reply same own covers))
+
+  -- one of another pass, or a step
+  other_entry : OwnReportsSpare w.queue v s → (e.pass ≢ w.pass) ⊎ IsTrue (is_step e.event) → Meets w mine t more v
+  other_entry reports who =
+      goes_to v (entry_keeps w mine (mode_in s.registers) s out v e met m.agree m.lent reports alone who)
+      (entry_stays_up w mine (mode_in s.registers) s out v e met m.agree alone who m.up) m.lent
 
   -- another call of the pass
   unmarked_entry : OwnReportsSpare w.queue v s → SparesReceive w.queue v s e → Meets w mine t more v
-  unmarked_entry reports (inl step) =
-      goes_to v (steps_keep w mine (mode_in s.registers) s out v e met m.agree m.lent reports alone step)
-      (entry_stays_up w mine (mode_in s.registers) s out v e met m.agree alone (inr step) m.up) m.lent
+  unmarked_entry reports (inl step) = other_entry reports (inr step)
   unmarked_entry reports (inr free) =
       goes_to v
       (rw (none_written w.queue s e.event free.0, append-nil out) (leaving_keeps w.queue s t out v free.1 m.agree))
@@ -150,10 +152,7 @@ module _ (w : Watched) (mine : Blocks) (s : State) (out : List Piece) (v : Recei
       → AllOwn v marks (cond own (call_in e ∷ rest) rest) → Spares w s v marks e
       → ((n : ℕ) → IsTrue (lent_in w.pass e n) → IsTrue (mine n))
       → Meets w mine t more (after_call v (mark_of own marks) (call_in e))
-  entry marks false is rest owns spares covers =
-      let other = eqb-false e.pass w.pass is in
-      goes_to v (foreign_keeps w mine (mode_in s.registers) s out v e met m.agree m.lent spares.reports alone other)
-      (entry_stays_up w mine (mode_in s.registers) s out v e met m.agree alone (inl other) m.up) m.lent
+  entry marks false is rest owns spares covers = other_entry spares.reports (inl (eqb-false e.pass w.pass is))
   entry [] true is rest owns spares covers = absurd owns
   entry (true ∷ marks) true is rest owns spares covers = own_entry (eqb-true e.pass w.pass is) owns.0 covers
   entry (false ∷ marks) true is rest owns spares covers =
@@ -172,8 +171,7 @@ calls_other pass e h is = rw is refl
 -- where a history leads from a place where the two agree: they agree, and the side stayed on
 pub record Led (w : Watched) (s : State) (out : List Piece) (v : Receive) (h : List Entry) (u : Receive) : Type 0 where
   pub agree : Agree w.queue (leads_to s h) (out ++ pieces_in w.queue s h) u
-  pub since : (so_far : List Piece)
-      → pieces_since w.queue s (Some so_far) h ≡ Some (so_far ++ pieces_in w.queue s h)
+  pub since : (so_far : List Piece) → pieces_since w.queue s (Some so_far) h ≡ Some (so_far ++ pieces_in w.queue s h)
 
 on_after : (w : Watched) (s : State) (out : List Piece) (v x : Receive) (e : Entry) (es : List Entry) (u : Receive)
     → IsUp w.queue s → Led w (after s e.event) (out ++ pieces w.queue s e.event) x es u → Led w s out v (e ∷ es) u
@@ -258,48 +256,33 @@ module _ (w : Watched) (origin : State) (start rest : List Entry) (v : Receive) 
   led : Led w here [] v rest last
   led =
       plays w (lent_by w.pass (start ++ rest)) here [] v marks rest
-      (record {
-        sound = histories_sound origin start d.sound (events_before start rest d.events);
-        vfs = d.vfs ∙ sym (vfs_stays origin start);
-        agree = d.agree;
-        up = d.up;
-        lent = d.lent;
-      })
+      (assumption (
+        histories_sound origin start d.sound (events_before start rest d.events),
+        d.vfs ∙ sym (vfs_stays origin start),
+      ))
       (legal_behind origin start rest d.legal) (events_behind start rest d.events)
-      (alone_by_entries w origin start rest d.alone d.begun) d.own d.spares
-      (λ n is. lent_behind w.pass n start rest is)
+      (alone_by_entries w origin start rest d.alone d.begun) d.own d.spares (λ n is. lent_behind w.pass n start rest is)
 
   delivered_is : delivered w.queue origin (start ++ rest) ≡ packets_of (pieces_in w.queue here rest)
   delivered_is =
       ap packets_if_any (since-append w.queue origin None start rest
       ∙ ap (λ so_far. pieces_since w.queue here so_far rest) d.on ∙ led.since [])
 
-  prefix : IsPrefixOf last.handed (delivered w.queue origin (start ++ rest))
-  prefix =
-      subst (IsPrefixOf last.handed) (sym delivered_is)
-      (handed_first w.queue (leads_to here rest) (pieces_in w.queue here rest) last led.agree)
+  agreed : Agree w.queue (leads_to origin (start ++ rest)) (pieces_in w.queue here rest) last
+  agreed =
+      subst (λ (s : State). Agree w.queue s (pieces_in w.queue here rest) last) (sym (leads-append origin start rest))
+      led.agree
 
-  all : FindsNone (leads_to origin (start ++ rest)) last → last.handed ≡ delivered w.queue origin (start ++ rest)
-  all finds =
-      sym (drained w.queue (leads_to here rest) (pieces_in w.queue here rest) last led.agree
-      (subst (λ s. FindsNone s last) (leads-append origin start rest) finds))
-      ∙ sym delivered_is
+  pub handed_is_prefix : IsPrefixOf last.handed (delivered w.queue origin (start ++ rest))
+  handed_is_prefix = subst (IsPrefixOf last.handed) (sym delivered_is) (handed_first w.queue _ _ last agreed)
 
-  taken : ShowsNone (leads_to origin (start ++ rest)) last
+  pub none_is_all : FindsNone (leads_to origin (start ++ rest)) last
+      → last.handed ≡ delivered w.queue origin (start ++ rest)
+  none_is_all finds = sym (drained w.queue _ _ last agreed finds) ∙ sym delivered_is
+
+  pub none_is_all_taken : ShowsNone (leads_to origin (start ++ rest)) last
       → last.handed ++ records_of last.whole ≡ delivered w.queue origin (start ++ rest)
-  taken shows =
-      sym (all_taken w.queue (leads_to here rest) (pieces_in w.queue here rest) last led.agree
-      (subst (λ s. ShowsNone s last) (leads-append origin start rest) shows))
-      ∙ sym delivered_is
-
-pub handed_is_prefix : HandedIsPrefix
-handed_is_prefix = prefix
-
-pub none_is_all : NoneIsAll
-none_is_all = all
-
-pub none_is_all_taken : NoneIsAllTaken
-none_is_all_taken = taken
+  none_is_all_taken shows = sym (all_taken w.queue _ _ last agreed shows) ∙ sym delivered_is
 
 -- what is delivered stays so
 
@@ -339,10 +322,10 @@ none_is_all_before w origin start before rest v early marks d e finds same =
     between (played_by v early (calls_of w.pass before)).handed
     (delivered w.queue origin (start ++ before))
     (delivered w.queue origin (start ++ (before ++ rest)))
-    (prefix w origin start before v early d)
+    (handed_is_prefix w origin start before v early d)
     (subst (λ (ks : List Kept). IsPrefixOf ks (delivered w.queue origin (start ++ (before ++ rest))))
     (sym (delivered_is w origin start before v early d))
     (subst (IsPrefixOf (packets_of (pieces_in w.queue here before)))
     (sym (delivered_is w origin start (before ++ rest) v marks e ∙ ap (λ (ps : List Piece). packets_of ps) whole))
     (grows [] (pieces_in w.queue here before) (pieces_in w.queue (leads_to here before) rest))))
-    (sym (all w origin start (before ++ rest) v marks e finds) ∙ same)
+    (sym (none_is_all w origin start (before ++ rest) v marks e finds) ∙ same)

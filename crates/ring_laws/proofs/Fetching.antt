@@ -1,9 +1,9 @@
 -- A posted slot of the driver's ring is fetched.
-use Rattle.std.proofs.Common.{if◌then◌else◌, ◌%◌, ◌*◌, ◌++◌, ◌+◌, ◌-◌, ◌<◌, ◌^◌, ◌∙◌, ◌∷◌, ◌≡◌, ◌≢◌, ◌≤◌, Bool, List}
+use Rattle.std.proofs.Common.{if◌then◌else◌, ◌*◌, ◌++◌, ◌+◌, ◌-◌, ◌<◌, ◌^◌, ◌∙◌, ◌∷◌, ◌≡◌, ◌≢◌, ◌≤◌, Bool, List}
 use Rattle.std.proofs.Common.{None, Ok, Some, ap, arith, drop, false, inl, inr, length, not, refl, subst, sym, true, ℕ}
-use Rattle.std.proofs.lemmas.Bool.{and_cases, both_ways, cases_Bool, cases_eq, cases_lt, eqb-false, lt-ltb, or_right}
-use Rattle.std.proofs.{Math.Nat.mod-eq_of_lt, lemmas.List.append-nil, lemmas.List.length-append}
-use Rattle.std.specs.Prelude.{◌==◌, IsTrue}
+use Rattle.std.proofs.lemmas.Bool.{cases_Bool, cases_eq, cases_lt, or_right}
+use Rattle.std.proofs.{lemmas.List.append-nil, lemmas.List.length-append}
+use Rattle.std.specs.Prelude.{IsTrue, ⊤}
 use Rattle.history_laws.specs.Prelude.{Fetched, Memory, Ring, State, TransmitQueue, done_descriptor, first_half}
 use Rattle.history_laws.specs.Prelude.{has_block, is_empty, is_lent, is_outside, read_at, second_half, sending_of}
 use Rattle.history_laws.specs.Prelude.{transmit_queue_of, write_at}
@@ -18,8 +18,9 @@ use Rattle.nic_device.specs.{DmaRing.declared.transmit.Command.Command, TxRing.F
 use Rattle.nic_device.specs.{TxRing.Fetch.fetch_of, TxRing.Frame.frame_of, TxRing.Laws.HasData, TxRing.Laws.command_at}
 use Rattle.nic_device.specs.{TxRing.Report.head_address, TxRing.Report.new_head, TxRing.declared.tx.Tx.Tx}
 use Rattle.pmd_tx.proofs.PmdSeam.Rings.{each_first}
-use Rattle.ring_laws.proofs.Blocks.{IsWritten, descriptor-written, slot-below, slot-lent}
-use Rattle.ring_laws.specs.Agreeing.{AgreesAt, ArePackets, IsDone, IsPosted, Shows, staged_behind}
+use Rattle.ring_laws.proofs.Blocks.{ready_stays, slot-apart, slot-below, slot-lent}
+use Rattle.ring_laws.proofs.Ring.{Stays, address_small, ends_apart, inside_of, written_here, written_stays}
+use Rattle.ring_laws.specs.Agreeing.{AgreesAt, ArePackets, IsDone, IsReady, Shows, staged_behind}
 
 -- A posted slot that is fetched: its segment is staged, and at the end of a packet that goes out, and the descriptor is
 -- done.
@@ -56,20 +57,6 @@ length-asking x = (halves_come_back (2048 * x.block) (word_of x)).size
 pub length-done : (d : List ℕ) → length (done_descriptor d) ≡ 16
 length-done d = (halves_come_back (first_half d) (with_done (second_half d))).size
 
--- the slot at the head asks for a segment that can be sent behind what is staged
-pub record IsToSend (m : Memory) (r : Ring) (tx : Tx) (staged : List ℕ) (x : Segment) : Type 0 where
-  pub inside : is_outside r ≡ false
-  pub lent : is_lent m (head_address r) 16 ≡ true
-  pub posted : IsPosted m (head_address r) x
-  pub bytes : read_at m (2048 * x.block) (length x.part.bytes) ≡ x.part.bytes
-  pub buffer : has_block m x.block ≡ true
-  pub low : x.block < 65536
-  pub short : length x.part.bytes ≤ 2048
-  pub whole : x.part.whole ≤ 10240
-  pub fits : length (staged ++ x.part.bytes) ≤ tx.limit
-  pub long : x.part.last ≡ true → 60 ≤ length (staged ++ x.part.bytes)
-  pub writeback : tx.writeback ≡ None
-
 -- what is told of the slot, and what fetching it leaves
 abbrev pub segment_fetched : Ring → List ℕ → Segment → Fetched
 segment_fetched r staged x = record {
@@ -92,46 +79,9 @@ frame-long : (pad : Bool) (bytes : List ℕ) → 60 ≤ length bytes → frame_o
 frame-long true bytes long = let none : 60 - length bytes ≡ 0 = omega arith in rw none (append-nil bytes)
 frame-long false bytes long = refl
 
-module _ (m : Memory) (r : Ring) (tx : Tx) (staged : List ℕ) (x : Segment) (h : IsToSend m r tx staged x) where
-  command : command_in (asking x) ≡ data_command (length x.part.bytes) x.part.last
-  command = command-asking x h.short h.whole
-
-  named : buffer_bytes m (asking x) ≡ x.part.bytes
-  named = rw (command, buffer-asking x h.short h.whole h.low) h.bytes
-
-  outcome-segment : data_outcome m staged r tx (asking x) ≡ segment_outcome m r staged x
-  outcome-segment = elim (cases_Bool x.part.last) [
-    | inl last ↦ rw (named, command, last, h.writeback, frame-long tx.pad (staged ++ x.part.bytes) (h.long last)) refl
-    | inr other ↦ rw (named, command, other) refl
-  ]
-
-  pub fetch-segment : fetch_of m staged r tx ≡ segment_outcome m r staged x
-  fetch-segment =
-      let d : descriptor_of m r ≡ asking x = h.posted in
-      let c : command_at m r ≡ data_command (length x.part.bytes) x.part.last = ap command_in d ∙ command in
-      let b : buffer_in (descriptor_of m r) ≡ 2048 * x.block =
-      ap buffer_in d ∙ buffer-asking x h.short h.whole h.low in
-      let len : (command_at m r).len ≡ length x.part.bytes = ap (λ (y : Command). y.len) c in
-      let report : (command_at m r).report ≡ x.part.last = ap (λ (y : Command). y.report) c in
-      let full : HasData m r = record {
-        descriptor = record { inside = h.inside; lent = h.lent };
-        extended = ap (λ (y : Command). y.extended) c;
-        type = ap (λ (y : Command). y.kind) c;
-      } in
-      let can : CanSend m r tx (length staged) (descriptor_of m r) = record {
-        no_offload = ap (λ (y : Command). y.offload) c;
-        room = omega (arith, len, h.fits, length-append staged x.part.bytes);
-        buffer =
-            rw (b, len)
-            (is_lent_in m (2048 * x.block) (length x.part.bytes) x.block 0 h.buffer (omega arith)
-            (omega (arith, h.short)));
-        report = rw (report, h.writeback) (or_right (not x.part.last) (is_lent m (head_address r) 16) h.lent);
-      } in
-      (tests_in_order m staged r tx).sent full can ∙ ap (data_outcome m staged r tx) d ∙ outcome-segment
-
 -- Steps of transmitting of the driver's own queue.
 
-module _ (s : State) (queue : ℕ) (sent : List (List ℕ)) (v : Sender) (f : ℕ) (h : AgreesAt s queue sent v f) where
+module _ {s : State} {queue : ℕ} {sent : List (List ℕ)} {v : Sender} {f : ℕ} (h : AgreesAt s queue sent v f) where
   abbrev pub side : TransmitQueue
   side = transmit_queue_of s.registers queue
 
@@ -143,42 +93,31 @@ module _ (s : State) (queue : ℕ) (sent : List (List ℕ)) (v : Sender) (f : �
 
   -- the posted ones have slots
   known : v.posted < v.layout.size
-  known =
-      let c = h.counted in omega (arith, c.posted_poked, c.poked_lent, c.lent_known, c.room)
+  known = let c = h.counted in omega (arith, c.posted_poked, c.poked_lent, c.lent_known, c.room)
 
   below : (k : ℕ) → k ≤ v.posted → slot_at v.layout k < v.layout.size
-  below k le =
-      slot-below v.layout h.based.layout k (omega (arith, known))
+  below k le = slot-below v.layout h.based.layout k (omega (arith, known))
 
   inside : is_outside side.ring ≡ false
   inside =
-      let a : side.ring.head < slots_of side.ring = rw (slots, h.set_up.head) (below f h.counted.fetched_posted) in
-      let b : side.ring.tail < slots_of side.ring = rw (slots, h.set_up.tail) (below v.posted (omega arith)) in
-      rw (lt-ltb side.ring.head (slots_of side.ring) a, lt-ltb side.ring.tail (slots_of side.ring) b) refl
+      inside_of side.ring v.layout.size h.set_up.length (rw h.set_up.head (below f h.counted.fetched_posted))
+      (rw h.set_up.tail (below v.posted (omega arith)))
 
   pub head_is : head_address side.ring ≡ descriptor_at v.layout f
   head_is =
-      let e : side.ring.base + 16 * side.ring.head ≡ descriptor_at v.layout f =
-      rw (h.set_up.base, h.set_up.head) refl in
       let low = below f h.counted.fetched_posted in
-      let few = h.based.layout.few in
       let first = each_first v.layout.ring v.layout.size (λ n. IsTrue (has_block s.memory n)) h.based.layout.some
       h.shows.ring in
-      let small = small_of_lent s.memory v.layout.ring h.based.sound.blocks.whole first in
-      ap (λ (n : ℕ). n % 2 ^ 64) e ∙ mod-eq_of_lt (omega arith)
+      address_small side.ring.base side.ring.head v.layout.ring (slot_at v.layout f) h.set_up.base h.set_up.head
+      (small_of_lent s.memory v.layout.ring h.based.sound.blocks.whole first) (omega (arith, low, h.based.layout.few))
 
   -- where the queue isn't silent, a segment is posted and not fetched
   pub more : is_empty side.ring ≡ false → f < v.posted
-  more full = elim (and_cases (not (is_outside side.ring)) (side.ring.head == side.ring.tail) full) [
-    | inl out ↦ absurd (both_ways (not (is_outside side.ring)) out (rw inside refl))
-    | inr apart ↦
-        let ne : side.ring.head ≢ side.ring.tail = eqb-false side.ring.head side.ring.tail apart in
-        elim (cases_lt f v.posted) [
-          | inl lt ↦ lt
-          | inr le ↦
-              let same : f ≡ v.posted = omega (arith, h.counted.fetched_posted) in
-              absurd (ne (h.set_up.head ∙ ap (slot_at v.layout) same ∙ sym h.set_up.tail))
-        ]
+  more some = elim (cases_lt f v.posted) [
+    | inl lt ↦ lt
+    | inr le ↦
+        let same : f ≡ v.posted = omega (arith, h.counted.fetched_posted) in
+        absurd (ends_apart side.ring inside some (h.set_up.head ∙ ap (slot_at v.layout) same ∙ sym h.set_up.tail))
   ]
 
   module _ (posted : f < v.posted) where
@@ -188,23 +127,63 @@ module _ (s : State) (queue : ℕ) (sent : List (List ℕ)) (v : Sender) (f : �
     pub small : f < v.layout.size
     small = omega (arith, posted, known)
 
-    pub to_send : (staged : List ℕ) → ArePackets v.layout.limit staged (x ∷ drop (f + 1) v.outstanding)
-        → IsToSend s.memory side.ring (sending_of s.registers side) staged x
-    to_send staged packets =
-        let ready = h.shows.ready f lent in
-        record {
-          inside = inside;
-          lent = rw head_is (slot-lent v h.based.layout s.memory f (omega (arith, small)) h.shows.ring);
-          posted = rw head_is (h.shows.waits f (omega arith) (omega (arith, posted, h.counted.posted_poked)));
-          bytes = ready.bytes;
-          buffer = ready.lent;
-          low = small_of_lent s.memory x.block h.based.sound.blocks.whole ready.lent;
-          short = ready.short;
-          whole = ready.whole;
-          fits = rw h.based.limit packets.0;
-          long = packets.1;
-          writeback = h.set_up.writeback;
-        }
+    ready : IsReady s.memory v.layout.ring v.layout.size x
+    ready = h.shows.ready f lent
+
+    slot_lent : is_lent s.memory (head_address side.ring) 16 ≡ true
+    slot_lent = rw head_is (slot-lent v.layout h.based.layout s.memory f (omega (arith, small)) h.shows.ring)
+
+    asks : descriptor_of s.memory side.ring ≡ asking x
+    asks = rw head_is (h.shows.waits f (omega arith) (omega (arith, posted, h.counted.posted_poked)))
+
+    command : command_in (asking x) ≡ data_command (length x.part.bytes) x.part.last
+    command = command-asking x ready.short ready.whole
+
+    buffer : buffer_in (asking x) ≡ 2048 * x.block
+    buffer =
+        buffer-asking x ready.short ready.whole (small_of_lent s.memory x.block h.based.sound.blocks.whole ready.lent)
+
+    -- it is sent behind what is staged, where that and it are of packets
+    module _ (staged : List ℕ) (packets : ArePackets v.layout.limit staged (x ∷ drop (f + 1) v.outstanding)) where
+      abbrev tx : Tx
+      tx = sending_of s.registers side
+
+      outcome-segment : data_outcome s.memory staged side.ring tx (asking x)
+          ≡ segment_outcome s.memory side.ring staged x
+      outcome-segment =
+          let named : buffer_bytes s.memory (asking x) ≡ x.part.bytes = rw (command, buffer) ready.bytes in
+          elim (cases_Bool x.part.last) [
+            | inl last ↦
+                let long = frame-long tx.pad (staged ++ x.part.bytes) (packets.1 last) in
+                rw (named, command, last, h.set_up.writeback, long) refl
+            | inr other ↦ rw (named, command, other) refl
+          ]
+
+      pub fetch-segment : fetch_of s.memory staged side.ring tx ≡ segment_outcome s.memory side.ring staged x
+      fetch-segment =
+          let c : command_at s.memory side.ring ≡ data_command (length x.part.bytes) x.part.last =
+          ap command_in asks ∙ command in
+          let b : buffer_in (descriptor_of s.memory side.ring) ≡ 2048 * x.block = ap buffer_in asks ∙ buffer in
+          let len : (command_at s.memory side.ring).len ≡ length x.part.bytes = ap (λ (y : Command). y.len) c in
+          let report : (command_at s.memory side.ring).report ≡ x.part.last = ap (λ (y : Command). y.report) c in
+          let full : HasData s.memory side.ring = record {
+            descriptor = record { inside = inside; lent = slot_lent };
+            extended = ap (λ (y : Command). y.extended) c;
+            type = ap (λ (y : Command). y.kind) c;
+          } in
+          let can : CanSend s.memory side.ring tx (length staged) (descriptor_of s.memory side.ring) = record {
+            no_offload = ap (λ (y : Command). y.offload) c;
+            room = omega (arith, len, h.based.limit, packets.0, length-append staged x.part.bytes);
+            buffer =
+                rw (b, len)
+                (is_lent_in s.memory (2048 * x.block) (length x.part.bytes) x.block 0 ready.lent (omega arith)
+                (omega (arith, ready.short)));
+            report =
+                rw (report, h.set_up.writeback)
+                (or_right (not x.part.last) (is_lent s.memory (head_address side.ring) 16) slot_lent);
+          } in
+          (tests_in_order s.memory staged side.ring tx).sent full can
+          ∙ ap (data_outcome s.memory staged side.ring tx) asks ∙ outcome-segment
 
     -- the memory after it is fetched: at the end of a packet its descriptor is done, and the rest is as it was
 
@@ -214,54 +193,40 @@ module _ (s : State) (queue : ℕ) (sent : List (List ℕ)) (v : Sender) (f : �
     abbrev new : Memory
     new = write_at s.memory (descriptor_at v.layout f) done
 
-    written : IsWritten s.memory new v f done
-    written =
-        descriptor-written s.memory h.based.sound.blocks.whole v h.based.layout h.shows.ring f small done
-        (length-done (asking x))
+    here : slot_at v.layout f < v.layout.size
+    here = slot-below v.layout h.based.layout f (omega (arith, small))
 
-    done_now : (k : ℕ) → k < f + 1 → (segment_at v k).part.last ≡ true
-        → IsDone new (descriptor_at v.layout k) (segment_at v k)
-    done_now k low end = elim (cases_eq k f) [
-      | inl e ↦ rw e written.here
-      | inr ne ↦
-          let before : k < f = omega (arith, ne) in
-          written.other k (omega (arith, small)) ne ∙ h.shows.done k before end
-    ]
+    stays : (last : Bool) → Stays v.layout.ring v.layout.size s.memory (if last then new else s.memory)
+        (λ j. j ≢ slot_at v.layout f) (λ b. ⊤)
+    stays true =
+        written_stays v.layout.ring v.layout.size (slot_at v.layout f) here s.memory done (length-done (asking x))
+    stays false =
+        record { has = λ k i. refl; slot = λ j i ne. refl; bytes = λ b len out is few. refl; there = λ b is. refl }
 
-    -- at the end of a packet
-    shows-end : Shows new v (f + 1)
-    shows-end =
-        let c = h.counted in
-        record {
-          ring = λ k i. written.lent (v.layout.ring + k) (h.shows.ring k i);
-          ready = λ k i. written.ready (segment_at v k) (h.shows.ready k i);
-          done = done_now;
-          waits = λ k i j.
-              written.other k (omega (arith, c.poked_lent, c.lent_known, c.room)) (omega arith)
-              ∙ h.shows.waits k (omega arith) j;
-        }
-
-    -- and before it
-    done_before : x.part.last ≡ false → (k : ℕ) → k < f + 1 → (segment_at v k).part.last ≡ true
-        → IsDone s.memory (descriptor_at v.layout k) (segment_at v k)
-    done_before on k low end = elim (cases_eq k f) [
-      | inl e ↦
-          absurd (both_ways x.part.last on (subst (λ (j : ℕ). (segment_at v j).part.last ≡ true) e end))
-      | inr ne ↦ h.shows.done k (omega (arith, ne)) end
-    ]
-
-    shows-part : x.part.last ≡ false → Shows s.memory v (f + 1)
-    shows-part on = record {
-      ring = h.shows.ring;
-      ready = h.shows.ready;
-      done = done_before on;
-      waits = λ k i j. h.shows.waits k (omega arith) j;
-    }
+    now_done : (last : Bool) → last ≡ true → IsDone (if last then new else s.memory) (descriptor_at v.layout f) x
+    now_done true is =
+        written_here v.layout.ring v.layout.size (slot_at v.layout f) here s.memory done (length-done (asking x))
+        h.based.sound.blocks.whole h.shows.ring
+    now_done false is = cc
 
     pub shows-fetched : Shows (if x.part.last then new else s.memory) v (f + 1)
     shows-fetched =
-        let Showing : Bool → Type 0 = λ b. Shows (if b then new else s.memory) v (f + 1) in
-        elim (cases_Bool x.part.last) [
-          | inl last ↦ subst Showing (sym last) shows-end
-          | inr on ↦ subst Showing (sym on) (shows-part on)
-        ]
+        let t = stays x.part.last in
+        let c = h.counted in
+        let other : (k : ℕ) → k < v.layout.size → k ≢ f
+        → read_at (if x.part.last then new else s.memory) (descriptor_at v.layout k) 16
+        ≡ read_at s.memory (descriptor_at v.layout k) 16 =
+        λ k below ne. t.slot (slot_at v.layout k) (slot-below v.layout h.based.layout k (omega (arith, below)))
+        (slot-apart v.layout h.based.layout k f below small ne) in
+        record {
+          ring = λ k i. t.has k i ∙ h.shows.ring k i;
+          ready = λ k i. ready_stays t (segment_at v k) tt (h.shows.ready k i);
+          done = λ k i end. elim (cases_eq k f) [
+            | inl e ↦
+                rw e (now_done x.part.last (subst (λ (j : ℕ). (segment_at v j).part.last ≡ true) e end))
+            | inr ne ↦ other k (omega (arith, small)) ne ∙ h.shows.done k (omega (arith, ne)) end
+          ];
+          waits = λ k i j.
+              other k (omega (arith, c.poked_lent, c.lent_known, c.room)) (omega arith)
+              ∙ h.shows.waits k (omega arith) j;
+        }

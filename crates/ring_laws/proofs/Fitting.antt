@@ -86,8 +86,7 @@ begun-filter queue f (w ∷ others) are all = filtered_first queue f w others ar
 
 begun-push : (queue : ℕ) (ws : List Waiting) (x : Waiting) → x.offset ≡ 0
     → begun_on queue (ws ++ x ∷ []) ≡ begun_on queue ws
-begun-push queue [] x none =
-    ap (λ (n : ℕ). cond (x.queue == queue) n 0) none ∙ either_zero (x.queue == queue)
+begun-push queue [] x none = ap (λ (n : ℕ). cond (x.queue == queue) n 0) none ∙ either_zero (x.queue == queue)
 begun-push queue (w ∷ ws) x none = refl
 
 begun-parted : (queue on : ℕ) (ws : List Waiting) → AreWaiting ws → on ≢ queue
@@ -130,9 +129,7 @@ module _ (queue most : ℕ) (s : State) (out : List Piece) (v : Receive) (gone h
   Step o = Goes o.state.waiting (pieces_told queue s.waiting o.reply)
 
   none_written : (ws : List Waiting) → begun_on queue ws ≡ begun_on queue s.waiting → Goes ws []
-  none_written ws same =
-      subst (λ (xs : List Piece). (begun_on queue ws ≡ 2048 * open_after 0 xs) × AllFit most 0 xs)
-      (sym (append-nil out)) (same ∙ fit.begun, fit.pieces)
+  none_written ws same = rw (append-nil out) (same ∙ fit.begun, fit.pieces)
 
   module _ (w : Waiting) (others : List Waiting) (e : s.waiting ≡ w ∷ others) where
     are : AreWaiting (w ∷ others)
@@ -234,18 +231,8 @@ module _ (queue most : ℕ) (s : State) (out : List Piece) (v : Receive) (gone h
     writes : (f : Filled) → (filled_by s w).answer ≡ Ok f → (memory : Memory)
         → Step (receive.slot_done s w others (Ok f) memory)
     writes f is memory = elim (cases_eq w.queue queue) [
-      | inl own ↦
-          subst (λ (ps : List Piece). Goes (receive.after_piece w others f) ps)
-          (sym (ap (λ (b : Bool). cond b (piece f is own ∷ []) []) (eq-eqb w.queue queue own)))
-          (writes_own f is own)
-      | inr ne ↦
-          subst (λ (ps : List Piece). Goes (receive.after_piece w others f) ps)
-          (sym (ap (λ (b : Bool). cond b (record {
-            bytes = piece_of s.waiting f.len;
-            first = first_of s.waiting;
-            end = f.end;
-          } ∷ []) []) (ne_eqb w.queue queue ne)))
-          (writes_other f ne)
+      | inl own ↦ rw (eq-eqb w.queue queue own) (writes_own f is own)
+      | inr ne ↦ rw (ne_eqb w.queue queue ne) (writes_other f ne)
     ]
 
     answered : (answer : Result Filled RingFault) → (filled_by s w).answer ≡ answer
@@ -283,8 +270,7 @@ module _ (queue most : ℕ) (s : State) (out : List Piece) (v : Receive) (gone h
       (λ own. both_ways _ (subst (λ (q : ℕ). is_wanted s.registers Rx q ≡ false) own off) up.wanted)
   changes e other none spares = tt
 
-  stays : (e : Event Block) → WritesNoSetting s e → ResetsNoPool queue s e
-      → Goes (after s e).waiting (pieces queue s e)
+  stays : (e : Event Block) → WritesNoSetting s e → ResetsNoPool queue s e → Goes (after s e).waiting (pieces queue s e)
   stays event.RxStep none spares = received
   stays e none spares =
       none_written (after s e).waiting (waiting_changed Same s refl e (changes e (λ is. cc) none spares))

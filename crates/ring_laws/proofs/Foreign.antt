@@ -1,20 +1,20 @@
 -- Events that aren't the driver's own: they keep the agreement, and a side up that is.
-use Rattle.std.proofs.Common.{[], ◌*◌, ◌++◌, ◌/◌, ◌<◌, ◌^◌, ◌||◌, ◌∙◌, ◌∷◌, ◌≡◌, ◌≢◌, ◌≤◌, Bool, List, None, Ok, Option}
-use Rattle.std.proofs.Common.{Some, ap, arith, cond, false, inl, inr, length, refl, subst, sym, true, ℕ}
+use Rattle.std.proofs.Common.{[], ◌*◌, ◌++◌, ◌/◌, ◌<◌, ◌^◌, ◌||◌, ◌∙◌, ◌∷◌, ◌≡◌, ◌≢◌, ◌≤◌, ◌⊎◌, Bool, List, Ok}
+use Rattle.std.proofs.Common.{ap, arith, cond, false, inl, inr, length, refl, subst, sym, true, ℕ}
 use Rattle.std.proofs.lemmas.Bool.{both_ways, cases_eq, cases_lt, cond_both, eq-eqb, or_parts}
 use Rattle.std.proofs.lemmas.List.{append-nil}
 use Rattle.std.specs.{Bool.beq, Prelude.IsTrue, Prelude.nat_lt, Prelude.⊤}
-use Rattle.history_laws.specs.Prelude.{Block, Blocks, Done, Entry, Event, Filled, IsSound, LeavesBlock, LeavesBlocks}
+use Rattle.history_laws.specs.Prelude.{Block, Blocks, Done, Entry, EntryLeavesAlone, Event, Filled, IsSound}
+use Rattle.history_laws.specs.Prelude.{LeavesBlock, LeavesBlocks}
 use Rattle.history_laws.specs.Prelude.{LeavesQueues, LeavesRegisters, LiesIn, Memory, Mode, Outcome, Port, Reply, Rx}
 use Rattle.history_laws.specs.Prelude.{State, Tx, Waiting, Watched, WritesNoSetting, WritesOutside, Wrote, after, gives}
 use Rattle.history_laws.specs.Prelude.{is_on, is_wanted, mode_in, receive_queue_of, reply_to, rest_of, step_of}
-use Rattle.history_laws.specs.Prelude.{told_back}
 use Rattle.ring_laws.specs.ReceivePrelude.{Layout, MovesNext, Receive, block_at, is_step, reach, slot_at}
 use Rattle.nic_device.specs.declared.event.Reply.TheVariants.{Idle, NoQueue}
 use Rattle.nic_device.{proofs.RxRing.Fills.takes_piece, specs.RegisterFile.Settings.is_stopped, specs.Sound.AreWaiting}
 use Rattle.nic_device.{specs.Switching.queue_switched, specs.Switching.side_switched}
 use Rattle.pmd_rx.{proofs.PmdSeam.Rings.slot_block, proofs.PmdSeam.Rings.slot_lies, specs.PmdSeam.Slots.descriptor_in}
-use Rattle.history_laws.proofs.Deeds.{left_did, receiving_did, side_did, switching_did}
+use Rattle.history_laws.proofs.Deeds.{left_deed, left_did, receiving_did, side_did, switching_did}
 use Rattle.history_laws.proofs.Leaving.{left-setting, left-side, receive_left, receive_of}
 use Rattle.history_laws.proofs.{Blocks.IsSparedBy, Blocks.reported_elsewhere, Blocks.spared_block, Steady.resting_same}
 use Rattle.history_laws.proofs.{Steady.up_kept, Written.receive-tail}
@@ -22,9 +22,10 @@ use Rattle.history_laws.proofs.DeviceLaws.{Delivered.told-lt, KeptSettings.setti
 use Rattle.history_laws.proofs.DeviceLaws.{Standing.stays_within, StandingQueues.switching_rest}
 use Rattle.history_laws.specs.Left.{Deed, Did, IsLeft, Rested, Rests, Shuts, Takes, Took, fill_on}
 use Rattle.history_laws.specs.{Segments.piece_in, Sides.IsTried, Sides.receive_side, Sides.side_of}
-use Rattle.ring_laws.proofs.Kept.{bytes_inside, each_map, each_of, posted_block, slot_below}
+use Rattle.ring_laws.proofs.Kept.{posted_block, slot_below}
+use Rattle.ring_laws.proofs.Ring.{bytes_inside}
 use Rattle.ring_laws.proofs.Receiving.{buffer_is, filled_holds, head_is, no_fault, room_left}
-use Rattle.ring_laws.specs.Steps.{DeviceStepKeeps, Each, EnableStepKeeps, ForeignEntryKeeps, IsMetBy}
+use Rattle.ring_laws.specs.Steps.{Each, EnableStepKeeps, EntryKeeps, IsMetBy}
 use Rattle.ring_laws.specs.ReceiveUp.{EnableStepChangesNothing, EntryStaysUp, IsUp, LeavingStaysUp, OwnEventStaysUp}
 use Rattle.ring_laws.proofs.{Leaving.switching_keeps, Naming.tail_written, Naming.word_low}
 use Rattle.ring_laws.specs.{Inside.IsInRing, Inside.IsInside, Inside.PieceIsInside, Joint.Agree, Joint.Holds}
@@ -75,36 +76,28 @@ module _ (queue : ℕ) (s : State) (out : List Piece) (v : Receive) (sound : IsS
   pub rested : Rests Rx queue s e → Each v (λ b. LeavesBlock b s t) → Agree queue t out v
   rested rests blocks =
       let same = resting_same Rx queue s e rests in
-      switching_keeps queue s t out v (record {
-        ring = same.ring;
-        control = same.control;
-        mode = (settings_stand s e none).mode;
-        vfs = (stays_within s e).vfs;
-        blocks = blocks;
-      }) j
+      switching_keeps queue s t out v
+      (assumption (same.ring, same.control, (settings_stand s e none).mode, (stays_within s e).vfs)) j
 
   pub deed_keeps : Deed Rx queue s e → (pieces queue s e ≡ [] → Each v (λ b. LeavesBlock b s t))
       → Agree queue t (out ++ pieces queue s e) v
   deed_keeps (Took x) blocks = took x
-  deed_keeps (Rested no_piece rests) blocks =
-      subst (λ xs. Agree queue t xs v) (sym (ap (λ ps. out ++ ps) no_piece ∙ append-nil out))
-      (rested rests (blocks no_piece))
+  deed_keeps (Rested no_piece rests) blocks = rw (no_piece, append-nil out) (rested rests (blocks no_piece))
 
 -- a step of receiving that writes no piece on the queue spares the driver's blocks
 spares_each : (queue : ℕ) (v : Receive) (ws : List Waiting) (r : Reply Block) → pieces_told queue ws r ≡ []
     → SparesBlocks queue v r → Each v (λ b. IsSparedBy r b)
-spares_each queue v ws (Wrote on slot end desc at len) none spares = elim (cases_eq on queue) [
+spares_each queue v ws (Wrote on slot end desc at len) none spares b lent = elim (cases_eq on queue) [
   | inl own ↦ absurd (let e = rw (eq-eqb on queue own) at none in cc)
-  | inr ne ↦ spares ne
+  | inr ne ↦ spares ne b lent
 ]
-spares_each queue v ws other none spares = each_of v _ (λ b. tt)
+spares_each queue v ws other none spares b lent = tt
 
 pub receive_keeps : ReceiveStepKeeps
 receive_keeps queue s out v sound j spares =
     let r = reply_to s event.RxStep in
     deed_keeps queue s out v sound j event.RxStep tt (receiving_did queue s sound)
-    (λ none. each_map v (λ b. IsSparedBy r b) (λ b. LeavesBlock b s (after s event.RxStep))
-    (λ b o. spared_block s b o) (spares_each queue v s.waiting r none spares))
+    (λ none b lent. spared_block s b (spares_each queue v s.waiting r none spares b lent))
 
 -- A step of receiving on the driver's own queue writes into blocks that the driver has lent for it.
 
@@ -176,8 +169,7 @@ switched_same s queue wanted on =
 pub enable_keeps : EnableStepKeeps
 enable_keeps queue s out v sound j =
     rested queue s out v sound j (event.QueueStep Rx queue) tt (switching_did queue s sound j.2.named.low Rx)
-    (each_of v (λ b. LeavesBlock b s (after s (event.QueueStep Rx queue)))
-    (λ b. ap (λ (m : Memory). map.get m b) (switching_rest s Rx queue).memory))
+    (λ b lent. ap (λ (m : Memory). map.get m b) (switching_rest s Rx queue).memory)
 
 -- A receive side that is on and wanted on stays so, where device and driver agree.
 
@@ -215,8 +207,7 @@ own_stays_up queue s out v (event.Peek16 a) i j own up = calls_up queue s _ (mem
 own_stays_up queue s out v (event.Take n) i j own up = calls_up queue s _ (memory_rest.take s n).queues up
 own_stays_up queue s out v (event.Lend b) i j own up = calls_up queue s _ (memory_rest.lend s b).queues up
 own_stays_up queue s out v (event.Poke16 a bytes) i j own up = calls_up queue s _ (memory_rest.poke s a bytes).queues up
-own_stays_up queue s out v (event.Write port number word) i j own up =
-    move_up queue s out v port number word i j own up
+own_stays_up queue s out v (event.Write port number word) i j own up = move_up queue s out v port number word i j own up
 own_stays_up queue s out v e i j own up = absurd own
 
 -- an event that leaves the queue's registers alone
@@ -224,41 +215,19 @@ pub alone_stays_up : (w : Watched) (s : State) (out : List Piece) (v : Receive) 
     → IsSound s → Agree w.queue s out v → LeavesRegisters w (mode_in s.registers) e → IsUp w.queue s
     → IsUp w.queue (after s e)
 alone_stays_up w s out v e vfs sound j registers up =
-    deed_up w.queue s out v e j
-    (side_did Rx w.queue s e sound j.2.named.low (left-side w s vfs Rx e registers)) up
-
-pub entry_stays_up : EntryStaysUp
-entry_stays_up w mine mode s out v e met j alone (inl other) up =
-    alone_stays_up w s out v e.event met.vfs met.sound j
-    (subst (λ k. LeavesRegisters w k e.event) met.mode_is (alone.registers other)) up
-entry_stays_up w mine mode s out v e met j alone (inr is) up =
-    alone_stays_up w s out v e.event met.vfs met.sound j (no_registers w (mode_in s.registers) mine e.event is).0 up
+    deed_up w.queue s out v e j (side_did Rx w.queue s e sound j.2.named.low (left-side w s vfs Rx e registers)) up
 
 -- Entries that aren't the driver's own and leave its queue alone keep the agreement.
 
 module _ (queue : ℕ) (mine : Blocks) (s : State) (v : Receive) (sound : IsSound s)
     (m : Each v (λ b. IsTrue (mine b))) (spare : OwnReportsSpare queue v s) where
-  -- a report of the queue's own is in none of the driver's blocks
-  reported : (o : Option ℕ) → told_back (reply_to s (event.TxStep queue)) ≡ o
-      → Each v (λ b. LeavesBlock b s (after s (event.TxStep queue)))
-  reported None is =
-      each_of v _
-      (λ b. reported_elsewhere s sound queue b (λ back told.
-      absurd (let both : None ≡ Some back = sym is ∙ told in cc)))
-  reported (Some at) is =
-      each_map v (λ b. b ≢ at / 2048) (λ b. LeavesBlock b s (after s (event.TxStep queue)))
-      (λ b ne. reported_elsewhere s sound queue b (λ back told.
-      let same : at ≡ back = cc in subst (λ x. b ≢ x / 2048) same ne))
-      (spare at is)
-
-  -- nor is what another queue's steps write
+  -- neither a report of the queue's own nor what another queue's steps write is in one of the driver's blocks
   spared : (e : Event Block) → Did queue mine s e → pieces queue s e ≡ [] → Deed Tx queue s e
       → Each v (λ b. LeavesBlock b s (after s e))
   spared e did none (Took x) =
       subst (λ (n : Event Block). Each v (λ b. LeavesBlock b s (after s n))) (sym x.work.is)
-      (reported (told_back (reply_to s (event.TxStep queue))) refl)
-  spared e did none (Rested silent rests) =
-      each_map v (λ b. IsTrue (mine b)) (λ b. LeavesBlock b s (after s e)) (λ b i. did.blocks none silent b i) m
+      (λ b lent. reported_elsewhere s sound queue b (λ back told. spare back told b lent))
+  spared e did none (Rested silent rests) = λ b lent. did.blocks none silent b (m b lent)
 
 -- an event that leaves the queue and all these blocks alone
 pub left_keeps : (w : Watched) (mine : Blocks) (s : State) (out : List Piece) (v : Receive) (e : Event Block)
@@ -269,29 +238,22 @@ left_keeps w mine s out v e x j m spare =
     deed_keeps w.queue s out v x.sound j e (left-setting w s x.vfs e x.registers) did.receive
     (λ none. spared w.queue mine s v x.sound m spare e did none did.transmit)
 
--- an entry is such an event, by what it leaves alone
-left_entry : (w : Watched) (mine : Blocks) (mode : Mode) (s : State) (e : Entry) → IsMetBy w mode s e → w.queue < 128
-    → LeavesRegisters w (mode_in s.registers) e.event → LeavesBlocks mine e.event
-    → WritesOutside w.queue mine e.reply → IsLeft w mine s e.event
-left_entry w mine mode s e met small registers blocks steps = record {
-  small = small;
-  sound = met.sound;
-  vfs = met.vfs;
-  made = met.event;
-  registers = registers;
-  blocks = blocks;
-  steps = subst (WritesOutside w.queue mine) met.reply steps;
-}
+-- an entry of another pass that leaves them alone is such an event, and so is a step, whoever made it
+entry_left : (w : Watched) (mine : Blocks) (mode : Mode) (s : State) (e : Entry) → IsMetBy w mode s e → w.queue < 128
+    → EntryLeavesAlone w mine mode e → (e.pass ≢ w.pass) ⊎ IsTrue (is_step e.event) → IsLeft w mine s e.event
+entry_left w mine mode s e met small alone who =
+    let free : LeavesRegisters w (mode_in s.registers) e.event × LeavesBlocks mine e.event = elim who [
+      | inl other ↦
+          (subst (λ k. LeavesRegisters w k e.event) met.mode_is (alone.registers other), alone.blocks other)
+      | inr step ↦ no_registers w (mode_in s.registers) mine e.event step
+    ] in
+    assumption (free.0, free.1, subst (WritesOutside w.queue mine) met.reply alone.steps)
 
-pub foreign_keeps : ForeignEntryKeeps
-foreign_keeps w mine mode s out v e met j m spare alone other =
-    left_keeps w mine s out v e.event
-    (left_entry w mine mode s e met j.2.named.low
-    (subst (λ k. LeavesRegisters w k e.event) met.mode_is (alone.registers other)) (alone.blocks other) alone.steps)
-    j m spare
+pub entry_keeps : EntryKeeps
+entry_keeps w mine mode s out v e met j m spare alone who =
+    left_keeps w mine s out v e.event (entry_left w mine mode s e met j.2.named.low alone who) j m spare
 
-pub steps_keep : DeviceStepKeeps
-steps_keep w mine mode s out v e met j m spare alone is =
-    let free = no_registers w (mode_in s.registers) mine e.event is in
-    left_keeps w mine s out v e.event
-    (left_entry w mine mode s e met j.2.named.low free.0 free.1 alone.steps) j m spare
+pub entry_stays_up : EntryStaysUp
+entry_stays_up w mine mode s out v e met j alone who =
+    deed_up w.queue s out v e.event j
+    (left_deed Rx w mine s e.event (entry_left w mine mode s e met j.2.named.low alone who))

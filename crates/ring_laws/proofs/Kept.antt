@@ -1,71 +1,34 @@
 -- The ring of a driver that receives: its places, its blocks, and what stays where memory does.
-use Rattle.std.proofs.Common.{[], ◌%◌, ◌*◌, ◌++◌, ◌+◌, ◌/◌, ◌<◌, ◌^◌, ◌∙◌, ◌∷◌, ◌≡◌, ◌≢◌, ◌≤◌, ◌⊎◌, List, ap}
+pub use Rattle.ring_laws.proofs.Ring.{inside_of}
+use Rattle.std.proofs.Common.{[], ◌*◌, ◌++◌, ◌+◌, ◌/◌, ◌<◌, ◌∙◌, ◌∷◌, ◌≡◌, ◌≤◌, ◌⊎◌, List, ap}
 use Rattle.std.proofs.Common.{append_assoc, arith, drop, false, inl, inr, length, refl, subst, suc, sym, take, true, ℕ}
 use Rattle.std.proofs.lemmas.List.{get_or_append_left, get_or_push, length-append, length_push, take-append-drop}
-use Rattle.std.specs.Prelude.{◌==◌, is_some, nat_lt, slice_index}
-use Rattle.std.proofs.{lemmas.Bool.cases_lt, lemmas.Bool.lt-ltb, lemmas.Bool.Decides.nat_tests}
-use Rattle.history_laws.specs.Prelude.{AreApart, Block, LiesIn, Memory, Ring, State, bytes_in, ends_packet, first_half}
-use Rattle.history_laws.specs.Prelude.{has_block, is_done, is_outside, mode_in, read_at, second_half}
-use Rattle.ring_laws.specs.ReceivePrelude.{EachRingBlock, Layout, Lent, Receive, Stage, Told, block_at, descriptor_at}
-use Rattle.ring_laws.specs.ReceivePrelude.{extended, fresh_of, is_ring_block, names, posts, reach, slot_at, took, wrapped}
-use Rattle.nic_device.proofs.DmaArena.Inside.{reads_its_block}
-use Rattle.pmd_rx.proofs.PmdSeam.Rings.{each_slot_block, ring_block_sides, slot_lies}
+use Rattle.std.specs.Prelude.{slice_index}
+use Rattle.std.proofs.{lemmas.Bool.Decides.nat_tests}
+use Rattle.history_laws.specs.Prelude.{Block, Memory, State, bytes_in, ends_packet, first_half}
+use Rattle.history_laws.specs.Prelude.{is_done, mode_in, second_half}
+use Rattle.ring_laws.specs.ReceivePrelude.{Layout, Lent, Receive, Stage, Told, block_at, descriptor_at}
+use Rattle.ring_laws.specs.ReceivePrelude.{extended, fresh_of, is_ring_block, names, posts, reach, slot_at, took}
+use Rattle.ring_laws.specs.ReceivePrelude.{wrapped}
 use Rattle.pmd_rx.{proofs.PmdSeam.Places.wrapped_below, specs.Receive.consumed}
 use Rattle.history_laws.proofs.Leaving.{named-same}
-use Rattle.ring_laws.specs.Joint.{HasSlots, IsFilled, IsLoose, IsNamed, IsPosted, IsRing, StageHolds}
+use Rattle.ring_laws.specs.Joint.{HasSlots, IsFilled, IsNamed, IsPosted, IsRing, StageHolds}
+use Rattle.ring_laws.proofs.Ring.{Stays}
+use Rattle.ring_laws.specs.ReceivePrelude.{EachRingBlock}
+use Rattle.pmd_rx.specs.{Keeping.fresh_block, Keeping.has_lent, PmdSeam.Slots.ring_blocks}
+use Rattle.pmd_rx.proofs.PmdSeam.Rings.{each_ring_block, ring_block_among, ring_block_is}
+use Rattle.std.proofs.lemmas.Bool.{eq-eqb, eqb-true, or_cases, or_left, or_right}
+use Rattle.std.{proofs.lemmas.List.Folds.list_any-append, proofs.lemmas.List.Folds.list_any_at, specs.List.list_any}
+use Rattle.std.specs.Prelude.{◌==◌, ◌||◌, Bool}
 use Rattle.ring_laws.specs.{Pieces.Piece, Pieces.piece_at, Steps.Each, Steps.IfFresh}
-use Rattle.std.specs.FinMap as map
 
 -- Places around a ring, and the addresses of its descriptors and buffers.
 
 pub first_place : (n : ℕ) → 0 < n → 0 ≡ wrapped n (0 + 0)
 first_place n h = grind (arith, nat_tests)
 
-pub inside_of : (r : Ring) (n : ℕ) → r.length ≡ 16 * n → r.head < n → r.tail < n → is_outside r ≡ false
-inside_of r n len head tail =
-    let slots : r.length / 16 ≡ n = omega (arith, len) in
-    let h : nat_lt r.head n ≡ true = lt-ltb r.head n head in
-    let t : nat_lt r.tail n ≡ true = lt-ltb r.tail n tail in
-    rw (slots, h, t) refl
-
--- addresses
-
-pub aligned : (ring slot : ℕ) → ((2048 * ring + 16 * slot) % 16 == 0) ≡ true
-aligned ring slot = let e : (2048 * ring + 16 * slot) % 16 ≡ 0 = omega arith in rw e refl
-
-pub address_small : (base head ring slot : ℕ) → base ≡ 2048 * ring → head ≡ slot → ring < 65536 → slot < 1024
-    → (base + 16 * head) % 2 ^ 64 ≡ 2048 * ring + 16 * slot
-address_small base head ring slot e f h k = omega arith
-
 pub buffer_even : (first block : ℕ) → first ≡ 2048 * block → 2 * (first / 2) ≡ 2048 * block
 buffer_even first block e = omega arith
-
-pub bytes_inside : (block n : ℕ) → n ≤ 2048 → LiesIn block (2048 * block) n
-bytes_inside block n h = (omega arith, omega arith)
-
-pub slots_apart : (ring i j : ℕ) → i ≢ j → AreApart (2048 * ring + 16 * i) 16 (2048 * ring + 16 * j) 16
-slots_apart ring i j ne = elim (cases_lt i j) [ inl l ↦ inl (omega arith) | inr l ↦ inr (omega arith) ]
-
-pub buffer_and_slot : (b n ring size slot : ℕ) → is_ring_block ring size b ≡ false → n ≤ 2048 → slot < size
-    → AreApart (2048 * b) n (2048 * ring + 16 * slot) 16
-buffer_and_slot b n ring size slot other h l = elim (ring_block_sides ring size b other) [
-  | inl before ↦ inl (omega (arith, before, h))
-  | inr behind ↦ inr (omega (arith, behind, l))
-]
-
-pub slot_and_buffer : (ring size slot b n : ℕ) → is_ring_block ring size b ≡ false → n ≤ 2048 → slot < size
-    → AreApart (2048 * ring + 16 * slot) 16 (2048 * b) n
-slot_and_buffer ring size slot b n other h l = elim (ring_block_sides ring size b other) [
-  | inl before ↦ inr (omega (arith, before, h))
-  | inr behind ↦ inl (omega (arith, behind, l))
-]
-
-pub buffers_apart : (b n c k : ℕ) → b ≢ c → n ≤ 2048 → k ≤ 2048 → AreApart (2048 * b) n (2048 * c) k
-buffers_apart b n c k ne h l = elim (cases_lt b c) [ inl o ↦ inl (omega arith) | inr o ↦ inr (omega arith) ]
-
-pub less_apart : (c k a n l : ℕ) → l ≤ n → AreApart c k a n → AreApart c k a l
-less_apart c k a n l h (inl o) = inl o
-less_apart c k a n l h (inr o) = inr (omega arith)
 
 -- The ring as far as its slots have a block, after each of the driver's calls.
 
@@ -91,21 +54,13 @@ push_place xs b k P i f g (inr high) =
     let e : k ≡ length xs = omega (arith, length_push xs b, i, high) in
     subst P (sym (get_or_push xs b 0 k (sym e))) (g e)
 
--- without the first of some of them, each is one that was there
-pub drop_place : (xs ys : List ℕ) (P : ℕ → Type 0)
-    → ((k : ℕ) → k < length (xs ++ ys) → P (slice_index (xs ++ ys) k))
-    → (k : ℕ) → k < length (drop 1 xs ++ ys) → P (slice_index (drop 1 xs ++ ys) k)
-drop_place [] ys P f = f
-drop_place (x ∷ xs) ys P f = λ k i. f (suc k) (omega (arith, i))
-
 -- a layout with other blocks
 with_blocks : (l : Layout) (xs ys : List ℕ) → xs ≡ ys → record l { blocks = xs } ≡ record l { blocks = ys }
 with_blocks l xs ys is = ap (λ (bs : List ℕ). record l { blocks = bs }) is
 
 -- a slot more names a block
 pub names_reach : (v : Receive) → extended (reach v) (fresh_of v.stage ∷ []) ≡ reach (names v)
-names_reach v =
-    with_blocks v.layout _ _ (append_assoc v.layout.blocks v.named (fresh_of v.stage ∷ []))
+names_reach v = with_blocks v.layout _ _ (append_assoc v.layout.blocks v.named (fresh_of v.stage ∷ []))
 
 -- the next slot is consumed
 drop_front : (xs ys : List ℕ) → 0 < length xs → drop 1 (xs ++ ys) ≡ drop 1 xs ++ ys
@@ -114,8 +69,7 @@ drop_front (x ∷ xs) ys some = refl
 
 pub took_reach : (v : Receive) (t : Told) (ts : List Told) (b : Block) → 0 < length v.layout.blocks
     → consumed (reach v) ≡ reach (took v (t ∷ ts) b)
-took_reach v t ts b some =
-    with_blocks (consumed v.layout) _ _ (drop_front v.layout.blocks v.named some)
+took_reach v t ts b some = with_blocks (consumed v.layout) _ _ (drop_front v.layout.blocks v.named some)
 
 -- the tail moves on: the same slots have a block
 pub posts_blocks : (v : Receive) (k j : ℕ) → (reach v).blocks ≡ (reach (posts v k j)).blocks
@@ -126,67 +80,97 @@ posts_blocks v k j =
 pub posts_reach : (v : Receive) (k j : ℕ) → reach v ≡ reach (posts v k j)
 posts_reach v k j = with_blocks v.layout _ _ (posts_blocks v k j)
 
--- Facts of each block that the driver has lent for receiving.
+-- Facts of each block that the driver has lent for receiving: of those that the ring is in, of those of its slots up to
+-- the last named one, and of a fresh one.
 
-fresh_map : (stage : Stage) (P Q : ℕ → Type 0) → ((b : ℕ) → P b → Q b) → IfFresh stage P → IfFresh stage Q
-fresh_map (Lent b) P Q f h = f b h
-fresh_map other P Q f h = tt
+abbrev pub among : List ℕ → ℕ → Bool
+among xs n = list_any (λ b. n == b) xs
 
-fresh_each : (stage : Stage) (P : ℕ → Type 0) → ((b : ℕ) → P b) → IfFresh stage P
-fresh_each (Lent b) P f = f b
-fresh_each other P f = tt
+among-both : (xs ys : List ℕ) (n : ℕ) → among (xs ++ ys) n ≡ (among xs n || among ys n)
+among-both xs ys n = list_any-append (λ (b : ℕ). n == b) xs ys
+
+-- each of some blocks that come before others
+among_first : (xs ys : List ℕ) (k : ℕ) → k < length xs → among (xs ++ ys) (slice_index xs k) ≡ true
+among_first xs ys k below =
+    list_any_at (λ b. slice_index xs k == b) (xs ++ ys) k 0 (omega (arith, below, length-append xs ys))
+    (eq-eqb _ _ (sym (get_or_append_left xs ys 0 k below)))
+
+-- where a block is in a list
+any_place : (xs : List ℕ) (n : ℕ) → among xs n ≡ true → (k : ℕ) × (k < length xs) × (slice_index xs k ≡ n)
+any_place [] n is = cc
+any_place (x ∷ xs) n is = elim (or_cases (n == x) (among xs n) is) [
+  | inl here ↦ (0, omega arith, sym (eqb-true n x here))
+  | inr later ↦ let (k, known, same) = any_place xs n later in (suc k, omega (arith, known), same)
+]
+
+module _ (v : Receive) where
+  abbrev pub ring_of : List ℕ
+  ring_of = ring_blocks v.layout.ring v.layout.size
+
+  -- the blocks of its slots
+  abbrev pub slots_of : List ℕ
+  slots_of = (reach v).blocks
+
+  -- it has lent a block by where that is
+  pub parted : (n : ℕ) → has_lent v n
+      ≡ (among slots_of n || (among (fresh_block v.stage) n || is_ring_block v.layout.ring v.layout.size n))
+  parted n =
+      among-both slots_of (fresh_block v.stage ++ ring_of) n
+      ∙ ap (λ (b : Bool). among slots_of n || b)
+      (among-both (fresh_block v.stage) ring_of n
+      ∙ ap (λ (b : Bool). among (fresh_block v.stage) n || b) (ring_block_among v.layout.ring v.layout.size n))
+
+  module _ (P : ℕ → Type 0) where
+    fresh_is : (n : ℕ) (stage : Stage) → IfFresh stage P → among (fresh_block stage) n ≡ true → P n
+    fresh_is n (Lent b) is has = elim (or_cases (n == b) false has) as (λ _. P n) [
+      | inl same ↦ subst P (sym (eqb-true n b same)) is
+      | inr none ↦ cc
+    ]
+    fresh_is n other is has = cc
+
+    pub each_by : EachRingBlock v.layout.ring v.layout.size P → ((k : ℕ) → k < length slots_of → P (block_at (reach v) k))
+        → IfFresh v.stage P → Each v P
+    each_by ring slots fresh n has =
+        let own = is_ring_block v.layout.ring v.layout.size n in
+        elim (or_cases (among slots_of n) (among (fresh_block v.stage) n || own) (sym (parted n) ∙ has))
+        as (λ _. P n) [
+          | inl slot ↦ let (k, known, same) = any_place slots_of n slot in subst P same (slots k known)
+          | inr rest ↦ elim (or_cases (among (fresh_block v.stage) n) own rest) as (λ _. P n) [
+            | inl is ↦ fresh_is n v.stage fresh is
+            | inr own ↦ each_ring_block v.layout.ring v.layout.size P ring n own
+          ]
+        ]
+
+    module _ (each : Each v P) where
+      pub each_ring : EachRingBlock v.layout.ring v.layout.size P
+      each_ring k below =
+          each (v.layout.ring + k)
+          (parted (v.layout.ring + k)
+          ∙ or_right _ _ (or_right _ _ (ring_block_is v.layout.ring v.layout.size k below)))
+
+      pub each_slot : (k : ℕ) → k < length slots_of → P (block_at (reach v) k)
+      each_slot k below = each (block_at (reach v) k) (among_first slots_of (fresh_block v.stage ++ ring_of) k below)
+
+      -- so of the block of each posted slot
+      pub each_posted : (k : ℕ) → k < length v.layout.blocks → P (block_at v.layout k)
+      each_posted k below = subst P (posted_block v k below) (each_slot k (posted_below v k below))
+
+      fresh_each : (stage : Stage) → fresh_block stage ≡ fresh_block v.stage → IfFresh stage P
+      fresh_each (Lent b) same =
+          each b (parted b
+          ∙ or_right _ _ (or_left _ _ (ap (λ (xs : List ℕ). among xs b) (sym same) ∙ or_left _ _ (eq-eqb b b refl))))
+      fresh_each other same = tt
+
+      pub each_fresh : IfFresh v.stage P
+      each_fresh = fresh_each v.stage refl
 
 pub each_map : (v : Receive) (P Q : ℕ → Type 0) → ((b : ℕ) → P b → Q b) → Each v P → Each v Q
-each_map v P Q f e = record {
-  ring = λ k i. f (v.layout.ring + k) (e.ring k i);
-  blocks = λ k i. f (block_at (reach v) k) (e.blocks k i);
-  fresh = fresh_map v.stage P Q f e.fresh;
-}
+each_map v P Q f each n has = f n (each n has)
 
 pub each_of : (v : Receive) (P : ℕ → Type 0) → ((b : ℕ) → P b) → Each v P
-each_of v P f = record {
-  ring = λ k i. f (v.layout.ring + k);
-  blocks = λ k i. f (block_at (reach v) k);
-  fresh = fresh_each v.stage P f;
-}
-
--- so of the block of each posted slot
-pub each_posted : (v : Receive) (P : ℕ → Type 0) → Each v P
-    → (k : ℕ) → k < length v.layout.blocks → P (block_at v.layout k)
-each_posted v P e k i = subst P (posted_block v k i) (e.blocks k (posted_below v k i))
+each_of v P f n has = f n
 
 -- What stays of the agreement where memory, the mode and the number of functions do.
-
-pub IsPosted-kept : (m n : Memory) (a b : ℕ) → read_at n a 16 ≡ read_at m a 16 → has_block n b ≡ has_block m b
-    → IsPosted m a b → IsPosted n a b
-IsPosted-kept m n a b e f p = record {
-  buffer = ap first_half e ∙ p.buffer;
-  waits = ap (λ d. is_done (second_half d)) e ∙ p.waits;
-  there = f ∙ p.there;
-}
-
-pub IsFilled-kept : (m n : Memory) (a b : ℕ) (p : Piece) → read_at n a 16 ≡ read_at m a 16
-    → read_at n (2048 * b) (length p.bytes) ≡ read_at m (2048 * b) (length p.bytes) → has_block n b ≡ has_block m b
-    → IsFilled m a b p → IsFilled n a b p
-IsFilled-kept m n a b p e f g h = record {
-  done = ap (λ d. is_done (second_half d)) e ∙ h.done;
-  end = ap (λ d. ends_packet (second_half d)) e ∙ h.end;
-  len = ap (λ d. bytes_in (second_half d)) e ∙ h.len;
-  first = ap first_half e ∙ h.first;
-  bytes = f ∙ h.bytes;
-  short = h.short;
-  there = g ∙ h.there;
-}
-
-pub IsLoose-kept : (m n : Memory) (l : Layout) (b : ℕ) → has_block n b ≡ has_block m b → IsLoose m l b → IsLoose n l b
-IsLoose-kept m n l b e h =
-    record { low = h.low; not_ring = h.not_ring; apart = h.apart; room = h.room; there = e ∙ h.there }
-
-pub same_has : (m n : Memory) (q : ℕ) → map.get n q ≡ map.get m q → has_block n q ≡ has_block m q
-same_has m n q same = ap (λ (o : _). is_some o) same
-
-pub same_read : (m n : Memory) (q a k : ℕ) → map.get n q ≡ map.get m q → LiesIn q a k → read_at n a k ≡ read_at m a k
-same_read m n q a k same inside = (reads_its_block n m q a k same inside).0
 
 -- each slot up to the vacant one is a slot of the ring
 pub slot_below : (l : Layout) (k : ℕ) → IsRing l → k ≤ length l.blocks → slot_at l k < l.size
@@ -201,52 +185,54 @@ slot_low l k ring h =
     omega (arith, slot, ring.few)
 
 pub ring_low : (l : Layout) → IsRing l → l.ring < 65536
-ring_low l ring =
-    omega (arith, ring.some, ring.ring)
+ring_low l ring = omega (arith, ring.some, ring.ring)
 
--- the same blocks of the ring
-abbrev pub SameRing : Layout → Memory → Memory → Type 0
-SameRing l m n = EachRingBlock l.ring l.size (λ b. map.get n b ≡ map.get m b)
-
--- and the same blocks of slots
-module _ (l : Layout) (m n : Memory) (ring : IsRing l) (same : SameRing l m n) where
-  pub same_slot : (k : ℕ) → k ≤ length l.blocks → read_at n (descriptor_at l k) 16 ≡ read_at m (descriptor_at l k) 16
-  same_slot k within =
-      let slot = slot_at l k in
-      same_read m n (l.ring + slot / 128) (descriptor_at l k) 16
-      (each_slot_block l.ring l.size (λ b. map.get n b ≡ map.get m b) same slot (slot_below l k ring within))
-      (slot_lies l.ring slot)
-
-  pub posted_kept : (k b : ℕ) → k ≤ length l.blocks → map.get n b ≡ map.get m b → IsPosted m (descriptor_at l k) b
+-- what a slot tells, the blocks that are lent, and all slots that have a block
+module _ {l : Layout} (ring : IsRing l) {m n : Memory} {slots blocks : ℕ → Type 0}
+    (t : Stays l.ring l.size m n slots blocks) where
+  pub posted_stays : (k b : ℕ) → k ≤ length l.blocks → slots (slot_at l k) → blocks b → IsPosted m (descriptor_at l k) b
       → IsPosted n (descriptor_at l k) b
-  posted_kept k b within e p = IsPosted-kept m n (descriptor_at l k) b (same_slot k within) (same_has m n b e) p
-
-  pub filled_kept : (k b : ℕ) (p : Piece) → k ≤ length l.blocks → map.get n b ≡ map.get m b
-      → IsFilled m (descriptor_at l k) b p → IsFilled n (descriptor_at l k) b p
-  filled_kept k b p within e f =
-      IsFilled-kept m n (descriptor_at l k) b p (same_slot k within)
-      (same_read m n b (2048 * b) (length p.bytes) e (bytes_inside b (length p.bytes) f.short)) (same_has m n b e) f
-
-  pub slots_kept : (here : List Piece)
-      → ((k : ℕ) → k < length l.blocks → map.get n (block_at l k) ≡ map.get m (block_at l k))
-      → HasSlots m l here → HasSlots n l here
-  slots_kept here blocks h =
-      let within = h.within in
+  posted_stays k b within here is p =
+      let e = t.slot (slot_at l k) (slot_below l k ring within) here in
       record {
-        there = λ k i. same_has m n (l.ring + k) (same k i) ∙ h.there k i;
-        within = h.within;
-        filled = λ k i.
-            filled_kept k (block_at l k) (piece_at here k) (omega (arith, within)) (blocks k (omega (arith, within)))
-            (h.filled k i);
-        posted = λ k i j. posted_kept k (block_at l k) (omega arith) (blocks k j) (h.posted k i j);
+        buffer = ap first_half e ∙ p.buffer;
+        waits = ap (λ d. is_done (second_half d)) e ∙ p.waits;
+        there = t.there b is ∙ p.there;
       }
 
-  pub stage_kept : (stage : Stage) → IfFresh stage (λ b. map.get n b ≡ map.get m b) → StageHolds m l stage
-      → StageHolds n l stage
-  stage_kept (Lent b) fresh h = IsLoose-kept m n l b (same_has m n b fresh) h
-  stage_kept other fresh h = tt
+  pub filled_stays : (k b : ℕ) (p : Piece) → k ≤ length l.blocks → is_ring_block l.ring l.size b ≡ false
+      → slots (slot_at l k) → blocks b → IsFilled m (descriptor_at l k) b p → IsFilled n (descriptor_at l k) b p
+  filled_stays k b p within other here is f =
+      let e = t.slot (slot_at l k) (slot_below l k ring within) here in
+      record {
+        done = ap (λ d. is_done (second_half d)) e ∙ f.done;
+        end = ap (λ d. ends_packet (second_half d)) e ∙ f.end;
+        len = ap (λ d. bytes_in (second_half d)) e ∙ f.len;
+        first = ap first_half e ∙ f.first;
+        bytes = t.bytes b (length p.bytes) other is f.short ∙ f.bytes;
+        short = f.short;
+        there = t.there b is ∙ f.there;
+      }
+
+  pub stage_stays : (stage : Stage) → IfFresh stage blocks → StageHolds m l stage → StageHolds n l stage
+  stage_stays (Lent b) is h = assumption (t.there b is ∙ h.there)
+  stage_stays other is h = tt
+
+  pub slots_stay : (here : List Piece) → ((k : ℕ) → k < length l.blocks → slots (slot_at l k))
+      → ((k : ℕ) → k < length l.blocks → blocks (block_at l k)) → HasSlots m l here → HasSlots n l here
+  slots_stay here all each h =
+      let within = h.within in
+      record {
+        there = λ k i. t.has k i ∙ h.there k i;
+        within = within;
+        filled = λ k i.
+            let j : k < length l.blocks = omega (arith, within) in
+            filled_stays k (block_at l k) (piece_at here k) (omega (arith, j)) (ring.not_ring k j) (all k j) (each k j)
+            (h.filled k i);
+        posted = λ k i j. posted_stays k (block_at l k) (omega (arith, j)) (all k j) (each k j) (h.posted k i j);
+      }
 
 -- numbers name what they named where the mode and the number of functions are the same
 pub named_kept : (s t : State) (queue : ℕ) (l : Layout) → mode_in t.registers ≡ mode_in s.registers → t.vfs ≡ s.vfs
     → IsNamed s queue l → IsNamed t queue l
-named_kept s t queue l mode vfs h = record { low = h.low; tail = named-same s t mode vfs l.port l.tail ∙ h.tail }
+named_kept s t queue l mode vfs h = assumption (named-same s t mode vfs l.port l.tail ∙ h.tail)

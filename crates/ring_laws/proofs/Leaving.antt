@@ -1,23 +1,25 @@
 -- Where the agreement begins, and events that leave the receive side, looks and lends of the driver's own that keep it.
-use Rattle.std.proofs.Common.{[], ◌%◌, ◌&&◌, ◌*◌, ◌++◌, ◌+◌, ◌/◌, ◌<◌, ◌∙◌, ◌∷◌, ◌≡◌, ◌≤◌, Bool, List, ap, arith, cond}
+use Rattle.std.proofs.Common.{[], ◌&&◌, ◌++◌, ◌+◌, ◌<◌, ◌∙◌, ◌∷◌, ◌≡◌, ◌≤◌, Bool, List, ap, arith, cond}
 use Rattle.std.proofs.Common.{false, inl, inr, length, nat_lt, refl, subst, sym, true, ℕ}
 use Rattle.std.proofs.lemmas.Bool.{and_parts, both_ways, cases_lt, eqb-true}
 use Rattle.std.specs.Prelude.{if◌then◌else◌, ◌==◌}
 use Rattle.history_laws.specs.Prelude.{Block, Bytes, Event, Memory, Outcome, ReceiveQueue, Reply, Ring, State, after}
 use Rattle.history_laws.specs.Prelude.{buffer_size_of, bytes_in, descriptor_type_of, ends_packet, gives, has_block}
-use Rattle.history_laws.specs.Prelude.{is_done, is_lent, read_at, receive_queue_of, reply_to, second_half, step_of}
-use Rattle.ring_laws.specs.ReceivePrelude.{Layout, Lent, Looks, PeeksNext, Receive, Stage, Takes, Told, block_at}
-use Rattle.ring_laws.specs.ReceivePrelude.{descriptor_at, drive, extended, is_part, no_packet, reach, slot_at}
-use Rattle.nic_device.proofs.{Cases.lent_cases, DmaArena.Blocks.is_lent_in, DmaArena.Bus.get-insert_other}
+use Rattle.history_laws.specs.Prelude.{is_done, read_at, receive_queue_of, reply_to, second_half, step_of}
+use Rattle.ring_laws.specs.ReceivePrelude.{Layout, Lent, Looks, PeeksNext, Receive, Stage, Takes, Told}
+use Rattle.ring_laws.specs.ReceivePrelude.{descriptor_at, drive, is_part, no_packet, reach, slot_at}
+use Rattle.nic_device.proofs.{Cases.lent_cases, DmaArena.Bus.get-insert_other}
 use Rattle.nic_device.proofs.{DmaArena.Bus.get-insert_same}
-use Rattle.pmd_rx.proofs.PmdSeam.Rings.{each_slot_block, ring_block_apart, slot_fits, slot_place}
-use Rattle.pmd_rx.specs.Receive.{CanLend, LendsNext, MayLend, lent_one, saw, told_by}
+use Rattle.pmd_rx.specs.Receive.{CanLend, LendsNext, lent_one, saw, told_by}
 use Rattle.pmd_rx.specs.declared.ring.Stage.TheVariants.{Owes}
-use Rattle.ring_laws.proofs.Kept.{aligned, first_place, named_kept, posted_below, posted_in, slot_below, slots_kept}
-use Rattle.ring_laws.proofs.Parts.{end_last, end_more, none_held, open_more, order_same, seen_more}
-use Rattle.ring_laws.specs.Joint.{Agree, AreOpen, HasSlots, Holds, InOrder, IsAt, IsNamed, IsRing, IsSetUp, Saw}
-use Rattle.ring_laws.specs.Steps.{IfFresh, Leaves, LeavesButOn, LeavingKeeps, LookTellsSlot, SwitchingKeeps}
-use Rattle.ring_laws.proofs.Kept.{stage_kept}
+use Rattle.ring_laws.proofs.Kept.{first_place, named_kept, posted_below, posted_in, slot_below, slots_stay}
+use Rattle.ring_laws.proofs.Parts.{end_last, end_more, none_held, open_more, seen_more}
+use Rattle.ring_laws.specs.Joint.{Agree, AreOpen, HasSlots, Holds, IsAt, IsLoose, IsRing, IsSetUp, Saw}
+use Rattle.ring_laws.specs.Steps.{Each, Leaves, LeavesButOn, LeavingKeeps, LookTellsSlot, SwitchingKeeps}
+use Rattle.ring_laws.proofs.{Kept.stage_stays, Ring.same_stays, Ring.slot_looked}
+use Rattle.ring_laws.proofs.Kept.{each_fresh, each_ring, each_slot}
+use Rattle.ring_laws.proofs.ReceiveLent.{unknown}
+use Rattle.pmd_rx.specs.Keeping.{has_lent}
 use Rattle.ring_laws.specs.{Joint.StageHolds, Pieces.Piece, Pieces.piece_at, Starting.StartAgrees, Steps.TellsSlot}
 use Rattle.nic_device.specs.declared.event.Event.TheVariants as event
 use Rattle.std.specs.FinMap as map
@@ -36,57 +38,38 @@ set_up_kept q r l filled ring control h = record {
   tail = ap (λ (x : Ring). x.tail) ring ∙ h.tail;
 }
 
-switching_holds : (queue : ℕ) (s t : State) (out : List Piece) (v : Receive) (gone here : List Piece)
-    → LeavesButOn queue v s t → Holds queue s out v gone here → Holds queue t out v gone here
-switching_holds queue s t out v gone here l h = record {
-  named = named_kept s t queue v.layout l.mode l.vfs h.named;
-  ring = h.ring;
-  side = set_up_kept (receive_queue_of s.registers queue) (receive_queue_of t.registers queue) v.layout (length here)
-      l.ring l.control h.side;
-  posted = h.posted;
-  slots = slots_kept (reach v) s.memory t.memory h.ring l.blocks.ring here l.blocks.blocks h.slots;
-  stage = stage_kept (reach v) s.memory t.memory h.ring l.blocks.ring v.stage l.blocks.fresh h.stage;
-  order = h.order;
-}
+module _ {queue : ℕ} {s t : State} {out : List Piece} {v : Receive} {gone here : List Piece}
+    (h : Holds queue s out v gone here) where
+  switching_holds : LeavesButOn queue v s t → Holds queue t out v gone here
+  switching_holds l =
+      let Same : ℕ → Type 0 = λ b. map.get t.memory b ≡ map.get s.memory b in
+      let stays = same_stays v.layout.ring v.layout.size s.memory t.memory (each_ring v Same l.blocks) in
+      assumption (
+        named_kept s t queue v.layout l.mode l.vfs h.named,
+        set_up_kept (receive_queue_of s.registers queue) (receive_queue_of t.registers queue) v.layout (length here)
+            l.ring l.control h.side,
+        slots_stay h.ring stays here (λ k i. tt) (each_slot v Same l.blocks) h.slots,
+        stage_stays h.ring stays v.stage (each_fresh v Same l.blocks) h.stage,
+      )
+
+  leaving_holds : Leaves queue v s t → Holds queue t out v gone here
+  leaving_holds l =
+      switching_holds
+      (assumption (ap (λ (q : ReceiveQueue). q.ring) l.receive, ap (λ (q : ReceiveQueue). q.control) l.receive))
 
 pub switching_keeps : SwitchingKeeps
-switching_keeps queue s t out v l (gone, here, h) = (gone, here, switching_holds queue s t out v gone here l h)
-
-pub leaving_holds : (queue : ℕ) (s t : State) (out : List Piece) (v : Receive) (gone here : List Piece)
-    → Leaves queue v s t → Holds queue s out v gone here → Holds queue t out v gone here
-leaving_holds queue s t out v gone here l =
-    switching_holds queue s t out v gone here (record {
-      ring = ap (λ (q : ReceiveQueue). q.ring) l.receive;
-      control = ap (λ (q : ReceiveQueue). q.control) l.receive;
-      mode = l.mode;
-      vfs = l.vfs;
-      blocks = l.blocks;
-    })
+switching_keeps queue s t out v l (gone, here, h) = (gone, here, switching_holds h l)
 
 pub leaving_keeps : LeavingKeeps
-leaving_keeps queue s t out v l (gone, here, h) = (gone, here, leaving_holds queue s t out v gone here l h)
+leaving_keeps queue s t out v l (gone, here, h) = (gone, here, leaving_holds h l)
 
 -- What a driver reads of its next slot, and what it then knows.
-
--- the descriptor of each slot up to the vacant one is lent
-pub descriptor_lent : (m : Memory) (l : Layout) (here : List Piece) → IsRing l → HasSlots m l here → (k : ℕ)
-    → k ≤ length l.blocks → is_lent m (descriptor_at l k) 16 ≡ true
-descriptor_lent m l here ring h k within =
-    let slot = slot_at l k in
-    is_lent_in m (descriptor_at l k) 16 (l.ring + slot / 128) (16 * (slot % 128))
-    (each_slot_block l.ring l.size (λ b. has_block m b ≡ true) h.there slot (slot_below l k ring within))
-    (slot_place l.ring slot) (slot_fits slot)
 
 -- a look at a slot gives its descriptor, and changes nothing
 pub looked_is : (s : State) (l : Layout) (here : List Piece) (k : ℕ) → IsRing l → HasSlots s.memory l here
     → k ≤ length l.blocks
     → step_of s (event.Peek16 (descriptor_at l k)) ≡ gives (Bytes (read_at s.memory (descriptor_at l k) 16)) s
-unfolding step_of
-looked_is s l here k ring h within =
-    let straight : (descriptor_at l k % 16 == 0) ≡ true = aligned l.ring (slot_at l k) in
-    let lent : is_lent s.memory (descriptor_at l k) 16 ≡ true =
-    descriptor_lent s.memory l here ring h k within in
-    rw (straight, lent) refl
+looked_is s l here k ring h within = slot_looked l.ring l.size (slot_at l k) (slot_below l k ring within) s h.there
 
 pub tells_bytes : (m : Memory) (l : Layout) (here : List Piece) (k : ℕ) → HasSlots m l here → k < length l.blocks
     → TellsSlot here k (read_at m (descriptor_at l k) 16)
@@ -114,22 +97,6 @@ look_tells queue s out v gone here k h some d is =
     (looked_is s (reach v) here k h.ring h.slots (posted_in v k (omega (arith, some))))))
     (tells_bytes s.memory (reach v) here k h.slots (posted_below v k some))
 
--- the driver's state beside its ring changes
-pub with_driver : (queue : ℕ) (s : State) (out : List Piece) (v w : Receive) (gone here : List Piece)
-    → Holds queue s out v gone here → w.layout ≡ v.layout → w.named ≡ v.named
-    → StageHolds s.memory (reach v) w.stage → InOrder out w gone here → Holds queue s out w gone here
-with_driver queue s out v w gone here h same names is order =
-    let to : reach v ≡ reach w = λ k. extended (sym same k) (sym names k) in
-    record {
-      named = subst (IsNamed s queue) (sym same) h.named;
-      ring = subst IsRing to h.ring;
-      side = subst (λ (l : Layout). IsSetUp (receive_queue_of s.registers queue) l (length here)) (sym same) h.side;
-      posted = subst (λ (l : Layout). length here ≤ length l.blocks) (sym same) h.posted;
-      slots = subst (λ (l : Layout). HasSlots s.memory l here) to h.slots;
-      stage = subst (λ (l : Layout). StageHolds s.memory l w.stage) to is;
-      order = order;
-    }
-
 -- a driver that saw a part more
 
 part_open : (most before second : ℕ) → is_part most before second ≡ true → ends_packet second ≡ false
@@ -146,14 +113,13 @@ at_after : (v : Receive) (t : Told) (ends : Bool) → ends_packet t.second ≡ e
     → (ends_packet t.second ≡ false → bytes_in t.second ≡ 2048)
     → IsAt (cond ends Takes Looks) (v.seen ++ t ∷ []) v.held
 at_after v t true is none opens full = end_more v.seen t opens is
-at_after v t false is none opens full =
-    (none, open_more v.seen t opens (record { goes_on = is; full = full is }))
+at_after v t false is none opens full = (none, open_more v.seen t opens (record { goes_on = is; full = full is }))
 
 saw_tells : (here : List Piece) (k : ℕ) (d : List ℕ) → TellsSlot here k d → is_done (second_half d) ≡ true
     → Saw (told_by d) (piece_at here k)
 saw_tells here k d t done =
     let some : k < length here = t.done.0 done in
-    record { first_is = t.first some; len_is = t.len some; end_is = t.end some }
+    assumption (t.first some, t.len some, t.end some)
 
 looked_holds : (queue : ℕ) (s : State) (out : List Piece) (v : Receive) (gone here : List Piece) (d : List ℕ) (t : Bool)
     → Holds queue s out v gone here → v.stage ≡ Looks → TellsSlot here (length v.seen) d
@@ -163,25 +129,29 @@ looked_holds queue s out v gone here d false h looks tells is = h
 looked_holds queue s out v gone here d true h looks tells is =
     let both = and_parts (is_done (second_half d)) _ is in
     let at : IsAt Looks v.seen v.held = subst (λ (x : Stage). IsAt x v.seen v.held) looks h.order.stage in
-    with_driver queue s out v (saw v d) gone here h refl refl
-    (stage_after s.memory (reach v) (ends_packet (second_half d)))
-    (none_held out gone here v (saw v d) h.order at.0 at.0 refl refl
-    (seen_more v.seen here (told_by d) h.order.seen (tells.done.0 both.0)
-    (saw_tells here (length v.seen) d tells both.0))
-    (at_after v (told_by d) (ends_packet (second_half d)) refl at.0 at.1
-    (part_open v.layout.most (length v.seen) (second_half d) both.1)))
+    assumption (
+      stage_after s.memory (reach v) (ends_packet (second_half d)),
+      none_held out gone here v (saw v d).seen (saw v d).stage h.order at.0
+          (seen_more v.seen here (told_by d) h.order.seen (tells.done.0 both.0)
+          (saw_tells here (length v.seen) d tells both.0))
+          (at_after v (told_by d) (ends_packet (second_half d)) refl at.0 at.1
+          (part_open v.layout.most (length v.seen) (second_half d) both.1)),
+    )
 
--- an event of the driver's own, as it is written otherwise, by its outcome
+-- after an event of the driver's own the two agree, with the driver that it leads to
+abbrev pub Driven : ℕ → State → List Piece → Receive → Event Block → Type 0
+Driven queue s out v e = Agree queue (after s e) out (drive v e (reply_to s e))
+
+-- as the event is written otherwise, by its outcome
 pub by_outcome : (queue : ℕ) (s : State) (out : List Piece) (v : Receive) (e d : Event Block) (o : Outcome) → e ≡ d
-    → step_of s d ≡ o → Agree queue o.state out (drive v d o.reply)
-    → Agree queue (after s e) out (drive v e (reply_to s e))
+    → step_of s d ≡ o → Agree queue o.state out (drive v d o.reply) → Driven queue s out v e
 by_outcome queue s out v e d o same is agree =
-    subst (λ x. Agree queue (after s x) out (drive v x (reply_to s x))) (sym same)
+    subst (Driven queue s out v) (sym same)
     (subst (λ (p : Outcome). Agree queue p.state out (drive v d p.reply)) (sym is) agree)
 
 -- the driver's look at the slot behind those that it saw keeps the agreement
 pub look_keeps : (queue : ℕ) (s : State) (out : List Piece) (v : Receive) (a : ℕ) → Agree queue s out v → PeeksNext v a
-    → Agree queue (after s (event.Peek16 a)) out (drive v (event.Peek16 a) (reply_to s (event.Peek16 a)))
+    → Driven queue s out v (event.Peek16 a)
 look_keeps queue s out v a (gone, here, h) own =
     let k = length v.seen in
     by_outcome queue s out v (event.Peek16 a) (event.Peek16 (descriptor_at v.layout k)) _ (ap event.Peek16 own.address)
@@ -197,37 +167,18 @@ look_keeps queue s out v a (gone, here, h) own =
 abbrev with_block : State → Block → State
 with_block s b = record s { memory = map.insert s.memory b.number b.bytes }
 
--- a fresh block that is lent before another one is the same
-abbrev FreshStays : State → Block → Stage → Type 0
-FreshStays s b stage = IfFresh stage (λ c. map.get (with_block s b).memory c ≡ map.get s.memory c)
-
-fresh_stays : (s : State) (b : Block) (stage : Stage) (seen : List Told) → CanLend stage seen → FreshStays s b stage
-fresh_stays s b Looks seen can = tt
-fresh_stays s b Takes seen can = absurd can
-fresh_stays s b Owes seen can = tt
-fresh_stays s b (Lent c) seen can = absurd can
-
 none_looked : (stage : Stage) (seen : List Told) → CanLend stage seen → stage ≡ Looks → seen ≡ []
 none_looked Looks seen can is = can
 none_looked Takes seen can is = absurd can
 none_looked Owes seen can is = cc
 none_looked (Lent c) seen can is = absurd can
 
-fresh_leaves : (queue : ℕ) (s : State) (v : Receive) (b : Block) → MayLend (reach v) b
-    → FreshStays s b v.stage
-    → Leaves queue v s (with_block s b)
-fresh_leaves queue s v b may none = record {
-  receive = refl;
-  mode = refl;
-  vfs = refl;
-  blocks = record {
-    ring = λ k i.
-        get-insert_other s.memory b.number b.bytes (v.layout.ring + k)
-        (λ e. ring_block_apart v.layout.ring v.layout.size b.number may.not_ring k i (sym e));
-    blocks = λ k i. get-insert_other s.memory b.number b.bytes (block_at (reach v) k) (may.apart k i);
-    fresh = none;
-  };
-}
+fresh_leaves : (queue : ℕ) (s : State) (v : Receive) (b : Block) → LendsNext v b → Leaves queue v s (with_block s b)
+fresh_leaves queue s v b own =
+    let blocks : Each v (λ n. map.get (with_block s b).memory n ≡ map.get s.memory n) =
+    λ n has. get-insert_other s.memory b.number b.bytes n
+    (λ e. both_ways (has_lent v b.number) (unknown v b own) (subst (λ k. has_lent v k ≡ true) e has)) in
+    assumption blocks
 
 lent_holds : (queue : ℕ) (s : State) (out : List Piece) (v : Receive) (gone here : List Piece) (b : Block)
     → Holds queue s out v gone here → LendsNext v b → Holds queue (with_block s b) out (lent_one v b.number) gone here
@@ -235,16 +186,15 @@ lent_holds queue s out v gone here b h own =
     let t = with_block s b in
     let may = own.may in
     let there : has_block t.memory b.number ≡ true = rw (get-insert_same s.memory b.number b.bytes) refl in
-    with_driver queue t out v (lent_one v b.number) gone here
-    (leaving_holds queue s t out v gone here
-    (fresh_leaves queue s v b may (fresh_stays s b v.stage v.seen own.stage)) h) refl refl
-    (record { low = may.low; not_ring = may.not_ring; apart = may.apart; room = may.room; there = there })
-    (order_same out gone here v (lent_one v b.number) h.order refl refl h.order.seen
-    (end_last v.stage v.seen v.held (none_looked v.stage v.seen own.stage) h.order.stage))
+    let loose : IsLoose t.memory (reach v) b.number = assumption (may, there) in
+    assumption (
+      leaving_holds h (fresh_leaves queue s v b own),
+      loose,
+      end_last v.stage v.seen v.held (none_looked v.stage v.seen own.stage) h.order.stage,
+    )
 
 pub lend_keeps : (queue : ℕ) (s : State) (out : List Piece) (v : Receive) (b : Block) → Agree queue s out v
-    → LendsNext v b
-    → Agree queue (after s (event.Lend b)) out (drive v (event.Lend b) (reply_to s (event.Lend b)))
+    → LendsNext v b → Driven queue s out v (event.Lend b)
 unfolding step_of
 lend_keeps queue s out v b (gone, here, h) own =
     lent_cases (λ o. Agree queue o.state out (drive v (event.Lend b) o.reply)) s b (gone, here, h)
@@ -268,14 +218,7 @@ start_agrees queue port tail ring size most s r = (
       not_ring = λ k i. absurd (omega (arith, i));
       apart = λ i j a b ne. absurd (omega (arith, a));
     };
-    side = record {
-      one_buffer = r.side.one_buffer;
-      buffer_size = r.side.buffer_size;
-      base = r.side.base;
-      sized = r.side.sized;
-      head = r.side.head ∙ first_place size r.some;
-      tail = r.side.tail ∙ first_place size r.some;
-    };
+    side = assumption (r.side.head ∙ first_place size r.some, r.side.tail ∙ first_place size r.some);
     posted = omega arith;
     slots = record {
       there = r.there;

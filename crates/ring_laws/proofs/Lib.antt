@@ -19,6 +19,7 @@ pub mod Playing
 pub mod ReceiveExamples
 pub mod ReceiveLent
 pub mod Receiving
+pub mod Ring
 pub mod Runs
 pub mod Sparing
 pub mod TransmitExamples

@@ -3,26 +3,27 @@ use Rattle.std.proofs.Common.{[], ◌*◌, ◌++◌, ◌+◌, ◌<◌, ◌∙◌
 use Rattle.std.proofs.Common.{arith, cond, drop, false, inl, inr, length, refl, subst, sym, take, true, ℕ}
 use Rattle.std.proofs.lemmas.Bool.{cases_lt, eqb-false, eqb-true}
 use Rattle.std.proofs.lemmas.List.{append-nil, length-append, length-take-le, length_push, map-append, take-append-drop}
-use Rattle.std.{proofs.lemmas.List.take_all, specs.Prelude.◌==◌}
-use Rattle.history_laws.specs.Prelude.{AreApart, Done, GcrExt, IsWhole, Memory, Place, Port, Rdt, ReceiveQueue}
-use Rattle.history_laws.specs.Prelude.{Registers, State, after, after_write, first_half, gives, is_done, is_lent}
-use Rattle.history_laws.specs.Prelude.{mode_in, named_written, place, read_at, receive_queue_of, reply_to, second_half}
+use Rattle.std.{proofs.lemmas.List.take_all, specs.Prelude.◌==◌, specs.Prelude.⊤}
+use Rattle.history_laws.specs.Prelude.{Done, GcrExt, IsWhole, Memory, Place, Port, Rdt, ReceiveQueue}
+use Rattle.history_laws.specs.Prelude.{Registers, State, after_write, first_half, gives, is_done}
+use Rattle.history_laws.specs.Prelude.{mode_in, named_written, place, read_at, receive_queue_of, second_half}
 use Rattle.history_laws.specs.Prelude.{step_of, write_at}
-use Rattle.ring_laws.specs.ReceivePrelude.{Kept, Layout, Lent, Looks, MovesNext, NamesNext, Packet, Receive, Stage, Told}
+use Rattle.ring_laws.specs.ReceivePrelude.{Kept, Layout, Lent, Looks, MovesNext, NamesNext, Packet, Receive, Stage}
+use Rattle.ring_laws.specs.ReceivePrelude.{Told}
 use Rattle.ring_laws.specs.ReceivePrelude.{block_at, descriptor_at, drive, ended_of, extended, fresh_of, is_ring_block}
 use Rattle.ring_laws.specs.ReceivePrelude.{kept_of, names, next_stage, posts, reach, records_of, slot_at, vacant}
-use Rattle.nic_device.proofs.DmaArena.Bus.{SameLent-write_at, read_at-write_at_apart, read_at-write_at_same}
 use Rattle.nic_device.proofs.{DmaRing.Fields.halves_come_back, RegisterLaws.Puts.word_at-put_other}
-use Rattle.nic_device.specs.{DmaArena.Memory.SameLent, DmaRing.Driver.posted, DmaRing.Laws.HasHalves}
+use Rattle.nic_device.specs.{DmaRing.Driver.posted, DmaRing.Laws.HasHalves}
 use Rattle.nic_device.specs.{RegisterLaws.Laws.word_after, RegisterLaws.Sound.HasShape, VfMap.Pools.mode_of}
 use Rattle.pmd_rx.specs.Receive.{HasLent, MovesOne, naming, parts_first, posts_all, posts_one, tail_behind}
 use Rattle.pmd_rx.proofs.PmdSeam.Places.{wrapped_apart}
-use Rattle.history_laws.proofs.{Lent.poked_is, Written.receive-tail, Written.receive_with_tail}
-use Rattle.ring_laws.proofs.Kept.{IsFilled-kept, IsLoose-kept, IsPosted-kept, aligned, buffer_and_slot, named_kept}
+use Rattle.history_laws.proofs.{Written.receive-tail, Written.receive_with_tail}
+use Rattle.ring_laws.proofs.Kept.{named_kept, slots_stay, stage_stays}
+use Rattle.ring_laws.proofs.Ring.{Stays, slot_poked, written_here, written_stays}
 use Rattle.ring_laws.proofs.Parts.{end_last, left_twice, next_at, none_twice, order_same}
 use Rattle.ring_laws.specs.Joint.{Agree, HasSlots, Holds, InOrder, IsFilled, IsLoose, IsNamed, IsPosted, IsRing}
 use Rattle.ring_laws.proofs.{Kept.names_reach, Kept.posts_reach, Kept.push_place, Kept.reach_long, Kept.slot_below}
-use Rattle.ring_laws.proofs.{Kept.slots_apart, Leaving.by_outcome, Leaving.descriptor_lent}
+use Rattle.ring_laws.proofs.{Leaving.Driven, Leaving.by_outcome}
 use Rattle.ring_laws.specs.{Joint.IsSetUp, Joint.StageHolds, Joint.packets_had, Pieces.Piece, Pieces.piece_at}
 use Rattle.nic_device.specs.declared.event.Event.TheVariants as event
 use Rattle.nic_device.specs.declared.event.Reply.TheVariants as reply
@@ -96,57 +97,31 @@ module _ (m : Memory) (l : Layout) (here : List Piece) (ring : IsRing l) (h : Ha
   halves : HasHalves (posted (2048 * b)) 0
   halves = halves_come_back (posted (2048 * b)) 0
 
-  slot_kept : (k : ℕ) → k < length l.blocks → read_at n (descriptor_at l k) 16 ≡ read_at m (descriptor_at l k) 16
-  slot_kept k i =
-      let apart = slots_apart l.ring (slot_at l k) (slot_at l (vacant l))
-      (wrapped_apart l.size l.next k (vacant l) ring.next (omega (arith, i, ring.room)) ring.room
-      (λ e. absurd (omega (arith, e, i)))) in
-      read_at-write_at_apart m (descriptor_at l (vacant l)) (naming b) (descriptor_at l k) 16
-      (subst (λ len. AreApart (descriptor_at l k) 16 (descriptor_at l (vacant l)) len) (sym halves.size) apart)
+  vacant_below : slot_at l (vacant l) < l.size
+  vacant_below = slot_below l (vacant l) ring (omega arith)
 
-  block_kept : (c len : ℕ) → is_ring_block l.ring l.size c ≡ false → len ≤ 2048
-      → read_at n (2048 * c) len ≡ read_at m (2048 * c) len
-  block_kept c len other short =
-      read_at-write_at_apart m (descriptor_at l (vacant l)) (naming b) (2048 * c) len
-      (subst (λ k. AreApart (2048 * c) len (descriptor_at l (vacant l)) k) (sym halves.size)
-      (buffer_and_slot c len l.ring l.size (slot_at l (vacant l)) other short
-      (slot_below l (vacant l) ring (omega arith))))
-
-  same : SameLent n m
-  same = SameLent-write_at m (descriptor_at l (vacant l)) (naming b)
+  stays : Stays l.ring l.size m n (λ j. j ≢ slot_at l (vacant l)) (λ c. ⊤)
+  stays = written_stays l.ring l.size (slot_at l (vacant l)) vacant_below m (naming b) halves.size
 
   read_back : read_at n (descriptor_at l (vacant l)) 16 ≡ naming b
-  read_back =
-      subst (λ k. read_at n (descriptor_at l (vacant l)) k ≡ naming b) halves.size
-      (read_at-write_at_same m (descriptor_at l (vacant l)) (naming b) whole
-      (subst (λ k. is_lent m (descriptor_at l (vacant l)) k ≡ true) (sym halves.size)
-      (descriptor_lent m l here ring h (vacant l) (omega arith))))
+  read_back = written_here l.ring l.size (slot_at l (vacant l)) vacant_below m (naming b) halves.size whole h.there
 
   pub posted_here : IsPosted n (descriptor_at l (vacant l)) b
   posted_here =
       record {
         buffer = ap first_half read_back ∙ halves.first (omega (arith, loose.low));
         waits = ap (λ d. is_done (second_half d)) read_back ∙ ap is_done (halves.second (omega arith));
-        there = same b ∙ loose.there;
+        there = stays.there b tt ∙ loose.there;
       }
 
   pub named_slots : HasSlots n l here
   named_slots =
-      record {
-        there = λ k i. same (l.ring + k) ∙ h.there k i;
-        within = h.within;
-        filled = λ k i.
-            let j : k < length l.blocks = omega (arith, h.within, i) in
-            let f = h.filled k i in
-            IsFilled-kept m n (descriptor_at l k) (block_at l k) (piece_at here k) (slot_kept k j)
-            (block_kept (block_at l k) (length (piece_at here k).bytes) (ring.not_ring k j) f.short)
-            (same (block_at l k)) f;
-        posted = λ k i j.
-            IsPosted-kept m n (descriptor_at l k) (block_at l k) (slot_kept k j) (same (block_at l k)) (h.posted k i j);
-      }
+      slots_stay ring stays here
+      (λ k i. wrapped_apart l.size l.next k (vacant l) ring.next (omega (arith, i, ring.room)) ring.room
+      (λ e. absurd (omega (arith, e, i)))) (λ k i. tt) h
 
   pub named_loose : IsLoose n l b
-  named_loose = IsLoose-kept m n l b (same b) loose
+  named_loose = stage_stays ring stays (Lent b) tt loose
 
 loose_of : (m : Memory) (l : Layout) (stage : Stage) → HasLent stage → StageHolds m l stage
     → IsLoose m l (fresh_of stage)
@@ -174,9 +149,7 @@ order_named out gone here v lent o =
     (next_at v.seen v.held (end_last v.stage v.seen v.held (not_looks v.stage v.seen lent) o.stage))
 
 pub name_keeps : (queue : ℕ) (s : State) (out : List Piece) (v : Receive) (a : ℕ) (bytes : List ℕ) → IsWhole s.memory
-    → Agree queue s out v → NamesNext v a bytes
-    → Agree queue (after s (event.Poke16 a bytes)) out
-    (drive v (event.Poke16 a bytes) (reply_to s (event.Poke16 a bytes)))
+    → Agree queue s out v → NamesNext v a bytes → Driven queue s out v (event.Poke16 a bytes)
 name_keeps queue s out v a bytes whole (gone, here, h) own =
     let l = reach v in
     let b = fresh_of v.stage in
@@ -189,20 +162,17 @@ name_keeps queue s out v a bytes whole (gone, here, h) own =
     let posted = posted_here s.memory l here h.ring h.slots whole b loose in
     by_outcome queue s out v (event.Poke16 a bytes) (event.Poke16 at (naming b)) _
     (λ k. event.Poke16 (own.address k) (own.bytes_are k))
-    (poked_is s at (naming b) (aligned l.ring (slot_at l (vacant l)))
-    (descriptor_lent s.memory l here h.ring h.slots (vacant l) (omega arith))) (
+    (slot_poked l.ring l.size (slot_at l (vacant l)) (slot_below l (vacant l) h.ring (omega arith)) s (naming b)
+    h.slots.there) (
       gone,
       here,
-      record {
-        named = record { low = h.named.low; tail = h.named.tail };
-        ring = subst IsRing same (ring_more t.memory l here b h.ring slots free posted);
-        side = h.side;
-        posted = h.posted;
-        slots = subst (λ (x : Layout). HasSlots t.memory x here) same
-            (slots_more t.memory l here b h.ring slots free posted);
-        stage = next_holds t.memory (reach (names v)) v.seen;
-        order = order_named out gone here v own.stage h.order;
-      },
+      assumption (
+        subst IsRing same (ring_more t.memory l here b h.ring slots free posted),
+        subst (λ (x : Layout). HasSlots t.memory x here) same
+            (slots_more t.memory l here b h.ring slots free posted),
+        next_holds t.memory (reach (names v)) v.seen,
+        order_named out gone here v own.stage h.order,
+      ),
     )
 
 -- The tail moves on over slots that name blocks: these are posted, and whole packets handed out.
@@ -239,14 +209,8 @@ module _ (v : Receive) (blocks packets : ℕ) where
 
   set_up_posted : (q : ReceiveQueue) (filled : ℕ) → IsSetUp q v.layout filled
       → IsSetUp (receive_with_tail q (tail_behind v.layout (many v blocks))) w.layout filled
-  set_up_posted q filled up = record {
-    one_buffer = up.one_buffer;
-    buffer_size = up.buffer_size;
-    base = up.base;
-    sized = up.sized;
-    head = up.head;
-    tail = ap (slot_at v.layout) (sym (length-append v.layout.blocks (take blocks v.named)));
-  }
+  set_up_posted q filled up =
+      assumption (ap (slot_at v.layout) (sym (length-append v.layout.blocks (take blocks v.named))))
 
   module _ (queue : ℕ) (s : State) (out gone here : List Piece) (shape : HasShape s.registers)
       (h : Holds queue s out v gone here) where
@@ -260,10 +224,7 @@ module _ (v : Receive) (blocks packets : ℕ) where
     posts_holds =
         let same : reach v ≡ reach w = posts_reach v blocks packets in
         record {
-          named = record {
-            low = h.named.low;
-            tail = (named_kept s t queue v.layout (mode_after_tail s.registers queue to) refl h.named).tail;
-          };
+          named = assumption (named_kept s t queue v.layout (mode_after_tail s.registers queue to) refl h.named);
           ring = subst IsRing same h.ring;
           side = subst (λ q. IsSetUp q w.layout (length here))
               (sym (receive-tail s.registers queue to shape h.named.low (tail_low v blocks h.ring)))
@@ -281,50 +242,40 @@ record IsMoved (v : Receive) (word : ℕ) (w : Receive) : Type 0 where
   pub word_is : word ≡ tail_behind v.layout (many v blocks)
   pub driver : w ≡ posts v blocks packets
 
--- a word over one packet's blocks, or over all
-abbrev IsWord : Receive → ℕ → Type 0
-IsWord v word = MovesOne v word ⊎ (word ≡ tail_behind v.layout (length v.named))
-
--- over all that are named, or more
-over_all : (v : Receive) (blocks packets word : ℕ) (w : Receive) → length v.named ≤ blocks
-    → word ≡ tail_behind v.layout (length v.named) → w ≡ posts v blocks packets → IsMoved v word w
-over_all v blocks packets word w all is same =
-    let e : many v blocks ≡ length v.named = ap (λ (bs : List ℕ). length bs) (take_all blocks v.named all) in
-    record { blocks = blocks; packets = packets; word_is = is ∙ ap (tail_behind v.layout) (sym e); driver = same }
-
-over_one : (v : Receive) (word : ℕ) → word ≡ tail_behind v.layout (parts_first v.whole) → IsWord v word
-    → (length v.named < parts_first v.whole) ⊎ (parts_first v.whole ≤ length v.named)
-    → IsMoved v word (posts_one v)
-over_one v word is by (inr few) =
-    let e : many v (parts_first v.whole) ≡ parts_first v.whole =
-    length-take-le (parts_first v.whole) v.named few in
-    record {
-      blocks = parts_first v.whole;
-      packets = 1;
-      word_is = is ∙ ap (tail_behind v.layout) (sym e);
-      driver = refl;
-    }
-over_one v word is (inl one) (inl more) =
-    absurd (omega (arith, one.few, more))
-over_one v word is (inr all) (inl more) =
-    over_all v (parts_first v.whole) 1 word (posts_one v) (omega (arith, more)) all refl
-
-not_one : (v : Receive) (word : ℕ) → (word == tail_behind v.layout (parts_first v.whole)) ≡ false → IsWord v word
-    → word ≡ tail_behind v.layout (length v.named)
-not_one v word other (inl one) = absurd (eqb-false word _ other one.word_is)
-not_one v word other (inr all) = all
-
-moved_by : (v : Receive) (word : ℕ) (t : Bool) → (word == tail_behind v.layout (parts_first v.whole)) ≡ t
-    → IsWord v word → IsMoved v word (cond t (posts_one v) (posts_all v))
-moved_by v word true is by =
-    over_one v word (eqb-true word _ is) by (cases_lt (length v.named) (parts_first v.whole))
-moved_by v word false is by =
-    over_all v (length v.named) (length v.whole) word (posts_all v) (omega arith) (not_one v word is by) refl
-
 moved_is : (v : Receive) (port : Port) (number word : ℕ) → MovesNext v port number word
     → IsMoved v word (drive v (event.Write port number word) reply.Done)
-moved_is v port number word own =
-    moved_by v word (word == tail_behind v.layout (parts_first v.whole)) refl own.word_is
+moved_is v port number word own = by_word (word == tail_behind v.layout first) refl own.word_is
+  where
+    -- how many blocks the oldest whole packet has
+    first : ℕ
+    first = parts_first v.whole
+
+    many_all : (blocks : ℕ) → length v.named ≤ blocks → many v blocks ≡ length v.named
+    many_all blocks all = ap (λ (bs : List ℕ). length bs) (take_all blocks v.named all)
+
+    -- a word over that packet's blocks, or over all
+    by_word : (t : Bool) → (word == tail_behind v.layout first) ≡ t
+        → MovesOne v word ⊎ (word ≡ tail_behind v.layout (length v.named))
+        → IsMoved v word (cond t (posts_one v) (posts_all v))
+    by_word true is by = record {
+      blocks = first;
+      packets = 1;
+      word_is = elim (cases_lt (length v.named) first) [
+        | inl more ↦ elim by [
+          | inl one ↦ absurd (omega (arith, one.few, more))
+          | inr all ↦ all ∙ ap (tail_behind v.layout) (sym (many_all first (omega (arith, more))))
+        ]
+        | inr few ↦ eqb-true word _ is ∙ ap (tail_behind v.layout) (sym (length-take-le first v.named few))
+      ];
+      driver = refl;
+    }
+    by_word false is (inl one) = absurd (eqb-false word _ is one.word_is)
+    by_word false is (inr all) = record {
+      blocks = length v.named;
+      packets = length v.whole;
+      word_is = all ∙ ap (tail_behind v.layout) (sym (many_all (length v.named) (omega arith)));
+      driver = refl;
+    }
 
 pub word_low : (v : Receive) (port : Port) (number word : ℕ) → IsRing (reach v) → MovesNext v port number word
     → word < 65536
@@ -334,8 +285,7 @@ word_low v port number word ring own =
 
 pub move_keeps : (queue : ℕ) (s : State) (out : List Piece) (v : Receive) (port : Port) (number word : ℕ)
     → HasShape s.registers → Agree queue s out v → MovesNext v port number word
-    → Agree queue (after s (event.Write port number word)) out
-    (drive v (event.Write port number word) (reply_to s (event.Write port number word)))
+    → Driven queue s out v (event.Write port number word)
 move_keeps queue s out v port number word shape (gone, here, h) own =
     let m = moved_is v port number word own in
     by_outcome queue s out v (event.Write port number word) (event.Write v.layout.port v.layout.tail word) _

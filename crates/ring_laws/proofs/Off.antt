@@ -21,11 +21,10 @@ pub enable_words_keep : EnableWordsKeep
 enable_words_keep s queue sent v port n word made names rests (f, h) =
     let e = event.Write port n word in
     let is = asked queue s h.based.sound h.based.small port n word Tx names in
-    still-agrees s queue sent v f h e made (plain-write s port n word (place Txdctl queue) 0xFFFFFFFF names refl)
+    still-agrees h e made (plain-write s port n word (place Txdctl queue) 0xFFFFFFFF names refl)
     (set_up-same (transmit_queue_of s.registers queue) (transmit_queue_of (after s e).registers queue) v.layout v.posted
     f (ap (λ (x : Side). x.ring) is) (ap (λ (x : Side). x.writeback) is) h.set_up)
-    (sends is h.sends)
-    (λ number is. ap (λ (m : Memory). map.get m number) (write_memory s port n word))
+    (sends is h.sends) (λ number is. ap (λ (m : Memory). map.get m number) (write_memory s port n word))
   where
     Sends : State → Type 0
     Sends t = SendsInOrder t queue sent v.layout.limit (drop f v.outstanding) v.accepted
@@ -64,23 +63,17 @@ module _ (queue : ℕ) (s : State) (small : queue < 128) (e : Event Block) (x : 
 -- a history
 
 off_history : (queue : ℕ) (s : State) (h : List Entry) → queue < 128 → AllLeaveSide queue s h → IsOff queue s
-    → IsOff queue (leads_to s h)
-off_history queue s [] small all is = is
+    → IsOff queue (leads_to s h) × (sent_in queue s h ≡ [])
+off_history queue s [] small all is = (is, refl)
 off_history queue s (e ∷ es) small all is =
-    off_history queue (after s e.event) es small all.1 (off-stays queue s small e.event all.0 is)
-
-silent_history : (queue : ℕ) (s : State) (h : List Entry) → queue < 128 → AllLeaveSide queue s h → IsOff queue s
-    → sent_in queue s h ≡ []
-silent_history queue s [] small all is = refl
-silent_history queue s (e ∷ es) small all is =
-    rw (off-sends-none queue s small e.event all.0 is)
-    (silent_history queue (after s e.event) es small all.1 (off-stays queue s small e.event all.0 is))
+    let rest = off_history queue (after s e.event) es small all.1 (off-stays queue s small e.event all.0 is) in
+    (rest.0, rw (off-sends-none queue s small e.event all.0 is) rest.1)
 
 pub off_stays : OffStays
 off_stays = record {
   unwanted = λ queue s e small x none. unwanted-stays queue s small e x none;
-  off = off_history;
-  silent = silent_history;
+  off = λ queue s h small all is. (off_history queue s h small all is).0;
+  silent = λ queue s h small all is. (off_history queue s h small all is).1;
 }
 
 -- What a driver does by the enable word: it asks for the side to be on or off, and sees the side off.

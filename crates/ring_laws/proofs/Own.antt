@@ -1,27 +1,28 @@
 -- The driver's own events: each gets the reply of a healthy queue, and keeps the agreement; here one takes the block of
 -- the next slot.
-use Rattle.std.proofs.Common.{[], ◌*◌, ◌++◌, ◌+◌, ◌<◌, ◌∙◌, ◌∷◌, ◌≡◌, ◌≢◌, ◌≤◌, Bool, List, Some, ap, arith, cond, drop}
-use Rattle.std.proofs.Common.{false, inl, inr, length, nat_lt, not, refl, subst, suc, sym, take, true, ℕ}
-use Rattle.std.proofs.lemmas.Bool.{and_from, cases_Bool, eq-eqb, or_left, or_right}
+use Rattle.std.proofs.Common.{[], ◌*◌, ◌++◌, ◌+◌, ◌<◌, ◌∙◌, ◌∷◌, ◌≡◌, ◌≤◌, Bool, List, Some, ap, arith, cond, drop}
+use Rattle.std.proofs.Common.{false, inl, inr, length, not, refl, subst, suc, sym, take, true, ℕ}
+use Rattle.std.proofs.lemmas.Bool.{and_from, cases_Bool, eq-eqb, le-leb, lt-ltb, or_left, or_right}
 use Rattle.std.proofs.lemmas.List.{append-nil, get_or-drop, length-drop}
-use Rattle.std.{proofs.lemmas.Bool.Decides.nat_tests, specs.Prelude.nat_le}
-use Rattle.history_laws.specs.Prelude.{Block, Event, IsWhole, Memory, Outcome, Port, ReceiveQueue, State, after}
+use Rattle.std.{specs.Prelude.⊤}
+use Rattle.history_laws.specs.Prelude.{Block, Event, IsWhole, Memory, Outcome, Port, ReceiveQueue, State}
 use Rattle.history_laws.specs.Prelude.{bytes_in, ends_packet, is_done, read_at, receive_queue_of, reply_to, second_half}
 use Rattle.history_laws.specs.Prelude.{step_of}
 use Rattle.ring_laws.specs.ReceivePrelude.{IsOwn, Layout, LendsAnew, Looks, MovesNext, NamesNext, Packet, PeeksNext}
-use Rattle.ring_laws.specs.ReceivePrelude.{Receive, Stage, Told, block_at, descriptor_at, drive, is_part, is_ring_block}
+use Rattle.ring_laws.specs.ReceivePrelude.{Receive, Stage, Told, block_at, descriptor_at, is_part}
 use Rattle.ring_laws.specs.ReceivePrelude.{left_of, reach, slot_at, took, vacant, wrapped}
 use Rattle.nic_device.proofs.{DmaArena.Blocks.read_at_in, DmaArena.Bus.get-remove_other, DmaArena.Bus.of_some}
 use Rattle.nic_device.specs.DmaArena.Memory.{part}
 use Rattle.pmd_rx.proofs.{PmdSeam.Places.next_below, PmdSeam.Places.wrapped_next, PmdSeam.Rings.ring_block_apart}
 use Rattle.pmd_rx.specs.{Receive.TakesNext, Receive.consumed, Wrong.is_healthy, Wrong.is_whole}
-use Rattle.history_laws.proofs.Lent.{anew_is_done, poked_is, taken_is}
-use Rattle.ring_laws.proofs.Kept.{SameRing, aligned, filled_kept, named_kept, posted_block, posted_in, posted_kept}
-use Rattle.ring_laws.proofs.Leaving.{by_outcome, descriptor_lent, lend_keeps, look_keeps, look_tells, looked_is}
+use Rattle.history_laws.proofs.Lent.{anew_is_done, taken_is}
+use Rattle.ring_laws.proofs.Kept.{filled_stays, posted_block, posted_in, posted_stays, slot_below}
+use Rattle.ring_laws.proofs.Ring.{Stays, same_stays, slot_poked}
+use Rattle.ring_laws.proofs.Leaving.{Driven, by_outcome, lend_keeps, look_keeps, look_tells, looked_is}
 use Rattle.ring_laws.proofs.Parts.{first_seen, none_left, order_on, seen_within}
 use Rattle.ring_laws.specs.Joint.{Agree, AreOpen, AreSeen, HasSlots, Holds, IsAt, IsFilled, IsPosted, IsRing}
 use Rattle.ring_laws.specs.Pieces.{AllFit, Fits, Piece, no_piece, open_after, piece_at}
-use Rattle.ring_laws.{proofs.Kept.reach_long, proofs.Kept.same_has, proofs.Kept.took_reach, proofs.Naming.move_keeps}
+use Rattle.ring_laws.{proofs.Kept.reach_long, proofs.Kept.took_reach, proofs.Naming.move_keeps}
 use Rattle.ring_laws.{proofs.Naming.name_keeps, proofs.Naming.tail_written, specs.ReceiveHealthy.OwnRepliesAreHealthy}
 use Rattle.ring_laws.{specs.Joint.IsSetUp, specs.Joint.Saw, specs.Steps.OwnEventKeeps, specs.Steps.TellsSlot}
 use Rattle.std.specs.FinMap as map
@@ -42,24 +43,17 @@ next-fits most n (t ∷ ts) [] all are opens below = absurd are
 next-fits most n (t ∷ ts) (p ∷ here) all are opens below =
     let on : p.end ≡ false = sym are.0.end_is ∙ opens.0.goes_on in
     let rest : AllFit most (n + 1) here = subst (λ (e : Bool). AllFit most (cond e 0 (n + 1)) here) on all.1 in
-    subst (λ (k : ℕ). Fits most k (piece_at here (length ts)))
-    (let e : n + 1 + length ts ≡ n + suc (length ts) = omega arith in e)
-    (next-fits most (n + 1) ts here rest are.1 opens.1 (omega (arith, below)))
-
-le_of : (m n : ℕ) → m ≤ n → nat_le m n ≡ true
-le_of m n is = grind (arith, nat_tests)
-
-lt_of : (m n : ℕ) → m < n → nat_lt m n ≡ true
-lt_of m n is = grind (arith, nat_tests)
+    let same : n + suc (length ts) ≡ n + 1 + length ts = omega arith in
+    rw same (next-fits most (n + 1) ts here rest are.1 opens.1 (omega (arith, below)))
 
 part_is : (most before second : ℕ) (p : Piece) (ends : Bool) → ends_packet second ≡ ends → ends_packet second ≡ p.end
     → bytes_in second ≡ length p.bytes → length p.bytes ≤ 2048 → Fits most before p
     → is_part most before second ≡ true
 part_is most before second p true is end len short fits =
-    rw is (le_of (bytes_in second) 2048 (subst (λ (n : ℕ). n ≤ 2048) (sym len) short))
+    rw is (le-leb (bytes_in second) 2048 (subst (λ (n : ℕ). n ≤ 2048) (sym len) short))
 part_is most before second p false is end len short fits =
     let on : p.end ≡ false = sym end ∙ is in
-    rw is (and_from _ _ (eq-eqb (bytes_in second) 2048 (len ∙ fits.full on)) (lt_of (before + 1) most (fits.more on)))
+    rw is (and_from _ _ (eq-eqb (bytes_in second) 2048 (len ∙ fits.full on)) (lt-ltb (before + 1) most (fits.more on)))
 
 module _ (queue : ℕ) (s : State) (out : List Piece) (v : Receive) (gone here : List Piece)
     (h : Holds queue s out v gone here)
@@ -121,8 +115,8 @@ module _ (queue : ℕ) (s : State) (out : List Piece) (v : Receive) (gone here :
         let l = reach v in
         let at = descriptor_at l (vacant l) in
         healthy_by (event.Poke16 a bytes) (event.Poke16 at bytes) _ (ap (λ x. event.Poke16 x bytes) own.address)
-        (poked_is s at bytes (aligned l.ring (slot_at l (vacant l)))
-        (descriptor_lent s.memory l here h.ring h.slots (vacant l) (omega arith))) refl
+        (slot_poked l.ring l.size (slot_at l (vacant l)) (slot_below l (vacant l) h.ring (omega arith)) s bytes
+        h.slots.there) refl
 
     move_healthy : (port : Port) (n word : ℕ) → MovesNext v port n word → Healthy (event.Write port n word)
     move_healthy port n word own =
@@ -171,10 +165,10 @@ module _ (m : Memory) (l : Layout) (here : List Piece) (ring : IsRing l) (h : Ha
   desc_on : (k : ℕ) → k + 1 < l.size → descriptor_at (consumed l) k ≡ descriptor_at l (1 + k)
   desc_on k i = ap (λ x. 2048 * l.ring + 16 * x) (slot_on l k ring.next i)
 
-  kept_ring : SameRing l m n
-  kept_ring k i =
-      get-remove_other m (block_at l 0) (l.ring + k)
-      (λ e. ring_block_apart l.ring l.size (block_at l 0) (ring.not_ring 0 outs) k i (sym e))
+  stays : Stays l.ring l.size m n (λ j. ⊤) (λ b. map.get n b ≡ map.get m b)
+  stays =
+      same_stays l.ring l.size m n (λ k i. get-remove_other m (block_at l 0) (l.ring + k)
+      (λ e. ring_block_apart l.ring l.size (block_at l 0) (ring.not_ring 0 outs) k i (sym e)))
 
   kept_block : (k : ℕ) → 0 < k → k < length l.blocks → map.get n (block_at l k) ≡ map.get m (block_at l k)
   kept_block k i j =
@@ -185,21 +179,17 @@ module _ (m : Memory) (l : Layout) (here : List Piece) (ring : IsRing l) (h : Ha
   filled_on k i =
       let j : 1 + k < length here = omega (arith, fewer, i) in
       let inside : 1 + k < length l.blocks = omega (arith, h.within, j) in
-      subst (λ a. IsFilled n a (block_at (consumed l) k) (piece_at (drop 1 here) k))
-      (sym (desc_on k (omega (arith, ring.room, inside))))
-      (subst (λ b. IsFilled n (descriptor_at l (1 + k)) b (piece_at (drop 1 here) k)) (sym (block_on k))
-      (subst (λ p. IsFilled n (descriptor_at l (1 + k)) (block_at l (1 + k)) p) (sym (piece_on k))
-      (filled_kept l m n ring kept_ring (1 + k) (block_at l (1 + k)) (piece_at here (1 + k)) (omega (arith, inside))
-      (kept_block (1 + k) (omega arith) inside) (h.filled (1 + k) j))))
+      rw (desc_on k (omega (arith, ring.room, inside)), block_on k, piece_on k)
+      (filled_stays ring stays (1 + k) (block_at l (1 + k)) (piece_at here (1 + k)) (omega (arith, inside))
+      (ring.not_ring (1 + k) inside) tt (kept_block (1 + k) (omega arith) inside) (h.filled (1 + k) j))
 
   posted_on : (k : ℕ) → length (drop 1 here) ≤ k → k < length (drop 1 l.blocks)
       → IsPosted n (descriptor_at (consumed l) k) (block_at (consumed l) k)
   posted_on k i j =
       let inside : 1 + k < length l.blocks = omega (arith, less, j) in
-      subst (λ a. IsPosted n a (block_at (consumed l) k)) (sym (desc_on k (omega (arith, ring.room, inside))))
-      (subst (λ b. IsPosted n (descriptor_at l (1 + k)) b) (sym (block_on k))
-      (posted_kept l m n ring kept_ring (1 + k) (block_at l (1 + k)) (omega (arith, inside))
-      (kept_block (1 + k) (omega arith) inside) (h.posted (1 + k) (omega (arith, fewer, i)) inside)))
+      rw (desc_on k (omega (arith, ring.room, inside)), block_on k)
+      (posted_stays ring stays (1 + k) (block_at l (1 + k)) (omega (arith, inside)) tt
+      (kept_block (1 + k) (omega arith) inside) (h.posted (1 + k) (omega (arith, fewer, i)) inside))
 
   pub ring_on : IsRing (consumed l)
   ring_on =
@@ -209,21 +199,17 @@ module _ (m : Memory) (l : Layout) (here : List Piece) (ring : IsRing l) (h : Ha
         next = next_below l.size l.next ring.next;
         ring = ring.ring;
         room = omega (arith, less, ring.room);
-        low = λ k i. subst (λ b. b < 65536) (sym (block_on k)) (ring.low (1 + k) (omega (arith, less, i)));
-        not_ring = λ k i.
-            subst (λ b. is_ring_block l.ring l.size b ≡ false) (sym (block_on k))
-            (ring.not_ring (1 + k) (omega (arith, less, i)));
+        low = λ k i. rw (block_on k) (ring.low (1 + k) (omega (arith, less, i)));
+        not_ring = λ k i. rw (block_on k) (ring.not_ring (1 + k) (omega (arith, less, i)));
         apart = λ i j a b ne.
-            subst (λ x. x ≢ block_at (consumed l) j) (sym (block_on i))
-            (subst (λ x. block_at l (1 + i) ≢ x) (sym (block_on j))
-            (ring.apart (1 + i) (1 + j) (omega (arith, less, a)) (omega (arith, less, b))
-            (λ e. ne (omega (arith, e)))));
+            rw (block_on i, block_on j)
+            (ring.apart (1 + i) (1 + j) (omega (arith, less, a)) (omega (arith, less, b)) (λ e. ne (omega (arith, e))));
       }
 
   pub slots_on : HasSlots n (consumed l) (drop 1 here)
   slots_on =
       record {
-        there = λ k i. same_has m n (l.ring + k) (kept_ring k i) ∙ h.there k i;
+        there = λ k i. stays.has k i ∙ h.there k i;
         within = omega (arith, fewer, less, h.within);
         filled = filled_on;
         posted = posted_on;
@@ -238,18 +224,13 @@ module _ (l : Layout) (here : List Piece) (next : l.next < l.size) (room : lengt
   pub set_up_on : (q : ReceiveQueue) → IsSetUp q l (length here) → IsSetUp q (consumed l) (length (drop 1 here))
   set_up_on q up =
       let e : 1 + length (drop 1 here) ≡ length here = omega (arith, length-drop 1 here, some) in
-      let f : 1 + length (drop 1 l.blocks) ≡ length l.blocks =
-      omega (arith, length-drop 1 l.blocks, within, some) in
-      record {
-        one_buffer = up.one_buffer;
-        buffer_size = up.buffer_size;
-        base = up.base;
-        sized = up.sized;
-        head = up.head ∙ ap (slot_at l) (sym e)
-            ∙ sym (slot_on l (length (drop 1 here)) next (omega (arith, e, within, room)));
-        tail = up.tail ∙ ap (slot_at l) (sym f)
-            ∙ sym (slot_on l (length (drop 1 l.blocks)) next (omega (arith, f, room)));
-      }
+      let f : 1 + length (drop 1 l.blocks) ≡ length l.blocks = omega (arith, length-drop 1 l.blocks, within, some) in
+      assumption (
+        up.head ∙ ap (slot_at l) (sym e)
+            ∙ sym (slot_on l (length (drop 1 here)) next (omega (arith, e, within, room))),
+        up.tail ∙ ap (slot_at l) (sym f)
+            ∙ sym (slot_on l (length (drop 1 l.blocks)) next (omega (arith, f, room))),
+      )
 
 -- The block of the next slot is taken: its piece is the oldest that was written and not consumed.
 
@@ -268,8 +249,7 @@ some_here : (seen : List Told) (here : List Piece) → AreSeen seen here → 0 <
 some_here seen here are some = let within = seen_within seen here are in omega (arith, within, some)
 
 pub take_keeps : (queue : ℕ) (s : State) (out : List Piece) (v : Receive) (n : ℕ) (seen : List Told) → IsWhole s.memory
-    → Agree queue s out v → TakesNext v n → v.seen ≡ seen
-    → Agree queue (after s (event.Take n)) out (drive v (event.Take n) (reply_to s (event.Take n)))
+    → Agree queue s out v → TakesNext v n → v.seen ≡ seen → Driven queue s out v (event.Take n)
 take_keeps queue s out v n [] whole j own is =
     let none = ap (λ (xs : List Told). length xs) is in
     absurd (omega (arith, own.some, none))
@@ -294,7 +274,7 @@ take_keeps queue s out v n (t ∷ ts) whole (gone, here, h) own is =
       gone ++ piece_at here 0 ∷ [],
       drop 1 here,
       record {
-        named = record { low = h.named.low; tail = (named_kept s u queue v.layout refl refl h.named).tail };
+        named = assumption;
         ring = subst IsRing same (ring_on s.memory l here h.ring h.slots some);
         side = set_up_on v.layout here h.ring.next room h.posted some (receive_queue_of s.registers queue) h.side;
         posted = posted_less v.layout here h.ring.next room h.posted some;
@@ -310,23 +290,13 @@ take_keeps queue s out v n (t ∷ ts) whole (gone, here, h) own is =
 
 -- Each event of the driver's own keeps the agreement.
 
-abbrev Driven : ℕ → State → List Piece → Receive → Event Block → Type 0
-Driven queue s out v e = Agree queue (after s e) out (drive v e (reply_to s e))
-
-quiet : (queue : ℕ) (s : State) (out : List Piece) (v : Receive) (e : Event Block) → Driven queue s out v e
-    → Agree queue (after s e) (out ++ []) (drive v e (reply_to s e))
-quiet queue s out v e d =
-    subst (λ xs. Agree queue (after s e) xs (drive v e (reply_to s e))) (sym (append-nil out)) d
-
 pub own_keeps : OwnEventKeeps
-own_keeps queue s out v (event.Peek16 a) i j own =
-    quiet queue s out v (event.Peek16 a) (look_keeps queue s out v a j own)
+own_keeps queue s out v (event.Peek16 a) i j own = rw (append-nil out) (look_keeps queue s out v a j own)
 own_keeps queue s out v (event.Take n) i j own =
-    quiet queue s out v (event.Take n) (take_keeps queue s out v n v.seen i.blocks.whole j own refl)
-own_keeps queue s out v (event.Lend b) i j own = quiet queue s out v (event.Lend b) (lend_keeps queue s out v b j own)
+    rw (append-nil out) (take_keeps queue s out v n v.seen i.blocks.whole j own refl)
+own_keeps queue s out v (event.Lend b) i j own = rw (append-nil out) (lend_keeps queue s out v b j own)
 own_keeps queue s out v (event.Poke16 a bytes) i j own =
-    quiet queue s out v (event.Poke16 a bytes) (name_keeps queue s out v a bytes i.blocks.whole j own)
-own_keeps queue s out v (event.Write port number word) i j own =
-    quiet queue s out v (event.Write port number word)
-    (move_keeps queue s out v port number word i.registers.shape j own)
+    rw (append-nil out) (name_keeps queue s out v a bytes i.blocks.whole j own)
+own_keeps queue s out v (event.Write port n word) i j own =
+    rw (append-nil out) (move_keeps queue s out v port n word i.registers.shape j own)
 own_keeps queue s out v e i j own = absurd own

@@ -125,8 +125,7 @@ frame_left limit staged (x ∷ ss) some are = elim (cases_Bool x.part.last) [
   | inl last ↦ rw last (omega arith)
   | inr other ↦
       let rest : ArePackets limit (staged ++ x.part.bytes) ss = rw other at are.2 in
-      rw other
-      (frame_left limit (staged ++ x.part.bytes) ss (omega (arith, length-append staged x.part.bytes)) rest)
+      rw other (frame_left limit (staged ++ x.part.bytes) ss (omega (arith, length-append staged x.part.bytes)) rest)
 ]
 
 -- so has a segment that is the last of its packet
@@ -208,15 +207,10 @@ module _ (m : Memory) (v : Sender) (f : ℕ) (l : IsLayout v.layout) (c : IsCoun
         (λ e. each_now j (λ z. x.block ≢ z.block) b (λ lu y. new j lu (sym y)) (λ d. absurd (ne (e ∙ sym d))))
 
     pub counted-lent : length ss < v.layout.size → v.lent < length ss → IsCounted w f
-    counted-lent room known = record {
-      room = room;
-      done_fetched = c.done_fetched;
-      fetched_posted = c.fetched_posted;
-      posted_poked = c.posted_poked;
-      poked_lent = omega (arith, c.poked_lent);
-      lent_known = omega arith;
-      apart = apart_now;
-    }
+    counted-lent room known =
+        let poked : v.poked ≤ v.lent + 1 = omega (arith, c.poked_lent) in
+        let lent : v.lent + 1 ≤ length ss = omega arith in
+        assumption (poked, lent, apart_now)
 
     pub shows-lent : Shows lent w f
     shows-lent = record {
@@ -232,16 +226,13 @@ module _ (m : Memory) (v : Sender) (f : ℕ) (l : IsLayout v.layout) (c : IsCoun
 -- a packet that is accepted goes behind the others
 module _ (v : Sender) (p : Outgoing) (b : Block) (may : MayAccept v p b) where
   pub early-accepted : (k : ℕ) → k < v.lent → segment_at (accepted_by v p) k ≡ segment_at v k
-  early-accepted k below =
-      get_or_append_left v.outstanding (segments_of p) no_segment k (omega (arith, may.lent))
+  early-accepted k below = get_or_append_left v.outstanding (segments_of p) no_segment k (omega (arith, may.lent))
 
   pub count-accepted : length (v.outstanding ++ segments_of p) ≡ length v.outstanding + length p.blocks
-  count-accepted =
-      omega (arith, length-append v.outstanding (segments_of p), length-segments p may.each)
+  count-accepted = omega (arith, length-append v.outstanding (segments_of p), length-segments p may.each)
 
   pub known-accepted : v.lent < length (v.outstanding ++ segments_of p)
-  known-accepted =
-      omega (arith, count-accepted, may.lent, may.each, some-parts (length p.kept.bytes) may.long)
+  known-accepted = omega (arith, count-accepted, may.lent, may.each, some-parts (length p.kept.bytes) may.long)
 
   module _ (f : ℕ) (low : f ≤ length v.outstanding) (sent : List (List ℕ)) where
     more : bytes_of (v.accepted ++ p.kept ∷ []) ≡ bytes_of v.accepted ++ p.kept.bytes ∷ []

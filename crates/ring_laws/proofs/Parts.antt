@@ -1,7 +1,8 @@
 -- Parts of packets: what the driver saw of them, and how the pieces are cut behind those that were consumed.
 use Rattle.std.proofs.Common.{[], ◌++◌, ◌+◌, ◌<◌, ◌∙◌, ◌∷◌, ◌≡◌, ◌≤◌, Bool, List, ap, append_assoc, arith, cond, drop}
-use Rattle.std.proofs.Common.{false, length, refl, subst, suc, sym, take, true, ℕ}
+use Rattle.std.proofs.Common.{false, length, refl, subst, sym, take, true, ℕ}
 use Rattle.std.proofs.lemmas.List.{append-nil, length-append, length_push, map-append}
+use Rattle.std.proofs.Math.Seq.{take-append-add, take-length}
 use Rattle.history_laws.specs.Prelude.{Block, bytes_in, ends_packet}
 use Rattle.ring_laws.specs.ReceivePrelude.{Kept, Looks, Packet, Receive, Stage, Takes, Told, ended_of, kept_of, left_of}
 use Rattle.ring_laws.specs.ReceivePrelude.{next_stage, no_packet, records_of, took}
@@ -12,8 +13,7 @@ use Rattle.ring_laws.specs.Pieces.{Piece, open_after, packet_told, packets_behin
 use Rattle.ring_laws.specs.Joint.{still_held}
 
 -- what was seen stays so as a piece more is written
-pub seen_longer : (seen : List Told) (here : List Piece) (p : Piece) → AreSeen seen here
-    → AreSeen seen (here ++ p ∷ [])
+pub seen_longer : (seen : List Told) (here : List Piece) (p : Piece) → AreSeen seen here → AreSeen seen (here ++ p ∷ [])
 seen_longer [] here p is = tt
 seen_longer (t ∷ ts) [] p is = absurd is
 seen_longer (t ∷ ts) (q ∷ here) p is = (is.0, seen_longer ts here p is.1)
@@ -24,8 +24,7 @@ pub seen_more : (seen : List Told) (here : List Piece) (t : Told) → AreSeen se
 seen_more [] [] t is below saw = absurd (omega (arith, below))
 seen_more [] (q ∷ here) t is below saw = (saw, tt)
 seen_more (u ∷ ts) [] t is below saw = absurd is
-seen_more (u ∷ ts) (q ∷ here) t is below saw =
-    (is.0, seen_more ts here t is.1 (omega (arith, below)) saw)
+seen_more (u ∷ ts) (q ∷ here) t is below saw = (is.0, seen_more ts here t is.1 (omega (arith, below)) saw)
 
 pub seen_within : (seen : List Told) (here : List Piece) → AreSeen seen here → length seen ≤ length here
 seen_within [] here is = omega arith
@@ -71,16 +70,6 @@ none_left (t ∷ ts) = refl
 
 -- a part joins a packet
 
-take_past : (xs ys : List ℕ) (n : ℕ) → take (length xs + n) (xs ++ ys) ≡ xs ++ take n ys
-take_past [] ys n = ap (λ (k : ℕ). take k ys) (let e : 0 + n ≡ n = omega arith in e)
-take_past (x ∷ xs) ys n =
-    ap (λ (k : ℕ). take k (x ∷ (xs ++ ys))) (let e : suc (length xs) + n ≡ suc (length xs + n) = omega arith in e)
-    ∙ ap (λ (zs : List ℕ). x ∷ zs) (take_past xs ys n)
-
-take_all : (xs : List ℕ) → take (length xs) xs ≡ xs
-take_all [] = refl
-take_all (x ∷ xs) = ap (λ (zs : List ℕ). x ∷ zs) (take_all xs)
-
 joined_bytes : (p : Packet) (b : Block) (t : Told) → length (bytes_of p.bufs) ≡ p.len
     → (kept_of (joined p b t)).bytes ≡ (kept_of p).bytes ++ take (bytes_in t.second) b.bytes
 joined_bytes p b t full =
@@ -88,8 +77,8 @@ joined_bytes p b t full =
     let n = bytes_in t.second in
     ap (λ (ys : List ℕ). take (p.len + n) ys) (bytes-more p.bufs b)
     ∙ ap (λ (k : ℕ). take (k + n) (xs ++ b.bytes)) (sym full)
-    ∙ take_past xs b.bytes n
-    ∙ ap (λ (ys : List ℕ). ys ++ take n b.bytes) (sym (ap (λ (k : ℕ). take k xs) (sym full) ∙ take_all xs))
+    ∙ take-append-add xs b.bytes n
+    ∙ ap (λ (ys : List ℕ). ys ++ take n b.bytes) (sym (ap (λ (k : ℕ). take k xs) (sym full) ∙ take-length xs))
 
 joined_length : (p : Packet) (b : Block) (t : Told) → length (bytes_of p.bufs) ≡ p.len → length b.bytes ≡ 2048
     → bytes_in t.second ≡ 2048 → length (bytes_of (joined p b t).bufs) ≡ (joined p b t).len
@@ -167,26 +156,19 @@ module _ (out gone ps : List Piece) (v : Receive) (p : Piece) (t : Told) (b : Bl
         → InOrder out (took v (t ∷ ts) b) (gone ++ p ∷ []) ps
     taken [] last seen order =
         let end : p.end ≡ true = sym saw.end_is ∙ last in
-        record {
-          cut = last_cut end;
-          parts = open_pushed 0 gone p ∙ rw end refl;
-          full = refl;
-          seen = tt;
-          stage = tt;
-          order = order ∙ sym (append_assoc gone (p ∷ []) ps);
-        }
+        let parts : open_after 0 (gone ++ p ∷ []) ≡ 0 = open_pushed 0 gone p ∙ rw end refl in
+        assumption (last_cut end, parts, order ∙ sym (append_assoc gone (p ∷ []) ps))
     taken (u ∷ ts) last seen order =
         let opens : p.end ≡ false = sym saw.end_is ∙ last.0.goes_on in
-        record {
-          cut = more_cut u ts opens;
-          parts = open_pushed 0 gone p ∙ ap (λ (e : Bool). cond e 0 (open_after 0 gone + 1)) opens
-              ∙ (let e : open_after 0 gone + 1 ≡ length (v.held.bufs ++ b ∷ []) =
-              omega (arith, parts, length_push v.held.bufs b) in e);
-          full = joined_length v.held b t full whole last.0.full;
-          seen = seen;
-          stage = last.1;
-          order = order ∙ sym (append_assoc gone (p ∷ []) ps);
-        }
+        let more : open_after 0 gone + 1 ≡ length (v.held.bufs ++ b ∷ []) =
+        omega (arith, parts, length_push v.held.bufs b) in
+        assumption (
+          more_cut u ts opens,
+          open_pushed 0 gone p ∙ ap (λ (e : Bool). cond e 0 (open_after 0 gone + 1)) opens ∙ more,
+          joined_length v.held b t full whole last.0.full,
+          last.1,
+          order ∙ sym (append_assoc gone (p ∷ []) ps),
+        )
 
 pub order_on : (out gone here : List Piece) (v : Receive) (t : Told) (ts : List Told) (b : Block)
     → InOrder out v gone here → v.seen ≡ t ∷ ts → v.stage ≡ Takes → 0 < length here
@@ -233,14 +215,12 @@ order_same out gone here v w o had still seen stage = record {
 }
 
 -- while nothing is held, what is seen may change
-pub none_held : (out gone here : List Piece) (v w : Receive) → InOrder out v gone here → v.held ≡ no_packet
-    → w.held ≡ no_packet → w.handed ≡ v.handed → w.whole ≡ v.whole → AreSeen w.seen here
-    → IsAt w.stage w.seen w.held → InOrder out w gone here
-none_held out gone here v w o none still same whole seen stage =
-    let left : (u : Receive) → u.held ≡ no_packet → still_held u ≡ no_packet =
-    λ u is. ap (λ (p : Packet). left_of u.seen p) is ∙ none_left u.seen in
-    let ended : (u : Receive) → u.held ≡ no_packet → ended_of u.seen u.held ≡ [] =
-    λ u is. ap (λ (p : Packet). ended_of u.seen p) is ∙ none_ended u.seen in
-    let had = ended v none ∙ sym (ended w still) in
-    order_same out gone here v w o (λ k. sym same k ++ records_of (sym whole k ++ had k))
-    (left v none ∙ sym (left w still)) seen stage
+pub none_held : (out gone here : List Piece) (v : Receive) (seen : List Told) (stage : Stage) → InOrder out v gone here
+    → v.held ≡ no_packet → AreSeen seen here → IsAt stage seen v.held
+    → InOrder out (record v { seen = seen; stage = stage }) gone here
+none_held out gone here v seen stage o none are at =
+    let left : (ts : List Told) → left_of ts v.held ≡ no_packet = λ ts. ap (left_of ts) none ∙ none_left ts in
+    let ended : (ts : List Told) → ended_of ts v.held ≡ [] = λ ts. ap (ended_of ts) none ∙ none_ended ts in
+    order_same out gone here v (record v { seen = seen; stage = stage }) o
+    (ap (λ (ps : List Packet). v.handed ++ records_of (v.whole ++ ps)) (ended v.seen ∙ sym (ended seen)))
+    (left v.seen ∙ sym (left seen)) are at

@@ -1,24 +1,30 @@
 -- Each move of the driver's keeps what it and the device agree on, and its replies are those of a healthy queue.
-use Rattle.std.proofs.Common.{[], ◌%◌, ◌++◌, ◌+◌, ◌-◌, ◌<◌, ◌∙◌, ◌∷◌, ◌≡◌, ◌≤◌, List, ap, arith, drop, length, refl}
+use Rattle.std.proofs.Common.{[], ◌++◌, ◌+◌, ◌-◌, ◌<◌, ◌∙◌, ◌∷◌, ◌≡◌, ◌≤◌, List, ap, arith, drop, length, refl}
 use Rattle.std.proofs.lemmas.List.{append-nil, drop-drop, get_or-drop, length-drop}
-use Rattle.std.proofs.{Common.subst, Common.sym, Common.true, Common.ℕ, lemmas.Bool.eq-eqb}
-use Rattle.std.specs.Prelude.{is_some, slice_index_or}
+use Rattle.std.proofs.{Common.subst, Common.sym, Common.true, Common.ℕ}
+use Rattle.std.specs.Prelude.{slice_index_or, ⊤}
 use Rattle.history_laws.specs.Prelude.{Block, Event, IsEvent, LeavesQueues, Memory, Outcome, State, TransmitQueue, Tx}
 use Rattle.history_laws.specs.Prelude.{after, read_at, reply_to, step_of, transmit_queue_of}
-use Rattle.ring_laws.specs.TransmitPrelude.{Accepts, Advances, Asks, EachRingBlock, Elsewhere, IsOwn, Lends, Looks}
-use Rattle.ring_laws.specs.TransmitPrelude.{MayAccept, Move, Outgoing, Reaps, Segment, Sender, asking, descriptor_at, moved}
+use Rattle.ring_laws.specs.TransmitPrelude.{Accepts, Advances, Asks, Elsewhere, IsOwn, Kept, Lends}
+use Rattle.ring_laws.specs.TransmitPrelude.{Looks}
+use Rattle.ring_laws.specs.TransmitPrelude.{MayAccept, Move, Outgoing, Reaps, Segment, Sender, asking, descriptor_at}
+use Rattle.ring_laws.specs.TransmitPrelude.{moved}
 use Rattle.ring_laws.specs.TransmitPrelude.{no_segment, segment_at, segments_of, slot_at}
 use Rattle.nic_device.proofs.{Cases.lent_cases, Cases.taken_cases, DmaArena.Bus.get-remove_other, DmaArena.Bus.of_some}
-use Rattle.pmd_tx.{proofs.PmdSeam.Rings.ring_block_apart, specs.Sending.is_healthy, specs.Sending.reaped}
-use Rattle.history_laws.proofs.{Leaving.queues_left, Lent.anew_is_done, Lent.poked_is, Lent.taken_is, Steady.up_kept}
+use Rattle.pmd_tx.{proofs.PmdSeam.Rings.ring_block_apart, specs.Sending.MayLend, specs.Sending.is_healthy}
+use Rattle.pmd_tx.{specs.Sending.reaped}
+use Rattle.history_laws.proofs.{Leaving.queues_left, Lent.anew_is_done, Lent.taken_is, Steady.up_kept}
 use Rattle.history_laws.proofs.DeviceLaws.Standing.{memory_rest}
 use Rattle.ring_laws.proofs.Advancing.{advance-stays-up, advance_one, ask_one, look, look_one, written_tail}
-use Rattle.ring_laws.proofs.Blocks.{descriptor-later, later-layout, ready-same, slot-even, slot-later, slot-lent}
+use Rattle.ring_laws.proofs.Blocks.{descriptor-later, later-layout, ready_stays, slot-below, slot-later}
+use Rattle.ring_laws.proofs.Ring.{Stays, same_stays, slot_poked}
 use Rattle.ring_laws.proofs.Packets.{count-accepted, counted-lent, early-accepted, known-accepted, sends-accepted}
 use Rattle.ring_laws.proofs.Sparing.{After, Keeps, based-after, never-shuts, spared_did, spares-keeps}
-use Rattle.ring_laws.specs.Agreeing.{Agrees, AgreesAt, IsCounted, IsLayout, IsReady, IsSetUp, SendsInOrder, Shows}
-use Rattle.ring_laws.proofs.{Blocks.slot-same, TransmitLent.first_at, Packets.shows-lent}
-use Rattle.ring_laws.specs.{TransmitHealthy.LendsAnew, TransmitHealthy.OwnRepliesAreHealthy, Laws.MovesKeep, Sent.sent_by}
+use Rattle.ring_laws.specs.Agreeing.{Agrees, AgreesAt, IsBased, IsCounted, IsLayout, IsReady, IsSetUp, SendsInOrder}
+use Rattle.ring_laws.specs.Agreeing.{Shows}
+use Rattle.ring_laws.proofs.{TransmitLent.first_at, Packets.shows-lent}
+use Rattle.ring_laws.specs.{TransmitHealthy.LendsAnew, TransmitHealthy.OwnRepliesAreHealthy, Laws.MovesKeep}
+use Rattle.ring_laws.specs.{Sent.sent_by}
 use Rattle.ring_laws.specs.{Turns.MayMove, TransmitUp.IsUp, TransmitUp.UpStays}
 use Rattle.std.specs.FinMap as fin
 use Rattle.nic_device.specs.declared.event.Event.TheVariants as event
@@ -46,16 +52,13 @@ module _ (v : Sender) (g : ℕ) (l : IsLayout v.layout) (c : IsCounted v (g + 1)
 
   pub set_up-reaped : (side : TransmitQueue) → IsSetUp side v.layout v.posted (g + 1)
       → IsSetUp side (reaped v).layout (v.posted - 1) g
-  set_up-reaped side u = record {
-    base = u.base;
-    length = u.length;
-    head = u.head ∙ sym (slot_is g (g + 1) refl (omega (arith, posted)));
-    tail =
+  set_up-reaped side u =
+      assumption (
+        u.head ∙ sym (slot_is g (g + 1) refl (omega (arith, posted))),
         u.tail
-        ∙ sym (slot_is (v.posted - 1) v.posted (omega (arith, c.fetched_posted))
-        (omega (arith, c.posted_poked, c.poked_lent, c.lent_known, c.room)));
-    writeback = u.writeback;
-  }
+            ∙ sym (slot_is (v.posted - 1) v.posted (omega (arith, c.fetched_posted))
+            (omega (arith, c.posted_poked, c.poked_lent, c.lent_known, c.room))),
+      )
 
   pub counted-reaped : IsCounted (reaped v) g
   counted-reaped = record {
@@ -81,28 +84,29 @@ module _ (v : Sender) (g : ℕ) (l : IsLayout v.layout) (c : IsCounted v (g + 1)
     abbrev pub without : Memory
     without = fin.remove m (segment_at v 0).block
 
+    stays : Stays v.layout.ring v.layout.size m without (λ j. ⊤) (λ b. fin.get without b ≡ fin.get m b)
+    stays =
+        let x = segment_at v 0 in
+        same_stays v.layout.ring v.layout.size m without (λ k below.
+        let other = ring_block_apart v.layout.ring v.layout.size x.block (h.ready 0 oldest).apart k below in
+        get-remove_other m x.block (v.layout.ring + k) (λ e. other (sym e)))
+
     other_block : (k : ℕ) → k + 1 < v.lent → IsReady without v.layout.ring v.layout.size (segment_at v (k + 1))
     other_block k there =
-        ready-same m without v.layout.ring v.layout.size (segment_at v (k + 1))
+        ready_stays stays (segment_at v (k + 1))
         (get-remove_other m (segment_at v 0).block (segment_at v (k + 1)).block
         (c.apart (k + 1) 0 there oldest (omega arith)))
         (h.ready (k + 1) there)
-
-    ring_stays : EachRingBlock v.layout.ring v.layout.size (λ n. fin.get without n ≡ fin.get m n)
-    ring_stays k below =
-        let x = segment_at v 0 in
-        let other = ring_block_apart v.layout.ring v.layout.size x.block (h.ready 0 oldest).apart k below in
-        get-remove_other m x.block (v.layout.ring + k) (λ e. other (sym e))
 
     slot_stays : (k : ℕ) → k < v.layout.size
         → read_at without (descriptor_at (reaped v).layout k) 16 ≡ read_at m (descriptor_at v.layout (k + 1)) 16
     slot_stays k h =
         ap (λ (a : ℕ). read_at without a 16) (descriptor-later v.layout l k h)
-        ∙ slot-same v l m without ring_stays (k + 1) (omega (arith, h))
+        ∙ stays.slot (slot_at v.layout (k + 1)) (slot-below v.layout l (k + 1) (omega (arith, h))) tt
 
     pub shows-reaped : Shows without (reaped v) g
     shows-reaped = record {
-      ring = λ k below. ap is_some (ring_stays k below) ∙ h.ring k below;
+      ring = λ k below. stays.has k below ∙ h.ring k below;
       ready = λ k i. rw (behind k) (other_block k (omega arith));
       done = λ k i end. rw (behind k)
           (slot_stays k (omega (arith, posted))
@@ -114,34 +118,38 @@ module _ (v : Sender) (g : ℕ) (l : IsLayout v.layout) (c : IsCounted v (g + 1)
 
 -- The driver's own moves that lend a block and take one back keep what it and the device agree on.
 
-module _ (s : State) (queue : ℕ) (sent : List (List ℕ)) (v : Sender) (f : ℕ) (h : AgreesAt s queue sent v f) where
+module _ {s : State} {queue : ℕ} {sent : List (List ℕ)} {v : Sender} {f : ℕ} (h : AgreesAt s queue sent v f) where
   known : f ≤ length v.outstanding
-  known =
-      let c = h.counted in omega (arith, c.fetched_posted, c.posted_poked, c.poked_lent, c.lent_known)
+  known = let c = h.counted in omega (arith, c.fetched_posted, c.posted_poked, c.poked_lent, c.lent_known)
+
+  -- a block is lent for a segment, the next one of these, which begin with those that are lent
+  lent_agrees : (x : Segment) (b : Block) → MayLend v x b → (ss : List Segment) (ks : List Kept)
+      → ((k : ℕ) → k < v.lent → slice_index_or ss k no_segment ≡ segment_at v k)
+      → slice_index_or ss v.lent no_segment ≡ x → length ss < v.layout.size → v.lent < length ss
+      → SendsInOrder s queue sent v.layout.limit (drop f ss) ks
+      → IsBased (record s { memory = fin.insert s.memory b.number b.bytes }) queue v.layout
+      → Agrees (record s { memory = fin.insert s.memory b.number b.bytes }) queue sent
+      (record v { outstanding = ss; lent = v.lent + 1; accepted = ks })
+  lent_agrees x b may ss ks early next room known sends based =
+      let l = h.based.layout in (
+        f,
+        assumption (
+          h.set_up,
+          counted-lent s.memory v f l h.counted h.shows x b may ss ks early next room known,
+          shows-lent s.memory v f l h.counted h.shows x b may ss ks early next,
+        ),
+      )
 
   -- the first block of a packet is lent
   pub accept_one : (p : Outgoing) (b : Block) → MayAccept v p b → IsEvent (event.Lend b)
       → After queue sent v (Accepts p) (step_of s (event.Lend b))
   unfolding step_of
   accept_one p b may made =
-      let x = slice_index_or (segments_of p) 0 no_segment in
-      let ss = v.outstanding ++ segments_of p in
-      let ks = v.accepted ++ p.kept ∷ [] in
-      let early = early-accepted v p b may in
-      let next = first_at v p may.lent in
-      let room : length ss < v.layout.size = omega (arith, count-accepted v p b may, may.room) in
-      lent_cases (Keeps queue sent v (Accepts p)) s b (λ based. (f, h)) (λ based. (
-        f,
-        record {
-          based = based;
-          set_up = h.set_up;
-          counted =
-              counted-lent s.memory v f h.based.layout h.counted h.shows x b may.first ss ks early next room
-              (known-accepted v p b may);
-          shows = shows-lent s.memory v f h.based.layout h.counted h.shows x b may.first ss ks early next;
-          sends = sends-accepted v p b may f known sent s queue h.sends;
-        },
-      ))
+      lent_cases (Keeps queue sent v (Accepts p)) s b (λ based. (f, h))
+      (lent_agrees (slice_index_or (segments_of p) 0 no_segment) b may.first (v.outstanding ++ segments_of p)
+      (v.accepted ++ p.kept ∷ []) (early-accepted v p b may) (first_at v p may.lent)
+      (omega (arith, count-accepted v p b may, may.room)) (known-accepted v p b may)
+      (sends-accepted v p b may f known sent s queue h.sends))
       (based-after s queue v.layout (event.Lend b) h.based made tt)
 
   -- the next one of a packet is lent
@@ -149,49 +157,26 @@ module _ (s : State) (queue : ℕ) (sent : List (List ℕ)) (v : Sender) (f : �
       → After queue sent v Lends (step_of s (event.Lend b))
   unfolding step_of
   lend_one b own made =
-      let x = segment_at v v.lent in
-      lent_cases (Keeps queue sent v Lends) s b (λ based. (f, h)) (λ based. (
-        f,
-        record {
-          based = based;
-          set_up = h.set_up;
-          counted =
-              counted-lent s.memory v f h.based.layout h.counted h.shows x b own.1 v.outstanding v.accepted
-              (λ k below. refl) refl h.counted.room own.0;
-          shows =
-              shows-lent s.memory v f h.based.layout h.counted h.shows x b own.1 v.outstanding v.accepted
-              (λ k below. refl) refl;
-          sends = h.sends;
-        },
-      ))
+      lent_cases (Keeps queue sent v Lends) s b (λ based. (f, h))
+      (lent_agrees (segment_at v v.lent) b own.1 v.outstanding v.accepted (λ k below. refl) refl h.counted.room own.0
+      h.sends)
       (based-after s queue v.layout (event.Lend b) h.based made tt)
 
   -- the oldest is taken back
-  reap_at : (g : ℕ) → f ≡ g + 1 → IsEvent (event.Take (segment_at v 0).block)
+  reap_at : (g : ℕ) → AgreesAt s queue sent v (g + 1) → IsEvent (event.Take (segment_at v 0).block)
       → After queue sent v Reaps (step_of s (event.Take (segment_at v 0).block))
   unfolding step_of
-  reap_at g e made =
-      let c : IsCounted v (g + 1) = subst (IsCounted v) e h.counted in
-      let shows : Shows s.memory v (g + 1) = subst (Shows s.memory v) e h.shows in
-      let side = transmit_queue_of s.registers queue in
-      let u : IsSetUp side v.layout v.posted (g + 1) = subst (IsSetUp side v.layout v.posted) e h.set_up in
-      let Left : ℕ → Type 0 = λ n. SendsInOrder s queue sent v.layout.limit (drop n v.outstanding) v.accepted in
-      let sends : Left (g + 1) = subst Left e h.sends in
+  reap_at g at made =
+      let l = at.based.layout in
       let Rest : List Segment → Type 0 = λ ss. SendsInOrder s queue sent v.layout.limit ss v.accepted in
       taken_cases (Keeps queue sent v Reaps) s (segment_at v 0).block (λ based. (f, h)) (λ block based. (
         g,
         record {
-          based = record {
-            sound = based.sound;
-            small = based.small;
-            layout = later-layout v.layout based.layout;
-            tail = based.tail;
-            limit = based.limit;
-          };
-          set_up = set_up-reaped v g h.based.layout c side u;
-          counted = counted-reaped v g h.based.layout c;
-          shows = shows-reaped v g h.based.layout c s.memory shows;
-          sends = subst Rest (dropped v g h.based.layout c) sends;
+          based = assumption (later-layout v.layout l, based);
+          set_up = set_up-reaped v g l at.counted (transmit_queue_of s.registers queue) at.set_up;
+          counted = counted-reaped v g l at.counted;
+          shows = shows-reaped v g l at.counted s.memory at.shows;
+          sends = subst Rest (dropped v g l at.counted) at.sends;
         },
       ))
       (based-after s queue v.layout (event.Take (segment_at v 0).block) h.based made tt)
@@ -202,36 +187,29 @@ module _ (s : State) (queue : ℕ) (sent : List (List ℕ)) (v : Sender) (f : �
       let done = h.counted.done_fetched in
       let e : f ≡ (f - 1) + 1 = omega (arith, own.0) in
       subst (λ x. IsEvent (event.Take x) → After queue sent v Reaps (step_of s (event.Take x))) (sym own.1)
-      (reap_at (f - 1) e) made
+      (reap_at (f - 1) (subst (AgreesAt s queue sent v) e h)) made
 
   -- each of them, with the frame that the event sends, if any
 
-  abbrev Kept : Move → Event Block → Type 0
-  Kept m e = Agrees (after s e) queue (sent ++ sent_by queue s e) (moved v m (reply_to s e))
+  abbrev IsKept : Move → Event Block → Type 0
+  IsKept m e = Agrees (after s e) queue (sent ++ sent_by queue s e) (moved v m (reply_to s e))
 
-  -- an event that sends nothing
-  quiet : (m : Move) (e : Event Block) → sent_by queue s e ≡ []
-      → Agrees (after s e) queue sent (moved v m (reply_to s e)) → Kept m e
-  quiet m e none is = rw (none, append-nil sent) is
-
-  pub move-keeps : (m : Move) (e : Event Block) → MayMove queue v s e m → Kept m e
-  move-keeps (Accepts p) (event.Lend b) may = quiet (Accepts p) (event.Lend b) refl (accept_one p b may.0 may.1)
-  move-keeps Lends (event.Lend b) may = quiet Lends (event.Lend b) refl (lend_one b may.0 may.1)
-  move-keeps Asks (event.Poke16 a bytes) may =
-      quiet Asks (event.Poke16 a bytes) refl (ask_one s queue sent v f h a bytes may.0 may.1)
-  move-keeps Advances (event.Write port n word) may =
-      quiet Advances (event.Write port n word) refl (advance_one s queue sent v f h port n word may.0 may.1)
-  move-keeps Looks (event.Peek16 a) may = quiet Looks (event.Peek16 a) refl (look_one s queue sent v f h a may.0)
-  move-keeps Reaps (event.Take n) may = quiet Reaps (event.Take n) refl (reap_one n may.0 may.1)
-  move-keeps Elsewhere e may = spares-keeps s queue sent v f h e may
+  pub move-keeps : (m : Move) (e : Event Block) → MayMove queue v s e m → IsKept m e
+  move-keeps (Accepts p) (event.Lend b) may = rw (append-nil sent) (accept_one p b may.0 may.1)
+  move-keeps Lends (event.Lend b) may = rw (append-nil sent) (lend_one b may.0 may.1)
+  move-keeps Asks (event.Poke16 a bytes) may = rw (append-nil sent) (ask_one h a bytes may.0 may.1)
+  move-keeps Advances (event.Write port n word) may = rw (append-nil sent) (advance_one h port n word may.0 may.1)
+  move-keeps Looks (event.Peek16 a) may = rw (append-nil sent) (look_one h a may.0)
+  move-keeps Reaps (event.Take n) may = rw (append-nil sent) (reap_one n may.0 may.1)
+  move-keeps Elsewhere e may = spares-keeps h e may
   move-keeps m e may = absurd may.0
 
 pub moves_keep : MovesKeep
-moves_keep s queue sent v e m (f, h) may = move-keeps s queue sent v f h m e may
+moves_keep s queue sent v e m (f, h) may = move-keeps h m e may
 
 -- A transmit side that is on and wanted on stays so, where device and driver agree.
 
-module _ (s : State) (queue : ℕ) (sent : List (List ℕ)) (v : Sender) (f : ℕ) (h : AgreesAt s queue sent v f)
+module _ {s : State} {queue : ℕ} {sent : List (List ℕ)} {v : Sender} {f : ℕ} (h : AgreesAt s queue sent v f)
     (up : IsUp queue s) where
   same_up : (t : State) → LeavesQueues s t → IsUp queue t
   same_up t left = subst sides.IsUp (sym (queues_left queue s t Tx left)) up
@@ -241,19 +219,18 @@ module _ (s : State) (queue : ℕ) (sent : List (List ℕ)) (v : Sender) (f : �
   moved-stays-up Lends (event.Lend b) may = same_up (after s (event.Lend b)) (memory_rest.lend s b).queues
   moved-stays-up Asks (event.Poke16 a bytes) may =
       same_up (after s (event.Poke16 a bytes)) (memory_rest.poke s a bytes).queues
-  moved-stays-up Advances (event.Write port n word) may = advance-stays-up s queue sent v f h port n word may.0 up
+  moved-stays-up Advances (event.Write port n word) may = advance-stays-up h port n word may.0 up
   moved-stays-up Looks (event.Peek16 a) may = same_up (after s (event.Peek16 a)) (memory_rest.peek s a).queues
   moved-stays-up Reaps (event.Take n) may = same_up (after s (event.Take n)) (memory_rest.take s n).queues
-  moved-stays-up Elsewhere e may =
-      up_kept Tx queue s e up (never-shuts s queue sent v f h e) (spared_did s queue sent v f h e may)
+  moved-stays-up Elsewhere e may = up_kept Tx queue s e up (never-shuts h e) (spared_did h e may)
   moved-stays-up m e may = absurd may.0
 
 pub up_stays : UpStays
-up_stays s queue sent v e m (f, h) may up = moved-stays-up s queue sent v f h up m e may
+up_stays s queue sent v e m (f, h) may up = moved-stays-up h up m e may
 
 -- The replies to the driver's own moves are those of a healthy queue.
 
-module _ (s : State) (queue : ℕ) (sent : List (List ℕ)) (v : Sender) (f : ℕ) (h : AgreesAt s queue sent v f) where
+module _ {s : State} {queue : ℕ} {sent : List (List ℕ)} {v : Sender} {f : ℕ} (h : AgreesAt s queue sent v f) where
   abbrev Healthy : Move → Event Block → Type 0
   Healthy m e = is_healthy m (reply_to s e) ≡ true
 
@@ -268,9 +245,9 @@ module _ (s : State) (queue : ℕ) (sent : List (List ℕ)) (v : Sender) (f : �
       let at = descriptor_at v.layout v.poked in
       by_outcome Asks (event.Poke16 a bytes) (event.Poke16 at (asking (segment_at v v.poked))) _
       (λ k. event.Poke16 (own.1 k) (own.2 k))
-      (poked_is s at (asking (segment_at v v.poked)) (eq-eqb (at % 16) 0 (slot-even v h.based.layout v.poked))
-      (slot-lent v h.based.layout s.memory v.poked (omega (arith, h.counted.room, h.counted.lent_known, own.0))
-      h.shows.ring)) refl
+      (slot_poked v.layout.ring v.layout.size (slot_at v.layout v.poked)
+      (slot-below v.layout h.based.layout v.poked (omega (arith, h.counted.room, h.counted.lent_known, own.0))) s
+      (asking (segment_at v v.poked)) h.shows.ring) refl
 
   reap_healthy : (n : ℕ) → IsOwn v Reaps (event.Take n) → Healthy Reaps (event.Take n)
   reap_healthy n own =
@@ -285,12 +262,12 @@ module _ (s : State) (queue : ℕ) (sent : List (List ℕ)) (v : Sender) (f : �
   healthy Lends (event.Lend b) own anew = ap (is_healthy Lends) (anew_is_done s b anew)
   healthy Asks (event.Poke16 a bytes) own anew = ask_healthy a bytes own
   healthy Advances (event.Write port n word) own anew =
-      ap (λ (x : Outcome). is_healthy Advances x.reply) (written_tail s queue sent v f h port n word own)
+      ap (λ (x : Outcome). is_healthy Advances x.reply) (written_tail h port n word own)
   healthy Looks (event.Peek16 a) own anew =
-      by_outcome Looks (event.Peek16 a) _ _ (ap event.Peek16 own.1) (look s queue sent v f h own.0) refl
+      by_outcome Looks (event.Peek16 a) _ _ (ap event.Peek16 own.1) (look h own.0) refl
   healthy Reaps (event.Take n) own anew = reap_healthy n own
   healthy Elsewhere e own anew = refl
   healthy m e own anew = absurd own
 
 pub own_replies_are_healthy : OwnRepliesAreHealthy
-own_replies_are_healthy s queue sent v m e (f, h) own anew = healthy s queue sent v f h m e own anew
+own_replies_are_healthy s queue sent v m e (f, h) own anew = healthy h m e own anew

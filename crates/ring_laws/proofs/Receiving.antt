@@ -1,106 +1,38 @@
 -- A slot of the driver's ring is filled: there is no fault, and the agreement has one piece more.
 use Rattle.std.proofs.Common.{[], ◌*◌, ◌++◌, ◌+◌, ◌<◌, ◌^◌, ◌∙◌, ◌∷◌, ◌≡◌, ◌≢◌, ◌≤◌, ◌⊎◌, Err, List, Ok, ap}
 use Rattle.std.proofs.Common.{append_assoc, arith, false, inl, inr, length, refl, subst, sym, take, true, ℕ}
-use Rattle.std.proofs.lemmas.Bool.{and_from, both_ways, cases_lt, eq-eqb, not_from_false}
+use Rattle.std.proofs.lemmas.Bool.{cases_lt}
 use Rattle.std.proofs.lemmas.List.{get_or_append_left, get_or_push, length-take-le, length_push}
 use Rattle.history_laws.specs.Prelude.{AreApart, Filled, IsSound, IsWhole, Memory, ReceiveQueue, Rest, Ring, RingFault}
-use Rattle.history_laws.specs.Prelude.{Rx, State, buffer_size_of, bytes_in, ends_packet, first_half, has_block, is_done}
-use Rattle.history_laws.specs.Prelude.{is_empty, is_lent, is_outside, mode_in, moved_on, read_at, receive_queue_of}
+use Rattle.history_laws.specs.Prelude.{Rx, State, bytes_in, ends_packet, first_half, is_done}
+use Rattle.history_laws.specs.Prelude.{is_empty, is_outside, mode_in, moved_on, read_at, receive_queue_of}
 use Rattle.history_laws.specs.Prelude.{ring_of, second_half}
-use Rattle.ring_laws.specs.ReceivePrelude.{Layout, Lent, Receive, Stage, block_at, descriptor_at, is_ring_block, reach}
+use Rattle.ring_laws.specs.ReceivePrelude.{Layout, Lent, Receive, Stage, block_at, descriptor_at, reach}
 use Rattle.ring_laws.specs.ReceivePrelude.{slot_at, vacant, wrapped}
 use Rattle.nic_device.proofs.RxRing.Fills.{driver_reads, fill_keeps_blocks, takes_piece, writes_inside_slot}
-use Rattle.nic_device.specs.RxRing.Fill.{Outcome, buffer_address, fill_of, head_address}
+use Rattle.nic_device.specs.RxRing.Fill.{Outcome, buffer_address, head_address}
 use Rattle.nic_device.proofs.{DmaArena.Blocks.is_lent_in, RxRing.Tests.fill_healthy}
 use Rattle.nic_device.specs.{DmaArena.Memory.SameLent, DmaRing.Ring.next_of, DmaRing.Ring.slots_of}
 use Rattle.nic_device.specs.{RxRing.Laws.IsHealthy, RxRing.Laws.TakesPiece}
 use Rattle.pmd_rx.proofs.PmdSeam.Places.{next_wrapped, wrapped_apart}
 use Rattle.history_laws.specs.{Left.fill_on, Segments.piece_in}
-use Rattle.ring_laws.proofs.Kept.{IsFilled-kept, IsLoose-kept, IsPosted-kept, address_small, buffer_and_slot}
-use Rattle.ring_laws.proofs.Kept.{buffer_even, buffers_apart, inside_of, less_apart, named_kept, posted_below}
+use Rattle.ring_laws.proofs.Kept.{filled_stays, posted_stays, stage_stays}
+use Rattle.ring_laws.proofs.Ring.{address_small, ends_apart, inside_of}
+use Rattle.ring_laws.proofs.Ring.{Stays, buffer_and_slot, buffers_apart, slot_and_buffer, slot_lent, slots_apart}
+use Rattle.ring_laws.proofs.Kept.{buffer_even, named_kept, posted_below}
 use Rattle.ring_laws.specs.Joint.{HasSlots, Holds, IsFilled, IsPosted, IsRing, IsSetUp, StageHolds}
-use Rattle.ring_laws.proofs.{Kept.posted_in, Kept.ring_low, Kept.slot_and_buffer, Kept.slot_below, Kept.slot_low}
-use Rattle.ring_laws.proofs.{Kept.slots_apart, Leaving.descriptor_lent, Parts.seen_longer}
+use Rattle.ring_laws.specs.Steps.{IfFresh}
+use Rattle.pmd_rx.specs.PmdSeam.Slots.{descriptor_in}
+use Rattle.ring_laws.proofs.{Kept.posted_in, Kept.ring_low, Kept.slot_below, Kept.slot_low}
+use Rattle.ring_laws.proofs.{Parts.seen_longer}
 use Rattle.ring_laws.specs.Pieces.{Piece, no_piece, piece_at}
 
 -- What filling a slot does to memory: the slot gets a piece, and the others stay.
 
--- the descriptor at `a` and the block `b` got a piece, and nothing else changed
-pub record Fills (m n : Memory) (a b : ℕ) (p : Piece) : Type 0 where
-  pub filled : IsFilled n a b p
-  pub reads : (c k : ℕ) → AreApart c k a 16 → AreApart c k (2048 * b) 2048 → read_at n c k ≡ read_at m c k
-  pub lent : SameLent n m
-
--- where the descriptor at the head is a slot of a ring, and names a block that isn't one of the ring's
-pub fills_slot : (m : Memory) (r : Ring) (srrctl : ℕ) (rest : Rest) (f : Filled) (ring size slot b : ℕ) → IsWhole m
-    → rest.first < 2 ^ 64 → (fill_of m r srrctl rest).answer ≡ Ok f → buffer_size_of srrctl ≡ 2048
-    → head_address r ≡ 2048 * ring + 16 * slot → buffer_address m r ≡ 2048 * b → is_ring_block ring size b ≡ false
-    → slot < size → has_block m b ≡ true
-    → Fills m (fill_of m r srrctl rest).memory (2048 * ring + 16 * slot) b (piece_in rest f)
-fills_slot m r srrctl rest f ring size slot b whole fits is buffers head buffer other low has =
-    let n : Memory = (fill_of m r srrctl rest).memory in
-    let t : TakesPiece m r srrctl rest f = takes_piece m r srrctl rest f is in
-    let d = driver_reads m r srrctl rest f whole fits is in
-    let w = writes_inside_slot m r srrctl rest f is in
-    let same : SameLent n m = (fill_keeps_blocks m r srrctl rest).0 in
-    let desc : f.desc ≡ 2048 * ring + 16 * slot = t.desc ∙ head in
-    let at : f.at ≡ 2048 * b = t.at ∙ buffer in
-    let short : f.len ≤ 2048 = omega (arith, t.len, buffers) in
-    let within : f.len ≤ length rest.bytes = omega (arith, t.len) in
-    let long : length (take f.len rest.bytes) ≡ f.len = length-take-le f.len rest.bytes within in
-    let apart : AreApart f.at f.len f.desc 16 =
-    subst (λ x. AreApart x f.len f.desc 16) (sym at)
-    (subst (λ x. AreApart (2048 * b) f.len x 16) (sym desc) (buffer_and_slot b f.len ring size slot other short low)) in
-    record {
-      filled = record {
-        done = subst (λ x. is_done (second_half (read_at n x 16)) ≡ true) desc d.done;
-        end = subst (λ x. ends_packet (second_half (read_at n x 16)) ≡ f.end) desc d.end;
-        len = subst (λ x. bytes_in (second_half (read_at n x 16)) ≡ f.len) desc d.len ∙ sym long;
-        first = subst (λ x. first_half (read_at n x 16) ≡ rest.first) desc d.first;
-        bytes = subst (λ k. read_at n (2048 * b) k ≡ take f.len rest.bytes) (sym long)
-            (subst (λ x. read_at n x f.len ≡ take f.len rest.bytes) at (d.bytes apart));
-        short = subst (λ k. k ≤ 2048) (sym long) short;
-        there = same b ∙ has;
-      };
-      reads = λ c k o u.
-          w.reads c k (subst (λ x. AreApart c k x 16) (sym desc) o)
-          (subst (λ x. AreApart c k x f.len) (sym at) (less_apart c k (2048 * b) 2048 f.len short u));
-      lent = same;
-    }
-
--- the slots beside the one that was filled
-module _ (l : Layout) (ring : IsRing l) (m n : Memory) (at : ℕ) (p : Piece) (room : at < length l.blocks)
-    (f : Fills m n (descriptor_at l at) (block_at l at) p) where
-  other_slot : (k : ℕ) → k ≤ length l.blocks → k ≢ at
-      → read_at n (descriptor_at l k) 16 ≡ read_at m (descriptor_at l k) 16
-  other_slot k within ne =
-      let free = ring.room in
-      f.reads (descriptor_at l k) 16
-      (slots_apart l.ring (slot_at l k) (slot_at l at)
-      (wrapped_apart l.size l.next k at ring.next (omega (arith, within, free)) (omega (arith, room, free)) ne))
-      (slot_and_buffer l.ring l.size (slot_at l k) (block_at l at) 2048 (ring.not_ring at room) (omega arith)
-      (slot_below l k ring within))
-
-  other_bytes : (b len : ℕ) → is_ring_block l.ring l.size b ≡ false → b ≢ block_at l at → len ≤ 2048
-      → read_at n (2048 * b) len ≡ read_at m (2048 * b) len
-  other_bytes b len not_ring ne short =
-      f.reads (2048 * b) len
-      (buffer_and_slot b len l.ring l.size (slot_at l at) not_ring short (slot_below l at ring (omega (arith, room))))
-      (buffers_apart b len (block_at l at) 2048 ne short (omega arith))
-
-  pub posted_beside : (k b : ℕ) → k ≤ length l.blocks → k ≢ at → IsPosted m (descriptor_at l k) b
-      → IsPosted n (descriptor_at l k) b
-  posted_beside k b within ne h = IsPosted-kept m n (descriptor_at l k) b (other_slot k within ne) (f.lent b) h
-
-  pub filled_beside : (k b : ℕ) (q : Piece) → k ≤ length l.blocks → k ≢ at → is_ring_block l.ring l.size b ≡ false
-      → b ≢ block_at l at → IsFilled m (descriptor_at l k) b q → IsFilled n (descriptor_at l k) b q
-  filled_beside k b q within ne not_ring apart h =
-      IsFilled-kept m n (descriptor_at l k) b q (other_slot k within ne)
-      (other_bytes b (length q.bytes) not_ring apart h.short) (f.lent b) h
-
-  pub stage_beside : (stage : Stage) → StageHolds m l stage → StageHolds n l stage
-  stage_beside (Lent b) h = IsLoose-kept m n l b (f.lent b) h
-  stage_beside other h = tt
+-- this slot and its block got a piece, and nothing else changed
+pub record Fills (m n : Memory) (l : Layout) (at : ℕ) (p : Piece) : Type 0 where
+  pub filled : IsFilled n (descriptor_at l at) (block_at l at) p
+  pub stays : Stays l.ring l.size m n (λ j. j ≢ slot_at l at) (λ b. b ≢ block_at l at)
 
 -- A step of receiving on the driver's queue makes its first posted slot its last filled one, and one on another queue
 -- leaves it alone.
@@ -128,8 +60,7 @@ module _ {queue : ℕ} {s : State} {out : List Piece} {v : Receive} {gone here :
 
   pub head_is : head_address own.ring ≡ descriptor_at l (length here)
   head_is = address_small _ _ l.ring (slot_at l (length here)) h.side.base h.side.head
-      (ring_low l h.ring)
-      (slot_low l (length here) h.ring h.slots.within)
+      (ring_low l h.ring) (slot_low l (length here) h.ring h.slots.within)
 
   first_waits : HasRoom → IsPosted s.memory (descriptor_at l (length here)) (block_at l (length here))
   first_waits room = h.slots.posted (length here) (omega arith) (posted_below v (length here) room)
@@ -146,9 +77,7 @@ module _ {queue : ℕ} {s : State} {out : List Piece} {v : Receive} {gone here :
   room_left some (inl is) = is
   room_left some (inr all) =
       let e : length here ≡ length v.layout.blocks = omega (arith, h.posted, all) in
-      let same : own.ring.head ≡ own.ring.tail = h.side.head ∙ ap (slot_at l) e ∙ sym h.side.tail in
-      let empty : is_empty own.ring ≡ true = and_from _ _ (not_from_false _ inside) (eq-eqb _ _ same) in
-      absurd (both_ways _ some empty)
+      absurd (ends_apart own.ring inside some (h.side.head ∙ ap (slot_at l) e ∙ sym h.side.tail))
 
   pub healthy : HasRoom → IsHealthy s.memory own.ring own.control
   healthy room =
@@ -159,13 +88,13 @@ module _ {queue : ℕ} {s : State} {out : List Piece} {v : Receive} {gone here :
           sized = λ e. absurd (omega (arith, h.side.buffer_size, e));
         };
         descriptor =
-            subst (λ a. is_lent s.memory a 16 ≡ true) (sym head_is)
-            (descriptor_lent s.memory l here h.ring h.slots (length here) h.slots.within);
+            rw head_is
+            (slot_lent l.ring l.size (slot_at l (length here)) (slot_below l (length here) h.ring h.slots.within)
+            s.memory h.slots.there);
         buffer =
-            subst (λ n. is_lent s.memory (buffer_address s.memory own.ring) n ≡ true) (sym h.side.buffer_size)
-            (subst (λ a. is_lent s.memory a 2048 ≡ true) (sym (buffer_is room))
+            rw (h.side.buffer_size, buffer_is room)
             (is_lent_in s.memory (2048 * block_at l (length here)) 2048 (block_at l (length here)) 0
-            (first_waits room).there (omega arith) (omega arith)));
+            (first_waits room).there (omega arith) (omega arith));
       }
 
   -- no fault
@@ -177,13 +106,49 @@ module _ {queue : ℕ} {s : State} {out : List Piece} {v : Receive} {gone here :
 
   pub fills_here : HasRoom → IsWhole s.memory → (rest : Rest) (f : Filled) → rest.first < 2 ^ 64
       → (fill_on s queue rest).answer ≡ Ok f
-      → Fills s.memory (fill_on s queue rest).memory (descriptor_at l (length here)) (block_at l (length here))
-      (piece_in rest f)
+      → Fills s.memory (fill_on s queue rest).memory l (length here) (piece_in rest f)
   fills_here room whole rest f fits is =
-      fills_slot s.memory own.ring own.control rest f l.ring l.size (slot_at l (length here))
-      (block_at l (length here)) whole fits is h.side.buffer_size head_is (buffer_is room)
-      (h.ring.not_ring (length here) (posted_below v (length here) room))
-      (slot_below l (length here) h.ring h.slots.within) (first_waits room).there
+      let m : Memory = s.memory in
+      let n : Memory = (fill_on s queue rest).memory in
+      let slot = slot_at l (length here) in
+      let b = block_at l (length here) in
+      let t : TakesPiece m own.ring own.control rest f = takes_piece m own.ring own.control rest f is in
+      let d = driver_reads m own.ring own.control rest f whole fits is in
+      let same : SameLent n m = (fill_keeps_blocks m own.ring own.control rest).0 in
+      let desc : f.desc ≡ descriptor_at l (length here) = t.desc ∙ head_is in
+      let at : f.at ≡ 2048 * b = t.at ∙ buffer_is room in
+      let short : f.len ≤ 2048 = omega (arith, t.len, h.side.buffer_size) in
+      let within : f.len ≤ length rest.bytes = omega (arith, t.len) in
+      let long : length (take f.len rest.bytes) ≡ f.len = length-take-le f.len rest.bytes within in
+      let other = h.ring.not_ring (length here) (posted_below v (length here) room) in
+      let low = slot_below l (length here) h.ring h.slots.within in
+      let apart : AreApart f.at f.len f.desc 16 =
+      rw (at, desc) (buffer_and_slot b f.len l.ring l.size slot other short low) in
+      let reads : (c k : ℕ) → AreApart c k (descriptor_at l (length here)) 16 → AreApart c k (2048 * b) f.len
+      → read_at n c k ≡ read_at m c k =
+      λ c k o u.
+      (writes_inside_slot m own.ring own.control rest f is).reads c k (rw desc o) (rw at u) in
+      record {
+        filled = record {
+          done = subst (λ x. is_done (second_half (read_at n x 16)) ≡ true) desc d.done;
+          end = subst (λ x. ends_packet (second_half (read_at n x 16)) ≡ f.end) desc d.end;
+          len = subst (λ x. bytes_in (second_half (read_at n x 16)) ≡ f.len) desc d.len ∙ sym long;
+          first = subst (λ x. first_half (read_at n x 16) ≡ rest.first) desc d.first;
+          bytes = rw (long, ← at) (d.bytes apart);
+          short = rw long short;
+          there = same b ∙ (first_waits room).there;
+        };
+        stays = record {
+          has = λ k i. same (l.ring + k);
+          slot = λ j i ne.
+              reads (descriptor_in l.ring j) 16 (slots_apart l.ring j slot ne)
+              (slot_and_buffer l.ring l.size j b f.len other short i);
+          bytes = λ c len out ne few.
+              reads (2048 * c) len (buffer_and_slot c len l.ring l.size slot out few low)
+              (buffers_apart c len b f.len ne few short);
+          there = λ c ne. same c;
+        };
+      }
 
   pub head_on : HasRoom → (rest : Rest) (f : Filled) → (fill_on s queue rest).answer ≡ Ok f
       → (f.head ≡ slot_at l (length here + 1)) × (f.head < 65536)
@@ -201,33 +166,44 @@ module _ {queue : ℕ} {s : State} {out : List Piece} {v : Receive} {gone here :
 
 -- the slots with one more filled
 module _ (m n : Memory) (l : Layout) (here : List Piece) (p : Piece) (ring : IsRing l) (h : HasSlots m l here)
-    (room : length here < length l.blocks)
-    (fill : Fills m n (descriptor_at l (length here)) (block_at l (length here)) p) where
+    (room : length here < length l.blocks) (fill : Fills m n l (length here) p) where
+  -- the slots beside it and their blocks stay
+  slot_beside : (k : ℕ) → k < length l.blocks → k ≢ length here → slot_at l k ≢ slot_at l (length here)
+  slot_beside k i ne =
+      let free = ring.room in
+      wrapped_apart l.size l.next k (length here) ring.next (omega (arith, i, free)) (omega (arith, room, free)) ne
+
   filled_more : (k : ℕ) → k < length (here ++ p ∷ []) → (k < length here) ⊎ (length here ≤ k)
       → IsFilled n (descriptor_at l k) (block_at l k) (piece_at (here ++ p ∷ []) k)
   filled_more k i (inl low) =
       let ne : k ≢ length here = λ e. absurd (omega (arith, e, low)) in
       let j : k < length l.blocks = omega (arith, room, low) in
       subst (IsFilled n (descriptor_at l k) (block_at l k)) (sym (get_or_append_left here (p ∷ []) no_piece k low))
-      (filled_beside l ring m n (length here) p room fill k (block_at l k) (piece_at here k) (omega (arith, j)) ne
-      (ring.not_ring k j) (ring.apart k (length here) j room ne) (h.filled k low))
+      (filled_stays ring fill.stays k (block_at l k) (piece_at here k) (omega (arith, j)) (ring.not_ring k j)
+      (slot_beside k j ne) (ring.apart k (length here) j room ne) (h.filled k low))
   filled_more k i (inr high) =
       let e : k ≡ length here = omega (arith, length_push here p, i, high) in
-      subst (λ x. IsFilled n (descriptor_at l x) (block_at l x) (piece_at (here ++ p ∷ []) x)) (sym e)
-      (subst (IsFilled n (descriptor_at l (length here)) (block_at l (length here)))
-      (sym (get_or_push here p no_piece (length here) refl)) fill.filled)
+      rw (e, get_or_push here p no_piece (length here) refl) fill.filled
 
   pub slots_more : HasSlots n l (here ++ p ∷ [])
   slots_more =
       let more : length (here ++ p ∷ []) ≡ length here + 1 = length_push here p in
       record {
-        there = λ k i. fill.lent (l.ring + k) ∙ h.there k i;
+        there = λ k i. fill.stays.has k i ∙ h.there k i;
         within = omega (arith, more, room);
         filled = λ k i. filled_more k i (cases_lt k (length here));
         posted = λ k i j.
-            posted_beside l ring m n (length here) p room fill k (block_at l k) (omega (arith, j))
-            (λ e. absurd (omega (arith, more, i, e))) (h.posted k (omega (arith, more, i)) j);
+            let ne : k ≢ length here = λ e. absurd (omega (arith, more, i, e)) in
+            posted_stays ring fill.stays k (block_at l k) (omega (arith, j)) (slot_beside k j ne)
+            (ring.apart k (length here) j room ne) (h.posted k (omega (arith, more, i)) j);
       }
+
+  pub stage_more : (stage : Stage) → StageHolds m l stage → StageHolds n l stage
+  stage_more stage is = stage_stays ring fill.stays stage (fresh_beside stage is) is
+    where
+      fresh_beside : (stage : Stage) → StageHolds m l stage → IfFresh stage (λ b. b ≢ block_at l (length here))
+      fresh_beside (Lent b) loose = λ e. loose.apart (length here) room (sym e)
+      fresh_beside other loose = tt
 
 -- The slot at the head of the driver's queue was filled: the head moved on, and the two agree on one piece more.
 
@@ -235,14 +211,7 @@ module _ (m n : Memory) (l : Layout) (here : List Piece) (p : Piece) (ring : IsR
 set_up_more : (l : Layout) (q : ReceiveQueue) (n m : ℕ) → IsSetUp q l n → m ≡ n + 1
     → next_of (slots_of q.ring) q.ring.head ≡ slot_at l (n + 1)
     → IsSetUp (record q { ring = moved_on q.ring }) l m
-set_up_more l q n m h e is = record {
-  one_buffer = h.one_buffer;
-  buffer_size = h.buffer_size;
-  base = h.base;
-  sized = h.sized;
-  head = is ∙ ap (slot_at l) (sym e);
-  tail = h.tail;
-}
+set_up_more l q n m h e is = assumption (is ∙ ap (slot_at l) (sym e))
 
 module _ (queue : ℕ) (s : State) (out : List Piece) (v : Receive) (sound : IsSound s) where
   -- the slot at the head was filled, and the frames that wait and the registers are what they are
@@ -257,8 +226,7 @@ module _ (queue : ℕ) (s : State) (out : List Piece) (v : Receive) (sound : IsS
       let l = reach v in
       let p : Piece = piece_in rest f in
       let n : Memory = (fill_on s queue rest).memory in
-      let fill : Fills s.memory n (descriptor_at l (length here)) (block_at l (length here)) p =
-      fills_here h room sound.blocks.whole rest f fits is in
+      let fill : Fills s.memory n l (length here) p = fills_here h room sound.blocks.whole rest f fits is in
       let taken = takes_piece s.memory _ _ rest f is in
       let head = head_on h room rest f is in
       let low = posted_below v (length here) room in
@@ -273,13 +241,9 @@ module _ (queue : ℕ) (s : State) (out : List Piece) (v : Receive) (sound : IsS
         slots = subst (λ m. HasSlots m l (here ++ p ∷ [])) (sym memory)
             (slots_more s.memory n l here p h.ring h.slots low fill);
         stage = subst (λ m. StageHolds m l v.stage) (sym memory)
-            (stage_beside l h.ring s.memory n (length here) p low fill v.stage h.stage);
-        order = record {
-          cut = h.order.cut;
-          parts = h.order.parts;
-          full = h.order.full;
-          seen = seen_longer v.seen here p h.order.seen;
-          stage = h.order.stage;
-          order = ap (λ xs. xs ++ p ∷ []) h.order.order ∙ append_assoc gone here (p ∷ []);
-        };
+            (stage_more s.memory n l here p h.ring h.slots low fill v.stage h.stage);
+        order = assumption (
+          seen_longer v.seen here p h.order.seen,
+          ap (λ xs. xs ++ p ∷ []) h.order.order ∙ append_assoc gone here (p ∷ []),
+        );
       }

@@ -6,7 +6,8 @@ use Rattle.std.proofs.lemmas.List.{append-nil, drop_all, get_or-drop, length-app
 use Rattle.std.specs.Prelude.{◌==◌, IsTrue, slice_index_or}
 use Rattle.history_laws.specs.Prelude.{Block, Blocks, Entry, Event, IsLegal, LeavesBlock, Reply, Rx, State, Tx, Watched}
 use Rattle.history_laws.specs.Prelude.{WritesOutside, Wrote, after, calls_of, leads_to, read_at, reply_to, staged_by}
-use Rattle.ring_laws.specs.TransmitPrelude.{Accepts, Advances, Asks, Elsewhere, Kept, Lends, Looks, Move, Reaps, Segment}
+use Rattle.ring_laws.specs.TransmitPrelude.{Elsewhere, Kept, Move}
+use Rattle.ring_laws.specs.TransmitPrelude.{Segment}
 use Rattle.ring_laws.specs.TransmitPrelude.{Sender, descriptor_at, first_end, has_lent, is_sent, moved, no_segment}
 use Rattle.ring_laws.specs.TransmitPrelude.{segment_at}
 use Rattle.pmd_tx.specs.Plays.{played_by}
@@ -17,11 +18,11 @@ use Rattle.history_laws.specs.Left.{is_step_of}
 use Rattle.history_laws.specs.DeviceLaws.Leaving.{ReceivesOutside}
 use Rattle.ring_laws.specs.Agreeing.{Agrees, AgreesAt, SendsInOrder, bytes_of, frames_from}
 use Rattle.ring_laws.specs.Alone.{IsAlone, MayComeAlone, MayMoveAlone, MayRunAlone}
-use Rattle.ring_laws.specs.Laws.{AloneMayRun, FindsWaiting, IdleIsAllSent, IsPrefixOf, LeftAloneIsSpared}
-use Rattle.ring_laws.specs.Turns.{MayCome, MayMove, MayRun, Turn, entries_of, known, sender_after, turns_of}
+use Rattle.ring_laws.specs.Laws.{AloneMayRun, FindsWaiting, IsPrefixOf, LeftAloneIsSpared}
+use Rattle.ring_laws.specs.Turns.{IsOver, MayCome, MayMove, MayRun, Turn, entries_of, known, sender_after, turns_of}
 use Rattle.ring_laws.proofs.{Advancing.end-last, Advancing.look-fetched, Advancing.look-tells, TransmitLent.AreMine}
 use Rattle.ring_laws.proofs.{TransmitLent.mine-moved, Packets.frame_of_end, Playing.move-keeps, Sparing.spares-keeps}
-use Rattle.ring_laws.specs.{Laws.SentIsPrefix, Laws.SentIsPrefixOfTaken, Laws.SentIsPrefixWhereAlone}
+use Rattle.ring_laws.specs.{Laws.SentIsPrefixOfTaken, Laws.SentIsPrefixWhereAlone}
 use Rattle.ring_laws.specs.{Laws.WaitingIsNotAllSent, Sent.sent_by, Sent.sent_in, Sparing.IsLeft}
 use Rattle.ring_laws.specs.{Sparing.ReceiveOwes, Sparing.is_transmit_of}
 use Rattle.nic_device.specs.declared.event.Event.TheVariants as event
@@ -48,9 +49,7 @@ module _ (w : Watched) (mine : Blocks) (v : Sender) (s : State) (b : ℕ) (lent 
       → LeavesBlock b s (after s e)
   spared_block e x other = elim (cases_Bool (is_step_of Rx w.queue e)) as (λ _. LeavesBlock b s (after s e)) [
     | inl own ↦
-        let is = step_is Rx w.queue e own in
-        subst (λ (n : Event Block). LeavesBlock b s (after s n)) (sym is)
-        (received_block (subst (IsLeft w mine v s) is x))
+        let is = step_is Rx w.queue e own in rw is (received_block (subst (IsLeft w mine v s) is x))
     | inr none ↦
         left-block w.queue mine s x.sound b (x.lent b lent) e x.made x.blocks x.steps
         (received-none w.queue s e none) (silent_else Tx w.queue s e other)
@@ -71,10 +70,9 @@ left_alone_is_spared w mine v s e h = record {
 pub one-turn : (s : State) (queue : ℕ) (sent : List (List ℕ)) (v : Sender) (e : Event Block) (r : Reply Block)
     (o : Option Move) → Agrees s queue sent v → r ≡ reply_to s e → MayCome queue v s e o
     → Agrees (after s e) queue (sent ++ sent_by queue s e) (known v o r)
-one-turn s queue sent v e r None (f, h) is may = spares-keeps s queue sent v f h e may
+one-turn s queue sent v e r None (f, h) is may = spares-keeps h e may
 one-turn s queue sent v e r (Some m) (f, h) is may =
-    subst (λ x. Agrees (after s e) queue (sent ++ sent_by queue s e) (moved v m x)) (sym is)
-    (move-keeps s queue sent v f h m e may)
+    subst (λ x. Agrees (after s e) queue (sent ++ sent_by queue s e) (moved v m x)) (sym is) (move-keeps h m e may)
 
 pub over-turns : (s : State) (queue : ℕ) (sent : List (List ℕ)) (v : Sender) (ts : List Turn) → Agrees s queue sent v
     → IsLegal s (entries_of ts) → MayRun queue v s ts
@@ -83,24 +81,15 @@ over-turns s queue sent v [] j legal may = rw (append-nil sent) j
 over-turns s queue sent v (t ∷ ts) j legal may =
     let e = t.entry.event in
     let first = sent_by queue s e in
-    let rest = over-turns (after s e) queue (sent ++ first) (known v t.move t.entry.reply) ts
-    (one-turn s queue sent v e t.entry.reply t.move j legal.0 may.0) legal.1 may.1 in
-    subst (λ xs. Agrees (leads_to (after s e) (entries_of ts)) queue xs
-    (sender_after (known v t.move t.entry.reply) ts))
-    (append_assoc sent first (sent_in queue (after s e) (entries_of ts))) rest
+    rw (← append_assoc sent first (sent_in queue (after s e) (entries_of ts)))
+    (over-turns (after s e) queue (sent ++ first) (known v t.move t.entry.reply) ts
+    (one-turn s queue sent v e t.entry.reply t.move j legal.0 may.0) legal.1 may.1)
 
 -- what was sent are the first frames of those accepted
 pub first_sent : (s : State) (queue : ℕ) (sent : List (List ℕ)) (limit : ℕ) (left : List Segment) (ks : List Kept)
     → SendsInOrder s queue sent limit left ks → IsPrefixOf sent (bytes_of ks)
 first_sent s queue sent limit left ks (inl x) = (frames_from (staged_by s queue) left, x.in_order)
 first_sent s queue sent limit left ks (inr x) = (x.frame ∷ x.rest, x.in_order)
-
-pub sent_is_prefix : SentIsPrefix
-sent_is_prefix queue s v ts o =
-    let j = over-turns s queue [] v ts o.agreed o.legal o.may in
-    let w = sender_after v ts in
-    first_sent (leads_to s (entries_of ts)) queue (sent_in queue s (entries_of ts)) w.layout.limit
-    (drop j.0 w.outstanding) w.accepted j.1.sends
 
 -- what is left to be sent
 
@@ -125,7 +114,7 @@ some_unsent s queue sent limit left ks (inl x) k below end =
 some_unsent s queue sent limit left ks (inr x) k below end =
     omega (arith, ap length x.in_order, length-append sent (x.frame ∷ x.rest))
 
-module _ (s : State) (queue : ℕ) (sent : List (List ℕ)) (v : Sender) (f : ℕ) (h : AgreesAt s queue sent v f) where
+module _ {s : State} {queue : ℕ} {sent : List (List ℕ)} {v : Sender} {f : ℕ} (h : AgreesAt s queue sent v f) where
   -- with none outstanding all that was accepted is sent
   pub idle-all : length v.outstanding ≡ 0 → bytes_of v.accepted ≡ sent
   idle-all none =
@@ -147,11 +136,20 @@ module _ (s : State) (queue : ℕ) (sent : List (List ℕ)) (v : Sender) (f : �
       (omega (arith, length-drop f v.outstanding, known, rest)) last in
       omega (arith, longer, ap length same, ap length split, length-append xs more)
 
-pub idle_is_all_sent : IdleIsAllSent
-idle_is_all_sent queue s v ts o none =
-    let j = over-turns s queue [] v ts o.agreed o.legal o.may in
-    idle-all (leads_to s (entries_of ts)) queue (sent_in queue s (entries_of ts)) (sender_after v ts) j.0 j.1
-    (ap length none)
+module _ (queue : ℕ) (s : State) (v : Sender) (ts : List Turn) (o : IsOver queue s v ts) where
+  abbrev last : Sender
+  last = sender_after v ts
+
+  agreed : Agrees (leads_to s (entries_of ts)) queue (sent_in queue s (entries_of ts)) last
+  agreed = over-turns s queue [] v ts o.agreed o.legal o.may
+
+  pub sent_is_prefix : IsPrefixOf (sent_in queue s (entries_of ts)) (bytes_of last.accepted)
+  sent_is_prefix =
+      first_sent (leads_to s (entries_of ts)) queue (sent_in queue s (entries_of ts)) last.layout.limit
+      (drop agreed.0 last.outstanding) last.accepted agreed.1.sends
+
+  pub idle_is_all_sent : last.outstanding ≡ [] → bytes_of last.accepted ≡ sent_in queue s (entries_of ts)
+  idle_is_all_sent none = idle-all agreed.1 (ap length none)
 
 pub sent_in-append : (queue : ℕ) (s : State) (g h : List Entry)
     → sent_in queue s (g ++ h) ≡ sent_in queue s g ++ sent_in queue (leads_to s g) h
@@ -168,19 +166,18 @@ pub waiting-left : (s : State) (queue : ℕ) (sent : List (List ℕ)) (v : Sende
 waiting-left s queue sent v (f, h) finds xs more split same =
     let end = first_end v.outstanding in
     let seen : finds.bytes ≡ read_at s.memory (descriptor_at v.layout end) 16 =
-    look-tells s queue sent v f h finds.posted finds.bytes finds.told in
+    look-tells h finds.posted finds.bytes finds.told in
     elim (cases_lt end f) [
       | inl some ↦
-          both_ways (is_sent finds.bytes) finds.waits
-          (ap is_sent seen ∙ look-fetched s queue sent v f h finds.posted some)
-      | inr none ↦ left-over s queue sent v f h xs more split finds.posted none same
+          both_ways (is_sent finds.bytes) finds.waits (ap is_sent seen ∙ look-fetched h finds.posted some)
+      | inr none ↦ left-over h xs more split finds.posted none same
     ]
 
 pub waiting_is_not_all_sent : WaitingIsNotAllSent
 waiting_is_not_all_sent queue s v ts us o finds same all_sent =
     let gone = entries_of ts in
     waiting-left (leads_to s (entries_of (ts ++ us))) queue (sent_in queue s (entries_of (ts ++ us)))
-    (sender_after v (ts ++ us)) (over-turns s queue [] v (ts ++ us) o.agreed o.legal o.may) finds
+    (sender_after v (ts ++ us)) (agreed queue s v (ts ++ us) o) finds
     (sent_in queue s gone) (sent_in queue (leads_to s gone) (entries_of us))
     (ap (sent_in queue s) (map-append _ ts us) ∙ sent_in-append queue s gone (entries_of us))
     (ap bytes_of same ∙ all_sent)
@@ -219,11 +216,7 @@ pub sent_is_prefix_of_taken : SentIsPrefixOfTaken
 sent_is_prefix_of_taken pass queue s v moves h agreed legal may =
     let ts = turns_of pass moves h in
     let same = entries-turns pass moves h in
-    let prefix = sent_is_prefix queue s v ts (record {
-      agreed = agreed;
-      legal = subst (IsLegal s) (sym same) legal;
-      may = may;
-    }) in
+    let prefix = sent_is_prefix queue s v ts (assumption (subst (IsLegal s) (sym same) legal)) in
     subst (λ (xs : List Entry). IsPrefixOf (sent_in queue s xs)
     (bytes_of (played_by v moves (calls_of pass h)).accepted)) same
     (subst (λ (w : Sender). IsPrefixOf (sent_in queue s (entries_of ts)) (bytes_of w.accepted))
@@ -235,16 +228,7 @@ module _ (w : Watched) (mine : Blocks) (s : State) (sent : List (List ℕ)) (v :
     (functions : w.vfs ≡ s.vfs) (all : AreMine mine v) (e : Event Block)
   where
     spared : (blocks : Blocks) → AreMine blocks v → IsAlone w blocks v s e → MayCome w.queue v s e None
-    spared blocks lent a = left_alone_is_spared w blocks v s e (record {
-      sound = j.1.based.sound;
-      made = a.made;
-      functions = functions;
-      lent = lent;
-      registers = a.registers;
-      blocks = a.blocks;
-      steps = a.steps;
-      owed = a.owed;
-    })
+    spared blocks lent a = left_alone_is_spared w blocks v s e (assumption (j.1.based.sound, lent, a))
 
     move_may : (m : Move) → MayMoveAlone w mine v s e m → MayMove w.queue v s e m
     move_may Elsewhere a = spared (has_lent v) (λ number is. is) a
@@ -256,12 +240,7 @@ module _ (w : Watched) (mine : Blocks) (s : State) (sent : List (List ℕ)) (v :
 
     moved_mine : (m : Move) → MayMoveAlone w mine v s e m → AreMine mine (moved v m (reply_to s e))
     moved_mine Elsewhere a = all
-    moved_mine (Accepts p) a = mine-moved mine v all (Accepts p) e (reply_to s e) a.0 a.2
-    moved_mine Lends a = mine-moved mine v all Lends e (reply_to s e) a.0 a.2
-    moved_mine Asks a = mine-moved mine v all Asks e (reply_to s e) a.0 a.2
-    moved_mine Advances a = mine-moved mine v all Advances e (reply_to s e) a.0 a.2
-    moved_mine Looks a = mine-moved mine v all Looks e (reply_to s e) a.0 a.2
-    moved_mine Reaps a = mine-moved mine v all Reaps e (reply_to s e) a.0 a.2
+    moved_mine m a = mine-moved mine v all m e (reply_to s e) a.0 a.2
 
     mine_after : (o : Option Move) → MayComeAlone w mine v s e o → AreMine mine (known v o (reply_to s e))
     mine_after None a = all
@@ -284,10 +263,7 @@ run w mine s sent v (t ∷ ts) j functions all legal alone =
     )
 
 pub alone_may_run : AloneMayRun
-alone_may_run w mine s v ts agreed functions lent legal alone =
-    run w mine s [] v ts agreed functions lent legal alone
+alone_may_run w mine s v ts o = assumption (run w mine s [] v ts o.agreed o.functions o.lent o.legal o.alone)
 
 pub sent_is_prefix_where_alone : SentIsPrefixWhereAlone
-sent_is_prefix_where_alone w mine s v ts agreed functions lent legal alone =
-    sent_is_prefix w.queue s v ts
-    (record { agreed = agreed; legal = legal; may = alone_may_run w mine s v ts agreed functions lent legal alone })
+sent_is_prefix_where_alone w mine s v ts o = sent_is_prefix w.queue s v ts (alone_may_run w mine s v ts o)

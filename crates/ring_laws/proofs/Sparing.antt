@@ -5,19 +5,20 @@ use Rattle.std.proofs.lemmas.Bool.{both_ways, cases_Bool, cases_lt, eq-eqb}
 use Rattle.std.proofs.lemmas.List.{append-nil, drop_more, get_or-set_same, nil_from_length}
 use Rattle.std.specs.Prelude.{if◌then◌else◌, ◌==◌, IsFalse, IsTrue}
 use Rattle.history_laws.specs.Prelude.{Block, Event, Fetched, IsEvent, LeavesBlock, Memory, Outcome, State}
-use Rattle.history_laws.specs.Prelude.{TransmitQueue, Tx, WritesNoSetting, after, done_descriptor, sending_of}
+use Rattle.history_laws.specs.Prelude.{TransmitQueue, Tx, WritesNoSetting, after, done_descriptor}
 use Rattle.history_laws.specs.Prelude.{staged_by, transmit_queue_of, write_at}
 use Rattle.ring_laws.specs.TransmitPrelude.{Kept, Layout, Move, Segment, Sender, asking, descriptor_at, has_lent, moved}
 use Rattle.ring_laws.specs.TransmitPrelude.{no_segment, segment_at, side_of, slot_at}
 use Rattle.nic_device.{proofs.Steps.keeps_sound, specs.Transmit.with_frame, specs.TxRing.Fetch.Outcome as Fetch}
-use Rattle.history_laws.proofs.{Deeds.side_did, Leaving.named-same, Leaving.transmit_left, Steady.resting_same}
+use Rattle.history_laws.proofs.{Deeds.side_did, Leaving.named-same, Leaving.transmit_left, Leaving.transmit_of}
+use Rattle.history_laws.proofs.{Steady.resting_same}
 use Rattle.history_laws.proofs.DeviceLaws.{KeptSettings.settings_stand, Standing.stays_within}
 use Rattle.history_laws.specs.Left.{Deed, Nothing, Rested, Rests, SendsNone, Shut, Shuts, Switched, Takes, Took}
 use Rattle.history_laws.specs.{Left.fetch_on, Sides.IsTried, Sides.Side, Sides.as_wanted}
 use Rattle.ring_laws.proofs.Fetching.{fetch-segment, head_is, lent, more, segment_fetched, segment_outcome}
 use Rattle.ring_laws.specs.Agreeing.{Agrees, AgreesAt, ArePackets, IsBased, IsCounted, IsCutOff, IsInTurn, IsSetUp}
 use Rattle.ring_laws.proofs.{Blocks.shows-same, Blocks.slot-next, Counting.added-by, Fetching.shows-fetched}
-use Rattle.ring_laws.proofs.{Fetching.slots, Fetching.small, Fetching.to_send, Packets.frame_left}
+use Rattle.ring_laws.proofs.{Fetching.slots, Fetching.small, Packets.frame_left}
 use Rattle.ring_laws.proofs.{Packets.some_left}
 use Rattle.ring_laws.specs.{Agreeing.SendsInOrder, Agreeing.frame_ended, Agreeing.frames_from}
 use Rattle.ring_laws.specs.{Agreeing.staged_behind, Laws.SparingEventsKeep, Laws.StepsOfQueueKeep}
@@ -29,26 +30,18 @@ use Rattle.std.specs.FinMap as map
 
 pub based-after : (s : State) (queue : ℕ) (l : Layout) (e : Event Block) → IsBased s queue l → IsEvent e
     → WritesNoSetting s e → IsBased (after s e) queue l
-based-after s queue l e b made none = record {
-  sound = keeps_sound s b.sound e made;
-  small = b.small;
-  layout = b.layout;
-  tail = named-same s (after s e) (settings_stand s e none).mode (stays_within s e).vfs l.port l.tail ∙ b.tail;
-  limit = (settings_stand s e none).limit ∙ b.limit;
-}
+based-after s queue l e b made none =
+    let stays = settings_stand s e none in
+    assumption (
+      keeps_sound s b.sound e made,
+      named-same s (after s e) stays.mode (stays_within s e).vfs l.port l.tail ∙ b.tail,
+      stays.limit ∙ b.limit,
+    )
 
 -- the segments are counted on where only how many are done, fetched, posted and written changes
 pub counted-on : (v : Sender) (f g done posted poked : ℕ) → IsCounted v f → done ≤ g → g ≤ posted → posted ≤ poked
     → poked ≤ v.lent → IsCounted (record v { poked = poked; posted = posted; done = done }) g
-counted-on v f g done posted poked c a b d e = record {
-  room = c.room;
-  done_fetched = a;
-  fetched_posted = b;
-  posted_poked = d;
-  poked_lent = e;
-  lent_known = c.lent_known;
-  apart = c.apart;
-}
+counted-on v f g done posted poked c a b d e = assumption
 
 -- after a move of the driver's, by its outcome, the two agree
 abbrev pub After : ℕ → List (List ℕ) → Sender → Move → Outcome → Type 0
@@ -60,7 +53,7 @@ Keeps queue sent v m o = IsBased o.state queue v.layout → After queue sent v m
 
 -- A step of transmitting of the driver's own queue that fetches the next segment.
 
-module _ (s : State) (queue : ℕ) (sent : List (List ℕ)) (v : Sender) (f : ℕ) (h : AgreesAt s queue sent v f) where
+module _ {s : State} {queue : ℕ} {sent : List (List ℕ)} {v : Sender} {f : ℕ} (h : AgreesAt s queue sent v f) where
   abbrev side : TransmitQueue
   side = transmit_queue_of s.registers queue
 
@@ -77,12 +70,10 @@ module _ (s : State) (queue : ℕ) (sent : List (List ℕ)) (v : Sender) (f : �
 
   module _ (tried : IsTried (side_of Tx queue s)) where
     posted : f < v.posted
-    posted = more s queue sent v f h tried.some
+    posted = more h tried.some
 
     next_left : drop f v.outstanding ≡ x ∷ rest
-    next_left =
-        drop_more v.outstanding f no_segment
-        (omega (arith, lent s queue sent v f h posted, h.counted.lent_known))
+    next_left = drop_more v.outstanding f no_segment (omega (arith, lent h posted, h.counted.lent_known))
 
     in_turn : SendsInOrder s queue sent v.layout.limit (drop f v.outstanding) v.accepted
         → IsInTurn v.layout.limit staged sent (x ∷ rest) v.accepted
@@ -93,14 +84,11 @@ module _ (s : State) (queue : ℕ) (sent : List (List ℕ)) (v : Sender) (f : �
     turn = in_turn h.sends
 
     fetches : fetch_on s queue ≡ segment_outcome s.memory side.ring staged x
-    fetches =
-        fetch-segment s.memory side.ring (sending_of s.registers side) staged x
-        (to_send s queue sent v f h posted staged turn.packets)
+    fetches = fetch-segment h posted staged turn.packets
 
   -- it meets no fault
   pub never-shuts : (e : Event Block) → Shuts Tx queue s e → ⊥
-  never-shuts e y =
-      let clash = sym (ap (λ (o : Fetch). o.answer) (fetches y.tried)) ∙ y.fault.answer in cc
+  never-shuts e y = let clash = sym (ap (λ (o : Fetch). o.answer) (fetches y.tried)) ∙ y.fault.answer in cc
 
   module _ (e : Event Block) (y : Takes Tx queue s e) where
     abbrev u : State
@@ -118,8 +106,7 @@ module _ (s : State) (queue : ℕ) (sent : List (List ℕ)) (v : Sender) (f : �
         (done_descriptor (asking x)) else s.memory)
     memory_is =
         ap (λ (o : Outcome). o.state.memory) y.work.step ∙ ap (λ (o : Fetch). o.memory) (fetches y.tried)
-        ∙ ap (λ (a : ℕ). if x.part.last then write_at s.memory a (done_descriptor (asking x)) else s.memory)
-        (head_is s queue sent v f h)
+        ∙ ap (λ (a : ℕ). if x.part.last then write_at s.memory a (done_descriptor (asking x)) else s.memory) (head_is h)
 
     staged_is : staged_by u queue ≡ staged_behind staged x
     staged_is =
@@ -143,32 +130,25 @@ module _ (s : State) (queue : ℕ) (sent : List (List ℕ)) (v : Sender) (f : �
         ∙ ap (frames_added s.out) out_is
         ∙ added-by s.out queue x.part.last (staged ++ x.part.bytes)
 
-    ring_is : (transmit_queue_of u.registers queue).ring ≡ record side.ring { head = slot_at v.layout (f + 1) }
-    ring_is =
-        ap (λ (z : Side). z.ring) y.side
-        ∙ ap (λ (n : ℕ). record side.ring { head = n })
-        (rw (slots s queue sent v f h, h.set_up.head)
-        (slot-next v.layout h.based.layout f (small s queue sent v f h (posted y.tried))))
+    side_is : transmit_queue_of u.registers queue
+        ≡ record side { ring = record side.ring { head = slot_at v.layout (f + 1) } }
+    side_is =
+        ap transmit_of y.side
+        ∙ ap (λ (n : ℕ). record side { ring = record side.ring { head = n } })
+        (rw (slots h, h.set_up.head) (slot-next v.layout h.based.layout f (small h (posted y.tried))))
 
     pub takes-keeps : IsEvent e → WritesNoSetting s e → Agrees u queue (sent ++ sent_by queue s e) v
     takes-keeps made none = (
       f + 1,
       record {
         based = based-after s queue v.layout e h.based made none;
-        set_up = record {
-          base = ap (λ r. r.base) ring_is ∙ h.set_up.base;
-          length = ap (λ r. r.length) ring_is ∙ h.set_up.length;
-          head = ap (λ r. r.head) ring_is;
-          tail = ap (λ r. r.tail) ring_is ∙ h.set_up.tail;
-          writeback = ap (λ (z : Side). z.writeback) y.side ∙ h.set_up.writeback;
-        };
+        set_up = subst (λ q. IsSetUp q v.layout v.posted (f + 1)) (sym side_is) (assumption h.set_up);
         counted =
             counted-on v f (f + 1) v.done v.posted v.poked h.counted (omega (arith, h.counted.done_fetched))
             (omega (arith, posted y.tried)) h.counted.posted_poked h.counted.poked_lent;
-        shows = rw memory_is (shows-fetched s queue sent v f h (posted y.tried));
+        shows = rw memory_is (shows-fetched h (posted y.tried));
         sends = inl (record {
-          packets =
-              subst (λ (l : List ℕ). ArePackets v.layout.limit l rest) (sym staged_is) (turn y.tried).packets.2;
+          packets = subst (λ (l : List ℕ). ArePackets v.layout.limit l rest) (sym staged_is) (turn y.tried).packets.2;
           in_order =
               (turn y.tried).in_order
               ∙ sym (append_assoc sent (frame_ended staged x) (frames_from (staged_behind staged x) rest))
@@ -207,7 +187,7 @@ sends_on s t queue sent limit left ks same off (inl x) =
     inl (subst (λ (l : List ℕ). IsInTurn limit l sent left ks) (sym same) x)
 sends_on s t queue sent limit left ks same off (inr x) = inr (cut_stays _ _ _ _ _ (off x).0 (off x).1 x)
 
-module _ (s : State) (queue : ℕ) (sent : List (List ℕ)) (v : Sender) (f : ℕ) (h : AgreesAt s queue sent v f)
+module _ {s : State} {queue : ℕ} {sent : List (List ℕ)} {v : Sender} {f : ℕ} (h : AgreesAt s queue sent v f)
     (e : Event Block)
   where
     abbrev t : State
@@ -225,13 +205,10 @@ module _ (s : State) (queue : ℕ) (sent : List (List ℕ)) (v : Sender) (f : �
         → ((number : ℕ) → IsTrue (has_lent v number) → LeavesBlock number s t) → Agrees t queue sent v
     still-agrees made none set_up sends blocks = (
       f,
-      record {
-        based = based-after s queue v.layout e h.based made none;
-        set_up = set_up;
-        counted = h.counted;
-        shows = shows-same s.memory t.memory v f h.based.layout h.counted h.shows blocks;
-        sends = sends;
-      },
+      assumption (
+        based-after s queue v.layout e h.based made none,
+        shows-same s.memory t.memory v f h.based.layout h.counted h.shows blocks,
+      ),
     )
 
     -- a side that becomes what it is wanted to be, and goes off amid a packet, is cut off
@@ -278,7 +255,7 @@ module _ (s : State) (queue : ℕ) (sent : List (List ℕ)) (v : Sender) (f : �
     rest_sends (Nothing is) =
         sends_on s t queue sent v.layout.limit left v.accepted (ap (λ (y : Side). y.staged) is)
         (λ x. (ap (λ (y : Side). y.on) is ∙ x.off, ap (λ (y : Side). y.wanted) is ∙ x.unwanted)) h.sends
-    rest_sends (Shut x) = absurd (never-shuts s queue sent v f h e x)
+    rest_sends (Shut x) = absurd (never-shuts h e x)
     rest_sends (Switched is) = switched_sends is h.sends
 
     module _ (x : Spares queue v s e) where
@@ -295,7 +272,7 @@ module _ (s : State) (queue : ℕ) (sent : List (List ℕ)) (v : Sender) (f : �
       ]
 
       by_deed : Deed Tx queue s e → Agrees t queue (sent ++ sent_by queue s e) v
-      by_deed (Took y) = takes-keeps s queue sent v f h e y x.made x.setting
+      by_deed (Took y) = takes-keeps h e y x.made x.setting
       by_deed (Rested none rests) =
           let same = resting_same Tx queue s e rests in
           rw (none.sent, append-nil sent)
@@ -307,7 +284,7 @@ module _ (s : State) (queue : ℕ) (sent : List (List ℕ)) (v : Sender) (f : �
       spares-keeps = by_deed spared_did
 
 pub sparing_events_keep : SparingEventsKeep
-sparing_events_keep s queue sent v e (f, h) x = spares-keeps s queue sent v f h e x
+sparing_events_keep s queue sent v e (f, h) x = spares-keeps h e x
 
 -- a step of transmitting of the driver's own queue spares it
 pub step_of_queue_keeps : StepsOfQueueKeep
@@ -315,7 +292,7 @@ step_of_queue_keeps s queue sent v (f, h) =
     let own : (queue == queue) ≡ true = eq-eqb queue queue refl in
     let small = h.based.small in
     let none : (A : Type 0) → (queue == queue) ≡ false → A = λ A other. absurd (both_ways (queue == queue) other own) in
-    spares-keeps s queue sent v f h (event.TxStep queue) (record {
+    spares-keeps h (event.TxStep queue) (record {
       made = omega arith;
       setting = tt;
       side = λ other apart. none _ other;

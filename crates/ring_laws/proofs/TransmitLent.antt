@@ -4,15 +4,18 @@ use Rattle.std.proofs.Common.{inl, inr, length, refl, subst, suc, sym, take, tru
 use Rattle.std.proofs.lemmas.Bool.{eqb-true, or_cases, or_from, or_left, or_right}
 use Rattle.std.proofs.lemmas.List.{get_or-append-add, length-append, take-append-le}
 use Rattle.std.specs.{List.list_any, Prelude.◌==◌, Prelude.IsTrue, Prelude.slice_index_or}
-use Rattle.history_laws.specs.Prelude.{Block, Blocks, Event, Memory, Reply, State, after, has_block, reply_to}
-use Rattle.ring_laws.specs.TransmitPrelude.{Accepts, Advances, Asks, Elsewhere, IsOwn, Kept, Lends, Looks, MayAccept, Move}
-use Rattle.ring_laws.specs.TransmitPrelude.{Outgoing, Reaps, Segment, Sender, accepted_by, has_lent, is_ring_block, moved}
+use Rattle.history_laws.specs.Prelude.{Block, Blocks, Event, Reply, State, after, has_block, reply_to}
+use Rattle.ring_laws.specs.TransmitPrelude.{Accepts, Advances, Asks, Elsewhere, IsOwn, Kept, Lends, Looks, MayAccept}
+use Rattle.ring_laws.specs.TransmitPrelude.{Move}
+use Rattle.ring_laws.specs.TransmitPrelude.{Outgoing, Reaps, Segment, Sender, accepted_by, has_lent, is_ring_block}
+use Rattle.ring_laws.specs.TransmitPrelude.{moved}
 use Rattle.ring_laws.specs.TransmitPrelude.{no_segment, segment_at, segments_of}
 use Rattle.pmd_tx.specs.Sending.{MayLend, blocks_of, lent_more, reaped}
-use Rattle.history_laws.proofs.Lent.{KeepsTaken, lend_known, only_lent_stays, or_swap, still_known, take_known}
-use Rattle.history_laws.specs.Lent.{LendsNone, LendsOwn, OnlyLent, either}
+use Rattle.history_laws.proofs.Lent.{Follows, follows_in, follows_known, only_lent_stays, or_swap, still_known}
+use Rattle.history_laws.specs.Lent.{LendsOwn, OnlyLent, either}
 use Rattle.ring_laws.proofs.Packets.{length-segments, some-parts}
-use Rattle.ring_laws.specs.{Alone.LendsOneOf, TransmitHealthy.LendsAnew, TransmitLent.OwnLendsAreKnown, TransmitLent.SparesNumbers}
+use Rattle.ring_laws.specs.{Alone.LendsOneOf, TransmitHealthy.LendsAnew, TransmitLent.OwnLendsAreKnown}
+use Rattle.ring_laws.specs.{TransmitLent.SparesNumbers}
 use Rattle.nic_device.specs.declared.event.Reply.TheVariants as reply
 use Rattle.nic_device.specs.declared.event.Event.TheVariants as event
 
@@ -47,8 +50,7 @@ later_at n (x ∷ ss) (suc k) ne is = elim (or_cases (n == x.block) (among (take
   | inr later ↦ let e : k ≡ suc k - 1 = omega arith in subst (λ (j : ℕ). among (take j ss) n ≡ true) e later
 ]
 
-before_at : (n : ℕ) (ss : List Segment) (k : ℕ) → among (take (k - 1) (drop 1 ss)) n ≡ true
-    → among (take k ss) n ≡ true
+before_at : (n : ℕ) (ss : List Segment) (k : ℕ) → among (take (k - 1) (drop 1 ss)) n ≡ true → among (take k ss) n ≡ true
 before_at n ss zero is = cc
 before_at n [] (suc k) is =
     let e : suc k - 1 ≡ k = omega arith in
@@ -104,79 +106,45 @@ module _ (v : Sender) (n : ℕ) where
     | inr there ↦ or_right own _ (before_at n v.outstanding v.lent there)
   ]
 
-  pub has_asked : (r : Reply Block) → Has (moved v Asks r)
-  has_asked reply.Done has = has
-  has_asked r has = has
-
-  pub has_advanced : (r : Reply Block) → Has (moved v Advances r)
-  has_advanced reply.Done has = has
-  has_advanced r has = has
-
-  pub has_looked : (r : Reply Block) → Has (moved v Looks r)
-  has_looked (reply.Bytes d) has = has
-  has_looked r has = has
+module _ (v : Sender) where
+  follows : (m : Move) (e : Event Block) → IsOwn v m e → m ≢ Elsewhere → (r : Reply Block) (n : ℕ)
+      → Follows (has_lent v) (has_lent (moved v m r)) e r n
+  follows (Accepts p) (event.Lend b) may ne reply.Done n = accepted_is v n p b may
+  follows (Accepts p) (event.Lend b) may ne r n = refl
+  follows Lends (event.Lend b) may ne reply.Done n = more_is v n b.number may.0 may.1.number
+  follows Lends (event.Lend b) may ne r n = refl
+  follows Asks (event.Poke16 a bytes) may ne reply.Done n = refl
+  follows Asks (event.Poke16 a bytes) may ne r n = refl
+  follows Advances (event.Write port number word) may ne reply.Done n = refl
+  follows Advances (event.Write port number word) may ne r n = refl
+  follows Looks (event.Peek16 a) may ne (reply.Bytes d) n = refl
+  follows Looks (event.Peek16 a) may ne r n = refl
+  follows Reaps (event.Take t) may ne (reply.Buf b) n =
+      (λ other. has_reaped v n (subst (λ (x : ℕ). n ≢ x) may.1 other), λ has. reaped_had v n has)
+  follows Reaps (event.Take t) may ne r n = refl
+  follows Elsewhere e may ne r n = absurd (ne refl)
+  follows m e may ne r n = absurd may
 
 -- every block that the driver has lent is one of these, as it moves: a move lends one of them at most
 abbrev pub AreMine : Blocks → Sender → Type 0
 AreMine mine v = (number : ℕ) → IsTrue (has_lent v number) → IsTrue (mine number)
 
-module _ (mine : Blocks) (v : Sender) (all : AreMine mine v) where
-  one_more : (w : Sender) (b : ℕ) → ((n : ℕ) → has_lent w n ≡ (n == b || has_lent v n)) → mine b ≡ true → AreMine mine w
-  one_more w b is has n there = elim (or_cases (n == b) (has_lent v n) (sym (is n) ∙ there)) [
-    | inl same ↦ ap mine (eqb-true n b same) ∙ has
-    | inr old ↦ all n old
-  ]
-
-  pub mine-moved : (m : Move) (e : Event Block) (r : Reply Block) → IsOwn v m e → LendsOneOf mine e r
-      → AreMine mine (moved v m r)
-  mine-moved (Accepts p) (event.Lend b) reply.Done may has =
-      one_more (accepted_by v p) b.number (λ n. accepted_is v n p b may) has
-  mine-moved (Accepts p) e reply.Done may has = absurd may
-  mine-moved Lends (event.Lend b) reply.Done may has =
-      one_more (lent_more v) b.number (λ n. more_is v n b.number may.0 may.1.number) has
-  mine-moved Lends e reply.Done may has = absurd may
-  mine-moved Asks e reply.Done may has = all
-  mine-moved Advances e reply.Done may has = all
-  mine-moved Looks e (reply.Bytes d) may has = all
-  mine-moved Reaps e (reply.Buf b) may has = λ n is. all n (reaped_had v n is)
-  mine-moved m e other may has = all
+pub mine-moved : (mine : Blocks) (v : Sender) → AreMine mine v → (m : Move) (e : Event Block) (r : Reply Block)
+    → IsOwn v m e → LendsOneOf mine e r → AreMine mine (moved v m r)
+mine-moved mine v all Elsewhere e r may has = all
+mine-moved mine v all m e r may has =
+    follows_in mine (has_lent v) all e (λ r. has_lent (moved v m r)) (follows v m e may (λ is. cc)) r has
 
 -- Of some numbers only known ones stay lent over the driver's own moves.
 
 module _ (own others : Blocks) (s : State) (v : Sender)
     (only : OnlyLent own (either (has_lent v) others) s.memory)
   where
-    abbrev Known : Sender → Memory → Type 0
-    Known w m = OnlyLent own (either (has_lent w) others) m
-
-    reap_has : (n : ℕ) → n ≡ (segment_at v 0).block → (r : Reply Block)
-        → KeepsTaken (has_lent v) n (λ r. has_lent (moved v Reaps r)) r
-    reap_has n same (reply.Buf b) = λ k ne. has_reaped v k (subst (λ (x : ℕ). k ≢ x) same ne)
-    reap_has n same r = λ k has. has
-
-    still : (m : Move) (e : Event Block) → LendsNone own e → ((r : Reply Block) (n : ℕ) → Has v n (moved v m r))
-        → Known (moved v m (reply_to s e)) (after s e).memory
-    still m e none has =
-        let r = reply_to s e in still_known own others s (has_lent v) only e (has_lent (moved v m r)) none (has r)
-
     own_known : (m : Move) (e : Event Block) → IsOwn v m e → SparesNumbers own m e
-        → Known (moved v m (reply_to s e)) (after s e).memory
-    own_known (Accepts p) (event.Lend b) may spares =
-        lend_known own others s (has_lent v) only b (λ r. has_lent (moved v (Accepts p) r))
-        (λ k is. accepted_is v k p b may ∙ is) (λ k has. has)
-    own_known Lends (event.Lend b) may spares =
-        lend_known own others s (has_lent v) only b (λ r. has_lent (moved v Lends r))
-        (λ k is. more_is v k b.number may.0 may.1.number ∙ is) (λ k has. has)
-    own_known Asks (event.Poke16 a bytes) may spares =
-        still Asks (event.Poke16 a bytes) tt (λ r n. has_asked v n r)
-    own_known Advances (event.Write port number word) may spares =
-        still Advances (event.Write port number word) tt (λ r n. has_advanced v n r)
-    own_known Looks (event.Peek16 a) may spares =
-        still Looks (event.Peek16 a) tt (λ r n. has_looked v n r)
-    own_known Reaps (event.Take n) may spares =
-        take_known own others s (has_lent v) only n (λ r. has_lent (moved v Reaps r)) (reap_has n may.1)
-    own_known Elsewhere e may spares = still Elsewhere e spares (λ r n has. has)
-    own_known m e may spares = absurd may
+        → OnlyLent own (either (has_lent (moved v m (reply_to s e))) others) (after s e).memory
+    own_known Elsewhere e may spares = still_known own others s (has_lent v) only e (has_lent v) spares (λ n has. has)
+    own_known m e may spares =
+        follows_known own others s (has_lent v) only e (λ r. has_lent (moved v m r)) (follows v m e may (λ is. cc))
 
     lends_anew : (x : Segment) (b : Block) → MayLend v x b → LendsOwn own others (event.Lend b)
         → has_block s.memory b.number ≡ false
@@ -186,8 +154,7 @@ module _ (own others : Blocks) (s : State) (v : Sender)
         (subst (λ (n : ℕ). has_lent v n ≡ false) (sym may.number) may.away) is.1)
 
     own_anew : (m : Move) (e : Event Block) → IsOwn v m e → LendsOwn own others e → LendsAnew s m e
-    own_anew (Accepts p) (event.Lend b) may is =
-        lends_anew (slice_index_or (segments_of p) 0 no_segment) b may.first is
+    own_anew (Accepts p) (event.Lend b) may is = lends_anew (slice_index_or (segments_of p) 0 no_segment) b may.first is
     own_anew Lends (event.Lend b) may is = lends_anew (segment_at v v.lent) b may.1 is
     own_anew Elsewhere e may is = tt
     own_anew m (event.Lend b) may is = absurd may

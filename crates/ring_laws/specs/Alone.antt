@@ -1,11 +1,10 @@
 -- A history that leaves the queue of a driver alone, turn by turn.
-use Rattle.std.specs.Prelude.{[], ◌∷◌, IsTrue, List, None, Option, Some, ⊤}
-use Rattle.history_laws.specs.Prelude.{Block, Blocks, Event, IsEvent, LeavesBlocks, LeavesRegisters, Reply, State}
+pub use Rattle.history_laws.specs.Lent.{LendsOneOf}
+use Rattle.std.specs.Prelude.{[], ◌∷◌, List, None, Option, Some, ⊤}
+use Rattle.history_laws.specs.Prelude.{Block, Blocks, Event, IsEvent, LeavesBlocks, LeavesRegisters, State}
 use Rattle.history_laws.specs.Prelude.{Watched, WritesOutside, after, mode_in, reply_to}
 use Rattle.ring_laws.specs.TransmitPrelude.{Elsewhere, IsOwn, Move, Sender, has_lent}
 use Rattle.ring_laws.specs.{Sparing.Owes, Turns.Turn, Turns.known}
-use Rattle.nic_device.specs.declared.event.Event.TheVariants as event
-use Rattle.nic_device.specs.declared.event.Reply.TheVariants as reply
 
 -- an event leaves the queue and these blocks alone, by the clauses by which a closed history is judged, and what the
 -- driver's receive half owes is met
@@ -15,11 +14,6 @@ pub record IsAlone (w : Watched) (mine : Blocks) (v : Sender) (s : State) (e : E
   pub blocks : LeavesBlocks mine e
   pub steps : WritesOutside w.queue mine (reply_to s e)
   pub owed : Owes w.queue v s e
-
--- a block that is lent is one of these
-abbrev pub LendsOneOf : Blocks → Event Block → Reply Block → Type 0
-LendsOneOf mine (event.Lend b) reply.Done = IsTrue (mine b.number)
-LendsOneOf mine e other = ⊤
 
 -- a turn is the driver's next move, or leaves alone: another pass's all of these blocks, and one of the driver's own
 -- pass that is no move of the sender's the blocks that the sender has lent now

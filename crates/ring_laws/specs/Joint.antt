@@ -4,8 +4,10 @@ use Rattle.std.specs.Prelude.{ℕ, ⊤}
 use Rattle.history_laws.specs.Prelude.{Memory, Rdt, ReceiveQueue, Register, State, buffer_size_of, bytes_in}
 use Rattle.history_laws.specs.Prelude.{descriptor_type_of, ends_packet, first_half, has_block, is_done, named, place}
 use Rattle.history_laws.specs.Prelude.{read_at, receive_queue_of, second_half}
-use Rattle.ring_laws.specs.ReceivePrelude.{EachRingBlock, Kept, Layout, Lent, Looks, Packet, Receive, Stage, Takes, Told}
-use Rattle.ring_laws.specs.ReceivePrelude.{block_at, blocks_for, descriptor_at, ended_of, is_ring_block, kept_of, left_of}
+use Rattle.ring_laws.specs.ReceivePrelude.{EachRingBlock, Kept, Layout, Lent, Looks, Packet, Receive, Stage, Takes}
+use Rattle.ring_laws.specs.ReceivePrelude.{Told}
+use Rattle.ring_laws.specs.ReceivePrelude.{block_at, blocks_for, descriptor_at, ended_of, is_ring_block, kept_of}
+use Rattle.ring_laws.specs.ReceivePrelude.{left_of}
 use Rattle.ring_laws.specs.ReceivePrelude.{no_packet, reach, records_of, slot_at, vacant}
 use Rattle.pmd_rx.specs.declared.ring.Stage.TheVariants.{Owes}
 use Rattle.pmd_rx.specs.PmdSeam.Bufs.{bytes_of}

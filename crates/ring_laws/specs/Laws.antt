@@ -74,17 +74,22 @@ SentIsPrefixOfTaken =
     IsLegal s h → MayRun queue v s (turns_of pass moves h) →
     IsPrefixOf (sent_in queue s h) (bytes_of (played_by v moves (calls_of pass h)).accepted)
 
--- where each turn leaves the queue alone or is a move, and the driver's lends are of blocks that others leave alone,
--- each may come; and so what was sent is a prefix of what was accepted
+-- a legal history from where device and driver agree with nothing sent yet, in which each turn leaves the queue alone or
+-- is a move, and the driver's lends are of blocks that others leave alone
+pub record IsOverAlone (w : Watched) (mine : Blocks) (s : State) (v : Sender) (ts : List Turn) : Type 0 where
+  pub agreed : Agrees s w.queue [] v
+  pub functions : w.vfs ≡ s.vfs
+  pub lent : (number : ℕ) → IsTrue (has_lent v number) → IsTrue (mine number)
+  pub legal : IsLegal s (entries_of ts)
+  pub alone : MayRunAlone w mine v s ts
+
+-- there each turn may come, and so what was sent is a prefix of what was accepted
 abbrev pub AloneMayRun : Type 0
 AloneMayRun =
-    (w : Watched) (mine : Blocks) (s : State) (v : Sender) (ts : List Turn) → Agrees s w.queue [] v →
-    w.vfs ≡ s.vfs → ((number : ℕ) → IsTrue (has_lent v number) → IsTrue (mine number)) → IsLegal s (entries_of ts) →
-    MayRunAlone w mine v s ts → MayRun w.queue v s ts
+    (w : Watched) (mine : Blocks) (s : State) (v : Sender) (ts : List Turn) → IsOverAlone w mine s v ts →
+    IsOver w.queue s v ts
 
 abbrev pub SentIsPrefixWhereAlone : Type 0
 SentIsPrefixWhereAlone =
-    (w : Watched) (mine : Blocks) (s : State) (v : Sender) (ts : List Turn) → Agrees s w.queue [] v →
-    w.vfs ≡ s.vfs → ((number : ℕ) → IsTrue (has_lent v number) → IsTrue (mine number)) → IsLegal s (entries_of ts) →
-    MayRunAlone w mine v s ts →
+    (w : Watched) (mine : Blocks) (s : State) (v : Sender) (ts : List Turn) → IsOverAlone w mine s v ts →
     IsPrefixOf (sent_in w.queue s (entries_of ts)) (bytes_of (sender_after v ts).accepted)

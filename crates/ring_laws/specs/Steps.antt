@@ -1,12 +1,13 @@
 -- What single events do to what the device and a driver agree on.
 pub use Rattle.history_laws.specs.Left.{IsOutside}
-use Rattle.std.specs.Prelude.{◌++◌, ◌/◌, ◌<◌, ◌↔◌, ◌≡◌, ◌≢◌, IsTrue, List, Some, length, ℕ, ⊤}
+use Rattle.std.specs.Prelude.{◌++◌, ◌/◌, ◌<◌, ◌↔◌, ◌≡◌, ◌≢◌, ◌⊎◌, IsTrue, List, Some, length, ℕ, ⊤}
 use Rattle.history_laws.specs.Prelude.{Block, Blocks, Bytes, Entry, EntryLeavesAlone, Event, IsEvent, IsSound}
 use Rattle.history_laws.specs.Prelude.{LeavesBlock, LeavesReceive, Mode, Reply, Rx, State, Watched, Wrote, after}
 use Rattle.history_laws.specs.Prelude.{bytes_in, ends_packet, first_half, is_done, mode_in, receive_queue_of, reply_to}
 use Rattle.history_laws.specs.Prelude.{second_half, told_back}
-use Rattle.ring_laws.specs.ReceivePrelude.{EachRingBlock, IsOwn, Lent, Receive, Stage, block_at, descriptor_at, drive}
-use Rattle.ring_laws.specs.ReceivePrelude.{is_step, reach}
+use Rattle.ring_laws.specs.ReceivePrelude.{IsOwn, Lent, Receive, Stage, descriptor_at, drive}
+use Rattle.ring_laws.specs.ReceivePrelude.{is_step}
+use Rattle.pmd_rx.specs.Keeping.{has_lent}
 use Rattle.ring_laws.specs.{Joint.Agree, Joint.Holds, Pieces.Piece, Pieces.piece_at, Pieces.pieces}
 use Rattle.nic_device.specs.declared.event.Event.TheVariants as event
 
@@ -29,12 +30,9 @@ abbrev pub IfFresh : Stage → (ℕ → Type 0) → Type 0
 IfFresh (Lent b) P = P b
 IfFresh other P = ⊤
 
--- each block that the driver has lent for receiving: those that the ring is in, those of its slots up to the last named
--- one, and a fresh one
-pub record Each (v : Receive) (P : ℕ → Type 0) : Type 0 where
-  pub ring : EachRingBlock v.layout.ring v.layout.size P
-  pub blocks : (k : ℕ) → k < length (reach v).blocks → P (block_at (reach v) k)
-  pub fresh : IfFresh v.stage P
+-- of each block that the driver has lent for receiving
+abbrev pub Each : Receive → (ℕ → Type 0) → Type 0
+Each v P = (number : ℕ) → IsTrue (has_lent v number) → P number
 
 -- an event leaves the queue's receive side, what numbers name, and the driver's blocks
 pub record Leaves (queue : ℕ) (v : Receive) (old new : State) : Type 0 where
@@ -61,20 +59,13 @@ pub record IsMetBy (w : Watched) (mode : Mode) (s : State) (e : Entry) : Type 0 
   pub reply : e.reply ≡ reply_to s e.event
   pub event : IsEvent e.event
 
--- an entry of another pass that leaves the queue alone, with all blocks that the driver has lent, keeps the agreement
-abbrev pub ForeignEntryKeeps : Type 0
-ForeignEntryKeeps =
-    (w : Watched) (mine : Blocks) (mode : Mode) (s : State) (out : List Piece) (v : Receive) (e : Entry) →
-    IsMetBy w mode s e → Agree w.queue s out v → Each v (λ b. IsTrue (mine b)) → OwnReportsSpare w.queue v s →
-    EntryLeavesAlone w mine mode e → e.pass ≢ w.pass →
-    Agree w.queue (after s e.event) (out ++ pieces w.queue s e.event) v
-
+-- an entry of another pass that leaves the queue alone, with all blocks that the driver has lent, keeps the agreement;
 -- and so does a step of the device, whoever made it
-abbrev pub DeviceStepKeeps : Type 0
-DeviceStepKeeps =
+abbrev pub EntryKeeps : Type 0
+EntryKeeps =
     (w : Watched) (mine : Blocks) (mode : Mode) (s : State) (out : List Piece) (v : Receive) (e : Entry) →
     IsMetBy w mode s e → Agree w.queue s out v → Each v (λ b. IsTrue (mine b)) → OwnReportsSpare w.queue v s →
-    EntryLeavesAlone w mine mode e → IsTrue (is_step e.event) →
+    EntryLeavesAlone w mine mode e → (e.pass ≢ w.pass) ⊎ IsTrue (is_step e.event) →
     Agree w.queue (after s e.event) (out ++ pieces w.queue s e.event) v
 
 -- a step of receiving, of whichever queue, keeps the agreement: on the driver's queue its first posted slot becomes the

@@ -11,7 +11,7 @@ ghost use Rattle.ring_laws.specs.Histories.{HandedIsPrefix, NoneIsAll, NoneIsAll
 ghost use Rattle.ring_laws.specs.Inside.{PieceIsInside};
 ghost use Rattle.ring_laws.specs.ReceiveLent.{OwnLendsAreKnown};
 ghost use Rattle.ring_laws.specs.Starting.{StartAgrees};
-ghost use Rattle.ring_laws.specs.Steps.{LookTellsSlot, ReceiveStepKeeps, EnableStepKeeps, LeavingKeeps, SwitchingKeeps, OwnEventKeeps, ForeignEntryKeeps, DeviceStepKeeps};
+ghost use Rattle.ring_laws.specs.Steps.{LookTellsSlot, ReceiveStepKeeps, EnableStepKeeps, LeavingKeeps, SwitchingKeeps, OwnEventKeeps, EntryKeeps};
 ghost use Rattle.ring_laws.specs.ReceiveUp.{LeavingStaysUp, EnableStepChangesNothing, ReceiveStepStaysUp, OwnEventStaysUp, EntryStaysUp};
 
 /// A look at the next slot tells done exactly where the slot is filled, and then tells of the slot's piece.
@@ -21,6 +21,7 @@ pub fn look_tells_the_slot()
 
 /// A step of receiving, of whichever queue, keeps what the device and the driver agree on: on the driver's queue the
 /// first posted slot becomes the last filled one, or nothing changes there. A fault is impossible.
+#[tactic(auto, using(crate::proofs::Foreign::receive_keeps))]
 pub fn receive_step_keeps_the_agreement()
     ensures { ReceiveStepKeeps }
 {}
@@ -52,6 +53,7 @@ pub fn queue_up_stays_up()
 
 /// Each event of the driver's own keeps what they agree on, with the driver that it leads to: a look, the block of a
 /// part taken, a fresh block lent, a vacant descriptor written, the tail moved on over descriptors that name blocks.
+#[tactic(auto, using(crate::proofs::Own::own_keeps))]
 pub fn own_event_keeps_the_agreement()
     ensures { OwnEventKeeps }
 {}
@@ -59,8 +61,7 @@ pub fn own_event_keeps_the_agreement()
 /// An entry of another pass that leaves the queue alone keeps what they agree on, and so does a step of the device,
 /// whoever made it.
 pub fn foreign_entry_keeps_the_agreement()
-    ensures foreign { ForeignEntryKeeps }
-    ensures step { DeviceStepKeeps }
+    ensures { EntryKeeps }
 {}
 
 /// Over a history of any sound device that leaves the driver's queue alone, from a place on where the two agree and the
@@ -75,6 +76,7 @@ pub fn handed_packets_are_a_prefix_of_those_delivered()
 {}
 
 /// As the side goes on with its ring lent and its words written, the device and a driver that posted nothing agree.
+#[tactic(auto, using(crate::proofs::Leaving::start_agrees))]
 pub fn fresh_ring_agrees()
     ensures { StartAgrees }
 {}
@@ -99,6 +101,7 @@ pub fn fitting_frames_stay_fitting()
 /// Where of some numbers, as an arena's, only those are lent that the driver has lent for receiving or others have,
 /// each event of the driver's own leaves it so, with the driver that it leads to; and a block of these numbers that the
 /// driver lends, and others haven't lent, isn't lent yet.
+#[tactic(auto, using(crate::proofs::ReceiveLent::own_lends_are_known))]
 pub fn own_lends_are_known()
     ensures { OwnLendsAreKnown }
 {}

@@ -14,12 +14,14 @@ ghost use Rattle.ring_laws.specs.Laws.{StepsOfQueueKeep, SparingEventsKeep, Left
 
 /// A step of transmitting of the driver's own queue keeps what device and driver agree on, with the frame that it
 /// sends: the next packet that was accepted and not sent, or none.
+#[tactic(auto, using(crate::proofs::Sparing::step_of_queue_keeps))]
 pub fn steps_of_queue_keep()
     ensures { StepsOfQueueKeep }
 {}
 
 /// An event that spares the driver keeps what device and driver agree on, with the frame that it sends on the queue, if
 /// any.
+#[tactic(auto, using(crate::proofs::Sparing::sparing_events_keep))]
 pub fn sparing_events_keep()
     ensures { SparingEventsKeep }
 {}
@@ -30,6 +32,7 @@ pub fn left_alone_is_spared()
 {}
 
 /// Each move of the driver's own keeps what device and driver agree on.
+#[tactic(auto, using(crate::proofs::Playing::moves_keep))]
 pub fn moves_keep()
     ensures { MovesKeep }
 {}
@@ -48,6 +51,7 @@ pub fn sent_in_order()
 /// which a closed history is judged, the frames sent are a prefix of those accepted. What the driver's receive half
 /// owes is a premise: a piece that is received isn't empty, and on the driver's own queue it is outside the sender's
 /// blocks.
+#[tactic(auto, using(crate::proofs::Runs::alone_may_run, crate::proofs::Runs::sent_is_prefix_where_alone))]
 pub fn sent_in_order_where_left_alone()
     ensures runs { AloneMayRun }
     ensures prefix { SentIsPrefixWhereAlone }
@@ -56,17 +60,20 @@ pub fn sent_in_order_where_left_alone()
 /// The frames that a history sends on a queue, counted since the queue's transmit side last went on, are all that it
 /// sends where the side never goes on, and else all that it sends since the last time: an end of all, of one frame an
 /// entry at most.
+#[tactic(auto, using(crate::proofs::Counting::sent_is_counted))]
 pub fn sent_is_counted_since_the_side_went_on()
     ensures { SentIsCounted }
 {}
 
 /// The frames that a legal history of a sound device sends on a queue are as many, and as long, as its replies tell.
+#[tactic(auto, using(crate::proofs::Counting::sent_is_told))]
 pub fn sent_frames_are_told()
     ensures { SentIsTold }
 {}
 
 /// A transmit side that isn't wanted on stays so, and one that is off besides stays off and sends nothing, over every
 /// history whose events leave it or are steps of its own.
+#[tactic(auto, using(crate::proofs::Off::off_stays))]
 pub fn queue_off_stays_off()
     ensures { OffStays }
 {}
@@ -79,12 +86,14 @@ pub fn queue_up_stays_up()
 
 /// A write of the enable register of the queue's transmit side keeps what device and driver agree on, whatever the
 /// word: they agree whether the side is on or not.
+#[tactic(auto, using(crate::proofs::Off::enable_words_keep))]
 pub fn enable_words_keep()
     ensures { EnableWordsKeep }
 {}
 
 /// After a write of the enable register without bit 25 the side isn't wanted on; and where it isn't, a read that tells
 /// bit 25 as 0 finds it off.
+#[tactic(auto, using(crate::proofs::Off::guard_is_off))]
 pub fn guarded_queue_is_off()
     ensures { GuardIsOff }
 {}
@@ -99,6 +108,7 @@ pub fn own_replies_are_healthy()
 /// Where of some numbers, as an arena's, only those are lent that the sender has lent or others have, each move of the
 /// driver's own leaves it so, with the sender that it leads to; and a packet that is accepted, whose block is of these
 /// numbers and lent by no other, has a block that isn't lent yet.
+#[tactic(auto, using(crate::proofs::TransmitLent::own_lends_are_known))]
 pub fn own_lends_are_known()
     ensures { OwnLendsAreKnown }
 {}

@@ -1,5 +1,0 @@
-use Rattle.driver_laws.proofs.Healthy.{own_replies_are_healthy}
-use Rattle.driver_laws.proofs.own_replies_are_healthy.Goals as goal
-
-pub returns : goal.returns
-returns c = own_replies_are_healthy

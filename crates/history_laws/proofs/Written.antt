@@ -1,9 +1,9 @@
 -- What a number of a port names, and the low bits of the words that are written there.
 use Rattle.std.proofs.Common.{[], ◌%◌, ◌&&◌, ◌+◌, ◌/◌, ◌<◌, ◌^◌, ◌∙◌, ◌∷◌, ◌≡◌, ◌⊎◌, Bool, List, None, Option, Some, ap}
 use Rattle.std.proofs.Common.{arith, cond, false, inl, inr, not, refl, sym, true, ℕ}
-use Rattle.std.proofs.lemmas.Bool.{and_parts, cases_Bool, cond-false, cond-true, eq-eqb}
+use Rattle.std.proofs.lemmas.Bool.{and_parts, cases_Bool, eq-eqb}
 use Rattle.std.proofs.lemmas.Nat.{and_le_l, and_le_r, and_mask, and_mod, and_shr, or_disjoint, or_mod, or_shr}
-use Rattle.std.specs.Prelude.{if◌then◌else◌, ◌==◌, bit_and, bit_or, ⊤}
+use Rattle.std.specs.Prelude.{◌==◌, bit_and, bit_or, ⊤}
 use Rattle.std.{proofs.Math.Nat.mod-eq_of_lt, specs.List.list_all}
 use Rattle.history_laws.specs.Prelude.{Maxfrs, Mode, Named, Nothing, Pf, Place, Port, Rdt, ReceiveQueue, Register}
 use Rattle.history_laws.specs.Prelude.{Registers, RowId, State, Tdt, TransmitQueue, after_write, has_bit, mode_in}
@@ -106,17 +106,10 @@ all_shown (r ∷ rs) row a p none is same =
     let x = and_parts (not (r.low && (number_of r.row == number_of row))) (none_low row rs) none in
     elim (cases_Bool (has_address r a)) as (λ _. view_among (r ∷ rs) a ≡ 0xFFFFFFFF) [
       | inl here ↦
-          let found : place_of r a ≡ p =
-          Some_one (sym (cond-true (has_address r a) (Some (place_of r a)) (place_among rs a) here) ∙ is) in
+          let found : place_of r a ≡ p = Some_one (rw here at is) in
           let own : r.row ≡ row = ap (λ (q : Place). q.row) found ∙ same in
-          let whole : r.low ≡ false =
-          shown_whole r.low _ x.0 (eq-eqb (number_of r.row) (number_of row) (ap number_of own)) in
-          cond-true (has_address r a) (if r.low then 0xFFFF else 0xFFFFFFFF) (view_among rs a) here
-          ∙ cond-false r.low 0xFFFF 0xFFFFFFFF whole
-      | inr there ↦
-          cond-false (has_address r a) (if r.low then 0xFFFF else 0xFFFFFFFF) (view_among rs a) there
-          ∙ all_shown rs row a p x.1
-          (sym (cond-false (has_address r a) (Some (place_of r a)) (place_among rs a) there) ∙ is) same
+          rw (here, shown_whole r.low _ x.0 (eq-eqb (number_of r.row) (number_of row) (ap number_of own))) refl
+      | inr there ↦ rw there (all_shown rs row a p x.1 (rw there at is) same)
     ]
 
 -- What a number of a port names.

@@ -1,12 +1,12 @@
 -- Events that aren't the driver's own: they keep the agreement, and a side up that is.
-use Rattle.std.proofs.Common.{[], ◌*◌, ◌++◌, ◌/◌, ◌<◌, ◌^◌, ◌||◌, ◌∙◌, ◌∷◌, ◌≡◌, ◌≢◌, ◌≤◌, ◌⊎◌, Bool, List, Ok}
+use Rattle.std.proofs.Common.{[], ◌++◌, ◌/◌, ◌<◌, ◌^◌, ◌||◌, ◌∙◌, ◌∷◌, ◌≡◌, ◌≢◌, ◌≤◌, ◌⊎◌, Bool, List, Ok}
 use Rattle.std.proofs.Common.{ap, arith, cond, false, inl, inr, length, refl, subst, sym, true, ℕ}
 use Rattle.std.proofs.lemmas.Bool.{both_ways, cases_eq, cases_lt, cond_both, eq-eqb, or_parts}
 use Rattle.std.proofs.lemmas.List.{append-nil}
 use Rattle.std.specs.{Bool.beq, Prelude.IsTrue, Prelude.nat_lt, Prelude.⊤}
 use Rattle.history_laws.specs.Prelude.{Block, Blocks, Done, Entry, EntryLeavesAlone, Event, Filled, IsSound}
 use Rattle.history_laws.specs.Prelude.{LeavesBlock, LeavesBlocks}
-use Rattle.history_laws.specs.Prelude.{LeavesQueues, LeavesRegisters, LiesIn, Memory, Mode, Outcome, Port, Reply, Rx}
+use Rattle.history_laws.specs.Prelude.{LeavesQueues, LeavesRegisters, Memory, Mode, Outcome, Port, Reply, Rx}
 use Rattle.history_laws.specs.Prelude.{State, Tx, Waiting, Watched, WritesNoSetting, WritesOutside, Wrote, after, gives}
 use Rattle.history_laws.specs.Prelude.{is_on, is_wanted, mode_in, receive_queue_of, reply_to, rest_of, step_of}
 use Rattle.ring_laws.specs.ReceivePrelude.{Layout, MovesNext, Receive, block_at, is_step, reach, slot_at}
@@ -121,14 +121,13 @@ module _ {queue : ℕ} {s : State} {out : List Piece} {v : Receive} {gone here :
       let short : f.len ≤ 2048 = omega (arith, t.len, h.side.buffer_size) in
       record {
         descriptor =
-            subst (IsInRing l.ring l.size) (sym (t.desc ∙ head_is h))
+            rw (t.desc, head_is h)
             (slot_in_ring l.ring l.size (slot_at l (length here))
             (slot_below (reach v) (length here) h.ring h.slots.within));
         slot = length here;
         known = room;
         bytes =
-            subst (λ a. LiesIn (block_at l (length here)) a f.len)
-            (sym (t.at ∙ buffer_is h room ∙ ap (λ (b : ℕ). 2048 * b) (posted_block v (length here) room)))
+            rw (t.at, buffer_is h room, posted_block v (length here) room)
             (bytes_inside (block_at l (length here)) f.len short);
       }
 

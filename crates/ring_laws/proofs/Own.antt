@@ -273,16 +273,13 @@ take_keeps queue s out v n (t ∷ ts) whole (gone, here, h) own is =
     let after_it : Agree queue u out w = (
       gone ++ piece_at here 0 ∷ [],
       drop 1 here,
-      record {
-        named = assumption;
-        ring = subst IsRing same (ring_on s.memory l here h.ring h.slots some);
-        side = set_up_on v.layout here h.ring.next room h.posted some (receive_queue_of s.registers queue) h.side;
-        posted = posted_less v.layout here h.ring.next room h.posted some;
-        slots = subst (λ (x : Layout). HasSlots u.memory x (drop 1 here)) same
-            (slots_on s.memory l here h.ring h.slots some);
-        stage = tt;
-        order = order_on out gone here v t ts b h.order is own.stage some here_is size.size;
-      },
+      assumption (
+        subst IsRing same (ring_on s.memory l here h.ring h.slots some),
+        set_up_on v.layout here h.ring.next room h.posted some (receive_queue_of s.registers queue) h.side,
+        posted_less v.layout here h.ring.next room h.posted some,
+        subst (λ (x : Layout). HasSlots u.memory x (drop 1 here)) same (slots_on s.memory l here h.ring h.slots some),
+        order_on out gone here v t ts b h.order is own.stage some here_is size.size,
+      ),
     ) in
     by_outcome queue s out v (event.Take n) (event.Take (block_at l 0)) _
     (ap event.Take (own.block ∙ sym (posted_block v 0 outs))) (taken_is s (block_at l 0) bytes there.1)

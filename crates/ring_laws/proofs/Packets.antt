@@ -46,11 +46,8 @@ frames-parts : (whole n : ℕ) (bs : List ℕ) (staged bytes : List ℕ) → len
     → frames_from staged (paired bs (parts_in whole n bytes)) ≡ (staged ++ bytes) ∷ []
 frames-parts whole zero bs staged bytes count some = absurd (omega arith)
 frames-parts whole (suc n) [] staged bytes count some = absurd (omega arith)
-frames-parts whole (suc zero) (b ∷ bs) staged bytes count some = last bs
-  where
-    last : (cs : List ℕ) → frames_from staged (paired (b ∷ cs) (parts_in whole 1 bytes)) ≡ (staged ++ bytes) ∷ []
-    last [] = refl
-    last (c ∷ cs) = refl
+frames-parts whole (suc zero) (b ∷ []) staged bytes count some = refl
+frames-parts whole (suc zero) (b ∷ c ∷ bs) staged bytes count some = absurd (omega arith)
 frames-parts whole (suc (suc n)) (b ∷ bs) staged bytes count some =
     frames-parts whole (suc n) bs (staged ++ take 2048 bytes) (drop 2048 bytes) (omega arith) (omega arith)
     ∙ ap (λ (l : List ℕ). l ∷ [])
@@ -62,19 +59,9 @@ packets-parts : (limit whole n : ℕ) (bs : List ℕ) (staged bytes : List ℕ) 
     → ArePackets limit staged (paired bs (parts_in whole n bytes))
 packets-parts limit whole zero bs staged bytes count some short long = absurd (omega arith)
 packets-parts limit whole (suc n) [] staged bytes count some short long = absurd (omega arith)
-packets-parts limit whole (suc zero) (b ∷ bs) staged bytes count some short long = last bs
-  where
-    last : (cs : List ℕ) → ArePackets limit staged (paired (b ∷ cs) (parts_in whole 1 bytes))
-    last [] = (
-      omega (arith, length-append staged bytes),
-      (λ end. omega (arith, length-append staged bytes)),
-      refl,
-    )
-    last (c ∷ cs) = (
-      omega (arith, length-append staged bytes),
-      (λ end. omega (arith, length-append staged bytes)),
-      refl,
-    )
+packets-parts limit whole (suc zero) (b ∷ []) staged bytes count some short long =
+    let both = length-append staged bytes in (omega (arith, both), (λ end. omega (arith, both)), refl)
+packets-parts limit whole (suc zero) (b ∷ c ∷ bs) staged bytes count some short long = absurd (omega arith)
 packets-parts limit whole (suc (suc n)) (b ∷ bs) staged bytes count some short long =
     let both = length-append staged (take 2048 bytes) in
     let all = cut bytes in (

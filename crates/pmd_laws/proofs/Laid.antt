@@ -13,7 +13,7 @@ use Rattle.pmd_laws.proofs.Prelude.{Tx, ℕ, accesses_are, adds_made, ap, append
 use Rattle.pmd_laws.proofs.Prelude.{both_asked, both_quiet, call_of, drive, false, inl, inr, is_size, is_step, laid_by}
 use Rattle.pmd_laws.proofs.Prelude.{not, refl, ring_blocks, ring_words, sized, some_made, stops_are, subst}
 use Rattle.pmd_laws.proofs.Prelude.{switched_are, sym, then_made, true, unswitched_are}
-use Rattle.pmd_laws.proofs.Stopped.{drive_same}
+use Rattle.pmd_laws.proofs.Plain.{drive_same}
 use Rattle.nic_device.specs.declared.event.Event.TheVariants as event
 use Rattle.pmd.specs.PmdSeam.declared.fault.PmdFault.TheVariants as fault
 

@@ -9,21 +9,19 @@ use Rattle.driver_laws.proofs.Healthy.{known_along}
 use Rattle.driver_laws.proofs.Lending.{receive_lent}
 use Rattle.driver_laws.proofs.Sending.{sender_lent}
 use Rattle.driver_laws.specs.Healthy.{lent_by}
-use Rattle.driver_laws.specs.Histories.{IsDriven}
 use Rattle.pmd_laws.specs.Told.{now}
 use Rattle.pmd_laws.proofs.Lent.{known_at, others_behind}
-use Rattle.pmd_laws.proofs.Order.{driven_by}
-use Rattle.pmd_laws.proofs.Prelude.{[], ◌++◌, ◌+◌, ◌<◌, ◌==◌, ◌∙◌, ◌∷◌, ◌≡◌, AllLendApart, AreOn, AreUp, Blocks, Bool}
-use Rattle.pmd_laws.proofs.Prelude.{BothAgree, Doer, EachInOnePlace, Halves, HasAll, IfFresh, IsToldOf, IsTrue}
-use Rattle.pmd_laws.proofs.Prelude.{LeadsApart, LentIsOut, List, Memory, Numbers, OnlyLent, OnlyPassLends, OutIsLent}
-use Rattle.pmd_laws.proofs.Prelude.{Parts, Piece, Receive, Rings, Running, Sender, State, Told, Up, ℕ, ap, arena_of}
-use Rattle.pmd_laws.proofs.Prelude.{arith, blocks_of, both_ways, calls_of, cond, each_ring_block, eqb-false, eqb-true}
-use Rattle.pmd_laws.proofs.Prelude.{false, halted_of, halves_of, has_block, has_lent, inl, inr, is_free, is_out, is_own}
-use Rattle.pmd_laws.proofs.Prelude.{is_ring_block, leads-append, leads_to, led, length, list_any, memory_after, on}
-use Rattle.pmd_laws.proofs.Prelude.{or_cases, or_from, or_parts, parts, places_of, played_by, reach, refl}
-use Rattle.pmd_laws.proofs.Prelude.{ring_block_among, ring_blocks, slice_index, subst, suc, sym, take, times-append}
-use Rattle.pmd_laws.proofs.Prelude.{times_among, times_in_hand, times_rest, true, true_from_ne_false, zero}
-use Rattle.pmd_laws.proofs.Told.{begins, goes, led as told_led}
+use Rattle.pmd_laws.proofs.Order.{agree, driven, first, in_parts, last, there_is}
+use Rattle.pmd_laws.proofs.Prelude.{[], ◌++◌, ◌+◌, ◌<◌, ◌==◌, ◌∙◌, ◌∷◌, ◌≡◌, AllLendApart, Blocks, Bool, BothAgree}
+use Rattle.pmd_laws.proofs.Prelude.{EachInOnePlace, Halves, HasAll, IfFresh, IsTrue, LentIsOut, List, Memory, Numbers}
+use Rattle.pmd_laws.proofs.Prelude.{OnlyLent, OnlyPassLends, OutIsLent, Piece, Receive, Rings, Running, Sender, State}
+use Rattle.pmd_laws.proofs.Prelude.{Told, Up, ℕ, arena_of, arith, blocks_of, both_ways, cond, each_ring_block}
+use Rattle.pmd_laws.proofs.Prelude.{eqb-false, eqb-true, false, halted_of, halves_of, has_block, has_lent, inl, inr}
+use Rattle.pmd_laws.proofs.Prelude.{is_free, is_out, is_own, is_ring_block, leads_to, length, list_any, memory_after}
+use Rattle.pmd_laws.proofs.Prelude.{or_cases, or_from, or_parts, places_of, reach, refl, ring_block_among}
+use Rattle.pmd_laws.proofs.Prelude.{ring_blocks, slice_index, subst, suc, sym, take, times-append, times_among}
+use Rattle.pmd_laws.proofs.Prelude.{times_in_hand, times_rest, true, true_from_ne_false, zero}
+use Rattle.pmd_laws.proofs.Told.{goes, led, told_ran}
 use Rattle.pmd.specs.PmdRx.Keeping as received
 use Rattle.pmd.specs.PmdTx.Leaving as leaving
 use Rattle.pmd.specs.PmdTx.Sending as sending
@@ -79,58 +77,28 @@ both_lent {queue = queue} {s = s} {out = out} {sent = sent} h both n is =
       | inr second ↦ sender_lent s queue sent h.transmit both.transmit.0 both.transmit.1 n second
     ]
 
-module _ (x : Told) where
-  open x use {w, origin, h, q, size, frame, old, a, told}
-
-  abbrev up : AreUp q size frame old a x.m.made told.started.0
-  up = told.started.2
-
-  abbrev begun : AreOn q size frame old a up.on.mid up.empty told.started.0.transmit
-  begun = on w origin h q size frame old a x.m.made told.started.0 up x.along x.begins
-
-  -- the calls from there on
-  abbrev apart : LeadsApart (is_own a) up.on.mid (begins told) (now x).made (halves_of (goes x).rings)
-  apart = told_led told
-
-  abbrev doers : List Doer
-  doers = apart.leads.0
-
-  module _ (made : IsToldOf x) where
-    parted : Parts w.pass h up.on.mid apart.leads.1
-    parted = parts w.pass h up.on.mid apart.leads.1 (made ∙ apart.leads.2)
-
-    driven : IsDriven w origin parted.front parted.back (begins told) doers
-    driven = driven_by begun x.along x.begins.ground parted doers apart.leads.3 apart.leads.5
-
-    -- what is told of halves and of the blocks that are lent where they lead
-    at_last : (P : Blocks → State → Type 0)
-        → P (lent_by (played_by (begins told) doers (calls_of w.pass parted.back)))
-        (leads_to (leads_to origin parted.front) parted.back)
-        → P (is_out (now x).driver.rings) (leads_to origin h)
-    at_last P holds =
-        let ends : Halves = played_by (begins told) doers (calls_of w.pass parted.back) in
-        let ends_is : ends ≡ halves_of (goes x).rings =
-        ap (played_by (begins told) doers) parted.backs ∙ sym apart.leads.4 in
-        subst (λ (z : Rings). P (is_out z) (leads_to origin h)) (sym (goes x).up)
-        (subst (λ (k : Halves). P (lent_by k) (leads_to origin h)) ends_is
-        (subst (P (lent_by ends))
-        (sym (leads-append origin parted.front parted.back) ∙ ap (leads_to origin) parted.both) holds))
+-- so it is of the blocks that are out
+at_last : (x : Told) (P : Blocks → State → Type 0) → P (lent_by (told_ran x).k) (leads_to x.origin x.h)
+    → P (is_out (now x).driver.rings) (leads_to x.origin x.h)
+at_last x P = subst (λ (z : Rings). P (is_out z) (leads_to x.origin x.h)) (sym (goes x).up)
 
 pub out_is_lent : OutIsLent
 out_is_lent x made =
-    let p = parted x made in
-    at_last x made (λ out s. (n : ℕ) → IsTrue (out n) → IsTrue (has_block s.memory n))
-    (both_lent _ (led x.w x.origin p.front p.back (begins x.told) (doers x) (driven x made)).both)
+    at_last x (λ out s. (n : ℕ) → IsTrue (out n) → IsTrue (has_block s.memory n))
+    (both_lent (told_ran x).k (agree (told_ran x) made))
 
 pub lent_is_out : LentIsOut
 lent_is_out x y =
     let own : Blocks = is_own x.a in
-    let p = parted x y.told in
-    at_last x y.told (λ out s. OnlyLent own out s.memory)
-    (known_along x.w x.origin p.front p.back (begins x.told) (doers x) own (driven x y.told)
-    (known_at (begun x) x.along own y.fresh y.others p.front p.back p.both p.fronts)
+    let r = told_ran x in
+    let p = in_parts r y.told in
+    at_last x (λ out s. OnlyLent own out s.memory)
+    (subst (λ (s : State). OnlyLent own (lent_by r.k) s.memory) (there_is r y.told)
+    (subst (λ (z : Halves). OnlyLent own (lent_by z) (leads_to (leads_to x.origin p.front) p.back).memory) (last r p)
+    (known_along x.w x.origin p.front p.back (first r.there) r.goes.0 own (driven r p)
+    (known_at r.there own y.fresh y.others p.front p.back p.both p.fronts)
     (others_behind x.w.pass own p.front p.back (subst (OnlyPassLends x.w.pass own) (sym p.both) y.others))
-    (subst (AllLendApart own (begins x.told) (doers x)) (sym p.backs) (apart x).apart))
+    (subst (AllLendApart own (first r.there) r.goes.0) (sym p.backs) (led x.told).apart))))
 
 -- a block that is out is counted
 

@@ -100,8 +100,9 @@ pub use Rattle.driver_laws.proofs.Retold.{events_same, legal_same, same_delivers
 pub use Rattle.driver_laws.specs.Agreeing.{AreApart, AreLent, BothAgree}
 pub use Rattle.driver_laws.specs.Before.{AreShort, OnlyPassLends}
 pub use Rattle.driver_laws.specs.Beside.{AddsHarmless, Leads, OthersHarmless, is_harmless}
+pub use Rattle.pmd_laws.specs.Course.{Course}
 pub use Rattle.pmd_laws.specs.Beside.{AllFollowBy, Beside, FollowsBy, GoesOn, IsCalledBeside, IsRetold, IsToldAnew}
-pub use Rattle.pmd_laws.specs.Beside.{IsToldBeside, IsToldBy, WasTold, by_own, now}
+pub use Rattle.pmd_laws.specs.Beside.{IsToldBeside, IsToldBy, WasTold, anew, by_own, now}
 pub use Rattle.pmd_laws.specs.Ends.{Ended, HandedOverStop, IsOver, LeftIsPrefix, SentOverStop}
 pub use Rattle.pmd_laws.specs.Faultless.{BeginsApart, IsFresh, IsQuietAndFresh, NoBurstMeetsFault, NoCallFindsFault}
 pub use Rattle.pmd_laws.specs.Faultless.{NoneLent, SendsAtFault, met_by}

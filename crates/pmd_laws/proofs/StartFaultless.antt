@@ -1,6 +1,5 @@
 -- No start finds the device at fault as it fills its receive ring, nor before: where it ends so before both sides are
 -- on, none of the blocks that are free then is lent.
-use Rattle.std.proofs.lemmas.List.{append_assoc}
 use Rattle.pmd.proofs.Finding.{wrong_by}
 use Rattle.pmd.proofs.Starting.{preparing_drawn}
 use Rattle.driver_laws.specs.Faultless.{NoneIsLent}
@@ -8,18 +7,19 @@ use Rattle.driver_laws.specs.Filling.{LendsFresh}
 use Rattle.pmd_laws.proofs.Begun.{drawn_both, drawn_gone, may}
 use Rattle.pmd_laws.proofs.Lent.{IsRising, Rises, RisesToLast, all_rise, lends_rise, off_driven, others_before}
 use Rattle.pmd_laws.proofs.Lent.{quieted_rises, ready_rises, step_rises, unlent_before, words_rise}
-use Rattle.pmd_laws.proofs.NoFault.{found_on, no_fault_once_on}
-use Rattle.pmd_laws.proofs.Order.{along_before, last_before}
+use Rattle.pmd_laws.proofs.NoFault.{found_on, made_is, no_fault_led_on}
+use Rattle.pmd_laws.proofs.Order.{On, along_before, last_before}
 use Rattle.pmd_laws.proofs.Prelude.{[], ◌++◌, ◌+◌, ◌<◌, ◌==◌, ◌∙◌, ◌∷◌, ◌≡◌, ◌⊎◌, Access, Adds, AllAre, AreMade, AtPort}
 use Rattle.pmd_laws.proofs.Prelude.{BeforeLast, BeforeNext, BeginsApart, Block, Blocks, Call, DeviceFault, Dir, Entry}
 use Rattle.pmd_laws.proofs.Prelude.{Event, FaultsEarly, FaultsFilling, FindsFault, Halves, IsDrawn, IsDriven, IsFalse}
 use Rattle.pmd_laws.proofs.Prelude.{IsMade, IsOtherwise, IsQuietAndFresh, List, Numbers, OnlyPassLends, PreparingFails}
 use Rattle.pmd_laws.proofs.Prelude.{ReceiveFails, Reply, Rx, Rxdctl, Sees, Sets, State, StopsBy, Tx, Watched, ℕ}
-use Rattle.pmd_laws.proofs.Prelude.{all_before, among_times, ap, arith, both_quiet, both_ways, call_of, false}
-use Rattle.pmd_laws.proofs.Prelude.{free_before, has_block, inl, inr, is_own, is_own-of_free, is_step, list_any}
-use Rattle.pmd_laws.proofs.Prelude.{no_fault_is_early, none_made, parts, receiving_apart, refl, ring_block_is}
-use Rattle.pmd_laws.proofs.Prelude.{ring_block_out, ring_blocks, ring_words, some_made, subst, sym, then_made}
-use Rattle.pmd_laws.proofs.Prelude.{times-append, times_among, times_in_hand, true, words_are_writes, writes_driven}
+use Rattle.pmd_laws.proofs.Prelude.{all_before, among_times, ap, append-nil, append_assoc, arith, both_quiet, both_ways}
+use Rattle.pmd_laws.proofs.Prelude.{call_of, false, free_before, harmless_apart, has_block, inl, inr, is_own}
+use Rattle.pmd_laws.proofs.Prelude.{is_own-of_free, is_step, lends, list_any, named, no_fault_is_early, none_made, on}
+use Rattle.pmd_laws.proofs.Prelude.{parts, receiving_apart, refl, ring_block_is, ring_block_out, ring_blocks}
+use Rattle.pmd_laws.proofs.Prelude.{ring_words, some_made, subst, sym, then_made, times-append, times_among}
+use Rattle.pmd_laws.proofs.Prelude.{times_in_hand, true, words_are_writes, writes_driven}
 use Rattle.nic_device.specs.declared.event.Event.TheVariants as event
 use Rattle.nic_device.specs.declared.event.Reply.TheVariants as reply
 
@@ -171,9 +171,16 @@ module _ (x : BeginsApart) where
       let quiet = f.on.receive.quiet in
       let at = last_before w origin p.front p.back p.both quiet.0 AtFirst
       (first_read w q origin h AtFirst old quiet.0 x.begins quiet.1) in
-      no_fault_once_on f.on (along_before w origin p.front p.back p.both x.along)
-      (λ done more e both own is. (at done more e both own is).0.ground) (is_own a)
-      (λ done more e both own is. (at done more e both own is).1)
+      let there : On (record x.course { h = p.front }) = record {
+        mid = f.mid;
+        v = f.empty;
+        t = f.sender;
+        up = f.on;
+        along = along_before w origin p.front p.back p.both x.along;
+        ground = λ done more e both own is. (at done more e both own is).0.ground;
+      } in
+      no_fault_led_on there (is_own a) (λ done more e both own is. (at done more e both own is).1)
       (others_before w.pass (is_own a) p.front p.back
       (subst (OnlyPassLends w.pass (is_own a)) (sym p.both) x.others))
-      (subst (FindsFault (is_own a) f.mid (first f)) (sym p.fronts) (found f))
+      (harmless_apart (is_own a) f.mid f.mid (first f) ([], sym (append-nil f.mid), tt)) (found f)
+      (p.fronts ∙ made_is (found f))

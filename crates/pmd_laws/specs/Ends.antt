@@ -1,6 +1,7 @@
 -- What a driver that lived, and was stopped, handed out and sent.
-use Rattle.std.specs.Prelude.{ℕ, ◌≡◌, List, [], ◌++◌, Option}
-use Rattle.driver_laws.specs.Prelude.{Numbers, State, calls_of, Watched, Call, Entry, left_accepted, left_handed, Rest, PmdFault, AtPort, delivered, bytes_of, sent_since}
+use Rattle.std.specs.Prelude.{◌≡◌, List, [], ◌++◌, Option}
+use Rattle.driver_laws.specs.Prelude.{calls_of, Call, left_accepted, left_handed, Rest, PmdFault, delivered, bytes_of, sent_since}
+use Rattle.pmd_laws.specs.Course.{Course}
 use Rattle.pmd_laws.specs.Prelude.{IsAlong, BeginsWell}
 use Rattle.pmd.specs.Life.{HasLived}
 use Rattle.driver_laws.specs.RingLaws.Delivered as receive
@@ -8,14 +9,8 @@ use Rattle.driver_laws.specs.RingLaws.Laws as transmit
 
 -- a driver that lived over a legal history of a sound device that leaves the queue alone, and was stopped
 pub record Ended : Type 0 where
-  pub w : Watched
-  pub origin : State
-  pub h : List Entry
-  pub q : AtPort
-  pub size : ℕ
-  pub frame : ℕ
-  pub old : List Call
-  pub a : Numbers
+  pub course : Course
+  pub open course use *
   pub new : List Call
   pub left : Rest
   pub late : Option PmdFault

@@ -1,7 +1,8 @@
 -- A driver's life as its calls tell it: what the clauses of `start`, `rx`, `tx`, `reap`, `rx_burst`, `tx_burst`,
 -- `packet` and `release` say of the driver, and of the calls that its pass made.
 use Rattle.std.specs.Prelude.{ℕ, ◌≡◌, ◌⊎◌, ⊤, List, [], ◌∷◌, ◌++◌}
-use Rattle.driver_laws.specs.Prelude.{Numbers, State, calls_of, Watched, Call, Entry, WhereUp, accepted_of, handed_of, Rings, Up, Down, AtPort, delivered, bytes_of, sent_since}
+use Rattle.driver_laws.specs.Prelude.{Numbers, calls_of, Call, Entry, WhereUp, accepted_of, handed_of, Rings, Up, Down, AtPort, delivered, bytes_of, sent_since}
+use Rattle.pmd_laws.specs.Course.{Course}
 use Rattle.pmd_laws.specs.Prelude.{IsAlong, BeginsWell}
 use Rattle.pmd.specs.Driver.{Driver}
 use Rattle.pmd.specs.Life.{RunsOn, KeepsHalves}
@@ -48,14 +49,8 @@ pub record IsTold (q : AtPort) (size frame : ℕ) (old : List Call) (a : Numbers
 
 -- over a legal history of a sound device that leaves the queue alone
 pub record Told : Type 0 where
-  pub w : Watched
-  pub origin : State
-  pub h : List Entry
-  pub q : AtPort
-  pub size : ℕ
-  pub frame : ℕ
-  pub old : List Call
-  pub a : Numbers
+  pub course : Course
+  pub open course use *
   pub m : Moment
   pub later : List Moment
   pub along : IsAlong w origin h

@@ -6,10 +6,10 @@ use Rattle.pmd_laws.proofs.Prelude.{Entry, HasGround, HasLived, IsAlong, IsFalse
 use Rattle.pmd_laws.proofs.Prelude.{Numbers, Option, Parts, PmdFault, Rest, Rx, Rxdctl, Sees, Sets, State, Tx, Up}
 use Rattle.pmd_laws.proofs.Prelude.{Watched, WentOn, ℕ, ap, append-nil, append_assoc, append_cancel_left, around}
 use Rattle.pmd_laws.proofs.Prelude.{both_ways, bytes_of, calls_joined, calls_of, delivered, extends, false, halted_of}
-use Rattle.pmd_laws.proofs.Prelude.{inl, inr, is_on, is_step, leads_to, left_accepted, left_handed, new_state}
-use Rattle.pmd_laws.proofs.Prelude.{one_begins, parts, quiet, sent_since, start_goes_on, subst, sym, true}
-use Rattle.pmd_laws.proofs.Shifted.{paired}
-use Rattle.pmd_laws.proofs.StartShifted.{prepared_shift, switched_shift}
+use Rattle.pmd_laws.proofs.Prelude.{inl, inr, is_on, is_step, leads_to, left, left_accepted, left_handed, new_state}
+use Rattle.pmd_laws.proofs.Prelude.{one_begins, parts, polled, quiet, receive_polled, sent_since, start_goes_on, subst}
+use Rattle.pmd_laws.proofs.Prelude.{sym, true}
+use Rattle.pmd_laws.proofs.DriverLaws.StopCalls.{prepared_adds}
 use Rattle.pmd_laws.proofs.DriverLaws.Histories.{leads-append}
 use Rattle.pmd_laws.proofs.DriverLaws.SwitchedOff.{quieting_leads}
 use Rattle.pmd_laws.proofs.StopCalls.{stopped_ends}
@@ -50,9 +50,12 @@ module _ (w : Watched) (fifo : ℕ) (h : List Entry) {q : AtPort} {size frame : 
 
   up_goes : GoesOn up.receive.mid up.on.mid
   up_goes =
-      let calls = paired (prepared_shift up.receive.prepared)
-      (paired (prepared_shift up.transmit.prepared)
-      (switched_shift q true 1000 up.both_made up.on.mid up.on.switched)) in (calls.since, calls.made)
+      let (one, is, any) = prepared_adds up.receive.prepared in
+      let (two, then, some) = prepared_adds up.transmit.prepared in
+      goes_on up.receive.mid up.ready_made up.on.mid (one, is)
+      (goes_on up.ready_made up.both_made up.on.mid (two, then)
+      (extends q (receive_polled true up.on.switched.0 ++ polled Tx true up.on.switched.1) up.both_made up.on.mid
+      up.on.switched.3))
 
   stop_goes : GoesOn lived.made new
   stop_goes =
@@ -97,14 +100,7 @@ module _ (w : Watched) (fifo : ℕ) (h : List Entry) {q : AtPort} {size frame : 
 
     abbrev ended : Ended
     ended = record {
-      w = w;
-      origin = origin;
-      h = h;
-      q = q;
-      size = size;
-      frame = frame;
-      old = old;
-      a = a;
+      course = record { w = w; origin = origin; h = h; q = q; size = size; frame = frame; old = old; a = a };
       new = new;
       left = left;
       late = late;

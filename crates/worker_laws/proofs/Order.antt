@@ -170,14 +170,16 @@ module _ (vfs fifo : ℕ) (h : List Entry) (j : Job) (e : WorkerEnd) (x : IsEndI
         let calls = calls_from e.pass.tag old u.done s in
         let since : List Call = s.steps ++ call_in s.first ∷ calls_of e.pass.tag s.behind in
         left_of_refused_is_prefix (record {
-          w = w;
-          origin = new_state vfs fifo;
-          h = u.done;
-          q = queue_of j;
-          size = j.size;
-          frame = j.frame;
-          old = old;
-          a = j.arena;
+          course = record {
+            w = w;
+            origin = new_state vfs fifo;
+            h = u.done;
+            q = queue_of j;
+            size = j.size;
+            frame = j.frame;
+            old = old;
+            a = j.arena;
+          };
           e = f;
           new = e.pass.calls;
           left = e.rest;

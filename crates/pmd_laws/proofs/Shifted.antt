@@ -1,16 +1,15 @@
 -- What the calls of a driver tell is told of the calls that were added alone: it holds behind whichever others. So it is
--- of what its halves were driven by, of a start, and of a stop.
+-- of what its halves were driven by, and of a start.
 use Rattle.pmd.specs.PmdRx.Filling.{StopsFilling}
 use Rattle.pmd.specs.PmdRx.Wrong.{EndsWrong}
-use Rattle.pmd_laws.proofs.Prelude.{[], ◌++◌, ◌∙◌, ◌∷◌, ◌≡◌, ◌⊎◌, Access, Adds, AreMade, AreMadeOf, AreUp, AtPort}
-use Rattle.pmd_laws.proofs.Prelude.{Block, Bool, Call, DeviceFault, Dir, DrivesRings, EndsOnceOff, Event, FaultsEarly}
-use Rattle.pmd_laws.proofs.Prelude.{FaultsFilling, IsAsking, IsEnding, IsMade, IsOtherwise, IsPrepared, IsReceiveReady}
-use Rattle.pmd_laws.proofs.Prelude.{IsStrayRead, IsSwitched, IsTransmitReady, LendsEach, List, Numbers, PlaysFrom}
-use Rattle.pmd_laws.proofs.Prelude.{PollsEnd, PreparingFails, Receive, ReceiveFails, Reply, RowId, Running, Rx, Rxdctl}
-use Rattle.pmd_laws.proofs.Prelude.{Sees, Sender, Sets, StopsBy, StopsLending, SwitchFails, TakesOnceOff, Tx, ℕ, ap}
-use Rattle.pmd_laws.proofs.Prelude.{append-nil, append_assoc, append_cancel_left, both_asked, both_quiet, call_of}
-use Rattle.pmd_laws.proofs.Prelude.{false, inl, inr, last, missed, named, not, on, polled, quiet, receive_polled, refl}
-use Rattle.pmd_laws.proofs.Prelude.{ring_words, subst, sym, true}
+use Rattle.pmd_laws.proofs.Prelude.{[], ◌++◌, ◌∙◌, ◌∷◌, ◌≡◌, ◌⊎◌, Access, Adds, AreMade, AreUp, AtPort, Block, Bool}
+use Rattle.pmd_laws.proofs.Prelude.{Call, DeviceFault, Dir, DrivesRings, Event, FaultsEarly, FaultsFilling, IsMade}
+use Rattle.pmd_laws.proofs.Prelude.{IsOtherwise, IsPrepared, IsReceiveReady, IsStrayRead, IsSwitched, IsTransmitReady}
+use Rattle.pmd_laws.proofs.Prelude.{LendsEach, List, Numbers, PlaysFrom, PollsEnd, PreparingFails, Receive}
+use Rattle.pmd_laws.proofs.Prelude.{ReceiveFails, Reply, RowId, Running, Rx, Rxdctl, Sees, Sender, Sets, StopsBy}
+use Rattle.pmd_laws.proofs.Prelude.{StopsLending, SwitchFails, Tx, ℕ, ap, append-nil, append_assoc, append_cancel_left}
+use Rattle.pmd_laws.proofs.Prelude.{both_asked, both_quiet, call_of, false, inl, inr, last, missed, named, not, place}
+use Rattle.pmd_laws.proofs.Prelude.{polled, quiet, receive_polled, refl, ring_words, subst, sym, true}
 
 -- some calls were added, of which this holds, whatever calls are before them
 pub record Shifts (R : List Call → List Call → Type 0) (old new : List Call) : Type 0 where
@@ -38,10 +37,16 @@ joined {T = T} {old = old} x y join = record {
 abbrev pub Shift : (List Call → List Call → Type 0) → Type 0
 Shift R = (old new : List Call) → R old new → Shifts R old new
 
+-- with a place amid the calls that is known behind others too
+abbrev pub ShiftAt : (R : List Call → List Call → Type 0) → ((o n : List Call) → R o n → List Call) → Type 0
+ShiftAt R place =
+    (old new : List Call) (x : R old new) → (at : List Call) × (place old new x ≡ old ++ at)
+    × Shifts (λ o n. (y : R o n) × (place o n y ≡ o ++ at)) old new
+
 none : Shift (λ o n. n ≡ o)
 none old new is = record { since = []; made = is ∙ sym (append-nil old); behind = λ front. append-nil front }
 
-then : {R S : List Call → List Call → Type 0} → Shift R → Shift S → Shift (λ o n. (m : List Call) × R o m × S m n)
+pub then : {R S : List Call → List Call → Type 0} → Shift R → Shift S → Shift (λ o n. (m : List Call) × R o m × S m n)
 then first second old new (mid, x, y) =
     joined (first old mid x) (second mid new y) (λ o m n r s. (m, r, s))
 
@@ -50,7 +55,7 @@ either first second old new (inl x) = mapped (first old new x) (λ o n r. inl r)
 either first second old new (inr y) = mapped (second old new y) (λ o n s. inr s)
 
 -- two things of the same calls
-pub both : {R S : List Call → List Call → Type 0} {old new : List Call} → Shifts R old new → Shifts S old new
+both : {R S : List Call → List Call → Type 0} {old new : List Call} → Shifts R old new → Shifts S old new
     → Shifts (λ o n. R o n × S o n) old new
 both {S = S} {old = old} x y =
     let same : y.since ≡ x.since = append_cancel_left old y.since x.since (sym y.made ∙ x.made) in
@@ -58,11 +63,8 @@ both {S = S} {old = old} x y =
     record { since = x.since; made = x.made; behind = λ front. (x.behind front, told front) }
 
 -- where they end is known behind others too
-abbrev pub At : (List Call → List Call → Type 0) → List Call → List Call → List Call → Type 0
-At R at o n = R o n × (n ≡ o ++ at)
-
 pub known : {R : List Call → List Call → Type 0} {old new : List Call} (x : Shifts R old new)
-    → Shifts (At R x.since) old new
+    → Shifts (λ o n. R o n × (n ≡ o ++ x.since)) old new
 known x = record { since = x.since; made = x.made; behind = λ front. (x.behind front, refl) }
 
 -- what shifts holds behind other calls, where the calls that were added are known
@@ -72,10 +74,7 @@ shifted {R = R} {old = old} x since front made =
     subst (λ (l : List Call). R front (front ++ l)) (append_cancel_left old x.since since (sym x.made ∙ made))
     (x.behind front)
 
--- calls of a kind, and calls as each half tells them
-
-pub of_kind : (P : Event Block → Type 0) → Shift (λ o n. AreMadeOf P o n)
-of_kind P old new (calls, is, are) = record { since = calls; made = is; behind = λ front. (calls, refl, are) }
+-- a call, and calls as each half tells them
 
 adds : (e : Event Block) (reply : Reply Block) → Shift (λ o n. Adds o n e reply)
 adds e reply old new (before, made, steps) =
@@ -113,9 +112,7 @@ module _ (q : AtPort) where
   accesses (a ∷ rest) = then (access a) (accesses rest)
 
   -- those by which both sides are seen off, with the place behind the first
-  quieted : (old new : List Call) (x : AreMade q old new both_quiet)
-      → (at : List Call) × (x.0 ≡ old ++ at)
-      × Shifts (λ o n. (y : AreMade q o n both_quiet) × (y.0 ≡ o ++ at)) old new
+  quieted : ShiftAt (λ o n. AreMade q o n both_quiet) (λ o n y. y.0)
   quieted old new (mid, one, more) =
       let first = access (Sees Rxdctl false) old mid one in (
         first.since,
@@ -124,7 +121,7 @@ module _ (q : AtPort) where
             (λ o m n x y. ((m, x.0, y), x.1)),
       )
 
-  switched : (on : Bool) (polls : ℕ) → Shift (λ o n. IsSwitched q o n on polls)
+  pub switched : (on : Bool) (polls : ℕ) → Shift (λ o n. IsSwitched q o n on polls)
   switched on polls old new (first, second, few, made) =
       mapped (accesses (receive_polled on first ++ polled Tx on second) old new made) (λ o n x. (first, second, few, x))
 
@@ -171,10 +168,8 @@ transmit q size frame a b v old new x =
     (λ o n y. record { ring = x.ring; prepared = y; tail = x.tail; named = x.named; fresh = x.fresh })
 
 -- the receive ring, with the place behind its first access
-receive_at : (q : AtPort) (size frame : ℕ) (a b : Numbers) (v : Receive) (old new : List Call)
-    (x : IsReceiveReady q size frame old a new b v)
-    → (at : List Call) × (x.quiet.0 ≡ old ++ at)
-    × Shifts (λ o n. (y : IsReceiveReady q size frame o a n b v) × (y.quiet.0 ≡ o ++ at)) old new
+receive_at : (q : AtPort) (size frame : ℕ) (a b : Numbers) (v : Receive)
+    → ShiftAt (λ o n. IsReceiveReady q size frame o a n b v) (λ o n y. y.quiet.0)
 receive_at q size frame a b v old new x =
     let (at, is, quiet) = quieted q old x.mid x.quiet in (
       at,
@@ -255,9 +250,7 @@ filling a b v w old new x =
 -- a start, with the place behind its first access
 
 module _ (q : AtPort) (size frame : ℕ) (a : Numbers) where
-  pub up_shift : (r : Running) (old new : List Call) (x : AreUp q size frame old a new r)
-      → (at : List Call) × (x.receive.quiet.0 ≡ old ++ at)
-      × Shifts (λ o n. (y : AreUp q size frame o a n r) × (y.receive.quiet.0 ≡ o ++ at)) old new
+  pub up_shift : (r : Running) → ShiftAt (λ o n. AreUp q size frame o a n r) (λ o n y. y.receive.quiet.0)
   up_shift r old new x =
       let (at, is, ready) = receive_at q size frame a x.ready_arena x.empty old x.ready_made x.receive in
       let rest =
@@ -352,19 +345,3 @@ module _ (q : AtPort) (size frame : ℕ) (a : Numbers) where
 
   pub fault_shift : Shift (λ o n. FaultsEarly q size frame o a n ⊎ FaultsFilling q size frame o a n)
   fault_shift = either early late
-
--- a stop: where both sides were off
-
-pub once_off_shift : {q : AtPort} {old new : List Call} (x : EndsOnceOff q old new)
-    → (at : List Call) × (x.off ≡ old ++ at) × Shifts (λ o n. (y : EndsOnceOff q o n) × (y.off ≡ o ++ at)) old new
-once_off_shift {q = q} {old = old} {new = new} x =
-    let off = then (of_kind (IsAsking q)) (switched q false 1000) old x.off (x.mid, x.asks, x.switched) in (
-      off.since,
-      off.made,
-      joined (known off) (of_kind (IsEnding q) x.off new x.ends) (λ o m n y ends.
-          (record { mid = y.0.0; off = m; asks = y.0.1; switched = y.0.2; ends = ends }, y.1)),
-    )
-
-pub takes_shift : (q : AtPort) → Shift (λ o n. TakesOnceOff q o n)
-takes_shift q old new (inl asks) = mapped (of_kind (IsAsking q) old new asks) (λ o n x. inl x)
-takes_shift q old new (inr x) = let (at, is, shifts) = once_off_shift x in mapped shifts (λ o n y. inr y.0)

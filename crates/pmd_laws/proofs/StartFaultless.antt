@@ -16,7 +16,7 @@ use Rattle.pmd_laws.proofs.Prelude.{IsMade, IsOtherwise, IsQuietAndFresh, List, 
 use Rattle.pmd_laws.proofs.Prelude.{ReceiveFails, Reply, Rx, Rxdctl, Sees, Sets, State, StopsBy, Tx, Watched, ℕ}
 use Rattle.pmd_laws.proofs.Prelude.{all_before, among_times, ap, append-nil, append_assoc, arith, both_quiet, both_ways}
 use Rattle.pmd_laws.proofs.Prelude.{call_of, false, free_before, harmless_apart, has_block, inl, inr, is_own}
-use Rattle.pmd_laws.proofs.Prelude.{is_own-of_free, is_step, lends, list_any, named, no_fault_is_early, none_made, on}
+use Rattle.pmd_laws.proofs.Prelude.{is_own-of_free, is_step, lends, list_any, named, no_fault_is_early, none_made}
 use Rattle.pmd_laws.proofs.Prelude.{parts, receiving_apart, refl, ring_block_is, ring_block_out, ring_blocks}
 use Rattle.pmd_laws.proofs.Prelude.{ring_words, some_made, subst, sym, then_made, times-append, times_among}
 use Rattle.pmd_laws.proofs.Prelude.{times_in_hand, true, words_are_writes, writes_driven}

@@ -2,8 +2,8 @@ use Rattle.pmd_laws.specs.BesideStop.{IsStoppedBeside}
 use Rattle.pmd_laws.proofs.Beside.{own_life, rings_up}
 use Rattle.pmd_laws.proofs.Prelude.{◌++◌, ◌∙◌, ◌≡◌, Beside, Call, IsEnding, IsStopping, List, ap, append_cancel_left}
 use Rattle.pmd_laws.proofs.Prelude.{now, refl, same_delivers, same_sends, sym}
-use Rattle.pmd_laws.proofs.Shifted.{of_kind, once_off_shift, shifted, takes_shift}
-use Rattle.pmd_laws.proofs.StopCalls.{first_made, first_takes}
+use Rattle.pmd_laws.proofs.Shifted.{shifted}
+use Rattle.pmd_laws.proofs.StopCalls.{first_made, first_takes, of_kind, once_off_shift, takes_shift}
 use Rattle.pmd_laws.proofs.Stopped.{handed_over_stop, sent_over_stop, silent_off}
 use Rattle.pmd_laws.proofs.driver_beside_any_calls_stops_in_order.Goals as goal
 
@@ -31,7 +31,7 @@ returns c = record {
       (takes_shift x.q made (made ++ y.since)
       (first_takes x.q made (made ++ y.since) new y.since y.rest refl y.made takes)) y.since x.own refl));
   silent = λ x new y z off there done rest early all is same.
-      let (at, was, shifts) = once_off_shift z in
+      let (at, was, shifts) = once_off_shift x.q (now x).made ((now x).made ++ y.since) z in
       let now = shifted shifts y.since x.own refl in
       let places : off ≡ at = append_cancel_left _ off at (sym there ∙ was) in
       let quiet = silent_off (own_life x) (x.own ++ y.since) (stopping x new y) now.0 done rest all

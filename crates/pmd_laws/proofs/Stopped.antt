@@ -2,6 +2,7 @@
 -- what device and driver agree on stands while the driver asks for its sides to be off; and once both are, nothing goes
 -- on there.
 use Rattle.driver_laws.proofs.Ground.{ground_names}
+use Rattle.driver_laws.proofs.Parts.{more_some}
 use Rattle.driver_laws.proofs.Meeting.{Meets, enable_words_keep, neither_keeps}
 use Rattle.driver_laws.proofs.RingLaws.Delivering.{grows}
 use Rattle.driver_laws.proofs.RingLaws.Foreign.{no_registers}
@@ -24,10 +25,10 @@ use Rattle.pmd_laws.proofs.Prelude.{IsSilent, IsStopping, IsTrue, KeptOver, Lead
 use Rattle.pmd_laws.proofs.Prelude.{Rx, Settles, Some, State, TakesOnceOff, Tx, Watched, WritesOutside, ℕ, after}
 use Rattle.pmd_laws.proofs.Prelude.{all_lead, ap, append-nil, append_assoc, both_ways, bytes_of, calls_of, cond}
 use Rattle.pmd_laws.proofs.Prelude.{delivered, drop, enable_row, ending_plain, false, free_left, ground_kept, has_bit}
-use Rattle.pmd_laws.proofs.Prelude.{inl, inr, left, left_settles, lent_before, lent_by, mode_in, named, now}
-use Rattle.pmd_laws.proofs.Prelude.{option_map, packets_if_any, parts, pieces, pieces_since, plain_keeps}
-use Rattle.pmd_laws.proofs.Prelude.{reached, reached_next, refl, reply_to, sent_by, sent_is_counted, sent_since}
-use Rattle.pmd_laws.proofs.Prelude.{since-append, subst, sym, vfs_stays}
+use Rattle.pmd_laws.proofs.Prelude.{inl, inr, left, left_settles, lent_before, lent_by, mode_in, named, now, option_map}
+use Rattle.pmd_laws.proofs.Prelude.{packets_if_any, parts, pieces, pieces_since, plain_keeps, reached}
+use Rattle.pmd_laws.proofs.Prelude.{reached_next, refl, reply_to, sent_by, sent_is_counted, sent_since, since-append}
+use Rattle.pmd_laws.proofs.Prelude.{subst, sym, vfs_stays}
 use Rattle.pmd_laws.proofs.StopCalls.{off_asks}
 use Rattle.pmd_laws.specs.Stopped as stopped
 use Rattle.driver_laws.proofs.RingLaws.HistoryLaws.Steady as steady
@@ -194,10 +195,6 @@ module _ (w : Watched) (origin : State) (q : AtPort) (frame : ℕ) where
           (asked_next vfs done e.event met made (subst (λ (n : Call). IsAsking q n.event) (sym same) own)
           (subst (WritesOutside w.queue mine) told steps) x)
 
-some_more : (xs ys : List Call) → xs ≢ [] → xs ++ ys ≢ []
-some_more [] ys some none = some refl
-some_more (x ∷ xs) ys some none = cc
-
 -- what is lent by calls stays so
 more_lent : (pass : ℕ) (g h : List Entry) (k : Halves) → AreLent (lent_by pass g) k → AreLent (lent_by pass (g ++ h)) k
 more_lent pass g h k x = record {
@@ -211,8 +208,8 @@ more_lent pass g h k x = record {
 made_some : (x : Life) → x.made ≢ []
 made_some x none =
     let on = x.is.up.on in
-    some_more x.started x.is.since.1
-    (λ first. some_more on.mid on.plays.plays.1 (some_on (ran x).there) (sym on.plays.plays.2 ∙ first))
+    more_some x.started x.is.since.1
+    (λ first. more_some on.mid on.plays.plays.1 (some_on (ran x).there) (sym on.plays.plays.2 ∙ first))
     (sym x.is.since.2 ∙ none)
 
 module _ (x : Life) (new : List Call) (y : IsStopping x new) where
@@ -259,7 +256,7 @@ module _ (x : Life) (new : List Call) (y : IsStopping x new) where
       (drop f k.transmit.outstanding) k.transmit.accepted agrees.sends
 
   some_asked : (now : List Call) → Asks q made now → now ≢ []
-  some_asked now (calls, is, each) none = some_more made calls (made_some x) (sym is ∙ none)
+  some_asked now (calls, is, each) none = more_some made calls (made_some x) (sym is ∙ none)
 
   -- once both sides are off nothing more is received or sent
   pub silent_off : (z : EndsOnceOff q made new) (done rest : List Entry) → done ++ rest ≡ h

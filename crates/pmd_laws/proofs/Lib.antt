@@ -6,7 +6,6 @@ pub mod FullRing
 pub mod InHand
 pub mod Laid
 pub mod Lent
-pub mod Looks
 pub mod NoFault
 pub mod Order
 pub mod Places

@@ -7,7 +7,7 @@ use Rattle.driver_laws.proofs.Healthy.{no_fault}
 use Rattle.driver_laws.specs.Faults.{doers_of}
 use Rattle.pmd_laws.specs.Told.{now}
 use Rattle.pmd_laws.proofs.Lent.{known_at, others_before, others_behind, short_at, short_by}
-use Rattle.pmd_laws.proofs.Looks.{added, added_is}
+use Rattle.pmd_laws.proofs.Told.{added, added_is, goes, led, life, up_next}
 use Rattle.pmd_laws.proofs.Order.{On, begun, driven_by, first, last_before, on_before}
 use Rattle.pmd_laws.proofs.Prelude.{[], ◌++◌, ◌∙◌, ◌∷◌, ◌≡◌, AllLendApart, AllOwn, AreShort, BeforeLast, Blocks, Call}
 use Rattle.pmd_laws.proofs.Prelude.{Course, DeviceFault, Doer, DrivesApart, DrivesRings, Elsewhere, Entry, FailedAmid}
@@ -19,7 +19,6 @@ use Rattle.pmd_laws.proofs.Prelude.{append_cancel_left, both_own, call_of, calls
 use Rattle.pmd_laws.proofs.Prelude.{halves_of, harmless_both, is_healthy, is_neither, is_own, leads_to, left, met_by}
 use Rattle.pmd_laws.proofs.Prelude.{others_harmless, others_own, others_played, own_length, parts, played_by, refl}
 use Rattle.pmd_laws.proofs.Prelude.{subst, sym}
-use Rattle.pmd_laws.proofs.Told.{goes, led, life, up_next}
 
 -- a call whose reply no healthy queue gives is a half's
 sick_own : (h : Halves) (d : Doer) (n : Call) → is_healthy h d n ≡ false → is_neither d ≡ false

@@ -1,16 +1,194 @@
--- A driver's life as its calls tell it is a life: it runs on, over calls as they are told, and harmless ones between.
+-- A call of a driver that looks last and finds no packet whole, or the oldest outstanding one not done, within a longer
+-- history. What the call tells may be told behind other calls: what it added comes behind a life. And a driver's life
+-- as its calls tell it is a life: it runs on, over calls as they are told, and harmless ones between.
+use Rattle.driver_laws.proofs.InOrder.{none_is_all_before, waiting_is_not_all}
+use Rattle.pmd.specs.PmdRx.Plays.{LooksInVain}
+use Rattle.pmd_laws.specs.Looks.{EndsAt, NoneIsAllAtFirst, NoneIsAllBefore}
+use Rattle.pmd_laws.proofs.Order.{Ran, begun, counted, driven, first, handed, idle, in_parts, last as last_there}
+use Rattle.pmd_laws.proofs.Order.{life_before, none, ran, sent_first, whole}
+use Rattle.pmd_laws.proofs.Prelude.{[], ◌++◌, ◌∙◌, ◌∷◌, ◌≡◌, ◌≢◌, Adds, AddsHarmless, AllFollow, AtPort, Block, Blocks}
+use Rattle.pmd_laws.proofs.Prelude.{Call, Down, Drives, Entry, Event, FindsNone, FindsWaiting, Follows, Halves}
+use Rattle.pmd_laws.proofs.Prelude.{HasNoneOut, IsLegal, IsTold, Leads, LeadsApart, Life, List, Lives, LooksLast}
+use Rattle.pmd_laws.proofs.Prelude.{Moment, Numbers, OwnsSame, Parts, Receive, Reply, Rings, Running, Sender, State}
+use Rattle.pmd_laws.proofs.Prelude.{Told, Up, WaitingIsNotAllAsTold, WaitingIsNotAllBefore, WhereUp, ℕ, accepted_of, ap}
+use Rattle.pmd_laws.proofs.Prelude.{apart_leads_on, append-nil, append_assoc, append_cancel_left, bytes_of, call_in}
+use Rattle.pmd_laws.proofs.Prelude.{call_of, calls_joined, calls_of, delivered, driven_apart, drives_lead, first_of}
+use Rattle.pmd_laws.proofs.Prelude.{halves_of, handed_of, harmless_apart, harmless_lead, inl, inr, is_own, last}
+use Rattle.pmd_laws.proofs.Prelude.{leads_on, leads_to, legal_behind, played_by, receiving_drives, refl, reply_to}
+use Rattle.pmd_laws.proofs.Prelude.{same_from_push, sending_drives, sent_since, steps_harmless, subst, sym}
 use Rattle.pmd.proofs.Both.{rings_still}
 use Rattle.pmd.specs.Driver.{Driver}
 use Rattle.pmd_laws.specs.Told.{now}
 use Rattle.pmd_laws.proofs.Begun.{all_apart, fresh_own}
-use Rattle.pmd_laws.proofs.Looks.{none_before, none_first, vain_is, waiting_first, waiting_is}
-use Rattle.pmd_laws.proofs.Order.{Ran, begun, handed, idle, ran, sent_first}
-use Rattle.pmd_laws.proofs.Prelude.{[], ◌∙◌, ◌∷◌, ◌≡◌, AllFollow, AtPort, Blocks, Call, Down, Follows, Halves}
-use Rattle.pmd_laws.proofs.Prelude.{HasNoneOut, IsTold, LeadsApart, Life, List, Lives, Moment, Numbers, OwnsSame, Rings}
-use Rattle.pmd_laws.proofs.Prelude.{Running, Told, Up, WaitingIsNotAllAsTold, WhereUp, ℕ, accepted_of, ap}
-use Rattle.pmd_laws.proofs.Prelude.{apart_leads_on, append-nil, bytes_of, driven_apart, first_of, halves_of, handed_of}
-use Rattle.pmd_laws.proofs.Prelude.{harmless_apart, inl, inr, is_own, last, refl, subst, sym}
 use Rattle.pmd_laws.specs.Told as told
+
+-- a later place of a life's history, to which its calls led its halves
+module _ (x : Life) (late rest : List Entry) (split : late ++ rest ≡ x.h) {then : Halves}
+    (goes : Leads x.started (halves_of x.r) (calls_of x.w.pass late) then) where
+  open x use {w, origin, k}
+
+  abbrev later : Life
+  later = life_before x late rest split (calls_of w.pass late) then goes
+
+  -- and an earlier one, behind which its halves were as they are
+  module _ (early more : List Entry) (all : early ++ more ≡ late) (is : AddsHarmless x.made (calls_of w.pass early))
+    where
+      abbrev sooner : Life
+      sooner =
+          life_before x early (more ++ rest)
+          (sym (append_assoc early more rest) ∙ ap (λ (es : List Entry). es ++ rest) all ∙ split) (calls_of w.pass early)
+          k
+          (leads_on x.started x.made (calls_of w.pass early) (halves_of x.r) k k x.is.since
+          (harmless_lead x.made (calls_of w.pass early) k is))
+
+      abbrev p : Parts w.pass early x.is.up.on.mid (whole sooner).1
+      p = in_parts (ran sooner) refl
+
+      joined : p.front ++ (p.back ++ more) ≡ late
+      joined = sym (append_assoc p.front p.back more) ∙ ap (λ (es : List Entry). es ++ more) p.both ∙ all
+
+      -- both begin as the sides went on
+      abbrev p_late : Parts w.pass late x.is.up.on.mid (whole later).1
+      p_late = record {
+        front = p.front;
+        back = p.back ++ more;
+        both = joined;
+        fronts = p.fronts;
+        backs =
+            append_cancel_left x.is.up.on.mid (calls_of w.pass (p.back ++ more)) (whole later).1
+            (ap (λ (cs : List Call). cs ++ calls_of w.pass (p.back ++ more)) (sym p.fronts)
+            ∙ sym (calls_joined w.pass p.front (p.back ++ more)) ∙ ap (calls_of w.pass) joined ∙ (whole later).2);
+      }
+
+      -- what is so of the halves and of the device later is so in parts
+      late_is : (P : Halves → State → Type 0) → P then (leads_to origin late)
+          → P (played_by (first (begun x)) (whole later).0 (calls_of w.pass (p.back ++ more)))
+          (leads_to origin (p.front ++ (p.back ++ more)))
+      late_is P holds =
+          subst (λ (z : Halves). P z (leads_to origin (p.front ++ (p.back ++ more)))) (sym (last_there (ran later) p_late))
+          (subst (λ (es : List Entry). P then (leads_to origin es)) (sym joined) holds)
+
+      -- where a look there finds none, and hands out nothing, all was handed out that was delivered before
+      none_sooner : FindsNone (leads_to origin late) then.receive → then.receive.handed ≡ k.receive.handed
+          → k.receive.handed ≡ delivered w.queue origin early
+      none_sooner finds same =
+          let here = last_there (ran sooner) p in
+          ap (λ (z : Halves). z.receive.handed) (sym here)
+          ∙ none_is_all_before w origin p.front p.back more (first (begun x)) (whole sooner).0 (whole later).0
+          (driven (ran sooner) p) (driven (ran later) p_late) (late_is (λ z s. FindsNone s z.receive) finds)
+          (ap (λ (z : Halves). z.receive.handed) (last_there (ran later) p_late) ∙ same
+          ∙ ap (λ (z : Halves). z.receive.handed) (sym here))
+          ∙ ap (delivered w.queue origin) p.both
+
+      -- and where it finds one waiting, not all was sent before
+      waiting_sooner : FindsWaiting (leads_to origin late) then.transmit
+          → bytes_of then.transmit.accepted ≢ sent_since w.queue origin [] early
+      waiting_sooner finds same =
+          waiting_is_not_all w origin p.front p.back more (first (begun x)) (whole later).0 (driven (ran later) p_late)
+          (late_is (λ z s. FindsWaiting s z.transmit) finds)
+          (ap (λ (z : Halves). bytes_of z.transmit.accepted) (last_there (ran later) p_late) ∙ same ∙ counted (ran sooner) p)
+
+-- calls that drive halves on were added, and then one call more
+module _ (old : List Call) {h k : Halves} {mid new : List Call} (e : Event Block) (reply : Reply Block)
+    (drives : Drives old h mid k) (adds : Adds mid new e reply) where
+  abbrev pub added : List Call
+  added = drives.1 ++ (adds.0 ++ call_of e reply ∷ [])
+
+  pub added_is : new ≡ old ++ added
+  added_is =
+      adds.1 ∙ ap (λ (l : List Call). l ++ (adds.0 ++ call_of e reply ∷ [])) drives.2
+      ∙ append_assoc old drives.1 (adds.0 ++ call_of e reply ∷ [])
+
+-- behind a life, at an entry of the history, where whatever was added comes behind the calls of that life
+module _ (x : Life) (old : List Call) {mid new now : List Call} (e : Event Block) (reply : Reply Block)
+    {then : Halves} (drives : Drives old x.k mid then) (adds : Adds mid new e reply) (at : EndsAt x.w.pass x.h now)
+    (behind : (since : List Call) → new ≡ old ++ since → now ≡ x.made ++ since) where
+  abbrev till : List Call
+  till = (x.made ++ drives.1) ++ adds.0
+
+  ends : (calls_of x.w.pass at.before ≡ till) × (call_in at.entry ≡ call_of e reply)
+  ends =
+      let last : List Call = call_of e reply ∷ [] in
+      same_from_push (calls_of x.w.pass at.before) till (call_in at.entry) (call_of e reply)
+      (at.made ∙ behind (added old e reply drives adds) (added_is old e reply drives adds)
+      ∙ sym (append_assoc x.made drives.1 (adds.0 ++ last)) ∙ sym (append_assoc (x.made ++ drives.1) adds.0 last))
+
+  -- the life goes on up to it
+  goes_up : Leads x.started (halves_of x.r) (calls_of x.w.pass at.before) then
+  goes_up =
+      let mine : List Call = x.made ++ drives.1 in
+      subst (λ (cs : List Call). Leads x.started (halves_of x.r) cs then) (sym ends.0)
+      (leads_on x.started mine till (halves_of x.r) then then
+      (leads_on x.started x.made mine (halves_of x.r) x.k then x.is.since
+      (drives_lead x.made mine x.k then (drives.0, drives.1, refl, drives.3, drives.4, drives.5)))
+      (harmless_lead mine till then (adds.0, refl, steps_harmless adds.0 adds.2)))
+
+  -- and the device answers it
+  answered : reply_to (leads_to x.origin at.before) e ≡ reply
+  answered =
+      let here = leads_to x.origin at.before in
+      let legal = legal_behind x.origin at.before (at.entry ∷ at.behind)
+      (subst (IsLegal x.origin) (sym at.all) x.is.along.legal) in
+      ap (λ (d : Call). reply_to here d.event) (sym ends.1) ∙ sym legal.0 ∙ ap (λ (d : Call). d.reply) ends.1
+
+-- a look in vain, and one that finds a packet waiting
+
+module _ (x : Life) {old new now : List Call} (at : EndsAt x.w.pass x.h now)
+    (behind : (since : List Call) → new ≡ old ++ since → now ≡ x.made ++ since) where
+  open x use {w, origin, k}
+
+  module _ {v : Receive} (y : LooksInVain old k.receive new v) where
+    abbrev vain : Drives old k y.mid (record k { receive = v })
+    vain = receiving_drives old y.mid k (record k { receive = v }) y.looks refl
+
+    abbrev vain_goes : Leads x.started (halves_of x.r) (calls_of w.pass at.before) (record k { receive = v })
+    vain_goes = goes_up x old _ _ vain y.last at behind
+
+    finds : FindsNone (leads_to origin at.before) v
+    finds = record {
+      shows = record {
+        looks = y.stage;
+        posted = y.posted;
+        bytes = y.bytes;
+        waits = y.waits;
+        reply = answered x old _ _ vain y.last at behind;
+      };
+      none_whole = y.none_whole;
+    }
+
+    -- looks hand out nothing
+    same : v.handed ≡ k.receive.handed
+    same = ap (λ (z : Receive). z.handed) y.left
+
+    pub none_before : k.receive.handed ≡ delivered w.queue origin at.before
+    none_before = sym same ∙ none (ran (later x at.before (at.entry ∷ at.behind) at.all vain_goes)) refl finds
+
+    pub none_first : (early more : List Entry) → early ++ more ≡ at.before → AddsHarmless x.made (calls_of w.pass early)
+        → k.receive.handed ≡ delivered w.queue origin early
+    none_first early more all is =
+        none_sooner x at.before (at.entry ∷ at.behind) at.all vain_goes early more all is finds same
+
+  pub waiting_first : {v : Sender} → LooksLast old k.transmit new v → (early more : List Entry)
+      → early ++ more ≡ at.before → AddsHarmless x.made (calls_of w.pass early)
+      → bytes_of k.transmit.accepted ≢ sent_since w.queue origin [] early
+  waiting_first y early more all is sent =
+      let drives = sending_drives old y.mid k (record k { transmit = y.before }) y.plays refl in
+      waiting_sooner x at.before (at.entry ∷ at.behind) at.all (goes_up x old _ _ drives y.looks at behind) early more all is
+      (record {
+        bytes = y.bytes;
+        posted = y.posted;
+        waits = y.waits;
+        told = answered x old _ _ drives y.looks at behind;
+      }) (ap bytes_of y.accepted ∙ sent)
+
+pub none_before_look : NoneIsAllBefore
+none_before_look x new v y = none_before x y.look (λ since is. is) y.looks
+
+pub none_at_first : NoneIsAllAtFirst
+none_at_first x new v y = none_first x y.look (λ since is. is) y.looks
+
+pub waiting_before_look : WaitingIsNotAllBefore
+waiting_before_look x new v y = waiting_first x y.look (λ since is. is) y.looks
 
 -- a driver runs, and by the numbers of an arena, which it keeps, its halves were led there behind some calls
 pub record RunsOn (a : Numbers) (old : List Call) (h : Halves) (n : Moment) : Type 0 where
@@ -120,15 +298,15 @@ idle_as_told x lived none =
 pub none_as_told : told.NoneIsAllBefore
 none_as_told x n y =
     let (s, up, looks) = up_next _ (now x).driver.rings n.driver.rings (goes x).rings (goes x).up y.looks in
-    ap handed_of (goes x).up ∙ none_before (life x) looks y.look (vain_is (life x).k looks)
+    ap handed_of (goes x).up ∙ none_before (life x) y.look (λ since is. is) looks
 
 pub none_at_first_as_told : told.NoneIsAllAtFirst
 none_at_first_as_told x n y before more all is =
     let (s, up, looks) = up_next _ (now x).driver.rings n.driver.rings (goes x).rings (goes x).up y.looks in
-    ap handed_of (goes x).up ∙ none_first (life x) looks y.look (vain_is (life x).k looks) before more all is
+    ap handed_of (goes x).up ∙ none_first (life x) y.look (λ since is. is) looks before more all is
 
 pub waiting_as_told : WaitingIsNotAllAsTold
 waiting_as_told x n y before more all is same =
     let (s, up, looks) = up_next _ (now x).driver.rings n.driver.rings (goes x).rings (goes x).up y.waits in
-    waiting_first (life x) looks y.look (waiting_is (life x).k looks) before more all is
+    waiting_first (life x) y.look (λ since is. is) looks before more all is
     (ap (λ (z : Rings). bytes_of (accepted_of z)) (sym (goes x).up) ∙ same)

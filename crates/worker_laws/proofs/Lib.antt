@@ -1,4 +1,3 @@
-pub mod FirstCalls
 pub mod Lived
 pub mod Order
 pub mod Settings

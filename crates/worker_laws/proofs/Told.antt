@@ -1,12 +1,25 @@
--- What the entries of a history tell is so of the device: which blocks are lent, and how long frames are. So where they
--- say that others lend none of a driver's blocks, or that frames fit its packets, that is so as it starts.
+-- The first event of a driver's own, and the calls from it on: what is so just before it is so for the laws of its
+-- driver. What the entries of a history tell is so of the device there: which blocks are lent, and how long frames are.
+use Rattle.workers.specs.Starts.{Starts}
+use Rattle.pmd_laws.proofs.DriverLaws.Made.{AddsCall, made_by}
+use Rattle.pmd_laws.proofs.Prelude.{[], ◌&&◌, ◌++◌, ◌+◌, ◌<◌, ◌==◌, ◌||◌, ◌∙◌, ◌∷◌, ◌≡◌, ◌≤◌, All, AreEvents, AtPort}
+use Rattle.pmd_laws.proofs.Prelude.{BeforeLast, Block, Blocks, Bool, Call, Entry, Err, Event, FitsBlocks, IsEvent}
+use Rattle.pmd_laws.proofs.Prelude.{IsFalse, IsLegal, IsMade, LendsNone, List, NoneLent, Ok, OnlyLent, OnlyPassLends}
+use Rattle.pmd_laws.proofs.Prelude.{Reply, RowId, Rx, Rxdctl, Sees, State, Waiting, Watched, ℕ, ⊤, after, and_from}
+use Rattle.pmd_laws.proofs.Prelude.{and_parts, ap, append_assoc, arith, both_ways, call_in, calls_joined, calls_of}
+use Rattle.pmd_laws.proofs.Prelude.{calls_own, either_way, eq-eqb, eqb-true, events_before, false, has_block, has_queue}
+use Rattle.pmd_laws.proofs.Prelude.{inl, inr, is_own, is_some, is_step, leads_to, legal_before, lends, length}
+use Rattle.pmd_laws.proofs.Prelude.{lent_cases, lt-ltb, max, mode_in, most_blocks, nat_cmp, nat_lt, new_state}
+use Rattle.pmd_laws.proofs.Prelude.{not-true, or_cases, or_left, or_right, refl, reply_to, same_from_push}
+use Rattle.pmd_laws.proofs.Prelude.{subst, sym, taken_cases, true}
+use Rattle.worker_laws.specs.Points.{HoldsAtFirst, JustBefore}
 use Rattle.nic_device.specs.Sound.{IsLendable}
 use Rattle.nic_device.specs.Step.{step_of}
 use Rattle.nic_device.specs.declared.event.Reply.TheVariants.{Buf}
 use Rattle.workers.specs.Before.{known_through}
-use Rattle.workers.specs.Lending.{lent_behind, no_block, takes}
+use Rattle.workers.specs.Lending.{lends_none, lent_behind, lent_through, no_block, takes}
 use Rattle.pmd_laws.specs.DriverLaws.RingLaws.HistoryLaws.Lent.{with_lent, without}
-use Rattle.pmd_laws.proofs.DriverLaws.HistoryLaws.Lent.{only_lent_stays}
+use Rattle.pmd_laws.proofs.DriverLaws.HistoryLaws.Lent.{only_lent_stays, waiting_changed}
 use Rattle.std.proofs.Math.Nat.{le-max_left, le-max_right}
 use Rattle.std.proofs.lemmas.List.Elements.{All-cons, All-filter, All-head, All-nil, All-push, All-tail, All-weaker}
 use Rattle.std.specs.Prelude.{Result, not}
@@ -19,22 +32,82 @@ use Rattle.nic_device.specs.RxFilter.declared.target.Target.{Target}
 use Rattle.nic_device.specs.RxFilter.declared.unwanted.Unwanted.{Unwanted}
 use Rattle.nic_device.specs.Switching.{without_part}
 use Rattle.workers.specs.Fitting.{let_in_by, longest_behind, longest_let_in}
-use Rattle.pmd_laws.proofs.DriverLaws.HistoryLaws.Lent.{waiting_changed}
 use Rattle.worker_laws.specs.Fitting.{AllFitBlocks, FramesFitIsShort}
-use Rattle.worker_laws.proofs.FirstCalls.{holds_at_first}
-use Rattle.workers.specs.Lending.{lends_none, lent_through}
 use Rattle.worker_laws.specs.Lending.{OthersLendNoneIsAlone}
-use Rattle.pmd_laws.proofs.Prelude.{[], ◌&&◌, ◌+◌, ◌<◌, ◌==◌, ◌||◌, ◌∷◌, ◌≡◌, ◌≤◌, All, AreEvents, Block, Blocks, Bool}
-use Rattle.pmd_laws.proofs.Prelude.{Entry, Err, Event, FitsBlocks, IsEvent, IsLegal, LendsNone, List, NoneLent, Ok}
-use Rattle.pmd_laws.proofs.Prelude.{OnlyLent, OnlyPassLends, Reply, Rx, State, Waiting, ℕ, ⊤, after, and_from}
-use Rattle.pmd_laws.proofs.Prelude.{and_parts, ap, arith, both_ways, either_way, eq-eqb, eqb-true, events_before, false}
-use Rattle.pmd_laws.proofs.Prelude.{has_block, has_queue, inl, inr, is_own, is_some, leads_to, legal_before, lends}
-use Rattle.pmd_laws.proofs.Prelude.{length, lent_cases, lt-ltb, max, mode_in, most_blocks, nat_cmp, nat_lt, new_state}
-use Rattle.pmd_laws.proofs.Prelude.{not-true, or_cases, or_left, or_right, refl, reply_to, subst, sym}
-use Rattle.pmd_laws.proofs.Prelude.{taken_cases, true}
 use Rattle.nic_device.specs.declared.event.Event.TheVariants as event
 use Rattle.std.specs.FinMap as map
 use Rattle.workers.specs.Lending as told
+
+-- some steps of the device were made, and then a call that isn't one
+
+abbrev pub FirstCall : List Call → List Call → Type 0
+FirstCall old new = AddsCall (λ c. IsFalse (is_step c.event)) old new
+
+-- a read is such a call
+pub first_read : (q : AtPort) (row : RowId) (on : Bool) (old new : List Call) → IsMade q old new (Sees row on)
+    → FirstCall old new
+first_read q row on = made_by q (λ c. IsFalse (is_step c.event)) (Sees row on) (λ number word named is. refl)
+
+-- and more calls behind it
+pub more_behind : (old new more : List Call) (x : FirstCall old new)
+    → new ++ more ≡ old ++ (x.before ++ x.call ∷ more)
+more_behind old new more x =
+    ap (λ (l : List Call). l ++ more) x.added ∙ append_assoc old (x.before ++ x.call ∷ []) more
+    ∙ ap (λ (l : List Call). old ++ l) (append_assoc x.before (x.call ∷ []) more)
+
+-- all calls of a pass, around the first of its driver's own
+pub calls_from : (tag : ℕ) (old : List Call) (h : List Entry) (x : Starts tag old h)
+    → calls_of tag h ≡ old ++ (x.steps ++ call_in x.first ∷ calls_of tag x.behind)
+calls_from tag old h x =
+    sym (ap (calls_of tag) x.all) ∙ calls_joined tag x.before (x.first ∷ x.behind)
+    ∙ (λ k. x.calls k ++ calls_own tag x.first x.behind (eq-eqb x.first.pass tag x.own) k)
+    ∙ append_assoc old x.steps (call_in x.first ∷ calls_of tag x.behind)
+
+-- it is the first in a longer history too
+abbrev pub starts_more : (tag : ℕ) (old : List Call) (h rest whole : List Entry) → h ++ rest ≡ whole
+    → Starts tag old h → Starts tag old whole
+starts_more tag old h rest whole all x = record {
+  before = x.before;
+  first = x.first;
+  behind = x.behind ++ rest;
+  all = sym (append_assoc x.before (x.first ∷ x.behind) rest) ∙ ap (λ (l : List Entry). l ++ rest) x.all ∙ all;
+  own = x.own;
+  event = x.event;
+  steps = x.steps;
+  stepped = x.stepped;
+  calls = x.calls;
+}
+
+-- what is so just before it is so just before those calls
+module _ (w : Watched) (fifo : ℕ) (old : List Call) (h : List Entry) (P : State → Type 0)
+    (just : JustBefore w.vfs fifo w.pass old h P) where
+  pub before_first : (mid : List Call) → FirstCall old mid → BeforeLast w (new_state w.vfs fifo) h mid P
+  before_first mid f done rest e all own is =
+      let (calls, call) =
+      same_from_push (calls_of w.pass done) (old ++ f.before) (call_in e) f.call
+      (is ∙ f.added ∙ sym (append_assoc old f.before (f.call ∷ []))) in
+      just (record {
+        before = done;
+        first = e;
+        behind = rest;
+        all = all;
+        own = own;
+        steps = f.before;
+        stepped = f.steps;
+        calls = calls;
+        event = ap (λ (c : Call). is_step c.event) call ∙ f.is;
+      })
+
+  pub holds_at_first : HoldsAtFirst w fifo old h P
+  holds_at_first = record {
+    first = just;
+    next = λ steps call stepped event.
+        before_first (old ++ (steps ++ call ∷ []))
+        (record { before = steps; call = call; added = refl; steps = stepped; is = event });
+    started = λ q size frame a m later told.
+        let quiet = told.started.2.receive.quiet in
+        before_first quiet.0 (first_read q Rxdctl false old quiet.0 quiet.1);
+  }
 
 -- what is known of a device behind each entry, where its event is such, is known behind all of a legal history
 

@@ -1,10 +1,9 @@
 use Rattle.pmd_laws.proofs.Beside.{called_behind, is_life, own_anew, own_life, rings_up, told}
 use Rattle.pmd_laws.proofs.InHand.{direct_retold, interleaved_retold}
-use Rattle.pmd_laws.proofs.Looks.{none_before, none_first, vain_is, waiting_first, waiting_is}
+use Rattle.pmd_laws.proofs.Told.{goes, none_before, none_first, up_next, waiting_first}
 use Rattle.pmd_laws.proofs.Order.{handed, idle, ran, sent_first}
 use Rattle.pmd_laws.proofs.Prelude.{◌∙◌, HasNoneOut, Rings, accepted_of, ap, bytes_of, now, same_delivers}
 use Rattle.pmd_laws.proofs.Prelude.{same_sends, subst, sym}
-use Rattle.pmd_laws.proofs.Told.{goes, up_next}
 use Rattle.pmd_laws.proofs.driver_beside_any_calls_in_order.Goals as goal
 
 pub returns : goal.returns
@@ -16,11 +15,11 @@ returns c = record {
   none = λ x n y looked early same.
       let (s, up, looks) = up_next _ (now x).driver.rings n.driver.rings (goes (told x)).rings (rings_up x) looked in
       rw (rings_up x, same_delivers x.w.queue x.origin early y.look.before same)
-      (none_before (own_life x) looks y.look (called_behind x n y _ (vain_is (own_life x).k looks)));
+      (none_before (own_life x) y.look (called_behind x n y) looks);
   first = λ x n y looked before more early all is same.
       let (s, up, looks) = up_next _ (now x).driver.rings n.driver.rings (goes (told x)).rings (rings_up x) looked in
       rw (rings_up x, same_delivers x.w.queue x.origin early before same)
-      (none_first (own_life x) looks y.look (called_behind x n y _ (vain_is (own_life x).k looks)) before more all is);
+      (none_first (own_life x) y.look (called_behind x n y) looks before more all is);
   sent = λ x is.
       rw (rings_up x, same_sends x.w.queue x.origin x.h x.g x.retold.was.same) (sent_first (ran (own_life x)) is);
   idle = λ x is none.
@@ -28,8 +27,7 @@ returns c = record {
       (idle (ran (own_life x)) is (subst HasNoneOut (rings_up x) none));
   waits = λ x n y waits before more early all is same sent.
       let (s, up, looks) = up_next _ (now x).driver.rings n.driver.rings (goes (told x)).rings (rings_up x) waits in
-      waiting_first (own_life x) looks y.look (called_behind x n y _ (waiting_is (own_life x).k looks)) before more all
-      is
+      waiting_first (own_life x) y.look (called_behind x n y) looks before more all is
       (ap (λ (z : Rings). bytes_of (accepted_of z)) (sym (rings_up x)) ∙ sent
       ∙ same_sends x.w.queue x.origin early before same);
   in_hand = direct_retold;

@@ -3,7 +3,6 @@
 use Rattle.pmd.specs.PmdSeam.Frames.{is_frame}
 use Rattle.pmd.specs.PmdSeam.declared.fault.PmdFault.TheVariants.{BadSize}
 use Rattle.driver_laws.proofs.Laid.{laid_queue_is_silent}
-use Rattle.driver_laws.specs.RingLaws.Sent.{counted_by, goes_on}
 use Rattle.pmd_laws.specs.Refused.{LeftOfRefusedIsPrefix, Refused, RefusedSendsNothing}
 use Rattle.pmd_laws.proofs.Laid.{LaysSome, LaysTo, Stays, first_lays, going_on_fails, lays_behind, prepared_lays}
 use Rattle.pmd_laws.proofs.Laid.{preparing_lays, receive_fails, receive_ready, stay, then_lays, then_some}
@@ -11,11 +10,11 @@ use Rattle.pmd_laws.proofs.Prelude.{[], ◌&&◌, ◌++◌, ◌∙◌, ◌∷◌
 use Rattle.pmd_laws.proofs.Prelude.{Entry, Err, Event, GoingOnFails, Halted, IsEnding, IsHalfStarted, IsHome}
 use Rattle.pmd_laws.proofs.Prelude.{IsLeftWith, IsShut, Laid, LaysOn, List, MayAsk, NeverLived, None, Numbers, Off}
 use Rattle.pmd_laws.proofs.Prelude.{Option, PmdFault, Receive, Rest, Rx, Rxdctl, Some, StartRefused, State}
-use Rattle.pmd_laws.proofs.Prelude.{StopsStarting, Tx, Txdctl, ℕ, after, and_parts, ap, append_assoc}
-use Rattle.pmd_laws.proofs.Prelude.{append_cancel_left, bytes_of, call_in, calls_joined, calls_of, calls_own, cond}
-use Rattle.pmd_laws.proofs.Prelude.{delivered, either_way, eq-eqb, false, has_bit, inl, inr, is_size, last, leads_to}
-use Rattle.pmd_laws.proofs.Prelude.{left, most_blocks, named, none_made, now, refl, sent_by, sent_in, sent_since}
-use Rattle.pmd_laws.proofs.Prelude.{start_gate, subst, sym, true}
+use Rattle.pmd_laws.proofs.Prelude.{StopsStarting, Tx, Txdctl, ℕ, and_parts, ap, append_assoc, append_cancel_left}
+use Rattle.pmd_laws.proofs.Prelude.{bytes_of, call_in, calls_joined, calls_of, calls_own, cond, delivered, eq-eqb}
+use Rattle.pmd_laws.proofs.Prelude.{false, has_bit, inl, inr, is_size, last, leads_to, left, most_blocks, named}
+use Rattle.pmd_laws.proofs.Prelude.{none_made, refl, sent_in, sent_is_counted, sent_since, start_gate, subst}
+use Rattle.pmd_laws.proofs.Prelude.{sym, true}
 use Rattle.pmd_laws.proofs.StopCalls.{stopped_ends}
 use Rattle.nic_device.specs.declared.event.Event.TheVariants as event
 use Rattle.pmd.specs.declared.start.Rest.TheVariants as rest
@@ -111,13 +110,9 @@ first_none [] ys is = (refl, is)
 first_none (x ∷ xs) ys is = cc
 
 since_none : (queue : ℕ) (s : State) (h : List Entry) → sent_in queue s h ≡ [] → sent_since queue s [] h ≡ []
-since_none queue s [] none = refl
-since_none queue s (e ∷ h) none =
-    let t = after s e.event in
-    let (now, later) = first_none (sent_by queue s e.event) (sent_in queue t h) none in
-    let here : counted_by queue s e.event [] ≡ [] =
-    either_way (λ (sent : List (List ℕ)). sent ≡ []) (goes_on queue s e.event) [] (sent_by queue s e.event) refl now in
-    ap (λ (sent : List (List ℕ)). sent_since queue t sent h) here ∙ since_none queue t h later
+since_none queue s h none =
+    let (before, is) = sent_is_counted.end queue s [] h in
+    (first_none before (sent_since queue s [] h) (sym is ∙ none)).1
 
 module _ (x : Refused) where
   open x use {w, origin, q, old, first, behind}

@@ -6,40 +6,34 @@ use Rattle.pmd.specs.PmdRx.Receive.{at_start}
 use Rattle.pmd.specs.PmdRx.PmdSeam.Frames.{most_blocks}
 use Rattle.driver_laws.specs.Healthy.{lent_by}
 use Rattle.pmd_laws.proofs.Prelude.{[], ◌++◌, ◌+◌, ◌<◌, ◌∙◌, ◌∷◌, ◌≡◌, ◌≢◌, AreApart, AreLent, AreOn, AtPort, Blocks}
-use Rattle.pmd_laws.proofs.Prelude.{Call, DrivesApart, EachRingBlock, Halves, IsDrawn, IsReceiveReady, IsTransmitReady}
-use Rattle.pmd_laws.proofs.Prelude.{IsTrue, List, Lives, MayLend, Numbers, OwnsSame, Receive, Receives, Running, Sender}
-use Rattle.pmd_laws.proofs.Prelude.{ℕ, all_drawn, all_exchanged, apart_on, arith, both_ways, cases_eq, each_ring_block}
-use Rattle.pmd_laws.proofs.Prelude.{false, false_from_ne_true, first_of, free_before, halves_of, has_lent, inl, inr}
-use Rattle.pmd_laws.proofs.Prelude.{is_free, is_free-with_free_other, is_free-with_free_same, is_own, is_own-of_free}
-use Rattle.pmd_laws.proofs.Prelude.{is_ring_block, or_cases, or_left, or_right, receiving_apart, refl, ring_block_among}
-use Rattle.pmd_laws.proofs.Prelude.{ring_block_is, ring_block_out, ring_blocks, subst, sym, times_among, times_in_hand}
-use Rattle.pmd_laws.proofs.Prelude.{times_rest, true, with_free}
+use Rattle.pmd_laws.proofs.Prelude.{Bool, Call, DrivesApart, EachRingBlock, Halves, IsDrawn, IsReceiveReady}
+use Rattle.pmd_laws.proofs.Prelude.{IsTransmitReady, IsTrue, List, Lives, MayLend, Numbers, OwnsSame, Receive, Receives}
+use Rattle.pmd_laws.proofs.Prelude.{Running, Sender, ℕ, all_drawn, all_exchanged, apart_on, append-nil, arith}
+use Rattle.pmd_laws.proofs.Prelude.{both_ways, cond, each_ring_block, false, false_from_ne_true, first_of, halves_of}
+use Rattle.pmd_laws.proofs.Prelude.{has_lent, inl, inr, is_free, is_own, is_own-of_free, is_ring_block, or_cases}
+use Rattle.pmd_laws.proofs.Prelude.{or_left, or_right, receiving_apart, refl, ring_block_among, ring_block_is}
+use Rattle.pmd_laws.proofs.Prelude.{ring_block_out, ring_blocks, subst, sym, times_among, times_in_hand, true}
+use Rattle.pmd_laws.proofs.Prelude.{true_from_ne_false, with_free}
 
 -- blocks that were drawn from an arena were free there, and aren't any more
 
 pub drawn_gone : (a : Numbers) (ns : List ℕ) (b : Numbers) (n : ℕ) → IsDrawn a ns b → is_free b n ≡ true
     → times_in_hand ns n ≡ 0
-drawn_gone a [] b n drawn free = refl
-drawn_gone a (x ∷ ns) b n (here, drawn) free =
-    let after : is_free (with_free a x false) n ≡ true = free_before (with_free a x false) ns b drawn n free in
-    elim (cases_eq n x) [
-      | inl same ↦
-          let gone : is_free (with_free a x false) n ≡ false =
-          subst (λ (k : ℕ). is_free (with_free a x false) k ≡ false) (sym same)
-          (is_free-with_free_same a x false (is_own-of_free a x here)) in
-          absurd (both_ways _ gone after)
-      | inr ne ↦ times_rest ns x n ne ∙ drawn_gone (with_free a x false) ns b n drawn free
-    ]
+drawn_gone a ns b n drawn free =
+    let each = (all_drawn a ns b [] drawn).each n in
+    gone (is_free a n) (times_in_hand ns n)
+    (rw (free, append-nil ns) at each)
+  where
+    gone : (f : Bool) (t : ℕ) → 1 + t ≡ cond f 1 0 + 0 → t ≡ 0
+    gone true t is = omega (arith, is)
+    gone false t is = omega (arith, is)
 
 drawn_free : (a : Numbers) (ns : List ℕ) (b : Numbers) (n : ℕ) → IsDrawn a ns b → 0 < times_in_hand ns n
     → is_free a n ≡ true
-drawn_free a [] b n drawn some = absurd (omega (arith, some))
-drawn_free a (x ∷ ns) b n (here, drawn) some = elim (cases_eq n x) [
-  | inl same ↦ subst (λ (k : ℕ). is_free a k ≡ true) (sym same) here
-  | inr ne ↦
-      sym (is_free-with_free_other a x false n (is_own-of_free a x here) ne)
-      ∙ drawn_free (with_free a x false) ns b n drawn (subst (λ (t : ℕ). 0 < t) (times_rest ns x n ne) some)
-]
+drawn_free a ns b n drawn some =
+    let each = (all_drawn a ns b [] drawn).each n in
+    true_from_ne_false (is_free a n) (λ none.
+    absurd (omega (arith, some, rw (none, append-nil ns) at each)))
 
 pub drawn_both : (a : Numbers) (xs : List ℕ) (b : Numbers) (ys : List ℕ) (c : Numbers) → IsDrawn a xs b
     → IsDrawn b ys c → IsDrawn a (xs ++ ys) c

@@ -1,31 +1,33 @@
--- A driver beside any calls of its author's is told by its own calls alone, over the history as it is told anew.
-use Rattle.pmd_laws.proofs.Prelude.{[], ◌++◌, ◌∙◌, ◌∷◌, ◌≡◌, AllFollow, AllFollowBy, AtPort, BeforeLast, Beside, Call}
-use Rattle.pmd_laws.proofs.Prelude.{Down, DrivesRings, Drove, Entry, Follows, FollowsBy, HasGround, IsAlong, IsLife}
-use Rattle.pmd_laws.proofs.Prelude.{IsRetold, IsToldAnew, IsToldBeside, IsToldBy, IsToldOf, List, Moment, Numbers}
-use Rattle.pmd_laws.proofs.Prelude.{Rings, Running, State, Told, Up, Watched, WhereUp, ℕ, ap, append-nil}
-use Rattle.pmd_laws.proofs.Prelude.{append_cancel_left, by_own, events_same, halves_of, inl, inr, last, legal_same, now}
-use Rattle.pmd_laws.proofs.Prelude.{subst, sym}
-use Rattle.pmd_laws.proofs.Shifted.{Shifts, rings_shift, shifted}
-use Rattle.pmd_laws.proofs.StartShifted.{up_shift}
+-- A driver beside any calls of its author's is told by its own calls alone, over the history as it is told anew; and so
+-- are its start and its stop.
+use Rattle.pmd_laws.specs.BesideApart.{IsAloneBeside, IsCalledApart}
+use Rattle.pmd_laws.specs.BesideStart.{BeginsBeside}
+use Rattle.pmd_laws.proofs.NoFault.{FindsAmid, none_amid}
+use Rattle.pmd_laws.proofs.Prelude.{[], ◌++◌, ◌∙◌, ◌∷◌, ◌≡◌, ◌⊎◌, AllFollow, AllFollowBy, AtPort, BeforeLast, Beside}
+use Rattle.pmd_laws.proofs.Prelude.{Call, Down, DrivesRings, Drove, Entry, FaultsEarly, FaultsFilling, Follows}
+use Rattle.pmd_laws.proofs.Prelude.{FollowsBy, HasGround, IsAlong, IsCalledBeside, IsFresh, IsLife, IsRetold}
+use Rattle.pmd_laws.proofs.Prelude.{IsToldAlone, IsToldAnew, IsToldBeside, IsToldBy, IsToldOf, Life, List, Moment}
+use Rattle.pmd_laws.proofs.Prelude.{NoneLent, Numbers, Rings, State, Told, Up, Watched, WhereUp, ℕ, anew, ap}
+use Rattle.pmd_laws.proofs.Prelude.{append-nil, append_cancel_left, by_own, events_same, halves_of, inl, inr, is_own}
+use Rattle.pmd_laws.proofs.Prelude.{last, legal_same, now, subst, sym}
+use Rattle.pmd_laws.proofs.Shifted.{fault_shift, rings, shifted, up_shift}
+use Rattle.pmd_laws.proofs.StartFaultless.{never_at_fault}
 use Rattle.pmd_laws.proofs.Told.{goes, life}
 use Rattle.pmd_laws.specs.Told as own
 
 -- a driver that runs goes on from one to the other by its own calls alone
 
-pub moved : (R : Running → Running → List Call → List Call → Type 0)
-    → ((r s : Running) (old new : List Call) → R r s old new → Shifts (R r s) old new) → (a b : Rings)
-    → (old new since own : List Call) → new ≡ old ++ since → WhereUp a b (λ r s. R r s old new)
-    → WhereUp a b (λ r s. R r s own (own ++ since))
-moved R shifts (Up r) (Up s) old new since own made x = shifted (shifts r s old new x) since own made
-moved R shifts (Up r) (Down h) old new since own made x = x
-moved R shifts (Down h) b old new since own made x = tt
+drove_anew : (a b : Rings) (old new since own : List Call) → new ≡ old ++ since
+    → WhereUp a b (λ r s. DrivesRings old r new s) → WhereUp a b (λ r s. DrivesRings own r (own ++ since) s)
+drove_anew (Up r) (Up s) old new since own made x = shifted (rings r s old new x) since own made
+drove_anew (Up r) (Down h) old new since own made x = x
+drove_anew (Down h) b old new since own made x = tt
 
 follows_anew : (m : Moment) (own : List Call) (n : Moment) (then : List Call) → FollowsBy m own n then
     → Follows (by_own own m) (by_own then n)
 follows_anew m own n then (inl (goes, since, made, all)) =
     inl (subst (λ (l : List Call). Drove (by_own own m) (by_own l n)) (sym all)
-    (moved (λ r s o l. DrivesRings o r l s) rings_shift m.driver.rings n.driver.rings m.made n.made since own made
-    goes))
+    (drove_anew m.driver.rings n.driver.rings m.made n.made since own made goes))
 follows_anew m own n then (inr (halves, all)) = inr (halves, ([], all ∙ sym (append-nil own), tt))
 
 all_anew : (m : Moment) (own : List Call) (later : List Moment) (then : List Call) → AllFollowBy m own later then
@@ -42,7 +44,7 @@ pub own_anew : {q : AtPort} {size frame : ℕ} {old : List Call} {a : Numbers} {
     → IsToldAnew q size frame old a m later ahead own x
 own_anew {old = old} {m = m} {later = later} {ahead = ahead} {own = own} x =
     let (others, follow, ends) = all_anew m (ahead ++ x.start) later own x.since in
-    let (at, is, shifts) = up_shift x.started.2 in
+    let (at, is, shifts) = up_shift _ _ _ _ _ _ _ x.started.2 in
     let (up, access) = shifted shifts x.start ahead x.made in
     let same : at ≡ x.first = append_cancel_left old at x.first (sym is ∙ x.access) in record {
       others = others;
@@ -62,51 +64,90 @@ retold_along {origin = origin} {h = h} {g = g} x = record {
   legal = legal_same origin h g x.was.same x.was.legal;
 }
 
+-- a start that found the device at fault would be one of whose blocks none is lent
+pub never_beside : (x : BeginsBeside)
+    → FaultsEarly x.q x.size x.frame x.old x.a x.new ⊎ FaultsFilling x.q x.size x.frame x.old x.a x.new → ⊥
+never_beside x faults =
+    never_at_fault
+    (record {
+      course = record x.course { h = x.g; old = x.ahead };
+      new = x.ahead ++ x.since;
+      along = retold_along x.retold;
+      begins = x.begins;
+      others = x.others;
+      more = x.more;
+      made = x.all;
+    })
+    (shifted (fault_shift x.q x.size x.frame x.a x.old x.new faults) x.since x.ahead x.made)
+
 -- and the driver is told there
 module _ (x : Beside) where
-  abbrev anew : IsToldAnew x.q x.size x.frame x.old x.a x.m x.later x.ahead x.own x.told
-  anew = own_anew x.told
+  abbrev anew_told : IsToldAnew x.q x.size x.frame x.old x.a x.m x.later x.ahead x.own x.told
+  anew_told = own_anew x.told
 
   -- what held just before its first access holds so
   pub at_access : (P : State → Type 0) → BeforeLast x.w x.origin x.g (x.ahead ++ x.told.first) P
-      → BeforeLast x.w x.origin x.g anew.told.started.2.receive.quiet.0 P
-  at_access P = subst (λ (l : List Call). BeforeLast x.w x.origin x.g l P) (sym anew.access)
+      → BeforeLast x.w x.origin x.g anew_told.told.started.2.receive.quiet.0 P
+  at_access P = subst (λ (l : List Call). BeforeLast x.w x.origin x.g l P) (sym anew_told.access)
 
   abbrev pub told : Told
   told = record {
-    w = x.w;
-    origin = x.origin;
-    h = x.g;
-    q = x.q;
-    size = x.size;
-    frame = x.frame;
-    old = x.ahead;
-    a = x.a;
+    course = anew x;
     m = by_own (x.ahead ++ x.told.start) x.m;
-    later = anew.others;
+    later = anew_told.others;
     along = retold_along x.retold;
-    told = anew.told;
+    told = anew_told.told;
     begins = record { ground = at_access (HasGround x.w.queue x.q x.frame) x.ground };
   }
 
   pub same_rings : (now x).driver.rings ≡ (own.now told).driver.rings
-  same_rings = ap (λ (z : Moment). z.driver.rings) (sym anew.ends)
-
-  pub own_made : (own.now told).made ≡ x.own
-  own_made = ap (λ (z : Moment). z.made) anew.ends
-
-  pub told_of : IsToldBeside x → IsToldOf told
-  told_of is = is ∙ sym own_made
+  same_rings = ap (λ (z : Moment). z.driver.rings) (sym anew_told.ends)
 
   pub rings_up : (now x).driver.rings ≡ Up (goes told).rings
   rings_up = same_rings ∙ (goes told).up
 
+  own_made : (own.now told).made ≡ x.own
+  own_made = ap (λ (z : Moment). z.made) anew_told.ends
+
+  pub told_of : IsToldBeside x → IsToldOf told
+  told_of is = is ∙ sym own_made
+
   -- it is a life, of its own calls
-  pub is_life : IsLife x.w x.origin x.g x.q x.size x.frame x.ahead x.a (x.ahead ++ x.told.start) x.told.started.0
-      x.own (halves_of (goes told).rings)
+
+  pub is_life : IsLife (anew x) (x.ahead ++ x.told.start) x.told.started.0 x.own (halves_of (goes told).rings)
   unfolding own_anew
   is_life =
-      subst
-      (λ (made : List Call).
-      IsLife x.w x.origin x.g x.q x.size x.frame x.ahead x.a (x.ahead ++ x.told.start) x.told.started.0 made
-      (halves_of (goes told).rings)) own_made (life told).is
+      subst (λ (made : List Call).
+      IsLife (anew x) (x.ahead ++ x.told.start) x.told.started.0 made (halves_of (goes told).rings)) own_made
+      (life told).is
+
+  abbrev pub own_life : Life
+  own_life = record {
+    course = anew x;
+    started = x.ahead ++ x.told.start;
+    r = x.told.started.0;
+    made = x.own;
+    k = halves_of (goes told).rings;
+    is = is_life;
+  }
+
+  -- what a call added comes behind these
+  pub called_behind : (n : Moment) (y : IsCalledBeside x n) (added : List Call) → n.made ≡ (now x).made ++ added
+      → x.own ++ y.since ≡ x.own ++ added
+  called_behind n y added is =
+      ap (λ (l : List Call). x.own ++ l) (append_cancel_left (now x).made y.since added (sym y.made ∙ is))
+
+  -- no other lends its blocks
+
+  pub alone : IsAloneBeside x → IsToldAlone told
+  alone y = record {
+    told = told_of y.told;
+    fresh = at_access (NoneLent (is_own x.a)) y.fresh;
+    others = y.others;
+  }
+
+  pub none_beside : (n : Moment) → IsCalledApart x n → FindsAmid (goes told).rings (now x).made n.made → ⊥
+  none_beside n y amid =
+      none_amid told (at_access (IsFresh x.w.queue x.frame (is_own x.a)) y.fresh) y.others (now x).made n.made y.since
+      y.more amid y.made
+      (y.all ∙ ap (λ (l : List Call). (l ++ y.since) ++ y.more) (sym own_made))

@@ -1,28 +1,20 @@
 -- What a driver that lived, and was stopped, handed out and sent; and on its queue, once that was switched off, nothing
 -- goes on.
 use Rattle.pmd_laws.specs.Silent.{SilentOverStop, SwitchesOff}
-use Rattle.pmd_laws.proofs.Order.{handed_of_life, sent_of_life}
+use Rattle.pmd_laws.proofs.Order.{handed, ran, sent_first}
 use Rattle.pmd_laws.proofs.Prelude.{◌++◌, ◌∙◌, ◌≡◌, AtPort, Call, Ended, Ends, EndsOnceOff, Halted, HandedOverStop}
 use Rattle.pmd_laws.proofs.Prelude.{IsAsking, IsEnding, IsOver, IsStopped, IsStopping, IsSwitched, LeftIsPrefix, Life}
-use Rattle.pmd_laws.proofs.Prelude.{List, None, Option, PmdFault, Rest, SentOverStop, Some, Up, ap, calls_joined}
-use Rattle.pmd_laws.proofs.Prelude.{calls_of, closed, drives_lead, false, halted_of, halves_of, inl, inr, none_made}
-use Rattle.pmd_laws.proofs.Prelude.{refl, subst, sym}
+use Rattle.pmd_laws.proofs.Prelude.{List, None, Option, PmdFault, Rest, SentOverStop, Some, Up, after, ap, calls_joined}
+use Rattle.pmd_laws.proofs.Prelude.{calls_of, closed, drives_lead, false, halted_of, halves_of, inl, inr}
+use Rattle.pmd_laws.proofs.Prelude.{none_made, refl, subst, sym}
 use Rattle.pmd_laws.proofs.StopCalls.{amid_ends, first_made, first_takes, home_ends, stopped_ends, stopped_takes}
-use Rattle.pmd_laws.proofs.StopSent.{sent_over_stop, silent_off}
-use Rattle.pmd_laws.proofs.Stopped.{handed_over_stop}
+use Rattle.pmd_laws.proofs.Stopped.{handed_over_stop, sent_over_stop, silent_off}
 use Rattle.pmd.specs.declared.start.Rest.TheVariants as rest
 
 -- it lived, up to where it was to stop
 abbrev life : Ended → Life
 life x = record {
-  w = x.w;
-  origin = x.origin;
-  h = x.h;
-  q = x.q;
-  size = x.size;
-  frame = x.frame;
-  old = x.old;
-  a = x.a;
+  course = x.course;
   started = x.lived.lives.made;
   r = x.lived.lives.fresh;
   made = x.lived.made;
@@ -37,8 +29,8 @@ life x = record {
 
 pub left_is_prefix : LeftIsPrefix
 left_is_prefix x calls = (
-  rw x.lived.handed (handed_of_life (life x) calls),
-  rw x.lived.accepted (sent_of_life (life x) calls),
+  rw x.lived.handed (handed (ran (life x)) calls),
+  rw x.lived.accepted (sent_first (ran (life x)) calls),
 )
 
 -- its calls are those of a stop, and take blocks back once both sides were seen off

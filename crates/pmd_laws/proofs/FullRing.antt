@@ -61,7 +61,7 @@ module _ {q : AtPort} {size frame : ℕ} {old : List Call} {a : Numbers} {m : Mo
   pub room : HasRoom size (runs x).rings.transmit
   room =
       led_room size m.made (last m later).made (halves_of x.started.0) (halves_of (runs x).rings)
-      (runs x).leads.apart.leads
+      (runs x).apart.leads
       (subst (HasRoom size) (sym x.started.2.transmit.fresh) (refl, (sized size x.started.2.sized).0))
 
 -- none was accepted, and no fault is told: the ring lacks the room

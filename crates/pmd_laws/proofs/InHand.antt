@@ -1,10 +1,12 @@
 -- What was made of a device in hand is a history of it: the calls of pass 0 are those behind what others made.
+use Rattle.driver_laws.specs.Retold.{AreSame}
+use Rattle.pmd_laws.specs.Beside.{DirectIsRetold, InterleavedIsRetold}
 use Rattle.pmd_laws.specs.InHand.{DirectIsHistory, InterleavedIsHistory, IsHistoryOf, WasMade, in_hand}
-use Rattle.pmd_laws.proofs.Prelude.{[], ◌++◌, ◌<◌, ◌==◌, ◌||◌, ◌∙◌, ◌∷◌, ◌≡◌, Bool, Call, Entry, IsTrue, LeadsTo}
-use Rattle.pmd_laws.proofs.Prelude.{LeavesAlone, LeavesAloneFrom, List, State, ℕ, ap, call_in, calls_joined, calls_of}
-use Rattle.pmd_laws.proofs.Prelude.{calls_other, calls_own, cases_Bool, entries_in, events-append, false, has_begun}
-use Rattle.pmd_laws.proofs.Prelude.{inl, inr, leads-append, leads_to, legal-append, marked_entries, own_calls, refl}
-use Rattle.pmd_laws.proofs.Prelude.{subst, sym, true}
+use Rattle.pmd_laws.proofs.Prelude.{[], ◌++◌, ◌<◌, ◌==◌, ◌||◌, ◌∙◌, ◌∷◌, ◌≡◌, Bool, Call, Entry, GoesOn, IsTrue}
+use Rattle.pmd_laws.proofs.Prelude.{LeadsTo, LeavesAlone, LeavesAloneFrom, List, State, WasTold, ℕ, after, ap}
+use Rattle.pmd_laws.proofs.Prelude.{arith, call_in, calls_joined, calls_of, calls_other, calls_own, cases_Bool}
+use Rattle.pmd_laws.proofs.Prelude.{entries_in, events-append, false, has_begun, inl, inr, leads-append, leads_to, led}
+use Rattle.pmd_laws.proofs.Prelude.{legal-append, length, map-append, marked_entries, own_calls, refl, subst, sym, true}
 
 history : (s : State) (queue : ℕ) (before h : List Entry) (calls : List Call) (device : State) → queue < 128
     → WasMade s before → LeadsTo (leads_to s before) h device → calls_of 0 h ≡ calls
@@ -28,7 +30,7 @@ all_are : (calls : List Call) → calls_of 0 (entries_in calls) ≡ calls
 all_are [] = refl
 all_are (c ∷ calls) = ap (λ (l : List Call). c ∷ l) (all_are calls)
 
-pub own_are : (calls : List Call) (own : List Bool) → calls_of 0 (marked_entries calls own) ≡ own_calls calls own
+own_are : (calls : List Call) (own : List Bool) → calls_of 0 (marked_entries calls own) ≡ own_calls calls own
 own_are [] own = refl
 own_are (c ∷ calls) [] = refl
 own_are (c ∷ calls) (true ∷ own) = ap (λ (l : List Call). c ∷ l) (own_are calls own)
@@ -92,3 +94,38 @@ pub interleaved_is_history : InterleavedIsHistory
 interleaved_is_history s queue before i small was began alone =
     history s queue before (marked_entries i.calls i.own) (own_calls i.calls i.own) i.device small was began
     (own_are i.calls i.own) alone
+
+-- behind what was made before, and is told so, the same calls may be told by other marks
+
+marked_same : (calls : List Call) (own : List Bool) → length own ≡ length calls
+    → AreSame (entries_in calls) (marked_entries calls own)
+marked_same [] own each = refl
+marked_same (c ∷ calls) [] each = absurd (omega (arith, each))
+marked_same (c ∷ calls) (is ∷ own) each =
+    ap (λ (l : List Call). c ∷ l) (marked_same calls own (omega (arith, each)))
+
+goes_on : {origin : State} {before told : List Entry} (was : WasTold origin before told) (es : List Entry)
+    (calls : List Call) (own : List Bool) (device : State) → LeadsTo (leads_to origin before) es device
+    → AreSame es (marked_entries calls own)
+    → GoesOn origin before told es (marked_entries calls own) (own_calls calls own) device
+goes_on {origin = origin} {before = before} {told = told} was es calls own device began same =
+    let anew = marked_entries calls own in record {
+      was = record {
+        sound = was.sound;
+        events = events-append before es was.events began.events;
+        legal = legal-append origin before es was.legal began.legal;
+        same =
+            map-append call_in before es ∙ (λ i. was.same i ++ same i) ∙ sym (map-append call_in told anew);
+      };
+      made = calls_joined 0 told anew ∙ ap (λ (l : List Call). calls_of 0 told ++ l) (own_are calls own);
+      leads = leads-append origin before es ∙ began.leads;
+    }
+
+pub direct_retold : DirectIsRetold
+direct_retold origin before told d own each was began =
+    goes_on was (entries_in d.calls) d.calls own d.device began (marked_same d.calls own each)
+
+pub interleaved_retold : InterleavedIsRetold
+interleaved_retold origin before told i own each all was began =
+    goes_on was (marked_entries i.calls i.own) i.calls own i.device began
+    (sym (marked_same i.calls i.own all) ∙ marked_same i.calls own each)

@@ -1,25 +1,20 @@
--- The calls of a start by which a driver lays out an empty transmit ring, in turn, and those beside them, by which no
--- more of it is laid out.
+-- The calls of a start lay out an empty transmit ring, in turn, and those beside them lay out no more of it; so do those
+-- of one that is refused, as far as it came, up to where what it left came down.
 use Rattle.pmd.specs.PmdRx.Plays.{AllOwn}
 use Rattle.pmd.specs.PmdRx.Receive.{IsOwn}
 use Rattle.pmd.specs.PmdSeam.Named.{is_driven}
-use Rattle.pmd_laws.proofs.Lent.{lends_made}
-use Rattle.pmd_laws.proofs.Prelude.{[], ⊤, ◌%◌, ◌*◌, ◌++◌, ◌<◌, ◌^◌, ◌∙◌, ◌∷◌, ◌≡◌, ◌≤◌, Access, Adds, AllAre, AreMade}
-use Rattle.pmd_laws.proofs.Prelude.{AreMadeOf, AreSteps, AtPort, Block, Bool, Call, DeviceFault, Each, Empty, Event}
-use Rattle.pmd_laws.proofs.Prelude.{FailsBy, GoingOnFails, Headed, IsMade, IsNumberOf, IsOtherwise, IsReceiveReady}
-use Rattle.pmd_laws.proofs.Prelude.{Laid, Lays, LaysOn, LendingFails, LendsEach, List, MayLay, Numbers, Off, OthersStep}
-use Rattle.pmd_laws.proofs.Prelude.{PmdFault, Rdt, Receive, ReceiveFails, Reply, RowId, Rx, Sees, Sets, Sized, StopsBy}
-use Rattle.pmd_laws.proofs.Prelude.{Tx, ℕ, accesses_are, adds_made, ap, append-nil, append_assoc, arith, at_start}
-use Rattle.pmd_laws.proofs.Prelude.{both_asked, both_quiet, call_of, drive, false, inl, inr, is_size, is_step, laid_by}
-use Rattle.pmd_laws.proofs.Prelude.{not, refl, ring_blocks, ring_words, sized, some_made, stops_are, subst}
-use Rattle.pmd_laws.proofs.Prelude.{switched_are, sym, then_made, true, unswitched_are}
-use Rattle.pmd_laws.proofs.Stopped.{drive_same}
+use Rattle.driver_laws.proofs.StopCalls.{lends_are}
+use Rattle.pmd_laws.proofs.Plain.{drive_same}
+use Rattle.pmd_laws.proofs.Prelude.{[], ◌%◌, ◌*◌, ◌++◌, ◌<◌, ◌^◌, ◌∙◌, ◌∷◌, ◌≡◌, ◌≤◌, Access, Adds, AreMade, AreMadeOf}
+use Rattle.pmd_laws.proofs.Prelude.{AreSteps, AtPort, Block, Bool, Call, DeviceFault, Dir, Each, Empty, Event, FailsBy}
+use Rattle.pmd_laws.proofs.Prelude.{GoingOnFails, IsMade, IsNumberOf, IsOtherwise, IsPrepared, IsReceiveReady, Laid}
+use Rattle.pmd_laws.proofs.Prelude.{Lays, LaysOn, LendingFails, LendsEach, List, MayLay, Numbers, Off, OthersStep}
+use Rattle.pmd_laws.proofs.Prelude.{PmdFault, PreparingFails, Rdt, Receive, ReceiveFails, Reply, RowId, Rx, Sees, Sets}
+use Rattle.pmd_laws.proofs.Prelude.{Sized, StopsBy, Tx, ℕ, ⊤, ap, append_assoc, arith, at_start, both_quiet, call_of}
+use Rattle.pmd_laws.proofs.Prelude.{drive, drop, false, inl, inr, is_size, is_step, laid_by, named, none_made, not}
+use Rattle.pmd_laws.proofs.Prelude.{refl, ring_words, sized, some_made, subst, switched_are, sym, true, unswitched_are}
 use Rattle.nic_device.specs.declared.event.Event.TheVariants as event
 use Rattle.pmd.specs.PmdSeam.declared.fault.PmdFault.TheVariants as fault
-
--- those that were made between
-abbrev pub LaysBetween : AtPort → Laid → List Call → List Call → Laid → Type 0
-LaysBetween q l old new last = (calls : List Call) × (new ≡ old ++ calls) × LaysOn q l calls last
 
 -- an event by which no more is laid out
 abbrev pub Stays : AtPort → Laid → Event Block → Type 0
@@ -64,108 +59,161 @@ module _ (q : AtPort) where
       let (m, one, two) = first_lays l last steps cs lays in
       subst (λ (k : Laid). LaysOn q k cs last) (steps_same l m steps are one) two
 
-  pub stays_between : (l : Laid) (old new : List Call) → AreMadeOf (Stays q l) old new → LaysBetween q l old new l
-  stays_between l old new (calls, is, are) = (calls, is, each_lays l calls are)
+-- calls lay out from one to the other
+pub record LaysTo (q : AtPort) (l : Laid) (old new : List Call) (last : Laid) : Type 0 where
+  pub calls : List Call
+  pub made : new ≡ old ++ calls
+  pub lays : LaysOn q l calls last
 
-  pub then_between : (l m last : Laid) (old mid new : List Call) → LaysBetween q l old mid m
-      → LaysBetween q m mid new last → LaysBetween q l old new last
-  then_between l m last old mid new (cs, one, are) (ds, two, more) = (
-    cs ++ ds,
-    two ∙ ap (λ (l : List Call). l ++ ds) one ∙ append_assoc old cs ds,
-    lays_then l m last cs ds are more,
-  )
+-- as far as they do
+pub record LaysSome (q : AtPort) (l : Laid) (old new : List Call) : Type 0 where
+  pub last : Laid
+  pub lays : LaysTo q l old new last
 
-  adds_between : (l m : Laid) (old new : List Call) (e : Event Block) (r : Reply Block) → Adds old new e r
-      → Lays q l e m → LaysBetween q l old new m
-  adds_between l m old new e r (before, is, steps) lays =
-      let own : List Call = call_of e r ∷ [] in
-      (before ++ own, is, lays_then l l m before own (steps_lay l before steps) (m, lays, refl))
+module _ {q : AtPort} where
+  pub stay : {l : Laid} {old new : List Call} → AreMadeOf (Stays q l) old new → LaysTo q l old new l
+  stay {l = l} (calls, is, are) = record { calls = calls; made = is; lays = each_lays q l calls are }
 
--- an access leads from one to the other
-abbrev Goes : Laid → Access → Laid → Type 0
-Goes l (Sees row on) m = m ≡ l
-Goes l (Sets row word) m = (is_driven row ≡ true) × MayLay row l word × (m ≡ laid_by row l)
+  pub then_lays : {l m last : Laid} {old mid new : List Call} → LaysTo q l old mid m → LaysTo q m mid new last
+      → LaysTo q l old new last
+  then_lays {l = l} {m = m} {last = last} {old = old} x y = record {
+    calls = x.calls ++ y.calls;
+    made = y.made ∙ ap (λ (cs : List Call). cs ++ y.calls) x.made ∙ append_assoc old x.calls y.calls;
+    lays = lays_then q l m last x.calls y.calls x.lays y.lays;
+  }
 
--- and so do accesses, in turn
-abbrev AllGo : Laid → List Access → Laid → Type 0
-AllGo l [] last = last ≡ l
-AllGo l (a ∷ rest) last = (m : Laid) × Goes l a m × AllGo m rest last
+  pub then_some : {l m : Laid} {old mid new : List Call} → LaysTo q l old mid m → LaysSome q m mid new
+      → LaysSome q l old new
+  then_some x y = record { last = y.last; lays = then_lays x y.lays }
 
-go_parts : (done : List Access) (a : Access) (rest : List Access) (l last : Laid) → AllGo l (done ++ a ∷ rest) last
-    → (k : Laid) × (m : Laid) × AllGo l done k × Goes k a m
-go_parts [] a rest l last (m, here, more) = (l, m, refl, here)
-go_parts (d ∷ done) a rest l last (k, here, more) =
-    let (j, m, some, one) = go_parts done a rest k last more in (j, m, (k, here, some), one)
+  adds : (l m : Laid) {old new : List Call} (e : Event Block) (r : Reply Block) → Adds old new e r → Lays q l e m
+      → LaysTo q l old new m
+  adds l m e r (before, is, steps) go = record {
+    calls = before ++ call_of e r ∷ [];
+    made = is;
+    lays = lays_then q l l m before (call_of e r ∷ []) (steps_lay q l before steps) (m, go, refl);
+  }
+
+-- after an access, and accesses in turn, each of which may be made there
+
+abbrev gone : Laid → Access → Laid
+gone l (Sees row seen) = l
+gone l (Sets row word) = laid_by row l
+
+abbrev all_gone : Laid → List Access → Laid
+all_gone l [] = l
+all_gone l (a ∷ rest) = all_gone (gone l a) rest
+
+abbrev Goes : Laid → Access → Type 0
+Goes l (Sees row seen) = ⊤
+Goes l (Sets row word) = (is_driven row ≡ true) × MayLay row l word
+
+abbrev AllGo : Laid → List Access → Type 0
+AllGo l [] = ⊤
+AllGo l (a ∷ rest) = Goes l a × AllGo (gone l a) rest
+
+go_parts : (done : List Access) (a : Access) (rest : List Access) (l : Laid) → AllGo l (done ++ a ∷ rest)
+    → AllGo l done × Goes (all_gone l done) a
+go_parts [] a rest l go = (tt, go.0)
+go_parts (d ∷ done) a rest l go = let (some, one) = go_parts done a rest (gone l d) go.1 in ((go.0, some), one)
+
+module _ {q : AtPort} where
+  -- a call of the driver's, made or failed
+
+  goes_made : (a : Access) (l : Laid) {old new : List Call} → Goes l a → IsMade q old new a
+      → LaysTo q l old new (gone l a)
+  goes_made (Sees row seen) l go (number, word, named, is, x) = adds l l _ _ x refl
+  goes_made (Sets row word) l go (number, named, x) = adds l _ _ _ x (row, refl, go.0, named, go.1, refl)
+
+  pub all_made : (all : List Access) (l : Laid) {old new : List Call} → AllGo l all → AreMade q old new all
+      → LaysTo q l old new (all_gone l all)
+  all_made [] l {old = old} {new = new} go x = stay (none_made (Stays q l) old new x)
+  all_made (a ∷ rest) l go (mid, here, then) = then_lays (goes_made a l go.0 here) (all_made rest (gone l a) go.1 then)
+
+  otherwise_made : (a : Access) (l : Laid) {old new : List Call} → Goes l a → IsOtherwise q old new a
+      → LaysTo q l old new (gone l a)
+  otherwise_made (Sees row seen) l go (inl x) = goes_made (Sees row (not seen)) l go x
+  otherwise_made (Sees row seen) l go (inr (number, word, named, x)) = adds l l _ _ x refl
+  otherwise_made (Sets row word) l go (number, told, named, x) = adds l _ _ _ x (row, refl, go.0, named, go.1, refl)
+
+  fails_made : (f : PmdFault) (a : Access) (l : Laid) {old new : List Call} → Goes l a → FailsBy f q old new a
+      → LaysSome q l old new
+  fails_made DeviceFault a l go x = record { last = gone l a; lays = otherwise_made a l go x }
+  fails_made (fault.Call refused) a l {old = old} {new = new} go x =
+      record { last = l; lays = stay (some_made (Stays q l) (step_stays q l) old new x) }
+  fails_made other a l go x = absurd x
+
+  pub all_stop : (f : PmdFault) (all : List Access) (l : Laid) {old new : List Call} → AllGo l all
+      → StopsBy f q old new all → LaysSome q l old new
+  all_stop f all l go (done, a, rest, mid, is, made, fails) =
+      let (some, one) = go_parts done a rest l (subst (AllGo l) is go) in
+      then_some (all_made done l some made) (fails_made f a (all_gone l done) one fails)
+
+-- a ring's words, and then its blocks
+
+abbrev laid : Dir → Laid
+laid side = all_gone Off (ring_words side 0 0)
+
+words_go : (side : Dir) (ring size : ℕ) → is_size size ≡ true → AllGo Off (ring_words side ring size)
+words_go Rx ring size is = ((refl, tt), ((refl, tt), ((refl, tt), ((refl, tt), ((refl, tt), ((refl, tt), tt))))))
+words_go Tx ring size is =
+    let (some, few, even) = sized size is in
+    let base : 2048 * ring % 128 ≡ 0 = omega arith in
+    let low : 16 * size < 2 ^ 20 = omega (arith, few) in
+    let slots : 16 ≤ 16 * size = omega (arith, some) in
+    let more : AllGo Sized (drop 3 (ring_words Tx ring size)) =
+    ((refl, (refl, refl)), ((refl, (refl, refl)), ((refl, (refl, refl)), tt))) in
+    ((refl, (refl, base)), ((refl, refl), ((refl, (refl, even, low, slots)), more)))
+
+words_lay : {q : AtPort} (side : Dir) (ring size : ℕ) {old new : List Call} → is_size size ≡ true
+    → AreMade q old new (ring_words side ring size) → LaysTo q Off old new (laid side)
+words_lay Rx ring size is x = all_made (ring_words Rx ring size) Off (words_go Rx ring size is) x
+words_lay Tx ring size is x = all_made (ring_words Tx ring size) Off (words_go Tx ring size is) x
+
+quiet_go : AllGo Off both_quiet
+quiet_go = (tt, ((refl, tt), (tt, (tt, ((refl, refl), (tt, tt))))))
+
+module _ {q : AtPort} where
+  lends_lay : {l : Laid} (ns : List ℕ) {old new : List Call} → LendsEach old new ns → LaysTo q l old new l
+  lends_lay {l = l} ns {old = old} {new = new} x =
+      stay (lends_are (Stays q l) (step_stays q l) (λ n. refl) ns old new x)
+
+  lending_lays : (f : PmdFault) {l : Laid} {old new : List Call} (block : Block) → LendingFails f old new block
+      → LaysTo q l old new l
+  lending_lays DeviceFault {l = l} block (back, lent) = adds l l _ _ lent refl
+  lending_lays (fault.Call refusal) {l = l} {old = old} {new = new} block x =
+      stay (some_made (Stays q l) (step_stays q l) old new x)
+  lending_lays other block x = absurd x
+
+  pub prepared_lays : {side : Dir} {size : ℕ} {a b : Numbers} {ring : ℕ} {old new : List Call} → is_size size ≡ true
+      → IsPrepared q side size old a new b ring → LaysTo q Off old new (laid side)
+  prepared_lays {side = side} {size = size} {ring = ring} is x =
+      then_lays (words_lay side ring size is x.words) (lends_lay _ x.lent)
+
+  pub preparing_lays : (f : PmdFault) (side : Dir) (size : ℕ) (a b : Numbers) (out : List ℕ) {old new : List Call}
+      → is_size size ≡ true → PreparingFails f q side size old a new b out → LaysSome q Off old new
+  preparing_lays f side size a b out is (ring, free, inl (stops, same, none)) =
+      all_stop f (ring_words side ring size) Off (words_go side ring size is) stops
+  preparing_lays f side size a b out is (ring, free, inr (mid, words, stops)) = record {
+    last = laid side;
+    lays =
+        then_lays (words_lay side ring size is words)
+        (then_lays (lends_lay out stops.lent) (lending_lays f _ stops.fails));
+  }
+
+  -- the receive ring
+
+  pub receive_ready : {size frame : ℕ} {a b : Numbers} {v : Receive} {old new : List Call} → is_size size ≡ true
+      → IsReceiveReady q size frame old a new b v → LaysTo q Off old new Off
+  receive_ready is x = then_lays (all_made both_quiet Off quiet_go x.quiet) (prepared_lays is x.prepared)
+
+  pub receive_fails : (f : PmdFault) (size : ℕ) (a b : Numbers) (out : List ℕ) {old new : List Call}
+      → is_size size ≡ true → ReceiveFails f q size old a new b out → LaysSome q Off old new
+  receive_fails f size a b out is (inl (stops, same, none)) = all_stop f both_quiet Off quiet_go stops
+  receive_fails f size a b out is (inr (mid, made, fails)) =
+      then_some (all_made both_quiet Off quiet_go made) (preparing_lays f Rx size a b out is fails)
 
 module _ (q : AtPort) where
-  -- a call of the driver's, made or failed
-  goes_made : (a : Access) (l m : Laid) (old new : List Call) → Goes l a m → IsMade q old new a
-      → LaysBetween q l old new m
-  goes_made (Sees row on) l m old new go (number, word, named, is, adds) = adds_between q l m old new _ _ adds go
-  goes_made (Sets row word) l m old new go (number, named, adds) =
-      adds_between q l m old new _ _ adds (row, refl, go.0, named, go.1, go.2)
-
-  all_made : (all : List Access) (l last : Laid) (old new : List Call) → AllGo l all last → AreMade q old new all
-      → LaysBetween q l old new last
-  all_made [] l last old new go x = ([], x ∙ sym (append-nil old), go)
-  all_made (a ∷ rest) l last old new (m, go, more) (mid, here, then) =
-      then_between q l m last old mid new (goes_made a l m old mid go here) (all_made rest m last mid new more then)
-
-  otherwise_made : (a : Access) (l m : Laid) (old new : List Call) → Goes l a m → IsOtherwise q old new a
-      → LaysBetween q l old new m
-  otherwise_made (Sees row on) l m old new go (inl seen) = goes_made (Sees row (not on)) l m old new go seen
-  otherwise_made (Sees row on) l m old new go (inr (number, word, named, adds)) =
-      adds_between q l m old new _ _ adds go
-  otherwise_made (Sets row word) l m old new go (number, told, named, adds) =
-      adds_between q l m old new _ _ adds (row, refl, go.0, named, go.1, go.2)
-
-  abbrev pub LaysSome : Laid → List Call → List Call → Type 0
-  LaysSome l old new = (last : Laid) × LaysBetween q l old new last
-
-  fails_made : (f : PmdFault) (a : Access) (l m : Laid) (old new : List Call) → Goes l a m → FailsBy f q old new a
-      → LaysSome l old new
-  fails_made DeviceFault a l m old new go x = (m, otherwise_made a l m old new go x)
-  fails_made (fault.Call refused) a l m old new go x =
-      (l, stays_between q l old new (some_made (Stays q l) (step_stays q l) old new x))
-  fails_made other a l m old new go x = absurd x
-
-  -- the words of the transmit ring
-  module _ (ring size : ℕ) (is : is_size size ≡ true) where
-    words_go : AllGo Off (ring_words Tx ring size) Empty
-    words_go =
-        let (some, few, even) = sized size is in
-        let base : 2048 * ring % 128 ≡ 0 = omega arith in
-        let low : 16 * size < 2 ^ 20 = omega (arith, few) in
-        let slots : 16 ≤ 16 * size = omega (arith, some) in (
-          Off,
-          (refl, (refl, base), refl),
-          (
-            Off,
-            (refl, refl, refl),
-            (
-              Sized,
-              (refl, (refl, even, low, slots), refl),
-              (
-                Sized,
-                (refl, (refl, refl), refl),
-                (Headed, (refl, (refl, refl), refl), (Empty, (refl, (refl, refl), refl), refl)),
-              ),
-            ),
-          ),
-        )
-
-    pub words_lay : (old new : List Call) → AreMade q old new (ring_words Tx ring size)
-        → LaysBetween q Off old new Empty
-    words_lay old new made = all_made (ring_words Tx ring size) Off Empty old new words_go made
-
-    pub words_stop : (f : PmdFault) (old new : List Call) → StopsBy f q old new (ring_words Tx ring size)
-        → LaysSome Off old new
-    words_stop f old new (done, a, rest, mid, is, made, fails) =
-        let (k, m, some, one) = go_parts done a rest Off Empty
-        (subst (λ (xs : List Access). AllGo Off xs Empty) is words_go) in
-        let (j, more) = fails_made f a k m mid new one fails in
-        (j, then_between q Off k j old mid new (all_made done Off k old mid some made) more)
-
   -- the calls by which a receive ring is filled: its tail is RDT of the queue
 
   abbrev AtTail : Receive → Type 0
@@ -196,86 +244,27 @@ module _ (q : AtPort) where
   all_stay l v (false ∷ marks) (c ∷ cs) own others at =
       (step_stays q l c.event (others.0 refl), all_stay l v marks cs own.1 others.1 at)
 
--- accesses by which no more is laid out
-
-abbrev Keeps : Laid → Access → Type 0
-Keeps l (Sees row on) = ⊤
-Keeps l (Sets row word) = Goes l (Sets row word) l
-
-quiet_keep : AllAre (Keeps Off) both_quiet
-quiet_keep = (tt, ((refl, tt, refl), (tt, (tt, ((refl, refl, refl), (tt, tt))))))
-
-words_keep : (ring size : ℕ) → AllAre (Keeps Off) (ring_words Rx ring size)
-words_keep ring size = (
-  (refl, tt, refl),
-  ((refl, tt, refl), ((refl, tt, refl), ((refl, tt, refl), ((refl, tt, refl), ((refl, tt, refl), tt))))),
-)
-
-asked_keep : AllAre (Keeps Empty) (both_asked true)
-asked_keep = ((refl, tt, refl), ((refl, tt, refl), tt))
-
-module _ (q : AtPort) (l : Laid) where
-  abbrev Stay : List Call → List Call → Type 0
-  Stay old new = AreMadeOf (Stays q l) old new
-
-  keeps_write : (row : RowId) (word number : ℕ) → Keeps l (Sets row word) → IsNumberOf q.port row q.queue number
-      → Stays q l (event.Write q.port number word)
-  keeps_write row word number own named = (row, refl, own.0, named, own.1, own.2)
-
-  pub lending_stays : (f : PmdFault) (old new : List Call) (block : Block) → LendingFails f old new block
-      → Stay old new
-  lending_stays DeviceFault old new block (back, lent) =
-      adds_made (Stays q l) (step_stays q l) old new _ _ lent refl
-  lending_stays (fault.Call refusal) old new block x = some_made (Stays q l) (step_stays q l) old new x
-  lending_stays other old new block x = absurd x
-
-  pub lends_stay : (ns : List ℕ) (old new : List Call) → LendsEach old new ns → Stay old new
-  lends_stay ns old new = lends_made (Stays q l) (step_stays q l) ns old new (λ n some. refl)
-
-  accesses_stay : (all : List Access) (old new : List Call) → AllAre (Keeps l) all → AreMade q old new all
-      → Stay old new
-  accesses_stay = accesses_are q (Stays q l) (Keeps l) (step_stays q l) (λ port number. refl) keeps_write
-
-  stopped_stay : (f : PmdFault) (all : List Access) (old new : List Call) → AllAre (Keeps l) all
-      → StopsBy f q old new all → Stay old new
-  stopped_stay = stops_are q (Stays q l) (Keeps l) (step_stays q l) (λ port number. refl) keeps_write
+-- both sides go on, and the receive ring is filled
 
 module _ (q : AtPort) where
-  -- the receive ring
+  abbrev Keeps : Access → Type 0
+  Keeps (Sees row on) = ⊤
+  Keeps (Sets row word) = (is_driven row ≡ true) × MayLay row Empty word × (Empty ≡ laid_by row Empty)
 
-  pub receive_ready : (size frame : ℕ) (old : List Call) (a : Numbers) (new : List Call) (b : Numbers) (v : Receive)
-      → IsReceiveReady q size frame old a new b v → Stay q Off old new
-  receive_ready size frame old a new b v x =
-      let laid = x.prepared.mid in
-      then_made (Stays q Off) old x.mid new (accesses_stay q Off both_quiet old x.mid quiet_keep x.quiet)
-      (then_made (Stays q Off) x.mid laid new
-      (accesses_stay q Off (ring_words Rx x.ring size) x.mid laid (words_keep x.ring size) x.prepared.words)
-      (lends_stay q Off (ring_blocks x.ring size) laid new x.prepared.lent))
+  keeps_write : (row : RowId) (word number : ℕ) → Keeps (Sets row word) → IsNumberOf q.port row q.queue number
+      → Stays q Empty (event.Write q.port number word)
+  keeps_write row word number own named = (row, refl, own.0, named, own.1, own.2)
 
-  pub receive_fails : (f : PmdFault) (size : ℕ) (old : List Call) (a : Numbers) (new : List Call) (b : Numbers)
-      (out : List ℕ) → ReceiveFails f q size old a new b out → Stay q Off old new
-  receive_fails f size old a new b out (inl (stops, same, none)) =
-      stopped_stay q Off f both_quiet old new quiet_keep stops
-  receive_fails f size old a new b out (inr (mid, made, (ring, free, inl (stops, same, none)))) =
-      then_made (Stays q Off) old mid new (accesses_stay q Off both_quiet old mid quiet_keep made)
-      (stopped_stay q Off f (ring_words Rx ring size) mid new (words_keep ring size) stops)
-  receive_fails f size old a new b out (inr (mid, made, (ring, free, inr (laid, words, stops)))) =
-      then_made (Stays q Off) old mid new (accesses_stay q Off both_quiet old mid quiet_keep made)
-      (then_made (Stays q Off) mid laid new
-      (accesses_stay q Off (ring_words Rx ring size) mid laid (words_keep ring size) words)
-      (then_made (Stays q Off) laid stops.mid new (lends_stay q Off out laid stops.mid stops.lent)
-      (lending_stays q Off f stops.mid new _ stops.fails)))
-
-  -- both sides go on, and the receive ring is filled
-  pub going_on_fails : (f : PmdFault) (old : List Call) (a : Numbers) (tail ring size most : ℕ) (new : List Call)
+  pub going_on_fails : (f : PmdFault) {old : List Call} (a : Numbers) (tail ring size most : ℕ) {new : List Call}
       (b : Numbers) (w : Receive) → IsNumberOf q.port Rdt q.queue tail
-      → GoingOnFails f q old a (at_start q.port tail ring size most) new b w → Stay q Empty old new
-  going_on_fails f old a tail ring size most new b w named (inl (fails, same, is)) =
-      unswitched_are q (Stays q Empty) (Keeps Empty) (step_stays q Empty) (λ port number. refl) (keeps_write q Empty)
-      true (λ side seen. tt) asked_keep f old new fails
-  going_on_fails f old a tail ring size most new b w named (inr (mid, switched, stops)) =
+      → GoingOnFails f q old a (at_start q.port tail ring size most) new b w → LaysTo q Empty old new Empty
+  going_on_fails f {old = old} a tail ring size most {new = new} b w named (inl (fails, same, is)) =
+      stay (unswitched_are q (Stays q Empty) Keeps (step_stays q Empty) (λ port number. refl) keeps_write true
+      (λ side seen. tt) ((refl, tt, refl), ((refl, tt, refl), tt)) f old new fails)
+  going_on_fails f {old = old} a tail ring size most {new = new} b w named (inr (mid, switched, stops)) =
       let (marks, since, is, own, then, others) = stops.made.plays in
-      then_made (Stays q Empty) old mid new
-      (switched_are q (Stays q Empty) (Keeps Empty) (step_stays q Empty) (λ port number. refl) (keeps_write q Empty)
-      true (λ side seen. tt) asked_keep old mid switched)
-      (since, is, all_stay q Empty (at_start q.port tail ring size most) marks since own others (refl, named))
+      then_lays
+      (stay (switched_are q (Stays q Empty) Keeps (step_stays q Empty) (λ port number. refl) keeps_write true
+      (λ side seen. tt) ((refl, tt, refl), ((refl, tt, refl), tt)) old mid switched))
+      (stay {new = new}
+      (since, is, all_stay q Empty (at_start q.port tail ring size most) marks since own others (refl, named)))

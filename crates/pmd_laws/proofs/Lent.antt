@@ -6,23 +6,23 @@ use Rattle.driver_laws.proofs.Made.{first_seen}
 use Rattle.driver_laws.specs.DeviceLaws.Laws.{WritesNoSetting}
 use Rattle.driver_laws.proofs.Fitting.{frames_stay_short, lends_is, only_pass_lent}
 use Rattle.driver_laws.specs.Healthy.{lent_by as halves_lent_by}
-use Rattle.pmd_laws.proofs.Begun.{first_halves, receive_lent, transmit_lent}
-use Rattle.pmd_laws.proofs.Order.{along_before}
-use Rattle.pmd_laws.proofs.Prelude.{[], ⊤, ◌++◌, ◌<◌, ◌==◌, ◌∙◌, ◌∷◌, ◌≡◌, Access, All, AllAre, AreEvents, AreMade}
+use Rattle.pmd_laws.proofs.Begun.{receive_lent, transmit_lent}
+use Rattle.pmd_laws.proofs.Order.{On, along_before, first}
+use Rattle.pmd_laws.proofs.Prelude.{[], ◌++◌, ◌<◌, ◌==◌, ◌∙◌, ◌∷◌, ◌≡◌, Access, All, AllAre, AreEvents, AreMade}
 use Rattle.pmd_laws.proofs.Prelude.{AreMadeOf, AreOn, AreShort, Around, AtCalls, AtPort, BeforeLast, Block, Blocks}
-use Rattle.pmd_laws.proofs.Prelude.{Call, Dir, Each, EachRingBlock, Entry, Event, FitsBlocks, Halves, HasGround}
+use Rattle.pmd_laws.proofs.Prelude.{Call, Course, Dir, Each, EachRingBlock, Entry, Event, FitsBlocks, HasGround}
 use Rattle.pmd_laws.proofs.Prelude.{IsAlong, IsDriven, IsFresh, IsKept, IsLegal, IsMade, IsNumberOf, IsPlain}
 use Rattle.pmd_laws.proofs.Prelude.{IsPrepared, IsReceiveReady, IsTrue, LendsEach, List, NamesDriven, NoneLent, Numbers}
 use Rattle.pmd_laws.proofs.Prelude.{OnlyLent, OnlyPassLends, Receive, Reply, RowId, Rxdctl, Sees, Sender, Sets, State}
-use Rattle.pmd_laws.proofs.Prelude.{Tx, Watched, ℕ, accesses_are, adds_made, after, all_lead, and_parts, ap}
+use Rattle.pmd_laws.proofs.Prelude.{Tx, Watched, ℕ, ⊤, accesses_are, adds_made, after, all_lead, and_parts, ap}
 use Rattle.pmd_laws.proofs.Prelude.{append_assoc, arith, around, both_quiet, both_ways, call_in, call_of, calls_of}
 use Rattle.pmd_laws.proofs.Prelude.{calls_other, calls_own, cases_Bool, each_ring_block, eq-eqb, events_behind, false}
-use Rattle.pmd_laws.proofs.Prelude.{false_from_ne_true, ground_kept, has_block, inl, inr, is_step, leads-append}
-use Rattle.pmd_laws.proofs.Prelude.{leads_to, left-setting, legal_behind, lends, lent_by, lent_in, made_some}
-use Rattle.pmd_laws.proofs.Prelude.{most_blocks, none_made, or_cases, plain_keeps, plain_setting, quiet, reached}
-use Rattle.pmd_laws.proofs.Prelude.{reads_driven, refl, ring_block_out, ring_blocks, ring_words, same_from_push}
-use Rattle.pmd_laws.proofs.Prelude.{state_kept, state_leads, subst, switched_are, sym, then_made, times-cons}
-use Rattle.pmd_laws.proofs.Prelude.{times_first, times_in_hand, true, words_are_writes, writes_driven}
+use Rattle.pmd_laws.proofs.Prelude.{false_from_ne_true, ground_kept, has_block, inl, inr, is_step, last, leads-append}
+use Rattle.pmd_laws.proofs.Prelude.{leads_to, left, left-setting, legal_behind, lends, lent_by, lent_in, made_some}
+use Rattle.pmd_laws.proofs.Prelude.{most_blocks, named, none_made, not, or_cases, plain_keeps, plain_setting, quiet}
+use Rattle.pmd_laws.proofs.Prelude.{reached, reads_driven, refl, ring_block_out, ring_blocks, ring_words}
+use Rattle.pmd_laws.proofs.Prelude.{same_from_push, state_kept, state_leads, subst, switched_are, sym, then_made}
+use Rattle.pmd_laws.proofs.Prelude.{times-cons, times_first, times_in_hand, true, words_are_writes, writes_driven}
 use Rattle.nic_device.specs.declared.event.Event.TheVariants as event
 use Rattle.nic_device.specs.declared.event.Reply.TheVariants as reply
 
@@ -206,21 +206,21 @@ short_by queue q frame s g short =
     record { limit = (let limit = g.limit in omega (arith, limit)); waiting = short }
 
 -- as both sides are on
-module _ {w : Watched} {origin : State} {h : List Entry} {q : AtPort} {size frame : ℕ} {old : List Call} {a : Numbers}
-    {new : List Call} {v : Receive} {t : Sender} (up : AreOn q size frame old a new v t) (along : IsAlong w origin h)
-    (own : Blocks) where
-  abbrev first : Halves
-  first = first_halves up
+module _ {c : Course} (x : On c) (own : Blocks) where
+  open c use {w, origin, h, q, frame, old}
+  open x use {mid, up, along}
 
-  rises : Rises q (halves_lent_by first) up.receive.quiet.0 new
-  rises = on_rises q (halves_lent_by first) up (receive_lent up) (transmit_lent up)
+  abbrev quiet_at : List Call
+  quiet_at = up.receive.quiet.0
+
+  rises : Rises q (halves_lent_by (first x)) quiet_at mid
+  rises = on_rises q (halves_lent_by (first x)) up (receive_lent up) (transmit_lent up)
 
   -- the blocks that are lent are the rings'
-  pub known_at : BeforeLast w origin h up.receive.quiet.0 (NoneLent own) → OnlyPassLends w.pass own h
-      → AtCalls w origin h new (λ s. OnlyLent own (halves_lent_by first) s.memory)
+  pub known_at : BeforeLast w origin h quiet_at (NoneLent own) → OnlyPassLends w.pass own h
+      → AtCalls w origin h mid (λ s. OnlyLent own (halves_lent_by (first x)) s.memory)
   known_at fresh others =
-      lent_at w origin h q old up.receive.quiet.0 along own (halves_lent_by first) up.receive.quiet.1 fresh others new
-      rises
+      lent_at w origin h q old quiet_at along own (halves_lent_by (first x)) up.receive.quiet.1 fresh others mid rises
 
   -- the frames that wait
 
@@ -233,27 +233,27 @@ module _ {w : Watched} {origin : State} {h : List Entry} {q : AtPort} {size fram
       (frames_stay_short w.queue (most_blocks frame) s e (short_by w.queue q frame s g short) none).waiting
 
   short_kept : IsKept w (lent_by w.pass h) Short
-  short_kept s e left x = (
-    ground_kept w (lent_by w.pass h) q frame s e left x.0,
-    short_after s e x (left-setting w s left.vfs e left.registers),
+  short_kept s e left s_is = (
+    ground_kept w (lent_by w.pass h) q frame s e left s_is.0,
+    short_after s e s_is (left-setting w s left.vfs e left.registers),
   )
 
   plain_short : (s : State) (e : Event Block) → IsPlain q e → Short s → Short (after s e)
-  plain_short s e plain x =
-      (plain_keeps w.queue q frame s e plain x.0, short_after s e x (plain_setting w.queue q frame s e plain x.0))
+  plain_short s e plain s_is = (
+    plain_keeps w.queue q frame s e plain s_is.0,
+    short_after s e s_is (plain_setting w.queue q frame s e plain s_is.0),
+  )
 
-  pub short_at : BeforeLast w origin h up.receive.quiet.0 (HasGround w.queue q frame)
-      → BeforeLast w origin h up.receive.quiet.0 (IsFresh w.queue frame own) → AtCalls w origin h new Short
-  short_at well fresh done rest all calls =
-      all_lead w origin h (λ so_far. Short (reached w origin so_far)) (λ c. IsPlain q c.event) along
+  pub short_at : BeforeLast w origin h quiet_at (IsFresh w.queue frame own) → AtCalls w origin h mid Short
+  short_at fresh done rest all calls =
+      all_lead w origin h (λ so_far. Short (reached w origin so_far)) (λ n. IsPlain q n.event) along
       (state_kept w origin (lent_by w.pass h) Short short_kept)
-      (λ c plain.
-      state_leads w origin (lent_by w.pass h) c Short Short (λ s met made told x. plain_short s c.event plain x))
-      rises.0 up.receive.quiet.0 (rising_are_plain q (halves_lent_by first) rises.0 rises.2)
-      (made_some q old up.receive.quiet.0 (Sees Rxdctl false) up.receive.quiet.1)
+      (λ n plain.
+      state_leads w origin (lent_by w.pass h) n Short Short (λ s met made told s_is. plain_short s n.event plain s_is))
+      rises.0 quiet_at (rising_are_plain q (halves_lent_by (first x)) rises.0 rises.2)
+      (made_some q old quiet_at (Sees Rxdctl false) up.receive.quiet.1)
       (first_seen w q origin h Short along short_kept
-      (λ s number x. plain_short s (event.Read q.port number) tt x) Rxdctl false old up.receive.quiet.0
-      up.receive.quiet.1
+      (λ s number s_is. plain_short s (event.Read q.port number) tt s_is) Rxdctl false old quiet_at up.receive.quiet.1
       (λ before behind e split mine is.
-      (well before behind e split mine is, (fresh before behind e split mine is).short)))
+      (x.ground before behind e split mine is, (fresh before behind e split mine is).short)))
       done rest all (calls ∙ rises.1)

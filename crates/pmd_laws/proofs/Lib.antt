@@ -6,16 +6,14 @@ pub mod FullRing
 pub mod InHand
 pub mod Laid
 pub mod Lent
-pub mod Looks
 pub mod NoFault
 pub mod Order
 pub mod Places
+pub mod Plain
 pub mod Prelude
 pub mod Refused
 pub mod Shifted
 pub mod StartFaultless
-pub mod StartShifted
 pub mod StopCalls
-pub mod StopSent
 pub mod Stopped
 pub mod Told

@@ -1,25 +1,24 @@
 -- No call of a driver finds the device at fault, from the place on where both sides of its queue are on, and so over
--- its whole life; nor does a burst meet it at fault, whatever it answers.
+-- its whole life; nor does a burst meet it at fault, whatever it answers. What such a call tells may be told behind
+-- other calls: what it added comes behind the driver's.
 use Rattle.pmd.proofs.PmdSeam.Steps.{steps_both, steps_last}
 use Rattle.pmd.specs.Halves.{OthersStep}
 use Rattle.driver_laws.proofs.Healthy.{no_fault}
 use Rattle.driver_laws.specs.Faults.{doers_of}
 use Rattle.pmd_laws.specs.Told.{now}
-use Rattle.pmd_laws.proofs.Begun.{first_halves}
 use Rattle.pmd_laws.proofs.Lent.{known_at, others_before, others_behind, short_at, short_by}
-use Rattle.pmd_laws.proofs.Order.{along_before, driven_by, last_before}
-use Rattle.pmd_laws.proofs.Prelude.{[], ◌++◌, ◌∙◌, ◌∷◌, ◌≡◌, AllLendApart, AllOwn, AreOn, AreShort, AtPort, BeforeLast}
-use Rattle.pmd_laws.proofs.Prelude.{Blocks, Call, DeviceFault, Doer, DrivesApart, DrivesRings, Elsewhere, Entry}
-use Rattle.pmd_laws.proofs.Prelude.{FailedAmid, FindsBy, FindsFault, Halves, HasGround, IfErr, IfSome, IsAlong, IsFresh}
-use Rattle.pmd_laws.proofs.Prelude.{LeadsApart, List, NoBurstMeetsFault, NoCallFindsFault, None, Numbers, OnlyPassLends}
-use Rattle.pmd_laws.proofs.Prelude.{Option, OthersHarmless, OwnCall, Packet, Parts, PmdFault, Receive, Receives, Result}
-use Rattle.pmd_laws.proofs.Prelude.{Running, Sender, Sends, SendsAtFault, SendsWith, Some, State, Told, Watched, ℕ, ap}
-use Rattle.pmd_laws.proofs.Prelude.{apart_none, apart_on, append-nil, append_assoc, append_cancel_left, both_own}
-use Rattle.pmd_laws.proofs.Prelude.{call_of, calls_joined, calls_of, doers_other, driven_apart, false, halves_of}
-use Rattle.pmd_laws.proofs.Prelude.{harmless_both, is_healthy, is_neither, is_own, leads_to, met_by, on}
+use Rattle.pmd_laws.proofs.Told.{added, added_is, goes, led, life, up_next}
+use Rattle.pmd_laws.proofs.Order.{On, begun, driven_by, first, last_before, on_before}
+use Rattle.pmd_laws.proofs.Prelude.{[], ◌++◌, ◌∙◌, ◌∷◌, ◌≡◌, AllLendApart, AllOwn, AreShort, BeforeLast, Blocks, Call}
+use Rattle.pmd_laws.proofs.Prelude.{Course, DeviceFault, Doer, DrivesApart, DrivesRings, Elsewhere, Entry, FailedAmid}
+use Rattle.pmd_laws.proofs.Prelude.{FindsBy, FindsFault, Halves, IfErr, IfSome, IsFresh, LeadsApart, List}
+use Rattle.pmd_laws.proofs.Prelude.{NoBurstMeetsFault, NoCallFindsFault, None, OnlyPassLends, Option, OthersHarmless}
+use Rattle.pmd_laws.proofs.Prelude.{OwnCall, Packet, Parts, PmdFault, Receive, Receives, Result, Running, Sends}
+use Rattle.pmd_laws.proofs.Prelude.{SendsAtFault, SendsWith, Some, Told, ℕ, ap, apart_on, append-nil, append_assoc}
+use Rattle.pmd_laws.proofs.Prelude.{append_cancel_left, both_own, call_of, calls_joined, calls_of, doers_other, false}
+use Rattle.pmd_laws.proofs.Prelude.{halves_of, harmless_both, is_healthy, is_neither, is_own, leads_to, left, met_by}
 use Rattle.pmd_laws.proofs.Prelude.{others_harmless, others_own, others_played, own_length, parts, played_by, refl}
 use Rattle.pmd_laws.proofs.Prelude.{subst, sym}
-use Rattle.pmd_laws.proofs.Told.{goes, led, owns_still, up_next}
 
 -- a call whose reply no healthy queue gives is a half's
 sick_own : (h : Halves) (d : Doer) (n : Call) → is_healthy h d n ≡ false → is_neither d ≡ false
@@ -29,34 +28,33 @@ sick_own h (Sends m) n sick = refl
 
 -- all calls up to it, and whose they are
 module _ {own : Blocks} {on : List Call} {h : Halves} {new : List Call} (f : FindsFault own on h new) where
+  abbrev pub made : List Call
+  made = added on f.event f.reply f.drives.drives f.adds
+
+  pub made_is : new ≡ on ++ made
+  made_is = added_is on f.event f.reply f.drives.drives f.adds
+
   abbrev before : List Call
   before = f.adds.0
 
-  abbrev last : Call
-  last = call_of f.event f.reply
-
-  abbrev made : List Call
-  made = f.drives.drives.1 ++ (before ++ last ∷ [])
-
-  made_is : new ≡ on ++ made
-  made_is =
-      f.adds.1 ∙ ap (λ (l : List Call). l ++ (before ++ last ∷ [])) f.drives.drives.2
-      ∙ append_assoc on f.drives.drives.1 (before ++ last ∷ [])
+  abbrev last : List Call
+  last = call_of f.event f.reply ∷ []
 
   own_all : AllOwn h (doers_of own on h new f) made
   own_all =
       let (doers, since, made, own, is, steps) = f.drives.drives in
       let there : Halves = played_by h doers since in
-      both_own h doers (doers_other before ++ f.doer ∷ []) since (before ++ last ∷ []) own
-      (both_own there (doers_other before) (f.doer ∷ []) before (last ∷ []) (others_own there before)
-      (subst (λ (k : Halves). OwnCall k f.doer last) (is ∙ others_played there before) f.mine, tt))
+      both_own h doers (doers_other before ++ f.doer ∷ []) since (before ++ last) own
+      (both_own there (doers_other before) (f.doer ∷ []) before last (others_own there before)
+      (subst (λ (k : Halves). OwnCall k f.doer (call_of f.event f.reply)) (is ∙ others_played there before) f.mine, tt))
 
   others_step : OthersStep (doers_of own on h new f) made
   others_step =
       let (doers, since, made, own, is, steps) = f.drives.drives in
-      steps_both is_neither doers (doers_other before ++ f.doer ∷ []) since (before ++ last ∷ [])
-      (own_length h doers since own) steps
-      (steps_last is_neither (Sends Elsewhere) f.doer before last (sick_own f.there f.doer last f.sick) f.adds.2)
+      steps_both is_neither doers (doers_other before ++ f.doer ∷ []) since (before ++ last) (own_length h doers since own)
+      steps
+      (steps_last is_neither (Sends Elsewhere) f.doer before (call_of f.event f.reply)
+      (sick_own f.there f.doer (call_of f.event f.reply) f.sick) f.adds.2)
 
 -- calls that lead to such a call are part of it
 pub found_on : {own : Blocks} {old mid new : List Call} {h j : Halves} → DrivesApart own old h mid j
@@ -74,110 +72,66 @@ found_on {own = own} {old = old} {mid = mid} {h = h} {j = j} drives f = record {
   sick = f.sick;
 }
 
-module _ {w : Watched} {origin : State} {h : List Entry} {q : AtPort} {size frame : ℕ} {old : List Call} {a : Numbers}
-    {on : List Call} {v : Receive} {t : Sender} (up : AreOn q size frame old a on v t) (along : IsAlong w origin h)
-    (well : BeforeLast w origin h up.receive.quiet.0 (HasGround w.queue q frame)) (own : Blocks)
-    (fresh : BeforeLast w origin h up.receive.quiet.0 (IsFresh w.queue frame own)) (others : OnlyPassLends w.pass own h)
-  where
-    abbrev first : Halves
-    first = first_halves up
+-- from the place on where both sides are on, where nobody else lends any of these blocks
+module _ {c : Course} (x : On c) (own : Blocks)
+    (fresh : BeforeLast c.w c.origin c.h x.up.receive.quiet.0 (IsFresh c.w.queue c.frame own))
+    (others : OnlyPassLends c.w.pass own c.h) where
+  open c use {w, origin, h, q, frame}
 
-    -- the history in three parts: the sides went on, the halves were led on, and then came that call
-    module _ (front rest more : List Entry) (all : front ++ (rest ++ more) ≡ h) (fronts : calls_of w.pass front ≡ on)
-        (doers : List Doer) (did : AllOwn first doers (calls_of w.pass rest))
-        (harmless : OthersHarmless doers (calls_of w.pass rest))
-        (apart : AllLendApart own first doers (calls_of w.pass rest)) (mid : List Call)
-        (f : FindsFault own mid (played_by first doers (calls_of w.pass rest)) (calls_of w.pass h))
-        (mids : calls_of w.pass h ≡ mid ++ calls_of w.pass more) where
-      abbrev ends : List Doer
-      ends = doers_of own mid (played_by first doers (calls_of w.pass rest)) (calls_of w.pass h) f
+  -- the history in three parts: the sides went on, the halves were led on, and then came that call
+  module _ (front rest more : List Entry) (all : front ++ (rest ++ more) ≡ h) (fronts : calls_of w.pass front ≡ x.mid)
+      (doers : List Doer) (did : AllOwn (first x) doers (calls_of w.pass rest))
+      (harmless : OthersHarmless doers (calls_of w.pass rest))
+      (apart : AllLendApart own (first x) doers (calls_of w.pass rest)) {mid new : List Call}
+      (f : FindsFault own mid (played_by (first x) doers (calls_of w.pass rest)) new)
+      (mores : calls_of w.pass more ≡ made f) where
+    abbrev p : Parts w.pass h x.mid (calls_of w.pass rest ++ made f)
+    p = record {
+      front = front;
+      back = rest ++ more;
+      both = all;
+      fronts = fronts;
+      backs = calls_joined w.pass rest more ∙ ap (λ (l : List Call). calls_of w.pass rest ++ l) mores;
+    }
 
-      joined : calls_of w.pass (rest ++ more) ≡ calls_of w.pass rest ++ made f
-      joined =
-          calls_joined w.pass rest more
-          ∙ ap (λ (l : List Call). calls_of w.pass rest ++ l)
-          (append_cancel_left mid (calls_of w.pass more) (made f) (sym mids ∙ made_is f))
+    -- the driver takes as many blocks for a packet as its start was told
+    none_there : ⊥
+    none_there =
+        let short = short_at x own fresh front (rest ++ more) all fronts in
+        no_fault w origin front rest more (first x) doers own mid new f did apart
+        (made_is f ∙ ap (λ (l : List Call). mid ++ l) (sym mores)) (record {
+          driven = driven_by x p (doers ++ doers_of own mid (played_by (first x) doers (calls_of w.pass rest)) new f)
+              (both_own (first x) doers _ (calls_of w.pass rest) (made f) did (own_all f))
+              (harmless_both doers _ (calls_of w.pass rest) (made f)
+              (own_length (first x) doers (calls_of w.pass rest) did) harmless
+              (others_harmless _ (made f) (others_step f)));
+          short =
+              subst (λ (most : ℕ). AreShort w.queue most (leads_to origin front))
+              (sym (ap (λ (r : Receive). r.layout.most) x.up.receive.fresh))
+              (short_by w.queue q frame (leads_to origin front) short.0 short.1);
+          known =
+              known_at x own (λ before behind e split mine is. (fresh before behind e split mine is).none) others front
+              (rest ++ more) all fronts;
+          others = others_behind w.pass own front (rest ++ more) (subst (OnlyPassLends w.pass own) (sym all) others);
+        })
 
-      own_both : AllOwn first (doers ++ ends) (calls_of w.pass (rest ++ more))
-      own_both =
-          subst (AllOwn first (doers ++ ends)) (sym joined)
-          (both_own first doers ends (calls_of w.pass rest) (made f) did (own_all f))
+  pub no_fault_led_on : {mid old new : List Call} {k : Halves} (led : LeadsApart own x.mid (first x) mid k)
+      (f : FindsFault own old k new) → calls_of w.pass h ≡ mid ++ made f → ⊥
+  no_fault_led_on {old = old} {new = new} led f is =
+      let (doers, since, all, did, played, harmless) = led.leads in
+      let p = parts w.pass h x.mid (since ++ made f)
+      (is ∙ ap (λ (l : List Call). l ++ made f) all ∙ append_assoc x.mid since (made f)) in
+      let then = parts w.pass p.back since (made f) p.backs in
+      let fronts = sym then.fronts in
+      let (there, mores) =
+      subst (λ (j : Halves). (g : FindsFault own old j new) × (calls_of w.pass then.back ≡ made g))
+      (played ∙ ap (played_by (first x) doers) fronts) (f, then.backs) in
+      none_there p.front then.front then.back (ap (λ (l : List Entry). p.front ++ l) then.both ∙ p.both) p.fronts doers
+      (subst (AllOwn (first x) doers) fronts did) (subst (OthersHarmless doers) fronts harmless)
+      (subst (AllLendApart own (first x) doers) fronts led.apart) there mores
 
-      others_both : OthersHarmless (doers ++ ends) (calls_of w.pass (rest ++ more))
-      others_both =
-          subst (OthersHarmless (doers ++ ends)) (sym joined)
-          (harmless_both doers ends (calls_of w.pass rest) (made f)
-          (own_length first doers (calls_of w.pass rest) did) harmless (others_harmless ends (made f) (others_step f)))
-
-      -- the driver takes as many blocks for a packet as its start was told
-      none_there : ⊥
-      none_there =
-          let p : Parts w.pass h on (calls_of w.pass (rest ++ more)) =
-          record { front = front; back = rest ++ more; both = all; fronts = fronts; backs = refl } in
-          let short = short_at up along own well fresh front (rest ++ more) all fronts in
-          no_fault w origin front rest more first doers own mid (calls_of w.pass h) f did apart mids (record {
-            driven = driven_by up along well p (doers ++ ends) own_both others_both;
-            short =
-                subst (λ (most : ℕ). AreShort w.queue most (leads_to origin front))
-                (sym (ap (λ (r : Receive). r.layout.most) up.receive.fresh))
-                (short_by w.queue q frame (leads_to origin front) short.0 short.1);
-            known =
-                known_at up along own (λ before behind e split mine is. (fresh before behind e split mine is).none)
-                others front (rest ++ more) all fronts;
-            others =
-                others_behind w.pass own front (rest ++ more) (subst (OnlyPassLends w.pass own) (sym all) others);
-          })
-
-    pub no_fault_led_on : (mid : List Call) (k : Halves) → LeadsApart own on first mid k
-        → FindsFault own mid k (calls_of w.pass h) → ⊥
-    no_fault_led_on mid k led f =
-        let p = parts w.pass h mid (made f) (made_is f) in
-        let then = parts w.pass p.front on led.leads.1 (p.fronts ∙ led.leads.2) in
-        let backs = sym then.backs in
-        none_there then.front then.back p.back
-        (sym (append_assoc then.front then.back p.back) ∙ ap (λ (l : List Entry). l ++ p.back) then.both ∙ p.both)
-        then.fronts led.leads.0 (subst (AllOwn first led.leads.0) backs led.leads.3)
-        (subst (OthersHarmless led.leads.0) backs led.leads.5)
-        (subst (AllLendApart own first led.leads.0) backs led.apart) mid
-        (subst (λ (j : Halves). FindsFault own mid j (calls_of w.pass h))
-        (led.leads.4 ∙ ap (played_by first led.leads.0) backs) f)
-        (ap (calls_of w.pass) (sym p.both) ∙ calls_joined w.pass p.front p.back
-        ∙ ap (λ (l : List Call). l ++ calls_of w.pass p.back) p.fronts)
-
-    -- also where that call comes first
-    pub no_fault_once_on : FindsFault own on first (calls_of w.pass h) → ⊥
-    no_fault_once_on f = no_fault_led_on on first (driven_apart own on on first first (apart_none own on first)) f
-
--- a call behind a driver's life, that made these calls
-module _ (x : Told) where
-  open x use {w, origin, h, q, size, frame, old, a, told}
-
-  pub never_finds : (new more : List Call)
-      → FindsFault (is_own (goes x).rings.arena) (now x).made (halves_of (goes x).rings) new
-      → BeforeLast w origin h told.started.2.receive.quiet.0 (IsFresh w.queue frame (is_own a))
-      → OnlyPassLends w.pass (is_own a) h → calls_of w.pass h ≡ new ++ more → ⊥
-  never_finds new more f fresh others made =
-      let up = told.started.2 in
-      let p = parts w.pass h new more made in
-      let along = along_before w origin p.front p.back p.both x.along in
-      let well = last_before w origin p.front p.back p.both up.receive.quiet.0 (HasGround w.queue q frame)
-      x.begins.ground in
-      let found = subst (λ (own : Blocks). FindsFault own (now x).made (halves_of (goes x).rings) new)
-      (λ i k. owns_still told k i) f in
-      no_fault_led_on
-      (on up along (record { ground = well })) along well
-      (is_own a)
-      (last_before w origin p.front p.back p.both up.receive.quiet.0 (IsFresh w.queue frame (is_own a)) fresh)
-      (others_before w.pass (is_own a) p.front p.back (subst (OnlyPassLends w.pass (is_own a)) (sym p.both) others))
-      (now x).made (halves_of (goes x).rings) (led told)
-      (subst (FindsFault (is_own a) (now x).made (halves_of (goes x).rings)) (sym p.fronts) found)
-
-pub no_call_finds_fault : NoCallFindsFault
-no_call_finds_fault x n finds y =
-    let (s, up, f) = up_next _ (now x).driver.rings n.driver.rings (goes x).rings (goes x).up finds in
-    never_finds x n.made y.more f y.fresh y.others y.made
-
--- a burst: up to some of its events both halves were driven on to a call whose reply no healthy queue gives
+-- a burst: up to some of its events both halves were driven on to a call whose reply no healthy queue gives. So it is
+-- of a call that ends so
 abbrev pub FindsAmid : Running → List Call → List Call → Type 0
 FindsAmid r old new =
     (mid : List Call) × (later : List Call) × (new ≡ mid ++ later)
@@ -207,13 +161,59 @@ burst_finds (Some f) given left result old mid new r there s drives finds x is =
       finds),
 )
 
-pub sends_find : (old new : List Call) (r s : Running) → SendsAtFault old r new s → FindsAmid r old new
-sends_find old new r s (vacant, given, left, result, x, is) =
+-- behind a driver's life no call added so
+module _ (x : Told)
+    (fresh :
+    BeforeLast x.w x.origin x.h x.told.started.2.receive.quiet.0 (IsFresh x.w.queue x.frame (is_own x.a)))
+    (others : OnlyPassLends x.w.pass (is_own x.a) x.h) where
+  open x use {w, origin, h, a}
+
+  -- up to some of its events
+  none_finds : {old new : List Call} (f : FindsFault (is_own a) old (halves_of (goes x).rings) new) (more : List Call)
+      → calls_of w.pass h ≡ ((now x).made ++ made f) ++ more → ⊥
+  none_finds f more is =
+      let p = parts w.pass h ((now x).made ++ made f) more is in
+      no_fault_led_on (on_before (begun (life x)) p.front p.back p.both) (is_own a)
+      (last_before w origin p.front p.back p.both x.told.started.2.receive.quiet.0 (IsFresh w.queue x.frame (is_own a))
+      fresh)
+      (others_before w.pass (is_own a) p.front p.back (subst (OnlyPassLends w.pass (is_own a)) (sym p.both) others))
+      (led x.told) f p.fronts
+
+  pub none_amid : (old new since more : List Call) → FindsAmid (goes x).rings old new → new ≡ old ++ since
+      → calls_of w.pass h ≡ ((now x).made ++ since) ++ more → ⊥
+  none_amid old new since more (mid, later, both, found) all is =
+      let f = subst (λ (own : Blocks). FindsFault own old (halves_of (goes x).rings) mid) (λ i k. (goes x).owns k i) found
+      in
+      let same : since ≡ made f ++ later = append_cancel_left old since (made f ++ later)
+      (sym all ∙ both ∙ ap (λ (l : List Call). l ++ later) (made_is f) ∙ append_assoc old (made f) later) in
+      none_finds f (later ++ more)
+      (is ∙ ap (λ (l : List Call). ((now x).made ++ l) ++ more) same
+      ∙ ap (λ (l : List Call). l ++ more) (sym (append_assoc (now x).made (made f) later))
+      ∙ append_assoc ((now x).made ++ made f) later more)
+
+  -- where the history's calls are told so
+  pub none_told : (new more : List Call) → FindsAmid (goes x).rings (now x).made new → calls_of w.pass h ≡ new ++ more
+      → ⊥
+  none_told new more (mid, later, both, f) is =
+      let added : new ≡ (now x).made ++ (made f ++ later) =
+      both ∙ ap (λ (l : List Call). l ++ later) (made_is f) ∙ append_assoc (now x).made (made f) later in
+      none_amid (now x).made new (made f ++ later) more (mid, later, both, f) added
+      (is ∙ ap (λ (l : List Call). l ++ more) added)
+
+pub call_amid : (r : Running) (old new : List Call) → FindsFault (is_own r.arena) old (halves_of r) new
+    → FindsAmid r old new
+call_amid r old new f = (new, [], sym (append-nil new), f)
+
+pub burst_amid : (r s : Running) (old new : List Call) → SendsAtFault old r new s → FindsAmid r old new
+burst_amid r s old new (vacant, given, left, result, x, is) =
     burst_finds x.failed given left result old x.made new r x.there s x.drives x.finds x.sends is
+
+pub no_call_finds_fault : NoCallFindsFault
+no_call_finds_fault x n finds y =
+    let (s, up, f) = up_next _ (now x).driver.rings n.driver.rings (goes x).rings (goes x).up finds in
+    none_told x y.fresh y.others n.made y.more (call_amid (goes x).rings (now x).made n.made f) y.made
 
 pub no_burst_meets_fault : NoBurstMeetsFault
 no_burst_meets_fault x n meets y =
     let (s, up, sends) = up_next _ (now x).driver.rings n.driver.rings (goes x).rings (goes x).up meets in
-    let (mid, later, both, f) = sends_find (now x).made n.made (goes x).rings s sends in
-    never_finds x mid (later ++ y.more) f y.fresh y.others
-    (y.made ∙ ap (λ (l : List Call). l ++ y.more) both ∙ append_assoc mid later y.more)
+    none_told x y.fresh y.others n.made y.more (burst_amid (goes x).rings s (now x).made n.made sends) y.made

@@ -1,95 +1,93 @@
--- What a driver handed out and what it sent in its life, and within a longer history: what begins a life is one too, at
--- a place where only harmless calls came behind it, and at a later one.
+-- What a driver handed out and what it sent once both sides of its queue went on, and so in its life; and within a
+-- longer history: what begins a life is one too.
 use Rattle.device_lock.proofs.Histories.{events_before, legal_before}
 use Rattle.driver_laws.proofs.On.{on_some, other_lent, ring_lent, switched_sides_agree, switched_sides_go_on}
+use Rattle.driver_laws.proofs.InOrder.{Led}
 use Rattle.driver_laws.proofs.Parts.{begun as begun_by}
 use Rattle.driver_laws.specs.Histories.{IsDriven}
 use Rattle.pmd_laws.proofs.Begun.{first_halves, halves_apart, halves_lent}
-use Rattle.pmd_laws.proofs.Prelude.{[], ◌++◌, ◌∙◌, ◌∷◌, ◌≡◌, AddsHarmless, AllOwn, AreEvents, AreLent, AreOn, AreUp}
-use Rattle.pmd_laws.proofs.Prelude.{AtPort, BeforeLast, Call, Doer, Entry, FindsNone, Halves, HasGround, IsAlong}
-use Rattle.pmd_laws.proofs.Prelude.{IsLegal, Leads, LeavesAloneFrom, Life, List, Numbers, OthersHarmless, Parts}
-use Rattle.pmd_laws.proofs.Prelude.{Receive, Sender, ShowsNone, State, Watched, WentOn, ℕ, ap, append_assoc}
-use Rattle.pmd_laws.proofs.Prelude.{append_cancel_left, beginning_alone, bytes_of, calls_joined, calls_of}
-use Rattle.pmd_laws.proofs.Prelude.{counted_where_up, delivered, drives_lead, halves_of, handed_is_prefix}
-use Rattle.pmd_laws.proofs.Prelude.{harmless_lead, harmless_leave_alone, idle_is_all_sent, leads_on, leads_to, lent_by}
-use Rattle.pmd_laws.proofs.Prelude.{none_is_all, none_is_all_taken, on, parts, played_by, receiving_drives, records_of}
+use Rattle.pmd_laws.proofs.Prelude.{[], ◌++◌, ◌∙◌, ◌∷◌, ◌≡◌, ◌≢◌, AllOwn, AreEvents, AreLent, AreOn, BeforeLast}
+use Rattle.pmd_laws.proofs.Prelude.{BothAgree, Call, Course, Dir, Doer, Entry, FindsNone, Halves, HasGround, IsAlong}
+use Rattle.pmd_laws.proofs.Prelude.{IsLegal, IsPrefixOf, IsSettled, IsUp, Leads, LeavesAloneFrom, Life, List}
+use Rattle.pmd_laws.proofs.Prelude.{OthersHarmless, Parts, Piece, Receive, Rx, Sender, ShowsNone, State, Tx, Watched}
+use Rattle.pmd_laws.proofs.Prelude.{WentOn, ℕ, ap, append_assoc, beginning_alone, bytes_of, calls_of, counted_where_up}
+use Rattle.pmd_laws.proofs.Prelude.{delivered, drives_lead, halves_of, handed_is_prefix, harmless_leave_alone}
+use Rattle.pmd_laws.proofs.Prelude.{idle_is_all_sent, inl, leads-append, leads_on, leads_to, led, lent_by, none_is_all}
+use Rattle.pmd_laws.proofs.Prelude.{none_is_all_taken, on, parts, pieces_in, played_by, receiving_drives, records_of}
 use Rattle.pmd_laws.proofs.Prelude.{refl, sent_in, sent_is_prefix, sent_since, subst, sym}
-use Rattle.pmd_laws.specs.Order as order
 use Rattle.driver_laws.specs.RingLaws.Delivered as receive
-use Rattle.driver_laws.specs.RingLaws.Laws as transmit
+use Rattle.driver_laws.specs.RingLaws.ReceiveUp as received
 
--- from the place on where both sides of a driver's queue are on, a history drives its halves
-module _ {w : Watched} {origin : State} {h : List Entry} {q : AtPort} {size frame : ℕ} {old : List Call} {a : Numbers}
-    {mid : List Call} {v : Receive} {t : Sender} (up : AreOn q size frame old a mid v t) (along : IsAlong w origin h)
-    (well : BeforeLast w origin h up.receive.quiet.0 (HasGround w.queue q frame)) {ys : List Call}
-    (p : Parts w.pass h mid ys) where
-  pub sides_went_on : WentOn w.queue origin p.front
-  sides_went_on =
-      switched_sides_go_on w origin h q size frame old a mid v t up along well p.front p.back p.both p.fronts
+-- both sides of a driver's queue went on over a history that leaves it alone
+pub record On (c : Course) : Type 0 where
+  pub mid : List Call
+  pub v : Receive
+  pub t : Sender
+  pub up : AreOn c.q c.size c.frame c.old c.a mid v t
+  pub along : IsAlong c.w c.origin c.h
+  pub ground : BeforeLast c.w c.origin c.h up.receive.quiet.0 (HasGround c.w.queue c.q c.frame)
 
-  -- by the doers of the calls behind it
-  pub driven_by : (doers : List Doer) → AllOwn (first_halves up) doers ys → OthersHarmless doers ys
-      → IsDriven w origin p.front p.back (first_halves up) doers
-  driven_by doers own harmless =
-      let all = sym p.both in
-      let agrees =
-      switched_sides_agree w origin h q size frame old a mid v t up along well p.front p.back p.both p.fronts in
-      let one = ring_lent up along well p.front p.back p.both p.fronts in
-      let two =
-      other_lent up along well p.front p.back p.both p.fronts in
-      record {
-        along = subst (IsAlong w origin) all along;
-        on = sides_went_on.received;
-        up = sides_went_on.receives;
-        begun =
-            begun_by w.pass p.front
-            (λ none. on_some up along well (sym p.fronts ∙ none));
-        agree = record { receive = agrees.0; transmit = agrees.1; apart = halves_apart up };
-        lent =
-            subst (λ (l : List Entry). AreLent (lent_by w.pass l) (first_halves up)) all
-            (halves_lent up (lent_by w.pass h) (λ k below. (one k below).mine) (λ k below. (two k below).mine));
-        own = subst (AllOwn (first_halves up) doers) (sym p.backs) own;
-        others =
-            harmless_leave_alone w (lent_by w.pass (p.front ++ p.back)) (leads_to origin p.front) doers p.back
-            (subst (OthersHarmless doers) (sym p.backs) harmless);
-      }
-
-module _ (x : Life) where
-  open x use {w, origin, h, q, size, frame, old, a, k}
-
-  abbrev pub up : AreUp q size frame old a x.started x.r
-  up = x.is.up
-
-  abbrev pub begun : AreOn q size frame old a up.on.mid up.empty x.r.transmit
-  begun = on up x.is.along x.is.begins
+module _ {c : Course} (x : On c) where
+  open c use {w, origin, h, q, size, frame, old, a}
+  open x use {mid, v, t, up, along, ground}
 
   abbrev pub first : Halves
-  first = first_halves begun
+  first = first_halves up
 
-  pub whole : Leads up.on.mid first x.made k
-  whole = leads_on up.on.mid x.started x.made first (halves_of x.r) k
-      (drives_lead up.on.mid x.started first (halves_of x.r)
-      (receiving_drives up.on.mid x.started first (halves_of x.r) up.on.plays.plays refl))
-      x.is.since
+  pub some_on : mid ≢ []
+  some_on = on_some up along ground
 
-  -- the history in two parts, of which the first ends there
-  pub in_parts : order.IsLived x → Parts w.pass h up.on.mid whole.1
-  in_parts lived = parts w.pass h up.on.mid whole.1 (lived ∙ whole.2)
+  -- from there on a history drives the halves
+  module _ {ys : List Call} (p : Parts w.pass h mid ys) where
+    pub sides_went_on : WentOn w.queue origin p.front
+    sides_went_on =
+        switched_sides_go_on w origin h q size frame old a mid v t up along ground p.front p.back p.both p.fronts
 
-  module _ (p : Parts w.pass h up.on.mid whole.1) where
-    pub went_on : WentOn w.queue origin p.front
-    went_on = sides_went_on begun x.is.along x.is.begins.ground p
+    -- by the doers of the calls behind it
+    pub driven_by : (doers : List Doer) → AllOwn first doers ys → OthersHarmless doers ys
+        → IsDriven w origin p.front p.back first doers
+    driven_by doers own harmless =
+        let all = sym p.both in
+        let agrees =
+        switched_sides_agree w origin h q size frame old a mid v t up along ground p.front p.back p.both p.fronts in
+        let one = ring_lent up along ground p.front p.back p.both p.fronts in
+        let two = other_lent up along ground p.front p.back p.both p.fronts in
+        record {
+          along = subst (IsAlong w origin) all along;
+          on = sides_went_on.received;
+          up = sides_went_on.receives;
+          begun = begun_by w.pass p.front (λ none. some_on (sym p.fronts ∙ none));
+          agree = record { receive = agrees.0; transmit = agrees.1; apart = halves_apart up };
+          lent =
+              subst (λ (l : List Entry). AreLent (lent_by w.pass l) first) all
+              (halves_lent up (lent_by w.pass h) (λ k below. (one k below).mine) (λ k below. (two k below).mine));
+          own = subst (AllOwn first doers) (sym p.backs) own;
+          others =
+              harmless_leave_alone w (lent_by w.pass (p.front ++ p.back)) (leads_to origin p.front) doers p.back
+              (subst (OthersHarmless doers) (sym p.backs) harmless);
+        }
 
-    pub driven : IsDriven w origin p.front p.back first whole.0
-    driven = driven_by begun x.is.along x.is.begins.ground p whole.0 whole.3 whole.5
+-- and then calls led the halves on
+pub record Ran (c : Course) : Type 0 where
+  pub there : On c
+  pub open there use *
+  pub new : List Call
+  pub k : Halves
+  pub goes : Leads mid (first there) new k
 
-    pub last : played_by first whole.0 (calls_of w.pass p.back) ≡ k
-    last = ap (played_by first whole.0) p.backs ∙ sym whole.4
+module _ {c : Course} (x : Ran c) where
+  open c use {w, origin, h}
+  open x use {mid, k, goes}
 
-    -- and so it holds of the whole history
-    pub in_all : (P : Halves → List Entry → Type 0)
-        → P (played_by first whole.0 (calls_of w.pass p.back)) (p.front ++ p.back) → P k h
-    in_all P holds = subst (P k) p.both (subst (λ (z : Halves). P z (p.front ++ p.back)) last holds)
+  module _ (p : Parts w.pass h mid goes.1) where
+    pub driven : IsDriven w origin p.front p.back (first x.there) goes.0
+    driven = driven_by x.there p goes.0 goes.3 goes.5
+
+    pub last : played_by (first x.there) goes.0 (calls_of w.pass p.back) ≡ k
+    last = ap (played_by (first x.there) goes.0) p.backs ∙ sym goes.4
+
+    went_on : WentOn w.queue origin p.front
+    went_on = sides_went_on x.there p
 
     abbrev sent : List (List ℕ)
     sent = sent_in w.queue (leads_to origin p.front) p.back
@@ -97,41 +95,102 @@ module _ (x : Life) where
     pub counted : sent_since w.queue origin [] h ≡ sent
     counted =
         ap (sent_since w.queue origin []) (sym p.both)
-        ∙ counted_where_up w origin p.front p.back first whole.0 driven went_on.sends
+        ∙ counted_where_up w origin p.front p.back (first x.there) goes.0 driven went_on.sends
         ∙ ap (λ (xs : List (List ℕ)). xs ++ sent) went_on.sent
 
-pub handed_of_life : order.HandedIsPrefix
-handed_of_life x lived =
-    let p = in_parts x lived in
-    in_all x p (λ z g. receive.IsPrefixOf z.receive.handed (delivered x.w.queue x.origin g))
-    (handed_is_prefix x.w x.origin p.front p.back (first x) (whole x).0 (driven x p))
+  -- the pass made just these calls in the history
+  module _ (made : calls_of w.pass h ≡ x.new) where
+    pub in_parts : Parts w.pass h mid goes.1
+    in_parts = parts w.pass h mid goes.1 (made ∙ goes.2)
 
-pub taken_of_life : order.NoneIsAllTaken
-taken_of_life x lived =
-    let p = in_parts x lived in
-    in_all x p
-    (λ z g. ShowsNone (leads_to x.origin g) z.receive
-    → z.receive.handed ++ records_of z.receive.whole ≡ delivered x.w.queue x.origin g)
-    (none_is_all_taken x.w x.origin p.front p.back (first x) (whole x).0 (driven x p))
+    abbrev start : State
+    start = leads_to origin in_parts.front
 
-pub none_of_life : order.NoneIsAll
-none_of_life x lived =
-    let p = in_parts x lived in
-    in_all x p (λ z g. FindsNone (leads_to x.origin g) z.receive → z.receive.handed ≡ delivered x.w.queue x.origin g)
-    (none_is_all x.w x.origin p.front p.back (first x) (whole x).0 (driven x p))
+    abbrev back : List Entry
+    back = in_parts.back
 
-pub sent_of_life : order.SentIsPrefix
-sent_of_life x lived =
-    let p = in_parts x lived in
-    subst (λ (xs : List (List ℕ)). transmit.IsPrefixOf xs (bytes_of x.k.transmit.accepted)) (sym (counted x p))
-    (in_all x p (λ z g. transmit.IsPrefixOf (sent x p) (bytes_of z.transmit.accepted))
-    (sent_is_prefix x.w x.origin p.front p.back (first x) (whole x).0 (driven x p)))
+    -- what is so in parts is so of all
+    in_all : (P : Halves → List Entry → Type 0)
+        → P (played_by (first x.there) goes.0 (calls_of w.pass back)) (in_parts.front ++ back) → P k h
+    in_all P holds =
+        subst (P k) in_parts.both (subst (λ (z : Halves). P z (in_parts.front ++ back)) (last in_parts) holds)
 
-pub idle_of_life : order.IdleIsAllSent
-idle_of_life x lived none =
-    let p = in_parts x lived in
-    in_all x p (λ z g. z.transmit.outstanding ≡ [] → bytes_of z.transmit.accepted ≡ sent x p)
-    (idle_is_all_sent x.w x.origin p.front p.back (first x) (whole x).0 (driven x p)) none ∙ sym (counted x p)
+    pub handed : receive.IsPrefixOf k.receive.handed (delivered w.queue origin h)
+    handed =
+        in_all (λ z g. receive.IsPrefixOf z.receive.handed (delivered w.queue origin g))
+        (handed_is_prefix w origin in_parts.front back (first x.there) goes.0 (driven in_parts))
+
+    pub taken : ShowsNone (leads_to origin h) k.receive
+        → k.receive.handed ++ records_of k.receive.whole ≡ delivered w.queue origin h
+    taken =
+        in_all
+        (λ z g. ShowsNone (leads_to origin g) z.receive
+        → z.receive.handed ++ records_of z.receive.whole ≡ delivered w.queue origin g)
+        (none_is_all_taken w origin in_parts.front back (first x.there) goes.0 (driven in_parts))
+
+    pub none : FindsNone (leads_to origin h) k.receive → k.receive.handed ≡ delivered w.queue origin h
+    none =
+        in_all (λ z g. FindsNone (leads_to origin g) z.receive → z.receive.handed ≡ delivered w.queue origin g)
+        (none_is_all w origin in_parts.front back (first x.there) goes.0 (driven in_parts))
+
+    pub sent_first : IsPrefixOf (sent_since w.queue origin [] h) (bytes_of k.transmit.accepted)
+    sent_first =
+        subst (λ (xs : List (List ℕ)). IsPrefixOf xs (bytes_of k.transmit.accepted)) (sym (counted in_parts))
+        (in_all (λ z g. IsPrefixOf (sent in_parts) (bytes_of z.transmit.accepted))
+        (sent_is_prefix w origin in_parts.front back (first x.there) goes.0 (driven in_parts)))
+
+    pub idle : k.transmit.outstanding ≡ [] → bytes_of k.transmit.accepted ≡ sent_since w.queue origin [] h
+    idle empty =
+        in_all (λ z g. z.transmit.outstanding ≡ [] → bytes_of z.transmit.accepted ≡ sent in_parts)
+        (idle_is_all_sent w origin in_parts.front back (first x.there) goes.0 (driven in_parts)) empty
+        ∙ sym (counted in_parts)
+
+    -- device and driver agree there, and both sides are up
+
+    pub ends : Led w (lent_by w.pass h) start [] [] back k
+    ends =
+        in_all (λ z g. Led w (lent_by w.pass g) start [] [] back z)
+        (led w origin in_parts.front back (first x.there) goes.0 (driven in_parts))
+
+    pub there_is : leads_to start back ≡ leads_to origin h
+    there_is = sym (leads-append origin in_parts.front back) ∙ ap (leads_to origin) in_parts.both
+
+    pub agree : BothAgree w.queue (leads_to origin h) (pieces_in w.queue start back)
+        (sent_since w.queue origin [] h) k
+    agree =
+        let out : List Piece = pieces_in w.queue start back in
+        subst (λ (s : State). BothAgree w.queue s out (sent_since w.queue origin [] h) k) there_is
+        (subst (λ (xs : List (List ℕ)). BothAgree w.queue (leads_to start back) out xs k) (sym (counted in_parts))
+        ends.both)
+
+    pub settled : (dir : Dir) → IsSettled dir w.queue (leads_to origin h)
+    settled Rx = inl (subst (received.IsUp w.queue) there_is (ends.receives (went_on in_parts).receives)).on
+    settled Tx = inl (subst (IsUp w.queue) there_is (ends.sends (went_on in_parts).sends)).on
+
+-- a life did
+
+module _ (x : Life) where
+  open x use {w, origin, h, q, size, frame, old, a, started, r, k, is}
+
+  abbrev pub begun : On x.course
+  begun = record {
+    mid = is.up.on.mid;
+    v = is.up.empty;
+    t = r.transmit;
+    up = on is.up is.along is.begins;
+    along = is.along;
+    ground = is.begins.ground;
+  }
+
+  pub whole : Leads is.up.on.mid (first begun) x.made k
+  whole =
+      leads_on is.up.on.mid started x.made (first begun) (halves_of r) k
+      (drives_lead is.up.on.mid started (first begun) (halves_of r)
+      (receiving_drives is.up.on.mid started (first begun) (halves_of r) is.up.on.plays.plays refl))
+      is.since
+
+  abbrev pub ran : Ran x.course
+  ran = record { there = begun; new = x.made; k = k; goes = whole }
 
 -- what begins a history
 
@@ -153,69 +212,26 @@ module _ (w : Watched) (origin : State) {h : List Entry} (before rest : List Ent
       at done (more ++ rest) e
       (sym (append_assoc done (e ∷ more) rest) ∙ ap (λ (l : List Entry). l ++ rest) both ∙ all) own is
 
--- and a life up to there, where its calls lead to these halves
-abbrev pub life_before : (x : Life) (before rest : List Entry) → before ++ rest ≡ x.h → (calls : List Call) (k : Halves)
-    → Leads x.started (halves_of x.r) calls k → Life
-life_before x before rest all calls k goes = record x {
-  h = before;
-  made = calls;
-  k = k;
-  is = record {
-    along = along_before x.w x.origin before rest all x.is.along;
-    up = x.is.up;
-    begins = record {
-      ground =
-          last_before x.w x.origin before rest all x.is.up.receive.quiet.0 (HasGround x.w.queue x.q x.frame)
-          x.is.begins.ground;
-    };
-    since = goes;
-  };
+-- so both sides went on within it
+abbrev pub on_before : {c : Course} (x : On c) (before rest : List Entry) → before ++ rest ≡ c.h → On (record c { h = before })
+on_before {c = c} x before rest all = record {
+  mid = x.mid;
+  v = x.v;
+  t = x.t;
+  up = x.up;
+  along = along_before c.w c.origin before rest all x.along;
+  ground =
+      last_before c.w c.origin before rest all x.up.receive.quiet.0 (HasGround c.w.queue c.q c.frame) x.ground;
 }
 
--- a later place of a life's history, where these calls lead to these halves
-pub record Later (x : Life) : Type 0 where
-  pub late : List Entry
-  pub rest : List Entry
-  pub split : late ++ rest ≡ x.h
-  pub calls : List Call
-  pub then : Halves
-  pub goes : Leads x.started (halves_of x.r) calls then
-  pub made : calls_of x.w.pass late ≡ calls
-
-module _ (x : Life) (l : Later x) where
-  -- the life up to there
-  abbrev pub life_then : Life
-  life_then = life_before x l.late l.rest l.split l.calls l.then l.goes
-
-  -- and up to the other place
-  module _ (early more : List Entry) (all : early ++ more ≡ l.late)
-      (is : AddsHarmless x.made (calls_of x.w.pass early)) where
-    abbrev pub life_early : Life
-    life_early =
-        life_before x early (more ++ l.rest)
-        (sym (append_assoc early more l.rest) ∙ ap (λ (es : List Entry). es ++ l.rest) all ∙ l.split)
-        (calls_of x.w.pass early) x.k
-        (leads_on x.started x.made (calls_of x.w.pass early) (halves_of x.r) x.k x.k x.is.since
-        (harmless_lead x.made (calls_of x.w.pass early) x.k is))
-
-    pub early_parts : Parts x.w.pass early x.is.up.on.mid (whole life_early).1
-    early_parts = in_parts life_early refl
-
-    pub parts_join : early_parts.front ++ (early_parts.back ++ more) ≡ l.late
-    parts_join =
-        sym (append_assoc early_parts.front early_parts.back more)
-        ∙ ap (λ (es : List Entry). es ++ more) early_parts.both ∙ all
-
-    -- both begin as the sides went on
-    abbrev pub late_parts : Parts x.w.pass l.late x.is.up.on.mid (whole life_then).1
-    late_parts = record {
-      front = early_parts.front;
-      back = early_parts.back ++ more;
-      both = parts_join;
-      fronts = early_parts.fronts;
-      backs =
-          append_cancel_left x.is.up.on.mid (calls_of x.w.pass (early_parts.back ++ more)) (whole life_then).1
-          (ap (λ (cs : List Call). cs ++ calls_of x.w.pass (early_parts.back ++ more)) (sym early_parts.fronts)
-          ∙ sym (calls_joined x.w.pass early_parts.front (early_parts.back ++ more))
-          ∙ ap (calls_of x.w.pass) parts_join ∙ l.made ∙ (whole life_then).2);
+-- and it is a life up to there, where its calls lead to these halves
+abbrev pub life_before : (x : Life) (before rest : List Entry) → before ++ rest ≡ x.h → (calls : List Call) (k : Halves)
+    → Leads x.started (halves_of x.r) calls k → Life
+life_before x before rest all calls k goes =
+    let there = on_before (begun x) before rest all in
+    record x {
+      course = record x.course { h = before };
+      made = calls;
+      k = k;
+      is = record { along = there.along; up = x.is.up; begins = record { ground = there.ground }; since = goes };
     }

@@ -3,69 +3,41 @@
 use Rattle.pmd.specs.PmdSeam.Frames.{is_frame}
 use Rattle.pmd.specs.PmdSeam.declared.fault.PmdFault.TheVariants.{BadSize}
 use Rattle.driver_laws.proofs.Laid.{laid_queue_is_silent}
-use Rattle.driver_laws.specs.RingLaws.Sent.{counted_by, goes_on}
 use Rattle.pmd_laws.specs.Refused.{LeftOfRefusedIsPrefix, Refused, RefusedSendsNothing}
-use Rattle.pmd_laws.proofs.Laid.{LaysBetween, LaysSome, Stays, first_lays, going_on_fails, lays_behind, lending_stays}
-use Rattle.pmd_laws.proofs.Laid.{lends_stay, receive_fails, receive_ready, stays_between, then_between, words_lay}
-use Rattle.pmd_laws.proofs.Laid.{words_stop}
+use Rattle.pmd_laws.proofs.Laid.{LaysSome, LaysTo, Stays, first_lays, going_on_fails, lays_behind, prepared_lays}
+use Rattle.pmd_laws.proofs.Laid.{preparing_lays, receive_fails, receive_ready, stay, then_lays, then_some}
 use Rattle.pmd_laws.proofs.Prelude.{[], ◌&&◌, ◌++◌, ◌∙◌, ◌∷◌, ◌≡◌, AtPort, Block, Bool, Call, ComesDown, Each, Empty}
 use Rattle.pmd_laws.proofs.Prelude.{Entry, Err, Event, GoingOnFails, Halted, IsEnding, IsHalfStarted, IsHome}
 use Rattle.pmd_laws.proofs.Prelude.{IsLeftWith, IsShut, Laid, LaysOn, List, MayAsk, NeverLived, None, Numbers, Off}
-use Rattle.pmd_laws.proofs.Prelude.{Option, PmdFault, PreparingFails, Receive, Rest, Rx, Rxdctl, Some, StartRefused}
-use Rattle.pmd_laws.proofs.Prelude.{State, StopsStarting, Tx, Txdctl, ℕ, after, and_parts, ap, append-nil, append_assoc}
-use Rattle.pmd_laws.proofs.Prelude.{append_cancel_left, bytes_of, call_in, calls_joined, calls_of, calls_own, cond}
-use Rattle.pmd_laws.proofs.Prelude.{delivered, either_way, eq-eqb, false, has_bit, inl, inr, is_size, leads_to}
-use Rattle.pmd_laws.proofs.Prelude.{most_blocks, refl, ring_blocks, sent_by, sent_in, sent_since, start_gate, subst}
-use Rattle.pmd_laws.proofs.Prelude.{sym, then_made, true}
+use Rattle.pmd_laws.proofs.Prelude.{Option, PmdFault, Receive, Rest, Rx, Rxdctl, Some, StartRefused, State}
+use Rattle.pmd_laws.proofs.Prelude.{StopsStarting, Tx, Txdctl, ℕ, and_parts, ap, append_assoc, append_cancel_left}
+use Rattle.pmd_laws.proofs.Prelude.{bytes_of, call_in, calls_joined, calls_of, calls_own, cond, delivered, eq-eqb}
+use Rattle.pmd_laws.proofs.Prelude.{false, has_bit, inl, inr, is_size, last, leads_to, left, most_blocks, named}
+use Rattle.pmd_laws.proofs.Prelude.{none_made, refl, sent_in, sent_is_counted, sent_since, start_gate, subst}
+use Rattle.pmd_laws.proofs.Prelude.{sym, true}
 use Rattle.pmd_laws.proofs.StopCalls.{stopped_ends}
 use Rattle.nic_device.specs.declared.event.Event.TheVariants as event
 use Rattle.pmd.specs.declared.start.Rest.TheVariants as rest
 use Rattle.driver_laws.specs.RingLaws.Delivered as receive
 use Rattle.driver_laws.specs.RingLaws.Laws as transmit
 
-module _ (q : AtPort) (size frame : ℕ) (is : is_size size ≡ true) where
-  -- the transmit ring isn't prepared
-  transmit_fails : (f : PmdFault) (old : List Call) (a : Numbers) (new : List Call) (b : Numbers) (out : List ℕ)
-      → PreparingFails f q Tx size old a new b out → LaysSome q Off old new
-  transmit_fails f old a new b out (ring, free, inl (stops, same, none)) = words_stop q ring size is f old new stops
-  transmit_fails f old a new b out (ring, free, inr (mid, words, stops)) = (
-    Empty,
-    then_between q Off Empty Empty old mid new (words_lay q ring size is old mid words)
-        (stays_between q Empty mid new
-        (then_made (Stays q Empty) mid stops.mid new (lends_stay q Empty out mid stops.mid stops.lent)
-        (lending_stays q Empty f stops.mid new _ stops.fails))),
-  )
-
-  -- a start that was refused amid its events
-  starting_lays : (old : List Call) (a : Numbers) (new : List Call) (e : StartRefused)
-      → StopsStarting q size frame old a new e → LaysSome q Off old new
-  starting_lays old a new e (inl x) =
-      (Off, stays_between q Off old new (receive_fails q e.fault size old a new x.arena x.out x.fails))
-  starting_lays old a new e (inr (inl x)) =
-      let (last, more) = transmit_fails e.fault x.made x.ready_arena new x.arena x.out x.fails in (
-        last,
-        then_between q Off Off last old x.made new
-            (stays_between q Off old x.made (receive_ready q size frame old a x.made x.ready_arena x.empty x.receive))
-            more,
-      )
-  starting_lays old a new e (inr (inr x)) =
-      let ring = x.receive.ring in
-      let sent = x.transmit.prepared in
-      let fails = subst
-      (λ (v : Receive). GoingOnFails e.fault q x.both_made x.both_arena v new x.arena x.filled) x.receive.fresh
-      x.fails in (
-        Empty,
-        then_between q Off Off Empty old x.ready_made new
-            (stays_between q Off old x.ready_made
-            (receive_ready q size frame old a x.ready_made x.ready_arena x.empty x.receive))
-            (then_between q Off Empty Empty x.ready_made sent.mid new
-            (words_lay q x.transmit.ring size is x.ready_made sent.mid sent.words)
-            (stays_between q Empty sent.mid new
-            (then_made (Stays q Empty) sent.mid x.both_made new
-            (lends_stay q Empty (ring_blocks x.transmit.ring size) sent.mid x.both_made sent.lent)
-            (going_on_fails q e.fault x.both_made x.both_arena x.receive.tail ring size (most_blocks frame) new x.arena
-            x.filled x.receive.named fails)))),
-      )
+-- a start that was refused amid its events
+starting_lays : {q : AtPort} {size frame : ℕ} {old : List Call} {a : Numbers} {new : List Call} {e : StartRefused}
+    → is_size size ≡ true → StopsStarting q size frame old a new e → LaysSome q Off old new
+starting_lays {size = size} {a = a} {e = e} is (inl x) = receive_fails e.fault size a x.arena x.out is x.fails
+starting_lays {size = size} {e = e} is (inr (inl x)) =
+    then_some (receive_ready is x.receive) (preparing_lays e.fault Tx size x.ready_arena x.arena x.out is x.fails)
+starting_lays {q = q} {size = size} {frame = frame} {new = new} {e = e} is (inr (inr x)) =
+    let fails = subst
+    (λ (v : Receive). GoingOnFails e.fault q x.both_made x.both_arena v new x.arena x.filled) x.receive.fresh x.fails in
+    record {
+      last = Empty;
+      lays =
+          then_lays (receive_ready is x.receive)
+          (then_lays (prepared_lays is x.transmit.prepared)
+          (going_on_fails q e.fault x.both_arena x.receive.tail x.receive.ring size (most_blocks frame) x.arena x.filled
+          x.receive.named fails));
+    }
 
 -- a call of a stop lays nothing out
 
@@ -86,30 +58,29 @@ each_stays q l (c ∷ cs) are = (ending_stays q l c.event are.0, each_stays q l 
 
 -- what is left comes down
 
-home_lays : (q : AtPort) (l : Laid) (a : Numbers) (r : Rest) (old new : List Call) (left : Rest) → IsHome a r
-    → ComesDown old r new left → LaysBetween q l old new l
-home_lays q l a (rest.Home home) old new left is (same, none) = ([], none ∙ sym (append-nil old), refl)
-home_lays q l a (rest.Running p) old new left is down = absurd is
+home_lays : {q : AtPort} {l : Laid} (a : Numbers) (r : Rest) (old new : List Call) (left : Rest) → IsHome a r
+    → ComesDown old r new left → LaysTo q l old new l
+home_lays {q = q} {l = l} a (rest.Home home) old new left is (same, none) = stay (none_made (Stays q l) old new none)
+home_lays a (rest.Running p) old new left is down = absurd is
 
-half_lays : (q : AtPort) (l : Laid) (h : Halted) (r : Rest) (old new : List Call) (left : Rest) → IsHalfStarted q h r
-    → ComesDown old r new left → LaysBetween q l old new l
-half_lays q l h r old new left is down =
+half_lays : {q : AtPort} {l : Laid} (h : Halted) (r : Rest) (old new : List Call) (left : Rest) → IsHalfStarted q h r
+    → ComesDown old r new left → LaysTo q l old new l
+half_lays {q = q} {l = l} h r old new left is down =
     let (late, stopped) = subst (λ (x : Rest). ComesDown old x new left) is down in
     let (calls, made, are) = stopped_ends q old h new left late stopped in
-    stays_between q l old new (calls, made, each_stays q l calls are)
+    stay {new = new} (calls, made, each_stays q l calls are)
 
-left_lays : (q : AtPort) (l : Laid) (a : Numbers) (out : List ℕ) (r : Rest) (old new : List Call) (left : Rest)
-    → IsLeftWith q a out r → ComesDown old r new left → LaysBetween q l old new l
-left_lays q l a [] r old new left is down = home_lays q l a r old new left is down
-left_lays q l a (n ∷ ns) r old new left is down = half_lays q l _ r old new left is down
+left_lays : {q : AtPort} {l : Laid} (a : Numbers) (out : List ℕ) (r : Rest) (old new : List Call) (left : Rest)
+    → IsLeftWith q a out r → ComesDown old r new left → LaysTo q l old new l
+left_lays a [] r old new left is down = home_lays a r old new left is down
+left_lays a (n ∷ ns) r old new left is down = half_lays _ r old new left is down
 
-stopping_lays : (q : AtPort) (size frame : ℕ) (old : List Call) (a : Numbers) (made : List Call) (e : StartRefused)
-    (new : List Call) (left : Rest) (l : Laid) → StopsStarting q size frame old a made e
-    → ComesDown made e.rest new left → LaysBetween q l made new l
-stopping_lays q size frame old a made e new left l (inl x) down =
-    left_lays q l x.arena x.out e.rest made new left x.left down
-stopping_lays q size frame old a made e new left l (inr (inl x)) down = half_lays q l _ e.rest made new left x.left down
-stopping_lays q size frame old a made e new left l (inr (inr x)) down = half_lays q l _ e.rest made new left x.left down
+stopping_lays : {q : AtPort} {l : Laid} {size frame : ℕ} {old : List Call} {a : Numbers} (made : List Call)
+    (e : StartRefused) (new : List Call) (left : Rest) → StopsStarting q size frame old a made e
+    → ComesDown made e.rest new left → LaysTo q l made new l
+stopping_lays made e new left (inl x) down = left_lays x.arena x.out e.rest made new left x.left down
+stopping_lays made e new left (inr (inl x)) down = half_lays _ e.rest made new left x.left down
+stopping_lays made e new left (inr (inr x)) down = half_lays _ e.rest made new left x.left down
 
 -- a start that isn't refused before any event has a size
 is_passed : (b : Bool) (more : Option PmdFault) (f : PmdFault) → cond b more (Some f) ≡ None → b ≡ true
@@ -122,17 +93,15 @@ module _ (q : AtPort) (size frame : ℕ) (old : List Call) (a : Numbers) (e : St
   by_gate None is =
       let stops = x.stops is in
       let sized = (and_parts _ _ (is_passed (is_size size && is_frame frame) _ BadSize is)).0 in
-      let (l, so_far) = starting_lays q size frame sized old a x.made e stops in (
-        l,
-        then_between q Off l l old x.made new so_far
-            (stopping_lays q size frame old a x.made e new left l stops x.down),
-      )
+      let so_far : LaysSome q Off old x.made = starting_lays sized stops in
+      record { last = so_far.last; lays = then_lays so_far.lays (stopping_lays x.made e new left stops x.down) }
   by_gate (Some f) is =
-      let (why, home, none) = subst (λ (g : Option PmdFault). IsShut g a old x.made (Err e)) is x.shut in (
-        Off,
-        subst (λ (made : List Call). LaysBetween q Off made new Off) none
-            (home_lays q Off a e.rest x.made new left home x.down),
-      )
+      let (why, home, none) = subst (λ (g : Option PmdFault). IsShut g a old x.made (Err e)) is x.shut in
+      record {
+        last = Off;
+        lays =
+            subst (λ (made : List Call). LaysTo q Off made new Off) none (home_lays a e.rest x.made new left home x.down);
+      }
 
 -- where nothing is sent at all, nothing is counted
 
@@ -141,13 +110,9 @@ first_none [] ys is = (refl, is)
 first_none (x ∷ xs) ys is = cc
 
 since_none : (queue : ℕ) (s : State) (h : List Entry) → sent_in queue s h ≡ [] → sent_since queue s [] h ≡ []
-since_none queue s [] none = refl
-since_none queue s (e ∷ h) none =
-    let t = after s e.event in
-    let (now, later) = first_none (sent_by queue s e.event) (sent_in queue t h) none in
-    let here : counted_by queue s e.event [] ≡ [] =
-    either_way (λ (sent : List (List ℕ)). sent ≡ []) (goes_on queue s e.event) [] (sent_by queue s e.event) refl now in
-    ap (λ (sent : List (List ℕ)). sent_since queue t sent h) here ∙ since_none queue t h later
+since_none queue s h none =
+    let (before, is) = sent_is_counted.end queue s [] h in
+    (first_none before (sent_since queue s [] h) (sym is ∙ none)).1
 
 module _ (x : Refused) where
   open x use {w, origin, q, old, first, behind}
@@ -165,11 +130,12 @@ module _ (x : Refused) where
 
   lays : (last : Laid) × LaysOn q Off calls last
   lays =
-      let (end, (made, is, all)) = by_gate q x.size x.frame old x.a x.e x.new x.left x.never _ refl in
-      let both : made ≡ x.since ++ x.rest =
-      append_cancel_left old made (x.since ++ x.rest) (sym is ∙ x.all ∙ append_assoc old x.since x.rest) in
-      let (last, so_far, more) = first_lays q Off end x.since x.rest
-      (subst (λ (cs : List Call). LaysOn q Off cs end) both all) in (
+      let all = by_gate q x.size x.frame old x.a x.e x.new x.left x.never _ refl in
+      let both : all.lays.calls ≡ x.since ++ x.rest =
+      append_cancel_left old all.lays.calls (x.since ++ x.rest)
+      (sym all.lays.made ∙ x.all ∙ append_assoc old x.since x.rest) in
+      let (last, so_far, more) = first_lays q Off all.last x.since x.rest
+      (subst (λ (cs : List Call). LaysOn q Off cs all.last) both all.lays.lays) in (
         last,
         lays_behind q Off last x.steps calls x.stepped
             (subst (λ (cs : List Call). LaysOn q Off cs last) since_is so_far),

@@ -1,14 +1,15 @@
--- What the calls of a driver tell is told of the calls that were added alone: it holds behind whichever others.
-use Rattle.pmd.specs.PmdRx.Plays.{LooksInVain}
-use Rattle.pmd_laws.proofs.Prelude.{[], ◌++◌, ◌∙◌, ◌∷◌, ◌≡◌, Adds, AreMadeOf}
-use Rattle.pmd_laws.proofs.Prelude.{Block, Blocks, Call, DrivesApart, DrivesRings}
-use Rattle.pmd_laws.proofs.Prelude.{Event, FindsFault, Halves}
-use Rattle.pmd_laws.proofs.Prelude.{List, LooksLast, Numbers, Plays, PlaysFrom}
-use Rattle.pmd_laws.proofs.Prelude.{Receive, Reply, Running, Sender}
-use Rattle.pmd_laws.proofs.Prelude.{ap, append_assoc}
-use Rattle.pmd_laws.proofs.Prelude.{append_cancel_left, call_of}
-use Rattle.pmd_laws.proofs.Prelude.{refl, subst, sym}
-use Rattle.pmd.specs.PmdTx.Plays as sending
+-- What the calls of a driver tell is told of the calls that were added alone: it holds behind whichever others. So it is
+-- of what its halves were driven by, and of a start.
+use Rattle.pmd.specs.PmdRx.Filling.{StopsFilling}
+use Rattle.pmd.specs.PmdRx.Wrong.{EndsWrong}
+use Rattle.pmd_laws.proofs.Prelude.{[], ◌++◌, ◌∙◌, ◌∷◌, ◌≡◌, ◌⊎◌, Access, Adds, AreMade, AreUp, AtPort, Block, Bool}
+use Rattle.pmd_laws.proofs.Prelude.{Call, DeviceFault, Dir, DrivesRings, Event, FaultsEarly, FaultsFilling, IsMade}
+use Rattle.pmd_laws.proofs.Prelude.{IsOtherwise, IsPrepared, IsReceiveReady, IsStrayRead, IsSwitched, IsTransmitReady}
+use Rattle.pmd_laws.proofs.Prelude.{LendsEach, List, Numbers, PlaysFrom, PollsEnd, PreparingFails, Receive}
+use Rattle.pmd_laws.proofs.Prelude.{ReceiveFails, Reply, RowId, Running, Rx, Rxdctl, Sees, Sender, Sets, StopsBy}
+use Rattle.pmd_laws.proofs.Prelude.{StopsLending, SwitchFails, Tx, ℕ, ap, append-nil, append_assoc, append_cancel_left}
+use Rattle.pmd_laws.proofs.Prelude.{both_asked, both_quiet, call_of, false, inl, inr, last, missed, named, not, place}
+use Rattle.pmd_laws.proofs.Prelude.{polled, quiet, receive_polled, refl, ring_words, subst, sym, true}
 
 -- some calls were added, of which this holds, whatever calls are before them
 pub record Shifts (R : List Call → List Call → Type 0) (old new : List Call) : Type 0 where
@@ -31,12 +32,30 @@ joined {T = T} {old = old} x y join = record {
       (join front (front ++ x.since) ((front ++ x.since) ++ y.since) (x.behind front) (y.behind (front ++ x.since)));
 }
 
-pub paired : {R S : List Call → List Call → Type 0} {old mid new : List Call} → Shifts R old mid → Shifts S mid new
-    → Shifts (λ o n. (m : List Call) × R o m × S m n) old new
-paired x y = joined x y (λ o m n r s. (m, r, s))
+-- so a relation of calls may be
+
+abbrev pub Shift : (List Call → List Call → Type 0) → Type 0
+Shift R = (old new : List Call) → R old new → Shifts R old new
+
+-- with a place amid the calls that is known behind others too
+abbrev pub ShiftAt : (R : List Call → List Call → Type 0) → ((o n : List Call) → R o n → List Call) → Type 0
+ShiftAt R place =
+    (old new : List Call) (x : R old new) → (at : List Call) × (place old new x ≡ old ++ at)
+    × Shifts (λ o n. (y : R o n) × (place o n y ≡ o ++ at)) old new
+
+none : Shift (λ o n. n ≡ o)
+none old new is = record { since = []; made = is ∙ sym (append-nil old); behind = λ front. append-nil front }
+
+pub then : {R S : List Call → List Call → Type 0} → Shift R → Shift S → Shift (λ o n. (m : List Call) × R o m × S m n)
+then first second old new (mid, x, y) =
+    joined (first old mid x) (second mid new y) (λ o m n r s. (m, r, s))
+
+either : {R S : List Call → List Call → Type 0} → Shift R → Shift S → Shift (λ o n. R o n ⊎ S o n)
+either first second old new (inl x) = mapped (first old new x) (λ o n r. inl r)
+either first second old new (inr y) = mapped (second old new y) (λ o n s. inr s)
 
 -- two things of the same calls
-pub both : {R S : List Call → List Call → Type 0} {old new : List Call} → Shifts R old new → Shifts S old new
+both : {R S : List Call → List Call → Type 0} {old new : List Call} → Shifts R old new → Shifts S old new
     → Shifts (λ o n. R o n × S o n) old new
 both {S = S} {old = old} x y =
     let same : y.since ≡ x.since = append_cancel_left old y.since x.since (sym y.made ∙ x.made) in
@@ -44,11 +63,8 @@ both {S = S} {old = old} x y =
     record { since = x.since; made = x.made; behind = λ front. (x.behind front, told front) }
 
 -- where they end is known behind others too
-abbrev pub At : (List Call → List Call → Type 0) → List Call → List Call → List Call → Type 0
-At R at o n = R o n × (n ≡ o ++ at)
-
 pub known : {R : List Call → List Call → Type 0} {old new : List Call} (x : Shifts R old new)
-    → Shifts (At R x.since) old new
+    → Shifts (λ o n. R o n × (n ≡ o ++ x.since)) old new
 known x = record { since = x.since; made = x.made; behind = λ front. (x.behind front, refl) }
 
 -- what shifts holds behind other calls, where the calls that were added are known
@@ -58,95 +74,274 @@ shifted {R = R} {old = old} x since front made =
     subst (λ (l : List Call). R front (front ++ l)) (append_cancel_left old x.since since (sym x.made ∙ made))
     (x.behind front)
 
--- calls of a kind, and calls as each half tells them
+-- a call, and calls as each half tells them
 
-pub of_shift : (P : Event Block → Type 0) {old new : List Call} → AreMadeOf P old new
-    → Shifts (λ o n. AreMadeOf P o n) old new
-of_shift P (calls, is, are) = record { since = calls; made = is; behind = λ front. (calls, refl, are) }
-
-pub adds_shift : (e : Event Block) (reply : Reply Block) (old new : List Call) → Adds old new e reply
-    → Shifts (λ o n. Adds o n e reply) old new
-adds_shift e reply old new (before, made, steps) =
+adds : (e : Event Block) (reply : Reply Block) → Shift (λ o n. Adds o n e reply)
+adds e reply old new (before, made, steps) =
     record { since = before ++ call_of e reply ∷ []; made = made; behind = λ front. (before, refl, steps) }
 
-pub plays_shift : {a : Numbers} {v w : Receive} {old new : List Call} → PlaysFrom a old v new w
-    → Shifts (λ o n. PlaysFrom a o v n w) old new
-plays_shift x =
+plays : (a : Numbers) (v w : Receive) → Shift (λ o n. PlaysFrom a o v n w)
+plays a v w old new x =
     let (marks, since, made, own, is, steps) = x.plays in record {
       since = since;
       made = made;
       behind = λ front. record { plays = (marks, since, refl, own, is, steps); free = x.free };
     }
 
-pub apart_shift : {mine : Blocks} {h k : Halves} {old new : List Call} → DrivesApart mine old h new k
-    → Shifts (λ o n. DrivesApart mine o h n k) old new
-apart_shift x =
-    let (doers, since, made, own, is, steps) = x.drives in record {
+pub rings : (r s : Running) → Shift (λ o n. DrivesRings o r n s)
+rings r s old new x =
+    let (doers, since, made, own, is, steps) = x.apart.drives in record {
       since = since;
       made = made;
-      behind = λ front. record { drives = (doers, since, refl, own, is, steps); apart = x.apart };
+      behind = λ front. record {
+        apart = record { drives = (doers, since, refl, own, is, steps); apart = x.apart.apart };
+        owns = x.owns;
+      };
     }
 
-pub rings_shift : (r s : Running) (old new : List Call) → DrivesRings old r new s
-    → Shifts (λ o n. DrivesRings o r n s) old new
-rings_shift r s old new x = mapped (apart_shift x.apart) (λ o n y. record { apart = y; owns = x.owns })
+-- accesses of registers, and those that stop
 
--- a look that finds no packet, and one that finds a packet waiting
+module _ (q : AtPort) where
+  access : (a : Access) → Shift (λ o n. IsMade q o n a)
+  access (Sees row on) old new (number, word, named, has, x) =
+      mapped (adds _ _ old new x) (λ o n y. (number, word, named, has, y))
+  access (Sets row word) old new (number, named, x) = mapped (adds _ _ old new x) (λ o n y. (number, named, y))
 
-pub in_vain_shift : (v w : Receive) (old new : List Call) → LooksInVain old v new w
-    → Shifts (λ o n. LooksInVain o v n w) old new
-in_vain_shift v w old new x =
-    let (marks, since, made, own, is, steps) = x.looks in
-    let looks : Shifts (λ o n. Plays o v n w) old x.mid =
-    record { since = since; made = made; behind = λ front. (marks, since, refl, own, is, steps) } in
-    joined looks (adds_shift _ _ x.mid new x.last)
-    (λ o m n plays last. record {
+  accesses : (all : List Access) → Shift (λ o n. AreMade q o n all)
+  accesses [] = none
+  accesses (a ∷ rest) = then (access a) (accesses rest)
+
+  -- those by which both sides are seen off, with the place behind the first
+  quieted : ShiftAt (λ o n. AreMade q o n both_quiet) (λ o n y. y.0)
+  quieted old new (mid, one, more) =
+      let first = access (Sees Rxdctl false) old mid one in (
+        first.since,
+        first.made,
+        joined (known first) (accesses (Sets Rxdctl 0 ∷ Sees Rxdctl false ∷ quiet Tx) mid new more)
+            (λ o m n x y. ((m, x.0, y), x.1)),
+      )
+
+  pub switched : (on : Bool) (polls : ℕ) → Shift (λ o n. IsSwitched q o n on polls)
+  switched on polls old new (first, second, few, made) =
+      mapped (accesses (receive_polled on first ++ polled Tx on second) old new made) (λ o n x. (first, second, few, x))
+
+  stray : (row : RowId) → Shift (λ o n. IsStrayRead q o n row)
+  stray row old new (number, word, named, x) = mapped (adds _ _ old new x) (λ o n y. (number, word, named, y))
+
+  otherwise : (a : Access) → Shift (λ o n. IsOtherwise q o n a)
+  otherwise (Sees row on) old new x = either (access (Sees row (not on))) (stray row) old new x
+  otherwise (Sets row word) old new (number, told, named, x) =
+      mapped (adds _ _ old new x) (λ o n y. (number, told, named, y))
+
+  stops : (all : List Access) → Shift (λ o n. StopsBy DeviceFault q o n all)
+  stops all old new (done, a, rest, mid, is, made, fails) =
+      joined (accesses done old mid made) (otherwise a mid new fails) (λ o m n x y. (done, a, rest, m, is, x, y))
+
+  polls_end : (side : Dir) (on : Bool) (polls : ℕ) → Shift (λ o n. PollsEnd DeviceFault q o n side on polls)
+  polls_end side on polls old new (misses, mid, few, made, x) =
+      joined (accesses (missed side on misses) old mid made) (stray _ mid new x) (λ o m n y z. (misses, m, few, y, z))
+
+  switch_fails : (on : Bool) (polls : ℕ) → Shift (λ o n. SwitchFails DeviceFault q o n on polls)
+  switch_fails on polls old new (inl x) = mapped (stops (both_asked on) old new x) (λ o n y. inl y)
+  switch_fails on polls old new (inr (inl x)) =
+      mapped (then (accesses (both_asked on)) (polls_end Rx on polls) old new x) (λ o n y. inr (inl y))
+  switch_fails on polls old new (inr (inr (first, mid, few, made, ends))) =
+      joined (accesses (receive_polled on first) old mid made) (polls_end Tx on _ mid new ends)
+      (λ o m n x y. inr (inr (first, m, few, x, y)))
+
+-- rings that are prepared, and filled
+
+lends : (ns : List ℕ) → Shift (λ o n. LendsEach o n ns)
+lends [] = none
+lends (n ∷ ns) = then (adds _ _) (lends ns)
+
+prepared : (q : AtPort) (side : Dir) (size : ℕ) (a b : Numbers) (ring : ℕ)
+    → Shift (λ o n. IsPrepared q side size o a n b ring)
+prepared q side size a b ring old new x =
+    joined (accesses q _ old x.mid x.words) (lends _ x.mid new x.lent)
+    (λ o m n words lent. record { drawn = x.drawn; mid = m; words = words; lent = lent })
+
+transmit : (q : AtPort) (size frame : ℕ) (a b : Numbers) (v : Sender)
+    → Shift (λ o n. IsTransmitReady q size frame o a n b v)
+transmit q size frame a b v old new x =
+    mapped (prepared q Tx size a b x.ring old new x.prepared)
+    (λ o n y. record { ring = x.ring; prepared = y; tail = x.tail; named = x.named; fresh = x.fresh })
+
+-- the receive ring, with the place behind its first access
+receive_at : (q : AtPort) (size frame : ℕ) (a b : Numbers) (v : Receive)
+    → ShiftAt (λ o n. IsReceiveReady q size frame o a n b v) (λ o n y. y.quiet.0)
+receive_at q size frame a b v old new x =
+    let (at, is, quiet) = quieted q old x.mid x.quiet in (
+      at,
+      is,
+      joined quiet (prepared q Rx size a b x.ring x.mid new x.prepared) (λ o m n y again. (
+        record {
+          mid = m;
+          quiet = y.0;
+          ring = x.ring;
+          prepared = again;
+          tail = x.tail;
+          named = x.named;
+          fresh = x.fresh;
+        },
+        y.1,
+      )),
+    )
+
+receive : (q : AtPort) (size frame : ℕ) (a b : Numbers) (v : Receive)
+    → Shift (λ o n. IsReceiveReady q size frame o a n b v)
+receive q size frame a b v old new x =
+    let (at, is, shifts) = receive_at q size frame a b v old new x in mapped shifts (λ o n y. y.0)
+
+lending : (all : List ℕ) (a b : Numbers) (out : List ℕ) → Shift (λ o n. StopsLending DeviceFault all o a n b out)
+lending all a b out old new x =
+    let (back, again) = x.fails in
+    joined (lends out old x.mid x.lent) (adds _ _ x.mid new again)
+    (λ o m n lent last. record {
+      next = x.next;
+      rest = x.rest;
+      parts = x.parts;
+      drawn = x.drawn;
+      free = x.free;
       mid = m;
-      looks = plays;
-      bytes = x.bytes;
-      last = last;
-      waits = x.waits;
-      stage = x.stage;
-      posted = x.posted;
-      holds_none = x.holds_none;
-      none_whole = x.none_whole;
-      none_named = x.none_named;
-      left = x.left;
+      lent = lent;
+      fails = (back, last);
     })
 
-pub waiting_shift : (v w : Sender) (old new : List Call) → LooksLast old v new w
-    → Shifts (λ o n. LooksLast o v n w) old new
-waiting_shift v w old new x =
-    let (moves, since, made, own, is, steps) = x.plays in
-    let plays : Shifts (λ o n. sending.Plays o v n x.before) old x.mid =
-    record { since = since; made = made; behind = λ front. (moves, since, refl, own, is, steps) } in
-    joined plays (adds_shift _ _ x.mid new x.looks)
-    (λ o m n before looks. record {
-      mid = m;
-      before = x.before;
-      bytes = x.bytes;
-      plays = before;
-      looks = looks;
-      waits = x.waits;
-      posted = x.posted;
-      accepted = x.accepted;
-      left = x.left;
+preparing : (q : AtPort) (side : Dir) (size : ℕ) (a b : Numbers) (out : List ℕ)
+    → Shift (λ o n. PreparingFails DeviceFault q side size o a n b out)
+preparing q side size a b out old new (ring, free, inl (x, same, empty)) =
+    mapped (stops q (ring_words side ring size) old new x) (λ o n y. (ring, free, inl (y, same, empty)))
+preparing q side size a b out old new (ring, free, inr x) =
+    mapped (then (accesses q (ring_words side ring size)) (lending _ a b out) old new x)
+    (λ o n y. (ring, free, inr y))
+
+receive_fails : (q : AtPort) (size : ℕ) (a b : Numbers) (out : List ℕ)
+    → Shift (λ o n. ReceiveFails DeviceFault q size o a n b out)
+receive_fails q size a b out old new (inl (x, same, empty)) =
+    mapped (stops q both_quiet old new x) (λ o n y. inl (y, same, empty))
+receive_fails q size a b out old new (inr x) =
+    mapped (then (accesses q both_quiet) (preparing q Rx size a b out) old new x) (λ o n y. inr y)
+
+wrong : (a : Numbers) (v w : Receive) → Shift (λ o n. EndsWrong a o v n w)
+wrong a v w old new (mid, e, r, x, own, free, last, sick) =
+    joined (plays _ _ _ old mid x) (adds e r mid new last) (λ o m n y z. (m, e, r, y, own, free, z, sick))
+
+filling : (a b : Numbers) (v w : Receive) → Shift (λ o n. StopsFilling DeviceFault o a v n b w)
+filling a b v w old new x =
+    let so_far : PlaysFrom _ old v x.mid x.ring = record { plays = x.plays; free = x.free } in
+    mapped
+    (both (then (plays _ v x.ring) (wrong x.arena x.ring w) old new (x.mid, so_far, x.fails))
+    (plays _ _ _ old new x.made))
+    (λ o n y. record {
+      count = x.count;
+      few = x.few;
+      mid = y.0.0;
+      arena = x.arena;
+      ring = x.ring;
+      plays = y.0.1.plays;
+      free = y.0.1.free;
+      posts = x.posts;
+      fails = y.0.2;
+      made = y.1;
+      none = x.none;
     })
 
--- a call that finds the device at fault
-pub finds_shift : {own : Blocks} {h : Halves} {old new : List Call} → FindsFault own old h new
-    → Shifts (λ o n. FindsFault own o h n) old new
-finds_shift {new = new} x =
-    joined (apart_shift x.drives) (adds_shift x.event x.reply x.mid new x.adds)
-    (λ o m n drives adds. record {
-      mid = m;
-      there = x.there;
-      doer = x.doer;
-      event = x.event;
-      reply = x.reply;
-      drives = drives;
-      mine = x.mine;
-      apart = x.apart;
-      adds = adds;
-      sick = x.sick;
-    })
+-- a start, with the place behind its first access
+
+module _ (q : AtPort) (size frame : ℕ) (a : Numbers) where
+  pub up_shift : (r : Running) → ShiftAt (λ o n. AreUp q size frame o a n r) (λ o n y. y.receive.quiet.0)
+  up_shift r old new x =
+      let (at, is, ready) = receive_at q size frame a x.ready_arena x.empty old x.ready_made x.receive in
+      let rest =
+      then (transmit q size frame x.ready_arena x.both_arena r.transmit)
+      (then (switched q true 1000) (plays x.both_arena x.empty r.receive)) x.ready_made new
+      (x.both_made, x.transmit, (x.on.mid, x.on.switched, x.on.plays)) in (
+        at,
+        is,
+        joined ready rest (λ o m n y z. (
+          record {
+            sized = x.sized;
+            framed = x.framed;
+            ready_made = m;
+            both_made = z.0;
+            ready_arena = x.ready_arena;
+            both_arena = x.both_arena;
+            empty = x.empty;
+            receive = y.0;
+            transmit = z.1;
+            on = record { mid = z.2.0; switched = z.2.1; plays = z.2.2; filled = x.on.filled };
+          },
+          y.1,
+        )),
+      )
+
+  -- one that ends with the device at fault
+
+  abbrev Ready : Numbers → Numbers → Receive → Sender → List Call → List Call → Type 0
+  Ready b c v t o n =
+      (m : List Call) × IsReceiveReady q size frame o a m b v × IsTransmitReady q size frame m b n c t
+
+  ready : (b c : Numbers) (v : Receive) (t : Sender) → Shift (λ o n. Ready b c v t o n)
+  ready b c v t = then (receive q size frame a b v) (transmit q size frame b c t)
+
+  early : Shift (λ o n. FaultsEarly q size frame o a n)
+  early old new (inl x) =
+      mapped (receive_fails q size a x.arena x.out old new x.fails)
+      (λ o n y. inl (record { arena = x.arena; out = x.out; fails = y }))
+  early old new (inr (inl x)) =
+      joined (receive q size frame a x.ready_arena x.empty old x.made x.receive)
+      (preparing q Tx size x.ready_arena x.arena x.out x.made new x.fails)
+      (λ o m n y z. inr (inl (record {
+        made = m;
+        ready_arena = x.ready_arena;
+        arena = x.arena;
+        empty = x.empty;
+        out = x.out;
+        receive = y;
+        fails = z;
+      })))
+  early old new (inr (inr x)) =
+      joined (ready x.ready_arena x.both_arena x.empty x.sender old x.both_made (x.ready_made, x.receive, x.transmit))
+      (switch_fails q true 1000 x.both_made new x.fails)
+      (λ o m n y z. inr (inr (record {
+        ready_made = y.0;
+        both_made = m;
+        ready_arena = x.ready_arena;
+        both_arena = x.both_arena;
+        empty = x.empty;
+        sender = x.sender;
+        receive = y.1;
+        transmit = y.2;
+        fails = z;
+      })))
+
+  late : Shift (λ o n. FaultsFilling q size frame o a n)
+  late old new x =
+      let on = x.on in
+      joined
+      (then (ready on.ready_arena on.both_arena x.empty x.sender) (switched q true 1000) old x.mid
+      (on.both_made, (on.ready_made, on.receive, on.transmit), on.switched))
+      (filling on.both_arena x.arena x.empty x.filled x.mid new x.fails)
+      (λ o m n y fails. record {
+        mid = m;
+        empty = x.empty;
+        sender = x.sender;
+        arena = x.arena;
+        filled = x.filled;
+        fails = fails;
+        on = record {
+          sized = on.sized;
+          framed = on.framed;
+          ready_made = y.1.0;
+          both_made = y.0;
+          ready_arena = on.ready_arena;
+          both_arena = on.both_arena;
+          receive = y.1.1;
+          transmit = y.1.2;
+          switched = y.2;
+        };
+      })
+
+  pub fault_shift : Shift (λ o n. FaultsEarly q size frame o a n ⊎ FaultsFilling q size frame o a n)
+  fault_shift = either early late

@@ -1,34 +1,26 @@
 -- No start finds the device at fault as it fills its receive ring, nor before: where it ends so before both sides are
 -- on, none of the blocks that are free then is lent.
-use Rattle.std.proofs.lemmas.List.{append_assoc}
 use Rattle.pmd.proofs.Finding.{wrong_by}
 use Rattle.pmd.proofs.Starting.{preparing_drawn}
+use Rattle.driver_laws.proofs.Made.{before_made}
 use Rattle.driver_laws.specs.Faultless.{NoneIsLent}
 use Rattle.driver_laws.specs.Filling.{LendsFresh}
 use Rattle.pmd_laws.proofs.Begun.{drawn_both, drawn_gone, may}
 use Rattle.pmd_laws.proofs.Lent.{IsRising, Rises, RisesToLast, all_rise, lends_rise, off_driven, others_before}
 use Rattle.pmd_laws.proofs.Lent.{quieted_rises, ready_rises, step_rises, unlent_before, words_rise}
-use Rattle.pmd_laws.proofs.NoFault.{found_on, no_fault_once_on}
-use Rattle.pmd_laws.proofs.Order.{along_before, last_before}
+use Rattle.pmd_laws.proofs.NoFault.{found_on, made_is, no_fault_led_on}
+use Rattle.pmd_laws.proofs.Order.{On, along_before, last_before}
 use Rattle.pmd_laws.proofs.Prelude.{[], ◌++◌, ◌+◌, ◌<◌, ◌==◌, ◌∙◌, ◌∷◌, ◌≡◌, ◌⊎◌, Access, Adds, AllAre, AreMade, AtPort}
-use Rattle.pmd_laws.proofs.Prelude.{BeforeLast, BeforeNext, BeginsApart, Block, Blocks, Call, DeviceFault, Dir, Entry}
-use Rattle.pmd_laws.proofs.Prelude.{Event, FaultsEarly, FaultsFilling, FindsFault, Halves, IsDrawn, IsDriven, IsFalse}
-use Rattle.pmd_laws.proofs.Prelude.{IsMade, IsOtherwise, IsQuietAndFresh, List, Numbers, OnlyPassLends, PreparingFails}
-use Rattle.pmd_laws.proofs.Prelude.{ReceiveFails, Reply, Rx, Rxdctl, Sees, Sets, State, StopsBy, Tx, Watched, ℕ}
-use Rattle.pmd_laws.proofs.Prelude.{all_before, among_times, ap, arith, both_quiet, both_ways, call_of, false}
-use Rattle.pmd_laws.proofs.Prelude.{free_before, has_block, inl, inr, is_own, is_own-of_free, is_step, list_any}
-use Rattle.pmd_laws.proofs.Prelude.{no_fault_is_early, none_made, parts, receiving_apart, refl, ring_block_is}
-use Rattle.pmd_laws.proofs.Prelude.{ring_block_out, ring_blocks, ring_words, some_made, subst, sym, then_made}
-use Rattle.pmd_laws.proofs.Prelude.{times-append, times_among, times_in_hand, true, words_are_writes, writes_driven}
-use Rattle.nic_device.specs.declared.event.Event.TheVariants as event
-use Rattle.nic_device.specs.declared.event.Reply.TheVariants as reply
-
--- just before the first read
-first_read : (w : Watched) (q : AtPort) (origin : State) (h : List Entry) (P : State → Type 0) (old new : List Call)
-    → BeforeNext w origin h old P → IsMade q old new (Sees Rxdctl false) → BeforeLast w origin h new P
-first_read w q origin h P old new at (number, word, named, is, (before, added, steps)) =
-    subst (λ (calls : List Call). BeforeLast w origin h calls P) (sym added)
-    (at before (call_of (event.Read q.port number) (reply.Word word)) steps refl)
+use Rattle.pmd_laws.proofs.Prelude.{BeforeLast, BeginsApart, Block, Blocks, Call, DeviceFault, Dir, Event, FaultsEarly}
+use Rattle.pmd_laws.proofs.Prelude.{FaultsFilling, FindsFault, Halves, IsDrawn, IsDriven, IsFalse, IsMade, IsOtherwise}
+use Rattle.pmd_laws.proofs.Prelude.{IsQuietAndFresh, List, Numbers, OnlyPassLends, PreparingFails, ReceiveFails, Reply}
+use Rattle.pmd_laws.proofs.Prelude.{Rx, Rxdctl, Sees, Sets, State, StopsBy, Tx, ℕ, all_before, among_times, ap}
+use Rattle.pmd_laws.proofs.Prelude.{append-nil, append_assoc, arith, both_quiet, both_ways, call_of, false, free_before}
+use Rattle.pmd_laws.proofs.Prelude.{harmless_apart, has_block, inl, inr, is_own, is_own-of_free, is_step, lends}
+use Rattle.pmd_laws.proofs.Prelude.{list_any, named, no_fault_is_early, none_made, parts, receiving_apart, refl}
+use Rattle.pmd_laws.proofs.Prelude.{ring_block_is, ring_block_out, ring_blocks, ring_words, some_made, subst, sym}
+use Rattle.pmd_laws.proofs.Prelude.{then_made, times-append, times_among, times_in_hand, true, words_are_writes}
+use Rattle.pmd_laws.proofs.Prelude.{writes_driven}
 
 -- an access that is answered otherwise adds a call, which is no step of the device
 otherwise_adds : (q : AtPort) (old new : List Call) (a : Access) → IsOtherwise q old new a
@@ -89,7 +81,7 @@ module _ (x : BeginsApart) where
   unlent lent first begins =
       unlent_before w origin h q old first x.along (is_own a) lent begins
       (λ done rest e both own is.
-      (first_read w q origin h AtFirst old first x.begins begins done rest e both own is).1.none)
+      (before_made q w origin h AtFirst (Sees Rxdctl false) old first begins x.begins done rest e both own is).1.none)
       x.others new
 
   undrawn : (b : Numbers) (ns : List ℕ) (first : List Call) → IsMade q old first (Sees Rxdctl false) → IsDrawn a ns b
@@ -170,10 +162,17 @@ module _ (x : BeginsApart) where
       let p = parts w.pass h new x.more x.made in
       let quiet = f.on.receive.quiet in
       let at = last_before w origin p.front p.back p.both quiet.0 AtFirst
-      (first_read w q origin h AtFirst old quiet.0 x.begins quiet.1) in
-      no_fault_once_on f.on (along_before w origin p.front p.back p.both x.along)
-      (λ done more e both own is. (at done more e both own is).0.ground) (is_own a)
-      (λ done more e both own is. (at done more e both own is).1)
+      (before_made q w origin h AtFirst (Sees Rxdctl false) old quiet.0 quiet.1 x.begins) in
+      let there : On (record x.course { h = p.front }) = record {
+        mid = f.mid;
+        v = f.empty;
+        t = f.sender;
+        up = f.on;
+        along = along_before w origin p.front p.back p.both x.along;
+        ground = λ done more e both own is. (at done more e both own is).0.ground;
+      } in
+      no_fault_led_on there (is_own a) (λ done more e both own is. (at done more e both own is).1)
       (others_before w.pass (is_own a) p.front p.back
       (subst (OnlyPassLends w.pass (is_own a)) (sym p.both) x.others))
-      (subst (FindsFault (is_own a) f.mid (first f)) (sym p.fronts) (found f))
+      (harmless_apart (is_own a) f.mid f.mid (first f) ([], sym (append-nil f.mid), tt)) (found f)
+      (p.fronts ∙ made_is (found f))

@@ -2,12 +2,14 @@
 -- are off; and so do those of them that were made so far.
 use Rattle.pmd.specs.declared.home.Home.{Home}
 use Rattle.driver_laws.proofs.StopCalls.{bringing_ends, switched_off_asks, unswitched_asks}
+use Rattle.pmd_laws.proofs.Shifted.{Shift, ShiftAt, joined, known, mapped, switched, then}
 use Rattle.pmd_laws.proofs.Prelude.{[], ◌++◌, ◌∙◌, ◌∷◌, ◌≡◌, ◌⊎◌, AreMadeOf, Asks, AtPort, Begins, Block, Call}
 use Rattle.pmd_laws.proofs.Prelude.{ComesHome, Each, Ends, EndsOnceOff, Event, FailedStopEnds, FailedStopTakesOnceOff}
 use Rattle.pmd_laws.proofs.Prelude.{Halted, IsAsking, IsEnding, IsLeftAmid, IsStopped, IsSwitched, List, NoCallTakes}
-use Rattle.pmd_laws.proofs.Prelude.{None, Option, PmdFault, Rest, Some, StopEnds, StopTakesOnceOff, TakesOnceOff, ap}
-use Rattle.pmd_laws.proofs.Prelude.{append_assoc, append_cancel_left, asks_end, bringing, brought, closed, false, inl}
-use Rattle.pmd_laws.proofs.Prelude.{inr, none_made, one_begins, refl, some_made, step_ends, subst, sym, then_made}
+use Rattle.pmd_laws.proofs.Prelude.{None, Option, PmdFault, Rest, Some, StopEnds, StopTakesOnceOff, TakesOnceOff, after}
+use Rattle.pmd_laws.proofs.Prelude.{ap, append_assoc, append_cancel_left, asks_end, bringing, brought, closed, false}
+use Rattle.pmd_laws.proofs.Prelude.{inl, inr, left, none_made, now, one_begins, refl, some_made, step_ends, subst, sym}
+use Rattle.pmd_laws.proofs.Prelude.{then_made}
 use Rattle.pmd.specs.declared.start.Rest.TheVariants as rest
 
 module _ (P : Event Block → Type 0) where
@@ -119,3 +121,21 @@ stopped_takes q old h new (rest.Running p) (Some f) (after, is, fails) =
 pub stopped_ends : (q : AtPort) (old : List Call) (h : Halted) (new : List Call) (left : Rest) (late : Option PmdFault)
     → IsStopped q old h new left late → Ends q old new
 stopped_ends q old h new left late x = takes_ends q old new (stopped_takes q old h new left late x)
+
+-- what they tell is told of the calls that were added alone: where both sides were off
+
+pub of_kind : (P : Event Block → Type 0) → Shift (λ o n. AreMadeOf P o n)
+of_kind P old new (calls, is, are) = record { since = calls; made = is; behind = λ front. (calls, refl, are) }
+
+pub once_off_shift : (q : AtPort) → ShiftAt (EndsOnceOff q) (λ o n y. y.off)
+once_off_shift q old new x =
+    let off = then (of_kind (IsAsking q)) (switched q false 1000) old x.off (x.mid, x.asks, x.switched) in (
+      off.since,
+      off.made,
+      joined (known off) (of_kind (IsEnding q) x.off new x.ends) (λ o m n y ends.
+          (record { mid = y.0.0; off = m; asks = y.0.1; switched = y.0.2; ends = ends }, y.1)),
+    )
+
+pub takes_shift : (q : AtPort) → Shift (λ o n. TakesOnceOff q o n)
+takes_shift q old new (inl asks) = mapped (of_kind (IsAsking q) old new asks) (λ o n x. inl x)
+takes_shift q old new (inr x) = let (at, is, shifts) = once_off_shift q old new x in mapped shifts (λ o n y. inr y.0)

@@ -1,44 +1,201 @@
--- A driver's life as its calls tell it is a life: it runs on, over calls as they are told, and harmless ones between.
+-- A call of a driver that looks last and finds no packet whole, or the oldest outstanding one not done, within a longer
+-- history. What the call tells may be told behind other calls: what it added comes behind a life. And a driver's life
+-- as its calls tell it is a life: it runs on, over calls as they are told, and harmless ones between.
+use Rattle.driver_laws.proofs.InOrder.{none_is_all_before, waiting_is_not_all}
+use Rattle.pmd.specs.PmdRx.Plays.{LooksInVain}
+use Rattle.pmd_laws.specs.Looks.{EndsAt, NoneIsAllAtFirst, NoneIsAllBefore}
+use Rattle.pmd_laws.proofs.Order.{Ran, begun, counted, driven, first, handed, idle, in_parts, last as last_there}
+use Rattle.pmd_laws.proofs.Order.{life_before, none, ran, sent_first, whole}
+use Rattle.pmd_laws.proofs.Prelude.{[], ◌++◌, ◌∙◌, ◌∷◌, ◌≡◌, ◌≢◌, Adds, AddsHarmless, AllFollow, AtPort, Block, Blocks}
+use Rattle.pmd_laws.proofs.Prelude.{Call, Down, Drives, Entry, Event, FindsNone, FindsWaiting, Follows, Halves}
+use Rattle.pmd_laws.proofs.Prelude.{HasNoneOut, IsLegal, IsTold, Leads, LeadsApart, Life, List, Lives, LooksLast}
+use Rattle.pmd_laws.proofs.Prelude.{Moment, Numbers, OwnsSame, Parts, Receive, Reply, Rings, Running, Sender, State}
+use Rattle.pmd_laws.proofs.Prelude.{Told, Up, WaitingIsNotAllAsTold, WaitingIsNotAllBefore, WhereUp, ℕ, accepted_of, ap}
+use Rattle.pmd_laws.proofs.Prelude.{apart_leads_on, append-nil, append_assoc, append_cancel_left, bytes_of, call_in}
+use Rattle.pmd_laws.proofs.Prelude.{call_of, calls_joined, calls_of, delivered, driven_apart, drives_lead, first_of}
+use Rattle.pmd_laws.proofs.Prelude.{halves_of, handed_of, harmless_apart, harmless_lead, inl, inr, is_own, last}
+use Rattle.pmd_laws.proofs.Prelude.{leads_on, leads_to, legal_behind, played_by, receiving_drives, refl, reply_to}
+use Rattle.pmd_laws.proofs.Prelude.{same_from_push, sending_drives, sent_since, steps_harmless, subst, sym}
 use Rattle.pmd.proofs.Both.{rings_still}
 use Rattle.pmd.specs.Driver.{Driver}
 use Rattle.pmd_laws.specs.Told.{now}
 use Rattle.pmd_laws.proofs.Begun.{all_apart, fresh_own}
-use Rattle.pmd_laws.proofs.Looks.{none_at_first, none_before_look, waiting_before_look}
-use Rattle.pmd_laws.proofs.Order.{handed_of_life, idle_of_life, sent_of_life}
-use Rattle.pmd_laws.proofs.Prelude.{[], ◌∙◌, ◌∷◌, ◌≡◌, AllFollow, AtPort, Blocks, Call, Down, DrivesRings, Follows}
-use Rattle.pmd_laws.proofs.Prelude.{Halves, HasNoneOut, IsTold, IsToldToLook, LeadsApart, Life, List, Lives, Moment}
-use Rattle.pmd_laws.proofs.Prelude.{Numbers, OwnsSame, Rings, Running, Told, Up, WaitingIsNotAllAsTold, WhereUp, ℕ}
-use Rattle.pmd_laws.proofs.Prelude.{accepted_of, ap, apart_leads_on, bytes_of, driven_apart, first_of, halves_of}
-use Rattle.pmd_laws.proofs.Prelude.{handed_of, harmless_apart, inl, inr, is_own, last, refl, subst, sym}
-use Rattle.pmd_laws.specs.Looks as looks
 use Rattle.pmd_laws.specs.Told as told
 
--- the halves of a driver that runs were led on so, by the numbers of its arena, and it keeps these
-pub record LeadsRings (old : List Call) (r : Running) (new : List Call) (s : Running) : Type 0 where
-  pub apart : LeadsApart (is_own r.arena) old (halves_of r) new (halves_of s)
-  pub owns : OwnsSame r.arena s.arena
+-- a later place of a life's history, to which its calls led its halves
+module _ (x : Life) (late rest : List Entry) (split : late ++ rest ≡ x.h) {then : Halves}
+    (goes : Leads x.started (halves_of x.r) (calls_of x.w.pass late) then) where
+  open x use {w, origin, k}
 
--- by a call of the driver's
-rings_drove : {old new : List Call} {r s : Running} → DrivesRings old r new s → LeadsRings old r new s
-rings_drove {old = old} {new = new} {r = r} {s = s} x = record {
-  apart = driven_apart (is_own r.arena) old new (halves_of r) (halves_of s) x.apart;
-  owns = x.owns;
-}
+  abbrev later : Life
+  later = life_before x late rest split (calls_of w.pass late) then goes
 
--- and one after another
-rings_led_on : {old mid new : List Call} {r s t : Running} → LeadsRings old r mid s → LeadsRings mid s new t
-    → LeadsRings old r new t
-rings_led_on {old = old} {mid = mid} {new = new} {r = r} {s = s} {t = t} one two = record {
-  apart = apart_leads_on (is_own r.arena) old mid new (halves_of r) (halves_of s) (halves_of t) one.apart
-      (subst (λ (own : Blocks). LeadsApart own mid (halves_of s) new (halves_of t)) (λ i n. one.owns n i) two.apart);
-  owns = λ n. two.owns n ∙ one.owns n;
-}
+  -- and an earlier one, behind which its halves were as they are
+  module _ (early more : List Entry) (all : early ++ more ≡ late) (is : AddsHarmless x.made (calls_of w.pass early))
+    where
+      abbrev sooner : Life
+      sooner =
+          life_before x early (more ++ rest)
+          (sym (append_assoc early more rest) ∙ ap (λ (es : List Entry). es ++ rest) all ∙ split) (calls_of w.pass early)
+          k
+          (leads_on x.started x.made (calls_of w.pass early) (halves_of x.r) k k x.is.since
+          (harmless_lead x.made (calls_of w.pass early) k is))
 
--- a driver that runs goes on: it runs with these rings
-pub record RunsOn (m : Moment) (r : Running) (n : Moment) : Type 0 where
+      abbrev p : Parts w.pass early x.is.up.on.mid (whole sooner).1
+      p = in_parts (ran sooner) refl
+
+      joined : p.front ++ (p.back ++ more) ≡ late
+      joined = sym (append_assoc p.front p.back more) ∙ ap (λ (es : List Entry). es ++ more) p.both ∙ all
+
+      -- both begin as the sides went on
+      abbrev p_late : Parts w.pass late x.is.up.on.mid (whole later).1
+      p_late = record {
+        front = p.front;
+        back = p.back ++ more;
+        both = joined;
+        fronts = p.fronts;
+        backs =
+            append_cancel_left x.is.up.on.mid (calls_of w.pass (p.back ++ more)) (whole later).1
+            (ap (λ (cs : List Call). cs ++ calls_of w.pass (p.back ++ more)) (sym p.fronts)
+            ∙ sym (calls_joined w.pass p.front (p.back ++ more)) ∙ ap (calls_of w.pass) joined ∙ (whole later).2);
+      }
+
+      -- what is so of the halves and of the device later is so in parts
+      late_is : (P : Halves → State → Type 0) → P then (leads_to origin late)
+          → P (played_by (first (begun x)) (whole later).0 (calls_of w.pass (p.back ++ more)))
+          (leads_to origin (p.front ++ (p.back ++ more)))
+      late_is P holds =
+          subst (λ (z : Halves). P z (leads_to origin (p.front ++ (p.back ++ more)))) (sym (last_there (ran later) p_late))
+          (subst (λ (es : List Entry). P then (leads_to origin es)) (sym joined) holds)
+
+      -- where a look there finds none, and hands out nothing, all was handed out that was delivered before
+      none_sooner : FindsNone (leads_to origin late) then.receive → then.receive.handed ≡ k.receive.handed
+          → k.receive.handed ≡ delivered w.queue origin early
+      none_sooner finds same =
+          let here = last_there (ran sooner) p in
+          ap (λ (z : Halves). z.receive.handed) (sym here)
+          ∙ none_is_all_before w origin p.front p.back more (first (begun x)) (whole sooner).0 (whole later).0
+          (driven (ran sooner) p) (driven (ran later) p_late) (late_is (λ z s. FindsNone s z.receive) finds)
+          (ap (λ (z : Halves). z.receive.handed) (last_there (ran later) p_late) ∙ same
+          ∙ ap (λ (z : Halves). z.receive.handed) (sym here))
+          ∙ ap (delivered w.queue origin) p.both
+
+      -- and where it finds one waiting, not all was sent before
+      waiting_sooner : FindsWaiting (leads_to origin late) then.transmit
+          → bytes_of then.transmit.accepted ≢ sent_since w.queue origin [] early
+      waiting_sooner finds same =
+          waiting_is_not_all w origin p.front p.back more (first (begun x)) (whole later).0 (driven (ran later) p_late)
+          (late_is (λ z s. FindsWaiting s z.transmit) finds)
+          (ap (λ (z : Halves). bytes_of z.transmit.accepted) (last_there (ran later) p_late) ∙ same ∙ counted (ran sooner) p)
+
+-- calls that drive halves on were added, and then one call more
+module _ (old : List Call) {h k : Halves} {mid new : List Call} (e : Event Block) (reply : Reply Block)
+    (drives : Drives old h mid k) (adds : Adds mid new e reply) where
+  abbrev pub added : List Call
+  added = drives.1 ++ (adds.0 ++ call_of e reply ∷ [])
+
+  pub added_is : new ≡ old ++ added
+  added_is =
+      adds.1 ∙ ap (λ (l : List Call). l ++ (adds.0 ++ call_of e reply ∷ [])) drives.2
+      ∙ append_assoc old drives.1 (adds.0 ++ call_of e reply ∷ [])
+
+-- behind a life, at an entry of the history, where whatever was added comes behind the calls of that life
+module _ (x : Life) (old : List Call) {mid new now : List Call} (e : Event Block) (reply : Reply Block)
+    {then : Halves} (drives : Drives old x.k mid then) (adds : Adds mid new e reply) (at : EndsAt x.w.pass x.h now)
+    (behind : (since : List Call) → new ≡ old ++ since → now ≡ x.made ++ since) where
+  abbrev till : List Call
+  till = (x.made ++ drives.1) ++ adds.0
+
+  ends : (calls_of x.w.pass at.before ≡ till) × (call_in at.entry ≡ call_of e reply)
+  ends =
+      let last : List Call = call_of e reply ∷ [] in
+      same_from_push (calls_of x.w.pass at.before) till (call_in at.entry) (call_of e reply)
+      (at.made ∙ behind (added old e reply drives adds) (added_is old e reply drives adds)
+      ∙ sym (append_assoc x.made drives.1 (adds.0 ++ last)) ∙ sym (append_assoc (x.made ++ drives.1) adds.0 last))
+
+  -- the life goes on up to it
+  goes_up : Leads x.started (halves_of x.r) (calls_of x.w.pass at.before) then
+  goes_up =
+      let mine : List Call = x.made ++ drives.1 in
+      subst (λ (cs : List Call). Leads x.started (halves_of x.r) cs then) (sym ends.0)
+      (leads_on x.started mine till (halves_of x.r) then then
+      (leads_on x.started x.made mine (halves_of x.r) x.k then x.is.since
+      (drives_lead x.made mine x.k then (drives.0, drives.1, refl, drives.3, drives.4, drives.5)))
+      (harmless_lead mine till then (adds.0, refl, steps_harmless adds.0 adds.2)))
+
+  -- and the device answers it
+  answered : reply_to (leads_to x.origin at.before) e ≡ reply
+  answered =
+      let here = leads_to x.origin at.before in
+      let legal = legal_behind x.origin at.before (at.entry ∷ at.behind)
+      (subst (IsLegal x.origin) (sym at.all) x.is.along.legal) in
+      ap (λ (d : Call). reply_to here d.event) (sym ends.1) ∙ sym legal.0 ∙ ap (λ (d : Call). d.reply) ends.1
+
+-- a look in vain, and one that finds a packet waiting
+
+module _ (x : Life) {old new now : List Call} (at : EndsAt x.w.pass x.h now)
+    (behind : (since : List Call) → new ≡ old ++ since → now ≡ x.made ++ since) where
+  open x use {w, origin, k}
+
+  module _ {v : Receive} (y : LooksInVain old k.receive new v) where
+    abbrev vain : Drives old k y.mid (record k { receive = v })
+    vain = receiving_drives old y.mid k (record k { receive = v }) y.looks refl
+
+    abbrev vain_goes : Leads x.started (halves_of x.r) (calls_of w.pass at.before) (record k { receive = v })
+    vain_goes = goes_up x old _ _ vain y.last at behind
+
+    finds : FindsNone (leads_to origin at.before) v
+    finds = record {
+      shows = record {
+        looks = y.stage;
+        posted = y.posted;
+        bytes = y.bytes;
+        waits = y.waits;
+        reply = answered x old _ _ vain y.last at behind;
+      };
+      none_whole = y.none_whole;
+    }
+
+    -- looks hand out nothing
+    same : v.handed ≡ k.receive.handed
+    same = ap (λ (z : Receive). z.handed) y.left
+
+    pub none_before : k.receive.handed ≡ delivered w.queue origin at.before
+    none_before = sym same ∙ none (ran (later x at.before (at.entry ∷ at.behind) at.all vain_goes)) refl finds
+
+    pub none_first : (early more : List Entry) → early ++ more ≡ at.before → AddsHarmless x.made (calls_of w.pass early)
+        → k.receive.handed ≡ delivered w.queue origin early
+    none_first early more all is =
+        none_sooner x at.before (at.entry ∷ at.behind) at.all vain_goes early more all is finds same
+
+  pub waiting_first : {v : Sender} → LooksLast old k.transmit new v → (early more : List Entry)
+      → early ++ more ≡ at.before → AddsHarmless x.made (calls_of w.pass early)
+      → bytes_of k.transmit.accepted ≢ sent_since w.queue origin [] early
+  waiting_first y early more all is sent =
+      let drives = sending_drives old y.mid k (record k { transmit = y.before }) y.plays refl in
+      waiting_sooner x at.before (at.entry ∷ at.behind) at.all (goes_up x old _ _ drives y.looks at behind) early more all is
+      (record {
+        bytes = y.bytes;
+        posted = y.posted;
+        waits = y.waits;
+        told = answered x old _ _ drives y.looks at behind;
+      }) (ap bytes_of y.accepted ∙ sent)
+
+pub none_before_look : NoneIsAllBefore
+none_before_look x new v y = none_before x y.look (λ since is. is) y.looks
+
+pub none_at_first : NoneIsAllAtFirst
+none_at_first x new v y = none_first x y.look (λ since is. is) y.looks
+
+pub waiting_before_look : WaitingIsNotAllBefore
+waiting_before_look x new v y = waiting_first x y.look (λ since is. is) y.looks
+
+-- a driver runs, and by the numbers of an arena, which it keeps, its halves were led there behind some calls
+pub record RunsOn (a : Numbers) (old : List Call) (h : Halves) (n : Moment) : Type 0 where
   pub rings : Running
   pub up : n.driver.rings ≡ Up rings
-  pub leads : LeadsRings m.made r n.made rings
+  pub owns : OwnsSame a rings.arena
+  pub apart : LeadsApart (is_own a) old h n.made (halves_of rings)
 
 pub up_next : (P : Running → Running → Type 0) (a b : Rings) (r : Running) → a ≡ Up r → WhereUp a b P
     → (s : Running) × (b ≡ Up s) × P r s
@@ -46,109 +203,110 @@ up_next P (Up x) (Up y) r is holds = let same : x ≡ r = cc in (y, refl, subst 
 up_next P (Up x) (Down y) r is holds = absurd holds
 up_next P (Down x) b r is holds = cc
 
-follows : (m n : Moment) (r : Running) → m.driver.rings ≡ Up r → Follows m n → RunsOn m r n
-follows m n r is (inl x) =
-    let (s, up, drives) = up_next _ m.driver.rings n.driver.rings r is x in
-    record { rings = s; up = up; leads = rings_drove drives }
-follows m n r is (inr (halves, added)) =
-    let (s, up, same) = up_next _ m.driver.rings n.driver.rings r is halves in record {
-      rings = s;
-      up = up;
-      leads = record {
-        apart = subst (λ (k : Halves). LeadsApart (is_own r.arena) m.made (halves_of r) n.made k) (sym same.0)
-            (harmless_apart (is_own r.arena) m.made n.made (halves_of r) added);
-        owns = same.1;
-      };
-    }
+module _ {a : Numbers} {old : List Call} {h : Halves} where
+  runs_next : (m n : Moment) (x : RunsOn a old h m) (s : Running) → n.driver.rings ≡ Up s
+      → OwnsSame x.rings.arena s.arena → LeadsApart (is_own a) m.made (halves_of x.rings) n.made (halves_of s)
+      → RunsOn a old h n
+  runs_next m n x s up owns apart = record {
+    rings = s;
+    up = up;
+    owns = λ k. owns k ∙ x.owns k;
+    apart = apart_leads_on (is_own a) old m.made n.made h (halves_of x.rings) (halves_of s) x.apart apart;
+  }
 
-all_follow : (m : Moment) (later : List Moment) (r : Running) → m.driver.rings ≡ Up r → AllFollow m later
-    → RunsOn m r (last m later)
-all_follow m [] r is x = record { rings = r; up = is; leads = rings_drove (rings_still m.made r) }
-all_follow m (n ∷ later) r is x =
-    let one = follows m n r is x.0 in
-    let more = all_follow n later one.rings one.up x.1 in
-    record { rings = more.rings; up = more.up; leads = rings_led_on one.leads more.leads }
+  follows : (m n : Moment) → RunsOn a old h m → Follows m n → RunsOn a old h n
+  follows m n x (inl drove) =
+      let (s, up, drives) = up_next _ m.driver.rings n.driver.rings x.rings x.up drove in
+      runs_next m n x s up drives.owns
+      (subst (λ (own : Blocks). LeadsApart own m.made (halves_of x.rings) n.made (halves_of s)) (λ i k. x.owns k i)
+      (driven_apart (is_own x.rings.arena) m.made n.made (halves_of x.rings) (halves_of s) drives.apart))
+  follows m n x (inr (halves, added)) =
+      let (s, up, same) = up_next _ m.driver.rings n.driver.rings x.rings x.up halves in
+      runs_next m n x s up same.1
+      (subst (λ (k : Halves). LeadsApart (is_own a) m.made (halves_of x.rings) n.made k) (sym same.0)
+      (harmless_apart (is_own a) m.made n.made (halves_of x.rings) added))
+
+  all_follow : (m : Moment) (later : List Moment) → RunsOn a old h m → AllFollow m later → RunsOn a old h (last m later)
+  all_follow m [] x all = x
+  all_follow m (n ∷ later) x all = all_follow n later (follows m n x all.0) all.1
 
 module _ {q : AtPort} {size frame : ℕ} {old : List Call} {a : Numbers} {m : Moment} {later : List Moment}
     (x : IsTold q size frame old a m later) where
   abbrev fresh : Running
   fresh = x.started.0
 
-  pub runs : RunsOn m fresh (last m later)
-  runs = all_follow m later fresh (ap (λ (p : Driver). p.rings) x.started.1) x.since
-
-  -- from the place on where both sides of its queue were on: as its start answered it, it lived
-
+  -- as its start answered it, it lived
   abbrev lives : Lives q size frame old a m.made fresh
   lives = record { made = m.made; fresh = fresh; up = x.started.2; drives = rings_still m.made fresh }
 
-  abbrev pub begins : Halves
-  begins = first_of q size frame old a m.made fresh lives
+  pub runs : RunsOn a m.made (halves_of fresh) (last m later)
+  runs =
+      all_follow m later
+      (record {
+        rings = fresh;
+        up = ap (λ (p : Driver). p.rings) x.started.1;
+        owns = λ k. fresh_own lives k;
+        apart = harmless_apart (is_own a) m.made m.made (halves_of fresh) ([], sym (append-nil m.made), tt);
+      }) x.since
 
-  pub led : LeadsApart (is_own a) x.started.2.on.mid begins (last m later).made (halves_of runs.rings)
+  -- and so from the place on where both sides of its queue were on
+  pub led : LeadsApart (is_own a) x.started.2.on.mid (first_of q size frame old a m.made fresh lives)
+      (last m later).made (halves_of runs.rings)
   led =
       let on = x.started.2.on.mid in
+      let begins = first_of q size frame old a m.made fresh lives in
       apart_leads_on (is_own a) on m.made (last m later).made begins (halves_of fresh) (halves_of runs.rings)
-      (driven_apart (is_own a) on m.made begins (halves_of fresh) (all_apart lives))
-      (subst (λ (own : Blocks). LeadsApart own m.made (halves_of fresh) (last m later).made (halves_of runs.rings))
-      (λ i k. fresh_own lives k i) runs.leads.apart)
-
-  -- its arena keeps its numbers
-  pub owns_still : OwnsSame a runs.rings.arena
-  owns_still k = runs.leads.owns k ∙ fresh_own lives k
+      (driven_apart (is_own a) on m.made begins (halves_of fresh) (all_apart lives)) runs.apart
 
 -- so it is a life
 module _ (x : Told) where
-  abbrev pub goes : RunsOn x.m x.told.started.0 (now x)
+  abbrev pub goes : RunsOn x.a x.m.made (halves_of x.told.started.0) (now x)
   goes = runs x.told
 
   abbrev pub life : Life
   life = record {
-    w = x.w;
-    origin = x.origin;
-    h = x.h;
-    q = x.q;
-    size = x.size;
-    frame = x.frame;
-    old = x.old;
-    a = x.a;
+    course = x.course;
     started = x.m.made;
     r = x.told.started.0;
     made = (now x).made;
     k = halves_of goes.rings;
-    is = record { along = x.along; up = x.told.started.2; begins = x.begins; since = goes.leads.apart.leads };
+    is = record { along = x.along; up = x.told.started.2; begins = x.begins; since = goes.apart.leads };
   }
 
-  -- a call behind it that looks in vain does so behind that life
-  abbrev pub in_vain : (n : Moment) (y : IsToldToLook x n)
-      → (s : Running) × (n.driver.rings ≡ Up s) × looks.LooksInVain life n.made s.receive
-  in_vain n y =
-      let (s, up, looks) = up_next _ (now x).driver.rings n.driver.rings goes.rings goes.up y.looks in
-      (s, up, record { looks = looks; look = y.look })
+  -- with its blocks apart
+  abbrev pub told_ran : Ran x.course
+  told_ran = record {
+    there = begun life;
+    new = (now x).made;
+    k = halves_of goes.rings;
+    goes = (led x.told).leads;
+  }
 
 pub handed_as_told : told.HandedIsPrefix
-handed_as_told x lived = rw (goes x).up (handed_of_life (life x) lived)
+handed_as_told x lived = rw (goes x).up (handed (ran (life x)) lived)
 
 pub sent_as_told : told.SentIsPrefix
-sent_as_told x lived = rw (goes x).up (sent_of_life (life x) lived)
+sent_as_told x lived = rw (goes x).up (sent_first (ran (life x)) lived)
 
 pub idle_as_told : told.IdleIsAllSent
 idle_as_told x lived none =
     ap (λ (z : Rings). bytes_of (accepted_of z)) (goes x).up
-    ∙ idle_of_life (life x) lived (subst HasNoneOut (goes x).up none)
+    ∙ idle (ran (life x)) lived (subst HasNoneOut (goes x).up none)
+
+-- a call behind it that looks in vain, and one that ends with a packet outstanding
 
 pub none_as_told : told.NoneIsAllBefore
 none_as_told x n y =
-    let (s, up, looked) = in_vain x n y in ap handed_of (goes x).up ∙ none_before_look (life x) n.made s.receive looked
+    let (s, up, looks) = up_next _ (now x).driver.rings n.driver.rings (goes x).rings (goes x).up y.looks in
+    ap handed_of (goes x).up ∙ none_before (life x) y.look (λ since is. is) looks
 
 pub none_at_first_as_told : told.NoneIsAllAtFirst
 none_at_first_as_told x n y before more all is =
-    let (s, up, looked) = in_vain x n y in
-    ap handed_of (goes x).up ∙ none_at_first (life x) n.made s.receive looked before more all is
+    let (s, up, looks) = up_next _ (now x).driver.rings n.driver.rings (goes x).rings (goes x).up y.looks in
+    ap handed_of (goes x).up ∙ none_first (life x) y.look (λ since is. is) looks before more all is
 
--- and so where it ends with a packet outstanding
 pub waiting_as_told : WaitingIsNotAllAsTold
 waiting_as_told x n y before more all is same =
     let (s, up, looks) = up_next _ (now x).driver.rings n.driver.rings (goes x).rings (goes x).up y.waits in
-    waiting_before_look (life x) n.made s.transmit (record { looks = looks; look = y.look }) before more all is
+    waiting_first (life x) y.look (λ since is. is) looks before more all is
     (ap (λ (z : Rings). bytes_of (accepted_of z)) (sym (goes x).up) ∙ same)

@@ -1,16 +1,13 @@
 -- A driver beside whatever calls its author makes through the same way to the device, as those of a second driver.
 use Rattle.std.specs.Prelude.{ℕ, ◌≡◌, ◌≢◌, ◌<◌, ◌⊎◌, Bool, List, [], ◌∷◌, ◌++◌, length}
-use Rattle.driver_laws.specs.Prelude.{Numbers, IsSound, State, AreEvents, IsLegal, calls_of, leads_to, Watched, Call}
-use Rattle.driver_laws.specs.Prelude.{Entry, accepted_of, handed_of, halves_of, Running, Up, AtPort, LeavesAloneFrom}
-use Rattle.driver_laws.specs.Prelude.{delivered, bytes_of, sent_since, entries_in, marked_entries}
+use Rattle.driver_laws.specs.Prelude.{Numbers, IsSound, State, AreEvents, IsLegal, calls_of, leads_to, Watched, Call, Entry, accepted_of, handed_of, halves_of, Running, Up, AtPort, LeavesAloneFrom, delivered, bytes_of, sent_since, entries_in, marked_entries}
+use Rattle.pmd_laws.specs.Course.{Course, IsAllSent, IsHandedInOrder, IsSentInOrder}
 use Rattle.pmd_laws.specs.Prelude.{BeforeLast, HasGround}
 use Rattle.pmd.specs.Life.{KeepsHalves}
 use Rattle.pmd.specs.Started.{HasStarted}
 use Rattle.pmd.specs.PmdSeam.Begun.{From, began_handled, began_in_hand}
 use Rattle.pmd.specs.PmdSeam.Made.{InHand}
 use Rattle.pmd.specs.PmdSeam.Scheduled.{Handled, own_calls}
-use Rattle.driver_laws.specs.RingLaws.Delivered as receive
-use Rattle.driver_laws.specs.RingLaws.Laws as transmit
 use Rattle.driver_laws.specs.Beside.{AddsHarmless}
 use Rattle.driver_laws.specs.Retold.{AreSame}
 use Rattle.pmd_laws.specs.Looks.{EndsAt}
@@ -68,15 +65,9 @@ pub record IsToldBy (q : AtPort) (size frame : ℕ) (old : List Call) (a : Numbe
 -- such a driver over such a history. Just before its first access its port and queue name this queue, and frames have
 -- at most as many bytes as its packets
 pub record Beside : Type 0 where
-  pub w : Watched
-  pub origin : State
-  pub h : List Entry
+  pub course : Course
+  pub open course use *
   pub g : List Entry
-  pub q : AtPort
-  pub size : ℕ
-  pub frame : ℕ
-  pub old : List Call
-  pub a : Numbers
   pub m : Moment
   pub later : List Moment
   pub ahead : List Call
@@ -112,30 +103,30 @@ OwnAreTold =
     IsToldAnew q size frame old a m later ahead own x
 
 -- and all laws of a life do: told anew it is one of the driver's
+
+abbrev pub anew : Beside → Course
+anew x = record x.course { h = x.g; old = x.ahead }
+
 abbrev pub ToldIsLived : Type 0
 ToldIsLived =
     (x : Beside) →
     (r : Running) × ((now x).driver.rings ≡ Up r)
-    × IsLife x.w x.origin x.g x.q x.size x.frame x.ahead x.a (x.ahead ++ x.told.start) x.told.started.0 x.own
-    (halves_of r)
+    × IsLife (anew x) (x.ahead ++ x.told.start) x.told.started.0 x.own (halves_of r)
 
 -- what the driver handed out is a prefix of what was delivered
 abbrev pub HandedIsPrefix : Type 0
 HandedIsPrefix =
-    (x : Beside) → IsToldBeside x →
-    receive.IsPrefixOf (handed_of (now x).driver.rings) (delivered x.w.queue x.origin x.h)
+    (x : Beside) → IsToldBeside x → IsHandedInOrder x.course (handed_of (now x).driver.rings)
 
 -- what was sent is a prefix of what the driver accepted, and it is all of that where no packet is outstanding
 
 abbrev pub SentIsPrefix : Type 0
 SentIsPrefix =
-    (x : Beside) → IsToldBeside x →
-    transmit.IsPrefixOf (sent_since x.w.queue x.origin [] x.h) (bytes_of (accepted_of (now x).driver.rings))
+    (x : Beside) → IsToldBeside x → IsSentInOrder x.course (accepted_of (now x).driver.rings)
 
 abbrev pub IdleIsAllSent : Type 0
 IdleIsAllSent =
-    (x : Beside) → IsToldBeside x → HasNoneOut (now x).driver.rings →
-    bytes_of (accepted_of (now x).driver.rings) ≡ sent_since x.w.queue x.origin [] x.h
+    (x : Beside) → IsToldBeside x → HasNoneOut (now x).driver.rings → IsAllSent x.course (accepted_of (now x).driver.rings)
 
 -- behind the last moment comes a call of the driver's, which made these calls. As the history is told anew the pass has
 -- made the driver's own calls up to there at some entry, whatever comes behind it

@@ -1,7 +1,7 @@
 -- A start of a driver behind and beside whatever calls of its author's, which finds no device at fault.
 use Rattle.std.specs.Prelude.{ℕ, ◌≡◌, ◌≢◌, List, ◌++◌}
-use Rattle.driver_laws.specs.Prelude.{Numbers, is_own, State, calls_of, Watched, Call, Entry, AreUp, Running}
-use Rattle.driver_laws.specs.Prelude.{StartRefused, AtPort, DeviceFault, StopsStarting}
+use Rattle.driver_laws.specs.Prelude.{Numbers, is_own, calls_of, Call, Entry, AreUp, Running, StartRefused, AtPort, DeviceFault, StopsStarting}
+use Rattle.pmd_laws.specs.Course.{Course}
 use Rattle.pmd_laws.specs.Prelude.{BeforeNext, FaultsFilling}
 use Rattle.driver_laws.specs.Before.{OnlyPassLends}
 use Rattle.pmd_laws.specs.Beside.{IsRetold}
@@ -18,15 +18,9 @@ StartAdds =
 -- its pass or none, and maybe more came behind them. Just before its first access both sides were off, frames were
 -- short and none of its arena's blocks was lent; and nobody else lends any of them, another pass or the author
 pub record BeginsBeside : Type 0 where
-  pub w : Watched
-  pub origin : State
-  pub h : List Entry
+  pub course : Course
+  pub open course use *
   pub g : List Entry
-  pub q : AtPort
-  pub size : ℕ
-  pub frame : ℕ
-  pub old : List Call
-  pub a : Numbers
   pub new : List Call
   pub ahead : List Call
   pub retold : IsRetold w origin h g

@@ -1,9 +1,8 @@
 -- A driver beside whatever calls its author makes, and then the calls of its stop.
-use Rattle.std.specs.Prelude.{◌≡◌, List, [], ◌++◌}
-use Rattle.driver_laws.specs.Prelude.{calls_of, Call, Entry, accepted_of, handed_of, delivered, bytes_of, sent_since}
+use Rattle.std.specs.Prelude.{◌≡◌, List, ◌++◌}
+use Rattle.driver_laws.specs.Prelude.{calls_of, Call, Entry, accepted_of, handed_of}
+use Rattle.pmd_laws.specs.Course.{IsHandedInOrder, IsSentInOrder}
 use Rattle.pmd_laws.specs.Prelude.{Ends, EndsOnceOff, TakesOnceOff, IsSilent}
-use Rattle.driver_laws.specs.RingLaws.Delivered as receive
-use Rattle.driver_laws.specs.RingLaws.Laws as transmit
 use Rattle.driver_laws.specs.Retold.{AreSame}
 use Rattle.pmd_laws.specs.Beside.{Beside, now}
 
@@ -19,14 +18,13 @@ pub record IsStoppedBeside (x : Beside) (new : List Call) : Type 0 where
 -- what the driver handed out is a prefix of what was delivered over the whole history
 abbrev pub HandedIsPrefix : Type 0
 HandedIsPrefix =
-    (x : Beside) (new : List Call) → IsStoppedBeside x new →
-    receive.IsPrefixOf (handed_of (now x).driver.rings) (delivered x.w.queue x.origin x.h)
+    (x : Beside) (new : List Call) → IsStoppedBeside x new → IsHandedInOrder x.course (handed_of (now x).driver.rings)
 
 -- where the stop takes blocks back only once both sides were seen off, what was sent is a prefix of what it accepted
 abbrev pub SentIsPrefix : Type 0
 SentIsPrefix =
     (x : Beside) (new : List Call) → IsStoppedBeside x new → TakesOnceOff x.q (now x).made new →
-    transmit.IsPrefixOf (sent_since x.w.queue x.origin [] x.h) (bytes_of (accepted_of (now x).driver.rings))
+    IsSentInOrder x.course (accepted_of (now x).driver.rings)
 
 -- and once its calls up to there have switched both sides off, nothing is delivered or sent there any more
 abbrev pub SilentOnceOff : Type 0

@@ -1,22 +1,14 @@
 -- What a driver that lived, and was stopped, handed out and sent.
-use Rattle.std.specs.Prelude.{ℕ, ◌≡◌, List, [], ◌++◌, Option}
-use Rattle.driver_laws.specs.Prelude.{Numbers, State, calls_of, Watched, Call, Entry, left_accepted, left_handed, Rest}
-use Rattle.driver_laws.specs.Prelude.{PmdFault, AtPort, delivered, bytes_of, sent_since}
+use Rattle.std.specs.Prelude.{◌≡◌, List, ◌++◌, Option}
+use Rattle.driver_laws.specs.Prelude.{calls_of, Call, left_accepted, left_handed, Rest, PmdFault}
+use Rattle.pmd_laws.specs.Course.{Course, IsHandedInOrder, IsSentInOrder}
 use Rattle.pmd_laws.specs.Prelude.{IsAlong, BeginsWell}
 use Rattle.pmd.specs.Life.{HasLived}
-use Rattle.driver_laws.specs.RingLaws.Delivered as receive
-use Rattle.driver_laws.specs.RingLaws.Laws as transmit
 
 -- a driver that lived over a legal history of a sound device that leaves the queue alone, and was stopped
 pub record Ended : Type 0 where
-  pub w : Watched
-  pub origin : State
-  pub h : List Entry
-  pub q : AtPort
-  pub size : ℕ
-  pub frame : ℕ
-  pub old : List Call
-  pub a : Numbers
+  pub course : Course
+  pub open course use *
   pub new : List Call
   pub left : Rest
   pub late : Option PmdFault
@@ -36,10 +28,10 @@ pub record IsOver (x : Ended) : Type 0 where
   pub calls : calls_of x.w.pass x.h ≡ x.lived.made ++ since
 
 abbrev pub LeavesHanded : Ended → Type 0
-LeavesHanded x = receive.IsPrefixOf (left_handed x.left) (delivered x.w.queue x.origin x.h)
+LeavesHanded x = IsHandedInOrder x.course (left_handed x.left)
 
 abbrev pub LeavesSent : Ended → Type 0
-LeavesSent x = transmit.IsPrefixOf (sent_since x.w.queue x.origin [] x.h) (bytes_of (left_accepted x.left))
+LeavesSent x = IsSentInOrder x.course (left_accepted x.left)
 
 -- what the driver left as handed out is a prefix of what was delivered, and what was sent a prefix of what it left as
 -- accepted

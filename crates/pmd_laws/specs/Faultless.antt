@@ -1,8 +1,7 @@
 -- A driver whose blocks nobody else lends: no call of its finds the device at fault, and nor does its start.
 use Rattle.std.specs.Prelude.{ℕ, IsTrue, IsFalse, List, ◌≡◌, ◌≢◌, ◌++◌, All, Option, Some, None, Result}
-use Rattle.driver_laws.specs.Prelude.{has_block, Numbers, is_own, State, Blocks, calls_of, Watched, Call, Entry}
-use Rattle.driver_laws.specs.Prelude.{WhereUp, halves_of, Running, StartRefused, most_blocks, PmdFault, DeviceFault}
-use Rattle.driver_laws.specs.Prelude.{Packet, AtPort, FitsBlocks, StopsStarting}
+use Rattle.driver_laws.specs.Prelude.{has_block, is_own, State, Blocks, calls_of, Call, WhereUp, halves_of, Running, StartRefused, most_blocks, PmdFault, DeviceFault, Packet, AtPort, FitsBlocks, StopsStarting}
+use Rattle.pmd_laws.specs.Course.{Course}
 use Rattle.pmd_laws.specs.Prelude.{BeforeLast, IsAlong, IsQuiet, BeforeNext, FaultsFilling}
 use Rattle.pmd.specs.Apart.{FindsBy}
 use Rattle.pmd.specs.Bursts.{IsSendBurst, SendsWith}
@@ -68,14 +67,8 @@ IsQuietAndFresh queue q frame own s = IsQuiet queue q frame s × IsFresh queue f
 -- behind them. Just before its first access both sides were off, frames were short and none of its arena's blocks was
 -- lent; and no other pass lends any of them
 pub record BeginsApart : Type 0 where
-  pub w : Watched
-  pub origin : State
-  pub h : List Entry
-  pub q : AtPort
-  pub size : ℕ
-  pub frame : ℕ
-  pub old : List Call
-  pub a : Numbers
+  pub course : Course
+  pub open course use *
   pub new : List Call
   pub along : IsAlong w origin h
   pub begins : BeforeNext w origin h old (IsQuietAndFresh w.queue q frame (is_own a))

@@ -4,6 +4,7 @@ pub mod BesideApart
 pub mod BesideRoom
 pub mod BesideStart
 pub mod BesideStop
+pub mod Course
 pub mod Ends
 pub mod Faultless
 pub mod FullRing

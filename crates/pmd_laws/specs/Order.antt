@@ -1,9 +1,7 @@
 -- What a driver handed out and what it sent in its life, over a history that leaves its queue alone.
 use Rattle.std.specs.Prelude.{◌≡◌, [], ◌++◌}
-use Rattle.driver_laws.specs.Prelude.{calls_of, leads_to, delivered, bytes_of, sent_since, records_of, FindsNone}
-use Rattle.driver_laws.specs.Prelude.{ShowsNone}
-use Rattle.driver_laws.specs.RingLaws.Delivered as receive
-use Rattle.driver_laws.specs.RingLaws.Laws as transmit
+use Rattle.driver_laws.specs.Prelude.{calls_of, leads_to, delivered, records_of, FindsNone, ShowsNone}
+use Rattle.pmd_laws.specs.Course.{IsAllSent, IsHandedInOrder, IsSentInOrder}
 use Rattle.pmd_laws.specs.Life.{Life}
 
 -- the pass made just the calls of this life in its history
@@ -13,7 +11,7 @@ IsLived x = calls_of x.w.pass x.h ≡ x.made
 -- what the driver handed out is a prefix of what was delivered on its queue since the receive side went on
 abbrev pub HandedIsPrefix : Type 0
 HandedIsPrefix =
-    (x : Life) → IsLived x → receive.IsPrefixOf x.k.receive.handed (delivered x.w.queue x.origin x.h)
+    (x : Life) → IsLived x → IsHandedInOrder x.course x.k.receive.handed
 
 -- where a look that comes next finds its slot not done, all of that was taken: it was handed out, or is whole and
 -- handed out as the tail moves on. Where none is whole it was all handed out
@@ -32,10 +30,8 @@ NoneIsAll =
 -- that where none is outstanding
 abbrev pub SentIsPrefix : Type 0
 SentIsPrefix =
-    (x : Life) → IsLived x →
-    transmit.IsPrefixOf (sent_since x.w.queue x.origin [] x.h) (bytes_of x.k.transmit.accepted)
+    (x : Life) → IsLived x → IsSentInOrder x.course x.k.transmit.accepted
 
 abbrev pub IdleIsAllSent : Type 0
 IdleIsAllSent =
-    (x : Life) → IsLived x → x.k.transmit.outstanding ≡ [] →
-    bytes_of x.k.transmit.accepted ≡ sent_since x.w.queue x.origin [] x.h
+    (x : Life) → IsLived x → x.k.transmit.outstanding ≡ [] → IsAllSent x.course x.k.transmit.accepted

@@ -1,8 +1,7 @@
 -- A driver whose start was refused, and what was sent on its queue meanwhile.
-use Rattle.std.specs.Prelude.{ℕ, ◌≡◌, List, [], ◌∷◌, ◌++◌}
-use Rattle.driver_laws.specs.Prelude.{Numbers, State, calls_of, leads_to, Watched, Call, Entry, left_accepted}
-use Rattle.driver_laws.specs.Prelude.{left_handed, Rest, StartRefused, AreSteps, AtPort, delivered, bytes_of, sent_in}
-use Rattle.driver_laws.specs.Prelude.{sent_since}
+use Rattle.std.specs.Prelude.{◌≡◌, List, [], ◌∷◌, ◌++◌}
+use Rattle.driver_laws.specs.Prelude.{calls_of, leads_to, Call, Entry, left_accepted, left_handed, Rest, StartRefused, AreSteps, delivered, bytes_of, sent_in, sent_since}
+use Rattle.pmd_laws.specs.Course.{Course}
 use Rattle.pmd_laws.specs.Prelude.{IsAlong, IsQuiet}
 use Rattle.pmd.specs.Life.{NeverLived}
 use Rattle.driver_laws.specs.RingLaws.Delivered as receive
@@ -11,14 +10,8 @@ use Rattle.driver_laws.specs.RingLaws.Laws as transmit
 -- a driver's start was refused over a legal history of a sound device that leaves the queue alone, up to some place
 -- amid the start and the stop of what it left, or to where these ended
 pub record Refused : Type 0 where
-  pub w : Watched
-  pub origin : State
-  pub h : List Entry
-  pub q : AtPort
-  pub size : ℕ
-  pub frame : ℕ
-  pub old : List Call
-  pub a : Numbers
+  pub course : Course
+  pub open course use *
   pub e : StartRefused
   pub new : List Call
   pub left : Rest

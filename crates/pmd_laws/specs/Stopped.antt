@@ -1,11 +1,10 @@
 -- A driver's life, and then calls of its stop.
-use Rattle.std.specs.Prelude.{◌≡◌, List, []}
-use Rattle.driver_laws.specs.Prelude.{calls_of, Call, PmdFault, Halted, AtPort, delivered, bytes_of, sent_since}
+use Rattle.std.specs.Prelude.{◌≡◌, List}
+use Rattle.driver_laws.specs.Prelude.{calls_of, Call, PmdFault, Halted, AtPort}
+use Rattle.pmd_laws.specs.Course.{IsHandedInOrder, IsSentInOrder}
 use Rattle.pmd_laws.specs.Prelude.{Ends, TakesOnceOff}
 use Rattle.pmd.specs.Stopping.{StopFails, Stops}
 use Rattle.pmd.specs.declared.home.Home.{Home}
-use Rattle.driver_laws.specs.RingLaws.Delivered as receive
-use Rattle.driver_laws.specs.RingLaws.Laws as transmit
 use Rattle.pmd_laws.specs.Life.{Life}
 
 -- behind a life the pass made the calls of a stop, and no others: none writes the queue's enable words with bit 25
@@ -17,15 +16,14 @@ pub record IsStopping (x : Life) (new : List Call) : Type 0 where
 -- whole history
 abbrev pub HandedIsPrefix : Type 0
 HandedIsPrefix =
-    (x : Life) (new : List Call) → IsStopping x new →
-    receive.IsPrefixOf x.k.receive.handed (delivered x.w.queue x.origin x.h)
+    (x : Life) (new : List Call) → IsStopping x new → IsHandedInOrder x.course x.k.receive.handed
 
 -- where the stop takes blocks back only once both sides were seen off, what was sent on the queue since its transmit
 -- side went on is a prefix of what the driver accepted, over the whole history
 abbrev pub SentIsPrefix : Type 0
 SentIsPrefix =
     (x : Life) (new : List Call) → IsStopping x new → TakesOnceOff x.q x.made new →
-    transmit.IsPrefixOf (sent_since x.w.queue x.origin [] x.h) (bytes_of x.k.transmit.accepted)
+    IsSentInOrder x.course x.k.transmit.accepted
 
 -- the calls of a driver's stop are such, and so are those of one that fails
 

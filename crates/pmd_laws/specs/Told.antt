@@ -1,15 +1,13 @@
 -- A driver's life as its calls tell it: what the clauses of `start`, `rx`, `tx`, `reap`, `rx_burst`, `tx_burst`,
 -- `packet` and `release` say of the driver, and of the calls that its pass made.
 use Rattle.std.specs.Prelude.{ℕ, ◌≡◌, ◌⊎◌, ⊤, List, [], ◌∷◌, ◌++◌}
-use Rattle.driver_laws.specs.Prelude.{Numbers, State, calls_of, Watched, Call, Entry, WhereUp, accepted_of, handed_of}
-use Rattle.driver_laws.specs.Prelude.{Rings, Up, Down, AtPort, delivered, bytes_of, sent_since}
+use Rattle.driver_laws.specs.Prelude.{Numbers, calls_of, Call, Entry, WhereUp, accepted_of, handed_of, Rings, Up, Down, AtPort, delivered}
+use Rattle.pmd_laws.specs.Course.{Course, IsAllSent, IsHandedInOrder, IsSentInOrder}
 use Rattle.pmd_laws.specs.Prelude.{IsAlong, BeginsWell}
 use Rattle.pmd.specs.Driver.{Driver}
 use Rattle.pmd.specs.Life.{RunsOn, KeepsHalves}
 use Rattle.pmd.specs.Started.{HasStarted}
 use Rattle.pmd.specs.PmdRx.Plays as receiving
-use Rattle.driver_laws.specs.RingLaws.Delivered as receive
-use Rattle.driver_laws.specs.RingLaws.Laws as transmit
 use Rattle.driver_laws.specs.Beside.{AddsHarmless}
 use Rattle.pmd_laws.specs.Looks.{EndsAt}
 
@@ -49,14 +47,8 @@ pub record IsTold (q : AtPort) (size frame : ℕ) (old : List Call) (a : Numbers
 
 -- over a legal history of a sound device that leaves the queue alone
 pub record Told : Type 0 where
-  pub w : Watched
-  pub origin : State
-  pub h : List Entry
-  pub q : AtPort
-  pub size : ℕ
-  pub frame : ℕ
-  pub old : List Call
-  pub a : Numbers
+  pub course : Course
+  pub open course use *
   pub m : Moment
   pub later : List Moment
   pub along : IsAlong w origin h
@@ -74,16 +66,14 @@ IsToldOf x = calls_of x.w.pass x.h ≡ (now x).made
 -- what the driver handed out is a prefix of what was delivered
 abbrev pub HandedIsPrefix : Type 0
 HandedIsPrefix =
-    (x : Told) → IsToldOf x →
-    receive.IsPrefixOf (handed_of (now x).driver.rings) (delivered x.w.queue x.origin x.h)
+    (x : Told) → IsToldOf x → IsHandedInOrder x.course (handed_of (now x).driver.rings)
 
 -- what was sent is a prefix of what the driver accepted, and it is all of that where no packet is outstanding, as where
 -- `reap` answers so
 
 abbrev pub SentIsPrefix : Type 0
 SentIsPrefix =
-    (x : Told) → IsToldOf x →
-    transmit.IsPrefixOf (sent_since x.w.queue x.origin [] x.h) (bytes_of (accepted_of (now x).driver.rings))
+    (x : Told) → IsToldOf x → IsSentInOrder x.course (accepted_of (now x).driver.rings)
 
 abbrev pub HasNoneOut : Rings → Type 0
 HasNoneOut (Up r) = r.transmit.outstanding ≡ []
@@ -91,8 +81,7 @@ HasNoneOut (Down h) = ⊥
 
 abbrev pub IdleIsAllSent : Type 0
 IdleIsAllSent =
-    (x : Told) → IsToldOf x → HasNoneOut (now x).driver.rings →
-    bytes_of (accepted_of (now x).driver.rings) ≡ sent_since x.w.queue x.origin [] x.h
+    (x : Told) → IsToldOf x → HasNoneOut (now x).driver.rings → IsAllSent x.course (accepted_of (now x).driver.rings)
 
 -- a call of `rx` answered none, or one of `rx_burst` 0 where it was asked for some, as `none` in its clause `received`
 -- tells

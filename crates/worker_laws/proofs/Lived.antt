@@ -1,23 +1,93 @@
--- A driver that lived: what it left, counted from its first event on.
+-- A driver that lived: what it left, counted from its first event on. What is counted once a side is on is counted anew,
+-- whatever was before a place where it was off.
 use Rattle.workers.specs.Starts.{Starts}
 use Rattle.pmd_laws.proofs.Ends.{left_handed_over_stop, left_sent_over_stop}
-use Rattle.pmd_laws.proofs.Prelude.{[], ◌++◌, ◌∙◌, ◌∷◌, ◌≡◌, AreSteps, AreUp, AtPort, Begins, BeginsWell, Call, Ended}
-use Rattle.pmd_laws.proofs.Prelude.{Entry, HasGround, HasLived, IsAlong, IsFalse, IsOver, IsQuiet, IsTrue, List}
-use Rattle.pmd_laws.proofs.Prelude.{Numbers, Option, Parts, PmdFault, Rest, Rx, Rxdctl, Sees, Sets, State, Tx, Up}
-use Rattle.pmd_laws.proofs.Prelude.{Watched, WentOn, ℕ, ap, append-nil, append_assoc, append_cancel_left, around}
-use Rattle.pmd_laws.proofs.Prelude.{both_ways, bytes_of, calls_joined, calls_of, delivered, extends, false, halted_of}
-use Rattle.pmd_laws.proofs.Prelude.{inl, inr, is_on, is_step, leads_to, left_accepted, left_handed, new_state}
-use Rattle.pmd_laws.proofs.Prelude.{one_begins, parts, quiet, sent_since, start_goes_on, subst, sym, true}
-use Rattle.pmd_laws.proofs.Shifted.{paired}
-use Rattle.pmd_laws.proofs.StartShifted.{prepared_shift, switched_shift}
+use Rattle.pmd_laws.proofs.Prelude.{[], ◌&&◌, ◌++◌, ◌∙◌, ◌∷◌, ◌≡◌, AreSteps, AreUp, AtPort, Begins, BeginsWell, Bool}
+use Rattle.pmd_laws.proofs.Prelude.{Call, Dir, Ended, Entry, HasGround, HasLived, IsAlong, IsFalse, IsOver, IsQuiet}
+use Rattle.pmd_laws.proofs.Prelude.{IsTrue, List, None, Numbers, Option, Parts, PmdFault, Rest, Rx, Rxdctl, Sees, Sets}
+use Rattle.pmd_laws.proofs.Prelude.{Some, State, Tx, Up, Watched, WentOn, ℕ, after, ap, append-nil, append_assoc}
+use Rattle.pmd_laws.proofs.Prelude.{append_cancel_left, around, both_ways, bytes_of, calls_joined, calls_of, cases_Bool}
+use Rattle.pmd_laws.proofs.Prelude.{cond, delivered, extends, false, halted_of, inl, inr, is_on, is_step, leads_to}
+use Rattle.pmd_laws.proofs.Prelude.{left_accepted, left_handed, new_state, not, one_begins, option_map}
+use Rattle.pmd_laws.proofs.Prelude.{packets_if_any, parts, pieces, pieces_since, polled, quiet, receive_polled, refl}
+use Rattle.pmd_laws.proofs.Prelude.{sent_by, sent_is_counted, sent_since, since-append, start_goes_on, subst, sym, true}
+use Rattle.pmd_laws.proofs.DriverLaws.StopCalls.{prepared_plain}
 use Rattle.pmd_laws.proofs.DriverLaws.Histories.{leads-append}
 use Rattle.pmd_laws.proofs.DriverLaws.SwitchedOff.{quieting_leads}
 use Rattle.pmd_laws.proofs.StopCalls.{stopped_ends}
 use Rattle.worker_laws.specs.Points.{JustBefore}
-use Rattle.worker_laws.proofs.Counted.{delivered_from, sent_from}
-use Rattle.worker_laws.proofs.FirstCalls.{FirstCall, before_first, first_read, more_behind}
+use Rattle.worker_laws.proofs.Told.{FirstCall, before_first, first_read, more_behind}
 use Rattle.pmd_laws.specs.DriverLaws.RingLaws.Delivered as receive
 use Rattle.pmd_laws.specs.DriverLaws.RingLaws.Laws as transmit
+
+-- where a side goes on what was before doesn't count
+anew : {A : Type 0} (was is : Bool) (x y z : A) → was ≡ false → is ≡ true
+    → cond (not was && is) x y ≡ cond (not was && is) x z
+anew true is x y z off on = cc
+anew false true x y z off on = refl
+anew false false x y z off on = cc
+
+-- a count of what each entry adds, which begins anew where a side of a queue goes on
+module _ {A : Type 0} (dir : Dir) (queue : ℕ) (none begun : A) (add : State → Entry → A → A)
+    (since : State → A → List Entry → A)
+    (next : (s : State) (so_far : A) (e : Entry) (h : List Entry)
+    → since s so_far (e ∷ h)
+    ≡ since (after s e.event)
+    (cond (not (is_on s.registers dir queue) && is_on (after s e.event).registers dir queue) begun (add s e so_far)) h)
+    (joined : (s : State) (so_far : A) (g h : List Entry)
+    → since s so_far (g ++ h) ≡ since (leads_to s g) (since s so_far g) h) where
+  since_anew : (s : State) (a b : A) (h : List Entry) → IsFalse (is_on s.registers dir queue)
+      → IsTrue (is_on (leads_to s h).registers dir queue) → since s a h ≡ since s b h
+  since_anew s a b [] off on = absurd (both_ways _ off on)
+  since_anew s a b (e ∷ h) off on =
+      let t : State = after s e.event in
+      let was = is_on s.registers dir queue in
+      let is = is_on t.registers dir queue in
+      next s a e h
+      ∙ elim (cases_Bool is)
+      as (λ _.
+      since t (cond (not was && is) begun (add s e a)) h ≡ since t (cond (not was && is) begun (add s e b)) h) [
+        | inl goes ↦ ap (λ (so_far : A). since t so_far h) (anew was is begun (add s e a) (add s e b) off goes)
+        | inr stays ↦ since_anew t _ _ h stays on
+      ]
+      ∙ sym (next s b e h)
+
+  -- so it is the same from any place before that one on
+  since_from : (s : State) (before till up more : List Entry)
+      → IsFalse (is_on (leads_to s (before ++ till)).registers dir queue)
+      → IsTrue (is_on (leads_to (leads_to s (before ++ till)) up).registers dir queue)
+      → since s none ((before ++ till) ++ (up ++ more)) ≡ since (leads_to s before) none (till ++ (up ++ more))
+  since_from s before till up more off on =
+      let start : State = leads_to s before in
+      let off_at : State = leads_to s (before ++ till) in
+      let early : A = since s none (before ++ till) in
+      let late : A = since start none till in
+      joined s none (before ++ till) (up ++ more) ∙ joined off_at early up more
+      ∙ ap (λ (so_far : A). since (leads_to off_at up) so_far more) (since_anew off_at early late up off on)
+      ∙ sym (joined off_at late up more)
+      ∙ ap (λ (t : State). since t late (up ++ more)) (leads-append s before till)
+      ∙ sym (joined start none till (up ++ more))
+
+module _ (queue : ℕ) (s : State) (before till up more : List Entry) where
+  abbrev off_at : State
+  off_at = leads_to s (before ++ till)
+
+  delivered_from : IsFalse (is_on off_at.registers Rx queue)
+      → IsTrue (is_on (leads_to off_at up).registers Rx queue)
+      → delivered queue s ((before ++ till) ++ (up ++ more))
+      ≡ delivered queue (leads_to s before) (till ++ (up ++ more))
+  delivered_from off on =
+      ap packets_if_any
+      (since_from Rx queue None (Some [])
+      (λ t e so_far. option_map (λ qs. qs ++ pieces queue t e.event) so_far) (pieces_since queue)
+      (λ t so_far e h. refl) (since-append queue) s before till up more off on)
+
+  sent_from : IsFalse (is_on off_at.registers Tx queue) → IsTrue (is_on (leads_to off_at up).registers Tx queue)
+      → sent_since queue s [] ((before ++ till) ++ (up ++ more))
+      ≡ sent_since queue (leads_to s before) [] (till ++ (up ++ more))
+  sent_from off on =
+      since_from Tx queue [] [] (λ t e so_far. so_far ++ sent_by queue t e.event) (sent_since queue)
+      (λ t so_far e h. refl) (sent_is_counted.joined queue) s before till up more off on
 
 -- some calls were made
 abbrev GoesOn : List Call → List Call → Type 0
@@ -50,9 +120,12 @@ module _ (w : Watched) (fifo : ℕ) (h : List Entry) {q : AtPort} {size frame : 
 
   up_goes : GoesOn up.receive.mid up.on.mid
   up_goes =
-      let calls = paired (prepared_shift up.receive.prepared)
-      (paired (prepared_shift up.transmit.prepared)
-      (switched_shift q true 1000 up.both_made up.on.mid up.on.switched)) in (calls.since, calls.made)
+      let (one, is, any) = prepared_plain up.receive.prepared in
+      let (two, then, some) = prepared_plain up.transmit.prepared in
+      goes_on up.receive.mid up.ready_made up.on.mid (one, is)
+      (goes_on up.ready_made up.both_made up.on.mid (two, then)
+      (extends q (receive_polled true up.on.switched.0 ++ polled Tx true up.on.switched.1) up.both_made up.on.mid
+      up.on.switched.3))
 
   stop_goes : GoesOn lived.made new
   stop_goes =
@@ -71,18 +144,18 @@ module _ (w : Watched) (fifo : ℕ) (h : List Entry) {q : AtPort} {size frame : 
       let (more, all) = goes_on up.receive.quiet.0 up.receive.mid new off_goes
       (goes_on up.receive.mid up.on.mid new up_goes on_goes) in
       let x =
-      around w.pass h (old ++ first.steps) first.call more
+      around w.pass h (old ++ first.before) first.call more
       (made ∙ all ∙ more_behind old up.receive.quiet.0 more first
-      ∙ sym (append_assoc old first.steps (first.call ∷ more))) in record {
+      ∙ sym (append_assoc old first.before (first.call ∷ more))) in record {
         before = x.before;
         first = x.entry;
         behind = x.behind;
         all = x.all;
         own = x.own;
-        steps = first.steps;
-        stepped = first.stepped;
+        steps = first.before;
+        stepped = first.steps;
         calls = x.made;
-        event = ap (λ (c : Call). is_step c.event) x.call ∙ first.event;
+        event = ap (λ (c : Call). is_step c.event) x.call ∙ first.is;
       }
 
   module _ (along : IsAlong w (new_state w.vfs fifo) h)
@@ -97,14 +170,7 @@ module _ (w : Watched) (fifo : ℕ) (h : List Entry) {q : AtPort} {size frame : 
 
     abbrev ended : Ended
     ended = record {
-      w = w;
-      origin = origin;
-      h = h;
-      q = q;
-      size = size;
-      frame = frame;
-      old = old;
-      a = a;
+      course = record { w = w; origin = origin; h = h; q = q; size = size; frame = frame; old = old; a = a };
       new = new;
       left = left;
       late = late;
@@ -158,10 +224,10 @@ module _ (w : Watched) (fifo : ℕ) (h : List Entry) {q : AtPort} {size frame : 
             sym (ap (calls_of w.pass) is) ∙ calls_joined w.pass both_off.front back
                 ∙ ap (λ (l : List Call). l ++ calls_of w.pass back) both_off.fronts,
           ) in
-          let same : x.steps ≡ first.steps ++ first.call ∷ more =
-          append_cancel_left old x.steps (first.steps ++ first.call ∷ more)
+          let same : x.steps ≡ first.before ++ first.call ∷ more =
+          append_cancel_left old x.steps (first.before ++ first.call ∷ more)
           (sym x.calls ∙ all ∙ more_behind old up.receive.quiet.0 more first) in
-          both_ways _ first.event (steps_have first.steps first.call more (subst AreSteps same x.stepped))
+          both_ways _ first.is (steps_have first.before first.call more (subst AreSteps same x.stepped))
 
       begun : Begins x.before both_off.front
       begun =

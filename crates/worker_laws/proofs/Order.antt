@@ -11,13 +11,13 @@ use Rattle.pmd_laws.proofs.Order.{along_before}
 use Rattle.pmd_laws.proofs.Prelude.{[], ◌++◌, ◌∙◌, ◌∷◌, ◌≡◌, ◌≢◌, ◌⊎◌, Call, Entry, HasGround, IsAlong, IsHome, IsQuiet}
 use Rattle.pmd_laws.proofs.Prelude.{IsSound, List, None, Numbers, Option, Rest, Some, State, Watched, ℕ, ap, append-nil}
 use Rattle.pmd_laws.proofs.Prelude.{append_assoc, around, bytes_of, call_in, calls_joined, calls_of, calls_own}
-use Rattle.pmd_laws.proofs.Prelude.{delivered, eq-eqb, inl, inr, leads_to, left_accepted, left_handed, new_sound}
+use Rattle.pmd_laws.proofs.Prelude.{delivered, eq-eqb, inl, inr, leads_to, left, left_accepted, left_handed, new_sound}
 use Rattle.pmd_laws.proofs.Prelude.{new_state, none_behind, refl, same_from_push, sent_since, subst, sym}
 use Rattle.pmd_laws.proofs.Refused.{left_of_refused_is_prefix}
 use Rattle.pmd_laws.proofs.DriverLaws.HistoryLaws.Alone.{new_is_left_alone}
 use Rattle.worker_laws.specs.Order.{CallsStand, EndOwn, IsEndAmong, IsEndIn, UpTo, given_of, queue_of}
 use Rattle.worker_laws.specs.Points.{JustBefore}
-use Rattle.worker_laws.proofs.FirstCalls.{calls_from, starts_more}
+use Rattle.worker_laws.proofs.Told.{calls_from, starts_more}
 use Rattle.worker_laws.proofs.Lived.{handed_since, sent_on, starts}
 use Rattle.worker_laws.proofs.Settings.{ground_there, named_below}
 use Rattle.pmd.specs.declared.start.Rest.TheVariants as rest
@@ -170,14 +170,16 @@ module _ (vfs fifo : ℕ) (h : List Entry) (j : Job) (e : WorkerEnd) (x : IsEndI
         let calls = calls_from e.pass.tag old u.done s in
         let since : List Call = s.steps ++ call_in s.first ∷ calls_of e.pass.tag s.behind in
         left_of_refused_is_prefix (record {
-          w = w;
-          origin = new_state vfs fifo;
-          h = u.done;
-          q = queue_of j;
-          size = j.size;
-          frame = j.frame;
-          old = old;
-          a = j.arena;
+          course = record {
+            w = w;
+            origin = new_state vfs fifo;
+            h = u.done;
+            q = queue_of j;
+            size = j.size;
+            frame = j.frame;
+            old = old;
+            a = j.arena;
+          };
           e = f;
           new = e.pass.calls;
           left = e.rest;

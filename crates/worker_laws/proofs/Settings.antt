@@ -70,14 +70,6 @@ pool_below Pools16 pool number in_mode few = omega (arith, in_mode, few)
 pool_below Pools32 pool number in_mode few = omega (arith, in_mode, few)
 pool_below Pools64 pool number in_mode few = omega (arith, in_mode, few)
 
-abbrev first_in : Option (ℕ × ℕ) → ℕ
-first_in None = 0
-first_in (Some queues) = queues.0
-
-abbrev count_in : Option (ℕ × ℕ) → ℕ
-count_in None = 0
-count_in (Some queues) = queues.1
-
 pub named_below : (mode : Mode) (vfs : ℕ) (port : Port) (number queue : ℕ)
     → queue_at mode vfs port number ≡ Some queue → queue < 128
 named_below mode vfs Pf number queue is =
@@ -90,8 +82,9 @@ named_below mode vfs (Vf v) number queue is =
     let x = is_in (queues_of mode v) number queue there in
     let (in_mode, queues) =
     some_where (nat_lt v (pools_in mode)) (Some (v * queues_each mode, queues_each mode)) (x.first, x.count) x.pool in
-    let first : v * queues_each mode ≡ x.first = ap first_in queues in
-    let count : queues_each mode ≡ x.count = ap count_in queues in
+    let same : (v * queues_each mode, queues_each mode) ≡ (x.first, x.count) = cc in
+    let first : v * queues_each mode ≡ x.first = ap (λ (p : ℕ × ℕ). p.0) same in
+    let count : queues_each mode ≡ x.count = ap (λ (p : ℕ × ℕ). p.1) same in
     let below : v * queues_each mode + number < 128 =
     pool_below mode v number (ltb-true v (pools_in mode) in_mode) (subst (λ n. number < n) (sym count) x.few) in
     subst (λ n. n < 128) (sym x.same) (subst (λ n. n + number < 128) first below)

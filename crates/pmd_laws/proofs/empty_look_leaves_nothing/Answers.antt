@@ -1,4 +1,4 @@
-use Rattle.pmd_laws.proofs.Looks.{none_at_first, none_before_look}
+use Rattle.pmd_laws.proofs.Told.{none_at_first, none_before_look}
 use Rattle.pmd_laws.proofs.empty_look_leaves_nothing.Goals as goal
 
 pub returns : goal.returns

@@ -1,5 +1,4 @@
-use Rattle.pmd_laws.proofs.StopSent.{sent_over_stop}
-use Rattle.pmd_laws.proofs.Stopped.{handed_over_stop}
+use Rattle.pmd_laws.proofs.Stopped.{handed_over_stop, sent_over_stop}
 use Rattle.pmd_laws.proofs.stopped_life_in_order.Goals as goal
 
 pub returns : goal.returns

@@ -1,5 +1,5 @@
 use Rattle.pmd_laws.proofs.Ends.{silent_over_stop}
-use Rattle.pmd_laws.proofs.StopSent.{silent_off}
+use Rattle.pmd_laws.proofs.Stopped.{silent_off}
 use Rattle.pmd_laws.proofs.switched_off_queue_is_silent.Goals as goal
 
 pub returns : goal.returns

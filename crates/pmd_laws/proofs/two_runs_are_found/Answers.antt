@@ -6,8 +6,8 @@ use Rattle.nic_device.specs.DmaArena.Run.{IsFreeRun, are_free, run_behind, run_f
 use Rattle.pmd.specs.Runs.{behind_run, second_run}
 use Rattle.pmd_laws.specs.Room.{HasTwoRuns}
 use Rattle.pmd_laws.proofs.Prelude.{◌+◌, ◌-◌, ◌<◌, ◌≡◌, ◌≢◌, ◌≤◌, None, Numbers, Option, Some, ℕ, and_from, arith}
-use Rattle.pmd_laws.proofs.Prelude.{both_ways, cases_Bool, cases_eq, count_of, inl, inr, is_free, is_some, refl, subst}
-use Rattle.pmd_laws.proofs.Prelude.{suc, true, zero}
+use Rattle.pmd_laws.proofs.Prelude.{both_ways, cases_Bool, cases_eq, count_of, inl, inr, is_free, is_some, left, refl}
+use Rattle.pmd_laws.proofs.Prelude.{subst, suc, true, zero}
 use Rattle.pmd_laws.proofs.two_runs_are_found.Goals as goal
 
 first_free : (a : Numbers) (first count : ℕ) → 0 < count → IsFreeRun a first count → is_free a first ≡ true

@@ -1,5 +1,4 @@
-use Rattle.pmd_laws.proofs.Looks.{waiting_before_look}
-use Rattle.pmd_laws.proofs.Told.{waiting_as_told}
+use Rattle.pmd_laws.proofs.Told.{waiting_as_told, waiting_before_look}
 use Rattle.pmd_laws.proofs.waiting_look_leaves_some_unsent.Goals as goal
 
 pub returns : goal.returns

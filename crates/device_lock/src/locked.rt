@@ -24,7 +24,7 @@ use std::alloc::{AllocError, Global};
 use std::marker::Model;
 
 /// For how many entries there is room at first.
-const FIRST_ROOM: usize = 2048;
+const FIRST_ROOM: usize = 65_536;
 
 /// For each tag that a pass can have, how many entries have it.
 pub(crate) type Counts = [u32; MAX_PASSES as usize];

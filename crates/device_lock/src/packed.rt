@@ -33,12 +33,13 @@ pub struct Packed {
     pub reply: ReplyNote,
 }
 
-/// For how many entries one by one room is made at least, where there is memory.
-const LEAST_ROOM: usize = 131_072;
+/// For how many entries one by one room is made at least, where there is memory and there may be so many.
+const LEAST_ROOM: u32 = 131_072;
 
-/// Makes room for so many entries one by one. Answers whether there is memory for them. It makes more room than that
-/// where it can, since room that grows little by little is moved, and so touched, before anything is put there.
-pub(crate) fn hold_room(whole: &mut Vec<Entry>, count: u32) -> bool
+/// Makes room for so many entries one by one, where there may be so many. Answers whether there is memory for them. It
+/// makes more room than that where it can, since room that grows little by little is moved, and so touched, before
+/// anything is put there.
+pub(crate) fn hold_room(whole: &mut Vec<Entry>, count: u32, limit: u32) -> bool
     ensures same { whole.new.items ≡ whole.old.items }
     ensures more { vec_capacity whole.old ≤ vec_capacity whole.new }
     ensures room { result ≡ true → count ≤ vec_capacity whole.new }
@@ -48,7 +49,8 @@ pub(crate) fn hold_room(whole: &mut Vec<Entry>, count: u32) -> bool
         return true;
     }
     let more = count - whole.len();
-    whole.reserve(more.max(LEAST_ROOM)).is_ok() || whole.reserve(more).is_ok()
+    let roomy = more.max(LEAST_ROOM.min(limit) as usize);
+    whole.reserve(roomy).is_ok() || whole.reserve(more).is_ok()
 }
 
 /// The same for the entries of the device steps of a queue behind so many others, where there may be so many.
@@ -59,7 +61,7 @@ pub(crate) fn has_room(whole: &mut Vec<Entry>, count: u32, limit: u32) -> bool
     ensures room { result ≡ true → count + 4 ≤ vec_capacity whole.new }
 {
     let steps = STEPS as u32;
-    limit >= steps && count <= limit - steps && hold_room(whole, count + steps)
+    limit >= steps && count <= limit - steps && hold_room(whole, count + steps, limit)
 }
 
 /// Puts an entry behind the others and the idle steps behind the last of them. There is room for it.

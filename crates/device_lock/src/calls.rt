@@ -25,7 +25,7 @@ use std::alloc::Global;
 use std::marker::Model;
 
 /// For how many calls there is room at first.
-const FIRST_ROOM: usize = 2048;
+const FIRST_ROOM: usize = 65_536;
 
 /// A call, and what was made before it.
 #[derive(Debug, Drop)]

@@ -24,7 +24,7 @@ use std::alloc::{AllocError, Global};
 use std::marker::Model;
 
 /// For how many entries there is room at first.
-const FIRST_ROOM: usize = 2048;
+const FIRST_ROOM: usize = 65_536;
 
 /// For each tag that a pass can have, how many entries have it.
 pub(crate) type Counts = [u32; MAX_PASSES as usize];
@@ -147,7 +147,7 @@ impl<const VFS: u8, const FIFO: u16> Locked<VFS, FIFO> {
         if let Some(note) = self.device.idle_note(&event) {
             return self.keep(tag, event, note);
         }
-        if !hold_room(&mut self.whole, self.count + 1) {
+        if !hold_room(&mut self.whole, self.count + 1, self.limit) {
             return Err(CallFault::OutOfMemory(event));
         }
         let device = &self.device;
@@ -179,7 +179,9 @@ impl<const VFS: u8, const FIFO: u16> Locked<VFS, FIFO> {
         ensures memory { OnErr result (result ≡ Err (CallFault.OutOfMemory event)) }
         ensures unchanged { OnErr result (self.new ≡ self.old) }
     {
-        if !hold_room(&mut self.whole, self.count + 1) || self.packed.reserve(1).is_err() {
+        if !hold_room(&mut self.whole, self.count + 1, self.limit)
+            || self.packed.reserve(1).is_err()
+        {
             return Err(CallFault::OutOfMemory(event));
         }
         end_event(event);

@@ -33,14 +33,24 @@ pub struct Packed {
     pub reply: ReplyNote,
 }
 
-/// Makes room for so many entries one by one. Answers whether there is memory for them.
-pub(crate) fn hold_room(whole: &mut Vec<Entry>, count: u32) -> bool
+/// For how many entries one by one room is made at least, where there is memory and there may be so many.
+const LEAST_ROOM: u32 = 131_072;
+
+/// Makes room for so many entries one by one, where there may be so many. Answers whether there is memory for them. It
+/// makes more room than that where it can, since room that grows little by little is moved, and so touched, before
+/// anything is put there.
+pub(crate) fn hold_room(whole: &mut Vec<Entry>, count: u32, limit: u32) -> bool
     ensures same { whole.new.items ≡ whole.old.items }
     ensures more { vec_capacity whole.old ≤ vec_capacity whole.new }
     ensures room { result ≡ true → count ≤ vec_capacity whole.new }
 {
     let count = count as usize;
-    count <= whole.capacity() || whole.reserve(count - whole.len()).is_ok()
+    if count <= whole.capacity() {
+        return true;
+    }
+    let more = count - whole.len();
+    let roomy = more.max(LEAST_ROOM.min(limit) as usize);
+    whole.reserve(roomy).is_ok() || whole.reserve(more).is_ok()
 }
 
 /// The same for the entries of the device steps of a queue behind so many others, where there may be so many.
@@ -51,7 +61,7 @@ pub(crate) fn has_room(whole: &mut Vec<Entry>, count: u32, limit: u32) -> bool
     ensures room { result ≡ true → count + 4 ≤ vec_capacity whole.new }
 {
     let steps = STEPS as u32;
-    limit >= steps && count <= limit - steps && hold_room(whole, count + steps)
+    limit >= steps && count <= limit - steps && hold_room(whole, count + steps, limit)
 }
 
 /// Puts an entry behind the others and the idle steps behind the last of them. There is room for it.

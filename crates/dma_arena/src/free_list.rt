@@ -1,5 +1,5 @@
 //! The blocks of an arena by their places, each free or not. The free ones are a list, linked through their first
-//! bytes.
+//! bytes, and are counted.
 
 ghost use Rattle.std.specs.Prelude.{ℕ, ◌≡◌, ◌+◌, ◌-◌, ◌<◌, ◌≤◌, true, false, is_some, map, Some, None, length, replicate, count_by, slice_index_or, slice_set, IfOk, IfErr, IfSome, IfNone, IsTrue};
 ghost use Rattle.std.specs.List.{list_all};
@@ -19,17 +19,19 @@ const END: u32 = 65536;
 pub(crate) struct FreeList {
     ends: Links,
     slots: Vec<Option<FreeBlock>>,
+    free: u32,
 }
 
 impl Model for FreeList {
-    ghost use Rattle.std.specs.Prelude.{List, Bool, map, is_some};
+    ghost use Rattle.std.specs.Prelude.{◌≡◌, List, Bool, count_by, map, is_some};
     ghost use Rattle.dma_arena.specs.Links.{IsLinked};
 
     ghost Value = { List Bool };
 
     ghost view = { λ a. map is_some a.slots.items };
 
-    ghost invariant = { λ a. IsLinked a.ends a.slots.items };
+    ghost invariant = { λ a.
+        IsLinked a.ends a.slots.items × (a.free ≡ count_by (λ free. free) (map is_some a.slots.items)) };
 }
 
 impl FreeList {
@@ -49,7 +51,11 @@ impl FreeList {
             next: END,
             prev: END,
         };
-        Ok(FreeList { ends, slots })
+        Ok(FreeList {
+            ends,
+            slots,
+            free: 0,
+        })
     }
 
     /// Blocks that are all free, in the order of their places.
@@ -91,8 +97,7 @@ impl FreeList {
     pub(crate) fn count_free(&self) -> u32
         ensures { result ≡ count_by (λ free. free) self.now }
     {
-        let _ends = self.ends;
-        self.slots.iter().filter(|slot| slot.is_some()).count() as u32
+        self.free
     }
 
     /// Whether each block is free.
@@ -122,6 +127,7 @@ impl FreeList {
         ensures { self.new ≡ slice_set self.old place true }
     {
         link(&mut self.ends, &mut self.slots, place, memory);
+        self.free += 1;
     }
 
     /// Takes the block of a place, which is free.
@@ -129,6 +135,7 @@ impl FreeList {
         requires { IsTrue (slice_index_or self.old place false) }
         ensures { self.new ≡ slice_set self.old place false }
     {
+        self.free -= 1;
         unlink(&mut self.ends, &mut self.slots, place)
     }
 
@@ -174,7 +181,11 @@ impl FreeList {
 
     /// Frees the blocks, one by one.
     pub(crate) fn free_all(self) {
-        let FreeList { ends: _, mut slots } = self;
+        let FreeList {
+            ends: _,
+            mut slots,
+            free: _,
+        } = self;
         while let Some(slot) = slots.pop() {
             if let Some(block) = slot {
                 block.into_memory().free();

@@ -8,7 +8,7 @@ use Rattle.driver_laws.specs.Faultless.{NoneIsLent, ReceiveIsReady, SwitchingIsN
 use Rattle.driver_laws.specs.Filling.{FaultsAreEarlyOrFilling, FaultsEarly, FaultsFilling, FillingBeginsWell}
 use Rattle.driver_laws.specs.Filling.{NoFaultIsEarly}
 use Rattle.driver_laws.specs.Prelude.{Access, AreMade, AtPort, Block, Call, DeviceFault, Dir, Entry, IsMade, IsNumberOf}
-use Rattle.driver_laws.specs.Prelude.{IsReceiveReady, Numbers, PmdFault, Port, PreparingFails, Receive, ReceiveFails}
+use Rattle.driver_laws.specs.Prelude.{IsReceiveReady, Numbers, Port, PreparingFails, Receive}
 use Rattle.driver_laws.specs.Prelude.{RowId, Rx, Rxdctl, Sees, Sets, State, SwitchFails, Tx, Txdctl, Watched}
 use Rattle.driver_laws.specs.Prelude.{both_asked, both_quiet, call_of, enable_row, has_bit, has_block, is_driven}
 use Rattle.driver_laws.specs.Prelude.{lent_by, missed, quiet, receive_polled, ring_words, zero_block}

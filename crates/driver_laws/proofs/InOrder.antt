@@ -1,5 +1,5 @@
 -- What the driver handed out and what it sent, over a history that leaves its queue alone.
-use Rattle.std.proofs.Common.{[], ◌&&◌, ◌++◌, ◌∙◌, ◌∷◌, ◌≡◌, Bool, List, None, Some, ap, append_assoc, cond}
+use Rattle.std.proofs.Common.{[], ◌&&◌, ◌++◌, ◌∙◌, ◌∷◌, ◌≡◌, Bool, List, None, Some, ap, append_assoc}
 use Rattle.std.proofs.Common.{false, inl, length, nat_lt, refl, subst, sym, true, ℕ}
 use Rattle.std.proofs.lemmas.Bool.{and_from, eq-eqb, eqb-false, eqb-true, lt-ltb, or_left, or_right}
 use Rattle.std.proofs.lemmas.List.{append-nil}

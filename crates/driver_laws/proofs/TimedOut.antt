@@ -103,8 +103,7 @@ module _ (q : AtPort) (size frame : ℕ) where
     going_on mid b c v w before (inr (on, switched, filling)) = absurd filling.fails
 
     amid : StopsStarting q size frame old a new e → e.fault ≡ StartTimeout → TimesOut q old new
-    amid (inl x) is =
-        absurd (never_receiving x.arena x.out (rw is at x.fails))
+    amid (inl x) is = absurd (never_receiving x.arena x.out (rw is at x.fails))
     amid (inr (inl x)) is =
         absurd (never_preparing Tx x.made x.ready_arena new x.arena x.out (rw is at x.fails))
     amid (inr (inr x)) is =

@@ -8,7 +8,7 @@ use Rattle.driver_laws.specs.Faultless.{NoneIsLent, ReceiveIsReady, SwitchingIsN
 use Rattle.driver_laws.specs.Filling.{FaultsAreEarlyOrFilling, FaultsEarly, FaultsFilling, FillingBeginsWell}
 use Rattle.driver_laws.specs.Filling.{NoFaultIsEarly}
 use Rattle.driver_laws.specs.Prelude.{Access, AreMade, AtPort, Block, Call, DeviceFault, Dir, Entry, IsMade, IsNumberOf}
-use Rattle.driver_laws.specs.Prelude.{IsReceiveReady, Numbers, PmdFault, Port, PreparingFails, Receive, ReceiveFails}
+use Rattle.driver_laws.specs.Prelude.{IsReceiveReady, Numbers, Port, PreparingFails, Receive}
 use Rattle.driver_laws.specs.Prelude.{RowId, Rx, Rxdctl, Sees, Sets, State, SwitchFails, Tx, Txdctl, Watched}
 use Rattle.driver_laws.specs.Prelude.{both_asked, both_quiet, call_of, enable_row, has_bit, has_block, is_driven}
 use Rattle.driver_laws.specs.Prelude.{lent_by, missed, quiet, receive_polled, ring_words, zero_block}
@@ -245,7 +245,7 @@ pub faults_are_early_or_filling : FaultsAreEarlyOrFilling
 faults_are_early_or_filling q size frame old a new e (inl x) is = inl (inl (record {
   arena = x.arena;
   out = x.out;
-  fails = subst (λ (f : PmdFault). ReceiveFails f q size old a new x.arena x.out) is x.fails;
+  fails = rw is at x.fails;
 }))
 faults_are_early_or_filling q size frame old a new e (inr (inl x)) is = inl (inr (inl (record {
   made = x.made;
@@ -254,11 +254,10 @@ faults_are_early_or_filling q size frame old a new e (inr (inl x)) is = inl (inr
   empty = x.empty;
   out = x.out;
   receive = x.receive;
-  fails = subst (λ (f : PmdFault). PreparingFails f q Tx size x.made x.ready_arena new x.arena x.out) is x.fails;
+  fails = rw is at x.fails;
 })))
 faults_are_early_or_filling q size frame old a new e (inr (inr x)) is =
-    by_going
-    (subst (λ (f : PmdFault). GoingOnFails f q x.both_made x.both_arena x.empty new x.arena x.filled) is x.fails)
+    by_going (rw is at x.fails)
   where
     by_going : GoingOnFails DeviceFault q x.both_made x.both_arena x.empty new x.arena x.filled
         → FaultsEarly q size frame old a new ⊎ FaultsFilling q size frame old a new

@@ -242,10 +242,7 @@ module _ (own known : Blocks) (s : State) (only : OnlyLent own known s.memory) w
       → (e.pass ≢ pass → LendsNone own e.event) → (b : Bool) → (e.pass == pass) ≡ b
       → OnlyLent own (either known (lent_in pass e)) (after s e.event).memory
   entry_lent pass e legal made none true mine n is has =
-      subst (λ (r : Reply Block). (known n || (nat_lt n 65536 && ((e.pass == pass) && lends e.event r n))) ≡ true)
-      (sym legal)
-      (subst (λ (b : Bool). (known n || (nat_lt n 65536 && (b && lends e.event (reply_to s e.event) n))) ≡ true)
-      (sym mine) (pass_lent e.event made n is has))
+      rw (legal, mine) (pass_lent e.event made n is has)
   entry_lent pass e legal made none false other n is has =
       or_left (known n) (lent_in pass e n)
       (only_lent_stays.others own known s e.event (none (eqb-false e.pass pass other)) only n is has)

@@ -57,13 +57,11 @@ along own {w = w} doers (e ∷ es) {s = s} {h = h} m r known none apart =
     let lends = apart_here own h doers e b (calls_of w.pass es) (subst (AllOwn h doers) (heads m r) r.own)
     (λ other. none.0 (eqb-false e.pass w.pass other)) (subst (AllLendApart own h doers) (heads m r) apart) in
     let behind = along own (doers_after b doers) es (goes m r).meets (runs_on m r)
-    (subst (λ (x : _). OnlyLent own (healthy.lent_by (after_call h d (call_of e.event x))) (after s e.event).memory)
-    (sym r.legal.0) (known_after own m known e.event d mine lends.0)) none.1 lends.1 in (
+    (rw r.legal.0 (known_after own m known e.event d mine lends.0)) none.1 lends.1 in (
       λ up fit.
           subst (AreHealthy h doers) (sym (heads m r))
           (all_here h doers e b (calls_of w.pass es)
-          (subst (λ (y : _). IsHealthy h d (call_of e.event y)) (sym r.legal.0)
-          (healthy_call own m known e.event d mine lends.0 fit.pieces))
+          (rw r.legal.0 (healthy_call own m known e.event d mine lends.0 fit.pieces))
           (behind.0 ((goes m r).receives up) (fitting_after m (goes m r) up fit (most_after h d (call_in e))))),
       subst (λ (k : Halves). OnlyLent own (healthy.lent_by k) (leads_to (after s e.event) es).memory)
           (sym (played_on m r)) behind.1,

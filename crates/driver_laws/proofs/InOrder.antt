@@ -1,5 +1,5 @@
 -- What the driver handed out and what it sent, over a history that leaves its queue alone.
-use Rattle.std.proofs.Common.{[], ◌&&◌, ◌++◌, ◌∙◌, ◌∷◌, ◌≡◌, Bool, List, None, Some, ap, append_assoc, cond}
+use Rattle.std.proofs.Common.{[], ◌&&◌, ◌++◌, ◌∙◌, ◌∷◌, ◌≡◌, Bool, List, None, Some, ap, append_assoc}
 use Rattle.std.proofs.Common.{false, inl, length, nat_lt, refl, subst, sym, true, ℕ}
 use Rattle.std.proofs.lemmas.Bool.{and_from, eq-eqb, eqb-false, eqb-true, lt-ltb, or_left, or_right}
 use Rattle.std.proofs.lemmas.List.{append-nil}
@@ -191,7 +191,7 @@ module _ {w : Watched} {mine : Blocks} {s : State} {out : List Piece} {sent : Li
 
   pub goes : Goes w mine s out sent e.event first_after
   goes =
-      subst (λ x. Goes w mine s out sent e.event (after_call h first_doer (call_of e.event x))) (sym r.legal.0)
+      rw r.legal.0
       (doer_goes m e.event r.events.0 steps first_doer own_here left_alone
       (λ half. subst (λ x. LendsOneOf mine e.event x) r.legal.0 (own_lends half)))
 

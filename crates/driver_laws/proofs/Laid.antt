@@ -181,8 +181,7 @@ module _ (queue : ℕ) (q : AtPort) (frame : ℕ) (l m : Laid) (s : State) (met 
       record {
         then = record {
           ground = plain_keeps queue q frame s (event.Write port n word) (row, same, driven, named) x.ground;
-          side = subst (λ (k : Laid). SideLaid k (side_of Tx queue (after s (event.Write port n word)))) (sym is)
-              (written queue s met l x.side port n word made.2 row may names);
+          side = rw is (written queue s met l x.side port n word made.2 row may names);
         };
         none = refl;
       }
@@ -196,8 +195,7 @@ module _ (queue : ℕ) (q : AtPort) (frame : ℕ) (l m : Laid) (s : State) (met 
       record {
         then = record {
           ground = plain_keeps queue q frame s e plain x.ground;
-          side = subst (λ (k : Laid). SideLaid k (side_of Tx queue (after s e))) (sym is)
-              (left_laid (watching queue s) no_block s e left l x.side);
+          side = rw is (left_laid (watching queue s) no_block s e left l x.side);
         };
         none = left_sends_none (watching queue s) no_block s e left l x.side;
       }

@@ -14,7 +14,7 @@ use Rattle.ring_laws.proofs.{Leaving.switching_keeps, Off.enable_words_keep as t
 use Rattle.ring_laws.proofs.{Playing.moves_keep, Playing.up_stays, Runs.left_alone_is_spared}
 use Rattle.ring_laws.proofs.{Sparing.sparing_events_keep}
 use Rattle.driver_laws.specs.Enabling.{EnableWordsKeep}
-use Rattle.driver_laws.specs.Prelude.{Agree, Block, Blocks, Dir, Doer, Elsewhere, Entry, Event, Halves, IsEvent}
+use Rattle.driver_laws.specs.Prelude.{Block, Blocks, Dir, Doer, Elsewhere, Entry, Event, Halves, IsEvent}
 use Rattle.driver_laws.specs.Prelude.{IsSound, IsUp, LeavesBlock, LeavesBlocks, LeavesRegisters, Memory, Move, OwnCall}
 use Rattle.driver_laws.specs.Prelude.{Piece, Place, Port, Receives, Register, Rx, Rxdctl, Sends, State, Tx, Watched}
 use Rattle.driver_laws.specs.Prelude.{WritesNoSetting, WritesOutside, after, after_call, asks_pool_reset, call_of}

@@ -1,5 +1,5 @@
 -- On a queue whose sides are off nothing is received or sent, over events that leave it alone and calls of a stop.
-use Rattle.std.proofs.Common.{[], ◌++◌, ◌∙◌, ◌∷◌, ◌≡◌, List, None, Option, Some, ap, cond, inr, option_map, refl, subst}
+use Rattle.std.proofs.Common.{[], ◌++◌, ◌∙◌, ◌∷◌, ◌≡◌, List, None, Option, Some, ap, inr, option_map, refl, subst}
 use Rattle.std.proofs.Common.{sym, ℕ}
 use Rattle.std.proofs.lemmas.List.{append-nil, append_cancel_left}
 use Rattle.ring_laws.specs.Delivered.{packets_if_any}

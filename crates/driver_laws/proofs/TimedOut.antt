@@ -71,8 +71,7 @@ module _ (q : AtPort) (size frame : ℕ) where
     before = before;
     all = both_asked true ++ missed Rx true 1000;
     enables = (tt, (tt, all_missed IsOfEnable true enable_reads Rx 1000));
-    made = subst (λ (m : List Call). AreMade q m new (both_asked true ++ missed Rx true 1000)) is
-        (made_after q mid between new (both_asked true) (missed Rx true 1000) asked polls);
+    made = rw (← is) (made_after q mid between new (both_asked true) (missed Rx true 1000) asked polls);
     polls = receive_alone;
   }
   switching_times_out old mid new (before, is, any) (inr (inr (first, between, few, asked, polls))) = record {
@@ -83,7 +82,7 @@ module _ (q : AtPort) (size frame : ℕ) where
         (tt, (tt, all_polled IsOfEnable true enable_reads Rx first))
         (all_missed IsOfEnable true enable_reads Tx (1000 - first));
     made =
-        subst (λ (m : List Call). AreMade q m new (receive_polled true first ++ missed Tx true (1000 - first))) is
+        rw (← is)
         (made_after q mid between new (receive_polled true first) (missed Tx true (1000 - first)) asked polls);
     polls = one_after_the_other first few;
   }
@@ -104,19 +103,14 @@ module _ (q : AtPort) (size frame : ℕ) where
     going_on mid b c v w before (inr (on, switched, filling)) = absurd filling.fails
 
     amid : StopsStarting q size frame old a new e → e.fault ≡ StartTimeout → TimesOut q old new
-    amid (inl x) is =
-        absurd
-        (never_receiving x.arena x.out
-        (subst (λ (f : PmdFault). ReceiveFails f q size old a new x.arena x.out) is x.fails))
+    amid (inl x) is = absurd (never_receiving x.arena x.out (rw is at x.fails))
     amid (inr (inl x)) is =
-        absurd
-        (never_preparing Tx x.made x.ready_arena new x.arena x.out
-        (subst (λ (f : PmdFault). PreparingFails f q Tx size x.made x.ready_arena new x.arena x.out) is x.fails))
+        absurd (never_preparing Tx x.made x.ready_arena new x.arena x.out (rw is at x.fails))
     amid (inr (inr x)) is =
         going_on x.both_made x.both_arena x.arena x.empty x.filled
         (then_made (IsPlain q) old x.ready_made x.both_made (ready_plain x.receive)
         (prepared_plain x.transmit.prepared))
-        (subst (λ (f : PmdFault). GoingOnFails f q x.both_made x.both_arena x.empty new x.arena x.filled) is x.fails)
+        (rw is at x.fails)
 
     -- before any event it answers no such fault
     abbrev IsEarly : Option PmdFault → Type 0

@@ -2,8 +2,8 @@
 //! device and the driver agreeing on both sides of its queue, and why one is refused; and what holds of both its halves
 //! from there on.
 //!
-//! Each law is the contract of a function that does nothing. `specs/Along` says which histories the laws on a start
-//! speak of, and `specs/Histories` those on both halves; how the halves follow from the calls of a driver's pass is said
+//! Each law is the contract of a function that does nothing. `specs/Along` says which histories the laws speak of, and
+//! `specs/Histories` which of these drive both halves; how the halves follow from the calls of a driver's pass is said
 //! by crate `pmd`, and what the device and both halves agree on by `specs/Agreeing`. `specs/Healthy` says over which
 //! histories the device never replies what a queue at fault replies.
 #![tactic(auto)]
@@ -249,7 +249,6 @@ pub fn entries_before_lead_there()
 /// The tags of a history say who made its calls, and nothing else looks at them: told anew, with other tags, a history
 /// is of the same calls. It is as legal, its events are such as a driver can make, it leads to the same state, and it
 /// delivers and sends the same on each queue.
-#[tactic(auto, using(crate::proofs::Retold::retold_same, crate::proofs::Retold::same_delivers, crate::proofs::Retold::same_is_legal, crate::proofs::Retold::same_leads, crate::proofs::Retold::same_sends))]
 pub fn history_is_told_anew()
     ensures retold { RetoldIsSame }
     ensures legal { SameIsLegal }

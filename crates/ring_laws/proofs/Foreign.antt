@@ -1,6 +1,6 @@
 -- Events that aren't the driver's own: they keep the agreement, and a side up that is.
 use Rattle.std.proofs.Common.{[], ◌++◌, ◌/◌, ◌<◌, ◌^◌, ◌||◌, ◌∙◌, ◌∷◌, ◌≡◌, ◌≢◌, ◌≤◌, ◌⊎◌, Bool, List, Ok}
-use Rattle.std.proofs.Common.{ap, arith, cond, false, inl, inr, length, refl, subst, sym, true, ℕ}
+use Rattle.std.proofs.Common.{ap, arith, cond, inl, inr, length, refl, subst, sym, true, ℕ}
 use Rattle.std.proofs.lemmas.Bool.{both_ways, cases_eq, cases_lt, cond_both, eq-eqb, or_parts}
 use Rattle.std.proofs.lemmas.List.{append-nil}
 use Rattle.std.specs.{Bool.beq, Prelude.IsTrue, Prelude.nat_lt, Prelude.⊤}
@@ -148,11 +148,6 @@ piece_inside queue s out v sound (gone, here, h) slot end desc at len is = elim 
 -- A step of the enable of the queue's receive side keeps the agreement; and where the side is on and wanted on nothing
 -- changes.
 
-as_wanted : (w o : Bool) → w ≡ true → o ≡ true → beq w o ≡ true
-as_wanted true true e f = refl
-as_wanted true false e f = cc
-as_wanted false o e f = cc
-
 pub switched_same : (s : State) (queue : ℕ) → is_wanted s.registers Rx queue ≡ true → is_on s.registers Rx queue ≡ true
     → (queue_switched s Rx queue).state ≡ s
 switched_same s queue wanted on =
@@ -162,7 +157,7 @@ switched_same s queue wanted on =
     cond_both (nat_lt queue 128) inner (gives NoQueue s) P
     (λ small. cond_both same (gives Idle s) (gives Done (side_switched s Rx queue)) P (λ idle. refl)
     (λ other. absurd (both_ways (beq (is_wanted s.registers Rx queue) (is_on s.registers Rx queue))
-    (or_parts (is_stopped s.registers) _ other).1 (as_wanted _ _ wanted on))))
+    (or_parts (is_stopped s.registers) _ other).1 (rw (wanted, on) refl))))
     (λ high. refl)
 
 pub enable_keeps : EnableStepKeeps
@@ -196,7 +191,7 @@ move_up queue s out v port number word i (gone, here, h) own up =
     (word_low v port number word h.ring own) in
     rw (own.port_is, own.number_is)
     (subst (λ (x : Outcome). IsUp queue x.state) (sym (tail_written s queue v.layout word h.named))
-    (subst sides.IsUp (sym (ap receive_side side)) (record { on = up.on; wanted = up.wanted })))
+    (subst sides.IsUp (sym (ap receive_side side)) (assumption up)))
 
 calls_up : (queue : ℕ) (s t : State) → LeavesQueues s t → IsUp queue s → IsUp queue t
 calls_up queue s t left up = left_up queue s t (left.receive queue) up

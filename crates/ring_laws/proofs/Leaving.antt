@@ -1,10 +1,10 @@
 -- Where the agreement begins, and events that leave the receive side, looks and lends of the driver's own that keep it.
 use Rattle.std.proofs.Common.{[], ◌&&◌, ◌++◌, ◌+◌, ◌<◌, ◌∙◌, ◌∷◌, ◌≡◌, ◌≤◌, Bool, List, ap, arith, cond}
-use Rattle.std.proofs.Common.{false, inl, inr, length, nat_lt, refl, subst, sym, true, ℕ}
-use Rattle.std.proofs.lemmas.Bool.{and_parts, both_ways, cases_lt, eqb-true}
+use Rattle.std.proofs.Common.{false, length, nat_lt, refl, subst, sym, true, ℕ}
+use Rattle.std.proofs.lemmas.Bool.{and_parts, both_ways, eqb-true}
 use Rattle.std.specs.Prelude.{if◌then◌else◌, ◌==◌}
-use Rattle.history_laws.specs.Prelude.{Block, Bytes, Event, Memory, Outcome, ReceiveQueue, Reply, Ring, State, after}
-use Rattle.history_laws.specs.Prelude.{buffer_size_of, bytes_in, descriptor_type_of, ends_packet, gives, has_block}
+use Rattle.history_laws.specs.Prelude.{Block, Bytes, Event, Memory, Outcome, ReceiveQueue, Reply, State, after}
+use Rattle.history_laws.specs.Prelude.{bytes_in, ends_packet, gives, has_block}
 use Rattle.history_laws.specs.Prelude.{is_done, read_at, receive_queue_of, reply_to, second_half, step_of}
 use Rattle.ring_laws.specs.ReceivePrelude.{Layout, Lent, Looks, PeeksNext, Receive, Stage, Takes, Told}
 use Rattle.ring_laws.specs.ReceivePrelude.{descriptor_at, drive, is_part, no_packet, reach, slot_at}
@@ -29,14 +29,7 @@ use Rattle.std.specs.FinMap as map
 -- a side with the same ring and control word, on or off
 set_up_kept : (q r : ReceiveQueue) (l : Layout) (filled : ℕ) → r.ring ≡ q.ring → r.control ≡ q.control
     → IsSetUp q l filled → IsSetUp r l filled
-set_up_kept q r l filled ring control h = record {
-  one_buffer = ap descriptor_type_of control ∙ h.one_buffer;
-  buffer_size = ap buffer_size_of control ∙ h.buffer_size;
-  base = ap (λ (x : Ring). x.base) ring ∙ h.base;
-  sized = ap (λ (x : Ring). x.length) ring ∙ h.sized;
-  head = ap (λ (x : Ring). x.head) ring ∙ h.head;
-  tail = ap (λ (x : Ring). x.tail) ring ∙ h.tail;
-}
+set_up_kept q r l filled ring control h = grind arith
 
 module _ {queue : ℕ} {s t : State} {out : List Piece} {v : Receive} {gone here : List Piece}
     (h : Holds queue s out v gone here) where
@@ -73,18 +66,7 @@ looked_is s l here k ring h within = slot_looked l.ring l.size (slot_at l k) (sl
 
 pub tells_bytes : (m : Memory) (l : Layout) (here : List Piece) (k : ℕ) → HasSlots m l here → k < length l.blocks
     → TellsSlot here k (read_at m (descriptor_at l k) 16)
-tells_bytes m l here k h some = record {
-  done = (
-    λ done. elim (cases_lt k (length here)) [
-      | inl is ↦ is
-      | inr none ↦ absurd (both_ways _ (h.posted k none some).waits done)
-    ],
-    λ is. (h.filled k is).done,
-  );
-  end = λ is. (h.filled k is).end;
-  len = λ is. (h.filled k is).len;
-  first = λ is. (h.filled k is).first;
-}
+tells_bytes m l here k h some = grind arith
 
 same_bytes : (r : Reply Block) (d e : List ℕ) → r ≡ Bytes d → r ≡ Bytes e → e ≡ d
 same_bytes r d e f g = let both : Bytes d ≡ Bytes e = sym f ∙ g in cc

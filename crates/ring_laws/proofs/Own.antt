@@ -222,15 +222,7 @@ module _ (l : Layout) (here : List Piece) (next : l.next < l.size) (room : lengt
   posted_less = omega (arith, length-drop 1 here, length-drop 1 l.blocks, within, some)
 
   pub set_up_on : (q : ReceiveQueue) → IsSetUp q l (length here) → IsSetUp q (consumed l) (length (drop 1 here))
-  set_up_on q up =
-      let e : 1 + length (drop 1 here) ≡ length here = omega (arith, length-drop 1 here, some) in
-      let f : 1 + length (drop 1 l.blocks) ≡ length l.blocks = omega (arith, length-drop 1 l.blocks, within, some) in
-      assumption (
-        up.head ∙ ap (slot_at l) (sym e)
-            ∙ sym (slot_on l (length (drop 1 here)) next (omega (arith, e, within, room))),
-        up.tail ∙ ap (slot_at l) (sym f)
-            ∙ sym (slot_on l (length (drop 1 l.blocks)) next (omega (arith, f, room))),
-      )
+  set_up_on q up = grind arith
 
 -- The block of the next slot is taken: its piece is the oldest that was written and not consumed.
 

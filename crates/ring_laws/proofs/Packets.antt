@@ -2,7 +2,7 @@
 use Rattle.std.proofs.Common.{[], ◌*◌, ◌++◌, ◌+◌, ◌<◌, ◌∙◌, ◌∷◌, ◌≡◌, ◌≢◌, ◌≤◌, List, Some, ap, append_assoc, arith}
 use Rattle.std.proofs.Common.{drop, false, inl, inr, length, refl, subst, suc, sym, take, true, zero, ℕ}
 use Rattle.std.proofs.lemmas.List.{drop-append-le, get_or_append_left, length-append, length-take, map-append}
-use Rattle.std.proofs.{lemmas.Bool.cases_Bool, lemmas.Bool.cases_lt, lemmas.List.take-append-drop}
+use Rattle.std.proofs.{lemmas.Bool.cases_Bool, lemmas.List.take-append-drop}
 use Rattle.std.specs.Prelude.{is_some, slice_index_or}
 use Rattle.history_laws.specs.Prelude.{Block, Memory, State, TransmitQueue, staged_by, transmit_queue_of}
 use Rattle.ring_laws.specs.TransmitPrelude.{Kept, MayAccept, Outgoing, Segment, Sender, accepted_by, is_ring_block}
@@ -176,12 +176,7 @@ module _ (m : Memory) (v : Sender) (f : ℕ) (l : IsLayout v.layout) (c : IsCoun
     -- each of them is one that was lent, or the new one
     each_now : (k : ℕ) (P : Segment → Type 0) → k < v.lent + 1 → (k < v.lent → P (segment_at v k)) → (k ≡ v.lent → P x)
         → P (segment_at w k)
-    each_now k P below was now = elim (cases_lt k v.lent) [
-      | inl lt ↦ subst P (sym (early k lt)) (was lt)
-      | inr le ↦
-          let e : k ≡ v.lent = omega arith in
-          subst P (sym (ap (λ (i : ℕ). slice_index_or ss i no_segment) e ∙ next)) (now e)
-    ]
+    each_now k P below was now = grind arith
 
     ready_now : (k : ℕ) → k < v.lent + 1 → IsReady lent v.layout.ring v.layout.size (segment_at w k)
     ready_now k below =

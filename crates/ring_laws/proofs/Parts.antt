@@ -205,22 +205,10 @@ first_seen seen here t ts are is = first_saw t ts here (subst (λ (xs : List Tol
 -- where the same packets are had, and the same parts are held, the driver's state beside them may change
 pub order_same : (out gone here : List Piece) (v w : Receive) → InOrder out v gone here → packets_had v ≡ packets_had w
     → still_held v ≡ still_held w → AreSeen w.seen here → IsAt w.stage w.seen w.held → InOrder out w gone here
-order_same out gone here v w o had still seen stage = record {
-  cut = λ rest. o.cut rest ∙ (λ k. had k ++ packets_behind (kept_of (still k)).bytes rest);
-  parts = o.parts ∙ ap (λ (p : Packet). length p.bufs) still;
-  full = ap (λ (p : Packet). length (bytes_of p.bufs)) (sym still) ∙ o.full ∙ ap (λ (p : Packet). p.len) still;
-  seen = seen;
-  stage = stage;
-  order = o.order;
-}
+order_same out gone here v w o had still seen stage = grind arith
 
 -- while nothing is held, what is seen may change
 pub none_held : (out gone here : List Piece) (v : Receive) (seen : List Told) (stage : Stage) → InOrder out v gone here
     → v.held ≡ no_packet → AreSeen seen here → IsAt stage seen v.held
     → InOrder out (record v { seen = seen; stage = stage }) gone here
-none_held out gone here v seen stage o none are at =
-    let left : (ts : List Told) → left_of ts v.held ≡ no_packet = λ ts. ap (left_of ts) none ∙ none_left ts in
-    let ended : (ts : List Told) → ended_of ts v.held ≡ [] = λ ts. ap (ended_of ts) none ∙ none_ended ts in
-    order_same out gone here v (record v { seen = seen; stage = stage }) o
-    (ap (λ (ps : List Packet). v.handed ++ records_of (v.whole ++ ps)) (ended v.seen ∙ sym (ended seen)))
-    (left v.seen ∙ sym (left seen)) are at
+none_held out gone here v seen stage o none are at = grind arith

@@ -52,13 +52,7 @@ module _ (v : Sender) (g : ℕ) (l : IsLayout v.layout) (c : IsCounted v (g + 1)
 
   pub set_up-reaped : (side : TransmitQueue) → IsSetUp side v.layout v.posted (g + 1)
       → IsSetUp side (reaped v).layout (v.posted - 1) g
-  set_up-reaped side u =
-      assumption (
-        u.head ∙ sym (slot_is g (g + 1) refl (omega (arith, posted))),
-        u.tail
-            ∙ sym (slot_is (v.posted - 1) v.posted (omega (arith, c.fetched_posted))
-            (omega (arith, c.posted_poked, c.poked_lent, c.lent_known, c.room))),
-      )
+  set_up-reaped side u = grind arith
 
   pub counted-reaped : IsCounted (reaped v) g
   counted-reaped = record {

@@ -163,13 +163,7 @@ module _ {s : State} {queue : ℕ} {sent : List (List ℕ)} {v : Sender} {f : �
 -- a side with the same ring, that writes its head to the same place, is set up alike
 pub set_up-same : (q r : TransmitQueue) (l : Layout) (n f : ℕ) → r.ring ≡ q.ring → r.writeback ≡ q.writeback
     → IsSetUp q l n f → IsSetUp r l n f
-set_up-same q r l n f ring back h = record {
-  base = ap (λ x. x.base) ring ∙ h.base;
-  length = ap (λ x. x.length) ring ∙ h.length;
-  head = ap (λ x. x.head) ring ∙ h.head;
-  tail = ap (λ x. x.tail) ring ∙ h.tail;
-  writeback = back ∙ h.writeback;
-}
+set_up-same q r l n f ring back h = grind arith
 
 -- a side that was cut off stays so while it is off and not wanted on
 pub cut_stays : (q r : TransmitQueue) (sent : List (List ℕ)) (left : List Segment) (ks : List Kept) → IsFalse r.on

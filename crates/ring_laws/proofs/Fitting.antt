@@ -163,9 +163,7 @@ module _ (queue most : ℕ) (s : State) (out : List Piece) (v : Receive) (gone h
       n = open_after 0 out
 
       begun : w.offset ≡ 2048 * n
-      begun =
-          sym (ap (λ (b : Bool). cond b w.offset 0) (eq-eqb w.queue queue own))
-          ∙ ap (λ (ws : List Waiting). begun_on queue ws) (sym e) ∙ fit.begun
+      begun = grind arith
 
       taken : f.len ≡ min 2048 (length (drop w.offset w.frame))
       taken =

@@ -10,7 +10,7 @@ use Rattle.history_laws.specs.Prelude.{mode_in}
 use Rattle.ring_laws.specs.ReceivePrelude.{Layout, Lent, Receive, Stage, Told, block_at, descriptor_at}
 use Rattle.ring_laws.specs.ReceivePrelude.{extended, fresh_of, is_ring_block, names, posts, reach, slot_at, took}
 use Rattle.ring_laws.specs.ReceivePrelude.{wrapped}
-use Rattle.pmd_rx.{proofs.PmdSeam.Places.wrapped_below, specs.Receive.consumed}
+use Rattle.pmd_rx.{specs.Receive.consumed}
 use Rattle.history_laws.proofs.Leaving.{named-same}
 use Rattle.ring_laws.specs.Joint.{HasSlots, IsFilled, IsNamed, IsPosted, IsRing, StageHolds}
 use Rattle.ring_laws.proofs.Ring.{Stays}
@@ -174,15 +174,10 @@ each_of v P f n has = f n
 
 -- each slot up to the vacant one is a slot of the ring
 pub slot_below : (l : Layout) (k : ℕ) → IsRing l → k ≤ length l.blocks → slot_at l k < l.size
-slot_below l k ring h =
-    let next = ring.next in
-    let room = ring.room in
-    wrapped_below l.size (l.next + k) (omega arith)
+slot_below l k ring h = grind arith
 
 pub slot_low : (l : Layout) (k : ℕ) → IsRing l → k ≤ length l.blocks → slot_at l k < 1024
-slot_low l k ring h =
-    let slot = slot_below l k ring h in
-    omega (arith, slot, ring.few)
+slot_low l k ring h = grind arith
 
 pub ring_low : (l : Layout) → IsRing l → l.ring < 65536
 ring_low l ring = omega (arith, ring.some, ring.ring)

@@ -1,8 +1,8 @@
 -- Where the agreement begins, and events that leave the receive side, looks and lends of the driver's own that keep it.
-use Rattle.std.proofs.Common.{[], ◌&&◌, ◌++◌, ◌+◌, ◌<◌, ◌∙◌, ◌∷◌, ◌≡◌, ◌≤◌, Bool, List, ap, arith, cond}
-use Rattle.std.proofs.Common.{false, length, nat_lt, refl, subst, sym, true, ℕ}
-use Rattle.std.proofs.lemmas.Bool.{and_parts, both_ways, eqb-true}
-use Rattle.std.specs.Prelude.{if◌then◌else◌, ◌==◌}
+use Rattle.std.proofs.Common.{[], ◌&&◌, ◌++◌, ◌<◌, ◌∙◌, ◌∷◌, ◌≡◌, ◌≤◌, Bool, List, ap, arith, cond}
+use Rattle.std.proofs.Common.{false, length, refl, subst, sym, true, ℕ}
+use Rattle.std.proofs.lemmas.Bool.{and_parts, both_ways}
+use Rattle.std.specs.Prelude.{if◌then◌else◌}
 use Rattle.history_laws.specs.Prelude.{Block, Bytes, Event, Memory, Outcome, ReceiveQueue, Reply, State, after}
 use Rattle.history_laws.specs.Prelude.{bytes_in, ends_packet, gives, has_block}
 use Rattle.history_laws.specs.Prelude.{is_done, read_at, receive_queue_of, reply_to, second_half, step_of}
@@ -83,9 +83,7 @@ look_tells queue s out v gone here k h some d is =
 
 part_open : (most before second : ℕ) → is_part most before second ≡ true → ends_packet second ≡ false
     → bytes_in second ≡ 2048
-part_open most before second part on =
-    let both : (bytes_in second == 2048 && nat_lt (before + 1) most) ≡ true = rw on at part in
-    eqb-true (bytes_in second) 2048 (and_parts _ _ both).0
+part_open most before second part on = grind arith
 
 stage_after : (m : Memory) (l : Layout) (ends : Bool) → StageHolds m l (cond ends Takes Looks)
 stage_after m l true = tt
@@ -99,9 +97,7 @@ at_after v t false is none opens full = (none, open_more v.seen t opens (record 
 
 saw_tells : (here : List Piece) (k : ℕ) (d : List ℕ) → TellsSlot here k d → is_done (second_half d) ≡ true
     → Saw (told_by d) (piece_at here k)
-saw_tells here k d t done =
-    let some : k < length here = t.done.0 done in
-    assumption (t.first some, t.len some, t.end some)
+saw_tells here k d t done = grind arith
 
 looked_holds : (queue : ℕ) (s : State) (out : List Piece) (v : Receive) (gone here : List Piece) (d : List ℕ) (t : Bool)
     → Holds queue s out v gone here → v.stage ≡ Looks → TellsSlot here (length v.seen) d
@@ -127,9 +123,7 @@ Driven queue s out v e = Agree queue (after s e) out (drive v e (reply_to s e))
 -- as the event is written otherwise, by its outcome
 pub by_outcome : (queue : ℕ) (s : State) (out : List Piece) (v : Receive) (e d : Event Block) (o : Outcome) → e ≡ d
     → step_of s d ≡ o → Agree queue o.state out (drive v d o.reply) → Driven queue s out v e
-by_outcome queue s out v e d o same is agree =
-    subst (Driven queue s out v) (sym same)
-    (subst (λ (p : Outcome). Agree queue p.state out (drive v d p.reply)) (sym is) agree)
+by_outcome queue s out v e d o same is agree = grind arith
 
 -- the driver's look at the slot behind those that it saw keeps the agreement
 pub look_keeps : (queue : ℕ) (s : State) (out : List Piece) (v : Receive) (a : ℕ) → Agree queue s out v → PeeksNext v a

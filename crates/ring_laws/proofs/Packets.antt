@@ -10,8 +10,7 @@ use Rattle.ring_laws.specs.TransmitPrelude.{no_segment, segment_at, segments_of}
 use Rattle.nic_device.proofs.{DmaArena.Blocks.read_at_in, DmaArena.Bus.get-insert_other, DmaArena.Bus.get-insert_same}
 use Rattle.nic_device.specs.DmaArena.Memory.{part}
 use Rattle.pmd_tx.specs.Sending.{MayLend, Part, paired, parts_for, parts_in, parts_of}
-use Rattle.pmd_tx.proofs.PmdSeam.Rings.{ring_block_none}
-use Rattle.ring_laws.proofs.Blocks.{has_lent-ring, has_lent-segment, shows-same, unlike}
+use Rattle.ring_laws.proofs.Blocks.{has_lent-segment, shows-same, unlike}
 use Rattle.ring_laws.specs.Agreeing.{ArePackets, IsCounted, IsCutOff, IsInTurn, IsLayout, IsReady, SendsInOrder}
 use Rattle.ring_laws.specs.Agreeing.{Shows, bytes_of, frame_ended, frames_from, staged_behind}
 use Rattle.std.specs.FinMap as fin
@@ -153,9 +152,7 @@ module _ (m : Memory) (v : Sender) (f : ℕ) (l : IsLayout v.layout) (c : IsCoun
 
     -- and none of the ring's
     beside : is_ring_block v.layout.ring v.layout.size x.block ≡ false
-    beside =
-        ring_block_none v.layout.ring v.layout.size x.block
-        (λ k below e. unlike v x.block (v.layout.ring + k) may.away (has_lent-ring v k below) (sym e))
+    beside = grind arith
 
     short : length x.part.bytes ≤ 2048
     short = omega (arith, may.whole, ap length may.bytes, length-take (length x.part.bytes) b.bytes)

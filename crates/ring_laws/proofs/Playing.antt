@@ -1,6 +1,6 @@
 -- Each move of the driver's keeps what it and the device agree on, and its replies are those of a healthy queue.
 use Rattle.std.proofs.Common.{[], ◌++◌, ◌+◌, ◌-◌, ◌<◌, ◌∙◌, ◌∷◌, ◌≡◌, ◌≤◌, List, ap, arith, drop, length, refl}
-use Rattle.std.proofs.lemmas.List.{append-nil, drop-drop, get_or-drop, length-drop}
+use Rattle.std.proofs.lemmas.List.{append-nil, length-drop}
 use Rattle.std.proofs.{Common.subst, Common.sym, Common.true, Common.ℕ}
 use Rattle.std.specs.Prelude.{slice_index_or, ⊤}
 use Rattle.history_laws.specs.Prelude.{Block, Event, IsEvent, LeavesQueues, Memory, Outcome, State, TransmitQueue, Tx}
@@ -34,9 +34,7 @@ use Rattle.history_laws.specs.Sides as sides
 
 module _ (v : Sender) (g : ℕ) (l : IsLayout v.layout) (c : IsCounted v (g + 1)) where
   pub behind : (k : ℕ) → segment_at (reaped v) k ≡ segment_at v (k + 1)
-  behind k =
-      let x : 1 + k ≡ k + 1 = omega arith in
-      get_or-drop 1 v.outstanding k no_segment ∙ ap (λ (n : ℕ). segment_at v n) x
+  behind k = grind arith
 
   fewer : length (drop 1 v.outstanding) ≡ length v.outstanding - 1
   fewer = length-drop 1 v.outstanding
@@ -68,9 +66,7 @@ module _ (v : Sender) (g : ℕ) (l : IsLayout v.layout) (c : IsCounted v (g + 1)
 
   -- the same are left
   pub dropped : drop (g + 1) v.outstanding ≡ drop g (drop 1 v.outstanding)
-  dropped =
-      let x : g + 1 ≡ 1 + g = omega arith in
-      ap (λ (n : ℕ). drop n v.outstanding) x ∙ sym (drop-drop g 1 v.outstanding)
+  dropped = grind arith
 
   -- memory without its block
 

@@ -1,12 +1,11 @@
 -- The blocks that the driver has lent for receiving, after each of its calls.
-use Rattle.std.proofs.Common.{[], ◌&&◌, ◌++◌, ◌<◌, ◌||◌, ◌∙◌, ◌∷◌, ◌≡◌, ◌≢◌, Bool, List, ap, append_assoc, arith, cond}
+use Rattle.std.proofs.Common.{[], ◌++◌, ◌<◌, ◌||◌, ◌∙◌, ◌∷◌, ◌≡◌, ◌≢◌, Bool, List, ap, append_assoc, arith, cond}
 use Rattle.std.proofs.Common.{drop, false, inl, inr, length, refl, sym, true, ℕ}
 use Rattle.std.proofs.lemmas.Bool.{eqb-true, ne_eqb, or_cases, or_from, or_right}
 use Rattle.std.specs.Prelude.{◌==◌, IsTrue, slice_index, suc}
-use Rattle.history_laws.specs.Prelude.{Block, Blocks, Event, Reply, State, ends_packet, is_done}
-use Rattle.history_laws.specs.Prelude.{second_half}
+use Rattle.history_laws.specs.Prelude.{Block, Blocks, Event, Reply, State}
 use Rattle.ring_laws.specs.ReceivePrelude.{IsOwn, LendsAnew, Lent, Looks, NamesNext, PeeksNext, Receive, Stage}
-use Rattle.ring_laws.specs.ReceivePrelude.{Takes, Told, drive, fresh_of, is_part, names, next_stage, posts}
+use Rattle.ring_laws.specs.ReceivePrelude.{Takes, Told, drive, fresh_of, names, next_stage, posts}
 use Rattle.ring_laws.specs.ReceivePrelude.{took}
 use Rattle.nic_device.proofs.Cases.{either_way}
 use Rattle.pmd_rx.specs.Receive.{CanLend, HasLent, LendsNext, lent_one, looked, moved, parts_first}
@@ -53,10 +52,7 @@ module _ (v : Receive) (n : ℕ) where
   looked_fresh false = refl
 
   is_looked : (a : ℕ) → PeeksNext v a → (d : List ℕ) → has_lent (looked v d) n ≡ has_lent v n
-  is_looked a own d =
-      either_way (λ (w : Receive). has_lent w n ≡ has_lent v n)
-      (is_done (second_half d) && is_part v.layout.most (length v.seen) (second_half d)) _ _
-      (ap (Had (slots_of v)) (looked_fresh (ends_packet (second_half d)) ∙ ap fresh_block (sym own.stage))) refl
+  is_looked a own d = grind arith
 
   lent_block : (stage : Stage) → HasLent stage → fresh_block stage ≡ fresh_of stage ∷ []
   lent_block (Lent b) lent = refl

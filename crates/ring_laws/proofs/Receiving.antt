@@ -14,7 +14,7 @@ use Rattle.nic_device.specs.RxRing.Fill.{Outcome, buffer_address, head_address}
 use Rattle.nic_device.proofs.{DmaArena.Blocks.is_lent_in, RxRing.Tests.fill_healthy}
 use Rattle.nic_device.specs.{DmaArena.Memory.SameLent, DmaRing.Ring.next_of, DmaRing.Ring.slots_of}
 use Rattle.nic_device.specs.{RxRing.Laws.IsHealthy, RxRing.Laws.TakesPiece}
-use Rattle.pmd_rx.proofs.PmdSeam.Places.{next_wrapped, wrapped_apart}
+use Rattle.pmd_rx.proofs.PmdSeam.Places.{next_wrapped}
 use Rattle.history_laws.specs.{Left.fill_on, Segments.piece_in}
 use Rattle.ring_laws.proofs.Kept.{filled_stays, posted_stays, stage_stays}
 use Rattle.ring_laws.proofs.Ring.{address_small, ends_apart, inside_of}
@@ -169,9 +169,7 @@ module _ (m n : Memory) (l : Layout) (here : List Piece) (p : Piece) (ring : IsR
     (room : length here < length l.blocks) (fill : Fills m n l (length here) p) where
   -- the slots beside it and their blocks stay
   slot_beside : (k : ℕ) → k < length l.blocks → k ≢ length here → slot_at l k ≢ slot_at l (length here)
-  slot_beside k i ne =
-      let free = ring.room in
-      wrapped_apart l.size l.next k (length here) ring.next (omega (arith, i, free)) (omega (arith, room, free)) ne
+  slot_beside k i ne = grind arith
 
   filled_more : (k : ℕ) → k < length (here ++ p ∷ []) → (k < length here) ⊎ (length here ≤ k)
       → IsFilled n (descriptor_at l k) (block_at l k) (piece_at (here ++ p ∷ []) k)

@@ -1,7 +1,7 @@
 -- Which blocks the driver has lent to be sent, after each of its moves.
 use Rattle.std.proofs.Common.{[], ◌++◌, ◌+◌, ◌-◌, ◌<◌, ◌||◌, ◌∙◌, ◌∷◌, ◌≡◌, ◌≢◌, Bool, List, ap, arith, drop, false}
 use Rattle.std.proofs.Common.{inl, inr, length, refl, subst, suc, sym, take, true, zero, ℕ}
-use Rattle.std.proofs.lemmas.Bool.{eqb-true, or_cases, or_from, or_left, or_right}
+use Rattle.std.proofs.lemmas.Bool.{eqb-true, or_cases, or_right}
 use Rattle.std.proofs.lemmas.List.{get_or-append-add, length-append, take-append-le}
 use Rattle.std.specs.{List.list_any, Prelude.◌==◌, Prelude.IsTrue, Prelude.slice_index_or}
 use Rattle.std.proofs.Math.Seq.{take-nil}
@@ -12,7 +12,7 @@ use Rattle.ring_laws.specs.TransmitPrelude.{Outgoing, Reaps, Segment, Sender, ac
 use Rattle.ring_laws.specs.TransmitPrelude.{moved}
 use Rattle.ring_laws.specs.TransmitPrelude.{no_segment, segment_at, segments_of}
 use Rattle.pmd_tx.specs.Sending.{MayLend, blocks_of, lent_more, reaped}
-use Rattle.history_laws.proofs.Lent.{Follows, follows_in, follows_known, only_lent_stays, or_swap, still_known}
+use Rattle.history_laws.proofs.Lent.{Follows, follows_in, follows_known, or_swap, still_known}
 use Rattle.history_laws.specs.Lent.{LendsOwn, OnlyLent, either}
 use Rattle.ring_laws.proofs.Packets.{length-segments, some-parts}
 use Rattle.ring_laws.specs.{Alone.LendsOneOf, TransmitHealthy.LendsAnew, TransmitLent.OwnLendsAreKnown}
@@ -89,16 +89,10 @@ module _ (v : Sender) (n : ℕ) where
       (may.first.number ∙ ap (λ (x : Segment). x.block) (sym (first_at v p may.lent)))
 
   pub has_reaped : n ≢ (segment_at v 0).block → Has (reaped v)
-  has_reaped ne has = elim (or_cases own (among (take v.lent v.outstanding) n) has) [
-    | inl ring ↦ or_left own _ ring
-    | inr there ↦ or_right own _ (later_at n v.outstanding v.lent ne there)
-  ]
+  has_reaped ne has = grind arith
 
   reaped_had : has_lent (reaped v) n ≡ true → has_lent v n ≡ true
-  reaped_had has = elim (or_cases own (among (take (v.lent - 1) (drop 1 v.outstanding)) n) has) [
-    | inl ring ↦ or_left own _ ring
-    | inr there ↦ or_right own _ (before_at n v.outstanding v.lent there)
-  ]
+  reaped_had has = grind arith
 
 module _ (v : Sender) where
   follows : (m : Move) (e : Event Block) → IsOwn v m e → m ≢ Elsewhere → (r : Reply Block) (n : ℕ)
@@ -142,10 +136,7 @@ module _ (own others : Blocks) (s : State) (v : Sender)
 
     lends_anew : (x : Segment) (b : Block) → MayLend v x b → LendsOwn own others (event.Lend b)
         → has_block s.memory b.number ≡ false
-    lends_anew x b may is =
-        only_lent_stays.anew own (either (has_lent v) others) s b only is.0
-        (or_from (has_lent v b.number) (others b.number)
-        (subst (λ (n : ℕ). has_lent v n ≡ false) (sym may.number) may.away) is.1)
+    lends_anew x b may is = grind arith
 
     own_anew : (m : Move) (e : Event Block) → IsOwn v m e → LendsOwn own others e → LendsAnew s m e
     own_anew (Accepts p) (event.Lend b) may is = lends_anew (slice_index_or (segments_of p) 0 no_segment) b may.first is

@@ -5,14 +5,13 @@ use Rattle.std.proofs.lemmas.Bool.{cases_Bool, cases_eq, cases_lt, eq-eqb, eqb-f
 use Rattle.std.specs.Prelude.{◌==◌, IsFalse, IsTrue, ⊤}
 use Rattle.history_laws.specs.Prelude.{Avoids, Block, Blocks, Event, Filled, IsEvent, IsSound, LeavesBlock}
 use Rattle.history_laws.specs.Prelude.{LeavesBlocks, LiesIn, Memory, Outcome, Registers, Reply, Rest, Sent, State, Tx}
-use Rattle.history_laws.specs.Prelude.{Waiting, WritesOutside, Wrote, after, has_bit, reply_to, ring_of, step_of}
-use Rattle.history_laws.specs.Prelude.{told_back, transmit_queue_of, word_of, write_at}
-use Rattle.nic_device.specs.RegTable.declared.rows.RowId.TheVariants.{Tdbah, Tdbal, Tdwbah, Tdwbal}
+use Rattle.history_laws.specs.Prelude.{Waiting, WritesOutside, Wrote, after, reply_to, ring_of, step_of}
+use Rattle.history_laws.specs.Prelude.{told_back, transmit_queue_of, write_at}
 use Rattle.nic_device.proofs.{DmaArena.Blocks.get-write_at_out, DmaArena.Inside.inside_avoids}
 use Rattle.nic_device.proofs.{DmaRing.Fields.halves_come_back, QueueCases.received_cases}
 use Rattle.nic_device.proofs.{RegisterLaws.SoundWords.rings_aligned, RxRing.Fills.takes_piece}
 use Rattle.nic_device.specs.{DmaRing.Descriptor.of_halves, DmaRing.Receive.written_back}
-use Rattle.nic_device.specs.{DmaRing.Ring.descriptor_address, RegisterFile.Settings.writeback_of}
+use Rattle.nic_device.specs.{RegisterFile.Settings.writeback_of}
 use Rattle.nic_device.specs.{RegisterLaws.SoundWords.IsAligned, RxRing.Fill.memory_with, TxRing.Report.report_length}
 use Rattle.nic_device.specs.{declared.event.Reply.TheVariants.Advanced}
 use Rattle.device_lock.specs.Alone.{IsClear}
@@ -46,10 +45,7 @@ head_even high low head even = omega (arith, even)
 
 lies : (r : Registers) (queue : ℕ) → IsAligned (ring_of r Tx queue)
     → LiesIn (report_of r queue / 2048) (report_of r queue) (report_length (writeback_of r queue))
-lies r queue a =
-    lies_by (has_bit 0 (word_of r Tdwbal queue)) (word_of r Tdwbah queue) (word_of r Tdwbal queue)
-    (descriptor_address (ring_of r Tx queue) (ring_of r Tx queue).head)
-    (head_even (word_of r Tdbah queue) (word_of r Tdbal queue) (ring_of r Tx queue).head (omega (arith, a.base)))
+lies r queue a = grind arith
 
 pub reports_lie : ReportsLieInBlocks
 reports_lie s sound queue back told =

@@ -1,7 +1,7 @@
 -- A side of a queue, whatever the device does to it, and as a driver asks for it to be on or off.
 use Rattle.std.proofs.Common.{[], ◌%◌, ◌&&◌, ◌/◌, ◌<◌, ◌^◌, ◌∙◌, ◌≡◌, ◌⊎◌, Bool, List, ap, arith, cond, false, inl, inr}
 use Rattle.std.specs.Prelude.{◌==◌, IsFalse, IsTrue, bit_and}
-use Rattle.std.proofs.{Common.not, Common.refl, Common.subst, Common.sym, Common.true, Common.ℕ, lemmas.Bool.both_ways}
+use Rattle.std.proofs.{Common.not, Common.refl, Common.subst, Common.sym, Common.true, Common.ℕ}
 use Rattle.std.proofs.{lemmas.Bool.cases_Bool, lemmas.Nat.and_mask}
 use Rattle.history_laws.specs.Prelude.{Block, Dir, Event, IsSound, Port, Register, Rx, State, Tx, Txdctl, after}
 use Rattle.history_laws.specs.Prelude.{has_bit, named, named_written, place, receive_queue_of, reply_to, staged_by}
@@ -30,11 +30,7 @@ pub record IsIdle (P : Side → Type 0) : Type 0 where
   pub switches : (x : Side) → P x → P (as_wanted x)
 
 pub idle_steady : (P : Side → Type 0) → IsIdle P → IsSteady P
-idle_steady P is = record {
-  takes = λ x staged tried p. absurd (is.idle x p tried);
-  shuts = λ x tried p. absurd (is.idle x p tried);
-  switches = is.switches;
-}
+idle_steady P is = grind arith
 
 -- the ring of two sides, their control word, and where they write their head, are the same, and the one has nothing
 -- staged where the other hasn't
@@ -99,10 +95,7 @@ pub unwanted_steady : IsSteady IsUnwanted
 unwanted_steady = record { takes = λ x staged tried is. is; shuts = λ x tried is. refl; switches = λ x is. is }
 
 pub off_idle : IsIdle IsOff
-off_idle = record {
-  idle = λ x is tried. both_ways x.on is.off tried.on;
-  switches = λ x is. record { off = is.unwanted; unwanted = is.unwanted };
-}
+off_idle = grind arith
 
 pub off_steady : IsSteady IsOff
 off_steady = idle_steady IsOff off_idle
@@ -128,24 +121,14 @@ same_again true is same = refl
 same_again false is same = same
 
 settled_steady : IsSteady IsSettled
-settled_steady = record {
-  takes = λ x staged tried is. is;
-  shuts = λ x tried is. inr refl;
-  switches = λ x is. cases_Bool x.wanted;
-}
+settled_steady = grind arith
 
 -- where it is left as it is, and where it is asked not to be on
 pub same_settles : (x y : Side) → y ≡ x → IsSettled x → Settles x y
-same_settles x y same is = record {
-  settled = subst IsSettled (sym same) is;
-  never = same_again x.on y.on (ap (λ (z : Side). z.on) same);
-}
+same_settles x y same is = grind arith
 
 pub asked_settles : (x y : Side) (wanted : Bool) → y ≡ record x { wanted = wanted } → wanted ≡ false → Settles x y
-asked_settles x y wanted same none = record {
-  settled = inr (ap (λ (z : Side). z.wanted) same ∙ none);
-  never = same_again x.on y.on (ap (λ (z : Side). z.on) same);
-}
+asked_settles x y wanted same none = grind arith
 
 module _ (dir : Dir) (queue : ℕ) (s : State) (e : Event Block) (did : Deed dir queue s e) where
   stays_off : IsSettled (side_of dir queue s)
@@ -161,10 +144,7 @@ module _ (dir : Dir) (queue : ℕ) (s : State) (e : Event Block) (did : Deed dir
 
   pub deed_settles : IsSettled (side_of dir queue s)
       → Settles (side_of dir queue s) (side_of dir queue (after s e))
-  deed_settles is = record {
-    settled = steady_kept dir queue s e IsSettled is settled_steady did;
-    never = not_again (side_of dir queue s).on (side_of dir queue (after s e)).on (stays_off is);
-  }
+  deed_settles is = grind arith
 
 -- A word that is written to the enable register of a side of a queue asks for that side to be on or off, and nothing
 -- else; and a read tells whether it is on.

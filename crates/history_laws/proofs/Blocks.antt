@@ -1,6 +1,6 @@
 -- The blocks that an event leaves.
-use Rattle.std.proofs.Common.{[], ◌%◌, ◌*◌, ◌+◌, ◌/◌, ◌<◌, ◌^◌, ◌∙◌, ◌≡◌, ◌≢◌, Bool, List, None, Some, ap, arith, cond}
-use Rattle.std.proofs.Common.{false, inl, inr, length, refl, subst, sym, take, true, ℕ}
+use Rattle.std.proofs.Common.{[], ◌%◌, ◌*◌, ◌+◌, ◌/◌, ◌<◌, ◌∙◌, ◌≡◌, ◌≢◌, List, None, Some, ap, arith}
+use Rattle.std.proofs.Common.{false, inl, inr, length, refl, subst, sym, take, ℕ}
 use Rattle.std.proofs.lemmas.Bool.{cases_Bool, cases_eq, cases_lt, eq-eqb, eqb-false}
 use Rattle.std.specs.Prelude.{◌==◌, IsFalse, IsTrue, ⊤}
 use Rattle.history_laws.specs.Prelude.{Avoids, Block, Blocks, Event, Filled, IsEvent, IsSound, LeavesBlock}
@@ -32,16 +32,6 @@ pub reported : (own : ℕ) (r : Reply Block) (s t : State) → sent_tells own r 
 reported own (Sent queue len o) s t tells back is = tells.reported back is
 reported own (Advanced queue slot o) s t tells back is = tells.0.reported back is
 reported own other s t tells back is = cc
-
--- 4 bytes at a multiple of 4, or 16 at a multiple of 16
-lies_by : (b : Bool) (high low at : ℕ) → at % 16 ≡ 0
-    → LiesIn (cond b (high * 2 ^ 32 + 4 * (low / 4)) at / 2048) (cond b (high * 2 ^ 32 + 4 * (low / 4)) at)
-    (report_length (cond b (Some (high * 2 ^ 32 + 4 * (low / 4))) None))
-lies_by true high low at even = (omega arith, omega arith)
-lies_by false high low at even = (omega (arith, even), omega (arith, even))
-
-head_even : (high low head : ℕ) → low % 16 ≡ 0 → (high * 2 ^ 32 + low + 16 * head) % 2 ^ 64 % 16 ≡ 0
-head_even high low head even = omega (arith, even)
 
 lies : (r : Registers) (queue : ℕ) → IsAligned (ring_of r Tx queue)
     → LiesIn (report_of r queue / 2048) (report_of r queue) (report_length (writeback_of r queue))

@@ -2,7 +2,7 @@
 use Rattle.std.proofs.Common.{[], ◌%◌, ◌&&◌, ◌/◌, ◌<◌, ◌^◌, ◌∙◌, ◌≡◌, ◌⊎◌, Bool, List, ap, arith, cond, false, inl, inr}
 use Rattle.std.specs.Prelude.{◌==◌, IsFalse, IsTrue, bit_and}
 use Rattle.std.proofs.{Common.not, Common.refl, Common.subst, Common.sym, Common.true, Common.ℕ}
-use Rattle.std.proofs.{lemmas.Bool.cases_Bool, lemmas.Nat.and_mask}
+use Rattle.std.proofs.{lemmas.Nat.and_mask}
 use Rattle.history_laws.specs.Prelude.{Block, Dir, Event, IsSound, Port, Register, Rx, State, Tx, Txdctl, after}
 use Rattle.history_laws.specs.Prelude.{has_bit, named, named_written, place, receive_queue_of, reply_to, staged_by}
 use Rattle.history_laws.specs.Prelude.{step_of, transmit_queue_of, word_of}
@@ -116,13 +116,6 @@ not_again true is only = refl
 not_again false is (inl on) = cc
 not_again false is (inr off) = off
 
-same_again : (was is : Bool) → is ≡ was → (not was && is) ≡ false
-same_again true is same = refl
-same_again false is same = same
-
-settled_steady : IsSteady IsSettled
-settled_steady = grind arith
-
 -- where it is left as it is, and where it is asked not to be on
 pub same_settles : (x y : Side) → y ≡ x → IsSettled x → Settles x y
 same_settles x y same is = grind arith
@@ -131,17 +124,6 @@ pub asked_settles : (x y : Side) (wanted : Bool) → y ≡ record x { wanted = w
 asked_settles x y wanted same none = grind arith
 
 module _ (dir : Dir) (queue : ℕ) (s : State) (e : Event Block) (did : Deed dir queue s e) where
-  stays_off : IsSettled (side_of dir queue s)
-      → IsTrue (side_of dir queue s).on ⊎ IsFalse (side_of dir queue (after s e)).on
-  stays_off (inl on) = inl on
-  stays_off (inr none) = elim (cases_Bool (side_of dir queue s).on)
-      as (λ _. IsTrue (side_of dir queue s).on ⊎ IsFalse (side_of dir queue (after s e)).on) [
-        | inl on ↦ inl on
-        | inr off ↦
-            inr (steady_kept dir queue s e IsOff (record { off = off; unwanted = none })
-            off_steady did).off
-      ]
-
   pub deed_settles : IsSettled (side_of dir queue s)
       → Settles (side_of dir queue s) (side_of dir queue (after s e))
   deed_settles is = grind arith

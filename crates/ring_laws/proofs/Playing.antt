@@ -16,7 +16,7 @@ use Rattle.pmd_tx.{specs.Sending.reaped}
 use Rattle.history_laws.proofs.{Leaving.queues_left, Lent.anew_is_done, Lent.taken_is, Steady.up_kept}
 use Rattle.history_laws.proofs.DeviceLaws.Standing.{memory_rest}
 use Rattle.ring_laws.proofs.Advancing.{advance-stays-up, advance_one, ask_one, look, look_one, written_tail}
-use Rattle.ring_laws.proofs.Blocks.{descriptor-later, later-layout, ready_stays, slot-below, slot-later}
+use Rattle.ring_laws.proofs.Blocks.{descriptor-later, later-layout, ready_stays, slot-below}
 use Rattle.ring_laws.proofs.Ring.{Stays, same_stays, slot_poked}
 use Rattle.ring_laws.proofs.Packets.{count-accepted, counted-lent, early-accepted, known-accepted, sends-accepted}
 use Rattle.ring_laws.proofs.Sparing.{After, Keeps, based-after, never-shuts, spared_did, spares-keeps}
@@ -44,9 +44,6 @@ module _ (v : Sender) (g : ℕ) (l : IsLayout v.layout) (c : IsCounted v (g + 1)
 
   oldest : 0 < v.lent
   oldest = omega (arith, c.fetched_posted, c.posted_poked, c.poked_lent)
-
-  slot_is : (k j : ℕ) → j ≡ k + 1 → k < v.layout.size → slot_at (reaped v).layout k ≡ slot_at v.layout j
-  slot_is k j e h = slot-later v.layout l k h ∙ ap (slot_at v.layout) (sym e)
 
   pub set_up-reaped : (side : TransmitQueue) → IsSetUp side v.layout v.posted (g + 1)
       → IsSetUp side (reaped v).layout (v.posted - 1) g

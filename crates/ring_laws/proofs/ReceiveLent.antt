@@ -1,10 +1,10 @@
 -- The blocks that the driver has lent for receiving, after each of its calls.
-use Rattle.std.proofs.Common.{[], ◌++◌, ◌<◌, ◌||◌, ◌∙◌, ◌∷◌, ◌≡◌, ◌≢◌, Bool, List, ap, append_assoc, arith, cond}
+use Rattle.std.proofs.Common.{[], ◌++◌, ◌<◌, ◌||◌, ◌∙◌, ◌∷◌, ◌≡◌, ◌≢◌, Bool, List, ap, append_assoc, arith}
 use Rattle.std.proofs.Common.{drop, false, inl, inr, length, refl, sym, true, ℕ}
 use Rattle.std.proofs.lemmas.Bool.{eqb-true, ne_eqb, or_cases, or_from, or_right}
 use Rattle.std.specs.Prelude.{◌==◌, IsTrue, slice_index, suc}
 use Rattle.history_laws.specs.Prelude.{Block, Blocks, Event, Reply, State}
-use Rattle.ring_laws.specs.ReceivePrelude.{IsOwn, LendsAnew, Lent, Looks, NamesNext, PeeksNext, Receive, Stage}
+use Rattle.ring_laws.specs.ReceivePrelude.{IsOwn, LendsAnew, Lent, NamesNext, PeeksNext, Receive, Stage}
 use Rattle.ring_laws.specs.ReceivePrelude.{Takes, Told, drive, fresh_of, names, next_stage, posts}
 use Rattle.ring_laws.specs.ReceivePrelude.{took}
 use Rattle.nic_device.proofs.Cases.{either_way}
@@ -46,10 +46,6 @@ module _ (v : Receive) (n : ℕ) where
   -- these slots' blocks, and a fresh one
   abbrev Had : List ℕ → List ℕ → Bool
   Had slots fresh = among (slots ++ (fresh ++ ring_of v)) n
-
-  looked_fresh : (ends : Bool) → fresh_block (cond ends Takes Looks) ≡ []
-  looked_fresh true = refl
-  looked_fresh false = refl
 
   is_looked : (a : ℕ) → PeeksNext v a → (d : List ℕ) → has_lent (looked v d) n ≡ has_lent v n
   is_looked a own d = grind arith

@@ -1,10 +1,8 @@
 -- Which blocks the driver has lent to be sent, after each of its moves.
-use Rattle.std.proofs.Common.{[], ◌++◌, ◌+◌, ◌-◌, ◌<◌, ◌||◌, ◌∙◌, ◌∷◌, ◌≡◌, ◌≢◌, Bool, List, ap, arith, drop, false}
-use Rattle.std.proofs.Common.{inl, inr, length, refl, subst, suc, sym, take, true, zero, ℕ}
-use Rattle.std.proofs.lemmas.Bool.{eqb-true, or_cases, or_right}
+use Rattle.std.proofs.Common.{[], ◌++◌, ◌+◌, ◌<◌, ◌||◌, ◌∙◌, ◌∷◌, ◌≡◌, ◌≢◌, Bool, List, ap, arith, false}
+use Rattle.std.proofs.Common.{length, refl, subst, suc, sym, take, true, zero, ℕ}
 use Rattle.std.proofs.lemmas.List.{get_or-append-add, length-append, take-append-le}
 use Rattle.std.specs.{List.list_any, Prelude.◌==◌, Prelude.IsTrue, Prelude.slice_index_or}
-use Rattle.std.proofs.Math.Seq.{take-nil}
 use Rattle.history_laws.specs.Prelude.{Block, Blocks, Event, Reply, State, after, has_block, reply_to}
 use Rattle.ring_laws.specs.TransmitPrelude.{Accepts, Advances, Asks, Elsewhere, IsOwn, Kept, Lends, Looks, MayAccept}
 use Rattle.ring_laws.specs.TransmitPrelude.{Move}
@@ -40,22 +38,6 @@ among-more n (x ∷ ss) zero below = refl
 among-more n (x ∷ ss) (suc k) below =
     ap (λ (b : Bool). n == x.block || b) (among-more n ss k (omega arith))
     ∙ or_swap (n == x.block) (n == (slice_index_or ss k no_segment).block) (among (take k ss) n)
-
-later_at : (n : ℕ) (ss : List Segment) (k : ℕ) → n ≢ (slice_index_or ss 0 no_segment).block
-    → among (take k ss) n ≡ true → among (take (k - 1) (drop 1 ss)) n ≡ true
-later_at n ss zero ne is = cc
-later_at n [] (suc k) ne is = cc
-later_at n (x ∷ ss) (suc k) ne is = elim (or_cases (n == x.block) (among (take k ss) n) is) [
-  | inl same ↦ absurd (ne (eqb-true n x.block same))
-  | inr later ↦ let e : k ≡ suc k - 1 = omega arith in subst (λ (j : ℕ). among (take j ss) n ≡ true) e later
-]
-
-before_at : (n : ℕ) (ss : List Segment) (k : ℕ) → among (take (k - 1) (drop 1 ss)) n ≡ true → among (take k ss) n ≡ true
-before_at n ss zero is = cc
-before_at n [] (suc k) is = absurd (let e = rw (take-nil {A = Segment} (suc k - 1)) at is in cc)
-before_at n (x ∷ ss) (suc k) is =
-    let e : suc k - 1 ≡ k = omega arith in
-    or_right (n == x.block) (among (take k ss) n) (subst (λ (j : ℕ). among (take j ss) n ≡ true) e is)
 
 module _ (v : Sender) (n : ℕ) where
   abbrev pub Has : Sender → Type 0

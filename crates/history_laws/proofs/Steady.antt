@@ -174,14 +174,8 @@ module _ (queue : ℕ) (s : State) (sound : IsSound s) (small : queue < 128) (po
   asked_or_left Rx Tx names = inr (other_left Rx names)
   asked_or_left Tx Rx names = inr (other_left Tx names)
 
-  -- so a side that is off stays so, and one that is settled, where bit 25 is 0
+  -- so a side that is settled stays so where bit 25 is 0
   module _ (side dir : Dir) (names : NamesEnable side queue s port n) (none : IsFalse (has_bit 25 word)) where
-    pub word_off : IsOff (side_of dir queue s) → IsOff (side_of dir queue t)
-    word_off off = elim (asked_or_left side dir names) [
-      | inl is ↦ subst IsOff (sym is) (record { off = off.off; unwanted = none })
-      | inr left ↦ subst IsOff (sym left) off
-    ]
-
     pub word_settles : IsSettled (side_of dir queue s) → Settles (side_of dir queue s) (side_of dir queue t)
     word_settles settled = elim (asked_or_left side dir names) [
       | inl is ↦ asked_settles (side_of dir queue s) (side_of dir queue t) (has_bit 25 word) is none

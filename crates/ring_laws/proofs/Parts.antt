@@ -1,8 +1,9 @@
 -- Parts of packets: what the driver saw of them, and how the pieces are cut behind those that were consumed.
 use Rattle.std.proofs.Common.{[], ◌++◌, ◌+◌, ◌<◌, ◌∙◌, ◌∷◌, ◌≡◌, ◌≤◌, Bool, List, ap, append_assoc, arith, cond, drop}
 use Rattle.std.proofs.Common.{false, length, refl, subst, sym, take, true, ℕ}
-use Rattle.std.proofs.lemmas.List.{append-nil, length-append, length_push, map-append}
+use Rattle.std.proofs.lemmas.List.{length-append, length_push}
 use Rattle.std.proofs.Math.Seq.{take-append-add, take-length}
+use Rattle.std.proofs.lemmas.Grind.{common_steps}
 use Rattle.history_laws.specs.Prelude.{Block, bytes_in, ends_packet}
 use Rattle.ring_laws.specs.ReceivePrelude.{Kept, Looks, Packet, Receive, Stage, Takes, Told, ended_of, kept_of, left_of}
 use Rattle.ring_laws.specs.ReceivePrelude.{next_stage, no_packet, records_of, took}
@@ -108,12 +109,7 @@ behind_open front p rest is = rw is refl
 -- a packet is whole behind some
 put_before : (hs : List Kept) (ws : List Packet) (p : Packet) (ks : List Kept)
     → (hs ++ records_of (ws ++ [])) ++ kept_of p ∷ ks ≡ (hs ++ records_of (ws ++ p ∷ [])) ++ ks
-put_before hs ws p ks =
-    let k : Kept = kept_of p in
-    ap (λ (xs : List Packet). (hs ++ records_of xs) ++ k ∷ ks) (append-nil ws)
-    ∙ sym (append_assoc (hs ++ records_of ws) (k ∷ []) ks)
-    ∙ ap (λ (xs : List Kept). xs ++ ks) (append_assoc hs (records_of ws) (k ∷ [])
-    ∙ ap (λ (xs : List Kept). hs ++ xs) (sym (map-append kept_of ws (p ∷ []))))
+put_before hs ws p ks = grind (arith, common_steps)
 
 -- the part of the next slot is taken
 module _ (out gone ps : List Piece) (v : Receive) (p : Piece) (t : Told) (b : Block)

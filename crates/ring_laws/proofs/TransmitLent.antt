@@ -3,6 +3,7 @@ use Rattle.std.proofs.Common.{[], ◌++◌, ◌+◌, ◌<◌, ◌||◌, ◌∙�
 use Rattle.std.proofs.Common.{length, refl, subst, suc, sym, take, true, zero, ℕ}
 use Rattle.std.proofs.lemmas.List.{get_or-append-add, length-append, take-append-le}
 use Rattle.std.specs.{List.list_any, Prelude.◌==◌, Prelude.IsTrue, Prelude.slice_index_or}
+use Rattle.std.proofs.lemmas.Grind.{common_steps}
 use Rattle.history_laws.specs.Prelude.{Block, Blocks, Event, Reply, State, after, has_block, reply_to}
 use Rattle.ring_laws.specs.TransmitPrelude.{Accepts, Advances, Asks, Elsewhere, IsOwn, Kept, Lends, Looks, MayAccept}
 use Rattle.ring_laws.specs.TransmitPrelude.{Move}
@@ -50,12 +51,7 @@ module _ (v : Sender) (n : ℕ) where
   next_lent : (ss : List Segment) (ks : List Kept) (b : ℕ) → take v.lent ss ≡ take v.lent v.outstanding
       → v.lent < length ss → b ≡ (slice_index_or ss v.lent no_segment).block
       → has_lent (record v { outstanding = ss; lent = v.lent + 1; accepted = ks }) n ≡ (n == b || has_lent v n)
-  next_lent ss ks b same below next =
-      let e : v.lent + 1 ≡ suc v.lent = omega arith in
-      ap (λ (k : ℕ). own || among (take k ss) n) e
-      ∙ ap (λ (x : Bool). own || x) (among-more n ss v.lent below)
-      ∙ (λ i. own || (n == sym next i || among (same i) n))
-      ∙ or_swap own (n == b) (among (take v.lent v.outstanding) n)
+  next_lent ss ks b same below next = grind (arith, common_steps)
 
   pub more_is : (b : ℕ) → v.lent < length v.outstanding → b ≡ (segment_at v v.lent).block
       → has_lent (lent_more v) n ≡ (n == b || has_lent v n)

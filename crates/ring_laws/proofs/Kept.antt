@@ -128,8 +128,8 @@ module _ (v : Receive) where
     ]
     fresh_is n other is has = cc
 
-    pub each_by : EachRingBlock v.layout.ring v.layout.size P → ((k : ℕ) → k < length slots_of → P (block_at (reach v) k))
-        → IfFresh v.stage P → Each v P
+    pub each_by : EachRingBlock v.layout.ring v.layout.size P
+        → ((k : ℕ) → k < length slots_of → P (block_at (reach v) k)) → IfFresh v.stage P → Each v P
     each_by ring slots fresh n has =
         let own = is_ring_block v.layout.ring v.layout.size n in
         elim (or_cases (among slots_of n) (among (fresh_block v.stage) n || own) (sym (parted n) ∙ has))

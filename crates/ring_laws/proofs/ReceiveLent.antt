@@ -6,9 +6,9 @@ use Rattle.std.specs.Prelude.{◌==◌, IsTrue, slice_index, suc}
 use Rattle.std.proofs.lemmas.Grind.{common_steps}
 use Rattle.history_laws.specs.Prelude.{Block, Blocks, Event, Reply, State}
 use Rattle.ring_laws.specs.ReceivePrelude.{IsOwn, LendsAnew, Lent, NamesNext, PeeksNext, Receive, Stage}
-use Rattle.ring_laws.specs.ReceivePrelude.{Takes, Told, drive, fresh_of, names, next_stage}
+use Rattle.ring_laws.specs.ReceivePrelude.{Takes, Told, drive, names}
 use Rattle.ring_laws.specs.ReceivePrelude.{took}
-use Rattle.pmd_rx.specs.Receive.{CanLend, HasLent, LendsNext, lent_one, looked, moved}
+use Rattle.pmd_rx.specs.Receive.{CanLend, LendsNext, lent_one, looked, moved}
 use Rattle.pmd_rx.specs.{Keeping.fresh_block, Keeping.has_lent}
 use Rattle.history_laws.proofs.Lent.{Follows, follows_in, follows_known, only_lent_stays, or_swap}
 use Rattle.history_laws.specs.Lent.{LendsOneOf, LendsOwn, OnlyLent, either}
@@ -48,14 +48,6 @@ module _ (v : Receive) (n : ℕ) where
 
   is_looked : (a : ℕ) → PeeksNext v a → (d : List ℕ) → has_lent (looked v d) n ≡ has_lent v n
   is_looked a own d = grind arith
-
-  lent_block : (stage : Stage) → HasLent stage → fresh_block stage ≡ fresh_of stage ∷ []
-  lent_block (Lent b) lent = refl
-  lent_block other lent = absurd lent
-
-  next_fresh : (seen : List Told) → fresh_block (next_stage seen) ≡ []
-  next_fresh [] = refl
-  next_fresh (t ∷ seen) = refl
 
   is_named : (a : ℕ) (bytes : List ℕ) → NamesNext v a bytes → has_lent (names v) n ≡ has_lent v n
   is_named a bytes own = grind (arith, common_steps)

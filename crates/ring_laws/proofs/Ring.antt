@@ -71,8 +71,8 @@ module _ (ring size slot : ℕ) (below : slot < size) where
       ≡ gives Done (record s { memory = write_at s.memory (descriptor_in ring slot) bytes })
   slot_poked s bytes has = poked_is s (descriptor_in ring slot) bytes (aligned ring slot) (slot_lent s.memory has)
 
--- What stays from one memory to another: which of the ring's blocks are lent, these of its descriptors, and the bytes of
--- these of the blocks beside it.
+-- What stays from one memory to another: which of the ring's blocks are lent, these of its descriptors, and the bytes
+-- of these of the blocks beside it.
 
 pub record Stays (ring size : ℕ) (m n : Memory) (slots blocks : ℕ → Type 0) : Type 0 where
   pub has : EachRingBlock ring size (λ b. has_block n b ≡ has_block m b)

@@ -1,18 +1,17 @@
 -- The blocks that an event leaves.
-use Rattle.std.proofs.Common.{[], ◌%◌, ◌*◌, ◌+◌, ◌/◌, ◌<◌, ◌^◌, ◌∙◌, ◌≡◌, ◌≢◌, Bool, List, None, Some, ap, arith, cond}
-use Rattle.std.proofs.Common.{false, inl, inr, length, refl, subst, sym, take, true, ℕ}
+use Rattle.std.proofs.Common.{[], ◌%◌, ◌*◌, ◌+◌, ◌/◌, ◌<◌, ◌∙◌, ◌≡◌, ◌≢◌, List, None, Some, ap, arith}
+use Rattle.std.proofs.Common.{false, inl, inr, length, refl, subst, sym, take, ℕ}
 use Rattle.std.proofs.lemmas.Bool.{cases_Bool, cases_eq, cases_lt, eq-eqb, eqb-false}
 use Rattle.std.specs.Prelude.{◌==◌, IsFalse, IsTrue, ⊤}
 use Rattle.history_laws.specs.Prelude.{Avoids, Block, Blocks, Event, Filled, IsEvent, IsSound, LeavesBlock}
 use Rattle.history_laws.specs.Prelude.{LeavesBlocks, LiesIn, Memory, Outcome, Registers, Reply, Rest, Sent, State, Tx}
-use Rattle.history_laws.specs.Prelude.{Waiting, WritesOutside, Wrote, after, has_bit, reply_to, ring_of, step_of}
-use Rattle.history_laws.specs.Prelude.{told_back, transmit_queue_of, word_of, write_at}
-use Rattle.nic_device.specs.RegTable.declared.rows.RowId.TheVariants.{Tdbah, Tdbal, Tdwbah, Tdwbal}
+use Rattle.history_laws.specs.Prelude.{Waiting, WritesOutside, Wrote, after, reply_to, ring_of, step_of}
+use Rattle.history_laws.specs.Prelude.{told_back, transmit_queue_of, write_at}
 use Rattle.nic_device.proofs.{DmaArena.Blocks.get-write_at_out, DmaArena.Inside.inside_avoids}
 use Rattle.nic_device.proofs.{DmaRing.Fields.halves_come_back, QueueCases.received_cases}
 use Rattle.nic_device.proofs.{RegisterLaws.SoundWords.rings_aligned, RxRing.Fills.takes_piece}
 use Rattle.nic_device.specs.{DmaRing.Descriptor.of_halves, DmaRing.Receive.written_back}
-use Rattle.nic_device.specs.{DmaRing.Ring.descriptor_address, RegisterFile.Settings.writeback_of}
+use Rattle.nic_device.specs.{RegisterFile.Settings.writeback_of}
 use Rattle.nic_device.specs.{RegisterLaws.SoundWords.IsAligned, RxRing.Fill.memory_with, TxRing.Report.report_length}
 use Rattle.nic_device.specs.{declared.event.Reply.TheVariants.Advanced}
 use Rattle.device_lock.specs.Alone.{IsClear}
@@ -34,22 +33,9 @@ reported own (Sent queue len o) s t tells back is = tells.reported back is
 reported own (Advanced queue slot o) s t tells back is = tells.0.reported back is
 reported own other s t tells back is = cc
 
--- 4 bytes at a multiple of 4, or 16 at a multiple of 16
-lies_by : (b : Bool) (high low at : ℕ) → at % 16 ≡ 0
-    → LiesIn (cond b (high * 2 ^ 32 + 4 * (low / 4)) at / 2048) (cond b (high * 2 ^ 32 + 4 * (low / 4)) at)
-    (report_length (cond b (Some (high * 2 ^ 32 + 4 * (low / 4))) None))
-lies_by true high low at even = (omega arith, omega arith)
-lies_by false high low at even = (omega (arith, even), omega (arith, even))
-
-head_even : (high low head : ℕ) → low % 16 ≡ 0 → (high * 2 ^ 32 + low + 16 * head) % 2 ^ 64 % 16 ≡ 0
-head_even high low head even = omega (arith, even)
-
 lies : (r : Registers) (queue : ℕ) → IsAligned (ring_of r Tx queue)
     → LiesIn (report_of r queue / 2048) (report_of r queue) (report_length (writeback_of r queue))
-lies r queue a =
-    lies_by (has_bit 0 (word_of r Tdwbal queue)) (word_of r Tdwbah queue) (word_of r Tdwbal queue)
-    (descriptor_address (ring_of r Tx queue) (ring_of r Tx queue).head)
-    (head_even (word_of r Tdbah queue) (word_of r Tdbal queue) (ring_of r Tx queue).head (omega (arith, a.base)))
+lies r queue a = grind arith
 
 pub reports_lie : ReportsLieInBlocks
 reports_lie s sound queue back told =

@@ -1,12 +1,12 @@
 -- What an event that leaves a queue alone does to the queue's sides.
 use Rattle.std.proofs.Common.{[], ◌<◌, ◌||◌, ◌∙◌, ◌∷◌, ◌≡◌, ◌≢◌, ◌⊎◌, Bool, Err, List, None, Ok, Option, Some, ap}
 use Rattle.std.proofs.Common.{arith, cond, false, inl, inr, length, map, not, refl, subst, sym, true, ℕ}
-use Rattle.std.proofs.lemmas.Bool.{cases_Bool, cases_eq, cond_both, eq-eqb, lt-ltb, ne_eqb, not-false, or_parts}
+use Rattle.std.proofs.lemmas.Bool.{cases_Bool, cases_eq, cond_both, eq-eqb, lt-ltb, ne_eqb}
 use Rattle.std.specs.Prelude.{◌&&◌, ◌==◌, IsFalse, Result, ⊤}
 use Rattle.std.proofs.lemmas.List.{drop_all, get_or-set_same}
 use Rattle.history_laws.specs.Prelude.{Block, Blocks, Dir, Event, Fetched, Filled, IsSound, LeavesReceive, Outcome}
 use Rattle.history_laws.specs.Prelude.{Registers, Reply, RingFault, Rx, State, TransmitQueue, Tx, Waiting, Watched}
-use Rattle.history_laws.specs.Prelude.{Wrote, after, gives, is_empty, is_wanted, piece_of, receive_queue_of, reply_to}
+use Rattle.history_laws.specs.Prelude.{Wrote, after, gives, is_empty, is_wanted, receive_queue_of, reply_to}
 use Rattle.history_laws.specs.Prelude.{rest_of, staged_by, step_of, transmit_queue_of}
 use Rattle.nic_device.proofs.RegisterLaws.Switches.{receive-switched, transmit-switched}
 use Rattle.nic_device.specs.RegTable.declared.rows.RowId.TheVariants.{Qprdc}
@@ -21,7 +21,7 @@ use Rattle.nic_device.specs.{RegisterFile.Counters.counter_of, RegisterFile.Queu
 use Rattle.nic_device.specs.{Switching.side_switched}
 use Rattle.history_laws.proofs.Leaving.{left-setting, left-side, receive_left, step_event, step_is, switch_is}
 use Rattle.history_laws.specs.Left.{Deed, IsFirst, IsLeft, IsSilent, LeftDid, Nothing, Rested, Rests, SendsNone, Shut}
-use Rattle.history_laws.specs.Segments.{Piece, first_of, frames_added, piece_in, pieces, pieces_told, sent_by}
+use Rattle.history_laws.specs.Segments.{frames_added, piece_in, pieces, pieces_told, sent_by}
 use Rattle.history_laws.specs.Sides.{IsTried, Side, as_wanted, receive_side, side_of, transmit_side}
 use Rattle.history_laws.proofs.{Blocks.left-block, Steady.none_staged}
 use Rattle.history_laws.specs.Left.{SidesDo, Switched, Took, fetch_on, fill_on, is_step_of, is_switch_of}
@@ -78,10 +78,7 @@ module _ (s : State) (sound : IsSound s) (w : Waiting) (others : List Waiting) (
 
   piece_told : (f : Filled) → pieces_told w.queue s.waiting (Wrote w.queue f.slot f.end f.desc f.at f.len)
       ≡ piece_in (rest_of w) f ∷ []
-  piece_told f =
-      rw (eq-eqb w.queue w.queue refl)
-      (ap (λ (ws : List Waiting).
-      let p : Piece = record { bytes = piece_of ws f.len; first = first_of ws; end = f.end } in p ∷ []) e)
+  piece_told f = grind arith
 
   filled : (f : Filled) → (fill_on s w.queue (rest_of w)).answer ≡ Ok f
       → step_of s event.RxStep ≡ receive.slot_done s w others (Ok f) (fill_on s w.queue (rest_of w)).memory
@@ -121,9 +118,7 @@ module _ (queue : ℕ) (s : State) (sound : IsSound s) where
 
   stays : (o : Outcome) → LeavesReceive queue s o.state → pieces_told queue s.waiting o.reply ≡ []
       → step_of s event.RxStep ≡ o → Deed Rx queue s event.RxStep
-  stays o side none is =
-      left (ap (λ (x : Outcome). receive_queue_of x.state.registers queue) is ∙ side)
-      (ap (λ (x : Outcome). pieces_told queue s.waiting x.reply) is ∙ none)
+  stays o side none is = grind arith
 
   module _ (w : Waiting) (others : List Waiting) (e : s.waiting ≡ w ∷ others) where
     -- the first frame is another queue's
@@ -173,10 +168,7 @@ took queue s t f None tx_tells = tx_tells.0
 
 -- a queue that isn't silent is on, and its ring isn't empty
 loud_parts : (a b c on e f : Bool) → (a || b || c || not on || e || f) ≡ false → (on ≡ true) × (f ≡ false)
-loud_parts a b c on e f h =
-    let last = or_parts (a || b || c || not on || e) f h in
-    let rest = or_parts (a || b || c || not on) e last.0 in
-    (not-false on (or_parts (a || b || c) (not on) rest.0).1, last.1)
+loud_parts a b c on e f h = grind arith
 
 module _ (queue : ℕ) (s : State) (sound : IsSound s) (small : queue < 128) where
   abbrev after_tx : State
@@ -250,9 +242,7 @@ module _ (queue : ℕ) (s : State) (sound : IsSound s) (small : queue < 128) whe
 -- a side that is as it is wanted, with what it has staged then
 with_staged : (x : Side) (b : Bool) (staged : List ℕ) → x.wanted ≡ b → staged ≡ cond b x.staged []
     → record x { on = x.wanted; staged = staged } ≡ as_wanted x
-with_staged x b staged is e =
-    let f : staged ≡ cond x.wanted x.staged [] = e ∙ ap (λ c. cond c x.staged []) (sym is) in
-    λ k. record x { on = x.wanted; staged = f k }
+with_staged x b staged is e = grind arith
 
 module _ (queue : ℕ) (s : State) (sound : IsSound s) (small : queue < 128) where
   on_then : (dir : Dir) → side_of dir queue (side_switched s dir queue) ≡ as_wanted (side_of dir queue s)

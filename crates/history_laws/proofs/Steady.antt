@@ -1,8 +1,8 @@
 -- A side of a queue, whatever the device does to it, and as a driver asks for it to be on or off.
 use Rattle.std.proofs.Common.{[], ◌%◌, ◌&&◌, ◌/◌, ◌<◌, ◌^◌, ◌∙◌, ◌≡◌, ◌⊎◌, Bool, List, ap, arith, cond, false, inl, inr}
 use Rattle.std.specs.Prelude.{◌==◌, IsFalse, IsTrue, bit_and}
-use Rattle.std.proofs.{Common.not, Common.refl, Common.subst, Common.sym, Common.true, Common.ℕ, lemmas.Bool.both_ways}
-use Rattle.std.proofs.{lemmas.Bool.cases_Bool, lemmas.Nat.and_mask}
+use Rattle.std.proofs.{Common.not, Common.refl, Common.subst, Common.sym, Common.true, Common.ℕ}
+use Rattle.std.proofs.{lemmas.Nat.and_mask}
 use Rattle.history_laws.specs.Prelude.{Block, Dir, Event, IsSound, Port, Register, Rx, State, Tx, Txdctl, after}
 use Rattle.history_laws.specs.Prelude.{has_bit, named, named_written, place, receive_queue_of, reply_to, staged_by}
 use Rattle.history_laws.specs.Prelude.{step_of, transmit_queue_of, word_of}
@@ -30,11 +30,7 @@ pub record IsIdle (P : Side → Type 0) : Type 0 where
   pub switches : (x : Side) → P x → P (as_wanted x)
 
 pub idle_steady : (P : Side → Type 0) → IsIdle P → IsSteady P
-idle_steady P is = record {
-  takes = λ x staged tried p. absurd (is.idle x p tried);
-  shuts = λ x tried p. absurd (is.idle x p tried);
-  switches = is.switches;
-}
+idle_steady P is = grind arith
 
 -- the ring of two sides, their control word, and where they write their head, are the same, and the one has nothing
 -- staged where the other hasn't
@@ -99,10 +95,7 @@ pub unwanted_steady : IsSteady IsUnwanted
 unwanted_steady = record { takes = λ x staged tried is. is; shuts = λ x tried is. refl; switches = λ x is. is }
 
 pub off_idle : IsIdle IsOff
-off_idle = record {
-  idle = λ x is tried. both_ways x.on is.off tried.on;
-  switches = λ x is. record { off = is.unwanted; unwanted = is.unwanted };
-}
+off_idle = grind arith
 
 pub off_steady : IsSteady IsOff
 off_steady = idle_steady IsOff off_idle
@@ -123,48 +116,17 @@ not_again true is only = refl
 not_again false is (inl on) = cc
 not_again false is (inr off) = off
 
-same_again : (was is : Bool) → is ≡ was → (not was && is) ≡ false
-same_again true is same = refl
-same_again false is same = same
-
-settled_steady : IsSteady IsSettled
-settled_steady = record {
-  takes = λ x staged tried is. is;
-  shuts = λ x tried is. inr refl;
-  switches = λ x is. cases_Bool x.wanted;
-}
-
 -- where it is left as it is, and where it is asked not to be on
 pub same_settles : (x y : Side) → y ≡ x → IsSettled x → Settles x y
-same_settles x y same is = record {
-  settled = subst IsSettled (sym same) is;
-  never = same_again x.on y.on (ap (λ (z : Side). z.on) same);
-}
+same_settles x y same is = grind arith
 
 pub asked_settles : (x y : Side) (wanted : Bool) → y ≡ record x { wanted = wanted } → wanted ≡ false → Settles x y
-asked_settles x y wanted same none = record {
-  settled = inr (ap (λ (z : Side). z.wanted) same ∙ none);
-  never = same_again x.on y.on (ap (λ (z : Side). z.on) same);
-}
+asked_settles x y wanted same none = grind arith
 
 module _ (dir : Dir) (queue : ℕ) (s : State) (e : Event Block) (did : Deed dir queue s e) where
-  stays_off : IsSettled (side_of dir queue s)
-      → IsTrue (side_of dir queue s).on ⊎ IsFalse (side_of dir queue (after s e)).on
-  stays_off (inl on) = inl on
-  stays_off (inr none) = elim (cases_Bool (side_of dir queue s).on)
-      as (λ _. IsTrue (side_of dir queue s).on ⊎ IsFalse (side_of dir queue (after s e)).on) [
-        | inl on ↦ inl on
-        | inr off ↦
-            inr (steady_kept dir queue s e IsOff (record { off = off; unwanted = none })
-            off_steady did).off
-      ]
-
   pub deed_settles : IsSettled (side_of dir queue s)
       → Settles (side_of dir queue s) (side_of dir queue (after s e))
-  deed_settles is = record {
-    settled = steady_kept dir queue s e IsSettled is settled_steady did;
-    never = not_again (side_of dir queue s).on (side_of dir queue (after s e)).on (stays_off is);
-  }
+  deed_settles is = grind arith
 
 -- A word that is written to the enable register of a side of a queue asks for that side to be on or off, and nothing
 -- else; and a read tells whether it is on.
@@ -212,14 +174,8 @@ module _ (queue : ℕ) (s : State) (sound : IsSound s) (small : queue < 128) (po
   asked_or_left Rx Tx names = inr (other_left Rx names)
   asked_or_left Tx Rx names = inr (other_left Tx names)
 
-  -- so a side that is off stays so, and one that is settled, where bit 25 is 0
+  -- so a side that is settled stays so where bit 25 is 0
   module _ (side dir : Dir) (names : NamesEnable side queue s port n) (none : IsFalse (has_bit 25 word)) where
-    pub word_off : IsOff (side_of dir queue s) → IsOff (side_of dir queue t)
-    word_off off = elim (asked_or_left side dir names) [
-      | inl is ↦ subst IsOff (sym is) (record { off = off.off; unwanted = none })
-      | inr left ↦ subst IsOff (sym left) off
-    ]
-
     pub word_settles : IsSettled (side_of dir queue s) → Settles (side_of dir queue s) (side_of dir queue t)
     word_settles settled = elim (asked_or_left side dir names) [
       | inl is ↦ asked_settles (side_of dir queue s) (side_of dir queue t) (has_bit 25 word) is none

@@ -1,8 +1,8 @@
 -- What a number of a port names, and the low bits of the words that are written there.
-use Rattle.std.proofs.Common.{[], ◌%◌, ◌&&◌, ◌+◌, ◌/◌, ◌<◌, ◌^◌, ◌∙◌, ◌∷◌, ◌≡◌, ◌⊎◌, Bool, List, None, Option, Some, ap}
+use Rattle.std.proofs.Common.{[], ◌%◌, ◌&&◌, ◌/◌, ◌<◌, ◌^◌, ◌∙◌, ◌∷◌, ◌≡◌, ◌⊎◌, Bool, List, None, Option, Some, ap}
 use Rattle.std.proofs.Common.{arith, cond, false, inl, inr, not, refl, sym, true, ℕ}
 use Rattle.std.proofs.lemmas.Bool.{and_parts, cases_Bool, eq-eqb}
-use Rattle.std.proofs.lemmas.Nat.{and_le_l, and_le_r, and_mask, and_mod, and_shr, or_disjoint, or_mod, or_shr}
+use Rattle.std.proofs.lemmas.Nat.{and_le_r, and_mask, and_mod, and_shr, or_mod, or_shr}
 use Rattle.std.specs.Prelude.{◌==◌, bit_and, bit_or, ⊤}
 use Rattle.std.{proofs.Math.Nat.mod-eq_of_lt, specs.List.list_all}
 use Rattle.history_laws.specs.Prelude.{Maxfrs, Mode, Named, Nothing, Pf, Place, Port, Rdt, ReceiveQueue, Register}
@@ -22,9 +22,7 @@ use Rattle.nic_device.specs.VfMap.declared.located.Located.TheVariants as locate
 -- Low bits that are written through a view that shows them.
 
 none_or : (x : ℕ) → bit_or 0 x ≡ x
-none_or x =
-    let none : bit_and 0 x ≡ 0 = let low = and_le_l 0 x in omega (arith, low) in
-    or_disjoint 0 x none ∙ (let e : 0 + x ≡ x = omega arith in e)
+none_or x = grind arith
 
 no_bits : (x : ℕ) → bit_and x 0 ≡ 0
 no_bits x = let low = and_le_r x 0 in omega (arith, low)

@@ -1,6 +1,6 @@
 -- The ring of a driver that sends: its slots, its blocks, and what stays where memory does.
 use Rattle.std.proofs.Common.{◌+◌, ◌<◌, ◌∙◌, ◌≡◌, ◌≢◌, ◌≤◌, ap, arith, false, length, refl}
-use Rattle.std.proofs.lemmas.Bool.{both_ways, eq-eqb, or_left, or_right}
+use Rattle.std.proofs.lemmas.Bool.{both_ways, eq-eqb, or_right}
 use Rattle.std.specs.Prelude.{[], ◌==◌, ◌∷◌, IsTrue, List, slice_index_or, suc, zero, ⊤}
 use Rattle.std.{proofs.Common.subst, proofs.Common.take, proofs.Common.true, proofs.Common.ℕ}
 use Rattle.std.{proofs.lemmas.List.get_or-take, proofs.lemmas.List.length-take-le, specs.List.list_any}
@@ -9,8 +9,7 @@ use Rattle.ring_laws.specs.TransmitPrelude.{EachRingBlock, Layout, Segment, Send
 use Rattle.ring_laws.specs.TransmitPrelude.{is_ring_block}
 use Rattle.ring_laws.specs.TransmitPrelude.{no_segment, segment_at, slot_at}
 use Rattle.nic_device.specs.DmaRing.Ring.{next_of}
-use Rattle.pmd_tx.proofs.PmdSeam.Places.{next_below, next_wrapped, wrapped_apart, wrapped_below, wrapped_next}
-use Rattle.pmd_tx.proofs.PmdSeam.Rings.{ring_block_is}
+use Rattle.pmd_tx.proofs.PmdSeam.Places.{next_below, wrapped_apart, wrapped_below, wrapped_next}
 use Rattle.pmd_tx.specs.{PmdSeam.Slots.blocks_for, PmdSeam.Slots.descriptor_in, Sending.blocks_of}
 use Rattle.ring_laws.specs.Agreeing.{IsCounted, IsLayout, IsReady, Shows}
 use Rattle.ring_laws.proofs.Ring.{Stays, same_stays, slot_lent}
@@ -23,9 +22,7 @@ module _ (l : Layout) (is : IsLayout l) where
   slot-below k h = wrapped_below l.size (l.next + k) (omega (arith, is.next, h))
 
   pub slot-next : (k : ℕ) → k < l.size → next_of l.size (slot_at l k) ≡ slot_at l (k + 1)
-  slot-next k h =
-      let e : (l.next + k) + 1 ≡ l.next + (k + 1) = omega arith in
-      rw (← e) (next_wrapped l.size (l.next + k) is.some (omega (arith, is.next, h)))
+  slot-next k h = grind arith
 
   pub slot-apart : (i j : ℕ) → i < l.size → j < l.size → i ≢ j → slot_at l i ≢ slot_at l j
   slot-apart i j a b ne = wrapped_apart l.size l.next i j is.next a b ne
@@ -59,10 +56,7 @@ any_at (x ∷ ss) (suc k) h =
     (list_any (λ b. (slice_index_or ss k no_segment).block == b) (blocks_of ss)) (any_at ss k (omega arith))
 
 pub has_lent-ring : (v : Sender) (k : ℕ) → k < blocks_for v.layout.size → has_lent v (v.layout.ring + k) ≡ true
-has_lent-ring v k below =
-    let n = v.layout.ring + k in
-    or_left (is_ring_block v.layout.ring v.layout.size n)
-    (list_any (λ b. n == b) (blocks_of (take v.lent v.outstanding))) (ring_block_is v.layout.ring v.layout.size k below)
+has_lent-ring v k below = grind arith
 
 pub has_lent-segment : (v : Sender) (k : ℕ) → v.lent ≤ length v.outstanding → k < v.lent
     → has_lent v (segment_at v k).block ≡ true
@@ -82,11 +76,7 @@ unlike v n b none is e = both_ways (has_lent v n) none (subst (λ x. has_lent v 
 
 pub ready_stays : {ring size : ℕ} {m n : Memory} {slots blocks : ℕ → Type 0} → Stays ring size m n slots blocks
     → (x : Segment) → blocks x.block → IsReady m ring size x → IsReady n ring size x
-ready_stays t x is ready =
-    assumption (
-      t.there x.block is ∙ ready.lent,
-      t.bytes x.block (length x.part.bytes) ready.apart is ready.short ∙ ready.bytes,
-    )
+ready_stays t x is ready = grind arith
 
 -- where none of the driver's blocks changes
 module _ (m n : Memory) (v : Sender) (f : ℕ) (l : IsLayout v.layout) (c : IsCounted v f) (h : Shows m v f)

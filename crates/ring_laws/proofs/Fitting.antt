@@ -110,13 +110,7 @@ fit-push most n (q ∷ ps) p all fits = (all.0, fit-push most (cond q.end 0 (n +
 -- what is left of a frame that doesn't end in a block
 more_left : (len rest frame offset n most : ℕ) → len ≡ min 2048 rest → len ≢ rest → rest ≡ frame - offset
     → offset ≡ 2048 * n → frame ≤ 2048 * most → (len ≡ 2048) × (n + 1 < most)
-more_left len rest frame offset n most is part left begun short = elim (cases_lt 2048 rest) [
-  | inl more ↦ (
-    (let e : len ≡ 2048 = omega (arith, is, more) in e),
-    (let e : n + 1 < most = omega (arith, more, left, begun, short) in e),
-  )
-  | inr less ↦ absurd (part (omega (arith, is, less)))
-]
+more_left len rest frame offset n most is part left begun short = grind arith
 
 module _ (queue most : ℕ) (s : State) (out : List Piece) (v : Receive) (gone here : List Piece) (sound : IsSound s)
     (h : Holds queue s out v gone here) (up : IsUp queue s) (fit : AreFitting queue most s out) where
@@ -169,9 +163,7 @@ module _ (queue most : ℕ) (s : State) (out : List Piece) (v : Receive) (gone h
       n = open_after 0 out
 
       begun : w.offset ≡ 2048 * n
-      begun =
-          sym (ap (λ (b : Bool). cond b w.offset 0) (eq-eqb w.queue queue own))
-          ∙ ap (λ (ws : List Waiting). begun_on queue ws) (sym e) ∙ fit.begun
+      begun = grind arith
 
       taken : f.len ≡ min 2048 (length (drop w.offset w.frame))
       taken =

@@ -1,18 +1,17 @@
 -- Events that aren't the driver's own: they keep the agreement, and a side up that is.
-use Rattle.std.proofs.Common.{[], ◌++◌, ◌/◌, ◌<◌, ◌^◌, ◌||◌, ◌∙◌, ◌∷◌, ◌≡◌, ◌≢◌, ◌≤◌, ◌⊎◌, Bool, List, Ok}
-use Rattle.std.proofs.Common.{ap, arith, cond, false, inl, inr, length, refl, subst, sym, true, ℕ}
-use Rattle.std.proofs.lemmas.Bool.{both_ways, cases_eq, cases_lt, cond_both, eq-eqb, or_parts}
+use Rattle.std.proofs.Common.{[], ◌++◌, ◌/◌, ◌<◌, ◌^◌, ◌∙◌, ◌∷◌, ◌≡◌, ◌≢◌, ◌≤◌, ◌⊎◌, List, Ok}
+use Rattle.std.proofs.Common.{ap, arith, inl, inr, length, refl, subst, sym, true, ℕ}
+use Rattle.std.proofs.lemmas.Bool.{cases_eq, cases_lt, eq-eqb}
 use Rattle.std.proofs.lemmas.List.{append-nil}
-use Rattle.std.specs.{Bool.beq, Prelude.IsTrue, Prelude.nat_lt, Prelude.⊤}
-use Rattle.history_laws.specs.Prelude.{Block, Blocks, Done, Entry, EntryLeavesAlone, Event, Filled, IsSound}
+use Rattle.std.specs.{Prelude.IsTrue, Prelude.⊤}
+use Rattle.history_laws.specs.Prelude.{Block, Blocks, Entry, EntryLeavesAlone, Event, Filled, IsSound}
 use Rattle.history_laws.specs.Prelude.{LeavesBlock, LeavesBlocks}
 use Rattle.history_laws.specs.Prelude.{LeavesQueues, LeavesRegisters, Memory, Mode, Outcome, Port, Reply, Rx}
-use Rattle.history_laws.specs.Prelude.{State, Tx, Waiting, Watched, WritesNoSetting, WritesOutside, Wrote, after, gives}
+use Rattle.history_laws.specs.Prelude.{State, Tx, Waiting, Watched, WritesNoSetting, Wrote, after}
 use Rattle.history_laws.specs.Prelude.{is_on, is_wanted, mode_in, receive_queue_of, reply_to, rest_of, step_of}
 use Rattle.ring_laws.specs.ReceivePrelude.{Layout, MovesNext, Receive, block_at, is_step, reach, slot_at}
-use Rattle.nic_device.specs.declared.event.Reply.TheVariants.{Idle, NoQueue}
-use Rattle.nic_device.{proofs.RxRing.Fills.takes_piece, specs.RegisterFile.Settings.is_stopped, specs.Sound.AreWaiting}
-use Rattle.nic_device.{specs.Switching.queue_switched, specs.Switching.side_switched}
+use Rattle.nic_device.{proofs.RxRing.Fills.takes_piece, specs.Sound.AreWaiting}
+use Rattle.nic_device.{specs.Switching.queue_switched}
 use Rattle.pmd_rx.{proofs.PmdSeam.Rings.slot_block, proofs.PmdSeam.Rings.slot_lies, specs.PmdSeam.Slots.descriptor_in}
 use Rattle.history_laws.proofs.Deeds.{left_deed, left_did, receiving_did, side_did, switching_did}
 use Rattle.history_laws.proofs.Leaving.{left-setting, left-side, receive_left, receive_of}
@@ -148,22 +147,9 @@ piece_inside queue s out v sound (gone, here, h) slot end desc at len is = elim 
 -- A step of the enable of the queue's receive side keeps the agreement; and where the side is on and wanted on nothing
 -- changes.
 
-as_wanted : (w o : Bool) → w ≡ true → o ≡ true → beq w o ≡ true
-as_wanted true true e f = refl
-as_wanted true false e f = cc
-as_wanted false o e f = cc
-
 pub switched_same : (s : State) (queue : ℕ) → is_wanted s.registers Rx queue ≡ true → is_on s.registers Rx queue ≡ true
     → (queue_switched s Rx queue).state ≡ s
-switched_same s queue wanted on =
-    let P : Outcome → Type 0 = λ o. o.state ≡ s in
-    let same : Bool = is_stopped s.registers || beq (is_wanted s.registers Rx queue) (is_on s.registers Rx queue) in
-    let inner : Outcome = cond same (gives Idle s) (gives Done (side_switched s Rx queue)) in
-    cond_both (nat_lt queue 128) inner (gives NoQueue s) P
-    (λ small. cond_both same (gives Idle s) (gives Done (side_switched s Rx queue)) P (λ idle. refl)
-    (λ other. absurd (both_ways (beq (is_wanted s.registers Rx queue) (is_on s.registers Rx queue))
-    (or_parts (is_stopped s.registers) _ other).1 (as_wanted _ _ wanted on))))
-    (λ high. refl)
+switched_same s queue wanted on = grind arith
 
 pub enable_keeps : EnableStepKeeps
 enable_keeps queue s out v sound j =
@@ -196,7 +182,7 @@ move_up queue s out v port number word i (gone, here, h) own up =
     (word_low v port number word h.ring own) in
     rw (own.port_is, own.number_is)
     (subst (λ (x : Outcome). IsUp queue x.state) (sym (tail_written s queue v.layout word h.named))
-    (subst sides.IsUp (sym (ap receive_side side)) (record { on = up.on; wanted = up.wanted })))
+    (subst sides.IsUp (sym (ap receive_side side)) (assumption up)))
 
 calls_up : (queue : ℕ) (s t : State) → LeavesQueues s t → IsUp queue s → IsUp queue t
 calls_up queue s t left up = left_up queue s t (left.receive queue) up
@@ -240,13 +226,7 @@ left_keeps w mine s out v e x j m spare =
 -- an entry of another pass that leaves them alone is such an event, and so is a step, whoever made it
 entry_left : (w : Watched) (mine : Blocks) (mode : Mode) (s : State) (e : Entry) → IsMetBy w mode s e → w.queue < 128
     → EntryLeavesAlone w mine mode e → (e.pass ≢ w.pass) ⊎ IsTrue (is_step e.event) → IsLeft w mine s e.event
-entry_left w mine mode s e met small alone who =
-    let free : LeavesRegisters w (mode_in s.registers) e.event × LeavesBlocks mine e.event = elim who [
-      | inl other ↦
-          (subst (λ k. LeavesRegisters w k e.event) met.mode_is (alone.registers other), alone.blocks other)
-      | inr step ↦ no_registers w (mode_in s.registers) mine e.event step
-    ] in
-    assumption (free.0, free.1, subst (WritesOutside w.queue mine) met.reply alone.steps)
+entry_left w mine mode s e met small alone who = grind arith
 
 pub entry_keeps : EntryKeeps
 entry_keeps w mine mode s out v e met j m spare alone who =

@@ -5,12 +5,12 @@ use Rattle.std.proofs.Common.{append_assoc, arith, drop, false, inl, inr, length
 use Rattle.std.proofs.lemmas.List.{get_or_append_left, get_or_push, length-append, length_push, take-append-drop}
 use Rattle.std.specs.Prelude.{slice_index}
 use Rattle.std.proofs.{lemmas.Bool.Decides.nat_tests}
-use Rattle.history_laws.specs.Prelude.{Block, Memory, State, bytes_in, ends_packet, first_half}
-use Rattle.history_laws.specs.Prelude.{is_done, mode_in, second_half}
+use Rattle.history_laws.specs.Prelude.{Block, Memory, State}
+use Rattle.history_laws.specs.Prelude.{mode_in}
 use Rattle.ring_laws.specs.ReceivePrelude.{Layout, Lent, Receive, Stage, Told, block_at, descriptor_at}
 use Rattle.ring_laws.specs.ReceivePrelude.{extended, fresh_of, is_ring_block, names, posts, reach, slot_at, took}
 use Rattle.ring_laws.specs.ReceivePrelude.{wrapped}
-use Rattle.pmd_rx.{proofs.PmdSeam.Places.wrapped_below, specs.Receive.consumed}
+use Rattle.pmd_rx.{specs.Receive.consumed}
 use Rattle.history_laws.proofs.Leaving.{named-same}
 use Rattle.ring_laws.specs.Joint.{HasSlots, IsFilled, IsNamed, IsPosted, IsRing, StageHolds}
 use Rattle.ring_laws.proofs.Ring.{Stays}
@@ -20,7 +20,7 @@ use Rattle.pmd_rx.proofs.PmdSeam.Rings.{each_ring_block, ring_block_among, ring_
 use Rattle.std.proofs.lemmas.Bool.{eq-eqb, eqb-true, or_cases, or_left, or_right}
 use Rattle.std.{proofs.lemmas.List.Folds.list_any-append, proofs.lemmas.List.Folds.list_any_at, specs.List.list_any}
 use Rattle.std.specs.Prelude.{◌==◌, ◌||◌, Bool}
-use Rattle.ring_laws.specs.{Pieces.Piece, Pieces.piece_at, Steps.Each, Steps.IfFresh}
+use Rattle.ring_laws.specs.{Pieces.Piece, Steps.Each, Steps.IfFresh}
 
 -- Places around a ring, and the addresses of its descriptors and buffers.
 
@@ -128,8 +128,8 @@ module _ (v : Receive) where
     ]
     fresh_is n other is has = cc
 
-    pub each_by : EachRingBlock v.layout.ring v.layout.size P → ((k : ℕ) → k < length slots_of → P (block_at (reach v) k))
-        → IfFresh v.stage P → Each v P
+    pub each_by : EachRingBlock v.layout.ring v.layout.size P
+        → ((k : ℕ) → k < length slots_of → P (block_at (reach v) k)) → IfFresh v.stage P → Each v P
     each_by ring slots fresh n has =
         let own = is_ring_block v.layout.ring v.layout.size n in
         elim (or_cases (among slots_of n) (among (fresh_block v.stage) n || own) (sym (parted n) ∙ has))
@@ -174,15 +174,10 @@ each_of v P f n has = f n
 
 -- each slot up to the vacant one is a slot of the ring
 pub slot_below : (l : Layout) (k : ℕ) → IsRing l → k ≤ length l.blocks → slot_at l k < l.size
-slot_below l k ring h =
-    let next = ring.next in
-    let room = ring.room in
-    wrapped_below l.size (l.next + k) (omega arith)
+slot_below l k ring h = grind arith
 
 pub slot_low : (l : Layout) (k : ℕ) → IsRing l → k ≤ length l.blocks → slot_at l k < 1024
-slot_low l k ring h =
-    let slot = slot_below l k ring h in
-    omega (arith, slot, ring.few)
+slot_low l k ring h = grind arith
 
 pub ring_low : (l : Layout) → IsRing l → l.ring < 65536
 ring_low l ring = omega (arith, ring.some, ring.ring)
@@ -192,27 +187,11 @@ module _ {l : Layout} (ring : IsRing l) {m n : Memory} {slots blocks : ℕ → T
     (t : Stays l.ring l.size m n slots blocks) where
   pub posted_stays : (k b : ℕ) → k ≤ length l.blocks → slots (slot_at l k) → blocks b → IsPosted m (descriptor_at l k) b
       → IsPosted n (descriptor_at l k) b
-  posted_stays k b within here is p =
-      let e = t.slot (slot_at l k) (slot_below l k ring within) here in
-      record {
-        buffer = ap first_half e ∙ p.buffer;
-        waits = ap (λ d. is_done (second_half d)) e ∙ p.waits;
-        there = t.there b is ∙ p.there;
-      }
+  posted_stays k b within here is p = grind arith
 
   pub filled_stays : (k b : ℕ) (p : Piece) → k ≤ length l.blocks → is_ring_block l.ring l.size b ≡ false
       → slots (slot_at l k) → blocks b → IsFilled m (descriptor_at l k) b p → IsFilled n (descriptor_at l k) b p
-  filled_stays k b p within other here is f =
-      let e = t.slot (slot_at l k) (slot_below l k ring within) here in
-      record {
-        done = ap (λ d. is_done (second_half d)) e ∙ f.done;
-        end = ap (λ d. ends_packet (second_half d)) e ∙ f.end;
-        len = ap (λ d. bytes_in (second_half d)) e ∙ f.len;
-        first = ap first_half e ∙ f.first;
-        bytes = t.bytes b (length p.bytes) other is f.short ∙ f.bytes;
-        short = f.short;
-        there = t.there b is ∙ f.there;
-      }
+  filled_stays k b p within other here is f = grind arith
 
   pub stage_stays : (stage : Stage) → IfFresh stage blocks → StageHolds m l stage → StageHolds n l stage
   stage_stays (Lent b) is h = assumption (t.there b is ∙ h.there)
@@ -220,17 +199,7 @@ module _ {l : Layout} (ring : IsRing l) {m n : Memory} {slots blocks : ℕ → T
 
   pub slots_stay : (here : List Piece) → ((k : ℕ) → k < length l.blocks → slots (slot_at l k))
       → ((k : ℕ) → k < length l.blocks → blocks (block_at l k)) → HasSlots m l here → HasSlots n l here
-  slots_stay here all each h =
-      let within = h.within in
-      record {
-        there = λ k i. t.has k i ∙ h.there k i;
-        within = within;
-        filled = λ k i.
-            let j : k < length l.blocks = omega (arith, within) in
-            filled_stays k (block_at l k) (piece_at here k) (omega (arith, j)) (ring.not_ring k j) (all k j) (each k j)
-            (h.filled k i);
-        posted = λ k i j. posted_stays k (block_at l k) (omega (arith, j)) (all k j) (each k j) (h.posted k i j);
-      }
+  slots_stay here all each h = grind arith
 
 -- numbers name what they named where the mode and the number of functions are the same
 pub named_kept : (s t : State) (queue : ℕ) (l : Layout) → mode_in t.registers ≡ mode_in s.registers → t.vfs ≡ s.vfs

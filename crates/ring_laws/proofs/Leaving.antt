@@ -1,10 +1,10 @@
 -- Where the agreement begins, and events that leave the receive side, looks and lends of the driver's own that keep it.
-use Rattle.std.proofs.Common.{[], ◌&&◌, ◌++◌, ◌+◌, ◌<◌, ◌∙◌, ◌∷◌, ◌≡◌, ◌≤◌, Bool, List, ap, arith, cond}
-use Rattle.std.proofs.Common.{false, inl, inr, length, nat_lt, refl, subst, sym, true, ℕ}
-use Rattle.std.proofs.lemmas.Bool.{and_parts, both_ways, cases_lt, eqb-true}
-use Rattle.std.specs.Prelude.{if◌then◌else◌, ◌==◌}
-use Rattle.history_laws.specs.Prelude.{Block, Bytes, Event, Memory, Outcome, ReceiveQueue, Reply, Ring, State, after}
-use Rattle.history_laws.specs.Prelude.{buffer_size_of, bytes_in, descriptor_type_of, ends_packet, gives, has_block}
+use Rattle.std.proofs.Common.{[], ◌&&◌, ◌++◌, ◌<◌, ◌∙◌, ◌∷◌, ◌≡◌, ◌≤◌, Bool, List, ap, arith, cond}
+use Rattle.std.proofs.Common.{false, length, refl, subst, sym, true, ℕ}
+use Rattle.std.proofs.lemmas.Bool.{and_parts, both_ways}
+use Rattle.std.specs.Prelude.{if◌then◌else◌}
+use Rattle.history_laws.specs.Prelude.{Block, Bytes, Event, Memory, Outcome, ReceiveQueue, Reply, State, after}
+use Rattle.history_laws.specs.Prelude.{bytes_in, ends_packet, gives, has_block}
 use Rattle.history_laws.specs.Prelude.{is_done, read_at, receive_queue_of, reply_to, second_half, step_of}
 use Rattle.ring_laws.specs.ReceivePrelude.{Layout, Lent, Looks, PeeksNext, Receive, Stage, Takes, Told}
 use Rattle.ring_laws.specs.ReceivePrelude.{descriptor_at, drive, is_part, no_packet, reach, slot_at}
@@ -29,14 +29,7 @@ use Rattle.std.specs.FinMap as map
 -- a side with the same ring and control word, on or off
 set_up_kept : (q r : ReceiveQueue) (l : Layout) (filled : ℕ) → r.ring ≡ q.ring → r.control ≡ q.control
     → IsSetUp q l filled → IsSetUp r l filled
-set_up_kept q r l filled ring control h = record {
-  one_buffer = ap descriptor_type_of control ∙ h.one_buffer;
-  buffer_size = ap buffer_size_of control ∙ h.buffer_size;
-  base = ap (λ (x : Ring). x.base) ring ∙ h.base;
-  sized = ap (λ (x : Ring). x.length) ring ∙ h.sized;
-  head = ap (λ (x : Ring). x.head) ring ∙ h.head;
-  tail = ap (λ (x : Ring). x.tail) ring ∙ h.tail;
-}
+set_up_kept q r l filled ring control h = grind arith
 
 module _ {queue : ℕ} {s t : State} {out : List Piece} {v : Receive} {gone here : List Piece}
     (h : Holds queue s out v gone here) where
@@ -73,18 +66,7 @@ looked_is s l here k ring h within = slot_looked l.ring l.size (slot_at l k) (sl
 
 pub tells_bytes : (m : Memory) (l : Layout) (here : List Piece) (k : ℕ) → HasSlots m l here → k < length l.blocks
     → TellsSlot here k (read_at m (descriptor_at l k) 16)
-tells_bytes m l here k h some = record {
-  done = (
-    λ done. elim (cases_lt k (length here)) [
-      | inl is ↦ is
-      | inr none ↦ absurd (both_ways _ (h.posted k none some).waits done)
-    ],
-    λ is. (h.filled k is).done,
-  );
-  end = λ is. (h.filled k is).end;
-  len = λ is. (h.filled k is).len;
-  first = λ is. (h.filled k is).first;
-}
+tells_bytes m l here k h some = grind arith
 
 same_bytes : (r : Reply Block) (d e : List ℕ) → r ≡ Bytes d → r ≡ Bytes e → e ≡ d
 same_bytes r d e f g = let both : Bytes d ≡ Bytes e = sym f ∙ g in cc
@@ -101,9 +83,7 @@ look_tells queue s out v gone here k h some d is =
 
 part_open : (most before second : ℕ) → is_part most before second ≡ true → ends_packet second ≡ false
     → bytes_in second ≡ 2048
-part_open most before second part on =
-    let both : (bytes_in second == 2048 && nat_lt (before + 1) most) ≡ true = rw on at part in
-    eqb-true (bytes_in second) 2048 (and_parts _ _ both).0
+part_open most before second part on = grind arith
 
 stage_after : (m : Memory) (l : Layout) (ends : Bool) → StageHolds m l (cond ends Takes Looks)
 stage_after m l true = tt
@@ -117,9 +97,7 @@ at_after v t false is none opens full = (none, open_more v.seen t opens (record 
 
 saw_tells : (here : List Piece) (k : ℕ) (d : List ℕ) → TellsSlot here k d → is_done (second_half d) ≡ true
     → Saw (told_by d) (piece_at here k)
-saw_tells here k d t done =
-    let some : k < length here = t.done.0 done in
-    assumption (t.first some, t.len some, t.end some)
+saw_tells here k d t done = grind arith
 
 looked_holds : (queue : ℕ) (s : State) (out : List Piece) (v : Receive) (gone here : List Piece) (d : List ℕ) (t : Bool)
     → Holds queue s out v gone here → v.stage ≡ Looks → TellsSlot here (length v.seen) d
@@ -145,9 +123,7 @@ Driven queue s out v e = Agree queue (after s e) out (drive v e (reply_to s e))
 -- as the event is written otherwise, by its outcome
 pub by_outcome : (queue : ℕ) (s : State) (out : List Piece) (v : Receive) (e d : Event Block) (o : Outcome) → e ≡ d
     → step_of s d ≡ o → Agree queue o.state out (drive v d o.reply) → Driven queue s out v e
-by_outcome queue s out v e d o same is agree =
-    subst (Driven queue s out v) (sym same)
-    (subst (λ (p : Outcome). Agree queue p.state out (drive v d p.reply)) (sym is) agree)
+by_outcome queue s out v e d o same is agree = grind arith
 
 -- the driver's look at the slot behind those that it saw keeps the agreement
 pub look_keeps : (queue : ℕ) (s : State) (out : List Piece) (v : Receive) (a : ℕ) → Agree queue s out v → PeeksNext v a

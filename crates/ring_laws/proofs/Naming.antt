@@ -4,6 +4,7 @@ use Rattle.std.proofs.Common.{arith, cond, drop, false, inl, inr, length, refl, 
 use Rattle.std.proofs.lemmas.Bool.{cases_lt, eqb-false, eqb-true}
 use Rattle.std.proofs.lemmas.List.{append-nil, length-append, length-take-le, length_push, map-append, take-append-drop}
 use Rattle.std.{proofs.lemmas.List.take_all, specs.Prelude.◌==◌, specs.Prelude.⊤}
+use Rattle.std.proofs.lemmas.Grind.{common_steps}
 use Rattle.history_laws.specs.Prelude.{Done, GcrExt, IsWhole, Memory, Place, Port, Rdt, ReceiveQueue}
 use Rattle.history_laws.specs.Prelude.{Registers, State, after_write, first_half, gives, is_done}
 use Rattle.history_laws.specs.Prelude.{mode_in, named_written, place, read_at, receive_queue_of, second_half}
@@ -21,10 +22,10 @@ use Rattle.history_laws.proofs.{Written.receive-tail, Written.receive_with_tail}
 use Rattle.ring_laws.proofs.Kept.{named_kept, slots_stay, stage_stays}
 use Rattle.ring_laws.proofs.Ring.{Stays, slot_poked, written_here, written_stays}
 use Rattle.ring_laws.proofs.Parts.{end_last, left_twice, next_at, none_twice, order_same}
-use Rattle.ring_laws.specs.Joint.{Agree, HasSlots, Holds, InOrder, IsFilled, IsLoose, IsNamed, IsPosted, IsRing}
-use Rattle.ring_laws.proofs.{Kept.names_reach, Kept.posts_reach, Kept.push_place, Kept.reach_long, Kept.slot_below}
+use Rattle.ring_laws.specs.Joint.{Agree, HasSlots, Holds, InOrder, IsLoose, IsNamed, IsPosted, IsRing}
+use Rattle.ring_laws.proofs.{Kept.names_reach, Kept.posts_reach, Kept.push_place, Kept.slot_below}
 use Rattle.ring_laws.proofs.{Leaving.Driven, Leaving.by_outcome}
-use Rattle.ring_laws.specs.{Joint.IsSetUp, Joint.StageHolds, Joint.packets_had, Pieces.Piece, Pieces.piece_at}
+use Rattle.ring_laws.specs.{Joint.IsSetUp, Joint.StageHolds, Joint.packets_had, Pieces.Piece}
 use Rattle.nic_device.specs.declared.event.Event.TheVariants as event
 use Rattle.nic_device.specs.declared.event.Reply.TheVariants as reply
 
@@ -75,17 +76,7 @@ module _ (m : Memory) (l : Layout) (here : List Piece) (b : ℕ) (ring : IsRing 
       }
 
   pub slots_more : HasSlots m on here
-  slots_more =
-      record {
-        there = h.there;
-        within = omega (arith, more, h.within);
-        filled = λ k i.
-            each_place k (λ c. IsFilled m (descriptor_at l k) c (piece_at here k)) (omega (arith, more, h.within, i))
-            (λ low. h.filled k i) (λ e. absurd (omega (arith, e, i, h.within)));
-        posted = λ k i j.
-            each_place k (λ c. IsPosted m (descriptor_at l k) c) j (h.posted k i)
-            (λ e. subst (λ x. IsPosted m (descriptor_at l x) b) (sym e) posted);
-      }
+  slots_more = grind (arith, common_steps)
 
 -- The descriptor at the first slot without a block names the one that was lent: a packet may be whole then.
 
@@ -183,13 +174,7 @@ many v blocks = length (take blocks v.named)
 
 -- the tail behind them is one of the ring's slots
 tail_low : (v : Receive) (blocks : ℕ) → IsRing (reach v) → tail_behind v.layout (many v blocks) < 65536
-tail_low v blocks ring =
-    let all = ap (λ (bs : List ℕ). length bs) (take-append-drop blocks v.named) in
-    let within : many v blocks ≤ length v.named =
-    omega (arith, all, length-append (take blocks v.named) (drop blocks v.named)) in
-    let below : tail_behind v.layout (many v blocks) < v.layout.size =
-    slot_below (reach v) (vacant v.layout + many v blocks) ring (omega (arith, within, reach_long v)) in
-    omega (arith, below, ring.few)
+tail_low v blocks ring = grind (arith, common_steps)
 
 -- the tail moves on over them, and so many packets are handed out
 module _ (v : Receive) (blocks packets : ℕ) where

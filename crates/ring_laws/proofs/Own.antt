@@ -10,10 +10,10 @@ use Rattle.history_laws.specs.Prelude.{bytes_in, ends_packet, is_done, read_at, 
 use Rattle.history_laws.specs.Prelude.{step_of}
 use Rattle.ring_laws.specs.ReceivePrelude.{IsOwn, Layout, LendsAnew, Looks, MovesNext, NamesNext, Packet, PeeksNext}
 use Rattle.ring_laws.specs.ReceivePrelude.{Receive, Stage, Told, block_at, descriptor_at, is_part}
-use Rattle.ring_laws.specs.ReceivePrelude.{left_of, reach, slot_at, took, vacant, wrapped}
+use Rattle.ring_laws.specs.ReceivePrelude.{left_of, reach, slot_at, took, vacant}
 use Rattle.nic_device.proofs.{DmaArena.Blocks.read_at_in, DmaArena.Bus.get-remove_other, DmaArena.Bus.of_some}
 use Rattle.nic_device.specs.DmaArena.Memory.{part}
-use Rattle.pmd_rx.proofs.{PmdSeam.Places.next_below, PmdSeam.Places.wrapped_next, PmdSeam.Rings.ring_block_apart}
+use Rattle.pmd_rx.proofs.{PmdSeam.Places.next_below, PmdSeam.Rings.ring_block_apart}
 use Rattle.pmd_rx.specs.{Receive.TakesNext, Receive.consumed, Wrong.is_healthy, Wrong.is_whole}
 use Rattle.history_laws.proofs.Lent.{anew_is_done, taken_is}
 use Rattle.ring_laws.proofs.Kept.{filled_stays, posted_block, posted_in, posted_stays, slot_below}
@@ -137,9 +137,7 @@ own_replies_are_healthy queue s out v e (gone, here, h) all own anew = healthy q
 -- The ring without its next slot.
 
 slot_on : (l : Layout) (k : ℕ) → l.next < l.size → k + 1 < l.size → slot_at (consumed l) k ≡ slot_at l (1 + k)
-slot_on l k next h =
-    wrapped_next l.size l.next k next (omega (arith, h))
-    ∙ ap (wrapped l.size) (let e : l.next + (k + 1) ≡ l.next + (1 + k) = omega arith in e)
+slot_on l k next h = grind arith
 
 -- the ring without its next slot
 module _ (m : Memory) (l : Layout) (here : List Piece) (ring : IsRing l) (h : HasSlots m l here)
@@ -222,15 +220,7 @@ module _ (l : Layout) (here : List Piece) (next : l.next < l.size) (room : lengt
   posted_less = omega (arith, length-drop 1 here, length-drop 1 l.blocks, within, some)
 
   pub set_up_on : (q : ReceiveQueue) → IsSetUp q l (length here) → IsSetUp q (consumed l) (length (drop 1 here))
-  set_up_on q up =
-      let e : 1 + length (drop 1 here) ≡ length here = omega (arith, length-drop 1 here, some) in
-      let f : 1 + length (drop 1 l.blocks) ≡ length l.blocks = omega (arith, length-drop 1 l.blocks, within, some) in
-      assumption (
-        up.head ∙ ap (slot_at l) (sym e)
-            ∙ sym (slot_on l (length (drop 1 here)) next (omega (arith, e, within, room))),
-        up.tail ∙ ap (slot_at l) (sym f)
-            ∙ sym (slot_on l (length (drop 1 l.blocks)) next (omega (arith, f, room))),
-      )
+  set_up_on q up = grind arith
 
 -- The block of the next slot is taken: its piece is the oldest that was written and not consumed.
 

@@ -2,7 +2,7 @@
 use Rattle.std.proofs.Common.{[], ◌*◌, ◌++◌, ◌+◌, ◌<◌, ◌∙◌, ◌∷◌, ◌≡◌, ◌≢◌, ◌≤◌, List, Some, ap, append_assoc, arith}
 use Rattle.std.proofs.Common.{drop, false, inl, inr, length, refl, subst, suc, sym, take, true, zero, ℕ}
 use Rattle.std.proofs.lemmas.List.{drop-append-le, get_or_append_left, length-append, length-take, map-append}
-use Rattle.std.proofs.{lemmas.Bool.cases_Bool, lemmas.Bool.cases_lt, lemmas.List.take-append-drop}
+use Rattle.std.proofs.{lemmas.Bool.cases_Bool, lemmas.List.take-append-drop}
 use Rattle.std.specs.Prelude.{is_some, slice_index_or}
 use Rattle.history_laws.specs.Prelude.{Block, Memory, State, TransmitQueue, staged_by, transmit_queue_of}
 use Rattle.ring_laws.specs.TransmitPrelude.{Kept, MayAccept, Outgoing, Segment, Sender, accepted_by, is_ring_block}
@@ -10,8 +10,7 @@ use Rattle.ring_laws.specs.TransmitPrelude.{no_segment, segment_at, segments_of}
 use Rattle.nic_device.proofs.{DmaArena.Blocks.read_at_in, DmaArena.Bus.get-insert_other, DmaArena.Bus.get-insert_same}
 use Rattle.nic_device.specs.DmaArena.Memory.{part}
 use Rattle.pmd_tx.specs.Sending.{MayLend, Part, paired, parts_for, parts_in, parts_of}
-use Rattle.pmd_tx.proofs.PmdSeam.Rings.{ring_block_none}
-use Rattle.ring_laws.proofs.Blocks.{has_lent-ring, has_lent-segment, shows-same, unlike}
+use Rattle.ring_laws.proofs.Blocks.{has_lent-segment, shows-same, unlike}
 use Rattle.ring_laws.specs.Agreeing.{ArePackets, IsCounted, IsCutOff, IsInTurn, IsLayout, IsReady, SendsInOrder}
 use Rattle.ring_laws.specs.Agreeing.{Shows, bytes_of, frame_ended, frames_from, staged_behind}
 use Rattle.std.specs.FinMap as fin
@@ -153,9 +152,7 @@ module _ (m : Memory) (v : Sender) (f : ℕ) (l : IsLayout v.layout) (c : IsCoun
 
     -- and none of the ring's
     beside : is_ring_block v.layout.ring v.layout.size x.block ≡ false
-    beside =
-        ring_block_none v.layout.ring v.layout.size x.block
-        (λ k below e. unlike v x.block (v.layout.ring + k) may.away (has_lent-ring v k below) (sym e))
+    beside = grind arith
 
     short : length x.part.bytes ≤ 2048
     short = omega (arith, may.whole, ap length may.bytes, length-take (length x.part.bytes) b.bytes)
@@ -176,12 +173,7 @@ module _ (m : Memory) (v : Sender) (f : ℕ) (l : IsLayout v.layout) (c : IsCoun
     -- each of them is one that was lent, or the new one
     each_now : (k : ℕ) (P : Segment → Type 0) → k < v.lent + 1 → (k < v.lent → P (segment_at v k)) → (k ≡ v.lent → P x)
         → P (segment_at w k)
-    each_now k P below was now = elim (cases_lt k v.lent) [
-      | inl lt ↦ subst P (sym (early k lt)) (was lt)
-      | inr le ↦
-          let e : k ≡ v.lent = omega arith in
-          subst P (sym (ap (λ (i : ℕ). slice_index_or ss i no_segment) e ∙ next)) (now e)
-    ]
+    each_now k P below was now = grind arith
 
     ready_now : (k : ℕ) → k < v.lent + 1 → IsReady lent v.layout.ring v.layout.size (segment_at w k)
     ready_now k below =

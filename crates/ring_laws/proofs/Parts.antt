@@ -1,8 +1,9 @@
 -- Parts of packets: what the driver saw of them, and how the pieces are cut behind those that were consumed.
 use Rattle.std.proofs.Common.{[], ◌++◌, ◌+◌, ◌<◌, ◌∙◌, ◌∷◌, ◌≡◌, ◌≤◌, Bool, List, ap, append_assoc, arith, cond, drop}
 use Rattle.std.proofs.Common.{false, length, refl, subst, sym, take, true, ℕ}
-use Rattle.std.proofs.lemmas.List.{append-nil, length-append, length_push, map-append}
+use Rattle.std.proofs.lemmas.List.{length-append, length_push}
 use Rattle.std.proofs.Math.Seq.{take-append-add, take-length}
+use Rattle.std.proofs.lemmas.Grind.{common_steps}
 use Rattle.history_laws.specs.Prelude.{Block, bytes_in, ends_packet}
 use Rattle.ring_laws.specs.ReceivePrelude.{Kept, Looks, Packet, Receive, Stage, Takes, Told, ended_of, kept_of, left_of}
 use Rattle.ring_laws.specs.ReceivePrelude.{next_stage, no_packet, records_of, took}
@@ -108,12 +109,7 @@ behind_open front p rest is = rw is refl
 -- a packet is whole behind some
 put_before : (hs : List Kept) (ws : List Packet) (p : Packet) (ks : List Kept)
     → (hs ++ records_of (ws ++ [])) ++ kept_of p ∷ ks ≡ (hs ++ records_of (ws ++ p ∷ [])) ++ ks
-put_before hs ws p ks =
-    let k : Kept = kept_of p in
-    ap (λ (xs : List Packet). (hs ++ records_of xs) ++ k ∷ ks) (append-nil ws)
-    ∙ sym (append_assoc (hs ++ records_of ws) (k ∷ []) ks)
-    ∙ ap (λ (xs : List Kept). xs ++ ks) (append_assoc hs (records_of ws) (k ∷ [])
-    ∙ ap (λ (xs : List Kept). hs ++ xs) (sym (map-append kept_of ws (p ∷ []))))
+put_before hs ws p ks = grind (arith, common_steps)
 
 -- the part of the next slot is taken
 module _ (out gone ps : List Piece) (v : Receive) (p : Piece) (t : Told) (b : Block)
@@ -205,22 +201,10 @@ first_seen seen here t ts are is = first_saw t ts here (subst (λ (xs : List Tol
 -- where the same packets are had, and the same parts are held, the driver's state beside them may change
 pub order_same : (out gone here : List Piece) (v w : Receive) → InOrder out v gone here → packets_had v ≡ packets_had w
     → still_held v ≡ still_held w → AreSeen w.seen here → IsAt w.stage w.seen w.held → InOrder out w gone here
-order_same out gone here v w o had still seen stage = record {
-  cut = λ rest. o.cut rest ∙ (λ k. had k ++ packets_behind (kept_of (still k)).bytes rest);
-  parts = o.parts ∙ ap (λ (p : Packet). length p.bufs) still;
-  full = ap (λ (p : Packet). length (bytes_of p.bufs)) (sym still) ∙ o.full ∙ ap (λ (p : Packet). p.len) still;
-  seen = seen;
-  stage = stage;
-  order = o.order;
-}
+order_same out gone here v w o had still seen stage = grind arith
 
 -- while nothing is held, what is seen may change
 pub none_held : (out gone here : List Piece) (v : Receive) (seen : List Told) (stage : Stage) → InOrder out v gone here
     → v.held ≡ no_packet → AreSeen seen here → IsAt stage seen v.held
     → InOrder out (record v { seen = seen; stage = stage }) gone here
-none_held out gone here v seen stage o none are at =
-    let left : (ts : List Told) → left_of ts v.held ≡ no_packet = λ ts. ap (left_of ts) none ∙ none_left ts in
-    let ended : (ts : List Told) → ended_of ts v.held ≡ [] = λ ts. ap (ended_of ts) none ∙ none_ended ts in
-    order_same out gone here v (record v { seen = seen; stage = stage }) o
-    (ap (λ (ps : List Packet). v.handed ++ records_of (v.whole ++ ps)) (ended v.seen ∙ sym (ended seen)))
-    (left v.seen ∙ sym (left seen)) are at
+none_held out gone here v seen stage o none are at = grind arith

@@ -1,6 +1,6 @@
 -- Each move of the driver's keeps what it and the device agree on, and its replies are those of a healthy queue.
 use Rattle.std.proofs.Common.{[], ◌++◌, ◌+◌, ◌-◌, ◌<◌, ◌∙◌, ◌∷◌, ◌≡◌, ◌≤◌, List, ap, arith, drop, length, refl}
-use Rattle.std.proofs.lemmas.List.{append-nil, drop-drop, get_or-drop, length-drop}
+use Rattle.std.proofs.lemmas.List.{append-nil, length-drop}
 use Rattle.std.proofs.{Common.subst, Common.sym, Common.true, Common.ℕ}
 use Rattle.std.specs.Prelude.{slice_index_or, ⊤}
 use Rattle.history_laws.specs.Prelude.{Block, Event, IsEvent, LeavesQueues, Memory, Outcome, State, TransmitQueue, Tx}
@@ -16,7 +16,7 @@ use Rattle.pmd_tx.{specs.Sending.reaped}
 use Rattle.history_laws.proofs.{Leaving.queues_left, Lent.anew_is_done, Lent.taken_is, Steady.up_kept}
 use Rattle.history_laws.proofs.DeviceLaws.Standing.{memory_rest}
 use Rattle.ring_laws.proofs.Advancing.{advance-stays-up, advance_one, ask_one, look, look_one, written_tail}
-use Rattle.ring_laws.proofs.Blocks.{descriptor-later, later-layout, ready_stays, slot-below, slot-later}
+use Rattle.ring_laws.proofs.Blocks.{descriptor-later, later-layout, ready_stays, slot-below}
 use Rattle.ring_laws.proofs.Ring.{Stays, same_stays, slot_poked}
 use Rattle.ring_laws.proofs.Packets.{count-accepted, counted-lent, early-accepted, known-accepted, sends-accepted}
 use Rattle.ring_laws.proofs.Sparing.{After, Keeps, based-after, never-shuts, spared_did, spares-keeps}
@@ -34,9 +34,7 @@ use Rattle.history_laws.specs.Sides as sides
 
 module _ (v : Sender) (g : ℕ) (l : IsLayout v.layout) (c : IsCounted v (g + 1)) where
   pub behind : (k : ℕ) → segment_at (reaped v) k ≡ segment_at v (k + 1)
-  behind k =
-      let x : 1 + k ≡ k + 1 = omega arith in
-      get_or-drop 1 v.outstanding k no_segment ∙ ap (λ (n : ℕ). segment_at v n) x
+  behind k = grind arith
 
   fewer : length (drop 1 v.outstanding) ≡ length v.outstanding - 1
   fewer = length-drop 1 v.outstanding
@@ -47,18 +45,9 @@ module _ (v : Sender) (g : ℕ) (l : IsLayout v.layout) (c : IsCounted v (g + 1)
   oldest : 0 < v.lent
   oldest = omega (arith, c.fetched_posted, c.posted_poked, c.poked_lent)
 
-  slot_is : (k j : ℕ) → j ≡ k + 1 → k < v.layout.size → slot_at (reaped v).layout k ≡ slot_at v.layout j
-  slot_is k j e h = slot-later v.layout l k h ∙ ap (slot_at v.layout) (sym e)
-
   pub set_up-reaped : (side : TransmitQueue) → IsSetUp side v.layout v.posted (g + 1)
       → IsSetUp side (reaped v).layout (v.posted - 1) g
-  set_up-reaped side u =
-      assumption (
-        u.head ∙ sym (slot_is g (g + 1) refl (omega (arith, posted))),
-        u.tail
-            ∙ sym (slot_is (v.posted - 1) v.posted (omega (arith, c.fetched_posted))
-            (omega (arith, c.posted_poked, c.poked_lent, c.lent_known, c.room))),
-      )
+  set_up-reaped side u = grind arith
 
   pub counted-reaped : IsCounted (reaped v) g
   counted-reaped = record {
@@ -74,9 +63,7 @@ module _ (v : Sender) (g : ℕ) (l : IsLayout v.layout) (c : IsCounted v (g + 1)
 
   -- the same are left
   pub dropped : drop (g + 1) v.outstanding ≡ drop g (drop 1 v.outstanding)
-  dropped =
-      let x : g + 1 ≡ 1 + g = omega arith in
-      ap (λ (n : ℕ). drop n v.outstanding) x ∙ sym (drop-drop g 1 v.outstanding)
+  dropped = grind arith
 
   -- memory without its block
 

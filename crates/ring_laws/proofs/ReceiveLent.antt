@@ -1,20 +1,18 @@
 -- The blocks that the driver has lent for receiving, after each of its calls.
-use Rattle.std.proofs.Common.{[], ◌&&◌, ◌++◌, ◌<◌, ◌||◌, ◌∙◌, ◌∷◌, ◌≡◌, ◌≢◌, Bool, List, ap, append_assoc, arith, cond}
+use Rattle.std.proofs.Common.{[], ◌++◌, ◌<◌, ◌||◌, ◌∙◌, ◌∷◌, ◌≡◌, ◌≢◌, Bool, List, ap, append_assoc, arith}
 use Rattle.std.proofs.Common.{drop, false, inl, inr, length, refl, sym, true, ℕ}
 use Rattle.std.proofs.lemmas.Bool.{eqb-true, ne_eqb, or_cases, or_from, or_right}
 use Rattle.std.specs.Prelude.{◌==◌, IsTrue, slice_index, suc}
-use Rattle.history_laws.specs.Prelude.{Block, Blocks, Event, Reply, State, ends_packet, is_done}
-use Rattle.history_laws.specs.Prelude.{second_half}
-use Rattle.ring_laws.specs.ReceivePrelude.{IsOwn, LendsAnew, Lent, Looks, NamesNext, PeeksNext, Receive, Stage}
-use Rattle.ring_laws.specs.ReceivePrelude.{Takes, Told, drive, fresh_of, is_part, names, next_stage, posts}
+use Rattle.std.proofs.lemmas.Grind.{common_steps}
+use Rattle.history_laws.specs.Prelude.{Block, Blocks, Event, Reply, State}
+use Rattle.ring_laws.specs.ReceivePrelude.{IsOwn, LendsAnew, Lent, NamesNext, PeeksNext, Receive, Stage}
+use Rattle.ring_laws.specs.ReceivePrelude.{Takes, Told, drive, names}
 use Rattle.ring_laws.specs.ReceivePrelude.{took}
-use Rattle.nic_device.proofs.Cases.{either_way}
-use Rattle.pmd_rx.specs.Receive.{CanLend, HasLent, LendsNext, lent_one, looked, moved, parts_first}
-use Rattle.pmd_rx.specs.{Keeping.fresh_block, Keeping.has_lent, Receive.posts_all}
-use Rattle.pmd_rx.specs.{Receive.posts_one, Receive.tail_behind}
+use Rattle.pmd_rx.specs.Receive.{CanLend, LendsNext, lent_one, looked, moved}
+use Rattle.pmd_rx.specs.{Keeping.fresh_block, Keeping.has_lent}
 use Rattle.history_laws.proofs.Lent.{Follows, follows_in, follows_known, only_lent_stays, or_swap}
 use Rattle.history_laws.specs.Lent.{LendsOneOf, LendsOwn, OnlyLent, either}
-use Rattle.ring_laws.proofs.Kept.{among, parted, posts_blocks, ring_of, slots_of}
+use Rattle.ring_laws.proofs.Kept.{among, parted, ring_of, slots_of}
 use Rattle.ring_laws.specs.{ReceiveLent.OwnLendsAreKnown, Steps.Each}
 use Rattle.nic_device.specs.declared.event.Event.TheVariants as event
 use Rattle.nic_device.specs.declared.event.Reply.TheVariants as reply
@@ -48,38 +46,14 @@ module _ (v : Receive) (n : ℕ) where
   abbrev Had : List ℕ → List ℕ → Bool
   Had slots fresh = among (slots ++ (fresh ++ ring_of v)) n
 
-  looked_fresh : (ends : Bool) → fresh_block (cond ends Takes Looks) ≡ []
-  looked_fresh true = refl
-  looked_fresh false = refl
-
   is_looked : (a : ℕ) → PeeksNext v a → (d : List ℕ) → has_lent (looked v d) n ≡ has_lent v n
-  is_looked a own d =
-      either_way (λ (w : Receive). has_lent w n ≡ has_lent v n)
-      (is_done (second_half d) && is_part v.layout.most (length v.seen) (second_half d)) _ _
-      (ap (Had (slots_of v)) (looked_fresh (ends_packet (second_half d)) ∙ ap fresh_block (sym own.stage))) refl
-
-  lent_block : (stage : Stage) → HasLent stage → fresh_block stage ≡ fresh_of stage ∷ []
-  lent_block (Lent b) lent = refl
-  lent_block other lent = absurd lent
-
-  next_fresh : (seen : List Told) → fresh_block (next_stage seen) ≡ []
-  next_fresh [] = refl
-  next_fresh (t ∷ seen) = refl
+  is_looked a own d = grind arith
 
   is_named : (a : ℕ) (bytes : List ℕ) → NamesNext v a bytes → has_lent (names v) n ≡ has_lent v n
-  is_named a bytes own =
-      let fresh = fresh_of v.stage ∷ [] in
-      (λ k. Had (sym (append_assoc v.layout.blocks v.named fresh) k) (next_fresh v.seen k))
-      ∙ ap (λ (xs : List ℕ). among xs n) (append_assoc (slots_of v) fresh (ring_of v))
-      ∙ ap (Had (slots_of v)) (sym (lent_block v.stage own.stage))
+  is_named a bytes own = grind (arith, common_steps)
 
   is_moved : (word : ℕ) → has_lent (moved v word) n ≡ has_lent v n
-  is_moved word =
-      let posted : (blocks packets : ℕ) → has_lent (posts v blocks packets) n ≡ has_lent v n =
-      λ blocks packets. ap (λ (xs : List ℕ). Had xs (fresh_block v.stage)) (sym (posts_blocks v blocks packets)) in
-      either_way (λ (w : Receive). has_lent w n ≡ has_lent v n)
-      (word == tail_behind v.layout (parts_first v.whole)) (posts_one v) (posts_all v)
-      (posted (parts_first v.whole) 1) (posted (length v.named) (length v.whole))
+  is_moved word = grind (arith, common_steps)
 
   -- without the first block
   took_has : (seen : List Told) (taken : ℕ) (b : Block) → v.stage ≡ Takes → taken ≡ slice_index v.layout.blocks 0

@@ -3,27 +3,28 @@ use Rattle.std.proofs.Common.{[], ◌*◌, ◌++◌, ◌+◌, ◌<◌, ◌^◌, 
 use Rattle.std.proofs.Common.{append_assoc, arith, false, inl, inr, length, refl, subst, sym, take, true, ℕ}
 use Rattle.std.proofs.lemmas.Bool.{cases_lt}
 use Rattle.std.proofs.lemmas.List.{get_or_append_left, get_or_push, length-take-le, length_push}
+use Rattle.std.proofs.lemmas.Grind.{common_steps}
 use Rattle.history_laws.specs.Prelude.{AreApart, Filled, IsSound, IsWhole, Memory, ReceiveQueue, Rest, Ring, RingFault}
 use Rattle.history_laws.specs.Prelude.{Rx, State, bytes_in, ends_packet, first_half, is_done}
 use Rattle.history_laws.specs.Prelude.{is_empty, is_outside, mode_in, moved_on, read_at, receive_queue_of}
 use Rattle.history_laws.specs.Prelude.{ring_of, second_half}
 use Rattle.ring_laws.specs.ReceivePrelude.{Layout, Lent, Receive, Stage, block_at, descriptor_at, reach}
-use Rattle.ring_laws.specs.ReceivePrelude.{slot_at, vacant, wrapped}
+use Rattle.ring_laws.specs.ReceivePrelude.{slot_at, wrapped}
 use Rattle.nic_device.proofs.RxRing.Fills.{driver_reads, fill_keeps_blocks, takes_piece, writes_inside_slot}
 use Rattle.nic_device.specs.RxRing.Fill.{Outcome, buffer_address, head_address}
 use Rattle.nic_device.proofs.{DmaArena.Blocks.is_lent_in, RxRing.Tests.fill_healthy}
 use Rattle.nic_device.specs.{DmaArena.Memory.SameLent, DmaRing.Ring.next_of, DmaRing.Ring.slots_of}
 use Rattle.nic_device.specs.{RxRing.Laws.IsHealthy, RxRing.Laws.TakesPiece}
-use Rattle.pmd_rx.proofs.PmdSeam.Places.{next_wrapped, wrapped_apart}
+use Rattle.pmd_rx.proofs.PmdSeam.Places.{next_wrapped}
 use Rattle.history_laws.specs.{Left.fill_on, Segments.piece_in}
 use Rattle.ring_laws.proofs.Kept.{filled_stays, posted_stays, stage_stays}
-use Rattle.ring_laws.proofs.Ring.{address_small, ends_apart, inside_of}
+use Rattle.ring_laws.proofs.Ring.{address_small, ends_apart}
 use Rattle.ring_laws.proofs.Ring.{Stays, buffer_and_slot, buffers_apart, slot_and_buffer, slot_lent, slots_apart}
 use Rattle.ring_laws.proofs.Kept.{buffer_even, named_kept, posted_below}
 use Rattle.ring_laws.specs.Joint.{HasSlots, Holds, IsFilled, IsPosted, IsRing, IsSetUp, StageHolds}
 use Rattle.ring_laws.specs.Steps.{IfFresh}
 use Rattle.pmd_rx.specs.PmdSeam.Slots.{descriptor_in}
-use Rattle.ring_laws.proofs.{Kept.posted_in, Kept.ring_low, Kept.slot_below, Kept.slot_low}
+use Rattle.ring_laws.proofs.{Kept.ring_low, Kept.slot_below, Kept.slot_low}
 use Rattle.ring_laws.proofs.{Parts.seen_longer}
 use Rattle.ring_laws.specs.Pieces.{Piece, no_piece, piece_at}
 
@@ -51,12 +52,7 @@ module _ {queue : ℕ} {s : State} {out : List Piece} {v : Receive} {gone here :
   HasRoom = length here < length v.layout.blocks
 
   inside : is_outside own.ring ≡ false
-  inside =
-      let head : slot_at l (length here) < l.size = slot_below l (length here) h.ring h.slots.within in
-      let tail : slot_at l (vacant v.layout) < l.size =
-      slot_below l (vacant v.layout) h.ring (posted_in v (vacant v.layout) (omega arith)) in
-      inside_of own.ring l.size h.side.sized
-      (subst (λ x. x < l.size) (sym h.side.head) head) (subst (λ x. x < l.size) (sym h.side.tail) tail)
+  inside = grind (arith, common_steps)
 
   pub head_is : head_address own.ring ≡ descriptor_at l (length here)
   head_is = address_small _ _ l.ring (slot_at l (length here)) h.side.base h.side.head
@@ -169,9 +165,7 @@ module _ (m n : Memory) (l : Layout) (here : List Piece) (p : Piece) (ring : IsR
     (room : length here < length l.blocks) (fill : Fills m n l (length here) p) where
   -- the slots beside it and their blocks stay
   slot_beside : (k : ℕ) → k < length l.blocks → k ≢ length here → slot_at l k ≢ slot_at l (length here)
-  slot_beside k i ne =
-      let free = ring.room in
-      wrapped_apart l.size l.next k (length here) ring.next (omega (arith, i, free)) (omega (arith, room, free)) ne
+  slot_beside k i ne = grind arith
 
   filled_more : (k : ℕ) → k < length (here ++ p ∷ []) → (k < length here) ⊎ (length here ≤ k)
       → IsFilled n (descriptor_at l k) (block_at l k) (piece_at (here ++ p ∷ []) k)

@@ -1,6 +1,6 @@
 -- A ring in memory, of either half of a driver: its descriptors, the blocks beside it, and what stays of both.
 use Rattle.std.proofs.Common.{◌%◌, ◌*◌, ◌+◌, ◌/◌, ◌<◌, ◌≡◌, ◌≢◌, ◌≤◌, List, ap, arith, false, inl, inr, length, refl}
-use Rattle.std.proofs.lemmas.Bool.{and_from, both_ways, cases_lt, eq-eqb, lt-ltb, not_from_false}
+use Rattle.std.proofs.lemmas.Bool.{and_from, both_ways, cases_lt, eq-eqb, not_from_false}
 use Rattle.std.proofs.{Common.subst, Common.sym, Common.true, Common.ℕ, Common.◌^◌}
 use Rattle.std.specs.Prelude.{◌==◌, IsTrue, is_some, ⊤}
 use Rattle.history_laws.specs.Prelude.{AreApart, Bytes, Done, IsWhole, LiesIn, Memory, Ring, State, gives, has_block}
@@ -9,7 +9,7 @@ use Rattle.history_laws.specs.Prelude.{is_outside, read_at, step_of, write_at}
 use Rattle.ring_laws.specs.TransmitPrelude.{EachRingBlock, is_ring_block}
 use Rattle.nic_device.proofs.DmaArena.Bus.{SameLent-write_at, read_at-write_at_apart, read_at-write_at_same}
 use Rattle.nic_device.proofs.{DmaArena.Blocks.is_lent_in, DmaArena.Inside.reads_its_block}
-use Rattle.pmd_rx.proofs.PmdSeam.Rings.{each_slot_block, ring_block_sides, slot_fits, slot_lies, slot_place}
+use Rattle.pmd_rx.proofs.PmdSeam.Rings.{each_slot_block, slot_fits, slot_lies, slot_place}
 use Rattle.pmd_rx.specs.PmdSeam.Slots.{descriptor_in}
 use Rattle.history_laws.proofs.Lent.{poked_is}
 use Rattle.nic_device.specs.declared.event.Event.TheVariants as event
@@ -28,17 +28,11 @@ slots_apart ring i j ne = elim (cases_lt i j) [ inl l ↦ inl (omega arith) | in
 
 pub buffer_and_slot : (b n ring size slot : ℕ) → is_ring_block ring size b ≡ false → n ≤ 2048 → slot < size
     → AreApart (2048 * b) n (descriptor_in ring slot) 16
-buffer_and_slot b n ring size slot other h l = elim (ring_block_sides ring size b other) [
-  | inl before ↦ inl (omega (arith, before, h))
-  | inr behind ↦ inr (omega (arith, behind, l))
-]
+buffer_and_slot b n ring size slot other h l = grind arith
 
 pub slot_and_buffer : (ring size slot b n : ℕ) → is_ring_block ring size b ≡ false → n ≤ 2048 → slot < size
     → AreApart (descriptor_in ring slot) 16 (2048 * b) n
-slot_and_buffer ring size slot b n other h l = elim (ring_block_sides ring size b other) [
-  | inl before ↦ inr (omega (arith, before, h))
-  | inr behind ↦ inl (omega (arith, behind, l))
-]
+slot_and_buffer ring size slot b n other h l = grind arith
 
 pub buffers_apart : (b n c k : ℕ) → b ≢ c → n ≤ 2048 → k ≤ 2048 → AreApart (2048 * b) n (2048 * c) k
 buffers_apart b n c k ne h l = elim (cases_lt b c) [ inl o ↦ inl (omega arith) | inr o ↦ inr (omega arith) ]
@@ -46,9 +40,7 @@ buffers_apart b n c k ne h l = elim (cases_lt b c) [ inl o ↦ inl (omega arith)
 -- A ring whose head and tail are slots of it: it isn't outside, and where it isn't empty they are two.
 
 pub inside_of : (r : Ring) (n : ℕ) → r.length ≡ 16 * n → r.head < n → r.tail < n → is_outside r ≡ false
-inside_of r n len head tail =
-    let slots : r.length / 16 ≡ n = omega (arith, len) in
-    rw (slots, lt-ltb r.head n head, lt-ltb r.tail n tail) refl
+inside_of r n len head tail = grind arith
 
 pub ends_apart : (r : Ring) → is_outside r ≡ false → is_empty r ≡ false → r.head ≢ r.tail
 ends_apart r inside some same =
@@ -79,8 +71,8 @@ module _ (ring size slot : ℕ) (below : slot < size) where
       ≡ gives Done (record s { memory = write_at s.memory (descriptor_in ring slot) bytes })
   slot_poked s bytes has = poked_is s (descriptor_in ring slot) bytes (aligned ring slot) (slot_lent s.memory has)
 
--- What stays from one memory to another: which of the ring's blocks are lent, these of its descriptors, and the bytes of
--- these of the blocks beside it.
+-- What stays from one memory to another: which of the ring's blocks are lent, these of its descriptors, and the bytes
+-- of these of the blocks beside it.
 
 pub record Stays (ring size : ℕ) (m n : Memory) (slots blocks : ℕ → Type 0) : Type 0 where
   pub has : EachRingBlock ring size (λ b. has_block n b ≡ has_block m b)

@@ -4,7 +4,7 @@ use Rattle.std.proofs.Common.{inl, inr, length, refl, subst, sym, true, ℕ}
 use Rattle.std.proofs.lemmas.Bool.{both_ways, cases_Bool, cases_lt, eq-eqb}
 use Rattle.std.proofs.lemmas.List.{append-nil, drop_more, get_or-set_same, nil_from_length}
 use Rattle.std.specs.Prelude.{if◌then◌else◌, ◌==◌, IsFalse, IsTrue}
-use Rattle.history_laws.specs.Prelude.{Block, Event, Fetched, IsEvent, LeavesBlock, Memory, Outcome, State}
+use Rattle.history_laws.specs.Prelude.{Block, Event, Fetched, IsEvent, LeavesBlock, Outcome, State}
 use Rattle.history_laws.specs.Prelude.{TransmitQueue, Tx, WritesNoSetting, after, done_descriptor}
 use Rattle.history_laws.specs.Prelude.{staged_by, transmit_queue_of, write_at}
 use Rattle.ring_laws.specs.TransmitPrelude.{Kept, Layout, Move, Segment, Sender, asking, descriptor_at, has_lent, moved}
@@ -22,9 +22,8 @@ use Rattle.ring_laws.proofs.{Fetching.slots, Fetching.small, Packets.frame_left}
 use Rattle.ring_laws.proofs.{Packets.some_left}
 use Rattle.ring_laws.specs.{Agreeing.SendsInOrder, Agreeing.frame_ended, Agreeing.frames_from}
 use Rattle.ring_laws.specs.{Agreeing.staged_behind, Laws.SparingEventsKeep, Laws.StepsOfQueueKeep}
-use Rattle.ring_laws.specs.{Sent.frames_added, Sent.sent_by, Sparing.Spares, Sparing.is_transmit_of}
+use Rattle.ring_laws.specs.{Sent.frames_added, Sent.sent_by, Sparing.Spares}
 use Rattle.nic_device.specs.declared.event.Event.TheVariants as event
-use Rattle.std.specs.FinMap as map
 
 -- What an event keeps that writes no setting.
 
@@ -163,13 +162,7 @@ module _ {s : State} {queue : ℕ} {sent : List (List ℕ)} {v : Sender} {f : �
 -- a side with the same ring, that writes its head to the same place, is set up alike
 pub set_up-same : (q r : TransmitQueue) (l : Layout) (n f : ℕ) → r.ring ≡ q.ring → r.writeback ≡ q.writeback
     → IsSetUp q l n f → IsSetUp r l n f
-set_up-same q r l n f ring back h = record {
-  base = ap (λ x. x.base) ring ∙ h.base;
-  length = ap (λ x. x.length) ring ∙ h.length;
-  head = ap (λ x. x.head) ring ∙ h.head;
-  tail = ap (λ x. x.tail) ring ∙ h.tail;
-  writeback = back ∙ h.writeback;
-}
+set_up-same q r l n f ring back h = grind arith
 
 -- a side that was cut off stays so while it is off and not wanted on
 pub cut_stays : (q r : TransmitQueue) (sent : List (List ℕ)) (left : List Segment) (ks : List Kept) → IsFalse r.on
@@ -266,10 +259,7 @@ module _ {s : State} {queue : ℕ} {sent : List (List ℕ)} {v : Sender} {f : �
 
       -- where it sends nothing the blocks that the driver has lent stay
       left_blocks : SendsNone queue s e → (number : ℕ) → IsTrue (has_lent v number) → LeavesBlock number s t
-      left_blocks none number is = elim (cases_Bool (is_transmit_of queue e)) as (λ _. LeavesBlock number s t) [
-        | inl own ↦ ap (λ (m : Memory). map.get m number) (none.memory own)
-        | inr other ↦ x.blocks other number is
-      ]
+      left_blocks none number is = grind arith
 
       by_deed : Deed Tx queue s e → Agrees t queue (sent ++ sent_by queue s e) v
       by_deed (Took y) = takes-keeps h e y x.made x.setting

@@ -1,10 +1,9 @@
 -- Which blocks the driver has lent to be sent, after each of its moves.
-use Rattle.std.proofs.Common.{[], ◌++◌, ◌+◌, ◌-◌, ◌<◌, ◌||◌, ◌∙◌, ◌∷◌, ◌≡◌, ◌≢◌, Bool, List, ap, arith, drop, false}
-use Rattle.std.proofs.Common.{inl, inr, length, refl, subst, suc, sym, take, true, zero, ℕ}
-use Rattle.std.proofs.lemmas.Bool.{eqb-true, or_cases, or_from, or_left, or_right}
+use Rattle.std.proofs.Common.{[], ◌++◌, ◌+◌, ◌<◌, ◌||◌, ◌∙◌, ◌∷◌, ◌≡◌, ◌≢◌, Bool, List, ap, arith, false}
+use Rattle.std.proofs.Common.{length, refl, subst, suc, sym, take, true, zero, ℕ}
 use Rattle.std.proofs.lemmas.List.{get_or-append-add, length-append, take-append-le}
 use Rattle.std.specs.{List.list_any, Prelude.◌==◌, Prelude.IsTrue, Prelude.slice_index_or}
-use Rattle.std.proofs.Math.Seq.{take-nil}
+use Rattle.std.proofs.lemmas.Grind.{common_steps}
 use Rattle.history_laws.specs.Prelude.{Block, Blocks, Event, Reply, State, after, has_block, reply_to}
 use Rattle.ring_laws.specs.TransmitPrelude.{Accepts, Advances, Asks, Elsewhere, IsOwn, Kept, Lends, Looks, MayAccept}
 use Rattle.ring_laws.specs.TransmitPrelude.{Move}
@@ -12,7 +11,7 @@ use Rattle.ring_laws.specs.TransmitPrelude.{Outgoing, Reaps, Segment, Sender, ac
 use Rattle.ring_laws.specs.TransmitPrelude.{moved}
 use Rattle.ring_laws.specs.TransmitPrelude.{no_segment, segment_at, segments_of}
 use Rattle.pmd_tx.specs.Sending.{MayLend, blocks_of, lent_more, reaped}
-use Rattle.history_laws.proofs.Lent.{Follows, follows_in, follows_known, only_lent_stays, or_swap, still_known}
+use Rattle.history_laws.proofs.Lent.{Follows, follows_in, follows_known, or_swap, still_known}
 use Rattle.history_laws.specs.Lent.{LendsOwn, OnlyLent, either}
 use Rattle.ring_laws.proofs.Packets.{length-segments, some-parts}
 use Rattle.ring_laws.specs.{Alone.LendsOneOf, TransmitHealthy.LendsAnew, TransmitLent.OwnLendsAreKnown}
@@ -41,22 +40,6 @@ among-more n (x ∷ ss) (suc k) below =
     ap (λ (b : Bool). n == x.block || b) (among-more n ss k (omega arith))
     ∙ or_swap (n == x.block) (n == (slice_index_or ss k no_segment).block) (among (take k ss) n)
 
-later_at : (n : ℕ) (ss : List Segment) (k : ℕ) → n ≢ (slice_index_or ss 0 no_segment).block
-    → among (take k ss) n ≡ true → among (take (k - 1) (drop 1 ss)) n ≡ true
-later_at n ss zero ne is = cc
-later_at n [] (suc k) ne is = cc
-later_at n (x ∷ ss) (suc k) ne is = elim (or_cases (n == x.block) (among (take k ss) n) is) [
-  | inl same ↦ absurd (ne (eqb-true n x.block same))
-  | inr later ↦ let e : k ≡ suc k - 1 = omega arith in subst (λ (j : ℕ). among (take j ss) n ≡ true) e later
-]
-
-before_at : (n : ℕ) (ss : List Segment) (k : ℕ) → among (take (k - 1) (drop 1 ss)) n ≡ true → among (take k ss) n ≡ true
-before_at n ss zero is = cc
-before_at n [] (suc k) is = absurd (let e = rw (take-nil {A = Segment} (suc k - 1)) at is in cc)
-before_at n (x ∷ ss) (suc k) is =
-    let e : suc k - 1 ≡ k = omega arith in
-    or_right (n == x.block) (among (take k ss) n) (subst (λ (j : ℕ). among (take j ss) n ≡ true) e is)
-
 module _ (v : Sender) (n : ℕ) where
   abbrev pub Has : Sender → Type 0
   Has w = has_lent v n ≡ true → has_lent w n ≡ true
@@ -68,12 +51,7 @@ module _ (v : Sender) (n : ℕ) where
   next_lent : (ss : List Segment) (ks : List Kept) (b : ℕ) → take v.lent ss ≡ take v.lent v.outstanding
       → v.lent < length ss → b ≡ (slice_index_or ss v.lent no_segment).block
       → has_lent (record v { outstanding = ss; lent = v.lent + 1; accepted = ks }) n ≡ (n == b || has_lent v n)
-  next_lent ss ks b same below next =
-      let e : v.lent + 1 ≡ suc v.lent = omega arith in
-      ap (λ (k : ℕ). own || among (take k ss) n) e
-      ∙ ap (λ (x : Bool). own || x) (among-more n ss v.lent below)
-      ∙ (λ i. own || (n == sym next i || among (same i) n))
-      ∙ or_swap own (n == b) (among (take v.lent v.outstanding) n)
+  next_lent ss ks b same below next = grind (arith, common_steps)
 
   pub more_is : (b : ℕ) → v.lent < length v.outstanding → b ≡ (segment_at v v.lent).block
       → has_lent (lent_more v) n ≡ (n == b || has_lent v n)
@@ -89,16 +67,10 @@ module _ (v : Sender) (n : ℕ) where
       (may.first.number ∙ ap (λ (x : Segment). x.block) (sym (first_at v p may.lent)))
 
   pub has_reaped : n ≢ (segment_at v 0).block → Has (reaped v)
-  has_reaped ne has = elim (or_cases own (among (take v.lent v.outstanding) n) has) [
-    | inl ring ↦ or_left own _ ring
-    | inr there ↦ or_right own _ (later_at n v.outstanding v.lent ne there)
-  ]
+  has_reaped ne has = grind arith
 
   reaped_had : has_lent (reaped v) n ≡ true → has_lent v n ≡ true
-  reaped_had has = elim (or_cases own (among (take (v.lent - 1) (drop 1 v.outstanding)) n) has) [
-    | inl ring ↦ or_left own _ ring
-    | inr there ↦ or_right own _ (before_at n v.outstanding v.lent there)
-  ]
+  reaped_had has = grind arith
 
 module _ (v : Sender) where
   follows : (m : Move) (e : Event Block) → IsOwn v m e → m ≢ Elsewhere → (r : Reply Block) (n : ℕ)
@@ -142,10 +114,7 @@ module _ (own others : Blocks) (s : State) (v : Sender)
 
     lends_anew : (x : Segment) (b : Block) → MayLend v x b → LendsOwn own others (event.Lend b)
         → has_block s.memory b.number ≡ false
-    lends_anew x b may is =
-        only_lent_stays.anew own (either (has_lent v) others) s b only is.0
-        (or_from (has_lent v b.number) (others b.number)
-        (subst (λ (n : ℕ). has_lent v n ≡ false) (sym may.number) may.away) is.1)
+    lends_anew x b may is = grind arith
 
     own_anew : (m : Move) (e : Event Block) → IsOwn v m e → LendsOwn own others e → LendsAnew s m e
     own_anew (Accepts p) (event.Lend b) may is = lends_anew (slice_index_or (segments_of p) 0 no_segment) b may.first is

@@ -74,8 +74,8 @@ SentIsPrefixOfTaken =
     IsLegal s h → MayRun queue v s (turns_of pass moves h) →
     IsPrefixOf (sent_in queue s h) (bytes_of (played_by v moves (calls_of pass h)).accepted)
 
--- a legal history from where device and driver agree with nothing sent yet, in which each turn leaves the queue alone or
--- is a move, and the driver's lends are of blocks that others leave alone
+-- a legal history from where device and driver agree with nothing sent yet, in which each turn leaves the queue alone
+-- or is a move, and the driver's lends are of blocks that others leave alone
 pub record IsOverAlone (w : Watched) (mine : Blocks) (s : State) (v : Sender) (ts : List Turn) : Type 0 where
   pub agreed : Agrees s w.queue [] v
   pub functions : w.vfs ≡ s.vfs

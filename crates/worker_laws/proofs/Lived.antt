@@ -257,9 +257,7 @@ module _ (w : Watched) (fifo : ℕ) (h : List Entry) {q : AtPort} {size frame : 
           subst (receive.IsPrefixOf (left_handed left))
           (ap (delivered w.queue origin) (sym in_parts)
           ∙ delivered_from w.queue origin x.before begun.0 both_off.back both_on.back
-          (subst (λ (l : List Entry). IsFalse (is_on (leads_to origin l).registers Rx w.queue)) (sym begun.1)
-          quieted.receive.off)
-          (subst (λ (s : State). IsTrue (is_on s.registers Rx w.queue)) there went_on.receives.on)
+          (rw begun.1 quieted.receive.off) (rw (← there) went_on.receives.on)
           ∙ ap (delivered w.queue (leads_to origin x.before)) (sym from_first))
           (left_handed_over_stop ended over)
 
@@ -269,8 +267,6 @@ module _ (w : Watched) (fifo : ℕ) (h : List Entry) {q : AtPort} {size frame : 
           subst (λ (sent : List (List ℕ)). transmit.IsPrefixOf sent (bytes_of (left_accepted left)))
           (ap (sent_since w.queue origin []) (sym in_parts)
           ∙ sent_from w.queue origin x.before begun.0 both_off.back both_on.back
-          (subst (λ (l : List Entry). IsFalse (is_on (leads_to origin l).registers Tx w.queue)) (sym begun.1)
-          quieted.transmit.off)
-          (subst (λ (s : State). IsTrue (is_on s.registers Tx w.queue)) there went_on.sends.on)
+          (rw begun.1 quieted.transmit.off) (rw (← there) went_on.sends.on)
           ∙ ap (sent_since w.queue (leads_to origin x.before) []) (sym from_first))
           (left_sent_over_stop ended over)

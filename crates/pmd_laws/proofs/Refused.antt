@@ -133,12 +133,8 @@ module _ (x : Refused) where
       let both : all.lays.calls ≡ x.since ++ x.rest =
       append_cancel_left old all.lays.calls (x.since ++ x.rest)
       (sym all.lays.made ∙ x.all ∙ append_assoc old x.since x.rest) in
-      let (last, so_far, more) = first_lays q Off all.last x.since x.rest
-      (subst (λ (cs : List Call). LaysOn q Off cs all.last) both all.lays.lays) in (
-        last,
-        lays_behind q Off last x.steps calls x.stepped
-            (subst (λ (cs : List Call). LaysOn q Off cs last) since_is so_far),
-      )
+      let (last, so_far, more) = first_lays q Off all.last x.since x.rest (rw (← both) all.lays.lays) in
+      (last, lays_behind q Off last x.steps calls x.stepped (rw (← since_is) so_far))
 
 pub refused_sends_nothing : RefusedSendsNothing
 refused_sends_nothing x =

@@ -254,19 +254,15 @@ module _ (w : Watched) (fifo : ℕ) (h : List Entry) {q : AtPort} {size frame : 
       pub handed_since : receive.IsPrefixOf (left_handed left)
           (delivered w.queue (leads_to origin x.before) (x.first ∷ x.behind))
       handed_since =
-          subst (receive.IsPrefixOf (left_handed left))
-          (ap (delivered w.queue origin) (sym in_parts)
-          ∙ delivered_from w.queue origin x.before begun.0 both_off.back both_on.back
-          (rw begun.1 quieted.receive.off) (rw (← there) went_on.receives.on)
-          ∙ ap (delivered w.queue (leads_to origin x.before)) (sym from_first))
-          (left_handed_over_stop ended over)
+          let same = delivered_from w.queue origin x.before begun.0 both_off.back both_on.back
+          (rw begun.1 quieted.receive.off) (rw (← there) went_on.receives.on) in
+          subst (λ (es : List Entry). receive.IsPrefixOf (left_handed left) (delivered w.queue (leads_to origin x.before) es))
+          (sym from_first) (rw (← same, in_parts) (left_handed_over_stop ended over))
 
       pub sent_on : transmit.IsPrefixOf (sent_since w.queue (leads_to origin x.before) [] (x.first ∷ x.behind))
           (bytes_of (left_accepted left))
       sent_on =
-          subst (λ (sent : List (List ℕ)). transmit.IsPrefixOf sent (bytes_of (left_accepted left)))
-          (ap (sent_since w.queue origin []) (sym in_parts)
-          ∙ sent_from w.queue origin x.before begun.0 both_off.back both_on.back
-          (rw begun.1 quieted.transmit.off) (rw (← there) went_on.sends.on)
-          ∙ ap (sent_since w.queue (leads_to origin x.before) []) (sym from_first))
-          (left_sent_over_stop ended over)
+          let same = sent_from w.queue origin x.before begun.0 both_off.back both_on.back
+          (rw begun.1 quieted.transmit.off) (rw (← there) went_on.sends.on) in
+          subst (λ (es : List Entry). transmit.IsPrefixOf (sent_since w.queue (leads_to origin x.before) [] es) (bytes_of (left_accepted left)))
+          (sym from_first) (rw (← same, in_parts) (left_sent_over_stop ended over))

@@ -11,7 +11,7 @@ use Rattle.pmd_laws.proofs.Prelude.{cond, delivered, extends, false, halted_of, 
 use Rattle.pmd_laws.proofs.Prelude.{left_accepted, left_handed, new_state, not, one_begins, option_map}
 use Rattle.pmd_laws.proofs.Prelude.{packets_if_any, parts, pieces, pieces_since, polled, quiet, receive_polled, refl}
 use Rattle.pmd_laws.proofs.Prelude.{sent_by, sent_is_counted, sent_since, since-append, start_goes_on, subst, sym, true}
-use Rattle.pmd_laws.proofs.DriverLaws.StopCalls.{prepared_adds}
+use Rattle.pmd_laws.proofs.Shifted.{prepared}
 use Rattle.pmd_laws.proofs.DriverLaws.Histories.{leads-append}
 use Rattle.pmd_laws.proofs.DriverLaws.SwitchedOff.{quieting_leads}
 use Rattle.pmd_laws.proofs.StopCalls.{stopped_ends}
@@ -120,10 +120,10 @@ module _ (w : Watched) (fifo : ℕ) (h : List Entry) {q : AtPort} {size frame : 
 
   up_goes : GoesOn up.receive.mid up.on.mid
   up_goes =
-      let (one, is, any) = prepared_adds up.receive.prepared in
-      let (two, then, some) = prepared_adds up.transmit.prepared in
-      goes_on up.receive.mid up.ready_made up.on.mid (one, is)
-      (goes_on up.ready_made up.both_made up.on.mid (two, then)
+      let one = prepared q _ _ _ _ _ _ _ up.receive.prepared in
+      let two = prepared q _ _ _ _ _ _ _ up.transmit.prepared in
+      goes_on up.receive.mid up.ready_made up.on.mid (one.since, one.made)
+      (goes_on up.ready_made up.both_made up.on.mid (two.since, two.made)
       (extends q (receive_polled true up.on.switched.0 ++ polled Tx true up.on.switched.1) up.both_made up.on.mid
       up.on.switched.3))
 

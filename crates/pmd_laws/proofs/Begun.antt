@@ -77,8 +77,7 @@ module _ {q : AtPort} {size frame : ℕ} {old : List Call} {a : Numbers} {new : 
       (ring_gone a up.receive.ring size up.ready_arena n up.receive.prepared.drawn
       (drawn_free up.ready_arena (ring_blocks up.transmit.ring size) up.both_arena n up.transmit.prepared.drawn
       ((ring_block_out up.transmit.ring size n).0 (lent_ring up.transmit n is))))
-      (subst (λ (m : ℕ). is_ring_block up.receive.ring size m ≡ true) same
-      (ring_block_is up.receive.ring size k below)))
+      (rw (← same) (ring_block_is up.receive.ring size k below)))
 
   pub halves_lent : (mine : Blocks) → EachRingBlock up.receive.ring size (λ n. IsTrue (mine n))
       → EachRingBlock up.transmit.ring size (λ n. IsTrue (mine n)) → AreLent mine first_halves
@@ -93,13 +92,13 @@ module _ {q : AtPort} {size frame : ℕ} {old : List Call} {a : Numbers} {new : 
   pub receive_lent : EachRingBlock up.receive.ring size (λ n. IsTrue (lent_by first_halves n))
   receive_lent k below =
       let n : ℕ = up.receive.ring + k in
-      subst (λ (r : Receive). IsTrue (lent_by (record { receive = r; transmit = t }) n)) (sym up.receive.fresh)
+      rw up.receive.fresh
       (or_left _ _ (ring_block_among up.receive.ring size n ∙ ring_block_is up.receive.ring size k below))
 
   pub transmit_lent : EachRingBlock up.transmit.ring size (λ n. IsTrue (lent_by first_halves n))
   transmit_lent k below =
       let n : ℕ = up.transmit.ring + k in
-      subst (λ (s : Sender). IsTrue (lent_by (record { receive = v; transmit = s }) n)) (sym up.transmit.fresh)
+      rw up.transmit.fresh
       (or_right _ _
       (or_left (is_ring_block up.transmit.ring size n) _ (ring_block_is up.transmit.ring size k below)))
 

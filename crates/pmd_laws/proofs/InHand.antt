@@ -6,7 +6,7 @@ use Rattle.pmd_laws.proofs.Prelude.{[], ◌++◌, ◌<◌, ◌==◌, ◌||◌, �
 use Rattle.pmd_laws.proofs.Prelude.{LeadsTo, LeavesAlone, LeavesAloneFrom, List, State, WasTold, ℕ, after, ap}
 use Rattle.pmd_laws.proofs.Prelude.{arith, call_in, calls_joined, calls_of, calls_other, calls_own, cases_Bool}
 use Rattle.pmd_laws.proofs.Prelude.{entries_in, events-append, false, has_begun, inl, inr, leads-append, leads_to, led}
-use Rattle.pmd_laws.proofs.Prelude.{legal-append, length, map-append, marked_entries, own_calls, refl, subst, sym, true}
+use Rattle.pmd_laws.proofs.Prelude.{legal-append, length, map-append, marked_entries, own_calls, refl, sym, true}
 
 history : (s : State) (queue : ℕ) (before h : List Entry) (calls : List Call) (device : State) → queue < 128
     → WasMade s before → LeadsTo (leads_to s before) h device → calls_of 0 h ≡ calls
@@ -71,8 +71,7 @@ own_behind (x ∷ before) calls (y ∷ b) e after none is begun =
     let other = not_first x before none in
     let same : x.pass ≡ y.pass = ap first_pass is in
     let begun_there : (false || has_begun 0 b) ≡ true =
-    subst (λ (o : Bool). (o || has_begun 0 b) ≡ true)
-    (sym (ap (λ (n : ℕ). n == 0) same) ∙ other) begun in
+    rw (← same, other) at begun in
     own_behind before calls b e after (sym (calls_other 0 x before other) ∙ none) (ap behind_first is) begun_there
 
 own_left : (s : State) (queue : ℕ) (before : List Entry) (calls : List Call) → calls_of 0 before ≡ []

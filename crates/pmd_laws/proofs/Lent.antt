@@ -177,9 +177,7 @@ module _ (w : Watched) (origin : State) (h : List Entry) (q : AtPort) (old first
         subst (Each (λ d. IsRising q lent d.event))
         (sym (calls_own w.pass x.entry x.behind (eq-eqb x.entry.pass w.pass x.own) ∙ (λ i. x.call i ∷ x.later i)))
         rising in
-        subst (λ (z : State). OnlyLent own lent z.memory)
-        (sym (leads-append origin x.before es) ∙ ap (leads_to origin) x.all)
-        (λ n is has. lent_is q lent w.pass es are n (then n is has))
+        rw (← x.all, leads-append origin x.before es) (λ n is has. lent_is q lent w.pass es are n (then n is has))
 
     lent_at : (new : List Call) → Rises q lent first new → AtCalls w origin h new (λ s. OnlyLent own lent s.memory)
     lent_at new rises done rest all calls =

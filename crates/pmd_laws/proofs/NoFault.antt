@@ -9,7 +9,7 @@ use Rattle.pmd_laws.specs.Told.{now}
 use Rattle.pmd_laws.proofs.Lent.{known_at, others_before, others_behind, short_at, short_by}
 use Rattle.pmd_laws.proofs.Told.{added, added_is, goes, led, life, up_next}
 use Rattle.pmd_laws.proofs.Order.{On, begun, driven_by, first, last_before, on_before}
-use Rattle.pmd_laws.proofs.Prelude.{[], ◌++◌, ◌∙◌, ◌∷◌, ◌≡◌, AllLendApart, AllOwn, AreShort, BeforeLast, Blocks, Call}
+use Rattle.pmd_laws.proofs.Prelude.{[], ◌++◌, ◌∙◌, ◌∷◌, ◌≡◌, AllLendApart, AllOwn, BeforeLast, Blocks, Call}
 use Rattle.pmd_laws.proofs.Prelude.{Course, DeviceFault, Doer, DrivesApart, DrivesRings, Elsewhere, Entry, FailedAmid}
 use Rattle.pmd_laws.proofs.Prelude.{FindsBy, FindsFault, Halves, IfErr, IfSome, IsFresh, LeadsApart, List}
 use Rattle.pmd_laws.proofs.Prelude.{NoBurstMeetsFault, NoCallFindsFault, None, OnlyPassLends, Option, OthersHarmless}
@@ -106,8 +106,7 @@ module _ {c : Course} (x : On c) (own : Blocks)
               (own_length (first x) doers (calls_of w.pass rest) did) harmless
               (others_harmless _ (made f) (others_step f)));
           short =
-              subst (λ (most : ℕ). AreShort w.queue most (leads_to origin front))
-              (sym (ap (λ (r : Receive). r.layout.most) x.up.receive.fresh))
+              rw (ap (λ (r : Receive). r.layout.most) x.up.receive.fresh)
               (short_by w.queue q frame (leads_to origin front) short.0 short.1);
           known =
               known_at x own (λ before behind e split mine is. (fresh before behind e split mine is).none) others front

@@ -9,7 +9,7 @@ use Rattle.pmd_laws.proofs.Begun.{first_halves, halves_apart, halves_lent}
 use Rattle.pmd_laws.proofs.Prelude.{[], ◌++◌, ◌∙◌, ◌∷◌, ◌≡◌, ◌≢◌, AllOwn, AreEvents, AreLent, AreOn, BeforeLast}
 use Rattle.pmd_laws.proofs.Prelude.{BothAgree, Call, Course, Dir, Doer, Entry, FindsNone, Halves, HasGround, IsAlong}
 use Rattle.pmd_laws.proofs.Prelude.{IsLegal, IsPrefixOf, IsSettled, IsUp, Leads, LeavesAloneFrom, Life, List}
-use Rattle.pmd_laws.proofs.Prelude.{OthersHarmless, Parts, Piece, Receive, Rx, Sender, ShowsNone, State, Tx, Watched}
+use Rattle.pmd_laws.proofs.Prelude.{OthersHarmless, Parts, Receive, Rx, Sender, ShowsNone, State, Tx, Watched}
 use Rattle.pmd_laws.proofs.Prelude.{WentOn, ℕ, ap, append_assoc, beginning_alone, bytes_of, calls_of, counted_where_up}
 use Rattle.pmd_laws.proofs.Prelude.{delivered, drives_lead, halves_of, handed_is_prefix, harmless_leave_alone}
 use Rattle.pmd_laws.proofs.Prelude.{idle_is_all_sent, inl, leads-append, leads_on, leads_to, led, lent_by, none_is_all}
@@ -135,8 +135,7 @@ module _ {c : Course} (x : Ran c) where
 
     pub sent_first : IsPrefixOf (sent_since w.queue origin [] h) (bytes_of k.transmit.accepted)
     sent_first =
-        subst (λ (xs : List (List ℕ)). IsPrefixOf xs (bytes_of k.transmit.accepted)) (sym (counted in_parts))
-        (in_all (λ z g. IsPrefixOf (sent in_parts) (bytes_of z.transmit.accepted))
+        rw (counted in_parts) (in_all (λ z g. IsPrefixOf (sent in_parts) (bytes_of z.transmit.accepted))
         (sent_is_prefix w origin in_parts.front back (first x.there) goes.0 (driven in_parts)))
 
     pub idle : k.transmit.outstanding ≡ [] → bytes_of k.transmit.accepted ≡ sent_since w.queue origin [] h
@@ -157,11 +156,7 @@ module _ {c : Course} (x : Ran c) where
 
     pub agree : BothAgree w.queue (leads_to origin h) (pieces_in w.queue start back)
         (sent_since w.queue origin [] h) k
-    agree =
-        let out : List Piece = pieces_in w.queue start back in
-        subst (λ (s : State). BothAgree w.queue s out (sent_since w.queue origin [] h) k) there_is
-        (subst (λ (xs : List (List ℕ)). BothAgree w.queue (leads_to start back) out xs k) (sym (counted in_parts))
-        ends.both)
+    agree = rw (← there_is, counted in_parts) ends.both
 
     pub settled : (dir : Dir) → IsSettled dir w.queue (leads_to origin h)
     settled Rx = inl (subst (received.IsUp w.queue) there_is (ends.receives (went_on in_parts).receives)).on

@@ -133,11 +133,9 @@ module _ {c : Course} (x : Ran c) where
   placed : ArePlaced q (first x.there)
   placed = record {
     receive =
-        subst (λ (z : Receive). NamesDriven q z.layout.port z.layout.tail) (sym up.receive.fresh)
-        (_, refl, refl, up.receive.named);
+        rw up.receive.fresh (_, refl, refl, up.receive.named);
     transmit =
-        subst (λ (z : Sender). NamesDriven q z.layout.port z.layout.tail) (sym up.transmit.fresh)
-        (_, refl, refl, up.transmit.named);
+        rw up.transmit.fresh (_, refl, refl, up.transmit.named);
   }
 
   pub ground_ran : calls_of w.pass h ≡ x.new → HasGround w.queue q frame (leads_to origin h)

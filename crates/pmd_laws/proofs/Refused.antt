@@ -7,9 +7,9 @@ use Rattle.pmd_laws.specs.Refused.{LeftOfRefusedIsPrefix, Refused, RefusedSendsN
 use Rattle.pmd_laws.proofs.Laid.{LaysSome, LaysTo, Stays, first_lays, going_on_fails, lays_behind, prepared_lays}
 use Rattle.pmd_laws.proofs.Laid.{preparing_lays, receive_fails, receive_ready, stay, then_lays, then_some}
 use Rattle.pmd_laws.proofs.Prelude.{[], ◌&&◌, ◌++◌, ◌∙◌, ◌∷◌, ◌≡◌, AtPort, Block, Bool, Call, ComesDown, Each, Empty}
-use Rattle.pmd_laws.proofs.Prelude.{Entry, Err, Event, GoingOnFails, Halted, IsEnding, IsHalfStarted, IsHome}
+use Rattle.pmd_laws.proofs.Prelude.{Entry, Err, Event, Halted, IsEnding, IsHalfStarted, IsHome}
 use Rattle.pmd_laws.proofs.Prelude.{IsLeftWith, IsShut, Laid, LaysOn, List, MayAsk, NeverLived, None, Numbers, Off}
-use Rattle.pmd_laws.proofs.Prelude.{Option, PmdFault, Receive, Rest, Rx, Rxdctl, Some, StartRefused, State}
+use Rattle.pmd_laws.proofs.Prelude.{Option, PmdFault, Rest, Rx, Rxdctl, Some, StartRefused, State}
 use Rattle.pmd_laws.proofs.Prelude.{StopsStarting, Tx, Txdctl, ℕ, and_parts, ap, append_assoc, append_cancel_left}
 use Rattle.pmd_laws.proofs.Prelude.{bytes_of, call_in, calls_joined, calls_of, calls_own, cond, delivered, eq-eqb}
 use Rattle.pmd_laws.proofs.Prelude.{false, has_bit, inl, inr, is_size, last, leads_to, left, most_blocks, named}
@@ -28,8 +28,7 @@ starting_lays {size = size} {a = a} {e = e} is (inl x) = receive_fails e.fault s
 starting_lays {size = size} {e = e} is (inr (inl x)) =
     then_some (receive_ready is x.receive) (preparing_lays e.fault Tx size x.ready_arena x.arena x.out is x.fails)
 starting_lays {q = q} {size = size} {frame = frame} {new = new} {e = e} is (inr (inr x)) =
-    let fails = subst
-    (λ (v : Receive). GoingOnFails e.fault q x.both_made x.both_arena v new x.arena x.filled) x.receive.fresh x.fails in
+    let fails = rw x.receive.fresh at x.fails in
     record {
       last = Empty;
       lays =
@@ -100,7 +99,7 @@ module _ (q : AtPort) (size frame : ℕ) (old : List Call) (a : Numbers) (e : St
       record {
         last = Off;
         lays =
-            subst (λ (made : List Call). LaysTo q Off made new Off) none (home_lays a e.rest x.made new left home x.down);
+            rw (← none) (home_lays a e.rest x.made new left home x.down);
       }
 
 -- where nothing is sent at all, nothing is counted
@@ -134,12 +133,8 @@ module _ (x : Refused) where
       let both : all.lays.calls ≡ x.since ++ x.rest =
       append_cancel_left old all.lays.calls (x.since ++ x.rest)
       (sym all.lays.made ∙ x.all ∙ append_assoc old x.since x.rest) in
-      let (last, so_far, more) = first_lays q Off all.last x.since x.rest
-      (subst (λ (cs : List Call). LaysOn q Off cs all.last) both all.lays.lays) in (
-        last,
-        lays_behind q Off last x.steps calls x.stepped
-            (subst (λ (cs : List Call). LaysOn q Off cs last) since_is so_far),
-      )
+      let (last, so_far, more) = first_lays q Off all.last x.since x.rest (rw (← both) all.lays.lays) in
+      (last, lays_behind q Off last x.steps calls x.stepped (rw (← since_is) so_far))
 
 pub refused_sends_nothing : RefusedSendsNothing
 refused_sends_nothing x =

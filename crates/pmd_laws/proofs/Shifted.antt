@@ -155,7 +155,7 @@ lends : (ns : List ℕ) → Shift (λ o n. LendsEach o n ns)
 lends [] = none
 lends (n ∷ ns) = then (adds _ _) (lends ns)
 
-prepared : (q : AtPort) (side : Dir) (size : ℕ) (a b : Numbers) (ring : ℕ)
+pub prepared : (q : AtPort) (side : Dir) (size : ℕ) (a b : Numbers) (ring : ℕ)
     → Shift (λ o n. IsPrepared q side size o a n b ring)
 prepared q side size a b ring old new x =
     joined (accesses q _ old x.mid x.words) (lends _ x.mid new x.lent)

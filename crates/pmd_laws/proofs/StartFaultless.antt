@@ -112,7 +112,7 @@ module _ (x : BeginsApart) where
   none_before : (b : Numbers) (out : List ℕ) → ReceiveFails DeviceFault q size old a new b out
       → NoneIsLent w origin h new b
   none_before b out (inl (stops, same, empty)) =
-      subst (λ (z : Numbers). NoneIsLent w origin h new z) (sym same) (none_quieting stops)
+      rw same (none_quieting stops)
   none_before b out (inr (mid, made, fails)) =
       undrawn b out made.0 made.1 (preparing_drawn DeviceFault q Rx size mid a new b out fails)
       (preparing_rise q (among out) made.0 Rx size mid a new b out (among_times out)

@@ -136,9 +136,7 @@ module _ (w : Watched) (origin : State) (q : AtPort) (frame : ℕ) where
             kept = keeps_on done e n.moves x.kept;
             out = n.out;
             both =
-                subst (λ (u : State). BothAgree w.queue u n.out (sent now) k) (sym (reached_next w origin done e))
-                (subst (λ (xs : List (List ℕ)). BothAgree w.queue (after (reached w origin done) e.event) n.out xs k)
-                (sym counted) n.both);
+                rw (reached_next w origin done e, counted) n.both;
             lent = x.lent;
           }
 
@@ -166,7 +164,7 @@ module _ (w : Watched) (origin : State) (q : AtPort) (frame : ℕ) where
             moves = ending_moves s e met made (side, refl, none, named) x.kept.ground x.kept.settled;
             out = x.out;
             both =
-                subst (λ (xs : List (List ℕ)). BothAgree w.queue (after s e) x.out xs k) (sym (append-nil (sent done)))
+                rw (append-nil (sent done))
                 (enable_words_keep w.queue s side q.port number word x.out (sent done) k made names
                 (none_asks side word k none) x.both);
           }
@@ -229,8 +227,7 @@ module _ (x : Life) (new : List Call) (y : IsStopping x new) where
         out = _;
         both = agree r calls;
         lent =
-            subst (λ (g : List Entry). AreLent (lent_by w.pass g) k) all
-            (more_lent w.pass done rest k (ends r calls).lent);
+            rw (← all) (more_lent w.pass done rest k (ends r calls).lent);
       }
 
   over_stop : Here h
@@ -273,8 +270,7 @@ module _ (x : Life) (new : List Call) (y : IsStopping x new) where
   sent_stopped (inl asks) = prefix_at h (over_asks new asks h [] (append-nil h) y.calls)
   sent_stopped (inr z) =
       let p = parts w.pass h z.off z.ends.0 (y.calls ∙ z.ends.1) in
-      subst (λ (xs : List (List ℕ)). IsPrefixOf xs (bytes_of k.transmit.accepted))
-      (sym (silent_off z p.front p.back p.both p.fronts).sent)
+      rw ((silent_off z p.front p.back p.both p.fronts).sent)
       (prefix_at p.front (over_asks z.off (off_asks q made new z) p.front p.back p.both p.fronts))
 
 pub handed_over_stop : stopped.HandedIsPrefix

@@ -64,9 +64,7 @@ module _ (x : Life) (late rest : List Entry) (split : late ++ rest ≡ x.h) {the
       late_is : (P : Halves → State → Type 0) → P then (leads_to origin late)
           → P (played_by (first (begun x)) (whole later).0 (calls_of w.pass (p.back ++ more)))
           (leads_to origin (p.front ++ (p.back ++ more)))
-      late_is P holds =
-          subst (λ (z : Halves). P z (leads_to origin (p.front ++ (p.back ++ more)))) (sym (last_there (ran later) p_late))
-          (subst (λ (es : List Entry). P then (leads_to origin es)) (sym joined) holds)
+      late_is P holds = rw (last_there (ran later) p_late, joined) holds
 
       -- where a look there finds none, and hands out nothing, all was handed out that was delivered before
       none_sooner : FindsNone (leads_to origin late) then.receive → then.receive.handed ≡ k.receive.handed
@@ -117,7 +115,7 @@ module _ (x : Life) (old : List Call) {mid new now : List Call} (e : Event Block
   goes_up : Leads x.started (halves_of x.r) (calls_of x.w.pass at.before) then
   goes_up =
       let mine : List Call = x.made ++ drives.1 in
-      subst (λ (cs : List Call). Leads x.started (halves_of x.r) cs then) (sym ends.0)
+      rw ends.0
       (leads_on x.started mine till (halves_of x.r) then then
       (leads_on x.started x.made mine (halves_of x.r) x.k then x.is.since
       (drives_lead x.made mine x.k then (drives.0, drives.1, refl, drives.3, drives.4, drives.5)))

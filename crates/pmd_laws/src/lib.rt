@@ -1,7 +1,8 @@
 //! What a driver's whole life so far gives: it started, and since then it received and sent.
 //!
-//! Each law is the contract of a function that does nothing. `specs/Life` says what a life is by the calls of the
-//! driver's pass, `specs/Lends` which blocks it lends, and `specs/Told` what a life is by what the driver's calls tell.
+//! Each law is the contract of a function that does nothing. `specs/Course` says over what history a driver is started,
+//! and when packets and frames are in order there, `specs/Life` what a life is by the calls of the driver's pass,
+//! `specs/Lends` which blocks it lends, and `specs/Told` what a life is by what the driver's calls tell.
 //! `specs/InHand` says which history a device in hand has. `specs/Order` says what holds of a life over a history of a
 //! shared device, `specs/Faultless` that neither its start nor a call of its finds the device at fault, `specs/Looks`
 //! what holds where a look finds no packet, and `specs/Waits` where it finds one waiting; `specs/Places` says where its

@@ -77,7 +77,7 @@ end_of : (jobs : List Job) (ran : List WorkerEnd) (j : Job) (e : WorkerEnd) → 
 end_of [] ran j e are among = absurd among
 end_of (k ∷ jobs) [] j e are among = absurd among
 end_of (k ∷ jobs) (f ∷ ran) j e are (inl (one, two)) =
-    subst (λ (i : Job). IsEnd i e) (sym one) (subst (λ (g : WorkerEnd). IsEnd k g) (sym two) are.0)
+    rw (one, two) are.0
 end_of (k ∷ jobs) (f ∷ ran) j e are (inr more) = end_of jobs ran j e are.1 more
 
 -- a worker had a thread, or not

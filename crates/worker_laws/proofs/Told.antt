@@ -270,8 +270,7 @@ others_lend_none_is_alone w fifo old a h legal events others = (
       let known =
       told_through (λ known s. OnlyLent (is_own a) known s.memory) lent_behind IsEvent
       (λ known s e made told only.
-      subst (λ (r : Reply Block). OnlyLent (is_own a) (LentBehind (is_own a) known s only e.event r) (after s e.event).memory)
-      (sym told) (lent_here (is_own a) known s only e.event made))
+      rw told (lent_here (is_own a) known s only e.event made))
       no_block new x.before (legal_before new x.before rest (subst (IsLegal new) (sym x.all) legal))
       (events_before x.before rest (subst AreEvents (sym x.all) events)) (new_has_none (is_own a) w.vfs fifo) number own
       in
@@ -288,7 +287,6 @@ frames_fit_is_short w fifo old frame h legal fit =
     All-weaker (IsUpTo (longest_let_in x.before)) (FitsBlocks w.queue most) (λ w len own. omega (arith, len, few)) _
     (told_through (λ longest s. All (IsUpTo longest) s.waiting) longest_behind (λ e. ⊤)
     (λ longest s e any told all.
-    subst (λ (r : Reply Block). All (IsUpTo (max longest (let_in_by e.event r))) (after s e.event).waiting) (sym told)
-    (behind longest s all e.event)) 0 new x.before
+    rw told (behind longest s all e.event)) 0 new x.before
     (legal_before new x.before (x.first ∷ x.behind) (subst (IsLegal new) (sym x.all) legal)) (all_are x.before)
     (All-nil (IsUpTo 0))))

@@ -1,8 +1,8 @@
 -- What a driver has of an arena's blocks, over its calls.
-use Rattle.pmd.specs.Blocks.{KeepsBlocks, KeepsEach}
+use Rattle.pmd.specs.Blocks.{KeepsBlocks}
 use Rattle.pmd.specs.Halted.{all_out}
 use Rattle.pmd_laws.proofs.Prelude.{[], ◌++◌, ◌≡◌, Halted, HasAll, List, Numbers, Rings, ℕ, append_assoc, arith}
-use Rattle.pmd_laws.proofs.Prelude.{halted_of, keeps_beside, keeps_counted, keeps_then, subst, times-append}
+use Rattle.pmd_laws.proofs.Prelude.{halted_of, keeps_beside, keeps_counted, keeps_then, times-append}
 use Rattle.pmd_laws.proofs.Prelude.{times_in_hand}
 use Rattle.pmd_laws.proofs.calls_keep_the_books.Goals as goal
 
@@ -13,10 +13,7 @@ call_counted a old new given back rest keeps has =
     let k : Halted = halted_of new in
     let beside = keeps_beside h.arena k.arena (all_out h ++ given) (all_out k ++ back) rest keeps in
     keeps_then a h.arena k.arena [] (all_out h ++ (given ++ rest)) (all_out k ++ (back ++ rest)) has
-    (subst (λ (xs : List ℕ). KeepsEach h.arena xs k.arena (all_out k ++ (back ++ rest)))
-    (append_assoc (all_out h) given rest)
-    (subst (λ (ys : List ℕ). KeepsEach h.arena ((all_out h ++ given) ++ rest) k.arena ys)
-    (append_assoc (all_out k) back rest) beside))
+    (rw (← append_assoc (all_out h) given rest, ← append_assoc (all_out k) back rest) beside)
 
 order_counted : (a : Numbers) (h : Halted) (hand other : List ℕ)
     → ((number : ℕ) → times_in_hand hand number ≡ times_in_hand other number) → HasAll a h hand → HasAll a h other

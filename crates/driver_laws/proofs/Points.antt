@@ -6,8 +6,7 @@ use Rattle.std.proofs.lemmas.Bool.{eqb-true, or_cases}
 use Rattle.std.specs.List.{range_with_len}
 use Rattle.driver_laws.specs.Prelude.{Access, AreMade, AtPort, Blocks, Call, Dir, EachRingBlock, Entry, IsNumberOf}
 use Rattle.driver_laws.specs.Prelude.{IsPrepared, LendsEach, Numbers, RowId, Rx, Rxdctl, Sees, Sets, State, Tx, Txdctl}
-use Rattle.driver_laws.specs.Prelude.{Watched, after, blocks_for, call_in, call_of, enable_row, has_bit, is_on}
-use Rattle.driver_laws.specs.Prelude.{leads_to}
+use Rattle.driver_laws.specs.Prelude.{Watched, after, blocks_for, call_in, call_of, enable_row, has_bit, is_on, leads_to}
 use Rattle.driver_laws.specs.Prelude.{lent_by, pieces, pieces_since, ring_blocks, ring_words, sent_by, sent_since}
 use Rattle.driver_laws.specs.Prelude.{zero_block}
 use Rattle.driver_laws.proofs.Prelude.{AtEntries, IsAlong, IsKept, Leads, Sides, after_accesses, and_one}

@@ -6,8 +6,7 @@ use Rattle.std.proofs.lemmas.Bool.{cases_Bool, eqb-false}
 use Rattle.std.proofs.lemmas.List.{append-nil, append_cancel_left}
 use Rattle.driver_laws.specs.Prelude.{AtPort, Block, Blocks, Call, Entry, Event, IsEvent, Rx, State, Tx, Watched, after}
 use Rattle.driver_laws.specs.Prelude.{calls_of, is_on, leads_to, lent_by, pieces, pieces_since, sent_by, sent_since}
-use Rattle.driver_laws.proofs.Prelude.{IsAlong, IsEnding, IsMet, IsQuiet, calls_other, calls_own, idle_silent}
-use Rattle.driver_laws.proofs.Prelude.{left_deed}
+use Rattle.driver_laws.proofs.Prelude.{IsAlong, IsEnding, IsMet, IsQuiet, calls_other, calls_own, idle_silent, left_deed}
 use Rattle.driver_laws.proofs.Prelude.{no_block}
 use Rattle.nic_device.specs.declared.event.Event.TheVariants as event
 use Rattle.ring_laws.proofs.Delivering.{since-append}

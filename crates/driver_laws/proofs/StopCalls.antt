@@ -10,8 +10,7 @@ use Rattle.driver_laws.specs.Prelude.{Access, AreMade, AreSteps, AtPort, Block, 
 use Rattle.driver_laws.specs.Prelude.{EachRingBlock, Entry, Event, IsEvent, IsMade, IsNumberOf, IsPrepared, IsSwitched}
 use Rattle.driver_laws.specs.Prelude.{LendsEach, Numbers, PmdFault, Port, Reply, RowId, Rx, Sees, Sets, StartTimeout}
 use Rattle.driver_laws.specs.Prelude.{State, SwitchFails, Tx, Watched, blocks_for, both_asked, call_in, call_of}
-use Rattle.driver_laws.specs.Prelude.{enable_row, has_bit, is_step, lent_by, missed, polled, receive_polled}
-use Rattle.driver_laws.specs.Prelude.{ring_blocks}
+use Rattle.driver_laws.specs.Prelude.{enable_row, has_bit, is_step, lent_by, missed, polled, receive_polled, ring_blocks}
 use Rattle.driver_laws.specs.Prelude.{ring_words, zero_block}
 use Rattle.driver_laws.proofs.Prelude.{AllAre, AtEntries, IsAlong, IsEnding, and_one}
 use Rattle.device_lock.specs.Alone.{lends}

@@ -6,8 +6,7 @@ use Rattle.std.specs.Prelude.{IsFalse}
 use Rattle.std.proofs.lemmas.Bool.{both_ways}
 use Rattle.driver_laws.specs.Prelude.{Access, AreMade, AtPort, Block, Blocks, Call, Dir, Entry, Event, IsEvent, IsMade}
 use Rattle.driver_laws.specs.Prelude.{IsNumberOf, LeavesBlocks, LeavesRegisters, Reply, Rx, Rxdctl, Sees, Sets, Side}
-use Rattle.driver_laws.specs.Prelude.{State, Tx, Txdctl, Watched, after, enable_row, has_bit, is_step, leads_to}
-use Rattle.driver_laws.specs.Prelude.{lent_by}
+use Rattle.driver_laws.specs.Prelude.{State, Tx, Txdctl, Watched, after, enable_row, has_bit, is_step, leads_to, lent_by}
 use Rattle.driver_laws.specs.Prelude.{missed, mode_in, polled, quiet, receive_polled, reply_to, side_of}
 use Rattle.driver_laws.proofs.Prelude.{AllAre, AtCalls, HasGround, IsAlong, IsEnding, IsKept, IsMet, IsPlain, IsQuiet}
 use Rattle.driver_laws.proofs.Prelude.{Leads, NamesRow, left_deed, no_block, steady_kept}

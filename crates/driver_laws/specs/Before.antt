@@ -1,8 +1,7 @@
 -- Entries ahead of the place where the device agrees with both halves, as those of a driver's start.
 use Rattle.std.specs.Prelude.{ℕ, ◌≢◌, ◌*◌, ◌≤◌, List, [], ◌∷◌, All, ⊤}
 use Rattle.nic_device.specs.RegisterFile.Settings.{frame_limit}
-use Rattle.driver_laws.specs.Prelude.{State, after, WritesNoSetting, Blocks, lent_by, IsLegal, AreEvents, leads_to}
-use Rattle.driver_laws.specs.Prelude.{Entry, OnlyLent, FitsBlocks, LendsNone, either}
+use Rattle.driver_laws.specs.Prelude.{State, after, WritesNoSetting, Blocks, lent_by, IsLegal, AreEvents, leads_to, Entry, OnlyLent, FitsBlocks, LendsNone, either}
 
 -- the frames that wait for a queue fit so many blocks, and longer ones aren't let in
 pub record AreShort (queue most : ℕ) (s : State) : Type 0 where

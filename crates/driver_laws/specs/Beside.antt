@@ -1,7 +1,6 @@
 -- What the driver's pass may make beside the calls of the driver's halves: events that leave every queue alone.
 use Rattle.std.specs.Prelude.{ℕ, ◌≡◌, Bool, true, false, not, ◌&&◌, ⊤, IsTrue, List, [], ◌∷◌, ◌++◌, Option, Some, None}
-use Rattle.driver_laws.specs.Prelude.{Block, row_of, asks_pool_reset, State, Event, Reply, Blocks, calls_of, Watched}
-use Rattle.driver_laws.specs.Prelude.{Call, Entry, Adds, AllOwn, Doer, Halves, is_neither, played_by, Place}
+use Rattle.driver_laws.specs.Prelude.{Block, row_of, asks_pool_reset, State, Event, Reply, Blocks, calls_of, Watched, Call, Entry, Adds, AllOwn, Doer, Halves, is_neither, played_by, Place}
 use Rattle.nic_device.specs.RegTable.Place.{place_among}
 use Rattle.nic_device.specs.RegTable.Runs.{runs}
 use Rattle.nic_device.specs.VfMap.Owner.{is_receive, is_transmit}

@@ -1,7 +1,6 @@
 -- Words that are written to the enable registers of a driver's queue.
 use Rattle.std.specs.Prelude.{ℕ, ◌≡◌, true, List, [], ⊤}
-use Rattle.driver_laws.specs.Prelude.{has_bit, place, Dir, Rx, Tx, named, IsEvent, State, after, Port, Register, Piece}
-use Rattle.driver_laws.specs.Prelude.{Halves, enable_row}
+use Rattle.driver_laws.specs.Prelude.{has_bit, place, Dir, Rx, Tx, named, IsEvent, State, after, Port, Register, Piece, Halves, enable_row}
 use Rattle.nic_device.specs.declared.event.Event.TheVariants as event
 use Rattle.driver_laws.specs.Agreeing.{BothAgree}
 

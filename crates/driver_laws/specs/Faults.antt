@@ -1,7 +1,6 @@
 -- A driver's call that ends with the device at fault.
 use Rattle.std.specs.Prelude.{◌≡◌, List, [], ◌∷◌, ◌++◌}
-use Rattle.driver_laws.specs.Prelude.{State, Blocks, calls_of, Watched, Call, Entry, AllLendApart, FindsFault, Halves}
-use Rattle.driver_laws.specs.Prelude.{Doer, AllOwn, played_by, doers_other}
+use Rattle.driver_laws.specs.Prelude.{State, Blocks, calls_of, Watched, Call, Entry, AllLendApart, FindsFault, Halves, Doer, AllOwn, played_by, doers_other}
 use Rattle.driver_laws.specs.Healthy.{IsUnshared}
 
 -- whose the calls are that such a call makes: some of the halves, then some of neither, and last the one that got a

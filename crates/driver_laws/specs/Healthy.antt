@@ -1,7 +1,6 @@
 -- The replies to a driver's calls, over a history that leaves its queue alone: those of a healthy queue.
 use Rattle.std.specs.Prelude.{IsTrue, List, [], ◌∷◌, ⊤}
-use Rattle.driver_laws.specs.Prelude.{State, Blocks, calls_of, leads_to, Watched, Call, Entry, OnlyLent, AllLendApart}
-use Rattle.driver_laws.specs.Prelude.{Halves, Doer, after_call, either}
+use Rattle.driver_laws.specs.Prelude.{State, Blocks, calls_of, leads_to, Watched, Call, Entry, OnlyLent, AllLendApart, Halves, Doer, after_call, either}
 use Rattle.pmd.specs.PmdRx.Keeping as received
 use Rattle.pmd.specs.PmdTx.Sending as sending
 use Rattle.pmd.specs.Apart.{is_healthy}

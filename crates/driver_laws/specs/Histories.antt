@@ -1,9 +1,6 @@
 -- What a driver hands out and what it sends, over histories that leave its queue alone.
 use Rattle.std.specs.Prelude.{◌≡◌, ◌==◌, Bool, true, false, List, [], ◌∷◌, ◌++◌, Some, None, ⊤, IsTrue}
-use Rattle.driver_laws.specs.Prelude.{mode_in, IsSound, State, after, Blocks, LeavesRegisters, LeavesBlocks, lent_by}
-use Rattle.driver_laws.specs.Prelude.{IsLegal, AreEvents, calls_of, leads_to, Watched, Entry, Elsewhere, delivered}
-use Rattle.driver_laws.specs.Prelude.{pieces_since, LeavesAloneFrom, bytes_of, sent_in, sent_since, IsUp, Halves, Doer}
-use Rattle.driver_laws.specs.Prelude.{Sends, AllOwn, is_neither, played_by, records_of, FindsNone, ShowsNone}
+use Rattle.driver_laws.specs.Prelude.{mode_in, IsSound, State, after, Blocks, LeavesRegisters, LeavesBlocks, lent_by, IsLegal, AreEvents, calls_of, leads_to, Watched, Entry, Elsewhere, delivered, pieces_since, LeavesAloneFrom, bytes_of, sent_in, sent_since, IsUp, Halves, Doer, Sends, AllOwn, is_neither, played_by, records_of, FindsNone, ShowsNone}
 use Rattle.device_lock.specs.Alone.{has_begun}
 use Rattle.ring_laws.specs.Delivered as receive
 use Rattle.ring_laws.specs.ReceiveUp as receiving

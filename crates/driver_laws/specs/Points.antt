@@ -1,7 +1,6 @@
 -- How the sides of a queue stand at a point of a history, and how a driver's accesses move that on.
 use Rattle.std.specs.Prelude.{[], ⊤, ◌<◌, ◌∷◌, ◌≡◌, ◌≢◌, Bool, IsFalse, IsTrue, List, ℕ}
-use Rattle.driver_laws.specs.Prelude.{Access, AreMade, AtPort, Blocks, Call, Dir, Entry, RowId, Rxdctl, Sees, Sets}
-use Rattle.driver_laws.specs.Prelude.{Side}
+use Rattle.driver_laws.specs.Prelude.{Access, AreMade, AtPort, Blocks, Call, Dir, Entry, RowId, Rxdctl, Sees, Sets, Side}
 use Rattle.driver_laws.specs.Prelude.{State, Txdctl, Watched, frame_limit, lent_by, packet_limit}
 use Rattle.driver_laws.specs.Along.{AtCalls, IsAlong}
 use Rattle.driver_laws.specs.Moves.{MayGoOn, side_seen}

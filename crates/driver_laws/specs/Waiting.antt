@@ -1,7 +1,6 @@
 -- Before a look that finds a packet waiting not all that the driver accepted was sent.
 use Rattle.std.specs.Prelude.{◌≢◌, List, ◌++◌}
-use Rattle.driver_laws.specs.Prelude.{State, calls_of, leads_to, Watched, Entry, bytes_of, sent_in, Halves, Doer}
-use Rattle.driver_laws.specs.Prelude.{played_by}
+use Rattle.driver_laws.specs.Prelude.{State, calls_of, leads_to, Watched, Entry, bytes_of, sent_in, Halves, Doer, played_by}
 use Rattle.ring_laws.specs.Laws.{FindsWaiting}
 use Rattle.driver_laws.specs.Histories.{IsDriven}
 

@@ -1,8 +1,6 @@
 -- A driver beside whatever calls its author makes through the same way to the device, as those of a second driver.
 use Rattle.std.specs.Prelude.{ℕ, ◌≡◌, ◌≢◌, ◌<◌, ◌⊎◌, Bool, List, [], ◌∷◌, ◌++◌, length}
-use Rattle.driver_laws.specs.Prelude.{Numbers, IsSound, State, AreEvents, IsLegal, calls_of, leads_to, Watched, Call}
-use Rattle.driver_laws.specs.Prelude.{Entry, accepted_of, handed_of, halves_of, Running, Up, AtPort, LeavesAloneFrom}
-use Rattle.driver_laws.specs.Prelude.{delivered, bytes_of, sent_since, entries_in, marked_entries}
+use Rattle.driver_laws.specs.Prelude.{Numbers, IsSound, State, AreEvents, IsLegal, calls_of, leads_to, Watched, Call, Entry, accepted_of, handed_of, halves_of, Running, Up, AtPort, LeavesAloneFrom, delivered, bytes_of, sent_since, entries_in, marked_entries}
 use Rattle.pmd_laws.specs.Prelude.{BeforeLast, HasGround}
 use Rattle.pmd.specs.Life.{KeepsHalves}
 use Rattle.pmd.specs.Started.{HasStarted}

@@ -1,7 +1,6 @@
 -- A start of a driver behind and beside whatever calls of its author's, which finds no device at fault.
 use Rattle.std.specs.Prelude.{ℕ, ◌≡◌, ◌≢◌, List, ◌++◌}
-use Rattle.driver_laws.specs.Prelude.{Numbers, is_own, State, calls_of, Watched, Call, Entry, AreUp, Running}
-use Rattle.driver_laws.specs.Prelude.{StartRefused, AtPort, DeviceFault, StopsStarting}
+use Rattle.driver_laws.specs.Prelude.{Numbers, is_own, State, calls_of, Watched, Call, Entry, AreUp, Running, StartRefused, AtPort, DeviceFault, StopsStarting}
 use Rattle.pmd_laws.specs.Prelude.{BeforeNext, FaultsFilling}
 use Rattle.driver_laws.specs.Before.{OnlyPassLends}
 use Rattle.pmd_laws.specs.Beside.{IsRetold}

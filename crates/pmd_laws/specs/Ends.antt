@@ -1,7 +1,6 @@
 -- What a driver that lived, and was stopped, handed out and sent.
 use Rattle.std.specs.Prelude.{ℕ, ◌≡◌, List, [], ◌++◌, Option}
-use Rattle.driver_laws.specs.Prelude.{Numbers, State, calls_of, Watched, Call, Entry, left_accepted, left_handed, Rest}
-use Rattle.driver_laws.specs.Prelude.{PmdFault, AtPort, delivered, bytes_of, sent_since}
+use Rattle.driver_laws.specs.Prelude.{Numbers, State, calls_of, Watched, Call, Entry, left_accepted, left_handed, Rest, PmdFault, AtPort, delivered, bytes_of, sent_since}
 use Rattle.pmd_laws.specs.Prelude.{IsAlong, BeginsWell}
 use Rattle.pmd.specs.Life.{HasLived}
 use Rattle.driver_laws.specs.RingLaws.Delivered as receive

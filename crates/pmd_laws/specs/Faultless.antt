@@ -1,8 +1,6 @@
 -- A driver whose blocks nobody else lends: no call of its finds the device at fault, and nor does its start.
 use Rattle.std.specs.Prelude.{ℕ, IsTrue, IsFalse, List, ◌≡◌, ◌≢◌, ◌++◌, All, Option, Some, None, Result}
-use Rattle.driver_laws.specs.Prelude.{has_block, Numbers, is_own, State, Blocks, calls_of, Watched, Call, Entry}
-use Rattle.driver_laws.specs.Prelude.{WhereUp, halves_of, Running, StartRefused, most_blocks, PmdFault, DeviceFault}
-use Rattle.driver_laws.specs.Prelude.{Packet, AtPort, FitsBlocks, StopsStarting}
+use Rattle.driver_laws.specs.Prelude.{has_block, Numbers, is_own, State, Blocks, calls_of, Watched, Call, Entry, WhereUp, halves_of, Running, StartRefused, most_blocks, PmdFault, DeviceFault, Packet, AtPort, FitsBlocks, StopsStarting}
 use Rattle.pmd_laws.specs.Prelude.{BeforeLast, IsAlong, IsQuiet, BeforeNext, FaultsFilling}
 use Rattle.pmd.specs.Apart.{FindsBy}
 use Rattle.pmd.specs.Bursts.{IsSendBurst, SendsWith}

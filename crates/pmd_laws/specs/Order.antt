@@ -1,7 +1,6 @@
 -- What a driver handed out and what it sent in its life, over a history that leaves its queue alone.
 use Rattle.std.specs.Prelude.{◌≡◌, [], ◌++◌}
-use Rattle.driver_laws.specs.Prelude.{calls_of, leads_to, delivered, bytes_of, sent_since, records_of, FindsNone}
-use Rattle.driver_laws.specs.Prelude.{ShowsNone}
+use Rattle.driver_laws.specs.Prelude.{calls_of, leads_to, delivered, bytes_of, sent_since, records_of, FindsNone, ShowsNone}
 use Rattle.driver_laws.specs.RingLaws.Delivered as receive
 use Rattle.driver_laws.specs.RingLaws.Laws as transmit
 use Rattle.pmd_laws.specs.Life.{Life}

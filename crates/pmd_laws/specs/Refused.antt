@@ -1,8 +1,6 @@
 -- A driver whose start was refused, and what was sent on its queue meanwhile.
 use Rattle.std.specs.Prelude.{ℕ, ◌≡◌, List, [], ◌∷◌, ◌++◌}
-use Rattle.driver_laws.specs.Prelude.{Numbers, State, calls_of, leads_to, Watched, Call, Entry, left_accepted}
-use Rattle.driver_laws.specs.Prelude.{left_handed, Rest, StartRefused, AreSteps, AtPort, delivered, bytes_of, sent_in}
-use Rattle.driver_laws.specs.Prelude.{sent_since}
+use Rattle.driver_laws.specs.Prelude.{Numbers, State, calls_of, leads_to, Watched, Call, Entry, left_accepted, left_handed, Rest, StartRefused, AreSteps, AtPort, delivered, bytes_of, sent_in, sent_since}
 use Rattle.pmd_laws.specs.Prelude.{IsAlong, IsQuiet}
 use Rattle.pmd.specs.Life.{NeverLived}
 use Rattle.driver_laws.specs.RingLaws.Delivered as receive

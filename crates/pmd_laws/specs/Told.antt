@@ -1,8 +1,7 @@
 -- A driver's life as its calls tell it: what the clauses of `start`, `rx`, `tx`, `reap`, `rx_burst`, `tx_burst`,
 -- `packet` and `release` say of the driver, and of the calls that its pass made.
 use Rattle.std.specs.Prelude.{ℕ, ◌≡◌, ◌⊎◌, ⊤, List, [], ◌∷◌, ◌++◌}
-use Rattle.driver_laws.specs.Prelude.{Numbers, State, calls_of, Watched, Call, Entry, WhereUp, accepted_of, handed_of}
-use Rattle.driver_laws.specs.Prelude.{Rings, Up, Down, AtPort, delivered, bytes_of, sent_since}
+use Rattle.driver_laws.specs.Prelude.{Numbers, State, calls_of, Watched, Call, Entry, WhereUp, accepted_of, handed_of, Rings, Up, Down, AtPort, delivered, bytes_of, sent_since}
 use Rattle.pmd_laws.specs.Prelude.{IsAlong, BeginsWell}
 use Rattle.pmd.specs.Driver.{Driver}
 use Rattle.pmd.specs.Life.{RunsOn, KeepsHalves}

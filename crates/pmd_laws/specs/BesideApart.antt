@@ -1,8 +1,7 @@
 -- A driver beside whatever calls its author makes, of whose arena nobody else lends a block: no call of its finds the
 -- device at fault, and each block is in one place.
 use Rattle.std.specs.Prelude.{ℕ, ◌≡◌, IsTrue, List, ◌++◌, if◌then◌else◌}
-use Rattle.driver_laws.specs.Prelude.{has_block, is_free, is_own, calls_of, Call, halted_of, places_of, HasAll}
-use Rattle.driver_laws.specs.Prelude.{arena_of}
+use Rattle.driver_laws.specs.Prelude.{has_block, is_free, is_own, calls_of, Call, halted_of, places_of, HasAll, arena_of}
 use Rattle.pmd_laws.specs.Prelude.{BeforeLast}
 use Rattle.driver_laws.specs.Before.{OnlyPassLends}
 use Rattle.pmd_laws.specs.Beside.{Beside, IsToldBeside, now}

@@ -1,7 +1,6 @@
 -- What was made of a device in hand, over which the laws of a driver's life are said: a history of it.
 use Rattle.std.specs.Prelude.{ℕ, ◌≡◌, ◌<◌, List, [], ◌++◌}
-use Rattle.driver_laws.specs.Prelude.{IsSound, State, AreEvents, IsLegal, calls_of, leads_to, Watched, Call, Entry}
-use Rattle.driver_laws.specs.Prelude.{LeavesAloneFrom, entries_in, marked_entries}
+use Rattle.driver_laws.specs.Prelude.{IsSound, State, AreEvents, IsLegal, calls_of, leads_to, Watched, Call, Entry, LeavesAloneFrom, entries_in, marked_entries}
 use Rattle.pmd_laws.specs.Prelude.{IsAlong}
 use Rattle.device_lock.specs.Alone.{LeavesAlone}
 use Rattle.pmd.specs.PmdSeam.Begun.{From, began_handled, began_in_hand}

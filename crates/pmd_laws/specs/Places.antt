@@ -1,8 +1,7 @@
 -- Where the blocks of a driver are at the device: lent there are those that it has out with its halves, and of its
 -- arena's no others.
 use Rattle.std.specs.Prelude.{ℕ, ◌≡◌, Bool, false, IsTrue, List, ◌++◌, if◌then◌else◌}
-use Rattle.driver_laws.specs.Prelude.{Memory, has_block, Numbers, is_free, is_own, times_in_hand, State, leads_to}
-use Rattle.driver_laws.specs.Prelude.{Entry, halted_of, halves_of, Rings, Up, Down, Halted, places_of, HasAll, arena_of}
+use Rattle.driver_laws.specs.Prelude.{Memory, has_block, Numbers, is_free, is_own, times_in_hand, State, leads_to, Entry, halted_of, halves_of, Rings, Up, Down, Halted, places_of, HasAll, arena_of}
 use Rattle.pmd_laws.specs.Prelude.{BeforeLast}
 use Rattle.pmd.specs.Blocks.{KeepsBlocks}
 use Rattle.driver_laws.specs.Before.{OnlyPassLends}

@@ -25,6 +25,8 @@ use Rattle.driver_laws.proofs.{On.switched_sides_agree, On.switched_sides_go_on,
 use Rattle.driver_laws.proofs.{SwitchedOff.quiet_kept, Words.side_driven}
 use Rattle.nic_device.specs.declared.event.Event.TheVariants as event
 use Rattle.nic_device.specs.declared.event.Reply.TheVariants as reply
+use Rattle.std.proofs.Common.{arith}
+use Rattle.std.proofs.lemmas.Grind.{common_steps}
 
 -- an access by which a side is seen off, or asked to be
 abbrev IsQuieting : Access → Type 0
@@ -32,10 +34,7 @@ IsQuieting (Sees row on) = (side : Dir) × (row ≡ enable_row side) × (on ≡ 
 IsQuieting (Sets row word) = (side : Dir) × (row ≡ enable_row side) × IsFalse (has_bit 25 word)
 
 quieting : AllAre IsQuieting both_quiet
-quieting = (
-  (Rx, refl, refl),
-  ((Rx, refl, refl), ((Rx, refl, refl), ((Tx, refl, refl), ((Tx, refl, refl), ((Tx, refl, refl), tt))))),
-)
+quieting = grind (arith, common_steps)
 
 -- the register is one that a driver has
 quieting_driven : (row : RowId) (side : Dir) → row ≡ enable_row side → is_driven row ≡ true

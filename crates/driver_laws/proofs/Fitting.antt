@@ -32,6 +32,7 @@ use Rattle.ring_laws.proofs.ReceiveLent as receive_lent
 use Rattle.ring_laws.proofs.Playing as transmit
 use Rattle.ring_laws.proofs.TransmitLent as transmit_lent
 use Rattle.driver_laws.specs.Healthy as healthy
+use Rattle.std.proofs.lemmas.Grind.{common_steps}
 
 -- a driver takes as many blocks for a packet as before
 
@@ -142,10 +143,7 @@ none_apart own h e none = tt
 
 -- what either has lent, the other first
 swapped : (own xs ys : Blocks) (m : Memory) → OnlyLent own (either xs ys) m → OnlyLent own (either ys xs) m
-swapped own xs ys m only n is has = elim (or_cases (xs n) (ys n) (only n is has)) [
-  | inl first ↦ or_right (ys n) (xs n) first
-  | inr second ↦ or_left (ys n) (xs n) second
-]
+swapped own xs ys m only n is has = grind (arith, common_steps)
 
 module _ {w : Watched} {mine : Blocks} {s : State} {out : List Piece} {sent : List (List ℕ)} {h : Halves} (own : Blocks)
     (m : Meets w mine s out sent h) (known : OnlyLent own (healthy.lent_by h) s.memory) (e : Event Block) where

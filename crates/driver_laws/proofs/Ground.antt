@@ -1,8 +1,7 @@
 -- What a driver rests on beside its sides: port and queue name its queue, and frames are no longer than its packets.
 use Rattle.std.proofs.Common.{[], ◌*◌, ◌+◌, ◌<◌, ◌∙◌, ◌∷◌, ◌≡◌, ◌≢◌, Bool, List, None, Option, Some, ap, arith, false}
 use Rattle.std.proofs.Common.{if◌then◌else◌, inl, inr, nat_lt, refl, subst, sym, true, ℕ}
-use Rattle.std.proofs.lemmas.Bool.{both_ways, cond_both, lt-ltb, ltb-true}
-use Rattle.std.specs.Prelude.{◌&&◌}
+use Rattle.std.proofs.lemmas.Bool.{lt-ltb, ltb-true}
 use Rattle.nic_device.specs.{Access.named_read, Named.at_location, Named.at_place, VfMap.Map.behind, VfMap.Map.located}
 use Rattle.nic_device.specs.{VfMap.Pools.queues_of, VfMap.declared.mode.Mode.Mode}
 use Rattle.nic_device.proofs.VfMap.Queues.{few_queues, queue_registers}
@@ -11,16 +10,17 @@ use Rattle.driver_laws.specs.Numbers.{NamedQueueHasTheNumbers, NumbersName, queu
 use Rattle.driver_laws.specs.Prelude.{Access, AtPort, Block, Blocks, DeviceFault, Dir, Event, IsNumberOf, Pf, PmdFault}
 use Rattle.driver_laws.specs.Prelude.{Port, Rdbah, Rdbal, Rdh, Rdlen, Rdt, RowId, Rx, Rxdctl, Sees, Sets, Srrctl, State}
 use Rattle.driver_laws.specs.Prelude.{Tdbah, Tdbal, Tdh, Tdlen, Tdt, Tdwbal, Tx, Txdctl, Vf, Watched, after, both_asked}
-use Rattle.driver_laws.specs.Prelude.{enable_row, frame_limit, is_driven, is_frame, is_size, mode_in, place}
+use Rattle.driver_laws.specs.Prelude.{enable_row, frame_limit, is_driven, mode_in, place}
 use Rattle.driver_laws.specs.Prelude.{receive_polled, reply_to, ring_words}
 use Rattle.driver_laws.specs.{Gate.NamedQueuesPass, Replies.NamedRegistersReply, Replies.OffSidesAreSeenOff}
-use Rattle.driver_laws.proofs.Prelude.{AllAre, HasGround, IsKept, IsPlain, NamesRow, WritesNoSetting, has_room}
+use Rattle.driver_laws.proofs.Prelude.{AllAre, HasGround, IsKept, IsPlain, NamesRow, WritesNoSetting}
 use Rattle.driver_laws.proofs.Prelude.{is_receive, is_transmit, left_did, named_written, queues_named, settings_stand}
 use Rattle.driver_laws.proofs.Prelude.{stays_within, step_of, told_on}
 use Rattle.driver_laws.proofs.{Made.all_polled, Words.driven_plain, Words.ground, Words.settings, Words.side_driven}
 use Rattle.nic_device.specs.VfMap.declared.located.Located.TheVariants as located_as
 use Rattle.nic_device.specs.declared.event.Event.TheVariants as event
 use Rattle.nic_device.specs.declared.event.Reply.TheVariants as reply
+use Rattle.std.proofs.lemmas.Grind.{common_steps}
 
 -- what names a queue says
 pub some_where : {A : Type 0} (b : Bool) (o : Option A) (x : A) → (if b then o else None) ≡ Some x
@@ -102,10 +102,7 @@ ground_names queue q frame s g = named_queue_has_the_numbers s q queue g.names
 pub ground_same : (queue : ℕ) (q : AtPort) (frame : ℕ) (s t : State) → mode_in t.registers ≡ mode_in s.registers
     → t.vfs ≡ s.vfs → frame_limit t.registers ≡ frame_limit s.registers → HasGround queue q frame s
     → HasGround queue q frame t
-ground_same queue q frame s t mode vfs limit g = record {
-  names = (λ k. queue_at (mode k) (vfs k) q.port q.queue) ∙ g.names;
-  limit = limit ∙ g.limit;
-}
+ground_same queue q frame s t mode vfs limit g = grind (arith, common_steps)
 
 -- events that leave the queue alone
 pub ground_kept : (w : Watched) (mine : Blocks) (q : AtPort) (frame : ℕ) → IsKept w mine (HasGround w.queue q frame)
@@ -156,13 +153,7 @@ abbrev Passes : Option PmdFault → Type 0
 Passes g = g ≢ Some DeviceFault
 
 pub named_queues_pass : NamedQueuesPass
-named_queues_pass s a q size frame queue names =
-    cond_both (is_size size && is_frame frame) _ _ Passes
-    (λ sized. cond_both (has_room a size) _ _ Passes
-    (λ some. cond_both (nat_lt q.queue (queues_named q.port)) _ _ Passes (λ named is. cc)
-    (λ none. absurd (both_ways (nat_lt q.queue (queues_named q.port)) none (named_below s q.port q.queue queue names))))
-    (λ none is. cc))
-    (λ none is. cc)
+named_queues_pass s a q size frame queue names = grind (arith, common_steps)
 
 -- replies to a driver that starts
 

@@ -2,7 +2,6 @@
 use Rattle.std.proofs.Common.{[], ◌&&◌, ◌++◌, ◌∙◌, ◌∷◌, ◌≡◌, Bool, List, None, Some, ap, append_assoc}
 use Rattle.std.proofs.Common.{false, inl, length, nat_lt, refl, subst, sym, true, ℕ}
 use Rattle.std.proofs.lemmas.Bool.{and_from, eq-eqb, eqb-false, eqb-true, lt-ltb, or_left, or_right}
-use Rattle.std.proofs.lemmas.List.{append-nil}
 use Rattle.std.specs.Prelude.{◌==◌, IsTrue}
 use Rattle.pmd.specs.PmdSeam.Packet.{Kept}
 use Rattle.ring_laws.specs.{Alone.LendsOneOf, Delivered.IsPrefixOf, HistoryLaws.Alone.AllAlone, Laws.FindsWaiting}
@@ -25,6 +24,8 @@ use Rattle.nic_device.specs.declared.event.Reply.TheVariants as reply
 use Rattle.ring_laws.specs.Delivered as receive
 use Rattle.ring_laws.specs.ReceiveUp as received
 use Rattle.ring_laws.specs.Laws as transmit
+use Rattle.std.proofs.Common.{arith}
+use Rattle.std.proofs.lemmas.Grind.{common_steps}
 
 -- what the pass lends is among these blocks
 pub lends_mine : (pass : ℕ) (mine : Blocks) (own : ℕ) (e : Event Block) (r : Reply Block) → own ≡ pass → IsEvent e
@@ -76,14 +77,7 @@ pub record Led (w : Watched) (mine : Blocks) (s : State) (out : List Piece) (sen
 
 pub ended : (w : Watched) (mine : Blocks) (s : State) (out : List Piece) (sent : List (List ℕ)) (h : Halves)
     → BothAgree w.queue s out sent h → AreLent mine h → Led w mine s out sent [] h
-ended w mine s out sent h both lent = record {
-  both = rw (append-nil out, append-nil sent) both;
-  lent = lent;
-  receives = λ up. up;
-  sends = λ up. up;
-  since = λ up so_far. ap (λ xs. Some xs) (sym (append-nil so_far));
-  counted = λ up so_far. sym (append-nil so_far);
-}
+ended w mine s out sent h both lent = grind (arith, common_steps)
 
 pub led_on : (w : Watched) (mine : Blocks) (s : State) (out : List Piece) (sent : List (List ℕ)) (e : Entry)
     (es : List Entry) (k : Halves) → (received.IsUp w.queue s → received.IsUp w.queue (after s e.event))

@@ -1,7 +1,7 @@
 -- A history over which a driver lays out an empty transmit ring sends nothing on its queue.
-use Rattle.std.proofs.Common.{[], ◌++◌, ◌/◌, ◌<◌, ◌^◌, ◌∙◌, ◌∷◌, ◌≡◌, ◌≢◌, ◌≤◌, List, ap, append_assoc, arith, false}
+use Rattle.std.proofs.Common.{[], ◌++◌, ◌<◌, ◌^◌, ◌∙◌, ◌∷◌, ◌≡◌, ◌≢◌, ◌≤◌, List, ap, append_assoc, arith, false}
 use Rattle.std.proofs.Common.{inl, inr, refl, subst, sym, true, ℕ}
-use Rattle.std.proofs.lemmas.Bool.{both_ways, cases_Bool, eqb-false, lt-ltb}
+use Rattle.std.proofs.lemmas.Bool.{both_ways, cases_Bool, eqb-false}
 use Rattle.std.specs.Prelude.{⊤, ◌==◌}
 use Rattle.ring_laws.specs.Sent.{sent_in}
 use Rattle.driver_laws.specs.Laid.{Empty, Headed, Laid, LaidQueueIsSilent, Lays, LaysOn, MayAsk, MayLay, MayRing, Off}
@@ -13,13 +13,14 @@ use Rattle.driver_laws.specs.Prelude.{has_bit, is_empty, leads_to, lent_by, mode
 use Rattle.driver_laws.specs.Standing.{IsLeft}
 use Rattle.driver_laws.proofs.Prelude.{Fits, HasGround, IsAlong, IsIdle, IsMet, IsPlain, NamesRow, asked}
 use Rattle.driver_laws.proofs.Prelude.{asks_pool_reset, asks_reset, calls_other, calls_own, idle_silent, idle_steady}
-use Rattle.driver_laws.proofs.Prelude.{left_deed, no_block, none_staged, owner_of, row_of, side_with, steady_kept}
+use Rattle.driver_laws.proofs.Prelude.{left_deed, no_block, owner_of, row_of, side_with, steady_kept}
 use Rattle.driver_laws.proofs.Prelude.{transmit_left, write_rest}
 use Rattle.driver_laws.proofs.{Ground.ground_kept, Ground.ground_names, Ground.plain_keeps, Parts.own_some}
 use Rattle.driver_laws.proofs.{Parts.still_some, Reached.entry_is, Reached.foreign_left, Reached.reached_next}
 use Rattle.driver_laws.proofs.{Standing.with_beside, SwitchedOff.alone_left, SwitchedOff.watching, Words.words_taken}
 use Rattle.nic_device.specs.RegisterFile.declared.owner.Owner.TheVariants as owner
 use Rattle.nic_device.specs.declared.event.Event.TheVariants as event
+use Rattle.std.proofs.lemmas.Grind.{common_steps}
 
 -- transmit sides that are off, or whose ring is empty, as the words of an empty ring are written to them
 
@@ -53,10 +54,7 @@ abbrev pub SideLaid : Laid → Side → Type 0
 SideLaid l x = IsLaid l x × (x.staged ≡ [])
 
 pub laid_idle : (l : Laid) → IsIdle (SideLaid l)
-laid_idle l = record {
-  idle = λ x h tried. not_tried l x h.0 tried.on tried.some;
-  switches = λ x h. (then_wanted l x _ h.0, none_staged x.wanted x.staged h.1);
-}
+laid_idle l = grind (arith, common_steps)
 
 -- the enable word is written
 pub asked_laid : (l : Laid) (word : ℕ) (q : Side) → MayAsk l word → IsLaid l q
@@ -66,9 +64,7 @@ asked_laid l word q may x = ((x.0.0, may), x.1)
 
 -- head and tail are slot 0 of a ring that has one
 first_slot : (ring : Ring) → 16 ≤ ring.length → ring.head ≡ 0 → is_empty (record ring { tail = 0 }) ≡ true
-first_slot ring some first =
-    let slots : 0 < ring.length / 16 = omega (arith, some) in
-    rw (first, lt-ltb 0 (ring.length / 16) slots) refl
+first_slot ring some first = grind (arith, common_steps)
 
 -- a word of the ring is written, in a side that is off
 pub record IsLaying (row : RowId) (l : Laid) (word : ℕ) (q : Side) : Type 0 where

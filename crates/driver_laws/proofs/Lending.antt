@@ -1,6 +1,6 @@
 -- The blocks that the halves have lent: each is lent, none by both, and all are among those that the pass lends.
 use Rattle.std.proofs.Common.{◌<◌, ◌∙◌, ◌≡◌, ◌≢◌, List, ap, inl, inr, length, not, refl, subst, sym, true, ℕ}
-use Rattle.std.proofs.lemmas.Bool.{cases_eq, cases_lt, eqb-false, ne_eqb, not-true}
+use Rattle.std.proofs.lemmas.Bool.{cases_eq, eqb-false, ne_eqb, not-true}
 use Rattle.std.specs.Prelude.{◌==◌, IsTrue}
 use Rattle.nic_device.specs.declared.event.Reply.TheVariants.{Twice}
 use Rattle.pmd.specs.{PmdRx.Receive.Layout, PmdRx.declared.ring.Stage.Stage, PmdRx.declared.ring.Stage.TheVariants.Lent}
@@ -14,6 +14,8 @@ use Rattle.driver_laws.proofs.Prelude.{reach, step_of}
 use Rattle.nic_device.specs.declared.event.Event.TheVariants as event
 use Rattle.nic_device.specs.declared.event.Reply.TheVariants as reply
 use Rattle.pmd.specs.PmdRx.Receive as receiving
+use Rattle.std.proofs.Common.{arith}
+use Rattle.std.proofs.lemmas.Grind.{common_steps}
 
 -- the blocks of the receive half are lent
 
@@ -24,11 +26,7 @@ fresh_lent m l other h = tt
 
 slot_lent : (m : Memory) (l : Layout) (here : List Piece) → HasSlots m l here → (k : ℕ) → k < length l.blocks
     → has_block m (block_at l k) ≡ true
-slot_lent m l here h k i =
-    elim (cases_lt k (length here)) as (λ _. has_block m (block_at l k) ≡ true) [
-      | inl filled ↦ (h.filled k filled).there
-      | inr more ↦ (h.posted k more i).there
-    ]
+slot_lent m l here h k i = grind (arith, common_steps)
 
 pub receive_lent : (queue : ℕ) (s : State) (out : List Piece) (v : Receive) → Agree queue s out v
     → Each v (λ b. has_block s.memory b ≡ true)

@@ -1,49 +1,38 @@
 -- Once both rings came up and both sides went on the device and the driver agree on both.
-use Rattle.std.proofs.Common.{[], ◌%◌, ◌&&◌, ◌*◌, ◌+◌, ◌-◌, ◌<◌, ◌∷◌, ◌≡◌, ◌≢◌, ◌≤◌, Bool, List, ap, arith, false, not}
+use Rattle.std.proofs.Common.{[], ◌%◌, ◌&&◌, ◌*◌, ◌+◌, ◌<◌, ◌∷◌, ◌≡◌, ◌≢◌, ◌≤◌, Bool, List, ap, arith, false, not}
 use Rattle.std.proofs.Common.{refl, subst, sym, true, ℕ}
-use Rattle.std.proofs.lemmas.Bool.{and_parts, both_ways, eqb-true, leb-true, not-true}
+use Rattle.std.proofs.lemmas.Bool.{both_ways}
 use Rattle.std.specs.Prelude.{IsTrue}
 use Rattle.pmd.specs.{PmdSeam.Frames.most_blocks, Running.Running, Started.AreUp}
 use Rattle.driver_laws.specs.On.{AreOn, SwitchedSidesAgree, SwitchedSidesBeginNone, SwitchedSidesGoOn}
 use Rattle.driver_laws.specs.Prelude.{Agree, Agrees, AtPort, Call, EachRingBlock, Entry, Numbers, Rdt, Receive, Rx}
-use Rattle.driver_laws.specs.Prelude.{Rxdctl, Sees, Sender, Sets, Side, State, Tdt, Tx, Watched, begun_on, blocks_for}
+use Rattle.driver_laws.specs.Prelude.{Rxdctl, Sees, Sender, Sets, Side, State, Tdt, Tx, Watched, begun_on}
 use Rattle.driver_laws.specs.Prelude.{is_size, leads_to, lent_by, quiet, ring_blocks}
 use Rattle.driver_laws.specs.{Quieting.are_off, Start.BeginsWell, Start.StartAgrees, Start.StartGoesOn, Unused.WentOn}
 use Rattle.driver_laws.proofs.Points.{At, accesses_at, laid_with, prepared_at, unused_kept}
 use Rattle.driver_laws.proofs.Prelude.{AreUnused, AtCalls, AtEntries, BeforeLast, HasGround, IsAlong, IsPlain, IsSized}
-use Rattle.driver_laws.proofs.Prelude.{Point, Sides, after_accesses, some_blocks}
+use Rattle.driver_laws.proofs.Prelude.{Point, Sides, after_accesses}
 use Rattle.driver_laws.proofs.StopCalls.{Has, IsLentBy, has_more, lending, lent_along, prepared_has, prepared_plain}
 use Rattle.driver_laws.proofs.StopCalls.{ring_in, stays_in, stays_some}
 use Rattle.driver_laws.proofs.Switching.{came_up, comes_up, fresh_receive_agrees, fresh_transmit_agrees, laid, may_lay}
 use Rattle.driver_laws.proofs.Switching.{may_switch, switching}
 use Rattle.driver_laws.proofs.{Ground.ground_names, Made.extends, Made.made_some, Made.some_made, Reached.sound_at}
 use Rattle.driver_laws.proofs.{SwitchedOff.quiet_sides_stand, SwitchedOff.quieting_leads}
+use Rattle.std.proofs.lemmas.Grind.{common_steps}
 
 -- the numbers of slots that a driver may have
 
 pub sized : (size : ℕ) → is_size size ≡ true → (0 < size) × (size ≤ 1024) × (16 * size % 128 ≡ 0)
-sized size is =
-    let one = and_parts _ _ is in
-    let two = and_parts _ _ one.1 in
-    let some : 8 ≤ size = leb-true 8 size one.0 in
-    let few : size ≤ 1024 = leb-true size 1024 two.0 in
-    let even : size % 8 ≡ 0 = eqb-true (size % 8) 0 two.1 in
-    (omega (arith, some), few, omega (arith, even))
+sized size is = grind (arith, common_steps)
 
 -- a ring whose blocks a pass lends
 sized_ring : (pass : ℕ) (h : List Entry) (size ring : ℕ) → is_size size ≡ true
     → EachRingBlock ring size (λ n. IsLentBy pass n h) → IsSized ring size
-sized_ring pass h size ring is lent =
-    let count = sized size is in
-    let some : 0 < blocks_for size = some_blocks size count.0 in
-    let last = lent (blocks_for size - 1) (omega (arith, some)) in
-    record { some = count.0; few = count.1; low = omega (arith, some, last.low) }
+sized_ring pass h size ring is lent = grind (arith, common_steps)
 
 -- sides that are off aren't wanted on
 unwanted : (a b c d : Bool) → ((not a && not b) && (not c && not d)) ≡ true → (b ≡ false) × (d ≡ false)
-unwanted a b c d is =
-    let both = and_parts (not a && not b) (not c && not d) is in
-    (not-true b (and_parts (not a) (not b) both.0).1, not-true d (and_parts (not c) (not d) both.1).1)
+unwanted a b c d is = grind (arith, common_steps)
 
 module _ {w : Watched} {origin : State} {h : List Entry} {q : AtPort} {size frame : ℕ} {old : List Call} {a : Numbers}
     {new : List Call} {v : Receive} {t : Sender} (up : AreOn q size frame old a new v t)

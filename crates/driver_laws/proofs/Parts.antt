@@ -1,11 +1,13 @@
 -- A history in parts, by the calls that a pass made.
 use Rattle.std.proofs.Common.{[], ◌++◌, ◌∙◌, ◌∷◌, ◌≡◌, ◌≢◌, ◌⊎◌, List, ap, append_assoc, inl, inr, refl, sym, true, ℕ}
-use Rattle.std.proofs.lemmas.Bool.{cases_Bool, eq-eqb, eqb-true, or_left, or_right}
+use Rattle.std.proofs.lemmas.Bool.{cases_Bool, eqb-true, or_left, or_right}
 use Rattle.std.specs.Prelude.{◌==◌}
 use Rattle.std.{proofs.lemmas.List.append-nil, proofs.lemmas.List.map-append, proofs.lemmas.List.Elements.filter-append}
 use Rattle.device_lock.specs.Alone.{has_begun}
 use Rattle.driver_laws.specs.Prelude.{Call, Entry, call_in, calls_of}
 use Rattle.driver_laws.proofs.Prelude.{calls_other, calls_own}
+use Rattle.std.proofs.Common.{arith}
+use Rattle.std.proofs.lemmas.Grind.{common_steps}
 
 pub ends_some : (old before : List Call) (c : Call) → old ++ (before ++ c ∷ []) ≢ []
 ends_some [] [] c e = cc
@@ -63,10 +65,7 @@ pub still_some : (pass : ℕ) (g h : List Entry) → calls_of pass g ≢ [] → 
 still_some pass g h some none = more_some (calls_of pass g) (calls_of pass h) some (sym (calls_joined pass g h) ∙ none)
 
 pub own_some : (pass : ℕ) (g : List Entry) (e : Entry) → e.pass ≡ pass → calls_of pass (g ++ e ∷ []) ≢ []
-own_some pass g e own none =
-    ends_some (calls_of pass g) [] (call_in e)
-    ((λ i. calls_of pass g ++ sym (calls_own pass e [] (eq-eqb e.pass pass own)) i) ∙ sym (calls_joined pass g (e ∷ []))
-    ∙ none)
+own_some pass g e own none = grind (arith, common_steps)
 
 -- a history around the entry of a call that the pass made
 pub record Around (pass : ℕ) (h : List Entry) (calls : List Call) (c : Call) (more : List Call) : Type 0 where

@@ -1,8 +1,8 @@
 -- How sides stand after the accesses of a driver.
 use Rattle.std.proofs.Common.{[], ◌&&◌, ◌++◌, ◌+◌, ◌<◌, ◌∙◌, ◌∷◌, ◌≡◌, ◌≢◌, Bool, List, None, Option, Some, ap, arith}
-use Rattle.std.proofs.Common.{cond, false, inl, inr, not, option_map, refl, subst, suc, sym, true, zero, ℕ}
-use Rattle.std.specs.Prelude.{⊤, ◌==◌, IsTrue}
-use Rattle.std.{proofs.lemmas.Bool.eqb-true, proofs.lemmas.Bool.or_cases, specs.List.range_with_len}
+use Rattle.std.proofs.Common.{cond, false, not, option_map, refl, subst, suc, sym, true, zero, ℕ}
+use Rattle.std.specs.Prelude.{⊤, IsTrue}
+use Rattle.std.{specs.List.range_with_len}
 use Rattle.driver_laws.specs.Points.{AccessesLead, May}
 use Rattle.driver_laws.specs.Prelude.{Access, AreMade, AtPort, Blocks, Call, Dir, EachRingBlock, Entry, IsNumberOf}
 use Rattle.driver_laws.specs.Prelude.{IsPrepared, LendsEach, Numbers, RowId, Rx, Rxdctl, Sees, Sets, State, Tx, Txdctl}
@@ -20,6 +20,7 @@ use Rattle.driver_laws.proofs.{StopCalls.IsLentBy, StopCalls.and_all, StopCalls.
 use Rattle.driver_laws.proofs.{Words.side_driven}
 use Rattle.nic_device.specs.declared.event.Event.TheVariants as event
 use Rattle.nic_device.specs.declared.event.Reply.TheVariants as reply
+use Rattle.std.proofs.lemmas.Grind.{common_steps}
 
 -- by a call nothing is received or sent
 abbrev pub IsIdle : ℕ → Call → Type 0
@@ -122,10 +123,7 @@ laid_with dir ring size p = with_all (ring_blocks ring size) (after_accesses (ri
 
 one_more : (P : ℕ → Type 0) (ring n : ℕ) (rings : Blocks) → P ring → ((k : ℕ) → IsTrue (rings k) → P k)
     → IsTrue (and_one ring rings n) → P n
-one_more P ring n rings own all is = elim (or_cases (n == ring) (rings n) is) [
-  | inl same ↦ subst P (sym (eqb-true n ring same)) own
-  | inr old ↦ all n old
-]
+one_more P ring n rings own all is = grind (arith, common_steps)
 
 lend_leads : (queue : ℕ) (mine : Blocks) (q : AtPort) (frame : ℕ) (p : Sides) (ring : ℕ) → mine ring ≡ true
     → ring < 65536

@@ -12,6 +12,8 @@ use Rattle.driver_laws.proofs.Prelude.{AreMadeOf, AtCalls, AtEntries, BeforeLast
 use Rattle.driver_laws.proofs.Prelude.{Leads, Never, WritesOutside, calls_other, calls_own, events_before}
 use Rattle.driver_laws.proofs.Prelude.{events_behind, histories_sound, leads-append, legal_behind, no_registers}
 use Rattle.driver_laws.proofs.Prelude.{vfs_stays}
+use Rattle.std.proofs.Common.{arith}
+use Rattle.std.proofs.lemmas.Grind.{common_steps}
 
 -- where the entries so far lead a device
 abbrev pub reached : Watched → State → List Entry → State
@@ -51,15 +53,7 @@ state_leads w origin mine c P Q leads done e same met made told steps p =
 pub free_left : (w : Watched) (mine : Blocks) (s : State) (e : Event Block) → IsMet w.queue s → IsEvent e
     → w.vfs ≡ s.vfs → WritesOutside w.queue mine (reply_to s e)
     → LeavesRegisters w (mode_in s.registers) e × LeavesBlocks mine e → IsLeft w mine s e
-free_left w mine s e met made vfs steps free = record {
-  small = met.small;
-  sound = met.sound;
-  vfs = vfs;
-  made = made;
-  registers = free.0;
-  blocks = free.1;
-  steps = steps;
-}
+free_left w mine s e met made vfs steps free = grind (arith, common_steps)
 
 module _ {w : Watched} {origin : State} {h : List Entry} (x : IsAlong w origin h) where
   abbrev mine : Blocks

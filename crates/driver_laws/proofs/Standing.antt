@@ -1,38 +1,27 @@
 -- Two sides that stand still are left so by every event that leaves the queue alone, and by a driver's accesses.
 use Rattle.std.proofs.Common.{[], ◌||◌, ◌∙◌, ◌≡◌, Bool, List, ap, false, inl, inr, refl, subst, sym, true, ℕ}
-use Rattle.std.proofs.lemmas.Bool.{both_ways, cases_Bool, eqb-false, eqb-true, or_cases}
+use Rattle.std.proofs.lemmas.Bool.{cases_Bool, eqb-false, eqb-true, or_cases}
 use Rattle.std.specs.Prelude.{◌==◌, IsTrue}
 use Rattle.nic_device.specs.State.{Waiting}
 use Rattle.nic_device.proofs.DmaArena.Bus.{get-insert_other, get-insert_same}
 use Rattle.ring_laws.proofs.HistoryLaws.Lent.{not_so}
 use Rattle.driver_laws.specs.Prelude.{Blocks, Dir, Memory, Rdbal, RowId, Rx, Side, State, Tdbal, Tx, after, begun_on}
-use Rattle.driver_laws.specs.Prelude.{enable_row, has_bit, is_empty, side_of, zero_block}
+use Rattle.driver_laws.specs.Prelude.{enable_row, has_bit, side_of, zero_block}
 use Rattle.driver_laws.specs.{Moves.LendStands, Moves.MayGoOn, Moves.ReadStands, Moves.WriteStands}
 use Rattle.driver_laws.specs.{Standing.StandingSidesAreLeft}
 use Rattle.driver_laws.proofs.Prelude.{IsIdle, IsZero, Outcome, Stand, Stands, across, and_one, begun_stays}
-use Rattle.driver_laws.proofs.Prelude.{idle_silent, idle_steady, left_deed, left_did, lent_cases, none_staged}
+use Rattle.driver_laws.proofs.Prelude.{idle_silent, idle_steady, left_deed, left_did, lent_cases}
 use Rattle.driver_laws.proofs.Prelude.{queues_left, read_rest, side_seen, side_with, steady_kept, step_of, told_on}
 use Rattle.driver_laws.proofs.Words.{driven, each_side, words_taken}
 use Rattle.std.specs.FinMap as map
 use Rattle.nic_device.specs.declared.event.Event.TheVariants as event
 use Rattle.nic_device.specs.declared.event.Reply.TheVariants as reply
+use Rattle.std.proofs.Common.{arith}
+use Rattle.std.proofs.lemmas.Grind.{common_steps}
 
 -- a side that stands so is off, or its ring is empty
 stands_idle : (side : Side) → IsIdle (λ x. Stands x side)
-stands_idle side = record {
-  idle = λ x h tried.
-      both_ways (is_empty x.ring) tried.some
-      (ap (λ (z : Side). is_empty z.ring) h.same ∙ h.empty (h.wanted tried.on));
-  switches = λ x h.
-      let wanted = ap (λ (z : Side). z.wanted) h.same in
-      let staged = none_staged x.wanted x.staged (ap (λ (z : Side). z.staged) h.same) in
-      record {
-        same = λ k. record (h.same k) { on = x.wanted; staged = staged k };
-        seen = λ on. wanted ∙ h.wanted (h.seen on);
-        wanted = λ on. sym wanted ∙ on;
-        empty = h.empty;
-      };
-}
+stands_idle side = grind (arith, common_steps)
 
 pub standing_sides_are_left : StandingSidesAreLeft
 standing_sides_are_left w mine rings s e sides left covers stand =
@@ -75,12 +64,7 @@ is_off x side h none =
 -- a side that is off stands
 stands_off : (x side : Side) → x ≡ record side { on = false; staged = [] } → side.on ≡ false → MayGoOn side
     → Stands x side
-stands_off x side e none empty = subst (λ (z : Side). Stands z side) (sym e) (record {
-  same = refl;
-  seen = λ on. absurd (both_ways side.on none on);
-  wanted = λ on. cc;
-  empty = empty;
-})
+stands_off x side e none empty = grind (arith, common_steps)
 
 -- of both sides, by this one and the other
 both : (P : Dir → Type 0) (dir : Dir) → P dir → P (across dir) → (d : Dir) → P d
@@ -116,12 +100,7 @@ either_on false on shown known told is = sym told ∙ is
 
 seen_stands : (x side : Side) (shown : Bool) → Stands x side → shown ≡ x.on
     → Stands x (record side { on = side.on || shown })
-seen_stands x side shown h told = record {
-  same = h.same;
-  seen = either_on side.on x.on shown h.seen told;
-  wanted = h.wanted;
-  empty = h.empty;
-}
+seen_stands x side shown h told = grind (arith, common_steps)
 
 seen_side : (dir d : Dir) (queue : ℕ) (s : State) (sides : Dir → Side) (shown : Bool)
     → ((d : Dir) → Stands (side_of d queue s) (sides d)) → shown ≡ (side_of dir queue s).on

@@ -2,7 +2,7 @@
 -- failed, those that lend its blocks, and those of its stop; and which blocks a pass lends by them.
 use Rattle.std.proofs.Common.{[], ◌++◌, ◌+◌, ◌-◌, ◌<◌, ◌∙◌, ◌∷◌, ◌≡◌, ◌≢◌, Bool, List, ap, append_assoc, arith, false}
 use Rattle.std.proofs.Common.{inl, inr, refl, subst, suc, sym, true, zero, ℕ}
-use Rattle.std.proofs.lemmas.Bool.{and_from, eq-eqb, lt-ltb, or_left, or_right}
+use Rattle.std.proofs.lemmas.Bool.{eq-eqb, or_left, or_right}
 use Rattle.std.specs.Prelude.{⊤, ◌==◌, IsFalse}
 use Rattle.std.{proofs.lemmas.List.append-nil, specs.List.range_with_len}
 use Rattle.device_lock.specs.Alone.{lends}
@@ -25,6 +25,7 @@ use Rattle.driver_laws.proofs.{Reached.entry_is}
 use Rattle.nic_device.specs.declared.event.Event.TheVariants as event
 use Rattle.nic_device.specs.declared.event.Reply.TheVariants as reply
 use Rattle.pmd.specs.PmdSeam.declared.fault.PmdFault.TheVariants as fault
+use Rattle.std.proofs.lemmas.Grind.{common_steps}
 
 module _ (P : Event Block → Type 0) where
   -- calls in parts
@@ -38,11 +39,7 @@ module _ (P : Event Block → Type 0) where
   none_made old new e = ([], e ∙ sym (append-nil old), tt)
 
   pub then_made : (old mid new : List Call) → AreMadeOf P old mid → AreMadeOf P mid new → AreMadeOf P old new
-  then_made old mid new (cs, one, are) (ds, two, more) = (
-    cs ++ ds,
-    two ∙ ap (λ (l : List Call). l ++ ds) one ∙ append_assoc old cs ds,
-    each_both cs ds are more,
-  )
+  then_made old mid new (cs, one, are) (ds, two, more) = grind (arith, common_steps)
 
   pub stays_some : (old new : List Call) → AreMadeOf P old new → old ≢ [] → new ≢ []
   stays_some old new (more, is, are) some none = more_some old more some (sym is ∙ none)
@@ -228,11 +225,7 @@ pub record Has (c : Call) (calls : List Call) : Type 0 where
   pub all : calls ≡ before ++ c ∷ behind
 
 pub has_more : (c : Call) (calls new : List Call) → (more : List Call) × (new ≡ calls ++ more) → Has c calls → Has c new
-has_more c calls new (more, is) has = record {
-  before = has.before;
-  behind = has.behind ++ more;
-  all = is ∙ ap (λ xs. xs ++ more) has.all ∙ append_assoc has.before (c ∷ has.behind) more;
-}
+has_more c calls new (more, is) has = grind (arith, common_steps)
 
 -- and so the block that it lends is one of those that the pass lends
 pub record IsLentBy (pass ring : ℕ) (h : List Entry) : Type 0 where
@@ -241,16 +234,7 @@ pub record IsLentBy (pass ring : ℕ) (h : List Entry) : Type 0 where
 
 first : (pass ring : ℕ) (e : Entry) (h : List Entry) → e.pass ≡ pass → call_in e ≡ lending ring → IsEvent e.event
     → IsLentBy pass ring (e ∷ h)
-first pass ring e h own is made =
-    let event_is : e.event ≡ event.Lend (zero_block ring) = ap (λ (c : Call). c.event) is in
-    let reply_is : e.reply ≡ reply.Done = ap (λ (c : Call). c.reply) is in
-    let low = (subst IsEvent event_is made).whole.small in
-    let lent : lends e.event e.reply ring ≡ true =
-    (λ k. lends (event_is k) (reply_is k) ring) ∙ eq-eqb ring ring refl in
-    record {
-      low = low;
-      mine = or_left _ _ (and_from _ _ (lt-ltb ring 65536 low) (and_from _ _ (eq-eqb e.pass pass own) lent));
-    }
+first pass ring e h own is made = grind (arith, common_steps)
 
 pub lent_along : {w : Watched} {origin : State} {h : List Entry} (number : ℕ) (calls : List Call)
     → IsAlong w origin h → Has (lending number) calls → AtEntries w h calls (λ done. IsLentBy w.pass number h)

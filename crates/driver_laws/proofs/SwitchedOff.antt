@@ -2,7 +2,7 @@
 -- are asked off and seen off, and stay so.
 use Rattle.std.proofs.Common.{[], ◌&&◌, ◌++◌, ◌∙◌, ◌∷◌, ◌≡◌, ◌≢◌, Bool, List, Some, ap, false, inl, inr, not, refl}
 use Rattle.std.proofs.Common.{subst, sym, true, ℕ}
-use Rattle.std.{proofs.lemmas.Bool.both_ways, specs.Prelude.IsFalse}
+use Rattle.std.{specs.Prelude.IsFalse}
 use Rattle.nic_device.specs.declared.event.Reply.TheVariants.{Advanced, Sent}
 use Rattle.ring_laws.specs.HistoryLaws.Sides.{IsUnwanted}
 use Rattle.ring_laws.proofs.HistoryLaws.Steady.{IsSteady, deed_settles, off_steady, seen_off, unwanted_steady}
@@ -23,6 +23,8 @@ use Rattle.driver_laws.proofs.{Reached.free_left, Reached.made_keep, Reached.sou
 use Rattle.driver_laws.proofs.{Words.side_driven}
 use Rattle.nic_device.specs.declared.event.Event.TheVariants as event
 use Rattle.ring_laws.proofs.HistoryLaws.Steady as steady
+use Rattle.std.proofs.Common.{arith}
+use Rattle.std.proofs.lemmas.Grind.{common_steps}
 
 abbrev pub IsSettled : Dir → ℕ → State → Type 0
 IsSettled dir queue s = steady.IsSettled (side_of dir queue s)
@@ -119,10 +121,7 @@ unwanted_shutting : IsShutting IsUnwanted
 unwanted_shutting = record { stays = unwanted_steady; asks = λ x wanted none p. none }
 
 off_shutting : IsShutting IsOff
-off_shutting = record {
-  stays = off_steady;
-  asks = λ x wanted none p. record { off = p.off; unwanted = none };
-}
+off_shutting = grind (arith, common_steps)
 
 -- so events of a stop keep it
 module _ (P : Side → Type 0) (is : IsShutting P) (queue : ℕ) (q : AtPort) (frame : ℕ) (s : State) where
@@ -221,9 +220,7 @@ both_off : {w : Watched} {origin : State} {h : List Entry} (q : AtPort) (frame :
     (calls : List Call) → AtCalls w origin h calls (One q frame along Rx IsOff)
     → AtCalls w origin h calls (One q frame along Tx IsOff)
     → AtCalls w origin h calls (IsQuiet w.queue q frame)
-both_off q frame along calls receive transmit done rest all is =
-    let (ground, off) = receive done rest all is in
-    record { ground = ground; receive = off; transmit = (transmit done rest all is).1 }
+both_off q frame along calls receive transmit done rest all is = grind (arith, common_steps)
 
 pub quieting_leads : QuietingLeads
 quieting_leads w q frame origin h old new along (m1, a1, (m2, a2, (m3, a3, (m4, a4, (m5, a5, (m6, a6, e)))))) at =
@@ -280,12 +277,7 @@ receive_guard_is_off = record {
 
 -- a side that is off stands as it is, with nothing staged
 off_stands : (x : Side) → x.staged ≡ [] → IsOff x → Stands x x
-off_stands x none off = record {
-  same = λ k. record x { staged = none k };
-  seen = λ on. on;
-  wanted = λ on. absurd (both_ways x.on off.off on);
-  empty = λ wanted. absurd (both_ways x.wanted off.unwanted wanted);
-}
+off_stands x none off = grind (arith, common_steps)
 
 pub off_sides_stand : OffSidesStand
 off_sides_stand queue s sound off transmit_off = record {

@@ -2,10 +2,9 @@
 -- the fresh sides that that leads to, where device and driver agree.
 use Rattle.std.proofs.Common.{[], ◌%◌, ◌*◌, ◌++◌, ◌+◌, ◌/◌, ◌<◌, ◌^◌, ◌∙◌, ◌∷◌, ◌≡◌, ◌≤◌, Bool, List, None, ap, arith}
 use Rattle.std.proofs.Common.{false, inl, refl, replicate, suc, true, zero, ℕ}
-use Rattle.std.proofs.lemmas.Bool.{and_parts, both_ways, leb-true, or_right}
-use Rattle.std.{proofs.Math.Bool.or-false, specs.Prelude.nat_le}
-use Rattle.pmd.specs.PmdSeam.Frames.{longest_frame, shortest_frame}
-use Rattle.ring_laws.proofs.{Kept.first_place, Kept.inside_of, Leaving.start_agrees}
+use Rattle.std.proofs.lemmas.Bool.{or_right}
+use Rattle.std.{proofs.Math.Bool.or-false}
+use Rattle.ring_laws.proofs.{Kept.first_place, Leaving.start_agrees}
 use Rattle.driver_laws.specs.Moves.{FreshReceiveAgrees, FreshTransmitAgrees, fresh_ring, fresh_side}
 use Rattle.driver_laws.specs.Points.{MayWrite}
 use Rattle.driver_laws.specs.Prelude.{Access, Dir, Memory, Rdbah, Rdbal, Rdh, Rdlen, Rdt, Ring, RowId, Rx, Rxdctl, Sees}
@@ -14,7 +13,8 @@ use Rattle.driver_laws.specs.Prelude.{has_block, is_empty, is_frame, missed, pac
 use Rattle.driver_laws.specs.Prelude.{ring_words}
 use Rattle.driver_laws.proofs.Points.{laid_with}
 use Rattle.driver_laws.proofs.Prelude.{AllMay, Fits, IsEnable, IsSized, IsZero, Sides, after_access, after_accesses}
-use Rattle.driver_laws.proofs.Prelude.{seen_by, side_seen, side_with, some_blocks}
+use Rattle.driver_laws.proofs.Prelude.{seen_by, side_seen, side_with}
+use Rattle.std.proofs.lemmas.Grind.{common_steps}
 
 -- the sides after the words of both rings were written and their blocks lent
 abbrev pub laid : (ring size other : ℕ) → Sides → Sides
@@ -23,17 +23,11 @@ laid ring size other p = laid_with Tx other size (laid_with Rx ring size p)
 -- a word that leaves a side that isn't wanted on so
 still : (dir : Dir) (row : RowId) (word : ℕ) (x : Side) → x.wanted ≡ false → Fits dir row word
     → (side_with dir row word x).wanted ≡ false → MayWrite dir row word x
-still dir row word x off fits none = record {
-  unwanted = off;
-  fits = fits;
-  goes = λ on. absurd (both_ways (side_with dir row word x).wanted none on);
-}
+still dir row word x off fits none = grind (arith, common_steps)
 
 -- a ring's first block
 first_low : (ring size : ℕ) → IsSized ring size → ring < 65536
-first_low ring size sized =
-    let low = sized.low in
-    omega (arith, low, some_blocks size sized.some)
+first_low ring size sized = grind (arith, common_steps)
 
 base_even : (n : ℕ) → 2048 * n % 128 ≡ 0
 base_even n = omega arith
@@ -108,9 +102,7 @@ switching polls more = receive_polled true polls ++ polled Tx true more
 -- an empty ring
 empty_ring : (ring : Ring) (size : ℕ) → 0 < size → ring.length ≡ 16 * size → ring.head ≡ 0 → ring.tail ≡ 0
     → is_empty ring ≡ true
-empty_ring ring size some length head tail =
-    let inside = inside_of ring size length (rw head some) (rw tail some) in
-    rw (inside, head, tail) refl
+empty_ring ring size some length head tail = grind (arith, common_steps)
 
 module _ (ring size other : ℕ) (one : IsSized ring size) (two : IsSized other size) (p : Sides)
     (receive_off : (p.side Rx).wanted ≡ false) (transmit_off : (p.side Tx).wanted ≡ false) where
@@ -198,10 +190,7 @@ fresh_receive_agrees queue s y on wanted port tail ring size most sized names em
 
 -- how long a driver's packets are at most
 few_bytes : (frame : ℕ) → is_frame frame ≡ true → packet_limit frame ≤ 10240
-few_bytes frame is =
-    let both = and_parts (nat_le shortest_frame frame) (nat_le frame longest_frame) is in
-    let most : frame ≤ 9728 = leb-true frame longest_frame both.1 in
-    omega (arith, most)
+few_bytes frame is = grind (arith, common_steps)
 
 pub fresh_transmit_agrees : FreshTransmitAgrees
 fresh_transmit_agrees queue s y on wanted port tail ring size frame small sound sized names is limit empty x =

@@ -1,7 +1,7 @@
 -- The words that a driver writes to the registers of a queue: each is its side's, whole, while that is off.
 use Rattle.std.proofs.Common.{◌%◌, ◌*◌, ◌+◌, ◌/◌, ◌<◌, ◌^◌, ◌∙◌, ◌≡◌, ap, arith, false, inl, inr, refl, true, ℕ}
 use Rattle.std.proofs.lemmas.Nat.{and_comm, and_mask, and_mod, or_mod}
-use Rattle.std.specs.Prelude.{◌==◌, IsFalse, None, Some, bit_and, bit_or, if◌then◌else◌}
+use Rattle.std.specs.Prelude.{IsFalse, None, Some, bit_and, bit_or, if◌then◌else◌}
 use Rattle.std.{proofs.Math.Nat.mod-eq_of_lt, proofs.lemmas.Nat.Bits.and_high_mask, specs.Int.Bits.and_zero_l}
 use Rattle.std.{specs.Int.Bits.or_zero_l}
 use Rattle.nic_device.specs.RegTable.declared.rows.RowId.TheVariants.{Ctrl, GcrExt, Hlreg0, Maxfrs}
@@ -24,6 +24,7 @@ use Rattle.driver_laws.proofs.Prelude.{settings_stand, side_with, stays_within, 
 use Rattle.driver_laws.proofs.Prelude.{write_memory, write_rest}
 use Rattle.nic_device.specs.RegisterFile.declared.owner.Owner.TheVariants as owner
 use Rattle.nic_device.specs.declared.event.Event.TheVariants as event
+use Rattle.std.proofs.lemmas.Grind.{common_steps}
 
 -- what holds of either side holds of each
 pub each_side : (P : Dir → Type 0) → P Rx → P Tx → (dir : Dir) → P dir
@@ -71,11 +72,7 @@ driven_plain other e = refl
 
 -- a multiple of 128 through a mask of bits 31 to 7
 pub merged-high : (old new : ℕ) → old % 2 ^ 7 ≡ 0 → new % 128 ≡ 0 → new < 2 ^ 32 → merged 0xFFFFFF80 old new ≡ new
-merged-high old new low even small =
-    let kept : bit_and old 0x7F ≡ 0 = and_mask old 7 ∙ low in
-    let taken : bit_and new 0xFFFFFF80 ≡ new =
-    and_high_mask 32 7 (omega arith) new small ∙ (let e : new / 2 ^ 7 * 2 ^ 7 ≡ new = omega (arith, even) in e) in
-    (λ k. bit_or (kept k) (taken k)) ∙ or_zero_l new
+merged-high old new low even small = grind (arith, common_steps)
 
 -- and one of 20 bits through a mask of bits 19 to 7
 pub merged-length : (old new : ℕ) → old % 2 ^ 7 ≡ 0 → new % 128 ≡ 0 → new < 2 ^ 20
@@ -129,9 +126,7 @@ module _ (queue : ℕ) (s : State) (port : Port) (n word : ℕ) (row : RowId) (n
 
 base_low : (high low word : ℕ) → low < 2 ^ 32 → low % 2 ^ 7 ≡ 0 → (word % 128 ≡ 0) × (word < 2 ^ 32)
     → high * 2 ^ 32 + merged 0xFFFFFF80 low word ≡ (high * 2 ^ 32 + low) / 2 ^ 32 * 2 ^ 32 + word
-base_low high low word short even fits =
-    let kept : high ≡ (high * 2 ^ 32 + low) / 2 ^ 32 = omega (arith, short) in
-    λ k. kept k * 2 ^ 32 + merged-high low word even fits.0 fits.1 k
+base_low high low word short even fits = grind (arith, common_steps)
 
 whole : (old word : ℕ) → word < 2 ^ 32 → merged 0xFFFFFFFF old word ≡ word
 whole old word fits = merged_all old word ∙ mod-eq_of_lt fits
@@ -146,9 +141,7 @@ slot : (old word : ℕ) → word < 2 ^ 16 → merged 0xFFFF old word % 2 ^ 16 �
 slot old word fits = merged_low old word ∙ mod-eq_of_lt fits
 
 no_bit : (word : ℕ) → word % 2 ^ 1 ≡ 0 → has_bit 0 word ≡ false
-no_bit word even =
-    let e : word / 2 ^ 0 % 2 ≡ 0 = omega (arith, even) in
-    ap (λ n. n == 1) e
+no_bit word even = grind (arith, common_steps)
 
 module _ (queue : ℕ) (s : State) (small : queue < 128) (sound : IsSound s) where
   abbrev r : Registers

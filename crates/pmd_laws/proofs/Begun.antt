@@ -10,10 +10,11 @@ use Rattle.pmd_laws.proofs.Prelude.{Bool, Call, DrivesApart, EachRingBlock, Halv
 use Rattle.pmd_laws.proofs.Prelude.{IsTransmitReady, IsTrue, List, Lives, MayLend, Numbers, OwnsSame, Receive, Receives}
 use Rattle.pmd_laws.proofs.Prelude.{Running, Sender, ℕ, all_drawn, all_exchanged, apart_on, append-nil, arith}
 use Rattle.pmd_laws.proofs.Prelude.{both_ways, cond, each_ring_block, false, false_from_ne_true, first_of, halves_of}
-use Rattle.pmd_laws.proofs.Prelude.{has_lent, inl, inr, is_free, is_own, is_own-of_free, is_ring_block, or_cases}
-use Rattle.pmd_laws.proofs.Prelude.{or_left, or_right, receiving_apart, refl, ring_block_among, ring_block_is}
+use Rattle.pmd_laws.proofs.Prelude.{has_lent, is_free, is_own, is_own-of_free, is_ring_block}
+use Rattle.pmd_laws.proofs.Prelude.{or_left, receiving_apart, refl, ring_block_among, ring_block_is}
 use Rattle.pmd_laws.proofs.Prelude.{ring_block_out, ring_blocks, subst, sym, times_among, times_in_hand, true}
 use Rattle.pmd_laws.proofs.Prelude.{true_from_ne_false, with_free}
+use Rattle.std.proofs.lemmas.Grind.{common_steps}
 
 -- blocks that were drawn from an arena were free there, and aren't any more
 
@@ -52,11 +53,7 @@ ring_gone a ring size b n drawn free =
 module _ {q : AtPort} {size frame : ℕ} {old : List Call} {a : Numbers} {new : List Call} {b : Numbers} {t : Sender}
     (ready : IsTransmitReady q size frame old a new b t) where
   lent_ring : (n : ℕ) → has_lent t n ≡ true → is_ring_block ready.ring size n ≡ true
-  lent_ring n is = elim (or_cases (is_ring_block ready.ring size n) false
-      (subst (λ (s : Sender). has_lent s n ≡ true) ready.fresh is)) [
-        | inl own ↦ own
-        | inr none ↦ cc
-      ]
+  lent_ring n is = grind (arith, common_steps)
 
 -- as both sides are on the receive ring is empty
 module _ {q : AtPort} {size frame : ℕ} {old : List Call} {a : Numbers} {new : List Call} {v : Receive} {t : Sender}
@@ -96,11 +93,7 @@ module _ {q : AtPort} {size frame : ℕ} {old : List Call} {a : Numbers} {new : 
       (or_left _ _ (ring_block_among up.receive.ring size n ∙ ring_block_is up.receive.ring size k below))
 
   pub transmit_lent : EachRingBlock up.transmit.ring size (λ n. IsTrue (lent_by first_halves n))
-  transmit_lent k below =
-      let n : ℕ = up.transmit.ring + k in
-      rw up.transmit.fresh
-      (or_right _ _
-      (or_left (is_ring_block up.transmit.ring size n) _ (ring_block_is up.transmit.ring size k below)))
+  transmit_lent k below = grind (arith, common_steps)
 
 -- as both rings came up: the arena keeps its numbers, and what is free then the receive half may lend
 module _ {q : AtPort} {size frame : ℕ} {old : List Call} {a : Numbers} {ready_made : List Call} {ready_arena : Numbers}

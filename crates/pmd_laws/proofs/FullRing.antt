@@ -1,19 +1,18 @@
 -- Where a driver tells that its ring is full, or accepts none of several packets and answers no fault, its ring has no
 -- room for the first.
 use Rattle.driver_laws.specs.Prelude.{Asks}
-use Rattle.pmd.specs.PmdTx.Sends.{IsFullWhereTold}
-use Rattle.pmd.specs.PmdTx.declared.answer.TxAnswer.TheVariants.{RingFull}
 use Rattle.driver_laws.proofs.RingLaws.Packets.{length-segments}
 use Rattle.pmd_laws.specs.FullRing.{AcceptsNone, TellsFull, outstanding}
 use Rattle.pmd_laws.proofs.Prelude.{[], ◌+◌, ◌<◌, ◌∷◌, ◌≡◌, ◌≤◌, Accepts, Advances, AllOwn, AtPort, Block, Call, Doer}
 use Rattle.pmd_laws.proofs.Prelude.{Down, Drove, Err, Event, Halves, IfSome, IsOwn, IsTold, Leads, Lends, List, Looks}
 use Rattle.pmd_laws.proofs.Prelude.{Moment, Move, None, Numbers, Ok, Option, Packet, PmdFault, Reaps, Receives, Reply}
 use Rattle.pmd_laws.proofs.Prelude.{Result, Rings, Running, Sender, Sends, SendsWith, Some, Stops, Up, WhereUp, ℕ}
-use Rattle.pmd_laws.proofs.Prelude.{after_call, ap, arith, driven_apart, halves_of, last, length, length-append}
+use Rattle.pmd_laws.proofs.Prelude.{after_call, arith, halves_of, last, length, length-append}
 use Rattle.pmd_laws.proofs.Prelude.{length-drop, moved, parts_for, played_by, refl, segments_of, sized, subst, sym}
-use Rattle.pmd_laws.proofs.Told.{runs, up_next}
+use Rattle.pmd_laws.proofs.Told.{runs}
 use Rattle.nic_device.specs.declared.event.Event.TheVariants as event
 use Rattle.nic_device.specs.declared.event.Reply.TheVariants as reply
+use Rattle.std.proofs.lemmas.Grind.{common_steps}
 
 -- a ring of so many slots, one of which is vacant
 abbrev HasRoom : ℕ → Sender → Type 0
@@ -97,21 +96,9 @@ module _ (size : ℕ) (m n : Moment) (r : Running) (p : Packet) (is : m.driver.r
   -- tells that its ring is full
   pub full_lacks : TellsFull m n p
       → (outstanding m.driver.rings < size) × (size ≤ outstanding m.driver.rings + parts_for p.len)
-  full_lacks tells =
-      let (s, up, full) = up_next (λ v w. IsFullWhereTold v.transmit p (Ok (RingFull p))) m.driver.rings n.driver.rings
-      r is tells in
-      let told = ap outstanding is in
-      (omega (arith, some.1, told), omega (arith, full, some.0, told))
+  full_lacks tells = grind (arith, common_steps)
 
   -- or accepts none
   pub none_lacks : Drove m n → AcceptsNone m n p
       → (outstanding n.driver.rings < size) × (size ≤ outstanding n.driver.rings + parts_for p.len)
-  none_lacks drove none =
-      let (s, up, both) =
-      up_next _ m.driver.rings n.driver.rings r is (both_up m.driver.rings n.driver.rings _ _ drove none) in
-      let (vacant, given, rest, burst) = both.1 in
-      let leads = (driven_apart _ m.made n.made (halves_of r) (halves_of s) both.0.apart).leads in
-      let left : HasRoom size s.transmit = led_room size m.made n.made (halves_of r) (halves_of s) leads some in
-      let lacks = by_room_made burst.failed given rest p burst.made n.made burst.there s burst.sends in
-      let told = ap outstanding up in
-      (omega (arith, left.1, told), omega (arith, lacks, left.0, told))
+  none_lacks drove none = grind (arith, common_steps)

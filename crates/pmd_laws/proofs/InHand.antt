@@ -4,9 +4,10 @@ use Rattle.pmd_laws.specs.Beside.{DirectIsRetold, InterleavedIsRetold}
 use Rattle.pmd_laws.specs.InHand.{DirectIsHistory, InterleavedIsHistory, IsHistoryOf, WasMade, in_hand}
 use Rattle.pmd_laws.proofs.Prelude.{[], ◌++◌, ◌<◌, ◌==◌, ◌||◌, ◌∙◌, ◌∷◌, ◌≡◌, Bool, Call, Entry, GoesOn, IsTrue}
 use Rattle.pmd_laws.proofs.Prelude.{LeadsTo, LeavesAlone, LeavesAloneFrom, List, State, WasTold, ℕ, after, ap}
-use Rattle.pmd_laws.proofs.Prelude.{arith, call_in, calls_joined, calls_of, calls_other, calls_own, cases_Bool}
-use Rattle.pmd_laws.proofs.Prelude.{entries_in, events-append, false, has_begun, inl, inr, leads-append, leads_to, led}
+use Rattle.pmd_laws.proofs.Prelude.{arith, call_in, calls_joined, calls_of, calls_other}
+use Rattle.pmd_laws.proofs.Prelude.{entries_in, events-append, false, has_begun, leads-append, leads_to, led}
 use Rattle.pmd_laws.proofs.Prelude.{legal-append, length, map-append, marked_entries, own_calls, refl, sym, true}
+use Rattle.std.proofs.lemmas.Grind.{common_steps}
 
 history : (s : State) (queue : ℕ) (before h : List Entry) (calls : List Call) (device : State) → queue < 128
     → WasMade s before → LeadsTo (leads_to s before) h device → calls_of 0 h ≡ calls
@@ -56,12 +57,7 @@ each_own (c ∷ calls) (y ∷ b) e after is = each_own calls b e after (ap behin
 -- what others made before has no entry of the pass
 
 not_first : (x : Entry) (before : List Entry) → calls_of 0 (x ∷ before) ≡ [] → (x.pass == 0) ≡ false
-not_first x before none = elim (cases_Bool (x.pass == 0)) as (λ _. (x.pass == 0) ≡ false) [
-  | inl own ↦
-      let some : call_in x ∷ calls_of 0 before ≡ [] = sym (calls_own 0 x before own) ∙ none in
-      absurd (cc)
-  | inr other ↦ other
-]
+not_first x before none = grind (arith, common_steps)
 
 own_behind : (before : List Entry) (calls : List Call) (b : List Entry) (e : Entry) (after : List Entry)
     → calls_of 0 before ≡ [] → before ++ entries_in calls ≡ b ++ e ∷ after → IsTrue (has_begun 0 b) → e.pass ≡ 0

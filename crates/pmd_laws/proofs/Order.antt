@@ -6,17 +6,19 @@ use Rattle.driver_laws.proofs.InOrder.{Led}
 use Rattle.driver_laws.proofs.Parts.{begun as begun_by}
 use Rattle.driver_laws.specs.Histories.{IsDriven}
 use Rattle.pmd_laws.proofs.Begun.{first_halves, halves_apart, halves_lent}
-use Rattle.pmd_laws.proofs.Prelude.{[], ◌++◌, ◌∙◌, ◌∷◌, ◌≡◌, ◌≢◌, AllOwn, AreEvents, AreLent, AreOn, BeforeLast}
+use Rattle.pmd_laws.proofs.Prelude.{[], ◌++◌, ◌∙◌, ◌≡◌, ◌≢◌, AllOwn, AreEvents, AreLent, AreOn, BeforeLast}
 use Rattle.pmd_laws.proofs.Prelude.{BothAgree, Call, Course, Dir, Doer, Entry, FindsNone, Halves, HasGround, IsAlong}
 use Rattle.pmd_laws.proofs.Prelude.{IsLegal, IsPrefixOf, IsSettled, IsUp, Leads, LeavesAloneFrom, Life, List}
 use Rattle.pmd_laws.proofs.Prelude.{OthersHarmless, Parts, Receive, Rx, Sender, ShowsNone, State, Tx, Watched}
-use Rattle.pmd_laws.proofs.Prelude.{WentOn, ℕ, ap, append_assoc, beginning_alone, bytes_of, calls_of, counted_where_up}
+use Rattle.pmd_laws.proofs.Prelude.{WentOn, ℕ, ap, beginning_alone, bytes_of, calls_of, counted_where_up}
 use Rattle.pmd_laws.proofs.Prelude.{delivered, drives_lead, halves_of, handed_is_prefix, harmless_leave_alone}
 use Rattle.pmd_laws.proofs.Prelude.{idle_is_all_sent, inl, leads-append, leads_on, leads_to, led, lent_by, none_is_all}
 use Rattle.pmd_laws.proofs.Prelude.{none_is_all_taken, on, parts, pieces_in, played_by, receiving_drives, records_of}
 use Rattle.pmd_laws.proofs.Prelude.{refl, sent_in, sent_is_prefix, sent_since, subst, sym}
 use Rattle.driver_laws.specs.RingLaws.Delivered as receive
 use Rattle.driver_laws.specs.RingLaws.ReceiveUp as received
+use Rattle.std.proofs.Common.{arith}
+use Rattle.std.proofs.lemmas.Grind.{common_steps}
 
 -- both sides of a driver's queue went on over a history that leaves it alone
 pub record On (c : Course) : Type 0 where
@@ -203,9 +205,7 @@ module _ (w : Watched) (origin : State) {h : List Entry} (before rest : List Ent
   -- what holds just before a call holds so there
   pub last_before : (calls : List Call) (P : State → Type 0) → BeforeLast w origin h calls P
       → BeforeLast w origin before calls P
-  last_before calls P at done more e both own is =
-      at done (more ++ rest) e
-      (sym (append_assoc done (e ∷ more) rest) ∙ ap (λ (l : List Entry). l ++ rest) both ∙ all) own is
+  last_before calls P at done more e both own is = grind (arith, common_steps)
 
 -- so both sides went on within it
 abbrev pub on_before : {c : Course} (x : On c) (before rest : List Entry) → before ++ rest ≡ c.h → On (record c { h = before })

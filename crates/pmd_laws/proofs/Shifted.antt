@@ -7,9 +7,11 @@ use Rattle.pmd_laws.proofs.Prelude.{Call, DeviceFault, Dir, DrivesRings, Event, 
 use Rattle.pmd_laws.proofs.Prelude.{IsOtherwise, IsPrepared, IsReceiveReady, IsStrayRead, IsSwitched, IsTransmitReady}
 use Rattle.pmd_laws.proofs.Prelude.{LendsEach, List, Numbers, PlaysFrom, PollsEnd, PreparingFails, Receive}
 use Rattle.pmd_laws.proofs.Prelude.{ReceiveFails, Reply, RowId, Running, Rx, Rxdctl, Sees, Sender, Sets, StopsBy}
-use Rattle.pmd_laws.proofs.Prelude.{StopsLending, SwitchFails, Tx, ℕ, ap, append-nil, append_assoc, append_cancel_left}
+use Rattle.pmd_laws.proofs.Prelude.{StopsLending, SwitchFails, Tx, ℕ, append-nil, append_cancel_left}
 use Rattle.pmd_laws.proofs.Prelude.{both_asked, both_quiet, call_of, false, inl, inr, last, missed, named, not, place}
 use Rattle.pmd_laws.proofs.Prelude.{polled, quiet, receive_polled, refl, ring_words, subst, sym, true}
+use Rattle.std.proofs.Common.{arith}
+use Rattle.std.proofs.lemmas.Grind.{common_steps}
 
 -- some calls were added, of which this holds, whatever calls are before them
 pub record Shifts (R : List Call → List Call → Type 0) (old new : List Call) : Type 0 where
@@ -24,13 +26,7 @@ mapped x f = record { since = x.since; made = x.made; behind = λ front. f front
 -- one after the other
 pub joined : {R S T : List Call → List Call → Type 0} {old mid new : List Call} → Shifts R old mid → Shifts S mid new
     → ((a b c : List Call) → R a b → S b c → T a c) → Shifts T old new
-joined {T = T} {old = old} x y join = record {
-  since = x.since ++ y.since;
-  made = y.made ∙ ap (λ (l : List Call). l ++ y.since) x.made ∙ append_assoc old x.since y.since;
-  behind = λ front.
-      subst (λ (l : List Call). T front l) (append_assoc front x.since y.since)
-      (join front (front ++ x.since) ((front ++ x.since) ++ y.since) (x.behind front) (y.behind (front ++ x.since)));
-}
+joined {T = T} {old = old} x y join = grind (arith, common_steps)
 
 -- so a relation of calls may be
 

@@ -21,6 +21,8 @@ use Rattle.pmd.specs.Driver.{Driver}
 use Rattle.pmd_laws.specs.Told.{now}
 use Rattle.pmd_laws.proofs.Begun.{all_apart, fresh_own}
 use Rattle.pmd_laws.specs.Told as told
+use Rattle.std.proofs.Common.{arith}
+use Rattle.std.proofs.lemmas.Grind.{common_steps}
 
 -- a later place of a life's history, to which its calls led its halves
 module _ (x : Life) (late rest : List Entry) (split : late ++ rest ≡ x.h) {then : Halves}
@@ -93,9 +95,7 @@ module _ (old : List Call) {h k : Halves} {mid new : List Call} (e : Event Block
   added = drives.1 ++ (adds.0 ++ call_of e reply ∷ [])
 
   pub added_is : new ≡ old ++ added
-  added_is =
-      adds.1 ∙ ap (λ (l : List Call). l ++ (adds.0 ++ call_of e reply ∷ [])) drives.2
-      ∙ append_assoc old drives.1 (adds.0 ++ call_of e reply ∷ [])
+  added_is = grind (arith, common_steps)
 
 -- behind a life, at an entry of the history, where whatever was added comes behind the calls of that life
 module _ (x : Life) (old : List Call) {mid new now : List Call} (e : Event Block) (reply : Reply Block)

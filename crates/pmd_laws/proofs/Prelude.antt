@@ -1,4 +1,4 @@
--- The names that the proofs here and in worker_laws cite most, passed on from one place. Declares nothing.
+-- The names that the proofs here cite most, passed on from one place. Declares nothing.
 pub use Rattle.std.proofs.Common.{[], ◌%◌, ◌&&◌, ◌*◌, ◌++◌, ◌+◌, ◌-◌, ◌<◌, ◌^◌, ◌||◌, ◌∙◌, ◌∷◌, ◌≡◌, ◌≢◌, ◌≤◌, ◌⊎◌}
 pub use Rattle.std.proofs.Common.{Bool, Err, IfErr, IfSome, List, None, Ok, Option, Result, Some, ℕ, ap, append_assoc}
 pub use Rattle.std.proofs.Common.{arith, cond, drop, false, if◌then◌else◌, inl, inr, length, max, nat_cmp, nat_lt, not}

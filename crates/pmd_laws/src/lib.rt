@@ -11,8 +11,10 @@
 //! these have switched its queue off; `specs/Refused` what holds where its start was refused, and `specs/Room` where an
 //! arena has room for its rings. `specs/Beside` says what holds of a driver beside whatever calls of its author's, and
 //! so do `specs/BesideApart` of its blocks, `specs/BesideRoom` of its full ring, `specs/BesideStart` of its start and
-//! `specs/BesideStop` over its stop.
+//! `specs/BesideStop` over its stop. `worker` is about what the ends of workers say of the history of their device.
 #![tactic(auto)]
+
+pub mod worker;
 
 ghost use Rattle.pmd_laws.specs.Beside as beside;
 ghost use Rattle.pmd_laws.specs.BesideApart as apart;

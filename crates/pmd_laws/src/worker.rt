@@ -4,12 +4,11 @@
 //! `workers::run_workers`, the closing of a shared device and `left_alone` tell, and `workers::begins_well` beside it;
 //! `specs/Quiet` says the second by what `workers::never_asked_on` tells, `specs/Lending` the third by what
 //! `workers::others_lend_none` tells, and `specs/Fitting` the fourth by what `workers::frames_fit` tells.
-#![tactic(auto)]
 
-ghost use Rattle.worker_laws.specs.Fitting.{FramesFitIsShort};
-ghost use Rattle.worker_laws.specs.Lending.{OthersLendNoneIsAlone};
-ghost use Rattle.worker_laws.specs.Order.{CallsStand, HandedIsPrefix, NoneIsLeft, SentIsPrefix};
-ghost use Rattle.worker_laws.specs.Quiet.{NeverAskedIsQuiet};
+ghost use Rattle.pmd_laws.specs.Fitting.{FramesFitIsShort};
+ghost use Rattle.pmd_laws.specs.Lending.{OthersLendNoneIsAlone};
+ghost use Rattle.pmd_laws.specs.WorkerOrder.{CallsStand, HandedIsPrefix, NoneIsLeft, SentIsPrefix};
+ghost use Rattle.pmd_laws.specs.Quiet.{NeverAskedIsQuiet};
 
 /// Over the history of a shared device that was closed, which leaves the queue of a job alone: the packets that the
 /// job's driver handed out, as its end tells them, are a prefix of those delivered on the queue, and the frames sent

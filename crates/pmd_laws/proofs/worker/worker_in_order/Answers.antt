@@ -1,5 +1,5 @@
-use Rattle.worker_laws.proofs.Order.{calls_stand, in_order, starts_or_none}
-use Rattle.worker_laws.proofs.worker_in_order.Goals as goal
+use Rattle.pmd_laws.proofs.WorkerOrder.{calls_stand, in_order, starts_or_none}
+use Rattle.pmd_laws.proofs.worker.worker_in_order.Goals as goal
 
 pub returns : goal.returns
 returns c = record {

@@ -3,7 +3,7 @@
 use Rattle.std.specs.Prelude.{ℕ, ◌*◌, All, List, length}
 use Rattle.pmd_laws.specs.DriverLaws.Prelude.{State, new_state, most_blocks, FitsBlocks, IsLegal, Watched, Call, Entry}
 use Rattle.workers.specs.Fitting.{FramesFit}
-use Rattle.worker_laws.specs.Points.{HoldsAtFirst}
+use Rattle.pmd_laws.specs.Points.{HoldsAtFirst}
 
 -- the frames that wait for a queue fit as many blocks as a packet of the driver has at most
 abbrev pub AllFitBlocks : (queue frame : ℕ) → State → Type 0

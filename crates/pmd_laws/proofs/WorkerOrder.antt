@@ -15,11 +15,11 @@ use Rattle.pmd_laws.proofs.Prelude.{delivered, eq-eqb, inl, inr, leads_to, left,
 use Rattle.pmd_laws.proofs.Prelude.{new_state, none_behind, refl, same_from_push, sent_since, subst, sym}
 use Rattle.pmd_laws.proofs.Refused.{left_of_refused_is_prefix}
 use Rattle.pmd_laws.proofs.DriverLaws.HistoryLaws.Alone.{new_is_left_alone}
-use Rattle.worker_laws.specs.Order.{CallsStand, EndOwn, IsEndAmong, IsEndIn, UpTo, given_of, queue_of}
-use Rattle.worker_laws.specs.Points.{JustBefore}
-use Rattle.worker_laws.proofs.Told.{calls_from, starts_more}
-use Rattle.worker_laws.proofs.Lived.{handed_since, sent_on, starts}
-use Rattle.worker_laws.proofs.Settings.{ground_there, named_below}
+use Rattle.pmd_laws.specs.WorkerOrder.{CallsStand, EndOwn, IsEndAmong, IsEndIn, UpTo, given_of, queue_of}
+use Rattle.pmd_laws.specs.Points.{JustBefore}
+use Rattle.pmd_laws.proofs.WorkerTold.{calls_from, starts_more}
+use Rattle.pmd_laws.proofs.Lived.{handed_since, sent_on, starts}
+use Rattle.pmd_laws.proofs.Settings.{ground_there, named_below}
 use Rattle.pmd.specs.declared.start.Rest.TheVariants as rest
 use Rattle.pmd_laws.specs.DriverLaws.RingLaws.Delivered as receive
 use Rattle.pmd_laws.specs.DriverLaws.RingLaws.Laws as transmit

@@ -15,8 +15,8 @@ use Rattle.pmd_laws.proofs.DriverLaws.StopCalls.{prepared_plain}
 use Rattle.pmd_laws.proofs.DriverLaws.Histories.{leads-append}
 use Rattle.pmd_laws.proofs.DriverLaws.SwitchedOff.{quieting_leads}
 use Rattle.pmd_laws.proofs.StopCalls.{stopped_ends}
-use Rattle.worker_laws.specs.Points.{JustBefore}
-use Rattle.worker_laws.proofs.Told.{FirstCall, before_first, first_read, more_behind}
+use Rattle.pmd_laws.specs.Points.{JustBefore}
+use Rattle.pmd_laws.proofs.WorkerTold.{FirstCall, before_first, first_read, more_behind}
 use Rattle.pmd_laws.specs.DriverLaws.RingLaws.Delivered as receive
 use Rattle.pmd_laws.specs.DriverLaws.RingLaws.Laws as transmit
 

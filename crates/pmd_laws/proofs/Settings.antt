@@ -46,7 +46,7 @@ use Rattle.pmd_laws.proofs.DriverLaws.HistoryLaws.Written.{place_in, place_named
 use Rattle.pmd_laws.proofs.DriverLaws.HistoryLaws.Alone.{histories_sound}
 use Rattle.pmd_laws.proofs.DriverLaws.HistoryLaws.Steady.{off_steady, steady_kept}
 use Rattle.pmd_laws.proofs.DriverLaws.Ground.{is_in, some_where}
-use Rattle.worker_laws.specs.Quiet.{NeverAskedIsQuiet}
+use Rattle.pmd_laws.specs.Quiet.{NeverAskedIsQuiet}
 use Rattle.nic_device.specs.declared.event.Event.TheVariants as event
 use Rattle.workers.specs.Queues as told
 

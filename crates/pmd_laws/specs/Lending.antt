@@ -6,7 +6,7 @@ use Rattle.nic_device.specs.DmaArena.Numbers.{count_of}
 use Rattle.pmd_laws.specs.DriverLaws.Before.{OnlyPassLends}
 use Rattle.pmd_laws.specs.Faultless.{NoneLent}
 use Rattle.workers.specs.Lending.{OthersLendNone, are_from}
-use Rattle.worker_laws.specs.Points.{HoldsAtFirst}
+use Rattle.pmd_laws.specs.Points.{HoldsAtFirst}
 
 -- where the entries say that others lend none of an arena's blocks, no other pass lends any over the history, and none
 -- of them is lent just before the first event of the driver's own

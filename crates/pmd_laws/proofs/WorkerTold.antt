@@ -12,7 +12,7 @@ use Rattle.pmd_laws.proofs.Prelude.{inl, inr, is_own, is_some, is_step, leads_to
 use Rattle.pmd_laws.proofs.Prelude.{lent_cases, lt-ltb, max, mode_in, most_blocks, nat_cmp, nat_lt, new_state}
 use Rattle.pmd_laws.proofs.Prelude.{not-true, or_cases, or_left, or_right, refl, reply_to, same_from_push}
 use Rattle.pmd_laws.proofs.Prelude.{subst, sym, taken_cases, true}
-use Rattle.worker_laws.specs.Points.{HoldsAtFirst, JustBefore}
+use Rattle.pmd_laws.specs.Points.{HoldsAtFirst, JustBefore}
 use Rattle.nic_device.specs.Sound.{IsLendable}
 use Rattle.nic_device.specs.Step.{step_of}
 use Rattle.nic_device.specs.declared.event.Reply.TheVariants.{Buf}
@@ -32,8 +32,8 @@ use Rattle.nic_device.specs.RxFilter.declared.target.Target.{Target}
 use Rattle.nic_device.specs.RxFilter.declared.unwanted.Unwanted.{Unwanted}
 use Rattle.nic_device.specs.Switching.{without_part}
 use Rattle.workers.specs.Fitting.{let_in_by, longest_behind, longest_let_in}
-use Rattle.worker_laws.specs.Fitting.{AllFitBlocks, FramesFitIsShort}
-use Rattle.worker_laws.specs.Lending.{OthersLendNoneIsAlone}
+use Rattle.pmd_laws.specs.Fitting.{AllFitBlocks, FramesFitIsShort}
+use Rattle.pmd_laws.specs.Lending.{OthersLendNoneIsAlone}
 use Rattle.nic_device.specs.declared.event.Event.TheVariants as event
 use Rattle.std.specs.FinMap as map
 use Rattle.workers.specs.Lending as told

@@ -5,7 +5,7 @@ use Rattle.pmd_laws.specs.Prelude.{IsQuiet}
 use Rattle.workers.specs.Beginning.{BeginsWell}
 use Rattle.workers.specs.Quiet.{NeverAskedOn}
 use Rattle.workers.specs.declared.beginning.Given.{Given}
-use Rattle.worker_laws.specs.Points.{JustBefore}
+use Rattle.pmd_laws.specs.Points.{JustBefore}
 
 -- where no entry before the first of the driver's own asks the queue on, and the driver begins well, both sides of its
 -- queue are off and not wanted on just before that entry

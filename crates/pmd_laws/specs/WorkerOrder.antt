@@ -13,7 +13,7 @@ use Rattle.workers.specs.Starts.{Starts}
 use Rattle.workers.specs.declared.beginning.Given.{Given}
 use Rattle.workers.specs.declared.ends.WorkerEnd.{WorkerEnd}
 use Rattle.workers.specs.declared.job.Job.{Job}
-use Rattle.worker_laws.specs.Points.{JustBefore}
+use Rattle.pmd_laws.specs.Points.{JustBefore}
 
 -- the queue of a job, as its port numbers it
 abbrev pub queue_of : Job → AtPort

@@ -1,4 +1,0 @@
-pub mod Lived
-pub mod Order
-pub mod Settings
-pub mod Told

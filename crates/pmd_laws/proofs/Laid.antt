@@ -1,5 +1,5 @@
--- The calls of a start lay out an empty transmit ring, in turn, and those beside them lay out no more of it; so do those
--- of one that is refused, as far as it came, up to where what it left came down.
+-- The calls of a start lay out an empty transmit ring, in turn, and those beside them lay out no more of it; so do
+-- those of one that is refused, as far as it came, up to where what it left came down.
 use Rattle.pmd.specs.PmdRx.Plays.{AllOwn}
 use Rattle.pmd.specs.PmdRx.Receive.{IsOwn}
 use Rattle.pmd.specs.PmdSeam.Named.{is_driven}

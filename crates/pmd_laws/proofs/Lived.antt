@@ -1,5 +1,5 @@
--- A driver that lived: what it left, counted from its first event on. What is counted once a side is on is counted anew,
--- whatever was before a place where it was off.
+-- A driver that lived: what it left, counted from its first event on. What is counted once a side is on is counted
+-- anew, whatever was before a place where it was off.
 use Rattle.workers.specs.Starts.{Starts}
 use Rattle.pmd_laws.proofs.Ends.{left_handed_over_stop, left_sent_over_stop}
 use Rattle.pmd_laws.proofs.Prelude.{[], ◌&&◌, ◌++◌, ◌∙◌, ◌∷◌, ◌≡◌, AreSteps, AreUp, AtPort, Begins, BeginsWell, Bool}

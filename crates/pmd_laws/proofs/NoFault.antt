@@ -51,7 +51,8 @@ module _ {own : Blocks} {on : List Call} {h : Halves} {new : List Call} (f : Fin
   others_step : OthersStep (doers_of own on h new f) made
   others_step =
       let (doers, since, made, own, is, steps) = f.drives.drives in
-      steps_both is_neither doers (doers_other before ++ f.doer ∷ []) since (before ++ last) (own_length h doers since own)
+      steps_both is_neither doers (doers_other before ++ f.doer ∷ []) since (before ++ last)
+      (own_length h doers since own)
       steps
       (steps_last is_neither (Sends Elsewhere) f.doer before (call_of f.event f.reply)
       (sick_own f.there f.doer (call_of f.event f.reply) f.sick) f.adds.2)
@@ -181,7 +182,8 @@ module _ (x : Told)
   pub none_amid : (old new since more : List Call) → FindsAmid (goes x).rings old new → new ≡ old ++ since
       → calls_of w.pass h ≡ ((now x).made ++ since) ++ more → ⊥
   none_amid old new since more (mid, later, both, found) all is =
-      let f = subst (λ (own : Blocks). FindsFault own old (halves_of (goes x).rings) mid) (λ i k. (goes x).owns k i) found
+      let f =
+      subst (λ (own : Blocks). FindsFault own old (halves_of (goes x).rings) mid) (λ i k. (goes x).owns k i) found
       in
       let same : since ≡ made f ++ later = append_cancel_left old since (made f ++ later)
       (sym all ∙ both ∙ ap (λ (l : List Call). l ++ later) (made_is f) ∙ append_assoc old (made f) later) in

@@ -208,7 +208,8 @@ module _ (w : Watched) (origin : State) {h : List Entry} (before rest : List Ent
   last_before calls P at done more e both own is = grind (arith, common_steps)
 
 -- so both sides went on within it
-abbrev pub on_before : {c : Course} (x : On c) (before rest : List Entry) → before ++ rest ≡ c.h → On (record c { h = before })
+abbrev pub on_before : {c : Course} (x : On c) (before rest : List Entry) → before ++ rest ≡ c.h
+    → On (record c { h = before })
 on_before {c = c} x before rest all = record {
   mid = x.mid;
   v = x.v;

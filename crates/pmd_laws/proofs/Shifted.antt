@@ -1,5 +1,5 @@
--- What the calls of a driver tell is told of the calls that were added alone: it holds behind whichever others. So it is
--- of what its halves were driven by, and of a start.
+-- What the calls of a driver tell is told of the calls that were added alone: it holds behind whichever others. So it
+-- is of what its halves were driven by, and of a start.
 use Rattle.pmd.specs.PmdRx.Filling.{StopsFilling}
 use Rattle.pmd.specs.PmdRx.Wrong.{EndsWrong}
 use Rattle.pmd_laws.proofs.Prelude.{[], ◌++◌, ◌∙◌, ◌∷◌, ◌≡◌, ◌⊎◌, Access, Adds, AreMade, AreUp, AtPort, Block, Bool}

@@ -131,7 +131,8 @@ module _ (w : Watched) (origin : State) (q : AtPort) (frame : ℕ) where
           let now : List Entry = done ++ e ∷ [] in
           let more = sent done ++ sent_by w.queue (reached w origin done) e.event in
           let counted : sent now ≡ more =
-          sent_is_counted.joined w.queue origin [] done (e ∷ []) ∙ ap (λ b. cond b [] more) (n.moves.settles Tx).never in
+          sent_is_counted.joined w.queue origin [] done (e ∷ [])
+          ∙ ap (λ b. cond b [] more) (n.moves.settles Tx).never in
           record {
             kept = keeps_on done e n.moves x.kept;
             out = n.out;
@@ -174,10 +175,12 @@ module _ (w : Watched) (origin : State) (q : AtPort) (frame : ℕ) where
           → Next done e
       asked_next vfs done (event.Write port number word) met made (side, same, none, named) steps x =
           subst (λ p. Next done (event.Write p number word)) (sym same)
-          (word_next done side number word met (subst (λ p. IsEvent (event.Write p number word)) same made) none named x)
+          (word_next done side number word met (subst (λ p. IsEvent (event.Write p number word)) same made) none named
+          x)
       asked_next vfs done (event.Read port number) met made asks steps x =
           left_next done (event.Read port number)
-          (free_left w mine (reached w origin done) (event.Read port number) met made (vfs ∙ sym (vfs_stays origin done))
+          (free_left w mine (reached w origin done) (event.Read port number) met made
+          (vfs ∙ sym (vfs_stays origin done))
           steps (tt, tt)) x
       asked_next vfs done e met made asks steps x =
           left_next done e
@@ -242,7 +245,8 @@ module _ (x : Life) (new : List Call) (y : IsStopping x new) where
       subst (λ (cs : List Call). AtEntries w h cs There) (sym is)
       (all_lead w origin h There (λ c. IsAsking q c.event) x.is.along
       (others_agree w origin q frame k.receive.handed (lent_by w.pass h) k)
-      (asking_agrees w origin q frame k.receive.handed (lent_by w.pass h) k x.is.along.vfs) calls made each (made_some x)
+      (asking_agrees w origin q frame k.receive.handed (lent_by w.pass h) k x.is.along.vfs) calls made each
+      (made_some x)
       lived_at)
 
   prefix_at : (done : List Entry) → There done

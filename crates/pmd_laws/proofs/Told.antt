@@ -38,7 +38,8 @@ module _ (x : Life) (late rest : List Entry) (split : late ++ rest ≡ x.h) {the
       abbrev sooner : Life
       sooner =
           life_before x early (more ++ rest)
-          (sym (append_assoc early more rest) ∙ ap (λ (es : List Entry). es ++ rest) all ∙ split) (calls_of w.pass early)
+          (sym (append_assoc early more rest) ∙ ap (λ (es : List Entry). es ++ rest) all ∙ split)
+          (calls_of w.pass early)
           k
           (leads_on x.started x.made (calls_of w.pass early) (halves_of x.r) k k x.is.since
           (harmless_lead x.made (calls_of w.pass early) k is))
@@ -86,7 +87,8 @@ module _ (x : Life) (late rest : List Entry) (split : late ++ rest ≡ x.h) {the
       waiting_sooner finds same =
           waiting_is_not_all w origin p.front p.back more (first (begun x)) (whole later).0 (driven (ran later) p_late)
           (late_is (λ z s. FindsWaiting s z.transmit) finds)
-          (ap (λ (z : Halves). bytes_of z.transmit.accepted) (last_there (ran later) p_late) ∙ same ∙ counted (ran sooner) p)
+          (ap (λ (z : Halves). bytes_of z.transmit.accepted) (last_there (ran later) p_late) ∙ same
+          ∙ counted (ran sooner) p)
 
 -- calls that drive halves on were added, and then one call more
 module _ (old : List Call) {h k : Halves} {mid new : List Call} (e : Event Block) (reply : Reply Block)
@@ -171,7 +173,8 @@ module _ (x : Life) {old new now : List Call} (at : EndsAt x.w.pass x.h now)
       → bytes_of k.transmit.accepted ≢ sent_since w.queue origin [] early
   waiting_first y early more all is sent =
       let drives = sending_drives old y.mid k (record k { transmit = y.before }) y.plays refl in
-      waiting_sooner x at.before (at.entry ∷ at.behind) at.all (goes_up x old _ _ drives y.looks at behind) early more all is
+      waiting_sooner x at.before (at.entry ∷ at.behind) at.all (goes_up x old _ _ drives y.looks at behind) early more all
+      is
       (record {
         bytes = y.bytes;
         posted = y.posted;

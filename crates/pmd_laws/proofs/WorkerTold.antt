@@ -152,7 +152,8 @@ module _ (own known : Blocks) (s : State) (only : OnlyLent own known s.memory) w
       ]) (only_lent_stays.lend own known s b only)
 
   take_behind : (number : ℕ)
-      → OnlyLent own (LentBehind (event.Take number) (reply_to s (event.Take number))) (after s (event.Take number)).memory
+      → OnlyLent own (LentBehind (event.Take number) (reply_to s (event.Take number)))
+      (after s (event.Take number)).memory
   unfolding step_of
   take_behind number =
       taken_cases (λ o. ((block : Block) → o.reply ≡ Buf block → OnlyLent own (without known number) o.state.memory)

@@ -126,7 +126,8 @@ SentIsPrefix =
 
 abbrev pub IdleIsAllSent : Type 0
 IdleIsAllSent =
-    (x : Beside) → IsToldBeside x → HasNoneOut (now x).driver.rings → IsAllSent x.course (accepted_of (now x).driver.rings)
+    (x : Beside) → IsToldBeside x → HasNoneOut (now x).driver.rings →
+    IsAllSent x.course (accepted_of (now x).driver.rings)
 
 -- behind the last moment comes a call of the driver's, which made these calls. As the history is told anew the pass has
 -- made the driver's own calls up to there at some entry, whatever comes behind it

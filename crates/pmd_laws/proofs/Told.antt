@@ -173,8 +173,8 @@ module _ (x : Life) {old new now : List Call} (at : EndsAt x.w.pass x.h now)
       → bytes_of k.transmit.accepted ≢ sent_since w.queue origin [] early
   waiting_first y early more all is sent =
       let drives = sending_drives old y.mid k (record k { transmit = y.before }) y.plays refl in
-      waiting_sooner x at.before (at.entry ∷ at.behind) at.all (goes_up x old _ _ drives y.looks at behind) early more all
-      is
+      waiting_sooner x at.before (at.entry ∷ at.behind) at.all (goes_up x old _ _ drives y.looks at behind) early more
+      all is
       (record {
         bytes = y.bytes;
         posted = y.posted;

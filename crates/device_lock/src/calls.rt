@@ -20,7 +20,7 @@ use crate::fault::CallFault;
 use crate::locked::Locked;
 use crate::noting::{note_of, ready};
 use crate::resting::{STEPS, keep_idle};
-use nic_device::{Device, Event, EventNote, OutOfMemory, Reply, ReplyNote};
+use nic_device::{Device, Event, EventNote, Notes, OutOfMemory, Reply, ReplyNote};
 use std::alloc::Global;
 use std::marker::Model;
 
@@ -43,6 +43,7 @@ pub struct Calls {
     made: Vec<Made>,
     rested: Option<u16>,
     spare: Vec<u8>,
+    notes: Notes,
 }
 
 impl Model for Calls {
@@ -64,6 +65,7 @@ impl Calls {
             made: Vec::new(alloc),
             rested: None,
             spare: Vec::new(alloc),
+            notes: Notes::new(alloc),
         }
     }
 
@@ -109,11 +111,18 @@ impl Calls {
         if let Some(note) = device.idle_note(&event) {
             return self.keep(event, note);
         }
-        let Ok(note) = ready(alloc, device, &mut self.made, &mut self.spare, &event) else {
+        let Ok(note) = ready(
+            alloc,
+            device,
+            &mut self.made,
+            &mut self.spare,
+            &mut self.notes,
+            &event,
+        ) else {
             return Err(OutOfMemory { event });
         };
         let reply = device.step(event)?;
-        let told = note_of(alloc, &reply, &mut self.spare);
+        let told = note_of(alloc, &reply, &mut self.spare, &mut self.notes);
         put_call(&mut self.made, &mut self.rested, note, told);
         Ok(reply)
     }
@@ -189,11 +198,11 @@ impl Calls {
         if let Some(note) = device.idle_note(&event) {
             return self.keep_locked(alloc, locked, tag, event, note);
         }
-        let Ok(note) = ready(alloc, device, &mut self.made, &mut self.spare, &event) else {
+        let Ok(note) = locked.ready(alloc, &mut self.made, &mut self.spare, &event) else {
             return Err(CallFault::OutOfMemory(event));
         };
         let reply = locked.step(alloc, tag, event)?;
-        let told = note_of(alloc, &reply, &mut self.spare);
+        let told = locked.note_of(alloc, &reply, &mut self.spare);
         put_call(&mut self.made, &mut self.rested, note, told);
         Ok(reply)
     }
@@ -241,6 +250,7 @@ impl Calls {
             made,
             rested,
             spare: _,
+            notes: _,
         } = self;
         for it in made {
             put_rested(&mut calls, it.rested);

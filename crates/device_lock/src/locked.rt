@@ -1,5 +1,6 @@
 ghost use Rattle.std.specs.Prelude.{◌≡◌, [], ℕ, ◌≤◌, ◌<◌, ◌↔◌, ◌⊎◌, true, false, Err, IfOk, OnOk, OnErr, length, slice_index, slice_set, replicate, ◌+◌, None};
-ghost use Rattle.nic_device.specs.Answering.{may_answer};
+ghost use Rattle.nic_device.specs.Answering.{may_answer, note_length};
+ghost use Rattle.std.specs.Vec.{vec_len, vec_capacity};
 ghost use Rattle.nic_device.specs.Resting.{IsIdle, Rests};
 ghost use Rattle.nic_device.specs.Sound.{IsEvent};
 ghost use Rattle.nic_device.specs.State.{new_state};
@@ -19,7 +20,7 @@ use crate::packed::{Packed, Rested, has_room, hold_room, put_entry, unpacked};
 use crate::resting::STEPS;
 use crate::shared::MAX_PASSES;
 use crate::unlocked::Unlocked;
-use nic_device::{Config, Device, Event, EventNote, OutOfMemory, Reply};
+use nic_device::{Config, Device, Event, EventNote, Notes, OutOfMemory, Reply, ReplyNote};
 use std::alloc::{AllocError, Global};
 use std::marker::Model;
 
@@ -45,6 +46,7 @@ pub struct Locked<const VFS: u8, const FIFO: u16> {
     pub(crate) counts: Counts,
     pub(crate) limit: u32,
     pub(crate) spare: Vec<u8>,
+    pub(crate) notes: Notes,
     pub(crate) alloc: Global,
 }
 
@@ -98,6 +100,7 @@ impl<const VFS: u8, const FIFO: u16> Locked<VFS, FIFO> {
             counts,
             limit,
             spare: Vec::new(alloc),
+            notes: Notes::new(alloc),
             alloc,
         })
     }
@@ -126,6 +129,36 @@ impl<const VFS: u8, const FIFO: u16> Locked<VFS, FIFO> {
         &self.device
     }
 
+    /// What a pass's calls take for an event that is to be made, as `ready` says. Its note has what is kept of a block
+    /// in common with that of the history.
+    pub(crate) fn ready<T>(
+        &mut self,
+        alloc: Global,
+        calls: &mut Vec<T>,
+        spare: &mut Vec<u8>,
+        event: &Event,
+    ) -> Result<EventNote, AllocError>
+        ensures same { calls.new.items ≡ calls.old.items }
+        ensures room { OnOk result (vec_len calls.new < vec_capacity calls.new) }
+        ensures note { IfOk result (λ note. note ≡ event.now) }
+        ensures empty { OnOk result (spare.new.items ≡ []) }
+        ensures spare { OnOk result
+            (note_length (step_of self.old.device event.now).reply ≤ vec_capacity spare.new) }
+        ensures unchanged { self.new ≡ self.old }
+    {
+        ready(alloc, &self.device, calls, spare, &mut self.notes, event)
+    }
+
+    /// The note of a reply for a pass's calls, as `note_of` says.
+    pub(crate) fn note_of(&mut self, alloc: Global, reply: &Reply, spare: &mut Vec<u8>) -> ReplyNote
+        requires empty { spare.old.items ≡ [] }
+        requires room { note_length reply.now ≤ vec_capacity spare.old }
+        ensures note { result ≡ reply.now }
+        ensures unchanged { self.new ≡ self.old }
+    {
+        note_of(alloc, reply, spare, &mut self.notes)
+    }
+
     /// Makes one event for the pass of this tag, which is below 64, and appends its entry.
     ///
     /// `HistoryFull` exactly where the history has as many entries as it may, else `OutOfMemory`. Both hand the event
@@ -151,12 +184,19 @@ impl<const VFS: u8, const FIFO: u16> Locked<VFS, FIFO> {
             return Err(CallFault::OutOfMemory(event));
         }
         let device = &self.device;
-        let Ok(note) = ready(alloc, device, &mut self.packed, &mut self.spare, &event) else {
+        let Ok(note) = ready(
+            alloc,
+            device,
+            &mut self.packed,
+            &mut self.spare,
+            &mut self.notes,
+            &event,
+        ) else {
             return Err(CallFault::OutOfMemory(event));
         };
         match self.device.step(event) {
             Ok(reply) => {
-                let told = note_of(alloc, &reply, &mut self.spare);
+                let told = note_of(alloc, &reply, &mut self.spare, &mut self.notes);
                 put_entry(&mut self.packed, &mut self.rested, tag, note, told);
                 self.count += 1;
                 count_one(&mut self.counts, tag);
@@ -227,6 +267,7 @@ impl<const VFS: u8, const FIFO: u16> Locked<VFS, FIFO> {
             counts,
             limit,
             spare: _,
+            notes: _,
             alloc,
         } = self;
         Unlocked {

@@ -6,7 +6,7 @@ ghost use Rattle.std.specs.Vec.{vec_len, vec_capacity};
 ghost use Rattle.nic_device.specs.Answering.{note_length};
 ghost use Rattle.nic_device.specs.Step.{step_of};
 
-use nic_device::{Device, Event, EventNote, Reply, ReplyNote};
+use nic_device::{Device, Event, EventNote, Notes, Reply, ReplyNote};
 use std::alloc::{AllocError, Global};
 use std::mem;
 
@@ -17,6 +17,7 @@ pub(crate) fn ready<T>(
     device: &Device,
     calls: &mut Vec<T>,
     spare: &mut Vec<u8>,
+    notes: &mut Notes,
     event: &Event,
 ) -> Result<EventNote, AllocError>
     ensures same { calls.new.items ≡ calls.old.items }
@@ -28,12 +29,46 @@ pub(crate) fn ready<T>(
     calls.reserve(1)?;
     spare.clear();
     spare.reserve(device.note_room(event))?;
-    event.note(alloc)
+    note_event(alloc, notes, event)
 }
 
-/// The note of a reply: in a vector of its own, or in the spare one where there is no memory for that. The spare one
+/// The note of an event: a block has its bytes in common with the note of it that was made before, where they are as
+/// they were.
+fn note_event(alloc: Global, notes: &mut Notes, event: &Event) -> Result<EventNote, AllocError>
+    ensures { IfOk result (λ note. note ≡ event.now) }
+{
+    match event {
+        Event::Lend(buf) => match notes.of(alloc, buf) {
+            Ok(note) => Ok(Event::Lend(note)),
+            Err(refused) => Err(refused),
+        },
+        _ => event.note(alloc),
+    }
+}
+
+/// The note of a reply, of a block as that of an event. Where there is no memory for it, it is in the spare vector, which
 /// has room for it.
-pub(crate) fn note_of(alloc: Global, reply: &Reply, spare: &mut Vec<u8>) -> ReplyNote
+pub(crate) fn note_of(
+    alloc: Global,
+    reply: &Reply,
+    spare: &mut Vec<u8>,
+    notes: &mut Notes,
+) -> ReplyNote
+    requires empty { spare.old.items ≡ [] }
+    requires room { note_length reply.now ≤ vec_capacity spare.old }
+    ensures { result ≡ reply.now }
+{
+    if let Reply::Buf(buf) = reply {
+        if let Ok(note) = notes.of(alloc, buf) {
+            return Reply::Buf(note);
+        }
+    }
+    note_alone(alloc, reply, spare)
+}
+
+/// The note of a reply in a vector of its own, or in the spare one where there is no memory for that. The spare one has
+/// room for it.
+fn note_alone(alloc: Global, reply: &Reply, spare: &mut Vec<u8>) -> ReplyNote
     requires empty { spare.old.items ≡ [] }
     requires room { note_length reply.now ≤ vec_capacity spare.old }
     ensures { result ≡ reply.now }

@@ -5,7 +5,7 @@ ghost use Rattle.device_lock.specs.Kept.{entries_of};
 
 use crate::entry::Entry;
 use crate::locked::{Counts, Locked};
-use nic_device::Device;
+use nic_device::{Device, Notes};
 use std::alloc::Global;
 use std::marker::Model;
 
@@ -75,6 +75,7 @@ impl<const VFS: u8, const FIFO: u16> Unlocked<VFS, FIFO> {
             counts,
             limit,
             spare: Vec::new(alloc),
+            notes: Notes::new(alloc),
             alloc,
         }
     }

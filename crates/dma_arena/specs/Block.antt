@@ -1,4 +1,4 @@
-use Rattle.std.specs.Prelude.{ℕ, ◌≡◌, ◌*◌, ◌<◌, List, length, replicate}
+use Rattle.std.specs.Prelude.{ℕ, ◌≡◌, ◌*◌, ◌<◌, ◌≤◌, List, length, replicate, slice_index}
 
 -- a block of packet memory: its number, and its bytes
 pub record Block : Type 0 where
@@ -17,3 +17,7 @@ bus_of block = block.number * 2048
 -- the block of this number with each byte 0
 abbrev pub zero_block : ℕ → Block
 zero_block number = record { number = number; bytes = replicate 2048 0 }
+
+-- of the bytes of a block each is 0 from this one on
+abbrev pub IsZeroFrom : ℕ → List ℕ → Type 0
+IsZeroFrom from bytes = (k : ℕ) → from ≤ k → k < 2048 → slice_index bytes k ≡ 0

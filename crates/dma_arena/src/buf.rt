@@ -1,6 +1,6 @@
-ghost use Rattle.std.specs.Prelude.{◌≡◌, ◌+◌, ◌<◌, ◌≤◌, length};
+ghost use Rattle.std.specs.Prelude.{◌≡◌, ◌+◌, ◌<◌, ◌≤◌, length, replicate};
 ghost use Rattle.std.specs.Borrow.{sem};
-ghost use Rattle.dma_arena.specs.Block.{IsBlock, bus_of, zero_block};
+ghost use Rattle.dma_arena.specs.Block.{IsBlock, IsZeroFrom, bus_of, zero_block};
 ghost use Rattle.dma_arena.specs.Memory.{put_bytes};
 
 use crate::raw::Raw;
@@ -18,21 +18,34 @@ pub(crate) fn make(alloc: Global) -> Result<RawBlock, AllocError> {
     Ok(Raw::of(Box::new(alloc, [0; BLOCK_BYTES])?))
 }
 
+/// Clears a block's memory.
+fn clear(bytes: &mut RawBlock)
+    ensures { bytes.new.value ≡ replicate 2048 0 }
+{
+    *bytes.get_mut() = [0; BLOCK_BYTES];
+}
+
 /// A block of packet memory in hand.
 ///
 /// Contracts see it as its number and its bytes. It is one value, in one place: it cannot be
 /// cloned, and it cannot be dropped, so it is given to an arena or lent in the end.
+///
+/// It also knows a byte from which on each is still 0, as all are when it is taken from an arena.
 pub struct Buf {
     number: u16,
+    written: u16,
     bytes: RawBlock,
 }
 
 impl Model for Buf {
-    ghost use Rattle.dma_arena.specs.Block.{Block};
+    ghost use Rattle.std.specs.Prelude.{◌≤◌};
+    ghost use Rattle.dma_arena.specs.Block.{Block, IsZeroFrom};
 
     ghost Value = { Block };
 
     ghost view = { λ b. record { number = b.number; bytes = b.bytes.value } };
+
+    ghost invariant = { λ b. (b.written ≤ 2048) × IsZeroFrom b.written b.bytes.value };
 }
 
 impl Buf {
@@ -42,13 +55,21 @@ impl Buf {
     pub(crate) fn cleared(number: u16, mut bytes: RawBlock) -> Buf
         ensures { result ≡ zero_block number }
     {
-        *bytes.get_mut() = [0; BLOCK_BYTES];
-        Buf { number, bytes }
+        clear(&mut bytes);
+        Buf {
+            number,
+            written: 0,
+            bytes,
+        }
     }
 
     /// The memory of a block that is no longer in hand.
     pub(crate) fn into_memory(self) -> RawBlock {
-        let Buf { number: _, bytes } = self;
+        let Buf {
+            number: _,
+            written: _,
+            bytes,
+        } = self;
         bytes
     }
 
@@ -58,7 +79,18 @@ impl Buf {
         requires { at + length bytes.now ≤ 2048 }
         ensures { self.new ≡ record self.old { bytes = put_bytes self.old.bytes at bytes.now } }
     {
-        self.bytes_mut()[at..at + bytes.len()].copy_from_slice(bytes);
+        let end = at + bytes.len();
+        self.written = self.written.max(end as u16);
+        self.bytes.get_mut()[at..end].copy_from_slice(bytes);
+    }
+
+    /// A byte from which on each is 0. It is told without a look at them, so some before it may be 0
+    /// too.
+    pub fn zeros_from(&self) -> usize
+        ensures within { result ≤ 2048 }
+        ensures zeros { IsZeroFrom result self.now.bytes }
+    {
+        usize::from(self.written)
     }
 
     /// The block's number, below 65,536.
@@ -95,6 +127,7 @@ impl Buf {
         ensures* written { sem 𝓛 (LendsBytes self.entry result) }
         ensures value { result.now ≡ self.old.bytes }
     {
+        self.written = BLOCK_BYTES as u16;
         self.bytes.get_mut()
     }
 }

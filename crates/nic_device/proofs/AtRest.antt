@@ -1,10 +1,7 @@
 -- A device at rest steps on without doing anything.
-use Rattle.std.proofs.Common.{cond, ◌≡◌, ℕ, Bool, true, false, List, [], ◌∷◌, refl, ap, sym, ◌∙◌}
+use Rattle.std.proofs.Common.{cond, ◌≡◌, ℕ, Bool, true, false, List, [], ◌∷◌, refl}
 use Rattle.std.specs.Prelude.{◌&&◌, nat_lt}
 use Rattle.std.proofs.lemmas.Bool.{false≢true, or_right}
-use Rattle.std.specs.Bool.{beq}
-use Rattle.register_file.specs.Registers.{is_wanted}
-use Rattle.register_file.specs.Queue.{is_on}
 use Rattle.register_file.specs.Settings.{is_stopped}
 use Rattle.register_laws.specs.Sides.{transmit_queue_of}
 use Rattle.rx_ring.specs.DmaRing.declared.dir.Dir.{Dir}

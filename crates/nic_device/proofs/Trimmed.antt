@@ -1,9 +1,10 @@
 -- Bytes up to the last that isn't 0, and zero bytes behind them.
-use Rattle.std.proofs.Common.{◌≡◌, ◌≢◌, ℕ, zero, suc, ◌+◌, ◌-◌, ◌<◌, ◌≤◌, List, [], ◌∷◌, ◌++◌, length, take, replicate, get_or, refl, sym, ap, ◌∙◌, arith, Bool, true, false, eqb}
+use Rattle.std.proofs.Common.{◌≡◌, ◌≢◌, ℕ, zero, suc, ◌-◌, ◌<◌, ◌≤◌, List, [], ◌∷◌, ◌++◌, length, take, replicate, get_or, refl, sym, ap, ◌∙◌, arith, ◌⊎◌, inl, inr, Bool, true, false, eqb}
 use Rattle.std.specs.Prelude.{not}
-use Rattle.std.proofs.lemmas.Bool.{eqb-true}
-use Rattle.std.proofs.lemmas.List.{length-append, length-replicate, length-take-le, take_at}
-use Rattle.rx_ring.specs.DmaArena.Block.{Block}
+use Rattle.std.proofs.lemmas.Bool.{eqb-true, cases_lt}
+use Rattle.std.proofs.lemmas.List.{length-append, length-replicate, length-take-le, take_at, get_or_past}
+use Rattle.rx_ring.specs.DmaArena.Block.{Block, IsZeroFrom}
+use Rattle.nic_device.specs.Holding.{Held}
 use Rattle.nic_device.specs.Trimming.{kept_with, kept_len}
 
 with_le : (kept byte n : ℕ) → kept ≤ n → kept_with kept byte ≤ suc n
@@ -92,6 +93,10 @@ module _ (kept : List ℕ) (zeros : ℕ) (trimmed : kept_len kept ≡ length kep
 abbrev pub block : ℕ → List ℕ → ℕ → Block
 block number kept zeros = record { number = number; bytes = kept ++ replicate zeros 0 }
 
+-- a block by its number and its bytes
+abbrev pub block_of : ℕ → List ℕ → Block
+block_of number bytes = record { number = number; bytes = bytes }
+
 pub block-same : (n m : ℕ) (kept other : List ℕ) (zeros others : ℕ) → n ≡ m → kept ≡ other → zeros ≡ others
     → block n kept zeros ≡ block m other others
 block-same n m kept other zeros others number bytes behind =
@@ -109,9 +114,43 @@ same-block n m kept other zeros others trimmed short is = (
       ∙ zeros_of_all other others short,
 )
 
+zero_beyond : (bytes : List ℕ) (from k : ℕ) → length bytes ≡ 2048 → IsZeroFrom from bytes → from ≤ k
+    → (k < 2048) ⊎ (2048 ≤ k) → get_or bytes k 0 ≡ 0
+zero_beyond bytes from k size zeros le (inl lt) = zeros k le lt
+zero_beyond bytes from k size zeros le (inr past) = get_or_past bytes k 0 (omega (arith, size, past))
+
+-- behind a block's bytes nothing is read
+pub zeros_on : (bytes : List ℕ) (from : ℕ) → length bytes ≡ 2048 → IsZeroFrom from bytes
+    → (k : ℕ) → from ≤ k → get_or bytes k 0 ≡ 0
+zeros_on bytes from size zeros k le = zero_beyond bytes from k size zeros le (cases_lt k 2048)
+
 zero_when : (b : Bool) → not b ≡ false → b ≡ true
 zero_when true is = refl
 zero_when false is = sym is
 
 pub zero_from_not : (byte : ℕ) → not (eqb byte 0) ≡ false → byte ≡ 0
 zero_from_not byte is = eqb-true byte 0 (zero_when (eqb byte 0) is)
+
+-- two notes hold the same where they agree in each part
+pub held-same : (h g : Held) → (h.number ≡ g.number) × (h.kept ≡ g.kept) × (h.zeros ≡ g.zeros) → h ≡ g
+held-same h g all =
+    ap (λ (n : ℕ). record { number = n; zeros = h.zeros; kept = h.kept }) all.0
+    ∙ ap (λ (l : List ℕ). record { number = g.number; zeros = h.zeros; kept = l }) all.1
+    ∙ ap (λ (z : ℕ). record { number = g.number; zeros = z; kept = g.kept }) all.2
+
+-- what a note holds of a block: its number, these bytes, which are those that are kept, and the zero bytes behind them
+module _ (buf : Block) (bytes : List ℕ) (kept n z : ℕ) (h : Held)
+    (is : h ≡ record { number = n; zeros = z; kept = bytes })
+    (all : kept ≡ kept_len buf.bytes) (front : bytes ≡ take kept buf.bytes) where
+  held : h.kept ≡ take (kept_len buf.bytes) buf.bytes
+  held = ap (λ (x : Held). x.kept) is ∙ front ∙ ap (λ (k : ℕ). take k buf.bytes) all
+
+  pub held-trimmed : kept_len h.kept ≡ length h.kept
+  held-trimmed = ap kept_len held ∙ kept-take buf.bytes ∙ sym (ap length held)
+
+  pub held-whole : n ≡ buf.number → z ≡ length buf.bytes - kept → block h.number h.kept h.zeros ≡ buf
+  held-whole number behind =
+      let zeros : h.zeros ≡ length buf.bytes - kept_len buf.bytes =
+      ap (λ (x : Held). x.zeros) is ∙ behind ∙ ap (λ (k : ℕ). length buf.bytes - k) all in
+      block-same _ _ _ _ _ _ (ap (λ (x : Held). x.number) is ∙ number) held zeros
+      ∙ ap (block_of buf.number) (kept-whole buf.bytes)

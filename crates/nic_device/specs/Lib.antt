@@ -20,6 +20,7 @@ pub mod Bus
 pub mod Config
 pub mod Eeprom
 pub mod Footprint
+pub mod Holding
 pub mod Interrupt
 pub mod Kept
 pub mod Lending

@@ -2,6 +2,7 @@ ghost use Rattle.std.specs.Prelude.{◌≡◌, ◌↔◌, ◌-◌, ◌++◌, IsT
 ghost use Rattle.nic_device.specs.Step.{lent_block};
 ghost use Rattle.nic_device.specs.Trimming.{kept_len};
 
+use crate::holding::Holding;
 use register_file::Group;
 use rx_ring::{Buf, Dir, Octets, RingFault};
 use std::marker::Model;
@@ -254,9 +255,7 @@ pub enum Reply<B = Buf> {
 /// an event and its note are one. It keeps the bytes up to the last that isn't 0, and how many zero bytes follow.
 #[derive(Debug, Drop)]
 pub struct Note {
-    number: u32,
-    zeros: u32,
-    kept: Octets,
+    holding: Holding,
 }
 
 impl Model for Note {
@@ -266,51 +265,50 @@ impl Model for Note {
 
     ghost Value = { Block };
 
-    ghost view = { λ n. record { number = n.number; bytes = n.kept ++ replicate n.zeros 0 } };
+    ghost view = { λ n. record {
+      number = n.holding.number;
+      bytes = n.holding.kept ++ replicate n.holding.zeros 0;
+    } };
 
-    ghost invariant = { λ n. kept_len n.kept ≡ length n.kept };
+    ghost invariant = { λ n. kept_len n.holding.kept ≡ length n.holding.kept };
 }
 
 impl Note {
-    /// The note of a block of this number, with these bytes and so many zero bytes behind them. The last of these bytes
-    /// isn't 0.
-    pub(crate) fn new(number: u32, kept: Octets, zeros: u32) -> Note
-        requires { kept_len kept ≡ length kept }
-        ensures { result ≡ record { number = number; bytes = kept ++ replicate zeros 0 } }
+    /// The note that holds this. The last of the bytes that are kept isn't 0.
+    pub(crate) fn new(holding: Holding) -> Note
+        requires { kept_len holding.kept ≡ length holding.kept }
+        ensures { result
+            ≡ record { number = holding.number; bytes = holding.kept ++ replicate holding.zeros 0 } }
     {
-        Note {
-            number,
-            zeros,
-            kept,
-        }
+        Note { holding }
     }
 
     /// The block's number.
     pub fn number(&self) -> u32
         ensures { result ≡ self.now.number }
     {
-        self.number
+        u32::from(self.holding.number())
     }
 
     /// The block's bytes up to the last that isn't 0.
     pub fn kept(&self) -> &[u8]
         ensures { result.now ≡ take (kept_len self.now.bytes) self.now.bytes }
     {
-        self.kept.bytes()
+        self.holding.kept()
     }
 
     /// How many zero bytes the block has behind these.
     pub fn zeros(&self) -> u32
         ensures { result ≡ length self.now.bytes - kept_len self.now.bytes }
     {
-        self.zeros
+        u32::from(self.holding.zeros())
     }
 
     /// Whether both are notes of one block: its number and its bytes.
     pub fn same(&self, other: &Note) -> bool
         ensures { IsTrue result ↔ (self.now ≡ other.now) }
     {
-        self.zeros == other.zeros && self.number == other.number && self.kept.same(&other.kept)
+        self.holding.same(&other.holding)
     }
 }
 

@@ -13,12 +13,14 @@
 mod access;
 mod arrival;
 mod bus;
+mod common;
 mod config;
 mod copies;
 mod device;
 mod eeprom;
 mod engine;
 mod event;
+mod holding;
 mod interrupt;
 mod lending;
 mod link;
@@ -35,6 +37,7 @@ mod transmit;
 mod trimming;
 mod waiting;
 
+pub use common::Notes;
 pub use config::{Config, MAX_FIFO, NewFault};
 pub use device::{Device, Parts};
 pub use eeprom_image::{AsmFault, Image, LoadFault, assemble, load};

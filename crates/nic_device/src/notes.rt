@@ -1,7 +1,7 @@
 //! Notes: an event and a reply as they can be kept, with what a packet buffer holds in its place. Contracts see an
 //! event and its note as one, and so a reply and its note.
 
-ghost use Rattle.std.specs.Prelude.{◌≡◌, ◌≤◌, ◌↔◌, IsTrue, IfOk, [], length, false};
+ghost use Rattle.std.specs.Prelude.{◌≡◌, ◌-◌, ◌≤◌, ◌↔◌, IsTrue, IfOk, [], length, take, false};
 ghost use Rattle.std.specs.Vec.{vec_capacity};
 ghost use Rattle.std.specs.Result.{result_err};
 ghost use Rattle.nic_device.specs.Answering.{note_length};
@@ -9,9 +9,11 @@ ghost use Rattle.nic_device.specs.Step.{handed_block};
 ghost use Rattle.nic_device.specs.Trimming.{kept_len};
 
 use crate::event::{Event, EventNote, Note, Reply, ReplyNote};
-use crate::trimming::kept_len;
+use crate::holding::Holding;
+use crate::trimming::kept_in;
 use rx_ring::{Buf, Octets};
 use std::alloc::{AllocError, Global};
+use std::sync::Arc;
 
 impl Note {
     /// The note of a block of packet memory. What it keeps of the block's bytes is copied into a vector that has room
@@ -21,21 +23,49 @@ impl Note {
         requires room { 2048 ≤ vec_capacity room }
         ensures { result ≡ buf.now }
     {
-        let whole = buf.bytes();
-        Note::with_kept(buf, kept_len(whole), room)
+        let _whole = buf.bytes();
+        Note::with_kept(buf, kept_in(buf), room)
     }
 
     /// The same, where it is known how many bytes the note keeps, and the vector has room for them.
-    fn with_kept(buf: &Buf, kept: usize, room: Vec<u8>) -> Note
+    pub(crate) fn with_kept(buf: &Buf, kept: usize, room: Vec<u8>) -> Note
         requires kept { kept ≡ kept_len buf.now.bytes }
         requires empty { room.items ≡ [] }
         requires room { kept ≤ vec_capacity room }
         ensures { result ≡ buf.now }
     {
         let bytes: &[u8] = buf.bytes();
-        let zeros = (bytes.len() - kept) as u32;
-        Note::new(buf.block(), fitted(&bytes[..kept], room), zeros)
+        Note::with_own(buf, kept, fitted(&bytes[..kept], room))
     }
+
+    /// The same with these bytes, which are those that the note keeps.
+    pub(crate) fn with_own(buf: &Buf, kept: usize, bytes: Octets) -> Note
+        requires kept { kept ≡ kept_len buf.now.bytes }
+        requires bytes { bytes ≡ take kept buf.now.bytes }
+        ensures { result ≡ buf.now }
+    {
+        let zeros = zeros_behind(buf, kept);
+        Note::new(Holding::own(buf.block() as u16, bytes, zeros))
+    }
+
+    /// The same with bytes that other notes may have too.
+    pub(crate) fn with_common(buf: &Buf, kept: usize, bytes: Arc<Octets>) -> Note
+        requires kept { kept ≡ kept_len buf.now.bytes }
+        requires bytes { bytes.value ≡ take kept buf.now.bytes }
+        ensures { result ≡ buf.now }
+    {
+        let zeros = zeros_behind(buf, kept);
+        Note::new(Holding::common(buf.block() as u16, bytes, zeros))
+    }
+}
+
+/// How many zero bytes a block has behind those that its note keeps.
+fn zeros_behind(buf: &Buf, kept: usize) -> u16
+    requires { kept ≡ kept_len buf.now.bytes }
+    ensures { result ≡ length buf.now.bytes - kept }
+{
+    let bytes: &[u8] = buf.bytes();
+    (bytes.len() - kept) as u16
 }
 
 /// A copy of the bytes, in a vector that has room for them. The room that is left is given back.
@@ -58,7 +88,7 @@ impl Event {
             Event::Read(port, address) => Ok(Event::Read(*port, *address)),
             Event::Write(port, address, word) => Ok(Event::Write(*port, *address, *word)),
             Event::Lend(buf) => {
-                let kept = kept_len(buf.bytes());
+                let kept = kept_in(buf);
                 let room = Vec::with_capacity(alloc, kept)?;
                 Ok(Event::Lend(Note::with_kept(buf, kept, room)))
             }
@@ -120,7 +150,7 @@ impl Reply {
         ensures { result ≡ note_length self.now }
     {
         match self {
-            Reply::Buf(buf) | Reply::Twice(buf) => kept_len(buf.bytes()),
+            Reply::Buf(buf) | Reply::Twice(buf) => kept_in(buf),
             Reply::Frame { queue: _, bytes } => bytes.bytes().len(),
             _ => 0,
         }

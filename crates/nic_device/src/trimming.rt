@@ -3,28 +3,41 @@
 ghost use Rattle.std.specs.Prelude.{◌≡◌, ℕ, ◌+◌, ◌<◌, ◌≤◌, length, slice_index, true};
 ghost use Rattle.nic_device.specs.Trimming.{kept_len};
 
+use rx_ring::Buf;
 use std::simd::prelude::*;
 
 /// How many bytes are looked at together.
 const TOGETHER: usize = 64;
 
-/// How many bytes there are up to the last that isn't 0.
-pub(crate) fn kept_len(bytes: &[u8]) -> usize
+/// How many bytes of a block there are up to the last that isn't 0.
+pub(crate) fn kept_in(buf: &Buf) -> usize
+    ensures { result ≡ kept_len buf.now.bytes }
+{
+    let bytes: &[u8] = buf.bytes();
+    kept_before(bytes, buf.zeros_from())
+}
+
+/// The same of bytes that are 0 from a place on.
+fn kept_before(bytes: &[u8], from: usize) -> usize
+    requires within { from ≤ length bytes.now }
+    requires zeros { (k : ℕ) → from ≤ k → slice_index bytes.now k ≡ 0 }
     ensures { result ≡ kept_len bytes.now }
 {
-    let mut end = zeros_begin(bytes);
+    let mut end = zeros_begin(bytes, from);
     while end > 0 && bytes[end - 1] == 0 {
         end -= 1;
     }
     end
 }
 
-/// A place from which on all bytes are 0, found by looking at many of them together.
-fn zeros_begin(bytes: &[u8]) -> usize
+/// A place from which on all bytes are 0, found by looking at many of them together, where they are so from another on.
+fn zeros_begin(bytes: &[u8], from: usize) -> usize
+    requires within { from ≤ length bytes.now }
+    requires zeros { (k : ℕ) → from ≤ k → slice_index bytes.now k ≡ 0 }
     ensures within { result ≤ length bytes.now }
     ensures zeros { (k : ℕ) → result ≤ k → slice_index bytes.now k ≡ 0 }
 {
-    let mut end = bytes.len();
+    let mut end = from;
     while end >= TOGETHER && are_zeros(bytes, end - TOGETHER) {
         end -= TOGETHER;
     }

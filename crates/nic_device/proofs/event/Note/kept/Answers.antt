@@ -6,5 +6,5 @@ use Rattle.nic_device.proofs.event.Note.kept.Goals as goal
 
 pub returns : goal.returns
 returns c =
-    let all = kept_of_all c.self.inside.kept c.self.inside.zeros c.self.invariant in
-    c.bytes.ensures ∙ sym all ∙ ap (λ (b : Block). take (kept_len b.bytes) b.bytes) c.self.view_is
+    let all = kept_of_all c.self.inside.holding.kept c.self.inside.holding.zeros c.self.invariant in
+    c.kept.ensures ∙ sym all ∙ ap (λ (b : Block). take (kept_len b.bytes) b.bytes) c.self.view_is

@@ -6,5 +6,5 @@ use Rattle.nic_device.proofs.event.Note.zeros.Goals as goal
 
 pub returns : goal.returns
 returns c =
-    let all = zeros_of_all c.self.inside.kept c.self.inside.zeros c.self.invariant in
-    sym all ∙ ap (λ (b : Block). length b.bytes - kept_len b.bytes) c.self.view_is
+    let all = zeros_of_all c.self.inside.holding.kept c.self.inside.holding.zeros c.self.invariant in
+    c.from.ensures ∙ c.zeros.ensures ∙ sym all ∙ ap (λ (b : Block). length b.bytes - kept_len b.bytes) c.self.view_is

@@ -1,0 +1,100 @@
+//! Notes of blocks that have their bytes in common.
+
+ghost use Rattle.std.specs.Prelude.{◌≡◌, IfOk, IfSome, IsTrue};
+
+use crate::event::Note;
+use crate::trimming::kept_in;
+use rx_ring::{Buf, Octets};
+use std::alloc::{AllocError, Global};
+use std::sync::Arc;
+
+/// For how many blocks it is remembered what was kept of them: those whose numbers differ by this share a place.
+const PLACES: usize = 256;
+
+/// What was kept of blocks as they were noted last. A driver takes a block, lends it and takes it again, mostly as it
+/// was: the notes have its bytes in common then, which are written once.
+#[derive(Debug, Drop)]
+pub struct Notes {
+    last: Vec<Option<Arc<Octets>>>,
+}
+
+impl Notes {
+    /// Nothing was noted yet. It takes no memory.
+    pub fn new(alloc: Global) -> Notes {
+        Notes {
+            last: Vec::new(alloc),
+        }
+    }
+
+    /// The note of a block. Where the block of its place was noted with the same bytes before, both notes have them in
+    /// common.
+    pub fn of(&mut self, alloc: Global, buf: &Buf) -> Result<Note, AllocError>
+        ensures { IfOk result (λ note. note ≡ buf.now) }
+    {
+        let bytes: &[u8] = buf.bytes();
+        let kept = kept_in(buf);
+        if kept == 0 {
+            return Ok(Note::with_kept(buf, kept, Vec::new(alloc)));
+        }
+        let place = buf.block() as usize % PLACES;
+        if let Some(last) = self.last_at(place, &bytes[..kept]) {
+            return Ok(Note::with_common(buf, kept, last));
+        }
+        let room = Vec::with_capacity(alloc, kept)?;
+        match Arc::new(alloc, Octets::copied(&bytes[..kept], room)) {
+            Ok(common) => {
+                self.keep(alloc, place, &common);
+                Ok(Note::with_common(buf, kept, common))
+            }
+            Err(refused) => Ok(Note::with_own(buf, kept, refused.value)),
+        }
+    }
+
+    /// What was kept at a place, where it is these bytes.
+    fn last_at(&self, place: usize, bytes: &[u8]) -> Option<Arc<Octets>>
+        ensures { IfSome result (λ last. last.value ≡ bytes.now) }
+    {
+        if place >= self.last.len() {
+            return None;
+        }
+        match &self.last[place] {
+            Some(last) if are_same(last.bytes(), bytes) => match Arc::try_clone(last) {
+                Ok(again) => Some(again),
+                Err(_) => None,
+            },
+            _ => None,
+        }
+    }
+
+    /// Remembers what was kept at a place, where there is memory.
+    fn keep(&mut self, alloc: Global, place: usize, common: &Arc<Octets>) {
+        if self.last.len() < PLACES {
+            self.last = places(alloc);
+        }
+        if place < self.last.len() {
+            if let Ok(again) = Arc::try_clone(common) {
+                self.last[place] = Some(again);
+            }
+        }
+    }
+}
+
+/// Whether both are the same bytes.
+fn are_same(one: &[u8], other: &[u8]) -> bool
+    ensures { IsTrue result → one.now ≡ other.now }
+{
+    one == other
+}
+
+/// Places where nothing is remembered; none where there is no memory for them.
+fn places(alloc: Global) -> Vec<Option<Arc<Octets>>> {
+    let mut places = Vec::new(alloc);
+    if places.reserve(PLACES).is_ok() {
+        for _place in 0..PLACES {
+            if places.push(None).is_err() {
+                break;
+            }
+        }
+    }
+    places
+}

@@ -46,8 +46,8 @@ fn note_event(alloc: Global, notes: &mut Notes, event: &Event) -> Result<EventNo
     }
 }
 
-/// The note of a reply, of a block as that of an event. Where there is no memory for it, it is in the spare vector, which
-/// has room for it.
+/// The note of a reply, of a block as that of an event. Where there is no memory for it, it is in the spare vector,
+/// which has room for it.
 pub(crate) fn note_of(
     alloc: Global,
     reply: &Reply,

@@ -11,6 +11,7 @@ pub mod Places
 pub mod Polling
 pub mod QueueSequences
 pub mod Refusals
+pub mod Replying
 pub mod Rings
 pub mod Sequences
 pub mod Standing

@@ -30,7 +30,8 @@ invariant_of-self-in-Ok-true g c =
     ∙ ap (λ (ps : List Packet). ps ++ ended) c.room_for_one.ensures.whole in
     let kept : c.keep_whole.new.records.items ≡ r.records.items ++ records_of ended =
     c.keep_whole.ensures.kept
-    ∙ ap (λ (p : Packet). c.room_for_one.new.records.items ++ records_of (if_any p.bufs p)) c.replace-packet.ensures.value
+    ∙ ap (λ (p : Packet). c.room_for_one.new.records.items ++ records_of (if_any p.bufs p))
+    c.replace-packet.ensures.value
     ∙ ap (λ (ks : List Kept). ks ++ records_of ended) c.room_for_one.ensures.records in (
       named_steady l r.posted r.seen.items r.held c.replace-packet.new.dest r.whole.items c.keep_whole.new.whole.items
           r.stage c.in-Lent.block c.push_back_reserved.new.self.items c.self.invariant.0 c.in-Lent.is none
@@ -62,7 +63,8 @@ returns-else-not-is_empty-clause-named g c =
     ∙ ap (λ (ps : List Packet). ps ++ ended) c.room_for_one.ensures.whole in
     let kept : c.keep_whole.new.records.items ≡ r.records.items ++ records_of ended =
     c.keep_whole.ensures.kept
-    ∙ ap (λ (p : Packet). c.room_for_one.new.records.items ++ records_of (if_any p.bufs p)) c.replace-packet.ensures.value
+    ∙ ap (λ (p : Packet). c.room_for_one.new.records.items ++ records_of (if_any p.bufs p))
+    c.replace-packet.ensures.value
     ∙ ap (λ (ks : List Kept). ks ++ records_of ended) c.room_for_one.ensures.records in
     shown_names l r.posted c.in-Lent.block c.push_back_reserved.new.self.items r.records.items
     c.keep_whole.new.records.items r.handed r.seen.items r.held c.replace-packet.new.dest r.whole.items

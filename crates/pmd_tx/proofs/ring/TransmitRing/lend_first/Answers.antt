@@ -21,7 +21,8 @@ invariant_of-self-in-Ok-None g c =
     c.split-waiting.ensures.first ∙ ap (λ (k : ℕ). take k c.take_first.new.self) count in
     let waiting : c.replace-none.new.dest ≡ drop 1 (take n p.bufs) =
     c.replace-none.ensures.after ∙ rest
-    ∙ sym (ap (λ (l : List Block). drop 1 l) (firsts-split n p.bufs c.take_first.new.self c.in-Some-take_first.first bufs some)) in
+    ∙ sym (ap (λ (l : List Block). drop 1 l)
+    (firsts-split n p.bufs c.take_first.new.self c.in-Some-take_first.first bufs some)) in
     let numbers : c.block-block.result ∷ numbers_of c.split-waiting.result.0 ≡ take n (numbers_of p.bufs) =
     ap (λ (k : ℕ). k ∷ numbers_of c.split-waiting.result.0) c.block-block.ensures.number
     ∙ ap (λ (l : List Block). c.in-Some-take_first.first.number ∷ numbers_of l) rest

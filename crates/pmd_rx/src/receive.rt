@@ -1,6 +1,6 @@
 //! The receive side of the driver: one step for each of its calls, from one stage to the next.
 
-ghost use Rattle.std.specs.Prelude.{◌≡◌, ◌<◌, ◌≤◌, ◌+◌, ◌*◌, ◌++◌, length, IsFalse, if◌then◌else◌, Ok, true, false, IfOk, IfErr, OnOk, OnErr, [], min, vec_len};
+ghost use Rattle.std.specs.Prelude.{◌≡◌, ◌<◌, ◌≤◌, ◌+◌, ◌*◌, ◌++◌, length, IsFalse, if◌then◌else◌, Ok, true, false, IfOk, IfErr, OnOk, OnErr, OnSome, IfSome, [], min, vec_len};
 ghost use Rattle.std.specs.Vec.{vec_capacity};
 ghost use Rattle.std.specs.VecDeque.{deque_len, deque_capacity};
 ghost use Rattle.nic_device.specs.DmaArena.Numbers.{Numbers, is_free};
@@ -265,16 +265,14 @@ impl ReceiveRing {
             unreachable!()
         };
         let no_memory = PmdFault::Call(CallFault::OutOfMemory(()));
-        if self.slots.reserve(1).is_err() {
-            return Err(no_memory);
-        }
-        if self.whole.reserve(1).is_err() {
-            return Err(no_memory);
-        }
-        if self.records.reserve(1).is_err() {
-            return Err(no_memory);
-        }
-        let Ok(room) = Vec::with_capacity(alloc, self.record_room()) else {
+        let bytes = self.record_room();
+        let Some(room) = room_for_one(
+            alloc,
+            &mut self.slots,
+            &mut self.whole,
+            &mut self.records,
+            bytes,
+        ) else {
             return Err(no_memory);
         };
         match poke(alloc, nic, self.vacant_descriptor(), naming(block)) {
@@ -311,6 +309,36 @@ impl ReceiveRing {
             0
         }
     }
+}
+
+/// Makes room for a block's number, for a whole packet, for its record, and for the bytes that this keeps. None where
+/// there is no memory.
+fn room_for_one(
+    alloc: Global,
+    slots: &mut VecDeque<u32>,
+    whole: &mut VecDeque<Packet>,
+    records: &mut Vec<Record>,
+    bytes: usize,
+) -> Option<Vec<u8>>
+    ensures slots { slots.new.items ≡ slots.old.items }
+    ensures whole { whole.new.items ≡ whole.old.items }
+    ensures records { records.new.items ≡ records.old.items }
+    ensures slot { OnSome result (deque_len slots.new < deque_capacity slots.new) }
+    ensures packet { OnSome result (deque_len whole.new < deque_capacity whole.new) }
+    ensures record { OnSome result (vec_len records.new < vec_capacity records.new) }
+    ensures empty { IfSome result (λ room. room.items ≡ []) }
+    ensures bytes { IfSome result (λ room. bytes ≤ vec_capacity room) }
+{
+    if slots.reserve(1).is_err() {
+        return None;
+    }
+    if whole.reserve(1).is_err() {
+        return None;
+    }
+    if records.reserve(1).is_err() {
+        return None;
+    }
+    Vec::with_capacity(alloc, bytes).ok()
 }
 
 /// The descriptor that names a block.

@@ -1,6 +1,6 @@
 //! The transmit ring of the driver: one step for each of its moves.
 
-ghost use Rattle.std.specs.Prelude.{[], ◌≡◌, ◌==◌, ◌≢◌, ◌↔◌, ◌<◌, ◌≤◌, ◌+◌, ◌-◌, ◌++◌, ℕ, None, All, length, take, drop, slice_index_or, true, false, Ok, IfOk, IfErr, OnOk, OnErr, IfSome, IsNone, if◌then◌else◌, List, not, nat_lt};
+ghost use Rattle.std.specs.Prelude.{[], ◌≡◌, ◌==◌, ◌≢◌, ◌↔◌, ◌<◌, ◌≤◌, ◌+◌, ◌-◌, ◌++◌, ℕ, None, All, length, take, drop, slice_index_or, true, false, Ok, IfOk, IfErr, OnOk, OnErr, OnSome, IfSome, IsNone, vec_len, if◌then◌else◌, List, not, nat_lt};
 ghost use Rattle.pmd_seam.specs.Accesses.{IsLent, IsWritten};
 ghost use Rattle.pmd_seam.specs.Begun.{BeganAs};
 ghost use Rattle.pmd_seam.specs.Bufs.{numbers_of};
@@ -13,6 +13,7 @@ ghost use Rattle.std.specs.List.{list_any};
 ghost use Rattle.nic_device.specs.DmaRing.Ring.{next_of};
 ghost use Rattle.pmd_seam.specs.Packet.{Kept};
 ghost use Rattle.pmd_seam.specs.Slots.{blocks_for, ring_blocks};
+ghost use Rattle.std.specs.Vec.{vec_capacity};
 ghost use Rattle.std.specs.VecDeque.{deque_len, deque_capacity};
 ghost use Rattle.pmd_tx.specs.Sends.{IsLate, IsBack};
 ghost use Rattle.pmd_tx.specs.Shown.{MayStart, sent_as, IsUnlent, LendsFirst, newest_part, newest_parts};
@@ -326,13 +327,8 @@ impl TransmitRing {
     {
         let no_memory = PmdFault::Call(CallFault::OutOfMemory(()));
         let parts = parts_for(packet.len);
-        if self.pieces.reserve(usize::from(parts)).is_err() {
-            return Err((no_memory, packet));
-        }
-        if self.accepted.reserve(1).is_err() {
-            return Err((no_memory, packet));
-        }
-        let Ok(room) = Vec::with_capacity(alloc, packet.record_room()) else {
+        let bytes = packet.record_room();
+        let Some(room) = room_for(alloc, &mut self.pieces, parts, &mut self.accepted, bytes) else {
             return Err((no_memory, packet));
         };
         let record = Record::of(&packet, room);
@@ -652,6 +648,31 @@ impl TransmitRing {
         self.posted -= 1;
         self.done -= 1;
     }
+}
+
+/// Makes room for so many more pieces, for a record, and for the bytes that the record keeps. None where there is no
+/// memory.
+fn room_for(
+    alloc: Global,
+    pieces: &mut VecDeque<Piece>,
+    more: u16,
+    accepted: &mut Vec<Record>,
+    bytes: usize,
+) -> Option<Vec<u8>>
+    ensures pieces { pieces.new.items ≡ pieces.old.items }
+    ensures accepted { accepted.new.items ≡ accepted.old.items }
+    ensures more { OnSome result (deque_len pieces.new + more ≤ deque_capacity pieces.new) }
+    ensures record { OnSome result (vec_len accepted.new < vec_capacity accepted.new) }
+    ensures empty { IfSome result (λ room. room.items ≡ []) }
+    ensures bytes { IfSome result (λ room. bytes ≤ vec_capacity room) }
+{
+    if pieces.reserve(usize::from(more)).is_err() {
+        return None;
+    }
+    if accepted.reserve(1).is_err() {
+        return None;
+    }
+    Vec::with_capacity(alloc, bytes).ok()
 }
 
 /// Blocks, and then those of a ring. There is room for them.

@@ -1,9 +1,10 @@
 //! The room that is made before a thread starts.
 
-ghost use Rattle.std.specs.Prelude.{◌≡◌, ◌≤◌, [], IfOk, length, vec_len, vec_capacity};
+ghost use Rattle.std.specs.Prelude.{◌≡◌, ◌≤◌, [], IfOk, IfSome, length, vec_len, vec_capacity};
 ghost use Rattle.workers.specs.Coming.{AreWays, AllSit};
 
 use crate::assignment::{Assignment, Back};
+use crate::ends::WorkerEnd;
 use crate::gate::Gate;
 use crate::job::Job;
 use crate::reports::{Collector, Report};
@@ -24,7 +25,7 @@ pub(crate) struct Room {
 }
 
 /// Room for all that the jobs' workers can tell.
-pub(crate) fn make_room(alloc: Global, jobs: &[Job]) -> Result<Room, AllocError>
+fn make_room(alloc: Global, jobs: &[Job]) -> Result<Room, AllocError>
     ensures starts { IfOk result (λ room. vec_len room.starts ≡ length jobs.now) }
     ensures ways { IfOk result (λ room. AreWays jobs.now room.producers.items room.collectors.items) }
 {
@@ -42,6 +43,30 @@ pub(crate) fn make_room(alloc: Global, jobs: &[Job]) -> Result<Room, AllocError>
         producers,
         collectors,
     })
+}
+
+/// Room for a whole run: for all that the jobs' workers can tell, for as many tasks as there are jobs, and for their
+/// ends. None where there is no memory.
+pub(crate) fn make_all_room<T>(
+    alloc: Global,
+    jobs: &[Job],
+) -> Option<(Room, Vec<T>, Vec<WorkerEnd>)>
+    ensures starts { IfSome result (λ all. vec_len all.0.starts ≡ length jobs.now) }
+    ensures ways { IfSome result (λ all. AreWays jobs.now all.0.producers.items all.0.collectors.items) }
+    ensures seats { IfSome result (λ all. (all.1.items ≡ []) × (length jobs.now ≤ vec_capacity all.1)) }
+    ensures ends { IfSome result (λ all. (all.2.items ≡ []) × (length jobs.now ≤ vec_capacity all.2)) }
+{
+    let Ok(room) = make_room(alloc, jobs) else {
+        return None;
+    };
+    let Ok(seats) = Vec::with_capacity(alloc, jobs.len()) else {
+        return None;
+    };
+    let Ok(ends) = Vec::with_capacity(alloc, jobs.len()) else {
+        seats.destroy_empty();
+        return None;
+    };
+    Some((room, seats, ends))
 }
 
 /// Each job in a seat, with its worker's end of the way for reports. There is room for the seats.

@@ -14,7 +14,7 @@ use crate::host::host;
 use crate::hosted::run;
 use crate::job::{Job, overlap};
 use crate::reports::Collector;
-use crate::room::{Room, make_room, sit};
+use crate::room::{Room, make_all_room, sit};
 use crate::seat::Seat;
 use crate::start::Start;
 use crate::worker_task::WorkerTask;
@@ -165,25 +165,9 @@ pub fn run_workers<R: Threads + Wait + Sync, G: Gate + Sync, const VFS: u8, cons
             frames,
         });
     }
-    let fault = RunFault::OutOfMemory;
-    let Ok(room) = make_room(alloc, &jobs) else {
+    let Some((room, seats, ends)) = make_all_room(alloc, &jobs) else {
         return Err(RunRefused {
-            fault,
-            jobs,
-            frames,
-        });
-    };
-    let Ok(seats) = Vec::with_capacity(alloc, jobs.len()) else {
-        return Err(RunRefused {
-            fault,
-            jobs,
-            frames,
-        });
-    };
-    let Ok(ends) = Vec::with_capacity(alloc, jobs.len()) else {
-        seats.destroy_empty();
-        return Err(RunRefused {
-            fault,
+            fault: RunFault::OutOfMemory,
             jobs,
             frames,
         });

@@ -1,4 +1,4 @@
-use Rattle.std.proofs.Common.{true}
+use Rattle.std.proofs.Common.{true, inl, refl}
 use Rattle.nic_device.specs.DmaArena.Numbers.{free_count}
 use Rattle.pmd.proofs.Late.{switching_late, filling_late}
 use Rattle.pmd.proofs.rings.go_on.Goals as goal
@@ -13,3 +13,6 @@ pub returns-in-Err-clause-late : goal.returns-in-Err-clause-late
 returns-in-Err-clause-late g c =
     switching_late c.in-Err.fault c.args.queue.now (g.N.Nic.made c.args.nic.now) (g.N.Nic.made c.switch_both.new.nic)
     true 1000 c.in-Err.ensures.failed
+
+pub returns-in-Err-clause-failed : goal.returns-in-Err-clause-failed
+returns-in-Err-clause-failed g c = inl (c.in-Err.ensures.failed, refl, refl)

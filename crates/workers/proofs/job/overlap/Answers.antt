@@ -12,3 +12,6 @@ pub returns-clause-none : goal.returns-clause-none
 returns-clause-none c n (earlier, before, s) =
     c.loop-at.invariant n (omega (arith, job_there c.args.jobs.now n s.0 s.2, c.loop-at-test.false))
     (earlier, before, s)
+
+pub returns-then-shares_earlier-clause-none : goal.returns-then-shares_earlier-clause-none
+returns-then-shares_earlier-clause-none c = tt

@@ -15,3 +15,17 @@ returns-clause-blocks c =
           rw (w.result-is, w.self-inside-is, w.in-Down.is)
           (fresh_down w.in-Down.halted d.new.self c.args.len d.result d.ensures.made d.ensures.rest)
     ])
+
+pub returns-clause-none : goal.returns-clause-none
+returns-clause-none c =
+    rw (← c.self.view_is) (elim c.match-self.branch [
+      | in-Up w ↦ rw (w.result-is, w.in-Up.is) w.packet.ensures.none
+      | in-Down w ↦ rw (w.result-is, w.in-Down.is) w.packet-in-Down.ensures.none
+    ])
+
+pub returns-clause-made : goal.returns-clause-made
+returns-clause-made c =
+    rw (← c.self.view_is) (elim c.match-self.branch [
+      | in-Up w ↦ rw (w.result-is, w.self-inside-is, w.in-Up.is) w.packet.ensures.made
+      | in-Down w ↦ rw (w.result-is, w.self-inside-is, w.in-Down.is) w.packet-in-Down.ensures.made
+    ])

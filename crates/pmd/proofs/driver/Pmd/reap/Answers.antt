@@ -21,3 +21,11 @@ returns-clause-blocks g c =
           (up_kept w.in-Up.running w.reap.new.self [] [] w.reap.ensures.blocks)
       | in-Down w ↦ rw (w.self-inside-is) (record { owns = λ n. refl; each = λ n. refl })
     ])
+
+-- (found among what the calls say, whichever they are)
+pub returns-clause-reaped : goal.returns-clause-reaped
+returns-clause-reaped g c =
+    rw (← c.self.view_is) (elim c.match-self.branch [
+      | in-Up w ↦ rw (w.result-is, w.nic-is, w.self-inside-is, w.in-Up.is) assumption
+      | in-Down w ↦ rw w.in-Down.is tt
+    ])

@@ -1,10 +1,11 @@
-use Rattle.std.proofs.Common.{◌∙◌, ap}
-use Rattle.pmd.specs.Halted.{Halted}
+use Rattle.std.proofs.Common.{◌∙◌, ap, ◌≡◌, ℕ}
+use Rattle.pmd.specs.Halted.{Halted, all_out, is_free_or_out}
 use Rattle.pmd.specs.Stopping.{Stops, StopFails}
 use Rattle.pmd_rx.specs.PmdSeam.Named.{AtPort}
 use Rattle.pmd.specs.Driver.{Driver}
 use Rattle.pmd.specs.declared.driver.Rings.TheVariants.{Down}
 use Rattle.pmd.proofs.Driving.{stops_as}
+use Rattle.nic_device.specs.DmaArena.Numbers.{is_free}
 use Rattle.pmd.proofs.driver.Pmd.stop.Goals as goal
 
 pub returns-in-Ok-clause-home : goal.returns-in-Ok-clause-home
@@ -25,3 +26,11 @@ returns-in-Err-clause-refused g c =
           (g.N.Nic.made c.stop.new.nic) left)
           d c.args.self c.halt-halted.result c.self.view_is c.halt-halted.ensures c.in-Err.ensures.failed,
     )
+
+pub returns-in-Ok-clause-free : goal.returns-in-Ok-clause-free
+returns-in-Ok-clause-free g c =
+    let d : Driver = record { queue = c.self.inside.queue; rings = c.self.inside.rings } in
+    stops_as
+    (λ (q : AtPort) (h : Halted). c.in-Ok.home.lost ≡ 0
+    → (n : ℕ) → is_free c.in-Ok.home.arena n ≡ is_free_or_out h.arena (all_out h) n)
+    d c.args.self c.halt-halted.result c.self.view_is c.halt-halted.ensures c.in-Ok.ensures.free

@@ -25,3 +25,11 @@ returns-clause-blocks g c =
           w.tx.ensures.blocks)
       | in-Down w ↦ rw (w.result-is, w.self-inside-is) (record { owns = λ n. refl; each = λ n. refl })
     ])
+
+-- (found among what the calls say, whichever they are)
+pub returns-clause-sent : goal.returns-clause-sent
+returns-clause-sent g c =
+    rw (← c.self.view_is) (elim c.match-self.branch [
+      | in-Up w ↦ rw (w.result-is, w.nic-is, w.self-inside-is, w.in-Up.is) assumption
+      | in-Down w ↦ rw w.in-Down.is tt
+    ])

@@ -11,3 +11,9 @@ invariant_of-self c =
           c.self.invariant.home;
       few = c.self.invariant.few;
     }
+
+pub returns-clause-none : goal.returns-clause-none
+returns-clause-none c = rw (← c.self.view_is) c.fresh_packet.ensures.none
+
+pub returns-clause-made : goal.returns-clause-made
+returns-clause-made c = rw (← c.self.view_is) c.fresh_packet.ensures.made

@@ -1,4 +1,4 @@
-use Rattle.std.proofs.Common.{◌≡◌, true, sym, subst}
+use Rattle.std.proofs.Common.{◌≡◌, true, sym, subst, refl}
 use Rattle.nic_device.specs.DmaArena.Numbers.{Numbers}
 use Rattle.pmd_rx.specs.PmdSeam.Bufs.{numbers_of}
 use Rattle.pmd.specs.Ends.{halted_as}
@@ -37,3 +37,6 @@ returns-then-goes_back-clause-blocks c =
     rw (← c.self.view_is, c.give_packet.ensures)
     (released_kept h.arena (all_out h) (numbers_of c.args.packet.bufs)
     (down_out h (numbers_of c.args.packet.bufs) c.self.invariant.home goes))
+
+pub returns-clause-back : goal.returns-clause-back
+returns-clause-back c = refl

@@ -1,4 +1,4 @@
-use Rattle.std.proofs.Common.{◌≡◌, ℕ, List, Result, IfOk, inr, sym, subst}
+use Rattle.std.proofs.Common.{◌≡◌, ℕ, List, Result, IfOk, inr, sym, subst, inl, refl}
 use Rattle.std.proofs.lemmas.Result.{IfOk-weaker, IfErr-weaker}
 use Rattle.pmd_rx.specs.DeviceLock.declared.entry.Call.{Call}
 use Rattle.nic_device.specs.DmaArena.Numbers.{is_own, is_free}
@@ -52,3 +52,6 @@ returns-in-Ok-clause-failed g c =
     (λ failed left. inr (subst (λ (h : Halted). IsLeft failed.fault c.args.queue.now (g.N.Nic.made c.args.nic.now) h
     (g.N.Nic.made c.go_home.new.nic) failed.halted) c.in-Ok.ensures.closed left))
     c.go_home.ensures.failed
+
+pub returns-in-Err-clause-failed : goal.returns-in-Err-clause-failed
+returns-in-Err-clause-failed g c = inl (refl, refl, c.in-Err.ensures.left)

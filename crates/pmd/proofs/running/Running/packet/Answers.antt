@@ -25,3 +25,9 @@ returns-clause-owns c =
 pub returns-clause-blocks : goal.returns-clause-blocks
 returns-clause-blocks c =
     rw (← c.self.view_is) (fresh_kept _ _ _ c.args.len c.fresh_packet.result c.fresh_packet.ensures.made)
+
+pub returns-clause-none : goal.returns-clause-none
+returns-clause-none c = rw (← c.self.view_is) c.fresh_packet.ensures.none
+
+pub returns-clause-made : goal.returns-clause-made
+returns-clause-made c = rw (← c.self.view_is) c.fresh_packet.ensures.made

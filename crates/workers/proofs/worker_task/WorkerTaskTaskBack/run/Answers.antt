@@ -1,9 +1,12 @@
-use Rattle.std.proofs.Common.{refl, rules, sym, subst}
+use Rattle.std.proofs.Common.{◌≤◌, length, refl, rules, sym, ap, ◌∙◌, subst}
+use Rattle.rtrb.specs.Ring.{sent, SameProducer}
 use Rattle.device_lock.specs.Pass.{PassValue}
 use Rattle.pmd.specs.Blocks.{IsWhole}
 use Rattle.pmd.specs.PmdSeam.Begun.{OfPass, began_at_lock}
 use Rattle.pmd.specs.PmdSeam.Stepped.{AtLock}
+use Rattle.pmd.specs.Started.{left_handed}
 use Rattle.workers.specs.Lived.{HasRun}
+use Rattle.workers.specs.Told.{reports_of}
 use Rattle.workers.specs.declared.assignment.Assignment.{Assignment}
 use Rattle.workers.proofs.worker_task.WorkerTaskTaskBack.run.Goals as goal
 
@@ -15,8 +18,10 @@ returns g c =
     let same = c.run_worker-rest.ensures.began own
     (subst (λ (t : AtLock). began_at_lock t own) (sym c.new-nic.ensures) (refl, refl)) in (
       record {
-        bench = search (rules, same.0);
-        tag = search (rules, same.1);
+        bench = ap (λ (p : PassValue). p.bench) c.finish.ensures ∙ same.0
+            ∙ ap (λ (x : Assignment). x.job.pass.bench) c.self.view_is;
+        tag = ap (λ (p : PassValue). p.tag) c.finish.ensures ∙ same.1
+            ∙ ap (λ (x : Assignment). x.job.pass.tag) c.self.view_is;
         lived = λ has.
             subst (λ (x : Assignment). HasRun (record { port = x.job.port; queue = x.job.queue }) x.job.size x.job.frame
             x.job.pass.calls x.job.arena c.finish.result.calls left.0 left.1) c.self.view_is
@@ -25,11 +30,14 @@ returns g c =
             (subst (λ (t : AtLock). HasRun (record { port = d.job.port; queue = d.job.queue }) d.job.size d.job.frame
             t.pass.calls d.job.arena c.run_worker-rest.new.nic.pass.calls left.0 left.1) c.new-nic.ensures
             c.run_worker-rest.ensures.lived));
-        reports = search rules;
-        few = search rules;
-        home = search rules;
+        reports = c.run_worker-rest.ensures.told
+            ∙ ap (λ (x : Assignment). reports_of x.job.queue (left_handed left.0)) c.self.view_is;
+        few = subst (λ (x : Assignment). length (sent c.run_worker-rest.new.producer) ≤ x.job.rounds) c.self.view_is
+            c.run_worker-rest.ensures.few;
+        home = c.run_worker-rest.ensures.home;
         whole = subst (λ (x : Assignment). IsWhole x.job.arena left.0) c.self.view_is c.run_worker-rest.ensures.whole;
         idle = search rules;
       },
-      search rules,
+      subst (λ (x : Assignment). SameProducer x.producer c.run_worker-rest.new.producer) c.self.view_is
+          c.run_worker-rest.ensures.ring,
     )

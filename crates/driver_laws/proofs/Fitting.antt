@@ -34,24 +34,27 @@ use Rattle.ring_laws.proofs.TransmitLent as transmit_lent
 use Rattle.driver_laws.specs.Healthy as healthy
 use Rattle.std.proofs.lemmas.Grind.{common_steps}
 
--- a driver takes as many blocks for a packet as before
+-- a driver has its port and the number of its tail as before, and takes as many blocks for a packet
 
-took_most : (v : Receive) (seen : List Told) (b : Block) → (took v seen b).layout.most ≡ v.layout.most
-took_most v [] b = refl
-took_most v (t ∷ seen) b = refl
+abbrev pub SameRing : Receive → Receive → Type 0
+SameRing v u =
+    (u.layout.port ≡ v.layout.port) × (u.layout.tail ≡ v.layout.tail) × (u.layout.most ≡ v.layout.most)
 
-driven_most : (v : Receive) (e : Event Block) (r : Reply Block) → (drive v e r).layout.most ≡ v.layout.most
-driven_most v (event.Peek16 a) (reply.Bytes d) =
-    either_way (λ (x : Receive). x.layout.most ≡ v.layout.most) _ (saw v d) v refl refl
-driven_most v (event.Take n) (reply.Buf b) = took_most v v.seen b
-driven_most v (event.Lend b) reply.Done = refl
-driven_most v (event.Poke16 a bytes) reply.Done = refl
-driven_most v (event.Write port number word) reply.Done =
-    either_way (λ (x : Receive). x.layout.most ≡ v.layout.most) _ (posts_one v) (posts_all v) refl refl
-driven_most v e r = refl
+took_same : (v : Receive) (seen : List Told) (b : Block) → SameRing v (took v seen b)
+took_same v [] b = (refl, refl, refl)
+took_same v (t ∷ seen) b = (refl, refl, refl)
+
+pub drive_same : (v : Receive) (e : Event Block) (r : Reply Block) → SameRing v (drive v e r)
+drive_same v (event.Peek16 a) (reply.Bytes d) = either_way (SameRing v) _ _ v (refl, refl, refl) (refl, refl, refl)
+drive_same v (event.Take n) (reply.Buf b) = took_same v v.seen b
+drive_same v (event.Lend b) reply.Done = (refl, refl, refl)
+drive_same v (event.Poke16 a bytes) reply.Done = (refl, refl, refl)
+drive_same v (event.Write port number word) reply.Done =
+    either_way (SameRing v) _ _ (posts_all v) (refl, refl, refl) (refl, refl, refl)
+drive_same v e r = (refl, refl, refl)
 
 pub most_after : (h : Halves) (d : Doer) (n : Call) → (after_call h d n).receive.layout.most ≡ h.receive.layout.most
-most_after h Receives n = driven_most h.receive n.event n.reply
+most_after h Receives n = (drive_same h.receive n.event n.reply).2
 most_after h (Sends m) n = refl
 
 -- the frames that wait stay fitting behind an event that meets both halves

@@ -137,21 +137,6 @@ module _ (queue : ℕ) (q : AtPort) (frame : ℕ) (s : State) where
   read_ground number g = plain_keeps (event.Read q.port number) tt g
 
 -- a port can name each queue that port and queue name
-
-named_below : (s : State) (port : Port) (own queue : ℕ)
-    → queue_at (mode_in s.registers) s.vfs port own ≡ Some queue → nat_lt own (queues_named port) ≡ true
-named_below s Pf own queue names = (some_where (nat_lt own 128) (Some own) queue names).0
-named_below s (Vf v) own queue names =
-    let mode = mode_in s.registers in
-    let inside = (some_where (nat_lt v s.vfs) (queue_in (queues_of mode v) own) queue names).1 in
-    let x = is_in (queues_of mode v) own queue inside in
-    let few = few_queues mode v x.first x.count x.pool in
-    let below = x.few in
-    lt-ltb own 64 (omega (arith, few, below))
-
-abbrev Passes : Option PmdFault → Type 0
-Passes g = g ≢ Some DeviceFault
-
 pub named_queues_pass : NamedQueuesPass
 named_queues_pass s a q size frame queue names = grind (arith, common_steps)
 

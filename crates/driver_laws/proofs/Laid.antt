@@ -38,18 +38,7 @@ IsRinged Empty r = is_empty r ≡ true
 abbrev pub IsLaid : Laid → Side → Type 0
 IsLaid l q = IsDown l q × IsRinged l q.ring
 
--- no slot of it is tried, and it is laid out so still as it becomes what it is wanted to be
-
-not_tried : (l : Laid) (q : Side) → IsLaid l q → q.on ≡ true → is_empty q.ring ≡ false → ⊥
-not_tried Empty q x on some = both_ways (is_empty q.ring) some x.1
-not_tried l q x on some = both_ways q.on x.0.0 on
-
-then_wanted : (l : Laid) (q : Side) (staged : List ℕ) → IsLaid l q
-    → IsLaid l (record q { on = q.wanted; staged = staged })
-then_wanted Empty q staged x = x
-then_wanted l q staged x = ((x.0.1, x.0.1), x.1)
-
--- with nothing staged
+-- with nothing staged, no slot of it is tried, and it is laid out so still as it becomes what it is wanted to be
 abbrev pub SideLaid : Laid → Side → Type 0
 SideLaid l x = IsLaid l x × (x.staged ≡ [])
 

@@ -232,14 +232,6 @@ module _ {w : Watched} {origin : State} {h : List Entry} {q : AtPort} {size fram
       switched = up.on.switched;
     }
 
-    -- port and queue name this queue there
-    pub start_ground : AtCalls w origin h up.on.mid (HasGround w.queue q frame)
-    start_ground = ground_at on along well.ground
-
-    -- some calls were made before both were on
-    pub start_some : up.on.mid ≢ []
-    start_some = on_some on along well.ground
-
 pub start_agrees : StartAgrees
 start_agrees w origin h q size frame old a new r up along well = agrees_at (on up along well) along well.ground
 

@@ -185,9 +185,11 @@ made_keep {w = w} {origin = origin} {h = h} P K x kept own old new (calls, is, e
     state_leads w origin (lent_by w.pass h) c P P (λ s met made told p. own s c.event met made k p)) calls old each some
     at)
 
-each_step : (calls : List Call) → AreSteps calls → Each (λ c. IsTrue (is_step c.event)) calls
-each_step [] steps = tt
-each_step (c ∷ calls) steps = (steps.0, each_step calls steps.1)
+-- steps of the device are of a kind where each is
+pub steps_are : (P : Event Block → Type 0) → ((e : Event Block) → is_step e ≡ true → P e) → (calls : List Call)
+    → AreSteps calls → Each (λ c. P c.event) calls
+steps_are P stepping [] steps = tt
+steps_are P stepping (c ∷ calls) steps = (stepping c.event steps.0, steps_are P stepping calls steps.1)
 
 -- after some steps of the device and one call more the other holds of the entries so far, where both are kept
 pub entries_lead : {w : Watched} {origin : State} {h : List Entry} (P Q : List Entry → Type 0)
@@ -200,7 +202,7 @@ entries_lead {w = w} {origin = origin} {h = h} P Q old before c x kept kept_q le
     (λ done rest e all own made same.
     over x P Q c leads done rest e all (λ none. more_some old before some (sym made ∙ none)) same
     (all_lead w origin h P (λ b. IsTrue (is_step b.event)) x kept (step_over x P kept) before old
-    (each_step before steps) some at done (e ∷ rest) all made)))
+    (steps_are (λ e. IsTrue (is_step e)) (λ e is. is) before steps) some at done (e ∷ rest) all made)))
 
 -- what holds just before a call
 

@@ -94,10 +94,6 @@ write_stands dir queue s sides rings port n word row met stand unwanted fits goe
 
 -- an enable word is read
 
-either_on : (seen on shown : Bool) → (seen ≡ true → on ≡ true) → shown ≡ on → (seen || shown) ≡ true → on ≡ true
-either_on true on shown known told is = known refl
-either_on false on shown known told is = sym told ∙ is
-
 seen_stands : (x side : Side) (shown : Bool) → Stands x side → shown ≡ x.on
     → Stands x (record side { on = side.on || shown })
 seen_stands x side shown h told = grind (arith, common_steps)

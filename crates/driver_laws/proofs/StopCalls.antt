@@ -21,11 +21,16 @@ use Rattle.driver_laws.proofs.Prelude.{AllAre, AreMadeOf, AtEntries, Ends, IsAlo
 use Rattle.driver_laws.proofs.Prelude.{IsStrayRead, PollsEnd, StopsBy, and_one}
 use Rattle.driver_laws.proofs.{Ground.IsDriven, Ground.words_are_writes, Ground.writes_driven, Made.all_before}
 use Rattle.driver_laws.proofs.{Made.all_both, Made.all_missed, Made.all_polled, Parts.around, Parts.more_some}
-use Rattle.driver_laws.proofs.{Reached.entry_is}
+use Rattle.driver_laws.proofs.Reached.{entry_is, steps_are}
 use Rattle.nic_device.specs.declared.event.Event.TheVariants as event
 use Rattle.nic_device.specs.declared.event.Reply.TheVariants as reply
 use Rattle.pmd.specs.PmdSeam.declared.fault.PmdFault.TheVariants as fault
 use Rattle.std.proofs.lemmas.Grind.{common_steps}
+
+pub each_such : (P Q : Event Block → Type 0) → ((e : Event Block) → P e → Q e) → (cs : List Call)
+    → Each (λ c. P c.event) cs → Each (λ c. Q c.event) cs
+each_such P Q such [] are = tt
+each_such P Q such (c ∷ cs) are = (such c.event are.0, each_such P Q such cs are.1)
 
 module _ (P : Event Block → Type 0) where
   -- calls in parts
@@ -46,17 +51,13 @@ module _ (P : Event Block → Type 0) where
 
   -- where steps of the device are such
   module _ (stepping : (e : Event Block) → is_step e ≡ true → P e) where
-    steps_are : (cs : List Call) → AreSteps cs → Each (λ c. P c.event) cs
-    steps_are [] are = tt
-    steps_are (c ∷ cs) are = (stepping c.event are.0, steps_are cs are.1)
-
     pub adds_made : (old new : List Call) (e : Event Block) (r : Reply Block) → Adds old new e r → P e
         → AreMadeOf P old new
     adds_made old new e r (before, is, steps) own =
-        (before ++ call_of e r ∷ [], is, each_both before (call_of e r ∷ []) (steps_are before steps) (own, tt))
+        (before ++ call_of e r ∷ [], is, each_both before (call_of e r ∷ []) (steps_are P stepping before steps) (own, tt))
 
     pub some_made : (old new : List Call) → AddsSome old new → AreMadeOf P old new
-    some_made old new (before, is, steps) = (before, is, steps_are before steps)
+    some_made old new (before, is, steps) = (before, is, steps_are P stepping before steps)
 
     -- the blocks of a list are lent
     pub lends_are : ((n : ℕ) → P (event.Lend (zero_block n))) → (ns : List ℕ) (old new : List Call)
@@ -171,12 +172,8 @@ module _ (q : AtPort) where
   pub step_ends : (e : Event Block) → is_step e ≡ true → IsEnding q e
   step_ends e is = asking_ends e (step_asks e is)
 
-  each_ends : (cs : List Call) → Each (λ c. IsAsking q c.event) cs → Each (λ c. IsEnding q c.event) cs
-  each_ends [] are = tt
-  each_ends (c ∷ cs) are = (asking_ends c.event are.0, each_ends cs are.1)
-
   pub asks_end : (old new : List Call) → Asks q old new → Ends q old new
-  asks_end old new (cs, is, are) = (cs, is, each_ends cs are)
+  asks_end old new (cs, is, are) = (cs, is, each_such (IsAsking q) (IsEnding q) asking_ends cs are)
 
 -- accesses that ask
 

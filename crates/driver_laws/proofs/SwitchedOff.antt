@@ -37,15 +37,6 @@ pub left_settles : (dir : Dir) (w : Watched) (mine : Blocks) (s : State) (e : Ev
     → IsSettled dir w.queue s → Settles dir w.queue s (after s e)
 left_settles dir w mine s e x is = deed_settles dir w.queue s e (left_deed dir w mine s e x) is
 
--- so it is where a side is asked not to be on
-pub word_settles : (dir : Dir) (queue : ℕ) (q : AtPort) (frame : ℕ) (s : State) (number word : ℕ) → IsMet queue s
-    → IsFalse (has_bit 25 word) → HasGround queue q frame s → (side : Dir)
-    → IsNumberOf q.port (enable_row side) q.queue number → IsSettled dir queue s
-    → Settles dir queue s (after s (event.Write q.port number word))
-word_settles dir queue q frame s number word met none g side named is =
-    steady.word_settles queue s met.sound met.small q.port number word side dir
-    (ground_names queue q frame s g (enable_row side) number (side_driven side) named) none is
-
 -- a step of the device leaves each queue alone
 
 pub outside_none : (queue : ℕ) (r : Reply Block) → WritesOutside queue no_block r
@@ -97,14 +88,6 @@ module _ (dir : Dir) (P : Side → Type 0) (R : Side → Side → Type 0) (same 
   ending_does (event.Take number) made ends = same _ _ (queues_left queue s _ dir (memory_rest.take s number).queues) p
   ending_does e made ends =
       deed queue s e (left_deed dir (watching queue s) no_block s e (step_left queue s e met made ends)) p
-
--- it keeps the receive side settled
-pub ending_settles : (queue : ℕ) (q : AtPort) (frame : ℕ) (s : State) (e : Event Block) → IsMet queue s → IsEvent e
-    → IsEnding q e → HasGround queue q frame s → IsSettled Rx queue s → Settles Rx queue s (after s e)
-ending_settles queue q frame s e met made ends g is =
-    ending_does Rx steady.IsSettled steady.Settles steady.same_settles
-    (λ x y wanted same none p. steady.asked_settles x y wanted same none)
-    (λ queue s e did is. deed_settles Rx queue s e did is) queue q frame s met g is e made ends
 
 -- what a stop's event writes is a register of the queue
 pub ending_plain : (q : AtPort) (e : Event Block) → IsEnding q e → IsPlain q e

@@ -70,11 +70,7 @@ driven_plain other e = refl
 
 -- words that a register takes whole, whatever stood there
 
--- a multiple of 128 through a mask of bits 31 to 7
-pub merged-high : (old new : ℕ) → old % 2 ^ 7 ≡ 0 → new % 128 ≡ 0 → new < 2 ^ 32 → merged 0xFFFFFF80 old new ≡ new
-merged-high old new low even small = grind (arith, common_steps)
-
--- and one of 20 bits through a mask of bits 19 to 7
+-- a multiple of 128 of 20 bits through a mask of bits 19 to 7
 pub merged-length : (old new : ℕ) → old % 2 ^ 7 ≡ 0 → new % 128 ≡ 0 → new < 2 ^ 20
     → merged 0x000FFF80 old new % 2 ^ 20 ≡ new
 merged-length old new low even small =

@@ -63,33 +63,6 @@ module _ {q : AtPort} {size frame : ℕ} {old : List Call} {a : Numbers} {m : Mo
       (runs x).apart.leads
       (subst (HasRoom size) (sym x.started.2.transmit.fresh) (refl, (sized size x.started.2.sized).0))
 
--- none was accepted, and no fault is told: the ring lacks the room
-
-abbrev LacksRoom : Sender → Packet → Type 0
-LacksRoom v p = v.layout.size ≤ length v.outstanding + parts_for p.len
-
-none_long : (ps : List Packet) → 0 ≡ length ps → ps ≡ []
-none_long [] is = refl
-none_long (p ∷ ps) is = absurd (omega (arith, is))
-
-none_met : (met : Option PmdFault) (s : Running) (p : Packet) (rest : List Packet)
-    → IfSome met (λ (f : PmdFault). ◌≡◌ {A = Result ℕ PmdFault} (Ok 0) (Err f)) → Stops met s (p ∷ rest)
-    → LacksRoom s.transmit p
-none_met None s p rest none stops = stops.2
-none_met (Some f) s p rest none stops = cc
-
-by_room_made : (failed : Option PmdFault) (given rest : List Packet) (p : Packet) (old new : List Call)
-    (r s : Running) → SendsWith failed given (p ∷ rest) (Ok 0) old r new s → LacksRoom s.transmit p
-by_room_made None given rest p old new r s x = none_met x.met s p rest (x.none (none_long x.gone x.count)) x.stops
-by_room_made (Some f) given rest p old new r s x = let is = x.0 in cc
-
--- two facts of a driver that runs on
-both_up : (a b : Rings) (P Q : Running → Running → Type 0) → WhereUp a b P → WhereUp a b Q
-    → WhereUp a b (λ r s. P r s × Q r s)
-both_up (Up r) (Up s) P Q p q = (p, q)
-both_up (Up r) (Down h) P Q p q = p
-both_up (Down h) b P Q p q = tt
-
 -- a driver that runs with one slot vacant
 module _ (size : ℕ) (m n : Moment) (r : Running) (p : Packet) (is : m.driver.rings ≡ Up r)
     (some : HasRoom size r.transmit) where

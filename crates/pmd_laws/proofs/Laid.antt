@@ -3,8 +3,8 @@
 use Rattle.pmd.specs.PmdRx.Plays.{AllOwn}
 use Rattle.pmd.specs.PmdRx.Receive.{IsOwn}
 use Rattle.pmd.specs.PmdSeam.Named.{is_driven}
-use Rattle.driver_laws.proofs.StopCalls.{lends_are}
-use Rattle.pmd_laws.proofs.Plain.{drive_same}
+use Rattle.driver_laws.proofs.{Reached.steps_are, StopCalls.lends_are}
+use Rattle.driver_laws.proofs.Fitting.{drive_same}
 use Rattle.pmd_laws.proofs.Prelude.{[], ◌%◌, ◌*◌, ◌++◌, ◌<◌, ◌^◌, ◌∙◌, ◌∷◌, ◌≡◌, ◌≤◌, Access, Adds, AreMade, AreMadeOf}
 use Rattle.pmd_laws.proofs.Prelude.{AreSteps, AtPort, Block, Bool, Call, DeviceFault, Dir, Each, Empty, Event, FailsBy}
 use Rattle.pmd_laws.proofs.Prelude.{GoingOnFails, IsMade, IsNumberOf, IsOtherwise, IsPrepared, IsReceiveReady, Laid}
@@ -42,8 +42,7 @@ module _ (q : AtPort) where
   -- steps of the device lay nothing out
 
   steps_lay : (l : Laid) (cs : List Call) → AreSteps cs → LaysOn q l cs l
-  steps_lay l [] are = refl
-  steps_lay l (c ∷ cs) are = (l, step_stays l c.event are.0, steps_lay l cs are.1)
+  steps_lay l cs are = each_lays l cs (steps_are (Stays q l) (step_stays l) cs are)
 
   step_same : (l m : Laid) (e : Event Block) → is_step e ≡ true → Lays q l e m → m ≡ l
   step_same l m (event.Write port number word) is lays = cc

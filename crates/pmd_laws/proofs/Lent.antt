@@ -5,6 +5,7 @@ use Rattle.nic_device.specs.DmaArena.Block.{zero_block}
 use Rattle.driver_laws.proofs.Made.{first_seen}
 use Rattle.driver_laws.specs.DeviceLaws.Laws.{WritesNoSetting}
 use Rattle.driver_laws.proofs.Fitting.{frames_stay_short, lends_is, only_pass_lent}
+use Rattle.driver_laws.proofs.StopCalls.{each_such}
 use Rattle.driver_laws.specs.Healthy.{lent_by as halves_lent_by}
 use Rattle.pmd_laws.proofs.Begun.{receive_lent, transmit_lent}
 use Rattle.pmd_laws.proofs.Order.{On, along_before, first}
@@ -109,10 +110,6 @@ module _ (q : AtPort) (lent : Blocks) where
   rising_plain : (e : Event Block) → IsRising e → IsPlain q e
   rising_plain (event.Write port number word) rises = rises
   rising_plain e rises = tt
-
-  rising_are_plain : (calls : List Call) → Each (λ c. IsRising c.event) calls → Each (λ c. IsPlain q c.event) calls
-  rising_are_plain [] are = tt
-  rising_are_plain (c ∷ calls) are = (rising_plain c.event are.0, rising_are_plain calls are.1)
 
   -- a pass lends what its calls do
 
@@ -248,7 +245,9 @@ module _ {c : Course} (x : On c) (own : Blocks) where
       (state_kept w origin (lent_by w.pass h) Short short_kept)
       (λ n plain.
       state_leads w origin (lent_by w.pass h) n Short Short (λ s met made told s_is. plain_short s n.event plain s_is))
-      rises.0 quiet_at (rising_are_plain q (halves_lent_by (first x)) rises.0 rises.2)
+      rises.0 quiet_at
+      (each_such (IsRising q (halves_lent_by (first x))) (IsPlain q) (rising_plain q (halves_lent_by (first x))) rises.0
+      rises.2)
       (made_some q old quiet_at (Sees Rxdctl false) up.receive.quiet.1)
       (first_seen w q origin h Short along short_kept
       (λ s number s_is. plain_short s (event.Read q.port number) tt s_is) Rxdctl false old quiet_at up.receive.quiet.1

@@ -1,6 +1,6 @@
 -- The calls of a life are harmless, or write no register but the tails of its queue: so port and queue name the queue,
 -- and the frame limit stays, as long as its halves are led on.
-use Rattle.driver_laws.proofs.On.{ground_at as ground_on}
+use Rattle.driver_laws.proofs.{Fitting.drive_same, On.ground_at as ground_on}
 use Rattle.driver_laws.proofs.RingLaws.DeviceLaws.KeptSettings.{settings_stand}
 use Rattle.driver_laws.proofs.RingLaws.DeviceLaws.Standing.{stays_within}
 use Rattle.pmd.specs.PmdRx.Receive.{moved}
@@ -19,28 +19,6 @@ use Rattle.pmd.specs.PmdRx.Receive as receiving
 use Rattle.pmd.specs.PmdTx.Sending as sending
 
 -- the tail's number stays
-
-abbrev pub SameTail : Receive → Receive → Type 0
-SameTail v u = (u.layout.port ≡ v.layout.port) × (u.layout.tail ≡ v.layout.tail)
-
-looked_same : (v : Receive) (d : List ℕ) → SameTail v (looked v d)
-looked_same v d = either_way (SameTail v) _ _ v (refl, refl) (refl, refl)
-
-took_same : (v : Receive) (seen : List Told) (b : Block) → SameTail v (took v seen b)
-took_same v [] b = (refl, refl)
-took_same v (t ∷ seen) b = (refl, refl)
-
-moved_same : (v : Receive) (word : ℕ) → SameTail v (moved v word)
-moved_same v word = either_way (SameTail v) _ _ (posts_all v) (refl, refl) (refl, refl)
-
-pub drive_same : (v : Receive) (e : Event Block) (r : Reply Block) → SameTail v (drive v e r)
-drive_same v (event.Peek16 a) (reply.Bytes d) = looked_same v d
-drive_same v (event.Take n) (reply.Buf b) = took_same v v.seen b
-drive_same v (event.Lend b) reply.Done = (refl, refl)
-drive_same v (event.Poke16 a bytes) reply.Done = (refl, refl)
-drive_same v (event.Write port number word) reply.Done = moved_same v word
-drive_same v e r = (refl, refl)
-
 sent_same : (v : Sender) (m : Move) (r : Reply Block)
     → ((sending.moved v m r).layout.port ≡ v.layout.port) × ((sending.moved v m r).layout.tail ≡ v.layout.tail)
 sent_same v (Accepts p) reply.Done = (refl, refl)

@@ -67,27 +67,25 @@ pub use Rattle.pmd.specs.Starting.{StopsLending}
 pub use Rattle.pmd.specs.Stopping.{ComesHome, IsLeftAmid, bringing, brought, closed}
 pub use Rattle.driver_laws.proofs.StopCalls.{accesses_are, adds_made, asks_end, none_made, some_made, step_ends}
 pub use Rattle.driver_laws.proofs.StopCalls.{switched_are, then_made, unswitched_are}
-pub use Rattle.driver_laws.proofs.AllAre.{AllAre, all_before}
 pub use Rattle.driver_laws.proofs.Ground.{IsDriven, ground_kept, ground_same, plain_keeps, plain_setting, reads_driven}
 pub use Rattle.driver_laws.proofs.Ground.{words_are_writes, writes_driven}
-pub use Rattle.driver_laws.proofs.Ending.{all_lead, ending_plain, free_left}
 pub use Rattle.driver_laws.proofs.Filling.{faults_are_early_or_filling, no_fault_is_early}
 pub use Rattle.driver_laws.proofs.Histories.{events_before, legal_before}
 pub use Rattle.driver_laws.proofs.HistoryLaws.Alone.{beginning_alone, lent_before}
 pub use Rattle.driver_laws.proofs.HistoryLaws.Leaving.{left-setting, left-side}
-pub use Rattle.driver_laws.proofs.Made.{extends, made_some}
+pub use Rattle.driver_laws.proofs.Made.{all_before, extends, made_some}
 pub use Rattle.driver_laws.proofs.Parts.{Around, Begins, Parts, around, calls_joined, none_behind, one_begins, parts}
-pub use Rattle.driver_laws.proofs.Reached.{KeptOver, LeadsOver, reached, reached_next, state_kept, state_leads}
+pub use Rattle.driver_laws.proofs.Reached.{KeptOver, LeadsOver, all_lead, free_left, reached, reached_next, state_kept}
+pub use Rattle.driver_laws.proofs.Reached.{state_leads}
 pub use Rattle.driver_laws.proofs.RingLaws.Delivering.{calls_other, calls_own, image_stays, since-append, vfs_stays}
-pub use Rattle.driver_laws.proofs.On.{sized}
-pub use Rattle.driver_laws.proofs.SwitchedOff.{IsSettled, Settles, left_settles}
-pub use Rattle.driver_laws.proofs.Start.{on, start_goes_on}
+pub use Rattle.driver_laws.proofs.On.{on, sized, start_goes_on}
+pub use Rattle.driver_laws.proofs.SwitchedOff.{IsSettled, Settles, ending_plain, left_settles}
 pub use Rattle.driver_laws.proofs.RingLaws.Counting.{sent_is_counted}
 pub use Rattle.driver_laws.specs.Along.{AtCalls, AtEntries, IsKept}
 pub use Rattle.driver_laws.specs.Ending.{Each, IsPlain, NamesDriven}
 pub use Rattle.driver_laws.specs.Laid.{Lays, LaysOn, MayAsk, MayLay, Sized, laid_by}
 pub use Rattle.driver_laws.specs.RingLaws.Steps.{IfFresh}
-pub use Rattle.driver_laws.specs.Stopping.{Asks}
+pub use Rattle.driver_laws.specs.{Stopping.Asks, TimedOut.AllAre}
 pub use Rattle.driver_laws.specs.RingLaws.Laws.{FindsWaiting, IsPrefixOf}
 pub use Rattle.driver_laws.specs.Unused.{WentOn}
 pub use Rattle.driver_laws.proofs.Beside.{LeadsApart, apart_leads_on, driven_apart, drives_lead, harmless_apart}

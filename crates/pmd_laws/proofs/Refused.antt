@@ -15,6 +15,7 @@ use Rattle.pmd_laws.proofs.Prelude.{bytes_of, call_in, calls_joined, calls_of, c
 use Rattle.pmd_laws.proofs.Prelude.{false, has_bit, inl, inr, is_size, last, leads_to, left, most_blocks, named}
 use Rattle.pmd_laws.proofs.Prelude.{none_made, refl, sent_in, sent_is_counted, sent_since, start_gate, subst}
 use Rattle.pmd_laws.proofs.Prelude.{sym, true}
+use Rattle.driver_laws.proofs.StopCalls.{each_such}
 use Rattle.pmd_laws.proofs.StopCalls.{stopped_ends}
 use Rattle.nic_device.specs.declared.event.Event.TheVariants as event
 use Rattle.pmd.specs.declared.start.Rest.TheVariants as rest
@@ -50,11 +51,6 @@ ending_stays q l (event.Write port number word) (Tx, same, none, named) =
     (Txdctl, same, refl, named, ask_none l word none, refl)
 ending_stays q l e ends = refl
 
-each_stays : (q : AtPort) (l : Laid) (cs : List Call) → Each (λ c. IsEnding q c.event) cs
-    → Each (λ c. Stays q l c.event) cs
-each_stays q l [] are = tt
-each_stays q l (c ∷ cs) are = (ending_stays q l c.event are.0, each_stays q l cs are.1)
-
 -- what is left comes down
 
 home_lays : {q : AtPort} {l : Laid} (a : Numbers) (r : Rest) (old new : List Call) (left : Rest) → IsHome a r
@@ -67,7 +63,7 @@ half_lays : {q : AtPort} {l : Laid} (h : Halted) (r : Rest) (old new : List Call
 half_lays {q = q} {l = l} h r old new left is down =
     let (late, stopped) = subst (λ (x : Rest). ComesDown old x new left) is down in
     let (calls, made, are) = stopped_ends q old h new left late stopped in
-    stay {new = new} (calls, made, each_stays q l calls are)
+    stay {new = new} (calls, made, each_such (IsEnding q) (Stays q l) (ending_stays q l) calls are)
 
 left_lays : {q : AtPort} {l : Laid} (a : Numbers) (out : List ℕ) (r : Rest) (old new : List Call) (left : Rest)
     → IsLeftWith q a out r → ComesDown old r new left → LaysTo q l old new l

@@ -19,7 +19,7 @@ use Rattle.nic_device.specs.declared.event.Reply.TheVariants.{Buf}
 use Rattle.workers.specs.Before.{known_through}
 use Rattle.workers.specs.Lending.{lends_none, lent_behind, lent_through, no_block, takes}
 use Rattle.pmd_laws.specs.DriverLaws.RingLaws.HistoryLaws.Lent.{with_lent, without}
-use Rattle.pmd_laws.proofs.DriverLaws.HistoryLaws.Lent.{only_lent_stays, waiting_changed}
+use Rattle.pmd_laws.proofs.DriverLaws.HistoryLaws.Lent.{not_so, only_lent_stays, waiting_changed}
 use Rattle.std.proofs.Math.Nat.{le-max_left, le-max_right}
 use Rattle.std.proofs.lemmas.List.Elements.{All-cons, All-filter, All-head, All-nil, All-push, All-tail, All-weaker}
 use Rattle.std.specs.Prelude.{Result, not}
@@ -257,10 +257,6 @@ none_lent own e none = tt
 only_lends : (pass : ℕ) (own : Blocks) (h : List Entry) → told.OnlyPassLends pass own h → OnlyPassLends pass own h
 only_lends pass own [] none = tt
 only_lends pass own (e ∷ es) none = (λ other. none_lent own e.event (none.0 other), only_lends pass own es none.1)
-
-not_so : (b c : Bool) → (b ≡ true → c ≡ true) → c ≡ false → b ≡ false
-not_so true c so none = absurd (both_ways c none (so refl))
-not_so false c so none = refl
 
 pub others_lend_none_is_alone : OthersLendNoneIsAlone
 others_lend_none_is_alone w fifo old a h legal events others = (

@@ -1,18 +1,15 @@
 -- Where a driver tells that its ring is full, or accepts none of several packets and answers no fault, its ring has no
 -- room for the first.
-use Rattle.driver_laws.specs.Prelude.{Asks}
-use Rattle.driver_laws.proofs.RingLaws.Packets.{length-segments}
-use Rattle.pmd_laws.specs.FullRing.{AcceptsNone, TellsFull, outstanding}
+use Rattle.driver_laws.{proofs.RingLaws.Packets.length-segments, specs.Prelude.Asks}
+use Rattle.pmd_laws.{proofs.Told.runs, specs.FullRing.AcceptsNone, specs.FullRing.TellsFull, specs.FullRing.outstanding}
 use Rattle.pmd_laws.proofs.Prelude.{[], ◌+◌, ◌<◌, ◌∷◌, ◌≡◌, ◌≤◌, Accepts, Advances, AllOwn, AtPort, Block, Call, Doer}
-use Rattle.pmd_laws.proofs.Prelude.{Down, Drove, Err, Event, Halves, IfSome, IsOwn, IsTold, Leads, Lends, List, Looks}
-use Rattle.pmd_laws.proofs.Prelude.{Moment, Move, None, Numbers, Ok, Option, Packet, PmdFault, Reaps, Receives, Reply}
-use Rattle.pmd_laws.proofs.Prelude.{Result, Rings, Running, Sender, Sends, SendsWith, Some, Stops, Up, WhereUp, ℕ}
-use Rattle.pmd_laws.proofs.Prelude.{after_call, arith, halves_of, last, length, length-append}
-use Rattle.pmd_laws.proofs.Prelude.{length-drop, moved, parts_for, played_by, refl, segments_of, sized, subst, sym}
-use Rattle.pmd_laws.proofs.Told.{runs}
+use Rattle.pmd_laws.proofs.Prelude.{Drove, Event, Halves, IsOwn, IsTold, Leads, Lends, List, Looks, Moment, Move}
+use Rattle.pmd_laws.proofs.Prelude.{Numbers, Packet, Reaps, Receives, Reply, Running, Sender, Sends, Up, ℕ, after_call}
+use Rattle.pmd_laws.proofs.Prelude.{arith, halves_of, last, length, length-append, length-drop, moved, parts_for}
+use Rattle.pmd_laws.proofs.Prelude.{played_by, refl, segments_of, sized, subst, sym}
+use Rattle.std.proofs.lemmas.Grind.{common_steps}
 use Rattle.nic_device.specs.declared.event.Event.TheVariants as event
 use Rattle.nic_device.specs.declared.event.Reply.TheVariants as reply
-use Rattle.std.proofs.lemmas.Grind.{common_steps}
 
 -- a ring of so many slots, one of which is vacant
 abbrev HasRoom : ℕ → Sender → Type 0
@@ -22,23 +19,7 @@ HasRoom size v = (v.layout.size ≡ size) × (length v.outstanding < size)
 
 moved_room : (size : ℕ) (v : Sender) (m : Move) (e : Event Block) (r : Reply Block) → IsOwn v m e → HasRoom size v
     → HasRoom size (moved v m r)
-moved_room size v (Accepts p) (event.Lend b) reply.Done own x = (
-  x.0,
-  omega (
-    arith,
-    own.room,
-    x.0,
-    length-append v.outstanding (segments_of p),
-    length-segments p own.each,
-  ),
-)
-moved_room size v (Accepts p) e reply.Done own x = absurd own
-moved_room size v Lends e reply.Done own x = x
-moved_room size v Asks e reply.Done own x = x
-moved_room size v Advances e reply.Done own x = x
-moved_room size v Looks e (reply.Bytes d) own x = x
-moved_room size v Reaps e (reply.Buf b) own x = (x.0, omega (arith, x.1, length-drop 1 v.outstanding))
-moved_room size v m e r own x = x
+moved_room size v m e r own x = grind (arith, common_steps, length-segments)
 
 played_room : (size : ℕ) (h : Halves) (doers : List Doer) (calls : List Call) → AllOwn h doers calls
     → HasRoom size h.transmit → HasRoom size (played_by h doers calls).transmit

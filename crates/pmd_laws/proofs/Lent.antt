@@ -2,13 +2,10 @@
 -- of an arena's blocks, none of which is lent just before its first access, only the rings' are lent as both sides are
 -- on, and the frames that wait fit a buffer.
 use Rattle.nic_device.specs.DmaArena.Block.{zero_block}
-use Rattle.driver_laws.proofs.Made.{first_seen}
-use Rattle.driver_laws.specs.DeviceLaws.Laws.{WritesNoSetting}
+use Rattle.driver_laws.proofs.{Made.first_seen, StopCalls.each_such}
 use Rattle.driver_laws.proofs.Fitting.{frames_stay_short, lends_is, only_pass_lent}
-use Rattle.driver_laws.proofs.StopCalls.{each_such}
-use Rattle.driver_laws.specs.Healthy.{lent_by as halves_lent_by}
-use Rattle.pmd_laws.proofs.Begun.{receive_lent, transmit_lent}
-use Rattle.pmd_laws.proofs.Order.{On, along_before, first}
+use Rattle.driver_laws.specs.{DeviceLaws.Laws.WritesNoSetting, Healthy.lent_by as halves_lent_by}
+use Rattle.pmd_laws.proofs.Order.{On, along_before, first, receive_lent, transmit_lent}
 use Rattle.pmd_laws.proofs.Prelude.{[], ◌++◌, ◌<◌, ◌==◌, ◌∙◌, ◌∷◌, ◌≡◌, Access, All, AllAre, AreEvents, AreMade}
 use Rattle.pmd_laws.proofs.Prelude.{AreMadeOf, AreOn, AreShort, Around, AtCalls, AtPort, BeforeLast, Block, Blocks}
 use Rattle.pmd_laws.proofs.Prelude.{Call, Course, Dir, Each, EachRingBlock, Entry, Event, FitsBlocks, HasGround}
@@ -26,6 +23,7 @@ use Rattle.pmd_laws.proofs.Prelude.{same_from_push, state_kept, state_leads, sub
 use Rattle.pmd_laws.proofs.Prelude.{times-cons, times_first, times_in_hand, true, words_are_writes, writes_driven}
 use Rattle.nic_device.specs.declared.event.Event.TheVariants as event
 use Rattle.nic_device.specs.declared.event.Reply.TheVariants as reply
+use Rattle.std.proofs.lemmas.Grind.{common_steps}
 
 -- blocks that are lent are calls of a kind where each lend is
 pub lends_made : (P : Event Block → Type 0) → ((e : Event Block) → is_step e ≡ true → P e) → (ns : List ℕ)
@@ -67,9 +65,7 @@ module _ (q : AtPort) (lent : Blocks) where
 
   pub words_rise : (side : Dir) (ring size : ℕ) (old new : List Call) → AreMade q old new (ring_words side ring size)
       → Rises old new
-  words_rise side ring size old new =
-      all_rise (ring_words side ring size) old new
-      (writes_driven (ring_words side ring size) (words_are_writes side ring size))
+  words_rise side ring size old new = grind (arith, common_steps, all_rise, writes_driven, words_are_writes)
 
   -- blocks that are lent, all of them such
   pub lends_rise : (ns : List ℕ) (old new : List Call) → ((n : ℕ) → 0 < times_in_hand ns n → IsTrue (lent n))
@@ -114,8 +110,7 @@ module _ (q : AtPort) (lent : Blocks) where
   -- a pass lends what its calls do
 
   lends_lent : (e : Event Block) (r : Reply Block) (n : ℕ) → IsRising e → lends e r n ≡ true → lent n ≡ true
-  lends_lent (event.Lend block) r n own is = subst (λ (k : ℕ). lent k ≡ true) (lends_is block r n is) own
-  lends_lent e r n own is = cc
+  lends_lent e r n own is = grind (arith, common_steps, lends_is)
 
   lent_is : (pass : ℕ) (es : List Entry) → Each (λ c. IsRising c.event) (calls_of pass es) → (n : ℕ)
       → lent_by pass es n ≡ true → lent n ≡ true
@@ -127,10 +122,7 @@ module _ (q : AtPort) (lent : Blocks) where
         subst (Each (λ c. IsRising c.event)) (calls_own pass e es mine.0) are in
         lends_lent e.event e.reply n each.0 mine.1
     | inr later ↦
-        lent_is pass es (elim (cases_Bool (e.pass == pass)) as (λ _. Each (λ c. IsRising c.event) (calls_of pass es)) [
-          | inl own ↦ (subst (Each (λ c. IsRising c.event)) (calls_own pass e es own) are).1
-          | inr other ↦ subst (Each (λ c. IsRising c.event)) (calls_other pass e es other) are
-        ]) n later
+        lent_is pass es (grind (arith, common_steps, calls_own, calls_other)) n later
   ]
 
 -- what a part of a history lends
@@ -182,9 +174,7 @@ module _ (w : Watched) (origin : State) (h : List Entry) (q : AtPort) (old first
         let c : Call = call_of (event.Read q.port number) (reply.Word word) in
         let made : (old ++ before) ++ c ∷ [] ≡ first = append_assoc old before (c ∷ []) ∙ sym added in
         lent_since done rest all made (tt, rises.2)
-        (around w.pass done (old ++ before) c rises.0
-        (calls ∙ rises.1 ∙ ap (λ (l : List Call). l ++ rises.0) (sym made)
-        ∙ append_assoc (old ++ before) (c ∷ []) rises.0))
+        (grind (arith, common_steps, around))
 
     -- so none but those is lent just before one call more
     pub unlent_before : (new : List Call) → RisesToLast q lent first new → (number : ℕ) → IsTrue (own number)

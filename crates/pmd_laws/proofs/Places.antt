@@ -1,27 +1,23 @@
 -- Of an arena's blocks those are lent at the device that its driver has out with its halves; and each block of it is in
 -- one place: free there, in hand, or lent to the device.
 use Rattle.std.proofs.lemmas.List.Folds.{list_any-append}
-use Rattle.pmd.specs.PmdRx.Keeping.{fresh_block}
-use Rattle.driver_laws.proofs.Healthy.{known_along}
-use Rattle.driver_laws.proofs.Lending.{receive_lent}
-use Rattle.driver_laws.proofs.Sending.{sender_lent}
-use Rattle.driver_laws.specs.Healthy.{lent_by}
-use Rattle.pmd_laws.specs.Told.{now}
-use Rattle.pmd_laws.proofs.Lent.{known_at, others_behind}
+use Rattle.driver_laws.proofs.{Healthy.known_along, Lending.receive_lent, Sending.sender_lent}
+use Rattle.driver_laws.specs.{Healthy.lent_by}
+use Rattle.pmd_laws.proofs.{Lent.known_at, Lent.others_behind, Told.goes, Told.led, Told.told_ran}
 use Rattle.pmd_laws.proofs.Order.{agree, driven, first, in_parts, last, there_is}
-use Rattle.pmd_laws.proofs.Prelude.{◌++◌, ◌+◌, ◌==◌, ◌||◌, ◌∙◌, ◌≡◌, AllLendApart, Blocks, Bool}
-use Rattle.pmd_laws.proofs.Prelude.{BothAgree, EachInOnePlace, Halves, HasAll, IsTrue, LentIsOut, List, Memory}
-use Rattle.pmd_laws.proofs.Prelude.{Numbers, OnlyLent, OnlyPassLends, OutIsLent, Piece, Rings, Running, Sender}
-use Rattle.pmd_laws.proofs.Prelude.{State, Told, Up, ℕ, among_times, arena_of, arith, blocks_of, cond}
-use Rattle.pmd_laws.proofs.Prelude.{false, halted_of, halves_of, has_block, has_lent, inl, inr, is_free}
-use Rattle.pmd_laws.proofs.Prelude.{is_out, is_own, is_ring_block, leads_to, list_any, memory_after, or_cases}
-use Rattle.pmd_laws.proofs.Prelude.{or_right, places_of, refl, ring_block_among, ring_blocks}
-use Rattle.pmd_laws.proofs.Prelude.{subst, suc, sym, take, times-append, times_among, times_in_hand, true}
+use Rattle.pmd_laws.proofs.Prelude.{◌++◌, ◌+◌, ◌==◌, ◌||◌, ◌∙◌, ◌≡◌, AllLendApart, Blocks, Bool, BothAgree}
+use Rattle.pmd_laws.proofs.Prelude.{EachInOnePlace, Halves, HasAll, IsTrue, LentIsOut, List, Memory, Numbers, OnlyLent}
+use Rattle.pmd_laws.proofs.Prelude.{OnlyPassLends, OutIsLent, Piece, Rings, Running, Sender, State, Told, Up, ℕ}
+use Rattle.pmd_laws.proofs.Prelude.{among_times, arena_of, arith, blocks_of, cond, false, halted_of, halves_of}
+use Rattle.pmd_laws.proofs.Prelude.{has_block, has_lent, inl, inr, is_free, is_out, is_own, is_ring_block, leads_to}
+use Rattle.pmd_laws.proofs.Prelude.{list_any, memory_after, or_cases, or_right, places_of, refl, ring_block_among}
+use Rattle.pmd_laws.proofs.Prelude.{ring_blocks, subst, suc, sym, take, times-append, times_among, times_in_hand, true}
 use Rattle.pmd_laws.proofs.Prelude.{zero}
-use Rattle.pmd_laws.proofs.Told.{goes, led, told_ran}
+use Rattle.pmd_laws.specs.{Told.now}
 use Rattle.pmd.specs.PmdRx.Keeping as received
 use Rattle.pmd.specs.PmdTx.Leaving as leaving
 use Rattle.pmd.specs.PmdTx.Sending as sending
+use Rattle.std.proofs.lemmas.Grind.{common_steps}
 
 -- what either half has lent is lent at the device, where device and driver agree
 both_lent : {queue : ℕ} {s : State} {out : List Piece} {sent : List (List ℕ)} (h : Halves)
@@ -62,8 +58,7 @@ some zero = false
 some (suc t) = true
 
 counted : (xs : List ℕ) (n t : ℕ) → times_in_hand xs n ≡ t → list_any (λ b. n == b) xs ≡ some t
-counted xs n zero is = times_among xs n is
-counted xs n (suc t) is = among_times xs n (omega (arith, is))
+counted xs n t is = grind (arith, common_steps, times_among, among_times)
 
 swapped : (a b : Bool) → (a || b) ≡ (b || a)
 swapped true b = sym (or_right b true refl)
@@ -80,9 +75,7 @@ lent_counted h n =
     let ring : List ℕ = ring_blocks v.layout.ring v.layout.size in
     let is = λ (b : ℕ). n == b in
     let sent : has_lent v n ≡ list_any is (leaving.lent_of v) =
-    swapped (is_ring_block v.layout.ring v.layout.size n) (list_any is pieces)
-    ∙ (λ i. list_any is pieces || sym (ring_block_among v.layout.ring v.layout.size n) i)
-    ∙ sym (list_any-append is pieces ring) in
+    grind (arith, common_steps, swapped, ring_block_among, list_any-append) in
     (λ i. received.has_lent h.receive n || sent i)
     ∙ sym (list_any-append is (received.lent_of h.receive) (leaving.lent_of v)) ∙ counted (lent h) n _ refl
 

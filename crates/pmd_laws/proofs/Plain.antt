@@ -1,22 +1,22 @@
 -- The calls of a life are harmless, or write no register but the tails of its queue: so port and queue name the queue,
 -- and the frame limit stays, as long as its halves are led on.
-use Rattle.driver_laws.proofs.{Fitting.drive_same, On.ground_at as ground_on}
-use Rattle.driver_laws.proofs.RingLaws.DeviceLaws.KeptSettings.{settings_stand}
-use Rattle.driver_laws.proofs.RingLaws.DeviceLaws.Standing.{stays_within}
+use Rattle.driver_laws.{proofs.RingLaws.DeviceLaws.KeptSettings.settings_stand}
+use Rattle.driver_laws.proofs.{Fitting.drive_same, On.ground_at as ground_on, RingLaws.DeviceLaws.Standing.stays_within}
 use Rattle.pmd.specs.PmdRx.Receive.{moved}
-use Rattle.pmd.specs.PmdRx.declared.ring.Told.{Told}
 use Rattle.pmd_laws.proofs.Order.{Ran, first, some_on}
 use Rattle.pmd_laws.proofs.Prelude.{[], ◌∙◌, ◌∷◌, ◌≡◌, ◌⊎◌, Accepts, Advances, AllOwn, AtPort, Block, Call, Course}
 use Rattle.pmd_laws.proofs.Prelude.{Doer, Each, Elsewhere, Event, Halves, HasGround, IsPlain, IsTrue, Lends, List, Move}
 use Rattle.pmd_laws.proofs.Prelude.{NamesDriven, OthersHarmless, OwnCall, Port, Reaps, Receive, Receives, Reply, Sender}
-use Rattle.pmd_laws.proofs.Prelude.{Sends, State, Watched, ℕ, after, after_call, all_lead, append-nil, calls_of, drive}
-use Rattle.pmd_laws.proofs.Prelude.{either_way, false, ground_kept, ground_same, inl, inr, is_harmless, is_neither}
-use Rattle.pmd_laws.proofs.Prelude.{leads_to, left, left-setting, lent_by, looked, mode_in, plain_keeps, posts_all}
-use Rattle.pmd_laws.proofs.Prelude.{reached, refl, state_kept, state_leads, subst, sym, took}
+use Rattle.pmd_laws.proofs.Prelude.{Sends, State, Watched, ℕ, after, after_call, all_lead, append-nil, calls_of, false}
+use Rattle.pmd_laws.proofs.Prelude.{ground_kept, ground_same, inl, inr, is_harmless, is_neither, leads_to, left}
+use Rattle.pmd_laws.proofs.Prelude.{left-setting, lent_by, mode_in, plain_keeps, reached, refl, state_kept, state_leads}
+use Rattle.pmd_laws.proofs.Prelude.{subst, sym}
 use Rattle.nic_device.specs.declared.event.Event.TheVariants as event
 use Rattle.nic_device.specs.declared.event.Reply.TheVariants as reply
 use Rattle.pmd.specs.PmdRx.Receive as receiving
 use Rattle.pmd.specs.PmdTx.Sending as sending
+use Rattle.std.proofs.Common.{arith}
+use Rattle.std.proofs.lemmas.Grind.{common_steps}
 
 -- the tail's number stays
 sent_same : (v : Sender) (m : Move) (r : Reply Block)
@@ -44,18 +44,11 @@ module _ (q : AtPort) where
     transmit : NamesDriven q k.transmit.layout.port k.transmit.layout.tail
 
   next_placed : (k : Halves) (d : Doer) (c : Call) → ArePlaced k → ArePlaced (after_call k d c)
-  next_placed k Receives c x =
-      let same = drive_same k.receive c.event c.reply in
-      record { receive = same_named _ _ _ _ same.0 same.1 x.receive; transmit = x.transmit }
-  next_placed k (Sends m) c x =
-      let same = sent_same k.transmit m c.reply in
-      record { receive = x.receive; transmit = same_named _ _ _ _ same.0 same.1 x.transmit }
+  next_placed k d c x = grind (arith, common_steps, drive_same, same_named, sent_same)
 
   receive_plain : (v : Receive) (e : Event Block) → receiving.IsOwn v e → NamesDriven q v.layout.port v.layout.tail
       → IsPlain q e
-  receive_plain v (event.Write port number word) own at =
-      same_named port v.layout.port number v.layout.tail own.port_is own.number_is at
-  receive_plain v e own at = tt
+  receive_plain v e own at = grind (arith, common_steps, same_named)
 
   -- an event of a life
   abbrev IsOfLife : Event Block → Type 0
@@ -65,22 +58,17 @@ module _ (q : AtPort) where
       → sending.IsOwn v m (event.Write port number word)
       → (IsTrue (is_neither (Sends m)) → IsTrue (is_harmless (event.Write port number word)))
       → NamesDriven q v.layout.port v.layout.tail → IsOfLife (event.Write port number word)
-  write_plain v Advances port number word (all, some, to, is, what) harmless at =
-      inl (same_named port v.layout.port number v.layout.tail to is at)
-  write_plain v Elsewhere port number word own harmless at = inr (harmless refl)
-  write_plain v m port number word own harmless at = absurd own
+  write_plain v m port number word own harmless at = grind (arith, common_steps, same_named)
 
   transmit_plain : (v : Sender) (m : Move) (e : Event Block) → sending.IsOwn v m e
       → (IsTrue (is_neither (Sends m)) → IsTrue (is_harmless e)) → NamesDriven q v.layout.port v.layout.tail
       → IsOfLife e
-  transmit_plain v m (event.Write port number word) own harmless at = write_plain v m port number word own harmless at
-  transmit_plain v m e own harmless at = inl tt
+  transmit_plain v m e own harmless at = grind (arith, common_steps, write_plain)
 
   own_plain : (k : Halves) (d : Doer) (c : Call) → OwnCall k d c
       → (IsTrue (is_neither d) → IsTrue (is_harmless c.event))
       → ArePlaced k → IsOfLife c.event
-  own_plain k Receives c own harmless x = inl (receive_plain k.receive c.event own x.receive)
-  own_plain k (Sends m) c own harmless x = transmit_plain k.transmit m c.event own harmless x.transmit
+  own_plain k d c own harmless x = grind (arith, common_steps, receive_plain, transmit_plain)
 
   all_plain : (k : Halves) (doers : List Doer) (calls : List Call) → AllOwn k doers calls
       → OthersHarmless doers calls → ArePlaced k → Each (λ c. IsOfLife c.event) calls

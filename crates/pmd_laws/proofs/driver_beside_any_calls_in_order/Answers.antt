@@ -5,6 +5,8 @@ use Rattle.pmd_laws.proofs.Order.{handed, idle, ran, sent_first}
 use Rattle.pmd_laws.proofs.Prelude.{◌∙◌, HasNoneOut, Rings, accepted_of, ap, bytes_of, now, same_delivers}
 use Rattle.pmd_laws.proofs.Prelude.{same_sends, subst, sym}
 use Rattle.pmd_laws.proofs.driver_beside_any_calls_in_order.Goals as goal
+use Rattle.std.proofs.Common.{arith}
+use Rattle.std.proofs.lemmas.Grind.{common_steps}
 
 pub returns : goal.returns
 returns c = record {
@@ -28,8 +30,7 @@ returns c = record {
   waits = λ x n y waits before more early all is same sent.
       let (s, up, looks) = up_next _ (now x).driver.rings n.driver.rings (goes (told x)).rings (rings_up x) waits in
       waiting_first (own_life x) y.look (called_behind x n y) looks before more all is
-      (ap (λ (z : Rings). bytes_of (accepted_of z)) (sym (rings_up x)) ∙ sent
-      ∙ same_sends x.w.queue x.origin early before same);
+      (grind (arith, common_steps, rings_up, same_sends));
   in_hand = direct_retold;
   interleaved = interleaved_retold;
 }

@@ -10,9 +10,8 @@ use Rattle.pmd_laws.proofs.Prelude.{append-nil, append_cancel_left, by_own, even
 use Rattle.pmd_laws.proofs.Prelude.{last, legal_same, now, subst, sym}
 use Rattle.pmd_laws.proofs.Shifted.{fault_shift, rings, shifted, up_shift}
 use Rattle.pmd_laws.specs.{BesideApart.IsAloneBeside, BesideApart.IsCalledApart, BesideStart.BeginsBeside}
+use Rattle.std.proofs.{Common.arith, lemmas.Grind.common_steps}
 use Rattle.pmd_laws.specs.Told as own
-use Rattle.std.proofs.Common.{arith}
-use Rattle.std.proofs.lemmas.Grind.{common_steps}
 
 -- a driver that runs goes on from one to the other by its own calls alone
 

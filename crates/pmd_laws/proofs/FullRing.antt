@@ -1,12 +1,11 @@
 -- Where a driver tells that its ring is full, or accepts none of several packets and answers no fault, its ring has no
 -- room for the first.
-use Rattle.driver_laws.{proofs.RingLaws.Packets.length-segments, specs.Prelude.Asks}
+use Rattle.driver_laws.proofs.RingLaws.Packets.{length-segments}
 use Rattle.pmd_laws.{proofs.Told.runs, specs.FullRing.AcceptsNone, specs.FullRing.TellsFull, specs.FullRing.outstanding}
-use Rattle.pmd_laws.proofs.Prelude.{[], ◌+◌, ◌<◌, ◌∷◌, ◌≡◌, ◌≤◌, Accepts, Advances, AllOwn, AtPort, Block, Call, Doer}
-use Rattle.pmd_laws.proofs.Prelude.{Drove, Event, Halves, IsOwn, IsTold, Leads, Lends, List, Looks, Moment, Move}
-use Rattle.pmd_laws.proofs.Prelude.{Numbers, Packet, Reaps, Receives, Reply, Running, Sender, Sends, Up, ℕ, after_call}
-use Rattle.pmd_laws.proofs.Prelude.{arith, halves_of, last, length, length-append, length-drop, moved, parts_for}
-use Rattle.pmd_laws.proofs.Prelude.{played_by, refl, segments_of, sized, subst, sym}
+use Rattle.pmd_laws.proofs.Prelude.{[], ◌+◌, ◌<◌, ◌∷◌, ◌≡◌, ◌≤◌, AllOwn, AtPort, Block, Call, Doer, Drove, Event}
+use Rattle.pmd_laws.proofs.Prelude.{Halves, IsOwn, IsTold, Leads, List, Moment, Move, Numbers, Packet, Receives, Reply}
+use Rattle.pmd_laws.proofs.Prelude.{Running, Sender, Sends, Up, ℕ, after_call, arith, halves_of, last, length, moved}
+use Rattle.pmd_laws.proofs.Prelude.{parts_for, played_by, refl, sized, subst, sym}
 use Rattle.std.proofs.lemmas.Grind.{common_steps}
 use Rattle.nic_device.specs.declared.event.Event.TheVariants as event
 use Rattle.nic_device.specs.declared.event.Reply.TheVariants as reply

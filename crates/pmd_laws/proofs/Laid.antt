@@ -20,8 +20,7 @@ Stays q l e = Lays q l e l
 
 module _ (q : AtPort) where
   step_stays : (l : Laid) (e : Event Block) → is_step e ≡ true → Stays q l e
-  step_stays l (event.Write port number word) is = cc
-  step_stays l e is = refl
+  step_stays l e is = grind (arith, common_steps)
 
   each_lays : (l : Laid) (calls : List Call) → Each (λ c. Stays q l c.event) calls → LaysOn q l calls l
   each_lays l [] are = refl
@@ -42,8 +41,7 @@ module _ (q : AtPort) where
   steps_lay l cs are = each_lays l cs (steps_are (Stays q l) (step_stays l) cs are)
 
   step_same : (l m : Laid) (e : Event Block) → is_step e ≡ true → Lays q l e m → m ≡ l
-  step_same l m (event.Write port number word) is lays = cc
-  step_same l m e is lays = lays
+  step_same l m e is lays = grind (arith, common_steps)
 
   steps_same : (l m : Laid) (cs : List Call) → AreSteps cs → LaysOn q l cs m → m ≡ l
   steps_same l m [] are lays = lays
@@ -202,15 +200,7 @@ module _ (q : AtPort) where
   AtTail v = (v.layout.port ≡ q.port) × IsNumberOf q.port Rdt q.queue v.layout.tail
 
   own_stays : (l : Laid) (v : Receive) (e : Event Block) → IsOwn v e → AtTail v → Stays q l e
-  own_stays l v (event.Write port number word) own at = (
-    Rdt,
-    own.port_is ∙ at.0,
-    refl,
-    subst (λ n. IsNumberOf q.port Rdt q.queue n) (sym own.number_is) at.1,
-    tt,
-    refl,
-  )
-  own_stays l v e own at = refl
+  own_stays l v e own at = grind (arith, common_steps)
 
   all_stay : (l : Laid) (v : Receive) (marks : List Bool) (calls : List Call) → AllOwn v marks calls
       → OthersStep marks calls → AtTail v → Each (λ c. Stays q l c.event) calls

@@ -51,9 +51,7 @@ module _ (q : AtPort) (lent : Blocks) where
   Rises old new = AreMadeOf IsRising old new
 
   pub step_rises : (e : Event Block) → is_step e ≡ true → IsRising e
-  step_rises (event.Write port number word) is = cc
-  step_rises (event.Lend block) is = cc
-  step_rises e is = tt
+  step_rises e is = grind (arith, common_steps)
 
   write_rises : (row : RowId) (word number : ℕ) → IsDriven (Sets row word) → IsNumberOf q.port row q.queue number
       → IsRising (event.Write q.port number word)
@@ -104,8 +102,7 @@ module _ (q : AtPort) (lent : Blocks) where
   -- such a call writes no register but the queue's
 
   rising_plain : (e : Event Block) → IsRising e → IsPlain q e
-  rising_plain (event.Write port number word) rises = rises
-  rising_plain e rises = tt
+  rising_plain e rises = grind (arith, common_steps)
 
   -- a pass lends what its calls do
 
@@ -187,8 +184,7 @@ module _ (w : Watched) (origin : State) (h : List Entry) (q : AtPort) (old first
 -- frames of such a length fit as many blocks as a packet has at most
 pub short_by : (queue : ℕ) (q : AtPort) (frame : ℕ) (s : State) → HasGround queue q frame s
     → All (FitsBlocks queue (most_blocks frame)) s.waiting → AreShort queue (most_blocks frame) s
-short_by queue q frame s g short =
-    record { limit = (let limit = g.limit in omega (arith, limit)); waiting = short }
+short_by queue q frame s g short = grind (arith, common_steps)
 
 -- as both sides are on
 module _ {c : Course} (x : On c) (own : Blocks) where

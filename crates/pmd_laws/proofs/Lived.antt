@@ -6,25 +6,22 @@ use Rattle.pmd_laws.{proofs.DriverLaws.SwitchedOff.quieting_leads, proofs.StopCa
 use Rattle.pmd_laws.{proofs.Stopped.left_handed_over_stop, proofs.Stopped.left_sent_over_stop, specs.Points.JustBefore}
 use Rattle.pmd_laws.proofs.Prelude.{[], ◌&&◌, ◌++◌, ◌∙◌, ◌∷◌, ◌≡◌, AreSteps, AreUp, AtPort, Begins, BeginsWell, Bool}
 use Rattle.pmd_laws.proofs.Prelude.{Call, Dir, Ended, Entry, HasGround, HasLived, IsAlong, IsFalse, IsOver, IsQuiet}
-use Rattle.pmd_laws.proofs.Prelude.{IsTrue, List, None, Numbers, Option, Parts, PmdFault, Rest, Rx, Rxdctl, Sees, Sets}
-use Rattle.pmd_laws.proofs.Prelude.{Some, State, Tx, Up, Watched, WentOn, ℕ, after, ap, append-nil, append_assoc}
-use Rattle.pmd_laws.proofs.Prelude.{append_cancel_left, around, both_ways, bytes_of, calls_joined, calls_of, cases_Bool}
-use Rattle.pmd_laws.proofs.Prelude.{cond, delivered, extends, false, halted_of, inl, inr, is_on, is_step, leads_to}
-use Rattle.pmd_laws.proofs.Prelude.{left_accepted, left_handed, new_state, not, one_begins, option_map, packets_if_any}
-use Rattle.pmd_laws.proofs.Prelude.{parts, pieces, pieces_since, polled, quiet, receive_polled, refl, sent_by}
-use Rattle.pmd_laws.proofs.Prelude.{sent_is_counted, sent_since, since-append, start_goes_on, subst, sym, true}
+use Rattle.pmd_laws.proofs.Prelude.{IsTrue, List, None, Numbers, Option, Parts, PmdFault, Rest, Rx, Rxdctl, Some, State}
+use Rattle.pmd_laws.proofs.Prelude.{Tx, Watched, WentOn, ℕ, after, ap, append-nil, append_assoc, append_cancel_left}
+use Rattle.pmd_laws.proofs.Prelude.{around, both_ways, bytes_of, calls_joined, calls_of, cases_Bool, cond, delivered}
+use Rattle.pmd_laws.proofs.Prelude.{extends, false, inl, inr, is_on, is_step, leads_to, left_accepted, left_handed}
+use Rattle.pmd_laws.proofs.Prelude.{new_state, not, one_begins, option_map, packets_if_any, parts, pieces, pieces_since}
+use Rattle.pmd_laws.proofs.Prelude.{polled, quiet, receive_polled, refl, sent_by, sent_is_counted, sent_since}
+use Rattle.pmd_laws.proofs.Prelude.{since-append, start_goes_on, subst, sym, true}
 use Rattle.pmd_laws.proofs.WorkerTold.{FirstCall, before_first, first_read, more_behind}
+use Rattle.std.proofs.{Common.arith, lemmas.Grind.common_steps}
 use Rattle.pmd_laws.specs.DriverLaws.RingLaws.Delivered as receive
 use Rattle.pmd_laws.specs.DriverLaws.RingLaws.Laws as transmit
-use Rattle.std.proofs.Common.{arith}
-use Rattle.std.proofs.lemmas.Grind.{common_steps}
 
 -- where a side goes on what was before doesn't count
 anew : {A : Type 0} (was is : Bool) (x y z : A) → was ≡ false → is ≡ true
     → cond (not was && is) x y ≡ cond (not was && is) x z
-anew true is x y z off on = cc
-anew false true x y z off on = refl
-anew false false x y z off on = cc
+anew was is x y z off on = grind (arith, common_steps)
 
 -- a count of what each entry adds, which begins anew where a side of a queue goes on
 module _ {A : Type 0} (dir : Dir) (queue : ℕ) (none begun : A) (add : State → Entry → A → A)
@@ -84,8 +81,7 @@ abbrev GoesOn : List Call → List Call → Type 0
 GoesOn old new = (more : List Call) × (new ≡ old ++ more)
 
 goes_on : (old mid new : List Call) → GoesOn old mid → GoesOn mid new → GoesOn old new
-goes_on old mid new (cs, one) (ds, two) =
-    (cs ++ ds, two ∙ ap (λ (l : List Call). l ++ ds) one ∙ append_assoc old cs ds)
+goes_on old mid new (cs, one) (ds, two) = grind (arith, common_steps)
 
 -- each of some steps of the device is one
 steps_have : (before : List Call) (c : Call) (more : List Call) → AreSteps (before ++ c ∷ more)

@@ -8,22 +8,19 @@ use Rattle.pmd_laws.proofs.Order.{On, begun, driven_by, first, last_before, on_b
 use Rattle.pmd_laws.proofs.Prelude.{[], ◌++◌, ◌∙◌, ◌∷◌, ◌≡◌, AllLendApart, AllOwn, BeforeLast, Blocks, Call, Course}
 use Rattle.pmd_laws.proofs.Prelude.{DeviceFault, Doer, DrivesApart, DrivesRings, Elsewhere, Entry, FailedAmid, FindsBy}
 use Rattle.pmd_laws.proofs.Prelude.{FindsFault, Halves, IfErr, IfSome, IsFresh, LeadsApart, List, NoBurstMeetsFault}
-use Rattle.pmd_laws.proofs.Prelude.{NoCallFindsFault, None, OnlyPassLends, Option, OthersHarmless, OwnCall, Packet}
-use Rattle.pmd_laws.proofs.Prelude.{Parts, PmdFault, Receive, Receives, Result, Running, Sends, SendsAtFault, SendsWith}
-use Rattle.pmd_laws.proofs.Prelude.{Some, Told, ℕ, ap, apart_on, append-nil, append_assoc, append_cancel_left, both_own}
-use Rattle.pmd_laws.proofs.Prelude.{call_of, calls_joined, calls_of, doers_other, false, halves_of, harmless_both}
-use Rattle.pmd_laws.proofs.Prelude.{is_healthy, is_neither, is_own, leads_to, left, met_by, others_harmless, others_own}
-use Rattle.pmd_laws.proofs.Prelude.{others_played, own_length, parts, played_by, refl, subst, sym}
+use Rattle.pmd_laws.proofs.Prelude.{NoCallFindsFault, None, OnlyPassLends, Option, OthersHarmless, Packet, Parts}
+use Rattle.pmd_laws.proofs.Prelude.{PmdFault, Receive, Result, Running, Sends, SendsAtFault, SendsWith, Some, Told, ℕ}
+use Rattle.pmd_laws.proofs.Prelude.{ap, apart_on, append-nil, append_assoc, append_cancel_left, both_own, call_of}
+use Rattle.pmd_laws.proofs.Prelude.{calls_joined, calls_of, doers_other, false, halves_of, harmless_both, is_healthy}
+use Rattle.pmd_laws.proofs.Prelude.{is_neither, is_own, leads_to, left, met_by, others_harmless, others_own}
+use Rattle.pmd_laws.proofs.Prelude.{others_played, own_length, parts, played_by, subst, sym}
 use Rattle.pmd_laws.proofs.Told.{added, added_is, goes, led, life, up_next}
 use Rattle.pmd_laws.specs.Told.{now}
-use Rattle.std.proofs.Common.{arith}
-use Rattle.std.proofs.lemmas.Grind.{common_steps}
+use Rattle.std.proofs.{Common.arith, lemmas.Grind.common_steps}
 
 -- a call whose reply no healthy queue gives is a half's
 sick_own : (h : Halves) (d : Doer) (n : Call) → is_healthy h d n ≡ false → is_neither d ≡ false
-sick_own h Receives n sick = refl
-sick_own h (Sends Elsewhere) n sick = cc
-sick_own h (Sends m) n sick = refl
+sick_own h d n sick = grind (arith, common_steps)
 
 -- all calls up to it, and whose they are
 module _ {own : Blocks} {on : List Call} {h : Halves} {new : List Call} (f : FindsFault own on h new) where
@@ -146,8 +143,7 @@ burst_finds None given left result old mid new r there s drives finds x is =
       found_on drives.apart
           (subst (λ (own : Blocks). FindsFault own mid (halves_of there) upto) (λ i k. drives.owns k i) f),
     )
-burst_finds (Some f) given left result old mid new r there s drives finds x is =
-    grind (arith, common_steps, append-nil, is_own)
+burst_finds (Some f) given left result old mid new r there s drives finds x is = grind (arith, common_steps)
 
 -- behind a driver's life no call added so
 module _ (x : Told)

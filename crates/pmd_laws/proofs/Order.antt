@@ -16,15 +16,14 @@ use Rattle.pmd_laws.proofs.Prelude.{both_ways, bytes_of, calls_of, cond, counted
 use Rattle.pmd_laws.proofs.Prelude.{each_ring_block, false, false_from_ne_true, first_of, halves_of, handed_is_prefix}
 use Rattle.pmd_laws.proofs.Prelude.{harmless_leave_alone, has_lent, idle_is_all_sent, inl, is_free, is_own}
 use Rattle.pmd_laws.proofs.Prelude.{is_own-of_free, is_ring_block, leads-append, leads_on, leads_to, led, lent_by}
-use Rattle.pmd_laws.proofs.Prelude.{none_is_all, none_is_all_taken, on, or_left, parts, pieces_in, played_by}
-use Rattle.pmd_laws.proofs.Prelude.{receiving_apart, receiving_drives, records_of, refl, ring_block_among}
-use Rattle.pmd_laws.proofs.Prelude.{ring_block_is, ring_block_out, ring_blocks, sent_in, sent_is_prefix, sent_since}
-use Rattle.pmd_laws.proofs.Prelude.{subst, sym, times_among, times_in_hand, true, true_from_ne_false, with_free}
+use Rattle.pmd_laws.proofs.Prelude.{none_is_all, none_is_all_taken, on, parts, pieces_in, played_by, receiving_apart}
+use Rattle.pmd_laws.proofs.Prelude.{receiving_drives, records_of, refl, ring_block_among, ring_block_is, ring_block_out}
+use Rattle.pmd_laws.proofs.Prelude.{ring_blocks, sent_in, sent_is_prefix, sent_since, subst, sym, times_among}
+use Rattle.pmd_laws.proofs.Prelude.{times_in_hand, true, true_from_ne_false, with_free}
 use Rattle.std.proofs.{Common.arith, lemmas.Grind.common_steps}
 use Rattle.pmd.specs.PmdRx.{PmdSeam.Frames.most_blocks, Receive.at_start}
 use Rattle.driver_laws.specs.RingLaws.Delivered as receive
 use Rattle.driver_laws.specs.RingLaws.ReceiveUp as received
-use Rattle.std.proofs.Common.{arith}
 
 -- blocks that were drawn from an arena were free there, and aren't any more
 

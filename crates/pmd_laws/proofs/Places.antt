@@ -1,6 +1,6 @@
 -- Of an arena's blocks those are lent at the device that its driver has out with its halves; and each block of it is in
 -- one place: free there, in hand, or lent to the device.
-use Rattle.std.proofs.lemmas.List.Folds.{list_any-append}
+use Rattle.std.proofs.lemmas.{Grind.common_steps, List.Folds.list_any-append}
 use Rattle.driver_laws.proofs.{Healthy.known_along, Lending.receive_lent, Sending.sender_lent}
 use Rattle.driver_laws.specs.{Healthy.lent_by}
 use Rattle.pmd_laws.proofs.{Lent.known_at, Lent.others_behind, Told.goes, Told.led, Told.told_ran}
@@ -9,15 +9,13 @@ use Rattle.pmd_laws.proofs.Prelude.{◌++◌, ◌+◌, ◌==◌, ◌||◌, ◌�
 use Rattle.pmd_laws.proofs.Prelude.{EachInOnePlace, Halves, HasAll, IsTrue, LentIsOut, List, Memory, Numbers, OnlyLent}
 use Rattle.pmd_laws.proofs.Prelude.{OnlyPassLends, OutIsLent, Piece, Rings, Running, Sender, State, Told, Up, ℕ}
 use Rattle.pmd_laws.proofs.Prelude.{among_times, arena_of, arith, blocks_of, cond, false, halted_of, halves_of}
-use Rattle.pmd_laws.proofs.Prelude.{has_block, has_lent, inl, inr, is_free, is_out, is_own, is_ring_block, leads_to}
-use Rattle.pmd_laws.proofs.Prelude.{list_any, memory_after, or_cases, or_right, places_of, refl, ring_block_among}
-use Rattle.pmd_laws.proofs.Prelude.{ring_blocks, subst, suc, sym, take, times-append, times_among, times_in_hand, true}
-use Rattle.pmd_laws.proofs.Prelude.{zero}
+use Rattle.pmd_laws.proofs.Prelude.{has_block, has_lent, inl, inr, is_free, is_out, is_own, leads_to, list_any}
+use Rattle.pmd_laws.proofs.Prelude.{memory_after, or_cases, places_of, refl, ring_block_among, ring_blocks, subst, suc}
+use Rattle.pmd_laws.proofs.Prelude.{sym, take, times-append, times_among, times_in_hand, true, zero}
 use Rattle.pmd_laws.specs.{Told.now}
 use Rattle.pmd.specs.PmdRx.Keeping as received
 use Rattle.pmd.specs.PmdTx.Leaving as leaving
 use Rattle.pmd.specs.PmdTx.Sending as sending
-use Rattle.std.proofs.lemmas.Grind.{common_steps}
 
 -- what either half has lent is lent at the device, where device and driver agree
 both_lent : {queue : ℕ} {s : State} {out : List Piece} {sent : List (List ℕ)} (h : Halves)
@@ -61,9 +59,7 @@ counted : (xs : List ℕ) (n t : ℕ) → times_in_hand xs n ≡ t → list_any 
 counted xs n t is = grind (arith, common_steps, times_among, among_times)
 
 swapped : (a b : Bool) → (a || b) ≡ (b || a)
-swapped true b = sym (or_right b true refl)
-swapped false true = refl
-swapped false false = refl
+swapped a b = grind (arith, common_steps)
 
 abbrev lent : Halves → List ℕ
 lent h = received.lent_of h.receive ++ leaving.lent_of h.transmit
@@ -82,15 +78,10 @@ lent_counted h n =
 -- so it counts as lent
 placed : (f g : Bool) (t k : ℕ) → cond f 1 0 + (t + k) ≡ cond g 1 0
     → cond f 1 0 + k + cond (some t) 1 0 ≡ cond g 1 0
-placed f g zero k same = omega (arith, same)
-placed f g (suc zero) k same = omega (arith, same)
-placed f true (suc (suc t)) k same = absurd (omega (arith, same))
-placed f false (suc (suc t)) k same = absurd (omega (arith, same))
+placed f g t k same = grind (arith, common_steps)
 
 same_where : (a b : Bool) → (a ≡ true → b ≡ true) → (b ≡ true → a ≡ true) → a ≡ b
-same_where true b one two = sym (one refl)
-same_where false true one two = two refl
-same_where false false one two = refl
+same_where a b one two = grind (arith, common_steps)
 
 module _ (a : Numbers) (hand : List ℕ) (mem : Memory) (n : ℕ) where
   abbrev InPlace : Rings → Type 0

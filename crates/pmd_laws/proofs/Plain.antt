@@ -4,39 +4,27 @@ use Rattle.driver_laws.{proofs.RingLaws.DeviceLaws.KeptSettings.settings_stand}
 use Rattle.driver_laws.proofs.{Fitting.drive_same, On.ground_at as ground_on, RingLaws.DeviceLaws.Standing.stays_within}
 use Rattle.pmd.specs.PmdRx.Receive.{moved}
 use Rattle.pmd_laws.proofs.Order.{Ran, first, some_on}
-use Rattle.pmd_laws.proofs.Prelude.{[], ◌∙◌, ◌∷◌, ◌≡◌, ◌⊎◌, Accepts, Advances, AllOwn, AtPort, Block, Call, Course}
-use Rattle.pmd_laws.proofs.Prelude.{Doer, Each, Elsewhere, Event, Halves, HasGround, IsPlain, IsTrue, Lends, List, Move}
-use Rattle.pmd_laws.proofs.Prelude.{NamesDriven, OthersHarmless, OwnCall, Port, Reaps, Receive, Receives, Reply, Sender}
-use Rattle.pmd_laws.proofs.Prelude.{Sends, State, Watched, ℕ, after, after_call, all_lead, append-nil, calls_of, false}
-use Rattle.pmd_laws.proofs.Prelude.{ground_kept, ground_same, inl, inr, is_harmless, is_neither, leads_to, left}
-use Rattle.pmd_laws.proofs.Prelude.{left-setting, lent_by, mode_in, plain_keeps, reached, refl, state_kept, state_leads}
-use Rattle.pmd_laws.proofs.Prelude.{subst, sym}
+use Rattle.pmd_laws.proofs.Prelude.{[], ◌∙◌, ◌∷◌, ◌≡◌, ◌⊎◌, AllOwn, AtPort, Block, Call, Course, Doer, Each, Event}
+use Rattle.pmd_laws.proofs.Prelude.{Halves, HasGround, IsPlain, IsTrue, List, Move, NamesDriven, OthersHarmless}
+use Rattle.pmd_laws.proofs.Prelude.{OwnCall, Port, Receive, Reply, Sender, Sends, State, Watched, ℕ, after, after_call}
+use Rattle.pmd_laws.proofs.Prelude.{all_lead, append-nil, calls_of, false, ground_kept, ground_same, inl, inr}
+use Rattle.pmd_laws.proofs.Prelude.{is_harmless, is_neither, leads_to, left, left-setting, lent_by, mode_in}
+use Rattle.pmd_laws.proofs.Prelude.{plain_keeps, reached, refl, state_kept, state_leads}
+use Rattle.std.proofs.{Common.arith, lemmas.Grind.common_steps}
 use Rattle.nic_device.specs.declared.event.Event.TheVariants as event
 use Rattle.nic_device.specs.declared.event.Reply.TheVariants as reply
 use Rattle.pmd.specs.PmdRx.Receive as receiving
 use Rattle.pmd.specs.PmdTx.Sending as sending
-use Rattle.std.proofs.Common.{arith}
-use Rattle.std.proofs.lemmas.Grind.{common_steps}
 
 -- the tail's number stays
 sent_same : (v : Sender) (m : Move) (r : Reply Block)
     → ((sending.moved v m r).layout.port ≡ v.layout.port) × ((sending.moved v m r).layout.tail ≡ v.layout.tail)
-sent_same v (Accepts p) reply.Done = (refl, refl)
-sent_same v Lends reply.Done = (refl, refl)
-sent_same v sending.Asks reply.Done = (refl, refl)
-sent_same v Advances reply.Done = (refl, refl)
-sent_same v sending.Looks (reply.Bytes d) = (refl, refl)
-sent_same v Reaps (reply.Buf b) = (refl, refl)
-sent_same v m r = (refl, refl)
+sent_same v m r = grind (arith, common_steps)
 
 module _ (q : AtPort) where
-  abbrev At : ℕ → Port → Type 0
-  At number port = NamesDriven q port number
-
   same_named : (port to : Port) (number goal : ℕ) → port ≡ to → number ≡ goal → NamesDriven q to goal
       → NamesDriven q port number
-  same_named port to number goal same is at =
-      subst (At number) (sym same) (subst (NamesDriven q to) (sym is) at)
+  same_named port to number goal same is at = grind (arith, common_steps)
 
   -- both tails are registers of the queue
   record ArePlaced (k : Halves) : Type 0 where

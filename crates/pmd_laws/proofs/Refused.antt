@@ -5,21 +5,19 @@ use Rattle.driver_laws.proofs.{Laid.laid_queue_is_silent, StopCalls.each_such}
 use Rattle.pmd_laws.proofs.Laid.{LaysSome, LaysTo, Stays, first_lays, going_on_fails, lays_behind, prepared_lays}
 use Rattle.pmd_laws.proofs.Laid.{preparing_lays, receive_fails, receive_ready, stay, then_lays, then_some}
 use Rattle.pmd_laws.proofs.Prelude.{[], ◌&&◌, ◌++◌, ◌∙◌, ◌∷◌, ◌≡◌, AtPort, Block, Bool, Call, ComesDown, Empty, Entry}
-use Rattle.pmd_laws.proofs.Prelude.{Err, Event, Halted, IsEnding, IsHalfStarted, IsHome, IsLeftWith, IsShut, Laid}
-use Rattle.pmd_laws.proofs.Prelude.{LaysOn, List, MayAsk, NeverLived, None, Numbers, Off, Option, PmdFault, Rest, Rx}
-use Rattle.pmd_laws.proofs.Prelude.{Rxdctl, Some, StartRefused, State, StopsStarting, Tx, Txdctl, ℕ, and_parts, ap}
-use Rattle.pmd_laws.proofs.Prelude.{append_assoc, append_cancel_left, bytes_of, call_in, calls_joined, calls_of}
-use Rattle.pmd_laws.proofs.Prelude.{calls_own, cond, delivered, eq-eqb, false, has_bit, inl, inr, is_size, last}
-use Rattle.pmd_laws.proofs.Prelude.{leads_to, left, most_blocks, named, none_made, refl, sent_in, sent_is_counted}
-use Rattle.pmd_laws.proofs.Prelude.{sent_since, start_gate, subst, sym, true}
+use Rattle.pmd_laws.proofs.Prelude.{Event, Halted, IsEnding, IsHalfStarted, IsHome, IsLeftWith, Laid, LaysOn, List}
+use Rattle.pmd_laws.proofs.Prelude.{MayAsk, NeverLived, None, Numbers, Off, Option, PmdFault, Rest, Some, StartRefused}
+use Rattle.pmd_laws.proofs.Prelude.{State, StopsStarting, Tx, ℕ, and_parts, ap, append_assoc, append_cancel_left}
+use Rattle.pmd_laws.proofs.Prelude.{bytes_of, call_in, calls_joined, calls_of, calls_own, cond, delivered, eq-eqb}
+use Rattle.pmd_laws.proofs.Prelude.{false, has_bit, inl, inr, is_size, last, leads_to, left, most_blocks, named}
+use Rattle.pmd_laws.proofs.Prelude.{none_made, refl, sent_in, sent_is_counted, sent_since, start_gate, subst, sym, true}
 use Rattle.pmd_laws.proofs.StopCalls.{stopped_ends}
 use Rattle.pmd_laws.specs.Refused.{LeftOfRefusedIsPrefix, Refused, RefusedSendsNothing}
+use Rattle.std.proofs.{Common.arith, lemmas.Grind.common_steps}
 use Rattle.nic_device.specs.declared.event.Event.TheVariants as event
 use Rattle.pmd.specs.declared.start.Rest.TheVariants as rest
 use Rattle.driver_laws.specs.RingLaws.Delivered as receive
 use Rattle.driver_laws.specs.RingLaws.Laws as transmit
-use Rattle.std.proofs.Common.{arith}
-use Rattle.std.proofs.lemmas.Grind.{common_steps}
 
 -- a start that was refused amid its events
 starting_lays : {q : AtPort} {size frame : ℕ} {old : List Call} {a : Numbers} {new : List Call} {e : StartRefused}
@@ -41,8 +39,7 @@ starting_lays {q = q} {size = size} {frame = frame} {new = new} {e = e} is (inr 
 -- a call of a stop lays nothing out
 
 ask_none : (l : Laid) (word : ℕ) → has_bit 25 word ≡ false → MayAsk l word
-ask_none Empty word none = tt
-ask_none l word none = none
+ask_none l word none = grind (arith, common_steps)
 
 ending_stays : (q : AtPort) (l : Laid) (e : Event Block) → IsEnding q e → Stays q l e
 ending_stays q l e ends = grind (arith, common_steps, named, ask_none)
@@ -74,8 +71,7 @@ stopping_lays made e new left (inr (inr x)) down = half_lays _ e.rest made new l
 
 -- a start that isn't refused before any event has a size
 is_passed : (b : Bool) (more : Option PmdFault) (f : PmdFault) → cond b more (Some f) ≡ None → b ≡ true
-is_passed true more f none = refl
-is_passed false more f none = cc
+is_passed b more f none = grind (arith, common_steps)
 
 module _ (q : AtPort) (size frame : ℕ) (old : List Call) (a : Numbers) (e : StartRefused) (new : List Call)
     (left : Rest) (x : NeverLived q size frame old a e new left) where

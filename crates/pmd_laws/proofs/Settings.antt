@@ -10,10 +10,7 @@ use Rattle.nic_device.specs.{RegisterFile.Access.asks_reset, RegisterLaws.Laws.a
 use Rattle.nic_device.specs.{declared.named.Named.Named, declared.named.Named.TheVariants.Nothing}
 use Rattle.nic_device.specs.RegisterFile.Registers.{Registers, is_wanted}
 use Rattle.nic_device.specs.RegisterLaws.Footprint.{is_place, of_write, pool_renews}
-use Rattle.nic_device.specs.RegisterLaws.Sides.{ReceiveQueue, TransmitQueue}
-use Rattle.nic_device.specs.VfMap.Pools.{pools_in, queues_each, queues_of}
-use Rattle.nic_device.specs.VfMap.declared.mode.Mode.TheVariants.{Off, Pools16, Pools32, Pools64}
-use Rattle.nic_device.specs.declared.event.Port.TheVariants.{Pf, Vf}
+use Rattle.nic_device.specs.VfMap.Pools.{pools_in, queues_each}
 use Rattle.workers.specs.{Beginning.BeginsWell, DeviceLock.Alone.place_at, DeviceLock.declared.told.Settings.Settings}
 use Rattle.workers.specs.{Starts.Starts, declared.beginning.Given.Given}
 use Rattle.workers.specs.DeviceLock.Told.{first_settings, settings_through}
@@ -24,24 +21,23 @@ use Rattle.pmd_laws.proofs.{DriverLaws.HistoryLaws.DeviceLaws.PoolResets.asked_p
 use Rattle.pmd_laws.proofs.{DriverLaws.HistoryLaws.Limits.settings_told}
 use Rattle.pmd_laws.proofs.DriverLaws.HistoryLaws.Steady.{off_steady, steady_kept}
 use Rattle.pmd_laws.proofs.DriverLaws.HistoryLaws.Written.{place_in, place_named}
-use Rattle.pmd_laws.proofs.Prelude.{[], if◌then◌else◌, ◌&&◌, ◌*◌, ◌++◌, ◌+◌, ◌<◌, ◌∙◌, ◌∷◌, ◌≡◌, AreEvents, Block, Call}
-use Rattle.pmd_laws.proofs.Prelude.{Dir, Entry, Event, HasGround, IsSound, List, Mode, None, Option, Place, Port}
-use Rattle.pmd_laws.proofs.Prelude.{Register, RowId, Rx, Rxdctl, Some, State, Tx, Txdctl, Watched, ℕ, after, ap}
-use Rattle.pmd_laws.proofs.Prelude.{append-nil, append_assoc, arith, asks_pool_reset, cases_Bool, cleared, cond}
-use Rattle.pmd_laws.proofs.Prelude.{enable_row, eq-eqb, events_before, false, has_bit, has_queue, image_stays, inl, inr}
-use Rattle.pmd_laws.proofs.Prelude.{is_on, leads_to, left-side, length, ltb-true, mode_in, named, nat_lt, new_sound}
-use Rattle.pmd_laws.proofs.Prelude.{new_state, place, refl, row_of, subst, sym, true, vfs_stays}
+use Rattle.pmd_laws.proofs.Prelude.{[], ◌&&◌, ◌*◌, ◌++◌, ◌+◌, ◌<◌, ◌∙◌, ◌∷◌, ◌≡◌, AreEvents, Block, Call, Dir, Entry}
+use Rattle.pmd_laws.proofs.Prelude.{Event, HasGround, IsSound, List, Mode, Option, Place, Port, Register, RowId, Rx}
+use Rattle.pmd_laws.proofs.Prelude.{Some, State, Tx, Watched, ℕ, after, ap, append-nil, append_assoc, arith}
+use Rattle.pmd_laws.proofs.Prelude.{asks_pool_reset, cases_Bool, cleared, cond, enable_row, events_before, false}
+use Rattle.pmd_laws.proofs.Prelude.{has_bit, has_queue, image_stays, inl, inr, is_on, leads_to, left-side, length}
+use Rattle.pmd_laws.proofs.Prelude.{mode_in, named, new_sound, new_state, place, refl, row_of, subst, sym, true}
+use Rattle.pmd_laws.proofs.Prelude.{vfs_stays}
 use Rattle.pmd_laws.specs.{DriverLaws.Numbers.queue_at, DriverLaws.Numbers.queue_in, Quiet.NeverAskedIsQuiet}
 use Rattle.pmd_laws.specs.DriverLaws.HistoryLaws.Sides.{IsOff, side_of}
+use Rattle.std.proofs.lemmas.Grind.{common_steps}
 use Rattle.nic_device.specs.declared.event.Event.TheVariants as event
 use Rattle.workers.specs.Queues as told
-use Rattle.std.proofs.lemmas.Grind.{common_steps}
 
 -- what a history tells is what the device has
 
 same_in : (queues : Option (ℕ × ℕ)) (number : ℕ) → told.queue_in queues number ≡ queue_in queues number
-same_in None number = refl
-same_in (Some queues) number = refl
+same_in queues number = grind (arith, common_steps)
 
 pub same_named : (mode : Mode) (vfs : ℕ) (port : Port) (number : ℕ)
     → told.queue_at mode vfs port number ≡ queue_at mode vfs port number
@@ -50,10 +46,7 @@ same_named mode vfs port number = grind (arith, common_steps, same_in)
 -- each of a pool's queues is
 pool_below : (mode : Mode) (pool number : ℕ) → pool < pools_in mode → number < queues_each mode
     → pool * queues_each mode + number < 128
-pool_below Off pool number in_mode few = absurd (omega (arith, few))
-pool_below Pools16 pool number in_mode few = omega (arith, in_mode, few)
-pool_below Pools32 pool number in_mode few = omega (arith, in_mode, few)
-pool_below Pools64 pool number in_mode few = omega (arith, in_mode, few)
+pool_below mode pool number in_mode few = grind (arith, common_steps)
 
 pub named_below : (mode : Mode) (vfs : ℕ) (port : Port) (number queue : ℕ)
     → queue_at mode vfs port number ≡ Some queue → queue < 128
@@ -84,12 +77,10 @@ abbrev IsDown : Dir → ℕ → Registers → Type 0
 IsDown dir queue r = (is_on r dir queue ≡ false) × (is_wanted r dir queue ≡ false)
 
 down_off : (dir : Dir) (queue : ℕ) (s : State) → IsDown dir queue s.registers → IsOff (side_of dir queue s)
-down_off Rx queue s down = record { off = down.0; unwanted = down.1 }
-down_off Tx queue s down = record { off = down.0; unwanted = down.1 }
+down_off dir queue s down = grind (arith, common_steps)
 
 off_down : (dir : Dir) (queue : ℕ) (s : State) → IsOff (side_of dir queue s) → IsDown dir queue s.registers
-off_down Rx queue s is = (is.off, is.unwanted)
-off_down Tx queue s is = (is.off, is.unwanted)
+off_down dir queue s is = grind (arith, common_steps)
 
 -- as a reset leaves it
 pub reset_off : (dir : Dir) (queue : ℕ) (s : State) → queue < 128 → IsOff (side_of dir queue (cleared s))
@@ -101,12 +92,10 @@ abbrev enable : Dir → ℕ → Place
 enable dir queue = place (enable_row dir) queue
 
 inside : (dir : Dir) (queue : ℕ) → queue < 128 → queue < (row_of (enable_row dir)).count
-inside Rx queue small = small
-inside Tx queue small = small
+inside dir queue small = grind (arith, common_steps)
 
 reset_word : (dir : Dir) → has_bit 25 (row_of (enable_row dir)).reset ≡ false
-reset_word Rx = refl
-reset_word Tx = refl
+reset_word dir = grind (arith, common_steps)
 
 of_pool : (dir : Dir) (mode : Mode) (v queue : ℕ)
     → (pool_renews mode v).bits (enable dir queue) 25 ≡ has_queue mode v queue
@@ -114,18 +103,13 @@ of_pool Rx mode v queue = refl
 of_pool Tx mode v queue = refl
 
 is_own : (dir : Dir) (queue : ℕ) → is_enable queue (Some (enable dir queue)) ≡ true
-is_own Rx queue = eq-eqb queue queue refl
-is_own Tx queue = eq-eqb queue queue refl
+is_own dir queue = grind (arith, common_steps)
 
 -- only a write of it changes what is wanted of the side, and asks for its bit 25
 
 unasked : (row : RowId) (index : ℕ) (dir : Dir) (queue : ℕ) → is_place (place row index) (enable dir queue) ≡ false
     → (of_write (place row index)).wanted dir queue ≡ false
-unasked Rxdctl index Rx queue other = other
-unasked Rxdctl index Tx queue other = refl
-unasked Txdctl index Rx queue other = refl
-unasked Txdctl index Tx queue other = other
-unasked row index dir queue other = refl
+unasked row index dir queue other = grind (arith, common_steps)
 
 asked_of : (dir : Dir) (queue : ℕ) → queue < 128 → (s : State) → IsSound s → (view word : ℕ)
     → is_wanted (after_write s.registers (enable dir queue) view word) dir queue ≡ has_bit 25 word

@@ -7,10 +7,9 @@ use Rattle.pmd_laws.proofs.Prelude.{IsOtherwise, IsPrepared, IsReceiveReady, IsS
 use Rattle.pmd_laws.proofs.Prelude.{LendsEach, List, Numbers, PlaysFrom, PollsEnd, PreparingFails, Receive}
 use Rattle.pmd_laws.proofs.Prelude.{ReceiveFails, Reply, RowId, Running, Rx, Rxdctl, Sees, Sender, Sets, StopsBy}
 use Rattle.pmd_laws.proofs.Prelude.{StopsLending, SwitchFails, Tx, ℕ, append-nil, append_cancel_left, both_asked}
-use Rattle.pmd_laws.proofs.Prelude.{both_quiet, call_of, false, inl, inr, last, missed, named, not, place, polled}
-use Rattle.pmd_laws.proofs.Prelude.{quiet, receive_polled, refl, ring_words, subst, sym, true}
+use Rattle.pmd_laws.proofs.Prelude.{both_quiet, false, inl, inr, last, missed, named, place, polled, quiet}
+use Rattle.pmd_laws.proofs.Prelude.{receive_polled, refl, ring_words, subst, sym, true}
 use Rattle.std.proofs.{Common.arith, lemmas.Grind.common_steps}
-use Rattle.std.proofs.Common.{arith}
 
 -- some calls were added, of which this holds, whatever calls are before them
 pub record Shifts (R : List Call → List Call → Type 0) (old new : List Call) : Type 0 where
@@ -70,8 +69,7 @@ shifted {R = R} {old = old} x since front made =
 -- a call, and calls as each half tells them
 
 adds : (e : Event Block) (reply : Reply Block) → Shift (λ o n. Adds o n e reply)
-adds e reply old new (before, made, steps) =
-    record { since = before ++ call_of e reply ∷ []; made = made; behind = λ front. (before, refl, steps) }
+adds e reply old new (before, made, steps) = grind (arith, common_steps)
 
 plays : (a : Numbers) (v w : Receive) → Shift (λ o n. PlaysFrom a o v n w)
 plays a v w old new x =
@@ -186,16 +184,7 @@ lending : (all : List ℕ) (a b : Numbers) (out : List ℕ) → Shift (λ o n. S
 lending all a b out old new x =
     let (back, again) = x.fails in
     joined (lends out old x.mid x.lent) (adds _ _ x.mid new again)
-    (λ o m n lent last. record {
-      next = x.next;
-      rest = x.rest;
-      parts = x.parts;
-      drawn = x.drawn;
-      free = x.free;
-      mid = m;
-      lent = lent;
-      fails = (back, last);
-    })
+    (grind (arith, common_steps))
 
 preparing : (q : AtPort) (side : Dir) (size : ℕ) (a b : Numbers) (out : List ℕ)
     → Shift (λ o n. PreparingFails DeviceFault q side size o a n b out)
@@ -281,29 +270,11 @@ module _ (q : AtPort) (size frame : ℕ) (a : Numbers) where
   early old new (inr (inl x)) =
       joined (receive q size frame a x.ready_arena x.empty old x.made x.receive)
       (preparing q Tx size x.ready_arena x.arena x.out x.made new x.fails)
-      (λ o m n y z. inr (inl (record {
-        made = m;
-        ready_arena = x.ready_arena;
-        arena = x.arena;
-        empty = x.empty;
-        out = x.out;
-        receive = y;
-        fails = z;
-      })))
+      (λ o m n y z. inr (inl (grind (arith, common_steps))))
   early old new (inr (inr x)) =
       joined (ready x.ready_arena x.both_arena x.empty x.sender old x.both_made (x.ready_made, x.receive, x.transmit))
       (switch_fails q true 1000 x.both_made new x.fails)
-      (λ o m n y z. inr (inr (record {
-        ready_made = y.0;
-        both_made = m;
-        ready_arena = x.ready_arena;
-        both_arena = x.both_arena;
-        empty = x.empty;
-        sender = x.sender;
-        receive = y.1;
-        transmit = y.2;
-        fails = z;
-      })))
+      (λ o m n y z. inr (inr (grind (arith, common_steps))))
 
   late : Shift (λ o n. FaultsFilling q size frame o a n)
   late old new x =

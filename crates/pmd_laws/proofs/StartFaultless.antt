@@ -9,22 +9,19 @@ use Rattle.pmd_laws.proofs.Order.{On, along_before, drawn_both, drawn_gone, last
 use Rattle.pmd_laws.proofs.Prelude.{[], ◌++◌, ◌+◌, ◌<◌, ◌==◌, ◌∙◌, ◌∷◌, ◌≡◌, ◌⊎◌, Access, Adds, AllAre, AreMade, AtPort}
 use Rattle.pmd_laws.proofs.Prelude.{BeforeLast, BeginsApart, Block, Blocks, Call, DeviceFault, Dir, Event, FaultsEarly}
 use Rattle.pmd_laws.proofs.Prelude.{FaultsFilling, FindsFault, Halves, IsDrawn, IsDriven, IsFalse, IsMade, IsOtherwise}
-use Rattle.pmd_laws.proofs.Prelude.{IsQuietAndFresh, List, Numbers, OnlyPassLends, PreparingFails, ReceiveFails, Reply}
-use Rattle.pmd_laws.proofs.Prelude.{Rx, Rxdctl, Sees, Sets, State, StopsBy, Tx, ℕ, all_before, among_times, ap}
-use Rattle.pmd_laws.proofs.Prelude.{append-nil, append_assoc, arith, both_quiet, both_ways, call_of, false, free_before}
-use Rattle.pmd_laws.proofs.Prelude.{harmless_apart, has_block, inl, inr, is_own, is_own-of_free, is_step, lends}
-use Rattle.pmd_laws.proofs.Prelude.{list_any, named, no_fault_is_early, none_made, parts, receiving_apart, refl}
-use Rattle.pmd_laws.proofs.Prelude.{ring_block_is, ring_block_out, ring_blocks, ring_words, some_made, subst, sym}
-use Rattle.pmd_laws.proofs.Prelude.{then_made, times-append, times_among, times_in_hand, true, words_are_writes}
-use Rattle.pmd_laws.proofs.Prelude.{writes_driven}
+use Rattle.pmd_laws.proofs.Prelude.{IsQuietAndFresh, List, Numbers, PreparingFails, ReceiveFails, Reply, Rx, Rxdctl}
+use Rattle.pmd_laws.proofs.Prelude.{Sees, State, StopsBy, Tx, ℕ, all_before, among_times, ap, append-nil, append_assoc}
+use Rattle.pmd_laws.proofs.Prelude.{arith, both_quiet, both_ways, call_of, false, free_before, harmless_apart}
+use Rattle.pmd_laws.proofs.Prelude.{has_block, inl, inr, is_own, is_own-of_free, is_step, lends, list_any}
+use Rattle.pmd_laws.proofs.Prelude.{no_fault_is_early, none_made, parts, receiving_apart, refl, ring_block_is}
+use Rattle.pmd_laws.proofs.Prelude.{ring_block_out, ring_blocks, some_made, subst, sym, then_made, times-append}
+use Rattle.pmd_laws.proofs.Prelude.{times_among, times_in_hand, true, words_are_writes, writes_driven}
 use Rattle.std.proofs.lemmas.Grind.{common_steps}
 
 -- an access that is answered otherwise adds a call, which is no step of the device
 otherwise_adds : (q : AtPort) (old new : List Call) (a : Access) → IsOtherwise q old new a
     → (e : Event Block) × (r : Reply Block) × IsFalse (is_step e) × Adds old new e r
-otherwise_adds q old new (Sees row on) (inl (number, word, named, is, adds)) = (_, _, refl, adds)
-otherwise_adds q old new (Sees row on) (inr (number, word, named, adds)) = (_, _, refl, adds)
-otherwise_adds q old new (Sets row word) (number, told, named, adds) = (_, _, refl, adds)
+otherwise_adds q old new a x = grind (arith, common_steps)
 
 -- behind the first access the calls lend no block but these, up to the last one
 module _ (q : AtPort) (lent : Blocks) (first : List Call) where

@@ -14,24 +14,22 @@ use Rattle.pmd_laws.proofs.Prelude.{[], ◌++◌, ◌∙◌, ◌∷◌, ◌≡�
 use Rattle.pmd_laws.proofs.Prelude.{Blocks, BothAgree, Call, Dir, Ended, Ends, EndsOnceOff, Entry, Event, Halted}
 use Rattle.pmd_laws.proofs.Prelude.{Halves, HandedOverStop, HasGround, IsAsking, IsEnding, IsEvent, IsFalse, IsNumberOf}
 use Rattle.pmd_laws.proofs.Prelude.{IsOver, IsPrefixOf, IsQuiet, IsSettled, IsSilent, IsStopped, IsStopping, IsSwitched}
-use Rattle.pmd_laws.proofs.Prelude.{IsTrue, KeptOver, LeadsOver, LeftIsPrefix, Life, List, None, Option, Piece}
-use Rattle.pmd_laws.proofs.Prelude.{PmdFault, Rest, Rx, SentOverStop, Settles, Some, State, TakesOnceOff, Tx, Up}
-use Rattle.pmd_laws.proofs.Prelude.{Watched, WritesOutside, ℕ, after, all_lead, ap, append-nil, append_assoc, both_ways}
-use Rattle.pmd_laws.proofs.Prelude.{bytes_of, calls_joined, calls_of, closed, cond, delivered, drives_lead, drop}
-use Rattle.pmd_laws.proofs.Prelude.{enable_row, ending_plain, false, free_left, ground_kept, halted_of, halves_of}
-use Rattle.pmd_laws.proofs.Prelude.{has_bit, inl, inr, left, left_settles, lent_before, lent_by, mode_in, named}
-use Rattle.pmd_laws.proofs.Prelude.{none_made, now, option_map, packets_if_any, parts, pieces, pieces_since}
-use Rattle.pmd_laws.proofs.Prelude.{plain_keeps, reached, reached_next, refl, reply_to, sent_by, sent_is_counted}
-use Rattle.pmd_laws.proofs.Prelude.{sent_since, since-append, subst, sym, vfs_stays}
+use Rattle.pmd_laws.proofs.Prelude.{KeptOver, LeadsOver, LeftIsPrefix, Life, List, None, Option, Piece, PmdFault, Rest}
+use Rattle.pmd_laws.proofs.Prelude.{Rx, SentOverStop, Settles, Some, State, TakesOnceOff, Tx, Up, Watched}
+use Rattle.pmd_laws.proofs.Prelude.{WritesOutside, ℕ, after, all_lead, ap, append-nil, bytes_of, calls_joined, calls_of}
+use Rattle.pmd_laws.proofs.Prelude.{closed, cond, delivered, drives_lead, drop, enable_row, ending_plain, false}
+use Rattle.pmd_laws.proofs.Prelude.{free_left, ground_kept, halted_of, halves_of, has_bit, inl, inr, left, left_settles}
+use Rattle.pmd_laws.proofs.Prelude.{lent_before, lent_by, named, none_made, now, option_map, packets_if_any, parts}
+use Rattle.pmd_laws.proofs.Prelude.{pieces, pieces_since, plain_keeps, reached, reached_next, refl, reply_to, sent_by}
+use Rattle.pmd_laws.proofs.Prelude.{sent_is_counted, sent_since, since-append, subst, sym, vfs_stays}
 use Rattle.pmd_laws.proofs.StopCalls.{amid_ends, first_made, first_takes, home_ends, off_asks, stopped_ends}
 use Rattle.pmd_laws.proofs.StopCalls.{stopped_takes}
+use Rattle.std.proofs.{Common.arith, lemmas.Grind.common_steps}
 use Rattle.pmd_laws.specs.Stopped as stopped
 use Rattle.driver_laws.proofs.RingLaws.HistoryLaws.Steady as steady
 use Rattle.driver_laws.specs.RingLaws.Delivered as receive
 use Rattle.nic_device.specs.declared.event.Event.TheVariants as event
 use Rattle.pmd.specs.declared.start.Rest.TheVariants as rest
-use Rattle.std.proofs.Common.{arith}
-use Rattle.std.proofs.lemmas.Grind.{common_steps}
 
 -- where more pieces come the packets so far stay first
 
@@ -41,13 +39,11 @@ more_if_any None ps = ([], refl)
 more_if_any (Some qs) ps = grows [] qs ps
 
 then_prefix : (xs ys zs : List Kept) → receive.IsPrefixOf xs ys → receive.IsPrefixOf ys zs → receive.IsPrefixOf xs zs
-then_prefix xs ys zs (one, is) (two, more) =
-    (one ++ two, sym (append_assoc xs one two) ∙ ap (λ (l : List Kept). l ++ two) is ∙ more)
+then_prefix xs ys zs (one, is) (two, more) = grind (arith, common_steps)
 
 -- a word without bit 25 asks for no side
 none_asks : (side : Dir) (word : ℕ) (k : Halves) → has_bit 25 word ≡ false → MayAsk side word k
-none_asks Rx word k none = tt
-none_asks Tx word k none = λ asks. absurd (both_ways (has_bit 25 word) none asks)
+none_asks side word k none = grind (arith, common_steps)
 
 module _ (w : Watched) (origin : State) (q : AtPort) (frame : ℕ) where
   -- an event behind which port and queue name the queue, and neither side went on

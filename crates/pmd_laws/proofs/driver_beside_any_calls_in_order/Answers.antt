@@ -1,12 +1,10 @@
 use Rattle.pmd_laws.proofs.Beside.{called_behind, is_life, own_anew, own_life, rings_up, told}
 use Rattle.pmd_laws.proofs.InHand.{direct_retold, interleaved_retold}
-use Rattle.pmd_laws.proofs.Told.{goes, none_before, none_first, up_next, waiting_first}
 use Rattle.pmd_laws.proofs.Order.{handed, idle, ran, sent_first}
-use Rattle.pmd_laws.proofs.Prelude.{◌∙◌, HasNoneOut, Rings, accepted_of, ap, bytes_of, now, same_delivers}
-use Rattle.pmd_laws.proofs.Prelude.{same_sends, subst, sym}
+use Rattle.pmd_laws.proofs.Prelude.{HasNoneOut, now, same_delivers, same_sends, subst}
+use Rattle.pmd_laws.proofs.Told.{goes, none_before, none_first, up_next, waiting_first}
+use Rattle.std.proofs.{Common.arith, lemmas.Grind.common_steps}
 use Rattle.pmd_laws.proofs.driver_beside_any_calls_in_order.Goals as goal
-use Rattle.std.proofs.Common.{arith}
-use Rattle.std.proofs.lemmas.Grind.{common_steps}
 
 pub returns : goal.returns
 returns c = record {

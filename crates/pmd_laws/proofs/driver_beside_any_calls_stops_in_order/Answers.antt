@@ -4,9 +4,8 @@ use Rattle.pmd_laws.proofs.Prelude.{◌++◌, ◌∙◌, ◌≡◌, Beside, Call
 use Rattle.pmd_laws.proofs.Prelude.{now, refl, same_delivers, same_sends, sym}
 use Rattle.pmd_laws.proofs.StopCalls.{first_made, first_takes, of_kind, once_off_shift, takes_shift}
 use Rattle.pmd_laws.proofs.Stopped.{handed_over_stop, sent_over_stop, silent_off}
+use Rattle.std.proofs.{Common.arith, lemmas.Grind.common_steps}
 use Rattle.pmd_laws.proofs.driver_beside_any_calls_stops_in_order.Goals as goal
-use Rattle.std.proofs.Common.{arith}
-use Rattle.std.proofs.lemmas.Grind.{common_steps}
 
 -- the calls of its stop are told of what they add
 stopping : (x : Beside) (new : List Call) (y : IsStoppedBeside x new) → IsStopping (own_life x) (x.own ++ y.since)

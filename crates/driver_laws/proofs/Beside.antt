@@ -1,31 +1,25 @@
 -- Harmless calls beside the driver's lead both halves on, and leave the queue alone.
-use Rattle.std.proofs.Common.{[], ◌&&◌, ◌++◌, ◌∙◌, ◌∷◌, ◌≡◌, Bool, List, None, Option, Some, ap, append_assoc, arith}
-use Rattle.std.proofs.Common.{false, length, not, refl, subst, sym, true, ℕ}
-use Rattle.std.proofs.lemmas.Bool.{eqb-false}
+use Rattle.std.proofs.Common.{[], ◌&&◌, ◌++◌, ◌∙◌, ◌∷◌, ◌≡◌, Bool, List, Option, ℕ, ap, append_assoc, arith, false}
+use Rattle.std.proofs.Common.{length, not, refl, subst, sym, true}
+use Rattle.std.proofs.lemmas.{Bool.eqb-false, Grind.common_steps}
 use Rattle.std.specs.Prelude.{◌==◌, IsTrue}
-use Rattle.nic_device.specs.declared.event.Port.TheVariants.{Pf, Vf}
-use Rattle.pmd.specs.Halves.{OthersStep}
 use Rattle.pmd.proofs.Followed.{both_own, both_played, others_own, others_played, own_length}
+use Rattle.pmd.specs.Halves.{OthersStep}
 use Rattle.ring_laws.proofs.Delivering.{calls_other, calls_own}
+use Rattle.driver_laws.proofs.Prelude.{SparesIfSome, both_apart, doer_of, doers_after, runs}
 use Rattle.driver_laws.specs.Beside.{AddsHarmless, AreHarmless, CallsAddHarmless, DrivesLead, HarmlessLead}
 use Rattle.driver_laws.specs.Beside.{HarmlessLeaveAlone, Leads, LeadsOn, OthersHarmless, StepsAddHarmless, is_harmless}
 use Rattle.driver_laws.specs.Beside.{spares_all}
 use Rattle.driver_laws.specs.Prelude.{AllLendApart, AllOwn, AreSteps, Block, Blocks, Call, Doer, DrivesApart, Elsewhere}
 use Rattle.driver_laws.specs.Prelude.{Entry, Event, Halves, LeavesBlocks, LeavesRegisters, LendsApart, Mode, Place}
-use Rattle.driver_laws.specs.Prelude.{Sends, Watched, after, asks_pool_reset, call_in, call_of, calls_of, doers_other}
-use Rattle.driver_laws.specs.Prelude.{is_neither, is_step, mode_in, played_by, row_of}
-use Rattle.driver_laws.proofs.Prelude.{SparesIfSome, both_apart, doer_of, doers_after, is_receive, is_setting}
-use Rattle.driver_laws.proofs.Prelude.{is_transmit, place_among, runs}
+use Rattle.driver_laws.specs.Prelude.{Sends, Watched, after, call_in, calls_of, doers_other, is_neither, is_step}
+use Rattle.driver_laws.specs.Prelude.{mode_in, played_by}
 use Rattle.nic_device.specs.declared.event.Event.TheVariants as event
 
 -- steps of the device are harmless
 
 step_harmless : (e : Event Block) → IsTrue (is_step e) → IsTrue (is_harmless e)
-step_harmless (event.Write port number word) is = cc
-step_harmless (event.Lend block) is = cc
-step_harmless (event.Take number) is = cc
-step_harmless (event.Poke16 address bytes) is = cc
-step_harmless other is = refl
+step_harmless e is = grind (arith, common_steps)
 
 pub steps_harmless : (calls : List Call) → AreSteps calls → AreHarmless calls
 steps_harmless [] steps = tt
@@ -41,11 +35,7 @@ last_harmless [] c harmless is = (is, tt)
 last_harmless (d ∷ calls) c harmless is = (harmless.0, last_harmless calls c harmless.1 is)
 
 pub calls_add_harmless : CallsAddHarmless
-calls_add_harmless old new e reply (before, made, steps) is = (
-  before ++ call_of e reply ∷ [],
-  made,
-  last_harmless before (call_of e reply) (steps_harmless before steps) is,
-)
+calls_add_harmless old new e reply (before, made, steps) is = grind (arith, common_steps, last_harmless, steps_harmless)
 
 -- the calls of a driver that drives
 
@@ -99,20 +89,11 @@ four a b c d is = cc
 
 all_spared : (queue : ℕ) (mode : Mode) (o : Option Place) (word : ℕ) → IsTrue (spares_all o word)
     → SparesIfSome queue mode o word
-all_spared queue mode None word is = tt
-all_spared queue mode (Some p) word is =
-    let (set, received, sent, reset) =
-    four (is_setting p.row) (is_receive p.row) (is_transmit p.row) (asks_pool_reset (row_of p.row).kind word) is in
-    record { setting = set; receive = λ is. cc; transmit = λ is. cc; pool = λ is. cc }
+all_spared queue mode o word is = grind (arith, common_steps, four)
 
 pub left : (w : Watched) (mode : Mode) (mine : Blocks) (e : Event Block) → IsTrue (is_harmless e)
     → LeavesRegisters w mode e × LeavesBlocks mine e
-left w mode mine (event.Write Pf number word) is = (all_spared w.queue mode (place_among runs number) word is, tt)
-left w mode mine (event.Write (Vf v) number word) is = cc
-left w mode mine (event.Lend block) is = cc
-left w mode mine (event.Take number) is = cc
-left w mode mine (event.Poke16 address bytes) is = cc
-left w mode mine other is = (tt, tt)
+left w mode mine e is = grind (arith, common_steps, all_spared, runs)
 
 module _ (w : Watched) (mine : Blocks) (mode : Mode) (e : Entry) (es : List Entry) where
   abbrev Here : Bool → List Doer → Type 0
@@ -122,16 +103,11 @@ module _ (w : Watched) (mine : Blocks) (mode : Mode) (e : Entry) (es : List Entr
       × OthersHarmless (doers_after b doers) (calls_of w.pass es)
 
   own_call : (doers : List Doer) → OthersHarmless doers (call_in e ∷ calls_of w.pass es) → Here true doers
-  own_call [] harmless = (λ own neither. left w mode mine e.event harmless.0, harmless.1)
-  own_call (d ∷ doers) harmless = (λ own neither. left w mode mine e.event (harmless.0 neither), harmless.1)
+  own_call doers harmless = grind (arith, common_steps, left)
 
   one_call : (doers : List Doer) (b : Bool) → (e.pass == w.pass) ≡ b
       → OthersHarmless doers (calls_of w.pass (e ∷ es)) → Here b doers
-  one_call doers true is harmless = own_call doers (subst (OthersHarmless doers) (calls_own w.pass e es is) harmless)
-  one_call doers false is harmless = (
-    λ own neither. absurd (eqb-false e.pass w.pass is own),
-    subst (OthersHarmless doers) (calls_other w.pass e es is) harmless,
-  )
+  one_call doers b is harmless = grind (arith, common_steps, own_call, calls_own, eqb-false, calls_other)
 
 pub harmless_leave_alone : HarmlessLeaveAlone
 harmless_leave_alone w mine s doers [] harmless = tt
@@ -180,6 +156,5 @@ pub apart_leads_on : (own : Blocks) (old mid new : List Call) (h j k : Halves) �
 unfolding leads_on
 apart_leads_on own old mid new h j k p q = record {
   leads = leads_on old mid new h j k p.leads q.leads;
-  apart = both_apart own h p.leads.0 q.leads.0 p.leads.1 q.leads.1 p.leads.3 p.apart
-      (subst (λ (x : Halves). AllLendApart own x q.leads.0 q.leads.1) p.leads.4 q.apart);
+  apart = grind (arith, common_steps, both_apart);
 }

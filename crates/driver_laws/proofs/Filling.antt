@@ -1,32 +1,30 @@
 -- A start on a queue whose sides are off finds no device at fault but as it fills its receive ring.
-use Rattle.std.proofs.Common.{[], ◌++◌, ◌-◌, ◌∙◌, ◌∷◌, ◌≡◌, ◌≢◌, ◌⊎◌, List, ap, append_assoc, false, inl, inr, not}
-use Rattle.std.proofs.Common.{refl, subst, sym, true, ℕ}
-use Rattle.std.{proofs.lemmas.Bool.both_ways, specs.Prelude.IsFalse}
+use Rattle.std.{proofs.lemmas.Bool.both_ways, proofs.lemmas.Grind.common_steps, specs.Prelude.IsFalse}
+use Rattle.std.proofs.Common.{[], ◌++◌, ◌-◌, ◌∙◌, ◌∷◌, ◌≡◌, ◌≢◌, ◌⊎◌, List, ℕ, append_assoc, arith, false, inl, inr}
+use Rattle.std.proofs.Common.{refl, subst, sym, true}
 use Rattle.pmd.specs.PmdSeam.QueueMade.{IsStrayWrite}
 use Rattle.ring_laws.proofs.HistoryLaws.Lent.{anew_is_done}
-use Rattle.driver_laws.specs.Faultless.{NoneIsLent, ReceiveIsReady, SwitchingIsNeverStray, TransmitIsReady}
-use Rattle.driver_laws.specs.Filling.{FaultsAreEarlyOrFilling, FaultsEarly, FaultsFilling, FillingBeginsWell}
-use Rattle.driver_laws.specs.Filling.{NoFaultIsEarly}
-use Rattle.driver_laws.specs.Prelude.{Access, AreMade, AtPort, Block, Call, DeviceFault, Dir, Entry, IsMade, IsNumberOf}
-use Rattle.driver_laws.specs.Prelude.{IsReceiveReady, Numbers, Port, PreparingFails, Receive}
-use Rattle.driver_laws.specs.Prelude.{RowId, Rx, Rxdctl, Sees, Sets, State, SwitchFails, Tx, Txdctl, Watched}
-use Rattle.driver_laws.specs.Prelude.{both_asked, both_quiet, call_of, enable_row, has_bit, has_block, is_driven}
-use Rattle.driver_laws.specs.Prelude.{lent_by, missed, quiet, receive_polled, ring_words, zero_block}
+use Rattle.driver_laws.proofs.{SwitchedOff.ending_quiet, SwitchedOff.quiet_kept, Words.side_driven}
 use Rattle.driver_laws.proofs.Ground.{IsDriven, IsWrite, asked_are_writes, ground_kept, named_registers_reply}
 use Rattle.driver_laws.proofs.Ground.{off_sides_are_seen_off, plain_keeps, polled_driven, reads_driven}
 use Rattle.driver_laws.proofs.Ground.{words_are_writes, writes_driven}
 use Rattle.driver_laws.proofs.Made.{OfCall, all_before, all_missed, before_made, first_access, made_some, some_made}
+use Rattle.driver_laws.proofs.On.{switched_sides_agree, switched_sides_go_on}
 use Rattle.driver_laws.proofs.Prelude.{AllAre, AreMadeOf, AtCalls, BeforeLast, BeforeNext, GoingOnFails, HasGround}
 use Rattle.driver_laws.proofs.Prelude.{IsAlong, IsEnding, IsKept, IsOtherwise, IsPlain, IsQuiet, IsStrayRead, Leads}
 use Rattle.driver_laws.proofs.Prelude.{Never, PollsEnd, StopsBy}
 use Rattle.driver_laws.proofs.Reached.{RefutesNext, last_never, made_keep, next_refuted, then_refuted}
 use Rattle.driver_laws.proofs.StopCalls.{accesses_are, accesses_plain, may_asks, prepared_plain, stays_some, step_ends}
-use Rattle.driver_laws.proofs.{On.switched_sides_agree, On.switched_sides_go_on, SwitchedOff.ending_quiet}
-use Rattle.driver_laws.proofs.{SwitchedOff.quiet_kept, Words.side_driven}
+use Rattle.driver_laws.specs.Faultless.{NoneIsLent, ReceiveIsReady, SwitchingIsNeverStray, TransmitIsReady}
+use Rattle.driver_laws.specs.Filling.{FaultsAreEarlyOrFilling, FaultsEarly, FaultsFilling, FillingBeginsWell}
+use Rattle.driver_laws.specs.Filling.{NoFaultIsEarly}
+use Rattle.driver_laws.specs.Prelude.{Access, AreMade, AtPort, Block, Call, DeviceFault, Dir, Entry, IsMade, IsNumberOf}
+use Rattle.driver_laws.specs.Prelude.{IsReceiveReady, Numbers, Port, PreparingFails, Receive, RowId, Rx, Rxdctl, Sees}
+use Rattle.driver_laws.specs.Prelude.{Sets, State, SwitchFails, Tx, Txdctl, Watched, both_asked, both_quiet, call_of}
+use Rattle.driver_laws.specs.Prelude.{enable_row, has_bit, has_block, is_driven, lent_by, missed, quiet, receive_polled}
+use Rattle.driver_laws.specs.Prelude.{ring_words, zero_block}
 use Rattle.nic_device.specs.declared.event.Event.TheVariants as event
 use Rattle.nic_device.specs.declared.event.Reply.TheVariants as reply
-use Rattle.std.proofs.Common.{arith}
-use Rattle.std.proofs.lemmas.Grind.{common_steps}
 
 -- an access by which a side is seen off, or asked to be
 abbrev IsQuieting : Access → Type 0
@@ -126,12 +124,7 @@ module _ {w : Watched} {origin : State} {h : List Entry} (q : AtPort) (frame : �
       (inl (number, word, named, seen, (before, added, steps))) =
       subst (Never w origin h) (sym added)
       (next before (call_of (event.Read q.port number) (reply.Word word)) steps refl
-      (λ s x told.
-      both_ways (has_bit 25 word)
-      (off_sides_are_seen_off w.queue q frame s number word x
-      (enables q.port q.queue number side (subst (λ (r : RowId). IsNumberOf q.port r q.queue number) is named))
-      (sym told))
-      (seen ∙ ap not off)))
+      (grind (arith, common_steps, both_ways, off_sides_are_seen_off, enables)))
   never_otherwise old new (Sees row on) (side, is, off) next (inr stray) =
       read_never_stray old new row (quieting_driven row side is) (off_grounds old next) stray
   never_otherwise old new (Sets row word) (side, is, none) next fails =
@@ -186,9 +179,7 @@ module _ {w : Watched} {origin : State} {h : List Entry} (q : AtPort) (frame : �
       let all : new ≡ (old ++ before) ++ c ∷ [] = added ∙ sym (append_assoc old before (c ∷ [])) in
       subst (Never w origin h) (sym all)
       (last_never along (λ s. IsFalse (has_block s.memory ring)) (old ++ before) c
-      (λ s none told.
-      let no_such : reply.Twice back ≡ reply.Done = told ∙ anew_is_done s (zero_block ring) none in
-      cc)
+      (grind (arith, common_steps, anew_is_done))
       (subst (λ (calls : List Call). BeforeLast w origin h calls (λ s. IsFalse (has_block s.memory ring))) all at))
 
   preparing_never_fails : (side : Dir) (size : ℕ) (old : List Call) (a : Numbers) (new : List Call) (b : Numbers)

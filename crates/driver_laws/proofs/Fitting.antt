@@ -1,28 +1,27 @@
 -- One call beside a driver that receives: the frames that wait for its queue go on fitting, its reply is healthy, and
 -- what that rests on holds behind it.
-use Rattle.std.proofs.Common.{[], ◌&&◌, ◌*◌, ◌++◌, ◌<◌, ◌==◌, ◌||◌, ◌∷◌, ◌≡◌, ◌≢◌, ◌≤◌, Bool, List, None, Option, Some}
-use Rattle.std.proofs.Common.{ap, arith, false, inl, inr, length, nat_lt, refl, subst, sym, true, ℕ}
+use Rattle.std.proofs.Common.{[], ◌&&◌, ◌*◌, ◌++◌, ◌==◌, ◌||◌, ◌∷◌, ◌≡◌, ◌≢◌, ◌≤◌, Bool, List, None, Option, Some, ℕ}
+use Rattle.std.proofs.Common.{ap, arith, false, length, nat_lt, refl, subst, sym, true}
+use Rattle.std.proofs.lemmas.{Grind.common_steps, List.length-append, List.nil_from_length}
 use Rattle.std.proofs.lemmas.Bool.{and_from, and_parts, both_ways, cond_both, eq-eqb, eqb-false, eqb-true, lt-ltb}
 use Rattle.std.proofs.lemmas.Bool.{not-true, or_cases, or_left, or_right}
-use Rattle.std.{proofs.lemmas.List.length-append, proofs.lemmas.List.nil_from_length, specs.Prelude.option_map}
+use Rattle.std.specs.Prelude.{option_map}
 use Rattle.nic_device.proofs.Cases.{either_way}
 use Rattle.device_lock.specs.Alone.{lent_in}
-use Rattle.pmd.specs.PmdRx.Receive.{posts_all, posts_one, saw, took}
-use Rattle.pmd.specs.PmdRx.declared.ring.Told.{Told}
-use Rattle.ring_laws.specs.{Delivered.goes_on, Fitting.begun_on, HistoryLaws.Left.Rested, HistoryLaws.Left.Took}
-use Rattle.ring_laws.specs.{HistoryLaws.Lent.LendsOwn, HistoryLaws.Lent.with_lent, Pieces.AllFit}
-use Rattle.ring_laws.specs.{TransmitHealthy.LendsAnew, TransmitLent.SparesNumbers}
-use Rattle.ring_laws.proofs.{Fitting.frames_fit, Fitting.frames_stay_fitting, HistoryLaws.Deeds.receiving_did}
-use Rattle.ring_laws.proofs.{HistoryLaws.Lent.only_lent_stays}
+use Rattle.pmd.specs.PmdRx.{Receive.took, declared.ring.Told.Told}
+use Rattle.ring_laws.proofs.{HistoryLaws.Deeds.receiving_did, HistoryLaws.Lent.only_lent_stays}
+use Rattle.ring_laws.proofs.Fitting.{frames_fit, frames_stay_fitting}
+use Rattle.ring_laws.specs.{Delivered.goes_on, Fitting.begun_on, HistoryLaws.Lent.LendsOwn, HistoryLaws.Lent.with_lent}
+use Rattle.ring_laws.specs.{Pieces.AllFit, TransmitHealthy.LendsAnew, TransmitLent.SparesNumbers}
+use Rattle.driver_laws.proofs.{Meeting.Goes, Meeting.Meets, Sending.is_elsewhere}
+use Rattle.driver_laws.proofs.Prelude.{AreFitting, Deed, IsHealthy, IsUp, begun_stays, gathered, keeps_sound}
+use Rattle.driver_laws.proofs.Prelude.{lent_cases, none_begun_while_off, settings_stand, step_of}
 use Rattle.driver_laws.specs.Before.{AreShort, FramesStayShortAlong, OnlyPassLent}
 use Rattle.driver_laws.specs.Prelude.{AreEvents, Block, Blocks, Call, Doer, Elsewhere, Entry, Event, Halves, IsEvent}
 use Rattle.driver_laws.specs.Prelude.{IsSound, LendsApart, LendsNone, Memory, Move, OnlyLent, OwnCall, Piece, Receive}
 use Rattle.driver_laws.specs.Prelude.{Receives, Reply, Rx, Sends, State, Watched, WritesNoSetting, after, after_call}
 use Rattle.driver_laws.specs.Prelude.{call_of, drive, either, is_on, leads_to, lends, lent_by, pieces, pieces_since}
 use Rattle.driver_laws.specs.Prelude.{reply_to}
-use Rattle.driver_laws.proofs.Prelude.{AreFitting, Deed, IsHealthy, IsUp, begun_stays, gathered, keeps_sound}
-use Rattle.driver_laws.proofs.Prelude.{lent_cases, none_begun_while_off, settings_stand, step_of}
-use Rattle.driver_laws.proofs.{Meeting.Goes, Meeting.Meets, Sending.is_elsewhere}
 use Rattle.nic_device.specs.declared.event.Event.TheVariants as event
 use Rattle.nic_device.specs.declared.event.Reply.TheVariants as reply
 use Rattle.pmd.specs.PmdRx.Keeping as received
@@ -32,27 +31,22 @@ use Rattle.ring_laws.proofs.ReceiveLent as receive_lent
 use Rattle.ring_laws.proofs.Playing as transmit
 use Rattle.ring_laws.proofs.TransmitLent as transmit_lent
 use Rattle.driver_laws.specs.Healthy as healthy
-use Rattle.std.proofs.lemmas.Grind.{common_steps}
 
--- a driver takes as many blocks for a packet as before
+-- a driver has its port and the number of its tail as before, and takes as many blocks for a packet
 
-took_most : (v : Receive) (seen : List Told) (b : Block) → (took v seen b).layout.most ≡ v.layout.most
-took_most v [] b = refl
-took_most v (t ∷ seen) b = refl
+abbrev pub SameRing : Receive → Receive → Type 0
+SameRing v u =
+    (u.layout.port ≡ v.layout.port) × (u.layout.tail ≡ v.layout.tail) × (u.layout.most ≡ v.layout.most)
 
-driven_most : (v : Receive) (e : Event Block) (r : Reply Block) → (drive v e r).layout.most ≡ v.layout.most
-driven_most v (event.Peek16 a) (reply.Bytes d) =
-    either_way (λ (x : Receive). x.layout.most ≡ v.layout.most) _ (saw v d) v refl refl
-driven_most v (event.Take n) (reply.Buf b) = took_most v v.seen b
-driven_most v (event.Lend b) reply.Done = refl
-driven_most v (event.Poke16 a bytes) reply.Done = refl
-driven_most v (event.Write port number word) reply.Done =
-    either_way (λ (x : Receive). x.layout.most ≡ v.layout.most) _ (posts_one v) (posts_all v) refl refl
-driven_most v e r = refl
+took_same : (v : Receive) (seen : List Told) (b : Block) → SameRing v (took v seen b)
+took_same v [] b = (refl, refl, refl)
+took_same v (t ∷ seen) b = (refl, refl, refl)
+
+pub drive_same : (v : Receive) (e : Event Block) (r : Reply Block) → SameRing v (drive v e r)
+drive_same v e r = grind (arith, common_steps, either_way, took_same)
 
 pub most_after : (h : Halves) (d : Doer) (n : Call) → (after_call h d n).receive.layout.most ≡ h.receive.layout.most
-most_after h Receives n = driven_most h.receive n.event n.reply
-most_after h (Sends m) n = refl
+most_after h d n = grind (arith, common_steps, drive_same)
 
 -- the frames that wait stay fitting behind an event that meets both halves
 pub fitting_after : {w : Watched} {mine : Blocks} {s : State} {out : List Piece} {sent : List (List ℕ)} {h k : Halves}
@@ -68,8 +62,7 @@ fitting_after {w = w} {s = s} {out = out} {h = h} {e = e} m goes up fit most =
 
 silent : (queue : ℕ) (s : State) → is_on s.registers Rx queue ≡ false → Deed Rx queue s event.RxStep
     → pieces queue s event.RxStep ≡ []
-silent queue s off (Took x) = absurd (both_ways _ off x.tried.on)
-silent queue s off (Rested none rests) = none
+silent queue s off y = grind (arith, common_steps, both_ways)
 
 off_silent : (queue : ℕ) (s : State) (e : Event Block) → IsSound s → is_on s.registers Rx queue ≡ false
     → pieces queue s e ≡ []
@@ -89,17 +82,12 @@ none_more qs ps empty =
 
 module _ (queue : ℕ) (s : State) (e : Event Block) (sound : IsSound s) where
   went_on : goes_on queue s (after s e) ≡ true → begun_on queue (after s e).waiting ≡ 0
-  went_on goes =
-      let off = not-true (is_on s.registers Rx queue) (and_parts _ _ goes).0 in
-      begun_stays queue s sound (none_begun_while_off queue s sound off) e (off_silent queue s e sound off)
+  went_on goes = grind (arith, common_steps, not-true, and_parts, begun_stays, none_begun_while_off, off_silent)
 
   stayed : (so_far : Option (List Piece)) → Unbegun queue s so_far
       → Unbegun queue (after s e) (option_map (λ (qs : List Piece). qs ++ pieces queue s e) so_far)
   stayed None before is = cc
-  stayed (Some qs) before is =
-      let empty : qs ++ pieces queue s e ≡ [] = cc in
-      let both = none_more qs (pieces queue s e) empty in
-      begun_stays queue s sound (before (ap (λ (xs : List Piece). Some xs) both.0)) e both.1
+  stayed (Some qs) before is = grind (arith, common_steps, none_more, begun_stays)
 
   one_on : (so_far : Option (List Piece)) → Unbegun queue s so_far
       → Unbegun queue (after s e) (gathered queue s (after s e) (pieces queue s e) so_far)
@@ -129,9 +117,7 @@ lends_received own h e apart = tt
 
 lends_sent : (own : Blocks) (h : Halves) (m : Move) (e : Event Block) → is_elsewhere m ≡ false
     → LendsApart own h (Sends m) e → LendsOwn own (received.has_lent h.receive) e
-lends_sent own h Elsewhere e real apart = cc
-lends_sent own h m (event.Lend b) real apart = apart
-lends_sent own h m e real apart = tt
+lends_sent own h m e real apart = grind (arith, common_steps)
 
 lends_none : (own : Blocks) (h : Halves) (e : Event Block) → LendsApart own h (Sends Elsewhere) e → LendsNone own e
 lends_none own h (event.Lend b) apart = apart
@@ -201,8 +187,7 @@ frames_stay_short_along queue most s (e ∷ es) h none =
     frames_stay_short_along queue most (after s e.event) es (frames_stay_short queue most s e.event h none.0) none.1
 
 pub lends_is : (b : Block) (r : Reply Block) (n : ℕ) → lends (event.Lend b) r n ≡ true → b.number ≡ n
-lends_is b reply.Done n is = eqb-true b.number n is
-lends_is b r n is = cc
+lends_is b r n is = grind (arith, common_steps, eqb-true)
 
 module _ (own known : Blocks) (s : State) (only : OnlyLent own known s.memory) where
   -- a block is lent, by whichever pass
@@ -213,10 +198,8 @@ module _ (own known : Blocks) (s : State) (only : OnlyLent own known s.memory) w
       lent_cases (λ o. OnlyLent own (with_lent known b.number) o.state.memory
       → OnlyLent own (λ n. known n || lends (event.Lend b) o.reply n) o.state.memory) s b
       (λ given n is has. or_left (known n) false (only n is has))
-      (λ given n is has. elim (or_cases (n == b.number) (known n) (given n is has)) [
-        | inl same ↦ or_right (known n) (b.number == n) (eq-eqb b.number n (sym (eqb-true n b.number same)))
-        | inr before ↦ or_left (known n) (b.number == n) before
-      ]) (only_lent_stays.lend own known s b only)
+      (grind (arith, common_steps, or_cases, or_right, eq-eqb, eqb-true, or_left))
+      (only_lent_stays.lend own known s b only)
 
   -- an event of the pass
   abbrev Lent : Event Block → Reply Block → Blocks
@@ -224,14 +207,7 @@ module _ (own known : Blocks) (s : State) (only : OnlyLent own known s.memory) w
 
   pass_lent : (e : Event Block) → IsEvent e → OnlyLent own (Lent e (reply_to s e)) (after s e).memory
   pass_lent (event.Lend b) made n is has =
-      let r = reply_to s (event.Lend b) in
-      let now = nat_lt n 65536 && lends (event.Lend b) r n in
-      elim (or_cases (known n) (lends (event.Lend b) r n) (lent_here b n is has)) [
-        | inl before ↦ or_left (known n) now before
-        | inr lent ↦
-            let low = subst (λ (k : ℕ). k < 65536) (lends_is b r n lent) made.whole.small in
-            or_right (known n) now (and_from (nat_lt n 65536) (lends (event.Lend b) r n) (lt-ltb n 65536 low) lent)
-      ]
+      grind (arith, common_steps, lends, or_cases, lent_here, or_left, lends_is, or_right, and_from, lt-ltb)
   pass_lent e made n is has =
       or_left (known n) (nat_lt n 65536 && lends e (reply_to s e) n)
       (only_lent_stays.others own known s e tt only n is has)
@@ -239,11 +215,7 @@ module _ (own known : Blocks) (s : State) (only : OnlyLent own known s.memory) w
   entry_lent : (pass : ℕ) (e : Entry) → e.reply ≡ reply_to s e.event → IsEvent e.event
       → (e.pass ≢ pass → LendsNone own e.event) → (b : Bool) → (e.pass == pass) ≡ b
       → OnlyLent own (either known (lent_in pass e)) (after s e.event).memory
-  entry_lent pass e legal made none true mine n is has =
-      rw (legal, mine) (pass_lent e.event made n is has)
-  entry_lent pass e legal made none false other n is has =
-      or_left (known n) (lent_in pass e n)
-      (only_lent_stays.others own known s e.event (none (eqb-false e.pass pass other)) only n is has)
+  entry_lent pass e legal made none b other n is has = grind (arith, common_steps, pass_lent, or_left, eqb-false)
 
 joined : (a b c : Bool) → ((a || b) || c) ≡ true → (a || (b || c)) ≡ true
 joined true b c is = refl

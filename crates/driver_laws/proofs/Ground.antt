@@ -1,26 +1,24 @@
 -- What a driver rests on beside its sides: port and queue name its queue, and frames are no longer than its packets.
-use Rattle.std.proofs.Common.{[], ◌*◌, ◌+◌, ◌<◌, ◌∙◌, ◌∷◌, ◌≡◌, ◌≢◌, Bool, List, None, Option, Some, ap, arith, false}
-use Rattle.std.proofs.Common.{if◌then◌else◌, inl, inr, nat_lt, refl, subst, sym, true, ℕ}
-use Rattle.std.proofs.lemmas.Bool.{lt-ltb, ltb-true}
-use Rattle.nic_device.specs.{Access.named_read, Named.at_location, Named.at_place, VfMap.Map.behind, VfMap.Map.located}
-use Rattle.nic_device.specs.{VfMap.Pools.queues_of, VfMap.declared.mode.Mode.Mode}
-use Rattle.nic_device.proofs.VfMap.Queues.{few_queues, queue_registers}
+use Rattle.std.proofs.Common.{[], if◌then◌else◌, ◌*◌, ◌+◌, ◌<◌, ◌∙◌, ◌∷◌, ◌≡◌, Bool, List, None, Option, Some, ℕ, ap}
+use Rattle.std.proofs.Common.{arith, false, inl, inr, nat_lt, refl, subst, sym, true}
+use Rattle.std.proofs.lemmas.{Bool.ltb-true, Grind.common_steps}
+use Rattle.nic_device.proofs.{VfMap.Queues.queue_registers}
+use Rattle.nic_device.specs.{Access.named_read, Named.at_location, VfMap.Pools.queues_of, VfMap.declared.mode.Mode.Mode}
+use Rattle.nic_device.specs.VfMap.Map.{behind, located}
 use Rattle.pmd.specs.PmdSeam.Named.{offset_of}
-use Rattle.driver_laws.specs.Numbers.{NamedQueueHasTheNumbers, NumbersName, queue_at, queue_in}
-use Rattle.driver_laws.specs.Prelude.{Access, AtPort, Block, Blocks, DeviceFault, Dir, Event, IsNumberOf, Pf, PmdFault}
-use Rattle.driver_laws.specs.Prelude.{Port, Rdbah, Rdbal, Rdh, Rdlen, Rdt, RowId, Rx, Rxdctl, Sees, Sets, Srrctl, State}
-use Rattle.driver_laws.specs.Prelude.{Tdbah, Tdbal, Tdh, Tdlen, Tdt, Tdwbal, Tx, Txdctl, Vf, Watched, after, both_asked}
-use Rattle.driver_laws.specs.Prelude.{enable_row, frame_limit, is_driven, mode_in, place}
-use Rattle.driver_laws.specs.Prelude.{receive_polled, reply_to, ring_words}
-use Rattle.driver_laws.specs.{Gate.NamedQueuesPass, Replies.NamedRegistersReply, Replies.OffSidesAreSeenOff}
-use Rattle.driver_laws.proofs.Prelude.{AllAre, HasGround, IsKept, IsPlain, NamesRow, WritesNoSetting}
-use Rattle.driver_laws.proofs.Prelude.{is_receive, is_transmit, left_did, named_written, queues_named, settings_stand}
-use Rattle.driver_laws.proofs.Prelude.{stays_within, step_of, told_on}
 use Rattle.driver_laws.proofs.{Made.all_polled, Words.driven_plain, Words.ground, Words.settings, Words.side_driven}
+use Rattle.driver_laws.proofs.Prelude.{AllAre, HasGround, IsKept, IsPlain, NamesRow, WritesNoSetting, is_receive}
+use Rattle.driver_laws.proofs.Prelude.{is_transmit, left_did, named_written, settings_stand, stays_within, step_of}
+use Rattle.driver_laws.proofs.Prelude.{told_on}
+use Rattle.driver_laws.specs.{Gate.NamedQueuesPass, Replies.NamedRegistersReply, Replies.OffSidesAreSeenOff}
+use Rattle.driver_laws.specs.Numbers.{NamedQueueHasTheNumbers, NumbersName, queue_at, queue_in}
+use Rattle.driver_laws.specs.Prelude.{Access, AtPort, Block, Blocks, Dir, Event, IsNumberOf, Pf, Port, Rdbal, RowId, Rx}
+use Rattle.driver_laws.specs.Prelude.{Rxdctl, Sees, Sets, State, Tdbal, Tx, Txdctl, Vf, Watched, after, both_asked}
+use Rattle.driver_laws.specs.Prelude.{enable_row, frame_limit, is_driven, mode_in, place, receive_polled, reply_to}
+use Rattle.driver_laws.specs.Prelude.{ring_words}
 use Rattle.nic_device.specs.VfMap.declared.located.Located.TheVariants as located_as
 use Rattle.nic_device.specs.declared.event.Event.TheVariants as event
 use Rattle.nic_device.specs.declared.event.Reply.TheVariants as reply
-use Rattle.std.proofs.lemmas.Grind.{common_steps}
 
 -- what names a queue says
 pub some_where : {A : Type 0} (b : Bool) (o : Option A) (x : A) → (if b then o else None) ≡ Some x
@@ -50,41 +48,20 @@ is_in (Some queues) number queue e =
 module _ (mode : Mode) (vfs v number queue : ℕ) (there : v < vfs) (x : IsIn (queues_of mode v) number queue) where
   received : (row : RowId) → is_receive row ≡ true
       → located mode vfs v (0x1000 + 0x40 * number + behind Rdbal row) ≡ located_as.Register (place row queue)
-  received row side =
-      queue_registers.receive mode vfs v x.first x.count number row there x.pool x.few side
-      ∙ ap (λ n. located_as.Register (place row n)) (sym x.same)
+  received row side = grind (arith, common_steps, queue_registers)
 
   sent : (row : RowId) → is_transmit row ≡ true
       → located mode vfs v (0x2000 + 0x40 * number + behind Tdbal row) ≡ located_as.Register (place row queue)
-  sent row side =
-      queue_registers.transmit mode vfs v x.first x.count number row there x.pool x.few side
-      ∙ ap (λ n. located_as.Register (place row n)) (sym x.same)
+  sent row side = grind (arith, common_steps, queue_registers)
 
   row_there : (row : RowId) → is_driven row ≡ true
       → located mode vfs v (offset_of row number) ≡ located_as.Register (place row queue)
-  row_there Rdbal e = received Rdbal refl
-  row_there Rdbah e = received Rdbah refl
-  row_there Rdlen e = received Rdlen refl
-  row_there Rdh e = received Rdh refl
-  row_there Srrctl e = received Srrctl refl
-  row_there Rdt e = received Rdt refl
-  row_there Rxdctl e = received Rxdctl refl
-  row_there Tdbal e = sent Tdbal refl
-  row_there Tdbah e = sent Tdbah refl
-  row_there Tdlen e = sent Tdlen refl
-  row_there Tdh e = sent Tdh refl
-  row_there Tdt e = sent Tdt refl
-  row_there Txdctl e = sent Txdctl refl
-  row_there Tdwbal e = sent Tdwbal refl
-  row_there other e = cc
+  row_there row e = grind (arith, common_steps, received, sent)
 
 named_at : (s : State) (port : Port) (own queue : ℕ) → queue_at (mode_in s.registers) s.vfs port own ≡ Some queue
     → (row : RowId) (number : ℕ) → is_driven row ≡ true → IsNumberOf port row own number
     → NamesRow s port number row queue
-named_at s Pf own queue is row number driven of_row =
-    let there = (some_where (nat_lt own 128) (Some own) queue is).1 in
-    let same : own ≡ queue = cc in
-    (λ k. at_place (of_row.names k) (of_row.whole k)) ∙ ap (λ n. at_place (Some (place row n)) 0xFFFFFFFF) same
+named_at s Pf own queue is row number driven of_row = grind (arith, common_steps, some_where)
 named_at s (Vf v) own queue is row number driven of_row =
     let mode = mode_in s.registers in
     let parts = some_where (nat_lt v s.vfs) (queue_in (queues_of mode v) own) queue is in
@@ -137,21 +114,6 @@ module _ (queue : ℕ) (q : AtPort) (frame : ℕ) (s : State) where
   read_ground number g = plain_keeps (event.Read q.port number) tt g
 
 -- a port can name each queue that port and queue name
-
-named_below : (s : State) (port : Port) (own queue : ℕ)
-    → queue_at (mode_in s.registers) s.vfs port own ≡ Some queue → nat_lt own (queues_named port) ≡ true
-named_below s Pf own queue names = (some_where (nat_lt own 128) (Some own) queue names).0
-named_below s (Vf v) own queue names =
-    let mode = mode_in s.registers in
-    let inside = (some_where (nat_lt v s.vfs) (queue_in (queues_of mode v) own) queue names).1 in
-    let x = is_in (queues_of mode v) own queue inside in
-    let few = few_queues mode v x.first x.count x.pool in
-    let below = x.few in
-    lt-ltb own 64 (omega (arith, few, below))
-
-abbrev Passes : Option PmdFault → Type 0
-Passes g = g ≢ Some DeviceFault
-
 pub named_queues_pass : NamedQueuesPass
 named_queues_pass s a q size frame queue names = grind (arith, common_steps)
 

@@ -1,22 +1,20 @@
 -- Over a whole history each call of either half gets a healthy reply, and no call ends with the device at fault.
-use Rattle.std.proofs.Common.{[], ◌*◌, ◌++◌, ◌∙◌, ◌∷◌, ◌≡◌, Bool, List, ap, append_assoc, arith, false, refl, subst}
-use Rattle.std.proofs.Common.{sym, true, ℕ}
-use Rattle.std.specs.Prelude.{◌==◌}
-use Rattle.std.{proofs.lemmas.Bool.both_ways, proofs.lemmas.Bool.eqb-false, proofs.lemmas.List.append_cancel_left}
-use Rattle.std.{proofs.lemmas.List.map-append, proofs.lemmas.List.Elements.filter-append}
-use Rattle.pmd.specs.Apart.{is_healthy}
-use Rattle.pmd.proofs.Apart.{step_apart}
-use Rattle.driver_laws.specs.Prelude.{AllLendApart, AllOwn, AreSteps, Blocks, Call, Doer, Entry, FindsFault, Halves}
-use Rattle.driver_laws.specs.Prelude.{LendsApart, LendsNone, OnlyLent, Piece, State, Watched, after, after_call}
-use Rattle.driver_laws.specs.Prelude.{call_in, call_of, calls_of, doers_other, leads_to, played_by}
-use Rattle.driver_laws.specs.{Before.OnlyPassLends, Faults.NoFault, Faults.doers_of, Healthy.AreHealthy}
-use Rattle.driver_laws.specs.{Healthy.IsUnshared, Healthy.OwnRepliesAreHealthy}
+use Rattle.std.{proofs.lemmas.Bool.both_ways, proofs.lemmas.Bool.eqb-false, proofs.lemmas.List.Elements.filter-append}
+use Rattle.std.{proofs.lemmas.List.append_cancel_left, proofs.lemmas.List.map-append, specs.Prelude.◌==◌}
+use Rattle.std.proofs.Common.{[], ◌*◌, ◌++◌, ◌∙◌, ◌∷◌, ◌≡◌, Bool, List, ℕ, ap, append_assoc, arith, false, refl, subst}
+use Rattle.std.proofs.Common.{sym, true}
+use Rattle.pmd.{proofs.Apart.step_apart, specs.Apart.is_healthy}
 use Rattle.driver_laws.proofs.Fitting.{fitting_after, healthy_call, known_after, most_after, none_apart, unbegun_since}
 use Rattle.driver_laws.proofs.InOrder.{Runs, driven_runs, first_doer, goes, heads, own_here, played_on, runs_on}
 use Rattle.driver_laws.proofs.InOrder.{with_call}
 use Rattle.driver_laws.proofs.Meeting.{Meets, driven_meets}
 use Rattle.driver_laws.proofs.Prelude.{AreFitting, IsDriven, IsHealthy, IsUp, both_apart, doer_of, doers_after}
 use Rattle.driver_laws.proofs.Prelude.{events_before}
+use Rattle.driver_laws.specs.{Before.OnlyPassLends, Faults.NoFault, Faults.doers_of}
+use Rattle.driver_laws.specs.Healthy.{AreHealthy, IsUnshared, OwnRepliesAreHealthy}
+use Rattle.driver_laws.specs.Prelude.{AllLendApart, AllOwn, AreSteps, Blocks, Call, Doer, Entry, FindsFault, Halves}
+use Rattle.driver_laws.specs.Prelude.{LendsApart, LendsNone, OnlyLent, Piece, State, Watched, after, after_call}
+use Rattle.driver_laws.specs.Prelude.{call_in, call_of, calls_of, doers_other, leads_to, played_by}
 use Rattle.driver_laws.specs.Healthy as healthy
 
 abbrev pub Parts : Blocks → Halves → List Doer → Entry → Bool → List Call → Type 0

@@ -1,40 +1,35 @@
 -- What the driver handed out and what it sent, over a history that leaves its queue alone.
-use Rattle.std.proofs.Common.{[], ◌&&◌, ◌++◌, ◌∙◌, ◌∷◌, ◌≡◌, Bool, List, None, Some, ap, append_assoc}
-use Rattle.std.proofs.Common.{false, inl, length, nat_lt, refl, subst, sym, true, ℕ}
-use Rattle.std.proofs.lemmas.Bool.{and_from, eq-eqb, eqb-false, eqb-true, lt-ltb, or_left, or_right}
+use Rattle.std.proofs.Common.{[], ◌&&◌, ◌++◌, ◌∙◌, ◌∷◌, ◌≡◌, Bool, List, None, Some, ℕ, ap, append_assoc, arith, false}
+use Rattle.std.proofs.Common.{inl, length, nat_lt, refl, subst, sym, true}
+use Rattle.std.proofs.lemmas.{Bool.eqb-false, Bool.eqb-true, Bool.or_left, Bool.or_right, Grind.common_steps}
 use Rattle.std.specs.Prelude.{◌==◌, IsTrue}
 use Rattle.pmd.specs.PmdSeam.Packet.{Kept}
-use Rattle.ring_laws.specs.{Alone.LendsOneOf, Delivered.IsPrefixOf, HistoryLaws.Alone.AllAlone, Laws.FindsWaiting}
+use Rattle.ring_laws.proofs.{HistoryLaws.Alone.alone_by_entries}
 use Rattle.ring_laws.proofs.Delivering.{all_taken, between, drained, grows, handed_first, lent_behind, pieces-append}
-use Rattle.ring_laws.proofs.{HistoryLaws.Alone.alone_by_entries, Runs.first_sent, Runs.idle-all, Runs.sent_in-append}
-use Rattle.ring_laws.proofs.{Runs.waiting-left}
+use Rattle.ring_laws.proofs.Runs.{first_sent, idle-all, sent_in-append, waiting-left}
+use Rattle.ring_laws.specs.{Alone.LendsOneOf, Delivered.IsPrefixOf, HistoryLaws.Alone.AllAlone}
+use Rattle.driver_laws.proofs.Meeting.{Goes, Meets, doer_goes, driven_meets}
+use Rattle.driver_laws.proofs.Prelude.{AreLent, BothAgree, IsDriven, calls_other, calls_own, doer_of, doers_after}
+use Rattle.driver_laws.proofs.Prelude.{events_behind, leads-append, legal_behind, not_again, packets_of}
+use Rattle.driver_laws.proofs.Prelude.{sent_is_counted, since-append}
+use Rattle.driver_laws.specs.{Histories.NoneIsAllBefore, Histories.OthersLeaveAlone, Waiting.WaitingIsNotAll}
 use Rattle.driver_laws.specs.Prelude.{AllOwn, AreEvents, Block, Blocks, Call, Doer, Entry, Event, FindsNone, Halves}
 use Rattle.driver_laws.specs.Prelude.{IsEvent, IsLegal, IsUp, LeavesBlocks, LeavesRegisters, OwnCall, Piece, Reply, Rx}
 use Rattle.driver_laws.specs.Prelude.{ShowsNone, State, Tx, Watched, WritesOutside, after, after_call, bytes_of}
 use Rattle.driver_laws.specs.Prelude.{call_in, call_of, calls_of, delivered, is_neither, is_on, leads_to, lends}
 use Rattle.driver_laws.specs.Prelude.{lent_by, mode_in, packets_if_any, pieces, pieces_in, pieces_since, played_by}
 use Rattle.driver_laws.specs.Prelude.{records_of, reply_to, sent_by, sent_in, sent_since}
-use Rattle.driver_laws.specs.{Histories.NoneIsAllBefore, Histories.OthersLeaveAlone, Waiting.WaitingIsNotAll}
-use Rattle.driver_laws.proofs.Meeting.{Goes, Meets, doer_goes, driven_meets}
-use Rattle.driver_laws.proofs.Prelude.{AreLent, BothAgree, IsDriven, calls_other, calls_own, doer_of, doers_after}
-use Rattle.driver_laws.proofs.Prelude.{events_behind, leads-append, legal_behind, not_again, packets_of}
-use Rattle.driver_laws.proofs.Prelude.{sent_is_counted, since-append}
 use Rattle.nic_device.specs.declared.event.Event.TheVariants as event
 use Rattle.nic_device.specs.declared.event.Reply.TheVariants as reply
 use Rattle.ring_laws.specs.Delivered as receive
 use Rattle.ring_laws.specs.ReceiveUp as received
 use Rattle.ring_laws.specs.Laws as transmit
-use Rattle.std.proofs.Common.{arith}
-use Rattle.std.proofs.lemmas.Grind.{common_steps}
 
 -- what the pass lends is among these blocks
 pub lends_mine : (pass : ℕ) (mine : Blocks) (own : ℕ) (e : Event Block) (r : Reply Block) → own ≡ pass → IsEvent e
     → ((n : ℕ) → IsTrue (nat_lt n 65536 && ((own == pass) && lends e r n)) → IsTrue (mine n))
     → LendsOneOf mine e r
-lends_mine pass mine own (event.Lend b) reply.Done same made all =
-    all b.number (and_from _ _ (lt-ltb b.number 65536 made.whole.small)
-    (and_from _ _ (eq-eqb own pass same) (eq-eqb b.number b.number refl)))
-lends_mine pass mine own e r same made all = tt
+lends_mine pass mine own e r same made all = grind (arith, common_steps)
 
 -- the calls of a pass, by whether an entry is the pass's
 
@@ -57,9 +52,7 @@ pub record Next (h : Halves) (doers : List Doer) (e : Entry) (b : Bool) (behind 
 
 next_call : (h : Halves) (doers : List Doer) (e : Entry) (b : Bool) (behind : List Call)
     → AllOwn h doers (with_call b e behind) → Next h doers e b behind
-next_call h [] e true behind own = absurd own
-next_call h (d ∷ doers) e true behind own = record { own = own.0; rest = own.1; played = refl }
-next_call h doers e false behind own = record { own = tt; rest = own; played = refl }
+next_call h doers e b behind own = grind (arith, common_steps)
 
 -- where a history leads from a place where the device and both halves agree
 

@@ -1,26 +1,25 @@
 -- A history over which a driver lays out an empty transmit ring sends nothing on its queue.
-use Rattle.std.proofs.Common.{[], ◌++◌, ◌<◌, ◌^◌, ◌∙◌, ◌∷◌, ◌≡◌, ◌≢◌, ◌≤◌, List, ap, append_assoc, arith, false}
-use Rattle.std.proofs.Common.{inl, inr, refl, subst, sym, true, ℕ}
-use Rattle.std.proofs.lemmas.Bool.{both_ways, cases_Bool, eqb-false}
-use Rattle.std.specs.Prelude.{⊤, ◌==◌}
+use Rattle.std.proofs.Common.{[], ◌++◌, ◌<◌, ◌^◌, ◌∙◌, ◌∷◌, ◌≡◌, ◌≢◌, ◌≤◌, List, ℕ, ap, append_assoc, arith, false, inl}
+use Rattle.std.proofs.Common.{inr, refl, subst, sym, true}
+use Rattle.std.proofs.lemmas.{Bool.cases_Bool, Bool.eqb-false, Grind.common_steps}
+use Rattle.std.specs.Prelude.{◌==◌, ⊤}
 use Rattle.ring_laws.specs.Sent.{sent_in}
-use Rattle.driver_laws.specs.Laid.{Empty, Headed, Laid, LaidQueueIsSilent, Lays, LaysOn, MayAsk, MayLay, MayRing, Off}
-use Rattle.driver_laws.specs.Laid.{Sized, laid_by}
-use Rattle.driver_laws.specs.Prelude.{AtPort, Block, Blocks, Call, Entry, Event, IsEvent, LeavesBlocks, LeavesRegisters}
-use Rattle.driver_laws.specs.Prelude.{Port, Rdbah, Rdbal, Rdh, Rdlen, Rdt, Ring, RowId, Rxdctl, Side, Srrctl, State}
-use Rattle.driver_laws.specs.Prelude.{Tdbah, Tdbal, Tdh, Tdlen, Tdt, Tdwbal, Tx, Txdctl, Watched, after, calls_of}
-use Rattle.driver_laws.specs.Prelude.{has_bit, is_empty, leads_to, lent_by, mode_in, place, sent_by, side_of}
-use Rattle.driver_laws.specs.Standing.{IsLeft}
-use Rattle.driver_laws.proofs.Prelude.{Fits, HasGround, IsAlong, IsIdle, IsMet, IsPlain, NamesRow, asked}
-use Rattle.driver_laws.proofs.Prelude.{asks_pool_reset, asks_reset, calls_other, calls_own, idle_silent, idle_steady}
-use Rattle.driver_laws.proofs.Prelude.{left_deed, no_block, owner_of, row_of, side_with, steady_kept}
-use Rattle.driver_laws.proofs.Prelude.{transmit_left, write_rest}
 use Rattle.driver_laws.proofs.{Ground.ground_kept, Ground.ground_names, Ground.plain_keeps, Parts.own_some}
 use Rattle.driver_laws.proofs.{Parts.still_some, Reached.entry_is, Reached.foreign_left, Reached.reached_next}
 use Rattle.driver_laws.proofs.{Standing.with_beside, SwitchedOff.alone_left, SwitchedOff.watching, Words.words_taken}
+use Rattle.driver_laws.proofs.Prelude.{Fits, HasGround, IsAlong, IsIdle, IsMet, IsPlain, NamesRow, asked}
+use Rattle.driver_laws.proofs.Prelude.{asks_pool_reset, asks_reset, calls_other, calls_own, idle_silent, idle_steady}
+use Rattle.driver_laws.proofs.Prelude.{left_deed, no_block, owner_of, row_of, side_with, steady_kept, transmit_left}
+use Rattle.driver_laws.proofs.Prelude.{write_rest}
+use Rattle.driver_laws.specs.{Standing.IsLeft}
+use Rattle.driver_laws.specs.Laid.{Empty, Headed, Laid, LaidQueueIsSilent, Lays, LaysOn, MayAsk, MayLay, MayRing, Off}
+use Rattle.driver_laws.specs.Laid.{Sized, laid_by}
+use Rattle.driver_laws.specs.Prelude.{AtPort, Block, Blocks, Call, Entry, Event, IsEvent, LeavesBlocks, LeavesRegisters}
+use Rattle.driver_laws.specs.Prelude.{Port, Rdbah, Rdbal, Rdh, Rdlen, Rdt, Ring, RowId, Rxdctl, Side, Srrctl, State, Tx}
+use Rattle.driver_laws.specs.Prelude.{Txdctl, Watched, after, calls_of, has_bit, is_empty, leads_to, lent_by, mode_in}
+use Rattle.driver_laws.specs.Prelude.{place, sent_by, side_of}
 use Rattle.nic_device.specs.RegisterFile.declared.owner.Owner.TheVariants as owner
 use Rattle.nic_device.specs.declared.event.Event.TheVariants as event
-use Rattle.std.proofs.lemmas.Grind.{common_steps}
 
 -- transmit sides that are off, or whose ring is empty, as the words of an empty ring are written to them
 
@@ -38,18 +37,7 @@ IsRinged Empty r = is_empty r ≡ true
 abbrev pub IsLaid : Laid → Side → Type 0
 IsLaid l q = IsDown l q × IsRinged l q.ring
 
--- no slot of it is tried, and it is laid out so still as it becomes what it is wanted to be
-
-not_tried : (l : Laid) (q : Side) → IsLaid l q → q.on ≡ true → is_empty q.ring ≡ false → ⊥
-not_tried Empty q x on some = both_ways (is_empty q.ring) some x.1
-not_tried l q x on some = both_ways q.on x.0.0 on
-
-then_wanted : (l : Laid) (q : Side) (staged : List ℕ) → IsLaid l q
-    → IsLaid l (record q { on = q.wanted; staged = staged })
-then_wanted Empty q staged x = x
-then_wanted l q staged x = ((x.0.1, x.0.1), x.1)
-
--- with nothing staged
+-- with nothing staged, no slot of it is tried, and it is laid out so still as it becomes what it is wanted to be
 abbrev pub SideLaid : Laid → Side → Type 0
 SideLaid l x = IsLaid l x × (x.staged ≡ [])
 
@@ -62,46 +50,15 @@ pub asked_laid : (l : Laid) (word : ℕ) (q : Side) → MayAsk l word → IsLaid
 asked_laid Empty word q may x = x
 asked_laid l word q may x = ((x.0.0, may), x.1)
 
--- head and tail are slot 0 of a ring that has one
-first_slot : (ring : Ring) → 16 ≤ ring.length → ring.head ≡ 0 → is_empty (record ring { tail = 0 }) ≡ true
-first_slot ring some first = grind (arith, common_steps)
-
 -- a word of the ring is written, in a side that is off
 pub record IsLaying (row : RowId) (l : Laid) (word : ℕ) (q : Side) : Type 0 where
   pub off : q.on ≡ false
   pub fits : Fits Tx row word
   pub then : IsLaid (laid_by row l) (side_with Tx row word q)
 
--- where so much is laid out, all holds that holds of it
-from : (row : RowId) (l k : Laid) (word : ℕ) (q : Side) → l ≡ k → (IsLaid k q → IsLaying row k word q)
-    → IsLaid l q → IsLaying row l word q
-from row l k word q is then = subst (λ (z : Laid). IsLaid z q → IsLaying row z word q) (sym is) then
-
-short : (word n : ℕ) → word ≡ 0 → 0 < n → word < n
-short word n none some = omega (arith, none, some)
-
 pub word_laid : (row : RowId) (l : Laid) (word : ℕ) (q : Side) → word < 2 ^ 32 → MayRing row l word
     → IsLaid l q → IsLaying row l word q
-word_laid Tdbal l word q low may =
-    from Tdbal l Off word q may.0 (λ x. record { off = x.0.0; fits = (may.1, low); then = x })
-word_laid Tdbah l word q low may = from Tdbah l Off word q may (λ x. record { off = x.0.0; fits = low; then = x })
-word_laid Tdlen l word q low may =
-    from Tdlen l Off word q may.0
-    (λ x. record { off = x.0.0; fits = (may.1, may.2); then = (x.0, may.3) })
-word_laid Tdwbal l word q low may =
-    from Tdwbal l Sized word q may.0 (λ x. record { off = x.0.0; fits = may.1; then = x })
-word_laid Tdh l word q low may =
-    from Tdh l Sized word q may.0
-    (λ x. record { off = x.0.0; fits = short word 65536 may.1 (omega arith); then = (x.0, (x.1, may.1)) })
-word_laid Tdt l word q low may =
-    from Tdt l Headed word q may.0
-    (λ x. record {
-      off = x.0.0;
-      fits = short word 65536 may.1 (omega arith);
-      then =
-          (tt, subst (λ n. is_empty (record q.ring { tail = n }) ≡ true) (sym may.1) (first_slot q.ring x.1.0 x.1.1));
-    })
-word_laid other l word q low may = absurd may
+word_laid row l word q low may = grind (arith, common_steps)
 
 -- the events by which a driver lays out an empty transmit ring, and those that leave its queue alone
 

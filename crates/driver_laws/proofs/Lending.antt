@@ -1,21 +1,19 @@
 -- The blocks that the halves have lent: each is lent, none by both, and all are among those that the pass lends.
-use Rattle.std.proofs.Common.{◌<◌, ◌∙◌, ◌≡◌, ◌≢◌, List, ap, inl, inr, length, not, refl, subst, sym, true, ℕ}
-use Rattle.std.proofs.lemmas.Bool.{cases_eq, eqb-false, ne_eqb, not-true}
+use Rattle.std.proofs.Common.{◌<◌, ◌≡◌, ◌≢◌, List, ℕ, ap, arith, length, not, refl, sym, true}
+use Rattle.std.proofs.lemmas.{Bool.eqb-false, Bool.ne_eqb, Bool.not-true, Grind.common_steps}
 use Rattle.std.specs.Prelude.{◌==◌, IsTrue}
 use Rattle.nic_device.specs.declared.event.Reply.TheVariants.{Twice}
-use Rattle.pmd.specs.{PmdRx.Receive.Layout, PmdRx.declared.ring.Stage.Stage, PmdRx.declared.ring.Stage.TheVariants.Lent}
-use Rattle.pmd.specs.{PmdTx.Sending.moved}
+use Rattle.pmd.specs.PmdRx.{Receive.Layout, declared.ring.Stage.Stage, declared.ring.Stage.TheVariants.Lent}
+use Rattle.pmd.specs.PmdTx.{Sending.moved}
+use Rattle.ring_laws.proofs.{Kept.each_by}
 use Rattle.ring_laws.specs.{Alone.LendsOneOf, Joint.HasSlots, Joint.StageHolds, Steps.Each, Steps.IfFresh}
-use Rattle.ring_laws.proofs.Kept.{each_by}
+use Rattle.driver_laws.proofs.Prelude.{Done, IsOwn, block_at, gives, memory_blocks, mine-moved, mine_driven, reach}
+use Rattle.driver_laws.proofs.Prelude.{step_of}
 use Rattle.driver_laws.specs.Prelude.{Agree, Block, Blocks, Event, LeavesBlock, Memory, Move, Piece, Receive, Reply}
 use Rattle.driver_laws.specs.Prelude.{Sender, State, after, drive, has_block, has_lent, reply_to}
-use Rattle.driver_laws.proofs.Prelude.{Done, IsOwn, Outcome, block_at, gives, memory_blocks, mine-moved, mine_driven}
-use Rattle.driver_laws.proofs.Prelude.{reach, step_of}
 use Rattle.nic_device.specs.declared.event.Event.TheVariants as event
 use Rattle.nic_device.specs.declared.event.Reply.TheVariants as reply
 use Rattle.pmd.specs.PmdRx.Receive as receiving
-use Rattle.std.proofs.Common.{arith}
-use Rattle.std.proofs.lemmas.Grind.{common_steps}
 
 -- the blocks of the receive half are lent
 
@@ -44,22 +42,12 @@ lent_twice s block has = rw has refl
 -- each block that was lent before is as it was
 pub lend_leaves : (s : State) (block : Block) (number : ℕ) → has_block s.memory number ≡ true
     → LeavesBlock number s (after s (event.Lend block))
-lend_leaves s block number has =
-    elim (cases_eq number block.number) as (λ _. LeavesBlock number s (after s (event.Lend block))) [
-      | inl same ↦
-          let twice = lent_twice s block (subst (λ n. has_block s.memory n ≡ true) same has) in
-          subst (λ (o : Outcome). LeavesBlock number s o.state) (sym twice) refl
-      | inr ne ↦ memory_blocks.lend s block number ne
-    ]
+lend_leaves s block number has = grind (arith, common_steps, lent_twice, memory_blocks)
 
 -- and has another number than one that is lent now
 pub lent_apart : (s : State) (block : Block) (number : ℕ) → has_block s.memory number ≡ true
     → reply_to s (event.Lend block) ≡ Done → block.number ≢ number
-lent_apart s block number has done same =
-    let there = subst (λ n. has_block s.memory n ≡ true) (sym same) has in
-    let twice = ap (λ (o : Outcome). o.reply) (lent_twice s block there) in
-    let both = sym done ∙ twice in
-    cc
+lent_apart s block number has done same = grind (arith, common_steps, lent_twice)
 
 -- no block is lent by both halves, whatever their calls
 
@@ -77,8 +65,7 @@ module _ (s : State) where
   -- a block that is lent by a call wasn't lent before
   lends_other : (e : Event Block) (r : Reply Block) → reply_to s e ≡ r → (n : ℕ) → has_block s.memory n ≡ true
       → LendsOneOf (but n) e r
-  lends_other (event.Lend b) reply.Done is n has = off b.number n (lent_apart s b n has is)
-  lends_other e r is n has = tt
+  lends_other e r is n has = grind (arith, common_steps, off, lent_apart)
 
   -- the receive half's own
   pub receives_apart : (v : Receive) (u : Sender) (e : Event Block) → receiving.IsOwn v e

@@ -1,9 +1,7 @@
 pub use Rattle.device_lock.proofs.Histories
 pub use Rattle.ring_laws.proofs as RingLaws
 pub use Rattle.ring_laws.proofs.HistoryLaws
-pub mod AllAre
 pub mod Beside
-pub mod Ending
 pub mod Filling
 pub mod Fitting
 pub mod Ground
@@ -22,7 +20,6 @@ pub mod Retold
 pub mod Sending
 pub mod Silent
 pub mod Standing
-pub mod Start
 pub mod StopCalls
 pub mod SwitchedOff
 pub mod Switching

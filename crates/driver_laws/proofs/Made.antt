@@ -1,13 +1,13 @@
 -- The calls that a driver's accesses add, and what they lead to over a history.
-use Rattle.std.proofs.Common.{[], ◌++◌, ◌∙◌, ◌∷◌, ◌≡◌, ◌≢◌, Bool, List, ap, append_assoc, not, refl, subst, suc, sym}
-use Rattle.std.proofs.Common.{zero, ℕ}
-use Rattle.std.{proofs.lemmas.List.append-nil, specs.Prelude.IsFalse}
-use Rattle.driver_laws.specs.Prelude.{Access, AreMade, AreSteps, AtPort, Blocks, Call, Dir, Entry, IsMade, IsNumberOf}
-use Rattle.driver_laws.specs.Prelude.{RowId, Sees, Sets, State, Watched, after, call_of, enable_row, has_bit, is_step}
-use Rattle.driver_laws.specs.Prelude.{leads_to, lent_by, missed, polled}
+use Rattle.std.{proofs.lemmas.Grind.common_steps, proofs.lemmas.List.append-nil, specs.Prelude.IsFalse}
+use Rattle.std.proofs.Common.{[], ◌++◌, ◌∙◌, ◌∷◌, ◌≡◌, ◌≢◌, Bool, List, ℕ, append_assoc, arith, not, subst, suc, sym}
+use Rattle.std.proofs.Common.{zero}
 use Rattle.driver_laws.proofs.Parts.{ends_some}
 use Rattle.driver_laws.proofs.Prelude.{AllAre, AtCalls, AtEntries, BeforeLast, BeforeNext, IsAlong, IsKept, Leads}
 use Rattle.driver_laws.proofs.Reached.{KeptOver, LeadsOver, entries_lead, first_leads, state_kept, state_leads}
+use Rattle.driver_laws.specs.Prelude.{Access, AreMade, AreSteps, AtPort, Blocks, Call, Dir, Entry, IsMade, IsNumberOf}
+use Rattle.driver_laws.specs.Prelude.{RowId, Sees, Sets, State, Watched, after, call_of, enable_row, has_bit, is_step}
+use Rattle.driver_laws.specs.Prelude.{leads_to, lent_by, missed, polled}
 use Rattle.nic_device.specs.declared.event.Event.TheVariants as event
 use Rattle.nic_device.specs.declared.event.Reply.TheVariants as reply
 
@@ -19,8 +19,7 @@ module _ (K : Access → Type 0) where
   pub all_before : (done : List Access) (a : Access) (rest : List Access) → AllAre K (done ++ a ∷ rest)
       → AllAre K done × K a
   all_before [] a rest are = (tt, are.0)
-  all_before (d ∷ done) a rest are =
-      let more = all_before done a rest are.1 in ((are.0, more.0), more.1)
+  all_before (d ∷ done) a rest are = grind (arith, common_steps, all_before done a rest are.1)
 
   -- polls of enable words
   module _ (on : Bool) (reads : (side : Dir) (seen : Bool) → K (Sees (enable_row side) seen)) where
@@ -29,8 +28,7 @@ module _ (K : Access → Type 0) where
     all_missed side (suc count) = (reads side (not on), all_missed side count)
 
     pub all_polled : (side : Dir) (count : ℕ) → AllAre K (polled side on count)
-    all_polled side count =
-        all_both (missed side on count) (Sees (enable_row side) on ∷ []) (all_missed side count) (reads side on, tt)
+    all_polled side count = grind (arith, common_steps, all_both, missed, all_missed)
 
 -- it holds of an access's call, whichever its number and the word that is read
 abbrev pub OfCall : AtPort → Access → (Call → Type 0) → Type 0
@@ -55,18 +53,13 @@ pub record AddsCall (P : Call → Type 0) (old new : List Call) : Type 0 where
 module _ (q : AtPort) where
   pub made_by : (P : Call → Type 0) (a : Access) → OfCall q a P → (old new : List Call) → IsMade q old new a
       → AddsCall P old new
-  made_by P (Sees row on) of old new (number, word, named, is, (before, added, steps)) =
-      record { before = before; call = _; added = added; steps = steps; is = of number word named is }
-  made_by P (Sets row word) of old new (number, named, (before, added, steps)) =
-      record { before = before; call = _; added = added; steps = steps; is = of number named }
+  made_by P a of old new x = grind (arith, common_steps)
 
   made_own : (a : Access) (old new : List Call) → IsMade q old new a → AddsCall (λ c. IsFalse (is_step c.event)) old new
-  made_own (Sees row on) = made_by _ (Sees row on) (λ number word named is. refl)
-  made_own (Sets row word) = made_by _ (Sets row word) (λ number named. refl)
+  made_own a = grind (arith, common_steps, made_by)
 
   pub made_some : (old new : List Call) (a : Access) → IsMade q old new a → new ≢ []
-  made_some old new a made none =
-      let x = made_own a old new made in ends_some old x.before x.call (sym x.added ∙ none)
+  made_some old new a made none = grind (arith, common_steps, made_own, ends_some)
 
   pub some_made : (all : List Access) (old new : List Call) → AreMade q old new all → old ≢ [] → new ≢ []
   some_made [] old new made some = λ none. some (sym made ∙ none)
@@ -75,21 +68,13 @@ module _ (q : AtPort) where
   pub extends : (all : List Access) (old new : List Call) → AreMade q old new all
       → (more : List Call) × (new ≡ old ++ more)
   extends [] old new made = ([], made ∙ sym (append-nil old))
-  extends (a ∷ rest) old new (mid, here, more) =
-      let later = extends rest mid new more in
-      let x = made_own a old mid here in
-      let own : List Call = x.before ++ x.call ∷ [] in (
-        own ++ later.0,
-        later.1 ∙ ap (λ (xs : List Call). xs ++ later.0) x.added ∙ append_assoc old own later.0,
-      )
+  extends (a ∷ rest) old new (mid, here, more) = grind (arith, common_steps, made_own, extends rest mid new more)
 
   module _ (w : Watched) (origin : State) (h : List Entry) (P : State → Type 0) where
     -- what holds just before the next call holds just before an access that is made
     pub before_made : (a : Access) (old new : List Call) → IsMade q old new a → BeforeNext w origin h old P
         → BeforeLast w origin h new P
-    before_made a old new made at =
-        let x = made_own a old new made in
-        subst (λ (calls : List Call). BeforeLast w origin h calls P) (sym x.added) (at x.before x.call x.steps x.is)
+    before_made a old new made at = grind (arith, common_steps, made_own)
 
   module _ {w : Watched} {origin : State} {h : List Entry} (along : IsAlong w origin h) where
     abbrev mine : Blocks

@@ -1,33 +1,28 @@
 -- What holds between two entries of a history, and that an event which is either half's, or neither's and leaves the
 -- queue alone, keeps it; so it does a side of the queue that is up.
-use Rattle.std.proofs.Common.{[], ◌++◌, ◌∙◌, ◌≡◌, List, Some, ap, false, refl, subst, sym, true, ℕ}
-use Rattle.std.{proofs.lemmas.Bool.both_ways, proofs.lemmas.List.append-nil, specs.Prelude.IsTrue}
-use Rattle.nic_device.specs.RegTable.declared.rows.RowId.TheVariants.{Txdctl}
-use Rattle.nic_device.proofs.Steps.{step_leads}
+use Rattle.std.{proofs.lemmas.Grind.common_steps, proofs.lemmas.List.append-nil, specs.Prelude.IsTrue}
+use Rattle.std.proofs.Common.{[], ◌++◌, ◌∙◌, ◌≡◌, List, ℕ, ap, arith, false, refl, subst, sym, true}
+use Rattle.nic_device.{proofs.Steps.step_leads, specs.RegTable.declared.rows.RowId.TheVariants.Txdctl}
 use Rattle.device_lock.specs.Alone.{place_at}
 use Rattle.pmd.specs.PmdTx.Sending.{moved}
+use Rattle.ring_laws.proofs.{HistoryLaws.Written.place_named, Leaving.leaving_keeps, Leaving.switching_keeps}
+use Rattle.ring_laws.proofs.{Off.enable_words_keep as transmit_word_keeps, Own.own_keeps, Playing.moves_keep}
+use Rattle.ring_laws.proofs.{Playing.up_stays, Runs.left_alone_is_spared, Sparing.sparing_events_keep}
+use Rattle.ring_laws.proofs.Foreign.{alone_stays_up, left_keeps, left_up, own_stays_up}
 use Rattle.ring_laws.specs.{Agreeing.Agrees, Alone.LendsOneOf, Fitting.ResetsNoPool, HistoryLaws.Sides.Side}
 use Rattle.ring_laws.specs.{Turns.MayMove}
-use Rattle.ring_laws.proofs.Foreign.{alone_stays_up, left_keeps, left_up, own_stays_up}
-use Rattle.ring_laws.proofs.{HistoryLaws.Written.place_in, HistoryLaws.Written.place_named, Leaving.leaving_keeps}
-use Rattle.ring_laws.proofs.{Leaving.switching_keeps, Off.enable_words_keep as transmit_word_keeps, Own.own_keeps}
-use Rattle.ring_laws.proofs.{Playing.moves_keep, Playing.up_stays, Runs.left_alone_is_spared}
-use Rattle.ring_laws.proofs.{Sparing.sparing_events_keep}
-use Rattle.driver_laws.specs.Enabling.{EnableWordsKeep}
-use Rattle.driver_laws.specs.Prelude.{Block, Blocks, Dir, Doer, Elsewhere, Entry, Event, Halves, IsEvent}
-use Rattle.driver_laws.specs.Prelude.{IsSound, IsUp, LeavesBlock, LeavesBlocks, LeavesRegisters, Memory, Move, OwnCall}
-use Rattle.driver_laws.specs.Prelude.{Piece, Place, Port, Receives, Register, Rx, Rxdctl, Sends, State, Tx, Watched}
-use Rattle.driver_laws.specs.Prelude.{WritesNoSetting, WritesOutside, after, after_call, asks_pool_reset, call_of}
-use Rattle.driver_laws.specs.Prelude.{drive, has_bit, has_block, has_lent, is_neither, leads_to, lent_by, mode_in}
-use Rattle.driver_laws.specs.Prelude.{named, pieces, place, reply_to, row_of, sent_by}
-use Rattle.driver_laws.proofs.Prelude.{AreLent, BothAgree, IsDriven, IsMet, Spares, SparesIfSome, asked, events_before}
+use Rattle.driver_laws.{proofs.Reached.free_left, specs.Enabling.EnableWordsKeep}
+use Rattle.driver_laws.proofs.Lending.{receive_lent, receives_apart, sends_apart}
+use Rattle.driver_laws.proofs.Prelude.{AreLent, BothAgree, IsDriven, IsMet, Spares, asked, events_before}
 use Rattle.driver_laws.proofs.Prelude.{histories_sound, keeps_sound, mine-moved, mine_driven, plain-write}
 use Rattle.driver_laws.proofs.Prelude.{settings_stand, stays_within, vfs_stays, write_memory, write_rest}
 use Rattle.driver_laws.proofs.Sending.{Touches, is_elsewhere, move_spares, move_touches, own_spares, own_touches}
-use Rattle.driver_laws.proofs.Sending.{received_spares, reports_spare, sender_lent, tail_row, touch_pieces}
-use Rattle.driver_laws.proofs.Sending.{touch_setting}
-use Rattle.driver_laws.proofs.{Lending.receive_lent, Lending.receives_apart, Lending.sends_apart, Reached.free_left}
-use Rattle.driver_laws.proofs.{Words.each_side}
+use Rattle.driver_laws.proofs.Sending.{received_spares, reports_spare, sender_lent, touch_pieces, touch_setting}
+use Rattle.driver_laws.specs.Prelude.{Block, Blocks, Dir, Doer, Elsewhere, Entry, Event, Halves, IsEvent, IsSound, IsUp}
+use Rattle.driver_laws.specs.Prelude.{LeavesBlock, LeavesBlocks, LeavesRegisters, Memory, Move, OwnCall, Piece, Port}
+use Rattle.driver_laws.specs.Prelude.{Receives, Register, Rx, Rxdctl, Sends, State, Tx, Watched, WritesNoSetting}
+use Rattle.driver_laws.specs.Prelude.{WritesOutside, after, after_call, call_of, drive, has_bit, has_block, has_lent}
+use Rattle.driver_laws.specs.Prelude.{is_neither, leads_to, lent_by, mode_in, named, pieces, place, reply_to, sent_by}
 use Rattle.std.specs.FinMap as map
 use Rattle.nic_device.specs.declared.event.Event.TheVariants as event
 use Rattle.pmd.specs.PmdRx.Keeping as received_half
@@ -106,24 +101,11 @@ may_move queue s h m e real own made = (own, made)
 
 touch_resets : (dir : Dir) (queue : ℕ) (own : Blocks) (s : State) (e : Event Block) → Touches dir queue own s e
     → ResetsNoPool queue s e
-touch_resets dir queue own s (event.Write port n word) is = λ p seen there asks.
-    let tail : Place = place (tail_row dir) queue in
-    let same : Register tail 0xFFFFFFFF ≡ Register p seen = sym is ∙ there in
-    let both : tail ≡ p = cc in
-    absurd (both_ways (asks_pool_reset (row_of (tail_row dir)).kind word)
-    (each_side (λ d. asks_pool_reset (row_of (tail_row d)).kind word ≡ false) refl refl dir)
-    (subst (λ (x : Place). asks_pool_reset (row_of x.row).kind word ≡ true) (sym both) asks))
-touch_resets dir queue own s e is = tt
+touch_resets dir queue own s e is = grind (arith, common_steps, place)
 
 spared_resets : (w : Watched) (s : State) → w.vfs ≡ s.vfs → (e : Event Block)
     → LeavesRegisters w (mode_in s.registers) e → ResetsNoPool w.queue s e
-spared_resets w s vfs (event.Write port n word) left = λ p view is asks.
-    let mode = mode_in s.registers in
-    let there : place_at mode w.vfs port n ≡ Some p =
-    ap (λ x. place_at mode x port n) vfs ∙ place_named s port n ∙ ap place_in is in
-    let spares : SparesIfSome w.queue mode (Some p) word = subst (λ o. SparesIfSome w.queue mode o word) there left in
-    spares.pool asks
-spared_resets w s vfs other left = tt
+spared_resets w s vfs e left = grind (arith, common_steps, place_at, place_named)
 
 -- what holds behind an event: these halves meet the device, a side that was up is so still, no setting is written, and
 -- the queue's pool isn't reset

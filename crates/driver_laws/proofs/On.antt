@@ -1,24 +1,22 @@
 -- Once both rings came up and both sides went on the device and the driver agree on both.
-use Rattle.std.proofs.Common.{[], ◌%◌, ◌&&◌, ◌*◌, ◌+◌, ◌<◌, ◌∷◌, ◌≡◌, ◌≢◌, ◌≤◌, Bool, List, ap, arith, false, not}
-use Rattle.std.proofs.Common.{refl, subst, sym, true, ℕ}
-use Rattle.std.proofs.lemmas.Bool.{both_ways}
-use Rattle.std.specs.Prelude.{IsTrue}
+use Rattle.std.{proofs.lemmas.Bool.both_ways, proofs.lemmas.Grind.common_steps, specs.Prelude.IsTrue}
+use Rattle.std.proofs.Common.{[], ◌%◌, ◌&&◌, ◌*◌, ◌+◌, ◌<◌, ◌∷◌, ◌≡◌, ◌≢◌, ◌≤◌, Bool, List, ℕ, ap, arith, false, not}
+use Rattle.std.proofs.Common.{refl, subst, sym, true}
 use Rattle.pmd.specs.{PmdSeam.Frames.most_blocks, Running.Running, Started.AreUp}
-use Rattle.driver_laws.specs.On.{AreOn, SwitchedSidesAgree, SwitchedSidesBeginNone, SwitchedSidesGoOn}
-use Rattle.driver_laws.specs.Prelude.{Agree, Agrees, AtPort, Call, EachRingBlock, Entry, Numbers, Rdt, Receive, Rx}
-use Rattle.driver_laws.specs.Prelude.{Rxdctl, Sees, Sender, Sets, Side, State, Tdt, Tx, Watched, begun_on}
-use Rattle.driver_laws.specs.Prelude.{is_size, leads_to, lent_by, quiet, ring_blocks}
-use Rattle.driver_laws.specs.{Quieting.are_off, Start.BeginsWell, Start.StartAgrees, Start.StartGoesOn, Unused.WentOn}
+use Rattle.driver_laws.proofs.{Ground.ground_names, Made.extends, Made.made_some, Made.some_made, Reached.sound_at}
 use Rattle.driver_laws.proofs.Points.{At, accesses_at, laid_with, prepared_at, unused_kept}
 use Rattle.driver_laws.proofs.Prelude.{AreUnused, AtCalls, AtEntries, BeforeLast, HasGround, IsAlong, IsPlain, IsSized}
 use Rattle.driver_laws.proofs.Prelude.{Point, Sides, after_accesses}
 use Rattle.driver_laws.proofs.StopCalls.{Has, IsLentBy, has_more, lending, lent_along, prepared_has, prepared_plain}
 use Rattle.driver_laws.proofs.StopCalls.{ring_in, stays_in, stays_some}
+use Rattle.driver_laws.proofs.SwitchedOff.{quiet_sides_stand, quieting_leads}
 use Rattle.driver_laws.proofs.Switching.{came_up, comes_up, fresh_receive_agrees, fresh_transmit_agrees, laid, may_lay}
 use Rattle.driver_laws.proofs.Switching.{may_switch, switching}
-use Rattle.driver_laws.proofs.{Ground.ground_names, Made.extends, Made.made_some, Made.some_made, Reached.sound_at}
-use Rattle.driver_laws.proofs.{SwitchedOff.quiet_sides_stand, SwitchedOff.quieting_leads}
-use Rattle.std.proofs.lemmas.Grind.{common_steps}
+use Rattle.driver_laws.specs.{Quieting.are_off, Start.BeginsWell, Start.StartAgrees, Start.StartGoesOn, Unused.WentOn}
+use Rattle.driver_laws.specs.On.{AreOn, SwitchedSidesAgree, SwitchedSidesBeginNone, SwitchedSidesGoOn}
+use Rattle.driver_laws.specs.Prelude.{Agree, Agrees, AtPort, Call, EachRingBlock, Entry, Numbers, Rdt, Receive, Rx}
+use Rattle.driver_laws.specs.Prelude.{Rxdctl, Sees, Sender, Sets, Side, State, Tdt, Tx, Watched, begun_on, is_size}
+use Rattle.driver_laws.specs.Prelude.{leads_to, lent_by, quiet}
 
 -- the numbers of slots that a driver may have
 
@@ -80,15 +78,8 @@ module _ {w : Watched} {origin : State} {h : List Entry} {q : AtPort} {size fram
     quiet_at done rest all calls =
         let off = quieting_leads w q frame origin h old up.receive.mid along up.receive.quiet well in
         let quiet = off done rest all calls in
-        let (p, known, x) = quiet_sides_stand w q frame origin h up.receive.mid along off done rest all calls in (
-          p,
-          known,
-          x,
-          record {
-            receive = λ on. absurd (both_ways _ quiet.receive.off on);
-            transmit = λ on. absurd (both_ways _ quiet.transmit.off on);
-          },
-        )
+        let (p, known, x) = quiet_sides_stand w q frame origin h up.receive.mid along off done rest all calls in
+        (grind (arith, common_steps, both_ways))
 
     -- as both rings come up, where their blocks are the pass's
     module _ (one : EachRingBlock ring size (λ n. IsLentBy w.pass n h))
@@ -172,8 +163,7 @@ module _ {w : Watched} {origin : State} {h : List Entry} {q : AtPort} {size fram
                 low = along.small;
                 tail = ground_names w.queue q frame s x.ground Rdt up.receive.tail refl up.receive.named;
               })
-              (λ k below.
-              zeros _ (stays_in (ring_blocks other size) _ (ring + k) (ring_in ring size p.rings k below)))
+              (grind (arith, common_steps, stays_in, other, ring, ring_in))
               (x.stand.side Rx)),
           subst (λ (v : Sender). Agrees s w.queue [] v) (sym up.transmit.fresh)
               (fresh_transmit_agrees w.queue s (p.side Tx) true true q.port up.transmit.tail other size frame
@@ -231,14 +221,6 @@ module _ {w : Watched} {origin : State} {h : List Entry} {q : AtPort} {size fram
       transmit = up.transmit;
       switched = up.on.switched;
     }
-
-    -- port and queue name this queue there
-    pub start_ground : AtCalls w origin h up.on.mid (HasGround w.queue q frame)
-    start_ground = ground_at on along well.ground
-
-    -- some calls were made before both were on
-    pub start_some : up.on.mid ≢ []
-    start_some = on_some on along well.ground
 
 pub start_agrees : StartAgrees
 start_agrees w origin h q size frame old a new r up along well = agrees_at (on up along well) along well.ground

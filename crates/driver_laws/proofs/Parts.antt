@@ -1,13 +1,12 @@
 -- A history in parts, by the calls that a pass made.
-use Rattle.std.proofs.Common.{[], ◌++◌, ◌∙◌, ◌∷◌, ◌≡◌, ◌≢◌, ◌⊎◌, List, ap, append_assoc, inl, inr, refl, sym, true, ℕ}
+use Rattle.std.proofs.Common.{[], ◌++◌, ◌∙◌, ◌∷◌, ◌≡◌, ◌≢◌, ◌⊎◌, List, ℕ, ap, append_assoc, arith, inl, inr, refl, sym}
+use Rattle.std.proofs.Common.{true}
+use Rattle.std.proofs.lemmas.{Grind.common_steps, List.Elements.filter-append, List.append-nil, List.map-append}
 use Rattle.std.proofs.lemmas.Bool.{cases_Bool, eqb-true, or_left, or_right}
 use Rattle.std.specs.Prelude.{◌==◌}
-use Rattle.std.{proofs.lemmas.List.append-nil, proofs.lemmas.List.map-append, proofs.lemmas.List.Elements.filter-append}
 use Rattle.device_lock.specs.Alone.{has_begun}
-use Rattle.driver_laws.specs.Prelude.{Call, Entry, call_in, calls_of}
 use Rattle.driver_laws.proofs.Prelude.{calls_other, calls_own}
-use Rattle.std.proofs.Common.{arith}
-use Rattle.std.proofs.lemmas.Grind.{common_steps}
+use Rattle.driver_laws.specs.Prelude.{Call, Entry, call_in, calls_of}
 
 pub ends_some : (old before : List Call) (c : Call) → old ++ (before ++ c ∷ []) ≢ []
 ends_some [] [] c e = cc
@@ -129,12 +128,7 @@ Begins {A} xs zs = (back : List A) × (xs ++ back ≡ zs)
 pub one_begins : {A : Type 0} (xs ys zs ws : List A) → xs ++ ys ≡ zs ++ ws → Begins xs zs ⊎ Begins zs xs
 one_begins [] ys zs ws is = inl (zs, refl)
 one_begins (x ∷ xs) ys [] ws is = inr (x ∷ xs, refl)
-one_begins (x ∷ xs) ys (z ∷ zs) ws is =
-    let first : x ≡ z = cc in
-    elim (one_begins xs ys zs ws (cc)) as (λ _. Begins (x ∷ xs) (z ∷ zs) ⊎ Begins (z ∷ zs) (x ∷ xs)) [
-      | inl (back, both) ↦ inl (back, λ i. first i ∷ both i)
-      | inr (back, both) ↦ inr (back, λ i. sym first i ∷ both i)
-    ]
+one_begins (x ∷ xs) ys (z ∷ zs) ws is = grind (arith, common_steps, one_begins xs ys zs ws (cc))
 
 pub none_behind : (xs ys : List Call) → xs ++ ys ≡ xs → ys ≡ []
 none_behind [] ys is = is

@@ -1,26 +1,23 @@
 -- How sides stand after the accesses of a driver.
-use Rattle.std.proofs.Common.{[], ◌&&◌, ◌++◌, ◌+◌, ◌<◌, ◌∙◌, ◌∷◌, ◌≡◌, ◌≢◌, Bool, List, None, Option, Some, ap, arith}
-use Rattle.std.proofs.Common.{cond, false, not, option_map, refl, subst, suc, sym, true, zero, ℕ}
-use Rattle.std.specs.Prelude.{⊤, IsTrue}
-use Rattle.std.{specs.List.range_with_len}
-use Rattle.driver_laws.specs.Points.{AccessesLead, May}
-use Rattle.driver_laws.specs.Prelude.{Access, AreMade, AtPort, Blocks, Call, Dir, EachRingBlock, Entry, IsNumberOf}
-use Rattle.driver_laws.specs.Prelude.{IsPrepared, LendsEach, Numbers, RowId, Rx, Rxdctl, Sees, Sets, State, Tx, Txdctl}
-use Rattle.driver_laws.specs.Prelude.{Watched, after, blocks_for, call_in, call_of, enable_row, has_bit, is_on}
-use Rattle.driver_laws.specs.Prelude.{leads_to, lent_by, pieces, pieces_since, ring_blocks, ring_words, sent_by}
-use Rattle.driver_laws.specs.Prelude.{sent_since, zero_block}
+use Rattle.std.{proofs.lemmas.Grind.common_steps, specs.List.range_with_len, specs.Prelude.IsTrue, specs.Prelude.⊤}
+use Rattle.std.proofs.Common.{[], ◌&&◌, ◌++◌, ◌+◌, ◌<◌, ◌∙◌, ◌∷◌, ◌≡◌, ◌≢◌, Bool, List, Option, Some, ℕ, arith, cond}
+use Rattle.std.proofs.Common.{false, not, option_map, refl, subst, suc, sym, true, zero}
+use Rattle.driver_laws.proofs.{Parts.ends_some, Words.driven, Words.side_driven}
 use Rattle.driver_laws.proofs.Ground.{ground_names, ground_same, plain_keeps, read_ground, write_ground}
+use Rattle.driver_laws.proofs.Made.{OfCall, made_some, over_access, some_made}
 use Rattle.driver_laws.proofs.Prelude.{AllMay, AreUnused, AtEntries, IsAlong, IsEnable, IsKept, Leads, Piece, Point}
 use Rattle.driver_laws.proofs.Prelude.{Sides, Stand, after_access, after_accesses, and_one, seen_by, sent_is_counted}
 use Rattle.driver_laws.proofs.Prelude.{since-append}
 use Rattle.driver_laws.proofs.Reached.{KeptOver, LeadsOver, entries_lead, reached_next, state_leads}
 use Rattle.driver_laws.proofs.Standing.{lend_stands, read_stands, standing_sides_are_left, write_stands}
-use Rattle.driver_laws.proofs.{Made.OfCall, Made.made_some, Made.over_access, Made.some_made, Parts.ends_some}
-use Rattle.driver_laws.proofs.{StopCalls.IsLentBy, StopCalls.and_all, StopCalls.lending, Words.driven}
-use Rattle.driver_laws.proofs.{Words.side_driven}
+use Rattle.driver_laws.proofs.StopCalls.{IsLentBy, and_all, lending}
+use Rattle.driver_laws.specs.Points.{AccessesLead, May}
+use Rattle.driver_laws.specs.Prelude.{Access, AreMade, AtPort, Blocks, Call, Dir, EachRingBlock, Entry, IsNumberOf}
+use Rattle.driver_laws.specs.Prelude.{IsPrepared, LendsEach, Numbers, RowId, Rx, Rxdctl, Sees, Sets, State, Tx, Txdctl}
+use Rattle.driver_laws.specs.Prelude.{Watched, after, blocks_for, call_in, call_of, enable_row, has_bit, leads_to}
+use Rattle.driver_laws.specs.Prelude.{lent_by, pieces, ring_blocks, ring_words, sent_by, zero_block}
 use Rattle.nic_device.specs.declared.event.Event.TheVariants as event
 use Rattle.nic_device.specs.declared.event.Reply.TheVariants as reply
-use Rattle.std.proofs.lemmas.Grind.{common_steps}
 
 -- by a call nothing is received or sent
 abbrev pub IsIdle : ℕ → Call → Type 0
@@ -45,20 +42,7 @@ none_counted false is sent more none unused on = rw on refl
 
 pub unused_kept : (w : Watched) (origin : State) → IdleKeeps w origin (AreUnused w.queue origin)
 unused_kept w origin done e received sent unused =
-    let s = leads_to origin done in
-    let t = after s e.event in
-    let next = ap (λ (x : State). is_on x.registers Rx w.queue) (reached_next w origin done e) in
-    let next_sends = ap (λ (x : State). is_on x.registers Tx w.queue) (reached_next w origin done e) in
-    record {
-      receive = λ on.
-          since-append w.queue origin None done (e ∷ [])
-          ∙ none_gathered (is_on s.registers Rx w.queue) (is_on t.registers Rx w.queue)
-          (pieces_since w.queue origin None done) (pieces w.queue s e.event) received unused.receive (sym next ∙ on);
-      transmit = λ on.
-          sent_is_counted.joined w.queue origin [] done (e ∷ [])
-          ∙ none_counted (is_on s.registers Tx w.queue) (is_on t.registers Tx w.queue)
-          (sent_since w.queue origin [] done) (sent_by w.queue s e.event) sent unused.transmit (sym next_sends ∙ on);
-    }
+    grind (arith, common_steps, reached_next, since-append, none_gathered, sent_is_counted, none_counted)
 
 module _ (w : Watched) (mine : Blocks) (q : AtPort) (frame : ℕ) where
   -- an event that leaves the queue alone keeps a point

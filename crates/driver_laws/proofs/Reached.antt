@@ -1,19 +1,18 @@
 -- A history that leaves a queue alone, entry by entry and call by call of its pass.
-use Rattle.std.proofs.Common.{[], ◌++◌, ◌∙◌, ◌∷◌, ◌≡◌, ◌≢◌, List, ap, append_assoc, inl, inr, refl, subst, sym, true}
+use Rattle.std.proofs.Common.{[], ◌++◌, ◌∙◌, ◌∷◌, ◌≡◌, ◌≢◌, List, ap, append_assoc, arith, inl, inr, refl, subst, sym}
+use Rattle.std.proofs.Common.{true}
+use Rattle.std.proofs.lemmas.{Bool.cases_Bool, Bool.eqb-false, Grind.common_steps, List.append-nil}
 use Rattle.std.specs.Prelude.{◌==◌, IsFalse, IsTrue}
-use Rattle.std.{proofs.lemmas.Bool.cases_Bool, proofs.lemmas.Bool.eqb-false, proofs.lemmas.List.append-nil}
 use Rattle.device_lock.specs.{Alone.EntryLeavesAlone, History.AreEvents, History.IsLegal}
-use Rattle.driver_laws.specs.Prelude.{AreSteps, Block, Blocks, Call, Entry, Event, IsEvent, IsSound, LeavesBlocks}
-use Rattle.driver_laws.specs.Prelude.{LeavesRegisters, State, Watched, after, call_in, calls_of, is_step, leads_to}
-use Rattle.driver_laws.specs.Prelude.{lent_by, mode_in, reply_to}
-use Rattle.driver_laws.specs.{Ending.Each, Standing.IsLeft}
 use Rattle.driver_laws.proofs.Parts.{around, begun, more_some, own_some, parts, still_some}
 use Rattle.driver_laws.proofs.Prelude.{AreMadeOf, AtCalls, AtEntries, BeforeLast, BeforeNext, IsAlong, IsKept, IsMet}
 use Rattle.driver_laws.proofs.Prelude.{Leads, Never, WritesOutside, calls_other, calls_own, events_before}
 use Rattle.driver_laws.proofs.Prelude.{events_behind, histories_sound, leads-append, legal_behind, no_registers}
 use Rattle.driver_laws.proofs.Prelude.{vfs_stays}
-use Rattle.std.proofs.Common.{arith}
-use Rattle.std.proofs.lemmas.Grind.{common_steps}
+use Rattle.driver_laws.specs.{Ending.Each, Standing.IsLeft}
+use Rattle.driver_laws.specs.Prelude.{AreSteps, Block, Blocks, Call, Entry, Event, IsEvent, IsSound, LeavesBlocks}
+use Rattle.driver_laws.specs.Prelude.{LeavesRegisters, State, Watched, after, call_in, calls_of, is_step, leads_to}
+use Rattle.driver_laws.specs.Prelude.{lent_by, mode_in, reply_to}
 
 -- where the entries so far lead a device
 abbrev pub reached : Watched → State → List Entry → State
@@ -40,14 +39,11 @@ LeadsOver w origin mine c P Q =
 
 pub state_kept : (w : Watched) (origin : State) (mine : Blocks) (P : State → Type 0) → IsKept w mine P
     → KeptOver w origin mine (λ done. P (leads_to origin done))
-state_kept w origin mine P kept done e left p =
-    subst P (sym (reached_next w origin done e)) (kept (leads_to origin done) e.event left p)
+state_kept w origin mine P kept done e left p = grind (arith, common_steps, reached_next)
 
 pub state_leads : (w : Watched) (origin : State) (mine : Blocks) (c : Call) (P Q : State → Type 0) → Leads w.queue c P Q
     → LeadsOver w origin mine c (λ done. P (leads_to origin done)) (λ done. Q (leads_to origin done))
-state_leads w origin mine c P Q leads done e same met made told steps p =
-    subst Q (sym (reached_next w origin done e))
-    (subst (λ (x : Call). Leads w.queue x P Q) (sym same) leads (leads_to origin done) met made told p)
+state_leads w origin mine c P Q leads done e same met made told steps p = grind (arith, common_steps, reached_next)
 
 -- an event that writes no register that the queue rests on, and none of these blocks
 pub free_left : (w : Watched) (mine : Blocks) (s : State) (e : Event Block) → IsMet w.queue s → IsEvent e
@@ -86,10 +82,7 @@ module _ {w : Watched} {origin : State} {h : List Entry} (x : IsAlong w origin h
     alone = x.alone done e rest (sym all) (begun w.pass done some)
 
     pub foreign_left : e.pass ≢ w.pass → IsLeft w mine (leads_to origin done) e.event
-    foreign_left other =
-        let is = entry_is done rest e all in
-        free_left w mine (leads_to origin done) e.event is.met is.made is.vfs
-        (subst (WritesOutside w.queue mine) is.told alone.steps) (alone.registers other, alone.blocks other)
+    foreign_left other = grind (arith, common_steps, entry_is, free_left, mine, alone)
 
   -- what holds of the entries so far, and of the calls that the pass makes behind them, goes on holding over entries of
   -- others, and over each of these calls
@@ -111,12 +104,9 @@ module _ {w : Watched} {origin : State} {h : List Entry} (x : IsAlong w origin h
         (still_some w.pass done (e ∷ []) some) q) in
         elim (cases_Bool (e.pass == w.pass)) as (λ _. P (done ++ e ∷ back) []) [
           | inl own ↦
-              on (leads done (back ++ rest) e (calls_of w.pass back) here some
-              (subst (P done) (calls_own w.pass e back own) p))
+              on (grind (arith, common_steps, calls_own))
           | inr other ↦
-              on (kept (calls_of w.pass back) done e
-              (foreign_left done (back ++ rest) e here some (eqb-false e.pass w.pass other))
-              (subst (P done) (calls_other w.pass e back other) p))
+              on (grind (arith, common_steps, foreign_left, eqb-false, calls_other))
         ]
 
   -- what holds behind a call holds wherever that is the last which the pass made
@@ -148,12 +138,7 @@ module _ {w : Watched} {origin : State} {h : List Entry} (x : IsAlong w origin h
   step_over : (P : List Entry → Type 0) → KeptOver w origin mine P → (c : Call) → IsTrue (is_step c.event)
       → LeadsOver w origin mine c P P
   step_over P kept c is done e same met made told outside p =
-      let s = leads_to origin done in
-      kept done e
-      (free_left w mine s e.event met made (x.vfs ∙ sym (vfs_stays origin done))
-      (subst (WritesOutside w.queue mine) told outside)
-      (no_registers w (mode_in s.registers) mine e.event (subst (λ (n : Call). is_step n.event ≡ true) (sym same) is)))
-      p
+      grind (arith, common_steps, free_left, mine, vfs_stays, no_registers)
 
 -- calls of one kind keep what each of them keeps
 pub all_lead : (w : Watched) (origin : State) (h : List Entry) (P : List Entry → Type 0) (Own : Call → Type 0)
@@ -185,9 +170,11 @@ made_keep {w = w} {origin = origin} {h = h} P K x kept own old new (calls, is, e
     state_leads w origin (lent_by w.pass h) c P P (λ s met made told p. own s c.event met made k p)) calls old each some
     at)
 
-each_step : (calls : List Call) → AreSteps calls → Each (λ c. IsTrue (is_step c.event)) calls
-each_step [] steps = tt
-each_step (c ∷ calls) steps = (steps.0, each_step calls steps.1)
+-- steps of the device are of a kind where each is
+pub steps_are : (P : Event Block → Type 0) → ((e : Event Block) → is_step e ≡ true → P e) → (calls : List Call)
+    → AreSteps calls → Each (λ c. P c.event) calls
+steps_are P stepping [] steps = tt
+steps_are P stepping (c ∷ calls) steps = (stepping c.event steps.0, steps_are P stepping calls steps.1)
 
 -- after some steps of the device and one call more the other holds of the entries so far, where both are kept
 pub entries_lead : {w : Watched} {origin : State} {h : List Entry} (P Q : List Entry → Type 0)
@@ -200,7 +187,7 @@ entries_lead {w = w} {origin = origin} {h = h} P Q old before c x kept kept_q le
     (λ done rest e all own made same.
     over x P Q c leads done rest e all (λ none. more_some old before some (sym made ∙ none)) same
     (all_lead w origin h P (λ b. IsTrue (is_step b.event)) x kept (step_over x P kept) before old
-    (each_step before steps) some at done (e ∷ rest) all made)))
+    (steps_are (λ e. IsTrue (is_step e)) (λ e is. is) before steps) some at done (e ∷ rest) all made)))
 
 -- what holds just before a call
 
@@ -236,8 +223,7 @@ module _ {w : Watched} {origin : State} {h : List Entry} (x : IsAlong w origin h
   next_refuted old at before c steps apart refutes =
       let same = append_assoc old before (c ∷ []) in
       subst (Never w origin h) same
-      (last_never (old ++ before) c refutes
-      (subst (λ (calls : List Call). BeforeLast w origin h calls P) (sym same) (at before c steps apart)))
+      (grind (arith, common_steps, last_never))
 
   pub then_refuted : (old : List Call) → IsKept w (lent_by w.pass h) P → old ≢ [] → AtCalls w origin h old P
       → RefutesNext old

@@ -1,11 +1,11 @@
 -- What of a history doesn't look at its tags.
-use Rattle.std.proofs.Common.{[], ◌∙◌, ◌∷◌, ◌≡◌, Bool, List, None, Option, ap, false, map, refl, subst, sym, true, ℕ}
+use Rattle.std.proofs.Common.{[], ◌∙◌, ◌∷◌, ◌≡◌, Bool, List, Option, ℕ, ap, arith, false, map, refl, subst, sym, true}
+use Rattle.std.proofs.lemmas.Grind.{common_steps}
 use Rattle.ring_laws.specs.Sent.{counted_by}
-use Rattle.driver_laws.specs.Prelude.{AreEvents, Call, Entry, IsEvent, IsLegal, Piece, State, after, call_in}
-use Rattle.driver_laws.specs.Prelude.{entries_in, leads_to, packets_if_any, pieces, pieces_since, reply_to, sent_since}
-use Rattle.driver_laws.specs.Retold.{AreSame, RetoldIsSame, SameDelivers, SameIsLegal, SameLeads, SameSends, retold}
-use Rattle.driver_laws.specs.Retold.{told_as}
 use Rattle.driver_laws.proofs.Prelude.{gathered}
+use Rattle.driver_laws.specs.Prelude.{AreEvents, Call, Entry, IsEvent, IsLegal, Piece, State, after, call_in}
+use Rattle.driver_laws.specs.Prelude.{entries_in, leads_to, pieces, pieces_since, reply_to, sent_since}
+use Rattle.driver_laws.specs.Retold.{AreSame, RetoldIsSame, SameDelivers, SameIsLegal, SameLeads, SameSends, told_as}
 
 -- an entry is the same call, whoever made it
 
@@ -16,9 +16,7 @@ told_call other false e = refl
 pub retold_same : RetoldIsSame
 retold_same other [] h = refl
 retold_same other (is ∷ own) [] = refl
-retold_same other (is ∷ own) (e ∷ es) =
-    ap (λ (c : Call). c ∷ map call_in (retold other own es)) (told_call other is e)
-    ∙ ap (λ (cs : List Call). call_in e ∷ cs) (retold_same other own es)
+retold_same other (is ∷ own) (e ∷ es) = grind (arith, common_steps, told_call, retold_same other own es)
 
 -- what of a history looks at its calls alone is as if one pass had made them all
 
@@ -60,8 +58,7 @@ pieces_alike queue s so_far (e ∷ es) =
     pieces_alike queue (after s e.event) (gathered queue s (after s e.event) (pieces queue s e.event) so_far) es
 
 pub same_delivers : SameDelivers
-same_delivers queue s h g same =
-    ap packets_if_any (same_by (pieces_since queue s None) (pieces_alike queue s None) h g same)
+same_delivers queue s h g same = grind (arith, common_steps, same_by, pieces_alike)
 
 sent_alike : (queue : ℕ) (s : State) (sent : List (List ℕ)) (h : List Entry)
     → sent_since queue s sent h ≡ sent_since queue s sent (alike h)

@@ -1,32 +1,31 @@
 -- What an event of one half's own leaves: all blocks but its own, and the other side; and so do steps of the device.
-use Rattle.std.proofs.Common.{[], ◌*◌, ◌+◌, ◌/◌, ◌<◌, ◌^◌, ◌∙◌, ◌∷◌, ◌≡◌, ◌≢◌, Bool, List, None, Option, Some, ap}
-use Rattle.std.proofs.Common.{arith, cond, false, inl, inr, length, refl, subst, suc, sym, take, true, ℕ}
+use Rattle.std.proofs.{lemmas.Grind.common_steps, lemmas.List.get_or-take, lemmas.List.length-take-le}
+use Rattle.std.proofs.Common.{[], ◌*◌, ◌+◌, ◌/◌, ◌<◌, ◌^◌, ◌∙◌, ◌∷◌, ◌≡◌, ◌≢◌, Bool, List, None, Option, Some, ℕ, ap}
+use Rattle.std.proofs.Common.{arith, cond, false, inl, inr, length, refl, subst, suc, sym, take, true}
 use Rattle.std.proofs.lemmas.Bool.{cases_eq, eqb-true, or_cases}
-use Rattle.std.specs.Prelude.{⊤, ◌==◌, IsTrue, slice_index_or}
-use Rattle.std.{proofs.lemmas.List.get_or-take, proofs.lemmas.List.length-take-le, specs.List.list_any}
-use Rattle.nic_device.specs.RegTable.declared.rows.RowId.TheVariants.{Tdt, Tdwbal}
+use Rattle.std.specs.{List.list_any, Prelude.IsTrue, Prelude.slice_index_or, Prelude.⊤, Prelude.◌==◌}
+use Rattle.nic_device.proofs.{DmaArena.Inside.inside_avoids, DmaRing.Fields.halves_come_back}
 use Rattle.nic_device.specs.{DmaArena.Memory.LiesIn, DmaRing.Driver.posted, DmaRing.Ring.descriptor_address}
 use Rattle.nic_device.specs.{RegisterFile.Queue.ring_of}
-use Rattle.nic_device.proofs.{DmaArena.Inside.inside_avoids, DmaRing.Fields.halves_come_back}
-use Rattle.pmd.specs.PmdRx.Receive.{MovesNext, NamesNext, TakesNext, fresh_of, vacant}
-use Rattle.pmd.specs.PmdTx.Sending.{Segment, blocks_of, descriptor_at, no_segment, segment_at, slot_at}
+use Rattle.nic_device.specs.RegTable.declared.rows.RowId.TheVariants.{Tdt, Tdwbal}
 use Rattle.pmd.proofs.PmdSeam.Rings.{each_ring_block, slot_block, slot_lies}
-use Rattle.ring_laws.specs.{Agreeing.AgreesAt, DeviceLaws.Leaving.LeavesReceive, DeviceLaws.Leaving.LeavesTransmit}
-use Rattle.ring_laws.specs.{DeviceLaws.Replies.report_of, Joint.Holds, Steps.Each, Steps.IsOutside, Steps.Leaves}
-use Rattle.ring_laws.specs.{Steps.OwnReportsSpare}
-use Rattle.ring_laws.proofs.HistoryLaws.Blocks.{IsSparedBy, clear_outside, reported, spared_block}
-use Rattle.ring_laws.proofs.{Blocks.has_lent-ring, Blocks.has_lent-segment, Blocks.slot-below}
+use Rattle.pmd.specs.PmdRx.Receive.{fresh_of, vacant}
+use Rattle.pmd.specs.PmdTx.Sending.{Segment, blocks_of, descriptor_at, no_segment, segment_at, slot_at}
 use Rattle.ring_laws.proofs.{DeviceLaws.RepliesSent.transmitting_tells, DeviceLaws.StandingQueues.receiving_rest}
-use Rattle.ring_laws.proofs.{Fetching.head_is, Fetching.length-asking, Foreign.piece_inside, Kept.each_posted}
-use Rattle.ring_laws.proofs.{Kept.each_ring, Kept.slot_below, Parts.seen_within}
+use Rattle.ring_laws.proofs.{Fetching.head_is, Fetching.length-asking, Foreign.piece_inside, Parts.seen_within}
+use Rattle.ring_laws.proofs.Blocks.{has_lent-ring, has_lent-segment, slot-below}
+use Rattle.ring_laws.proofs.HistoryLaws.Blocks.{IsSparedBy, clear_outside, reported, spared_block}
+use Rattle.ring_laws.proofs.Kept.{each_posted, each_ring, slot_below}
+use Rattle.ring_laws.specs.{Agreeing.AgreesAt, DeviceLaws.Replies.report_of, Joint.Holds}
+use Rattle.ring_laws.specs.DeviceLaws.Leaving.{LeavesReceive, LeavesTransmit}
+use Rattle.ring_laws.specs.Steps.{Each, IsOutside, Leaves, OwnReportsSpare}
+use Rattle.driver_laws.proofs.Lending.{lend_leaves}
+use Rattle.driver_laws.proofs.Prelude.{IsOwn, Spares, Tdwbah, Wrote, block_at, memory_blocks, memory_rest, plain-write}
+use Rattle.driver_laws.proofs.Prelude.{reach, settings_stand, stays_within, word_of, write_memory, write_rest}
 use Rattle.driver_laws.specs.Prelude.{Accepts, Advances, Agree, Asks, Block, Blocks, Dir, Elsewhere, Event, IsEvent}
 use Rattle.driver_laws.specs.Prelude.{IsSound, LeavesBlock, Lends, Looks, Move, Piece, Rdt, Reaps, Receive, Register}
 use Rattle.driver_laws.specs.Prelude.{Reply, RowId, Rx, Sender, State, Tx, WritesNoSetting, WritesOutside, after}
 use Rattle.driver_laws.specs.Prelude.{has_bit, has_block, has_lent, is_ring_block, named, pieces, place, reply_to}
-use Rattle.driver_laws.proofs.Prelude.{IsOwn, Spares, Tdwbah, Wrote, block_at, is_setting, memory_blocks, memory_rest}
-use Rattle.driver_laws.proofs.Prelude.{plain-write, reach, settings_stand, stays_within, word_of, write_memory}
-use Rattle.driver_laws.proofs.Prelude.{write_rest}
-use Rattle.driver_laws.proofs.{Lending.lend_leaves, Words.each_side}
 use Rattle.std.specs.FinMap as map
 use Rattle.nic_device.specs.declared.event.Event.TheVariants as event
 use Rattle.pmd.specs.PmdRx.Keeping as received
@@ -51,19 +50,11 @@ Touches dir queue own s other = ⊥
 module _ (dir : Dir) (queue : ℕ) (own : Blocks) (s : State) where
   touch_leaves : (number : ℕ) → has_block s.memory number ≡ true → ((n : ℕ) → IsTrue (own n) → number ≢ n)
       → (e : Event Block) → Touches dir queue own s e → LeavesBlock number s (after s e)
-  touch_leaves number has away (event.Peek16 a) is = (stays_within s (event.Peek16 a)).blocks number refl
-  touch_leaves number has away (event.Take n) is = memory_blocks.take s n number (away n is)
-  touch_leaves number has away (event.Lend b) is = lend_leaves s b number has
-  touch_leaves number has away (event.Poke16 a bytes) (b, mine, lies) =
-      memory_blocks.poke s a bytes number (inside_avoids b number a (length bytes) lies (away b mine))
-  touch_leaves number has away (event.Write port n word) is = ap (λ m. map.get m number) (write_memory s port n word)
-  touch_leaves number has away e is = absurd is
+  touch_leaves number has away e is =
+      grind (arith, common_steps, stays_within, memory_blocks, lend_leaves, inside_avoids, write_memory)
 
   pub touch_setting : (e : Event Block) → Touches dir queue own s e → WritesNoSetting s e
-  touch_setting (event.Write port n word) is =
-      plain-write s port n word (place (tail_row dir) queue) 0xFFFFFFFF is
-      (each_side (λ d. is_setting (tail_row d) ≡ false) refl refl dir)
-  touch_setting e is = tt
+  touch_setting e is = grind (arith, common_steps, plain-write, place)
 
   pub touch_pieces : (e : Event Block) → Touches dir queue own s e → pieces queue s e ≡ []
   touch_pieces event.RxStep is = absurd is
@@ -97,11 +88,7 @@ module _ (queue : ℕ) (s : State) (out : List Piece) (v : Receive) (gone here :
 
   pub own_touches : (e : Event Block) → receiving.IsOwn v e → Touches Rx queue (received.has_lent v) s e
   own_touches (event.Peek16 a) own = tt
-  own_touches (event.Take n) own =
-      let some = own.some in
-      let seen = seen_within v.seen here h.order.seen in
-      let within = h.posted in
-      subst Lent (sym own.block) (each_posted v Lent (λ b is. is) 0 (omega (arith, some, seen, within)))
+  own_touches (event.Take n) own = grind (arith, common_steps, seen_within, each_posted)
   own_touches (event.Lend b) own = tt
   own_touches (event.Poke16 a bytes) own =
       let l = reach v in
@@ -125,9 +112,7 @@ module _ (queue : ℕ) (s : State) (out : List Piece) (v : Receive) (gone here :
         made = made;
         setting = touch_setting Rx queue (received.has_lent v) s e touches;
         side = λ other switch. touch_transmit queue (received.has_lent v) s e touches;
-        blocks = λ other number is.
-            touch_leaves Rx queue (received.has_lent v) s number (lent number is)
-            (λ n has same. apart number is n has (sym same)) e touches;
+        blocks = grind (arith, common_steps, touch_leaves);
       }
 
 -- a move of the transmit half
@@ -184,11 +169,7 @@ module _ (s : State) (queue : ℕ) (sent : List (List ℕ)) (u : Sender) (f : �
       )
   move_touches Advances (event.Write port n word) real own = rw (own.2, own.3) h.based.tail
   move_touches Looks (event.Peek16 a) real own = tt
-  move_touches Reaps (event.Take n) real own =
-      let c = h.counted in
-      let known : 0 < u.lent =
-      omega (arith, own.0, c.done_fetched, c.fetched_posted, c.posted_poked, c.poked_lent) in
-      subst Mine (sym own.1) (has_lent-segment u 0 c.lent_known known)
+  move_touches Reaps (event.Take n) real own = grind (arith, common_steps, has_lent-segment)
   move_touches Elsewhere e real own = cc
   move_touches m e real own = absurd own
 
@@ -234,8 +215,7 @@ module _ (queue : ℕ) (mine : Blocks) (s : State) (sound : IsSound s) (out : Li
     made = tt;
     setting = tt;
     side = λ other switch. (receiving_rest s).transmit queue;
-    blocks = λ other n is.
-        spared_block s n (told_outside n (lent n is) (apart n is) (reply_to s event.RxStep) refl outside);
+    blocks = grind (arith, common_steps, spared_block, told_outside);
   }
 
 none_written_back : (b : Bool) (x : ℕ) → ◌≡◌ {A = Option ℕ} (cond b (Some x) None) None → b ≡ false

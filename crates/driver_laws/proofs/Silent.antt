@@ -1,16 +1,15 @@
 -- On a queue whose sides are off nothing is received or sent, over events that leave it alone and calls of a stop.
-use Rattle.std.proofs.Common.{[], ◌++◌, ◌∙◌, ◌∷◌, ◌≡◌, List, None, Option, Some, ap, inr, option_map, refl, subst}
-use Rattle.std.proofs.Common.{sym, ℕ}
+use Rattle.std.proofs.Common.{[], ◌++◌, ◌∙◌, ◌∷◌, ◌≡◌, List, None, Option, Some, ℕ, ap, inr, option_map, refl, subst}
+use Rattle.std.proofs.Common.{sym}
 use Rattle.std.proofs.lemmas.List.{append-nil, append_cancel_left}
-use Rattle.ring_laws.specs.Delivered.{packets_if_any}
-use Rattle.ring_laws.proofs.HistoryLaws.Steady.{off_idle}
-use Rattle.driver_laws.specs.Prelude.{AtPort, Block, Blocks, Call, Entry, Event, IsEvent, Rx, State, Tx, Watched, after}
-use Rattle.driver_laws.specs.Prelude.{calls_of, is_on, leads_to, lent_by, pieces, pieces_since, sent_by, sent_since}
-use Rattle.driver_laws.specs.{Ending.Each, Silent.IsSilent, Silent.QuietQueueIsSilent, Standing.IsLeft}
+use Rattle.ring_laws.{proofs.HistoryLaws.Steady.off_idle, specs.Delivered.packets_if_any}
+use Rattle.driver_laws.proofs.{Parts.calls_joined, Reached.entry_is, Reached.reached_next, Reached.walk}
 use Rattle.driver_laws.proofs.Prelude.{IsAlong, IsEnding, IsMet, IsOff, IsQuiet, Piece, idle_silent, left_deed}
 use Rattle.driver_laws.proofs.Prelude.{no_block, not_again, packets_of, sent_is_counted, since-append}
 use Rattle.driver_laws.proofs.SwitchedOff.{ending_quiet, quiet_kept, step_left, watching}
-use Rattle.driver_laws.proofs.{Parts.calls_joined, Reached.entry_is, Reached.reached_next, Reached.walk}
+use Rattle.driver_laws.specs.{Ending.Each, Silent.IsSilent, Silent.QuietQueueIsSilent, Standing.IsLeft}
+use Rattle.driver_laws.specs.Prelude.{AtPort, Block, Blocks, Call, Entry, Event, IsEvent, Rx, State, Tx, Watched, after}
+use Rattle.driver_laws.specs.Prelude.{calls_of, is_on, leads_to, lent_by, pieces, pieces_since, sent_by, sent_since}
 use Rattle.nic_device.specs.declared.event.Event.TheVariants as event
 
 -- an event by which nothing is received or sent, and behind which the sides are off

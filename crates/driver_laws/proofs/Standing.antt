@@ -1,23 +1,20 @@
 -- Two sides that stand still are left so by every event that leaves the queue alone, and by a driver's accesses.
-use Rattle.std.proofs.Common.{[], ◌||◌, ◌∙◌, ◌≡◌, Bool, List, ap, false, inl, inr, refl, subst, sym, true, ℕ}
-use Rattle.std.proofs.lemmas.Bool.{cases_Bool, eqb-false, eqb-true, or_cases}
-use Rattle.std.specs.Prelude.{◌==◌, IsTrue}
-use Rattle.nic_device.specs.State.{Waiting}
-use Rattle.nic_device.proofs.DmaArena.Bus.{get-insert_other, get-insert_same}
+use Rattle.std.proofs.Common.{[], ◌||◌, ◌∙◌, ◌≡◌, Bool, List, ℕ, ap, arith, false, refl, subst, sym}
+use Rattle.std.proofs.lemmas.{Bool.eqb-false, Bool.eqb-true, Bool.or_cases, Grind.common_steps}
+use Rattle.std.specs.Prelude.{IsTrue}
+use Rattle.nic_device.{proofs.DmaArena.Bus.get-insert_other, proofs.DmaArena.Bus.get-insert_same, specs.State.Waiting}
 use Rattle.ring_laws.proofs.HistoryLaws.Lent.{not_so}
-use Rattle.driver_laws.specs.Prelude.{Blocks, Dir, Memory, Rdbal, RowId, Rx, Side, State, Tdbal, Tx, after, begun_on}
-use Rattle.driver_laws.specs.Prelude.{enable_row, has_bit, side_of, zero_block}
-use Rattle.driver_laws.specs.{Moves.LendStands, Moves.MayGoOn, Moves.ReadStands, Moves.WriteStands}
-use Rattle.driver_laws.specs.{Standing.StandingSidesAreLeft}
 use Rattle.driver_laws.proofs.Prelude.{IsIdle, IsZero, Outcome, Stand, Stands, across, and_one, begun_stays}
-use Rattle.driver_laws.proofs.Prelude.{idle_silent, idle_steady, left_deed, left_did, lent_cases}
-use Rattle.driver_laws.proofs.Prelude.{queues_left, read_rest, side_seen, side_with, steady_kept, step_of, told_on}
+use Rattle.driver_laws.proofs.Prelude.{idle_silent, idle_steady, left_deed, left_did, lent_cases, queues_left}
+use Rattle.driver_laws.proofs.Prelude.{read_rest, side_seen, side_with, steady_kept, step_of, told_on}
 use Rattle.driver_laws.proofs.Words.{driven, each_side, words_taken}
+use Rattle.driver_laws.specs.Moves.{LendStands, MayGoOn, ReadStands, WriteStands}
+use Rattle.driver_laws.specs.Prelude.{Blocks, Dir, Memory, RowId, Rx, Side, State, Tx, after, begun_on, enable_row}
+use Rattle.driver_laws.specs.Prelude.{side_of, zero_block}
+use Rattle.driver_laws.specs.Standing.{StandingSidesAreLeft}
 use Rattle.std.specs.FinMap as map
 use Rattle.nic_device.specs.declared.event.Event.TheVariants as event
 use Rattle.nic_device.specs.declared.event.Reply.TheVariants as reply
-use Rattle.std.proofs.Common.{arith}
-use Rattle.std.proofs.lemmas.Grind.{common_steps}
 
 -- a side that stands so is off, or its ring is empty
 stands_idle : (side : Side) → IsIdle (λ x. Stands x side)
@@ -49,17 +46,14 @@ standing_sides_are_left w mine rings s e sides left covers stand =
 pub with_beside : (dir : Dir) (row : RowId) (word : ℕ) (x : Side) (on : Bool) (staged : List ℕ)
     → side_with dir row word (record x { on = on; staged = staged })
     ≡ record (side_with dir row word x) { on = on; staged = staged }
-with_beside Rx Rdbal word x on staged = refl
-with_beside Tx Tdbal word x on staged = refl
-with_beside dir other word x on staged = refl
+with_beside dir row word x on staged = grind (arith, common_steps)
 
 on_same : (dir : Dir) (row : RowId) (word : ℕ) (x : Side) → (side_with dir row word x).on ≡ x.on
 on_same dir row word x = ap (λ (z : Side). z.on) (with_beside dir row word x x.on x.staged)
 
 -- a side that is off and as this one says is off there
 is_off : (x side : Side) → Stands x side → side.wanted ≡ false → x ≡ record side { on = false; staged = [] }
-is_off x side h none =
-    subst (λ (on : Bool). x ≡ record side { on = on; staged = [] }) (not_so x.on side.wanted h.wanted none) h.same
+is_off x side h none = grind (arith, common_steps, not_so)
 
 -- a side that is off stands
 stands_off : (x side : Side) → x ≡ record side { on = false; staged = [] } → side.on ≡ false → MayGoOn side
@@ -68,10 +62,7 @@ stands_off x side e none empty = grind (arith, common_steps)
 
 -- of both sides, by this one and the other
 both : (P : Dir → Type 0) (dir : Dir) → P dir → P (across dir) → (d : Dir) → P d
-both P Rx own other Rx = own
-both P Rx own other Tx = other
-both P Tx own other Rx = other
-both P Tx own other Tx = own
+both P dir own other d = grind (arith, common_steps)
 
 pub write_stands : (dir : Dir) → WriteStands dir
 write_stands dir queue s sides rings port n word row met stand unwanted fits goes names =
@@ -94,10 +85,6 @@ write_stands dir queue s sides rings port n word row met stand unwanted fits goe
 
 -- an enable word is read
 
-either_on : (seen on shown : Bool) → (seen ≡ true → on ≡ true) → shown ≡ on → (seen || shown) ≡ true → on ≡ true
-either_on true on shown known told is = known refl
-either_on false on shown known told is = sym told ∙ is
-
 seen_stands : (x side : Side) (shown : Bool) → Stands x side → shown ≡ x.on
     → Stands x (record side { on = side.on || shown })
 seen_stands x side shown h told = grind (arith, common_steps)
@@ -114,10 +101,7 @@ pub read_stands : (dir : Dir) → ReadStands dir
 read_stands dir queue s sides rings port n word stand names told =
     let rest = read_rest s port n in
     record {
-      side = λ d.
-          subst (λ (z : Side). Stands z (side_seen d (enable_row dir) (has_bit 25 word) (sides d)))
-          (sym (queues_left queue s _ d rest.queues))
-          (seen_side dir d queue s sides (has_bit 25 word) stand.side (told_on queue s port n word told dir names));
+      side = grind (arith, common_steps, queues_left, seen_side, told_on);
       begun = ap (λ (ws : List Waiting). begun_on queue ws) rest.frames.waiting ∙ stand.begun;
       zero = λ b is. ap (λ (m : Memory). map.get m b) rest.memory ∙ stand.zero b is;
     }
@@ -126,24 +110,12 @@ read_stands dir queue s sides rings port n word stand names told =
 
 zero_in : (m : Memory) (ring b : ℕ) (rings : Blocks) → ((c : ℕ) → IsTrue (rings c) → IsZero m c)
     → IsTrue (and_one ring rings b) → IsZero (map.insert m ring (zero_block ring).bytes) b
-zero_in m ring b rings zero is = elim (cases_Bool (b == ring)) [
-  | inl own ↦
-      subst (λ c. IsZero (map.insert m ring (zero_block ring).bytes) c) (sym (eqb-true b ring own))
-      (get-insert_same m ring (zero_block ring).bytes)
-  | inr other ↦ elim (or_cases (b == ring) (rings b) is) [
-    | inl own ↦ absurd (eqb-false b ring other (eqb-true b ring own))
-    | inr old ↦
-        get-insert_other m ring (zero_block ring).bytes b (λ e. eqb-false b ring other e) ∙ zero b old
-  ]
-]
+zero_in m ring b rings zero is =
+    grind (arith, common_steps, eqb-true, get-insert_same, or_cases, eqb-false, get-insert_other)
 
 pub lend_stands : LendStands
 unfolding step_of
 lend_stands queue s sides rings ring stand =
     lent_cases (λ (o : Outcome). o.reply ≡ reply.Done → Stand queue sides (and_one ring rings) o.state) s
     (zero_block ring) (λ e. cc)
-    (λ e. record {
-      side = each_side _ (stand.side Rx) (stand.side Tx);
-      begun = stand.begun;
-      zero = λ b is. zero_in s.memory ring b rings stand.zero is;
-    })
+    (grind (arith, common_steps, each_side, zero_in))

@@ -1,31 +1,34 @@
 -- Calls of a kind, one after the other and with steps of the device beside them: those of a driver's accesses, made or
 -- failed, those that lend its blocks, and those of its stop; and which blocks a pass lends by them.
-use Rattle.std.proofs.Common.{[], ◌++◌, ◌+◌, ◌-◌, ◌<◌, ◌∙◌, ◌∷◌, ◌≡◌, ◌≢◌, Bool, List, ap, append_assoc, arith, false}
-use Rattle.std.proofs.Common.{inl, inr, refl, subst, suc, sym, true, zero, ℕ}
-use Rattle.std.proofs.lemmas.Bool.{eq-eqb, or_left, or_right}
-use Rattle.std.specs.Prelude.{⊤, ◌==◌, IsFalse}
-use Rattle.std.{proofs.lemmas.List.append-nil, specs.List.range_with_len}
+use Rattle.std.proofs.Common.{[], ◌++◌, ◌+◌, ◌-◌, ◌<◌, ◌∙◌, ◌∷◌, ◌≡◌, ◌≢◌, Bool, List, ℕ, ap, append_assoc, arith}
+use Rattle.std.proofs.Common.{false, inl, inr, refl, subst, suc, sym, true, zero}
+use Rattle.std.proofs.lemmas.{Bool.eq-eqb, Bool.or_left, Bool.or_right, Grind.common_steps, List.append-nil}
+use Rattle.std.specs.List.{range_with_len}
+use Rattle.std.specs.Prelude.{◌==◌, IsFalse, ⊤}
 use Rattle.device_lock.specs.Alone.{lends}
-use Rattle.pmd.specs.{PmdSeam.Home.Bringing, PmdSeam.Home.BringsOne, PmdSeam.Made.Adds, PmdSeam.Made.AddsSome}
-use Rattle.pmd.specs.{PmdSeam.QueueMade.FailsBy}
+use Rattle.pmd.specs.PmdSeam.{Home.Bringing, Home.BringsOne, Made.Adds, Made.AddsSome, QueueMade.FailsBy}
 use Rattle.ring_laws.proofs.HistoryLaws.Alone.{lent_behind}
-use Rattle.driver_laws.specs.Ending.{Each, IsAsking}
-use Rattle.driver_laws.specs.Prelude.{Access, AreMade, AreSteps, AtPort, Block, Blocks, Call, DeviceFault, Dir}
-use Rattle.driver_laws.specs.Prelude.{EachRingBlock, Entry, Event, IsEvent, IsMade, IsNumberOf, IsPrepared}
-use Rattle.driver_laws.specs.Prelude.{IsReceiveReady, IsSwitched, LendsEach, Numbers, PmdFault, Port, Receive, Reply}
-use Rattle.driver_laws.specs.Prelude.{RowId, Rx, Sees, Sets, StartTimeout, State, SwitchFails, Tx, Watched, blocks_for}
-use Rattle.driver_laws.specs.Prelude.{both_asked, both_quiet, call_in, call_of, enable_row, has_bit, is_step, lent_by}
-use Rattle.driver_laws.specs.Prelude.{missed, polled, receive_polled, ring_blocks, ring_words, zero_block}
-use Rattle.driver_laws.specs.Stopping.{Asks, BringingEnds, SwitchedOffAsks, UnswitchedAsks}
+use Rattle.driver_laws.proofs.{Parts.around, Parts.more_some, Reached.entry_is, Reached.steps_are}
+use Rattle.driver_laws.proofs.Ground.{IsDriven, words_are_writes, writes_driven}
+use Rattle.driver_laws.proofs.Made.{all_before, all_both, all_missed, all_polled}
 use Rattle.driver_laws.proofs.Prelude.{AllAre, AreMadeOf, AtEntries, Ends, IsAlong, IsEnding, IsOtherwise, IsPlain}
 use Rattle.driver_laws.proofs.Prelude.{IsStrayRead, PollsEnd, StopsBy, and_one}
-use Rattle.driver_laws.proofs.{Ground.IsDriven, Ground.words_are_writes, Ground.writes_driven, Made.all_before}
-use Rattle.driver_laws.proofs.{Made.all_both, Made.all_missed, Made.all_polled, Parts.around, Parts.more_some}
-use Rattle.driver_laws.proofs.{Reached.entry_is}
+use Rattle.driver_laws.specs.Ending.{Each, IsAsking}
+use Rattle.driver_laws.specs.Prelude.{Access, AreMade, AtPort, Block, Blocks, Call, DeviceFault, Dir, EachRingBlock}
+use Rattle.driver_laws.specs.Prelude.{Entry, Event, IsEvent, IsMade, IsNumberOf, IsPrepared, IsReceiveReady, IsSwitched}
+use Rattle.driver_laws.specs.Prelude.{LendsEach, Numbers, PmdFault, Port, Receive, Reply, RowId, Rx, Sees, Sets}
+use Rattle.driver_laws.specs.Prelude.{StartTimeout, State, SwitchFails, Tx, Watched, blocks_for, both_asked, both_quiet}
+use Rattle.driver_laws.specs.Prelude.{call_in, call_of, enable_row, has_bit, is_step, lent_by, missed, polled}
+use Rattle.driver_laws.specs.Prelude.{receive_polled, ring_blocks, ring_words, zero_block}
+use Rattle.driver_laws.specs.Stopping.{Asks, BringingEnds, SwitchedOffAsks, UnswitchedAsks}
 use Rattle.nic_device.specs.declared.event.Event.TheVariants as event
 use Rattle.nic_device.specs.declared.event.Reply.TheVariants as reply
 use Rattle.pmd.specs.PmdSeam.declared.fault.PmdFault.TheVariants as fault
-use Rattle.std.proofs.lemmas.Grind.{common_steps}
+
+pub each_such : (P Q : Event Block → Type 0) → ((e : Event Block) → P e → Q e) → (cs : List Call)
+    → Each (λ c. P c.event) cs → Each (λ c. Q c.event) cs
+each_such P Q such [] are = tt
+each_such P Q such (c ∷ cs) are = (such c.event are.0, each_such P Q such cs are.1)
 
 module _ (P : Event Block → Type 0) where
   -- calls in parts
@@ -46,17 +49,12 @@ module _ (P : Event Block → Type 0) where
 
   -- where steps of the device are such
   module _ (stepping : (e : Event Block) → is_step e ≡ true → P e) where
-    steps_are : (cs : List Call) → AreSteps cs → Each (λ c. P c.event) cs
-    steps_are [] are = tt
-    steps_are (c ∷ cs) are = (stepping c.event are.0, steps_are cs are.1)
-
     pub adds_made : (old new : List Call) (e : Event Block) (r : Reply Block) → Adds old new e r → P e
         → AreMadeOf P old new
-    adds_made old new e r (before, is, steps) own =
-        (before ++ call_of e r ∷ [], is, each_both before (call_of e r ∷ []) (steps_are before steps) (own, tt))
+    adds_made old new e r (before, is, steps) own = grind (arith, common_steps, each_both, steps_are)
 
     pub some_made : (old new : List Call) → AddsSome old new → AreMadeOf P old new
-    some_made old new (before, is, steps) = (before, is, steps_are before steps)
+    some_made old new (before, is, steps) = (before, is, steps_are P stepping before steps)
 
     -- the blocks of a list are lent
     pub lends_are : ((n : ℕ) → P (event.Lend (zero_block n))) → (ns : List ℕ) (old new : List Call)
@@ -98,15 +96,12 @@ module _ (q : AtPort) (P : Event Block → Type 0) (K : Access → Type 0)
       adds_made P steps old new _ _ adds (writes row word number own named)
 
   fails_is : (f : PmdFault) (a : Access) (old new : List Call) → K a → FailsBy f q old new a → Are old new
-  fails_is DeviceFault a old new own x = otherwise_is a old new own x
-  fails_is (fault.Call refused) a old new own x = some_made P steps old new x
-  fails_is other a old new own x = absurd x
+  fails_is f a old new own x = grind (arith, common_steps, otherwise_is, some_made)
 
   pub stops_are : (f : PmdFault) (all : List Access) (old new : List Call) → AllAre K all → StopsBy f q old new all
       → Are old new
   stops_are f all old new own (done, a, rest, mid, is, made, fails) =
-      let parts = all_before K done a rest (subst (AllAre K) is own) in
-      then_made P old mid new (accesses_are done old mid parts.0 made) (fails_is f a mid new parts.1 fails)
+      grind (arith, common_steps, all_before, then_made, accesses_are, fails_is)
 
   -- both sides are asked and polled
   module _ (on : Bool) (sees : (side : Dir) (seen : Bool) → K (Sees (enable_row side) seen))
@@ -160,9 +155,7 @@ lends_plain q = lends_are (IsPlain q) (step_plain q) (λ n. tt)
 -- a step of the device asks, and calls that ask are those of a stop
 module _ (q : AtPort) where
   step_asks : (e : Event Block) → is_step e ≡ true → IsAsking q e
-  step_asks (event.Read port number) is = tt
-  step_asks (event.Write port number word) is = cc
-  step_asks e is = is
+  step_asks e is = grind (arith, common_steps)
 
   asking_ends : (e : Event Block) → IsAsking q e → IsEnding q e
   asking_ends (event.Take number) asks = tt
@@ -171,12 +164,8 @@ module _ (q : AtPort) where
   pub step_ends : (e : Event Block) → is_step e ≡ true → IsEnding q e
   step_ends e is = asking_ends e (step_asks e is)
 
-  each_ends : (cs : List Call) → Each (λ c. IsAsking q c.event) cs → Each (λ c. IsEnding q c.event) cs
-  each_ends [] are = tt
-  each_ends (c ∷ cs) are = (asking_ends c.event are.0, each_ends cs are.1)
-
   pub asks_end : (old new : List Call) → Asks q old new → Ends q old new
-  asks_end old new (cs, is, are) = (cs, is, each_ends cs are)
+  asks_end old new (cs, is, are) = (cs, is, each_such (IsAsking q) (IsEnding q) asking_ends cs are)
 
 -- accesses that ask
 
@@ -246,8 +235,7 @@ lent_along {w = w} {h = h} number calls along has done rest all is =
     (entry_is along x.before (x.behind ++ rest) x.entry whole).made in
     record {
       low = there.low;
-      mine = subst (λ (l : List Entry). lent_by w.pass l number ≡ true) whole
-          (lent_behind w.pass number x.before (x.entry ∷ (x.behind ++ rest)) there.mine);
+      mine = grind (arith, common_steps, lent_behind);
     }
 
 -- where a ring was prepared some calls were made, and each of its blocks was lent by one of them
@@ -265,8 +253,7 @@ run_has (suc many) first zero old new (mid, lent, rest) below =
       all = lent.1 ∙ sym (append_assoc old lent.0 (lending first ∷ []));
     }))
 run_has (suc many) first (suc k) old new (mid, lent, rest) below =
-    let at : first + 1 + k ≡ first + suc k = omega arith in
-    subst (λ (n : ℕ). Has (lending n) new) at (run_has many (first + 1) k mid new rest (omega (arith, below)))
+    grind (arith, common_steps, lending, run_has many (first + 1) k mid new rest (omega (arith, below)))
 
 module _ {q : AtPort} {side : Dir} {size : ℕ} {old : List Call} {a : Numbers} {new : List Call} {b : Numbers} {ring : ℕ}
     (x : IsPrepared q side size old a new b ring) where
@@ -300,14 +287,9 @@ stays_in (n ∷ ns) rings k is = stays_in ns (and_one n rings) k (or_right (k ==
 
 run_in : (many first k : ℕ) (rings : Blocks) → k < many → and_all (range_with_len first many) rings (first + k) ≡ true
 run_in zero first k rings below = absurd (omega (arith, below))
-run_in (suc many) first zero rings below =
-    let at : first + 0 ≡ first = omega arith in
-    stays_in (range_with_len (first + 1) many) (and_one first rings) (first + 0)
-    (or_left (first + 0 == first) _ (eq-eqb (first + 0) first at))
+run_in (suc many) first zero rings below = grind (arith, common_steps, stays_in, or_left, eq-eqb)
 run_in (suc many) first (suc k) rings below =
-    let at : first + suc k ≡ first + 1 + k = omega arith in
-    subst (λ (n : ℕ). and_all (range_with_len (first + 1) many) (and_one first rings) n ≡ true) (sym at)
-    (run_in many (first + 1) k (and_one first rings) (omega (arith, below)))
+    grind (arith, common_steps, run_in many (first + 1) k (and_one first rings) (omega (arith, below)))
 
 -- each block of a ring is one of these
 pub ring_in : (ring size : ℕ) (rings : Blocks)

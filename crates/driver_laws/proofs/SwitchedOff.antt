@@ -1,30 +1,27 @@
 -- The sides of a queue while its driver stops or starts: one that is on, or isn't wanted on, doesn't go on; and both
 -- are asked off and seen off, and stay so.
-use Rattle.std.proofs.Common.{[], ◌&&◌, ◌++◌, ◌∙◌, ◌∷◌, ◌≡◌, ◌≢◌, Bool, List, Some, ap, false, inl, inr, not, refl}
-use Rattle.std.proofs.Common.{subst, sym, true, ℕ}
-use Rattle.std.{specs.Prelude.IsFalse}
-use Rattle.nic_device.specs.declared.event.Reply.TheVariants.{Advanced, Sent}
-use Rattle.ring_laws.specs.HistoryLaws.Sides.{IsUnwanted}
+use Rattle.std.{proofs.lemmas.Grind.common_steps, specs.Prelude.IsFalse}
+use Rattle.std.proofs.Common.{[], ◌&&◌, ◌++◌, ◌∙◌, ◌∷◌, ◌≡◌, ◌≢◌, Bool, List, ℕ, ap, arith, false, inl, inr, not, refl}
+use Rattle.std.proofs.Common.{subst, sym, true}
 use Rattle.ring_laws.proofs.HistoryLaws.Steady.{IsSteady, deed_settles, off_steady, seen_off, unwanted_steady}
-use Rattle.driver_laws.specs.Prelude.{Access, AreMade, AtPort, Block, Blocks, Call, Dir, Entry, Event, IsEvent, IsMade}
-use Rattle.driver_laws.specs.Prelude.{IsNumberOf, LeavesBlocks, LeavesRegisters, Reply, Rx, Rxdctl, Sees, Sets, Side}
-use Rattle.driver_laws.specs.Prelude.{State, Tx, Txdctl, Watched, after, enable_row, has_bit, is_step, leads_to}
-use Rattle.driver_laws.specs.Prelude.{lent_by, missed, mode_in, polled, quiet, receive_polled, reply_to, side_of}
-use Rattle.driver_laws.specs.{Quiet.OffSidesStand, Quiet.ReceiveGuardIsOff, Quieting.QuietSidesStand}
-use Rattle.driver_laws.specs.{Quieting.QuietingLeads, Silent.SwitchingOffLeads, Standing.IsLeft}
+use Rattle.ring_laws.specs.HistoryLaws.Sides.{IsUnwanted}
 use Rattle.driver_laws.proofs.Ground.{ground_kept, ground_names, plain_keeps, read_ground, write_ground}
 use Rattle.driver_laws.proofs.Made.{access_leads, all_missed, all_polled, first_seen, made_some}
 use Rattle.driver_laws.proofs.Prelude.{AllAre, AtCalls, Deed, Ends, HasGround, IsAlong, IsEnding, IsKept, IsMet, IsOff}
-use Rattle.driver_laws.proofs.Prelude.{IsPlain, IsQuiet, NamesRow, Stands, WritesOutside, Wrote, asked, left_deed}
-use Rattle.driver_laws.proofs.Prelude.{memory_rest, no_block, no_registers, none_begun_while_off, queues_left}
-use Rattle.driver_laws.proofs.Prelude.{read_rest, steady_kept}
+use Rattle.driver_laws.proofs.Prelude.{IsPlain, IsQuiet, NamesRow, Stands, WritesOutside, asked, left_deed, memory_rest}
+use Rattle.driver_laws.proofs.Prelude.{no_block, no_registers, none_begun_while_off, queues_left, read_rest}
+use Rattle.driver_laws.proofs.Prelude.{steady_kept}
+use Rattle.driver_laws.proofs.Reached.{free_left, made_keep, sound_at}
 use Rattle.driver_laws.proofs.StopCalls.{MayAsk, accesses_are, may_asks, none_made, stays_some, step_ends, then_made}
-use Rattle.driver_laws.proofs.{Reached.free_left, Reached.made_keep, Reached.sound_at, Words.each_side}
-use Rattle.driver_laws.proofs.{Words.side_driven}
+use Rattle.driver_laws.proofs.Words.{each_side, side_driven}
+use Rattle.driver_laws.specs.{Quiet.OffSidesStand, Quiet.ReceiveGuardIsOff, Silent.SwitchingOffLeads, Standing.IsLeft}
+use Rattle.driver_laws.specs.Prelude.{Access, AreMade, AtPort, Block, Blocks, Call, Dir, Entry, Event, IsEvent, IsMade}
+use Rattle.driver_laws.specs.Prelude.{IsNumberOf, LeavesBlocks, LeavesRegisters, Reply, Rx, Rxdctl, Sees, Sets, Side}
+use Rattle.driver_laws.specs.Prelude.{State, Tx, Txdctl, Watched, after, enable_row, has_bit, is_step, leads_to}
+use Rattle.driver_laws.specs.Prelude.{lent_by, missed, mode_in, polled, quiet, receive_polled, side_of}
+use Rattle.driver_laws.specs.Quieting.{QuietSidesStand, QuietingLeads}
 use Rattle.nic_device.specs.declared.event.Event.TheVariants as event
 use Rattle.ring_laws.proofs.HistoryLaws.Steady as steady
-use Rattle.std.proofs.Common.{arith}
-use Rattle.std.proofs.lemmas.Grind.{common_steps}
 
 abbrev pub IsSettled : Dir → ℕ → State → Type 0
 IsSettled dir queue s = steady.IsSettled (side_of dir queue s)
@@ -37,22 +34,10 @@ pub left_settles : (dir : Dir) (w : Watched) (mine : Blocks) (s : State) (e : Ev
     → IsSettled dir w.queue s → Settles dir w.queue s (after s e)
 left_settles dir w mine s e x is = deed_settles dir w.queue s e (left_deed dir w mine s e x) is
 
--- so it is where a side is asked not to be on
-pub word_settles : (dir : Dir) (queue : ℕ) (q : AtPort) (frame : ℕ) (s : State) (number word : ℕ) → IsMet queue s
-    → IsFalse (has_bit 25 word) → HasGround queue q frame s → (side : Dir)
-    → IsNumberOf q.port (enable_row side) q.queue number → IsSettled dir queue s
-    → Settles dir queue s (after s (event.Write q.port number word))
-word_settles dir queue q frame s number word met none g side named is =
-    steady.word_settles queue s met.sound met.small q.port number word side dir
-    (ground_names queue q frame s g (enable_row side) number (side_driven side) named) none is
-
 -- a step of the device leaves each queue alone
 
 pub outside_none : (queue : ℕ) (r : Reply Block) → WritesOutside queue no_block r
-outside_none queue (Wrote on slot end desc at len) = λ other. (λ a low high. refl, λ a low high. refl)
-outside_none queue (Advanced on slot (Some back)) = λ other. refl
-outside_none queue (Sent on len (Some back)) = λ other. refl
-outside_none queue other = tt
+outside_none queue r = grind (arith, common_steps)
 
 abbrev pub watching : ℕ → State → Watched
 watching queue s = record { vfs = s.vfs; pass = 0; queue = queue }
@@ -61,13 +46,11 @@ watching queue s = record { vfs = s.vfs; pass = 0; queue = queue }
 pub alone_left : (queue : ℕ) (s : State) (e : Event Block) → IsMet queue s → IsEvent e
     → LeavesRegisters (watching queue s) (mode_in s.registers) e × LeavesBlocks no_block e
     → IsLeft (watching queue s) no_block s e
-alone_left queue s e met made free =
-    free_left (watching queue s) no_block s e met made refl (outside_none queue (reply_to s e)) free
+alone_left queue s e met made free = grind (arith, common_steps, free_left, no_block, outside_none)
 
 pub step_left : (queue : ℕ) (s : State) (e : Event Block) → IsMet queue s → IsEvent e → is_step e ≡ true
     → IsLeft (watching queue s) no_block s e
-step_left queue s e met made is =
-    alone_left queue s e met made (no_registers (watching queue s) (mode_in s.registers) no_block e is)
+step_left queue s e met made is = grind (arith, common_steps, alone_left, no_registers, no_block)
 
 -- what an event of a stop does to a side: it leaves it or asks it not to be on; or the device does what it does
 module _ (dir : Dir) (P : Side → Type 0) (R : Side → Side → Type 0) (same : (x y : Side) → y ≡ x → P x → R x y)
@@ -90,27 +73,15 @@ module _ (dir : Dir) (P : Side → Type 0) (R : Side → Side → Type 0) (same 
       ]
 
   pub ending_does : (e : Event Block) → IsEvent e → IsEnding q e → Does e
-  ending_does (event.Write port number word) made (side, is, none, named) =
-      subst (λ p. Does (event.Write p number word)) (sym is) (write_does number word none side named)
-  ending_does (event.Read port number) made ends =
-      same _ _ (queues_left queue s _ dir (read_rest s port number).queues) p
+  ending_does (event.Write port number word) made (side, is, none, named) = grind (arith, common_steps, write_does)
+  ending_does (event.Read port number) made ends = grind (arith, common_steps, queues_left, read_rest)
   ending_does (event.Take number) made ends = same _ _ (queues_left queue s _ dir (memory_rest.take s number).queues) p
   ending_does e made ends =
       deed queue s e (left_deed dir (watching queue s) no_block s e (step_left queue s e met made ends)) p
 
--- it keeps the receive side settled
-pub ending_settles : (queue : ℕ) (q : AtPort) (frame : ℕ) (s : State) (e : Event Block) → IsMet queue s → IsEvent e
-    → IsEnding q e → HasGround queue q frame s → IsSettled Rx queue s → Settles Rx queue s (after s e)
-ending_settles queue q frame s e met made ends g is =
-    ending_does Rx steady.IsSettled steady.Settles steady.same_settles
-    (λ x y wanted same none p. steady.asked_settles x y wanted same none)
-    (λ queue s e did is. deed_settles Rx queue s e did is) queue q frame s met g is e made ends
-
 -- what a stop's event writes is a register of the queue
 pub ending_plain : (q : AtPort) (e : Event Block) → IsEnding q e → IsPlain q e
-ending_plain q (event.Write port number word) (side, same, none, named) =
-    (enable_row side, same, side_driven side, named)
-ending_plain q e ending = tt
+ending_plain q e ending = grind (arith, common_steps)
 
 -- what stays of a side whatever the device does to it, and where it is asked not to be on
 record IsShutting (P : Side → Type 0) : Type 0 where
@@ -239,8 +210,7 @@ quieting_leads w q frame origin h old new along (m1, a1, (m2, a2, (m3, a3, (m4, 
 both_parts : (q : AtPort) (xs ys : List Access) (old new : List Call) → AreMade q old new (xs ++ ys)
     → (mid : List Call) × AreMade q old mid xs × AreMade q mid new ys
 both_parts q [] ys old new made = (old, refl, made)
-both_parts q (x ∷ xs) ys old new (next, here, more) =
-    let (mid, first, then) = both_parts q xs ys next new more in (mid, (next, here, first), then)
+both_parts q (x ∷ xs) ys old new (next, here, more) = grind (arith, common_steps, both_parts q xs ys next new more)
 
 pub switching_off_leads : SwitchingOffLeads
 switching_off_leads w q frame origin h old new along (first, second, few, made) some at =

@@ -1,20 +1,16 @@
 -- The words of both rings are written where neither side is wanted on, and both are asked on and polled until they are:
 -- the fresh sides that that leads to, where device and driver agree.
-use Rattle.std.proofs.Common.{[], ◌%◌, ◌*◌, ◌++◌, ◌+◌, ◌/◌, ◌<◌, ◌^◌, ◌∙◌, ◌∷◌, ◌≡◌, ◌≤◌, Bool, List, None, ap, arith}
-use Rattle.std.proofs.Common.{false, inl, refl, replicate, suc, true, zero, ℕ}
-use Rattle.std.proofs.lemmas.Bool.{or_right}
-use Rattle.std.{proofs.Math.Bool.or-false}
+use Rattle.std.proofs.Common.{[], ◌%◌, ◌*◌, ◌++◌, ◌+◌, ◌/◌, ◌<◌, ◌^◌, ◌∙◌, ◌∷◌, ◌≡◌, ◌≤◌, Bool, List, ℕ, ap, arith}
+use Rattle.std.proofs.Common.{false, inl, refl, replicate, suc, true, zero}
+use Rattle.std.proofs.lemmas.{Bool.or_right, Grind.common_steps}
 use Rattle.ring_laws.proofs.{Kept.first_place, Leaving.start_agrees}
-use Rattle.driver_laws.specs.Moves.{FreshReceiveAgrees, FreshTransmitAgrees, fresh_ring, fresh_side}
-use Rattle.driver_laws.specs.Points.{MayWrite}
-use Rattle.driver_laws.specs.Prelude.{Access, Dir, Memory, Rdbah, Rdbal, Rdh, Rdlen, Rdt, Ring, RowId, Rx, Rxdctl, Sees}
-use Rattle.driver_laws.specs.Prelude.{Sets, Side, Srrctl, Tdbah, Tdbal, Tdh, Tdlen, Tdt, Tdwbal, Tx, Txdctl, enable_row}
-use Rattle.driver_laws.specs.Prelude.{has_block, is_empty, is_frame, missed, packet_limit, polled, receive_polled}
-use Rattle.driver_laws.specs.Prelude.{ring_words}
-use Rattle.driver_laws.proofs.Points.{laid_with}
+use Rattle.driver_laws.{proofs.Points.laid_with, specs.Points.MayWrite}
 use Rattle.driver_laws.proofs.Prelude.{AllMay, Fits, IsEnable, IsSized, IsZero, Sides, after_access, after_accesses}
 use Rattle.driver_laws.proofs.Prelude.{seen_by, side_seen, side_with}
-use Rattle.std.proofs.lemmas.Grind.{common_steps}
+use Rattle.driver_laws.specs.Moves.{FreshReceiveAgrees, FreshTransmitAgrees, fresh_ring, fresh_side}
+use Rattle.driver_laws.specs.Prelude.{Access, Dir, Memory, Ring, RowId, Rx, Rxdctl, Sees, Sets, Side, Tx, Txdctl}
+use Rattle.driver_laws.specs.Prelude.{enable_row, has_block, is_empty, is_frame, missed, packet_limit, polled}
+use Rattle.driver_laws.specs.Prelude.{receive_polled, ring_words}
 
 -- the sides after the words of both rings were written and their blocks lent
 abbrev pub laid : (ring size other : ℕ) → Sides → Sides
@@ -40,22 +36,7 @@ module _ (ring size : ℕ) (is : IsSized ring size) (even : 16 * size % 128 ≡ 
   length_low = let few = is.few in omega (arith, few)
 
   pub may_lay : (dir : Dir) → (p.side dir).wanted ≡ false → AllMay (ring_words dir ring size) p
-  may_lay Rx off =
-      let low = still Rx Rdbal _ _ off (base_even ring, base_low) off in
-      let high = still Rx Rdbah _ _ off (omega arith) off in
-      let length = still Rx Rdlen _ _ off (even, length_low) off in
-      let control = still Rx Srrctl _ _ off (omega arith) off in
-      let head = still Rx Rdh _ _ off (omega arith) off in
-      let tail = still Rx Rdt _ _ off (omega arith) off in
-      ((Rx, low), ((Rx, high), ((Rx, length), ((Rx, control), ((Rx, head), ((Rx, tail), tt))))))
-  may_lay Tx off =
-      let low = still Tx Tdbal _ _ off (base_even ring, base_low) off in
-      let high = still Tx Tdbah _ _ off (omega arith) off in
-      let length = still Tx Tdlen _ _ off (even, length_low) off in
-      let back = still Tx Tdwbal _ _ off refl off in
-      let head = still Tx Tdh _ _ off (omega arith) off in
-      let tail = still Tx Tdt _ _ off (omega arith) off in
-      ((Tx, low), ((Tx, high), ((Tx, length), ((Tx, back), ((Tx, head), ((Tx, tail), tt))))))
+  may_lay dir off = grind (arith, common_steps, still, base_even, base_low, length_low)
 
 -- accesses in order
 
@@ -74,16 +55,11 @@ may_miss row on is zero p = tt
 may_miss row on is (suc n) p = (is, may_miss row on is n (seen_by row on p))
 
 not_seen : (dir d : Dir) (x : Side) → side_seen d (enable_row dir) false x ≡ x
-not_seen Rx Rx x = λ k. record x { on = or-false x.on k }
-not_seen Tx Tx x = λ k. record x { on = or-false x.on k }
-not_seen Rx Tx x = refl
-not_seen Tx Rx x = refl
+not_seen dir d x = grind (arith, common_steps)
 
 missed_same : (dir : Dir) (n : ℕ) (p : Sides) → after_accesses (missed dir true n) p ≡ p
 missed_same dir zero p = refl
-missed_same dir (suc n) p =
-    missed_same dir n (seen_by (enable_row dir) false p)
-    ∙ (λ k. record p { side = λ d. not_seen dir d (p.side d) k })
+missed_same dir (suc n) p = grind (arith, common_steps, not_seen, missed_same dir n (seen_by (enable_row dir) false p))
 
 -- the ring of each side
 abbrev ring_at : Dir → (ring other : ℕ) → ℕ
@@ -113,24 +89,13 @@ module _ (ring size other : ℕ) (one : IsSized ring size) (two : IsSized other 
 
   polls_may : (polls more : ℕ)
       → AllMay ((missed Rx true polls ++ Sees Rxdctl true ∷ []) ++ polled Tx true more) asked_on
-  polls_may polls more =
-      may_append (missed Rx true polls ++ Sees Rxdctl true ∷ []) (polled Tx true more) asked_on
-      (may_append (missed Rx true polls) (Sees Rxdctl true ∷ []) asked_on (may_miss Rxdctl false tt polls asked_on)
-      (tt, tt))
-      (may_append (missed Tx true more) (Sees Txdctl true ∷ []) _ (may_miss Txdctl false tt more _) (tt, tt))
+  polls_may polls more = grind (arith, common_steps, may_append, missed, may_miss)
 
   goes : (dir : Dir) → is_empty (asked_on.side dir).ring ≡ true
-  goes Rx = empty_ring (asked_on.side Rx).ring size one.some refl refl refl
-  goes Tx = empty_ring (asked_on.side Tx).ring size one.some refl refl refl
+  goes dir = grind (arith, common_steps, empty_ring)
 
   pub may_switch : (polls more : ℕ) → AllMay (switching polls more) (laid ring size other p)
-  may_switch polls more = (
-    (Rx, record { unwanted = receive_off; fits = omega arith; goes = λ on. goes Rx }),
-    (
-      (Tx, record { unwanted = transmit_off; fits = omega arith; goes = λ on. goes Tx }),
-      polls_may polls more,
-    ),
-  )
+  may_switch polls more = grind (arith, common_steps, goes, polls_may)
 
   -- and end up fresh
   base_is : (old n : ℕ) → n < 65536 → 0 * 2 ^ 32 + (old / 2 ^ 32 * 2 ^ 32 + 2048 * n) % 2 ^ 32 ≡ 2048 * n
@@ -138,18 +103,7 @@ module _ (ring size other : ℕ) (one : IsSized ring size) (two : IsSized other 
 
   sides_on : (dir : Dir)
       → (seen_by Txdctl true (seen_by Rxdctl true asked_on)).side dir ≡ (came_up ring size other p).side dir
-  sides_on Rx = λ k. record (p.side Rx) {
-    ring = record (fresh_ring ring size) { base = base_is (p.side Rx).ring.base ring (first_low ring size one) k };
-    control = 0x2000002;
-    on = or_right (p.side Rx).on true refl k;
-    wanted = true;
-  }
-  sides_on Tx = λ k. record (p.side Tx) {
-    ring = record (fresh_ring other size) { base = base_is (p.side Tx).ring.base other (first_low other size two) k };
-    writeback = None;
-    on = or_right (p.side Tx).on true refl k;
-    wanted = true;
-  }
+  sides_on dir = grind (arith, common_steps, fresh_ring, base_is, first_low, or_right)
 
   polls_end : (polls more : ℕ)
       → after_accesses ((missed Rx true polls ++ Sees Rxdctl true ∷ []) ++ polled Tx true more) asked_on
@@ -164,8 +118,7 @@ module _ (ring size other : ℕ) (one : IsSized ring size) (two : IsSized other 
 
   pub comes_up : (polls more : ℕ) → after_accesses (switching polls more) (laid ring size other p)
       ≡ came_up ring size other p
-  comes_up polls more =
-      polls_end polls more ∙ (λ k. record (came_up ring size other p) { side = λ dir. sides_on dir k })
+  comes_up polls more = grind (arith, common_steps, polls_end, sides_on)
 
 zero_lent : (m : Memory) (b : ℕ) → IsZero m b → has_block m b ≡ true
 zero_lent m b is = rw is refl
@@ -197,20 +150,8 @@ fresh_transmit_agrees queue s y on wanted port tail ring size frame small sound 
     let same = x.same in (
       0,
       record {
-        based = record {
-          sound = sound;
-          small = small;
-          layout = record { some = sized.some; few = sized.few; next = sized.some; limit = few_bytes frame is };
-          tail = names;
-          limit = limit;
-        };
-        set_up = record {
-          base = ap (λ (q : Side). q.ring.base) same;
-          length = ap (λ (q : Side). q.ring.length) same;
-          head = ap (λ (q : Side). q.ring.head) same ∙ first_place size sized.some;
-          tail = ap (λ (q : Side). q.ring.tail) same ∙ first_place size sized.some;
-          writeback = ap (λ (q : Side). q.writeback) same;
-        };
+        based = grind (arith, common_steps, few_bytes);
+        set_up = grind (arith, common_steps, first_place);
         counted = record {
           room = sized.some;
           done_fetched = omega arith;

@@ -1,24 +1,21 @@
 -- A start that times out polled 1,000 times, and its polls are among its pass's calls.
-use Rattle.std.proofs.Common.{[], ◌*◌, ◌++◌, ◌+◌, ◌-◌, ◌<◌, ◌∙◌, ◌∷◌, ◌≡◌, ◌≢◌, Bool, List, ap, append_assoc, arith}
-use Rattle.std.proofs.Common.{false, inl, inr, refl, subst, suc, sym, true, zero, ℕ}
-use Rattle.std.proofs.lemmas.Bool.{cond_both, eq-eqb, ne_eqb}
-use Rattle.std.proofs.lemmas.List.{append-nil}
+use Rattle.std.proofs.Common.{[], ◌++◌, ◌+◌, ◌-◌, ◌<◌, ◌∙◌, ◌∷◌, ◌≡◌, ◌≢◌, Bool, List, ℕ, ap, append_assoc, arith}
+use Rattle.std.proofs.Common.{false, inl, inr, refl, suc, sym, true, zero}
+use Rattle.std.proofs.lemmas.{Bool.cond_both, Bool.eq-eqb, Bool.ne_eqb, Grind.common_steps, List.append-nil}
 use Rattle.std.specs.Prelude.{◌&&◌, ◌==◌, Err, None, Option, Some, if◌then◌else◌, nat_lt}
-use Rattle.nic_device.specs.{RegTable.Rows.rows, RegTable.declared.place.Place.Place}
+use Rattle.nic_device.specs.RegTable.Rows.{rows}
+use Rattle.pmd.{proofs.PmdSeam.QueueSequences.both_made as made_after, specs.Started.IsShut}
 use Rattle.pmd.specs.PmdSeam.declared.fault.PmdFault.TheVariants.{BadSize, NoBuffer}
-use Rattle.pmd.specs.Started.{IsShut}
-use Rattle.pmd.proofs.PmdSeam.QueueSequences.{both_made as made_after}
-use Rattle.driver_laws.specs.Polls.{AreEnables, Enables, PollsAreTold, asked_after, is_missed, missed_in, same_port}
+use Rattle.driver_laws.proofs.Made.{OfCall, all_both, all_missed, all_polled, made_by}
+use Rattle.driver_laws.proofs.Prelude.{AllAre, AreMadeOf, GoingOnFails, IsPlain, has_room, queues_named}
+use Rattle.driver_laws.proofs.StopCalls.{prepared_plain, ready_plain, then_made}
+use Rattle.driver_laws.specs.Polls.{AreEnables, Enables, PollsAreTold, asked_after, is_missed, missed_in}
 use Rattle.driver_laws.specs.Prelude.{Access, AreMade, AreSteps, AtPort, Block, Call, DeviceFault, Dir, Event}
-use Rattle.driver_laws.specs.Prelude.{IsNumberOf, Numbers, Pf, PmdFault, Port, PreparingFails, Receive, ReceiveFails}
-use Rattle.driver_laws.specs.Prelude.{Reply, RowId, Rx, Rxdctl, Sees, Sets, StartRefused, StartTimeout, StopsStarting}
-use Rattle.driver_laws.specs.Prelude.{SwitchFails, Tx, Txdctl, Vf, both_asked, enable_row, is_frame, is_size, is_step}
-use Rattle.driver_laws.specs.Prelude.{missed, place, receive_polled, start_gate}
+use Rattle.driver_laws.specs.Prelude.{IsNumberOf, Numbers, PmdFault, Port, PreparingFails, Receive, ReceiveFails, Reply}
+use Rattle.driver_laws.specs.Prelude.{RowId, Rx, Rxdctl, Sees, StartRefused, StartTimeout, StopsStarting, SwitchFails}
+use Rattle.driver_laws.specs.Prelude.{Tx, Txdctl, both_asked, enable_row, is_frame, is_size, is_step, missed}
+use Rattle.driver_laws.specs.Prelude.{receive_polled, start_gate}
 use Rattle.driver_laws.specs.TimedOut.{Asked, IsOfEnable, TimeoutsPoll, TimesOut, asked_by, is_miss, misses, none_asked}
-use Rattle.driver_laws.proofs.Prelude.{AllAre, AreMadeOf, GoingOnFails, IsPlain, has_room, place_among, queues_named}
-use Rattle.driver_laws.proofs.Prelude.{runs}
-use Rattle.driver_laws.proofs.{Made.OfCall, Made.all_both, Made.all_missed, Made.all_polled, Made.made_by}
-use Rattle.driver_laws.proofs.{StopCalls.prepared_plain, StopCalls.ready_plain, StopCalls.then_made}
 use Rattle.nic_device.specs.declared.event.Event.TheVariants as event
 
 -- so many reads of a side that is asked on, in vain
@@ -42,8 +39,7 @@ asks : (rest : List Access) → misses none_asked (both_asked true ++ rest) ≡ 
 asks rest = sym (none_more (0 + misses both rest)) ∙ sym (none_more (misses both rest))
 
 receive_alone : misses none_asked (both_asked true ++ missed Rx true 1000) ≡ 1000
-receive_alone =
-    subst (λ (l : List Access). misses both l ≡ 1000) (append-nil (missed Rx true 1000)) (side_misses Rx 1000 [])
+receive_alone = grind (arith, common_steps, misses, both, append-nil, missed, side_misses)
 
 one_after_the_other : (first : ℕ) → first < 1000
     → misses none_asked (receive_polled true first ++ missed Tx true (1000 - first)) ≡ 1000
@@ -94,8 +90,7 @@ module _ (q : AtPort) (size frame : ℕ) where
 
   module _ (old : List Call) (a : Numbers) (new : List Call) (e : StartRefused) where
     never_receiving : (b : Numbers) (out : List ℕ) → ReceiveFails StartTimeout q size old a new b out → ⊥
-    never_receiving b out (inl (stops, same, empty)) = stops.6
-    never_receiving b out (inr (mid, made, fails)) = never_preparing Rx mid a new b out fails
+    never_receiving b out x = grind (arith, common_steps, never_preparing)
 
     going_on : (mid : List Call) (b c : Numbers) (v w : Receive) → AreMadeOf (IsPlain q) old mid
         → GoingOnFails StartTimeout q mid b v new c w → TimesOut q old new
@@ -104,8 +99,7 @@ module _ (q : AtPort) (size frame : ℕ) where
 
     amid : StopsStarting q size frame old a new e → e.fault ≡ StartTimeout → TimesOut q old new
     amid (inl x) is = absurd (never_receiving x.arena x.out (rw is at x.fails))
-    amid (inr (inl x)) is =
-        absurd (never_preparing Tx x.made x.ready_arena new x.arena x.out (rw is at x.fails))
+    amid (inr (inl x)) is = grind (arith, common_steps, never_preparing)
     amid (inr (inr x)) is =
         going_on x.both_made x.both_arena x.arena x.empty x.filled
         (then_made (IsPlain q) old x.ready_made x.both_made (ready_plain x.receive)
@@ -133,49 +127,26 @@ module _ (q : AtPort) (size frame : ℕ) where
 pub timeouts_poll : TimeoutsPoll
 timeouts_poll q size frame old a new e = by_gate q size frame old a new e
 
-port_same : (p : Port) → same_port p p ≡ true
-port_same Pf = refl
-port_same (Vf v) = eq-eqb v v refl
-
 number_same : (port : Port) (row : RowId) (queue n m : ℕ) → IsNumberOf port row queue n → IsNumberOf port row queue m
     → n ≡ m
-number_same Pf row queue n m a b =
-    let e : Some n ≡ Some m = sym a.first ∙ b.first in
-    cc
-number_same (Vf v) row queue n m a b = a ∙ sym b
+number_same port row queue n m a b = grind (arith, common_steps)
 
 numbers_apart : (port : Port) (queue n m : ℕ) → IsNumberOf port Rxdctl queue n → IsNumberOf port Txdctl queue m → m ≢ n
 unfolding rows
-numbers_apart Pf queue n m a b e =
-    let both = sym b.names ∙ ap (λ k. place_among runs k) e ∙ a.names in
-    let same : place Txdctl queue ≡ place Rxdctl queue = cc in
-    let row_same : Txdctl ≡ Rxdctl = ap (λ (p : Place). p.row) same in
-    cc
-numbers_apart (Vf v) queue n m a b e =
-    let first : n ≡ 0x1000 + 0x40 * queue + 0x28 = a in
-    let second : m ≡ 0x2000 + 0x40 * queue + 0x28 = b in
-    omega (arith, first, second, e)
+numbers_apart port queue n m a b e = grind (arith, common_steps)
 
 module _ (w : Enables) where
   -- steps of the device are none of them
   step_plain : (x : Asked) (e : Event Block) (r : Reply Block) → is_step e ≡ true
       → (is_missed w x e r ≡ false) × (asked_after w x e ≡ x)
-  step_plain x (event.Read port number) r is = cc
-  step_plain x (event.Write port number word) r is = cc
-  step_plain x other r is = (refl, refl)
+  step_plain x e r is = grind (arith, common_steps)
 
   skipped : (before : List Call) → AreSteps before → (x : Asked) (cs : List Call)
       → missed_in w x (before ++ cs) ≡ missed_in w x cs
   skipped [] steps x cs = refl
-  skipped (c ∷ before) steps x cs =
-      let plain = step_plain x c.event c.reply steps.0 in
-      (λ i. (if plain.0 i then 1 else 0) + missed_in w (plain.1 i) (before ++ cs))
-      ∙ sym (none_more (missed_in w x (before ++ cs))) ∙ skipped before steps.1 x cs
+  skipped (c ∷ before) steps x cs = grind (arith, common_steps, step_plain, none_more, skipped before steps.1 x cs)
 
 module _ (q : AtPort) (w : Enables) (are : AreEnables q w) where
-  here : same_port q.port w.port ≡ true
-  here = ap (same_port q.port) are.port ∙ port_same q.port
-
   same : (row : RowId) (n m : ℕ) → IsNumberOf q.port row q.queue n → IsNumberOf q.port row q.queue m → (n == m) ≡ true
   same row n m a b = eq-eqb n m (number_same q.port row q.queue n m a b)
 
@@ -187,16 +158,7 @@ module _ (q : AtPort) (w : Enables) (are : AreEnables q w) where
   Tells a c = (x : Asked) → (is_missed w x c.event c.reply ≡ is_miss x a) × (asked_after w x c.event ≡ asked_by a x)
 
   access_tells : (a : Access) → IsOfEnable a → OfCall q a (Tells a)
-  access_tells (Sees Rxdctl on) of = λ number word named is x.
-      (rw (here, same Rxdctl number w.receive named are.receive, is) refl, refl)
-  access_tells (Sees Txdctl on) of = λ number word named is x.
-      (rw (here, apart number named, same Txdctl number w.transmit named are.transmit, is) refl, refl)
-  access_tells (Sets Rxdctl word) of = λ number named x.
-      (refl, rw (here, same Rxdctl number w.receive named are.receive) refl)
-  access_tells (Sets Txdctl word) of = λ number named x.
-      (refl, rw (here, apart number named, same Txdctl number w.transmit named are.transmit) refl)
-  access_tells (Sees other on) of = absurd of
-  access_tells (Sets other word) of = absurd of
+  access_tells a of = grind (arith, common_steps)
 
   accesses_told : (all : List Access) (old new : List Call) (x : Asked) → AllAre IsOfEnable all → AreMade q old new all
       → (these : List Call) × (new ≡ old ++ these) × (missed_in w x these ≡ misses x all)

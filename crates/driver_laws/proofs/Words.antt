@@ -1,30 +1,27 @@
 -- The words that a driver writes to the registers of a queue: each is its side's, whole, while that is off.
-use Rattle.std.proofs.Common.{◌%◌, ◌*◌, ◌+◌, ◌/◌, ◌<◌, ◌^◌, ◌∙◌, ◌≡◌, ap, arith, false, inl, inr, refl, true, ℕ}
-use Rattle.std.proofs.lemmas.Nat.{and_comm, and_mask, and_mod, or_mod}
-use Rattle.std.specs.Prelude.{IsFalse, None, Some, bit_and, bit_or, if◌then◌else◌}
-use Rattle.std.{proofs.Math.Nat.mod-eq_of_lt, proofs.lemmas.Nat.Bits.and_high_mask, specs.Int.Bits.and_zero_l}
-use Rattle.std.{specs.Int.Bits.or_zero_l}
-use Rattle.nic_device.specs.RegTable.declared.rows.RowId.TheVariants.{Ctrl, GcrExt, Hlreg0, Maxfrs}
-use Rattle.nic_device.specs.RegisterLaws.Laws.{HasShape, after_write, word_after}
-use Rattle.nic_device.specs.{RegisterFile.Bits.merged, RegisterFile.Registers.Registers}
-use Rattle.nic_device.specs.{RegisterLaws.Sides.TransmitQueue, Transmit.staged_by}
-use Rattle.nic_device.proofs.RegisterLaws.SideWords.{receive-written, transmit-written}
-use Rattle.nic_device.proofs.{RegisterLaws.RowBits.word_small, RegisterLaws.SoundWords.low_bits}
-use Rattle.nic_device.proofs.{RegisterLaws.Switches.receive-asked, RegisterLaws.Switches.transmit-asked}
-use Rattle.ring_laws.specs.HistoryLaws.Sides.{LeavesSide, receive_side, transmit_side}
+use Rattle.std.proofs.{Math.Nat.mod-eq_of_lt, lemmas.Grind.common_steps}
+use Rattle.std.proofs.Common.{◌%◌, ◌*◌, ◌+◌, ◌/◌, ◌<◌, ◌^◌, ◌∙◌, ◌≡◌, ℕ, ap, arith, false, inl, inr, refl, true}
+use Rattle.std.proofs.lemmas.Nat.{Bits.and_high_mask, and_comm, and_mask, and_mod, or_mod}
+use Rattle.std.specs.Int.Bits.{and_zero_l, or_zero_l}
+use Rattle.std.specs.Prelude.{if◌then◌else◌, IsFalse, None, Some, bit_and, bit_or}
+use Rattle.nic_device.proofs.RegisterLaws.{RowBits.word_small, SideWords.receive-written, SideWords.transmit-written}
+use Rattle.nic_device.proofs.RegisterLaws.{SoundWords.low_bits, Switches.receive-asked, Switches.transmit-asked}
+use Rattle.nic_device.specs.RegisterFile.{Bits.merged, Registers.Registers}
+use Rattle.nic_device.specs.RegisterLaws.{Laws.HasShape, Laws.after_write, Laws.word_after, Sides.TransmitQueue}
+use Rattle.nic_device.specs.Transmit.{staged_by}
 use Rattle.ring_laws.proofs.HistoryLaws.Leaving.{receive_left}
 use Rattle.ring_laws.proofs.HistoryLaws.Written.{merged_all, merged_low, receive-tail, transmit-tail}
-use Rattle.driver_laws.specs.Prelude.{Dir, IsSound, Port, Rdbah, Rdbal, Rdh, Rdlen, Rdt, Register, RowId, Rx, Rxdctl}
-use Rattle.driver_laws.specs.Prelude.{Side, Srrctl, State, Tdbah, Tdbal, Tdh, Tdlen, Tdt, Tdwbal, Tx, Txdctl, after}
-use Rattle.driver_laws.specs.Prelude.{enable_row, has_bit, is_driven, place, side_of}
-use Rattle.driver_laws.specs.Words.{KeepsGround, WordsAreTaken}
+use Rattle.ring_laws.specs.HistoryLaws.Sides.{LeavesSide, receive_side, transmit_side}
 use Rattle.driver_laws.proofs.Prelude.{Done, Fits, NamesRow, Outcome, Tdwbah, WritesNoSetting, across, asks_pool_reset}
 use Rattle.driver_laws.proofs.Prelude.{asks_reset, gives, is_setting, named_written, owner_of, plain-write, row_of}
 use Rattle.driver_laws.proofs.Prelude.{settings_stand, side_with, stays_within, step_of, transmit_left, word_of}
 use Rattle.driver_laws.proofs.Prelude.{write_memory, write_rest}
+use Rattle.driver_laws.specs.Prelude.{Dir, IsSound, Port, Rdbah, Rdbal, Rdh, Rdlen, Rdt, Register, RowId, Rx, Rxdctl}
+use Rattle.driver_laws.specs.Prelude.{Side, Srrctl, State, Tdbah, Tdbal, Tdh, Tdlen, Tdt, Tdwbal, Tx, Txdctl, after}
+use Rattle.driver_laws.specs.Prelude.{enable_row, has_bit, is_driven, place, side_of}
+use Rattle.driver_laws.specs.Words.{KeepsGround, WordsAreTaken}
 use Rattle.nic_device.specs.RegisterFile.declared.owner.Owner.TheVariants as owner
 use Rattle.nic_device.specs.declared.event.Event.TheVariants as event
-use Rattle.std.proofs.lemmas.Grind.{common_steps}
 
 -- what holds of either side holds of each
 pub each_side : (P : Dir → Type 0) → P Rx → P Tx → (dir : Dir) → P dir
@@ -39,21 +36,7 @@ pub driven : (dir : Dir) (row : RowId) (word : ℕ) → Fits dir row word
     × ((queue : ℕ) → owner_of (place row queue) ≡ owner.Side dir queue)
     × ((queue : ℕ) (s : State) → named_written s (Register (place row queue) 0xFFFFFFFF) word
     ≡ gives Done (record s { registers = after_write s.registers (place row queue) 0xFFFFFFFF word }))
-driven Rx Rdbal word fits = (refl, λ x. refl, refl, refl, refl, λ queue. refl, λ queue s. refl)
-driven Rx Rdbah word fits = (refl, λ x. refl, refl, refl, refl, λ queue. refl, λ queue s. refl)
-driven Rx Rdlen word fits = (refl, λ x. refl, refl, refl, refl, λ queue. refl, λ queue s. refl)
-driven Rx Rdh word fits = (refl, λ x. refl, refl, refl, refl, λ queue. refl, λ queue s. refl)
-driven Rx Rdt word fits = (refl, λ x. refl, refl, refl, refl, λ queue. refl, λ queue s. refl)
-driven Rx Srrctl word fits = (refl, λ x. refl, refl, refl, refl, λ queue. refl, λ queue s. refl)
-driven Rx Rxdctl word fits = (refl, λ x. refl, refl, refl, refl, λ queue. refl, λ queue s. refl)
-driven Tx Tdbal word fits = (refl, λ x. refl, refl, refl, refl, λ queue. refl, λ queue s. refl)
-driven Tx Tdbah word fits = (refl, λ x. refl, refl, refl, refl, λ queue. refl, λ queue s. refl)
-driven Tx Tdlen word fits = (refl, λ x. refl, refl, refl, refl, λ queue. refl, λ queue s. refl)
-driven Tx Tdh word fits = (refl, λ x. refl, refl, refl, refl, λ queue. refl, λ queue s. refl)
-driven Tx Tdt word fits = (refl, λ x. refl, refl, refl, refl, λ queue. refl, λ queue s. refl)
-driven Tx Tdwbal word fits = (refl, λ x. refl, refl, refl, refl, λ queue. refl, λ queue s. refl)
-driven Tx Txdctl word fits = (refl, λ x. refl, refl, refl, refl, λ queue. refl, λ queue s. refl)
-driven dir other word fits = absurd fits
+driven dir row word fits = grind (arith, common_steps)
 
 -- the enable register of each side is one of them
 pub side_driven : (side : Dir) → is_driven (enable_row side) ≡ true
@@ -62,19 +45,11 @@ side_driven Tx = refl
 
 -- none of them is a setting
 pub driven_plain : (row : RowId) → is_driven row ≡ true → is_setting row ≡ false
-driven_plain Ctrl e = cc
-driven_plain Hlreg0 e = cc
-driven_plain Maxfrs e = cc
-driven_plain GcrExt e = cc
-driven_plain other e = refl
+driven_plain row e = grind (arith, common_steps)
 
 -- words that a register takes whole, whatever stood there
 
--- a multiple of 128 through a mask of bits 31 to 7
-pub merged-high : (old new : ℕ) → old % 2 ^ 7 ≡ 0 → new % 128 ≡ 0 → new < 2 ^ 32 → merged 0xFFFFFF80 old new ≡ new
-merged-high old new low even small = grind (arith, common_steps)
-
--- and one of 20 bits through a mask of bits 19 to 7
+-- a multiple of 128 of 20 bits through a mask of bits 19 to 7
 pub merged-length : (old new : ℕ) → old % 2 ^ 7 ≡ 0 → new % 128 ≡ 0 → new < 2 ^ 20
     → merged 0x000FFF80 old new % 2 ^ 20 ≡ new
 merged-length old new low even small =
@@ -133,9 +108,7 @@ whole old word fits = merged_all old word ∙ mod-eq_of_lt fits
 
 base_high : (high low word : ℕ) → low < 2 ^ 32 → word < 2 ^ 32
     → merged 0xFFFFFFFF high word * 2 ^ 32 + low ≡ word * 2 ^ 32 + (high * 2 ^ 32 + low) % 2 ^ 32
-base_high high low word short fits =
-    let kept : low ≡ (high * 2 ^ 32 + low) % 2 ^ 32 = omega (arith, short) in
-    λ k. whole high word fits k * 2 ^ 32 + kept k
+base_high high low word short fits = grind (arith, common_steps, whole)
 
 slot : (old word : ℕ) → word < 2 ^ 16 → merged 0xFFFF old word % 2 ^ 16 ≡ word
 slot old word fits = merged_low old word ∙ mod-eq_of_lt fits

@@ -1,8 +1,6 @@
 -- A driver beside any calls of its author's is told by its own calls alone, over the history as it is told anew; and so
 -- are its start and its stop.
-use Rattle.pmd_laws.specs.BesideApart.{IsAloneBeside, IsCalledApart}
-use Rattle.pmd_laws.specs.BesideStart.{BeginsBeside}
-use Rattle.pmd_laws.proofs.NoFault.{FindsAmid, none_amid}
+use Rattle.pmd_laws.proofs.{NoFault.FindsAmid, NoFault.none_amid, StartFaultless.never_at_fault, Told.goes, Told.life}
 use Rattle.pmd_laws.proofs.Prelude.{[], ◌++◌, ◌∙◌, ◌∷◌, ◌≡◌, ◌⊎◌, AllFollow, AllFollowBy, AtPort, BeforeLast, Beside}
 use Rattle.pmd_laws.proofs.Prelude.{Call, Down, DrivesRings, Drove, Entry, FaultsEarly, FaultsFilling, Follows}
 use Rattle.pmd_laws.proofs.Prelude.{FollowsBy, HasGround, IsAlong, IsCalledBeside, IsFresh, IsLife, IsRetold}
@@ -11,8 +9,8 @@ use Rattle.pmd_laws.proofs.Prelude.{NoneLent, Numbers, Rings, State, Told, Up, W
 use Rattle.pmd_laws.proofs.Prelude.{append-nil, append_cancel_left, by_own, events_same, halves_of, inl, inr, is_own}
 use Rattle.pmd_laws.proofs.Prelude.{last, legal_same, now, subst, sym}
 use Rattle.pmd_laws.proofs.Shifted.{fault_shift, rings, shifted, up_shift}
-use Rattle.pmd_laws.proofs.StartFaultless.{never_at_fault}
-use Rattle.pmd_laws.proofs.Told.{goes, life}
+use Rattle.pmd_laws.specs.{BesideApart.IsAloneBeside, BesideApart.IsCalledApart, BesideStart.BeginsBeside}
+use Rattle.std.proofs.{Common.arith, lemmas.Grind.common_steps}
 use Rattle.pmd_laws.specs.Told as own
 
 -- a driver that runs goes on from one to the other by its own calls alone
@@ -55,14 +53,7 @@ own_anew {old = old} {m = m} {later = later} {ahead = ahead} {own = own} x =
 
 -- the history is along, told anew
 pub retold_along : {w : Watched} {origin : State} {h g : List Entry} → IsRetold w origin h g → IsAlong w origin g
-retold_along {origin = origin} {h = h} {g = g} x = record {
-  small = x.small;
-  sound = x.was.sound;
-  vfs = x.vfs;
-  alone = x.alone;
-  events = events_same h g x.was.same x.was.events;
-  legal = legal_same origin h g x.was.same x.was.legal;
-}
+retold_along {origin = origin} {h = h} {g = g} x = grind (arith, common_steps, events_same, legal_same)
 
 -- a start that found the device at fault would be one of whose blocks none is lent
 pub never_beside : (x : BeginsBeside)

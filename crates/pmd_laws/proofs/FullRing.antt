@@ -1,18 +1,14 @@
 -- Where a driver tells that its ring is full, or accepts none of several packets and answers no fault, its ring has no
 -- room for the first.
-use Rattle.driver_laws.specs.Prelude.{Asks}
 use Rattle.driver_laws.proofs.RingLaws.Packets.{length-segments}
-use Rattle.pmd_laws.specs.FullRing.{AcceptsNone, TellsFull, outstanding}
-use Rattle.pmd_laws.proofs.Prelude.{[], ◌+◌, ◌<◌, ◌∷◌, ◌≡◌, ◌≤◌, Accepts, Advances, AllOwn, AtPort, Block, Call, Doer}
-use Rattle.pmd_laws.proofs.Prelude.{Down, Drove, Err, Event, Halves, IfSome, IsOwn, IsTold, Leads, Lends, List, Looks}
-use Rattle.pmd_laws.proofs.Prelude.{Moment, Move, None, Numbers, Ok, Option, Packet, PmdFault, Reaps, Receives, Reply}
-use Rattle.pmd_laws.proofs.Prelude.{Result, Rings, Running, Sender, Sends, SendsWith, Some, Stops, Up, WhereUp, ℕ}
-use Rattle.pmd_laws.proofs.Prelude.{after_call, arith, halves_of, last, length, length-append}
-use Rattle.pmd_laws.proofs.Prelude.{length-drop, moved, parts_for, played_by, refl, segments_of, sized, subst, sym}
-use Rattle.pmd_laws.proofs.Told.{runs}
+use Rattle.pmd_laws.{proofs.Told.runs, specs.FullRing.AcceptsNone, specs.FullRing.TellsFull, specs.FullRing.outstanding}
+use Rattle.pmd_laws.proofs.Prelude.{[], ◌+◌, ◌<◌, ◌∷◌, ◌≡◌, ◌≤◌, AllOwn, AtPort, Block, Call, Doer, Drove, Event}
+use Rattle.pmd_laws.proofs.Prelude.{Halves, IsOwn, IsTold, Leads, List, Moment, Move, Numbers, Packet, Receives, Reply}
+use Rattle.pmd_laws.proofs.Prelude.{Running, Sender, Sends, Up, ℕ, after_call, arith, halves_of, last, length, moved}
+use Rattle.pmd_laws.proofs.Prelude.{parts_for, played_by, refl, sized, subst, sym}
+use Rattle.std.proofs.lemmas.Grind.{common_steps}
 use Rattle.nic_device.specs.declared.event.Event.TheVariants as event
 use Rattle.nic_device.specs.declared.event.Reply.TheVariants as reply
-use Rattle.std.proofs.lemmas.Grind.{common_steps}
 
 -- a ring of so many slots, one of which is vacant
 abbrev HasRoom : ℕ → Sender → Type 0
@@ -22,23 +18,7 @@ HasRoom size v = (v.layout.size ≡ size) × (length v.outstanding < size)
 
 moved_room : (size : ℕ) (v : Sender) (m : Move) (e : Event Block) (r : Reply Block) → IsOwn v m e → HasRoom size v
     → HasRoom size (moved v m r)
-moved_room size v (Accepts p) (event.Lend b) reply.Done own x = (
-  x.0,
-  omega (
-    arith,
-    own.room,
-    x.0,
-    length-append v.outstanding (segments_of p),
-    length-segments p own.each,
-  ),
-)
-moved_room size v (Accepts p) e reply.Done own x = absurd own
-moved_room size v Lends e reply.Done own x = x
-moved_room size v Asks e reply.Done own x = x
-moved_room size v Advances e reply.Done own x = x
-moved_room size v Looks e (reply.Bytes d) own x = x
-moved_room size v Reaps e (reply.Buf b) own x = (x.0, omega (arith, x.1, length-drop 1 v.outstanding))
-moved_room size v m e r own x = x
+moved_room size v m e r own x = grind (arith, common_steps, length-segments)
 
 played_room : (size : ℕ) (h : Halves) (doers : List Doer) (calls : List Call) → AllOwn h doers calls
     → HasRoom size h.transmit → HasRoom size (played_by h doers calls).transmit
@@ -62,33 +42,6 @@ module _ {q : AtPort} {size frame : ℕ} {old : List Call} {a : Numbers} {m : Mo
       led_room size m.made (last m later).made (halves_of x.started.0) (halves_of (runs x).rings)
       (runs x).apart.leads
       (subst (HasRoom size) (sym x.started.2.transmit.fresh) (refl, (sized size x.started.2.sized).0))
-
--- none was accepted, and no fault is told: the ring lacks the room
-
-abbrev LacksRoom : Sender → Packet → Type 0
-LacksRoom v p = v.layout.size ≤ length v.outstanding + parts_for p.len
-
-none_long : (ps : List Packet) → 0 ≡ length ps → ps ≡ []
-none_long [] is = refl
-none_long (p ∷ ps) is = absurd (omega (arith, is))
-
-none_met : (met : Option PmdFault) (s : Running) (p : Packet) (rest : List Packet)
-    → IfSome met (λ (f : PmdFault). ◌≡◌ {A = Result ℕ PmdFault} (Ok 0) (Err f)) → Stops met s (p ∷ rest)
-    → LacksRoom s.transmit p
-none_met None s p rest none stops = stops.2
-none_met (Some f) s p rest none stops = cc
-
-by_room_made : (failed : Option PmdFault) (given rest : List Packet) (p : Packet) (old new : List Call)
-    (r s : Running) → SendsWith failed given (p ∷ rest) (Ok 0) old r new s → LacksRoom s.transmit p
-by_room_made None given rest p old new r s x = none_met x.met s p rest (x.none (none_long x.gone x.count)) x.stops
-by_room_made (Some f) given rest p old new r s x = let is = x.0 in cc
-
--- two facts of a driver that runs on
-both_up : (a b : Rings) (P Q : Running → Running → Type 0) → WhereUp a b P → WhereUp a b Q
-    → WhereUp a b (λ r s. P r s × Q r s)
-both_up (Up r) (Up s) P Q p q = (p, q)
-both_up (Up r) (Down h) P Q p q = p
-both_up (Down h) b P Q p q = tt
 
 -- a driver that runs with one slot vacant
 module _ (size : ℕ) (m n : Moment) (r : Running) (p : Packet) (is : m.driver.rings ≡ Up r)

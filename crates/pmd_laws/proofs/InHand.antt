@@ -12,18 +12,8 @@ use Rattle.std.proofs.lemmas.Grind.{common_steps}
 history : (s : State) (queue : ℕ) (before h : List Entry) (calls : List Call) (device : State) → queue < 128
     → WasMade s before → LeadsTo (leads_to s before) h device → calls_of 0 h ≡ calls
     → LeavesAloneFrom (in_hand s queue) s (before ++ h) → IsHistoryOf s queue (before ++ h) calls device
-history s queue before h calls device small was led made alone = record {
-  along = record {
-    small = small;
-    sound = was.sound;
-    vfs = refl;
-    events = events-append before h was.events led.events;
-    legal = legal-append s before h was.legal led.legal;
-    alone = alone;
-  };
-  made = calls_joined 0 before h ∙ (λ i. was.others i ++ made i);
-  leads = leads-append s before h ∙ led.leads;
-}
+history s queue before h calls device small was led made alone =
+    grind (arith, common_steps, events-append, legal-append, calls_joined, leads-append)
 
 -- those of a device in hand are all of pass 0, and those that are marked as own
 
@@ -73,12 +63,7 @@ own_behind (x ∷ before) calls (y ∷ b) e after none is begun =
 own_left : (s : State) (queue : ℕ) (before : List Entry) (calls : List Call) → calls_of 0 before ≡ []
     → LeavesAlone (in_hand s queue) (before ++ entries_in calls)
     → LeavesAloneFrom (in_hand s queue) s (before ++ entries_in calls)
-own_left s queue before calls none alone b e after is begun =
-    let own = own_behind before calls b e after none is begun in record {
-      registers = λ other. absurd (other own);
-      blocks = λ other. absurd (other own);
-      steps = (alone b e after is begun).steps;
-    }
+own_left s queue before calls none alone b e after is begun = grind (arith, common_steps, own_behind)
 
 pub direct_is_history : DirectIsHistory
 direct_is_history s queue before d small was began alone =
@@ -96,25 +81,14 @@ marked_same : (calls : List Call) (own : List Bool) → length own ≡ length ca
     → AreSame (entries_in calls) (marked_entries calls own)
 marked_same [] own each = refl
 marked_same (c ∷ calls) [] each = absurd (omega (arith, each))
-marked_same (c ∷ calls) (is ∷ own) each =
-    ap (λ (l : List Call). c ∷ l) (marked_same calls own (omega (arith, each)))
+marked_same (c ∷ calls) (is ∷ own) each = grind (arith, common_steps, marked_same calls own (omega (arith, each)))
 
 goes_on : {origin : State} {before told : List Entry} (was : WasTold origin before told) (es : List Entry)
     (calls : List Call) (own : List Bool) (device : State) → LeadsTo (leads_to origin before) es device
     → AreSame es (marked_entries calls own)
     → GoesOn origin before told es (marked_entries calls own) (own_calls calls own) device
 goes_on {origin = origin} {before = before} {told = told} was es calls own device began same =
-    let anew = marked_entries calls own in record {
-      was = record {
-        sound = was.sound;
-        events = events-append before es was.events began.events;
-        legal = legal-append origin before es was.legal began.legal;
-        same =
-            map-append call_in before es ∙ (λ i. was.same i ++ same i) ∙ sym (map-append call_in told anew);
-      };
-      made = calls_joined 0 told anew ∙ ap (λ (l : List Call). calls_of 0 told ++ l) (own_are calls own);
-      leads = leads-append origin before es ∙ began.leads;
-    }
+    grind (arith, common_steps, events-append, legal-append, calls_joined, own_are, leads-append)
 
 pub direct_retold : DirectIsRetold
 direct_retold origin before told d own each was began =

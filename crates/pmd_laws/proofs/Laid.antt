@@ -1,10 +1,7 @@
 -- The calls of a start lay out an empty transmit ring, in turn, and those beside them lay out no more of it; so do
 -- those of one that is refused, as far as it came, up to where what it left came down.
-use Rattle.pmd.specs.PmdRx.Plays.{AllOwn}
-use Rattle.pmd.specs.PmdRx.Receive.{IsOwn}
-use Rattle.pmd.specs.PmdSeam.Named.{is_driven}
-use Rattle.driver_laws.proofs.StopCalls.{lends_are}
-use Rattle.pmd_laws.proofs.Plain.{drive_same}
+use Rattle.pmd.specs.{PmdRx.Plays.AllOwn, PmdRx.Receive.IsOwn, PmdSeam.Named.is_driven}
+use Rattle.driver_laws.proofs.{Fitting.drive_same, Reached.steps_are, StopCalls.lends_are}
 use Rattle.pmd_laws.proofs.Prelude.{[], ◌%◌, ◌*◌, ◌++◌, ◌<◌, ◌^◌, ◌∙◌, ◌∷◌, ◌≡◌, ◌≤◌, Access, Adds, AreMade, AreMadeOf}
 use Rattle.pmd_laws.proofs.Prelude.{AreSteps, AtPort, Block, Bool, Call, DeviceFault, Dir, Each, Empty, Event, FailsBy}
 use Rattle.pmd_laws.proofs.Prelude.{GoingOnFails, IsMade, IsNumberOf, IsOtherwise, IsPrepared, IsReceiveReady, Laid}
@@ -15,6 +12,7 @@ use Rattle.pmd_laws.proofs.Prelude.{drive, drop, false, inl, inr, is_size, is_st
 use Rattle.pmd_laws.proofs.Prelude.{refl, ring_words, sized, some_made, subst, switched_are, sym, true, unswitched_are}
 use Rattle.nic_device.specs.declared.event.Event.TheVariants as event
 use Rattle.pmd.specs.PmdSeam.declared.fault.PmdFault.TheVariants as fault
+use Rattle.std.proofs.lemmas.Grind.{common_steps}
 
 -- an event by which no more is laid out
 abbrev pub Stays : AtPort → Laid → Event Block → Type 0
@@ -22,8 +20,7 @@ Stays q l e = Lays q l e l
 
 module _ (q : AtPort) where
   step_stays : (l : Laid) (e : Event Block) → is_step e ≡ true → Stays q l e
-  step_stays l (event.Write port number word) is = cc
-  step_stays l e is = refl
+  step_stays l e is = grind (arith, common_steps)
 
   each_lays : (l : Laid) (calls : List Call) → Each (λ c. Stays q l c.event) calls → LaysOn q l calls l
   each_lays l [] are = refl
@@ -36,18 +33,15 @@ module _ (q : AtPort) where
   pub first_lays : (l last : Laid) (cs ds : List Call) → LaysOn q l (cs ++ ds) last
       → (m : Laid) × LaysOn q l cs m × LaysOn q m ds last
   first_lays l last [] ds lays = (l, refl, lays)
-  first_lays l last (c ∷ cs) ds (k, here, more) =
-      let (m, one, two) = first_lays k last cs ds more in (m, (k, here, one), two)
+  first_lays l last (c ∷ cs) ds (k, here, more) = grind (arith, common_steps, first_lays k last cs ds more)
 
   -- steps of the device lay nothing out
 
   steps_lay : (l : Laid) (cs : List Call) → AreSteps cs → LaysOn q l cs l
-  steps_lay l [] are = refl
-  steps_lay l (c ∷ cs) are = (l, step_stays l c.event are.0, steps_lay l cs are.1)
+  steps_lay l cs are = each_lays l cs (steps_are (Stays q l) (step_stays l) cs are)
 
   step_same : (l m : Laid) (e : Event Block) → is_step e ≡ true → Lays q l e m → m ≡ l
-  step_same l m (event.Write port number word) is lays = cc
-  step_same l m e is lays = lays
+  step_same l m e is lays = grind (arith, common_steps)
 
   steps_same : (l m : Laid) (cs : List Call) → AreSteps cs → LaysOn q l cs m → m ≡ l
   steps_same l m [] are lays = lays
@@ -55,9 +49,7 @@ module _ (q : AtPort) where
 
   pub lays_behind : (l last : Laid) (steps cs : List Call) → AreSteps steps → LaysOn q l (steps ++ cs) last
       → LaysOn q l cs last
-  lays_behind l last steps cs are lays =
-      let (m, one, two) = first_lays l last steps cs lays in
-      subst (λ (k : Laid). LaysOn q k cs last) (steps_same l m steps are one) two
+  lays_behind l last steps cs are lays = grind (arith, common_steps, first_lays, steps_same)
 
 -- calls lay out from one to the other
 pub record LaysTo (q : AtPort) (l : Laid) (old new : List Call) (last : Laid) : Type 0 where
@@ -76,11 +68,7 @@ module _ {q : AtPort} where
 
   pub then_lays : {l m last : Laid} {old mid new : List Call} → LaysTo q l old mid m → LaysTo q m mid new last
       → LaysTo q l old new last
-  then_lays {l = l} {m = m} {last = last} {old = old} x y = record {
-    calls = x.calls ++ y.calls;
-    made = y.made ∙ ap (λ (cs : List Call). cs ++ y.calls) x.made ∙ append_assoc old x.calls y.calls;
-    lays = lays_then q l m last x.calls y.calls x.lays y.lays;
-  }
+  then_lays {l = l} {m = m} {last = last} {old = old} x y = grind (arith, common_steps, lays_then)
 
   pub then_some : {l m : Laid} {old mid new : List Call} → LaysTo q l old mid m → LaysSome q m mid new
       → LaysSome q l old new
@@ -155,15 +143,7 @@ abbrev laid : Dir → Laid
 laid side = all_gone Off (ring_words side 0 0)
 
 words_go : (side : Dir) (ring size : ℕ) → is_size size ≡ true → AllGo Off (ring_words side ring size)
-words_go Rx ring size is = ((refl, tt), ((refl, tt), ((refl, tt), ((refl, tt), ((refl, tt), ((refl, tt), tt))))))
-words_go Tx ring size is =
-    let (some, few, even) = sized size is in
-    let base : 2048 * ring % 128 ≡ 0 = omega arith in
-    let low : 16 * size < 2 ^ 20 = omega (arith, few) in
-    let slots : 16 ≤ 16 * size = omega (arith, some) in
-    let more : AllGo Sized (drop 3 (ring_words Tx ring size)) =
-    ((refl, (refl, refl)), ((refl, (refl, refl)), ((refl, (refl, refl)), tt))) in
-    ((refl, (refl, base)), ((refl, refl), ((refl, (refl, even, low, slots)), more)))
+words_go side ring size is = grind (arith, common_steps, sized)
 
 words_lay : {q : AtPort} (side : Dir) (ring size : ℕ) {old new : List Call} → is_size size ≡ true
     → AreMade q old new (ring_words side ring size) → LaysTo q Off old new (laid side)
@@ -220,15 +200,7 @@ module _ (q : AtPort) where
   AtTail v = (v.layout.port ≡ q.port) × IsNumberOf q.port Rdt q.queue v.layout.tail
 
   own_stays : (l : Laid) (v : Receive) (e : Event Block) → IsOwn v e → AtTail v → Stays q l e
-  own_stays l v (event.Write port number word) own at = (
-    Rdt,
-    own.port_is ∙ at.0,
-    refl,
-    subst (λ n. IsNumberOf q.port Rdt q.queue n) (sym own.number_is) at.1,
-    tt,
-    refl,
-  )
-  own_stays l v e own at = refl
+  own_stays l v e own at = grind (arith, common_steps)
 
   all_stay : (l : Laid) (v : Receive) (marks : List Bool) (calls : List Call) → AllOwn v marks calls
       → OthersStep marks calls → AtTail v → Each (λ c. Stays q l c.event) calls

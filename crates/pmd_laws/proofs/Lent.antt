@@ -2,12 +2,10 @@
 -- of an arena's blocks, none of which is lent just before its first access, only the rings' are lent as both sides are
 -- on, and the frames that wait fit a buffer.
 use Rattle.nic_device.specs.DmaArena.Block.{zero_block}
-use Rattle.driver_laws.proofs.Made.{first_seen}
-use Rattle.driver_laws.specs.DeviceLaws.Laws.{WritesNoSetting}
+use Rattle.driver_laws.proofs.{Made.first_seen, StopCalls.each_such}
 use Rattle.driver_laws.proofs.Fitting.{frames_stay_short, lends_is, only_pass_lent}
-use Rattle.driver_laws.specs.Healthy.{lent_by as halves_lent_by}
-use Rattle.pmd_laws.proofs.Begun.{receive_lent, transmit_lent}
-use Rattle.pmd_laws.proofs.Order.{On, along_before, first}
+use Rattle.driver_laws.specs.{DeviceLaws.Laws.WritesNoSetting, Healthy.lent_by as halves_lent_by}
+use Rattle.pmd_laws.proofs.Order.{On, along_before, first, receive_lent, transmit_lent}
 use Rattle.pmd_laws.proofs.Prelude.{[], ◌++◌, ◌<◌, ◌==◌, ◌∙◌, ◌∷◌, ◌≡◌, Access, All, AllAre, AreEvents, AreMade}
 use Rattle.pmd_laws.proofs.Prelude.{AreMadeOf, AreOn, AreShort, Around, AtCalls, AtPort, BeforeLast, Block, Blocks}
 use Rattle.pmd_laws.proofs.Prelude.{Call, Course, Dir, Each, EachRingBlock, Entry, Event, FitsBlocks, HasGround}
@@ -25,6 +23,7 @@ use Rattle.pmd_laws.proofs.Prelude.{same_from_push, state_kept, state_leads, sub
 use Rattle.pmd_laws.proofs.Prelude.{times-cons, times_first, times_in_hand, true, words_are_writes, writes_driven}
 use Rattle.nic_device.specs.declared.event.Event.TheVariants as event
 use Rattle.nic_device.specs.declared.event.Reply.TheVariants as reply
+use Rattle.std.proofs.lemmas.Grind.{common_steps}
 
 -- blocks that are lent are calls of a kind where each lend is
 pub lends_made : (P : Event Block → Type 0) → ((e : Event Block) → is_step e ≡ true → P e) → (ns : List ℕ)
@@ -52,9 +51,7 @@ module _ (q : AtPort) (lent : Blocks) where
   Rises old new = AreMadeOf IsRising old new
 
   pub step_rises : (e : Event Block) → is_step e ≡ true → IsRising e
-  step_rises (event.Write port number word) is = cc
-  step_rises (event.Lend block) is = cc
-  step_rises e is = tt
+  step_rises e is = grind (arith, common_steps)
 
   write_rises : (row : RowId) (word number : ℕ) → IsDriven (Sets row word) → IsNumberOf q.port row q.queue number
       → IsRising (event.Write q.port number word)
@@ -66,9 +63,7 @@ module _ (q : AtPort) (lent : Blocks) where
 
   pub words_rise : (side : Dir) (ring size : ℕ) (old new : List Call) → AreMade q old new (ring_words side ring size)
       → Rises old new
-  words_rise side ring size old new =
-      all_rise (ring_words side ring size) old new
-      (writes_driven (ring_words side ring size) (words_are_writes side ring size))
+  words_rise side ring size old new = grind (arith, common_steps, all_rise, writes_driven, words_are_writes)
 
   -- blocks that are lent, all of them such
   pub lends_rise : (ns : List ℕ) (old new : List Call) → ((n : ℕ) → 0 < times_in_hand ns n → IsTrue (lent n))
@@ -107,18 +102,12 @@ module _ (q : AtPort) (lent : Blocks) where
   -- such a call writes no register but the queue's
 
   rising_plain : (e : Event Block) → IsRising e → IsPlain q e
-  rising_plain (event.Write port number word) rises = rises
-  rising_plain e rises = tt
-
-  rising_are_plain : (calls : List Call) → Each (λ c. IsRising c.event) calls → Each (λ c. IsPlain q c.event) calls
-  rising_are_plain [] are = tt
-  rising_are_plain (c ∷ calls) are = (rising_plain c.event are.0, rising_are_plain calls are.1)
+  rising_plain e rises = grind (arith, common_steps)
 
   -- a pass lends what its calls do
 
   lends_lent : (e : Event Block) (r : Reply Block) (n : ℕ) → IsRising e → lends e r n ≡ true → lent n ≡ true
-  lends_lent (event.Lend block) r n own is = subst (λ (k : ℕ). lent k ≡ true) (lends_is block r n is) own
-  lends_lent e r n own is = cc
+  lends_lent e r n own is = grind (arith, common_steps, lends_is)
 
   lent_is : (pass : ℕ) (es : List Entry) → Each (λ c. IsRising c.event) (calls_of pass es) → (n : ℕ)
       → lent_by pass es n ≡ true → lent n ≡ true
@@ -130,10 +119,7 @@ module _ (q : AtPort) (lent : Blocks) where
         subst (Each (λ c. IsRising c.event)) (calls_own pass e es mine.0) are in
         lends_lent e.event e.reply n each.0 mine.1
     | inr later ↦
-        lent_is pass es (elim (cases_Bool (e.pass == pass)) as (λ _. Each (λ c. IsRising c.event) (calls_of pass es)) [
-          | inl own ↦ (subst (Each (λ c. IsRising c.event)) (calls_own pass e es own) are).1
-          | inr other ↦ subst (Each (λ c. IsRising c.event)) (calls_other pass e es other) are
-        ]) n later
+        lent_is pass es (grind (arith, common_steps, calls_own, calls_other)) n later
   ]
 
 -- what a part of a history lends
@@ -185,9 +171,7 @@ module _ (w : Watched) (origin : State) (h : List Entry) (q : AtPort) (old first
         let c : Call = call_of (event.Read q.port number) (reply.Word word) in
         let made : (old ++ before) ++ c ∷ [] ≡ first = append_assoc old before (c ∷ []) ∙ sym added in
         lent_since done rest all made (tt, rises.2)
-        (around w.pass done (old ++ before) c rises.0
-        (calls ∙ rises.1 ∙ ap (λ (l : List Call). l ++ rises.0) (sym made)
-        ∙ append_assoc (old ++ before) (c ∷ []) rises.0))
+        (grind (arith, common_steps, around))
 
     -- so none but those is lent just before one call more
     pub unlent_before : (new : List Call) → RisesToLast q lent first new → (number : ℕ) → IsTrue (own number)
@@ -200,8 +184,7 @@ module _ (w : Watched) (origin : State) (h : List Entry) (q : AtPort) (old first
 -- frames of such a length fit as many blocks as a packet has at most
 pub short_by : (queue : ℕ) (q : AtPort) (frame : ℕ) (s : State) → HasGround queue q frame s
     → All (FitsBlocks queue (most_blocks frame)) s.waiting → AreShort queue (most_blocks frame) s
-short_by queue q frame s g short =
-    record { limit = (let limit = g.limit in omega (arith, limit)); waiting = short }
+short_by queue q frame s g short = grind (arith, common_steps)
 
 -- as both sides are on
 module _ {c : Course} (x : On c) (own : Blocks) where
@@ -248,7 +231,9 @@ module _ {c : Course} (x : On c) (own : Blocks) where
       (state_kept w origin (lent_by w.pass h) Short short_kept)
       (λ n plain.
       state_leads w origin (lent_by w.pass h) n Short Short (λ s met made told s_is. plain_short s n.event plain s_is))
-      rises.0 quiet_at (rising_are_plain q (halves_lent_by (first x)) rises.0 rises.2)
+      rises.0 quiet_at
+      (each_such (IsRising q (halves_lent_by (first x))) (IsPlain q) (rising_plain q (halves_lent_by (first x))) rises.0
+      rises.2)
       (made_some q old quiet_at (Sees Rxdctl false) up.receive.quiet.1)
       (first_seen w q origin h Short along short_kept
       (λ s number s_is. plain_short s (event.Read q.port number) tt s_is) Rxdctl false old quiet_at up.receive.quiet.1

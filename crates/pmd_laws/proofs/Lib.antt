@@ -1,7 +1,5 @@
 pub use Rattle.driver_laws.proofs as DriverLaws
-pub mod Begun
 pub mod Beside
-pub mod Ends
 pub mod FullRing
 pub mod InHand
 pub mod Laid

@@ -1,31 +1,27 @@
 -- A driver that lived: what it left, counted from its first event on. What is counted once a side is on is counted
 -- anew, whatever was before a place where it was off.
 use Rattle.workers.specs.Starts.{Starts}
-use Rattle.pmd_laws.proofs.Ends.{left_handed_over_stop, left_sent_over_stop}
+use Rattle.pmd_laws.{proofs.DriverLaws.Histories.leads-append, proofs.DriverLaws.StopCalls.prepared_plain}
+use Rattle.pmd_laws.{proofs.DriverLaws.SwitchedOff.quieting_leads, proofs.StopCalls.stopped_ends}
+use Rattle.pmd_laws.{proofs.Stopped.left_handed_over_stop, proofs.Stopped.left_sent_over_stop, specs.Points.JustBefore}
 use Rattle.pmd_laws.proofs.Prelude.{[], ◌&&◌, ◌++◌, ◌∙◌, ◌∷◌, ◌≡◌, AreSteps, AreUp, AtPort, Begins, BeginsWell, Bool}
 use Rattle.pmd_laws.proofs.Prelude.{Call, Dir, Ended, Entry, HasGround, HasLived, IsAlong, IsFalse, IsOver, IsQuiet}
-use Rattle.pmd_laws.proofs.Prelude.{IsTrue, List, None, Numbers, Option, Parts, PmdFault, Rest, Rx, Rxdctl, Sees, Sets}
-use Rattle.pmd_laws.proofs.Prelude.{Some, State, Tx, Up, Watched, WentOn, ℕ, after, ap, append-nil, append_assoc}
-use Rattle.pmd_laws.proofs.Prelude.{append_cancel_left, around, both_ways, bytes_of, calls_joined, calls_of, cases_Bool}
-use Rattle.pmd_laws.proofs.Prelude.{cond, delivered, extends, false, halted_of, inl, inr, is_on, is_step, leads_to}
-use Rattle.pmd_laws.proofs.Prelude.{left_accepted, left_handed, new_state, not, one_begins, option_map}
-use Rattle.pmd_laws.proofs.Prelude.{packets_if_any, parts, pieces, pieces_since, polled, quiet, receive_polled, refl}
-use Rattle.pmd_laws.proofs.Prelude.{sent_by, sent_is_counted, sent_since, since-append, start_goes_on, subst, sym, true}
-use Rattle.pmd_laws.proofs.DriverLaws.StopCalls.{prepared_plain}
-use Rattle.pmd_laws.proofs.DriverLaws.Histories.{leads-append}
-use Rattle.pmd_laws.proofs.DriverLaws.SwitchedOff.{quieting_leads}
-use Rattle.pmd_laws.proofs.StopCalls.{stopped_ends}
-use Rattle.pmd_laws.specs.Points.{JustBefore}
+use Rattle.pmd_laws.proofs.Prelude.{IsTrue, List, None, Numbers, Option, Parts, PmdFault, Rest, Rx, Rxdctl, Some, State}
+use Rattle.pmd_laws.proofs.Prelude.{Tx, Watched, WentOn, ℕ, after, ap, append-nil, append_assoc, append_cancel_left}
+use Rattle.pmd_laws.proofs.Prelude.{around, both_ways, bytes_of, calls_joined, calls_of, cases_Bool, cond, delivered}
+use Rattle.pmd_laws.proofs.Prelude.{extends, false, inl, inr, is_on, is_step, leads_to, left_accepted, left_handed}
+use Rattle.pmd_laws.proofs.Prelude.{new_state, not, one_begins, option_map, packets_if_any, parts, pieces, pieces_since}
+use Rattle.pmd_laws.proofs.Prelude.{polled, quiet, receive_polled, refl, sent_by, sent_is_counted, sent_since}
+use Rattle.pmd_laws.proofs.Prelude.{since-append, start_goes_on, subst, sym, true}
 use Rattle.pmd_laws.proofs.WorkerTold.{FirstCall, before_first, first_read, more_behind}
+use Rattle.std.proofs.{Common.arith, lemmas.Grind.common_steps}
 use Rattle.pmd_laws.specs.DriverLaws.RingLaws.Delivered as receive
 use Rattle.pmd_laws.specs.DriverLaws.RingLaws.Laws as transmit
 
 -- where a side goes on what was before doesn't count
 anew : {A : Type 0} (was is : Bool) (x y z : A) → was ≡ false → is ≡ true
     → cond (not was && is) x y ≡ cond (not was && is) x z
-anew true is x y z off on = cc
-anew false true x y z off on = refl
-anew false false x y z off on = cc
+anew was is x y z off on = grind (arith, common_steps)
 
 -- a count of what each entry adds, which begins anew where a side of a queue goes on
 module _ {A : Type 0} (dir : Dir) (queue : ℕ) (none begun : A) (add : State → Entry → A → A)
@@ -57,16 +53,7 @@ module _ {A : Type 0} (dir : Dir) (queue : ℕ) (none begun : A) (add : State �
       → IsFalse (is_on (leads_to s (before ++ till)).registers dir queue)
       → IsTrue (is_on (leads_to (leads_to s (before ++ till)) up).registers dir queue)
       → since s none ((before ++ till) ++ (up ++ more)) ≡ since (leads_to s before) none (till ++ (up ++ more))
-  since_from s before till up more off on =
-      let start : State = leads_to s before in
-      let off_at : State = leads_to s (before ++ till) in
-      let early : A = since s none (before ++ till) in
-      let late : A = since start none till in
-      joined s none (before ++ till) (up ++ more) ∙ joined off_at early up more
-      ∙ ap (λ (so_far : A). since (leads_to off_at up) so_far more) (since_anew off_at early late up off on)
-      ∙ sym (joined off_at late up more)
-      ∙ ap (λ (t : State). since t late (up ++ more)) (leads-append s before till)
-      ∙ sym (joined start none till (up ++ more))
+  since_from s before till up more off on = grind (arith, common_steps, since_anew, leads-append)
 
 module _ (queue : ℕ) (s : State) (before till up more : List Entry) where
   abbrev off_at : State
@@ -94,8 +81,7 @@ abbrev GoesOn : List Call → List Call → Type 0
 GoesOn old new = (more : List Call) × (new ≡ old ++ more)
 
 goes_on : (old mid new : List Call) → GoesOn old mid → GoesOn mid new → GoesOn old new
-goes_on old mid new (cs, one) (ds, two) =
-    (cs ++ ds, two ∙ ap (λ (l : List Call). l ++ ds) one ∙ append_assoc old cs ds)
+goes_on old mid new (cs, one) (ds, two) = grind (arith, common_steps)
 
 -- each of some steps of the device is one
 steps_have : (before : List Call) (c : Call) (more : List Call) → AreSteps (before ++ c ∷ more)
@@ -115,8 +101,7 @@ module _ (w : Watched) (fifo : ℕ) (h : List Entry) {q : AtPort} {size frame : 
   -- the calls that it made, in parts: behind the first, from where both sides were seen off on, from where both are on
 
   off_goes : GoesOn up.receive.quiet.0 up.receive.mid
-  off_goes =
-      extends q (Sets Rxdctl 0 ∷ Sees Rxdctl false ∷ quiet Tx) up.receive.quiet.0 up.receive.mid up.receive.quiet.2
+  off_goes = grind (arith, common_steps, extends, quiet, up)
 
   up_goes : GoesOn up.receive.mid up.on.mid
   up_goes =
@@ -128,15 +113,10 @@ module _ (w : Watched) (fifo : ℕ) (h : List Entry) {q : AtPort} {size frame : 
       up.on.switched.3))
 
   stop_goes : GoesOn lived.made new
-  stop_goes =
-      let (calls, is, are) =
-      stopped_ends q lived.made (halted_of (Up lived.last)) new left late lived.stopped in (calls, is)
+  stop_goes = grind (arith, common_steps, stopped_ends)
 
   on_goes : GoesOn up.on.mid new
-  on_goes =
-      let drives = lived.lives.drives.apart.drives in
-      goes_on up.on.mid lived.lives.made new (up.on.plays.plays.1, up.on.plays.plays.2)
-      (goes_on lived.lives.made lived.made new (drives.1, drives.2) stop_goes)
+  on_goes = grind (arith, common_steps, goes_on, up, stop_goes)
 
   -- so its first entry stands in the history
   pub starts : Starts w.pass old h
@@ -145,8 +125,7 @@ module _ (w : Watched) (fifo : ℕ) (h : List Entry) {q : AtPort} {size frame : 
       (goes_on up.receive.mid up.on.mid new up_goes on_goes) in
       let x =
       around w.pass h (old ++ first.before) first.call more
-      (made ∙ all ∙ more_behind old up.receive.quiet.0 more first
-      ∙ sym (append_assoc old first.before (first.call ∷ more))) in record {
+      (grind (arith, common_steps, more_behind, up, first)) in record {
         before = x.before;
         first = x.entry;
         behind = x.behind;
@@ -180,12 +159,7 @@ module _ (w : Watched) (fifo : ℕ) (h : List Entry) {q : AtPort} {size frame : 
     }
 
     over : IsOver ended
-    over = record {
-      since = stop_goes.0;
-      rest = [];
-      all = stop_goes.1 ∙ sym (append-nil (lived.made ++ stop_goes.0));
-      calls = made ∙ stop_goes.1;
-    }
+    over = grind (arith, common_steps, stop_goes, append-nil)
 
     -- the history in parts: up to where both sides were seen off, up to where both are on, and from there on
 
@@ -199,9 +173,7 @@ module _ (w : Watched) (fifo : ℕ) (h : List Entry) {q : AtPort} {size frame : 
     rest = both_off.back ++ both_on.back
 
     whole : both_off.front ++ rest ≡ h
-    whole =
-        sym (append_assoc both_off.front both_off.back both_on.back)
-        ∙ ap (λ (l : List Entry). l ++ both_on.back) both_off.both ∙ both_on.both
+    whole = grind (arith, common_steps, both_off, both_on)
 
     quieted : IsQuiet w.queue q frame (leads_to origin both_off.front)
     quieted =
@@ -219,11 +191,8 @@ module _ (w : Watched) (fifo : ℕ) (h : List Entry) {q : AtPort} {size frame : 
       not_behind : Begins both_off.front x.before → ⊥
       not_behind (back, is) =
           let (more, all) =
-          goes_on up.receive.quiet.0 up.receive.mid (calls_of w.pass x.before) off_goes (
-            calls_of w.pass back,
-            sym (ap (calls_of w.pass) is) ∙ calls_joined w.pass both_off.front back
-                ∙ ap (λ (l : List Call). l ++ calls_of w.pass back) both_off.fronts,
-          ) in
+          goes_on up.receive.quiet.0 up.receive.mid (calls_of w.pass x.before) off_goes
+          (grind (arith, common_steps, calls_joined, both_off)) in
           let same : x.steps ≡ first.before ++ first.call ∷ more =
           append_cancel_left old x.steps (first.before ++ first.call ∷ more)
           (sym x.calls ∙ all ∙ more_behind old up.receive.quiet.0 more first) in
@@ -246,31 +215,18 @@ module _ (w : Watched) (fifo : ℕ) (h : List Entry) {q : AtPort} {size frame : 
       in_parts = ap (λ (l : List Entry). l ++ rest) begun.1 ∙ whole
 
       there : leads_to origin both_on.front ≡ leads_to (leads_to origin (x.before ++ begun.0)) both_off.back
-      there =
-          ap (leads_to origin)
-          (sym (ap (λ (l : List Entry). l ++ both_off.back) begun.1 ∙ both_off.both))
-          ∙ leads-append origin (x.before ++ begun.0) both_off.back
+      there = grind (arith, common_steps, both_off, begun, leads-append)
 
       pub handed_since : receive.IsPrefixOf (left_handed left)
           (delivered w.queue (leads_to origin x.before) (x.first ∷ x.behind))
       handed_since =
           subst (receive.IsPrefixOf (left_handed left))
-          (ap (delivered w.queue origin) (sym in_parts)
-          ∙ delivered_from w.queue origin x.before begun.0 both_off.back both_on.back
-          (subst (λ (l : List Entry). IsFalse (is_on (leads_to origin l).registers Rx w.queue)) (sym begun.1)
-          quieted.receive.off)
-          (subst (λ (s : State). IsTrue (is_on s.registers Rx w.queue)) there went_on.receives.on)
-          ∙ ap (delivered w.queue (leads_to origin x.before)) (sym from_first))
+          (grind (arith, common_steps, in_parts, delivered_from, begun, quieted, there, went_on, from_first))
           (left_handed_over_stop ended over)
 
       pub sent_on : transmit.IsPrefixOf (sent_since w.queue (leads_to origin x.before) [] (x.first ∷ x.behind))
           (bytes_of (left_accepted left))
       sent_on =
           subst (λ (sent : List (List ℕ)). transmit.IsPrefixOf sent (bytes_of (left_accepted left)))
-          (ap (sent_since w.queue origin []) (sym in_parts)
-          ∙ sent_from w.queue origin x.before begun.0 both_off.back both_on.back
-          (subst (λ (l : List Entry). IsFalse (is_on (leads_to origin l).registers Tx w.queue)) (sym begun.1)
-          quieted.transmit.off)
-          (subst (λ (s : State). IsTrue (is_on s.registers Tx w.queue)) there went_on.sends.on)
-          ∙ ap (sent_since w.queue (leads_to origin x.before) []) (sym from_first))
+          (grind (arith, common_steps, in_parts, sent_from, begun, quieted, there, went_on, from_first))
           (left_sent_over_stop ended over)

@@ -1,30 +1,26 @@
 -- No call of a driver finds the device at fault, from the place on where both sides of its queue are on, and so over
 -- its whole life; nor does a burst meet it at fault, whatever it answers. What such a call tells may be told behind
 -- other calls: what it added comes behind the driver's.
-use Rattle.pmd.proofs.PmdSeam.Steps.{steps_both, steps_last}
-use Rattle.pmd.specs.Halves.{OthersStep}
-use Rattle.driver_laws.proofs.Healthy.{no_fault}
-use Rattle.driver_laws.specs.Faults.{doers_of}
-use Rattle.pmd_laws.specs.Told.{now}
+use Rattle.pmd.{proofs.PmdSeam.Steps.steps_both, proofs.PmdSeam.Steps.steps_last, specs.Halves.OthersStep}
+use Rattle.driver_laws.{proofs.Healthy.no_fault, specs.Faults.doers_of}
 use Rattle.pmd_laws.proofs.Lent.{known_at, others_before, others_behind, short_at, short_by}
-use Rattle.pmd_laws.proofs.Told.{added, added_is, goes, led, life, up_next}
 use Rattle.pmd_laws.proofs.Order.{On, begun, driven_by, first, last_before, on_before}
-use Rattle.pmd_laws.proofs.Prelude.{[], ◌++◌, ◌∙◌, ◌∷◌, ◌≡◌, AllLendApart, AllOwn, BeforeLast, Blocks, Call}
-use Rattle.pmd_laws.proofs.Prelude.{Course, DeviceFault, Doer, DrivesApart, DrivesRings, Elsewhere, Entry, FailedAmid}
-use Rattle.pmd_laws.proofs.Prelude.{FindsBy, FindsFault, Halves, IfErr, IfSome, IsFresh, LeadsApart, List}
-use Rattle.pmd_laws.proofs.Prelude.{NoBurstMeetsFault, NoCallFindsFault, None, OnlyPassLends, Option, OthersHarmless}
-use Rattle.pmd_laws.proofs.Prelude.{OwnCall, Packet, Parts, PmdFault, Receive, Receives, Result, Running, Sends}
-use Rattle.pmd_laws.proofs.Prelude.{SendsAtFault, SendsWith, Some, Told, ℕ, ap, apart_on, append-nil, append_assoc}
-use Rattle.pmd_laws.proofs.Prelude.{append_cancel_left, both_own, call_of, calls_joined, calls_of, doers_other, false}
-use Rattle.pmd_laws.proofs.Prelude.{halves_of, harmless_both, is_healthy, is_neither, is_own, leads_to, left, met_by}
-use Rattle.pmd_laws.proofs.Prelude.{others_harmless, others_own, others_played, own_length, parts, played_by, refl}
-use Rattle.pmd_laws.proofs.Prelude.{subst, sym}
+use Rattle.pmd_laws.proofs.Prelude.{[], ◌++◌, ◌∙◌, ◌∷◌, ◌≡◌, AllLendApart, AllOwn, BeforeLast, Blocks, Call, Course}
+use Rattle.pmd_laws.proofs.Prelude.{DeviceFault, Doer, DrivesApart, DrivesRings, Elsewhere, Entry, FailedAmid, FindsBy}
+use Rattle.pmd_laws.proofs.Prelude.{FindsFault, Halves, IfErr, IfSome, IsFresh, LeadsApart, List, NoBurstMeetsFault}
+use Rattle.pmd_laws.proofs.Prelude.{NoCallFindsFault, None, OnlyPassLends, Option, OthersHarmless, Packet, Parts}
+use Rattle.pmd_laws.proofs.Prelude.{PmdFault, Receive, Result, Running, Sends, SendsAtFault, SendsWith, Some, Told, ℕ}
+use Rattle.pmd_laws.proofs.Prelude.{ap, apart_on, append-nil, append_assoc, append_cancel_left, both_own, call_of}
+use Rattle.pmd_laws.proofs.Prelude.{calls_joined, calls_of, doers_other, false, halves_of, harmless_both, is_healthy}
+use Rattle.pmd_laws.proofs.Prelude.{is_neither, is_own, leads_to, left, met_by, others_harmless, others_own}
+use Rattle.pmd_laws.proofs.Prelude.{others_played, own_length, parts, played_by, subst, sym}
+use Rattle.pmd_laws.proofs.Told.{added, added_is, goes, led, life, up_next}
+use Rattle.pmd_laws.specs.Told.{now}
+use Rattle.std.proofs.{Common.arith, lemmas.Grind.common_steps}
 
 -- a call whose reply no healthy queue gives is a half's
 sick_own : (h : Halves) (d : Doer) (n : Call) → is_healthy h d n ≡ false → is_neither d ≡ false
-sick_own h Receives n sick = refl
-sick_own h (Sends Elsewhere) n sick = cc
-sick_own h (Sends m) n sick = refl
+sick_own h d n sick = grind (arith, common_steps)
 
 -- all calls up to it, and whose they are
 module _ {own : Blocks} {on : List Call} {h : Halves} {new : List Call} (f : FindsFault own on h new) where
@@ -41,12 +37,7 @@ module _ {own : Blocks} {on : List Call} {h : Halves} {new : List Call} (f : Fin
   last = call_of f.event f.reply ∷ []
 
   own_all : AllOwn h (doers_of own on h new f) made
-  own_all =
-      let (doers, since, made, own, is, steps) = f.drives.drives in
-      let there : Halves = played_by h doers since in
-      both_own h doers (doers_other before ++ f.doer ∷ []) since (before ++ last) own
-      (both_own there (doers_other before) (f.doer ∷ []) before last (others_own there before)
-      (subst (λ (k : Halves). OwnCall k f.doer (call_of f.event f.reply)) (is ∙ others_played there before) f.mine, tt))
+  own_all = grind (arith, common_steps, both_own, before, last, others_own, others_played)
 
   others_step : OthersStep (doers_of own on h new f) made
   others_step =
@@ -152,14 +143,7 @@ burst_finds None given left result old mid new r there s drives finds x is =
       found_on drives.apart
           (subst (λ (own : Blocks). FindsFault own mid (halves_of there) upto) (λ i k. drives.owns k i) f),
     )
-burst_finds (Some f) given left result old mid new r there s drives finds x is = (
-  new,
-  [],
-  sym (append-nil new),
-  subst (λ (met : Option PmdFault). IfSome met (λ g. FindsBy g (is_own r.arena) old (halves_of r) new)) is
-      (subst (λ (answer : Result ℕ PmdFault). IfErr answer (λ g. FindsBy g (is_own r.arena) old (halves_of r) new)) x.0
-      finds),
-)
+burst_finds (Some f) given left result old mid new r there s drives finds x is = grind (arith, common_steps)
 
 -- behind a driver's life no call added so
 module _ (x : Told)

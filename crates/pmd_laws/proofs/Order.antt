@@ -1,24 +1,141 @@
--- What a driver handed out and what it sent once both sides of its queue went on, and so in its life; and within a
--- longer history: what begins a life is one too.
-use Rattle.device_lock.proofs.Histories.{events_before, legal_before}
+-- The halves as both sides of a queue are on: each has lent its ring's blocks, and no other; and what a driver lends
+-- from there on. What it handed out and what it sent once both sides went on, and so in its life; and within a longer
+-- history: what begins a life is one too.
+use Rattle.driver_laws.proofs.{InOrder.Led, Parts.begun as begun_by, RingLaws.Kept.each_by}
 use Rattle.driver_laws.proofs.On.{on_some, other_lent, ring_lent, switched_sides_agree, switched_sides_go_on}
-use Rattle.driver_laws.proofs.InOrder.{Led}
-use Rattle.driver_laws.proofs.Parts.{begun as begun_by}
-use Rattle.driver_laws.specs.Histories.{IsDriven}
-use Rattle.pmd_laws.proofs.Begun.{first_halves, halves_apart, halves_lent}
-use Rattle.pmd_laws.proofs.Prelude.{[], ◌++◌, ◌∙◌, ◌≡◌, ◌≢◌, AllOwn, AreEvents, AreLent, AreOn, BeforeLast}
-use Rattle.pmd_laws.proofs.Prelude.{BothAgree, Call, Course, Dir, Doer, Entry, FindsNone, Halves, HasGround, IsAlong}
-use Rattle.pmd_laws.proofs.Prelude.{IsLegal, IsPrefixOf, IsSettled, IsUp, Leads, LeavesAloneFrom, Life, List}
-use Rattle.pmd_laws.proofs.Prelude.{OthersHarmless, Parts, Receive, Rx, Sender, ShowsNone, State, Tx, Watched}
-use Rattle.pmd_laws.proofs.Prelude.{WentOn, ℕ, ap, beginning_alone, bytes_of, calls_of, counted_where_up}
-use Rattle.pmd_laws.proofs.Prelude.{delivered, drives_lead, halves_of, handed_is_prefix, harmless_leave_alone}
-use Rattle.pmd_laws.proofs.Prelude.{idle_is_all_sent, inl, leads-append, leads_on, leads_to, led, lent_by, none_is_all}
-use Rattle.pmd_laws.proofs.Prelude.{none_is_all_taken, on, parts, pieces_in, played_by, receiving_drives, records_of}
-use Rattle.pmd_laws.proofs.Prelude.{refl, sent_in, sent_is_prefix, sent_since, subst, sym}
+use Rattle.driver_laws.specs.{Healthy.lent_by as halves_lent_by, Histories.IsDriven, RingLaws.Steps.Each}
+use Rattle.device_lock.proofs.Histories.{events_before, legal_before}
+use Rattle.pmd_laws.proofs.Prelude.{[], ◌++◌, ◌+◌, ◌<◌, ◌∙◌, ◌∷◌, ◌≡◌, ◌≢◌, AllOwn, AreApart, AreEvents, AreLent, AreOn}
+use Rattle.pmd_laws.proofs.Prelude.{AtPort, BeforeLast, Blocks, Bool, BothAgree, Call, Course, Dir, Doer, DrivesApart}
+use Rattle.pmd_laws.proofs.Prelude.{EachRingBlock, Entry, FindsNone, Halves, HasGround, IsAlong, IsDrawn, IsLegal}
+use Rattle.pmd_laws.proofs.Prelude.{IsPrefixOf, IsReceiveReady, IsSettled, IsTransmitReady, IsTrue, IsUp, Leads}
+use Rattle.pmd_laws.proofs.Prelude.{LeavesAloneFrom, Life, List, Lives, MayLend, Numbers, OthersHarmless, OwnsSame}
+use Rattle.pmd_laws.proofs.Prelude.{Parts, Receive, Receives, Running, Rx, Sender, ShowsNone, State, Tx, Watched}
+use Rattle.pmd_laws.proofs.Prelude.{WentOn, ℕ, all_drawn, all_exchanged, ap, apart_on, append-nil, beginning_alone}
+use Rattle.pmd_laws.proofs.Prelude.{both_ways, bytes_of, calls_of, cond, counted_where_up, delivered, drives_lead}
+use Rattle.pmd_laws.proofs.Prelude.{each_ring_block, false, false_from_ne_true, first_of, halves_of, handed_is_prefix}
+use Rattle.pmd_laws.proofs.Prelude.{harmless_leave_alone, has_lent, idle_is_all_sent, inl, is_free, is_own}
+use Rattle.pmd_laws.proofs.Prelude.{is_own-of_free, is_ring_block, leads-append, leads_on, leads_to, led, lent_by}
+use Rattle.pmd_laws.proofs.Prelude.{none_is_all, none_is_all_taken, on, parts, pieces_in, played_by, receiving_apart}
+use Rattle.pmd_laws.proofs.Prelude.{receiving_drives, records_of, refl, ring_block_among, ring_block_is, ring_block_out}
+use Rattle.pmd_laws.proofs.Prelude.{ring_blocks, sent_in, sent_is_prefix, sent_since, subst, sym, times_among}
+use Rattle.pmd_laws.proofs.Prelude.{times_in_hand, true, true_from_ne_false, with_free}
+use Rattle.std.proofs.{Common.arith, lemmas.Grind.common_steps}
+use Rattle.pmd.specs.PmdRx.{PmdSeam.Frames.most_blocks, Receive.at_start}
 use Rattle.driver_laws.specs.RingLaws.Delivered as receive
 use Rattle.driver_laws.specs.RingLaws.ReceiveUp as received
-use Rattle.std.proofs.Common.{arith}
-use Rattle.std.proofs.lemmas.Grind.{common_steps}
+
+-- blocks that were drawn from an arena were free there, and aren't any more
+
+pub drawn_gone : (a : Numbers) (ns : List ℕ) (b : Numbers) (n : ℕ) → IsDrawn a ns b → is_free b n ≡ true
+    → times_in_hand ns n ≡ 0
+drawn_gone a ns b n drawn free =
+    let each = (all_drawn a ns b [] drawn).each n in
+    gone (is_free a n) (times_in_hand ns n)
+    (rw (free, append-nil ns) at each)
+  where
+    gone : (f : Bool) (t : ℕ) → 1 + t ≡ cond f 1 0 + 0 → t ≡ 0
+    gone true t is = omega (arith, is)
+    gone false t is = omega (arith, is)
+
+drawn_free : (a : Numbers) (ns : List ℕ) (b : Numbers) (n : ℕ) → IsDrawn a ns b → 0 < times_in_hand ns n
+    → is_free a n ≡ true
+drawn_free a ns b n drawn some =
+    let each = (all_drawn a ns b [] drawn).each n in
+    true_from_ne_false (is_free a n) (grind (arith, common_steps, append-nil))
+
+pub drawn_both : (a : Numbers) (xs : List ℕ) (b : Numbers) (ys : List ℕ) (c : Numbers) → IsDrawn a xs b
+    → IsDrawn b ys c → IsDrawn a (xs ++ ys) c
+drawn_both a [] b ys c first then = subst (λ (x : Numbers). IsDrawn x ys c) first then
+drawn_both a (x ∷ xs) b ys c (here, first) then = (here, drawn_both (with_free a x false) xs b ys c first then)
+
+-- so it is with a ring's
+
+ring_gone : (a : Numbers) (ring size : ℕ) (b : Numbers) (n : ℕ) → IsDrawn a (ring_blocks ring size) b
+    → is_free b n ≡ true → is_ring_block ring size n ≡ false
+ring_gone a ring size b n drawn free =
+    sym (ring_block_among ring size n)
+    ∙ times_among (ring_blocks ring size) n (drawn_gone a (ring_blocks ring size) b n drawn free)
+
+-- a transmit ring that is ready has lent its own blocks alone
+module _ {q : AtPort} {size frame : ℕ} {old : List Call} {a : Numbers} {new : List Call} {b : Numbers} {t : Sender}
+    (ready : IsTransmitReady q size frame old a new b t) where
+  lent_ring : (n : ℕ) → has_lent t n ≡ true → is_ring_block ready.ring size n ≡ true
+  lent_ring n is = grind (arith, common_steps)
+
+-- as both sides are on the receive ring is empty
+module _ {q : AtPort} {size frame : ℕ} {old : List Call} {a : Numbers} {new : List Call} {v : Receive} {t : Sender}
+    (up : AreOn q size frame old a new v t) where
+  abbrev pub first_halves : Halves
+  first_halves = record { receive = v; transmit = t }
+
+  each_first : (P : ℕ → Type 0) → EachRingBlock up.receive.ring size P → Each v P
+  each_first P is =
+      subst (λ (r : Receive). Each r P) (sym up.receive.fresh)
+      (each_by (at_start q.port up.receive.tail up.receive.ring size (most_blocks frame)) P is
+      (λ k low. absurd (omega (arith, low))) tt)
+
+  pub halves_apart : AreApart first_halves
+  halves_apart n is =
+      each_first (λ b. b ≢ n) (λ k below same.
+      both_ways (is_ring_block up.receive.ring size n)
+      (ring_gone a up.receive.ring size up.ready_arena n up.receive.prepared.drawn
+      (grind (arith, common_steps, drawn_free, ring_block_out, lent_ring)))
+      (rw (← same) (ring_block_is up.receive.ring size k below)))
+
+  pub halves_lent : (mine : Blocks) → EachRingBlock up.receive.ring size (λ n. IsTrue (mine n))
+      → EachRingBlock up.transmit.ring size (λ n. IsTrue (mine n)) → AreLent mine first_halves
+  halves_lent mine one two = record {
+    receive = each_first (λ n. IsTrue (mine n)) one;
+    transmit = λ n is.
+        each_ring_block up.transmit.ring size (λ b. IsTrue (mine b)) two n (lent_ring up.transmit n is);
+  }
+
+  -- both rings are lent
+
+  pub receive_lent : EachRingBlock up.receive.ring size (λ n. IsTrue (halves_lent_by first_halves n))
+  receive_lent k below = grind (arith, common_steps, ring_block_among, ring_block_is)
+
+  pub transmit_lent : EachRingBlock up.transmit.ring size (λ n. IsTrue (halves_lent_by first_halves n))
+  transmit_lent k below = grind (arith, common_steps)
+
+-- as both rings came up: the arena keeps its numbers, and what is free then the receive half may lend
+module _ {q : AtPort} {size frame : ℕ} {old : List Call} {a : Numbers} {ready_made : List Call} {ready_arena : Numbers}
+    {both_made : List Call} {both_arena : Numbers} {v : Receive} {t : Sender}
+    (receive : IsReceiveReady q size frame old a ready_made ready_arena v)
+    (transmit : IsTransmitReady q size frame ready_made ready_arena both_made both_arena t) where
+  both_own : OwnsSame a both_arena
+  both_own n =
+      (all_drawn ready_arena (ring_blocks transmit.ring size) both_arena [] transmit.prepared.drawn).owns n
+      ∙ (all_drawn a (ring_blocks receive.ring size) ready_arena [] receive.prepared.drawn).owns n
+
+  -- what is free then, the transmit ring hasn't lent
+  pub may : (n : ℕ) → is_free both_arena n ≡ true
+      → MayLend (is_own a) (record { receive = v; transmit = t }) Receives n
+  may n free = (
+    sym (both_own n) ∙ is_own-of_free both_arena n free,
+    false_from_ne_true (has_lent t n) (grind (arith, common_steps, ring_gone, lent_ring)),
+  )
+
+-- so a driver lends from there on
+module _ {q : AtPort} {size frame : ℕ} {old : List Call} {a : Numbers} {new : List Call} {r : Running}
+    (x : Lives q size frame old a new r) where
+  pub fresh_own : OwnsSame a x.fresh.arena
+  fresh_own n =
+      let posts = x.up.on.filled.2 in
+      (all_exchanged x.up.both_arena [] x.fresh.arena (posts.blocks ++ [])
+      (posts.blocks, posts.drawn, λ k. refl)).owns n
+      ∙ both_own x.up.receive x.up.transmit n
+
+  pub all_apart : DrivesApart (is_own a) x.up.on.mid (first_of q size frame old a new r x) new (halves_of r)
+  all_apart =
+      let on = x.up.on in
+      let first = first_of q size frame old a new r x in
+      apart_on (is_own a) on.mid x.made new first (halves_of x.fresh) (halves_of r)
+      (receiving_apart (is_own a) x.up.both_arena on.mid x.made first (halves_of x.fresh)
+      (may x.up.receive x.up.transmit) on.plays refl)
+      (subst (λ (own : Blocks). DrivesApart own x.made (halves_of x.fresh) new (halves_of r))
+      (λ i n. fresh_own n i) x.drives.apart)
 
 -- both sides of a driver's queue went on over a history that leaves it alone
 pub record On (c : Course) : Type 0 where
@@ -64,9 +181,7 @@ module _ {c : Course} (x : On c) where
               subst (λ (l : List Entry). AreLent (lent_by w.pass l) first) all
               (halves_lent up (lent_by w.pass h) (λ k below. (one k below).mine) (λ k below. (two k below).mine));
           own = subst (AllOwn first doers) (sym p.backs) own;
-          others =
-              harmless_leave_alone w (lent_by w.pass (p.front ++ p.back)) (leads_to origin p.front) doers p.back
-              (subst (OthersHarmless doers) (sym p.backs) harmless);
+          others = grind (arith, common_steps, harmless_leave_alone);
         }
 
 -- and then calls led the halves on
@@ -114,8 +229,7 @@ module _ {c : Course} (x : Ran c) where
     -- what is so in parts is so of all
     in_all : (P : Halves → List Entry → Type 0)
         → P (played_by (first x.there) goes.0 (calls_of w.pass back)) (in_parts.front ++ back) → P k h
-    in_all P holds =
-        subst (P k) in_parts.both (subst (λ (z : Halves). P z (in_parts.front ++ back)) (last in_parts) holds)
+    in_all P holds = grind (arith, common_steps, k, in_parts, back, last)
 
     pub handed : receive.IsPrefixOf k.receive.handed (delivered w.queue origin h)
     handed =
@@ -182,8 +296,7 @@ module _ (x : Life) where
   pub whole : Leads is.up.on.mid (first begun) x.made k
   whole =
       leads_on is.up.on.mid started x.made (first begun) (halves_of r) k
-      (drives_lead is.up.on.mid started (first begun) (halves_of r)
-      (receiving_drives is.up.on.mid started (first begun) (halves_of r) is.up.on.plays.plays refl))
+      (grind (arith, common_steps, drives_lead, first, begun, receiving_drives))
       is.since
 
   abbrev pub ran : Ran x.course

@@ -1,24 +1,18 @@
 -- Of an arena's blocks those are lent at the device that its driver has out with its halves; and each block of it is in
 -- one place: free there, in hand, or lent to the device.
-use Rattle.std.proofs.lemmas.List.Folds.{list_any-append}
-use Rattle.pmd.specs.PmdRx.Keeping.{fresh_block}
-use Rattle.driver_laws.proofs.Healthy.{known_along}
-use Rattle.driver_laws.proofs.Lending.{receive_lent}
-use Rattle.driver_laws.proofs.Sending.{sender_lent}
-use Rattle.driver_laws.specs.Healthy.{lent_by}
-use Rattle.pmd_laws.specs.Told.{now}
-use Rattle.pmd_laws.proofs.Lent.{known_at, others_behind}
+use Rattle.std.proofs.lemmas.{Grind.common_steps, List.Folds.list_any-append}
+use Rattle.driver_laws.proofs.{Healthy.known_along, Lending.receive_lent, Sending.sender_lent}
+use Rattle.driver_laws.specs.{Healthy.lent_by}
+use Rattle.pmd_laws.proofs.{Lent.known_at, Lent.others_behind, Told.goes, Told.led, Told.told_ran}
 use Rattle.pmd_laws.proofs.Order.{agree, driven, first, in_parts, last, there_is}
-use Rattle.pmd_laws.proofs.Prelude.{◌++◌, ◌+◌, ◌==◌, ◌||◌, ◌∙◌, ◌≡◌, AllLendApart, Blocks, Bool}
-use Rattle.pmd_laws.proofs.Prelude.{BothAgree, EachInOnePlace, Halves, HasAll, IsTrue, LentIsOut, List, Memory}
-use Rattle.pmd_laws.proofs.Prelude.{Numbers, OnlyLent, OnlyPassLends, OutIsLent, Piece, Rings, Running, Sender}
-use Rattle.pmd_laws.proofs.Prelude.{State, Told, Up, ℕ, among_times, arena_of, arith, blocks_of, cond}
-use Rattle.pmd_laws.proofs.Prelude.{false, halted_of, halves_of, has_block, has_lent, inl, inr, is_free}
-use Rattle.pmd_laws.proofs.Prelude.{is_out, is_own, is_ring_block, leads_to, list_any, memory_after, or_cases}
-use Rattle.pmd_laws.proofs.Prelude.{or_right, places_of, refl, ring_block_among, ring_blocks}
-use Rattle.pmd_laws.proofs.Prelude.{subst, suc, sym, take, times-append, times_among, times_in_hand, true}
-use Rattle.pmd_laws.proofs.Prelude.{zero}
-use Rattle.pmd_laws.proofs.Told.{goes, led, told_ran}
+use Rattle.pmd_laws.proofs.Prelude.{◌++◌, ◌+◌, ◌==◌, ◌||◌, ◌∙◌, ◌≡◌, AllLendApart, Blocks, Bool, BothAgree}
+use Rattle.pmd_laws.proofs.Prelude.{EachInOnePlace, Halves, HasAll, IsTrue, LentIsOut, List, Memory, Numbers, OnlyLent}
+use Rattle.pmd_laws.proofs.Prelude.{OnlyPassLends, OutIsLent, Piece, Rings, Running, Sender, State, Told, Up, ℕ}
+use Rattle.pmd_laws.proofs.Prelude.{among_times, arena_of, arith, blocks_of, cond, false, halted_of, halves_of}
+use Rattle.pmd_laws.proofs.Prelude.{has_block, has_lent, inl, inr, is_free, is_out, is_own, leads_to, list_any}
+use Rattle.pmd_laws.proofs.Prelude.{memory_after, or_cases, places_of, refl, ring_block_among, ring_blocks, subst, suc}
+use Rattle.pmd_laws.proofs.Prelude.{sym, take, times-append, times_among, times_in_hand, true, zero}
+use Rattle.pmd_laws.specs.{Told.now}
 use Rattle.pmd.specs.PmdRx.Keeping as received
 use Rattle.pmd.specs.PmdTx.Leaving as leaving
 use Rattle.pmd.specs.PmdTx.Sending as sending
@@ -62,13 +56,10 @@ some zero = false
 some (suc t) = true
 
 counted : (xs : List ℕ) (n t : ℕ) → times_in_hand xs n ≡ t → list_any (λ b. n == b) xs ≡ some t
-counted xs n zero is = times_among xs n is
-counted xs n (suc t) is = among_times xs n (omega (arith, is))
+counted xs n t is = grind (arith, common_steps, times_among, among_times)
 
 swapped : (a b : Bool) → (a || b) ≡ (b || a)
-swapped true b = sym (or_right b true refl)
-swapped false true = refl
-swapped false false = refl
+swapped a b = grind (arith, common_steps)
 
 abbrev lent : Halves → List ℕ
 lent h = received.lent_of h.receive ++ leaving.lent_of h.transmit
@@ -80,24 +71,17 @@ lent_counted h n =
     let ring : List ℕ = ring_blocks v.layout.ring v.layout.size in
     let is = λ (b : ℕ). n == b in
     let sent : has_lent v n ≡ list_any is (leaving.lent_of v) =
-    swapped (is_ring_block v.layout.ring v.layout.size n) (list_any is pieces)
-    ∙ (λ i. list_any is pieces || sym (ring_block_among v.layout.ring v.layout.size n) i)
-    ∙ sym (list_any-append is pieces ring) in
+    grind (arith, common_steps, swapped, ring_block_among, list_any-append) in
     (λ i. received.has_lent h.receive n || sent i)
     ∙ sym (list_any-append is (received.lent_of h.receive) (leaving.lent_of v)) ∙ counted (lent h) n _ refl
 
 -- so it counts as lent
 placed : (f g : Bool) (t k : ℕ) → cond f 1 0 + (t + k) ≡ cond g 1 0
     → cond f 1 0 + k + cond (some t) 1 0 ≡ cond g 1 0
-placed f g zero k same = omega (arith, same)
-placed f g (suc zero) k same = omega (arith, same)
-placed f true (suc (suc t)) k same = absurd (omega (arith, same))
-placed f false (suc (suc t)) k same = absurd (omega (arith, same))
+placed f g t k same = grind (arith, common_steps)
 
 same_where : (a b : Bool) → (a ≡ true → b ≡ true) → (b ≡ true → a ≡ true) → a ≡ b
-same_where true b one two = sym (one refl)
-same_where false true one two = two refl
-same_where false false one two = refl
+same_where a b one two = grind (arith, common_steps)
 
 module _ (a : Numbers) (hand : List ℕ) (mem : Memory) (n : ℕ) where
   abbrev InPlace : Rings → Type 0

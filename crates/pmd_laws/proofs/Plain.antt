@@ -1,64 +1,30 @@
 -- The calls of a life are harmless, or write no register but the tails of its queue: so port and queue name the queue,
 -- and the frame limit stays, as long as its halves are led on.
-use Rattle.driver_laws.proofs.On.{ground_at as ground_on}
-use Rattle.driver_laws.proofs.RingLaws.DeviceLaws.KeptSettings.{settings_stand}
-use Rattle.driver_laws.proofs.RingLaws.DeviceLaws.Standing.{stays_within}
+use Rattle.driver_laws.{proofs.RingLaws.DeviceLaws.KeptSettings.settings_stand}
+use Rattle.driver_laws.proofs.{Fitting.drive_same, On.ground_at as ground_on, RingLaws.DeviceLaws.Standing.stays_within}
 use Rattle.pmd.specs.PmdRx.Receive.{moved}
-use Rattle.pmd.specs.PmdRx.declared.ring.Told.{Told}
 use Rattle.pmd_laws.proofs.Order.{Ran, first, some_on}
-use Rattle.pmd_laws.proofs.Prelude.{[], ◌∙◌, ◌∷◌, ◌≡◌, ◌⊎◌, Accepts, Advances, AllOwn, AtPort, Block, Call, Course}
-use Rattle.pmd_laws.proofs.Prelude.{Doer, Each, Elsewhere, Event, Halves, HasGround, IsPlain, IsTrue, Lends, List, Move}
-use Rattle.pmd_laws.proofs.Prelude.{NamesDriven, OthersHarmless, OwnCall, Port, Reaps, Receive, Receives, Reply, Sender}
-use Rattle.pmd_laws.proofs.Prelude.{Sends, State, Watched, ℕ, after, after_call, all_lead, append-nil, calls_of, drive}
-use Rattle.pmd_laws.proofs.Prelude.{either_way, false, ground_kept, ground_same, inl, inr, is_harmless, is_neither}
-use Rattle.pmd_laws.proofs.Prelude.{leads_to, left, left-setting, lent_by, looked, mode_in, plain_keeps, posts_all}
-use Rattle.pmd_laws.proofs.Prelude.{reached, refl, state_kept, state_leads, subst, sym, took}
+use Rattle.pmd_laws.proofs.Prelude.{[], ◌∙◌, ◌∷◌, ◌≡◌, ◌⊎◌, AllOwn, AtPort, Block, Call, Course, Doer, Each, Event}
+use Rattle.pmd_laws.proofs.Prelude.{Halves, HasGround, IsPlain, IsTrue, List, Move, NamesDriven, OthersHarmless}
+use Rattle.pmd_laws.proofs.Prelude.{OwnCall, Port, Receive, Reply, Sender, Sends, State, Watched, ℕ, after, after_call}
+use Rattle.pmd_laws.proofs.Prelude.{all_lead, append-nil, calls_of, false, ground_kept, ground_same, inl, inr}
+use Rattle.pmd_laws.proofs.Prelude.{is_harmless, is_neither, leads_to, left, left-setting, lent_by, mode_in}
+use Rattle.pmd_laws.proofs.Prelude.{plain_keeps, reached, refl, state_kept, state_leads}
+use Rattle.std.proofs.{Common.arith, lemmas.Grind.common_steps}
 use Rattle.nic_device.specs.declared.event.Event.TheVariants as event
 use Rattle.nic_device.specs.declared.event.Reply.TheVariants as reply
 use Rattle.pmd.specs.PmdRx.Receive as receiving
 use Rattle.pmd.specs.PmdTx.Sending as sending
 
 -- the tail's number stays
-
-abbrev pub SameTail : Receive → Receive → Type 0
-SameTail v u = (u.layout.port ≡ v.layout.port) × (u.layout.tail ≡ v.layout.tail)
-
-looked_same : (v : Receive) (d : List ℕ) → SameTail v (looked v d)
-looked_same v d = either_way (SameTail v) _ _ v (refl, refl) (refl, refl)
-
-took_same : (v : Receive) (seen : List Told) (b : Block) → SameTail v (took v seen b)
-took_same v [] b = (refl, refl)
-took_same v (t ∷ seen) b = (refl, refl)
-
-moved_same : (v : Receive) (word : ℕ) → SameTail v (moved v word)
-moved_same v word = either_way (SameTail v) _ _ (posts_all v) (refl, refl) (refl, refl)
-
-pub drive_same : (v : Receive) (e : Event Block) (r : Reply Block) → SameTail v (drive v e r)
-drive_same v (event.Peek16 a) (reply.Bytes d) = looked_same v d
-drive_same v (event.Take n) (reply.Buf b) = took_same v v.seen b
-drive_same v (event.Lend b) reply.Done = (refl, refl)
-drive_same v (event.Poke16 a bytes) reply.Done = (refl, refl)
-drive_same v (event.Write port number word) reply.Done = moved_same v word
-drive_same v e r = (refl, refl)
-
 sent_same : (v : Sender) (m : Move) (r : Reply Block)
     → ((sending.moved v m r).layout.port ≡ v.layout.port) × ((sending.moved v m r).layout.tail ≡ v.layout.tail)
-sent_same v (Accepts p) reply.Done = (refl, refl)
-sent_same v Lends reply.Done = (refl, refl)
-sent_same v sending.Asks reply.Done = (refl, refl)
-sent_same v Advances reply.Done = (refl, refl)
-sent_same v sending.Looks (reply.Bytes d) = (refl, refl)
-sent_same v Reaps (reply.Buf b) = (refl, refl)
-sent_same v m r = (refl, refl)
+sent_same v m r = grind (arith, common_steps)
 
 module _ (q : AtPort) where
-  abbrev At : ℕ → Port → Type 0
-  At number port = NamesDriven q port number
-
   same_named : (port to : Port) (number goal : ℕ) → port ≡ to → number ≡ goal → NamesDriven q to goal
       → NamesDriven q port number
-  same_named port to number goal same is at =
-      subst (At number) (sym same) (subst (NamesDriven q to) (sym is) at)
+  same_named port to number goal same is at = grind (arith, common_steps)
 
   -- both tails are registers of the queue
   record ArePlaced (k : Halves) : Type 0 where
@@ -66,18 +32,11 @@ module _ (q : AtPort) where
     transmit : NamesDriven q k.transmit.layout.port k.transmit.layout.tail
 
   next_placed : (k : Halves) (d : Doer) (c : Call) → ArePlaced k → ArePlaced (after_call k d c)
-  next_placed k Receives c x =
-      let same = drive_same k.receive c.event c.reply in
-      record { receive = same_named _ _ _ _ same.0 same.1 x.receive; transmit = x.transmit }
-  next_placed k (Sends m) c x =
-      let same = sent_same k.transmit m c.reply in
-      record { receive = x.receive; transmit = same_named _ _ _ _ same.0 same.1 x.transmit }
+  next_placed k d c x = grind (arith, common_steps, drive_same, same_named, sent_same)
 
   receive_plain : (v : Receive) (e : Event Block) → receiving.IsOwn v e → NamesDriven q v.layout.port v.layout.tail
       → IsPlain q e
-  receive_plain v (event.Write port number word) own at =
-      same_named port v.layout.port number v.layout.tail own.port_is own.number_is at
-  receive_plain v e own at = tt
+  receive_plain v e own at = grind (arith, common_steps, same_named)
 
   -- an event of a life
   abbrev IsOfLife : Event Block → Type 0
@@ -87,22 +46,17 @@ module _ (q : AtPort) where
       → sending.IsOwn v m (event.Write port number word)
       → (IsTrue (is_neither (Sends m)) → IsTrue (is_harmless (event.Write port number word)))
       → NamesDriven q v.layout.port v.layout.tail → IsOfLife (event.Write port number word)
-  write_plain v Advances port number word (all, some, to, is, what) harmless at =
-      inl (same_named port v.layout.port number v.layout.tail to is at)
-  write_plain v Elsewhere port number word own harmless at = inr (harmless refl)
-  write_plain v m port number word own harmless at = absurd own
+  write_plain v m port number word own harmless at = grind (arith, common_steps, same_named)
 
   transmit_plain : (v : Sender) (m : Move) (e : Event Block) → sending.IsOwn v m e
       → (IsTrue (is_neither (Sends m)) → IsTrue (is_harmless e)) → NamesDriven q v.layout.port v.layout.tail
       → IsOfLife e
-  transmit_plain v m (event.Write port number word) own harmless at = write_plain v m port number word own harmless at
-  transmit_plain v m e own harmless at = inl tt
+  transmit_plain v m e own harmless at = grind (arith, common_steps, write_plain)
 
   own_plain : (k : Halves) (d : Doer) (c : Call) → OwnCall k d c
       → (IsTrue (is_neither d) → IsTrue (is_harmless c.event))
       → ArePlaced k → IsOfLife c.event
-  own_plain k Receives c own harmless x = inl (receive_plain k.receive c.event own x.receive)
-  own_plain k (Sends m) c own harmless x = transmit_plain k.transmit m c.event own harmless x.transmit
+  own_plain k d c own harmless x = grind (arith, common_steps, receive_plain, transmit_plain)
 
   all_plain : (k : Halves) (doers : List Doer) (calls : List Call) → AllOwn k doers calls
       → OthersHarmless doers calls → ArePlaced k → Each (λ c. IsOfLife c.event) calls

@@ -1,21 +1,19 @@
 -- The calls of a driver whose start was refused lay out an empty transmit ring so far, up to where it came down; so it
 -- sent nothing on its queue.
-use Rattle.pmd.specs.PmdSeam.Frames.{is_frame}
-use Rattle.pmd.specs.PmdSeam.declared.fault.PmdFault.TheVariants.{BadSize}
-use Rattle.driver_laws.proofs.Laid.{laid_queue_is_silent}
-use Rattle.pmd_laws.specs.Refused.{LeftOfRefusedIsPrefix, Refused, RefusedSendsNothing}
+use Rattle.pmd.specs.PmdSeam.{Frames.is_frame, declared.fault.PmdFault.TheVariants.BadSize}
+use Rattle.driver_laws.proofs.{Laid.laid_queue_is_silent, StopCalls.each_such}
 use Rattle.pmd_laws.proofs.Laid.{LaysSome, LaysTo, Stays, first_lays, going_on_fails, lays_behind, prepared_lays}
 use Rattle.pmd_laws.proofs.Laid.{preparing_lays, receive_fails, receive_ready, stay, then_lays, then_some}
-use Rattle.pmd_laws.proofs.Prelude.{[], ◌&&◌, ◌++◌, ◌∙◌, ◌∷◌, ◌≡◌, AtPort, Block, Bool, Call, ComesDown, Each, Empty}
-use Rattle.pmd_laws.proofs.Prelude.{Entry, Err, Event, Halted, IsEnding, IsHalfStarted, IsHome}
-use Rattle.pmd_laws.proofs.Prelude.{IsLeftWith, IsShut, Laid, LaysOn, List, MayAsk, NeverLived, None, Numbers, Off}
-use Rattle.pmd_laws.proofs.Prelude.{Option, PmdFault, Rest, Rx, Rxdctl, Some, StartRefused, State}
-use Rattle.pmd_laws.proofs.Prelude.{StopsStarting, Tx, Txdctl, ℕ, and_parts, ap, append_assoc, append_cancel_left}
+use Rattle.pmd_laws.proofs.Prelude.{[], ◌&&◌, ◌++◌, ◌∙◌, ◌∷◌, ◌≡◌, AtPort, Block, Bool, Call, ComesDown, Empty, Entry}
+use Rattle.pmd_laws.proofs.Prelude.{Event, Halted, IsEnding, IsHalfStarted, IsHome, IsLeftWith, Laid, LaysOn, List}
+use Rattle.pmd_laws.proofs.Prelude.{MayAsk, NeverLived, None, Numbers, Off, Option, PmdFault, Rest, Some, StartRefused}
+use Rattle.pmd_laws.proofs.Prelude.{State, StopsStarting, Tx, ℕ, and_parts, ap, append_assoc, append_cancel_left}
 use Rattle.pmd_laws.proofs.Prelude.{bytes_of, call_in, calls_joined, calls_of, calls_own, cond, delivered, eq-eqb}
 use Rattle.pmd_laws.proofs.Prelude.{false, has_bit, inl, inr, is_size, last, leads_to, left, most_blocks, named}
-use Rattle.pmd_laws.proofs.Prelude.{none_made, refl, sent_in, sent_is_counted, sent_since, start_gate, subst}
-use Rattle.pmd_laws.proofs.Prelude.{sym, true}
+use Rattle.pmd_laws.proofs.Prelude.{none_made, refl, sent_in, sent_is_counted, sent_since, start_gate, subst, sym, true}
 use Rattle.pmd_laws.proofs.StopCalls.{stopped_ends}
+use Rattle.pmd_laws.specs.Refused.{LeftOfRefusedIsPrefix, Refused, RefusedSendsNothing}
+use Rattle.std.proofs.{Common.arith, lemmas.Grind.common_steps}
 use Rattle.nic_device.specs.declared.event.Event.TheVariants as event
 use Rattle.pmd.specs.declared.start.Rest.TheVariants as rest
 use Rattle.driver_laws.specs.RingLaws.Delivered as receive
@@ -41,33 +39,23 @@ starting_lays {q = q} {size = size} {frame = frame} {new = new} {e = e} is (inr 
 -- a call of a stop lays nothing out
 
 ask_none : (l : Laid) (word : ℕ) → has_bit 25 word ≡ false → MayAsk l word
-ask_none Empty word none = tt
-ask_none l word none = none
+ask_none l word none = grind (arith, common_steps)
 
 ending_stays : (q : AtPort) (l : Laid) (e : Event Block) → IsEnding q e → Stays q l e
-ending_stays q l (event.Write port number word) (Rx, same, none, named) = (Rxdctl, same, refl, named, tt, refl)
-ending_stays q l (event.Write port number word) (Tx, same, none, named) =
-    (Txdctl, same, refl, named, ask_none l word none, refl)
-ending_stays q l e ends = refl
-
-each_stays : (q : AtPort) (l : Laid) (cs : List Call) → Each (λ c. IsEnding q c.event) cs
-    → Each (λ c. Stays q l c.event) cs
-each_stays q l [] are = tt
-each_stays q l (c ∷ cs) are = (ending_stays q l c.event are.0, each_stays q l cs are.1)
+ending_stays q l e ends = grind (arith, common_steps, named, ask_none)
 
 -- what is left comes down
 
 home_lays : {q : AtPort} {l : Laid} (a : Numbers) (r : Rest) (old new : List Call) (left : Rest) → IsHome a r
     → ComesDown old r new left → LaysTo q l old new l
-home_lays {q = q} {l = l} a (rest.Home home) old new left is (same, none) = stay (none_made (Stays q l) old new none)
-home_lays a (rest.Running p) old new left is down = absurd is
+home_lays a r old new left is down = grind (arith, common_steps, stay, none_made)
 
 half_lays : {q : AtPort} {l : Laid} (h : Halted) (r : Rest) (old new : List Call) (left : Rest) → IsHalfStarted q h r
     → ComesDown old r new left → LaysTo q l old new l
 half_lays {q = q} {l = l} h r old new left is down =
     let (late, stopped) = subst (λ (x : Rest). ComesDown old x new left) is down in
     let (calls, made, are) = stopped_ends q old h new left late stopped in
-    stay {new = new} (calls, made, each_stays q l calls are)
+    stay {new = new} (calls, made, each_such (IsEnding q) (Stays q l) (ending_stays q l) calls are)
 
 left_lays : {q : AtPort} {l : Laid} (a : Numbers) (out : List ℕ) (r : Rest) (old new : List Call) (left : Rest)
     → IsLeftWith q a out r → ComesDown old r new left → LaysTo q l old new l
@@ -83,8 +71,7 @@ stopping_lays made e new left (inr (inr x)) down = half_lays _ e.rest made new l
 
 -- a start that isn't refused before any event has a size
 is_passed : (b : Bool) (more : Option PmdFault) (f : PmdFault) → cond b more (Some f) ≡ None → b ≡ true
-is_passed true more f none = refl
-is_passed false more f none = cc
+is_passed b more f none = grind (arith, common_steps)
 
 module _ (q : AtPort) (size frame : ℕ) (old : List Call) (a : Numbers) (e : StartRefused) (new : List Call)
     (left : Rest) (x : NeverLived q size frame old a e new left) where
@@ -94,13 +81,7 @@ module _ (q : AtPort) (size frame : ℕ) (old : List Call) (a : Numbers) (e : St
       let sized = (and_parts _ _ (is_passed (is_size size && is_frame frame) _ BadSize is)).0 in
       let so_far : LaysSome q Off old x.made = starting_lays sized stops in
       record { last = so_far.last; lays = then_lays so_far.lays (stopping_lays x.made e new left stops x.down) }
-  by_gate (Some f) is =
-      let (why, home, none) = subst (λ (g : Option PmdFault). IsShut g a old x.made (Err e)) is x.shut in
-      record {
-        last = Off;
-        lays =
-            rw (← none) (home_lays a e.rest x.made new left home x.down);
-      }
+  by_gate (Some f) is = grind (arith, common_steps, home_lays, left)
 
 -- where nothing is sent at all, nothing is counted
 

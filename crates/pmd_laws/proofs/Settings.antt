@@ -1,93 +1,56 @@
 -- What the entries before a driver's start tell is so of the device there: which queue port and number name, how long
 -- frames are; and that a queue that was never asked on is off.
-use Rattle.nic_device.proofs.EepromImage.Blank.{triples_of-blank}
-use Rattle.nic_device.proofs.RegisterLaws.Owners.{is_place-same}
-use Rattle.nic_device.proofs.RegisterLaws.ReadBack.{off-reset}
+use Rattle.nic_device.proofs.{EepromImage.Blank.triples_of-blank, RegisterLaws.Owners.is_place-same}
+use Rattle.nic_device.proofs.{RegisterLaws.ReadBack.off-reset, RegisterLaws.Within.within-written}
+use Rattle.nic_device.proofs.{SidesOn.sides-after_write}
 use Rattle.nic_device.proofs.RegisterLaws.Switches.{receive-asked, transmit-asked}
-use Rattle.nic_device.proofs.RegisterLaws.Within.{within-written}
-use Rattle.nic_device.proofs.SidesOn.{sides-after_write}
-use Rattle.nic_device.specs.Access.{named_written}
-use Rattle.nic_device.specs.Eeprom.{reset, with_triples}
-use Rattle.nic_device.specs.EepromImage.Image.{blank}
-use Rattle.nic_device.specs.EepromImage.Triples.{triples_of}
-use Rattle.nic_device.specs.PoolReset.{with_pool_reset, written_below_reset}
-use Rattle.nic_device.specs.RegisterFile.Access.{asks_reset}
+use Rattle.nic_device.specs.{Access.named_written, Eeprom.reset, Eeprom.with_triples, EepromImage.Image.blank}
+use Rattle.nic_device.specs.{EepromImage.Triples.triples_of, PoolReset.with_pool_reset, PoolReset.written_below_reset}
+use Rattle.nic_device.specs.{RegisterFile.Access.asks_reset, RegisterLaws.Laws.after_write, Step.step_of}
+use Rattle.nic_device.specs.{declared.named.Named.Named, declared.named.Named.TheVariants.Nothing}
 use Rattle.nic_device.specs.RegisterFile.Registers.{Registers, is_wanted}
 use Rattle.nic_device.specs.RegisterLaws.Footprint.{is_place, of_write, pool_renews}
-use Rattle.nic_device.specs.RegisterLaws.Laws.{after_write}
-use Rattle.nic_device.specs.RegisterLaws.Sides.{ReceiveQueue, TransmitQueue}
-use Rattle.nic_device.specs.Step.{step_of}
-use Rattle.nic_device.specs.VfMap.Pools.{pools_in, queues_each, queues_of}
-use Rattle.nic_device.specs.VfMap.declared.mode.Mode.TheVariants.{Off, Pools16, Pools32, Pools64}
-use Rattle.nic_device.specs.declared.event.Port.TheVariants.{Pf, Vf}
-use Rattle.nic_device.specs.declared.named.Named.{Named}
-use Rattle.nic_device.specs.declared.named.Named.TheVariants.{Nothing}
-use Rattle.workers.specs.Beginning.{BeginsWell}
-use Rattle.workers.specs.DeviceLock.Alone.{place_at}
+use Rattle.nic_device.specs.VfMap.Pools.{pools_in, queues_each}
+use Rattle.workers.specs.{Beginning.BeginsWell, DeviceLock.Alone.place_at, DeviceLock.declared.told.Settings.Settings}
+use Rattle.workers.specs.{Starts.Starts, declared.beginning.Given.Given}
 use Rattle.workers.specs.DeviceLock.Told.{first_settings, settings_through}
-use Rattle.workers.specs.DeviceLock.declared.told.Settings.{Settings}
 use Rattle.workers.specs.Quiet.{NoneAsksOn, asks_on, is_enable}
-use Rattle.workers.specs.Starts.{Starts}
-use Rattle.workers.specs.declared.beginning.Given.{Given}
-use Rattle.pmd_laws.specs.DriverLaws.HistoryLaws.Sides.{IsOff, side_of}
-use Rattle.pmd_laws.specs.DriverLaws.Numbers.{queue_at, queue_in}
-use Rattle.pmd_laws.proofs.Prelude.{[], ◌&&◌, ◌*◌, ◌++◌, ◌+◌, ◌<◌, ◌∙◌, ◌∷◌, ◌≡◌, AreEvents, Block, Call, Dir, Entry}
-use Rattle.pmd_laws.proofs.Prelude.{Event, HasGround, IsSound, List, Mode, None, Option, Place, Port, Register, RowId}
-use Rattle.pmd_laws.proofs.Prelude.{Rx, Rxdctl, Some, State, Tx, Txdctl, Watched, ℕ, after, ap, append-nil}
-use Rattle.pmd_laws.proofs.Prelude.{append_assoc, arith, asks_pool_reset, cases_Bool, cleared, cond, enable_row, eq-eqb}
-use Rattle.pmd_laws.proofs.Prelude.{events_before, false, has_bit, has_queue, if◌then◌else◌, image_stays, inl, inr}
-use Rattle.pmd_laws.proofs.Prelude.{is_on, leads_to, left-side, length, ltb-true, mode_in, named, nat_lt, new_sound}
-use Rattle.pmd_laws.proofs.Prelude.{new_state, place, refl, row_of, subst, sym, true, vfs_stays}
-use Rattle.pmd_laws.proofs.DriverLaws.Histories.{leads-append}
-use Rattle.pmd_laws.proofs.DriverLaws.HistoryLaws.Deeds.{side_did}
-use Rattle.pmd_laws.proofs.DriverLaws.HistoryLaws.DeviceLaws.PoolResets.{asked_pool_resets}
-use Rattle.pmd_laws.proofs.DriverLaws.HistoryLaws.Limits.{settings_told}
-use Rattle.pmd_laws.proofs.DriverLaws.HistoryLaws.Written.{place_in, place_named}
-use Rattle.pmd_laws.proofs.DriverLaws.HistoryLaws.Alone.{histories_sound}
+use Rattle.pmd_laws.proofs.{DriverLaws.Ground.is_in, DriverLaws.Ground.some_where, DriverLaws.Histories.leads-append}
+use Rattle.pmd_laws.proofs.{DriverLaws.HistoryLaws.Alone.histories_sound, DriverLaws.HistoryLaws.Deeds.side_did}
+use Rattle.pmd_laws.proofs.{DriverLaws.HistoryLaws.DeviceLaws.PoolResets.asked_pool_resets}
+use Rattle.pmd_laws.proofs.{DriverLaws.HistoryLaws.Limits.settings_told}
 use Rattle.pmd_laws.proofs.DriverLaws.HistoryLaws.Steady.{off_steady, steady_kept}
-use Rattle.pmd_laws.proofs.DriverLaws.Ground.{is_in, some_where}
-use Rattle.pmd_laws.specs.Quiet.{NeverAskedIsQuiet}
+use Rattle.pmd_laws.proofs.DriverLaws.HistoryLaws.Written.{place_in, place_named}
+use Rattle.pmd_laws.proofs.Prelude.{[], ◌&&◌, ◌*◌, ◌++◌, ◌+◌, ◌<◌, ◌∙◌, ◌∷◌, ◌≡◌, AreEvents, Block, Call, Dir, Entry}
+use Rattle.pmd_laws.proofs.Prelude.{Event, HasGround, IsSound, List, Mode, Option, Place, Port, Register, RowId, Rx}
+use Rattle.pmd_laws.proofs.Prelude.{Some, State, Tx, Watched, ℕ, after, ap, append-nil, append_assoc, arith}
+use Rattle.pmd_laws.proofs.Prelude.{asks_pool_reset, cases_Bool, cleared, cond, enable_row, events_before, false}
+use Rattle.pmd_laws.proofs.Prelude.{has_bit, has_queue, image_stays, inl, inr, is_on, leads_to, left-side, length}
+use Rattle.pmd_laws.proofs.Prelude.{mode_in, named, new_sound, new_state, place, refl, row_of, subst, sym, true}
+use Rattle.pmd_laws.proofs.Prelude.{vfs_stays}
+use Rattle.pmd_laws.specs.{DriverLaws.Numbers.queue_at, DriverLaws.Numbers.queue_in, Quiet.NeverAskedIsQuiet}
+use Rattle.pmd_laws.specs.DriverLaws.HistoryLaws.Sides.{IsOff, side_of}
+use Rattle.std.proofs.lemmas.Grind.{common_steps}
 use Rattle.nic_device.specs.declared.event.Event.TheVariants as event
 use Rattle.workers.specs.Queues as told
 
 -- what a history tells is what the device has
 
 same_in : (queues : Option (ℕ × ℕ)) (number : ℕ) → told.queue_in queues number ≡ queue_in queues number
-same_in None number = refl
-same_in (Some queues) number = refl
+same_in queues number = grind (arith, common_steps)
 
 pub same_named : (mode : Mode) (vfs : ℕ) (port : Port) (number : ℕ)
     → told.queue_at mode vfs port number ≡ queue_at mode vfs port number
-same_named mode vfs Pf number = refl
-same_named mode vfs (Vf v) number =
-    ap (λ (o : Option ℕ). if nat_lt v vfs then o else None) (same_in (queues_of mode v) number)
+same_named mode vfs port number = grind (arith, common_steps, same_in)
 
 -- each of a pool's queues is
 pool_below : (mode : Mode) (pool number : ℕ) → pool < pools_in mode → number < queues_each mode
     → pool * queues_each mode + number < 128
-pool_below Off pool number in_mode few = absurd (omega (arith, few))
-pool_below Pools16 pool number in_mode few = omega (arith, in_mode, few)
-pool_below Pools32 pool number in_mode few = omega (arith, in_mode, few)
-pool_below Pools64 pool number in_mode few = omega (arith, in_mode, few)
+pool_below mode pool number in_mode few = grind (arith, common_steps)
 
 pub named_below : (mode : Mode) (vfs : ℕ) (port : Port) (number queue : ℕ)
     → queue_at mode vfs port number ≡ Some queue → queue < 128
-named_below mode vfs Pf number queue is =
-    let (few, same) = some_where (nat_lt number 128) (Some number) queue is in
-    let below : number < 128 = ltb-true number 128 few in
-    let named : number ≡ queue = cc in
-    subst (λ n. n < 128) named below
-named_below mode vfs (Vf v) number queue is =
-    let (few, there) = some_where (nat_lt v vfs) (queue_in (queues_of mode v) number) queue is in
-    let x = is_in (queues_of mode v) number queue there in
-    let (in_mode, queues) =
-    some_where (nat_lt v (pools_in mode)) (Some (v * queues_each mode, queues_each mode)) (x.first, x.count) x.pool in
-    let same : (v * queues_each mode, queues_each mode) ≡ (x.first, x.count) = cc in
-    let first : v * queues_each mode ≡ x.first = ap (λ (p : ℕ × ℕ). p.0) same in
-    let count : queues_each mode ≡ x.count = ap (λ (p : ℕ × ℕ). p.1) same in
-    let below : v * queues_each mode + number < 128 =
-    pool_below mode v number (ltb-true v (pools_in mode) in_mode) (subst (λ n. number < n) (sym count) x.few) in
-    subst (λ n. n < 128) (sym x.same) (subst (λ n. n + number < 128) first below)
+named_below mode vfs port number queue is = grind (arith, common_steps, some_where, is_in, pool_below)
 
 -- port and queue name the watched queue there, and frames are as long as the driver was told
 pub ground_there : (w : Watched) (fifo : ℕ) (old : List Call) (given : Given) (h : List Entry)
@@ -102,10 +65,7 @@ ground_there w fifo old given h sound events well x =
     let vfs : s.vfs ≡ w.vfs = vfs_stays (new_state w.vfs fifo) x.before in
     let fits = well old refl x in
     record {
-      names =
-          ap (λ (m : Mode). queue_at m s.vfs given.port given.queue) (sym is.0)
-          ∙ ap (λ (v : ℕ). queue_at told.mode v given.port given.queue) vfs
-          ∙ sym (same_named told.mode w.vfs given.port given.queue) ∙ fits.names;
+      names = grind (arith, common_steps, same_named);
       limit = sym is.1 ∙ fits.limit;
     }
 
@@ -117,12 +77,10 @@ abbrev IsDown : Dir → ℕ → Registers → Type 0
 IsDown dir queue r = (is_on r dir queue ≡ false) × (is_wanted r dir queue ≡ false)
 
 down_off : (dir : Dir) (queue : ℕ) (s : State) → IsDown dir queue s.registers → IsOff (side_of dir queue s)
-down_off Rx queue s down = record { off = down.0; unwanted = down.1 }
-down_off Tx queue s down = record { off = down.0; unwanted = down.1 }
+down_off dir queue s down = grind (arith, common_steps)
 
 off_down : (dir : Dir) (queue : ℕ) (s : State) → IsOff (side_of dir queue s) → IsDown dir queue s.registers
-off_down Rx queue s is = (is.off, is.unwanted)
-off_down Tx queue s is = (is.off, is.unwanted)
+off_down dir queue s is = grind (arith, common_steps)
 
 -- as a reset leaves it
 pub reset_off : (dir : Dir) (queue : ℕ) (s : State) → queue < 128 → IsOff (side_of dir queue (cleared s))
@@ -134,12 +92,10 @@ abbrev enable : Dir → ℕ → Place
 enable dir queue = place (enable_row dir) queue
 
 inside : (dir : Dir) (queue : ℕ) → queue < 128 → queue < (row_of (enable_row dir)).count
-inside Rx queue small = small
-inside Tx queue small = small
+inside dir queue small = grind (arith, common_steps)
 
 reset_word : (dir : Dir) → has_bit 25 (row_of (enable_row dir)).reset ≡ false
-reset_word Rx = refl
-reset_word Tx = refl
+reset_word dir = grind (arith, common_steps)
 
 of_pool : (dir : Dir) (mode : Mode) (v queue : ℕ)
     → (pool_renews mode v).bits (enable dir queue) 25 ≡ has_queue mode v queue
@@ -147,25 +103,18 @@ of_pool Rx mode v queue = refl
 of_pool Tx mode v queue = refl
 
 is_own : (dir : Dir) (queue : ℕ) → is_enable queue (Some (enable dir queue)) ≡ true
-is_own Rx queue = eq-eqb queue queue refl
-is_own Tx queue = eq-eqb queue queue refl
+is_own dir queue = grind (arith, common_steps)
 
 -- only a write of it changes what is wanted of the side, and asks for its bit 25
 
 unasked : (row : RowId) (index : ℕ) (dir : Dir) (queue : ℕ) → is_place (place row index) (enable dir queue) ≡ false
     → (of_write (place row index)).wanted dir queue ≡ false
-unasked Rxdctl index Rx queue other = other
-unasked Rxdctl index Tx queue other = refl
-unasked Txdctl index Rx queue other = refl
-unasked Txdctl index Tx queue other = other
-unasked row index dir queue other = refl
+unasked row index dir queue other = grind (arith, common_steps)
 
 asked_of : (dir : Dir) (queue : ℕ) → queue < 128 → (s : State) → IsSound s → (view word : ℕ)
     → is_wanted (after_write s.registers (enable dir queue) view word) dir queue ≡ has_bit 25 word
-asked_of Rx queue small s sound view word =
-    ap (λ (q : ReceiveQueue). q.wanted) (receive-asked s.registers sound.registers.shape queue small view word)
-asked_of Tx queue small s sound view word =
-    ap (λ (q : TransmitQueue). q.wanted) (transmit-asked s.registers sound.registers.shape queue small view word)
+asked_of Rx queue small s sound view word = grind (arith, common_steps, receive-asked)
+asked_of Tx queue small s sound view word = grind (arith, common_steps, transmit-asked)
 
 module _ (w : Watched) (small : w.queue < 128) (s : State) (sound : IsSound s) (dir : Dir) where
   open w use {queue}
@@ -281,8 +230,7 @@ module _ (w : Watched) (fifo : ℕ) (sound : IsSound (new_state w.vfs fifo)) (sm
   OffAt s = IsOff (side_of dir w.queue s)
 
   along : (done rest : List Entry) → done ++ rest ≡ h → OffAt (leads_to new done) → OffAt (leads_to new h)
-  along done [] both off =
-      subst (λ (l : List Entry). OffAt (leads_to new l)) (sym (append-nil done) ∙ both) off
+  along done [] both off = grind (arith, common_steps, new, append-nil)
   along done (e ∷ rest) both off =
       let early = events_before done (e ∷ rest) (subst AreEvents (sym both) events) in
       let told = settings_told w.vfs fifo done sound early in

@@ -1,17 +1,15 @@
 -- What the calls of a driver tell is told of the calls that were added alone: it holds behind whichever others. So it
 -- is of what its halves were driven by, and of a start.
-use Rattle.pmd.specs.PmdRx.Filling.{StopsFilling}
-use Rattle.pmd.specs.PmdRx.Wrong.{EndsWrong}
+use Rattle.pmd.specs.PmdRx.{Filling.StopsFilling, Wrong.EndsWrong}
 use Rattle.pmd_laws.proofs.Prelude.{[], ◌++◌, ◌∙◌, ◌∷◌, ◌≡◌, ◌⊎◌, Access, Adds, AreMade, AreUp, AtPort, Block, Bool}
 use Rattle.pmd_laws.proofs.Prelude.{Call, DeviceFault, Dir, DrivesRings, Event, FaultsEarly, FaultsFilling, IsMade}
 use Rattle.pmd_laws.proofs.Prelude.{IsOtherwise, IsPrepared, IsReceiveReady, IsStrayRead, IsSwitched, IsTransmitReady}
 use Rattle.pmd_laws.proofs.Prelude.{LendsEach, List, Numbers, PlaysFrom, PollsEnd, PreparingFails, Receive}
 use Rattle.pmd_laws.proofs.Prelude.{ReceiveFails, Reply, RowId, Running, Rx, Rxdctl, Sees, Sender, Sets, StopsBy}
-use Rattle.pmd_laws.proofs.Prelude.{StopsLending, SwitchFails, Tx, ℕ, append-nil, append_cancel_left}
-use Rattle.pmd_laws.proofs.Prelude.{both_asked, both_quiet, call_of, false, inl, inr, last, missed, named, not, place}
-use Rattle.pmd_laws.proofs.Prelude.{polled, quiet, receive_polled, refl, ring_words, subst, sym, true}
-use Rattle.std.proofs.Common.{arith}
-use Rattle.std.proofs.lemmas.Grind.{common_steps}
+use Rattle.pmd_laws.proofs.Prelude.{StopsLending, SwitchFails, Tx, ℕ, append-nil, append_cancel_left, both_asked}
+use Rattle.pmd_laws.proofs.Prelude.{both_quiet, false, inl, inr, last, missed, named, place, polled, quiet}
+use Rattle.pmd_laws.proofs.Prelude.{receive_polled, refl, ring_words, subst, sym, true}
+use Rattle.std.proofs.{Common.arith, lemmas.Grind.common_steps}
 
 -- some calls were added, of which this holds, whatever calls are before them
 pub record Shifts (R : List Call → List Call → Type 0) (old new : List Call) : Type 0 where
@@ -43,12 +41,10 @@ none : Shift (λ o n. n ≡ o)
 none old new is = record { since = []; made = is ∙ sym (append-nil old); behind = λ front. append-nil front }
 
 pub then : {R S : List Call → List Call → Type 0} → Shift R → Shift S → Shift (λ o n. (m : List Call) × R o m × S m n)
-then first second old new (mid, x, y) =
-    joined (first old mid x) (second mid new y) (λ o m n r s. (m, r, s))
+then first second old new (mid, x, y) = grind (arith, common_steps, joined)
 
 either : {R S : List Call → List Call → Type 0} → Shift R → Shift S → Shift (λ o n. R o n ⊎ S o n)
-either first second old new (inl x) = mapped (first old new x) (λ o n r. inl r)
-either first second old new (inr y) = mapped (second old new y) (λ o n s. inr s)
+either first second old new z = grind (arith, common_steps, mapped)
 
 -- two things of the same calls
 both : {R S : List Call → List Call → Type 0} {old new : List Call} → Shifts R old new → Shifts S old new
@@ -73,8 +69,7 @@ shifted {R = R} {old = old} x since front made =
 -- a call, and calls as each half tells them
 
 adds : (e : Event Block) (reply : Reply Block) → Shift (λ o n. Adds o n e reply)
-adds e reply old new (before, made, steps) =
-    record { since = before ++ call_of e reply ∷ []; made = made; behind = λ front. (before, refl, steps) }
+adds e reply old new (before, made, steps) = grind (arith, common_steps)
 
 plays : (a : Numbers) (v w : Receive) → Shift (λ o n. PlaysFrom a o v n w)
 plays a v w old new x =
@@ -99,9 +94,7 @@ rings r s old new x =
 
 module _ (q : AtPort) where
   access : (a : Access) → Shift (λ o n. IsMade q o n a)
-  access (Sees row on) old new (number, word, named, has, x) =
-      mapped (adds _ _ old new x) (λ o n y. (number, word, named, has, y))
-  access (Sets row word) old new (number, named, x) = mapped (adds _ _ old new x) (λ o n y. (number, named, y))
+  access a old new y = grind (arith, common_steps, mapped, adds, named)
 
   accesses : (all : List Access) → Shift (λ o n. AreMade q o n all)
   accesses [] = none
@@ -125,9 +118,7 @@ module _ (q : AtPort) where
   stray row old new (number, word, named, x) = mapped (adds _ _ old new x) (λ o n y. (number, word, named, y))
 
   otherwise : (a : Access) → Shift (λ o n. IsOtherwise q o n a)
-  otherwise (Sees row on) old new x = either (access (Sees row (not on))) (stray row) old new x
-  otherwise (Sets row word) old new (number, told, named, x) =
-      mapped (adds _ _ old new x) (λ o n y. (number, told, named, y))
+  otherwise a old new x = grind (arith, common_steps, either, access, stray, mapped, adds, named)
 
   stops : (all : List Access) → Shift (λ o n. StopsBy DeviceFault q o n all)
   stops all old new (done, a, rest, mid, is, made, fails) =
@@ -193,16 +184,7 @@ lending : (all : List ℕ) (a b : Numbers) (out : List ℕ) → Shift (λ o n. S
 lending all a b out old new x =
     let (back, again) = x.fails in
     joined (lends out old x.mid x.lent) (adds _ _ x.mid new again)
-    (λ o m n lent last. record {
-      next = x.next;
-      rest = x.rest;
-      parts = x.parts;
-      drawn = x.drawn;
-      free = x.free;
-      mid = m;
-      lent = lent;
-      fails = (back, last);
-    })
+    (grind (arith, common_steps))
 
 preparing : (q : AtPort) (side : Dir) (size : ℕ) (a b : Numbers) (out : List ℕ)
     → Shift (λ o n. PreparingFails DeviceFault q side size o a n b out)
@@ -288,29 +270,11 @@ module _ (q : AtPort) (size frame : ℕ) (a : Numbers) where
   early old new (inr (inl x)) =
       joined (receive q size frame a x.ready_arena x.empty old x.made x.receive)
       (preparing q Tx size x.ready_arena x.arena x.out x.made new x.fails)
-      (λ o m n y z. inr (inl (record {
-        made = m;
-        ready_arena = x.ready_arena;
-        arena = x.arena;
-        empty = x.empty;
-        out = x.out;
-        receive = y;
-        fails = z;
-      })))
+      (λ o m n y z. inr (inl (grind (arith, common_steps))))
   early old new (inr (inr x)) =
       joined (ready x.ready_arena x.both_arena x.empty x.sender old x.both_made (x.ready_made, x.receive, x.transmit))
       (switch_fails q true 1000 x.both_made new x.fails)
-      (λ o m n y z. inr (inr (record {
-        ready_made = y.0;
-        both_made = m;
-        ready_arena = x.ready_arena;
-        both_arena = x.both_arena;
-        empty = x.empty;
-        sender = x.sender;
-        receive = y.1;
-        transmit = y.2;
-        fails = z;
-      })))
+      (λ o m n y z. inr (inr (grind (arith, common_steps))))
 
   late : Shift (λ o n. FaultsFilling q size frame o a n)
   late old new x =

@@ -1,33 +1,27 @@
 -- No start finds the device at fault as it fills its receive ring, nor before: where it ends so before both sides are
 -- on, none of the blocks that are free then is lent.
-use Rattle.pmd.proofs.Finding.{wrong_by}
-use Rattle.pmd.proofs.Starting.{preparing_drawn}
-use Rattle.driver_laws.proofs.Made.{before_made}
-use Rattle.driver_laws.specs.Faultless.{NoneIsLent}
-use Rattle.driver_laws.specs.Filling.{LendsFresh}
-use Rattle.pmd_laws.proofs.Begun.{drawn_both, drawn_gone, may}
+use Rattle.pmd.proofs.{Finding.wrong_by, Starting.preparing_drawn}
+use Rattle.driver_laws.{proofs.Made.before_made, specs.Faultless.NoneIsLent, specs.Filling.LendsFresh}
 use Rattle.pmd_laws.proofs.Lent.{IsRising, Rises, RisesToLast, all_rise, lends_rise, off_driven, others_before}
 use Rattle.pmd_laws.proofs.Lent.{quieted_rises, ready_rises, step_rises, unlent_before, words_rise}
 use Rattle.pmd_laws.proofs.NoFault.{found_on, made_is, no_fault_led_on}
-use Rattle.pmd_laws.proofs.Order.{On, along_before, last_before}
+use Rattle.pmd_laws.proofs.Order.{On, along_before, drawn_both, drawn_gone, last_before, may}
 use Rattle.pmd_laws.proofs.Prelude.{[], ◌++◌, ◌+◌, ◌<◌, ◌==◌, ◌∙◌, ◌∷◌, ◌≡◌, ◌⊎◌, Access, Adds, AllAre, AreMade, AtPort}
 use Rattle.pmd_laws.proofs.Prelude.{BeforeLast, BeginsApart, Block, Blocks, Call, DeviceFault, Dir, Event, FaultsEarly}
 use Rattle.pmd_laws.proofs.Prelude.{FaultsFilling, FindsFault, Halves, IsDrawn, IsDriven, IsFalse, IsMade, IsOtherwise}
-use Rattle.pmd_laws.proofs.Prelude.{IsQuietAndFresh, List, Numbers, OnlyPassLends, PreparingFails, ReceiveFails, Reply}
-use Rattle.pmd_laws.proofs.Prelude.{Rx, Rxdctl, Sees, Sets, State, StopsBy, Tx, ℕ, all_before, among_times, ap}
-use Rattle.pmd_laws.proofs.Prelude.{append-nil, append_assoc, arith, both_quiet, both_ways, call_of, false, free_before}
-use Rattle.pmd_laws.proofs.Prelude.{harmless_apart, has_block, inl, inr, is_own, is_own-of_free, is_step, lends}
-use Rattle.pmd_laws.proofs.Prelude.{list_any, named, no_fault_is_early, none_made, parts, receiving_apart, refl}
-use Rattle.pmd_laws.proofs.Prelude.{ring_block_is, ring_block_out, ring_blocks, ring_words, some_made, subst, sym}
-use Rattle.pmd_laws.proofs.Prelude.{then_made, times-append, times_among, times_in_hand, true, words_are_writes}
-use Rattle.pmd_laws.proofs.Prelude.{writes_driven}
+use Rattle.pmd_laws.proofs.Prelude.{IsQuietAndFresh, List, Numbers, PreparingFails, ReceiveFails, Reply, Rx, Rxdctl}
+use Rattle.pmd_laws.proofs.Prelude.{Sees, State, StopsBy, Tx, ℕ, all_before, among_times, ap, append-nil, append_assoc}
+use Rattle.pmd_laws.proofs.Prelude.{arith, both_quiet, both_ways, call_of, false, free_before, harmless_apart}
+use Rattle.pmd_laws.proofs.Prelude.{has_block, inl, inr, is_own, is_own-of_free, is_step, lends, list_any}
+use Rattle.pmd_laws.proofs.Prelude.{no_fault_is_early, none_made, parts, receiving_apart, refl, ring_block_is}
+use Rattle.pmd_laws.proofs.Prelude.{ring_block_out, ring_blocks, some_made, subst, sym, then_made, times-append}
+use Rattle.pmd_laws.proofs.Prelude.{times_among, times_in_hand, true, words_are_writes, writes_driven}
+use Rattle.std.proofs.lemmas.Grind.{common_steps}
 
 -- an access that is answered otherwise adds a call, which is no step of the device
 otherwise_adds : (q : AtPort) (old new : List Call) (a : Access) → IsOtherwise q old new a
     → (e : Event Block) × (r : Reply Block) × IsFalse (is_step e) × Adds old new e r
-otherwise_adds q old new (Sees row on) (inl (number, word, named, is, adds)) = (_, _, refl, adds)
-otherwise_adds q old new (Sees row on) (inr (number, word, named, adds)) = (_, _, refl, adds)
-otherwise_adds q old new (Sets row word) (number, told, named, adds) = (_, _, refl, adds)
+otherwise_adds q old new a x = grind (arith, common_steps)
 
 -- behind the first access the calls lend no block but these, up to the last one
 module _ (q : AtPort) (lent : Blocks) (first : List Call) where
@@ -53,9 +47,7 @@ module _ (q : AtPort) (lent : Blocks) (first : List Call) where
       → PreparingFails DeviceFault q side size old a new b out → RisesToLast q lent first new
   preparing_rise side size old a new b out each rises
       (ring, free, inl ((done, access, rest, mid, is, made, fails), same, none)) =
-      let driven = writes_driven (ring_words side ring size) (words_are_writes side ring size) in
-      let are = all_before IsDriven done access rest (subst (AllAre IsDriven) is driven) in
-      stops_rise done old mid new access are.0 rises made fails
+      grind (arith, common_steps, writes_driven, words_are_writes, all_before, stops_rise)
   preparing_rise side size old a new b out each rises (ring, free, inr (mid, made, stops)) =
       let (back, lends) = stops.fails in
       adds_rise stops.mid new _ _
@@ -111,8 +103,7 @@ module _ (x : BeginsApart) where
   -- the receive ring isn't prepared
   none_before : (b : Numbers) (out : List ℕ) → ReceiveFails DeviceFault q size old a new b out
       → NoneIsLent w origin h new b
-  none_before b out (inl (stops, same, empty)) =
-      rw same (none_quieting stops)
+  none_before b out (inl (stops, same, empty)) = grind (arith, common_steps, none_quieting)
   none_before b out (inr (mid, made, fails)) =
       undrawn b out made.0 made.1 (preparing_drawn DeviceFault q Rx size mid a new b out fails)
       (preparing_rise q (among out) made.0 Rx size mid a new b out (among_times out)
@@ -124,8 +115,7 @@ module _ (x : BeginsApart) where
       let ring = ring_blocks y.receive.ring size in
       let all : List ℕ = ring ++ y.out in
       undrawn y.arena all y.receive.quiet.0 y.receive.quiet.1
-      (drawn_both a ring y.ready_arena y.out y.arena y.receive.prepared.drawn
-      (preparing_drawn DeviceFault q Tx size y.made y.ready_arena new y.arena y.out y.fails))
+      (grind (arith, common_steps, drawn_both, preparing_drawn))
       (preparing_rise q (among all) y.receive.quiet.0 Tx size y.made y.ready_arena new y.arena y.out
       (λ n some. among_times all n (omega (arith, some, times-append ring y.out n)))
       (ready_rises q (among all) y.receive
@@ -172,7 +162,6 @@ module _ (x : BeginsApart) where
         ground = λ done more e both own is. (at done more e both own is).0.ground;
       } in
       no_fault_led_on there (is_own a) (λ done more e both own is. (at done more e both own is).1)
-      (others_before w.pass (is_own a) p.front p.back
-      (subst (OnlyPassLends w.pass (is_own a)) (sym p.both) x.others))
+      (grind (arith, common_steps, others_before, is_own))
       (harmless_apart (is_own a) f.mid f.mid (first f) ([], sym (append-nil f.mid), tt)) (found f)
       (p.fronts ∙ made_is (found f))

@@ -2,7 +2,6 @@
 -- are off; and so do those of them that were made so far.
 use Rattle.pmd.specs.declared.home.Home.{Home}
 use Rattle.driver_laws.proofs.StopCalls.{bringing_ends, switched_off_asks, unswitched_asks}
-use Rattle.pmd_laws.proofs.Shifted.{Shift, ShiftAt, joined, known, mapped, switched, then}
 use Rattle.pmd_laws.proofs.Prelude.{[], ◌++◌, ◌∙◌, ◌∷◌, ◌≡◌, ◌⊎◌, AreMadeOf, Asks, AtPort, Begins, Block, Call}
 use Rattle.pmd_laws.proofs.Prelude.{ComesHome, Each, Ends, EndsOnceOff, Event, FailedStopEnds, FailedStopTakesOnceOff}
 use Rattle.pmd_laws.proofs.Prelude.{Halted, IsAsking, IsEnding, IsLeftAmid, IsStopped, IsSwitched, List, NoCallTakes}
@@ -10,6 +9,8 @@ use Rattle.pmd_laws.proofs.Prelude.{None, Option, PmdFault, Rest, Some, StopEnds
 use Rattle.pmd_laws.proofs.Prelude.{ap, append_assoc, append_cancel_left, asks_end, bringing, brought, closed, false}
 use Rattle.pmd_laws.proofs.Prelude.{inl, inr, left, none_made, now, one_begins, refl, some_made, step_ends, subst, sym}
 use Rattle.pmd_laws.proofs.Prelude.{then_made}
+use Rattle.pmd_laws.proofs.Shifted.{Shift, ShiftAt, joined, known, mapped, switched, then}
+use Rattle.std.proofs.{Common.arith, lemmas.Grind.common_steps}
 use Rattle.pmd.specs.declared.start.Rest.TheVariants as rest
 
 module _ (P : Event Block → Type 0) where
@@ -94,8 +95,7 @@ stop_takes_once_off q old mid h new home (off, switched, comes) before =
     once_off q old mid off new before switched (home_ends q off (closed h) new home comes)
 
 pub failed_stop_takes_once_off : FailedStopTakesOnceOff
-failed_stop_takes_once_off f q old mid h new left (inl (is, same, after)) before =
-    subst (TakesOnceOff q old) (sym same) before
+failed_stop_takes_once_off f q old mid h new left (inl (is, same, after)) before = grind (arith, common_steps)
 failed_stop_takes_once_off f q old mid h new left (inr (inl (fails, same))) before =
     more_asks q old mid new before (unswitched_asks f q mid new fails)
 failed_stop_takes_once_off f q old mid h new left (inr (inr (off, switched, amid))) before =

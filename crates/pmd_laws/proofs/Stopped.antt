@@ -1,39 +1,35 @@
 -- What a driver handed out and what it sent stays in order over its stop and on: behind its life neither side goes on;
 -- what device and driver agree on stands while the driver asks for its sides to be off; and once both are, nothing goes
--- on there.
-use Rattle.driver_laws.proofs.Ground.{ground_names}
-use Rattle.driver_laws.proofs.Parts.{more_some}
+-- on there. So it is of what a driver left that lived, and was stopped.
+use Rattle.driver_laws.proofs.{Ground.ground_names, Parts.more_some, RingLaws.Delivering.grows}
+use Rattle.driver_laws.proofs.{RingLaws.Foreign.no_registers, RingLaws.HistoryLaws.Steady.deed_settles}
+use Rattle.driver_laws.proofs.{RingLaws.Kept.each_map, RingLaws.Runs.first_sent, Silent.quiet_queue_is_silent}
+use Rattle.driver_laws.proofs.{SwitchedOff.ending_does, SwitchedOff.switching_off_leads, Words.side_driven}
 use Rattle.driver_laws.proofs.Meeting.{Meets, enable_words_keep, neither_keeps}
-use Rattle.driver_laws.proofs.RingLaws.Delivering.{grows}
-use Rattle.driver_laws.proofs.RingLaws.Foreign.{no_registers}
-use Rattle.driver_laws.proofs.RingLaws.HistoryLaws.Steady.{deed_settles}
-use Rattle.driver_laws.proofs.RingLaws.Kept.{each_map}
-use Rattle.driver_laws.proofs.RingLaws.Runs.{first_sent}
-use Rattle.driver_laws.proofs.Silent.{quiet_queue_is_silent}
-use Rattle.driver_laws.proofs.SwitchedOff.{ending_does, switching_off_leads}
-use Rattle.driver_laws.proofs.Words.{side_driven}
-use Rattle.driver_laws.specs.Enabling.{MayAsk}
-use Rattle.driver_laws.specs.Moves.{IsMet}
-use Rattle.driver_laws.specs.Standing.{IsLeft}
+use Rattle.driver_laws.specs.{Enabling.MayAsk, Moves.IsMet, Standing.IsLeft}
 use Rattle.pmd.specs.PmdSeam.Packet.{Kept}
-use Rattle.pmd_laws.proofs.Order.{agree, ends, handed, life_before, ran, settled, some_on}
-use Rattle.pmd_laws.proofs.Plain.{ground_ran}
+use Rattle.pmd_laws.{proofs.Plain.ground_ran, specs.Silent.SilentOverStop, specs.Silent.SwitchesOff}
+use Rattle.pmd_laws.proofs.Order.{agree, ends, handed, life_before, ran, sent_first, settled, some_on}
 use Rattle.pmd_laws.proofs.Prelude.{[], ◌++◌, ◌∙◌, ◌∷◌, ◌≡◌, ◌≢◌, AreLent, Asks, AtCalls, AtEntries, AtPort, Block}
-use Rattle.pmd_laws.proofs.Prelude.{Blocks, BothAgree, Call, Dir, EndsOnceOff, Entry, Event, Halves, HasGround}
-use Rattle.pmd_laws.proofs.Prelude.{IsAsking, IsEnding, IsEvent, IsFalse, IsNumberOf, IsPrefixOf, IsQuiet, IsSettled}
-use Rattle.pmd_laws.proofs.Prelude.{IsSilent, IsStopping, IsTrue, KeptOver, LeadsOver, Life, List, None, Option, Piece}
-use Rattle.pmd_laws.proofs.Prelude.{Rx, Settles, Some, State, TakesOnceOff, Tx, Watched, WritesOutside, ℕ, after}
-use Rattle.pmd_laws.proofs.Prelude.{all_lead, ap, append-nil, append_assoc, both_ways, bytes_of, calls_of, cond}
-use Rattle.pmd_laws.proofs.Prelude.{delivered, drop, enable_row, ending_plain, false, free_left, ground_kept, has_bit}
-use Rattle.pmd_laws.proofs.Prelude.{inl, inr, left, left_settles, lent_before, lent_by, mode_in, named, now, option_map}
-use Rattle.pmd_laws.proofs.Prelude.{packets_if_any, parts, pieces, pieces_since, plain_keeps, reached}
-use Rattle.pmd_laws.proofs.Prelude.{reached_next, refl, reply_to, sent_by, sent_is_counted, sent_since, since-append}
-use Rattle.pmd_laws.proofs.Prelude.{subst, sym, vfs_stays}
-use Rattle.pmd_laws.proofs.StopCalls.{off_asks}
+use Rattle.pmd_laws.proofs.Prelude.{Blocks, BothAgree, Call, Dir, Ended, Ends, EndsOnceOff, Entry, Event, Halted}
+use Rattle.pmd_laws.proofs.Prelude.{Halves, HandedOverStop, HasGround, IsAsking, IsEnding, IsEvent, IsFalse, IsNumberOf}
+use Rattle.pmd_laws.proofs.Prelude.{IsOver, IsPrefixOf, IsQuiet, IsSettled, IsSilent, IsStopped, IsStopping, IsSwitched}
+use Rattle.pmd_laws.proofs.Prelude.{KeptOver, LeadsOver, LeftIsPrefix, Life, List, None, Option, Piece, PmdFault, Rest}
+use Rattle.pmd_laws.proofs.Prelude.{Rx, SentOverStop, Settles, Some, State, TakesOnceOff, Tx, Up, Watched}
+use Rattle.pmd_laws.proofs.Prelude.{WritesOutside, ℕ, after, all_lead, ap, append-nil, bytes_of, calls_joined, calls_of}
+use Rattle.pmd_laws.proofs.Prelude.{closed, cond, delivered, drives_lead, drop, enable_row, ending_plain, false}
+use Rattle.pmd_laws.proofs.Prelude.{free_left, ground_kept, halted_of, halves_of, has_bit, inl, inr, left, left_settles}
+use Rattle.pmd_laws.proofs.Prelude.{lent_before, lent_by, named, none_made, now, option_map, packets_if_any, parts}
+use Rattle.pmd_laws.proofs.Prelude.{pieces, pieces_since, plain_keeps, reached, reached_next, refl, reply_to, sent_by}
+use Rattle.pmd_laws.proofs.Prelude.{sent_is_counted, sent_since, since-append, subst, sym, vfs_stays}
+use Rattle.pmd_laws.proofs.StopCalls.{amid_ends, first_made, first_takes, home_ends, off_asks, stopped_ends}
+use Rattle.pmd_laws.proofs.StopCalls.{stopped_takes}
+use Rattle.std.proofs.{Common.arith, lemmas.Grind.common_steps}
 use Rattle.pmd_laws.specs.Stopped as stopped
 use Rattle.driver_laws.proofs.RingLaws.HistoryLaws.Steady as steady
 use Rattle.driver_laws.specs.RingLaws.Delivered as receive
 use Rattle.nic_device.specs.declared.event.Event.TheVariants as event
+use Rattle.pmd.specs.declared.start.Rest.TheVariants as rest
 
 -- where more pieces come the packets so far stay first
 
@@ -43,13 +39,11 @@ more_if_any None ps = ([], refl)
 more_if_any (Some qs) ps = grows [] qs ps
 
 then_prefix : (xs ys zs : List Kept) → receive.IsPrefixOf xs ys → receive.IsPrefixOf ys zs → receive.IsPrefixOf xs zs
-then_prefix xs ys zs (one, is) (two, more) =
-    (one ++ two, sym (append_assoc xs one two) ∙ ap (λ (l : List Kept). l ++ two) is ∙ more)
+then_prefix xs ys zs (one, is) (two, more) = grind (arith, common_steps)
 
 -- a word without bit 25 asks for no side
 none_asks : (side : Dir) (word : ℕ) (k : Halves) → has_bit 25 word ≡ false → MayAsk side word k
-none_asks Rx word k none = tt
-none_asks Tx word k none = λ asks. absurd (both_ways (has_bit 25 word) none asks)
+none_asks side word k none = grind (arith, common_steps)
 
 module _ (w : Watched) (origin : State) (q : AtPort) (frame : ℕ) where
   -- an event behind which port and queue name the queue, and neither side went on
@@ -179,13 +173,10 @@ module _ (w : Watched) (origin : State) (q : AtPort) (frame : ℕ) where
           x)
       asked_next vfs done (event.Read port number) met made asks steps x =
           left_next done (event.Read port number)
-          (free_left w mine (reached w origin done) (event.Read port number) met made
-          (vfs ∙ sym (vfs_stays origin done))
-          steps (tt, tt)) x
+          (grind (arith, common_steps, free_left, reached, vfs_stays)) x
       asked_next vfs done e met made asks steps x =
           left_next done e
-          (free_left w mine (reached w origin done) e met made (vfs ∙ sym (vfs_stays origin done)) steps
-          (no_registers w (mode_in (reached w origin done).registers) mine e asks)) x
+          (grind (arith, common_steps, free_left, reached, vfs_stays, no_registers)) x
 
       others_agree : KeptOver w origin mine Agree
       others_agree done e left x = agree_on done e x (left_next done e.event left x)
@@ -198,12 +189,7 @@ module _ (w : Watched) (origin : State) (q : AtPort) (frame : ℕ) where
 
 -- what is lent by calls stays so
 more_lent : (pass : ℕ) (g h : List Entry) (k : Halves) → AreLent (lent_by pass g) k → AreLent (lent_by pass (g ++ h)) k
-more_lent pass g h k x = record {
-  receive =
-      each_map k.receive (λ b. IsTrue (lent_by pass g b)) (λ b. IsTrue (lent_by pass (g ++ h) b))
-      (λ b is. lent_before pass b g h is) x.receive;
-  transmit = λ n is. lent_before pass n g h (x.transmit n is);
-}
+more_lent pass g h k x = grind (arith, common_steps, each_map, lent_before)
 
 -- a life made some calls
 made_some : (x : Life) → x.made ≢ []
@@ -282,3 +268,82 @@ handed_over_stop x new y = (over_stop x new y).ahead
 
 pub sent_over_stop : stopped.SentIsPrefix
 sent_over_stop = sent_stopped
+
+-- it lived, up to where it was to stop
+abbrev life : Ended → Life
+life x = record {
+  course = x.course;
+  started = x.lived.lives.made;
+  r = x.lived.lives.fresh;
+  made = x.lived.made;
+  k = halves_of x.lived.last;
+  is = record {
+    along = x.along;
+    up = x.lived.lives.up;
+    begins = x.begins;
+    since = drives_lead _ _ _ _ x.lived.lives.drives.apart.drives;
+  };
+}
+
+pub left_is_prefix : LeftIsPrefix
+left_is_prefix x calls = (
+  rw x.lived.handed (handed (ran (life x)) calls),
+  rw x.lived.accepted (sent_first (ran (life x)) calls),
+)
+
+-- its calls are those of a stop, and take blocks back once both sides were seen off
+module _ (x : Ended) (y : IsOver x) where
+  open x use {q, new, lived}
+
+  abbrev here : List Call
+  here = lived.made ++ y.since
+
+  is_stopping : IsStopping (life x) here
+  is_stopping = record {
+    ends =
+        first_made (IsEnding q) lived.made here new y.since y.rest
+        (stopped_ends q lived.made (halted_of (Up lived.last)) new x.left x.late lived.stopped) refl y.all;
+    calls = y.calls;
+  }
+
+pub left_handed_over_stop : HandedOverStop
+left_handed_over_stop x y = rw x.lived.handed (handed_over_stop (life x) (here x y) (is_stopping x y))
+
+pub left_sent_over_stop : SentOverStop
+left_sent_over_stop x y =
+    rw x.lived.accepted (sent_over_stop (life x) (here x y) (is_stopping x y)
+    (first_takes x.q x.lived.made (here x y) x.new y.since y.rest refl y.all
+    (stopped_takes x.q x.lived.made (halted_of (Up x.lived.last)) x.new x.left x.late x.lived.stopped)))
+
+-- what a driver's stop says
+
+module _ (q : AtPort) (old : List Call) (h : Halted) (new : List Call) where
+  abbrev GoesOff : List Call → Type 0
+  GoesOff off = IsSwitched q old off false 1000 × Ends q off new
+
+  switches_off : (left : Rest) (late : Option PmdFault) (x : IsStopped q old h new left late) (off : List Call)
+      → SwitchesOff q old h new left late x off → GoesOff off
+  switches_off (rest.Home home) None (mid, switched, comes) off is =
+      subst GoesOff (sym is) (switched, home_ends q mid (closed h) new home comes)
+  switches_off (rest.Home home) (Some f) x off is = absurd is
+  switches_off (rest.Running p) None x off is = absurd is
+  switches_off (rest.Running p) (Some f) (after, same, inl unclosed) off is = absurd is
+  switches_off (rest.Running p) (Some f) (after, same, inr (inl unswitched)) off is = absurd is
+  switches_off (rest.Running p) (Some f) (after, same, inr (inr (mid, switched, amid))) off is =
+      subst GoesOff (sym is) (switched, amid_ends f q mid (closed h) new after amid)
+
+pub silent_over_stop : SilentOverStop
+silent_over_stop x off done rest y stop all calls =
+    let made = x.lived.made in
+    let (switched, ends) = switches_off x.q made (halted_of (Up x.lived.last)) x.new x.left x.late x.lived.stopped off
+    stop in
+    let later = calls_of x.w.pass rest in
+    let on : here x y ≡ off ++ later = grind (arith, common_steps, calls_joined) in
+    let z : EndsOnceOff x.q made (here x y) = record {
+      mid = made;
+      off = off;
+      asks = none_made (IsAsking x.q) made made refl;
+      switched = switched;
+      ends = first_made (IsEnding x.q) off (here x y) x.new later y.rest ends on y.all;
+    } in
+    silent_off (life x) (here x y) (is_stopping x y) z done rest all calls

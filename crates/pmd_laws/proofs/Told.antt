@@ -2,27 +2,22 @@
 -- history. What the call tells may be told behind other calls: what it added comes behind a life. And a driver's life
 -- as its calls tell it is a life: it runs on, over calls as they are told, and harmless ones between.
 use Rattle.driver_laws.proofs.InOrder.{none_is_all_before, waiting_is_not_all}
-use Rattle.pmd.specs.PmdRx.Plays.{LooksInVain}
-use Rattle.pmd_laws.specs.Looks.{EndsAt, NoneIsAllAtFirst, NoneIsAllBefore}
-use Rattle.pmd_laws.proofs.Order.{Ran, begun, counted, driven, first, handed, idle, in_parts, last as last_there}
-use Rattle.pmd_laws.proofs.Order.{life_before, none, ran, sent_first, whole}
+use Rattle.pmd.{proofs.Both.rings_still, specs.Driver.Driver, specs.PmdRx.Plays.LooksInVain}
+use Rattle.pmd_laws.proofs.Order.{Ran, all_apart, begun, counted, driven, first, fresh_own, handed, idle, in_parts}
+use Rattle.pmd_laws.proofs.Order.{last as last_there, life_before, none, ran, sent_first, whole}
 use Rattle.pmd_laws.proofs.Prelude.{[], ◌++◌, ◌∙◌, ◌∷◌, ◌≡◌, ◌≢◌, Adds, AddsHarmless, AllFollow, AtPort, Block, Blocks}
-use Rattle.pmd_laws.proofs.Prelude.{Call, Down, Drives, Entry, Event, FindsNone, FindsWaiting, Follows, Halves}
-use Rattle.pmd_laws.proofs.Prelude.{HasNoneOut, IsLegal, IsTold, Leads, LeadsApart, Life, List, Lives, LooksLast}
-use Rattle.pmd_laws.proofs.Prelude.{Moment, Numbers, OwnsSame, Parts, Receive, Reply, Rings, Running, Sender, State}
-use Rattle.pmd_laws.proofs.Prelude.{Told, Up, WaitingIsNotAllAsTold, WaitingIsNotAllBefore, WhereUp, ℕ, accepted_of, ap}
+use Rattle.pmd_laws.proofs.Prelude.{Call, Drives, Entry, Event, FindsNone, FindsWaiting, Follows, Halves, HasNoneOut}
+use Rattle.pmd_laws.proofs.Prelude.{IsLegal, IsTold, Leads, LeadsApart, Life, List, Lives, LooksLast, Moment, Numbers}
+use Rattle.pmd_laws.proofs.Prelude.{OwnsSame, Parts, Receive, Reply, Rings, Running, Sender, State, Told, Up}
+use Rattle.pmd_laws.proofs.Prelude.{WaitingIsNotAllAsTold, WaitingIsNotAllBefore, WhereUp, ℕ, accepted_of, ap}
 use Rattle.pmd_laws.proofs.Prelude.{apart_leads_on, append-nil, append_assoc, append_cancel_left, bytes_of, call_in}
 use Rattle.pmd_laws.proofs.Prelude.{call_of, calls_joined, calls_of, delivered, driven_apart, drives_lead, first_of}
 use Rattle.pmd_laws.proofs.Prelude.{halves_of, handed_of, harmless_apart, harmless_lead, inl, inr, is_own, last}
 use Rattle.pmd_laws.proofs.Prelude.{leads_on, leads_to, legal_behind, played_by, receiving_drives, refl, reply_to}
 use Rattle.pmd_laws.proofs.Prelude.{same_from_push, sending_drives, sent_since, steps_harmless, subst, sym}
-use Rattle.pmd.proofs.Both.{rings_still}
-use Rattle.pmd.specs.Driver.{Driver}
-use Rattle.pmd_laws.specs.Told.{now}
-use Rattle.pmd_laws.proofs.Begun.{all_apart, fresh_own}
+use Rattle.pmd_laws.specs.{Looks.EndsAt, Looks.NoneIsAllAtFirst, Looks.NoneIsAllBefore, Told.now}
+use Rattle.std.proofs.{Common.arith, lemmas.Grind.common_steps}
 use Rattle.pmd_laws.specs.Told as told
-use Rattle.std.proofs.Common.{arith}
-use Rattle.std.proofs.lemmas.Grind.{common_steps}
 
 -- a later place of a life's history, to which its calls led its halves
 module _ (x : Life) (late rest : List Entry) (split : late ++ rest ≡ x.h) {then : Halves}
@@ -200,9 +195,7 @@ pub record RunsOn (a : Numbers) (old : List Call) (h : Halves) (n : Moment) : Ty
 
 pub up_next : (P : Running → Running → Type 0) (a b : Rings) (r : Running) → a ≡ Up r → WhereUp a b P
     → (s : Running) × (b ≡ Up s) × P r s
-up_next P (Up x) (Up y) r is holds = let same : x ≡ r = cc in (y, refl, subst (λ z. P z y) same holds)
-up_next P (Up x) (Down y) r is holds = absurd holds
-up_next P (Down x) b r is holds = cc
+up_next P a b r is holds = grind (arith, common_steps)
 
 module _ {a : Numbers} {old : List Call} {h : Halves} where
   runs_next : (m n : Moment) (x : RunsOn a old h m) (s : Running) → n.driver.rings ≡ Up s
@@ -224,8 +217,7 @@ module _ {a : Numbers} {old : List Call} {h : Halves} where
   follows m n x (inr (halves, added)) =
       let (s, up, same) = up_next _ m.driver.rings n.driver.rings x.rings x.up halves in
       runs_next m n x s up same.1
-      (subst (λ (k : Halves). LeadsApart (is_own a) m.made (halves_of x.rings) n.made k) (sym same.0)
-      (harmless_apart (is_own a) m.made n.made (halves_of x.rings) added))
+      (grind (arith, common_steps, is_own, harmless_apart))
 
   all_follow : (m : Moment) (later : List Moment) → RunsOn a old h m → AllFollow m later → RunsOn a old h (last m later)
   all_follow m [] x all = x

@@ -1,25 +1,18 @@
 -- What a worker's end tells is in order, over the history that its pass closes.
-use Rattle.workers.specs.DeviceLock.Closing.{StandsIn}
-use Rattle.workers.specs.Ends.{AreEnds, IsEnd}
-use Rattle.workers.specs.Lived.{HasRun}
-use Rattle.workers.specs.Starts.{Starts}
-use Rattle.workers.specs.declared.ends.WorkerEnd.{WorkerEnd}
-use Rattle.workers.specs.declared.fault.WorkerFault.{WorkerFault}
-use Rattle.workers.specs.declared.fault.WorkerFault.TheVariants.{GateShut, NoThread, Pmd}
-use Rattle.workers.specs.declared.job.Job.{Job}
-use Rattle.pmd_laws.proofs.Order.{along_before}
+use Rattle.workers.specs.{DeviceLock.Closing.StandsIn, Ends.AreEnds, Ends.IsEnd, Lived.HasRun, Starts.Starts}
+use Rattle.workers.specs.{declared.ends.WorkerEnd.WorkerEnd, declared.fault.WorkerFault.TheVariants.NoThread}
+use Rattle.workers.specs.{declared.fault.WorkerFault.WorkerFault, declared.job.Job.Job}
+use Rattle.pmd_laws.proofs.{DriverLaws.HistoryLaws.Alone.new_is_left_alone, Lived.handed_since, Lived.sent_on}
+use Rattle.pmd_laws.proofs.{Lived.starts, Order.along_before, Refused.left_of_refused_is_prefix, Settings.ground_there}
+use Rattle.pmd_laws.proofs.{Settings.named_below, WorkerTold.calls_from, WorkerTold.starts_more}
 use Rattle.pmd_laws.proofs.Prelude.{[], ◌++◌, ◌∙◌, ◌∷◌, ◌≡◌, ◌≢◌, ◌⊎◌, Call, Entry, HasGround, IsAlong, IsHome, IsQuiet}
 use Rattle.pmd_laws.proofs.Prelude.{IsSound, List, None, Numbers, Option, Rest, Some, State, Watched, ℕ, ap, append-nil}
 use Rattle.pmd_laws.proofs.Prelude.{append_assoc, around, bytes_of, call_in, calls_joined, calls_of, calls_own}
-use Rattle.pmd_laws.proofs.Prelude.{delivered, eq-eqb, inl, inr, leads_to, left, left_accepted, left_handed, new_sound}
+use Rattle.pmd_laws.proofs.Prelude.{delivered, inl, inr, leads_to, left, left_accepted, left_handed, new_sound}
 use Rattle.pmd_laws.proofs.Prelude.{new_state, none_behind, refl, same_from_push, sent_since, subst, sym}
-use Rattle.pmd_laws.proofs.Refused.{left_of_refused_is_prefix}
-use Rattle.pmd_laws.proofs.DriverLaws.HistoryLaws.Alone.{new_is_left_alone}
+use Rattle.pmd_laws.specs.{Points.JustBefore}
 use Rattle.pmd_laws.specs.WorkerOrder.{CallsStand, EndOwn, IsEndAmong, IsEndIn, UpTo, given_of, queue_of}
-use Rattle.pmd_laws.specs.Points.{JustBefore}
-use Rattle.pmd_laws.proofs.WorkerTold.{calls_from, starts_more}
-use Rattle.pmd_laws.proofs.Lived.{handed_since, sent_on, starts}
-use Rattle.pmd_laws.proofs.Settings.{ground_there, named_below}
+use Rattle.std.proofs.{Common.arith, lemmas.Grind.common_steps}
 use Rattle.pmd.specs.declared.start.Rest.TheVariants as rest
 use Rattle.pmd_laws.specs.DriverLaws.RingLaws.Delivered as receive
 use Rattle.pmd_laws.specs.DriverLaws.RingLaws.Laws as transmit
@@ -55,10 +48,7 @@ up_to tag h calls more is = elim (last_or_none calls) as (λ _. (u : UpTo tag h 
           done = x.before ++ x.entry ∷ [];
           rest = x.behind;
           all = append_assoc x.before (x.entry ∷ []) x.behind ∙ x.all;
-          made =
-              calls_joined tag x.before (x.entry ∷ [])
-              ∙ (λ i. x.made i ++ calls_own tag x.entry [] (eq-eqb x.entry.pass tag x.own) i)
-              ∙ ap (λ (d : Call). front ++ d ∷ []) x.call ∙ sym ends;
+          made = grind (arith, common_steps, calls_joined, calls_own);
         },
         λ before e both.
             ap (λ (f : Entry). f.pass) (same_from_push before x.before e x.entry both).1 ∙ x.own,
@@ -76,24 +66,19 @@ end_of : (jobs : List Job) (ran : List WorkerEnd) (j : Job) (e : WorkerEnd) → 
     → IsEndAmong jobs ran j e → IsEnd j e
 end_of [] ran j e are among = absurd among
 end_of (k ∷ jobs) [] j e are among = absurd among
-end_of (k ∷ jobs) (f ∷ ran) j e are (inl (one, two)) =
-    rw (one, two) are.0
+end_of (k ∷ jobs) (f ∷ ran) j e are (inl (one, two)) = grind (arith, common_steps)
 end_of (k ∷ jobs) (f ∷ ran) j e are (inr more) = end_of jobs ran j e are.1 more
 
 -- a worker had a thread, or not
 threads : (fault : Option WorkerFault) → (fault ≡ Some NoThread) ⊎ (fault ≢ Some NoThread)
-threads None = inr (λ is. cc)
-threads (Some (Pmd f)) = inr (λ is. cc)
-threads (Some GateShut) = inr (λ is. cc)
-threads (Some NoThread) = inl refl
+threads fault = grind (arith, common_steps)
 
 -- nothing was handed out or accepted
 abbrev NothingLeft : Rest → Type 0
 NothingLeft left = (left_handed left ≡ []) × (left_accepted left ≡ [])
 
 home_left : (a : Numbers) (left : Rest) → IsHome a left → NothingLeft left
-home_left a (rest.Home home) (arena, lost, handed, accepted) = (handed, accepted)
-home_left a (rest.Running p) is = absurd is
+home_left a left is = grind (arith, common_steps)
 
 module _ (vfs fifo : ℕ) (h : List Entry) (j : Job) (e : WorkerEnd) (x : IsEndIn vfs fifo h j e)
     (u : UpTo e.pass.tag h e.pass.calls) where
@@ -202,10 +187,7 @@ module _ (vfs fifo : ℕ) (h : List Entry) (j : Job) (e : WorkerEnd) (x : IsEndI
 
     -- without a thread there is no such entry
     never_idle : e.fault ≡ Some NoThread → ⊥
-    never_idle none =
-        isnt_none s.steps (call_in s.first) (calls_of e.pass.tag s.behind)
-        (none_behind old (s.steps ++ call_in s.first ∷ calls_of e.pass.tag s.behind)
-        (sym (calls_from e.pass.tag old u.done s) ∙ u.made ∙ (λ i. ((ends.idle none).0 i).calls)))
+    never_idle none = grind (arith, common_steps, isnt_none, none_behind, old, calls_from, ends)
 
     pub in_order : InOrder
     in_order = elim (threads e.fault) as (λ _. InOrder) [

@@ -1,39 +1,28 @@
 -- The first event of a driver's own, and the calls from it on: what is so just before it is so for the laws of its
 -- driver. What the entries of a history tell is so of the device there: which blocks are lent, and how long frames are.
-use Rattle.workers.specs.Starts.{Starts}
+use Rattle.workers.specs.{Before.known_through, Starts.Starts}
+use Rattle.workers.specs.Fitting.{let_in_by, longest_behind, longest_let_in}
+use Rattle.workers.specs.Lending.{lends_none, lent_behind, lent_through, no_block, takes}
+use Rattle.pmd_laws.proofs.DriverLaws.HistoryLaws.Lent.{not_so, only_lent_stays, waiting_changed}
 use Rattle.pmd_laws.proofs.DriverLaws.Made.{AddsCall, made_by}
-use Rattle.pmd_laws.proofs.Prelude.{[], ◌&&◌, ◌++◌, ◌+◌, ◌<◌, ◌==◌, ◌||◌, ◌∙◌, ◌∷◌, ◌≡◌, ◌≤◌, All, AreEvents, AtPort}
+use Rattle.pmd_laws.proofs.Prelude.{[], ◌&&◌, ◌++◌, ◌+◌, ◌==◌, ◌||◌, ◌∙◌, ◌∷◌, ◌≡◌, ◌≤◌, All, AreEvents, AtPort}
 use Rattle.pmd_laws.proofs.Prelude.{BeforeLast, Block, Blocks, Bool, Call, Entry, Err, Event, FitsBlocks, IsEvent}
 use Rattle.pmd_laws.proofs.Prelude.{IsFalse, IsLegal, IsMade, LendsNone, List, NoneLent, Ok, OnlyLent, OnlyPassLends}
 use Rattle.pmd_laws.proofs.Prelude.{Reply, RowId, Rx, Rxdctl, Sees, State, Waiting, Watched, ℕ, ⊤, after, and_from}
 use Rattle.pmd_laws.proofs.Prelude.{and_parts, ap, append_assoc, arith, both_ways, call_in, calls_joined, calls_of}
-use Rattle.pmd_laws.proofs.Prelude.{calls_own, either_way, eq-eqb, eqb-true, events_before, false, has_block, has_queue}
-use Rattle.pmd_laws.proofs.Prelude.{inl, inr, is_own, is_some, is_step, leads_to, legal_before, lends, length}
-use Rattle.pmd_laws.proofs.Prelude.{lent_cases, lt-ltb, max, mode_in, most_blocks, nat_cmp, nat_lt, new_state}
-use Rattle.pmd_laws.proofs.Prelude.{not-true, or_cases, or_left, or_right, refl, reply_to, same_from_push}
+use Rattle.pmd_laws.proofs.Prelude.{calls_own, either_way, events_before, false, has_block, has_queue, is_own, is_some}
+use Rattle.pmd_laws.proofs.Prelude.{is_step, leads_to, legal_before, lends, length, lent_cases, max, mode_in}
+use Rattle.pmd_laws.proofs.Prelude.{most_blocks, nat_cmp, nat_lt, new_state, or_right, refl, reply_to, same_from_push}
 use Rattle.pmd_laws.proofs.Prelude.{subst, sym, taken_cases, true}
-use Rattle.pmd_laws.specs.Points.{HoldsAtFirst, JustBefore}
-use Rattle.nic_device.specs.Sound.{IsLendable}
-use Rattle.nic_device.specs.Step.{step_of}
-use Rattle.nic_device.specs.declared.event.Reply.TheVariants.{Buf}
-use Rattle.workers.specs.Before.{known_through}
-use Rattle.workers.specs.Lending.{lends_none, lent_behind, lent_through, no_block, takes}
+use Rattle.pmd_laws.specs.{Lending.OthersLendNoneIsAlone, Points.HoldsAtFirst, Points.JustBefore}
 use Rattle.pmd_laws.specs.DriverLaws.RingLaws.HistoryLaws.Lent.{with_lent, without}
-use Rattle.pmd_laws.proofs.DriverLaws.HistoryLaws.Lent.{only_lent_stays, waiting_changed}
-use Rattle.std.proofs.Math.Nat.{le-max_left, le-max_right}
-use Rattle.std.proofs.lemmas.List.Elements.{All-cons, All-filter, All-head, All-nil, All-push, All-tail, All-weaker}
-use Rattle.std.specs.Prelude.{Result, not}
-use Rattle.nic_device.proofs.QueueCases.{received_cases}
-use Rattle.nic_device.specs.Arrival.{let_in, sorted_in}
-use Rattle.nic_device.specs.Outcome.{Outcome}
-use Rattle.nic_device.specs.RegisterFile.Settings.{can_receive, frame_limit}
-use Rattle.nic_device.specs.RxFilter.Sorting.{sorted}
-use Rattle.nic_device.specs.RxFilter.declared.target.Target.{Target}
-use Rattle.nic_device.specs.RxFilter.declared.unwanted.Unwanted.{Unwanted}
-use Rattle.nic_device.specs.Switching.{without_part}
-use Rattle.workers.specs.Fitting.{let_in_by, longest_behind, longest_let_in}
 use Rattle.pmd_laws.specs.Fitting.{AllFitBlocks, FramesFitIsShort}
-use Rattle.pmd_laws.specs.Lending.{OthersLendNoneIsAlone}
+use Rattle.nic_device.proofs.{QueueCases.received_cases}
+use Rattle.nic_device.specs.{Arrival.sorted_in, Outcome.Outcome, RxFilter.declared.target.Target.Target}
+use Rattle.nic_device.specs.{RxFilter.declared.unwanted.Unwanted.Unwanted, Sound.IsLendable, Step.step_of}
+use Rattle.nic_device.specs.{Switching.without_part, declared.event.Reply.TheVariants.Buf}
+use Rattle.std.{proofs.lemmas.Grind.common_steps, specs.Prelude.Result, specs.Prelude.not}
+use Rattle.std.proofs.lemmas.List.Elements.{All-cons, All-filter, All-head, All-nil, All-push, All-tail, All-weaker}
 use Rattle.nic_device.specs.declared.event.Event.TheVariants as event
 use Rattle.std.specs.FinMap as map
 use Rattle.workers.specs.Lending as told
@@ -51,17 +40,12 @@ first_read q row on = made_by q (λ c. IsFalse (is_step c.event)) (Sees row on) 
 -- and more calls behind it
 pub more_behind : (old new more : List Call) (x : FirstCall old new)
     → new ++ more ≡ old ++ (x.before ++ x.call ∷ more)
-more_behind old new more x =
-    ap (λ (l : List Call). l ++ more) x.added ∙ append_assoc old (x.before ++ x.call ∷ []) more
-    ∙ ap (λ (l : List Call). old ++ l) (append_assoc x.before (x.call ∷ []) more)
+more_behind old new more x = grind (arith, common_steps)
 
 -- all calls of a pass, around the first of its driver's own
 pub calls_from : (tag : ℕ) (old : List Call) (h : List Entry) (x : Starts tag old h)
     → calls_of tag h ≡ old ++ (x.steps ++ call_in x.first ∷ calls_of tag x.behind)
-calls_from tag old h x =
-    sym (ap (calls_of tag) x.all) ∙ calls_joined tag x.before (x.first ∷ x.behind)
-    ∙ (λ k. x.calls k ++ calls_own tag x.first x.behind (eq-eqb x.first.pass tag x.own) k)
-    ∙ append_assoc old x.steps (call_in x.first ∷ calls_of tag x.behind)
+calls_from tag old h x = grind (arith, common_steps, calls_joined, calls_own)
 
 -- it is the first in a longer history too
 abbrev pub starts_more : (tag : ℕ) (old : List Call) (h rest whole : List Entry) → h ++ rest ≡ whole
@@ -86,17 +70,7 @@ module _ (w : Watched) (fifo : ℕ) (old : List Call) (h : List Entry) (P : Stat
       let (calls, call) =
       same_from_push (calls_of w.pass done) (old ++ f.before) (call_in e) f.call
       (is ∙ f.added ∙ sym (append_assoc old f.before (f.call ∷ []))) in
-      just (record {
-        before = done;
-        first = e;
-        behind = rest;
-        all = all;
-        own = own;
-        steps = f.before;
-        stepped = f.steps;
-        calls = calls;
-        event = ap (λ (c : Call). is_step c.event) call ∙ f.is;
-      })
+      just (grind (arith, common_steps))
 
   pub holds_at_first : HoldsAtFirst w fifo old h P
   holds_at_first = record {
@@ -142,14 +116,7 @@ module _ (own known : Blocks) (s : State) (only : OnlyLent own known s.memory) w
       lent_cases (λ o. OnlyLent own (with_lent known b.number) o.state.memory
       → OnlyLent own (LentBehind (event.Lend b) o.reply) o.state.memory) s b
       (λ given n is has. or_right (nat_lt n 65536 && false) _ (and_from (known n) true (only n is has) refl))
-      (λ given n is has. elim (or_cases (n == b.number) (known n) (given n is has)) [
-        | inl same ↦
-            let here : b.number ≡ n = sym (eqb-true n b.number same) in
-            let low : n < 65536 = subst (λ (k : ℕ). k < 65536) here made.whole.small in
-            or_left (nat_lt n 65536 && (b.number == n)) _
-            (and_from (nat_lt n 65536) (b.number == n) (lt-ltb n 65536 low) (eq-eqb b.number n here))
-        | inr before ↦ or_right (nat_lt n 65536 && (b.number == n)) _ (and_from (known n) true before refl)
-      ]) (only_lent_stays.lend own known s b only)
+      (grind (arith, common_steps)) (only_lent_stays.lend own known s b only)
 
   take_behind : (number : ℕ)
       → OnlyLent own (LentBehind (event.Take number) (reply_to s (event.Take number)))
@@ -187,16 +154,13 @@ module _ (longest : ℕ) (s : State) (h : All (IsUpTo longest) s.waiting) where
   Behind e o = All (IsUpTo (max longest (let_in_by e o.reply))) o.state.waiting
 
   more : (len : ℕ) (ws : List Waiting) → All (IsUpTo longest) ws → All (IsUpTo (max longest len)) ws
-  more len ws all =
-      let wide = le-max_left longest len in
-      All-weaker (IsUpTo longest) (IsUpTo (max longest len)) (λ w few. omega (arith, few, wide)) ws all
+  more len ws all = grind (arith, common_steps, All-weaker)
 
   sorted_behind : (frame : List ℕ) (answer : Result Target Unwanted)
       → Behind (event.Arrive frame) (sorted_in s frame answer)
   sorted_behind frame (Ok t) =
       either_way (Behind (event.Arrive frame)) (nat_lt (length s.waiting) s.fifo) _ _
-      (All-push (IsUpTo (max longest (length frame))) s.waiting (let_in frame t) (more (length frame) s.waiting h)
-      (le-max_right longest (length frame))) (more 0 s.waiting h)
+      (grind (arith, common_steps, All-push, more)) (more 0 s.waiting h)
   sorted_behind frame (Err why) = more 0 s.waiting h
 
   arrived : (frame : List ℕ) → Behind (event.Arrive frame) (step_of s (event.Arrive frame))
@@ -205,10 +169,7 @@ module _ (longest : ℕ) (s : State) (h : All (IsUpTo longest) s.waiting) where
       let Is = Behind (event.Arrive frame) in
       let none = more 0 s.waiting h in
       either_way Is s.link _ _
-      (either_way Is (can_receive s.registers) _ _
-      (either_way Is (nat_lt (length frame) 60) _ _ none
-      (either_way Is (nat_lt (frame_limit s.registers) (length frame)) _ _ none
-      (sorted_behind frame (sorted s.registers frame)))) none) none
+      (grind (arith, common_steps, either_way, sorted_behind)) none
 
   -- no other event does
 
@@ -251,16 +212,11 @@ module _ (longest : ℕ) (s : State) (h : All (IsUpTo longest) s.waiting) where
 -- where the entries say that others lend none of a driver's blocks, they do so for those laws
 
 none_lent : (own : Blocks) (e : Event Block) → lends_none own e ≡ true → LendsNone own e
-none_lent own (event.Lend block) none = not-true (own block.number) none
-none_lent own e none = tt
+none_lent own e none = grind (arith, common_steps)
 
 only_lends : (pass : ℕ) (own : Blocks) (h : List Entry) → told.OnlyPassLends pass own h → OnlyPassLends pass own h
 only_lends pass own [] none = tt
 only_lends pass own (e ∷ es) none = (λ other. none_lent own e.event (none.0 other), only_lends pass own es none.1)
-
-not_so : (b c : Bool) → (b ≡ true → c ≡ true) → c ≡ false → b ≡ false
-not_so true c so none = absurd (both_ways c none (so refl))
-not_so false c so none = refl
 
 pub others_lend_none_is_alone : OthersLendNoneIsAlone
 others_lend_none_is_alone w fifo old a h legal events others = (

@@ -1,19 +1,14 @@
 -- A driver beside whatever calls its author makes through the same way to the device, as those of a second driver.
-use Rattle.std.specs.Prelude.{ℕ, ◌≡◌, ◌≢◌, ◌<◌, ◌⊎◌, Bool, List, [], ◌∷◌, ◌++◌, length}
-use Rattle.driver_laws.specs.Prelude.{Numbers, IsSound, State, AreEvents, IsLegal, calls_of, leads_to, Watched, Call, Entry, accepted_of, handed_of, halves_of, Running, Up, AtPort, LeavesAloneFrom, delivered, bytes_of, sent_since, entries_in, marked_entries}
+use Rattle.std.specs.Prelude.{[], ◌++◌, ◌<◌, ◌∷◌, ◌≡◌, ◌≢◌, ◌⊎◌, Bool, List, ℕ, length}
+use Rattle.driver_laws.specs.{Beside.AddsHarmless, Retold.AreSame}
+use Rattle.driver_laws.specs.Prelude.{AreEvents, AtPort, Call, Entry, IsLegal, IsSound, LeavesAloneFrom, Numbers}
+use Rattle.driver_laws.specs.Prelude.{Running, State, Up, Watched, accepted_of, bytes_of, calls_of, delivered}
+use Rattle.driver_laws.specs.Prelude.{entries_in, halves_of, handed_of, leads_to, marked_entries, sent_since}
+use Rattle.pmd_laws.specs.{Life.IsLife, Looks.EndsAt, Prelude.BeforeLast, Prelude.HasGround, Waits.Waits}
 use Rattle.pmd_laws.specs.Course.{Course, IsAllSent, IsHandedInOrder, IsSentInOrder}
-use Rattle.pmd_laws.specs.Prelude.{BeforeLast, HasGround}
-use Rattle.pmd.specs.Life.{KeepsHalves}
-use Rattle.pmd.specs.Started.{HasStarted}
-use Rattle.pmd.specs.PmdSeam.Begun.{From, began_handled, began_in_hand}
-use Rattle.pmd.specs.PmdSeam.Made.{InHand}
-use Rattle.pmd.specs.PmdSeam.Scheduled.{Handled, own_calls}
-use Rattle.driver_laws.specs.Beside.{AddsHarmless}
-use Rattle.driver_laws.specs.Retold.{AreSame}
-use Rattle.pmd_laws.specs.Looks.{EndsAt}
-use Rattle.pmd_laws.specs.Life.{IsLife}
 use Rattle.pmd_laws.specs.Told.{Drove, HasNoneOut, IsTold, LooksInVain, Moment, last}
-use Rattle.pmd_laws.specs.Waits.{Waits}
+use Rattle.pmd.specs.{Life.KeepsHalves, PmdSeam.Begun.From, PmdSeam.Begun.began_handled, PmdSeam.Begun.began_in_hand}
+use Rattle.pmd.specs.{PmdSeam.Made.InHand, PmdSeam.Scheduled.Handled, PmdSeam.Scheduled.own_calls, Started.HasStarted}
 
 -- a legal history of a sound device, whichever its state at first, and how it is told anew: the same calls, of which
 -- those that the driver's author made beside it have another pass's tag

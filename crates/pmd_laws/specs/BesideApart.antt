@@ -1,13 +1,11 @@
 -- A driver beside whatever calls its author makes, of whose arena nobody else lends a block: no call of its finds the
 -- device at fault, and each block is in one place.
-use Rattle.std.specs.Prelude.{ℕ, ◌≡◌, IsTrue, List, ◌++◌, if◌then◌else◌}
-use Rattle.driver_laws.specs.Prelude.{has_block, is_free, is_own, calls_of, Call, halted_of, places_of, HasAll, arena_of}
-use Rattle.pmd_laws.specs.Prelude.{BeforeLast}
-use Rattle.driver_laws.specs.Before.{OnlyPassLends}
+use Rattle.std.specs.Prelude.{if◌then◌else◌, ◌++◌, ◌≡◌, IsTrue, List, ℕ}
+use Rattle.driver_laws.specs.{Before.OnlyPassLends, Prelude.Call, Prelude.HasAll, Prelude.arena_of, Prelude.calls_of}
+use Rattle.driver_laws.specs.{Prelude.halted_of, Prelude.has_block, Prelude.is_free, Prelude.is_own, Prelude.places_of}
+use Rattle.pmd_laws.specs.{Places.is_out, Places.memory_after, Prelude.BeforeLast, Told.Moment}
 use Rattle.pmd_laws.specs.Beside.{Beside, IsToldBeside, now}
 use Rattle.pmd_laws.specs.Faultless.{FindsFault, IsFresh, MeetsFault, NoneLent}
-use Rattle.pmd_laws.specs.Places.{is_out, memory_after}
-use Rattle.pmd_laws.specs.Told.{Moment}
 
 -- as the history is told anew, the driver's own calls up to its last moment were made, then one of its calls, and maybe
 -- more behind. Just before its first access frames were short and none of its arena's blocks was lent; and nobody else

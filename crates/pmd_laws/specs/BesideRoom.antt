@@ -1,9 +1,8 @@
 -- A driver beside whatever calls of its author's, whose ring is full.
-use Rattle.std.specs.Prelude.{ℕ, ◌+◌, ◌<◌, ◌≤◌, List}
-use Rattle.driver_laws.specs.Prelude.{Numbers, Call, AtPort, Packet, parts_for}
-use Rattle.pmd_laws.specs.Beside.{IsToldBy}
+use Rattle.std.specs.Prelude.{◌+◌, ◌<◌, ◌≤◌, List, ℕ}
+use Rattle.driver_laws.specs.Prelude.{AtPort, Call, Numbers, Packet, parts_for}
+use Rattle.pmd_laws.specs.{Beside.IsToldBy, Told.Drove, Told.Moment, Told.last}
 use Rattle.pmd_laws.specs.FullRing.{AcceptsNone, TellsFull, outstanding}
-use Rattle.pmd_laws.specs.Told.{Drove, Moment, last}
 
 -- where a call of `tx` answers that the ring is full, fewer parts are outstanding than its start was given descriptors,
 -- and with those of the packet that was given no fewer

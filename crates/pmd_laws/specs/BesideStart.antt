@@ -1,11 +1,10 @@
 -- A start of a driver behind and beside whatever calls of its author's, which finds no device at fault.
-use Rattle.std.specs.Prelude.{ℕ, ◌≡◌, ◌≢◌, List, ◌++◌}
-use Rattle.driver_laws.specs.Prelude.{Numbers, is_own, calls_of, Call, Entry, AreUp, Running, StartRefused, AtPort, DeviceFault, StopsStarting}
-use Rattle.pmd_laws.specs.Course.{Course}
-use Rattle.pmd_laws.specs.Prelude.{BeforeNext, FaultsFilling}
+use Rattle.std.specs.Prelude.{◌++◌, ◌≡◌, ◌≢◌, List, ℕ}
 use Rattle.driver_laws.specs.Before.{OnlyPassLends}
-use Rattle.pmd_laws.specs.Beside.{IsRetold}
-use Rattle.pmd_laws.specs.Faultless.{IsQuietAndFresh}
+use Rattle.driver_laws.specs.Prelude.{AreUp, AtPort, Call, DeviceFault, Entry, Numbers, Running, StartRefused}
+use Rattle.driver_laws.specs.Prelude.{StopsStarting, calls_of, is_own}
+use Rattle.pmd_laws.specs.{Beside.IsRetold, Course.Course, Faultless.IsQuietAndFresh}
+use Rattle.pmd_laws.specs.Prelude.{BeforeNext, FaultsFilling}
 
 -- where a start brought both rings up, it added calls to those that were made, its first access among them
 abbrev pub StartAdds : Type 0

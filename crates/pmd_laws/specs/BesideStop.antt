@@ -1,10 +1,9 @@
 -- A driver beside whatever calls its author makes, and then the calls of its stop.
-use Rattle.std.specs.Prelude.{◌≡◌, List, ◌++◌}
-use Rattle.driver_laws.specs.Prelude.{calls_of, Call, Entry, accepted_of, handed_of}
-use Rattle.pmd_laws.specs.Course.{IsHandedInOrder, IsSentInOrder}
-use Rattle.pmd_laws.specs.Prelude.{Ends, EndsOnceOff, TakesOnceOff, IsSilent}
+use Rattle.std.specs.Prelude.{◌++◌, ◌≡◌, List}
+use Rattle.driver_laws.specs.Prelude.{Call, Entry, accepted_of, calls_of, handed_of}
 use Rattle.driver_laws.specs.Retold.{AreSame}
-use Rattle.pmd_laws.specs.Beside.{Beside, now}
+use Rattle.pmd_laws.specs.{Beside.Beside, Beside.now, Course.IsHandedInOrder, Course.IsSentInOrder}
+use Rattle.pmd_laws.specs.Prelude.{Ends, EndsOnceOff, IsSilent, TakesOnceOff}
 
 -- as the history is told anew, the driver's own calls up to the last moment were made, and behind them the first of
 -- those of its stop, or all: as it returned these calls were made

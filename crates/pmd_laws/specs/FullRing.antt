@@ -1,9 +1,8 @@
 -- How many slots are taken where a driver's ring is told to be full.
-use Rattle.std.specs.Prelude.{ℕ, ◌+◌, ◌<◌, ◌≤◌, List, ◌∷◌, Ok, length}
-use Rattle.driver_laws.specs.Prelude.{Numbers, Call, WhereUp, Rings, Up, Down, Packet, AtPort, parts_for}
+use Rattle.std.specs.Prelude.{◌+◌, ◌<◌, ◌∷◌, ◌≤◌, List, Ok, ℕ, length}
+use Rattle.driver_laws.specs.Prelude.{AtPort, Call, Down, Numbers, Packet, Rings, Up, WhereUp, parts_for}
 use Rattle.pmd.specs.Bursts.{IsSendBurst}
-use Rattle.pmd.specs.PmdTx.Sends.{IsFullWhereTold}
-use Rattle.pmd.specs.PmdTx.declared.answer.TxAnswer.TheVariants.{RingFull}
+use Rattle.pmd.specs.PmdTx.{Sends.IsFullWhereTold, declared.answer.TxAnswer.TheVariants.RingFull}
 use Rattle.pmd_laws.specs.Told.{Drove, IsTold, Moment, last}
 
 -- a call of `tx` answered that the ring is full, as `full` in its clause `sent` tells

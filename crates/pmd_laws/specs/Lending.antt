@@ -1,12 +1,10 @@
 -- Others that lend none of a driver's blocks: what the laws ask that say where its blocks are, and that it never finds
 -- the device at fault.
-use Rattle.std.specs.Prelude.{ℕ, List, length}
-use Rattle.pmd_laws.specs.DriverLaws.Prelude.{Numbers, is_own, new_state, AreEvents, IsLegal, Watched, Call, Entry}
+use Rattle.std.specs.Prelude.{List, ℕ, length}
+use Rattle.pmd_laws.specs.{DriverLaws.Before.OnlyPassLends, Faultless.NoneLent, Points.HoldsAtFirst}
+use Rattle.pmd_laws.specs.DriverLaws.Prelude.{AreEvents, Call, Entry, IsLegal, Numbers, Watched, is_own, new_state}
 use Rattle.nic_device.specs.DmaArena.Numbers.{count_of}
-use Rattle.pmd_laws.specs.DriverLaws.Before.{OnlyPassLends}
-use Rattle.pmd_laws.specs.Faultless.{NoneLent}
 use Rattle.workers.specs.Lending.{OthersLendNone, are_from}
-use Rattle.pmd_laws.specs.Points.{HoldsAtFirst}
 
 -- where the entries say that others lend none of an arena's blocks, no other pass lends any over the history, and none
 -- of them is lent just before the first event of the driver's own

@@ -1,9 +1,8 @@
 -- A driver's life over a history: a start that brought both rings up, and then the calls of its halves.
 use Rattle.std.specs.Prelude.{List}
-use Rattle.driver_laws.specs.Prelude.{Call, Halves, halves_of, Running, AreUp}
-use Rattle.pmd_laws.specs.Prelude.{IsAlong, BeginsWell}
 use Rattle.driver_laws.specs.Beside.{Leads}
-use Rattle.pmd_laws.specs.Course.{Course}
+use Rattle.driver_laws.specs.Prelude.{AreUp, Call, Halves, Running, halves_of}
+use Rattle.pmd_laws.specs.{Course.Course, Prelude.BeginsWell, Prelude.IsAlong}
 
 -- over a legal history of a sound device that leaves the queue alone: when these calls were made the driver had started
 -- with this arena and ran, with both rings up; and since then its halves were led on, beside calls that are harmless

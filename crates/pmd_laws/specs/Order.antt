@@ -1,8 +1,7 @@
 -- What a driver handed out and what it sent in its life, over a history that leaves its queue alone.
-use Rattle.std.specs.Prelude.{◌≡◌, [], ◌++◌}
-use Rattle.driver_laws.specs.Prelude.{calls_of, leads_to, delivered, records_of, FindsNone, ShowsNone}
-use Rattle.pmd_laws.specs.Course.{IsAllSent, IsHandedInOrder, IsSentInOrder}
-use Rattle.pmd_laws.specs.Life.{Life}
+use Rattle.std.specs.Prelude.{[], ◌++◌, ◌≡◌}
+use Rattle.driver_laws.specs.Prelude.{FindsNone, ShowsNone, calls_of, delivered, leads_to, records_of}
+use Rattle.pmd_laws.specs.{Course.IsAllSent, Course.IsHandedInOrder, Course.IsSentInOrder, Life.Life}
 
 -- the pass made just the calls of this life in its history
 abbrev pub IsLived : Life → Type 0

@@ -1,13 +1,12 @@
 -- Where the blocks of a driver are at the device: lent there are those that it has out with its halves, and of its
 -- arena's no others.
-use Rattle.std.specs.Prelude.{ℕ, ◌≡◌, Bool, false, IsTrue, List, ◌++◌, if◌then◌else◌}
-use Rattle.driver_laws.specs.Prelude.{Memory, has_block, Numbers, is_free, is_own, times_in_hand, State, leads_to, Entry, halted_of, halves_of, Rings, Up, Down, Halted, places_of, HasAll, arena_of}
-use Rattle.pmd_laws.specs.Prelude.{BeforeLast}
+use Rattle.std.specs.Prelude.{if◌then◌else◌, ◌++◌, ◌≡◌, Bool, IsTrue, List, ℕ, false}
+use Rattle.driver_laws.specs.{Before.OnlyPassLends, Healthy.lent_by}
+use Rattle.driver_laws.specs.Prelude.{Down, Entry, Halted, HasAll, Memory, Numbers, Rings, State, Up, arena_of}
+use Rattle.driver_laws.specs.Prelude.{halted_of, halves_of, has_block, is_free, is_own, leads_to, places_of}
+use Rattle.driver_laws.specs.Prelude.{times_in_hand}
+use Rattle.pmd_laws.specs.{Faultless.NoneLent, Prelude.BeforeLast, Told.IsToldOf, Told.Told, Told.now}
 use Rattle.pmd.specs.Blocks.{KeepsBlocks}
-use Rattle.driver_laws.specs.Before.{OnlyPassLends}
-use Rattle.driver_laws.specs.Healthy.{lent_by}
-use Rattle.pmd_laws.specs.Faultless.{NoneLent}
-use Rattle.pmd_laws.specs.Told.{IsToldOf, Told, now}
 
 -- whether a driver that runs has the block of this number out with a half: it is a ring's own, one that is posted or
 -- about to be, or that of a part of an outstanding packet which is lent

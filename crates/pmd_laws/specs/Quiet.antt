@@ -1,11 +1,8 @@
 -- A queue that was never asked on before its driver's start is off there.
-use Rattle.std.specs.Prelude.{ℕ, ◌<◌, ◌≤◌, List, length}
-use Rattle.pmd_laws.specs.DriverLaws.Prelude.{AreEvents, Watched, Call, Entry}
-use Rattle.pmd_laws.specs.Prelude.{IsQuiet}
-use Rattle.workers.specs.Beginning.{BeginsWell}
-use Rattle.workers.specs.Quiet.{NeverAskedOn}
-use Rattle.workers.specs.declared.beginning.Given.{Given}
-use Rattle.pmd_laws.specs.Points.{JustBefore}
+use Rattle.std.specs.Prelude.{◌<◌, ◌≤◌, List, ℕ, length}
+use Rattle.pmd_laws.specs.{Points.JustBefore, Prelude.IsQuiet}
+use Rattle.pmd_laws.specs.DriverLaws.Prelude.{AreEvents, Call, Entry, Watched}
+use Rattle.workers.specs.{Beginning.BeginsWell, Quiet.NeverAskedOn, declared.beginning.Given.Given}
 
 -- where no entry before the first of the driver's own asks the queue on, and the driver begins well, both sides of its
 -- queue are off and not wanted on just before that entry

@@ -1,13 +1,11 @@
 -- A driver whose queue was switched off behind its life, and what goes on there from then on.
-use Rattle.std.specs.Prelude.{◌≡◌, List, ◌++◌, Option, Some, None}
 use Rattle.std.proofs.Common.{inl, inr}
-use Rattle.driver_laws.specs.Prelude.{calls_of, Call, Entry, halted_of, Up, Rest, PmdFault, Halted, AtPort}
+use Rattle.std.specs.Prelude.{◌++◌, ◌≡◌, List, None, Option, Some}
+use Rattle.driver_laws.specs.Prelude.{AtPort, Call, Entry, Halted, PmdFault, Rest, Up, calls_of, halted_of}
+use Rattle.pmd_laws.specs.{Ends.Ended, Ends.IsOver, Life.Life, Stopped.IsStopping}
 use Rattle.pmd_laws.specs.Prelude.{EndsOnceOff, IsSilent}
 use Rattle.pmd.specs.Life.{IsStopped}
 use Rattle.pmd.specs.declared.start.Rest.TheVariants as rest
-use Rattle.pmd_laws.specs.Ends.{Ended, IsOver}
-use Rattle.pmd_laws.specs.Life.{Life}
-use Rattle.pmd_laws.specs.Stopped.{IsStopping}
 
 -- behind a life, once the calls of its stop have switched both sides of the queue off, nothing is delivered or sent
 -- there any more

@@ -1,11 +1,8 @@
 -- A driver's life, and then calls of its stop.
 use Rattle.std.specs.Prelude.{◌≡◌, List}
-use Rattle.driver_laws.specs.Prelude.{calls_of, Call, PmdFault, Halted, AtPort}
-use Rattle.pmd_laws.specs.Course.{IsHandedInOrder, IsSentInOrder}
-use Rattle.pmd_laws.specs.Prelude.{Ends, TakesOnceOff}
-use Rattle.pmd.specs.Stopping.{StopFails, Stops}
-use Rattle.pmd.specs.declared.home.Home.{Home}
-use Rattle.pmd_laws.specs.Life.{Life}
+use Rattle.driver_laws.specs.Prelude.{AtPort, Call, Halted, PmdFault, calls_of}
+use Rattle.pmd_laws.specs.{Course.IsHandedInOrder, Course.IsSentInOrder, Life.Life, Prelude.Ends, Prelude.TakesOnceOff}
+use Rattle.pmd.specs.{Stopping.StopFails, Stopping.Stops, declared.home.Home.Home}
 
 -- behind a life the pass made the calls of a stop, and no others: none writes the queue's enable words with bit 25
 pub record IsStopping (x : Life) (new : List Call) : Type 0 where

@@ -1,15 +1,13 @@
 -- A driver's life as its calls tell it: what the clauses of `start`, `rx`, `tx`, `reap`, `rx_burst`, `tx_burst`,
 -- `packet` and `release` say of the driver, and of the calls that its pass made.
-use Rattle.std.specs.Prelude.{ℕ, ◌≡◌, ◌⊎◌, ⊤, List, [], ◌∷◌, ◌++◌}
-use Rattle.driver_laws.specs.Prelude.{Numbers, calls_of, Call, Entry, WhereUp, accepted_of, handed_of, Rings, Up, Down, AtPort, delivered}
-use Rattle.pmd_laws.specs.Course.{Course, IsAllSent, IsHandedInOrder, IsSentInOrder}
-use Rattle.pmd_laws.specs.Prelude.{IsAlong, BeginsWell}
-use Rattle.pmd.specs.Driver.{Driver}
-use Rattle.pmd.specs.Life.{RunsOn, KeepsHalves}
-use Rattle.pmd.specs.Started.{HasStarted}
-use Rattle.pmd.specs.PmdRx.Plays as receiving
+use Rattle.std.specs.Prelude.{[], ◌++◌, ◌∷◌, ◌≡◌, ◌⊎◌, List, ℕ, ⊤}
 use Rattle.driver_laws.specs.Beside.{AddsHarmless}
-use Rattle.pmd_laws.specs.Looks.{EndsAt}
+use Rattle.driver_laws.specs.Prelude.{AtPort, Call, Down, Entry, Numbers, Rings, Up, WhereUp, accepted_of, calls_of}
+use Rattle.driver_laws.specs.Prelude.{delivered, handed_of}
+use Rattle.pmd_laws.specs.{Looks.EndsAt, Prelude.BeginsWell, Prelude.IsAlong}
+use Rattle.pmd_laws.specs.Course.{Course, IsAllSent, IsHandedInOrder, IsSentInOrder}
+use Rattle.pmd.specs.{Driver.Driver, Life.KeepsHalves, Life.RunsOn, Started.HasStarted}
+use Rattle.pmd.specs.PmdRx.Plays as receiving
 
 -- when a call of the driver, or of its way to the device, has returned: the driver, and the calls of its pass so far
 pub record Moment : Type 0 where

@@ -1,11 +1,9 @@
 -- A call of a driver that ends with a packet outstanding.
-use Rattle.std.specs.Prelude.{◌≡◌, ◌≢◌, List, [], ◌++◌}
-use Rattle.driver_laws.specs.Prelude.{calls_of, Call, Entry, WhereUp, accepted_of, Sender, bytes_of, sent_since}
-use Rattle.pmd.specs.PmdTx.Plays.{LooksLast}
+use Rattle.std.specs.Prelude.{[], ◌++◌, ◌≡◌, ◌≢◌, List}
 use Rattle.driver_laws.specs.Beside.{AddsHarmless}
-use Rattle.pmd_laws.specs.Life.{Life}
-use Rattle.pmd_laws.specs.Looks.{EndsAt}
-use Rattle.pmd_laws.specs.Told.{Moment, Told, now}
+use Rattle.driver_laws.specs.Prelude.{Call, Entry, Sender, WhereUp, accepted_of, bytes_of, calls_of, sent_since}
+use Rattle.pmd.specs.PmdTx.Plays.{LooksLast}
+use Rattle.pmd_laws.specs.{Life.Life, Looks.EndsAt, Told.Moment, Told.Told, Told.now}
 
 -- behind a life one call of the driver accepted none, and looked at last at the oldest outstanding packet, which wasn't
 -- done, at an entry of the history

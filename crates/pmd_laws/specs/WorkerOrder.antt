@@ -1,19 +1,13 @@
 -- What the end of a worker says of the history in which its pass was closed.
-use Rattle.std.specs.Prelude.{ℕ, ◌≡◌, ◌⊎◌, ◌<◌, ◌≤◌, List, [], ◌∷◌, ◌++◌, length, Contains, None}
-use Rattle.pmd_laws.specs.DriverLaws.Prelude.{new_state, AtPort, left_accepted, left_handed, delivered, bytes_of, sent_since, AreEvents, IsLegal, calls_of, leads_to, Call, Entry}
-use Rattle.pmd_laws.specs.Prelude.{IsQuiet}
+use Rattle.std.specs.Prelude.{[], ◌++◌, ◌<◌, ◌∷◌, ◌≡◌, ◌≤◌, ◌⊎◌, Contains, List, None, ℕ, length}
+use Rattle.pmd_laws.specs.{Points.JustBefore, Prelude.IsQuiet}
+use Rattle.pmd_laws.specs.DriverLaws.Prelude.{AreEvents, AtPort, Call, Entry, IsLegal, bytes_of, calls_of, delivered}
+use Rattle.pmd_laws.specs.DriverLaws.Prelude.{leads_to, left_accepted, left_handed, new_state, sent_since}
+use Rattle.workers.specs.{Beginning.BeginsWell, DeviceLock.Alone.LeavesAlone, DeviceLock.Closing.Closes}
+use Rattle.workers.specs.{DeviceLock.Pass.PassValue, Ends.AreEnds, Starts.Starts, declared.beginning.Given.Given}
+use Rattle.workers.specs.{declared.ends.WorkerEnd.WorkerEnd, declared.job.Job.Job}
 use Rattle.pmd_laws.specs.DriverLaws.RingLaws.Delivered as receive
 use Rattle.pmd_laws.specs.DriverLaws.RingLaws.Laws as transmit
-use Rattle.workers.specs.DeviceLock.Alone.{LeavesAlone}
-use Rattle.workers.specs.DeviceLock.Closing.{Closes}
-use Rattle.workers.specs.DeviceLock.Pass.{PassValue}
-use Rattle.workers.specs.Beginning.{BeginsWell}
-use Rattle.workers.specs.Ends.{AreEnds}
-use Rattle.workers.specs.Starts.{Starts}
-use Rattle.workers.specs.declared.beginning.Given.{Given}
-use Rattle.workers.specs.declared.ends.WorkerEnd.{WorkerEnd}
-use Rattle.workers.specs.declared.job.Job.{Job}
-use Rattle.pmd_laws.specs.Points.{JustBefore}
 
 -- the queue of a job, as its port numbers it
 abbrev pub queue_of : Job → AtPort

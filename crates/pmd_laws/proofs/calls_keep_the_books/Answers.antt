@@ -1,9 +1,7 @@
 -- What a driver has of an arena's blocks, over its calls.
-use Rattle.pmd.specs.Blocks.{KeepsBlocks}
-use Rattle.pmd.specs.Halted.{all_out}
+use Rattle.pmd.specs.{Blocks.KeepsBlocks, Halted.all_out}
 use Rattle.pmd_laws.proofs.Prelude.{[], ◌++◌, ◌≡◌, Halted, HasAll, List, Numbers, Rings, ℕ, append_assoc, arith}
-use Rattle.pmd_laws.proofs.Prelude.{halted_of, keeps_beside, keeps_counted, keeps_then, times-append}
-use Rattle.pmd_laws.proofs.Prelude.{times_in_hand}
+use Rattle.pmd_laws.proofs.Prelude.{halted_of, keeps_beside, keeps_counted, keeps_then, times-append, times_in_hand}
 use Rattle.pmd_laws.proofs.calls_keep_the_books.Goals as goal
 
 call_counted : (a : Numbers) (old new : Rings) (given back rest : List ℕ) → KeepsBlocks old given new back

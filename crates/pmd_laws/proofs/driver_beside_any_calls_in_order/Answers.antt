@@ -1,9 +1,9 @@
 use Rattle.pmd_laws.proofs.Beside.{called_behind, is_life, own_anew, own_life, rings_up, told}
 use Rattle.pmd_laws.proofs.InHand.{direct_retold, interleaved_retold}
-use Rattle.pmd_laws.proofs.Told.{goes, none_before, none_first, up_next, waiting_first}
 use Rattle.pmd_laws.proofs.Order.{handed, idle, ran, sent_first}
-use Rattle.pmd_laws.proofs.Prelude.{◌∙◌, HasNoneOut, Rings, accepted_of, ap, bytes_of, now, same_delivers}
-use Rattle.pmd_laws.proofs.Prelude.{same_sends, subst, sym}
+use Rattle.pmd_laws.proofs.Prelude.{HasNoneOut, now, same_delivers, same_sends, subst}
+use Rattle.pmd_laws.proofs.Told.{goes, none_before, none_first, up_next, waiting_first}
+use Rattle.std.proofs.{Common.arith, lemmas.Grind.common_steps}
 use Rattle.pmd_laws.proofs.driver_beside_any_calls_in_order.Goals as goal
 
 pub returns : goal.returns
@@ -28,8 +28,7 @@ returns c = record {
   waits = λ x n y waits before more early all is same sent.
       let (s, up, looks) = up_next _ (now x).driver.rings n.driver.rings (goes (told x)).rings (rings_up x) waits in
       waiting_first (own_life x) y.look (called_behind x n y) looks before more all is
-      (ap (λ (z : Rings). bytes_of (accepted_of z)) (sym (rings_up x)) ∙ sent
-      ∙ same_sends x.w.queue x.origin early before same);
+      (grind (arith, common_steps, rings_up, same_sends));
   in_hand = direct_retold;
   interleaved = interleaved_retold;
 }

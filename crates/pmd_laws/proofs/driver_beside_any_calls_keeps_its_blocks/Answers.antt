@@ -1,8 +1,7 @@
+use Rattle.pmd_laws.proofs.{NoFault.burst_amid, NoFault.call_amid, Told.goes, Told.up_next}
 use Rattle.pmd_laws.proofs.Beside.{alone, none_beside, rings_up, same_rings, told, told_of}
-use Rattle.pmd_laws.proofs.NoFault.{burst_amid, call_amid}
 use Rattle.pmd_laws.proofs.Places.{each_in_one_place, lent_is_out, out_is_lent}
 use Rattle.pmd_laws.proofs.Prelude.{◌≡◌, Beside, State, ap, memory_after, now, same_leads}
-use Rattle.pmd_laws.proofs.Told.{goes, up_next}
 use Rattle.pmd_laws.proofs.driver_beside_any_calls_keeps_its_blocks.Goals as goal
 
 same_memory : (x : Beside) → memory_after x.origin x.h ≡ memory_after x.origin x.g

@@ -1,6 +1,4 @@
-use Rattle.pmd_laws.proofs.Beside.{never_beside}
-use Rattle.pmd_laws.proofs.Prelude.{faults_are_early_or_filling, inr}
-use Rattle.pmd_laws.proofs.Shifted.{up_shift}
+use Rattle.pmd_laws.proofs.{Beside.never_beside, Prelude.faults_are_early_or_filling, Prelude.inr, Shifted.up_shift}
 use Rattle.pmd_laws.proofs.driver_beside_any_calls_starts.Goals as goal
 
 pub returns : goal.returns

@@ -1,10 +1,10 @@
-use Rattle.pmd_laws.specs.BesideStop.{IsStoppedBeside}
+use Rattle.pmd_laws.{proofs.Shifted.shifted, specs.BesideStop.IsStoppedBeside}
 use Rattle.pmd_laws.proofs.Beside.{own_life, rings_up}
 use Rattle.pmd_laws.proofs.Prelude.{◌++◌, ◌∙◌, ◌≡◌, Beside, Call, IsEnding, IsStopping, List, ap, append_cancel_left}
 use Rattle.pmd_laws.proofs.Prelude.{now, refl, same_delivers, same_sends, sym}
-use Rattle.pmd_laws.proofs.Shifted.{shifted}
 use Rattle.pmd_laws.proofs.StopCalls.{first_made, first_takes, of_kind, once_off_shift, takes_shift}
 use Rattle.pmd_laws.proofs.Stopped.{handed_over_stop, sent_over_stop, silent_off}
+use Rattle.std.proofs.{Common.arith, lemmas.Grind.common_steps}
 use Rattle.pmd_laws.proofs.driver_beside_any_calls_stops_in_order.Goals as goal
 
 -- the calls of its stop are told of what they add
@@ -38,9 +38,7 @@ returns c = record {
       (is ∙ ap (λ (l : List Call). x.own ++ l) places ∙ sym now.1) in
       let whole = x.retold.was.same in
       record {
-        delivered =
-            rw (same_delivers x.w.queue x.origin x.h x.g whole, same_delivers x.w.queue x.origin early done same)
-            quiet.delivered;
+        delivered = grind (arith, common_steps, same_delivers);
         sent =
             rw (same_sends x.w.queue x.origin x.h x.g whole, same_sends x.w.queue x.origin early done same) quiet.sent;
       };

@@ -1,7 +1,5 @@
-use Rattle.pmd_laws.proofs.Beside.{own_anew}
-use Rattle.pmd_laws.proofs.FullRing.{full_lacks, none_lacks, room}
+use Rattle.pmd_laws.proofs.{Beside.own_anew, FullRing.full_lacks, FullRing.none_lacks, FullRing.room, Told.runs}
 use Rattle.pmd_laws.proofs.Prelude.{◌∙◌, ◌≡◌, AtPort, Call, IsToldBy, List, Moment, Numbers, Up, ℕ, ap, last, sym}
-use Rattle.pmd_laws.proofs.Told.{runs}
 use Rattle.pmd_laws.proofs.full_ring_beside_any_calls_has_no_room.Goals as goal
 
 -- it runs, as it is told by its own calls

@@ -1,6 +1,4 @@
-use Rattle.pmd_laws.proofs.FullRing.{full_lacks, none_lacks, room}
-use Rattle.pmd_laws.proofs.Prelude.{last}
-use Rattle.pmd_laws.proofs.Told.{runs}
+use Rattle.pmd_laws.proofs.{FullRing.full_lacks, FullRing.none_lacks, FullRing.room, Prelude.last, Told.runs}
 use Rattle.pmd_laws.proofs.full_ring_has_no_room.Goals as goal
 
 pub returns : goal.returns

@@ -1,4 +1,4 @@
-use Rattle.pmd_laws.proofs.Begun.{all_apart}
+use Rattle.pmd_laws.proofs.Order.{all_apart}
 use Rattle.pmd_laws.proofs.lives_lend_apart.Goals as goal
 
 pub returns : goal.returns

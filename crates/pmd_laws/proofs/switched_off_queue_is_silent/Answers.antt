@@ -1,5 +1,4 @@
-use Rattle.pmd_laws.proofs.Ends.{silent_over_stop}
-use Rattle.pmd_laws.proofs.Stopped.{silent_off}
+use Rattle.pmd_laws.proofs.Stopped.{silent_off, silent_over_stop}
 use Rattle.pmd_laws.proofs.switched_off_queue_is_silent.Goals as goal
 
 pub returns : goal.returns

@@ -1,13 +1,12 @@
 -- A start finds two runs of free blocks exactly where there are two.
 use Rattle.std.proofs.lemmas.Bool.Decides.{nat_tests}
-use Rattle.nic_device.proofs.DmaArena.Owned.{is_own-of_free, own_within}
-use Rattle.nic_device.proofs.DmaArena.Runs.{found_behind}
+use Rattle.nic_device.proofs.DmaArena.{Owned.is_own-of_free, Owned.own_within, Runs.found_behind}
 use Rattle.nic_device.specs.DmaArena.Run.{IsFreeRun, are_free, run_behind, run_from, run_in}
 use Rattle.pmd.specs.Runs.{behind_run, second_run}
-use Rattle.pmd_laws.specs.Room.{HasTwoRuns}
 use Rattle.pmd_laws.proofs.Prelude.{◌+◌, ◌-◌, ◌<◌, ◌≡◌, ◌≢◌, ◌≤◌, None, Numbers, Option, Some, ℕ, and_from, arith}
 use Rattle.pmd_laws.proofs.Prelude.{both_ways, cases_Bool, cases_eq, count_of, inl, inr, is_free, is_some, left, refl}
 use Rattle.pmd_laws.proofs.Prelude.{subst, suc, true, zero}
+use Rattle.pmd_laws.specs.Room.{HasTwoRuns}
 use Rattle.pmd_laws.proofs.two_runs_are_found.Goals as goal
 
 first_free : (a : Numbers) (first count : ℕ) → 0 < count → IsFreeRun a first count → is_free a first ≡ true

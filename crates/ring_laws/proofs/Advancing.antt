@@ -1,22 +1,21 @@
 -- The driver's writes of the tail, its descriptors and its looks keep what it and the device agree on.
-use Rattle.std.proofs.Common.{[], if◌then◌else◌, ◌+◌, ◌<◌, ◌∙◌, ◌∷◌, ◌≡◌, ◌≢◌, ◌≤◌, Bool, List, ap, arith, drop, false}
-use Rattle.std.proofs.Common.{inl, inr, length, refl, subst, suc, sym, true, ℕ}
-use Rattle.std.proofs.lemmas.Bool.{both_ways, cases_lt}
-use Rattle.std.specs.Prelude.{slice_index_or, ⊤}
-use Rattle.history_laws.specs.Prelude.{IsEvent, Memory, Outcome, Port, State, Tdt, TransmitQueue, Tx, WritesNoSetting}
-use Rattle.history_laws.specs.Prelude.{after, after_write, gives, named_written, place, read_at, ring_of, step_of}
-use Rattle.history_laws.specs.Prelude.{transmit_queue_of, write_at}
-use Rattle.ring_laws.specs.TransmitPrelude.{Advances, Asks, IsOwn, Looks, Segment, Sender, asking, descriptor_at}
-use Rattle.ring_laws.specs.TransmitPrelude.{first_end}
-use Rattle.ring_laws.specs.TransmitPrelude.{is_sent, no_segment, segment_at, slot_at}
-use Rattle.nic_device.proofs.{Cases.poked_cases, DmaArena.Bus.small_of_lent}
-use Rattle.pmd_tx.specs.Sending.{advanced, asked, looked}
-use Rattle.history_laws.proofs.{Leaving.plain-write, Written.transmit-tail}
-use Rattle.ring_laws.proofs.Blocks.{ready_stays, slot-apart, slot-below}
-use Rattle.ring_laws.proofs.Ring.{Stays, slot_looked, written_here, written_stays}
-use Rattle.ring_laws.proofs.Sparing.{After, Keeps, based-after, counted-on, sends_on}
-use Rattle.ring_laws.specs.Agreeing.{AgreesAt, IsBased, IsPosted, IsSetUp, Shows}
+use Rattle.std.proofs.Common.{[], if◌then◌else◌, ◌+◌, ◌<◌, ◌∙◌, ◌∷◌, ◌≡◌, ◌≢◌, ◌≤◌, Bool, List, ℕ, ap, arith, drop}
+use Rattle.std.proofs.Common.{false, inl, inr, length, refl, subst, suc, sym, true}
+use Rattle.history_laws.specs.Prelude.{Block, Event, Memory, Outcome, Port, State, Tdt, TransmitQueue, Tx}
+use Rattle.history_laws.specs.Prelude.{WritesNoSetting, after_write, gives, named_written, place, read_at, ring_of}
+use Rattle.history_laws.specs.Prelude.{step_of, transmit_queue_of, write_at}
+use Rattle.ring_laws.specs.TransmitPrelude.{Advances, Asks, IsOwn, Looks, Move, Segment, Sender, asking, descriptor_at}
+use Rattle.ring_laws.specs.TransmitPrelude.{first_end, is_sent, moved, no_segment, segment_at, slot_at}
+use Rattle.ring_laws.proofs.Ring.{Stays, slot_looked, slot_poked, written_here, written_stays}
+use Rattle.ring_laws.specs.Agreeing.{Agrees, AgreesAt, IsBased, IsPosted, IsSetUp, Shows}
 use Rattle.ring_laws.proofs.Fetching.{asking-waits, done-sent, length-asking}
+use Rattle.std.proofs.lemmas.Bool.{both_ways, cases_lt}
+use Rattle.nic_device.proofs.DmaArena.Bus.{small_of_lent}
+use Rattle.pmd_tx.specs.Sending.{advanced, asked, is_healthy, looked}
+use Rattle.ring_laws.proofs.Blocks.{ready_stays, slot-apart, slot-below}
+use Rattle.ring_laws.proofs.Sparing.{Does, based-after, counted-on, sends_on}
+use Rattle.std.specs.Prelude.{slice_index_or, ⊤}
+use Rattle.history_laws.proofs.{Leaving.plain-write, Written.transmit-tail}
 use Rattle.ring_laws.specs.TransmitUp.{IsUp}
 use Rattle.nic_device.specs.declared.event.Event.TheVariants as event
 use Rattle.nic_device.specs.declared.event.Reply.TheVariants as reply
@@ -84,22 +83,33 @@ module _ {s : State} {queue : ℕ} {sent : List (List ℕ)} {v : Sender} {f : �
         )) h.sends;
   }
 
-  pub advance_one : (port : Port) (n word : ℕ) → IsOwn v Advances (event.Write port n word)
-      → IsEvent (event.Write port n word) → After queue sent v Advances (step_of s (event.Write port n word))
-  advance_one port n word own made =
-      let is = written_tail port n word own in
-      let based = subst (λ (o : Outcome). IsBased o.state queue v.layout) is
-      (based-after s queue v.layout (event.Write port n word) h.based made (setting_kept port n word own)) in
-      subst (After queue sent v Advances) (sym is) (f, tail_keeps based)
+  -- a move by its outcome, as the event is written otherwise, which writes no setting
 
-  pub advance-stays-up : (port : Port) (n word : ℕ) → IsOwn v Advances (event.Write port n word) → IsUp queue s
-      → IsUp queue (after s (event.Write port n word))
-  advance-stays-up port n word own up =
-      let same = side_moved in
-      subst (λ (o : Outcome). IsUp queue o.state) (sym (written_tail port n word own)) (record {
-        on = ap (λ (x : TransmitQueue). x.on) same ∙ up.on;
-        wanted = ap (λ (x : TransmitQueue). x.wanted) same ∙ up.wanted;
+  abbrev pub Moves : Move → Event Block → Type 0
+  Moves m e = Does queue s sent v m e (step_of s e)
+
+  abbrev pub Keeps : Move → Outcome → Type 0
+  Keeps m o = IsBased o.state queue v.layout → Agrees o.state queue sent (moved v m o.reply)
+
+  pub by_outcome : (m : Move) (e d : Event Block) (o : Outcome) → e ≡ d → step_of s d ≡ o → WritesNoSetting s d
+      → Keeps m o → (IsUp queue s → IsUp queue o.state) → is_healthy m o.reply ≡ true → Moves m e
+  by_outcome m e d o same is none keeps up healthy =
+      rw (same, is) (record {
+        agree = λ made. 
+            keeps (subst (λ (u : Outcome). IsBased u.state queue v.layout) is
+            (based-after s queue v.layout d h.based made none));
+        up = up;
+        healthy = λ anew. healthy;
       })
+
+  pub advance_one : (port : Port) (n word : ℕ) → IsOwn v Advances (event.Write port n word)
+      → Moves Advances (event.Write port n word)
+  advance_one port n word own =
+      by_outcome Advances (event.Write port n word) (event.Write port n word) _ refl (written_tail port n word own)
+      (setting_kept port n word own) (λ based. (f, tail_keeps based)) (λ up. record {
+        on = ap (λ (x : TransmitQueue). x.on) side_moved ∙ up.on;
+        wanted = ap (λ (x : TransmitQueue). x.wanted) side_moved ∙ up.wanted;
+      }) refl
 
   -- the descriptor of the next segment is written
 
@@ -144,27 +154,21 @@ module _ {s : State} {queue : ℕ} {sent : List (List ℕ)} {v : Sender} {f : �
       waits = waits_more;
     }
 
-    ask_at : IsEvent (event.Poke16 (descriptor_at v.layout v.poked) (asking x))
-        → After queue sent v Asks (step_of s (event.Poke16 (descriptor_at v.layout v.poked) (asking x)))
-    unfolding step_of
-    ask_at made =
-        poked_cases (Keeps queue sent v Asks) s (descriptor_at v.layout v.poked) (asking x) (λ based. (f, h))
-        (λ based. (f, h)) (λ based. (
-          f,
-          assumption (
-            counted-on v f f v.done v.posted (v.poked + 1) h.counted h.counted.done_fetched
-                h.counted.fetched_posted (omega (arith, h.counted.posted_poked)) (omega (arith, more)),
-            shows-asked,
-          ),
-        ))
-        (based-after s queue v.layout (event.Poke16 (descriptor_at v.layout v.poked) (asking x)) h.based made tt)
-
-  pub ask_one : (a : ℕ) (bytes : List ℕ) → IsOwn v Asks (event.Poke16 a bytes) → IsEvent (event.Poke16 a bytes)
-      → After queue sent v Asks (step_of s (event.Poke16 a bytes))
-  ask_one a bytes own made =
-      let same : event.Poke16 a bytes ≡ event.Poke16 (descriptor_at v.layout v.poked) (asking (segment_at v v.poked)) =
-      λ k. event.Poke16 (own.1 k) (own.2 k) in
-      subst (λ d. After queue sent v Asks (step_of s d)) (sym same) (ask_at own.0 (subst IsEvent same made))
+  pub ask_one : (a : ℕ) (bytes : List ℕ) → IsOwn v Asks (event.Poke16 a bytes) → Moves Asks (event.Poke16 a bytes)
+  ask_one a bytes own =
+      let more : v.poked < v.lent = own.0 in
+      by_outcome Asks (event.Poke16 a bytes)
+      (event.Poke16 (descriptor_at v.layout v.poked) (asking (segment_at v v.poked))) _
+      (λ k. event.Poke16 (own.1 k) (own.2 k))
+      (slot_poked v.layout.ring v.layout.size slot (here more) s (asking (segment_at v v.poked)) h.shows.ring) tt
+      (λ based. (
+        f,
+        assumption (
+          counted-on v f f v.done v.posted (v.poked + 1) h.counted h.counted.done_fetched h.counted.fetched_posted
+              (omega (arith, h.counted.posted_poked)) (omega (arith, more)),
+          shows-asked more,
+        ),
+      )) (λ up. up) refl
 
   -- a look tells whether the oldest packet was sent
 
@@ -215,15 +219,15 @@ module _ {s : State} {queue : ℕ} {sent : List (List ℕ)} {v : Sender} {f : �
     ]
     done_tells false is = omega arith
 
-    look_at : After queue sent v Looks (step_of s (event.Peek16 (descriptor_at v.layout end)))
-    look_at = subst (After queue sent v Looks) (sym look) (
-      f,
-      assumption (
-        counted-on v f f (looked v descriptor).done v.posted v.poked h.counted
-            (done_tells (is_sent descriptor) refl) h.counted.fetched_posted h.counted.posted_poked h.counted.poked_lent,
-        h,
-      ),
-    )
-
-  pub look_one : (a : ℕ) → IsOwn v Looks (event.Peek16 a) → After queue sent v Looks (step_of s (event.Peek16 a))
-  look_one a own = subst (λ x. After queue sent v Looks (step_of s (event.Peek16 x))) (sym own.1) (look_at own.0)
+  pub look_one : (a : ℕ) → IsOwn v Looks (event.Peek16 a) → Moves Looks (event.Peek16 a)
+  look_one a own =
+      by_outcome Looks (event.Peek16 a) (event.Peek16 (descriptor_at v.layout end)) _ (ap event.Peek16 own.1)
+      (look own.0) tt (λ based. (
+        f,
+        assumption (
+          counted-on v f f (looked v descriptor).done v.posted v.poked h.counted
+              (done_tells own.0 (is_sent descriptor) refl) h.counted.fetched_posted h.counted.posted_poked
+              h.counted.poked_lent,
+          h,
+        ),
+      )) (λ up. up) refl

@@ -1,35 +1,32 @@
 -- Events that aren't the driver's own: they keep the agreement, and a side up that is.
-use Rattle.std.proofs.Common.{[], ◌++◌, ◌/◌, ◌<◌, ◌^◌, ◌∙◌, ◌∷◌, ◌≡◌, ◌≢◌, ◌≤◌, ◌⊎◌, List, Ok}
-use Rattle.std.proofs.Common.{ap, arith, inl, inr, length, refl, subst, sym, true, ℕ}
-use Rattle.std.proofs.lemmas.Bool.{cases_eq, cases_lt, eq-eqb}
-use Rattle.std.proofs.lemmas.List.{append-nil}
-use Rattle.std.specs.{Prelude.IsTrue, Prelude.⊤}
-use Rattle.history_laws.specs.Prelude.{Block, Blocks, Entry, EntryLeavesAlone, Event, Filled, IsSound}
-use Rattle.history_laws.specs.Prelude.{LeavesBlock, LeavesBlocks}
-use Rattle.history_laws.specs.Prelude.{LeavesQueues, LeavesRegisters, Memory, Mode, Outcome, Port, Reply, Rx}
-use Rattle.history_laws.specs.Prelude.{State, Tx, Waiting, Watched, WritesNoSetting, Wrote, after}
-use Rattle.history_laws.specs.Prelude.{is_on, is_wanted, mode_in, receive_queue_of, reply_to, rest_of, step_of}
-use Rattle.ring_laws.specs.ReceivePrelude.{Layout, MovesNext, Receive, block_at, is_step, reach, slot_at}
-use Rattle.nic_device.{proofs.RxRing.Fills.takes_piece, specs.Sound.AreWaiting}
-use Rattle.nic_device.{specs.Switching.queue_switched}
-use Rattle.pmd_rx.{proofs.PmdSeam.Rings.slot_block, proofs.PmdSeam.Rings.slot_lies, specs.PmdSeam.Slots.descriptor_in}
+use Rattle.std.proofs.Common.{[], ◌++◌, ◌/◌, ◌<◌, ◌^◌, ◌∙◌, ◌∷◌, ◌≡◌, ◌≢◌, ◌≤◌, ◌⊎◌, List, Ok, ℕ, ap, arith, inl, inr}
+use Rattle.history_laws.specs.Prelude.{Block, Blocks, Entry, EntryLeavesAlone, Event, Filled, IsSound, LeavesBlock}
+use Rattle.history_laws.specs.Prelude.{LeavesBlocks, LeavesRegisters, Memory, Mode, Reply, Rx, State, Tx, Waiting}
+use Rattle.history_laws.specs.Prelude.{Watched, WritesNoSetting, Wrote, after, is_on, is_wanted, mode_in}
+use Rattle.ring_laws.specs.ReceivePrelude.{Layout, Receive, block_at, is_step, reach, slot_at}
 use Rattle.history_laws.proofs.Deeds.{left_deed, left_did, receiving_did, side_did, switching_did}
 use Rattle.history_laws.proofs.Leaving.{left-setting, left-side, receive_left, receive_of}
-use Rattle.history_laws.proofs.{Blocks.IsSparedBy, Blocks.reported_elsewhere, Blocks.spared_block, Steady.resting_same}
-use Rattle.history_laws.proofs.{Steady.up_kept, Written.receive-tail}
-use Rattle.history_laws.proofs.DeviceLaws.{Delivered.told-lt, KeptSettings.settings_stand, Standing.memory_rest}
-use Rattle.history_laws.proofs.DeviceLaws.{Standing.stays_within, StandingQueues.switching_rest}
 use Rattle.history_laws.specs.Left.{Deed, Did, IsLeft, Rested, Rests, Shuts, Takes, Took, fill_on}
-use Rattle.history_laws.specs.{Segments.piece_in, Sides.IsTried, Sides.receive_side, Sides.side_of}
-use Rattle.ring_laws.proofs.Kept.{posted_block, slot_below}
-use Rattle.ring_laws.proofs.Ring.{bytes_inside}
 use Rattle.ring_laws.proofs.Receiving.{buffer_is, filled_holds, head_is, no_fault, room_left}
-use Rattle.ring_laws.specs.Steps.{Each, EnableStepKeeps, EntryKeeps, IsMetBy}
+use Rattle.ring_laws.specs.Steps.{Each, EnableStepKeeps, EntryKeeps, IsMetBy, OwnReportsSpare, ReceiveStepKeeps}
 use Rattle.ring_laws.specs.ReceiveUp.{EnableStepChangesNothing, EntryStaysUp, IsUp, LeavingStaysUp, OwnEventStaysUp}
-use Rattle.ring_laws.proofs.{Leaving.switching_keeps, Naming.tail_written, Naming.word_low}
-use Rattle.ring_laws.specs.{Inside.IsInRing, Inside.IsInside, Inside.PieceIsInside, Joint.Agree, Joint.Holds}
-use Rattle.ring_laws.specs.{Pieces.Piece, Pieces.pieces, Pieces.pieces_told, Steps.OwnReportsSpare}
-use Rattle.ring_laws.specs.{Steps.ReceiveStepKeeps, Steps.SparesBlocks, ReceiveUp.ReceiveStepStaysUp}
+use Rattle.std.proofs.{Common.length, Common.refl, Common.subst, Common.sym, Common.true, lemmas.Bool.cases_eq}
+use Rattle.std.proofs.{lemmas.Bool.cases_lt, lemmas.Bool.eq-eqb, lemmas.List.append-nil}
+use Rattle.history_laws.specs.{Prelude.receive_queue_of, Prelude.reply_to, Prelude.rest_of, Prelude.step_of}
+use Rattle.history_laws.specs.{Segments.piece_in, Sides.IsTried, Sides.side_of}
+use Rattle.history_laws.proofs.{Blocks.IsSparedBy, Blocks.reported_elsewhere, Blocks.spared_block, Steady.resting_same}
+use Rattle.history_laws.proofs.{Steady.up_kept, DeviceLaws.Delivered.told-lt, DeviceLaws.KeptSettings.settings_stand}
+use Rattle.history_laws.proofs.{DeviceLaws.Standing.stays_within, DeviceLaws.StandingQueues.switching_rest}
+use Rattle.ring_laws.specs.{Steps.SparesBlocks, ReceiveUp.ReceiveStepStaysUp, Inside.IsInRing, Inside.IsInside}
+use Rattle.ring_laws.specs.{Inside.PieceIsInside, Joint.Agree, Joint.Holds, Pieces.Piece, Pieces.pieces}
+use Rattle.ring_laws.specs.{Pieces.pieces_told}
+use Rattle.std.specs.Prelude.{IsTrue, ⊤}
+use Rattle.nic_device.proofs.RxRing.Fills.{takes_piece}
+use Rattle.nic_device.specs.{Sound.AreWaiting, Switching.queue_switched}
+use Rattle.pmd_rx.proofs.PmdSeam.Rings.{slot_block, slot_lies}
+use Rattle.pmd_rx.specs.PmdSeam.Slots.{descriptor_in}
+use Rattle.ring_laws.proofs.{Kept.posted_block, Kept.slot_below, Ring.bytes_inside, Leaving.switching_keeps}
+use Rattle.ring_laws.proofs.{Own.own_did}
 use Rattle.nic_device.specs.declared.event.Event.TheVariants as event
 use Rattle.std.specs.FinMap as map
 use Rattle.history_laws.specs.Sides as sides
@@ -172,28 +169,8 @@ deed_up queue s out v e j did up = up_kept Rx queue s e up (never_shuts queue s 
 pub receive_stays_up : ReceiveStepStaysUp
 receive_stays_up queue s out v sound j up = deed_up queue s out v event.RxStep j (receiving_did queue s sound) up
 
--- the driver's own
-
-move_up : (queue : ℕ) (s : State) (out : List Piece) (v : Receive) (port : Port) (number word : ℕ)
-    → IsSound s → Agree queue s out v → MovesNext v port number word → IsUp queue s
-    → IsUp queue (after s (event.Write port number word))
-move_up queue s out v port number word i (gone, here, h) own up =
-    let side = receive-tail s.registers queue word i.registers.shape h.named.low
-    (word_low v port number word h.ring own) in
-    rw (own.port_is, own.number_is)
-    (subst (λ (x : Outcome). IsUp queue x.state) (sym (tail_written s queue v.layout word h.named))
-    (subst sides.IsUp (sym (ap receive_side side)) (assumption up)))
-
-calls_up : (queue : ℕ) (s t : State) → LeavesQueues s t → IsUp queue s → IsUp queue t
-calls_up queue s t left up = left_up queue s t (left.receive queue) up
-
 pub own_stays_up : OwnEventStaysUp
-own_stays_up queue s out v (event.Peek16 a) i j own up = calls_up queue s _ (memory_rest.peek s a).queues up
-own_stays_up queue s out v (event.Take n) i j own up = calls_up queue s _ (memory_rest.take s n).queues up
-own_stays_up queue s out v (event.Lend b) i j own up = calls_up queue s _ (memory_rest.lend s b).queues up
-own_stays_up queue s out v (event.Poke16 a bytes) i j own up = calls_up queue s _ (memory_rest.poke s a bytes).queues up
-own_stays_up queue s out v (event.Write port number word) i j own up = move_up queue s out v port number word i j own up
-own_stays_up queue s out v e i j own up = absurd own
+own_stays_up queue s out v e i j own up = (own_did queue s out v e j own).up i up
 
 -- an event that leaves the queue's registers alone
 pub alone_stays_up : (w : Watched) (s : State) (out : List Piece) (v : Receive) (e : Event Block) → w.vfs ≡ s.vfs

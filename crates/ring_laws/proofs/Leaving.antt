@@ -1,26 +1,26 @@
 -- Where the agreement begins, and events that leave the receive side, looks and lends of the driver's own that keep it.
-use Rattle.std.proofs.Common.{[], ◌&&◌, ◌++◌, ◌<◌, ◌∙◌, ◌∷◌, ◌≡◌, ◌≤◌, Bool, List, ap, arith, cond}
-use Rattle.std.proofs.Common.{false, length, refl, subst, sym, true, ℕ}
-use Rattle.std.proofs.lemmas.Bool.{and_parts, both_ways}
+use Rattle.std.proofs.Common.{[], ◌&&◌, ◌++◌, ◌+◌, ◌<◌, ◌∙◌, ◌∷◌, ◌≡◌, ◌≤◌, Bool, List, ℕ, ap, arith, cond, false, inl}
+use Rattle.std.proofs.lemmas.Bool.{and_from, and_parts, both_ways, cases_Bool, eq-eqb, le-leb, lt-ltb, or_left}
+use Rattle.history_laws.specs.Prelude.{Block, Bytes, Event, IsSound, Memory, Outcome, ReceiveQueue, Reply, State}
+use Rattle.history_laws.specs.Prelude.{bytes_in, ends_packet, gives, has_block, is_done, read_at, receive_queue_of}
+use Rattle.ring_laws.specs.ReceivePrelude.{Layout, LendsAnew, Lent, Looks, Packet, PeeksNext, Receive, Stage, Takes}
+use Rattle.ring_laws.specs.ReceivePrelude.{Told, descriptor_at, drive, is_part, left_of, no_packet, reach, slot_at}
+use Rattle.ring_laws.proofs.Kept.{each_fresh, each_ring, each_slot, first_place, named_kept, posted_below, posted_in}
+use Rattle.ring_laws.proofs.Parts.{end_last, end_more, none_held, none_left, open_more, seen_more}
+use Rattle.ring_laws.specs.Joint.{Agree, AreOpen, AreSeen, HasSlots, Holds, IsAt, IsLoose, IsRing, IsSetUp, Saw}
+use Rattle.ring_laws.specs.Steps.{Each, Leaves, LeavesButOn, LeavingKeeps, LookTellsSlot, SwitchingKeeps, TellsSlot}
+use Rattle.std.proofs.{Common.inr, Common.length, Common.not, Common.refl, Common.subst, Common.suc, Common.sym}
+use Rattle.std.proofs.{Common.true, lemmas.Bool.or_right}
+use Rattle.history_laws.specs.Prelude.{reply_to, second_half, step_of}
+use Rattle.ring_laws.proofs.{Kept.slot_below, Kept.slots_stay, Kept.stage_stays, Ring.same_stays, Ring.slot_looked}
+use Rattle.ring_laws.proofs.{ReceiveLent.unknown}
+use Rattle.ring_laws.specs.{Joint.StageHolds, Pieces.AllFit, Pieces.Fits, Pieces.Piece, Pieces.open_after}
+use Rattle.ring_laws.specs.{Pieces.piece_at, Starting.StartAgrees, ReceiveUp.IsUp}
 use Rattle.std.specs.Prelude.{if◌then◌else◌}
-use Rattle.history_laws.specs.Prelude.{Block, Bytes, Event, Memory, Outcome, ReceiveQueue, Reply, State, after}
-use Rattle.history_laws.specs.Prelude.{bytes_in, ends_packet, gives, has_block}
-use Rattle.history_laws.specs.Prelude.{is_done, read_at, receive_queue_of, reply_to, second_half, step_of}
-use Rattle.ring_laws.specs.ReceivePrelude.{Layout, Lent, Looks, PeeksNext, Receive, Stage, Takes, Told}
-use Rattle.ring_laws.specs.ReceivePrelude.{descriptor_at, drive, is_part, no_packet, reach, slot_at}
-use Rattle.nic_device.proofs.{Cases.lent_cases, DmaArena.Bus.get-insert_other}
-use Rattle.nic_device.proofs.{DmaArena.Bus.get-insert_same}
-use Rattle.pmd_rx.specs.Receive.{CanLend, LendsNext, lent_one, saw, told_by}
-use Rattle.pmd_rx.specs.declared.ring.Stage.TheVariants.{Owes}
-use Rattle.ring_laws.proofs.Kept.{first_place, named_kept, posted_below, posted_in, slot_below, slots_stay}
-use Rattle.ring_laws.proofs.Parts.{end_last, end_more, none_held, open_more, seen_more}
-use Rattle.ring_laws.specs.Joint.{Agree, AreOpen, HasSlots, Holds, IsAt, IsLoose, IsRing, IsSetUp, Saw}
-use Rattle.ring_laws.specs.Steps.{Each, Leaves, LeavesButOn, LeavingKeeps, LookTellsSlot, SwitchingKeeps}
-use Rattle.ring_laws.proofs.{Kept.stage_stays, Ring.same_stays, Ring.slot_looked}
-use Rattle.ring_laws.proofs.Kept.{each_fresh, each_ring, each_slot}
-use Rattle.ring_laws.proofs.ReceiveLent.{unknown}
-use Rattle.pmd_rx.specs.Keeping.{has_lent}
-use Rattle.ring_laws.specs.{Joint.StageHolds, Pieces.Piece, Pieces.piece_at, Starting.StartAgrees, Steps.TellsSlot}
+use Rattle.nic_device.proofs.{Cases.lent_cases, DmaArena.Bus.get-insert_other, DmaArena.Bus.get-insert_same}
+use Rattle.pmd_rx.specs.{Receive.CanLend, Receive.LendsNext, Receive.lent_one, Receive.saw, Receive.told_by}
+use Rattle.pmd_rx.specs.{declared.ring.Stage.TheVariants.Owes, Keeping.has_lent, Wrong.is_healthy, Wrong.is_whole}
+use Rattle.history_laws.proofs.Lent.{anew_is_done}
 use Rattle.nic_device.specs.declared.event.Event.TheVariants as event
 use Rattle.std.specs.FinMap as map
 
@@ -116,27 +116,89 @@ looked_holds queue s out v gone here d true h looks tells is =
           (part_open v.layout.most (length v.seen) (second_half d) both.1)),
     )
 
--- after an event of the driver's own the two agree, with the driver that it leads to
+-- what an event of the driver's own does, by its outcome: a sound device and the driver agree on, with the driver that
+-- it leads to, a side that is up stays so, and the reply is that of a healthy queue, where the pieces fit and a block
+-- that is lent isn't lent yet
+pub record Does (queue : ℕ) (s : State) (out : List Piece) (v : Receive) (e : Event Block) (o : Outcome) : Type 0 where
+  pub agree : IsSound s → Agree queue o.state out (drive v e o.reply)
+  pub up : IsSound s → IsUp queue s → IsUp queue o.state
+  pub healthy : AllFit v.layout.most 0 out → LendsAnew s e → is_healthy v e o.reply ≡ true
+
 abbrev pub Driven : ℕ → State → List Piece → Receive → Event Block → Type 0
-Driven queue s out v e = Agree queue (after s e) out (drive v e (reply_to s e))
+Driven queue s out v e = Does queue s out v e (step_of s e)
 
--- as the event is written otherwise, by its outcome
+-- as the event is written otherwise
 pub by_outcome : (queue : ℕ) (s : State) (out : List Piece) (v : Receive) (e d : Event Block) (o : Outcome) → e ≡ d
-    → step_of s d ≡ o → Agree queue o.state out (drive v d o.reply) → Driven queue s out v e
-by_outcome queue s out v e d o same is agree = grind arith
+    → step_of s d ≡ o → Does queue s out v d o → Driven queue s out v e
+by_outcome queue s out v e d o same is does = rw (same, is) does
 
--- the driver's look at the slot behind those that it saw keeps the agreement
+-- the pieces that stand in slots fit, as all do, and the one behind those that were seen
+
+fit-last : (most n : ℕ) (gone here : List Piece) → AllFit most n (gone ++ here) → AllFit most (open_after n gone) here
+fit-last most n [] here all = all
+fit-last most n (p ∷ gone) here all = fit-last most (cond p.end 0 (n + 1)) gone here all.1
+
+next-fits : (most n : ℕ) (seen : List Told) (here : List Piece) → AllFit most n here → AreSeen seen here → AreOpen seen
+    → length seen < length here → Fits most (n + length seen) (piece_at here (length seen))
+next-fits most n [] [] all are opens below = absurd (omega (arith, below))
+next-fits most n [] (p ∷ here) all are opens below =
+    subst (λ (k : ℕ). Fits most k p) (let e : n ≡ n + 0 = omega arith in e) all.0
+next-fits most n (t ∷ ts) [] all are opens below = absurd are
+next-fits most n (t ∷ ts) (p ∷ here) all are opens below =
+    let on : p.end ≡ false = sym are.0.end_is ∙ opens.0.goes_on in
+    let rest : AllFit most (n + 1) here = subst (λ (e : Bool). AllFit most (cond e 0 (n + 1)) here) on all.1 in
+    let same : n + suc (length ts) ≡ n + 1 + length ts = omega arith in
+    rw same (next-fits most (n + 1) ts here rest are.1 opens.1 (omega (arith, below)))
+
+part_is : (most before second : ℕ) (p : Piece) (ends : Bool) → ends_packet second ≡ ends → ends_packet second ≡ p.end
+    → bytes_in second ≡ length p.bytes → length p.bytes ≤ 2048 → Fits most before p
+    → is_part most before second ≡ true
+part_is most before second p true is end len short fits =
+    rw is (le-leb (bytes_in second) 2048 (subst (λ (n : ℕ). n ≤ 2048) (sym len) short))
+part_is most before second p false is end len short fits =
+    let on : p.end ≡ false = sym end ∙ is in
+    rw is (and_from _ _ (eq-eqb (bytes_in second) 2048 (len ∙ fits.full on)) (lt-ltb (before + 1) most (fits.more on)))
+
+module _ (queue : ℕ) (s : State) (out : List Piece) (v : Receive) (gone here : List Piece)
+    (h : Holds queue s out v gone here) where
+  -- a look that finds a descriptor done
+  told_part : AllFit v.layout.most 0 out → v.stage ≡ Looks → (d : List ℕ) → TellsSlot here (length v.seen) d
+      → is_done (second_half d) ≡ true → is_part v.layout.most (length v.seen) (second_half d) ≡ true
+  told_part all looks d tells done =
+      let k = length v.seen in
+      let most = v.layout.most in
+      let some : k < length here = tells.done.0 done in
+      let at : IsAt Looks v.seen v.held = subst (λ (x : Stage). IsAt x v.seen v.held) looks h.order.stage in
+      let none : open_after 0 gone ≡ 0 =
+      h.order.parts ∙ ap (λ (p : Packet). length (left_of v.seen p).bufs) at.0
+      ∙ ap (λ (p : Packet). length p.bufs) (none_left v.seen) in
+      let rest : AllFit most 0 here =
+      subst (λ (n : ℕ). AllFit most n here) none
+      (fit-last most 0 gone here (subst (AllFit most 0) h.order.order all)) in
+      part_is most k (second_half d) (piece_at here k) (ends_packet (second_half d)) refl (tells.end some)
+      (tells.len some) (h.slots.filled k some).short
+      (subst (λ (n : ℕ). Fits most n (piece_at here k)) (let e : 0 + k ≡ k = omega arith in e)
+      (next-fits most 0 v.seen here rest h.order.seen at.1 some))
+
+  pub whole_told : AllFit v.layout.most 0 out → v.stage ≡ Looks → (d : List ℕ) → TellsSlot here (length v.seen) d
+      → is_whole v d ≡ true
+  whole_told all looks d tells = elim (cases_Bool (is_done (second_half d))) [
+    | inl done ↦ or_right (not (is_done (second_half d))) _ (told_part all looks d tells done)
+    | inr waits ↦ or_left (not (is_done (second_half d))) _ (ap not waits)
+  ]
+
+-- the driver's look at the slot behind those that it saw
 pub look_keeps : (queue : ℕ) (s : State) (out : List Piece) (v : Receive) (a : ℕ) → Agree queue s out v → PeeksNext v a
     → Driven queue s out v (event.Peek16 a)
 look_keeps queue s out v a (gone, here, h) own =
     let k = length v.seen in
+    let tells = tells_bytes s.memory (reach v) here k h.slots (posted_below v k own.posted) in
     by_outcome queue s out v (event.Peek16 a) (event.Peek16 (descriptor_at v.layout k)) _ (ap event.Peek16 own.address)
-    (looked_is s (reach v) here k h.ring h.slots (posted_in v k (let i = own.posted in omega (arith, i)))) (
-      gone,
-      here,
-      looked_holds queue s out v gone here (read_at s.memory (descriptor_at v.layout k) 16) _ h own.stage
-          (tells_bytes s.memory (reach v) here k h.slots (posted_below v k own.posted)) refl,
-    )
+    (looked_is s (reach v) here k h.ring h.slots (posted_in v k (let i = own.posted in omega (arith, i)))) (record {
+      agree = λ i. (gone, here, looked_holds queue s out v gone here _ _ h own.stage tells refl);
+      up = λ i up. up;
+      healthy = λ all anew. whole_told queue s out v gone here h all own.stage _ tells;
+    })
 
 -- A fresh block is lent.
 
@@ -172,9 +234,13 @@ lent_holds queue s out v gone here b h own =
 pub lend_keeps : (queue : ℕ) (s : State) (out : List Piece) (v : Receive) (b : Block) → Agree queue s out v
     → LendsNext v b → Driven queue s out v (event.Lend b)
 unfolding step_of
-lend_keeps queue s out v b (gone, here, h) own =
-    lent_cases (λ o. Agree queue o.state out (drive v (event.Lend b) o.reply)) s b (gone, here, h)
-    (gone, here, lent_holds queue s out v gone here b h own)
+lend_keeps queue s out v b (gone, here, h) own = record {
+  agree = λ i.
+      lent_cases (λ o. Agree queue o.state out (drive v (event.Lend b) o.reply)) s b (gone, here, h)
+      (gone, here, lent_holds queue s out v gone here b h own);
+  up = λ i up. lent_cases (λ o. IsUp queue o.state) s b up up;
+  healthy = λ all anew. ap (is_healthy v (event.Lend b)) (anew_is_done s b anew);
+}
 
 -- The device and a driver that posted nothing yet agree.
 

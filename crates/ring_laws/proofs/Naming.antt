@@ -1,33 +1,32 @@
 -- The driver names a block in a descriptor, and moves the tail on: both keep the agreement.
-use Rattle.std.proofs.Common.{[], ◌*◌, ◌++◌, ◌+◌, ◌<◌, ◌∙◌, ◌∷◌, ◌≡◌, ◌≢◌, ◌≤◌, ◌⊎◌, Bool, List, ap, append_assoc}
-use Rattle.std.proofs.Common.{arith, cond, drop, false, inl, inr, length, refl, subst, sym, take, true, ℕ}
-use Rattle.std.proofs.lemmas.Bool.{cases_lt, eqb-false, eqb-true}
+use Rattle.std.proofs.Common.{[], ◌*◌, ◌++◌, ◌+◌, ◌<◌, ◌∙◌, ◌∷◌, ◌≡◌, ◌≢◌, ◌≤◌, ◌⊎◌, Bool, List, ℕ, ap, append_assoc}
+use Rattle.std.proofs.Common.{arith, cond, drop, false, inl, inr, length, refl, subst, sym, take, true}
 use Rattle.std.proofs.lemmas.List.{append-nil, length-append, length-take-le, length_push, map-append, take-append-drop}
-use Rattle.std.{proofs.lemmas.List.take_all, specs.Prelude.◌==◌, specs.Prelude.⊤}
-use Rattle.std.proofs.lemmas.Grind.{common_steps}
-use Rattle.history_laws.specs.Prelude.{Done, GcrExt, IsWhole, Memory, Place, Port, Rdt, ReceiveQueue}
-use Rattle.history_laws.specs.Prelude.{Registers, State, after_write, first_half, gives, is_done}
-use Rattle.history_laws.specs.Prelude.{mode_in, named_written, place, read_at, receive_queue_of, second_half}
-use Rattle.history_laws.specs.Prelude.{step_of, write_at}
+use Rattle.history_laws.specs.Prelude.{Done, GcrExt, IsWhole, Memory, Place, Port, Rdt, ReceiveQueue, Registers, State}
+use Rattle.history_laws.specs.Prelude.{after_write, first_half, gives, is_done, mode_in, named_written, place, read_at}
+use Rattle.history_laws.specs.Prelude.{receive_queue_of, second_half, step_of, write_at}
 use Rattle.ring_laws.specs.ReceivePrelude.{Kept, Layout, Lent, Looks, MovesNext, NamesNext, Packet, Receive, Stage}
-use Rattle.ring_laws.specs.ReceivePrelude.{Told}
-use Rattle.ring_laws.specs.ReceivePrelude.{block_at, descriptor_at, drive, ended_of, extended, fresh_of, is_ring_block}
-use Rattle.ring_laws.specs.ReceivePrelude.{kept_of, names, next_stage, posts, reach, records_of, slot_at, vacant}
-use Rattle.nic_device.proofs.{DmaRing.Fields.halves_come_back, RegisterLaws.Puts.word_at-put_other}
-use Rattle.nic_device.specs.{DmaRing.Driver.posted, DmaRing.Laws.HasHalves}
-use Rattle.nic_device.specs.{RegisterLaws.Laws.word_after, RegisterLaws.Sound.HasShape, VfMap.Pools.mode_of}
+use Rattle.ring_laws.specs.ReceivePrelude.{Told, block_at, descriptor_at, drive, ended_of, extended, fresh_of}
+use Rattle.ring_laws.specs.ReceivePrelude.{is_ring_block, kept_of, names, next_stage, posts, reach, records_of, slot_at}
 use Rattle.pmd_rx.specs.Receive.{HasLent, MovesOne, naming, parts_first, posts_all, posts_one, tail_behind}
-use Rattle.pmd_rx.proofs.PmdSeam.Places.{wrapped_apart}
-use Rattle.history_laws.proofs.{Written.receive-tail, Written.receive_with_tail}
-use Rattle.ring_laws.proofs.Kept.{named_kept, slots_stay, stage_stays}
+use Rattle.ring_laws.proofs.Kept.{named_kept, names_reach, posts_reach, push_place, slot_below, slots_stay, stage_stays}
 use Rattle.ring_laws.proofs.Ring.{Stays, slot_poked, written_here, written_stays}
 use Rattle.ring_laws.proofs.Parts.{end_last, left_twice, next_at, none_twice, order_same}
-use Rattle.ring_laws.specs.Joint.{Agree, HasSlots, Holds, InOrder, IsLoose, IsNamed, IsPosted, IsRing}
-use Rattle.ring_laws.proofs.{Kept.names_reach, Kept.posts_reach, Kept.push_place, Kept.slot_below}
-use Rattle.ring_laws.proofs.{Leaving.Driven, Leaving.by_outcome}
-use Rattle.ring_laws.specs.{Joint.IsSetUp, Joint.StageHolds, Joint.packets_had, Pieces.Piece}
+use Rattle.ring_laws.specs.Joint.{Agree, HasSlots, Holds, InOrder, IsLoose, IsNamed, IsPosted, IsRing, IsSetUp}
+use Rattle.history_laws.proofs.Written.{receive-tail, receive_with_tail}
+use Rattle.std.proofs.{lemmas.List.take_all, lemmas.Bool.cases_lt, lemmas.Bool.eqb-false, lemmas.Bool.eqb-true}
+use Rattle.std.proofs.{lemmas.Grind.common_steps}
+use Rattle.ring_laws.specs.{ReceivePrelude.vacant, Joint.StageHolds, Joint.packets_had, Pieces.Piece}
+use Rattle.std.specs.Prelude.{◌==◌, ⊤}
+use Rattle.nic_device.proofs.{DmaRing.Fields.halves_come_back, RegisterLaws.Puts.word_at-put_other}
+use Rattle.nic_device.specs.{DmaRing.Driver.posted, DmaRing.Laws.HasHalves, RegisterLaws.Laws.word_after}
+use Rattle.nic_device.specs.{RegisterLaws.Sound.HasShape, VfMap.Pools.mode_of}
+use Rattle.pmd_rx.proofs.PmdSeam.Places.{wrapped_apart}
+use Rattle.ring_laws.proofs.Leaving.{Driven, by_outcome}
+use Rattle.history_laws.specs.Sides.{receive_side}
 use Rattle.nic_device.specs.declared.event.Event.TheVariants as event
 use Rattle.nic_device.specs.declared.event.Reply.TheVariants as reply
+use Rattle.history_laws.specs.Sides as sides
 
 -- A write of the tail of the queue through the driver's number for it.
 
@@ -139,32 +138,36 @@ order_named out gone here v lent o =
     order_same out gone here v (names v) o (names_had v) (sym (left_twice v.seen v.held)) o.seen
     (next_at v.seen v.held (end_last v.stage v.seen v.held (not_looks v.stage v.seen lent) o.stage))
 
-pub name_keeps : (queue : ℕ) (s : State) (out : List Piece) (v : Receive) (a : ℕ) (bytes : List ℕ) → IsWhole s.memory
+pub name_keeps : (queue : ℕ) (s : State) (out : List Piece) (v : Receive) (a : ℕ) (bytes : List ℕ)
     → Agree queue s out v → NamesNext v a bytes → Driven queue s out v (event.Poke16 a bytes)
-name_keeps queue s out v a bytes whole (gone, here, h) own =
+name_keeps queue s out v a bytes (gone, here, h) own =
     let l = reach v in
     let b = fresh_of v.stage in
     let at = descriptor_at l (vacant l) in
     let t : State = record s { memory = write_at s.memory at (naming b) } in
     let loose : IsLoose s.memory l b = loose_of s.memory l v.stage own.stage h.stage in
     let same : extended l (b ∷ []) ≡ reach (names v) = names_reach v in
-    let slots = named_slots s.memory l here h.ring h.slots whole b loose in
-    let free = named_loose s.memory l here h.ring h.slots whole b loose in
-    let posted = posted_here s.memory l here h.ring h.slots whole b loose in
     by_outcome queue s out v (event.Poke16 a bytes) (event.Poke16 at (naming b)) _
     (λ k. event.Poke16 (own.address k) (own.bytes_are k))
     (slot_poked l.ring l.size (slot_at l (vacant l)) (slot_below l (vacant l) h.ring (omega arith)) s (naming b)
-    h.slots.there) (
-      gone,
-      here,
-      assumption (
-        subst IsRing same (ring_more t.memory l here b h.ring slots free posted),
-        subst (λ (x : Layout). HasSlots t.memory x here) same
-            (slots_more t.memory l here b h.ring slots free posted),
-        next_holds t.memory (reach (names v)) v.seen,
-        order_named out gone here v own.stage h.order,
-      ),
-    )
+    h.slots.there) (record {
+      agree = λ i.
+          let slots = named_slots s.memory l here h.ring h.slots i.blocks.whole b loose in
+          let free = named_loose s.memory l here h.ring h.slots i.blocks.whole b loose in
+          let posted = posted_here s.memory l here h.ring h.slots i.blocks.whole b loose in (
+            gone,
+            here,
+            assumption (
+              subst IsRing same (ring_more t.memory l here b h.ring slots free posted),
+              subst (λ (x : Layout). HasSlots t.memory x here) same
+                  (slots_more t.memory l here b h.ring slots free posted),
+              next_holds t.memory (reach (names v)) v.seen,
+              order_named out gone here v own.stage h.order,
+            ),
+          );
+      up = λ i up. up;
+      healthy = λ all anew. refl;
+    })
 
 -- The tail moves on over slots that name blocks: these are posted, and whole packets handed out.
 
@@ -269,17 +272,18 @@ word_low v port number word ring own =
     subst (λ (x : ℕ). x < 65536) (sym m.word_is) (tail_low v m.blocks ring)
 
 pub move_keeps : (queue : ℕ) (s : State) (out : List Piece) (v : Receive) (port : Port) (number word : ℕ)
-    → HasShape s.registers → Agree queue s out v → MovesNext v port number word
-    → Driven queue s out v (event.Write port number word)
-move_keeps queue s out v port number word shape (gone, here, h) own =
+    → Agree queue s out v → MovesNext v port number word → Driven queue s out v (event.Write port number word)
+move_keeps queue s out v port number word (gone, here, h) own =
     let m = moved_is v port number word own in
+    let To : ℕ → State = λ x. record s { registers = after_write s.registers (place Rdt queue) 0xFFFFFFFF x } in
     by_outcome queue s out v (event.Write port number word) (event.Write v.layout.port v.layout.tail word) _
-    (λ k. event.Write (own.port_is k) (own.number_is k) word) (tail_written s queue v.layout word h.named)
-    (subst (Agree queue (record s { registers = after_write s.registers (place Rdt queue) 0xFFFFFFFF word }) out)
-    (sym m.driver)
-    (subst (λ x. Agree queue (record s { registers = after_write s.registers (place Rdt queue) 0xFFFFFFFF x }) out
-    (posts v m.blocks m.packets)) (sym m.word_is) (
-      gone,
-      here,
-      posts_holds v m.blocks m.packets queue s out gone here shape h,
-    )))
+    (λ k. event.Write (own.port_is k) (own.number_is k) word) (tail_written s queue v.layout word h.named) (record {
+      agree = λ i.
+          subst (Agree queue (To word) out) (sym m.driver)
+          (subst (λ x. Agree queue (To x) out (posts v m.blocks m.packets)) (sym m.word_is)
+          (gone, here, posts_holds v m.blocks m.packets queue s out gone here i.registers.shape h));
+      up = λ i up.
+          subst sides.IsUp (sym (ap receive_side (receive-tail s.registers queue word i.registers.shape h.named.low
+          (word_low v port number word h.ring own)))) (assumption up);
+      healthy = λ all anew. refl;
+    })

@@ -1,34 +1,26 @@
 -- Each move of the driver's keeps what it and the device agree on, and its replies are those of a healthy queue.
-use Rattle.std.proofs.Common.{[], ◌++◌, ◌+◌, ◌-◌, ◌<◌, ◌∙◌, ◌∷◌, ◌≡◌, ◌≤◌, List, ap, arith, drop, length, refl}
-use Rattle.std.proofs.lemmas.List.{append-nil, length-drop}
-use Rattle.std.proofs.{Common.subst, Common.sym, Common.true, Common.ℕ}
-use Rattle.std.specs.Prelude.{slice_index_or, ⊤}
-use Rattle.history_laws.specs.Prelude.{Block, Event, IsEvent, LeavesQueues, Memory, Outcome, State, TransmitQueue, Tx}
-use Rattle.history_laws.specs.Prelude.{after, read_at, reply_to, step_of, transmit_queue_of}
-use Rattle.ring_laws.specs.TransmitPrelude.{Accepts, Advances, Asks, Elsewhere, IsOwn, Kept, Lends}
-use Rattle.ring_laws.specs.TransmitPrelude.{Looks}
-use Rattle.ring_laws.specs.TransmitPrelude.{MayAccept, Move, Outgoing, Reaps, Segment, Sender, asking, descriptor_at}
-use Rattle.ring_laws.specs.TransmitPrelude.{moved}
-use Rattle.ring_laws.specs.TransmitPrelude.{no_segment, segment_at, segments_of, slot_at}
-use Rattle.nic_device.proofs.{Cases.lent_cases, Cases.taken_cases, DmaArena.Bus.get-remove_other, DmaArena.Bus.of_some}
-use Rattle.pmd_tx.{proofs.PmdSeam.Rings.ring_block_apart, specs.Sending.MayLend, specs.Sending.is_healthy}
-use Rattle.pmd_tx.{specs.Sending.reaped}
-use Rattle.history_laws.proofs.{Leaving.queues_left, Lent.anew_is_done, Lent.taken_is, Steady.up_kept}
-use Rattle.history_laws.proofs.DeviceLaws.Standing.{memory_rest}
-use Rattle.ring_laws.proofs.Advancing.{advance-stays-up, advance_one, ask_one, look, look_one, written_tail}
+use Rattle.std.proofs.Common.{[], ◌++◌, ◌+◌, ◌-◌, ◌<◌, ◌∙◌, ◌∷◌, ◌≡◌, ◌≢◌, ◌≤◌, List, ℕ, ap, arith, drop, length, refl}
+use Rattle.history_laws.specs.Prelude.{Block, Event, Memory, State, TransmitQueue, Tx, after, read_at, reply_to}
+use Rattle.ring_laws.specs.TransmitPrelude.{Accepts, Advances, Asks, Elsewhere, IsOwn, Kept, Lends, Looks, MayAccept}
+use Rattle.ring_laws.specs.TransmitPrelude.{Move, Outgoing, Reaps, Segment, Sender, descriptor_at, moved, no_segment}
 use Rattle.ring_laws.proofs.Blocks.{descriptor-later, later-layout, ready_stays, slot-below}
-use Rattle.ring_laws.proofs.Ring.{Stays, same_stays, slot_poked}
 use Rattle.ring_laws.proofs.Packets.{count-accepted, counted-lent, early-accepted, known-accepted, sends-accepted}
-use Rattle.ring_laws.proofs.Sparing.{After, Keeps, based-after, never-shuts, spared_did, spares-keeps}
+use Rattle.ring_laws.proofs.Sparing.{based-after, never-shuts, spared_did, spares-keeps}
 use Rattle.ring_laws.specs.Agreeing.{Agrees, AgreesAt, IsBased, IsCounted, IsLayout, IsReady, IsSetUp, SendsInOrder}
-use Rattle.ring_laws.specs.Agreeing.{Shows}
-use Rattle.ring_laws.proofs.{TransmitLent.first_at, Packets.shows-lent}
-use Rattle.ring_laws.specs.{TransmitHealthy.LendsAnew, TransmitHealthy.OwnRepliesAreHealthy, Laws.MovesKeep}
-use Rattle.ring_laws.specs.{Sent.sent_by}
-use Rattle.ring_laws.specs.{Turns.MayMove, TransmitUp.IsUp, TransmitUp.UpStays}
+use Rattle.ring_laws.proofs.Advancing.{Keeps, Moves, advance_one, ask_one, by_outcome, look_one}
+use Rattle.std.proofs.{Common.subst, Common.sym, Common.true, lemmas.List.append-nil, lemmas.List.length-drop}
+use Rattle.history_laws.specs.Prelude.{step_of, transmit_queue_of}
+use Rattle.ring_laws.specs.{TransmitPrelude.segment_at, TransmitPrelude.segments_of, TransmitPrelude.slot_at}
+use Rattle.ring_laws.specs.{Agreeing.Shows, TransmitHealthy.LendsAnew, TransmitHealthy.OwnRepliesAreHealthy}
+use Rattle.ring_laws.specs.{Laws.MovesKeep, Sent.sent_by, Turns.MayMove, TransmitUp.IsUp, TransmitUp.UpStays}
+use Rattle.ring_laws.proofs.{Packets.shows-lent, Ring.Stays, Ring.same_stays, TransmitLent.first_at}
+use Rattle.std.specs.Prelude.{slice_index_or, ⊤}
+use Rattle.nic_device.proofs.{Cases.lent_cases, DmaArena.Bus.get-remove_other, DmaArena.Bus.of_some}
+use Rattle.pmd_tx.proofs.PmdSeam.Rings.{ring_block_apart}
+use Rattle.pmd_tx.specs.Sending.{MayLend, is_healthy, reaped}
+use Rattle.history_laws.proofs.{Lent.anew_is_done, Lent.taken_is, Steady.up_kept}
 use Rattle.std.specs.FinMap as fin
 use Rattle.nic_device.specs.declared.event.Event.TheVariants as event
-use Rattle.history_laws.specs.Sides as sides
 
 -- The oldest segment is let go, which was fetched: its block is taken back.
 
@@ -128,133 +120,97 @@ module _ {s : State} {queue : ℕ} {sent : List (List ℕ)} {v : Sender} {f : �
       )
 
   -- the first block of a packet is lent
-  pub accept_one : (p : Outgoing) (b : Block) → MayAccept v p b → IsEvent (event.Lend b)
-      → After queue sent v (Accepts p) (step_of s (event.Lend b))
+  accept_one : (p : Outgoing) (b : Block) → MayAccept v p b → Moves h (Accepts p) (event.Lend b)
   unfolding step_of
-  accept_one p b may made =
-      lent_cases (Keeps queue sent v (Accepts p)) s b (λ based. (f, h))
-      (lent_agrees (slice_index_or (segments_of p) 0 no_segment) b may.first (v.outstanding ++ segments_of p)
-      (v.accepted ++ p.kept ∷ []) (early-accepted v p b may) (first_at v p may.lent)
-      (omega (arith, count-accepted v p b may, may.room)) (known-accepted v p b may)
-      (sends-accepted v p b may f known sent s queue h.sends))
-      (based-after s queue v.layout (event.Lend b) h.based made tt)
+  accept_one p b may = record {
+    agree = λ made.
+        lent_cases (Keeps h (Accepts p)) s b (λ based. (f, h))
+        (lent_agrees (slice_index_or (segments_of p) 0 no_segment) b may.first (v.outstanding ++ segments_of p)
+        (v.accepted ++ p.kept ∷ []) (early-accepted v p b may) (first_at v p may.lent)
+        (omega (arith, count-accepted v p b may, may.room)) (known-accepted v p b may)
+        (sends-accepted v p b may f known sent s queue h.sends))
+        (based-after s queue v.layout (event.Lend b) h.based made tt);
+    up = λ up. lent_cases (λ o. IsUp queue o.state) s b up up;
+    healthy = λ anew. ap (is_healthy (Accepts p)) (anew_is_done s b anew);
+  }
 
   -- the next one of a packet is lent
-  pub lend_one : (b : Block) → IsOwn v Lends (event.Lend b) → IsEvent (event.Lend b)
-      → After queue sent v Lends (step_of s (event.Lend b))
+  lend_one : (b : Block) → IsOwn v Lends (event.Lend b) → Moves h Lends (event.Lend b)
   unfolding step_of
-  lend_one b own made =
-      lent_cases (Keeps queue sent v Lends) s b (λ based. (f, h))
-      (lent_agrees (segment_at v v.lent) b own.1 v.outstanding v.accepted (λ k below. refl) refl h.counted.room own.0
-      h.sends)
-      (based-after s queue v.layout (event.Lend b) h.based made tt)
+  lend_one b own = record {
+    agree = λ made.
+        lent_cases (Keeps h Lends) s b (λ based. (f, h))
+        (lent_agrees (segment_at v v.lent) b own.1 v.outstanding v.accepted (λ k below. refl) refl h.counted.room own.0
+        h.sends)
+        (based-after s queue v.layout (event.Lend b) h.based made tt);
+    up = λ up. lent_cases (λ o. IsUp queue o.state) s b up up;
+    healthy = λ anew. ap (is_healthy Lends) (anew_is_done s b anew);
+  }
 
   -- the oldest is taken back
-  reap_at : (g : ℕ) → AgreesAt s queue sent v (g + 1) → IsEvent (event.Take (segment_at v 0).block)
-      → After queue sent v Reaps (step_of s (event.Take (segment_at v 0).block))
-  unfolding step_of
-  reap_at g at made =
+  reap_agrees : (g : ℕ) → AgreesAt s queue sent v (g + 1)
+      → IsBased (record s { memory = fin.remove s.memory (segment_at v 0).block }) queue v.layout
+      → AgreesAt (record s { memory = fin.remove s.memory (segment_at v 0).block }) queue sent (reaped v) g
+  reap_agrees g at based =
       let l = at.based.layout in
       let Rest : List Segment → Type 0 = λ ss. SendsInOrder s queue sent v.layout.limit ss v.accepted in
-      taken_cases (Keeps queue sent v Reaps) s (segment_at v 0).block (λ based. (f, h)) (λ block based. (
-        g,
-        record {
-          based = assumption (later-layout v.layout l, based);
-          set_up = set_up-reaped v g l at.counted (transmit_queue_of s.registers queue) at.set_up;
-          counted = counted-reaped v g l at.counted;
-          shows = shows-reaped v g l at.counted s.memory at.shows;
-          sends = subst Rest (dropped v g l at.counted) at.sends;
-        },
-      ))
-      (based-after s queue v.layout (event.Take (segment_at v 0).block) h.based made tt)
+      record {
+        based = assumption (later-layout v.layout l, based);
+        set_up = set_up-reaped v g l at.counted (transmit_queue_of s.registers queue) at.set_up;
+        counted = counted-reaped v g l at.counted;
+        shows = shows-reaped v g l at.counted s.memory at.shows;
+        sends = subst Rest (dropped v g l at.counted) at.sends;
+      }
 
-  pub reap_one : (n : ℕ) → IsOwn v Reaps (event.Take n) → IsEvent (event.Take n)
-      → After queue sent v Reaps (step_of s (event.Take n))
-  reap_one n own made =
-      let done = h.counted.done_fetched in
-      let e : f ≡ (f - 1) + 1 = omega (arith, own.0) in
-      subst (λ x. IsEvent (event.Take x) → After queue sent v Reaps (step_of s (event.Take x))) (sym own.1)
-      (reap_at (f - 1) (subst (AgreesAt s queue sent v) e h)) made
+  reap_one : (n : ℕ) → IsOwn v Reaps (event.Take n) → Moves h Reaps (event.Take n)
+  reap_one n own =
+      let c = h.counted in
+      let some : 0 < v.lent = omega (arith, own.0, c.done_fetched, c.fetched_posted, c.posted_poked, c.poked_lent) in
+      let there = of_some (fin.get s.memory (segment_at v 0).block) (h.shows.ready 0 some).lent in
+      let e : f ≡ (f - 1) + 1 = omega (arith, own.0, c.done_fetched) in
+      by_outcome h Reaps (event.Take n) (event.Take (segment_at v 0).block) _ (ap event.Take own.1)
+      (taken_is s (segment_at v 0).block there.0 there.1) tt
+      (λ based. (f - 1, reap_agrees (f - 1) (subst (AgreesAt s queue sent v) e h) based)) (λ up. up) refl
 
-  -- each of them, with the frame that the event sends, if any
+  -- each of them
 
-  abbrev IsKept : Move → Event Block → Type 0
-  IsKept m e = Agrees (after s e) queue (sent ++ sent_by queue s e) (moved v m (reply_to s e))
+  own_did : (m : Move) (e : Event Block) → IsOwn v m e → m ≢ Elsewhere → Moves h m e
+  own_did (Accepts p) (event.Lend b) own ne = accept_one p b own
+  own_did Lends (event.Lend b) own ne = lend_one b own
+  own_did Asks (event.Poke16 a bytes) own ne = ask_one h a bytes own
+  own_did Advances (event.Write port n word) own ne = advance_one h port n word own
+  own_did Looks (event.Peek16 a) own ne = look_one h a own
+  own_did Reaps (event.Take n) own ne = reap_one n own
+  own_did Elsewhere e own ne = absurd (ne refl)
+  own_did m e own ne = absurd own
 
-  pub move-keeps : (m : Move) (e : Event Block) → MayMove queue v s e m → IsKept m e
-  move-keeps (Accepts p) (event.Lend b) may = rw (append-nil sent) (accept_one p b may.0 may.1)
-  move-keeps Lends (event.Lend b) may = rw (append-nil sent) (lend_one b may.0 may.1)
-  move-keeps Asks (event.Poke16 a bytes) may = rw (append-nil sent) (ask_one h a bytes may.0 may.1)
-  move-keeps Advances (event.Write port n word) may = rw (append-nil sent) (advance_one h port n word may.0 may.1)
-  move-keeps Looks (event.Peek16 a) may = rw (append-nil sent) (look_one h a may.0)
-  move-keeps Reaps (event.Take n) may = rw (append-nil sent) (reap_one n may.0 may.1)
+  own_silent : (m : Move) (e : Event Block) → IsOwn v m e → m ≢ Elsewhere → sent_by queue s e ≡ []
+  own_silent Elsewhere e own ne = absurd (ne refl)
+  own_silent m (event.TxStep on) own ne = absurd own
+  own_silent m e own ne = refl
+
+  -- they agree on, with the frame that the event sends, if any
+  pub move-keeps : (m : Move) (e : Event Block) → MayMove queue v s e m
+      → Agrees (after s e) queue (sent ++ sent_by queue s e) (moved v m (reply_to s e))
   move-keeps Elsewhere e may = spares-keeps h e may
-  move-keeps m e may = absurd may.0
+  move-keeps m e may =
+      rw (own_silent m e may.0 (λ is. cc), append-nil sent) ((own_did m e may.0 (λ is. cc)).agree may.1)
+
+  -- a side that is up stays so
+  moved-up : IsUp queue s → (m : Move) (e : Event Block) → MayMove queue v s e m → IsUp queue (after s e)
+  moved-up up Elsewhere e may = up_kept Tx queue s e up (never-shuts h e) (spared_did h e may)
+  moved-up up m e may = (own_did m e may.0 (λ is. cc)).up up
+
+  -- and the replies are those of a healthy queue
+  healthy : (m : Move) (e : Event Block) → IsOwn v m e → LendsAnew s m e → is_healthy m (reply_to s e) ≡ true
+  healthy Elsewhere e own anew = refl
+  healthy m e own anew = (own_did m e own (λ is. cc)).healthy anew
 
 pub moves_keep : MovesKeep
 moves_keep s queue sent v e m (f, h) may = move-keeps h m e may
 
--- A transmit side that is on and wanted on stays so, where device and driver agree.
-
-module _ {s : State} {queue : ℕ} {sent : List (List ℕ)} {v : Sender} {f : ℕ} (h : AgreesAt s queue sent v f)
-    (up : IsUp queue s) where
-  same_up : (t : State) → LeavesQueues s t → IsUp queue t
-  same_up t left = subst sides.IsUp (sym (queues_left queue s t Tx left)) up
-
-  pub moved-stays-up : (m : Move) (e : Event Block) → MayMove queue v s e m → IsUp queue (after s e)
-  moved-stays-up (Accepts p) (event.Lend b) may = same_up (after s (event.Lend b)) (memory_rest.lend s b).queues
-  moved-stays-up Lends (event.Lend b) may = same_up (after s (event.Lend b)) (memory_rest.lend s b).queues
-  moved-stays-up Asks (event.Poke16 a bytes) may =
-      same_up (after s (event.Poke16 a bytes)) (memory_rest.poke s a bytes).queues
-  moved-stays-up Advances (event.Write port n word) may = advance-stays-up h port n word may.0 up
-  moved-stays-up Looks (event.Peek16 a) may = same_up (after s (event.Peek16 a)) (memory_rest.peek s a).queues
-  moved-stays-up Reaps (event.Take n) may = same_up (after s (event.Take n)) (memory_rest.take s n).queues
-  moved-stays-up Elsewhere e may = up_kept Tx queue s e up (never-shuts h e) (spared_did h e may)
-  moved-stays-up m e may = absurd may.0
-
 pub up_stays : UpStays
-up_stays s queue sent v e m (f, h) may up = moved-stays-up h up m e may
-
--- The replies to the driver's own moves are those of a healthy queue.
-
-module _ {s : State} {queue : ℕ} {sent : List (List ℕ)} {v : Sender} {f : ℕ} (h : AgreesAt s queue sent v f) where
-  abbrev Healthy : Move → Event Block → Type 0
-  Healthy m e = is_healthy m (reply_to s e) ≡ true
-
-  -- as the event is written otherwise, by its outcome
-  by_outcome : (m : Move) (e d : Event Block) (o : Outcome) → e ≡ d → step_of s d ≡ o → is_healthy m o.reply ≡ true
-      → Healthy m e
-  by_outcome m e d o same is healthy =
-      subst (Healthy m) (sym same) (ap (λ (x : Outcome). is_healthy m x.reply) is ∙ healthy)
-
-  ask_healthy : (a : ℕ) (bytes : List ℕ) → IsOwn v Asks (event.Poke16 a bytes) → Healthy Asks (event.Poke16 a bytes)
-  ask_healthy a bytes own =
-      let at = descriptor_at v.layout v.poked in
-      by_outcome Asks (event.Poke16 a bytes) (event.Poke16 at (asking (segment_at v v.poked))) _
-      (λ k. event.Poke16 (own.1 k) (own.2 k))
-      (slot_poked v.layout.ring v.layout.size (slot_at v.layout v.poked)
-      (slot-below v.layout h.based.layout v.poked (omega (arith, h.counted.room, h.counted.lent_known, own.0))) s
-      (asking (segment_at v v.poked)) h.shows.ring) refl
-
-  reap_healthy : (n : ℕ) → IsOwn v Reaps (event.Take n) → Healthy Reaps (event.Take n)
-  reap_healthy n own =
-      let c = h.counted in
-      let some : 0 < v.lent = omega (arith, own.0, c.done_fetched, c.fetched_posted, c.posted_poked, c.poked_lent) in
-      let there = of_some (fin.get s.memory (segment_at v 0).block) (h.shows.ready 0 some).lent in
-      by_outcome Reaps (event.Take n) (event.Take (segment_at v 0).block) _ (ap event.Take own.1)
-      (taken_is s (segment_at v 0).block there.0 there.1) refl
-
-  healthy : (m : Move) (e : Event Block) → IsOwn v m e → LendsAnew s m e → Healthy m e
-  healthy (Accepts p) (event.Lend b) own anew = ap (is_healthy (Accepts p)) (anew_is_done s b anew)
-  healthy Lends (event.Lend b) own anew = ap (is_healthy Lends) (anew_is_done s b anew)
-  healthy Asks (event.Poke16 a bytes) own anew = ask_healthy a bytes own
-  healthy Advances (event.Write port n word) own anew =
-      ap (λ (x : Outcome). is_healthy Advances x.reply) (written_tail h port n word own)
-  healthy Looks (event.Peek16 a) own anew =
-      by_outcome Looks (event.Peek16 a) _ _ (ap event.Peek16 own.1) (look h own.0) refl
-  healthy Reaps (event.Take n) own anew = reap_healthy n own
-  healthy Elsewhere e own anew = refl
-  healthy m e own anew = absurd own
+up_stays s queue sent v e m (f, h) may up = moved-up h up m e may
 
 pub own_replies_are_healthy : OwnRepliesAreHealthy
 own_replies_are_healthy s queue sent v m e (f, h) own anew = healthy h m e own anew

@@ -1,28 +1,28 @@
 -- Steps of the driver's own queue, and events that spare the driver, keep what it and the device agree on.
-use Rattle.std.proofs.Common.{[], ◌++◌, ◌+◌, ◌<◌, ◌∙◌, ◌∷◌, ◌≡◌, ◌≤◌, List, Ok, ap, append_assoc, arith, drop, false}
-use Rattle.std.proofs.Common.{inl, inr, length, refl, subst, sym, true, ℕ}
-use Rattle.std.proofs.lemmas.Bool.{both_ways, cases_Bool, cases_lt, eq-eqb}
+use Rattle.std.proofs.Common.{[], ◌++◌, ◌+◌, ◌<◌, ◌∙◌, ◌∷◌, ◌≡◌, ◌≤◌, List, Ok, ℕ, ap, append_assoc, arith, drop, false}
+use Rattle.std.proofs.Common.{inl, inr, length, refl, subst, sym, true}
 use Rattle.std.proofs.lemmas.List.{append-nil, drop_more, get_or-set_same, nil_from_length}
-use Rattle.std.specs.Prelude.{if◌then◌else◌, ◌==◌, IsFalse, IsTrue}
-use Rattle.history_laws.specs.Prelude.{Block, Event, Fetched, IsEvent, LeavesBlock, Outcome, State}
-use Rattle.history_laws.specs.Prelude.{TransmitQueue, Tx, WritesNoSetting, after, done_descriptor}
-use Rattle.history_laws.specs.Prelude.{staged_by, transmit_queue_of, write_at}
+use Rattle.history_laws.specs.Prelude.{Block, Event, Fetched, IsEvent, LeavesBlock, Outcome, State, TransmitQueue, Tx}
+use Rattle.history_laws.specs.Prelude.{WritesNoSetting, after, done_descriptor, staged_by, transmit_queue_of, write_at}
 use Rattle.ring_laws.specs.TransmitPrelude.{Kept, Layout, Move, Segment, Sender, asking, descriptor_at, has_lent, moved}
 use Rattle.ring_laws.specs.TransmitPrelude.{no_segment, segment_at, side_of, slot_at}
-use Rattle.nic_device.{proofs.Steps.keeps_sound, specs.Transmit.with_frame, specs.TxRing.Fetch.Outcome as Fetch}
-use Rattle.history_laws.proofs.{Deeds.side_did, Leaving.named-same, Leaving.transmit_left, Leaving.transmit_of}
-use Rattle.history_laws.proofs.{Steady.resting_same}
-use Rattle.history_laws.proofs.DeviceLaws.{KeptSettings.settings_stand, Standing.stays_within}
+use Rattle.history_laws.proofs.Leaving.{named-same, transmit_left, transmit_of}
 use Rattle.history_laws.specs.Left.{Deed, Nothing, Rested, Rests, SendsNone, Shut, Shuts, Switched, Takes, Took}
-use Rattle.history_laws.specs.{Left.fetch_on, Sides.IsTried, Sides.Side, Sides.as_wanted}
 use Rattle.ring_laws.proofs.Fetching.{fetch-segment, head_is, lent, more, segment_fetched, segment_outcome}
 use Rattle.ring_laws.specs.Agreeing.{Agrees, AgreesAt, ArePackets, IsBased, IsCounted, IsCutOff, IsInTurn, IsSetUp}
-use Rattle.ring_laws.proofs.{Blocks.shows-same, Blocks.slot-next, Counting.added-by, Fetching.shows-fetched}
-use Rattle.ring_laws.proofs.{Fetching.slots, Fetching.small, Packets.frame_left}
-use Rattle.ring_laws.proofs.{Packets.some_left}
-use Rattle.ring_laws.specs.{Agreeing.SendsInOrder, Agreeing.frame_ended, Agreeing.frames_from}
-use Rattle.ring_laws.specs.{Agreeing.staged_behind, Laws.SparingEventsKeep, Laws.StepsOfQueueKeep}
-use Rattle.ring_laws.specs.{Sent.frames_added, Sent.sent_by, Sparing.Spares}
+use Rattle.ring_laws.specs.Agreeing.{SendsInOrder, frame_ended, frames_from, staged_behind}
+use Rattle.std.proofs.lemmas.Bool.{both_ways, cases_Bool, cases_lt, eq-eqb}
+use Rattle.std.specs.Prelude.{if◌then◌else◌, ◌==◌, IsFalse, IsTrue}
+use Rattle.history_laws.proofs.DeviceLaws.KeptSettings.{settings_stand}
+use Rattle.ring_laws.specs.Laws.{SparingEventsKeep, StepsOfQueueKeep}
+use Rattle.history_laws.specs.{Left.fetch_on, Sides.IsTried, Sides.Side, Sides.as_wanted}
+use Rattle.ring_laws.proofs.{Fetching.shows-fetched, Fetching.slots, Fetching.small, Blocks.shows-same}
+use Rattle.ring_laws.proofs.{Blocks.slot-next, Counting.added-by, Packets.frame_left, Packets.some_left}
+use Rattle.nic_device.proofs.Steps.{keeps_sound}
+use Rattle.nic_device.specs.{Transmit.with_frame, TxRing.Fetch.Outcome as Fetch}
+use Rattle.history_laws.proofs.{Deeds.side_did, Steady.resting_same, DeviceLaws.Standing.stays_within}
+use Rattle.ring_laws.specs.{Sent.frames_added, Sent.sent_by, Sparing.Spares, TransmitHealthy.LendsAnew, TransmitUp.IsUp}
+use Rattle.pmd_tx.specs.Sending.{is_healthy}
 use Rattle.nic_device.specs.declared.event.Event.TheVariants as event
 
 -- What an event keeps that writes no setting.
@@ -42,13 +42,13 @@ pub counted-on : (v : Sender) (f g done posted poked : ℕ) → IsCounted v f �
     → poked ≤ v.lent → IsCounted (record v { poked = poked; posted = posted; done = done }) g
 counted-on v f g done posted poked c a b d e = assumption
 
--- after a move of the driver's, by its outcome, the two agree
-abbrev pub After : ℕ → List (List ℕ) → Sender → Move → Outcome → Type 0
-After queue sent v m o = Agrees o.state queue sent (moved v m o.reply)
-
--- so they do where the outcome is as sound as the event leaves it, which changes memory alone
-abbrev pub Keeps : ℕ → List (List ℕ) → Sender → Move → Outcome → Type 0
-Keeps queue sent v m o = IsBased o.state queue v.layout → After queue sent v m o
+-- what a move of the driver's does, by its outcome: where the event can be made the two agree on, a side that is up
+-- stays so, and the reply is that of a healthy queue, where a block that is lent isn't lent yet
+pub record Does (queue : ℕ) (s : State) (sent : List (List ℕ)) (v : Sender) (m : Move) (e : Event Block) (o : Outcome) :
+    Type 0 where
+  pub agree : IsEvent e → Agrees o.state queue sent (moved v m o.reply)
+  pub up : IsUp queue s → IsUp queue o.state
+  pub healthy : LendsAnew s m e → is_healthy m o.reply ≡ true
 
 -- A step of transmitting of the driver's own queue that fetches the next segment.
 

@@ -95,7 +95,7 @@ module _ {s : State} {queue : ℕ} {sent : List (List ℕ)} {v : Sender} {f : �
       → Keeps m o → (IsUp queue s → IsUp queue o.state) → is_healthy m o.reply ≡ true → Moves m e
   by_outcome m e d o same is none keeps up healthy =
       rw (same, is) (record {
-        agree = λ made. 
+        agree = λ made.
             keeps (subst (λ (u : Outcome). IsBased u.state queue v.layout) is
             (based-after s queue v.layout d h.based made none));
         up = up;

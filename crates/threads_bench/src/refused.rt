@@ -1,6 +1,6 @@
 //! Why a run prints nothing.
 
-ghost use Rattle.std.specs.Prelude.{◌≡◌, ◌↔◌};
+ghost use Rattle.std.specs.Prelude.{◌≡◌};
 ghost use Rattle.threads_bench.specs.Refused.{both_done, status_of};
 
 use bench::{FAILED, NO_MEMORY};
@@ -51,10 +51,9 @@ impl From<AllocError> for Refused {
 }
 
 impl From<NewFault> for Refused {
-    ghost use Rattle.workers.specs.DeviceLock.declared.fault.NewFault.{NewFault};
-    ghost use Rattle.threads_bench.specs.declared.refused.Refused.TheVariants.{OutOfMemory};
+    ghost use Rattle.threads_bench.specs.Refused.{of_new};
 
-    ghost from_gives = { λ fault refused. (refused ≡ OutOfMemory) ↔ (fault ≡ NewFault.OutOfMemory) };
+    ghost from_gives = { λ fault refused. refused ≡ of_new fault };
 
     fn from(fault: NewFault) -> Refused {
         match fault {
@@ -65,10 +64,9 @@ impl From<NewFault> for Refused {
 }
 
 impl From<CloseFault> for Refused {
-    ghost use Rattle.workers.specs.DeviceLock.declared.fault.CloseFault.{CloseFault};
-    ghost use Rattle.threads_bench.specs.declared.refused.Refused.TheVariants.{OutOfMemory};
+    ghost use Rattle.threads_bench.specs.Refused.{of_close};
 
-    ghost from_gives = { λ fault refused. (refused ≡ OutOfMemory) ↔ (fault ≡ CloseFault.OutOfMemory) };
+    ghost from_gives = { λ fault refused. refused ≡ of_close fault };
 
     fn from(fault: CloseFault) -> Refused {
         match fault {
@@ -80,12 +78,9 @@ impl From<CloseFault> for Refused {
 }
 
 impl From<PmdFault> for Refused {
-    ghost use Rattle.workers.specs.DeviceLock.declared.fault.CallFault.{CallFault};
-    ghost use Rattle.workers.specs.PmdSeam.declared.fault.PmdFault.{PmdFault};
-    ghost use Rattle.threads_bench.specs.declared.refused.Refused.TheVariants.{OutOfMemory};
+    ghost use Rattle.threads_bench.specs.Refused.{of_driver};
 
-    ghost from_gives = { λ fault refused. (refused ≡ OutOfMemory)
-        ↔ (fault ≡ PmdFault.Call (CallFault.OutOfMemory tt)) };
+    ghost from_gives = { λ fault refused. refused ≡ of_driver fault };
 
     fn from(fault: PmdFault) -> Refused {
         match fault {
@@ -101,13 +96,9 @@ impl From<PmdFault> for Refused {
 }
 
 impl From<WorkerFault> for Refused {
-    ghost use Rattle.workers.specs.DeviceLock.declared.fault.CallFault.{CallFault};
-    ghost use Rattle.workers.specs.PmdSeam.declared.fault.PmdFault.{PmdFault};
-    ghost use Rattle.workers.specs.declared.WorkerFault.{WorkerFault};
-    ghost use Rattle.threads_bench.specs.declared.refused.Refused.TheVariants.{OutOfMemory};
+    ghost use Rattle.threads_bench.specs.Refused.{of_worker};
 
-    ghost from_gives = { λ fault refused. (refused ≡ OutOfMemory)
-        ↔ (fault ≡ WorkerFault.Pmd (PmdFault.Call (CallFault.OutOfMemory tt))) };
+    ghost from_gives = { λ fault refused. refused ≡ of_worker fault };
 
     fn from(fault: WorkerFault) -> Refused {
         match fault {
@@ -118,10 +109,9 @@ impl From<WorkerFault> for Refused {
 }
 
 impl From<RunFault> for Refused {
-    ghost use Rattle.workers.specs.declared.ends.RunFault.{RunFault};
-    ghost use Rattle.threads_bench.specs.declared.refused.Refused.TheVariants.{OutOfMemory};
+    ghost use Rattle.threads_bench.specs.Refused.{of_run};
 
-    ghost from_gives = { λ fault refused. (refused ≡ OutOfMemory) ↔ (fault ≡ RunFault.OutOfMemory) };
+    ghost from_gives = { λ fault refused. refused ≡ of_run fault };
 
     fn from(fault: RunFault) -> Refused {
         match fault {

@@ -51,11 +51,6 @@ module _ {s : State} {queue : ℕ} {sent : List (List ℕ)} {v : Sender} {f : �
   unfolding step_of
   written_tail port n word own = rw (own.2, own.3, own.4) (ap (λ m. named_written s m slot) h.based.tail)
 
-  pub setting_kept : (port : Port) (n word : ℕ) → IsOwn v Advances (event.Write port n word)
-      → WritesNoSetting s (event.Write port n word)
-  setting_kept port n word own =
-      plain-write s port n word (place Tdt queue) 0xFFFFFFFF (rw (own.2, own.3) h.based.tail) refl
-
   fits : v.poked < v.layout.size
   fits = omega (arith, h.counted.poked_lent, h.counted.lent_known, h.counted.room)
 
@@ -106,7 +101,8 @@ module _ {s : State} {queue : ℕ} {sent : List (List ℕ)} {v : Sender} {f : �
       → Moves Advances (event.Write port n word)
   advance_one port n word own =
       by_outcome Advances (event.Write port n word) (event.Write port n word) _ refl (written_tail port n word own)
-      (setting_kept port n word own) (λ based. (f, tail_keeps based)) (λ up. record {
+      (plain-write s port n word (place Tdt queue) 0xFFFFFFFF (rw (own.2, own.3) h.based.tail) refl)
+      (λ based. (f, tail_keeps based)) (λ up. record {
         on = ap (λ (x : TransmitQueue). x.on) side_moved ∙ up.on;
         wanted = ap (λ (x : TransmitQueue). x.wanted) side_moved ∙ up.wanted;
       }) refl

@@ -1,18 +1,14 @@
 -- Where nothing is written yet of a frame that waits for a queue, each event leaves it so that writes no piece there.
-use Rattle.std.proofs.Common.{[], ◌++◌, ◌+◌, ◌∙◌, ◌∷◌, ◌≡◌, Bool, List, ap}
-use Rattle.std.proofs.Common.{cond, false, refl, subst, true, ℕ}
+use Rattle.std.proofs.Common.{[], ◌++◌, ◌+◌, ◌∙◌, ◌∷◌, ◌≡◌, Bool, List, ℕ, ap, cond, false, refl, subst, true}
+use Rattle.history_laws.specs.Prelude.{Block, Event, IsSound, Outcome, Rx, State, Waiting, after, has_queue, mode_in}
 use Rattle.std.proofs.lemmas.List.Elements.{All-filter, All-head}
+use Rattle.nic_device.specs.RxFilter.declared.target.Target.{Target}
+use Rattle.history_laws.specs.Prelude.{step_of}
 use Rattle.std.specs.Prelude.{◌==◌, All, filter, not}
-use Rattle.history_laws.specs.Prelude.{Block, Event, Filled, IsSound, Outcome, Rx, State, Waiting}
-use Rattle.history_laws.specs.Prelude.{after, has_queue}
-use Rattle.history_laws.specs.Prelude.{mode_in, step_of}
 use Rattle.nic_device.proofs.{Cases.either_way, QueueCases.received_cases}
-use Rattle.nic_device.specs.{Arrival.let_in, Receive.after_piece}
-use Rattle.nic_device.specs.{RxFilter.declared.target.Target.Target, Sound.AreWaiting}
-use Rattle.nic_device.specs.{Sound.IsUnbegun, Switching.without_part}
-use Rattle.history_laws.proofs.{Lent.Changes, Lent.waiting_changed}
-use Rattle.ring_laws.specs.Pieces.{Piece, pieces, pieces_told}
-use Rattle.ring_laws.specs.{Fitting.begun_on}
+use Rattle.nic_device.specs.{Arrival.let_in, Sound.AreWaiting, Sound.IsUnbegun, Switching.without_part}
+use Rattle.history_laws.proofs.Lent.{Changes, waiting_changed}
+use Rattle.ring_laws.specs.{Pieces.Piece, Pieces.pieces, Pieces.pieces_told, Fitting.begun_on}
 use Rattle.nic_device.specs.declared.event.Event.TheVariants as event
 
 pub either_zero : (b : Bool) → let z : ℕ = 0 in cond b z z ≡ z
@@ -57,12 +53,6 @@ module _ (queue : ℕ) where
     pub gone : (w : Waiting) (others : List Waiting) → s.waiting ≡ w ∷ others → IsNone others
     gone w others e = unbegun_none others (subst AreWaiting e sound.waiting).1
 
-    other_filled : (w : Waiting) (others : List Waiting) (f : Filled) → s.waiting ≡ w ∷ others
-        → (w.queue == queue) ≡ false → IsNone (after_piece w others f)
-    other_filled w others f e other =
-        either_way IsNone f.end others (record w { offset = w.offset + f.len } ∷ others) (gone w others e)
-        (ap (λ (b : Bool). cond b (w.offset + f.len) 0) other)
-
     abbrev LeavesWhere : Outcome → Type 0
     LeavesWhere o = pieces_told queue s.waiting o.reply ≡ [] → Leaves o
 
@@ -74,7 +64,8 @@ module _ (queue : ℕ) where
       slotless = λ w others e told. gone w others e;
       fault = λ w others e fault told. gone w others e;
       filled = λ w others e f is told.
-          other_filled w others f e (no_piece (w.queue == queue) _ [] refl told);
+          (either_way IsNone f.end others (record w { offset = w.offset + f.len } ∷ others) (gone w others e)
+          (ap (λ (b : Bool). cond b (w.offset + f.len) 0) (no_piece (w.queue == queue) _ [] refl told)));
     })
 
     none_changes : (e : Event Block) → pieces queue s e ≡ [] → Changes IsNone s e

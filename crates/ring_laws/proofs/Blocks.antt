@@ -1,17 +1,16 @@
 -- The ring of a driver that sends: its slots, its blocks, and what stays where memory does.
-use Rattle.std.proofs.Common.{◌+◌, ◌<◌, ◌∙◌, ◌≡◌, ◌≢◌, ◌≤◌, ap, arith, false, length, refl}
-use Rattle.std.proofs.lemmas.Bool.{both_ways, eq-eqb, or_right}
+use Rattle.std.proofs.Common.{◌+◌, ◌<◌, ◌≡◌, ◌≢◌, ◌≤◌, ℕ, ap, arith, false, length, refl, subst, take, true}
 use Rattle.std.specs.Prelude.{[], ◌==◌, ◌∷◌, IsTrue, List, slice_index_or, suc, zero, ⊤}
-use Rattle.std.{proofs.Common.subst, proofs.Common.take, proofs.Common.true, proofs.Common.ℕ}
-use Rattle.std.{proofs.lemmas.List.get_or-take, proofs.lemmas.List.length-take-le, specs.List.list_any}
 use Rattle.history_laws.specs.Prelude.{Memory, has_block, is_lent, read_at}
 use Rattle.ring_laws.specs.TransmitPrelude.{EachRingBlock, Layout, Segment, Sender, descriptor_at, has_lent}
-use Rattle.ring_laws.specs.TransmitPrelude.{is_ring_block}
-use Rattle.ring_laws.specs.TransmitPrelude.{no_segment, segment_at, slot_at}
-use Rattle.nic_device.specs.DmaRing.Ring.{next_of}
+use Rattle.ring_laws.specs.TransmitPrelude.{is_ring_block, no_segment, segment_at, slot_at}
 use Rattle.pmd_tx.proofs.PmdSeam.Places.{next_below, wrapped_apart, wrapped_below, wrapped_next}
-use Rattle.pmd_tx.specs.{PmdSeam.Slots.blocks_for, PmdSeam.Slots.descriptor_in, Sending.blocks_of}
 use Rattle.ring_laws.specs.Agreeing.{IsCounted, IsLayout, IsReady, Shows}
+use Rattle.std.proofs.{lemmas.Grind.common_steps, lemmas.Bool.both_ways, lemmas.Bool.eq-eqb, lemmas.Bool.or_right}
+use Rattle.std.proofs.{lemmas.List.get_or-take, lemmas.List.length-take-le}
+use Rattle.std.specs.List.{list_any}
+use Rattle.nic_device.specs.DmaRing.Ring.{next_of}
+use Rattle.pmd_tx.specs.{PmdSeam.Slots.blocks_for, PmdSeam.Slots.descriptor_in, Sending.blocks_of}
 use Rattle.ring_laws.proofs.Ring.{Stays, same_stays, slot_lent}
 use Rattle.std.specs.FinMap as map
 
@@ -36,11 +35,8 @@ module _ (l : Layout) (is : IsLayout l) where
   abbrev pub later : Layout
   later = record l { next = next_of l.size l.next }
 
-  pub slot-later : (k : ℕ) → k < l.size → slot_at later k ≡ slot_at l (k + 1)
-  slot-later k h = wrapped_next l.size l.next k is.next h
-
   pub descriptor-later : (k : ℕ) → k < l.size → descriptor_at later k ≡ descriptor_at l (k + 1)
-  descriptor-later k h = ap (descriptor_in l.ring) (slot-later k h)
+  descriptor-later k h = ap (descriptor_in l.ring) (wrapped_next l.size l.next k is.next h)
 
   pub later-layout : IsLayout later
   later-layout = record { some = is.some; few = is.few; next = next_below l.size l.next is.next; limit = is.limit }
@@ -91,12 +87,4 @@ module _ (m n : Memory) (v : Sender) (f : ℕ) (l : IsLayout v.layout) (c : IsCo
     slot k below = stays.slot (slot_at v.layout k) (slot-below v.layout l k below) tt
 
     pub shows-same : Shows n v f
-    shows-same = record {
-      ring = λ k below. stays.has k below ∙ h.ring k below;
-      ready = λ k i.
-          ready_stays stays (segment_at v k) (same (segment_at v k).block (has_lent-segment v k c.lent_known i))
-          (h.ready k i);
-      done = λ k i end.
-          slot k (omega (arith, c.room, c.lent_known, c.poked_lent, c.posted_poked, c.fetched_posted)) ∙ h.done k i end;
-      waits = λ k i j. slot k (omega (arith, c.room, c.lent_known, c.poked_lent)) ∙ h.waits k i j;
-    }
+    shows-same = grind (arith, common_steps, stays, ready_stays, has_lent-segment, slot)

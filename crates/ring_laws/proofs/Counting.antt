@@ -1,17 +1,16 @@
 -- The frames that a history sends: how they are counted, and that its replies tell them.
-use Rattle.std.proofs.Common.{[], if◌then◌else◌, ◌++◌, ◌+◌, ◌==◌, ◌∙◌, ◌∷◌, ◌≡◌, ◌≤◌, Bool, List, None, Some, ap}
-use Rattle.std.proofs.Common.{append_assoc, arith, false, inl, inr, length, length-append, map, refl, sym, true, ℕ}
+use Rattle.std.proofs.Common.{[], if◌then◌else◌, ◌++◌, ◌+◌, ◌==◌, ◌∙◌, ◌∷◌, ◌≡◌, ◌≤◌, Bool, List, None, Some, ℕ, ap}
+use Rattle.std.proofs.Common.{append_assoc, arith, false, inl, inr, length, length-append, map, refl, sym, true}
 use Rattle.std.proofs.lemmas.List.{append-nil, drop_at, map-append}
-use Rattle.std.{proofs.lemmas.Bool.cases_Bool, proofs.lemmas.Bool.eqb-true, specs.List.flat_map}
 use Rattle.history_laws.specs.Prelude.{Block, Entry, Event, IsEvent, IsSound, Reply, Sent, State, after, leads_to}
-use Rattle.history_laws.specs.Prelude.{reply_to}
-use Rattle.nic_device.proofs.{Answering.step_suits, Cases.either_way, Steps.keeps_sound}
-use Rattle.nic_device.specs.{Answering.may_answer, Transmit.with_frame}
-use Rattle.history_laws.proofs.Deeds.{added-none}
-use Rattle.history_laws.proofs.DeviceLaws.RepliesOut.{frames_out}
-use Rattle.history_laws.specs.DeviceLaws.Replies.{out_sent}
 use Rattle.ring_laws.specs.Counting.{IsEndOf, NeverGoesOn, SentIsCounted, SentIsTold, lengths_told}
 use Rattle.ring_laws.specs.Sent.{counted_by, frames_added, goes_on, sent_by, sent_in, sent_since}
+use Rattle.history_laws.specs.{Prelude.reply_to, DeviceLaws.Replies.out_sent}
+use Rattle.std.proofs.{lemmas.Grind.common_steps, lemmas.Bool.cases_Bool, lemmas.Bool.eqb-true}
+use Rattle.std.specs.List.{flat_map}
+use Rattle.nic_device.proofs.{Answering.step_suits, Cases.either_way, Steps.keeps_sound}
+use Rattle.nic_device.specs.{Answering.may_answer, Transmit.with_frame}
+use Rattle.history_laws.proofs.{Deeds.added-none, DeviceLaws.RepliesOut.frames_out}
 use Rattle.nic_device.specs.declared.event.Event.TheVariants as event
 
 -- The frames that a step of transmitting adds.
@@ -48,13 +47,7 @@ never queue s sent (e ∷ es) off =
 last : (queue : ℕ) (s : State) (sent : List (List ℕ)) (g : List Entry) (e : Entry) (h : List Entry)
     → goes_on queue (leads_to s g) e.event ≡ true → NeverGoesOn queue (after (leads_to s g) e.event) h
     → sent_since queue s sent (g ++ e ∷ h) ≡ sent_in queue (after (leads_to s g) e.event) h
-last queue s sent g e h goes off =
-    let u : State = leads_to s g in
-    let so_far : List (List ℕ) = sent_since queue s sent g in
-    joined queue s sent g (e ∷ h)
-    ∙ ap (λ (b : Bool). sent_since queue (after u e.event)
-    (if b then [] else so_far ++ sent_by queue u e.event) h) goes
-    ∙ never queue (after u e.event) [] h off
+last queue s sent g e h goes off = grind (arith, common_steps, joined, never)
 
 -- what is counted is an end of all
 
@@ -79,9 +72,7 @@ end queue s sent (e ∷ es) =
 -- an entry sends one frame at most
 
 few_added : (r : Reply Block) (s t : State) → out_sent r s t → length (frames_added s.out t.out) ≤ 1
-few_added (Sent queue len back) s t adds =
-    rw (adds.out, added-one s.out queue adds.frame) (let one : 1 ≤ 1 = omega arith in one)
-few_added other s t same = rw (same, added-none s.out) (let none : 0 ≤ 1 = omega arith in none)
+few_added r s t h1 = grind (arith, common_steps, added-one, added-none)
 
 few_by : (queue : ℕ) (s : State) (e : Event Block) → length (sent_by queue s e) ≤ 1
 few_by queue s (event.TxStep on) =
@@ -93,9 +84,7 @@ few_by queue s other = omega arith
 
 few_counted : (queue : ℕ) (s : State) (e : Event Block) (sent : List (List ℕ))
     → length (counted_by queue s e sent) ≤ length sent + 1
-few_counted queue s e sent =
-    either_way (λ (l : List (List ℕ)). length l ≤ length sent + 1) (goes_on queue s e) [] (sent ++ sent_by queue s e)
-    (omega arith) (omega (arith, length-append sent (sent_by queue s e), few_by queue s e))
+few_counted queue s e sent = grind (arith, common_steps, either_way, length-append, few_by)
 
 few : (queue : ℕ) (s : State) (sent : List (List ℕ)) (h : List Entry)
     → length (sent_since queue s sent h) ≤ length sent + length h
@@ -120,11 +109,8 @@ none_told false none is = refl
 
 transmitted_told : (queue on : ℕ) (s t : State) (r : Reply Block) → may_answer (event.TxStep on) r ≡ true
     → out_sent r s t → map length (if on == queue then frames_added s.out t.out else []) ≡ lengths_told queue r
-transmitted_told queue on s t (Sent own len back) fits adds =
-    rw (eqb-true own on fits, adds.out, added-one s.out own adds.frame)
-    (one_told (on == queue) adds.frame len adds.long)
-transmitted_told queue on s t other fits same =
-    none_told (on == queue) (frames_added s.out t.out) (rw same (added-none s.out))
+transmitted_told queue on s t r h1 h2 =
+    grind (arith, common_steps, eqb-true, added-one, one_told, none_told, added-none)
 
 -- no other event is answered so
 

@@ -1,34 +1,30 @@
 -- What the driver handed out, and what a history from any sound device on delivered.
 pub use Rattle.history_laws.proofs.Alone.{lent_behind}
-use Rattle.std.proofs.Common.{[], ◌&&◌, ◌++◌, ◌∙◌, ◌∷◌, ◌≡◌, ◌≢◌, ◌≤◌, ◌⊎◌, Bool, List, None, Option, Some, ap}
-use Rattle.std.proofs.Common.{append_assoc}
-use Rattle.std.proofs.Common.{arith, cond, false, inl, inr, length, nat_lt, refl, subst, sym, true, ℕ}
+use Rattle.std.proofs.Common.{[], ◌&&◌, ◌++◌, ◌∙◌, ◌∷◌, ◌≡◌, ◌≢◌, ◌≤◌, ◌⊎◌, Bool, List, None, Option, Some, ℕ, ap}
+use Rattle.std.proofs.Common.{append_assoc, arith, cond, false, inl, inr, length, nat_lt, refl, subst, sym, true}
 use Rattle.std.proofs.lemmas.Bool.{and_from, both_ways, cases_Bool, cases_lt, eq-eqb, eqb-false, eqb-true, lt-ltb}
 use Rattle.std.proofs.lemmas.List.{append-nil, length-append, nil_from_length}
-use Rattle.std.proofs.lemmas.Bool.{or_left, or_right}
-use Rattle.std.specs.Prelude.{◌==◌, IsFalse, IsTrue}
 use Rattle.history_laws.specs.Prelude.{AreEvents, Block, Blocks, Entry, EntryLeavesAlone, Event, IsEvent, IsLegal}
 use Rattle.history_laws.specs.Prelude.{IsSound, Reply, Rx, State, Watched, after, calls_of, is_on, leads_to, lent_by}
-use Rattle.history_laws.specs.Prelude.{mode_in, reply_to}
 use Rattle.ring_laws.specs.ReceivePrelude.{IsOwn, Kept, Looks, Packet, Receive, Stage, Told, drive, ended_of, is_step}
-use Rattle.ring_laws.specs.ReceivePrelude.{kept_of, records_of}
-use Rattle.nic_device.proofs.Steps.{keeps_sound, step_leads}
 use Rattle.device_lock.proofs.Histories.{events_before, events_behind, leads-append, legal_behind}
+use Rattle.ring_laws.proofs.Foreign.{entry_keeps, entry_stays_up, left_up, own_stays_up}
+use Rattle.ring_laws.specs.Delivered.{IsPrefixOf, delivered, packets_if_any, pieces_in, pieces_since}
+use Rattle.ring_laws.specs.Histories.{AllSpare, FindsNone, IsDriven, NoneIsAllBefore, ShowsNone, Spares, SparesReceive}
+use Rattle.ring_laws.specs.Joint.{Agree, AreOpen, AreSeen, InOrder, IsAt, packets_had, still_held}
+use Rattle.ring_laws.specs.Pieces.{Piece, packet_told, packets_behind, packets_of, pieces}
+use Rattle.std.proofs.{lemmas.Bool.or_left, lemmas.Bool.or_right, lemmas.Grind.common_steps}
+use Rattle.history_laws.specs.{Prelude.mode_in, Prelude.reply_to, Alone.AllAlone, Lent.LendsOneOf}
+use Rattle.ring_laws.specs.{ReceivePrelude.kept_of, ReceivePrelude.records_of, Histories.mark_of, Histories.marks_after}
+use Rattle.ring_laws.specs.{Steps.Each, Steps.IsMetBy, Steps.OwnReportsSpare, ReceiveUp.IsUp}
+use Rattle.std.specs.Prelude.{◌==◌, IsFalse, IsTrue}
+use Rattle.nic_device.proofs.Steps.{keeps_sound, step_leads}
 use Rattle.device_lock.specs.{Alone.lends, Alone.lent_in, History.call_in, declared.entry.Call.Call}
 use Rattle.pmd_rx.specs.Plays.{AllOwn, after_call, played_by}
 use Rattle.history_laws.proofs.{Alone.alone_by_entries, Alone.histories_sound, Steady.not_again}
-use Rattle.history_laws.specs.{Alone.AllAlone, Lent.LendsOneOf}
-use Rattle.ring_laws.proofs.Foreign.{entry_keeps, entry_stays_up, left_up, own_stays_up}
-use Rattle.ring_laws.specs.Delivered.{IsPrefixOf, delivered, packets_if_any, pieces_in, pieces_since}
-use Rattle.ring_laws.specs.Histories.{AllSpare, FindsNone, IsDriven, NoneIsAllBefore}
-use Rattle.ring_laws.specs.Histories.{ShowsNone, Spares, SparesReceive, mark_of, marks_after}
-use Rattle.ring_laws.specs.Joint.{Agree, AreOpen, AreSeen, InOrder, IsAt, packets_had, still_held}
-use Rattle.ring_laws.specs.Pieces.{Piece, packet_told, packets_behind, packets_of, pieces}
-use Rattle.ring_laws.proofs.{Leaving.leaving_keeps, Leaving.look_tells, ReceiveLent.mine_driven}
-use Rattle.ring_laws.proofs.{Own.own_keeps, Parts.none_ended}
-use Rattle.ring_laws.specs.{Steps.Each, Steps.IsMetBy, Steps.OwnReportsSpare, ReceiveUp.IsUp}
+use Rattle.ring_laws.proofs.{Leaving.leaving_keeps, Leaving.look_tells, ReceiveLent.mine_driven, Own.own_keeps}
+use Rattle.ring_laws.proofs.{Parts.none_ended}
 use Rattle.nic_device.specs.declared.event.Event.TheVariants as event
-use Rattle.nic_device.specs.declared.event.Reply.TheVariants as reply
 
 -- What the agreement says of the packets that were handed out.
 
@@ -39,10 +35,7 @@ packets_held out v gone here o = ap packets_of o.order ∙ o.cut here
 -- what was handed out is a beginning of what was delivered
 pub handed_first : (queue : ℕ) (s : State) (out : List Piece) (v : Receive) → Agree queue s out v
     → IsPrefixOf v.handed (packets_of out)
-handed_first queue s out v (gone, here, h) =
-    let next = records_of (v.whole ++ ended_of v.seen v.held) in
-    let behind = packets_behind (kept_of (still_held v)).bytes here in
-    (next ++ behind, sym (packets_held out v gone here h.order ∙ append_assoc v.handed next behind))
+handed_first queue s out v h1 = grind (arith, common_steps, packets_held, append_assoc)
 
 -- pieces of which none ends its packet make none
 none_whole : (front : List ℕ) (seen : List Told) (here : List Piece) → AreOpen seen → AreSeen seen here
@@ -101,10 +94,7 @@ lends_mine : (pass : ℕ) (mine : Blocks) (v : Receive) (own : ℕ) (e : Event B
     → IsOwn v e
     → ((n : ℕ) → IsTrue (nat_lt n 65536 && ((own == pass) && lends e r n)) → IsTrue (mine n))
     → LendsOneOf mine e r
-lends_mine pass mine v own (event.Lend b) reply.Done same may all =
-    all b.number (and_from _ _ (lt-ltb b.number 65536 may.may.low)
-    (and_from _ _ (eq-eqb own pass same) (eq-eqb b.number b.number refl)))
-lends_mine pass mine v own e r same may all = tt
+lends_mine pass mine v own e r h1 h2 h3 = grind (arith, common_steps, and_from, lt-ltb, eq-eqb)
 
 module _ (w : Watched) (mine : Blocks) (s : State) (out : List Piece) (v : Receive) (e : Entry)
     (m : Meets w mine s out v) (legal : e.reply ≡ reply_to s e.event) (made : IsEvent e.event)
@@ -309,9 +299,7 @@ no_rest hs xs ys is =
     nil_from_length xs (omega (arith, long, length-append (hs ++ xs) ys, length-append hs xs))
 
 pub between : (hs ds ks : List Kept) → IsPrefixOf hs ds → IsPrefixOf ds ks → ks ≡ hs → hs ≡ ds
-between hs ds ks (xs, is) (ys, then) same =
-    let none : xs ≡ [] = no_rest hs xs ys (ap (λ (ks : List Kept). ks ++ ys) is ∙ then ∙ same) in
-    sym (append-nil hs) ∙ ap (λ (ks : List Kept). hs ++ ks) (sym none) ∙ is
+between hs ds ks h1 h2 h3 = grind (arith, common_steps, no_rest, append-nil)
 
 pub none_is_all_before : NoneIsAllBefore
 none_is_all_before w origin start before rest v early marks d e finds same =

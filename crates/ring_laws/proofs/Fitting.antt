@@ -1,28 +1,27 @@
 -- The frames that wait for a queue: they are as short as the driver's packets, and so are the pieces that are written.
-use Rattle.std.proofs.Common.{[], ◌&&◌, ◌*◌, ◌++◌, ◌+◌, ◌-◌, ◌<◌, ◌∙◌, ◌∷◌, ◌≡◌, ◌≢◌, ◌≤◌, Bool, Err, List, Ok, ap}
-use Rattle.std.proofs.Common.{arith, cond, drop, false, inl, inr, length, min, refl, subst, sym, take, true, ℕ}
+use Rattle.std.proofs.Common.{[], ◌&&◌, ◌*◌, ◌++◌, ◌+◌, ◌-◌, ◌<◌, ◌∙◌, ◌∷◌, ◌≡◌, ◌≢◌, ◌≤◌, Bool, Err, List, Ok, ℕ, ap}
+use Rattle.std.proofs.Common.{arith, cond, drop, false, inl, inr, length, min, refl, subst, sym, take, true}
 use Rattle.std.proofs.lemmas.Bool.{and_parts, both_ways, cases_eq, cases_lt, cond_both, eq-eqb, eqb-true, ne_eqb}
 use Rattle.std.proofs.lemmas.List.{append-nil, length-drop, length-take}
 use Rattle.std.proofs.lemmas.List.Elements.{All-cons, All-filter, All-head, All-nil, All-push, All-tail}
-use Rattle.std.specs.Prelude.{◌==◌, All, Result, filter, not}
 use Rattle.history_laws.specs.Prelude.{Block, Event, Filled, IsSound, Memory, Outcome, RingFault, Rx, State, Waiting}
 use Rattle.history_laws.specs.Prelude.{WritesNoSetting, after, buffer_size_of, frame_limit, has_queue, is_on, is_wanted}
 use Rattle.history_laws.specs.Prelude.{mode_in, piece_of, receive_queue_of, rest_of, step_of}
-use Rattle.ring_laws.specs.ReceivePrelude.{Receive}
-use Rattle.nic_device.proofs.{Cases.either_way, QueueCases.filled_by, QueueCases.received_cases}
-use Rattle.nic_device.proofs.{RxRing.Fills.takes_piece}
-use Rattle.nic_device.specs.{Arrival.let_in, Receive.after_piece, RegisterFile.Settings.drops}
-use Rattle.nic_device.specs.{Sound.AreWaiting, Sound.IsBegunWhileOn}
-use Rattle.nic_device.specs.{Sound.IsUnbegun, Switching.without_part}
-use Rattle.history_laws.proofs.{Deeds.step_cases, Lent.Changes, Lent.waiting_changed}
-use Rattle.history_laws.proofs.DeviceLaws.{KeptSettings.settings_stand, Settings.no_reset}
+use Rattle.nic_device.proofs.QueueCases.{filled_by, received_cases}
+use Rattle.nic_device.specs.Sound.{AreWaiting, IsBegunWhileOn, IsUnbegun}
+use Rattle.history_laws.proofs.DeviceLaws.KeptSettings.{settings_stand}
 use Rattle.ring_laws.specs.Fitting.{AreFitting, FitsBlocks, FramesStayFitting, NoneBegunWhileOff, ResetsNoPool}
 use Rattle.ring_laws.specs.Pieces.{AllFit, Fits, Piece, first_of, open_after, pieces, pieces_told}
+use Rattle.ring_laws.proofs.Begun.{either_zero, gone, unbegun_none}
+use Rattle.ring_laws.specs.{Fitting.begun_on, ReceivePrelude.Receive, Joint.Holds, ReceiveUp.IsUp}
+use Rattle.std.proofs.lemmas.Grind.{common_steps}
+use Rattle.std.specs.Prelude.{◌==◌, All, Result, filter, not}
+use Rattle.nic_device.proofs.{Cases.either_way, RxRing.Fills.takes_piece}
+use Rattle.nic_device.specs.{Arrival.let_in, RegisterFile.Settings.drops, Switching.without_part}
+use Rattle.history_laws.proofs.{Deeds.step_cases, Lent.Changes, Lent.waiting_changed, DeviceLaws.Settings.no_reset}
 use Rattle.ring_laws.proofs.{Parts.open_pushed, Receiving.no_fault, Receiving.room_left}
-use Rattle.ring_laws.specs.{Fitting.begun_on, Joint.Holds, ReceiveUp.IsUp}
 use Rattle.nic_device.specs.declared.event.Event.TheVariants as event
 use Rattle.nic_device.specs.Receive as receive
-use Rattle.ring_laws.proofs.Begun.{either_zero, gone, unbegun_none}
 
 -- The frames that wait for a queue stay as short as its driver's packets.
 
@@ -131,9 +130,7 @@ module _ (queue most : ℕ) (s : State) (out : List Piece) (v : Receive) (gone h
 
     -- the frame goes where nothing is written of it for the queue
     leaves : begun_on queue (w ∷ others) ≡ 0 → Goes others []
-    leaves none =
-        none_written others
-        (unbegun_none queue others are.1 ∙ sym none ∙ ap (λ (ws : List Waiting). begun_on queue ws) (sym e))
+    leaves none = grind (arith, common_steps, none_written, unbegun_none, are)
 
     not_ours : w.queue ≢ queue → begun_on queue (w ∷ others) ≡ 0
     not_ours ne = other_first queue w others (ne_eqb w.queue queue ne)
@@ -206,12 +203,6 @@ module _ (queue most : ℕ) (s : State) (out : List Piece) (v : Receive) (gone h
           ap (λ (b : Bool). cond b (w.offset + f.len) 0) (eq-eqb w.queue queue own)
           ∙ (let z : w.offset + f.len ≡ 2048 * (n + 1) = omega (arith, begun, go.0) in z)
 
-      writes_own : Goes (receive.after_piece w others f) (piece ∷ [])
-      writes_own = (
-        next f.end refl ∙ ap (λ (k : ℕ). 2048 * k) (sym (open_pushed 0 out piece)),
-        fit-push most 0 out piece fit.pieces fits,
-      )
-
     writes_other : (f : Filled) → w.queue ≢ queue → Goes (receive.after_piece w others f) []
     writes_other f ne =
         none_written (receive.after_piece w others f)
@@ -223,7 +214,7 @@ module _ (queue most : ℕ) (s : State) (out : List Piece) (v : Receive) (gone h
     writes : (f : Filled) → (filled_by s w).answer ≡ Ok f → (memory : Memory)
         → Step (receive.slot_done s w others (Ok f) memory)
     writes f is memory = elim (cases_eq w.queue queue) [
-      | inl own ↦ rw (eq-eqb w.queue queue own) (writes_own f is own)
+      | inl own ↦ rw (eq-eqb w.queue queue own) (grind (arith, common_steps, next, open_pushed, fit-push, fits))
       | inr ne ↦ rw (ne_eqb w.queue queue ne) (writes_other f ne)
     ]
 
@@ -281,14 +272,7 @@ frames_stay_fitting queue most s out v e sound (gone, here, h) up fit none spare
 
 off_first : (queue : ℕ) (s : State) (w : Waiting) → IsBegunWhileOn s.registers w
     → is_on s.registers Rx queue ≡ false → (ours : Bool) → (w.queue == queue) ≡ ours → cond ours w.offset 0 ≡ 0
-off_first queue s w begun off true is = elim (cases_lt 0 w.offset) [
-  | inl some ↦
-      let own = eqb-true w.queue queue is in
-      absurd (both_ways (is_on s.registers Rx queue) off
-      (subst (λ (q : ℕ). is_on s.registers Rx q ≡ true) own (begun some)))
-  | inr none ↦ omega (arith, none)
-]
-off_first queue s w begun off false is = refl
+off_first queue s w h1 h2 ours h3 = grind (arith, common_steps, begun, eqb-true, both_ways)
 
 off_begun : (queue : ℕ) (s : State) (ws : List Waiting) → All (IsBegunWhileOn s.registers) ws
     → is_on s.registers Rx queue ≡ false → begun_on queue ws ≡ 0

@@ -1,28 +1,26 @@
 -- Events that aren't the driver's own: they keep the agreement, and a side up that is.
-use Rattle.std.proofs.Common.{[], ◌++◌, ◌/◌, ◌<◌, ◌^◌, ◌∙◌, ◌∷◌, ◌≡◌, ◌≢◌, ◌≤◌, ◌⊎◌, List, Ok, ℕ, ap, arith, inl, inr}
+use Rattle.std.proofs.Common.{[], ◌++◌, ◌/◌, ◌<◌, ◌∙◌, ◌∷◌, ◌≡◌, ◌≢◌, ◌≤◌, ◌⊎◌, List, Ok, ℕ, ap, arith, length, refl}
 use Rattle.history_laws.specs.Prelude.{Block, Blocks, Entry, EntryLeavesAlone, Event, Filled, IsSound, LeavesBlock}
 use Rattle.history_laws.specs.Prelude.{LeavesBlocks, LeavesRegisters, Memory, Mode, Reply, Rx, State, Tx, Waiting}
-use Rattle.history_laws.specs.Prelude.{Watched, WritesNoSetting, Wrote, after, is_on, is_wanted, mode_in}
+use Rattle.history_laws.specs.Prelude.{Watched, WritesNoSetting, Wrote, after, mode_in, receive_queue_of, reply_to}
 use Rattle.ring_laws.specs.ReceivePrelude.{Layout, Receive, block_at, is_step, reach, slot_at}
 use Rattle.history_laws.proofs.Deeds.{left_deed, left_did, receiving_did, side_did, switching_did}
-use Rattle.history_laws.proofs.Leaving.{left-setting, left-side, receive_left, receive_of}
-use Rattle.history_laws.specs.Left.{Deed, Did, IsLeft, Rested, Rests, Shuts, Takes, Took, fill_on}
-use Rattle.ring_laws.proofs.Receiving.{buffer_is, filled_holds, head_is, no_fault, room_left}
+use Rattle.history_laws.proofs.Leaving.{left-setting, left-side, receive_left}
+use Rattle.history_laws.specs.Left.{Deed, Did, IsLeft, Rested, Rests, Shuts, Took, fill_on}
+use Rattle.ring_laws.proofs.Receiving.{buffer_is, filled_holds, head_is, no_fault, slot_left}
 use Rattle.ring_laws.specs.Steps.{Each, EnableStepKeeps, EntryKeeps, IsMetBy, OwnReportsSpare, ReceiveStepKeeps}
 use Rattle.ring_laws.specs.ReceiveUp.{EnableStepChangesNothing, EntryStaysUp, IsUp, LeavingStaysUp, OwnEventStaysUp}
-use Rattle.std.proofs.{Common.length, Common.refl, Common.subst, Common.sym, Common.true, lemmas.Bool.cases_eq}
-use Rattle.std.proofs.{lemmas.Bool.cases_lt, lemmas.Bool.eq-eqb, lemmas.List.append-nil}
-use Rattle.history_laws.specs.{Prelude.receive_queue_of, Prelude.reply_to, Prelude.rest_of, Prelude.step_of}
-use Rattle.history_laws.specs.{Segments.piece_in, Sides.IsTried, Sides.side_of}
-use Rattle.history_laws.proofs.{Blocks.IsSparedBy, Blocks.reported_elsewhere, Blocks.spared_block, Steady.resting_same}
-use Rattle.history_laws.proofs.{Steady.up_kept, DeviceLaws.Delivered.told-lt, DeviceLaws.KeptSettings.settings_stand}
-use Rattle.history_laws.proofs.{DeviceLaws.Standing.stays_within, DeviceLaws.StandingQueues.switching_rest}
+use Rattle.history_laws.proofs.Blocks.{IsSparedBy, reported_elsewhere, spared_block}
+use Rattle.std.proofs.{Common.subst, Common.sym, Common.true, lemmas.Grind.common_steps, lemmas.Bool.eq-eqb}
+use Rattle.std.proofs.{lemmas.List.append-nil}
+use Rattle.history_laws.specs.{Prelude.rest_of, Prelude.step_of, Segments.piece_in}
 use Rattle.ring_laws.specs.{Steps.SparesBlocks, ReceiveUp.ReceiveStepStaysUp, Inside.IsInRing, Inside.IsInside}
 use Rattle.ring_laws.specs.{Inside.PieceIsInside, Joint.Agree, Joint.Holds, Pieces.Piece, Pieces.pieces}
 use Rattle.ring_laws.specs.{Pieces.pieces_told}
+use Rattle.history_laws.proofs.{Steady.resting_same, Steady.up_kept, DeviceLaws.KeptSettings.settings_stand}
+use Rattle.history_laws.proofs.{DeviceLaws.Standing.stays_within, DeviceLaws.StandingQueues.switching_rest}
 use Rattle.std.specs.Prelude.{IsTrue, ⊤}
 use Rattle.nic_device.proofs.RxRing.Fills.{takes_piece}
-use Rattle.nic_device.specs.{Sound.AreWaiting, Switching.queue_switched}
 use Rattle.pmd_rx.proofs.PmdSeam.Rings.{slot_block, slot_lies}
 use Rattle.pmd_rx.specs.PmdSeam.Slots.{descriptor_in}
 use Rattle.ring_laws.proofs.{Kept.posted_block, Kept.slot_below, Ring.bytes_inside, Leaving.switching_keeps}
@@ -43,10 +41,6 @@ no_registers w mode mine other is = (tt, tt)
 
 -- What an event does to the queue's receive side keeps the agreement, with the piece that it writes, if any.
 
-pub slot_left : {queue : ℕ} {s : State} {out : List Piece} {v : Receive} {gone here : List Piece}
-    → Holds queue s out v gone here → IsTried (side_of Rx queue s) → length here < length v.layout.blocks
-slot_left {v = v} {here = here} h tried = room_left h tried.some (cases_lt (length here) (length v.layout.blocks))
-
 pub never_shuts : (queue : ℕ) (s : State) (out : List Piece) (v : Receive) (e : Event Block) → Agree queue s out v
     → Shuts Rx queue s e → ⊥
 never_shuts queue s out v e (gone, here, h) x =
@@ -57,17 +51,6 @@ module _ (queue : ℕ) (s : State) (out : List Piece) (v : Receive) (sound : IsS
   abbrev t : State
   t = after s e
 
-  took : Takes Rx queue s e → Agree queue t (out ++ pieces queue s e) v
-  took x =
-      let w = x.work in
-      let fit : (rest_of w.frame).first < 2 ^ 64 = told-lt w.frame (subst AreWaiting w.first.waits sound.waiting).0 in
-      subst (λ xs. Agree queue t (out ++ xs) v) (sym w.piece) (
-        j.0,
-        j.1 ++ piece_in (rest_of w.frame) w.filled ∷ [],
-        filled_holds queue s out v sound j.0 j.1 j.2 (slot_left j.2 x.tried) (rest_of w.frame) w.filled t fit w.answer
-            w.memory (ap receive_of x.side) (settings_stand s e none).mode (stays_within s e).vfs,
-      )
-
   -- where no slot is taken nothing of it changes but whether the side is on
   pub rested : Rests Rx queue s e → Each v (λ b. LeavesBlock b s t) → Agree queue t out v
   rested rests blocks =
@@ -77,17 +60,14 @@ module _ (queue : ℕ) (s : State) (out : List Piece) (v : Receive) (sound : IsS
 
   pub deed_keeps : Deed Rx queue s e → (pieces queue s e ≡ [] → Each v (λ b. LeavesBlock b s t))
       → Agree queue t (out ++ pieces queue s e) v
-  deed_keeps (Took x) blocks = took x
+  deed_keeps (Took x) blocks = subst (λ xs. Agree queue t (out ++ xs) v) (sym x.work.piece)
+      (j.0, j.1 ++ piece_in (rest_of x.work.frame) x.work.filled ∷ [], filled_holds j.2 sound e none x)
   deed_keeps (Rested no_piece rests) blocks = rw (no_piece, append-nil out) (rested rests (blocks no_piece))
 
 -- a step of receiving that writes no piece on the queue spares the driver's blocks
 spares_each : (queue : ℕ) (v : Receive) (ws : List Waiting) (r : Reply Block) → pieces_told queue ws r ≡ []
     → SparesBlocks queue v r → Each v (λ b. IsSparedBy r b)
-spares_each queue v ws (Wrote on slot end desc at len) none spares b lent = elim (cases_eq on queue) [
-  | inl own ↦ absurd (let e = rw (eq-eqb on queue own) at none in cc)
-  | inr ne ↦ spares ne b lent
-]
-spares_each queue v ws other none spares b lent = tt
+spares_each queue v ws r h1 h2 = grind (arith, common_steps, eq-eqb)
 
 pub receive_keeps : ReceiveStepKeeps
 receive_keeps queue s out v sound j spares =
@@ -144,10 +124,6 @@ piece_inside queue s out v sound (gone, here, h) slot end desc at len is = elim 
 -- A step of the enable of the queue's receive side keeps the agreement; and where the side is on and wanted on nothing
 -- changes.
 
-pub switched_same : (s : State) (queue : ℕ) → is_wanted s.registers Rx queue ≡ true → is_on s.registers Rx queue ≡ true
-    → (queue_switched s Rx queue).state ≡ s
-switched_same s queue wanted on = grind arith
-
 pub enable_keeps : EnableStepKeeps
 enable_keeps queue s out v sound j =
     rested queue s out v sound j (event.QueueStep Rx queue) tt (switching_did queue s sound j.2.named.low Rx)
@@ -160,7 +136,7 @@ left_up queue s t left up = subst sides.IsUp (sym (receive_left queue s t left))
 
 pub enable_same : EnableStepChangesNothing
 unfolding step_of
-enable_same queue s up = switched_same s queue up.wanted up.on
+enable_same queue s up = grind arith
 
 deed_up : (queue : ℕ) (s : State) (out : List Piece) (v : Receive) (e : Event Block) → Agree queue s out v
     → Deed Rx queue s e → IsUp queue s → IsUp queue (after s e)
@@ -186,10 +162,7 @@ module _ (queue : ℕ) (mine : Blocks) (s : State) (v : Receive) (sound : IsSoun
   -- neither a report of the queue's own nor what another queue's steps write is in one of the driver's blocks
   spared : (e : Event Block) → Did queue mine s e → pieces queue s e ≡ [] → Deed Tx queue s e
       → Each v (λ b. LeavesBlock b s (after s e))
-  spared e did none (Took x) =
-      subst (λ (n : Event Block). Each v (λ b. LeavesBlock b s (after s n))) (sym x.work.is)
-      (λ b lent. reported_elsewhere s sound queue b (λ back told. spare back told b lent))
-  spared e did none (Rested silent rests) = λ b lent. did.blocks none silent b (m b lent)
+  spared e h1 h2 h3 = grind (arith, common_steps, reported_elsewhere)
 
 -- an event that leaves the queue and all these blocks alone
 pub left_keeps : (w : Watched) (mine : Blocks) (s : State) (out : List Piece) (v : Receive) (e : Event Block)

@@ -1,26 +1,21 @@
 -- The ring of a driver that receives: its places, its blocks, and what stays where memory does.
 pub use Rattle.ring_laws.proofs.Ring.{inside_of}
-use Rattle.std.proofs.Common.{[], ◌*◌, ◌++◌, ◌+◌, ◌/◌, ◌<◌, ◌∙◌, ◌∷◌, ◌≡◌, ◌≤◌, ◌⊎◌, List, ap}
-use Rattle.std.proofs.Common.{append_assoc, arith, drop, false, inl, inr, length, refl, subst, suc, sym, take, true, ℕ}
+use Rattle.std.proofs.Common.{[], ◌*◌, ◌++◌, ◌+◌, ◌/◌, ◌<◌, ◌∙◌, ◌∷◌, ◌≡◌, ◌≤◌, ◌⊎◌, List, ℕ, ap, append_assoc, arith}
+use Rattle.std.proofs.Common.{drop, false, inl, inr, length, refl, subst, suc, sym, true}
 use Rattle.std.proofs.lemmas.List.{get_or_append_left, get_or_push, length-append, length_push, take-append-drop}
-use Rattle.std.specs.Prelude.{slice_index}
-use Rattle.std.proofs.{lemmas.Bool.Decides.nat_tests}
-use Rattle.history_laws.specs.Prelude.{Block, Memory, State}
-use Rattle.history_laws.specs.Prelude.{mode_in}
-use Rattle.ring_laws.specs.ReceivePrelude.{Layout, Lent, Receive, Stage, Told, block_at, descriptor_at}
+use Rattle.history_laws.specs.Prelude.{Block, Memory, State, mode_in}
+use Rattle.ring_laws.specs.ReceivePrelude.{EachRingBlock, Layout, Lent, Receive, Stage, Told, block_at, descriptor_at}
 use Rattle.ring_laws.specs.ReceivePrelude.{extended, fresh_of, is_ring_block, names, posts, reach, slot_at, took}
-use Rattle.ring_laws.specs.ReceivePrelude.{wrapped}
-use Rattle.pmd_rx.{specs.Receive.consumed}
-use Rattle.history_laws.proofs.Leaving.{named-same}
 use Rattle.ring_laws.specs.Joint.{HasSlots, IsFilled, IsNamed, IsPosted, IsRing, StageHolds}
-use Rattle.ring_laws.proofs.Ring.{Stays}
-use Rattle.ring_laws.specs.ReceivePrelude.{EachRingBlock}
-use Rattle.pmd_rx.specs.{Keeping.fresh_block, Keeping.has_lent, PmdSeam.Slots.ring_blocks}
 use Rattle.pmd_rx.proofs.PmdSeam.Rings.{each_ring_block, ring_block_among, ring_block_is}
 use Rattle.std.proofs.lemmas.Bool.{eq-eqb, eqb-true, or_cases, or_left, or_right}
-use Rattle.std.{proofs.lemmas.List.Folds.list_any-append, proofs.lemmas.List.Folds.list_any_at, specs.List.list_any}
-use Rattle.std.specs.Prelude.{◌==◌, ◌||◌, Bool}
-use Rattle.ring_laws.specs.{Pieces.Piece, Steps.Each, Steps.IfFresh}
+use Rattle.std.proofs.lemmas.List.Folds.{list_any-append, list_any_at}
+use Rattle.ring_laws.specs.{ReceivePrelude.wrapped, Pieces.Piece, Steps.Each, Steps.IfFresh}
+use Rattle.std.proofs.{lemmas.Grind.common_steps, lemmas.Bool.Decides.nat_tests}
+use Rattle.std.specs.{Prelude.◌==◌, Prelude.◌||◌, Prelude.Bool, Prelude.slice_index, List.list_any}
+use Rattle.pmd_rx.specs.{Receive.consumed, Keeping.fresh_block, Keeping.has_lent, PmdSeam.Slots.ring_blocks}
+use Rattle.history_laws.proofs.Leaving.{named-same}
+use Rattle.ring_laws.proofs.Ring.{Stays}
 
 -- Places around a ring, and the addresses of its descriptors and buffers.
 
@@ -49,10 +44,7 @@ posted_block v k is = get_or_append_left v.layout.blocks v.named 0 k is
 pub push_place : (xs : List ℕ) (b k : ℕ) (P : ℕ → Type 0) → k < length (xs ++ b ∷ [])
     → (k < length xs → P (slice_index xs k)) → (k ≡ length xs → P b) → (k < length xs) ⊎ (length xs ≤ k)
     → P (slice_index (xs ++ b ∷ []) k)
-push_place xs b k P i f g (inl low) = subst P (sym (get_or_append_left xs (b ∷ []) 0 k low)) (f low)
-push_place xs b k P i f g (inr high) =
-    let e : k ≡ length xs = omega (arith, length_push xs b, i, high) in
-    subst P (sym (get_or_push xs b 0 k (sym e))) (g e)
+push_place xs b k P h1 h2 h3 h4 = grind (arith, common_steps, get_or_append_left, length_push, get_or_push)
 
 -- a layout with other blocks
 with_blocks : (l : Layout) (xs ys : List ℕ) → xs ≡ ys → record l { blocks = xs } ≡ record l { blocks = ys }
@@ -71,14 +63,8 @@ pub took_reach : (v : Receive) (t : Told) (ts : List Told) (b : Block) → 0 < l
     → consumed (reach v) ≡ reach (took v (t ∷ ts) b)
 took_reach v t ts b some = with_blocks (consumed v.layout) _ _ (drop_front v.layout.blocks v.named some)
 
--- the tail moves on: the same slots have a block
-pub posts_blocks : (v : Receive) (k j : ℕ) → (reach v).blocks ≡ (reach (posts v k j)).blocks
-posts_blocks v k j =
-    ap (λ (bs : List ℕ). v.layout.blocks ++ bs) (sym (take-append-drop k v.named))
-    ∙ sym (append_assoc v.layout.blocks (take k v.named) (drop k v.named))
-
 pub posts_reach : (v : Receive) (k j : ℕ) → reach v ≡ reach (posts v k j)
-posts_reach v k j = with_blocks v.layout _ _ (posts_blocks v k j)
+posts_reach v k j = with_blocks v.layout _ _ (grind (arith, common_steps, take-append-drop, append_assoc))
 
 -- Facts of each block that the driver has lent for receiving: of those that the ring is in, of those of its slots up to
 -- the last named one, and of a fresh one.
@@ -88,12 +74,6 @@ among xs n = list_any (λ b. n == b) xs
 
 among-both : (xs ys : List ℕ) (n : ℕ) → among (xs ++ ys) n ≡ (among xs n || among ys n)
 among-both xs ys n = list_any-append (λ (b : ℕ). n == b) xs ys
-
--- each of some blocks that come before others
-among_first : (xs ys : List ℕ) (k : ℕ) → k < length xs → among (xs ++ ys) (slice_index xs k) ≡ true
-among_first xs ys k below =
-    list_any_at (λ b. slice_index xs k == b) (xs ++ ys) k 0 (omega (arith, below, length-append xs ys))
-    (eq-eqb _ _ (sym (get_or_append_left xs ys 0 k below)))
 
 -- where a block is in a list
 any_place : (xs : List ℕ) (n : ℕ) → among xs n ≡ true → (k : ℕ) × (k < length xs) × (slice_index xs k ≡ n)
@@ -114,20 +94,9 @@ module _ (v : Receive) where
   -- it has lent a block by where that is
   pub parted : (n : ℕ) → has_lent v n
       ≡ (among slots_of n || (among (fresh_block v.stage) n || is_ring_block v.layout.ring v.layout.size n))
-  parted n =
-      among-both slots_of (fresh_block v.stage ++ ring_of) n
-      ∙ ap (λ (b : Bool). among slots_of n || b)
-      (among-both (fresh_block v.stage) ring_of n
-      ∙ ap (λ (b : Bool). among (fresh_block v.stage) n || b) (ring_block_among v.layout.ring v.layout.size n))
+  parted n = grind (arith, common_steps, among-both, ring_block_among)
 
   module _ (P : ℕ → Type 0) where
-    fresh_is : (n : ℕ) (stage : Stage) → IfFresh stage P → among (fresh_block stage) n ≡ true → P n
-    fresh_is n (Lent b) is has = elim (or_cases (n == b) false has) as (λ _. P n) [
-      | inl same ↦ subst P (sym (eqb-true n b same)) is
-      | inr none ↦ cc
-    ]
-    fresh_is n other is has = cc
-
     pub each_by : EachRingBlock v.layout.ring v.layout.size P
         → ((k : ℕ) → k < length slots_of → P (block_at (reach v) k)) → IfFresh v.stage P → Each v P
     each_by ring slots fresh n has =
@@ -136,33 +105,25 @@ module _ (v : Receive) where
         as (λ _. P n) [
           | inl slot ↦ let (k, known, same) = any_place slots_of n slot in subst P same (slots k known)
           | inr rest ↦ elim (or_cases (among (fresh_block v.stage) n) own rest) as (λ _. P n) [
-            | inl is ↦ fresh_is n v.stage fresh is
+            | inl is ↦ grind (arith, common_steps, or_cases, eqb-true)
             | inr own ↦ each_ring_block v.layout.ring v.layout.size P ring n own
           ]
         ]
 
     module _ (each : Each v P) where
       pub each_ring : EachRingBlock v.layout.ring v.layout.size P
-      each_ring k below =
-          each (v.layout.ring + k)
-          (parted (v.layout.ring + k)
-          ∙ or_right _ _ (or_right _ _ (ring_block_is v.layout.ring v.layout.size k below)))
+      each_ring k below = grind (arith, common_steps, parted, or_right, ring_block_is)
 
       pub each_slot : (k : ℕ) → k < length slots_of → P (block_at (reach v) k)
-      each_slot k below = each (block_at (reach v) k) (among_first slots_of (fresh_block v.stage ++ ring_of) k below)
+      each_slot k below = each (block_at (reach v) k)
+          (grind (arith, common_steps, list_any_at, length-append, eq-eqb, get_or_append_left))
 
       -- so of the block of each posted slot
       pub each_posted : (k : ℕ) → k < length v.layout.blocks → P (block_at v.layout k)
       each_posted k below = subst P (posted_block v k below) (each_slot k (posted_below v k below))
 
-      fresh_each : (stage : Stage) → fresh_block stage ≡ fresh_block v.stage → IfFresh stage P
-      fresh_each (Lent b) same =
-          each b (parted b
-          ∙ or_right _ _ (or_left _ _ (ap (λ (xs : List ℕ). among xs b) (sym same) ∙ or_left _ _ (eq-eqb b b refl))))
-      fresh_each other same = tt
-
       pub each_fresh : IfFresh v.stage P
-      each_fresh = fresh_each v.stage refl
+      each_fresh = grind (arith, common_steps, parted, or_right, or_left, eq-eqb)
 
 pub each_map : (v : Receive) (P Q : ℕ → Type 0) → ((b : ℕ) → P b → Q b) → Each v P → Each v Q
 each_map v P Q f each n has = f n (each n has)

@@ -1,25 +1,25 @@
 -- Where the agreement begins, and events that leave the receive side, looks and lends of the driver's own that keep it.
-use Rattle.std.proofs.Common.{[], ◌&&◌, ◌++◌, ◌+◌, ◌<◌, ◌∙◌, ◌∷◌, ◌≡◌, ◌≤◌, Bool, List, ℕ, ap, arith, cond, false, inl}
-use Rattle.std.proofs.lemmas.Bool.{and_from, and_parts, both_ways, cases_Bool, eq-eqb, le-leb, lt-ltb, or_left}
+use Rattle.std.proofs.Common.{[], ◌&&◌, ◌++◌, ◌+◌, ◌<◌, ◌∙◌, ◌∷◌, ◌≡◌, ◌≤◌, Bool, List, ℕ, ap, arith, cond, false}
+use Rattle.std.proofs.lemmas.Bool.{and_from, and_parts, both_ways, eq-eqb, le-leb, lt-ltb, or_left, or_right}
 use Rattle.history_laws.specs.Prelude.{Block, Bytes, Event, IsSound, Memory, Outcome, ReceiveQueue, Reply, State}
 use Rattle.history_laws.specs.Prelude.{bytes_in, ends_packet, gives, has_block, is_done, read_at, receive_queue_of}
 use Rattle.ring_laws.specs.ReceivePrelude.{Layout, LendsAnew, Lent, Looks, Packet, PeeksNext, Receive, Stage, Takes}
 use Rattle.ring_laws.specs.ReceivePrelude.{Told, descriptor_at, drive, is_part, left_of, no_packet, reach, slot_at}
 use Rattle.ring_laws.proofs.Kept.{each_fresh, each_ring, each_slot, first_place, named_kept, posted_below, posted_in}
 use Rattle.ring_laws.proofs.Parts.{end_last, end_more, none_held, none_left, open_more, seen_more}
-use Rattle.ring_laws.specs.Joint.{Agree, AreOpen, AreSeen, HasSlots, Holds, IsAt, IsLoose, IsRing, IsSetUp, Saw}
-use Rattle.ring_laws.specs.Steps.{Each, Leaves, LeavesButOn, LeavingKeeps, LookTellsSlot, SwitchingKeeps, TellsSlot}
-use Rattle.std.proofs.{Common.inr, Common.length, Common.not, Common.refl, Common.subst, Common.suc, Common.sym}
-use Rattle.std.proofs.{Common.true, lemmas.Bool.or_right}
+use Rattle.ring_laws.specs.Joint.{Agree, AreOpen, AreSeen, HasSlots, Holds, IsAt, IsLoose, IsRing, IsSetUp, StageHolds}
+use Rattle.ring_laws.specs.Steps.{Leaves, LeavesButOn, LeavingKeeps, LookTellsSlot, SwitchingKeeps, TellsSlot}
+use Rattle.std.proofs.{Common.length, Common.refl, Common.subst, Common.suc, Common.sym, Common.true}
+use Rattle.std.proofs.{lemmas.Grind.common_steps}
 use Rattle.history_laws.specs.Prelude.{reply_to, second_half, step_of}
 use Rattle.ring_laws.proofs.{Kept.slot_below, Kept.slots_stay, Kept.stage_stays, Ring.same_stays, Ring.slot_looked}
 use Rattle.ring_laws.proofs.{ReceiveLent.unknown}
-use Rattle.ring_laws.specs.{Joint.StageHolds, Pieces.AllFit, Pieces.Fits, Pieces.Piece, Pieces.open_after}
-use Rattle.ring_laws.specs.{Pieces.piece_at, Starting.StartAgrees, ReceiveUp.IsUp}
+use Rattle.ring_laws.specs.{Pieces.AllFit, Pieces.Fits, Pieces.Piece, Pieces.open_after, Pieces.piece_at}
+use Rattle.ring_laws.specs.{Starting.StartAgrees, ReceiveUp.IsUp}
 use Rattle.std.specs.Prelude.{if◌then◌else◌}
 use Rattle.nic_device.proofs.{Cases.lent_cases, DmaArena.Bus.get-insert_other, DmaArena.Bus.get-insert_same}
 use Rattle.pmd_rx.specs.{Receive.CanLend, Receive.LendsNext, Receive.lent_one, Receive.saw, Receive.told_by}
-use Rattle.pmd_rx.specs.{declared.ring.Stage.TheVariants.Owes, Keeping.has_lent, Wrong.is_healthy, Wrong.is_whole}
+use Rattle.pmd_rx.specs.{declared.ring.Stage.TheVariants.Owes, Wrong.is_healthy, Wrong.is_whole}
 use Rattle.history_laws.proofs.Lent.{anew_is_done}
 use Rattle.nic_device.specs.declared.event.Event.TheVariants as event
 use Rattle.std.specs.FinMap as map
@@ -46,9 +46,7 @@ module _ {queue : ℕ} {s t : State} {out : List Piece} {v : Receive} {gone here
       )
 
   leaving_holds : Leaves queue v s t → Holds queue t out v gone here
-  leaving_holds l =
-      switching_holds
-      (assumption (ap (λ (q : ReceiveQueue). q.ring) l.receive, ap (λ (q : ReceiveQueue). q.control) l.receive))
+  leaving_holds l = grind (arith, common_steps, switching_holds)
 
 pub switching_keeps : SwitchingKeeps
 switching_keeps queue s t out v l (gone, here, h) = (gone, here, switching_holds h l)
@@ -81,10 +79,6 @@ look_tells queue s out v gone here k h some d is =
 
 -- a driver that saw a part more
 
-part_open : (most before second : ℕ) → is_part most before second ≡ true → ends_packet second ≡ false
-    → bytes_in second ≡ 2048
-part_open most before second part on = grind arith
-
 stage_after : (m : Memory) (l : Layout) (ends : Bool) → StageHolds m l (cond ends Takes Looks)
 stage_after m l true = tt
 stage_after m l false = tt
@@ -94,10 +88,6 @@ at_after : (v : Receive) (t : Told) (ends : Bool) → ends_packet t.second ≡ e
     → IsAt (cond ends Takes Looks) (v.seen ++ t ∷ []) v.held
 at_after v t true is none opens full = end_more v.seen t opens is
 at_after v t false is none opens full = (none, open_more v.seen t opens (record { goes_on = is; full = full is }))
-
-saw_tells : (here : List Piece) (k : ℕ) (d : List ℕ) → TellsSlot here k d → is_done (second_half d) ≡ true
-    → Saw (told_by d) (piece_at here k)
-saw_tells here k d t done = grind arith
 
 looked_holds : (queue : ℕ) (s : State) (out : List Piece) (v : Receive) (gone here : List Piece) (d : List ℕ) (t : Bool)
     → Holds queue s out v gone here → v.stage ≡ Looks → TellsSlot here (length v.seen) d
@@ -111,9 +101,9 @@ looked_holds queue s out v gone here d true h looks tells is =
       stage_after s.memory (reach v) (ends_packet (second_half d)),
       none_held out gone here v (saw v d).seen (saw v d).stage h.order at.0
           (seen_more v.seen here (told_by d) h.order.seen (tells.done.0 both.0)
-          (saw_tells here (length v.seen) d tells both.0))
+          (grind arith))
           (at_after v (told_by d) (ends_packet (second_half d)) refl at.0 at.1
-          (part_open v.layout.most (length v.seen) (second_half d) both.1)),
+          (λ on. grind arith)),
     )
 
 -- what an event of the driver's own does, by its outcome: a sound device and the driver agree on, with the driver that
@@ -153,11 +143,7 @@ next-fits most n (t ∷ ts) (p ∷ here) all are opens below =
 part_is : (most before second : ℕ) (p : Piece) (ends : Bool) → ends_packet second ≡ ends → ends_packet second ≡ p.end
     → bytes_in second ≡ length p.bytes → length p.bytes ≤ 2048 → Fits most before p
     → is_part most before second ≡ true
-part_is most before second p true is end len short fits =
-    rw is (le-leb (bytes_in second) 2048 (subst (λ (n : ℕ). n ≤ 2048) (sym len) short))
-part_is most before second p false is end len short fits =
-    let on : p.end ≡ false = sym end ∙ is in
-    rw is (and_from _ _ (eq-eqb (bytes_in second) 2048 (len ∙ fits.full on)) (lt-ltb (before + 1) most (fits.more on)))
+part_is most before second p ends h1 h2 h3 h4 h5 = grind (arith, common_steps, le-leb, and_from, eq-eqb, lt-ltb)
 
 module _ (queue : ℕ) (s : State) (out : List Piece) (v : Receive) (gone here : List Piece)
     (h : Holds queue s out v gone here) where
@@ -182,10 +168,7 @@ module _ (queue : ℕ) (s : State) (out : List Piece) (v : Receive) (gone here :
 
   pub whole_told : AllFit v.layout.most 0 out → v.stage ≡ Looks → (d : List ℕ) → TellsSlot here (length v.seen) d
       → is_whole v d ≡ true
-  whole_told all looks d tells = elim (cases_Bool (is_done (second_half d))) [
-    | inl done ↦ or_right (not (is_done (second_half d))) _ (told_part all looks d tells done)
-    | inr waits ↦ or_left (not (is_done (second_half d))) _ (ap not waits)
-  ]
+  whole_told all looks d tells = grind (arith, common_steps, or_right, told_part, or_left)
 
 -- the driver's look at the slot behind those that it saw
 pub look_keeps : (queue : ℕ) (s : State) (out : List Piece) (v : Receive) (a : ℕ) → Agree queue s out v → PeeksNext v a
@@ -212,11 +195,7 @@ none_looked Owes seen can is = cc
 none_looked (Lent c) seen can is = absurd can
 
 fresh_leaves : (queue : ℕ) (s : State) (v : Receive) (b : Block) → LendsNext v b → Leaves queue v s (with_block s b)
-fresh_leaves queue s v b own =
-    let blocks : Each v (λ n. map.get (with_block s b).memory n ≡ map.get s.memory n) =
-    λ n has. get-insert_other s.memory b.number b.bytes n
-    (λ e. both_ways (has_lent v b.number) (unknown v b own) (subst (λ k. has_lent v k ≡ true) e has)) in
-    assumption blocks
+fresh_leaves queue s v b own = grind (arith, common_steps, get-insert_other, both_ways, unknown)
 
 lent_holds : (queue : ℕ) (s : State) (out : List Piece) (v : Receive) (gone here : List Piece) (b : Block)
     → Holds queue s out v gone here → LendsNext v b → Holds queue (with_block s b) out (lent_one v b.number) gone here

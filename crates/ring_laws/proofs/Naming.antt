@@ -2,9 +2,7 @@
 use Rattle.std.proofs.Common.{[], ◌*◌, ◌++◌, ◌+◌, ◌<◌, ◌∙◌, ◌∷◌, ◌≡◌, ◌≢◌, ◌≤◌, ◌⊎◌, Bool, List, ℕ, ap, append_assoc}
 use Rattle.std.proofs.Common.{arith, cond, drop, false, inl, inr, length, refl, subst, sym, take, true}
 use Rattle.std.proofs.lemmas.List.{append-nil, length-append, length-take-le, length_push, map-append, take-append-drop}
-use Rattle.history_laws.specs.Prelude.{Done, GcrExt, IsWhole, Memory, Place, Port, Rdt, ReceiveQueue, Registers, State}
-use Rattle.history_laws.specs.Prelude.{after_write, first_half, gives, is_done, mode_in, named_written, place, read_at}
-use Rattle.history_laws.specs.Prelude.{receive_queue_of, second_half, step_of, write_at}
+use Rattle.history_laws.specs.Prelude.{Done, IsWhole, Memory, Port, Rdt, State, after_write, gives, named_written}
 use Rattle.ring_laws.specs.ReceivePrelude.{Kept, Layout, Lent, Looks, MovesNext, NamesNext, Packet, Receive, Stage}
 use Rattle.ring_laws.specs.ReceivePrelude.{Told, block_at, descriptor_at, drive, ended_of, extended, fresh_of}
 use Rattle.ring_laws.specs.ReceivePrelude.{is_ring_block, kept_of, names, next_stage, posts, reach, records_of, slot_at}
@@ -13,17 +11,16 @@ use Rattle.ring_laws.proofs.Kept.{named_kept, names_reach, posts_reach, push_pla
 use Rattle.ring_laws.proofs.Ring.{Stays, slot_poked, written_here, written_stays}
 use Rattle.ring_laws.proofs.Parts.{end_last, left_twice, next_at, none_twice, order_same}
 use Rattle.ring_laws.specs.Joint.{Agree, HasSlots, Holds, InOrder, IsLoose, IsNamed, IsPosted, IsRing, IsSetUp}
-use Rattle.history_laws.proofs.Written.{receive-tail, receive_with_tail}
 use Rattle.std.proofs.{lemmas.List.take_all, lemmas.Bool.cases_lt, lemmas.Bool.eqb-false, lemmas.Bool.eqb-true}
 use Rattle.std.proofs.{lemmas.Grind.common_steps}
+use Rattle.history_laws.specs.{Prelude.place, Prelude.read_at, Prelude.step_of, Prelude.write_at, Sides.receive_side}
 use Rattle.ring_laws.specs.{ReceivePrelude.vacant, Joint.StageHolds, Joint.packets_had, Pieces.Piece}
+use Rattle.history_laws.proofs.Written.{receive-tail}
 use Rattle.std.specs.Prelude.{◌==◌, ⊤}
 use Rattle.nic_device.proofs.{DmaRing.Fields.halves_come_back, RegisterLaws.Puts.word_at-put_other}
-use Rattle.nic_device.specs.{DmaRing.Driver.posted, DmaRing.Laws.HasHalves, RegisterLaws.Laws.word_after}
-use Rattle.nic_device.specs.{RegisterLaws.Sound.HasShape, VfMap.Pools.mode_of}
+use Rattle.nic_device.specs.{DmaRing.Driver.posted, DmaRing.Laws.HasHalves, RegisterLaws.Sound.HasShape}
 use Rattle.pmd_rx.proofs.PmdSeam.Places.{wrapped_apart}
 use Rattle.ring_laws.proofs.Leaving.{Driven, by_outcome}
-use Rattle.history_laws.specs.Sides.{receive_side}
 use Rattle.nic_device.specs.declared.event.Event.TheVariants as event
 use Rattle.nic_device.specs.declared.event.Reply.TheVariants as reply
 use Rattle.history_laws.specs.Sides as sides
@@ -35,13 +32,6 @@ pub tail_written : (s : State) (queue : ℕ) (l : Layout) (word : ℕ) → IsNam
     ≡ gives Done (record s { registers = after_write s.registers (place Rdt queue) 0xFFFFFFFF word })
 unfolding step_of
 tail_written s queue l word h = ap (λ n. named_written s n word) h.tail
-
-pub mode_after_tail : (r : Registers) (queue word : ℕ)
-    → mode_in (after_write r (place Rdt queue) 0xFFFFFFFF word) ≡ mode_in r
-mode_after_tail r queue word =
-    ap mode_of (word_at-put_other r.words (place Rdt queue) (place GcrExt 0)
-    (word_after r (place Rdt queue) 0xFFFFFFFF word)
-    (λ e. let other : GcrExt ≡ Rdt = ap (λ (p : Place). p.row) e in cc))
 
 -- The ring with one more slot, whose descriptor names a block.
 
@@ -97,18 +87,10 @@ module _ (m : Memory) (l : Layout) (here : List Piece) (ring : IsRing l) (h : Ha
   read_back = written_here l.ring l.size (slot_at l (vacant l)) vacant_below m (naming b) halves.size whole h.there
 
   pub posted_here : IsPosted n (descriptor_at l (vacant l)) b
-  posted_here =
-      record {
-        buffer = ap first_half read_back ∙ halves.first (omega (arith, loose.low));
-        waits = ap (λ d. is_done (second_half d)) read_back ∙ ap is_done (halves.second (omega arith));
-        there = stays.there b tt ∙ loose.there;
-      }
+  posted_here = grind (arith, common_steps, read_back, halves, stays)
 
   pub named_slots : HasSlots n l here
-  named_slots =
-      slots_stay ring stays here
-      (λ k i. wrapped_apart l.size l.next k (vacant l) ring.next (omega (arith, i, ring.room)) ring.room
-      (λ e. absurd (omega (arith, e, i)))) (λ k i. tt) h
+  named_slots = grind (arith, common_steps, slots_stay, stays, wrapped_apart)
 
   pub named_loose : IsLoose n l b
   named_loose = stage_stays ring stays (Lent b) tt loose
@@ -127,16 +109,12 @@ next_holds m l [] = tt
 next_holds m l (t ∷ ts) = tt
 
 names_had : (v : Receive) → packets_had v ≡ packets_had (names v)
-names_had v =
-    let all = v.whole ++ ended_of v.seen v.held in
-    ap (λ (ps : List Packet). v.handed ++ records_of ps)
-    (sym (append-nil all) ∙ ap (λ (ps : List Packet). all ++ ps) (sym (none_twice v.seen v.held)))
+names_had v = grind (arith, common_steps, append-nil, none_twice)
 
 order_named : (out gone here : List Piece) (v : Receive) → HasLent v.stage → InOrder out v gone here
     → InOrder out (names v) gone here
 order_named out gone here v lent o =
-    order_same out gone here v (names v) o (names_had v) (sym (left_twice v.seen v.held)) o.seen
-    (next_at v.seen v.held (end_last v.stage v.seen v.held (not_looks v.stage v.seen lent) o.stage))
+    grind (arith, common_steps, order_same, names_had, left_twice, next_at, end_last, not_looks)
 
 pub name_keeps : (queue : ℕ) (s : State) (out : List Piece) (v : Receive) (a : ℕ) (bytes : List ℕ)
     → Agree queue s out v → NamesNext v a bytes → Driven queue s out v (event.Poke16 a bytes)
@@ -195,11 +173,6 @@ module _ (v : Receive) (blocks packets : ℕ) where
       ∙ ap (λ (ks : List Kept). v.handed ++ ks) (map-append kept_of first (rest ++ ended))
       ∙ sym (append_assoc v.handed (records_of first) (records_of (rest ++ ended)))
 
-  set_up_posted : (q : ReceiveQueue) (filled : ℕ) → IsSetUp q v.layout filled
-      → IsSetUp (receive_with_tail q (tail_behind v.layout (many v blocks))) w.layout filled
-  set_up_posted q filled up =
-      assumption (ap (slot_at v.layout) (sym (length-append v.layout.blocks (take blocks v.named))))
-
   module _ (queue : ℕ) (s : State) (out gone here : List Piece) (shape : HasShape s.registers)
       (h : Holds queue s out v gone here) where
     abbrev to : ℕ
@@ -212,11 +185,12 @@ module _ (v : Receive) (blocks packets : ℕ) where
     posts_holds =
         let same : reach v ≡ reach w = posts_reach v blocks packets in
         record {
-          named = assumption (named_kept s t queue v.layout (mode_after_tail s.registers queue to) refl h.named);
+          named =
+              assumption (named_kept s t queue v.layout (grind (arith, common_steps, word_at-put_other)) refl h.named);
           ring = subst IsRing same h.ring;
           side = subst (λ q. IsSetUp q w.layout (length here))
               (sym (receive-tail s.registers queue to shape h.named.low (tail_low v blocks h.ring)))
-              (set_up_posted (receive_queue_of s.registers queue) (length here) h.side);
+              (assumption (ap (slot_at v.layout) (sym (length-append v.layout.blocks (take blocks v.named)))));
           posted = omega (arith, h.posted, length-append v.layout.blocks (take blocks v.named));
           slots = subst (λ (l : Layout). HasSlots s.memory l here) same h.slots;
           stage = subst (λ (l : Layout). StageHolds s.memory l v.stage) same h.stage;
@@ -265,12 +239,6 @@ moved_is v port number word own = by_word (word == tail_behind v.layout first) r
       driver = refl;
     }
 
-pub word_low : (v : Receive) (port : Port) (number word : ℕ) → IsRing (reach v) → MovesNext v port number word
-    → word < 65536
-word_low v port number word ring own =
-    let m = moved_is v port number word own in
-    subst (λ (x : ℕ). x < 65536) (sym m.word_is) (tail_low v m.blocks ring)
-
 pub move_keeps : (queue : ℕ) (s : State) (out : List Piece) (v : Receive) (port : Port) (number word : ℕ)
     → Agree queue s out v → MovesNext v port number word → Driven queue s out v (event.Write port number word)
 move_keeps queue s out v port number word (gone, here, h) own =
@@ -284,6 +252,6 @@ move_keeps queue s out v port number word (gone, here, h) own =
           (gone, here, posts_holds v m.blocks m.packets queue s out gone here i.registers.shape h));
       up = λ i up.
           subst sides.IsUp (sym (ap receive_side (receive-tail s.registers queue word i.registers.shape h.named.low
-          (word_low v port number word h.ring own)))) (assumption up);
+          (grind (arith, common_steps, moved_is, tail_low))))) (assumption up);
       healthy = λ all anew. refl;
     })

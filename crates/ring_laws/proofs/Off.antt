@@ -1,16 +1,14 @@
 -- The enable register of the driver's transmit side, and a side that is off.
-use Rattle.std.proofs.Common.{[], ◌<◌, ◌∙◌, ◌∷◌, ◌≡◌, List, ap, arith, drop, false, inl, inr, length, refl, ℕ}
-use Rattle.std.proofs.{lemmas.Bool.cases_Bool, lemmas.List.length-drop}
+use Rattle.std.proofs.Common.{[], ◌<◌, ◌∙◌, ◌∷◌, ◌≡◌, List, ℕ, ap, arith, drop, false, inl, inr, length, refl}
 use Rattle.history_laws.specs.Prelude.{Block, Entry, Event, Memory, State, Tx, Txdctl, after, has_bit, leads_to, place}
-use Rattle.history_laws.specs.Prelude.{transmit_queue_of}
-use Rattle.ring_laws.specs.TransmitPrelude.{side_of}
 use Rattle.history_laws.proofs.Steady.{asked, idle_silent, off_idle, off_steady, seen_off, steady_kept, unwanted_steady}
-use Rattle.history_laws.proofs.{Deeds.side_did, Leaving.plain-write, Leaving.transmit_left}
 use Rattle.history_laws.proofs.DeviceLaws.StandingAccesses.{write_memory}
-use Rattle.history_laws.specs.{Left.Deed, Sides.Side}
 use Rattle.ring_laws.specs.Off.{AllLeaveSide, GuardIsOff, IsOff, IsUnwanted, LeavesSide, OffStays}
 use Rattle.ring_laws.proofs.Sparing.{sends_on, set_up-same, still-agrees}
-use Rattle.ring_laws.specs.{Agreeing.SendsInOrder, Enable.EnableWordsKeep, Sent.sent_by, Sent.sent_in}
+use Rattle.history_laws.specs.{Prelude.transmit_queue_of, Left.Deed, Sides.Side}
+use Rattle.std.proofs.{lemmas.Bool.cases_Bool, lemmas.List.length-drop}
+use Rattle.ring_laws.specs.{Enable.EnableWordsKeep, Sent.sent_by, Sent.sent_in}
+use Rattle.history_laws.proofs.{Deeds.side_did, Leaving.plain-write, Leaving.transmit_left}
 use Rattle.std.specs.FinMap as map
 use Rattle.nic_device.specs.declared.event.Event.TheVariants as event
 use Rattle.history_laws.specs.Sides as sides
@@ -24,25 +22,16 @@ enable_words_keep s queue sent v port n word made names rests (f, h) =
     still-agrees h e made (plain-write s port n word (place Txdctl queue) 0xFFFFFFFF names refl)
     (set_up-same (transmit_queue_of s.registers queue) (transmit_queue_of (after s e).registers queue) v.layout v.posted
     f (ap (λ (x : Side). x.ring) is) (ap (λ (x : Side). x.writeback) is) h.set_up)
-    (sends is h.sends) (λ number is. ap (λ (m : Memory). map.get m number) (write_memory s port n word))
+    (sends_on s (after s e) queue sent v.layout.limit (drop f v.outstanding) v.accepted (ap (λ (y : Side). y.staged) is)
+    (λ x. (ap (λ (y : Side). y.on) is ∙ x.off, ap (λ (y : Side). y.wanted) is ∙ still_off x.more)) h.sends)
+    (λ number is. ap (λ (m : Memory). map.get m number) (write_memory s port n word))
   where
-    Sends : State → Type 0
-    Sends t = SendsInOrder t queue sent v.layout.limit (drop f v.outstanding) v.accepted
-
     -- a side that was cut off isn't asked to be on: segments are outstanding
     still_off : 0 < length (drop f v.outstanding) → has_bit 25 word ≡ false
     still_off more = elim (cases_Bool (has_bit 25 word)) [
       | inl on ↦ absurd (omega (arith, more, length-drop f v.outstanding, ap length (rests on)))
       | inr off ↦ off
     ]
-
-    sends : side_of Tx queue (after s (event.Write port n word))
-        ≡ record (side_of Tx queue s) { wanted = has_bit 25 word }
-        → Sends s → Sends (after s (event.Write port n word))
-    sends is =
-        sends_on s (after s (event.Write port n word)) queue sent v.layout.limit (drop f v.outstanding) v.accepted
-        (ap (λ (y : Side). y.staged) is)
-        (λ x. (ap (λ (y : Side). y.on) is ∙ x.off, ap (λ (y : Side). y.wanted) is ∙ still_off x.more))
 
 -- A transmit side that isn't wanted on stays so; one that is off besides stays off, and sends nothing.
 

@@ -2,14 +2,14 @@
 -- the next slot.
 use Rattle.std.proofs.Common.{[], ◌*◌, ◌++◌, ◌+◌, ◌<◌, ◌∙◌, ◌∷◌, ◌≡◌, ◌≤◌, List, Some, ℕ, ap, arith, drop, length, refl}
 use Rattle.history_laws.specs.Prelude.{Block, Event, Memory, ReceiveQueue, State, bytes_in, receive_queue_of}
-use Rattle.ring_laws.specs.ReceivePrelude.{IsOwn, Layout, Receive, Told, block_at, descriptor_at, reach, slot_at, took}
+use Rattle.ring_laws.specs.ReceivePrelude.{IsOwn, Layout, Receive, Told, block_at, descriptor_at, reach, took}
 use Rattle.ring_laws.proofs.Kept.{filled_stays, posted_block, posted_stays, reach_long, took_reach}
-use Rattle.ring_laws.specs.Joint.{Agree, AreSeen, HasSlots, IsFilled, IsPosted, IsRing, IsSetUp, Saw}
+use Rattle.ring_laws.specs.Joint.{Agree, HasSlots, IsFilled, IsRing, IsSetUp}
 use Rattle.std.proofs.lemmas.List.{append-nil, get_or-drop, length-drop}
 use Rattle.ring_laws.proofs.Leaving.{Driven, by_outcome, lend_keeps, look_keeps}
-use Rattle.std.proofs.Common.{subst, sym, take}
-use Rattle.ring_laws.proofs.{Ring.Stays, Ring.same_stays, Parts.first_seen, Parts.order_on, Parts.seen_within}
-use Rattle.ring_laws.proofs.{Naming.move_keeps, Naming.name_keeps}
+use Rattle.ring_laws.proofs.Parts.{first_saw, order_on, seen_within, taking}
+use Rattle.std.proofs.{Common.subst, Common.sym, Common.take, lemmas.Grind.common_steps}
+use Rattle.ring_laws.proofs.{Ring.Stays, Ring.same_stays, Naming.move_keeps, Naming.name_keeps}
 use Rattle.std.specs.Prelude.{⊤}
 use Rattle.nic_device.proofs.{DmaArena.Blocks.read_at_in, DmaArena.Bus.get-remove_other, DmaArena.Bus.of_some}
 use Rattle.nic_device.specs.DmaArena.Memory.{part}
@@ -22,9 +22,6 @@ use Rattle.std.specs.FinMap as map
 use Rattle.nic_device.specs.declared.event.Event.TheVariants as event
 
 -- The ring without its next slot.
-
-slot_on : (l : Layout) (k : ℕ) → l.next < l.size → k + 1 < l.size → slot_at (consumed l) k ≡ slot_at l (1 + k)
-slot_on l k next h = grind arith
 
 -- the ring without its next slot
 module _ (m : Memory) (l : Layout) (here : List Piece) (ring : IsRing l) (h : HasSlots m l here)
@@ -48,7 +45,7 @@ module _ (m : Memory) (l : Layout) (here : List Piece) (ring : IsRing l) (h : Ha
   piece_on k = get_or-drop 1 here k no_piece
 
   desc_on : (k : ℕ) → k + 1 < l.size → descriptor_at (consumed l) k ≡ descriptor_at l (1 + k)
-  desc_on k i = ap (λ x. 2048 * l.ring + 16 * x) (slot_on l k ring.next i)
+  desc_on k i = ap (λ x. 2048 * l.ring + 16 * x) (grind arith)
 
   stays : Stays l.ring l.size m n (λ j. ⊤) (λ b. map.get n b ≡ map.get m b)
   stays =
@@ -59,45 +56,18 @@ module _ (m : Memory) (l : Layout) (here : List Piece) (ring : IsRing l) (h : Ha
   kept_block k i j =
       get-remove_other m (block_at l 0) (block_at l k) (ring.apart k 0 j outs (λ e. absurd (omega (arith, e, i))))
 
-  filled_on : (k : ℕ) → k < length (drop 1 here)
-      → IsFilled n (descriptor_at (consumed l) k) (block_at (consumed l) k) (piece_at (drop 1 here) k)
-  filled_on k i =
-      let j : 1 + k < length here = omega (arith, fewer, i) in
-      let inside : 1 + k < length l.blocks = omega (arith, h.within, j) in
-      rw (desc_on k (omega (arith, ring.room, inside)), block_on k, piece_on k)
-      (filled_stays ring stays (1 + k) (block_at l (1 + k)) (piece_at here (1 + k)) (omega (arith, inside))
-      (ring.not_ring (1 + k) inside) tt (kept_block (1 + k) (omega arith) inside) (h.filled (1 + k) j))
-
-  posted_on : (k : ℕ) → length (drop 1 here) ≤ k → k < length (drop 1 l.blocks)
-      → IsPosted n (descriptor_at (consumed l) k) (block_at (consumed l) k)
-  posted_on k i j =
-      let inside : 1 + k < length l.blocks = omega (arith, less, j) in
-      rw (desc_on k (omega (arith, ring.room, inside)), block_on k)
-      (posted_stays ring stays (1 + k) (block_at l (1 + k)) (omega (arith, inside)) tt
-      (kept_block (1 + k) (omega arith) inside) (h.posted (1 + k) (omega (arith, fewer, i)) inside))
-
   pub ring_on : IsRing (consumed l)
-  ring_on =
-      record {
-        some = ring.some;
-        few = ring.few;
-        next = next_below l.size l.next ring.next;
-        ring = ring.ring;
-        room = omega (arith, less, ring.room);
-        low = λ k i. rw (block_on k) (ring.low (1 + k) (omega (arith, less, i)));
-        not_ring = λ k i. rw (block_on k) (ring.not_ring (1 + k) (omega (arith, less, i)));
-        apart = λ i j a b ne.
-            rw (block_on i, block_on j)
-            (ring.apart (1 + i) (1 + j) (omega (arith, less, a)) (omega (arith, less, b)) (λ e. ne (omega (arith, e))));
-      }
+  ring_on = grind (arith, common_steps, next_below, less, block_on)
 
   pub slots_on : HasSlots n (consumed l) (drop 1 here)
   slots_on =
       record {
         there = λ k i. stays.has k i ∙ h.there k i;
         within = omega (arith, fewer, less, h.within);
-        filled = filled_on;
-        posted = posted_on;
+        filled =
+            (λ k i. grind (arith, common_steps, fewer, desc_on, block_on, piece_on, filled_stays, stays, kept_block));
+        posted =
+            (λ k i j. grind (arith, common_steps, less, desc_on, block_on, posted_stays, stays, kept_block, fewer));
       }
 
 -- the queue's side, by the posted slots
@@ -122,35 +92,26 @@ packet_bytes m b bytes a p len is whole f e =
     ap (λ n. take n bytes) e ∙ sym (part_front bytes (length p.bytes))
     ∙ sym (read_at_in m (2048 * b) (length p.bytes) b 0 bytes is whole (omega arith) (omega (arith, f.short))) ∙ f.bytes
 
-some_here : (seen : List Told) (here : List Piece) → AreSeen seen here → 0 < length seen → 0 < length here
-some_here seen here are some = let within = seen_within seen here are in omega (arith, within, some)
-
-pub take_keeps : (queue : ℕ) (s : State) (out : List Piece) (v : Receive) (n : ℕ) (seen : List Told)
-    → Agree queue s out v → TakesNext v n → v.seen ≡ seen → Driven queue s out v (event.Take n)
-take_keeps queue s out v n [] j own is =
-    let none = ap (λ (xs : List Told). length xs) is in
-    absurd (omega (arith, own.some, none))
-take_keeps queue s out v n (t ∷ ts) (gone, here, h) own is =
+take_next : (queue : ℕ) (s : State) (out : List Piece) (v : Receive) (n : ℕ) (t : Told) (ts : List Told)
+    → Agree queue s out (taking v t ts) → n ≡ block_at v.layout 0 → Driven queue s out (taking v t ts) (event.Take n)
+take_next queue s out v n t ts (gone, here, h) own =
     let l = reach v in
-    let some = some_here v.seen here h.order.seen own.some in
+    let within = seen_within (t ∷ ts) here h.order.seen in
+    let some : 0 < length here = omega (arith, within) in
     let outs : 0 < length v.layout.blocks = omega (arith, h.posted, some) in
     let room : length v.layout.blocks < v.layout.size = omega (arith, h.ring.room, reach_long v) in
-    let saw : Saw t (piece_at here 0) = first_seen v.seen here t ts h.order.seen is in
     let f : IsFilled s.memory (descriptor_at l 0) (block_at l 0) (piece_at here 0) = h.slots.filled 0 some in
     let there = of_some (map.get s.memory (block_at l 0)) f.there in
-    let bytes : List ℕ = there.0 in
-    let b : Block = record { number = block_at l 0; bytes = bytes } in
+    let b : Block = record { number = block_at l 0; bytes = there.0 } in
     let u : State = record s { memory = map.remove s.memory (block_at l 0) } in
-    let w : Receive = took v (t ∷ ts) b in
-    let same : consumed l ≡ reach w = took_reach v t ts b outs in
-    by_outcome queue s out v (event.Take n) (event.Take (block_at l 0)) _
-    (ap event.Take (own.block ∙ sym (posted_block v 0 outs))) (taken_is s (block_at l 0) bytes there.1) (record {
+    let same : consumed l ≡ reach (took v (t ∷ ts) b) = took_reach v t ts b outs in
+    by_outcome queue s out (taking v t ts) (event.Take n) (event.Take (block_at l 0)) _
+    (ap event.Take (own ∙ sym (posted_block v 0 outs))) (taken_is s (block_at l 0) there.0 there.1) (record {
       agree = λ i.
-          let size = i.blocks.whole.block (block_at l 0) bytes there.1 in
+          let size = i.blocks.whole.block (block_at l 0) there.0 there.1 in
           let here_is : take (bytes_in t.second) b.bytes ≡ (piece_at here 0).bytes =
-          packet_bytes s.memory (block_at l 0) bytes (descriptor_at l 0) (piece_at here 0) (bytes_in t.second) there.1
-          size.size f saw.len_is in
-          subst (λ (xs : List Told). Agree queue u out (took v xs b)) (sym is) (
+          packet_bytes s.memory (block_at l 0) there.0 (descriptor_at l 0) (piece_at here 0) (bytes_in t.second) there.1
+          size.size f (first_saw t ts here h.order.seen).len_is in (
             gone ++ piece_at here 0 ∷ [],
             drop 1 here,
             assumption (
@@ -159,23 +120,28 @@ take_keeps queue s out v n (t ∷ ts) (gone, here, h) own is =
               posted_less v.layout here h.ring.next room h.posted some,
               subst (λ (x : Layout). HasSlots u.memory x (drop 1 here)) same
                   (slots_on s.memory l here h.ring h.slots some),
-              order_on out gone here v t ts b h.order is own.stage some here_is size.size,
+              order_on out gone here v t ts b h.order some here_is size.size,
             ),
           );
       up = λ i up. up;
       healthy = λ all anew. refl;
     })
 
+pub take_keeps : (queue : ℕ) (s : State) (out : List Piece) (v : Receive) (n : ℕ) (seen : List Told)
+    → Agree queue s out v → TakesNext v n → v.seen ≡ seen → Driven queue s out v (event.Take n)
+take_keeps queue s out v n [] j own is =
+    let none = ap (λ (xs : List Told). length xs) is in
+    absurd (omega (arith, own.some, none))
+take_keeps queue s out v n (t ∷ ts) j own is =
+    let seeing : v ≡ taking v t ts = λ k. record v { seen = is k; stage = own.stage k } in
+    subst (λ (x : Receive). Driven queue s out x (event.Take n)) (sym seeing)
+    (take_next queue s out v n t ts (subst (λ (x : Receive). Agree queue s out x) seeing j) own.block)
+
 -- Each event of the driver's own keeps the agreement, leaves a side up that is, and gets the reply of a healthy queue.
 
 pub own_did : (queue : ℕ) (s : State) (out : List Piece) (v : Receive) (e : Event Block) → Agree queue s out v
     → IsOwn v e → Driven queue s out v e
-own_did queue s out v (event.Peek16 a) j own = look_keeps queue s out v a j own
-own_did queue s out v (event.Take n) j own = take_keeps queue s out v n v.seen j own refl
-own_did queue s out v (event.Lend b) j own = lend_keeps queue s out v b j own
-own_did queue s out v (event.Poke16 a bytes) j own = name_keeps queue s out v a bytes j own
-own_did queue s out v (event.Write port n word) j own = move_keeps queue s out v port n word j own
-own_did queue s out v e j own = absurd own
+own_did queue s out v e h1 h2 = grind (arith, common_steps, look_keeps, take_keeps, lend_keeps, name_keeps, move_keeps)
 
 own_silent : (queue : ℕ) (s : State) (v : Receive) (e : Event Block) → IsOwn v e → pieces queue s e ≡ []
 own_silent queue s v event.RxStep own = absurd own

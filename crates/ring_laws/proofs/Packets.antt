@@ -1,18 +1,18 @@
 -- Segments of whole packets, and a packet that is accepted.
-use Rattle.std.proofs.Common.{[], ◌*◌, ◌++◌, ◌+◌, ◌<◌, ◌∙◌, ◌∷◌, ◌≡◌, ◌≢◌, ◌≤◌, List, Some, ap, append_assoc, arith}
-use Rattle.std.proofs.Common.{drop, false, inl, inr, length, refl, subst, suc, sym, take, true, zero, ℕ}
+use Rattle.std.proofs.Common.{[], ◌*◌, ◌++◌, ◌+◌, ◌<◌, ◌∙◌, ◌∷◌, ◌≡◌, ◌≢◌, ◌≤◌, List, Some, ℕ, ap, append_assoc, arith}
+use Rattle.std.proofs.Common.{drop, false, inl, inr, length, refl, subst, suc, sym, take, true, zero}
 use Rattle.std.proofs.lemmas.List.{drop-append-le, get_or_append_left, length-append, length-take, map-append}
-use Rattle.std.proofs.{lemmas.Bool.cases_Bool, lemmas.List.take-append-drop}
-use Rattle.std.specs.Prelude.{is_some, slice_index_or}
 use Rattle.history_laws.specs.Prelude.{Block, Memory, State, TransmitQueue, staged_by, transmit_queue_of}
-use Rattle.ring_laws.specs.TransmitPrelude.{Kept, MayAccept, Outgoing, Segment, Sender, accepted_by, is_ring_block}
-use Rattle.ring_laws.specs.TransmitPrelude.{no_segment, segment_at, segments_of}
+use Rattle.ring_laws.specs.TransmitPrelude.{Kept, MayAccept, Outgoing, Segment, Sender, accepted_by, no_segment}
+use Rattle.ring_laws.specs.Agreeing.{ArePackets, IsCounted, IsCutOff, IsInTurn, IsLayout, IsReady, SendsInOrder, Shows}
+use Rattle.ring_laws.specs.Agreeing.{bytes_of, frame_ended, frames_from, staged_behind}
+use Rattle.std.proofs.{lemmas.List.take-append-drop, lemmas.Grind.common_steps, lemmas.Bool.cases_Bool}
+use Rattle.ring_laws.specs.TransmitPrelude.{segment_at, segments_of}
+use Rattle.std.specs.Prelude.{is_some, slice_index_or}
 use Rattle.nic_device.proofs.{DmaArena.Blocks.read_at_in, DmaArena.Bus.get-insert_other, DmaArena.Bus.get-insert_same}
 use Rattle.nic_device.specs.DmaArena.Memory.{part}
-use Rattle.pmd_tx.specs.Sending.{MayLend, Part, paired, parts_for, parts_in, parts_of}
+use Rattle.pmd_tx.specs.Sending.{MayLend, Part, paired, parts_for, parts_in}
 use Rattle.ring_laws.proofs.Blocks.{has_lent-segment, shows-same, unlike}
-use Rattle.ring_laws.specs.Agreeing.{ArePackets, IsCounted, IsCutOff, IsInTurn, IsLayout, IsReady, SendsInOrder}
-use Rattle.ring_laws.specs.Agreeing.{Shows, bytes_of, frame_ended, frames_from, staged_behind}
 use Rattle.std.specs.FinMap as fin
 
 -- Segments of whole packets, behind what is staged, and the frames that they become.
@@ -29,9 +29,7 @@ length-paired (b ∷ bs) (p ∷ ps) same = ap suc (length-paired bs ps (omega ar
 
 pub length-segments : (p : Outgoing) → length p.blocks ≡ parts_for (length p.kept.bytes)
     → length (segments_of p) ≡ length p.blocks
-length-segments p each =
-    length-paired p.blocks (parts_of p.kept.bytes)
-    (each ∙ sym (length-parts (length p.kept.bytes) (parts_for (length p.kept.bytes)) p.kept.bytes))
+length-segments p each = grind (arith, common_steps, length-paired, length-parts)
 
 pub some-parts : (len : ℕ) → 60 ≤ len → 0 < parts_for len
 some-parts len long = omega arith
@@ -73,14 +71,10 @@ packets-parts limit whole (suc (suc n)) (b ∷ bs) staged bytes count some short
 module _ (p : Outgoing) (long : 60 ≤ length p.kept.bytes) (each : length p.blocks ≡ parts_for (length p.kept.bytes))
   where
     pub frames-segments : frames_from [] (segments_of p) ≡ p.kept.bytes ∷ []
-    frames-segments =
-        frames-parts (length p.kept.bytes) (parts_for (length p.kept.bytes)) p.blocks [] p.kept.bytes each
-        (some-parts (length p.kept.bytes) long)
+    frames-segments = grind (arith, common_steps, frames-parts, some-parts)
 
     pub packets-segments : (limit : ℕ) → length p.kept.bytes ≤ limit → ArePackets limit [] (segments_of p)
-    packets-segments limit short =
-        packets-parts limit (length p.kept.bytes) (parts_for (length p.kept.bytes)) p.blocks [] p.kept.bytes each
-        (some-parts (length p.kept.bytes) long) (omega arith) (omega arith)
+    packets-segments limit short = grind (arith, common_steps, short, packets-parts, some-parts)
 
 -- packets behind packets
 
@@ -150,10 +144,6 @@ module _ (m : Memory) (v : Sender) (f : ℕ) (l : IsLayout v.layout) (c : IsCoun
     there : fin.get lent x.block ≡ Some b.bytes
     there = rw (← may.number) (get-insert_same m b.number b.bytes)
 
-    -- and none of the ring's
-    beside : is_ring_block v.layout.ring v.layout.size x.block ≡ false
-    beside = grind arith
-
     short : length x.part.bytes ≤ 2048
     short = omega (arith, may.whole, ap length may.bytes, length-take (length x.part.bytes) b.bytes)
 
@@ -163,7 +153,7 @@ module _ (m : Memory) (v : Sender) (f : ℕ) (l : IsLayout v.layout) (c : IsCoun
       short = short;
       whole = omega (arith, may.short, l.limit);
       lent = ap is_some there;
-      apart = beside;
+      apart = (grind arith);
       bytes =
           read_at_in lent (2048 * x.block) (length x.part.bytes) x.block 0 b.bytes there may.whole (omega arith)
           (omega (arith, short))
@@ -175,10 +165,6 @@ module _ (m : Memory) (v : Sender) (f : ℕ) (l : IsLayout v.layout) (c : IsCoun
         → P (segment_at w k)
     each_now k P below was now = grind arith
 
-    ready_now : (k : ℕ) → k < v.lent + 1 → IsReady lent v.layout.ring v.layout.size (segment_at w k)
-    ready_now k below =
-        each_now k (IsReady lent v.layout.ring v.layout.size) below (λ lt. stays.ready k lt) (λ e. ready)
-
     apart_now : (i j : ℕ) → i < v.lent + 1 → j < v.lent + 1 → i ≢ j → (segment_at w i).block ≢ (segment_at w j).block
     apart_now i j a b ne =
         each_now i (λ y. y.block ≢ (segment_at w j).block) a
@@ -186,15 +172,13 @@ module _ (m : Memory) (v : Sender) (f : ℕ) (l : IsLayout v.layout) (c : IsCoun
         (λ e. each_now j (λ z. x.block ≢ z.block) b (λ lu y. new j lu (sym y)) (λ d. absurd (ne (e ∙ sym d))))
 
     pub counted-lent : length ss < v.layout.size → v.lent < length ss → IsCounted w f
-    counted-lent room known =
-        let poked : v.poked ≤ v.lent + 1 = omega (arith, c.poked_lent) in
-        let lent : v.lent + 1 ≤ length ss = omega arith in
-        assumption (poked, lent, apart_now)
+    counted-lent room known = grind (arith, common_steps, apart_now)
 
     pub shows-lent : Shows lent w f
     shows-lent = record {
       ring = stays.ring;
-      ready = ready_now;
+      ready = (λ k below. each_now k (IsReady lent v.layout.ring v.layout.size) below (λ lt. stays.ready k lt)
+          (λ e. ready));
       done = λ k i end.
           let below : k < v.lent = omega (arith, c.fetched_posted, c.posted_poked, c.poked_lent) in
           let same = early k below in
@@ -226,31 +210,12 @@ module _ (v : Sender) (p : Outgoing) (b : Block) (may : MayAccept v p b) where
     turn-accepted : (staged : List ℕ) → IsInTurn v.layout.limit staged sent left v.accepted
         → IsInTurn v.layout.limit staged sent (left ++ segments_of p) (v.accepted ++ p.kept ∷ [])
     turn-accepted staged t =
-        record {
-          packets =
-              packets-append v.layout.limit staged left (segments_of p) t.packets
-              (packets-segments p may.long may.each v.layout.limit may.short);
-          in_order =
-              more ∙ ap (λ (l : List (List ℕ)). l ++ p.kept.bytes ∷ []) t.in_order
-              ∙ append_assoc sent (frames_from staged left) (p.kept.bytes ∷ [])
-              ∙ ap (λ (l : List (List ℕ)). sent ++ (frames_from staged left ++ l))
-              (sym (frames-segments p may.long may.each))
-              ∙ ap (λ (l : List (List ℕ)). sent ++ l)
-              (sym (frames-append v.layout.limit staged left (segments_of p) t.packets));
-        }
+        grind
+        (arith, common_steps, packets-append, packets-segments, more, append_assoc, frames-segments, frames-append)
 
     cut-accepted : (side : TransmitQueue) → IsCutOff side sent left v.accepted
         → IsCutOff side sent (left ++ segments_of p) (v.accepted ++ p.kept ∷ [])
-    cut-accepted side t = record {
-      off = t.off;
-      unwanted = t.unwanted;
-      more = omega (arith, t.more, length-append left (segments_of p));
-      frame = t.frame;
-      rest = t.rest ++ p.kept.bytes ∷ [];
-      in_order =
-          more ∙ ap (λ (l : List (List ℕ)). l ++ p.kept.bytes ∷ []) t.in_order
-          ∙ append_assoc sent (t.frame ∷ t.rest) (p.kept.bytes ∷ []);
-    }
+    cut-accepted side t = grind (arith, common_steps, more, length-append, append_assoc)
 
     pub sends-accepted : (s : State) (queue : ℕ) → SendsInOrder s queue sent v.layout.limit left v.accepted
         → SendsInOrder s queue sent v.layout.limit (drop f (v.outstanding ++ segments_of p)) (v.accepted ++ p.kept ∷ [])

@@ -1,17 +1,16 @@
 -- Parts of packets: what the driver saw of them, and how the pieces are cut behind those that were consumed.
-use Rattle.std.proofs.Common.{[], ◌++◌, ◌+◌, ◌<◌, ◌∙◌, ◌∷◌, ◌≡◌, ◌≤◌, Bool, List, ap, append_assoc, arith, cond, drop}
-use Rattle.std.proofs.Common.{false, length, refl, subst, sym, take, true, ℕ}
-use Rattle.std.proofs.lemmas.List.{length-append, length_push}
-use Rattle.std.proofs.Math.Seq.{take-append-add, take-length}
-use Rattle.std.proofs.lemmas.Grind.{common_steps}
+use Rattle.std.proofs.Common.{[], ◌++◌, ◌+◌, ◌<◌, ◌∙◌, ◌∷◌, ◌≡◌, ◌≤◌, Bool, List, ℕ, ap, append_assoc, arith, cond}
+use Rattle.std.proofs.Common.{drop, false, length, refl, subst, sym, take, true}
 use Rattle.history_laws.specs.Prelude.{Block, bytes_in, ends_packet}
 use Rattle.ring_laws.specs.ReceivePrelude.{Kept, Looks, Packet, Receive, Stage, Takes, Told, ended_of, kept_of, left_of}
 use Rattle.ring_laws.specs.ReceivePrelude.{next_stage, no_packet, records_of, took}
-use Rattle.pmd_rx.proofs.PmdSeam.Copying.{bytes-more}
-use Rattle.pmd_rx.specs.{PmdSeam.Bufs.bytes_of, Receive.if_any, Receive.joined}
 use Rattle.ring_laws.specs.Joint.{AreCut, AreOpen, AreSeen, EndLast, InOrder, IsAt, IsOpen, Saw, packets_had}
 use Rattle.ring_laws.specs.Pieces.{Piece, open_after, packet_told, packets_behind, packets_of, piece_at}
 use Rattle.ring_laws.specs.Joint.{still_held}
+use Rattle.std.proofs.{lemmas.List.length-append, lemmas.List.length_push, Math.Seq.take-append-add}
+use Rattle.std.proofs.{Math.Seq.take-length, lemmas.Grind.common_steps}
+use Rattle.pmd_rx.proofs.PmdSeam.Copying.{bytes-more}
+use Rattle.pmd_rx.specs.{PmdSeam.Bufs.bytes_of, Receive.if_any, Receive.joined}
 
 -- what was seen stays so as a piece more is written
 pub seen_longer : (seen : List Told) (here : List Piece) (p : Piece) → AreSeen seen here → AreSeen seen (here ++ p ∷ [])
@@ -73,19 +72,11 @@ none_left (t ∷ ts) = refl
 
 joined_bytes : (p : Packet) (b : Block) (t : Told) → length (bytes_of p.bufs) ≡ p.len
     → (kept_of (joined p b t)).bytes ≡ (kept_of p).bytes ++ take (bytes_in t.second) b.bytes
-joined_bytes p b t full =
-    let xs = bytes_of p.bufs in
-    let n = bytes_in t.second in
-    ap (λ (ys : List ℕ). take (p.len + n) ys) (bytes-more p.bufs b)
-    ∙ ap (λ (k : ℕ). take (k + n) (xs ++ b.bytes)) (sym full)
-    ∙ take-append-add xs b.bytes n
-    ∙ ap (λ (ys : List ℕ). ys ++ take n b.bytes) (sym (ap (λ (k : ℕ). take k xs) (sym full) ∙ take-length xs))
+joined_bytes p b t full = grind (arith, common_steps, bytes-more, take-append-add, take-length)
 
 joined_length : (p : Packet) (b : Block) (t : Told) → length (bytes_of p.bufs) ≡ p.len → length b.bytes ≡ 2048
     → bytes_in t.second ≡ 2048 → length (bytes_of (joined p b t).bufs) ≡ (joined p b t).len
-joined_length p b t full whole fills =
-    let e = ap (λ (ys : List ℕ). length ys) (bytes-more p.bufs b) in
-    omega (arith, e, length-append (bytes_of p.bufs) b.bytes, full, whole, fills)
+joined_length p b t full whole fills = grind (arith, common_steps, bytes-more, length-append)
 
 any_pushed : (bs : List Block) (b : Block) (p : Packet) → if_any (bs ++ b ∷ []) p ≡ p ∷ []
 any_pushed [] b p = refl
@@ -111,15 +102,16 @@ put_before : (hs : List Kept) (ws : List Packet) (p : Packet) (ks : List Kept)
     → (hs ++ records_of (ws ++ [])) ++ kept_of p ∷ ks ≡ (hs ++ records_of (ws ++ p ∷ [])) ++ ks
 put_before hs ws p ks = grind (arith, common_steps)
 
+-- a driver that is to take the parts that it saw
+abbrev pub taking : Receive → Told → List Told → Receive
+taking v t ts = record v { seen = t ∷ ts; stage = Takes }
+
 -- the part of the next slot is taken
 module _ (out gone ps : List Piece) (v : Receive) (p : Piece) (t : Told) (b : Block)
     (bytes : take (bytes_in t.second) b.bytes ≡ p.bytes) (whole : length b.bytes ≡ 2048) where
   kept_is : length (bytes_of v.held.bufs) ≡ v.held.len → Saw t p
       → packet_told ((kept_of v.held).bytes ++ p.bytes) p.first ≡ kept_of (joined v.held b t)
-  kept_is full saw = λ k.
-      packet_told
-      ((ap (λ (xs : List ℕ). (kept_of v.held).bytes ++ xs) (sym bytes) ∙ sym (joined_bytes v.held b t full)) k)
-      (sym saw.first_is k)
+  kept_is full saw = grind (arith, common_steps, joined_bytes)
 
   shift : (rest : List Piece) → packets_of ((gone ++ p ∷ []) ++ rest) ≡ packets_of (gone ++ p ∷ rest)
   shift rest = ap (λ (xs : List Piece). packets_of xs) (append_assoc gone (p ∷ []) rest)
@@ -131,22 +123,10 @@ module _ (out gone ps : List Piece) (v : Receive) (p : Piece) (t : Told) (b : Bl
       (parts : open_after 0 gone ≡ length v.held.bufs) (full : length (bytes_of v.held.bufs) ≡ v.held.len)
       (saw : Saw t p) where
     last_cut : p.end ≡ true → AreCut (gone ++ p ∷ []) (took v (t ∷ []) b)
-    last_cut end rest =
-        shift rest ∙ cut (p ∷ rest)
-        ∙ ap (λ (ks : List Kept). (v.handed ++ records_of (v.whole ++ [])) ++ ks)
-        (behind_end (kept_of v.held).bytes p rest end
-        ∙ ap (λ (k : Kept). k ∷ packets_behind [] rest) (kept_is full saw))
-        ∙ put_before v.handed v.whole (joined v.held b t) (packets_behind [] rest)
-        ∙ ap (λ (ps : List Packet). (v.handed ++ records_of (v.whole ++ ps)) ++ packets_behind [] rest)
-        (sym (any_pushed v.held.bufs b (joined v.held b t)))
+    last_cut end rest = grind (arith, common_steps, shift, behind_end, kept_is, put_before, any_pushed)
 
     more_cut : (u : Told) (ts : List Told) → p.end ≡ false → AreCut (gone ++ p ∷ []) (took v (t ∷ u ∷ ts) b)
-    more_cut u ts opens rest =
-        shift rest ∙ cut (p ∷ rest)
-        ∙ ap (λ (ks : List Kept). (v.handed ++ records_of (v.whole ++ [])) ++ ks)
-        (behind_open (kept_of v.held).bytes p rest opens)
-        ∙ ap (λ (xs : List ℕ). (v.handed ++ records_of (v.whole ++ [])) ++ packets_behind xs rest)
-        (ap (λ (xs : List ℕ). (kept_of v.held).bytes ++ xs) (sym bytes) ∙ sym (joined_bytes v.held b t full))
+    more_cut u ts opens rest = grind (arith, common_steps, shift, behind_open, joined_bytes)
 
     taken : (ts : List Told) → EndLast (t ∷ ts) → AreSeen ts ps → out ≡ gone ++ p ∷ ps
         → InOrder out (took v (t ∷ ts) b) (gone ++ p ∷ []) ps
@@ -167,36 +147,17 @@ module _ (out gone ps : List Piece) (v : Receive) (p : Piece) (t : Told) (b : Bl
         )
 
 pub order_on : (out gone here : List Piece) (v : Receive) (t : Told) (ts : List Told) (b : Block)
-    → InOrder out v gone here → v.seen ≡ t ∷ ts → v.stage ≡ Takes → 0 < length here
+    → InOrder out (taking v t ts) gone here → 0 < length here
     → take (bytes_in t.second) b.bytes ≡ (piece_at here 0).bytes → length b.bytes ≡ 2048
     → InOrder out (took v (t ∷ ts) b) (gone ++ piece_at here 0 ∷ []) (drop 1 here)
-order_on out gone [] v t ts b o is takes some bytes whole = absurd (omega (arith, some))
-order_on out gone (p ∷ ps) v t ts b o is takes some bytes whole =
-    let seen : AreSeen (t ∷ ts) (p ∷ ps) = subst (λ (xs : List Told). AreSeen xs (p ∷ ps)) is o.seen in
-    let last : EndLast (t ∷ ts) =
-    subst (λ (xs : List Told). EndLast xs) is
-    (subst (λ (s : Stage). IsAt s v.seen v.held) takes o.stage) in
-    let cut : (rest : List Piece)
-    → packets_of (gone ++ rest)
-    ≡ (v.handed ++ records_of (v.whole ++ [])) ++ packets_behind (kept_of v.held).bytes rest =
-    λ rest. o.cut rest
-    ∙ ap (λ (xs : List Told). (v.handed ++ records_of (v.whole ++ ended_of xs v.held))
-    ++ packets_behind (kept_of (left_of xs v.held)).bytes rest) is in
-    taken out gone ps v p t b bytes whole cut
-    (o.parts ∙ ap (λ (xs : List Told). length (left_of xs v.held).bufs) is)
-    (ap (λ (xs : List Told). length (bytes_of (left_of xs v.held).bufs)) (sym is) ∙ o.full
-    ∙ ap (λ (xs : List Told). (left_of xs v.held).len) is)
-    seen.0 ts last seen.1 o.order
+order_on out gone [] v t ts b o some bytes whole = absurd (omega (arith, some))
+order_on out gone (p ∷ ps) v t ts b o some bytes whole =
+    taken out gone ps v p t b bytes whole o.cut o.parts o.full o.seen.0 ts o.stage o.seen.1 o.order
 
 -- the first part of what was seen is that of the first slot
-
-first_saw : (t : Told) (ts : List Told) (ps : List Piece) → AreSeen (t ∷ ts) ps → Saw t (piece_at ps 0)
+pub first_saw : (t : Told) (ts : List Told) (ps : List Piece) → AreSeen (t ∷ ts) ps → Saw t (piece_at ps 0)
 first_saw t ts [] are = absurd are
 first_saw t ts (p ∷ ps) are = are.0
-
-pub first_seen : (seen : List Told) (here : List Piece) (t : Told) (ts : List Told) → AreSeen seen here → seen ≡ t ∷ ts
-    → Saw t (piece_at here 0)
-first_seen seen here t ts are is = first_saw t ts here (subst (λ (xs : List Told). AreSeen xs here) is are)
 
 -- where the same packets are had, and the same parts are held, the driver's state beside them may change
 pub order_same : (out gone here : List Piece) (v w : Receive) → InOrder out v gone here → packets_had v ≡ packets_had w

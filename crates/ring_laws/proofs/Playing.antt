@@ -1,5 +1,5 @@
 -- Each move of the driver's keeps what it and the device agree on, and its replies are those of a healthy queue.
-use Rattle.std.proofs.Common.{[], ◌++◌, ◌+◌, ◌-◌, ◌<◌, ◌∙◌, ◌∷◌, ◌≡◌, ◌≢◌, ◌≤◌, List, ℕ, ap, arith, drop, length, refl}
+use Rattle.std.proofs.Common.{[], ◌++◌, ◌+◌, ◌-◌, ◌<◌, ◌∷◌, ◌≡◌, ◌≢◌, ◌≤◌, List, ℕ, ap, arith, drop, length, refl}
 use Rattle.history_laws.specs.Prelude.{Block, Event, Memory, State, TransmitQueue, Tx, after, read_at, reply_to}
 use Rattle.ring_laws.specs.TransmitPrelude.{Accepts, Advances, Asks, Elsewhere, IsOwn, Kept, Lends, Looks, MayAccept}
 use Rattle.ring_laws.specs.TransmitPrelude.{Move, Outgoing, Reaps, Segment, Sender, descriptor_at, moved, no_segment}
@@ -8,11 +8,12 @@ use Rattle.ring_laws.proofs.Packets.{count-accepted, counted-lent, early-accepte
 use Rattle.ring_laws.proofs.Sparing.{based-after, never-shuts, spared_did, spares-keeps}
 use Rattle.ring_laws.specs.Agreeing.{Agrees, AgreesAt, IsBased, IsCounted, IsLayout, IsReady, IsSetUp, SendsInOrder}
 use Rattle.ring_laws.proofs.Advancing.{Keeps, Moves, advance_one, ask_one, by_outcome, look_one}
-use Rattle.std.proofs.{Common.subst, Common.sym, Common.true, lemmas.List.append-nil, lemmas.List.length-drop}
+use Rattle.ring_laws.specs.TransmitHealthy.{LendsAnew, OwnRepliesAreHealthy}
+use Rattle.std.proofs.{Common.subst, Common.sym, Common.true, lemmas.Grind.common_steps, lemmas.List.append-nil}
+use Rattle.std.proofs.{lemmas.List.length-drop}
 use Rattle.history_laws.specs.Prelude.{step_of, transmit_queue_of}
-use Rattle.ring_laws.specs.{TransmitPrelude.segment_at, TransmitPrelude.segments_of, TransmitPrelude.slot_at}
-use Rattle.ring_laws.specs.{Agreeing.Shows, TransmitHealthy.LendsAnew, TransmitHealthy.OwnRepliesAreHealthy}
-use Rattle.ring_laws.specs.{Laws.MovesKeep, Sent.sent_by, Turns.MayMove, TransmitUp.IsUp, TransmitUp.UpStays}
+use Rattle.ring_laws.specs.{TransmitPrelude.segment_at, TransmitPrelude.segments_of, Agreeing.Shows, Laws.MovesKeep}
+use Rattle.ring_laws.specs.{Sent.sent_by, Turns.MayMove, TransmitUp.IsUp, TransmitUp.UpStays}
 use Rattle.ring_laws.proofs.{Packets.shows-lent, Ring.Stays, Ring.same_stays, TransmitLent.first_at}
 use Rattle.std.specs.Prelude.{slice_index_or, ⊤}
 use Rattle.nic_device.proofs.{Cases.lent_cases, DmaArena.Bus.get-remove_other, DmaArena.Bus.of_some}
@@ -42,16 +43,7 @@ module _ (v : Sender) (g : ℕ) (l : IsLayout v.layout) (c : IsCounted v (g + 1)
   set_up-reaped side u = grind arith
 
   pub counted-reaped : IsCounted (reaped v) g
-  counted-reaped = record {
-    room = omega (arith, fewer, c.room);
-    done_fetched = omega (arith, c.done_fetched);
-    fetched_posted = omega (arith, c.fetched_posted);
-    posted_poked = omega (arith, c.posted_poked);
-    poked_lent = omega (arith, c.poked_lent);
-    lent_known = omega (arith, fewer, c.lent_known);
-    apart = λ i j a b ne.
-        rw (behind i, behind j) (c.apart (i + 1) (j + 1) (omega arith) (omega arith) (λ x. ne (omega arith)));
-  }
+  counted-reaped = grind (arith, common_steps, fewer, behind)
 
   -- the same are left
   pub dropped : drop (g + 1) v.outstanding ≡ drop g (drop 1 v.outstanding)
@@ -71,29 +63,14 @@ module _ (v : Sender) (g : ℕ) (l : IsLayout v.layout) (c : IsCounted v (g + 1)
         get-remove_other m x.block (v.layout.ring + k) (λ e. other (sym e)))
 
     other_block : (k : ℕ) → k + 1 < v.lent → IsReady without v.layout.ring v.layout.size (segment_at v (k + 1))
-    other_block k there =
-        ready_stays stays (segment_at v (k + 1))
-        (get-remove_other m (segment_at v 0).block (segment_at v (k + 1)).block
-        (c.apart (k + 1) 0 there oldest (omega arith)))
-        (h.ready (k + 1) there)
+    other_block k there = grind (arith, common_steps, ready_stays, stays, get-remove_other, oldest)
 
     slot_stays : (k : ℕ) → k < v.layout.size
         → read_at without (descriptor_at (reaped v).layout k) 16 ≡ read_at m (descriptor_at v.layout (k + 1)) 16
-    slot_stays k h =
-        ap (λ (a : ℕ). read_at without a 16) (descriptor-later v.layout l k h)
-        ∙ stays.slot (slot_at v.layout (k + 1)) (slot-below v.layout l (k + 1) (omega (arith, h))) tt
+    slot_stays k h = grind (arith, common_steps, descriptor-later, stays, slot-below)
 
     pub shows-reaped : Shows without (reaped v) g
-    shows-reaped = record {
-      ring = λ k below. stays.has k below ∙ h.ring k below;
-      ready = λ k i. rw (behind k) (other_block k (omega arith));
-      done = λ k i end. rw (behind k)
-          (slot_stays k (omega (arith, posted))
-          ∙ h.done (k + 1) (omega arith) (subst (λ (x : Segment). x.part.last ≡ true) (behind k) end));
-      waits = λ k i j. rw (behind k)
-          (slot_stays k (omega (arith, c.poked_lent, c.lent_known, c.room))
-          ∙ h.waits (k + 1) (omega arith) (omega (arith, j)));
-    }
+    shows-reaped = grind (arith, common_steps, stays, behind, other_block, slot_stays, posted)
 
 -- The driver's own moves that lend a block and take one back keep what it and the device agree on.
 

@@ -1,5 +1,5 @@
 -- What pieces make, on small examples.
-use Rattle.std.proofs.Common.{[], ◌∷◌, ◌≡◌, List, false, refl, true, ℕ}
+use Rattle.std.proofs.Common.{[], ◌∷◌, ◌≡◌, List, ℕ, false, refl, true}
 use Rattle.ring_laws.specs.Pieces.{Piece, packets_of}
 
 -- a piece of these bytes

@@ -1,35 +1,26 @@
 -- The blocks that the driver has lent for receiving, after each of its calls.
-use Rattle.std.proofs.Common.{[], ◌++◌, ◌<◌, ◌||◌, ◌∙◌, ◌∷◌, ◌≡◌, ◌≢◌, Bool, List, ap, append_assoc, arith}
-use Rattle.std.proofs.Common.{drop, false, inl, inr, length, refl, sym, true, ℕ}
+use Rattle.std.proofs.Common.{[], ◌++◌, ◌<◌, ◌||◌, ◌∷◌, ◌≡◌, ◌≢◌, Bool, List, ℕ, append_assoc, arith, drop, false}
 use Rattle.std.proofs.lemmas.Bool.{eqb-true, ne_eqb, or_cases, or_from, or_right}
 use Rattle.std.specs.Prelude.{◌==◌, IsTrue, slice_index, suc}
-use Rattle.std.proofs.lemmas.Grind.{common_steps}
 use Rattle.history_laws.specs.Prelude.{Block, Blocks, Event, Reply, State}
-use Rattle.ring_laws.specs.ReceivePrelude.{IsOwn, LendsAnew, Lent, NamesNext, PeeksNext, Receive, Stage}
-use Rattle.ring_laws.specs.ReceivePrelude.{Takes, Told, drive, names}
-use Rattle.ring_laws.specs.ReceivePrelude.{took}
+use Rattle.ring_laws.specs.ReceivePrelude.{IsOwn, LendsAnew, Lent, NamesNext, PeeksNext, Receive, Stage, Takes, Told}
+use Rattle.ring_laws.specs.ReceivePrelude.{drive, names, took}
 use Rattle.pmd_rx.specs.Receive.{CanLend, LendsNext, lent_one, looked, moved}
-use Rattle.pmd_rx.specs.{Keeping.fresh_block, Keeping.has_lent}
 use Rattle.history_laws.proofs.Lent.{Follows, follows_in, follows_known, only_lent_stays, or_swap}
 use Rattle.history_laws.specs.Lent.{LendsOneOf, LendsOwn, OnlyLent, either}
 use Rattle.ring_laws.proofs.Kept.{among, parted, ring_of, slots_of}
+use Rattle.std.proofs.{Common.length, Common.refl, Common.sym, Common.true, lemmas.Grind.common_steps}
+use Rattle.pmd_rx.specs.Keeping.{fresh_block, has_lent}
 use Rattle.ring_laws.specs.{ReceiveLent.OwnLendsAreKnown, Steps.Each}
 use Rattle.nic_device.specs.declared.event.Event.TheVariants as event
-use Rattle.nic_device.specs.declared.event.Reply.TheVariants as reply
 
 -- Which blocks the driver has lent for receiving, after each of its calls.
 
 among-insert : (xs ys : List ℕ) (b n : ℕ) → among (xs ++ b ∷ ys) n ≡ (n == b || among (xs ++ ys) n)
-among-insert [] ys b n = refl
-among-insert (x ∷ xs) ys b n =
-    ap (λ (t : Bool). n == x || t) (among-insert xs ys b n) ∙ or_swap (n == x) (n == b) (among (xs ++ ys) n)
+among-insert xs ys b n = grind (arith, common_steps, or_swap, among)
 
 in_rest : (xs ys : List ℕ) (n : ℕ) → n ≢ slice_index xs 0 → among (xs ++ ys) n ≡ true → among (drop 1 xs ++ ys) n ≡ true
-in_rest [] ys n ne is = is
-in_rest (x ∷ xs) ys n ne is = elim (or_cases (n == x) (among (xs ++ ys) n) is) [
-  | inl same ↦ absurd (ne (eqb-true n x same))
-  | inr later ↦ later
-]
+in_rest xs ys n h1 h2 = grind (arith, common_steps, or_cases, among, eqb-true)
 
 of_rest : (xs ys : List ℕ) (n : ℕ) → among (drop 1 xs ++ ys) n ≡ true → among (xs ++ ys) n ≡ true
 of_rest [] ys n is = is
@@ -59,18 +50,7 @@ module _ (v : Receive) (n : ℕ) where
   took_has : (seen : List Told) (taken : ℕ) (b : Block) → v.stage ≡ Takes → taken ≡ slice_index v.layout.blocks 0
       → (n ≢ taken → has_lent v n ≡ true → has_lent (took v seen b) n ≡ true)
       × (has_lent (took v seen b) n ≡ true → has_lent v n ≡ true)
-  took_has [] taken b is own = (λ ne has. has, λ has. has)
-  took_has (t ∷ seen) taken b is own =
-      let blocks = v.layout.blocks in
-      let before : has_lent v n ≡ among (blocks ++ (v.named ++ ring_of v)) n =
-      ap (λ (s : Stage). Had (slots_of v) (fresh_block s)) is
-      ∙ ap (λ (xs : List ℕ). among xs n) (append_assoc blocks v.named (ring_of v)) in
-      let behind : among (drop 1 blocks ++ (v.named ++ ring_of v)) n ≡ has_lent (took v (t ∷ seen) b) n =
-      ap (λ (xs : List ℕ). among xs n) (sym (append_assoc (drop 1 blocks) v.named (ring_of v))) in (
-        (λ ne has.
-            sym behind ∙ in_rest blocks (v.named ++ ring_of v) n (λ e. ne (e ∙ sym own)) (sym before ∙ has)),
-        (λ has. before ∙ of_rest blocks (v.named ++ ring_of v) n (behind ∙ has)),
-      )
+  took_has seen taken b h1 h2 = grind (arith, common_steps, among, ring_of, slots_of, append_assoc, in_rest, of_rest)
 
   -- a fresh block is lent
 
@@ -79,32 +59,16 @@ module _ (v : Receive) (n : ℕ) where
   lend_block other seen can = refl
 
   is_lent_one : (b : Block) → LendsNext v b → has_lent (lent_one v b.number) n ≡ (n == b.number || has_lent v n)
-  is_lent_one b own =
-      among-insert (slots_of v) (ring_of v) b.number n
-      ∙ ap (λ (fresh : List ℕ). n == b.number || Had (slots_of v) fresh) (sym (lend_block v.stage v.seen own.stage))
+  is_lent_one b own = grind (arith, common_steps, among-insert, slots_of, ring_of, lend_block)
 
 module _ (v : Receive) where
   follows : (e : Event Block) → IsOwn v e → (r : Reply Block) (n : ℕ)
       → Follows (has_lent v) (has_lent (drive v e r)) e r n
-  follows (event.Peek16 a) may (reply.Bytes d) n = is_looked v n a may d
-  follows (event.Peek16 a) may r n = refl
-  follows (event.Take t) may (reply.Buf b) n = took_has v n v.seen t b may.stage may.block
-  follows (event.Take t) may r n = refl
-  follows (event.Lend b) may reply.Done n = is_lent_one v n b may
-  follows (event.Lend b) may r n = refl
-  follows (event.Poke16 a bytes) may reply.Done n = is_named v n a bytes may
-  follows (event.Poke16 a bytes) may r n = refl
-  follows (event.Write port number word) may reply.Done n = is_moved v n word
-  follows (event.Write port number word) may r n = refl
-  follows e may r n = absurd may
+  follows e h1 r n = grind (arith, common_steps, is_looked, took_has, is_lent_one, is_named, is_moved)
 
   -- a block that may be lent isn't lent yet
   pub unknown : (b : Block) → LendsNext v b → has_lent v b.number ≡ false
-  unknown b own =
-      let none : fresh_block v.stage ≡ [] = lend_block v b.number v.stage v.seen own.stage in
-      parted v b.number
-      ∙ or_from _ _ (in_none (slots_of v) b.number own.may.apart)
-      (or_from _ _ (ap (λ (xs : List ℕ). among xs b.number) none) own.may.not_ring)
+  unknown b own = grind (arith, common_steps, lend_block, parted, or_from, in_none, slots_of, among)
 
 -- they stay among those that its pass lends
 pub mine_driven : (mine : Blocks) (v : Receive) → Each v (λ b. IsTrue (mine b)) → (e : Event Block) (r : Reply Block)

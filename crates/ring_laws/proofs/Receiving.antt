@@ -1,32 +1,29 @@
 -- A slot of the driver's ring is filled: there is no fault, and the agreement has one piece more.
-use Rattle.std.proofs.Common.{[], ◌*◌, ◌++◌, ◌+◌, ◌<◌, ◌^◌, ◌∙◌, ◌∷◌, ◌≡◌, ◌≢◌, ◌≤◌, ◌⊎◌, Err, List, Ok, ap}
-use Rattle.std.proofs.Common.{append_assoc, arith, false, inl, inr, length, refl, subst, sym, take, true, ℕ}
-use Rattle.std.proofs.lemmas.Bool.{cases_lt}
+use Rattle.std.proofs.Common.{[], ◌*◌, ◌++◌, ◌+◌, ◌<◌, ◌^◌, ◌∙◌, ◌∷◌, ◌≡◌, ◌≢◌, ◌≤◌, ◌⊎◌, Err, List, Ok, ℕ, ap}
+use Rattle.std.proofs.Common.{append_assoc, arith, false, inl, inr, length, refl, subst, sym, take, true}
 use Rattle.std.proofs.lemmas.List.{get_or_append_left, get_or_push, length-take-le, length_push}
-use Rattle.std.proofs.lemmas.Grind.{common_steps}
-use Rattle.history_laws.specs.Prelude.{AreApart, Filled, IsSound, IsWhole, Memory, ReceiveQueue, Rest, Ring, RingFault}
-use Rattle.history_laws.specs.Prelude.{Rx, State, bytes_in, ends_packet, first_half, is_done}
-use Rattle.history_laws.specs.Prelude.{is_empty, is_outside, mode_in, moved_on, read_at, receive_queue_of}
-use Rattle.history_laws.specs.Prelude.{ring_of, second_half}
-use Rattle.ring_laws.specs.ReceivePrelude.{Layout, Lent, Receive, Stage, block_at, descriptor_at, reach}
-use Rattle.ring_laws.specs.ReceivePrelude.{slot_at, wrapped}
+use Rattle.history_laws.specs.Prelude.{AreApart, Block, Event, Filled, IsSound, IsWhole, Memory, ReceiveQueue, Rest}
+use Rattle.history_laws.specs.Prelude.{Ring, RingFault, Rx, State, WritesNoSetting, after, bytes_in, ends_packet}
+use Rattle.history_laws.specs.Prelude.{first_half, is_done, is_empty, is_outside, moved_on, read_at, receive_queue_of}
+use Rattle.ring_laws.specs.ReceivePrelude.{Layout, Lent, Receive, Stage, block_at, descriptor_at, reach, slot_at}
 use Rattle.nic_device.proofs.RxRing.Fills.{driver_reads, fill_keeps_blocks, takes_piece, writes_inside_slot}
-use Rattle.nic_device.specs.RxRing.Fill.{Outcome, buffer_address, head_address}
-use Rattle.nic_device.proofs.{DmaArena.Blocks.is_lent_in, RxRing.Tests.fill_healthy}
+use Rattle.ring_laws.proofs.Kept.{buffer_even, filled_stays, named_kept, posted_below, posted_stays, ring_low}
+use Rattle.ring_laws.proofs.Kept.{slot_below, slot_low, stage_stays}
+use Rattle.ring_laws.proofs.Ring.{Stays, address_small, buffer_and_slot, buffers_apart, ends_apart, slot_and_buffer}
+use Rattle.ring_laws.specs.Joint.{HasSlots, Holds, IsFilled, IsPosted, IsSetUp, StageHolds}
+use Rattle.nic_device.specs.RxRing.Fill.{buffer_address, head_address}
+use Rattle.pmd_rx.proofs.PmdSeam.Places.{next_wrapped, wrapped_apart}
+use Rattle.history_laws.proofs.DeviceLaws.KeptSettings.{settings_stand}
+use Rattle.history_laws.specs.{Prelude.rest_of, Prelude.second_half, Left.Takes, Left.fill_on, Segments.piece_in}
+use Rattle.history_laws.specs.{Sides.IsTried, Sides.side_of}
+use Rattle.ring_laws.specs.{ReceivePrelude.wrapped, Pieces.Piece, Pieces.no_piece, Pieces.piece_at}
+use Rattle.ring_laws.proofs.{Ring.slot_lent, Ring.slots_apart, Parts.seen_longer}
+use Rattle.std.proofs.{lemmas.Bool.cases_lt, lemmas.Grind.common_steps}
 use Rattle.nic_device.specs.{DmaArena.Memory.SameLent, DmaRing.Ring.next_of, DmaRing.Ring.slots_of}
-use Rattle.nic_device.specs.{RxRing.Laws.IsHealthy, RxRing.Laws.TakesPiece}
-use Rattle.pmd_rx.proofs.PmdSeam.Places.{next_wrapped}
-use Rattle.history_laws.specs.{Left.fill_on, Segments.piece_in}
-use Rattle.ring_laws.proofs.Kept.{filled_stays, posted_stays, stage_stays}
-use Rattle.ring_laws.proofs.Ring.{address_small, ends_apart}
-use Rattle.ring_laws.proofs.Ring.{Stays, buffer_and_slot, buffers_apart, slot_and_buffer, slot_lent, slots_apart}
-use Rattle.ring_laws.proofs.Kept.{buffer_even, named_kept, posted_below}
-use Rattle.ring_laws.specs.Joint.{HasSlots, Holds, IsFilled, IsPosted, IsRing, IsSetUp, StageHolds}
-use Rattle.ring_laws.specs.Steps.{IfFresh}
+use Rattle.nic_device.specs.{RxRing.Laws.IsHealthy, RxRing.Laws.TakesPiece, Sound.AreWaiting}
+use Rattle.nic_device.proofs.{DmaArena.Blocks.is_lent_in, RxRing.Tests.fill_healthy}
 use Rattle.pmd_rx.specs.PmdSeam.Slots.{descriptor_in}
-use Rattle.ring_laws.proofs.{Kept.ring_low, Kept.slot_below, Kept.slot_low}
-use Rattle.ring_laws.proofs.{Parts.seen_longer}
-use Rattle.ring_laws.specs.Pieces.{Piece, no_piece, piece_at}
+use Rattle.history_laws.proofs.{Leaving.receive_of, DeviceLaws.Delivered.told-lt, DeviceLaws.Standing.stays_within}
 
 -- What filling a slot does to memory: the slot gets a piece, and the others stay.
 
@@ -62,18 +59,13 @@ module _ {queue : ℕ} {s : State} {out : List Piece} {v : Receive} {gone here :
   first_waits room = h.slots.posted (length here) (omega arith) (posted_below v (length here) room)
 
   pub buffer_is : HasRoom → buffer_address s.memory own.ring ≡ 2048 * block_at l (length here)
-  buffer_is room =
-      buffer_even _ (block_at l (length here))
-      (ap (λ a. first_half (read_at s.memory a 16)) head_is ∙ (first_waits room).buffer)
+  buffer_is room = grind (arith, common_steps, buffer_even, head_is, first_waits)
 
   -- a slot is left where the ring isn't empty
   pub room_left : is_empty own.ring ≡ false
       → (length here < length v.layout.blocks) ⊎ (length v.layout.blocks ≤ length here)
       → length here < length v.layout.blocks
-  room_left some (inl is) = is
-  room_left some (inr all) =
-      let e : length here ≡ length v.layout.blocks = omega (arith, h.posted, all) in
-      absurd (ends_apart own.ring inside some (h.side.head ∙ ap (slot_at l) e ∙ sym h.side.tail))
+  room_left h1 h2 = grind (arith, common_steps, ends_apart, inside)
 
   pub healthy : HasRoom → IsHealthy s.memory own.ring own.control
   healthy room =
@@ -95,10 +87,7 @@ module _ {queue : ℕ} {s : State} {out : List Piece} {v : Receive} {gone here :
 
   -- no fault
   pub no_fault : HasRoom → (rest : Rest) (fault : RingFault) → (fill_on s queue rest).answer ≡ Err fault → ⊥
-  no_fault room rest fault is =
-      let e = ap (λ (o : Outcome). o.answer) (fill_healthy s.memory own.ring own.control rest (healthy room)) in
-      let clash = sym e ∙ is in
-      cc
+  no_fault room rest fault is = grind (arith, common_steps, fill_healthy, healthy)
 
   pub fills_here : HasRoom → IsWhole s.memory → (rest : Rest) (f : Filled) → rest.first < 2 ^ 64
       → (fill_on s queue rest).answer ≡ Ok f
@@ -160,44 +149,8 @@ module _ {queue : ℕ} {s : State} {out : List Piece} {v : Receive} {gone here :
         omega (arith, below, slots, h.ring.few),
       )
 
--- the slots with one more filled
-module _ (m n : Memory) (l : Layout) (here : List Piece) (p : Piece) (ring : IsRing l) (h : HasSlots m l here)
-    (room : length here < length l.blocks) (fill : Fills m n l (length here) p) where
-  -- the slots beside it and their blocks stay
-  slot_beside : (k : ℕ) → k < length l.blocks → k ≢ length here → slot_at l k ≢ slot_at l (length here)
-  slot_beside k i ne = grind arith
-
-  filled_more : (k : ℕ) → k < length (here ++ p ∷ []) → (k < length here) ⊎ (length here ≤ k)
-      → IsFilled n (descriptor_at l k) (block_at l k) (piece_at (here ++ p ∷ []) k)
-  filled_more k i (inl low) =
-      let ne : k ≢ length here = λ e. absurd (omega (arith, e, low)) in
-      let j : k < length l.blocks = omega (arith, room, low) in
-      subst (IsFilled n (descriptor_at l k) (block_at l k)) (sym (get_or_append_left here (p ∷ []) no_piece k low))
-      (filled_stays ring fill.stays k (block_at l k) (piece_at here k) (omega (arith, j)) (ring.not_ring k j)
-      (slot_beside k j ne) (ring.apart k (length here) j room ne) (h.filled k low))
-  filled_more k i (inr high) =
-      let e : k ≡ length here = omega (arith, length_push here p, i, high) in
-      rw (e, get_or_push here p no_piece (length here) refl) fill.filled
-
-  pub slots_more : HasSlots n l (here ++ p ∷ [])
-  slots_more =
-      let more : length (here ++ p ∷ []) ≡ length here + 1 = length_push here p in
-      record {
-        there = λ k i. fill.stays.has k i ∙ h.there k i;
-        within = omega (arith, more, room);
-        filled = λ k i. filled_more k i (cases_lt k (length here));
-        posted = λ k i j.
-            let ne : k ≢ length here = λ e. absurd (omega (arith, more, i, e)) in
-            posted_stays ring fill.stays k (block_at l k) (omega (arith, j)) (slot_beside k j ne)
-            (ring.apart k (length here) j room ne) (h.posted k (omega (arith, more, i)) j);
-      }
-
-  pub stage_more : (stage : Stage) → StageHolds m l stage → StageHolds n l stage
-  stage_more stage is = stage_stays ring fill.stays stage (fresh_beside stage is) is
-    where
-      fresh_beside : (stage : Stage) → StageHolds m l stage → IfFresh stage (λ b. b ≢ block_at l (length here))
-      fresh_beside (Lent b) loose = λ e. loose.apart (length here) room (sym e)
-      fresh_beside other loose = tt
+  pub slot_left : IsTried (side_of Rx queue s) → HasRoom
+  slot_left tried = room_left tried.some (cases_lt (length here) (length v.layout.blocks))
 
 -- The slot at the head of the driver's queue was filled: the head moved on, and the two agree on one piece more.
 
@@ -207,37 +160,78 @@ set_up_more : (l : Layout) (q : ReceiveQueue) (n m : ℕ) → IsSetUp q l n → 
     → IsSetUp (record q { ring = moved_on q.ring }) l m
 set_up_more l q n m h e is = assumption (is ∙ ap (slot_at l) (sym e))
 
-module _ (queue : ℕ) (s : State) (out : List Piece) (v : Receive) (sound : IsSound s) where
-  -- the slot at the head was filled, and the frames that wait and the registers are what they are
-  pub filled_holds : (gone here : List Piece) → Holds queue s out v gone here → length here < length v.layout.blocks
-      → (rest : Rest) (f : Filled) (t : State) → rest.first < 2 ^ 64 → (fill_on s queue rest).answer ≡ Ok f
-      → t.memory ≡ (fill_on s queue rest).memory
-      → receive_queue_of t.registers queue
-      ≡ record (receive_queue_of s.registers queue) { ring = moved_on (ring_of s.registers Rx queue) }
-      → mode_in t.registers ≡ mode_in s.registers → t.vfs ≡ s.vfs
-      → Holds queue t (out ++ piece_in rest f ∷ []) v gone (here ++ piece_in rest f ∷ [])
-  filled_holds gone here h room rest f t fits is memory side mode vfs =
-      let l = reach v in
-      let p : Piece = piece_in rest f in
-      let n : Memory = (fill_on s queue rest).memory in
-      let fill : Fills s.memory n l (length here) p = fills_here h room sound.blocks.whole rest f fits is in
-      let taken = takes_piece s.memory _ _ rest f is in
-      let head = head_on h room rest f is in
-      let low = posted_below v (length here) room in
-      let more : length (here ++ p ∷ []) ≡ length here + 1 = length_push here p in
-      record {
-        named = named_kept s t queue v.layout mode vfs h.named;
-        ring = h.ring;
-        side = subst (λ q. IsSetUp q v.layout (length (here ++ p ∷ []))) (sym side)
-            (set_up_more v.layout (receive_queue_of s.registers queue) (length here) (length (here ++ p ∷ [])) h.side
-            more (sym taken.head ∙ head.0));
-        posted = omega (arith, more, room);
-        slots = subst (λ m. HasSlots m l (here ++ p ∷ [])) (sym memory)
-            (slots_more s.memory n l here p h.ring h.slots low fill);
-        stage = subst (λ m. StageHolds m l v.stage) (sym memory)
-            (stage_more s.memory n l here p h.ring h.slots low fill v.stage h.stage);
-        order = assumption (
-          seen_longer v.seen here p h.order.seen,
-          ap (λ xs. xs ++ p ∷ []) h.order.order ∙ append_assoc gone here (p ∷ []),
-        );
-      }
+module _ {queue : ℕ} {s : State} {out : List Piece} {v : Receive} {gone here : List Piece}
+    (h : Holds queue s out v gone here) (sound : IsSound s) (e : Event Block) (none : WritesNoSetting s e)
+    (x : Takes Rx queue s e) where
+  abbrev r : Layout
+  r = reach v
+
+  abbrev rest : Rest
+  rest = rest_of x.work.frame
+
+  abbrev p : Piece
+  p = piece_in rest x.work.filled
+
+  abbrev n : Memory
+  n = (fill_on s queue rest).memory
+
+  low : length here < length r.blocks
+  low = posted_below v (length here) (slot_left h x.tried)
+
+  fill : Fills s.memory n r (length here) p
+  fill =
+      fills_here h (slot_left h x.tried) sound.blocks.whole rest x.work.filled
+      (told-lt x.work.frame (subst AreWaiting x.work.first.waits sound.waiting).0) x.work.answer
+
+  more : length (here ++ p ∷ []) ≡ length here + 1
+  more = length_push here p
+
+  -- the slots beside it and their blocks stay
+  slot_beside : (k : ℕ) → k < length r.blocks → k ≢ length here → slot_at r k ≢ slot_at r (length here)
+  slot_beside k i ne =
+      wrapped_apart r.size r.next k (length here) h.ring.next (omega (arith, i, h.ring.room))
+      (omega (arith, low, h.ring.room)) ne
+
+  filled_more : (k : ℕ) → k < length (here ++ p ∷ []) → (k < length here) ⊎ (length here ≤ k)
+      → IsFilled n (descriptor_at r k) (block_at r k) (piece_at (here ++ p ∷ []) k)
+  filled_more k i (inl before) =
+      let ne : k ≢ length here = λ e. absurd (omega (arith, e, before)) in
+      let j : k < length r.blocks = omega (arith, low, before) in
+      subst (IsFilled n (descriptor_at r k) (block_at r k)) (sym (get_or_append_left here (p ∷ []) no_piece k before))
+      (filled_stays h.ring fill.stays k (block_at r k) (piece_at here k) (omega (arith, j)) (h.ring.not_ring k j)
+      (slot_beside k j ne) (h.ring.apart k (length here) j low ne) (h.slots.filled k before))
+  filled_more k i (inr high) =
+      let e : k ≡ length here = omega (arith, more, i, high) in
+      rw (e, get_or_push here p no_piece (length here) refl) fill.filled
+
+  slots_more : HasSlots n r (here ++ p ∷ [])
+  slots_more = record {
+    there = λ k i. fill.stays.has k i ∙ h.slots.there k i;
+    within = omega (arith, more, low);
+    filled = λ k i. filled_more k i (cases_lt k (length here));
+    posted = λ k i j.
+        let ne : k ≢ length here = λ e. absurd (omega (arith, more, i, e)) in
+        posted_stays h.ring fill.stays k (block_at r k) (omega (arith, j)) (slot_beside k j ne)
+        (h.ring.apart k (length here) j low ne) (h.slots.posted k (omega (arith, more, i)) j);
+  }
+
+  stage_more : (stage : Stage) → StageHolds s.memory r stage → StageHolds n r stage
+  stage_more (Lent b) loose = stage_stays h.ring fill.stays (Lent b) (λ e. loose.apart (length here) low (sym e)) loose
+  stage_more other loose = tt
+
+  pub filled_holds : Holds queue (after s e) (out ++ p ∷ []) v gone (here ++ p ∷ [])
+  filled_holds = record {
+    named = named_kept s (after s e) queue v.layout (settings_stand s e none).mode (stays_within s e).vfs h.named;
+    ring = h.ring;
+    side = subst (λ q. IsSetUp q v.layout (length (here ++ p ∷ []))) (sym (ap receive_of x.side))
+        (set_up_more v.layout (receive_queue_of s.registers queue) (length here) _ h.side more
+        (sym (takes_piece s.memory _ _ rest x.work.filled x.work.answer).head
+        ∙ (head_on h (slot_left h x.tried) rest x.work.filled x.work.answer).0));
+    posted = omega (arith, more, slot_left h x.tried);
+    slots = subst (λ m. HasSlots m r (here ++ p ∷ [])) (sym x.work.memory) slots_more;
+    stage = subst (λ m. StageHolds m r v.stage) (sym x.work.memory) (stage_more v.stage h.stage);
+    order = assumption (
+      seen_longer v.seen here p h.order.seen,
+      ap (λ xs. xs ++ p ∷ []) h.order.order ∙ append_assoc gone here (p ∷ []),
+    );
+  }

@@ -1,15 +1,14 @@
 -- A ring in memory, of either half of a driver: its descriptors, the blocks beside it, and what stays of both.
-use Rattle.std.proofs.Common.{◌%◌, ◌*◌, ◌+◌, ◌/◌, ◌<◌, ◌≡◌, ◌≢◌, ◌≤◌, List, ap, arith, false, inl, inr, length, refl}
+use Rattle.std.proofs.Common.{◌%◌, ◌*◌, ◌+◌, ◌/◌, ◌<◌, ◌^◌, ◌≡◌, ◌≢◌, ◌≤◌, List, ℕ, ap, arith, false, inl, inr, length}
 use Rattle.std.proofs.lemmas.Bool.{and_from, both_ways, cases_lt, eq-eqb, not_from_false}
-use Rattle.std.proofs.{Common.subst, Common.sym, Common.true, Common.ℕ, Common.◌^◌}
-use Rattle.std.specs.Prelude.{◌==◌, IsTrue, is_some, ⊤}
 use Rattle.history_laws.specs.Prelude.{AreApart, Bytes, Done, IsWhole, LiesIn, Memory, Ring, State, gives, has_block}
-use Rattle.history_laws.specs.Prelude.{is_empty, is_lent}
-use Rattle.history_laws.specs.Prelude.{is_outside, read_at, step_of, write_at}
+use Rattle.history_laws.specs.Prelude.{is_empty, is_lent, is_outside, read_at, step_of, write_at}
 use Rattle.ring_laws.specs.TransmitPrelude.{EachRingBlock, is_ring_block}
 use Rattle.nic_device.proofs.DmaArena.Bus.{SameLent-write_at, read_at-write_at_apart, read_at-write_at_same}
-use Rattle.nic_device.proofs.{DmaArena.Blocks.is_lent_in, DmaArena.Inside.reads_its_block}
 use Rattle.pmd_rx.proofs.PmdSeam.Rings.{each_slot_block, slot_fits, slot_lies, slot_place}
+use Rattle.std.proofs.{Common.refl, Common.subst, Common.sym, Common.true, lemmas.Grind.common_steps}
+use Rattle.std.specs.Prelude.{◌==◌, IsTrue, is_some, ⊤}
+use Rattle.nic_device.proofs.{DmaArena.Blocks.is_lent_in, DmaArena.Inside.reads_its_block}
 use Rattle.pmd_rx.specs.PmdSeam.Slots.{descriptor_in}
 use Rattle.history_laws.proofs.Lent.{poked_is}
 use Rattle.nic_device.specs.declared.event.Event.TheVariants as event
@@ -116,7 +115,4 @@ module _ (ring size slot : ℕ) (below : slot < size) (m : Memory) (bytes : List
 
   pub written_here : IsWhole m → EachRingBlock ring size (λ b. IsTrue (has_block m b))
       → read_at written (descriptor_in ring slot) 16 ≡ bytes
-  written_here whole has =
-      subst (λ k. read_at written (descriptor_in ring slot) k ≡ bytes) long
-      (read_at-write_at_same m (descriptor_in ring slot) bytes whole
-      (subst (λ k. is_lent m (descriptor_in ring slot) k ≡ true) (sym long) (slot_lent ring size slot below m has)))
+  written_here whole has = grind (arith, common_steps, read_at-write_at_same, slot_lent)

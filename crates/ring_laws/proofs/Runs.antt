@@ -1,31 +1,27 @@
 -- Over a whole history.
-use Rattle.std.proofs.Common.{[], ◌++◌, ◌+◌, ◌-◌, ◌<◌, ◌∙◌, ◌∷◌, ◌≡◌, ◌≢◌, ◌≤◌, List, None, Option, Some, ap}
-use Rattle.std.proofs.Common.{append_assoc, arith, drop, false, inl, inr, length, refl, subst, sym, true, ℕ}
-use Rattle.std.proofs.lemmas.Bool.{both_ways, cases_Bool, cases_eq, cases_lt}
+use Rattle.std.proofs.Common.{[], ◌++◌, ◌+◌, ◌-◌, ◌<◌, ◌∙◌, ◌∷◌, ◌≡◌, ◌≢◌, ◌≤◌, List, None, Option, Some, ℕ, ap}
+use Rattle.std.proofs.Common.{append_assoc, arith, drop, false, inl, inr, length, refl, subst, sym, true}
 use Rattle.std.proofs.lemmas.List.{append-nil, drop_all, get_or-drop, length-append, length-drop, map-append}
-use Rattle.std.specs.Prelude.{◌==◌, IsTrue, slice_index_or}
 use Rattle.history_laws.specs.Prelude.{Block, Blocks, Entry, Event, IsLegal, LeavesBlock, Reply, Rx, State, Tx, Watched}
 use Rattle.history_laws.specs.Prelude.{WritesOutside, Wrote, after, calls_of, leads_to, read_at, reply_to, staged_by}
-use Rattle.ring_laws.specs.TransmitPrelude.{Elsewhere, Kept, Move}
-use Rattle.ring_laws.specs.TransmitPrelude.{Segment}
-use Rattle.ring_laws.specs.TransmitPrelude.{Sender, descriptor_at, first_end, has_lent, is_sent, moved, no_segment}
-use Rattle.ring_laws.specs.TransmitPrelude.{segment_at}
-use Rattle.pmd_tx.specs.Plays.{played_by}
+use Rattle.ring_laws.specs.TransmitPrelude.{Elsewhere, Kept, Move, Segment, Sender, descriptor_at, first_end, has_lent}
+use Rattle.ring_laws.specs.TransmitPrelude.{is_sent, moved, no_segment, segment_at}
 use Rattle.history_laws.proofs.Leaving.{left-setting, left-side, left_transmit, step_is}
-use Rattle.history_laws.proofs.{Blocks.clear_avoids, Blocks.left-block, Deeds.received-none, Deeds.silent_else}
-use Rattle.history_laws.proofs.DeviceLaws.{Standing.stays_within, StandingQueues.receiving_blocks}
-use Rattle.history_laws.specs.Left.{is_step_of}
-use Rattle.history_laws.specs.DeviceLaws.Leaving.{ReceivesOutside}
 use Rattle.ring_laws.specs.Agreeing.{Agrees, AgreesAt, SendsInOrder, bytes_of, frames_from}
 use Rattle.ring_laws.specs.Alone.{IsAlone, MayComeAlone, MayMoveAlone, MayRunAlone}
-use Rattle.ring_laws.specs.Laws.{AloneMayRun, FindsWaiting, IsPrefixOf, LeftAloneIsSpared}
+use Rattle.ring_laws.specs.Laws.{AloneMayRun, FindsWaiting, IsPrefixOf, LeftAloneIsSpared, SentIsPrefixOfTaken}
 use Rattle.ring_laws.specs.Turns.{IsOver, MayCome, MayMove, MayRun, Turn, entries_of, known, sender_after, turns_of}
+use Rattle.ring_laws.specs.{Laws.SentIsPrefixWhereAlone, Laws.WaitingIsNotAllSent, Sent.sent_by, Sent.sent_in}
+use Rattle.ring_laws.specs.{Sparing.IsLeft, Sparing.ReceiveOwes, Sparing.is_transmit_of}
+use Rattle.std.proofs.{lemmas.Grind.common_steps, lemmas.Bool.both_ways, lemmas.Bool.cases_Bool, lemmas.Bool.cases_eq}
+use Rattle.std.proofs.{lemmas.Bool.cases_lt}
+use Rattle.std.specs.Prelude.{◌==◌, IsTrue, slice_index_or}
+use Rattle.pmd_tx.specs.Plays.{played_by}
+use Rattle.history_laws.proofs.{Blocks.clear_avoids, Blocks.left-block, Deeds.received-none, Deeds.silent_else}
+use Rattle.history_laws.proofs.{DeviceLaws.Standing.stays_within, DeviceLaws.StandingQueues.receiving_blocks}
+use Rattle.history_laws.specs.{Left.is_step_of, DeviceLaws.Leaving.ReceivesOutside}
 use Rattle.ring_laws.proofs.{Advancing.end-last, Advancing.look-fetched, Advancing.look-tells, TransmitLent.AreMine}
 use Rattle.ring_laws.proofs.{TransmitLent.mine-moved, Packets.frame_of_end, Playing.move-keeps, Sparing.spares-keeps}
-use Rattle.ring_laws.specs.{Laws.SentIsPrefixOfTaken, Laws.SentIsPrefixWhereAlone}
-use Rattle.ring_laws.specs.{Laws.WaitingIsNotAllSent, Sent.sent_by, Sent.sent_in, Sparing.IsLeft}
-use Rattle.ring_laws.specs.{Sparing.ReceiveOwes, Sparing.is_transmit_of}
-use Rattle.nic_device.specs.declared.event.Event.TheVariants as event
 
 -- An event that leaves blocks alone leaves those of a driver that sends.
 
@@ -40,16 +36,11 @@ received_outside queue mine v (Wrote on slot end desc at len) b lent is outside 
 received_outside queue mine v other b lent is outside owes = tt
 
 module _ (w : Watched) (mine : Blocks) (v : Sender) (s : State) (b : ℕ) (lent : IsTrue (has_lent v b)) where
-  received_block : IsLeft w mine v s event.RxStep → LeavesBlock b s (after s event.RxStep)
-  received_block x =
-      receiving_blocks s b
-      (received_outside w.queue mine v (reply_to s event.RxStep) b lent (x.lent b lent) x.steps x.owed)
-
   spared_block : (e : Event Block) → IsLeft w mine v s e → is_transmit_of w.queue e ≡ false
       → LeavesBlock b s (after s e)
   spared_block e x other = elim (cases_Bool (is_step_of Rx w.queue e)) as (λ _. LeavesBlock b s (after s e)) [
     | inl own ↦
-        let is = step_is Rx w.queue e own in rw is (received_block (subst (IsLeft w mine v s) is x))
+        let is = step_is Rx w.queue e own in rw is (grind (arith, common_steps, receiving_blocks, received_outside))
     | inr none ↦
         left-block w.queue mine s x.sound b (x.lent b lent) e x.made x.blocks x.steps
         (received-none w.queue s e none) (silent_else Tx w.queue s e other)
@@ -96,23 +87,13 @@ first_sent s queue sent limit left ks (inr x) = (x.frame ∷ x.rest, x.in_order)
 -- nothing, where nothing is left
 all_sent : (s : State) (queue : ℕ) (sent : List (List ℕ)) (limit : ℕ) (left : List Segment) (ks : List Kept)
     → SendsInOrder s queue sent limit left ks → left ≡ [] → bytes_of ks ≡ sent
-all_sent s queue sent limit left ks (inl x) none =
-    x.in_order ∙ ap (λ (ss : List Segment). sent ++ frames_from (staged_by s queue) ss) none ∙ append-nil sent
-all_sent s queue sent limit left ks (inr x) none = absurd (omega (arith, x.more, ap length none))
+all_sent s queue sent limit left ks h1 h2 = grind (arith, common_steps, append-nil)
 
 -- something, where the end of a packet is left
 some_unsent : (s : State) (queue : ℕ) (sent : List (List ℕ)) (limit : ℕ) (left : List Segment) (ks : List Kept)
     → SendsInOrder s queue sent limit left ks → (k : ℕ) → k < length left
     → (slice_index_or left k no_segment).part.last ≡ true → length sent < length (bytes_of ks)
-some_unsent s queue sent limit left ks (inl x) k below end =
-    omega (
-      arith,
-      ap length x.in_order,
-      length-append sent (frames_from (staged_by s queue) left),
-      frame_of_end (staged_by s queue) left k below end,
-    )
-some_unsent s queue sent limit left ks (inr x) k below end =
-    omega (arith, ap length x.in_order, length-append sent (x.frame ∷ x.rest))
+some_unsent s queue sent limit left ks h1 k h2 h3 = grind (arith, common_steps, length-append, frame_of_end)
 
 module _ {s : State} {queue : ℕ} {sent : List (List ℕ)} {v : Sender} {f : ℕ} (h : AgreesAt s queue sent v f) where
   -- with none outstanding all that was accepted is sent

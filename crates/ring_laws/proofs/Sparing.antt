@@ -1,13 +1,13 @@
 -- Steps of the driver's own queue, and events that spare the driver, keep what it and the device agree on.
-use Rattle.std.proofs.Common.{[], ◌++◌, ◌+◌, ◌<◌, ◌∙◌, ◌∷◌, ◌≡◌, ◌≤◌, List, Ok, ℕ, ap, append_assoc, arith, drop, false}
+use Rattle.std.proofs.Common.{[], ◌++◌, ◌+◌, ◌<◌, ◌∙◌, ◌∷◌, ◌≡◌, ◌≤◌, List, ℕ, ap, append_assoc, arith, drop, false}
 use Rattle.std.proofs.Common.{inl, inr, length, refl, subst, sym, true}
 use Rattle.std.proofs.lemmas.List.{append-nil, drop_more, get_or-set_same, nil_from_length}
 use Rattle.history_laws.specs.Prelude.{Block, Event, Fetched, IsEvent, LeavesBlock, Outcome, State, TransmitQueue, Tx}
 use Rattle.history_laws.specs.Prelude.{WritesNoSetting, after, done_descriptor, staged_by, transmit_queue_of, write_at}
-use Rattle.ring_laws.specs.TransmitPrelude.{Kept, Layout, Move, Segment, Sender, asking, descriptor_at, has_lent, moved}
-use Rattle.ring_laws.specs.TransmitPrelude.{no_segment, segment_at, side_of, slot_at}
+use Rattle.ring_laws.specs.TransmitPrelude.{Kept, Layout, Move, Segment, Sender, asking, has_lent, moved, no_segment}
+use Rattle.ring_laws.specs.TransmitPrelude.{segment_at, side_of, slot_at}
 use Rattle.history_laws.proofs.Leaving.{named-same, transmit_left, transmit_of}
-use Rattle.history_laws.specs.Left.{Deed, Nothing, Rested, Rests, SendsNone, Shut, Shuts, Switched, Takes, Took}
+use Rattle.history_laws.specs.Left.{Deed, Nothing, Rested, Rests, Shut, Shuts, Switched, Takes, Took, fetch_on}
 use Rattle.ring_laws.proofs.Fetching.{fetch-segment, head_is, lent, more, segment_fetched, segment_outcome}
 use Rattle.ring_laws.specs.Agreeing.{Agrees, AgreesAt, ArePackets, IsBased, IsCounted, IsCutOff, IsInTurn, IsSetUp}
 use Rattle.ring_laws.specs.Agreeing.{SendsInOrder, frame_ended, frames_from, staged_behind}
@@ -15,13 +15,14 @@ use Rattle.std.proofs.lemmas.Bool.{both_ways, cases_Bool, cases_lt, eq-eqb}
 use Rattle.std.specs.Prelude.{if◌then◌else◌, ◌==◌, IsFalse, IsTrue}
 use Rattle.history_laws.proofs.DeviceLaws.KeptSettings.{settings_stand}
 use Rattle.ring_laws.specs.Laws.{SparingEventsKeep, StepsOfQueueKeep}
-use Rattle.history_laws.specs.{Left.fetch_on, Sides.IsTried, Sides.Side, Sides.as_wanted}
 use Rattle.ring_laws.proofs.{Fetching.shows-fetched, Fetching.slots, Fetching.small, Blocks.shows-same}
 use Rattle.ring_laws.proofs.{Blocks.slot-next, Counting.added-by, Packets.frame_left, Packets.some_left}
+use Rattle.history_laws.specs.Sides.{IsTried, Side, as_wanted}
+use Rattle.std.proofs.lemmas.Grind.{common_steps}
 use Rattle.nic_device.proofs.Steps.{keeps_sound}
 use Rattle.nic_device.specs.{Transmit.with_frame, TxRing.Fetch.Outcome as Fetch}
 use Rattle.history_laws.proofs.{Deeds.side_did, Steady.resting_same, DeviceLaws.Standing.stays_within}
-use Rattle.ring_laws.specs.{Sent.frames_added, Sent.sent_by, Sparing.Spares, TransmitHealthy.LendsAnew, TransmitUp.IsUp}
+use Rattle.ring_laws.specs.{Sent.sent_by, Sparing.Spares, TransmitHealthy.LendsAnew, TransmitUp.IsUp}
 use Rattle.pmd_tx.specs.Sending.{is_healthy}
 use Rattle.nic_device.specs.declared.event.Event.TheVariants as event
 
@@ -71,12 +72,10 @@ module _ {s : State} {queue : ℕ} {sent : List (List ℕ)} {v : Sender} {f : �
     posted : f < v.posted
     posted = more h tried.some
 
-    next_left : drop f v.outstanding ≡ x ∷ rest
-    next_left = drop_more v.outstanding f no_segment (omega (arith, lent h posted, h.counted.lent_known))
-
     in_turn : SendsInOrder s queue sent v.layout.limit (drop f v.outstanding) v.accepted
         → IsInTurn v.layout.limit staged sent (x ∷ rest) v.accepted
-    in_turn (inl u) = subst (λ (ss : List Segment). IsInTurn v.layout.limit staged sent ss v.accepted) next_left u
+    in_turn (inl u) = subst (λ (ss : List Segment). IsInTurn v.layout.limit staged sent ss v.accepted)
+        (drop_more v.outstanding f no_segment (omega (arith, lent h posted, h.counted.lent_known))) u
     in_turn (inr u) = absurd (both_ways side.on u.off tried.on)
 
     turn : IsInTurn v.layout.limit staged sent (x ∷ rest) v.accepted
@@ -97,37 +96,13 @@ module _ {s : State} {queue : ℕ} {sent : List (List ℕ)} {v : Sender} {f : �
     told = segment_fetched side.ring staged x
 
     fetched_is : y.work.fetched ≡ told
-    fetched_is =
-        let same : Ok y.work.fetched ≡ Ok told =
-        sym y.work.answer ∙ ap (λ (o : Fetch). o.answer) (fetches y.tried) in cc
-
-    memory_is : u.memory ≡ (if x.part.last then write_at s.memory (descriptor_at v.layout f)
-        (done_descriptor (asking x)) else s.memory)
-    memory_is =
-        ap (λ (o : Outcome). o.state.memory) y.work.step ∙ ap (λ (o : Fetch). o.memory) (fetches y.tried)
-        ∙ ap (λ (a : ℕ). if x.part.last then write_at s.memory a (done_descriptor (asking x)) else s.memory) (head_is h)
+    fetched_is = grind (arith, common_steps, fetches)
 
     staged_is : staged_by u queue ≡ staged_behind staged x
-    staged_is =
-        ap (λ (o : Outcome). staged_by o.state queue) y.work.step
-        ∙ get_or-set_same s.staged queue (fetch_on s queue).staged []
-        (subst (λ n. queue < n) (sym h.based.sound.staged.queues) h.based.small)
-        ∙ ap (λ (o : Fetch). o.staged) (fetches y.tried)
+    staged_is = grind (arith, common_steps, get_or-set_same, fetches)
 
     out_is : u.out ≡ with_frame s.out queue told.frame
-    out_is =
-        ap (λ (o : Outcome). o.state.out) y.work.step
-        ∙ ap (λ (g : Fetched). with_frame s.out queue g.frame) fetched_is
-
-    sent_is : sent_by queue s e ≡ frame_ended staged x
-    sent_is =
-        let own : (queue == queue) ≡ true = eq-eqb queue queue refl in
-        let at : sent_by queue s (event.TxStep queue) ≡ frames_added s.out (after s (event.TxStep queue)).out =
-        rw own refl in
-        ap (sent_by queue s) y.work.is ∙ at
-        ∙ ap (λ (d : Event Block). frames_added s.out (after s d).out) (sym y.work.is)
-        ∙ ap (frames_added s.out) out_is
-        ∙ added-by s.out queue x.part.last (staged ++ x.part.bytes)
+    out_is = grind (arith, common_steps, fetched_is)
 
     side_is : transmit_queue_of u.registers queue
         ≡ record side { ring = record side.ring { head = slot_at v.layout (f + 1) } }
@@ -145,13 +120,16 @@ module _ {s : State} {queue : ℕ} {sent : List (List ℕ)} {v : Sender} {f : �
         counted =
             counted-on v f (f + 1) v.done v.posted v.poked h.counted (omega (arith, h.counted.done_fetched))
             (omega (arith, posted y.tried)) h.counted.posted_poked h.counted.poked_lent;
-        shows = rw memory_is (shows-fetched h (posted y.tried));
+        shows = rw (ap (λ (o : Outcome). o.state.memory) y.work.step ∙ ap (λ (o : Fetch). o.memory) (fetches y.tried)
+            ∙ ap (λ (a : ℕ). if x.part.last then write_at s.memory a (done_descriptor (asking x)) else s.memory)
+            (head_is h)) (shows-fetched h (posted y.tried));
         sends = inl (record {
           packets = subst (λ (l : List ℕ). ArePackets v.layout.limit l rest) (sym staged_is) (turn y.tried).packets.2;
           in_order =
               (turn y.tried).in_order
               ∙ sym (append_assoc sent (frame_ended staged x) (frames_from (staged_behind staged x) rest))
-              ∙ ap (λ (l : List (List ℕ)). (sent ++ l) ++ frames_from (staged_behind staged x) rest) (sym sent_is)
+              ∙ ap (λ (l : List (List ℕ)). (sent ++ l) ++ frames_from (staged_behind staged x) rest)
+              (sym (grind (arith, common_steps, eq-eqb, out_is, added-by)))
               ∙ ap (λ (l : List ℕ). (sent ++ sent_by queue s e) ++ frames_from l rest) (sym staged_is);
         });
       },
@@ -176,9 +154,7 @@ pub sends_on : (s t : State) (queue : ℕ) (sent : List (List ℕ)) (limit : ℕ
     → (IsCutOff (transmit_queue_of s.registers queue) sent left ks
     → IsFalse (transmit_queue_of t.registers queue).on × IsFalse (transmit_queue_of t.registers queue).wanted)
     → SendsInOrder s queue sent limit left ks → SendsInOrder t queue sent limit left ks
-sends_on s t queue sent limit left ks same off (inl x) =
-    inl (subst (λ (l : List ℕ). IsInTurn limit l sent left ks) (sym same) x)
-sends_on s t queue sent limit left ks same off (inr x) = inr (cut_stays _ _ _ _ _ (off x).0 (off x).1 x)
+sends_on s t queue sent limit left ks h1 h2 h3 = grind (arith, common_steps, cut_stays)
 
 module _ {s : State} {queue : ℕ} {sent : List (List ℕ)} {v : Sender} {f : ℕ} (h : AgreesAt s queue sent v f)
     (e : Event Block)
@@ -257,10 +233,6 @@ module _ {s : State} {queue : ℕ} {sent : List (List ℕ)} {v : Sender} {f : �
           side_did Tx queue s e h.based.sound h.based.small
           (λ other apart. transmit_left queue s t (x.side other apart))
 
-      -- where it sends nothing the blocks that the driver has lent stay
-      left_blocks : SendsNone queue s e → (number : ℕ) → IsTrue (has_lent v number) → LeavesBlock number s t
-      left_blocks none number is = grind arith
-
       by_deed : Deed Tx queue s e → Agrees t queue (sent ++ sent_by queue s e) v
       by_deed (Took y) = takes-keeps h e y x.made x.setting
       by_deed (Rested none rests) =
@@ -268,7 +240,7 @@ module _ {s : State} {queue : ℕ} {sent : List (List ℕ)} {v : Sender} {f : �
           rw (none.sent, append-nil sent)
           (still-agrees x.made x.setting
           (set_up-same (transmit_queue_of s.registers queue) (transmit_queue_of t.registers queue) v.layout v.posted f
-          same.ring same.writeback h.set_up) (rest_sends rests) (left_blocks none))
+          same.ring same.writeback h.set_up) (rest_sends rests) (λ number is. grind arith))
 
       pub spares-keeps : Agrees t queue (sent ++ sent_by queue s e) v
       spares-keeps = by_deed spared_did

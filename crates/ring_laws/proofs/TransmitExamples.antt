@@ -1,10 +1,10 @@
 -- The definitions on small examples.
-use Rattle.std.proofs.Common.{[], ◌∷◌, ◌≡◌, None, Some, arith, refl, replicate, ℕ}
-use Rattle.std.proofs.lemmas.List.{length-replicate}
-use Rattle.history_laws.specs.Prelude.{Entry, Pf}
+use Rattle.std.proofs.Common.{[], ◌∷◌, ◌≡◌, None, Some, ℕ, arith, refl, replicate}
 use Rattle.ring_laws.specs.TransmitPrelude.{Accepts, Advances, IsOwn, Looks, Move, Outgoing, Reaps, Sender, accepted_by}
-use Rattle.device_lock.specs.History.{entry_of}
 use Rattle.pmd_tx.specs.Sending.{advanced, asked, at_start}
+use Rattle.std.proofs.{lemmas.Grind.common_steps, lemmas.List.length-replicate}
+use Rattle.history_laws.specs.Prelude.{Entry, Pf}
+use Rattle.device_lock.specs.History.{entry_of}
 use Rattle.ring_laws.specs.{Sent.frames_added, Turns.Turn, Turns.turns_of}
 use Rattle.nic_device.specs.declared.event.Event.TheVariants as event
 use Rattle.nic_device.specs.declared.event.Reply.TheVariants as reply
@@ -43,22 +43,7 @@ abbrev both_in : Sender
 both_in = asked (accepted_by one_in (packet 4))
 
 second_may : IsOwn one_in (Accepts (packet 4)) (event.Lend (record { number = 4; bytes = replicate 2048 0 }))
-second_may = record {
-  long = omega arith;
-  short = omega arith;
-  each = refl;
-  room = omega arith;
-  lent = refl;
-  asked = refl;
-  first = record {
-    short = omega arith;
-    number = refl;
-    bytes = refl;
-    whole = length-replicate {A = ℕ} 2048 0;
-    low = omega arith;
-    away = refl;
-  };
-}
+second_may = grind (arith, common_steps, length-replicate)
 
 one_tail : IsOwn both_in Advances (event.Write Pf 0xE018 2)
 one_tail = (refl, omega arith, refl, refl, refl)

@@ -1,31 +1,25 @@
 -- Which blocks the driver has lent to be sent, after each of its moves.
-use Rattle.std.proofs.Common.{[], ◌++◌, ◌+◌, ◌<◌, ◌||◌, ◌∙◌, ◌∷◌, ◌≡◌, ◌≢◌, Bool, List, ap, arith, false}
-use Rattle.std.proofs.Common.{length, refl, subst, suc, sym, take, true, zero, ℕ}
+use Rattle.std.proofs.Common.{[], ◌++◌, ◌+◌, ◌<◌, ◌||◌, ◌∙◌, ◌∷◌, ◌≡◌, ◌≢◌, Bool, List, ℕ, ap, arith, false, length}
 use Rattle.std.proofs.lemmas.List.{get_or-append-add, length-append, take-append-le}
-use Rattle.std.specs.{List.list_any, Prelude.◌==◌, Prelude.IsTrue, Prelude.slice_index_or}
-use Rattle.std.proofs.lemmas.Grind.{common_steps}
 use Rattle.history_laws.specs.Prelude.{Block, Blocks, Event, Reply, State, after, has_block, reply_to}
 use Rattle.ring_laws.specs.TransmitPrelude.{Accepts, Advances, Asks, Elsewhere, IsOwn, Kept, Lends, Looks, MayAccept}
-use Rattle.ring_laws.specs.TransmitPrelude.{Move}
-use Rattle.ring_laws.specs.TransmitPrelude.{Outgoing, Reaps, Segment, Sender, accepted_by, has_lent, is_ring_block}
-use Rattle.ring_laws.specs.TransmitPrelude.{moved}
-use Rattle.ring_laws.specs.TransmitPrelude.{no_segment, segment_at, segments_of}
-use Rattle.pmd_tx.specs.Sending.{MayLend, blocks_of, lent_more, reaped}
+use Rattle.ring_laws.specs.TransmitPrelude.{Move, Outgoing, Reaps, Segment, Sender, accepted_by, has_lent}
+use Rattle.ring_laws.specs.TransmitPrelude.{is_ring_block, moved, no_segment, segment_at, segments_of}
 use Rattle.history_laws.proofs.Lent.{Follows, follows_in, follows_known, or_swap, still_known}
+use Rattle.std.proofs.{Common.refl, Common.subst, Common.suc, Common.sym, Common.take, Common.true, Common.zero}
+use Rattle.std.proofs.{lemmas.Grind.common_steps}
+use Rattle.pmd_tx.specs.Sending.{MayLend, blocks_of, lent_more, reaped}
 use Rattle.history_laws.specs.Lent.{LendsOwn, OnlyLent, either}
 use Rattle.ring_laws.proofs.Packets.{length-segments, some-parts}
-use Rattle.ring_laws.specs.{Alone.LendsOneOf, TransmitHealthy.LendsAnew, TransmitLent.OwnLendsAreKnown}
-use Rattle.ring_laws.specs.{TransmitLent.SparesNumbers}
+use Rattle.ring_laws.specs.{TransmitLent.OwnLendsAreKnown, TransmitLent.SparesNumbers, Alone.LendsOneOf}
+use Rattle.std.specs.{List.list_any, Prelude.◌==◌, Prelude.IsTrue, Prelude.slice_index_or}
 use Rattle.nic_device.specs.declared.event.Reply.TheVariants as reply
 use Rattle.nic_device.specs.declared.event.Event.TheVariants as event
 
 -- the first segment of a packet behind those that are outstanding
 pub first_at : (v : Sender) (p : Outgoing) → v.lent ≡ length v.outstanding
     → segment_at (accepted_by v p) v.lent ≡ slice_index_or (segments_of p) 0 no_segment
-first_at v p lent =
-    let e : length v.outstanding + 0 ≡ v.lent = omega (arith, lent) in
-    ap (λ (k : ℕ). slice_index_or (v.outstanding ++ segments_of p) k no_segment) (sym e)
-    ∙ get_or-append-add v.outstanding (segments_of p) 0 no_segment
+first_at v p lent = grind (arith, common_steps, get_or-append-add)
 
 -- the blocks of segments, of one more, and without the oldest
 
@@ -116,15 +110,8 @@ module _ (own others : Blocks) (s : State) (v : Sender)
         → has_block s.memory b.number ≡ false
     lends_anew x b may is = grind arith
 
-    own_anew : (m : Move) (e : Event Block) → IsOwn v m e → LendsOwn own others e → LendsAnew s m e
-    own_anew (Accepts p) (event.Lend b) may is = lends_anew (slice_index_or (segments_of p) 0 no_segment) b may.first is
-    own_anew Lends (event.Lend b) may is = lends_anew (segment_at v v.lent) b may.1 is
-    own_anew Elsewhere e may is = tt
-    own_anew m (event.Lend b) may is = absurd may
-    own_anew m e may is = tt
-
 pub own_lends_are_known : OwnLendsAreKnown
 own_lends_are_known = record {
   kept = λ own others s v m e only may spares. own_known own others s v only m e may spares;
-  anew = λ own others s v m e only may is. own_anew own others s v only m e may is;
+  anew = λ own others s v m e only may is. (grind (arith, common_steps, lends_anew));
 }

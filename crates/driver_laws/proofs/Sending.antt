@@ -1,5 +1,5 @@
--- The blocks that the halves have lent: each is lent, none by both, and all are among those that the pass lends. What an
--- event of one half's own leaves: all blocks but its own, and the other side; and so do steps of the device.
+-- The blocks that the halves have lent: each is lent, none by both, and all are among those that the pass lends. What
+-- an event of one half's own leaves: all blocks but its own, and the other side; and so do steps of the device.
 use Rattle.std.proofs.{lemmas.Grind.common_steps, lemmas.List.get_or-take, lemmas.List.length-take-le}
 use Rattle.std.proofs.Common.{[], ◌*◌, ◌+◌, ◌/◌, ◌<◌, ◌^◌, ◌∙◌, ◌∷◌, ◌≡◌, ◌≢◌, Bool, List, None, Option, Some, ℕ, ap}
 use Rattle.std.proofs.Common.{arith, cond, false, inl, inr, length, not, refl, rules, subst, suc, sym, take, true}

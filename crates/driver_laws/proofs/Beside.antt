@@ -1,6 +1,6 @@
 -- Harmless calls beside the driver's lead both halves on, and leave the queue alone.
 use Rattle.std.proofs.Common.{[], ◌&&◌, ◌++◌, ◌∙◌, ◌∷◌, ◌≡◌, Bool, List, Option, ℕ, ap, append_assoc, arith, false}
-use Rattle.std.proofs.Common.{length, not, refl, subst, sym, true}
+use Rattle.std.proofs.Common.{length, not, refl, rules, subst, sym, true}
 use Rattle.std.proofs.lemmas.{Bool.eqb-false, Grind.common_steps}
 use Rattle.std.specs.Prelude.{◌==◌, IsTrue}
 use Rattle.pmd.proofs.Followed.{both_own, both_played, others_own, others_played, own_length}
@@ -42,8 +42,7 @@ calls_add_harmless old new e reply (before, made, steps) is = grind (arith, comm
 pub others_harmless : (doers : List Doer) (calls : List Call) → OthersStep doers calls → OthersHarmless doers calls
 others_harmless [] calls steps = steps_harmless calls steps
 others_harmless (d ∷ doers) [] steps = tt
-others_harmless (d ∷ doers) (c ∷ calls) steps =
-    (λ neither. step_harmless c.event (steps.0 neither), others_harmless doers calls steps.1)
+others_harmless (d ∷ doers) (c ∷ calls) steps = search (rules, step_harmless, others_harmless doers calls steps.1)
 
 unfoldable pub drives_lead : DrivesLead
 drives_lead old new h k (doers, since, made, own, is, steps) =
@@ -84,8 +83,7 @@ leads_on old mid new h j k (ds, ms, made, own, is, harmless) (es, ns, more, then
 
 four : (a b c d : Bool) → (not a && not b && not c && not d) ≡ true
     → (a ≡ false) × (b ≡ false) × (c ≡ false) × (d ≡ false)
-four false false false false is = (refl, refl, refl, refl)
-four a b c d is = cc
+four a b c d is = search rules
 
 all_spared : (queue : ℕ) (mode : Mode) (o : Option Place) (word : ℕ) → IsTrue (spares_all o word)
     → SparesIfSome queue mode o word
@@ -134,8 +132,7 @@ driven_apart own old new h k p = record { leads = drives_lead old new h k p.driv
 
 one_apart : (own : Blocks) (h : Halves) (e : Event Block) → IsTrue (is_harmless e)
     → LendsApart own h (Sends Elsewhere) e
-one_apart own h (event.Lend b) is = cc
-one_apart own h e is = tt
+one_apart own h e is = search rules
 
 others_apart : (own : Blocks) (h : Halves) (calls : List Call) → AreHarmless calls
     → AllLendApart own h (doers_other calls) calls

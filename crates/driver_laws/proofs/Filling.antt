@@ -1,7 +1,7 @@
 -- A start on a queue whose sides are off finds no device at fault but as it fills its receive ring.
 use Rattle.std.{proofs.lemmas.Bool.both_ways, proofs.lemmas.Grind.common_steps, specs.Prelude.IsFalse}
 use Rattle.std.proofs.Common.{[], ◌++◌, ◌-◌, ◌∙◌, ◌∷◌, ◌≡◌, ◌≢◌, ◌⊎◌, List, ℕ, append_assoc, arith, false, inl, inr}
-use Rattle.std.proofs.Common.{refl, subst, sym, true}
+use Rattle.std.proofs.Common.{refl, rules, subst, sym, true}
 use Rattle.pmd.specs.PmdSeam.QueueMade.{IsStrayWrite}
 use Rattle.ring_laws.proofs.HistoryLaws.Lent.{anew_is_done}
 use Rattle.driver_laws.proofs.{SwitchedOff.ending_quiet, SwitchedOff.quiet_kept, Words.side_driven}
@@ -9,7 +9,7 @@ use Rattle.driver_laws.proofs.Ground.{IsDriven, IsWrite, asked_are_writes, groun
 use Rattle.driver_laws.proofs.Ground.{off_sides_are_seen_off, plain_keeps, polled_driven, reads_driven}
 use Rattle.driver_laws.proofs.Ground.{words_are_writes, writes_driven}
 use Rattle.driver_laws.proofs.Made.{OfCall, all_before, all_missed, before_made, first_access, made_some, some_made}
-use Rattle.driver_laws.proofs.On.{switched_sides_agree, switched_sides_go_on}
+use Rattle.driver_laws.proofs.On.{are_on, switched_sides_agree, switched_sides_go_on}
 use Rattle.driver_laws.proofs.Prelude.{AllAre, AreMadeOf, AtCalls, BeforeLast, BeforeNext, GoingOnFails, HasGround}
 use Rattle.driver_laws.proofs.Prelude.{IsAlong, IsEnding, IsKept, IsOtherwise, IsPlain, IsQuiet, IsStrayRead, Leads}
 use Rattle.driver_laws.proofs.Prelude.{Never, PollsEnd, StopsBy}
@@ -40,8 +40,7 @@ quieting_driven row side is = subst (λ (r : RowId). is_driven r ≡ true) (sym 
 
 enables : (port : Port) (queue number : ℕ) (side : Dir) → IsNumberOf port (enable_row side) queue number
     → IsNumberOf port Rxdctl queue number ⊎ IsNumberOf port Txdctl queue number
-enables port queue number Rx named = inl named
-enables port queue number Tx named = inr named
+enables port queue number side named = search rules
 
 module _ {w : Watched} {origin : State} {h : List Entry} (q : AtPort) (frame : ℕ) (along : IsAlong w origin h) where
   abbrev Ground : State → Type 0
@@ -60,11 +59,7 @@ module _ {w : Watched} {origin : State} {h : List Entry} (q : AtPort) (frame : �
   off_stays = quiet_kept w (lent_by w.pass h) q frame
 
   plain_grounded : (old new : List Call) → AreMadeOf (IsPlain q) old new → Grounded old → Grounded new
-  plain_grounded old new made at = (
-    made_keep Ground (IsPlain q) along ground_stays (λ s e met can plain g. plain_keeps w.queue q frame s e plain g) old
-        new made at.1 at.0,
-    stays_some (IsPlain q) old new made at.1,
-  )
+  plain_grounded old new made at = search (rules, made_keep, ground_stays, plain_keeps, stays_some)
 
   accesses_grounded : (all : List Access) (old new : List Call) → AllAre IsDriven all → AreMade q old new all
       → Grounded old → Grounded new
@@ -79,8 +74,7 @@ module _ {w : Watched} {origin : State} {h : List Entry} (q : AtPort) (frame : �
   NextOff old = RefutesNext along Off old
 
   off_grounds : (old : List Call) → NextOff old → NextOnGround old
-  off_grounds old next before c steps apart refutes =
-      next before c steps apart (λ s x told. refutes s x.ground told)
+  off_grounds old next before c steps apart refutes = search rules
 
   next_on_ground : (old : List Call) → Grounded old → NextOnGround old
   next_on_ground old at = then_refuted along Ground old ground_stays at.1 at.0
@@ -131,10 +125,8 @@ module _ {w : Watched} {origin : State} {h : List Entry} (q : AtPort) (frame : �
       write_never_stray old new row word (quieting_driven row side is) (off_grounds old next) fails
 
   off_call : (a : Access) → IsQuieting a → OfCall q a (λ c. Leads w.queue c Off Off)
-  off_call (Sees row on) is = λ number word named seen s met made told x.
-      ending_quiet w.queue q frame s (event.Read q.port number) met made tt x
-  off_call (Sets row word) is = λ number named s met made told x.
-      ending_quiet w.queue q frame s (event.Write q.port number word) met made (may_asks q row word number is named) x
+  off_call (Sees row on) is = search (rules, ending_quiet)
+  off_call (Sets row word) is = search (rules, ending_quiet, may_asks)
 
   -- so it is over the accesses that see both off, of which the first may be the pass's first call
 
@@ -188,13 +180,11 @@ module _ {w : Watched} {origin : State} {h : List Entry} (q : AtPort) (frame : �
   preparing_never_fails side size old a new b out at (ring, free, inl (stops, same, empty)) none =
       writes_never_stop (ring_words side ring size) old new (words_are_writes side ring size) stops at
   preparing_never_fails side size old a new b out at (ring, free, inr (mid, made, stops)) none =
-      let (back, lent) = stops.fails in
-      lending_is_done stops.next stops.mid new lent.0 back lent.1 (none stops.next stops.free)
+      search (rules, lending_is_done)
 
   ready_grounded : {size : ℕ} {old : List Call} {a : Numbers} {new : List Call} {b : Numbers} {v : Receive}
       → IsReceiveReady q size frame old a new b v → BeforeNext w origin h old Off → Grounded new
-  ready_grounded {old = old} {new = new} x at =
-      plain_grounded x.mid new (prepared_plain x.prepared) (quiet_grounded old x.mid x.quiet at)
+  ready_grounded {old = old} {new = new} x at = search (rules, plain_grounded, prepared_plain, quiet_grounded)
 
   -- both sides are asked on and polled
 
@@ -232,65 +222,29 @@ switching_is_never_stray w q origin h size frame old a mid b v both c t new alon
     (plain_grounded q frame along mid both (prepared_plain more.prepared) (ready_grounded q frame along ready at)) fails
 
 pub faults_are_early_or_filling : FaultsAreEarlyOrFilling
-faults_are_early_or_filling q size frame old a new e (inl x) is = inl (inl (record {
-  arena = x.arena;
-  out = x.out;
-  fails = rw is at x.fails;
-}))
-faults_are_early_or_filling q size frame old a new e (inr (inl x)) is = inl (inr (inl (record {
-  made = x.made;
-  ready_arena = x.ready_arena;
-  arena = x.arena;
-  empty = x.empty;
-  out = x.out;
-  receive = x.receive;
-  fails = rw is at x.fails;
-})))
+faults_are_early_or_filling q size frame old a new e (inl x) is = inl (inl (search rules))
+faults_are_early_or_filling q size frame old a new e (inr (inl x)) is = inl (inr (inl (search rules)))
 faults_are_early_or_filling q size frame old a new e (inr (inr x)) is =
     by_going (rw is at x.fails)
   where
     by_going : GoingOnFails DeviceFault q x.both_made x.both_arena x.empty new x.arena x.filled
         → FaultsEarly q size frame old a new ⊎ FaultsFilling q size frame old a new
-    by_going (inl (fails, same, left)) = inl (inr (inr (record {
-      ready_made = x.ready_made;
-      both_made = x.both_made;
-      ready_arena = x.ready_arena;
-      both_arena = x.both_arena;
-      empty = x.empty;
-      sender = x.sender;
-      receive = x.receive;
-      transmit = x.transmit;
-      fails = fails;
-    })))
+    by_going (inl (fails, same, left)) = inl (inr (inr (search rules)))
     by_going (inr (mid, switched, fails)) = inr (record {
       mid = mid;
       empty = x.empty;
       sender = x.sender;
-      on = record {
-        sized = x.sized;
-        framed = x.framed;
-        ready_made = x.ready_made;
-        both_made = x.both_made;
-        ready_arena = x.ready_arena;
-        both_arena = x.both_arena;
-        receive = x.receive;
-        transmit = x.transmit;
-        switched = switched;
-      };
+      on = are_on x.sized x.framed x.receive x.transmit switched;
       arena = x.arena;
       filled = x.filled;
       fails = fails;
     })
 
 pub no_fault_is_early : NoFaultIsEarly
-no_fault_is_early w q origin h size frame old a new along at (inl x) fresh =
-    receive_is_ready w q origin h size frame old a new x.arena x.out along at x.fails fresh
-no_fault_is_early w q origin h size frame old a new along at (inr (inl x)) fresh =
-    transmit_is_ready w q origin h size frame old a x.made x.ready_arena x.empty new x.arena x.out along at x.receive
-    x.fails fresh
+no_fault_is_early w q origin h size frame old a new along at (inl x) fresh = search (rules, receive_is_ready)
+no_fault_is_early w q origin h size frame old a new along at (inr (inl x)) fresh = search (rules, transmit_is_ready)
 no_fault_is_early w q origin h size frame old a new along at (inr (inr x)) fresh =
-    switching_is_never_stray w q origin h size frame old a x.ready_made x.ready_arena x.empty x.both_made x.both_arena
-    x.sender new along at x.receive x.transmit x.fails
+    search (rules, switching_is_never_stray)
 
 pub filling_begins_well : FillingBeginsWell
 filling_begins_well w q origin h size frame old a new along at x done rest all calls =

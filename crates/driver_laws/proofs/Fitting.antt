@@ -1,7 +1,7 @@
 -- One call beside a driver that receives: the frames that wait for its queue go on fitting, its reply is healthy, and
 -- what that rests on holds behind it.
 use Rattle.std.proofs.Common.{[], ◌&&◌, ◌*◌, ◌++◌, ◌==◌, ◌||◌, ◌∷◌, ◌≡◌, ◌≢◌, ◌≤◌, Bool, List, None, Option, Some, ℕ}
-use Rattle.std.proofs.Common.{ap, arith, false, length, nat_lt, refl, subst, sym, true}
+use Rattle.std.proofs.Common.{ap, arith, false, length, nat_lt, refl, rules, subst, sym, true}
 use Rattle.std.proofs.lemmas.{Grind.common_steps, List.length-append, List.nil_from_length}
 use Rattle.std.proofs.lemmas.Bool.{and_from, and_parts, both_ways, cond_both, eq-eqb, eqb-false, eqb-true, lt-ltb}
 use Rattle.std.proofs.lemmas.Bool.{not-true, or_cases, or_left, or_right}
@@ -39,8 +39,7 @@ SameRing v u =
     (u.layout.port ≡ v.layout.port) × (u.layout.tail ≡ v.layout.tail) × (u.layout.most ≡ v.layout.most)
 
 took_same : (v : Receive) (seen : List Told) (b : Block) → SameRing v (took v seen b)
-took_same v [] b = (refl, refl, refl)
-took_same v (t ∷ seen) b = (refl, refl, refl)
+took_same v seen b = search rules
 
 pub drive_same : (v : Receive) (e : Event Block) (r : Reply Block) → SameRing v (drive v e r)
 drive_same v e r = grind (arith, common_steps, either_way, took_same)
@@ -55,8 +54,7 @@ pub fitting_after : {w : Watched} {mine : Blocks} {s : State} {out : List Piece}
     → AreFitting w.queue k.receive.layout.most (after s e) (out ++ pieces w.queue s e)
 fitting_after {w = w} {s = s} {out = out} {h = h} {e = e} m goes up fit most =
     subst (λ n. AreFitting w.queue n (after s e) (out ++ pieces w.queue s e)) (sym most)
-    (frames_stay_fitting w.queue h.receive.layout.most s out h.receive e m.sound m.both.receive up fit goes.setting
-    goes.resets)
+    (search (rules, frames_stay_fitting))
 
 -- nothing is written of a frame that waits where no piece was since the side went on: none is while it is off
 
@@ -66,8 +64,7 @@ silent queue s off y = grind (arith, common_steps, both_ways)
 
 off_silent : (queue : ℕ) (s : State) (e : Event Block) → IsSound s → is_on s.registers Rx queue ≡ false
     → pieces queue s e ≡ []
-off_silent queue s event.RxStep sound off = silent queue s off (receiving_did queue s sound)
-off_silent queue s e sound off = refl
+off_silent queue s e sound off = search (rules, silent, receiving_did)
 
 -- over a history
 
@@ -86,8 +83,7 @@ module _ (queue : ℕ) (s : State) (e : Event Block) (sound : IsSound s) where
 
   stayed : (so_far : Option (List Piece)) → Unbegun queue s so_far
       → Unbegun queue (after s e) (option_map (λ (qs : List Piece). qs ++ pieces queue s e) so_far)
-  stayed None before is = cc
-  stayed (Some qs) before is = grind (arith, common_steps, none_more, begun_stays)
+  stayed so_far before is = search (rules, none_more, begun_stays)
 
   one_on : (so_far : Option (List Piece)) → Unbegun queue s so_far
       → Unbegun queue (after s e) (gathered queue s (after s e) (pieces queue s e) so_far)
@@ -112,20 +108,17 @@ unbegun_since queue s es sound events is = unbegun_on queue s None es sound even
 
 lends_received : (own : Blocks) (h : Halves) (e : Event Block) → LendsApart own h Receives e
     → LendsOwn own (sending.has_lent h.transmit) e
-lends_received own h (event.Lend b) apart = apart
-lends_received own h e apart = tt
+lends_received own h e apart = search rules
 
 lends_sent : (own : Blocks) (h : Halves) (m : Move) (e : Event Block) → is_elsewhere m ≡ false
     → LendsApart own h (Sends m) e → LendsOwn own (received.has_lent h.receive) e
 lends_sent own h m e real apart = grind (arith, common_steps)
 
 lends_none : (own : Blocks) (h : Halves) (e : Event Block) → LendsApart own h (Sends Elsewhere) e → LendsNone own e
-lends_none own h (event.Lend b) apart = apart
-lends_none own h e apart = tt
+lends_none own h e apart = search rules
 
 pub none_apart : (own : Blocks) (h : Halves) (e : Event Block) → LendsNone own e → LendsApart own h (Sends Elsewhere) e
-none_apart own h (event.Lend b) none = none
-none_apart own h e none = tt
+none_apart own h e none = search rules
 
 -- what either has lent, the other first
 swapped : (own xs ys : Blocks) (m : Memory) → OnlyLent own (either xs ys) m → OnlyLent own (either ys xs) m
@@ -218,8 +211,7 @@ module _ (own known : Blocks) (s : State) (only : OnlyLent own known s.memory) w
   entry_lent pass e legal made none b other n is has = grind (arith, common_steps, pass_lent, or_left, eqb-false)
 
 joined : (a b c : Bool) → ((a || b) || c) ≡ true → (a || (b || c)) ≡ true
-joined true b c is = refl
-joined false b c is = is
+joined a b c is = search rules
 
 pub only_pass_lent : OnlyPassLent
 only_pass_lent pass own known s [] legal events none only n is has = or_left (known n) false (only n is has)

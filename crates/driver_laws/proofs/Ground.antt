@@ -1,6 +1,6 @@
 -- What a driver rests on beside its sides: port and queue name its queue, and frames are no longer than its packets.
 use Rattle.std.proofs.Common.{[], if◌then◌else◌, ◌*◌, ◌+◌, ◌<◌, ◌∙◌, ◌∷◌, ◌≡◌, Bool, List, None, Option, Some, ℕ, ap}
-use Rattle.std.proofs.Common.{arith, false, inl, inr, nat_lt, refl, subst, sym, true}
+use Rattle.std.proofs.Common.{arith, inl, inr, nat_lt, refl, rules, subst, sym, true}
 use Rattle.std.proofs.lemmas.{Bool.ltb-true, Grind.common_steps}
 use Rattle.nic_device.proofs.{VfMap.Queues.queue_registers}
 use Rattle.nic_device.specs.{Access.named_read, Named.at_location, VfMap.Pools.queues_of, VfMap.declared.mode.Mode.Mode}
@@ -23,8 +23,7 @@ use Rattle.nic_device.specs.declared.event.Reply.TheVariants as reply
 -- what names a queue says
 pub some_where : {A : Type 0} (b : Bool) (o : Option A) (x : A) → (if b then o else None) ≡ Some x
     → (b ≡ true) × (o ≡ Some x)
-some_where true o x e = (refl, e)
-some_where false o x e = cc
+some_where b o x e = search rules
 
 pub record IsIn (o : Option (ℕ × ℕ)) (number queue : ℕ) : Type 0 where
   pub first : ℕ
@@ -70,8 +69,7 @@ named_at s (Vf v) own queue is row number driven of_row =
     ∙ ap at_location (row_there mode s.vfs v own queue (ltb-true v s.vfs parts.0) x row driven)
 
 pub named_queue_has_the_numbers : NamedQueueHasTheNumbers
-named_queue_has_the_numbers s q queue is row number driven of_row =
-    named_at s q.port q.queue queue is row number driven of_row
+named_queue_has_the_numbers s q queue is row number driven of_row = search (rules, named_at)
 
 pub ground_names : (queue : ℕ) (q : AtPort) (frame : ℕ) (s : State) → HasGround queue q frame s → NumbersName s q queue
 ground_names queue q frame s g = named_queue_has_the_numbers s q queue g.names
@@ -160,8 +158,7 @@ writes_driven (Sees row on ∷ rest) are = absurd are.0
 writes_driven (Sets row word ∷ rest) are = (are.0, writes_driven rest are.1)
 
 pub words_are_writes : (side : Dir) (ring size : ℕ) → AllAre IsWrite (ring_words side ring size)
-words_are_writes Rx ring size = (refl, (refl, (refl, (refl, (refl, (refl, tt))))))
-words_are_writes Tx ring size = (refl, (refl, (refl, (refl, (refl, (refl, tt))))))
+words_are_writes side ring size = search rules
 
 pub asked_are_writes : AllAre IsWrite (both_asked true)
 asked_are_writes = (refl, (refl, tt))

@@ -1,8 +1,8 @@
 -- Over a whole history each call of either half gets a healthy reply, and no call ends with the device at fault.
-use Rattle.std.{proofs.lemmas.Bool.both_ways, proofs.lemmas.Bool.eqb-false, proofs.lemmas.List.Elements.filter-append}
-use Rattle.std.{proofs.lemmas.List.append_cancel_left, proofs.lemmas.List.map-append, specs.Prelude.◌==◌}
-use Rattle.std.proofs.Common.{[], ◌*◌, ◌++◌, ◌∙◌, ◌∷◌, ◌≡◌, Bool, List, ℕ, ap, append_assoc, arith, false, refl, subst}
-use Rattle.std.proofs.Common.{sym, true}
+use Rattle.std.proofs.Common.{[], ◌++◌, ◌∷◌, ◌≡◌, Bool, List, ℕ, arith, false, refl, rules, subst, sym}
+use Rattle.std.proofs.lemmas.{Grind.common_steps, List.Elements.filter-append, List.append_cancel_left, List.map-append}
+use Rattle.std.proofs.lemmas.Bool.{both_ways, eqb-false}
+use Rattle.std.specs.Prelude.{◌==◌}
 use Rattle.pmd.{proofs.Apart.step_apart, specs.Apart.is_healthy}
 use Rattle.driver_laws.proofs.Fitting.{fitting_after, healthy_call, known_after, most_after, none_apart, unbegun_since}
 use Rattle.driver_laws.proofs.InOrder.{Runs, driven_runs, first_doer, goes, heads, own_here, played_on, runs_on}
@@ -25,18 +25,14 @@ Parts own h doers e b behind =
 apart_here : (own : Blocks) (h : Halves) (doers : List Doer) (e : Entry) (b : Bool) (calls : List Call)
     → AllOwn h doers (with_call b e calls) → (b ≡ false → LendsNone own e.event)
     → AllLendApart own h doers (with_call b e calls) → Parts own h doers e b calls
-apart_here own h [] e true calls did none apart = absurd did
-apart_here own h (d ∷ doers) e true calls did none apart = apart
-apart_here own h doers e false calls did none apart = (none_apart own h e.event (none refl), apart)
+apart_here own h doers e b calls did none apart = grind (arith, common_steps, none_apart)
 
 -- replies are healthy, where the first entry's is if the entry is the pass's
 all_here : (h : Halves) (doers : List Doer) (e : Entry) (b : Bool) (calls : List Call)
     → IsHealthy h (doer_of b doers) (call_in e)
     → AreHealthy (after_call h (doer_of b doers) (call_in e)) (doers_after b doers) calls
     → AreHealthy h doers (with_call b e calls)
-all_here h [] e true calls here rest = tt
-all_here h (d ∷ doers) e true calls here rest = (here, rest)
-all_here h doers e false calls here rest = rest
+all_here h doers e b calls here rest = search rules
 
 -- over entries, of numbers that no other pass lends only those are lent that the halves have lent; and replies are
 -- healthy, where the frames that wait fit
@@ -68,13 +64,8 @@ along own {w = w} doers (e ∷ es) {s = s} {h = h} m r known none apart =
 pub own_replies_are_healthy : OwnRepliesAreHealthy
 own_replies_are_healthy w origin start rest h doers own x apart =
     let d = x.driven in
-    (along own doers rest (driven_meets d) (driven_runs d) x.known x.others apart).0 d.up (record {
-      limit = x.short.limit;
-      waiting = x.short.waiting;
-      begun = unbegun_since w.queue origin start d.along.sound (events_before start rest d.along.events) d.on
-          ∙ (let z : 0 ≡ 2048 * 0 = omega arith in z);
-      pieces = tt;
-    })
+    (along own doers rest (driven_meets d) (driven_runs d) x.known x.others apart).0 d.up
+    (grind (arith, common_steps, unbegun_since, events_before))
 
 -- so it is of the blocks that are lent, also where no frame is known to fit
 pub known_along : (w : Watched) (origin : State) (start rest : List Entry) (h : Halves) (doers : List Doer)
@@ -104,8 +95,7 @@ last_healthy h (m ∷ before) d n are = last_healthy h before d n are.1
 last_apart : (own : Blocks) (h : Halves) (before : List Call) (d : Doer) (n : Call) → AreSteps before
     → LendsApart own h d n.event → AllLendApart own h (doers_other before ++ d ∷ []) (before ++ n ∷ [])
 last_apart own h [] d n steps apart = (apart, tt)
-last_apart own h (m ∷ before) d n steps apart =
-    (step_apart own h m.event steps.0, last_apart own h before d n steps.1 apart)
+last_apart own h (m ∷ before) d n steps apart = search (rules, step_apart, last_apart own h before d n steps.1 apart)
 
 module _ (w : Watched) (origin : State) (start rest more : List Entry) (h : Halves) (doers : List Doer) (own : Blocks)
     (old new : List Call) (f : FindsFault own old (played_by h doers (calls_of w.pass rest)) new)
@@ -132,22 +122,14 @@ module _ (w : Watched) (origin : State) (start rest more : List Entry) (h : Halv
     made_last : calls_of w.pass more ≡ since ++ (f.adds.0 ++ last ∷ [])
     made_last =
         append_cancel_left old (calls_of w.pass more) (since ++ (f.adds.0 ++ last ∷ []))
-        (sym made ∙ f.adds.1 ∙ ap (λ (calls : List Call). calls ++ (f.adds.0 ++ last ∷ [])) f.drives.drives.2
-        ∙ append_assoc old since (f.adds.0 ++ last ∷ []))
+        (grind (arith, common_steps, last, since))
 
     -- what these calls lend, the last among them
     end_apart : AllLendApart own (played_by there f.drives.drives.0 since) ends (f.adds.0 ++ last ∷ [])
-    end_apart =
-        subst (λ (k : Halves). AllLendApart own k ends (f.adds.0 ++ last ∷ [])) f.drives.drives.4
-        (last_apart own f.there f.adds.0 f.doer last f.adds.2 f.apart)
+    end_apart = grind (arith, common_steps, ends, last, last_apart)
 
     all_apart : AllLendApart own h (doers ++ (f.drives.drives.0 ++ ends)) (calls_of w.pass (rest ++ more))
-    all_apart =
-        subst (AllLendApart own h (doers ++ (f.drives.drives.0 ++ ends))) (sym joined)
-        (both_apart own h doers (f.drives.drives.0 ++ ends) (calls_of w.pass rest) (calls_of w.pass more) did apart
-        (subst (AllLendApart own there (f.drives.drives.0 ++ ends)) (sym made_last)
-        (both_apart own there f.drives.drives.0 ends since (f.adds.0 ++ last ∷ []) f.drives.drives.3 f.drives.apart
-        end_apart)))
+    all_apart = grind (arith, common_steps, ends, joined, both_apart, there, made_last, since, last, end_apart)
 
     -- the last call's reply is healthy
     last_is : IsHealthy f.there f.doer last
@@ -158,8 +140,7 @@ module _ (w : Watched) (origin : State) (start rest more : List Entry) (h : Halv
         let here = subst (AreHealthy there (f.drives.drives.0 ++ ends)) made_last
         (healthy_behind h doers (f.drives.drives.0 ++ ends) (calls_of w.pass rest) (calls_of w.pass more) did all) in
         last_healthy f.there f.adds.0 f.doer last
-        (subst (λ (k : Halves). AreHealthy k ends (f.adds.0 ++ last ∷ [])) (sym f.drives.drives.4)
-        (healthy_behind there f.drives.drives.0 ends since (f.adds.0 ++ last ∷ []) f.drives.drives.3 here))
+        (grind (arith, common_steps, ends, last, healthy_behind, there, since))
 
 pub no_fault : NoFault
 no_fault w origin start rest more h doers own old new f did apart made x =

@@ -1,6 +1,6 @@
 -- What the driver handed out and what it sent, over a history that leaves its queue alone.
 use Rattle.std.proofs.Common.{[], ◌&&◌, ◌++◌, ◌∙◌, ◌∷◌, ◌≡◌, Bool, List, None, Some, ℕ, ap, append_assoc, arith, false}
-use Rattle.std.proofs.Common.{inl, length, nat_lt, refl, subst, sym, true}
+use Rattle.std.proofs.Common.{inl, length, nat_lt, refl, rules, subst, sym, true}
 use Rattle.std.proofs.lemmas.{Bool.eqb-false, Bool.eqb-true, Bool.or_left, Bool.or_right, Grind.common_steps}
 use Rattle.std.specs.Prelude.{◌==◌, IsTrue}
 use Rattle.pmd.specs.PmdSeam.Packet.{Kept}
@@ -39,8 +39,7 @@ with_call false e calls = calls
 
 pub calls_are : (pass : ℕ) (e : Entry) (es : List Entry) (b : Bool) → (e.pass == pass) ≡ b
     → calls_of pass (e ∷ es) ≡ with_call b e (calls_of pass es)
-calls_are pass e es true is = calls_own pass e es is
-calls_are pass e es false is = calls_other pass e es is
+calls_are pass e es b is = grind (arith, common_steps, calls_own, calls_other)
 
 -- the next call, and those behind it
 
@@ -109,14 +108,8 @@ pub record Runs (w : Watched) (mine : Blocks) (s : State) (h : Halves) (doers : 
 pub driven_runs : {w : Watched} {origin : State} {start rest : List Entry} {h : Halves} {doers : List Doer}
     → IsDriven w origin start rest h doers
     → Runs w (lent_by w.pass (start ++ rest)) (leads_to origin start) h doers rest
-driven_runs {w = w} {origin = origin} {start = start} {rest = rest} d = record {
-  legal = legal_behind origin start rest d.along.legal;
-  events = events_behind start rest d.along.events;
-  alone = alone_by_entries w origin start rest d.along.alone d.begun;
-  own = d.own;
-  others = d.others;
-  covers = λ n is. lent_behind w.pass n start rest is;
-}
+driven_runs {w = w} {origin = origin} {start = start} {rest = rest} d =
+    search (rules, legal_behind, events_behind, alone_by_entries, lent_behind)
 
 -- the first of them
 module _ {w : Watched} {mine : Blocks} {s : State} {out : List Piece} {sent : List (List ℕ)} {h : Halves}
@@ -139,14 +132,7 @@ module _ {w : Watched} {mine : Blocks} {s : State} {out : List Piece} {sent : Li
   played_on = ap (played_by h doers) heads ∙ next.played
 
   pub runs_on : Runs w mine (after s e.event) first_after (doers_after (e.pass == w.pass) doers) es
-  runs_on = record {
-    legal = r.legal.1;
-    events = r.events.1;
-    alone = r.alone.1;
-    own = next.rest;
-    others = r.others.1;
-    covers = λ n is. r.covers n (or_right _ _ is);
-  }
+  runs_on = search (rules, next, or_right)
 
   steps : WritesOutside w.queue mine (reply_to s e.event)
   steps = subst (WritesOutside w.queue mine) r.legal.0 r.alone.0.steps
@@ -185,8 +171,7 @@ module _ {w : Watched} {mine : Blocks} {s : State} {out : List Piece} {sent : Li
 pub leads : {w : Watched} {mine : Blocks} (doers : List Doer) (es : List Entry) {s : State} {out : List Piece}
     {sent : List (List ℕ)} {h : Halves} → Meets w mine s out sent h → Runs w mine s h doers es
     → Led w mine s out sent es (played_by h doers (calls_of w.pass es))
-leads {w = w} {mine = mine} [] [] {s = s} {out = out} {sent = sent} {h = h} m r =
-    ended w mine s out sent h m.both m.lent
+leads {w = w} {mine = mine} [] [] {s = s} {out = out} {sent = sent} {h = h} m r = search (rules, ended)
 leads (d ∷ doers) [] m r = absurd r.own
 leads {w = w} {mine = mine} doers (e ∷ es) {s = s} {out = out} {sent = sent} m r =
     subst (Led w mine s out sent (e ∷ es)) (sym (played_on m r))
@@ -211,9 +196,7 @@ module _ (w : Watched) (origin : State) (start rest : List Entry) (h : Halves) (
 
   agreed : BothAgree w.queue (leads_to origin (start ++ rest)) (pieces_in w.queue here rest) (sent_in w.queue here rest)
       last
-  agreed =
-      subst (λ (s : State). BothAgree w.queue s (pieces_in w.queue here rest) (sent_in w.queue here rest) last)
-      (sym (leads-append origin start rest)) led.both
+  agreed = search (rules, here, rest, last, leads-append, led)
 
   pub handed_is_prefix : receive.IsPrefixOf last.receive.handed (delivered w.queue origin (start ++ rest))
   handed_is_prefix =

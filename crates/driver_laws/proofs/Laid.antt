@@ -1,6 +1,6 @@
 -- A history over which a driver lays out an empty transmit ring sends nothing on its queue.
 use Rattle.std.proofs.Common.{[], ◌++◌, ◌<◌, ◌^◌, ◌∙◌, ◌∷◌, ◌≡◌, ◌≢◌, ◌≤◌, List, ℕ, ap, append_assoc, arith, false, inl}
-use Rattle.std.proofs.Common.{inr, refl, subst, sym, true}
+use Rattle.std.proofs.Common.{inr, refl, rules, subst, sym, true}
 use Rattle.std.proofs.lemmas.{Bool.cases_Bool, Bool.eqb-false, Grind.common_steps}
 use Rattle.std.specs.Prelude.{◌==◌, ⊤}
 use Rattle.ring_laws.specs.Sent.{sent_in}
@@ -47,8 +47,7 @@ laid_idle l = grind (arith, common_steps)
 -- the enable word is written
 pub asked_laid : (l : Laid) (word : ℕ) (q : Side) → MayAsk l word → IsLaid l q
     → IsLaid l (record q { wanted = has_bit 25 word })
-asked_laid Empty word q may x = x
-asked_laid l word q may x = ((x.0.0, may), x.1)
+asked_laid l word q may x = search rules
 
 -- a word of the ring is written, in a side that is off
 pub record IsLaying (row : RowId) (l : Laid) (word : ℕ) (q : Side) : Type 0 where

@@ -8,7 +8,6 @@ pub mod Ground
 pub mod Healthy
 pub mod InOrder
 pub mod Laid
-pub mod Lending
 pub mod Made
 pub mod Meeting
 pub mod On
@@ -18,7 +17,6 @@ pub mod Prelude
 pub mod Reached
 pub mod Retold
 pub mod Sending
-pub mod Silent
 pub mod Standing
 pub mod StopCalls
 pub mod SwitchedOff

@@ -1,7 +1,7 @@
 -- The calls that a driver's accesses add, and what they lead to over a history.
 use Rattle.std.{proofs.lemmas.Grind.common_steps, proofs.lemmas.List.append-nil, specs.Prelude.IsFalse}
-use Rattle.std.proofs.Common.{[], ◌++◌, ◌∙◌, ◌∷◌, ◌≡◌, ◌≢◌, Bool, List, ℕ, append_assoc, arith, not, subst, suc, sym}
-use Rattle.std.proofs.Common.{zero}
+use Rattle.std.proofs.Common.{[], ◌++◌, ◌∙◌, ◌∷◌, ◌≡◌, ◌≢◌, Bool, List, ℕ, append_assoc, arith, not, rules, subst, suc}
+use Rattle.std.proofs.Common.{sym, zero}
 use Rattle.driver_laws.proofs.Parts.{ends_some}
 use Rattle.driver_laws.proofs.Prelude.{AllAre, AtCalls, AtEntries, BeforeLast, BeforeNext, IsAlong, IsKept, Leads}
 use Rattle.driver_laws.proofs.Reached.{KeptOver, LeadsOver, entries_lead, first_leads, state_kept, state_leads}
@@ -39,8 +39,7 @@ OfCall q (Sets row word) P =
     (number : ℕ) → IsNumberOf q.port row q.queue number → P (call_of (event.Write q.port number word) reply.Done)
 
 pub of_map : (q : AtPort) (a : Access) (P R : Call → Type 0) → ((c : Call) → P c → R c) → OfCall q a P → OfCall q a R
-of_map q (Sees row on) P R f of = λ number word named is. f _ (of number word named is)
-of_map q (Sets row word) P R f of = λ number named. f _ (of number named)
+of_map q a P R f of = search rules
 
 -- steps of the device are added, and then such a call
 pub record AddsCall (P : Call → Type 0) (old new : List Call) : Type 0 where

@@ -12,7 +12,7 @@ use Rattle.ring_laws.proofs.Foreign.{alone_stays_up, left_keeps, left_up, own_st
 use Rattle.ring_laws.specs.{Agreeing.Agrees, Alone.LendsOneOf, Fitting.ResetsNoPool, HistoryLaws.Sides.Side}
 use Rattle.ring_laws.specs.{Turns.MayMove}
 use Rattle.driver_laws.{proofs.Reached.free_left, specs.Enabling.EnableWordsKeep}
-use Rattle.driver_laws.proofs.Lending.{receive_lent, receives_apart, sends_apart}
+use Rattle.driver_laws.proofs.Sending.{receive_lent, receives_apart, sends_apart}
 use Rattle.driver_laws.proofs.Prelude.{AreLent, BothAgree, IsDriven, IsMet, Spares, asked, events_before}
 use Rattle.driver_laws.proofs.Prelude.{histories_sound, keeps_sound, mine-moved, mine_driven, plain-write}
 use Rattle.driver_laws.proofs.Prelude.{settings_stand, stays_within, vfs_stays, write_memory, write_rest}

@@ -16,7 +16,7 @@ use Rattle.driver_laws.specs.{Quieting.are_off, Start.BeginsWell, Start.StartAgr
 use Rattle.driver_laws.specs.On.{AreOn, SwitchedSidesAgree, SwitchedSidesBeginNone, SwitchedSidesGoOn}
 use Rattle.driver_laws.specs.Prelude.{Agree, Agrees, AtPort, Call, EachRingBlock, Entry, Numbers, Rdt, Receive, Rx}
 use Rattle.driver_laws.specs.Prelude.{Rxdctl, Sees, Sender, Sets, Side, State, Tdt, Tx, Watched, begun_on, is_size}
-use Rattle.driver_laws.specs.Prelude.{leads_to, lent_by, quiet}
+use Rattle.driver_laws.specs.Prelude.{IsReceiveReady, IsSwitched, IsTransmitReady, is_frame, leads_to, lent_by, quiet}
 
 -- the numbers of slots that a driver may have
 
@@ -31,6 +31,22 @@ sized_ring pass h size ring is lent = grind (arith, common_steps)
 -- sides that are off aren't wanted on
 unwanted : (a b c d : Bool) → ((not a && not b) && (not c && not d)) ≡ true → (b ≡ false) × (d ≡ false)
 unwanted a b c d is = grind (arith, common_steps)
+
+-- both rings came up, one after the other, and then both sides went on
+abbrev pub are_on : {q : AtPort} {size frame : ℕ} {old one two new : List Call} {a b c : Numbers} {v : Receive}
+    {t : Sender} → is_size size ≡ true → is_frame frame ≡ true → IsReceiveReady q size frame old a one b v
+    → IsTransmitReady q size frame one b two c t → IsSwitched q two new true 1000 → AreOn q size frame old a new v t
+are_on {one = one} {two = two} {b = b} {c = c} sized framed receive transmit switched = record {
+  sized = sized;
+  framed = framed;
+  ready_made = one;
+  both_made = two;
+  ready_arena = b;
+  both_arena = c;
+  receive = receive;
+  transmit = transmit;
+  switched = switched;
+}
 
 module _ {w : Watched} {origin : State} {h : List Entry} {q : AtPort} {size frame : ℕ} {old : List Call} {a : Numbers}
     {new : List Call} {v : Receive} {t : Sender} (up : AreOn q size frame old a new v t)
@@ -210,17 +226,7 @@ module _ {w : Watched} {origin : State} {h : List Entry} {q : AtPort} {size fram
     -- before the receive ring is filled both sides are on
 
     abbrev pub on : AreOn q size frame old a up.on.mid up.empty r.transmit
-    on = record {
-      sized = up.sized;
-      framed = up.framed;
-      ready_made = up.ready_made;
-      both_made = up.both_made;
-      ready_arena = up.ready_arena;
-      both_arena = up.both_arena;
-      receive = up.receive;
-      transmit = up.transmit;
-      switched = up.on.switched;
-    }
+    on = are_on up.sized up.framed up.receive up.transmit up.on.switched
 
 pub start_agrees : StartAgrees
 start_agrees w origin h q size frame old a new r up along well = agrees_at (on up along well) along well.ground

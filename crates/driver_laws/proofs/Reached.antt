@@ -1,6 +1,6 @@
 -- A history that leaves a queue alone, entry by entry and call by call of its pass.
-use Rattle.std.proofs.Common.{[], ◌++◌, ◌∙◌, ◌∷◌, ◌≡◌, ◌≢◌, List, ap, append_assoc, arith, inl, inr, refl, subst, sym}
-use Rattle.std.proofs.Common.{true}
+use Rattle.std.proofs.Common.{[], ◌++◌, ◌∙◌, ◌∷◌, ◌≡◌, ◌≢◌, List, ap, append_assoc, arith, inl, inr, refl, rules, subst}
+use Rattle.std.proofs.Common.{sym, true}
 use Rattle.std.proofs.lemmas.{Bool.cases_Bool, Bool.eqb-false, Grind.common_steps, List.append-nil}
 use Rattle.std.specs.Prelude.{◌==◌, IsFalse, IsTrue}
 use Rattle.device_lock.specs.{Alone.EntryLeavesAlone, History.AreEvents, History.IsLegal}
@@ -137,8 +137,7 @@ module _ {w : Watched} {origin : State} {h : List Entry} (x : IsAlong w origin h
   -- a step of the device leaves the queue alone
   step_over : (P : List Entry → Type 0) → KeptOver w origin mine P → (c : Call) → IsTrue (is_step c.event)
       → LeadsOver w origin mine c P P
-  step_over P kept c is done e same met made told outside p =
-      grind (arith, common_steps, free_left, mine, vfs_stays, no_registers)
+  step_over P kept c is done e same met made told outside p = search (rules, free_left, mine, vfs_stays, no_registers)
 
 -- calls of one kind keep what each of them keeps
 pub all_lead : (w : Watched) (origin : State) (h : List Entry) (P : List Entry → Type 0) (Own : Call → Type 0)
@@ -210,8 +209,7 @@ module _ {w : Watched} {origin : State} {h : List Entry} (x : IsAlong w origin h
   -- one that the device answers otherwise is never the last
   pub last_never : (old : List Call) (c : Call) → Refutes P c → BeforeLast w origin h (old ++ c ∷ []) P
       → Never w origin h (old ++ c ∷ [])
-  last_never old c refutes at =
-      first_leads (λ s. ⊥) old c (λ s e left none. none) (λ s met made told p. refutes s p told) at
+  last_never old c refutes at = search (rules, first_leads)
 
   -- no call to which the device replies otherwise comes next behind these, beside steps of the device
   abbrev pub RefutesNext : List Call → Type 0

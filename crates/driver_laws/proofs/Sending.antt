@@ -1,35 +1,108 @@
--- What an event of one half's own leaves: all blocks but its own, and the other side; and so do steps of the device.
+-- The blocks that the halves have lent: each is lent, none by both, and all are among those that the pass lends. What
+-- an event of one half's own leaves: all blocks but its own, and the other side; and so do steps of the device.
 use Rattle.std.proofs.{lemmas.Grind.common_steps, lemmas.List.get_or-take, lemmas.List.length-take-le}
 use Rattle.std.proofs.Common.{[], ◌*◌, ◌+◌, ◌/◌, ◌<◌, ◌^◌, ◌∙◌, ◌∷◌, ◌≡◌, ◌≢◌, Bool, List, None, Option, Some, ℕ, ap}
-use Rattle.std.proofs.Common.{arith, cond, false, inl, inr, length, refl, subst, suc, sym, take, true}
-use Rattle.std.proofs.lemmas.Bool.{cases_eq, eqb-true, or_cases}
+use Rattle.std.proofs.Common.{arith, cond, false, inl, inr, length, not, refl, rules, subst, suc, sym, take, true}
+use Rattle.std.proofs.lemmas.Bool.{cases_eq, eqb-false, eqb-true, ne_eqb, not-true, or_cases}
 use Rattle.std.specs.{List.list_any, Prelude.IsTrue, Prelude.slice_index_or, Prelude.⊤, Prelude.◌==◌}
 use Rattle.nic_device.proofs.{DmaArena.Inside.inside_avoids, DmaRing.Fields.halves_come_back}
 use Rattle.nic_device.specs.{DmaArena.Memory.LiesIn, DmaRing.Driver.posted, DmaRing.Ring.descriptor_address}
-use Rattle.nic_device.specs.{RegisterFile.Queue.ring_of}
+use Rattle.nic_device.specs.{RegisterFile.Queue.ring_of, declared.event.Reply.TheVariants.Twice}
 use Rattle.nic_device.specs.RegTable.declared.rows.RowId.TheVariants.{Tdt, Tdwbal}
 use Rattle.pmd.proofs.PmdSeam.Rings.{each_ring_block, slot_block, slot_lies}
-use Rattle.pmd.specs.PmdRx.Receive.{fresh_of, vacant}
-use Rattle.pmd.specs.PmdTx.Sending.{Segment, blocks_of, descriptor_at, no_segment, segment_at, slot_at}
+use Rattle.pmd.specs.PmdRx.{Receive.Layout, Receive.fresh_of, Receive.vacant, declared.ring.Stage.Stage}
+use Rattle.pmd.specs.PmdTx.Sending.{Segment, blocks_of, descriptor_at, moved, no_segment, segment_at, slot_at}
 use Rattle.ring_laws.proofs.{DeviceLaws.RepliesSent.transmitting_tells, DeviceLaws.StandingQueues.receiving_rest}
 use Rattle.ring_laws.proofs.{Fetching.head_is, Fetching.length-asking, Foreign.piece_inside, Parts.seen_within}
 use Rattle.ring_laws.proofs.Blocks.{has_lent-ring, has_lent-segment, slot-below}
 use Rattle.ring_laws.proofs.HistoryLaws.Blocks.{IsSparedBy, clear_outside, reported, spared_block}
-use Rattle.ring_laws.proofs.Kept.{each_posted, each_ring, slot_below}
-use Rattle.ring_laws.specs.{Agreeing.AgreesAt, DeviceLaws.Replies.report_of, Joint.Holds}
+use Rattle.ring_laws.proofs.Kept.{each_by, each_posted, each_ring, slot_below}
+use Rattle.ring_laws.specs.{Agreeing.AgreesAt, Alone.LendsOneOf, DeviceLaws.Replies.report_of}
 use Rattle.ring_laws.specs.DeviceLaws.Leaving.{LeavesReceive, LeavesTransmit}
-use Rattle.ring_laws.specs.Steps.{Each, IsOutside, Leaves, OwnReportsSpare}
-use Rattle.driver_laws.proofs.Lending.{lend_leaves}
-use Rattle.driver_laws.proofs.Prelude.{IsOwn, Spares, Tdwbah, Wrote, block_at, memory_blocks, memory_rest, plain-write}
-use Rattle.driver_laws.proofs.Prelude.{reach, settings_stand, stays_within, word_of, write_memory, write_rest}
+use Rattle.ring_laws.specs.Joint.{HasSlots, Holds, StageHolds}
+use Rattle.ring_laws.specs.Steps.{Each, IfFresh, IsOutside, Leaves, OwnReportsSpare}
+use Rattle.driver_laws.proofs.Prelude.{Done, IsOwn, Spares, Tdwbah, Wrote, block_at, gives, memory_blocks, memory_rest}
+use Rattle.driver_laws.proofs.Prelude.{mine-moved, mine_driven, plain-write, reach, settings_stand, stays_within}
+use Rattle.driver_laws.proofs.Prelude.{step_of, word_of, write_memory, write_rest}
 use Rattle.driver_laws.specs.Prelude.{Accepts, Advances, Agree, Asks, Block, Blocks, Dir, Elsewhere, Event, IsEvent}
-use Rattle.driver_laws.specs.Prelude.{IsSound, LeavesBlock, Lends, Looks, Move, Piece, Rdt, Reaps, Receive, Register}
-use Rattle.driver_laws.specs.Prelude.{Reply, RowId, Rx, Sender, State, Tx, WritesNoSetting, WritesOutside, after}
-use Rattle.driver_laws.specs.Prelude.{has_bit, has_block, has_lent, is_ring_block, named, pieces, place, reply_to}
+use Rattle.driver_laws.specs.Prelude.{IsSound, LeavesBlock, Lends, Looks, Memory, Move, Piece, Rdt, Reaps, Receive}
+use Rattle.driver_laws.specs.Prelude.{Register, Reply, RowId, Rx, Sender, State, Tx, WritesNoSetting, WritesOutside}
+use Rattle.driver_laws.specs.Prelude.{after, drive, has_bit, has_block, has_lent, is_ring_block, named, pieces, place}
+use Rattle.driver_laws.specs.Prelude.{reply_to}
 use Rattle.std.specs.FinMap as map
 use Rattle.nic_device.specs.declared.event.Event.TheVariants as event
 use Rattle.pmd.specs.PmdRx.Keeping as received
 use Rattle.pmd.specs.PmdRx.Receive as receiving
+use Rattle.nic_device.specs.declared.event.Reply.TheVariants as reply
+
+-- the blocks of the receive half are lent
+
+fresh_lent : (m : Memory) (l : Layout) (stage : Stage) → StageHolds m l stage
+    → IfFresh stage (λ b. has_block m b ≡ true)
+fresh_lent m l stage h = search rules
+
+slot_lent : (m : Memory) (l : Layout) (here : List Piece) → HasSlots m l here → (k : ℕ) → k < length l.blocks
+    → has_block m (block_at l k) ≡ true
+slot_lent m l here h k i = grind (arith, common_steps)
+
+pub receive_lent : (queue : ℕ) (s : State) (out : List Piece) (v : Receive) → Agree queue s out v
+    → Each v (λ b. has_block s.memory b ≡ true)
+receive_lent queue s out v (gone, here, h) = search (rules, each_by, slot_lent, reach, fresh_lent)
+
+-- a block is lent
+
+lent_twice : (s : State) (block : Block) → has_block s.memory block.number ≡ true
+    → step_of s (event.Lend block) ≡ gives (Twice block) s
+unfolding step_of
+lent_twice s block has = rw has refl
+
+-- each block that was lent before is as it was
+pub lend_leaves : (s : State) (block : Block) (number : ℕ) → has_block s.memory number ≡ true
+    → LeavesBlock number s (after s (event.Lend block))
+lend_leaves s block number has = grind (arith, common_steps, lent_twice, memory_blocks)
+
+-- and has another number than one that is lent now
+pub lent_apart : (s : State) (block : Block) (number : ℕ) → has_block s.memory number ≡ true
+    → reply_to s (event.Lend block) ≡ Done → block.number ≢ number
+lent_apart s block number has done same = grind (arith, common_steps, lent_twice)
+
+-- no block is lent by both halves, whatever their calls
+
+-- all blocks but one
+abbrev but : ℕ → Blocks
+but n b = not (b == n)
+
+off : (b n : ℕ) → b ≢ n → IsTrue (but n b)
+off b n ne = ap not (ne_eqb b n ne)
+
+on : (b n : ℕ) → IsTrue (but n b) → b ≢ n
+on b n is = eqb-false b n (not-true (b == n) is)
+
+module _ (s : State) where
+  -- a block that is lent by a call wasn't lent before
+  lends_other : (e : Event Block) (r : Reply Block) → reply_to s e ≡ r → (n : ℕ) → has_block s.memory n ≡ true
+      → LendsOneOf (but n) e r
+  lends_other e r is n has = grind (arith, common_steps, off, lent_apart)
+
+  -- the receive half's own
+  pub receives_apart : (v : Receive) (u : Sender) (e : Event Block) → receiving.IsOwn v e
+      → ((n : ℕ) → IsTrue (has_lent u n) → has_block s.memory n ≡ true)
+      → ((n : ℕ) → IsTrue (has_lent u n) → Each v (λ b. b ≢ n))
+      → (n : ℕ) → IsTrue (has_lent u n) → Each (drive v e (reply_to s e)) (λ b. b ≢ n)
+  receives_apart v u e own lent apart n is b has =
+      on b n
+      (mine_driven (but n) v (λ k i. off k n (apart n is k i)) e (reply_to s e) own (lends_other e _ refl n (lent n is))
+      b has)
+
+  -- the transmit half's
+  pub sends_apart : (v : Receive) (u : Sender) (m : Move) (e : Event Block) → IsOwn u m e
+      → Each v (λ b. has_block s.memory b ≡ true) → ((n : ℕ) → IsTrue (has_lent u n) → Each v (λ b. b ≢ n))
+      → (n : ℕ) → IsTrue (has_lent (moved u m (reply_to s e)) n) → Each v (λ b. b ≢ n)
+  sends_apart v u m e own lent apart n is b has same =
+      on n b
+      (mine-moved (but b) u (λ k i. off k b (λ e. apart k i b has (sym e))) m e (reply_to s e) own
+      (lends_other e _ refl b (lent b has)) n is)
+      (sym same)
 
 -- an event that takes or pokes some blocks alone, lends one, looks, or writes the tail of a side of the queue
 
@@ -83,8 +156,8 @@ module _ (queue : ℕ) (own : Blocks) (s : State) where
 
 module _ (queue : ℕ) (s : State) (out : List Piece) (v : Receive) (gone here : List Piece)
     (h : Holds queue s out v gone here) where
-  abbrev Lent : ℕ → Type 0
-  Lent b = IsTrue (received.has_lent v b)
+  abbrev Own : ℕ → Type 0
+  Own b = IsTrue (received.has_lent v b)
 
   pub own_touches : (e : Event Block) → receiving.IsOwn v e → Touches Rx queue (received.has_lent v) s e
   own_touches (event.Peek16 a) own = tt
@@ -96,7 +169,7 @@ module _ (queue : ℕ) (s : State) (out : List Piece) (v : Receive) (gone here :
       let size : length bytes ≡ 16 =
       ap length own.bytes_are ∙ (halves_come_back (posted (2048 * fresh_of v.stage)) 0).size in (
         l.ring + slot / 128,
-        each_ring v Lent (λ b is. is) (slot / 128)
+        each_ring v Own (λ b is. is) (slot / 128)
             (slot_block l.size slot (slot_below l (vacant l) h.ring (omega arith))),
         subst (LiesIn (l.ring + slot / 128) a) (sym size) (rw own.address (slot_lies l.ring slot)),
       )

@@ -1,25 +1,29 @@
 -- The sides of a queue while its driver stops or starts: one that is on, or isn't wanted on, doesn't go on; and both
--- are asked off and seen off, and stay so.
-use Rattle.std.{proofs.lemmas.Grind.common_steps, specs.Prelude.IsFalse}
-use Rattle.std.proofs.Common.{[], ◌&&◌, ◌++◌, ◌∙◌, ◌∷◌, ◌≡◌, ◌≢◌, Bool, List, ℕ, ap, arith, false, inl, inr, not, refl}
-use Rattle.std.proofs.Common.{subst, sym, true}
-use Rattle.ring_laws.proofs.HistoryLaws.Steady.{IsSteady, deed_settles, off_steady, seen_off, unwanted_steady}
-use Rattle.ring_laws.specs.HistoryLaws.Sides.{IsUnwanted}
+-- are asked off and seen off, and stay so. Then nothing is received or sent, over events that leave the queue alone and
+-- calls of a stop.
+use Rattle.std.proofs.Common.{[], ◌&&◌, ◌++◌, ◌∙◌, ◌∷◌, ◌≡◌, ◌≢◌, Bool, List, None, Option, Some, ℕ, ap, arith, false}
+use Rattle.std.proofs.Common.{inl, inr, not, option_map, refl, subst, sym, true}
+use Rattle.std.proofs.lemmas.{Grind.common_steps, List.append-nil, List.append_cancel_left}
+use Rattle.std.specs.Prelude.{IsFalse}
+use Rattle.ring_laws.proofs.HistoryLaws.Steady.{IsSteady, deed_settles, off_idle, off_steady, seen_off, unwanted_steady}
+use Rattle.ring_laws.specs.{Delivered.packets_if_any, HistoryLaws.Sides.IsUnwanted}
+use Rattle.driver_laws.proofs.{Parts.calls_joined, Words.each_side, Words.side_driven}
 use Rattle.driver_laws.proofs.Ground.{ground_kept, ground_names, plain_keeps, read_ground, write_ground}
 use Rattle.driver_laws.proofs.Made.{access_leads, all_missed, all_polled, first_seen, made_some}
 use Rattle.driver_laws.proofs.Prelude.{AllAre, AtCalls, Deed, Ends, HasGround, IsAlong, IsEnding, IsKept, IsMet, IsOff}
-use Rattle.driver_laws.proofs.Prelude.{IsPlain, IsQuiet, NamesRow, Stands, WritesOutside, asked, left_deed, memory_rest}
-use Rattle.driver_laws.proofs.Prelude.{no_block, no_registers, none_begun_while_off, queues_left, read_rest}
-use Rattle.driver_laws.proofs.Prelude.{steady_kept}
-use Rattle.driver_laws.proofs.Reached.{free_left, made_keep, sound_at}
+use Rattle.driver_laws.proofs.Prelude.{IsPlain, IsQuiet, NamesRow, Piece, Stands, WritesOutside, asked, idle_silent}
+use Rattle.driver_laws.proofs.Prelude.{left_deed, memory_rest, no_block, no_registers, none_begun_while_off, not_again}
+use Rattle.driver_laws.proofs.Prelude.{packets_of, queues_left, read_rest, sent_is_counted, since-append, steady_kept}
+use Rattle.driver_laws.proofs.Reached.{entry_is, free_left, made_keep, reached_next, sound_at, walk}
 use Rattle.driver_laws.proofs.StopCalls.{MayAsk, accesses_are, may_asks, none_made, stays_some, step_ends, then_made}
-use Rattle.driver_laws.proofs.Words.{each_side, side_driven}
-use Rattle.driver_laws.specs.{Quiet.OffSidesStand, Quiet.ReceiveGuardIsOff, Silent.SwitchingOffLeads, Standing.IsLeft}
+use Rattle.driver_laws.specs.{Ending.Each, Quiet.OffSidesStand, Quiet.ReceiveGuardIsOff, Standing.IsLeft}
 use Rattle.driver_laws.specs.Prelude.{Access, AreMade, AtPort, Block, Blocks, Call, Dir, Entry, Event, IsEvent, IsMade}
 use Rattle.driver_laws.specs.Prelude.{IsNumberOf, LeavesBlocks, LeavesRegisters, Reply, Rx, Rxdctl, Sees, Sets, Side}
-use Rattle.driver_laws.specs.Prelude.{State, Tx, Txdctl, Watched, after, enable_row, has_bit, is_step, leads_to}
-use Rattle.driver_laws.specs.Prelude.{lent_by, missed, mode_in, polled, quiet, receive_polled, side_of}
+use Rattle.driver_laws.specs.Prelude.{State, Tx, Txdctl, Watched, after, calls_of, enable_row, has_bit, is_on, is_step}
+use Rattle.driver_laws.specs.Prelude.{leads_to, lent_by, missed, mode_in, pieces, pieces_since, polled, quiet}
+use Rattle.driver_laws.specs.Prelude.{receive_polled, sent_by, sent_since, side_of}
 use Rattle.driver_laws.specs.Quieting.{QuietSidesStand, QuietingLeads}
+use Rattle.driver_laws.specs.Silent.{IsSilent, QuietQueueIsSilent, SwitchingOffLeads}
 use Rattle.nic_device.specs.declared.event.Event.TheVariants as event
 use Rattle.ring_laws.proofs.HistoryLaws.Steady as steady
 
@@ -277,3 +281,88 @@ quiet_sides_stand w q frame origin h calls along quiet done rest all is =
         low = λ n is. cc;
       },
     )
+
+-- an event by which nothing is received or sent, and behind which the sides are off
+record StaysQuiet (queue : ℕ) (q : AtPort) (frame : ℕ) (s : State) (e : Event Block) : Type 0 where
+  quiet : IsQuiet queue q frame (after s e)
+  received : pieces queue s e ≡ []
+  sent : sent_by queue s e ≡ []
+
+left_stays : (w : Watched) (mine : Blocks) (q : AtPort) (frame : ℕ) (s : State) (e : Event Block) → IsLeft w mine s e
+    → IsQuiet w.queue q frame s → StaysQuiet w.queue q frame s e
+left_stays w mine q frame s e left x = record {
+  quiet = quiet_kept w mine q frame s e left x;
+  received = idle_silent Rx w.queue s e IsOff x.receive off_idle (left_deed Rx w mine s e left);
+  sent = (idle_silent Tx w.queue s e IsOff x.transmit off_idle (left_deed Tx w mine s e left)).sent;
+}
+
+ending_stays : (queue : ℕ) (q : AtPort) (frame : ℕ) (s : State) (e : Event Block) → IsMet queue s → IsEvent e
+    → IsEnding q e → IsQuiet queue q frame s → StaysQuiet queue q frame s e
+ending_stays queue q frame s e met made ends x =
+    let silent = none_told e met made ends in
+    record { quiet = ending_quiet queue q frame s e met made ends x; received = silent.0; sent = silent.1 }
+  where
+    none_told : (e : Event Block) → IsMet queue s → IsEvent e → IsEnding q e
+        → (pieces queue s e ≡ []) × (sent_by queue s e ≡ [])
+    none_told (event.Write port number word) met made ends = (refl, refl)
+    none_told (event.Read port number) met made ends = (refl, refl)
+    none_told (event.Take number) met made ends = (refl, refl)
+    none_told e met made ends =
+        let stays = left_stays (watching queue s) no_block q frame s e (step_left queue s e met made ends) x in
+        (stays.received, stays.sent)
+
+none_more : (so_far : Option (List Piece)) → packets_if_any (option_map (λ qs. qs ++ []) so_far) ≡ packets_if_any so_far
+none_more None = refl
+none_more (Some qs) = ap packets_of (append-nil qs)
+
+module _ {w : Watched} {origin : State} {h : List Entry} (q : AtPort) (frame : ℕ) (along : IsAlong w origin h)
+    (done : List Entry) where
+  -- the sides are off, and no more was received or sent than before
+  record Silent (now : List Entry) : Type 0 where
+    quiet : IsQuiet w.queue q frame (leads_to origin now)
+    same : IsSilent w origin now done
+
+  silent_on : (now : List Entry) (e : Entry) → StaysQuiet w.queue q frame (leads_to origin now) e.event → Silent now
+      → Silent (now ++ e ∷ [])
+  silent_on now e stays x =
+      let s = leads_to origin now in
+      let t = after s e.event in
+      let so_far = pieces_since w.queue origin None now in
+      let sent = sent_since w.queue origin [] now in
+      let rx = not_again (is_on s.registers Rx w.queue) (is_on t.registers Rx w.queue) (inr stays.quiet.receive.off) in
+      let tx = not_again (is_on s.registers Tx w.queue) (is_on t.registers Tx w.queue)
+      (inr stays.quiet.transmit.off) in
+      record {
+        quiet = subst (IsQuiet w.queue q frame) (sym (reached_next w origin now e)) stays.quiet;
+        same = record {
+          delivered =
+              rw (since-append w.queue origin None now (e ∷ []), rx, stays.received)
+              (none_more so_far ∙ x.same.delivered);
+          sent =
+              rw (sent_is_counted.joined w.queue origin [] now (e ∷ []), tx, stays.sent)
+              (append-nil sent ∙ x.same.sent);
+        };
+      }
+
+pub quiet_queue_is_silent : QuietQueueIsSilent
+quiet_queue_is_silent w q frame origin h done rest old new along some at (ends, is, own) made all calls =
+    let both = ap (λ (cs : List Call). cs ++ calls_of w.pass rest) (sym calls) ∙ sym (calls_joined w.pass done rest) in
+    let later : calls_of w.pass rest ≡ ends =
+    append_cancel_left old (calls_of w.pass rest) ends (both ∙ ap (calls_of w.pass) all ∙ made ∙ is) in
+    let mine = lent_by w.pass h in
+    let over = walk along (λ now cs. Silent q frame along done now × Each (λ c. IsEnding q c.event) cs)
+    (λ cs now e left x. (
+      silent_on q frame along done now e (left_stays w mine q frame (leads_to origin now) e.event left x.0.quiet) x.0,
+      x.1,
+    ))
+    (λ now more e cs here made x.
+    let entry = entry_is along now more e here in (
+      silent_on q frame along done now e
+          (ending_stays w.queue q frame (leads_to origin now) e.event entry.met entry.made x.1.0 x.0.quiet) x.0,
+      x.1.1,
+    ))
+    done rest [] (append-nil (done ++ rest) ∙ all) (λ none. some (sym calls ∙ none)) (
+      record { quiet = at done rest all calls; same = record { delivered = refl; sent = refl } },
+      subst (Each (λ c. IsEnding q c.event)) (sym later) own,
+    ) in
+    subst (λ (l : List Entry). IsSilent w origin l done) all over.0.same

@@ -1,7 +1,7 @@
 -- Of an arena's blocks those are lent at the device that its driver has out with its halves; and each block of it is in
 -- one place: free there, in hand, or lent to the device.
 use Rattle.std.proofs.lemmas.{Grind.common_steps, List.Folds.list_any-append}
-use Rattle.driver_laws.proofs.{Healthy.known_along, Lending.receive_lent, Sending.sender_lent}
+use Rattle.driver_laws.proofs.{Healthy.known_along, Sending.receive_lent, Sending.sender_lent}
 use Rattle.driver_laws.specs.{Healthy.lent_by}
 use Rattle.pmd_laws.proofs.{Lent.known_at, Lent.others_behind, Told.goes, Told.led, Told.told_ran}
 use Rattle.pmd_laws.proofs.Order.{agree, driven, first, in_parts, last, there_is}

@@ -1,5 +1,6 @@
 -- What the calls of a driver tell is told of the calls that were added alone: it holds behind whichever others. So it
 -- is of what its halves were driven by, and of a start.
+use Rattle.driver_laws.proofs.On.{are_on}
 use Rattle.pmd.specs.PmdRx.{Filling.StopsFilling, Wrong.EndsWrong}
 use Rattle.pmd_laws.proofs.Prelude.{[], ◌++◌, ◌∙◌, ◌∷◌, ◌≡◌, ◌⊎◌, Access, Adds, AreMade, AreUp, AtPort, Block, Bool}
 use Rattle.pmd_laws.proofs.Prelude.{Call, DeviceFault, Dir, DrivesRings, Event, FaultsEarly, FaultsFilling, IsMade}
@@ -290,17 +291,7 @@ module _ (q : AtPort) (size frame : ℕ) (a : Numbers) where
         arena = x.arena;
         filled = x.filled;
         fails = fails;
-        on = record {
-          sized = on.sized;
-          framed = on.framed;
-          ready_made = y.1.0;
-          both_made = y.0;
-          ready_arena = on.ready_arena;
-          both_arena = on.both_arena;
-          receive = y.1.1;
-          transmit = y.1.2;
-          switched = y.2;
-        };
+        on = are_on on.sized on.framed y.1.1 y.1.2 y.2;
       })
 
   pub fault_shift : Shift (λ o n. FaultsEarly q size frame o a n ⊎ FaultsFilling q size frame o a n)

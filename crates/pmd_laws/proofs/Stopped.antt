@@ -3,7 +3,7 @@
 -- on there. So it is of what a driver left that lived, and was stopped.
 use Rattle.driver_laws.proofs.{Ground.ground_names, Parts.more_some, RingLaws.Delivering.grows}
 use Rattle.driver_laws.proofs.{RingLaws.Foreign.no_registers, RingLaws.HistoryLaws.Steady.deed_settles}
-use Rattle.driver_laws.proofs.{RingLaws.Kept.each_map, RingLaws.Runs.first_sent, Silent.quiet_queue_is_silent}
+use Rattle.driver_laws.proofs.{RingLaws.Kept.each_map, RingLaws.Runs.first_sent, SwitchedOff.quiet_queue_is_silent}
 use Rattle.driver_laws.proofs.{SwitchedOff.ending_does, SwitchedOff.switching_off_leads, Words.side_driven}
 use Rattle.driver_laws.proofs.Meeting.{Meets, enable_words_keep, neither_keeps}
 use Rattle.driver_laws.specs.{Enabling.MayAsk, Moves.IsMet, Standing.IsLeft}

@@ -1,17 +1,18 @@
 -- Histories in two parts: soundness along them, what a pass lends and begins in each, and how they leave a queue alone.
-use Rattle.std.proofs.Common.{[], ◌++◌, ◌/◌, ◌∙◌, ◌∷◌, ◌≡◌, List, Some, ap, append_assoc, false, inl, inr, refl, subst}
+use Rattle.std.proofs.Common.{[], ◌++◌, ◌/◌, ◌∙◌, ◌∷◌, ◌≡◌, List, Some, ℕ, ap, append_assoc, arith, false, inl, inr}
 use Rattle.std.proofs.lemmas.Bool.{both_ways, or_cases, or_left, or_right}
-use Rattle.std.specs.Prelude.{◌==◌, ◌||◌, Bool, IsFalse, IsTrue}
-use Rattle.std.proofs.Common.{sym, true, ℕ}
 use Rattle.history_laws.specs.Prelude.{AreEvents, Block, Blocks, Entry, EntryLeavesAlone, Event, IsSound, LeavesBlocks}
 use Rattle.history_laws.specs.Prelude.{Mode, Off, Reply, Sent, State, Watched, WritesOutside, Wrote, after, has_begun}
 use Rattle.history_laws.specs.Prelude.{leads_to, lent_by, mode_in, mode_through, new_state}
-use Rattle.nic_device.{proofs.Steps.keeps_sound, specs.declared.event.Reply.TheVariants.Advanced}
+use Rattle.nic_device.specs.declared.event.Reply.TheVariants.{Advanced}
 use Rattle.device_lock.proofs.Histories.{events_before, leads-append}
-use Rattle.device_lock.specs.Alone.{LeavesAlone, lent_in}
 use Rattle.history_laws.specs.Laws.{AloneByEntries, BeginningIsAlone, HistoriesKeepSound, NewIsPlain, PlainIsLeftAlone}
+use Rattle.std.proofs.{lemmas.Grind.common_steps, Common.refl, Common.subst, Common.sym, Common.true}
+use Rattle.std.specs.Prelude.{◌==◌, ◌||◌, Bool, IsFalse, IsTrue}
+use Rattle.nic_device.proofs.Steps.{keeps_sound}
+use Rattle.device_lock.specs.Alone.{LeavesAlone, lent_in}
+use Rattle.history_laws.specs.{Laws.RestIsAlone, Alone.AllAlone, Alone.LeavesAloneFrom}
 use Rattle.history_laws.proofs.{Lent.not_so, Limits.mode_told_from, Limits.new_is_off}
-use Rattle.history_laws.specs.{Alone.AllAlone, Alone.LeavesAloneFrom, Laws.RestIsAlone}
 use Rattle.nic_device.specs.declared.event.Event.TheVariants as event
 
 pub histories_sound : HistoriesKeepSound
@@ -61,19 +62,13 @@ module _ (mine less : Blocks) (fewer : (n : ℕ) → IsFalse (mine n) → IsFals
 
   pub entry_left : (w : Watched) (mode : Mode) (e : Entry) → EntryLeavesAlone w mine mode e
       → EntryLeavesAlone w less mode e
-  entry_left w mode e h = record {
-    registers = h.registers;
-    blocks = λ other. blocks_left e.event (h.blocks other);
-    steps = outside_left w.queue e.reply h.steps;
-  }
+  entry_left w mode e h = grind (arith, common_steps, blocks_left, outside_left)
 
 -- what begins a history that leaves a queue alone leaves it alone, and so does what is behind: neither lends more
 
 pub beginning_alone : BeginningIsAlone
 beginning_alone w s g h alone before e after split begun =
-    entry_left (lent_by w.pass (g ++ h)) (lent_by w.pass g) (λ n. not_so _ _ (lent_before w.pass n g h)) w _ e
-    (alone before e (after ++ h)
-    (ap (λ (xs : List Entry). xs ++ h) split ∙ append_assoc before (e ∷ after) h) begun)
+    grind (arith, common_steps, entry_left, not_so, lent_before, append_assoc)
 
 pub rest_alone : RestIsAlone
 rest_alone w s g h alone before e after split begun =

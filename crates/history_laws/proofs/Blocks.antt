@@ -1,23 +1,21 @@
 -- The blocks that an event leaves.
-use Rattle.std.proofs.Common.{[], ◌%◌, ◌*◌, ◌+◌, ◌/◌, ◌<◌, ◌∙◌, ◌≡◌, ◌≢◌, List, None, Some, ap, arith}
-use Rattle.std.proofs.Common.{false, inl, inr, length, refl, subst, sym, take, ℕ}
+use Rattle.std.proofs.Common.{[], ◌%◌, ◌*◌, ◌+◌, ◌/◌, ◌<◌, ◌∙◌, ◌≡◌, ◌≢◌, List, None, Some, ℕ, ap, arith, false, inl}
 use Rattle.std.proofs.lemmas.Bool.{cases_Bool, cases_eq, cases_lt, eq-eqb, eqb-false}
-use Rattle.std.specs.Prelude.{◌==◌, IsFalse, IsTrue, ⊤}
 use Rattle.history_laws.specs.Prelude.{Avoids, Block, Blocks, Event, Filled, IsEvent, IsSound, LeavesBlock}
 use Rattle.history_laws.specs.Prelude.{LeavesBlocks, LiesIn, Memory, Outcome, Registers, Reply, Rest, Sent, State, Tx}
-use Rattle.history_laws.specs.Prelude.{Waiting, WritesOutside, Wrote, after, reply_to, ring_of, step_of}
-use Rattle.history_laws.specs.Prelude.{told_back, transmit_queue_of, write_at}
+use Rattle.history_laws.specs.Prelude.{Waiting, WritesOutside, Wrote, after, reply_to, ring_of, step_of, told_back}
+use Rattle.device_laws.proofs.StandingQueues.{receiving_blocks, switching_rest, transmitting_blocks}
+use Rattle.std.proofs.{lemmas.Grind.common_steps, Common.inr, Common.length, Common.refl, Common.subst, Common.sym}
+use Rattle.std.specs.Prelude.{◌==◌, IsFalse, IsTrue, ⊤}
+use Rattle.history_laws.specs.{Prelude.transmit_queue_of, Prelude.write_at, Left.IsOutside, Left.SendsNone}
+use Rattle.history_laws.specs.{Reports.ReportsLieInBlocks, Segments.pieces, Segments.pieces_told}
 use Rattle.nic_device.proofs.{DmaArena.Blocks.get-write_at_out, DmaArena.Inside.inside_avoids}
 use Rattle.nic_device.proofs.{DmaRing.Fields.halves_come_back, QueueCases.received_cases}
 use Rattle.nic_device.proofs.{RegisterLaws.SoundWords.rings_aligned, RxRing.Fills.takes_piece}
-use Rattle.nic_device.specs.{DmaRing.Descriptor.of_halves, DmaRing.Receive.written_back}
-use Rattle.nic_device.specs.{RegisterFile.Settings.writeback_of}
-use Rattle.nic_device.specs.{RegisterLaws.SoundWords.IsAligned, RxRing.Fill.memory_with, TxRing.Report.report_length}
+use Rattle.nic_device.specs.{RegisterFile.Settings.writeback_of, RegisterLaws.SoundWords.IsAligned}
+use Rattle.nic_device.specs.{RxRing.Fill.memory_with, TxRing.Report.report_length}
 use Rattle.nic_device.specs.{declared.event.Reply.TheVariants.Advanced}
 use Rattle.device_lock.specs.Alone.{IsClear}
-use Rattle.history_laws.specs.{Left.IsOutside, Left.SendsNone, Reports.ReportsLieInBlocks, Segments.pieces}
-use Rattle.history_laws.specs.{Segments.pieces_told}
-use Rattle.device_laws.proofs.StandingQueues.{receiving_blocks, switching_rest, transmitting_blocks}
 use Rattle.device_laws.proofs.{RepliesOut.misaligned, RepliesSent.transmitting_tells, Standing.memory_blocks}
 use Rattle.device_laws.proofs.{Standing.stays_within, StandingAccesses.read_rest, StandingAccesses.write_memory}
 use Rattle.device_laws.specs.{Leaving.ReceivesOutside, Replies.report_of, Replies.sent_tells}
@@ -59,11 +57,7 @@ IsEmpty other b = ⊤
 none_written : (m : Memory) (rest : Rest) (f : Filled) (b : ℕ) → f.len ≡ 0 → Avoids b f.desc 16
     → map.get (memory_with m rest f) b ≡ map.get m b
 unfolding write_at
-none_written m rest f b none avoids =
-    ap (λ n. map.get (write_at (write_at m f.at (take n rest.bytes)) f.desc
-    (of_halves rest.first (written_back f.len f.end))) b) none
-    ∙ get-write_at_out m f.desc (of_halves rest.first (written_back f.len f.end)) b
-    (subst (λ k. Avoids b f.desc k) (sym (halves_come_back rest.first (written_back f.len f.end)).size) avoids)
+none_written m rest f b none avoids = grind (arith, common_steps, get-write_at_out, halves_come_back)
 
 empty_kept : (s : State) (b : ℕ) → IsEmpty (reply_to s event.RxStep) b → LeavesBlock b s (after s event.RxStep)
 unfolding step_of

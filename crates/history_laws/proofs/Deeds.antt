@@ -1,30 +1,27 @@
 -- What an event that leaves a queue alone does to the queue's sides.
-use Rattle.std.proofs.Common.{[], ◌<◌, ◌||◌, ◌∙◌, ◌∷◌, ◌≡◌, ◌≢◌, ◌⊎◌, Bool, Err, List, None, Ok, Option, Some, ap}
-use Rattle.std.proofs.Common.{arith, cond, false, inl, inr, length, map, not, refl, subst, sym, true, ℕ}
+use Rattle.std.proofs.Common.{[], ◌<◌, ◌||◌, ◌∙◌, ◌∷◌, ◌≡◌, ◌≢◌, ◌⊎◌, Bool, Err, List, None, Ok, Option, Some, ℕ, ap}
+use Rattle.std.proofs.Common.{arith, cond, false, inl, inr, length, map, not, refl, subst, sym, true}
 use Rattle.std.proofs.lemmas.Bool.{cases_Bool, cases_eq, cond_both, eq-eqb, lt-ltb, ne_eqb}
-use Rattle.std.specs.Prelude.{◌&&◌, ◌==◌, IsFalse, Result, ⊤}
-use Rattle.std.proofs.lemmas.List.{drop_all, get_or-set_same}
 use Rattle.history_laws.specs.Prelude.{Block, Blocks, Dir, Event, Fetched, Filled, IsSound, LeavesReceive, Outcome}
 use Rattle.history_laws.specs.Prelude.{Registers, Reply, RingFault, Rx, State, TransmitQueue, Tx, Waiting, Watched}
-use Rattle.history_laws.specs.Prelude.{Wrote, after, gives, is_empty, is_wanted, receive_queue_of, reply_to}
-use Rattle.history_laws.specs.Prelude.{rest_of, staged_by, step_of, transmit_queue_of}
+use Rattle.history_laws.specs.Prelude.{Wrote, after, gives, is_empty, is_wanted, receive_queue_of, reply_to, rest_of}
 use Rattle.nic_device.proofs.RegisterLaws.Switches.{receive-switched, transmit-switched}
-use Rattle.nic_device.specs.RegTable.declared.rows.RowId.TheVariants.{Qprdc}
-use Rattle.nic_device.specs.RegisterFile.Settings.{can_transmit, drops, is_stopped}
-use Rattle.nic_device.specs.Transmit.{fetched_reply, is_muted, is_silent, slot_done}
 use Rattle.nic_device.specs.declared.event.Reply.TheVariants.{Dropped, Fault, Idle}
-use Rattle.nic_device.specs.declared.event.Why.TheVariants.{NoSlot, QueueOff}
-use Rattle.nic_device.proofs.{Cases.either_way, Cases.switched_cases, Coming.counted_in, Raising.comes-itself}
-use Rattle.nic_device.proofs.{Raising.have_counters, RegisterLaws.Stands.receive_stands}
-use Rattle.nic_device.specs.{Footprint.counts_and_causes, Receive.first_received, Receive.slotless_counted}
-use Rattle.nic_device.specs.{RegisterFile.Counters.counter_of, RegisterFile.Queue.switched, Switching.emptied}
-use Rattle.nic_device.specs.{Switching.side_switched}
 use Rattle.history_laws.proofs.Leaving.{left-setting, left-side, receive_left, step_event, step_is, switch_is}
 use Rattle.history_laws.specs.Left.{Deed, IsFirst, IsLeft, IsSilent, LeftDid, Nothing, Rested, Rests, SendsNone, Shut}
+use Rattle.history_laws.specs.Left.{SidesDo, Switched, Took, fetch_on, fill_on, is_step_of, is_switch_of}
 use Rattle.history_laws.specs.Segments.{frames_added, piece_in, pieces, pieces_told, sent_by}
 use Rattle.history_laws.specs.Sides.{IsTried, Side, as_wanted, receive_side, side_of, transmit_side}
+use Rattle.std.proofs.{lemmas.Grind.common_steps, lemmas.List.drop_all, lemmas.List.get_or-set_same}
+use Rattle.std.specs.Prelude.{◌&&◌, ◌==◌, IsFalse, Result}
+use Rattle.history_laws.specs.Prelude.{staged_by, step_of, transmit_queue_of}
+use Rattle.nic_device.specs.{RegisterFile.Settings.drops, RegisterFile.Settings.is_stopped, Transmit.fetched_reply}
+use Rattle.nic_device.specs.{Transmit.is_silent, Transmit.slot_done, declared.event.Why.TheVariants.NoSlot}
+use Rattle.nic_device.specs.{declared.event.Why.TheVariants.QueueOff, Receive.first_received, Receive.slotless_counted}
+use Rattle.nic_device.specs.{RegisterFile.Queue.switched, Switching.emptied, Switching.side_switched}
+use Rattle.nic_device.proofs.{Cases.either_way, Cases.switched_cases, Coming.counted_in, Raising.comes-itself}
+use Rattle.nic_device.proofs.{Raising.have_counters, RegisterLaws.Stands.receive_stands}
 use Rattle.history_laws.proofs.{Blocks.left-block, Steady.none_staged}
-use Rattle.history_laws.specs.Left.{SidesDo, Switched, Took, fetch_on, fill_on, is_step_of, is_switch_of}
 use Rattle.device_laws.proofs.{KeptSettings.settings_stand, Missed.counts-miss_side, RepliesReceived.receiving_tells}
 use Rattle.device_laws.proofs.{RepliesSent.transmitting_tells, Standing.stays_within, StandingQueues.receiving_rest}
 use Rattle.device_laws.specs.{Leaving.IsFirstFor, Replies.TookTransmit, Replies.received_tells, Replies.sent_tells}
@@ -36,9 +33,7 @@ use Rattle.nic_device.specs.declared.event.Event.TheVariants as event
 pub slotless_stands : (r : Registers) (first queue : ℕ) → receive_queue_of (slotless_counted r first) queue
     ≡ receive_queue_of r queue
 slotless_stands r first queue =
-    receive_stands counts_and_causes r _ queue (counts-miss_side Rx queue)
-    (counted_in {good = ⊤} counts_and_causes r r Qprdc (counter_of r Rx first) have_counters
-    (record { bank = refl; kind = refl }) (comes-itself counts_and_causes r)).within
+    grind (arith, common_steps, first, receive_stands, counts-miss_side, counted_in, have_counters, comes-itself)
 
 -- A step of receiving, by what it rests on: only where a queue is on and a slot is the device's is a slot tried.
 
@@ -179,10 +174,7 @@ module _ (queue : ℕ) (s : State) (sound : IsSound s) (small : queue < 128) whe
 
   -- where memory and the frames out stay
   none : after_tx.memory ≡ s.memory → after_tx.out ≡ s.out → SendsNone queue s (event.TxStep queue)
-  none memory out = record {
-    sent = rw (eq-eqb queue queue refl) (ap (frames_added s.out) out ∙ added-none s.out);
-    memory = λ own. memory;
-  }
+  none memory out = grind (arith, common_steps, eq-eqb, added-none)
 
   pub idle : is_silent s queue side ≡ true → step_of s (event.TxStep queue) ≡ gives Idle s
   unfolding step_of
@@ -193,10 +185,7 @@ module _ (queue : ℕ) (s : State) (sound : IsSound s) (small : queue < 128) whe
 
   module _ (loud : IsFalse (is_silent s queue side)) where
     pub tried : IsTried (side_of Tx queue s)
-    tried =
-        let parts = loud_parts (is_stopped s.registers) (not s.link) (not (can_transmit s.registers)) side.on
-        (is_muted s.registers queue) (is_empty side.ring) loud in
-        record { on = parts.0; some = parts.1 }
+    tried = grind (arith, common_steps, loud_parts)
 
     fetched : step_of s (event.TxStep queue)
         ≡ slot_done s queue (fetch_on s queue).answer (fetch_on s queue).memory (fetch_on s queue).staged

@@ -1,27 +1,26 @@
 -- An event that leaves a queue alone writes no setting, and leaves each side of it that it isn't a step of.
-use Rattle.std.proofs.Common.{◌∙◌, ◌≡◌, ◌≢◌, Some, ap, cond, false, inl, inr, refl, subst, sym, true, ℕ}
-use Rattle.std.proofs.lemmas.Bool.{cases_Bool, eqb-false, eqb-true}
+use Rattle.std.proofs.Common.{◌∙◌, ◌≡◌, ◌≢◌, ℕ, ap, arith, cond, false, inl, inr, refl, subst, sym, true}
 use Rattle.history_laws.specs.Prelude.{Block, Dir, Event, GcrExt, LeavesQueues, LeavesReceive, LeavesRegisters}
 use Rattle.history_laws.specs.Prelude.{LeavesTransmit, Maxfrs, Mode, Named, Nothing, Pf, Place, Port, ReceiveQueue}
 use Rattle.history_laws.specs.Prelude.{Register, RowId, Rx, State, TransmitQueue, Tx, Watched, WritesNoSetting, after}
 use Rattle.history_laws.specs.Prelude.{asks_pool_reset, asks_reset, has_queue, mode_in, named, named_written, row_of}
-use Rattle.history_laws.specs.Prelude.{step_of}
 use Rattle.nic_device.proofs.RegisterLaws.Covers.{covers-renewed, misses-narrower}
 use Rattle.nic_device.specs.Footprint.{StaysWithin, below_reset_reach, in_registers, pool_reach, reset_reach}
 use Rattle.nic_device.specs.RegTable.declared.rows.RowId.TheVariants.{Ctrl, Hlreg0}
-use Rattle.nic_device.specs.RegisterFile.Owner.{is_owner, owner_in}
-use Rattle.nic_device.specs.RegisterLaws.Footprint.{Misses, of_side, of_write, pool_has, pool_renews}
+use Rattle.nic_device.specs.RegisterLaws.Footprint.{Misses, of_side, of_write, pool_renews}
 use Rattle.nic_device.specs.VfMap.Owner.{is_of_pool_by, is_receive_bank, is_transmit_bank}
-use Rattle.nic_device.specs.{Footprint.write_reach, Named.at_location, RegTable.declared.bank.Bank.Bank}
-use Rattle.nic_device.specs.{VfMap.Map.located, declared.event.Port.TheVariants.Vf}
-use Rattle.device_lock.specs.Alone.{Spares, SparesIfSome, is_setting, place_at}
 use Rattle.history_laws.specs.Sides.{LeavesSide, Side, receive_side, transmit_side}
-use Rattle.history_laws.proofs.Written.{place_in, place_named}
-use Rattle.history_laws.specs.Left.{is_step_of, is_switch_of}
 use Rattle.device_laws.proofs.StandingQueues.{receiving_rest, switching_rest, transmitting_rest}
 use Rattle.device_laws.proofs.StandingRest.{arrival_rest, collecting_rest, eeprom_rest, link_rest, message_rest}
-use Rattle.device_laws.proofs.{Settings.no_reset, Standing.memory_rest, Standing.missed, Standing.stays_within}
-use Rattle.device_laws.proofs.{StandingAccesses.read_rest, StandingAccesses.write_rest}
+use Rattle.device_laws.proofs.Standing.{memory_rest, missed, stays_within}
+use Rattle.std.proofs.{lemmas.Grind.common_steps, lemmas.Bool.cases_Bool, lemmas.Bool.eqb-false, lemmas.Bool.eqb-true}
+use Rattle.history_laws.specs.{Prelude.step_of, Left.is_step_of, Left.is_switch_of}
+use Rattle.nic_device.specs.{Footprint.write_reach, RegisterFile.Owner.is_owner, RegisterFile.Owner.owner_in}
+use Rattle.nic_device.specs.{Named.at_location, RegTable.declared.bank.Bank.Bank, VfMap.Map.located}
+use Rattle.nic_device.specs.{declared.event.Port.TheVariants.Vf}
+use Rattle.device_lock.specs.Alone.{Spares, is_setting}
+use Rattle.history_laws.proofs.Written.{place_in, place_named}
+use Rattle.device_laws.proofs.{Settings.no_reset, StandingAccesses.read_rest, StandingAccesses.write_rest}
 use Rattle.device_laws.specs.Leaving.{LeavesOtherSides}
 use Rattle.nic_device.specs.RegTable.declared.bank.Bank.TheVariants as bank
 use Rattle.nic_device.specs.RegisterFile.declared.owner.Owner.TheVariants as owner
@@ -83,27 +82,16 @@ not_transmit b index queue other e = cc
 
 pool_none : (b : Bank) (dir : Dir) (mode : Mode) (v index queue : ℕ) → has_queue mode v queue ≡ false
     → is_owner (owner.Side dir queue) (owner_in b index) ≡ true → is_of_pool_by b mode v index ≡ false
-pool_none bank.Receive Rx mode v index queue none is = ap (has_queue mode v) (sym (eqb-true queue index is)) ∙ none
-pool_none bank.Receive Tx mode v index queue none is = cc
-pool_none bank.Transmit Tx mode v index queue none is = ap (has_queue mode v) (sym (eqb-true queue index is)) ∙ none
-pool_none bank.Transmit Rx mode v index queue none is = cc
-pool_none b dir mode v index queue none is = cc
+pool_none b dir mode v index queue h1 h2 = grind (arith, common_steps, eqb-true)
 
 wanted_none : (side dir : Dir) (mode : Mode) (v queue number : ℕ) → has_queue mode v queue ≡ false
     → is_owner (owner.Side side queue) (owner.Side dir number) ≡ true → has_queue mode v number ≡ false
-wanted_none Rx Rx mode v queue number none is = ap (has_queue mode v) (sym (eqb-true queue number is)) ∙ none
-wanted_none Tx Tx mode v queue number none is = ap (has_queue mode v) (sym (eqb-true queue number is)) ∙ none
-wanted_none Rx Tx mode v queue number none is = cc
-wanted_none Tx Rx mode v queue number none is = cc
+wanted_none side dir mode v queue number h1 h2 = grind (arith, common_steps, eqb-true)
 
 pub pool_misses : (side : Dir) (mode : Mode) (v queue : ℕ) → has_queue mode v queue ≡ false
     → Misses (pool_renews mode v) (of_side side queue)
-pool_misses side mode v queue none = misses-narrower (pool_has mode v) (pool_renews mode v) (of_side side queue)
-    (covers-renewed (pool_has mode v)) (record {
-      bits = λ p bit is. pool_none (row_of p.row).bank side mode v p.index queue none is;
-      wanted = λ dir number is. wanted_none side dir mode v queue number none is;
-      told = λ g is. cc;
-    })
+pool_misses side mode v queue none =
+    grind (arith, common_steps, misses-narrower, covers-renewed, pool_none, wanted_none)
 
 -- a write
 
@@ -164,17 +152,7 @@ named-same s t mode vfs (Vf v) n = λ k. at_location (located (mode k) (vfs k) v
 -- a write of a register that is no setting
 pub plain-write : (s : State) (port : Port) (n word : ℕ) (q : Place) (view : ℕ) → named s port n ≡ Register q view
     → is_setting q.row ≡ false → WritesNoSetting s (event.Write port n word)
-plain-write s port n word q view names plain p seen there =
-    let same : Register q view ≡ Register p seen = sym names ∙ there in
-    let both : q ≡ p = cc in
-    let own = no_setting q.row plain in
-    let e = ap (λ (x : Place). x.row) both in
-    record {
-      control = λ x. own.0 (e ∙ x);
-      jumbo = λ x. own.1 (e ∙ x);
-      limit = λ x. own.2 (e ∙ x);
-      mode = λ x. own.3 (e ∙ x);
-    }
+plain-write s port n word q view names plain p seen there = grind (arith, common_steps, plain, no_setting)
 
 -- An event that leaves a queue alone writes no setting, and leaves each side of it that it isn't a step of.
 
@@ -183,31 +161,21 @@ step_event Rx queue = event.RxStep
 step_event Tx queue = event.TxStep queue
 
 pub step_is : (dir : Dir) (queue : ℕ) (e : Event Block) → is_step_of dir queue e ≡ true → e ≡ step_event dir queue
-step_is Rx queue event.RxStep is = refl
-step_is Tx queue (event.TxStep on) is = ap event.TxStep (eqb-true on queue is)
-step_is dir queue other is = cc
+step_is dir queue e h1 = grind (arith, common_steps, eqb-true)
 
 pub switch_is : (dir : Dir) (queue : ℕ) (e : Event Block) → is_switch_of dir queue e ≡ true
     → e ≡ event.QueueStep dir queue
-switch_is Rx queue (event.QueueStep Rx on) is = ap (event.QueueStep Rx) (eqb-true on queue is)
-switch_is Tx queue (event.QueueStep Tx on) is = ap (event.QueueStep Tx) (eqb-true on queue is)
-switch_is dir queue other is = cc
+switch_is dir queue e h1 = grind (arith, common_steps, eqb-true)
 
 module _ (w : Watched) (s : State) (functions : w.vfs ≡ s.vfs) where
   spares-named : (port : Port) (n word view : ℕ) (p : Place)
       → LeavesRegisters w (mode_in s.registers) (event.Write port n word)
       → named s port n ≡ Register p view → Spares w.queue (mode_in s.registers) p word
-  spares-named port n word view p left is =
-      let there : place_at (mode_in s.registers) w.vfs port n ≡ Some p =
-      ap (λ x. place_at (mode_in s.registers) x port n) functions ∙ place_named s port n ∙ ap place_in is in
-      subst (λ o. SparesIfSome w.queue (mode_in s.registers) o word) there left
+  spares-named port n word view p left is = grind (arith, common_steps, place_named, place_in)
 
   -- it writes no setting
   pub left-setting : (e : Event Block) → LeavesRegisters w (mode_in s.registers) e → WritesNoSetting s e
-  left-setting (event.Write port n word) left = λ p view is.
-      let not = no_setting p.row (spares-named port n word view p left is).setting in
-      record { control = not.0; jumbo = not.1; limit = not.2; mode = not.3 }
-  left-setting other left = tt
+  left-setting e h1 = grind (arith, common_steps, no_setting, spares-named)
 
   written_sides : (port : Port) (n word : ℕ) (m : Named) → named s port n ≡ m
       → LeavesRegisters w (mode_in s.registers) (event.Write port n word)

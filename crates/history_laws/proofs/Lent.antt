@@ -1,21 +1,20 @@
 -- Which blocks are lent, and which frames wait, after an event.
-use Rattle.std.proofs.Common.{[], ◌%◌, ◌++◌, ◌||◌, ◌∙◌, ◌∷◌, ◌≡◌, ◌≢◌, ◌≤◌, Bool, Err, List, Ok, Some, ap, false, inl}
-use Rattle.std.proofs.Common.{inr, length, nat_lt, not, refl, subst, sym, true, ℕ}
+use Rattle.std.proofs.Common.{[], ◌%◌, ◌++◌, ◌||◌, ◌∙◌, ◌∷◌, ◌≡◌, ◌≢◌, ◌≤◌, Bool, Err, List, Ok, Some, ℕ, ap, arith}
+use Rattle.std.proofs.Common.{false, inl, inr, length, nat_lt, not, refl, subst, sym, true}
 use Rattle.std.proofs.lemmas.Bool.{and_from, and_parts, both_ways, cases_eq, cond_both, eq-eqb, eqb-false, eqb-true}
-use Rattle.std.proofs.lemmas.Bool.{ltb-false}
-use Rattle.std.proofs.lemmas.Bool.{ne_eqb, not-true, or_cases, or_left, or_right}
-use Rattle.std.specs.Prelude.{◌==◌, Result, filter, is_some, ⊤}
+use Rattle.std.proofs.lemmas.Bool.{ltb-false, ne_eqb, not-true, or_cases, or_left, or_right}
 use Rattle.history_laws.specs.Prelude.{Block, Blocks, Done, Event, Memory, Named, Nothing, Outcome, Place, Port}
 use Rattle.history_laws.specs.Prelude.{Register, Reply, Rx, State, Tx, Waiting, after, asks_pool_reset, asks_reset}
 use Rattle.history_laws.specs.Prelude.{frame_limit, gives, has_block, has_queue, is_lent, is_wanted, mode_in, named}
 use Rattle.history_laws.specs.Prelude.{named_written, reply_to, row_of, step_of, write_at}
 use Rattle.nic_device.proofs.Cases.{either_way, lent_cases, switched_cases, taken_cases}
-use Rattle.nic_device.specs.RxFilter.declared.unwanted.Unwanted.{Unwanted}
-use Rattle.nic_device.specs.declared.event.Reply.TheVariants.{Buf, Twice}
-use Rattle.nic_device.proofs.{DmaArena.Bus.get-remove_other, DmaArena.Bus.get-remove_same, KeptBlocks.keeps_blocks}
-use Rattle.nic_device.specs.{Arrival.let_in, Arrival.sorted_in, RegisterFile.Settings.can_receive}
-use Rattle.nic_device.specs.{RxFilter.Sorting.sorted, RxFilter.declared.target.Target.Target, Switching.without_part}
 use Rattle.history_laws.specs.Lent.{AnewIsDone, LendsNone, LendsOneOf, OnlyLent, OnlyLentStays, either, with_lent}
+use Rattle.std.proofs.lemmas.Grind.{common_steps}
+use Rattle.std.specs.Prelude.{◌==◌, Result, filter, is_some, ⊤}
+use Rattle.nic_device.specs.{RxFilter.declared.unwanted.Unwanted.Unwanted, declared.event.Reply.TheVariants.Buf}
+use Rattle.nic_device.specs.{declared.event.Reply.TheVariants.Twice, Arrival.let_in, Arrival.sorted_in}
+use Rattle.nic_device.specs.{RxFilter.declared.target.Target.Target, Switching.without_part}
+use Rattle.nic_device.proofs.{DmaArena.Bus.get-remove_other, DmaArena.Bus.get-remove_same, KeptBlocks.keeps_blocks}
 use Rattle.history_laws.specs.Lent.{without}
 use Rattle.device_laws.proofs.{Resetting.is_reset, Standing.memory_blocks, Standing.stays_within}
 use Rattle.device_laws.proofs.{StandingAccesses.read_rest}
@@ -94,10 +93,7 @@ module _ (own known : Blocks) (s : State) where
   take_stays : (number : ℕ) (block : Block) → OnlyLent own known s.memory
       → Takes number block (step_of s (event.Take number))
   unfolding step_of
-  take_stays number block only =
-      taken_cases (Takes number block) s number (λ told. cc) (λ other told n is has.
-      let was = removed_was s n number has in
-      and_from (not (n == number)) (known n) (ap not (ne_eqb n number was.0)) (only n is was.1))
+  take_stays number block only = grind (arith, common_steps, taken_cases, removed_was, and_from, ne_eqb)
 
 pub or_swap : (a b c : Bool) → (a || (b || c)) ≡ (b || (a || c))
 or_swap true true c = refl
@@ -134,10 +130,7 @@ module _ (own others : Blocks) (s : State) (had : Blocks) (only : OnlyLent own (
 
   wider : (has : Blocks) (k : ℕ) → (had k ≡ true → has k ≡ true) → either had others k ≡ true
       → either has others k ≡ true
-  wider has k keeps known = elim (or_cases (had k) (others k) known) [
-    | inl mine ↦ or_left (has k) (others k) (keeps mine)
-    | inr theirs ↦ or_right (has k) (others k) theirs
-  ]
+  wider has k keeps known = grind (arith, common_steps, or_cases, or_left, or_right)
 
   -- over an event that neither lends nor takes
   pub still_known : (e : Event Block) (has : Blocks) → LendsNone own e → ((k : ℕ) → had k ≡ true → has k ≡ true)
@@ -236,13 +229,7 @@ module _ (P : List Waiting → Type 0) (s : State) (now : P s.waiting) where
 
   arrived : (frame : List ℕ) → Changes P s (event.Arrive frame) → Wait (step_of s (event.Arrive frame))
   unfolding step_of
-  arrived frame comes =
-      either_way Wait s.link _ _
-      (either_way Wait (can_receive s.registers) _ _
-      (either_way Wait (nat_lt (length frame) 60) _ _ now
-      (cond_both (nat_lt (frame_limit s.registers) (length frame)) _ _ Wait (λ long. now)
-      (λ low. sorted_wait frame comes (ltb-false (frame_limit s.registers) (length frame) low)
-      (sorted s.registers frame)))) now) now
+  arrived frame comes = grind (arith, common_steps, either_way, nat_lt, cond_both, sorted_wait, ltb-false)
 
   switched : (on : ℕ) → Changes P s (event.QueueStep Rx on) → Wait (step_of s (event.QueueStep Rx on))
   unfolding step_of

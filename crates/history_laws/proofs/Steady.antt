@@ -1,17 +1,16 @@
 -- A side of a queue, whatever the device does to it, and as a driver asks for it to be on or off.
-use Rattle.std.proofs.Common.{[], ◌%◌, ◌&&◌, ◌/◌, ◌<◌, ◌^◌, ◌∙◌, ◌≡◌, ◌⊎◌, Bool, List, ap, arith, cond, false, inl, inr}
-use Rattle.std.specs.Prelude.{◌==◌, IsFalse, IsTrue, bit_and}
-use Rattle.std.proofs.{Common.not, Common.refl, Common.subst, Common.sym, Common.true, Common.ℕ}
-use Rattle.std.proofs.{lemmas.Nat.and_mask}
+use Rattle.std.proofs.Common.{[], ◌&&◌, ◌<◌, ◌∙◌, ◌≡◌, ◌⊎◌, Bool, List, ℕ, ap, arith, cond, false, inl, inr, not, refl}
 use Rattle.history_laws.specs.Prelude.{Block, Dir, Event, IsSound, Port, Register, Rx, State, Tx, Txdctl, after}
 use Rattle.history_laws.specs.Prelude.{has_bit, named, named_written, place, receive_queue_of, reply_to, staged_by}
 use Rattle.history_laws.specs.Prelude.{step_of, transmit_queue_of, word_of}
 use Rattle.nic_device.proofs.RegisterLaws.Switches.{receive-asked, transmit-asked}
 use Rattle.nic_device.specs.RegTable.declared.rows.RowId.TheVariants.{Rxdctl}
-use Rattle.nic_device.specs.{Access.named_read, RegisterFile.Queue.enable_row, declared.event.Reply.TheVariants.Word}
 use Rattle.history_laws.specs.Left.{Deed, IsSilent, Nothing, Rested, Rests, Shut, Shuts, Switched, Took}
 use Rattle.history_laws.specs.Sides.{IsOff, IsTried, IsUnwanted, IsUp, LeavesSide, Side, as_wanted, receive_side, shut}
 use Rattle.history_laws.proofs.Leaving.{queues_left, receive_left, transmit_left}
+use Rattle.std.proofs.{lemmas.Grind.common_steps, Common.subst, Common.sym, Common.true, lemmas.Nat.and_mask}
+use Rattle.std.specs.Prelude.{IsFalse, IsTrue, bit_and}
+use Rattle.nic_device.specs.{Access.named_read, RegisterFile.Queue.enable_row, declared.event.Reply.TheVariants.Word}
 use Rattle.history_laws.specs.Sides.{side_of, taken, transmit_side}
 use Rattle.device_laws.proofs.StandingAccesses.{read_rest, write_rest}
 use Rattle.nic_device.specs.declared.event.Event.TheVariants as event
@@ -72,11 +71,7 @@ module _ (dir : Dir) (queue : ℕ) (s : State) (e : Event Block) where
 
   -- an event that takes no slot leaves the ring
   pub resting_same : Rests dir queue s e → HaveSameRing old new
-  resting_same (Nothing left) =
-      subst (HaveSameRing old) (sym left) (ring_same old old.on old.wanted old.staged (λ none. none))
-  resting_same (Shut x) = subst (HaveSameRing old) (sym x.side) (ring_same old false false [] (λ none. refl))
-  resting_same (Switched is) =
-      subst (HaveSameRing old) (sym is) (ring_same old old.wanted old.wanted _ (none_staged old.wanted old.staged))
+  resting_same h1 = grind (arith, common_steps, ring_same, none_staged)
 
   -- a side that is up stays so, where no fault can shut it
   module _ (up : IsUp old) (never : Shuts dir queue s e → ⊥) where
@@ -183,17 +178,12 @@ module _ (queue : ℕ) (s : State) (sound : IsSound s) (small : queue < 128) (po
     ]
 
 bit-shown : (word : ℕ) → has_bit 25 (bit_and word 0xFFFFFFFF) ≡ has_bit 25 word
-bit-shown word =
-    let low : word % 2 ^ 32 / 2 ^ 25 % 2 ≡ word / 2 ^ 25 % 2 = omega arith in
-    ap (has_bit 25) (and_mask word 32) ∙ ap (λ x. x == 1) low
+bit-shown word = grind (arith, common_steps, and_mask)
 
 module _ (queue : ℕ) (s : State) (port : Port) (n word : ℕ) (told : reply_to s (event.Read port n) ≡ Word word) where
   told_is : (seen : ℕ) → reply_to s (event.Read port n) ≡ Word (bit_and seen 0xFFFFFFFF)
       → has_bit 25 word ≡ has_bit 25 seen
-  told_is seen looked =
-      let both : Word word ≡ Word (bit_and seen 0xFFFFFFFF) = sym told ∙ looked in
-      let same : word ≡ bit_and seen 0xFFFFFFFF = cc in
-      ap (has_bit 25) same ∙ bit-shown seen
+  told_is seen looked = grind (arith, common_steps, bit-shown)
 
   -- bit 25 is whether the side is on
   pub told_on : (dir : Dir) → NamesEnable dir queue s port n → has_bit 25 word ≡ (side_of dir queue s).on
@@ -204,6 +194,4 @@ module _ (queue : ℕ) (s : State) (port : Port) (n word : ℕ) (told : reply_to
   -- so a side that isn't wanted on is off where it is 0
   pub seen_off : (dir : Dir) → NamesEnable dir queue s port n → IsFalse (has_bit 25 word)
       → IsUnwanted (side_of dir queue s) → IsOff (side_of dir queue (after s (event.Read port n)))
-  seen_off dir names zero none =
-      subst IsOff (sym (queues_left queue s (after s (event.Read port n)) dir (read_rest s port n).queues))
-      (record { off = sym (told_on dir names) ∙ zero; unwanted = none })
+  seen_off dir names zero none = grind (arith, common_steps, queues_left, read_rest, told_on)

@@ -1,21 +1,21 @@
 -- What a number of a port names, and the low bits of the words that are written there.
-use Rattle.std.proofs.Common.{[], ◌%◌, ◌&&◌, ◌/◌, ◌<◌, ◌^◌, ◌∙◌, ◌∷◌, ◌≡◌, ◌⊎◌, Bool, List, None, Option, Some, ap}
-use Rattle.std.proofs.Common.{arith, cond, false, inl, inr, not, refl, sym, true, ℕ}
-use Rattle.std.proofs.lemmas.Bool.{and_parts, cases_Bool, eq-eqb}
+use Rattle.std.proofs.Common.{[], ◌%◌, ◌&&◌, ◌/◌, ◌<◌, ◌^◌, ◌∙◌, ◌∷◌, ◌≡◌, ◌⊎◌, Bool, List, None, Option, Some, ℕ, ap}
+use Rattle.std.proofs.Common.{arith, cond, false, inl, inr, not, refl, sym, true}
 use Rattle.std.proofs.lemmas.Nat.{and_le_r, and_mask, and_mod, and_shr, or_mod, or_shr}
-use Rattle.std.specs.Prelude.{◌==◌, bit_and, bit_or, ⊤}
-use Rattle.std.{proofs.Math.Nat.mod-eq_of_lt, specs.List.list_all}
 use Rattle.history_laws.specs.Prelude.{Maxfrs, Mode, Named, Nothing, Pf, Place, Port, Rdt, ReceiveQueue, Register}
 use Rattle.history_laws.specs.Prelude.{Registers, RowId, State, Tdt, TransmitQueue, after_write, has_bit, mode_in}
 use Rattle.history_laws.specs.Prelude.{named, place, receive_queue_of, row_of, transmit_queue_of, word_of}
 use Rattle.nic_device.proofs.RegisterLaws.SideWords.{receive-written, transmit-written}
 use Rattle.nic_device.specs.RegTable.Run.{Run, has_address, place_in as place_of}
-use Rattle.nic_device.specs.RegisterLaws.Laws.{HasShape, word_after}
-use Rattle.nic_device.proofs.{RegTable.Finding.found-named, RegTable.InRange.named_in_range}
-use Rattle.nic_device.proofs.{VfMap.Owners.located_in_range}
-use Rattle.nic_device.specs.{Named.at_location, Named.at_place, RegTable.Place.place_among, RegTable.Place.view_among}
+use Rattle.std.proofs.{lemmas.Grind.common_steps, lemmas.Bool.and_parts, lemmas.Bool.cases_Bool, lemmas.Bool.eq-eqb}
+use Rattle.std.proofs.{Math.Nat.mod-eq_of_lt}
+use Rattle.std.specs.{Prelude.◌==◌, Prelude.bit_and, Prelude.bit_or, Prelude.⊤, List.list_all}
+use Rattle.nic_device.specs.{RegisterLaws.Laws.HasShape, RegisterLaws.Laws.word_after, Named.at_location}
+use Rattle.nic_device.specs.{Named.at_place, RegTable.Place.place_among, RegTable.Place.view_among}
 use Rattle.nic_device.specs.{RegTable.Rows.number_of, RegTable.Runs.runs, RegisterFile.Bits.merged, VfMap.Map.located}
 use Rattle.nic_device.specs.{VfMap.declared.located.Located.Located, declared.event.Port.TheVariants.Vf}
+use Rattle.nic_device.proofs.{RegTable.Finding.found-named, RegTable.InRange.named_in_range}
+use Rattle.nic_device.proofs.{VfMap.Owners.located_in_range}
 use Rattle.device_lock.specs.Alone.{place_at, register_at}
 use Rattle.nic_device.specs.VfMap.declared.located.Located.TheVariants as located_as
 
@@ -86,11 +86,7 @@ merged_high old new =
 -- a bit below 16 that was merged under a view that shows the low bits is that of the new word
 pub low_bit_merged : (view old new : ℕ) → ShowsLow view
     → has_bit 2 (merged (bit_and 0xFFFFFFFF view) old new) ≡ has_bit 2 new
-low_bit_merged view old new (inl low) =
-    ap (λ v. has_bit 2 (merged (bit_and 0xFFFFFFFF v) old new)) low ∙ same_bit _ _ (merged_low old new)
-low_bit_merged view old new (inr all) =
-    ap (λ v. has_bit 2 (merged (bit_and 0xFFFFFFFF v) old new)) all
-    ∙ same_bit _ _ (let same = merged_all old new in omega (arith, same))
+low_bit_merged view old new h1 = grind (arith, common_steps, same_bit, merged_low, merged_all)
 
 -- of a row without a low run each address shows all bits
 
@@ -154,10 +150,7 @@ real_placed a (Some p) e = record {
 }
 
 real_located : (mode : Mode) (vfs v o : ℕ) (m : Located) → located mode vfs v o ≡ m → AreReal (at_location m)
-real_located mode vfs v o located_as.Absent e = tt
-real_located mode vfs v o located_as.Hole e = tt
-real_located mode vfs v o (located_as.Register p) e =
-    record { inside = located_in_range mode vfs v o p e; shown = inr refl; whole = λ is. refl }
+real_located mode vfs v o m h1 = grind (arith, common_steps, located_in_range)
 
 pub real : (s : State) (port : Port) (number : ℕ) → AreReal (named s port number)
 real s Pf number = real_placed number (place_among runs number) refl

@@ -1,6 +1,6 @@
 -- The driver's writes of the tail, its descriptors and its looks keep what it and the device agree on.
 use Rattle.std.proofs.Common.{[], if◌then◌else◌, ◌+◌, ◌<◌, ◌∙◌, ◌∷◌, ◌≡◌, ◌≢◌, ◌≤◌, Bool, List, ℕ, ap, arith, drop}
-use Rattle.std.proofs.Common.{false, inl, inr, length, refl, subst, suc, sym, true}
+use Rattle.std.proofs.Common.{false, length, refl, subst, suc, sym, true}
 use Rattle.history_laws.specs.Prelude.{Block, Event, Memory, Outcome, Port, State, Tdt, TransmitQueue, Tx}
 use Rattle.history_laws.specs.Prelude.{WritesNoSetting, after_write, gives, named_written, place, read_at, ring_of}
 use Rattle.history_laws.specs.Prelude.{step_of, transmit_queue_of, write_at}
@@ -9,11 +9,11 @@ use Rattle.ring_laws.specs.TransmitPrelude.{first_end, is_sent, moved, no_segmen
 use Rattle.ring_laws.proofs.Ring.{Stays, slot_looked, slot_poked, written_here, written_stays}
 use Rattle.ring_laws.specs.Agreeing.{Agrees, AgreesAt, IsBased, IsPosted, IsSetUp, Shows}
 use Rattle.ring_laws.proofs.Fetching.{asking-waits, done-sent, length-asking}
-use Rattle.std.proofs.lemmas.Bool.{both_ways, cases_lt}
 use Rattle.nic_device.proofs.DmaArena.Bus.{small_of_lent}
 use Rattle.pmd_tx.specs.Sending.{advanced, asked, is_healthy, looked}
 use Rattle.ring_laws.proofs.Blocks.{ready_stays, slot-apart, slot-below}
 use Rattle.ring_laws.proofs.Sparing.{Does, based-after, counted-on, sends_on}
+use Rattle.std.proofs.{lemmas.Grind.common_steps, lemmas.Bool.both_ways}
 use Rattle.std.specs.Prelude.{slice_index_or, ⊤}
 use Rattle.history_laws.proofs.{Leaving.plain-write, Written.transmit-tail}
 use Rattle.ring_laws.specs.TransmitUp.{IsUp}
@@ -29,9 +29,7 @@ end-of : (x : Segment) (ss : List Segment) → (first_end ss < length ss → IsL
     → x.part.last ≡ last → (if last then 0 else first_end ss + 1) < suc (length ss)
     → IsLast (x ∷ ss) (if last then 0 else first_end ss + 1)
 end-of x ss later true is below = is
-end-of x ss later false is below =
-    let e : suc (first_end ss) ≡ first_end ss + 1 = omega arith in
-    subst (λ (k : ℕ). IsLast (x ∷ ss) k) e (later (omega arith))
+end-of x ss later false is below = grind (arith, common_steps)
 
 pub end-last : (ss : List Segment) → first_end ss < length ss → IsLast ss (first_end ss)
 end-last [] below = absurd (omega arith)
@@ -127,28 +125,13 @@ module _ {s : State} {queue : ℕ} {sent : List (List ℕ)} {v : Sender} {f : �
 
     other : (k : ℕ) → k < v.poked
         → read_at new (descriptor_at v.layout k) 16 ≡ read_at s.memory (descriptor_at v.layout k) 16
-    other k before =
-        let l = h.based.layout in
-        stays.slot (slot_at v.layout k) (slot-below v.layout l k (omega (arith, asks_fit)))
-        (slot-apart v.layout l k v.poked (omega (arith, asks_fit)) asks_fit (omega arith))
+    other k before = grind (arith, stays, slot-below, asks_fit, slot-apart)
 
     waits_more : (k : ℕ) → f ≤ k → k < v.poked + 1 → IsPosted new (descriptor_at v.layout k) (segment_at v k)
-    waits_more k i j = elim (cases_lt k v.poked) [
-      | inl before ↦ other k before ∙ h.shows.waits k i before
-      | inr le ↦
-          let e : k ≡ v.poked = omega arith in
-          rw e (written_here v.layout.ring v.layout.size slot here s.memory (asking x) (length-asking x)
-          h.based.sound.blocks.whole h.shows.ring)
-    ]
+    waits_more k i j = grind (arith, other, written_here, here, length-asking)
 
     shows-asked : Shows new (asked v) f
-    shows-asked = record {
-      ring = λ k i. stays.has k i ∙ h.shows.ring k i;
-      ready = λ k i. ready_stays stays (segment_at v k) tt (h.shows.ready k i);
-      done = λ k i end.
-          other k (omega (arith, h.counted.fetched_posted, h.counted.posted_poked)) ∙ h.shows.done k i end;
-      waits = waits_more;
-    }
+    shows-asked = grind (arith, stays, ready_stays, other, waits_more)
 
   pub ask_one : (a : ℕ) (bytes : List ℕ) → IsOwn v Asks (event.Poke16 a bytes) → Moves Asks (event.Poke16 a bytes)
   ask_one a bytes own =
@@ -183,24 +166,14 @@ module _ {s : State} {queue : ℕ} {sent : List (List ℕ)} {v : Sender} {f : �
 
     -- a look at the end of the oldest outstanding packet answers that descriptor's bytes and changes nothing
     pub look : step_of s (event.Peek16 (descriptor_at v.layout end)) ≡ gives (reply.Bytes descriptor) s
-    look =
-        slot_looked v.layout.ring v.layout.size (slot_at v.layout end)
-        (slot-below v.layout h.based.layout end (omega (arith, known, h.counted.lent_known, h.counted.room))) s
-        h.shows.ring
+    look = grind (arith, slot_looked, slot-below, known)
 
     -- and tells whether it was fetched
     pub look-fetched : end < f → is_sent descriptor ≡ true
-    look-fetched before =
-        let ready = h.shows.ready end known in
-        let x = segment_at v end in
-        let low = small_of_lent s.memory x.block h.based.sound.blocks.whole ready.lent in
-        rw (h.shows.done end before last) (done-sent x ready.short ready.whole low)
+    look-fetched before = grind (arith, known, small_of_lent, last, done-sent)
 
     pub look-waits : f ≤ end → is_sent descriptor ≡ false
-    look-waits none =
-        let ready = h.shows.ready end known in
-        let poked : end < v.poked = omega (arith, h.counted.posted_poked) in
-        rw (h.shows.waits end none poked) (asking-waits (segment_at v end) ready.short ready.whole)
+    look-waits none = grind (arith, known, asking-waits)
 
     pub look-tells : (bytes : List ℕ)
         → (step_of s (event.Peek16 (descriptor_at v.layout end))).reply ≡ reply.Bytes bytes → bytes ≡ descriptor
@@ -209,10 +182,7 @@ module _ {s : State} {queue : ℕ} {sent : List (List ℕ)} {v : Sender} {f : �
 
     -- those that are told to be done were fetched
     done_tells : (b : Bool) → is_sent descriptor ≡ b → (if b then end + 1 else 0) ≤ f
-    done_tells true is = elim (cases_lt end f) [
-      | inl before ↦ omega arith
-      | inr none ↦ absurd (both_ways (is_sent descriptor) (look-waits none) is)
-    ]
+    done_tells true is = grind (arith, common_steps, both_ways, look-waits)
     done_tells false is = omega arith
 
   pub look_one : (a : ℕ) → IsOwn v Looks (event.Peek16 a) → Moves Looks (event.Peek16 a)

@@ -1,10 +1,9 @@
 -- Where nothing is written yet of a frame that waits for a queue, each event leaves it so that writes no piece there.
-use Rattle.std.proofs.Common.{[], ◌++◌, ◌+◌, ◌∙◌, ◌∷◌, ◌≡◌, Bool, List, ℕ, ap, cond, false, refl, subst, true}
-use Rattle.history_laws.specs.Prelude.{Block, Event, IsSound, Outcome, Rx, State, Waiting, after, has_queue, mode_in}
-use Rattle.std.proofs.lemmas.List.Elements.{All-filter, All-head}
+use Rattle.std.proofs.Common.{[], ◌++◌, ◌+◌, ◌∙◌, ◌∷◌, ◌≡◌, Bool, List, ℕ, ap, arith, cond, false, refl, subst, true}
+use Rattle.history_laws.specs.Prelude.{Block, Event, IsSound, Outcome, Rx, State, Waiting, after, step_of}
 use Rattle.nic_device.specs.RxFilter.declared.target.Target.{Target}
-use Rattle.history_laws.specs.Prelude.{step_of}
-use Rattle.std.specs.Prelude.{◌==◌, All, filter, not}
+use Rattle.std.proofs.{lemmas.Grind.common_steps, lemmas.List.Elements.All-filter, lemmas.List.Elements.All-head}
+use Rattle.std.specs.Prelude.{◌==◌, All, filter}
 use Rattle.nic_device.proofs.{Cases.either_way, QueueCases.received_cases}
 use Rattle.nic_device.specs.{Arrival.let_in, Sound.AreWaiting, Sound.IsUnbegun, Switching.without_part}
 use Rattle.history_laws.proofs.Lent.{Changes, waiting_changed}
@@ -70,11 +69,7 @@ module _ (queue : ℕ) where
 
     none_changes : (e : Event Block) → pieces queue s e ≡ [] → Changes IsNone s e
     none_changes event.RxStep told = none_received told
-    none_changes (event.Write port n word) told = λ p view is. record {
-      device = λ asks. refl;
-      pool = λ asks.
-          filtered (λ w. not (has_queue (mode_in s.registers) p.index w.queue)) s.waiting sound.waiting none;
-    }
+    none_changes (event.Write port n word) told = grind (arith, common_steps, filtered)
     none_changes (event.Arrive frame) told = λ t low. pushed s.waiting frame t none
     none_changes (event.QueueStep Rx on) told = λ off. none_parted on s.waiting sound.waiting none
     none_changes e told = tt

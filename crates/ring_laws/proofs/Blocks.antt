@@ -47,9 +47,7 @@ any_at : (ss : List Segment) (k : ℕ) → k < length ss
     → list_any (λ b. (slice_index_or ss k no_segment).block == b) (blocks_of ss) ≡ true
 any_at [] k h = absurd (omega arith)
 any_at (x ∷ ss) zero h = rw (eq-eqb x.block x.block refl) refl
-any_at (x ∷ ss) (suc k) h =
-    or_right ((slice_index_or ss k no_segment).block == x.block)
-    (list_any (λ b. (slice_index_or ss k no_segment).block == b) (blocks_of ss)) (any_at ss k (omega arith))
+any_at (x ∷ ss) (suc k) h = grind (arith, common_steps, or_right, any_at ss k (omega arith))
 
 pub has_lent-ring : (v : Sender) (k : ℕ) → k < blocks_for v.layout.size → has_lent v (v.layout.ring + k) ≡ true
 has_lent-ring v k below = grind arith

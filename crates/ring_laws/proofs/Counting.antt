@@ -7,7 +7,6 @@ use Rattle.ring_laws.specs.Counting.{IsEndOf, NeverGoesOn, SentIsCounted, SentIs
 use Rattle.ring_laws.specs.Sent.{counted_by, frames_added, goes_on, sent_by, sent_in, sent_since}
 use Rattle.history_laws.specs.{Prelude.reply_to, DeviceLaws.Replies.out_sent}
 use Rattle.std.proofs.{lemmas.Grind.common_steps, lemmas.Bool.cases_Bool, lemmas.Bool.eqb-true}
-use Rattle.std.specs.List.{flat_map}
 use Rattle.nic_device.proofs.{Answering.step_suits, Cases.either_way, Steps.keeps_sound}
 use Rattle.nic_device.specs.{Answering.may_answer, Transmit.with_frame}
 use Rattle.history_laws.proofs.{Deeds.added-none, DeviceLaws.RepliesOut.frames_out}
@@ -90,8 +89,7 @@ few : (queue : ℕ) (s : State) (sent : List (List ℕ)) (h : List Entry)
     → length (sent_since queue s sent h) ≤ length sent + length h
 few queue s sent [] = omega arith
 few queue s sent (e ∷ es) =
-    let rest = few queue (after s e.event) (counted_by queue s e.event sent) es in
-    omega (arith, rest, few_counted queue s e.event sent)
+    grind (arith, common_steps, few_counted, few queue (after s e.event) (counted_by queue s e.event sent) es)
 
 pub sent_is_counted : SentIsCounted
 sent_is_counted = record { never = never; last = last; joined = joined; end = end; few = few }
@@ -136,12 +134,12 @@ event_told queue s e sound made = sym (never_sent e (reply_to s e) queue refl (s
 pub sent_is_told : SentIsTold
 sent_is_told queue s [] sound events legal = refl
 sent_is_told queue s (e ∷ es) sound events legal =
-    let one : List (List ℕ) = sent_by queue s e.event in
-    let rest : List (List ℕ) = sent_in queue (after s e.event) es in
-    let told : map length one ≡ lengths_told queue e.reply =
-    event_told queue s e.event sound events.0 ∙ ap (lengths_told queue) (sym legal.0) in
-    let more : map length rest ≡ flat_map (λ (f : Entry). lengths_told queue f.reply) es =
-    sent_is_told queue (after s e.event) es (keeps_sound s sound e.event events.0) events.1 legal.1 in
-    map-append length one rest
-    ∙ ap (λ (l : List ℕ). l ++ map length rest) told
-    ∙ ap (λ (l : List ℕ). lengths_told queue e.reply ++ l) more
+    grind (
+      arith,
+      common_steps,
+      event_told,
+      keeps_sound,
+      map-append,
+      sent_is_told queue (after s
+          e.event) es (keeps_sound s sound e.event events.0) events.1 legal.1,
+    )

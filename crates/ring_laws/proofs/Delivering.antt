@@ -5,7 +5,7 @@ use Rattle.std.proofs.Common.{append_assoc, arith, cond, false, inl, inr, length
 use Rattle.std.proofs.lemmas.Bool.{and_from, both_ways, cases_Bool, cases_lt, eq-eqb, eqb-false, eqb-true, lt-ltb}
 use Rattle.std.proofs.lemmas.List.{append-nil, length-append, nil_from_length}
 use Rattle.history_laws.specs.Prelude.{AreEvents, Block, Blocks, Entry, EntryLeavesAlone, Event, IsEvent, IsLegal}
-use Rattle.history_laws.specs.Prelude.{IsSound, Reply, Rx, State, Watched, after, calls_of, is_on, leads_to, lent_by}
+use Rattle.history_laws.specs.Prelude.{IsSound, Reply, State, Watched, after, calls_of, leads_to, lent_by, mode_in}
 use Rattle.ring_laws.specs.ReceivePrelude.{IsOwn, Kept, Looks, Packet, Receive, Stage, Told, drive, ended_of, is_step}
 use Rattle.device_lock.proofs.Histories.{events_before, events_behind, leads-append, legal_behind}
 use Rattle.ring_laws.proofs.Foreign.{entry_keeps, entry_stays_up, left_up, own_stays_up}
@@ -14,7 +14,7 @@ use Rattle.ring_laws.specs.Histories.{AllSpare, FindsNone, IsDriven, NoneIsAllBe
 use Rattle.ring_laws.specs.Joint.{Agree, AreOpen, AreSeen, InOrder, IsAt, packets_had, still_held}
 use Rattle.ring_laws.specs.Pieces.{Piece, packet_told, packets_behind, packets_of, pieces}
 use Rattle.std.proofs.{lemmas.Bool.or_left, lemmas.Bool.or_right, lemmas.Grind.common_steps}
-use Rattle.history_laws.specs.{Prelude.mode_in, Prelude.reply_to, Alone.AllAlone, Lent.LendsOneOf}
+use Rattle.history_laws.specs.{Prelude.reply_to, Alone.AllAlone, Lent.LendsOneOf}
 use Rattle.ring_laws.specs.{ReceivePrelude.kept_of, ReceivePrelude.records_of, Histories.mark_of, Histories.marks_after}
 use Rattle.ring_laws.specs.{Steps.Each, Steps.IsMetBy, Steps.OwnReportsSpare, ReceiveUp.IsUp}
 use Rattle.std.specs.Prelude.{◌==◌, IsFalse, IsTrue}
@@ -43,9 +43,7 @@ none_whole : (front : List ℕ) (seen : List Told) (here : List Piece) → AreOp
 none_whole front seen [] opens are all = refl
 none_whole front [] (p ∷ here) opens are all = absurd (omega (arith, all))
 none_whole front (t ∷ ts) (p ∷ here) opens are all =
-    let on : p.end ≡ false = sym are.0.end_is ∙ opens.0.goes_on in
-    let rest = none_whole (front ++ p.bytes) ts here opens.1 are.1 (omega (arith, all)) in
-    rw on rest
+    grind (arith, common_steps, none_whole (front ++ p.bytes) ts here opens.1 are.1 (omega (arith, all)))
 
 -- where a look at the slot behind those that were seen finds it not done, all that was delivered was taken
 pub all_taken : (queue : ℕ) (s : State) (out : List Piece) (v : Receive) → Agree queue s out v → ShowsNone s v
@@ -165,21 +163,10 @@ pub record Led (w : Watched) (s : State) (out : List Piece) (v : Receive) (h : L
 
 on_after : (w : Watched) (s : State) (out : List Piece) (v x : Receive) (e : Entry) (es : List Entry) (u : Receive)
     → IsUp w.queue s → Led w (after s e.event) (out ++ pieces w.queue s e.event) x es u → Led w s out v (e ∷ es) u
-on_after w s out v x e es u up l =
-    let t = after s e.event in
-    let ps = pieces w.queue s e.event in record {
-      agree = subst (λ xs. Agree w.queue (leads_to t es) xs u) (append_assoc out ps (pieces_in w.queue t es)) l.agree;
-      since = λ so_far.
-          ap (λ b. pieces_since w.queue t (cond b (Some []) (Some (so_far ++ ps))) es)
-          (not_again (is_on s.registers Rx w.queue) (is_on t.registers Rx w.queue) (inl up.on))
-          ∙ l.since (so_far ++ ps) ∙ ap (λ xs. Some xs) (append_assoc so_far ps (pieces_in w.queue t es));
-    }
+on_after w s out v x e es u up l = grind (arith, append_assoc, not_again)
 
 ended : (w : Watched) (s : State) (out : List Piece) (v : Receive) → Agree w.queue s out v → Led w s out v [] v
-ended w s out v j = record {
-  agree = subst (λ xs. Agree w.queue s xs v) (sym (append-nil out)) j;
-  since = λ so_far. ap (λ xs. Some xs) (sym (append-nil so_far));
-}
+ended w s out v j = grind (arith, append-nil)
 
 -- an entry, by whether the pass made it: the calls, the driver after it and its marks
 
@@ -289,9 +276,7 @@ grows front (p ∷ xs) ys = elim (cases_Bool p.end) [
 pub pieces-append : (queue : ℕ) (s : State) (g h : List Entry)
     → pieces_in queue s (g ++ h) ≡ pieces_in queue s g ++ pieces_in queue (leads_to s g) h
 pieces-append queue s [] h = refl
-pieces-append queue s (e ∷ g) h =
-    ap (λ (ps : List Piece). pieces queue s e.event ++ ps) (pieces-append queue (after s e.event) g h)
-    ∙ sym (append_assoc (pieces queue s e.event) (pieces_in queue (after s e.event) g) _)
+pieces-append queue s (e ∷ g) h = grind (arith, common_steps, append_assoc, pieces-append queue (after s e.event) g h)
 
 no_rest : (hs : List Kept) (xs ys : List Kept) → (hs ++ xs) ++ ys ≡ hs → xs ≡ []
 no_rest hs xs ys is =

@@ -1,6 +1,6 @@
 -- The frames that wait for a queue: they are as short as the driver's packets, and so are the pieces that are written.
 use Rattle.std.proofs.Common.{[], ◌&&◌, ◌*◌, ◌++◌, ◌+◌, ◌-◌, ◌<◌, ◌∙◌, ◌∷◌, ◌≡◌, ◌≢◌, ◌≤◌, Bool, Err, List, Ok, ℕ, ap}
-use Rattle.std.proofs.Common.{arith, cond, drop, false, inl, inr, length, min, refl, subst, sym, take, true}
+use Rattle.std.proofs.Common.{arith, cond, drop, false, inl, inr, length, min, refl, subst, sym, true}
 use Rattle.std.proofs.lemmas.Bool.{and_parts, both_ways, cases_eq, cases_lt, cond_both, eq-eqb, eqb-true, ne_eqb}
 use Rattle.std.proofs.lemmas.List.{append-nil, length-drop, length-take}
 use Rattle.std.proofs.lemmas.List.Elements.{All-cons, All-filter, All-head, All-nil, All-push, All-tail}
@@ -136,14 +136,10 @@ module _ (queue most : ℕ) (s : State) (out : List Piece) (v : Receive) (gone h
     not_ours ne = other_first queue w others (ne_eqb w.queue queue ne)
 
     off_leaves : (receive_queue_of s.registers w.queue).on ≡ false → Goes others []
-    off_leaves off =
-        leaves (not_ours (λ own.
-        both_ways _ (subst (λ (q : ℕ). (receive_queue_of s.registers q).on ≡ false) own off) up.on))
+    off_leaves off = grind (arith, leaves, not_ours, both_ways)
 
     dropped_leaves : (drops s.registers w.queue && w.offset == 0) ≡ true → Goes others []
-    dropped_leaves is =
-        leaves (ap (λ (n : ℕ). cond (w.queue == queue) n 0) (eqb-true w.offset 0 (and_parts _ _ is).1)
-        ∙ either_zero (w.queue == queue))
+    dropped_leaves is = grind (arith, leaves, eqb-true, and_parts, either_zero)
 
     fault_leaves : (fault : RingFault) → (filled_by s w).answer ≡ Err fault
         → receive.is_empty (receive_queue_of s.registers w.queue).ring ≡ false → Goes others []
@@ -185,23 +181,13 @@ module _ (queue most : ℕ) (s : State) (out : List Piece) (v : Receive) (gone h
       piece = record { bytes = piece_of s.waiting f.len; first = first_of s.waiting; end = f.end }
 
       fits : Fits most n piece
-      fits = record {
-        full = λ on.
-            let go = goes_on on in
-            ap (λ (ws : List Waiting). length (piece_of ws f.len)) e
-            ∙ (let l = length-take f.len (drop w.offset w.frame) in
-            let k : length (take f.len (drop w.offset w.frame)) ≡ 2048 = omega (arith, l, go.0, taken) in k);
-        more = λ on. (goes_on on).1;
-      }
+      fits = grind (arith, goes_on, length-take, taken)
 
       next : (ends : Bool) → f.end ≡ ends
           → begun_on queue (cond ends others (record w { offset = w.offset + f.len } ∷ others))
           ≡ 2048 * cond ends 0 (n + 1)
       next true end = unbegun_none queue others are.1 ∙ (let z : 0 ≡ 2048 * 0 = omega arith in z)
-      next false end =
-          let go = goes_on end in
-          ap (λ (b : Bool). cond b (w.offset + f.len) 0) (eq-eqb w.queue queue own)
-          ∙ (let z : w.offset + f.len ≡ 2048 * (n + 1) = omega (arith, begun, go.0) in z)
+      next false end = grind (arith, common_steps, goes_on, eq-eqb, begun)
 
     writes_other : (f : Filled) → w.queue ≢ queue → Goes (receive.after_piece w others f) []
     writes_other f ne =

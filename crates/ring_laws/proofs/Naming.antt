@@ -1,22 +1,22 @@
 -- The driver names a block in a descriptor, and moves the tail on: both keep the agreement.
-use Rattle.std.proofs.Common.{[], ◌*◌, ◌++◌, ◌+◌, ◌<◌, ◌∙◌, ◌∷◌, ◌≡◌, ◌≢◌, ◌≤◌, ◌⊎◌, Bool, List, ℕ, ap, append_assoc}
-use Rattle.std.proofs.Common.{arith, cond, drop, false, inl, inr, length, refl, subst, sym, take, true}
+use Rattle.std.proofs.Common.{[], ◌*◌, ◌++◌, ◌+◌, ◌<◌, ◌∙◌, ◌∷◌, ◌≡◌, ◌≢◌, List, ℕ, ap, append_assoc, arith, drop}
 use Rattle.std.proofs.lemmas.List.{append-nil, length-append, length-take-le, length_push, map-append, take-append-drop}
 use Rattle.history_laws.specs.Prelude.{Done, IsWhole, Memory, Port, Rdt, State, after_write, gives, named_written}
 use Rattle.ring_laws.specs.ReceivePrelude.{Kept, Layout, Lent, Looks, MovesNext, NamesNext, Packet, Receive, Stage}
 use Rattle.ring_laws.specs.ReceivePrelude.{Told, block_at, descriptor_at, drive, ended_of, extended, fresh_of}
 use Rattle.ring_laws.specs.ReceivePrelude.{is_ring_block, kept_of, names, next_stage, posts, reach, records_of, slot_at}
-use Rattle.pmd_rx.specs.Receive.{HasLent, MovesOne, naming, parts_first, posts_all, posts_one, tail_behind}
 use Rattle.ring_laws.proofs.Kept.{named_kept, names_reach, posts_reach, push_place, slot_below, slots_stay, stage_stays}
 use Rattle.ring_laws.proofs.Ring.{Stays, slot_poked, written_here, written_stays}
 use Rattle.ring_laws.proofs.Parts.{end_last, left_twice, next_at, none_twice, order_same}
 use Rattle.ring_laws.specs.Joint.{Agree, HasSlots, Holds, InOrder, IsLoose, IsNamed, IsPosted, IsRing, IsSetUp}
+use Rattle.std.proofs.{Common.false, Common.length, Common.refl, Common.subst, Common.sym, Common.take}
 use Rattle.std.proofs.{lemmas.List.take_all, lemmas.Bool.cases_lt, lemmas.Bool.eqb-false, lemmas.Bool.eqb-true}
 use Rattle.std.proofs.{lemmas.Grind.common_steps}
 use Rattle.history_laws.specs.{Prelude.place, Prelude.read_at, Prelude.step_of, Prelude.write_at, Sides.receive_side}
 use Rattle.ring_laws.specs.{ReceivePrelude.vacant, Joint.StageHolds, Joint.packets_had, Pieces.Piece}
+use Rattle.pmd_rx.specs.Receive.{HasLent, naming, tail_behind}
 use Rattle.history_laws.proofs.Written.{receive-tail}
-use Rattle.std.specs.Prelude.{◌==◌, ⊤}
+use Rattle.std.specs.Prelude.{⊤}
 use Rattle.nic_device.proofs.{DmaRing.Fields.halves_come_back, RegisterLaws.Puts.word_at-put_other}
 use Rattle.nic_device.specs.{DmaRing.Driver.posted, DmaRing.Laws.HasHalves, RegisterLaws.Sound.HasShape}
 use Rattle.pmd_rx.proofs.PmdSeam.Places.{wrapped_apart}
@@ -206,38 +206,7 @@ record IsMoved (v : Receive) (word : ℕ) (w : Receive) : Type 0 where
 
 moved_is : (v : Receive) (port : Port) (number word : ℕ) → MovesNext v port number word
     → IsMoved v word (drive v (event.Write port number word) reply.Done)
-moved_is v port number word own = by_word (word == tail_behind v.layout first) refl own.word_is
-  where
-    -- how many blocks the oldest whole packet has
-    first : ℕ
-    first = parts_first v.whole
-
-    many_all : (blocks : ℕ) → length v.named ≤ blocks → many v blocks ≡ length v.named
-    many_all blocks all = ap (λ (bs : List ℕ). length bs) (take_all blocks v.named all)
-
-    -- a word over that packet's blocks, or over all
-    by_word : (t : Bool) → (word == tail_behind v.layout first) ≡ t
-        → MovesOne v word ⊎ (word ≡ tail_behind v.layout (length v.named))
-        → IsMoved v word (cond t (posts_one v) (posts_all v))
-    by_word true is by = record {
-      blocks = first;
-      packets = 1;
-      word_is = elim (cases_lt (length v.named) first) [
-        | inl more ↦ elim by [
-          | inl one ↦ absurd (omega (arith, one.few, more))
-          | inr all ↦ all ∙ ap (tail_behind v.layout) (sym (many_all first (omega (arith, more))))
-        ]
-        | inr few ↦ eqb-true word _ is ∙ ap (tail_behind v.layout) (sym (length-take-le first v.named few))
-      ];
-      driver = refl;
-    }
-    by_word false is (inl one) = absurd (eqb-false word _ is one.word_is)
-    by_word false is (inr all) = record {
-      blocks = length v.named;
-      packets = length v.whole;
-      word_is = all ∙ ap (tail_behind v.layout) (sym (many_all (length v.named) (omega arith)));
-      driver = refl;
-    }
+moved_is v port number word own = grind (arith, take_all, more, eqb-true, length-take-le, eqb-false)
 
 pub move_keeps : (queue : ℕ) (s : State) (out : List Piece) (v : Receive) (port : Port) (number word : ℕ)
     → Agree queue s out v → MovesNext v port number word → Driven queue s out v (event.Write port number word)

@@ -59,11 +59,7 @@ off_history queue s (e ∷ es) small all is =
     (rest.0, rw (off-sends-none queue s small e.event all.0 is) rest.1)
 
 pub off_stays : OffStays
-off_stays = record {
-  unwanted = λ queue s e small x none. unwanted-stays queue s small e x none;
-  off = λ queue s h small all is. (off_history queue s h small all is).0;
-  silent = λ queue s h small all is. (off_history queue s h small all is).1;
-}
+off_stays = grind (arith, unwanted-stays, off_history)
 
 -- What a driver does by the enable word: it asks for the side to be on or off, and sees the side off.
 

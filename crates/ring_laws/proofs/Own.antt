@@ -129,9 +129,7 @@ take_next queue s out v n t ts (gone, here, h) own =
 
 pub take_keeps : (queue : ℕ) (s : State) (out : List Piece) (v : Receive) (n : ℕ) (seen : List Told)
     → Agree queue s out v → TakesNext v n → v.seen ≡ seen → Driven queue s out v (event.Take n)
-take_keeps queue s out v n [] j own is =
-    let none = ap (λ (xs : List Told). length xs) is in
-    absurd (omega (arith, own.some, none))
+take_keeps queue s out v n [] j own is = grind (arith, common_steps)
 take_keeps queue s out v n (t ∷ ts) j own is =
     let seeing : v ≡ taking v t ts = λ k. record v { seen = is k; stage = own.stage k } in
     subst (λ (x : Receive). Driven queue s out x (event.Take n)) (sym seeing)

@@ -5,9 +5,9 @@ use Rattle.std.proofs.lemmas.List.{drop-append-le, get_or_append_left, length-ap
 use Rattle.history_laws.specs.Prelude.{Block, Memory, State, TransmitQueue, staged_by, transmit_queue_of}
 use Rattle.ring_laws.specs.TransmitPrelude.{Kept, MayAccept, Outgoing, Segment, Sender, accepted_by, no_segment}
 use Rattle.ring_laws.specs.Agreeing.{ArePackets, IsCounted, IsCutOff, IsInTurn, IsLayout, IsReady, SendsInOrder, Shows}
-use Rattle.ring_laws.specs.Agreeing.{bytes_of, frame_ended, frames_from, staged_behind}
 use Rattle.std.proofs.{lemmas.List.take-append-drop, lemmas.Grind.common_steps, lemmas.Bool.cases_Bool}
-use Rattle.ring_laws.specs.TransmitPrelude.{segment_at, segments_of}
+use Rattle.ring_laws.specs.{TransmitPrelude.segment_at, TransmitPrelude.segments_of, Agreeing.bytes_of}
+use Rattle.ring_laws.specs.{Agreeing.frames_from, Agreeing.staged_behind}
 use Rattle.std.specs.Prelude.{is_some, slice_index_or}
 use Rattle.nic_device.proofs.{DmaArena.Blocks.read_at_in, DmaArena.Bus.get-insert_other, DmaArena.Bus.get-insert_same}
 use Rattle.nic_device.specs.DmaArena.Memory.{part}
@@ -88,8 +88,7 @@ pub frames-append : (limit : ℕ) (staged : List ℕ) (xs ys : List Segment) →
     → frames_from staged (xs ++ ys) ≡ frames_from staged xs ++ frames_from [] ys
 frames-append limit staged [] ys none = ap (λ (l : List ℕ). frames_from l ys) none
 frames-append limit staged (x ∷ xs) ys are =
-    ap (λ (l : List (List ℕ)). frame_ended staged x ++ l) (frames-append limit (staged_behind staged x) xs ys are.2)
-    ∙ sym (append_assoc (frame_ended staged x) (frames_from (staged_behind staged x) xs) (frames_from [] ys))
+    grind (arith, common_steps, append_assoc, frames-append limit (staged_behind staged x) xs ys are.2)
 
 -- what is staged has an end to come
 
@@ -114,8 +113,7 @@ pub frame_of_end : (staged : List ℕ) (ss : List Segment) (k : ℕ) → k < len
 frame_of_end staged [] k below end = absurd (omega arith)
 frame_of_end staged (x ∷ ss) zero below end = rw end (omega arith)
 frame_of_end staged (x ∷ ss) (suc k) below end =
-    let rest = frame_of_end (staged_behind staged x) ss k (omega arith) end in
-    omega (arith, rest, length-append (frame_ended staged x) (frames_from (staged_behind staged x) ss))
+    grind (arith, common_steps, length-append, frame_of_end (staged_behind staged x) ss k (omega arith) end)
 
 -- A block that is lent for a segment: that of a packet that is accepted by it, or of the next one of a packet.
 
@@ -166,25 +164,13 @@ module _ (m : Memory) (v : Sender) (f : ℕ) (l : IsLayout v.layout) (c : IsCoun
     each_now k P below was now = grind arith
 
     apart_now : (i j : ℕ) → i < v.lent + 1 → j < v.lent + 1 → i ≢ j → (segment_at w i).block ≢ (segment_at w j).block
-    apart_now i j a b ne =
-        each_now i (λ y. y.block ≢ (segment_at w j).block) a
-        (λ lt. each_now j (λ z. (segment_at v i).block ≢ z.block) b (λ lu. c.apart i j lt lu ne) (λ e. new i lt))
-        (λ e. each_now j (λ z. x.block ≢ z.block) b (λ lu y. new j lu (sym y)) (λ d. absurd (ne (e ∙ sym d))))
+    apart_now i j a b ne = grind (arith, each_now, new)
 
     pub counted-lent : length ss < v.layout.size → v.lent < length ss → IsCounted w f
     counted-lent room known = grind (arith, common_steps, apart_now)
 
     pub shows-lent : Shows lent w f
-    shows-lent = record {
-      ring = stays.ring;
-      ready = (λ k below. each_now k (IsReady lent v.layout.ring v.layout.size) below (λ lt. stays.ready k lt)
-          (λ e. ready));
-      done = λ k i end.
-          let below : k < v.lent = omega (arith, c.fetched_posted, c.posted_poked, c.poked_lent) in
-          let same = early k below in
-          rw same (stays.done k i (subst (λ (y : Segment). y.part.last ≡ true) same end));
-      waits = λ k i j. rw (early k (omega (arith, c.poked_lent))) (stays.waits k i j);
-    }
+    shows-lent = grind (arith, stays, ready, each_now)
 
 -- a packet that is accepted goes behind the others
 module _ (v : Sender) (p : Outgoing) (b : Block) (may : MayAccept v p b) where

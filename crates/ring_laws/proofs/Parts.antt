@@ -130,10 +130,7 @@ module _ (out gone ps : List Piece) (v : Receive) (p : Piece) (t : Told) (b : Bl
 
     taken : (ts : List Told) → EndLast (t ∷ ts) → AreSeen ts ps → out ≡ gone ++ p ∷ ps
         → InOrder out (took v (t ∷ ts) b) (gone ++ p ∷ []) ps
-    taken [] last seen order =
-        let end : p.end ≡ true = sym saw.end_is ∙ last in
-        let parts : open_after 0 (gone ++ p ∷ []) ≡ 0 = open_pushed 0 gone p ∙ rw end refl in
-        assumption (last_cut end, parts, order ∙ sym (append_assoc gone (p ∷ []) ps))
+    taken [] last seen order = grind (arith, common_steps, open_pushed, last_cut, append_assoc)
     taken (u ∷ ts) last seen order =
         let opens : p.end ≡ false = sym saw.end_is ∙ last.0.goes_on in
         let more : open_after 0 gone + 1 ≡ length (v.held.bufs ++ b ∷ []) =

@@ -188,9 +188,7 @@ module _ {queue : ℕ} {s : State} {out : List Piece} {v : Receive} {gone here :
 
   -- the slots beside it and their blocks stay
   slot_beside : (k : ℕ) → k < length r.blocks → k ≢ length here → slot_at r k ≢ slot_at r (length here)
-  slot_beside k i ne =
-      wrapped_apart r.size r.next k (length here) h.ring.next (omega (arith, i, h.ring.room))
-      (omega (arith, low, h.ring.room)) ne
+  slot_beside k i ne = grind (arith, wrapped_apart, low)
 
   filled_more : (k : ℕ) → k < length (here ++ p ∷ []) → (k < length here) ⊎ (length here ≤ k)
       → IsFilled n (descriptor_at r k) (block_at r k) (piece_at (here ++ p ∷ []) k)

@@ -15,7 +15,7 @@ use Rattle.ring_laws.specs.{Laws.SentIsPrefixWhereAlone, Laws.WaitingIsNotAllSen
 use Rattle.ring_laws.specs.{Sparing.IsLeft, Sparing.ReceiveOwes, Sparing.is_transmit_of}
 use Rattle.std.proofs.{lemmas.Grind.common_steps, lemmas.Bool.both_ways, lemmas.Bool.cases_Bool, lemmas.Bool.cases_eq}
 use Rattle.std.proofs.{lemmas.Bool.cases_lt}
-use Rattle.std.specs.Prelude.{◌==◌, IsTrue, slice_index_or}
+use Rattle.std.specs.Prelude.{IsTrue, slice_index_or}
 use Rattle.pmd_tx.specs.Plays.{played_by}
 use Rattle.history_laws.proofs.{Blocks.clear_avoids, Blocks.left-block, Deeds.received-none, Deeds.silent_else}
 use Rattle.history_laws.proofs.{DeviceLaws.Standing.stays_within, DeviceLaws.StandingQueues.receiving_blocks}
@@ -98,9 +98,7 @@ some_unsent s queue sent limit left ks h1 k h2 h3 = grind (arith, common_steps, 
 module _ {s : State} {queue : ℕ} {sent : List (List ℕ)} {v : Sender} {f : ℕ} (h : AgreesAt s queue sent v f) where
   -- with none outstanding all that was accepted is sent
   pub idle-all : length v.outstanding ≡ 0 → bytes_of v.accepted ≡ sent
-  idle-all none =
-      all_sent s queue sent v.layout.limit (drop f v.outstanding) v.accepted h.sends
-      (drop_all f v.outstanding (omega arith))
+  idle-all none = grind (arith, all_sent, drop_all)
 
   -- with the end of the oldest packet left it isn't, nor was it when fewer were sent
   left-over : (xs more : List (List ℕ)) → sent ≡ xs ++ more → first_end v.outstanding < v.posted
@@ -171,10 +169,7 @@ entries-turns pass [] [] = refl
 entries-turns pass (m ∷ moves) [] = refl
 entries-turns pass [] (e ∷ es) = ap (λ (xs : List Entry). e ∷ xs) (entries-turns pass [] es)
 entries-turns pass (m ∷ moves) (e ∷ es) =
-    elim (cases_Bool (e.pass == pass)) as (λ _. entries_of (turns_of pass (m ∷ moves) (e ∷ es)) ≡ e ∷ es) [
-      | inl own ↦ rw own (ap (λ (xs : List Entry). e ∷ xs) (entries-turns pass moves es))
-      | inr other ↦ rw other (ap (λ (xs : List Entry). e ∷ xs) (entries-turns pass (m ∷ moves) es))
-    ]
+    grind (arith, common_steps, entries-turns pass moves es, entries-turns pass (m ∷ moves) es)
 
 -- no move is made by a driver that has none to make
 none-turns : (pass : ℕ) (v : Sender) (h : List Entry) → sender_after v (turns_of pass [] h) ≡ v
@@ -187,11 +182,7 @@ played-turns : (pass : ℕ) (v : Sender) (moves : List Move) (h : List Entry)
 played-turns pass v [] h = none-turns pass v h
 played-turns pass v (m ∷ moves) [] = refl
 played-turns pass v (m ∷ moves) (e ∷ es) =
-    elim (cases_Bool (e.pass == pass)) as (λ _. sender_after v (turns_of pass (m ∷ moves) (e ∷ es))
-    ≡ played_by v (m ∷ moves) (calls_of pass (e ∷ es))) [
-      | inl own ↦ rw own (played-turns pass (moved v m e.reply) moves es)
-      | inr other ↦ rw other (played-turns pass v (m ∷ moves) es)
-    ]
+    grind (arith, common_steps, played-turns pass (moved v m e.reply) moves es, played-turns pass v (m ∷ moves) es)
 
 pub sent_is_prefix_of_taken : SentIsPrefixOfTaken
 sent_is_prefix_of_taken pass queue s v moves h agreed legal may =

@@ -106,10 +106,7 @@ module _ {s : State} {queue : ℕ} {sent : List (List ℕ)} {v : Sender} {f : �
 
     side_is : transmit_queue_of u.registers queue
         ≡ record side { ring = record side.ring { head = slot_at v.layout (f + 1) } }
-    side_is =
-        ap transmit_of y.side
-        ∙ ap (λ (n : ℕ). record side { ring = record side.ring { head = n } })
-        (rw (slots h, h.set_up.head) (slot-next v.layout h.based.layout f (small h (posted y.tried))))
+    side_is = grind (arith, transmit_of, slots, slot-next, small, posted)
 
     pub takes-keeps : IsEvent e → WritesNoSetting s e → Agrees u queue (sent ++ sent_by queue s e) v
     takes-keeps made none = (
@@ -216,14 +213,10 @@ module _ {s : State} {queue : ℕ} {sent : List (List ℕ)} {v : Sender} {f : �
 
     switched_sends : side_of Tx queue t ≡ as_wanted (side_of Tx queue s) → Sends s → Sends t
     switched_sends is (inl x) = switched_turn is x
-    switched_sends is (inr x) =
-        inr (cut_stays _ _ _ _ _ (ap (λ (y : Side). y.on) is ∙ x.unwanted)
-        (ap (λ (y : Side). y.wanted) is ∙ x.unwanted) x)
+    switched_sends is (inr x) = grind (arith, common_steps, cut_stays)
 
     rest_sends : Rests Tx queue s e → Sends t
-    rest_sends (Nothing is) =
-        sends_on s t queue sent v.layout.limit left v.accepted (ap (λ (y : Side). y.staged) is)
-        (λ x. (ap (λ (y : Side). y.on) is ∙ x.off, ap (λ (y : Side). y.wanted) is ∙ x.unwanted)) h.sends
+    rest_sends (Nothing is) = grind (arith, common_steps, sends_on)
     rest_sends (Shut x) = absurd (never-shuts h e x)
     rest_sends (Switched is) = switched_sends is h.sends
 

@@ -30,9 +30,7 @@ among-more : (n : ℕ) (ss : List Segment) (k : ℕ) → k < length ss
     → among (take (suc k) ss) n ≡ (n == (slice_index_or ss k no_segment).block || among (take k ss) n)
 among-more n [] k below = absurd (omega arith)
 among-more n (x ∷ ss) zero below = refl
-among-more n (x ∷ ss) (suc k) below =
-    ap (λ (b : Bool). n == x.block || b) (among-more n ss k (omega arith))
-    ∙ or_swap (n == x.block) (n == (slice_index_or ss k no_segment).block) (among (take k ss) n)
+among-more n (x ∷ ss) (suc k) below = grind (arith, common_steps, or_swap, among-more n ss k (omega arith))
 
 module _ (v : Sender) (n : ℕ) where
   abbrev pub Has : Sender → Type 0

@@ -41,7 +41,13 @@ fn is_sent(entry: &Entry) -> bool
 pub(crate) fn sent_in(history: &[Entry]) -> usize
     ensures { result ≡ sent_in history.now }
 {
-    history.iter().filter(|entry| is_sent(entry)).count()
+    let mut sent = 0;
+    for entry in history {
+        if is_sent(entry) {
+            sent += 1;
+        }
+    }
+    sent
 }
 
 /// Writes the line of a queue.

@@ -1,6 +1,6 @@
 //! Why a run prints nothing.
 
-ghost use Rattle.std.specs.Prelude.{◌≡◌};
+ghost use Rattle.std.specs.Prelude.{◌≡◌, ◌↔◌};
 ghost use Rattle.threads_bench.specs.Refused.{both_done, status_of};
 
 use bench::{FAILED, NO_MEMORY};
@@ -51,9 +51,10 @@ impl From<AllocError> for Refused {
 }
 
 impl From<NewFault> for Refused {
-    ghost use Rattle.threads_bench.specs.Refused.{of_new};
+    ghost use Rattle.workers.specs.DeviceLock.declared.fault.NewFault.{NewFault};
+    ghost use Rattle.threads_bench.specs.declared.refused.Refused.TheVariants.{OutOfMemory};
 
-    ghost from_gives = { λ fault refused. refused ≡ of_new fault };
+    ghost from_gives = { λ fault refused. (refused ≡ OutOfMemory) ↔ (fault ≡ NewFault.OutOfMemory) };
 
     fn from(fault: NewFault) -> Refused {
         match fault {
@@ -64,9 +65,10 @@ impl From<NewFault> for Refused {
 }
 
 impl From<CloseFault> for Refused {
-    ghost use Rattle.threads_bench.specs.Refused.{of_close};
+    ghost use Rattle.workers.specs.DeviceLock.declared.fault.CloseFault.{CloseFault};
+    ghost use Rattle.threads_bench.specs.declared.refused.Refused.TheVariants.{OutOfMemory};
 
-    ghost from_gives = { λ fault refused. refused ≡ of_close fault };
+    ghost from_gives = { λ fault refused. (refused ≡ OutOfMemory) ↔ (fault ≡ CloseFault.OutOfMemory) };
 
     fn from(fault: CloseFault) -> Refused {
         match fault {
@@ -78,9 +80,12 @@ impl From<CloseFault> for Refused {
 }
 
 impl From<PmdFault> for Refused {
-    ghost use Rattle.threads_bench.specs.Refused.{of_driver};
+    ghost use Rattle.workers.specs.DeviceLock.declared.fault.CallFault.{CallFault};
+    ghost use Rattle.workers.specs.PmdSeam.declared.fault.PmdFault.{PmdFault};
+    ghost use Rattle.threads_bench.specs.declared.refused.Refused.TheVariants.{OutOfMemory};
 
-    ghost from_gives = { λ fault refused. refused ≡ of_driver fault };
+    ghost from_gives = { λ fault refused. (refused ≡ OutOfMemory)
+        ↔ (fault ≡ PmdFault.Call (CallFault.OutOfMemory tt)) };
 
     fn from(fault: PmdFault) -> Refused {
         match fault {
@@ -96,9 +101,13 @@ impl From<PmdFault> for Refused {
 }
 
 impl From<WorkerFault> for Refused {
-    ghost use Rattle.threads_bench.specs.Refused.{of_worker};
+    ghost use Rattle.workers.specs.DeviceLock.declared.fault.CallFault.{CallFault};
+    ghost use Rattle.workers.specs.PmdSeam.declared.fault.PmdFault.{PmdFault};
+    ghost use Rattle.workers.specs.declared.WorkerFault.{WorkerFault};
+    ghost use Rattle.threads_bench.specs.declared.refused.Refused.TheVariants.{OutOfMemory};
 
-    ghost from_gives = { λ fault refused. refused ≡ of_worker fault };
+    ghost from_gives = { λ fault refused. (refused ≡ OutOfMemory)
+        ↔ (fault ≡ WorkerFault.Pmd (PmdFault.Call (CallFault.OutOfMemory tt))) };
 
     fn from(fault: WorkerFault) -> Refused {
         match fault {
@@ -109,9 +118,10 @@ impl From<WorkerFault> for Refused {
 }
 
 impl From<RunFault> for Refused {
-    ghost use Rattle.threads_bench.specs.Refused.{of_run};
+    ghost use Rattle.workers.specs.declared.ends.RunFault.{RunFault};
+    ghost use Rattle.threads_bench.specs.declared.refused.Refused.TheVariants.{OutOfMemory};
 
-    ghost from_gives = { λ fault refused. refused ≡ of_run fault };
+    ghost from_gives = { λ fault refused. (refused ≡ OutOfMemory) ↔ (fault ≡ RunFault.OutOfMemory) };
 
     fn from(fault: RunFault) -> Refused {
         match fault {

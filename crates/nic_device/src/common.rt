@@ -62,7 +62,7 @@ impl Notes {
                 Ok(again) => Some(again),
                 Err(_) => None,
             },
-            _ => None,
+            Some(_) | None => None,
         }
     }
 

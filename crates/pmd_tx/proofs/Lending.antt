@@ -44,8 +44,8 @@ module _ (v : Sender) (p : Packet) (may : MayStart v p) (b : Block) (bs : List B
   holds : Holds first b
   holds =
       hold-first (segments_of (sent_as p)) b (take (parts_for p.len - 1) bs)
-      (subst (λ (l : List Block). AllHold (segments_of (sent_as p)) l) (firsts-split (parts_for p.len) p.bufs bs b is some)
-      (packet-held p may.loose.whole may.held may.long))
+      (subst (λ (l : List Block). AllHold (segments_of (sent_as p)) l)
+      (firsts-split (parts_for p.len) p.bufs bs b is some) (packet-held p may.loose.whole may.held may.long))
 
   block : IsBlock b
   block =

@@ -5,7 +5,8 @@ use Rattle.reg_table.specs.declared.kind.Kind.{Kind}
 use Rattle.register_file.specs.Behaviour.{behaviour_of}
 use Rattle.register_file.specs.Registers.{Registers}
 use Rattle.register_file.specs.declared.surroundings.Surroundings.{Surroundings}
-pub use Rattle.register_file.specs.Effects.{calculated, group_read, group_in, in_group, is_running, asked, stored, ones_cleared, causes_written, masks_set, causes_set, masks_cleared}
+pub use Rattle.register_file.specs.Effects.{calculated, group_read, group_in, in_group, is_running, asked, stored}
+pub use Rattle.register_file.specs.Effects.{ones_cleared, causes_written, masks_set, causes_set, masks_cleared}
 
 -- the word that a read of a place gives, before the address cuts it, and the registers after the read
 abbrev pub read_word : Kind → Registers → Surroundings → Place → ℕ

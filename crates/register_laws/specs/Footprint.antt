@@ -18,7 +18,8 @@ use Rattle.register_file.specs.Words.{word_at}
 use Rattle.register_file.specs.DmaRing.declared.dir.Dir.{Dir}
 use Rattle.register_file.specs.declared.owner.Owner.{Owner}
 use Rattle.register_file.specs.declared.owner.Owner.TheVariants as owner
-pub use Rattle.register_file.specs.Footprint.{Footprint, nothing, either, is_place, the_word, the_bits, the_enable, pending, pending_of}
+pub use Rattle.register_file.specs.Footprint.{Footprint, nothing, either, is_place, the_word, the_bits, the_enable}
+pub use Rattle.register_file.specs.Footprint.{pending, pending_of}
 
 -- a part of the registers: whole words at places, which sides are wanted on, and what is told of groups
 pub record Part : Type 0 where

@@ -37,7 +37,8 @@ module _ (words : List ℕ) (index word : ℕ) (ten : length words ≡ 10) where
   bit_stands : (k : ℕ) → k < 320 → k / 32 ≢ index
       → bit_of (bytes_of_registers written) k ≡ bit_of (bytes_of_registers words) k
   bit_stands k below other =
-      ap (λ byte. bit_at byte (7 - k % 8)) (byte_stands (k / 8) (omega (arith, below)) (λ same. other (omega (arith, same))))
+      ap (λ byte. bit_at byte (7 - k % 8))
+      (byte_stands (k / 8) (omega (arith, below)) (λ same. other (omega (arith, same))))
 
   window_stands : (n j k : ℕ) → n < 72 → j < 4 → k ≡ 4 * n + j → IsBeyond index n
       → bits_from (bytes_of_registers written) k 32 ≡ bits_from (bytes_of_registers words) k 32

@@ -15,8 +15,8 @@ returns-then-not-is_out c =
     let count = c.count-number-end.ensures.count in
     let end = c.loop-number.auto.number-end in
     let test = c.loop-number-test.true in
-    let told = c.is_out.ensures
-    ∙ ap (λ (n : ℕ). is_own a n && not (is_free a n) && not (list_any (λ b. n == b) rest)) c.block-block.ensures.number in
+    let out = λ (n : ℕ). is_own a n && not (is_free a n) && not (list_any (λ b. n == b) rest) in
+    let told = c.is_out.ensures ∙ ap out c.block-block.ensures.number in
     sym (c.loop-number.invariant
     ∙ out-left a bs k c.get.result.now (omega (arith, count, end, test)) c.get.ensures c.is_out.result told
     ∙ ap (λ (t : Bool). t && are_out a rest) c.if-not-is_out.true)
@@ -30,8 +30,8 @@ loop-number-preserved c =
     let count = c.count-number-end.ensures.count in
     let end = c.loop-number.auto.number-end in
     let test = c.loop-number-test.true in
-    let told = c.is_out.ensures
-    ∙ ap (λ (n : ℕ). is_own a n && not (is_free a n) && not (list_any (λ b. n == b) rest)) c.block-block.ensures.number in
+    let out = λ (n : ℕ). is_own a n && not (is_free a n) && not (list_any (λ b. n == b) rest) in
+    let told = c.is_out.ensures ∙ ap out c.block-block.ensures.number in
     c.loop-number.invariant
     ∙ out-left a bs k c.get.result.now (omega (arith, count, end, test)) c.get.ensures c.is_out.result told
     ∙ ap (λ (t : Bool). t && are_out a rest) c.if-not-is_out.false

@@ -11,7 +11,8 @@ at_most_one false = omega arith
 
 pub loop-reaped-init : goal.loop-reaped-init
 loop-reaped-init g c = record {
-  reaped = reaped_none (g.N.Nic.made c.args.nic.now) c.args.self.now c.args.arena.now c.requires.settled c.requires.home;
+  reaped =
+      reaped_none (g.N.Nic.made c.args.nic.now) c.args.self.now c.args.arena.now c.requires.settled c.requires.home;
   few = omega arith;
   began = λ o is. is;
   refuses = refl;

@@ -1,6 +1,6 @@
 /* The least that the driver's notes cost, in C: a frame's calls, and its bytes as often as notes and records keep them,
-   are written to memory that is touched for the first time. Prints a line for each measure: its name, how many frames,
-   and the nanoseconds. */
+   are written to memory that is touched for the first time, in pages of the usual size, or in huge ones where the
+   system has some to give. Prints a line for each measure: its name, how many frames, and the nanoseconds. */
 #include <stdlib.h>
 #include <string.h>
 #include <sys/mman.h>
@@ -13,8 +13,9 @@ enum { RUNS = 50, FRAMES = 2000 };
 enum { EVENTS = 12 };
 /* the bytes of a call, in hand or of a pass, and of an entry of the history, each with the idle steps before it */
 enum { MADE = 88, ENTRY = 88 };
-/* the notes of a frame with its bytes: it arrives, is taken, lent, taken and collected; and its two records */
-enum { NOTES = 5, RECORDS = 2 };
+/* the notes of a frame with its bytes: it arrives and is collected, noted in each list of calls; the notes of its block,
+   which is taken, lent and taken, have theirs in common; and its two records */
+enum { NOTES = 2, BLOCK = 1, RECORDS = 2 };
 
 static uint8_t frame[2048], call[ENTRY];
 
@@ -22,6 +23,12 @@ static uint8_t *put(uint8_t *at, const uint8_t *bytes, size_t count)
 {
     memcpy(at, bytes, count);
     return at + count;
+}
+
+/* how often a frame's bytes are written */
+static int copies(int locked)
+{
+    return NOTES * (1 + locked) + BLOCK + RECORDS;
 }
 
 /* one frame's calls, in hand in one list or, under the lock, in two, and its bytes */
@@ -33,20 +40,22 @@ __attribute__((noinline)) static uint8_t *note(uint8_t *at, size_t length, int l
         if (locked)
             at = put(at, call, ENTRY);
     }
-    for (int i = 0; i < NOTES * (1 + locked) + RECORDS; i++)
+    for (int i = 0; i < copies(locked); i++)
         at = put(at, frame, length);
     return at;
 }
 
-static void measure(const char *name, size_t length, int locked)
+static void measure(const char *name, size_t length, int locked, int huge)
 {
     size_t calls = EVENTS * (MADE + (locked ? ENTRY : 0));
-    size_t size = FRAMES * (calls + (NOTES * (1 + locked) + RECORDS) * length);
+    size_t size = FRAMES * (calls + (size_t)copies(locked) * length);
     uint64_t took = 0;
     for (int run = 0; run < RUNS; run++) {
         uint8_t *fresh = mmap(NULL, size, PROT_READ | PROT_WRITE, MAP_PRIVATE | MAP_ANONYMOUS, -1, 0), *at = fresh;
         if (fresh == MAP_FAILED)
             exit(1);
+        if (huge)
+            madvise(fresh, size, MADV_HUGEPAGE);
         uint64_t began = now();
         for (int i = 0; i < FRAMES; i++)
             at = note(at, length, locked);
@@ -59,9 +68,13 @@ static void measure(const char *name, size_t length, int locked)
 int main(void)
 {
     memset(frame, 0x42, sizeof frame);
-    measure("driven60", 60, 0);
-    measure("locked60", 60, 1);
-    measure("driven1514", 1514, 0);
-    measure("locked1514", 1514, 1);
+    measure("driven60", 60, 0, 0);
+    measure("locked60", 60, 1, 0);
+    measure("driven1514", 1514, 0, 0);
+    measure("locked1514", 1514, 1, 0);
+    measure("huge_driven60", 60, 0, 1);
+    measure("huge_locked60", 60, 1, 1);
+    measure("huge_driven1514", 1514, 0, 1);
+    measure("huge_locked1514", 1514, 1, 1);
     return 0;
 }

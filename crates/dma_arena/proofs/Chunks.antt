@@ -1,4 +1,4 @@
-use Rattle.std.proofs.Common.{◌≡◌, ℕ, zero, suc, ◌+◌, ◌-◌, ◌*◌, ◌/◌, ◌%◌, ◌<◌, ◌≤◌, Bool, true, false, ◌&&◌, Some, None, List, [], ◌++◌, length, take, drop, refl, sym, ap, ◌∙◌, arith}
+use Rattle.std.proofs.Common.{◌≡◌, ℕ, zero, suc, ◌+◌, ◌-◌, ◌*◌, ◌/◌, ◌%◌, ◌<◌, ◌≤◌, Bool, true, false, ◌&&◌, Option, Some, None, List, [], ◌++◌, length, take, drop, refl, sym, ap, ◌∙◌, arith}
 use Rattle.std.specs.Prelude.{option_map, unwrap_or}
 use Rattle.std.specs.FinMap as map
 use Rattle.std.proofs.lemmas.Bool.{and_parts}
@@ -31,12 +31,14 @@ lent_none m a n k len e q = rw (← e, is_lent-append m a n (suc k), q) (and_fal
 
 -- one chunk: reads and writes inside one block
 
+abbrev block_of : ℕ → Option (List ℕ) → Option Block
+block_of q bytes = option_map (λ xs. record { number = q; bytes = xs }) bytes
+
 get-block_at : (m : Memory) (q : ℕ) (b : Block) → block_at m q ≡ Some b → map.get m q ≡ Some b.bytes
-get-block_at m q b is = elim (map.get m q) as
-    (λ o. option_map (λ bytes. let k : Block = record { number = q; bytes = bytes } in k) o ≡ Some b → o ≡ Some b.bytes) [
-      | None ↦ λ h. cc
-      | Some xs ↦ λ h. ap (option_map (λ (k : Block). k.bytes)) h
-    ] is
+get-block_at m q b is = elim (map.get m q) as (λ o. block_of q o ≡ Some b → o ≡ Some b.bytes) [
+  | None ↦ λ h. cc
+  | Some xs ↦ λ h. ap (option_map (λ (k : Block). k.bytes)) h
+] is
 
 pub read_in : (m : Memory) (q : ℕ) (b : Block) (at n : ℕ) → IsWhole m → block_at m q ≡ Some b → at + n ≤ 2048
     → read_at m (2048 * q + at) n ≡ part b.bytes at n

@@ -4,7 +4,7 @@ use Rattle.std.specs.Prelude.{is_some, count_by, unwrap_or, IfSome}
 use Rattle.std.specs.Ordering.{nat_cmp}
 use Rattle.std.specs.FinMap as fin
 use Rattle.std.proofs.lemmas.Bool.{cases_eq, cases_lt}
-use Rattle.std.proofs.lemmas.List.{length-set, length-append, length-replicate, get_or-set_same, get_or-set_other, get_or_past, get_or-replicate, get_or_append_left, get_or-append_right}
+use Rattle.std.proofs.lemmas.List.{length-set, length-append, length-replicate, get_or-set_same, get_or-set_other, get_or_past, get_or-replicate, get_or_append_left, get_or-append_right, get_or_read, set-get_or}
 use Rattle.std.proofs.lemmas.List.Folds.{sum_by-replicate}
 use Rattle.std.proofs.lemmas.List.Sums.{sum_by-append, sum_by-set}
 use Rattle.dma_arena.specs.Block.{Block}
@@ -18,44 +18,16 @@ none_of None h = refl
 none_of (Some b) h = cc
 
 -- one for a block, as it is counted
-abbrev pub mark : Option Block → ℕ
+abbrev mark : Option Block → ℕ
 mark place = cond (is_some place) 1 0
 
 -- a table without a block
 
-pub IsTable-empty : IsTable [] 65536 0
-IsTable-empty = record {
-  numbered = λ q. tt;
-  few = omega arith;
-  lowest = record { below = λ q lt. refl; here = λ lt. absurd (omega (arith, lt)); small = omega arith };
-  counted = refl;
-}
+no_block : (m : Memory) (q : ℕ) → m ≡ fin.empty → has_block m q ≡ false
+no_block m q e = ap (λ (k : Memory). has_block k q) e ∙ rw (fin.get-empty {X = List ℕ} nat_cmp q) refl
 
-none_at : (s : List (Option Block)) (f n : ℕ) → IsTable s f n → f ≡ 65536 → (q : ℕ) → at_place s q ≡ None
-none_at s f n table e q = elim (cases_lt q f) [
-  | inl lt ↦ none_of (at_place s q) (table.lowest.below q lt)
-  | inr past ↦ get_or_past s q None (omega (arith, table.few, past, e))
-]
-
-pub shown-none : (s : List (Option Block)) (f n : ℕ) → IsTable s f n → f ≡ 65536 → shown s ≡ fin.empty
-shown-none s f n table e =
-    shown-is s fin.empty (λ q. rw (none_at s f n table e q) (sym (fin.get-empty {X = List ℕ} nat_cmp q)))
-
--- an empty memory has no block
-not_empty : (m : Memory) (q : ℕ) → has_block m q ≡ true → m ≡ fin.empty → true ≡ false
-not_empty m q has e = sym has ∙ ap (λ (k : Memory). has_block k q) e ∙ rw (fin.get-empty {X = List ℕ} nat_cmp q) refl
-
-pub first-of_none : (s : List (Option Block)) (f n : ℕ) → IsTable s f n → shown s ≡ fin.empty → f ≡ 65536
-first-of_none s f n table e = elim (cases_lt f 65536) [
-  | inl lt ↦
-      let h : true ≡ false = not_empty (shown s) f (has_block-shown s f ∙ table.lowest.here lt) e in
-      cc
-  | inr past ↦ omega (arith, table.lowest.small, past)
-]
-
-pub none_filled : (s : List (Option Block)) → shown s ≡ fin.empty → (q : ℕ) → at_place s q ≡ None
-none_filled s e q = none_of (at_place s q)
-    (sym (has_block-shown s q) ∙ ap (λ (m : Memory). has_block m q) e ∙ rw (fin.get-empty {X = List ℕ} nat_cmp q) refl)
+pub none_there : (s : List (Option Block)) → shown s ≡ fin.empty → (q : ℕ) → at_place s q ≡ None
+none_there s e q = none_of (at_place s q) (sym (has_block-shown s q) ∙ no_block (shown s) q e)
 
 -- places are made
 
@@ -161,41 +133,75 @@ IsFirst-came s f q y g first lt small it least = elim (cases_lt f q) [
       })
 ]
 
-module _ (s : List (Option Block)) (f n : ℕ) (table : IsTable s f n) (m : Memory) (view : shown s ≡ m) where
+module _ {s : List (Option Block)} {f n : ℕ} (table : IsTable s f n) {m : Memory} (view : shown s ≡ m) where
   pub filled_at : (q : ℕ) → has_block m q ≡ is_filled s q
   filled_at q = ap (λ (k : Memory). has_block k q) (sym view) ∙ has_block-shown s q
 
   pub block_at-table : (q : ℕ) → at_place s q ≡ block_at m q
   block_at-table q = block_at-shown s q (table.numbered q) ∙ ap (λ (k : Memory). block_at k q) view
 
-  -- the place of a number that is lent
+  -- no block is lent exactly where none is the lowest
+
+  pub none_lent : f ≡ 65536 → m ≡ fin.empty
+  none_lent e =
+      sym view
+      ∙ shown-is s fin.empty
+      (λ q. elim (cases_lt q f) [
+        | inl lt ↦ rw (none_of (at_place s q) (table.lowest.below q lt)) (sym (fin.get-empty {X = List ℕ} nat_cmp q))
+        | inr past ↦
+            rw (get_or_past s q None (omega (arith, table.few, past, e)))
+            (sym (fin.get-empty {X = List ℕ} nat_cmp q))
+      ])
+
+  pub no_lowest : m ≡ fin.empty → f ≡ 65536
+  no_lowest e = elim (cases_lt f 65536) [
+    | inl lt ↦ let h : true ≡ false = sym (table.lowest.here lt) ∙ sym (filled_at f) ∙ no_block m f e in cc
+    | inr past ↦ omega (arith, table.lowest.small, past)
+  ]
+
+  -- a number that is lent has a place, and its block stands there
+
   pub place_of : (q : ℕ) → has_block m q ≡ true → q < length s
   place_of q has = within s q (sym (filled_at q) ∙ has)
 
-  pub shown-left : (t : List (Option Block)) (q : ℕ) → at_place t q ≡ None
-      → ((r : ℕ) → r ≢ q → at_place t r ≡ at_place s r) → shown t ≡ fin.remove m q
-  shown-left t q gone others =
-      shown-remove s t q gone others ∙ ap (λ (k : Memory). fin.remove k q) view
+  pub what_stands : (q : ℕ) (o : Option Block) → has_block m q ≡ true → o ≡ get_or s q o → at_place s q ≡ o
+  what_stands q o has is = sym (get_or_read s q o (place_of q has) is None)
 
-  pub IsTable-written : (q : ℕ) (b c : Block) → at_place s q ≡ Some b → q < length s → c.number ≡ b.number
+  -- a block leaves, or none is there
+
+  pub shown-left : (q : ℕ) (y : Option Block) → q < length s → y ≡ None → shown (set s q y) ≡ fin.remove m q
+  shown-left q y lt gone =
+      shown-remove s (set s q y) q (get_or-set_same s q y None lt ∙ gone) (λ r ne. get_or-set_other s q r y None ne)
+      ∙ ap (λ (k : Memory). fin.remove k q) view
+
+  pub shown-past : (q : ℕ) → at_place s q ≡ None → m ≡ fin.remove m q
+  shown-past q none = sym view ∙ shown-remove s s q none (λ r ne. refl) ∙ ap (λ (k : Memory). fin.remove k q) view
+
+  pub shown-same : (q : ℕ) (y : Option Block) → at_place s q ≡ None → y ≡ None → shown (set s q y) ≡ m
+  shown-same q y none gone =
+      ap (λ o. shown (set s q o)) (gone ∙ sym none) ∙ ap shown (set-get_or s q None) ∙ view
+
+  -- a block is written
+
+  pub IsTable-written : (q : ℕ) (b c : Block) → has_block m q ≡ true → at_place s q ≡ Some b → c.number ≡ b.number
       → IsTable (set s q (Some c)) f n
-  IsTable-written q b c is lt same =
-      IsTable-set s f n q (Some c) f n table lt (same ∙ rw is at (table.numbered q))
-      (IsFirst-written s f q (Some c) table.lowest lt (ap is_some (sym is))) (rw is refl)
+  IsTable-written q b c has is same =
+      IsTable-set s f n q (Some c) f n table (place_of q has) (same ∙ rw is at (table.numbered q))
+      (IsFirst-written s f q (Some c) table.lowest (place_of q has) (ap is_some (sym is))) (rw is refl)
 
-  pub shown-written : (q : ℕ) (b c : Block) (at : ℕ) (bs : List ℕ) → at_place s q ≡ Some b → q < length s
+  pub shown-written : (q : ℕ) (b c : Block) (at : ℕ) (bs : List ℕ) → has_block m q ≡ true → at_place s q ≡ Some b
       → c.bytes ≡ put_bytes b.bytes at bs
       → shown (set s q (Some c)) ≡ fin.insert m q (put_bytes (unwrap_or (fin.get m q) []) at bs)
-  shown-written q b c at bs is lt e =
+  shown-written q b c at bs has is e =
       let had : fin.get m q ≡ Some b.bytes =
       ap (λ (k : Memory). fin.get k q) (sym view) ∙ get-shown s q ∙ rw is refl in
       rw (had, ← e)
-      (shown-insert s (set s q (Some c)) q c (get_or-set_same s q (Some c) None lt)
+      (shown-insert s (set s q (Some c)) q c (get_or-set_same s q (Some c) None (place_of q has))
       (λ r ne. get_or-set_other s q r (Some c) None ne)
       ∙ ap (λ (k : Memory). fin.insert k q c.bytes) view)
 
   -- places up to that of a number, which is not lent
-  module _ (q : ℕ) (small : q < 65536) (free : has_block m q ≡ false) (t : List (Option Block))
+  module _ (q : ℕ) (small : q < 65536) (free : has_block m q ≡ false) {t : List (Option Block)}
       (made : t ≡ s ++ replicate (q + 1 - length s) None) where
     pub within_made : q < length t
     within_made = omega (arith, ap length made ∙ length-made s (q + 1 - length s))

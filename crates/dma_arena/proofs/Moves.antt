@@ -1,12 +1,10 @@
 -- Blocks that come and go.
-use Rattle.std.proofs.Common.{◌≡◌, ◌≢◌, ℕ, ◌/◌, ◌⊎◌, inl, inr, Option, Some, None, List, refl, sym, ◌∙◌}
-use Rattle.std.specs.Prelude.{option_map, IfNone}
+use Rattle.std.proofs.Common.{◌≡◌, ◌≢◌, ℕ, ◌/◌, ◌⊎◌, inl, inr, Some, None, List, refl, sym, ◌∙◌}
 use Rattle.std.specs.Ordering.{nat_cmp}
-use Rattle.std.specs.Cmp.{nat_cmp_total}
 use Rattle.std.specs.FinMap as map
 use Rattle.std.proofs.lemmas.Bool.{cases_eq}
-use Rattle.dma_arena.specs.Block.{Block, IsBlock}
-use Rattle.dma_arena.specs.Memory.{Memory, block_at, byte_at, IsWhole}
+use Rattle.dma_arena.specs.Block.{IsBlock}
+use Rattle.dma_arena.specs.Memory.{Memory, byte_at, IsWhole}
 use Rattle.dma_arena.proofs.Bus.{get-insert_same, get-insert_other, get-remove_same, get-remove_other}
 
 -- lending and taking a block changes no byte of another
@@ -46,24 +44,3 @@ IsBlock-remove m q whole r ys (inr ne) h = whole.block r ys (sym (get-remove_oth
 
 pub IsWhole-remove : (m : Memory) (q : ℕ) → IsWhole m → IsWhole (map.remove m q)
 IsWhole-remove m q whole = record { block = λ r ys h. IsBlock-remove m q whole r ys (cases_eq r q) h }
-
--- a block that isn't lent is not there to be taken
-
-no_bytes : (o : Option (List ℕ)) (q : ℕ) → option_map (λ bytes. let b : Block = record { number = q; bytes = bytes } in b) o ≡ None → o ≡ None
-no_bytes None q h = refl
-no_bytes (Some xs) q h = cc
-
-get-remove_none : (m : Memory) (q r : ℕ) → map.get m q ≡ None → (r ≡ q) ⊎ (r ≢ q)
-    → map.get (map.remove m q) r ≡ map.get m r
-get-remove_none m q r gone (inl e) = rw (e, gone) (get-remove_same m q)
-get-remove_none m q r gone (inr ne) = get-remove_other m q r ne
-
-remove-none : (m : Memory) (q : ℕ) → block_at m q ≡ None → map.remove m q ≡ m
-remove-none m q h =
-    let gone : map.get m q ≡ None = no_bytes (map.get m q) q h in
-    map.same_map nat_cmp_total map.nat_cmp-IsAntisymmetric (map.remove m q) m
-    (λ r. get-remove_none m q r gone (cases_eq r q))
-
-pub left_none : (o : Option Block) (m n : Memory) (q : ℕ) → o ≡ block_at m q → n ≡ map.remove m q → IfNone o (n ≡ m)
-left_none None m n q none left = left ∙ remove-none m q (sym none)
-left_none (Some b) m n q there left = tt

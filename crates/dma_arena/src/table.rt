@@ -1,6 +1,6 @@
 //! The lent blocks by their numbers.
 
-ghost use Rattle.std.specs.Prelude.{ℕ, ◌≡◌, ◌↔◌, ◌+◌, ◌-◌, ◌<◌, ◌≤◌, ◌++◌, true, false, None, length, replicate, is_some, count_by, option_copied, unwrap_or, [], IsTrue, IfSome, IfErr, IsNone, OnOk, OnErr};
+ghost use Rattle.std.specs.Prelude.{ℕ, ◌≡◌, ◌↔◌, ◌+◌, ◌-◌, ◌<◌, ◌≤◌, ◌++◌, true, false, None, length, replicate, is_some, count_by, option_copied, unwrap_or, [], IsTrue, IfSome, IfNone, IfErr, IsNone, OnOk, OnErr};
 ghost use Rattle.std.specs.FinMap as map;
 ghost use Rattle.dma_arena.specs.Memory.{has_block, block_at, put_bytes};
 ghost use Rattle.dma_arena.specs.Shown.{NoneBelow, IsFirst};
@@ -125,6 +125,7 @@ impl Table {
     pub(crate) fn remove(&mut self, number: u32) -> Option<Buf>
         ensures taken { result ≡ block_at self.old number }
         ensures left { self.new ≡ map.remove self.old number }
+        ensures kept { IfNone result (self.new ≡ self.old) }
     {
         if number as usize >= self.places.len() {
             return None;

@@ -7,13 +7,11 @@ pub returns-then-number-len : goal.returns-then-number-len
 returns-then-number-len c =
     let past : length c.self.inside.places.items ≤ c.args.number = omega (arith, c.self.inside.places.ok.0) in
     sym (get_or_past c.self.inside.places.items c.args.number None past)
-    ∙ block_at-table c.self.inside.places.items c.self.inside.first c.self.inside.count c.self.invariant
-    c.args.self.now c.self.view_is c.args.number
+    ∙ block_at-table c.self.invariant c.self.view_is c.args.number
 
 pub returns : goal.returns
 returns c =
     let lt : c.args.number < length c.self.inside.places.items = omega (arith, c.self.inside.places.ok.0) in
     c.as_ref.ensures.value
     ∙ get_or_read c.self.inside.places.items c.args.number c.index.result.now lt c.index.ensures None
-    ∙ block_at-table c.self.inside.places.items c.self.inside.first c.self.inside.count c.self.invariant
-    c.args.self.now c.self.view_is c.args.number
+    ∙ block_at-table c.self.invariant c.self.view_is c.args.number

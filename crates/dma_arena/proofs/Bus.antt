@@ -1,5 +1,5 @@
 -- Ranges of the bus: which are lent, what they read, and what a write leaves.
-use Rattle.std.proofs.Common.{◌≡◌, ◌≢◌, ℕ, zero, suc, ◌+◌, ◌-◌, ◌/◌, ◌<◌, ◌≤◌, inl, inr, true, Option, Some, None, List, [], ◌∷◌, length, get_or, refl, ◌∙◌, arith, rules, add-zero}
+use Rattle.std.proofs.Common.{◌≡◌, ◌≢◌, ℕ, zero, suc, ◌+◌, ◌-◌, ◌/◌, ◌<◌, ◌≤◌, inl, inr, true, Option, Some, None, List, [], ◌∷◌, length, get_or, refl, ◌∙◌, arith, add-zero}
 use Rattle.std.specs.Prelude.{is_some}
 use Rattle.std.specs.FinMap as map
 use Rattle.std.proofs.lemmas.Bool.{cases_eq, and_parts}
@@ -34,9 +34,9 @@ pub is_lent_rest : (m : Memory) (a n : ℕ) → is_lent m a (suc n) ≡ true →
 unfolding is_lent
 is_lent_rest m a n h = (and_parts _ (is_lent m (a + 1) n) h).1
 
-pub of_some : (o : Option (List ℕ)) → is_some o ≡ true → (xs : List ℕ) × (o ≡ Some xs)
-of_some None h = absurd (search rules)
-of_some (Some xs) h = (xs, refl)
+pub of_some : {A : Type 0} (o : Option A) → is_some o ≡ true → (x : A) × (o ≡ Some x)
+of_some None h = cc
+of_some (Some x) h = (x, refl)
 
 -- the number of a lent block is small
 pub small_of_lent : (m : Memory) (q : ℕ) → IsWhole m → has_block m q ≡ true → q < 65536

@@ -1,18 +1,15 @@
-use Rattle.std.proofs.Common.{◌≡◌, ℕ, zero, suc, ◌+◌, ◌-◌, ◌/◌, ◌%◌, ◌<◌, ◌≤◌, Bool, true, false, ◌&&◌, List, ◌++◌, length, take, drop, refl, sym, ◌∙◌, arith}
-use Rattle.std.specs.Prelude.{is_some}
-use Rattle.std.specs.Ordering.{nat_cmp}
-use Rattle.std.specs.BTreeMap.{get, BTreeMap}
+use Rattle.std.proofs.Common.{◌≡◌, ℕ, zero, suc, ◌+◌, ◌-◌, ◌*◌, ◌/◌, ◌%◌, ◌<◌, ◌≤◌, Bool, true, false, ◌&&◌, Option, Some, None, List, [], ◌++◌, length, take, drop, refl, sym, ap, ◌∙◌, arith}
+use Rattle.std.specs.Prelude.{option_map, unwrap_or}
+use Rattle.std.specs.FinMap as map
 use Rattle.std.proofs.lemmas.Bool.{and_parts}
 use Rattle.std.proofs.lemmas.List.{length-take-le, take-append-drop, length-drop, length-append, drop-take, take-take}
 use Rattle.std.proofs.lemmas.Slice.{take-put_mid}
 use borrow.Rule.Slice.PartMut.{put_mid}
 use Rattle.dma_arena.specs.Block.{Block}
-use Rattle.dma_arena.specs.Memory.{Memory, has_block, is_lent, read_at, write_at}
-use Rattle.dma_arena.specs.Shown.{shown, IsKept}
-use Rattle.dma_arena.proofs.Bus.{small_of_lent, SameLent-write_at, is_lent-same, is_lent_first, lent_end, length-read_at}
+use Rattle.dma_arena.specs.Memory.{Memory, has_block, block_at, is_lent, read_at, write_at, put_bytes, part, IsWhole}
+use Rattle.dma_arena.proofs.Bus.{of_some, small_of_lent, SameLent-write_at, is_lent-same, is_lent_first, lent_end, length-read_at}
 use Rattle.dma_arena.proofs.Joined.{is_lent-append, write_at-append, read_at-append}
-use Rattle.dma_arena.proofs.Blocks.{is_lent_in}
-use Rattle.dma_arena.proofs.Shown.{has_block-shown, IsWhole-shown}
+use Rattle.dma_arena.proofs.Blocks.{is_lent_in, read_at_in, write_at_in}
 
 -- a range that is gone through in chunks, each inside one block
 
@@ -32,23 +29,39 @@ and_false false = refl
 lent_none : (m : Memory) (a n k len : ℕ) → n + suc k ≡ len → is_lent m (a + n) (suc k) ≡ false → is_lent m a len ≡ false
 lent_none m a n k len e q = rw (← e, is_lent-append m a n (suc k), q) (and_false (is_lent m a n))
 
+-- one chunk: reads and writes inside one block
+
+abbrev block_of : ℕ → Option (List ℕ) → Option Block
+block_of q bytes = option_map (λ xs. record { number = q; bytes = xs }) bytes
+
+get-block_at : (m : Memory) (q : ℕ) (b : Block) → block_at m q ≡ Some b → map.get m q ≡ Some b.bytes
+get-block_at m q b is = elim (map.get m q) as (λ o. block_of q o ≡ Some b → o ≡ Some b.bytes) [
+  | None ↦ λ h. cc
+  | Some xs ↦ λ h. ap (option_map (λ (k : Block). k.bytes)) h
+] is
+
+pub read_in : (m : Memory) (q : ℕ) (b : Block) (at n : ℕ) → IsWhole m → block_at m q ≡ Some b → at + n ≤ 2048
+    → read_at m (2048 * q + at) n ≡ part b.bytes at n
+read_in m q b at n whole is room =
+    let here = get-block_at m q b is in
+    read_at_in m (2048 * q + at) n q at b.bytes here (whole.block q b.bytes here).size refl room
+
+pub written_in : (m n : Memory) (q at : ℕ) (bs : List ℕ) → IsWhole m → has_block m q ≡ true → at + length bs ≤ 2048
+    → n ≡ map.insert m q (put_bytes (unwrap_or (map.get m q) []) at bs) → n ≡ write_at m (2048 * q + at) bs
+written_in m n q at bs whole has room is =
+    let here : (xs : List ℕ) × (map.get m q ≡ Some xs) = of_some (map.get m q) has in
+    is ∙ rw here.1 (sym (write_at_in m bs q at here.0 here.1 (whole.block q here.0 here.1).size room))
+
 -- the block of the next chunk is there
 
-some_first : (m : Memory) (a n : ℕ) → is_lent m a n ≡ true → 0 < n → has_block m (a / 2048) ≡ true
-some_first m a zero lent some = absurd (omega arith)
-some_first m a (suc n) lent some = is_lent_first m a n lent
+pub lent_first : (m : Memory) (a n : ℕ) → is_lent m a n ≡ true → 0 < n → has_block m (a / 2048) ≡ true
+lent_first m a zero lent some = absurd (omega arith)
+lent_first m a (suc n) lent some = is_lent_first m a n lent
 
-pub lent_first : (m : BTreeMap ℕ Block) (a n : ℕ) → is_lent (shown m) a n ≡ true → 0 < n
-    → is_some (get nat_cmp m (a / 2048)) ≡ true
-lent_first m a n lent some = sym (has_block-shown m (a / 2048)) ∙ some_first (shown m) a n lent some
-
-pub lent_within : (m : BTreeMap ℕ Block) (a n : ℕ) → IsKept m → is_lent (shown m) a n ≡ true → 0 < n → a + n ≤ 134217728
-lent_within m a n kept lent some = lent_end (shown m) a n (IsWhole-shown m kept) lent some
-
-pub lent_far : (m : BTreeMap ℕ Block) (a n : ℕ) → IsKept m → is_lent (shown m) a n ≡ true → a < 18446744073709551616
+pub lent_far : (m : Memory) (a n : ℕ) → IsWhole m → is_lent m a n ≡ true → a < 18446744073709551616
     → a + n < 18446744073709551616
-lent_far m a zero kept lent h = omega arith
-lent_far m a (suc n) kept lent h = let b = lent_within m a (suc n) kept lent (omega arith) in omega (arith, b)
+lent_far m a zero whole lent h = omega arith
+lent_far m a (suc n) whole lent h = let b = lent_end m a (suc n) whole lent (omega arith) in omega (arith, b)
 
 -- the test stops at a block that is not there
 
@@ -56,36 +69,29 @@ not_lent : (m : Memory) (a k : ℕ) → has_block m (a / 2048) ≡ false → is_
 unfolding is_lent
 not_lent m a k gone = rw gone refl
 
-gone_at : (m : Memory) (a done len : ℕ) → done < len → has_block m ((a + done) / 2048) ≡ false → is_lent m a len ≡ false
-gone_at m a done len h gone =
+pub missing : (m : Memory) (a done len : ℕ) → done < len → has_block m ((a + done) / 2048) ≡ false
+    → is_lent m a len ≡ false
+missing m a done len h gone =
     let e : done + suc (len - done - 1) ≡ len = omega arith in
     lent_none m a done (len - done - 1) len e (not_lent m (a + done) (len - done - 1) gone)
 
-pub missing : (m : BTreeMap ℕ Block) (a done len : ℕ) → done < len → is_some (get nat_cmp m ((a + done) / 2048)) ≡ false
-    → is_lent (shown m) a len ≡ false
-missing m a done len h gone = gone_at (shown m) a done len h (has_block-shown m ((a + done) / 2048) ∙ gone)
+far_gone : (m : Memory) (q : ℕ) (there : Bool) → IsWhole m → has_block m q ≡ there → 65536 ≤ q → there ≡ false
+far_gone m q true whole is far = let low = small_of_lent m q whole is in absurd (omega (arith, low))
+far_gone m q false whole is far = refl
 
-far_gone : (m : BTreeMap ℕ Block) (q : ℕ) (there : Bool) → IsKept m → has_block (shown m) q ≡ there → 65536 ≤ q
-    → there ≡ false
-far_gone m q true kept is far = let low =
-    small_of_lent (shown m) q (IsWhole-shown m kept) is in absurd (omega (arith, low))
-far_gone m q false kept is far = refl
-
-pub missing_far : (m : BTreeMap ℕ Block) (a done len : ℕ) → IsKept m → done < len → 65536 ≤ (a + done) / 2048
-    → is_lent (shown m) a len ≡ false
-missing_far m a done len kept h far =
-    gone_at (shown m) a done len h
-    (far_gone m ((a + done) / 2048) (has_block (shown m) ((a + done) / 2048)) kept refl far)
+pub missing_far : (m : Memory) (a done len : ℕ) → IsWhole m → done < len → 65536 ≤ (a + done) / 2048
+    → is_lent m a len ≡ false
+missing_far m a done len whole h far =
+    missing m a done len h
+    (far_gone m ((a + done) / 2048) (has_block m ((a + done) / 2048)) whole refl far)
 
 -- and goes on at one that is
 
-pub here_more : (m : BTreeMap ℕ Block) (a done k : ℕ) → is_some (get nat_cmp m ((a + done) / 2048)) ≡ true
-    → (a + done) % 2048 + k ≤ 2048 → is_lent (shown m) a done ≡ true
-    → is_lent (shown m) a (done + k) ≡ true
+pub here_more : (m : Memory) (a done k : ℕ) → has_block m ((a + done) / 2048) ≡ true
+    → (a + done) % 2048 + k ≤ 2048 → is_lent m a done ≡ true → is_lent m a (done + k) ≡ true
 here_more m a done k some room lent =
-    lent_more (shown m) a done k lent
-    (is_lent_in (shown m) (a + done) k ((a + done) / 2048) ((a + done) % 2048)
-    (has_block-shown m ((a + done) / 2048) ∙ some) (omega arith) room)
+    lent_more m a done k lent
+    (is_lent_in m (a + done) k ((a + done) / 2048) ((a + done) % 2048) some (omega arith) room)
 
 -- one chunk is written
 

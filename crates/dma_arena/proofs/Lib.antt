@@ -7,7 +7,7 @@ mod Chunks
 mod Counts
 pub mod Cuts
 mod Emptied
-mod Entries
+mod Filled
 pub mod Inside
 pub mod Joined
 pub mod Moves

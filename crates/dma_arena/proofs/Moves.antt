@@ -1,5 +1,6 @@
 -- Blocks that come and go.
 use Rattle.std.proofs.Common.{◌≡◌, ◌≢◌, ℕ, ◌/◌, ◌⊎◌, inl, inr, Some, None, List, refl, sym, ◌∙◌}
+use Rattle.std.specs.Ordering.{nat_cmp}
 use Rattle.std.specs.FinMap as map
 use Rattle.std.proofs.lemmas.Bool.{cases_eq}
 use Rattle.dma_arena.specs.Block.{IsBlock}
@@ -15,6 +16,13 @@ byte_at-insert_other m q xs c ne = rw (get-insert_other m q xs (c / 2048) ne) re
 pub byte_at-remove_other : (m : Memory) (q c : ℕ) → c / 2048 ≢ q → byte_at (map.remove m q) c ≡ byte_at m c
 unfolding byte_at
 byte_at-remove_other m q c ne = rw (get-remove_other m q (c / 2048) ne) refl
+
+-- memory stays whole
+
+pub IsWhole-empty : IsWhole map.empty
+IsWhole-empty = record {
+  block = λ q xs h. let f : None ≡ Some xs = sym (map.get-empty {X = List ℕ} nat_cmp q) ∙ h in cc;
+}
 
 IsBlock-insert : (m : Memory) (q : ℕ) (xs : List ℕ) → IsWhole m → IsBlock (record { number = q; bytes = xs })
     → (r : ℕ) (ys : List ℕ) → (r ≡ q) ⊎ (r ≢ q) → map.get (map.insert m q xs) r ≡ Some ys

@@ -15,8 +15,8 @@ pub nodes-block : (e : Links) (s : List (Option Links)) (p : ℕ) → p ≢ list
 unfolding nodes_of
 nodes-block e s p ne = let t : eqb p list_end ≡ false = grind (arith, nat_tests) in rw t refl
 
--- a free block has a place
-pub within : (s : List (Option Links)) (p : ℕ) → is_some (get_or s p None) ≡ true → p < length s
+-- a block has a place
+pub within : {A : Type 0} (s : List (Option A)) (p : ℕ) → is_some (get_or s p None) ≡ true → p < length s
 within [] p h = cc
 within (x ∷ s) zero h = omega arith
 within (x ∷ s) (suc p) h = omega (arith, within s p h)

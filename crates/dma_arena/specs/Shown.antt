@@ -1,18 +1,39 @@
-use Rattle.std.specs.Prelude.{ℕ, List, map, IfSome, ◌≡◌}
-use Rattle.std.specs.Ordering.{nat_cmp}
+use Rattle.std.specs.Prelude.{ℕ, ◌+◌, ◌<◌, ◌≤◌, ◌≡◌, Bool, true, false, List, [], ◌∷◌, Option, Some, None, length, slice_index_or, is_some, count_by, IfSome}
 use Rattle.std.specs.FinMap as fin
-use Rattle.std.specs.BTreeMap.{BTreeMap, get}
-use Rattle.dma_arena.specs.Block.{Block, IsBlock}
+use Rattle.dma_arena.specs.Block.{Block}
 use Rattle.dma_arena.specs.Memory.{Memory}
 
--- the number and the bytes of each entry
-abbrev pub bytes_of : List (ℕ × Block) → List (ℕ × List ℕ)
-bytes_of entries = map (λ e. (e.0, e.1.bytes)) entries
+-- the memory that places show, of which the first has this number
+unfoldable pub shown_from : ℕ → List (Option Block) → Memory
+shown_from number [] = fin.empty
+shown_from number (None ∷ places) = shown_from (number + 1) places
+shown_from number (Some block ∷ places) = fin.insert (shown_from (number + 1) places) number block.bytes
 
--- the memory that an ordered map of blocks shows
-abbrev pub shown : BTreeMap ℕ Block → Memory
-shown m = fin.from_entries (bytes_of m.entries)
+-- the memory that a table's places show
+abbrev pub shown : List (Option Block) → Memory
+shown places = shown_from 0 places
 
--- each block stands under its own number
-abbrev pub IsKept : BTreeMap ℕ Block → Type 0
-IsKept m = (q : ℕ) → IfSome (get nat_cmp m q) (λ b. (b.number ≡ q) × IsBlock b)
+-- what stands at a place: a block, or nothing
+abbrev pub at_place : List (Option Block) → ℕ → Option Block
+at_place places number = slice_index_or places number None
+
+-- whether a block stands at a place
+abbrev pub is_filled : List (Option Block) → ℕ → Bool
+is_filled places number = is_some (at_place places number)
+
+-- no place below this one has a block
+abbrev pub NoneBelow : List (Option Block) → ℕ → Type 0
+NoneBelow places first = (number : ℕ) → number < first → is_filled places number ≡ false
+
+-- the first place that has a block, or 65,536 where none has one
+pub record IsFirst (places : List (Option Block)) (first : ℕ) : Type 0 where
+  pub below : NoneBelow places first
+  pub here : first < 65536 → is_filled places first ≡ true
+  pub small : first ≤ 65536
+
+-- the places of a table: each block at that of its number, the first of them known, and all counted
+pub record IsTable (places : List (Option Block)) (first count : ℕ) : Type 0 where
+  pub numbered : (number : ℕ) → IfSome (at_place places number) (λ block. block.number ≡ number)
+  pub few : length places ≤ 65536
+  pub lowest : IsFirst places first
+  pub counted : count ≡ count_by (λ place. is_some place) places

@@ -1,4 +1,4 @@
-ghost use Rattle.std.specs.Prelude.{◌≡◌, ◌+◌, ◌<◌, ◌≤◌, length, replicate};
+ghost use Rattle.std.specs.Prelude.{◌≡◌, ◌+◌, ◌<◌, ◌≤◌, length, replicate, None};
 ghost use Rattle.std.specs.Borrow.{sem};
 ghost use Rattle.dma_arena.specs.Block.{IsBlock, IsZeroFrom, bus_of, zero_block};
 ghost use Rattle.dma_arena.specs.Memory.{put_bytes};
@@ -23,6 +23,16 @@ fn clear(bytes: &mut RawBlock)
     ensures { bytes.new.value ≡ replicate 2048 0 }
 {
     *bytes.get_mut() = [0; BLOCK_BYTES];
+}
+
+/// Nothing is in the slot.
+pub(crate) fn nothing(slot: Option<Buf>)
+    requires { slot ≡ None }
+{
+    match slot {
+        None => {}
+        Some(_) => unreachable!(),
+    }
 }
 
 /// A block of packet memory in hand.

@@ -5,8 +5,8 @@ ghost use Rattle.dma_arena.specs.LendRefused.{back_of, IsTwice};
 
 use crate::buf::Buf;
 use crate::ranges;
+use crate::table::Table;
 use std::alloc::Global;
-use std::collections::BTreeMap;
 use std::marker::Model;
 
 /// The packet memory that is lent to the device: blocks by their numbers, and the bus over them.
@@ -17,22 +17,21 @@ use std::marker::Model;
 ///
 /// Only `lend` takes memory.
 pub struct LentMemory {
-    blocks: BTreeMap<u32, Buf>,
+    blocks: Table,
 }
 
 impl Model for LentMemory {
     ghost use Rattle.std.specs.Coded.{coded_ℕ, coded_list};
     ghost use Rattle.std.specs.FinMap as map;
-    ghost use Rattle.dma_arena.specs.Memory.{Memory};
-    ghost use Rattle.dma_arena.specs.Shown.{shown, IsKept};
+    ghost use Rattle.dma_arena.specs.Memory.{Memory, IsWhole};
 
     ghost Value = { Memory };
 
     ghost coded = { map.code coded_ℕ (coded_list coded_ℕ) };
 
-    ghost view = { λ a. shown a.blocks };
+    ghost view = { λ a. a.blocks };
 
-    ghost invariant = { λ a. IsKept a.blocks };
+    ghost invariant = { λ a. IsWhole a.blocks };
 }
 
 /// Why a block was not lent, and the block.
@@ -49,7 +48,7 @@ impl LentMemory {
         ensures { result ≡ map.empty }
     {
         LentMemory {
-            blocks: BTreeMap::new(alloc),
+            blocks: Table::new(alloc),
         }
     }
 
@@ -64,19 +63,14 @@ impl LentMemory {
         ensures back { IfErr result (λ r. back_of r ≡ buf) }
         ensures kept { OnErr result (self.new ≡ self.old) }
     {
-        let number = buf.block();
-        if self.blocks.contains_key(&number) {
+        if self.blocks.has(buf.block()) {
             return Err(LendRefused::Twice(buf));
         }
         // It is kept that each lent block is whole, as `bytes` says of this one.
         let _ = buf.bytes();
-        match self.blocks.insert(number, buf) {
-            Ok(None) => Ok(()),
-            Ok(Some(_old)) => unreachable!(),
-            Err(refused) => {
-                let (_, buf) = refused.value;
-                Err(LendRefused::OutOfMemory(buf))
-            }
+        match self.blocks.insert(buf) {
+            Ok(()) => Ok(()),
+            Err(buf) => Err(LendRefused::OutOfMemory(buf)),
         }
     }
 
@@ -86,7 +80,7 @@ impl LentMemory {
         ensures left { self.new ≡ map.remove self.old block }
         ensures kept { IfNone result (self.new ≡ self.old) }
     {
-        self.blocks.remove(&block)
+        self.blocks.remove(block)
     }
 
     /// The lowest number that is lent. None where no block is.
@@ -95,8 +89,7 @@ impl LentMemory {
         ensures lent { IfSome result (λ number. IsTrue (has_block self.now number)) }
         ensures least { IfSome result (λ number. (q : ℕ) → q < number → has_block self.now q ≡ false) }
     {
-        let (number, _) = self.blocks.first_key_value()?;
-        Some(*number)
+        self.blocks.lowest()
     }
 
     /// Whether each of the `len` bytes from a bus address on is in a lent block. A range that
@@ -151,7 +144,7 @@ impl LentMemory {
             return Err(self);
         }
         let LentMemory { blocks } = self;
-        blocks.destroy_empty();
+        blocks.end();
         Ok(())
     }
 }

@@ -20,6 +20,7 @@ mod octets;
 mod ranges;
 mod raw;
 mod run;
+mod table;
 
 pub use arena::{Arena, ArenaFault, BLOCK_NUMBERS, SplitFault, SplitRefused};
 pub use buf::{BLOCK_BYTES, Buf};

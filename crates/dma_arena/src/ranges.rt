@@ -1,19 +1,14 @@
 //! Ranges of bus addresses over the lent blocks, gone through block by block.
 
-ghost use Rattle.std.specs.Prelude.{◌≡◌, ◌*◌, ◌+◌, ◌≤◌, true, length, is_some};
-ghost use Rattle.std.specs.Ordering.{nat_cmp};
-ghost use Rattle.std.specs.BTreeMap.{get};
-ghost use Rattle.dma_arena.specs.Memory.{is_lent, read_at, write_at, IsWhole};
-ghost use Rattle.dma_arena.specs.Shown.{shown, IsKept};
+ghost use Rattle.std.specs.Prelude.{◌≡◌, ◌*◌, ◌+◌, ◌≤◌, true, length};
+ghost use Rattle.dma_arena.specs.Memory.{has_block, is_lent, read_at, write_at, IsWhole};
 
-use crate::buf::Buf;
-use std::collections::BTreeMap;
+use crate::table::Table;
 
-/// Whether each byte of the range is in a block of the map.
-pub(crate) fn are_lent(blocks: &BTreeMap<u32, Buf>, address: u64, len: usize) -> bool
-    requires kept { IsKept blocks.now }
-    ensures lent { result ≡ is_lent (shown blocks.now) address len }
-    ensures whole { IsWhole (shown blocks.now) }
+/// Whether each byte of the range is in a lent block.
+pub(crate) fn are_lent(blocks: &Table, address: u64, len: usize) -> bool
+    requires { IsWhole blocks.now }
+    ensures { result ≡ is_lent blocks.now address len }
 {
     let mut done = 0;
     while done < len {
@@ -21,7 +16,7 @@ pub(crate) fn are_lent(blocks: &BTreeMap<u32, Buf>, address: u64, len: usize) ->
         let Ok(number) = u32::try_from(at / 2048) else {
             return false;
         };
-        if !blocks.contains_key(&number) {
+        if !blocks.has(number) {
             return false;
         }
         done += ((2048 - at % 2048) as usize).min(len - done);
@@ -30,10 +25,10 @@ pub(crate) fn are_lent(blocks: &BTreeMap<u32, Buf>, address: u64, len: usize) ->
 }
 
 /// Fills the slice with the bytes from an address on.
-pub(crate) fn read_bytes(blocks: &BTreeMap<u32, Buf>, address: u64, bytes: &mut [u8])
-    requires kept { IsKept blocks.now }
-    requires lent { is_lent (shown blocks.now) address (length bytes.old) ≡ true }
-    ensures read { bytes.new ≡ read_at (shown blocks.now) address (length bytes.old) }
+pub(crate) fn read_bytes(blocks: &Table, address: u64, bytes: &mut [u8])
+    requires whole { IsWhole blocks.now }
+    requires lent { is_lent blocks.now address (length bytes.old) ≡ true }
+    ensures read { bytes.new ≡ read_at blocks.now address (length bytes.old) }
 {
     let mut done = 0;
     while done < bytes.len() {
@@ -47,11 +42,11 @@ pub(crate) fn read_bytes(blocks: &BTreeMap<u32, Buf>, address: u64, bytes: &mut 
 }
 
 /// Writes the bytes of the slice from an address on.
-pub(crate) fn write_bytes(blocks: &mut BTreeMap<u32, Buf>, address: u64, bytes: &[u8])
-    requires kept { IsKept blocks.old }
-    requires lent { is_lent (shown blocks.old) address (length bytes.now) ≡ true }
-    ensures kept { IsKept blocks.new }
-    ensures written { shown blocks.new ≡ write_at (shown blocks.old) address bytes.now }
+pub(crate) fn write_bytes(blocks: &mut Table, address: u64, bytes: &[u8])
+    requires whole { IsWhole blocks.old }
+    requires lent { is_lent blocks.old address (length bytes.now) ≡ true }
+    ensures whole { IsWhole blocks.new }
+    ensures written { blocks.new ≡ write_at blocks.old address bytes.now }
 {
     let mut done = 0;
     while done < bytes.len() {
@@ -64,28 +59,25 @@ pub(crate) fn write_bytes(blocks: &mut BTreeMap<u32, Buf>, address: u64, bytes: 
 }
 
 /// Reads bytes of one block.
-fn read_part(blocks: &BTreeMap<u32, Buf>, number: u32, offset: usize, bytes: &mut [u8])
-    requires kept { IsKept blocks.now }
-    requires lent { is_some (get nat_cmp blocks.now number) ≡ true }
+fn read_part(blocks: &Table, number: u32, offset: usize, bytes: &mut [u8])
+    requires whole { IsWhole blocks.now }
+    requires lent { has_block blocks.now number ≡ true }
     requires room { offset + length bytes.old ≤ 2048 }
-    ensures read { bytes.new ≡ read_at (shown blocks.now) (2048 * number + offset) (length bytes.old) }
+    ensures read { bytes.new ≡ read_at blocks.now (2048 * number + offset) (length bytes.old) }
 {
-    match blocks.get(&number) {
+    match blocks.get(number) {
         Some(buf) => bytes.copy_from_slice(&buf.bytes()[offset..offset + bytes.len()]),
         None => unreachable!(),
     }
 }
 
 /// Writes bytes into one block.
-fn write_part(blocks: &mut BTreeMap<u32, Buf>, number: u32, offset: usize, bytes: &[u8])
-    requires kept { IsKept blocks.old }
-    requires lent { is_some (get nat_cmp blocks.old number) ≡ true }
+fn write_part(blocks: &mut Table, number: u32, offset: usize, bytes: &[u8])
+    requires whole { IsWhole blocks.old }
+    requires lent { has_block blocks.old number ≡ true }
     requires room { offset + length bytes.now ≤ 2048 }
-    ensures kept { IsKept blocks.new }
-    ensures written { shown blocks.new ≡ write_at (shown blocks.old) (2048 * number + offset) bytes.now }
+    ensures whole { IsWhole blocks.new }
+    ensures written { blocks.new ≡ write_at blocks.old (2048 * number + offset) bytes.now }
 {
-    match blocks.get_mut(&number) {
-        Some(buf) => buf.put(offset, bytes),
-        None => unreachable!(),
-    }
+    blocks.put(number, offset, bytes);
 }

@@ -6,7 +6,7 @@ ghost use Rattle.dma_arena.specs.Numbers.{count_of, is_free};
 ghost use Rattle.dma_arena.specs.Run.{run_in, run_behind, are_free, without_run};
 
 use crate::arena::Arena;
-use crate::buf::Buf;
+use crate::buf::{Buf, nothing};
 use std::marker::Model;
 
 /// How many blocks a run has at most.
@@ -140,16 +140,6 @@ impl Arena {
             }
         }
         Some(run)
-    }
-}
-
-/// Nothing is in the slot.
-fn nothing(slot: Option<Buf>)
-    requires { slot ≡ None }
-{
-    match slot {
-        None => {}
-        Some(_) => unreachable!(),
     }
 }
 

@@ -1,7 +1,7 @@
 use Rattle.std.proofs.Common.{◌≡◌, length, ℕ, ◌+◌, ◌-◌, ◌*◌, ◌/◌, ◌%◌, refl, arith, add-zero}
 use Rattle.dma_arena.specs.Memory.{read_at}
-use Rattle.dma_arena.specs.Shown.{shown}
-use Rattle.dma_arena.proofs.Chunks.{read_pass, lent_first, lent_within}
+use Rattle.dma_arena.proofs.Chunks.{read_pass, lent_first}
+use Rattle.dma_arena.proofs.Bus.{lent_end}
 use Rattle.dma_arena.proofs.ranges.read_bytes.Goals as goal
 
 pub loop-done-init : goal.loop-done-init
@@ -12,14 +12,14 @@ loop-done-init c =
 
 pub overflow_add-at : goal.overflow_add-at
 overflow_add-at c =
-    let h = lent_within c.args.blocks.now (c.args.address + c.loop-done.done)
-    (length c.loop-done.bytes - c.loop-done.done) c.requires.kept c.loop-done.invariant.lent (omega arith) in
+    let h = lent_end c.args.blocks.now (c.args.address + c.loop-done.done)
+    (length c.loop-done.bytes - c.loop-done.done) c.requires.whole c.loop-done.invariant.lent (omega arith) in
     omega (arith, h)
 
 pub overflow_cast-at : goal.overflow_cast-at
 overflow_cast-at c =
-    let h = lent_within c.args.blocks.now (c.args.address + c.loop-done.done)
-    (length c.loop-done.bytes - c.loop-done.done) c.requires.kept c.loop-done.invariant.lent (omega arith) in
+    let h = lent_end c.args.blocks.now (c.args.address + c.loop-done.done)
+    (length c.loop-done.bytes - c.loop-done.done) c.requires.whole c.loop-done.invariant.lent (omega arith) in
     omega (arith, h)
 
 pub read_part-requires-clause-lent : goal.read_part-requires-clause-lent
@@ -33,7 +33,7 @@ loop-done-preserved c =
     let at : ℕ = 2048 * (start / 2048) + start % 2048 in
     let end : ℕ = c.loop-done.done + c.min-len.result in
     let all =
-    read_pass (shown c.args.blocks.now) c.args.address at c.loop-done.done c.min-len.result end
+    read_pass c.args.blocks.now c.args.address at c.loop-done.done c.min-len.result end
     (length c.loop-done.bytes) c.loop-done.bytes c.read_part.new.bytes refl refl (omega arith)
     (omega arith) c.loop-done.invariant.lent c.loop-done.invariant.read c.read_part.ensures.read in
     record { below = all.0; lent = all.1; read = all.2 }

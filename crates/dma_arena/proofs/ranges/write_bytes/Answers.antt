@@ -1,25 +1,25 @@
 use Rattle.std.proofs.Common.{◌≡◌, length, ℕ, ◌+◌, ◌-◌, ◌*◌, ◌/◌, ◌%◌, List, refl, arith, add-zero, take, drop}
 use Rattle.dma_arena.specs.Memory.{write_at}
-use Rattle.dma_arena.specs.Shown.{shown}
-use Rattle.dma_arena.proofs.Chunks.{lent_step, written_step, lent_first, lent_within}
+use Rattle.dma_arena.proofs.Chunks.{lent_step, written_step, lent_first}
+use Rattle.dma_arena.proofs.Bus.{lent_end}
 use Rattle.dma_arena.proofs.ranges.write_bytes.Goals as goal
 
 pub loop-done-init : goal.loop-done-init
 unfolding write_at
 loop-done-init c =
     let e : length c.args.bytes.now - 0 ≡ length c.args.bytes.now = omega arith in
-    record { kept = c.requires.kept; below = omega arith; lent = rw (add-zero, e) c.requires.lent; written = refl }
+    record { whole = c.requires.whole; below = omega arith; lent = rw (add-zero, e) c.requires.lent; written = refl }
 
 pub overflow_add-at : goal.overflow_add-at
 overflow_add-at c =
-    let h = lent_within c.loop-done.blocks (c.args.address + c.loop-done.done)
-    (length c.args.bytes.now - c.loop-done.done) c.loop-done.invariant.kept c.loop-done.invariant.lent (omega arith) in
+    let h = lent_end c.loop-done.blocks (c.args.address + c.loop-done.done)
+    (length c.args.bytes.now - c.loop-done.done) c.loop-done.invariant.whole c.loop-done.invariant.lent (omega arith) in
     omega (arith, h)
 
 pub overflow_cast-at : goal.overflow_cast-at
 overflow_cast-at c =
-    let h = lent_within c.loop-done.blocks (c.args.address + c.loop-done.done)
-    (length c.args.bytes.now - c.loop-done.done) c.loop-done.invariant.kept c.loop-done.invariant.lent (omega arith) in
+    let h = lent_end c.loop-done.blocks (c.args.address + c.loop-done.done)
+    (length c.args.bytes.now - c.loop-done.done) c.loop-done.invariant.whole c.loop-done.invariant.lent (omega arith) in
     omega (arith, h)
 
 pub write_part-requires-clause-lent : goal.write_part-requires-clause-lent
@@ -35,13 +35,13 @@ loop-done-preserved c =
     let part : List ℕ =
     take ((c.loop-done.done + c.min-len.result) - c.loop-done.done) (drop c.loop-done.done c.args.bytes.now) in
     record {
-      kept = c.write_part.ensures.kept;
+      whole = c.write_part.ensures.whole;
       below = omega arith;
-      lent = lent_step (shown c.loop-done.blocks)
-          (shown c.write_part.new.blocks) c.args.address at c.loop-done.done c.min-len.result
+      lent = lent_step c.loop-done.blocks
+          c.write_part.new.blocks c.args.address at c.loop-done.done c.min-len.result
           (length c.args.bytes.now) part c.write_part.ensures.written c.loop-done.invariant.lent (omega arith);
       written =
-          written_step (shown c.args.blocks.now) (shown c.loop-done.blocks)
-          (shown c.write_part.new.blocks) c.args.address at c.loop-done.done c.min-len.result c.args.bytes.now part
+          written_step c.args.blocks.now c.loop-done.blocks
+          c.write_part.new.blocks c.args.address at c.loop-done.done c.min-len.result c.args.bytes.now part
           c.loop-done.invariant.written c.write_part.ensures.written (omega arith) (rw len refl) (omega arith);
     }

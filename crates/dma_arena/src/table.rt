@@ -1,0 +1,199 @@
+//! The lent blocks by their numbers.
+
+ghost use Rattle.std.specs.Prelude.{ℕ, ◌≡◌, ◌↔◌, ◌+◌, ◌-◌, ◌<◌, ◌≤◌, ◌++◌, true, false, None, length, replicate, is_some, count_by, option_copied, unwrap_or, [], IsTrue, IfSome, IfNone, IfErr, IsNone, OnOk, OnErr};
+ghost use Rattle.std.specs.FinMap as map;
+ghost use Rattle.dma_arena.specs.Memory.{has_block, block_at, put_bytes};
+ghost use Rattle.dma_arena.specs.Shown.{NoneBelow, IsFirst};
+
+use crate::buf::{Buf, nothing};
+use std::alloc::{AllocError, Global};
+use std::marker::Model;
+
+/// What stands for the lowest number while no block is lent: no block has it.
+const NONE_LENT: u32 = 65536;
+
+/// The lent blocks, each at the place of its number: block `n` at place `n`.
+///
+/// Contracts see the lent numbers with the bytes of each. There are places up to the highest
+/// number that was ever lent, 65,536 at most, and only `insert` makes them.
+///
+/// It knows how many blocks it has, and the lowest of their numbers.
+pub(crate) struct Table {
+    places: Vec<Option<Buf>>,
+    first: u32,
+    count: u32,
+}
+
+impl Model for Table {
+    ghost use Rattle.std.specs.Coded.{coded_ℕ, coded_list};
+    ghost use Rattle.std.specs.FinMap as map;
+    ghost use Rattle.dma_arena.specs.Memory.{Memory};
+    ghost use Rattle.dma_arena.specs.Shown.{shown, IsTable};
+
+    ghost Value = { Memory };
+
+    ghost coded = { map.code coded_ℕ (coded_list coded_ℕ) };
+
+    ghost view = { λ t. shown t.places.items };
+
+    ghost invariant = { λ t. IsTable t.places.items t.first t.count };
+}
+
+impl Table {
+    /// A table without a block. It takes no memory.
+    pub(crate) fn new(alloc: Global) -> Table
+        ensures { result ≡ map.empty }
+    {
+        Table {
+            places: Vec::new(alloc),
+            first: NONE_LENT,
+            count: 0,
+        }
+    }
+
+    /// The block of a number. None where it is not lent.
+    pub(crate) fn get(&self, number: u32) -> Option<&Buf>
+        ensures { option_copied result ≡ block_at self.now number }
+    {
+        if number as usize >= self.places.len() {
+            return None;
+        }
+        self.places[number as usize].as_ref()
+    }
+
+    /// Whether the block of a number is lent.
+    pub(crate) fn has(&self, number: u32) -> bool
+        ensures { result ≡ has_block self.now number }
+    {
+        self.get(number).is_some()
+    }
+
+    /// Whether no block is lent.
+    pub(crate) fn is_empty(&self) -> bool
+        ensures { IsTrue result ↔ (self.now ≡ map.empty) }
+    {
+        self.first == NONE_LENT
+    }
+
+    /// The lowest number that is lent. None where no block is.
+    pub(crate) fn lowest(&self) -> Option<u32>
+        ensures none { IsNone result ↔ (self.now ≡ map.empty) }
+        ensures lent { IfSome result (λ number. IsTrue (has_block self.now number)) }
+        ensures least { IfSome result (λ number. (q : ℕ) → q < number → has_block self.now q ≡ false) }
+    {
+        if self.first == NONE_LENT {
+            return None;
+        }
+        Some(self.first)
+    }
+
+    /// Puts bytes into a lent block, from one of its bytes on. They must fit: a block has 2,048
+    /// bytes.
+    pub(crate) fn put(&mut self, number: u32, offset: usize, bytes: &[u8])
+        requires lent { has_block self.old number ≡ true }
+        requires room { offset + length bytes.now ≤ 2048 }
+        ensures { self.new
+            ≡ map.insert self.old number (put_bytes (unwrap_or (map.get self.old number) []) offset bytes.now) }
+    {
+        match &mut self.places[number as usize] {
+            Some(buf) => buf.put(offset, bytes),
+            None => unreachable!(),
+        }
+    }
+
+    /// Puts a block at the place of its number, which is not lent.
+    ///
+    /// It is handed back where there is no memory for the places up to its own; nothing is lent
+    /// then that was not.
+    pub(crate) fn insert(&mut self, buf: Buf) -> Result<(), Buf>
+        requires { has_block self.old buf.number ≡ false }
+        ensures lent { OnOk result (self.new ≡ map.insert self.old buf.number buf.bytes) }
+        ensures back { IfErr result (λ b. b ≡ buf) }
+        ensures kept { OnErr result (self.new ≡ self.old) }
+    {
+        let number = buf.block();
+        let Ok(()) = make_places(&mut self.places, number) else {
+            return Err(buf);
+        };
+        nothing(self.places[number as usize].replace(buf));
+        self.count += 1;
+        self.first = self.first.min(number);
+        Ok(())
+    }
+
+    /// Takes the block of a number out. None where it is not lent.
+    pub(crate) fn remove(&mut self, number: u32) -> Option<Buf>
+        ensures taken { result ≡ block_at self.old number }
+        ensures left { self.new ≡ map.remove self.old number }
+        ensures kept { IfNone result (self.new ≡ self.old) }
+    {
+        if number as usize >= self.places.len() {
+            return None;
+        }
+        let Some(buf) = self.places[number as usize].take() else {
+            return None;
+        };
+        self.count -= 1;
+        if number == self.first {
+            self.first = first_from(&self.places, number + 1, self.count);
+        }
+        Some(buf)
+    }
+
+    /// Ends a table without a block.
+    pub(crate) fn end(self)
+        requires { self ≡ map.empty }
+    {
+        let Table {
+            mut places,
+            first: _,
+            count: _,
+        } = self;
+        while let Some(place) = places.pop() {
+            nothing(place);
+        }
+        places.destroy_empty();
+    }
+}
+
+/// Makes places up to that of a number, below 65,536, each without a block.
+fn make_places(places: &mut Vec<Option<Buf>>, number: u32) -> Result<(), AllocError>
+    requires { number < 65536 }
+    ensures made { OnOk result (places.new.items
+        ≡ places.old.items ++ replicate (number + 1 - length places.old.items) None) }
+    ensures kept { OnErr result (places.new.items ≡ places.old.items) }
+{
+    let count = number as usize + 1;
+    if count <= places.len() {
+        return Ok(());
+    }
+    let more = count - places.len();
+    places.reserve(more)?;
+    for _made in 0..more {
+        match places.push(None) {
+            Ok(()) => {}
+            Err(_) => unreachable!(),
+        }
+    }
+    Ok(())
+}
+
+/// The first place that has a block, where none below `from` has one. `count` places have one.
+fn first_from(places: &[Option<Buf>], from: u32, count: u32) -> u32
+    requires below { NoneBelow places.now from }
+    requires few { length places.now ≤ 65536 }
+    requires counted { count ≡ count_by (λ place. is_some place) places.now }
+    ensures { IsFirst places.now result }
+{
+    if count == 0 {
+        return NONE_LENT;
+    }
+    let mut place = from as usize;
+    while place < places.len() {
+        if places[place].is_some() {
+            return place as u32;
+        }
+        place += 1;
+    }
+    NONE_LENT
+}

@@ -1,6 +1,6 @@
 /* The least that the driver's notes cost, in C: a frame's calls, and its bytes as often as notes and records keep them,
-   are written to memory that is touched for the first time, in pages of the usual size, or in huge ones where the
-   system has some to give. Prints a line for each measure: its name, how many frames, and the nanoseconds. */
+   are written to memory that is touched for the first time. Prints a line for each measure: its name, how many frames,
+   and the nanoseconds. */
 #include <stdlib.h>
 #include <string.h>
 #include <sys/mman.h>
@@ -45,7 +45,7 @@ __attribute__((noinline)) static uint8_t *note(uint8_t *at, size_t length, int l
     return at;
 }
 
-static void measure(const char *name, size_t length, int locked, int huge)
+static void measure(const char *name, size_t length, int locked)
 {
     size_t calls = EVENTS * (MADE + (locked ? ENTRY : 0));
     size_t size = FRAMES * (calls + (size_t)copies(locked) * length);
@@ -54,8 +54,6 @@ static void measure(const char *name, size_t length, int locked, int huge)
         uint8_t *fresh = mmap(NULL, size, PROT_READ | PROT_WRITE, MAP_PRIVATE | MAP_ANONYMOUS, -1, 0), *at = fresh;
         if (fresh == MAP_FAILED)
             exit(1);
-        if (huge)
-            madvise(fresh, size, MADV_HUGEPAGE);
         uint64_t began = now();
         for (int i = 0; i < FRAMES; i++)
             at = note(at, length, locked);
@@ -68,13 +66,9 @@ static void measure(const char *name, size_t length, int locked, int huge)
 int main(void)
 {
     memset(frame, 0x42, sizeof frame);
-    measure("driven60", 60, 0, 0);
-    measure("locked60", 60, 1, 0);
-    measure("driven1514", 1514, 0, 0);
-    measure("locked1514", 1514, 1, 0);
-    measure("huge_driven60", 60, 0, 1);
-    measure("huge_locked60", 60, 1, 1);
-    measure("huge_driven1514", 1514, 0, 1);
-    measure("huge_locked1514", 1514, 1, 1);
+    measure("driven60", 60, 0);
+    measure("locked60", 60, 1);
+    measure("driven1514", 1514, 0);
+    measure("locked1514", 1514, 1);
     return 0;
 }

@@ -62,7 +62,7 @@ pub record LooksLast (old : List Call) (v : Sender) (new : List Call) (w : Sende
   pub bytes : List ℕ
   pub plays : Plays old v mid before
   pub looks :
-  Adds mid new (event.Peek16 (descriptor_at before.layout (first_end before.outstanding))) (reply.Bytes bytes)
+      Adds mid new (event.Peek16 (descriptor_at before.layout (first_end before.outstanding))) (reply.Bytes bytes)
   pub waits : is_sent bytes ≡ false
   pub posted : first_end before.outstanding < before.posted
   pub accepted : before.accepted ≡ v.accepted

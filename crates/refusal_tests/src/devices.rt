@@ -65,9 +65,14 @@ pub fn ready<R: Abort>(rt: &R, alloc: Global) -> (Device, Arena) {
     (device, arena)
 }
 
-/// A block with bytes, to be lent.
+/// Block 3 with bytes, to be lent.
 pub fn to_lend<R: Abort>(rt: &R, arena: &mut Arena) -> Event {
-    let mut buf = some(rt, arena.take_at(3));
+    lending(rt, arena, 3)
+}
+
+/// A block with bytes, to be lent.
+fn lending<R: Abort>(rt: &R, arena: &mut Arena, block: u32) -> Event {
+    let mut buf = some(rt, arena.take_at(block));
     buf.bytes_mut()[100] = 0xA5;
     Event::Lend(buf)
 }
@@ -93,16 +98,13 @@ struct Stepping {
 }
 
 impl Stepping {
-    /// One on a device that is ready for it, to which fifteen blocks are lent: as many as the map of lent blocks has
-    /// room for in one node. A block is lent where there is no event.
+    /// One on a device that is ready for it. Where there is no event block 23 is lent: the table of lent blocks has no
+    /// place for its number yet.
     fn new<R: Abort>(rt: &R, alloc: Global, event: Option<Event>) -> Stepping {
-        let (mut device, mut arena) = ready(rt, alloc);
-        for block in 4..16 {
-            make(rt, &mut device, Event::Lend(some(rt, arena.take_at(block))));
-        }
+        let (device, mut arena) = ready(rt, alloc);
         let event = match event {
             Some(event) => event,
-            None => to_lend(rt, &mut arena),
+            None => lending(rt, &mut arena, 23),
         };
         Stepping {
             device,

@@ -124,7 +124,7 @@ impl Maker for Fresh {
     }
 }
 
-/// Maker something of a kind.
+/// Makes something of a kind.
 fn made<R: Abort + Wait + Print>(rt: &R, alloc: Global, kind: Kind) {
     makes(
         rt,

@@ -87,7 +87,7 @@ impl Maker for Written {
     }
 }
 
-/// Maker something of a kind.
+/// Makes something of a kind.
 fn made<R: Abort + Wait + Print>(rt: &R, alloc: Global, kind: Kind) {
     let subject = Written::new(rt, alloc, kind);
     let calm = Written::new(rt, alloc, kind);

@@ -6,7 +6,7 @@ use std::sync::Wait;
 
 /// A call with all that it needs.
 pub trait Trial {
-    /// Maker the call. False where it was refused for want of memory: then what was moved in is back here.
+    /// Makes the call. False where it was refused for want of memory: then what was moved in is back here.
     fn call<R: Abort + Wait>(&mut self, rt: &R, alloc: Global) -> bool;
 
     /// A number that shows what a refused call leaves as it was, with what is moved in.
@@ -16,7 +16,7 @@ pub trait Trial {
     fn end<R: Abort + Wait>(self, rt: &R, alloc: Global) -> u64;
 }
 
-/// Maker a call that may be refused for want of memory, and sees that all ends as for one, set up alike, that isn't.
+/// Makes a call that may be refused for want of memory, and sees that all ends as for one, set up alike, that isn't.
 pub fn tried<R: Abort + Wait + Print, T: Trial>(rt: &R, alloc: Global, subject: T, calm: T) {
     let (mut subject, mut calm) = (subject, calm);
     let before = subject.picture(rt);
@@ -71,7 +71,7 @@ impl<M: Maker> Trial for Making<M> {
     }
 }
 
-/// Maker something by a call that may be refused for want of memory, and sees that it is the same as by one that isn't.
+/// Makes something by a call that may be refused for want of memory, and sees that it is the same as by one that isn't.
 pub fn makes<R: Abort + Wait + Print, M: Maker>(rt: &R, alloc: Global, subject: M, calm: M) {
     let subject = Making {
         maker: subject,

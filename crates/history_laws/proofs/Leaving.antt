@@ -57,12 +57,10 @@ module _ (queue : ℕ) (s t : State) where
 -- a register that is no setting is none of these
 pub no_setting : (row : RowId) → is_setting row ≡ false
     → (row ≢ Ctrl) × (row ≢ Hlreg0) × (row ≢ Maxfrs) × (row ≢ GcrExt)
-no_setting row none = (
-  (λ e. let f : true ≡ false = ap is_setting (sym e) ∙ none in cc),
-  (λ e. let f : true ≡ false = ap is_setting (sym e) ∙ none in cc),
-  (λ e. let f : true ≡ false = ap is_setting (sym e) ∙ none in cc),
-  (λ e. let f : true ≡ false = ap is_setting (sym e) ∙ none in cc),
-)
+no_setting row none =
+    let other : (r : RowId) → is_setting r ≡ true → row ≢ r =
+    λ r is e. let f : true ≡ false = sym is ∙ ap is_setting (sym e) ∙ none in cc in
+    (other Ctrl refl, other Hlreg0 refl, other Maxfrs refl, other GcrExt refl)
 
 -- a register of a side of the queue is one that the queue rests on
 

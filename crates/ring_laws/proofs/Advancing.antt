@@ -1,22 +1,21 @@
 -- The driver's writes of the tail, its descriptors and its looks keep what it and the device agree on.
-use Rattle.std.proofs.Common.{[], if◌then◌else◌, ◌+◌, ◌<◌, ◌∙◌, ◌∷◌, ◌≡◌, ◌≢◌, ◌≤◌, Bool, List, ℕ, ap, arith, drop}
-use Rattle.std.proofs.Common.{false, length, refl, subst, suc, sym, true}
+use Rattle.std.proofs.Common.{[], if◌then◌else◌, ◌+◌, ◌<◌, ◌∙◌, ◌∷◌, ◌≡◌, ◌≢◌, ◌≤◌, Bool, List, ap, arith, drop, false}
 use Rattle.history_laws.specs.Prelude.{Block, Event, Memory, Outcome, Port, State, Tdt, TransmitQueue, Tx}
 use Rattle.history_laws.specs.Prelude.{WritesNoSetting, after_write, gives, named_written, place, read_at, ring_of}
-use Rattle.history_laws.specs.Prelude.{step_of, transmit_queue_of, write_at}
 use Rattle.ring_laws.specs.TransmitPrelude.{Advances, Asks, IsOwn, Looks, Move, Segment, Sender, asking, descriptor_at}
+use Rattle.ring_laws.proofs.Blocks.{Stays, ready_stays, slot-apart, slot-below, slot_looked, slot_poked, written_here}
+use Rattle.std.proofs.{Common.inl, Common.inr, Common.length, Common.refl, Common.subst, Common.sym, Common.true}
+use Rattle.std.proofs.{Common.ℕ, lemmas.Bool.both_ways, lemmas.Bool.cases_Bool, lemmas.Grind.common_steps}
+use Rattle.history_laws.specs.Prelude.{step_of, transmit_queue_of, write_at}
 use Rattle.ring_laws.specs.TransmitPrelude.{first_end, is_sent, moved, no_segment, segment_at, slot_at}
-use Rattle.ring_laws.proofs.Ring.{Stays, slot_looked, slot_poked, written_here, written_stays}
-use Rattle.ring_laws.specs.Agreeing.{Agrees, AgreesAt, IsBased, IsPosted, IsSetUp, Shows}
-use Rattle.ring_laws.proofs.Fetching.{asking-waits, done-sent, length-asking}
+use Rattle.ring_laws.specs.{Agreeing.Agrees, Agreeing.AgreesAt, Agreeing.IsBased, Agreeing.IsPosted, Agreeing.IsSetUp}
+use Rattle.ring_laws.specs.{Agreeing.Shows, TransmitUp.IsUp}
+use Rattle.ring_laws.proofs.{Blocks.written_stays, Fetching.asking-waits, Fetching.done-sent, Fetching.length-asking}
+use Rattle.ring_laws.proofs.{Sparing.Does, Sparing.based-after, Sparing.counted-on, Sparing.sends_on}
 use Rattle.nic_device.proofs.DmaArena.Bus.{small_of_lent}
 use Rattle.pmd_tx.specs.Sending.{advanced, asked, is_healthy, looked}
-use Rattle.ring_laws.proofs.Blocks.{ready_stays, slot-apart, slot-below}
-use Rattle.ring_laws.proofs.Sparing.{Does, based-after, counted-on, sends_on}
-use Rattle.std.proofs.{lemmas.Grind.common_steps, lemmas.Bool.both_ways}
 use Rattle.std.specs.Prelude.{slice_index_or, ⊤}
 use Rattle.history_laws.proofs.{Leaving.plain-write, Written.transmit-tail}
-use Rattle.ring_laws.specs.TransmitUp.{IsUp}
 use Rattle.nic_device.specs.declared.event.Event.TheVariants as event
 use Rattle.nic_device.specs.declared.event.Reply.TheVariants as reply
 
@@ -25,15 +24,12 @@ use Rattle.nic_device.specs.declared.event.Reply.TheVariants as reply
 abbrev IsLast : List Segment → ℕ → Type 0
 IsLast ss k = (slice_index_or ss k no_segment).part.last ≡ true
 
-end-of : (x : Segment) (ss : List Segment) → (first_end ss < length ss → IsLast ss (first_end ss)) → (last : Bool)
-    → x.part.last ≡ last → (if last then 0 else first_end ss + 1) < suc (length ss)
-    → IsLast (x ∷ ss) (if last then 0 else first_end ss + 1)
-end-of x ss later true is below = is
-end-of x ss later false is below = grind (arith, common_steps)
-
 pub end-last : (ss : List Segment) → first_end ss < length ss → IsLast ss (first_end ss)
 end-last [] below = absurd (omega arith)
-end-last (x ∷ ss) below = end-of x ss (end-last ss) x.part.last refl below
+end-last (x ∷ ss) below = elim (cases_Bool x.part.last) as (λ _. IsLast (x ∷ ss) (first_end (x ∷ ss))) [
+  | inl last ↦ rw last refl
+  | inr other ↦ rw other (grind (arith, common_steps, end-last ss))
+]
 
 module _ {s : State} {queue : ℕ} {sent : List (List ℕ)} {v : Sender} {f : ℕ} (h : AgreesAt s queue sent v f) where
   -- the tail is written

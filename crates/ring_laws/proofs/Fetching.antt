@@ -1,25 +1,25 @@
 -- A posted slot of the driver's ring is fetched.
 use Rattle.std.proofs.Common.{if◌then◌else◌, ◌*◌, ◌++◌, ◌+◌, ◌-◌, ◌<◌, ◌^◌, ◌∙◌, ◌∷◌, ◌≡◌, ◌≢◌, ◌≤◌, Bool, List, None}
-use Rattle.std.proofs.Common.{Ok, Some, ℕ, ap, arith, drop, false, inl, inr, length, not, refl, subst, sym, true}
 use Rattle.history_laws.specs.Prelude.{Fetched, Memory, Ring, State, TransmitQueue, done_descriptor, first_half}
 use Rattle.history_laws.specs.Prelude.{has_block, is_empty, is_lent, is_outside, read_at, second_half, sending_of}
-use Rattle.history_laws.specs.Prelude.{transmit_queue_of, write_at}
-use Rattle.ring_laws.specs.TransmitPrelude.{Segment, Sender, asking, descriptor_at, is_sent, segment_at, slot_at}
-use Rattle.nic_device.specs.DmaRing.Driver.{IsDataWord, data_command, data_word}
 use Rattle.nic_device.specs.TxRing.Fetch.{CanSend, Outcome, buffer_in, command_in, data_outcome, descriptor_of}
-use Rattle.ring_laws.proofs.Blocks.{ready_stays, slot-apart, slot-below, slot-lent}
-use Rattle.ring_laws.proofs.Ring.{Stays, address_small, ends_apart, inside_of, written_here, written_stays}
-use Rattle.ring_laws.specs.Agreeing.{AgreesAt, ArePackets, IsDone, IsReady, Shows, staged_behind}
-use Rattle.nic_device.specs.DmaRing.declared.transmit.Command.{Command}
-use Rattle.nic_device.proofs.TxRing.Reports.{done_changes_done_alone}
+use Rattle.ring_laws.proofs.Blocks.{Stays, address_small, ends_apart, inside_of, ready_stays, slot-apart, slot-below}
+use Rattle.std.proofs.Common.{Ok, Some, ap, arith, drop, false, inl, inr, length, not, refl, subst, sym, true, ℕ}
 use Rattle.std.proofs.{lemmas.Bool.cases_eq, lemmas.Bool.cases_lt, lemmas.Bool.or_right, lemmas.List.append-nil}
 use Rattle.std.proofs.{lemmas.List.length-append}
-use Rattle.nic_device.specs.{TxRing.Fetch.fetch_of, DmaRing.Ring.slots_of, DmaRing.Transmit.with_done}
-use Rattle.nic_device.specs.{TxRing.Frame.frame_of, TxRing.Laws.HasData, TxRing.Laws.command_at}
-use Rattle.nic_device.specs.{TxRing.Report.head_address, TxRing.Report.new_head, TxRing.declared.tx.Tx.Tx}
-use Rattle.std.specs.Prelude.{IsTrue, ⊤}
+use Rattle.history_laws.specs.Prelude.{transmit_queue_of, write_at}
+use Rattle.nic_device.specs.{DmaRing.Driver.IsDataWord, DmaRing.Driver.data_command, DmaRing.Driver.data_word}
+use Rattle.nic_device.specs.{DmaRing.Ring.slots_of, DmaRing.Transmit.with_done}
+use Rattle.nic_device.specs.{DmaRing.declared.transmit.Command.Command, TxRing.Fetch.fetch_of, TxRing.Frame.frame_of}
+use Rattle.nic_device.specs.{TxRing.Laws.HasData, TxRing.Laws.command_at, TxRing.Report.head_address}
+use Rattle.nic_device.specs.{TxRing.Report.new_head, TxRing.declared.tx.Tx.Tx}
+use Rattle.ring_laws.proofs.Blocks.{slot-lent, written_here, written_stays}
+use Rattle.ring_laws.specs.TransmitPrelude.{Segment, Sender, asking, descriptor_at, is_sent, segment_at, slot_at}
+use Rattle.ring_laws.specs.Agreeing.{AgreesAt, ArePackets, IsDone, IsReady, Shows, staged_behind}
 use Rattle.nic_device.proofs.{DmaArena.Blocks.is_lent_in, DmaArena.Bus.small_of_lent, DmaRing.Agreement.data_is_asked}
-use Rattle.nic_device.proofs.{DmaRing.Fields.halves_come_back, TxRing.Tests.tests_in_order}
+use Rattle.nic_device.proofs.{DmaRing.Fields.halves_come_back, TxRing.Reports.done_changes_done_alone}
+use Rattle.nic_device.proofs.{TxRing.Tests.tests_in_order}
+use Rattle.std.specs.Prelude.{IsTrue, ⊤}
 use Rattle.pmd_tx.proofs.PmdSeam.Rings.{each_first}
 
 -- A posted slot that is fetched: its segment is staged, and at the end of a packet that goes out, and the descriptor is

@@ -1,20 +1,20 @@
 -- Each move of the driver's keeps what it and the device agree on, and its replies are those of a healthy queue.
-use Rattle.std.proofs.Common.{[], ◌++◌, ◌+◌, ◌-◌, ◌<◌, ◌∷◌, ◌≡◌, ◌≢◌, ◌≤◌, List, ℕ, ap, arith, drop, length, refl}
+use Rattle.std.proofs.Common.{[], ◌++◌, ◌+◌, ◌-◌, ◌<◌, ◌∷◌, ◌≡◌, ◌≢◌, ◌≤◌, List, ap, arith, drop, length, refl, subst}
 use Rattle.history_laws.specs.Prelude.{Block, Event, Memory, State, TransmitQueue, Tx, after, read_at, reply_to}
 use Rattle.ring_laws.specs.TransmitPrelude.{Accepts, Advances, Asks, Elsewhere, IsOwn, Kept, Lends, Looks, MayAccept}
 use Rattle.ring_laws.specs.TransmitPrelude.{Move, Outgoing, Reaps, Segment, Sender, descriptor_at, moved, no_segment}
-use Rattle.ring_laws.proofs.Blocks.{descriptor-later, later-layout, ready_stays, slot-below}
-use Rattle.ring_laws.proofs.Packets.{count-accepted, counted-lent, early-accepted, known-accepted, sends-accepted}
-use Rattle.ring_laws.proofs.Sparing.{based-after, never-shuts, spared_did, spares-keeps}
+use Rattle.ring_laws.proofs.TransmitLent.{count-accepted, counted-lent, early-accepted, first_at, known-accepted}
 use Rattle.ring_laws.specs.Agreeing.{Agrees, AgreesAt, IsBased, IsCounted, IsLayout, IsReady, IsSetUp, SendsInOrder}
-use Rattle.ring_laws.proofs.Advancing.{Keeps, Moves, advance_one, ask_one, by_outcome, look_one}
-use Rattle.ring_laws.specs.TransmitHealthy.{LendsAnew, OwnRepliesAreHealthy}
-use Rattle.std.proofs.{Common.subst, Common.sym, Common.true, lemmas.Grind.common_steps, lemmas.List.append-nil}
+use Rattle.std.proofs.{Common.sym, Common.true, Common.ℕ, lemmas.Grind.common_steps, lemmas.List.append-nil}
 use Rattle.std.proofs.{lemmas.List.length-drop}
 use Rattle.history_laws.specs.Prelude.{step_of, transmit_queue_of}
-use Rattle.ring_laws.specs.{TransmitPrelude.segment_at, TransmitPrelude.segments_of, Agreeing.Shows, Laws.MovesKeep}
-use Rattle.ring_laws.specs.{Sent.sent_by, Turns.MayMove, TransmitUp.IsUp, TransmitUp.UpStays}
-use Rattle.ring_laws.proofs.{Packets.shows-lent, Ring.Stays, Ring.same_stays, TransmitLent.first_at}
+use Rattle.ring_laws.specs.{Agreeing.Shows, Laws.MovesKeep, Sent.sent_by, TransmitHealthy.LendsAnew}
+use Rattle.ring_laws.specs.{TransmitHealthy.OwnRepliesAreHealthy, TransmitPrelude.segment_at}
+use Rattle.ring_laws.specs.{TransmitPrelude.segments_of, TransmitUp.IsUp, TransmitUp.UpStays, Turns.MayMove}
+use Rattle.ring_laws.proofs.Blocks.{Stays, descriptor-later, later-layout, ready_stays, same_stays, slot-below}
+use Rattle.ring_laws.proofs.Advancing.{Keeps, Moves, advance_one, ask_one, by_outcome, look_one}
+use Rattle.ring_laws.proofs.{Sparing.based-after, Sparing.never-shuts, Sparing.spared_did, Sparing.spares-keeps}
+use Rattle.ring_laws.proofs.{TransmitLent.sends-accepted, TransmitLent.shows-lent}
 use Rattle.std.specs.Prelude.{slice_index_or, ⊤}
 use Rattle.nic_device.proofs.{Cases.lent_cases, DmaArena.Bus.get-remove_other, DmaArena.Bus.of_some}
 use Rattle.pmd_tx.proofs.PmdSeam.Rings.{ring_block_apart}

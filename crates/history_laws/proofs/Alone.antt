@@ -73,7 +73,8 @@ behind : (w : Watched) (s : State) (g h : List Entry) → LeavesAloneFrom w s (g
     (after : List Entry) → h ≡ before ++ e ∷ after → IsTrue (has_begun w.pass (g ++ before))
     → EntryLeavesAlone w (lent_by w.pass (g ++ h)) (mode_in (leads_to (leads_to s g) before).registers) e
 behind w s g h alone before e after split begun =
-    subst (λ (x : State). EntryLeavesAlone w (lent_by w.pass (g ++ h)) (mode_in x.registers) e) (leads-append s g before)
+    subst (λ (x : State). EntryLeavesAlone w (lent_by w.pass (g ++ h)) (mode_in x.registers) e)
+    (leads-append s g before)
     (alone (g ++ before) e after
     (ap (λ (xs : List Entry). g ++ xs) split ∙ sym (append_assoc g before (e ∷ after))) begun)
 

@@ -224,6 +224,7 @@ module _ (P : List Waiting → Type 0) (s : State) (now : P s.waiting) where
   waiting_changed (event.QueueStep Rx on) parts =
       switched_cases Wait s Rx on now now
       (cond_both (is_wanted s.registers Rx on) _ _ (λ (t : State). P t.waiting) (λ wanted. now) parts)
-  waiting_changed (event.QueueStep Tx on) none = subst P (sym ((stays_within s (event.QueueStep Tx on)).waiting refl)) now
+  waiting_changed (event.QueueStep Tx on) none =
+      subst P (sym ((stays_within s (event.QueueStep Tx on)).waiting refl)) now
   waiting_changed (event.Read port n) none = subst P (sym (read_rest s port n).frames.waiting) now
   waiting_changed e none = subst P (sym ((stays_within s e).waiting refl)) now

@@ -114,12 +114,7 @@ module _ (ring size slot : ℕ) (below : slot < size) (m : Memory) (bytes : List
       λ c len apart.
       read_at-write_at_apart m (descriptor_in ring slot) bytes c len
       (subst (λ k. AreApart c len (descriptor_in ring slot) k) (sym long) apart) in
-      record {
-        has = λ k i. same (ring + k);
-        slot = λ j i ne. reads (descriptor_in ring j) 16 (slots_apart ring j slot ne);
-        bytes = λ b len other is short. reads (2048 * b) len (buffer_and_slot b len ring size slot other short below);
-        there = λ b is. same b;
-      }
+      (grind (arith, common_steps, slot, slots_apart, buffer_and_slot))
 
   pub written_here : IsWhole m → EachRingBlock ring size (λ b. IsTrue (has_block m b))
       → read_at written (descriptor_in ring slot) 16 ≡ bytes

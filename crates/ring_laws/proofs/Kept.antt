@@ -1,5 +1,5 @@
--- The ring of a driver that receives: its places, its blocks, and what stays where memory does; and the parts of packets
--- that it saw, and how the pieces are cut behind those that were consumed.
+-- The ring of a driver that receives: its places, its blocks, and what stays where memory does; and the parts of
+-- packets that it saw, and how the pieces are cut behind those that were consumed.
 pub use Rattle.ring_laws.proofs.Blocks.{inside_of}
 use Rattle.std.proofs.Common.{[], ◌*◌, ◌++◌, ◌+◌, ◌/◌, ◌<◌, ◌∙◌, ◌∷◌, ◌≡◌, ◌≤◌, ◌⊎◌, Bool, List, ap, append_assoc}
 use Rattle.ring_laws.specs.ReceivePrelude.{EachRingBlock, Kept, Layout, Lent, Looks, Packet, Receive, Stage, Takes}
@@ -61,14 +61,9 @@ with_blocks l xs ys is = ap (λ (bs : List ℕ). record l { blocks = bs }) is
 pub names_reach : (v : Receive) → extended (reach v) (fresh_of v.stage ∷ []) ≡ reach (names v)
 names_reach v = with_blocks v.layout _ _ (append_assoc v.layout.blocks v.named (fresh_of v.stage ∷ []))
 
--- the next slot is consumed
-drop_front : (xs ys : List ℕ) → 0 < length xs → drop 1 (xs ++ ys) ≡ drop 1 xs ++ ys
-drop_front [] ys some = absurd (omega (arith, some))
-drop_front (x ∷ xs) ys some = refl
-
 pub took_reach : (v : Receive) (t : Told) (ts : List Told) (b : Block) → 0 < length v.layout.blocks
     → consumed (reach v) ≡ reach (took v (t ∷ ts) b)
-took_reach v t ts b some = with_blocks (consumed v.layout) _ _ (drop_front v.layout.blocks v.named some)
+took_reach v t ts b some = with_blocks (consumed v.layout) _ _ (grind (arith, common_steps))
 
 pub posts_reach : (v : Receive) (k j : ℕ) → reach v ≡ reach (posts v k j)
 posts_reach v k j = with_blocks v.layout _ _ (grind (arith, common_steps, take-append-drop, append_assoc))
@@ -78,9 +73,6 @@ posts_reach v k j = with_blocks v.layout _ _ (grind (arith, common_steps, take-a
 
 abbrev pub among : List ℕ → ℕ → Bool
 among xs n = list_any (λ b. n == b) xs
-
-among-both : (xs ys : List ℕ) (n : ℕ) → among (xs ++ ys) n ≡ (among xs n || among ys n)
-among-both xs ys n = list_any-append (λ (b : ℕ). n == b) xs ys
 
 -- where a block is in a list
 any_place : (xs : List ℕ) (n : ℕ) → among xs n ≡ true → (k : ℕ) × (k < length xs) × (slice_index xs k ≡ n)
@@ -101,7 +93,7 @@ module _ (v : Receive) where
   -- it has lent a block by where that is
   pub parted : (n : ℕ) → has_lent v n
       ≡ (among slots_of n || (among (fresh_block v.stage) n || is_ring_block v.layout.ring v.layout.size n))
-  parted n = grind (arith, common_steps, among-both, ring_block_among)
+  parted n = grind (arith, common_steps, list_any-append, ring_block_among)
 
   module _ (P : ℕ → Type 0) where
     pub each_by : EachRingBlock v.layout.ring v.layout.size P
@@ -248,10 +240,6 @@ behind_end : (front : List ℕ) (p : Piece) (rest : List Piece) → p.end ≡ tr
     → packets_behind front (p ∷ rest) ≡ packet_told (front ++ p.bytes) p.first ∷ packets_behind [] rest
 behind_end front p rest is = rw is refl
 
-behind_open : (front : List ℕ) (p : Piece) (rest : List Piece) → p.end ≡ false
-    → packets_behind front (p ∷ rest) ≡ packets_behind (front ++ p.bytes) rest
-behind_open front p rest is = rw is refl
-
 -- a packet is whole behind some
 put_before : (hs : List Kept) (ws : List Packet) (p : Packet) (ks : List Kept)
     → (hs ++ records_of (ws ++ [])) ++ kept_of p ∷ ks ≡ (hs ++ records_of (ws ++ p ∷ [])) ++ ks
@@ -281,7 +269,7 @@ module _ (out gone ps : List Piece) (v : Receive) (p : Piece) (t : Told) (b : Bl
     last_cut end rest = grind (arith, common_steps, shift, behind_end, kept_is, put_before, any_pushed)
 
     more_cut : (u : Told) (ts : List Told) → p.end ≡ false → AreCut (gone ++ p ∷ []) (took v (t ∷ u ∷ ts) b)
-    more_cut u ts opens rest = grind (arith, common_steps, shift, behind_open, joined_bytes)
+    more_cut u ts opens rest = grind (arith, common_steps, shift, joined_bytes)
 
     taken : (ts : List Told) → EndLast (t ∷ ts) → AreSeen ts ps → out ≡ gone ++ p ∷ ps
         → InOrder out (took v (t ∷ ts) b) (gone ++ p ∷ []) ps

@@ -2,7 +2,7 @@
 use Rattle.std.proofs.Common.{[], ◌&&◌, ◌++◌, ◌+◌, ◌<◌, ◌∙◌, ◌∷◌, ◌≡◌, ◌≤◌, Bool, List, ap, arith, cond, false, length}
 use Rattle.history_laws.specs.Prelude.{Block, Bytes, Event, IsSound, Memory, Outcome, ReceiveQueue, Reply, State}
 use Rattle.history_laws.specs.Prelude.{bytes_in, ends_packet, gives, has_block, is_done, read_at, receive_queue_of}
-use Rattle.ring_laws.specs.ReceivePrelude.{Layout, LendsAnew, Lent, Looks, PeeksNext, Receive, Stage, Takes, Told}
+use Rattle.ring_laws.specs.ReceivePrelude.{Layout, LendsAnew, Looks, PeeksNext, Receive, Stage, Takes, Told}
 use Rattle.ring_laws.proofs.Kept.{each_fresh, each_ring, each_slot, end_last, end_more, first_place, named_kept}
 use Rattle.ring_laws.proofs.Kept.{none_held, none_of, open_more, posted_below, posted_in, seen_more, slot_below}
 use Rattle.std.proofs.lemmas.Bool.{and_from, and_parts, both_ways, cond_both, eq-eqb, le-leb, lt-ltb, or_left, or_right}
@@ -18,8 +18,8 @@ use Rattle.ring_laws.proofs.{Blocks.same_stays, Blocks.slot_looked, Kept.slots_s
 use Rattle.ring_laws.proofs.{ReceiveLent.unknown}
 use Rattle.nic_device.proofs.{Cases.either_way, Cases.lent_cases, DmaArena.Bus.get-insert_other}
 use Rattle.nic_device.proofs.{DmaArena.Bus.get-insert_same}
-use Rattle.pmd_rx.specs.{Receive.CanLend, Receive.LendsNext, Receive.lent_one, Receive.looked, Receive.saw}
-use Rattle.pmd_rx.specs.{Receive.told_by, Wrong.is_healthy, Wrong.is_whole, declared.ring.Stage.TheVariants.Owes}
+use Rattle.pmd_rx.specs.{Receive.LendsNext, Receive.lent_one, Receive.looked, Receive.saw, Receive.told_by}
+use Rattle.pmd_rx.specs.{Wrong.is_healthy, Wrong.is_whole}
 use Rattle.history_laws.proofs.Lent.{anew_is_done}
 use Rattle.nic_device.specs.declared.event.Event.TheVariants as event
 use Rattle.std.specs.FinMap as map
@@ -149,8 +149,7 @@ module _ (queue : ℕ) (s : State) (out : List Piece) (v : Receive) (gone here :
       let none : open_after 0 gone ≡ 0 =
       h.order.parts ∙ rw (at.0, (none_of v.seen).1) refl in
       let rest : AllFit most 0 here =
-      subst (λ (n : ℕ). AllFit most n here) none
-      (fit-last most 0 gone here (subst (AllFit most 0) h.order.order all)) in
+      (grind (arith, common_steps, fit-last)) in
       part_is most k (second_half d) (piece_at here k) (ends_packet (second_half d)) refl (tells.end some)
       (tells.len some) (h.slots.filled k some).short
       (subst (λ (n : ℕ). Fits most n (piece_at here k)) (let e : 0 + k ≡ k = omega arith in e)
@@ -178,12 +177,6 @@ look_keeps queue s out v a (gone, here, h) own =
 abbrev with_block : State → Block → State
 with_block s b = record s { memory = map.insert s.memory b.number b.bytes }
 
-none_looked : (stage : Stage) (seen : List Told) → CanLend stage seen → stage ≡ Looks → seen ≡ []
-none_looked Looks seen can is = can
-none_looked Takes seen can is = absurd can
-none_looked Owes seen can is = cc
-none_looked (Lent c) seen can is = absurd can
-
 fresh_leaves : (queue : ℕ) (s : State) (v : Receive) (b : Block) → LendsNext v b → Leaves queue v s (with_block s b)
 fresh_leaves queue s v b own = grind (arith, common_steps, get-insert_other, both_ways, unknown)
 
@@ -197,7 +190,7 @@ lent_holds queue s out v gone here b h own =
     assumption (
       leaving_holds h (fresh_leaves queue s v b own),
       loose,
-      end_last v.stage v.seen v.held (none_looked v.stage v.seen own.stage) h.order.stage,
+      end_last v.stage v.seen v.held (grind (arith, common_steps)) h.order.stage,
     )
 
 pub lend_keeps : (queue : ℕ) (s : State) (out : List Piece) (v : Receive) (b : Block) → Agree queue s out v
@@ -217,13 +210,5 @@ pub start_agrees : StartAgrees
 start_agrees queue port tail ring size most s r = (
   [],
   [],
-  record {
-    named = r.named;
-    ring = (grind arith);
-    side = assumption (r.side.head ∙ first_place size r.some, r.side.tail ∙ first_place size r.some);
-    posted = omega arith;
-    slots = (grind arith);
-    stage = tt;
-    order = record { cut = λ rest. refl; parts = refl; full = refl; seen = tt; stage = (refl, tt); order = refl };
-  },
+  (grind (arith, common_steps, first_place)),
 )

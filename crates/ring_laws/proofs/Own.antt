@@ -4,19 +4,18 @@ use Rattle.std.proofs.Common.{[], ◌*◌, ◌++◌, ◌+◌, ◌<◌, ◌∙◌
 use Rattle.std.proofs.lemmas.List.{append-nil, get_or-drop, length-append, length-drop, length-take-le, length_push}
 use Rattle.history_laws.specs.Prelude.{Block, Done, Event, IsWhole, Memory, Port, Rdt, ReceiveQueue, State, after_write}
 use Rattle.history_laws.specs.Prelude.{bytes_in, gives, named_written, place, read_at, receive_queue_of, step_of}
-use Rattle.ring_laws.specs.ReceivePrelude.{IsOwn, Layout, Lent, Looks, MovesNext, NamesNext, Packet, Receive, Stage}
-use Rattle.ring_laws.specs.ReceivePrelude.{Told, block_at, descriptor_at, drive, ended_of, extended, fresh_of}
-use Rattle.ring_laws.specs.ReceivePrelude.{is_ring_block, names, next_stage, posts, reach, records_of, slot_at, took}
+use Rattle.ring_laws.specs.ReceivePrelude.{IsOwn, Layout, Lent, MovesNext, NamesNext, Packet, Receive, Told, block_at}
+use Rattle.ring_laws.specs.ReceivePrelude.{descriptor_at, drive, ended_of, extended, fresh_of, is_ring_block, names}
 use Rattle.ring_laws.specs.Joint.{Agree, HasSlots, Holds, InOrder, IsFilled, IsLoose, IsNamed, IsPosted, IsRing}
 use Rattle.ring_laws.proofs.Kept.{end_last, filled_stays, first_saw, named_kept, names_reach, next_at, order_on}
 use Rattle.ring_laws.proofs.Kept.{order_same, posted_block, posted_stays, posts_reach, push_place, reach_long}
 use Rattle.std.proofs.Common.{drop, false, length, refl, subst, sym, take, ℕ}
 use Rattle.std.proofs.{lemmas.Bool.cases_lt, lemmas.Bool.eqb-false, lemmas.Bool.eqb-true, lemmas.Grind.common_steps}
 use Rattle.std.proofs.{lemmas.List.map-append, lemmas.List.take-append-drop, lemmas.List.take_all}
-use Rattle.history_laws.specs.{Prelude.write_at, Sides.receive_side}
+use Rattle.history_laws.specs.Prelude.{write_at}
+use Rattle.ring_laws.specs.ReceivePrelude.{next_stage, posts, reach, records_of, slot_at, took, vacant}
 use Rattle.ring_laws.specs.{Joint.IsSetUp, Joint.StageHolds, Joint.packets_had, Pieces.Piece, Pieces.no_piece}
-use Rattle.ring_laws.specs.{Pieces.piece_at, Pieces.pieces, ReceiveHealthy.OwnRepliesAreHealthy, ReceivePrelude.vacant}
-use Rattle.ring_laws.specs.{Steps.OwnEventKeeps}
+use Rattle.ring_laws.specs.{Pieces.piece_at, Pieces.pieces, ReceiveHealthy.OwnRepliesAreHealthy, Steps.OwnEventKeeps}
 use Rattle.ring_laws.proofs.Kept.{seen_within, slot_below, slots_stay, stage_stays, taking, took_reach, twice}
 use Rattle.ring_laws.proofs.Blocks.{Stays, same_stays, slot_poked, written_here, written_stays}
 use Rattle.ring_laws.proofs.Leaving.{Driven, by_outcome, lend_keeps, look_keeps}
@@ -30,7 +29,6 @@ use Rattle.nic_device.specs.{RegisterLaws.Sound.HasShape}
 use Rattle.pmd_rx.proofs.{PmdSeam.Places.next_below, PmdSeam.Places.wrapped_apart, PmdSeam.Rings.ring_block_apart}
 use Rattle.nic_device.specs.declared.event.Event.TheVariants as event
 use Rattle.nic_device.specs.declared.event.Reply.TheVariants as reply
-use Rattle.history_laws.specs.Sides as sides
 use Rattle.std.specs.FinMap as map
 
 -- A write of the tail of the queue through the driver's number for it.
@@ -103,15 +101,6 @@ module _ (m : Memory) (l : Layout) (here : List Piece) (ring : IsRing l) (h : Ha
   pub named_loose : IsLoose n l b
   named_loose = stage_stays ring stays (Lent b) tt loose
 
-loose_of : (m : Memory) (l : Layout) (stage : Stage) → HasLent stage → StageHolds m l stage
-    → IsLoose m l (fresh_of stage)
-loose_of m l (Lent b) lent h = h
-loose_of m l other lent h = absurd lent
-
-not_looks : (stage : Stage) (seen : List Told) → HasLent stage → stage ≡ Looks → seen ≡ []
-not_looks (Lent b) seen lent is = cc
-not_looks other seen lent is = absurd lent
-
 next_holds : (m : Memory) (l : Layout) (seen : List Told) → StageHolds m l (next_stage seen)
 next_holds m l [] = tt
 next_holds m l (t ∷ ts) = tt
@@ -122,7 +111,7 @@ names_had v = grind (arith, common_steps, append-nil, twice v.seen v.held)
 order_named : (out gone here : List Piece) (v : Receive) → HasLent v.stage → InOrder out v gone here
     → InOrder out (names v) gone here
 order_named out gone here v lent o =
-    grind (arith, common_steps, order_same, names_had, twice v.seen v.held, next_at, end_last, not_looks)
+    grind (arith, common_steps, order_same, names_had, twice v.seen v.held, next_at, end_last)
 
 pub name_keeps : (queue : ℕ) (s : State) (out : List Piece) (v : Receive) (a : ℕ) (bytes : List ℕ)
     → Agree queue s out v → NamesNext v a bytes → Driven queue s out v (event.Poke16 a bytes)
@@ -131,7 +120,7 @@ name_keeps queue s out v a bytes (gone, here, h) own =
     let b = fresh_of v.stage in
     let at = descriptor_at l (vacant l) in
     let t : State = record s { memory = write_at s.memory at (naming b) } in
-    let loose : IsLoose s.memory l b = loose_of s.memory l v.stage own.stage h.stage in
+    let loose : IsLoose s.memory l b = (grind (arith, common_steps)) in
     let same : extended l (b ∷ []) ≡ reach (names v) = names_reach v in
     by_outcome queue s out v (event.Poke16 a bytes) (event.Poke16 at (naming b)) _
     (λ k. event.Poke16 (own.address k) (own.bytes_are k))
@@ -222,9 +211,7 @@ move_keeps queue s out v port number word (gone, here, h) own =
           subst (Agree queue (To word) out) (sym m.driver)
           (subst (λ x. Agree queue (To x) out (posts v m.blocks m.packets)) (sym m.word_is)
           (gone, here, posts_holds v m.blocks m.packets queue s out gone here i.registers.shape h));
-      up = λ i up.
-          subst sides.IsUp (sym (ap receive_side (receive-tail s.registers queue word i.registers.shape h.named.low
-          (grind (arith, common_steps, moved_is, tail_low))))) (assumption up);
+      up = (grind (arith, common_steps, receive-tail, moved_is, tail_low));
       healthy = λ all anew. refl;
     })
 
@@ -253,8 +240,8 @@ module _ (m : Memory) (l : Layout) (here : List Piece) (ring : IsRing l) (h : Ha
   desc_on : (k : ℕ) → k + 1 < l.size → descriptor_at (consumed l) k ≡ descriptor_at l (1 + k)
   desc_on k i = ap (λ x. 2048 * l.ring + 16 * x) (grind arith)
 
-  beside_stays : Stays l.ring l.size m without (λ j. ⊤) (λ b. map.get without b ≡ map.get m b)
-  beside_stays =
+  kept_stays : Stays l.ring l.size m without (λ j. ⊤) (λ b. map.get without b ≡ map.get m b)
+  kept_stays =
       same_stays l.ring l.size m without (λ k i. get-remove_other m (block_at l 0) (l.ring + k)
       (λ e. ring_block_apart l.ring l.size (block_at l 0) (ring.not_ring 0 outs) k i (sym e)))
 
@@ -268,12 +255,14 @@ module _ (m : Memory) (l : Layout) (here : List Piece) (ring : IsRing l) (h : Ha
   pub slots_on : HasSlots without (consumed l) (drop 1 here)
   slots_on =
       record {
-        there = λ k i. beside_stays.has k i ∙ h.there k i;
+        there = λ k i. kept_stays.has k i ∙ h.there k i;
         within = omega (arith, fewer, less, h.within);
         filled =
-            (λ k i. grind (arith, common_steps, fewer, desc_on, block_on, piece_on, filled_stays, beside_stays, kept_block));
+            (λ k i.
+            grind (arith, common_steps, fewer, desc_on, block_on, piece_on, filled_stays, kept_stays, kept_block));
         posted =
-            (λ k i j. grind (arith, common_steps, less, desc_on, block_on, posted_stays, beside_stays, kept_block, fewer));
+            (λ k i j.
+            grind (arith, common_steps, less, desc_on, block_on, posted_stays, kept_stays, kept_block, fewer));
       }
 
 -- the queue's side, by the posted slots

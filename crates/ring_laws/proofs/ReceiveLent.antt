@@ -8,7 +8,6 @@ use Rattle.std.specs.Prelude.{◌==◌, IsTrue, slice_index, suc}
 use Rattle.history_laws.specs.{Lent.LendsOneOf, Lent.LendsOwn, Lent.OnlyLent, Lent.either, Prelude.Block}
 use Rattle.history_laws.specs.{Prelude.Blocks, Prelude.Event, Prelude.Reply, Prelude.State}
 use Rattle.pmd_rx.specs.{Keeping.fresh_block, Keeping.has_lent, Receive.CanLend, Receive.LendsNext, Receive.lent_one}
-use Rattle.pmd_rx.specs.{Receive.moved}
 use Rattle.history_laws.proofs.Lent.{Follows, follows_in, follows_known, only_lent_stays, or_swap}
 use Rattle.ring_laws.proofs.Kept.{among, parted, ring_of, slots_of}
 use Rattle.nic_device.specs.declared.event.Event.TheVariants as event
@@ -21,10 +20,6 @@ among-insert xs ys b n = grind (arith, common_steps, or_swap, among)
 in_rest : (xs ys : List ℕ) (n : ℕ) → n ≢ slice_index xs 0 → among (xs ++ ys) n ≡ true → among (drop 1 xs ++ ys) n ≡ true
 in_rest xs ys n h1 h2 = grind (arith, common_steps, or_cases, among, eqb-true)
 
-of_rest : (xs ys : List ℕ) (n : ℕ) → among (drop 1 xs ++ ys) n ≡ true → among (xs ++ ys) n ≡ true
-of_rest [] ys n is = is
-of_rest (x ∷ xs) ys n is = or_right (n == x) (among (xs ++ ys) n) is
-
 in_none : (xs : List ℕ) (n : ℕ) → ((k : ℕ) → k < length xs → slice_index xs k ≢ n) → among xs n ≡ false
 in_none [] n none = refl
 in_none (x ∷ xs) n none =
@@ -36,14 +31,11 @@ module _ (v : Receive) (n : ℕ) where
   abbrev Had : List ℕ → List ℕ → Bool
   Had slots fresh = among (slots ++ (fresh ++ ring_of v)) n
 
-  is_moved : (word : ℕ) → has_lent (moved v word) n ≡ has_lent v n
-  is_moved word = grind (arith, common_steps)
-
   -- without the first block
   took_has : (seen : List Told) (taken : ℕ) (b : Block) → v.stage ≡ Takes → taken ≡ slice_index v.layout.blocks 0
       → (n ≢ taken → has_lent v n ≡ true → has_lent (took v seen b) n ≡ true)
       × (has_lent (took v seen b) n ≡ true → has_lent v n ≡ true)
-  took_has seen taken b h1 h2 = grind (arith, common_steps, among, ring_of, slots_of, append_assoc, in_rest, of_rest)
+  took_has seen taken b h1 h2 = grind (arith, common_steps, among, ring_of, slots_of, append_assoc, in_rest, or_right)
 
   -- a fresh block is lent
 
@@ -52,12 +44,12 @@ module _ (v : Receive) (n : ℕ) where
   lend_block other seen can = refl
 
   is_lent_one : (b : Block) → LendsNext v b → has_lent (lent_one v b.number) n ≡ (n == b.number || has_lent v n)
-  is_lent_one b own = grind (arith, common_steps, among-insert, slots_of, ring_of, lend_block)
+  is_lent_one b own = grind (arith, common_steps, among-insert, slots_of, ring_of)
 
 module _ (v : Receive) where
   follows : (e : Event Block) → IsOwn v e → (r : Reply Block) (n : ℕ)
       → Follows (has_lent v) (has_lent (drive v e r)) e r n
-  follows e h1 r n = grind (arith, common_steps, took_has, is_lent_one, is_moved)
+  follows e h1 r n = grind (arith, common_steps, took_has, is_lent_one)
 
   -- a block that may be lent isn't lent yet
   pub unknown : (b : Block) → LendsNext v b → has_lent v b.number ≡ false

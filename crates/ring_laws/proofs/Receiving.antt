@@ -69,11 +69,7 @@ module _ {queue : ℕ} {s : State} {out : List Piece} {v : Receive} {gone here :
   pub healthy : HasRoom → IsHealthy s.memory own.ring own.control
   healthy room =
       record {
-        set_up = record {
-          inside = inside;
-          one_buffer = h.side.one_buffer;
-          sized = λ e. absurd (omega (arith, h.side.buffer_size, e));
-        };
+        set_up = (grind (arith, common_steps, inside));
         descriptor =
             rw head_is
             (slot_lent l.ring l.size (slot_at l (length here)) (slot_below l (length here) h.ring h.slots.within)

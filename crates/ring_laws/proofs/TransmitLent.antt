@@ -57,8 +57,8 @@ module _ (limit whole : ℕ) where
       let both = length-append staged (take 2048 bytes) in
       let cut = length-append (take 2048 bytes) (drop 2048 bytes) in
       let all = take-append-drop 2048 bytes in
-      let rest = packet-parts c bs (staged ++ take 2048 bytes) (drop 2048 bytes) (omega (arith, both, cut, ap length all))
-      (omega (arith, both, cut, ap length all)) in (
+      let rest = packet-parts c bs (staged ++ take 2048 bytes) (drop 2048 bytes)
+      (omega (arith, both, cut, ap length all)) (omega (arith, both, cut, ap length all)) in (
         rest.0 ∙ ap (λ (l : List ℕ). l ∷ [])
             (append_assoc staged (take 2048 bytes) (drop 2048 bytes) ∙ ap (λ (l : List ℕ). staged ++ l) all),
         (omega (arith, both, cut, ap length all), (λ never. absurd (let e : false ≡ true = never in cc)), rest.1),

@@ -74,15 +74,12 @@ few_by queue s (event.TxStep on) =
     (omega arith)
 few_by queue s other = omega arith
 
-few_counted : (queue : ℕ) (s : State) (e : Event Block) (sent : List (List ℕ))
-    → length (counted_by queue s e sent) ≤ length sent + 1
-few_counted queue s e sent = grind (arith, common_steps, either_way, length-append, few_by)
-
 few : (queue : ℕ) (s : State) (sent : List (List ℕ)) (h : List Entry)
     → length (sent_since queue s sent h) ≤ length sent + length h
 few queue s sent [] = omega arith
 few queue s sent (e ∷ es) =
-    grind (arith, common_steps, few_counted, few queue (after s e.event) (counted_by queue s e.event sent) es)
+    let rest = few queue (after s e.event) (counted_by queue s e.event sent) es in
+    grind (arith, common_steps, either_way, length-append, few_by, rest)
 
 pub sent_is_counted : SentIsCounted
 sent_is_counted = record { never = never; last = last; joined = joined; end = end; few = few }

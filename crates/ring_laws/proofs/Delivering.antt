@@ -4,20 +4,20 @@ use Rattle.std.proofs.Common.{[], ◌&&◌, ◌++◌, ◌∙◌, ◌∷◌, ◌�
 use Rattle.std.proofs.lemmas.Bool.{and_from, both_ways, cases_Bool, cases_lt, eq-eqb, eqb-false, eqb-true, lt-ltb}
 use Rattle.history_laws.specs.Prelude.{AreEvents, Block, Blocks, Entry, EntryLeavesAlone, Event, IsEvent, IsLegal}
 use Rattle.history_laws.specs.Prelude.{IsSound, Reply, State, Watched, after, calls_of, leads_to, lent_by, mode_in}
-use Rattle.ring_laws.specs.ReceivePrelude.{IsOwn, Kept, Looks, Receive, Stage, Told, drive, ended_of, is_step, kept_of}
 use Rattle.ring_laws.specs.Histories.{AllSpare, FindsNone, IsDriven, NoneIsAllBefore, ShowsNone, Spares, SparesReceive}
-use Rattle.ring_laws.proofs.{Foreign.entry_keeps, Foreign.entry_stays_up, Foreign.left_up, Foreign.own_stays_up}
-use Rattle.ring_laws.proofs.{Kept.none_of, Leaving.leaving_keeps, Leaving.look_tells, Own.own_keeps}
-use Rattle.ring_laws.proofs.{ReceiveLent.mine_driven}
 use Rattle.std.proofs.Common.{append_assoc, arith, cond, false, inl, inr, length, nat_lt, refl, subst, sym, true, ℕ}
 use Rattle.std.proofs.{lemmas.Bool.or_left, lemmas.Bool.or_right, lemmas.Grind.common_steps, lemmas.List.append-nil}
 use Rattle.std.proofs.{lemmas.List.length-append, lemmas.List.nil_from_length}
 use Rattle.history_laws.specs.{Alone.AllAlone, Lent.LendsOneOf, Prelude.reply_to}
-use Rattle.ring_laws.specs.Delivered.{IsPrefixOf, delivered, packets_if_any, pieces_in, pieces_since}
-use Rattle.ring_laws.specs.{Histories.mark_of, Histories.marks_after, Joint.Agree, Joint.AreOpen, Joint.AreSeen}
-use Rattle.ring_laws.specs.{Joint.InOrder, Joint.IsAt, Joint.packets_had, Joint.still_held, Pieces.Piece}
-use Rattle.ring_laws.specs.{Pieces.packet_told, Pieces.packets_behind, Pieces.packets_of, Pieces.pieces}
-use Rattle.ring_laws.specs.{ReceivePrelude.records_of, ReceiveUp.IsUp, Steps.Each, Steps.IsMetBy, Steps.OwnReportsSpare}
+use Rattle.ring_laws.specs.ReceivePrelude.{IsOwn, Kept, Receive, Told, drive, is_step, kept_of, records_of}
+use Rattle.ring_laws.specs.{Delivered.IsPrefixOf, Delivered.delivered, Delivered.packets_if_any, Delivered.pieces_in}
+use Rattle.ring_laws.specs.{Delivered.pieces_since, Histories.mark_of, Histories.marks_after, Joint.Agree}
+use Rattle.ring_laws.specs.{Joint.AreOpen, Joint.AreSeen, Joint.InOrder, Joint.packets_had, Joint.still_held}
+use Rattle.ring_laws.specs.{Pieces.Piece, Pieces.packet_told, Pieces.packets_behind, Pieces.packets_of, Pieces.pieces}
+use Rattle.ring_laws.specs.{ReceiveUp.IsUp, Steps.Each, Steps.IsMetBy, Steps.OwnReportsSpare}
+use Rattle.ring_laws.proofs.{Foreign.entry_keeps, Foreign.entry_stays_up, Foreign.left_up, Foreign.own_stays_up}
+use Rattle.ring_laws.proofs.{Kept.none_of, Leaving.leaving_keeps, Leaving.look_tells, Own.own_keeps}
+use Rattle.ring_laws.proofs.{ReceiveLent.mine_driven}
 use Rattle.device_lock.proofs.Histories.{events_before, events_behind, leads-append, legal_behind}
 use Rattle.std.specs.Prelude.{◌==◌, IsFalse, IsTrue}
 use Rattle.nic_device.proofs.Steps.{keeps_sound, step_leads}
@@ -55,10 +55,7 @@ all_taken queue s out v (gone, here, h) f =
       | inl more ↦ absurd (both_ways _ f.waits (t.done.1 more))
       | inr no_more ↦ no_more
     ] in
-    let at : IsAt Looks v.seen v.held = subst (λ (x : Stage). IsAt x v.seen v.held) f.looks h.order.stage in
-    let none : ended_of v.seen v.held ≡ [] = rw at.0 (none_of v.seen).0 in
-    packets_held out v gone here h.order
-    ∙ rw (none_whole (kept_of (still_held v)).bytes v.seen here at.1 h.order.seen all, none) (simp append-nil)
+    (grind (arith, common_steps, none_of, packets_held, none_whole, append-nil))
 
 -- and where no packet is whole, all of it was handed out
 pub drained : (queue : ℕ) (s : State) (out : List Piece) (v : Receive) → Agree queue s out v → FindsNone s v

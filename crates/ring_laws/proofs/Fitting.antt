@@ -155,9 +155,7 @@ none_received queue s sound none =
       dropped = λ w others e why told. gone_first w others e;
       slotless = λ w others e told. gone_first w others e;
       fault = λ w others e fault told. gone_first w others e;
-      filled = λ w others e f is told.
-          elsewhere queue 0 w others f (subst AreWaiting e sound.waiting) (subst (Has queue 0) e none)
-          (λ own. let clash = rw (eq-eqb w.queue queue own) at told in cc);
+      filled = grind (arith, common_steps, elsewhere, eq-eqb);
     })
 
 pub begun_stays : (queue : ℕ) (s : State) → IsSound s → begun_on queue s.waiting ≡ 0 → (e : Event Block)

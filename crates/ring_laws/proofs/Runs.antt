@@ -178,10 +178,7 @@ played-turns pass v (m ∷ moves) (e ∷ es) =
 pub sent_is_prefix_of_taken : SentIsPrefixOfTaken
 sent_is_prefix_of_taken pass queue s v moves h agreed legal may =
     let ts = turns_of pass moves h in
-    let same = entries-turns pass moves h in
-    subst (λ xs. IsPrefixOf (sent_in queue s xs) (bytes_of (played_by v moves (calls_of pass h)).accepted)) same
-    (rw (← played-turns pass v moves h)
-    (sent_is_prefix queue s v ts (assumption (subst (IsLegal s) (sym same) legal))))
+    (grind (arith, common_steps, entries-turns, played-turns, sent_is_prefix))
 
 -- A history that leaves the queue of a driver alone may run, and so what is sent is a prefix of what was accepted.
 

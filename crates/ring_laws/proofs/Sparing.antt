@@ -95,14 +95,11 @@ module _ {s : State} {queue : ℕ} {sent : List (List ℕ)} {v : Sender} {f : �
     abbrev told : Fetched
     told = segment_fetched side.ring staged x
 
-    fetched_is : y.work.fetched ≡ told
-    fetched_is = grind (arith, common_steps, fetches)
-
     staged_is : staged_by u queue ≡ staged_behind staged x
     staged_is = grind (arith, common_steps, get_or-set_same, fetches)
 
     out_is : u.out ≡ with_frame s.out queue told.frame
-    out_is = grind (arith, common_steps, fetched_is)
+    out_is = grind (arith, common_steps, fetches)
 
     side_is : transmit_queue_of u.registers queue
         ≡ record side { ring = record side.ring { head = slot_at v.layout (f + 1) } }
@@ -185,14 +182,7 @@ module _ {s : State} {queue : ℕ} {sent : List (List ℕ)} {v : Sender} {f : �
       | inr none ↦ elim (cases_lt 0 (length (staged_by s queue))) [
         | inl some ↦
             let frames = frame_left v.layout.limit (staged_by s queue) left some x.packets in
-            inr (record {
-              off = ap (λ (y : Side). y.on) is ∙ none;
-              unwanted = ap (λ (y : Side). y.wanted) is ∙ none;
-              more = some_left v.layout.limit (staged_by s queue) left some x.packets;
-              frame = frames.0;
-              rest = frames.1;
-              in_order = x.in_order ∙ ap (λ (l : List (List ℕ)). sent ++ l) frames.2;
-            })
+            (grind (arith, common_steps, more, some_left))
         | inr few ↦
             same_sends (ap (λ (y : Side). y.staged) is ∙ rw none (sym (nil_from_length (staged_by s queue)
             (omega arith)))) x
@@ -235,9 +225,4 @@ step_of_queue_keeps s queue sent v (f, h) =
     let own : (queue == queue) ≡ true = eq-eqb queue queue refl in
     let small = h.based.small in
     let none : (A : Type 0) → (queue == queue) ≡ false → A = λ A other. absurd (both_ways (queue == queue) other own) in
-    spares-keeps h (event.TxStep queue) (record {
-      made = omega arith;
-      setting = tt;
-      side = λ other apart. none _ other;
-      blocks = λ other number lent. none _ other;
-    })
+    spares-keeps h (event.TxStep queue) (grind (arith, common_steps))

@@ -4,19 +4,18 @@ use Rattle.std.proofs.Common.{append_assoc, arith, drop, false, inl, inr, length
 use Rattle.std.proofs.lemmas.List.{drop-append-le, get_or-append-add, get_or_append_left, length-append, length-take}
 use Rattle.ring_laws.specs.TransmitPrelude.{Accepts, Advances, Asks, Elsewhere, IsOwn, Kept, Lends, Looks, MayAccept}
 use Rattle.ring_laws.specs.TransmitPrelude.{Move, Outgoing, Reaps, Segment, Sender, accepted_by, has_lent}
-use Rattle.ring_laws.specs.Agreeing.{ArePackets, IsCounted, IsCutOff, IsInTurn, IsLayout, IsReady, SendsInOrder, Shows}
+use Rattle.ring_laws.specs.Agreeing.{ArePackets, IsCounted, IsCutOff, IsLayout, IsReady, SendsInOrder, Shows, bytes_of}
 use Rattle.history_laws.specs.Prelude.{Block, Blocks, Event, Memory, Reply, State, TransmitQueue, after, has_block}
 use Rattle.std.proofs.{Common.zero, Common.ℕ, lemmas.Bool.cases_Bool, lemmas.Grind.common_steps, lemmas.List.map-append}
 use Rattle.std.proofs.{lemmas.List.take-append-drop, lemmas.List.take-append-le}
 use Rattle.ring_laws.specs.TransmitPrelude.{is_ring_block, moved, no_segment, segment_at, segments_of}
-use Rattle.ring_laws.specs.{Agreeing.bytes_of, Agreeing.frames_from, Agreeing.staged_behind, Alone.LendsOneOf}
+use Rattle.ring_laws.specs.{Agreeing.frames_from, Agreeing.staged_behind, Alone.LendsOneOf}
 use Rattle.ring_laws.specs.{TransmitLent.OwnLendsAreKnown, TransmitLent.SparesNumbers}
-use Rattle.history_laws.specs.{Lent.LendsOwn, Lent.OnlyLent, Lent.either, Prelude.reply_to, Prelude.staged_by}
-use Rattle.history_laws.specs.{Prelude.transmit_queue_of}
+use Rattle.history_laws.specs.{Lent.LendsOwn, Lent.OnlyLent, Lent.either, Prelude.reply_to, Prelude.transmit_queue_of}
 use Rattle.std.specs.{List.list_any, Prelude.IsTrue, Prelude.is_some, Prelude.slice_index_or, Prelude.◌==◌}
 use Rattle.nic_device.proofs.{DmaArena.Blocks.read_at_in, DmaArena.Bus.get-insert_other, DmaArena.Bus.get-insert_same}
 use Rattle.nic_device.specs.DmaArena.Memory.{part}
-use Rattle.pmd_tx.specs.Sending.{MayLend, Part, blocks_of, lent_more, paired, parts_for, parts_in, reaped}
+use Rattle.pmd_tx.specs.Sending.{MayLend, Part, blocks_of, paired, parts_for, parts_in}
 use Rattle.ring_laws.proofs.Blocks.{has_lent-segment, shows-same, unlike}
 use Rattle.history_laws.proofs.Lent.{Follows, follows_in, follows_known, or_swap, still_known}
 use Rattle.std.specs.FinMap as fin
@@ -58,11 +57,8 @@ module _ (limit whole : ℕ) where
       let cut = length-append (take 2048 bytes) (drop 2048 bytes) in
       let all = take-append-drop 2048 bytes in
       let rest = packet-parts c bs (staged ++ take 2048 bytes) (drop 2048 bytes)
-      (omega (arith, both, cut, ap length all)) (omega (arith, both, cut, ap length all)) in (
-        rest.0 ∙ ap (λ (l : List ℕ). l ∷ [])
-            (append_assoc staged (take 2048 bytes) (drop 2048 bytes) ∙ ap (λ (l : List ℕ). staged ++ l) all),
-        (omega (arith, both, cut, ap length all), (λ never. absurd (let e : false ≡ true = never in cc)), rest.1),
-      )
+      (omega (arith, both, cut, ap length all)) (omega (arith, both, cut, ap length all)) in
+      (grind (arith, common_steps, append_assoc))
 
   pub packet-whole : (bs bytes : List ℕ) (n : ℕ) → length bs ≡ n → 0 < n → length bytes ≤ limit → 60 ≤ length bytes
       → IsPacket [] bytes (paired bs (parts_in whole n bytes))
@@ -153,19 +149,14 @@ module _ (m : Memory) (v : Sender) (f : ℕ) (l : IsLayout v.layout) (c : IsCoun
           ∙ may.bytes;
     }
 
-    -- each of them is one that was lent, or the new one
-    each_now : (k : ℕ) (P : Segment → Type 0) → k < v.lent + 1 → (k < v.lent → P (segment_at v k)) → (k ≡ v.lent → P x)
-        → P (segment_at w k)
-    each_now k P below was now = grind arith
-
     apart_now : (i j : ℕ) → i < v.lent + 1 → j < v.lent + 1 → i ≢ j → (segment_at w i).block ≢ (segment_at w j).block
-    apart_now i j a b ne = grind (arith, each_now, new)
+    apart_now i j a b ne = grind (arith, new)
 
     pub counted-lent : length ss < v.layout.size → v.lent < length ss → IsCounted w f
     counted-lent room known = grind (arith, common_steps, apart_now)
 
     pub shows-lent : Shows lent w f
-    shows-lent = grind (arith, stays, ready, each_now)
+    shows-lent = grind (arith, stays, ready)
 
 -- a packet that is accepted goes behind the others
 module _ (v : Sender) (p : Outgoing) (b : Block) (may : MayAccept v p b) where
@@ -191,17 +182,15 @@ module _ (v : Sender) (p : Outgoing) (b : Block) (may : MayAccept v p b) where
     packet : IsPacket v.layout.limit (length p.kept.bytes) [] p.kept.bytes (segments_of p)
     packet = packet-whole v.layout.limit _ p.blocks p.kept.bytes _ may.each (some-parts _ may.long) may.short may.long
 
-    turn-accepted : (staged : List ℕ) → IsInTurn v.layout.limit staged sent left v.accepted
-        → IsInTurn v.layout.limit staged sent (left ++ segments_of p) (v.accepted ++ p.kept ∷ [])
-    turn-accepted staged t = grind (arith, common_steps, packet, packets-append, more, append_assoc, frames-append)
-
     cut-accepted : (side : TransmitQueue) → IsCutOff side sent left v.accepted
         → IsCutOff side sent (left ++ segments_of p) (v.accepted ++ p.kept ∷ [])
     cut-accepted side t = grind (arith, common_steps, more, length-append, append_assoc)
 
     pub sends-accepted : (s : State) (queue : ℕ) → SendsInOrder s queue sent v.layout.limit left v.accepted
         → SendsInOrder s queue sent v.layout.limit (drop f (v.outstanding ++ segments_of p)) (v.accepted ++ p.kept ∷ [])
-    sends-accepted s queue (inl t) = rw split (inl (turn-accepted (staged_by s queue) t))
+    sends-accepted s queue (inl t) =
+        rw split
+        (inl (grind (arith, common_steps, packet, packets-append, more, append_assoc, frames-append)))
     sends-accepted s queue (inr t) = rw split (inr (cut-accepted (transmit_queue_of s.registers queue) t))
 
 -- the first segment of a packet behind those that are outstanding
@@ -233,10 +222,6 @@ module _ (v : Sender) (n : ℕ) where
       → has_lent (record v { outstanding = ss; lent = v.lent + 1; accepted = ks }) n ≡ (n == b || has_lent v n)
   next_lent ss ks b same below next = grind (arith, common_steps)
 
-  pub more_is : (b : ℕ) → v.lent < length v.outstanding → b ≡ (segment_at v v.lent).block
-      → has_lent (lent_more v) n ≡ (n == b || has_lent v n)
-  more_is b below next = next_lent v.outstanding v.accepted b refl below next
-
   pub accepted_is : (p : Outgoing) (b : Block) → MayAccept v p b
       → has_lent (accepted_by v p) n ≡ (n == b.number || has_lent v n)
   accepted_is p b may =
@@ -246,18 +231,12 @@ module _ (v : Sender) (n : ℕ) where
       (omega (arith, may.lent, may.each, length-segments p may.each, some, length-append v.outstanding (segments_of p)))
       (may.first.number ∙ ap (λ (x : Segment). x.block) (sym (first_at v p may.lent)))
 
-  pub has_reaped : n ≢ (segment_at v 0).block → Has (reaped v)
-  has_reaped ne has = grind arith
-
-  reaped_had : has_lent (reaped v) n ≡ true → has_lent v n ≡ true
-  reaped_had has = grind arith
-
 module _ (v : Sender) where
   follows : (m : Move) (e : Event Block) → IsOwn v m e → m ≢ Elsewhere → (r : Reply Block) (n : ℕ)
       → Follows (has_lent v) (has_lent (moved v m r)) e r n
   follows (Accepts p) (event.Lend b) may ne reply.Done n = accepted_is v n p b may
   follows (Accepts p) (event.Lend b) may ne r n = refl
-  follows Lends (event.Lend b) may ne reply.Done n = more_is v n b.number may.0 may.1.number
+  follows Lends (event.Lend b) may ne reply.Done n = grind (arith, common_steps, next_lent)
   follows Lends (event.Lend b) may ne r n = refl
   follows Asks (event.Poke16 a bytes) may ne reply.Done n = refl
   follows Asks (event.Poke16 a bytes) may ne r n = refl
@@ -266,7 +245,7 @@ module _ (v : Sender) where
   follows Looks (event.Peek16 a) may ne (reply.Bytes d) n = refl
   follows Looks (event.Peek16 a) may ne r n = refl
   follows Reaps (event.Take t) may ne (reply.Buf b) n =
-      (λ other. has_reaped v n (subst (λ (x : ℕ). n ≢ x) may.1 other), λ has. reaped_had v n has)
+      (λ other. grind (arith, common_steps), λ has. grind (arith, common_steps))
   follows Reaps (event.Take t) may ne r n = refl
   follows Elsewhere e may ne r n = absurd (ne refl)
   follows m e may ne r n = absurd may

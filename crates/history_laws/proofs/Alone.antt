@@ -1,11 +1,11 @@
 -- Histories in two parts: soundness along them, what a pass lends and begins in each, and how they leave a queue alone.
 use Rattle.std.proofs.Common.{[], ◌++◌, ◌/◌, ◌∙◌, ◌∷◌, ◌≡◌, List, Some, ap, append_assoc, arith, false, refl, subst}
 use Rattle.history_laws.specs.Prelude.{AreEvents, Block, Blocks, Entry, EntryLeavesAlone, Event, IsSound, LeavesBlocks}
-use Rattle.history_laws.specs.Prelude.{Mode, Off, Reply, Sent, State, Watched, WritesOutside, Wrote, after, has_begun}
+use Rattle.history_laws.specs.Prelude.{Mode, Reply, Sent, State, Watched, WritesOutside, Wrote, after, has_begun}
 use Rattle.history_laws.specs.Laws.{AloneByEntries, BeginningIsAlone, HistoriesKeepSound, NewIsPlain, PlainIsLeftAlone}
 use Rattle.std.proofs.{Common.sym, Common.ℕ, lemmas.Bool.or_left, lemmas.Bool.or_right, lemmas.Grind.common_steps}
 use Rattle.history_laws.specs.{Alone.AllAlone, Alone.LeavesAloneFrom, Laws.RestIsAlone, Prelude.leads_to}
-use Rattle.history_laws.specs.{Prelude.lent_by, Prelude.mode_in, Prelude.mode_through, Prelude.new_state}
+use Rattle.history_laws.specs.{Prelude.lent_by, Prelude.mode_in, Prelude.new_state}
 use Rattle.nic_device.specs.declared.event.Reply.TheVariants.{Advanced}
 use Rattle.device_lock.proofs.Histories.{events_before, leads-append}
 use Rattle.std.specs.Prelude.{◌==◌, ◌||◌, Bool, IsFalse, IsTrue}
@@ -105,9 +105,7 @@ alone_by_entries w s before rest leaves begun =
 pub plain_is_left_alone : PlainIsLeftAlone
 plain_is_left_alone w s h sound plain events leaves before e after split begun =
     let early = events_before before (e ∷ after) (subst AreEvents split events) in
-    let told : mode_through w.vfs Off before ≡ mode_in (leads_to s before).registers =
-    (λ i. mode_through (plain.vfs i) (sym plain.mode i) before) ∙ mode_told_from s before sound plain.image early in
-    subst (λ m. EntryLeavesAlone w (lent_by w.pass h) m e) told (leaves before e after split begun)
+    (grind (arith, common_steps, mode_told_from))
 
 pub new_is_plain : NewIsPlain
 new_is_plain w fifo = record { image = refl; mode = new_is_off w.vfs fifo; vfs = refl }

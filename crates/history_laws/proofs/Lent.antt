@@ -54,9 +54,7 @@ module _ (s : State) (n : ℕ) where
       → (n ≢ number) × (has_block s.memory n ≡ true)
   removed_was number has = elim (cases_eq n number) [
     | inl same ↦
-        absurd (both_ways (has_block (map.remove s.memory number) n)
-        (subst (λ k. has_block (map.remove s.memory number) k ≡ false) (sym same)
-        (ap (λ (o : _). is_some o) (get-remove_same s.memory number))) has)
+        (grind (arith, common_steps, both_ways, get-remove_same))
     | inr ne ↦ (ne, ap (λ (o : _). is_some o) (sym (get-remove_other s.memory number n ne)) ∙ has)
   ]
 
@@ -214,13 +212,7 @@ module _ (P : List Waiting → Type 0) (s : State) (now : P s.waiting) where
   waiting_changed event.RxStep received = received
   waiting_changed (event.Write port n word) resets = written word (named s port n) resets
   waiting_changed (event.Arrive frame) comes =
-      arrived_cases Wait s frame (record {
-        dropped = λ why. now;
-        short = now;
-        long = now;
-        missed = now;
-        joined = λ t sorted room long short. comes t short;
-      })
+      arrived_cases Wait s frame (grind (arith, common_steps))
   waiting_changed (event.QueueStep Rx on) parts =
       switched_cases Wait s Rx on now now
       (cond_both (is_wanted s.registers Rx on) _ _ (λ (t : State). P t.waiting) (λ wanted. now) parts)

@@ -1,28 +1,27 @@
 -- The settings that the entries of a history tell are the device's: how the queues are parted among pools, and how
 -- long frames may be.
-use Rattle.std.proofs.Common.{[], ◌%◌, ◌/◌, ◌<◌, ◌^◌, ◌∙◌, ◌∷◌, ◌≡◌, ◌≢◌, Bool, List, ℕ, ap, arith, cond, false, inl}
+use Rattle.std.proofs.Common.{[], ◌%◌, ◌/◌, ◌<◌, ◌^◌, ◌∙◌, ◌∷◌, ◌≡◌, ◌≢◌, Bool, List, ap, arith, cond, false, inl, inr}
 use Rattle.history_laws.specs.Prelude.{AreEvents, Block, Entry, Event, GcrExt, IsSound, Maxfrs, Mode, Named, Nothing}
 use Rattle.history_laws.specs.Prelude.{Off, Pf, Place, Port, Register, RowId, State, after, asks_reset, has_bit}
 use Rattle.history_laws.specs.Prelude.{leads_to, mode_in, mode_through, named, named_written, new_state, place, row_of}
-use Rattle.nic_device.specs.RegTable.declared.rows.RowId.TheVariants.{Ctrl, Hlreg0}
-use Rattle.nic_device.specs.VfMap.declared.mode.Mode.TheVariants.{Pools16, Pools32, Pools64}
-use Rattle.nic_device.specs.Footprint.{below_reset_reach, reset_reach, write_reach}
-use Rattle.device_lock.specs.Alone.{is_setting, mode_after, mode_set, mode_written}
 use Rattle.device_lock.specs.Told.{first_settings, frames_set, frames_written, limit_of, settings_after}
 use Rattle.history_laws.proofs.Written.{AreReal, IsReal, low_bit_merged, low_merged, merged_high, place_in, place_named}
-use Rattle.std.proofs.{lemmas.Grind.common_steps, Common.inr, Common.refl, Common.subst, Common.sym, Common.true}
-use Rattle.std.proofs.{lemmas.Bool.cases_Bool}
+use Rattle.std.proofs.{Common.refl, Common.subst, Common.sym, Common.true, Common.ℕ, lemmas.Bool.cases_Bool}
+use Rattle.std.proofs.{lemmas.Grind.common_steps}
+use Rattle.history_laws.specs.{Laws.ModeIsTold, Laws.SettingsAreTold, Prelude.step_of, Prelude.word_of}
+use Rattle.nic_device.specs.VfMap.declared.mode.Mode.TheVariants.{Pools16, Pools32, Pools64}
+use Rattle.nic_device.specs.{Eeprom.reset, Eeprom.with_triples, EepromImage.Image.blank, EepromImage.Triples.triples_of}
+use Rattle.nic_device.specs.{Footprint.below_reset_reach, Footprint.reset_reach, Footprint.write_reach}
+use Rattle.nic_device.specs.{PoolReset.written_below_reset, RegTable.declared.rows.RowId.TheVariants.Ctrl}
+use Rattle.nic_device.specs.{RegTable.declared.rows.RowId.TheVariants.Hlreg0, State.cleared, VfMap.Pools.mode_of}
+use Rattle.device_lock.specs.{Alone.is_setting, Alone.mode_set, Alone.mode_written, Told.settings_through}
+use Rattle.device_lock.specs.{Told.usual_frames, declared.told.Frames.Frames, declared.told.Settings.Settings}
+use Rattle.history_laws.proofs.{Leaving.no_setting, Written.real}
 use Rattle.std.specs.Prelude.{if◌then◌else◌, ◌==◌}
-use Rattle.history_laws.specs.{Prelude.step_of, Prelude.word_of, Laws.ModeIsTold, Laws.SettingsAreTold}
 use Rattle.nic_device.proofs.{EepromImage.Blank.triples_of-blank, RegisterFile.ResetWords.word_at-reset}
 use Rattle.nic_device.proofs.{RegisterLaws.Accessed.none_written_by, RegisterLaws.Footprints.word_stands}
 use Rattle.nic_device.proofs.{RegisterLaws.Owners.is_place-other, RegisterLaws.Puts.same_parts}
 use Rattle.nic_device.proofs.{RegisterLaws.Shape.put_stands, Steps.keeps_sound, Steps.step_leads}
-use Rattle.nic_device.specs.{Eeprom.reset, Eeprom.with_triples, EepromImage.Image.blank, EepromImage.Triples.triples_of}
-use Rattle.nic_device.specs.{PoolReset.written_below_reset, State.cleared, VfMap.Pools.mode_of}
-use Rattle.device_lock.specs.{Told.settings_through, Told.usual_frames, declared.told.Frames.Frames}
-use Rattle.device_lock.specs.{declared.told.Settings.Settings}
-use Rattle.history_laws.proofs.{Written.real, Leaving.no_setting}
 use Rattle.device_laws.proofs.Settings.{IsSetting, setting_stands}
 use Rattle.nic_device.specs.declared.event.Event.TheVariants as event
 
@@ -222,15 +221,11 @@ settings_told vfs fifo h new events =
 
 -- the mode by itself is one of them
 
-mode_after_is : (vfs : ℕ) (m : Settings) (e : Event Block) → mode_after vfs m.mode e ≡ (settings_after vfs m e).mode
-mode_after_is vfs m (event.Write port n word) = refl
-mode_after_is vfs m other = refl
-
 mode_through_is : (vfs : ℕ) (m : Settings) (h : List Entry)
     → mode_through vfs m.mode h ≡ (settings_through vfs m h).mode
 mode_through_is vfs m [] = refl
 mode_through_is vfs m (e ∷ es) =
-    ap (λ mode. mode_through vfs mode es) (mode_after_is vfs m e.event)
+    ap (λ mode. mode_through vfs mode es) (grind (arith, common_steps))
     ∙ mode_through_is vfs (settings_after vfs m e.event) es
 
 pub mode_told_from : (s : State) (h : List Entry) → IsSound s → s.image ≡ blank → AreEvents h

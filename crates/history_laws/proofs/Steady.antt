@@ -39,10 +39,6 @@ pub record HaveSameRing (x y : Side) : Type 0 where
   pub writeback : y.writeback ≡ x.writeback
   pub staged : x.staged ≡ [] → y.staged ≡ []
 
-ring_same : (x : Side) (on wanted : Bool) (staged : List ℕ) → (x.staged ≡ [] → staged ≡ [])
-    → HaveSameRing x (record x { on = on; wanted = wanted; staged = staged })
-ring_same x on wanted staged none = record { ring = refl; control = refl; writeback = refl; staged = none }
-
 pub none_staged : (wanted : Bool) (staged : List ℕ) → staged ≡ [] → cond wanted staged [] ≡ []
 none_staged true staged none = none
 none_staged false staged none = refl
@@ -68,7 +64,7 @@ module _ (dir : Dir) (queue : ℕ) (s : State) (e : Event Block) where
 
   -- an event that takes no slot leaves the ring
   pub resting_same : Rests dir queue s e → HaveSameRing old new
-  resting_same h1 = grind (arith, common_steps, ring_same, none_staged)
+  resting_same h1 = grind (arith, common_steps, none_staged)
 
   -- a side that is up stays so, where no fault can shut it
   module _ (up : IsUp old) (never : Shuts dir queue s e → ⊥) where
@@ -171,13 +167,10 @@ module _ (queue : ℕ) (s : State) (sound : IsSound s) (small : queue < 128) (po
       | inr left ↦ same_settles (side_of dir queue s) (side_of dir queue t) left settled
     ]
 
-bit-shown : (word : ℕ) → has_bit 25 (bit_and word 0xFFFFFFFF) ≡ has_bit 25 word
-bit-shown word = grind (arith, common_steps, and_mask)
-
 module _ (queue : ℕ) (s : State) (port : Port) (n word : ℕ) (told : reply_to s (event.Read port n) ≡ Word word) where
   told_is : (seen : ℕ) → reply_to s (event.Read port n) ≡ Word (bit_and seen 0xFFFFFFFF)
       → has_bit 25 word ≡ has_bit 25 seen
-  told_is seen looked = grind (arith, common_steps, bit-shown)
+  told_is seen looked = grind (arith, common_steps, and_mask)
 
   -- bit 25 is whether the side is on
   pub told_on : (dir : Dir) → NamesEnable dir queue s port n → has_bit 25 word ≡ (side_of dir queue s).on

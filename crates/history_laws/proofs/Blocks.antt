@@ -133,11 +133,9 @@ pub reported_outside : (queue on : ℕ) (mine : Blocks) (r : Reply Block) (s t :
 reported_outside queue on mine (Advanced told slot (Some b)) s t tells ne outside back is =
     let same : b ≡ back = cc in
     subst (λ x. IsFalse (mine (x / 2048))) same (outside (λ e. ne (sym tells.0.named ∙ e)))
-reported_outside queue on mine (Advanced told slot None) s t tells ne outside back is = cc
 reported_outside queue on mine (Sent told len (Some b)) s t tells ne outside back is =
     let same : b ≡ back = cc in
     subst (λ x. IsFalse (mine (x / 2048))) same (outside (λ e. ne (sym tells.named ∙ e)))
-reported_outside queue on mine (Sent told len None) s t tells ne outside back is = cc
 reported_outside queue on mine other s t tells ne outside back is = cc
 
 -- and where it reports in another block, it leaves this one

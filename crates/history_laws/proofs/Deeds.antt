@@ -1,27 +1,27 @@
 -- What an event that leaves a queue alone does to the queue's sides.
-use Rattle.std.proofs.Common.{[], ◌<◌, ◌||◌, ◌∙◌, ◌∷◌, ◌≡◌, ◌≢◌, ◌⊎◌, Bool, Err, List, None, Ok, Option, Some, ℕ, ap}
-use Rattle.std.proofs.Common.{arith, cond, false, inl, inr, length, map, not, refl, subst, sym, true}
-use Rattle.std.proofs.lemmas.Bool.{cases_Bool, cases_eq, cond_both, eq-eqb, lt-ltb, ne_eqb}
+use Rattle.std.proofs.Common.{[], ◌<◌, ◌||◌, ◌∙◌, ◌∷◌, ◌≡◌, ◌≢◌, ◌⊎◌, Bool, Err, List, None, Ok, Option, Some, ap}
 use Rattle.history_laws.specs.Prelude.{Block, Blocks, Dir, Event, Fetched, Filled, IsSound, LeavesReceive, Outcome}
 use Rattle.history_laws.specs.Prelude.{Registers, Reply, RingFault, Rx, State, TransmitQueue, Tx, Waiting, Watched}
 use Rattle.history_laws.specs.Prelude.{Wrote, after, gives, is_empty, is_wanted, receive_queue_of, reply_to, rest_of}
-use Rattle.nic_device.proofs.RegisterLaws.Switches.{receive-switched, transmit-switched}
-use Rattle.nic_device.specs.declared.event.Reply.TheVariants.{Dropped, Fault, Idle}
-use Rattle.history_laws.proofs.Leaving.{left-setting, left-side, receive_left, step_event, step_is, switch_is}
 use Rattle.history_laws.specs.Left.{Deed, IsFirst, IsLeft, IsSilent, LeftDid, Nothing, Rested, Rests, SendsNone, Shut}
-use Rattle.history_laws.specs.Left.{SidesDo, Switched, Took, fetch_on, fill_on, is_step_of, is_switch_of}
-use Rattle.history_laws.specs.Segments.{frames_added, piece_in, pieces, pieces_told, sent_by}
-use Rattle.history_laws.specs.Sides.{IsTried, Side, as_wanted, receive_side, side_of, transmit_side}
+use Rattle.std.proofs.Common.{arith, cond, false, inl, inr, length, map, not, refl, subst, sym, true, ℕ}
+use Rattle.std.proofs.lemmas.Bool.{cases_Bool, cases_eq, cond_both, eq-eqb, lt-ltb, ne_eqb}
 use Rattle.std.proofs.{lemmas.Grind.common_steps, lemmas.List.drop_all, lemmas.List.get_or-set_same}
-use Rattle.std.specs.Prelude.{◌&&◌, ◌==◌, IsFalse, Result}
-use Rattle.history_laws.specs.Prelude.{staged_by, step_of, transmit_queue_of}
-use Rattle.nic_device.specs.{RegisterFile.Settings.drops, RegisterFile.Settings.is_stopped, Transmit.fetched_reply}
-use Rattle.nic_device.specs.{Transmit.is_silent, Transmit.slot_done, declared.event.Why.TheVariants.NoSlot}
-use Rattle.nic_device.specs.{declared.event.Why.TheVariants.QueueOff, Receive.first_received, Receive.slotless_counted}
-use Rattle.nic_device.specs.{RegisterFile.Queue.switched, Switching.emptied, Switching.side_switched}
+use Rattle.history_laws.specs.Left.{SidesDo, Switched, Took, fetch_on, fill_on, is_step_of, is_switch_of}
+use Rattle.history_laws.specs.{Prelude.staged_by, Prelude.step_of, Prelude.transmit_queue_of, Segments.frames_added}
+use Rattle.history_laws.specs.{Segments.pieces, Segments.pieces_told, Segments.sent_by, Sides.IsTried, Sides.Side}
+use Rattle.history_laws.specs.{Sides.as_wanted, Sides.receive_side, Sides.side_of, Sides.transmit_side}
 use Rattle.nic_device.proofs.{Cases.either_way, Cases.switched_cases, Coming.counted_in, Raising.comes-itself}
 use Rattle.nic_device.proofs.{Raising.have_counters, RegisterLaws.Stands.receive_stands}
-use Rattle.history_laws.proofs.{Blocks.left-block, Steady.none_staged}
+use Rattle.nic_device.proofs.{RegisterLaws.Switches.receive-switched, RegisterLaws.Switches.transmit-switched}
+use Rattle.nic_device.specs.declared.event.Reply.TheVariants.{Dropped, Fault, Idle}
+use Rattle.nic_device.specs.{Receive.first_received, Receive.slotless_counted, RegisterFile.Queue.switched}
+use Rattle.nic_device.specs.{RegisterFile.Settings.drops, RegisterFile.Settings.is_stopped, Switching.emptied}
+use Rattle.nic_device.specs.{Switching.side_switched, Transmit.fetched_reply, Transmit.is_silent, Transmit.slot_done}
+use Rattle.nic_device.specs.{declared.event.Why.TheVariants.NoSlot, declared.event.Why.TheVariants.QueueOff}
+use Rattle.history_laws.proofs.{Blocks.left-block, Leaving.left-setting, Leaving.left-side, Leaving.receive_left}
+use Rattle.history_laws.proofs.{Leaving.step_event, Leaving.step_is, Leaving.switch_is, Steady.none_staged}
+use Rattle.std.specs.Prelude.{◌&&◌, ◌==◌, IsFalse, Result}
 use Rattle.device_laws.proofs.{KeptSettings.settings_stand, Missed.counts-miss_side, RepliesReceived.receiving_tells}
 use Rattle.device_laws.proofs.{RepliesSent.transmitting_tells, Standing.stays_within, StandingQueues.receiving_rest}
 use Rattle.device_laws.specs.{Leaving.IsFirstFor, Replies.TookTransmit, Replies.received_tells, Replies.sent_tells}
@@ -71,10 +71,6 @@ module _ (s : State) (sound : IsSound s) (w : Waiting) (others : List Waiting) (
   first : IsFirst w.queue s w
   first = record { others = others; waits = e; own = refl }
 
-  piece_told : (f : Filled) → pieces_told w.queue s.waiting (Wrote w.queue f.slot f.end f.desc f.at f.len)
-      ≡ piece_in (rest_of w) f ∷ []
-  piece_told f = grind arith
-
   filled : (f : Filled) → (fill_on s w.queue (rest_of w)).answer ≡ Ok f
       → step_of s event.RxStep ≡ receive.slot_done s w others (Ok f) (fill_on s w.queue (rest_of w)).memory
       → Deed Rx w.queue s event.RxStep
@@ -92,7 +88,7 @@ module _ (s : State) (sound : IsSound s) (w : Waiting) (others : List Waiting) (
           answer = answer;
           memory = ap (λ (x : Outcome). x.state.memory) is;
           told = replied;
-          piece = ap (λ (x : Outcome). pieces_told w.queue s.waiting x.reply) is ∙ piece_told f;
+          piece = ap (λ (x : Outcome). pieces_told w.queue s.waiting x.reply) is ∙ (grind (arith, common_steps));
         };
       })
 
@@ -207,21 +203,12 @@ module _ (queue : ℕ) (s : State) (sound : IsSound s) (small : queue < 128) whe
         })
     by_answer (Err fault) answer is =
         let told = tx_tells (Fault queue fault) (ap (λ (x : Outcome). x.reply) is) in
-        Rested
-        (none (ap (λ (x : Outcome). x.state.memory) is) (ap (λ (x : Outcome). x.state.out) is))
-        (Shut (record {
-          tried = tried;
-          side = λ k. transmit_side (told.side k) (told.staged k);
-          fault = record { loud = loud; fault = fault; answer = answer };
-        }))
+        (grind (arith, common_steps, none, tried))
 
   pub transmitting_did : Deed Tx queue s (event.TxStep queue)
   transmitting_did = elim (cases_Bool (is_silent s queue side)) [
     | inl silent ↦
-        let is = idle silent in
-        Rested
-        (none (ap (λ (x : Outcome). x.state.memory) is) (ap (λ (x : Outcome). x.state.out) is))
-        (Nothing (ap (λ (x : Outcome). side_of Tx queue x.state) is))
+        (grind (arith, common_steps, idle, none))
     | inr loud ↦
         by_answer loud (fetch_on s queue).answer refl (fetched loud)
   ]
@@ -238,10 +225,7 @@ module _ (queue : ℕ) (s : State) (sound : IsSound s) (small : queue < 128) whe
   on_then Rx =
       let e = ap receive_side (receive-switched s.registers sound.registers.shape queue small) in
       let x : Side = side_of Rx queue s in
-      let then = with_staged x x.wanted [] refl (sym (none_staged x.wanted x.staged refl)) in
-      cond_both (is_wanted s.registers Rx queue) (record s { registers = switched s.registers Rx queue })
-      (record (emptied s Rx queue) { registers = switched s.registers Rx queue })
-      (λ (t : State). side_of Rx queue t ≡ as_wanted (side_of Rx queue s)) (λ is. e ∙ then) (λ not. e ∙ then)
+      (grind (arith, common_steps, with_staged, none_staged, cond_both))
   on_then Tx =
       let e = transmit-switched s.registers sound.registers.shape queue small in
       let x : Side = side_of Tx queue s in
@@ -284,15 +268,13 @@ module _ (queue : ℕ) (s : State) (sound : IsSound s) (small : queue < 128) whe
   stepped Rx = receiving_did queue s sound
   stepped Tx = transmitting_did queue s sound small
 
-  switch_done : (dir : Dir) → Deed dir queue s (event.QueueStep dir queue)
-  switch_done Rx = Rested refl (switching_did queue s sound small Rx)
-  switch_done Tx = Rested (silent_else Tx queue s _ refl) (switching_did queue s sound small Tx)
-
 pub side_did : SidesDo
 side_did dir queue s e sound small left = elim (cases_Bool (is_step_of dir queue e)) as (λ _. Deed dir queue s e) [
   | inl own ↦ subst (Deed dir queue s) (sym (step_is dir queue e own)) (stepped queue s sound small dir)
   | inr other ↦ elim (cases_Bool (is_switch_of dir queue e)) as (λ _. Deed dir queue s e) [
-    | inl own ↦ subst (Deed dir queue s) (sym (switch_is dir queue e own)) (switch_done queue s sound small dir)
+    | inl own ↦
+        subst (Deed dir queue s) (sym (switch_is dir queue e own))
+        (grind (arith, common_steps, switching_did, silent_else))
     | inr apart ↦ Rested (silent_else dir queue s e other) (Nothing (left other apart))
   ]
 ]

@@ -1,26 +1,26 @@
 -- An event that leaves a queue alone writes no setting, and leaves each side of it that it isn't a step of.
-use Rattle.std.proofs.Common.{◌∙◌, ◌≡◌, ◌≢◌, ℕ, ap, arith, cond, false, inl, inr, refl, subst, sym, true}
 use Rattle.history_laws.specs.Prelude.{Block, Dir, Event, GcrExt, LeavesQueues, LeavesReceive, LeavesRegisters}
 use Rattle.history_laws.specs.Prelude.{LeavesTransmit, Maxfrs, Mode, Named, Nothing, Pf, Place, Port, ReceiveQueue}
 use Rattle.history_laws.specs.Prelude.{Register, RowId, Rx, State, TransmitQueue, Tx, Watched, WritesNoSetting, after}
 use Rattle.history_laws.specs.Prelude.{asks_pool_reset, asks_reset, has_queue, mode_in, named, named_written, row_of}
-use Rattle.nic_device.proofs.RegisterLaws.Covers.{covers-renewed, misses-narrower}
 use Rattle.nic_device.specs.Footprint.{StaysWithin, below_reset_reach, in_registers, pool_reach, reset_reach}
-use Rattle.nic_device.specs.RegTable.declared.rows.RowId.TheVariants.{Ctrl, Hlreg0}
+use Rattle.std.proofs.Common.{◌∙◌, ◌≡◌, ◌≢◌, ap, arith, cond, false, inl, inr, refl, subst, sym, true, ℕ}
+use Rattle.std.proofs.{lemmas.Bool.cases_Bool, lemmas.Bool.eqb-false, lemmas.Bool.eqb-true, lemmas.Grind.common_steps}
+use Rattle.history_laws.specs.{Left.is_step_of, Left.is_switch_of, Prelude.step_of, Sides.LeavesSide, Sides.Side}
+use Rattle.history_laws.specs.{Sides.receive_side, Sides.transmit_side}
+use Rattle.nic_device.proofs.RegisterLaws.Covers.{covers-renewed, misses-narrower}
 use Rattle.nic_device.specs.RegisterLaws.Footprint.{Misses, of_side, of_write, pool_renews}
-use Rattle.nic_device.specs.VfMap.Owner.{is_of_pool_by, is_receive_bank, is_transmit_bank}
-use Rattle.history_laws.specs.Sides.{LeavesSide, Side, receive_side, transmit_side}
-use Rattle.device_laws.proofs.StandingQueues.{receiving_rest, switching_rest, transmitting_rest}
-use Rattle.device_laws.proofs.StandingRest.{arrival_rest, collecting_rest, eeprom_rest, link_rest, message_rest}
-use Rattle.device_laws.proofs.Standing.{memory_rest, missed, stays_within}
-use Rattle.std.proofs.{lemmas.Grind.common_steps, lemmas.Bool.cases_Bool, lemmas.Bool.eqb-false, lemmas.Bool.eqb-true}
-use Rattle.history_laws.specs.{Prelude.step_of, Left.is_step_of, Left.is_switch_of}
-use Rattle.nic_device.specs.{Footprint.write_reach, RegisterFile.Owner.is_owner, RegisterFile.Owner.owner_in}
-use Rattle.nic_device.specs.{Named.at_location, RegTable.declared.bank.Bank.Bank, VfMap.Map.located}
+use Rattle.nic_device.specs.RegTable.declared.rows.RowId.TheVariants.{Ctrl, Hlreg0}
+use Rattle.nic_device.specs.{Footprint.write_reach, Named.at_location, RegTable.declared.bank.Bank.Bank}
+use Rattle.nic_device.specs.{RegisterFile.Owner.is_owner, RegisterFile.Owner.owner_in, VfMap.Map.located}
+use Rattle.nic_device.specs.{VfMap.Owner.is_of_pool_by, VfMap.Owner.is_receive_bank, VfMap.Owner.is_transmit_bank}
 use Rattle.nic_device.specs.{declared.event.Port.TheVariants.Vf}
+use Rattle.device_laws.proofs.StandingRest.{arrival_rest, collecting_rest, eeprom_rest, link_rest, message_rest}
+use Rattle.device_laws.proofs.{Settings.no_reset, Standing.memory_rest, Standing.missed, Standing.stays_within}
+use Rattle.device_laws.proofs.{StandingAccesses.read_rest, StandingAccesses.write_rest, StandingQueues.receiving_rest}
+use Rattle.device_laws.proofs.{StandingQueues.switching_rest, StandingQueues.transmitting_rest}
 use Rattle.device_lock.specs.Alone.{Spares, is_setting}
 use Rattle.history_laws.proofs.Written.{place_in, place_named}
-use Rattle.device_laws.proofs.{Settings.no_reset, StandingAccesses.read_rest, StandingAccesses.write_rest}
 use Rattle.device_laws.specs.Leaving.{LeavesOtherSides}
 use Rattle.nic_device.specs.RegTable.declared.bank.Bank.TheVariants as bank
 use Rattle.nic_device.specs.RegisterFile.declared.owner.Owner.TheVariants as owner
@@ -57,12 +57,10 @@ module _ (queue : ℕ) (s t : State) where
 -- a register that is no setting is none of these
 pub no_setting : (row : RowId) → is_setting row ≡ false
     → (row ≢ Ctrl) × (row ≢ Hlreg0) × (row ≢ Maxfrs) × (row ≢ GcrExt)
-no_setting row none = (
-  (λ e. let f : true ≡ false = ap is_setting (sym e) ∙ none in cc),
-  (λ e. let f : true ≡ false = ap is_setting (sym e) ∙ none in cc),
-  (λ e. let f : true ≡ false = ap is_setting (sym e) ∙ none in cc),
-  (λ e. let f : true ≡ false = ap is_setting (sym e) ∙ none in cc),
-)
+no_setting row none =
+    let other : (r : RowId) → is_setting r ≡ true → row ≢ r =
+    λ r is e. let f : true ≡ false = sym is ∙ ap is_setting (sym e) ∙ none in cc in
+    (other Ctrl refl, other Hlreg0 refl, other Maxfrs refl, other GcrExt refl)
 
 -- a register of a side of the queue is one that the queue rests on
 
@@ -84,14 +82,10 @@ pool_none : (b : Bank) (dir : Dir) (mode : Mode) (v index queue : ℕ) → has_q
     → is_owner (owner.Side dir queue) (owner_in b index) ≡ true → is_of_pool_by b mode v index ≡ false
 pool_none b dir mode v index queue h1 h2 = grind (arith, common_steps, eqb-true)
 
-wanted_none : (side dir : Dir) (mode : Mode) (v queue number : ℕ) → has_queue mode v queue ≡ false
-    → is_owner (owner.Side side queue) (owner.Side dir number) ≡ true → has_queue mode v number ≡ false
-wanted_none side dir mode v queue number h1 h2 = grind (arith, common_steps, eqb-true)
-
 pub pool_misses : (side : Dir) (mode : Mode) (v queue : ℕ) → has_queue mode v queue ≡ false
     → Misses (pool_renews mode v) (of_side side queue)
 pool_misses side mode v queue none =
-    grind (arith, common_steps, misses-narrower, covers-renewed, pool_none, wanted_none)
+    grind (arith, common_steps, misses-narrower, covers-renewed, pool_none, eqb-true)
 
 -- a write
 
@@ -168,14 +162,9 @@ pub switch_is : (dir : Dir) (queue : ℕ) (e : Event Block) → is_switch_of dir
 switch_is dir queue e h1 = grind (arith, common_steps, eqb-true)
 
 module _ (w : Watched) (s : State) (functions : w.vfs ≡ s.vfs) where
-  spares-named : (port : Port) (n word view : ℕ) (p : Place)
-      → LeavesRegisters w (mode_in s.registers) (event.Write port n word)
-      → named s port n ≡ Register p view → Spares w.queue (mode_in s.registers) p word
-  spares-named port n word view p left is = grind (arith, common_steps, place_named, place_in)
-
   -- it writes no setting
   pub left-setting : (e : Event Block) → LeavesRegisters w (mode_in s.registers) e → WritesNoSetting s e
-  left-setting e h1 = grind (arith, common_steps, no_setting, spares-named)
+  left-setting e h1 = grind (arith, common_steps, no_setting, place_named, place_in)
 
   written_sides : (port : Port) (n word : ℕ) (m : Named) → named s port n ≡ m
       → LeavesRegisters w (mode_in s.registers) (event.Write port n word)
@@ -183,7 +172,7 @@ module _ (w : Watched) (s : State) (functions : w.vfs ≡ s.vfs) where
   written_sides port n word (Nothing seen) is left =
       subst (LeavesBoth w.queue s) (sym (stray_written w.queue s port n word seen is)) (λ dir. refl)
   written_sides port n word (Register p view) is left =
-      spared_written w.queue s port n word p view is (spares-named port n word view p left is)
+      spared_written w.queue s port n word p view is (grind (arith, common_steps, place_named, place_in))
 
   -- and leaves each side, unless it is a step of that side's own
 
@@ -198,11 +187,6 @@ module _ (w : Watched) (s : State) (functions : w.vfs ≡ s.vfs) where
   switches Rx on apart = eqb-false on w.queue apart
   switches Tx on apart = eqb-false on w.queue apart
 
-  received_elsewhere : (dir : Dir) → is_step_of dir w.queue event.RxStep ≡ false
-      → LeavesSide dir w.queue s (after s event.RxStep)
-  received_elsewhere Rx other = cc
-  received_elsewhere Tx other = transmit_left w.queue s (after s event.RxStep) ((receiving_rest s).transmit w.queue)
-
   module _ (dir : Dir) where
     pub left-side : (e : Event Block) → LeavesRegisters w (mode_in s.registers) e → is_step_of dir w.queue e ≡ false
         → is_switch_of dir w.queue e ≡ false → LeavesSide dir w.queue s (after s e)
@@ -215,7 +199,7 @@ module _ (w : Watched) (s : State) (functions : w.vfs ≡ s.vfs) where
     left-side (event.Poke16 a bytes) left other apart =
         queues_left w.queue s _ dir (memory_rest.poke s a bytes).queues
     left-side (event.Arrive frame) left other apart = queues_left w.queue s _ dir (arrival_rest s frame).queues
-    left-side event.RxStep left other apart = received_elsewhere dir other
+    left-side event.RxStep left other apart = (grind (arith, common_steps, transmit_left, receiving_rest))
     left-side (event.TxStep on) left other apart =
         others_left dir Tx on _ (transmitting_rest s on).sides
         (λ e. eqb-false on w.queue (subst (λ d. is_step_of d w.queue (event.TxStep on) ≡ false) e other))

@@ -1,21 +1,19 @@
 -- Which blocks are lent, and which frames wait, after an event.
-use Rattle.std.proofs.Common.{[], ◌%◌, ◌++◌, ◌||◌, ◌∙◌, ◌∷◌, ◌≡◌, ◌≢◌, ◌≤◌, Bool, Err, List, Ok, Some, ℕ, ap, arith}
-use Rattle.std.proofs.Common.{false, inl, inr, length, nat_lt, not, refl, subst, sym, true}
+use Rattle.std.proofs.Common.{[], ◌%◌, ◌++◌, ◌||◌, ◌∙◌, ◌∷◌, ◌≡◌, ◌≢◌, ◌≤◌, Bool, List, Some, ap, arith, false, inl}
 use Rattle.std.proofs.lemmas.Bool.{and_from, and_parts, both_ways, cases_eq, cond_both, eq-eqb, eqb-false, eqb-true}
-use Rattle.std.proofs.lemmas.Bool.{ltb-false, ne_eqb, not-true, or_cases, or_left, or_right}
-use Rattle.history_laws.specs.Prelude.{Block, Blocks, Done, Event, Memory, Named, Nothing, Outcome, Place, Port}
-use Rattle.history_laws.specs.Prelude.{Register, Reply, Rx, State, Tx, Waiting, after, asks_pool_reset, asks_reset}
-use Rattle.history_laws.specs.Prelude.{frame_limit, gives, has_block, has_queue, is_lent, is_wanted, mode_in, named}
-use Rattle.history_laws.specs.Prelude.{named_written, reply_to, row_of, step_of, write_at}
-use Rattle.nic_device.proofs.Cases.{either_way, lent_cases, switched_cases, taken_cases}
+use Rattle.history_laws.specs.Prelude.{Block, Blocks, Done, Event, Memory, Named, Nothing, Outcome, Place, Register}
+use Rattle.history_laws.specs.Prelude.{Reply, Rx, State, Tx, Waiting, after, asks_pool_reset, asks_reset, frame_limit}
+use Rattle.history_laws.specs.Prelude.{gives, has_block, has_queue, is_lent, is_wanted, mode_in, named, named_written}
 use Rattle.history_laws.specs.Lent.{AnewIsDone, LendsNone, LendsOneOf, OnlyLent, OnlyLentStays, either, with_lent}
-use Rattle.std.proofs.lemmas.Grind.{common_steps}
-use Rattle.std.specs.Prelude.{◌==◌, Result, filter, is_some, ⊤}
-use Rattle.nic_device.specs.{RxFilter.declared.unwanted.Unwanted.Unwanted, declared.event.Reply.TheVariants.Buf}
-use Rattle.nic_device.specs.{declared.event.Reply.TheVariants.Twice, Arrival.let_in, Arrival.sorted_in}
-use Rattle.nic_device.specs.{RxFilter.declared.target.Target.Target, Switching.without_part}
+use Rattle.std.proofs.{Common.inr, Common.length, Common.not, Common.refl, Common.subst, Common.sym, Common.true}
+use Rattle.std.proofs.{Common.ℕ, lemmas.Bool.ne_eqb, lemmas.Bool.not-true, lemmas.Bool.or_cases, lemmas.Bool.or_left}
+use Rattle.std.proofs.{lemmas.Bool.or_right, lemmas.Grind.common_steps}
+use Rattle.history_laws.specs.{Lent.without, Prelude.reply_to, Prelude.row_of, Prelude.step_of, Prelude.write_at}
+use Rattle.nic_device.proofs.{Cases.arrived_cases, Cases.lent_cases, Cases.switched_cases, Cases.taken_cases}
 use Rattle.nic_device.proofs.{DmaArena.Bus.get-remove_other, DmaArena.Bus.get-remove_same, KeptBlocks.keeps_blocks}
-use Rattle.history_laws.specs.Lent.{without}
+use Rattle.std.specs.Prelude.{◌==◌, filter, is_some, ⊤}
+use Rattle.nic_device.specs.{Arrival.let_in, RxFilter.declared.target.Target.Target, Switching.without_part}
+use Rattle.nic_device.specs.{declared.event.Reply.TheVariants.Buf, declared.event.Reply.TheVariants.Twice}
 use Rattle.device_laws.proofs.{Resetting.is_reset, Standing.memory_blocks, Standing.stays_within}
 use Rattle.device_laws.proofs.{StandingAccesses.read_rest}
 use Rattle.std.specs.FinMap as map
@@ -24,13 +22,9 @@ use Rattle.nic_device.specs.declared.event.Event.TheVariants as event
 -- Memory calls that are done.
 
 -- a block that isn't lent yet is lent
-lent_anew : (s : State) (block : Block) → has_block s.memory block.number ≡ false
-    → step_of s (event.Lend block) ≡ gives Done (record s { memory = map.insert s.memory block.number block.bytes })
-unfolding step_of
-lent_anew s block none = rw none refl
-
 pub anew_is_done : AnewIsDone
-anew_is_done s block none = ap (λ (o : Outcome). o.reply) (lent_anew s block none)
+unfolding step_of
+anew_is_done s block none = rw (none, reply_to) refl
 
 -- one that is lent is taken back
 pub taken_is : (s : State) (b : ℕ) (bytes : List ℕ) → map.get s.memory b ≡ Some bytes
@@ -60,9 +54,7 @@ module _ (s : State) (n : ℕ) where
       → (n ≢ number) × (has_block s.memory n ≡ true)
   removed_was number has = elim (cases_eq n number) [
     | inl same ↦
-        absurd (both_ways (has_block (map.remove s.memory number) n)
-        (subst (λ k. has_block (map.remove s.memory number) k ≡ false) (sym same)
-        (ap (λ (o : _). is_some o) (get-remove_same s.memory number))) has)
+        (grind (arith, common_steps, both_ways, get-remove_same))
     | inr ne ↦ (ne, ap (λ (o : _). is_some o) (sym (get-remove_other s.memory number n ne)) ∙ has)
   ]
 
@@ -179,9 +171,7 @@ follows_in mine had all (event.Lend b) has f Done is n there =
       | inl same ↦ ap mine (eqb-true n b.number same) ∙ is
       | inr old ↦ all n old
     ]
-follows_in mine had all (event.Lend b) has f r is n there = all n (sym (f r n) ∙ there)
 follows_in mine had all (event.Take t) has f (Buf b) is n there = all n ((f (Buf b) n).1 there)
-follows_in mine had all (event.Take t) has f r is n there = all n (sym (f r n) ∙ there)
 follows_in mine had all e has f r is n there = all n (sym (f r n) ∙ there)
 
 -- The frames that wait after an event.
@@ -217,35 +207,16 @@ module _ (P : List Waiting → Type 0) (s : State) (now : P s.waiting) where
       (λ no. cond_both (asks_pool_reset (row_of p.row).kind word) _ _ (λ (t : State). P t.waiting)
       (λ asks. (resets p view refl).pool asks) (λ none. now))
 
-  written_here : (port : Port) (n word : ℕ) → Changes P s (event.Write port n word)
-      → Wait (step_of s (event.Write port n word))
+  pub waiting_changed : (e : Event Block) → Changes P s e → P (after s e).waiting
   unfolding step_of
-  written_here port n word resets = written word (named s port n) resets
-
-  sorted_wait : (frame : List ℕ) → Changes P s (event.Arrive frame) → length frame ≤ frame_limit s.registers
-      → (answer : Result Target Unwanted) → Wait (sorted_in s frame answer)
-  sorted_wait frame comes low (Ok t) = either_way Wait (nat_lt (length s.waiting) s.fifo) _ _ (comes t low) now
-  sorted_wait frame comes low (Err why) = now
-
-  arrived : (frame : List ℕ) → Changes P s (event.Arrive frame) → Wait (step_of s (event.Arrive frame))
-  unfolding step_of
-  arrived frame comes = grind (arith, common_steps, either_way, nat_lt, cond_both, sorted_wait, ltb-false)
-
-  switched : (on : ℕ) → Changes P s (event.QueueStep Rx on) → Wait (step_of s (event.QueueStep Rx on))
-  unfolding step_of
-  switched on parts =
+  waiting_changed event.RxStep received = received
+  waiting_changed (event.Write port n word) resets = written word (named s port n) resets
+  waiting_changed (event.Arrive frame) comes =
+      arrived_cases Wait s frame (grind (arith, common_steps))
+  waiting_changed (event.QueueStep Rx on) parts =
       switched_cases Wait s Rx on now now
       (cond_both (is_wanted s.registers Rx on) _ _ (λ (t : State). P t.waiting) (λ wanted. now) parts)
-
-  same : (e : Event Block) → (after s e).waiting ≡ s.waiting → Wait (step_of s e)
-  same e is = subst P (sym is) now
-
-  pub waiting_changed : (e : Event Block) → Changes P s e → P (after s e).waiting
-  waiting_changed event.RxStep received = received
-  waiting_changed (event.Write port n word) resets = written_here port n word resets
-  waiting_changed (event.Arrive frame) comes = arrived frame comes
-  waiting_changed (event.QueueStep Rx on) parts = switched on parts
   waiting_changed (event.QueueStep Tx on) none =
-      same (event.QueueStep Tx on) ((stays_within s (event.QueueStep Tx on)).waiting refl)
-  waiting_changed (event.Read port n) none = same (event.Read port n) (read_rest s port n).frames.waiting
-  waiting_changed e none = same e ((stays_within s e).waiting refl)
+      subst P (sym ((stays_within s (event.QueueStep Tx on)).waiting refl)) now
+  waiting_changed (event.Read port n) none = subst P (sym (read_rest s port n).frames.waiting) now
+  waiting_changed e none = subst P (sym ((stays_within s e).waiting refl)) now

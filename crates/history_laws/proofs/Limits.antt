@@ -1,41 +1,38 @@
 -- The settings that the entries of a history tell are the device's: how the queues are parted among pools, and how
 -- long frames may be.
-use Rattle.std.proofs.Common.{[], ◌%◌, ◌/◌, ◌<◌, ◌^◌, ◌∙◌, ◌∷◌, ◌≡◌, ◌≢◌, Bool, List, ℕ, ap, arith, cond, false, inl}
+use Rattle.std.proofs.Common.{[], ◌%◌, ◌/◌, ◌<◌, ◌^◌, ◌∙◌, ◌∷◌, ◌≡◌, ◌≢◌, Bool, List, ap, arith, cond, false, inl, inr}
 use Rattle.history_laws.specs.Prelude.{AreEvents, Block, Entry, Event, GcrExt, IsSound, Maxfrs, Mode, Named, Nothing}
 use Rattle.history_laws.specs.Prelude.{Off, Pf, Place, Port, Register, RowId, State, after, asks_reset, has_bit}
 use Rattle.history_laws.specs.Prelude.{leads_to, mode_in, mode_through, named, named_written, new_state, place, row_of}
-use Rattle.nic_device.specs.RegTable.declared.rows.RowId.TheVariants.{Ctrl, Hlreg0}
-use Rattle.nic_device.specs.VfMap.declared.mode.Mode.TheVariants.{Pools16, Pools32, Pools64}
-use Rattle.nic_device.specs.Footprint.{below_reset_reach, reset_reach, write_reach}
-use Rattle.device_lock.specs.Alone.{is_setting, mode_after, mode_set, mode_written}
 use Rattle.device_lock.specs.Told.{first_settings, frames_set, frames_written, limit_of, settings_after}
 use Rattle.history_laws.proofs.Written.{AreReal, IsReal, low_bit_merged, low_merged, merged_high, place_in, place_named}
-use Rattle.std.proofs.{lemmas.Grind.common_steps, Common.inr, Common.refl, Common.subst, Common.sym, Common.true}
-use Rattle.std.proofs.{lemmas.Bool.cases_Bool}
+use Rattle.std.proofs.{Common.refl, Common.subst, Common.sym, Common.true, Common.ℕ, lemmas.Bool.cases_Bool}
+use Rattle.std.proofs.{lemmas.Grind.common_steps}
+use Rattle.history_laws.specs.{Laws.ModeIsTold, Laws.SettingsAreTold, Prelude.step_of, Prelude.word_of}
+use Rattle.nic_device.specs.VfMap.declared.mode.Mode.TheVariants.{Pools16, Pools32, Pools64}
+use Rattle.nic_device.specs.{Eeprom.reset, Eeprom.with_triples, EepromImage.Image.blank, EepromImage.Triples.triples_of}
+use Rattle.nic_device.specs.{Footprint.below_reset_reach, Footprint.reset_reach, Footprint.write_reach}
+use Rattle.nic_device.specs.{PoolReset.written_below_reset, RegTable.declared.rows.RowId.TheVariants.Ctrl}
+use Rattle.nic_device.specs.{RegTable.declared.rows.RowId.TheVariants.Hlreg0, State.cleared, VfMap.Pools.mode_of}
+use Rattle.device_lock.specs.{Alone.is_setting, Alone.mode_set, Alone.mode_written, Told.settings_through}
+use Rattle.device_lock.specs.{Told.usual_frames, declared.told.Frames.Frames, declared.told.Settings.Settings}
+use Rattle.history_laws.proofs.{Leaving.no_setting, Written.real}
 use Rattle.std.specs.Prelude.{if◌then◌else◌, ◌==◌}
-use Rattle.history_laws.specs.{Prelude.step_of, Prelude.word_of, Laws.ModeIsTold, Laws.SettingsAreTold}
 use Rattle.nic_device.proofs.{EepromImage.Blank.triples_of-blank, RegisterFile.ResetWords.word_at-reset}
 use Rattle.nic_device.proofs.{RegisterLaws.Accessed.none_written_by, RegisterLaws.Footprints.word_stands}
 use Rattle.nic_device.proofs.{RegisterLaws.Owners.is_place-other, RegisterLaws.Puts.same_parts}
 use Rattle.nic_device.proofs.{RegisterLaws.Shape.put_stands, Steps.keeps_sound, Steps.step_leads}
-use Rattle.nic_device.specs.{Eeprom.reset, Eeprom.with_triples, EepromImage.Image.blank, EepromImage.Triples.triples_of}
-use Rattle.nic_device.specs.{PoolReset.written_below_reset, State.cleared, VfMap.Pools.mode_of}
-use Rattle.device_lock.specs.{Told.settings_through, Told.usual_frames, declared.told.Frames.Frames}
-use Rattle.device_lock.specs.{declared.told.Settings.Settings}
-use Rattle.history_laws.proofs.{Written.real, Leaving.no_setting}
 use Rattle.device_laws.proofs.Settings.{IsSetting, setting_stands}
 use Rattle.nic_device.specs.declared.event.Event.TheVariants as event
 
 -- no step of the device changes GCR_EXT, HLREG0 or MAXFRS
 
-setting : IsSetting GcrExt
-setting = record { bank = refl; alone = refl; still = λ bit. refl; unread = λ e. cc }
-
-jumbo_setting : IsSetting Hlreg0
-jumbo_setting = record { bank = refl; alone = refl; still = λ bit. refl; unread = λ e. cc }
-
-longest_setting : IsSetting Maxfrs
-longest_setting = record { bank = refl; alone = refl; still = λ bit. refl; unread = λ e. cc }
+told_setting : (row : RowId) → is_setting row ≡ true → row ≢ Ctrl → IsSetting row
+told_setting GcrExt own other = record { bank = refl; alone = refl; still = λ bit. refl; unread = λ e. cc }
+told_setting Hlreg0 own other = record { bank = refl; alone = refl; still = λ bit. refl; unread = λ e. cc }
+told_setting Maxfrs own other = record { bank = refl; alone = refl; still = λ bit. refl; unread = λ e. cc }
+told_setting Ctrl own other = absurd (other refl)
+told_setting row own other = cc
 
 -- nor does a write of CTRL that asks for no reset
 control_stands : (row : RowId) → IsSetting row → row ≢ Ctrl → (s : State) (port : Port) (n word index view : ℕ)
@@ -80,14 +77,11 @@ by_low_bits n = if n == 0 then Off else (if n == 1 then Pools16 else (if n == 2 
 
 -- where none of these words changes they stay
 
-abbrev IsTold : RowId → Type 0
-IsTold row = IsSetting row × (is_setting row ≡ true) × (row ≢ Ctrl)
-
 same_settings : (s t : State)
-    → ((row : RowId) → IsTold row → word_of t.registers row 0 ≡ word_of s.registers row 0)
+    → ((row : RowId) → is_setting row ≡ true → row ≢ Ctrl → word_of t.registers row 0 ≡ word_of s.registers row 0)
     → settings_in s ≡ settings_in t
-same_settings s t same = sym (λ i. settings_by (same GcrExt (setting, refl, λ e. cc) i)
-    (same Hlreg0 (jumbo_setting, refl, λ e. cc) i) (same Maxfrs (longest_setting, refl, λ e. cc) i))
+same_settings s t same = sym (λ i. settings_by (same GcrExt refl (λ e. cc) i) (same Hlreg0 refl (λ e. cc) i)
+    (same Maxfrs refl (λ e. cc) i))
 
 new_settings : (vfs fifo : ℕ) → settings_in (new_state vfs fifo) ≡ first_settings
 new_settings vfs fifo = λ i.
@@ -117,9 +111,9 @@ module _ (s : State) (sound : IsSound s) (image : s.image ≡ blank) (port : Por
   left_by m found = ap (λ x. (named_written s x word).state) found
 
   module _ (p : Place) (view : ℕ) (found : named s port n ≡ Register p view) (real : IsReal p view) where
-    stays : (row : RowId) → IsSetting row → p.row ≢ row → p.row ≢ Ctrl
+    stays : (row : RowId) → is_setting row ≡ true → row ≢ Ctrl → p.row ≢ row → p.row ≢ Ctrl
         → word_of t.registers row 0 ≡ word_of s.registers row 0
-    stays row is = other_stands row is s port n word p view found
+    stays row own other = other_stands row (told_setting row own other) s port n word p view found
 
     -- a setting's register is the only one of its row
     written_by : (row : RowId) → p.row ≡ row → (row_of row).count ≡ 1 → (seen : ℕ) → view ≡ seen
@@ -136,7 +130,8 @@ module _ (s : State) (sound : IsSound s) (image : s.image ≡ blank) (port : Por
         ∙ ap (λ b. settings_in (cond b (reset s) (written_below_reset s (place Ctrl index) view word))) asks
         ∙ settings_of_reset s image)
     control index false there asks =
-        same_settings s t (λ row is. control_stands row is.0 is.2 s port n word index view there asks)
+        same_settings s t (λ row own other.
+        control_stands row (told_setting row own other) other s port n word index view there asks)
 
     control_told : (b : Bool) (was : Settings) → record {
       mode = cond b Off was.mode;
@@ -151,16 +146,16 @@ module _ (s : State) (sound : IsSound s) (image : s.image ≡ blank) (port : Por
         ap (λ (x : State). mode_in x.registers) (written_by GcrExt at refl view refl)
         ∙ ap mode_of (put_stands s.registers (place GcrExt 0) _ sound.registers.shape (omega arith))
         ∙ ap by_low_bits (low_merged view (word_of s.registers GcrExt 0) word real.shown) in
-        let jumbo = stays Hlreg0 jumbo_setting (λ e. cc) (λ e. cc) in
-        let longest = stays Maxfrs longest_setting (λ e. cc) (λ e. cc) in
+        let jumbo = stays Hlreg0 refl (λ e. cc) (λ e. cc) (λ e. cc) in
+        let longest = stays Maxfrs refl (λ e. cc) (λ e. cc) (λ e. cc) in
         sym (λ i. record { mode = mode i; frames = frames_by (jumbo i) (longest i) })
     written Hlreg0 at own =
         let bit : has_bit 2 (word_of t.registers Hlreg0 0) ≡ has_bit 2 word =
         ap (λ (x : State). has_bit 2 (word_of x.registers Hlreg0 0)) (written_by Hlreg0 at refl view refl)
         ∙ ap (has_bit 2) (put_stands s.registers (place Hlreg0 0) _ sound.registers.shape (omega arith))
         ∙ low_bit_merged view (word_of s.registers Hlreg0 0) word real.shown in
-        let ext = stays GcrExt setting (λ e. cc) (λ e. cc) in
-        let longest = stays Maxfrs longest_setting (λ e. cc) (λ e. cc) in
+        let ext = stays GcrExt refl (λ e. cc) (λ e. cc) (λ e. cc) in
+        let longest = stays Maxfrs refl (λ e. cc) (λ e. cc) (λ e. cc) in
         sym (λ i. record { mode = mode_of (ext i); frames = record { jumbo = bit i; longest = longest i / 2 ^ 16 } })
     written Maxfrs at own =
         let high : word_of t.registers Maxfrs 0 / 2 ^ 16 ≡ word / 2 ^ 16 % 2 ^ 16 =
@@ -168,8 +163,8 @@ module _ (s : State) (sound : IsSound s) (image : s.image ≡ blank) (port : Por
         (written_by Maxfrs at refl 0xFFFFFFFF (real.whole at))
         ∙ ap (λ (w : ℕ). w / 2 ^ 16) (put_stands s.registers (place Maxfrs 0) _ sound.registers.shape (omega arith))
         ∙ merged_high (word_of s.registers Maxfrs 0) word in
-        let ext = stays GcrExt setting (λ e. cc) (λ e. cc) in
-        let jumbo = stays Hlreg0 jumbo_setting (λ e. cc) (λ e. cc) in
+        let ext = stays GcrExt refl (λ e. cc) (λ e. cc) (λ e. cc) in
+        let jumbo = stays Hlreg0 refl (λ e. cc) (λ e. cc) (λ e. cc) in
         sym (λ i. record { mode = mode_of (ext i); frames = record { jumbo = has_bit 2 (jumbo i); longest = high i } })
     written Ctrl at own =
         control_told (asks_reset (row_of Ctrl).kind word) (settings_in s)
@@ -191,9 +186,9 @@ module _ (s : State) (sound : IsSound s) (image : s.image ≡ blank) (port : Por
   named_told (Register p view) found real = elim (cases_Bool (is_setting p.row)) [
     | inl own ↦ written p view found real p.row refl own
     | inr none ↦
-        plain p.row none ∙ same_settings s t (λ row is.
-        other_stands row is.0 s port n word p view found
-        (λ e. let f : true ≡ false = sym is.1 ∙ ap is_setting (sym e) ∙ none in cc) (no_setting p.row none).0)
+        plain p.row none ∙ same_settings s t (λ row own other.
+        stays p view found real row own other
+        (λ e. let f : true ≡ false = sym own ∙ ap is_setting (sym e) ∙ none in cc) (no_setting p.row none).0)
   ]
 
   write_told : settings_after s.vfs (settings_in s) (event.Write port n word) ≡ settings_in t
@@ -205,7 +200,8 @@ event_told : (s : State) → IsSound s → s.image ≡ blank → (e : Event Bloc
     → settings_after s.vfs (settings_in s) e ≡ settings_in (after s e)
 event_told s sound image (event.Write port n word) = write_told s sound image port n word
 event_told s sound image e =
-    same_settings s (after s e) (λ row is. setting_stands row is.0 s e (λ port n word p view is there. cc))
+    same_settings s (after s e)
+    (λ row own other. setting_stands row (told_setting row own other) s e (λ port n word p view is there. cc))
 
 told_from : (s : State) (h : List Entry) → IsSound s → s.image ≡ blank → AreEvents h
     → settings_through s.vfs (settings_in s) h ≡ settings_in (leads_to s h)
@@ -225,15 +221,11 @@ settings_told vfs fifo h new events =
 
 -- the mode by itself is one of them
 
-mode_after_is : (vfs : ℕ) (m : Settings) (e : Event Block) → mode_after vfs m.mode e ≡ (settings_after vfs m e).mode
-mode_after_is vfs m (event.Write port n word) = refl
-mode_after_is vfs m other = refl
-
 mode_through_is : (vfs : ℕ) (m : Settings) (h : List Entry)
     → mode_through vfs m.mode h ≡ (settings_through vfs m h).mode
 mode_through_is vfs m [] = refl
 mode_through_is vfs m (e ∷ es) =
-    ap (λ mode. mode_through vfs mode es) (mode_after_is vfs m e.event)
+    ap (λ mode. mode_through vfs mode es) (grind (arith, common_steps))
     ∙ mode_through_is vfs (settings_after vfs m e.event) es
 
 pub mode_told_from : (s : State) (h : List Entry) → IsSound s → s.image ≡ blank → AreEvents h

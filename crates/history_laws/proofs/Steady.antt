@@ -1,17 +1,17 @@
 -- A side of a queue, whatever the device does to it, and as a driver asks for it to be on or off.
-use Rattle.std.proofs.Common.{[], ◌&&◌, ◌<◌, ◌∙◌, ◌≡◌, ◌⊎◌, Bool, List, ℕ, ap, arith, cond, false, inl, inr, not, refl}
+use Rattle.std.proofs.Common.{[], ◌&&◌, ◌<◌, ◌∙◌, ◌≡◌, ◌⊎◌, Bool, List, ap, arith, cond, false, inl, inr, not, refl}
 use Rattle.history_laws.specs.Prelude.{Block, Dir, Event, IsSound, Port, Register, Rx, State, Tx, Txdctl, after}
 use Rattle.history_laws.specs.Prelude.{has_bit, named, named_written, place, receive_queue_of, reply_to, staged_by}
-use Rattle.history_laws.specs.Prelude.{step_of, transmit_queue_of, word_of}
-use Rattle.nic_device.proofs.RegisterLaws.Switches.{receive-asked, transmit-asked}
-use Rattle.nic_device.specs.RegTable.declared.rows.RowId.TheVariants.{Rxdctl}
-use Rattle.history_laws.specs.Left.{Deed, IsSilent, Nothing, Rested, Rests, Shut, Shuts, Switched, Took}
 use Rattle.history_laws.specs.Sides.{IsOff, IsTried, IsUnwanted, IsUp, LeavesSide, Side, as_wanted, receive_side, shut}
+use Rattle.std.proofs.{Common.subst, Common.sym, Common.true, Common.ℕ, lemmas.Grind.common_steps, lemmas.Nat.and_mask}
+use Rattle.history_laws.specs.{Left.Deed, Left.IsSilent, Left.Nothing, Left.Rested, Left.Rests, Left.Shut, Left.Shuts}
+use Rattle.history_laws.specs.{Left.Switched, Left.Took, Prelude.step_of, Prelude.transmit_queue_of, Prelude.word_of}
+use Rattle.history_laws.specs.{Sides.side_of, Sides.taken, Sides.transmit_side}
+use Rattle.nic_device.proofs.RegisterLaws.Switches.{receive-asked, transmit-asked}
+use Rattle.nic_device.specs.{Access.named_read, RegTable.declared.rows.RowId.TheVariants.Rxdctl}
+use Rattle.nic_device.specs.{RegisterFile.Queue.enable_row, declared.event.Reply.TheVariants.Word}
 use Rattle.history_laws.proofs.Leaving.{queues_left, receive_left, transmit_left}
-use Rattle.std.proofs.{lemmas.Grind.common_steps, Common.subst, Common.sym, Common.true, lemmas.Nat.and_mask}
 use Rattle.std.specs.Prelude.{IsFalse, IsTrue, bit_and}
-use Rattle.nic_device.specs.{Access.named_read, RegisterFile.Queue.enable_row, declared.event.Reply.TheVariants.Word}
-use Rattle.history_laws.specs.Sides.{side_of, taken, transmit_side}
 use Rattle.device_laws.proofs.StandingAccesses.{read_rest, write_rest}
 use Rattle.nic_device.specs.declared.event.Event.TheVariants as event
 
@@ -39,10 +39,6 @@ pub record HaveSameRing (x y : Side) : Type 0 where
   pub writeback : y.writeback ≡ x.writeback
   pub staged : x.staged ≡ [] → y.staged ≡ []
 
-ring_same : (x : Side) (on wanted : Bool) (staged : List ℕ) → (x.staged ≡ [] → staged ≡ [])
-    → HaveSameRing x (record x { on = on; wanted = wanted; staged = staged })
-ring_same x on wanted staged none = record { ring = refl; control = refl; writeback = refl; staged = none }
-
 pub none_staged : (wanted : Bool) (staged : List ℕ) → staged ≡ [] → cond wanted staged [] ≡ []
 none_staged true staged none = none
 none_staged false staged none = refl
@@ -55,14 +51,11 @@ module _ (dir : Dir) (queue : ℕ) (s : State) (e : Event Block) where
   new = side_of dir queue (after s e)
 
   module _ (P : Side → Type 0) (p : P old) where
-    resting_keeps : IsSteady P → Rests dir queue s e → P new
-    resting_keeps steady (Nothing left) = subst P (sym left) p
-    resting_keeps steady (Shut x) = subst P (sym x.side) (steady.shuts old x.tried p)
-    resting_keeps steady (Switched is) = subst P (sym is) (steady.switches old p)
-
     pub steady_kept : IsSteady P → Deed dir queue s e → P new
     steady_kept steady (Took x) = subst P (sym x.side) (steady.takes old x.staged x.tried p)
-    steady_kept steady (Rested silent rests) = resting_keeps steady rests
+    steady_kept steady (Rested silent (Nothing left)) = subst P (sym left) p
+    steady_kept steady (Rested silent (Shut x)) = subst P (sym x.side) (steady.shuts old x.tried p)
+    steady_kept steady (Rested silent (Switched is)) = subst P (sym is) (steady.switches old p)
 
     -- nothing is received or sent while it holds
     pub idle_silent : IsIdle P → Deed dir queue s e → IsSilent dir queue s e
@@ -71,18 +64,15 @@ module _ (dir : Dir) (queue : ℕ) (s : State) (e : Event Block) where
 
   -- an event that takes no slot leaves the ring
   pub resting_same : Rests dir queue s e → HaveSameRing old new
-  resting_same h1 = grind (arith, common_steps, ring_same, none_staged)
+  resting_same h1 = grind (arith, common_steps, none_staged)
 
   -- a side that is up stays so, where no fault can shut it
   module _ (up : IsUp old) (never : Shuts dir queue s e → ⊥) where
-    resting_up : Rests dir queue s e → IsUp new
-    resting_up (Nothing left) = subst IsUp (sym left) up
-    resting_up (Shut x) = absurd (never x)
-    resting_up (Switched is) = subst IsUp (sym is) (record { on = up.wanted; wanted = up.wanted })
-
     pub up_kept : Deed dir queue s e → IsUp new
     up_kept (Took x) = subst IsUp (sym x.side) (record { on = up.on; wanted = up.wanted })
-    up_kept (Rested silent rests) = resting_up rests
+    up_kept (Rested silent (Nothing left)) = subst IsUp (sym left) up
+    up_kept (Rested silent (Shut x)) = absurd (never x)
+    up_kept (Rested silent (Switched is)) = subst IsUp (sym is) (record { on = up.wanted; wanted = up.wanted })
 
 -- a side that isn't wanted on stays so, and one that is off besides
 
@@ -177,13 +167,10 @@ module _ (queue : ℕ) (s : State) (sound : IsSound s) (small : queue < 128) (po
       | inr left ↦ same_settles (side_of dir queue s) (side_of dir queue t) left settled
     ]
 
-bit-shown : (word : ℕ) → has_bit 25 (bit_and word 0xFFFFFFFF) ≡ has_bit 25 word
-bit-shown word = grind (arith, common_steps, and_mask)
-
 module _ (queue : ℕ) (s : State) (port : Port) (n word : ℕ) (told : reply_to s (event.Read port n) ≡ Word word) where
   told_is : (seen : ℕ) → reply_to s (event.Read port n) ≡ Word (bit_and seen 0xFFFFFFFF)
       → has_bit 25 word ≡ has_bit 25 seen
-  told_is seen looked = grind (arith, common_steps, bit-shown)
+  told_is seen looked = grind (arith, common_steps, and_mask)
 
   -- bit 25 is whether the side is on
   pub told_on : (dir : Dir) → NamesEnable dir queue s port n → has_bit 25 word ≡ (side_of dir queue s).on

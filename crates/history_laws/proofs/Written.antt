@@ -1,23 +1,22 @@
 -- What a number of a port names, and the low bits of the words that are written there.
-use Rattle.std.proofs.Common.{[], ◌%◌, ◌&&◌, ◌/◌, ◌<◌, ◌^◌, ◌∙◌, ◌∷◌, ◌≡◌, ◌⊎◌, Bool, List, None, Option, Some, ℕ, ap}
-use Rattle.std.proofs.Common.{arith, cond, false, inl, inr, not, refl, sym, true}
-use Rattle.std.proofs.lemmas.Nat.{and_le_r, and_mask, and_mod, and_shr, or_mod, or_shr}
-use Rattle.history_laws.specs.Prelude.{Maxfrs, Mode, Named, Nothing, Pf, Place, Port, Rdt, ReceiveQueue, Register}
-use Rattle.history_laws.specs.Prelude.{Registers, RowId, State, Tdt, TransmitQueue, after_write, has_bit, mode_in}
-use Rattle.history_laws.specs.Prelude.{named, place, receive_queue_of, row_of, transmit_queue_of, word_of}
-use Rattle.nic_device.proofs.RegisterLaws.SideWords.{receive-written, transmit-written}
-use Rattle.nic_device.specs.RegTable.Run.{Run, has_address, place_in as place_of}
-use Rattle.std.proofs.{lemmas.Grind.common_steps, lemmas.Bool.and_parts, lemmas.Bool.cases_Bool, lemmas.Bool.eq-eqb}
-use Rattle.std.proofs.{Math.Nat.mod-eq_of_lt}
-use Rattle.std.specs.{Prelude.◌==◌, Prelude.bit_and, Prelude.bit_or, Prelude.⊤, List.list_all}
-use Rattle.nic_device.specs.{RegisterLaws.Laws.HasShape, RegisterLaws.Laws.word_after, Named.at_location}
-use Rattle.nic_device.specs.{Named.at_place, RegTable.Place.place_among, RegTable.Place.view_among}
-use Rattle.nic_device.specs.{RegTable.Rows.number_of, RegTable.Runs.runs, RegisterFile.Bits.merged, VfMap.Map.located}
-use Rattle.nic_device.specs.{VfMap.declared.located.Located.Located, declared.event.Port.TheVariants.Vf}
+use Rattle.std.proofs.Common.{[], ◌%◌, ◌&&◌, ◌/◌, ◌<◌, ◌^◌, ◌∙◌, ◌∷◌, ◌≡◌, ◌⊎◌, Bool, List, None, Option, Some, ap}
+use Rattle.history_laws.specs.Prelude.{Maxfrs, Named, Nothing, Pf, Place, Port, Rdt, ReceiveQueue, Register, Registers}
+use Rattle.history_laws.specs.Prelude.{RowId, State, Tdt, TransmitQueue, after_write, has_bit, mode_in, named, place}
+use Rattle.std.proofs.Common.{arith, cond, false, inl, inr, not, refl, sym, true, ℕ}
+use Rattle.std.proofs.{Math.Nat.mod-eq_of_lt, lemmas.Bool.and_parts, lemmas.Bool.cases_Bool, lemmas.Bool.eq-eqb}
+use Rattle.std.proofs.{lemmas.Grind.common_steps, lemmas.Nat.and_le_r, lemmas.Nat.and_mask, lemmas.Nat.and_mod}
+use Rattle.std.proofs.{lemmas.Nat.and_shr, lemmas.Nat.or_mod, lemmas.Nat.or_shr}
+use Rattle.history_laws.specs.Prelude.{receive_queue_of, row_of, transmit_queue_of, word_of}
 use Rattle.nic_device.proofs.{RegTable.Finding.found-named, RegTable.InRange.named_in_range}
+use Rattle.nic_device.proofs.{RegisterLaws.SideWords.receive-written, RegisterLaws.SideWords.transmit-written}
 use Rattle.nic_device.proofs.{VfMap.Owners.located_in_range}
-use Rattle.device_lock.specs.Alone.{place_at, register_at}
-use Rattle.nic_device.specs.VfMap.declared.located.Located.TheVariants as located_as
+use Rattle.nic_device.specs.{Named.at_place, RegTable.Place.place_among, RegTable.Place.view_among}
+use Rattle.nic_device.specs.{RegTable.Rows.number_of, RegTable.Run.Run, RegTable.Run.has_address}
+use Rattle.nic_device.specs.{RegTable.Run.place_in as place_of, RegTable.Runs.runs, RegisterFile.Bits.merged}
+use Rattle.nic_device.specs.{RegisterLaws.Laws.HasShape, RegisterLaws.Laws.word_after}
+use Rattle.nic_device.specs.{declared.event.Port.TheVariants.Vf}
+use Rattle.std.specs.{List.list_all, Prelude.bit_and, Prelude.bit_or, Prelude.⊤, Prelude.◌==◌}
+use Rattle.device_lock.specs.Alone.{place_at}
 
 -- Low bits that are written through a view that shows them.
 
@@ -58,9 +57,6 @@ same_bit : (m n : ℕ) → m % 2 ^ 16 ≡ n % 2 ^ 16 → has_bit 2 m ≡ has_bit
 same_bit m n same =
     let bit : m / 2 ^ 2 % 2 ≡ n / 2 ^ 2 % 2 = omega (arith, same) in ap (λ (b : ℕ). b == 1) bit
 
-Some_one : {A : Type 0} {x y : A} → Some x ≡ Some y → x ≡ y
-Some_one e = cc
-
 shown_whole : (low own : Bool) → not (low && own) ≡ true → own ≡ true → low ≡ false
 shown_whole false own none is = refl
 shown_whole true true none is = cc
@@ -100,7 +96,7 @@ all_shown (r ∷ rs) row a p none is same =
     let x = and_parts (not (r.low && (number_of r.row == number_of row))) (none_low row rs) none in
     elim (cases_Bool (has_address r a)) as (λ _. view_among (r ∷ rs) a ≡ 0xFFFFFFFF) [
       | inl here ↦
-          let found : place_of r a ≡ p = Some_one (rw here at is) in
+          let found : place_of r a ≡ p = (grind (arith, common_steps)) in
           let own : r.row ≡ row = ap (λ (q : Place). q.row) found ∙ same in
           rw (here, shown_whole r.low _ x.0 (eq-eqb (number_of r.row) (number_of row) (ap number_of own))) refl
       | inr there ↦ rw there (all_shown rs row a p x.1 (rw there at is) same)
@@ -116,15 +112,10 @@ place_placed : (o : Option Place) (view : ℕ) → place_in (at_place o view) �
 place_placed None view = refl
 place_placed (Some p) view = refl
 
-place_located : (m : Located) → place_in (at_location m) ≡ register_at m
-place_located located_as.Absent = refl
-place_located located_as.Hole = refl
-place_located (located_as.Register p) = refl
-
 pub place_named : (s : State) (port : Port) (number : ℕ)
     → place_at (mode_in s.registers) s.vfs port number ≡ place_in (named s port number)
 place_named s Pf number = sym (place_placed (place_among runs number) (view_among runs number))
-place_named s (Vf v) number = sym (place_located (located (mode_in s.registers) s.vfs v number))
+place_named s (Vf v) number = sym (grind (arith, common_steps))
 
 -- a named register is in its row, and its low bits are shown; of MAXFRS all are
 
@@ -149,12 +140,9 @@ real_placed a (Some p) e = record {
   whole = λ is. all_shown runs Maxfrs a p maxfrs_whole e is;
 }
 
-real_located : (mode : Mode) (vfs v o : ℕ) (m : Located) → located mode vfs v o ≡ m → AreReal (at_location m)
-real_located mode vfs v o m h1 = grind (arith, common_steps, located_in_range)
-
 pub real : (s : State) (port : Port) (number : ℕ) → AreReal (named s port number)
 real s Pf number = real_placed number (place_among runs number) refl
-real s (Vf v) number = real_located (mode_in s.registers) s.vfs v number _ refl
+real s (Vf v) number = (grind (arith, common_steps, located_in_range))
 
 -- A word of 16 bits that is written to the register of a side's tail is the tail, and all else of the side stays.
 

@@ -1,22 +1,21 @@
 -- The driver's writes of the tail, its descriptors and its looks keep what it and the device agree on.
-use Rattle.std.proofs.Common.{[], if◌then◌else◌, ◌+◌, ◌<◌, ◌∙◌, ◌∷◌, ◌≡◌, ◌≢◌, ◌≤◌, Bool, List, ℕ, ap, arith, drop}
-use Rattle.std.proofs.Common.{false, length, refl, subst, suc, sym, true}
-use Rattle.history_laws.specs.Prelude.{Block, Event, Memory, Outcome, Port, State, Tdt, TransmitQueue, Tx}
-use Rattle.history_laws.specs.Prelude.{WritesNoSetting, after_write, gives, named_written, place, read_at, ring_of}
-use Rattle.history_laws.specs.Prelude.{step_of, transmit_queue_of, write_at}
+use Rattle.std.proofs.Common.{[], if◌then◌else◌, ◌+◌, ◌<◌, ◌∙◌, ◌∷◌, ◌≡◌, ◌≢◌, ◌≤◌, Bool, List, ap, arith, drop, false}
+use Rattle.history_laws.specs.Prelude.{Block, Event, Memory, Outcome, Port, State, Tdt, Tx, WritesNoSetting}
+use Rattle.history_laws.specs.Prelude.{after_write, gives, named_written, place, read_at, ring_of, step_of}
 use Rattle.ring_laws.specs.TransmitPrelude.{Advances, Asks, IsOwn, Looks, Move, Segment, Sender, asking, descriptor_at}
+use Rattle.ring_laws.proofs.Blocks.{Stays, ready_stays, slot-apart, slot-below, slot_looked, slot_poked, written_here}
+use Rattle.std.proofs.{Common.inl, Common.inr, Common.length, Common.refl, Common.subst, Common.sym, Common.true}
+use Rattle.std.proofs.{Common.ℕ, lemmas.Bool.both_ways, lemmas.Bool.cases_Bool, lemmas.Grind.common_steps}
+use Rattle.history_laws.specs.Prelude.{transmit_queue_of, write_at}
 use Rattle.ring_laws.specs.TransmitPrelude.{first_end, is_sent, moved, no_segment, segment_at, slot_at}
-use Rattle.ring_laws.proofs.Ring.{Stays, slot_looked, slot_poked, written_here, written_stays}
-use Rattle.ring_laws.specs.Agreeing.{Agrees, AgreesAt, IsBased, IsPosted, IsSetUp, Shows}
-use Rattle.ring_laws.proofs.Fetching.{asking-waits, done-sent, length-asking}
+use Rattle.ring_laws.specs.{Agreeing.Agrees, Agreeing.AgreesAt, Agreeing.IsBased, Agreeing.IsSetUp, Agreeing.Shows}
+use Rattle.ring_laws.specs.{TransmitUp.IsUp}
+use Rattle.ring_laws.proofs.{Blocks.written_stays, Fetching.asking-waits, Fetching.done-sent, Fetching.length-asking}
+use Rattle.ring_laws.proofs.{Sparing.Does, Sparing.based-after, Sparing.counted-on, Sparing.sends_on}
 use Rattle.nic_device.proofs.DmaArena.Bus.{small_of_lent}
 use Rattle.pmd_tx.specs.Sending.{advanced, asked, is_healthy, looked}
-use Rattle.ring_laws.proofs.Blocks.{ready_stays, slot-apart, slot-below}
-use Rattle.ring_laws.proofs.Sparing.{Does, based-after, counted-on, sends_on}
-use Rattle.std.proofs.{lemmas.Grind.common_steps, lemmas.Bool.both_ways}
 use Rattle.std.specs.Prelude.{slice_index_or, ⊤}
 use Rattle.history_laws.proofs.{Leaving.plain-write, Written.transmit-tail}
-use Rattle.ring_laws.specs.TransmitUp.{IsUp}
 use Rattle.nic_device.specs.declared.event.Event.TheVariants as event
 use Rattle.nic_device.specs.declared.event.Reply.TheVariants as reply
 
@@ -25,15 +24,12 @@ use Rattle.nic_device.specs.declared.event.Reply.TheVariants as reply
 abbrev IsLast : List Segment → ℕ → Type 0
 IsLast ss k = (slice_index_or ss k no_segment).part.last ≡ true
 
-end-of : (x : Segment) (ss : List Segment) → (first_end ss < length ss → IsLast ss (first_end ss)) → (last : Bool)
-    → x.part.last ≡ last → (if last then 0 else first_end ss + 1) < suc (length ss)
-    → IsLast (x ∷ ss) (if last then 0 else first_end ss + 1)
-end-of x ss later true is below = is
-end-of x ss later false is below = grind (arith, common_steps)
-
 pub end-last : (ss : List Segment) → first_end ss < length ss → IsLast ss (first_end ss)
 end-last [] below = absurd (omega arith)
-end-last (x ∷ ss) below = end-of x ss (end-last ss) x.part.last refl below
+end-last (x ∷ ss) below = elim (cases_Bool x.part.last) as (λ _. IsLast (x ∷ ss) (first_end (x ∷ ss))) [
+  | inl last ↦ rw last refl
+  | inr other ↦ rw other (grind (arith, common_steps, end-last ss))
+]
 
 module _ {s : State} {queue : ℕ} {sent : List (List ℕ)} {v : Sender} {f : ℕ} (h : AgreesAt s queue sent v f) where
   -- the tail is written
@@ -58,8 +54,7 @@ module _ {s : State} {queue : ℕ} {sent : List (List ℕ)} {v : Sender} {f : �
       ≡ record (transmit_queue_of s.registers queue) { ring = record (ring_of s.registers Tx queue) { tail = slot } }
   side_moved =
       let below = slot-below v.layout h.based.layout v.poked (omega (arith, fits)) in
-      let few = h.based.layout.few in
-      transmit-tail s.registers queue slot h.based.sound.registers.shape h.based.small (omega arith)
+      (grind (arith, common_steps, transmit-tail))
 
   tail_keeps : IsBased t queue v.layout → AgreesAt t queue sent (advanced v) f
   tail_keeps based = record {
@@ -70,10 +65,7 @@ module _ {s : State} {queue : ℕ} {sent : List (List ℕ)} {v : Sender} {f : �
         (omega (arith, h.counted.fetched_posted, h.counted.posted_poked)) (omega arith) h.counted.poked_lent;
     shows = assumption h.shows;
     sends = sends_on s t queue sent v.layout.limit (drop f v.outstanding) v.accepted refl
-        (λ x. (
-          ap (λ (y : TransmitQueue). y.on) side_moved ∙ x.off,
-          ap (λ (y : TransmitQueue). y.wanted) side_moved ∙ x.unwanted,
-        )) h.sends;
+        (grind (arith, common_steps, side_moved)) h.sends;
   }
 
   -- a move by its outcome, as the event is written otherwise, which writes no setting
@@ -100,10 +92,7 @@ module _ {s : State} {queue : ℕ} {sent : List (List ℕ)} {v : Sender} {f : �
   advance_one port n word own =
       by_outcome Advances (event.Write port n word) (event.Write port n word) _ refl (written_tail port n word own)
       (plain-write s port n word (place Tdt queue) 0xFFFFFFFF (rw (own.2, own.3) h.based.tail) refl)
-      (λ based. (f, tail_keeps based)) (λ up. record {
-        on = ap (λ (x : TransmitQueue). x.on) side_moved ∙ up.on;
-        wanted = ap (λ (x : TransmitQueue). x.wanted) side_moved ∙ up.wanted;
-      }) refl
+      (λ based. (f, tail_keeps based)) (grind (arith, common_steps, side_moved)) refl
 
   -- the descriptor of the next segment is written
 
@@ -114,24 +103,18 @@ module _ {s : State} {queue : ℕ} {sent : List (List ℕ)} {v : Sender} {f : �
     abbrev new : Memory
     new = write_at s.memory (descriptor_at v.layout v.poked) (asking x)
 
-    asks_fit : v.poked < v.layout.size
-    asks_fit = omega (arith, h.counted.room, h.counted.lent_known, more)
-
     here : slot < v.layout.size
-    here = slot-below v.layout h.based.layout v.poked (omega (arith, asks_fit))
+    here = slot-below v.layout h.based.layout v.poked (omega arith)
 
     stays : Stays v.layout.ring v.layout.size s.memory new (λ j. j ≢ slot) (λ b. ⊤)
     stays = written_stays v.layout.ring v.layout.size slot here s.memory (asking x) (length-asking x)
 
     other : (k : ℕ) → k < v.poked
         → read_at new (descriptor_at v.layout k) 16 ≡ read_at s.memory (descriptor_at v.layout k) 16
-    other k before = grind (arith, stays, slot-below, asks_fit, slot-apart)
-
-    waits_more : (k : ℕ) → f ≤ k → k < v.poked + 1 → IsPosted new (descriptor_at v.layout k) (segment_at v k)
-    waits_more k i j = grind (arith, other, written_here, here, length-asking)
+    other k before = grind (arith, stays, slot-below, slot-apart)
 
     shows-asked : Shows new (asked v) f
-    shows-asked = grind (arith, stays, ready_stays, other, waits_more)
+    shows-asked = grind (arith, stays, ready_stays, other, written_here, here, length-asking)
 
   pub ask_one : (a : ℕ) (bytes : List ℕ) → IsOwn v Asks (event.Poke16 a bytes) → Moves Asks (event.Poke16 a bytes)
   ask_one a bytes own =

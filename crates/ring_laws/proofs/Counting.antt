@@ -1,12 +1,12 @@
 -- The frames that a history sends: how they are counted, and that its replies tell them.
-use Rattle.std.proofs.Common.{[], if◌then◌else◌, ◌++◌, ◌+◌, ◌==◌, ◌∙◌, ◌∷◌, ◌≡◌, ◌≤◌, Bool, List, None, Some, ℕ, ap}
-use Rattle.std.proofs.Common.{append_assoc, arith, false, inl, inr, length, length-append, map, refl, sym, true}
-use Rattle.std.proofs.lemmas.List.{append-nil, drop_at, map-append}
+use Rattle.std.proofs.Common.{[], if◌then◌else◌, ◌++◌, ◌+◌, ◌==◌, ◌∙◌, ◌∷◌, ◌≡◌, ◌≤◌, Bool, List, None, Some, ap}
 use Rattle.history_laws.specs.Prelude.{Block, Entry, Event, IsEvent, IsSound, Reply, Sent, State, after, leads_to}
+use Rattle.std.proofs.Common.{append_assoc, arith, false, inl, inr, length, length-append, map, refl, sym, true, ℕ}
+use Rattle.std.proofs.{lemmas.Bool.cases_Bool, lemmas.Bool.eqb-true, lemmas.Grind.common_steps, lemmas.List.append-nil}
+use Rattle.std.proofs.{lemmas.List.drop_at, lemmas.List.map-append}
+use Rattle.history_laws.specs.{DeviceLaws.Replies.out_sent, Prelude.reply_to}
 use Rattle.ring_laws.specs.Counting.{IsEndOf, NeverGoesOn, SentIsCounted, SentIsTold, lengths_told}
 use Rattle.ring_laws.specs.Sent.{counted_by, frames_added, goes_on, sent_by, sent_in, sent_since}
-use Rattle.history_laws.specs.{Prelude.reply_to, DeviceLaws.Replies.out_sent}
-use Rattle.std.proofs.{lemmas.Grind.common_steps, lemmas.Bool.cases_Bool, lemmas.Bool.eqb-true}
 use Rattle.nic_device.proofs.{Answering.step_suits, Cases.either_way, Steps.keeps_sound}
 use Rattle.nic_device.specs.{Answering.may_answer, Transmit.with_frame}
 use Rattle.history_laws.proofs.{Deeds.added-none, DeviceLaws.RepliesOut.frames_out}
@@ -37,10 +37,7 @@ never : (queue : ℕ) (s : State) (sent : List (List ℕ)) (h : List Entry) → 
     → sent_since queue s sent h ≡ sent ++ sent_in queue s h
 never queue s sent [] off = sym (append-nil sent)
 never queue s sent (e ∷ es) off =
-    let one : List (List ℕ) = sent_by queue s e.event in
-    ap (λ (b : Bool). sent_since queue (after s e.event) (if b then [] else sent ++ one) es) off.0
-    ∙ never queue (after s e.event) (sent ++ one) es off.1
-    ∙ append_assoc sent one (sent_in queue (after s e.event) es)
+    rw off.0 (never queue (after s e.event) (sent ++ sent_by queue s e.event) es off.1 ∙ append_assoc sent _ _)
 
 -- it goes on for the last time
 last : (queue : ℕ) (s : State) (sent : List (List ℕ)) (g : List Entry) (e : Entry) (h : List Entry)
@@ -56,16 +53,12 @@ end queue s sent [] = ([], append-nil sent)
 end queue s sent (e ∷ es) =
     let t = after s e.event in
     let one = sent_by queue s e.event in
-    let joins = sym (append_assoc sent one (sent_in queue t es)) in
     elim (cases_Bool (goes_on queue s e.event)) [
       | inl goes ↦
           let more = end queue t [] es in
-          rw goes (
-            (sent ++ one) ++ more.0,
-            joins ∙ ap (λ (l : List (List ℕ)). (sent ++ one) ++ l) more.1
-                ∙ sym (append_assoc (sent ++ one) more.0 (sent_since queue t [] es)),
-          )
-      | inr stays ↦ let more = end queue t (sent ++ one) es in rw stays (more.0, joins ∙ more.1)
+          rw goes ((sent ++ one) ++ more.0, grind (arith, append_assoc, more.1))
+      | inr stays ↦
+          let more = end queue t (sent ++ one) es in rw stays (more.0, grind (arith, append_assoc, more.1))
     ]
 
 -- an entry sends one frame at most
@@ -81,34 +74,22 @@ few_by queue s (event.TxStep on) =
     (omega arith)
 few_by queue s other = omega arith
 
-few_counted : (queue : ℕ) (s : State) (e : Event Block) (sent : List (List ℕ))
-    → length (counted_by queue s e sent) ≤ length sent + 1
-few_counted queue s e sent = grind (arith, common_steps, either_way, length-append, few_by)
-
 few : (queue : ℕ) (s : State) (sent : List (List ℕ)) (h : List Entry)
     → length (sent_since queue s sent h) ≤ length sent + length h
 few queue s sent [] = omega arith
 few queue s sent (e ∷ es) =
-    grind (arith, common_steps, few_counted, few queue (after s e.event) (counted_by queue s e.event sent) es)
+    let rest = few queue (after s e.event) (counted_by queue s e.event sent) es in
+    grind (arith, common_steps, either_way, length-append, few_by, rest)
 
 pub sent_is_counted : SentIsCounted
 sent_is_counted = record { never = never; last = last; joined = joined; end = end; few = few }
 
 -- The frames that a history sends are those that its replies tell.
 
-one_told : (b : Bool) (frame : List ℕ) (len : ℕ) → length frame ≡ len
-    → map length (if b then frame ∷ [] else []) ≡ (if b then len ∷ [] else [])
-one_told true frame len is = ap (λ (n : ℕ). n ∷ []) is
-one_told false frame len is = refl
-
-none_told : (b : Bool) (none : List (List ℕ)) → none ≡ [] → map length (if b then none else []) ≡ []
-none_told true none is = ap (map length) is
-none_told false none is = refl
-
 transmitted_told : (queue on : ℕ) (s t : State) (r : Reply Block) → may_answer (event.TxStep on) r ≡ true
     → out_sent r s t → map length (if on == queue then frames_added s.out t.out else []) ≡ lengths_told queue r
 transmitted_told queue on s t r h1 h2 =
-    grind (arith, common_steps, eqb-true, added-one, one_told, none_told, added-none)
+    grind (arith, common_steps, eqb-true, added-one, added-none)
 
 -- no other event is answered so
 

@@ -1,29 +1,29 @@
 -- What the driver handed out, and what a history from any sound device on delivered.
 pub use Rattle.history_laws.proofs.Alone.{lent_behind}
-use Rattle.std.proofs.Common.{[], ◌&&◌, ◌++◌, ◌∙◌, ◌∷◌, ◌≡◌, ◌≢◌, ◌≤◌, ◌⊎◌, Bool, List, None, Option, Some, ℕ, ap}
-use Rattle.std.proofs.Common.{append_assoc, arith, cond, false, inl, inr, length, nat_lt, refl, subst, sym, true}
+use Rattle.std.proofs.Common.{[], ◌&&◌, ◌++◌, ◌∙◌, ◌∷◌, ◌≡◌, ◌≢◌, ◌≤◌, ◌⊎◌, Bool, List, None, Option, Some, ap}
 use Rattle.std.proofs.lemmas.Bool.{and_from, both_ways, cases_Bool, cases_lt, eq-eqb, eqb-false, eqb-true, lt-ltb}
-use Rattle.std.proofs.lemmas.List.{append-nil, length-append, nil_from_length}
 use Rattle.history_laws.specs.Prelude.{AreEvents, Block, Blocks, Entry, EntryLeavesAlone, Event, IsEvent, IsLegal}
 use Rattle.history_laws.specs.Prelude.{IsSound, Reply, State, Watched, after, calls_of, leads_to, lent_by, mode_in}
-use Rattle.ring_laws.specs.ReceivePrelude.{IsOwn, Kept, Looks, Packet, Receive, Stage, Told, drive, ended_of, is_step}
-use Rattle.device_lock.proofs.Histories.{events_before, events_behind, leads-append, legal_behind}
-use Rattle.ring_laws.proofs.Foreign.{entry_keeps, entry_stays_up, left_up, own_stays_up}
-use Rattle.ring_laws.specs.Delivered.{IsPrefixOf, delivered, packets_if_any, pieces_in, pieces_since}
 use Rattle.ring_laws.specs.Histories.{AllSpare, FindsNone, IsDriven, NoneIsAllBefore, ShowsNone, Spares, SparesReceive}
-use Rattle.ring_laws.specs.Joint.{Agree, AreOpen, AreSeen, InOrder, IsAt, packets_had, still_held}
-use Rattle.ring_laws.specs.Pieces.{Piece, packet_told, packets_behind, packets_of, pieces}
-use Rattle.std.proofs.{lemmas.Bool.or_left, lemmas.Bool.or_right, lemmas.Grind.common_steps}
-use Rattle.history_laws.specs.{Prelude.reply_to, Alone.AllAlone, Lent.LendsOneOf}
-use Rattle.ring_laws.specs.{ReceivePrelude.kept_of, ReceivePrelude.records_of, Histories.mark_of, Histories.marks_after}
-use Rattle.ring_laws.specs.{Steps.Each, Steps.IsMetBy, Steps.OwnReportsSpare, ReceiveUp.IsUp}
+use Rattle.std.proofs.Common.{append_assoc, arith, cond, false, inl, inr, length, nat_lt, refl, subst, sym, true, ℕ}
+use Rattle.std.proofs.{lemmas.Bool.or_left, lemmas.Bool.or_right, lemmas.Grind.common_steps, lemmas.List.append-nil}
+use Rattle.std.proofs.{lemmas.List.length-append, lemmas.List.nil_from_length}
+use Rattle.history_laws.specs.{Alone.AllAlone, Lent.LendsOneOf, Prelude.reply_to}
+use Rattle.ring_laws.specs.ReceivePrelude.{IsOwn, Kept, Receive, Told, drive, is_step, kept_of, records_of}
+use Rattle.ring_laws.specs.{Delivered.IsPrefixOf, Delivered.delivered, Delivered.packets_if_any, Delivered.pieces_in}
+use Rattle.ring_laws.specs.{Delivered.pieces_since, Histories.mark_of, Histories.marks_after, Joint.Agree}
+use Rattle.ring_laws.specs.{Joint.AreOpen, Joint.AreSeen, Joint.InOrder, Joint.packets_had, Joint.still_held}
+use Rattle.ring_laws.specs.{Pieces.Piece, Pieces.packet_told, Pieces.packets_behind, Pieces.packets_of, Pieces.pieces}
+use Rattle.ring_laws.specs.{ReceiveUp.IsUp, Steps.Each, Steps.IsMetBy, Steps.OwnReportsSpare}
+use Rattle.ring_laws.proofs.{Foreign.entry_keeps, Foreign.entry_stays_up, Foreign.left_up, Foreign.own_stays_up}
+use Rattle.ring_laws.proofs.{Kept.none_of, Leaving.leaving_keeps, Leaving.look_tells, Own.own_keeps}
+use Rattle.ring_laws.proofs.{ReceiveLent.mine_driven}
+use Rattle.device_lock.proofs.Histories.{events_before, events_behind, leads-append, legal_behind}
 use Rattle.std.specs.Prelude.{◌==◌, IsFalse, IsTrue}
 use Rattle.nic_device.proofs.Steps.{keeps_sound, step_leads}
 use Rattle.device_lock.specs.{Alone.lends, Alone.lent_in, History.call_in, declared.entry.Call.Call}
 use Rattle.pmd_rx.specs.Plays.{AllOwn, after_call, played_by}
 use Rattle.history_laws.proofs.{Alone.alone_by_entries, Alone.histories_sound, Steady.not_again}
-use Rattle.ring_laws.proofs.{Leaving.leaving_keeps, Leaving.look_tells, ReceiveLent.mine_driven, Own.own_keeps}
-use Rattle.ring_laws.proofs.{Parts.none_ended}
 use Rattle.nic_device.specs.declared.event.Event.TheVariants as event
 
 -- What the agreement says of the packets that were handed out.
@@ -55,21 +55,12 @@ all_taken queue s out v (gone, here, h) f =
       | inl more ↦ absurd (both_ways _ f.waits (t.done.1 more))
       | inr no_more ↦ no_more
     ] in
-    let at : IsAt Looks v.seen v.held = subst (λ (x : Stage). IsAt x v.seen v.held) f.looks h.order.stage in
-    let none : ended_of v.seen v.held ≡ [] = ap (λ (p : Packet). ended_of v.seen p) at.0 ∙ none_ended v.seen in
-    packets_held out v gone here h.order
-    ∙ ap (λ (xs : List Kept). packets_had v ++ xs)
-    (none_whole (kept_of (still_held v)).bytes v.seen here at.1 h.order.seen all)
-    ∙ append-nil (packets_had v)
-    ∙ ap (λ (ps : List Packet). v.handed ++ records_of ps)
-    (ap (λ (ps : List Packet). v.whole ++ ps) none ∙ append-nil v.whole)
+    (grind (arith, common_steps, none_of, packets_held, none_whole, append-nil))
 
 -- and where no packet is whole, all of it was handed out
 pub drained : (queue : ℕ) (s : State) (out : List Piece) (v : Receive) → Agree queue s out v → FindsNone s v
     → packets_of out ≡ v.handed
-drained queue s out v j f =
-    all_taken queue s out v j f.shows ∙ ap (λ (ps : List Packet). v.handed ++ records_of ps) f.none_whole
-    ∙ append-nil v.handed
+drained queue s out v j f = all_taken queue s out v j f.shows ∙ rw f.none_whole (append-nil v.handed)
 
 -- One entry of a history that leaves the driver's queue alone.
 
@@ -165,9 +156,6 @@ on_after : (w : Watched) (s : State) (out : List Piece) (v x : Receive) (e : Ent
     → IsUp w.queue s → Led w (after s e.event) (out ++ pieces w.queue s e.event) x es u → Led w s out v (e ∷ es) u
 on_after w s out v x e es u up l = grind (arith, append_assoc, not_again)
 
-ended : (w : Watched) (s : State) (out : List Piece) (v : Receive) → Agree w.queue s out v → Led w s out v [] v
-ended w s out v j = grind (arith, append-nil)
-
 -- an entry, by whether the pass made it: the calls, the driver after it and its marks
 
 calls_by : (pass : ℕ) (e : Entry) (h : List Entry) (own : Bool) → (e.pass == pass) ≡ own
@@ -175,37 +163,34 @@ calls_by : (pass : ℕ) (e : Entry) (h : List Entry) (own : Bool) → (e.pass ==
 calls_by pass e h true is = calls_own pass e h is
 calls_by pass e h false is = calls_other pass e h is
 
-played_on : (v : Receive) (own : Bool) (marks : List Bool) (c : Call) (cs : List Call)
-    → played_by (after_call v (mark_of own marks) c) (marks_after own marks) cs
-    ≡ played_by v marks (cond own (c ∷ cs) cs)
-played_on v false marks c cs = refl
-played_on v true [] c cs = refl
-played_on v true (m ∷ marks) c cs = refl
-
-owns_on : (v : Receive) (own : Bool) (marks : List Bool) (c : Call) (cs : List Call)
+by_mark : (v : Receive) (own : Bool) (marks : List Bool) (c : Call) (cs : List Call)
     → AllOwn v marks (cond own (c ∷ cs) cs) → AllOwn (after_call v (mark_of own marks) c) (marks_after own marks) cs
-owns_on v false marks c cs owns = owns
-owns_on v true [] c cs owns = absurd owns
-owns_on v true (m ∷ marks) c cs owns = owns.1
+    × (played_by (after_call v (mark_of own marks) c) (marks_after own marks) cs
+    ≡ played_by v marks (cond own (c ∷ cs) cs))
+by_mark v false marks c cs owns = (owns, refl)
+by_mark v true [] c cs owns = absurd owns
+by_mark v true (m ∷ marks) c cs owns = (owns.1, refl)
 
 plays : (w : Watched) (mine : Blocks) (s : State) (out : List Piece) (v : Receive) (marks : List Bool) (h : List Entry)
     → Meets w mine s out v → IsLegal s h → AreEvents h → AllAlone w mine s h → AllOwn v marks (calls_of w.pass h)
     → AllSpare w s v marks h → ((n : ℕ) → IsTrue (lent_by w.pass h n) → IsTrue (mine n))
     → Led w s out v h (played_by v marks (calls_of w.pass h))
-plays w mine s out v [] [] m legal events alone own spare covers = ended w s out v m.agree
+plays w mine s out v [] [] m legal events alone own spare covers = record {
+  agree = rw (append-nil out) m.agree;
+  since = λ so_far. ap Some (sym (append-nil so_far));
+}
 plays w mine s out v (b ∷ marks) [] m legal events alone own spare covers = absurd own
 plays w mine s out v marks (e ∷ h) m legal events alone own spare covers =
     let b = e.pass == w.pass in
     let cs = calls_of w.pass h in
-    let u = after_call v (mark_of b marks) (call_in e) in
     let calls = calls_by w.pass e h b refl in
     let owns : AllOwn v marks (cond b (call_in e ∷ cs) cs) = subst (AllOwn v marks) calls own in
-    let next = entry w mine s out v e m legal.0 events.0 alone.0 marks b refl cs owns spare.0
-    (λ n is. covers n (or_left _ _ is)) in
-    subst (Led w s out v (e ∷ h)) (played_on v b marks (call_in e) cs ∙ ap (played_by v marks) (sym calls))
-    (on_after w s out v u e h _ m.up
-    (plays w mine (after s e.event) (out ++ pieces w.queue s e.event) u (marks_after b marks) h next legal.1 events.1
-    alone.1 (owns_on v b marks (call_in e) cs owns) spare.1 (λ n is. covers n (or_right _ _ is))))
+    let on = by_mark v b marks (call_in e) cs owns in
+    subst (Led w s out v (e ∷ h)) (on.1 ∙ ap (played_by v marks) (sym calls))
+    (on_after w s out v _ e h _ m.up
+    (plays w mine (after s e.event) (out ++ pieces w.queue s e.event) _ (marks_after b marks) h
+    (entry w mine s out v e m legal.0 events.0 alone.0 marks b refl cs owns spare.0 (λ n is. covers n (or_left _ _ is)))
+    legal.1 events.1 alone.1 on.0 spare.1 (λ n is. covers n (or_right _ _ is))))
 
 -- What the driver handed out, and what a history from any sound device on delivered.
 
@@ -289,16 +274,10 @@ between hs ds ks h1 h2 h3 = grind (arith, common_steps, no_rest, append-nil)
 pub none_is_all_before : NoneIsAllBefore
 none_is_all_before w origin start before rest v early marks d e finds same =
     let here = leads_to origin start in
-    let whole : pieces_in w.queue here (before ++ rest)
-    ≡ pieces_in w.queue here before ++ pieces_in w.queue (leads_to here before) rest =
-    pieces-append w.queue here before rest in
-    between (played_by v early (calls_of w.pass before)).handed
-    (delivered w.queue origin (start ++ before))
-    (delivered w.queue origin (start ++ (before ++ rest)))
-    (handed_is_prefix w origin start before v early d)
-    (subst (λ (ks : List Kept). IsPrefixOf ks (delivered w.queue origin (start ++ (before ++ rest))))
-    (sym (delivered_is w origin start before v early d))
-    (subst (IsPrefixOf (packets_of (pieces_in w.queue here before)))
-    (sym (delivered_is w origin start (before ++ rest) v marks e ∙ ap (λ (ps : List Piece). packets_of ps) whole))
-    (grows [] (pieces_in w.queue here before) (pieces_in w.queue (leads_to here before) rest))))
+    between (played_by v early (calls_of w.pass before)).handed _ _ (handed_is_prefix w origin start before v early d)
+    (rw (
+      delivered_is w origin start before v early d,
+      delivered_is w origin start (before ++ rest) v marks e,
+      pieces-append w.queue here before rest,
+    ) (grows [] (pieces_in w.queue here before) (pieces_in w.queue (leads_to here before) rest)))
     (sym (none_is_all w origin start (before ++ rest) v marks e finds) ∙ same)

@@ -1,25 +1,24 @@
 -- A posted slot of the driver's ring is fetched.
 use Rattle.std.proofs.Common.{if◌then◌else◌, ◌*◌, ◌++◌, ◌+◌, ◌-◌, ◌<◌, ◌^◌, ◌∙◌, ◌∷◌, ◌≡◌, ◌≢◌, ◌≤◌, Bool, List, None}
-use Rattle.std.proofs.Common.{Ok, Some, ℕ, ap, arith, drop, false, inl, inr, length, not, refl, subst, sym, true}
 use Rattle.history_laws.specs.Prelude.{Fetched, Memory, Ring, State, TransmitQueue, done_descriptor, first_half}
 use Rattle.history_laws.specs.Prelude.{has_block, is_empty, is_lent, is_outside, read_at, second_half, sending_of}
-use Rattle.history_laws.specs.Prelude.{transmit_queue_of, write_at}
-use Rattle.ring_laws.specs.TransmitPrelude.{Segment, Sender, asking, descriptor_at, is_sent, segment_at, slot_at}
-use Rattle.nic_device.specs.DmaRing.Driver.{IsDataWord, data_command, data_word}
 use Rattle.nic_device.specs.TxRing.Fetch.{CanSend, Outcome, buffer_in, command_in, data_outcome, descriptor_of}
-use Rattle.ring_laws.proofs.Blocks.{ready_stays, slot-apart, slot-below, slot-lent}
-use Rattle.ring_laws.proofs.Ring.{Stays, address_small, ends_apart, inside_of, written_here, written_stays}
+use Rattle.ring_laws.proofs.Blocks.{Stays, address_small, ends_apart, inside_of, ready_stays, slot-apart, slot-below}
+use Rattle.std.proofs.Common.{Ok, Some, ap, arith, drop, false, inl, inr, length, not, refl, subst, sym, true, ℕ}
+use Rattle.std.proofs.{lemmas.Bool.cases_eq, lemmas.Bool.cases_lt, lemmas.Bool.or_right, lemmas.Grind.common_steps}
+use Rattle.std.proofs.{lemmas.List.append-nil, lemmas.List.length-append}
+use Rattle.history_laws.specs.Prelude.{transmit_queue_of, write_at}
+use Rattle.nic_device.specs.{DmaRing.Driver.IsDataWord, DmaRing.Driver.data_command, DmaRing.Driver.data_word}
+use Rattle.nic_device.specs.{DmaRing.Ring.slots_of, DmaRing.declared.transmit.Command.Command, TxRing.Fetch.fetch_of}
+use Rattle.nic_device.specs.{TxRing.Laws.HasData, TxRing.Laws.command_at, TxRing.Report.head_address}
+use Rattle.nic_device.specs.{TxRing.Report.new_head, TxRing.declared.tx.Tx.Tx}
+use Rattle.ring_laws.proofs.Blocks.{slot-lent, written_here, written_stays}
+use Rattle.ring_laws.specs.TransmitPrelude.{Segment, Sender, asking, descriptor_at, is_sent, segment_at, slot_at}
 use Rattle.ring_laws.specs.Agreeing.{AgreesAt, ArePackets, IsDone, IsReady, Shows, staged_behind}
-use Rattle.nic_device.specs.DmaRing.declared.transmit.Command.{Command}
-use Rattle.nic_device.proofs.TxRing.Reports.{done_changes_done_alone}
-use Rattle.std.proofs.{lemmas.Bool.cases_eq, lemmas.Bool.cases_lt, lemmas.Bool.or_right, lemmas.List.append-nil}
-use Rattle.std.proofs.{lemmas.List.length-append}
-use Rattle.nic_device.specs.{TxRing.Fetch.fetch_of, DmaRing.Ring.slots_of, DmaRing.Transmit.with_done}
-use Rattle.nic_device.specs.{TxRing.Frame.frame_of, TxRing.Laws.HasData, TxRing.Laws.command_at}
-use Rattle.nic_device.specs.{TxRing.Report.head_address, TxRing.Report.new_head, TxRing.declared.tx.Tx.Tx}
-use Rattle.std.specs.Prelude.{IsTrue, ⊤}
 use Rattle.nic_device.proofs.{DmaArena.Blocks.is_lent_in, DmaArena.Bus.small_of_lent, DmaRing.Agreement.data_is_asked}
-use Rattle.nic_device.proofs.{DmaRing.Fields.halves_come_back, TxRing.Tests.tests_in_order}
+use Rattle.nic_device.proofs.{DmaRing.Fields.halves_come_back, TxRing.Reports.done_changes_done_alone}
+use Rattle.nic_device.proofs.{TxRing.Tests.tests_in_order}
+use Rattle.std.specs.Prelude.{IsTrue, ⊤}
 use Rattle.pmd_tx.proofs.PmdSeam.Rings.{each_first}
 
 -- A posted slot that is fetched: its segment is staged, and at the end of a packet that goes out, and the descriptor is
@@ -54,9 +53,6 @@ module _ (x : Segment) (short : length x.part.bytes ≤ 2048) (whole : x.part.wh
 pub length-asking : (x : Segment) → length (asking x) ≡ 16
 length-asking x = (halves_come_back (2048 * x.block) (word_of x)).size
 
-pub length-done : (d : List ℕ) → length (done_descriptor d) ≡ 16
-length-done d = (halves_come_back (first_half d) (with_done (second_half d))).size
-
 -- what is told of the slot, and what fetching it leaves
 abbrev pub segment_fetched : Ring → List ℕ → Segment → Fetched
 segment_fetched r staged x = record {
@@ -73,11 +69,6 @@ segment_outcome m r staged x = record {
   memory = if x.part.last then write_at m (head_address r) (done_descriptor (asking x)) else m;
   staged = staged_behind staged x;
 }
-
--- a frame of 60 bytes isn't padded
-frame-long : (pad : Bool) (bytes : List ℕ) → 60 ≤ length bytes → frame_of pad bytes ≡ bytes
-frame-long true bytes long = let none : 60 - length bytes ≡ 0 = omega arith in rw none (append-nil bytes)
-frame-long false bytes long = refl
 
 -- Steps of transmitting of the driver's own queue.
 
@@ -150,7 +141,7 @@ module _ {s : State} {queue : ℕ} {sent : List (List ℕ)} {v : Sender} {f : �
 
       outcome-segment : data_outcome s.memory staged side.ring tx (asking x)
           ≡ segment_outcome s.memory side.ring staged x
-      outcome-segment = grind (arith, command, buffer, ready, frame-long)
+      outcome-segment = grind (arith, command, buffer, ready, append-nil)
 
       pub fetch-segment : fetch_of s.memory staged side.ring tx ≡ segment_outcome s.memory side.ring staged x
       fetch-segment =
@@ -159,11 +150,7 @@ module _ {s : State} {queue : ℕ} {sent : List (List ℕ)} {v : Sender} {f : �
           let b : buffer_in (descriptor_of s.memory side.ring) ≡ 2048 * x.block = ap buffer_in asks ∙ buffer in
           let len : (command_at s.memory side.ring).len ≡ length x.part.bytes = ap (λ (y : Command). y.len) c in
           let report : (command_at s.memory side.ring).report ≡ x.part.last = ap (λ (y : Command). y.report) c in
-          let full : HasData s.memory side.ring = record {
-            descriptor = record { inside = inside; lent = slot_lent };
-            extended = ap (λ (y : Command). y.extended) c;
-            type = ap (λ (y : Command). y.kind) c;
-          } in
+          let full : HasData s.memory side.ring = (grind (arith, common_steps, inside, lent, slot_lent)) in
           let can : CanSend s.memory side.ring tx (length staged) (descriptor_of s.memory side.ring) = record {
             no_offload = ap (λ (y : Command). y.offload) c;
             room = omega (arith, len, h.based.limit, packets.0, length-append staged x.part.bytes);
@@ -192,14 +179,15 @@ module _ {s : State} {queue : ℕ} {sent : List (List ℕ)} {v : Sender} {f : �
     stays : (last : Bool) → Stays v.layout.ring v.layout.size s.memory (if last then new else s.memory)
         (λ j. j ≢ slot_at v.layout f) (λ b. ⊤)
     stays true =
-        written_stays v.layout.ring v.layout.size (slot_at v.layout f) here s.memory done (length-done (asking x))
+        written_stays v.layout.ring v.layout.size (slot_at v.layout f) here s.memory done
+        (grind (arith, common_steps, halves_come_back))
     stays false =
         record { has = λ k i. refl; slot = λ j i ne. refl; bytes = λ b len out is few. refl; there = λ b is. refl }
 
     now_done : (last : Bool) → last ≡ true → IsDone (if last then new else s.memory) (descriptor_at v.layout f) x
     now_done true is =
-        written_here v.layout.ring v.layout.size (slot_at v.layout f) here s.memory done (length-done (asking x))
-        h.based.sound.blocks.whole h.shows.ring
+        written_here v.layout.ring v.layout.size (slot_at v.layout f) here s.memory done
+        (grind (arith, common_steps, halves_come_back)) h.based.sound.blocks.whole h.shows.ring
     now_done false is = cc
 
     pub shows-fetched : Shows (if x.part.last then new else s.memory) v (f + 1)

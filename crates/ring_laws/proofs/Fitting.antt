@@ -1,25 +1,25 @@
 -- The frames that wait for a queue: they are as short as the driver's packets, and so are the pieces that are written.
-use Rattle.std.proofs.Common.{[], ◌&&◌, ◌*◌, ◌++◌, ◌+◌, ◌-◌, ◌<◌, ◌∙◌, ◌∷◌, ◌≡◌, ◌≢◌, ◌≤◌, Bool, Err, List, Ok, ℕ, ap}
-use Rattle.std.proofs.Common.{arith, cond, drop, false, inl, inr, length, min, refl, subst, sym, true}
-use Rattle.std.proofs.lemmas.Bool.{and_parts, both_ways, cases_eq, cases_lt, cond_both, eq-eqb, eqb-true, ne_eqb}
-use Rattle.std.proofs.lemmas.List.{append-nil, length-drop, length-take}
-use Rattle.std.proofs.lemmas.List.Elements.{All-cons, All-filter, All-head, All-nil, All-push, All-tail}
+use Rattle.std.proofs.Common.{[], ◌&&◌, ◌*◌, ◌++◌, ◌+◌, ◌-◌, ◌<◌, ◌∙◌, ◌∷◌, ◌≡◌, ◌≢◌, ◌≤◌, ◌⊎◌, Bool, Err, List, Ok, ap}
 use Rattle.history_laws.specs.Prelude.{Block, Event, Filled, IsSound, Memory, Outcome, RingFault, Rx, State, Waiting}
-use Rattle.history_laws.specs.Prelude.{WritesNoSetting, after, buffer_size_of, frame_limit, has_queue, is_on, is_wanted}
-use Rattle.history_laws.specs.Prelude.{mode_in, piece_of, receive_queue_of, rest_of, step_of}
-use Rattle.nic_device.proofs.QueueCases.{filled_by, received_cases}
-use Rattle.nic_device.specs.Sound.{AreWaiting, IsBegunWhileOn, IsUnbegun}
-use Rattle.history_laws.proofs.DeviceLaws.KeptSettings.{settings_stand}
+use Rattle.history_laws.specs.Prelude.{WritesNoSetting, after, buffer_size_of, frame_limit, has_queue, is_on, mode_in}
 use Rattle.ring_laws.specs.Fitting.{AreFitting, FitsBlocks, FramesStayFitting, NoneBegunWhileOff, ResetsNoPool}
+use Rattle.std.proofs.lemmas.List.Elements.{All-cons, All-filter, All-head, All-nil, All-push, All-tail}
+use Rattle.std.proofs.lemmas.Bool.{and_parts, both_ways, cases_eq, cases_lt, cond_both, eq-eqb, eqb-true, ne_eqb}
+use Rattle.std.proofs.Common.{arith, cond, drop, false, inl, inr, length, min, refl, subst, sym, true, ℕ}
+use Rattle.std.proofs.{lemmas.Grind.common_steps, lemmas.List.append-nil, lemmas.List.length-drop}
+use Rattle.std.proofs.{lemmas.List.length-take}
+use Rattle.history_laws.specs.Prelude.{piece_of, receive_queue_of, rest_of, step_of}
 use Rattle.ring_laws.specs.Pieces.{AllFit, Fits, Piece, first_of, open_after, pieces, pieces_told}
-use Rattle.ring_laws.proofs.Begun.{either_zero, gone, unbegun_none}
-use Rattle.ring_laws.specs.{Fitting.begun_on, ReceivePrelude.Receive, Joint.Holds, ReceiveUp.IsUp}
-use Rattle.std.proofs.lemmas.Grind.{common_steps}
-use Rattle.std.specs.Prelude.{◌==◌, All, Result, filter, not}
-use Rattle.nic_device.proofs.{Cases.either_way, RxRing.Fills.takes_piece}
-use Rattle.nic_device.specs.{Arrival.let_in, RegisterFile.Settings.drops, Switching.without_part}
-use Rattle.history_laws.proofs.{Deeds.step_cases, Lent.Changes, Lent.waiting_changed, DeviceLaws.Settings.no_reset}
-use Rattle.ring_laws.proofs.{Parts.open_pushed, Receiving.no_fault, Receiving.room_left}
+use Rattle.ring_laws.specs.{Fitting.begun_on, Joint.Holds, ReceivePrelude.Receive, ReceiveUp.IsUp}
+use Rattle.nic_device.specs.{Arrival.let_in, RegisterFile.Settings.drops, RxFilter.declared.target.Target.Target}
+use Rattle.nic_device.specs.{RxRing.Laws.TakesPiece, Sound.AreWaiting, Sound.IsBegunWhileOn, Sound.IsUnbegun}
+use Rattle.nic_device.specs.{Switching.without_part}
+use Rattle.std.specs.Prelude.{◌&&◌, ◌==◌, All, Result, filter, not}
+use Rattle.nic_device.proofs.{Cases.either_way, QueueCases.filled_by, QueueCases.received_cases}
+use Rattle.nic_device.proofs.{RxRing.Fills.takes_piece}
+use Rattle.history_laws.proofs.{Deeds.step_cases, DeviceLaws.KeptSettings.settings_stand, DeviceLaws.Settings.no_reset}
+use Rattle.history_laws.proofs.{Lent.Changes, Lent.waiting_changed}
+use Rattle.ring_laws.proofs.{Kept.open_pushed, Receiving.no_fault, Receiving.room_left}
 use Rattle.nic_device.specs.declared.event.Event.TheVariants as event
 use Rattle.nic_device.specs.Receive as receive
 
@@ -64,41 +64,107 @@ module _ (queue most : ℕ) (s : State) (limit : frame_limit s.registers ≤ 204
   pub frames_fit : (e : Event Block) → All P (after s e).waiting
   frames_fit e = waiting_changed (All P) s h e (short_changes e)
 
+-- How much is written of the frame that waits first, where it is a queue's.
+
+either_zero : (b : Bool) → let z : ℕ = 0 in cond b z z ≡ z
+either_zero true = refl
+either_zero false = refl
+
+-- so much of it is: the frame may go where that is nothing, or where it isn't the queue's
+module _ (queue n : ℕ) where
+  abbrev Has : List Waiting → Type 0
+  Has ws = begun_on queue ws ≡ n
+
+  unbegun : (ws : List Waiting) → All IsUnbegun ws → begun_on queue ws ≡ 0
+  unbegun [] none = refl
+  unbegun (w ∷ others) none =
+      ap (λ (n : ℕ). cond (w.queue == queue) n 0) (All-head IsUnbegun w others none).none
+      ∙ either_zero (w.queue == queue)
+
+  gone : (w : Waiting) (others : List Waiting) → AreWaiting (w ∷ others) → Has (w ∷ others)
+      → (w.queue ≡ queue → n ≡ 0) → Has others
+  gone w others are has none = grind (arith, common_steps, unbegun, ne_eqb, cases_eq w.queue queue)
+
+  filtered : (f : Waiting → Bool) (ws : List Waiting) → AreWaiting ws → Has ws
+      → ((x : Waiting) → x.queue ≡ queue → f x ≡ false → n ≡ 0) → Has (filter f ws)
+  filtered f [] are has keeps = has
+  filtered f (w ∷ others) are has keeps =
+      cond_both (f w) (w ∷ filter f others) (filter f others) Has (λ kept. has)
+      (λ no. gone w (filter f others) (are.0, All-filter f IsUnbegun others are.1) has (λ own. keeps w own no))
+
+  pushed : (ws : List Waiting) (frame : List ℕ) (t : Target) → Has ws → Has (ws ++ let_in frame t ∷ [])
+  pushed [] frame t has = either_zero ((let_in frame t).queue == queue) ∙ has
+  pushed (w ∷ ws) frame t has = has
+
+  parted : (on : ℕ) (ws : List Waiting) → AreWaiting ws → Has ws → (on ≡ queue → n ≡ 0) → Has (without_part on ws)
+  parted on [] are has none = has
+  parted on (w ∷ others) are has none =
+      cond_both (w.queue == on && not (w.offset == 0)) others (w ∷ others) Has
+      (λ is. gone w others are has (λ own. none (sym (eqb-true w.queue on (and_parts _ _ is).0) ∙ own))) (λ no. has)
+
+  -- a piece of another queue's frame is written
+  elsewhere : (w : Waiting) (others : List Waiting) (f : Filled) → AreWaiting (w ∷ others) → Has (w ∷ others)
+      → w.queue ≢ queue → Has (receive.after_piece w others f)
+  elsewhere w others f are has ne =
+      either_way Has f.end others (record w { offset = w.offset + f.len } ∷ others)
+      (gone w others are has (λ own. absurd (ne own)))
+      (rw (ne_eqb w.queue queue ne) (rw (ne_eqb w.queue queue ne) at has))
+
+  -- it stays so over an event that is no step of receiving, where nothing is written, or the side is up and an event
+  -- writes no setting and resets not the queue's pool
+  module _ (s : State) (sound : IsSound s) (has : Has s.waiting) where
+    abbrev Spared : Event Block → Type 0
+    Spared e = (n ≡ 0) ⊎ (WritesNoSetting s e × ResetsNoPool queue s e × IsUp queue s)
+
+    begun_changes : (e : Event Block) → Spared e → (e ≡ event.RxStep → Has (after s e).waiting) → Changes Has s e
+    begun_changes event.RxStep spared step = step refl
+    begun_changes (event.Write port n word) spared step = λ p view is. record {
+      device = λ asks. elim spared [
+        | inl none ↦ sym none
+        | inr k ↦ absurd (both_ways _ (no_reset p.row word (k.0 p view is).control) asks)
+      ];
+      pool = λ asks.
+          filtered (λ (w : Waiting). not (has_queue (mode_in s.registers) p.index w.queue)) s.waiting sound.waiting has
+          (λ x own no. elim spared [
+            | inl none ↦ none
+            | inr k ↦
+                absurd (both_ways _ no (ap not (ap (λ (q : ℕ). has_queue (mode_in s.registers) p.index q) own
+                ∙ k.1 p view is asks)))
+          ]);
+    }
+    begun_changes (event.Arrive frame) spared step = λ t low. pushed s.waiting frame t has
+    begun_changes (event.QueueStep Rx on) spared step = λ off.
+        parted on s.waiting sound.waiting has (λ own. grind (arith, common_steps))
+    begun_changes e spared step = tt
+
+    pub still_begun : (e : Event Block) → Spared e → (e ≡ event.RxStep → Has (after s e).waiting)
+        → Has (after s e).waiting
+    still_begun e spared step = waiting_changed Has s has e (begun_changes e spared step)
+
+-- where nothing is written it stays so over each event that writes no piece on the queue
+
+none_received : (queue : ℕ) (s : State) → IsSound s → begun_on queue s.waiting ≡ 0
+    → pieces queue s event.RxStep ≡ [] → begun_on queue (after s event.RxStep).waiting ≡ 0
+unfolding step_of
+none_received queue s sound none =
+    let gone_first : (w : Waiting) (others : List Waiting) → s.waiting ≡ w ∷ others → begun_on queue others ≡ 0 =
+    λ w others e.
+    gone queue 0 w others (subst AreWaiting e sound.waiting) (subst (Has queue 0) e none) (λ own. refl) in
+    received_cases (λ o. pieces_told queue s.waiting o.reply ≡ [] → Has queue 0 o.state.waiting) s (record {
+      idle = λ told. none;
+      dropped = λ w others e why told. gone_first w others e;
+      slotless = λ w others e told. gone_first w others e;
+      fault = λ w others e fault told. gone_first w others e;
+      filled = grind (arith, common_steps, elsewhere, eq-eqb);
+    })
+
+pub begun_stays : (queue : ℕ) (s : State) → IsSound s → begun_on queue s.waiting ≡ 0 → (e : Event Block)
+    → pieces queue s e ≡ [] → begun_on queue (after s e).waiting ≡ 0
+begun_stays queue s sound none e told =
+    still_begun queue 0 s sound none e (inl refl)
+    (λ is. rw is (none_received queue s sound none (subst (λ e. pieces queue s e ≡ []) is told)))
+
 -- Frames that fit as many slots as the driver takes for a packet stay so, and the pieces that are written of them fit.
-
-other_first : (queue : ℕ) (w : Waiting) (others : List Waiting) → (w.queue == queue) ≡ false
-    → begun_on queue (w ∷ others) ≡ 0
-other_first queue w others other = ap (λ (b : Bool). cond b w.offset 0) other
-
-filtered_first : (queue : ℕ) (f : Waiting → Bool) (w : Waiting) (others : List Waiting) → AreWaiting (w ∷ others)
-    → ((x : Waiting) → x.queue ≡ queue → f x ≡ true) → (keeps : Bool) → f w ≡ keeps
-    → begun_on queue (cond keeps (w ∷ filter f others) (filter f others)) ≡ begun_on queue (w ∷ others)
-filtered_first queue f w others are all true is = refl
-filtered_first queue f w others are all false is =
-    unbegun_none queue (filter f others) (All-filter f IsUnbegun others are.1)
-    ∙ sym (other_first queue w others (ne_eqb w.queue queue (λ e. both_ways (f w) is (all w e))))
-
-begun-filter : (queue : ℕ) (f : Waiting → Bool) (ws : List Waiting) → AreWaiting ws
-    → ((x : Waiting) → x.queue ≡ queue → f x ≡ true) → begun_on queue (filter f ws) ≡ begun_on queue ws
-begun-filter queue f [] are all = refl
-begun-filter queue f (w ∷ others) are all = filtered_first queue f w others are all (f w) refl
-
-begun-push : (queue : ℕ) (ws : List Waiting) (x : Waiting) → x.offset ≡ 0
-    → begun_on queue (ws ++ x ∷ []) ≡ begun_on queue ws
-begun-push queue [] x none = ap (λ (n : ℕ). cond (x.queue == queue) n 0) none ∙ either_zero (x.queue == queue)
-begun-push queue (w ∷ ws) x none = refl
-
-begun-parted : (queue on : ℕ) (ws : List Waiting) → AreWaiting ws → on ≢ queue
-    → begun_on queue (without_part on ws) ≡ begun_on queue ws
-begun-parted queue on [] are ne = refl
-begun-parted queue on (w ∷ others) are ne =
-    cond_both (w.queue == on && not (w.offset == 0)) others (w ∷ others)
-    (λ (xs : List Waiting). begun_on queue xs ≡ begun_on queue (w ∷ others))
-    (λ is.
-    let own : w.queue ≡ on = eqb-true w.queue on (and_parts _ _ is).0 in
-    unbegun_none queue others are.1
-    ∙ sym (other_first queue w others (ne_eqb w.queue queue (λ e. ne (sym own ∙ e)))))
-    (λ no. refl)
 
 -- one piece more fits
 fit-push : (most n : ℕ) (ps : List Piece) (p : Piece) → AllFit most n ps → Fits most (open_after n ps) p
@@ -111,9 +177,10 @@ more_left : (len rest frame offset n most : ℕ) → len ≡ min 2048 rest → l
     → offset ≡ 2048 * n → frame ≤ 2048 * most → (len ≡ 2048) × (n + 1 < most)
 more_left len rest frame offset n most is part left begun short = grind arith
 
-module _ (queue most : ℕ) (s : State) (out : List Piece) (v : Receive) (gone here : List Piece) (sound : IsSound s)
-    (h : Holds queue s out v gone here) (up : IsUp queue s) (fit : AreFitting queue most s out) where
-  -- a step of receiving
+module _ (queue most : ℕ) (s : State) (out : List Piece) (v : Receive) (gone_by here : List Piece) (sound : IsSound s)
+    (h : Holds queue s out v gone_by here) (up : IsUp queue s) (fit : AreFitting queue most s out) where
+  abbrev n : ℕ
+  n = open_after 0 out
 
   abbrev Goes : List Waiting → List Piece → Type 0
   Goes ws ps = (begun_on queue ws ≡ 2048 * open_after 0 (out ++ ps)) × AllFit most 0 (out ++ ps)
@@ -121,50 +188,48 @@ module _ (queue most : ℕ) (s : State) (out : List Piece) (v : Receive) (gone h
   abbrev Step : Outcome → Type 0
   Step o = Goes o.state.waiting (pieces_told queue s.waiting o.reply)
 
-  none_written : (ws : List Waiting) → begun_on queue ws ≡ begun_on queue s.waiting → Goes ws []
-  none_written ws same = rw (append-nil out) (same ∙ fit.begun, fit.pieces)
+  none_written : (ws : List Waiting) → Has queue (2048 * n) ws → Goes ws []
+  none_written ws has = rw (append-nil out) (has, fit.pieces)
 
+  -- a step of receiving, by the frame that waits first
   module _ (w : Waiting) (others : List Waiting) (e : s.waiting ≡ w ∷ others) where
     are : AreWaiting (w ∷ others)
     are = subst AreWaiting e sound.waiting
 
-    -- the frame goes where nothing is written of it for the queue
-    leaves : begun_on queue (w ∷ others) ≡ 0 → Goes others []
-    leaves none = grind (arith, common_steps, none_written, unbegun_none, are)
+    has : Has queue (2048 * n) (w ∷ others)
+    has = subst (Has queue (2048 * n)) e fit.begun
 
-    not_ours : w.queue ≢ queue → begun_on queue (w ∷ others) ≡ 0
-    not_ours ne = other_first queue w others (ne_eqb w.queue queue ne)
-
-    off_leaves : (receive_queue_of s.registers w.queue).on ≡ false → Goes others []
-    off_leaves off = grind (arith, leaves, not_ours, both_ways)
+    leaves : (w.queue ≡ queue → 2048 * n ≡ 0) → Goes others []
+    leaves none = none_written others (gone queue (2048 * n) w others are has none)
 
     dropped_leaves : (drops s.registers w.queue && w.offset == 0) ≡ true → Goes others []
-    dropped_leaves is = grind (arith, leaves, eqb-true, and_parts, either_zero)
+    dropped_leaves is =
+        leaves (λ own. sym has ∙ ap (λ (k : ℕ). cond (w.queue == queue) k 0) (eqb-true w.offset 0 (and_parts _ _ is).1)
+        ∙ either_zero (w.queue == queue))
 
     fault_leaves : (fault : RingFault) → (filled_by s w).answer ≡ Err fault
         → receive.is_empty (receive_queue_of s.registers w.queue).ring ≡ false → Goes others []
     fault_leaves fault is some =
-        leaves (not_ours (λ own.
+        leaves (λ own.
         let open_ring : receive.is_empty (receive_queue_of s.registers queue).ring ≡ false =
         subst (λ (q : ℕ). receive.is_empty (receive_queue_of s.registers q).ring ≡ false) own some in
         let room = room_left h open_ring (cases_lt (length here) (length v.layout.blocks)) in
-        no_fault h room (rest_of w) fault (rw own at is)))
+        absurd (no_fault h room (rest_of w) fault (rw own at is)))
 
     -- a piece of a frame of the queue is written
     module _ (f : Filled) (is : (filled_by s w).answer ≡ Ok f) (own : w.queue ≡ queue) where
-      abbrev n : ℕ
-      n = open_after 0 out
-
       begun : w.offset ≡ 2048 * n
-      begun = grind arith
+      begun = rw (eq-eqb w.queue queue own) at has
+
+      piece_is : TakesPiece s.memory (receive_queue_of s.registers w.queue).ring
+          (receive_queue_of s.registers w.queue).control (rest_of w) f
+      piece_is = takes_piece s.memory _ _ (rest_of w) f is
 
       taken : f.len ≡ min 2048 (length (drop w.offset w.frame))
       taken =
           let room = subst (λ q. buffer_size_of (receive_queue_of s.registers q).control ≡ 2048) (sym own)
           h.side.buffer_size in
-          let t = takes_piece s.memory (receive_queue_of s.registers w.queue).ring
-          (receive_queue_of s.registers w.queue).control (rest_of w) f is in
-          t.len ∙ ap (λ (k : ℕ). min k (length (drop w.offset w.frame))) room
+          piece_is.len ∙ ap (λ (k : ℕ). min k (length (drop w.offset w.frame))) room
 
       short : length w.frame ≤ 2048 * most
       short = All-head (FitsBlocks queue most) w others (subst (All (FitsBlocks queue most)) e fit.waiting) own
@@ -172,10 +237,8 @@ module _ (queue most : ℕ) (s : State) (out : List Piece) (v : Receive) (gone h
       -- a piece that doesn't end its frame fills its block, and one more fits
       goes_on : f.end ≡ false → (f.len ≡ 2048) × (n + 1 < most)
       goes_on on =
-          let t = takes_piece s.memory (receive_queue_of s.registers w.queue).ring
-          (receive_queue_of s.registers w.queue).control (rest_of w) f is in
           more_left f.len (length (drop w.offset w.frame)) (length w.frame) w.offset n most taken
-          (λ all. both_ways f.end on (t.end.1 all)) (length-drop w.offset w.frame) begun short
+          (λ all. both_ways f.end on (piece_is.end.1 all)) (length-drop w.offset w.frame) begun short
 
       abbrev piece : Piece
       piece = record { bytes = piece_of s.waiting f.len; first = first_of s.waiting; end = f.end }
@@ -186,22 +249,16 @@ module _ (queue most : ℕ) (s : State) (out : List Piece) (v : Receive) (gone h
       next : (ends : Bool) → f.end ≡ ends
           → begun_on queue (cond ends others (record w { offset = w.offset + f.len } ∷ others))
           ≡ 2048 * cond ends 0 (n + 1)
-      next true end = unbegun_none queue others are.1 ∙ (let z : 0 ≡ 2048 * 0 = omega arith in z)
+      next true end = unbegun queue 0 others are.1 ∙ (let z : 0 ≡ 2048 * 0 = omega arith in z)
       next false end = grind (arith, common_steps, goes_on, eq-eqb, begun)
-
-    writes_other : (f : Filled) → w.queue ≢ queue → Goes (receive.after_piece w others f) []
-    writes_other f ne =
-        none_written (receive.after_piece w others f)
-        (either_way (λ (ws : List Waiting). begun_on queue ws ≡ 0) f.end others
-        (record w { offset = w.offset + f.len } ∷ others) (unbegun_none queue others are.1)
-        (other_first queue (record w { offset = w.offset + f.len }) others (ne_eqb w.queue queue ne))
-        ∙ sym (not_ours ne) ∙ ap (λ (ws : List Waiting). begun_on queue ws) (sym e))
 
     writes : (f : Filled) → (filled_by s w).answer ≡ Ok f → (memory : Memory)
         → Step (receive.slot_done s w others (Ok f) memory)
     writes f is memory = elim (cases_eq w.queue queue) [
       | inl own ↦ rw (eq-eqb w.queue queue own) (grind (arith, common_steps, next, open_pushed, fit-push, fits))
-      | inr ne ↦ rw (ne_eqb w.queue queue ne) (writes_other f ne)
+      | inr ne ↦
+          rw (ne_eqb w.queue queue ne) (none_written (receive.after_piece w others f)
+          (elsewhere queue (2048 * n) w others f are has ne))
     ]
 
     answered : (answer : Result Filled RingFault) → (filled_by s w).answer ≡ answer
@@ -212,37 +269,19 @@ module _ (queue most : ℕ) (s : State) (out : List Piece) (v : Receive) (gone h
 
   received : Step (step_of s event.RxStep)
   received = step_cases Step s (record {
-    idle = none_written s.waiting refl;
-    dropped = off_leaves;
+    idle = none_written s.waiting fit.begun;
+    dropped = λ w others e off.
+        leaves w others e (λ own. absurd (both_ways _ (subst (λ q. (receive_queue_of s.registers q).on ≡ false) own off)
+        up.on));
     slotless = dropped_leaves;
     tried = λ w others e tried answer is. answered w others e answer is tried.some (filled_by s w).memory;
   })
 
-  -- any other event
-
-  abbrev Same : List Waiting → Type 0
-  Same ws = begun_on queue ws ≡ begun_on queue s.waiting
-
-  changes : (e : Event Block) → ◌≢◌ {A = Event Block} e event.RxStep → WritesNoSetting s e → ResetsNoPool queue s e
-      → Changes Same s e
-  changes event.RxStep other none spares = absurd (other refl)
-  changes (event.Write port n word) other none spares = λ p view is. record {
-    device = λ asks. absurd (both_ways _ (no_reset p.row word (none p view is).control) asks);
-    pool = λ asks.
-        begun-filter queue (λ (w : Waiting). not (has_queue (mode_in s.registers) p.index w.queue)) s.waiting
-        sound.waiting
-        (λ x own. ap not (ap (λ (q : ℕ). has_queue (mode_in s.registers) p.index q) own ∙ spares p view is asks));
-  }
-  changes (event.Arrive frame) other none spares = λ t low. begun-push queue s.waiting (let_in frame t) refl
-  changes (event.QueueStep Rx on) other none spares = λ off.
-      begun-parted queue on s.waiting sound.waiting
-      (λ own. both_ways _ (subst (λ (q : ℕ). is_wanted s.registers Rx q ≡ false) own off) up.wanted)
-  changes e other none spares = tt
-
   stays : (e : Event Block) → WritesNoSetting s e → ResetsNoPool queue s e → Goes (after s e).waiting (pieces queue s e)
   stays event.RxStep none spares = received
   stays e none spares =
-      none_written (after s e).waiting (waiting_changed Same s refl e (changes e (λ is. cc) none spares))
+      none_written (after s e).waiting
+      (still_begun queue (2048 * n) s sound fit.begun e (inr (none, spares, up)) (λ is. cc))
 
 pub frames_stay_fitting : FramesStayFitting
 frames_stay_fitting queue most s out v e sound (gone, here, h) up fit none spares =

@@ -1,30 +1,27 @@
 -- Events that aren't the driver's own: they keep the agreement, and a side up that is.
-use Rattle.std.proofs.Common.{[], ◌++◌, ◌/◌, ◌<◌, ◌∙◌, ◌∷◌, ◌≡◌, ◌≢◌, ◌≤◌, ◌⊎◌, List, Ok, ℕ, ap, arith, length, refl}
-use Rattle.history_laws.specs.Prelude.{Block, Blocks, Entry, EntryLeavesAlone, Event, Filled, IsSound, LeavesBlock}
+use Rattle.std.proofs.Common.{[], ◌++◌, ◌/◌, ◌<◌, ◌∙◌, ◌∷◌, ◌≡◌, ◌≢◌, ◌⊎◌, List, ap, arith, length, refl, subst, sym}
+use Rattle.history_laws.specs.Prelude.{Block, Blocks, Entry, EntryLeavesAlone, Event, IsSound, LeavesBlock}
 use Rattle.history_laws.specs.Prelude.{LeavesBlocks, LeavesRegisters, Memory, Mode, Reply, Rx, State, Tx, Waiting}
 use Rattle.history_laws.specs.Prelude.{Watched, WritesNoSetting, Wrote, after, mode_in, receive_queue_of, reply_to}
-use Rattle.ring_laws.specs.ReceivePrelude.{Layout, Receive, block_at, is_step, reach, slot_at}
-use Rattle.history_laws.proofs.Deeds.{left_deed, left_did, receiving_did, side_did, switching_did}
-use Rattle.history_laws.proofs.Leaving.{left-setting, left-side, receive_left}
-use Rattle.history_laws.specs.Left.{Deed, Did, IsLeft, Rested, Rests, Shuts, Took, fill_on}
-use Rattle.ring_laws.proofs.Receiving.{buffer_is, filled_holds, head_is, no_fault, slot_left}
 use Rattle.ring_laws.specs.Steps.{Each, EnableStepKeeps, EntryKeeps, IsMetBy, OwnReportsSpare, ReceiveStepKeeps}
 use Rattle.ring_laws.specs.ReceiveUp.{EnableStepChangesNothing, EntryStaysUp, IsUp, LeavingStaysUp, OwnEventStaysUp}
-use Rattle.history_laws.proofs.Blocks.{IsSparedBy, reported_elsewhere, spared_block}
-use Rattle.std.proofs.{Common.subst, Common.sym, Common.true, lemmas.Grind.common_steps, lemmas.Bool.eq-eqb}
-use Rattle.std.proofs.{lemmas.List.append-nil}
+use Rattle.std.proofs.{Common.true, Common.ℕ, lemmas.Bool.eq-eqb, lemmas.Grind.common_steps, lemmas.List.append-nil}
+use Rattle.history_laws.specs.{Left.Deed, Left.Did, Left.IsLeft, Left.Rested, Left.Rests, Left.Shuts, Left.Took}
 use Rattle.history_laws.specs.{Prelude.rest_of, Prelude.step_of, Segments.piece_in}
-use Rattle.ring_laws.specs.{Steps.SparesBlocks, ReceiveUp.ReceiveStepStaysUp, Inside.IsInRing, Inside.IsInside}
-use Rattle.ring_laws.specs.{Inside.PieceIsInside, Joint.Agree, Joint.Holds, Pieces.Piece, Pieces.pieces}
-use Rattle.ring_laws.specs.{Pieces.pieces_told}
-use Rattle.history_laws.proofs.{Steady.resting_same, Steady.up_kept, DeviceLaws.KeptSettings.settings_stand}
-use Rattle.history_laws.proofs.{DeviceLaws.Standing.stays_within, DeviceLaws.StandingQueues.switching_rest}
+use Rattle.ring_laws.specs.ReceivePrelude.{Layout, Receive, block_at, is_step, reach, slot_at}
+use Rattle.ring_laws.specs.{Inside.IsInside, Inside.PieceIsInside, Joint.Agree, Pieces.Piece, Pieces.pieces}
+use Rattle.ring_laws.specs.{Pieces.pieces_told, ReceiveUp.ReceiveStepStaysUp, Steps.SparesBlocks}
+use Rattle.history_laws.proofs.{Blocks.IsSparedBy, Blocks.reported_elsewhere, Blocks.spared_block, Deeds.left_deed}
+use Rattle.history_laws.proofs.{Deeds.left_did, Deeds.receiving_did, Deeds.side_did, Deeds.switching_did}
+use Rattle.history_laws.proofs.{DeviceLaws.KeptSettings.settings_stand, DeviceLaws.Standing.stays_within}
+use Rattle.history_laws.proofs.{DeviceLaws.StandingQueues.switching_rest, Leaving.left-setting, Leaving.left-side}
+use Rattle.history_laws.proofs.{Leaving.receive_left, Steady.resting_same, Steady.up_kept}
+use Rattle.ring_laws.proofs.{Blocks.bytes_inside, Kept.posted_block, Kept.slot_below, Leaving.switching_keeps}
+use Rattle.ring_laws.proofs.{Own.own_did, Receiving.buffer_is, Receiving.filled_holds, Receiving.head_is}
+use Rattle.ring_laws.proofs.{Receiving.no_fault, Receiving.slot_left}
 use Rattle.std.specs.Prelude.{IsTrue, ⊤}
 use Rattle.nic_device.proofs.RxRing.Fills.{takes_piece}
 use Rattle.pmd_rx.proofs.PmdSeam.Rings.{slot_block, slot_lies}
-use Rattle.pmd_rx.specs.PmdSeam.Slots.{descriptor_in}
-use Rattle.ring_laws.proofs.{Kept.posted_block, Kept.slot_below, Ring.bytes_inside, Leaving.switching_keeps}
-use Rattle.ring_laws.proofs.{Own.own_did}
 use Rattle.nic_device.specs.declared.event.Event.TheVariants as event
 use Rattle.std.specs.FinMap as map
 use Rattle.history_laws.specs.Sides as sides
@@ -77,36 +74,6 @@ receive_keeps queue s out v sound j spares =
 
 -- A step of receiving on the driver's own queue writes into blocks that the driver has lent for it.
 
-slot_in_ring : (ring size slot : ℕ) → slot < size → IsInRing ring size (descriptor_in ring slot)
-slot_in_ring ring size slot below = record {
-  part = slot / 128;
-  known = slot_block size slot below;
-  descriptor = slot_lies ring slot;
-}
-
-module _ {queue : ℕ} {s : State} {out : List Piece} {v : Receive} {gone here : List Piece}
-    (h : Holds queue s out v gone here) where
-  abbrev l : Layout
-  l = v.layout
-
-  filled_inside : (w : Waiting) (f : Filled) → length here < length l.blocks
-      → (fill_on s queue (rest_of w)).answer ≡ Ok f → IsInside l f.desc f.at f.len
-  filled_inside w f room is =
-      let own = receive_queue_of s.registers queue in
-      let t = takes_piece s.memory own.ring own.control (rest_of w) f is in
-      let short : f.len ≤ 2048 = omega (arith, t.len, h.side.buffer_size) in
-      record {
-        descriptor =
-            rw (t.desc, head_is h)
-            (slot_in_ring l.ring l.size (slot_at l (length here))
-            (slot_below (reach v) (length here) h.ring h.slots.within));
-        slot = length here;
-        known = room;
-        bytes =
-            rw (t.at, buffer_is h room, posted_block v (length here) room)
-            (bytes_inside (block_at l (length here)) f.len short);
-      }
-
 -- what a reply tells is inside
 abbrev TellsInside : Layout → Reply Block → Type 0
 TellsInside l (Wrote on slot end desc at len) = IsInside l desc at len
@@ -115,10 +82,25 @@ TellsInside l other = ⊤
 pub piece_inside : PieceIsInside
 piece_inside queue s out v sound (gone, here, h) slot end desc at len is = elim (receiving_did queue s sound) [
   | Took x ↦
-      subst (TellsInside v.layout) (sym x.work.told ∙ is)
-      (filled_inside h x.work.frame x.work.filled (slot_left h x.tried) x.work.answer)
-  | Rested none rests ↦
-      absurd (let e = rw (is, eq-eqb queue queue refl) at none in cc)
+      let l = v.layout in
+      let k = slot_at l (length here) in
+      let room = slot_left h x.tried in
+      let t = takes_piece s.memory (receive_queue_of s.registers queue).ring
+      (receive_queue_of s.registers queue).control (rest_of x.work.frame) x.work.filled x.work.answer in
+      subst (TellsInside l) (sym x.work.told ∙ is) (record {
+        descriptor =
+            rw (t.desc, head_is h) (record {
+              part = k / 128;
+              known = slot_block l.size k (slot_below (reach v) (length here) h.ring h.slots.within);
+              descriptor = slot_lies l.ring k;
+            });
+        slot = length here;
+        known = room;
+        bytes =
+            rw (t.at, buffer_is h room, posted_block v (length here) room)
+            (bytes_inside (block_at l (length here)) _ (omega (arith, t.len, h.side.buffer_size)));
+      })
+  | Rested none rests ↦ absurd (let e = rw (is, eq-eqb queue queue refl) at none in cc)
 ]
 
 -- A step of the enable of the queue's receive side keeps the agreement; and where the side is on and wanted on nothing

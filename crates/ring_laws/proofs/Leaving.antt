@@ -1,25 +1,25 @@
 -- Where the agreement begins, and events that leave the receive side, looks and lends of the driver's own that keep it.
-use Rattle.std.proofs.Common.{[], ◌&&◌, ◌++◌, ◌+◌, ◌<◌, ◌∙◌, ◌∷◌, ◌≡◌, ◌≤◌, Bool, List, ℕ, ap, arith, cond, false}
-use Rattle.std.proofs.lemmas.Bool.{and_from, and_parts, both_ways, eq-eqb, le-leb, lt-ltb, or_left, or_right}
+use Rattle.std.proofs.Common.{[], ◌&&◌, ◌++◌, ◌+◌, ◌<◌, ◌∙◌, ◌∷◌, ◌≡◌, ◌≤◌, Bool, List, ap, arith, cond, false, length}
 use Rattle.history_laws.specs.Prelude.{Block, Bytes, Event, IsSound, Memory, Outcome, ReceiveQueue, Reply, State}
 use Rattle.history_laws.specs.Prelude.{bytes_in, ends_packet, gives, has_block, is_done, read_at, receive_queue_of}
-use Rattle.ring_laws.specs.ReceivePrelude.{Layout, LendsAnew, Lent, Looks, Packet, PeeksNext, Receive, Stage, Takes}
-use Rattle.ring_laws.specs.ReceivePrelude.{Told, descriptor_at, drive, is_part, left_of, no_packet, reach, slot_at}
-use Rattle.ring_laws.proofs.Kept.{each_fresh, each_ring, each_slot, first_place, named_kept, posted_below, posted_in}
-use Rattle.ring_laws.proofs.Parts.{end_last, end_more, none_held, none_left, open_more, seen_more}
-use Rattle.ring_laws.specs.Joint.{Agree, AreOpen, AreSeen, HasSlots, Holds, IsAt, IsLoose, IsRing, IsSetUp, StageHolds}
-use Rattle.ring_laws.specs.Steps.{Leaves, LeavesButOn, LeavingKeeps, LookTellsSlot, SwitchingKeeps, TellsSlot}
-use Rattle.std.proofs.{Common.length, Common.refl, Common.subst, Common.suc, Common.sym, Common.true}
+use Rattle.ring_laws.specs.ReceivePrelude.{Layout, LendsAnew, Looks, PeeksNext, Receive, Stage, Takes, Told}
+use Rattle.ring_laws.proofs.Kept.{each_fresh, each_ring, each_slot, end_last, end_more, first_place, named_kept}
+use Rattle.ring_laws.proofs.Kept.{none_held, none_of, open_more, posted_below, posted_in, seen_more, slot_below}
+use Rattle.std.proofs.lemmas.Bool.{and_from, and_parts, both_ways, cond_both, eq-eqb, le-leb, lt-ltb, or_left, or_right}
+use Rattle.std.proofs.{Common.refl, Common.subst, Common.suc, Common.sym, Common.true, Common.ℕ}
 use Rattle.std.proofs.{lemmas.Grind.common_steps}
 use Rattle.history_laws.specs.Prelude.{reply_to, second_half, step_of}
-use Rattle.ring_laws.proofs.{Kept.slot_below, Kept.slots_stay, Kept.stage_stays, Ring.same_stays, Ring.slot_looked}
-use Rattle.ring_laws.proofs.{ReceiveLent.unknown}
+use Rattle.ring_laws.specs.Joint.{Agree, AreOpen, AreSeen, HasSlots, Holds, IsAt, IsLoose, IsRing, IsSetUp, StageHolds}
+use Rattle.ring_laws.specs.ReceivePrelude.{descriptor_at, drive, is_part, reach, slot_at}
 use Rattle.ring_laws.specs.{Pieces.AllFit, Pieces.Fits, Pieces.Piece, Pieces.open_after, Pieces.piece_at}
-use Rattle.ring_laws.specs.{Starting.StartAgrees, ReceiveUp.IsUp}
-use Rattle.std.specs.Prelude.{if◌then◌else◌}
-use Rattle.nic_device.proofs.{Cases.lent_cases, DmaArena.Bus.get-insert_other, DmaArena.Bus.get-insert_same}
-use Rattle.pmd_rx.specs.{Receive.CanLend, Receive.LendsNext, Receive.lent_one, Receive.saw, Receive.told_by}
-use Rattle.pmd_rx.specs.{declared.ring.Stage.TheVariants.Owes, Wrong.is_healthy, Wrong.is_whole}
+use Rattle.ring_laws.specs.{ReceiveUp.IsUp, Starting.StartAgrees, Steps.Leaves, Steps.LeavesButOn, Steps.LeavingKeeps}
+use Rattle.ring_laws.specs.{Steps.LookTellsSlot, Steps.SwitchingKeeps, Steps.TellsSlot}
+use Rattle.ring_laws.proofs.{Blocks.same_stays, Blocks.slot_looked, Kept.slots_stay, Kept.stage_stays}
+use Rattle.ring_laws.proofs.{ReceiveLent.unknown}
+use Rattle.nic_device.proofs.{Cases.either_way, Cases.lent_cases, DmaArena.Bus.get-insert_other}
+use Rattle.nic_device.proofs.{DmaArena.Bus.get-insert_same}
+use Rattle.pmd_rx.specs.{Receive.LendsNext, Receive.lent_one, Receive.looked, Receive.saw, Receive.told_by}
+use Rattle.pmd_rx.specs.{Wrong.is_healthy, Wrong.is_whole}
 use Rattle.history_laws.proofs.Lent.{anew_is_done}
 use Rattle.nic_device.specs.declared.event.Event.TheVariants as event
 use Rattle.std.specs.FinMap as map
@@ -79,32 +79,23 @@ look_tells queue s out v gone here k h some d is =
 
 -- a driver that saw a part more
 
-stage_after : (m : Memory) (l : Layout) (ends : Bool) → StageHolds m l (cond ends Takes Looks)
-stage_after m l true = tt
-stage_after m l false = tt
-
-at_after : (v : Receive) (t : Told) (ends : Bool) → ends_packet t.second ≡ ends → v.held ≡ no_packet → AreOpen v.seen
-    → (ends_packet t.second ≡ false → bytes_in t.second ≡ 2048)
-    → IsAt (cond ends Takes Looks) (v.seen ++ t ∷ []) v.held
-at_after v t true is none opens full = end_more v.seen t opens is
-at_after v t false is none opens full = (none, open_more v.seen t opens (record { goes_on = is; full = full is }))
-
-looked_holds : (queue : ℕ) (s : State) (out : List Piece) (v : Receive) (gone here : List Piece) (d : List ℕ) (t : Bool)
+looked_holds : (queue : ℕ) (s : State) (out : List Piece) (v : Receive) (gone here : List Piece) (d : List ℕ)
     → Holds queue s out v gone here → v.stage ≡ Looks → TellsSlot here (length v.seen) d
-    → (is_done (second_half d) && is_part v.layout.most (length v.seen) (second_half d)) ≡ t
-    → Holds queue s out (if t then saw v d else v) gone here
-looked_holds queue s out v gone here d false h looks tells is = h
-looked_holds queue s out v gone here d true h looks tells is =
-    let both = and_parts (is_done (second_half d)) _ is in
+    → Holds queue s out (looked v d) gone here
+looked_holds queue s out v gone here d h looks tells =
+    let t = told_by d in
+    let ends = ends_packet (second_half d) in
     let at : IsAt Looks v.seen v.held = subst (λ (x : Stage). IsAt x v.seen v.held) looks h.order.stage in
+    cond_both (is_done (second_half d) && is_part v.layout.most (length v.seen) (second_half d)) (saw v d) v
+    (λ (w : Receive). Holds queue s out w gone here) (λ is.
+    let both = and_parts (is_done (second_half d)) _ is in
     assumption (
-      stage_after s.memory (reach v) (ends_packet (second_half d)),
+      either_way (StageHolds s.memory (reach v)) ends Takes Looks tt tt,
       none_held out gone here v (saw v d).seen (saw v d).stage h.order at.0
-          (seen_more v.seen here (told_by d) h.order.seen (tells.done.0 both.0)
-          (grind arith))
-          (at_after v (told_by d) (ends_packet (second_half d)) refl at.0 at.1
-          (λ on. grind arith)),
-    )
+          (seen_more v.seen here t h.order.seen (tells.done.0 both.0) (grind arith))
+          (cond_both ends Takes Looks (λ (x : Stage). IsAt x (v.seen ++ t ∷ []) v.held) (end_more v.seen t at.1)
+          (λ on. (at.0, open_more v.seen t at.1 (record { goes_on = on; full = (grind arith) })))),
+    )) (λ no. h)
 
 -- what an event of the driver's own does, by its outcome: a sound device and the driver agree on, with the driver that
 -- it leads to, a side that is up stays so, and the reply is that of a healthy queue, where the pieces fit and a block
@@ -156,11 +147,9 @@ module _ (queue : ℕ) (s : State) (out : List Piece) (v : Receive) (gone here :
       let some : k < length here = tells.done.0 done in
       let at : IsAt Looks v.seen v.held = subst (λ (x : Stage). IsAt x v.seen v.held) looks h.order.stage in
       let none : open_after 0 gone ≡ 0 =
-      h.order.parts ∙ ap (λ (p : Packet). length (left_of v.seen p).bufs) at.0
-      ∙ ap (λ (p : Packet). length p.bufs) (none_left v.seen) in
+      h.order.parts ∙ rw (at.0, (none_of v.seen).1) refl in
       let rest : AllFit most 0 here =
-      subst (λ (n : ℕ). AllFit most n here) none
-      (fit-last most 0 gone here (subst (AllFit most 0) h.order.order all)) in
+      (grind (arith, common_steps, fit-last)) in
       part_is most k (second_half d) (piece_at here k) (ends_packet (second_half d)) refl (tells.end some)
       (tells.len some) (h.slots.filled k some).short
       (subst (λ (n : ℕ). Fits most n (piece_at here k)) (let e : 0 + k ≡ k = omega arith in e)
@@ -178,7 +167,7 @@ look_keeps queue s out v a (gone, here, h) own =
     let tells = tells_bytes s.memory (reach v) here k h.slots (posted_below v k own.posted) in
     by_outcome queue s out v (event.Peek16 a) (event.Peek16 (descriptor_at v.layout k)) _ (ap event.Peek16 own.address)
     (looked_is s (reach v) here k h.ring h.slots (posted_in v k (let i = own.posted in omega (arith, i)))) (record {
-      agree = λ i. (gone, here, looked_holds queue s out v gone here _ _ h own.stage tells refl);
+      agree = λ i. (gone, here, looked_holds queue s out v gone here _ h own.stage tells);
       up = λ i up. up;
       healthy = λ all anew. whole_told queue s out v gone here h all own.stage _ tells;
     })
@@ -187,12 +176,6 @@ look_keeps queue s out v a (gone, here, h) own =
 
 abbrev with_block : State → Block → State
 with_block s b = record s { memory = map.insert s.memory b.number b.bytes }
-
-none_looked : (stage : Stage) (seen : List Told) → CanLend stage seen → stage ≡ Looks → seen ≡ []
-none_looked Looks seen can is = can
-none_looked Takes seen can is = absurd can
-none_looked Owes seen can is = cc
-none_looked (Lent c) seen can is = absurd can
 
 fresh_leaves : (queue : ℕ) (s : State) (v : Receive) (b : Block) → LendsNext v b → Leaves queue v s (with_block s b)
 fresh_leaves queue s v b own = grind (arith, common_steps, get-insert_other, both_ways, unknown)
@@ -207,7 +190,7 @@ lent_holds queue s out v gone here b h own =
     assumption (
       leaving_holds h (fresh_leaves queue s v b own),
       loose,
-      end_last v.stage v.seen v.held (none_looked v.stage v.seen own.stage) h.order.stage,
+      end_last v.stage v.seen v.held (grind (arith, common_steps)) h.order.stage,
     )
 
 pub lend_keeps : (queue : ℕ) (s : State) (out : List Piece) (v : Receive) (b : Block) → Agree queue s out v
@@ -227,27 +210,5 @@ pub start_agrees : StartAgrees
 start_agrees queue port tail ring size most s r = (
   [],
   [],
-  record {
-    named = r.named;
-    ring = record {
-      some = r.some;
-      few = r.few;
-      next = r.some;
-      ring = r.low;
-      room = r.some;
-      low = λ k i. absurd (omega (arith, i));
-      not_ring = λ k i. absurd (omega (arith, i));
-      apart = λ i j a b ne. absurd (omega (arith, a));
-    };
-    side = assumption (r.side.head ∙ first_place size r.some, r.side.tail ∙ first_place size r.some);
-    posted = omega arith;
-    slots = record {
-      there = r.there;
-      within = omega arith;
-      filled = λ k i. absurd (omega (arith, i));
-      posted = λ k i j. absurd (omega (arith, j));
-    };
-    stage = tt;
-    order = record { cut = λ rest. refl; parts = refl; full = refl; seen = tt; stage = (refl, tt); order = refl };
-  },
+  (grind (arith, common_steps, first_place)),
 )

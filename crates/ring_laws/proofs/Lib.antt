@@ -1,26 +1,23 @@
 pub use Rattle.history_laws.proofs.DeviceLaws
 pub use Rattle.history_laws.proofs as HistoryLaws
+pub use Rattle.ring_laws.proofs.Fitting as Begun
+pub use Rattle.ring_laws.proofs.Kept as Parts
+pub use Rattle.ring_laws.proofs.TransmitLent as Packets
 pub mod Advancing
-pub mod Begun
 pub mod Blocks
 pub mod Counting
 pub mod Delivering
+pub mod Examples
 pub mod Fetching
 pub mod Fitting
 pub mod Foreign
 pub mod Kept
 pub mod Leaving
-pub mod Naming
 pub mod Off
 pub mod Own
-pub mod Packets
-pub mod Parts
 pub mod Playing
-pub mod ReceiveExamples
 pub mod ReceiveLent
 pub mod Receiving
-pub mod Ring
 pub mod Runs
 pub mod Sparing
-pub mod TransmitExamples
 pub mod TransmitLent

@@ -1,14 +1,14 @@
 -- The enable register of the driver's transmit side, and a side that is off.
-use Rattle.std.proofs.Common.{[], ◌<◌, ◌∙◌, ◌∷◌, ◌≡◌, List, ℕ, ap, arith, drop, false, inl, inr, length, refl}
 use Rattle.history_laws.specs.Prelude.{Block, Entry, Event, Memory, State, Tx, Txdctl, after, has_bit, leads_to, place}
-use Rattle.history_laws.proofs.Steady.{asked, idle_silent, off_idle, off_steady, seen_off, steady_kept, unwanted_steady}
-use Rattle.history_laws.proofs.DeviceLaws.StandingAccesses.{write_memory}
-use Rattle.ring_laws.specs.Off.{AllLeaveSide, GuardIsOff, IsOff, IsUnwanted, LeavesSide, OffStays}
-use Rattle.ring_laws.proofs.Sparing.{sends_on, set_up-same, still-agrees}
-use Rattle.history_laws.specs.{Prelude.transmit_queue_of, Left.Deed, Sides.Side}
+use Rattle.history_laws.specs.{Left.Deed, Prelude.transmit_queue_of, Sides.Side}
+use Rattle.std.proofs.Common.{[], ◌<◌, ◌∙◌, ◌∷◌, ◌≡◌, List, ap, arith, drop, false, inl, inr, length, refl, ℕ}
 use Rattle.std.proofs.{lemmas.Bool.cases_Bool, lemmas.List.length-drop}
-use Rattle.ring_laws.specs.{Enable.EnableWordsKeep, Sent.sent_by, Sent.sent_in}
-use Rattle.history_laws.proofs.{Deeds.side_did, Leaving.plain-write, Leaving.transmit_left}
+use Rattle.history_laws.proofs.{Deeds.side_did, DeviceLaws.StandingAccesses.write_memory, Leaving.plain-write}
+use Rattle.history_laws.proofs.{Leaving.transmit_left, Steady.asked, Steady.idle_silent, Steady.off_idle}
+use Rattle.history_laws.proofs.{Steady.off_steady, Steady.seen_off, Steady.steady_kept, Steady.unwanted_steady}
+use Rattle.ring_laws.specs.{Enable.EnableWordsKeep, Off.AllLeaveSide, Off.GuardIsOff, Off.IsOff, Off.IsUnwanted}
+use Rattle.ring_laws.specs.{Off.LeavesSide, Off.OffStays, Sent.sent_in}
+use Rattle.ring_laws.proofs.Sparing.{sends_on, set_up-same, still-agrees}
 use Rattle.std.specs.FinMap as map
 use Rattle.nic_device.specs.declared.event.Event.TheVariants as event
 use Rattle.history_laws.specs.Sides as sides
@@ -35,31 +35,26 @@ enable_words_keep s queue sent v port n word made names rests (f, h) =
 
 -- A transmit side that isn't wanted on stays so; one that is off besides stays off, and sends nothing.
 
--- one event
-module _ (queue : ℕ) (s : State) (small : queue < 128) (e : Event Block) (x : LeavesSide queue s e) where
-  did : Deed Tx queue s e
-  did = side_did Tx queue s e x.sound small (λ other apart. transmit_left queue s (after s e) (x.side other apart))
-
-  unwanted-stays : IsUnwanted queue s → IsUnwanted queue (after s e)
-  unwanted-stays none = steady_kept Tx queue s e sides.IsUnwanted none unwanted_steady did
-
-  off-stays : IsOff queue s → IsOff queue (after s e)
-  off-stays is = steady_kept Tx queue s e sides.IsOff is off_steady did
-
-  off-sends-none : IsOff queue s → sent_by queue s e ≡ []
-  off-sends-none is = (idle_silent Tx queue s e sides.IsOff is off_idle did).sent
-
--- a history
+did : (queue : ℕ) (s : State) (e : Event Block) → queue < 128 → LeavesSide queue s e → Deed Tx queue s e
+did queue s e small x =
+    side_did Tx queue s e x.sound small (λ other apart. transmit_left queue s (after s e) (x.side other apart))
 
 off_history : (queue : ℕ) (s : State) (h : List Entry) → queue < 128 → AllLeaveSide queue s h → IsOff queue s
     → IsOff queue (leads_to s h) × (sent_in queue s h ≡ [])
 off_history queue s [] small all is = (is, refl)
 off_history queue s (e ∷ es) small all is =
-    let rest = off_history queue (after s e.event) es small all.1 (off-stays queue s small e.event all.0 is) in
-    (rest.0, rw (off-sends-none queue s small e.event all.0 is) rest.1)
+    let d = did queue s e.event small all.0 in
+    let stays = steady_kept Tx queue s e.event sides.IsOff is off_steady d in
+    let rest = off_history queue (after s e.event) es small all.1 stays in
+    (rest.0, rw (idle_silent Tx queue s e.event sides.IsOff is off_idle d).sent rest.1)
 
 pub off_stays : OffStays
-off_stays = grind (arith, unwanted-stays, off_history)
+off_stays = record {
+  unwanted = λ queue s e small x none.
+      steady_kept Tx queue s e sides.IsUnwanted none unwanted_steady (did queue s e small x);
+  off = λ queue s h small all is. (off_history queue s h small all is).0;
+  silent = λ queue s h small all is. (off_history queue s h small all is).1;
+}
 
 -- What a driver does by the enable word: it asks for the side to be on or off, and sees the side off.
 

@@ -1,33 +1,226 @@
--- The driver's own events: each gets the reply of a healthy queue, and keeps the agreement; here one takes the block of
--- the next slot.
-use Rattle.std.proofs.Common.{[], ◌*◌, ◌++◌, ◌+◌, ◌<◌, ◌∙◌, ◌∷◌, ◌≡◌, ◌≤◌, List, Some, ℕ, ap, arith, drop, length, refl}
-use Rattle.history_laws.specs.Prelude.{Block, Event, Memory, ReceiveQueue, State, bytes_in, receive_queue_of}
-use Rattle.ring_laws.specs.ReceivePrelude.{IsOwn, Layout, Receive, Told, block_at, descriptor_at, reach, took}
-use Rattle.ring_laws.proofs.Kept.{filled_stays, posted_block, posted_stays, reach_long, took_reach}
-use Rattle.ring_laws.specs.Joint.{Agree, HasSlots, IsFilled, IsRing, IsSetUp}
-use Rattle.std.proofs.lemmas.List.{append-nil, get_or-drop, length-drop}
+-- The driver's own events: each gets the reply of a healthy queue, and keeps the agreement; here it names a block in a
+-- descriptor, moves the tail on, and takes the block of the next slot.
+use Rattle.std.proofs.Common.{[], ◌*◌, ◌++◌, ◌+◌, ◌<◌, ◌∙◌, ◌∷◌, ◌≡◌, ◌≢◌, ◌≤◌, List, Some, ap, append_assoc, arith}
+use Rattle.std.proofs.lemmas.List.{append-nil, get_or-drop, length-append, length-drop, length-take-le, length_push}
+use Rattle.history_laws.specs.Prelude.{Block, Done, Event, IsWhole, Memory, Port, Rdt, ReceiveQueue, State, after_write}
+use Rattle.history_laws.specs.Prelude.{bytes_in, gives, named_written, place, read_at, receive_queue_of, step_of}
+use Rattle.ring_laws.specs.ReceivePrelude.{IsOwn, Layout, Lent, MovesNext, NamesNext, Packet, Receive, Told, block_at}
+use Rattle.ring_laws.specs.ReceivePrelude.{descriptor_at, drive, ended_of, extended, fresh_of, is_ring_block, names}
+use Rattle.ring_laws.specs.Joint.{Agree, HasSlots, Holds, InOrder, IsFilled, IsLoose, IsNamed, IsPosted, IsRing}
+use Rattle.ring_laws.proofs.Kept.{end_last, filled_stays, first_saw, named_kept, names_reach, next_at, order_on}
+use Rattle.ring_laws.proofs.Kept.{order_same, posted_block, posted_stays, posts_reach, push_place, reach_long}
+use Rattle.std.proofs.Common.{drop, false, length, refl, subst, sym, take, ℕ}
+use Rattle.std.proofs.{lemmas.Bool.cases_lt, lemmas.Bool.eqb-false, lemmas.Bool.eqb-true, lemmas.Grind.common_steps}
+use Rattle.std.proofs.{lemmas.List.map-append, lemmas.List.take-append-drop, lemmas.List.take_all}
+use Rattle.history_laws.specs.Prelude.{write_at}
+use Rattle.ring_laws.specs.ReceivePrelude.{next_stage, posts, reach, records_of, slot_at, took, vacant}
+use Rattle.ring_laws.specs.{Joint.IsSetUp, Joint.StageHolds, Joint.packets_had, Pieces.Piece, Pieces.no_piece}
+use Rattle.ring_laws.specs.{Pieces.piece_at, Pieces.pieces, ReceiveHealthy.OwnRepliesAreHealthy, Steps.OwnEventKeeps}
+use Rattle.ring_laws.proofs.Kept.{seen_within, slot_below, slots_stay, stage_stays, taking, took_reach, twice}
+use Rattle.ring_laws.proofs.Blocks.{Stays, same_stays, slot_poked, written_here, written_stays}
 use Rattle.ring_laws.proofs.Leaving.{Driven, by_outcome, lend_keeps, look_keeps}
-use Rattle.ring_laws.proofs.Parts.{first_saw, order_on, seen_within, taking}
-use Rattle.std.proofs.{Common.subst, Common.sym, Common.take, lemmas.Grind.common_steps}
-use Rattle.ring_laws.proofs.{Ring.Stays, Ring.same_stays, Naming.move_keeps, Naming.name_keeps}
+use Rattle.pmd_rx.specs.Receive.{HasLent, TakesNext, consumed, naming, tail_behind}
+use Rattle.history_laws.proofs.{Lent.taken_is, Written.receive-tail}
 use Rattle.std.specs.Prelude.{⊤}
 use Rattle.nic_device.proofs.{DmaArena.Blocks.read_at_in, DmaArena.Bus.get-remove_other, DmaArena.Bus.of_some}
-use Rattle.nic_device.specs.DmaArena.Memory.{part}
-use Rattle.pmd_rx.proofs.{PmdSeam.Places.next_below, PmdSeam.Rings.ring_block_apart}
-use Rattle.pmd_rx.specs.Receive.{TakesNext, consumed}
-use Rattle.history_laws.proofs.Lent.{taken_is}
-use Rattle.ring_laws.specs.{Pieces.Piece, Pieces.no_piece, Pieces.piece_at, Pieces.pieces}
-use Rattle.ring_laws.specs.{ReceiveHealthy.OwnRepliesAreHealthy, Steps.OwnEventKeeps}
-use Rattle.std.specs.FinMap as map
+use Rattle.nic_device.proofs.{DmaRing.Fields.halves_come_back, RegisterLaws.Puts.word_at-put_other}
+use Rattle.nic_device.specs.{DmaArena.Memory.part, DmaRing.Driver.posted, DmaRing.Laws.HasHalves}
+use Rattle.nic_device.specs.{RegisterLaws.Sound.HasShape}
+use Rattle.pmd_rx.proofs.{PmdSeam.Places.next_below, PmdSeam.Places.wrapped_apart, PmdSeam.Rings.ring_block_apart}
 use Rattle.nic_device.specs.declared.event.Event.TheVariants as event
+use Rattle.nic_device.specs.declared.event.Reply.TheVariants as reply
+use Rattle.std.specs.FinMap as map
+
+-- A write of the tail of the queue through the driver's number for it.
+
+pub tail_written : (s : State) (queue : ℕ) (l : Layout) (word : ℕ) → IsNamed s queue l
+    → step_of s (event.Write l.port l.tail word)
+    ≡ gives Done (record s { registers = after_write s.registers (place Rdt queue) 0xFFFFFFFF word })
+unfolding step_of
+tail_written s queue l word h = ap (λ n. named_written s n word) h.tail
+
+-- The ring with one more slot, whose descriptor names a block.
+
+module _ (m : Memory) (l : Layout) (here : List Piece) (b : ℕ) (ring : IsRing l) (h : HasSlots m l here)
+    (loose : IsLoose m l b) (posted : IsPosted m (descriptor_at l (vacant l)) b) where
+  abbrev on : Layout
+  on = extended l (b ∷ [])
+
+  more : length (l.blocks ++ b ∷ []) ≡ length l.blocks + 1
+  more = length_push l.blocks b
+
+  each_place : (k : ℕ) (P : ℕ → Type 0) → k < length (l.blocks ++ b ∷ [])
+      → (k < length l.blocks → P (block_at l k)) → (k ≡ length l.blocks → P b) → P (block_at on k)
+  each_place k P i f g = push_place l.blocks b k P i f g (cases_lt k (length l.blocks))
+
+  pub ring_more : IsRing on
+  ring_more =
+      record {
+        some = ring.some;
+        few = ring.few;
+        next = ring.next;
+        ring = ring.ring;
+        room = omega (arith, more, loose.room);
+        low = λ k i. each_place k (λ c. c < 65536) i (ring.low k) (λ e. loose.low);
+        not_ring = λ k i.
+            each_place k (λ c. is_ring_block l.ring l.size c ≡ false) i (ring.not_ring k) (λ e. loose.not_ring);
+        apart = λ i j a c ne.
+            each_place i (λ x. x ≢ block_at on j) a
+            (λ p. each_place j (λ y. block_at l i ≢ y) c (λ r. ring.apart i j p r ne) (λ r. loose.apart i p))
+            (λ p. each_place j (λ y. b ≢ y) c (λ r z. loose.apart j r (sym z)) (λ r. absurd (ne (p ∙ sym r))));
+      }
+
+  pub slots_more : HasSlots m on here
+  slots_more = grind (arith, common_steps)
+
+-- The descriptor at the first slot without a block names the one that was lent: a packet may be whole then.
+
+module _ (m : Memory) (l : Layout) (here : List Piece) (ring : IsRing l) (h : HasSlots m l here) (whole : IsWhole m)
+    (b : ℕ) (loose : IsLoose m l b) where
+  abbrev n : Memory
+  n = write_at m (descriptor_at l (vacant l)) (naming b)
+
+  halves : HasHalves (posted (2048 * b)) 0
+  halves = halves_come_back (posted (2048 * b)) 0
+
+  vacant_below : slot_at l (vacant l) < l.size
+  vacant_below = slot_below l (vacant l) ring (omega arith)
+
+  stays : Stays l.ring l.size m n (λ j. j ≢ slot_at l (vacant l)) (λ c. ⊤)
+  stays = written_stays l.ring l.size (slot_at l (vacant l)) vacant_below m (naming b) halves.size
+
+  read_back : read_at n (descriptor_at l (vacant l)) 16 ≡ naming b
+  read_back = written_here l.ring l.size (slot_at l (vacant l)) vacant_below m (naming b) halves.size whole h.there
+
+  pub posted_here : IsPosted n (descriptor_at l (vacant l)) b
+  posted_here = grind (arith, common_steps, read_back, halves, stays)
+
+  pub named_slots : HasSlots n l here
+  named_slots = grind (arith, common_steps, slots_stay, stays, wrapped_apart)
+
+  pub named_loose : IsLoose n l b
+  named_loose = stage_stays ring stays (Lent b) tt loose
+
+next_holds : (m : Memory) (l : Layout) (seen : List Told) → StageHolds m l (next_stage seen)
+next_holds m l [] = tt
+next_holds m l (t ∷ ts) = tt
+
+names_had : (v : Receive) → packets_had v ≡ packets_had (names v)
+names_had v = grind (arith, common_steps, append-nil, twice v.seen v.held)
+
+order_named : (out gone here : List Piece) (v : Receive) → HasLent v.stage → InOrder out v gone here
+    → InOrder out (names v) gone here
+order_named out gone here v lent o =
+    grind (arith, common_steps, order_same, names_had, twice v.seen v.held, next_at, end_last)
+
+pub name_keeps : (queue : ℕ) (s : State) (out : List Piece) (v : Receive) (a : ℕ) (bytes : List ℕ)
+    → Agree queue s out v → NamesNext v a bytes → Driven queue s out v (event.Poke16 a bytes)
+name_keeps queue s out v a bytes (gone, here, h) own =
+    let l = reach v in
+    let b = fresh_of v.stage in
+    let at = descriptor_at l (vacant l) in
+    let t : State = record s { memory = write_at s.memory at (naming b) } in
+    let loose : IsLoose s.memory l b = (grind (arith, common_steps)) in
+    let same : extended l (b ∷ []) ≡ reach (names v) = names_reach v in
+    by_outcome queue s out v (event.Poke16 a bytes) (event.Poke16 at (naming b)) _
+    (λ k. event.Poke16 (own.address k) (own.bytes_are k))
+    (slot_poked l.ring l.size (slot_at l (vacant l)) (slot_below l (vacant l) h.ring (omega arith)) s (naming b)
+    h.slots.there) (record {
+      agree = λ i.
+          let slots = named_slots s.memory l here h.ring h.slots i.blocks.whole b loose in
+          let free = named_loose s.memory l here h.ring h.slots i.blocks.whole b loose in
+          let posted = posted_here s.memory l here h.ring h.slots i.blocks.whole b loose in (
+            gone,
+            here,
+            assumption (
+              subst IsRing same (ring_more t.memory l here b h.ring slots free posted),
+              subst (λ (x : Layout). HasSlots t.memory x here) same
+                  (slots_more t.memory l here b h.ring slots free posted),
+              next_holds t.memory (reach (names v)) v.seen,
+              order_named out gone here v own.stage h.order,
+            ),
+          );
+      up = λ i up. up;
+      healthy = λ all anew. refl;
+    })
+
+-- The tail moves on over slots that name blocks: these are posted, and whole packets handed out.
+
+-- so many named slots, or all where there are fewer
+abbrev many : Receive → ℕ → ℕ
+many v blocks = length (take blocks v.named)
+
+-- the tail behind them is one of the ring's slots
+tail_low : (v : Receive) (blocks : ℕ) → IsRing (reach v) → tail_behind v.layout (many v blocks) < 65536
+tail_low v blocks ring = grind (arith, common_steps)
+
+-- the tail moves on over them, and so many packets are handed out
+module _ (v : Receive) (blocks packets : ℕ) where
+  abbrev w : Receive
+  w = posts v blocks packets
+
+  posts_had : packets_had v ≡ packets_had w
+  posts_had =
+      ap (λ (ps : List Packet). v.handed ++ records_of (ps ++ ended_of v.seen v.held))
+      (sym (take-append-drop packets v.whole))
+      ∙ simp (append_assoc, map-append)
+
+  module _ (queue : ℕ) (s : State) (out gone here : List Piece) (shape : HasShape s.registers)
+      (h : Holds queue s out v gone here) where
+    abbrev to : ℕ
+    to = tail_behind v.layout (many v blocks)
+
+    abbrev t : State
+    t = record s { registers = after_write s.registers (place Rdt queue) 0xFFFFFFFF to }
+
+    posts_holds : Holds queue t out w gone here
+    posts_holds =
+        let same : reach v ≡ reach w = posts_reach v blocks packets in
+        record {
+          named =
+              assumption (named_kept s t queue v.layout (grind (arith, common_steps, word_at-put_other)) refl h.named);
+          ring = subst IsRing same h.ring;
+          side = subst (λ q. IsSetUp q w.layout (length here))
+              (sym (receive-tail s.registers queue to shape h.named.low (tail_low v blocks h.ring)))
+              (assumption (ap (slot_at v.layout) (sym (length-append v.layout.blocks (take blocks v.named)))));
+          posted = omega (arith, h.posted, length-append v.layout.blocks (take blocks v.named));
+          slots = subst (λ (l : Layout). HasSlots s.memory l here) same h.slots;
+          stage = subst (λ (l : Layout). StageHolds s.memory l v.stage) same h.stage;
+          order = order_same out gone here v w h.order posts_had refl h.order.seen h.order.stage;
+        }
+
+-- how far a word moves it on, and which packets go with it
+record IsMoved (v : Receive) (word : ℕ) (w : Receive) : Type 0 where
+  pub blocks : ℕ
+  pub packets : ℕ
+  pub word_is : word ≡ tail_behind v.layout (many v blocks)
+  pub driver : w ≡ posts v blocks packets
+
+moved_is : (v : Receive) (port : Port) (number word : ℕ) → MovesNext v port number word
+    → IsMoved v word (drive v (event.Write port number word) reply.Done)
+moved_is v port number word own = grind (arith, take_all, more, eqb-true, length-take-le, eqb-false)
+
+pub move_keeps : (queue : ℕ) (s : State) (out : List Piece) (v : Receive) (port : Port) (number word : ℕ)
+    → Agree queue s out v → MovesNext v port number word → Driven queue s out v (event.Write port number word)
+move_keeps queue s out v port number word (gone, here, h) own =
+    let m = moved_is v port number word own in
+    let To : ℕ → State = λ x. record s { registers = after_write s.registers (place Rdt queue) 0xFFFFFFFF x } in
+    by_outcome queue s out v (event.Write port number word) (event.Write v.layout.port v.layout.tail word) _
+    (λ k. event.Write (own.port_is k) (own.number_is k) word) (tail_written s queue v.layout word h.named) (record {
+      agree = λ i.
+          subst (Agree queue (To word) out) (sym m.driver)
+          (subst (λ x. Agree queue (To x) out (posts v m.blocks m.packets)) (sym m.word_is)
+          (gone, here, posts_holds v m.blocks m.packets queue s out gone here i.registers.shape h));
+      up = (grind (arith, common_steps, receive-tail, moved_is, tail_low));
+      healthy = λ all anew. refl;
+    })
 
 -- The ring without its next slot.
 
--- the ring without its next slot
 module _ (m : Memory) (l : Layout) (here : List Piece) (ring : IsRing l) (h : HasSlots m l here)
     (some : 0 < length here) where
-  abbrev n : Memory
-  n = map.remove m (block_at l 0)
+  abbrev without : Memory
+  without = map.remove m (block_at l 0)
 
   outs : 0 < length l.blocks
   outs = let within = h.within in omega (arith, within, some)
@@ -47,27 +240,29 @@ module _ (m : Memory) (l : Layout) (here : List Piece) (ring : IsRing l) (h : Ha
   desc_on : (k : ℕ) → k + 1 < l.size → descriptor_at (consumed l) k ≡ descriptor_at l (1 + k)
   desc_on k i = ap (λ x. 2048 * l.ring + 16 * x) (grind arith)
 
-  stays : Stays l.ring l.size m n (λ j. ⊤) (λ b. map.get n b ≡ map.get m b)
-  stays =
-      same_stays l.ring l.size m n (λ k i. get-remove_other m (block_at l 0) (l.ring + k)
+  kept_stays : Stays l.ring l.size m without (λ j. ⊤) (λ b. map.get without b ≡ map.get m b)
+  kept_stays =
+      same_stays l.ring l.size m without (λ k i. get-remove_other m (block_at l 0) (l.ring + k)
       (λ e. ring_block_apart l.ring l.size (block_at l 0) (ring.not_ring 0 outs) k i (sym e)))
 
-  kept_block : (k : ℕ) → 0 < k → k < length l.blocks → map.get n (block_at l k) ≡ map.get m (block_at l k)
+  kept_block : (k : ℕ) → 0 < k → k < length l.blocks → map.get without (block_at l k) ≡ map.get m (block_at l k)
   kept_block k i j =
       get-remove_other m (block_at l 0) (block_at l k) (ring.apart k 0 j outs (λ e. absurd (omega (arith, e, i))))
 
   pub ring_on : IsRing (consumed l)
   ring_on = grind (arith, common_steps, next_below, less, block_on)
 
-  pub slots_on : HasSlots n (consumed l) (drop 1 here)
+  pub slots_on : HasSlots without (consumed l) (drop 1 here)
   slots_on =
       record {
-        there = λ k i. stays.has k i ∙ h.there k i;
+        there = λ k i. kept_stays.has k i ∙ h.there k i;
         within = omega (arith, fewer, less, h.within);
         filled =
-            (λ k i. grind (arith, common_steps, fewer, desc_on, block_on, piece_on, filled_stays, stays, kept_block));
+            (λ k i.
+            grind (arith, common_steps, fewer, desc_on, block_on, piece_on, filled_stays, kept_stays, kept_block));
         posted =
-            (λ k i j. grind (arith, common_steps, less, desc_on, block_on, posted_stays, stays, kept_block, fewer));
+            (λ k i j.
+            grind (arith, common_steps, less, desc_on, block_on, posted_stays, kept_stays, kept_block, fewer));
       }
 
 -- the queue's side, by the posted slots

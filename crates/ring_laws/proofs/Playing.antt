@@ -1,20 +1,20 @@
 -- Each move of the driver's keeps what it and the device agree on, and its replies are those of a healthy queue.
-use Rattle.std.proofs.Common.{[], ◌++◌, ◌+◌, ◌-◌, ◌<◌, ◌∷◌, ◌≡◌, ◌≢◌, ◌≤◌, List, ℕ, ap, arith, drop, length, refl}
-use Rattle.history_laws.specs.Prelude.{Block, Event, Memory, State, TransmitQueue, Tx, after, read_at, reply_to}
+use Rattle.std.proofs.Common.{[], ◌++◌, ◌+◌, ◌-◌, ◌<◌, ◌∷◌, ◌≡◌, ◌≢◌, ◌≤◌, List, ap, arith, drop, length, refl, subst}
+use Rattle.history_laws.specs.Prelude.{Block, Event, Memory, State, TransmitQueue, Tx, after, reply_to, step_of}
 use Rattle.ring_laws.specs.TransmitPrelude.{Accepts, Advances, Asks, Elsewhere, IsOwn, Kept, Lends, Looks, MayAccept}
-use Rattle.ring_laws.specs.TransmitPrelude.{Move, Outgoing, Reaps, Segment, Sender, descriptor_at, moved, no_segment}
-use Rattle.ring_laws.proofs.Blocks.{descriptor-later, later-layout, ready_stays, slot-below}
-use Rattle.ring_laws.proofs.Packets.{count-accepted, counted-lent, early-accepted, known-accepted, sends-accepted}
-use Rattle.ring_laws.proofs.Sparing.{based-after, never-shuts, spared_did, spares-keeps}
+use Rattle.ring_laws.specs.TransmitPrelude.{Move, Outgoing, Reaps, Segment, Sender, moved, no_segment, segment_at}
+use Rattle.ring_laws.proofs.TransmitLent.{count-accepted, counted-lent, early-accepted, first_at, known-accepted}
 use Rattle.ring_laws.specs.Agreeing.{Agrees, AgreesAt, IsBased, IsCounted, IsLayout, IsReady, IsSetUp, SendsInOrder}
-use Rattle.ring_laws.proofs.Advancing.{Keeps, Moves, advance_one, ask_one, by_outcome, look_one}
-use Rattle.ring_laws.specs.TransmitHealthy.{LendsAnew, OwnRepliesAreHealthy}
-use Rattle.std.proofs.{Common.subst, Common.sym, Common.true, lemmas.Grind.common_steps, lemmas.List.append-nil}
+use Rattle.std.proofs.{Common.true, Common.ℕ, lemmas.Grind.common_steps, lemmas.List.append-nil}
 use Rattle.std.proofs.{lemmas.List.length-drop}
-use Rattle.history_laws.specs.Prelude.{step_of, transmit_queue_of}
-use Rattle.ring_laws.specs.{TransmitPrelude.segment_at, TransmitPrelude.segments_of, Agreeing.Shows, Laws.MovesKeep}
-use Rattle.ring_laws.specs.{Sent.sent_by, Turns.MayMove, TransmitUp.IsUp, TransmitUp.UpStays}
-use Rattle.ring_laws.proofs.{Packets.shows-lent, Ring.Stays, Ring.same_stays, TransmitLent.first_at}
+use Rattle.history_laws.specs.Prelude.{transmit_queue_of}
+use Rattle.ring_laws.specs.{Agreeing.Shows, Laws.MovesKeep, Sent.sent_by, TransmitHealthy.LendsAnew}
+use Rattle.ring_laws.specs.{TransmitHealthy.OwnRepliesAreHealthy, TransmitPrelude.segments_of, TransmitUp.IsUp}
+use Rattle.ring_laws.specs.{TransmitUp.UpStays, Turns.MayMove}
+use Rattle.ring_laws.proofs.Blocks.{Stays, descriptor-later, later-layout, ready_stays, same_stays, slot-below}
+use Rattle.ring_laws.proofs.Advancing.{Keeps, Moves, advance_one, ask_one, by_outcome, look_one}
+use Rattle.ring_laws.proofs.{Sparing.based-after, Sparing.never-shuts, Sparing.spared_did, Sparing.spares-keeps}
+use Rattle.ring_laws.proofs.{TransmitLent.sends-accepted, TransmitLent.shows-lent}
 use Rattle.std.specs.Prelude.{slice_index_or, ⊤}
 use Rattle.nic_device.proofs.{Cases.lent_cases, DmaArena.Bus.get-remove_other, DmaArena.Bus.of_some}
 use Rattle.pmd_tx.proofs.PmdSeam.Rings.{ring_block_apart}
@@ -58,19 +58,14 @@ module _ (v : Sender) (g : ℕ) (l : IsLayout v.layout) (c : IsCounted v (g + 1)
     stays : Stays v.layout.ring v.layout.size m without (λ j. ⊤) (λ b. fin.get without b ≡ fin.get m b)
     stays =
         let x = segment_at v 0 in
-        same_stays v.layout.ring v.layout.size m without (λ k below.
-        let other = ring_block_apart v.layout.ring v.layout.size x.block (h.ready 0 oldest).apart k below in
-        get-remove_other m x.block (v.layout.ring + k) (λ e. other (sym e)))
+        same_stays v.layout.ring v.layout.size m without
+        (grind (arith, common_steps, ring_block_apart, oldest, get-remove_other))
 
     other_block : (k : ℕ) → k + 1 < v.lent → IsReady without v.layout.ring v.layout.size (segment_at v (k + 1))
     other_block k there = grind (arith, common_steps, ready_stays, stays, get-remove_other, oldest)
 
-    slot_stays : (k : ℕ) → k < v.layout.size
-        → read_at without (descriptor_at (reaped v).layout k) 16 ≡ read_at m (descriptor_at v.layout (k + 1)) 16
-    slot_stays k h = grind (arith, common_steps, descriptor-later, stays, slot-below)
-
     pub shows-reaped : Shows without (reaped v) g
-    shows-reaped = grind (arith, common_steps, stays, behind, other_block, slot_stays, posted)
+    shows-reaped = grind (arith, common_steps, stays, behind, other_block, descriptor-later, slot-below, posted)
 
 -- The driver's own moves that lend a block and take one back keep what it and the device agree on.
 

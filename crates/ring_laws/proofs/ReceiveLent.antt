@@ -1,17 +1,15 @@
 -- The blocks that the driver has lent for receiving, after each of its calls.
-use Rattle.std.proofs.Common.{[], ◌++◌, ◌<◌, ◌||◌, ◌∷◌, ◌≡◌, ◌≢◌, Bool, List, ℕ, append_assoc, arith, drop, false}
-use Rattle.std.proofs.lemmas.Bool.{eqb-true, ne_eqb, or_cases, or_from, or_right}
-use Rattle.std.specs.Prelude.{◌==◌, IsTrue, slice_index, suc}
-use Rattle.history_laws.specs.Prelude.{Block, Blocks, Event, Reply, State}
-use Rattle.ring_laws.specs.ReceivePrelude.{IsOwn, LendsAnew, Lent, NamesNext, PeeksNext, Receive, Stage, Takes, Told}
-use Rattle.ring_laws.specs.ReceivePrelude.{drive, names, took}
-use Rattle.pmd_rx.specs.Receive.{CanLend, LendsNext, lent_one, looked, moved}
-use Rattle.history_laws.proofs.Lent.{Follows, follows_in, follows_known, only_lent_stays, or_swap}
-use Rattle.history_laws.specs.Lent.{LendsOneOf, LendsOwn, OnlyLent, either}
-use Rattle.ring_laws.proofs.Kept.{among, parted, ring_of, slots_of}
-use Rattle.std.proofs.{Common.length, Common.refl, Common.sym, Common.true, lemmas.Grind.common_steps}
-use Rattle.pmd_rx.specs.Keeping.{fresh_block, has_lent}
+use Rattle.std.proofs.Common.{[], ◌++◌, ◌<◌, ◌||◌, ◌∷◌, ◌≡◌, ◌≢◌, Bool, List, append_assoc, arith, drop, false, length}
+use Rattle.std.proofs.{Common.refl, Common.sym, Common.true, Common.ℕ, lemmas.Bool.eqb-true, lemmas.Bool.ne_eqb}
+use Rattle.std.proofs.{lemmas.Bool.or_cases, lemmas.Bool.or_from, lemmas.Bool.or_right, lemmas.Grind.common_steps}
+use Rattle.ring_laws.specs.ReceivePrelude.{IsOwn, LendsAnew, Lent, Receive, Stage, Takes, Told, drive, took}
 use Rattle.ring_laws.specs.{ReceiveLent.OwnLendsAreKnown, Steps.Each}
+use Rattle.std.specs.Prelude.{◌==◌, IsTrue, slice_index, suc}
+use Rattle.history_laws.specs.{Lent.LendsOneOf, Lent.LendsOwn, Lent.OnlyLent, Lent.either, Prelude.Block}
+use Rattle.history_laws.specs.{Prelude.Blocks, Prelude.Event, Prelude.Reply, Prelude.State}
+use Rattle.pmd_rx.specs.{Keeping.fresh_block, Keeping.has_lent, Receive.CanLend, Receive.LendsNext, Receive.lent_one}
+use Rattle.history_laws.proofs.Lent.{Follows, follows_in, follows_known, only_lent_stays, or_swap}
+use Rattle.ring_laws.proofs.Kept.{among, parted, ring_of, slots_of}
 use Rattle.nic_device.specs.declared.event.Event.TheVariants as event
 
 -- Which blocks the driver has lent for receiving, after each of its calls.
@@ -21,10 +19,6 @@ among-insert xs ys b n = grind (arith, common_steps, or_swap, among)
 
 in_rest : (xs ys : List ℕ) (n : ℕ) → n ≢ slice_index xs 0 → among (xs ++ ys) n ≡ true → among (drop 1 xs ++ ys) n ≡ true
 in_rest xs ys n h1 h2 = grind (arith, common_steps, or_cases, among, eqb-true)
-
-of_rest : (xs ys : List ℕ) (n : ℕ) → among (drop 1 xs ++ ys) n ≡ true → among (xs ++ ys) n ≡ true
-of_rest [] ys n is = is
-of_rest (x ∷ xs) ys n is = or_right (n == x) (among (xs ++ ys) n) is
 
 in_none : (xs : List ℕ) (n : ℕ) → ((k : ℕ) → k < length xs → slice_index xs k ≢ n) → among xs n ≡ false
 in_none [] n none = refl
@@ -37,20 +31,11 @@ module _ (v : Receive) (n : ℕ) where
   abbrev Had : List ℕ → List ℕ → Bool
   Had slots fresh = among (slots ++ (fresh ++ ring_of v)) n
 
-  is_looked : (a : ℕ) → PeeksNext v a → (d : List ℕ) → has_lent (looked v d) n ≡ has_lent v n
-  is_looked a own d = grind arith
-
-  is_named : (a : ℕ) (bytes : List ℕ) → NamesNext v a bytes → has_lent (names v) n ≡ has_lent v n
-  is_named a bytes own = grind (arith, common_steps)
-
-  is_moved : (word : ℕ) → has_lent (moved v word) n ≡ has_lent v n
-  is_moved word = grind (arith, common_steps)
-
   -- without the first block
   took_has : (seen : List Told) (taken : ℕ) (b : Block) → v.stage ≡ Takes → taken ≡ slice_index v.layout.blocks 0
       → (n ≢ taken → has_lent v n ≡ true → has_lent (took v seen b) n ≡ true)
       × (has_lent (took v seen b) n ≡ true → has_lent v n ≡ true)
-  took_has seen taken b h1 h2 = grind (arith, common_steps, among, ring_of, slots_of, append_assoc, in_rest, of_rest)
+  took_has seen taken b h1 h2 = grind (arith, common_steps, among, ring_of, slots_of, append_assoc, in_rest, or_right)
 
   -- a fresh block is lent
 
@@ -59,12 +44,12 @@ module _ (v : Receive) (n : ℕ) where
   lend_block other seen can = refl
 
   is_lent_one : (b : Block) → LendsNext v b → has_lent (lent_one v b.number) n ≡ (n == b.number || has_lent v n)
-  is_lent_one b own = grind (arith, common_steps, among-insert, slots_of, ring_of, lend_block)
+  is_lent_one b own = grind (arith, common_steps, among-insert, slots_of, ring_of)
 
 module _ (v : Receive) where
   follows : (e : Event Block) → IsOwn v e → (r : Reply Block) (n : ℕ)
       → Follows (has_lent v) (has_lent (drive v e r)) e r n
-  follows e h1 r n = grind (arith, common_steps, is_looked, took_has, is_lent_one, is_named, is_moved)
+  follows e h1 r n = grind (arith, common_steps, took_has, is_lent_one)
 
   -- a block that may be lent isn't lent yet
   pub unknown : (b : Block) → LendsNext v b → has_lent v b.number ≡ false

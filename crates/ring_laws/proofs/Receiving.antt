@@ -1,29 +1,28 @@
 -- A slot of the driver's ring is filled: there is no fault, and the agreement has one piece more.
-use Rattle.std.proofs.Common.{[], ◌*◌, ◌++◌, ◌+◌, ◌<◌, ◌^◌, ◌∙◌, ◌∷◌, ◌≡◌, ◌≢◌, ◌≤◌, ◌⊎◌, Err, List, Ok, ℕ, ap}
-use Rattle.std.proofs.Common.{append_assoc, arith, false, inl, inr, length, refl, subst, sym, take, true}
-use Rattle.std.proofs.lemmas.List.{get_or_append_left, get_or_push, length-take-le, length_push}
+use Rattle.std.proofs.Common.{[], ◌*◌, ◌++◌, ◌+◌, ◌<◌, ◌^◌, ◌∙◌, ◌∷◌, ◌≡◌, ◌≢◌, ◌≤◌, ◌⊎◌, Err, List, Ok, ap}
 use Rattle.history_laws.specs.Prelude.{AreApart, Block, Event, Filled, IsSound, IsWhole, Memory, ReceiveQueue, Rest}
-use Rattle.history_laws.specs.Prelude.{Ring, RingFault, Rx, State, WritesNoSetting, after, bytes_in, ends_packet}
-use Rattle.history_laws.specs.Prelude.{first_half, is_done, is_empty, is_outside, moved_on, read_at, receive_queue_of}
+use Rattle.history_laws.specs.Prelude.{RingFault, Rx, State, WritesNoSetting, after, bytes_in, ends_packet, first_half}
 use Rattle.ring_laws.specs.ReceivePrelude.{Layout, Lent, Receive, Stage, block_at, descriptor_at, reach, slot_at}
-use Rattle.nic_device.proofs.RxRing.Fills.{driver_reads, fill_keeps_blocks, takes_piece, writes_inside_slot}
 use Rattle.ring_laws.proofs.Kept.{buffer_even, filled_stays, named_kept, posted_below, posted_stays, ring_low}
-use Rattle.ring_laws.proofs.Kept.{slot_below, slot_low, stage_stays}
-use Rattle.ring_laws.proofs.Ring.{Stays, address_small, buffer_and_slot, buffers_apart, ends_apart, slot_and_buffer}
-use Rattle.ring_laws.specs.Joint.{HasSlots, Holds, IsFilled, IsPosted, IsSetUp, StageHolds}
-use Rattle.nic_device.specs.RxRing.Fill.{buffer_address, head_address}
-use Rattle.pmd_rx.proofs.PmdSeam.Places.{next_wrapped, wrapped_apart}
-use Rattle.history_laws.proofs.DeviceLaws.KeptSettings.{settings_stand}
-use Rattle.history_laws.specs.{Prelude.rest_of, Prelude.second_half, Left.Takes, Left.fill_on, Segments.piece_in}
-use Rattle.history_laws.specs.{Sides.IsTried, Sides.side_of}
-use Rattle.ring_laws.specs.{ReceivePrelude.wrapped, Pieces.Piece, Pieces.no_piece, Pieces.piece_at}
-use Rattle.ring_laws.proofs.{Ring.slot_lent, Ring.slots_apart, Parts.seen_longer}
-use Rattle.std.proofs.{lemmas.Bool.cases_lt, lemmas.Grind.common_steps}
+use Rattle.ring_laws.proofs.Blocks.{Stays, address_small, buffer_and_slot, buffers_apart, ends_apart, slot_and_buffer}
+use Rattle.std.proofs.Common.{append_assoc, arith, false, inl, inr, length, refl, subst, sym, take, true, ℕ}
+use Rattle.std.proofs.{lemmas.Bool.cases_lt, lemmas.Grind.common_steps, lemmas.List.get_or_append_left}
+use Rattle.std.proofs.{lemmas.List.get_or_push, lemmas.List.length-take-le, lemmas.List.length_push}
+use Rattle.history_laws.specs.Prelude.{is_done, is_empty, is_outside, read_at, receive_queue_of, rest_of, second_half}
+use Rattle.history_laws.specs.{Left.Takes, Left.fill_on, Segments.piece_in, Sides.IsTried, Sides.side_of}
+use Rattle.ring_laws.specs.{Joint.HasSlots, Joint.Holds, Joint.IsFilled, Joint.IsPosted, Joint.IsSetUp}
+use Rattle.ring_laws.specs.{Joint.StageHolds, Pieces.Piece, Pieces.no_piece, Pieces.piece_at, ReceivePrelude.wrapped}
+use Rattle.ring_laws.proofs.{Blocks.slot_lent, Blocks.slots_apart, Kept.seen_longer, Kept.slot_below, Kept.slot_low}
+use Rattle.ring_laws.proofs.{Kept.stage_stays}
+use Rattle.nic_device.proofs.{DmaArena.Blocks.is_lent_in, RxRing.Fills.driver_reads, RxRing.Fills.fill_keeps_blocks}
+use Rattle.nic_device.proofs.{RxRing.Fills.takes_piece, RxRing.Fills.writes_inside_slot, RxRing.Tests.fill_healthy}
 use Rattle.nic_device.specs.{DmaArena.Memory.SameLent, DmaRing.Ring.next_of, DmaRing.Ring.slots_of}
-use Rattle.nic_device.specs.{RxRing.Laws.IsHealthy, RxRing.Laws.TakesPiece, Sound.AreWaiting}
-use Rattle.nic_device.proofs.{DmaArena.Blocks.is_lent_in, RxRing.Tests.fill_healthy}
+use Rattle.nic_device.specs.{RxRing.Fill.buffer_address, RxRing.Fill.head_address, RxRing.Laws.IsHealthy}
+use Rattle.nic_device.specs.{RxRing.Laws.TakesPiece, Sound.AreWaiting}
+use Rattle.pmd_rx.proofs.PmdSeam.Places.{next_wrapped, wrapped_apart}
+use Rattle.history_laws.proofs.{DeviceLaws.Delivered.told-lt, DeviceLaws.KeptSettings.settings_stand}
+use Rattle.history_laws.proofs.{DeviceLaws.Standing.stays_within, Leaving.receive_of}
 use Rattle.pmd_rx.specs.PmdSeam.Slots.{descriptor_in}
-use Rattle.history_laws.proofs.{Leaving.receive_of, DeviceLaws.Delivered.told-lt, DeviceLaws.Standing.stays_within}
 
 -- What filling a slot does to memory: the slot gets a piece, and the others stay.
 
@@ -70,11 +69,7 @@ module _ {queue : ℕ} {s : State} {out : List Piece} {v : Receive} {gone here :
   pub healthy : HasRoom → IsHealthy s.memory own.ring own.control
   healthy room =
       record {
-        set_up = record {
-          inside = inside;
-          one_buffer = h.side.one_buffer;
-          sized = λ e. absurd (omega (arith, h.side.buffer_size, e));
-        };
+        set_up = (grind (arith, common_steps, inside));
         descriptor =
             rw head_is
             (slot_lent l.ring l.size (slot_at l (length here)) (slot_below l (length here) h.ring h.slots.within)
@@ -136,29 +131,20 @@ module _ {queue : ℕ} {s : State} {out : List Piece} {v : Receive} {gone here :
       }
 
   pub head_on : HasRoom → (rest : Rest) (f : Filled) → (fill_on s queue rest).answer ≡ Ok f
-      → (f.head ≡ slot_at l (length here + 1)) × (f.head < 65536)
+      → f.head ≡ slot_at l (length here + 1)
   head_on room rest f is =
-      let r : Ring = own.ring in
-      let t = takes_piece s.memory r own.control rest f is in
-      let slots : slots_of r ≡ l.size = omega (arith, h.side.sized) in
+      let slots : slots_of own.ring ≡ l.size = omega (arith, h.side.sized) in
       let low = posted_below v (length here) room in
-      let below = t.inside in (
-        t.head ∙ ap (λ n. next_of n r.head) slots ∙ ap (next_of l.size) h.side.head
-            ∙ next_wrapped l.size (l.next + length here) h.ring.some (omega (arith, h.ring.next, h.ring.room, low))
-            ∙ ap (wrapped l.size) (let e : l.next + length here + 1 ≡ l.next + (length here + 1) = omega arith in e),
-        omega (arith, below, slots, h.ring.few),
-      )
+      let more : l.next + length here + 1 ≡ l.next + (length here + 1) = omega arith in
+      (takes_piece s.memory own.ring own.control rest f is).head ∙ ap (λ n. next_of n own.ring.head) slots
+      ∙ ap (next_of l.size) h.side.head
+      ∙ next_wrapped l.size (l.next + length here) h.ring.some (omega (arith, h.ring.next, h.ring.room, low))
+      ∙ ap (wrapped l.size) more
 
   pub slot_left : IsTried (side_of Rx queue s) → HasRoom
   slot_left tried = room_left tried.some (cases_lt (length here) (length v.layout.blocks))
 
 -- The slot at the head of the driver's queue was filled: the head moved on, and the two agree on one piece more.
-
--- a side whose head moved on from the first slot that wasn't filled
-set_up_more : (l : Layout) (q : ReceiveQueue) (n m : ℕ) → IsSetUp q l n → m ≡ n + 1
-    → next_of (slots_of q.ring) q.ring.head ≡ slot_at l (n + 1)
-    → IsSetUp (record q { ring = moved_on q.ring }) l m
-set_up_more l q n m h e is = assumption (is ∙ ap (slot_at l) (sym e))
 
 module _ {queue : ℕ} {s : State} {out : List Piece} {v : Receive} {gone here : List Piece}
     (h : Holds queue s out v gone here) (sound : IsSound s) (e : Event Block) (none : WritesNoSetting s e)
@@ -222,9 +208,11 @@ module _ {queue : ℕ} {s : State} {out : List Piece} {v : Receive} {gone here :
     named = named_kept s (after s e) queue v.layout (settings_stand s e none).mode (stays_within s e).vfs h.named;
     ring = h.ring;
     side = subst (λ q. IsSetUp q v.layout (length (here ++ p ∷ []))) (sym (ap receive_of x.side))
-        (set_up_more v.layout (receive_queue_of s.registers queue) (length here) _ h.side more
-        (sym (takes_piece s.memory _ _ rest x.work.filled x.work.answer).head
-        ∙ (head_on h (slot_left h x.tried) rest x.work.filled x.work.answer).0));
+        (assumption (
+          h.side,
+          sym (takes_piece s.memory _ _ rest x.work.filled x.work.answer).head
+              ∙ head_on h (slot_left h x.tried) rest x.work.filled x.work.answer ∙ ap (slot_at v.layout) (sym more),
+        ));
     posted = omega (arith, more, slot_left h x.tried);
     slots = subst (λ m. HasSlots m r (here ++ p ∷ [])) (sym x.work.memory) slots_more;
     stage = subst (λ m. StageHolds m r v.stage) (sym x.work.memory) (stage_more v.stage h.stage);

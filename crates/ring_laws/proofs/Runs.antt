@@ -1,27 +1,27 @@
 -- Over a whole history.
-use Rattle.std.proofs.Common.{[], ◌++◌, ◌+◌, ◌-◌, ◌<◌, ◌∙◌, ◌∷◌, ◌≡◌, ◌≢◌, ◌≤◌, List, None, Option, Some, ℕ, ap}
-use Rattle.std.proofs.Common.{append_assoc, arith, drop, false, inl, inr, length, refl, subst, sym, true}
-use Rattle.std.proofs.lemmas.List.{append-nil, drop_all, get_or-drop, length-append, length-drop, map-append}
+use Rattle.std.proofs.Common.{[], ◌++◌, ◌+◌, ◌-◌, ◌<◌, ◌∙◌, ◌∷◌, ◌≡◌, ◌≢◌, ◌≤◌, List, None, Option, Some, ap}
 use Rattle.history_laws.specs.Prelude.{Block, Blocks, Entry, Event, IsLegal, LeavesBlock, Reply, Rx, State, Tx, Watched}
-use Rattle.history_laws.specs.Prelude.{WritesOutside, Wrote, after, calls_of, leads_to, read_at, reply_to, staged_by}
-use Rattle.ring_laws.specs.TransmitPrelude.{Elsewhere, Kept, Move, Segment, Sender, descriptor_at, first_end, has_lent}
-use Rattle.ring_laws.specs.TransmitPrelude.{is_sent, moved, no_segment, segment_at}
-use Rattle.history_laws.proofs.Leaving.{left-setting, left-side, left_transmit, step_is}
-use Rattle.ring_laws.specs.Agreeing.{Agrees, AgreesAt, SendsInOrder, bytes_of, frames_from}
-use Rattle.ring_laws.specs.Alone.{IsAlone, MayComeAlone, MayMoveAlone, MayRunAlone}
+use Rattle.ring_laws.specs.TransmitPrelude.{Elsewhere, Kept, Move, Segment, Sender, first_end, has_lent, is_sent, moved}
 use Rattle.ring_laws.specs.Laws.{AloneMayRun, FindsWaiting, IsPrefixOf, LeftAloneIsSpared, SentIsPrefixOfTaken}
-use Rattle.ring_laws.specs.Turns.{IsOver, MayCome, MayMove, MayRun, Turn, entries_of, known, sender_after, turns_of}
+use Rattle.std.proofs.Common.{append_assoc, arith, drop, false, inl, inr, length, refl, subst, sym, true, ℕ}
+use Rattle.std.proofs.{lemmas.Bool.both_ways, lemmas.Bool.cases_Bool, lemmas.Bool.cases_eq, lemmas.Bool.cases_lt}
+use Rattle.std.proofs.{lemmas.Grind.common_steps, lemmas.List.append-nil, lemmas.List.drop_all, lemmas.List.get_or-drop}
+use Rattle.std.proofs.{lemmas.List.length-append, lemmas.List.length-drop, lemmas.List.map-append}
+use Rattle.history_laws.specs.Prelude.{WritesOutside, Wrote, after, calls_of, leads_to, reply_to, staged_by}
+use Rattle.history_laws.specs.{DeviceLaws.Leaving.ReceivesOutside, Left.is_step_of}
+use Rattle.ring_laws.specs.Turns.{IsOver, MayCome, MayRun, Turn, entries_of, known, sender_after, turns_of}
+use Rattle.ring_laws.specs.{Agreeing.Agrees, Agreeing.AgreesAt, Agreeing.SendsInOrder, Agreeing.bytes_of}
+use Rattle.ring_laws.specs.{Agreeing.frames_from, Alone.IsAlone, Alone.MayComeAlone, Alone.MayRunAlone}
 use Rattle.ring_laws.specs.{Laws.SentIsPrefixWhereAlone, Laws.WaitingIsNotAllSent, Sent.sent_by, Sent.sent_in}
-use Rattle.ring_laws.specs.{Sparing.IsLeft, Sparing.ReceiveOwes, Sparing.is_transmit_of}
-use Rattle.std.proofs.{lemmas.Grind.common_steps, lemmas.Bool.both_ways, lemmas.Bool.cases_Bool, lemmas.Bool.cases_eq}
-use Rattle.std.proofs.{lemmas.Bool.cases_lt}
-use Rattle.std.specs.Prelude.{IsTrue, slice_index_or}
-use Rattle.pmd_tx.specs.Plays.{played_by}
+use Rattle.ring_laws.specs.{Sparing.IsLeft, Sparing.ReceiveOwes, Sparing.is_transmit_of, TransmitPrelude.no_segment}
 use Rattle.history_laws.proofs.{Blocks.clear_avoids, Blocks.left-block, Deeds.received-none, Deeds.silent_else}
 use Rattle.history_laws.proofs.{DeviceLaws.Standing.stays_within, DeviceLaws.StandingQueues.receiving_blocks}
-use Rattle.history_laws.specs.{Left.is_step_of, DeviceLaws.Leaving.ReceivesOutside}
-use Rattle.ring_laws.proofs.{Advancing.end-last, Advancing.look-fetched, Advancing.look-tells, TransmitLent.AreMine}
-use Rattle.ring_laws.proofs.{TransmitLent.mine-moved, Packets.frame_of_end, Playing.move-keeps, Sparing.spares-keeps}
+use Rattle.history_laws.proofs.{Leaving.left-setting, Leaving.left-side, Leaving.left_transmit, Leaving.step_is}
+use Rattle.std.specs.Prelude.{IsTrue, slice_index_or}
+use Rattle.pmd_tx.specs.Plays.{played_by}
+use Rattle.ring_laws.proofs.{Advancing.end-last, Advancing.look-fetched, Advancing.look-tells, Playing.move-keeps}
+use Rattle.ring_laws.proofs.{Sparing.spares-keeps, TransmitLent.AreMine, TransmitLent.frame_of_end}
+use Rattle.ring_laws.proofs.{TransmitLent.mine-moved}
 
 -- An event that leaves blocks alone leaves those of a driver that sends.
 
@@ -76,24 +76,24 @@ over-turns s queue sent v (t ∷ ts) j legal may =
     (over-turns (after s e) queue (sent ++ first) (known v t.move t.entry.reply) ts
     (one-turn s queue sent v e t.entry.reply t.move j legal.0 may.0) legal.1 may.1)
 
--- what was sent are the first frames of those accepted
-pub first_sent : (s : State) (queue : ℕ) (sent : List (List ℕ)) (limit : ℕ) (left : List Segment) (ks : List Kept)
-    → SendsInOrder s queue sent limit left ks → IsPrefixOf sent (bytes_of ks)
-first_sent s queue sent limit left ks (inl x) = (frames_from (staged_by s queue) left, x.in_order)
-first_sent s queue sent limit left ks (inr x) = (x.frame ∷ x.rest, x.in_order)
+-- by what is left to be sent
+module _ (s : State) (queue : ℕ) (sent : List (List ℕ)) (limit : ℕ) (left : List Segment) (ks : List Kept)
+    (sends : SendsInOrder s queue sent limit left ks) where
+  -- what was sent are the first frames of those accepted
+  pub first_sent : IsPrefixOf sent (bytes_of ks)
+  first_sent = elim sends [
+    | inl x ↦ (frames_from (staged_by s queue) left, x.in_order)
+    | inr x ↦ (x.frame ∷ x.rest, x.in_order)
+  ]
 
--- what is left to be sent
+  -- all of them, where nothing is left
+  all_sent : left ≡ [] → bytes_of ks ≡ sent
+  all_sent none = grind (arith, common_steps, append-nil)
 
--- nothing, where nothing is left
-all_sent : (s : State) (queue : ℕ) (sent : List (List ℕ)) (limit : ℕ) (left : List Segment) (ks : List Kept)
-    → SendsInOrder s queue sent limit left ks → left ≡ [] → bytes_of ks ≡ sent
-all_sent s queue sent limit left ks h1 h2 = grind (arith, common_steps, append-nil)
-
--- something, where the end of a packet is left
-some_unsent : (s : State) (queue : ℕ) (sent : List (List ℕ)) (limit : ℕ) (left : List Segment) (ks : List Kept)
-    → SendsInOrder s queue sent limit left ks → (k : ℕ) → k < length left
-    → (slice_index_or left k no_segment).part.last ≡ true → length sent < length (bytes_of ks)
-some_unsent s queue sent limit left ks h1 k h2 h3 = grind (arith, common_steps, length-append, frame_of_end)
+  -- and not all, where the end of a packet is left
+  some_unsent : (k : ℕ) → k < length left → (slice_index_or left k no_segment).part.last ≡ true
+      → length sent < length (bytes_of ks)
+  some_unsent k below end = grind (arith, common_steps, length-append, frame_of_end)
 
 module _ {s : State} {queue : ℕ} {sent : List (List ℕ)} {v : Sender} {f : ℕ} (h : AgreesAt s queue sent v f) where
   -- with none outstanding all that was accepted is sent
@@ -108,11 +108,9 @@ module _ {s : State} {queue : ℕ} {sent : List (List ℕ)} {v : Sender} {f : �
       let c = h.counted in
       let known : end < length v.outstanding = omega (arith, posted, c.posted_poked, c.poked_lent, c.lent_known) in
       let at : f + (end - f) ≡ end = omega (arith, rest) in
-      let last : (slice_index_or (drop f v.outstanding) (end - f) no_segment).part.last ≡ true =
-      ap (λ (x : Segment). x.part.last) (get_or-drop f v.outstanding (end - f) no_segment)
-      ∙ ap (λ (k : ℕ). (segment_at v k).part.last) at ∙ end-last v.outstanding known in
       let longer = some_unsent s queue sent v.layout.limit (drop f v.outstanding) v.accepted h.sends (end - f)
-      (omega (arith, length-drop f v.outstanding, known, rest)) last in
+      (omega (arith, length-drop f v.outstanding, known, rest))
+      (rw (get_or-drop f v.outstanding (end - f) no_segment, at) (end-last v.outstanding known)) in
       omega (arith, longer, ap length same, ap length split, length-append xs more)
 
 module _ (queue : ℕ) (s : State) (v : Sender) (ts : List Turn) (o : IsOver queue s v ts) where
@@ -134,9 +132,7 @@ pub sent_in-append : (queue : ℕ) (s : State) (g h : List Entry)
     → sent_in queue s (g ++ h) ≡ sent_in queue s g ++ sent_in queue (leads_to s g) h
 sent_in-append queue s [] h = refl
 sent_in-append queue s (e ∷ g) h =
-    let n : State = after s e.event in
-    ap (λ xs. sent_by queue s e.event ++ xs) (sent_in-append queue n g h)
-    ∙ sym (append_assoc (sent_by queue s e.event) (sent_in queue n g) (sent_in queue (leads_to n g) h))
+    grind (arith, common_steps, append_assoc, sent_in-append queue (after s e.event) g h)
 
 -- where a look finds the end of the oldest packet not done it isn't fetched, so all that was accepted is more than was
 -- sent, or fewer
@@ -144,11 +140,10 @@ pub waiting-left : (s : State) (queue : ℕ) (sent : List (List ℕ)) (v : Sende
     → FindsWaiting s v → (xs more : List (List ℕ)) → sent ≡ xs ++ more → bytes_of v.accepted ≢ xs
 waiting-left s queue sent v (f, h) finds xs more split same =
     let end = first_end v.outstanding in
-    let seen : finds.bytes ≡ read_at s.memory (descriptor_at v.layout end) 16 =
-    look-tells h finds.posted finds.bytes finds.told in
     elim (cases_lt end f) [
       | inl some ↦
-          both_ways (is_sent finds.bytes) finds.waits (ap is_sent seen ∙ look-fetched h finds.posted some)
+          both_ways (is_sent finds.bytes) finds.waits
+          (rw (look-tells h finds.posted finds.bytes finds.told) (look-fetched h finds.posted some))
       | inr none ↦ left-over h xs more split finds.posted none same
     ]
 
@@ -171,28 +166,19 @@ entries-turns pass [] (e ∷ es) = ap (λ (xs : List Entry). e ∷ xs) (entries-
 entries-turns pass (m ∷ moves) (e ∷ es) =
     grind (arith, common_steps, entries-turns pass moves es, entries-turns pass (m ∷ moves) es)
 
--- no move is made by a driver that has none to make
-none-turns : (pass : ℕ) (v : Sender) (h : List Entry) → sender_after v (turns_of pass [] h) ≡ v
-none-turns pass v [] = refl
-none-turns pass v (e ∷ es) = none-turns pass v es
-
 -- the driver after them is the one that its calls lead to
 played-turns : (pass : ℕ) (v : Sender) (moves : List Move) (h : List Entry)
     → sender_after v (turns_of pass moves h) ≡ played_by v moves (calls_of pass h)
-played-turns pass v [] h = none-turns pass v h
+played-turns pass v [] [] = refl
 played-turns pass v (m ∷ moves) [] = refl
+played-turns pass v [] (e ∷ es) = played-turns pass v [] es
 played-turns pass v (m ∷ moves) (e ∷ es) =
     grind (arith, common_steps, played-turns pass (moved v m e.reply) moves es, played-turns pass v (m ∷ moves) es)
 
 pub sent_is_prefix_of_taken : SentIsPrefixOfTaken
 sent_is_prefix_of_taken pass queue s v moves h agreed legal may =
     let ts = turns_of pass moves h in
-    let same = entries-turns pass moves h in
-    let prefix = sent_is_prefix queue s v ts (assumption (subst (IsLegal s) (sym same) legal)) in
-    subst (λ (xs : List Entry). IsPrefixOf (sent_in queue s xs)
-    (bytes_of (played_by v moves (calls_of pass h)).accepted)) same
-    (subst (λ (w : Sender). IsPrefixOf (sent_in queue s (entries_of ts)) (bytes_of w.accepted))
-    (played-turns pass v moves h) prefix)
+    (grind (arith, common_steps, entries-turns, played-turns, sent_is_prefix))
 
 -- A history that leaves the queue of a driver alone may run, and so what is sent is a prefix of what was accepted.
 
@@ -202,21 +188,11 @@ module _ (w : Watched) (mine : Blocks) (s : State) (sent : List (List ℕ)) (v :
     spared : (blocks : Blocks) → AreMine blocks v → IsAlone w blocks v s e → MayCome w.queue v s e None
     spared blocks lent a = left_alone_is_spared w blocks v s e (assumption (j.1.based.sound, lent, a))
 
-    move_may : (m : Move) → MayMoveAlone w mine v s e m → MayMove w.queue v s e m
-    move_may Elsewhere a = spared (has_lent v) (λ number is. is) a
-    move_may m a = (a.0, a.1)
-
-    may : (o : Option Move) → MayComeAlone w mine v s e o → MayCome w.queue v s e o
-    may None a = spared mine all a
-    may (Some m) a = move_may m a
-
-    moved_mine : (m : Move) → MayMoveAlone w mine v s e m → AreMine mine (moved v m (reply_to s e))
-    moved_mine Elsewhere a = all
-    moved_mine m a = mine-moved mine v all m e (reply_to s e) a.0 a.2
-
-    mine_after : (o : Option Move) → MayComeAlone w mine v s e o → AreMine mine (known v o (reply_to s e))
-    mine_after None a = all
-    mine_after (Some m) a = moved_mine m a
+    may : (o : Option Move) → MayComeAlone w mine v s e o
+        → MayCome w.queue v s e o × AreMine mine (known v o (reply_to s e))
+    may None a = (spared mine all a, all)
+    may (Some Elsewhere) a = (spared (has_lent v) (λ number is. is) a, all)
+    may (Some m) a = ((a.0, a.1), mine-moved mine v all m e (reply_to s e) a.0 a.2)
 
 run : (w : Watched) (mine : Blocks) (s : State) (sent : List (List ℕ)) (v : Sender) (ts : List Turn)
     → Agrees s w.queue sent v → w.vfs ≡ s.vfs → AreMine mine v → IsLegal s (entries_of ts)
@@ -224,14 +200,11 @@ run : (w : Watched) (mine : Blocks) (s : State) (sent : List (List ℕ)) (v : Se
 run w mine s sent v [] j functions all legal alone = tt
 run w mine s sent v (t ∷ ts) j functions all legal alone =
     let e = t.entry.event in
-    let m = may w mine s sent v j functions all e t.move alone.0 in
-    let next = one-turn s w.queue sent v e t.entry.reply t.move j legal.0 m in
-    let left : AreMine mine (known v t.move t.entry.reply) =
-    subst (λ r. AreMine mine (known v t.move r)) (sym legal.0)
-    (mine_after w mine s sent v j functions all e t.move alone.0) in (
-      m,
-      run w mine (after s e) (sent ++ sent_by w.queue s e) (known v t.move t.entry.reply) ts next
-          (functions ∙ sym (stays_within s e).vfs) left legal.1 alone.1,
+    let m = may w mine s sent v j functions all e t.move alone.0 in (
+      m.0,
+      run w mine (after s e) (sent ++ sent_by w.queue s e) (known v t.move t.entry.reply) ts
+          (one-turn s w.queue sent v e t.entry.reply t.move j legal.0 m.0) (functions ∙ sym (stays_within s e).vfs)
+          (subst (λ r. AreMine mine (known v t.move r)) (sym legal.0) m.1) legal.1 alone.1,
     )
 
 pub alone_may_run : AloneMayRun

@@ -1,28 +1,28 @@
 -- Steps of the driver's own queue, and events that spare the driver, keep what it and the device agree on.
-use Rattle.std.proofs.Common.{[], ◌++◌, ◌+◌, ◌<◌, ◌∙◌, ◌∷◌, ◌≡◌, ◌≤◌, List, ℕ, ap, append_assoc, arith, drop, false}
-use Rattle.std.proofs.Common.{inl, inr, length, refl, subst, sym, true}
-use Rattle.std.proofs.lemmas.List.{append-nil, drop_more, get_or-set_same, nil_from_length}
+use Rattle.std.proofs.Common.{◌++◌, ◌+◌, ◌<◌, ◌∙◌, ◌∷◌, ◌≡◌, ◌≤◌, List, ap, append_assoc, arith, drop, false, inl, inr}
 use Rattle.history_laws.specs.Prelude.{Block, Event, Fetched, IsEvent, LeavesBlock, Outcome, State, TransmitQueue, Tx}
-use Rattle.history_laws.specs.Prelude.{WritesNoSetting, after, done_descriptor, staged_by, transmit_queue_of, write_at}
 use Rattle.ring_laws.specs.TransmitPrelude.{Kept, Layout, Move, Segment, Sender, asking, has_lent, moved, no_segment}
-use Rattle.ring_laws.specs.TransmitPrelude.{segment_at, side_of, slot_at}
-use Rattle.history_laws.proofs.Leaving.{named-same, transmit_left, transmit_of}
-use Rattle.history_laws.specs.Left.{Deed, Nothing, Rested, Rests, Shut, Shuts, Switched, Takes, Took, fetch_on}
 use Rattle.ring_laws.proofs.Fetching.{fetch-segment, head_is, lent, more, segment_fetched, segment_outcome}
 use Rattle.ring_laws.specs.Agreeing.{Agrees, AgreesAt, ArePackets, IsBased, IsCounted, IsCutOff, IsInTurn, IsSetUp}
-use Rattle.ring_laws.specs.Agreeing.{SendsInOrder, frame_ended, frames_from, staged_behind}
-use Rattle.std.proofs.lemmas.Bool.{both_ways, cases_Bool, cases_lt, eq-eqb}
+use Rattle.std.proofs.{Common.length, Common.refl, Common.subst, Common.sym, Common.true, Common.ℕ}
+use Rattle.std.proofs.{lemmas.Bool.both_ways, lemmas.Bool.cases_Bool, lemmas.Bool.cases_lt, lemmas.Bool.eq-eqb}
+use Rattle.std.proofs.{lemmas.Grind.common_steps, lemmas.List.append-nil, lemmas.List.drop_more}
+use Rattle.std.proofs.{lemmas.List.get_or-set_same, lemmas.List.nil_from_length}
+use Rattle.history_laws.specs.Prelude.{WritesNoSetting, after, done_descriptor, staged_by, transmit_queue_of, write_at}
+use Rattle.history_laws.specs.{Left.Deed, Left.Nothing, Left.Rested, Left.Rests, Left.Shut, Left.Shuts, Left.Switched}
+use Rattle.history_laws.specs.{Left.Takes, Left.Took, Left.fetch_on, Sides.IsTried, Sides.Side, Sides.as_wanted}
+use Rattle.ring_laws.specs.{Agreeing.SendsInOrder, Agreeing.frame_ended, Agreeing.frames_from, Agreeing.staged_behind}
+use Rattle.ring_laws.specs.{Laws.SparingEventsKeep, Laws.StepsOfQueueKeep, Sent.sent_by, Sparing.Spares}
+use Rattle.ring_laws.specs.{TransmitHealthy.LendsAnew, TransmitPrelude.segment_at, TransmitPrelude.side_of}
+use Rattle.ring_laws.specs.{TransmitPrelude.slot_at, TransmitUp.IsUp}
+use Rattle.ring_laws.proofs.{Blocks.shows-same, Blocks.slot-next, Counting.added-by, Fetching.shows-fetched}
+use Rattle.ring_laws.proofs.{Fetching.slots, Fetching.small, TransmitLent.frame_left, TransmitLent.some_left}
+use Rattle.history_laws.proofs.{Deeds.side_did, DeviceLaws.KeptSettings.settings_stand}
+use Rattle.history_laws.proofs.{DeviceLaws.Standing.stays_within, Leaving.named-same, Leaving.transmit_left}
+use Rattle.history_laws.proofs.{Leaving.transmit_of, Steady.resting_same}
 use Rattle.std.specs.Prelude.{if◌then◌else◌, ◌==◌, IsFalse, IsTrue}
-use Rattle.history_laws.proofs.DeviceLaws.KeptSettings.{settings_stand}
-use Rattle.ring_laws.specs.Laws.{SparingEventsKeep, StepsOfQueueKeep}
-use Rattle.ring_laws.proofs.{Fetching.shows-fetched, Fetching.slots, Fetching.small, Blocks.shows-same}
-use Rattle.ring_laws.proofs.{Blocks.slot-next, Counting.added-by, Packets.frame_left, Packets.some_left}
-use Rattle.history_laws.specs.Sides.{IsTried, Side, as_wanted}
-use Rattle.std.proofs.lemmas.Grind.{common_steps}
 use Rattle.nic_device.proofs.Steps.{keeps_sound}
 use Rattle.nic_device.specs.{Transmit.with_frame, TxRing.Fetch.Outcome as Fetch}
-use Rattle.history_laws.proofs.{Deeds.side_did, Steady.resting_same, DeviceLaws.Standing.stays_within}
-use Rattle.ring_laws.specs.{Sent.sent_by, Sparing.Spares, TransmitHealthy.LendsAnew, TransmitUp.IsUp}
 use Rattle.pmd_tx.specs.Sending.{is_healthy}
 use Rattle.nic_device.specs.declared.event.Event.TheVariants as event
 
@@ -95,14 +95,11 @@ module _ {s : State} {queue : ℕ} {sent : List (List ℕ)} {v : Sender} {f : �
     abbrev told : Fetched
     told = segment_fetched side.ring staged x
 
-    fetched_is : y.work.fetched ≡ told
-    fetched_is = grind (arith, common_steps, fetches)
-
     staged_is : staged_by u queue ≡ staged_behind staged x
     staged_is = grind (arith, common_steps, get_or-set_same, fetches)
 
     out_is : u.out ≡ with_frame s.out queue told.frame
-    out_is = grind (arith, common_steps, fetched_is)
+    out_is = grind (arith, common_steps, fetches)
 
     side_is : transmit_queue_of u.registers queue
         ≡ record side { ring = record side.ring { head = slot_at v.layout (f + 1) } }
@@ -139,19 +136,13 @@ pub set_up-same : (q r : TransmitQueue) (l : Layout) (n f : ℕ) → r.ring ≡ 
     → IsSetUp q l n f → IsSetUp r l n f
 set_up-same q r l n f ring back h = grind arith
 
--- a side that was cut off stays so while it is off and not wanted on
-pub cut_stays : (q r : TransmitQueue) (sent : List (List ℕ)) (left : List Segment) (ks : List Kept) → IsFalse r.on
-    → IsFalse r.wanted → IsCutOff q sent left ks → IsCutOff r sent left ks
-cut_stays q r sent left ks off unwanted x =
-    record { off = off; unwanted = unwanted; more = x.more; frame = x.frame; rest = x.rest; in_order = x.in_order }
-
 -- what is left goes out as before where what is staged stays, and a side that was cut off is so still
 pub sends_on : (s t : State) (queue : ℕ) (sent : List (List ℕ)) (limit : ℕ) (left : List Segment) (ks : List Kept)
     → staged_by t queue ≡ staged_by s queue
     → (IsCutOff (transmit_queue_of s.registers queue) sent left ks
     → IsFalse (transmit_queue_of t.registers queue).on × IsFalse (transmit_queue_of t.registers queue).wanted)
     → SendsInOrder s queue sent limit left ks → SendsInOrder t queue sent limit left ks
-sends_on s t queue sent limit left ks h1 h2 h3 = grind (arith, common_steps, cut_stays)
+sends_on s t queue sent limit left ks h1 h2 h3 = grind (arith, common_steps)
 
 module _ {s : State} {queue : ℕ} {sent : List (List ℕ)} {v : Sender} {f : ℕ} (h : AgreesAt s queue sent v f)
     (e : Event Block)
@@ -179,41 +170,28 @@ module _ {s : State} {queue : ℕ} {sent : List (List ℕ)} {v : Sender} {f : �
 
     -- a side that becomes what it is wanted to be, and goes off amid a packet, is cut off
 
-    frames_more : (frames : List (List ℕ)) → 0 < length frames → (frame : List ℕ) × (rest : List (List ℕ))
-        × (frames ≡ frame ∷ rest)
-    frames_more [] some = absurd (omega arith)
-    frames_more (x ∷ rest) some = (x, rest, refl)
-
     -- what is staged stays
     same_sends : staged_by t queue ≡ staged_by s queue
         → IsInTurn v.layout.limit (staged_by s queue) sent left v.accepted → Sends t
-    same_sends same x = inl (subst (λ (l : List ℕ). IsInTurn v.layout.limit l sent left v.accepted) (sym same) x)
+    same_sends same x = inl (rw same x)
 
     switched_turn : side_of Tx queue t ≡ as_wanted (side_of Tx queue s)
         → IsInTurn v.layout.limit (staged_by s queue) sent left v.accepted → Sends t
     switched_turn is x = elim (cases_Bool (transmit_queue_of s.registers queue).wanted) [
       | inl wanted ↦ same_sends (ap (λ (y : Side). y.staged) is ∙ rw wanted refl) x
-      | inr none ↦
-          let gone : staged_by t queue ≡ [] = ap (λ (y : Side). y.staged) is ∙ rw none refl in
-          elim (cases_lt 0 (length (staged_by s queue))) [
-            | inl some ↦
-                let more = frames_more (frames_from (staged_by s queue) left)
-                (frame_left v.layout.limit (staged_by s queue) left some x.packets) in
-                inr (record {
-                  off = ap (λ (y : Side). y.on) is ∙ none;
-                  unwanted = ap (λ (y : Side). y.wanted) is ∙ none;
-                  more = some_left v.layout.limit (staged_by s queue) left some x.packets;
-                  frame = more.0;
-                  rest = more.1;
-                  in_order = x.in_order ∙ ap (λ (l : List (List ℕ)). sent ++ l) more.2;
-                })
-            | inr few ↦ same_sends (gone ∙ sym (nil_from_length (staged_by s queue) (omega arith))) x
-          ]
+      | inr none ↦ elim (cases_lt 0 (length (staged_by s queue))) [
+        | inl some ↦
+            let frames = frame_left v.layout.limit (staged_by s queue) left some x.packets in
+            (grind (arith, common_steps, more, some_left))
+        | inr few ↦
+            same_sends (ap (λ (y : Side). y.staged) is ∙ rw none (sym (nil_from_length (staged_by s queue)
+            (omega arith)))) x
+      ]
     ]
 
     switched_sends : side_of Tx queue t ≡ as_wanted (side_of Tx queue s) → Sends s → Sends t
     switched_sends is (inl x) = switched_turn is x
-    switched_sends is (inr x) = grind (arith, common_steps, cut_stays)
+    switched_sends is (inr x) = grind (arith, common_steps)
 
     rest_sends : Rests Tx queue s e → Sends t
     rest_sends (Nothing is) = grind (arith, common_steps, sends_on)
@@ -247,9 +225,4 @@ step_of_queue_keeps s queue sent v (f, h) =
     let own : (queue == queue) ≡ true = eq-eqb queue queue refl in
     let small = h.based.small in
     let none : (A : Type 0) → (queue == queue) ≡ false → A = λ A other. absurd (both_ways (queue == queue) other own) in
-    spares-keeps h (event.TxStep queue) (record {
-      made = omega arith;
-      setting = tt;
-      side = λ other apart. none _ other;
-      blocks = λ other number lent. none _ other;
-    })
+    spares-keeps h (event.TxStep queue) (grind (arith, common_steps))

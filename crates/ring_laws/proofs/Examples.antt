@@ -1,13 +1,27 @@
 -- The definitions on small examples.
-use Rattle.std.proofs.Common.{[], ◌∷◌, ◌≡◌, None, Some, ℕ, arith, refl, replicate}
-use Rattle.ring_laws.specs.TransmitPrelude.{Accepts, Advances, IsOwn, Looks, Move, Outgoing, Reaps, Sender, accepted_by}
-use Rattle.pmd_tx.specs.Sending.{advanced, asked, at_start}
+use Rattle.std.proofs.Common.{[], ◌∷◌, ◌≡◌, List, None, Some, arith, false, refl, replicate, true, ℕ}
 use Rattle.std.proofs.{lemmas.Grind.common_steps, lemmas.List.length-replicate}
+use Rattle.ring_laws.specs.TransmitPrelude.{Accepts, Advances, IsOwn, Looks, Move, Outgoing, Reaps, Sender, accepted_by}
+use Rattle.ring_laws.specs.{Pieces.Piece, Pieces.packets_of, Sent.frames_added, Turns.Turn, Turns.turns_of}
+use Rattle.pmd_tx.specs.Sending.{advanced, asked, at_start}
 use Rattle.history_laws.specs.Prelude.{Entry, Pf}
 use Rattle.device_lock.specs.History.{entry_of}
-use Rattle.ring_laws.specs.{Sent.frames_added, Turns.Turn, Turns.turns_of}
 use Rattle.nic_device.specs.declared.event.Event.TheVariants as event
 use Rattle.nic_device.specs.declared.event.Reply.TheVariants as reply
+
+-- a piece of these bytes
+abbrev ending : List ℕ → ℕ → Piece
+ending bytes first = record { bytes = bytes; first = first; end = true }
+
+abbrev going_on : List ℕ → Piece
+going_on bytes = record { bytes = bytes; first = 0; end = false }
+
+-- two pieces of one frame are a packet, with the RSS type and hash of the last; the third is left out, since its frame
+-- has no end yet
+two_pieces_are_a_packet :
+    packets_of (going_on (1 ∷ 2 ∷ []) ∷ ending (3 ∷ []) 0x700000002 ∷ going_on (4 ∷ []) ∷ [])
+    ≡ record { bytes = 1 ∷ 2 ∷ 3 ∷ []; rss = 2; hash = 7 } ∷ []
+two_pieces_are_a_packet = refl
 
 -- of two frames out, of queues 3 and 5, the second was added
 one_added : frames_added ((3, 1 ∷ []) ∷ []) ((3, 1 ∷ []) ∷ (5, 7 ∷ 8 ∷ []) ∷ []) ≡ (7 ∷ 8 ∷ []) ∷ []

@@ -1,7 +1,7 @@
 -- Once both rings came up and both sides went on the device and the driver agree on both.
 use Rattle.std.{proofs.lemmas.Bool.both_ways, proofs.lemmas.Grind.common_steps, specs.Prelude.IsTrue}
-use Rattle.std.proofs.Common.{[], ◌%◌, ◌*◌, ◌+◌, ◌<◌, ◌∷◌, ◌≡◌, ◌≢◌, ◌≤◌, List, ℕ, ap, arith, false, refl, subst, sym}
-use Rattle.std.proofs.Common.{true}
+use Rattle.std.proofs.Common.{[], ◌%◌, ◌*◌, ◌+◌, ◌<◌, ◌∷◌, ◌≡◌, ◌≢◌, ◌≤◌, List, ℕ, ap, arith, false, refl, rules, subst}
+use Rattle.std.proofs.Common.{sym, true}
 use Rattle.pmd.specs.{PmdSeam.Frames.most_blocks, Running.Running, Started.AreUp}
 use Rattle.driver_laws.proofs.{Ground.ground_names, Made.extends, Made.made_some, Made.some_made, Reached.sound_at}
 use Rattle.driver_laws.proofs.Points.{At, accesses_at, laid_with, prepared_at, unused_kept}
@@ -32,17 +32,7 @@ sized_ring pass h size ring is lent = grind (arith, common_steps)
 abbrev pub are_on : {q : AtPort} {size frame : ℕ} {old one two new : List Call} {a b c : Numbers} {v : Receive}
     {t : Sender} → is_size size ≡ true → is_frame frame ≡ true → IsReceiveReady q size frame old a one b v
     → IsTransmitReady q size frame one b two c t → IsSwitched q two new true 1000 → AreOn q size frame old a new v t
-are_on {one = one} {two = two} {b = b} {c = c} sized framed receive transmit switched = record {
-  sized = sized;
-  framed = framed;
-  ready_made = one;
-  both_made = two;
-  ready_arena = b;
-  both_arena = c;
-  receive = receive;
-  transmit = transmit;
-  switched = switched;
-}
+are_on sized framed receive transmit switched = search rules
 
 module _ {w : Watched} {origin : State} {h : List Entry} {q : AtPort} {size frame : ℕ} {old : List Call} {a : Numbers}
     {new : List Call} {v : Receive} {t : Sender} (up : AreOn q size frame old a new v t)

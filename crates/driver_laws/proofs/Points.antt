@@ -4,9 +4,9 @@ use Rattle.std.proofs.{lemmas.Bool.eqb-false, lemmas.Bool.eqb-true, lemmas.Bool.
 use Rattle.std.proofs.Common.{[], ◌&&◌, ◌++◌, ◌+◌, ◌<◌, ◌||◌, ◌∙◌, ◌∷◌, ◌≡◌, ◌≢◌, Bool, List, Option, Some, ℕ, ap}
 use Rattle.std.proofs.Common.{arith, cond, false, not, option_map, refl, rules, subst, suc, sym, true, zero}
 use Rattle.std.specs.{List.range_with_len, Prelude.IsTrue, Prelude.⊤}
-use Rattle.nic_device.{proofs.DmaArena.Bus.get-insert_other, proofs.DmaArena.Bus.get-insert_same, specs.State.Waiting}
+use Rattle.nic_device.proofs.DmaArena.Bus.{get-insert_other, get-insert_same}
 use Rattle.ring_laws.{proofs.HistoryLaws.Lent.not_so, specs.HistoryLaws.Left.IsSilent as RestsSilent}
-use Rattle.driver_laws.proofs.{Parts.ends_some, Words.driven, Words.each_side, Words.side_driven, Words.words_taken}
+use Rattle.driver_laws.proofs.{Parts.ends_some, StopCalls.IsLentBy, StopCalls.and_all, StopCalls.lending}
 use Rattle.driver_laws.proofs.Ground.{ground_names, ground_same, plain_keeps}
 use Rattle.driver_laws.proofs.Made.{OfCall, access_before, access_leads, made_some, some_made}
 use Rattle.driver_laws.proofs.Prelude.{AllMay, AreUnused, AtEntries, IsAlong, IsIdle, IsZero, Leads, Outcome, Piece}
@@ -15,13 +15,13 @@ use Rattle.driver_laws.proofs.Prelude.{begun_stays, idle_silent, idle_steady, le
 use Rattle.driver_laws.proofs.Prelude.{queues_left, read_rest, seen_by, sent_is_counted, side_seen, side_with}
 use Rattle.driver_laws.proofs.Prelude.{since-append, steady_kept, step_of, told_on}
 use Rattle.driver_laws.proofs.Reached.{KeptOver, LeadsNext, added_before, added_leads, reached_next, state_next}
-use Rattle.driver_laws.proofs.StopCalls.{IsLentBy, and_all, lending}
+use Rattle.driver_laws.proofs.Words.{driven, each_side, side_driven, words_taken}
 use Rattle.driver_laws.specs.{Points.AccessesLead, Points.May, Standing.IsLeft, Standing.StandingSidesAreLeft}
 use Rattle.driver_laws.specs.Moves.{LendStands, MayGoOn, ReadStands, WriteStands}
 use Rattle.driver_laws.specs.Prelude.{Access, AreMade, AtPort, Block, Blocks, Call, Dir, EachRingBlock, Entry, Event}
 use Rattle.driver_laws.specs.Prelude.{IsPrepared, LendsEach, Memory, Numbers, RowId, Rx, Rxdctl, Sees, Sets, Side}
-use Rattle.driver_laws.specs.Prelude.{State, Tx, Txdctl, Watched, after, begun_on, blocks_for, enable_row, leads_to}
-use Rattle.driver_laws.specs.Prelude.{lent_by, pieces, ring_blocks, ring_words, sent_by, side_of, zero_block}
+use Rattle.driver_laws.specs.Prelude.{State, Tx, Txdctl, Watched, after, blocks_for, enable_row, leads_to, lent_by}
+use Rattle.driver_laws.specs.Prelude.{pieces, ring_blocks, ring_words, sent_by, side_of, zero_block}
 use Rattle.std.specs.FinMap as map
 use Rattle.nic_device.specs.declared.event.Event.TheVariants as event
 use Rattle.nic_device.specs.declared.event.Reply.TheVariants as reply
@@ -95,19 +95,12 @@ seen_stands x side shown h told = grind (arith, common_steps)
 seen_side : (dir d : Dir) (queue : ℕ) (s : State) (sides : Dir → Side) (shown : Bool)
     → ((d : Dir) → Stands (side_of d queue s) (sides d)) → shown ≡ (side_of dir queue s).on
     → Stands (side_of d queue s) (side_seen d (enable_row dir) shown (sides d))
-seen_side Rx Rx queue s sides shown stand told = seen_stands _ _ shown (stand Rx) told
-seen_side Tx Tx queue s sides shown stand told = seen_stands _ _ shown (stand Tx) told
-seen_side Rx Tx queue s sides shown stand told = stand Tx
-seen_side Tx Rx queue s sides shown stand told = stand Rx
+seen_side dir d queue s sides shown stand told = search (rules, seen_stands)
 
 pub read_stands : (dir : Dir) → ReadStands dir
 read_stands dir queue s sides rings port n word stand names told =
     let rest = read_rest s port n in
-    record {
-      side = grind (arith, common_steps, queues_left, seen_side, told_on);
-      begun = ap (λ (ws : List Waiting). begun_on queue ws) rest.frames.waiting ∙ stand.begun;
-      zero = λ b is. ap (λ (m : Memory). map.get m b) rest.memory ∙ stand.zero b is;
-    }
+    grind (arith, common_steps, queues_left, seen_side, told_on)
 
 -- a block of zero bytes is lent
 

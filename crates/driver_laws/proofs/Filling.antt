@@ -35,9 +35,7 @@ quieting = grind (arith, common_steps)
 
 one_of_both : (port : Port) (queue number : ℕ) (row : RowId) → IsEnable row → IsNumberOf port row queue number
     → IsNumberOf port Rxdctl queue number ⊎ IsNumberOf port Txdctl queue number
-one_of_both port queue number Rxdctl is named = inl named
-one_of_both port queue number Txdctl is named = inr named
-one_of_both port queue number other is named = absurd is
+one_of_both port queue number row is named = search rules
 
 module _ {w : Watched} {origin : State} {h : List Entry} (q : AtPort) (frame : ℕ) (along : IsAlong w origin h) where
   abbrev Ground : State → Type 0

@@ -1,16 +1,16 @@
 -- What holds between two entries of a history, and that an event which is either half's, or neither's and leaves the
 -- queue alone, keeps it; so it does a side of the queue that is up.
 use Rattle.std.{proofs.lemmas.Grind.common_steps, proofs.lemmas.List.append-nil, specs.Prelude.IsTrue}
-use Rattle.std.proofs.Common.{[], ◌++◌, ◌∙◌, ◌≡◌, List, ℕ, ap, arith, false, refl, subst, sym, true}
+use Rattle.std.proofs.Common.{[], ◌++◌, ◌∙◌, ◌≡◌, List, ℕ, ap, arith, false, refl, rules, subst, sym, true}
 use Rattle.nic_device.{proofs.Steps.step_leads, specs.RegTable.declared.rows.RowId.TheVariants.Txdctl}
 use Rattle.device_lock.specs.Alone.{place_at}
 use Rattle.pmd.specs.PmdTx.Sending.{moved}
-use Rattle.ring_laws.{proofs.Off.enable_words_keep as transmit_word_keeps, proofs.Sparing.sparing_events_keep}
-use Rattle.ring_laws.proofs.{HistoryLaws.Written.place_named, Leaving.leaving_keeps, Leaving.switching_keeps}
-use Rattle.ring_laws.proofs.{Own.own_keeps, Playing.moves_keep, Playing.up_stays, Runs.left_alone_is_spared}
+use Rattle.ring_laws.{proofs.HistoryLaws.Written.place_named, specs.Turns.MayMove}
+use Rattle.ring_laws.proofs.{Leaving.leaving_keeps, Leaving.switching_keeps, Own.own_keeps, Playing.moves_keep}
+use Rattle.ring_laws.proofs.{Playing.up_stays, Runs.left_alone_is_spared, Sparing.sparing_events_keep}
 use Rattle.ring_laws.proofs.Foreign.{alone_stays_up, left_keeps, left_up, own_stays_up}
-use Rattle.ring_laws.specs.{Agreeing.Agrees, Alone.LendsOneOf, Fitting.ResetsNoPool, Turns.MayMove}
-use Rattle.ring_laws.specs.HistoryLaws.Sides.{Side}
+use Rattle.ring_laws.proofs.Off.{enable_words_keep as transmit_word_keeps}
+use Rattle.ring_laws.specs.{Agreeing.Agrees, Alone.LendsOneOf, Fitting.ResetsNoPool, HistoryLaws.Sides.Side}
 use Rattle.driver_laws.{proofs.Reached.free_left, specs.Enabling.EnableWordsKeep}
 use Rattle.driver_laws.proofs.Prelude.{AreLent, BothAgree, IsDriven, IsMet, Spares, asked, events_before}
 use Rattle.driver_laws.proofs.Prelude.{histories_sound, keeps_sound, mine-moved, mine_driven, plain-write}
@@ -41,12 +41,8 @@ pub record Meets (w : Watched) (mine : Blocks) (s : State) (out : List Piece) (s
 pub driven_meets : {w : Watched} {origin : State} {start rest : List Entry} {h : Halves} {doers : List Doer}
     → IsDriven w origin start rest h doers
     → Meets w (lent_by w.pass (start ++ rest)) (leads_to origin start) [] [] h
-driven_meets {origin = origin} {start = start} {rest = rest} d = record {
-  sound = histories_sound origin start d.along.sound (events_before start rest d.along.events);
-  vfs = d.along.vfs ∙ sym (vfs_stays origin start);
-  both = d.agree;
-  lent = d.lent;
-}
+driven_meets {origin = origin} {start = start} {rest = rest} d =
+    search (rules, histories_sound, events_before, vfs_stays)
 
 -- and behind an event, with these halves
 abbrev pub Kept : Watched → Blocks → State → List Piece → List (List ℕ) → Event Block → Halves → Type 0
@@ -88,31 +84,13 @@ module _ {w : Watched} {mine : Blocks} {s : State} {out : List Piece} {sent : Li
   spared_by event.RxStep is registers blocks outside =
       received_spares w.queue mine s m.sound out h.receive m.both.receive outside h.transmit m.lent.transmit
       m.both.apart
-  spared_by e is registers blocks outside = left_alone_is_spared w mine h.transmit s e (record {
-    sound = m.sound;
-    made = is;
-    functions = m.vfs;
-    lent = m.lent.transmit;
-    registers = registers;
-    blocks = blocks;
-    steps = outside;
-    owed = tt;
-  })
+  spared_by e is registers blocks outside = left_alone_is_spared w mine h.transmit s e (search rules)
 
   pub neither_keeps : LeavesRegisters w (mode_in s.registers) e → LeavesBlocks mine e → Kept w mine s out sent e h
   neither_keeps registers blocks =
       let met : IsMet w.queue s = record { small = m.both.transmit.1.based.small; sound = m.sound } in
-      let left = free_left w mine s e met made m.vfs steps (registers, blocks) in (
-        record {
-          receive =
-              left_keeps w mine s out h.receive e left m.both.receive m.lent.receive
-              (reports_spare s w.queue sent h.transmit m.both.transmit.0 m.both.transmit.1 h.receive m.both.apart);
-          transmit =
-              sparing_events_keep s w.queue sent h.transmit e m.both.transmit (spared_by e made registers blocks steps);
-          apart = m.both.apart;
-        },
-        m.lent,
-      )
+      let left = free_left w mine s e met made m.vfs steps (registers, blocks) in
+      search (rules, left_keeps, reports_spare, sparing_events_keep, spared_by)
 
   abbrev t : State
   t = after s e
@@ -175,11 +153,7 @@ module _ {w : Watched} {mine : Blocks} {s : State} {out : List Piece} {sent : Li
       in
       record {
         meets = still _ (
-          record {
-            receive = own_keeps w.queue s out h.receive e m.sound m.both.receive own;
-            transmit = sparing_events_keep s w.queue sent h.transmit e m.both.transmit spares;
-            apart = receives_apart s h.receive h.transmit e own sender_blocks m.both.apart;
-          },
+          search (rules, own_keeps, sparing_events_keep, receives_apart, sender_blocks),
           record {
             receive = mine_driven mine h.receive m.lent.receive e (reply_to s e) own (lends refl);
             transmit = m.lent.transmit;

@@ -1,8 +1,8 @@
 -- A history that leaves a queue alone, entry by entry and call by call of its pass.
-use Rattle.std.{proofs.lemmas.Bool.cases_Bool, proofs.lemmas.Bool.eqb-false, specs.Prelude.IsTrue, specs.Prelude.◌==◌}
-use Rattle.std.proofs.{lemmas.Grind.common_steps, lemmas.List.append-nil, lemmas.List.same_from_push}
-use Rattle.std.proofs.Common.{[], ◌++◌, ◌∙◌, ◌∷◌, ◌≡◌, ◌≢◌, List, ℕ, ap, append_assoc, arith, false, inl, inr, refl}
-use Rattle.std.proofs.Common.{rules, subst, sym, true}
+use Rattle.std.{proofs.lemmas.List.append-nil, proofs.lemmas.List.same_from_push, specs.Prelude.IsTrue}
+use Rattle.std.proofs.{lemmas.Bool.cases_Bool, lemmas.Bool.eqb-false, lemmas.Grind.common_steps}
+use Rattle.std.proofs.Common.{[], ◌++◌, ◌∙◌, ◌∷◌, ◌≡◌, ◌≢◌, List, ℕ, ap, append_assoc, arith, false, refl, rules, subst}
+use Rattle.std.proofs.Common.{sym, true}
 use Rattle.device_lock.specs.{Alone.EntryLeavesAlone, History.AreEvents, History.IsLegal}
 use Rattle.driver_laws.proofs.Parts.{around, begun, own_some, parts, still_some}
 use Rattle.driver_laws.proofs.Prelude.{AreMadeOf, AtCalls, AtEntries, BeforeLast, BeforeNext, IsAlong, IsKept, IsMet}
@@ -103,12 +103,8 @@ module _ {w : Watched} {origin : State} {h : List Entry} (x : IsAlong w origin h
   pub entry_is : (done rest : List Entry) (e : Entry) → done ++ e ∷ rest ≡ h → IsEntry done e
   entry_is done rest e all =
       let events = events_behind done (e ∷ rest) (subst AreEvents (sym all) x.events) in
-      let legal = legal_behind origin done (e ∷ rest) (subst (IsLegal origin) (sym all) x.legal) in record {
-        met = record { small = x.small; sound = sound_at done (e ∷ rest) all };
-        vfs = x.vfs ∙ sym (vfs_stays origin done);
-        made = events.0;
-        told = legal.0;
-      }
+      let legal = legal_behind origin done (e ∷ rest) (subst (IsLegal origin) (sym all) x.legal) in
+      search (rules, sound_at, vfs_stays)
 
   -- once the pass has made a call
   module _ (done rest : List Entry) (e : Entry) (all : done ++ e ∷ rest ≡ h) (some : calls_of w.pass done ≢ []) where
@@ -135,12 +131,7 @@ module _ {w : Watched} {origin : State} {h : List Entry} (x : IsAlong w origin h
         let on : P (done ++ e ∷ []) (calls_of w.pass back) → P now [] =
         walk (done ++ e ∷ []) back now rest (append_assoc done (e ∷ []) back ∙ split) all
         (still_some w.pass done (e ∷ []) some) in
-        elim (cases_Bool (e.pass == w.pass)) as (λ _. P now []) [
-          | inl own ↦
-              on (grind (arith, common_steps, calls_own))
-          | inr other ↦
-              on (grind (arith, common_steps, foreign_left, eqb-false, calls_other))
-        ]
+        search (rules, cases_Bool, calls_own, foreign_left, eqb-false, calls_other)
 
   -- a call that is added leads from what holds before it to what holds wherever it is the last which the pass made
   pub added_leads : (P Q : List Entry → Type 0) → KeptOver w origin mine Q → (old new : List Call) (f : Event Block)

@@ -5,22 +5,21 @@ use Rattle.std.proofs.Common.{[], ◌*◌, ◌+◌, ◌/◌, ◌<◌, ◌^◌, �
 use Rattle.std.proofs.Common.{inl, inr, length, not, refl, rules, subst, suc, sym, take, true}
 use Rattle.std.proofs.lemmas.Bool.{cases_eq, eqb-false, eqb-true, ne_eqb, not-true, or_cases}
 use Rattle.std.specs.{List.list_any, Prelude.IsTrue, Prelude.slice_index_or, Prelude.⊤, Prelude.◌==◌}
-use Rattle.nic_device.proofs.{DmaArena.Inside.inside_avoids, DmaRing.Fields.halves_come_back}
-use Rattle.nic_device.specs.{DmaArena.Memory.LiesIn, DmaRing.Driver.posted, declared.event.Reply.TheVariants.Twice}
-use Rattle.nic_device.specs.DmaRing.Ring.{descriptor_address}
-use Rattle.nic_device.specs.RegTable.declared.rows.RowId.TheVariants.{Tdt, Tdwbal}
+use Rattle.nic_device.{proofs.DmaArena.Inside.inside_avoids, proofs.DmaRing.Fields.halves_come_back}
+use Rattle.nic_device.specs.{DmaArena.Memory.LiesIn, DmaRing.Driver.posted, DmaRing.Ring.descriptor_address}
+use Rattle.nic_device.specs.{RegTable.declared.rows.RowId.TheVariants.Tdwbal, declared.event.Reply.TheVariants.Twice}
 use Rattle.nic_device.specs.RegisterFile.Queue.{ring_of, tail_row}
 use Rattle.pmd.proofs.PmdSeam.Rings.{each_ring_block, slot_block, slot_lies}
 use Rattle.pmd.specs.PmdRx.Receive.{Layout, fresh_of, vacant}
 use Rattle.pmd.specs.PmdRx.declared.ring.Stage.{Stage}
 use Rattle.pmd.specs.PmdTx.Sending.{Segment, blocks_of, descriptor_at, moved, no_segment, segment_at, slot_at}
-use Rattle.ring_laws.{proofs.DeviceLaws.StandingQueues.receiving_rest, specs.DeviceLaws.Replies.report_of}
-use Rattle.ring_laws.proofs.{DeviceLaws.RepliesSent.transmitting_tells, Foreign.piece_inside, Parts.seen_within}
+use Rattle.ring_laws.{specs.Agreeing.AgreesAt, specs.Alone.LendsOneOf}
+use Rattle.ring_laws.proofs.{DeviceLaws.RepliesSent.transmitting_tells, DeviceLaws.StandingQueues.receiving_rest}
+use Rattle.ring_laws.proofs.{Fetching.head_is, Fetching.length-asking, Foreign.piece_inside, Parts.seen_within}
 use Rattle.ring_laws.proofs.Blocks.{has_lent-ring, has_lent-segment, slot-below}
-use Rattle.ring_laws.proofs.Fetching.{head_is, length-asking}
 use Rattle.ring_laws.proofs.HistoryLaws.Blocks.{IsSparedBy, clear_outside, reported, spared_block}
 use Rattle.ring_laws.proofs.Kept.{each_by, each_posted, each_ring, slot_below}
-use Rattle.ring_laws.specs.{Agreeing.AgreesAt, Alone.LendsOneOf, Joint.HasSlots, Joint.Holds, Joint.StageHolds}
+use Rattle.ring_laws.specs.{DeviceLaws.Replies.report_of, Joint.HasSlots, Joint.Holds, Joint.StageHolds}
 use Rattle.ring_laws.specs.DeviceLaws.Leaving.{LeavesReceive, LeavesTransmit}
 use Rattle.ring_laws.specs.Steps.{Each, IfFresh, IsOutside, Leaves, OwnReportsSpare}
 use Rattle.driver_laws.proofs.Prelude.{Done, IsOwn, Spares, Tdwbah, Wrote, block_at, gives, memory_blocks, memory_rest}
@@ -140,13 +139,7 @@ module _ (queue : ℕ) (own : Blocks) (s : State) where
   touch_transmit e is = absurd is
 
   touch_receive : (e : Event Block) → Touches Tx queue own s e → LeavesReceive queue s (after s e)
-  touch_receive (event.Peek16 a) is = (memory_rest.peek s a).queues.receive queue
-  touch_receive (event.Take n) is = (memory_rest.take s n).queues.receive queue
-  touch_receive (event.Lend b) is = (memory_rest.lend s b).queues.receive queue
-  touch_receive (event.Poke16 a bytes) is = (memory_rest.poke s a bytes).queues.receive queue
-  touch_receive (event.Write port n word) is =
-      (write_rest s port n word (place Tdt queue) 0xFFFFFFFF is refl refl).receive queue (λ e. cc)
-  touch_receive e is = absurd is
+  touch_receive e is = search (rules, memory_rest, write_rest)
 
 -- an event of the receive half's own touches blocks that the half has lent
 
@@ -280,12 +273,7 @@ module _ (queue : ℕ) (mine : Blocks) (s : State) (sound : IsSound s) (out : Li
   -- so it spares the transmit half
   pub received_spares : (u : Sender) → ((n : ℕ) → IsTrue (has_lent u n) → IsTrue (mine n))
       → ((n : ℕ) → IsTrue (has_lent u n) → Each v (λ b. b ≢ n)) → Spares queue u s event.RxStep
-  received_spares u lent apart = record {
-    made = tt;
-    setting = tt;
-    side = λ other switch. (receiving_rest s).transmit queue;
-    blocks = grind (arith, common_steps, spared_block, told_outside);
-  }
+  received_spares u lent apart = search (rules, receiving_rest, spared_block, told_outside)
 
 -- what the queue's own transmit side reports is in a block of its ring
 pub reports_spare : (s : State) (queue : ℕ) (sent : List (List ℕ)) (u : Sender) (f : ℕ) → AgreesAt s queue sent u f

@@ -1,13 +1,13 @@
 -- Calls of a kind, one after the other and with steps of the device beside them: those of a driver's accesses, made or
 -- failed, those that lend its blocks, and those of its stop; and which blocks a pass lends by them.
-use Rattle.std.proofs.{lemmas.Grind.common_steps, lemmas.List.append-nil}
+use Rattle.std.proofs.{lemmas.Bool.eq-eqb, lemmas.Bool.or_left, lemmas.Bool.or_right, lemmas.List.append-nil}
 use Rattle.std.proofs.Common.{[], ◌++◌, ◌+◌, ◌-◌, ◌<◌, ◌∙◌, ◌∷◌, ◌≡◌, ◌≢◌, Bool, List, ℕ, ap, append_assoc, arith}
-use Rattle.std.proofs.Common.{false, inl, inr, refl, subst, suc, sym, true, zero}
-use Rattle.std.proofs.lemmas.Bool.{eq-eqb, or_left, or_right}
+use Rattle.std.proofs.Common.{false, inl, inr, refl, rules, subst, suc, sym, true, zero}
+use Rattle.std.proofs.lemmas.Grind.{common_steps}
 use Rattle.std.specs.{List.range_with_len, Prelude.IsFalse, Prelude.⊤, Prelude.◌==◌}
 use Rattle.device_lock.specs.Alone.{lends}
-use Rattle.pmd.specs.{PmdSeam.Home.Bringing, PmdSeam.Home.BringsOne, PmdSeam.QueueMade.FailsBy}
-use Rattle.pmd.specs.PmdSeam.Made.{Adds, AddsSome}
+use Rattle.pmd.specs.{PmdSeam.Made.Adds, PmdSeam.Made.AddsSome, PmdSeam.QueueMade.FailsBy}
+use Rattle.pmd.specs.PmdSeam.Home.{Bringing, BringsOne}
 use Rattle.ring_laws.proofs.HistoryLaws.Alone.{lent_behind}
 use Rattle.driver_laws.proofs.{Parts.around, Parts.more_some, Reached.entry_is, Reached.steps_are}
 use Rattle.driver_laws.proofs.Ground.{IsDriven, words_are_writes, writes_driven}
@@ -17,10 +17,10 @@ use Rattle.driver_laws.proofs.Prelude.{IsPlain, IsStrayRead, PollsEnd, StopsBy, 
 use Rattle.driver_laws.specs.Ending.{Each, IsAsking}
 use Rattle.driver_laws.specs.Prelude.{Access, AreMade, AtPort, Block, Blocks, Call, DeviceFault, Dir, EachRingBlock}
 use Rattle.driver_laws.specs.Prelude.{Entry, Event, IsMade, IsNumberOf, IsPrepared, IsSwitched, LendsEach, Numbers}
-use Rattle.driver_laws.specs.Prelude.{PmdFault, Port, Reply, RowId, Rx, Rxdctl, Sees, Sets, StartTimeout, State}
-use Rattle.driver_laws.specs.Prelude.{SwitchFails, Tx, Txdctl, Watched, blocks_for, both_asked, call_of, enable_row}
-use Rattle.driver_laws.specs.Prelude.{has_bit, is_driven, is_step, lent_by, missed, polled, receive_polled, ring_blocks}
-use Rattle.driver_laws.specs.Prelude.{ring_words, zero_block}
+use Rattle.driver_laws.specs.Prelude.{PmdFault, Port, Reply, RowId, Rx, Sees, Sets, StartTimeout, State, SwitchFails}
+use Rattle.driver_laws.specs.Prelude.{Tx, Watched, blocks_for, both_asked, call_of, enable_row, has_bit, is_driven}
+use Rattle.driver_laws.specs.Prelude.{is_step, lent_by, missed, polled, receive_polled, ring_blocks, ring_words}
+use Rattle.driver_laws.specs.Prelude.{zero_block}
 use Rattle.driver_laws.specs.Stopping.{Asks, BringingEnds, SwitchedOffAsks, UnswitchedAsks}
 use Rattle.nic_device.specs.declared.event.Event.TheVariants as event
 use Rattle.nic_device.specs.declared.event.Reply.TheVariants as reply
@@ -176,22 +176,16 @@ enable_driven row is = grind (arith, common_steps)
 
 pub may_asks : (q : AtPort) (row : RowId) (word number : ℕ) → MayAsk (Sets row word)
     → IsNumberOf q.port row q.queue number → IsAsking q (event.Write q.port number word)
-may_asks q Rxdctl word number (is, none) named = (Rx, refl, none, named)
-may_asks q Txdctl word number (is, none) named = (Tx, refl, none, named)
-may_asks q other word number (is, none) named = absurd is
+may_asks q row word number asks named = search rules
 
 pub asked_may : AllAre MayAsk (both_asked false)
 asked_may = ((tt, refl), ((tt, refl), tt))
 
 pub switched_off_asks : SwitchedOffAsks
-switched_off_asks q old new x =
-    switched_are q (IsAsking q) MayAsk (step_asks q) (λ port number. tt) (may_asks q) false (λ side seen. enables side)
-    asked_may old new x
+switched_off_asks q old new x = search (rules, switched_are, step_asks, may_asks, enables, asked_may)
 
 pub unswitched_asks : UnswitchedAsks
-unswitched_asks f q old new x =
-    unswitched_are q (IsAsking q) MayAsk (step_asks q) (λ port number. tt) (may_asks q) false
-    (λ side seen. enables side) asked_may f old new x
+unswitched_asks f q old new x = search (rules, unswitched_are, step_asks, may_asks, enables, asked_may)
 
 -- a block that is taken back
 taking_ends : (q : AtPort) (s t : Bringing) → BringsOne s t → Ends q s.made t.made
@@ -231,10 +225,7 @@ lent_along {w = w} {h = h} number calls along has done rest all is =
     sym (append_assoc x.before (x.entry ∷ x.behind) rest) ∙ ap (λ (l : List Entry). l ++ rest) x.all ∙ all in
     let is = entry_is along x.before (x.behind ++ rest) x.entry whole in
     let there : IsLentBy w.pass number (x.entry ∷ (x.behind ++ rest)) = grind (arith, common_steps, x, is) in
-    record {
-      low = there.low;
-      mine = grind (arith, common_steps, lent_behind);
-    }
+    search (rules, lent_behind)
 
 -- where a ring was prepared some calls were made, and each of its blocks was lent by one of them
 

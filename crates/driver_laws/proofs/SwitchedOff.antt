@@ -3,7 +3,7 @@
 -- calls of a stop.
 use Rattle.std.proofs.{lemmas.Grind.common_steps, lemmas.List.append-nil, lemmas.List.append_cancel_left}
 use Rattle.std.proofs.Common.{[], ◌&&◌, ◌++◌, ◌∙◌, ◌∷◌, ◌≡◌, ◌≢◌, Bool, List, None, Option, Some, ℕ, ap, arith, false}
-use Rattle.std.proofs.Common.{inl, inr, not, option_map, refl, subst, sym, true, zero}
+use Rattle.std.proofs.Common.{inl, inr, not, option_map, refl, rules, subst, sym, true, zero}
 use Rattle.std.specs.Prelude.{IsFalse}
 use Rattle.ring_laws.proofs.HistoryLaws.Steady.{IsSteady, deed_settles, off_idle, off_steady, seen_off, unwanted_steady}
 use Rattle.ring_laws.specs.{Delivered.delivered, Delivered.packets_if_any, HistoryLaws.Sides.IsUnwanted}
@@ -17,12 +17,12 @@ use Rattle.driver_laws.proofs.Prelude.{sent_is_counted, since-append, steady_kep
 use Rattle.driver_laws.proofs.Reached.{entry_is, made_keep, reached_next, sound_at, step_left, walk, watching}
 use Rattle.driver_laws.proofs.StopCalls.{MayAsk, accesses_are, enables, may_asks, none_made, stays_some, step_ends}
 use Rattle.driver_laws.proofs.StopCalls.{then_made}
-use Rattle.driver_laws.specs.{Ending.Each, Quieting.QuietSidesStand, Quieting.QuietingLeads, Standing.IsLeft}
+use Rattle.driver_laws.specs.{Ending.Each, Quiet.OffSidesStand, Quiet.ReceiveGuardIsOff, Standing.IsLeft}
 use Rattle.driver_laws.specs.Prelude.{Access, AreMade, AtPort, Block, Blocks, Call, Dir, Entry, Event, IsEvent, IsMade}
 use Rattle.driver_laws.specs.Prelude.{IsNumberOf, Rx, Rxdctl, Sees, Sets, Side, State, Tx, Txdctl, Watched, after}
 use Rattle.driver_laws.specs.Prelude.{calls_of, enable_row, has_bit, is_on, leads_to, lent_by, missed, pieces}
 use Rattle.driver_laws.specs.Prelude.{pieces_since, polled, quiet, receive_polled, sent_by, sent_since, side_of}
-use Rattle.driver_laws.specs.Quiet.{OffSidesStand, ReceiveGuardIsOff}
+use Rattle.driver_laws.specs.Quieting.{QuietSidesStand, QuietingLeads}
 use Rattle.driver_laws.specs.Silent.{IsSilent, QuietQueueIsSilent, SwitchingOffLeads}
 use Rattle.nic_device.specs.declared.event.Event.TheVariants as event
 use Rattle.ring_laws.proofs.HistoryLaws.Steady as steady
@@ -246,13 +246,7 @@ off_stands : (x : Side) → x.staged ≡ [] → IsOff x → Stands x x
 off_stands x none off = grind (arith, common_steps)
 
 pub off_sides_stand : OffSidesStand
-off_sides_stand queue s sound off transmit_off = record {
-  side = each_side (λ dir. Stands (side_of dir queue s) (side_of dir queue s))
-      (off_stands (side_of Rx queue s) refl off)
-      (off_stands (side_of Tx queue s) (sound.bare queue transmit_off.off) transmit_off);
-  begun = none_begun_while_off queue s sound off.off;
-  zero = λ b is. cc;
-}
+off_sides_stand queue s sound off transmit_off = search (rules, each_side, off_stands, none_begun_while_off)
 
 -- two sides that are seen off stand as they are, with no block lent
 

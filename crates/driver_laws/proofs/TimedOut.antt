@@ -2,7 +2,7 @@
 use Rattle.std.proofs.{lemmas.Bool.eq-eqb, lemmas.Bool.ne_eqb, lemmas.Grind.common_steps, lemmas.List.append-nil}
 use Rattle.std.proofs.Common.{[], ◌++◌, ◌+◌, ◌-◌, ◌<◌, ◌∙◌, ◌∷◌, ◌≡◌, ◌≢◌, Bool, List, ℕ, ap, append_assoc, arith}
 use Rattle.std.proofs.Common.{false, inl, inr, refl, suc, sym, true, zero}
-use Rattle.std.specs.Prelude.{◌==◌, Err, None, Option, Some, if◌then◌else◌}
+use Rattle.std.specs.Prelude.{◌==◌, Err, None, Option, Some}
 use Rattle.nic_device.specs.RegTable.Rows.{rows}
 use Rattle.pmd.{proofs.PmdSeam.QueueSequences.both_made as made_after, specs.Started.IsShut}
 use Rattle.driver_laws.proofs.Made.{OfCall, all_both, all_missed, all_polled, made_by}
@@ -67,8 +67,7 @@ module _ (q : AtPort) (size frame : ℕ) where
 
   never_preparing : (side : Dir) (old : List Call) (a : Numbers) (new : List Call) (b : Numbers) (out : List ℕ)
       → PreparingFails StartTimeout q side size old a new b out → ⊥
-  never_preparing side old a new b out (ring, free, inl (stops, same, empty)) = stops.6
-  never_preparing side old a new b out (ring, free, inr (mid, made, stops)) = stops.fails
+  never_preparing side old a new b out x = grind (arith, common_steps)
 
   module _ (old : List Call) (a : Numbers) (new : List Call) (e : StartRefused) where
     going_on : (mid : List Call) (b c : Numbers) (v w : Receive) → AreMadeOf (IsPlain q) old mid
@@ -138,14 +137,8 @@ module _ (q : AtPort) (w : Enables) (are : AreEnables q w) where
       let t = made_by q (Tells a) a (access_tells a of.0) old mid one in
       let (missed, asked) = t.is x in
       let later = accesses_told rest mid new (asked_by a x) of.1 more in
-      let own : List Call = t.before ++ t.call ∷ [] in (
-        own ++ later.0,
-        later.1 ∙ ap (λ (l : List Call). l ++ later.0) t.added ∙ append_assoc old own later.0,
-        ap (missed_in w x) (append_assoc t.before (t.call ∷ []) later.0)
-            ∙ skipped w t.before t.steps x (t.call ∷ later.0)
-            ∙ (λ i. (if missed i then 1 else 0) + missed_in w (asked i) later.0)
-            ∙ ap (λ k. (if is_miss x a then 1 else 0) + k) later.2,
-      )
+      let own : List Call = t.before ++ t.call ∷ [] in
+      grind (arith, common_steps, append_assoc, skipped)
 
 pub polls_are_told : PollsAreTold
 polls_are_told q old new x w are =

@@ -1,20 +1,17 @@
 -- Harmless calls beside the driver's lead both halves on, and leave the queue alone.
+use Rattle.std.{proofs.lemmas.Bool.eq-eqb, proofs.lemmas.Grind.common_steps, specs.Prelude.IsTrue, specs.Prelude.◌==◌}
 use Rattle.std.proofs.Common.{[], ◌&&◌, ◌++◌, ◌∙◌, ◌∷◌, ◌≡◌, Bool, List, Option, ℕ, ap, append_assoc, arith, false}
 use Rattle.std.proofs.Common.{length, not, refl, rules, subst, sym, true}
-use Rattle.std.proofs.lemmas.{Bool.eqb-false, Grind.common_steps}
-use Rattle.std.specs.Prelude.{◌==◌, IsTrue}
 use Rattle.pmd.proofs.Followed.{both_own, both_played, others_own, others_played, own_length}
 use Rattle.pmd.specs.Halves.{OthersStep}
-use Rattle.ring_laws.proofs.Delivering.{calls_other, calls_own}
+use Rattle.driver_laws.proofs.InOrder.{calls_are, with_call}
 use Rattle.driver_laws.proofs.Prelude.{SparesIfSome, both_apart, doer_of, doers_after, runs}
 use Rattle.driver_laws.specs.Beside.{AddsHarmless, AreHarmless, CallsAddHarmless, DrivesLead, HarmlessLead}
 use Rattle.driver_laws.specs.Beside.{HarmlessLeaveAlone, Leads, LeadsOn, OthersHarmless, StepsAddHarmless, is_harmless}
 use Rattle.driver_laws.specs.Beside.{spares_all}
-use Rattle.driver_laws.specs.Prelude.{AllLendApart, AllOwn, AreSteps, Block, Blocks, Call, Doer, DrivesApart, Elsewhere}
-use Rattle.driver_laws.specs.Prelude.{Entry, Event, Halves, LeavesBlocks, LeavesRegisters, LendsApart, Mode, Place}
-use Rattle.driver_laws.specs.Prelude.{Sends, Watched, after, call_in, calls_of, doers_other, is_neither, is_step}
-use Rattle.driver_laws.specs.Prelude.{mode_in, played_by}
-use Rattle.nic_device.specs.declared.event.Event.TheVariants as event
+use Rattle.driver_laws.specs.Prelude.{AllLendApart, AllOwn, AreSteps, Block, Blocks, Call, Doer, DrivesApart, Entry}
+use Rattle.driver_laws.specs.Prelude.{Event, Halves, LeavesBlocks, LeavesRegisters, Mode, Place, Watched, after}
+use Rattle.driver_laws.specs.Prelude.{calls_of, doers_other, is_neither, is_step, mode_in, played_by}
 
 -- steps of the device are harmless
 
@@ -93,26 +90,21 @@ pub left : (w : Watched) (mode : Mode) (mine : Blocks) (e : Event Block) → IsT
     → LeavesRegisters w mode e × LeavesBlocks mine e
 left w mode mine e is = grind (arith, common_steps, all_spared, runs)
 
-module _ (w : Watched) (mine : Blocks) (mode : Mode) (e : Entry) (es : List Entry) where
-  abbrev Here : Bool → List Doer → Type 0
-  Here b doers =
-      (e.pass ≡ w.pass → IsTrue (is_neither (doer_of true doers))
-      → LeavesRegisters w mode e.event × LeavesBlocks mine e.event)
-      × OthersHarmless (doers_after b doers) (calls_of w.pass es)
-
-  own_call : (doers : List Doer) → OthersHarmless doers (call_in e ∷ calls_of w.pass es) → Here true doers
-  own_call doers harmless = grind (arith, common_steps, left)
-
-  one_call : (doers : List Doer) (b : Bool) → (e.pass == w.pass) ≡ b
-      → OthersHarmless doers (calls_of w.pass (e ∷ es)) → Here b doers
-  one_call doers b is harmless = grind (arith, common_steps, own_call, calls_own, eqb-false, calls_other)
+-- of one entry
+one_left : (w : Watched) (mine : Blocks) (mode : Mode) (doers : List Doer) (e : Entry) (b : Bool) (calls : List Call)
+    → OthersHarmless doers (with_call b e calls)
+    → (b ≡ true → IsTrue (is_neither (doer_of true doers)) → LeavesRegisters w mode e.event × LeavesBlocks mine e.event)
+    × OthersHarmless (doers_after b doers) calls
+one_left w mine mode doers e b calls harmless = grind (arith, common_steps, left)
 
 pub harmless_leave_alone : HarmlessLeaveAlone
 harmless_leave_alone w mine s doers [] harmless = tt
 harmless_leave_alone w mine s doers (e ∷ es) harmless =
-    let here = one_call w mine (mode_in s.registers) e es doers (e.pass == w.pass) refl harmless in (
-      here.0,
-      harmless_leave_alone w mine (after s e.event) (doers_after (e.pass == w.pass) doers) es here.1,
+    let b = e.pass == w.pass in
+    let here = one_left w mine (mode_in s.registers) doers e b (calls_of w.pass es)
+    (subst (OthersHarmless doers) (calls_are w.pass e es b refl) harmless) in (
+      λ own. here.0 (eq-eqb e.pass w.pass own),
+      harmless_leave_alone w mine (after s e.event) (doers_after b doers) es here.1,
     )
 
 -- calls that lead both halves on, and lend as a driver's own do
@@ -130,14 +122,10 @@ driven_apart own old new h k p = record { leads = drives_lead old new h k p.driv
 
 -- by harmless calls, which lend nothing
 
-one_apart : (own : Blocks) (h : Halves) (e : Event Block) → IsTrue (is_harmless e)
-    → LendsApart own h (Sends Elsewhere) e
-one_apart own h e is = search rules
-
-others_apart : (own : Blocks) (h : Halves) (calls : List Call) → AreHarmless calls
+pub others_apart : (own : Blocks) (h : Halves) (calls : List Call) → AreHarmless calls
     → AllLendApart own h (doers_other calls) calls
 others_apart own h [] harmless = tt
-others_apart own h (c ∷ calls) harmless = (one_apart own h c.event harmless.0, others_apart own h calls harmless.1)
+others_apart own h (c ∷ calls) harmless = search (rules, others_apart own h calls harmless.1)
 
 pub harmless_apart : (own : Blocks) (old new : List Call) (h : Halves) → AddsHarmless old new
     → LeadsApart own old h new h

@@ -1,46 +1,41 @@
 -- A start on a queue whose sides are off finds no device at fault but as it fills its receive ring.
 use Rattle.std.{proofs.lemmas.Bool.both_ways, proofs.lemmas.Grind.common_steps, specs.Prelude.IsFalse}
-use Rattle.std.proofs.Common.{[], ◌++◌, ◌-◌, ◌∙◌, ◌∷◌, ◌≡◌, ◌≢◌, ◌⊎◌, List, ℕ, append_assoc, arith, false, inl, inr}
-use Rattle.std.proofs.Common.{refl, rules, subst, sym, true}
+use Rattle.std.proofs.Common.{[], ◌-◌, ◌∙◌, ◌∷◌, ◌≡◌, ◌≢◌, ◌⊎◌, List, ℕ, arith, false, inl, inr, refl, rules, subst}
+use Rattle.std.proofs.Common.{sym, true}
 use Rattle.pmd.specs.PmdSeam.QueueMade.{IsStrayWrite}
 use Rattle.ring_laws.proofs.HistoryLaws.Lent.{anew_is_done}
-use Rattle.driver_laws.proofs.{SwitchedOff.ending_quiet, SwitchedOff.quiet_kept, Words.side_driven}
+use Rattle.driver_laws.{proofs.Words.side_driven, specs.Filling.FaultsAreEarlyOrFilling, specs.Filling.FaultsEarly}
+use Rattle.driver_laws.{specs.Filling.FaultsFilling, specs.Filling.FillingBeginsWell, specs.Filling.NoFaultIsEarly}
+use Rattle.driver_laws.proofs.{On.agrees_at, On.are_on, On.goes_on_at, SwitchedOff.ending_quiet, SwitchedOff.quiet_kept}
 use Rattle.driver_laws.proofs.Ground.{IsDriven, IsWrite, asked_are_writes, ground_kept, named_registers_reply}
 use Rattle.driver_laws.proofs.Ground.{off_sides_are_seen_off, plain_keeps, polled_driven, reads_driven}
 use Rattle.driver_laws.proofs.Ground.{words_are_writes, writes_driven}
-use Rattle.driver_laws.proofs.Made.{OfCall, all_before, all_missed, before_made, first_access, made_some, some_made}
-use Rattle.driver_laws.proofs.On.{are_on, switched_sides_agree, switched_sides_go_on}
+use Rattle.driver_laws.proofs.Made.{OfCall, access_leads, all_before, all_missed, before_made, made_some, of_map}
 use Rattle.driver_laws.proofs.Prelude.{AllAre, AreMadeOf, AtCalls, BeforeLast, BeforeNext, GoingOnFails, HasGround}
-use Rattle.driver_laws.proofs.Prelude.{IsAlong, IsEnding, IsKept, IsOtherwise, IsPlain, IsQuiet, IsStrayRead, Leads}
+use Rattle.driver_laws.proofs.Prelude.{IsAlong, IsEnable, IsKept, IsOtherwise, IsPlain, IsQuiet, IsStrayRead, Leads}
 use Rattle.driver_laws.proofs.Prelude.{Never, PollsEnd, StopsBy}
-use Rattle.driver_laws.proofs.Reached.{RefutesNext, last_never, made_keep, next_refuted, then_refuted}
-use Rattle.driver_laws.proofs.StopCalls.{accesses_are, accesses_plain, may_asks, prepared_plain, stays_some, step_ends}
+use Rattle.driver_laws.proofs.Reached.{added_never, made_keep, next_never, state_kept, state_next, then_before}
+use Rattle.driver_laws.proofs.StopCalls.{MayAsk, accesses_plain, enable_driven, may_asks, prepared_plain, stays_some}
 use Rattle.driver_laws.specs.Faultless.{NoneIsLent, ReceiveIsReady, SwitchingIsNeverStray, TransmitIsReady}
-use Rattle.driver_laws.specs.Filling.{FaultsAreEarlyOrFilling, FaultsEarly, FaultsFilling, FillingBeginsWell}
-use Rattle.driver_laws.specs.Filling.{NoFaultIsEarly}
-use Rattle.driver_laws.specs.Prelude.{Access, AreMade, AtPort, Block, Call, DeviceFault, Dir, Entry, IsMade, IsNumberOf}
+use Rattle.driver_laws.specs.Prelude.{Access, AreMade, AtPort, Call, DeviceFault, Dir, Entry, IsMade, IsNumberOf}
 use Rattle.driver_laws.specs.Prelude.{IsReceiveReady, Numbers, Port, PreparingFails, Receive, RowId, Rx, Rxdctl, Sees}
-use Rattle.driver_laws.specs.Prelude.{Sets, State, SwitchFails, Tx, Txdctl, Watched, both_asked, both_quiet, call_of}
-use Rattle.driver_laws.specs.Prelude.{enable_row, has_bit, has_block, is_driven, lent_by, missed, quiet, receive_polled}
+use Rattle.driver_laws.specs.Prelude.{Sets, State, SwitchFails, Tx, Txdctl, Watched, both_asked, both_quiet, enable_row}
+use Rattle.driver_laws.specs.Prelude.{has_block, is_driven, leads_to, lent_by, missed, quiet, receive_polled}
 use Rattle.driver_laws.specs.Prelude.{ring_words, zero_block}
 use Rattle.nic_device.specs.declared.event.Event.TheVariants as event
 use Rattle.nic_device.specs.declared.event.Reply.TheVariants as reply
 
 -- an access by which a side is seen off, or asked to be
 abbrev IsQuieting : Access → Type 0
-IsQuieting (Sees row on) = (side : Dir) × (row ≡ enable_row side) × (on ≡ false)
-IsQuieting (Sets row word) = (side : Dir) × (row ≡ enable_row side) × IsFalse (has_bit 25 word)
+IsQuieting (Sees row on) = IsEnable row × (on ≡ false)
+IsQuieting (Sets row word) = MayAsk (Sets row word)
 
 quieting : AllAre IsQuieting both_quiet
 quieting = grind (arith, common_steps)
 
--- the register is one that a driver has
-quieting_driven : (row : RowId) (side : Dir) → row ≡ enable_row side → is_driven row ≡ true
-quieting_driven row side is = subst (λ (r : RowId). is_driven r ≡ true) (sym is) (side_driven side)
-
-enables : (port : Port) (queue number : ℕ) (side : Dir) → IsNumberOf port (enable_row side) queue number
+one_of_both : (port : Port) (queue number : ℕ) (row : RowId) → IsEnable row → IsNumberOf port row queue number
     → IsNumberOf port Rxdctl queue number ⊎ IsNumberOf port Txdctl queue number
-enables port queue number side named = search rules
+one_of_both port queue number row is named = search rules
 
 module _ {w : Watched} {origin : State} {h : List Entry} (q : AtPort) (frame : ℕ) (along : IsAlong w origin h) where
   abbrev Ground : State → Type 0
@@ -48,6 +43,9 @@ module _ {w : Watched} {origin : State} {h : List Entry} (q : AtPort) (frame : �
 
   abbrev Off : State → Type 0
   Off = IsQuiet w.queue q frame
+
+  abbrev Next : (State → Type 0) → List Call → Type 0
+  Next P old = BeforeNext w origin h old P
 
   abbrev Grounded : List Call → Type 0
   Grounded calls = AtCalls w origin h calls Ground × (calls ≢ [])
@@ -65,96 +63,83 @@ module _ {w : Watched} {origin : State} {h : List Entry} (q : AtPort) (frame : �
       → Grounded old → Grounded new
   accesses_grounded all old new are made = plain_grounded old new (accesses_plain q all old new are made)
 
+  next_on_ground : (old : List Call) → Grounded old → Next Ground old
+  next_on_ground old at = then_before along Ground ground_stays old at.1 at.0
+
+  off_grounds : (old : List Call) → Next Off old → Next Ground old
+  off_grounds old next before c steps apart done rest e all own is =
+      (next before c steps apart done rest e all own is).ground
+
   -- no access is stray
 
-  abbrev NextOnGround : List Call → Type 0
-  NextOnGround old = RefutesNext along Ground old
-
-  abbrev NextOff : List Call → Type 0
-  NextOff old = RefutesNext along Off old
-
-  off_grounds : (old : List Call) → NextOff old → NextOnGround old
-  off_grounds old next before c steps apart refutes = search rules
-
-  next_on_ground : (old : List Call) → Grounded old → NextOnGround old
-  next_on_ground old at = then_refuted along Ground old ground_stays at.1 at.0
-
-  read_never_stray : (old new : List Call) (row : RowId) → is_driven row ≡ true → NextOnGround old
+  read_never_stray : (old new : List Call) (row : RowId) → is_driven row ≡ true → Next Ground old
       → IsStrayRead q old new row → Never w origin h new
-  read_never_stray old new row driven next (number, word, named, (before, added, steps)) =
-      subst (Never w origin h) (sym added)
-      (next before (call_of (event.Read q.port number) (reply.Stray word)) steps refl
+  read_never_stray old new row driven next (number, word, named, adds) =
+      next_never along Ground old new (event.Read q.port number) (reply.Stray word) refl
       (λ s g told.
       let is = (named_registers_reply w.queue q frame s row number g driven named).read in
       let no_such : reply.Stray word ≡ reply.Word is.0 = told ∙ is.1 in
-      cc))
+      cc) adds next
 
-  write_never_stray : (old new : List Call) (row : RowId) (word : ℕ) → is_driven row ≡ true → NextOnGround old
+  write_never_stray : (old new : List Call) (row : RowId) (word : ℕ) → is_driven row ≡ true → Next Ground old
       → IsStrayWrite q old new row word → Never w origin h new
-  write_never_stray old new row word driven next (number, seen, named, (before, added, steps)) =
-      subst (Never w origin h) (sym added)
-      (next before (call_of (event.Write q.port number word) (reply.Stray seen)) steps refl
+  write_never_stray old new row word driven next (number, seen, named, adds) =
+      next_never along Ground old new (event.Write q.port number word) (reply.Stray seen) refl
       (λ s g told.
       let is = (named_registers_reply w.queue q frame s row number g driven named).write word in
       let no_such : reply.Stray seen ≡ reply.Done = told ∙ is in
-      cc))
-
-  write_never_fails : (old new : List Call) (a : Access) → IsWrite a → NextOnGround old → IsOtherwise q old new a
-      → Never w origin h new
-  write_never_fails old new (Sees row on) is next fails = absurd is
-  write_never_fails old new (Sets row word) is next fails = write_never_stray old new row word is next fails
+      cc) adds next
 
   writes_never_stop : (all : List Access) (old new : List Call) → AllAre IsWrite all
       → StopsBy DeviceFault q old new all → Grounded old → Never w origin h new
   writes_never_stop all old new are (done, a, rest, mid, is, made, fails) at =
       let both = all_before IsWrite done a rest (subst (AllAre IsWrite) is are) in
-      write_never_fails mid new a both.1
+      write_fails a both.1
       (next_on_ground mid (accesses_grounded done old mid (writes_driven done both.0) made at)) fails
+    where
+      write_fails : (a : Access) → IsWrite a → Next Ground mid → IsOtherwise q mid new a → Never w origin h new
+      write_fails (Sees row on) is next fails = absurd is
+      write_fails (Sets row word) is next fails = write_never_stray mid new row word is next fails
 
   -- while the sides are off none is seen on
-  never_otherwise : (old new : List Call) (a : Access) → IsQuieting a → NextOff old → IsOtherwise q old new a
+  never_otherwise : (old new : List Call) (a : Access) → IsQuieting a → Next Off old → IsOtherwise q old new a
       → Never w origin h new
-  never_otherwise old new (Sees row on) (side, is, off) next
-      (inl (number, word, named, seen, (before, added, steps))) =
-      subst (Never w origin h) (sym added)
-      (next before (call_of (event.Read q.port number) (reply.Word word)) steps refl
-      (grind (arith, common_steps, both_ways, off_sides_are_seen_off, enables)))
-  never_otherwise old new (Sees row on) (side, is, off) next (inr stray) =
-      read_never_stray old new row (quieting_driven row side is) (off_grounds old next) stray
-  never_otherwise old new (Sets row word) (side, is, none) next fails =
-      write_never_stray old new row word (quieting_driven row side is) (off_grounds old next) fails
+  never_otherwise old new (Sees row on) (enable, off) next (inl (number, word, named, seen, adds)) =
+      next_never along Off old new (event.Read q.port number) (reply.Word word) refl
+      (grind (arith, common_steps, both_ways, off_sides_are_seen_off, one_of_both)) adds next
+  never_otherwise old new (Sees row on) (enable, off) next (inr stray) =
+      read_never_stray old new row (enable_driven row enable) (off_grounds old next) stray
+  never_otherwise old new (Sets row word) (enable, none) next fails =
+      write_never_stray old new row word (enable_driven row enable) (off_grounds old next) fails
+
+  -- so it is before each call behind accesses that see both off, of which the first may be the pass's first call
 
   off_call : (a : Access) → IsQuieting a → OfCall q a (λ c. Leads w.queue c Off Off)
   off_call (Sees row on) is = search (rules, ending_quiet)
   off_call (Sets row word) is = search (rules, ending_quiet, may_asks)
 
-  -- so it is over the accesses that see both off, of which the first may be the pass's first call
-
-  accesses_off : (all : List Access) (old new : List Call) → AllAre IsQuieting all → AreMade q old new all → old ≢ []
-      → AtCalls w origin h old Off → AtCalls w origin h new Off
-  accesses_off all old new are made =
-      made_keep Off (IsEnding q) along off_stays (λ s e. ending_quiet w.queue q frame s e) old new
-      (accesses_are q (IsEnding q) IsQuieting (step_ends q) (λ port number. tt) (may_asks q) all old new are made)
-
-  begun_off : (a : Access) (old new : List Call) → IsQuieting a → IsMade q old new a → BeforeNext w origin h old Off
+  begun_off : (a : Access) (old new : List Call) → IsQuieting a → IsMade q old new a → Next Off old
       → AtCalls w origin h new Off
   begun_off a old new is made at =
-      first_access q along Off Off a off_stays (off_call a is) old new made
+      access_leads q along (λ done. Off (leads_to origin done)) (λ done. Off (leads_to origin done)) a
+      (state_kept w origin (lent_by w.pass h) Off off_stays)
+      (of_map q a _ _ (λ c. state_next w origin c Off Off) (off_call a is)) old new made
       (before_made q w origin h Off a old new made at)
 
-  quieting_never_stops : (old new : List Call) → BeforeNext w origin h old Off
-      → StopsBy DeviceFault q old new both_quiet → Never w origin h new
-  quieting_never_stops old new at ([], a, rest, mid, is, made, fails) =
-      let both = all_before IsQuieting [] a rest (subst (AllAre IsQuieting) is quieting) in
-      never_otherwise mid new a both.1 (subst NextOff (sym made) (next_refuted along Off old at)) fails
-  quieting_never_stops old new at (d ∷ done, a, rest, mid, is, made, fails) =
-      let both = all_before IsQuieting (d ∷ done) a rest (subst (AllAre IsQuieting) is quieting) in
-      let some = made_some q old made.0 d made.1 in
-      let off = accesses_off done made.0 mid both.0.1 made.2 some (begun_off d old made.0 both.0.0 made.1 at) in
-      never_otherwise mid new a both.1
-      (then_refuted along Off mid off_stays (some_made q done made.0 mid made.2 some) off) fails
+  off_next : (all : List Access) (old new : List Call) → AllAre IsQuieting all → AreMade q old new all → Next Off old
+      → Next Off new
+  off_next [] old new are made at = subst (Next Off) (sym made) at
+  off_next (a ∷ rest) old new are (mid, here, more) at =
+      off_next rest mid new are.1 more
+      (then_before along Off off_stays mid (made_some q old mid a here) (begun_off a old mid are.0 here at))
 
-  quiet_grounded : (old new : List Call) → AreMade q old new both_quiet → BeforeNext w origin h old Off → Grounded new
+  quieting_never_stops : (old new : List Call) → Next Off old → StopsBy DeviceFault q old new both_quiet
+      → Never w origin h new
+  quieting_never_stops old new at (done, a, rest, mid, is, made, fails) =
+      let both = all_before IsQuieting done a rest (subst (AllAre IsQuieting) is quieting) in
+      never_otherwise mid new a both.1 (off_next done old mid both.0 made at) fails
+
+  quiet_grounded : (old new : List Call) → AreMade q old new both_quiet → Next Off old → Grounded new
   quiet_grounded old new (mid, here, more) at =
       let off = begun_off (Sees Rxdctl false) old mid quieting.0 here at in
       accesses_grounded (Sets Rxdctl 0 ∷ Sees Rxdctl false ∷ quiet Tx) mid new
@@ -162,28 +147,18 @@ module _ {w : Watched} {origin : State} {h : List Entry} (q : AtPort) (frame : �
       (λ done rest all is. (off done rest all is).ground, made_some q old mid (Sees Rxdctl false) here)
 
   -- a ring is prepared
-
-  lending_is_done : (ring : ℕ) (old new : List Call) (before : List Call) (back : Block)
-      → new ≡ old ++ (before ++ call_of (event.Lend (zero_block ring)) (reply.Twice back) ∷ [])
-      → BeforeLast w origin h new (λ s. IsFalse (has_block s.memory ring)) → Never w origin h new
-  lending_is_done ring old new before back added at =
-      let c = call_of (event.Lend (zero_block ring)) (reply.Twice back) in
-      let all : new ≡ (old ++ before) ++ c ∷ [] = added ∙ sym (append_assoc old before (c ∷ [])) in
-      subst (Never w origin h) (sym all)
-      (last_never along (λ s. IsFalse (has_block s.memory ring)) (old ++ before) c
-      (grind (arith, common_steps, anew_is_done))
-      (subst (λ (calls : List Call). BeforeLast w origin h calls (λ s. IsFalse (has_block s.memory ring))) all at))
-
   preparing_never_fails : (side : Dir) (size : ℕ) (old : List Call) (a : Numbers) (new : List Call) (b : Numbers)
       (out : List ℕ) → Grounded old → PreparingFails DeviceFault q side size old a new b out
       → NoneIsLent w origin h new b → Never w origin h new
   preparing_never_fails side size old a new b out at (ring, free, inl (stops, same, empty)) none =
       writes_never_stop (ring_words side ring size) old new (words_are_writes side ring size) stops at
   preparing_never_fails side size old a new b out at (ring, free, inr (mid, made, stops)) none =
-      search (rules, lending_is_done)
+      added_never along (λ s. IsFalse (has_block s.memory stops.next)) stops.mid new
+      (event.Lend (zero_block stops.next)) (reply.Twice stops.fails.0) (grind (arith, common_steps, anew_is_done))
+      stops.fails.1 (none stops.next stops.free)
 
   ready_grounded : {size : ℕ} {old : List Call} {a : Numbers} {new : List Call} {b : Numbers} {v : Receive}
-      → IsReceiveReady q size frame old a new b v → BeforeNext w origin h old Off → Grounded new
+      → IsReceiveReady q size frame old a new b v → Next Off old → Grounded new
   ready_grounded {old = old} {new = new} x at = search (rules, plain_grounded, prepared_plain, quiet_grounded)
 
   -- both sides are asked on and polled
@@ -253,8 +228,5 @@ filling_begins_well w q origin h size frame old a new along at x done rest all c
     λ before behind e split own is.
     (before_made q w origin h (IsQuiet w.queue q frame) (Sees Rxdctl false) old quiet.0 quiet.1 at before behind e split
     own is).ground in
-    let on = switched_sides_go_on w origin h q size frame old a x.mid x.empty x.sender x.on along well done rest
-    all calls in
-    let agree = switched_sides_agree w origin h q size frame old a x.mid x.empty x.sender x.on along well done
-    rest all calls in
-    (on.receives, agree.0, agree.1)
+    let agree = agrees_at x.on along well done rest all calls in
+    ((goes_on_at x.on along well done rest all calls).receives, agree.0, agree.1)

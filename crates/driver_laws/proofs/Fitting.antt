@@ -1,21 +1,19 @@
 -- One call beside a driver that receives: the frames that wait for its queue go on fitting, its reply is healthy, and
 -- what that rests on holds behind it.
+use Rattle.std.{proofs.lemmas.Grind.common_steps, specs.Prelude.option_map}
 use Rattle.std.proofs.Common.{[], ◌&&◌, ◌*◌, ◌++◌, ◌==◌, ◌||◌, ◌∷◌, ◌≡◌, ◌≢◌, ◌≤◌, Bool, List, None, Option, Some, ℕ}
-use Rattle.std.proofs.Common.{ap, arith, false, length, nat_lt, refl, rules, subst, sym, true}
-use Rattle.std.proofs.lemmas.{Grind.common_steps, List.length-append, List.nil_from_length}
-use Rattle.std.proofs.lemmas.Bool.{and_from, and_parts, both_ways, cond_both, eq-eqb, eqb-false, eqb-true, lt-ltb}
-use Rattle.std.proofs.lemmas.Bool.{not-true, or_cases, or_left, or_right}
-use Rattle.std.specs.Prelude.{option_map}
+use Rattle.std.proofs.Common.{arith, false, nat_lt, refl, rules, subst, sym, true}
+use Rattle.std.proofs.lemmas.Bool.{and_parts, both_ways, cond_both, eq-eqb, eqb-false, eqb-true, lt-ltb, not-true}
+use Rattle.std.proofs.lemmas.Bool.{or_cases, or_left, or_right}
 use Rattle.nic_device.proofs.Cases.{either_way}
 use Rattle.device_lock.specs.Alone.{lent_in}
-use Rattle.pmd.specs.PmdRx.{Receive.took, declared.ring.Told.Told}
-use Rattle.ring_laws.proofs.{HistoryLaws.Deeds.receiving_did, HistoryLaws.Lent.only_lent_stays}
-use Rattle.ring_laws.proofs.Fitting.{frames_fit, frames_stay_fitting}
-use Rattle.ring_laws.specs.{Delivered.goes_on, Fitting.begun_on, HistoryLaws.Lent.LendsOwn, HistoryLaws.Lent.with_lent}
-use Rattle.ring_laws.specs.{Pieces.AllFit, TransmitHealthy.LendsAnew, TransmitLent.SparesNumbers}
-use Rattle.driver_laws.proofs.{Meeting.Goes, Meeting.Meets, Sending.is_elsewhere}
-use Rattle.driver_laws.proofs.Prelude.{AreFitting, Deed, IsHealthy, IsUp, begun_stays, gathered, keeps_sound}
-use Rattle.driver_laws.proofs.Prelude.{lent_cases, none_begun_while_off, settings_stand, step_of}
+use Rattle.pmd.specs.{PmdRx.Receive.took, PmdRx.declared.ring.Told.Told}
+use Rattle.ring_laws.{proofs.HistoryLaws.Deeds.receiving_did, specs.Delivered.goes_on, specs.HistoryLaws.Lent.LendsOwn}
+use Rattle.ring_laws.proofs.{Fitting.frames_fit, HistoryLaws.Lent.follows_known, HistoryLaws.Lent.only_lent_stays}
+use Rattle.ring_laws.specs.{Fitting.begun_on, Pieces.AllFit, TransmitHealthy.LendsAnew, TransmitLent.SparesNumbers}
+use Rattle.driver_laws.proofs.{Meeting.Meets, Sending.is_elsewhere}
+use Rattle.driver_laws.proofs.Prelude.{Deed, IsHealthy, begun_stays, gathered, keeps_sound, no_block}
+use Rattle.driver_laws.proofs.Prelude.{none_begun_while_off, settings_stand}
 use Rattle.driver_laws.specs.Before.{AreShort, FramesStayShortAlong, OnlyPassLent}
 use Rattle.driver_laws.specs.Prelude.{AreEvents, Block, Blocks, Call, Doer, Elsewhere, Entry, Event, Halves, IsEvent}
 use Rattle.driver_laws.specs.Prelude.{IsSound, LendsApart, LendsNone, Memory, Move, OnlyLent, OwnCall, Piece, Receive}
@@ -23,7 +21,6 @@ use Rattle.driver_laws.specs.Prelude.{Receives, Reply, Rx, Sends, State, Watched
 use Rattle.driver_laws.specs.Prelude.{call_of, drive, either, is_on, leads_to, lends, lent_by, pieces, pieces_since}
 use Rattle.driver_laws.specs.Prelude.{reply_to}
 use Rattle.nic_device.specs.declared.event.Event.TheVariants as event
-use Rattle.nic_device.specs.declared.event.Reply.TheVariants as reply
 use Rattle.pmd.specs.PmdRx.Keeping as received
 use Rattle.pmd.specs.PmdTx.Sending as sending
 use Rattle.ring_laws.proofs.Own as receive
@@ -47,15 +44,6 @@ drive_same v e r = grind (arith, common_steps, either_way, took_same)
 pub most_after : (h : Halves) (d : Doer) (n : Call) → (after_call h d n).receive.layout.most ≡ h.receive.layout.most
 most_after h d n = grind (arith, common_steps, drive_same)
 
--- the frames that wait stay fitting behind an event that meets both halves
-pub fitting_after : {w : Watched} {mine : Blocks} {s : State} {out : List Piece} {sent : List (List ℕ)} {h k : Halves}
-    {e : Event Block} → Meets w mine s out sent h → Goes w mine s out sent e k → IsUp w.queue s
-    → AreFitting w.queue h.receive.layout.most s out → k.receive.layout.most ≡ h.receive.layout.most
-    → AreFitting w.queue k.receive.layout.most (after s e) (out ++ pieces w.queue s e)
-fitting_after {w = w} {s = s} {out = out} {h = h} {e = e} m goes up fit most =
-    subst (λ n. AreFitting w.queue n (after s e) (out ++ pieces w.queue s e)) (sym most)
-    (search (rules, frames_stay_fitting))
-
 -- nothing is written of a frame that waits where no piece was since the side went on: none is while it is off
 
 silent : (queue : ℕ) (s : State) → is_on s.registers Rx queue ≡ false → Deed Rx queue s event.RxStep
@@ -72,10 +60,8 @@ abbrev Unbegun : ℕ → State → Option (List Piece) → Type 0
 Unbegun queue s so_far = so_far ≡ Some [] → begun_on queue s.waiting ≡ 0
 
 none_more : (qs ps : List Piece) → qs ++ ps ≡ [] → (qs ≡ []) × (ps ≡ [])
-none_more qs ps empty =
-    let long = ap (λ (xs : List Piece). length xs) empty in
-    let both = length-append qs ps in
-    (nil_from_length qs (omega (arith, long, both)), nil_from_length ps (omega (arith, long, both)))
+none_more [] ps empty = (refl, empty)
+none_more (q ∷ qs) ps empty = cc
 
 module _ (queue : ℕ) (s : State) (e : Event Block) (sound : IsSound s) where
   went_on : goes_on queue s (after s e) ≡ true → begun_on queue (after s e).waiting ≡ 0
@@ -106,16 +92,9 @@ unbegun_since queue s es sound events is = unbegun_on queue s None es sound even
 
 -- what a half lends, by the kind of its call
 
-lends_received : (own : Blocks) (h : Halves) (e : Event Block) → LendsApart own h Receives e
-    → LendsOwn own (sending.has_lent h.transmit) e
-lends_received own h e apart = search rules
-
 lends_sent : (own : Blocks) (h : Halves) (m : Move) (e : Event Block) → is_elsewhere m ≡ false
     → LendsApart own h (Sends m) e → LendsOwn own (received.has_lent h.receive) e
 lends_sent own h m e real apart = grind (arith, common_steps)
-
-lends_none : (own : Blocks) (h : Halves) (e : Event Block) → LendsApart own h (Sends Elsewhere) e → LendsNone own e
-lends_none own h e apart = search rules
 
 pub none_apart : (own : Blocks) (h : Halves) (e : Event Block) → LendsNone own e → LendsApart own h (Sends Elsewhere) e
 none_apart own h e none = search rules
@@ -146,7 +125,7 @@ module _ {w : Watched} {mine : Blocks} {s : State} {out : List Piece} {sent : Li
       → AllFit h.receive.layout.most 0 out → IsHealthy h d (call_of e (reply_to s e))
   healthy_call Receives mine apart fit =
       receive.own_replies_are_healthy w.queue s out h.receive e m.both.receive fit mine
-      (receive_lent.own_lends_are_known.anew own tx s h.receive e known mine (lends_received own h e apart))
+      (receive_lent.own_lends_are_known.anew own tx s h.receive e known mine (search rules))
   healthy_call (Sends move) mine apart fit =
       transmit.own_replies_are_healthy s w.queue sent h.transmit move e m.both.transmit mine (anew move mine apart)
 
@@ -160,7 +139,7 @@ module _ {w : Watched} {mine : Blocks} {s : State} {out : List Piece} {sent : Li
   pub known_after : (d : Doer) → OwnCall h d (call_of e (reply_to s e)) → LendsApart own h d e
       → OnlyLent own (healthy.lent_by (after_call h d (call_of e (reply_to s e)))) (after s e).memory
   known_after Receives mine apart = receive_lent.own_lends_are_known.kept own tx s h.receive e known mine
-  known_after (Sends Elsewhere) mine apart = move_known Elsewhere mine (lends_none own h e apart)
+  known_after (Sends Elsewhere) mine apart = move_known Elsewhere mine (search rules)
   known_after (Sends move) mine apart = move_known move mine tt
 
 -- entries ahead of the place where the device agrees with both halves
@@ -183,32 +162,19 @@ pub lends_is : (b : Block) (r : Reply Block) (n : ℕ) → lends (event.Lend b) 
 lends_is b r n is = grind (arith, common_steps, eqb-true)
 
 module _ (own known : Blocks) (s : State) (only : OnlyLent own known s.memory) where
-  -- a block is lent, by whichever pass
-  lent_here : (b : Block) → OnlyLent own (λ n. known n || lends (event.Lend b) (reply_to s (event.Lend b)) n)
-      (after s (event.Lend b)).memory
-  unfolding step_of
-  lent_here b =
-      lent_cases (λ o. OnlyLent own (with_lent known b.number) o.state.memory
-      → OnlyLent own (λ n. known n || lends (event.Lend b) o.reply n) o.state.memory) s b
-      (λ given n is has. or_left (known n) false (only n is has))
-      (grind (arith, common_steps, or_cases, or_right, eq-eqb, eqb-true, or_left))
-      (only_lent_stays.lend own known s b only)
-
   -- an event of the pass
   abbrev Lent : Event Block → Reply Block → Blocks
-  Lent e r n = known n || (nat_lt n 65536 && lends e r n)
+  Lent e r n = nat_lt n 65536 && lends e r n
 
-  pass_lent : (e : Event Block) → IsEvent e → OnlyLent own (Lent e (reply_to s e)) (after s e).memory
-  pass_lent (event.Lend b) made n is has =
-      grind (arith, common_steps, lends, or_cases, lent_here, or_left, lends_is, or_right, and_from, lt-ltb)
-  pass_lent e made n is has =
-      or_left (known n) (nat_lt n 65536 && lends e (reply_to s e) n)
-      (only_lent_stays.others own known s e tt only n is has)
+  pass_lent : (e : Event Block) → IsEvent e → OnlyLent own (either (Lent e (reply_to s e)) known) (after s e).memory
+  pass_lent e made =
+      follows_known own known s no_block only e (Lent e) (grind (arith, common_steps, lt-ltb, eq-eqb, eqb-true))
 
   entry_lent : (pass : ℕ) (e : Entry) → e.reply ≡ reply_to s e.event → IsEvent e.event
       → (e.pass ≢ pass → LendsNone own e.event) → (b : Bool) → (e.pass == pass) ≡ b
       → OnlyLent own (either known (lent_in pass e)) (after s e.event).memory
-  entry_lent pass e legal made none b other n is has = grind (arith, common_steps, pass_lent, or_left, eqb-false)
+  entry_lent pass e legal made none b other n is has =
+      grind (arith, common_steps, pass_lent, only_lent_stays, or_left, or_cases, or_right, eqb-false)
 
 joined : (a b c : Bool) → ((a || b) || c) ≡ true → (a || (b || c)) ≡ true
 joined a b c is = search rules

@@ -1,10 +1,9 @@
 -- What a driver rests on beside its sides: port and queue name its queue, and frames are no longer than its packets.
-use Rattle.std.proofs.Common.{[], if◌then◌else◌, ◌*◌, ◌+◌, ◌<◌, ◌∙◌, ◌∷◌, ◌≡◌, Bool, List, None, Option, Some, ℕ, ap}
-use Rattle.std.proofs.Common.{arith, inl, inr, nat_lt, refl, rules, subst, sym, true}
-use Rattle.std.proofs.lemmas.{Bool.ltb-true, Grind.common_steps}
-use Rattle.nic_device.proofs.{VfMap.Queues.queue_registers}
+use Rattle.std.proofs.{lemmas.Bool.ltb-true, lemmas.Grind.common_steps}
+use Rattle.std.proofs.Common.{[], ◌*◌, ◌+◌, ◌<◌, ◌∙◌, ◌∷◌, ◌≡◌, Bool, List, None, Option, Some, ℕ, ap, arith}
+use Rattle.std.proofs.Common.{if◌then◌else◌, inl, inr, nat_lt, refl, rules, subst, sym, true}
+use Rattle.nic_device.{proofs.VfMap.Queues.queue_registers, specs.VfMap.Map.behind, specs.VfMap.Map.located}
 use Rattle.nic_device.specs.{Access.named_read, Named.at_location, VfMap.Pools.queues_of, VfMap.declared.mode.Mode.Mode}
-use Rattle.nic_device.specs.VfMap.Map.{behind, located}
 use Rattle.pmd.specs.PmdSeam.Named.{offset_of}
 use Rattle.driver_laws.proofs.{Made.all_polled, Words.driven_plain, Words.ground, Words.settings, Words.side_driven}
 use Rattle.driver_laws.proofs.Prelude.{AllAre, HasGround, IsKept, IsPlain, NamesRow, WritesNoSetting, is_receive}
@@ -14,11 +13,9 @@ use Rattle.driver_laws.specs.{Gate.NamedQueuesPass, Replies.NamedRegistersReply,
 use Rattle.driver_laws.specs.Numbers.{NamedQueueHasTheNumbers, NumbersName, queue_at, queue_in}
 use Rattle.driver_laws.specs.Prelude.{Access, AtPort, Block, Blocks, Dir, Event, IsNumberOf, Pf, Port, Rdbal, RowId, Rx}
 use Rattle.driver_laws.specs.Prelude.{Rxdctl, Sees, Sets, State, Tdbal, Tx, Txdctl, Vf, Watched, after, both_asked}
-use Rattle.driver_laws.specs.Prelude.{enable_row, frame_limit, is_driven, mode_in, place, receive_polled, reply_to}
-use Rattle.driver_laws.specs.Prelude.{ring_words}
+use Rattle.driver_laws.specs.Prelude.{enable_row, frame_limit, is_driven, mode_in, place, receive_polled, ring_words}
 use Rattle.nic_device.specs.VfMap.declared.located.Located.TheVariants as located_as
 use Rattle.nic_device.specs.declared.event.Event.TheVariants as event
-use Rattle.nic_device.specs.declared.event.Reply.TheVariants as reply
 
 -- what names a queue says
 pub some_where : {A : Type 0} (b : Bool) (o : Option A) (x : A) → (if b then o else None) ≡ Some x
@@ -85,16 +82,8 @@ ground_kept w mine q frame s e x g =
     let did = left_did w mine s e x in
     ground_same w.queue q frame s (after s e) did.mode did.vfs did.limit g
 
--- a driver's own events
+-- a driver's own events write no setting
 module _ (queue : ℕ) (q : AtPort) (frame : ℕ) (s : State) where
-  pub write_ground : (row : RowId) (word number : ℕ) → is_driven row ≡ true → IsNumberOf q.port row q.queue number
-      → HasGround queue q frame s → HasGround queue q frame (after s (event.Write q.port number word))
-  write_ground row word number is named g =
-      let k = ground queue s q.port number word row (ground_names queue q frame s g row number is named)
-      (driven_plain row is) in
-      ground_same queue q frame s (after s (event.Write q.port number word)) k.mode k.vfs k.limit g
-
-  -- write no setting
   pub plain_setting : (e : Event Block) → IsPlain q e → HasGround queue q frame s → WritesNoSetting s e
   plain_setting (event.Write port number word) (row, same, is, named) g =
       subst (λ p. WritesNoSetting s (event.Write p number word)) (sym same)
@@ -107,31 +96,18 @@ module _ (queue : ℕ) (q : AtPort) (frame : ℕ) (s : State) where
       let stay = settings_stand s e (plain_setting e plain g) in
       ground_same queue q frame s (after s e) stay.mode (stays_within s e).vfs stay.limit g
 
-  pub read_ground : (number : ℕ) → HasGround queue q frame s
-      → HasGround queue q frame (after s (event.Read q.port number))
-  read_ground number g = plain_keeps (event.Read q.port number) tt g
-
 -- a port can name each queue that port and queue name
 pub named_queues_pass : NamedQueuesPass
 named_queues_pass s a q size frame queue names = grind (arith, common_steps)
 
 -- replies to a driver that starts
 
-module _ (queue : ℕ) (s : State) (port : Port) (number : ℕ) (row : RowId) (names : NamesRow s port number row queue)
-  where
-    read_told : (word : ℕ) × (reply_to s (event.Read port number) ≡ reply.Word word)
-    unfolding step_of
-    read_told = (_, ap (λ m. (named_read s m).reply) names)
-
-    write_done : (word : ℕ) → reply_to s (event.Write port number word) ≡ reply.Done
-    unfolding step_of
-    write_done word = ap (λ m. (named_written s m word).reply) names
-
 pub named_registers_reply : NamedRegistersReply
+unfolding step_of
 named_registers_reply queue q frame s row number g is named =
     let names = ground_names queue q frame s g row number is named in record {
-      read = read_told queue s q.port number row names;
-      write = write_done queue s q.port number row names;
+      read = (_, ap (λ m. (named_read s m).reply) names);
+      write = λ word. ap (λ m. (named_written s m word).reply) names;
     }
 
 pub off_sides_are_seen_off : OffSidesAreSeenOff

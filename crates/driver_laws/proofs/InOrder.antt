@@ -1,11 +1,11 @@
 -- What the driver handed out and what it sent, over a history that leaves its queue alone.
+use Rattle.std.{proofs.lemmas.Grind.common_steps, specs.Prelude.IsTrue, specs.Prelude.◌==◌}
 use Rattle.std.proofs.Common.{[], ◌&&◌, ◌++◌, ◌∙◌, ◌∷◌, ◌≡◌, Bool, List, None, Some, ℕ, ap, append_assoc, arith, false}
 use Rattle.std.proofs.Common.{inl, length, nat_lt, refl, rules, subst, sym, true}
-use Rattle.std.proofs.lemmas.{Bool.eqb-false, Bool.eqb-true, Bool.or_left, Bool.or_right, Grind.common_steps}
-use Rattle.std.specs.Prelude.{◌==◌, IsTrue}
+use Rattle.std.proofs.lemmas.Bool.{eqb-false, eqb-true, or_left, or_right}
 use Rattle.pmd.specs.PmdSeam.Packet.{Kept}
-use Rattle.ring_laws.proofs.{HistoryLaws.Alone.alone_by_entries}
 use Rattle.ring_laws.proofs.Delivering.{all_taken, between, drained, grows, handed_first, lent_behind, pieces-append}
+use Rattle.ring_laws.proofs.HistoryLaws.Alone.{alone_by_entries}
 use Rattle.ring_laws.proofs.Runs.{first_sent, idle-all, sent_in-append, waiting-left}
 use Rattle.ring_laws.specs.{Alone.LendsOneOf, Delivered.IsPrefixOf, HistoryLaws.Alone.AllAlone}
 use Rattle.driver_laws.proofs.Meeting.{Goes, Meets, doer_goes, driven_meets}
@@ -19,14 +19,12 @@ use Rattle.driver_laws.specs.Prelude.{ShowsNone, State, Tx, Watched, WritesOutsi
 use Rattle.driver_laws.specs.Prelude.{call_in, call_of, calls_of, delivered, is_neither, is_on, leads_to, lends}
 use Rattle.driver_laws.specs.Prelude.{lent_by, mode_in, packets_if_any, pieces, pieces_in, pieces_since, played_by}
 use Rattle.driver_laws.specs.Prelude.{records_of, reply_to, sent_by, sent_in, sent_since}
-use Rattle.nic_device.specs.declared.event.Event.TheVariants as event
-use Rattle.nic_device.specs.declared.event.Reply.TheVariants as reply
 use Rattle.ring_laws.specs.Delivered as receive
 use Rattle.ring_laws.specs.ReceiveUp as received
 use Rattle.ring_laws.specs.Laws as transmit
 
 -- what the pass lends is among these blocks
-pub lends_mine : (pass : ℕ) (mine : Blocks) (own : ℕ) (e : Event Block) (r : Reply Block) → own ≡ pass → IsEvent e
+lends_mine : (pass : ℕ) (mine : Blocks) (own : ℕ) (e : Event Block) (r : Reply Block) → own ≡ pass → IsEvent e
     → ((n : ℕ) → IsTrue (nat_lt n 65536 && ((own == pass) && lends e r n)) → IsTrue (mine n))
     → LendsOneOf mine e r
 lends_mine pass mine own e r same made all = grind (arith, common_steps)
@@ -70,28 +68,6 @@ pub record Led (w : Watched) (mine : Blocks) (s : State) (out : List Piece) (sen
 pub ended : (w : Watched) (mine : Blocks) (s : State) (out : List Piece) (sent : List (List ℕ)) (h : Halves)
     → BothAgree w.queue s out sent h → AreLent mine h → Led w mine s out sent [] h
 ended w mine s out sent h both lent = grind (arith, common_steps)
-
-pub led_on : (w : Watched) (mine : Blocks) (s : State) (out : List Piece) (sent : List (List ℕ)) (e : Entry)
-    (es : List Entry) (k : Halves) → (received.IsUp w.queue s → received.IsUp w.queue (after s e.event))
-    → (IsUp w.queue s → IsUp w.queue (after s e.event))
-    → Led w mine (after s e.event) (out ++ pieces w.queue s e.event) (sent ++ sent_by w.queue s e.event) es k
-    → Led w mine s out sent (e ∷ es) k
-led_on w mine s out sent e es k receives stays l =
-    let t = after s e.event in
-    let ps = pieces w.queue s e.event in
-    let fs = sent_by w.queue s e.event in
-    record {
-      both = rw (← append_assoc out ps (pieces_in w.queue t es), ← append_assoc sent fs (sent_in w.queue t es)) l.both;
-      lent = l.lent;
-      receives = λ up. l.receives (receives up);
-      sends = λ up. l.sends (stays up);
-      since = λ up so_far.
-          rw (not_again (is_on s.registers Rx w.queue) (is_on t.registers Rx w.queue) (inl up.on))
-          (l.since (receives up) (so_far ++ ps) ∙ ap (λ xs. Some xs) (append_assoc so_far ps (pieces_in w.queue t es)));
-      counted = λ up so_far.
-          rw (not_again (is_on s.registers Tx w.queue) (is_on t.registers Tx w.queue) (inl up.on))
-          (l.counted (stays up) (so_far ++ fs) ∙ append_assoc so_far fs (sent_in w.queue t es));
-    }
 
 -- entries of a history behind a place where the halves meet the device: it is legal, leaves the queue and these blocks
 -- alone but for the halves, whose calls the doers make in turn, and the pass lends these blocks alone
@@ -174,9 +150,24 @@ pub leads : {w : Watched} {mine : Blocks} (doers : List Doer) (es : List Entry) 
 leads {w = w} {mine = mine} [] [] {s = s} {out = out} {sent = sent} {h = h} m r = search (rules, ended)
 leads (d ∷ doers) [] m r = absurd r.own
 leads {w = w} {mine = mine} doers (e ∷ es) {s = s} {out = out} {sent = sent} m r =
-    subst (Led w mine s out sent (e ∷ es)) (sym (played_on m r))
-    (led_on w mine s out sent e es _ (goes m r).receives (goes m r).sends
-    (leads (doers_after (e.pass == w.pass) doers) es (goes m r).meets (runs_on m r)))
+    let g = goes m r in
+    let l = leads (doers_after (e.pass == w.pass) doers) es g.meets (runs_on m r) in
+    let t = after s e.event in
+    let ps = pieces w.queue s e.event in
+    let fs = sent_by w.queue s e.event in
+    subst (Led w mine s out sent (e ∷ es)) (sym (played_on m r)) (record {
+      both = rw (← append_assoc out ps (pieces_in w.queue t es), ← append_assoc sent fs (sent_in w.queue t es)) l.both;
+      lent = l.lent;
+      receives = λ up. l.receives (g.receives up);
+      sends = λ up. l.sends (g.sends up);
+      since = λ up so_far.
+          rw (not_again (is_on s.registers Rx w.queue) (is_on t.registers Rx w.queue) (inl up.on))
+          (l.since (g.receives up) (so_far ++ ps)
+          ∙ ap (λ xs. Some xs) (append_assoc so_far ps (pieces_in w.queue t es)));
+      counted = λ up so_far.
+          rw (not_again (is_on s.registers Tx w.queue) (is_on t.registers Tx w.queue) (inl up.on))
+          (l.counted (g.sends up) (so_far ++ fs) ∙ append_assoc so_far fs (sent_in w.queue t es));
+    })
 
 module _ (w : Watched) (origin : State) (start rest : List Entry) (h : Halves) (doers : List Doer)
     (d : IsDriven w origin start rest h doers) where

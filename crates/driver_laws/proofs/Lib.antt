@@ -17,7 +17,6 @@ pub mod Prelude
 pub mod Reached
 pub mod Retold
 pub mod Sending
-pub mod Standing
 pub mod StopCalls
 pub mod SwitchedOff
 pub mod Switching

@@ -1,13 +1,12 @@
 -- The calls that a driver's accesses add, and what they lead to over a history.
 use Rattle.std.{proofs.lemmas.Grind.common_steps, proofs.lemmas.List.append-nil, specs.Prelude.IsFalse}
-use Rattle.std.proofs.Common.{[], ◌++◌, ◌∙◌, ◌∷◌, ◌≡◌, ◌≢◌, Bool, List, ℕ, append_assoc, arith, not, rules, subst, suc}
-use Rattle.std.proofs.Common.{sym, zero}
+use Rattle.std.proofs.Common.{[], ◌++◌, ◌∙◌, ◌∷◌, ◌≡◌, ◌≢◌, Bool, List, ℕ, arith, not, rules, suc, sym, zero}
 use Rattle.driver_laws.proofs.Parts.{ends_some}
 use Rattle.driver_laws.proofs.Prelude.{AllAre, AtCalls, AtEntries, BeforeLast, BeforeNext, IsAlong, IsKept, Leads}
-use Rattle.driver_laws.proofs.Reached.{KeptOver, LeadsOver, entries_lead, first_leads, state_kept, state_leads}
-use Rattle.driver_laws.specs.Prelude.{Access, AreMade, AreSteps, AtPort, Blocks, Call, Dir, Entry, IsMade, IsNumberOf}
-use Rattle.driver_laws.specs.Prelude.{RowId, Sees, Sets, State, Watched, after, call_of, enable_row, has_bit, is_step}
-use Rattle.driver_laws.specs.Prelude.{leads_to, lent_by, missed, polled}
+use Rattle.driver_laws.proofs.Reached.{Before, KeptOver, LeadsNext, added_before, added_leads, state_kept, state_next}
+use Rattle.driver_laws.specs.Prelude.{Access, AreMade, AreSteps, AtPort, Call, Dir, Entry, IsMade, IsNumberOf, RowId}
+use Rattle.driver_laws.specs.Prelude.{Rx, Sees, Sets, State, Tx, Watched, after, both_asked, call_of, enable_row}
+use Rattle.driver_laws.specs.Prelude.{has_bit, is_step, leads_to, lent_by, missed, polled, receive_polled}
 use Rattle.nic_device.specs.declared.event.Event.TheVariants as event
 use Rattle.nic_device.specs.declared.event.Reply.TheVariants as reply
 
@@ -29,6 +28,15 @@ module _ (K : Access → Type 0) where
 
     pub all_polled : (side : Dir) (count : ℕ) → AllAre K (polled side on count)
     all_polled side count = grind (arith, common_steps, all_both, missed, all_missed)
+
+    -- both sides are asked before they are polled
+    module _ (asked : AllAre K (both_asked on)) where
+      pub all_received : (count : ℕ) → AllAre K (receive_polled on count)
+      all_received count = all_both (both_asked on) (polled Rx on count) asked (all_polled Rx count)
+
+      pub all_switched : (first second : ℕ) → AllAre K (receive_polled on first ++ polled Tx on second)
+      all_switched first second =
+          all_both (receive_polled on first) (polled Tx on second) (all_received first) (all_polled Tx second)
 
 -- it holds of an access's call, whichever its number and the word that is read
 abbrev pub OfCall : AtPort → Access → (Call → Type 0) → Type 0
@@ -69,42 +77,36 @@ module _ (q : AtPort) where
   extends [] old new made = ([], made ∙ sym (append-nil old))
   extends (a ∷ rest) old new (mid, here, more) = grind (arith, common_steps, made_own, extends rest mid new more)
 
-  module _ (w : Watched) (origin : State) (h : List Entry) (P : State → Type 0) where
-    -- what holds just before the next call holds just before an access that is made
-    pub before_made : (a : Access) (old new : List Call) → IsMade q old new a → BeforeNext w origin h old P
-        → BeforeLast w origin h new P
-    before_made a old new made at = grind (arith, common_steps, made_own)
-
   module _ {w : Watched} {origin : State} {h : List Entry} (along : IsAlong w origin h) where
-    abbrev mine : Blocks
-    mine = lent_by w.pass h
+    -- an access leads from what holds before it to what holds behind it
+    pub access_leads : (P Q : List Entry → Type 0) (a : Access) → KeptOver w origin (lent_by w.pass h) Q
+        → OfCall q a (λ c. LeadsNext w origin c P Q) → (old new : List Call) → IsMade q old new a → Before w h new P
+        → AtEntries w h new Q
+    access_leads P Q a kept leads old new made =
+        let x = made_by (λ c. LeadsNext w origin c P Q) a leads old new made in
+        added_leads along P Q kept old new x.call.event x.call.reply x.is (x.before, x.added, x.steps)
 
-    -- an access leads from what holds of the entries before it to what holds behind it; so it does of a state
-    pub over_access : (P Q : List Entry → Type 0) (a : Access) → KeptOver w origin mine P → KeptOver w origin mine Q
-        → OfCall q a (λ c. LeadsOver w origin mine c P Q) → (old new : List Call) → IsMade q old new a → old ≢ []
-        → AtEntries w h old P → AtEntries w h new Q
-    over_access P Q a kept kept_q leads old new made some at =
-        let x = made_by (λ c. LeadsOver w origin mine c P Q) a leads old new made in
-        subst (λ (calls : List Call). AtEntries w h calls Q) (sym x.added)
-        (entries_lead P Q old x.before x.call along kept kept_q x.is x.steps some at)
+    -- what is kept holds before it, once the pass has made a call; and so does what holds before the next call
+    pub access_before : (P : List Entry → Type 0) (a : Access) → KeptOver w origin (lent_by w.pass h) P
+        → (old new : List Call) → IsMade q old new a → old ≢ [] → AtEntries w h old P → Before w h new P
+    access_before P a kept old new made =
+        let x = made_own a old new made in
+        added_before along P kept old new x.call.event x.call.reply (x.before, x.added, x.steps)
 
-    pub access_leads : (P Q : State → Type 0) (a : Access) → IsKept w mine P → IsKept w mine Q
-        → OfCall q a (λ c. Leads w.queue c P Q) → (old new : List Call) → IsMade q old new a → old ≢ []
-        → AtCalls w origin h old P → AtCalls w origin h new Q
-    access_leads P Q a kept kept_q leads =
-        over_access (λ done. P (leads_to origin done)) (λ done. Q (leads_to origin done)) a
-        (state_kept w origin mine P kept) (state_kept w origin mine Q kept_q)
-        (of_map q a _ _ (λ c. state_leads w origin mine c P Q) leads)
+    -- so it is of a state
+    pub state_access : (P Q : State → Type 0) (a : Access) → IsKept w (lent_by w.pass h) P
+        → IsKept w (lent_by w.pass h) Q → OfCall q a (λ c. Leads w.queue c P Q) → (old new : List Call)
+        → IsMade q old new a → old ≢ [] → AtCalls w origin h old P → AtCalls w origin h new Q
+    state_access P Q a kept kept_q leads old new made some at =
+        access_leads (λ done. P (leads_to origin done)) (λ done. Q (leads_to origin done)) a
+        (state_kept w origin (lent_by w.pass h) Q kept_q) (of_map q a _ _ (λ c. state_next w origin c P Q) leads) old
+        new made
+        (access_before (λ done. P (leads_to origin done)) a (state_kept w origin (lent_by w.pass h) P kept) old new
+        made some at)
 
-    -- one that may be the pass's first call
-    pub first_access : (P Q : State → Type 0) (a : Access) → IsKept w mine Q → OfCall q a (λ c. Leads w.queue c P Q)
-        → (old new : List Call) → IsMade q old new a → BeforeLast w origin h new P → AtCalls w origin h new Q
-    first_access P Q a kept leads old new made at =
-        let x = made_by (λ c. Leads w.queue c P Q) a leads old new made in
-        let same : (old ++ x.before) ++ x.call ∷ [] ≡ new = append_assoc old x.before (x.call ∷ []) ∙ sym x.added in
-        subst (λ (calls : List Call). AtCalls w origin h calls Q) same
-        (first_leads along P Q (old ++ x.before) x.call kept x.is
-        (subst (λ (calls : List Call). BeforeLast w origin h calls P) (sym same) at))
+  pub before_made : (w : Watched) (origin : State) (h : List Entry) (P : State → Type 0) (a : Access)
+      (old new : List Call) → IsMade q old new a → BeforeNext w origin h old P → BeforeLast w origin h new P
+  before_made w origin h P a old new made at = grind (arith, common_steps, made_own)
 
 -- a read that may be the pass's first call
 pub first_seen : (w : Watched) (q : AtPort) (origin : State) (h : List Entry) (P : State → Type 0) → IsAlong w origin h
@@ -112,4 +114,6 @@ pub first_seen : (w : Watched) (q : AtPort) (origin : State) (h : List Entry) (P
     → (row : RowId) (on : Bool) (old new : List Call) → IsMade q old new (Sees row on) → BeforeLast w origin h new P
     → AtCalls w origin h new P
 first_seen w q origin h P along kept read row on =
-    first_access q along P P (Sees row on) kept (λ number word named is s met made told p. read s number p)
+    access_leads q along (λ done. P (leads_to origin done)) (λ done. P (leads_to origin done)) (Sees row on)
+    (state_kept w origin (lent_by w.pass h) P kept)
+    (λ number word named is. state_next w origin _ P P (λ s met made told p. read s number p))

@@ -1,32 +1,31 @@
 -- What holds between two entries of a history, and that an event which is either half's, or neither's and leaves the
 -- queue alone, keeps it; so it does a side of the queue that is up.
 use Rattle.std.{proofs.lemmas.Grind.common_steps, proofs.lemmas.List.append-nil, specs.Prelude.IsTrue}
-use Rattle.std.proofs.Common.{[], ◌++◌, ◌∙◌, ◌≡◌, List, ℕ, ap, arith, false, refl, subst, sym, true}
+use Rattle.std.proofs.Common.{[], ◌++◌, ◌∙◌, ◌≡◌, List, ℕ, ap, arith, false, refl, rules, subst, sym, true}
 use Rattle.nic_device.{proofs.Steps.step_leads, specs.RegTable.declared.rows.RowId.TheVariants.Txdctl}
 use Rattle.device_lock.specs.Alone.{place_at}
 use Rattle.pmd.specs.PmdTx.Sending.{moved}
-use Rattle.ring_laws.proofs.{HistoryLaws.Written.place_named, Leaving.leaving_keeps, Leaving.switching_keeps}
-use Rattle.ring_laws.proofs.{Off.enable_words_keep as transmit_word_keeps, Own.own_keeps, Playing.moves_keep}
+use Rattle.ring_laws.{proofs.HistoryLaws.Written.place_named, specs.Turns.MayMove}
+use Rattle.ring_laws.proofs.{Leaving.leaving_keeps, Leaving.switching_keeps, Own.own_keeps, Playing.moves_keep}
 use Rattle.ring_laws.proofs.{Playing.up_stays, Runs.left_alone_is_spared, Sparing.sparing_events_keep}
 use Rattle.ring_laws.proofs.Foreign.{alone_stays_up, left_keeps, left_up, own_stays_up}
+use Rattle.ring_laws.proofs.Off.{enable_words_keep as transmit_word_keeps}
 use Rattle.ring_laws.specs.{Agreeing.Agrees, Alone.LendsOneOf, Fitting.ResetsNoPool, HistoryLaws.Sides.Side}
-use Rattle.ring_laws.specs.{Turns.MayMove}
 use Rattle.driver_laws.{proofs.Reached.free_left, specs.Enabling.EnableWordsKeep}
-use Rattle.driver_laws.proofs.Sending.{receive_lent, receives_apart, sends_apart}
 use Rattle.driver_laws.proofs.Prelude.{AreLent, BothAgree, IsDriven, IsMet, Spares, asked, events_before}
 use Rattle.driver_laws.proofs.Prelude.{histories_sound, keeps_sound, mine-moved, mine_driven, plain-write}
 use Rattle.driver_laws.proofs.Prelude.{settings_stand, stays_within, vfs_stays, write_memory, write_rest}
 use Rattle.driver_laws.proofs.Sending.{Touches, is_elsewhere, move_spares, move_touches, own_spares, own_touches}
-use Rattle.driver_laws.proofs.Sending.{received_spares, reports_spare, sender_lent, touch_pieces, touch_setting}
+use Rattle.driver_laws.proofs.Sending.{receive_lent, received_spares, receives_apart, reports_spare, sender_lent}
+use Rattle.driver_laws.proofs.Sending.{sends_apart, touch_pieces, touch_setting}
 use Rattle.driver_laws.specs.Prelude.{Block, Blocks, Dir, Doer, Elsewhere, Entry, Event, Halves, IsEvent, IsSound, IsUp}
 use Rattle.driver_laws.specs.Prelude.{LeavesBlock, LeavesBlocks, LeavesRegisters, Memory, Move, OwnCall, Piece, Port}
-use Rattle.driver_laws.specs.Prelude.{Receives, Register, Rx, Rxdctl, Sends, State, Tx, Watched, WritesNoSetting}
-use Rattle.driver_laws.specs.Prelude.{WritesOutside, after, after_call, call_of, drive, has_bit, has_block, has_lent}
-use Rattle.driver_laws.specs.Prelude.{is_neither, leads_to, lent_by, mode_in, named, pieces, place, reply_to, sent_by}
+use Rattle.driver_laws.specs.Prelude.{Receives, Rx, Rxdctl, Sends, State, Tx, Watched, WritesNoSetting, WritesOutside}
+use Rattle.driver_laws.specs.Prelude.{after, after_call, call_of, has_block, has_lent, is_neither, leads_to, lent_by}
+use Rattle.driver_laws.specs.Prelude.{mode_in, pieces, place, reply_to, sent_by}
 use Rattle.std.specs.FinMap as map
 use Rattle.nic_device.specs.declared.event.Event.TheVariants as event
 use Rattle.pmd.specs.PmdRx.Keeping as received_half
-use Rattle.pmd.specs.PmdRx.Receive as receiving
 use Rattle.pmd.specs.PmdTx.Sending as sending
 use Rattle.ring_laws.specs.ReceiveUp as received
 
@@ -42,55 +41,13 @@ pub record Meets (w : Watched) (mine : Blocks) (s : State) (out : List Piece) (s
 pub driven_meets : {w : Watched} {origin : State} {start rest : List Entry} {h : Halves} {doers : List Doer}
     → IsDriven w origin start rest h doers
     → Meets w (lent_by w.pass (start ++ rest)) (leads_to origin start) [] [] h
-driven_meets {origin = origin} {start = start} {rest = rest} d = record {
-  sound = histories_sound origin start d.along.sound (events_before start rest d.along.events);
-  vfs = d.along.vfs ∙ sym (vfs_stays origin start);
-  both = d.agree;
-  lent = d.lent;
-}
+driven_meets {origin = origin} {start = start} {rest = rest} d =
+    search (rules, histories_sound, events_before, vfs_stays)
 
 -- and behind an event, with these halves
 abbrev pub Kept : Watched → Blocks → State → List Piece → List (List ℕ) → Event Block → Halves → Type 0
 Kept w mine s out sent e k =
     BothAgree w.queue (after s e) (out ++ pieces w.queue s e) (sent ++ sent_by w.queue s e) k × AreLent mine k
-
-module _ {w : Watched} {mine : Blocks} {s : State} {out : List Piece} {sent : List (List ℕ)} {h : Halves}
-    (m : Meets w mine s out sent h) (e : Event Block) (made : IsEvent e)
-    (steps : WritesOutside w.queue mine (reply_to s e)) where
-  -- an event that is neither half's
-
-  pub spared_by : (e : Event Block) → IsEvent e → LeavesRegisters w (mode_in s.registers) e → LeavesBlocks mine e
-      → WritesOutside w.queue mine (reply_to s e) → Spares w.queue h.transmit s e
-  spared_by event.RxStep is registers blocks outside =
-      received_spares w.queue mine s m.sound out h.receive m.both.receive outside h.transmit m.lent.transmit
-      m.both.apart
-  spared_by e is registers blocks outside = left_alone_is_spared w mine h.transmit s e (record {
-    sound = m.sound;
-    made = is;
-    functions = m.vfs;
-    lent = m.lent.transmit;
-    registers = registers;
-    blocks = blocks;
-    steps = outside;
-    owed = tt;
-  })
-
-  pub neither_keeps : LeavesRegisters w (mode_in s.registers) e → LeavesBlocks mine e → Kept w mine s out sent e h
-  neither_keeps registers blocks =
-      let met : IsMet w.queue s = record { small = m.both.transmit.1.based.small; sound = m.sound } in
-      let left = free_left w mine s e met made m.vfs steps (registers, blocks) in (
-        record {
-          receive =
-              left_keeps w mine s out h.receive e left m.both.receive m.lent.receive
-              (reports_spare s w.queue sent h.transmit m.both.transmit.0 m.both.transmit.1 h.receive m.both.apart);
-          transmit =
-              sparing_events_keep s w.queue sent h.transmit e m.both.transmit (spared_by e made registers blocks steps);
-          apart = m.both.apart;
-        },
-        m.lent,
-      )
-
--- one entry
 
 pub may_move : (queue : ℕ) (s : State) (h : Halves) (m : Move) (e : Event Block) → is_elsewhere m ≡ false
     → sending.IsOwn h.transmit m e → IsEvent e → MayMove queue h.transmit s e m
@@ -120,6 +77,21 @@ pub record Goes (w : Watched) (mine : Blocks) (s : State) (out : List Piece) (se
 module _ {w : Watched} {mine : Blocks} {s : State} {out : List Piece} {sent : List (List ℕ)} {h : Halves}
     (m : Meets w mine s out sent h) (e : Event Block) (made : IsEvent e)
     (steps : WritesOutside w.queue mine (reply_to s e)) where
+  -- an event that is neither half's
+
+  pub spared_by : (e : Event Block) → IsEvent e → LeavesRegisters w (mode_in s.registers) e → LeavesBlocks mine e
+      → WritesOutside w.queue mine (reply_to s e) → Spares w.queue h.transmit s e
+  spared_by event.RxStep is registers blocks outside =
+      received_spares w.queue mine s m.sound out h.receive m.both.receive outside h.transmit m.lent.transmit
+      m.both.apart
+  spared_by e is registers blocks outside = left_alone_is_spared w mine h.transmit s e (search rules)
+
+  pub neither_keeps : LeavesRegisters w (mode_in s.registers) e → LeavesBlocks mine e → Kept w mine s out sent e h
+  neither_keeps registers blocks =
+      let met : IsMet w.queue s = record { small = m.both.transmit.1.based.small; sound = m.sound } in
+      let left = free_left w mine s e met made m.vfs steps (registers, blocks) in
+      search (rules, left_keeps, reports_spare, sparing_events_keep, spared_by)
+
   abbrev t : State
   t = after s e
 
@@ -140,34 +112,6 @@ module _ {w : Watched} {mine : Blocks} {s : State} {out : List Piece} {sent : Li
 
   stays_up : (move : Move) → MayMove w.queue h.transmit s e move → IsUp w.queue s → IsUp w.queue t
   stays_up move may up = up_stays s w.queue sent h.transmit e move m.both.transmit may up
-
-  -- the receive half's
-
-  receives_goes : receiving.IsOwn h.receive e → LendsOneOf mine e (reply_to s e)
-      → GoesBy (record h { receive = drive h.receive e (reply_to s e) })
-  receives_goes own lends =
-      let (gone, here, holds) = m.both.receive in
-      let spares = own_spares w.queue s out h.receive gone here holds h.transmit sender_blocks m.both.apart e made own
-      in
-      record {
-        meets = still _ (
-          record {
-            receive = own_keeps w.queue s out h.receive e m.sound m.both.receive own;
-            transmit = sparing_events_keep s w.queue sent h.transmit e m.both.transmit spares;
-            apart = receives_apart s h.receive h.transmit e own sender_blocks m.both.apart;
-          },
-          record {
-            receive = mine_driven mine h.receive m.lent.receive e (reply_to s e) own lends;
-            transmit = m.lent.transmit;
-          },
-        );
-        receives = own_stays_up w.queue s out h.receive e m.sound m.both.receive own;
-        sends = stays_up Elsewhere spares;
-        setting = spares.setting;
-        resets =
-            touch_resets Rx w.queue (received_half.has_lent h.receive) s e
-            (own_touches w.queue s out h.receive gone here holds e own);
-      }
 
   -- the transmit half's
 
@@ -199,84 +143,80 @@ module _ {w : Watched} {mine : Blocks} {s : State} {out : List Piece} {sent : Li
         resets = touch_resets Tx w.queue (has_lent h.transmit) s e touches;
       }
 
-  -- neither's
-
-  neither_goes : LeavesRegisters w (mode_in s.registers) e → LeavesBlocks mine e → GoesBy h
-  neither_goes registers blocks =
-      let spares = spared_by m e made steps e made registers blocks steps in record {
-        meets = still h (neither_keeps m e made steps registers blocks);
+  -- by whose it is
+  pub doer_goes : (d : Doer) → OwnCall h d (call_of e (reply_to s e))
+      → (is_neither d ≡ true → LeavesRegisters w (mode_in s.registers) e × LeavesBlocks mine e)
+      → (is_neither d ≡ false → LendsOneOf mine e (reply_to s e)) → GoesBy (after_call h d (call_of e (reply_to s e)))
+  doer_goes Receives own others lends =
+      let (gone, here, holds) = m.both.receive in
+      let spares = own_spares w.queue s out h.receive gone here holds h.transmit sender_blocks m.both.apart e made own
+      in
+      record {
+        meets = still _ (
+          search (rules, own_keeps, sparing_events_keep, receives_apart, sender_blocks),
+          record {
+            receive = mine_driven mine h.receive m.lent.receive e (reply_to s e) own (lends refl);
+            transmit = m.lent.transmit;
+          },
+        );
+        receives = own_stays_up w.queue s out h.receive e m.sound m.both.receive own;
+        sends = stays_up Elsewhere spares;
+        setting = spares.setting;
+        resets =
+            touch_resets Rx w.queue (received_half.has_lent h.receive) s e
+            (own_touches w.queue s out h.receive gone here holds e own);
+      }
+  doer_goes (Sends Elsewhere) own others lends =
+      let (registers, blocks) = others refl in
+      let spares = spared_by e made registers blocks steps in record {
+        meets = still h (neither_keeps registers blocks);
         receives = alone_stays_up w s out h.receive e m.vfs m.sound m.both.receive registers;
         sends = stays_up Elsewhere spares;
         setting = spares.setting;
         resets = spared_resets w s m.vfs e registers;
       }
-
-  -- by whose it is
-  pub doer_goes : (d : Doer) → OwnCall h d (call_of e (reply_to s e))
-      → (is_neither d ≡ true → LeavesRegisters w (mode_in s.registers) e × LeavesBlocks mine e)
-      → (is_neither d ≡ false → LendsOneOf mine e (reply_to s e)) → GoesBy (after_call h d (call_of e (reply_to s e)))
-  doer_goes Receives own others lends = receives_goes own (lends refl)
-  doer_goes (Sends Elsewhere) own others lends = neither_goes (others refl).0 (others refl).1
   doer_goes (Sends move) own others lends = sends_goes move refl own (lends refl)
 
 -- a word that is written to an enable register of the queue keeps what the device and both halves agree on
 
-module _ (queue : ℕ) (s : State) (port : Port) (n word : ℕ) (out : List Piece) (sent : List (List ℕ)) (h : Halves)
-    (made : IsEvent (event.Write port n word)) (both : BothAgree queue s out sent h) where
-  abbrev e : Event Block
-  e = event.Write port n word
-
-  abbrev later : State
-  later = after s e
-
-  block_stays : (b : ℕ) → LeavesBlock b s later
-  block_stays b = ap (λ (m : Memory). map.get m b) (write_memory s port n word)
-
-  module _ (names : named s port n ≡ Register (place Rxdctl queue) 0xFFFFFFFF) where
-    none : WritesNoSetting s e
-    none = plain-write s port n word (place Rxdctl queue) 0xFFFFFFFF names refl
-
-    receive_word : BothAgree queue later out sent h
-    receive_word =
-        let is = asked queue s both.transmit.1.based.sound both.transmit.1.based.small port n word Rx names in record {
-          receive =
-              switching_keeps queue s later out h.receive (record {
-                ring = ap (λ (x : Side). x.ring) is;
-                control = ap (λ (x : Side). x.control) is;
-                mode = (settings_stand s e none).mode;
-                vfs = (stays_within s e).vfs;
-                blocks = λ b has. block_stays b;
-              }) both.receive;
-          transmit =
-              subst (λ xs. Agrees later queue xs h.transmit) (append-nil sent)
-              (sparing_events_keep s queue sent h.transmit e both.transmit (record {
-                made = made;
-                setting = none;
-                side = λ other switch.
-                    (write_rest s port n word (place Rxdctl queue) 0xFFFFFFFF names refl refl).transmit queue (λ x. cc);
-                blocks = λ other number is. block_stays number;
-              }));
-          apart = both.apart;
-        }
-
-  module _ (names : named s port n ≡ Register (place Txdctl queue) 0xFFFFFFFF)
-      (rests : has_bit 25 word ≡ true → h.transmit.outstanding ≡ []) where
-    transmit_word : BothAgree queue later out sent h
-    transmit_word = record {
-      receive =
-          leaving_keeps queue s later out h.receive (record {
-            receive =
-                (write_rest s port n word (place Txdctl queue) 0xFFFFFFFF names refl refl).receive queue (λ x. cc);
-            mode = (settings_stand s e (plain-write s port n word (place Txdctl queue) 0xFFFFFFFF names refl)).mode;
-            vfs = (stays_within s e).vfs;
-            blocks = λ b has. block_stays b;
-          }) both.receive;
-      transmit = transmit_word_keeps s queue sent h.transmit port n word made names rests both.transmit;
-      apart = both.apart;
-    }
+blocks_stay : (s : State) (port : Port) (n word b : ℕ) → LeavesBlock b s (after s (event.Write port n word))
+blocks_stay s port n word b = ap (λ (m : Memory). map.get m b) (write_memory s port n word)
 
 pub enable_words_keep : EnableWordsKeep
 enable_words_keep queue s Rx port n word out sent h made names may both =
-    receive_word queue s port n word out sent h made both names
+    let e : Event Block = event.Write port n word in
+    let none = plain-write s port n word (place Rxdctl queue) 0xFFFFFFFF names refl in
+    let is = asked queue s both.transmit.1.based.sound both.transmit.1.based.small port n word Rx names in record {
+      receive =
+          switching_keeps queue s (after s e) out h.receive (record {
+            ring = ap (λ (x : Side). x.ring) is;
+            control = ap (λ (x : Side). x.control) is;
+            mode = (settings_stand s e none).mode;
+            vfs = (stays_within s e).vfs;
+            blocks = λ b has. blocks_stay s port n word b;
+          }) both.receive;
+      transmit =
+          subst (λ xs. Agrees (after s e) queue xs h.transmit) (append-nil sent)
+          (sparing_events_keep s queue sent h.transmit e both.transmit (record {
+            made = made;
+            setting = none;
+            side = λ other switch.
+                (write_rest s port n word (place Rxdctl queue) 0xFFFFFFFF names refl refl).transmit queue (λ x. cc);
+            blocks = λ other number is. blocks_stay s port n word number;
+          }));
+      apart = both.apart;
+    }
 enable_words_keep queue s Tx port n word out sent h made names may both =
-    transmit_word queue s port n word out sent h made both names may
+    let e : Event Block = event.Write port n word in
+    let none = plain-write s port n word (place Txdctl queue) 0xFFFFFFFF names refl in record {
+      receive =
+          leaving_keeps queue s (after s e) out h.receive (record {
+            receive =
+                (write_rest s port n word (place Txdctl queue) 0xFFFFFFFF names refl refl).receive queue (λ x. cc);
+            mode = (settings_stand s e none).mode;
+            vfs = (stays_within s e).vfs;
+            blocks = λ b has. blocks_stay s port n word b;
+          }) both.receive;
+      transmit = transmit_word_keeps s queue sent h.transmit port n word made names may both.transmit;
+      apart = both.apart;
+    }

@@ -1,7 +1,7 @@
 -- Once both rings came up and both sides went on the device and the driver agree on both.
 use Rattle.std.{proofs.lemmas.Bool.both_ways, proofs.lemmas.Grind.common_steps, specs.Prelude.IsTrue}
-use Rattle.std.proofs.Common.{[], ◌%◌, ◌&&◌, ◌*◌, ◌+◌, ◌<◌, ◌∷◌, ◌≡◌, ◌≢◌, ◌≤◌, Bool, List, ℕ, ap, arith, false, not}
-use Rattle.std.proofs.Common.{refl, subst, sym, true}
+use Rattle.std.proofs.Common.{[], ◌%◌, ◌*◌, ◌+◌, ◌<◌, ◌∷◌, ◌≡◌, ◌≢◌, ◌≤◌, List, ℕ, ap, arith, false, refl, rules, subst}
+use Rattle.std.proofs.Common.{sym, true}
 use Rattle.pmd.specs.{PmdSeam.Frames.most_blocks, Running.Running, Started.AreUp}
 use Rattle.driver_laws.proofs.{Ground.ground_names, Made.extends, Made.made_some, Made.some_made, Reached.sound_at}
 use Rattle.driver_laws.proofs.Points.{At, accesses_at, laid_with, prepared_at, unused_kept}
@@ -14,9 +14,9 @@ use Rattle.driver_laws.proofs.Switching.{came_up, comes_up, fresh_receive_agrees
 use Rattle.driver_laws.proofs.Switching.{may_switch, switching}
 use Rattle.driver_laws.specs.{Quieting.are_off, Start.BeginsWell, Start.StartAgrees, Start.StartGoesOn, Unused.WentOn}
 use Rattle.driver_laws.specs.On.{AreOn, SwitchedSidesAgree, SwitchedSidesBeginNone, SwitchedSidesGoOn}
-use Rattle.driver_laws.specs.Prelude.{Agree, Agrees, AtPort, Call, EachRingBlock, Entry, Numbers, Rdt, Receive, Rx}
-use Rattle.driver_laws.specs.Prelude.{Rxdctl, Sees, Sender, Sets, Side, State, Tdt, Tx, Watched, begun_on, is_size}
-use Rattle.driver_laws.specs.Prelude.{IsReceiveReady, IsSwitched, IsTransmitReady, is_frame, leads_to, lent_by, quiet}
+use Rattle.driver_laws.specs.Prelude.{Agree, Agrees, AtPort, Call, EachRingBlock, Entry, IsReceiveReady, IsSwitched}
+use Rattle.driver_laws.specs.Prelude.{IsTransmitReady, Numbers, Rdt, Receive, Rx, Rxdctl, Sees, Sender, Sets, Side}
+use Rattle.driver_laws.specs.Prelude.{State, Tdt, Tx, Watched, begun_on, is_frame, is_size, leads_to, lent_by, quiet}
 
 -- the numbers of slots that a driver may have
 
@@ -28,25 +28,11 @@ sized_ring : (pass : ℕ) (h : List Entry) (size ring : ℕ) → is_size size �
     → EachRingBlock ring size (λ n. IsLentBy pass n h) → IsSized ring size
 sized_ring pass h size ring is lent = grind (arith, common_steps)
 
--- sides that are off aren't wanted on
-unwanted : (a b c d : Bool) → ((not a && not b) && (not c && not d)) ≡ true → (b ≡ false) × (d ≡ false)
-unwanted a b c d is = grind (arith, common_steps)
-
 -- both rings came up, one after the other, and then both sides went on
 abbrev pub are_on : {q : AtPort} {size frame : ℕ} {old one two new : List Call} {a b c : Numbers} {v : Receive}
     {t : Sender} → is_size size ≡ true → is_frame frame ≡ true → IsReceiveReady q size frame old a one b v
     → IsTransmitReady q size frame one b two c t → IsSwitched q two new true 1000 → AreOn q size frame old a new v t
-are_on {one = one} {two = two} {b = b} {c = c} sized framed receive transmit switched = record {
-  sized = sized;
-  framed = framed;
-  ready_made = one;
-  both_made = two;
-  ready_arena = b;
-  both_arena = c;
-  receive = receive;
-  transmit = transmit;
-  switched = switched;
-}
+are_on sized framed receive transmit switched = search rules
 
 module _ {w : Watched} {origin : State} {h : List Entry} {q : AtPort} {size frame : ℕ} {old : List Call} {a : Numbers}
     {new : List Call} {v : Receive} {t : Sender} (up : AreOn q size frame old a new v t)
@@ -104,7 +90,7 @@ module _ {w : Watched} {origin : State} {h : List Entry} {q : AtPort} {size fram
       of_size number lent = sized_ring w.pass h size number up.sized lent
 
       off : (p : Sides) → Known p → ((p.side Rx).wanted ≡ false) × ((p.side Tx).wanted ≡ false)
-      off p known = unwanted (p.side Rx).on (p.side Rx).wanted (p.side Tx).on (p.side Tx).wanted known
+      off p known = grind (arith, common_steps)
 
       even : 16 * size % 128 ≡ 0
       even = (sized size up.sized).2
@@ -165,7 +151,7 @@ module _ {w : Watched} {origin : State} {h : List Entry} {q : AtPort} {size fram
         came_up_at (ring_lent done rest all calls) (other_lent done rest all calls) done rest all calls
 
     -- there they are fresh, and so device and driver agree
-    agrees_at : AtCalls w origin h new (λ s. Agree w.queue s [] v × Agrees s w.queue [] t)
+    pub agrees_at : AtCalls w origin h new (λ s. Agree w.queue s [] v × Agrees s w.queue [] t)
     agrees_at done rest all calls =
         let s = leads_to origin done in
         let (p, x, unused) = up_at done rest all calls in
@@ -189,7 +175,7 @@ module _ {w : Watched} {origin : State} {h : List Entry} {q : AtPort} {size fram
         )
 
     -- and nothing went over them since they went on
-    goes_on_at : AtEntries w h new (WentOn w.queue origin)
+    pub goes_on_at : AtEntries w h new (WentOn w.queue origin)
     goes_on_at done rest all calls =
         let (p, x, unused) = up_at done rest all calls in
         let receives = (x.stand.side Rx).seen refl in

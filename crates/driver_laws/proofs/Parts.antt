@@ -1,9 +1,9 @@
 -- A history in parts, by the calls that a pass made.
+use Rattle.std.{proofs.lemmas.List.append-nil, proofs.lemmas.List.map-append, specs.Prelude.◌==◌}
+use Rattle.std.proofs.{lemmas.Grind.common_steps, lemmas.List.Elements.filter-append}
 use Rattle.std.proofs.Common.{[], ◌++◌, ◌∙◌, ◌∷◌, ◌≡◌, ◌≢◌, ◌⊎◌, List, ℕ, ap, append_assoc, arith, inl, inr, refl, sym}
 use Rattle.std.proofs.Common.{true}
-use Rattle.std.proofs.lemmas.{Grind.common_steps, List.Elements.filter-append, List.append-nil, List.map-append}
 use Rattle.std.proofs.lemmas.Bool.{cases_Bool, eqb-true, or_left, or_right}
-use Rattle.std.specs.Prelude.{◌==◌}
 use Rattle.device_lock.specs.Alone.{has_begun}
 use Rattle.driver_laws.proofs.Prelude.{calls_other, calls_own}
 use Rattle.driver_laws.specs.Prelude.{Call, Entry, call_in, calls_of}

@@ -1,27 +1,126 @@
--- How sides stand after the accesses of a driver.
-use Rattle.std.{proofs.lemmas.Grind.common_steps, specs.List.range_with_len, specs.Prelude.IsTrue, specs.Prelude.⊤}
-use Rattle.std.proofs.Common.{[], ◌&&◌, ◌++◌, ◌+◌, ◌<◌, ◌∙◌, ◌∷◌, ◌≡◌, ◌≢◌, Bool, List, Option, Some, ℕ, arith, cond}
-use Rattle.std.proofs.Common.{false, not, option_map, refl, subst, suc, sym, true, zero}
-use Rattle.driver_laws.proofs.{Parts.ends_some, Words.driven, Words.side_driven}
-use Rattle.driver_laws.proofs.Ground.{ground_names, ground_same, plain_keeps, read_ground, write_ground}
-use Rattle.driver_laws.proofs.Made.{OfCall, made_some, over_access, some_made}
-use Rattle.driver_laws.proofs.Prelude.{AllMay, AreUnused, AtEntries, IsAlong, IsEnable, IsKept, Leads, Piece, Point}
-use Rattle.driver_laws.proofs.Prelude.{Sides, Stand, after_access, after_accesses, and_one, seen_by, sent_is_counted}
-use Rattle.driver_laws.proofs.Prelude.{since-append}
-use Rattle.driver_laws.proofs.Reached.{KeptOver, LeadsOver, entries_lead, reached_next, state_leads}
-use Rattle.driver_laws.proofs.Standing.{lend_stands, read_stands, standing_sides_are_left, write_stands}
-use Rattle.driver_laws.proofs.StopCalls.{IsLentBy, and_all, lending}
-use Rattle.driver_laws.specs.Points.{AccessesLead, May}
-use Rattle.driver_laws.specs.Prelude.{Access, AreMade, AtPort, Blocks, Call, Dir, EachRingBlock, Entry, IsNumberOf}
-use Rattle.driver_laws.specs.Prelude.{IsPrepared, LendsEach, Numbers, RowId, Rx, Rxdctl, Sees, Sets, State, Tx, Txdctl}
-use Rattle.driver_laws.specs.Prelude.{Watched, after, blocks_for, call_in, call_of, enable_row, has_bit, leads_to}
-use Rattle.driver_laws.specs.Prelude.{lent_by, pieces, ring_blocks, ring_words, sent_by, zero_block}
+-- Two sides that stand still are left so by every event that leaves the queue alone, and by a driver's accesses; and
+-- how they stand after accesses in order, over a history.
+use Rattle.std.proofs.{lemmas.Bool.eqb-false, lemmas.Bool.eqb-true, lemmas.Bool.or_cases, lemmas.Grind.common_steps}
+use Rattle.std.proofs.Common.{[], ◌&&◌, ◌++◌, ◌+◌, ◌<◌, ◌||◌, ◌∙◌, ◌∷◌, ◌≡◌, ◌≢◌, Bool, List, Option, Some, ℕ, ap}
+use Rattle.std.proofs.Common.{arith, cond, false, not, option_map, refl, rules, subst, suc, sym, true, zero}
+use Rattle.std.specs.{List.range_with_len, Prelude.IsTrue, Prelude.⊤}
+use Rattle.nic_device.proofs.DmaArena.Bus.{get-insert_other, get-insert_same}
+use Rattle.ring_laws.{proofs.HistoryLaws.Lent.not_so, specs.HistoryLaws.Left.IsSilent as RestsSilent}
+use Rattle.driver_laws.proofs.{Parts.ends_some, StopCalls.IsLentBy, StopCalls.and_all, StopCalls.lending}
+use Rattle.driver_laws.proofs.Ground.{ground_names, ground_same, plain_keeps}
+use Rattle.driver_laws.proofs.Made.{OfCall, access_before, access_leads, made_some, some_made}
+use Rattle.driver_laws.proofs.Prelude.{AllMay, AreUnused, AtEntries, IsAlong, IsIdle, IsZero, Leads, Outcome, Piece}
+use Rattle.driver_laws.proofs.Prelude.{Point, Sides, Stand, Stands, across, after_access, after_accesses, and_one}
+use Rattle.driver_laws.proofs.Prelude.{begun_stays, idle_silent, idle_steady, left_deed, left_did, lent_cases}
+use Rattle.driver_laws.proofs.Prelude.{queues_left, read_rest, seen_by, sent_is_counted, side_seen, side_with}
+use Rattle.driver_laws.proofs.Prelude.{since-append, steady_kept, step_of, told_on}
+use Rattle.driver_laws.proofs.Reached.{KeptOver, LeadsNext, added_before, added_leads, reached_next, state_next}
+use Rattle.driver_laws.proofs.Words.{driven, each_side, side_driven, words_taken}
+use Rattle.driver_laws.specs.{Points.AccessesLead, Points.May, Standing.IsLeft, Standing.StandingSidesAreLeft}
+use Rattle.driver_laws.specs.Moves.{LendStands, MayGoOn, ReadStands, WriteStands}
+use Rattle.driver_laws.specs.Prelude.{Access, AreMade, AtPort, Block, Blocks, Call, Dir, EachRingBlock, Entry, Event}
+use Rattle.driver_laws.specs.Prelude.{IsPrepared, LendsEach, Memory, Numbers, RowId, Rx, Rxdctl, Sees, Sets, Side}
+use Rattle.driver_laws.specs.Prelude.{State, Tx, Txdctl, Watched, after, blocks_for, enable_row, leads_to, lent_by}
+use Rattle.driver_laws.specs.Prelude.{pieces, ring_blocks, ring_words, sent_by, side_of, zero_block}
+use Rattle.std.specs.FinMap as map
 use Rattle.nic_device.specs.declared.event.Event.TheVariants as event
 use Rattle.nic_device.specs.declared.event.Reply.TheVariants as reply
 
+-- an idle side stays so over an event that leaves the queue alone, by which nothing is received or sent there
+pub idle_left : (dir : Dir) (P : Side → Type 0) → IsIdle P → (w : Watched) (mine : Blocks) (s : State) (e : Event Block)
+    → IsLeft w mine s e → P (side_of dir w.queue s)
+    → P (side_of dir w.queue (after s e)) × RestsSilent dir w.queue s e
+idle_left dir P is w mine s e left p =
+    let did = left_deed dir w mine s e left in
+    (steady_kept dir w.queue s e P p (idle_steady P is) did, idle_silent dir w.queue s e P p is did)
+
+-- a side that stands so is off, or its ring is empty
+stands_idle : (side : Side) → IsIdle (λ x. Stands x side)
+stands_idle side = grind (arith, common_steps)
+
+pub standing_sides_are_left : StandingSidesAreLeft
+standing_sides_are_left w mine rings s e sides left covers stand =
+    let did = left_did w mine s e left in
+    let on = λ (dir : Dir).
+    idle_left dir (λ x. Stands x (sides dir)) (stands_idle (sides dir)) w mine s e left (stand.side dir) in
+    record {
+      stand = record {
+        side = λ dir. (on dir).0;
+        begun = begun_stays w.queue s left.sound stand.begun e (on Rx).1;
+        zero = λ b is. did.blocks (on Rx).1 (on Tx).1 b (covers b is) ∙ stand.zero b is;
+      };
+      received = (on Rx).1;
+      sent = (on Tx).1.sent;
+      limit = did.limit;
+      mode = did.mode;
+      vfs = did.vfs;
+    }
+
+-- a word is written to one of them
+
+-- a side that is off stands with it: no word says whether a side is on, or what it has staged
+stands_with : (dir : Dir) (row : RowId) (word : ℕ) (x side : Side)
+    → x ≡ side_with dir row word (record side { on = false; staged = [] }) → side.on ≡ false
+    → MayGoOn (side_with dir row word side) → Stands x (side_with dir row word side)
+stands_with dir row word x side same off goes = grind (arith, common_steps)
+
+-- of both sides, by this one and the other
+both : (P : Dir → Type 0) (dir : Dir) → P dir → P (across dir) → (d : Dir) → P d
+both P dir own other d = grind (arith, common_steps)
+
+pub write_stands : (dir : Dir) → WriteStands dir
+write_stands dir queue s sides rings port n word row met stand unwanted fits goes names =
+    let x = stand.side dir in
+    let t : State = after s (event.Write port n word) in
+    let off = not_so (side_of dir queue s).on (sides dir).wanted x.wanted unwanted in
+    let down : side_of dir queue s ≡ record (sides dir) { on = false; staged = [] } =
+    grind (arith, common_steps, not_so) in
+    let taken = words_taken dir queue s port n word row met.small met.sound off fits names in
+    let own = stands_with dir row word (side_of dir queue t) (sides dir)
+    (taken.side ∙ ap (side_with dir row word) down) (not_so (sides dir).on _ x.seen off) goes in
+    record {
+      side = both (λ d. Stands (side_of d queue t) (side_with d row word (sides d))) dir own
+          (rw taken.other
+          (subst (Stands _) ((driven dir row word fits).1 (sides (across dir))) (stand.side (across dir))));
+      begun = begun_stays queue s met.sound stand.begun (event.Write port n word) refl;
+      zero = λ b is. ap (λ (m : Memory). map.get m b) taken.ground.memory ∙ stand.zero b is;
+    }
+
+-- an enable word is read
+
+seen_stands : (x side : Side) (shown : Bool) → Stands x side → shown ≡ x.on
+    → Stands x (record side { on = side.on || shown })
+seen_stands x side shown h told = grind (arith, common_steps)
+
+seen_side : (dir d : Dir) (queue : ℕ) (s : State) (sides : Dir → Side) (shown : Bool)
+    → ((d : Dir) → Stands (side_of d queue s) (sides d)) → shown ≡ (side_of dir queue s).on
+    → Stands (side_of d queue s) (side_seen d (enable_row dir) shown (sides d))
+seen_side dir d queue s sides shown stand told = search (rules, seen_stands)
+
+pub read_stands : (dir : Dir) → ReadStands dir
+read_stands dir queue s sides rings port n word stand names told =
+    let rest = read_rest s port n in
+    grind (arith, common_steps, queues_left, seen_side, told_on)
+
+-- a block of zero bytes is lent
+
+zero_in : (m : Memory) (ring b : ℕ) (rings : Blocks) → ((c : ℕ) → IsTrue (rings c) → IsZero m c)
+    → IsTrue (and_one ring rings b) → IsZero (map.insert m ring (zero_block ring).bytes) b
+zero_in m ring b rings zeros is =
+    grind (arith, common_steps, eqb-true, get-insert_same, or_cases, eqb-false, get-insert_other)
+
+pub lend_stands : LendStands
+unfolding step_of
+lend_stands queue s sides rings ring stand =
+    lent_cases (λ (o : Outcome). o.reply ≡ reply.Done → Stand queue sides (and_one ring rings) o.state) s
+    (zero_block ring) (λ e. cc)
+    (grind (arith, common_steps, each_side, zero_in))
+
+-- how sides stand after the accesses of a driver
+
 -- by a call nothing is received or sent
-abbrev pub IsIdle : ℕ → Call → Type 0
-IsIdle queue c = (s : State) → (pieces queue s c.event ≡ []) × (sent_by queue s c.event ≡ [])
+abbrev TellsNone : ℕ → Call → Type 0
+TellsNone queue c = (s : State) → (pieces queue s c.event ≡ []) × (sent_by queue s c.event ≡ [])
 
 -- what each entry keeps by which nothing is
 abbrev pub IdleKeeps : Watched → State → (List Entry → Type 0) → Type 0
@@ -45,53 +144,36 @@ unused_kept w origin done e received sent unused =
     grind (arith, common_steps, reached_next, since-append, none_gathered, sent_is_counted, none_counted)
 
 module _ (w : Watched) (mine : Blocks) (q : AtPort) (frame : ℕ) where
-  -- an event that leaves the queue alone keeps a point
-  pub point_kept : (p : Sides) → IsKept w mine (Point w.queue mine q frame p)
-  point_kept p s e left x =
-      let kept = standing_sides_are_left w mine p.rings s e p.side left x.covers x.stand in record {
-        stand = kept.stand;
-        ground = ground_same w.queue q frame s (after s e) kept.mode kept.vfs kept.limit x.ground;
-        covers = x.covers;
-        low = x.low;
-      }
-
-  -- a word is written
-  pub write_leads : (p : Sides) (row : RowId) (word number : ℕ) → IsNumberOf q.port row q.queue number
-      → May (Sets row word) p
-      → Leads w.queue (call_of (event.Write q.port number word) reply.Done) (Point w.queue mine q frame p)
-      (Point w.queue mine q frame (after_access (Sets row word) p))
-  write_leads p row word number named (dir, may) s met made told x =
-      let own = (driven dir row word may.fits).0 in record {
-        stand = write_stands dir w.queue s p.side p.rings q.port number word row met x.stand may.unwanted may.fits
-            may.goes (ground_names w.queue q frame s x.ground row number own named);
-        ground = write_ground w.queue q frame s row word number own named x.ground;
-        covers = x.covers;
-        low = x.low;
-      }
+  abbrev Here : Sides → State → Type 0
+  Here p = Point w.queue mine q frame p
 
   -- an enable word is read
-
-  side_leads : (dir : Dir) (p : Sides) (on : Bool) (word number : ℕ)
-      → IsNumberOf q.port (enable_row dir) q.queue number → has_bit 25 word ≡ on
-      → Leads w.queue (call_of (event.Read q.port number) (reply.Word word)) (Point w.queue mine q frame p)
-      (Point w.queue mine q frame (seen_by (enable_row dir) on p))
-  side_leads dir p on word number named is s met made told x =
+  seen_leads : (dir : Dir) (p : Sides) (on : Bool)
+      → OfCall q (Sees (enable_row dir) on) (λ c. Leads w.queue c (Here p) (Here (seen_by (enable_row dir) on p)))
+  seen_leads dir p on number word named is s met made told x =
       let t = after s (event.Read q.port number) in record {
         stand = subst (λ (b : Bool). Stand w.queue (seen_by (enable_row dir) b p).side p.rings t) is
             (read_stands dir w.queue s p.side p.rings q.port number word x.stand
             (ground_names w.queue q frame s x.ground (enable_row dir) number (side_driven dir) named) (sym told));
-        ground = read_ground w.queue q frame s number x.ground;
+        ground = plain_keeps w.queue q frame s (event.Read q.port number) tt x.ground;
         covers = x.covers;
         low = x.low;
       }
 
-  pub read_leads : (p : Sides) (row : RowId) (on : Bool) (word number : ℕ) → IsNumberOf q.port row q.queue number
-      → has_bit 25 word ≡ on → IsEnable row
-      → Leads w.queue (call_of (event.Read q.port number) (reply.Word word)) (Point w.queue mine q frame p)
-      (Point w.queue mine q frame (seen_by row on p))
-  read_leads p Rxdctl on word number named is may = side_leads Rx p on word number named is
-  read_leads p Txdctl on word number named is may = side_leads Tx p on word number named is
-  read_leads p other on word number named is may = absurd may
+  -- or a word is written
+  point_leads : (a : Access) (p : Sides) → May a p
+      → OfCall q a (λ c. Leads w.queue c (Here p) (Here (after_access a p)))
+  point_leads (Sees Rxdctl on) p may = seen_leads Rx p on
+  point_leads (Sees Txdctl on) p may = seen_leads Tx p on
+  point_leads (Sees other on) p may = absurd may
+  point_leads (Sets row word) p (dir, may) = λ number named s met made told x.
+      let own = (driven dir row word may.fits).0 in record {
+        stand = write_stands dir w.queue s p.side p.rings q.port number word row met x.stand may.unwanted may.fits
+            may.goes (ground_names w.queue q frame s x.ground row number own named);
+        ground = plain_keeps w.queue q frame s _ (row, refl, own, named) x.ground;
+        covers = x.covers;
+        low = x.low;
+      }
 
 -- the blocks of a ring are lent
 
@@ -140,35 +222,29 @@ module _ {w : Watched} {origin : State} {h : List Entry} (q : AtPort) (frame : �
   some_kept F done e left (p, known, x, n) =
       let s = leads_to origin done in
       let z = F p in
-      let kept = standing_sides_are_left w mine z.rings s e.event z.side left x.covers x.stand in (
-        p,
-        known,
-        subst (Standing z) (sym (reached_next w origin done e)) (point_kept w mine q frame z s e.event left x),
-        idle done e kept.received kept.sent n,
-      )
+      let kept = standing_sides_are_left w mine z.rings s e.event z.side left x.covers x.stand in
+      let there : Standing z (after s e.event) = search (rules, ground_same) in
+      (p, known, subst (Standing z) (sym (reached_next w origin done e)) there, idle done e kept.received kept.sent n)
 
-  some_leads : (F G : Sides → Sides) (c : Call) → IsIdle w.queue c
+  some_leads : (F G : Sides → Sides) (c : Call) → TellsNone w.queue c
       → ((p : Sides) → C p → Leads w.queue c (Standing (F p)) (Standing (G p)))
-      → LeadsOver w origin mine c (SomePoint F) (SomePoint G)
-  some_leads F G c none leads done e same met made told outside (p, known, x, n) =
-      let here : IsIdle w.queue (call_in e) = subst (IsIdle w.queue) (sym same) none in (
+      → LeadsNext w origin c (SomePoint F) (SomePoint G)
+  some_leads F G c none leads done e same met made told (p, known, x, n) =
+      let here = subst (TellsNone w.queue) (sym same) none (leads_to origin done) in (
         p,
         known,
-        state_leads w origin mine c (Standing (F p)) (Standing (G p)) (leads p known) done e same met made told outside
-            x,
-        idle done e (here (leads_to origin done)).0 (here (leads_to origin done)).1 n,
+        state_next w origin c (Standing (F p)) (Standing (G p)) (leads p known) done e same met made told x,
+        idle done e here.0 here.1 n,
       )
 
-  access_over : (F : Sides → Sides) (a : Access) → ((p : Sides) → C p → May a (F p))
-      → OfCall q a (λ c. LeadsOver w origin mine c (SomePoint F) (SomePoint (λ p. after_access a (F p))))
-  access_over F (Sees row on) may = λ number word named is.
-      some_leads F (λ p. seen_by row on (F p)) (call_of (event.Read q.port number) (reply.Word word))
-      (λ s. (refl, refl))
-      (λ p known. read_leads w mine q frame (F p) row on word number named is (may p known))
-  access_over F (Sets row word) may = λ number named.
-      some_leads F (λ p. after_access (Sets row word) (F p)) (call_of (event.Write q.port number word) reply.Done)
-      (λ s. (refl, refl))
-      (λ p known. write_leads w mine q frame (F p) row word number named (may p known))
+  access_next : (F : Sides → Sides) (a : Access) → ((p : Sides) → C p → May a (F p))
+      → OfCall q a (λ c. LeadsNext w origin c (SomePoint F) (SomePoint (λ p. after_access a (F p))))
+  access_next F (Sees row on) may = λ number word named is.
+      some_leads F (λ p. seen_by row on (F p)) _ (λ s. (refl, refl))
+      (λ p known. point_leads w mine q frame (Sees row on) (F p) (may p known) number word named is)
+  access_next F (Sets row word) may = λ number named.
+      some_leads F (λ p. after_access (Sets row word) (F p)) _ (λ s. (refl, refl))
+      (λ p known. point_leads w mine q frame (Sets row word) (F p) (may p known) number named)
 
   pub accesses_at : (all : List Access) (F : Sides → Sides) (old new : List Call)
       → ((p : Sides) → C p → AllMay all (F p)) → AreMade q old new all → old ≢ [] → At old F
@@ -177,8 +253,8 @@ module _ {w : Watched} {origin : State} {h : List Entry} (q : AtPort) (frame : �
   accesses_at (a ∷ rest) F old new may (mid, here, more) some at =
       let G : Sides → Sides = λ p. after_access a (F p) in
       accesses_at rest G mid new (λ p known. (may p known).1) more (made_some q old mid a here)
-      (over_access q along (SomePoint F) (SomePoint G) a (some_kept F) (some_kept G)
-      (access_over F a (λ p known. (may p known).0)) old mid here some at)
+      (access_leads q along (SomePoint F) (SomePoint G) a (some_kept G) (access_next F a (λ p known. (may p known).0))
+      old mid here (access_before q along (SomePoint F) a (some_kept F) old mid here some at))
 
   -- blocks that follow one another are lent in turn
   lends_at : (many first : ℕ) (F : Sides → Sides) (old new : List Call) → LendsEach old new (range_with_len first many)
@@ -186,18 +262,15 @@ module _ {w : Watched} {origin : State} {h : List Entry} (q : AtPort) (frame : �
       → At new (λ p. with_all (range_with_len first many) (F p))
   lends_at zero first F old new is lent some at = subst (λ (calls : List Call). At calls F) (sym is) at
   lends_at (suc many) first F old new (mid, one, rest) lent some at =
-      let here : first + 0 ≡ first = omega arith in
-      let own : IsLentBy w.pass first h = subst (λ (n : ℕ). IsLentBy w.pass n h) here (lent 0 (omega arith)) in
+      let own : IsLentBy w.pass first h = subst (λ (n : ℕ). IsLentBy w.pass n h) (omega arith) (lent 0 (omega arith)) in
       let G : Sides → Sides = λ p. with_ring first (F p) in
       lends_at many (first + 1) G mid new rest
-      (λ k below.
-      let next : first + suc k ≡ first + 1 + k = omega arith in
-      subst (λ (n : ℕ). IsLentBy w.pass n h) next (lent (suc k) (omega (arith, below))))
+      (λ k below. subst (λ (n : ℕ). IsLentBy w.pass n h) (omega arith) (lent (suc k) (omega (arith, below))))
       (λ none. ends_some old one.0 (lending first) (sym one.1 ∙ none))
-      (subst (λ (calls : List Call). At calls G) (sym one.1)
-      (entries_lead (SomePoint F) (SomePoint G) old one.0 (lending first) along (some_kept F) (some_kept G)
+      (added_leads along (SomePoint F) (SomePoint G) (some_kept G) old mid _ _
       (some_leads F G (lending first) (λ s. (refl, refl))
-      (λ p known. lend_leads w.queue mine q frame (F p) first own.mine own.low)) one.2 some at))
+      (λ p known. lend_leads w.queue mine q frame (F p) first own.mine own.low)) one
+      (added_before along (SomePoint F) (some_kept F) old mid _ _ one some at))
 
   -- a ring is prepared: its words are written and its blocks are lent
   pub prepared_at : {side : Dir} {size : ℕ} {old : List Call} {a : Numbers} {new : List Call} {b : Numbers} {ring : ℕ}

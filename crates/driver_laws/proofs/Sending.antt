@@ -1,39 +1,38 @@
 -- The blocks that the halves have lent: each is lent, none by both, and all are among those that the pass lends. What
 -- an event of one half's own leaves: all blocks but its own, and the other side; and so do steps of the device.
 use Rattle.std.proofs.{lemmas.Grind.common_steps, lemmas.List.get_or-take, lemmas.List.length-take-le}
-use Rattle.std.proofs.Common.{[], ◌*◌, ◌+◌, ◌/◌, ◌<◌, ◌^◌, ◌∙◌, ◌∷◌, ◌≡◌, ◌≢◌, Bool, List, None, Option, Some, ℕ, ap}
-use Rattle.std.proofs.Common.{arith, cond, false, inl, inr, length, not, refl, rules, subst, suc, sym, take, true}
+use Rattle.std.proofs.Common.{[], ◌*◌, ◌+◌, ◌/◌, ◌<◌, ◌^◌, ◌∙◌, ◌∷◌, ◌≡◌, ◌≢◌, Bool, List, ℕ, ap, arith, cond, false}
+use Rattle.std.proofs.Common.{inl, inr, length, not, refl, rules, subst, suc, sym, take, true}
 use Rattle.std.proofs.lemmas.Bool.{cases_eq, eqb-false, eqb-true, ne_eqb, not-true, or_cases}
 use Rattle.std.specs.{List.list_any, Prelude.IsTrue, Prelude.slice_index_or, Prelude.⊤, Prelude.◌==◌}
-use Rattle.nic_device.proofs.{DmaArena.Inside.inside_avoids, DmaRing.Fields.halves_come_back}
+use Rattle.nic_device.{proofs.DmaArena.Inside.inside_avoids, proofs.DmaRing.Fields.halves_come_back}
 use Rattle.nic_device.specs.{DmaArena.Memory.LiesIn, DmaRing.Driver.posted, DmaRing.Ring.descriptor_address}
-use Rattle.nic_device.specs.{RegisterFile.Queue.ring_of, declared.event.Reply.TheVariants.Twice}
-use Rattle.nic_device.specs.RegTable.declared.rows.RowId.TheVariants.{Tdt, Tdwbal}
+use Rattle.nic_device.specs.{RegTable.declared.rows.RowId.TheVariants.Tdwbal, declared.event.Reply.TheVariants.Twice}
+use Rattle.nic_device.specs.RegisterFile.Queue.{ring_of, tail_row}
 use Rattle.pmd.proofs.PmdSeam.Rings.{each_ring_block, slot_block, slot_lies}
-use Rattle.pmd.specs.PmdRx.{Receive.Layout, Receive.fresh_of, Receive.vacant, declared.ring.Stage.Stage}
+use Rattle.pmd.specs.PmdRx.Receive.{Layout, fresh_of, vacant}
+use Rattle.pmd.specs.PmdRx.declared.ring.Stage.{Stage}
 use Rattle.pmd.specs.PmdTx.Sending.{Segment, blocks_of, descriptor_at, moved, no_segment, segment_at, slot_at}
+use Rattle.ring_laws.{specs.Agreeing.AgreesAt, specs.Alone.LendsOneOf}
 use Rattle.ring_laws.proofs.{DeviceLaws.RepliesSent.transmitting_tells, DeviceLaws.StandingQueues.receiving_rest}
 use Rattle.ring_laws.proofs.{Fetching.head_is, Fetching.length-asking, Foreign.piece_inside, Parts.seen_within}
 use Rattle.ring_laws.proofs.Blocks.{has_lent-ring, has_lent-segment, slot-below}
 use Rattle.ring_laws.proofs.HistoryLaws.Blocks.{IsSparedBy, clear_outside, reported, spared_block}
 use Rattle.ring_laws.proofs.Kept.{each_by, each_posted, each_ring, slot_below}
-use Rattle.ring_laws.specs.{Agreeing.AgreesAt, Alone.LendsOneOf, DeviceLaws.Replies.report_of}
+use Rattle.ring_laws.specs.{DeviceLaws.Replies.report_of, Joint.HasSlots, Joint.Holds, Joint.StageHolds}
 use Rattle.ring_laws.specs.DeviceLaws.Leaving.{LeavesReceive, LeavesTransmit}
-use Rattle.ring_laws.specs.Joint.{HasSlots, Holds, StageHolds}
 use Rattle.ring_laws.specs.Steps.{Each, IfFresh, IsOutside, Leaves, OwnReportsSpare}
 use Rattle.driver_laws.proofs.Prelude.{Done, IsOwn, Spares, Tdwbah, Wrote, block_at, gives, memory_blocks, memory_rest}
 use Rattle.driver_laws.proofs.Prelude.{mine-moved, mine_driven, plain-write, reach, settings_stand, stays_within}
 use Rattle.driver_laws.proofs.Prelude.{step_of, word_of, write_memory, write_rest}
 use Rattle.driver_laws.specs.Prelude.{Accepts, Advances, Agree, Asks, Block, Blocks, Dir, Elsewhere, Event, IsEvent}
 use Rattle.driver_laws.specs.Prelude.{IsSound, LeavesBlock, Lends, Looks, Memory, Move, Piece, Rdt, Reaps, Receive}
-use Rattle.driver_laws.specs.Prelude.{Register, Reply, RowId, Rx, Sender, State, Tx, WritesNoSetting, WritesOutside}
-use Rattle.driver_laws.specs.Prelude.{after, drive, has_bit, has_block, has_lent, is_ring_block, named, pieces, place}
+use Rattle.driver_laws.specs.Prelude.{Register, Reply, Rx, Sender, State, Tx, WritesNoSetting, WritesOutside, after}
+use Rattle.driver_laws.specs.Prelude.{drive, has_bit, has_block, has_lent, is_ring_block, named, pieces, place}
 use Rattle.driver_laws.specs.Prelude.{reply_to}
-use Rattle.std.specs.FinMap as map
 use Rattle.nic_device.specs.declared.event.Event.TheVariants as event
 use Rattle.pmd.specs.PmdRx.Keeping as received
 use Rattle.pmd.specs.PmdRx.Receive as receiving
-use Rattle.nic_device.specs.declared.event.Reply.TheVariants as reply
 
 -- the blocks of the receive half are lent
 
@@ -106,10 +105,6 @@ module _ (s : State) where
 
 -- an event that takes or pokes some blocks alone, lends one, looks, or writes the tail of a side of the queue
 
-abbrev pub tail_row : Dir → RowId
-tail_row Rx = Rdt
-tail_row Tx = Tdt
-
 abbrev pub Touches : Dir → ℕ → Blocks → State → Event Block → Type 0
 Touches dir queue own s (event.Peek16 a) = ⊤
 Touches dir queue own s (event.Lend b) = ⊤
@@ -144,13 +139,7 @@ module _ (queue : ℕ) (own : Blocks) (s : State) where
   touch_transmit e is = absurd is
 
   touch_receive : (e : Event Block) → Touches Tx queue own s e → LeavesReceive queue s (after s e)
-  touch_receive (event.Peek16 a) is = (memory_rest.peek s a).queues.receive queue
-  touch_receive (event.Take n) is = (memory_rest.take s n).queues.receive queue
-  touch_receive (event.Lend b) is = (memory_rest.lend s b).queues.receive queue
-  touch_receive (event.Poke16 a bytes) is = (memory_rest.poke s a bytes).queues.receive queue
-  touch_receive (event.Write port n word) is =
-      (write_rest s port n word (place Tdt queue) 0xFFFFFFFF is refl refl).receive queue (λ e. cc)
-  touch_receive e is = absurd is
+  touch_receive e is = search (rules, memory_rest, write_rest)
 
 -- an event of the receive half's own touches blocks that the half has lent
 
@@ -284,19 +273,7 @@ module _ (queue : ℕ) (mine : Blocks) (s : State) (sound : IsSound s) (out : Li
   -- so it spares the transmit half
   pub received_spares : (u : Sender) → ((n : ℕ) → IsTrue (has_lent u n) → IsTrue (mine n))
       → ((n : ℕ) → IsTrue (has_lent u n) → Each v (λ b. b ≢ n)) → Spares queue u s event.RxStep
-  received_spares u lent apart = record {
-    made = tt;
-    setting = tt;
-    side = λ other switch. (receiving_rest s).transmit queue;
-    blocks = grind (arith, common_steps, spared_block, told_outside);
-  }
-
-none_written_back : (b : Bool) (x : ℕ) → ◌≡◌ {A = Option ℕ} (cond b (Some x) None) None → b ≡ false
-none_written_back true x e = cc
-none_written_back false x e = refl
-
-in_block : (ring slot : ℕ) → (2048 * ring + 16 * slot) / 2048 ≡ ring + slot / 128
-in_block ring slot = omega arith
+  received_spares u lent apart = search (rules, receiving_rest, spared_block, told_outside)
 
 -- what the queue's own transmit side reports is in a block of its ring
 pub reports_spare : (s : State) (queue : ℕ) (sent : List (List ℕ)) (u : Sender) (f : ℕ) → AgreesAt s queue sent u f
@@ -305,8 +282,8 @@ reports_spare s queue sent u f h v apart back told =
     let l = u.layout in
     let r = s.registers in
     let ring = ring_of r Tx queue in
-    let low = none_written_back (has_bit 0 (word_of r Tdwbal queue))
-    (word_of r Tdwbah queue * 2 ^ 32 + 4 * (word_of r Tdwbal queue / 4)) h.set_up.writeback in
+    let none = h.set_up.writeback in
+    let low : has_bit 0 (word_of r Tdwbal queue) ≡ false = grind (arith, common_steps, none) in
     let at = reported queue (reply_to s (event.TxStep queue)) s (after s (event.TxStep queue))
     (transmitting_tells s h.based.sound queue) back told in
     let head : report_of r queue ≡ descriptor_at l f =
@@ -317,6 +294,6 @@ reports_spare s queue sent u f h v apart back told =
     let below = slot-below l h.based.layout f
     (omega (arith, c.fetched_posted, c.posted_poked, c.poked_lent, c.lent_known, c.room)) in
     let part : ℕ = l.ring + slot_at l f / 128 in
-    let here : back / 2048 ≡ part = ap (λ a. a / 2048) (at ∙ head) ∙ in_block l.ring (slot_at l f) in
+    let here : back / 2048 ≡ part = let is = at ∙ head in omega (arith, is) in
     λ b has e.
     apart part (has_lent-ring u (slot_at l f / 128) (slot_block l.size (slot_at l f) below)) b has (e ∙ here)

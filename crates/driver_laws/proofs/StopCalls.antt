@@ -1,25 +1,26 @@
 -- Calls of a kind, one after the other and with steps of the device beside them: those of a driver's accesses, made or
 -- failed, those that lend its blocks, and those of its stop; and which blocks a pass lends by them.
+use Rattle.std.proofs.{lemmas.Bool.eq-eqb, lemmas.Bool.or_left, lemmas.Bool.or_right, lemmas.List.append-nil}
 use Rattle.std.proofs.Common.{[], ◌++◌, ◌+◌, ◌-◌, ◌<◌, ◌∙◌, ◌∷◌, ◌≡◌, ◌≢◌, Bool, List, ℕ, ap, append_assoc, arith}
-use Rattle.std.proofs.Common.{false, inl, inr, refl, subst, suc, sym, true, zero}
-use Rattle.std.proofs.lemmas.{Bool.eq-eqb, Bool.or_left, Bool.or_right, Grind.common_steps, List.append-nil}
-use Rattle.std.specs.List.{range_with_len}
-use Rattle.std.specs.Prelude.{◌==◌, IsFalse, ⊤}
+use Rattle.std.proofs.Common.{false, inl, inr, refl, rules, subst, suc, sym, true, zero}
+use Rattle.std.proofs.lemmas.Grind.{common_steps}
+use Rattle.std.specs.{List.range_with_len, Prelude.IsFalse, Prelude.⊤, Prelude.◌==◌}
 use Rattle.device_lock.specs.Alone.{lends}
-use Rattle.pmd.specs.PmdSeam.{Home.Bringing, Home.BringsOne, Made.Adds, Made.AddsSome, QueueMade.FailsBy}
+use Rattle.pmd.specs.{PmdSeam.Made.Adds, PmdSeam.Made.AddsSome, PmdSeam.QueueMade.FailsBy}
+use Rattle.pmd.specs.PmdSeam.Home.{Bringing, BringsOne}
 use Rattle.ring_laws.proofs.HistoryLaws.Alone.{lent_behind}
 use Rattle.driver_laws.proofs.{Parts.around, Parts.more_some, Reached.entry_is, Reached.steps_are}
 use Rattle.driver_laws.proofs.Ground.{IsDriven, words_are_writes, writes_driven}
-use Rattle.driver_laws.proofs.Made.{all_before, all_both, all_missed, all_polled}
-use Rattle.driver_laws.proofs.Prelude.{AllAre, AreMadeOf, AtEntries, Ends, IsAlong, IsEnding, IsOtherwise, IsPlain}
-use Rattle.driver_laws.proofs.Prelude.{IsStrayRead, PollsEnd, StopsBy, and_one}
+use Rattle.driver_laws.proofs.Made.{all_before, all_missed, all_received, all_switched}
+use Rattle.driver_laws.proofs.Prelude.{AllAre, AreMadeOf, AtEntries, Ends, IsAlong, IsEnable, IsEnding, IsOtherwise}
+use Rattle.driver_laws.proofs.Prelude.{IsPlain, IsStrayRead, PollsEnd, StopsBy, and_one}
 use Rattle.driver_laws.specs.Ending.{Each, IsAsking}
 use Rattle.driver_laws.specs.Prelude.{Access, AreMade, AtPort, Block, Blocks, Call, DeviceFault, Dir, EachRingBlock}
-use Rattle.driver_laws.specs.Prelude.{Entry, Event, IsEvent, IsMade, IsNumberOf, IsPrepared, IsReceiveReady, IsSwitched}
-use Rattle.driver_laws.specs.Prelude.{LendsEach, Numbers, PmdFault, Port, Receive, Reply, RowId, Rx, Sees, Sets}
-use Rattle.driver_laws.specs.Prelude.{StartTimeout, State, SwitchFails, Tx, Watched, blocks_for, both_asked, both_quiet}
-use Rattle.driver_laws.specs.Prelude.{call_in, call_of, enable_row, has_bit, is_step, lent_by, missed, polled}
-use Rattle.driver_laws.specs.Prelude.{receive_polled, ring_blocks, ring_words, zero_block}
+use Rattle.driver_laws.specs.Prelude.{Entry, Event, IsMade, IsNumberOf, IsPrepared, IsSwitched, LendsEach, Numbers}
+use Rattle.driver_laws.specs.Prelude.{PmdFault, Port, Reply, RowId, Rx, Sees, Sets, StartTimeout, State, SwitchFails}
+use Rattle.driver_laws.specs.Prelude.{Tx, Watched, blocks_for, both_asked, call_of, enable_row, has_bit, is_driven}
+use Rattle.driver_laws.specs.Prelude.{is_step, lent_by, missed, polled, receive_polled, ring_blocks, ring_words}
+use Rattle.driver_laws.specs.Prelude.{zero_block}
 use Rattle.driver_laws.specs.Stopping.{Asks, BringingEnds, SwitchedOffAsks, UnswitchedAsks}
 use Rattle.nic_device.specs.declared.event.Event.TheVariants as event
 use Rattle.nic_device.specs.declared.event.Reply.TheVariants as reply
@@ -106,9 +107,6 @@ module _ (q : AtPort) (P : Event Block → Type 0) (K : Access → Type 0)
   -- both sides are asked and polled
   module _ (on : Bool) (sees : (side : Dir) (seen : Bool) → K (Sees (enable_row side) seen))
       (asked : AllAre K (both_asked on)) where
-    receive_own : (count : ℕ) → AllAre K (receive_polled on count)
-    receive_own count = all_both K (both_asked on) (polled Rx on count) asked (all_polled K on sees Rx count)
-
     missed_are : (side : Dir) (count : ℕ) (old new : List Call) → AreMade q old new (missed side on count) → Are old new
     missed_are side count old new made =
         accesses_are (missed side on count) old new (all_missed K on sees side count) made
@@ -125,15 +123,15 @@ module _ (q : AtPort) (P : Event Block → Type 0) (K : Access → Type 0)
     pub switched_are : (old new : List Call) → IsSwitched q old new on 1000 → Are old new
     switched_are old new (first, second, few, made) =
         accesses_are (receive_polled on first ++ polled Tx on second) old new
-        (all_both K (receive_polled on first) (polled Tx on second) (receive_own first)
-        (all_polled K on sees Tx second)) made
+        (all_switched K on sees asked first second) made
 
     pub unswitched_are : (f : PmdFault) (old new : List Call) → SwitchFails f q old new on 1000 → Are old new
     unswitched_are f old new (inl stops) = stops_are f (both_asked on) old new asked stops
     unswitched_are f old new (inr (inl (mid, made, polls))) =
         then_made P old mid new (accesses_are (both_asked on) old mid asked made) (polls_are f Rx 1000 mid new polls)
     unswitched_are f old new (inr (inr (first, mid, few, made, polls))) =
-        then_made P old mid new (accesses_are (receive_polled on first) old mid (receive_own first) made)
+        then_made P old mid new
+        (accesses_are (receive_polled on first) old mid (all_received K on sees asked first) made)
         (polls_are f Tx (1000 - first) mid new polls)
 
 -- what a driver writes as it starts are registers of its queue
@@ -147,10 +145,6 @@ pub accesses_plain : (q : AtPort) (all : List Access) (old new : List Call) → 
 accesses_plain q =
     accesses_are q (IsPlain q) IsDriven (step_plain q) (λ port number. tt)
     (λ row word number own named. (row, refl, own, named))
-
-lends_plain : (q : AtPort) (ns : List ℕ) (old new : List Call) → LendsEach old new ns
-    → AreMadeOf (IsPlain q) old new
-lends_plain q = lends_are (IsPlain q) (step_plain q) (λ n. tt)
 
 -- a step of the device asks, and calls that ask are those of a stop
 module _ (q : AtPort) where
@@ -167,29 +161,31 @@ module _ (q : AtPort) where
   pub asks_end : (old new : List Call) → Asks q old new → Ends q old new
   asks_end old new (cs, is, are) = (cs, is, each_such (IsAsking q) (IsEnding q) asking_ends cs are)
 
--- accesses that ask
+-- accesses of the enable words, which ask for no side to be on
 
 abbrev pub MayAsk : Access → Type 0
-MayAsk (Sees row on) = ⊤
-MayAsk (Sets row word) = (side : Dir) × (row ≡ enable_row side) × IsFalse (has_bit 25 word)
+MayAsk (Sees row on) = IsEnable row
+MayAsk (Sets row word) = IsEnable row × IsFalse (has_bit 25 word)
+
+pub enables : (side : Dir) → IsEnable (enable_row side)
+enables Rx = tt
+enables Tx = tt
+
+pub enable_driven : (row : RowId) → IsEnable row → is_driven row ≡ true
+enable_driven row is = grind (arith, common_steps)
 
 pub may_asks : (q : AtPort) (row : RowId) (word number : ℕ) → MayAsk (Sets row word)
     → IsNumberOf q.port row q.queue number → IsAsking q (event.Write q.port number word)
-may_asks q row word number (side, is, none) named =
-    (side, refl, none, subst (λ (x : RowId). IsNumberOf q.port x q.queue number) is named)
+may_asks q row word number asks named = search rules
 
-asked_may : AllAre MayAsk (both_asked false)
-asked_may = ((Rx, refl, refl), ((Tx, refl, refl), tt))
+pub asked_may : AllAre MayAsk (both_asked false)
+asked_may = ((tt, refl), ((tt, refl), tt))
 
 pub switched_off_asks : SwitchedOffAsks
-switched_off_asks q old new x =
-    switched_are q (IsAsking q) MayAsk (step_asks q) (λ port number. tt) (may_asks q) false (λ side seen. tt) asked_may
-    old new x
+switched_off_asks q old new x = search (rules, switched_are, step_asks, may_asks, enables, asked_may)
 
 pub unswitched_asks : UnswitchedAsks
-unswitched_asks f q old new x =
-    unswitched_are q (IsAsking q) MayAsk (step_asks q) (λ port number. tt) (may_asks q) false (λ side seen. tt)
-    asked_may f old new x
+unswitched_asks f q old new x = search (rules, unswitched_are, step_asks, may_asks, enables, asked_may)
 
 -- a block that is taken back
 taking_ends : (q : AtPort) (s t : Bringing) → BringsOne s t → Ends q s.made t.made
@@ -221,22 +217,15 @@ pub record IsLentBy (pass ring : ℕ) (h : List Entry) : Type 0 where
   pub low : ring < 65536
   pub mine : lent_by pass h ring ≡ true
 
-first : (pass ring : ℕ) (e : Entry) (h : List Entry) → e.pass ≡ pass → call_in e ≡ lending ring → IsEvent e.event
-    → IsLentBy pass ring (e ∷ h)
-first pass ring e h own is made = grind (arith, common_steps)
-
 pub lent_along : {w : Watched} {origin : State} {h : List Entry} (number : ℕ) (calls : List Call)
     → IsAlong w origin h → Has (lending number) calls → AtEntries w h calls (λ done. IsLentBy w.pass number h)
 lent_along {w = w} {h = h} number calls along has done rest all is =
     let x = around w.pass done has.before (lending number) has.behind (is ∙ has.all) in
     let whole : x.before ++ x.entry ∷ (x.behind ++ rest) ≡ h =
     sym (append_assoc x.before (x.entry ∷ x.behind) rest) ∙ ap (λ (l : List Entry). l ++ rest) x.all ∙ all in
-    let there = first w.pass number x.entry (x.behind ++ rest) x.own x.call
-    (entry_is along x.before (x.behind ++ rest) x.entry whole).made in
-    record {
-      low = there.low;
-      mine = grind (arith, common_steps, lent_behind);
-    }
+    let is = entry_is along x.before (x.behind ++ rest) x.entry whole in
+    let there : IsLentBy w.pass number (x.entry ∷ (x.behind ++ rest)) = grind (arith, common_steps, x, is) in
+    search (rules, lent_behind)
 
 -- where a ring was prepared some calls were made, and each of its blocks was lent by one of them
 
@@ -265,15 +254,7 @@ module _ {q : AtPort} {side : Dir} {size : ℕ} {old : List Call} {a : Numbers} 
       let words = ring_words side ring size in
       then_made (IsPlain q) old x.mid new
       (accesses_plain q words old x.mid (writes_driven words (words_are_writes side ring size)) x.words)
-      (lends_plain q (ring_blocks ring size) x.mid new x.lent)
-
--- both sides are seen off before the receive ring is
-pub ready_plain : {q : AtPort} {size frame : ℕ} {old : List Call} {a : Numbers} {new : List Call} {b : Numbers}
-    {v : Receive} → IsReceiveReady q size frame old a new b v → AreMadeOf (IsPlain q) old new
-ready_plain {q = q} {old = old} {new = new} x =
-    then_made (IsPlain q) old x.mid new
-    (accesses_plain q both_quiet old x.mid (refl, (refl, (refl, (refl, (refl, (refl, tt)))))) x.quiet)
-    (prepared_plain x.prepared)
+      (lends_are (IsPlain q) (step_plain q) (λ n. tt) (ring_blocks ring size) x.mid new x.lent)
 
 -- the blocks of a list are among those that are lent
 

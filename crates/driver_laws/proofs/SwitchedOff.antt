@@ -1,27 +1,27 @@
 -- The sides of a queue while its driver stops or starts: one that is on, or isn't wanted on, doesn't go on; and both
 -- are asked off and seen off, and stay so. Then nothing is received or sent, over events that leave the queue alone and
 -- calls of a stop.
+use Rattle.std.proofs.{lemmas.Grind.common_steps, lemmas.List.append-nil, lemmas.List.append_cancel_left}
 use Rattle.std.proofs.Common.{[], ◌&&◌, ◌++◌, ◌∙◌, ◌∷◌, ◌≡◌, ◌≢◌, Bool, List, None, Option, Some, ℕ, ap, arith, false}
-use Rattle.std.proofs.Common.{inl, inr, not, option_map, refl, subst, sym, true}
-use Rattle.std.proofs.lemmas.{Grind.common_steps, List.append-nil, List.append_cancel_left}
+use Rattle.std.proofs.Common.{inl, inr, not, option_map, refl, rules, subst, sym, true, zero}
 use Rattle.std.specs.Prelude.{IsFalse}
 use Rattle.ring_laws.proofs.HistoryLaws.Steady.{IsSteady, deed_settles, off_idle, off_steady, seen_off, unwanted_steady}
-use Rattle.ring_laws.specs.{Delivered.packets_if_any, HistoryLaws.Sides.IsUnwanted}
-use Rattle.driver_laws.proofs.{Parts.calls_joined, Words.each_side, Words.side_driven}
-use Rattle.driver_laws.proofs.Ground.{ground_kept, ground_names, plain_keeps, read_ground, write_ground}
-use Rattle.driver_laws.proofs.Made.{access_leads, all_missed, all_polled, first_seen, made_some}
+use Rattle.ring_laws.specs.{Delivered.delivered, Delivered.packets_if_any, HistoryLaws.Sides.IsUnwanted}
+use Rattle.driver_laws.proofs.{Parts.calls_joined, Points.idle_left, Words.each_side, Words.side_driven}
+use Rattle.driver_laws.proofs.Ground.{ground_kept, ground_names, plain_keeps}
+use Rattle.driver_laws.proofs.Made.{all_missed, all_polled, first_seen, made_some, state_access}
 use Rattle.driver_laws.proofs.Prelude.{AllAre, AtCalls, Deed, Ends, HasGround, IsAlong, IsEnding, IsKept, IsMet, IsOff}
-use Rattle.driver_laws.proofs.Prelude.{IsPlain, IsQuiet, NamesRow, Piece, Stands, WritesOutside, asked, idle_silent}
-use Rattle.driver_laws.proofs.Prelude.{left_deed, memory_rest, no_block, no_registers, none_begun_while_off, not_again}
-use Rattle.driver_laws.proofs.Prelude.{packets_of, queues_left, read_rest, sent_is_counted, since-append, steady_kept}
-use Rattle.driver_laws.proofs.Reached.{entry_is, free_left, made_keep, reached_next, sound_at, walk}
-use Rattle.driver_laws.proofs.StopCalls.{MayAsk, accesses_are, may_asks, none_made, stays_some, step_ends, then_made}
+use Rattle.driver_laws.proofs.Prelude.{IsPlain, IsQuiet, NamesRow, Piece, Stands, asked, left_deed, memory_rest}
+use Rattle.driver_laws.proofs.Prelude.{no_block, none_begun_while_off, not_again, packets_of, queues_left, read_rest}
+use Rattle.driver_laws.proofs.Prelude.{sent_is_counted, since-append, steady_kept}
+use Rattle.driver_laws.proofs.Reached.{entry_is, made_keep, reached_next, sound_at, step_left, walk, watching}
+use Rattle.driver_laws.proofs.StopCalls.{MayAsk, accesses_are, enables, may_asks, none_made, stays_some, step_ends}
+use Rattle.driver_laws.proofs.StopCalls.{then_made}
 use Rattle.driver_laws.specs.{Ending.Each, Quiet.OffSidesStand, Quiet.ReceiveGuardIsOff, Standing.IsLeft}
 use Rattle.driver_laws.specs.Prelude.{Access, AreMade, AtPort, Block, Blocks, Call, Dir, Entry, Event, IsEvent, IsMade}
-use Rattle.driver_laws.specs.Prelude.{IsNumberOf, LeavesBlocks, LeavesRegisters, Reply, Rx, Rxdctl, Sees, Sets, Side}
-use Rattle.driver_laws.specs.Prelude.{State, Tx, Txdctl, Watched, after, calls_of, enable_row, has_bit, is_on, is_step}
-use Rattle.driver_laws.specs.Prelude.{leads_to, lent_by, missed, mode_in, pieces, pieces_since, polled, quiet}
-use Rattle.driver_laws.specs.Prelude.{receive_polled, sent_by, sent_since, side_of}
+use Rattle.driver_laws.specs.Prelude.{IsNumberOf, Rx, Rxdctl, Sees, Sets, Side, State, Tx, Txdctl, Watched, after}
+use Rattle.driver_laws.specs.Prelude.{calls_of, enable_row, has_bit, is_on, leads_to, lent_by, missed, pieces}
+use Rattle.driver_laws.specs.Prelude.{pieces_since, polled, quiet, receive_polled, sent_by, sent_since, side_of}
 use Rattle.driver_laws.specs.Quieting.{QuietSidesStand, QuietingLeads}
 use Rattle.driver_laws.specs.Silent.{IsSilent, QuietQueueIsSilent, SwitchingOffLeads}
 use Rattle.nic_device.specs.declared.event.Event.TheVariants as event
@@ -37,24 +37,6 @@ Settles dir queue s t = steady.Settles (side_of dir queue s) (side_of dir queue 
 pub left_settles : (dir : Dir) (w : Watched) (mine : Blocks) (s : State) (e : Event Block) → IsLeft w mine s e
     → IsSettled dir w.queue s → Settles dir w.queue s (after s e)
 left_settles dir w mine s e x is = deed_settles dir w.queue s e (left_deed dir w mine s e x) is
-
--- a step of the device leaves each queue alone
-
-pub outside_none : (queue : ℕ) (r : Reply Block) → WritesOutside queue no_block r
-outside_none queue r = grind (arith, common_steps)
-
-abbrev pub watching : ℕ → State → Watched
-watching queue s = record { vfs = s.vfs; pass = 0; queue = queue }
-
--- so does an event that writes no register
-pub alone_left : (queue : ℕ) (s : State) (e : Event Block) → IsMet queue s → IsEvent e
-    → LeavesRegisters (watching queue s) (mode_in s.registers) e × LeavesBlocks no_block e
-    → IsLeft (watching queue s) no_block s e
-alone_left queue s e met made free = grind (arith, common_steps, free_left, no_block, outside_none)
-
-pub step_left : (queue : ℕ) (s : State) (e : Event Block) → IsMet queue s → IsEvent e → is_step e ≡ true
-    → IsLeft (watching queue s) no_block s e
-step_left queue s e met made is = grind (arith, common_steps, alone_left, no_registers, no_block)
 
 -- what an event of a stop does to a side: it leaves it or asks it not to be on; or the device does what it does
 module _ (dir : Dir) (P : Side → Type 0) (R : Side → Side → Type 0) (same : (x y : Side) → y ≡ x → P x → R x y)
@@ -107,14 +89,24 @@ module _ (P : Side → Type 0) (is : IsShutting P) (queue : ℕ) (q : AtPort) (f
       (λ x y wanted same none p. subst P (sym same) (is.asks x wanted none p))
       (λ queue s e did p. steady_kept dir queue s e P p is.stays did) queue q frame s met g p e made ends
 
--- both sides stay off
+-- an event by which nothing is received or sent, and behind which both sides are off
+record StaysQuiet (queue : ℕ) (q : AtPort) (frame : ℕ) (s : State) (e : Event Block) : Type 0 where
+  quiet : IsQuiet queue q frame (after s e)
+  received : pieces queue s e ≡ []
+  sent : sent_by queue s e ≡ []
+
+left_stays : (w : Watched) (mine : Blocks) (q : AtPort) (frame : ℕ) (s : State) (e : Event Block) → IsLeft w mine s e
+    → IsQuiet w.queue q frame s → StaysQuiet w.queue q frame s e
+left_stays w mine q frame s e left x =
+    let rx = idle_left Rx IsOff off_idle w mine s e left x.receive in
+    let tx = idle_left Tx IsOff off_idle w mine s e left x.transmit in record {
+      quiet = record { ground = ground_kept w mine q frame s e left x.ground; receive = rx.0; transmit = tx.0 };
+      received = rx.1;
+      sent = tx.1.sent;
+    }
 
 pub quiet_kept : (w : Watched) (mine : Blocks) (q : AtPort) (frame : ℕ) → IsKept w mine (IsQuiet w.queue q frame)
-quiet_kept w mine q frame s e x b = record {
-  ground = ground_kept w mine q frame s e x b.ground;
-  receive = steady_kept Rx w.queue s e IsOff b.receive off_steady (left_deed Rx w mine s e x);
-  transmit = steady_kept Tx w.queue s e IsOff b.transmit off_steady (left_deed Tx w mine s e x);
-}
+quiet_kept w mine q frame s e left x = (left_stays w mine q frame s e left x).quiet
 
 pub ending_quiet : (queue : ℕ) (q : AtPort) (frame : ℕ) (s : State) (e : Event Block) → IsMet queue s → IsEvent e
     → IsEnding q e → IsQuiet queue q frame s → IsQuiet queue q frame (after s e)
@@ -172,18 +164,18 @@ module _ {w : Watched} {origin : State} {h : List Entry} (q : AtPort) (frame : �
       → AtCalls w origin h new (One IsOff)
   shut_at old m1 m2 m3 m4 new first asks then sees rest some at =
       let some_two = made_some q m1 m2 (Sets (enable_row dir) 0) asks in
-      let asked_at = access_leads q along Ground (One IsUnwanted) (Sets (enable_row dir) 0)
+      let asked_at = state_access q along Ground (One IsUnwanted) (Sets (enable_row dir) 0)
       (ground_kept w mine q frame) (one_kept IsUnwanted unwanted_steady)
       (λ number named s met made told g. (
-        write_ground w.queue q frame s (enable_row dir) 0 number (side_driven dir) named g,
+        plain_keeps w.queue q frame s _ (enable_row dir, refl, side_driven dir, named) g,
         ap (λ (x : Side). x.wanted)
             (asked w.queue s met.sound met.small q.port number 0 dir (names s g number named)),
       ))
       m1 m2 asks (stays_some (IsEnding q) old m1 first some) (ground_keeps old m1 first some at) in
-      let off_at = access_leads q along (One IsUnwanted) (One IsOff) (Sees (enable_row dir) false)
+      let off_at = state_access q along (One IsUnwanted) (One IsOff) (Sees (enable_row dir) false)
       (one_kept IsUnwanted unwanted_steady) (one_kept IsOff off_steady)
       (λ number word named zero s met made told (g, none). (
-        read_ground w.queue q frame s number g,
+        plain_keeps w.queue q frame s (event.Read q.port number) tt g,
         seen_off w.queue s q.port number word (sym told) dir (names s g number named) zero none,
       ))
       m3 m4 sees (stays_some (IsEnding q) m2 m3 then some_two)
@@ -201,13 +193,13 @@ pub quieting_leads : QuietingLeads
 quieting_leads w q frame origin h old new along (m1, a1, (m2, a2, (m3, a3, (m4, a4, (m5, a5, (m6, a6, e)))))) at =
     let some = made_some q old m1 (Sees Rxdctl false) a1 in
     let named = first_seen w q origin h (HasGround w.queue q frame) along (ground_kept w (lent_by w.pass h) q frame)
-    (λ s number g. read_ground w.queue q frame s number g) Rxdctl false old m1 a1 at in
+    (λ s number g. plain_keeps w.queue q frame s (event.Read q.port number) tt g) Rxdctl false old m1 a1 at in
     let none : (made : List Call) → Ends q made made = λ made. none_made (IsEnding q) made made refl in
     both_off q frame along new
     (shut_at q frame along Rx m1 m1 m2 m2 m3 new (none m1) a2 (none m2) a3
-    (asks_are q (quiet Tx) m3 new (tt, ((Tx, refl, refl), (tt, tt))) (m4, a4, (m5, a5, (m6, a6, e)))) some named)
+    (asks_are q (quiet Tx) m3 new (tt, ((tt, refl), (tt, tt))) (m4, a4, (m5, a5, (m6, a6, e)))) some named)
     (shut_at q frame along Tx m1 m4 m5 m5 m6 new
-    (asks_are q (Sets Rxdctl 0 ∷ Sees Rxdctl false ∷ Sees Txdctl false ∷ []) m1 m4 ((Rx, refl, refl), (tt, (tt, tt)))
+    (asks_are q (Sets Rxdctl 0 ∷ Sees Rxdctl false ∷ Sees Txdctl false ∷ []) m1 m4 ((tt, refl), (tt, (tt, tt)))
     (m2, a2, (m3, a3, (m4, a4, refl)))) a5 (none m5) a6 (none_made (IsEnding q) m6 new e) some named)
 
 -- accesses in two parts
@@ -225,11 +217,11 @@ switching_off_leads w q frame origin h old new along (first, second, few, made) 
     let (m5, missed_tx, (m6, seen_tx, e)) =
     both_parts q (missed Tx false second) (Sees Txdctl false ∷ []) mid new more in
     let polled_ends : (side : Dir) (n : ℕ) (a b : List Call) → AreMade q a b (polled side false n) → Ends q a b =
-    λ side n a b. asks_are q (polled side false n) a b (all_polled MayAsk false (λ side seen. tt) side n) in
+    λ side n a b. asks_are q (polled side false n) a b (all_polled MayAsk false (λ side seen. enables side) side n) in
     let missed_ends : (side : Dir) (n : ℕ) (a b : List Call) → AreMade q a b (missed side false n) → Ends q a b =
-    λ side n a b. asks_are q (missed side false n) a b (all_missed MayAsk false (λ side seen. tt) side n) in
+    λ side n a b. asks_are q (missed side false n) a b (all_missed MayAsk false (λ side seen. enables side) side n) in
     let asked_ends : (side : Dir) (a b : List Call) → IsMade q a b (Sets (enable_row side) 0) → Ends q a b =
-    λ side a b is. asks_are q (Sets (enable_row side) 0 ∷ []) a b ((side, refl, refl), tt) (b, is, refl) in
+    λ side a b is. asks_are q (Sets (enable_row side) 0 ∷ []) a b ((enables side, refl), tt) (b, is, refl) in
     both_off q frame along new
     (shut_at q frame along Rx old old m1 m3 m4 new (none_made (IsEnding q) old old refl) a1
     (then_made (IsEnding q) m1 m2 m3 (asked_ends Tx m1 m2 a2) (missed_ends Rx first m2 m3 missed_rx)) seen_rx
@@ -254,13 +246,7 @@ off_stands : (x : Side) → x.staged ≡ [] → IsOff x → Stands x x
 off_stands x none off = grind (arith, common_steps)
 
 pub off_sides_stand : OffSidesStand
-off_sides_stand queue s sound off transmit_off = record {
-  side = each_side (λ dir. Stands (side_of dir queue s) (side_of dir queue s))
-      (off_stands (side_of Rx queue s) refl off)
-      (off_stands (side_of Tx queue s) (sound.bare queue transmit_off.off) transmit_off);
-  begun = none_begun_while_off queue s sound off.off;
-  zero = λ b is. cc;
-}
+off_sides_stand queue s sound off transmit_off = search (rules, each_side, off_stands, none_begun_while_off)
 
 -- two sides that are seen off stand as they are, with no block lent
 
@@ -282,34 +268,19 @@ quiet_sides_stand w q frame origin h calls along quiet done rest all is =
       },
     )
 
--- an event by which nothing is received or sent, and behind which the sides are off
-record StaysQuiet (queue : ℕ) (q : AtPort) (frame : ℕ) (s : State) (e : Event Block) : Type 0 where
-  quiet : IsQuiet queue q frame (after s e)
-  received : pieces queue s e ≡ []
-  sent : sent_by queue s e ≡ []
-
-left_stays : (w : Watched) (mine : Blocks) (q : AtPort) (frame : ℕ) (s : State) (e : Event Block) → IsLeft w mine s e
-    → IsQuiet w.queue q frame s → StaysQuiet w.queue q frame s e
-left_stays w mine q frame s e left x = record {
-  quiet = quiet_kept w mine q frame s e left x;
-  received = idle_silent Rx w.queue s e IsOff x.receive off_idle (left_deed Rx w mine s e left);
-  sent = (idle_silent Tx w.queue s e IsOff x.transmit off_idle (left_deed Tx w mine s e left)).sent;
-}
-
 ending_stays : (queue : ℕ) (q : AtPort) (frame : ℕ) (s : State) (e : Event Block) → IsMet queue s → IsEvent e
     → IsEnding q e → IsQuiet queue q frame s → StaysQuiet queue q frame s e
+ending_stays queue q frame s (event.Write port number word) met made ends x =
+    let quiet = ending_quiet queue q frame s (event.Write port number word) met made ends x in
+    record { quiet = quiet; received = refl; sent = refl }
+ending_stays queue q frame s (event.Read port number) met made ends x =
+    let quiet = ending_quiet queue q frame s (event.Read port number) met made ends x in
+    record { quiet = quiet; received = refl; sent = refl }
+ending_stays queue q frame s (event.Take number) met made ends x =
+    let quiet = ending_quiet queue q frame s (event.Take number) met made ends x in
+    record { quiet = quiet; received = refl; sent = refl }
 ending_stays queue q frame s e met made ends x =
-    let silent = none_told e met made ends in
-    record { quiet = ending_quiet queue q frame s e met made ends x; received = silent.0; sent = silent.1 }
-  where
-    none_told : (e : Event Block) → IsMet queue s → IsEvent e → IsEnding q e
-        → (pieces queue s e ≡ []) × (sent_by queue s e ≡ [])
-    none_told (event.Write port number word) met made ends = (refl, refl)
-    none_told (event.Read port number) met made ends = (refl, refl)
-    none_told (event.Take number) met made ends = (refl, refl)
-    none_told e met made ends =
-        let stays = left_stays (watching queue s) no_block q frame s e (step_left queue s e met made ends) x in
-        (stays.received, stays.sent)
+    left_stays (watching queue s) no_block q frame s e (step_left queue s e met made ends) x
 
 none_more : (so_far : Option (List Piece)) → packets_if_any (option_map (λ qs. qs ++ []) so_far) ≡ packets_if_any so_far
 none_more None = refl
@@ -361,8 +332,8 @@ quiet_queue_is_silent w q frame origin h done rest old new along some at (ends, 
           (ending_stays w.queue q frame (leads_to origin now) e.event entry.met entry.made x.1.0 x.0.quiet) x.0,
       x.1.1,
     ))
-    done rest [] (append-nil (done ++ rest) ∙ all) (λ none. some (sym calls ∙ none)) (
+    done rest h [] all (append-nil h) (λ none. some (sym calls ∙ none)) (
       record { quiet = at done rest all calls; same = record { delivered = refl; sent = refl } },
       subst (Each (λ c. IsEnding q c.event)) (sym later) own,
     ) in
-    subst (λ (l : List Entry). IsSilent w origin l done) all over.0.same
+    over.0.same

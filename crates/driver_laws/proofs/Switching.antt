@@ -1,8 +1,8 @@
 -- The words of both rings are written where neither side is wanted on, and both are asked on and polled until they are:
 -- the fresh sides that that leads to, where device and driver agree.
-use Rattle.std.proofs.Common.{[], ◌%◌, ◌*◌, ◌++◌, ◌+◌, ◌/◌, ◌<◌, ◌^◌, ◌∙◌, ◌∷◌, ◌≡◌, ◌≤◌, Bool, List, ℕ, ap, arith}
-use Rattle.std.proofs.Common.{false, inl, refl, replicate, suc, true, zero}
-use Rattle.std.proofs.lemmas.{Bool.or_right, Grind.common_steps}
+use Rattle.std.proofs.{lemmas.Bool.or_right, lemmas.Grind.common_steps}
+use Rattle.std.proofs.Common.{[], ◌%◌, ◌*◌, ◌++◌, ◌+◌, ◌/◌, ◌<◌, ◌^◌, ◌∷◌, ◌≡◌, ◌≤◌, Bool, List, ℕ, ap, arith, false}
+use Rattle.std.proofs.Common.{inl, refl, replicate, rules, suc, true, zero}
 use Rattle.ring_laws.proofs.{Kept.first_place, Leaving.start_agrees}
 use Rattle.driver_laws.{proofs.Points.laid_with, specs.Points.MayWrite}
 use Rattle.driver_laws.proofs.Prelude.{AllMay, Fits, IsEnable, IsSized, IsZero, Sides, after_access, after_accesses}
@@ -108,13 +108,7 @@ module _ (ring size other : ℕ) (one : IsSized ring size) (two : IsSized other 
   polls_end : (polls more : ℕ)
       → after_accesses ((missed Rx true polls ++ Sees Rxdctl true ∷ []) ++ polled Tx true more) asked_on
       ≡ seen_by Txdctl true (seen_by Rxdctl true asked_on)
-  polls_end polls more =
-      after-append (missed Rx true polls ++ Sees Rxdctl true ∷ []) (polled Tx true more) asked_on
-      ∙ ap (after_accesses (polled Tx true more))
-      (after-append (missed Rx true polls) (Sees Rxdctl true ∷ []) asked_on
-      ∙ ap (seen_by Rxdctl true) (missed_same Rx polls asked_on))
-      ∙ after-append (missed Tx true more) (Sees Txdctl true ∷ []) (seen_by Rxdctl true asked_on)
-      ∙ ap (seen_by Txdctl true) (missed_same Tx more (seen_by Rxdctl true asked_on))
+  polls_end polls more = search (rules, after-append, after_accesses, seen_by, missed_same)
 
   pub comes_up : (polls more : ℕ) → after_accesses (switching polls more) (laid ring size other p)
       ≡ came_up ring size other p
@@ -125,21 +119,7 @@ zero_lent m b is = rw is refl
 
 pub fresh_receive_agrees : FreshReceiveAgrees
 fresh_receive_agrees queue s y on wanted port tail ring size most sized names empty x =
-    start_agrees queue port tail ring size most s (record {
-      some = sized.some;
-      few = sized.few;
-      low = sized.low;
-      named = names;
-      side = record {
-        one_buffer = ap (λ (q : Side). q.control / 2 ^ 25 % 2 ^ 3) x.same;
-        buffer_size = ap (λ (q : Side). 1024 * (q.control % 2 ^ 5)) x.same;
-        base = ap (λ (q : Side). q.ring.base) x.same;
-        sized = ap (λ (q : Side). q.ring.length) x.same;
-        head = ap (λ (q : Side). q.ring.head) x.same;
-        tail = ap (λ (q : Side). q.ring.tail) x.same;
-      };
-      there = λ k below. zero_lent s.memory (ring + k) (empty k below);
-    })
+    search (rules, start_agrees, zero_lent)
 
 -- how long a driver's packets are at most
 few_bytes : (frame : ℕ) → is_frame frame ≡ true → packet_limit frame ≤ 10240
@@ -152,21 +132,8 @@ fresh_transmit_agrees queue s y on wanted port tail ring size frame small sound 
       record {
         based = grind (arith, common_steps, few_bytes);
         set_up = grind (arith, common_steps, first_place);
-        counted = record {
-          room = sized.some;
-          done_fetched = omega arith;
-          fetched_posted = omega arith;
-          posted_poked = omega arith;
-          poked_lent = omega arith;
-          lent_known = omega arith;
-          apart = λ i j a b ne. absurd (omega (arith, a));
-        };
-        shows = record {
-          ring = λ k below. zero_lent s.memory (ring + k) (empty k below);
-          ready = λ k a. absurd (omega (arith, a));
-          done = λ k a. absurd (omega (arith, a));
-          waits = λ k a b. absurd (omega (arith, b));
-        };
+        counted = grind (arith, common_steps);
+        shows = search (rules, zero_lent);
         sends = inl (record { packets = ap (λ (q : Side). q.staged) same; in_order = refl });
       },
     )

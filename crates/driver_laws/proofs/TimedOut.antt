@@ -1,42 +1,30 @@
 -- A start that times out polled 1,000 times, and its polls are among its pass's calls.
+use Rattle.std.proofs.{lemmas.Bool.eq-eqb, lemmas.Bool.ne_eqb, lemmas.Grind.common_steps, lemmas.List.append-nil}
 use Rattle.std.proofs.Common.{[], ◌++◌, ◌+◌, ◌-◌, ◌<◌, ◌∙◌, ◌∷◌, ◌≡◌, ◌≢◌, Bool, List, ℕ, ap, append_assoc, arith}
 use Rattle.std.proofs.Common.{false, inl, inr, refl, suc, sym, true, zero}
-use Rattle.std.proofs.lemmas.{Bool.cond_both, Bool.eq-eqb, Bool.ne_eqb, Grind.common_steps, List.append-nil}
-use Rattle.std.specs.Prelude.{◌&&◌, ◌==◌, Err, None, Option, Some, if◌then◌else◌, nat_lt}
+use Rattle.std.specs.Prelude.{◌==◌, Err, None, Option, Some}
 use Rattle.nic_device.specs.RegTable.Rows.{rows}
 use Rattle.pmd.{proofs.PmdSeam.QueueSequences.both_made as made_after, specs.Started.IsShut}
-use Rattle.pmd.specs.PmdSeam.declared.fault.PmdFault.TheVariants.{BadSize, NoBuffer}
 use Rattle.driver_laws.proofs.Made.{OfCall, all_both, all_missed, all_polled, made_by}
-use Rattle.driver_laws.proofs.Prelude.{AllAre, AreMadeOf, GoingOnFails, IsPlain, has_room, queues_named}
-use Rattle.driver_laws.proofs.StopCalls.{prepared_plain, ready_plain, then_made}
+use Rattle.driver_laws.proofs.Prelude.{AllAre, AreMadeOf, GoingOnFails, IsPlain}
+use Rattle.driver_laws.proofs.StopCalls.{accesses_plain, prepared_plain, then_made}
 use Rattle.driver_laws.specs.Polls.{AreEnables, Enables, PollsAreTold, asked_after, is_missed, missed_in}
-use Rattle.driver_laws.specs.Prelude.{Access, AreMade, AreSteps, AtPort, Block, Call, DeviceFault, Dir, Event}
-use Rattle.driver_laws.specs.Prelude.{IsNumberOf, Numbers, PmdFault, Port, PreparingFails, Receive, ReceiveFails, Reply}
-use Rattle.driver_laws.specs.Prelude.{RowId, Rx, Rxdctl, Sees, StartRefused, StartTimeout, StopsStarting, SwitchFails}
-use Rattle.driver_laws.specs.Prelude.{Tx, Txdctl, both_asked, enable_row, is_frame, is_size, is_step, missed}
-use Rattle.driver_laws.specs.Prelude.{receive_polled, start_gate}
+use Rattle.driver_laws.specs.Prelude.{Access, AreMade, AreSteps, AtPort, Block, Call, Dir, Event, IsNumberOf, Numbers}
+use Rattle.driver_laws.specs.Prelude.{PmdFault, Port, PreparingFails, Receive, Reply, RowId, Rx, Rxdctl, Sees}
+use Rattle.driver_laws.specs.Prelude.{StartRefused, StartTimeout, StopsStarting, SwitchFails, Tx, Txdctl, both_asked}
+use Rattle.driver_laws.specs.Prelude.{both_quiet, enable_row, is_step, missed, receive_polled, start_gate}
 use Rattle.driver_laws.specs.TimedOut.{Asked, IsOfEnable, TimeoutsPoll, TimesOut, asked_by, is_miss, misses, none_asked}
-use Rattle.nic_device.specs.declared.event.Event.TheVariants as event
 
 -- so many reads of a side that is asked on, in vain
 
 abbrev both : Asked
 both = record { receive = true; transmit = true }
 
-none_more : (k : ℕ) → k ≡ 0 + k
-none_more k = omega arith
-
-one_more : (n k : ℕ) → 1 + (n + k) ≡ suc n + k
-one_more n k = omega arith
-
 side_misses : (side : Dir) (n : ℕ) (rest : List Access)
     → misses both (missed side true n ++ rest) ≡ n + misses both rest
-side_misses side zero rest = none_more (misses both rest)
-side_misses Rx (suc n) rest = ap (λ k. 1 + k) (side_misses Rx n rest) ∙ one_more n (misses both rest)
-side_misses Tx (suc n) rest = ap (λ k. 1 + k) (side_misses Tx n rest) ∙ one_more n (misses both rest)
-
-asks : (rest : List Access) → misses none_asked (both_asked true ++ rest) ≡ misses both rest
-asks rest = sym (none_more (0 + misses both rest)) ∙ sym (none_more (misses both rest))
+side_misses side zero rest = omega arith
+side_misses Rx (suc n) rest = let later = side_misses Rx n rest in omega (arith, later)
+side_misses Tx (suc n) rest = let later = side_misses Tx n rest in omega (arith, later)
 
 receive_alone : misses none_asked (both_asked true ++ missed Rx true 1000) ≡ 1000
 receive_alone = grind (arith, common_steps, misses, both, append-nil, missed, side_misses)
@@ -45,13 +33,9 @@ one_after_the_other : (first : ℕ) → first < 1000
     → misses none_asked (receive_polled true first ++ missed Tx true (1000 - first)) ≡ 1000
 one_after_the_other first few =
     let more : List Access = missed Tx true (1000 - first) in
-    let all : first + ((1000 - first) + 0) ≡ 1000 = omega (arith, few) in
-    asks ((missed Rx true first ++ Sees Rxdctl true ∷ []) ++ more)
-    ∙ ap (misses both) (append_assoc (missed Rx true first) (Sees Rxdctl true ∷ []) more)
-    ∙ side_misses Rx first (Sees Rxdctl true ∷ more)
-    ∙ ap (λ k. first + k)
-    (sym (none_more (misses both more)) ∙ ap (misses both) (sym (append-nil more)) ∙ side_misses Tx (1000 - first) [])
-    ∙ all
+    let last = rw append-nil at (side_misses Tx (1000 - first) []) in
+    let whole = append_assoc (missed Rx true first) (Sees Rxdctl true ∷ []) more in
+    rw (whole, side_misses Rx first (Sees Rxdctl true ∷ more)) (omega (arith, few, last))
 
 -- these are accesses of the enable words alone
 enable_reads : (side : Dir) (seen : Bool) → IsOfEnable (Sees (enable_row side) seen)
@@ -77,59 +61,45 @@ module _ (q : AtPort) (size frame : ℕ) where
         all_both IsOfEnable (receive_polled true first) (missed Tx true (1000 - first))
         (tt, (tt, all_polled IsOfEnable true enable_reads Rx first))
         (all_missed IsOfEnable true enable_reads Tx (1000 - first));
-    made =
-        rw (← is)
-        (made_after q mid between new (receive_polled true first) (missed Tx true (1000 - first)) asked polls);
+    made = rw (← is) (made_after q mid between new (receive_polled true first) _ asked polls);
     polls = one_after_the_other first few;
   }
 
   never_preparing : (side : Dir) (old : List Call) (a : Numbers) (new : List Call) (b : Numbers) (out : List ℕ)
       → PreparingFails StartTimeout q side size old a new b out → ⊥
-  never_preparing side old a new b out (ring, free, inl (stops, same, empty)) = stops.6
-  never_preparing side old a new b out (ring, free, inr (mid, made, stops)) = stops.fails
+  never_preparing side old a new b out x = grind (arith, common_steps)
 
   module _ (old : List Call) (a : Numbers) (new : List Call) (e : StartRefused) where
-    never_receiving : (b : Numbers) (out : List ℕ) → ReceiveFails StartTimeout q size old a new b out → ⊥
-    never_receiving b out x = grind (arith, common_steps, never_preparing)
-
     going_on : (mid : List Call) (b c : Numbers) (v w : Receive) → AreMadeOf (IsPlain q) old mid
         → GoingOnFails StartTimeout q mid b v new c w → TimesOut q old new
     going_on mid b c v w before (inl (fails, same, left)) = switching_times_out old mid new before fails
     going_on mid b c v w before (inr (on, switched, filling)) = absurd filling.fails
 
     amid : StopsStarting q size frame old a new e → e.fault ≡ StartTimeout → TimesOut q old new
-    amid (inl x) is = absurd (never_receiving x.arena x.out (rw is at x.fails))
+    amid (inl x) is = grind (arith, common_steps, never_preparing)
     amid (inr (inl x)) is = grind (arith, common_steps, never_preparing)
     amid (inr (inr x)) is =
         going_on x.both_made x.both_arena x.arena x.empty x.filled
-        (then_made (IsPlain q) old x.ready_made x.both_made (ready_plain x.receive)
-        (prepared_plain x.transmit.prepared))
+        (then_made (IsPlain q) old x.receive.mid x.both_made
+        (accesses_plain q both_quiet old x.receive.mid (refl, (refl, (refl, (refl, (refl, (refl, tt))))))
+        x.receive.quiet)
+        (then_made (IsPlain q) x.receive.mid x.ready_made x.both_made (prepared_plain x.receive.prepared)
+        (prepared_plain x.transmit.prepared)))
         (rw is at x.fails)
 
     -- before any event it answers no such fault
-    abbrev IsEarly : Option PmdFault → Type 0
-    IsEarly g =
-        IsShut g a old new (Err e) → (g ≡ None → StopsStarting q size frame old a new e) → e.fault ≡ StartTimeout
-        → TimesOut q old new
 
-    other : (f : PmdFault) → f ≢ StartTimeout → IsEarly (Some f)
-    other f apart shut stops is = absurd (apart (sym shut.0 ∙ is))
+    other_faults : start_gate a q size frame ≢ Some StartTimeout
+    other_faults is = grind (arith, common_steps)
 
-    by_gate : IsEarly (start_gate a q size frame)
-    by_gate =
-        cond_both (is_size size && is_frame frame) _ _ IsEarly
-        (λ sized. cond_both (has_room a size) _ _ IsEarly
-        (λ some. cond_both (nat_lt q.queue (queues_named q.port)) _ _ IsEarly
-        (λ named shut stops is. amid (stops refl) is) (λ none. other DeviceFault (λ d. cc)))
-        (λ none. other NoBuffer (λ d. cc)))
-        (λ none. other BadSize (λ d. cc))
+    by_gate : (g : Option PmdFault) → g ≢ Some StartTimeout → IsShut g a old new (Err e)
+        → (g ≡ None → StopsStarting q size frame old a new e) → e.fault ≡ StartTimeout → TimesOut q old new
+    by_gate None apart shut stops is = amid (stops refl) is
+    by_gate (Some f) apart shut stops is = absurd (apart (ap (λ x. Some x) (sym shut.0 ∙ is)))
 
 pub timeouts_poll : TimeoutsPoll
-timeouts_poll q size frame old a new e = by_gate q size frame old a new e
-
-number_same : (port : Port) (row : RowId) (queue n m : ℕ) → IsNumberOf port row queue n → IsNumberOf port row queue m
-    → n ≡ m
-number_same port row queue n m a b = grind (arith, common_steps)
+timeouts_poll q size frame old a new e =
+    by_gate q size frame old a new e (start_gate a q size frame) (other_faults q size frame old a new e)
 
 numbers_apart : (port : Port) (queue n m : ℕ) → IsNumberOf port Rxdctl queue n → IsNumberOf port Txdctl queue m → m ≢ n
 unfolding rows
@@ -144,11 +114,11 @@ module _ (w : Enables) where
   skipped : (before : List Call) → AreSteps before → (x : Asked) (cs : List Call)
       → missed_in w x (before ++ cs) ≡ missed_in w x cs
   skipped [] steps x cs = refl
-  skipped (c ∷ before) steps x cs = grind (arith, common_steps, step_plain, none_more, skipped before steps.1 x cs)
+  skipped (c ∷ before) steps x cs = grind (arith, common_steps, step_plain, skipped before steps.1 x cs)
 
 module _ (q : AtPort) (w : Enables) (are : AreEnables q w) where
   same : (row : RowId) (n m : ℕ) → IsNumberOf q.port row q.queue n → IsNumberOf q.port row q.queue m → (n == m) ≡ true
-  same row n m a b = eq-eqb n m (number_same q.port row q.queue n m a b)
+  same row n m a b = eq-eqb n m (grind (arith, common_steps))
 
   apart : (n : ℕ) → IsNumberOf q.port Txdctl q.queue n → (n == w.receive) ≡ false
   apart n named = ne_eqb n w.receive (numbers_apart q.port q.queue w.receive n are.receive named)
@@ -167,14 +137,8 @@ module _ (q : AtPort) (w : Enables) (are : AreEnables q w) where
       let t = made_by q (Tells a) a (access_tells a of.0) old mid one in
       let (missed, asked) = t.is x in
       let later = accesses_told rest mid new (asked_by a x) of.1 more in
-      let own : List Call = t.before ++ t.call ∷ [] in (
-        own ++ later.0,
-        later.1 ∙ ap (λ (l : List Call). l ++ later.0) t.added ∙ append_assoc old own later.0,
-        ap (missed_in w x) (append_assoc t.before (t.call ∷ []) later.0)
-            ∙ skipped w t.before t.steps x (t.call ∷ later.0)
-            ∙ (λ i. (if missed i then 1 else 0) + missed_in w (asked i) later.0)
-            ∙ ap (λ k. (if is_miss x a then 1 else 0) + k) later.2,
-      )
+      let own : List Call = t.before ++ t.call ∷ [] in
+      grind (arith, common_steps, append_assoc, skipped)
 
 pub polls_are_told : PollsAreTold
 polls_are_told q old new x w are =

@@ -1,14 +1,15 @@
 -- The words that a driver writes to the registers of a queue: each is its side's, whole, while that is off.
-use Rattle.std.proofs.{Math.Nat.mod-eq_of_lt, lemmas.Grind.common_steps}
+use Rattle.std.proofs.{Math.Nat.mod-eq_of_lt, lemmas.Grind.common_steps, lemmas.Nat.Bits.and_high_mask}
 use Rattle.std.proofs.Common.{◌%◌, ◌*◌, ◌+◌, ◌/◌, ◌<◌, ◌^◌, ◌∙◌, ◌≡◌, ℕ, ap, arith, false, inl, inr, refl, true}
-use Rattle.std.proofs.lemmas.Nat.{Bits.and_high_mask, and_comm, and_mask, and_mod, or_mod}
+use Rattle.std.proofs.lemmas.Nat.{and_comm, and_mask, and_mod, or_mod}
 use Rattle.std.specs.Int.Bits.{and_zero_l, or_zero_l}
-use Rattle.std.specs.Prelude.{if◌then◌else◌, IsFalse, None, Some, bit_and, bit_or}
-use Rattle.nic_device.proofs.RegisterLaws.{RowBits.word_small, SideWords.receive-written, SideWords.transmit-written}
-use Rattle.nic_device.proofs.RegisterLaws.{SoundWords.low_bits, Switches.receive-asked, Switches.transmit-asked}
-use Rattle.nic_device.specs.RegisterFile.{Bits.merged, Registers.Registers}
-use Rattle.nic_device.specs.RegisterLaws.{Laws.HasShape, Laws.after_write, Laws.word_after, Sides.TransmitQueue}
-use Rattle.nic_device.specs.Transmit.{staged_by}
+use Rattle.std.specs.Prelude.{IsFalse, None, Some, bit_and, bit_or, if◌then◌else◌}
+use Rattle.nic_device.proofs.{RegisterLaws.RowBits.word_small, RegisterLaws.SoundWords.low_bits}
+use Rattle.nic_device.proofs.RegisterLaws.SideWords.{receive-written, transmit-written}
+use Rattle.nic_device.proofs.RegisterLaws.Switches.{receive-asked, transmit-asked}
+use Rattle.nic_device.specs.{RegisterFile.Bits.merged, RegisterFile.Registers.Registers, Transmit.staged_by}
+use Rattle.nic_device.specs.RegisterLaws.Laws.{HasShape, after_write, word_after}
+use Rattle.nic_device.specs.RegisterLaws.Sides.{TransmitQueue}
 use Rattle.ring_laws.proofs.HistoryLaws.Leaving.{receive_left}
 use Rattle.ring_laws.proofs.HistoryLaws.Written.{merged_all, merged_low, receive-tail, transmit-tail}
 use Rattle.ring_laws.specs.HistoryLaws.Sides.{LeavesSide, receive_side, transmit_side}
@@ -113,9 +114,6 @@ base_high high low word short fits = grind (arith, common_steps, whole)
 slot : (old word : ℕ) → word < 2 ^ 16 → merged 0xFFFF old word % 2 ^ 16 ≡ word
 slot old word fits = merged_low old word ∙ mod-eq_of_lt fits
 
-no_bit : (word : ℕ) → word % 2 ^ 1 ≡ 0 → has_bit 0 word ≡ false
-no_bit word even = grind (arith, common_steps)
-
 module _ (queue : ℕ) (s : State) (small : queue < 128) (sound : IsSound s) where
   abbrev r : Registers
   r = s.registers
@@ -183,7 +181,7 @@ module _ (queue : ℕ) (s : State) (small : queue < 128) (sound : IsSound s) whe
   side_taken Tx off Tdt word fits = sends (transmit-tail r queue word shape small fits)
   side_taken Tx off Tdwbal word fits =
       let new : ℕ = word_after r (place Tdwbal queue) 0xFFFFFFFF word in
-      let none : has_bit 0 new ≡ false = no_bit new (merged-even (old Tdwbal) word fits) in
+      let none : has_bit 0 new ≡ false = grind (arith, common_steps, merged-even (old Tdwbal) word fits) in
       sends (transmit-written r shape Tdwbal queue refl small (inl refl) 0xFFFFFFFF word)
       ∙ (λ k. record tx { writeback = if none k then Some (old Tdwbah * 2 ^ 32 + 4 * (new / 4)) else None })
   side_taken Tx off Txdctl word fits = sends (transmit-asked r shape queue small 0xFFFFFFFF word)

@@ -1,5 +1,5 @@
 use Rattle.nic_device.specs.DmaRing.declared.dir.Dir.TheVariants.{Rx, Tx}
-use Rattle.driver_laws.proofs.Standing.{lend_stands, read_stands, write_stands}
+use Rattle.driver_laws.proofs.Points.{lend_stands, read_stands, write_stands}
 use Rattle.driver_laws.proofs.accesses_keep_sides_standing.Goals as goal
 
 pub returns : goal.returns

@@ -1,16 +1,16 @@
 -- A driver beside any calls of its author's is told by its own calls alone, over the history as it is told anew; and so
 -- are its start and its stop.
-use Rattle.pmd_laws.proofs.{NoFault.FindsAmid, NoFault.none_amid, StartFaultless.never_at_fault, Told.goes, Told.life}
-use Rattle.pmd_laws.proofs.Prelude.{[], ◌++◌, ◌∙◌, ◌∷◌, ◌≡◌, ◌⊎◌, AllFollow, AllFollowBy, AtPort, BeforeLast, Beside}
-use Rattle.pmd_laws.proofs.Prelude.{Call, Down, DrivesRings, Drove, Entry, FaultsEarly, FaultsFilling, Follows}
-use Rattle.pmd_laws.proofs.Prelude.{FollowsBy, HasGround, IsAlong, IsCalledBeside, IsFresh, IsLife, IsRetold}
-use Rattle.pmd_laws.proofs.Prelude.{IsToldAlone, IsToldAnew, IsToldBeside, IsToldBy, IsToldOf, Life, List, Moment}
-use Rattle.pmd_laws.proofs.Prelude.{NoneLent, Numbers, Rings, State, Told, Up, Watched, WhereUp, ℕ, anew, ap}
-use Rattle.pmd_laws.proofs.Prelude.{append-nil, append_cancel_left, by_own, events_same, halves_of, inl, inr, is_own}
-use Rattle.pmd_laws.proofs.Prelude.{last, legal_same, now, subst, sym}
-use Rattle.pmd_laws.proofs.Shifted.{fault_shift, rings, shifted, up_shift}
-use Rattle.pmd_laws.specs.{BesideApart.IsAloneBeside, BesideApart.IsCalledApart, BesideStart.BeginsBeside}
-use Rattle.std.proofs.{Common.arith, lemmas.Grind.common_steps}
+use Rattle.pmd_laws.{proofs.Told.goes, proofs.Told.life, specs.Beside.by_own, specs.BesideStart.BeginsBeside}
+use Rattle.pmd_laws.proofs.Faultless.{FindsAmid, filling_never, found, made, made_is, never_at_fault, none_amid}
+use Rattle.pmd_laws.proofs.Prelude.{[], ◌++◌, ◌∙◌, ◌∷◌, ◌≡◌, ◌⊎◌, AllFollow, AtPort, BeforeLast, BeginsApart, Beside}
+use Rattle.pmd_laws.proofs.Prelude.{Call, DrivesRings, Drove, Entry, FaultsEarly, FaultsFilling, Follows, HasGround}
+use Rattle.pmd_laws.proofs.Prelude.{IsAlong, IsFresh, IsLife, IsToldAlone, IsToldBy, IsToldOf, Life, List, Moment}
+use Rattle.pmd_laws.proofs.Prelude.{NoneLent, Numbers, Rings, State, Told, Up, Watched, WhereUp, ℕ, ap, append-nil}
+use Rattle.pmd_laws.proofs.Prelude.{append_assoc, append_cancel_left, arith, common_steps, events_same, halves_of, inl}
+use Rattle.pmd_laws.proofs.Prelude.{inr, is_own, last, legal_same, now, subst, sym}
+use Rattle.pmd_laws.proofs.Shifted.{early_shift, on_shift, rings, shifted, up_shift}
+use Rattle.pmd_laws.specs.Beside.{AllFollowBy, FollowsBy, IsCalledBeside, IsRetold, IsToldAnew, IsToldBeside, anew}
+use Rattle.pmd_laws.specs.BesideApart.{IsAloneBeside, IsCalledApart}
 use Rattle.pmd_laws.specs.Told as own
 
 -- a driver that runs goes on from one to the other by its own calls alone
@@ -18,8 +18,7 @@ use Rattle.pmd_laws.specs.Told as own
 drove_anew : (a b : Rings) (old new since own : List Call) → new ≡ old ++ since
     → WhereUp a b (λ r s. DrivesRings old r new s) → WhereUp a b (λ r s. DrivesRings own r (own ++ since) s)
 drove_anew (Up r) (Up s) old new since own made x = shifted (rings r s old new x) since own made
-drove_anew (Up r) (Down h) old new since own made x = x
-drove_anew (Down h) b old new since own made x = tt
+drove_anew a b old new since own made x = x
 
 follows_anew : (m : Moment) (own : List Call) (n : Moment) (then : List Call) → FollowsBy m own n then
     → Follows (by_own own m) (by_own then n)
@@ -55,21 +54,32 @@ own_anew {old = old} {m = m} {later = later} {ahead = ahead} {own = own} x =
 pub retold_along : {w : Watched} {origin : State} {h g : List Entry} → IsRetold w origin h g → IsAlong w origin g
 retold_along {origin = origin} {h = h} {g = g} x = grind (arith, common_steps, events_same, legal_same)
 
--- a start that found the device at fault would be one of whose blocks none is lent
+-- a start is one of whose blocks none is lent, and so never finds the device at fault
+
+abbrev apart : BeginsBeside → BeginsApart
+apart x = record {
+  course = record x.course { h = x.g; old = x.ahead };
+  new = x.ahead ++ x.since;
+  along = retold_along x.retold;
+  begins = x.begins;
+  others = x.others;
+  more = x.more;
+  made = x.all;
+}
+
 pub never_beside : (x : BeginsBeside)
     → FaultsEarly x.q x.size x.frame x.old x.a x.new ⊎ FaultsFilling x.q x.size x.frame x.old x.a x.new → ⊥
-never_beside x faults =
-    never_at_fault
-    (record {
-      course = record x.course { h = x.g; old = x.ahead };
-      new = x.ahead ++ x.since;
-      along = retold_along x.retold;
-      begins = x.begins;
-      others = x.others;
-      more = x.more;
-      made = x.all;
-    })
-    (shifted (fault_shift x.q x.size x.frame x.a x.old x.new faults) x.since x.ahead x.made)
+never_beside x (inl early) =
+    never_at_fault (apart x)
+    (inl (shifted (early_shift x.q x.size x.frame x.a x.old x.new early) x.since x.ahead x.made))
+never_beside x (inr f) =
+    let on = on_shift x.q x.size x.frame x.a f.empty f.sender x.old f.mid f.on in
+    let behind = made (found (apart x) f) in
+    let same : x.since ≡ on.since ++ behind = append_cancel_left x.old x.since (on.since ++ behind)
+    (sym x.made ∙ made_is (found (apart x) f) ∙ ap (λ (l : List Call). l ++ behind) on.made
+    ∙ append_assoc x.old on.since behind) in
+    filling_never (apart x) f (x.ahead ++ on.since) (on.behind x.ahead)
+    (ap (λ (l : List Call). x.ahead ++ l) same ∙ sym (append_assoc x.ahead on.since behind))
 
 -- and the driver is told there
 module _ (x : Beside) where

@@ -1,13 +1,11 @@
 -- What was made of a device in hand is a history of it: the calls of pass 0 are those behind what others made.
-use Rattle.driver_laws.specs.Retold.{AreSame}
+use Rattle.driver_laws.{specs.Prelude.entries_in, specs.Prelude.marked_entries, specs.Retold.AreSame}
+use Rattle.pmd_laws.proofs.Prelude.{[], ◌++◌, ◌<◌, ◌==◌, ◌∙◌, ◌∷◌, ◌≡◌, Bool, Call, Entry, GoesOn, IsTrue, LeadsTo}
+use Rattle.pmd_laws.proofs.Prelude.{LeavesAloneFrom, List, State, WasTold, ℕ, after, ap, arith, calls_joined, calls_of}
+use Rattle.pmd_laws.proofs.Prelude.{calls_other, common_steps, events-append, false, has_begun, leads-append, leads_to}
+use Rattle.pmd_laws.proofs.Prelude.{led, legal-append, length, own_calls, refl, sym, true}
 use Rattle.pmd_laws.specs.Beside.{DirectIsRetold, InterleavedIsRetold}
 use Rattle.pmd_laws.specs.InHand.{DirectIsHistory, InterleavedIsHistory, IsHistoryOf, WasMade, in_hand}
-use Rattle.pmd_laws.proofs.Prelude.{[], ◌++◌, ◌<◌, ◌==◌, ◌||◌, ◌∙◌, ◌∷◌, ◌≡◌, Bool, Call, Entry, GoesOn, IsTrue}
-use Rattle.pmd_laws.proofs.Prelude.{LeadsTo, LeavesAlone, LeavesAloneFrom, List, State, WasTold, ℕ, after, ap}
-use Rattle.pmd_laws.proofs.Prelude.{arith, call_in, calls_joined, calls_of, calls_other}
-use Rattle.pmd_laws.proofs.Prelude.{entries_in, events-append, false, has_begun, leads-append, leads_to, led}
-use Rattle.pmd_laws.proofs.Prelude.{legal-append, length, map-append, marked_entries, own_calls, refl, sym, true}
-use Rattle.std.proofs.lemmas.Grind.{common_steps}
 
 history : (s : State) (queue : ℕ) (before h : List Entry) (calls : List Call) (device : State) → queue < 128
     → WasMade s before → LeadsTo (leads_to s before) h device → calls_of 0 h ≡ calls
@@ -29,20 +27,12 @@ own_are (c ∷ calls) (false ∷ own) = own_are calls own
 
 -- entries of the pass alone leave the queue alone however its queues are parted
 
-abbrev first_pass : List Entry → ℕ
-first_pass [] = 0
-first_pass (e ∷ es) = e.pass
-
-abbrev behind_first : List Entry → List Entry
-behind_first [] = []
-behind_first (e ∷ es) = es
-
 each_own : (calls : List Call) (b : List Entry) (e : Entry) (after : List Entry) → entries_in calls ≡ b ++ e ∷ after
     → e.pass ≡ 0
 each_own [] [] e after is = cc
 each_own [] (y ∷ b) e after is = cc
-each_own (c ∷ calls) [] e after is = sym (ap first_pass is)
-each_own (c ∷ calls) (y ∷ b) e after is = each_own calls b e after (ap behind_first is)
+each_own (c ∷ calls) [] e after is = grind (arith, common_steps)
+each_own (c ∷ calls) (y ∷ b) e after is = each_own calls b e after (cc)
 
 -- what others made before has no entry of the pass
 
@@ -54,21 +44,12 @@ own_behind : (before : List Entry) (calls : List Call) (b : List Entry) (e : Ent
 own_behind [] calls b e after none is begun = each_own calls b e after is
 own_behind (x ∷ before) calls [] e after none is begun = cc
 own_behind (x ∷ before) calls (y ∷ b) e after none is begun =
-    let other = not_first x before none in
-    let same : x.pass ≡ y.pass = ap first_pass is in
-    let begun_there : (false || has_begun 0 b) ≡ true =
-    rw (← same, other) at begun in
-    own_behind before calls b e after (sym (calls_other 0 x before other) ∙ none) (ap behind_first is) begun_there
-
-own_left : (s : State) (queue : ℕ) (before : List Entry) (calls : List Call) → calls_of 0 before ≡ []
-    → LeavesAlone (in_hand s queue) (before ++ entries_in calls)
-    → LeavesAloneFrom (in_hand s queue) s (before ++ entries_in calls)
-own_left s queue before calls none alone b e after is begun = grind (arith, common_steps, own_behind)
+    grind (arith, common_steps, not_first, calls_other, own_behind before calls b e after)
 
 pub direct_is_history : DirectIsHistory
 direct_is_history s queue before d small was began alone =
     history s queue before (entries_in d.calls) d.calls d.device small was began (all_are d.calls)
-    (own_left s queue before d.calls was.others alone)
+    (grind (arith, common_steps, own_behind))
 
 pub interleaved_is_history : InterleavedIsHistory
 interleaved_is_history s queue before i small was began alone =

@@ -1,18 +1,17 @@
 -- What a worker's end tells is in order, over the history that its pass closes.
-use Rattle.workers.specs.{DeviceLock.Closing.StandsIn, Ends.AreEnds, Ends.IsEnd, Lived.HasRun, Starts.Starts}
-use Rattle.workers.specs.{declared.ends.WorkerEnd.WorkerEnd, declared.fault.WorkerFault.TheVariants.NoThread}
-use Rattle.workers.specs.{declared.fault.WorkerFault.WorkerFault, declared.job.Job.Job}
 use Rattle.pmd_laws.proofs.{DriverLaws.HistoryLaws.Alone.new_is_left_alone, Lived.handed_since, Lived.sent_on}
 use Rattle.pmd_laws.proofs.{Lived.starts, Order.along_before, Refused.left_of_refused_is_prefix, Settings.ground_there}
 use Rattle.pmd_laws.proofs.{Settings.named_below, WorkerTold.calls_from, WorkerTold.starts_more}
 use Rattle.pmd_laws.proofs.Prelude.{[], ◌++◌, ◌∙◌, ◌∷◌, ◌≡◌, ◌≢◌, ◌⊎◌, Call, Entry, HasGround, IsAlong, IsHome, IsQuiet}
 use Rattle.pmd_laws.proofs.Prelude.{IsSound, List, None, Numbers, Option, Rest, Some, State, Watched, ℕ, ap, append-nil}
-use Rattle.pmd_laws.proofs.Prelude.{append_assoc, around, bytes_of, call_in, calls_joined, calls_of, calls_own}
-use Rattle.pmd_laws.proofs.Prelude.{delivered, inl, inr, leads_to, left, left_accepted, left_handed, new_sound}
-use Rattle.pmd_laws.proofs.Prelude.{new_state, none_behind, refl, same_from_push, sent_since, subst, sym}
+use Rattle.pmd_laws.proofs.Prelude.{append_assoc, arith, around, bytes_of, call_in, calls_joined, calls_of, calls_own}
+use Rattle.pmd_laws.proofs.Prelude.{common_steps, delivered, inl, inr, leads_to, left, left_accepted, left_handed}
+use Rattle.pmd_laws.proofs.Prelude.{new_sound, new_state, none_behind, refl, same_from_push, sent_since, subst, sym}
 use Rattle.pmd_laws.specs.{Points.JustBefore}
 use Rattle.pmd_laws.specs.WorkerOrder.{CallsStand, EndOwn, IsEndAmong, IsEndIn, UpTo, given_of, queue_of}
-use Rattle.std.proofs.{Common.arith, lemmas.Grind.common_steps}
+use Rattle.workers.specs.{DeviceLock.Closing.StandsIn, Ends.AreEnds, Ends.IsEnd, Lived.HasRun, Starts.Starts}
+use Rattle.workers.specs.declared.{ends.WorkerEnd.WorkerEnd, fault.WorkerFault.WorkerFault, job.Job.Job}
+use Rattle.workers.specs.declared.fault.WorkerFault.TheVariants.{NoThread}
 use Rattle.pmd.specs.declared.start.Rest.TheVariants as rest
 use Rattle.pmd_laws.specs.DriverLaws.RingLaws.Delivered as receive
 use Rattle.pmd_laws.specs.DriverLaws.RingLaws.Laws as transmit
@@ -64,10 +63,9 @@ calls_stand bench count h ps pass closes x =
 -- the end of a job among some
 end_of : (jobs : List Job) (ran : List WorkerEnd) (j : Job) (e : WorkerEnd) → AreEnds jobs ran
     → IsEndAmong jobs ran j e → IsEnd j e
-end_of [] ran j e are among = absurd among
-end_of (k ∷ jobs) [] j e are among = absurd among
 end_of (k ∷ jobs) (f ∷ ran) j e are (inl (one, two)) = grind (arith, common_steps)
 end_of (k ∷ jobs) (f ∷ ran) j e are (inr more) = end_of jobs ran j e are.1 more
+end_of jobs ran j e are among = absurd among
 
 -- a worker had a thread, or not
 threads : (fault : Option WorkerFault) → (fault ≡ Some NoThread) ⊎ (fault ≢ Some NoThread)

@@ -1,12 +1,10 @@
 -- A start finds two runs of free blocks exactly where there are two.
-use Rattle.std.proofs.lemmas.Bool.Decides.{nat_tests}
-use Rattle.nic_device.proofs.DmaArena.{Owned.is_own-of_free, Owned.own_within, Runs.found_behind}
+use Rattle.nic_device.proofs.{DmaArena.Owned.is_own-of_free, DmaArena.Owned.own_within, DmaArena.Runs.found_behind}
 use Rattle.nic_device.specs.DmaArena.Run.{IsFreeRun, are_free, run_behind, run_from, run_in}
 use Rattle.pmd.specs.Runs.{behind_run, second_run}
+use Rattle.pmd_laws.{proofs.Prelude.true, proofs.Prelude.zero, specs.Room.HasTwoRuns}
 use Rattle.pmd_laws.proofs.Prelude.{◌+◌, ◌-◌, ◌<◌, ◌≡◌, ◌≢◌, ◌≤◌, None, Numbers, Option, Some, ℕ, and_from, arith}
-use Rattle.pmd_laws.proofs.Prelude.{both_ways, cases_Bool, cases_eq, count_of, inl, inr, is_free, is_some, left, refl}
-use Rattle.pmd_laws.proofs.Prelude.{subst, suc, true, zero}
-use Rattle.pmd_laws.specs.Room.{HasTwoRuns}
+use Rattle.pmd_laws.proofs.Prelude.{both_ways, cases_Bool, count_of, inl, inr, is_free, is_some, left, refl, subst, suc}
 use Rattle.pmd_laws.proofs.two_runs_are_found.Goals as goal
 
 first_free : (a : Numbers) (first count : ℕ) → 0 < count → IsFreeRun a first count → is_free a first ≡ true
@@ -23,50 +21,34 @@ all_free a first (suc n) free =
     let at : first + suc k ≡ first + 1 + k = omega arith in
     subst (λ (m : ℕ). is_free a m ≡ true) at (free (suc k) (omega (arith, below)))))
 
--- a search that comes by a run finds one
-
-record Finds (a : Numbers) (count number left n : ℕ) : Type 0 where
-  found : ℕ
-  is : run_from a count number left ≡ Some found
-  low : number ≤ found
-  early : found ≤ n
-
-among_finds : (a : Numbers) (count number left n : ℕ) → number ≤ n → n < number + left → are_free a n count ≡ true
-    → Finds a count number left n
+-- a search that comes by a run finds one, and none behind it
+by_run : (a : Numbers) (count number left n : ℕ) → number ≤ n → n < number + left → are_free a n count ≡ true
+    → (m : ℕ) × (run_from a count number left ≡ Some m) × (m ≤ n)
 unfolding run_from
-among_finds a count number zero n low high free = absurd (omega (arith, low, high))
-among_finds a count number (suc left) n low high free =
-    elim (cases_Bool (are_free a number count)) as (λ _. Finds a count number (suc left) n) [
-      | inl here ↦ record { found = number; is = rw here refl; low = omega arith; early = low }
-      | inr taken ↦ elim (cases_eq n number) as (λ _. Finds a count number (suc left) n) [
-        | inl same ↦
-            absurd (both_ways _ taken (subst (λ (m : ℕ). are_free a m count ≡ true) same free))
-        | inr ne ↦
-            let next : number + 1 ≤ n = behind number n low ne in
-            let more = among_finds a count (number + 1) left n next (omega (arith, high)) free in
-            let below = more.low in
-            record { found = more.found; is = rw taken more.is; low = omega (arith, below); early = more.early }
-      ]
+by_run a count number zero n low high free = absurd (omega (arith, low, high))
+by_run a count number (suc left) n low high free =
+    elim (cases_Bool (are_free a number count))
+    as (λ _. (m : ℕ) × (run_from a count number (suc left) ≡ Some m) × (m ≤ n)) [
+      | inl here ↦ (number, rw here refl, low)
+      | inr taken ↦
+          let ne : n ≢ number = λ same. both_ways _ taken (subst (λ (m : ℕ). are_free a m count ≡ true) same free) in
+          let (m, is, early) = by_run a count (number + 1) left n (omega (arith, low, ne)) (omega (arith, high)) free
+          in (m, simp taken is, early)
     ]
-  where
-    behind : (m k : ℕ) → m ≤ k → k ≢ m → m + 1 ≤ k
-    behind m k le ne = grind (arith, nat_tests)
 
 run_finds : (a : Numbers) (count from n : ℕ) → 0 < count → from ≤ n → IsFreeRun a n count
-    → Finds a count from (a.first + count_of a - from) n
+    → (m : ℕ) × (run_behind a count from ≡ Some m) × (m ≤ n)
 run_finds a count from n some low free =
     let within = own_within a n (is_own-of_free a n (first_free a n count some free)) in
-    among_finds a count from (a.first + count_of a - from) n low (omega (arith, low, within.1))
-    (all_free a n count free)
+    by_run a count from (a.first + count_of a - from) n low (omega (arith, low, within.1)) (all_free a n count free)
 
 there_are : (a : Numbers) (count : ℕ) → 0 < count → HasTwoRuns a count → is_some (second_run a count) ≡ true
 there_are a count some x =
     let within = own_within a x.first (is_own-of_free a x.first (first_free a x.first count some x.one)) in
-    let one = run_finds a count a.first x.first some within.0 x.one in
-    let early = one.early in
+    let (one, is, early) = run_finds a count a.first x.first some within.0 x.one in
     let apart = x.apart in
-    let two = run_finds a count (one.found + count) x.second some (omega (arith, early, apart)) x.two in
-    rw one.is (rw two.is refl)
+    let (two, then, late) = run_finds a count (one + count) x.second some (omega (arith, early, apart)) x.two in
+    rw is (rw then refl)
 
 -- what is found is two runs
 

@@ -1,6 +1,7 @@
 -- A driver beside any calls of its author's is told by its own calls alone, over the history as it is told anew; and so
 -- are its start and its stop.
-use Rattle.pmd_laws.{proofs.Told.goes, proofs.Told.life, specs.Beside.by_own, specs.BesideStart.BeginsBeside}
+use Rattle.pmd_laws.{proofs.Order.life_of, proofs.Told.goes, proofs.Told.life, specs.Beside.by_own}
+use Rattle.pmd_laws.{specs.BesideApart.IsAloneBeside, specs.BesideApart.IsCalledApart, specs.BesideStart.BeginsBeside}
 use Rattle.pmd_laws.proofs.Faultless.{FindsAmid, filling_never, found, made, made_is, never_at_fault, none_amid}
 use Rattle.pmd_laws.proofs.Prelude.{[], ◌++◌, ◌∙◌, ◌∷◌, ◌≡◌, ◌⊎◌, AllFollow, AtPort, BeforeLast, BeginsApart, Beside}
 use Rattle.pmd_laws.proofs.Prelude.{Call, DrivesRings, Drove, Entry, FaultsEarly, FaultsFilling, Follows, HasGround}
@@ -10,7 +11,6 @@ use Rattle.pmd_laws.proofs.Prelude.{append_assoc, append_cancel_left, arith, com
 use Rattle.pmd_laws.proofs.Prelude.{inr, is_own, last, legal_same, now, subst, sym}
 use Rattle.pmd_laws.proofs.Shifted.{early_shift, on_shift, rings, shifted, up_shift}
 use Rattle.pmd_laws.specs.Beside.{AllFollowBy, FollowsBy, IsCalledBeside, IsRetold, IsToldAnew, IsToldBeside, anew}
-use Rattle.pmd_laws.specs.BesideApart.{IsAloneBeside, IsCalledApart}
 use Rattle.pmd_laws.specs.Told as own
 
 -- a driver that runs goes on from one to the other by its own calls alone
@@ -123,14 +123,8 @@ module _ (x : Beside) where
       (life told).is
 
   abbrev pub own_life : Life
-  own_life = record {
-    course = anew x;
-    started = x.ahead ++ x.told.start;
-    r = x.told.started.0;
-    made = x.own;
-    k = halves_of (goes told).rings;
-    is = is_life;
-  }
+  own_life =
+      life_of (anew x) (x.ahead ++ x.told.start) x.told.started.0 x.own (halves_of (goes told).rings) is_life
 
   -- what a call added comes behind these
   pub called_behind : (n : Moment) (y : IsCalledBeside x n) (added : List Call) → n.made ≡ (now x).made ++ added

@@ -9,7 +9,7 @@ use Rattle.pmd.proofs.{Finding.wrong_by, PmdRx.Earlier.free_before, Starting.pre
 use Rattle.pmd.proofs.Followed.{both_own, others_own, others_played, own_length}
 use Rattle.pmd.proofs.PmdSeam.Steps.{steps_both, steps_last}
 use Rattle.pmd.specs.{Apart.FindsBy, Apart.is_healthy, Bursts.FailedAmid, Bursts.SendsWith, Halves.OthersStep}
-use Rattle.pmd_laws.proofs.{Lent.unlent_before, Lent.words_rise, Order.on_before, Prelude.words_are_writes}
+use Rattle.pmd_laws.proofs.{Lent.unlent_before, Lent.words_rise, Order.on_before, Order.on_of, Prelude.words_are_writes}
 use Rattle.pmd_laws.proofs.{Prelude.writes_driven, Told.added, Told.added_is, Told.goes, Told.led, Told.life}
 use Rattle.pmd_laws.proofs.Lent.{IsRising, Rises, RisesToLast, all_rise, known_at, lends_rise, others_before}
 use Rattle.pmd_laws.proofs.Lent.{others_behind, quieted_rises, ready_rises, short_at, short_by, step_rises}
@@ -316,14 +316,9 @@ module _ (x : BeginsApart) where
         let quiet = on.receive.quiet in
         let at = last_before w origin p.front p.back p.both quiet.0 AtFirst
         (before_made q w origin h AtFirst (Sees Rxdctl false) old quiet.0 quiet.1 x.begins) in
-        let there : On (record x.course { h = p.front }) = record {
-          mid = mid;
-          v = f.empty;
-          t = f.sender;
-          up = on;
-          along = along_before w origin p.front p.back p.both x.along;
-          ground = λ done more e both own is. (at done more e both own is).0.ground;
-        } in
+        let there : On (record x.course { h = p.front }) = on_of on
+        (along_before w origin p.front p.back p.both x.along)
+        (λ done more e both own is. (at done more e both own is).0.ground) in
         no_fault_led_on there (is_own a) (λ done more e both own is. (at done more e both own is).1)
         (grind (arith, common_steps, others_before, is_own))
         (harmless_apart (is_own a) mid mid both_first ([], sym (append-nil mid), tt)) found (p.fronts ∙ is)

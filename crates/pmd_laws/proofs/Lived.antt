@@ -127,9 +127,7 @@ module _ (w : Watched) (fifo : ℕ) (h : List Entry) {q : AtPort} {size frame : 
     origin = new_state w.vfs fifo
 
     begins : BeginsWell w origin h q size frame old a lived.lives.made lived.lives.fresh up
-    begins = record {
-      ground = before_first w fifo old h (HasGround w.queue q frame) ground up.receive.quiet.0 first;
-    }
+    begins = record { ground = before_first w fifo old h (HasGround w.queue q frame) ground up.receive.quiet.0 first }
 
     abbrev ended : Ended
     ended = record {

@@ -11,7 +11,7 @@ use Rattle.pmd.{specs.PmdRx.PmdSeam.Frames.most_blocks, specs.PmdRx.Receive.at_s
 use Rattle.pmd_laws.proofs.Prelude.{[], ◌++◌, ◌+◌, ◌<◌, ◌∙◌, ◌∷◌, ◌≡◌, ◌≢◌, AllOwn, AreApart, AreEvents, AreLent, AreOn}
 use Rattle.pmd_laws.proofs.Prelude.{AtPort, BeforeLast, Blocks, Bool, BothAgree, Call, Course, Dir, Doer, DrivesApart}
 use Rattle.pmd_laws.proofs.Prelude.{EachRingBlock, Entry, FindsNone, Halves, HasGround, IsAlong, IsDrawn, IsLegal}
-use Rattle.pmd_laws.proofs.Prelude.{IsPrefixOf, IsReceiveReady, IsSettled, IsTransmitReady, IsTrue, IsUp, Leads}
+use Rattle.pmd_laws.proofs.Prelude.{IsLife, IsPrefixOf, IsReceiveReady, IsSettled, IsTransmitReady, IsTrue, IsUp, Leads}
 use Rattle.pmd_laws.proofs.Prelude.{LeavesAloneFrom, Life, List, Lives, MayLend, None, Numbers, OthersHarmless}
 use Rattle.pmd_laws.proofs.Prelude.{OwnsSame, Parts, Piece, Receive, Receives, Running, Rx, Sender, ShowsNone, State}
 use Rattle.pmd_laws.proofs.Prelude.{Tx, Watched, WentOn, ℕ, all_drawn, all_exchanged, ap, apart_on, append-nil, arith}
@@ -277,18 +277,23 @@ module _ {c : Course} (x : Ran c) where
 
 -- a life did
 
+-- both sides of a driver's queue went on so
+abbrev pub on_of : {c : Course} {mid : List Call} {v : Receive} {t : Sender}
+    (up : AreOn c.q c.size c.frame c.old c.a mid v t) → IsAlong c.w c.origin c.h
+    → BeforeLast c.w c.origin c.h up.receive.quiet.0 (HasGround c.w.queue c.q c.frame) → On c
+on_of {mid = mid} {v = v} {t = t} up along ground =
+    record { mid = mid; v = v; t = t; up = up; along = along; ground = ground }
+
+-- and so it is a life
+abbrev pub life_of : (c : Course) (started : List Call) (r : Running) (made : List Call) (k : Halves)
+    → IsLife c started r made k → Life
+life_of c started r made k is = record { course = c; started = started; r = r; made = made; k = k; is = is }
+
 module _ (x : Life) where
   open x use {w, origin, h, q, size, frame, old, a, started, r, k, is}
 
   abbrev pub begun : On x.course
-  begun = record {
-    mid = is.up.on.mid;
-    v = is.up.empty;
-    t = r.transmit;
-    up = on is.up is.along is.begins;
-    along = is.along;
-    ground = is.begins.ground;
-  }
+  begun = on_of (on is.up is.along is.begins) is.along is.begins.ground
 
   pub whole : Leads is.up.on.mid (first begun) x.made k
   whole =
@@ -320,24 +325,14 @@ module _ (w : Watched) (origin : State) {h : List Entry} (before rest : List Ent
 -- so both sides went on within it
 abbrev pub on_before : {c : Course} (x : On c) (before rest : List Entry) → before ++ rest ≡ c.h
     → On (record c { h = before })
-on_before {c = c} x before rest all = record {
-  mid = x.mid;
-  v = x.v;
-  t = x.t;
-  up = x.up;
-  along = along_before c.w c.origin before rest all x.along;
-  ground =
-      last_before c.w c.origin before rest all x.up.receive.quiet.0 (HasGround c.w.queue c.q c.frame) x.ground;
-}
+on_before {c = c} x before rest all =
+    on_of x.up (along_before c.w c.origin before rest all x.along)
+    (last_before c.w c.origin before rest all x.up.receive.quiet.0 (HasGround c.w.queue c.q c.frame) x.ground)
 
 -- and it is a life up to there, where its calls lead to these halves
 abbrev pub life_before : (x : Life) (before rest : List Entry) → before ++ rest ≡ x.h → (calls : List Call) (k : Halves)
     → Leads x.started (halves_of x.r) calls k → Life
 life_before x before rest all calls k goes =
     let there = on_before (begun x) before rest all in
-    record x {
-      course = record x.course { h = before };
-      made = calls;
-      k = k;
-      is = record { along = there.along; up = x.is.up; begins = record { ground = there.ground }; since = goes };
-    }
+    life_of (record x.course { h = before }) x.started x.r calls k
+    (record { along = there.along; up = x.is.up; begins = record { ground = there.ground }; since = goes })

@@ -178,12 +178,9 @@ module _ {q : AtPort} where
       → is_size size ≡ true → PreparingFails f q side size old a new b out → LaysSome q Off old new
   preparing_lays f side size a b out is (ring, free, inl (stops, same, none)) =
       all_stop f (ring_words side ring size) Off (words_go side ring size is) stops
-  preparing_lays f side size a b out is (ring, free, inr (mid, words, stops)) = record {
-    last = laid side;
-    lays =
-        then_lays (words_lay side ring size is words)
-        (then_lays (lends_lay out stops.lent) (lending_lays f _ stops.fails));
-  }
+  preparing_lays f side size a b out is (ring, free, inr (mid, words, stops)) =
+      then_some (words_lay side ring size is words)
+      (then_some (lends_lay out stops.lent) (record { last = laid side; lays = lending_lays f _ stops.fails }))
 
   -- the receive ring
 

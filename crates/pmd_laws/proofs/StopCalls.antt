@@ -29,6 +29,12 @@ module _ (P : Event Block → Type 0) where
   first_made old now new since rest x some all =
       (since, some, made_first old new since rest x (all ∙ ap (λ (l : List Call). l ++ rest) some))
 
+-- both sides were seen off, and then come calls of a stop
+abbrev pub once_of : (q : AtPort) (old new mid off : List Call) → Asks q old mid → IsSwitched q mid off false 1000
+    → Ends q off new → EndsOnceOff q old new
+once_of q old new mid off asks switched ends =
+    record { mid = mid; off = off; asks = asks; switched = switched; ends = ends }
+
 -- up to where both sides are off the calls ask
 pub off_asks : (q : AtPort) (old new : List Call) (x : EndsOnceOff q old new) → Asks q old x.off
 off_asks q old new x = then_made (IsAsking q) old x.mid x.off x.asks (switched_off_asks q x.mid x.off x.switched)
@@ -42,13 +48,9 @@ module _ (q : AtPort) (old now new since rest : List Call) (some : now ≡ old +
   so_far : (x : EndsOnceOff q old new) → Begins now x.off ⊎ Begins x.off now → TakesOnceOff q old now
   so_far x (inl (back, is)) =
       inl (first_made (IsAsking q) old now x.off since back (off_asks q old new x) some (sym is))
-  so_far x (inr (back, is)) = inr (record {
-    mid = x.mid;
-    off = x.off;
-    asks = x.asks;
-    switched = x.switched;
-    ends = first_made (IsEnding q) x.off now new back rest x.ends (sym is) all;
-  })
+  so_far x (inr (back, is)) =
+      inr (once_of q old now x.mid x.off x.asks x.switched
+      (first_made (IsEnding q) x.off now new back rest x.ends (sym is) all))
 
   pub first_takes : TakesOnceOff q old new → TakesOnceOff q old now
   first_takes (inl asks) = inl (first_made (IsAsking q) old now new since rest asks some all)
@@ -70,18 +72,13 @@ amid_ends f q old h new left (refusal, is, (count, mid, some, more, arena, way, 
 -- blocks are taken back behind a switch off
 
 on_ends : (q : AtPort) (old mid new : List Call) → EndsOnceOff q old mid → Ends q mid new → EndsOnceOff q old new
-on_ends q old mid new x more = record {
-  mid = x.mid;
-  off = x.off;
-  asks = x.asks;
-  switched = x.switched;
-  ends = then_made (IsEnding q) x.off mid new x.ends more;
-}
+on_ends q old mid new x more =
+    once_of q old new x.mid x.off x.asks x.switched (then_made (IsEnding q) x.off mid new x.ends more)
 
 once_off : (q : AtPort) (old mid off new : List Call) → TakesOnceOff q old mid → IsSwitched q mid off false 1000
     → Ends q off new → TakesOnceOff q old new
 once_off q old mid off new (inl asks) x ends =
-    inr (record { mid = mid; off = off; asks = asks; switched = x; ends = ends })
+    inr (once_of q old new mid off asks x ends)
 once_off q old mid off new (inr was) x ends =
     inr (on_ends q old mid new was
     (then_made (IsEnding q) mid off new (asks_end q mid off (switched_off_asks q mid off x)) ends))

@@ -12,8 +12,8 @@ use Rattle.driver_laws.proofs.SwitchedOff.{ending_does, quiet_queue_is_silent, s
 use Rattle.driver_laws.specs.{Enabling.MayAsk, Histories.doers_after, Moves.IsMet, Standing.IsLeft}
 use Rattle.pmd.specs.PmdSeam.Packet.{Kept}
 use Rattle.pmd_laws.{proofs.StopCalls.stopped_takes, specs.Silent.SilentOverStop, specs.Silent.SwitchesOff}
-use Rattle.pmd_laws.proofs.Order.{Ran, agree, begun, driven, ends, handed, in_parts, life_before, ran, sent_agreed}
-use Rattle.pmd_laws.proofs.Order.{sent_first, settled, some_on, there_is, whole}
+use Rattle.pmd_laws.proofs.Order.{Ran, agree, begun, driven, ends, handed, in_parts, life_before, life_of, ran}
+use Rattle.pmd_laws.proofs.Order.{sent_agreed, sent_first, settled, some_on, there_is, whole}
 use Rattle.pmd_laws.proofs.Prelude.{[], ◌++◌, ◌==◌, ◌∙◌, ◌∷◌, ◌≡◌, ◌≢◌, AreLent, Asks, AtCalls, AtEntries, AtPort}
 use Rattle.pmd_laws.proofs.Prelude.{Block, Blocks, BothAgree, Call, Course, Dir, Doer, Ended, Ends, EndsOnceOff, Entry}
 use Rattle.pmd_laws.proofs.Prelude.{Event, Halted, Halves, HasGround, IsAsking, IsEnding, IsEvent, IsOver, IsPrefixOf}
@@ -25,7 +25,7 @@ use Rattle.pmd_laws.proofs.Prelude.{ending_plain, false, ground_kept, ground_sam
 use Rattle.pmd_laws.proofs.Prelude.{inr, leads_to, left, left_settles, lent_before, lent_by, named, none_made, now}
 use Rattle.pmd_laws.proofs.Prelude.{option_map, packets_if_any, parts, pieces, pieces_since, plain_keeps, refl}
 use Rattle.pmd_laws.proofs.Prelude.{reply_to, sent_by, sent_is_counted, sent_since, since-append, subst, sym, vfs_stays}
-use Rattle.pmd_laws.proofs.StopCalls.{amid_ends, first_made, first_takes, home_ends, off_asks, stopped_ends}
+use Rattle.pmd_laws.proofs.StopCalls.{amid_ends, first_made, first_takes, home_ends, off_asks, once_of, stopped_ends}
 use Rattle.pmd_laws.specs.Ends.{HandedOverStop, LeftIsPrefix, SentOverStop}
 use Rattle.driver_laws.proofs.RingLaws.HistoryLaws.Steady as steady
 use Rattle.driver_laws.specs.RingLaws.Delivered as receive
@@ -273,19 +273,10 @@ sent_over_stop = sent_stopped
 
 -- it lived, up to where it was to stop
 abbrev life : Ended → Life
-life x = record {
-  course = x.course;
-  started = x.lived.lives.made;
-  r = x.lived.lives.fresh;
-  made = x.lived.made;
-  k = halves_of x.lived.last;
-  is = record {
-    along = x.along;
-    up = x.lived.lives.up;
-    begins = x.begins;
-    since = drives_lead _ _ _ _ x.lived.lives.drives.apart.drives;
-  };
-}
+life x =
+    let live = x.lived.lives in
+    life_of x.course live.made live.fresh x.lived.made (halves_of x.lived.last)
+    (record { along = x.along; up = live.up; begins = x.begins; since = drives_lead _ _ _ _ live.drives.apart.drives })
 
 pub left_is_prefix : LeftIsPrefix
 left_is_prefix x calls = (
@@ -338,11 +329,6 @@ silent_over_stop x off done rest y stop all calls =
     stop in
     let later = calls_of x.w.pass rest in
     let on : here x y ≡ off ++ later = grind (arith, common_steps, calls_joined) in
-    let z : EndsOnceOff x.q made (here x y) = record {
-      mid = made;
-      off = off;
-      asks = none_made (IsAsking x.q) made made refl;
-      switched = switched;
-      ends = first_made (IsEnding x.q) off (here x y) x.new later y.rest ends on y.all;
-    } in
+    let z = once_of x.q made (here x y) made off (none_made (IsAsking x.q) made made refl) switched
+    (first_made (IsEnding x.q) off (here x y) x.new later y.rest ends on y.all) in
     silent_off (life x) (here x y) (is_stopping x y) z done rest all calls

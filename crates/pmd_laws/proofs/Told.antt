@@ -5,7 +5,7 @@ use Rattle.driver_laws.proofs.{InOrder.none_is_all_before, InOrder.waiting_is_no
 use Rattle.driver_laws.proofs.Beside.{apart_leads_on, driven_apart, harmless_lead, steps_harmless}
 use Rattle.pmd.{proofs.Both.rings_still, specs.Driver.Driver, specs.PmdRx.Plays.LooksInVain}
 use Rattle.pmd_laws.proofs.Order.{Ran, all_apart, begun, counted, driven, first, fresh_own, in_parts}
-use Rattle.pmd_laws.proofs.Order.{last as last_there, life_before, none, ran, whole}
+use Rattle.pmd_laws.proofs.Order.{last as last_there, life_before, life_of, none, ran, whole}
 use Rattle.pmd_laws.proofs.Prelude.{[], ◌++◌, ◌+◌, ◌<◌, ◌∙◌, ◌∷◌, ◌≡◌, ◌≢◌, ◌≤◌, Adds, AddsHarmless, AllFollow, AllOwn}
 use Rattle.pmd_laws.proofs.Prelude.{AtPort, Block, Blocks, Call, Doer, Drives, Drove, Entry, Event, FindsNone}
 use Rattle.pmd_laws.proofs.Prelude.{FindsWaiting, Follows, Halves, IsLegal, IsTold, Leads, LeadsApart, Life, List}
@@ -245,14 +245,9 @@ module _ (x : Told) where
   goes = runs x.told
 
   abbrev pub life : Life
-  life = record {
-    course = x.course;
-    started = x.m.made;
-    r = x.told.started.0;
-    made = (now x).made;
-    k = halves_of goes.rings;
-    is = record { along = x.along; up = x.told.started.2; begins = x.begins; since = goes.apart.leads };
-  }
+  life =
+      life_of x.course x.m.made x.told.started.0 (now x).made (halves_of goes.rings)
+      (record { along = x.along; up = x.told.started.2; begins = x.begins; since = goes.apart.leads })
 
   -- with its blocks apart
   abbrev pub told_ran : Ran x.course

@@ -64,22 +64,19 @@ among_low a count number (suc left) n is = elim (cases_Bool (are_free a number c
       omega (arith, later)
 ]
 
-module _ (a : Numbers) (count : ℕ) where
-  by_second : (ring : ℕ) (o : Option ℕ) → run_behind a count a.first ≡ Some ring → run_behind a count (ring + count) ≡ o
-      → is_some o ≡ true → HasTwoRuns a count
-  by_second ring None one two is = cc
-  by_second ring (Some other) one two is = record {
-    first = ring;
-    second = other;
-    one = found_behind a count a.first ring one;
-    two = found_behind a count (ring + count) other two;
-    apart = among_low a count (ring + count) (a.first + count_of a - (ring + count)) other two;
-  }
-
-  by_first : (o : Option ℕ) → run_in a count ≡ o → is_some (behind_run a count o) ≡ true → HasTwoRuns a count
-  by_first None one is = cc
-  by_first (Some ring) one is = by_second ring (run_behind a count (ring + count)) one refl is
+found_runs : (a : Numbers) (count : ℕ) (one two : Option ℕ) → run_in a count ≡ one → behind_run a count one ≡ two
+    → is_some two ≡ true → HasTwoRuns a count
+found_runs a count None None first second some = cc
+found_runs a count None (Some other) first second some = cc
+found_runs a count (Some ring) None first second some = cc
+found_runs a count (Some ring) (Some other) first second some = record {
+  first = ring;
+  second = other;
+  one = found_behind a count a.first ring first;
+  two = found_behind a count (ring + count) other second;
+  apart = among_low a count (ring + count) (a.first + count_of a - (ring + count)) other second;
+}
 
 pub returns : goal.returns
 returns c a count some =
-    (λ is. by_first a count (run_in a count) refl is, λ x. there_are a count some x)
+    (λ is. found_runs a count (run_in a count) (second_run a count) refl refl is, λ x. there_are a count some x)

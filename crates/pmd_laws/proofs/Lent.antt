@@ -124,8 +124,7 @@ module _ (q : AtPort) (lent : Blocks) where
         let each : Each (λ c. IsRising c.event) (call_in e ∷ calls_of pass es) =
         subst (Each (λ c. IsRising c.event)) (calls_own pass e es mine.0) are in
         lends_lent e.event e.reply n each.0 mine.1
-    | inr later ↦
-        lent_is pass es (grind (arith, common_steps, calls_own, calls_other)) n later
+    | inr later ↦ lent_is pass es (grind (arith, common_steps, calls_own, calls_other)) n later
   ]
 
 -- what a part of a history lends

@@ -1,7 +1,6 @@
 pub use Rattle.driver_laws.proofs as DriverLaws
 pub mod Beside
 pub mod Faultless
-pub mod InHand
 pub mod Lent
 pub mod Lived
 pub mod Order

@@ -9,20 +9,20 @@ use Rattle.driver_laws.proofs.RingLaws.{Kept.each_by, Runs.first_sent, Runs.idle
 use Rattle.driver_laws.proofs.RingLaws.Delivering.{all_taken, drained, handed_first}
 use Rattle.pmd.{specs.PmdRx.PmdSeam.Frames.most_blocks, specs.PmdRx.Receive.at_start}
 use Rattle.pmd_laws.proofs.Prelude.{[], ◌++◌, ◌+◌, ◌<◌, ◌∙◌, ◌∷◌, ◌≡◌, ◌≢◌, AllOwn, AreApart, AreEvents, AreLent, AreOn}
-use Rattle.pmd_laws.proofs.Prelude.{AtPort, BeforeLast, Blocks, Bool, BothAgree, Call, Course, Dir, Doer, DrivesApart}
+use Rattle.pmd_laws.proofs.Prelude.{AtPort, BeforeLast, Blocks, BothAgree, Call, Course, Dir, Doer, DrivesApart}
 use Rattle.pmd_laws.proofs.Prelude.{EachRingBlock, Entry, FindsNone, Halves, HasGround, IsAlong, IsDrawn, IsLegal}
 use Rattle.pmd_laws.proofs.Prelude.{IsLife, IsPrefixOf, IsReceiveReady, IsSettled, IsTransmitReady, IsTrue, IsUp, Leads}
 use Rattle.pmd_laws.proofs.Prelude.{LeavesAloneFrom, Life, List, Lives, MayLend, None, Numbers, OthersHarmless}
 use Rattle.pmd_laws.proofs.Prelude.{OwnsSame, Parts, Piece, Receive, Receives, Running, Rx, Sender, ShowsNone, State}
-use Rattle.pmd_laws.proofs.Prelude.{Tx, Watched, WentOn, ℕ, all_drawn, all_exchanged, ap, apart_on, append-nil, arith}
-use Rattle.pmd_laws.proofs.Prelude.{beginning_alone, both_ways, bytes_of, calls_of, common_steps, cond}
-use Rattle.pmd_laws.proofs.Prelude.{counted_where_up, delivered, drives_lead, each_ring_block, false}
-use Rattle.pmd_laws.proofs.Prelude.{false_from_ne_true, first_of, halves_of, harmless_leave_alone, has_lent, inl}
-use Rattle.pmd_laws.proofs.Prelude.{is_free, is_own, is_own-of_free, is_ring_block, leads-append, leads_on, leads_to}
-use Rattle.pmd_laws.proofs.Prelude.{led, length, lent_by, on, packets_if_any, parts, pieces_in, pieces_since, played_by}
-use Rattle.pmd_laws.proofs.Prelude.{receiving_apart, receiving_drives, records_of, refl, ring_block_among}
-use Rattle.pmd_laws.proofs.Prelude.{ring_block_is, ring_block_out, ring_blocks, sent_in, sent_since, since-append}
-use Rattle.pmd_laws.proofs.Prelude.{subst, sym, times_among, times_in_hand, true, true_from_ne_false, with_free}
+use Rattle.pmd_laws.proofs.Prelude.{Tx, Watched, WentOn, ℕ, all_drawn, ap, apart_on, append-nil, arith, beginning_alone}
+use Rattle.pmd_laws.proofs.Prelude.{both_ways, bytes_of, calls_of, common_steps, counted_where_up, delivered}
+use Rattle.pmd_laws.proofs.Prelude.{drives_lead, each_ring_block, false, false_from_ne_true, first_of, halves_of}
+use Rattle.pmd_laws.proofs.Prelude.{harmless_leave_alone, has_lent, inl, is_free, is_own, is_own-of_free, is_ring_block}
+use Rattle.pmd_laws.proofs.Prelude.{leads-append, leads_on, leads_to, led, length, lent_by, on, packets_if_any, parts}
+use Rattle.pmd_laws.proofs.Prelude.{pieces_in, pieces_since, played_by, receiving_apart, receiving_drives, records_of}
+use Rattle.pmd_laws.proofs.Prelude.{refl, ring_block_among, ring_block_is, ring_block_out, ring_blocks, sent_in}
+use Rattle.pmd_laws.proofs.Prelude.{sent_since, since-append, subst, sym, times_among, times_in_hand, true}
+use Rattle.pmd_laws.proofs.Prelude.{true_from_ne_false, with_free}
 use Rattle.driver_laws.specs.RingLaws.Delivered as receive
 use Rattle.driver_laws.specs.RingLaws.ReceiveUp as received
 
@@ -31,13 +31,7 @@ use Rattle.driver_laws.specs.RingLaws.ReceiveUp as received
 pub drawn_gone : (a : Numbers) (ns : List ℕ) (b : Numbers) (n : ℕ) → IsDrawn a ns b → is_free b n ≡ true
     → times_in_hand ns n ≡ 0
 drawn_gone a ns b n drawn free =
-    let each = (all_drawn a ns b [] drawn).each n in
-    gone (is_free a n) (times_in_hand ns n)
-    (rw (free, append-nil ns) at each)
-  where
-    gone : (f : Bool) (t : ℕ) → 1 + t ≡ cond f 1 0 + 0 → t ≡ 0
-    gone true t is = omega (arith, is)
-    gone false t is = omega (arith, is)
+    let each = (all_drawn a ns b [] drawn).each n in grind (arith, common_steps, append-nil)
 
 drawn_free : (a : Numbers) (ns : List ℕ) (b : Numbers) (n : ℕ) → IsDrawn a ns b → 0 < times_in_hand ns n
     → is_free a n ≡ true
@@ -124,8 +118,7 @@ module _ {q : AtPort} {size frame : ℕ} {old : List Call} {a : Numbers} {new : 
   pub fresh_own : OwnsSame a x.fresh.arena
   fresh_own n =
       let posts = x.up.on.filled.2 in
-      (all_exchanged x.up.both_arena [] x.fresh.arena (posts.blocks ++ [])
-      (posts.blocks, posts.drawn, λ k. refl)).owns n
+      (all_drawn x.up.both_arena posts.blocks x.fresh.arena [] posts.drawn).owns n
       ∙ both_own x.up.receive x.up.transmit n
 
   pub all_apart : DrivesApart (is_own a) x.up.on.mid (first_of q size frame old a new r x) new (halves_of r)

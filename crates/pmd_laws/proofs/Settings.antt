@@ -48,10 +48,7 @@ ground_there w fifo old given h sound events well x = let s : State = leads_to (
     let is = settings_told w.vfs fifo x.before sound early in
     let vfs : s.vfs ≡ w.vfs = vfs_stays (new_state w.vfs fifo) x.before in
     let fits = well old refl x in
-    record {
-      names = grind (arith, common_steps, same_in);
-      limit = sym is.1 ∙ fits.limit;
-    }
+    record { names = grind (arith, common_steps, same_in); limit = sym is.1 ∙ fits.limit }
 
 -- a side of a queue that is off and not wanted on stays so over every event that doesn't ask the queue on
 

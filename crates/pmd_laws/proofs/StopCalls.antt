@@ -77,8 +77,7 @@ on_ends q old mid new x more =
 
 once_off : (q : AtPort) (old mid off new : List Call) → TakesOnceOff q old mid → IsSwitched q mid off false 1000
     → Ends q off new → TakesOnceOff q old new
-once_off q old mid off new (inl asks) x ends =
-    inr (once_of q old new mid off asks x ends)
+once_off q old mid off new (inl asks) x ends = inr (once_of q old new mid off asks x ends)
 once_off q old mid off new (inr was) x ends =
     inr (on_ends q old mid new was
     (then_made (IsEnding q) mid off new (asks_end q mid off (switched_off_asks q mid off x)) ends))

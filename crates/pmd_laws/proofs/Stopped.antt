@@ -152,8 +152,7 @@ module _ (w : Watched) (origin : State) (q : AtPort) (frame : ℕ) where
           record {
             kept = keeps_on done e n.moves x.kept;
             out = n.out;
-            both =
-                rw (reached_next w origin done e, counted) n.both;
+            both = rw (reached_next w origin done e, counted) n.both;
             lent = x.lent;
           }
 
@@ -220,8 +219,7 @@ module _ (x : Life) (new : List Call) (y : IsStopping x new) where
         kept = record { ground = ground_ran r calls; settled = settled r calls; ahead = handed r calls };
         out = _;
         both = agree r calls;
-        lent =
-            rw (← all) (more_lent w.pass done rest k (ends r calls).lent);
+        lent = rw (← all) (more_lent w.pass done rest k (ends r calls).lent);
       }
 
   over_stop : Here h

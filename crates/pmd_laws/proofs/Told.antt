@@ -211,6 +211,22 @@ module _ {a : Numbers} {old : List Call} {h : Halves} where
   all_follow m [] x all = x
   all_follow m (n ∷ later) x all = all_follow n later (follows m n x all.0) all.1
 
+-- a ring of so many slots, one of which is vacant
+abbrev HasRoom : ℕ → Sender → Type 0
+HasRoom size v = (v.layout.size ≡ size) × (length v.outstanding < size)
+
+-- so it is behind calls of the halves
+
+played_room : (size : ℕ) (h : Halves) (doers : List Doer) (calls : List Call) → AllOwn h doers calls
+    → HasRoom size h.transmit → HasRoom size (played_by h doers calls).transmit
+played_room size h [] calls own x = x
+played_room size h (d ∷ doers) [] own x = absurd own
+played_room size h (Receives ∷ doers) (n ∷ calls) own x =
+    played_room size (after_call h Receives n) doers calls own.1 x
+played_room size h (Sends m ∷ doers) (n ∷ calls) own x =
+    played_room size (after_call h (Sends m) n) doers calls own.1
+    (grind (arith, common_steps, length-segments))
+
 module _ {q : AtPort} {size frame : ℕ} {old : List Call} {a : Numbers} {m : Moment} {later : List Moment}
     (x : IsTold q size frame old a m later) where
   abbrev fresh : Running
@@ -239,6 +255,14 @@ module _ {q : AtPort} {size frame : ℕ} {old : List Call} {a : Numbers} {m : Mo
       apart_leads_on (is_own a) on m.made (last m later).made begins (halves_of fresh) (halves_of runs.rings)
       (driven_apart (is_own a) on m.made begins (halves_of fresh) (all_apart lives)) runs.apart
 
+  -- its transmit ring has one slot vacant
+  pub room : HasRoom size runs.rings.transmit
+  room =
+      let (doers, since, made, own, is, steps) = runs.apart.leads in
+      subst (λ (z : Halves). HasRoom size z.transmit) (sym is)
+      (played_room size (halves_of x.started.0) doers since own
+      (subst (HasRoom size) (sym x.started.2.transmit.fresh) (refl, (sized size x.started.2.sized).0)))
+
 -- so it is a life
 module _ (x : Told) where
   abbrev pub goes : RunsOn x.a x.m.made (halves_of x.told.started.0) (now x)
@@ -251,39 +275,10 @@ module _ (x : Told) where
 
   -- with its blocks apart
   abbrev pub told_ran : Ran x.course
-  told_ran = record {
-    there = begun life;
-    new = (now x).made;
-    k = halves_of goes.rings;
-    goes = (led x.told).leads;
-  }
+  told_ran = record { there = begun life; new = (now x).made; k = halves_of goes.rings; goes = (led x.told).leads }
 
 -- Where a driver tells that its ring is full, or accepts none of several packets and answers no fault, its ring has no
 -- room for the first.
-
--- a ring of so many slots, one of which is vacant
-abbrev HasRoom : ℕ → Sender → Type 0
-HasRoom size v = (v.layout.size ≡ size) × (length v.outstanding < size)
-
--- so it is behind calls of the halves
-
-played_room : (size : ℕ) (h : Halves) (doers : List Doer) (calls : List Call) → AllOwn h doers calls
-    → HasRoom size h.transmit → HasRoom size (played_by h doers calls).transmit
-played_room size h [] calls own x = x
-played_room size h (d ∷ doers) [] own x = absurd own
-played_room size h (Receives ∷ doers) (n ∷ calls) own x =
-    played_room size (after_call h Receives n) doers calls own.1 x
-played_room size h (Sends m ∷ doers) (n ∷ calls) own x = played_room size (after_call h (Sends m) n) doers calls own.1
-    (grind (arith, common_steps, length-segments))
-
-module _ {q : AtPort} {size frame : ℕ} {old : List Call} {a : Numbers} {m : Moment} {later : List Moment}
-    (x : IsTold q size frame old a m later) where
-  pub room : HasRoom size (runs x).rings.transmit
-  room =
-      let (doers, since, made, own, is, steps) = (runs x).apart.leads in
-      subst (λ (z : Halves). HasRoom size z.transmit) (sym is)
-      (played_room size (halves_of x.started.0) doers since own
-      (subst (HasRoom size) (sym x.started.2.transmit.fresh) (refl, (sized size x.started.2.sized).0)))
 
 -- a driver that runs with one slot vacant
 module _ (size : ℕ) (m n : Moment) (r : Running) (p : Packet) (is : m.driver.rings ≡ Up r)

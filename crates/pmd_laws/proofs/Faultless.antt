@@ -256,19 +256,13 @@ module _ (x : BeginsApart) where
   AtFirst = IsQuietAndFresh w.queue q frame (is_own a)
 
   -- behind the first access
-  unlent : (lent : Blocks) (first : List Call) → IsMade q old first (Sees Rxdctl false)
-      → RisesToLast q lent first new → (number : ℕ) → is_own a number ≡ true → (lent number ≡ true → ⊥)
-      → BeforeLast w origin h new (λ s. has_block s.memory number ≡ false)
-  unlent lent first begins =
-      unlent_before w origin h q old first x.along (is_own a) lent begins
-      (λ done rest e both own is.
-      (before_made q w origin h AtFirst (Sees Rxdctl false) old first begins x.begins done rest e both own is).1.none)
-      x.others new
-
   undrawn : (b : Numbers) (ns : List ℕ) (first : List Call) → IsMade q old first (Sees Rxdctl false) → IsDrawn a ns b
       → RisesToLast q (among ns) first new → NoneIsLent w origin h new b
   undrawn b ns first begins drawn rises number free =
-      unlent (among ns) first begins rises number (is_own-of_free a number (free_before a ns b drawn number free))
+      unlent_before w origin h q old first x.along (is_own a) (among ns) begins
+      (λ done rest e both own is.
+      (before_made q w origin h AtFirst (Sees Rxdctl false) old first begins x.begins done rest e both own is).1.none)
+      x.others new rises number (is_own-of_free a number (free_before a ns b drawn number free))
       (λ is. both_ways (among ns number) (times_among ns number (drawn_gone a ns b number drawn free)) is)
 
   -- before both sides are on, whichever arena such a start had

@@ -148,10 +148,12 @@ module _ (w : Watched) (origin : State) (h : List Entry) (q : AtPort) (old first
     (along : IsAlong w origin h) (own lent : Blocks) (begins : IsMade q old first (Sees Rxdctl false))
     (fresh : BeforeLast w origin h first (NoneLent own)) (others : OnlyPassLends w.pass own h)
   where
-    lent_since : {calls more : List Call} {c : Call} (done rest : List Entry) → done ++ rest ≡ h
-        → calls ++ c ∷ [] ≡ first → Each (λ d. IsRising q lent d.event) (c ∷ more) → Around w.pass done calls c more
-        → OnlyLent own lent (leads_to origin done).memory
-    lent_since done rest all made rising x =
+    lent_at : (new : List Call) → Rises q lent first new → AtCalls w origin h new (λ s. OnlyLent own lent s.memory)
+    lent_at new rises done rest all calls =
+        let (number, word, named, seen, (before, added, steps)) = begins in
+        let c : Call = call_of (event.Read q.port number) (reply.Word word) in
+        let made : (old ++ before) ++ c ∷ [] ≡ first = append_assoc old before (c ∷ []) ∙ sym added in
+        let x : Around w.pass done (old ++ before) c rises.0 = grind (arith, common_steps, around) in
         let es : List Entry = x.entry ∷ x.behind in
         let so_far = along_before w origin done rest all along in
         let here = fresh x.before (x.behind ++ rest) x.entry
@@ -167,16 +169,8 @@ module _ (w : Watched) (origin : State) (h : List Entry) (q : AtPort) (old first
         let are : Each (λ d. IsRising q lent d.event) (calls_of w.pass es) =
         subst (Each (λ d. IsRising q lent d.event))
         (sym (calls_own w.pass x.entry x.behind (eq-eqb x.entry.pass w.pass x.own) ∙ (λ i. x.call i ∷ x.later i)))
-        rising in
+        (tt, rises.2) in
         rw (← x.all, leads-append origin x.before es) (λ n is has. lent_is q lent w.pass es are n (then n is has))
-
-    lent_at : (new : List Call) → Rises q lent first new → AtCalls w origin h new (λ s. OnlyLent own lent s.memory)
-    lent_at new rises done rest all calls =
-        let (number, word, named, seen, (before, added, steps)) = begins in
-        let c : Call = call_of (event.Read q.port number) (reply.Word word) in
-        let made : (old ++ before) ++ c ∷ [] ≡ first = append_assoc old before (c ∷ []) ∙ sym added in
-        lent_since done rest all made (tt, rises.2)
-        (grind (arith, common_steps, around))
 
     -- so none but those is lent just before one call more
     pub unlent_before : (new : List Call) → RisesToLast q lent first new → (number : ℕ) → IsTrue (own number)

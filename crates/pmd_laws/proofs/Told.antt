@@ -100,10 +100,8 @@ module _ (x : Life) (old : List Call) {mid new now : List Call} (e : Event Block
 
   ends : (calls_of x.w.pass at.before ≡ till) × (call_in at.entry ≡ call_of e reply)
   ends =
-      let last : List Call = call_of e reply ∷ [] in
       same_from_push (calls_of x.w.pass at.before) till (call_in at.entry) (call_of e reply)
-      (at.made ∙ behind (added old e reply drives adds) (added_is old e reply drives adds)
-      ∙ sym (append_assoc x.made drives.1 (adds.0 ++ last)) ∙ sym (append_assoc (x.made ++ drives.1) adds.0 last))
+      (at.made ∙ behind (added old e reply drives adds) (added_is old e reply drives adds) ∙ simp (append_assoc))
 
   -- the life goes on up to it
   goes_up : Leads x.started (halves_of x.r) (calls_of x.w.pass at.before) then
@@ -118,10 +116,9 @@ module _ (x : Life) (old : List Call) {mid new now : List Call} (e : Event Block
   -- and the device answers it
   answered : reply_to (leads_to x.origin at.before) e ≡ reply
   answered =
-      let here = leads_to x.origin at.before in
       let legal = legal_behind x.origin at.before (at.entry ∷ at.behind)
       (subst (IsLegal x.origin) (sym at.all) x.is.along.legal) in
-      ap (λ (d : Call). reply_to here d.event) (sym ends.1) ∙ sym legal.0 ∙ ap (λ (d : Call). d.reply) ends.1
+      grind (arith, common_steps, ends, legal)
 
 -- a look in vain, and one that finds a packet waiting
 

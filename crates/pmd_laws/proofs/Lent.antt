@@ -6,27 +6,27 @@ use Rattle.driver_laws.proofs.Fitting.{frames_stay_short, lends_is, only_pass_le
 use Rattle.driver_laws.proofs.Sending.{receive_lent as ring_lent_there, sender_lent}
 use Rattle.driver_laws.specs.{DeviceLaws.Laws.WritesNoSetting, Healthy.lent_by as halves_lent_by}
 use Rattle.nic_device.specs.DmaArena.Block.{zero_block}
-use Rattle.pmd_laws.{proofs.Order.transmit_lent, proofs.Prelude.writes_driven, proofs.Prelude.zero, proofs.Told.goes}
-use Rattle.pmd_laws.{proofs.Told.led, proofs.Told.told_ran, specs.Told.now}
+use Rattle.pmd_laws.{proofs.Order.transmit_lent, proofs.Prelude.words_are_writes, proofs.Prelude.writes_driven}
+use Rattle.pmd_laws.{proofs.Prelude.zero, proofs.Told.goes, proofs.Told.led, proofs.Told.told_ran, specs.Told.now}
 use Rattle.pmd_laws.proofs.Order.{On, agree, along_before, driven, first, in_parts, last, receive_lent, there_is}
-use Rattle.pmd_laws.proofs.Prelude.{[], ⊤, ◌++◌, ◌+◌, ◌<◌, ◌==◌, ◌||◌, ◌∙◌, ◌∷◌, ◌≡◌, Access, All, AllAre, AllLendApart}
-use Rattle.pmd_laws.proofs.Prelude.{AreEvents, AreMade, AreMadeOf, AreOn, AreShort, Around, AtCalls, AtPort, BeforeLast}
-use Rattle.pmd_laws.proofs.Prelude.{Block, Blocks, Bool, BothAgree, Call, Course, Dir, Each, EachInOnePlace}
-use Rattle.pmd_laws.proofs.Prelude.{EachRingBlock, Entry, Event, FitsBlocks, Halves, HasAll, HasGround, IsAlong}
-use Rattle.pmd_laws.proofs.Prelude.{IsDriven, IsFresh, IsKept, IsLegal, IsMade, IsNumberOf, IsPlain, IsPrepared}
-use Rattle.pmd_laws.proofs.Prelude.{IsReceiveReady, IsTrue, LendsEach, LentIsOut, List, Memory, NamesDriven, NoneLent}
-use Rattle.pmd_laws.proofs.Prelude.{Numbers, OnlyLent, OnlyPassLends, OutIsLent, Piece, Receive, Reply, Rings, RowId}
-use Rattle.pmd_laws.proofs.Prelude.{Running, Rxdctl, Sees, Sender, Sets, State, Told, Tx, Up, Watched, ℕ, accesses_are}
-use Rattle.pmd_laws.proofs.Prelude.{adds_made, after, among_times, and_parts, ap, append_assoc, arena_of, arith, around}
-use Rattle.pmd_laws.proofs.Prelude.{blocks_of, both_quiet, both_ways, call_in, call_of, calls_of, calls_other}
-use Rattle.pmd_laws.proofs.Prelude.{calls_own, common_steps, cond, each_ring_block, eq-eqb, events_behind, false}
-use Rattle.pmd_laws.proofs.Prelude.{false_from_ne_true, ground_kept, halted_of, halves_of, has_block, has_lent, inl}
-use Rattle.pmd_laws.proofs.Prelude.{inr, is_free, is_out, is_own, is_step, leads-append, leads_to, left, left-setting}
-use Rattle.pmd_laws.proofs.Prelude.{legal_behind, lends, lent_by, lent_in, list_any, made_some, memory_after}
-use Rattle.pmd_laws.proofs.Prelude.{most_blocks, named, none_made, not, or_cases, places_of, plain_keeps, plain_setting}
-use Rattle.pmd_laws.proofs.Prelude.{quiet, reads_driven, refl, ring_block_among, ring_block_out, ring_blocks}
-use Rattle.pmd_laws.proofs.Prelude.{ring_words, same_from_push, subst, suc, sym, take, then_made, times-append}
-use Rattle.pmd_laws.proofs.Prelude.{times-cons, times_among, times_first, times_in_hand, true, words_are_writes}
+use Rattle.pmd_laws.proofs.Prelude.{[], ⊎_elim, ⊤, ◌++◌, ◌+◌, ◌<◌, ◌==◌, ◌||◌, ◌∙◌, ◌∷◌, ◌≡◌, Access, All, AllAre}
+use Rattle.pmd_laws.proofs.Prelude.{AllLendApart, AreEvents, AreMade, AreMadeOf, AreOn, AreShort, Around, AtCalls}
+use Rattle.pmd_laws.proofs.Prelude.{AtPort, BeforeLast, Block, Blocks, Bool, BothAgree, Call, Course, Dir, Each}
+use Rattle.pmd_laws.proofs.Prelude.{EachInOnePlace, EachRingBlock, Entry, Event, FitsBlocks, Halves, HasAll, HasGround}
+use Rattle.pmd_laws.proofs.Prelude.{IsAlong, IsDriven, IsFresh, IsKept, IsLegal, IsMade, IsNumberOf, IsPlain}
+use Rattle.pmd_laws.proofs.Prelude.{IsPrepared, IsReceiveReady, IsTrue, LendsEach, LentIsOut, List, Memory, NamesDriven}
+use Rattle.pmd_laws.proofs.Prelude.{NoneLent, Numbers, OnlyLent, OnlyPassLends, OutIsLent, Piece, Receive, Reply, Rings}
+use Rattle.pmd_laws.proofs.Prelude.{RowId, Running, Rxdctl, Sees, Sender, Sets, State, Told, Tx, Up, Watched, ℕ}
+use Rattle.pmd_laws.proofs.Prelude.{accesses_are, adds_made, after, among_times, and_parts, ap, append_assoc, arena_of}
+use Rattle.pmd_laws.proofs.Prelude.{arith, around, blocks_of, both_quiet, both_ways, call_in, call_of, calls_of}
+use Rattle.pmd_laws.proofs.Prelude.{calls_other, calls_own, common_steps, cond, each_ring_block, eq-eqb, events_behind}
+use Rattle.pmd_laws.proofs.Prelude.{false, false_from_ne_true, ground_kept, halted_of, halves_of, has_block, has_lent}
+use Rattle.pmd_laws.proofs.Prelude.{inl, inr, is_free, is_out, is_own, is_step, leads-append, leads_to, left}
+use Rattle.pmd_laws.proofs.Prelude.{left-setting, legal_behind, lends, lent_by, lent_in, list_any, made_some}
+use Rattle.pmd_laws.proofs.Prelude.{memory_after, most_blocks, named, none_made, not, or_cases, places_of, plain_keeps}
+use Rattle.pmd_laws.proofs.Prelude.{plain_setting, quiet, reads_driven, refl, ring_block_among, ring_block_out}
+use Rattle.pmd_laws.proofs.Prelude.{ring_blocks, ring_words, same_from_push, subst, suc, sym, take, then_made}
+use Rattle.pmd_laws.proofs.Prelude.{times-append, times-cons, times_among, times_first, times_in_hand, true}
 use Rattle.std.proofs.lemmas.List.Folds.{list_any-append}
 use Rattle.nic_device.specs.declared.event.Event.TheVariants as event
 use Rattle.nic_device.specs.declared.event.Reply.TheVariants as reply
@@ -237,10 +237,9 @@ module _ {c : Course} (x : On c) (own : Blocks) where
 both_lent : {queue : ℕ} {s : State} {out : List Piece} {sent : List (List ℕ)} (h : Halves)
     → BothAgree queue s out sent h → (n : ℕ) → halves_lent_by h n ≡ true → has_block s.memory n ≡ true
 both_lent {queue = queue} {s = s} {out = out} {sent = sent} h both n is =
-    elim (or_cases (received.has_lent h.receive n) (sending.has_lent h.transmit n) is) [
-      | inl first ↦ ring_lent_there queue s out h.receive both.receive n first
-      | inr second ↦ sender_lent s queue sent h.transmit both.transmit.0 both.transmit.1 n second
-    ]
+    ⊎_elim (ring_lent_there queue s out h.receive both.receive n)
+    (sender_lent s queue sent h.transmit both.transmit.0 both.transmit.1 n)
+    (or_cases (received.has_lent h.receive n) (sending.has_lent h.transmit n) is)
 
 -- so it is of the blocks that are out
 at_last : (x : Told) (P : Blocks → State → Type 0) → P (halves_lent_by (told_ran x).k) (leads_to x.origin x.h)

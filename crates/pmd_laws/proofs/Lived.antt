@@ -2,9 +2,9 @@
 -- anew, whatever was before a place where it was off.
 use Rattle.pmd_laws.{proofs.StopCalls.stopped_ends, specs.Points.JustBefore}
 use Rattle.pmd_laws.proofs.DriverLaws.{Histories.leads-append, StopCalls.prepared_plain, SwitchedOff.quieting_leads}
-use Rattle.pmd_laws.proofs.Prelude.{[], ◌++◌, ◌∙◌, ◌∷◌, ◌≡◌, AreSteps, AreUp, AtPort, Begins, BeginsWell, Call, Ended}
-use Rattle.pmd_laws.proofs.Prelude.{Entry, HasGround, HasLived, IsAlong, IsFalse, IsOver, IsQuiet, IsTrue, List, None}
-use Rattle.pmd_laws.proofs.Prelude.{Numbers, Option, Parts, Piece, PmdFault, Rest, Rx, Rxdctl, State, Tx, Watched}
+use Rattle.pmd_laws.proofs.Prelude.{[], ⊎_elim, ◌++◌, ◌∙◌, ◌∷◌, ◌≡◌, AreSteps, AreUp, AtPort, Begins, BeginsWell, Call}
+use Rattle.pmd_laws.proofs.Prelude.{Ended, Entry, HasGround, HasLived, IsAlong, IsFalse, IsOver, IsQuiet, IsTrue, List}
+use Rattle.pmd_laws.proofs.Prelude.{None, Numbers, Option, Parts, Piece, PmdFault, Rest, Rx, Rxdctl, State, Tx, Watched}
 use Rattle.pmd_laws.proofs.Prelude.{WentOn, ℕ, after, ap, append-nil, append_cancel_left, arith, around, both_ways}
 use Rattle.pmd_laws.proofs.Prelude.{bytes_of, calls_joined, calls_of, cases_Bool, common_steps, delivered, extends}
 use Rattle.pmd_laws.proofs.Prelude.{false, inl, inr, is_on, is_step, leads_to, left_accepted, left_handed, new_state}
@@ -182,11 +182,8 @@ module _ (w : Watched) (fifo : ℕ) (h : List Entry) {q : AtPort} {size frame : 
 
       begun : Begins x.before both_off.front
       begun =
-          elim (one_begins x.before (x.first ∷ x.behind) both_off.front rest (x.all ∙ sym whole))
-          as (λ _. Begins x.before both_off.front) [
-            | inl before ↦ before
-            | inr behind ↦ absurd (not_behind behind)
-          ]
+          ⊎_elim (λ before. before) (λ behind. absurd (not_behind behind))
+          (one_begins x.before (x.first ∷ x.behind) both_off.front rest (x.all ∙ sym whole))
 
       from_first : x.first ∷ x.behind ≡ begun.0 ++ rest
       from_first = grind (arith, common_steps, append_cancel_left, begun, rest, whole)

@@ -14,11 +14,11 @@ use Rattle.pmd_laws.proofs.DriverLaws.HistoryLaws.{Alone.histories_sound, Deeds.
 use Rattle.pmd_laws.proofs.DriverLaws.HistoryLaws.DeviceLaws.PoolResets.{asked_pool_resets}
 use Rattle.pmd_laws.proofs.DriverLaws.HistoryLaws.Steady.{off_steady, steady_kept}
 use Rattle.pmd_laws.proofs.DriverLaws.HistoryLaws.Written.{place_in, place_named}
-use Rattle.pmd_laws.proofs.Prelude.{[], ◌++◌, ◌+◌, ◌<◌, ◌∙◌, ◌∷◌, ◌≡◌, AreEvents, Block, Call, Dir, Entry, Event}
-use Rattle.pmd_laws.proofs.Prelude.{HasGround, IsSound, List, Mode, Option, Place, Port, Register, Rx, Some, State, Tx}
-use Rattle.pmd_laws.proofs.Prelude.{Watched, ℕ, after, ap, append-nil, append_assoc, arith, asks_pool_reset, cases_Bool}
-use Rattle.pmd_laws.proofs.Prelude.{cleared, common_steps, cond, enable_row, events_before, false, has_bit, has_queue}
-use Rattle.pmd_laws.proofs.Prelude.{image_stays, inl, inr, is_on, leads_to, left-side, length, mode_in, named}
+use Rattle.pmd_laws.proofs.Prelude.{[], ⊎_elim, ◌++◌, ◌+◌, ◌<◌, ◌∙◌, ◌∷◌, ◌≡◌, AreEvents, Block, Call, Dir, Entry}
+use Rattle.pmd_laws.proofs.Prelude.{Event, HasGround, IsSound, List, Mode, Option, Place, Port, Register, Rx, Some}
+use Rattle.pmd_laws.proofs.Prelude.{State, Tx, Watched, ℕ, after, ap, append-nil, append_assoc, arith, asks_pool_reset}
+use Rattle.pmd_laws.proofs.Prelude.{cases_Bool, cleared, common_steps, cond, enable_row, events_before, false, has_bit}
+use Rattle.pmd_laws.proofs.Prelude.{has_queue, image_stays, is_on, leads_to, left-side, length, mode_in, named}
 use Rattle.pmd_laws.proofs.Prelude.{new_sound, new_state, place, refl, row_of, subst, sym, true, vfs_stays}
 use Rattle.pmd_laws.specs.{DriverLaws.Numbers.queue_at, DriverLaws.Numbers.queue_in, Quiet.NeverAskedIsQuiet}
 use Rattle.pmd_laws.specs.DriverLaws.HistoryLaws.{Sides.IsOff, Sides.side_of}
@@ -122,29 +122,25 @@ module _ (w : Watched) (small : w.queue < 128) (s : State) (sound : IsSound s) (
       pool_down asks =
           let mode = mode_in s.registers in
           let x = asked_pool_resets s sound port n word p view found asks in
-          elim (cases_Bool (has_queue mode p.index queue)) as (λ _. Down t) [
-            | inl has ↦ (
-              x.registers.bits here 25 (of_pool dir mode p.index queue ∙ has) (inside dir queue small) ∙ reset_word dir,
-              x.registers.wanted dir queue has small,
-            )
-            | inr none ↦ (
-              x.alone.registers.bits here 25 (of_pool dir mode p.index queue ∙ none) ∙ down.0,
-              x.alone.registers.wanted dir queue none ∙ down.1,
-            )
-          ]
+          ⊎_elim
+          (λ has. (
+            x.registers.bits here 25 (of_pool dir mode p.index queue ∙ has) (inside dir queue small) ∙ reset_word dir,
+            x.registers.wanted dir queue has small,
+          ))
+          (λ none. (
+            x.alone.registers.bits here 25 (of_pool dir mode p.index queue ∙ none) ∙ down.0,
+            x.alone.registers.wanted dir queue none ∙ down.1,
+          )) (cases_Bool (has_queue mode p.index queue))
 
       -- neither is
       module _ (zero : is_place p here ≡ true → has_bit 25 word ≡ false) where
         written_unwanted : is_wanted (after_write s.registers p view word) dir queue ≡ false
-        written_unwanted = elim (cases_Bool (is_place p here))
-            as (λ _. is_wanted (after_write s.registers p view word) dir queue ≡ false) [
-              | inl same ↦
-                  ap (λ q. is_wanted (after_write s.registers q view word) dir queue) (is_place-same p here same)
-                  ∙ asked_of dir queue small s sound view word ∙ zero same
-              | inr other ↦
-                  (within-written s.registers p view word).wanted dir queue (grind (arith, common_steps))
-                  ∙ down.1
-            ]
+        written_unwanted =
+            ⊎_elim
+            (λ same. ap (λ q. is_wanted (after_write s.registers q view word) dir queue) (is_place-same p here same)
+            ∙ asked_of dir queue small s sound view word ∙ zero same)
+            (λ other. (within-written s.registers p view word).wanted dir queue (grind (arith, common_steps)) ∙ down.1)
+            (cases_Bool (is_place p here))
 
         written_down : asks_reset (row_of p.row).kind word ≡ false → asks_pool_reset (row_of p.row).kind word ≡ false
             → Down t
@@ -157,13 +153,10 @@ module _ (w : Watched) (small : w.queue < 128) (s : State) (sound : IsSound s) (
             (sides-after_write s.registers sound.registers view word p dir queue ∙ down.0, written_unwanted)
 
         register_down : Down t
-        register_down = elim (cases_Bool (asks_reset (row_of p.row).kind word)) as (λ _. Down t) [
-          | inl asks ↦ reset_down asks
-          | inr no_reset ↦ elim (cases_Bool (asks_pool_reset (row_of p.row).kind word)) as (λ _. Down t) [
-            | inl asks ↦ pool_down asks
-            | inr no_pool ↦ written_down no_reset no_pool
-          ]
-        ]
+        register_down =
+            ⊎_elim reset_down (λ no_reset.
+            ⊎_elim pool_down (written_down no_reset) (cases_Bool (asks_pool_reset (row_of p.row).kind word)))
+            (cases_Bool (asks_reset (row_of p.row).kind word))
 
     module _ (functions : w.vfs ≡ s.vfs) (none : asks_on w (mode_in s.registers) (event.Write port n word) ≡ false)
       where

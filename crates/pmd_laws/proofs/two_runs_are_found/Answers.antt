@@ -2,9 +2,9 @@
 use Rattle.nic_device.proofs.{DmaArena.Owned.is_own-of_free, DmaArena.Owned.own_within, DmaArena.Runs.found_behind}
 use Rattle.nic_device.specs.DmaArena.Run.{IsFreeRun, are_free, run_behind, run_from, run_in}
 use Rattle.pmd.specs.Runs.{behind_run, second_run}
-use Rattle.pmd_laws.{proofs.Prelude.true, proofs.Prelude.zero, specs.Room.HasTwoRuns}
-use Rattle.pmd_laws.proofs.Prelude.{◌+◌, ◌-◌, ◌<◌, ◌≡◌, ◌≢◌, ◌≤◌, None, Numbers, Option, Some, ℕ, and_from, arith}
-use Rattle.pmd_laws.proofs.Prelude.{both_ways, cases_Bool, count_of, inl, inr, is_free, is_some, left, refl, subst, suc}
+use Rattle.pmd_laws.{proofs.Prelude.suc, proofs.Prelude.true, proofs.Prelude.zero, specs.Room.HasTwoRuns}
+use Rattle.pmd_laws.proofs.Prelude.{⊎_elim, ◌+◌, ◌-◌, ◌<◌, ◌≡◌, ◌≢◌, ◌≤◌, None, Numbers, Option, Some, ℕ, and_from}
+use Rattle.pmd_laws.proofs.Prelude.{arith, both_ways, cases_Bool, count_of, false, is_free, is_some, left, refl, subst}
 use Rattle.pmd_laws.proofs.two_runs_are_found.Goals as goal
 
 first_free : (a : Numbers) (first count : ℕ) → 0 < count → IsFreeRun a first count → is_free a first ≡ true
@@ -27,14 +27,11 @@ by_run : (a : Numbers) (count number left n : ℕ) → number ≤ n → n < numb
 unfolding run_from
 by_run a count number zero n low high free = absurd (omega (arith, low, high))
 by_run a count number (suc left) n low high free =
-    elim (cases_Bool (are_free a number count))
-    as (λ _. (m : ℕ) × (run_from a count number (suc left) ≡ Some m) × (m ≤ n)) [
-      | inl here ↦ (number, rw here refl, low)
-      | inr taken ↦
-          let ne : n ≢ number = λ same. both_ways _ taken (subst (λ (m : ℕ). are_free a m count ≡ true) same free) in
-          let (m, is, early) = by_run a count (number + 1) left n (omega (arith, low, ne)) (omega (arith, high)) free
-          in (m, simp taken is, early)
-    ]
+    ⊎_elim (λ (here : are_free a number count ≡ true). (number, rw here refl, low))
+    (λ (taken : are_free a number count ≡ false).
+    let ne : n ≢ number = λ same. both_ways _ taken (subst (λ (m : ℕ). are_free a m count ≡ true) same free) in
+    let (m, is, early) = by_run a count (number + 1) left n (omega (arith, low, ne)) (omega (arith, high)) free in
+    (m, simp taken is, early)) (cases_Bool (are_free a number count))
 
 run_finds : (a : Numbers) (count from n : ℕ) → 0 < count → from ≤ n → IsFreeRun a n count
     → (m : ℕ) × (run_behind a count from ≡ Some m) × (m ≤ n)
@@ -55,14 +52,10 @@ there_are a count some x =
 among_low : (a : Numbers) (count number left n : ℕ) → run_from a count number left ≡ Some n → number ≤ n
 unfolding run_from
 among_low a count number zero n is = cc
-among_low a count number (suc left) n is = elim (cases_Bool (are_free a number count)) as (λ _. number ≤ n) [
-  | inl free ↦
-      let same : number ≡ n = (let e : Some number ≡ Some n = rw free at is in cc) in
-      omega (arith, same)
-  | inr taken ↦
-      let later = among_low a count (number + 1) left n (rw taken at is) in
-      omega (arith, later)
-]
+among_low a count number (suc left) n is =
+    ⊎_elim (λ free. let same : number ≡ n = (let e : Some number ≡ Some n = rw free at is in cc) in omega (arith, same))
+    (λ taken. let later = among_low a count (number + 1) left n (rw taken at is) in omega (arith, later))
+    (cases_Bool (are_free a number count))
 
 found_runs : (a : Numbers) (count : ℕ) (one two : Option ℕ) → run_in a count ≡ one → behind_run a count one ≡ two
     → is_some two ≡ true → HasTwoRuns a count

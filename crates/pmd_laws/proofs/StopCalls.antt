@@ -3,7 +3,7 @@
 use Rattle.driver_laws.proofs.StopCalls.{asks_end, bringing_ends, step_ends, switched_off_asks, unswitched_asks}
 use Rattle.pmd.specs.Stopping.{ComesHome, IsLeftAmid, bringing, brought}
 use Rattle.pmd.specs.declared.home.Home.{Home}
-use Rattle.pmd_laws.proofs.Prelude.{[], ◌++◌, ◌∙◌, ◌∷◌, ◌≡◌, ◌⊎◌, AreMadeOf, Asks, AtPort, Begins, Block, Call, Each}
+use Rattle.pmd_laws.proofs.Prelude.{[], ⊎_elim, ◌++◌, ◌∙◌, ◌∷◌, ◌≡◌, ◌⊎◌, AreMadeOf, Asks, AtPort, Block, Call, Each}
 use Rattle.pmd_laws.proofs.Prelude.{Ends, EndsOnceOff, Event, Halted, IsAsking, IsEnding, IsStopped, IsSwitched, List}
 use Rattle.pmd_laws.proofs.Prelude.{None, Option, PmdFault, Rest, Some, TakesOnceOff, after, ap, append_assoc}
 use Rattle.pmd_laws.proofs.Prelude.{append_cancel_left, arith, closed, common_steps, false, inl, inr, left, none_made}
@@ -45,16 +45,13 @@ takes_ends q old new (inr x) =
     then_made (IsEnding q) old x.off new (asks_end q old x.off (off_asks q old new x)) x.ends
 
 module _ (q : AtPort) (old now new since rest : List Call) (some : now ≡ old ++ since) (all : new ≡ now ++ rest) where
-  so_far : (x : EndsOnceOff q old new) → Begins now x.off ⊎ Begins x.off now → TakesOnceOff q old now
-  so_far x (inl (back, is)) =
-      inl (first_made (IsAsking q) old now x.off since back (off_asks q old new x) some (sym is))
-  so_far x (inr (back, is)) =
-      inr (once_of q old now x.mid x.off x.asks x.switched
-      (first_made (IsEnding q) x.off now new back rest x.ends (sym is) all))
-
   pub first_takes : TakesOnceOff q old new → TakesOnceOff q old now
   first_takes (inl asks) = inl (first_made (IsAsking q) old now new since rest asks some all)
-  first_takes (inr x) = so_far x (one_begins now rest x.off x.ends.0 (sym all ∙ x.ends.1))
+  first_takes (inr x) =
+      ⊎_elim (λ b. inl (first_made (IsAsking q) old now x.off since b.0 (off_asks q old new x) some (sym b.1)))
+      (λ b. inr (once_of q old now x.mid x.off x.asks x.switched
+      (first_made (IsEnding q) x.off now new b.0 rest x.ends (sym b.1) all)))
+      (one_begins now rest x.off x.ends.0 (sym all ∙ x.ends.1))
 
 -- what comes behind a switch off
 

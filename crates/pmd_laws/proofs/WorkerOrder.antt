@@ -31,25 +31,23 @@ last_or_none (d ∷ cs) =
 
 up_to : (tag : ℕ) (h : List Entry) (calls more : List Call) → calls_of tag h ≡ calls ++ more
     → (u : UpTo tag h calls) × EndOwn tag u.done
-up_to tag h calls more is = elim (last_or_none calls) as (λ _. (u : UpTo tag h calls) × EndOwn tag u.done) [
-  | inl none ↦ (
-    record { done = []; rest = h; all = refl; made = sym none },
-    λ before e both. absurd (isnt_none before e [] both),
-  )
-  | inr (front, c, ends) ↦
-      let x =
-      around tag h front c more
-      (is ∙ ap (λ (l : List Call). l ++ more) ends ∙ append_assoc front (c ∷ []) more) in (
-        record {
-          done = x.before ++ x.entry ∷ [];
-          rest = x.behind;
-          all = append_assoc x.before (x.entry ∷ []) x.behind ∙ x.all;
-          made = grind (arith, common_steps, calls_joined, calls_own);
-        },
-        λ before e both.
-            ap (λ (f : Entry). f.pass) (same_from_push before x.before e x.entry both).1 ∙ x.own,
-      )
-]
+up_to tag h calls more is =
+    ⊎_elim
+    (λ none.
+    (record { done = []; rest = h; all = refl; made = sym none }, λ before e both. absurd (isnt_none before e [] both)))
+    (λ (l : (before : List Call) × (c : Call) × (calls ≡ before ++ c ∷ [])).
+    let (front, c, ends) = l in
+    let x = around tag h front c more
+    (is ∙ ap (λ (l : List Call). l ++ more) ends ∙ append_assoc front (c ∷ []) more) in (
+      record {
+        done = x.before ++ x.entry ∷ [];
+        rest = x.behind;
+        all = append_assoc x.before (x.entry ∷ []) x.behind ∙ x.all;
+        made = grind (arith, common_steps, calls_joined, calls_own);
+      },
+      λ before e both. ap (λ (f : Entry). f.pass) (same_from_push before x.before e x.entry both).1 ∙ x.own,
+    ))
+    (last_or_none calls)
 
 pub calls_stand : CallsStand
 calls_stand bench count h ps pass closes x =

@@ -149,10 +149,8 @@ module _ (longest : ℕ) (s : State) (h : All (IsUpTo longest) s.waiting) where
   arrived : (frame : List ℕ) → Behind (event.Arrive frame) (step_of s (event.Arrive frame))
   unfolding step_of
   arrived frame =
-      let Is = Behind (event.Arrive frame) in
-      let none = more 0 s.waiting h in
-      either_way Is s.link _ _
-      (grind (arith, common_steps, either_way, sorted_behind)) none
+      either_way (Behind (event.Arrive frame)) s.link _ _ (grind (arith, common_steps, either_way, sorted_behind))
+      (more 0 s.waiting h)
 
   -- no other event does
 

@@ -1,25 +1,104 @@
+-- What was made of a device in hand is a history of it: the calls of pass 0 are those behind what others made.
+use Rattle.driver_laws.{specs.Prelude.entries_in, specs.Prelude.marked_entries, specs.Retold.AreSame}
+use Rattle.pmd_laws.proofs.{Order.life_of, Prelude.subst, Prelude.sym, Prelude.true, Told.goes, Told.life}
+use Rattle.pmd_laws.proofs.Faultless.{FindsAmid, filling_never, found, made, made_is, never_at_fault, none_amid}
+use Rattle.pmd_laws.proofs.Prelude.{[], ◌++◌, ◌<◌, ◌==◌, ◌∙◌, ◌∷◌, ◌≡◌, ◌⊎◌, AllFollow, AtPort, BeforeLast, BeginsApart}
+use Rattle.pmd_laws.proofs.Prelude.{Beside, Bool, Call, DrivesRings, Drove, Entry, FaultsEarly, FaultsFilling, Follows}
+use Rattle.pmd_laws.proofs.Prelude.{GoesOn, HasGround, IsAlong, IsFresh, IsLife, IsToldAlone, IsToldBy, IsToldOf}
+use Rattle.pmd_laws.proofs.Prelude.{IsTrue, LeadsTo, LeavesAloneFrom, Life, List, Moment, NoneLent, Numbers, Rings}
+use Rattle.pmd_laws.proofs.Prelude.{State, Told, Up, WasTold, Watched, WhereUp, ℕ, after, ap, append-nil, append_assoc}
+use Rattle.pmd_laws.proofs.Prelude.{append_cancel_left, arith, calls_joined, calls_of, calls_other, common_steps}
+use Rattle.pmd_laws.proofs.Prelude.{events-append, events_same, false, halves_of, has_begun, inl, inr, is_own, last}
+use Rattle.pmd_laws.proofs.Prelude.{leads-append, leads_to, led, legal-append, legal_same, length, now, own_calls, refl}
+use Rattle.pmd_laws.proofs.Shifted.{early_shift, on_shift, rings, shifted, up_shift}
+use Rattle.pmd_laws.specs.{BesideApart.IsAloneBeside, BesideApart.IsCalledApart, BesideStart.BeginsBeside}
+use Rattle.pmd_laws.specs.Beside.{AllFollowBy, DirectIsRetold, FollowsBy, InterleavedIsRetold, IsCalledBeside, IsRetold}
+use Rattle.pmd_laws.specs.Beside.{IsToldAnew, IsToldBeside, anew, by_own}
+use Rattle.pmd_laws.specs.InHand.{DirectIsHistory, InterleavedIsHistory, IsHistoryOf, WasMade, in_hand}
+use Rattle.pmd_laws.specs.Told as own
+
+history : (s : State) (queue : ℕ) (before h : List Entry) (calls : List Call) (device : State) → queue < 128
+    → WasMade s before → LeadsTo (leads_to s before) h device → calls_of 0 h ≡ calls
+    → LeavesAloneFrom (in_hand s queue) s (before ++ h) → IsHistoryOf s queue (before ++ h) calls device
+history s queue before h calls device small was led made alone =
+    grind (arith, common_steps, events-append, legal-append, calls_joined, leads-append)
+
+-- those of a device in hand are all of pass 0, and those that are marked as own
+
+all_are : (calls : List Call) → calls_of 0 (entries_in calls) ≡ calls
+all_are [] = refl
+all_are (c ∷ calls) = ap (λ (l : List Call). c ∷ l) (all_are calls)
+
+own_are : (calls : List Call) (own : List Bool) → calls_of 0 (marked_entries calls own) ≡ own_calls calls own
+own_are [] own = refl
+own_are (c ∷ calls) [] = refl
+own_are (c ∷ calls) (true ∷ own) = ap (λ (l : List Call). c ∷ l) (own_are calls own)
+own_are (c ∷ calls) (false ∷ own) = own_are calls own
+
+-- entries of the pass alone leave the queue alone however its queues are parted
+
+each_own : (calls : List Call) (b : List Entry) (e : Entry) (after : List Entry) → entries_in calls ≡ b ++ e ∷ after
+    → e.pass ≡ 0
+each_own [] [] e after is = cc
+each_own [] (y ∷ b) e after is = cc
+each_own (c ∷ calls) [] e after is = grind (arith, common_steps)
+each_own (c ∷ calls) (y ∷ b) e after is = each_own calls b e after (cc)
+
+-- what others made before has no entry of the pass
+
+not_first : (x : Entry) (before : List Entry) → calls_of 0 (x ∷ before) ≡ [] → (x.pass == 0) ≡ false
+not_first x before none = grind (arith, common_steps)
+
+own_behind : (before : List Entry) (calls : List Call) (b : List Entry) (e : Entry) (after : List Entry)
+    → calls_of 0 before ≡ [] → before ++ entries_in calls ≡ b ++ e ∷ after → IsTrue (has_begun 0 b) → e.pass ≡ 0
+own_behind [] calls b e after none is begun = each_own calls b e after is
+own_behind (x ∷ before) calls [] e after none is begun = cc
+own_behind (x ∷ before) calls (y ∷ b) e after none is begun =
+    grind (arith, common_steps, not_first, calls_other, own_behind before calls b e after)
+
+pub direct_is_history : DirectIsHistory
+direct_is_history s queue before d small was began alone =
+    history s queue before (entries_in d.calls) d.calls d.device small was began (all_are d.calls)
+    (grind (arith, common_steps, own_behind))
+
+pub interleaved_is_history : InterleavedIsHistory
+interleaved_is_history s queue before i small was began alone =
+    history s queue before (marked_entries i.calls i.own) (own_calls i.calls i.own) i.device small was began
+    (own_are i.calls i.own) alone
+
+-- behind what was made before, and is told so, the same calls may be told by other marks
+
+marked_same : (calls : List Call) (own : List Bool) → length own ≡ length calls
+    → AreSame (entries_in calls) (marked_entries calls own)
+marked_same [] own each = refl
+marked_same (c ∷ calls) [] each = absurd (omega (arith, each))
+marked_same (c ∷ calls) (is ∷ own) each = grind (arith, common_steps, marked_same calls own (omega (arith, each)))
+
+goes_on : {origin : State} {before told : List Entry} (was : WasTold origin before told) (es : List Entry)
+    (calls : List Call) (own : List Bool) (device : State) → LeadsTo (leads_to origin before) es device
+    → AreSame es (marked_entries calls own)
+    → GoesOn origin before told es (marked_entries calls own) (own_calls calls own) device
+goes_on {origin = origin} {before = before} {told = told} was es calls own device began same =
+    grind (arith, common_steps, events-append, legal-append, calls_joined, own_are, leads-append)
+
+pub direct_retold : DirectIsRetold
+direct_retold origin before told d own each was began =
+    goes_on was (entries_in d.calls) d.calls own d.device began (marked_same d.calls own each)
+
+pub interleaved_retold : InterleavedIsRetold
+interleaved_retold origin before told i own each all was began =
+    goes_on was (marked_entries i.calls i.own) i.calls own i.device began
+    (sym (marked_same i.calls i.own all) ∙ marked_same i.calls own each)
+
 -- A driver beside any calls of its author's is told by its own calls alone, over the history as it is told anew; and so
 -- are its start and its stop.
-use Rattle.pmd_laws.proofs.{NoFault.FindsAmid, NoFault.none_amid, StartFaultless.never_at_fault, Told.goes, Told.life}
-use Rattle.pmd_laws.proofs.Prelude.{[], ◌++◌, ◌∙◌, ◌∷◌, ◌≡◌, ◌⊎◌, AllFollow, AllFollowBy, AtPort, BeforeLast, Beside}
-use Rattle.pmd_laws.proofs.Prelude.{Call, Down, DrivesRings, Drove, Entry, FaultsEarly, FaultsFilling, Follows}
-use Rattle.pmd_laws.proofs.Prelude.{FollowsBy, HasGround, IsAlong, IsCalledBeside, IsFresh, IsLife, IsRetold}
-use Rattle.pmd_laws.proofs.Prelude.{IsToldAlone, IsToldAnew, IsToldBeside, IsToldBy, IsToldOf, Life, List, Moment}
-use Rattle.pmd_laws.proofs.Prelude.{NoneLent, Numbers, Rings, State, Told, Up, Watched, WhereUp, ℕ, anew, ap}
-use Rattle.pmd_laws.proofs.Prelude.{append-nil, append_cancel_left, by_own, events_same, halves_of, inl, inr, is_own}
-use Rattle.pmd_laws.proofs.Prelude.{last, legal_same, now, subst, sym}
-use Rattle.pmd_laws.proofs.Shifted.{fault_shift, rings, shifted, up_shift}
-use Rattle.pmd_laws.specs.{BesideApart.IsAloneBeside, BesideApart.IsCalledApart, BesideStart.BeginsBeside}
-use Rattle.std.proofs.{Common.arith, lemmas.Grind.common_steps}
-use Rattle.pmd_laws.specs.Told as own
 
 -- a driver that runs goes on from one to the other by its own calls alone
 
 drove_anew : (a b : Rings) (old new since own : List Call) → new ≡ old ++ since
     → WhereUp a b (λ r s. DrivesRings old r new s) → WhereUp a b (λ r s. DrivesRings own r (own ++ since) s)
-drove_anew (Up r) (Up s) old new since own made x = shifted (rings r s old new x) since own made
-drove_anew (Up r) (Down h) old new since own made x = x
-drove_anew (Down h) b old new since own made x = tt
+drove_anew (Up r) (Up s) old new since own is x = shifted (rings r s old new x) since own is
+drove_anew a b old new since own is x = x
 
 follows_anew : (m : Moment) (own : List Call) (n : Moment) (then : List Call) → FollowsBy m own n then
     → Follows (by_own own m) (by_own then n)
@@ -55,21 +134,32 @@ own_anew {old = old} {m = m} {later = later} {ahead = ahead} {own = own} x =
 pub retold_along : {w : Watched} {origin : State} {h g : List Entry} → IsRetold w origin h g → IsAlong w origin g
 retold_along {origin = origin} {h = h} {g = g} x = grind (arith, common_steps, events_same, legal_same)
 
--- a start that found the device at fault would be one of whose blocks none is lent
+-- a start is one of whose blocks none is lent, and so never finds the device at fault
+
+abbrev apart : BeginsBeside → BeginsApart
+apart x = record {
+  course = record x.course { h = x.g; old = x.ahead };
+  new = x.ahead ++ x.since;
+  along = retold_along x.retold;
+  begins = x.begins;
+  others = x.others;
+  more = x.more;
+  made = x.all;
+}
+
 pub never_beside : (x : BeginsBeside)
     → FaultsEarly x.q x.size x.frame x.old x.a x.new ⊎ FaultsFilling x.q x.size x.frame x.old x.a x.new → ⊥
-never_beside x faults =
-    never_at_fault
-    (record {
-      course = record x.course { h = x.g; old = x.ahead };
-      new = x.ahead ++ x.since;
-      along = retold_along x.retold;
-      begins = x.begins;
-      others = x.others;
-      more = x.more;
-      made = x.all;
-    })
-    (shifted (fault_shift x.q x.size x.frame x.a x.old x.new faults) x.since x.ahead x.made)
+never_beside x (inl early) =
+    never_at_fault (apart x)
+    (inl (shifted (early_shift x.q x.size x.frame x.a x.old x.new early) x.since x.ahead x.made))
+never_beside x (inr f) =
+    let on = on_shift x.q x.size x.frame x.a f.empty f.sender x.old f.mid f.on in
+    let behind = made (found (apart x) f) in
+    let same : x.since ≡ on.since ++ behind = append_cancel_left x.old x.since (on.since ++ behind)
+    (sym x.made ∙ made_is (found (apart x) f) ∙ ap (λ (l : List Call). l ++ behind) on.made
+    ∙ append_assoc x.old on.since behind) in
+    filling_never (apart x) f (x.ahead ++ on.since) (on.behind x.ahead)
+    (ap (λ (l : List Call). x.ahead ++ l) same ∙ sym (append_assoc x.ahead on.since behind))
 
 -- and the driver is told there
 module _ (x : Beside) where
@@ -113,14 +203,7 @@ module _ (x : Beside) where
       (life told).is
 
   abbrev pub own_life : Life
-  own_life = record {
-    course = anew x;
-    started = x.ahead ++ x.told.start;
-    r = x.told.started.0;
-    made = x.own;
-    k = halves_of (goes told).rings;
-    is = is_life;
-  }
+  own_life = life_of (anew x) (x.ahead ++ x.told.start) x.told.started.0 x.own (halves_of (goes told).rings) is_life
 
   -- what a call added comes behind these
   pub called_behind : (n : Moment) (y : IsCalledBeside x n) (added : List Call) → n.made ≡ (now x).made ++ added
@@ -131,11 +214,7 @@ module _ (x : Beside) where
   -- no other lends its blocks
 
   pub alone : IsAloneBeside x → IsToldAlone told
-  alone y = record {
-    told = told_of y.told;
-    fresh = at_access (NoneLent (is_own x.a)) y.fresh;
-    others = y.others;
-  }
+  alone y = record { told = told_of y.told; fresh = at_access (NoneLent (is_own x.a)) y.fresh; others = y.others }
 
   pub none_beside : (n : Moment) → IsCalledApart x n → FindsAmid (goes told).rings (now x).made n.made → ⊥
   none_beside n y amid =

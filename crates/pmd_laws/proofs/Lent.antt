@@ -1,29 +1,38 @@
 -- The calls by which a driver's rings come up write no register but its queue's, and lend no block but the rings'. So
 -- of an arena's blocks, none of which is lent just before its first access, only the rings' are lent as both sides are
 -- on, and the frames that wait fit a buffer.
-use Rattle.nic_device.specs.DmaArena.Block.{zero_block}
-use Rattle.driver_laws.proofs.{Made.first_seen, StopCalls.each_such}
+use Rattle.driver_laws.proofs.{Healthy.known_along, Made.first_seen, Reached.made_keep, StopCalls.switched_are}
 use Rattle.driver_laws.proofs.Fitting.{frames_stay_short, lends_is, only_pass_lent}
+use Rattle.driver_laws.proofs.Sending.{receive_lent as ring_lent_there, sender_lent}
 use Rattle.driver_laws.specs.{DeviceLaws.Laws.WritesNoSetting, Healthy.lent_by as halves_lent_by}
-use Rattle.pmd_laws.proofs.Order.{On, along_before, first, receive_lent, transmit_lent}
-use Rattle.pmd_laws.proofs.Prelude.{[], ◌++◌, ◌<◌, ◌==◌, ◌∙◌, ◌∷◌, ◌≡◌, Access, All, AllAre, AreEvents, AreMade}
-use Rattle.pmd_laws.proofs.Prelude.{AreMadeOf, AreOn, AreShort, Around, AtCalls, AtPort, BeforeLast, Block, Blocks}
-use Rattle.pmd_laws.proofs.Prelude.{Call, Course, Dir, Each, EachRingBlock, Entry, Event, FitsBlocks, HasGround}
+use Rattle.nic_device.specs.DmaArena.Block.{zero_block}
+use Rattle.pmd_laws.{proofs.Order.transmit_lent, proofs.Prelude.words_are_writes, proofs.Prelude.writes_driven}
+use Rattle.pmd_laws.{proofs.Prelude.zero, proofs.Told.goes, proofs.Told.led, proofs.Told.told_ran, specs.Told.now}
+use Rattle.pmd_laws.proofs.Order.{On, agree, along_before, driven, first, in_parts, last, receive_lent, there_is}
+use Rattle.pmd_laws.proofs.Prelude.{[], ⊎_elim, ⊤, ◌++◌, ◌+◌, ◌<◌, ◌==◌, ◌||◌, ◌∙◌, ◌∷◌, ◌≡◌, Access, All, AllAre}
+use Rattle.pmd_laws.proofs.Prelude.{AllLendApart, AreEvents, AreMade, AreMadeOf, AreOn, AreShort, Around, AtCalls}
+use Rattle.pmd_laws.proofs.Prelude.{AtPort, BeforeLast, Block, Blocks, Bool, BothAgree, Call, Course, Dir, Each}
+use Rattle.pmd_laws.proofs.Prelude.{EachInOnePlace, EachRingBlock, Entry, Event, FitsBlocks, Halves, HasAll, HasGround}
 use Rattle.pmd_laws.proofs.Prelude.{IsAlong, IsDriven, IsFresh, IsKept, IsLegal, IsMade, IsNumberOf, IsPlain}
-use Rattle.pmd_laws.proofs.Prelude.{IsPrepared, IsReceiveReady, IsTrue, LendsEach, List, NamesDriven, NoneLent, Numbers}
-use Rattle.pmd_laws.proofs.Prelude.{OnlyLent, OnlyPassLends, Receive, Reply, RowId, Rxdctl, Sees, Sender, Sets, State}
-use Rattle.pmd_laws.proofs.Prelude.{Tx, Watched, ℕ, ⊤, accesses_are, adds_made, after, all_lead, and_parts, ap}
-use Rattle.pmd_laws.proofs.Prelude.{append_assoc, arith, around, both_quiet, both_ways, call_in, call_of, calls_of}
-use Rattle.pmd_laws.proofs.Prelude.{calls_other, calls_own, cases_Bool, each_ring_block, eq-eqb, events_behind, false}
-use Rattle.pmd_laws.proofs.Prelude.{false_from_ne_true, ground_kept, has_block, inl, inr, is_step, last, leads-append}
-use Rattle.pmd_laws.proofs.Prelude.{leads_to, left, left-setting, legal_behind, lends, lent_by, lent_in, made_some}
-use Rattle.pmd_laws.proofs.Prelude.{most_blocks, named, none_made, not, or_cases, plain_keeps, plain_setting, quiet}
-use Rattle.pmd_laws.proofs.Prelude.{reached, reads_driven, refl, ring_block_out, ring_blocks, ring_words}
-use Rattle.pmd_laws.proofs.Prelude.{same_from_push, state_kept, state_leads, subst, switched_are, sym, then_made}
-use Rattle.pmd_laws.proofs.Prelude.{times-cons, times_first, times_in_hand, true, words_are_writes, writes_driven}
+use Rattle.pmd_laws.proofs.Prelude.{IsPrepared, IsReceiveReady, IsTrue, LendsEach, LentIsOut, List, Memory, NamesDriven}
+use Rattle.pmd_laws.proofs.Prelude.{NoneLent, Numbers, OnlyLent, OnlyPassLends, OutIsLent, Piece, Receive, Reply, Rings}
+use Rattle.pmd_laws.proofs.Prelude.{RowId, Running, Rxdctl, Sees, Sender, Sets, State, Told, Tx, Up, Watched, ℕ}
+use Rattle.pmd_laws.proofs.Prelude.{accesses_are, adds_made, after, among_times, and_parts, ap, append_assoc, arena_of}
+use Rattle.pmd_laws.proofs.Prelude.{arith, around, blocks_of, both_quiet, both_ways, call_in, call_of, calls_of}
+use Rattle.pmd_laws.proofs.Prelude.{calls_other, calls_own, common_steps, cond, each_ring_block, eq-eqb, events_behind}
+use Rattle.pmd_laws.proofs.Prelude.{false, false_from_ne_true, ground_kept, halted_of, halves_of, has_block, has_lent}
+use Rattle.pmd_laws.proofs.Prelude.{inl, inr, is_free, is_out, is_own, is_step, leads-append, leads_to, left}
+use Rattle.pmd_laws.proofs.Prelude.{left-setting, legal_behind, lends, lent_by, lent_in, list_any, made_some}
+use Rattle.pmd_laws.proofs.Prelude.{memory_after, most_blocks, named, none_made, not, or_cases, places_of, plain_keeps}
+use Rattle.pmd_laws.proofs.Prelude.{plain_setting, quiet, reads_driven, refl, ring_block_among, ring_block_out}
+use Rattle.pmd_laws.proofs.Prelude.{ring_blocks, ring_words, same_from_push, subst, suc, sym, take, then_made}
+use Rattle.pmd_laws.proofs.Prelude.{times-append, times-cons, times_among, times_first, times_in_hand, true}
+use Rattle.std.proofs.lemmas.List.Folds.{list_any-append}
 use Rattle.nic_device.specs.declared.event.Event.TheVariants as event
 use Rattle.nic_device.specs.declared.event.Reply.TheVariants as reply
-use Rattle.std.proofs.lemmas.Grind.{common_steps}
+use Rattle.pmd.specs.PmdRx.Keeping as received
+use Rattle.pmd.specs.PmdTx.Leaving as leaving
+use Rattle.pmd.specs.PmdTx.Sending as sending
 
 -- blocks that are lent are calls of a kind where each lend is
 pub lends_made : (P : Event Block → Type 0) → ((e : Event Block) → is_step e ≡ true → P e) → (ns : List ℕ)
@@ -101,9 +110,6 @@ module _ (q : AtPort) (lent : Blocks) where
 
   -- such a call writes no register but the queue's
 
-  rising_plain : (e : Event Block) → IsRising e → IsPlain q e
-  rising_plain e rises = grind (arith, common_steps)
-
   -- a pass lends what its calls do
 
   lends_lent : (e : Event Block) (r : Reply Block) (n : ℕ) → IsRising e → lends e r n ≡ true → lent n ≡ true
@@ -118,8 +124,7 @@ module _ (q : AtPort) (lent : Blocks) where
         let each : Each (λ c. IsRising c.event) (call_in e ∷ calls_of pass es) =
         subst (Each (λ c. IsRising c.event)) (calls_own pass e es mine.0) are in
         lends_lent e.event e.reply n each.0 mine.1
-    | inr later ↦
-        lent_is pass es (grind (arith, common_steps, calls_own, calls_other)) n later
+    | inr later ↦ lent_is pass es (grind (arith, common_steps, calls_own, calls_other)) n later
   ]
 
 -- what a part of a history lends
@@ -143,10 +148,12 @@ module _ (w : Watched) (origin : State) (h : List Entry) (q : AtPort) (old first
     (along : IsAlong w origin h) (own lent : Blocks) (begins : IsMade q old first (Sees Rxdctl false))
     (fresh : BeforeLast w origin h first (NoneLent own)) (others : OnlyPassLends w.pass own h)
   where
-    lent_since : {calls more : List Call} {c : Call} (done rest : List Entry) → done ++ rest ≡ h
-        → calls ++ c ∷ [] ≡ first → Each (λ d. IsRising q lent d.event) (c ∷ more) → Around w.pass done calls c more
-        → OnlyLent own lent (leads_to origin done).memory
-    lent_since done rest all made rising x =
+    lent_at : (new : List Call) → Rises q lent first new → AtCalls w origin h new (λ s. OnlyLent own lent s.memory)
+    lent_at new rises done rest all calls =
+        let (number, word, named, seen, (before, added, steps)) = begins in
+        let c : Call = call_of (event.Read q.port number) (reply.Word word) in
+        let made : (old ++ before) ++ c ∷ [] ≡ first = append_assoc old before (c ∷ []) ∙ sym added in
+        let x : Around w.pass done (old ++ before) c rises.0 = grind (arith, common_steps, around) in
         let es : List Entry = x.entry ∷ x.behind in
         let so_far = along_before w origin done rest all along in
         let here = fresh x.before (x.behind ++ rest) x.entry
@@ -162,16 +169,8 @@ module _ (w : Watched) (origin : State) (h : List Entry) (q : AtPort) (old first
         let are : Each (λ d. IsRising q lent d.event) (calls_of w.pass es) =
         subst (Each (λ d. IsRising q lent d.event))
         (sym (calls_own w.pass x.entry x.behind (eq-eqb x.entry.pass w.pass x.own) ∙ (λ i. x.call i ∷ x.later i)))
-        rising in
+        (tt, rises.2) in
         rw (← x.all, leads-append origin x.before es) (λ n is has. lent_is q lent w.pass es are n (then n is has))
-
-    lent_at : (new : List Call) → Rises q lent first new → AtCalls w origin h new (λ s. OnlyLent own lent s.memory)
-    lent_at new rises done rest all calls =
-        let (number, word, named, seen, (before, added, steps)) = begins in
-        let c : Call = call_of (event.Read q.port number) (reply.Word word) in
-        let made : (old ++ before) ++ c ∷ [] ≡ first = append_assoc old before (c ∷ []) ∙ sym added in
-        lent_since done rest all made (tt, rises.2)
-        (grind (arith, common_steps, around))
 
     -- so none but those is lent just before one call more
     pub unlent_before : (new : List Call) → RisesToLast q lent first new → (number : ℕ) → IsTrue (own number)
@@ -208,35 +207,116 @@ module _ {c : Course} (x : On c) (own : Blocks) where
   abbrev Short : State → Type 0
   Short s = HasGround w.queue q frame s × All (FitsBlocks w.queue (most_blocks frame)) s.waiting
 
-  short_after : (s : State) (e : Event Block) → Short s → WritesNoSetting s e
-      → All (FitsBlocks w.queue (most_blocks frame)) (after s e).waiting
-  short_after s e (g, short) none =
-      (frames_stay_short w.queue (most_blocks frame) s e (short_by w.queue q frame s g short) none).waiting
+  short_next : (s : State) (e : Event Block) → Short s → WritesNoSetting s e → HasGround w.queue q frame (after s e)
+      → Short (after s e)
+  short_next s e (g, short) none there =
+      (there, (frames_stay_short w.queue (most_blocks frame) s e (short_by w.queue q frame s g short) none).waiting)
 
   short_kept : IsKept w (lent_by w.pass h) Short
-  short_kept s e left s_is = (
-    ground_kept w (lent_by w.pass h) q frame s e left s_is.0,
-    short_after s e s_is (left-setting w s left.vfs e left.registers),
-  )
+  short_kept s e left x =
+      short_next s e x (left-setting w s left.vfs e left.registers)
+      (ground_kept w (lent_by w.pass h) q frame s e left x.0)
 
   plain_short : (s : State) (e : Event Block) → IsPlain q e → Short s → Short (after s e)
-  plain_short s e plain s_is = (
-    plain_keeps w.queue q frame s e plain s_is.0,
-    short_after s e s_is (plain_setting w.queue q frame s e plain s_is.0),
-  )
+  plain_short s e plain x =
+      short_next s e x (plain_setting w.queue q frame s e plain x.0) (plain_keeps w.queue q frame s e plain x.0)
 
   pub short_at : BeforeLast w origin h quiet_at (IsFresh w.queue frame own) → AtCalls w origin h mid Short
-  short_at fresh done rest all calls =
-      all_lead w origin h (λ so_far. Short (reached w origin so_far)) (λ n. IsPlain q n.event) along
-      (state_kept w origin (lent_by w.pass h) Short short_kept)
-      (λ n plain.
-      state_leads w origin (lent_by w.pass h) n Short Short (λ s met made told s_is. plain_short s n.event plain s_is))
-      rises.0 quiet_at
-      (each_such (IsRising q (halves_lent_by (first x))) (IsPlain q) (rising_plain q (halves_lent_by (first x))) rises.0
-      rises.2)
+  short_at fresh = made_keep Short (IsRising q (halves_lent_by (first x))) along short_kept
+      (λ s e met made is. plain_short s e (grind (arith, common_steps))) quiet_at mid rises
       (made_some q old quiet_at (Sees Rxdctl false) up.receive.quiet.1)
-      (first_seen w q origin h Short along short_kept
-      (λ s number s_is. plain_short s (event.Read q.port number) tt s_is) Rxdctl false old quiet_at up.receive.quiet.1
+      (first_seen w q origin h Short along short_kept (λ s number. plain_short s (event.Read q.port number) tt) Rxdctl
+      false old quiet_at up.receive.quiet.1
       (λ before behind e split mine is.
       (x.ground before behind e split mine is, (fresh before behind e split mine is).short)))
-      done rest all (calls ∙ rises.1)
+
+-- Of an arena's blocks those are lent at the device that its driver has out with its halves; and each block of it is in
+-- one place: free there, in hand, or lent to the device.
+
+-- what either half has lent is lent at the device, where device and driver agree
+both_lent : {queue : ℕ} {s : State} {out : List Piece} {sent : List (List ℕ)} (h : Halves)
+    → BothAgree queue s out sent h → (n : ℕ) → halves_lent_by h n ≡ true → has_block s.memory n ≡ true
+both_lent {queue = queue} {s = s} {out = out} {sent = sent} h both n is =
+    ⊎_elim (ring_lent_there queue s out h.receive both.receive n)
+    (sender_lent s queue sent h.transmit both.transmit.0 both.transmit.1 n)
+    (or_cases (received.has_lent h.receive n) (sending.has_lent h.transmit n) is)
+
+-- so it is of the blocks that are out
+at_last : (x : Told) (P : Blocks → State → Type 0) → P (halves_lent_by (told_ran x).k) (leads_to x.origin x.h)
+    → P (is_out (now x).driver.rings) (leads_to x.origin x.h)
+at_last x P = subst (λ (z : Rings). P (is_out z) (leads_to x.origin x.h)) (sym (goes x).up)
+
+pub out_is_lent : OutIsLent
+out_is_lent x made =
+    at_last x (λ out s. (n : ℕ) → IsTrue (out n) → IsTrue (has_block s.memory n))
+    (both_lent (told_ran x).k (agree (told_ran x) made))
+
+pub lent_is_out : LentIsOut
+lent_is_out x y =
+    let own : Blocks = is_own x.a in
+    let r = told_ran x in
+    let p = in_parts r y.told in
+    at_last x (λ out s. OnlyLent own out s.memory)
+    (subst (λ (s : State). OnlyLent own (halves_lent_by r.k) s.memory) (there_is r y.told)
+    (subst (λ (z : Halves). OnlyLent own (halves_lent_by z) (leads_to (leads_to x.origin p.front) p.back).memory)
+    (last r p)
+    (known_along x.w x.origin p.front p.back (first r.there) r.goes.0 own (driven r p)
+    (known_at r.there own y.fresh y.others p.front p.back p.both p.fronts)
+    (others_behind x.w.pass own p.front p.back (subst (OnlyPassLends x.w.pass own) (sym p.both) y.others))
+    (subst (AllLendApart own (first r.there) r.goes.0) (sym p.backs) (led x.told).apart))))
+
+-- a block that is out is counted
+
+abbrev some : ℕ → Bool
+some zero = false
+some (suc t) = true
+
+counted : (xs : List ℕ) (n t : ℕ) → times_in_hand xs n ≡ t → list_any (λ b. n == b) xs ≡ some t
+counted xs n t is = grind (arith, common_steps, times_among, among_times)
+
+abbrev lent : Halves → List ℕ
+lent h = received.lent_of h.receive ++ leaving.lent_of h.transmit
+
+lent_counted : (h : Halves) (n : ℕ) → halves_lent_by h n ≡ some (times_in_hand (lent h) n)
+lent_counted h n = let v : Sender = h.transmit in
+    let pieces : List ℕ = blocks_of (take v.lent v.outstanding) in
+    let ring : List ℕ = ring_blocks v.layout.ring v.layout.size in
+    let is = λ (b : ℕ). n == b in
+    let sent : has_lent v n ≡ list_any is (leaving.lent_of v) =
+    grind (arith, common_steps, ring_block_among, list_any-append) in
+    (λ i. received.has_lent h.receive n || sent i)
+    ∙ sym (list_any-append is (received.lent_of h.receive) (leaving.lent_of v)) ∙ counted (lent h) n _ refl
+
+-- so it counts as lent
+placed : (f g : Bool) (t k : ℕ) → cond f 1 0 + (t + k) ≡ cond g 1 0
+    → cond f 1 0 + k + cond (some t) 1 0 ≡ cond g 1 0
+placed f g t k same = grind (arith, common_steps)
+
+same_where : (a b : Bool) → (a ≡ true → b ≡ true) → (b ≡ true → a ≡ true) → a ≡ b
+same_where a b one two = grind (arith, common_steps)
+
+module _ (a : Numbers) (hand : List ℕ) (mem : Memory) (n : ℕ) where
+  abbrev InPlace : Rings → Type 0
+  InPlace z =
+      HasAll a (halted_of z) hand → has_block mem n ≡ is_out z n
+      → places_of (arena_of z) ((halted_of z).held ++ hand) mem n ≡ cond (is_free a n) 1 0
+
+  up_in_place : (r : Running) → InPlace (Up r)
+  up_in_place r all same =
+      let out : List ℕ = lent (halves_of r) in
+      let held = (halted_of (Up r)).held in
+      rw (same, lent_counted (halves_of r) n)
+      (placed (is_free r.arena n) (is_free a n) (times_in_hand out n) (times_in_hand (held ++ hand) n)
+      (omega (
+        arith,
+        all.each n,
+        times-append out held n,
+        times-append (out ++ held) hand n,
+        times-append held hand n,
+      )))
+
+pub each_in_one_place : EachInOnePlace
+each_in_one_place x y hand all n own =
+    let mem : Memory = memory_after x.origin x.h in
+    subst (InPlace x.a hand mem n) (sym (goes x).up) (up_in_place x.a hand mem n (goes x).rings) all
+    (same_where _ _ (lent_is_out x y n own) (out_is_lent x y.told n))

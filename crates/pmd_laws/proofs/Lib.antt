@@ -1,19 +1,13 @@
 pub use Rattle.driver_laws.proofs as DriverLaws
 pub mod Beside
-pub mod FullRing
-pub mod InHand
-pub mod Laid
+pub mod Faultless
 pub mod Lent
 pub mod Lived
-pub mod NoFault
 pub mod Order
-pub mod Places
-pub mod Plain
 pub mod Prelude
 pub mod Refused
 pub mod Settings
 pub mod Shifted
-pub mod StartFaultless
 pub mod StopCalls
 pub mod Stopped
 pub mod Told

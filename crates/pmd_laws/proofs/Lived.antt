@@ -1,60 +1,41 @@
 -- A driver that lived: what it left, counted from its first event on. What is counted once a side is on is counted
 -- anew, whatever was before a place where it was off.
-use Rattle.workers.specs.Starts.{Starts}
-use Rattle.pmd_laws.{proofs.DriverLaws.Histories.leads-append, proofs.DriverLaws.StopCalls.prepared_plain}
-use Rattle.pmd_laws.{proofs.DriverLaws.SwitchedOff.quieting_leads, proofs.StopCalls.stopped_ends}
-use Rattle.pmd_laws.{proofs.Stopped.left_handed_over_stop, proofs.Stopped.left_sent_over_stop, specs.Points.JustBefore}
-use Rattle.pmd_laws.proofs.Prelude.{[], ◌&&◌, ◌++◌, ◌∙◌, ◌∷◌, ◌≡◌, AreSteps, AreUp, AtPort, Begins, BeginsWell, Bool}
-use Rattle.pmd_laws.proofs.Prelude.{Call, Dir, Ended, Entry, HasGround, HasLived, IsAlong, IsFalse, IsOver, IsQuiet}
-use Rattle.pmd_laws.proofs.Prelude.{IsTrue, List, None, Numbers, Option, Parts, PmdFault, Rest, Rx, Rxdctl, Some, State}
-use Rattle.pmd_laws.proofs.Prelude.{Tx, Watched, WentOn, ℕ, after, ap, append-nil, append_assoc, append_cancel_left}
-use Rattle.pmd_laws.proofs.Prelude.{around, both_ways, bytes_of, calls_joined, calls_of, cases_Bool, cond, delivered}
-use Rattle.pmd_laws.proofs.Prelude.{extends, false, inl, inr, is_on, is_step, leads_to, left_accepted, left_handed}
-use Rattle.pmd_laws.proofs.Prelude.{new_state, not, one_begins, option_map, packets_if_any, parts, pieces, pieces_since}
-use Rattle.pmd_laws.proofs.Prelude.{polled, quiet, receive_polled, refl, sent_by, sent_is_counted, sent_since}
-use Rattle.pmd_laws.proofs.Prelude.{since-append, start_goes_on, subst, sym, true}
+use Rattle.pmd_laws.{proofs.StopCalls.stopped_ends, specs.Points.JustBefore}
+use Rattle.pmd_laws.proofs.DriverLaws.{Histories.leads-append, StopCalls.prepared_plain, SwitchedOff.quieting_leads}
+use Rattle.pmd_laws.proofs.Prelude.{[], ⊎_elim, ◌++◌, ◌∙◌, ◌∷◌, ◌≡◌, AreSteps, AreUp, AtPort, Begins, BeginsWell, Call}
+use Rattle.pmd_laws.proofs.Prelude.{Ended, Entry, HasGround, HasLived, IsAlong, IsFalse, IsOver, IsQuiet, IsTrue, List}
+use Rattle.pmd_laws.proofs.Prelude.{None, Numbers, Option, Parts, Piece, PmdFault, Rest, Rx, Rxdctl, State, Tx, Watched}
+use Rattle.pmd_laws.proofs.Prelude.{WentOn, ℕ, after, ap, append-nil, append_cancel_left, arith, around, both_ways}
+use Rattle.pmd_laws.proofs.Prelude.{bytes_of, calls_joined, calls_of, cases_Bool, common_steps, delivered, extends}
+use Rattle.pmd_laws.proofs.Prelude.{false, inl, inr, is_on, is_step, leads_to, left_accepted, left_handed, new_state}
+use Rattle.pmd_laws.proofs.Prelude.{one_begins, packets_if_any, parts, pieces_since, polled, quiet, receive_polled}
+use Rattle.pmd_laws.proofs.Prelude.{refl, sent_is_counted, sent_since, since-append, start_goes_on, subst, sym, true}
+use Rattle.pmd_laws.proofs.Stopped.{left_handed_over_stop, left_sent_over_stop}
 use Rattle.pmd_laws.proofs.WorkerTold.{FirstCall, before_first, first_read, more_behind}
-use Rattle.std.proofs.{Common.arith, lemmas.Grind.common_steps}
+use Rattle.workers.specs.Starts.{Starts}
 use Rattle.pmd_laws.specs.DriverLaws.RingLaws.Delivered as receive
 use Rattle.pmd_laws.specs.DriverLaws.RingLaws.Laws as transmit
 
--- where a side goes on what was before doesn't count
-anew : {A : Type 0} (was is : Bool) (x y z : A) → was ≡ false → is ≡ true
-    → cond (not was && is) x y ≡ cond (not was && is) x z
-anew was is x y z off on = grind (arith, common_steps)
+-- where a side was off and is on, what was counted before doesn't count
 
--- a count of what each entry adds, which begins anew where a side of a queue goes on
-module _ {A : Type 0} (dir : Dir) (queue : ℕ) (none begun : A) (add : State → Entry → A → A)
-    (since : State → A → List Entry → A)
-    (next : (s : State) (so_far : A) (e : Entry) (h : List Entry)
-    → since s so_far (e ∷ h)
-    ≡ since (after s e.event)
-    (cond (not (is_on s.registers dir queue) && is_on (after s e.event).registers dir queue) begun (add s e so_far)) h)
-    (joined : (s : State) (so_far : A) (g h : List Entry)
-    → since s so_far (g ++ h) ≡ since (leads_to s g) (since s so_far g) h) where
-  since_anew : (s : State) (a b : A) (h : List Entry) → IsFalse (is_on s.registers dir queue)
-      → IsTrue (is_on (leads_to s h).registers dir queue) → since s a h ≡ since s b h
-  since_anew s a b [] off on = absurd (both_ways _ off on)
-  since_anew s a b (e ∷ h) off on =
-      let t : State = after s e.event in
-      let was = is_on s.registers dir queue in
-      let is = is_on t.registers dir queue in
-      next s a e h
-      ∙ elim (cases_Bool is)
-      as (λ _.
-      since t (cond (not was && is) begun (add s e a)) h ≡ since t (cond (not was && is) begun (add s e b)) h) [
-        | inl goes ↦ ap (λ (so_far : A). since t so_far h) (anew was is begun (add s e a) (add s e b) off goes)
-        | inr stays ↦ since_anew t _ _ h stays on
-      ]
-      ∙ sym (next s b e h)
+module _ (queue : ℕ) where
+  received_anew : (s : State) (a b : Option (List Piece)) (h : List Entry) → IsFalse (is_on s.registers Rx queue)
+      → IsTrue (is_on (leads_to s h).registers Rx queue) → pieces_since queue s a h ≡ pieces_since queue s b h
+  received_anew s a b [] off on = absurd (both_ways _ off on)
+  received_anew s a b (e ∷ h) off on = elim (cases_Bool (is_on (after s e.event).registers Rx queue)) [
+    | inl goes ↦ rw (off, goes) refl
+    | inr stays ↦ received_anew (after s e.event) _ _ h stays on
+  ]
 
-  -- so it is the same from any place before that one on
-  since_from : (s : State) (before till up more : List Entry)
-      → IsFalse (is_on (leads_to s (before ++ till)).registers dir queue)
-      → IsTrue (is_on (leads_to (leads_to s (before ++ till)) up).registers dir queue)
-      → since s none ((before ++ till) ++ (up ++ more)) ≡ since (leads_to s before) none (till ++ (up ++ more))
-  since_from s before till up more off on = grind (arith, common_steps, since_anew, leads-append)
+  sent_anew : (s : State) (a b : List (List ℕ)) (h : List Entry) → IsFalse (is_on s.registers Tx queue)
+      → IsTrue (is_on (leads_to s h).registers Tx queue) → sent_since queue s a h ≡ sent_since queue s b h
+  sent_anew s a b [] off on = absurd (both_ways _ off on)
+  sent_anew s a b (e ∷ h) off on = elim (cases_Bool (is_on (after s e.event).registers Tx queue)) [
+    | inl goes ↦ rw (off, goes) refl
+    | inr stays ↦ sent_anew (after s e.event) _ _ h stays on
+  ]
 
+-- so it is the same from any place before that one on
 module _ (queue : ℕ) (s : State) (before till up more : List Entry) where
   abbrev off_at : State
   off_at = leads_to s (before ++ till)
@@ -64,17 +45,20 @@ module _ (queue : ℕ) (s : State) (before till up more : List Entry) where
       → delivered queue s ((before ++ till) ++ (up ++ more))
       ≡ delivered queue (leads_to s before) (till ++ (up ++ more))
   delivered_from off on =
+      let first : Option (List Piece) = pieces_since queue s None (before ++ till) in
+      let later : Option (List Piece) = pieces_since queue (leads_to s before) None till in
       ap packets_if_any
-      (since_from Rx queue None (Some [])
-      (λ t e so_far. option_map (λ qs. qs ++ pieces queue t e.event) so_far) (pieces_since queue)
-      (λ t so_far e h. refl) (since-append queue) s before till up more off on)
+      (since-append queue s None (before ++ till) (up ++ more) ∙ since-append queue off_at first up more
+      ∙ ap (λ (so_far : Option (List Piece)). pieces_since queue (leads_to off_at up) so_far more)
+      (received_anew queue off_at first later up off on)
+      ∙ sym (since-append queue off_at later up more)
+      ∙ ap (λ (t : State). pieces_since queue t later (up ++ more)) (leads-append s before till)
+      ∙ sym (since-append queue (leads_to s before) None till (up ++ more)))
 
   sent_from : IsFalse (is_on off_at.registers Tx queue) → IsTrue (is_on (leads_to off_at up).registers Tx queue)
       → sent_since queue s [] ((before ++ till) ++ (up ++ more))
       ≡ sent_since queue (leads_to s before) [] (till ++ (up ++ more))
-  sent_from off on =
-      since_from Tx queue [] [] (λ t e so_far. so_far ++ sent_by queue t e.event) (sent_since queue)
-      (λ t so_far e h. refl) (sent_is_counted.joined queue) s before till up more off on
+  sent_from off on = grind (arith, common_steps, sent_anew, sent_is_counted.joined, leads-append)
 
 -- some calls were made
 abbrev GoesOn : List Call → List Call → Type 0
@@ -143,9 +127,7 @@ module _ (w : Watched) (fifo : ℕ) (h : List Entry) {q : AtPort} {size frame : 
     origin = new_state w.vfs fifo
 
     begins : BeginsWell w origin h q size frame old a lived.lives.made lived.lives.fresh up
-    begins = record {
-      ground = before_first w fifo old h (HasGround w.queue q frame) ground up.receive.quiet.0 first;
-    }
+    begins = record { ground = before_first w fifo old h (HasGround w.queue q frame) ground up.receive.quiet.0 first }
 
     abbrev ended : Ended
     ended = record {
@@ -200,16 +182,11 @@ module _ (w : Watched) (fifo : ℕ) (h : List Entry) {q : AtPort} {size frame : 
 
       begun : Begins x.before both_off.front
       begun =
-          elim (one_begins x.before (x.first ∷ x.behind) both_off.front rest (x.all ∙ sym whole))
-          as (λ _. Begins x.before both_off.front) [
-            | inl before ↦ before
-            | inr behind ↦ absurd (not_behind behind)
-          ]
+          ⊎_elim (λ before. before) (λ behind. absurd (not_behind behind))
+          (one_begins x.before (x.first ∷ x.behind) both_off.front rest (x.all ∙ sym whole))
 
       from_first : x.first ∷ x.behind ≡ begun.0 ++ rest
-      from_first =
-          append_cancel_left x.before (x.first ∷ x.behind) (begun.0 ++ rest)
-          (x.all ∙ sym whole ∙ ap (λ (l : List Entry). l ++ rest) (sym begun.1) ∙ append_assoc x.before begun.0 rest)
+      from_first = grind (arith, common_steps, append_cancel_left, begun, rest, whole)
 
       in_parts : (x.before ++ begun.0) ++ rest ≡ h
       in_parts = ap (λ (l : List Entry). l ++ rest) begun.1 ∙ whole

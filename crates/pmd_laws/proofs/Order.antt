@@ -1,27 +1,28 @@
 -- The halves as both sides of a queue are on: each has lent its ring's blocks, and no other; and what a driver lends
 -- from there on. What it handed out and what it sent once both sides went on, and so in its life; and within a longer
 -- history: what begins a life is one too.
-use Rattle.driver_laws.proofs.{InOrder.Led, Parts.begun as begun_by, RingLaws.Kept.each_by}
-use Rattle.driver_laws.proofs.On.{on_some, other_lent, ring_lent, switched_sides_agree, switched_sides_go_on}
-use Rattle.driver_laws.specs.{Healthy.lent_by as halves_lent_by, Histories.IsDriven, RingLaws.Steps.Each}
 use Rattle.device_lock.proofs.Histories.{events_before, legal_before}
+use Rattle.driver_laws.{proofs.InOrder.Led, proofs.Parts.begun as begun_by, specs.Healthy.lent_by as halves_lent_by}
+use Rattle.driver_laws.{specs.Histories.IsDriven, specs.RingLaws.Pieces.packets_of, specs.RingLaws.Steps.Each}
+use Rattle.driver_laws.proofs.On.{on_some, other_lent, ring_lent, switched_sides_agree, switched_sides_go_on}
+use Rattle.driver_laws.proofs.RingLaws.{Kept.each_by, Runs.first_sent, Runs.idle-all}
+use Rattle.driver_laws.proofs.RingLaws.Delivering.{all_taken, drained, handed_first}
+use Rattle.pmd.{specs.PmdRx.PmdSeam.Frames.most_blocks, specs.PmdRx.Receive.at_start}
 use Rattle.pmd_laws.proofs.Prelude.{[], ◌++◌, ◌+◌, ◌<◌, ◌∙◌, ◌∷◌, ◌≡◌, ◌≢◌, AllOwn, AreApart, AreEvents, AreLent, AreOn}
-use Rattle.pmd_laws.proofs.Prelude.{AtPort, BeforeLast, Blocks, Bool, BothAgree, Call, Course, Dir, Doer, DrivesApart}
+use Rattle.pmd_laws.proofs.Prelude.{AtPort, BeforeLast, Blocks, BothAgree, Call, Course, Dir, Doer, DrivesApart}
 use Rattle.pmd_laws.proofs.Prelude.{EachRingBlock, Entry, FindsNone, Halves, HasGround, IsAlong, IsDrawn, IsLegal}
-use Rattle.pmd_laws.proofs.Prelude.{IsPrefixOf, IsReceiveReady, IsSettled, IsTransmitReady, IsTrue, IsUp, Leads}
-use Rattle.pmd_laws.proofs.Prelude.{LeavesAloneFrom, Life, List, Lives, MayLend, Numbers, OthersHarmless, OwnsSame}
-use Rattle.pmd_laws.proofs.Prelude.{Parts, Receive, Receives, Running, Rx, Sender, ShowsNone, State, Tx, Watched}
-use Rattle.pmd_laws.proofs.Prelude.{WentOn, ℕ, all_drawn, all_exchanged, ap, apart_on, append-nil, beginning_alone}
-use Rattle.pmd_laws.proofs.Prelude.{both_ways, bytes_of, calls_of, cond, counted_where_up, delivered, drives_lead}
-use Rattle.pmd_laws.proofs.Prelude.{each_ring_block, false, false_from_ne_true, first_of, halves_of, handed_is_prefix}
-use Rattle.pmd_laws.proofs.Prelude.{harmless_leave_alone, has_lent, idle_is_all_sent, inl, is_free, is_own}
-use Rattle.pmd_laws.proofs.Prelude.{is_own-of_free, is_ring_block, leads-append, leads_on, leads_to, led, lent_by}
-use Rattle.pmd_laws.proofs.Prelude.{none_is_all, none_is_all_taken, on, parts, pieces_in, played_by, receiving_apart}
-use Rattle.pmd_laws.proofs.Prelude.{receiving_drives, records_of, refl, ring_block_among, ring_block_is, ring_block_out}
-use Rattle.pmd_laws.proofs.Prelude.{ring_blocks, sent_in, sent_is_prefix, sent_since, subst, sym, times_among}
-use Rattle.pmd_laws.proofs.Prelude.{times_in_hand, true, true_from_ne_false, with_free}
-use Rattle.std.proofs.{Common.arith, lemmas.Grind.common_steps}
-use Rattle.pmd.specs.PmdRx.{PmdSeam.Frames.most_blocks, Receive.at_start}
+use Rattle.pmd_laws.proofs.Prelude.{IsLife, IsPrefixOf, IsReceiveReady, IsSettled, IsTransmitReady, IsTrue, IsUp, Leads}
+use Rattle.pmd_laws.proofs.Prelude.{LeavesAloneFrom, Life, List, Lives, MayLend, None, Numbers, OthersHarmless}
+use Rattle.pmd_laws.proofs.Prelude.{OwnsSame, Parts, Piece, Receive, Receives, Running, Rx, Sender, ShowsNone, State}
+use Rattle.pmd_laws.proofs.Prelude.{Tx, Watched, WentOn, ℕ, all_drawn, ap, apart_on, append-nil, arith, beginning_alone}
+use Rattle.pmd_laws.proofs.Prelude.{both_ways, bytes_of, calls_of, common_steps, counted_where_up, delivered}
+use Rattle.pmd_laws.proofs.Prelude.{drives_lead, each_ring_block, false, false_from_ne_true, first_of, halves_of}
+use Rattle.pmd_laws.proofs.Prelude.{harmless_leave_alone, has_lent, inl, is_free, is_own, is_own-of_free, is_ring_block}
+use Rattle.pmd_laws.proofs.Prelude.{leads-append, leads_on, leads_to, led, length, lent_by, on, packets_if_any, parts}
+use Rattle.pmd_laws.proofs.Prelude.{pieces_in, pieces_since, played_by, receiving_apart, receiving_drives, records_of}
+use Rattle.pmd_laws.proofs.Prelude.{refl, ring_block_among, ring_block_is, ring_block_out, ring_blocks, sent_in}
+use Rattle.pmd_laws.proofs.Prelude.{sent_since, since-append, subst, sym, times_among, times_in_hand, true}
+use Rattle.pmd_laws.proofs.Prelude.{true_from_ne_false, with_free}
 use Rattle.driver_laws.specs.RingLaws.Delivered as receive
 use Rattle.driver_laws.specs.RingLaws.ReceiveUp as received
 
@@ -30,13 +31,7 @@ use Rattle.driver_laws.specs.RingLaws.ReceiveUp as received
 pub drawn_gone : (a : Numbers) (ns : List ℕ) (b : Numbers) (n : ℕ) → IsDrawn a ns b → is_free b n ≡ true
     → times_in_hand ns n ≡ 0
 drawn_gone a ns b n drawn free =
-    let each = (all_drawn a ns b [] drawn).each n in
-    gone (is_free a n) (times_in_hand ns n)
-    (rw (free, append-nil ns) at each)
-  where
-    gone : (f : Bool) (t : ℕ) → 1 + t ≡ cond f 1 0 + 0 → t ≡ 0
-    gone true t is = omega (arith, is)
-    gone false t is = omega (arith, is)
+    let each = (all_drawn a ns b [] drawn).each n in grind (arith, common_steps, append-nil)
 
 drawn_free : (a : Numbers) (ns : List ℕ) (b : Numbers) (n : ℕ) → IsDrawn a ns b → 0 < times_in_hand ns n
     → is_free a n ≡ true
@@ -123,8 +118,7 @@ module _ {q : AtPort} {size frame : ℕ} {old : List Call} {a : Numbers} {new : 
   pub fresh_own : OwnsSame a x.fresh.arena
   fresh_own n =
       let posts = x.up.on.filled.2 in
-      (all_exchanged x.up.both_arena [] x.fresh.arena (posts.blocks ++ [])
-      (posts.blocks, posts.drawn, λ k. refl)).owns n
+      (all_drawn x.up.both_arena posts.blocks x.fresh.arena [] posts.drawn).owns n
       ∙ both_own x.up.receive x.up.transmit n
 
   pub all_apart : DrivesApart (is_own a) x.up.on.mid (first_of q size frame old a new r x) new (halves_of r)
@@ -184,6 +178,12 @@ module _ {c : Course} (x : On c) where
           others = grind (arith, common_steps, harmless_leave_alone);
         }
 
+-- where device and driver agree, what was sent begins what was accepted
+pub sent_agreed : (queue : ℕ) (s : State) (out : List Piece) (sent : List (List ℕ)) (k : Halves)
+    → BothAgree queue s out sent k → IsPrefixOf sent (bytes_of k.transmit.accepted)
+sent_agreed queue s out sent k both =
+    let (f, agrees) = both.transmit in first_sent s queue sent _ _ k.transmit.accepted agrees.sends
+
 -- and then calls led the halves on
 pub record Ran (c : Course) : Type 0 where
   pub there : On c
@@ -226,46 +226,13 @@ module _ {c : Course} (x : Ran c) where
     abbrev back : List Entry
     back = in_parts.back
 
-    -- what is so in parts is so of all
-    in_all : (P : Halves → List Entry → Type 0)
-        → P (played_by (first x.there) goes.0 (calls_of w.pass back)) (in_parts.front ++ back) → P k h
-    in_all P holds = grind (arith, common_steps, k, in_parts, back, last)
-
-    pub handed : receive.IsPrefixOf k.receive.handed (delivered w.queue origin h)
-    handed =
-        in_all (λ z g. receive.IsPrefixOf z.receive.handed (delivered w.queue origin g))
-        (handed_is_prefix w origin in_parts.front back (first x.there) goes.0 (driven in_parts))
-
-    pub taken : ShowsNone (leads_to origin h) k.receive
-        → k.receive.handed ++ records_of k.receive.whole ≡ delivered w.queue origin h
-    taken =
-        in_all
-        (λ z g. ShowsNone (leads_to origin g) z.receive
-        → z.receive.handed ++ records_of z.receive.whole ≡ delivered w.queue origin g)
-        (none_is_all_taken w origin in_parts.front back (first x.there) goes.0 (driven in_parts))
-
-    pub none : FindsNone (leads_to origin h) k.receive → k.receive.handed ≡ delivered w.queue origin h
-    none =
-        in_all (λ z g. FindsNone (leads_to origin g) z.receive → z.receive.handed ≡ delivered w.queue origin g)
-        (none_is_all w origin in_parts.front back (first x.there) goes.0 (driven in_parts))
-
-    pub sent_first : IsPrefixOf (sent_since w.queue origin [] h) (bytes_of k.transmit.accepted)
-    sent_first =
-        rw (counted in_parts) (in_all (λ z g. IsPrefixOf (sent in_parts) (bytes_of z.transmit.accepted))
-        (sent_is_prefix w origin in_parts.front back (first x.there) goes.0 (driven in_parts)))
-
-    pub idle : k.transmit.outstanding ≡ [] → bytes_of k.transmit.accepted ≡ sent_since w.queue origin [] h
-    idle empty =
-        in_all (λ z g. z.transmit.outstanding ≡ [] → bytes_of z.transmit.accepted ≡ sent in_parts)
-        (idle_is_all_sent w origin in_parts.front back (first x.there) goes.0 (driven in_parts)) empty
-        ∙ sym (counted in_parts)
-
     -- device and driver agree there, and both sides are up
 
     pub ends : Led w (lent_by w.pass h) start [] [] back k
     ends =
-        in_all (λ z g. Led w (lent_by w.pass g) start [] [] back z)
-        (led w origin in_parts.front back (first x.there) goes.0 (driven in_parts))
+        subst (λ (g : List Entry). Led w (lent_by w.pass g) start [] [] back k) in_parts.both
+        (subst (Led w (lent_by w.pass (in_parts.front ++ back)) start [] [] back) (last in_parts)
+        (led w origin in_parts.front back (first x.there) goes.0 (driven in_parts)))
 
     pub there_is : leads_to start back ≡ leads_to origin h
     there_is = sym (leads-append origin in_parts.front back) ∙ ap (leads_to origin) in_parts.both
@@ -278,20 +245,48 @@ module _ {c : Course} (x : Ran c) where
     settled Rx = inl (subst (received.IsUp w.queue) there_is (ends.receives (went_on in_parts).receives)).on
     settled Tx = inl (subst (IsUp w.queue) there_is (ends.sends (went_on in_parts).sends)).on
 
+    delivered_here : delivered w.queue origin h ≡ packets_of (pieces_in w.queue start back)
+    delivered_here =
+        ap (delivered w.queue origin) (sym in_parts.both)
+        ∙ ap packets_if_any (since-append w.queue origin None in_parts.front back
+        ∙ ap (λ so_far. pieces_since w.queue start so_far back) (went_on in_parts).received
+        ∙ ends.since (went_on in_parts).receives [])
+
+    pub handed : receive.IsPrefixOf k.receive.handed (delivered w.queue origin h)
+    handed = rw delivered_here (handed_first w.queue _ _ k.receive agree.receive)
+
+    pub taken : ShowsNone (leads_to origin h) k.receive
+        → k.receive.handed ++ records_of k.receive.whole ≡ delivered w.queue origin h
+    taken shows = sym (all_taken w.queue _ _ k.receive agree.receive shows) ∙ sym delivered_here
+
+    pub none : FindsNone (leads_to origin h) k.receive → k.receive.handed ≡ delivered w.queue origin h
+    none finds = sym (drained w.queue _ _ k.receive agree.receive finds) ∙ sym delivered_here
+
+    pub sent_first : IsPrefixOf (sent_since w.queue origin [] h) (bytes_of k.transmit.accepted)
+    sent_first = sent_agreed w.queue _ _ _ k agree
+
+    pub idle : k.transmit.outstanding ≡ [] → bytes_of k.transmit.accepted ≡ sent_since w.queue origin [] h
+    idle empty = let (f, agrees) = agree.transmit in idle-all agrees (ap length empty)
+
 -- a life did
+
+-- both sides of a driver's queue went on so
+abbrev pub on_of : {c : Course} {mid : List Call} {v : Receive} {t : Sender}
+    (up : AreOn c.q c.size c.frame c.old c.a mid v t) → IsAlong c.w c.origin c.h
+    → BeforeLast c.w c.origin c.h up.receive.quiet.0 (HasGround c.w.queue c.q c.frame) → On c
+on_of {mid = mid} {v = v} {t = t} up along ground =
+    record { mid = mid; v = v; t = t; up = up; along = along; ground = ground }
+
+-- and so it is a life
+abbrev pub life_of : (c : Course) (started : List Call) (r : Running) (made : List Call) (k : Halves)
+    → IsLife c started r made k → Life
+life_of c started r made k is = record { course = c; started = started; r = r; made = made; k = k; is = is }
 
 module _ (x : Life) where
   open x use {w, origin, h, q, size, frame, old, a, started, r, k, is}
 
   abbrev pub begun : On x.course
-  begun = record {
-    mid = is.up.on.mid;
-    v = is.up.empty;
-    t = r.transmit;
-    up = on is.up is.along is.begins;
-    along = is.along;
-    ground = is.begins.ground;
-  }
+  begun = on_of (on is.up is.along is.begins) is.along is.begins.ground
 
   pub whole : Leads is.up.on.mid (first begun) x.made k
   whole =
@@ -323,24 +318,14 @@ module _ (w : Watched) (origin : State) {h : List Entry} (before rest : List Ent
 -- so both sides went on within it
 abbrev pub on_before : {c : Course} (x : On c) (before rest : List Entry) → before ++ rest ≡ c.h
     → On (record c { h = before })
-on_before {c = c} x before rest all = record {
-  mid = x.mid;
-  v = x.v;
-  t = x.t;
-  up = x.up;
-  along = along_before c.w c.origin before rest all x.along;
-  ground =
-      last_before c.w c.origin before rest all x.up.receive.quiet.0 (HasGround c.w.queue c.q c.frame) x.ground;
-}
+on_before {c = c} x before rest all =
+    on_of x.up (along_before c.w c.origin before rest all x.along)
+    (last_before c.w c.origin before rest all x.up.receive.quiet.0 (HasGround c.w.queue c.q c.frame) x.ground)
 
 -- and it is a life up to there, where its calls lead to these halves
 abbrev pub life_before : (x : Life) (before rest : List Entry) → before ++ rest ≡ x.h → (calls : List Call) (k : Halves)
     → Leads x.started (halves_of x.r) calls k → Life
 life_before x before rest all calls k goes =
     let there = on_before (begun x) before rest all in
-    record x {
-      course = record x.course { h = before };
-      made = calls;
-      k = k;
-      is = record { along = there.along; up = x.is.up; begins = record { ground = there.ground }; since = goes };
-    }
+    life_of (record x.course { h = before }) x.started x.r calls k
+    (record { along = there.along; up = x.is.up; begins = record { ground = there.ground }; since = goes })

@@ -1,36 +1,30 @@
 -- What the entries before a driver's start tell is so of the device there: which queue port and number name, how long
 -- frames are; and that a queue that was never asked on is off.
-use Rattle.nic_device.proofs.{EepromImage.Blank.triples_of-blank, RegisterLaws.Owners.is_place-same}
-use Rattle.nic_device.proofs.{RegisterLaws.ReadBack.off-reset, RegisterLaws.Within.within-written}
-use Rattle.nic_device.proofs.{SidesOn.sides-after_write}
+use Rattle.nic_device.{proofs.EepromImage.Blank.triples_of-blank, proofs.SidesOn.sides-after_write}
+use Rattle.nic_device.{specs.Access.named_written, specs.Eeprom.reset, specs.Eeprom.with_triples, specs.Step.step_of}
+use Rattle.nic_device.proofs.RegisterLaws.{Owners.is_place-same, ReadBack.off-reset, Within.within-written}
 use Rattle.nic_device.proofs.RegisterLaws.Switches.{receive-asked, transmit-asked}
-use Rattle.nic_device.specs.{Access.named_written, Eeprom.reset, Eeprom.with_triples, EepromImage.Image.blank}
-use Rattle.nic_device.specs.{EepromImage.Triples.triples_of, PoolReset.with_pool_reset, PoolReset.written_below_reset}
-use Rattle.nic_device.specs.{RegisterFile.Access.asks_reset, RegisterLaws.Laws.after_write, Step.step_of}
-use Rattle.nic_device.specs.{declared.named.Named.Named, declared.named.Named.TheVariants.Nothing}
-use Rattle.nic_device.specs.RegisterFile.Registers.{Registers, is_wanted}
-use Rattle.nic_device.specs.RegisterLaws.Footprint.{is_place, of_write, pool_renews}
-use Rattle.nic_device.specs.VfMap.Pools.{pools_in, queues_each}
-use Rattle.workers.specs.{Beginning.BeginsWell, DeviceLock.Alone.place_at, DeviceLock.declared.told.Settings.Settings}
-use Rattle.workers.specs.{Starts.Starts, declared.beginning.Given.Given}
-use Rattle.workers.specs.DeviceLock.Told.{first_settings, settings_through}
-use Rattle.workers.specs.Quiet.{NoneAsksOn, asks_on, is_enable}
+use Rattle.nic_device.specs.EepromImage.{Image.blank, Triples.triples_of}
+use Rattle.nic_device.specs.PoolReset.{with_pool_reset, written_below_reset}
+use Rattle.nic_device.specs.RegisterFile.{Access.asks_reset, Registers.Registers, Registers.is_wanted}
+use Rattle.nic_device.specs.RegisterLaws.{Footprint.is_place, Footprint.pool_renews, Laws.after_write}
+use Rattle.nic_device.specs.declared.{named.Named.Named, named.Named.TheVariants.Nothing}
 use Rattle.pmd_laws.proofs.{DriverLaws.Ground.is_in, DriverLaws.Ground.some_where, DriverLaws.Histories.leads-append}
-use Rattle.pmd_laws.proofs.{DriverLaws.HistoryLaws.Alone.histories_sound, DriverLaws.HistoryLaws.Deeds.side_did}
-use Rattle.pmd_laws.proofs.{DriverLaws.HistoryLaws.DeviceLaws.PoolResets.asked_pool_resets}
-use Rattle.pmd_laws.proofs.{DriverLaws.HistoryLaws.Limits.settings_told}
+use Rattle.pmd_laws.proofs.DriverLaws.HistoryLaws.{Alone.histories_sound, Deeds.side_did, Limits.settings_told}
+use Rattle.pmd_laws.proofs.DriverLaws.HistoryLaws.DeviceLaws.PoolResets.{asked_pool_resets}
 use Rattle.pmd_laws.proofs.DriverLaws.HistoryLaws.Steady.{off_steady, steady_kept}
 use Rattle.pmd_laws.proofs.DriverLaws.HistoryLaws.Written.{place_in, place_named}
-use Rattle.pmd_laws.proofs.Prelude.{[], ◌&&◌, ◌*◌, ◌++◌, ◌+◌, ◌<◌, ◌∙◌, ◌∷◌, ◌≡◌, AreEvents, Block, Call, Dir, Entry}
-use Rattle.pmd_laws.proofs.Prelude.{Event, HasGround, IsSound, List, Mode, Option, Place, Port, Register, RowId, Rx}
-use Rattle.pmd_laws.proofs.Prelude.{Some, State, Tx, Watched, ℕ, after, ap, append-nil, append_assoc, arith}
-use Rattle.pmd_laws.proofs.Prelude.{asks_pool_reset, cases_Bool, cleared, cond, enable_row, events_before, false}
-use Rattle.pmd_laws.proofs.Prelude.{has_bit, has_queue, image_stays, inl, inr, is_on, leads_to, left-side, length}
-use Rattle.pmd_laws.proofs.Prelude.{mode_in, named, new_sound, new_state, place, refl, row_of, subst, sym, true}
-use Rattle.pmd_laws.proofs.Prelude.{vfs_stays}
+use Rattle.pmd_laws.proofs.Prelude.{[], ⊎_elim, ◌++◌, ◌+◌, ◌<◌, ◌∙◌, ◌∷◌, ◌≡◌, AreEvents, Block, Call, Dir, Entry}
+use Rattle.pmd_laws.proofs.Prelude.{Event, HasGround, IsSound, List, Mode, Option, Place, Port, Register, Rx, Some}
+use Rattle.pmd_laws.proofs.Prelude.{State, Tx, Watched, ℕ, after, ap, append-nil, append_assoc, arith, asks_pool_reset}
+use Rattle.pmd_laws.proofs.Prelude.{cases_Bool, cleared, common_steps, cond, enable_row, events_before, false, has_bit}
+use Rattle.pmd_laws.proofs.Prelude.{has_queue, image_stays, is_on, leads_to, left-side, length, mode_in, named}
+use Rattle.pmd_laws.proofs.Prelude.{new_sound, new_state, place, refl, row_of, subst, sym, true, vfs_stays}
 use Rattle.pmd_laws.specs.{DriverLaws.Numbers.queue_at, DriverLaws.Numbers.queue_in, Quiet.NeverAskedIsQuiet}
-use Rattle.pmd_laws.specs.DriverLaws.HistoryLaws.Sides.{IsOff, side_of}
-use Rattle.std.proofs.lemmas.Grind.{common_steps}
+use Rattle.pmd_laws.specs.DriverLaws.HistoryLaws.{Sides.IsOff, Sides.side_of}
+use Rattle.workers.specs.{Beginning.BeginsWell, DeviceLock.declared.told.Settings.Settings, Quiet.NoneAsksOn}
+use Rattle.workers.specs.{Quiet.asks_on, Quiet.is_enable, Starts.Starts, declared.beginning.Given.Given}
+use Rattle.workers.specs.DeviceLock.Told.{first_settings, settings_through}
 use Rattle.nic_device.specs.declared.event.Event.TheVariants as event
 use Rattle.workers.specs.Queues as told
 
@@ -39,35 +33,22 @@ use Rattle.workers.specs.Queues as told
 same_in : (queues : Option (ℕ × ℕ)) (number : ℕ) → told.queue_in queues number ≡ queue_in queues number
 same_in queues number = grind (arith, common_steps)
 
-pub same_named : (mode : Mode) (vfs : ℕ) (port : Port) (number : ℕ)
-    → told.queue_at mode vfs port number ≡ queue_at mode vfs port number
-same_named mode vfs port number = grind (arith, common_steps, same_in)
-
--- each of a pool's queues is
-pool_below : (mode : Mode) (pool number : ℕ) → pool < pools_in mode → number < queues_each mode
-    → pool * queues_each mode + number < 128
-pool_below mode pool number in_mode few = grind (arith, common_steps)
-
 pub named_below : (mode : Mode) (vfs : ℕ) (port : Port) (number queue : ℕ)
     → queue_at mode vfs port number ≡ Some queue → queue < 128
-named_below mode vfs port number queue is = grind (arith, common_steps, some_where, is_in, pool_below)
+named_below mode vfs port number queue is = grind (arith, common_steps, some_where, is_in)
 
 -- port and queue name the watched queue there, and frames are as long as the driver was told
 pub ground_there : (w : Watched) (fifo : ℕ) (old : List Call) (given : Given) (h : List Entry)
     → IsSound (new_state w.vfs fifo) → AreEvents h → BeginsWell w (length old) given h → (x : Starts w.pass old h)
     → HasGround w.queue (record { port = given.port; queue = given.queue }) given.frame
     (leads_to (new_state w.vfs fifo) x.before)
-ground_there w fifo old given h sound events well x =
-    let s : State = leads_to (new_state w.vfs fifo) x.before in
+ground_there w fifo old given h sound events well x = let s : State = leads_to (new_state w.vfs fifo) x.before in
     let early = events_before x.before (x.first ∷ x.behind) (subst AreEvents (sym x.all) events) in
     let told : Settings = settings_through w.vfs first_settings x.before in
     let is = settings_told w.vfs fifo x.before sound early in
     let vfs : s.vfs ≡ w.vfs = vfs_stays (new_state w.vfs fifo) x.before in
     let fits = well old refl x in
-    record {
-      names = grind (arith, common_steps, same_named);
-      limit = sym is.1 ∙ fits.limit;
-    }
+    record { names = grind (arith, common_steps, same_in); limit = sym is.1 ∙ fits.limit }
 
 -- a side of a queue that is off and not wanted on stays so over every event that doesn't ask the queue on
 
@@ -78,9 +59,6 @@ IsDown dir queue r = (is_on r dir queue ≡ false) × (is_wanted r dir queue ≡
 
 down_off : (dir : Dir) (queue : ℕ) (s : State) → IsDown dir queue s.registers → IsOff (side_of dir queue s)
 down_off dir queue s down = grind (arith, common_steps)
-
-off_down : (dir : Dir) (queue : ℕ) (s : State) → IsOff (side_of dir queue s) → IsDown dir queue s.registers
-off_down dir queue s is = grind (arith, common_steps)
 
 -- as a reset leaves it
 pub reset_off : (dir : Dir) (queue : ℕ) (s : State) → queue < 128 → IsOff (side_of dir queue (cleared s))
@@ -106,10 +84,6 @@ is_own : (dir : Dir) (queue : ℕ) → is_enable queue (Some (enable dir queue))
 is_own dir queue = grind (arith, common_steps)
 
 -- only a write of it changes what is wanted of the side, and asks for its bit 25
-
-unasked : (row : RowId) (index : ℕ) (dir : Dir) (queue : ℕ) → is_place (place row index) (enable dir queue) ≡ false
-    → (of_write (place row index)).wanted dir queue ≡ false
-unasked row index dir queue other = grind (arith, common_steps)
 
 asked_of : (dir : Dir) (queue : ℕ) → queue < 128 → (s : State) → IsSound s → (view word : ℕ)
     → is_wanted (after_write s.registers (enable dir queue) view word) dir queue ≡ has_bit 25 word
@@ -148,30 +122,25 @@ module _ (w : Watched) (small : w.queue < 128) (s : State) (sound : IsSound s) (
       pool_down asks =
           let mode = mode_in s.registers in
           let x = asked_pool_resets s sound port n word p view found asks in
-          elim (cases_Bool (has_queue mode p.index queue)) as (λ _. Down t) [
-            | inl has ↦ (
-              x.registers.bits here 25 (of_pool dir mode p.index queue ∙ has) (inside dir queue small) ∙ reset_word dir,
-              x.registers.wanted dir queue has small,
-            )
-            | inr none ↦ (
-              x.alone.registers.bits here 25 (of_pool dir mode p.index queue ∙ none) ∙ down.0,
-              x.alone.registers.wanted dir queue none ∙ down.1,
-            )
-          ]
+          ⊎_elim
+          (λ has. (
+            x.registers.bits here 25 (of_pool dir mode p.index queue ∙ has) (inside dir queue small) ∙ reset_word dir,
+            x.registers.wanted dir queue has small,
+          ))
+          (λ none. (
+            x.alone.registers.bits here 25 (of_pool dir mode p.index queue ∙ none) ∙ down.0,
+            x.alone.registers.wanted dir queue none ∙ down.1,
+          )) (cases_Bool (has_queue mode p.index queue))
 
       -- neither is
       module _ (zero : is_place p here ≡ true → has_bit 25 word ≡ false) where
         written_unwanted : is_wanted (after_write s.registers p view word) dir queue ≡ false
         written_unwanted =
-            elim (cases_Bool (is_place p here))
-            as (λ _. is_wanted (after_write s.registers p view word) dir queue ≡ false) [
-              | inl same ↦
-                  ap (λ q. is_wanted (after_write s.registers q view word) dir queue) (is_place-same p here same)
-                  ∙ asked_of dir queue small s sound view word ∙ zero same
-              | inr other ↦
-                  (within-written s.registers p view word).wanted dir queue (unasked p.row p.index dir queue other)
-                  ∙ down.1
-            ]
+            ⊎_elim
+            (λ same. ap (λ q. is_wanted (after_write s.registers q view word) dir queue) (is_place-same p here same)
+            ∙ asked_of dir queue small s sound view word ∙ zero same)
+            (λ other. (within-written s.registers p view word).wanted dir queue (grind (arith, common_steps)) ∙ down.1)
+            (cases_Bool (is_place p here))
 
         written_down : asks_reset (row_of p.row).kind word ≡ false → asks_pool_reset (row_of p.row).kind word ≡ false
             → Down t
@@ -184,24 +153,16 @@ module _ (w : Watched) (small : w.queue < 128) (s : State) (sound : IsSound s) (
             (sides-after_write s.registers sound.registers view word p dir queue ∙ down.0, written_unwanted)
 
         register_down : Down t
-        register_down = elim (cases_Bool (asks_reset (row_of p.row).kind word)) as (λ _. Down t) [
-          | inl asks ↦ reset_down asks
-          | inr no_reset ↦ elim (cases_Bool (asks_pool_reset (row_of p.row).kind word)) as (λ _. Down t) [
-            | inl asks ↦ pool_down asks
-            | inr no_pool ↦ written_down no_reset no_pool
-          ]
-        ]
+        register_down =
+            ⊎_elim reset_down (λ no_reset.
+            ⊎_elim pool_down (written_down no_reset) (cases_Bool (asks_pool_reset (row_of p.row).kind word)))
+            (cases_Bool (asks_reset (row_of p.row).kind word))
 
     module _ (functions : w.vfs ≡ s.vfs) (none : asks_on w (mode_in s.registers) (event.Write port n word) ≡ false)
       where
         zero_there : (p : Place) (view : ℕ) → named s port n ≡ Register p view → is_place p here ≡ true
             → has_bit 25 word ≡ false
-        zero_there p view found same =
-            let mode = mode_in s.registers in
-            let there : place_at mode w.vfs port n ≡ Some here =
-            ap (λ v. place_at mode v port n) functions ∙ place_named s port n ∙ ap place_in found
-            ∙ ap (λ q. Some q) (is_place-same p here same) in
-            sym (ap (λ b. b && has_bit 25 word) (ap (is_enable queue) there ∙ is_own dir queue)) ∙ none
+        zero_there p view found same = grind (arith, common_steps, here, place_named, place_in, is_place-same, is_own)
 
         named_down : (m : Named) → named s port n ≡ m → Down t
         named_down (Nothing seen) found = subst Down (sym (left_by (Nothing seen) found)) down
@@ -214,7 +175,8 @@ stays_off : (w : Watched) (s : State) → w.queue < 128 → IsSound s → s.imag
     → IsOff (side_of dir w.queue (after s e))
 stays_off w s small sound image functions dir (event.Write port n word) none off =
     down_off dir w.queue (after s (event.Write port n word))
-    (named_down w small s sound dir image (off_down dir w.queue s off) port n word functions none (named s port n) refl)
+    (named_down w small s sound dir image (grind (arith, common_steps)) port n word functions none (named s port n)
+    refl)
 stays_off w s small sound image functions dir e none off =
     steady_kept dir w.queue s e IsOff off off_steady
     (side_did dir w.queue s e sound small (left-side w s functions dir e tt))

@@ -1,16 +1,14 @@
 -- What the calls of a driver tell is told of the calls that were added alone: it holds behind whichever others. So it
 -- is of what its halves were driven by, and of a start.
 use Rattle.driver_laws.proofs.On.{are_on}
-use Rattle.pmd.specs.PmdRx.{Filling.StopsFilling, Wrong.EndsWrong}
-use Rattle.pmd_laws.proofs.Prelude.{[], ◌++◌, ◌∙◌, ◌∷◌, ◌≡◌, ◌⊎◌, Access, Adds, AreMade, AreUp, AtPort, Block, Bool}
-use Rattle.pmd_laws.proofs.Prelude.{Call, DeviceFault, Dir, DrivesRings, Event, FaultsEarly, FaultsFilling, IsMade}
-use Rattle.pmd_laws.proofs.Prelude.{IsOtherwise, IsPrepared, IsReceiveReady, IsStrayRead, IsSwitched, IsTransmitReady}
-use Rattle.pmd_laws.proofs.Prelude.{LendsEach, List, Numbers, PlaysFrom, PollsEnd, PreparingFails, Receive}
-use Rattle.pmd_laws.proofs.Prelude.{ReceiveFails, Reply, RowId, Running, Rx, Rxdctl, Sees, Sender, Sets, StopsBy}
-use Rattle.pmd_laws.proofs.Prelude.{StopsLending, SwitchFails, Tx, ℕ, append-nil, append_cancel_left, both_asked}
-use Rattle.pmd_laws.proofs.Prelude.{both_quiet, false, inl, inr, last, missed, named, place, polled, quiet}
-use Rattle.pmd_laws.proofs.Prelude.{receive_polled, refl, ring_words, subst, sym, true}
-use Rattle.std.proofs.{Common.arith, lemmas.Grind.common_steps}
+use Rattle.pmd.specs.PmdSeam.Both.{SwitchFails, both_asked}
+use Rattle.pmd_laws.proofs.Prelude.{[], ◌++◌, ◌∙◌, ◌∷◌, ◌≡◌, Access, Adds, AreMade, AreOn, AreUp, AtPort, Block, Bool}
+use Rattle.pmd_laws.proofs.Prelude.{Call, DeviceFault, Dir, DrivesRings, Event, FaultsEarly, IsMade, IsPrepared}
+use Rattle.pmd_laws.proofs.Prelude.{IsReceiveReady, IsStrayRead, IsSwitched, IsTransmitReady, LendsEach, List, Numbers}
+use Rattle.pmd_laws.proofs.Prelude.{PlaysFrom, PollsEnd, PreparingFails, Receive, ReceiveFails, Reply, RowId, Running}
+use Rattle.pmd_laws.proofs.Prelude.{Rx, Rxdctl, Sees, Sender, Sets, StopsBy, StopsLending, Tx, ℕ, append-nil}
+use Rattle.pmd_laws.proofs.Prelude.{append_cancel_left, arith, both_quiet, common_steps, false, inl, inr, missed, named}
+use Rattle.pmd_laws.proofs.Prelude.{place, polled, quiet, receive_polled, refl, ring_words, subst, sym, true}
 
 -- some calls were added, of which this holds, whatever calls are before them
 pub record Shifts (R : List Call → List Call → Type 0) (old new : List Call) : Type 0 where
@@ -43,17 +41,6 @@ none old new is = record { since = []; made = is ∙ sym (append-nil old); behin
 
 pub then : {R S : List Call → List Call → Type 0} → Shift R → Shift S → Shift (λ o n. (m : List Call) × R o m × S m n)
 then first second old new (mid, x, y) = grind (arith, common_steps, joined)
-
-either : {R S : List Call → List Call → Type 0} → Shift R → Shift S → Shift (λ o n. R o n ⊎ S o n)
-either first second old new z = grind (arith, common_steps, mapped)
-
--- two things of the same calls
-both : {R S : List Call → List Call → Type 0} {old new : List Call} → Shifts R old new → Shifts S old new
-    → Shifts (λ o n. R o n × S o n) old new
-both {S = S} {old = old} x y =
-    let same : y.since ≡ x.since = append_cancel_left old y.since x.since (sym y.made ∙ x.made) in
-    let told = λ (front : List Call). subst (λ (l : List Call). S front (front ++ l)) same (y.behind front) in
-    record { since = x.since; made = x.made; behind = λ front. (x.behind front, told front) }
 
 -- where they end is known behind others too
 pub known : {R : List Call → List Call → Type 0} {old new : List Call} (x : Shifts R old new)
@@ -118,12 +105,10 @@ module _ (q : AtPort) where
   stray : (row : RowId) → Shift (λ o n. IsStrayRead q o n row)
   stray row old new (number, word, named, x) = mapped (adds _ _ old new x) (λ o n y. (number, word, named, y))
 
-  otherwise : (a : Access) → Shift (λ o n. IsOtherwise q o n a)
-  otherwise a old new x = grind (arith, common_steps, either, access, stray, mapped, adds, named)
-
   stops : (all : List Access) → Shift (λ o n. StopsBy DeviceFault q o n all)
   stops all old new (done, a, rest, mid, is, made, fails) =
-      joined (accesses done old mid made) (otherwise a mid new fails) (λ o m n x y. (done, a, rest, m, is, x, y))
+      joined (accesses done old mid made) (grind (arith, common_steps, access, stray, mapped, adds, named))
+      (λ o m n x y. (done, a, rest, m, is, x, y))
 
   polls_end : (side : Dir) (on : Bool) (polls : ℕ) → Shift (λ o n. PollsEnd DeviceFault q o n side on polls)
   polls_end side on polls old new (misses, mid, few, made, x) =
@@ -143,88 +128,62 @@ lends : (ns : List ℕ) → Shift (λ o n. LendsEach o n ns)
 lends [] = none
 lends (n ∷ ns) = then (adds _ _) (lends ns)
 
-pub prepared : (q : AtPort) (side : Dir) (size : ℕ) (a b : Numbers) (ring : ℕ)
-    → Shift (λ o n. IsPrepared q side size o a n b ring)
-prepared q side size a b ring old new x =
-    joined (accesses q _ old x.mid x.words) (lends _ x.mid new x.lent)
-    (λ o m n words lent. record { drawn = x.drawn; mid = m; words = words; lent = lent })
-
-transmit : (q : AtPort) (size frame : ℕ) (a b : Numbers) (v : Sender)
-    → Shift (λ o n. IsTransmitReady q size frame o a n b v)
-transmit q size frame a b v old new x =
-    mapped (prepared q Tx size a b x.ring old new x.prepared)
-    (λ o n y. record { ring = x.ring; prepared = y; tail = x.tail; named = x.named; fresh = x.fresh })
-
--- the receive ring, with the place behind its first access
-receive_at : (q : AtPort) (size frame : ℕ) (a b : Numbers) (v : Receive)
-    → ShiftAt (λ o n. IsReceiveReady q size frame o a n b v) (λ o n y. y.quiet.0)
-receive_at q size frame a b v old new x =
-    let (at, is, quiet) = quieted q old x.mid x.quiet in (
-      at,
-      is,
-      joined quiet (prepared q Rx size a b x.ring x.mid new x.prepared) (λ o m n y again. (
-        record {
-          mid = m;
-          quiet = y.0;
-          ring = x.ring;
-          prepared = again;
-          tail = x.tail;
-          named = x.named;
-          fresh = x.fresh;
-        },
-        y.1,
-      )),
-    )
-
-receive : (q : AtPort) (size frame : ℕ) (a b : Numbers) (v : Receive)
-    → Shift (λ o n. IsReceiveReady q size frame o a n b v)
-receive q size frame a b v old new x =
-    let (at, is, shifts) = receive_at q size frame a b v old new x in mapped shifts (λ o n y. y.0)
-
 lending : (all : List ℕ) (a b : Numbers) (out : List ℕ) → Shift (λ o n. StopsLending DeviceFault all o a n b out)
 lending all a b out old new x =
     let (back, again) = x.fails in
     joined (lends out old x.mid x.lent) (adds _ _ x.mid new again)
     (grind (arith, common_steps))
 
-preparing : (q : AtPort) (side : Dir) (size : ℕ) (a b : Numbers) (out : List ℕ)
-    → Shift (λ o n. PreparingFails DeviceFault q side size o a n b out)
-preparing q side size a b out old new (ring, free, inl (x, same, empty)) =
-    mapped (stops q (ring_words side ring size) old new x) (λ o n y. (ring, free, inl (y, same, empty)))
-preparing q side size a b out old new (ring, free, inr x) =
-    mapped (then (accesses q (ring_words side ring size)) (lending _ a b out) old new x)
-    (λ o n y. (ring, free, inr y))
+module _ (q : AtPort) where
+  prepared : (side : Dir) (size : ℕ) (a b : Numbers) (ring : ℕ) → Shift (λ o n. IsPrepared q side size o a n b ring)
+  prepared side size a b ring old new x =
+      joined (accesses q _ old x.mid x.words) (lends _ x.mid new x.lent)
+      (λ o m n words lent. record { drawn = x.drawn; mid = m; words = words; lent = lent })
 
-receive_fails : (q : AtPort) (size : ℕ) (a b : Numbers) (out : List ℕ)
-    → Shift (λ o n. ReceiveFails DeviceFault q size o a n b out)
-receive_fails q size a b out old new (inl (x, same, empty)) =
-    mapped (stops q both_quiet old new x) (λ o n y. inl (y, same, empty))
-receive_fails q size a b out old new (inr x) =
-    mapped (then (accesses q both_quiet) (preparing q Rx size a b out) old new x) (λ o n y. inr y)
+  transmit : (size frame : ℕ) (a b : Numbers) (v : Sender) → Shift (λ o n. IsTransmitReady q size frame o a n b v)
+  transmit size frame a b v old new x =
+      mapped (prepared Tx size a b x.ring old new x.prepared)
+      (λ o n y. record { ring = x.ring; prepared = y; tail = x.tail; named = x.named; fresh = x.fresh })
 
-wrong : (a : Numbers) (v w : Receive) → Shift (λ o n. EndsWrong a o v n w)
-wrong a v w old new (mid, e, r, x, own, free, last, sick) =
-    joined (plays _ _ _ old mid x) (adds e r mid new last) (λ o m n y z. (m, e, r, y, own, free, z, sick))
+  -- the receive ring, with the place behind its first access
+  receive_at : (size frame : ℕ) (a b : Numbers) (v : Receive)
+      → ShiftAt (λ o n. IsReceiveReady q size frame o a n b v) (λ o n y. y.quiet.0)
+  receive_at size frame a b v old new x =
+      let (at, is, quiet) = quieted q old x.mid x.quiet in (
+        at,
+        is,
+        joined quiet (prepared Rx size a b x.ring x.mid new x.prepared) (λ o m n y again. (
+          record {
+            mid = m;
+            quiet = y.0;
+            ring = x.ring;
+            prepared = again;
+            tail = x.tail;
+            named = x.named;
+            fresh = x.fresh;
+          },
+          y.1,
+        )),
+      )
 
-filling : (a b : Numbers) (v w : Receive) → Shift (λ o n. StopsFilling DeviceFault o a v n b w)
-filling a b v w old new x =
-    let so_far : PlaysFrom _ old v x.mid x.ring = record { plays = x.plays; free = x.free } in
-    mapped
-    (both (then (plays _ v x.ring) (wrong x.arena x.ring w) old new (x.mid, so_far, x.fails))
-    (plays _ _ _ old new x.made))
-    (λ o n y. record {
-      count = x.count;
-      few = x.few;
-      mid = y.0.0;
-      arena = x.arena;
-      ring = x.ring;
-      plays = y.0.1.plays;
-      free = y.0.1.free;
-      posts = x.posts;
-      fails = y.0.2;
-      made = y.1;
-      none = x.none;
-    })
+  receive : (size frame : ℕ) (a b : Numbers) (v : Receive) → Shift (λ o n. IsReceiveReady q size frame o a n b v)
+  receive size frame a b v old new x =
+      let (at, is, shifts) = receive_at size frame a b v old new x in mapped shifts (λ o n y. y.0)
+
+  preparing : (side : Dir) (size : ℕ) (a b : Numbers) (out : List ℕ)
+      → Shift (λ o n. PreparingFails DeviceFault q side size o a n b out)
+  preparing side size a b out old new (ring, free, inl (x, same, empty)) =
+      mapped (stops q (ring_words side ring size) old new x) (λ o n y. (ring, free, inl (y, same, empty)))
+  preparing side size a b out old new (ring, free, inr x) =
+      mapped (then (accesses q (ring_words side ring size)) (lending _ a b out) old new x)
+      (λ o n y. (ring, free, inr y))
+
+  receive_fails : (size : ℕ) (a b : Numbers) (out : List ℕ)
+      → Shift (λ o n. ReceiveFails DeviceFault q size o a n b out)
+  receive_fails size a b out old new (inl (x, same, empty)) =
+      mapped (stops q both_quiet old new x) (λ o n y. inl (y, same, empty))
+  receive_fails size a b out old new (inr x) =
+      mapped (then (accesses q both_quiet) (preparing Rx size a b out) old new x) (λ o n y. inr y)
 
 -- a start, with the place behind its first access
 
@@ -255,7 +214,7 @@ module _ (q : AtPort) (size frame : ℕ) (a : Numbers) where
         )),
       )
 
-  -- one that ends with the device at fault
+  -- one that ends with the device at fault before both sides are on
 
   abbrev Ready : Numbers → Numbers → Receive → Sender → List Call → List Call → Type 0
   Ready b c v t o n =
@@ -264,35 +223,21 @@ module _ (q : AtPort) (size frame : ℕ) (a : Numbers) where
   ready : (b c : Numbers) (v : Receive) (t : Sender) → Shift (λ o n. Ready b c v t o n)
   ready b c v t = then (receive q size frame a b v) (transmit q size frame b c t)
 
-  early : Shift (λ o n. FaultsEarly q size frame o a n)
-  early old new (inl x) =
+  pub early_shift : Shift (λ o n. FaultsEarly q size frame o a n)
+  early_shift old new (inl x) =
       mapped (receive_fails q size a x.arena x.out old new x.fails)
       (λ o n y. inl (record { arena = x.arena; out = x.out; fails = y }))
-  early old new (inr (inl x)) =
+  early_shift old new (inr (inl x)) =
       joined (receive q size frame a x.ready_arena x.empty old x.made x.receive)
       (preparing q Tx size x.ready_arena x.arena x.out x.made new x.fails)
       (λ o m n y z. inr (inl (grind (arith, common_steps))))
-  early old new (inr (inr x)) =
+  early_shift old new (inr (inr x)) =
       joined (ready x.ready_arena x.both_arena x.empty x.sender old x.both_made (x.ready_made, x.receive, x.transmit))
       (switch_fails q true 1000 x.both_made new x.fails)
       (λ o m n y z. inr (inr (grind (arith, common_steps))))
 
-  late : Shift (λ o n. FaultsFilling q size frame o a n)
-  late old new x =
-      let on = x.on in
-      joined
-      (then (ready on.ready_arena on.both_arena x.empty x.sender) (switched q true 1000) old x.mid
-      (on.both_made, (on.ready_made, on.receive, on.transmit), on.switched))
-      (filling on.both_arena x.arena x.empty x.filled x.mid new x.fails)
-      (λ o m n y fails. record {
-        mid = m;
-        empty = x.empty;
-        sender = x.sender;
-        arena = x.arena;
-        filled = x.filled;
-        fails = fails;
-        on = are_on on.sized on.framed y.1.1 y.1.2 y.2;
-      })
-
-  pub fault_shift : Shift (λ o n. FaultsEarly q size frame o a n ⊎ FaultsFilling q size frame o a n)
-  fault_shift = either early late
+  -- and both sides as they went on
+  pub on_shift : (v : Receive) (t : Sender) → Shift (λ o n. AreOn q size frame o a n v t)
+  on_shift v t old new x =
+      joined (ready x.ready_arena x.both_arena v t old x.both_made (x.ready_made, x.receive, x.transmit))
+      (switched q true 1000 x.both_made new x.switched) (λ o m n y z. are_on x.sized x.framed y.1 y.2 z)

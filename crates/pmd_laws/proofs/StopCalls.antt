@@ -1,16 +1,15 @@
 -- The calls of a driver's stop are those of a stop, beside steps of the device, and take blocks back once both sides
 -- are off; and so do those of them that were made so far.
+use Rattle.driver_laws.proofs.StopCalls.{asks_end, bringing_ends, step_ends, switched_off_asks, unswitched_asks}
+use Rattle.pmd.specs.Stopping.{ComesHome, IsLeftAmid, bringing, brought}
 use Rattle.pmd.specs.declared.home.Home.{Home}
-use Rattle.driver_laws.proofs.StopCalls.{bringing_ends, switched_off_asks, unswitched_asks}
-use Rattle.pmd_laws.proofs.Prelude.{[], ◌++◌, ◌∙◌, ◌∷◌, ◌≡◌, ◌⊎◌, AreMadeOf, Asks, AtPort, Begins, Block, Call}
-use Rattle.pmd_laws.proofs.Prelude.{ComesHome, Each, Ends, EndsOnceOff, Event, FailedStopEnds, FailedStopTakesOnceOff}
-use Rattle.pmd_laws.proofs.Prelude.{Halted, IsAsking, IsEnding, IsLeftAmid, IsStopped, IsSwitched, List, NoCallTakes}
-use Rattle.pmd_laws.proofs.Prelude.{None, Option, PmdFault, Rest, Some, StopEnds, StopTakesOnceOff, TakesOnceOff, after}
-use Rattle.pmd_laws.proofs.Prelude.{ap, append_assoc, append_cancel_left, asks_end, bringing, brought, closed, false}
-use Rattle.pmd_laws.proofs.Prelude.{inl, inr, left, none_made, now, one_begins, refl, some_made, step_ends, subst, sym}
-use Rattle.pmd_laws.proofs.Prelude.{then_made}
+use Rattle.pmd_laws.proofs.Prelude.{[], ⊎_elim, ◌++◌, ◌∙◌, ◌∷◌, ◌≡◌, ◌⊎◌, AreMadeOf, Asks, AtPort, Block, Call, Each}
+use Rattle.pmd_laws.proofs.Prelude.{Ends, EndsOnceOff, Event, Halted, IsAsking, IsEnding, IsStopped, IsSwitched, List}
+use Rattle.pmd_laws.proofs.Prelude.{None, Option, PmdFault, Rest, Some, TakesOnceOff, after, ap, append_assoc}
+use Rattle.pmd_laws.proofs.Prelude.{append_cancel_left, arith, closed, common_steps, false, inl, inr, left, none_made}
+use Rattle.pmd_laws.proofs.Prelude.{now, one_begins, refl, some_made, subst, sym, then_made}
 use Rattle.pmd_laws.proofs.Shifted.{Shift, ShiftAt, joined, known, mapped, switched, then}
-use Rattle.std.proofs.{Common.arith, lemmas.Grind.common_steps}
+use Rattle.pmd_laws.specs.Stopped.{FailedStopTakesOnceOff, NoCallTakes, StopTakesOnceOff}
 use Rattle.pmd.specs.declared.start.Rest.TheVariants as rest
 
 module _ (P : Event Block → Type 0) where
@@ -18,13 +17,23 @@ module _ (P : Event Block → Type 0) where
   each_first [] ds are = tt
   each_first (c ∷ cs) ds are = (are.0, each_first cs ds are.1)
 
+  pub made_first : (old new since rest : List Call) → AreMadeOf P old new → new ≡ (old ++ since) ++ rest
+      → Each (λ c. P c.event) since
+  made_first old new since rest (calls, is, are) all =
+      each_first since rest
+      (subst (Each (λ c. P c.event))
+      (append_cancel_left old calls (since ++ rest) (sym is ∙ all ∙ append_assoc old since rest)) are)
+
   pub first_made : (old now new since rest : List Call) → AreMadeOf P old new → now ≡ old ++ since → new ≡ now ++ rest
       → AreMadeOf P old now
-  first_made old now new since rest (calls, is, are) some all =
-      let both : calls ≡ since ++ rest =
-      append_cancel_left old calls (since ++ rest)
-      (sym is ∙ all ∙ ap (λ (l : List Call). l ++ rest) some ∙ append_assoc old since rest) in
-      (since, some, each_first since rest (subst (Each (λ c. P c.event)) both are))
+  first_made old now new since rest x some all =
+      (since, some, made_first old new since rest x (all ∙ ap (λ (l : List Call). l ++ rest) some))
+
+-- both sides were seen off, and then come calls of a stop
+abbrev pub once_of : (q : AtPort) (old new mid off : List Call) → Asks q old mid → IsSwitched q mid off false 1000
+    → Ends q off new → EndsOnceOff q old new
+once_of q old new mid off asks switched ends =
+    record { mid = mid; off = off; asks = asks; switched = switched; ends = ends }
 
 -- up to where both sides are off the calls ask
 pub off_asks : (q : AtPort) (old new : List Call) (x : EndsOnceOff q old new) → Asks q old x.off
@@ -36,20 +45,13 @@ takes_ends q old new (inr x) =
     then_made (IsEnding q) old x.off new (asks_end q old x.off (off_asks q old new x)) x.ends
 
 module _ (q : AtPort) (old now new since rest : List Call) (some : now ≡ old ++ since) (all : new ≡ now ++ rest) where
-  so_far : (x : EndsOnceOff q old new) → Begins now x.off ⊎ Begins x.off now → TakesOnceOff q old now
-  so_far x (inl (back, is)) =
-      inl (first_made (IsAsking q) old now x.off since back (off_asks q old new x) some (sym is))
-  so_far x (inr (back, is)) = inr (record {
-    mid = x.mid;
-    off = x.off;
-    asks = x.asks;
-    switched = x.switched;
-    ends = first_made (IsEnding q) x.off now new back rest x.ends (sym is) all;
-  })
-
   pub first_takes : TakesOnceOff q old new → TakesOnceOff q old now
   first_takes (inl asks) = inl (first_made (IsAsking q) old now new since rest asks some all)
-  first_takes (inr x) = so_far x (one_begins now rest x.off x.ends.0 (sym all ∙ x.ends.1))
+  first_takes (inr x) =
+      ⊎_elim (λ b. inl (first_made (IsAsking q) old now x.off since b.0 (off_asks q old new x) some (sym b.1)))
+      (λ b. inr (once_of q old now x.mid x.off x.asks x.switched
+      (first_made (IsEnding q) x.off now new b.0 rest x.ends (sym b.1) all)))
+      (one_begins now rest x.off x.ends.0 (sym all ∙ x.ends.1))
 
 -- what comes behind a switch off
 
@@ -67,18 +69,12 @@ amid_ends f q old h new left (refusal, is, (count, mid, some, more, arena, way, 
 -- blocks are taken back behind a switch off
 
 on_ends : (q : AtPort) (old mid new : List Call) → EndsOnceOff q old mid → Ends q mid new → EndsOnceOff q old new
-on_ends q old mid new x more = record {
-  mid = x.mid;
-  off = x.off;
-  asks = x.asks;
-  switched = x.switched;
-  ends = then_made (IsEnding q) x.off mid new x.ends more;
-}
+on_ends q old mid new x more =
+    once_of q old new x.mid x.off x.asks x.switched (then_made (IsEnding q) x.off mid new x.ends more)
 
 once_off : (q : AtPort) (old mid off new : List Call) → TakesOnceOff q old mid → IsSwitched q mid off false 1000
     → Ends q off new → TakesOnceOff q old new
-once_off q old mid off new (inl asks) x ends =
-    inr (record { mid = mid; off = off; asks = asks; switched = x; ends = ends })
+once_off q old mid off new (inl asks) x ends = inr (once_of q old new mid off asks x ends)
 once_off q old mid off new (inr was) x ends =
     inr (on_ends q old mid new was
     (then_made (IsEnding q) mid off new (asks_end q mid off (switched_off_asks q mid off x)) ends))
@@ -101,22 +97,13 @@ failed_stop_takes_once_off f q old mid h new left (inr (inl (fails, same))) befo
 failed_stop_takes_once_off f q old mid h new left (inr (inr (off, switched, amid))) before =
     once_off q old mid off new before switched (amid_ends f q off (closed h) new left amid)
 
-pub stop_ends : StopEnds
-stop_ends q old h new home x =
-    takes_ends q old new (stop_takes_once_off q old old h new home x (no_call_takes q old))
-
-pub failed_stop_ends : FailedStopEnds
-failed_stop_ends f q old h new left x =
-    takes_ends q old new (failed_stop_takes_once_off f q old old h new left x (no_call_takes q old))
-
 -- so it is of a driver that lived, and was stopped
 pub stopped_takes : (q : AtPort) (old : List Call) (h : Halted) (new : List Call) (left : Rest) (late : Option PmdFault)
     → IsStopped q old h new left late → TakesOnceOff q old new
 stopped_takes q old h new (rest.Home home) None x = stop_takes_once_off q old old h new home x (no_call_takes q old)
-stopped_takes q old h new (rest.Home home) (Some f) x = absurd x
-stopped_takes q old h new (rest.Running p) None x = absurd x
 stopped_takes q old h new (rest.Running p) (Some f) (after, is, fails) =
     failed_stop_takes_once_off f q old old h new after fails (no_call_takes q old)
+stopped_takes q old h new left late x = absurd x
 
 pub stopped_ends : (q : AtPort) (old : List Call) (h : Halted) (new : List Call) (left : Rest) (late : Option PmdFault)
     → IsStopped q old h new left late → Ends q old new

@@ -1,35 +1,57 @@
 -- What a driver handed out and what it sent stays in order over its stop and on: behind its life neither side goes on;
 -- what device and driver agree on stands while the driver asks for its sides to be off; and once both are, nothing goes
 -- on there. So it is of what a driver left that lived, and was stopped.
-use Rattle.driver_laws.proofs.{Ground.ground_names, Parts.more_some, RingLaws.Delivering.grows}
-use Rattle.driver_laws.proofs.{RingLaws.Foreign.no_registers, RingLaws.HistoryLaws.Steady.deed_settles}
-use Rattle.driver_laws.proofs.{RingLaws.Kept.each_map, RingLaws.Runs.first_sent, SwitchedOff.quiet_queue_is_silent}
-use Rattle.driver_laws.proofs.{SwitchedOff.ending_does, SwitchedOff.switching_off_leads, Words.side_driven}
-use Rattle.driver_laws.proofs.Meeting.{Meets, enable_words_keep, neither_keeps}
-use Rattle.driver_laws.specs.{Enabling.MayAsk, Moves.IsMet, Standing.IsLeft}
+use Rattle.driver_laws.proofs.{Ground.ground_names, On.ground_at, Parts.more_some, RingLaws.Delivering.grows}
+use Rattle.driver_laws.proofs.{RingLaws.DeviceLaws.Standing.stays_within, RingLaws.Foreign.no_registers}
+use Rattle.driver_laws.proofs.{RingLaws.HistoryLaws.Steady.deed_settles, RingLaws.Kept.each_map, Words.side_driven}
+use Rattle.driver_laws.proofs.InOrder.{Runs, driven_runs, goes as entry_goes, runs_on}
+use Rattle.driver_laws.proofs.Meeting.{Meets, driven_meets, enable_words_keep, neither_keeps}
+use Rattle.driver_laws.proofs.Reached.{KeptOver, LeadsOver, all_lead, free_left, reached, reached_next}
+use Rattle.driver_laws.proofs.RingLaws.DeviceLaws.KeptSettings.{settings_stand}
+use Rattle.driver_laws.proofs.SwitchedOff.{ending_does, quiet_queue_is_silent, switching_off_leads}
+use Rattle.driver_laws.specs.{Enabling.MayAsk, Histories.doers_after, Moves.IsMet, Standing.IsLeft}
 use Rattle.pmd.specs.PmdSeam.Packet.{Kept}
-use Rattle.pmd_laws.{proofs.Plain.ground_ran, specs.Silent.SilentOverStop, specs.Silent.SwitchesOff}
-use Rattle.pmd_laws.proofs.Order.{agree, ends, handed, life_before, ran, sent_first, settled, some_on}
-use Rattle.pmd_laws.proofs.Prelude.{[], ◌++◌, ◌∙◌, ◌∷◌, ◌≡◌, ◌≢◌, AreLent, Asks, AtCalls, AtEntries, AtPort, Block}
-use Rattle.pmd_laws.proofs.Prelude.{Blocks, BothAgree, Call, Dir, Ended, Ends, EndsOnceOff, Entry, Event, Halted}
-use Rattle.pmd_laws.proofs.Prelude.{Halves, HandedOverStop, HasGround, IsAsking, IsEnding, IsEvent, IsFalse, IsNumberOf}
-use Rattle.pmd_laws.proofs.Prelude.{IsOver, IsPrefixOf, IsQuiet, IsSettled, IsSilent, IsStopped, IsStopping, IsSwitched}
-use Rattle.pmd_laws.proofs.Prelude.{KeptOver, LeadsOver, LeftIsPrefix, Life, List, None, Option, Piece, PmdFault, Rest}
-use Rattle.pmd_laws.proofs.Prelude.{Rx, SentOverStop, Settles, Some, State, TakesOnceOff, Tx, Up, Watched}
-use Rattle.pmd_laws.proofs.Prelude.{WritesOutside, ℕ, after, all_lead, ap, append-nil, bytes_of, calls_joined, calls_of}
-use Rattle.pmd_laws.proofs.Prelude.{closed, cond, delivered, drives_lead, drop, enable_row, ending_plain, false}
-use Rattle.pmd_laws.proofs.Prelude.{free_left, ground_kept, halted_of, halves_of, has_bit, inl, inr, left, left_settles}
-use Rattle.pmd_laws.proofs.Prelude.{lent_before, lent_by, named, none_made, now, option_map, packets_if_any, parts}
-use Rattle.pmd_laws.proofs.Prelude.{pieces, pieces_since, plain_keeps, reached, reached_next, refl, reply_to, sent_by}
-use Rattle.pmd_laws.proofs.Prelude.{sent_is_counted, sent_since, since-append, subst, sym, vfs_stays}
-use Rattle.pmd_laws.proofs.StopCalls.{amid_ends, first_made, first_takes, home_ends, off_asks, stopped_ends}
-use Rattle.pmd_laws.proofs.StopCalls.{stopped_takes}
-use Rattle.std.proofs.{Common.arith, lemmas.Grind.common_steps}
-use Rattle.pmd_laws.specs.Stopped as stopped
+use Rattle.pmd_laws.{proofs.StopCalls.stopped_takes, specs.Silent.SilentOverStop, specs.Silent.SwitchesOff}
+use Rattle.pmd_laws.proofs.Order.{Ran, agree, begun, driven, ends, handed, in_parts, life_before, life_of, ran}
+use Rattle.pmd_laws.proofs.Order.{sent_agreed, sent_first, settled, some_on, there_is, whole}
+use Rattle.pmd_laws.proofs.Prelude.{[], ◌++◌, ◌==◌, ◌∙◌, ◌∷◌, ◌≡◌, ◌≢◌, AreLent, Asks, AtCalls, AtEntries, AtPort}
+use Rattle.pmd_laws.proofs.Prelude.{Block, Blocks, BothAgree, Call, Course, Dir, Doer, Ended, Ends, EndsOnceOff, Entry}
+use Rattle.pmd_laws.proofs.Prelude.{Event, Halted, Halves, HasGround, IsAsking, IsEnding, IsEvent, IsOver, IsPrefixOf}
+use Rattle.pmd_laws.proofs.Prelude.{IsQuiet, IsSettled, IsSilent, IsStopped, IsStopping, IsSwitched, Life, List, None}
+use Rattle.pmd_laws.proofs.Prelude.{Option, Piece, PmdFault, Rest, Rx, Settles, Some, State, TakesOnceOff, Tx, Up}
+use Rattle.pmd_laws.proofs.Prelude.{Watched, WritesOutside, ℕ, after, ap, append-nil, arith, bytes_of, calls_joined}
+use Rattle.pmd_laws.proofs.Prelude.{calls_of, closed, common_steps, cond, delivered, drives_lead, enable_row}
+use Rattle.pmd_laws.proofs.Prelude.{ending_plain, false, ground_kept, ground_same, halted_of, halves_of, has_bit, inl}
+use Rattle.pmd_laws.proofs.Prelude.{inr, leads_to, left, left_settles, lent_before, lent_by, named, none_made, now}
+use Rattle.pmd_laws.proofs.Prelude.{option_map, packets_if_any, parts, pieces, pieces_since, plain_keeps, refl}
+use Rattle.pmd_laws.proofs.Prelude.{reply_to, sent_by, sent_is_counted, sent_since, since-append, subst, sym, vfs_stays}
+use Rattle.pmd_laws.proofs.StopCalls.{amid_ends, first_made, first_takes, home_ends, off_asks, once_of, stopped_ends}
+use Rattle.pmd_laws.specs.Ends.{HandedOverStop, LeftIsPrefix, SentOverStop}
 use Rattle.driver_laws.proofs.RingLaws.HistoryLaws.Steady as steady
 use Rattle.driver_laws.specs.RingLaws.Delivered as receive
 use Rattle.nic_device.specs.declared.event.Event.TheVariants as event
 use Rattle.pmd.specs.declared.start.Rest.TheVariants as rest
+use Rattle.pmd_laws.specs.Stopped as stopped
+
+-- port and queue name the queue, and the frame limit stays, as long as the halves are led on: no entry writes a setting
+ground_along : {w : Watched} {mine : Blocks} (q : AtPort) (frame : ℕ) (doers : List Doer) (es : List Entry) {s : State}
+    {out : List Piece} {sent : List (List ℕ)} {k : Halves} → Meets w mine s out sent k → Runs w mine s k doers es
+    → HasGround w.queue q frame s → HasGround w.queue q frame (leads_to s es)
+ground_along q frame doers [] m r g = g
+ground_along {w = w} q frame doers (e ∷ es) {s = s} m r g =
+    let next = entry_goes m r in
+    let stay = settings_stand s e.event next.setting in
+    ground_along q frame (doers_after (e.pass == w.pass) doers) es next.meets (runs_on m r)
+    (ground_same w.queue q frame s (after s e.event) stay.mode (stays_within s e.event).vfs stay.limit g)
+
+ground_ran : {c : Course} (x : Ran c) → calls_of c.w.pass c.h ≡ x.new
+    → HasGround c.w.queue c.q c.frame (leads_to c.origin c.h)
+ground_ran {c = c} x made =
+    let p = in_parts x made in
+    let d = driven x p in
+    subst (HasGround c.w.queue c.q c.frame) (there_is x made)
+    (ground_along c.q c.frame x.goes.0 p.back (driven_meets d) (driven_runs d)
+    (ground_at x.up x.along x.ground p.front p.back p.both p.fronts))
 
 -- where more pieces come the packets so far stay first
 
@@ -64,8 +86,8 @@ module _ (w : Watched) (origin : State) (q : AtPort) (frame : ℕ) where
     ground = plain_keeps w.queue q frame s e (ending_plain q e ends) g;
     settles = λ dir.
         ending_does dir steady.IsSettled steady.Settles steady.same_settles
-        (λ x y wanted same none p. steady.asked_settles x y wanted same none)
-        (λ queue s e did is. deed_settles dir queue s e did is) w.queue q frame s met g (is dir) e made ends;
+        (λ x y wanted same none p. steady.asked_settles x y wanted same none) (deed_settles dir) w.queue q frame s met
+        g (is dir) e made ends;
   }
 
   -- from where both sides are settled on they don't go on
@@ -130,8 +152,7 @@ module _ (w : Watched) (origin : State) (q : AtPort) (frame : ℕ) where
           record {
             kept = keeps_on done e n.moves x.kept;
             out = n.out;
-            both =
-                rw (reached_next w origin done e, counted) n.both;
+            both = rw (reached_next w origin done e, counted) n.both;
             lent = x.lent;
           }
 
@@ -147,36 +168,23 @@ module _ (w : Watched) (origin : State) (q : AtPort) (frame : ℕ) where
             both = (neither_keeps m e left.made left.steps left.registers left.blocks).0;
           }
 
-      word_next : (done : List Entry) (side : Dir) (number word : ℕ) → IsMet w.queue (reached w origin done)
-          → IsEvent (event.Write q.port number word) → IsFalse (has_bit 25 word)
-          → IsNumberOf q.port (enable_row side) q.queue number → Agree done
-          → Next done (event.Write q.port number word)
-      word_next done side number word met made none named x =
-          let s = reached w origin done in
-          let e : Event Block = event.Write q.port number word in
-          let names = ground_names w.queue q frame s x.kept.ground (enable_row side) number (side_driven side) named in
-          record {
-            moves = ending_moves s e met made (side, refl, none, named) x.kept.ground x.kept.settled;
-            out = x.out;
-            both =
-                rw (append-nil (sent done))
-                (enable_words_keep w.queue s side q.port number word x.out (sent done) k made names
-                (none_asks side word k none) x.both);
-          }
-
       asked_next : w.vfs ≡ origin.vfs → (done : List Entry) (e : Event Block) → IsMet w.queue (reached w origin done)
           → IsEvent e → IsAsking q e → WritesOutside w.queue mine (reply_to (reached w origin done) e) → Agree done
           → Next done e
       asked_next vfs done (event.Write port number word) met made (side, same, none, named) steps x =
-          subst (λ p. Next done (event.Write p number word)) (sym same)
-          (word_next done side number word met (subst (λ p. IsEvent (event.Write p number word)) same made) none named
-          x)
-      asked_next vfs done (event.Read port number) met made asks steps x =
-          left_next done (event.Read port number)
-          (grind (arith, common_steps, free_left, reached, vfs_stays)) x
+          let s = reached w origin done in
+          let e : Event Block = event.Write port number word in
+          let names = ground_names w.queue q frame s x.kept.ground (enable_row side) number (side_driven side) named in
+          record {
+            moves = ending_moves s e met made (side, same, none, named) x.kept.ground x.kept.settled;
+            out = x.out;
+            both =
+                rw (append-nil (sent done))
+                (enable_words_keep w.queue s side port number word x.out (sent done) k made (rw same names)
+                (none_asks side word k none) x.both);
+          }
       asked_next vfs done e met made asks steps x =
-          left_next done e
-          (grind (arith, common_steps, free_left, reached, vfs_stays, no_registers)) x
+          left_next done e (grind (arith, common_steps, free_left, reached, vfs_stays, no_registers)) x
 
       others_agree : KeptOver w origin mine Agree
       others_agree done e left x = agree_on done e x (left_next done e.event left x)
@@ -193,11 +201,7 @@ more_lent pass g h k x = grind (arith, common_steps, each_map, lent_before)
 
 -- a life made some calls
 made_some : (x : Life) → x.made ≢ []
-made_some x none =
-    let on = x.is.up.on in
-    more_some x.started x.is.since.1
-    (λ first. more_some on.mid on.plays.plays.1 (some_on (ran x).there) (sym on.plays.plays.2 ∙ first))
-    (sym x.is.since.2 ∙ none)
+made_some x none = more_some x.is.up.on.mid (whole x).1 (some_on (begun x)) (sym (whole x).2 ∙ none)
 
 module _ (x : Life) (new : List Call) (y : IsStopping x new) where
   open x use {w, origin, h, q, frame, made, k}
@@ -215,8 +219,7 @@ module _ (x : Life) (new : List Call) (y : IsStopping x new) where
         kept = record { ground = ground_ran r calls; settled = settled r calls; ahead = handed r calls };
         out = _;
         both = agree r calls;
-        lent =
-            rw (← all) (more_lent w.pass done rest k (ends r calls).lent);
+        lent = rw (← all) (more_lent w.pass done rest k (ends r calls).lent);
       }
 
   over_stop : Here h
@@ -237,10 +240,7 @@ module _ (x : Life) (new : List Call) (y : IsStopping x new) where
 
   prefix_at : (done : List Entry) → There done
       → IsPrefixOf (sent_since w.queue origin [] done) (bytes_of k.transmit.accepted)
-  prefix_at done kept =
-      let (f, agrees) = kept.both.transmit in
-      first_sent (reached w origin done) w.queue (sent_since w.queue origin [] done) k.transmit.layout.limit
-      (drop f k.transmit.outstanding) k.transmit.accepted agrees.sends
+  prefix_at done kept = sent_agreed w.queue _ _ _ k kept.both
 
   some_asked : (now : List Call) → Asks q made now → now ≢ []
   some_asked now (calls, is, each) none = more_some made calls (made_some x) (sym is ∙ none)
@@ -271,19 +271,10 @@ sent_over_stop = sent_stopped
 
 -- it lived, up to where it was to stop
 abbrev life : Ended → Life
-life x = record {
-  course = x.course;
-  started = x.lived.lives.made;
-  r = x.lived.lives.fresh;
-  made = x.lived.made;
-  k = halves_of x.lived.last;
-  is = record {
-    along = x.along;
-    up = x.lived.lives.up;
-    begins = x.begins;
-    since = drives_lead _ _ _ _ x.lived.lives.drives.apart.drives;
-  };
-}
+life x =
+    let live = x.lived.lives in
+    life_of x.course live.made live.fresh x.lived.made (halves_of x.lived.last)
+    (record { along = x.along; up = live.up; begins = x.begins; since = drives_lead _ _ _ _ live.drives.apart.drives })
 
 pub left_is_prefix : LeftIsPrefix
 left_is_prefix x calls = (
@@ -325,12 +316,9 @@ module _ (q : AtPort) (old : List Call) (h : Halted) (new : List Call) where
       → SwitchesOff q old h new left late x off → GoesOff off
   switches_off (rest.Home home) None (mid, switched, comes) off is =
       subst GoesOff (sym is) (switched, home_ends q mid (closed h) new home comes)
-  switches_off (rest.Home home) (Some f) x off is = absurd is
-  switches_off (rest.Running p) None x off is = absurd is
-  switches_off (rest.Running p) (Some f) (after, same, inl unclosed) off is = absurd is
-  switches_off (rest.Running p) (Some f) (after, same, inr (inl unswitched)) off is = absurd is
   switches_off (rest.Running p) (Some f) (after, same, inr (inr (mid, switched, amid))) off is =
       subst GoesOff (sym is) (switched, amid_ends f q mid (closed h) new after amid)
+  switches_off left late x off is = absurd is
 
 pub silent_over_stop : SilentOverStop
 silent_over_stop x off done rest y stop all calls =
@@ -339,11 +327,6 @@ silent_over_stop x off done rest y stop all calls =
     stop in
     let later = calls_of x.w.pass rest in
     let on : here x y ≡ off ++ later = grind (arith, common_steps, calls_joined) in
-    let z : EndsOnceOff x.q made (here x y) = record {
-      mid = made;
-      off = off;
-      asks = none_made (IsAsking x.q) made made refl;
-      switched = switched;
-      ends = first_made (IsEnding x.q) off (here x y) x.new later y.rest ends on y.all;
-    } in
+    let z = once_of x.q made (here x y) made off (none_made (IsAsking x.q) made made refl) switched
+    (first_made (IsEnding x.q) off (here x y) x.new later y.rest ends on y.all) in
     silent_off (life x) (here x y) (is_stopping x y) z done rest all calls

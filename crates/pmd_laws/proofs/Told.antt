@@ -1,22 +1,22 @@
 -- A call of a driver that looks last and finds no packet whole, or the oldest outstanding one not done, within a longer
 -- history. What the call tells may be told behind other calls: what it added comes behind a life. And a driver's life
 -- as its calls tell it is a life: it runs on, over calls as they are told, and harmless ones between.
-use Rattle.driver_laws.proofs.InOrder.{none_is_all_before, waiting_is_not_all}
+use Rattle.driver_laws.proofs.{InOrder.none_is_all_before, InOrder.waiting_is_not_all, RingLaws.Packets.length-segments}
+use Rattle.driver_laws.proofs.Beside.{apart_leads_on, driven_apart, harmless_lead, steps_harmless}
 use Rattle.pmd.{proofs.Both.rings_still, specs.Driver.Driver, specs.PmdRx.Plays.LooksInVain}
-use Rattle.pmd_laws.proofs.Order.{Ran, all_apart, begun, counted, driven, first, fresh_own, handed, idle, in_parts}
-use Rattle.pmd_laws.proofs.Order.{last as last_there, life_before, none, ran, sent_first, whole}
-use Rattle.pmd_laws.proofs.Prelude.{[], ◌++◌, ◌∙◌, ◌∷◌, ◌≡◌, ◌≢◌, Adds, AddsHarmless, AllFollow, AtPort, Block, Blocks}
-use Rattle.pmd_laws.proofs.Prelude.{Call, Drives, Entry, Event, FindsNone, FindsWaiting, Follows, Halves, HasNoneOut}
-use Rattle.pmd_laws.proofs.Prelude.{IsLegal, IsTold, Leads, LeadsApart, Life, List, Lives, LooksLast, Moment, Numbers}
-use Rattle.pmd_laws.proofs.Prelude.{OwnsSame, Parts, Receive, Reply, Rings, Running, Sender, State, Told, Up}
-use Rattle.pmd_laws.proofs.Prelude.{WaitingIsNotAllAsTold, WaitingIsNotAllBefore, WhereUp, ℕ, accepted_of, ap}
-use Rattle.pmd_laws.proofs.Prelude.{apart_leads_on, append-nil, append_assoc, append_cancel_left, bytes_of, call_in}
-use Rattle.pmd_laws.proofs.Prelude.{call_of, calls_joined, calls_of, delivered, driven_apart, drives_lead, first_of}
-use Rattle.pmd_laws.proofs.Prelude.{halves_of, handed_of, harmless_apart, harmless_lead, inl, inr, is_own, last}
-use Rattle.pmd_laws.proofs.Prelude.{leads_on, leads_to, legal_behind, played_by, receiving_drives, refl, reply_to}
-use Rattle.pmd_laws.proofs.Prelude.{same_from_push, sending_drives, sent_since, steps_harmless, subst, sym}
-use Rattle.pmd_laws.specs.{Looks.EndsAt, Looks.NoneIsAllAtFirst, Looks.NoneIsAllBefore, Told.now}
-use Rattle.std.proofs.{Common.arith, lemmas.Grind.common_steps}
+use Rattle.pmd_laws.proofs.Order.{Ran, all_apart, begun, counted, driven, first, fresh_own, in_parts}
+use Rattle.pmd_laws.proofs.Order.{last as last_there, life_before, life_of, none, ran, whole}
+use Rattle.pmd_laws.proofs.Prelude.{[], ◌++◌, ◌+◌, ◌<◌, ◌∙◌, ◌∷◌, ◌≡◌, ◌≢◌, ◌≤◌, Adds, AddsHarmless, AllFollow, AllOwn}
+use Rattle.pmd_laws.proofs.Prelude.{AtPort, Block, Blocks, Call, Doer, Drives, Drove, Entry, Event, FindsNone}
+use Rattle.pmd_laws.proofs.Prelude.{FindsWaiting, Follows, Halves, IsLegal, IsTold, Leads, LeadsApart, Life, List}
+use Rattle.pmd_laws.proofs.Prelude.{Lives, LooksLast, Moment, Numbers, OwnsSame, Packet, Parts, Receive, Receives}
+use Rattle.pmd_laws.proofs.Prelude.{Reply, Rings, Running, Sender, Sends, State, Told, Up, WhereUp, ℕ, after_call, ap}
+use Rattle.pmd_laws.proofs.Prelude.{append-nil, append_assoc, append_cancel_left, arith, bytes_of, call_in, call_of}
+use Rattle.pmd_laws.proofs.Prelude.{calls_joined, calls_of, common_steps, delivered, drives_lead, first_of, halves_of}
+use Rattle.pmd_laws.proofs.Prelude.{harmless_apart, inl, inr, is_own, last, leads_on, leads_to, legal_behind, length}
+use Rattle.pmd_laws.proofs.Prelude.{parts_for, played_by, receiving_drives, refl, reply_to, same_from_push}
+use Rattle.pmd_laws.proofs.Prelude.{sending_drives, sent_since, sized, subst, sym}
+use Rattle.pmd_laws.specs.{FullRing.AcceptsNone, FullRing.TellsFull, FullRing.outstanding, Looks.EndsAt, Told.now}
 use Rattle.pmd_laws.specs.Told as told
 
 -- a later place of a life's history, to which its calls led its halves
@@ -32,10 +32,7 @@ module _ (x : Life) (late rest : List Entry) (split : late ++ rest ≡ x.h) {the
     where
       abbrev sooner : Life
       sooner =
-          life_before x early (more ++ rest)
-          (sym (append_assoc early more rest) ∙ ap (λ (es : List Entry). es ++ rest) all ∙ split)
-          (calls_of w.pass early)
-          k
+          life_before later early more all (calls_of w.pass early) k
           (leads_on x.started x.made (calls_of w.pass early) (halves_of x.r) k k x.is.since
           (harmless_lead x.made (calls_of w.pass early) k is))
 
@@ -103,10 +100,8 @@ module _ (x : Life) (old : List Call) {mid new now : List Call} (e : Event Block
 
   ends : (calls_of x.w.pass at.before ≡ till) × (call_in at.entry ≡ call_of e reply)
   ends =
-      let last : List Call = call_of e reply ∷ [] in
       same_from_push (calls_of x.w.pass at.before) till (call_in at.entry) (call_of e reply)
-      (at.made ∙ behind (added old e reply drives adds) (added_is old e reply drives adds)
-      ∙ sym (append_assoc x.made drives.1 (adds.0 ++ last)) ∙ sym (append_assoc (x.made ++ drives.1) adds.0 last))
+      (at.made ∙ behind (added old e reply drives adds) (added_is old e reply drives adds) ∙ simp (append_assoc))
 
   -- the life goes on up to it
   goes_up : Leads x.started (halves_of x.r) (calls_of x.w.pass at.before) then
@@ -121,10 +116,9 @@ module _ (x : Life) (old : List Call) {mid new now : List Call} (e : Event Block
   -- and the device answers it
   answered : reply_to (leads_to x.origin at.before) e ≡ reply
   answered =
-      let here = leads_to x.origin at.before in
       let legal = legal_behind x.origin at.before (at.entry ∷ at.behind)
       (subst (IsLegal x.origin) (sym at.all) x.is.along.legal) in
-      ap (λ (d : Call). reply_to here d.event) (sym ends.1) ∙ sym legal.0 ∙ ap (λ (d : Call). d.reply) ends.1
+      grind (arith, common_steps, ends, legal)
 
 -- a look in vain, and one that finds a packet waiting
 
@@ -177,15 +171,6 @@ module _ (x : Life) {old new now : List Call} (at : EndsAt x.w.pass x.h now)
         told = answered x old _ _ drives y.looks at behind;
       }) (ap bytes_of y.accepted ∙ sent)
 
-pub none_before_look : NoneIsAllBefore
-none_before_look x new v y = none_before x y.look (λ since is. is) y.looks
-
-pub none_at_first : NoneIsAllAtFirst
-none_at_first x new v y = none_first x y.look (λ since is. is) y.looks
-
-pub waiting_before_look : WaitingIsNotAllBefore
-waiting_before_look x new v y = waiting_first x y.look (λ since is. is) y.looks
-
 -- a driver runs, and by the numbers of an arena, which it keeps, its halves were led there behind some calls
 pub record RunsOn (a : Numbers) (old : List Call) (h : Halves) (n : Moment) : Type 0 where
   pub rings : Running
@@ -223,6 +208,22 @@ module _ {a : Numbers} {old : List Call} {h : Halves} where
   all_follow m [] x all = x
   all_follow m (n ∷ later) x all = all_follow n later (follows m n x all.0) all.1
 
+-- a ring of so many slots, one of which is vacant
+abbrev HasRoom : ℕ → Sender → Type 0
+HasRoom size v = (v.layout.size ≡ size) × (length v.outstanding < size)
+
+-- so it is behind calls of the halves
+
+played_room : (size : ℕ) (h : Halves) (doers : List Doer) (calls : List Call) → AllOwn h doers calls
+    → HasRoom size h.transmit → HasRoom size (played_by h doers calls).transmit
+played_room size h [] calls own x = x
+played_room size h (d ∷ doers) [] own x = absurd own
+played_room size h (Receives ∷ doers) (n ∷ calls) own x =
+    played_room size (after_call h Receives n) doers calls own.1 x
+played_room size h (Sends m ∷ doers) (n ∷ calls) own x =
+    played_room size (after_call h (Sends m) n) doers calls own.1
+    (grind (arith, common_steps, length-segments))
+
 module _ {q : AtPort} {size frame : ℕ} {old : List Call} {a : Numbers} {m : Moment} {later : List Moment}
     (x : IsTold q size frame old a m later) where
   abbrev fresh : Running
@@ -251,55 +252,40 @@ module _ {q : AtPort} {size frame : ℕ} {old : List Call} {a : Numbers} {m : Mo
       apart_leads_on (is_own a) on m.made (last m later).made begins (halves_of fresh) (halves_of runs.rings)
       (driven_apart (is_own a) on m.made begins (halves_of fresh) (all_apart lives)) runs.apart
 
+  -- its transmit ring has one slot vacant
+  pub room : HasRoom size runs.rings.transmit
+  room =
+      let (doers, since, made, own, is, steps) = runs.apart.leads in
+      subst (λ (z : Halves). HasRoom size z.transmit) (sym is)
+      (played_room size (halves_of x.started.0) doers since own
+      (subst (HasRoom size) (sym x.started.2.transmit.fresh) (refl, (sized size x.started.2.sized).0)))
+
 -- so it is a life
 module _ (x : Told) where
   abbrev pub goes : RunsOn x.a x.m.made (halves_of x.told.started.0) (now x)
   goes = runs x.told
 
   abbrev pub life : Life
-  life = record {
-    course = x.course;
-    started = x.m.made;
-    r = x.told.started.0;
-    made = (now x).made;
-    k = halves_of goes.rings;
-    is = record { along = x.along; up = x.told.started.2; begins = x.begins; since = goes.apart.leads };
-  }
+  life =
+      life_of x.course x.m.made x.told.started.0 (now x).made (halves_of goes.rings)
+      (record { along = x.along; up = x.told.started.2; begins = x.begins; since = goes.apart.leads })
 
   -- with its blocks apart
   abbrev pub told_ran : Ran x.course
-  told_ran = record {
-    there = begun life;
-    new = (now x).made;
-    k = halves_of goes.rings;
-    goes = (led x.told).leads;
-  }
+  told_ran = record { there = begun life; new = (now x).made; k = halves_of goes.rings; goes = (led x.told).leads }
 
-pub handed_as_told : told.HandedIsPrefix
-handed_as_told x lived = rw (goes x).up (handed (ran (life x)) lived)
+-- Where a driver tells that its ring is full, or accepts none of several packets and answers no fault, its ring has no
+-- room for the first.
 
-pub sent_as_told : told.SentIsPrefix
-sent_as_told x lived = rw (goes x).up (sent_first (ran (life x)) lived)
+-- a driver that runs with one slot vacant
+module _ (size : ℕ) (m n : Moment) (r : Running) (p : Packet) (is : m.driver.rings ≡ Up r)
+    (some : HasRoom size r.transmit) where
+  -- tells that its ring is full
+  pub full_lacks : TellsFull m n p
+      → (outstanding m.driver.rings < size) × (size ≤ outstanding m.driver.rings + parts_for p.len)
+  full_lacks tells = grind (arith, common_steps)
 
-pub idle_as_told : told.IdleIsAllSent
-idle_as_told x lived none =
-    ap (λ (z : Rings). bytes_of (accepted_of z)) (goes x).up
-    ∙ idle (ran (life x)) lived (subst HasNoneOut (goes x).up none)
-
--- a call behind it that looks in vain, and one that ends with a packet outstanding
-
-pub none_as_told : told.NoneIsAllBefore
-none_as_told x n y =
-    let (s, up, looks) = up_next _ (now x).driver.rings n.driver.rings (goes x).rings (goes x).up y.looks in
-    ap handed_of (goes x).up ∙ none_before (life x) y.look (λ since is. is) looks
-
-pub none_at_first_as_told : told.NoneIsAllAtFirst
-none_at_first_as_told x n y before more all is =
-    let (s, up, looks) = up_next _ (now x).driver.rings n.driver.rings (goes x).rings (goes x).up y.looks in
-    ap handed_of (goes x).up ∙ none_first (life x) y.look (λ since is. is) looks before more all is
-
-pub waiting_as_told : WaitingIsNotAllAsTold
-waiting_as_told x n y before more all is same =
-    let (s, up, looks) = up_next _ (now x).driver.rings n.driver.rings (goes x).rings (goes x).up y.waits in
-    waiting_first (life x) y.look (λ since is. is) looks before more all is
-    (ap (λ (z : Rings). bytes_of (accepted_of z)) (sym (goes x).up) ∙ same)
+  -- or accepts none
+  pub none_lacks : Drove m n → AcceptsNone m n p
+      → (outstanding n.driver.rings < size) × (size ≤ outstanding n.driver.rings + parts_for p.len)
+  none_lacks drove none = grind (arith, common_steps)

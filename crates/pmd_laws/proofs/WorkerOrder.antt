@@ -1,18 +1,18 @@
 -- What a worker's end tells is in order, over the history that its pass closes.
-use Rattle.workers.specs.{DeviceLock.Closing.StandsIn, Ends.AreEnds, Ends.IsEnd, Lived.HasRun, Starts.Starts}
-use Rattle.workers.specs.{declared.ends.WorkerEnd.WorkerEnd, declared.fault.WorkerFault.TheVariants.NoThread}
-use Rattle.workers.specs.{declared.fault.WorkerFault.WorkerFault, declared.job.Job.Job}
-use Rattle.pmd_laws.proofs.{DriverLaws.HistoryLaws.Alone.new_is_left_alone, Lived.handed_since, Lived.sent_on}
-use Rattle.pmd_laws.proofs.{Lived.starts, Order.along_before, Refused.left_of_refused_is_prefix, Settings.ground_there}
-use Rattle.pmd_laws.proofs.{Settings.named_below, WorkerTold.calls_from, WorkerTold.starts_more}
-use Rattle.pmd_laws.proofs.Prelude.{[], ◌++◌, ◌∙◌, ◌∷◌, ◌≡◌, ◌≢◌, ◌⊎◌, Call, Entry, HasGround, IsAlong, IsHome, IsQuiet}
-use Rattle.pmd_laws.proofs.Prelude.{IsSound, List, None, Numbers, Option, Rest, Some, State, Watched, ℕ, ap, append-nil}
-use Rattle.pmd_laws.proofs.Prelude.{append_assoc, around, bytes_of, call_in, calls_joined, calls_of, calls_own}
-use Rattle.pmd_laws.proofs.Prelude.{delivered, inl, inr, leads_to, left, left_accepted, left_handed, new_sound}
-use Rattle.pmd_laws.proofs.Prelude.{new_state, none_behind, refl, same_from_push, sent_since, subst, sym}
-use Rattle.pmd_laws.specs.{Points.JustBefore}
+use Rattle.pmd_laws.{proofs.Lived.handed_since, proofs.Lived.sent_on, proofs.Lived.starts, proofs.Order.along_before}
+use Rattle.pmd_laws.{proofs.Prelude.subst, proofs.Prelude.sym, proofs.Refused.left_of_refused_is_prefix}
+use Rattle.pmd_laws.{proofs.Settings.ground_there, proofs.Settings.named_below, proofs.WorkerTold.calls_from}
+use Rattle.pmd_laws.{proofs.WorkerTold.starts_more, specs.Points.JustBefore}
+use Rattle.pmd_laws.proofs.DriverLaws.HistoryLaws.Alone.{new_is_left_alone}
+use Rattle.pmd_laws.proofs.Prelude.{[], ⊎_elim, ◌++◌, ◌∙◌, ◌∷◌, ◌≡◌, ◌≢◌, ◌⊎◌, Call, Entry, HasGround, IsAlong, IsHome}
+use Rattle.pmd_laws.proofs.Prelude.{IsQuiet, IsSound, List, None, Numbers, Option, Rest, Some, State, Watched, ℕ, ap}
+use Rattle.pmd_laws.proofs.Prelude.{append-nil, append_assoc, arith, around, bytes_of, call_in, calls_joined, calls_of}
+use Rattle.pmd_laws.proofs.Prelude.{calls_own, common_steps, delivered, inl, inr, leads_to, left, left_accepted}
+use Rattle.pmd_laws.proofs.Prelude.{left_handed, new_sound, new_state, none_behind, refl, same_from_push, sent_since}
 use Rattle.pmd_laws.specs.WorkerOrder.{CallsStand, EndOwn, IsEndAmong, IsEndIn, UpTo, given_of, queue_of}
-use Rattle.std.proofs.{Common.arith, lemmas.Grind.common_steps}
+use Rattle.workers.specs.{DeviceLock.Closing.StandsIn, Ends.AreEnds, Ends.IsEnd, Lived.HasRun, Starts.Starts}
+use Rattle.workers.specs.declared.{ends.WorkerEnd.WorkerEnd, fault.WorkerFault.WorkerFault, job.Job.Job}
+use Rattle.workers.specs.declared.fault.WorkerFault.TheVariants.{NoThread}
 use Rattle.pmd.specs.declared.start.Rest.TheVariants as rest
 use Rattle.pmd_laws.specs.DriverLaws.RingLaws.Delivered as receive
 use Rattle.pmd_laws.specs.DriverLaws.RingLaws.Laws as transmit
@@ -27,33 +27,27 @@ isnt_none (y ∷ xs) x more is = cc
 last_or_none : (cs : List Call) → (cs ≡ []) ⊎ ((before : List Call) × (c : Call) × (cs ≡ before ++ c ∷ []))
 last_or_none [] = inl refl
 last_or_none (d ∷ cs) =
-    elim (last_or_none cs)
-    as (λ _. (d ∷ cs ≡ []) ⊎ ((before : List Call) × (c : Call) × (d ∷ cs ≡ before ++ c ∷ []))) [
-      | inl none ↦ inr ([], d, λ i. d ∷ none i)
-      | inr (before, c, is) ↦ inr (d ∷ before, c, λ i. d ∷ is i)
-    ]
+    ⊎_elim (λ none. inr ([], d, λ i. d ∷ none i)) (λ x. inr (d ∷ x.0, x.1, λ i. d ∷ x.2 i)) (last_or_none cs)
 
 up_to : (tag : ℕ) (h : List Entry) (calls more : List Call) → calls_of tag h ≡ calls ++ more
     → (u : UpTo tag h calls) × EndOwn tag u.done
-up_to tag h calls more is = elim (last_or_none calls) as (λ _. (u : UpTo tag h calls) × EndOwn tag u.done) [
-  | inl none ↦ (
-    record { done = []; rest = h; all = refl; made = sym none },
-    λ before e both. absurd (isnt_none before e [] both),
-  )
-  | inr (front, c, ends) ↦
-      let x =
-      around tag h front c more
-      (is ∙ ap (λ (l : List Call). l ++ more) ends ∙ append_assoc front (c ∷ []) more) in (
-        record {
-          done = x.before ++ x.entry ∷ [];
-          rest = x.behind;
-          all = append_assoc x.before (x.entry ∷ []) x.behind ∙ x.all;
-          made = grind (arith, common_steps, calls_joined, calls_own);
-        },
-        λ before e both.
-            ap (λ (f : Entry). f.pass) (same_from_push before x.before e x.entry both).1 ∙ x.own,
-      )
-]
+up_to tag h calls more is =
+    ⊎_elim
+    (λ none.
+    (record { done = []; rest = h; all = refl; made = sym none }, λ before e both. absurd (isnt_none before e [] both)))
+    (λ (l : (before : List Call) × (c : Call) × (calls ≡ before ++ c ∷ [])).
+    let (front, c, ends) = l in
+    let x = around tag h front c more
+    (is ∙ ap (λ (l : List Call). l ++ more) ends ∙ append_assoc front (c ∷ []) more) in (
+      record {
+        done = x.before ++ x.entry ∷ [];
+        rest = x.behind;
+        all = append_assoc x.before (x.entry ∷ []) x.behind ∙ x.all;
+        made = grind (arith, common_steps, calls_joined, calls_own);
+      },
+      λ before e both. ap (λ (f : Entry). f.pass) (same_from_push before x.before e x.entry both).1 ∙ x.own,
+    ))
+    (last_or_none calls)
 
 pub calls_stand : CallsStand
 calls_stand bench count h ps pass closes x =
@@ -64,10 +58,9 @@ calls_stand bench count h ps pass closes x =
 -- the end of a job among some
 end_of : (jobs : List Job) (ran : List WorkerEnd) (j : Job) (e : WorkerEnd) → AreEnds jobs ran
     → IsEndAmong jobs ran j e → IsEnd j e
-end_of [] ran j e are among = absurd among
-end_of (k ∷ jobs) [] j e are among = absurd among
 end_of (k ∷ jobs) (f ∷ ran) j e are (inl (one, two)) = grind (arith, common_steps)
 end_of (k ∷ jobs) (f ∷ ran) j e are (inr more) = end_of jobs ran j e are.1 more
+end_of jobs ran j e are among = absurd among
 
 -- a worker had a thread, or not
 threads : (fault : Option WorkerFault) → (fault ≡ Some NoThread) ⊎ (fault ≢ Some NoThread)
@@ -102,16 +95,11 @@ module _ (vfs fifo : ℕ) (h : List Entry) (j : Job) (e : WorkerEnd) (x : IsEndI
   ground : JustBefore vfs fifo e.pass.tag old h (HasGround j.pf_queue (queue_of j) j.frame)
   ground = ground_there w fifo old (given_of j) h new x.events x.begins
 
-  run_starts : HasRunSo → Starts e.pass.tag old u.done ⊎ NothingLeft e.rest
-  run_starts (inl (worked, late, is, lived)) = inl (starts w fifo u.done lived u.made)
-  run_starts (inr (f, is, never)) = inr (never.handed, never.accepted)
-
   pub starts_or_none : Starts e.pass.tag old u.done ⊎ NothingLeft e.rest
   starts_or_none =
-      elim (threads e.fault) as (λ _. Starts e.pass.tag old u.done ⊎ NothingLeft e.rest) [
-        | inl none ↦ inr (home_left j.arena e.rest (ends.idle none).1)
-        | inr some ↦ run_starts (ends.lived some)
-      ]
+      ⊎_elim (λ none. inr (home_left j.arena e.rest (ends.idle none).1)) (λ some.
+      ⊎_elim (λ x. inl (starts w fifo u.done x.3 u.made)) (λ x. inr (x.2.handed, x.2.accepted)) (ends.lived some))
+      (threads e.fault)
 
   module _ (s : Starts e.pass.tag old u.done) where
     abbrev at_first : State
@@ -132,10 +120,7 @@ module _ (vfs fifo : ℕ) (h : List Entry) (j : Job) (e : WorkerEnd) (x : IsEndI
 
     quiet : (e.fault ≡ None) ⊎ IsQuiet j.pf_queue (queue_of j) j.frame at_first
     quiet =
-        elim x.quiet as (λ _. (e.fault ≡ None) ⊎ IsQuiet j.pf_queue (queue_of j) j.frame at_first) [
-          | inl none ↦ inl none
-          | inr at ↦ inr (at (starts_more e.pass.tag old u.done u.rest h u.all s))
-        ]
+        ⊎_elim (λ none. inl none) (λ at. inr (at (starts_more e.pass.tag old u.done u.rest h u.all s))) x.quiet
 
     -- what was handed out and sent is in order, from that entry on
     abbrev InOrder : Type 0
@@ -190,7 +175,5 @@ module _ (vfs fifo : ℕ) (h : List Entry) (j : Job) (e : WorkerEnd) (x : IsEndI
     never_idle none = grind (arith, common_steps, isnt_none, none_behind, old, calls_from, ends)
 
     pub in_order : InOrder
-    in_order = elim (threads e.fault) as (λ _. InOrder) [
-      | inl none ↦ absurd (never_idle none)
-      | inr some ↦ run_in_order (ends.lived some) quiet
-    ]
+    in_order =
+        ⊎_elim (λ none. absurd (never_idle none)) (λ some. run_in_order (ends.lived some) quiet) (threads e.fault)

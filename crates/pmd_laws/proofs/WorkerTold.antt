@@ -1,28 +1,26 @@
 -- The first event of a driver's own, and the calls from it on: what is so just before it is so for the laws of its
 -- driver. What the entries of a history tell is so of the device there: which blocks are lent, and how long frames are.
-use Rattle.workers.specs.{Before.known_through, Starts.Starts}
-use Rattle.workers.specs.Fitting.{let_in_by, longest_behind, longest_let_in}
-use Rattle.workers.specs.Lending.{lends_none, lent_behind, lent_through, no_block, takes}
-use Rattle.pmd_laws.proofs.DriverLaws.HistoryLaws.Lent.{not_so, only_lent_stays, waiting_changed}
+use Rattle.nic_device.{proofs.QueueCases.received_cases, specs.Arrival.sorted_in, specs.Outcome.Outcome}
+use Rattle.nic_device.{specs.RxFilter.declared.target.Target.Target, specs.Step.step_of, specs.Switching.without_part}
+use Rattle.nic_device.specs.RxFilter.declared.unwanted.Unwanted.{Unwanted}
+use Rattle.nic_device.specs.declared.event.Reply.TheVariants.{Buf, Done}
+use Rattle.pmd_laws.{specs.Lending.OthersLendNoneIsAlone, specs.Points.HoldsAtFirst, specs.Points.JustBefore}
+use Rattle.pmd_laws.proofs.DriverLaws.HistoryLaws.Lent.{AllFollow, follows_known, not_so, waiting_changed}
 use Rattle.pmd_laws.proofs.DriverLaws.Made.{AddsCall, made_by}
-use Rattle.pmd_laws.proofs.Prelude.{[], ◌&&◌, ◌++◌, ◌+◌, ◌==◌, ◌||◌, ◌∙◌, ◌∷◌, ◌≡◌, ◌≤◌, All, AreEvents, AtPort}
+use Rattle.pmd_laws.proofs.Prelude.{[], ⊤, ◌&&◌, ◌++◌, ◌+◌, ◌||◌, ◌∙◌, ◌∷◌, ◌≡◌, ◌≤◌, All, AreEvents, AtPort}
 use Rattle.pmd_laws.proofs.Prelude.{BeforeLast, Block, Blocks, Bool, Call, Entry, Err, Event, FitsBlocks, IsEvent}
-use Rattle.pmd_laws.proofs.Prelude.{IsFalse, IsLegal, IsMade, LendsNone, List, NoneLent, Ok, OnlyLent, OnlyPassLends}
-use Rattle.pmd_laws.proofs.Prelude.{Reply, RowId, Rx, Rxdctl, Sees, State, Waiting, Watched, ℕ, ⊤, after, and_from}
-use Rattle.pmd_laws.proofs.Prelude.{and_parts, ap, append_assoc, arith, both_ways, call_in, calls_joined, calls_of}
-use Rattle.pmd_laws.proofs.Prelude.{calls_own, either_way, events_before, false, has_block, has_queue, is_own, is_some}
-use Rattle.pmd_laws.proofs.Prelude.{is_step, leads_to, legal_before, lends, length, lent_cases, max, mode_in}
-use Rattle.pmd_laws.proofs.Prelude.{most_blocks, nat_cmp, nat_lt, new_state, or_right, refl, reply_to, same_from_push}
-use Rattle.pmd_laws.proofs.Prelude.{subst, sym, taken_cases, true}
-use Rattle.pmd_laws.specs.{Lending.OthersLendNoneIsAlone, Points.HoldsAtFirst, Points.JustBefore}
-use Rattle.pmd_laws.specs.DriverLaws.RingLaws.HistoryLaws.Lent.{with_lent, without}
+use Rattle.pmd_laws.proofs.Prelude.{IsFalse, IsLegal, IsMade, List, NoneLent, Ok, OnlyLent, OnlyPassLends, Reply, RowId}
+use Rattle.pmd_laws.proofs.Prelude.{Rx, Rxdctl, Sees, State, Waiting, Watched, ℕ, after, ap, append_assoc, arith}
+use Rattle.pmd_laws.proofs.Prelude.{both_ways, call_in, calls_joined, calls_of, calls_own, common_steps, either_way}
+use Rattle.pmd_laws.proofs.Prelude.{events_before, false, has_block, has_queue, is_own, is_some, is_step, leads_to}
+use Rattle.pmd_laws.proofs.Prelude.{legal_before, lends, length, max, mode_in, most_blocks, nat_cmp, nat_lt, new_state}
+use Rattle.pmd_laws.proofs.Prelude.{refl, reply_to, same_from_push, subst, sym, true}
 use Rattle.pmd_laws.specs.Fitting.{AllFitBlocks, FramesFitIsShort}
-use Rattle.nic_device.proofs.{QueueCases.received_cases}
-use Rattle.nic_device.specs.{Arrival.sorted_in, Outcome.Outcome, RxFilter.declared.target.Target.Target}
-use Rattle.nic_device.specs.{RxFilter.declared.unwanted.Unwanted.Unwanted, Sound.IsLendable, Step.step_of}
-use Rattle.nic_device.specs.{Switching.without_part, declared.event.Reply.TheVariants.Buf}
-use Rattle.std.{proofs.lemmas.Grind.common_steps, specs.Prelude.Result, specs.Prelude.not}
+use Rattle.std.{proofs.lemmas.Bool.or_left, specs.Prelude.Result, specs.Prelude.not}
+use Rattle.std.proofs.lemmas.Bool.Decides.{nat_tests}
 use Rattle.std.proofs.lemmas.List.Elements.{All-cons, All-filter, All-head, All-nil, All-push, All-tail, All-weaker}
+use Rattle.workers.specs.{Before.known_through, Fitting.let_in_by, Fitting.longest_behind, Fitting.longest_let_in}
+use Rattle.workers.specs.{Lending.lent_behind, Lending.lent_through, Lending.no_block, Lending.takes, Starts.Starts}
 use Rattle.nic_device.specs.declared.event.Event.TheVariants as event
 use Rattle.std.specs.FinMap as map
 use Rattle.workers.specs.Lending as told
@@ -104,39 +102,24 @@ module _ {K : Type 0} (P : K → State → Type 0) (next : K → Entry → K) (I
 
 -- which of some blocks are lent
 
-module _ (own known : Blocks) (s : State) (only : OnlyLent own known s.memory) where
-  -- what is told behind an event and its reply
-  abbrev LentBehind : Event Block → Reply Block → Blocks
-  LentBehind e r n = (nat_lt n 65536 && lends e r n) || (known n && not (takes e r n))
+-- what is told behind an event and its reply
+abbrev LentBehind : Blocks → Event Block → Reply Block → Blocks
+LentBehind known e r n = (nat_lt n 65536 && lends e r n) || (known n && not (takes e r n))
 
-  lend_behind : (b : Block) → IsLendable b
-      → OnlyLent own (LentBehind (event.Lend b) (reply_to s (event.Lend b))) (after s (event.Lend b)).memory
-  unfolding step_of
-  lend_behind b made =
-      lent_cases (λ o. OnlyLent own (with_lent known b.number) o.state.memory
-      → OnlyLent own (LentBehind (event.Lend b) o.reply) o.state.memory) s b
-      (λ given n is has. or_right (nat_lt n 65536 && false) _ (and_from (known n) true (only n is has) refl))
-      (grind (arith, common_steps)) (only_lent_stays.lend own known s b only)
+told_follows : (known : Blocks) (e : Event Block) → IsEvent e → AllFollow known (LentBehind known e) e
+told_follows known (event.Lend b) made Done n = grind (arith, common_steps, nat_tests)
+told_follows known (event.Take number) made (Buf b) n = grind (arith, common_steps, nat_tests)
+told_follows known e made r n = grind (arith, common_steps)
 
-  take_behind : (number : ℕ)
-      → OnlyLent own (LentBehind (event.Take number) (reply_to s (event.Take number)))
-      (after s (event.Take number)).memory
-  unfolding step_of
-  take_behind number =
-      taken_cases (λ o. ((block : Block) → o.reply ≡ Buf block → OnlyLent own (without known number) o.state.memory)
-      → OnlyLent own (LentBehind (event.Take number) o.reply) o.state.memory) s number
-      (λ given n is has. or_right (nat_lt n 65536 && false) _ (and_from (known n) true (only n is has) refl))
-      (λ block given n is has.
-      let parts = and_parts (not (n == number)) (known n) (given block refl n is has) in
-      or_right (nat_lt n 65536 && false) _ (and_from (known n) (not (n == number)) parts.1 parts.0))
-      (λ block is. only_lent_stays.take own known s number block only is)
-
-  lent_here : (e : Event Block) → IsEvent e → OnlyLent own (LentBehind e (reply_to s e)) (after s e).memory
-  lent_here (event.Lend b) made n is has = lend_behind b made n is has
-  lent_here (event.Take number) made n is has = take_behind number n is has
-  lent_here e made n is has =
-      or_right (nat_lt n 65536 && false) (known n && true)
-      (and_from (known n) true (only_lent_stays.others own known s e tt only n is has) refl)
+lent_here : (own known : Blocks) (s : State) → OnlyLent own known s.memory → (e : Event Block) → IsEvent e
+    → OnlyLent own (LentBehind known e (reply_to s e)) (after s e).memory
+lent_here own known s only e made n is has =
+    or_none _
+    (follows_known own no_block s known (λ k mine there. or_left (known k) false (only k mine there)) e
+    (LentBehind known e) (told_follows known e made) n is has)
+  where
+    or_none : (b : Bool) → (b || false) ≡ true → b ≡ true
+    or_none b is = grind (arith, common_steps)
 
 new_has_none : (own : Blocks) (vfs fifo : ℕ) → OnlyLent own no_block (new_state vfs fifo).memory
 new_has_none own vfs fifo n is has =
@@ -166,10 +149,8 @@ module _ (longest : ℕ) (s : State) (h : All (IsUpTo longest) s.waiting) where
   arrived : (frame : List ℕ) → Behind (event.Arrive frame) (step_of s (event.Arrive frame))
   unfolding step_of
   arrived frame =
-      let Is = Behind (event.Arrive frame) in
-      let none = more 0 s.waiting h in
-      either_way Is s.link _ _
-      (grind (arith, common_steps, either_way, sorted_behind)) none
+      either_way (Behind (event.Arrive frame)) s.link _ _ (grind (arith, common_steps, either_way, sorted_behind))
+      (more 0 s.waiting h)
 
   -- no other event does
 
@@ -211,12 +192,9 @@ module _ (longest : ℕ) (s : State) (h : All (IsUpTo longest) s.waiting) where
 
 -- where the entries say that others lend none of a driver's blocks, they do so for those laws
 
-none_lent : (own : Blocks) (e : Event Block) → lends_none own e ≡ true → LendsNone own e
-none_lent own e none = grind (arith, common_steps)
-
 only_lends : (pass : ℕ) (own : Blocks) (h : List Entry) → told.OnlyPassLends pass own h → OnlyPassLends pass own h
 only_lends pass own [] none = tt
-only_lends pass own (e ∷ es) none = (λ other. none_lent own e.event (none.0 other), only_lends pass own es none.1)
+only_lends pass own (e ∷ es) none = (λ other. grind (arith, common_steps), only_lends pass own es none.1)
 
 pub others_lend_none_is_alone : OthersLendNoneIsAlone
 others_lend_none_is_alone w fifo old a h legal events others = (

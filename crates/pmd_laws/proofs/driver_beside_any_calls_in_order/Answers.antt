@@ -1,9 +1,7 @@
-use Rattle.pmd_laws.proofs.Beside.{called_behind, is_life, own_anew, own_life, rings_up, told}
-use Rattle.pmd_laws.proofs.InHand.{direct_retold, interleaved_retold}
-use Rattle.pmd_laws.proofs.Order.{handed, idle, ran, sent_first}
-use Rattle.pmd_laws.proofs.Prelude.{HasNoneOut, now, same_delivers, same_sends, subst}
+use Rattle.pmd_laws.proofs.{Beside.rings_up, Beside.told, Order.handed, Order.idle, Order.ran, Order.sent_first}
+use Rattle.pmd_laws.proofs.Beside.{called_behind, direct_retold, interleaved_retold, is_life, own_anew, own_life}
+use Rattle.pmd_laws.proofs.Prelude.{HasNoneOut, arith, common_steps, now, same_delivers, same_sends, subst}
 use Rattle.pmd_laws.proofs.Told.{goes, none_before, none_first, up_next, waiting_first}
-use Rattle.std.proofs.{Common.arith, lemmas.Grind.common_steps}
 use Rattle.pmd_laws.proofs.driver_beside_any_calls_in_order.Goals as goal
 
 pub returns : goal.returns

@@ -1,6 +1,6 @@
-use Rattle.pmd_laws.proofs.{NoFault.burst_amid, NoFault.call_amid, Told.goes, Told.up_next}
+use Rattle.pmd_laws.{proofs.Faultless.burst_amid, proofs.Faultless.call_amid, proofs.Told.goes, proofs.Told.up_next}
 use Rattle.pmd_laws.proofs.Beside.{alone, none_beside, rings_up, same_rings, told, told_of}
-use Rattle.pmd_laws.proofs.Places.{each_in_one_place, lent_is_out, out_is_lent}
+use Rattle.pmd_laws.proofs.Lent.{each_in_one_place, lent_is_out, out_is_lent}
 use Rattle.pmd_laws.proofs.Prelude.{◌≡◌, Beside, State, ap, memory_after, now, same_leads}
 use Rattle.pmd_laws.proofs.driver_beside_any_calls_keeps_its_blocks.Goals as goal
 

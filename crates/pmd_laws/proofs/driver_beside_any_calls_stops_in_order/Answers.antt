@@ -1,22 +1,17 @@
-use Rattle.pmd_laws.{proofs.Shifted.shifted, specs.BesideStop.IsStoppedBeside}
-use Rattle.pmd_laws.proofs.Beside.{own_life, rings_up}
+use Rattle.pmd_laws.{proofs.Beside.own_life, proofs.Beside.rings_up, proofs.Shifted.shifted}
+use Rattle.pmd_laws.{specs.BesideStop.IsStoppedBeside}
 use Rattle.pmd_laws.proofs.Prelude.{◌++◌, ◌∙◌, ◌≡◌, Beside, Call, IsEnding, IsStopping, List, ap, append_cancel_left}
-use Rattle.pmd_laws.proofs.Prelude.{now, refl, same_delivers, same_sends, sym}
-use Rattle.pmd_laws.proofs.StopCalls.{first_made, first_takes, of_kind, once_off_shift, takes_shift}
+use Rattle.pmd_laws.proofs.Prelude.{arith, common_steps, now, refl, same_delivers, same_sends, sym}
+use Rattle.pmd_laws.proofs.StopCalls.{first_takes, made_first, once_off_shift, takes_shift}
 use Rattle.pmd_laws.proofs.Stopped.{handed_over_stop, sent_over_stop, silent_off}
-use Rattle.std.proofs.{Common.arith, lemmas.Grind.common_steps}
 use Rattle.pmd_laws.proofs.driver_beside_any_calls_stops_in_order.Goals as goal
 
 -- the calls of its stop are told of what they add
 stopping : (x : Beside) (new : List Call) (y : IsStoppedBeside x new) → IsStopping (own_life x) (x.own ++ y.since)
-stopping x new y =
-    let made = (now x).made in record {
-      ends =
-          shifted
-          (of_kind (IsEnding x.q) made (made ++ y.since)
-          (first_made (IsEnding x.q) made (made ++ y.since) new y.since y.rest y.ends refl y.made)) y.since x.own refl;
-      calls = y.calls;
-    }
+stopping x new y = record {
+  ends = (y.since, refl, made_first (IsEnding x.q) (now x).made new y.since y.rest y.ends y.made);
+  calls = y.calls;
+}
 
 pub returns : goal.returns
 returns c = record {

@@ -1,11 +1,19 @@
-use Rattle.pmd_laws.proofs.Told.{handed_as_told, idle_as_told, none_as_told, none_at_first_as_told, sent_as_told}
+use Rattle.pmd_laws.{proofs.Order.handed, proofs.Order.idle, proofs.Order.ran, proofs.Order.sent_first, specs.Told.now}
+use Rattle.pmd_laws.proofs.Prelude.{◌∙◌, HasNoneOut, Rings, accepted_of, ap, bytes_of, handed_of, subst}
+use Rattle.pmd_laws.proofs.Told.{goes, life, none_before, none_first, up_next}
 use Rattle.pmd_laws.proofs.driver_in_order.Goals as goal
 
 pub returns : goal.returns
 returns c = record {
-  handed = handed_as_told;
-  none = none_as_told;
-  first = none_at_first_as_told;
-  sent = sent_as_told;
-  idle = idle_as_told;
+  handed = λ x lived. rw (goes x).up (handed (ran (life x)) lived);
+  none = λ x n y.
+      let (s, up, looks) = up_next _ (now x).driver.rings n.driver.rings (goes x).rings (goes x).up y.looks in
+      ap handed_of (goes x).up ∙ none_before (life x) y.look (λ since is. is) looks;
+  first = λ x n y before more all is.
+      let (s, up, looks) = up_next _ (now x).driver.rings n.driver.rings (goes x).rings (goes x).up y.looks in
+      ap handed_of (goes x).up ∙ none_first (life x) y.look (λ since is. is) looks before more all is;
+  sent = λ x lived. rw (goes x).up (sent_first (ran (life x)) lived);
+  idle = λ x lived none.
+      ap (λ (z : Rings). bytes_of (accepted_of z)) (goes x).up
+      ∙ idle (ran (life x)) lived (subst HasNoneOut (goes x).up none);
 }

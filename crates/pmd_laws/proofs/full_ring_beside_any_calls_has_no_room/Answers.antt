@@ -1,4 +1,4 @@
-use Rattle.pmd_laws.proofs.{Beside.own_anew, FullRing.full_lacks, FullRing.none_lacks, FullRing.room, Told.runs}
+use Rattle.pmd_laws.proofs.{Beside.own_anew, Told.full_lacks, Told.none_lacks, Told.room, Told.runs}
 use Rattle.pmd_laws.proofs.Prelude.{◌∙◌, ◌≡◌, AtPort, Call, IsToldBy, List, Moment, Numbers, Up, ℕ, ap, last, sym}
 use Rattle.pmd_laws.proofs.full_ring_beside_any_calls_has_no_room.Goals as goal
 

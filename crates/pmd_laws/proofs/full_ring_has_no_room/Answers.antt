@@ -1,4 +1,4 @@
-use Rattle.pmd_laws.proofs.{FullRing.full_lacks, FullRing.none_lacks, FullRing.room, Prelude.last, Told.runs}
+use Rattle.pmd_laws.proofs.{Prelude.last, Told.full_lacks, Told.none_lacks, Told.room, Told.runs}
 use Rattle.pmd_laws.proofs.full_ring_has_no_room.Goals as goal
 
 pub returns : goal.returns

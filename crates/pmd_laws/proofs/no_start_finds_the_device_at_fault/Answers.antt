@@ -1,4 +1,4 @@
-use Rattle.pmd_laws.proofs.{Prelude.faults_are_early_or_filling, Prelude.inr, StartFaultless.never_at_fault}
+use Rattle.pmd_laws.{proofs.Faultless.never_at_fault, proofs.Prelude.faults_are_early_or_filling, proofs.Prelude.inr}
 use Rattle.pmd_laws.proofs.no_start_finds_the_device_at_fault.Goals as goal
 
 pub returns : goal.returns

@@ -1,5 +1,12 @@
-use Rattle.pmd_laws.proofs.Told.{waiting_as_told, waiting_before_look}
+use Rattle.pmd_laws.{proofs.Told.goes, proofs.Told.life, proofs.Told.up_next, proofs.Told.waiting_first, specs.Told.now}
+use Rattle.pmd_laws.proofs.Prelude.{◌∙◌, Rings, accepted_of, ap, bytes_of, sym}
 use Rattle.pmd_laws.proofs.waiting_look_leaves_some_unsent.Goals as goal
 
 pub returns : goal.returns
-returns c = record { before = waiting_before_look; told = waiting_as_told }
+returns c = record {
+  before = λ x new v y. waiting_first x y.look (λ since is. is) y.looks;
+  told = λ x n y before more all is same.
+      let (s, up, looks) = up_next _ (now x).driver.rings n.driver.rings (goes x).rings (goes x).up y.waits in
+      waiting_first (life x) y.look (λ since is. is) looks before more all is
+      (ap (λ (z : Rings). bytes_of (accepted_of z)) (sym (goes x).up) ∙ same);
+}

@@ -3,10 +3,10 @@
 -- calls of a stop.
 use Rattle.std.proofs.{lemmas.Grind.common_steps, lemmas.List.append-nil, lemmas.List.append_cancel_left}
 use Rattle.std.proofs.Common.{[], ◌&&◌, ◌++◌, ◌∙◌, ◌∷◌, ◌≡◌, ◌≢◌, Bool, List, None, Option, Some, ℕ, ap, arith, false}
-use Rattle.std.proofs.Common.{inl, inr, not, option_map, refl, rules, subst, sym, true, zero}
+use Rattle.std.proofs.Common.{inl, inr, not, option_map, refl, rules, subst, sym, true}
 use Rattle.std.specs.Prelude.{IsFalse}
 use Rattle.ring_laws.proofs.HistoryLaws.Steady.{IsSteady, deed_settles, off_idle, off_steady, seen_off, unwanted_steady}
-use Rattle.ring_laws.specs.{Delivered.delivered, Delivered.packets_if_any, HistoryLaws.Sides.IsUnwanted}
+use Rattle.ring_laws.specs.{Delivered.packets_if_any, HistoryLaws.Sides.IsUnwanted}
 use Rattle.driver_laws.proofs.{Parts.calls_joined, Points.idle_left, Words.each_side, Words.side_driven}
 use Rattle.driver_laws.proofs.Ground.{ground_kept, ground_names, plain_keeps}
 use Rattle.driver_laws.proofs.Made.{all_missed, all_polled, first_seen, made_some, state_access}

@@ -1,18 +1,16 @@
 -- Histories in two parts: soundness along them, what a pass lends and begins in each, and how they leave a queue alone.
-use Rattle.std.proofs.Common.{[], ◌++◌, ◌/◌, ◌∙◌, ◌∷◌, ◌≡◌, List, Some, ap, append_assoc, arith, false, refl, subst}
-use Rattle.history_laws.specs.Prelude.{AreEvents, Block, Blocks, Entry, EntryLeavesAlone, Event, IsSound, LeavesBlocks}
-use Rattle.history_laws.specs.Prelude.{Mode, Reply, Sent, State, Watched, WritesOutside, Wrote, after, has_begun}
+use Rattle.std.proofs.Common.{[], ◌++◌, ◌∙◌, ◌∷◌, ◌≡◌, List, ap, append_assoc, arith, false, refl, subst}
+use Rattle.history_laws.specs.Prelude.{AreEvents, Blocks, Entry, EntryLeavesAlone, IsSound}
+use Rattle.history_laws.specs.Prelude.{Mode, State, Watched, after, has_begun}
 use Rattle.history_laws.specs.Laws.{AloneByEntries, BeginningIsAlone, HistoriesKeepSound, NewIsPlain, PlainIsLeftAlone}
 use Rattle.std.proofs.{Common.sym, Common.ℕ, lemmas.Bool.or_left, lemmas.Bool.or_right, lemmas.Grind.common_steps}
 use Rattle.history_laws.specs.{Alone.AllAlone, Alone.LeavesAloneFrom, Laws.RestIsAlone, Prelude.leads_to}
 use Rattle.history_laws.specs.{Prelude.lent_by, Prelude.mode_in, Prelude.new_state}
-use Rattle.nic_device.specs.declared.event.Reply.TheVariants.{Advanced}
 use Rattle.device_lock.proofs.Histories.{events_before, leads-append}
 use Rattle.std.specs.Prelude.{◌==◌, ◌||◌, Bool, IsFalse, IsTrue}
 use Rattle.nic_device.proofs.Steps.{keeps_sound}
 use Rattle.device_lock.specs.Alone.{LeavesAlone, lent_in}
 use Rattle.history_laws.proofs.{Lent.not_so, Limits.mode_told_from, Limits.new_is_off}
-use Rattle.nic_device.specs.declared.event.Event.TheVariants as event
 
 pub histories_sound : HistoriesKeepSound
 histories_sound s [] sound events = sound
@@ -42,25 +40,9 @@ begun_both pass = any_append (λ e. e.pass == pass) (has_begun pass) refl (λ e 
 
 -- an entry that leaves blocks alone leaves fewer of them alone
 module _ (mine less : Blocks) (fewer : (n : ℕ) → IsFalse (mine n) → IsFalse (less n)) where
-  blocks_left : (e : Event Block) → LeavesBlocks mine e → LeavesBlocks less e
-  blocks_left (event.Lend b) h = fewer b.number h
-  blocks_left (event.Take n) h = fewer n h
-  blocks_left (event.Poke16 a bytes) h = fewer (a / 2048) h
-  blocks_left e h = tt
-
-  outside_left : (queue : ℕ) (r : Reply Block) → WritesOutside queue mine r → WritesOutside queue less r
-  outside_left queue (Wrote on slot end desc at len) h = λ ne.
-      let both = h ne in (
-        (λ a from below. fewer (a / 2048) (both.0 a from below)),
-        (λ a from below. fewer (a / 2048) (both.1 a from below)),
-      )
-  outside_left queue (Advanced on slot (Some back)) h = λ ne. fewer (back / 2048) (h ne)
-  outside_left queue (Sent on len (Some back)) h = λ ne. fewer (back / 2048) (h ne)
-  outside_left queue r h = tt
-
   pub entry_left : (w : Watched) (mode : Mode) (e : Entry) → EntryLeavesAlone w mine mode e
       → EntryLeavesAlone w less mode e
-  entry_left w mode e h = grind (arith, common_steps, blocks_left, outside_left)
+  entry_left w mode e h = grind (arith, common_steps)
 
 -- what begins a history that leaves a queue alone leaves it alone, and so does what is behind: neither lends more
 

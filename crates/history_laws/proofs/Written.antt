@@ -97,8 +97,7 @@ all_shown (r ∷ rs) row a p none is same =
     elim (cases_Bool (has_address r a)) as (λ _. view_among (r ∷ rs) a ≡ 0xFFFFFFFF) [
       | inl here ↦
           let found : place_of r a ≡ p = (grind (arith, common_steps)) in
-          let own : r.row ≡ row = ap (λ (q : Place). q.row) found ∙ same in
-          rw (here, shown_whole r.low _ x.0 (eq-eqb (number_of r.row) (number_of row) (ap number_of own))) refl
+          (grind (arith, common_steps, shown_whole, eq-eqb))
       | inr there ↦ rw there (all_shown rs row a p x.1 (rw there at is) same)
     ]
 
@@ -108,13 +107,9 @@ abbrev pub place_in : Named → Option Place
 place_in (Nothing seen) = None
 place_in (Register p view) = Some p
 
-place_placed : (o : Option Place) (view : ℕ) → place_in (at_place o view) ≡ o
-place_placed None view = refl
-place_placed (Some p) view = refl
-
 pub place_named : (s : State) (port : Port) (number : ℕ)
     → place_at (mode_in s.registers) s.vfs port number ≡ place_in (named s port number)
-place_named s Pf number = sym (place_placed (place_among runs number) (view_among runs number))
+place_named s Pf number = sym (grind (arith, common_steps))
 place_named s (Vf v) number = sym (grind (arith, common_steps))
 
 -- a named register is in its row, and its low bits are shown; of MAXFRS all are

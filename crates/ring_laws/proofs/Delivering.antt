@@ -1,5 +1,5 @@
 -- What the driver handed out, and what a history from any sound device on delivered.
-pub use Rattle.history_laws.proofs.Alone.{lent_behind}
+pub use Rattle.history_laws.proofs.Limits.{lent_behind}
 use Rattle.std.proofs.Common.{[], ◌&&◌, ◌++◌, ◌∙◌, ◌∷◌, ◌≡◌, ◌≢◌, ◌≤◌, ◌⊎◌, Bool, List, None, Option, Some, ap}
 use Rattle.std.proofs.lemmas.Bool.{and_from, both_ways, cases_Bool, cases_lt, eq-eqb, eqb-false, eqb-true, lt-ltb}
 use Rattle.history_laws.specs.Prelude.{AreEvents, Block, Blocks, Entry, EntryLeavesAlone, Event, IsEvent, IsLegal}
@@ -23,7 +23,7 @@ use Rattle.std.specs.Prelude.{◌==◌, IsFalse, IsTrue}
 use Rattle.nic_device.proofs.Steps.{keeps_sound, step_leads}
 use Rattle.device_lock.specs.{Alone.lends, Alone.lent_in, History.call_in, declared.entry.Call.Call}
 use Rattle.pmd_rx.specs.Plays.{AllOwn, after_call, played_by}
-use Rattle.history_laws.proofs.{Alone.alone_by_entries, Alone.histories_sound, Steady.not_again}
+use Rattle.history_laws.proofs.{Limits.alone_by_entries, Limits.histories_sound, Steady.not_again}
 use Rattle.nic_device.specs.declared.event.Event.TheVariants as event
 
 -- What the agreement says of the packets that were handed out.

@@ -1,5 +1,5 @@
 -- The blocks that an event leaves.
-use Rattle.std.proofs.Common.{[], ◌%◌, ◌*◌, ◌+◌, ◌/◌, ◌<◌, ◌∙◌, ◌≡◌, ◌≢◌, List, Some, ℕ, ap, arith, false, inl}
+use Rattle.std.proofs.Common.{[], ◌%◌, ◌*◌, ◌+◌, ◌/◌, ◌<◌, ◌∙◌, ◌≡◌, ◌≢◌, List, Some, ℕ, ap, arith, inl}
 use Rattle.std.proofs.lemmas.Bool.{cases_Bool, cases_eq, cases_lt, eq-eqb, eqb-false}
 use Rattle.history_laws.specs.Prelude.{Avoids, Block, Blocks, Event, Filled, IsEvent, IsSound, LeavesBlock}
 use Rattle.history_laws.specs.Prelude.{LeavesBlocks, LiesIn, Memory, Outcome, Registers, Reply, Rest, Sent, State, Tx}
@@ -102,8 +102,7 @@ clear_avoids mine at len b clear is some = elim (cases_lt (2048 * b) (at + len))
           (grind (arith, common_steps))
       | inr within ↦
           let here : at / 2048 ≡ b = omega (arith, within, below) in
-          let out : mine b ≡ false = ap mine (sym here) ∙ clear at (omega arith) (omega (arith, some)) in
-          cc
+          (grind (arith, common_steps))
     ])
   ]
 ]

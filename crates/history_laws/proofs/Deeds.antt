@@ -213,7 +213,6 @@ module _ (queue : ℕ) (s : State) (sound : IsSound s) (small : queue < 128) whe
   on_then : (dir : Dir) → side_of dir queue (side_switched s dir queue) ≡ as_wanted (side_of dir queue s)
   on_then Rx =
       let e = ap receive_side (receive-switched s.registers sound.registers.shape queue small) in
-      let x : Side = side_of Rx queue s in
       (grind (arith, common_steps, with_staged, none_staged, cond_both))
   on_then Tx =
       let e = transmit-switched s.registers sound.registers.shape queue small in
@@ -257,8 +256,7 @@ side_did dir queue s e sound small left = elim (cases_Bool (is_step_of dir queue
   | inl own ↦ subst (Deed dir queue s) (sym (step_is dir queue e own)) (stepped queue s sound small dir)
   | inr other ↦ elim (cases_Bool (is_switch_of dir queue e)) as (λ _. Deed dir queue s e) [
     | inl own ↦
-        subst (Deed dir queue s) (sym (switch_is dir queue e own))
-        (grind (arith, common_steps, switching_did, silent_else))
+        (grind (arith, common_steps, switch_is, switching_did, silent_else))
     | inr apart ↦ Rested (silent_else dir queue s e other) (Nothing (left other apart))
   ]
 ]

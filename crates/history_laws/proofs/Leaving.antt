@@ -4,7 +4,7 @@ use Rattle.history_laws.specs.Prelude.{LeavesTransmit, Maxfrs, Mode, Named, Noth
 use Rattle.history_laws.specs.Prelude.{Register, RowId, Rx, State, TransmitQueue, Tx, Watched, WritesNoSetting, after}
 use Rattle.history_laws.specs.Prelude.{asks_pool_reset, asks_reset, has_queue, mode_in, named, named_written, row_of}
 use Rattle.nic_device.specs.Footprint.{StaysWithin, pool_reach}
-use Rattle.std.proofs.Common.{◌∙◌, ◌≡◌, ◌≢◌, ap, arith, false, inl, inr, refl, subst, sym, true, ℕ}
+use Rattle.std.proofs.Common.{◌≡◌, ◌≢◌, ap, arith, false, inl, inr, refl, subst, sym, true, ℕ}
 use Rattle.std.proofs.{lemmas.Bool.cases_Bool, lemmas.Bool.eqb-false, lemmas.Bool.eqb-true, lemmas.Grind.common_steps}
 use Rattle.history_laws.specs.{Left.is_step_of, Left.is_switch_of, Prelude.step_of, Sides.LeavesSide, Sides.Side}
 use Rattle.history_laws.specs.{Sides.receive_side, Sides.transmit_side}
@@ -56,10 +56,7 @@ module _ (queue : ℕ) (s t : State) where
 -- a register that is no setting is none of these
 pub no_setting : (row : RowId) → is_setting row ≡ false
     → (row ≢ Ctrl) × (row ≢ Hlreg0) × (row ≢ Maxfrs) × (row ≢ GcrExt)
-no_setting row none =
-    let other : (r : RowId) → is_setting r ≡ true → row ≢ r =
-    λ r is e. let f : true ≡ false = sym is ∙ ap is_setting (sym e) ∙ none in cc in
-    (other Ctrl refl, other Hlreg0 refl, other Maxfrs refl, other GcrExt refl)
+no_setting row none = grind (arith, common_steps)
 
 -- a pool that hasn't the queue has nothing of its sides
 

@@ -76,7 +76,7 @@ module _ (own known : Blocks) (s : State) where
   take_stays : (number : ℕ) (block : Block) → OnlyLent own known s.memory
       → Takes number block (step_of s (event.Take number))
   unfolding step_of
-  take_stays number block only = 
+  take_stays number block only =
       grind (arith, common_steps, taken_cases, both_ways, get-remove_same, get-remove_other, and_from, ne_eqb)
 
 pub or_swap : (a b c : Bool) → (a || (b || c)) ≡ (b || (a || c))

@@ -320,8 +320,7 @@ alone_by_entries w s before rest leaves begun =
 -- where the entries tell the mode by themselves
 pub plain_is_left_alone : PlainIsLeftAlone
 plain_is_left_alone w s h sound plain events leaves before e after split begun =
-    let early = events_before before (e ∷ after) (subst AreEvents split events) in
-    (grind (arith, common_steps, mode_told_from))
+    grind (arith, common_steps, events_before, mode_told_from)
 
 pub new_is_plain : NewIsPlain
 new_is_plain w fifo = record { image = refl; mode = new_is_off w.vfs fifo; vfs = refl }

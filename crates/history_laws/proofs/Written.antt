@@ -12,7 +12,7 @@ use Rattle.nic_device.proofs.{RegisterLaws.SideWords.receive-written, RegisterLa
 use Rattle.nic_device.proofs.{VfMap.Owners.located_in_range}
 use Rattle.nic_device.specs.{Named.at_place, RegTable.Place.place_among, RegTable.Place.view_among}
 use Rattle.nic_device.specs.{RegTable.Rows.number_of, RegTable.Run.Run, RegTable.Run.has_address}
-use Rattle.nic_device.specs.{RegTable.Run.place_in as place_of, RegTable.Runs.runs, RegisterFile.Bits.merged}
+use Rattle.nic_device.specs.{RegTable.Runs.runs, RegisterFile.Bits.merged}
 use Rattle.nic_device.specs.{RegisterLaws.Laws.HasShape, RegisterLaws.Laws.word_after}
 use Rattle.nic_device.specs.{declared.event.Port.TheVariants.Vf}
 use Rattle.std.specs.{List.list_all, Prelude.bit_and, Prelude.bit_or, Prelude.⊤, Prelude.◌==◌}
@@ -67,8 +67,7 @@ low_merged view old new (inl low) =
     ap (λ v. merged (bit_and 0xFFFFFFFF v) old new % 4) low
     ∙ (let same = merged_low old new in omega (arith, same))
 low_merged view old new (inr all) =
-    ap (λ v. merged (bit_and 0xFFFFFFFF v) old new % 4) all
-    ∙ (let same = merged_all old new in omega (arith, same))
+    grind (arith, common_steps, merged_all)
 
 -- bits 31 to 16 of a word that was merged under a mask of these alone are those of the new one
 pub merged_high : (old new : ℕ) → merged 0xFFFF0000 old new / 2 ^ 16 ≡ new / 2 ^ 16 % 2 ^ 16
@@ -96,7 +95,6 @@ all_shown (r ∷ rs) row a p none is same =
     let x = and_parts (not (r.low && (number_of r.row == number_of row))) (none_low row rs) none in
     elim (cases_Bool (has_address r a)) as (λ _. view_among (r ∷ rs) a ≡ 0xFFFFFFFF) [
       | inl here ↦
-          let found : place_of r a ≡ p = (grind (arith, common_steps)) in
           (grind (arith, common_steps, shown_whole, eq-eqb))
       | inr there ↦ rw there (all_shown rs row a p x.1 (rw there at is) same)
     ]

@@ -233,13 +233,13 @@ module _ (m : Memory) (l : Layout) (here : List Piece) (ring : IsRing l) (h : Ha
   desc_on : (k : ℕ) → k + 1 < l.size → descriptor_at (consumed l) k ≡ descriptor_at l (1 + k)
   desc_on k i = ap (λ x. 2048 * l.ring + 16 * x) (grind arith)
 
-  kept_stays : Stays l.ring l.size m without (λ j. ⊤) (λ b. map.get without b ≡ map.get m b)
-  kept_stays =
+  all_kept : Stays l.ring l.size m without (λ j. ⊤) (λ b. map.get without b ≡ map.get m b)
+  all_kept =
       same_stays l.ring l.size m without (λ k i. get-remove_other m (block_at l 0) (l.ring + k)
       (λ e. ring_block_apart l.ring l.size (block_at l 0) (ring.not_ring 0 outs) k i (sym e)))
 
-  kept_block : (k : ℕ) → 0 < k → k < length l.blocks → map.get without (block_at l k) ≡ map.get m (block_at l k)
-  kept_block k i j =
+  kept : (k : ℕ) → 0 < k → k < length l.blocks → map.get without (block_at l k) ≡ map.get m (block_at l k)
+  kept k i j =
       get-remove_other m (block_at l 0) (block_at l k) (ring.apart k 0 j outs (λ e. absurd (omega (arith, e, i))))
 
   pub ring_on : IsRing (consumed l)
@@ -247,7 +247,7 @@ module _ (m : Memory) (l : Layout) (here : List Piece) (ring : IsRing l) (h : Ha
 
   pub slots_on : HasSlots without (consumed l) (drop 1 here)
   slots_on =
-      grind (arith, common_steps, fewer, less, desc_on, block_on, piece_on, filled_stays, kept_stays, kept_block, posted_stays)
+      grind (arith, common_steps, fewer, less, desc_on, block_on, piece_on, filled_stays, all_kept, kept, posted_stays)
 
 -- the queue's side, by the posted slots
 module _ (l : Layout) (here : List Piece) (next : l.next < l.size) (room : length l.blocks < l.size)

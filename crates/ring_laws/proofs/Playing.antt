@@ -60,7 +60,8 @@ module _ {s : State} {queue : ℕ} {sent : List (List ℕ)} {v : Sender} {f : �
       transmit_queue_of t.registers queue
       ≡ record (transmit_queue_of s.registers queue) { ring = record (ring_of s.registers Tx queue) { tail = slot } }
   side_moved =
-      let below = slot-below v.layout h.based.layout v.poked (omega (arith, h.counted.poked_lent, h.counted.lent_known, h.counted.room)) in
+      let c = h.counted in
+      let below = slot-below v.layout h.based.layout v.poked (omega (arith, c.poked_lent, c.lent_known, c.room)) in
       (grind (arith, common_steps, transmit-tail))
 
   tail_keeps : IsBased t queue v.layout → AgreesAt t queue sent (advanced v) f
@@ -194,12 +195,6 @@ module _ (v : Sender) (g : ℕ) (l : IsLayout v.layout) (c : IsCounted v (g + 1)
   pub behind : (k : ℕ) → segment_at (reaped v) k ≡ segment_at v (k + 1)
   behind k = grind arith
 
-  fewer : length (drop 1 v.outstanding) ≡ length v.outstanding - 1
-  fewer = length-drop 1 v.outstanding
-
-  posted : g + 1 < v.layout.size
-  posted = omega (arith, c.fetched_posted, c.posted_poked, c.poked_lent, c.lent_known, c.room)
-
   oldest : 0 < v.lent
   oldest = omega (arith, c.fetched_posted, c.posted_poked, c.poked_lent)
 
@@ -208,7 +203,7 @@ module _ (v : Sender) (g : ℕ) (l : IsLayout v.layout) (c : IsCounted v (g + 1)
   set_up-reaped side u = grind arith
 
   pub counted-reaped : IsCounted (reaped v) g
-  counted-reaped = grind (arith, common_steps, fewer, behind)
+  counted-reaped = grind (arith, common_steps, length-drop 1 v.outstanding, behind)
 
   -- the same are left
   pub dropped : drop (g + 1) v.outstanding ≡ drop g (drop 1 v.outstanding)
@@ -220,14 +215,14 @@ module _ (v : Sender) (g : ℕ) (l : IsLayout v.layout) (c : IsCounted v (g + 1)
     abbrev pub without : Memory
     without = fin.remove m (segment_at v 0).block
 
-    slots_stay : Stays v.layout.ring v.layout.size m without (λ j. ⊤) (λ b. fin.get without b ≡ fin.get m b)
-    slots_stay =
-        let x = segment_at v 0 in
+    kept : Stays v.layout.ring v.layout.size m without (λ j. ⊤) (λ b. fin.get without b ≡ fin.get m b)
+    kept =
         same_stays v.layout.ring v.layout.size m without
         (grind (arith, common_steps, ring_block_apart, oldest, get-remove_other))
 
     pub shows-reaped : Shows without (reaped v) g
-    shows-reaped = grind (arith, common_steps, slots_stay, behind, ready_stays, get-remove_other, oldest, descriptor-later, slot-below, posted)
+    shows-reaped =
+        grind (arith, common_steps, kept, behind, ready_stays, get-remove_other, oldest, descriptor-later, slot-below)
 
 -- The driver's own moves that lend a block and take one back keep what it and the device agree on.
 
@@ -330,7 +325,7 @@ module _ {s : State} {queue : ℕ} {sent : List (List ℕ)} {v : Sender} {f : �
   move-keeps m e may =
       rw (own_silent m e may.0 (λ is. cc), append-nil sent) ((own_did m e may.0 (λ is. cc)).agree may.1)
 
-  -- a side that is up slots_stay so
+  -- a side that is up stays so
   moved-up : IsUp queue s → (m : Move) (e : Event Block) → MayMove queue v s e m → IsUp queue (after s e)
   moved-up up Elsewhere e may = up_kept Tx queue s e up (never-shuts h e) (spared_did h e may)
   moved-up up m e may = (own_did m e may.0 (λ is. cc)).up up

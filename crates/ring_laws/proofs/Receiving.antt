@@ -51,8 +51,7 @@ module _ {queue : ℕ} {s : State} {out : List Piece} {v : Receive} {gone here :
   inside = grind (arith, common_steps)
 
   pub head_is : head_address own.ring ≡ descriptor_at l (length here)
-  head_is = address_small _ _ l.ring (slot_at l (length here)) h.side.base h.side.head
-      (ring_low l h.ring) (slot_low l (length here) h.ring h.slots.within)
+  head_is = grind (arith, common_steps, address_small, ring_low, slot_low)
 
   first_waits : HasRoom → IsPosted s.memory (descriptor_at l (length here)) (block_at l (length here))
   first_waits room = h.slots.posted (length here) (omega arith) (posted_below v (length here) room)

@@ -177,8 +177,7 @@ played-turns pass v (m ∷ moves) (e ∷ es) =
 
 pub sent_is_prefix_of_taken : SentIsPrefixOfTaken
 sent_is_prefix_of_taken pass queue s v moves h agreed legal may =
-    let ts = turns_of pass moves h in
-    (grind (arith, common_steps, entries-turns, played-turns, sent_is_prefix))
+    grind (arith, common_steps, entries-turns, played-turns, sent_is_prefix)
 
 -- A history that leaves the queue of a driver alone may run, and so what is sent is a prefix of what was accepted.
 

@@ -1,5 +1,5 @@
 -- The blocks that an event leaves.
-use Rattle.std.proofs.Common.{[], ◌%◌, ◌*◌, ◌+◌, ◌/◌, ◌<◌, ◌∙◌, ◌≡◌, ◌≢◌, List, None, Some, ℕ, ap, arith, false, inl}
+use Rattle.std.proofs.Common.{[], ◌%◌, ◌*◌, ◌+◌, ◌/◌, ◌<◌, ◌∙◌, ◌≡◌, ◌≢◌, List, Some, ℕ, ap, arith, inl}
 use Rattle.std.proofs.lemmas.Bool.{cases_Bool, cases_eq, cases_lt, eq-eqb, eqb-false}
 use Rattle.history_laws.specs.Prelude.{Avoids, Block, Blocks, Event, Filled, IsEvent, IsSound, LeavesBlock}
 use Rattle.history_laws.specs.Prelude.{LeavesBlocks, LiesIn, Memory, Outcome, Registers, Reply, Rest, Sent, State, Tx}
@@ -99,13 +99,10 @@ clear_avoids mine at len b clear is some = elim (cases_lt (2048 * b) (at + len))
     | inl below ↦ absurd (elim (cases_lt at (2048 * b)) as (λ _. ⊥) [
       | inl before ↦
           let here : 2048 * b / 2048 ≡ b = omega arith in
-          let out : mine b ≡ false =
-          ap mine (sym here) ∙ clear (2048 * b) (omega (arith, before)) (omega (arith, high)) in
-          cc
+          (grind (arith, common_steps))
       | inr within ↦
           let here : at / 2048 ≡ b = omega (arith, within, below) in
-          let out : mine b ≡ false = ap mine (sym here) ∙ clear at (omega arith) (omega (arith, some)) in
-          cc
+          (grind (arith, common_steps))
     ])
   ]
 ]
@@ -134,8 +131,7 @@ reported_outside queue on mine (Advanced told slot (Some b)) s t tells ne outsid
     let same : b ≡ back = cc in
     subst (λ x. IsFalse (mine (x / 2048))) same (outside (λ e. ne (sym tells.0.named ∙ e)))
 reported_outside queue on mine (Sent told len (Some b)) s t tells ne outside back is =
-    let same : b ≡ back = cc in
-    subst (λ x. IsFalse (mine (x / 2048))) same (outside (λ e. ne (sym tells.named ∙ e)))
+    (grind (arith, common_steps))
 reported_outside queue on mine other s t tells ne outside back is = cc
 
 -- and where it reports in another block, it leaves this one

@@ -1,15 +1,15 @@
 -- What an event that leaves a queue alone does to the queue's sides.
 use Rattle.std.proofs.Common.{[], ◌<◌, ◌||◌, ◌∙◌, ◌∷◌, ◌≡◌, ◌≢◌, ◌⊎◌, Bool, Err, List, None, Ok, Option, Some, ap}
 use Rattle.history_laws.specs.Prelude.{Block, Blocks, Dir, Event, Fetched, Filled, IsSound, LeavesReceive, Outcome}
-use Rattle.history_laws.specs.Prelude.{Registers, Reply, RingFault, Rx, State, TransmitQueue, Tx, Waiting, Watched}
+use Rattle.history_laws.specs.Prelude.{Reply, RingFault, Rx, State, TransmitQueue, Tx, Waiting, Watched}
 use Rattle.history_laws.specs.Prelude.{Wrote, after, gives, is_empty, is_wanted, receive_queue_of, reply_to, rest_of}
 use Rattle.history_laws.specs.Left.{Deed, IsFirst, IsLeft, IsSilent, LeftDid, Nothing, Rested, Rests, SendsNone, Shut}
 use Rattle.std.proofs.Common.{arith, cond, false, inl, inr, length, map, not, refl, subst, sym, true, ℕ}
 use Rattle.std.proofs.lemmas.Bool.{cases_Bool, cases_eq, cond_both, eq-eqb, lt-ltb, ne_eqb}
 use Rattle.std.proofs.{lemmas.Grind.common_steps, lemmas.List.drop_all, lemmas.List.get_or-set_same}
 use Rattle.history_laws.specs.Left.{SidesDo, Switched, Took, fetch_on, fill_on, is_step_of, is_switch_of}
-use Rattle.history_laws.specs.{Prelude.staged_by, Prelude.step_of, Prelude.transmit_queue_of, Segments.frames_added}
-use Rattle.history_laws.specs.{Segments.pieces, Segments.pieces_told, Segments.sent_by, Sides.IsTried, Sides.Side}
+use Rattle.history_laws.specs.{Prelude.step_of, Prelude.transmit_queue_of, Segments.frames_added}
+use Rattle.history_laws.specs.{Segments.pieces, Segments.pieces_told, Sides.IsTried, Sides.Side}
 use Rattle.history_laws.specs.{Sides.as_wanted, Sides.receive_side, Sides.side_of, Sides.transmit_side}
 use Rattle.nic_device.proofs.{Cases.either_way, Cases.switched_cases, Coming.counted_in, Raising.comes-itself}
 use Rattle.nic_device.proofs.{Raising.have_counters, RegisterLaws.Stands.receive_stands}
@@ -27,13 +27,6 @@ use Rattle.device_laws.proofs.{RepliesSent.transmitting_tells, Standing.stays_wi
 use Rattle.device_laws.specs.{Leaving.IsFirstFor, Replies.TookTransmit, Replies.received_tells, Replies.sent_tells}
 use Rattle.nic_device.specs.Receive as receive
 use Rattle.nic_device.specs.declared.event.Event.TheVariants as event
-
--- A frame that is dropped for want of a slot leaves every receive side.
-
-pub slotless_stands : (r : Registers) (first queue : ℕ) → receive_queue_of (slotless_counted r first) queue
-    ≡ receive_queue_of r queue
-slotless_stands r first queue =
-    grind (arith, common_steps, first, receive_stands, counts-miss_side, counted_in, have_counters, comes-itself)
 
 -- A step of receiving, by what it rests on: only where a queue is on and a slot is the device's is a slot tried.
 
@@ -142,7 +135,8 @@ module _ (queue : ℕ) (s : State) (sound : IsSound s) where
             stays
             (gives (Dropped NoSlot)
             (record s { registers = slotless_counted s.registers w.queue; waiting = others }))
-            (slotless_stands s.registers w.queue queue) refl;
+            (grind (arith, common_steps, receive_stands, counts-miss_side, counted_in, have_counters, comes-itself))
+            refl;
         tried = λ w others e tried answer is. tried_step w others e tried answer is;
       }) refl
 
@@ -195,12 +189,7 @@ module _ (queue : ℕ) (s : State) (sound : IsSound s) (small : queue < 128) whe
     by_answer (Ok f) answer is =
         let replied = ap (λ (x : Outcome). x.reply) is in
         let told = took queue s after_tx f f.frame (tx_tells (fetched_reply queue f f.frame) replied) in
-        Took (record {
-          tried = tried;
-          staged = staged_by after_tx queue;
-          side = ap (λ (q : TransmitQueue). transmit_side q (staged_by after_tx queue)) told.side;
-          work = record { is = refl; loud = loud; fetched = f; answer = answer; step = is };
-        })
+        (grind (arith, common_steps, tried, fetched))
     by_answer (Err fault) answer is =
         let told = tx_tells (Fault queue fault) (ap (λ (x : Outcome). x.reply) is) in
         (grind (arith, common_steps, none, tried))
@@ -224,7 +213,6 @@ module _ (queue : ℕ) (s : State) (sound : IsSound s) (small : queue < 128) whe
   on_then : (dir : Dir) → side_of dir queue (side_switched s dir queue) ≡ as_wanted (side_of dir queue s)
   on_then Rx =
       let e = ap receive_side (receive-switched s.registers sound.registers.shape queue small) in
-      let x : Side = side_of Rx queue s in
       (grind (arith, common_steps, with_staged, none_staged, cond_both))
   on_then Tx =
       let e = transmit-switched s.registers sound.registers.shape queue small in
@@ -233,8 +221,7 @@ module _ (queue : ℕ) (s : State) (sound : IsSound s) (small : queue < 128) whe
       cond_both (is_wanted s.registers Tx queue) (record s { registers = switched s.registers Tx queue })
       (record (emptied s Tx queue) { registers = switched s.registers Tx queue })
       (λ (t : State). side_of Tx queue t ≡ as_wanted (side_of Tx queue s))
-      (λ is. ap (λ (q : TransmitQueue). transmit_side q (staged_by s queue)) e
-      ∙ with_staged x true (staged_by s queue) is refl)
+      (grind (arith, common_steps, with_staged))
       (λ not. (λ k. transmit_side (e k) (bare k)) ∙ with_staged x false [] not refl)
 
   pub switching_did : (dir : Dir) → Rests dir queue s (event.QueueStep dir queue)
@@ -254,14 +241,10 @@ pub received-none : (queue : ℕ) (s : State) (e : Event Block) → is_step_of R
 received-none queue s event.RxStep other = cc
 received-none queue s e other = refl
 
-pub sent-none : (queue : ℕ) (s : State) (e : Event Block) → is_step_of Tx queue e ≡ false → sent_by queue s e ≡ []
-sent-none queue s (event.TxStep on) other = rw other refl
-sent-none queue s e other = refl
-
 pub silent_else : (dir : Dir) (queue : ℕ) (s : State) (e : Event Block) → is_step_of dir queue e ≡ false
     → IsSilent dir queue s e
 silent_else Rx queue s e other = received-none queue s e other
-silent_else Tx queue s e other = record { sent = sent-none queue s e other; memory = λ own. absurd (cc (own, other)) }
+silent_else Tx queue s e other = grind (arith, common_steps, other)
 
 module _ (queue : ℕ) (s : State) (sound : IsSound s) (small : queue < 128) where
   stepped : (dir : Dir) → Deed dir queue s (step_event dir queue)
@@ -273,8 +256,7 @@ side_did dir queue s e sound small left = elim (cases_Bool (is_step_of dir queue
   | inl own ↦ subst (Deed dir queue s) (sym (step_is dir queue e own)) (stepped queue s sound small dir)
   | inr other ↦ elim (cases_Bool (is_switch_of dir queue e)) as (λ _. Deed dir queue s e) [
     | inl own ↦
-        subst (Deed dir queue s) (sym (switch_is dir queue e own))
-        (grind (arith, common_steps, switching_did, silent_else))
+        (grind (arith, common_steps, switch_is, switching_did, silent_else))
     | inr apart ↦ Rested (silent_else dir queue s e other) (Nothing (left other apart))
   ]
 ]

@@ -3,17 +3,17 @@ use Rattle.history_laws.specs.Prelude.{Block, Dir, Event, GcrExt, LeavesQueues, 
 use Rattle.history_laws.specs.Prelude.{LeavesTransmit, Maxfrs, Mode, Named, Nothing, Pf, Place, Port, ReceiveQueue}
 use Rattle.history_laws.specs.Prelude.{Register, RowId, Rx, State, TransmitQueue, Tx, Watched, WritesNoSetting, after}
 use Rattle.history_laws.specs.Prelude.{asks_pool_reset, asks_reset, has_queue, mode_in, named, named_written, row_of}
-use Rattle.nic_device.specs.Footprint.{StaysWithin, below_reset_reach, in_registers, pool_reach, reset_reach}
-use Rattle.std.proofs.Common.{◌∙◌, ◌≡◌, ◌≢◌, ap, arith, cond, false, inl, inr, refl, subst, sym, true, ℕ}
+use Rattle.nic_device.specs.Footprint.{StaysWithin, pool_reach}
+use Rattle.std.proofs.Common.{◌≡◌, ◌≢◌, ap, arith, false, inl, inr, refl, subst, sym, true, ℕ}
 use Rattle.std.proofs.{lemmas.Bool.cases_Bool, lemmas.Bool.eqb-false, lemmas.Bool.eqb-true, lemmas.Grind.common_steps}
 use Rattle.history_laws.specs.{Left.is_step_of, Left.is_switch_of, Prelude.step_of, Sides.LeavesSide, Sides.Side}
 use Rattle.history_laws.specs.{Sides.receive_side, Sides.transmit_side}
 use Rattle.nic_device.proofs.RegisterLaws.Covers.{covers-renewed, misses-narrower}
-use Rattle.nic_device.specs.RegisterLaws.Footprint.{Misses, of_side, of_write, pool_renews}
+use Rattle.nic_device.specs.RegisterLaws.Footprint.{Misses, of_side, pool_renews}
 use Rattle.nic_device.specs.RegTable.declared.rows.RowId.TheVariants.{Ctrl, Hlreg0}
 use Rattle.nic_device.specs.{Footprint.write_reach, Named.at_location, RegTable.declared.bank.Bank.Bank}
 use Rattle.nic_device.specs.{RegisterFile.Owner.is_owner, RegisterFile.Owner.owner_in, VfMap.Map.located}
-use Rattle.nic_device.specs.{VfMap.Owner.is_of_pool_by, VfMap.Owner.is_receive_bank, VfMap.Owner.is_transmit_bank}
+use Rattle.nic_device.specs.{VfMap.Owner.is_of_pool_by}
 use Rattle.nic_device.specs.{declared.event.Port.TheVariants.Vf}
 use Rattle.device_laws.proofs.StandingRest.{arrival_rest, collecting_rest, eeprom_rest, link_rest, message_rest}
 use Rattle.device_laws.proofs.{Settings.no_reset, Standing.memory_rest, Standing.missed, Standing.stays_within}
@@ -22,7 +22,6 @@ use Rattle.device_laws.proofs.{StandingQueues.switching_rest, StandingQueues.tra
 use Rattle.device_lock.specs.Alone.{Spares, is_setting}
 use Rattle.history_laws.proofs.Written.{place_in, place_named}
 use Rattle.device_laws.specs.Leaving.{LeavesOtherSides}
-use Rattle.nic_device.specs.RegTable.declared.bank.Bank.TheVariants as bank
 use Rattle.nic_device.specs.RegisterFile.declared.owner.Owner.TheVariants as owner
 use Rattle.nic_device.specs.declared.event.Event.TheVariants as event
 
@@ -57,24 +56,7 @@ module _ (queue : ℕ) (s t : State) where
 -- a register that is no setting is none of these
 pub no_setting : (row : RowId) → is_setting row ≡ false
     → (row ≢ Ctrl) × (row ≢ Hlreg0) × (row ≢ Maxfrs) × (row ≢ GcrExt)
-no_setting row none =
-    let other : (r : RowId) → is_setting r ≡ true → row ≢ r =
-    λ r is e. let f : true ≡ false = sym is ∙ ap is_setting (sym e) ∙ none in cc in
-    (other Ctrl refl, other Hlreg0 refl, other Maxfrs refl, other GcrExt refl)
-
--- a register of a side of the queue is one that the queue rests on
-
-not_receive : (b : Bank) (index queue : ℕ) → (is_receive_bank b ≡ true → index ≢ queue)
-    → owner_in b index ≢ owner.Side Rx queue
-not_receive bank.Receive index queue other e = other refl (cc)
-not_receive bank.Transmit index queue other e = cc
-not_receive b index queue other e = cc
-
-not_transmit : (b : Bank) (index queue : ℕ) → (is_transmit_bank b ≡ true → index ≢ queue)
-    → owner_in b index ≢ owner.Side Tx queue
-not_transmit bank.Transmit index queue other e = other refl (cc)
-not_transmit bank.Receive index queue other e = cc
-not_transmit b index queue other e = cc
+no_setting row none = grind (arith, common_steps)
 
 -- a pool that hasn't the queue has nothing of its sides
 
@@ -113,9 +95,7 @@ module _ (queue : ℕ) (s : State) (port : Port) (n word : ℕ) where
       pool_stays asks =
           let mode = mode_in s.registers in
           let reach : write_reach mode (named s port n) word ≡ pool_reach mode p.index =
-          ap (λ m. write_reach mode m word) is
-          ∙ ap (λ b. cond b reset_reach (below_reset_reach mode p word)) plain
-          ∙ ap (λ b. cond b (pool_reach mode p.index) (in_registers (of_write p))) asks in
+          (grind (arith, common_steps, plain)) in
           subst (λ r. StaysWithin r s t) reach (stays_within s (event.Write port n word))
 
       pool_left : asks_pool_reset (row_of p.row).kind word ≡ true → LeavesBoth queue s t
@@ -131,8 +111,8 @@ module _ (queue : ℕ) (s : State) (port : Port) (n word : ℕ) where
         | inr none ↦
             let rest = write_rest s port n word p view is plain none in
             both_left queue s t
-            (rest.receive queue (not_receive (row_of p.row).bank p.index queue spares.receive))
-            (rest.transmit queue (not_transmit (row_of p.row).bank p.index queue spares.transmit))
+            (rest.receive queue (grind (arith, common_steps)))
+            (rest.transmit queue (grind (arith, common_steps)))
       ]
 
 -- What numbers name where no setting is written, and writes of registers that are none.

@@ -49,18 +49,9 @@ module _ (s : State) (n : ℕ) where
   lend_was : (block : Block) → n ≢ block.number → Was (step_of s (event.Lend block))
   lend_was block ne has = ap (λ (o : _). is_some o) (sym (memory_blocks.lend s block n ne)) ∙ has
 
-  -- one that was taken back is another
-  removed_was : (number : ℕ) → has_block (map.remove s.memory number) n ≡ true
-      → (n ≢ number) × (has_block s.memory n ≡ true)
-  removed_was number has = elim (cases_eq n number) [
-    | inl same ↦
-        (grind (arith, common_steps, both_ways, get-remove_same))
-    | inr ne ↦ (ne, ap (λ (o : _). is_some o) (sym (get-remove_other s.memory number n ne)) ∙ has)
-  ]
-
   take_was : (number : ℕ) → Was (step_of s (event.Take number))
   unfolding step_of
-  take_was number = taken_cases Was s number (λ has. has) (λ block has. (removed_was number has).1)
+  take_was number = grind (arith, common_steps, taken_cases, both_ways, get-remove_same, get-remove_other)
 
 module _ (own known : Blocks) (s : State) where
   abbrev Only : Outcome → Type 0
@@ -85,7 +76,8 @@ module _ (own known : Blocks) (s : State) where
   take_stays : (number : ℕ) (block : Block) → OnlyLent own known s.memory
       → Takes number block (step_of s (event.Take number))
   unfolding step_of
-  take_stays number block only = grind (arith, common_steps, taken_cases, removed_was, and_from, ne_eqb)
+  take_stays number block only =
+      grind (arith, common_steps, taken_cases, both_ways, get-remove_same, get-remove_other, and_from, ne_eqb)
 
 pub or_swap : (a b c : Bool) → (a || (b || c)) ≡ (b || (a || c))
 or_swap true true c = refl
@@ -102,7 +94,7 @@ only_lent_stays = record {
   lend = lend_stays;
   take = λ own known s number block only. take_stays own known s number block only;
   anew = λ own known s block only is.
-      not_so (has_block s.memory block.number) (known block.number) (only block.number is);
+      grind (arith, common_steps, not_so);
 }
 
 -- What one half of a driver has lent, after an event of its own, by the reply and what it had: a block that it lends

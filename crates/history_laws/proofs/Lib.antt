@@ -1,5 +1,5 @@
 pub use Rattle.device_laws.proofs as DeviceLaws
-pub mod Alone
+pub use Rattle.history_laws.proofs.Limits as Alone
 pub mod Blocks
 pub mod Deeds
 pub mod Leaving

@@ -12,7 +12,7 @@ use Rattle.nic_device.proofs.{RegisterLaws.SideWords.receive-written, RegisterLa
 use Rattle.nic_device.proofs.{VfMap.Owners.located_in_range}
 use Rattle.nic_device.specs.{Named.at_place, RegTable.Place.place_among, RegTable.Place.view_among}
 use Rattle.nic_device.specs.{RegTable.Rows.number_of, RegTable.Run.Run, RegTable.Run.has_address}
-use Rattle.nic_device.specs.{RegTable.Run.place_in as place_of, RegTable.Runs.runs, RegisterFile.Bits.merged}
+use Rattle.nic_device.specs.{RegTable.Runs.runs, RegisterFile.Bits.merged}
 use Rattle.nic_device.specs.{RegisterLaws.Laws.HasShape, RegisterLaws.Laws.word_after}
 use Rattle.nic_device.specs.{declared.event.Port.TheVariants.Vf}
 use Rattle.std.specs.{List.list_all, Prelude.bit_and, Prelude.bit_or, Prelude.⊤, Prelude.◌==◌}
@@ -67,8 +67,7 @@ low_merged view old new (inl low) =
     ap (λ v. merged (bit_and 0xFFFFFFFF v) old new % 4) low
     ∙ (let same = merged_low old new in omega (arith, same))
 low_merged view old new (inr all) =
-    ap (λ v. merged (bit_and 0xFFFFFFFF v) old new % 4) all
-    ∙ (let same = merged_all old new in omega (arith, same))
+    grind (arith, common_steps, merged_all)
 
 -- bits 31 to 16 of a word that was merged under a mask of these alone are those of the new one
 pub merged_high : (old new : ℕ) → merged 0xFFFF0000 old new / 2 ^ 16 ≡ new / 2 ^ 16 % 2 ^ 16
@@ -96,9 +95,7 @@ all_shown (r ∷ rs) row a p none is same =
     let x = and_parts (not (r.low && (number_of r.row == number_of row))) (none_low row rs) none in
     elim (cases_Bool (has_address r a)) as (λ _. view_among (r ∷ rs) a ≡ 0xFFFFFFFF) [
       | inl here ↦
-          let found : place_of r a ≡ p = (grind (arith, common_steps)) in
-          let own : r.row ≡ row = ap (λ (q : Place). q.row) found ∙ same in
-          rw (here, shown_whole r.low _ x.0 (eq-eqb (number_of r.row) (number_of row) (ap number_of own))) refl
+          (grind (arith, common_steps, shown_whole, eq-eqb))
       | inr there ↦ rw there (all_shown rs row a p x.1 (rw there at is) same)
     ]
 
@@ -108,13 +105,9 @@ abbrev pub place_in : Named → Option Place
 place_in (Nothing seen) = None
 place_in (Register p view) = Some p
 
-place_placed : (o : Option Place) (view : ℕ) → place_in (at_place o view) ≡ o
-place_placed None view = refl
-place_placed (Some p) view = refl
-
 pub place_named : (s : State) (port : Port) (number : ℕ)
     → place_at (mode_in s.registers) s.vfs port number ≡ place_in (named s port number)
-place_named s Pf number = sym (place_placed (place_among runs number) (view_among runs number))
+place_named s Pf number = sym (grind (arith, common_steps))
 place_named s (Vf v) number = sym (grind (arith, common_steps))
 
 -- a named register is in its row, and its low bits are shown; of MAXFRS all are

@@ -4,7 +4,7 @@ use Rattle.std.proofs.Common.{◌%◌, ◌*◌, ◌+◌, ◌/◌, ◌<◌, ◌^�
 use Rattle.history_laws.specs.Prelude.{AreApart, Bytes, Done, IsWhole, LiesIn, Memory, Ring, State, gives, has_block}
 use Rattle.ring_laws.specs.TransmitPrelude.{EachRingBlock, Layout, Segment, Sender, descriptor_at, has_lent}
 use Rattle.std.proofs.lemmas.Bool.{and_from, both_ways, cases_lt, eq-eqb, not_from_false, or_right}
-use Rattle.std.proofs.{Common.refl, Common.subst, Common.sym, Common.take, Common.true, Common.ℕ}
+use Rattle.std.proofs.{Common.refl, Common.subst, Common.take, Common.true, Common.ℕ}
 use Rattle.std.proofs.{lemmas.Grind.common_steps, lemmas.List.Folds.list_any_at, lemmas.List.get_or-map}
 use Rattle.std.proofs.{lemmas.List.get_or-take, lemmas.List.length-map, lemmas.List.length-take-le}
 use Rattle.history_laws.specs.Prelude.{is_empty, is_lent, is_outside, read_at, step_of, write_at}
@@ -110,11 +110,7 @@ module _ (ring size slot : ℕ) (below : slot < size) (m : Memory) (bytes : List
   pub written_stays : Stays ring size m written (λ j. j ≢ slot) (λ b. ⊤)
   written_stays =
       let same = SameLent-write_at m (descriptor_in ring slot) bytes in
-      let reads : (c len : ℕ) → AreApart c len (descriptor_in ring slot) 16 → read_at written c len ≡ read_at m c len =
-      λ c len apart.
-      read_at-write_at_apart m (descriptor_in ring slot) bytes c len
-      (subst (λ k. AreApart c len (descriptor_in ring slot) k) (sym long) apart) in
-      (grind (arith, common_steps, slot, slots_apart, buffer_and_slot))
+      (grind (arith, common_steps, slot, read_at-write_at_apart, slots_apart, buffer_and_slot))
 
   pub written_here : IsWhole m → EachRingBlock ring size (λ b. IsTrue (has_block m b))
       → read_at written (descriptor_in ring slot) 16 ≡ bytes

@@ -1,5 +1,5 @@
 -- What the driver handed out, and what a history from any sound device on delivered.
-pub use Rattle.history_laws.proofs.Alone.{lent_behind}
+pub use Rattle.history_laws.proofs.Limits.{lent_behind}
 use Rattle.std.proofs.Common.{[], ◌&&◌, ◌++◌, ◌∙◌, ◌∷◌, ◌≡◌, ◌≢◌, ◌≤◌, ◌⊎◌, Bool, List, None, Option, Some, ap}
 use Rattle.std.proofs.lemmas.Bool.{and_from, both_ways, cases_Bool, cases_lt, eq-eqb, eqb-false, eqb-true, lt-ltb}
 use Rattle.history_laws.specs.Prelude.{AreEvents, Block, Blocks, Entry, EntryLeavesAlone, Event, IsEvent, IsLegal}
@@ -9,10 +9,10 @@ use Rattle.std.proofs.Common.{append_assoc, arith, cond, false, inl, inr, length
 use Rattle.std.proofs.{lemmas.Bool.or_left, lemmas.Bool.or_right, lemmas.Grind.common_steps, lemmas.List.append-nil}
 use Rattle.std.proofs.{lemmas.List.length-append, lemmas.List.nil_from_length}
 use Rattle.history_laws.specs.{Alone.AllAlone, Lent.LendsOneOf, Prelude.reply_to}
-use Rattle.ring_laws.specs.ReceivePrelude.{IsOwn, Kept, Receive, Told, drive, is_step, kept_of, records_of}
+use Rattle.ring_laws.specs.ReceivePrelude.{IsOwn, Kept, Receive, Told, drive, is_step, records_of}
 use Rattle.ring_laws.specs.{Delivered.IsPrefixOf, Delivered.delivered, Delivered.packets_if_any, Delivered.pieces_in}
 use Rattle.ring_laws.specs.{Delivered.pieces_since, Histories.mark_of, Histories.marks_after, Joint.Agree}
-use Rattle.ring_laws.specs.{Joint.AreOpen, Joint.AreSeen, Joint.InOrder, Joint.packets_had, Joint.still_held}
+use Rattle.ring_laws.specs.{Joint.AreOpen, Joint.AreSeen}
 use Rattle.ring_laws.specs.{Pieces.Piece, Pieces.packet_told, Pieces.packets_behind, Pieces.packets_of, Pieces.pieces}
 use Rattle.ring_laws.specs.{ReceiveUp.IsUp, Steps.Each, Steps.IsMetBy, Steps.OwnReportsSpare}
 use Rattle.ring_laws.proofs.{Foreign.entry_keeps, Foreign.entry_stays_up, Foreign.left_up, Foreign.own_stays_up}
@@ -23,19 +23,15 @@ use Rattle.std.specs.Prelude.{◌==◌, IsFalse, IsTrue}
 use Rattle.nic_device.proofs.Steps.{keeps_sound, step_leads}
 use Rattle.device_lock.specs.{Alone.lends, Alone.lent_in, History.call_in, declared.entry.Call.Call}
 use Rattle.pmd_rx.specs.Plays.{AllOwn, after_call, played_by}
-use Rattle.history_laws.proofs.{Alone.alone_by_entries, Alone.histories_sound, Steady.not_again}
+use Rattle.history_laws.proofs.{Limits.alone_by_entries, Limits.histories_sound, Steady.not_again}
 use Rattle.nic_device.specs.declared.event.Event.TheVariants as event
 
 -- What the agreement says of the packets that were handed out.
 
-packets_held : (out : List Piece) (v : Receive) (gone here : List Piece) → InOrder out v gone here
-    → packets_of out ≡ packets_had v ++ packets_behind (kept_of (still_held v)).bytes here
-packets_held out v gone here o = ap packets_of o.order ∙ o.cut here
-
 -- what was handed out is a beginning of what was delivered
 pub handed_first : (queue : ℕ) (s : State) (out : List Piece) (v : Receive) → Agree queue s out v
     → IsPrefixOf v.handed (packets_of out)
-handed_first queue s out v h1 = grind (arith, common_steps, packets_held, append_assoc)
+handed_first queue s out v h1 = grind (arith, common_steps, append_assoc)
 
 -- pieces of which none ends its packet make none
 none_whole : (front : List ℕ) (seen : List Told) (here : List Piece) → AreOpen seen → AreSeen seen here
@@ -55,7 +51,7 @@ all_taken queue s out v (gone, here, h) f =
       | inl more ↦ absurd (both_ways _ f.waits (t.done.1 more))
       | inr no_more ↦ no_more
     ] in
-    (grind (arith, common_steps, none_of, packets_held, none_whole, append-nil))
+    (grind (arith, common_steps, none_of, none_whole, append-nil))
 
 -- and where no packet is whole, all of it was handed out
 pub drained : (queue : ℕ) (s : State) (out : List Piece) (v : Receive) → Agree queue s out v → FindsNone s v

@@ -1,5 +1,5 @@
 -- A posted slot of the driver's ring is fetched.
-use Rattle.std.proofs.Common.{if◌then◌else◌, ◌*◌, ◌++◌, ◌+◌, ◌-◌, ◌<◌, ◌^◌, ◌∙◌, ◌∷◌, ◌≡◌, ◌≢◌, ◌≤◌, Bool, List, None}
+use Rattle.std.proofs.Common.{if◌then◌else◌, ◌*◌, ◌++◌, ◌+◌, ◌<◌, ◌^◌, ◌∙◌, ◌∷◌, ◌≡◌, ◌≢◌, ◌≤◌, Bool, List, None}
 use Rattle.history_laws.specs.Prelude.{Fetched, Memory, Ring, State, TransmitQueue, done_descriptor, first_half}
 use Rattle.history_laws.specs.Prelude.{has_block, is_empty, is_lent, is_outside, read_at, second_half, sending_of}
 use Rattle.nic_device.specs.TxRing.Fetch.{CanSend, Outcome, buffer_in, command_in, data_outcome, descriptor_of}

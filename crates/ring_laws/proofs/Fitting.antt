@@ -271,17 +271,14 @@ module _ (queue most : ℕ) (s : State) (out : List Piece) (v : Receive) (gone_b
   received = step_cases Step s (record {
     idle = none_written s.waiting fit.begun;
     dropped = λ w others e off.
-        leaves w others e (λ own. absurd (both_ways _ (subst (λ q. (receive_queue_of s.registers q).on ≡ false) own off)
-        up.on));
+        leaves w others e (λ own. (grind (arith, common_steps, both_ways)));
     slotless = dropped_leaves;
     tried = λ w others e tried answer is. answered w others e answer is tried.some (filled_by s w).memory;
   })
 
   stays : (e : Event Block) → WritesNoSetting s e → ResetsNoPool queue s e → Goes (after s e).waiting (pieces queue s e)
   stays event.RxStep none spares = received
-  stays e none spares =
-      none_written (after s e).waiting
-      (still_begun queue (2048 * n) s sound fit.begun e (inr (none, spares, up)) (λ is. cc))
+  stays e none spares = grind (arith, common_steps, none_written, still_begun)
 
 pub frames_stay_fitting : FramesStayFitting
 frames_stay_fitting queue most s out v e sound (gone, here, h) up fit none spares =

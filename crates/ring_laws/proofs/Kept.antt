@@ -2,7 +2,7 @@
 -- packets that it saw, and how the pieces are cut behind those that were consumed.
 pub use Rattle.ring_laws.proofs.Blocks.{inside_of}
 use Rattle.std.proofs.Common.{[], ◌*◌, ◌++◌, ◌+◌, ◌/◌, ◌<◌, ◌∙◌, ◌∷◌, ◌≡◌, ◌≤◌, ◌⊎◌, Bool, List, ap, append_assoc}
-use Rattle.ring_laws.specs.ReceivePrelude.{EachRingBlock, Kept, Layout, Lent, Looks, Packet, Receive, Stage, Takes}
+use Rattle.ring_laws.specs.ReceivePrelude.{EachRingBlock, Layout, Lent, Looks, Packet, Receive, Stage, Takes}
 use Rattle.ring_laws.specs.ReceivePrelude.{Told, block_at, descriptor_at, ended_of, extended, fresh_of, is_ring_block}
 use Rattle.ring_laws.specs.ReceivePrelude.{kept_of, left_of, names, next_stage, no_packet, posts, reach, records_of}
 use Rattle.ring_laws.specs.Joint.{AreCut, AreOpen, AreSeen, EndLast, HasSlots, InOrder, IsAt, IsFilled, IsNamed, IsOpen}
@@ -12,7 +12,7 @@ use Rattle.std.proofs.lemmas.Bool.{eq-eqb, eqb-true, or_cases, or_left, or_right
 use Rattle.std.proofs.{Math.Seq.take-append-add, Math.Seq.take-length, lemmas.Bool.Decides.nat_tests}
 use Rattle.std.proofs.{lemmas.Grind.common_steps, lemmas.List.Folds.list_any-append, lemmas.List.Folds.list_any_at}
 use Rattle.ring_laws.specs.{Joint.IsPosted, Joint.IsRing, Joint.Saw, Joint.StageHolds, Joint.packets_had}
-use Rattle.ring_laws.specs.{Joint.still_held, Pieces.Piece, Pieces.open_after, Pieces.packet_told}
+use Rattle.ring_laws.specs.{Joint.still_held, Pieces.Piece, Pieces.open_after}
 use Rattle.ring_laws.specs.{Pieces.packets_behind, Pieces.packets_of, Pieces.piece_at, ReceivePrelude.slot_at}
 use Rattle.ring_laws.specs.{ReceivePrelude.took, ReceivePrelude.wrapped, Steps.Each, Steps.IfFresh}
 use Rattle.history_laws.specs.Prelude.{Block, Memory, State, bytes_in, ends_packet, mode_in}
@@ -20,7 +20,7 @@ use Rattle.pmd_rx.proofs.{PmdSeam.Copying.bytes-more, PmdSeam.Rings.each_ring_bl
 use Rattle.pmd_rx.proofs.{PmdSeam.Rings.ring_block_is}
 use Rattle.std.specs.{List.list_any, Prelude.Bool, Prelude.slice_index, Prelude.◌==◌, Prelude.◌||◌}
 use Rattle.pmd_rx.specs.{Keeping.fresh_block, Keeping.has_lent, PmdSeam.Bufs.bytes_of, PmdSeam.Slots.ring_blocks}
-use Rattle.pmd_rx.specs.{Receive.consumed, Receive.if_any, Receive.joined}
+use Rattle.pmd_rx.specs.{Receive.consumed, Receive.joined}
 use Rattle.history_laws.proofs.Leaving.{named-same}
 use Rattle.ring_laws.proofs.Blocks.{Stays}
 
@@ -217,33 +217,14 @@ none_of (t ∷ ts) = (refl, refl)
 
 -- a part joins a packet
 
-joined_bytes : (p : Packet) (b : Block) (t : Told) → length (bytes_of p.bufs) ≡ p.len
-    → (kept_of (joined p b t)).bytes ≡ (kept_of p).bytes ++ take (bytes_in t.second) b.bytes
-joined_bytes p b t full = grind (arith, common_steps, bytes-more, take-append-add, take-length)
-
 joined_length : (p : Packet) (b : Block) (t : Told) → length (bytes_of p.bufs) ≡ p.len → length b.bytes ≡ 2048
     → bytes_in t.second ≡ 2048 → length (bytes_of (joined p b t).bufs) ≡ (joined p b t).len
 joined_length p b t full whole fills = grind (arith, common_steps, bytes-more, length-append)
-
-any_pushed : (bs : List Block) (b : Block) (p : Packet) → if_any (bs ++ b ∷ []) p ≡ p ∷ []
-any_pushed [] b p = refl
-any_pushed (c ∷ bs) b p = refl
 
 pub open_pushed : (n : ℕ) (ps : List Piece) (p : Piece)
     → open_after n (ps ++ p ∷ []) ≡ cond p.end 0 (open_after n ps + 1)
 open_pushed n [] p = refl
 open_pushed n (q ∷ ps) p = open_pushed (cond q.end 0 (n + 1)) ps p
-
--- what stands behind a piece that ends its packet, and behind one that doesn't
-
-behind_end : (front : List ℕ) (p : Piece) (rest : List Piece) → p.end ≡ true
-    → packets_behind front (p ∷ rest) ≡ packet_told (front ++ p.bytes) p.first ∷ packets_behind [] rest
-behind_end front p rest is = rw is refl
-
--- a packet is whole behind some
-put_before : (hs : List Kept) (ws : List Packet) (p : Packet) (ks : List Kept)
-    → (hs ++ records_of (ws ++ [])) ++ kept_of p ∷ ks ≡ (hs ++ records_of (ws ++ p ∷ [])) ++ ks
-put_before hs ws p ks = grind (arith, common_steps)
 
 -- a driver that is to take the parts that it saw
 abbrev pub taking : Receive → Told → List Told → Receive
@@ -252,28 +233,19 @@ taking v t ts = record v { seen = t ∷ ts; stage = Takes }
 -- the part of the next slot is taken
 module _ (out gone ps : List Piece) (v : Receive) (p : Piece) (t : Told) (b : Block)
     (bytes : take (bytes_in t.second) b.bytes ≡ p.bytes) (whole : length b.bytes ≡ 2048) where
-  kept_is : length (bytes_of v.held.bufs) ≡ v.held.len → Saw t p
-      → packet_told ((kept_of v.held).bytes ++ p.bytes) p.first ≡ kept_of (joined v.held b t)
-  kept_is full saw = grind (arith, common_steps, joined_bytes)
-
-  shift : (rest : List Piece) → packets_of ((gone ++ p ∷ []) ++ rest) ≡ packets_of (gone ++ p ∷ rest)
-  shift rest = ap (λ (xs : List Piece). packets_of xs) (append_assoc gone (p ∷ []) rest)
-
   -- before it was taken, by what was seen
   module _ (cut : (rest : List Piece)
       → packets_of (gone ++ rest)
       ≡ (v.handed ++ records_of (v.whole ++ [])) ++ packets_behind (kept_of v.held).bytes rest)
       (parts : open_after 0 gone ≡ length v.held.bufs) (full : length (bytes_of v.held.bufs) ≡ v.held.len)
       (saw : Saw t p) where
-    last_cut : p.end ≡ true → AreCut (gone ++ p ∷ []) (took v (t ∷ []) b)
-    last_cut end rest = grind (arith, common_steps, shift, behind_end, kept_is, put_before, any_pushed)
-
     more_cut : (u : Told) (ts : List Told) → p.end ≡ false → AreCut (gone ++ p ∷ []) (took v (t ∷ u ∷ ts) b)
-    more_cut u ts opens rest = grind (arith, common_steps, shift, joined_bytes)
+    more_cut u ts opens rest = grind (arith, common_steps, append_assoc, bytes-more, take-append-add, take-length)
 
     taken : (ts : List Told) → EndLast (t ∷ ts) → AreSeen ts ps → out ≡ gone ++ p ∷ ps
         → InOrder out (took v (t ∷ ts) b) (gone ++ p ∷ []) ps
-    taken [] last seen order = grind (arith, common_steps, open_pushed, last_cut, append_assoc)
+    taken [] last seen order =
+        grind (arith, common_steps, open_pushed, append_assoc, bytes-more, take-append-add, take-length)
     taken (u ∷ ts) last seen order =
         let opens : p.end ≡ false = sym saw.end_is ∙ last.0.goes_on in
         let more : open_after 0 gone + 1 ≡ length (v.held.bufs ++ b ∷ []) =

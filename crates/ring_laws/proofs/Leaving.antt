@@ -19,7 +19,7 @@ use Rattle.ring_laws.proofs.{ReceiveLent.unknown}
 use Rattle.nic_device.proofs.{Cases.either_way, Cases.lent_cases, DmaArena.Bus.get-insert_other}
 use Rattle.nic_device.proofs.{DmaArena.Bus.get-insert_same}
 use Rattle.pmd_rx.specs.{Receive.LendsNext, Receive.lent_one, Receive.looked, Receive.saw, Receive.told_by}
-use Rattle.pmd_rx.specs.{Wrong.is_healthy, Wrong.is_whole}
+use Rattle.pmd_rx.specs.{Wrong.is_healthy}
 use Rattle.history_laws.proofs.Lent.{anew_is_done}
 use Rattle.nic_device.specs.declared.event.Event.TheVariants as event
 use Rattle.std.specs.FinMap as map
@@ -155,10 +155,6 @@ module _ (queue : ℕ) (s : State) (out : List Piece) (v : Receive) (gone here :
       (subst (λ (n : ℕ). Fits most n (piece_at here k)) (let e : 0 + k ≡ k = omega arith in e)
       (next-fits most 0 v.seen here rest h.order.seen at.1 some))
 
-  pub whole_told : AllFit v.layout.most 0 out → v.stage ≡ Looks → (d : List ℕ) → TellsSlot here (length v.seen) d
-      → is_whole v d ≡ true
-  whole_told all looks d tells = grind (arith, common_steps, or_right, told_part, or_left)
-
 -- the driver's look at the slot behind those that it saw
 pub look_keeps : (queue : ℕ) (s : State) (out : List Piece) (v : Receive) (a : ℕ) → Agree queue s out v → PeeksNext v a
     → Driven queue s out v (event.Peek16 a)
@@ -169,7 +165,7 @@ look_keeps queue s out v a (gone, here, h) own =
     (looked_is s (reach v) here k h.ring h.slots (posted_in v k (let i = own.posted in omega (arith, i)))) (record {
       agree = λ i. (gone, here, looked_holds queue s out v gone here _ h own.stage tells);
       up = λ i up. up;
-      healthy = λ all anew. whole_told queue s out v gone here h all own.stage _ tells;
+      healthy = λ all anew. (grind (arith, common_steps, or_right, told_part, or_left));
     })
 
 -- A fresh block is lent.

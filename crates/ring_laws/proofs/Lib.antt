@@ -3,7 +3,6 @@ pub use Rattle.history_laws.proofs as HistoryLaws
 pub use Rattle.ring_laws.proofs.Fitting as Begun
 pub use Rattle.ring_laws.proofs.Kept as Parts
 pub use Rattle.ring_laws.proofs.TransmitLent as Packets
-pub mod Advancing
 pub mod Blocks
 pub mod Counting
 pub mod Delivering

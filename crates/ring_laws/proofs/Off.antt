@@ -6,7 +6,7 @@ use Rattle.std.proofs.{lemmas.Bool.cases_Bool, lemmas.List.length-drop}
 use Rattle.history_laws.proofs.{Deeds.side_did, DeviceLaws.StandingAccesses.write_memory, Leaving.plain-write}
 use Rattle.history_laws.proofs.{Leaving.transmit_left, Steady.asked, Steady.idle_silent, Steady.off_idle}
 use Rattle.history_laws.proofs.{Steady.off_steady, Steady.seen_off, Steady.steady_kept, Steady.unwanted_steady}
-use Rattle.ring_laws.specs.{Enable.EnableWordsKeep, Off.AllLeaveSide, Off.GuardIsOff, Off.IsOff, Off.IsUnwanted}
+use Rattle.ring_laws.specs.{Enable.EnableWordsKeep, Off.AllLeaveSide, Off.GuardIsOff, Off.IsOff}
 use Rattle.ring_laws.specs.{Off.LeavesSide, Off.OffStays, Sent.sent_in}
 use Rattle.ring_laws.proofs.Sparing.{sends_on, set_up-same, still-agrees}
 use Rattle.std.specs.FinMap as map

@@ -105,13 +105,10 @@ next_holds : (m : Memory) (l : Layout) (seen : List Told) → StageHolds m l (ne
 next_holds m l [] = tt
 next_holds m l (t ∷ ts) = tt
 
-names_had : (v : Receive) → packets_had v ≡ packets_had (names v)
-names_had v = grind (arith, common_steps, append-nil, twice v.seen v.held)
-
 order_named : (out gone here : List Piece) (v : Receive) → HasLent v.stage → InOrder out v gone here
     → InOrder out (names v) gone here
 order_named out gone here v lent o =
-    grind (arith, common_steps, order_same, names_had, twice v.seen v.held, next_at, end_last)
+    grind (arith, common_steps, order_same, append-nil, twice v.seen v.held, next_at, end_last)
 
 pub name_keeps : (queue : ℕ) (s : State) (out : List Piece) (v : Receive) (a : ℕ) (bytes : List ℕ)
     → Agree queue s out v → NamesNext v a bytes → Driven queue s out v (event.Poke16 a bytes)
@@ -150,10 +147,6 @@ name_keeps queue s out v a bytes (gone, here, h) own =
 abbrev many : Receive → ℕ → ℕ
 many v blocks = length (take blocks v.named)
 
--- the tail behind them is one of the ring's slots
-tail_low : (v : Receive) (blocks : ℕ) → IsRing (reach v) → tail_behind v.layout (many v blocks) < 65536
-tail_low v blocks ring = grind (arith, common_steps)
-
 -- the tail moves on over them, and so many packets are handed out
 module _ (v : Receive) (blocks packets : ℕ) where
   abbrev w : Receive
@@ -181,7 +174,7 @@ module _ (v : Receive) (blocks packets : ℕ) where
               assumption (named_kept s t queue v.layout (grind (arith, common_steps, word_at-put_other)) refl h.named);
           ring = subst IsRing same h.ring;
           side = subst (λ q. IsSetUp q w.layout (length here))
-              (sym (receive-tail s.registers queue to shape h.named.low (tail_low v blocks h.ring)))
+              (sym (receive-tail s.registers queue to shape h.named.low (grind (arith, common_steps))))
               (assumption (ap (slot_at v.layout) (sym (length-append v.layout.blocks (take blocks v.named)))));
           posted = omega (arith, h.posted, length-append v.layout.blocks (take blocks v.named));
           slots = subst (λ (l : Layout). HasSlots s.memory l here) same h.slots;
@@ -211,7 +204,7 @@ move_keeps queue s out v port number word (gone, here, h) own =
           subst (Agree queue (To word) out) (sym m.driver)
           (subst (λ x. Agree queue (To x) out (posts v m.blocks m.packets)) (sym m.word_is)
           (gone, here, posts_holds v m.blocks m.packets queue s out gone here i.registers.shape h));
-      up = (grind (arith, common_steps, receive-tail, moved_is, tail_low));
+      up = (grind (arith, common_steps, receive-tail, moved_is));
       healthy = λ all anew. refl;
     })
 
@@ -240,13 +233,13 @@ module _ (m : Memory) (l : Layout) (here : List Piece) (ring : IsRing l) (h : Ha
   desc_on : (k : ℕ) → k + 1 < l.size → descriptor_at (consumed l) k ≡ descriptor_at l (1 + k)
   desc_on k i = ap (λ x. 2048 * l.ring + 16 * x) (grind arith)
 
-  kept_stays : Stays l.ring l.size m without (λ j. ⊤) (λ b. map.get without b ≡ map.get m b)
-  kept_stays =
+  all_kept : Stays l.ring l.size m without (λ j. ⊤) (λ b. map.get without b ≡ map.get m b)
+  all_kept =
       same_stays l.ring l.size m without (λ k i. get-remove_other m (block_at l 0) (l.ring + k)
       (λ e. ring_block_apart l.ring l.size (block_at l 0) (ring.not_ring 0 outs) k i (sym e)))
 
-  kept_block : (k : ℕ) → 0 < k → k < length l.blocks → map.get without (block_at l k) ≡ map.get m (block_at l k)
-  kept_block k i j =
+  kept : (k : ℕ) → 0 < k → k < length l.blocks → map.get without (block_at l k) ≡ map.get m (block_at l k)
+  kept k i j =
       get-remove_other m (block_at l 0) (block_at l k) (ring.apart k 0 j outs (λ e. absurd (omega (arith, e, i))))
 
   pub ring_on : IsRing (consumed l)
@@ -254,16 +247,7 @@ module _ (m : Memory) (l : Layout) (here : List Piece) (ring : IsRing l) (h : Ha
 
   pub slots_on : HasSlots without (consumed l) (drop 1 here)
   slots_on =
-      record {
-        there = λ k i. kept_stays.has k i ∙ h.there k i;
-        within = omega (arith, fewer, less, h.within);
-        filled =
-            (λ k i.
-            grind (arith, common_steps, fewer, desc_on, block_on, piece_on, filled_stays, kept_stays, kept_block));
-        posted =
-            (λ k i j.
-            grind (arith, common_steps, less, desc_on, block_on, posted_stays, kept_stays, kept_block, fewer));
-      }
+      grind (arith, common_steps, fewer, less, desc_on, block_on, piece_on, filled_stays, all_kept, kept, posted_stays)
 
 -- the queue's side, by the posted slots
 module _ (l : Layout) (here : List Piece) (next : l.next < l.size) (room : length l.blocks < l.size)
@@ -305,8 +289,7 @@ take_next queue s out v n t ts (gone, here, h) own =
       agree = λ i.
           let size = i.blocks.whole.block (block_at l 0) there.0 there.1 in
           let here_is : take (bytes_in t.second) b.bytes ≡ (piece_at here 0).bytes =
-          packet_bytes s.memory (block_at l 0) there.0 (descriptor_at l 0) (piece_at here 0) (bytes_in t.second) there.1
-          size.size f (first_saw t ts here h.order.seen).len_is in (
+          (grind (arith, common_steps, packet_bytes, first_saw)) in (
             gone ++ piece_at here 0 ∷ [],
             drop 1 here,
             assumption (
@@ -327,8 +310,7 @@ pub take_keeps : (queue : ℕ) (s : State) (out : List Piece) (v : Receive) (n :
 take_keeps queue s out v n [] j own is = grind (arith, common_steps)
 take_keeps queue s out v n (t ∷ ts) j own is =
     let seeing : v ≡ taking v t ts = λ k. record v { seen = is k; stage = own.stage k } in
-    subst (λ (x : Receive). Driven queue s out x (event.Take n)) (sym seeing)
-    (take_next queue s out v n t ts (subst (λ (x : Receive). Agree queue s out x) seeing j) own.block)
+    (grind (arith, common_steps, take_next))
 
 -- Each event of the driver's own keeps the agreement, leaves a side up that is, and gets the reply of a healthy queue.
 

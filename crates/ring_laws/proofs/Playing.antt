@@ -1,39 +1,199 @@
 -- Each move of the driver's keeps what it and the device agree on, and its replies are those of a healthy queue.
-use Rattle.std.proofs.Common.{[], ◌++◌, ◌+◌, ◌-◌, ◌<◌, ◌∷◌, ◌≡◌, ◌≢◌, ◌≤◌, List, ap, arith, drop, length, refl, subst}
-use Rattle.history_laws.specs.Prelude.{Block, Event, Memory, State, TransmitQueue, Tx, after, reply_to, step_of}
+use Rattle.std.proofs.Common.{[], if◌then◌else◌, ◌++◌, ◌+◌, ◌-◌, ◌<◌, ◌∙◌, ◌∷◌, ◌≡◌, ◌≢◌, ◌≤◌, Bool, List, ap, arith}
+use Rattle.history_laws.specs.Prelude.{Block, Event, Memory, Outcome, Port, State, Tdt, TransmitQueue, Tx}
+use Rattle.history_laws.specs.Prelude.{WritesNoSetting, after, after_write, gives, named_written, place, read_at}
 use Rattle.ring_laws.specs.TransmitPrelude.{Accepts, Advances, Asks, Elsewhere, IsOwn, Kept, Lends, Looks, MayAccept}
-use Rattle.ring_laws.specs.TransmitPrelude.{Move, Outgoing, Reaps, Segment, Sender, moved, no_segment, segment_at}
+use Rattle.ring_laws.specs.TransmitPrelude.{Move, Outgoing, Reaps, Segment, Sender, asking, descriptor_at, first_end}
+use Rattle.ring_laws.proofs.Blocks.{Stays, descriptor-later, later-layout, ready_stays, same_stays, slot-apart}
+use Rattle.ring_laws.specs.Agreeing.{Agrees, AgreesAt, IsBased, IsCounted, IsLayout, IsSetUp, SendsInOrder}
 use Rattle.ring_laws.proofs.TransmitLent.{count-accepted, counted-lent, early-accepted, first_at, known-accepted}
-use Rattle.ring_laws.specs.Agreeing.{Agrees, AgreesAt, IsBased, IsCounted, IsLayout, IsReady, IsSetUp, SendsInOrder}
-use Rattle.std.proofs.{Common.true, Common.ℕ, lemmas.Grind.common_steps, lemmas.List.append-nil}
-use Rattle.std.proofs.{lemmas.List.length-drop}
-use Rattle.history_laws.specs.Prelude.{transmit_queue_of}
+use Rattle.std.proofs.{Common.drop, Common.false, Common.inl, Common.inr, Common.length, Common.refl, Common.subst}
+use Rattle.std.proofs.{Common.sym, Common.true, Common.ℕ, lemmas.Bool.both_ways, lemmas.Bool.cases_Bool}
+use Rattle.std.proofs.{lemmas.Grind.common_steps, lemmas.List.append-nil, lemmas.List.length-drop}
+use Rattle.history_laws.specs.Prelude.{reply_to, ring_of, step_of, transmit_queue_of, write_at}
+use Rattle.ring_laws.specs.TransmitPrelude.{is_sent, moved, no_segment, segment_at, segments_of, slot_at}
 use Rattle.ring_laws.specs.{Agreeing.Shows, Laws.MovesKeep, Sent.sent_by, TransmitHealthy.LendsAnew}
-use Rattle.ring_laws.specs.{TransmitHealthy.OwnRepliesAreHealthy, TransmitPrelude.segments_of, TransmitUp.IsUp}
-use Rattle.ring_laws.specs.{TransmitUp.UpStays, Turns.MayMove}
-use Rattle.ring_laws.proofs.Blocks.{Stays, descriptor-later, later-layout, ready_stays, same_stays, slot-below}
-use Rattle.ring_laws.proofs.Advancing.{Keeps, Moves, advance_one, ask_one, by_outcome, look_one}
-use Rattle.ring_laws.proofs.{Sparing.based-after, Sparing.never-shuts, Sparing.spared_did, Sparing.spares-keeps}
+use Rattle.ring_laws.specs.{TransmitHealthy.OwnRepliesAreHealthy, TransmitUp.IsUp, TransmitUp.UpStays, Turns.MayMove}
+use Rattle.ring_laws.proofs.Sparing.{Does, based-after, counted-on, never-shuts, sends_on, spared_did, spares-keeps}
+use Rattle.ring_laws.proofs.{Blocks.slot-below, Blocks.slot_looked, Blocks.slot_poked, Blocks.written_here}
+use Rattle.ring_laws.proofs.{Blocks.written_stays, Fetching.asking-waits, Fetching.done-sent, Fetching.length-asking}
 use Rattle.ring_laws.proofs.{TransmitLent.sends-accepted, TransmitLent.shows-lent}
-use Rattle.std.specs.Prelude.{slice_index_or, ⊤}
 use Rattle.nic_device.proofs.{Cases.lent_cases, DmaArena.Bus.get-remove_other, DmaArena.Bus.of_some}
+use Rattle.nic_device.proofs.{DmaArena.Bus.small_of_lent}
+use Rattle.pmd_tx.specs.Sending.{MayLend, advanced, asked, is_healthy, looked, reaped}
+use Rattle.std.specs.Prelude.{slice_index_or, ⊤}
+use Rattle.history_laws.proofs.{Leaving.plain-write, Lent.anew_is_done, Lent.taken_is, Steady.up_kept}
+use Rattle.history_laws.proofs.{Written.transmit-tail}
 use Rattle.pmd_tx.proofs.PmdSeam.Rings.{ring_block_apart}
-use Rattle.pmd_tx.specs.Sending.{MayLend, is_healthy, reaped}
-use Rattle.history_laws.proofs.{Lent.anew_is_done, Lent.taken_is, Steady.up_kept}
-use Rattle.std.specs.FinMap as fin
 use Rattle.nic_device.specs.declared.event.Event.TheVariants as event
+use Rattle.nic_device.specs.declared.event.Reply.TheVariants as reply
+use Rattle.std.specs.FinMap as fin
+
+-- The driver's writes of the tail keep what it and the device agree on.
+
+abbrev IsLast : List Segment → ℕ → Type 0
+IsLast ss k = (slice_index_or ss k no_segment).part.last ≡ true
+
+pub end-last : (ss : List Segment) → first_end ss < length ss → IsLast ss (first_end ss)
+end-last [] below = absurd (omega arith)
+end-last (x ∷ ss) below = elim (cases_Bool x.part.last) as (λ _. IsLast (x ∷ ss) (first_end (x ∷ ss))) [
+  | inl last ↦ rw last refl
+  | inr other ↦ rw other (grind (arith, common_steps, end-last ss))
+]
+
+module _ {s : State} {queue : ℕ} {sent : List (List ℕ)} {v : Sender} {f : ℕ} (h : AgreesAt s queue sent v f) where
+  -- the tail is written
+
+  abbrev slot : ℕ
+  slot = slot_at v.layout v.poked
+
+  abbrev t : State
+  t = record s { registers = after_write s.registers (place Tdt queue) 0xFFFFFFFF slot }
+
+  pub written_tail : (port : Port) (n word : ℕ) → IsOwn v Advances (event.Write port n word)
+      → step_of s (event.Write port n word) ≡ gives reply.Done t
+  unfolding step_of
+  written_tail port n word own = rw (own.2, own.3, own.4) (ap (λ m. named_written s m slot) h.based.tail)
+
+  -- the side has that tail, and is else as it was
+  side_moved :
+      transmit_queue_of t.registers queue
+      ≡ record (transmit_queue_of s.registers queue) { ring = record (ring_of s.registers Tx queue) { tail = slot } }
+  side_moved =
+      let c = h.counted in
+      let below = slot-below v.layout h.based.layout v.poked (omega (arith, c.poked_lent, c.lent_known, c.room)) in
+      (grind (arith, common_steps, transmit-tail))
+
+  tail_keeps : IsBased t queue v.layout → AgreesAt t queue sent (advanced v) f
+  tail_keeps based = record {
+    based = based;
+    set_up = subst (λ q. IsSetUp q v.layout v.poked f) (sym side_moved) (assumption h.set_up);
+    counted =
+        counted-on v f f v.done v.poked v.poked h.counted h.counted.done_fetched
+        (omega (arith, h.counted.fetched_posted, h.counted.posted_poked)) (omega arith) h.counted.poked_lent;
+    shows = assumption h.shows;
+    sends = sends_on s t queue sent v.layout.limit (drop f v.outstanding) v.accepted refl
+        (grind (arith, common_steps, side_moved)) h.sends;
+  }
+
+  -- a move by its outcome, as the event is written otherwise, which writes no setting
+
+  abbrev pub Moves : Move → Event Block → Type 0
+  Moves m e = Does queue s sent v m e (step_of s e)
+
+  abbrev pub Keeps : Move → Outcome → Type 0
+  Keeps m o = IsBased o.state queue v.layout → Agrees o.state queue sent (moved v m o.reply)
+
+  pub by_outcome : (m : Move) (e d : Event Block) (o : Outcome) → e ≡ d → step_of s d ≡ o → WritesNoSetting s d
+      → Keeps m o → (IsUp queue s → IsUp queue o.state) → is_healthy m o.reply ≡ true → Moves m e
+  by_outcome m e d o same is none keeps up healthy =
+      rw (same, is) (record {
+        agree = λ made.
+            keeps (subst (λ (u : Outcome). IsBased u.state queue v.layout) is
+            (based-after s queue v.layout d h.based made none));
+        up = up;
+        healthy = λ anew. healthy;
+      })
+
+  pub advance_one : (port : Port) (n word : ℕ) → IsOwn v Advances (event.Write port n word)
+      → Moves Advances (event.Write port n word)
+  advance_one port n word own =
+      by_outcome Advances (event.Write port n word) (event.Write port n word) _ refl (written_tail port n word own)
+      (plain-write s port n word (place Tdt queue) 0xFFFFFFFF (rw (own.2, own.3) h.based.tail) refl)
+      (λ based. (f, tail_keeps based)) (grind (arith, common_steps, side_moved)) refl
+
+  -- the descriptor of the next segment is written
+
+  module _ (more : v.poked < v.lent) where
+    abbrev x : Segment
+    x = segment_at v v.poked
+
+    abbrev new : Memory
+    new = write_at s.memory (descriptor_at v.layout v.poked) (asking x)
+
+    here : slot < v.layout.size
+    here = slot-below v.layout h.based.layout v.poked (omega arith)
+
+    stays : Stays v.layout.ring v.layout.size s.memory new (λ j. j ≢ slot) (λ b. ⊤)
+    stays = written_stays v.layout.ring v.layout.size slot here s.memory (asking x) (length-asking x)
+
+    other : (k : ℕ) → k < v.poked
+        → read_at new (descriptor_at v.layout k) 16 ≡ read_at s.memory (descriptor_at v.layout k) 16
+    other k before = grind (arith, stays, slot-below, slot-apart)
+
+    shows-asked : Shows new (asked v) f
+    shows-asked = grind (arith, stays, ready_stays, other, written_here, here, length-asking)
+
+  pub ask_one : (a : ℕ) (bytes : List ℕ) → IsOwn v Asks (event.Poke16 a bytes) → Moves Asks (event.Poke16 a bytes)
+  ask_one a bytes own =
+      let more : v.poked < v.lent = own.0 in
+      by_outcome Asks (event.Poke16 a bytes)
+      (event.Poke16 (descriptor_at v.layout v.poked) (asking (segment_at v v.poked))) _
+      (λ k. event.Poke16 (own.1 k) (own.2 k))
+      (slot_poked v.layout.ring v.layout.size slot (here more) s (asking (segment_at v v.poked)) h.shows.ring) tt
+      (λ based. (
+        f,
+        assumption (
+          counted-on v f f v.done v.posted (v.poked + 1) h.counted h.counted.done_fetched h.counted.fetched_posted
+              (omega (arith, h.counted.posted_poked)) (omega (arith, more)),
+          shows-asked more,
+        ),
+      )) (λ up. up) refl
+
+  -- a look tells whether the oldest packet was sent
+
+  abbrev end : ℕ
+  end = first_end v.outstanding
+
+  abbrev descriptor : List ℕ
+  descriptor = read_at s.memory (descriptor_at v.layout end) 16
+
+  module _ (posted : end < v.posted) where
+    known : end < v.lent
+    known = omega (arith, h.counted.posted_poked, h.counted.poked_lent)
+
+    last : (segment_at v end).part.last ≡ true
+    last = end-last v.outstanding (omega (arith, known, h.counted.lent_known))
+
+    -- a look at the end of the oldest outstanding packet answers that descriptor's bytes and changes nothing
+    pub look : step_of s (event.Peek16 (descriptor_at v.layout end)) ≡ gives (reply.Bytes descriptor) s
+    look = grind (arith, slot_looked, slot-below, known)
+
+    -- and tells whether it was fetched
+    pub look-fetched : end < f → is_sent descriptor ≡ true
+    look-fetched before = grind (arith, known, small_of_lent, last, done-sent)
+
+    pub look-waits : f ≤ end → is_sent descriptor ≡ false
+    look-waits none = grind (arith, known, asking-waits)
+
+    pub look-tells : (bytes : List ℕ)
+        → (step_of s (event.Peek16 (descriptor_at v.layout end))).reply ≡ reply.Bytes bytes → bytes ≡ descriptor
+    look-tells bytes told =
+        let same : reply.Bytes bytes ≡ reply.Bytes descriptor = sym told ∙ ap (λ (o : Outcome). o.reply) look in cc
+
+    -- those that are told to be done were fetched
+    done_tells : (b : Bool) → is_sent descriptor ≡ b → (if b then end + 1 else 0) ≤ f
+    done_tells true is = grind (arith, common_steps, both_ways, look-waits)
+    done_tells false is = omega arith
+
+  pub look_one : (a : ℕ) → IsOwn v Looks (event.Peek16 a) → Moves Looks (event.Peek16 a)
+  look_one a own =
+      by_outcome Looks (event.Peek16 a) (event.Peek16 (descriptor_at v.layout end)) _ (ap event.Peek16 own.1)
+      (look own.0) tt (λ based. (
+        f,
+        assumption (
+          counted-on v f f (looked v descriptor).done v.posted v.poked h.counted
+              (done_tells own.0 (is_sent descriptor) refl) h.counted.fetched_posted h.counted.posted_poked
+              h.counted.poked_lent,
+          h,
+        ),
+      )) (λ up. up) refl
 
 -- The oldest segment is let go, which was fetched: its block is taken back.
 
 module _ (v : Sender) (g : ℕ) (l : IsLayout v.layout) (c : IsCounted v (g + 1)) where
   pub behind : (k : ℕ) → segment_at (reaped v) k ≡ segment_at v (k + 1)
   behind k = grind arith
-
-  fewer : length (drop 1 v.outstanding) ≡ length v.outstanding - 1
-  fewer = length-drop 1 v.outstanding
-
-  posted : g + 1 < v.layout.size
-  posted = omega (arith, c.fetched_posted, c.posted_poked, c.poked_lent, c.lent_known, c.room)
 
   oldest : 0 < v.lent
   oldest = omega (arith, c.fetched_posted, c.posted_poked, c.poked_lent)
@@ -43,7 +203,7 @@ module _ (v : Sender) (g : ℕ) (l : IsLayout v.layout) (c : IsCounted v (g + 1)
   set_up-reaped side u = grind arith
 
   pub counted-reaped : IsCounted (reaped v) g
-  counted-reaped = grind (arith, common_steps, fewer, behind)
+  counted-reaped = grind (arith, common_steps, length-drop 1 v.outstanding, behind)
 
   -- the same are left
   pub dropped : drop (g + 1) v.outstanding ≡ drop g (drop 1 v.outstanding)
@@ -55,23 +215,20 @@ module _ (v : Sender) (g : ℕ) (l : IsLayout v.layout) (c : IsCounted v (g + 1)
     abbrev pub without : Memory
     without = fin.remove m (segment_at v 0).block
 
-    stays : Stays v.layout.ring v.layout.size m without (λ j. ⊤) (λ b. fin.get without b ≡ fin.get m b)
-    stays =
-        let x = segment_at v 0 in
+    kept : Stays v.layout.ring v.layout.size m without (λ j. ⊤) (λ b. fin.get without b ≡ fin.get m b)
+    kept =
         same_stays v.layout.ring v.layout.size m without
         (grind (arith, common_steps, ring_block_apart, oldest, get-remove_other))
 
-    other_block : (k : ℕ) → k + 1 < v.lent → IsReady without v.layout.ring v.layout.size (segment_at v (k + 1))
-    other_block k there = grind (arith, common_steps, ready_stays, stays, get-remove_other, oldest)
-
     pub shows-reaped : Shows without (reaped v) g
-    shows-reaped = grind (arith, common_steps, stays, behind, other_block, descriptor-later, slot-below, posted)
+    shows-reaped =
+        grind (arith, common_steps, kept, behind, ready_stays, get-remove_other, oldest, descriptor-later, slot-below)
 
 -- The driver's own moves that lend a block and take one back keep what it and the device agree on.
 
 module _ {s : State} {queue : ℕ} {sent : List (List ℕ)} {v : Sender} {f : ℕ} (h : AgreesAt s queue sent v f) where
-  known : f ≤ length v.outstanding
-  known = let c = h.counted in omega (arith, c.fetched_posted, c.posted_poked, c.poked_lent, c.lent_known)
+  fetched_known : f ≤ length v.outstanding
+  fetched_known = let c = h.counted in omega (arith, c.fetched_posted, c.posted_poked, c.poked_lent, c.lent_known)
 
   -- a block is lent for a segment, the next one of these, which begin with those that are lent
   lent_agrees : (x : Segment) (b : Block) → MayLend v x b → (ss : List Segment) (ks : List Kept)
@@ -100,7 +257,7 @@ module _ {s : State} {queue : ℕ} {sent : List (List ℕ)} {v : Sender} {f : �
         (lent_agrees (slice_index_or (segments_of p) 0 no_segment) b may.first (v.outstanding ++ segments_of p)
         (v.accepted ++ p.kept ∷ []) (early-accepted v p b may) (first_at v p may.lent)
         (omega (arith, count-accepted v p b may, may.room)) (known-accepted v p b may)
-        (sends-accepted v p b may f known sent s queue h.sends))
+        (sends-accepted v p b may f fetched_known sent s queue h.sends))
         (based-after s queue v.layout (event.Lend b) h.based made tt);
     up = λ up. lent_cases (λ o. IsUp queue o.state) s b up up;
     healthy = λ anew. ap (is_healthy (Accepts p)) (anew_is_done s b anew);

@@ -1,24 +1,18 @@
 -- The blocks that the driver has lent for receiving, after each of its calls.
-use Rattle.std.proofs.Common.{[], ◌++◌, ◌<◌, ◌||◌, ◌∷◌, ◌≡◌, ◌≢◌, Bool, List, append_assoc, arith, drop, false, length}
-use Rattle.std.proofs.{Common.refl, Common.sym, Common.true, Common.ℕ, lemmas.Bool.eqb-true, lemmas.Bool.ne_eqb}
+use Rattle.std.proofs.Common.{[], ◌<◌, ◌∷◌, ◌≡◌, ◌≢◌, List, append_assoc, arith, false, length}
+use Rattle.std.proofs.{Common.refl, Common.sym, Common.ℕ, lemmas.Bool.eqb-true, lemmas.Bool.ne_eqb}
 use Rattle.std.proofs.{lemmas.Bool.or_cases, lemmas.Bool.or_from, lemmas.Bool.or_right, lemmas.Grind.common_steps}
-use Rattle.ring_laws.specs.ReceivePrelude.{IsOwn, LendsAnew, Lent, Receive, Stage, Takes, Told, drive, took}
+use Rattle.ring_laws.specs.ReceivePrelude.{IsOwn, LendsAnew, Lent, Receive, Stage, Told, drive}
 use Rattle.ring_laws.specs.{ReceiveLent.OwnLendsAreKnown, Steps.Each}
 use Rattle.std.specs.Prelude.{◌==◌, IsTrue, slice_index, suc}
 use Rattle.history_laws.specs.{Lent.LendsOneOf, Lent.LendsOwn, Lent.OnlyLent, Lent.either, Prelude.Block}
 use Rattle.history_laws.specs.{Prelude.Blocks, Prelude.Event, Prelude.Reply, Prelude.State}
-use Rattle.pmd_rx.specs.{Keeping.fresh_block, Keeping.has_lent, Receive.CanLend, Receive.LendsNext, Receive.lent_one}
+use Rattle.pmd_rx.specs.{Keeping.fresh_block, Keeping.has_lent, Receive.CanLend, Receive.LendsNext}
 use Rattle.history_laws.proofs.Lent.{Follows, follows_in, follows_known, only_lent_stays, or_swap}
 use Rattle.ring_laws.proofs.Kept.{among, parted, ring_of, slots_of}
 use Rattle.nic_device.specs.declared.event.Event.TheVariants as event
 
 -- Which blocks the driver has lent for receiving, after each of its calls.
-
-among-insert : (xs ys : List ℕ) (b n : ℕ) → among (xs ++ b ∷ ys) n ≡ (n == b || among (xs ++ ys) n)
-among-insert xs ys b n = grind (arith, common_steps, or_swap, among)
-
-in_rest : (xs ys : List ℕ) (n : ℕ) → n ≢ slice_index xs 0 → among (xs ++ ys) n ≡ true → among (drop 1 xs ++ ys) n ≡ true
-in_rest xs ys n h1 h2 = grind (arith, common_steps, or_cases, among, eqb-true)
 
 in_none : (xs : List ℕ) (n : ℕ) → ((k : ℕ) → k < length xs → slice_index xs k ≢ n) → among xs n ≡ false
 in_none [] n none = refl
@@ -26,30 +20,17 @@ in_none (x ∷ xs) n none =
     or_from (n == x) (among xs n) (ne_eqb n x (λ e. none 0 (omega arith) (sym e)))
     (in_none xs n (λ k i. none (suc k) (omega (arith, i))))
 
-module _ (v : Receive) (n : ℕ) where
-  -- these slots' blocks, and a fresh one
-  abbrev Had : List ℕ → List ℕ → Bool
-  Had slots fresh = among (slots ++ (fresh ++ ring_of v)) n
+-- a fresh block is lent
 
-  -- without the first block
-  took_has : (seen : List Told) (taken : ℕ) (b : Block) → v.stage ≡ Takes → taken ≡ slice_index v.layout.blocks 0
-      → (n ≢ taken → has_lent v n ≡ true → has_lent (took v seen b) n ≡ true)
-      × (has_lent (took v seen b) n ≡ true → has_lent v n ≡ true)
-  took_has seen taken b h1 h2 = grind (arith, common_steps, among, ring_of, slots_of, append_assoc, in_rest, or_right)
-
-  -- a fresh block is lent
-
-  lend_block : (stage : Stage) (seen : List Told) → CanLend stage seen → fresh_block stage ≡ []
-  lend_block (Lent b) seen can = absurd can
-  lend_block other seen can = refl
-
-  is_lent_one : (b : Block) → LendsNext v b → has_lent (lent_one v b.number) n ≡ (n == b.number || has_lent v n)
-  is_lent_one b own = grind (arith, common_steps, among-insert, slots_of, ring_of)
+lend_block : (stage : Stage) (seen : List Told) → CanLend stage seen → fresh_block stage ≡ []
+lend_block (Lent b) seen can = absurd can
+lend_block other seen can = refl
 
 module _ (v : Receive) where
   follows : (e : Event Block) → IsOwn v e → (r : Reply Block) (n : ℕ)
       → Follows (has_lent v) (has_lent (drive v e r)) e r n
-  follows e h1 r n = grind (arith, common_steps, took_has, is_lent_one)
+  follows e h1 r n =
+      grind (arith, common_steps, or_swap, among, slots_of, ring_of, append_assoc, or_cases, eqb-true, or_right)
 
   -- a block that may be lent isn't lent yet
   pub unknown : (b : Block) → LendsNext v b → has_lent v b.number ≡ false

@@ -51,8 +51,7 @@ module _ {queue : ℕ} {s : State} {out : List Piece} {v : Receive} {gone here :
   inside = grind (arith, common_steps)
 
   pub head_is : head_address own.ring ≡ descriptor_at l (length here)
-  head_is = address_small _ _ l.ring (slot_at l (length here)) h.side.base h.side.head
-      (ring_low l h.ring) (slot_low l (length here) h.ring h.slots.within)
+  head_is = grind (arith, common_steps, address_small, ring_low, slot_low)
 
   first_waits : HasRoom → IsPosted s.memory (descriptor_at l (length here)) (block_at l (length here))
   first_waits room = h.slots.posted (length here) (omega arith) (posted_below v (length here) room)
@@ -173,9 +172,6 @@ module _ {queue : ℕ} {s : State} {out : List Piece} {v : Receive} {gone here :
   more = length_push here p
 
   -- the slots beside it and their blocks stay
-  slot_beside : (k : ℕ) → k < length r.blocks → k ≢ length here → slot_at r k ≢ slot_at r (length here)
-  slot_beside k i ne = grind (arith, wrapped_apart, low)
-
   filled_more : (k : ℕ) → k < length (here ++ p ∷ []) → (k < length here) ⊎ (length here ≤ k)
       → IsFilled n (descriptor_at r k) (block_at r k) (piece_at (here ++ p ∷ []) k)
   filled_more k i (inl before) =
@@ -183,7 +179,7 @@ module _ {queue : ℕ} {s : State} {out : List Piece} {v : Receive} {gone here :
       let j : k < length r.blocks = omega (arith, low, before) in
       subst (IsFilled n (descriptor_at r k) (block_at r k)) (sym (get_or_append_left here (p ∷ []) no_piece k before))
       (filled_stays h.ring fill.stays k (block_at r k) (piece_at here k) (omega (arith, j)) (h.ring.not_ring k j)
-      (slot_beside k j ne) (h.ring.apart k (length here) j low ne) (h.slots.filled k before))
+      (grind (arith, wrapped_apart, low)) (h.ring.apart k (length here) j low ne) (h.slots.filled k before))
   filled_more k i (inr high) =
       let e : k ≡ length here = omega (arith, more, i, high) in
       rw (e, get_or_push here p no_piece (length here) refl) fill.filled
@@ -195,7 +191,7 @@ module _ {queue : ℕ} {s : State} {out : List Piece} {v : Receive} {gone here :
     filled = λ k i. filled_more k i (cases_lt k (length here));
     posted = λ k i j.
         let ne : k ≢ length here = λ e. absurd (omega (arith, more, i, e)) in
-        posted_stays h.ring fill.stays k (block_at r k) (omega (arith, j)) (slot_beside k j ne)
+        posted_stays h.ring fill.stays k (block_at r k) (omega (arith, j)) (grind (arith, wrapped_apart, low))
         (h.ring.apart k (length here) j low ne) (h.slots.posted k (omega (arith, more, i)) j);
   }
 

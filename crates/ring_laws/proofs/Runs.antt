@@ -19,7 +19,7 @@ use Rattle.history_laws.proofs.{DeviceLaws.Standing.stays_within, DeviceLaws.Sta
 use Rattle.history_laws.proofs.{Leaving.left-setting, Leaving.left-side, Leaving.left_transmit, Leaving.step_is}
 use Rattle.std.specs.Prelude.{IsTrue, slice_index_or}
 use Rattle.pmd_tx.specs.Plays.{played_by}
-use Rattle.ring_laws.proofs.{Advancing.end-last, Advancing.look-fetched, Advancing.look-tells, Playing.move-keeps}
+use Rattle.ring_laws.proofs.{Playing.end-last, Playing.look-fetched, Playing.look-tells, Playing.move-keeps}
 use Rattle.ring_laws.proofs.{Sparing.spares-keeps, TransmitLent.AreMine, TransmitLent.frame_of_end}
 use Rattle.ring_laws.proofs.{TransmitLent.mine-moved}
 
@@ -177,8 +177,7 @@ played-turns pass v (m ∷ moves) (e ∷ es) =
 
 pub sent_is_prefix_of_taken : SentIsPrefixOfTaken
 sent_is_prefix_of_taken pass queue s v moves h agreed legal may =
-    let ts = turns_of pass moves h in
-    (grind (arith, common_steps, entries-turns, played-turns, sent_is_prefix))
+    grind (arith, common_steps, entries-turns, played-turns, sent_is_prefix)
 
 -- A history that leaves the queue of a driver alone may run, and so what is sent is a prefix of what was accepted.
 

@@ -3,13 +3,13 @@ use Rattle.std.{proofs.lemmas.Bool.both_ways, proofs.lemmas.Grind.common_steps, 
 use Rattle.std.proofs.Common.{[], ◌%◌, ◌*◌, ◌+◌, ◌<◌, ◌∷◌, ◌≡◌, ◌≢◌, ◌≤◌, List, ℕ, ap, arith, false, refl, rules, subst}
 use Rattle.std.proofs.Common.{sym, true}
 use Rattle.pmd.specs.{PmdSeam.Frames.most_blocks, Running.Running, Started.AreUp}
-use Rattle.driver_laws.proofs.{Ground.ground_names, Made.extends, Made.made_some, Made.some_made, Reached.sound_at}
+use Rattle.driver_laws.proofs.{Ground.ground_names, SwitchedOff.quiet_sides_stand, SwitchedOff.quieting_leads}
 use Rattle.driver_laws.proofs.Points.{At, accesses_at, laid_with, prepared_at, unused_kept}
 use Rattle.driver_laws.proofs.Prelude.{AreUnused, AtCalls, AtEntries, BeforeLast, HasGround, IsAlong, IsPlain, IsSized}
 use Rattle.driver_laws.proofs.Prelude.{Point, Sides, after_accesses}
+use Rattle.driver_laws.proofs.Reached.{extends, made_some, some_made, sound_at}
 use Rattle.driver_laws.proofs.StopCalls.{Has, IsLentBy, has_more, lending, lent_along, prepared_has, prepared_plain}
 use Rattle.driver_laws.proofs.StopCalls.{ring_in, stays_in, stays_some}
-use Rattle.driver_laws.proofs.SwitchedOff.{quiet_sides_stand, quieting_leads}
 use Rattle.driver_laws.proofs.Switching.{came_up, comes_up, fresh_receive_agrees, fresh_transmit_agrees, laid, may_lay}
 use Rattle.driver_laws.proofs.Switching.{may_switch, switching}
 use Rattle.driver_laws.specs.{Quieting.are_off, Start.BeginsWell, Start.StartAgrees, Start.StartGoesOn, Unused.WentOn}

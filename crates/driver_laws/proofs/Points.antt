@@ -6,16 +6,16 @@ use Rattle.std.proofs.Common.{arith, cond, false, not, option_map, refl, rules, 
 use Rattle.std.specs.{List.range_with_len, Prelude.IsTrue, Prelude.⊤}
 use Rattle.nic_device.proofs.DmaArena.Bus.{get-insert_other, get-insert_same}
 use Rattle.ring_laws.{proofs.HistoryLaws.Lent.not_so, specs.HistoryLaws.Left.IsSilent as RestsSilent}
-use Rattle.driver_laws.proofs.{Parts.ends_some, StopCalls.IsLentBy, StopCalls.and_all, StopCalls.lending}
+use Rattle.driver_laws.proofs.{Parts.ends_some, Words.driven, Words.each_side, Words.side_driven, Words.words_taken}
 use Rattle.driver_laws.proofs.Ground.{ground_names, ground_same, plain_keeps}
-use Rattle.driver_laws.proofs.Made.{OfCall, access_before, access_leads, made_some, some_made}
 use Rattle.driver_laws.proofs.Prelude.{AllMay, AreUnused, AtEntries, IsAlong, IsIdle, IsZero, Leads, Outcome, Piece}
 use Rattle.driver_laws.proofs.Prelude.{Point, Sides, Stand, Stands, across, after_access, after_accesses, and_one}
 use Rattle.driver_laws.proofs.Prelude.{begun_stays, idle_silent, idle_steady, left_deed, left_did, lent_cases}
 use Rattle.driver_laws.proofs.Prelude.{queues_left, read_rest, seen_by, sent_is_counted, side_seen, side_with}
 use Rattle.driver_laws.proofs.Prelude.{since-append, steady_kept, step_of, told_on}
-use Rattle.driver_laws.proofs.Reached.{KeptOver, LeadsNext, added_before, added_leads, reached_next, state_next}
-use Rattle.driver_laws.proofs.Words.{driven, each_side, side_driven, words_taken}
+use Rattle.driver_laws.proofs.Reached.{KeptOver, LeadsNext, OfCall, access_before, access_leads, added_before}
+use Rattle.driver_laws.proofs.Reached.{added_leads, made_some, reached_next, some_made, state_next}
+use Rattle.driver_laws.proofs.StopCalls.{IsLentBy, and_all, lending}
 use Rattle.driver_laws.specs.{Points.AccessesLead, Points.May, Standing.IsLeft, Standing.StandingSidesAreLeft}
 use Rattle.driver_laws.specs.Moves.{LendStands, MayGoOn, ReadStands, WriteStands}
 use Rattle.driver_laws.specs.Prelude.{Access, AreMade, AtPort, Block, Blocks, Call, Dir, EachRingBlock, Entry, Event}

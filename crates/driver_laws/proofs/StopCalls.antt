@@ -1,20 +1,19 @@
 -- Calls of a kind, one after the other and with steps of the device beside them: those of a driver's accesses, made or
 -- failed, those that lend its blocks, and those of its stop; and which blocks a pass lends by them.
-use Rattle.std.proofs.{lemmas.Bool.eq-eqb, lemmas.Bool.or_left, lemmas.Bool.or_right, lemmas.List.append-nil}
+use Rattle.std.proofs.{lemmas.Grind.common_steps, lemmas.List.append-nil}
 use Rattle.std.proofs.Common.{[], ◌++◌, ◌+◌, ◌-◌, ◌<◌, ◌∙◌, ◌∷◌, ◌≡◌, ◌≢◌, Bool, List, ℕ, ap, append_assoc, arith}
 use Rattle.std.proofs.Common.{false, inl, inr, refl, rules, subst, suc, sym, true, zero}
-use Rattle.std.proofs.lemmas.Grind.{common_steps}
+use Rattle.std.proofs.lemmas.Bool.{eq-eqb, or_left, or_right}
 use Rattle.std.specs.{List.range_with_len, Prelude.IsFalse, Prelude.⊤, Prelude.◌==◌}
 use Rattle.device_lock.specs.Alone.{lends}
-use Rattle.pmd.specs.{PmdSeam.Made.Adds, PmdSeam.Made.AddsSome, PmdSeam.QueueMade.FailsBy}
-use Rattle.pmd.specs.PmdSeam.Home.{Bringing, BringsOne}
+use Rattle.pmd.specs.{PmdSeam.Home.Bringing, PmdSeam.Home.BringsOne, PmdSeam.QueueMade.FailsBy}
+use Rattle.pmd.specs.PmdSeam.Made.{Adds, AddsSome}
 use Rattle.ring_laws.proofs.HistoryLaws.Alone.{lent_behind}
-use Rattle.driver_laws.proofs.{Parts.around, Parts.more_some, Reached.entry_is, Reached.steps_are}
+use Rattle.driver_laws.{proofs.Parts.around, proofs.Parts.more_some, specs.Ending.Each, specs.Ending.IsAsking}
 use Rattle.driver_laws.proofs.Ground.{IsDriven, words_are_writes, writes_driven}
-use Rattle.driver_laws.proofs.Made.{all_before, all_missed, all_received, all_switched}
 use Rattle.driver_laws.proofs.Prelude.{AllAre, AreMadeOf, AtEntries, Ends, IsAlong, IsEnable, IsEnding, IsOtherwise}
 use Rattle.driver_laws.proofs.Prelude.{IsPlain, IsStrayRead, PollsEnd, StopsBy, and_one}
-use Rattle.driver_laws.specs.Ending.{Each, IsAsking}
+use Rattle.driver_laws.proofs.Reached.{all_before, all_missed, all_received, all_switched, entry_is, steps_are}
 use Rattle.driver_laws.specs.Prelude.{Access, AreMade, AtPort, Block, Blocks, Call, DeviceFault, Dir, EachRingBlock}
 use Rattle.driver_laws.specs.Prelude.{Entry, Event, IsMade, IsNumberOf, IsPrepared, IsSwitched, LendsEach, Numbers}
 use Rattle.driver_laws.specs.Prelude.{PmdFault, Port, Reply, RowId, Rx, Sees, Sets, StartTimeout, State, SwitchFails}

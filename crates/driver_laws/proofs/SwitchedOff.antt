@@ -9,12 +9,12 @@ use Rattle.ring_laws.proofs.HistoryLaws.Steady.{IsSteady, deed_settles, off_idle
 use Rattle.ring_laws.specs.{Delivered.packets_if_any, HistoryLaws.Sides.IsUnwanted}
 use Rattle.driver_laws.proofs.{Parts.calls_joined, Points.idle_left, Words.each_side, Words.side_driven}
 use Rattle.driver_laws.proofs.Ground.{ground_kept, ground_names, plain_keeps}
-use Rattle.driver_laws.proofs.Made.{all_missed, all_polled, first_seen, made_some, state_access}
 use Rattle.driver_laws.proofs.Prelude.{AllAre, AtCalls, Deed, Ends, HasGround, IsAlong, IsEnding, IsKept, IsMet, IsOff}
 use Rattle.driver_laws.proofs.Prelude.{IsPlain, IsQuiet, NamesRow, Piece, Stands, asked, left_deed, memory_rest}
 use Rattle.driver_laws.proofs.Prelude.{no_block, none_begun_while_off, not_again, packets_of, queues_left, read_rest}
 use Rattle.driver_laws.proofs.Prelude.{sent_is_counted, since-append, steady_kept}
-use Rattle.driver_laws.proofs.Reached.{entry_is, made_keep, reached_next, sound_at, step_left, walk, watching}
+use Rattle.driver_laws.proofs.Reached.{all_missed, all_polled, entry_is, first_seen, made_keep, made_some, reached_next}
+use Rattle.driver_laws.proofs.Reached.{sound_at, state_access, step_left, walk, watching}
 use Rattle.driver_laws.proofs.StopCalls.{MayAsk, accesses_are, enables, may_asks, none_made, stays_some, step_ends}
 use Rattle.driver_laws.proofs.StopCalls.{then_made}
 use Rattle.driver_laws.specs.{Ending.Each, Quiet.OffSidesStand, Quiet.ReceiveGuardIsOff, Standing.IsLeft}

@@ -127,24 +127,18 @@ module _ {w : Watched} {origin : State} {h : List Entry} {q : AtPort} {size fram
     -- wherever the pass has made these calls it has lent both rings
 
     on_has : (number : ℕ) → Has (lending number) up.both_made → Has (lending number) new
-    on_has number has =
-        has_more (lending number) up.both_made new
-        (extends q (switching up.switched.0 up.switched.1) up.both_made new up.switched.3) has
+    on_has number has = search (rules, has_more, lending, extends, switching)
 
     ring_has : EachRingBlock ring size (λ n. Has (lending n) new)
     ring_has k below =
-        let more = prepared_plain up.transmit.prepared in
-        on_has (ring + k)
-        (has_more (lending (ring + k)) up.ready_made up.both_made (more.0, more.1)
-        (prepared_has up.receive.prepared k below))
+        search (rules, on_has, has_more, prepared_plain up.transmit.prepared, prepared_has up.receive.prepared k below)
 
     pub ring_lent : AtEntries w h new (λ done. EachRingBlock ring size (λ n. IsLentBy w.pass n h))
     ring_lent done rest all calls k below = lent_along (ring + k) new along (ring_has k below) done rest all calls
 
     pub other_lent : AtEntries w h new (λ done. EachRingBlock other size (λ n. IsLentBy w.pass n h))
     other_lent done rest all calls k below =
-        lent_along (other + k) new along (on_has (other + k) (prepared_has up.transmit.prepared k below)) done rest all
-        calls
+        search (rules, lent_along, on_has, prepared_has)
 
     up_at : AtEntries w h new CameUp
     up_at done rest all calls =

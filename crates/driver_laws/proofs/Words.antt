@@ -7,9 +7,9 @@ use Rattle.std.specs.Prelude.{IsFalse, None, Some, bit_and, bit_or, if◌then◌
 use Rattle.nic_device.proofs.{RegisterLaws.RowBits.word_small, RegisterLaws.SoundWords.low_bits}
 use Rattle.nic_device.proofs.RegisterLaws.SideWords.{receive-written, transmit-written}
 use Rattle.nic_device.proofs.RegisterLaws.Switches.{receive-asked, transmit-asked}
-use Rattle.nic_device.specs.{RegisterFile.Bits.merged, RegisterLaws.Sides.TransmitQueue, Transmit.staged_by}
-use Rattle.nic_device.specs.RegisterFile.Registers.{Registers}
+use Rattle.nic_device.specs.{RegisterFile.Bits.merged, RegisterFile.Registers.Registers, Transmit.staged_by}
 use Rattle.nic_device.specs.RegisterLaws.Laws.{HasShape, after_write, word_after}
+use Rattle.nic_device.specs.RegisterLaws.Sides.{TransmitQueue}
 use Rattle.ring_laws.proofs.HistoryLaws.Leaving.{receive_left}
 use Rattle.ring_laws.proofs.HistoryLaws.Written.{merged_all, merged_low, receive-tail, transmit-tail}
 use Rattle.ring_laws.specs.HistoryLaws.Sides.{LeavesSide, receive_side, transmit_side}
@@ -41,8 +41,7 @@ driven dir row word fits = grind (arith, common_steps)
 
 -- the enable register of each side is one of them
 pub side_driven : (side : Dir) → is_driven (enable_row side) ≡ true
-side_driven Rx = refl
-side_driven Tx = refl
+side_driven side = grind (arith, common_steps)
 
 -- none of them is a setting
 pub driven_plain : (row : RowId) → is_driven row ≡ true → is_setting row ≡ false

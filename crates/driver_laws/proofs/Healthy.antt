@@ -1,7 +1,7 @@
 -- Each call beside a driver that receives, and over a whole history, gets a healthy reply, and no call ends with the
 -- device at fault: the frames that wait go on fitting, and what a reply rests on holds behind each call.
 use Rattle.std.proofs.{lemmas.Grind.common_steps, lemmas.List.append_cancel_left}
-use Rattle.std.proofs.Common.{[], ◌&&◌, ◌*◌, ◌++◌, ◌==◌, ◌||◌, ◌∷◌, ◌≡◌, ◌≢◌, ◌≤◌, Bool, List, None, Option, Some, ℕ}
+use Rattle.std.proofs.Common.{[], ◌&&◌, ◌++◌, ◌==◌, ◌||◌, ◌∷◌, ◌≡◌, ◌≢◌, Bool, List, None, Option, Some, ℕ}
 use Rattle.std.proofs.Common.{arith, false, nat_lt, refl, rules, subst, sym, true}
 use Rattle.std.proofs.lemmas.Bool.{and_parts, both_ways, cond_both, eq-eqb, eqb-false, eqb-true, lt-ltb, not-true}
 use Rattle.std.proofs.lemmas.Bool.{or_cases, or_left, or_right}
@@ -157,10 +157,7 @@ module _ {w : Watched} {mine : Blocks} {s : State} {out : List Piece} {sent : Li
 pub frames_stay_short : (queue most : ℕ) (s : State) (e : Event Block) → AreShort queue most s → WritesNoSetting s e
     → AreShort queue most (after s e)
 frames_stay_short queue most s e h none =
-    record {
-      limit = subst (λ n. n ≤ 2048 * most) (sym (settings_stand s e none).limit) h.limit;
-      waiting = frames_fit queue most s h.limit h.waiting e;
-    }
+    record { limit = rw (settings_stand s e none).limit h.limit; waiting = frames_fit queue most s h.limit h.waiting e }
 
 pub frames_stay_short_along : FramesStayShortAlong
 frames_stay_short_along queue most s [] h none = h

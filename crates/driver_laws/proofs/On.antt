@@ -137,8 +137,7 @@ module _ {w : Watched} {origin : State} {h : List Entry} {q : AtPort} {size fram
     ring_lent done rest all calls k below = lent_along (ring + k) new along (ring_has k below) done rest all calls
 
     pub other_lent : AtEntries w h new (λ done. EachRingBlock other size (λ n. IsLentBy w.pass n h))
-    other_lent done rest all calls k below =
-        search (rules, lent_along, on_has, prepared_has)
+    other_lent done rest all calls k below = search (rules, lent_along, on_has, prepared_has)
 
     up_at : AtEntries w h new CameUp
     up_at done rest all calls =

@@ -6,7 +6,7 @@ use Rattle.std.proofs.Common.{not, refl, rules, subst, suc, sym, true, zero}
 use Rattle.std.specs.{List.range_with_len, Prelude.IsTrue, Prelude.⊤}
 use Rattle.nic_device.proofs.DmaArena.Bus.{get-insert_other, get-insert_same}
 use Rattle.ring_laws.{proofs.HistoryLaws.Lent.not_so, specs.HistoryLaws.Left.IsSilent as RestsSilent}
-use Rattle.driver_laws.proofs.{Parts.ends_some, StopCalls.IsLentBy, StopCalls.and_all, StopCalls.lending}
+use Rattle.driver_laws.proofs.{Parts.ends_some, Words.driven, Words.each_side, Words.side_driven, Words.words_taken}
 use Rattle.driver_laws.proofs.Ground.{ground_names, ground_same, plain_keeps}
 use Rattle.driver_laws.proofs.Prelude.{AllMay, AreUnused, AtEntries, IsAlong, IsIdle, IsZero, Leads, Point, Sides}
 use Rattle.driver_laws.proofs.Prelude.{Stand, Stands, across, after_access, after_accesses, and_one, begun_stays}
@@ -15,7 +15,7 @@ use Rattle.driver_laws.proofs.Prelude.{read_rest, seen_by, sent_is_counted, side
 use Rattle.driver_laws.proofs.Prelude.{steady_kept, step_of, told_on}
 use Rattle.driver_laws.proofs.Reached.{KeptOver, LeadsNext, OfCall, access_before, access_leads, added_before}
 use Rattle.driver_laws.proofs.Reached.{added_leads, made_some, reached_next, some_made, state_next}
-use Rattle.driver_laws.proofs.Words.{driven, each_side, side_driven, words_taken}
+use Rattle.driver_laws.proofs.StopCalls.{IsLentBy, and_all, lending}
 use Rattle.driver_laws.specs.{Points.AccessesLead, Points.May, Standing.IsLeft, Standing.StandingSidesAreLeft}
 use Rattle.driver_laws.specs.Moves.{LendStands, MayGoOn, ReadStands, WriteStands}
 use Rattle.driver_laws.specs.Prelude.{Access, AreMade, AtPort, Block, Blocks, Call, Dir, EachRingBlock, Entry, Event}
@@ -110,8 +110,7 @@ zero_in m ring b rings zeros is =
 
 pub lend_stands : LendStands
 unfolding step_of
-lend_stands queue s sides rings ring stand =
-    search (rules, lent_cases, and_one, each_side, zero_in)
+lend_stands queue s sides rings ring stand = search (rules, lent_cases, and_one, each_side, zero_in)
 
 -- how sides stand after the accesses of a driver
 

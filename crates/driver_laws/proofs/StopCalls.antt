@@ -1,13 +1,13 @@
 -- Calls of a kind, one after the other and with steps of the device beside them: those of a driver's accesses, made or
 -- failed, those that lend its blocks, and those of its stop; and which blocks a pass lends by them.
-use Rattle.std.proofs.{lemmas.Grind.common_steps, lemmas.List.append-nil}
+use Rattle.std.proofs.{lemmas.Bool.eq-eqb, lemmas.Bool.or_left, lemmas.Bool.or_right, lemmas.List.append-nil}
 use Rattle.std.proofs.Common.{[], ◌++◌, ◌+◌, ◌-◌, ◌<◌, ◌∙◌, ◌∷◌, ◌≡◌, ◌≢◌, Bool, List, ℕ, ap, append_assoc, arith}
 use Rattle.std.proofs.Common.{false, inl, inr, refl, rules, subst, suc, sym, true, zero}
-use Rattle.std.proofs.lemmas.Bool.{eq-eqb, or_left, or_right}
+use Rattle.std.proofs.lemmas.Grind.{common_steps}
 use Rattle.std.specs.{List.range_with_len, Prelude.IsFalse, Prelude.⊤, Prelude.◌==◌}
 use Rattle.device_lock.specs.Alone.{lends}
-use Rattle.pmd.specs.{PmdSeam.Home.Bringing, PmdSeam.Home.BringsOne, PmdSeam.QueueMade.FailsBy}
-use Rattle.pmd.specs.PmdSeam.Made.{Adds, AddsSome}
+use Rattle.pmd.specs.{PmdSeam.Made.Adds, PmdSeam.Made.AddsSome, PmdSeam.QueueMade.FailsBy}
+use Rattle.pmd.specs.PmdSeam.Home.{Bringing, BringsOne}
 use Rattle.ring_laws.proofs.HistoryLaws.Alone.{lent_behind}
 use Rattle.driver_laws.{proofs.Parts.around, proofs.Parts.more_some, specs.Ending.Each, specs.Ending.IsAsking}
 use Rattle.driver_laws.proofs.Ground.{IsDriven, words_are_writes, writes_driven}
@@ -136,8 +136,7 @@ module _ (q : AtPort) (P : Event Block → Type 0) (K : Access → Type 0)
 -- what a driver writes as it starts are registers of its queue
 
 step_plain : (q : AtPort) (e : Event Block) → is_step e ≡ true → IsPlain q e
-step_plain q (event.Write port number word) is = cc
-step_plain q e is = tt
+step_plain q e is = grind (arith, common_steps)
 
 pub accesses_plain : (q : AtPort) (all : List Access) (old new : List Call) → AllAre IsDriven all
     → AreMade q old new all → AreMadeOf (IsPlain q) old new
@@ -151,8 +150,7 @@ module _ (q : AtPort) where
   step_asks e is = grind (arith, common_steps)
 
   asking_ends : (e : Event Block) → IsAsking q e → IsEnding q e
-  asking_ends (event.Take number) asks = tt
-  asking_ends e asks = asks
+  asking_ends e asks = grind (arith, common_steps)
 
   pub step_ends : (e : Event Block) → is_step e ≡ true → IsEnding q e
   step_ends e is = asking_ends e (step_asks e is)
@@ -167,8 +165,7 @@ MayAsk (Sees row on) = IsEnable row
 MayAsk (Sets row word) = IsEnable row × IsFalse (has_bit 25 word)
 
 pub enables : (side : Dir) → IsEnable (enable_row side)
-enables Rx = tt
-enables Tx = tt
+enables side = grind (arith, common_steps)
 
 pub enable_driven : (row : RowId) → IsEnable row → is_driven row ≡ true
 enable_driven row is = grind (arith, common_steps)

@@ -39,8 +39,7 @@ one_after_the_other first few =
 
 -- these are accesses of the enable words alone
 enable_reads : (side : Dir) (seen : Bool) → IsOfEnable (Sees (enable_row side) seen)
-enable_reads Rx seen = tt
-enable_reads Tx seen = tt
+enable_reads side seen = grind (arith, common_steps)
 
 module _ (q : AtPort) (size frame : ℕ) where
   -- how it comes to this

@@ -4,11 +4,12 @@ use Rattle.std.proofs.Common.{[], ◌-◌, ◌∷◌, ◌≡◌, ◌≢◌, ◌�
 use Rattle.std.proofs.Common.{true}
 use Rattle.pmd.specs.PmdSeam.QueueMade.{IsStrayWrite}
 use Rattle.ring_laws.proofs.HistoryLaws.Lent.{anew_is_done}
-use Rattle.driver_laws.proofs.{SwitchedOff.ending_quiet, SwitchedOff.quiet_kept, Words.side_driven}
+use Rattle.driver_laws.{proofs.Words.side_driven, specs.Filling.FaultsAreEarlyOrFilling, specs.Filling.FaultsEarly}
+use Rattle.driver_laws.{specs.Filling.FaultsFilling, specs.Filling.FillingBeginsWell, specs.Filling.NoFaultIsEarly}
+use Rattle.driver_laws.proofs.{On.agrees_at, On.are_on, On.goes_on_at, SwitchedOff.ending_quiet, SwitchedOff.quiet_kept}
 use Rattle.driver_laws.proofs.Ground.{IsDriven, IsWrite, asked_are_writes, ground_kept, named_registers_reply}
 use Rattle.driver_laws.proofs.Ground.{off_sides_are_seen_off, plain_keeps, polled_driven, reads_driven}
 use Rattle.driver_laws.proofs.Ground.{words_are_writes, writes_driven}
-use Rattle.driver_laws.proofs.On.{agrees_at, are_on, goes_on_at}
 use Rattle.driver_laws.proofs.Prelude.{AllAre, AreMadeOf, AtCalls, BeforeLast, BeforeNext, GoingOnFails, HasGround}
 use Rattle.driver_laws.proofs.Prelude.{IsAlong, IsEnable, IsKept, IsOtherwise, IsPlain, IsQuiet, IsStrayRead, Leads}
 use Rattle.driver_laws.proofs.Prelude.{Never, PollsEnd, StopsBy}
@@ -16,8 +17,6 @@ use Rattle.driver_laws.proofs.Reached.{OfCall, access_leads, added_never, all_be
 use Rattle.driver_laws.proofs.Reached.{made_keep, made_some, next_never, of_map, state_kept, state_next, then_before}
 use Rattle.driver_laws.proofs.StopCalls.{MayAsk, accesses_plain, enable_driven, may_asks, prepared_plain, stays_some}
 use Rattle.driver_laws.specs.Faultless.{NoneIsLent, ReceiveIsReady, SwitchingIsNeverStray, TransmitIsReady}
-use Rattle.driver_laws.specs.Filling.{FaultsAreEarlyOrFilling, FaultsEarly, FaultsFilling, FillingBeginsWell}
-use Rattle.driver_laws.specs.Filling.{NoFaultIsEarly}
 use Rattle.driver_laws.specs.Prelude.{Access, AreMade, AtPort, Call, DeviceFault, Dir, Entry, IsMade, IsNumberOf}
 use Rattle.driver_laws.specs.Prelude.{IsReceiveReady, Numbers, Port, PreparingFails, Receive, RowId, Rx, Rxdctl, Sees}
 use Rattle.driver_laws.specs.Prelude.{Sets, State, SwitchFails, Tx, Txdctl, Watched, both_asked, both_quiet, enable_row}

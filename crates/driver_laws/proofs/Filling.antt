@@ -1,7 +1,7 @@
 -- A start on a queue whose sides are off finds no device at fault but as it fills its receive ring.
 use Rattle.std.{proofs.lemmas.Bool.both_ways, proofs.lemmas.Grind.common_steps, specs.Prelude.IsFalse}
-use Rattle.std.proofs.Common.{[], ◌-◌, ◌∙◌, ◌∷◌, ◌≡◌, ◌≢◌, ◌⊎◌, List, ℕ, arith, false, inl, inr, refl, rules, subst}
-use Rattle.std.proofs.Common.{sym, true}
+use Rattle.std.proofs.Common.{[], ◌-◌, ◌∷◌, ◌≡◌, ◌≢◌, ◌⊎◌, List, ℕ, arith, false, inl, inr, refl, rules, subst, sym}
+use Rattle.std.proofs.Common.{true}
 use Rattle.pmd.specs.PmdSeam.QueueMade.{IsStrayWrite}
 use Rattle.ring_laws.proofs.HistoryLaws.Lent.{anew_is_done}
 use Rattle.driver_laws.{proofs.Words.side_driven, specs.Filling.FaultsAreEarlyOrFilling, specs.Filling.FaultsEarly}
@@ -10,11 +10,11 @@ use Rattle.driver_laws.proofs.{On.agrees_at, On.are_on, On.goes_on_at, SwitchedO
 use Rattle.driver_laws.proofs.Ground.{IsDriven, IsWrite, asked_are_writes, ground_kept, named_registers_reply}
 use Rattle.driver_laws.proofs.Ground.{off_sides_are_seen_off, plain_keeps, polled_driven, reads_driven}
 use Rattle.driver_laws.proofs.Ground.{words_are_writes, writes_driven}
-use Rattle.driver_laws.proofs.Made.{OfCall, access_leads, all_before, all_missed, before_made, made_some, of_map}
 use Rattle.driver_laws.proofs.Prelude.{AllAre, AreMadeOf, AtCalls, BeforeLast, BeforeNext, GoingOnFails, HasGround}
 use Rattle.driver_laws.proofs.Prelude.{IsAlong, IsEnable, IsKept, IsOtherwise, IsPlain, IsQuiet, IsStrayRead, Leads}
 use Rattle.driver_laws.proofs.Prelude.{Never, PollsEnd, StopsBy}
-use Rattle.driver_laws.proofs.Reached.{added_never, made_keep, next_never, state_kept, state_next, then_before}
+use Rattle.driver_laws.proofs.Reached.{OfCall, access_leads, added_never, all_before, all_missed, before_made}
+use Rattle.driver_laws.proofs.Reached.{made_keep, made_some, next_never, of_map, state_kept, state_next, then_before}
 use Rattle.driver_laws.proofs.StopCalls.{MayAsk, accesses_plain, enable_driven, may_asks, prepared_plain, stays_some}
 use Rattle.driver_laws.specs.Faultless.{NoneIsLent, ReceiveIsReady, SwitchingIsNeverStray, TransmitIsReady}
 use Rattle.driver_laws.specs.Prelude.{Access, AreMade, AtPort, Call, DeviceFault, Dir, Entry, IsMade, IsNumberOf}
@@ -77,18 +77,14 @@ module _ {w : Watched} {origin : State} {h : List Entry} (q : AtPort) (frame : �
   read_never_stray old new row driven next (number, word, named, adds) =
       next_never along Ground old new (event.Read q.port number) (reply.Stray word) refl
       (λ s g told.
-      let is = (named_registers_reply w.queue q frame s row number g driven named).read in
-      let no_such : reply.Stray word ≡ reply.Word is.0 = told ∙ is.1 in
-      cc) adds next
+      let (seen, is) = (named_registers_reply w.queue q frame s row number g driven named).read in cc) adds next
 
   write_never_stray : (old new : List Call) (row : RowId) (word : ℕ) → is_driven row ≡ true → Next Ground old
       → IsStrayWrite q old new row word → Never w origin h new
   write_never_stray old new row word driven next (number, seen, named, adds) =
       next_never along Ground old new (event.Write q.port number word) (reply.Stray seen) refl
       (λ s g told.
-      let is = (named_registers_reply w.queue q frame s row number g driven named).write word in
-      let no_such : reply.Stray seen ≡ reply.Done = told ∙ is in
-      cc) adds next
+      let is = (named_registers_reply w.queue q frame s row number g driven named).write word in cc) adds next
 
   writes_never_stop : (all : List Access) (old new : List Call) → AllAre IsWrite all
       → StopsBy DeviceFault q old new all → Grounded old → Never w origin h new

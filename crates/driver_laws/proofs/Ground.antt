@@ -5,7 +5,7 @@ use Rattle.std.proofs.Common.{if◌then◌else◌, inl, inr, nat_lt, refl, rules
 use Rattle.nic_device.{proofs.VfMap.Queues.queue_registers, specs.VfMap.Map.behind, specs.VfMap.Map.located}
 use Rattle.nic_device.specs.{Access.named_read, Named.at_location, VfMap.Pools.queues_of, VfMap.declared.mode.Mode.Mode}
 use Rattle.pmd.specs.PmdSeam.Named.{offset_of}
-use Rattle.driver_laws.proofs.{Made.all_polled, Words.driven_plain, Words.settings, Words.side_driven}
+use Rattle.driver_laws.proofs.{Reached.all_polled, Words.driven_plain, Words.settings, Words.side_driven}
 use Rattle.driver_laws.proofs.Prelude.{AllAre, HasGround, IsKept, IsPlain, NamesRow, WritesNoSetting, is_receive}
 use Rattle.driver_laws.proofs.Prelude.{is_transmit, left_did, named_written, settings_stand, stays_within, step_of}
 use Rattle.driver_laws.proofs.Prelude.{told_on}

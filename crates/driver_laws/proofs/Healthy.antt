@@ -1,22 +1,196 @@
--- Over a whole history each call of either half gets a healthy reply, and no call ends with the device at fault.
-use Rattle.std.{proofs.lemmas.Grind.common_steps, proofs.lemmas.List.append_cancel_left, specs.Prelude.◌==◌}
-use Rattle.std.proofs.Common.{[], ◌++◌, ◌∷◌, ◌≡◌, Bool, List, ℕ, arith, false, rules, subst, sym}
-use Rattle.std.proofs.lemmas.Bool.{both_ways, eqb-false}
-use Rattle.pmd.{proofs.Followed.others_own, proofs.Followed.others_played, specs.Apart.is_healthy}
-use Rattle.ring_laws.proofs.Fitting.{frames_stay_fitting}
-use Rattle.driver_laws.{proofs.Meeting.Meets, proofs.Meeting.driven_meets, proofs.Parts.calls_joined}
-use Rattle.driver_laws.proofs.Beside.{others_apart, steps_harmless}
-use Rattle.driver_laws.proofs.Fitting.{healthy_call, known_after, most_after, none_apart, unbegun_since}
+-- Each call beside a driver that receives, and over a whole history, gets a healthy reply, and no call ends with the
+-- device at fault: the frames that wait go on fitting, and what a reply rests on holds behind each call.
+use Rattle.std.proofs.{lemmas.Grind.common_steps, lemmas.List.append_cancel_left}
+use Rattle.std.proofs.Common.{[], ◌&&◌, ◌++◌, ◌==◌, ◌||◌, ◌∷◌, ◌≡◌, ◌≢◌, Bool, List, None, Option, Some, ℕ}
+use Rattle.std.proofs.Common.{arith, false, nat_lt, refl, rules, subst, sym, true}
+use Rattle.std.proofs.lemmas.Bool.{and_parts, both_ways, cond_both, eq-eqb, eqb-false, eqb-true, lt-ltb, not-true}
+use Rattle.std.proofs.lemmas.Bool.{or_cases, or_left, or_right}
+use Rattle.std.specs.Prelude.{◌==◌, option_map}
+use Rattle.nic_device.proofs.Cases.{either_way}
+use Rattle.device_lock.specs.Alone.{lent_in}
+use Rattle.pmd.proofs.Followed.{others_own, others_played}
+use Rattle.pmd.specs.{Apart.is_healthy, PmdRx.Receive.took, PmdRx.declared.ring.Told.Told}
+use Rattle.ring_laws.{specs.HistoryLaws.Lent.LendsOwn, specs.TransmitLent.SparesNumbers}
+use Rattle.ring_laws.proofs.{Fitting.frames_fit, Fitting.frames_stay_fitting, HistoryLaws.Deeds.receiving_did}
+use Rattle.ring_laws.proofs.HistoryLaws.Lent.{follows_known, only_lent_stays}
+use Rattle.ring_laws.specs.{Delivered.goes_on, Fitting.begun_on, Pieces.AllFit, TransmitHealthy.LendsAnew}
+use Rattle.driver_laws.{proofs.Meeting.Meets, proofs.Meeting.driven_meets, specs.Faults.NoFault, specs.Faults.doers_of}
+use Rattle.driver_laws.proofs.{Beside.others_apart, Beside.steps_harmless, Parts.calls_joined, Sending.is_elsewhere}
 use Rattle.driver_laws.proofs.InOrder.{Runs, driven_runs, first_doer, goes, heads, own_here, played_on, runs_on}
 use Rattle.driver_laws.proofs.InOrder.{with_call}
-use Rattle.driver_laws.proofs.Prelude.{AreFitting, IsDriven, IsHealthy, IsUp, both_apart, doer_of, doers_after}
-use Rattle.driver_laws.proofs.Prelude.{events_before}
-use Rattle.driver_laws.specs.{Before.OnlyPassLends, Faults.NoFault, Faults.doers_of}
+use Rattle.driver_laws.proofs.Prelude.{AreFitting, Deed, IsDriven, IsHealthy, IsUp, begun_stays, both_apart, doer_of}
+use Rattle.driver_laws.proofs.Prelude.{doers_after, events_before, gathered, keeps_sound, no_block}
+use Rattle.driver_laws.proofs.Prelude.{none_begun_while_off, settings_stand}
+use Rattle.driver_laws.specs.Before.{AreShort, FramesStayShortAlong, OnlyPassLends, OnlyPassLent}
 use Rattle.driver_laws.specs.Healthy.{AreHealthy, IsUnshared, OwnRepliesAreHealthy}
-use Rattle.driver_laws.specs.Prelude.{AllLendApart, AllOwn, Blocks, Call, Doer, Entry, FindsFault, Halves, LendsApart}
-use Rattle.driver_laws.specs.Prelude.{LendsNone, OnlyLent, Piece, State, Watched, after, after_call, call_in, call_of}
-use Rattle.driver_laws.specs.Prelude.{calls_of, doers_other, leads_to, pieces, played_by}
+use Rattle.driver_laws.specs.Prelude.{AllLendApart, AllOwn, AreEvents, Block, Blocks, Call, Doer, Elsewhere, Entry}
+use Rattle.driver_laws.specs.Prelude.{Event, FindsFault, Halves, IsEvent, IsSound, LendsApart, LendsNone, Memory, Move}
+use Rattle.driver_laws.specs.Prelude.{OnlyLent, OwnCall, Piece, Receive, Receives, Reply, Rx, Sends, State, Watched}
+use Rattle.driver_laws.specs.Prelude.{WritesNoSetting, after, after_call, call_in, call_of, calls_of, doers_other}
+use Rattle.driver_laws.specs.Prelude.{drive, either, is_on, leads_to, lends, lent_by, pieces, pieces_since, played_by}
+use Rattle.driver_laws.specs.Prelude.{reply_to}
+use Rattle.nic_device.specs.declared.event.Event.TheVariants as event
+use Rattle.pmd.specs.PmdRx.Keeping as received
+use Rattle.pmd.specs.PmdTx.Sending as sending
+use Rattle.ring_laws.proofs.Own as receive
+use Rattle.ring_laws.proofs.ReceiveLent as receive_lent
+use Rattle.ring_laws.proofs.Playing as transmit
+use Rattle.ring_laws.proofs.TransmitLent as transmit_lent
 use Rattle.driver_laws.specs.Healthy as healthy
+
+-- a driver has its port and the number of its tail as before, and takes as many blocks for a packet
+
+abbrev pub SameRing : Receive → Receive → Type 0
+SameRing v u =
+    (u.layout.port ≡ v.layout.port) × (u.layout.tail ≡ v.layout.tail) × (u.layout.most ≡ v.layout.most)
+
+took_same : (v : Receive) (seen : List Told) (b : Block) → SameRing v (took v seen b)
+took_same v seen b = search rules
+
+pub drive_same : (v : Receive) (e : Event Block) (r : Reply Block) → SameRing v (drive v e r)
+drive_same v e r = grind (arith, common_steps, either_way, took_same)
+
+pub most_after : (h : Halves) (d : Doer) (n : Call) → (after_call h d n).receive.layout.most ≡ h.receive.layout.most
+most_after h d n = grind (arith, common_steps, drive_same)
+
+-- nothing is written of a frame that waits where no piece was since the side went on: none is while it is off
+
+silent : (queue : ℕ) (s : State) → is_on s.registers Rx queue ≡ false → Deed Rx queue s event.RxStep
+    → pieces queue s event.RxStep ≡ []
+silent queue s off y = grind (arith, common_steps, both_ways)
+
+off_silent : (queue : ℕ) (s : State) (e : Event Block) → IsSound s → is_on s.registers Rx queue ≡ false
+    → pieces queue s e ≡ []
+off_silent queue s e sound off = search (rules, silent, receiving_did)
+
+-- over a history
+
+abbrev Unbegun : ℕ → State → Option (List Piece) → Type 0
+Unbegun queue s so_far = so_far ≡ Some [] → begun_on queue s.waiting ≡ 0
+
+none_more : (qs ps : List Piece) → qs ++ ps ≡ [] → (qs ≡ []) × (ps ≡ [])
+none_more [] ps empty = (refl, empty)
+none_more (q ∷ qs) ps empty = cc
+
+module _ (queue : ℕ) (s : State) (e : Event Block) (sound : IsSound s) where
+  went_on : goes_on queue s (after s e) ≡ true → begun_on queue (after s e).waiting ≡ 0
+  went_on goes = grind (arith, common_steps, not-true, and_parts, begun_stays, none_begun_while_off, off_silent)
+
+  stayed : (so_far : Option (List Piece)) → Unbegun queue s so_far
+      → Unbegun queue (after s e) (option_map (λ (qs : List Piece). qs ++ pieces queue s e) so_far)
+  stayed so_far before is = search (rules, none_more, begun_stays)
+
+  one_on : (so_far : Option (List Piece)) → Unbegun queue s so_far
+      → Unbegun queue (after s e) (gathered queue s (after s e) (pieces queue s e) so_far)
+  one_on so_far before =
+      cond_both (goes_on queue s (after s e)) (Some [])
+      (option_map (λ (qs : List Piece). qs ++ pieces queue s e) so_far) (Unbegun queue (after s e))
+      (λ goes is. went_on goes) (λ empty. stayed so_far before)
+
+unbegun_on : (queue : ℕ) (s : State) (so_far : Option (List Piece)) (es : List Entry) → IsSound s → AreEvents es
+    → Unbegun queue s so_far → pieces_since queue s so_far es ≡ Some [] → begun_on queue (leads_to s es).waiting ≡ 0
+unbegun_on queue s so_far [] sound events before is = before is
+unbegun_on queue s so_far (e ∷ es) sound events before is =
+    unbegun_on queue (after s e.event) (gathered queue s (after s e.event) (pieces queue s e.event) so_far) es
+    (keeps_sound s sound e.event events.0) events.1 (one_on queue s e.event sound so_far before) is
+
+-- so it is where the side went on, and nothing is written since
+pub unbegun_since : (queue : ℕ) (s : State) (es : List Entry) → IsSound s → AreEvents es
+    → pieces_since queue s None es ≡ Some [] → begun_on queue (leads_to s es).waiting ≡ 0
+unbegun_since queue s es sound events is = unbegun_on queue s None es sound events (λ e. cc) is
+
+-- what a half lends, by the kind of its call
+
+lends_sent : (own : Blocks) (h : Halves) (m : Move) (e : Event Block) → is_elsewhere m ≡ false
+    → LendsApart own h (Sends m) e → LendsOwn own (received.has_lent h.receive) e
+lends_sent own h m e real apart = grind (arith, common_steps)
+
+pub none_apart : (own : Blocks) (h : Halves) (e : Event Block) → LendsNone own e → LendsApart own h (Sends Elsewhere) e
+none_apart own h e none = search rules
+
+-- what either has lent, the other first
+swapped : (own xs ys : Blocks) (m : Memory) → OnlyLent own (either xs ys) m → OnlyLent own (either ys xs) m
+swapped own xs ys m only n is has = grind (arith, common_steps)
+
+module _ {w : Watched} {mine : Blocks} {s : State} {out : List Piece} {sent : List (List ℕ)} {h : Halves} (own : Blocks)
+    (m : Meets w mine s out sent h) (known : OnlyLent own (healthy.lent_by h) s.memory) (e : Event Block) where
+  abbrev rx : Blocks
+  rx = received.has_lent h.receive
+
+  abbrev tx : Blocks
+  tx = sending.has_lent h.transmit
+
+  other_first : OnlyLent own (either tx rx) s.memory
+  other_first = swapped own rx tx s.memory known
+
+  -- a move lends a block anew
+  anew : (move : Move) → sending.IsOwn h.transmit move e → LendsApart own h (Sends move) e → LendsAnew s move e
+  anew Elsewhere mine apart = tt
+  anew move mine apart =
+      transmit_lent.own_lends_are_known.anew own rx s h.transmit move e other_first mine
+      (lends_sent own h move e refl apart)
+
+  pub healthy_call : (d : Doer) → OwnCall h d (call_of e (reply_to s e)) → LendsApart own h d e
+      → AllFit h.receive.layout.most 0 out → IsHealthy h d (call_of e (reply_to s e))
+  healthy_call Receives mine apart fit =
+      receive.own_replies_are_healthy w.queue s out h.receive e m.both.receive fit mine
+      (receive_lent.own_lends_are_known.anew own tx s h.receive e known mine (search rules))
+  healthy_call (Sends move) mine apart fit =
+      transmit.own_replies_are_healthy s w.queue sent h.transmit move e m.both.transmit mine (anew move mine apart)
+
+  -- only blocks are lent that the halves have lent
+  move_known : (move : Move) → sending.IsOwn h.transmit move e → SparesNumbers own move e
+      → OnlyLent own (either rx (sending.has_lent (sending.moved h.transmit move (reply_to s e)))) (after s e).memory
+  move_known move mine spares =
+      swapped own (sending.has_lent (sending.moved h.transmit move (reply_to s e))) rx (after s e).memory
+      (transmit_lent.own_lends_are_known.kept own rx s h.transmit move e other_first mine spares)
+
+  pub known_after : (d : Doer) → OwnCall h d (call_of e (reply_to s e)) → LendsApart own h d e
+      → OnlyLent own (healthy.lent_by (after_call h d (call_of e (reply_to s e)))) (after s e).memory
+  known_after Receives mine apart = receive_lent.own_lends_are_known.kept own tx s h.receive e known mine
+  known_after (Sends Elsewhere) mine apart = move_known Elsewhere mine (search rules)
+  known_after (Sends move) mine apart = move_known move mine tt
+
+-- entries ahead of the place where the device agrees with both halves
+
+-- the frames that wait stay short over one event
+pub frames_stay_short : (queue most : ℕ) (s : State) (e : Event Block) → AreShort queue most s → WritesNoSetting s e
+    → AreShort queue most (after s e)
+frames_stay_short queue most s e h none =
+    record { limit = rw (settings_stand s e none).limit h.limit; waiting = frames_fit queue most s h.limit h.waiting e }
+
+pub frames_stay_short_along : FramesStayShortAlong
+frames_stay_short_along queue most s [] h none = h
+frames_stay_short_along queue most s (e ∷ es) h none =
+    frames_stay_short_along queue most (after s e.event) es (frames_stay_short queue most s e.event h none.0) none.1
+
+pub lends_is : (b : Block) (r : Reply Block) (n : ℕ) → lends (event.Lend b) r n ≡ true → b.number ≡ n
+lends_is b r n is = grind (arith, common_steps, eqb-true)
+
+module _ (own known : Blocks) (s : State) (only : OnlyLent own known s.memory) where
+  -- an event of the pass
+  abbrev Lent : Event Block → Reply Block → Blocks
+  Lent e r n = nat_lt n 65536 && lends e r n
+
+  pass_lent : (e : Event Block) → IsEvent e → OnlyLent own (either (Lent e (reply_to s e)) known) (after s e).memory
+  pass_lent e made =
+      follows_known own known s no_block only e (Lent e) (grind (arith, common_steps, lt-ltb, eq-eqb, eqb-true))
+
+  entry_lent : (pass : ℕ) (e : Entry) → e.reply ≡ reply_to s e.event → IsEvent e.event
+      → (e.pass ≢ pass → LendsNone own e.event) → (b : Bool) → (e.pass == pass) ≡ b
+      → OnlyLent own (either known (lent_in pass e)) (after s e.event).memory
+  entry_lent pass e legal made none b other n is has =
+      grind (arith, common_steps, pass_lent, only_lent_stays, or_left, or_cases, or_right, eqb-false)
+
+joined : (a b c : Bool) → ((a || b) || c) ≡ true → (a || (b || c)) ≡ true
+joined a b c is = search rules
+
+pub only_pass_lent : OnlyPassLent
+only_pass_lent pass own known s [] legal events none only n is has = or_left (known n) false (only n is has)
+only_pass_lent pass own known s (e ∷ es) legal events none only n is has =
+    joined (known n) (lent_in pass e n) (lent_by pass es n)
+    (only_pass_lent pass own (either known (lent_in pass e)) (after s e.event) es legal.1 events.1 none.1
+    (entry_lent own known s only pass e legal.0 events.0 none.0 (e.pass == pass) refl) n is has)
 
 abbrev pub Parts : Blocks → Halves → List Doer → Entry → Bool → List Call → Type 0
 Parts own h doers e b behind =

@@ -1,14 +1,14 @@
 pub use Rattle.device_lock.proofs.Histories
 pub use Rattle.ring_laws.proofs as RingLaws
 pub use Rattle.ring_laws.proofs.HistoryLaws
+pub use Rattle.driver_laws.proofs.Healthy as Fitting
+pub use Rattle.driver_laws.proofs.Reached as Made
 pub mod Beside
 pub mod Filling
-pub mod Fitting
 pub mod Ground
 pub mod Healthy
 pub mod InOrder
 pub mod Laid
-pub mod Made
 pub mod Meeting
 pub mod On
 pub mod Parts

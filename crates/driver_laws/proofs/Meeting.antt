@@ -5,12 +5,12 @@ use Rattle.std.proofs.Common.{[], ◌++◌, ◌∙◌, ◌≡◌, List, ℕ, ap,
 use Rattle.nic_device.{proofs.Steps.step_leads, specs.RegTable.declared.rows.RowId.TheVariants.Txdctl}
 use Rattle.device_lock.specs.Alone.{place_at}
 use Rattle.pmd.specs.PmdTx.Sending.{moved}
-use Rattle.ring_laws.{proofs.HistoryLaws.Written.place_named, specs.Turns.MayMove}
-use Rattle.ring_laws.proofs.{Leaving.leaving_keeps, Leaving.switching_keeps, Own.own_keeps, Playing.moves_keep}
-use Rattle.ring_laws.proofs.{Playing.up_stays, Runs.left_alone_is_spared, Sparing.sparing_events_keep}
+use Rattle.ring_laws.{proofs.HistoryLaws.Written.place_named, proofs.Off.enable_words_keep as transmit_word_keeps}
+use Rattle.ring_laws.{proofs.Sparing.sparing_events_keep, specs.Fitting.ResetsNoPool}
+use Rattle.ring_laws.proofs.{Own.own_keeps, Playing.moves_keep, Playing.up_stays, Runs.left_alone_is_spared}
 use Rattle.ring_laws.proofs.Foreign.{alone_stays_up, left_keeps, left_up, own_stays_up}
-use Rattle.ring_laws.proofs.Off.{enable_words_keep as transmit_word_keeps}
-use Rattle.ring_laws.specs.{Agreeing.Agrees, Alone.LendsOneOf, Fitting.ResetsNoPool, HistoryLaws.Sides.Side}
+use Rattle.ring_laws.proofs.Leaving.{leaving_keeps, switching_keeps}
+use Rattle.ring_laws.specs.{Agreeing.Agrees, Alone.LendsOneOf, HistoryLaws.Sides.Side, Turns.MayMove}
 use Rattle.driver_laws.{proofs.Reached.free_left, specs.Enabling.EnableWordsKeep}
 use Rattle.driver_laws.proofs.Prelude.{AreLent, BothAgree, IsDriven, IsMet, Spares, asked, events_before}
 use Rattle.driver_laws.proofs.Prelude.{histories_sound, keeps_sound, mine-moved, mine_driven, plain-write}
@@ -132,10 +132,7 @@ module _ {w : Watched} {mine : Blocks} {s : State} {out : List Piece} {sent : Li
             transmit = moves_keep s w.queue sent h.transmit e move m.both.transmit may;
             apart = sends_apart s h.receive h.transmit move e own there m.both.apart;
           },
-          record {
-            receive = m.lent.receive;
-            transmit = mine-moved mine h.transmit m.lent.transmit move e (reply_to s e) own lends;
-          },
+          search (rules, mine-moved),
         );
         receives = left_up w.queue s t left.receive;
         sends = stays_up move may;
@@ -154,10 +151,7 @@ module _ {w : Watched} {mine : Blocks} {s : State} {out : List Piece} {sent : Li
       record {
         meets = still _ (
           search (rules, own_keeps, sparing_events_keep, receives_apart, sender_blocks),
-          record {
-            receive = mine_driven mine h.receive m.lent.receive e (reply_to s e) own (lends refl);
-            transmit = m.lent.transmit;
-          },
+          search (rules, mine_driven mine h.receive m.lent.receive e (reply_to s e) own (lends refl)),
         );
         receives = own_stays_up w.queue s out h.receive e m.sound m.both.receive own;
         sends = stays_up Elsewhere spares;

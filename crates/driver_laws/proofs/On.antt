@@ -3,13 +3,13 @@ use Rattle.std.{proofs.lemmas.Bool.both_ways, proofs.lemmas.Grind.common_steps, 
 use Rattle.std.proofs.Common.{[], ◌%◌, ◌*◌, ◌+◌, ◌<◌, ◌∷◌, ◌≡◌, ◌≢◌, ◌≤◌, List, ℕ, ap, arith, false, refl, rules, subst}
 use Rattle.std.proofs.Common.{sym, true}
 use Rattle.pmd.specs.{PmdSeam.Frames.most_blocks, Running.Running, Started.AreUp}
-use Rattle.driver_laws.proofs.{Ground.ground_names, Made.extends, Made.made_some, Made.some_made, Reached.sound_at}
+use Rattle.driver_laws.proofs.{Ground.ground_names, SwitchedOff.quiet_sides_stand, SwitchedOff.quieting_leads}
 use Rattle.driver_laws.proofs.Points.{At, accesses_at, laid_with, prepared_at, unused_kept}
 use Rattle.driver_laws.proofs.Prelude.{AreUnused, AtCalls, AtEntries, BeforeLast, HasGround, IsAlong, IsPlain, IsSized}
 use Rattle.driver_laws.proofs.Prelude.{Point, Sides, after_accesses}
+use Rattle.driver_laws.proofs.Reached.{extends, made_some, some_made, sound_at}
 use Rattle.driver_laws.proofs.StopCalls.{Has, IsLentBy, has_more, lending, lent_along, prepared_has, prepared_plain}
 use Rattle.driver_laws.proofs.StopCalls.{ring_in, stays_in, stays_some}
-use Rattle.driver_laws.proofs.SwitchedOff.{quiet_sides_stand, quieting_leads}
 use Rattle.driver_laws.proofs.Switching.{came_up, comes_up, fresh_receive_agrees, fresh_transmit_agrees, laid, may_lay}
 use Rattle.driver_laws.proofs.Switching.{may_switch, switching}
 use Rattle.driver_laws.specs.{Quieting.are_off, Start.BeginsWell, Start.StartAgrees, Start.StartGoesOn, Unused.WentOn}
@@ -127,24 +127,17 @@ module _ {w : Watched} {origin : State} {h : List Entry} {q : AtPort} {size fram
     -- wherever the pass has made these calls it has lent both rings
 
     on_has : (number : ℕ) → Has (lending number) up.both_made → Has (lending number) new
-    on_has number has =
-        has_more (lending number) up.both_made new
-        (extends q (switching up.switched.0 up.switched.1) up.both_made new up.switched.3) has
+    on_has number has = search (rules, has_more, lending, extends, switching)
 
     ring_has : EachRingBlock ring size (λ n. Has (lending n) new)
     ring_has k below =
-        let more = prepared_plain up.transmit.prepared in
-        on_has (ring + k)
-        (has_more (lending (ring + k)) up.ready_made up.both_made (more.0, more.1)
-        (prepared_has up.receive.prepared k below))
+        search (rules, on_has, has_more, prepared_plain up.transmit.prepared, prepared_has up.receive.prepared k below)
 
     pub ring_lent : AtEntries w h new (λ done. EachRingBlock ring size (λ n. IsLentBy w.pass n h))
     ring_lent done rest all calls k below = lent_along (ring + k) new along (ring_has k below) done rest all calls
 
     pub other_lent : AtEntries w h new (λ done. EachRingBlock other size (λ n. IsLentBy w.pass n h))
-    other_lent done rest all calls k below =
-        lent_along (other + k) new along (on_has (other + k) (prepared_has up.transmit.prepared k below)) done rest all
-        calls
+    other_lent done rest all calls k below = search (rules, lent_along, on_has, prepared_has)
 
     up_at : AtEntries w h new CameUp
     up_at done rest all calls =

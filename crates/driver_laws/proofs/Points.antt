@@ -1,21 +1,21 @@
 -- Two sides that stand still are left so by every event that leaves the queue alone, and by a driver's accesses; and
 -- how they stand after accesses in order, over a history.
 use Rattle.std.proofs.{lemmas.Bool.eqb-false, lemmas.Bool.eqb-true, lemmas.Bool.or_cases, lemmas.Grind.common_steps}
-use Rattle.std.proofs.Common.{[], ◌&&◌, ◌++◌, ◌+◌, ◌<◌, ◌||◌, ◌∙◌, ◌∷◌, ◌≡◌, ◌≢◌, Bool, List, Option, Some, ℕ, ap}
-use Rattle.std.proofs.Common.{arith, cond, false, not, option_map, refl, rules, subst, suc, sym, true, zero}
+use Rattle.std.proofs.Common.{[], ◌&&◌, ◌++◌, ◌+◌, ◌<◌, ◌||◌, ◌∙◌, ◌∷◌, ◌≡◌, ◌≢◌, Bool, List, ℕ, ap, arith, cond, false}
+use Rattle.std.proofs.Common.{not, refl, rules, subst, suc, sym, true, zero}
 use Rattle.std.specs.{List.range_with_len, Prelude.IsTrue, Prelude.⊤}
 use Rattle.nic_device.proofs.DmaArena.Bus.{get-insert_other, get-insert_same}
 use Rattle.ring_laws.{proofs.HistoryLaws.Lent.not_so, specs.HistoryLaws.Left.IsSilent as RestsSilent}
-use Rattle.driver_laws.proofs.{Parts.ends_some, StopCalls.IsLentBy, StopCalls.and_all, StopCalls.lending}
+use Rattle.driver_laws.proofs.{Parts.ends_some, Words.driven, Words.each_side, Words.side_driven, Words.words_taken}
 use Rattle.driver_laws.proofs.Ground.{ground_names, ground_same, plain_keeps}
-use Rattle.driver_laws.proofs.Made.{OfCall, access_before, access_leads, made_some, some_made}
-use Rattle.driver_laws.proofs.Prelude.{AllMay, AreUnused, AtEntries, IsAlong, IsIdle, IsZero, Leads, Outcome, Piece}
-use Rattle.driver_laws.proofs.Prelude.{Point, Sides, Stand, Stands, across, after_access, after_accesses, and_one}
-use Rattle.driver_laws.proofs.Prelude.{begun_stays, idle_silent, idle_steady, left_deed, left_did, lent_cases}
-use Rattle.driver_laws.proofs.Prelude.{queues_left, read_rest, seen_by, sent_is_counted, side_seen, side_with}
-use Rattle.driver_laws.proofs.Prelude.{since-append, steady_kept, step_of, told_on}
-use Rattle.driver_laws.proofs.Reached.{KeptOver, LeadsNext, added_before, added_leads, reached_next, state_next}
-use Rattle.driver_laws.proofs.Words.{driven, each_side, side_driven, words_taken}
+use Rattle.driver_laws.proofs.Prelude.{AllMay, AreUnused, AtEntries, IsAlong, IsIdle, IsZero, Leads, Point, Sides}
+use Rattle.driver_laws.proofs.Prelude.{Stand, Stands, across, after_access, after_accesses, and_one, begun_stays}
+use Rattle.driver_laws.proofs.Prelude.{idle_silent, idle_steady, left_deed, left_did, lent_cases, queues_left}
+use Rattle.driver_laws.proofs.Prelude.{read_rest, seen_by, sent_is_counted, side_seen, side_with, since-append}
+use Rattle.driver_laws.proofs.Prelude.{steady_kept, step_of, told_on}
+use Rattle.driver_laws.proofs.Reached.{KeptOver, LeadsNext, OfCall, access_before, access_leads, added_before}
+use Rattle.driver_laws.proofs.Reached.{added_leads, made_some, reached_next, some_made, state_next}
+use Rattle.driver_laws.proofs.StopCalls.{IsLentBy, and_all, lending}
 use Rattle.driver_laws.specs.{Points.AccessesLead, Points.May, Standing.IsLeft, Standing.StandingSidesAreLeft}
 use Rattle.driver_laws.specs.Moves.{LendStands, MayGoOn, ReadStands, WriteStands}
 use Rattle.driver_laws.specs.Prelude.{Access, AreMade, AtPort, Block, Blocks, Call, Dir, EachRingBlock, Entry, Event}
@@ -24,7 +24,6 @@ use Rattle.driver_laws.specs.Prelude.{State, Tx, Txdctl, Watched, after, blocks_
 use Rattle.driver_laws.specs.Prelude.{pieces, ring_blocks, ring_words, sent_by, side_of, zero_block}
 use Rattle.std.specs.FinMap as map
 use Rattle.nic_device.specs.declared.event.Event.TheVariants as event
-use Rattle.nic_device.specs.declared.event.Reply.TheVariants as reply
 
 -- an idle side stays so over an event that leaves the queue alone, by which nothing is received or sent there
 pub idle_left : (dir : Dir) (P : Side → Type 0) → IsIdle P → (w : Watched) (mine : Blocks) (s : State) (e : Event Block)
@@ -111,10 +110,7 @@ zero_in m ring b rings zeros is =
 
 pub lend_stands : LendStands
 unfolding step_of
-lend_stands queue s sides rings ring stand =
-    lent_cases (λ (o : Outcome). o.reply ≡ reply.Done → Stand queue sides (and_one ring rings) o.state) s
-    (zero_block ring) (λ e. cc)
-    (grind (arith, common_steps, each_side, zero_in))
+lend_stands queue s sides rings ring stand = search (rules, lent_cases, and_one, each_side, zero_in)
 
 -- how sides stand after the accesses of a driver
 
@@ -128,20 +124,14 @@ IdleKeeps w origin N =
     (done : List Entry) (e : Entry) → pieces w.queue (leads_to origin done) e.event ≡ []
     → sent_by w.queue (leads_to origin done) e.event ≡ [] → N done → N (done ++ e ∷ [])
 
-none_gathered : (was is : Bool) (so_far : Option (List Piece)) (ps : List Piece) → ps ≡ []
-    → (was ≡ true → so_far ≡ Some []) → is ≡ true
-    → cond (not was && is) (Some []) (option_map (λ qs. qs ++ ps) so_far) ≡ Some []
-none_gathered true is so_far ps none unused on = rw (unused refl, none) refl
-none_gathered false is so_far ps none unused on = rw on refl
-
-none_counted : (was is : Bool) (sent more : List (List ℕ)) → more ≡ [] → (was ≡ true → sent ≡ []) → is ≡ true
-    → cond (not was && is) [] (sent ++ more) ≡ []
-none_counted true is sent more none unused on = rw (unused refl, none) refl
-none_counted false is sent more none unused on = rw on refl
+none_added : {A : Type 0} (was is : Bool) (none now : A) → (was ≡ true → now ≡ none) → is ≡ true
+    → cond (not was && is) none now ≡ none
+none_added true is none now unused on = unused refl
+none_added false is none now unused on = rw on refl
 
 pub unused_kept : (w : Watched) (origin : State) → IdleKeeps w origin (AreUnused w.queue origin)
 unused_kept w origin done e received sent unused =
-    grind (arith, common_steps, reached_next, since-append, none_gathered, sent_is_counted, none_counted)
+    grind (arith, common_steps, reached_next, since-append, none_added, sent_is_counted)
 
 module _ (w : Watched) (mine : Blocks) (q : AtPort) (frame : ℕ) where
   abbrev Here : Sides → State → Type 0
@@ -187,10 +177,6 @@ with_all ns p = record p { rings = and_all ns p.rings }
 abbrev pub laid_with : Dir → (ring size : ℕ) → Sides → Sides
 laid_with dir ring size p = with_all (ring_blocks ring size) (after_accesses (ring_words dir ring size) p)
 
-one_more : (P : ℕ → Type 0) (ring n : ℕ) (rings : Blocks) → P ring → ((k : ℕ) → IsTrue (rings k) → P k)
-    → IsTrue (and_one ring rings n) → P n
-one_more P ring n rings own all is = grind (arith, common_steps)
-
 lend_leads : (queue : ℕ) (mine : Blocks) (q : AtPort) (frame : ℕ) (p : Sides) (ring : ℕ) → mine ring ≡ true
     → ring < 65536
     → Leads queue (lending ring) (Point queue mine q frame p) (Point queue mine q frame (with_ring ring p))
@@ -198,8 +184,8 @@ lend_leads queue mine q frame p ring is low s met made told x =
     record {
       stand = lend_stands queue s p.side p.rings ring x.stand (sym told);
       ground = plain_keeps queue q frame s (event.Lend (zero_block ring)) tt x.ground;
-      covers = λ n one. one_more (λ k. mine k ≡ true) ring n p.rings is x.covers one;
-      low = λ n one. one_more (λ k. k < 65536) ring n p.rings low x.low one;
+      covers = λ n one. grind (arith, common_steps);
+      low = λ n one. grind (arith, common_steps);
     }
 
 -- an access, and accesses in order, from sides of which this is known, while the entries so far keep what those keep by

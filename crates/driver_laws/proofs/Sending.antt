@@ -13,23 +13,22 @@ use Rattle.pmd.proofs.PmdSeam.Rings.{each_ring_block, slot_block, slot_lies}
 use Rattle.pmd.specs.PmdRx.Receive.{Layout, fresh_of, vacant}
 use Rattle.pmd.specs.PmdRx.declared.ring.Stage.{Stage}
 use Rattle.pmd.specs.PmdTx.Sending.{Segment, blocks_of, descriptor_at, moved, no_segment, segment_at, slot_at}
-use Rattle.ring_laws.{specs.Agreeing.AgreesAt, specs.Alone.LendsOneOf}
 use Rattle.ring_laws.proofs.{DeviceLaws.RepliesSent.transmitting_tells, DeviceLaws.StandingQueues.receiving_rest}
 use Rattle.ring_laws.proofs.{Fetching.head_is, Fetching.length-asking, Foreign.piece_inside, Parts.seen_within}
 use Rattle.ring_laws.proofs.Blocks.{has_lent-ring, has_lent-segment, slot-below}
 use Rattle.ring_laws.proofs.HistoryLaws.Blocks.{IsSparedBy, clear_outside, reported, spared_block}
 use Rattle.ring_laws.proofs.Kept.{each_by, each_posted, each_ring, slot_below}
-use Rattle.ring_laws.specs.{DeviceLaws.Replies.report_of, Joint.HasSlots, Joint.Holds, Joint.StageHolds}
+use Rattle.ring_laws.specs.{Agreeing.AgreesAt, Alone.LendsOneOf, DeviceLaws.Replies.report_of}
 use Rattle.ring_laws.specs.DeviceLaws.Leaving.{LeavesReceive, LeavesTransmit}
+use Rattle.ring_laws.specs.Joint.{HasSlots, Holds, StageHolds}
 use Rattle.ring_laws.specs.Steps.{Each, IfFresh, IsOutside, Leaves, OwnReportsSpare}
 use Rattle.driver_laws.proofs.Prelude.{Done, IsOwn, Spares, Tdwbah, Wrote, block_at, gives, memory_blocks, memory_rest}
 use Rattle.driver_laws.proofs.Prelude.{mine-moved, mine_driven, plain-write, reach, settings_stand, stays_within}
 use Rattle.driver_laws.proofs.Prelude.{step_of, word_of, write_memory, write_rest}
 use Rattle.driver_laws.specs.Prelude.{Accepts, Advances, Agree, Asks, Block, Blocks, Dir, Elsewhere, Event, IsEvent}
-use Rattle.driver_laws.specs.Prelude.{IsSound, LeavesBlock, Lends, Looks, Memory, Move, Piece, Rdt, Reaps, Receive}
-use Rattle.driver_laws.specs.Prelude.{Register, Reply, Rx, Sender, State, Tx, WritesNoSetting, WritesOutside, after}
-use Rattle.driver_laws.specs.Prelude.{drive, has_bit, has_block, has_lent, is_ring_block, named, pieces, place}
-use Rattle.driver_laws.specs.Prelude.{reply_to}
+use Rattle.driver_laws.specs.Prelude.{IsSound, LeavesBlock, Lends, Looks, Memory, Move, Piece, Reaps, Receive, Register}
+use Rattle.driver_laws.specs.Prelude.{Reply, Rx, Sender, State, Tx, WritesNoSetting, WritesOutside, after, drive}
+use Rattle.driver_laws.specs.Prelude.{has_bit, has_block, has_lent, is_ring_block, named, pieces, place, reply_to}
 use Rattle.nic_device.specs.declared.event.Event.TheVariants as event
 use Rattle.pmd.specs.PmdRx.Keeping as received
 use Rattle.pmd.specs.PmdRx.Receive as receiving
@@ -130,13 +129,7 @@ module _ (dir : Dir) (queue : ℕ) (own : Blocks) (s : State) where
 
 module _ (queue : ℕ) (own : Blocks) (s : State) where
   touch_transmit : (e : Event Block) → Touches Rx queue own s e → LeavesTransmit queue s (after s e)
-  touch_transmit (event.Peek16 a) is = (memory_rest.peek s a).queues.transmit queue
-  touch_transmit (event.Take n) is = (memory_rest.take s n).queues.transmit queue
-  touch_transmit (event.Lend b) is = (memory_rest.lend s b).queues.transmit queue
-  touch_transmit (event.Poke16 a bytes) is = (memory_rest.poke s a bytes).queues.transmit queue
-  touch_transmit (event.Write port n word) is =
-      (write_rest s port n word (place Rdt queue) 0xFFFFFFFF is refl refl).transmit queue (λ e. cc)
-  touch_transmit e is = absurd is
+  touch_transmit e is = search (rules, memory_rest, write_rest)
 
   touch_receive : (e : Event Block) → Touches Tx queue own s e → LeavesReceive queue s (after s e)
   touch_receive e is = search (rules, memory_rest, write_rest)
@@ -170,12 +163,7 @@ module _ (queue : ℕ) (s : State) (out : List Piece) (v : Receive) (gone here :
       → ((number : ℕ) → IsTrue (has_lent u number) → Each v (λ b. b ≢ number)) → (e : Event Block) → IsEvent e
       → receiving.IsOwn v e → Spares queue u s e
   own_spares u lent apart e made own =
-      let touches = own_touches e own in record {
-        made = made;
-        setting = touch_setting Rx queue (received.has_lent v) s e touches;
-        side = λ other switch. touch_transmit queue (received.has_lent v) s e touches;
-        blocks = grind (arith, common_steps, touch_leaves);
-      }
+      let touches = own_touches e own in search (rules, touch_setting, touch_transmit, touch_leaves)
 
 -- a move of the transmit half
 

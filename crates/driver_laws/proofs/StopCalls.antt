@@ -9,12 +9,11 @@ use Rattle.device_lock.specs.Alone.{lends}
 use Rattle.pmd.specs.{PmdSeam.Made.Adds, PmdSeam.Made.AddsSome, PmdSeam.QueueMade.FailsBy}
 use Rattle.pmd.specs.PmdSeam.Home.{Bringing, BringsOne}
 use Rattle.ring_laws.proofs.HistoryLaws.Alone.{lent_behind}
-use Rattle.driver_laws.proofs.{Parts.around, Parts.more_some, Reached.entry_is, Reached.steps_are}
+use Rattle.driver_laws.{proofs.Parts.around, proofs.Parts.more_some, specs.Ending.Each, specs.Ending.IsAsking}
 use Rattle.driver_laws.proofs.Ground.{IsDriven, words_are_writes, writes_driven}
-use Rattle.driver_laws.proofs.Made.{all_before, all_missed, all_received, all_switched}
 use Rattle.driver_laws.proofs.Prelude.{AllAre, AreMadeOf, AtEntries, Ends, IsAlong, IsEnable, IsEnding, IsOtherwise}
 use Rattle.driver_laws.proofs.Prelude.{IsPlain, IsStrayRead, PollsEnd, StopsBy, and_one}
-use Rattle.driver_laws.specs.Ending.{Each, IsAsking}
+use Rattle.driver_laws.proofs.Reached.{all_before, all_missed, all_received, all_switched, entry_is, steps_are}
 use Rattle.driver_laws.specs.Prelude.{Access, AreMade, AtPort, Block, Blocks, Call, DeviceFault, Dir, EachRingBlock}
 use Rattle.driver_laws.specs.Prelude.{Entry, Event, IsMade, IsNumberOf, IsPrepared, IsSwitched, LendsEach, Numbers}
 use Rattle.driver_laws.specs.Prelude.{PmdFault, Port, Reply, RowId, Rx, Sees, Sets, StartTimeout, State, SwitchFails}
@@ -137,8 +136,7 @@ module _ (q : AtPort) (P : Event Block → Type 0) (K : Access → Type 0)
 -- what a driver writes as it starts are registers of its queue
 
 step_plain : (q : AtPort) (e : Event Block) → is_step e ≡ true → IsPlain q e
-step_plain q (event.Write port number word) is = cc
-step_plain q e is = tt
+step_plain q e is = grind (arith, common_steps)
 
 pub accesses_plain : (q : AtPort) (all : List Access) (old new : List Call) → AllAre IsDriven all
     → AreMade q old new all → AreMadeOf (IsPlain q) old new
@@ -152,8 +150,7 @@ module _ (q : AtPort) where
   step_asks e is = grind (arith, common_steps)
 
   asking_ends : (e : Event Block) → IsAsking q e → IsEnding q e
-  asking_ends (event.Take number) asks = tt
-  asking_ends e asks = asks
+  asking_ends e asks = grind (arith, common_steps)
 
   pub step_ends : (e : Event Block) → is_step e ≡ true → IsEnding q e
   step_ends e is = asking_ends e (step_asks e is)
@@ -168,8 +165,7 @@ MayAsk (Sees row on) = IsEnable row
 MayAsk (Sets row word) = IsEnable row × IsFalse (has_bit 25 word)
 
 pub enables : (side : Dir) → IsEnable (enable_row side)
-enables Rx = tt
-enables Tx = tt
+enables side = grind (arith, common_steps)
 
 pub enable_driven : (row : RowId) → IsEnable row → is_driven row ≡ true
 enable_driven row is = grind (arith, common_steps)

@@ -2,27 +2,27 @@
 -- are asked off and seen off, and stay so. Then nothing is received or sent, over events that leave the queue alone and
 -- calls of a stop.
 use Rattle.std.proofs.{lemmas.Grind.common_steps, lemmas.List.append-nil, lemmas.List.append_cancel_left}
-use Rattle.std.proofs.Common.{[], ◌&&◌, ◌++◌, ◌∙◌, ◌∷◌, ◌≡◌, ◌≢◌, Bool, List, None, Option, Some, ℕ, ap, arith, false}
-use Rattle.std.proofs.Common.{inl, inr, not, option_map, refl, rules, subst, sym, true}
+use Rattle.std.proofs.Common.{[], ◌++◌, ◌∙◌, ◌∷◌, ◌≡◌, ◌≢◌, Bool, List, None, Option, Some, ℕ, ap, arith, false, inl}
+use Rattle.std.proofs.Common.{inr, option_map, refl, rules, subst, sym}
 use Rattle.std.specs.Prelude.{IsFalse}
 use Rattle.ring_laws.proofs.HistoryLaws.Steady.{IsSteady, deed_settles, off_idle, off_steady, seen_off, unwanted_steady}
 use Rattle.ring_laws.specs.{Delivered.packets_if_any, HistoryLaws.Sides.IsUnwanted}
 use Rattle.driver_laws.proofs.{Parts.calls_joined, Points.idle_left, Words.each_side, Words.side_driven}
 use Rattle.driver_laws.proofs.Ground.{ground_kept, ground_names, plain_keeps}
-use Rattle.driver_laws.proofs.Made.{all_missed, all_polled, first_seen, made_some, state_access}
 use Rattle.driver_laws.proofs.Prelude.{AllAre, AtCalls, Deed, Ends, HasGround, IsAlong, IsEnding, IsKept, IsMet, IsOff}
 use Rattle.driver_laws.proofs.Prelude.{IsPlain, IsQuiet, NamesRow, Piece, Stands, asked, left_deed, memory_rest}
 use Rattle.driver_laws.proofs.Prelude.{no_block, none_begun_while_off, not_again, packets_of, queues_left, read_rest}
 use Rattle.driver_laws.proofs.Prelude.{sent_is_counted, since-append, steady_kept}
-use Rattle.driver_laws.proofs.Reached.{entry_is, made_keep, reached_next, sound_at, step_left, walk, watching}
+use Rattle.driver_laws.proofs.Reached.{all_missed, all_polled, entry_is, first_seen, made_keep, made_some, reached_next}
+use Rattle.driver_laws.proofs.Reached.{sound_at, state_access, step_left, walk, watching}
 use Rattle.driver_laws.proofs.StopCalls.{MayAsk, accesses_are, enables, may_asks, none_made, stays_some, step_ends}
 use Rattle.driver_laws.proofs.StopCalls.{then_made}
-use Rattle.driver_laws.specs.{Ending.Each, Quiet.OffSidesStand, Quiet.ReceiveGuardIsOff, Standing.IsLeft}
+use Rattle.driver_laws.specs.{Ending.Each, Quieting.QuietSidesStand, Quieting.QuietingLeads, Standing.IsLeft}
 use Rattle.driver_laws.specs.Prelude.{Access, AreMade, AtPort, Block, Blocks, Call, Dir, Entry, Event, IsEvent, IsMade}
 use Rattle.driver_laws.specs.Prelude.{IsNumberOf, Rx, Rxdctl, Sees, Sets, Side, State, Tx, Txdctl, Watched, after}
 use Rattle.driver_laws.specs.Prelude.{calls_of, enable_row, has_bit, is_on, leads_to, lent_by, missed, pieces}
-use Rattle.driver_laws.specs.Prelude.{pieces_since, polled, quiet, receive_polled, sent_by, sent_since, side_of}
-use Rattle.driver_laws.specs.Quieting.{QuietSidesStand, QuietingLeads}
+use Rattle.driver_laws.specs.Prelude.{pieces_since, polled, quiet, receive_polled, sent_by, side_of}
+use Rattle.driver_laws.specs.Quiet.{OffSidesStand, ReceiveGuardIsOff}
 use Rattle.driver_laws.specs.Silent.{IsSilent, QuietQueueIsSilent, SwitchingOffLeads}
 use Rattle.nic_device.specs.declared.event.Event.TheVariants as event
 use Rattle.ring_laws.proofs.HistoryLaws.Steady as steady
@@ -99,11 +99,7 @@ left_stays : (w : Watched) (mine : Blocks) (q : AtPort) (frame : ℕ) (s : State
     → IsQuiet w.queue q frame s → StaysQuiet w.queue q frame s e
 left_stays w mine q frame s e left x =
     let rx = idle_left Rx IsOff off_idle w mine s e left x.receive in
-    let tx = idle_left Tx IsOff off_idle w mine s e left x.transmit in record {
-      quiet = record { ground = ground_kept w mine q frame s e left x.ground; receive = rx.0; transmit = tx.0 };
-      received = rx.1;
-      sent = tx.1.sent;
-    }
+    let tx = idle_left Tx IsOff off_idle w mine s e left x.transmit in search (rules, ground_kept)
 
 pub quiet_kept : (w : Watched) (mine : Blocks) (q : AtPort) (frame : ℕ) → IsKept w mine (IsQuiet w.queue q frame)
 quiet_kept w mine q frame s e left x = (left_stays w mine q frame s e left x).quiet
@@ -154,9 +150,7 @@ module _ {w : Watched} {origin : State} {h : List Entry} (q : AtPort) (frame : �
 
   ground_keeps : (old new : List Call) → Ends q old new → old ≢ [] → AtCalls w origin h old Ground
       → AtCalls w origin h new Ground
-  ground_keeps =
-      made_keep Ground (IsEnding q) along (ground_kept w mine q frame)
-      (λ s e met made ends g. plain_keeps w.queue q frame s e (ending_plain q e ends) g)
+  ground_keeps = search (rules, made_keep, ground_kept, plain_keeps, ending_plain)
 
   -- amid such calls the side is asked off, and seen off then
   shut_at : (old m1 m2 m3 m4 new : List Call) → Ends q old m1 → IsMade q m1 m2 (Sets (enable_row dir) 0) → Ends q m2 m3
@@ -250,16 +244,12 @@ off_sides_stand queue s sound off transmit_off = search (rules, each_side, off_s
 
 -- two sides that are seen off stand as they are, with no block lent
 
-all_off : (a b c d : Bool) → a ≡ false → b ≡ false → c ≡ false → d ≡ false
-    → ((not a && not b) && (not c && not d)) ≡ true
-all_off a b c d e f g i = rw (e, f, g, i) refl
-
 pub quiet_sides_stand : QuietSidesStand
 quiet_sides_stand w q frame origin h calls along quiet done rest all is =
     let s = leads_to origin done in
     let x = quiet done rest all is in (
       record { side = λ dir. side_of dir w.queue s; rings = no_block },
-      all_off _ _ _ _ x.receive.off x.receive.unwanted x.transmit.off x.transmit.unwanted,
+      rw (x.receive.off, x.receive.unwanted, x.transmit.off, x.transmit.unwanted) refl,
       record {
         stand = off_sides_stand w.queue s (sound_at along done rest all) x.receive x.transmit;
         ground = x.ground;
@@ -271,14 +261,11 @@ quiet_sides_stand w q frame origin h calls along quiet done rest all is =
 ending_stays : (queue : ℕ) (q : AtPort) (frame : ℕ) (s : State) (e : Event Block) → IsMet queue s → IsEvent e
     → IsEnding q e → IsQuiet queue q frame s → StaysQuiet queue q frame s e
 ending_stays queue q frame s (event.Write port number word) met made ends x =
-    let quiet = ending_quiet queue q frame s (event.Write port number word) met made ends x in
-    record { quiet = quiet; received = refl; sent = refl }
+    record { quiet = ending_quiet queue q frame s _ met made ends x; received = refl; sent = refl }
 ending_stays queue q frame s (event.Read port number) met made ends x =
-    let quiet = ending_quiet queue q frame s (event.Read port number) met made ends x in
-    record { quiet = quiet; received = refl; sent = refl }
+    record { quiet = ending_quiet queue q frame s _ met made ends x; received = refl; sent = refl }
 ending_stays queue q frame s (event.Take number) met made ends x =
-    let quiet = ending_quiet queue q frame s (event.Take number) met made ends x in
-    record { quiet = quiet; received = refl; sent = refl }
+    record { quiet = ending_quiet queue q frame s _ met made ends x; received = refl; sent = refl }
 ending_stays queue q frame s e met made ends x =
     left_stays (watching queue s) no_block q frame s e (step_left queue s e met made ends) x
 
@@ -299,7 +286,6 @@ module _ {w : Watched} {origin : State} {h : List Entry} (q : AtPort) (frame : �
       let s = leads_to origin now in
       let t = after s e.event in
       let so_far = pieces_since w.queue origin None now in
-      let sent = sent_since w.queue origin [] now in
       let rx = not_again (is_on s.registers Rx w.queue) (is_on t.registers Rx w.queue) (inr stays.quiet.receive.off) in
       let tx = not_again (is_on s.registers Tx w.queue) (is_on t.registers Tx w.queue)
       (inr stays.quiet.transmit.off) in
@@ -311,7 +297,7 @@ module _ {w : Watched} {origin : State} {h : List Entry} (q : AtPort) (frame : �
               (none_more so_far ∙ x.same.delivered);
           sent =
               rw (sent_is_counted.joined w.queue origin [] now (e ∷ []), tx, stays.sent)
-              (append-nil sent ∙ x.same.sent);
+              (append-nil _ ∙ x.same.sent);
         };
       }
 

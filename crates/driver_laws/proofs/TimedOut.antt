@@ -5,8 +5,8 @@ use Rattle.std.proofs.Common.{false, inl, inr, refl, suc, sym, true, zero}
 use Rattle.std.specs.Prelude.{◌==◌, Err, None, Option, Some}
 use Rattle.nic_device.specs.RegTable.Rows.{rows}
 use Rattle.pmd.{proofs.PmdSeam.QueueSequences.both_made as made_after, specs.Started.IsShut}
-use Rattle.driver_laws.proofs.Made.{OfCall, all_both, all_missed, all_polled, made_by}
 use Rattle.driver_laws.proofs.Prelude.{AllAre, AreMadeOf, GoingOnFails, IsPlain}
+use Rattle.driver_laws.proofs.Reached.{OfCall, all_both, all_missed, all_polled, made_by}
 use Rattle.driver_laws.proofs.StopCalls.{accesses_plain, prepared_plain, then_made}
 use Rattle.driver_laws.specs.Polls.{AreEnables, Enables, PollsAreTold, asked_after, is_missed, missed_in}
 use Rattle.driver_laws.specs.Prelude.{Access, AreMade, AreSteps, AtPort, Block, Call, Dir, Event, IsNumberOf, Numbers}
@@ -39,8 +39,7 @@ one_after_the_other first few =
 
 -- these are accesses of the enable words alone
 enable_reads : (side : Dir) (seen : Bool) → IsOfEnable (Sees (enable_row side) seen)
-enable_reads Rx seen = tt
-enable_reads Tx seen = tt
+enable_reads side seen = grind (arith, common_steps)
 
 module _ (q : AtPort) (size frame : ℕ) where
   -- how it comes to this

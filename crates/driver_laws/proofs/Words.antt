@@ -41,8 +41,7 @@ driven dir row word fits = grind (arith, common_steps)
 
 -- the enable register of each side is one of them
 pub side_driven : (side : Dir) → is_driven (enable_row side) ≡ true
-side_driven Rx = refl
-side_driven Tx = refl
+side_driven side = grind (arith, common_steps)
 
 -- none of them is a setting
 pub driven_plain : (row : RowId) → is_driven row ≡ true → is_setting row ≡ false
@@ -142,14 +141,12 @@ module _ (queue : ℕ) (s : State) (small : queue < 128) (sound : IsSound s) whe
   side_taken : (dir : Dir) → IsFalse (side_of dir queue s).on → (row : RowId) (word : ℕ) → Fits dir row word
       → side_of dir queue (written row word) ≡ side_with dir row word (side_of dir queue s)
   side_taken Rx off Rdbal word fits =
-      let even = low_bits r sound.registers Rdbal queue refl in
-      let base = base_low (old Rdbah) (old Rdbal) word (short Rdbal) even fits in
+      let base = base_low (old Rdbah) _ word (short Rdbal) (low_bits r sound.registers Rdbal queue refl) fits in
       ap receive_side (receive-written r shape Rdbal queue refl small (inr (refl, off)) 0xFFFFFFFF word)
       ∙ (λ k. record rx { ring = record rx.ring { base = base k } })
   side_taken Rx off Rdbah word fits =
-      let base = base_high (old Rdbah) (old Rdbal) word (short Rdbal) fits in
       ap receive_side (receive-written r shape Rdbah queue refl small (inr (refl, off)) 0xFFFFFFFF word)
-      ∙ (λ k. record rx { ring = record rx.ring { base = base k } })
+      ∙ (λ k. record rx { ring = record rx.ring { base = base_high (old Rdbah) _ word (short Rdbal) fits k } })
   side_taken Rx off Rdlen word fits =
       let taken = merged-length (old Rdlen) word (low_bits r sound.registers Rdlen queue refl) fits.0 fits.1 in
       ap receive_side (receive-written r shape Rdlen queue refl small (inr (refl, off)) 0xFFFFFFFF word)
@@ -163,14 +160,12 @@ module _ (queue : ℕ) (s : State) (small : queue < 128) (sound : IsSound s) whe
       ∙ (λ k. record rx { control = whole (old Srrctl) word fits k })
   side_taken Rx off Rxdctl word fits = ap receive_side (receive-asked r shape queue small 0xFFFFFFFF word)
   side_taken Tx off Tdbal word fits =
-      let even = low_bits r sound.registers Tdbal queue refl in
-      let base = base_low (old Tdbah) (old Tdbal) word (short Tdbal) even fits in
+      let base = base_low (old Tdbah) _ word (short Tdbal) (low_bits r sound.registers Tdbal queue refl) fits in
       sends (transmit-written r shape Tdbal queue refl small (inr (refl, off)) 0xFFFFFFFF word)
       ∙ (λ k. record tx { ring = record tx.ring { base = base k } })
   side_taken Tx off Tdbah word fits =
-      let base = base_high (old Tdbah) (old Tdbal) word (short Tdbal) fits in
       sends (transmit-written r shape Tdbah queue refl small (inr (refl, off)) 0xFFFFFFFF word)
-      ∙ (λ k. record tx { ring = record tx.ring { base = base k } })
+      ∙ (λ k. record tx { ring = record tx.ring { base = base_high (old Tdbah) _ word (short Tdbal) fits k } })
   side_taken Tx off Tdlen word fits =
       let taken = merged-length (old Tdlen) word (low_bits r sound.registers Tdlen queue refl) fits.0 fits.1 in
       sends (transmit-written r shape Tdlen queue refl small (inr (refl, off)) 0xFFFFFFFF word)

@@ -24,8 +24,8 @@ use Rattle.pmd_laws.proofs.Prelude.{Sees, Sends, Some, State, Told, Tx, ℕ, amo
 use Rattle.pmd_laws.proofs.Prelude.{append-nil, append_assoc, append_cancel_left, arith, both_ways, call_of}
 use Rattle.pmd_laws.proofs.Prelude.{calls_joined, calls_of, common_steps, false, halves_of, harmless_apart}
 use Rattle.pmd_laws.proofs.Prelude.{inl, inr, is_own, is_own-of_free, is_step, leads_to, left, lends, list_any, parts}
-use Rattle.pmd_laws.proofs.Prelude.{played_by, receiving_apart, refl, ring_block_is, ring_block_out, ring_blocks}
-use Rattle.pmd_laws.proofs.Prelude.{rules, some_made, subst, sym, then_made, times-append, times_among, times_in_hand, true}
+use Rattle.pmd_laws.proofs.Prelude.{played_by, receiving_apart, refl, ring_block_is, ring_block_out, ring_blocks, rules}
+use Rattle.pmd_laws.proofs.Prelude.{some_made, subst, sym, then_made, times-append, times_among, times_in_hand, true}
 use Rattle.pmd_laws.specs.{Faultless.IsQuietAndFresh, Faultless.SendsAtFault, Faultless.met_by, Told.now}
 use Rattle.std.proofs.Common.{IfErr, IfSome, Result}
 

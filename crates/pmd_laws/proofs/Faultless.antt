@@ -22,9 +22,9 @@ use Rattle.pmd_laws.proofs.Prelude.{LeadsApart, List, None, Numbers, OnlyPassLen
 use Rattle.pmd_laws.proofs.Prelude.{Parts, PmdFault, PreparingFails, Receive, ReceiveFails, Reply, Running, Rx, Rxdctl}
 use Rattle.pmd_laws.proofs.Prelude.{Sees, Sends, Some, State, Told, Tx, ℕ, among_times, and_parts, ap, apart_on}
 use Rattle.pmd_laws.proofs.Prelude.{append-nil, append_assoc, append_cancel_left, arith, both_ways, call_of}
-use Rattle.pmd_laws.proofs.Prelude.{calls_joined, calls_of, common_steps, false, halves_of, harmless_apart, has_block}
+use Rattle.pmd_laws.proofs.Prelude.{calls_joined, calls_of, common_steps, false, halves_of, harmless_apart}
 use Rattle.pmd_laws.proofs.Prelude.{inl, inr, is_own, is_own-of_free, is_step, leads_to, left, lends, list_any, parts}
-use Rattle.pmd_laws.proofs.Prelude.{played_by, receiving_apart, refl, ring_block_is, ring_block_out, ring_blocks}
+use Rattle.pmd_laws.proofs.Prelude.{played_by, receiving_apart, refl, ring_block_is, ring_block_out, ring_blocks, rules}
 use Rattle.pmd_laws.proofs.Prelude.{some_made, subst, sym, then_made, times-append, times_among, times_in_hand, true}
 use Rattle.pmd_laws.specs.{Faultless.IsQuietAndFresh, Faultless.SendsAtFault, Faultless.met_by, Told.now}
 use Rattle.std.proofs.Common.{IfErr, IfSome, Result}
@@ -62,18 +62,7 @@ module _ {own : Blocks} {on : List Call} {h : Halves} {new : List Call} (f : Fin
 -- calls that lead to such a call are part of it
 pub found_on : {own : Blocks} {old mid new : List Call} {h j : Halves} → DrivesApart own old h mid j
     → FindsFault own mid j new → FindsFault own old h new
-found_on {own = own} {old = old} {mid = mid} {h = h} {j = j} drives f = record {
-  mid = f.mid;
-  there = f.there;
-  doer = f.doer;
-  event = f.event;
-  reply = f.reply;
-  drives = apart_on own old mid f.mid h j f.there drives f.drives;
-  mine = f.mine;
-  apart = f.apart;
-  adds = f.adds;
-  sick = f.sick;
-}
+found_on drives f = search (rules, apart_on)
 
 -- from the place on where both sides are on, where nobody else lends any of these blocks
 module _ {c : Course} (x : On c) (own : Blocks)

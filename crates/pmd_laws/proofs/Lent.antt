@@ -24,7 +24,7 @@ use Rattle.pmd_laws.proofs.Prelude.{false, false_from_ne_true, ground_kept, halt
 use Rattle.pmd_laws.proofs.Prelude.{inl, inr, is_free, is_out, is_own, is_step, leads-append, leads_to, left}
 use Rattle.pmd_laws.proofs.Prelude.{left-setting, legal_behind, lends, lent_by, lent_in, list_any, made_some}
 use Rattle.pmd_laws.proofs.Prelude.{memory_after, most_blocks, named, none_made, not, or_cases, places_of, plain_keeps}
-use Rattle.pmd_laws.proofs.Prelude.{plain_setting, quiet, reads_driven, refl, ring_block_among, ring_block_out}
+use Rattle.pmd_laws.proofs.Prelude.{plain_setting, quiet, reads_driven, refl, ring_block_among, ring_block_out, rules}
 use Rattle.pmd_laws.proofs.Prelude.{ring_blocks, ring_words, same_from_push, subst, suc, sym, take, then_made}
 use Rattle.pmd_laws.proofs.Prelude.{times-append, times-cons, times_among, times_first, times_in_hand, true}
 use Rattle.std.proofs.lemmas.List.Folds.{list_any-append}
@@ -213,9 +213,7 @@ module _ {c : Course} (x : On c) (own : Blocks) where
       (there, (frames_stay_short w.queue (most_blocks frame) s e (short_by w.queue q frame s g short) none).waiting)
 
   short_kept : IsKept w (lent_by w.pass h) Short
-  short_kept s e left x =
-      short_next s e x (left-setting w s left.vfs e left.registers)
-      (ground_kept w (lent_by w.pass h) q frame s e left x.0)
+  short_kept s e left x = search (rules, short_next, left-setting, ground_kept)
 
   plain_short : (s : State) (e : Event Block) → IsPlain q e → Short s → Short (after s e)
   plain_short s e plain x =

@@ -20,7 +20,7 @@ use Rattle.pmd_laws.proofs.Prelude.{drives_lead, each_ring_block, false, false_f
 use Rattle.pmd_laws.proofs.Prelude.{harmless_leave_alone, has_lent, inl, is_free, is_own, is_own-of_free, is_ring_block}
 use Rattle.pmd_laws.proofs.Prelude.{leads-append, leads_on, leads_to, led, length, lent_by, on, packets_if_any, parts}
 use Rattle.pmd_laws.proofs.Prelude.{pieces_in, pieces_since, played_by, receiving_apart, receiving_drives, records_of}
-use Rattle.pmd_laws.proofs.Prelude.{refl, ring_block_among, ring_block_is, ring_block_out, ring_blocks, sent_in}
+use Rattle.pmd_laws.proofs.Prelude.{refl, ring_block_among, ring_block_is, ring_block_out, ring_blocks, rules, sent_in}
 use Rattle.pmd_laws.proofs.Prelude.{sent_since, since-append, subst, sym, times_among, times_in_hand, true}
 use Rattle.pmd_laws.proofs.Prelude.{true_from_ne_false, with_free}
 use Rattle.driver_laws.specs.RingLaws.Delivered as receive
@@ -107,10 +107,7 @@ module _ {q : AtPort} {size frame : ℕ} {old : List Call} {a : Numbers} {ready_
   -- what is free then, the transmit ring hasn't lent
   pub may : (n : ℕ) → is_free both_arena n ≡ true
       → MayLend (is_own a) (record { receive = v; transmit = t }) Receives n
-  may n free = (
-    sym (both_own n) ∙ is_own-of_free both_arena n free,
-    false_from_ne_true (has_lent t n) (grind (arith, common_steps, ring_gone, lent_ring)),
-  )
+  may n free = search (rules, both_own, is_own-of_free, false_from_ne_true, ring_gone, lent_ring)
 
 -- so a driver lends from there on
 module _ {q : AtPort} {size frame : ℕ} {old : List Call} {a : Numbers} {new : List Call} {r : Running}
@@ -210,10 +207,7 @@ module _ {c : Course} (x : Ran c) where
     sent = sent_in w.queue (leads_to origin p.front) p.back
 
     pub counted : sent_since w.queue origin [] h ≡ sent
-    counted =
-        ap (sent_since w.queue origin []) (sym p.both)
-        ∙ counted_where_up w origin p.front p.back (first x.there) goes.0 driven went_on.sends
-        ∙ ap (λ (xs : List (List ℕ)). xs ++ sent) went_on.sent
+    counted = search (rules, counted_where_up, driven, went_on)
 
   -- the pass made just these calls in the history
   module _ (made : calls_of w.pass h ≡ x.new) where
@@ -289,10 +283,7 @@ module _ (x : Life) where
   begun = on_of (on is.up is.along is.begins) is.along is.begins.ground
 
   pub whole : Leads is.up.on.mid (first begun) x.made k
-  whole =
-      leads_on is.up.on.mid started x.made (first begun) (halves_of r) k
-      (grind (arith, common_steps, drives_lead, first, begun, receiving_drives))
-      is.since
+  whole = search (rules, leads_on, drives_lead, receiving_drives)
 
   abbrev pub ran : Ran x.course
   ran = record { there = begun; new = x.made; k = k; goes = whole }

@@ -57,7 +57,7 @@ pub use Rattle.pmd_laws.specs.Told.{AllFollow, Drove, Follows, HasNoneOut, IsTol
 pub use Rattle.std.{proofs.lemmas.Bool.true_from_ne_false, proofs.lemmas.Grind.common_steps, specs.List.list_any}
 pub use Rattle.std.proofs.Common.{[], ◌&&◌, ◌++◌, ◌+◌, ◌-◌, ◌<◌, ◌||◌, ◌∙◌, ◌∷◌, ◌≡◌, ◌≢◌, ◌≤◌, ◌⊎◌, Bool, Err, List}
 pub use Rattle.std.proofs.Common.{None, Ok, Option, Some, ℕ, ap, append_assoc, arith, cond, false, inl, inr, length}
-pub use Rattle.std.proofs.Common.{max, nat_cmp, nat_lt, not, option_map, refl, subst, suc, sym, take, true}
+pub use Rattle.std.proofs.Common.{max, nat_cmp, nat_lt, not, option_map, refl, rules, subst, suc, sym, take, true}
 pub use Rattle.std.proofs.Common.{zero, ⊎_elim}
 pub use Rattle.std.proofs.lemmas.Bool.{and_from, and_parts, both_ways, cases_Bool, eq-eqb, false_from_ne_true, or_cases}
 pub use Rattle.std.proofs.lemmas.List.{append-nil, append_cancel_left, same_from_push}

@@ -18,7 +18,7 @@ use Rattle.pmd_laws.proofs.Prelude.{Rest, RowId, Rx, Sees, Sets, Some, StopsBy, 
 use Rattle.pmd_laws.proofs.Prelude.{append_cancel_left, arith, both_quiet, bytes_of, call_in, call_of, calls_joined}
 use Rattle.pmd_laws.proofs.Prelude.{calls_of, calls_own, common_steps, cond, delivered, eq-eqb, false, inl, inr}
 use Rattle.pmd_laws.proofs.Prelude.{is_step, last, leads_to, left, most_blocks, named, none_made, not, refl, ring_words}
-use Rattle.pmd_laws.proofs.Prelude.{sent_is_counted, sent_since, sized, some_made, subst, sym, true}
+use Rattle.pmd_laws.proofs.Prelude.{rules, sent_is_counted, sent_since, sized, some_made, subst, sym, true}
 use Rattle.pmd_laws.specs.Refused.{LeftOfRefusedIsPrefix, Refused, RefusedSendsNothing}
 use Rattle.driver_laws.specs.RingLaws.Delivered as receive
 use Rattle.driver_laws.specs.RingLaws.Laws as transmit
@@ -278,9 +278,7 @@ left_lays a (n ∷ ns) r old new left is down = half_lays _ r old new left is do
 stopping_lays : {q : AtPort} {l : Laid} {size frame : ℕ} {old : List Call} {a : Numbers} (made : List Call)
     (e : StartRefused) (new : List Call) (left : Rest) → StopsStarting q size frame old a made e
     → ComesDown made e.rest new left → LaysTo q l made new l
-stopping_lays made e new left (inl x) down = left_lays x.arena x.out e.rest made new left x.left down
-stopping_lays made e new left (inr (inl x)) down = half_lays _ e.rest made new left x.left down
-stopping_lays made e new left (inr (inr x)) down = half_lays _ e.rest made new left x.left down
+stopping_lays made e new left stops down = search (rules, left_lays, half_lays)
 
 -- a start that isn't refused before any event has a size
 is_passed : (b : Bool) (more : Option PmdFault) (f : PmdFault) → cond b more (Some f) ≡ None → b ≡ true

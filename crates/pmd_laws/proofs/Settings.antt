@@ -19,7 +19,7 @@ use Rattle.pmd_laws.proofs.Prelude.{Event, HasGround, IsSound, List, Mode, Optio
 use Rattle.pmd_laws.proofs.Prelude.{State, Tx, Watched, ℕ, after, ap, append-nil, append_assoc, arith, asks_pool_reset}
 use Rattle.pmd_laws.proofs.Prelude.{cases_Bool, cleared, common_steps, cond, enable_row, events_before, false, has_bit}
 use Rattle.pmd_laws.proofs.Prelude.{has_queue, image_stays, is_on, leads_to, left-side, length, mode_in, named}
-use Rattle.pmd_laws.proofs.Prelude.{new_sound, new_state, place, refl, row_of, subst, sym, true, vfs_stays}
+use Rattle.pmd_laws.proofs.Prelude.{new_sound, new_state, place, refl, row_of, rules, subst, sym, true, vfs_stays}
 use Rattle.pmd_laws.specs.{DriverLaws.Numbers.queue_at, DriverLaws.Numbers.queue_in, Quiet.NeverAskedIsQuiet}
 use Rattle.pmd_laws.specs.DriverLaws.HistoryLaws.{Sides.IsOff, Sides.side_of}
 use Rattle.workers.specs.{Beginning.BeginsWell, DeviceLock.declared.told.Settings.Settings, Quiet.NoneAsksOn}
@@ -153,10 +153,7 @@ module _ (w : Watched) (small : w.queue < 128) (s : State) (sound : IsSound s) (
             (sides-after_write s.registers sound.registers view word p dir queue ∙ down.0, written_unwanted)
 
         register_down : Down t
-        register_down =
-            ⊎_elim reset_down (λ no_reset.
-            ⊎_elim pool_down (written_down no_reset) (cases_Bool (asks_pool_reset (row_of p.row).kind word)))
-            (cases_Bool (asks_reset (row_of p.row).kind word))
+        register_down = search (rules, reset_down, pool_down, written_down, cases_Bool)
 
     module _ (functions : w.vfs ≡ s.vfs) (none : asks_on w (mode_in s.registers) (event.Write port n word) ≡ false)
       where
@@ -173,10 +170,7 @@ module _ (w : Watched) (small : w.queue < 128) (s : State) (sound : IsSound s) (
 stays_off : (w : Watched) (s : State) → w.queue < 128 → IsSound s → s.image ≡ blank → w.vfs ≡ s.vfs → (dir : Dir)
     → (e : Event Block) → asks_on w (mode_in s.registers) e ≡ false → IsOff (side_of dir w.queue s)
     → IsOff (side_of dir w.queue (after s e))
-stays_off w s small sound image functions dir (event.Write port n word) none off =
-    down_off dir w.queue (after s (event.Write port n word))
-    (named_down w small s sound dir image (grind (arith, common_steps)) port n word functions none (named s port n)
-    refl)
+stays_off w s small sound image functions dir (event.Write port n word) none off = search (rules, down_off, named_down)
 stays_off w s small sound image functions dir e none off =
     steady_kept dir w.queue s e IsOff off off_steady
     (side_did dir w.queue s e sound small (left-side w s functions dir e tt))

@@ -8,7 +8,7 @@ use Rattle.pmd_laws.proofs.Prelude.{IsReceiveReady, IsStrayRead, IsSwitched, IsT
 use Rattle.pmd_laws.proofs.Prelude.{PlaysFrom, PollsEnd, PreparingFails, Receive, ReceiveFails, Reply, RowId, Running}
 use Rattle.pmd_laws.proofs.Prelude.{Rx, Rxdctl, Sees, Sender, Sets, StopsBy, StopsLending, Tx, ℕ, append-nil}
 use Rattle.pmd_laws.proofs.Prelude.{append_cancel_left, arith, both_quiet, common_steps, false, inl, inr, missed, named}
-use Rattle.pmd_laws.proofs.Prelude.{place, polled, quiet, receive_polled, refl, ring_words, subst, sym, true}
+use Rattle.pmd_laws.proofs.Prelude.{place, polled, quiet, receive_polled, refl, ring_words, rules, sym, true}
 
 -- some calls were added, of which this holds, whatever calls are before them
 pub record Shifts (R : List Call → List Call → Type 0) (old new : List Call) : Type 0 where
@@ -50,9 +50,7 @@ known x = record { since = x.since; made = x.made; behind = λ front. (x.behind 
 -- what shifts holds behind other calls, where the calls that were added are known
 pub shifted : {R : List Call → List Call → Type 0} {old new : List Call} → Shifts R old new
     → (since front : List Call) → new ≡ old ++ since → R front (front ++ since)
-shifted {R = R} {old = old} x since front made =
-    subst (λ (l : List Call). R front (front ++ l)) (append_cancel_left old x.since since (sym x.made ∙ made))
-    (x.behind front)
+shifted x since front made = search (rules, append_cancel_left)
 
 -- a call, and calls as each half tells them
 
@@ -129,21 +127,14 @@ lends [] = none
 lends (n ∷ ns) = then (adds _ _) (lends ns)
 
 lending : (all : List ℕ) (a b : Numbers) (out : List ℕ) → Shift (λ o n. StopsLending DeviceFault all o a n b out)
-lending all a b out old new x =
-    let (back, again) = x.fails in
-    joined (lends out old x.mid x.lent) (adds _ _ x.mid new again)
-    (grind (arith, common_steps))
+lending all a b out old new x = search (rules, joined, lends, adds)
 
 module _ (q : AtPort) where
   prepared : (side : Dir) (size : ℕ) (a b : Numbers) (ring : ℕ) → Shift (λ o n. IsPrepared q side size o a n b ring)
-  prepared side size a b ring old new x =
-      joined (accesses q _ old x.mid x.words) (lends _ x.mid new x.lent)
-      (λ o m n words lent. record { drawn = x.drawn; mid = m; words = words; lent = lent })
+  prepared side size a b ring old new x = search (rules, joined, accesses, lends)
 
   transmit : (size frame : ℕ) (a b : Numbers) (v : Sender) → Shift (λ o n. IsTransmitReady q size frame o a n b v)
-  transmit size frame a b v old new x =
-      mapped (prepared Tx size a b x.ring old new x.prepared)
-      (λ o n y. record { ring = x.ring; prepared = y; tail = x.tail; named = x.named; fresh = x.fresh })
+  transmit size frame a b v old new x = search (rules, mapped, prepared)
 
   -- the receive ring, with the place behind its first access
   receive_at : (size frame : ℕ) (a b : Numbers) (v : Receive)
@@ -152,18 +143,7 @@ module _ (q : AtPort) where
       let (at, is, quiet) = quieted q old x.mid x.quiet in (
         at,
         is,
-        joined quiet (prepared Rx size a b x.ring x.mid new x.prepared) (λ o m n y again. (
-          record {
-            mid = m;
-            quiet = y.0;
-            ring = x.ring;
-            prepared = again;
-            tail = x.tail;
-            named = x.named;
-            fresh = x.fresh;
-          },
-          y.1,
-        )),
+        joined quiet (prepared Rx size a b x.ring x.mid new x.prepared) (λ o m n y again. (search rules, y.1)),
       )
 
   receive : (size frame : ℕ) (a b : Numbers) (v : Receive) → Shift (λ o n. IsReceiveReady q size frame o a n b v)
@@ -197,21 +177,7 @@ module _ (q : AtPort) (size frame : ℕ) (a : Numbers) where
       (x.both_made, x.transmit, (x.on.mid, x.on.switched, x.on.plays)) in (
         at,
         is,
-        joined ready rest (λ o m n y z. (
-          record {
-            sized = x.sized;
-            framed = x.framed;
-            ready_made = m;
-            both_made = z.0;
-            ready_arena = x.ready_arena;
-            both_arena = x.both_arena;
-            empty = x.empty;
-            receive = y.0;
-            transmit = z.1;
-            on = record { mid = z.2.0; switched = z.2.1; plays = z.2.2; filled = x.on.filled };
-          },
-          y.1,
-        )),
+        joined ready rest (λ o m n y z. (search rules, y.1)),
       )
 
   -- one that ends with the device at fault before both sides are on

@@ -7,7 +7,7 @@ use Rattle.pmd_laws.proofs.Prelude.{[], ⊎_elim, ◌++◌, ◌∙◌, ◌∷◌
 use Rattle.pmd_laws.proofs.Prelude.{Ends, EndsOnceOff, Event, Halted, IsAsking, IsEnding, IsStopped, IsSwitched, List}
 use Rattle.pmd_laws.proofs.Prelude.{None, Option, PmdFault, Rest, Some, TakesOnceOff, after, ap, append_assoc}
 use Rattle.pmd_laws.proofs.Prelude.{append_cancel_left, arith, closed, common_steps, false, inl, inr, left, none_made}
-use Rattle.pmd_laws.proofs.Prelude.{now, one_begins, refl, some_made, subst, sym, then_made}
+use Rattle.pmd_laws.proofs.Prelude.{now, one_begins, refl, some_made, sym, then_made}
 use Rattle.pmd_laws.proofs.Shifted.{Shift, ShiftAt, joined, known, mapped, switched, then}
 use Rattle.pmd_laws.specs.Stopped.{FailedStopTakesOnceOff, NoCallTakes, StopTakesOnceOff}
 use Rattle.pmd.specs.declared.start.Rest.TheVariants as rest
@@ -20,9 +20,7 @@ module _ (P : Event Block → Type 0) where
   pub made_first : (old new since rest : List Call) → AreMadeOf P old new → new ≡ (old ++ since) ++ rest
       → Each (λ c. P c.event) since
   made_first old new since rest (calls, is, are) all =
-      each_first since rest
-      (subst (Each (λ c. P c.event))
-      (append_cancel_left old calls (since ++ rest) (sym is ∙ all ∙ append_assoc old since rest)) are)
+      grind (arith, common_steps, each_first, append_cancel_left, append_assoc)
 
   pub first_made : (old now new since rest : List Call) → AreMadeOf P old new → now ≡ old ++ since → new ≡ now ++ rest
       → AreMadeOf P old now

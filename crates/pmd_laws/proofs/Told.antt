@@ -14,10 +14,9 @@ use Rattle.pmd_laws.proofs.Prelude.{Reply, Rings, Running, Sender, Sends, State,
 use Rattle.pmd_laws.proofs.Prelude.{append-nil, append_assoc, append_cancel_left, arith, bytes_of, call_in, call_of}
 use Rattle.pmd_laws.proofs.Prelude.{calls_joined, calls_of, common_steps, delivered, drives_lead, first_of, halves_of}
 use Rattle.pmd_laws.proofs.Prelude.{harmless_apart, inl, inr, is_own, last, leads_on, leads_to, legal_behind, length}
-use Rattle.pmd_laws.proofs.Prelude.{parts_for, played_by, receiving_drives, refl, reply_to, same_from_push}
+use Rattle.pmd_laws.proofs.Prelude.{parts_for, played_by, receiving_drives, refl, reply_to, rules, same_from_push}
 use Rattle.pmd_laws.proofs.Prelude.{sending_drives, sent_since, sized, subst, sym}
 use Rattle.pmd_laws.specs.{FullRing.AcceptsNone, FullRing.TellsFull, FullRing.outstanding, Looks.EndsAt, Told.now}
-use Rattle.pmd_laws.specs.Told as told
 
 -- a later place of a life's history, to which its calls led its halves
 module _ (x : Life) (late rest : List Entry) (split : late ++ rest ≡ x.h) {then : Halves}
@@ -49,10 +48,7 @@ module _ (x : Life) (late rest : List Entry) (split : late ++ rest ≡ x.h) {the
         back = p.back ++ more;
         both = joined;
         fronts = p.fronts;
-        backs =
-            append_cancel_left x.is.up.on.mid (calls_of w.pass (p.back ++ more)) (whole later).1
-            (ap (λ (cs : List Call). cs ++ calls_of w.pass (p.back ++ more)) (sym p.fronts)
-            ∙ sym (calls_joined w.pass p.front (p.back ++ more)) ∙ ap (calls_of w.pass) joined ∙ (whole later).2);
+        backs = search (rules, append_cancel_left, calls_joined, joined);
       }
 
       -- what is so of the halves and of the device later is so in parts
@@ -164,12 +160,7 @@ module _ (x : Life) {old new now : List Call} (at : EndsAt x.w.pass x.h now)
       let drives = sending_drives old y.mid k (record k { transmit = y.before }) y.plays refl in
       waiting_sooner x at.before (at.entry ∷ at.behind) at.all (goes_up x old _ _ drives y.looks at behind) early more
       all is
-      (record {
-        bytes = y.bytes;
-        posted = y.posted;
-        waits = y.waits;
-        told = answered x old _ _ drives y.looks at behind;
-      }) (ap bytes_of y.accepted ∙ sent)
+      (search (rules, answered)) (ap bytes_of y.accepted ∙ sent)
 
 -- a driver runs, and by the numbers of an arena, which it keeps, its halves were led there behind some calls
 pub record RunsOn (a : Numbers) (old : List Call) (h : Halves) (n : Moment) : Type 0 where
@@ -254,11 +245,7 @@ module _ {q : AtPort} {size frame : ℕ} {old : List Call} {a : Numbers} {m : Mo
 
   -- its transmit ring has one slot vacant
   pub room : HasRoom size runs.rings.transmit
-  room =
-      let (doers, since, made, own, is, steps) = runs.apart.leads in
-      subst (λ (z : Halves). HasRoom size z.transmit) (sym is)
-      (played_room size (halves_of x.started.0) doers since own
-      (subst (HasRoom size) (sym x.started.2.transmit.fresh) (refl, (sized size x.started.2.sized).0)))
+  room = search (rules, runs, played_room, halves_of, sized)
 
 -- so it is a life
 module _ (x : Told) where

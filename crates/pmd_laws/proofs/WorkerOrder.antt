@@ -13,7 +13,6 @@ use Rattle.pmd_laws.specs.WorkerOrder.{CallsStand, EndOwn, IsEndAmong, IsEndIn, 
 use Rattle.workers.specs.{DeviceLock.Closing.StandsIn, Ends.AreEnds, Ends.IsEnd, Lived.HasRun, Starts.Starts}
 use Rattle.workers.specs.declared.{ends.WorkerEnd.WorkerEnd, fault.WorkerFault.WorkerFault, job.Job.Job}
 use Rattle.workers.specs.declared.fault.WorkerFault.TheVariants.{NoThread}
-use Rattle.pmd.specs.declared.start.Rest.TheVariants as rest
 use Rattle.pmd_laws.specs.DriverLaws.RingLaws.Delivered as receive
 use Rattle.pmd_laws.specs.DriverLaws.RingLaws.Laws as transmit
 

@@ -1,9 +1,8 @@
-use Rattle.pmd_laws.{proofs.Beside.own_life, proofs.Beside.rings_up, proofs.Shifted.shifted}
-use Rattle.pmd_laws.{specs.BesideStop.IsStoppedBeside}
+use Rattle.pmd_laws.{proofs.Beside.own_life, proofs.Beside.rings_up, specs.BesideStop.IsStoppedBeside}
+use Rattle.pmd_laws.proofs.{Shifted.shifted, Stopped.handed_over_stop, Stopped.sent_over_stop, Stopped.silent_off}
 use Rattle.pmd_laws.proofs.Prelude.{◌++◌, ◌∙◌, ◌≡◌, Beside, Call, IsEnding, IsStopping, List, ap, append_cancel_left}
 use Rattle.pmd_laws.proofs.Prelude.{arith, common_steps, now, refl, same_delivers, same_sends, sym}
 use Rattle.pmd_laws.proofs.StopCalls.{first_takes, made_first, once_off_shift, takes_shift}
-use Rattle.pmd_laws.proofs.Stopped.{handed_over_stop, sent_over_stop, silent_off}
 use Rattle.pmd_laws.proofs.driver_beside_any_calls_stops_in_order.Goals as goal
 
 -- the calls of its stop are told of what they add

@@ -89,7 +89,6 @@ pub fn no_start_finds_the_device_at_fault()
 /// calls came since: each block that the driver has out with a half is lent at the device. Where no block of its arena
 /// was lent just before its first access, and no other pass lends any, each of them that is lent there is out with a
 /// half. So each that was free in the arena as it came is in one place: free there, in hand, or lent to the device.
-#[tactic(auto, using(crate::proofs::Lent::out_is_lent, crate::proofs::Lent::lent_is_out, crate::proofs::Lent::each_in_one_place))]
 pub fn blocks_out_are_lent_at_the_device()
     ensures lent { OutIsLent }
     ensures known { LentIsOut }
@@ -210,7 +209,6 @@ pub fn driver_beside_any_calls_stops_in_order()
 /// Over such a history up to where a driver that lived was to stop, as `workers::run_worker` says of its driver:
 /// what is left as handed out is a prefix of what was delivered, and what was sent a prefix of what is left as
 /// accepted. So it is also over a history that goes on to any place amid its stop, or to where this ended, home or not.
-#[tactic(auto, using(crate::proofs::Stopped::left_is_prefix, crate::proofs::Stopped::left_handed_over_stop, crate::proofs::Stopped::left_sent_over_stop))]
 pub fn what_is_left_is_in_order()
     ensures before { LeftIsPrefix }
     ensures handed { HandedOverStop }

@@ -13,8 +13,8 @@ enum { RUNS = 50, FRAMES = 2000 };
 enum { EVENTS = 12 };
 /* the bytes of a call, in hand or of a pass, and of an entry of the history, each with the idle steps before it */
 enum { MADE = 88, ENTRY = 88 };
-/* the notes of a frame with its bytes: it arrives and is collected, noted in each list of calls; the notes of its block,
-   which is taken, lent and taken, have theirs in common; and its two records */
+/* the notes of a frame with its bytes: it arrives and is collected, noted in each list of calls; the notes of its
+   block, which is taken, lent and taken, have theirs in common; and its two records */
 enum { NOTES = 2, BLOCK = 1, RECORDS = 2 };
 
 static uint8_t frame[2048], call[ENTRY];

@@ -171,7 +171,8 @@ module _ (p : Packet) (whole : All (λ (b : Block). IsBlock b) p.bufs) (held : p
     pub packet-held : AllHold (paired numbers (parts_of bytes)) firsts
     packet-held =
         let at :
-        AllHold (paired (numbers_of firsts) (parts_in p.len n (take p.len (bytes_of (firsts ++ drop n p.bufs))))) firsts =
+        AllHold (paired (numbers_of firsts) (parts_in p.len n (take p.len (bytes_of (firsts ++ drop n p.bufs)))))
+        firsts =
         all-hold p.len n firsts (drop n p.bufs) p.len length-firsts some-parts (omega (arith, long)) (omega arith)
         (λ k d below. rw (get_or-take n p.bufs k d (omega (arith, length-firsts)))
         (whole k d (omega (arith, length-firsts, enough)))) in

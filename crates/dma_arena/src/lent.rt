@@ -15,7 +15,7 @@ use std::marker::Model;
 /// blocks; it is lent where each block that it touches is. Contracts see the lent numbers with
 /// the bytes of each. It cannot be dropped: it is finished in the end, once it is empty.
 ///
-/// Only `lend` takes memory.
+/// Only `lend` takes memory: room for the numbers up to the highest that was ever lent.
 pub struct LentMemory {
     blocks: Table,
 }

@@ -121,7 +121,8 @@ impl Table {
         Ok(())
     }
 
-    /// Takes the block of a number out. None where it is not lent.
+    /// Takes the block of a number out. None where it is not lent. Where it was the lowest and is
+    /// not the last, the next one is looked for, place by place.
     pub(crate) fn remove(&mut self, number: u32) -> Option<Buf>
         ensures taken { result ≡ block_at self.old number }
         ensures left { self.new ≡ map.remove self.old number }
@@ -140,7 +141,7 @@ impl Table {
         Some(buf)
     }
 
-    /// Ends a table without a block.
+    /// Ends a table without a block, which gives its places back.
     pub(crate) fn end(self)
         requires { self ≡ map.empty }
     {

@@ -1,11 +1,4 @@
 use Rattle.history_laws.proofs.Limits.{alone_by_entries, beginning_alone, new_is_plain, plain_is_left_alone, rest_alone}
-use Rattle.history_laws.proofs.queue_is_left_alone_by_entries.Goals as goal
 
-pub returns : goal.returns
-returns c = record {
-  plain = plain_is_left_alone;
-  new = new_is_plain;
-  entries = alone_by_entries;
-  beginning = beginning_alone;
-  rest = rest_alone;
-}
+pub returns : Rattle.history_laws.proofs.queue_is_left_alone_by_entries.Goals.returns
+returns c = search (plain_is_left_alone, new_is_plain, alone_by_entries, beginning_alone, rest_alone)

@@ -1,34 +1,27 @@
 -- Each call beside a driver that receives, and over a whole history, gets a healthy reply, and no call ends with the
 -- device at fault: the frames that wait go on fitting, and what a reply rests on holds behind each call.
-use Rattle.std.proofs.{lemmas.Grind.common_steps, lemmas.List.append_cancel_left}
-use Rattle.std.proofs.Common.{[], ◌&&◌, ◌++◌, ◌==◌, ◌||◌, ◌∷◌, ◌≡◌, ◌≢◌, Bool, List, None, Option, Some, ℕ}
-use Rattle.std.proofs.Common.{arith, false, nat_lt, refl, rules, subst, sym, true}
-use Rattle.std.proofs.lemmas.Bool.{and_parts, both_ways, cond_both, eq-eqb, eqb-false, eqb-true, lt-ltb, not-true}
-use Rattle.std.proofs.lemmas.Bool.{or_cases, or_left, or_right}
-use Rattle.std.specs.Prelude.{◌==◌, option_map}
-use Rattle.nic_device.proofs.Cases.{either_way}
-use Rattle.device_lock.specs.Alone.{lent_in}
-use Rattle.pmd.proofs.Followed.{others_own, others_played}
-use Rattle.pmd.specs.{Apart.is_healthy, PmdRx.Receive.took, PmdRx.declared.ring.Told.Told}
-use Rattle.ring_laws.{specs.HistoryLaws.Lent.LendsOwn, specs.TransmitLent.SparesNumbers}
-use Rattle.ring_laws.proofs.{Fitting.frames_fit, Fitting.frames_stay_fitting, HistoryLaws.Deeds.receiving_did}
-use Rattle.ring_laws.proofs.HistoryLaws.Lent.{follows_known, only_lent_stays}
-use Rattle.ring_laws.specs.{Delivered.goes_on, Fitting.begun_on, Pieces.AllFit, TransmitHealthy.LendsAnew}
-use Rattle.driver_laws.{proofs.Meeting.Meets, proofs.Meeting.driven_meets, specs.Faults.NoFault, specs.Faults.doers_of}
-use Rattle.driver_laws.proofs.{Beside.others_apart, Beside.steps_harmless, Parts.calls_joined, Sending.is_elsewhere}
 use Rattle.driver_laws.proofs.InOrder.{Runs, driven_runs, first_doer, goes, heads, own_here, played_on, runs_on}
-use Rattle.driver_laws.proofs.InOrder.{with_call}
+use Rattle.driver_laws.proofs.Meeting.{Meets, driven_meets, others_apart, steps_harmless}
 use Rattle.driver_laws.proofs.Prelude.{AreFitting, Deed, IsDriven, IsHealthy, IsUp, begun_stays, both_apart, doer_of}
 use Rattle.driver_laws.proofs.Prelude.{doers_after, events_before, gathered, keeps_sound, no_block}
 use Rattle.driver_laws.proofs.Prelude.{none_begun_while_off, settings_stand}
 use Rattle.driver_laws.specs.Before.{AreShort, FramesStayShortAlong, OnlyPassLends, OnlyPassLent}
-use Rattle.driver_laws.specs.Healthy.{AreHealthy, IsUnshared, OwnRepliesAreHealthy}
 use Rattle.driver_laws.specs.Prelude.{AllLendApart, AllOwn, AreEvents, Block, Blocks, Call, Doer, Elsewhere, Entry}
-use Rattle.driver_laws.specs.Prelude.{Event, FindsFault, Halves, IsEvent, IsSound, LendsApart, LendsNone, Memory, Move}
-use Rattle.driver_laws.specs.Prelude.{OnlyLent, OwnCall, Piece, Receive, Receives, Reply, Rx, Sends, State, Watched}
+use Rattle.driver_laws.specs.Prelude.{Event, Halves, IsEvent, IsSound, LendsApart, LendsNone, Memory, Move, OnlyLent}
+use Rattle.driver_laws.specs.Prelude.{OwnCall, Piece, Receive, Receives, Reply, Rx, Sends, State, Watched}
 use Rattle.driver_laws.specs.Prelude.{WritesNoSetting, after, after_call, call_in, call_of, calls_of, doers_other}
-use Rattle.driver_laws.specs.Prelude.{drive, either, is_on, leads_to, lends, lent_by, pieces, pieces_since, played_by}
-use Rattle.driver_laws.specs.Prelude.{reply_to}
+use Rattle.driver_laws.specs.Prelude.{drive, either, is_on, leads_to, lends, pieces, pieces_since, played_by, reply_to}
+use Rattle.driver_laws.specs.{Faults.NoFault, Healthy.AreHealthy, Healthy.IsUnshared, Healthy.OwnRepliesAreHealthy}
+use Rattle.pmd.{proofs.Followed.others_own, proofs.Followed.others_played, specs.Apart.is_healthy}
+use Rattle.ring_laws.proofs.HistoryLaws.{Deeds.receiving_did, Lent.follows_known, Lent.only_lent_stays}
+use Rattle.ring_laws.specs.{Delivered.goes_on, Fitting.begun_on, TransmitHealthy.LendsAnew, TransmitLent.SparesNumbers}
+use Rattle.std.proofs.Common.{Bool, List, None, Option, Some, [], arith, false, nat_lt, refl, rules, subst, sym, true}
+use Rattle.std.proofs.Common.{ℕ, ◌&&◌, ◌++◌, ◌==◌, ◌∷◌, ◌≡◌, ◌≢◌}
+use Rattle.std.proofs.lemmas.Bool.{and_parts, both_ways, cond_both, eq-eqb, eqb-false, eqb-true, lt-ltb, not-true}
+use Rattle.std.proofs.lemmas.{Bool.or_cases, Bool.or_left, Bool.or_right, Grind.common_steps, List.append_cancel_left}
+use Rattle.{device_lock.specs.Alone.lent_in, nic_device.proofs.Cases.either_way, ring_laws.specs.Pieces.AllFit}
+use Rattle.{driver_laws.proofs.Parts.calls_joined, driver_laws.proofs.Parts.with_call, std.specs.Prelude.option_map}
+use Rattle.{ring_laws.proofs.Fitting.frames_fit, ring_laws.proofs.Fitting.frames_stay_fitting, std.specs.Prelude.◌==◌}
 use Rattle.nic_device.specs.declared.event.Event.TheVariants as event
 use Rattle.pmd.specs.PmdRx.Keeping as received
 use Rattle.pmd.specs.PmdTx.Sending as sending
@@ -39,16 +32,10 @@ use Rattle.ring_laws.proofs.TransmitLent as transmit_lent
 use Rattle.driver_laws.specs.Healthy as healthy
 
 -- a driver has its port and the number of its tail as before, and takes as many blocks for a packet
-
-abbrev pub SameRing : Receive → Receive → Type 0
-SameRing v u =
-    (u.layout.port ≡ v.layout.port) × (u.layout.tail ≡ v.layout.tail) × (u.layout.most ≡ v.layout.most)
-
-took_same : (v : Receive) (seen : List Told) (b : Block) → SameRing v (took v seen b)
-took_same v seen b = search rules
-
-pub drive_same : (v : Receive) (e : Event Block) (r : Reply Block) → SameRing v (drive v e r)
-drive_same v e r = grind (arith, common_steps, either_way, took_same)
+pub drive_same : (v : Receive) (e : Event Block) (r : Reply Block)
+    → ((drive v e r).layout.port ≡ v.layout.port) × ((drive v e r).layout.tail ≡ v.layout.tail)
+    × ((drive v e r).layout.most ≡ v.layout.most)
+drive_same v e r = grind (arith, common_steps, either_way)
 
 pub most_after : (h : Halves) (d : Doer) (n : Call) → (after_call h d n).receive.layout.most ≡ h.receive.layout.most
 most_after h d n = grind (arith, common_steps, drive_same)
@@ -80,33 +67,21 @@ module _ (queue : ℕ) (s : State) (e : Event Block) (sound : IsSound s) where
       → Unbegun queue (after s e) (option_map (λ (qs : List Piece). qs ++ pieces queue s e) so_far)
   stayed so_far before is = search (rules, none_more, begun_stays)
 
-  one_on : (so_far : Option (List Piece)) → Unbegun queue s so_far
-      → Unbegun queue (after s e) (gathered queue s (after s e) (pieces queue s e) so_far)
-  one_on so_far before =
-      cond_both (goes_on queue s (after s e)) (Some [])
-      (option_map (λ (qs : List Piece). qs ++ pieces queue s e) so_far) (Unbegun queue (after s e))
-      (λ goes is. went_on goes) (λ empty. stayed so_far before)
-
 unbegun_on : (queue : ℕ) (s : State) (so_far : Option (List Piece)) (es : List Entry) → IsSound s → AreEvents es
     → Unbegun queue s so_far → pieces_since queue s so_far es ≡ Some [] → begun_on queue (leads_to s es).waiting ≡ 0
 unbegun_on queue s so_far [] sound events before is = before is
 unbegun_on queue s so_far (e ∷ es) sound events before is =
-    unbegun_on queue (after s e.event) (gathered queue s (after s e.event) (pieces queue s e.event) so_far) es
-    (keeps_sound s sound e.event events.0) events.1 (one_on queue s e.event sound so_far before) is
+    let t = after s e.event in
+    unbegun_on queue t (gathered queue s t (pieces queue s e.event) so_far) es
+    (keeps_sound s sound e.event events.0) events.1
+    (cond_both (goes_on queue s t) (Some [])
+    (option_map (λ (qs : List Piece). qs ++ pieces queue s e.event) so_far) (Unbegun queue t)
+    (λ goes is. went_on queue s e.event sound goes) (λ empty. stayed queue s e.event sound so_far before)) is
 
 -- so it is where the side went on, and nothing is written since
 pub unbegun_since : (queue : ℕ) (s : State) (es : List Entry) → IsSound s → AreEvents es
     → pieces_since queue s None es ≡ Some [] → begun_on queue (leads_to s es).waiting ≡ 0
 unbegun_since queue s es sound events is = unbegun_on queue s None es sound events (λ e. cc) is
-
--- what a half lends, by the kind of its call
-
-lends_sent : (own : Blocks) (h : Halves) (m : Move) (e : Event Block) → is_elsewhere m ≡ false
-    → LendsApart own h (Sends m) e → LendsOwn own (received.has_lent h.receive) e
-lends_sent own h m e real apart = grind (arith, common_steps)
-
-pub none_apart : (own : Blocks) (h : Halves) (e : Event Block) → LendsNone own e → LendsApart own h (Sends Elsewhere) e
-none_apart own h e none = search rules
 
 -- what either has lent, the other first
 swapped : (own xs ys : Blocks) (m : Memory) → OnlyLent own (either xs ys) m → OnlyLent own (either ys xs) m
@@ -127,8 +102,7 @@ module _ {w : Watched} {mine : Blocks} {s : State} {out : List Piece} {sent : Li
   anew : (move : Move) → sending.IsOwn h.transmit move e → LendsApart own h (Sends move) e → LendsAnew s move e
   anew Elsewhere mine apart = tt
   anew move mine apart =
-      transmit_lent.own_lends_are_known.anew own rx s h.transmit move e other_first mine
-      (lends_sent own h move e refl apart)
+      transmit_lent.own_lends_are_known.anew own rx s h.transmit move e other_first mine (grind (arith, common_steps))
 
   pub healthy_call : (d : Doer) → OwnCall h d (call_of e (reply_to s e)) → LendsApart own h d e
       → AllFit h.receive.layout.most 0 out → IsHealthy h d (call_of e (reply_to s e))
@@ -169,12 +143,11 @@ lends_is b r n is = grind (arith, common_steps, eqb-true)
 
 module _ (own known : Blocks) (s : State) (only : OnlyLent own known s.memory) where
   -- an event of the pass
-  abbrev Lent : Event Block → Reply Block → Blocks
-  Lent e r n = nat_lt n 65536 && lends e r n
-
-  pass_lent : (e : Event Block) → IsEvent e → OnlyLent own (either (Lent e (reply_to s e)) known) (after s e).memory
+  pass_lent : (e : Event Block) → IsEvent e
+      → OnlyLent own (either (λ n. nat_lt n 65536 && lends e (reply_to s e) n) known) (after s e).memory
   pass_lent e made =
-      follows_known own known s no_block only e (Lent e) (grind (arith, common_steps, lt-ltb, eq-eqb, eqb-true))
+      follows_known own known s no_block only e (λ r n. nat_lt n 65536 && lends e r n)
+      (grind (arith, common_steps, lt-ltb, eq-eqb, eqb-true))
 
   entry_lent : (pass : ℕ) (e : Entry) → e.reply ≡ reply_to s e.event → IsEvent e.event
       → (e.pass ≢ pass → LendsNone own e.event) → (b : Bool) → (e.pass == pass) ≡ b
@@ -182,25 +155,20 @@ module _ (own known : Blocks) (s : State) (only : OnlyLent own known s.memory) w
   entry_lent pass e legal made none b other n is has =
       grind (arith, common_steps, pass_lent, only_lent_stays, or_left, or_cases, or_right, eqb-false)
 
-joined : (a b c : Bool) → ((a || b) || c) ≡ true → (a || (b || c)) ≡ true
-joined a b c is = search rules
-
 pub only_pass_lent : OnlyPassLent
 only_pass_lent pass own known s [] legal events none only n is has = or_left (known n) false (only n is has)
 only_pass_lent pass own known s (e ∷ es) legal events none only n is has =
-    joined (known n) (lent_in pass e n) (lent_by pass es n)
-    (only_pass_lent pass own (either known (lent_in pass e)) (after s e.event) es legal.1 events.1 none.1
-    (entry_lent own known s only pass e legal.0 events.0 none.0 (e.pass == pass) refl) n is has)
+    let later = only_pass_lent pass own (either known (lent_in pass e)) (after s e.event) es legal.1 events.1 none.1
+    (entry_lent own known s only pass e legal.0 events.0 none.0 (e.pass == pass) refl) n is has in
+    grind (arith, common_steps)
 
-abbrev pub Parts : Blocks → Halves → List Doer → Entry → Bool → List Call → Type 0
-Parts own h doers e b behind =
-    LendsApart own h (doer_of b doers) e.event
-    × AllLendApart own (after_call h (doer_of b doers) (call_in e)) (doers_after b doers) behind
-
+-- what the first entry lends, and those behind it
 apart_here : (own : Blocks) (h : Halves) (doers : List Doer) (e : Entry) (b : Bool) (calls : List Call)
     → AllOwn h doers (with_call b e calls) → (b ≡ false → LendsNone own e.event)
-    → AllLendApart own h doers (with_call b e calls) → Parts own h doers e b calls
-apart_here own h doers e b calls did none apart = grind (arith, common_steps, none_apart)
+    → AllLendApart own h doers (with_call b e calls)
+    → LendsApart own h (doer_of b doers) e.event
+    × AllLendApart own (after_call h (doer_of b doers) (call_in e)) (doers_after b doers) calls
+apart_here own h doers e b calls did none apart = grind (arith, common_steps)
 
 -- replies are healthy, where the first entry's is if the entry is the pass's
 all_here : (h : Halves) (doers : List Doer) (e : Entry) (b : Bool) (calls : List Call)
@@ -233,12 +201,10 @@ along own {w = w} doers (e ∷ es) {s = s} {out = out} {h = h} m r known none ap
           (all_here h doers e b (calls_of w.pass es)
           (rw r.legal.0 (healthy_call own m known e.event d mine lends.0 fit.pieces))
           (behind.0 (g.receives up)
-          (subst (λ n. AreFitting w.queue n (after s e.event) (out ++ pieces w.queue s e.event))
-          (sym (most_after h d (call_in e)))
+          (rw (most_after h d (call_in e))
           (frames_stay_fitting w.queue h.receive.layout.most s out h.receive e.event m.sound m.both.receive up fit
           g.setting g.resets)))),
-      subst (λ (k : Halves). OnlyLent own (healthy.lent_by k) (leads_to (after s e.event) es).memory)
-          (sym (played_on m r)) behind.1,
+      rw (played_on m r) behind.1,
     )
 
 pub own_replies_are_healthy : OwnRepliesAreHealthy
@@ -265,54 +231,29 @@ healthy_behind h [] es (m ∷ ms) ns own are = absurd own
 healthy_behind h (d ∷ ds) es [] ns own are = absurd own
 healthy_behind h (d ∷ ds) es (m ∷ ms) ns own are = healthy_behind (after_call h d m) ds es ms ns own.1 are.1
 
-module _ (w : Watched) (origin : State) (start rest more : List Entry) (h : Halves) (doers : List Doer) (own : Blocks)
-    (old new : List Call) (f : FindsFault own old (played_by h doers (calls_of w.pass rest)) new)
-    (did : AllOwn h doers (calls_of w.pass rest)) (apart : AllLendApart own h doers (calls_of w.pass rest))
-    (made : new ≡ old ++ calls_of w.pass more)
-    (x : IsUnshared w origin start (rest ++ more) h
-    (doers ++ doers_of own old (played_by h doers (calls_of w.pass rest)) new f) own)
-  where
-    abbrev there : Halves
-    there = played_by h doers (calls_of w.pass rest)
-
-    abbrev since : List Call
-    since = f.drives.drives.1
-
-    abbrev last : Call
-    last = call_of f.event f.reply
-
-    abbrev ends : List Doer
-    ends = doers_other f.adds.0 ++ f.doer ∷ []
-
-    made_last : calls_of w.pass more ≡ since ++ (f.adds.0 ++ last ∷ [])
-    made_last =
-        append_cancel_left old (calls_of w.pass more) (since ++ (f.adds.0 ++ last ∷ []))
-        (grind (arith, common_steps, last, since))
-
-    -- what these calls lend, the last among them
-    end_apart : AllLendApart own (played_by there f.drives.drives.0 since) ends (f.adds.0 ++ last ∷ [])
-    end_apart =
-        rw (← f.drives.drives.4)
-        (both_apart own f.there (doers_other f.adds.0) (f.doer ∷ []) f.adds.0 (last ∷ []) (others_own f.there f.adds.0)
-        (others_apart own f.there f.adds.0 (steps_harmless f.adds.0 f.adds.2))
-        (rw (← others_played f.there f.adds.0) (f.apart, tt)))
-
-    all_apart : AllLendApart own h (doers ++ (f.drives.drives.0 ++ ends)) (calls_of w.pass (rest ++ more))
-    all_apart = grind (arith, common_steps, ends, calls_joined, both_apart, there, made_last, since, last, end_apart)
-
-    -- the last call's reply is healthy
-    last_is : IsHealthy f.there f.doer last
-    last_is =
-        let all = subst (AreHealthy h (doers ++ (f.drives.drives.0 ++ ends))) (calls_joined w.pass rest more)
-        (own_replies_are_healthy w origin start (rest ++ more) h (doers ++ (f.drives.drives.0 ++ ends)) own x all_apart)
-        in
-        let here = subst (AreHealthy there (f.drives.drives.0 ++ ends)) made_last
-        (healthy_behind h doers (f.drives.drives.0 ++ ends) (calls_of w.pass rest) (calls_of w.pass more) did all) in
-        rw (others_played f.there f.adds.0)
-        (healthy_behind f.there (doers_other f.adds.0) (f.doer ∷ []) f.adds.0 (last ∷ []) (others_own f.there f.adds.0)
-        (grind (arith, common_steps, ends, last, healthy_behind, there, since))).0
-
+-- what is lent up to the call that finds a fault is as the halves may lend: so the reply to that call is healthy
 pub no_fault : NoFault
 no_fault w origin start rest more h doers own old new f did apart made x =
-    both_ways (is_healthy f.there f.doer (call_of f.event f.reply)) f.sick
-    (last_is w origin start rest more h doers own old new f did apart made x)
+    let there = played_by h doers (calls_of w.pass rest) in
+    let since = f.drives.drives.1 in
+    let steps = f.adds.0 in
+    let last : Call = call_of f.event f.reply in
+    let drove = f.drives.drives.0 in
+    let ends = doers_other steps ++ f.doer ∷ [] in
+    let made_last : calls_of w.pass more ≡ since ++ (steps ++ last ∷ []) =
+    append_cancel_left old (calls_of w.pass more) (since ++ (steps ++ last ∷ [])) (grind (arith, common_steps)) in
+    let end_apart : AllLendApart own (played_by there drove since) ends (steps ++ last ∷ []) =
+    rw (← f.drives.drives.4)
+    (both_apart own f.there (doers_other steps) (f.doer ∷ []) steps (last ∷ []) (others_own f.there steps)
+    (others_apart own f.there steps (steps_harmless steps f.adds.2))
+    (rw (← others_played f.there steps) (f.apart, tt))) in
+    let all_apart : AllLendApart own h (doers ++ (drove ++ ends)) (calls_of w.pass (rest ++ more)) =
+    grind (arith, common_steps, calls_joined, both_apart) in
+    let all = subst (AreHealthy h (doers ++ (drove ++ ends))) (calls_joined w.pass rest more)
+    (own_replies_are_healthy w origin start (rest ++ more) h (doers ++ (drove ++ ends)) own x all_apart) in
+    let here = subst (AreHealthy there (drove ++ ends)) made_last
+    (healthy_behind h doers (drove ++ ends) (calls_of w.pass rest) (calls_of w.pass more) did all) in
+    both_ways (is_healthy f.there f.doer last) f.sick
+    (rw (others_played f.there steps)
+    (healthy_behind f.there (doers_other steps) (f.doer ∷ []) steps (last ∷ []) (others_own f.there steps)
+    (grind (arith, common_steps, healthy_behind))).0)

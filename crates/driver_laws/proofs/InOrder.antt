@@ -1,24 +1,22 @@
 -- What the driver handed out and what it sent, over a history that leaves its queue alone.
-use Rattle.std.{proofs.lemmas.Grind.common_steps, specs.Prelude.IsTrue, specs.Prelude.◌==◌}
-use Rattle.std.proofs.Common.{[], ◌&&◌, ◌++◌, ◌∙◌, ◌∷◌, ◌≡◌, Bool, List, None, Some, ℕ, ap, append_assoc, arith, false}
-use Rattle.std.proofs.Common.{inl, length, nat_lt, refl, rules, subst, sym, true}
-use Rattle.std.proofs.lemmas.Bool.{eqb-false, eqb-true, or_left, or_right}
-use Rattle.pmd.specs.PmdSeam.Packet.{Kept}
-use Rattle.ring_laws.proofs.Delivering.{all_taken, between, drained, grows, handed_first, lent_behind, pieces-append}
-use Rattle.ring_laws.proofs.HistoryLaws.Alone.{alone_by_entries}
-use Rattle.ring_laws.proofs.Runs.{first_sent, idle-all, sent_in-append, waiting-left}
-use Rattle.ring_laws.specs.{Alone.LendsOneOf, Delivered.IsPrefixOf, HistoryLaws.Alone.AllAlone}
-use Rattle.driver_laws.proofs.Meeting.{Goes, Meets, doer_goes, driven_meets}
-use Rattle.driver_laws.proofs.Prelude.{AreLent, BothAgree, IsDriven, calls_other, calls_own, doer_of, doers_after}
-use Rattle.driver_laws.proofs.Prelude.{events_behind, leads-append, legal_behind, not_again, packets_of}
-use Rattle.driver_laws.proofs.Prelude.{sent_is_counted, since-append}
-use Rattle.driver_laws.specs.{Histories.NoneIsAllBefore, Histories.OthersLeaveAlone, Waiting.WaitingIsNotAll}
+use Rattle.driver_laws.proofs.Prelude.{AreLent, BothAgree, IsDriven, doer_of, doers_after, events_behind, leads-append}
+use Rattle.driver_laws.proofs.Prelude.{legal_behind, not_again, packets_of, sent_is_counted, since-append}
+use Rattle.driver_laws.proofs.{Meeting.Goes, Meeting.Meets, Meeting.doer_goes, Meeting.driven_meets, Parts.calls_are}
 use Rattle.driver_laws.specs.Prelude.{AllOwn, AreEvents, Block, Blocks, Call, Doer, Entry, Event, FindsNone, Halves}
 use Rattle.driver_laws.specs.Prelude.{IsEvent, IsLegal, IsUp, LeavesBlocks, LeavesRegisters, OwnCall, Piece, Reply, Rx}
-use Rattle.driver_laws.specs.Prelude.{ShowsNone, State, Tx, Watched, WritesOutside, after, after_call, bytes_of}
-use Rattle.driver_laws.specs.Prelude.{call_in, call_of, calls_of, delivered, is_neither, is_on, leads_to, lends}
-use Rattle.driver_laws.specs.Prelude.{lent_by, mode_in, packets_if_any, pieces, pieces_in, pieces_since, played_by}
-use Rattle.driver_laws.specs.Prelude.{records_of, reply_to, sent_by, sent_in, sent_since}
+use Rattle.driver_laws.specs.Prelude.{ShowsNone, State, Tx, Watched, after, after_call, bytes_of, call_in, call_of}
+use Rattle.driver_laws.specs.Prelude.{calls_of, delivered, is_neither, is_on, leads_to, lends, lent_by, mode_in}
+use Rattle.driver_laws.specs.Prelude.{packets_if_any, pieces, pieces_in, pieces_since, played_by, records_of, reply_to}
+use Rattle.driver_laws.specs.{Histories.NoneIsAllBefore, Histories.OthersLeaveAlone, Waiting.WaitingIsNotAll}
+use Rattle.driver_laws.{proofs.Parts.with_call, specs.Prelude.sent_by, specs.Prelude.sent_in, specs.Prelude.sent_since}
+use Rattle.ring_laws.proofs.InOrder.{all_taken, between, drained, grows, handed_first, lent_behind, pieces-append}
+use Rattle.ring_laws.proofs.InOrder.{first_sent, idle-all, sent_in-append, waiting-left}
+use Rattle.ring_laws.specs.{HistoryLaws.Lent.LendsOneOf, Delivered.IsPrefixOf, HistoryLaws.Alone.AllAlone}
+use Rattle.std.proofs.Common.{Bool, List, None, Some, [], ap, append_assoc, arith, false, inl, inr, nat_lt}
+use Rattle.std.proofs.Common.{refl, rules, subst, sym, true, ℕ, ◌&&◌, ◌++◌, ◌∙◌, ◌∷◌, ◌≡◌}
+use Rattle.std.proofs.lemmas.Bool.{cases_Bool, eqb-false, eqb-true, or_left, or_right}
+use Rattle.std.specs.Prelude.{IsTrue, ◌==◌}
+use Rattle.{ring_laws.proofs.HistoryLaws.Alone.alone_by_entries, std.proofs.lemmas.Grind.common_steps}
 use Rattle.ring_laws.specs.Delivered as receive
 use Rattle.ring_laws.specs.ReceiveUp as received
 use Rattle.ring_laws.specs.Laws as transmit
@@ -28,16 +26,6 @@ lends_mine : (pass : ℕ) (mine : Blocks) (own : ℕ) (e : Event Block) (r : Rep
     → ((n : ℕ) → IsTrue (nat_lt n 65536 && ((own == pass) && lends e r n)) → IsTrue (mine n))
     → LendsOneOf mine e r
 lends_mine pass mine own e r same made all = grind (arith, common_steps)
-
--- the calls of a pass, by whether an entry is the pass's
-
-abbrev pub with_call : Bool → Entry → List Call → List Call
-with_call true e calls = call_in e ∷ calls
-with_call false e calls = calls
-
-pub calls_are : (pass : ℕ) (e : Entry) (es : List Entry) (b : Bool) → (e.pass == pass) ≡ b
-    → calls_of pass (e ∷ es) ≡ with_call b e (calls_of pass es)
-calls_are pass e es b is = grind (arith, common_steps, calls_own, calls_other)
 
 -- the next call, and those behind it
 
@@ -64,10 +52,6 @@ pub record Led (w : Watched) (mine : Blocks) (s : State) (out : List Piece) (sen
       → pieces_since w.queue s (Some so_far) es ≡ Some (so_far ++ pieces_in w.queue s es)
   pub counted : IsUp w.queue s → (so_far : List (List ℕ))
       → sent_since w.queue s so_far es ≡ so_far ++ sent_in w.queue s es
-
-pub ended : (w : Watched) (mine : Blocks) (s : State) (out : List Piece) (sent : List (List ℕ)) (h : Halves)
-    → BothAgree w.queue s out sent h → AreLent mine h → Led w mine s out sent [] h
-ended w mine s out sent h both lent = grind (arith, common_steps)
 
 -- entries of a history behind a place where the halves meet the device: it is legal, leaves the queue and these blocks
 -- alone but for the halves, whose calls the doers make in turn, and the pass lends these blocks alone
@@ -110,44 +94,38 @@ module _ {w : Watched} {mine : Blocks} {s : State} {out : List Piece} {sent : Li
   pub runs_on : Runs w mine (after s e.event) first_after (doers_after (e.pass == w.pass) doers) es
   runs_on = search (rules, next, or_right)
 
-  steps : WritesOutside w.queue mine (reply_to s e.event)
-  steps = subst (WritesOutside w.queue mine) r.legal.0 r.alone.0.steps
-
   pub own_here : OwnCall h first_doer (call_of e.event (reply_to s e.event))
-  own_here = subst (λ x. OwnCall h first_doer (call_of e.event x)) r.legal.0 next.own
+  own_here = rw r.legal.0 at next.own
 
   -- one that is neither half's leaves the queue alone
   pub left_alone : is_neither first_doer ≡ true
       → LeavesRegisters w (mode_in s.registers) e.event × LeavesBlocks mine e.event
-  left_alone = by_pass (e.pass == w.pass) refl
-    where
-      by_pass : (b : Bool) → (e.pass == w.pass) ≡ b → is_neither (doer_of b doers) ≡ true
-          → LeavesRegisters w (mode_in s.registers) e.event × LeavesBlocks mine e.event
-      by_pass true is neither = r.others.0 (eqb-true e.pass w.pass is) neither
-      by_pass false is neither =
-          let other = eqb-false e.pass w.pass is in (r.alone.0.registers other, r.alone.0.blocks other)
+  left_alone neither = elim (cases_Bool (e.pass == w.pass)) [
+    | inl own ↦ r.others.0 (eqb-true e.pass w.pass own) (rw own at neither)
+    | inr other ↦
+        let apart = eqb-false e.pass w.pass other in (r.alone.0.registers apart, r.alone.0.blocks apart)
+  ]
 
   -- and one of a half is of the pass
   own_lends : is_neither first_doer ≡ false → LendsOneOf mine e.event e.reply
-  own_lends = by_pass (e.pass == w.pass) refl
-    where
-      by_pass : (b : Bool) → (e.pass == w.pass) ≡ b → is_neither (doer_of b doers) ≡ false
-          → LendsOneOf mine e.event e.reply
-      by_pass true is half =
-          lends_mine w.pass mine e.pass e.event e.reply (eqb-true e.pass w.pass is) r.events.0
-          (λ n is. r.covers n (or_left _ _ is))
-      by_pass false is half = cc
+  own_lends half = elim (cases_Bool (e.pass == w.pass)) [
+    | inl own ↦
+        lends_mine w.pass mine e.pass e.event e.reply (eqb-true e.pass w.pass own) r.events.0
+        (λ n is. r.covers n (or_left _ _ is))
+    | inr other ↦ let never : true ≡ false = rw other at half in cc
+  ]
 
   pub goes : Goes w mine s out sent e.event first_after
   goes =
       rw r.legal.0
-      (doer_goes m e.event r.events.0 steps first_doer own_here left_alone
-      (λ half. subst (λ x. LendsOneOf mine e.event x) r.legal.0 (own_lends half)))
+      (doer_goes m e.event r.events.0 (rw r.legal.0 at r.alone.0.steps) first_doer own_here left_alone
+      (λ half. rw r.legal.0 at (own_lends half)))
 
 pub leads : {w : Watched} {mine : Blocks} (doers : List Doer) (es : List Entry) {s : State} {out : List Piece}
     {sent : List (List ℕ)} {h : Halves} → Meets w mine s out sent h → Runs w mine s h doers es
     → Led w mine s out sent es (played_by h doers (calls_of w.pass es))
-leads {w = w} {mine = mine} [] [] {s = s} {out = out} {sent = sent} {h = h} m r = search (rules, ended)
+leads {w = w} {mine = mine} [] [] {s = s} {out = out} {sent = sent} {h = h} m r =
+    search rules
 leads (d ∷ doers) [] m r = absurd r.own
 leads {w = w} {mine = mine} doers (e ∷ es) {s = s} {out = out} {sent = sent} m r =
     let g = goes m r in
@@ -161,12 +139,11 @@ leads {w = w} {mine = mine} doers (e ∷ es) {s = s} {out = out} {sent = sent} m
       receives = λ up. l.receives (g.receives up);
       sends = λ up. l.sends (g.sends up);
       since = λ up so_far.
-          rw (not_again (is_on s.registers Rx w.queue) (is_on t.registers Rx w.queue) (inl up.on))
-          (l.since (g.receives up) (so_far ++ ps)
-          ∙ ap (λ xs. Some xs) (append_assoc so_far ps (pieces_in w.queue t es)));
+          let stays = not_again (is_on s.registers Rx w.queue) (is_on t.registers Rx w.queue) (inl up.on) in
+          rw (stays, ← append_assoc so_far ps) (l.since (g.receives up) (so_far ++ ps));
       counted = λ up so_far.
-          rw (not_again (is_on s.registers Tx w.queue) (is_on t.registers Tx w.queue) (inl up.on))
-          (l.counted (g.sends up) (so_far ++ fs) ∙ append_assoc so_far fs (sent_in w.queue t es));
+          let stays = not_again (is_on s.registers Tx w.queue) (is_on t.registers Tx w.queue) (inl up.on) in
+          rw (stays, ← append_assoc so_far fs) (l.counted (g.sends up) (so_far ++ fs));
     })
 
 module _ (w : Watched) (origin : State) (start rest : List Entry) (h : Halves) (doers : List Doer)
@@ -190,9 +167,7 @@ module _ (w : Watched) (origin : State) (start rest : List Entry) (h : Halves) (
   agreed = search (rules, here, rest, last, leads-append, led)
 
   pub handed_is_prefix : receive.IsPrefixOf last.receive.handed (delivered w.queue origin (start ++ rest))
-  handed_is_prefix =
-      subst (receive.IsPrefixOf last.receive.handed) (sym delivered_is)
-      (handed_first w.queue _ _ last.receive agreed.receive)
+  handed_is_prefix = rw delivered_is (handed_first w.queue _ _ last.receive agreed.receive)
 
   pub none_is_all_taken : ShowsNone (leads_to origin (start ++ rest)) last.receive
       → last.receive.handed ++ records_of last.receive.whole ≡ delivered w.queue origin (start ++ rest)
@@ -203,12 +178,10 @@ module _ (w : Watched) (origin : State) (start rest : List Entry) (h : Halves) (
   none_is_all finds = sym (drained w.queue _ _ last.receive agreed.receive finds) ∙ sym delivered_is
 
   pub sent_is_prefix : transmit.IsPrefixOf (sent_in w.queue here rest) (bytes_of last.transmit.accepted)
-  sent_is_prefix =
-      let (f, agrees) = agreed.transmit in
-      first_sent (leads_to origin (start ++ rest)) w.queue _ _ _ last.transmit.accepted agrees.sends
+  sent_is_prefix = first_sent _ w.queue _ last.transmit agreed.transmit
 
   pub idle_is_all_sent : last.transmit.outstanding ≡ [] → bytes_of last.transmit.accepted ≡ sent_in w.queue here rest
-  idle_is_all_sent none = let (f, agrees) = agreed.transmit in idle-all agrees (ap length none)
+  idle_is_all_sent none = idle-all _ w.queue _ last.transmit agreed.transmit none
 
   pub counted_where_up : IsUp w.queue here
       → sent_since w.queue origin [] (start ++ rest) ≡ sent_since w.queue origin [] start ++ sent_in w.queue here rest
@@ -217,24 +190,17 @@ module _ (w : Watched) (origin : State) (start rest : List Entry) (h : Halves) (
 
 pub none_is_all_before : NoneIsAllBefore
 none_is_all_before w origin start before rest h early doers d e finds same =
-    let here : State = leads_to origin start in
-    let whole : pieces_in w.queue here (before ++ rest)
-    ≡ pieces_in w.queue here before ++ pieces_in w.queue (leads_to here before) rest =
-    pieces-append w.queue here before rest in
-    between (played_by h early (calls_of w.pass before)).receive.handed
-    (delivered w.queue origin (start ++ before))
-    (delivered w.queue origin (start ++ (before ++ rest)))
+    let here = leads_to origin start in
+    between (played_by h early (calls_of w.pass before)).receive.handed (delivered w.queue origin (start ++ before)) _
     (handed_is_prefix w origin start before h early d)
-    (subst (λ (ks : List Kept). IsPrefixOf ks (delivered w.queue origin (start ++ (before ++ rest))))
-    (sym (delivered_is w origin start before h early d))
-    (subst (IsPrefixOf (packets_of (pieces_in w.queue here before)))
-    (sym (delivered_is w origin start (before ++ rest) h doers e ∙ ap (λ (ps : List Piece). packets_of ps) whole))
-    (grows [] (pieces_in w.queue here before) (pieces_in w.queue (leads_to here before) rest))))
+    (rw (
+      delivered_is w origin start before h early d,
+      delivered_is w origin start (before ++ rest) h doers e,
+      pieces-append w.queue here before rest,
+    ) (grows [] (pieces_in w.queue here before) (pieces_in w.queue (leads_to here before) rest)))
     (sym (none_is_all w origin start (before ++ rest) h doers e finds) ∙ same)
 
 pub waiting_is_not_all : WaitingIsNotAll
 waiting_is_not_all w origin start rest more h doers d finds =
-    let here : State = leads_to origin start in
-    waiting-left _ w.queue _ (played_by h doers (calls_of w.pass (rest ++ more))).transmit
-    (agreed w origin start (rest ++ more) h doers d).transmit finds (sent_in w.queue here rest)
-    (sent_in w.queue (leads_to here rest) more) (sent_in-append w.queue here rest more)
+    waiting-left _ w.queue _ _ (agreed w origin start (rest ++ more) h doers d).transmit finds _ _
+    (sent_in-append w.queue (leads_to origin start) rest more)

@@ -1,10 +1,12 @@
+pub use Rattle.driver_laws.proofs.Meeting as Beside
+pub use Rattle.driver_laws.proofs.Ground as Words
+pub use Rattle.driver_laws.proofs.TimedOut as Filling
+pub use Rattle.driver_laws.proofs.Parts as Retold
 pub use Rattle.device_lock.proofs.Histories
 pub use Rattle.ring_laws.proofs as RingLaws
 pub use Rattle.ring_laws.proofs.HistoryLaws
 pub use Rattle.driver_laws.proofs.Healthy as Fitting
 pub use Rattle.driver_laws.proofs.Reached as Made
-pub mod Beside
-pub mod Filling
 pub mod Ground
 pub mod Healthy
 pub mod InOrder
@@ -15,10 +17,7 @@ pub mod Parts
 pub mod Points
 pub mod Prelude
 pub mod Reached
-pub mod Retold
 pub mod Sending
 pub mod StopCalls
 pub mod SwitchedOff
-pub mod Switching
 pub mod TimedOut
-pub mod Words

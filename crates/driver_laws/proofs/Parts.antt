@@ -1,12 +1,13 @@
--- A history in parts, by the calls that a pass made.
-use Rattle.std.{proofs.lemmas.List.append-nil, proofs.lemmas.List.map-append, specs.Prelude.◌==◌}
-use Rattle.std.proofs.{lemmas.Grind.common_steps, lemmas.List.Elements.filter-append}
-use Rattle.std.proofs.Common.{[], ◌++◌, ◌∙◌, ◌∷◌, ◌≡◌, ◌≢◌, ◌⊎◌, List, ℕ, ap, append_assoc, arith, inl, inr, refl, sym}
-use Rattle.std.proofs.Common.{true}
-use Rattle.std.proofs.lemmas.Bool.{cases_Bool, eqb-true, or_left, or_right}
-use Rattle.device_lock.specs.Alone.{has_begun}
-use Rattle.driver_laws.proofs.Prelude.{calls_other, calls_own}
-use Rattle.driver_laws.specs.Prelude.{Call, Entry, call_in, calls_of}
+-- A history by the calls that a pass made: in parts, around one of them, and told anew with other tags.
+use Rattle.driver_laws.proofs.Prelude.{calls_other, calls_own, gathered}
+use Rattle.driver_laws.specs.Prelude.{AreEvents, Call, Entry, IsEvent, IsLegal, Piece, State, after, call_in, calls_of}
+use Rattle.driver_laws.specs.Prelude.{entries_in, leads_to, pieces, pieces_since, reply_to, sent_since}
+use Rattle.driver_laws.specs.Retold.{AreSame, RetoldIsSame, SameDelivers, SameIsLegal, SameLeads, SameSends}
+use Rattle.std.proofs.Common.{Bool, List, Option, [], ap, arith, false, inl, inr, map, refl, subst, sym}
+use Rattle.std.proofs.Common.{true, ℕ, ◌++◌, ◌∙◌, ◌∷◌, ◌≡◌, ◌≢◌, ◌⊎◌}
+use Rattle.std.proofs.lemmas.Bool.{cases_Bool, eq-eqb, eqb-true}
+use Rattle.std.proofs.lemmas.{Grind.common_steps, List.Elements.filter-append, List.append-nil, List.map-append}
+use Rattle.{device_lock.specs.Alone.has_begun, ring_laws.specs.Sent.counted_by, std.specs.Prelude.◌==◌}
 
 pub ends_some : (old before : List Call) (c : Call) → old ++ (before ++ c ∷ []) ≢ []
 ends_some [] [] c e = cc
@@ -25,46 +26,26 @@ pub record Parts (pass : ℕ) (h : List Entry) (xs ys : List Call) : Type 0 wher
   pub fronts : calls_of pass front ≡ xs
   pub backs : calls_of pass back ≡ ys
 
-pub parts : (pass : ℕ) (h : List Entry) (xs ys : List Call) → calls_of pass h ≡ xs ++ ys → Parts pass h xs ys
-parts pass h [] ys is = record { front = []; back = h; both = refl; fronts = refl; backs = is }
-parts pass [] (x ∷ xs) ys is = cc
-parts pass (e ∷ es) (x ∷ xs) ys is = elim (cases_Bool (e.pass == pass)) as (λ _. Parts pass (e ∷ es) (x ∷ xs) ys) [
-  | inl own ↦
-      let here : call_in e ∷ calls_of pass es ≡ x ∷ (xs ++ ys) = sym (calls_own pass e es own) ∙ is in
-      let first : call_in e ≡ x = cc in
-      let p = parts pass es xs ys (cc) in record {
-        front = e ∷ p.front;
-        back = p.back;
-        both = ap (λ (l : List Entry). e ∷ l) p.both;
-        fronts = calls_own pass e p.front own ∙ (λ k. first k ∷ p.fronts k);
-        backs = p.backs;
-      }
-  | inr other ↦
-      let p = parts pass es (x ∷ xs) ys (sym (calls_other pass e es other) ∙ is) in record {
-        front = e ∷ p.front;
-        back = p.back;
-        both = ap (λ (l : List Entry). e ∷ l) p.both;
-        fronts = calls_other pass e p.front other ∙ p.fronts;
-        backs = p.backs;
-      }
-]
-
 pub begun : (pass : ℕ) (h : List Entry) → calls_of pass h ≢ [] → has_begun pass h ≡ true
 begun pass [] some = absurd (some refl)
-begun pass (e ∷ h) some = elim (cases_Bool (e.pass == pass)) [
-  | inl own ↦ or_left _ _ own
-  | inr other ↦ or_right _ _ (begun pass h (λ none. some (calls_other pass e h other ∙ none)))
-]
+begun pass (e ∷ h) some = grind (arith, common_steps, calls_other, begun pass h)
 
 -- the calls of two histories in turn
 pub calls_joined : (pass : ℕ) (g h : List Entry) → calls_of pass (g ++ h) ≡ calls_of pass g ++ calls_of pass h
 calls_joined pass g h = rw (filter-append, map-append) refl
 
-pub still_some : (pass : ℕ) (g h : List Entry) → calls_of pass g ≢ [] → calls_of pass (g ++ h) ≢ []
-still_some pass g h some none = more_some (calls_of pass g) (calls_of pass h) some (sym (calls_joined pass g h) ∙ none)
-
 pub own_some : (pass : ℕ) (g : List Entry) (e : Entry) → e.pass ≡ pass → calls_of pass (g ++ e ∷ []) ≢ []
 own_some pass g e own none = grind (arith, common_steps)
+
+-- the calls of a pass, by whether an entry is the pass's
+
+abbrev pub with_call : Bool → Entry → List Call → List Call
+with_call true e calls = call_in e ∷ calls
+with_call false e calls = calls
+
+pub calls_are : (pass : ℕ) (e : Entry) (es : List Entry) (b : Bool) → (e.pass == pass) ≡ b
+    → calls_of pass (e ∷ es) ≡ with_call b e (calls_of pass es)
+calls_are pass e es b is = grind (arith, common_steps, calls_own, calls_other)
 
 -- a history around the entry of a call that the pass made
 pub record Around (pass : ℕ) (h : List Entry) (calls : List Call) (c : Call) (more : List Call) : Type 0 where
@@ -77,48 +58,64 @@ pub record Around (pass : ℕ) (h : List Entry) (calls : List Call) (c : Call) (
   pub call : call_in entry ≡ c
   pub later : calls_of pass behind ≡ more
 
--- the first entry of a pass
-first_own : (pass : ℕ) (h : List Entry) (c : Call) (ys : List Call) → calls_of pass h ≡ c ∷ ys → Around pass h [] c ys
-first_own pass [] c ys is = cc
-first_own pass (e ∷ es) c ys is = elim (cases_Bool (e.pass == pass)) as (λ _. Around pass (e ∷ es) [] c ys) [
-  | inl own ↦
-      let here : call_in e ∷ calls_of pass es ≡ c ∷ ys = sym (calls_own pass e es own) ∙ is in record {
-        before = [];
-        entry = e;
-        behind = es;
-        all = refl;
-        made = refl;
-        own = eqb-true e.pass pass own;
-        call = cc;
-        later = cc;
-      }
-  | inr other ↦
-      let f = first_own pass es c ys (sym (calls_other pass e es other) ∙ is) in record {
-        before = e ∷ f.before;
-        entry = f.entry;
-        behind = f.behind;
-        all = ap (λ (l : List Entry). e ∷ l) f.all;
-        made = calls_other pass e f.before other ∙ f.made;
-        own = f.own;
-        call = f.call;
-        later = f.later;
-      }
-]
+module _ (pass : ℕ) where
+  -- so it is behind one more entry
+  ahead : (e : Entry) (es : List Entry) (xs calls : List Call) (c : Call) (more : List Call)
+      → ((g : List Entry) → calls_of pass g ≡ xs → calls_of pass (e ∷ g) ≡ calls) → Around pass es xs c more
+      → Around pass (e ∷ es) calls c more
+  ahead e es xs calls c more adds f = record {
+    before = e ∷ f.before;
+    entry = f.entry;
+    behind = f.behind;
+    all = ap (λ (l : List Entry). e ∷ l) f.all;
+    made = adds f.before f.made;
+    own = f.own;
+    call = f.call;
+    later = f.later;
+  }
 
-pub around : (pass : ℕ) (h : List Entry) (calls : List Call) (c : Call) (more : List Call)
-    → calls_of pass h ≡ calls ++ c ∷ more → Around pass h calls c more
-around pass h calls c more is =
-    let p = parts pass h calls (c ∷ more) is in
-    let f = first_own pass p.back c more p.backs in record {
-      before = p.front ++ f.before;
-      entry = f.entry;
-      behind = f.behind;
-      all = append_assoc p.front f.before (f.entry ∷ f.behind) ∙ ap (λ (l : List Entry). p.front ++ l) f.all ∙ p.both;
-      made = calls_joined pass p.front f.before ∙ (λ i. p.fronts i ++ f.made i) ∙ append-nil calls;
-      own = f.own;
-      call = f.call;
-      later = f.later;
-    }
+  pub around : (h : List Entry) (calls : List Call) (c : Call) (more : List Call)
+      → calls_of pass h ≡ calls ++ c ∷ more → Around pass h calls c more
+  around [] [] c more is = cc
+  around [] (x ∷ xs) c more is = cc
+  around (e ∷ es) [] c more is = elim (cases_Bool (e.pass == pass)) as (λ _. Around pass (e ∷ es) [] c more) [
+    | inl own ↦
+        let here : call_in e ∷ calls_of pass es ≡ c ∷ more = sym (calls_own pass e es own) ∙ is in record {
+          before = [];
+          entry = e;
+          behind = es;
+          all = refl;
+          made = refl;
+          own = eqb-true e.pass pass own;
+          call = cc;
+          later = cc;
+        }
+    | inr other ↦
+        ahead e es [] [] c more (λ g made. calls_other pass e g other ∙ made)
+        (around es [] c more (sym (calls_other pass e es other) ∙ is))
+  ]
+  around (e ∷ es) (x ∷ xs) c more is =
+      elim (cases_Bool (e.pass == pass)) as (λ _. Around pass (e ∷ es) (x ∷ xs) c more) [
+        | inl own ↦
+            let here : call_in e ∷ calls_of pass es ≡ x ∷ (xs ++ c ∷ more) = sym (calls_own pass e es own) ∙ is in
+            let first : call_in e ≡ x = cc in
+            ahead e es xs (x ∷ xs) c more (λ g made. calls_own pass e g own ∙ (λ k. first k ∷ made k))
+            (around es xs c more (cc))
+        | inr other ↦
+            ahead e es (x ∷ xs) (x ∷ xs) c more (λ g made. calls_other pass e g other ∙ made)
+            (around es (x ∷ xs) c more (sym (calls_other pass e es other) ∙ is))
+      ]
+
+  pub parts : (h : List Entry) (xs ys : List Call) → calls_of pass h ≡ xs ++ ys → Parts pass h xs ys
+  parts h xs [] is = record { front = h; back = []; both = append-nil h; fronts = is ∙ append-nil xs; backs = refl }
+  parts h xs (y ∷ ys) is =
+      let a = around h xs y ys is in record {
+        front = a.before;
+        back = a.entry ∷ a.behind;
+        both = a.all;
+        fronts = a.made;
+        backs = calls_own pass a.entry a.behind (eq-eqb a.entry.pass pass a.own) ∙ (λ k. a.call k ∷ a.later k);
+      }
 
 -- two beginnings of a list, as of a history or of the calls that a pass made: one begins the other
 
@@ -133,3 +130,60 @@ one_begins (x ∷ xs) ys (z ∷ zs) ws is = grind (arith, common_steps, one_begi
 pub none_behind : (xs ys : List Call) → xs ++ ys ≡ xs → ys ≡ []
 none_behind [] ys is = is
 none_behind (x ∷ xs) ys is = none_behind xs ys (cc)
+
+-- an entry is the same call, whoever made it
+
+pub retold_same : RetoldIsSame
+retold_same other [] h = refl
+retold_same other (is ∷ own) [] = refl
+retold_same other (is ∷ own) (e ∷ es) = grind (arith, common_steps, retold_same other own es)
+
+-- what of a history looks at its calls alone is as if one pass had made them all
+
+abbrev alike : List Entry → List Entry
+alike h = entries_in (map call_in h)
+
+same_by {ℓ} : {A : Type ℓ} (F : List Entry → A) → ((h : List Entry) → F h ≡ F (alike h)) → (h g : List Entry)
+    → AreSame h g → F h ≡ F g
+same_by F by h g same = by h ∙ ap (λ (cs : List Call). F (entries_in cs)) same ∙ sym (by g)
+
+events_alike : (h : List Entry) → AreEvents h ≡ AreEvents (alike h)
+events_alike [] = refl
+events_alike (e ∷ es) = ap (λ (T : Type 0). IsEvent e.event × T) (events_alike es)
+
+pub events_same : (h g : List Entry) → AreSame h g → AreEvents h → AreEvents g
+events_same h g same = subst (λ (T : Type 0). T) (same_by AreEvents events_alike h g same)
+
+legal_alike : (s : State) (h : List Entry) → IsLegal s h ≡ IsLegal s (alike h)
+legal_alike s [] = refl
+legal_alike s (e ∷ es) = ap (λ (T : Type 0). (e.reply ≡ reply_to s e.event) × T) (legal_alike (after s e.event) es)
+
+pub legal_same : (s : State) (h g : List Entry) → AreSame h g → IsLegal s h → IsLegal s g
+legal_same s h g same = subst (λ (T : Type 0). T) (same_by (IsLegal s) (legal_alike s) h g same)
+
+pub same_is_legal : SameIsLegal
+same_is_legal s h g same made legal = (events_same h g same made, legal_same s h g same legal)
+
+leads_alike : (s : State) (h : List Entry) → leads_to s h ≡ leads_to s (alike h)
+leads_alike s [] = refl
+leads_alike s (e ∷ es) = leads_alike (after s e.event) es
+
+pub same_leads : SameLeads
+same_leads s = same_by (leads_to s) (leads_alike s)
+
+pieces_alike : (queue : ℕ) (s : State) (so_far : Option (List Piece)) (h : List Entry)
+    → pieces_since queue s so_far h ≡ pieces_since queue s so_far (alike h)
+pieces_alike queue s so_far [] = refl
+pieces_alike queue s so_far (e ∷ es) =
+    pieces_alike queue (after s e.event) (gathered queue s (after s e.event) (pieces queue s e.event) so_far) es
+
+pub same_delivers : SameDelivers
+same_delivers queue s h g same = grind (arith, common_steps, same_by, pieces_alike)
+
+sent_alike : (queue : ℕ) (s : State) (sent : List (List ℕ)) (h : List Entry)
+    → sent_since queue s sent h ≡ sent_since queue s sent (alike h)
+sent_alike queue s sent [] = refl
+sent_alike queue s sent (e ∷ es) = sent_alike queue (after s e.event) (counted_by queue s e.event sent) es
+
+pub same_sends : SameSends
+same_sends queue s = same_by (sent_since queue s []) (sent_alike queue s [])

@@ -1,26 +1,23 @@
 -- Calls of a kind, one after the other and with steps of the device beside them: those of a driver's accesses, made or
 -- failed, those that lend its blocks, and those of its stop; and which blocks a pass lends by them.
-use Rattle.std.proofs.{lemmas.Bool.eq-eqb, lemmas.Bool.or_left, lemmas.Bool.or_right, lemmas.List.append-nil}
-use Rattle.std.proofs.Common.{[], ◌++◌, ◌+◌, ◌-◌, ◌<◌, ◌∙◌, ◌∷◌, ◌≡◌, ◌≢◌, Bool, List, ℕ, ap, append_assoc, arith}
-use Rattle.std.proofs.Common.{false, inl, inr, refl, rules, subst, suc, sym, true, zero}
-use Rattle.std.proofs.lemmas.Grind.{common_steps}
-use Rattle.std.specs.{List.range_with_len, Prelude.IsFalse, Prelude.⊤, Prelude.◌==◌}
-use Rattle.device_lock.specs.Alone.{lends}
-use Rattle.pmd.specs.{PmdSeam.Made.Adds, PmdSeam.Made.AddsSome, PmdSeam.QueueMade.FailsBy}
-use Rattle.pmd.specs.PmdSeam.Home.{Bringing, BringsOne}
-use Rattle.ring_laws.proofs.HistoryLaws.Alone.{lent_behind}
-use Rattle.driver_laws.{proofs.Parts.around, proofs.Parts.more_some, specs.Ending.Each, specs.Ending.IsAsking}
 use Rattle.driver_laws.proofs.Ground.{IsDriven, words_are_writes, writes_driven}
 use Rattle.driver_laws.proofs.Prelude.{AllAre, AreMadeOf, AtEntries, Ends, IsAlong, IsEnable, IsEnding, IsOtherwise}
 use Rattle.driver_laws.proofs.Prelude.{IsPlain, IsStrayRead, PollsEnd, StopsBy, and_one}
 use Rattle.driver_laws.proofs.Reached.{all_before, all_missed, all_received, all_switched, entry_is, steps_are}
 use Rattle.driver_laws.specs.Prelude.{Access, AreMade, AtPort, Block, Blocks, Call, DeviceFault, Dir, EachRingBlock}
-use Rattle.driver_laws.specs.Prelude.{Entry, Event, IsMade, IsNumberOf, IsPrepared, IsSwitched, LendsEach, Numbers}
-use Rattle.driver_laws.specs.Prelude.{PmdFault, Port, Reply, RowId, Rx, Sees, Sets, StartTimeout, State, SwitchFails}
-use Rattle.driver_laws.specs.Prelude.{Tx, Watched, blocks_for, both_asked, call_of, enable_row, has_bit, is_driven}
-use Rattle.driver_laws.specs.Prelude.{is_step, lent_by, missed, polled, receive_polled, ring_blocks, ring_words}
-use Rattle.driver_laws.specs.Prelude.{zero_block}
+use Rattle.driver_laws.specs.Prelude.{Entry, Event, IsMade, IsNumberOf, IsPrepared, IsReceiveReady, IsSwitched}
+use Rattle.driver_laws.specs.Prelude.{LendsEach, Numbers, PmdFault, Port, Receive, Reply, RowId, Rx, Sees, Sets}
+use Rattle.driver_laws.specs.Prelude.{StartTimeout, State, SwitchFails, Tx, Watched, blocks_for, both_asked, both_quiet}
+use Rattle.driver_laws.specs.Prelude.{call_of, enable_row, has_bit, is_driven, is_step, lent_by, missed, polled}
+use Rattle.driver_laws.specs.Prelude.{receive_polled, ring_blocks, ring_words, zero_block}
 use Rattle.driver_laws.specs.Stopping.{Asks, BringingEnds, SwitchedOffAsks, UnswitchedAsks}
+use Rattle.driver_laws.{proofs.Parts.around, proofs.Parts.more_some, specs.Ending.Each, specs.Ending.IsAsking}
+use Rattle.pmd.specs.PmdSeam.{Home.Bringing, Home.BringsOne, Made.Adds, Made.AddsSome, QueueMade.FailsBy}
+use Rattle.std.proofs.Common.{Bool, List, [], ap, append_assoc, arith, false, inl, inr, refl, rules, suc, sym, true}
+use Rattle.std.proofs.Common.{zero, ℕ, ◌++◌, ◌+◌, ◌-◌, ◌<◌, ◌∙◌, ◌∷◌, ◌≡◌, ◌≢◌}
+use Rattle.std.proofs.lemmas.{Bool.eq-eqb, Bool.or_left, Bool.or_right, Grind.common_steps, List.append-nil}
+use Rattle.std.specs.{List.range_with_len, Prelude.IsFalse, Prelude.⊤, Prelude.◌==◌}
+use Rattle.{device_lock.specs.Alone.lends, ring_laws.proofs.HistoryLaws.Alone.lent_behind}
 use Rattle.nic_device.specs.declared.event.Event.TheVariants as event
 use Rattle.nic_device.specs.declared.event.Reply.TheVariants as reply
 use Rattle.pmd.specs.PmdSeam.declared.fault.PmdFault.TheVariants as fault
@@ -218,7 +215,7 @@ pub lent_along : {w : Watched} {origin : State} {h : List Entry} (number : ℕ) 
 lent_along {w = w} {h = h} number calls along has done rest all is =
     let x = around w.pass done has.before (lending number) has.behind (is ∙ has.all) in
     let whole : x.before ++ x.entry ∷ (x.behind ++ rest) ≡ h =
-    sym (append_assoc x.before (x.entry ∷ x.behind) rest) ∙ ap (λ (l : List Entry). l ++ rest) x.all ∙ all in
+    cc (append_assoc x.before (x.entry ∷ x.behind) rest) in
     let is = entry_is along x.before (x.behind ++ rest) x.entry whole in
     let there : IsLentBy w.pass number (x.entry ∷ (x.behind ++ rest)) = grind (arith, common_steps, x, is) in
     search (rules, lent_behind)
@@ -229,9 +226,9 @@ run_has : (many first k : ℕ) (old new : List Call) → LendsEach old new (rang
     → Has (lending (first + k)) new
 run_has zero first k old new is below = absurd (omega (arith, below))
 run_has (suc many) first zero old new (mid, lent, rest) below =
-    let at : first ≡ first + 0 = omega arith in
     let later = lends_are (λ e. ⊤) (λ e is. tt) (λ n. tt) (range_with_len (first + 1) many) mid new rest in
-    subst (λ (n : ℕ). Has (lending n) new) at
+    let at : first ≡ first + 0 = omega arith in
+    rw (← at)
     (has_more (lending first) mid new (later.0, later.1) (record {
       before = old ++ lent.0;
       behind = [];
@@ -251,6 +248,15 @@ module _ {q : AtPort} {side : Dir} {size : ℕ} {old : List Call} {a : Numbers} 
       then_made (IsPlain q) old x.mid new
       (accesses_plain q words old x.mid (writes_driven words (words_are_writes side ring size)) x.words)
       (lends_are (IsPlain q) (step_plain q) (λ n. tt) (ring_blocks ring size) x.mid new x.lent)
+
+pub quiet_plain : (q : AtPort) (old new : List Call) → AreMade q old new both_quiet → AreMadeOf (IsPlain q) old new
+quiet_plain q old new = accesses_plain q both_quiet old new (refl, (refl, (refl, (refl, (refl, (refl, tt))))))
+
+-- a receive ring is made ready
+pub ready_plain : {q : AtPort} {size frame : ℕ} {old : List Call} {a : Numbers} {new : List Call} {b : Numbers}
+    {v : Receive} → IsReceiveReady q size frame old a new b v → AreMadeOf (IsPlain q) old new
+ready_plain {q = q} {old = old} {new = new} x =
+    then_made (IsPlain q) old x.mid new (quiet_plain q old x.mid x.quiet) (prepared_plain x.prepared)
 
 -- the blocks of a list are among those that are lent
 

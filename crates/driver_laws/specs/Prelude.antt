@@ -43,7 +43,7 @@ pub use Rattle.pmd.specs.Starting.{IsPrepared, IsReceiveReady, IsTransmitReady, 
 pub use Rattle.pmd.specs.declared.driver.Rings.TheVariants.{Down, Up}
 pub use Rattle.ring_laws.specs.{Agreeing.Agrees, Agreeing.bytes_of, DeviceLaws.Laws.WritesNoSetting}
 pub use Rattle.ring_laws.specs.{DeviceLaws.Leaving.LeavesBlock, Fitting.FitsBlocks, Fitting.begun_on}
-pub use Rattle.ring_laws.specs.{Histories.FindsNone, Histories.ShowsNone, HistoryLaws.Alone.LeavesAloneFrom}
+pub use Rattle.ring_laws.specs.{Finding.FindsNone, Finding.ShowsNone, HistoryLaws.Alone.LeavesAloneFrom}
 pub use Rattle.ring_laws.specs.{HistoryLaws.Sides.Side, HistoryLaws.Sides.side_of, Joint.Agree, Pieces.Piece}
 pub use Rattle.ring_laws.specs.{Pieces.pieces, Sent.sent_by, Sent.sent_in, Sent.sent_since, TransmitUp.IsUp}
 pub use Rattle.ring_laws.specs.Delivered.{delivered, packets_if_any, pieces_in, pieces_since}

@@ -1,94 +1,40 @@
--- What was made of a device in hand is a history of it: the calls of pass 0 are those behind what others made.
-use Rattle.driver_laws.{specs.Prelude.entries_in, specs.Prelude.marked_entries, specs.Retold.AreSame}
-use Rattle.pmd_laws.proofs.{Order.life_of, Prelude.subst, Prelude.sym, Prelude.true, Told.goes, Told.life}
+-- A driver beside whatever calls of its author's, over the history as it is told anew.
+use Rattle.driver_laws.specs.{Prelude.entries_in, Prelude.marked_entries, Retold.AreSame}
 use Rattle.pmd_laws.proofs.Faultless.{FindsAmid, filling_never, found, made, made_is, never_at_fault, none_amid}
-use Rattle.pmd_laws.proofs.Prelude.{[], ◌++◌, ◌<◌, ◌==◌, ◌∙◌, ◌∷◌, ◌≡◌, ◌⊎◌, AllFollow, AtPort, BeforeLast, BeginsApart}
-use Rattle.pmd_laws.proofs.Prelude.{Beside, Bool, Call, DrivesRings, Drove, Entry, FaultsEarly, FaultsFilling, Follows}
-use Rattle.pmd_laws.proofs.Prelude.{GoesOn, HasGround, IsAlong, IsFresh, IsLife, IsToldAlone, IsToldBy, IsToldOf}
-use Rattle.pmd_laws.proofs.Prelude.{IsTrue, LeadsTo, LeavesAloneFrom, Life, List, Moment, NoneLent, Numbers, Rings}
-use Rattle.pmd_laws.proofs.Prelude.{State, Told, Up, WasTold, Watched, WhereUp, ℕ, after, ap, append-nil, append_assoc}
-use Rattle.pmd_laws.proofs.Prelude.{append_cancel_left, arith, calls_joined, calls_of, calls_other, common_steps}
-use Rattle.pmd_laws.proofs.Prelude.{events-append, events_same, false, halves_of, has_begun, inl, inr, is_own, last}
-use Rattle.pmd_laws.proofs.Prelude.{leads-append, leads_to, led, legal-append, legal_same, length, now, own_calls, refl}
-use Rattle.pmd_laws.proofs.Shifted.{early_shift, on_shift, rings, shifted, up_shift}
-use Rattle.pmd_laws.specs.{BesideApart.IsAloneBeside, BesideApart.IsCalledApart, BesideStart.BeginsBeside}
-use Rattle.pmd_laws.specs.Beside.{AllFollowBy, DirectIsRetold, FollowsBy, InterleavedIsRetold, IsCalledBeside, IsRetold}
-use Rattle.pmd_laws.specs.Beside.{IsToldAnew, IsToldBeside, anew, by_own}
-use Rattle.pmd_laws.specs.InHand.{DirectIsHistory, InterleavedIsHistory, IsHistoryOf, WasMade, in_hand}
+use Rattle.pmd_laws.proofs.Prelude.{AllFollow, BeforeLast, HasGround, IsToldAlone, append-nil, events_same, legal_same}
+use Rattle.pmd_laws.proofs.Prelude.{AtPort, Beside, Bool, IsAlong, IsFresh, LeadsTo, Numbers, WasTold, Watched, WhereUp}
+use Rattle.pmd_laws.proofs.Prelude.{BeginsApart, DrivesRings, FaultsEarly, Up, common_steps, leads-append, legal-append}
+use Rattle.pmd_laws.proofs.Prelude.{Entry, FaultsFilling, append_assoc, append_cancel_left, calls_joined, events-append}
+use Rattle.pmd_laws.proofs.Prelude.{GoesOn, IsLife, Moment, Rings, Rxdctl, State, arith, false, is_own, length, subst}
+use Rattle.pmd_laws.proofs.Prelude.{[], Follows, IsToldBy, IsToldOf, NoneLent, calls_of, halves_of, leads_to, own_calls}
+use Rattle.pmd_laws.proofs.Prelude.{◌++◌, ◌∙◌, ◌∷◌, Call, Life, List, Sees, Told, inl, inr, last, now, refl, sym, true}
+use Rattle.pmd_laws.proofs.Shifted.{access, early_shift, on_shift, rings, shifted, up_behind}
+use Rattle.pmd_laws.proofs.{Order.life_of, Prelude.ap, Prelude.ℕ, Prelude.◌≡◌, Prelude.◌⊎◌, Told.goes, Told.life}
+use Rattle.pmd_laws.specs.Beside.{AllFollowBy, FollowsBy, IsCalledBeside, IsRetold, IsToldAnew, IsToldBeside, by_own}
+use Rattle.pmd_laws.specs.{Beside.anew, BesideApart.IsAloneBeside, BesideApart.IsCalledApart, BesideStart.BeginsBeside}
 use Rattle.pmd_laws.specs.Told as own
 
-history : (s : State) (queue : ℕ) (before h : List Entry) (calls : List Call) (device : State) → queue < 128
-    → WasMade s before → LeadsTo (leads_to s before) h device → calls_of 0 h ≡ calls
-    → LeavesAloneFrom (in_hand s queue) s (before ++ h) → IsHistoryOf s queue (before ++ h) calls device
-history s queue before h calls device small was led made alone =
-    grind (arith, common_steps, events-append, legal-append, calls_joined, leads-append)
-
--- those of a device in hand are all of pass 0, and those that are marked as own
-
-all_are : (calls : List Call) → calls_of 0 (entries_in calls) ≡ calls
-all_are [] = refl
-all_are (c ∷ calls) = ap (λ (l : List Call). c ∷ l) (all_are calls)
-
-own_are : (calls : List Call) (own : List Bool) → calls_of 0 (marked_entries calls own) ≡ own_calls calls own
+-- the calls that are marked as own are those of pass 0
+pub own_are : (calls : List Call) (own : List Bool) → calls_of 0 (marked_entries calls own) ≡ own_calls calls own
 own_are [] own = refl
 own_are (c ∷ calls) [] = refl
 own_are (c ∷ calls) (true ∷ own) = ap (λ (l : List Call). c ∷ l) (own_are calls own)
 own_are (c ∷ calls) (false ∷ own) = own_are calls own
 
--- entries of the pass alone leave the queue alone however its queues are parted
-
-each_own : (calls : List Call) (b : List Entry) (e : Entry) (after : List Entry) → entries_in calls ≡ b ++ e ∷ after
-    → e.pass ≡ 0
-each_own [] [] e after is = cc
-each_own [] (y ∷ b) e after is = cc
-each_own (c ∷ calls) [] e after is = grind (arith, common_steps)
-each_own (c ∷ calls) (y ∷ b) e after is = each_own calls b e after (cc)
-
--- what others made before has no entry of the pass
-
-not_first : (x : Entry) (before : List Entry) → calls_of 0 (x ∷ before) ≡ [] → (x.pass == 0) ≡ false
-not_first x before none = grind (arith, common_steps)
-
-own_behind : (before : List Entry) (calls : List Call) (b : List Entry) (e : Entry) (after : List Entry)
-    → calls_of 0 before ≡ [] → before ++ entries_in calls ≡ b ++ e ∷ after → IsTrue (has_begun 0 b) → e.pass ≡ 0
-own_behind [] calls b e after none is begun = each_own calls b e after is
-own_behind (x ∷ before) calls [] e after none is begun = cc
-own_behind (x ∷ before) calls (y ∷ b) e after none is begun =
-    grind (arith, common_steps, not_first, calls_other, own_behind before calls b e after)
-
-pub direct_is_history : DirectIsHistory
-direct_is_history s queue before d small was began alone =
-    history s queue before (entries_in d.calls) d.calls d.device small was began (all_are d.calls)
-    (grind (arith, common_steps, own_behind))
-
-pub interleaved_is_history : InterleavedIsHistory
-interleaved_is_history s queue before i small was began alone =
-    history s queue before (marked_entries i.calls i.own) (own_calls i.calls i.own) i.device small was began
-    (own_are i.calls i.own) alone
-
 -- behind what was made before, and is told so, the same calls may be told by other marks
 
-marked_same : (calls : List Call) (own : List Bool) → length own ≡ length calls
+pub marked_same : (calls : List Call) (own : List Bool) → length own ≡ length calls
     → AreSame (entries_in calls) (marked_entries calls own)
 marked_same [] own each = refl
 marked_same (c ∷ calls) [] each = absurd (omega (arith, each))
 marked_same (c ∷ calls) (is ∷ own) each = grind (arith, common_steps, marked_same calls own (omega (arith, each)))
 
-goes_on : {origin : State} {before told : List Entry} (was : WasTold origin before told) (es : List Entry)
+pub goes_on : {origin : State} {before told : List Entry} (was : WasTold origin before told) (es : List Entry)
     (calls : List Call) (own : List Bool) (device : State) → LeadsTo (leads_to origin before) es device
     → AreSame es (marked_entries calls own)
     → GoesOn origin before told es (marked_entries calls own) (own_calls calls own) device
 goes_on {origin = origin} {before = before} {told = told} was es calls own device began same =
     grind (arith, common_steps, events-append, legal-append, calls_joined, own_are, leads-append)
-
-pub direct_retold : DirectIsRetold
-direct_retold origin before told d own each was began =
-    goes_on was (entries_in d.calls) d.calls own d.device began (marked_same d.calls own each)
-
-pub interleaved_retold : InterleavedIsRetold
-interleaved_retold origin before told i own each all was began =
-    goes_on was (marked_entries i.calls i.own) i.calls own i.device began
-    (sym (marked_same i.calls i.own all) ∙ marked_same i.calls own each)
 
 -- A driver beside any calls of its author's is told by its own calls alone, over the history as it is told anew; and so
 -- are its start and its stop.
@@ -103,8 +49,7 @@ drove_anew a b old new since own is x = x
 follows_anew : (m : Moment) (own : List Call) (n : Moment) (then : List Call) → FollowsBy m own n then
     → Follows (by_own own m) (by_own then n)
 follows_anew m own n then (inl (goes, since, made, all)) =
-    inl (subst (λ (l : List Call). Drove (by_own own m) (by_own l n)) (sym all)
-    (drove_anew m.driver.rings n.driver.rings m.made n.made since own made goes))
+    inl (rw all (drove_anew m.driver.rings n.driver.rings m.made n.made since own made goes))
 follows_anew m own n then (inr (halves, all)) = inr (halves, ([], all ∙ sym (append-nil own), tt))
 
 all_anew : (m : Moment) (own : List Call) (later : List Moment) (then : List Call) → AllFollowBy m own later then
@@ -119,16 +64,17 @@ all_anew m own (n ∷ later) then (next, goes, more) =
 pub own_anew : {q : AtPort} {size frame : ℕ} {old : List Call} {a : Numbers} {m : Moment} {later : List Moment}
     {ahead own : List Call} (x : IsToldBy q size frame old a m later ahead own)
     → IsToldAnew q size frame old a m later ahead own x
-own_anew {old = old} {m = m} {later = later} {ahead = ahead} {own = own} x =
+own_anew {q = q} {old = old} {m = m} {later = later} {ahead = ahead} {own = own} x =
     let (others, follow, ends) = all_anew m (ahead ++ x.start) later own x.since in
-    let (at, is, shifts) = up_shift _ _ _ _ _ _ _ x.started.2 in
-    let (up, access) = shifted shifts x.start ahead x.made in
-    let same : at ≡ x.first = append_cancel_left old at x.first (sym is ∙ x.access) in record {
-      others = others;
-      told = record { started = (x.started.0, x.started.1, up); since = follow };
-      access = access ∙ ap (λ (l : List Call). ahead ++ l) same;
-      ends = ends;
-    }
+    let (at, r, up) = x.started in
+    let behind = up_behind _ _ _ _ _ _ _ up in
+    let one = shifted (access q (Sees Rxdctl false) old _ up.receive.quiet.1) x.first ahead x.access in
+    let same : x.start ≡ x.first ++ behind.since =
+    append_cancel_left old x.start (x.first ++ behind.since) (grind (arith, common_steps)) in
+    let all : (ahead ++ x.first) ++ behind.since ≡ ahead ++ x.start =
+    rw same (append_assoc ahead x.first behind.since) in
+    let (there, access) = rw all at (behind.behind (ahead ++ x.first) ahead one) in
+    record { others = others; told = record { started = (at, r, there); since = follow }; access = access; ends = ends }
 
 -- the history is along, told anew
 pub retold_along : {w : Watched} {origin : State} {h g : List Entry} → IsRetold w origin h g → IsAlong w origin g
@@ -149,9 +95,8 @@ apart x = record {
 
 pub never_beside : (x : BeginsBeside)
     → FaultsEarly x.q x.size x.frame x.old x.a x.new ⊎ FaultsFilling x.q x.size x.frame x.old x.a x.new → ⊥
-never_beside x (inl early) =
-    never_at_fault (apart x)
-    (inl (shifted (early_shift x.q x.size x.frame x.a x.old x.new early) x.since x.ahead x.made))
+never_beside x (inl f) =
+    never_at_fault (apart x) (inl (shifted (early_shift x.q x.size x.frame x.a x.old x.new f) x.since x.ahead x.made))
 never_beside x (inr f) =
     let on = on_shift x.q x.size x.frame x.a f.empty f.sender x.old f.mid f.on in
     let behind = made (found (apart x) f) in
@@ -209,7 +154,7 @@ module _ (x : Beside) where
   pub called_behind : (n : Moment) (y : IsCalledBeside x n) (added : List Call) → n.made ≡ (now x).made ++ added
       → x.own ++ y.since ≡ x.own ++ added
   called_behind n y added is =
-      ap (λ (l : List Call). x.own ++ l) (append_cancel_left (now x).made y.since added (sym y.made ∙ is))
+      ap (λ (l : List Call). x.own ++ l) (append_cancel_left _ y.since added (sym y.made ∙ is))
 
   -- no other lends its blocks
 
@@ -218,6 +163,8 @@ module _ (x : Beside) where
 
   pub none_beside : (n : Moment) → IsCalledApart x n → FindsAmid (goes told).rings (now x).made n.made → ⊥
   none_beside n y amid =
-      none_amid told (at_access (IsFresh x.w.queue x.frame (is_own x.a)) y.fresh) y.others (now x).made n.made y.since
-      y.more amid y.made
-      (y.all ∙ ap (λ (l : List Call). (l ++ y.since) ++ y.more) (sym own_made))
+      none_amid told (at_access (IsFresh x.w.queue x.frame (is_own x.a)) y.fresh) y.others (now x).made n.made y.more
+      amid
+      (λ since all.
+      y.all
+      ∙ (λ i. (sym own_made i ++ append_cancel_left (now x).made y.since since (sym y.made ∙ all) i) ++ y.more))

@@ -1,15 +1,13 @@
 pub use Rattle.driver_laws.proofs as DriverLaws
 pub mod Beside
 pub mod Faultless
+pub mod Laying
 pub mod Lent
-pub mod Lived
 pub mod Order
 pub mod Prelude
 pub mod Refused
-pub mod Settings
 pub mod Shifted
 pub mod StopCalls
 pub mod Stopped
 pub mod Told
-pub mod WorkerOrder
 pub mod WorkerTold

@@ -1,15 +1,14 @@
 -- The calls of a driver's stop are those of a stop, beside steps of the device, and take blocks back once both sides
 -- are off; and so do those of them that were made so far.
 use Rattle.driver_laws.proofs.StopCalls.{asks_end, bringing_ends, step_ends, switched_off_asks, unswitched_asks}
-use Rattle.pmd.specs.Stopping.{ComesHome, IsLeftAmid, bringing, brought}
+use Rattle.pmd.specs.Stopping.{ComesHome, IsLeftAmid, StopFails, Stops, bringing, brought}
 use Rattle.pmd.specs.declared.home.Home.{Home}
-use Rattle.pmd_laws.proofs.Prelude.{[], ⊎_elim, ◌++◌, ◌∙◌, ◌∷◌, ◌≡◌, ◌⊎◌, AreMadeOf, Asks, AtPort, Block, Call, Each}
-use Rattle.pmd_laws.proofs.Prelude.{Ends, EndsOnceOff, Event, Halted, IsAsking, IsEnding, IsStopped, IsSwitched, List}
-use Rattle.pmd_laws.proofs.Prelude.{None, Option, PmdFault, Rest, Some, TakesOnceOff, after, ap, append_assoc}
-use Rattle.pmd_laws.proofs.Prelude.{append_cancel_left, arith, closed, common_steps, false, inl, inr, left, none_made}
-use Rattle.pmd_laws.proofs.Prelude.{now, one_begins, refl, some_made, sym, then_made}
-use Rattle.pmd_laws.proofs.Shifted.{Shift, ShiftAt, joined, known, mapped, switched, then}
-use Rattle.pmd_laws.specs.Stopped.{FailedStopTakesOnceOff, NoCallTakes, StopTakesOnceOff}
+use Rattle.pmd_laws.proofs.Prelude.{AreMadeOf, Asks, AtPort, Block, Call, Each, Ends, EndsOnceOff, Event, Halted}
+use Rattle.pmd_laws.proofs.Prelude.{IsAsking, IsEnding, IsStopped, IsSwitched, List, None, Option, PmdFault, Rest, Some}
+use Rattle.pmd_laws.proofs.Prelude.{TakesOnceOff, [], after, ap, append_assoc, append_cancel_left, arith, closed}
+use Rattle.pmd_laws.proofs.Prelude.{common_steps, false, inl, inr, left, none_made, now, one_begins, refl, some_made}
+use Rattle.pmd_laws.proofs.Prelude.{sym, then_made, ⊎_elim, ◌++◌, ◌∙◌, ◌∷◌, ◌≡◌}
+use Rattle.pmd_laws.proofs.Shifted.{Shift, Shifts, given, joined, mapped, switched, then}
 use Rattle.pmd.specs.declared.start.Rest.TheVariants as rest
 
 module _ (P : Event Block → Type 0) where
@@ -30,8 +29,7 @@ module _ (P : Event Block → Type 0) where
 -- both sides were seen off, and then come calls of a stop
 abbrev pub once_of : (q : AtPort) (old new mid off : List Call) → Asks q old mid → IsSwitched q mid off false 1000
     → Ends q off new → EndsOnceOff q old new
-once_of q old new mid off asks switched ends =
-    record { mid = mid; off = off; asks = asks; switched = switched; ends = ends }
+once_of q old new mid off asks on ends = record { mid = mid; off = off; asks = asks; switched = on; ends = ends }
 
 -- up to where both sides are off the calls ask
 pub off_asks : (q : AtPort) (old new : List Call) (x : EndsOnceOff q old new) → Asks q old x.off
@@ -53,72 +51,60 @@ module _ (q : AtPort) (old now new since rest : List Call) (some : now ≡ old +
 
 -- what comes behind a switch off
 
-pub home_ends : (q : AtPort) (old : List Call) (h : Halted) (new : List Call) (home : Home)
-    → ComesHome old h new home → Ends q old new
-home_ends q old h new home comes =
-    bringing_ends q comes.brings.0 (bringing old h) (brought new home) comes.brings.1
+module _ (q : AtPort) (old : List Call) (h : Halted) (new : List Call) where
+  pub home_ends : (home : Home) → ComesHome old h new home → Ends q old new
+  home_ends home comes = bringing_ends q comes.brings.0 (bringing old h) (brought new home) comes.brings.1
 
-pub amid_ends : (f : PmdFault) (q : AtPort) (old : List Call) (h : Halted) (new : List Call) (left : Halted)
-    → IsLeftAmid f old h new left → Ends q old new
-amid_ends f q old h new left (refusal, is, (count, mid, some, more, arena, way, waits), same) =
-    then_made (IsEnding q) old mid.made new (bringing_ends q count (bringing old h) mid some)
-    (some_made (IsEnding q) (step_ends q) mid.made new more)
+  pub amid_ends : (f : PmdFault) (left : Halted) → IsLeftAmid f old h new left → Ends q old new
+  amid_ends f left (refusal, is, (count, mid, some, more, arena, way, waits), same) =
+      then_made (IsEnding q) old mid.made new (bringing_ends q count (bringing old h) mid some)
+      (some_made (IsEnding q) (step_ends q) mid.made new more)
 
--- blocks are taken back behind a switch off
+-- blocks are taken back behind a switch off: by a stop, and by one that fails; so it is of a driver that lived, and was
+-- stopped
+module _ (q : AtPort) (old : List Call) (h : Halted) (new : List Call) where
+  off_takes : (off : List Call) → IsSwitched q old off false 1000 → Ends q off new → TakesOnceOff q old new
+  off_takes off switched ends = inr (once_of q old new old off (none_made (IsAsking q) old old refl) switched ends)
 
-on_ends : (q : AtPort) (old mid new : List Call) → EndsOnceOff q old mid → Ends q mid new → EndsOnceOff q old new
-on_ends q old mid new x more =
-    once_of q old new x.mid x.off x.asks x.switched (then_made (IsEnding q) x.off mid new x.ends more)
+  pub stop_takes : (home : Home) → Stops q old h new home → TakesOnceOff q old new
+  stop_takes home (off, switched, comes) = off_takes off switched (home_ends q off (closed h) new home comes)
 
-once_off : (q : AtPort) (old mid off new : List Call) → TakesOnceOff q old mid → IsSwitched q mid off false 1000
-    → Ends q off new → TakesOnceOff q old new
-once_off q old mid off new (inl asks) x ends = inr (once_of q old new mid off asks x ends)
-once_off q old mid off new (inr was) x ends =
-    inr (on_ends q old mid new was
-    (then_made (IsEnding q) mid off new (asks_end q mid off (switched_off_asks q mid off x)) ends))
+  pub failed_takes : (f : PmdFault) (left : Halted) → StopFails f q old h new left → TakesOnceOff q old new
+  failed_takes f left (inl (is, same, after)) = inl (none_made (IsAsking q) old new same)
+  failed_takes f left (inr (inl (fails, same))) = inl (unswitched_asks f q old new fails)
+  failed_takes f left (inr (inr (off, switched, amid))) = off_takes off switched (amid_ends q off _ new f left amid)
 
-more_asks : (q : AtPort) (old mid new : List Call) → TakesOnceOff q old mid → Asks q mid new → TakesOnceOff q old new
-more_asks q old mid new (inl asks) more = inl (then_made (IsAsking q) old mid new asks more)
-more_asks q old mid new (inr was) more = inr (on_ends q old mid new was (asks_end q mid new more))
+  pub stopped_takes : (left : Rest) (late : Option PmdFault) → IsStopped q old h new left late → TakesOnceOff q old new
+  stopped_takes (rest.Home home) None x = stop_takes home x
+  stopped_takes (rest.Running p) (Some f) (after, is, fails) = failed_takes f after fails
+  stopped_takes left late x = absurd x
 
-pub no_call_takes : NoCallTakes
-no_call_takes q old = inl (none_made (IsAsking q) old old refl)
+  pub stopped_ends : (left : Rest) (late : Option PmdFault) → IsStopped q old h new left late → Ends q old new
+  stopped_ends left late x = takes_ends q old new (stopped_takes left late x)
 
-pub stop_takes_once_off : StopTakesOnceOff
-stop_takes_once_off q old mid h new home (off, switched, comes) before =
-    once_off q old mid off new before switched (home_ends q off (closed h) new home comes)
-
-pub failed_stop_takes_once_off : FailedStopTakesOnceOff
-failed_stop_takes_once_off f q old mid h new left (inl (is, same, after)) before = grind (arith, common_steps)
-failed_stop_takes_once_off f q old mid h new left (inr (inl (fails, same))) before =
-    more_asks q old mid new before (unswitched_asks f q mid new fails)
-failed_stop_takes_once_off f q old mid h new left (inr (inr (off, switched, amid))) before =
-    once_off q old mid off new before switched (amid_ends f q off (closed h) new left amid)
-
--- so it is of a driver that lived, and was stopped
-pub stopped_takes : (q : AtPort) (old : List Call) (h : Halted) (new : List Call) (left : Rest) (late : Option PmdFault)
-    → IsStopped q old h new left late → TakesOnceOff q old new
-stopped_takes q old h new (rest.Home home) None x = stop_takes_once_off q old old h new home x (no_call_takes q old)
-stopped_takes q old h new (rest.Running p) (Some f) (after, is, fails) =
-    failed_stop_takes_once_off f q old old h new after fails (no_call_takes q old)
-stopped_takes q old h new left late x = absurd x
-
-pub stopped_ends : (q : AtPort) (old : List Call) (h : Halted) (new : List Call) (left : Rest) (late : Option PmdFault)
-    → IsStopped q old h new left late → Ends q old new
-stopped_ends q old h new left late x = takes_ends q old new (stopped_takes q old h new left late x)
+-- so they are behind such calls
+pub takes_then : (q : AtPort) (old mid new : List Call) → TakesOnceOff q old mid → TakesOnceOff q mid new
+    → TakesOnceOff q old new
+takes_then q old mid new (inl asks) (inl more) = inl (then_made (IsAsking q) old mid new asks more)
+takes_then q old mid new (inl asks) (inr y) =
+    inr (once_of q old new y.mid y.off (then_made (IsAsking q) old mid y.mid asks y.asks) y.switched y.ends)
+takes_then q old mid new (inr x) more =
+    inr (once_of q _ _ _ _ x.asks x.switched (then_made (IsEnding q) x.off mid new x.ends (takes_ends q mid new more)))
 
 -- what they tell is told of the calls that were added alone: where both sides were off
 
 pub of_kind : (P : Event Block → Type 0) → Shift (λ o n. AreMadeOf P o n)
-of_kind P old new (calls, is, are) = record { since = calls; made = is; behind = λ front. (calls, refl, are) }
+of_kind P old new (calls, is, are) = given calls is (λ front. (calls, refl, are))
 
-pub once_off_shift : (q : AtPort) → ShiftAt (EndsOnceOff q) (λ o n y. y.off)
+pub once_off_shift : (q : AtPort) (old new : List Call) (x : EndsOnceOff q old new) → (off : List Call)
+    × (x.off ≡ old ++ off) × Shifts (λ o n. (y : EndsOnceOff q o n) × (y.off ≡ o ++ off)) old new
 once_off_shift q old new x =
     let off = then (of_kind (IsAsking q)) (switched q false 1000) old x.off (x.mid, x.asks, x.switched) in (
       off.since,
       off.made,
-      joined (known off) (of_kind (IsEnding q) x.off new x.ends) (λ o m n y ends.
-          (record { mid = y.0.0; off = m; asks = y.0.1; switched = y.0.2; ends = ends }, y.1)),
+      joined {R = λ o m. (y : (k : List Call) × Asks q o k × IsSwitched q k m false 1000) × (m ≡ o ++ off.since)}
+          (given off.since off.made (λ front. (off.behind front, refl))) (of_kind (IsEnding q) x.off new x.ends)
+          (λ o m n y ends. (once_of q o n y.0.0 m y.0.1 y.0.2 ends, y.1)),
     )
 
 pub takes_shift : (q : AtPort) → Shift (λ o n. TakesOnceOff q o n)

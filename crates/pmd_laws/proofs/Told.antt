@@ -1,21 +1,21 @@
 -- A call of a driver that looks last and finds no packet whole, or the oldest outstanding one not done, within a longer
 -- history. What the call tells may be told behind other calls: what it added comes behind a life. And a driver's life
 -- as its calls tell it is a life: it runs on, over calls as they are told, and harmless ones between.
-use Rattle.driver_laws.proofs.{InOrder.none_is_all_before, InOrder.waiting_is_not_all, RingLaws.Packets.length-segments}
 use Rattle.driver_laws.proofs.Beside.{apart_leads_on, driven_apart, harmless_lead, steps_harmless}
+use Rattle.driver_laws.proofs.{InOrder.none_is_all_before, InOrder.waiting_is_not_all, RingLaws.Packets.length-segments}
+use Rattle.driver_laws.specs.{Beside.AddsHarmless, Prelude.after_call, Prelude.parts_for, RingLaws.Laws.FindsWaiting}
 use Rattle.pmd.{proofs.Both.rings_still, specs.Driver.Driver, specs.PmdRx.Plays.LooksInVain}
-use Rattle.pmd_laws.proofs.Order.{Ran, all_apart, begun, counted, driven, first, fresh_own, in_parts}
-use Rattle.pmd_laws.proofs.Order.{last as last_there, life_before, life_of, none, ran, whole}
-use Rattle.pmd_laws.proofs.Prelude.{[], ◌++◌, ◌+◌, ◌<◌, ◌∙◌, ◌∷◌, ◌≡◌, ◌≢◌, ◌≤◌, Adds, AddsHarmless, AllFollow, AllOwn}
-use Rattle.pmd_laws.proofs.Prelude.{AtPort, Block, Blocks, Call, Doer, Drives, Drove, Entry, Event, FindsNone}
-use Rattle.pmd_laws.proofs.Prelude.{FindsWaiting, Follows, Halves, IsLegal, IsTold, Leads, LeadsApart, Life, List}
-use Rattle.pmd_laws.proofs.Prelude.{Lives, LooksLast, Moment, Numbers, OwnsSame, Packet, Parts, Receive, Receives}
-use Rattle.pmd_laws.proofs.Prelude.{Reply, Rings, Running, Sender, Sends, State, Told, Up, WhereUp, ℕ, after_call, ap}
-use Rattle.pmd_laws.proofs.Prelude.{append-nil, append_assoc, append_cancel_left, arith, bytes_of, call_in, call_of}
-use Rattle.pmd_laws.proofs.Prelude.{calls_joined, calls_of, common_steps, delivered, drives_lead, first_of, halves_of}
-use Rattle.pmd_laws.proofs.Prelude.{harmless_apart, inl, inr, is_own, last, leads_on, leads_to, legal_behind, length}
-use Rattle.pmd_laws.proofs.Prelude.{parts_for, played_by, receiving_drives, refl, reply_to, rules, same_from_push}
-use Rattle.pmd_laws.proofs.Prelude.{sending_drives, sent_since, sized, subst, sym}
+use Rattle.pmd_laws.proofs.Order.{Ran, all_apart, begun, counted, driven, fresh_own, in_parts, last as last_there}
+use Rattle.pmd_laws.proofs.Prelude.{AllFollow, AllOwn, AtPort, Block, Blocks, Call, Doer, Drives, Drove, Entry, Event}
+use Rattle.pmd_laws.proofs.Prelude.{FindsNone, Follows, Halves, IsTold, Leads, LeadsApart, Life, List, Lives, LooksLast}
+use Rattle.pmd_laws.proofs.Prelude.{Moment, Numbers, OwnsSame, Packet, Parts, Receive, Reply, Rings, Running, Sender}
+use Rattle.pmd_laws.proofs.Prelude.{Told, Up, WhereUp, [], ap, append-nil, append_assoc, append_cancel_left, arith}
+use Rattle.pmd_laws.proofs.Prelude.{bytes_of, call_in, call_of, calls_joined, calls_of, common_steps, delivered}
+use Rattle.pmd_laws.proofs.Prelude.{drives_lead, first_of, halves_of, harmless_apart, inl, inr, is_own, last, leads_on}
+use Rattle.pmd_laws.proofs.Prelude.{leads_to, legal_behind, length, played_by, receiving_drives, refl, reply_to, rules}
+use Rattle.pmd_laws.proofs.Prelude.{same_from_push, sending_drives, sent_since, sized, subst, sym, ℕ, ◌++◌, ◌+◌, ◌<◌}
+use Rattle.pmd_laws.proofs.Prelude.{◌∙◌, ◌∷◌, ◌≡◌, ◌≢◌, ◌≤◌}
+use Rattle.pmd_laws.proofs.{Order.life_before, Order.life_of, Order.none, Order.ran, Order.whole, Prelude.Adds}
 use Rattle.pmd_laws.specs.{FullRing.AcceptsNone, FullRing.TellsFull, FullRing.outstanding, Looks.EndsAt, Told.now}
 
 -- a later place of a life's history, to which its calls led its halves
@@ -51,32 +51,22 @@ module _ (x : Life) (late rest : List Entry) (split : late ++ rest ≡ x.h) {the
         backs = search (rules, append_cancel_left, calls_joined, joined);
       }
 
-      -- what is so of the halves and of the device later is so in parts
-      late_is : (P : Halves → State → Type 0) → P then (leads_to origin late)
-          → P (played_by (first (begun x)) (whole later).0 (calls_of w.pass (p.back ++ more)))
-          (leads_to origin (p.front ++ (p.back ++ more)))
-      late_is P holds = rw (last_there (ran later) p_late, joined) holds
-
       -- where a look there finds none, and hands out nothing, all was handed out that was delivered before
       none_sooner : FindsNone (leads_to origin late) then.receive → then.receive.handed ≡ k.receive.handed
           → k.receive.handed ≡ delivered w.queue origin early
       none_sooner finds same =
           let here = last_there (ran sooner) p in
-          ap (λ (z : Halves). z.receive.handed) (sym here)
-          ∙ none_is_all_before w origin p.front p.back more (first (begun x)) (whole sooner).0 (whole later).0
-          (driven (ran sooner) p) (driven (ran later) p_late) (late_is (λ z s. FindsNone s z.receive) finds)
-          (ap (λ (z : Halves). z.receive.handed) (last_there (ran later) p_late) ∙ same
-          ∙ ap (λ (z : Halves). z.receive.handed) (sym here))
-          ∙ ap (delivered w.queue origin) p.both
+          let there = last_there (ran later) p_late in
+          let all = none_is_all_before w origin _ _ more _ _ _ (driven (ran sooner) p) (driven (ran later) p_late)
+          (grind (arith, there, joined)) (cc (here, there)) in
+          cc (here, p.both, all)
 
       -- and where it finds one waiting, not all was sent before
       waiting_sooner : FindsWaiting (leads_to origin late) then.transmit
           → bytes_of then.transmit.accepted ≢ sent_since w.queue origin [] early
       waiting_sooner finds same =
-          waiting_is_not_all w origin p.front p.back more (first (begun x)) (whole later).0 (driven (ran later) p_late)
-          (late_is (λ z s. FindsWaiting s z.transmit) finds)
-          (ap (λ (z : Halves). bytes_of z.transmit.accepted) (last_there (ran later) p_late) ∙ same
-          ∙ counted (ran sooner) p)
+          let is = waiting_is_not_all w origin _ _ more _ _ (driven (ran later) p_late) in
+          grind (arith, is, last_there (ran later) p_late, joined, counted (ran sooner) p)
 
 -- calls that drive halves on were added, and then one call more
 module _ (old : List Call) {h k : Halves} {mid new : List Call} (e : Event Block) (reply : Reply Block)
@@ -96,7 +86,7 @@ module _ (x : Life) (old : List Call) {mid new now : List Call} (e : Event Block
 
   ends : (calls_of x.w.pass at.before ≡ till) × (call_in at.entry ≡ call_of e reply)
   ends =
-      same_from_push (calls_of x.w.pass at.before) till (call_in at.entry) (call_of e reply)
+      same_from_push _ till _ (call_of e reply)
       (at.made ∙ behind (added old e reply drives adds) (added_is old e reply drives adds) ∙ simp (append_assoc))
 
   -- the life goes on up to it
@@ -104,17 +94,13 @@ module _ (x : Life) (old : List Call) {mid new now : List Call} (e : Event Block
   goes_up =
       let mine : List Call = x.made ++ drives.1 in
       rw ends.0
-      (leads_on x.started mine till (halves_of x.r) then then
-      (leads_on x.started x.made mine (halves_of x.r) x.k then x.is.since
-      (drives_lead x.made mine x.k then (drives.0, drives.1, refl, drives.3, drives.4, drives.5)))
-      (harmless_lead mine till then (adds.0, refl, steps_harmless adds.0 adds.2)))
+      (leads_on _ mine till _ _ then (leads_on _ _ mine _ _ then x.is.since (drives_lead _ _ _ _ (search rules)))
+      (harmless_lead mine till then (search (rules, steps_harmless))))
 
   -- and the device answers it
   answered : reply_to (leads_to x.origin at.before) e ≡ reply
   answered =
-      let legal = legal_behind x.origin at.before (at.entry ∷ at.behind)
-      (subst (IsLegal x.origin) (sym at.all) x.is.along.legal) in
-      grind (arith, common_steps, ends, legal)
+      grind (arith, common_steps, ends, legal_behind x.origin at.before (at.entry ∷ at.behind))
 
 -- a look in vain, and one that finds a packet waiting
 
@@ -130,28 +116,15 @@ module _ (x : Life) {old new now : List Call} (at : EndsAt x.w.pass x.h now)
     vain_goes = goes_up x old _ _ vain y.last at behind
 
     finds : FindsNone (leads_to origin at.before) v
-    finds = record {
-      shows = record {
-        looks = y.stage;
-        posted = y.posted;
-        bytes = y.bytes;
-        waits = y.waits;
-        reply = answered x old _ _ vain y.last at behind;
-      };
-      none_whole = y.none_whole;
-    }
-
-    -- looks hand out nothing
-    same : v.handed ≡ k.receive.handed
-    same = ap (λ (z : Receive). z.handed) y.left
+    finds = let reply = answered x old _ _ vain y.last at behind in search rules
 
     pub none_before : k.receive.handed ≡ delivered w.queue origin at.before
-    none_before = sym same ∙ none (ran (later x at.before (at.entry ∷ at.behind) at.all vain_goes)) refl finds
+    none_before = cc (none (ran (later x at.before (at.entry ∷ at.behind) at.all vain_goes)) refl finds, y.left)
 
     pub none_first : (early more : List Entry) → early ++ more ≡ at.before → AddsHarmless x.made (calls_of w.pass early)
         → k.receive.handed ≡ delivered w.queue origin early
     none_first early more all is =
-        none_sooner x at.before (at.entry ∷ at.behind) at.all vain_goes early more all is finds same
+        none_sooner x at.before (at.entry ∷ at.behind) at.all vain_goes early more all is finds (cc (y.left))
 
   pub waiting_first : {v : Sender} → LooksLast old k.transmit new v → (early more : List Entry)
       → early ++ more ≡ at.before → AddsHarmless x.made (calls_of w.pass early)
@@ -177,19 +150,16 @@ module _ {a : Numbers} {old : List Call} {h : Halves} where
   runs_next : (m n : Moment) (x : RunsOn a old h m) (s : Running) → n.driver.rings ≡ Up s
       → OwnsSame x.rings.arena s.arena → LeadsApart (is_own a) m.made (halves_of x.rings) n.made (halves_of s)
       → RunsOn a old h n
-  runs_next m n x s up owns apart = record {
-    rings = s;
-    up = up;
-    owns = λ k. owns k ∙ x.owns k;
-    apart = apart_leads_on (is_own a) old m.made n.made h (halves_of x.rings) (halves_of s) x.apart apart;
-  }
+  runs_next m n x s up owns apart =
+      let all = apart_leads_on (is_own a) old m.made n.made h (halves_of x.rings) (halves_of s) x.apart apart in
+      search (rules, all)
 
   follows : (m n : Moment) → RunsOn a old h m → Follows m n → RunsOn a old h n
   follows m n x (inl drove) =
       let (s, up, drives) = up_next _ m.driver.rings n.driver.rings x.rings x.up drove in
       runs_next m n x s up drives.owns
       (subst (λ (own : Blocks). LeadsApart own m.made (halves_of x.rings) n.made (halves_of s)) (λ i k. x.owns k i)
-      (driven_apart (is_own x.rings.arena) m.made n.made (halves_of x.rings) (halves_of s) drives.apart))
+      (driven_apart _ _ _ _ _ drives.apart))
   follows m n x (inr (halves, added)) =
       let (s, up, same) = up_next _ m.driver.rings n.driver.rings x.rings x.up halves in
       runs_next m n x s up same.1
@@ -209,39 +179,25 @@ played_room : (size : ℕ) (h : Halves) (doers : List Doer) (calls : List Call) 
     → HasRoom size h.transmit → HasRoom size (played_by h doers calls).transmit
 played_room size h [] calls own x = x
 played_room size h (d ∷ doers) [] own x = absurd own
-played_room size h (Receives ∷ doers) (n ∷ calls) own x =
-    played_room size (after_call h Receives n) doers calls own.1 x
-played_room size h (Sends m ∷ doers) (n ∷ calls) own x =
-    played_room size (after_call h (Sends m) n) doers calls own.1
-    (grind (arith, common_steps, length-segments))
+played_room size h (d ∷ doers) (n ∷ calls) own x =
+    played_room size (after_call h d n) doers calls own.1 (grind (arith, common_steps, length-segments))
 
 module _ {q : AtPort} {size frame : ℕ} {old : List Call} {a : Numbers} {m : Moment} {later : List Moment}
     (x : IsTold q size frame old a m later) where
-  abbrev fresh : Running
-  fresh = x.started.0
-
   -- as its start answered it, it lived
-  abbrev lives : Lives q size frame old a m.made fresh
-  lives = record { made = m.made; fresh = fresh; up = x.started.2; drives = rings_still m.made fresh }
+  abbrev lives : Lives q size frame old a m.made x.started.0
+  lives = record { made = m.made; fresh = x.started.0; up = x.started.2; drives = rings_still m.made x.started.0 }
 
-  pub runs : RunsOn a m.made (halves_of fresh) (last m later)
+  pub runs : RunsOn a m.made (halves_of x.started.0) (last m later)
   runs =
       all_follow m later
-      (record {
-        rings = fresh;
-        up = ap (λ (p : Driver). p.rings) x.started.1;
-        owns = λ k. fresh_own lives k;
-        apart = harmless_apart (is_own a) m.made m.made (halves_of fresh) ([], sym (append-nil m.made), tt);
-      }) x.since
+      (search (rules, ap (λ (p : Driver). p.rings) x.started.1, fresh_own lives, harmless_apart, append-nil)) x.since
 
   -- and so from the place on where both sides of its queue were on
-  pub led : LeadsApart (is_own a) x.started.2.on.mid (first_of q size frame old a m.made fresh lives)
+  pub led : LeadsApart (is_own a) x.started.2.on.mid (first_of q size frame old a m.made x.started.0 lives)
       (last m later).made (halves_of runs.rings)
   led =
-      let on = x.started.2.on.mid in
-      let begins = first_of q size frame old a m.made fresh lives in
-      apart_leads_on (is_own a) on m.made (last m later).made begins (halves_of fresh) (halves_of runs.rings)
-      (driven_apart (is_own a) on m.made begins (halves_of fresh) (all_apart lives)) runs.apart
+      apart_leads_on _ _ _ _ _ _ _ (driven_apart _ _ _ _ _ (all_apart lives)) runs.apart
 
   -- its transmit ring has one slot vacant
   pub room : HasRoom size runs.rings.transmit

@@ -1,68 +1,73 @@
 -- The frames that wait for a queue: they are as short as the driver's packets, and so are the pieces that are written.
-use Rattle.std.proofs.Common.{[], ◌&&◌, ◌*◌, ◌++◌, ◌+◌, ◌-◌, ◌<◌, ◌∙◌, ◌∷◌, ◌≡◌, ◌≢◌, ◌≤◌, ◌⊎◌, Bool, Err, List, Ok, ap}
-use Rattle.history_laws.specs.Prelude.{Block, Event, Filled, IsSound, Memory, Outcome, RingFault, Rx, State, Waiting}
-use Rattle.history_laws.specs.Prelude.{WritesNoSetting, after, buffer_size_of, frame_limit, has_queue, is_on, mode_in}
+use Rattle.history_laws.specs.Prelude.{Block, Filled, Memory, WritesNoSetting, buffer_size_of}
+use Rattle.history_laws.specs.Prelude.{IsSound, Rx, Waiting, after, is_on, mode_in, piece_of, receive_queue_of, step_of}
+use Rattle.history_laws.{proofs.Deeds.step_cases, specs.Prelude.Event, specs.Prelude.Outcome, specs.Prelude.frame_limit}
+use Rattle.history_laws.{proofs.DeviceLaws.KeptSettings.settings_stand, specs.Prelude.RingFault, specs.Prelude.rest_of}
+use Rattle.history_laws.{proofs.Lent.Changes, proofs.Lent.waiting_changed, specs.Prelude.State, specs.Prelude.has_queue}
+use Rattle.nic_device.specs.RxFilter.declared.target.Target.{Target}
+use Rattle.nic_device.{proofs.Cases.either_way, specs.Arrival.let_in, specs.Sound.AreWaiting, specs.Sound.IsUnbegun}
+use Rattle.nic_device.{proofs.QueueCases.filled_by, proofs.QueueCases.received_cases, specs.Switching.without_part}
+use Rattle.nic_device.{proofs.RxRing.Fills.takes_piece, specs.RegisterFile.Settings.drops, specs.Sound.IsBegunWhileOn}
 use Rattle.ring_laws.specs.Fitting.{AreFitting, FitsBlocks, FramesStayFitting, NoneBegunWhileOff, ResetsNoPool}
+use Rattle.ring_laws.specs.{Joint.Holds, Pieces.AllFit, Pieces.Fits, Pieces.open_after, Pieces.pieces, ReceiveUp.IsUp}
+use Rattle.ring_laws.{proofs.Foreign.no_fault, proofs.Foreign.ring_is, specs.Pieces.Piece, specs.ReceivePrelude.Receive}
+use Rattle.ring_laws.{proofs.Kept.open_pushed, specs.Fitting.begun_on, specs.Pieces.first_of, specs.Pieces.pieces_told}
+use Rattle.std.proofs.Common.{All, List, Ok, Result, append-nil, arith, length-drop, not, true, ◌*◌, ◌+◌, ◌-◌, ◌≢◌, ◌⊎◌}
+use Rattle.std.proofs.Common.{Bool, Err, [], cond, drop, eq-eqb, false, min, ne_eqb, sym, ◌==◌, ◌≡◌}
+use Rattle.std.proofs.Common.{ap, filter, inl, inr, length, length-take, refl, subst, ℕ, ◌&&◌, ◌++◌, ◌<◌, ◌∙◌, ◌∷◌, ◌≤◌}
 use Rattle.std.proofs.lemmas.List.Elements.{All-cons, All-filter, All-head, All-nil, All-push, All-tail}
-use Rattle.std.proofs.lemmas.Bool.{and_parts, both_ways, cases_eq, cases_lt, cond_both, eq-eqb, eqb-true, ne_eqb}
-use Rattle.std.proofs.Common.{arith, cond, drop, false, inl, inr, length, min, refl, subst, sym, true, ℕ}
-use Rattle.std.proofs.{lemmas.Grind.common_steps, lemmas.List.append-nil, lemmas.List.length-drop}
-use Rattle.std.proofs.{lemmas.List.length-take}
-use Rattle.history_laws.specs.Prelude.{piece_of, receive_queue_of, rest_of, step_of}
-use Rattle.ring_laws.specs.Pieces.{AllFit, Fits, Piece, first_of, open_after, pieces, pieces_told}
-use Rattle.ring_laws.specs.{Fitting.begun_on, Joint.Holds, ReceivePrelude.Receive, ReceiveUp.IsUp}
-use Rattle.nic_device.specs.{Arrival.let_in, RegisterFile.Settings.drops, RxFilter.declared.target.Target.Target}
-use Rattle.nic_device.specs.{RxRing.Laws.TakesPiece, Sound.AreWaiting, Sound.IsBegunWhileOn, Sound.IsUnbegun}
-use Rattle.nic_device.specs.{Switching.without_part}
-use Rattle.std.specs.Prelude.{◌&&◌, ◌==◌, All, Result, filter, not}
-use Rattle.nic_device.proofs.{Cases.either_way, QueueCases.filled_by, QueueCases.received_cases}
-use Rattle.nic_device.proofs.{RxRing.Fills.takes_piece}
-use Rattle.history_laws.proofs.{Deeds.step_cases, DeviceLaws.KeptSettings.settings_stand, DeviceLaws.Settings.no_reset}
-use Rattle.history_laws.proofs.{Lent.Changes, Lent.waiting_changed}
-use Rattle.ring_laws.proofs.{Kept.open_pushed, Receiving.no_fault, Receiving.room_left}
+use Rattle.std.proofs.lemmas.{Bool.and_parts, Bool.both_ways, Bool.cond_both, Bool.eqb-true, Grind.common_steps}
 use Rattle.nic_device.specs.declared.event.Event.TheVariants as event
 use Rattle.nic_device.specs.Receive as receive
 
--- The frames that wait for a queue stay as short as its driver's packets.
+-- What holds of each frame that waits, wherever it goes on, does so behind an event, where it does of one that is
+-- let in.
 
-module _ (queue most : ℕ) (s : State) (limit : frame_limit s.registers ≤ 2048 * most)
-    (h : All (FitsBlocks queue most) s.waiting) where
-  abbrev P : Waiting → Type 0
-  P = FitsBlocks queue most
+module _ (P : Waiting → Type 0) (moved : (w : Waiting) (n : ℕ) → P w → P (record w { offset = n })) (s : State)
+    (h : All P s.waiting) where
+  waits : (w : Waiting) (others : List Waiting) → s.waiting ≡ w ∷ others → All P (w ∷ others)
+  waits w others e = subst (All P) e h
 
-  short_first : (w : Waiting) (others : List Waiting) → s.waiting ≡ w ∷ others → All P (w ∷ others)
-  short_first w others e = subst (All P) e h
-
-  short_received : All P (after s event.RxStep).waiting
+  received_all : All P (after s event.RxStep).waiting
   unfolding step_of
-  short_received = received_cases (λ (o : Outcome). All P o.state.waiting) s (record {
+  received_all = received_cases (λ (o : Outcome). All P o.state.waiting) s (record {
     idle = h;
-    dropped = λ w others e why. All-tail P w others (short_first w others e);
-    slotless = λ w others e. All-tail P w others (short_first w others e);
-    fault = λ w others e fault. All-tail P w others (short_first w others e);
+    dropped = λ w others e why. All-tail P w others (waits w others e);
+    slotless = λ w others e. All-tail P w others (waits w others e);
+    fault = λ w others e fault. All-tail P w others (waits w others e);
     filled = λ w others e f is.
-        let rest = All-tail P w others (short_first w others e) in
+        let rest = All-tail P w others (waits w others e) in
         either_way (All P) f.end others (record w { offset = w.offset + f.len } ∷ others) rest
-        (All-cons P _ others (All-head P w others (short_first w others e)) rest);
+        (All-cons P _ others (moved w _ (All-head P w others (waits w others e))) rest);
   })
 
-  short_parted : (on : ℕ) (ws : List Waiting) → All P ws → All P (without_part on ws)
-  short_parted on [] all = all
-  short_parted on (w ∷ others) all = either_way (All P) _ others (w ∷ others) (All-tail P w others all) all
+  parted_all : (on : ℕ) (ws : List Waiting) → All P ws → All P (without_part on ws)
+  parted_all on [] all = all
+  parted_all on (w ∷ others) all = either_way (All P) _ others (w ∷ others) (All-tail P w others all) all
 
-  short_changes : (e : Event Block) → Changes (All P) s e
-  short_changes event.RxStep = short_received
-  short_changes (event.Write port n word) = λ p view is. record {
+  abbrev Comes : Event Block → Type 0
+  Comes e =
+      (frame : List ℕ) (t : Target) → e ≡ event.Arrive frame → length frame ≤ frame_limit s.registers
+      → P (let_in frame t)
+
+  all_changes : (e : Event Block) → Comes e → Changes (All P) s e
+  all_changes event.RxStep comes = received_all
+  all_changes (event.Write port n word) comes = λ p view is. record {
     device = λ asks. All-nil P;
     pool = λ asks. All-filter (λ w. not (has_queue (mode_in s.registers) p.index w.queue)) P s.waiting h;
   }
-  short_changes (event.Arrive frame) = λ t low.
-      All-push P s.waiting (let_in frame t) h (λ own. omega (arith, low, limit))
-  short_changes (event.QueueStep Rx on) = λ off. short_parted on s.waiting h
-  short_changes e = tt
+  all_changes (event.Arrive frame) comes = λ t low. All-push P s.waiting (let_in frame t) h (comes frame t refl low)
+  all_changes (event.QueueStep Rx on) comes = λ off. parted_all on s.waiting h
+  all_changes e comes = tt
 
-  pub frames_fit : (e : Event Block) → All P (after s e).waiting
-  frames_fit e = waiting_changed (All P) s h e (short_changes e)
+  pub all_wait : (e : Event Block) → Comes e → All P (after s e).waiting
+  all_wait e comes = waiting_changed (All P) s h e (all_changes e comes)
+
+-- so the frames that wait for a queue stay as short as its driver's packets
+pub frames_fit : (queue most : ℕ) (s : State) → frame_limit s.registers ≤ 2048 * most
+    → All (FitsBlocks queue most) s.waiting → (e : Event Block) → All (FitsBlocks queue most) (after s e).waiting
+frames_fit queue most s limit h e =
+    all_wait (FitsBlocks queue most) (λ w n fits. fits) s h e (λ frame t is low own. omega (arith, low, limit))
 
 -- How much is written of the frame that waits first, where it is a queue's.
 
@@ -77,13 +82,11 @@ module _ (queue n : ℕ) where
 
   unbegun : (ws : List Waiting) → All IsUnbegun ws → begun_on queue ws ≡ 0
   unbegun [] none = refl
-  unbegun (w ∷ others) none =
-      ap (λ (n : ℕ). cond (w.queue == queue) n 0) (All-head IsUnbegun w others none).none
-      ∙ either_zero (w.queue == queue)
+  unbegun (w ∷ others) none = let is = (All-head IsUnbegun w others none).none in (grind arith)
 
   gone : (w : Waiting) (others : List Waiting) → AreWaiting (w ∷ others) → Has (w ∷ others)
       → (w.queue ≡ queue → n ≡ 0) → Has others
-  gone w others are has none = grind (arith, common_steps, unbegun, ne_eqb, cases_eq w.queue queue)
+  gone w others are has none = grind (arith, unbegun)
 
   filtered : (f : Waiting → Bool) (ws : List Waiting) → AreWaiting ws → Has ws
       → ((x : Waiting) → x.queue ≡ queue → f x ≡ false → n ≡ 0) → Has (filter f ws)
@@ -105,10 +108,7 @@ module _ (queue n : ℕ) where
   -- a piece of another queue's frame is written
   elsewhere : (w : Waiting) (others : List Waiting) (f : Filled) → AreWaiting (w ∷ others) → Has (w ∷ others)
       → w.queue ≢ queue → Has (receive.after_piece w others f)
-  elsewhere w others f are has ne =
-      either_way Has f.end others (record w { offset = w.offset + f.len } ∷ others)
-      (gone w others are has (λ own. absurd (ne own)))
-      (rw (ne_eqb w.queue queue ne) (rw (ne_eqb w.queue queue ne) at has))
+  elsewhere w others f are has ne = grind arith
 
   -- it stays so over an event that is no step of receiving, where nothing is written, or the side is up and an event
   -- writes no setting and resets not the queue's pool
@@ -119,10 +119,7 @@ module _ (queue n : ℕ) where
     begun_changes : (e : Event Block) → Spared e → (e ≡ event.RxStep → Has (after s e).waiting) → Changes Has s e
     begun_changes event.RxStep spared step = step refl
     begun_changes (event.Write port n word) spared step = λ p view is. record {
-      device = λ asks. elim spared [
-        | inl none ↦ sym none
-        | inr k ↦ absurd (both_ways _ (no_reset p.row word (k.0 p view is).control) asks)
-      ];
+      device = (grind arith);
       pool = λ asks.
           filtered (λ (w : Waiting). not (has_queue (mode_in s.registers) p.index w.queue)) s.waiting sound.waiting has
           (λ x own no. elim spared [
@@ -133,8 +130,7 @@ module _ (queue n : ℕ) where
           ]);
     }
     begun_changes (event.Arrive frame) spared step = λ t low. pushed s.waiting frame t has
-    begun_changes (event.QueueStep Rx on) spared step = λ off.
-        parted on s.waiting sound.waiting has (λ own. grind (arith, common_steps))
+    begun_changes (event.QueueStep Rx on) spared step = grind (arith, parted)
     begun_changes e spared step = tt
 
     pub still_begun : (e : Event Block) → Spared e → (e ≡ event.RxStep → Has (after s e).waiting)
@@ -155,14 +151,12 @@ none_received queue s sound none =
       dropped = λ w others e why told. gone_first w others e;
       slotless = λ w others e told. gone_first w others e;
       fault = λ w others e fault told. gone_first w others e;
-      filled = grind (arith, common_steps, elsewhere, eq-eqb);
+      filled = grind (arith, common_steps, elsewhere);
     })
 
 pub begun_stays : (queue : ℕ) (s : State) → IsSound s → begun_on queue s.waiting ≡ 0 → (e : Event Block)
     → pieces queue s e ≡ [] → begun_on queue (after s e).waiting ≡ 0
-begun_stays queue s sound none e told =
-    still_begun queue 0 s sound none e (inl refl)
-    (λ is. rw is (none_received queue s sound none (subst (λ e. pieces queue s e ≡ []) is told)))
+begun_stays queue s sound none e told = grind (arith, still_begun, none_received)
 
 -- Frames that fit as many slots as the driver takes for a packet stay so, and the pieces that are written of them fit.
 
@@ -203,9 +197,7 @@ module _ (queue most : ℕ) (s : State) (out : List Piece) (v : Receive) (gone_b
     leaves none = none_written others (gone queue (2048 * n) w others are has none)
 
     dropped_leaves : (drops s.registers w.queue && w.offset == 0) ≡ true → Goes others []
-    dropped_leaves is =
-        leaves (λ own. sym has ∙ ap (λ (k : ℕ). cond (w.queue == queue) k 0) (eqb-true w.offset 0 (and_parts _ _ is).1)
-        ∙ either_zero (w.queue == queue))
+    dropped_leaves is = grind (arith, leaves, eqb-true, and_parts)
 
     fault_leaves : (fault : RingFault) → (filled_by s w).answer ≡ Err fault
         → receive.is_empty (receive_queue_of s.registers w.queue).ring ≡ false → Goes others []
@@ -213,7 +205,7 @@ module _ (queue most : ℕ) (s : State) (out : List Piece) (v : Receive) (gone_b
         leaves (λ own.
         let open_ring : receive.is_empty (receive_queue_of s.registers queue).ring ≡ false =
         subst (λ (q : ℕ). receive.is_empty (receive_queue_of s.registers q).ring ≡ false) own some in
-        let room = room_left h open_ring (cases_lt (length here) (length v.layout.blocks)) in
+        let room = (ring_is h).more open_ring in
         absurd (no_fault h room (rest_of w) fault (rw own at is)))
 
     -- a piece of a frame of the queue is written
@@ -221,24 +213,19 @@ module _ (queue most : ℕ) (s : State) (out : List Piece) (v : Receive) (gone_b
       begun : w.offset ≡ 2048 * n
       begun = rw (eq-eqb w.queue queue own) at has
 
-      piece_is : TakesPiece s.memory (receive_queue_of s.registers w.queue).ring
-          (receive_queue_of s.registers w.queue).control (rest_of w) f
-      piece_is = takes_piece s.memory _ _ (rest_of w) f is
-
       taken : f.len ≡ min 2048 (length (drop w.offset w.frame))
       taken =
           let room = subst (λ q. buffer_size_of (receive_queue_of s.registers q).control ≡ 2048) (sym own)
           h.side.buffer_size in
-          piece_is.len ∙ ap (λ (k : ℕ). min k (length (drop w.offset w.frame))) room
-
-      short : length w.frame ≤ 2048 * most
-      short = All-head (FitsBlocks queue most) w others (subst (All (FitsBlocks queue most)) e fit.waiting) own
+          (takes_piece s.memory _ _ (rest_of w) f is).len ∙ ap (λ (k : ℕ). min k (length (drop w.offset w.frame))) room
 
       -- a piece that doesn't end its frame fills its block, and one more fits
       goes_on : f.end ≡ false → (f.len ≡ 2048) × (n + 1 < most)
       goes_on on =
           more_left f.len (length (drop w.offset w.frame)) (length w.frame) w.offset n most taken
-          (λ all. both_ways f.end on (piece_is.end.1 all)) (length-drop w.offset w.frame) begun short
+          (λ all. both_ways f.end on ((takes_piece s.memory _ _ (rest_of w) f is).end.1 all))
+          (length-drop w.offset w.frame) begun
+          (All-head (FitsBlocks queue most) w others (subst (All (FitsBlocks queue most)) e fit.waiting) own)
 
       abbrev piece : Piece
       piece = record { bytes = piece_of s.waiting f.len; first = first_of s.waiting; end = f.end }
@@ -250,16 +237,11 @@ module _ (queue most : ℕ) (s : State) (out : List Piece) (v : Receive) (gone_b
           → begun_on queue (cond ends others (record w { offset = w.offset + f.len } ∷ others))
           ≡ 2048 * cond ends 0 (n + 1)
       next true end = unbegun queue 0 others are.1 ∙ (let z : 0 ≡ 2048 * 0 = omega arith in z)
-      next false end = grind (arith, common_steps, goes_on, eq-eqb, begun)
+      next false end = grind (arith, goes_on, eq-eqb)
 
     writes : (f : Filled) → (filled_by s w).answer ≡ Ok f → (memory : Memory)
         → Step (receive.slot_done s w others (Ok f) memory)
-    writes f is memory = elim (cases_eq w.queue queue) [
-      | inl own ↦ rw (eq-eqb w.queue queue own) (grind (arith, common_steps, next, open_pushed, fit-push, fits))
-      | inr ne ↦
-          rw (ne_eqb w.queue queue ne) (none_written (receive.after_piece w others f)
-          (elsewhere queue (2048 * n) w others f are has ne))
-    ]
+    writes f is memory = grind (arith, eq-eqb, next, open_pushed, fit-push, fits, ne_eqb, none_written, elsewhere)
 
     answered : (answer : Result Filled RingFault) → (filled_by s w).answer ≡ answer
         → receive.is_empty (receive_queue_of s.registers w.queue).ring ≡ false → (memory : Memory)
@@ -271,14 +253,13 @@ module _ (queue most : ℕ) (s : State) (out : List Piece) (v : Receive) (gone_b
   received = step_cases Step s (record {
     idle = none_written s.waiting fit.begun;
     dropped = λ w others e off.
-        leaves w others e (λ own. (grind (arith, common_steps, both_ways)));
+        leaves w others e (λ own. (grind arith));
     slotless = dropped_leaves;
     tried = λ w others e tried answer is. answered w others e answer is tried.some (filled_by s w).memory;
   })
 
   stays : (e : Event Block) → WritesNoSetting s e → ResetsNoPool queue s e → Goes (after s e).waiting (pieces queue s e)
-  stays event.RxStep none spares = received
-  stays e none spares = grind (arith, common_steps, none_written, still_begun)
+  stays e none spares = grind (arith, received, none_written, still_begun)
 
 pub frames_stay_fitting : FramesStayFitting
 frames_stay_fitting queue most s out v e sound (gone, here, h) up fit none spares =
@@ -292,15 +273,10 @@ frames_stay_fitting queue most s out v e sound (gone, here, h) up fit none spare
 
 -- while the side is off
 
-off_first : (queue : ℕ) (s : State) (w : Waiting) → IsBegunWhileOn s.registers w
-    → is_on s.registers Rx queue ≡ false → (ours : Bool) → (w.queue == queue) ≡ ours → cond ours w.offset 0 ≡ 0
-off_first queue s w h1 h2 ours h3 = grind (arith, common_steps, begun, eqb-true, both_ways)
-
 off_begun : (queue : ℕ) (s : State) (ws : List Waiting) → All (IsBegunWhileOn s.registers) ws
     → is_on s.registers Rx queue ≡ false → begun_on queue ws ≡ 0
 off_begun queue s [] since off = refl
-off_begun queue s (w ∷ others) since off =
-    off_first queue s w (All-head (IsBegunWhileOn s.registers) w others since) off (w.queue == queue) refl
+off_begun queue s (w ∷ others) since off = grind (arith, All-head)
 
 pub none_begun_while_off : NoneBegunWhileOff
 none_begun_while_off queue s sound off = off_begun queue s s.waiting sound.begun off

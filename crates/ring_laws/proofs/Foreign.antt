@@ -1,47 +1,174 @@
--- Events that aren't the driver's own: they keep the agreement, and a side up that is.
-use Rattle.std.proofs.Common.{[], ◌++◌, ◌/◌, ◌<◌, ◌∙◌, ◌∷◌, ◌≡◌, ◌≢◌, ◌⊎◌, List, ap, arith, length, refl, subst, sym}
-use Rattle.history_laws.specs.Prelude.{Block, Blocks, Entry, EntryLeavesAlone, Event, IsSound, LeavesBlock}
-use Rattle.history_laws.specs.Prelude.{LeavesBlocks, LeavesRegisters, Memory, Mode, Reply, Rx, State, Tx, Waiting}
-use Rattle.history_laws.specs.Prelude.{Watched, WritesNoSetting, Wrote, after, mode_in, receive_queue_of, reply_to}
-use Rattle.ring_laws.specs.Steps.{Each, EnableStepKeeps, EntryKeeps, IsMetBy, OwnReportsSpare, ReceiveStepKeeps}
-use Rattle.ring_laws.specs.ReceiveUp.{EnableStepChangesNothing, EntryStaysUp, IsUp, LeavingStaysUp, OwnEventStaysUp}
-use Rattle.std.proofs.{Common.true, Common.ℕ, lemmas.Bool.eq-eqb, lemmas.Grind.common_steps, lemmas.List.append-nil}
-use Rattle.history_laws.specs.{Left.Deed, Left.Did, Left.IsLeft, Left.Rested, Left.Rests, Left.Shuts, Left.Took}
-use Rattle.history_laws.specs.{Prelude.rest_of, Prelude.step_of, Segments.piece_in}
-use Rattle.ring_laws.specs.ReceivePrelude.{Layout, Receive, block_at, is_step, reach, slot_at}
-use Rattle.ring_laws.specs.{Inside.IsInside, Inside.PieceIsInside, Joint.Agree, Pieces.Piece, Pieces.pieces}
-use Rattle.ring_laws.specs.{Pieces.pieces_told, ReceiveUp.ReceiveStepStaysUp, Steps.SparesBlocks}
-use Rattle.history_laws.proofs.{Blocks.IsSparedBy, Blocks.reported_elsewhere, Blocks.spared_block, Deeds.left_deed}
-use Rattle.history_laws.proofs.{Deeds.left_did, Deeds.receiving_did, Deeds.side_did, Deeds.switching_did}
-use Rattle.history_laws.proofs.{DeviceLaws.KeptSettings.settings_stand, DeviceLaws.Standing.stays_within}
-use Rattle.history_laws.proofs.{DeviceLaws.StandingQueues.switching_rest, Leaving.left-setting, Leaving.left-side}
-use Rattle.history_laws.proofs.{Leaving.receive_left, Steady.resting_same, Steady.up_kept}
-use Rattle.ring_laws.proofs.{Blocks.bytes_inside, Kept.posted_block, Kept.slot_below, Leaving.switching_keeps}
-use Rattle.ring_laws.proofs.{Own.own_did, Receiving.buffer_is, Receiving.filled_holds, Receiving.head_is}
-use Rattle.ring_laws.proofs.{Receiving.no_fault, Receiving.slot_left}
-use Rattle.std.specs.Prelude.{IsTrue, ⊤}
-use Rattle.nic_device.proofs.RxRing.Fills.{takes_piece}
+-- A slot of the driver's ring is filled, and other events that aren't the driver's own: there is no fault, they keep
+-- the agreement, with the piece that is written, and a side up that is.
+use Rattle.history_laws.proofs.DeviceLaws.{Delivered.told-lt, KeptSettings.settings_stand, Standing.stays_within}
+use Rattle.history_laws.proofs.{Blocks.IsSparedBy, Deeds.left_deed, Deeds.left_did, Deeds.side_did, Leaving.left-side}
+use Rattle.history_laws.proofs.{Blocks.reported_elsewhere, DeviceLaws.StandingQueues.switching_rest, Leaving.receive_of}
+use Rattle.history_laws.proofs.{Blocks.spared_block, Deeds.switching_did, Leaving.receive_left, Steady.resting_same}
+use Rattle.history_laws.specs.Prelude.{AreApart, IsSound, LeavesBlock, Memory, Rest, RingFault, after, receive_queue_of}
+use Rattle.history_laws.specs.Prelude.{Block, Blocks, EntryLeavesAlone, Filled, Watched, rest_of, step_of}
+use Rattle.history_laws.specs.Prelude.{LeavesBlocks, ReceiveQueue, Reply, Rx, State, WritesNoSetting, mode_in, read_at}
+use Rattle.history_laws.specs.{Left.Deed, Left.Did, Prelude.Entry, Prelude.Event, Prelude.LeavesRegisters, Prelude.Mode}
+use Rattle.history_laws.specs.{Left.IsLeft, Left.Rested, Left.Rests, Left.Takes, Left.Took, Prelude.Tx, Prelude.Waiting}
+use Rattle.history_laws.{proofs.Deeds.receiving_did, proofs.Steady.up_kept, specs.Prelude.IsWhole, specs.Sides.IsTried}
+use Rattle.history_laws.{proofs.Leaving.left-setting, specs.Left.fill_on, specs.Prelude.Wrote, specs.Segments.piece_in}
+use Rattle.nic_device.proofs.{DmaArena.Blocks.is_lent_in, RxRing.Fills.writes_inside_slot, RxRing.Tests.fill_healthy}
+use Rattle.nic_device.{proofs.RxRing.Fills.driver_reads, proofs.RxRing.Fills.takes_piece, specs.RxRing.Laws.IsHealthy}
+use Rattle.nic_device.{proofs.RxRing.Fills.fill_keeps_blocks, specs.RxRing.Fill.buffer_address, specs.Sound.AreWaiting}
 use Rattle.pmd_rx.proofs.PmdSeam.Rings.{slot_block, slot_lies}
+use Rattle.ring_laws.proofs.Blocks.{IsRingAt, Stays, buffer_and_slot, bytes_inside, reads_stay, slot_lent}
+use Rattle.ring_laws.specs.ReceivePrelude.{Layout, Receive, block_at, descriptor_at, is_step, reach, slot_at}
+use Rattle.ring_laws.specs.ReceiveUp.{EnableStepChangesNothing, LeavingStaysUp, OwnEventStaysUp, ReceiveStepStaysUp}
+use Rattle.ring_laws.specs.Steps.{EnableStepKeeps, EntryKeeps, IsMetBy, OwnReportsSpare, ReceiveStepKeeps, SparesBlocks}
+use Rattle.ring_laws.specs.{Inside.PieceIsInside, Joint.IsPosted, Pieces.Piece, Pieces.pieces, TransmitPrelude.side_of}
+use Rattle.ring_laws.specs.{Joint.Agree, Joint.Holds, Joint.IsFilled, Joint.IsSetUp, Pieces.no_piece, Steps.Each}
+use Rattle.ring_laws.{proofs.Kept.named_kept, proofs.Leaving.switching_keeps, specs.Joint.IsRing, specs.ReceiveUp.IsUp}
+use Rattle.ring_laws.{proofs.Kept.posted_block, proofs.Kept.slot_below, specs.Joint.HasSlots, specs.Pieces.pieces_told}
+use Rattle.ring_laws.{proofs.Kept.posted_in, proofs.Kept.seen_longer, proofs.Own.own_did, specs.ReceiveUp.EntryStaysUp}
+use Rattle.std.proofs.Common.{Err, Ok, [], ap, append_assoc, eq-eqb, inr, length, refl, subst, take, true, ℕ, ◌≢◌, ◌≤◌}
+use Rattle.std.proofs.Common.{IsTrue, List, arith, inl, length-take-le, suc, sym, ◌*◌, ◌++◌, ◌/◌, ◌∙◌}
+use Rattle.std.proofs.{Common.◌+◌, Common.◌<◌, Common.◌^◌, Common.◌≡◌, lemmas.List.get_or_push, lemmas.List.length_push}
+use Rattle.std.proofs.{Common.◌∷◌, Common.◌⊎◌, lemmas.Bool.cases_lt, lemmas.Grind.common_steps, lemmas.List.append-nil}
 use Rattle.nic_device.specs.declared.event.Event.TheVariants as event
 use Rattle.std.specs.FinMap as map
 use Rattle.history_laws.specs.Sides as sides
+
+-- a slot is filled more: the slots beside it and their blocks stay
+slots_more : (m n : Memory) (l : Layout) (here : List Piece) (p : Piece) → IsRing l → HasSlots m l here
+    → length here < length l.blocks → IsFilled n (descriptor_at l (length here)) (block_at l (length here)) p
+    → Stays l.ring l.size m n (λ j. j ≢ slot_at l (length here)) (λ b. b ≢ block_at l (length here))
+    → HasSlots n l (here ++ p ∷ [])
+slots_more m n l here p ring h low filled stays = record {
+  there = λ k i. (grind arith);
+  within = (grind (arith, common_steps));
+  filled = λ k i. elim (cases_lt k (length here)) [
+    | inl before ↦ (grind (arith, common_steps))
+    | inr from ↦
+        let e : k ≡ length here = omega (arith, length_push here p, i, from) in
+        rw (e, get_or_push here p no_piece (length here) refl) filled
+  ];
+  posted = (grind (arith, common_steps));
+}
+
+-- A step of receiving on the driver's queue makes its first posted slot its last filled one, and one on another queue
+-- leaves it alone.
+
+-- the head of the queue is the first slot that isn't filled
+module _ {queue : ℕ} {s : State} {out : List Piece} {v : Receive} {gone here : List Piece}
+    (h : Holds queue s out v gone here) where
+  abbrev l : Layout
+  l = reach v
+
+  abbrev own : ReceiveQueue
+  own = receive_queue_of s.registers queue
+
+  -- it is posted
+  abbrev HasRoom : Type 0
+  HasRoom = length here < length v.layout.blocks
+
+  pub ring_is : IsRingAt own.ring l.ring l.size l.next (length here) (length v.layout.blocks)
+  ring_is = grind (arith, common_steps)
+
+  first_waits : HasRoom → IsPosted s.memory (descriptor_at l (length here)) (block_at l (length here))
+  first_waits room = h.slots.posted (length here) (omega arith) (posted_in v (suc (length here)) room)
+
+  pub buffer_is : HasRoom → buffer_address s.memory own.ring ≡ 2048 * block_at l (length here)
+  buffer_is room = grind (arith, ring_is, first_waits)
+
+  pub healthy : HasRoom → IsHealthy s.memory own.ring own.control
+  healthy room =
+      record {
+        set_up = (grind (arith, common_steps));
+        descriptor = (grind (arith, ring_is, slot_lent));
+        buffer =
+            rw (h.side.buffer_size, buffer_is room)
+            (is_lent_in s.memory (2048 * block_at l (length here)) 2048 (block_at l (length here)) 0
+            (first_waits room).there (omega arith) (omega arith));
+      }
+
+  -- no fault
+  pub no_fault : HasRoom → (rest : Rest) (fault : RingFault) → (fill_on s queue rest).answer ≡ Err fault → ⊥
+  no_fault room rest fault is = grind (arith, fill_healthy, healthy)
+
+  -- the slot and its block got a piece, and nothing else changed
+  pub fills_here : HasRoom → IsWhole s.memory → (rest : Rest) (f : Filled) → rest.first < 2 ^ 64
+      → (fill_on s queue rest).answer ≡ Ok f
+      → IsFilled (fill_on s queue rest).memory (descriptor_at l (length here)) (block_at l (length here))
+      (piece_in rest f)
+      × Stays l.ring l.size s.memory (fill_on s queue rest).memory (λ j. j ≢ slot_at l (length here))
+      (λ b. b ≢ block_at l (length here))
+  fills_here room whole rest f fits is =
+      let m : Memory = s.memory in
+      let n : Memory = (fill_on s queue rest).memory in
+      let b = block_at l (length here) in
+      let t = takes_piece m own.ring own.control rest f is in
+      let d = driver_reads m own.ring own.control rest f whole fits is in
+      let same = (fill_keeps_blocks m own.ring own.control rest).0 in
+      let desc : f.desc ≡ descriptor_at l (length here) = t.desc ∙ ring_is.head in
+      let at : f.at ≡ 2048 * b = t.at ∙ buffer_is room in
+      let short : f.len ≤ 2048 = omega (arith, t.len, h.side.buffer_size) in
+      let long : length (take f.len rest.bytes) ≡ f.len = length-take-le f.len rest.bytes (omega (arith, t.len)) in
+      let other = h.ring.not_ring (length here) (posted_in v (suc (length here)) room) in
+      let low = slot_below l (length here) h.ring h.slots.within in
+      let apart : AreApart f.at f.len f.desc 16 =
+      rw (at, desc) (buffer_and_slot b f.len l.ring l.size (slot_at l (length here)) other short low) in
+      let reads : (c k : ℕ) → AreApart c k (descriptor_at l (length here)) 16 → AreApart c k (2048 * b) f.len
+      → read_at n c k ≡ read_at m c k =
+      λ c k o u. (writes_inside_slot m own.ring own.control rest f is).reads c k (rw desc o) (rw at u) in
+      let len = d.len ∙ sym long in
+      let bytes : read_at n (2048 * b) (length (take f.len rest.bytes)) ≡ take f.len rest.bytes =
+      rw (long, ← at) (d.bytes apart) in
+      let few : length (take f.len rest.bytes) ≤ 2048 = rw long short in
+      let there = same b ∙ (first_waits room).there in (
+        subst (λ x. IsFilled n x b (piece_in rest f)) desc (assumption d),
+        reads_stay l.ring l.size (slot_at l (length here)) b f.len m n low other short same reads,
+      )
+
+  pub head_on : HasRoom → (rest : Rest) (f : Filled) → (fill_on s queue rest).answer ≡ Ok f
+      → f.head ≡ slot_at l (length here + 1)
+  head_on room rest f is =
+      let head = (takes_piece s.memory own.ring own.control rest f is).head in
+      (grind arith)
+
+  pub slot_left : IsTried (side_of Rx queue s) → HasRoom
+  slot_left tried = ring_is.more tried.some
+
+  -- The slot at the head of the driver's queue was filled: the head moved on, and the two agree on one piece more.
+  pub filled_holds : IsSound s → (e : Event Block) → WritesNoSetting s e → (x : Takes Rx queue s e)
+      → Holds queue (after s e) (out ++ piece_in (rest_of x.work.frame) x.work.filled ∷ []) v gone
+      (here ++ piece_in (rest_of x.work.frame) x.work.filled ∷ [])
+  filled_holds sound e none x =
+      let rest = rest_of x.work.frame in
+      let f = x.work.filled in
+      let p : Piece = piece_in rest f in
+      let n : Memory = (fill_on s queue rest).memory in
+      let room = slot_left x.tried in
+      let low = posted_in v (suc (length here)) room in
+      let fits = told-lt x.work.frame (subst AreWaiting x.work.first.waits sound.waiting).0 in
+      let fill = fills_here room sound.blocks.whole rest f fits x.work.answer in
+      let more = length_push here p in
+      record {
+        named = named_kept s (after s e) queue v.layout (settings_stand s e none).mode (stays_within s e).vfs h.named;
+        ring = h.ring;
+        side = subst (λ q. IsSetUp q v.layout (length (here ++ p ∷ []))) (sym (ap receive_of x.side))
+            (assumption (
+              h.side,
+              sym (takes_piece s.memory _ _ rest f x.work.answer).head
+                  ∙ head_on room rest f x.work.answer ∙ ap (slot_at v.layout) (sym more),
+            ));
+        posted = omega (arith, more, room);
+        slots = subst (λ m. HasSlots m l (here ++ p ∷ [])) (sym x.work.memory)
+            (slots_more s.memory n l here p h.ring h.slots low fill.0 fill.1);
+        stage = (grind arith);
+        order = (grind (arith, seen_longer, append_assoc));
+      }
 
 -- A step of the device writes no register by a number, and moves and pokes no block.
 
 pub no_registers : (w : Watched) (mode : Mode) (mine : Blocks) (e : Event Block) → is_step e ≡ true
     → LeavesRegisters w mode e × LeavesBlocks mine e
-no_registers w mode mine (event.Write port n word) is = cc
-no_registers w mode mine (event.Lend b) is = cc
-no_registers w mode mine (event.Take n) is = cc
-no_registers w mode mine (event.Poke16 a bytes) is = cc
-no_registers w mode mine other is = (tt, tt)
+no_registers w mode mine e is = grind arith
 
 -- What an event does to the queue's receive side keeps the agreement, with the piece that it writes, if any.
-
-pub never_shuts : (queue : ℕ) (s : State) (out : List Piece) (v : Receive) (e : Event Block) → Agree queue s out v
-    → Shuts Rx queue s e → ⊥
-never_shuts queue s out v e (gone, here, h) x =
-    no_fault h (slot_left h x.tried) (rest_of x.fault.frame) x.fault.fault x.fault.answer
 
 module _ (queue : ℕ) (s : State) (out : List Piece) (v : Receive) (sound : IsSound s) (j : Agree queue s out v)
     (e : Event Block) (none : WritesNoSetting s e) where
@@ -64,42 +191,37 @@ module _ (queue : ℕ) (s : State) (out : List Piece) (v : Receive) (sound : IsS
 -- a step of receiving that writes no piece on the queue spares the driver's blocks
 spares_each : (queue : ℕ) (v : Receive) (ws : List Waiting) (r : Reply Block) → pieces_told queue ws r ≡ []
     → SparesBlocks queue v r → Each v (λ b. IsSparedBy r b)
-spares_each queue v ws r h1 h2 = grind (arith, common_steps, eq-eqb)
+spares_each queue v ws r h1 h2 = grind arith
 
 pub receive_keeps : ReceiveStepKeeps
-receive_keeps queue s out v sound j spares =
-    let r = reply_to s event.RxStep in
-    deed_keeps queue s out v sound j event.RxStep tt (receiving_did queue s sound)
-    (λ none b lent. spared_block s b (spares_each queue v s.waiting r none spares b lent))
+receive_keeps queue s out v sound j spares = search (arith, deed_keeps, receiving_did, spared_block, spares_each)
 
 -- A step of receiving on the driver's own queue writes into blocks that the driver has lent for it.
-
--- what a reply tells is inside
-abbrev TellsInside : Layout → Reply Block → Type 0
-TellsInside l (Wrote on slot end desc at len) = IsInside l desc at len
-TellsInside l other = ⊤
 
 pub piece_inside : PieceIsInside
 piece_inside queue s out v sound (gone, here, h) slot end desc at len is = elim (receiving_did queue s sound) [
   | Took x ↦
       let l = v.layout in
       let k = slot_at l (length here) in
+      let f = x.work.filled in
       let room = slot_left h x.tried in
-      let t = takes_piece s.memory (receive_queue_of s.registers queue).ring
-      (receive_queue_of s.registers queue).control (rest_of x.work.frame) x.work.filled x.work.answer in
-      subst (TellsInside l) (sym x.work.told ∙ is) (record {
-        descriptor =
-            rw (t.desc, head_is h) (record {
-              part = k / 128;
-              known = slot_block l.size k (slot_below (reach v) (length here) h.ring h.slots.within);
-              descriptor = slot_lies l.ring k;
-            });
+      let t = takes_piece s.memory _ _ (rest_of x.work.frame) f x.work.answer in
+      let told : Wrote queue f.slot f.end f.desc f.at f.len ≡ Wrote queue slot end desc at len = sym x.work.told ∙ is in
+      let short : f.len ≤ 2048 = omega (arith, t.len, h.side.buffer_size) in
+      let desc_is : desc ≡ descriptor_at l (length here) = cc (told, t.desc, (ring_is h).head) in
+      let at_is : at ≡ 2048 * block_at l (length here) =
+      cc (told, t.at, buffer_is h room, posted_block v (length here) room) in
+      let len_is : len ≡ f.len = cc told in
+      record {
+        descriptor = rw desc_is (record {
+          part = k / 128;
+          known = slot_block l.size k (slot_below (reach v) (length here) h.ring h.slots.within);
+          descriptor = slot_lies l.ring k;
+        });
         slot = length here;
         known = room;
-        bytes =
-            rw (t.at, buffer_is h room, posted_block v (length here) room)
-            (bytes_inside (block_at l (length here)) _ (omega (arith, t.len, h.side.buffer_size)));
-      })
+        bytes = rw (at_is, len_is) (bytes_inside (block_at l (length here)) f.len short);
+      }
   | Rested none rests ↦ absurd (let e = rw (is, eq-eqb queue queue refl) at none in cc)
 ]
 
@@ -122,7 +244,9 @@ enable_same queue s up = grind arith
 
 deed_up : (queue : ℕ) (s : State) (out : List Piece) (v : Receive) (e : Event Block) → Agree queue s out v
     → Deed Rx queue s e → IsUp queue s → IsUp queue (after s e)
-deed_up queue s out v e j did up = up_kept Rx queue s e up (never_shuts queue s out v e j) did
+deed_up queue s out v e (gone, here, h) did up =
+    up_kept Rx queue s e up (λ x.
+    no_fault h (slot_left h x.tried) (rest_of x.fault.frame) x.fault.fault x.fault.answer) did
 
 pub receive_stays_up : ReceiveStepStaysUp
 receive_stays_up queue s out v sound j up = deed_up queue s out v event.RxStep j (receiving_did queue s sound) up
@@ -134,8 +258,7 @@ own_stays_up queue s out v e i j own up = (own_did queue s out v e j own).up i u
 pub alone_stays_up : (w : Watched) (s : State) (out : List Piece) (v : Receive) (e : Event Block) → w.vfs ≡ s.vfs
     → IsSound s → Agree w.queue s out v → LeavesRegisters w (mode_in s.registers) e → IsUp w.queue s
     → IsUp w.queue (after s e)
-alone_stays_up w s out v e vfs sound j registers up =
-    deed_up w.queue s out v e j (side_did Rx w.queue s e sound j.2.named.low (left-side w s vfs Rx e registers)) up
+alone_stays_up w s out v e vfs sound j registers up = search (arith, deed_up, side_did, left-side)
 
 -- Entries that aren't the driver's own and leave its queue alone keep the agreement.
 
@@ -144,7 +267,7 @@ module _ (queue : ℕ) (mine : Blocks) (s : State) (v : Receive) (sound : IsSoun
   -- neither a report of the queue's own nor what another queue's steps write is in one of the driver's blocks
   spared : (e : Event Block) → Did queue mine s e → pieces queue s e ≡ [] → Deed Tx queue s e
       → Each v (λ b. LeavesBlock b s (after s e))
-  spared e h1 h2 h3 = grind (arith, common_steps, reported_elsewhere)
+  spared e h1 h2 h3 = grind (arith, reported_elsewhere)
 
 -- an event that leaves the queue and all these blocks alone
 pub left_keeps : (w : Watched) (mine : Blocks) (s : State) (out : List Piece) (v : Receive) (e : Event Block)

@@ -1,14 +1,11 @@
 -- The enable register of the driver's transmit side, and a side that is off.
-use Rattle.history_laws.specs.Prelude.{Block, Entry, Event, Memory, State, Tx, Txdctl, after, has_bit, leads_to, place}
-use Rattle.history_laws.specs.{Left.Deed, Prelude.transmit_queue_of, Sides.Side}
-use Rattle.std.proofs.Common.{[], ◌<◌, ◌∙◌, ◌∷◌, ◌≡◌, List, ap, arith, drop, false, inl, inr, length, refl, ℕ}
-use Rattle.std.proofs.{lemmas.Bool.cases_Bool, lemmas.List.length-drop}
-use Rattle.history_laws.proofs.{Deeds.side_did, DeviceLaws.StandingAccesses.write_memory, Leaving.plain-write}
-use Rattle.history_laws.proofs.{Leaving.transmit_left, Steady.asked, Steady.idle_silent, Steady.off_idle}
-use Rattle.history_laws.proofs.{Steady.off_steady, Steady.seen_off, Steady.steady_kept, Steady.unwanted_steady}
-use Rattle.ring_laws.specs.{Enable.EnableWordsKeep, Off.AllLeaveSide, Off.GuardIsOff, Off.IsOff}
-use Rattle.ring_laws.specs.{Off.LeavesSide, Off.OffStays, Sent.sent_in}
-use Rattle.ring_laws.proofs.Sparing.{sends_on, set_up-same, still-agrees}
+use Rattle.history_laws.proofs.Steady.{asked, idle_silent, off_idle, off_steady, seen_off, steady_kept, unwanted_steady}
+use Rattle.history_laws.specs.Prelude.{Block, Entry, Event, Memory, State, Tx, Txdctl, after, place}
+use Rattle.history_laws.{proofs.Deeds.side_did, proofs.Leaving.transmit_left, specs.Left.Deed, specs.Prelude.leads_to}
+use Rattle.history_laws.{proofs.DeviceLaws.StandingAccesses.write_memory, proofs.Leaving.plain-write, specs.Sides.Side}
+use Rattle.ring_laws.specs.{Off.AllLeaveSide, Off.GuardIsOff, Off.IsOff, Off.LeavesSide, Off.OffStays, Sent.sent_in}
+use Rattle.ring_laws.{proofs.Sparing.sends_on, proofs.Sparing.still-agrees, specs.Enable.EnableWordsKeep}
+use Rattle.std.proofs.Common.{List, [], ap, arith, drop, length-drop, refl, ℕ, ◌<◌, ◌∙◌, ◌∷◌, ◌≡◌}
 use Rattle.std.specs.FinMap as map
 use Rattle.nic_device.specs.declared.event.Event.TheVariants as event
 use Rattle.history_laws.specs.Sides as sides
@@ -19,19 +16,10 @@ pub enable_words_keep : EnableWordsKeep
 enable_words_keep s queue sent v port n word made names rests (f, h) =
     let e = event.Write port n word in
     let is = asked queue s h.based.sound h.based.small port n word Tx names in
-    still-agrees h e made (plain-write s port n word (place Txdctl queue) 0xFFFFFFFF names refl)
-    (set_up-same (transmit_queue_of s.registers queue) (transmit_queue_of (after s e).registers queue) v.layout v.posted
-    f (ap (λ (x : Side). x.ring) is) (ap (λ (x : Side). x.writeback) is) h.set_up)
+    still-agrees h e made (plain-write s port n word (place Txdctl queue) 0xFFFFFFFF names refl) (grind arith)
     (sends_on s (after s e) queue sent v.layout.limit (drop f v.outstanding) v.accepted (ap (λ (y : Side). y.staged) is)
-    (λ x. (ap (λ (y : Side). y.on) is ∙ x.off, ap (λ (y : Side). y.wanted) is ∙ still_off x.more)) h.sends)
+    (grind (arith, length-drop)) h.sends)
     (λ number is. ap (λ (m : Memory). map.get m number) (write_memory s port n word))
-  where
-    -- a side that was cut off isn't asked to be on: segments are outstanding
-    still_off : 0 < length (drop f v.outstanding) → has_bit 25 word ≡ false
-    still_off more = elim (cases_Bool (has_bit 25 word)) [
-      | inl on ↦ absurd (omega (arith, more, length-drop f v.outstanding, ap length (rests on)))
-      | inr off ↦ off
-    ]
 
 -- A transmit side that isn't wanted on stays so; one that is off besides stays off, and sends nothing.
 

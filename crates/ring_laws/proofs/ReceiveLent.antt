@@ -1,40 +1,29 @@
 -- The blocks that the driver has lent for receiving, after each of its calls.
-use Rattle.std.proofs.Common.{[], ◌<◌, ◌∷◌, ◌≡◌, ◌≢◌, List, append_assoc, arith, false, length}
-use Rattle.std.proofs.{Common.refl, Common.sym, Common.ℕ, lemmas.Bool.eqb-true, lemmas.Bool.ne_eqb}
-use Rattle.std.proofs.{lemmas.Bool.or_cases, lemmas.Bool.or_from, lemmas.Bool.or_right, lemmas.Grind.common_steps}
-use Rattle.ring_laws.specs.ReceivePrelude.{IsOwn, LendsAnew, Lent, Receive, Stage, Told, drive}
-use Rattle.ring_laws.specs.{ReceiveLent.OwnLendsAreKnown, Steps.Each}
-use Rattle.std.specs.Prelude.{◌==◌, IsTrue, slice_index, suc}
-use Rattle.history_laws.specs.{Lent.LendsOneOf, Lent.LendsOwn, Lent.OnlyLent, Lent.either, Prelude.Block}
-use Rattle.history_laws.specs.{Prelude.Blocks, Prelude.Event, Prelude.Reply, Prelude.State}
-use Rattle.pmd_rx.specs.{Keeping.fresh_block, Keeping.has_lent, Receive.CanLend, Receive.LendsNext}
-use Rattle.history_laws.proofs.Lent.{Follows, follows_in, follows_known, only_lent_stays, or_swap}
-use Rattle.ring_laws.proofs.Kept.{among, parted, ring_of, slots_of}
+use Rattle.history_laws.specs.{Lent.LendsOneOf, Lent.OnlyLent, Lent.either, Prelude.Block, Prelude.Blocks}
+use Rattle.history_laws.{proofs.Lent.Follows, proofs.Lent.follows_in, proofs.Lent.follows_known, specs.Prelude.Event}
+use Rattle.history_laws.{proofs.Lent.only_lent_stays, specs.Lent.LendsOwn, specs.Prelude.Reply, specs.Prelude.State}
+use Rattle.pmd_rx.specs.{Keeping.has_lent, Receive.LendsNext}
+use Rattle.ring_laws.specs.ReceivePrelude.{IsOwn, LendsAnew, Receive, drive}
+use Rattle.ring_laws.{proofs.Kept.among, proofs.Kept.parted, specs.ReceiveLent.OwnLendsAreKnown, specs.Steps.Each}
+use Rattle.std.proofs.Common.{IsTrue, List, arith, false, length, ne_eqb, slice_index, sym, ℕ, ◌<◌, ◌==◌, ◌≡◌, ◌≢◌}
+use Rattle.std.proofs.lemmas.{Bool.or_from, Grind.common_steps, List.Elements.All-from_get_or, List.Folds.list_any_none}
 use Rattle.nic_device.specs.declared.event.Event.TheVariants as event
 
 -- Which blocks the driver has lent for receiving, after each of its calls.
 
 in_none : (xs : List ℕ) (n : ℕ) → ((k : ℕ) → k < length xs → slice_index xs k ≢ n) → among xs n ≡ false
-in_none [] n none = refl
-in_none (x ∷ xs) n none =
-    or_from (n == x) (among xs n) (ne_eqb n x (λ e. none 0 (omega arith) (sym e)))
-    (in_none xs n (λ k i. none (suc k) (omega (arith, i))))
-
--- a fresh block is lent
-
-lend_block : (stage : Stage) (seen : List Told) → CanLend stage seen → fresh_block stage ≡ []
-lend_block (Lent b) seen can = absurd can
-lend_block other seen can = refl
+in_none xs n none =
+    list_any_none (λ b. n == b) xs
+    (All-from_get_or (λ b. (n == b) ≡ false) xs 0 (λ k i. ne_eqb n (slice_index xs k) (λ e. none k i (sym e))))
 
 module _ (v : Receive) where
   follows : (e : Event Block) → IsOwn v e → (r : Reply Block) (n : ℕ)
       → Follows (has_lent v) (has_lent (drive v e r)) e r n
-  follows e h1 r n =
-      grind (arith, common_steps, or_swap, among, slots_of, ring_of, append_assoc, or_cases, eqb-true, or_right)
+  follows e h1 r n = grind (arith, common_steps)
 
   -- a block that may be lent isn't lent yet
   pub unknown : (b : Block) → LendsNext v b → has_lent v b.number ≡ false
-  unknown b own = grind (arith, common_steps, lend_block, parted, or_from, in_none, slots_of, among)
+  unknown b own = grind (arith, parted, in_none)
 
 -- they stay among those that its pass lends
 pub mine_driven : (mine : Blocks) (v : Receive) → Each v (λ b. IsTrue (mine b)) → (e : Event Block) (r : Reply Block)

@@ -1,30 +1,37 @@
 -- Steps of the driver's own queue, and events that spare the driver, keep what it and the device agree on.
-use Rattle.std.proofs.Common.{◌++◌, ◌+◌, ◌<◌, ◌∙◌, ◌∷◌, ◌≡◌, ◌≤◌, List, ap, append_assoc, arith, drop, false, inl, inr}
-use Rattle.history_laws.specs.Prelude.{Block, Event, Fetched, IsEvent, LeavesBlock, Outcome, State, TransmitQueue, Tx}
-use Rattle.ring_laws.specs.TransmitPrelude.{Kept, Layout, Move, Segment, Sender, asking, has_lent, moved, no_segment}
-use Rattle.ring_laws.proofs.Fetching.{fetch-segment, head_is, lent, more, segment_fetched, segment_outcome}
-use Rattle.ring_laws.specs.Agreeing.{Agrees, AgreesAt, ArePackets, IsBased, IsCounted, IsCutOff, IsInTurn, IsSetUp}
-use Rattle.std.proofs.{Common.length, Common.refl, Common.subst, Common.sym, Common.true, Common.ℕ}
-use Rattle.std.proofs.{lemmas.Bool.both_ways, lemmas.Bool.cases_Bool, lemmas.Bool.cases_lt, lemmas.Bool.eq-eqb}
-use Rattle.std.proofs.{lemmas.Grind.common_steps, lemmas.List.append-nil, lemmas.List.drop_more}
-use Rattle.std.proofs.{lemmas.List.get_or-set_same, lemmas.List.nil_from_length}
-use Rattle.history_laws.specs.Prelude.{WritesNoSetting, after, done_descriptor, staged_by, transmit_queue_of, write_at}
-use Rattle.history_laws.specs.{Left.Deed, Left.Nothing, Left.Rested, Left.Rests, Left.Shut, Left.Shuts, Left.Switched}
-use Rattle.history_laws.specs.{Left.Takes, Left.Took, Left.fetch_on, Sides.IsTried, Sides.Side, Sides.as_wanted}
-use Rattle.ring_laws.specs.{Agreeing.SendsInOrder, Agreeing.frame_ended, Agreeing.frames_from, Agreeing.staged_behind}
-use Rattle.ring_laws.specs.{Laws.SparingEventsKeep, Laws.StepsOfQueueKeep, Sent.sent_by, Sparing.Spares}
-use Rattle.ring_laws.specs.{TransmitHealthy.LendsAnew, TransmitPrelude.segment_at, TransmitPrelude.side_of}
-use Rattle.ring_laws.specs.{TransmitPrelude.slot_at, TransmitUp.IsUp}
-use Rattle.ring_laws.proofs.{Blocks.shows-same, Blocks.slot-next, Counting.added-by, Fetching.shows-fetched}
-use Rattle.ring_laws.proofs.{Fetching.slots, Fetching.small, TransmitLent.frame_left, TransmitLent.some_left}
-use Rattle.history_laws.proofs.{Deeds.side_did, DeviceLaws.KeptSettings.settings_stand}
+use Rattle.history_laws.proofs.{Deeds.added-none, Deeds.side_did, DeviceLaws.KeptSettings.settings_stand}
 use Rattle.history_laws.proofs.{DeviceLaws.Standing.stays_within, Leaving.named-same, Leaving.transmit_left}
-use Rattle.history_laws.proofs.{Leaving.transmit_of, Steady.resting_same}
-use Rattle.std.specs.Prelude.{if◌then◌else◌, ◌==◌, IsFalse, IsTrue}
-use Rattle.nic_device.proofs.Steps.{keeps_sound}
-use Rattle.nic_device.specs.{Transmit.with_frame, TxRing.Fetch.Outcome as Fetch}
+use Rattle.history_laws.specs.Left.{Deed, Nothing, Rested, Rests, Shut, Shuts, Switched, Takes, Took, fetch_on}
+use Rattle.history_laws.specs.Prelude.{Block, Event, IsEvent, LeavesBlock, Outcome, State, TransmitQueue, Tx}
+use Rattle.history_laws.specs.Prelude.{WritesNoSetting, after, staged_by, transmit_queue_of}
+use Rattle.history_laws.specs.Sides.{IsTried, Side, as_wanted}
+use Rattle.nic_device.{proofs.Steps.keeps_sound, specs.Transmit.with_frame, specs.TxRing.Fetch.Outcome as Fetch}
 use Rattle.pmd_tx.specs.Sending.{is_healthy}
+use Rattle.ring_laws.proofs.Blocks.{fetch-segment, head_is, ring_is, segment_fetched, segment_outcome, shows-fetched}
+use Rattle.ring_laws.proofs.{Blocks.shows-same, Blocks.slot-next, TransmitLent.frame_left}
+use Rattle.ring_laws.specs.Agreeing.{Agrees, AgreesAt, IsBased, IsCutOff, IsInTurn, IsSetUp, SendsInOrder}
+use Rattle.ring_laws.specs.TransmitPrelude.{Layout, Move, Segment, Sender, has_lent, moved, segment_at, side_of}
+use Rattle.ring_laws.specs.{Agreeing.staged_behind, Laws.SparingEventsKeep, Laws.StepsOfQueueKeep, ReceivePrelude.Kept}
+use Rattle.ring_laws.specs.{Sent.frames_added, Sent.sent_by, Sparing.Spares, TransmitHealthy.LendsAnew}
+use Rattle.ring_laws.specs.{TransmitPrelude.slot_at, TransmitUp.IsUp}
+use Rattle.std.proofs.Common.{IsFalse, IsTrue, List, None, Some, [], ap, append-nil, arith, drop, drop_at, false}
+use Rattle.std.proofs.Common.{if◌then◌else◌, inl, inr, length, map, refl, subst, sym, true, ℕ, ◌++◌, ◌+◌, ◌<◌, ◌∙◌, ◌∷◌}
+use Rattle.std.proofs.lemmas.{Grind.common_steps, List.append-nil, List.drop_more, List.nil_from_length}
+use Rattle.std.proofs.{Common.◌≡◌, lemmas.Bool.cases_Bool, lemmas.Bool.cases_lt, lemmas.Bool.eq-eqb}
+use Rattle.std.specs.Prelude.{Bool, ◌==◌}
 use Rattle.nic_device.specs.declared.event.Event.TheVariants as event
+
+-- The frames that a step of transmitting adds.
+
+pub added-one : (out : List (ℕ × List ℕ)) (queue : ℕ) (bytes : List ℕ)
+    → frames_added out (out ++ (queue, bytes) ∷ []) ≡ bytes ∷ []
+added-one out queue bytes = ap (map (λ (f : ℕ × List ℕ). f.1)) (drop_at out ((queue, bytes) ∷ []) (length out) refl)
+
+-- one where a packet ends
+pub added-by : (out : List (ℕ × List ℕ)) (queue : ℕ) (ends : Bool) (bytes : List ℕ)
+    → frames_added out (with_frame out queue (if ends then Some bytes else None)) ≡ (if ends then bytes ∷ [] else [])
+added-by out queue true bytes = added-one out queue bytes
+added-by out queue false bytes = added-none out
 
 -- What an event keeps that writes no setting.
 
@@ -37,11 +44,6 @@ based-after s queue l e b made none =
       named-same s (after s e) stays.mode (stays_within s e).vfs l.port l.tail ∙ b.tail,
       stays.limit ∙ b.limit,
     )
-
--- the segments are counted on where only how many are done, fetched, posted and written changes
-pub counted-on : (v : Sender) (f g done posted poked : ℕ) → IsCounted v f → done ≤ g → g ≤ posted → posted ≤ poked
-    → poked ≤ v.lent → IsCounted (record v { poked = poked; posted = posted; done = done }) g
-counted-on v f g done posted poked c a b d e = assumption
 
 -- what a move of the driver's does, by its outcome: where the event can be made the two agree on, a side that is up
 -- stays so, and the reply is that of a healthy queue, where a block that is lent isn't lent yet
@@ -63,23 +65,14 @@ module _ {s : State} {queue : ℕ} {sent : List (List ℕ)} {v : Sender} {f : �
   abbrev x : Segment
   x = segment_at v f
 
-  abbrev rest : List Segment
-  rest = drop (f + 1) v.outstanding
-
   -- a side whose slot is tried isn't cut off, and sends the next segment
 
   module _ (tried : IsTried (side_of Tx queue s)) where
     posted : f < v.posted
-    posted = more h tried.some
+    posted = (ring_is h).more tried.some
 
-    in_turn : SendsInOrder s queue sent v.layout.limit (drop f v.outstanding) v.accepted
-        → IsInTurn v.layout.limit staged sent (x ∷ rest) v.accepted
-    in_turn (inl u) = subst (λ (ss : List Segment). IsInTurn v.layout.limit staged sent ss v.accepted)
-        (drop_more v.outstanding f no_segment (omega (arith, lent h posted, h.counted.lent_known))) u
-    in_turn (inr u) = absurd (both_ways side.on u.off tried.on)
-
-    turn : IsInTurn v.layout.limit staged sent (x ∷ rest) v.accepted
-    turn = in_turn h.sends
+    turn : IsInTurn v.layout.limit staged sent (x ∷ drop (f + 1) v.outstanding) v.accepted
+    turn = grind (arith, drop_more, posted)
 
     fetches : fetch_on s queue ≡ segment_outcome s.memory side.ring staged x
     fetches = fetch-segment h posted staged turn.packets
@@ -92,18 +85,15 @@ module _ {s : State} {queue : ℕ} {sent : List (List ℕ)} {v : Sender} {f : �
     abbrev u : State
     u = after s e
 
-    abbrev told : Fetched
-    told = segment_fetched side.ring staged x
-
     staged_is : staged_by u queue ≡ staged_behind staged x
-    staged_is = grind (arith, common_steps, get_or-set_same, fetches)
+    staged_is = grind (arith, common_steps, fetches)
 
-    out_is : u.out ≡ with_frame s.out queue told.frame
-    out_is = grind (arith, common_steps, fetches)
+    out_is : u.out ≡ with_frame s.out queue (segment_fetched side.ring staged x).frame
+    out_is = grind (arith, fetches)
 
     side_is : transmit_queue_of u.registers queue
         ≡ record side { ring = record side.ring { head = slot_at v.layout (f + 1) } }
-    side_is = grind (arith, transmit_of, slots, slot-next, small, posted)
+    side_is = grind (arith, slot-next, posted)
 
     pub takes-keeps : IsEvent e → WritesNoSetting s e → Agrees u queue (sent ++ sent_by queue s e) v
     takes-keeps made none = (
@@ -111,30 +101,13 @@ module _ {s : State} {queue : ℕ} {sent : List (List ℕ)} {v : Sender} {f : �
       record {
         based = based-after s queue v.layout e h.based made none;
         set_up = subst (λ q. IsSetUp q v.layout v.posted (f + 1)) (sym side_is) (assumption h.set_up);
-        counted =
-            counted-on v f (f + 1) v.done v.posted v.poked h.counted (omega (arith, h.counted.done_fetched))
-            (omega (arith, posted y.tried)) h.counted.posted_poked h.counted.poked_lent;
-        shows = rw (ap (λ (o : Outcome). o.state.memory) y.work.step ∙ ap (λ (o : Fetch). o.memory) (fetches y.tried)
-            ∙ ap (λ (a : ℕ). if x.part.last then write_at s.memory a (done_descriptor (asking x)) else s.memory)
-            (head_is h)) (shows-fetched h (posted y.tried));
-        sends = inl (record {
-          packets = subst (λ (l : List ℕ). ArePackets v.layout.limit l rest) (sym staged_is) (turn y.tried).packets.2;
-          in_order =
-              (turn y.tried).in_order
-              ∙ sym (append_assoc sent (frame_ended staged x) (frames_from (staged_behind staged x) rest))
-              ∙ ap (λ (l : List (List ℕ)). (sent ++ l) ++ frames_from (staged_behind staged x) rest)
-              (sym (grind (arith, common_steps, eq-eqb, out_is, added-by)))
-              ∙ ap (λ (l : List ℕ). (sent ++ sent_by queue s e) ++ frames_from l rest) (sym staged_is);
-        });
+        counted = (grind (arith, posted y.tried));
+        shows = (grind (arith, fetches, head_is, shows-fetched, posted));
+        sends = (grind (arith, common_steps, staged_is, turn, added-by, out_is, eq-eqb));
       },
     )
 
 -- An event that spares a driver keeps what it and the device agree on.
-
--- a side with the same ring, that writes its head to the same place, is set up alike
-pub set_up-same : (q r : TransmitQueue) (l : Layout) (n f : ℕ) → r.ring ≡ q.ring → r.writeback ≡ q.writeback
-    → IsSetUp q l n f → IsSetUp r l n f
-set_up-same q r l n f ring back h = grind arith
 
 -- what is left goes out as before where what is staged stays, and a side that was cut off is so still
 pub sends_on : (s t : State) (queue : ℕ) (sent : List (List ℕ)) (limit : ℕ) (left : List Segment) (ks : List Kept)
@@ -142,7 +115,7 @@ pub sends_on : (s t : State) (queue : ℕ) (sent : List (List ℕ)) (limit : ℕ
     → (IsCutOff (transmit_queue_of s.registers queue) sent left ks
     → IsFalse (transmit_queue_of t.registers queue).on × IsFalse (transmit_queue_of t.registers queue).wanted)
     → SendsInOrder s queue sent limit left ks → SendsInOrder t queue sent limit left ks
-sends_on s t queue sent limit left ks h1 h2 h3 = grind (arith, common_steps)
+sends_on s t queue sent limit left ks h1 h2 h3 = grind arith
 
 module _ {s : State} {queue : ℕ} {sent : List (List ℕ)} {v : Sender} {f : ℕ} (h : AgreesAt s queue sent v f)
     (e : Event Block)
@@ -182,7 +155,7 @@ module _ {s : State} {queue : ℕ} {sent : List (List ℕ)} {v : Sender} {f : �
       | inr none ↦ elim (cases_lt 0 (length (staged_by s queue))) [
         | inl some ↦
             let frames = frame_left v.layout.limit (staged_by s queue) left some x.packets in
-            (grind (arith, common_steps, more, some_left))
+            (grind arith)
         | inr few ↦
             same_sends (ap (λ (y : Side). y.staged) is ∙ rw none (sym (nil_from_length (staged_by s queue)
             (omega arith)))) x
@@ -190,11 +163,10 @@ module _ {s : State} {queue : ℕ} {sent : List (List ℕ)} {v : Sender} {f : �
     ]
 
     switched_sends : side_of Tx queue t ≡ as_wanted (side_of Tx queue s) → Sends s → Sends t
-    switched_sends is (inl x) = switched_turn is x
-    switched_sends is (inr x) = grind (arith, common_steps)
+    switched_sends is sends = grind (arith, switched_turn)
 
     rest_sends : Rests Tx queue s e → Sends t
-    rest_sends (Nothing is) = grind (arith, common_steps, sends_on)
+    rest_sends (Nothing is) = grind arith
     rest_sends (Shut x) = absurd (never-shuts h e x)
     rest_sends (Switched is) = switched_sends is h.sends
 
@@ -207,22 +179,14 @@ module _ {s : State} {queue : ℕ} {sent : List (List ℕ)} {v : Sender} {f : �
       by_deed : Deed Tx queue s e → Agrees t queue (sent ++ sent_by queue s e) v
       by_deed (Took y) = takes-keeps h e y x.made x.setting
       by_deed (Rested none rests) =
-          let same = resting_same Tx queue s e rests in
           rw (none.sent, append-nil sent)
-          (still-agrees x.made x.setting
-          (set_up-same (transmit_queue_of s.registers queue) (transmit_queue_of t.registers queue) v.layout v.posted f
-          same.ring same.writeback h.set_up) (rest_sends rests) (λ number is. grind arith))
-
-      pub spares-keeps : Agrees t queue (sent ++ sent_by queue s e) v
-      spares-keeps = by_deed spared_did
+          (still-agrees x.made x.setting (grind arith) (rest_sends rests) (λ number is. grind arith))
 
 pub sparing_events_keep : SparingEventsKeep
-sparing_events_keep s queue sent v e (f, h) x = spares-keeps h e x
+sparing_events_keep s queue sent v e (f, h) x = by_deed h e x (spared_did h e x)
 
 -- a step of transmitting of the driver's own queue spares it
 pub step_of_queue_keeps : StepsOfQueueKeep
 step_of_queue_keeps s queue sent v (f, h) =
     let own : (queue == queue) ≡ true = eq-eqb queue queue refl in
-    let small = h.based.small in
-    let none : (A : Type 0) → (queue == queue) ≡ false → A = λ A other. absurd (both_ways (queue == queue) other own) in
-    spares-keeps h (event.TxStep queue) (grind (arith, common_steps))
+    sparing_events_keep s queue sent v (event.TxStep queue) (f, h) (grind arith)

@@ -1,15 +1,15 @@
 pub use Rattle.history_laws.specs.DeviceLaws
 pub use Rattle.history_laws.specs as HistoryLaws
 pub mod Agreeing
-pub mod Alone
 pub mod Counting
 pub mod Delivered
 pub mod Enable
+pub mod Finding
 pub mod Fitting
-pub mod Histories
 pub mod Inside
 pub mod Joint
 pub mod Laws
+pub mod Moves
 pub mod Off
 pub mod Pieces
 pub mod ReceiveHealthy
@@ -24,4 +24,3 @@ pub mod TransmitHealthy
 pub mod TransmitLent
 pub mod TransmitPrelude
 pub mod TransmitUp
-pub mod Turns

@@ -2,7 +2,7 @@
 use Rattle.std.specs.Prelude.{List, ℕ}
 use Rattle.history_laws.specs.Prelude.{Block, Event, State, Tx, after}
 use Rattle.ring_laws.specs.TransmitPrelude.{Move, Sender, side_of}
-use Rattle.ring_laws.specs.{Agreeing.Agrees, Turns.MayMove}
+use Rattle.ring_laws.specs.{Agreeing.Agrees, Moves.MayMove}
 use Rattle.history_laws.specs.Sides as sides
 
 abbrev pub IsUp : ℕ → State → Type 0

@@ -1,4 +1,5 @@
-//! What the driver hands out is a prefix of what was delivered, over every interleaving that leaves its queue alone.
+//! What the device and a driver agree on of the receive ring, whatever others do meanwhile: so what the driver hands out
+//! is a prefix of the packets that were written.
 //!
 //! The device and the driver agree, between two events, on the slots of the receive ring: which are filled with pieces
 //! of frames, which are posted, which name a block behind the tail, and which pieces were consumed. Each law is the
@@ -7,7 +8,7 @@
 
 ghost use Rattle.ring_laws.specs.Fitting.{FramesStayFitting, NoneBegunWhileOff};
 ghost use Rattle.ring_laws.specs.ReceiveHealthy.{OwnRepliesAreHealthy};
-ghost use Rattle.ring_laws.specs.Histories.{HandedIsPrefix, NoneIsAll, NoneIsAllBefore, NoneIsAllTaken};
+ghost use Rattle.ring_laws.specs.Finding.{HandedIsPrefix, NoneIsAll, NoneIsAllTaken};
 ghost use Rattle.ring_laws.specs.Inside.{PieceIsInside};
 ghost use Rattle.ring_laws.specs.ReceiveLent.{OwnLendsAreKnown};
 ghost use Rattle.ring_laws.specs.Starting.{StartAgrees};
@@ -64,15 +65,13 @@ pub fn foreign_entry_keeps_the_agreement()
     ensures { EntryKeeps }
 {}
 
-/// Over a history of any sound device that leaves the driver's queue alone, from a place on where the two agree and the
-/// receive side has gone on: the packets that the driver handed out are a prefix of those that the history delivered
-/// since. Where a look that comes next finds none, all of them were handed out, or are whole and handed out as the tail
-/// moves on; and all were handed out where none is whole.
-pub fn handed_packets_are_a_prefix_of_those_delivered()
+/// Where the two agree, the packets that the driver handed out are a prefix of those that were written since the side
+/// went on. Where a look that comes next finds none, all of them were handed out, or are whole and handed out as the
+/// tail moves on; and all were handed out where none is whole.
+pub fn handed_packets_are_a_prefix_of_those_written()
     ensures prefix { HandedIsPrefix }
     ensures taken { NoneIsAllTaken }
     ensures all { NoneIsAll }
-    ensures before { NoneIsAllBefore }
 {}
 
 /// As the side goes on with its ring lent and its words written, the device and a driver that posted nothing agree.

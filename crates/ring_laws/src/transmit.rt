@@ -2,7 +2,7 @@
 //!
 //! Each law is the contract of a function that does nothing. `specs/Sent` says which frames a queue sends,
 //! `specs/Agreeing` what device and driver agree on, `specs/Sparing` what it is for an event to spare the driver, and
-//! `specs/Turns` what a history is in which a pass is the driver.
+//! `specs/Moves` which events may be its next move.
 
 ghost use Rattle.ring_laws.specs.Counting.{SentIsCounted, SentIsTold};
 ghost use Rattle.ring_laws.specs.Enable.{EnableWordsKeep};
@@ -10,7 +10,7 @@ ghost use Rattle.ring_laws.specs.TransmitHealthy.{OwnRepliesAreHealthy};
 ghost use Rattle.ring_laws.specs.TransmitLent.{OwnLendsAreKnown};
 ghost use Rattle.ring_laws.specs.Off.{OffStays, GuardIsOff};
 ghost use Rattle.ring_laws.specs.TransmitUp.{UpStays};
-ghost use Rattle.ring_laws.specs.Laws.{StepsOfQueueKeep, SparingEventsKeep, LeftAloneIsSpared, MovesKeep, SentIsPrefix, IdleIsAllSent, WaitingIsNotAllSent, SentIsPrefixOfTaken, AloneMayRun, SentIsPrefixWhereAlone};
+ghost use Rattle.ring_laws.specs.Laws.{StepsOfQueueKeep, SparingEventsKeep, LeftAloneIsSpared, MovesKeep, SentIsPrefix, IdleIsAllSent, WaitingIsNotAllSent};
 
 /// A step of transmitting of the driver's own queue keeps what device and driver agree on, with the frame that it
 /// sends: the next packet that was accepted and not sent, or none.
@@ -37,36 +37,25 @@ pub fn moves_keep()
     ensures { MovesKeep }
 {}
 
-/// Over every legal history in which each event is the driver's next move or spares it, the frames sent on its queue
-/// are a prefix of those that it accepted, byte for byte; with none outstanding they are all of them; and where a look
-/// finds the oldest outstanding packet not done, not all that was accepted was sent before.
+/// Where device and driver agree, the frames sent on the queue are a prefix of those that the driver accepted, byte for
+/// byte; with none outstanding they are all of them; and where a look finds the oldest outstanding packet not done, not
+/// all that was accepted was sent, nor was it earlier.
 pub fn sent_in_order()
     ensures prefix { SentIsPrefix }
     ensures idle { IdleIsAllSent }
     ensures waiting { WaitingIsNotAllSent }
-    ensures taken { SentIsPrefixOfTaken }
-{}
-
-/// Over every legal history in which each turn is the driver's next move, or leaves the queue alone by the clauses by
-/// which a closed history is judged, the frames sent are a prefix of those accepted. What the driver's receive half
-/// owes is a premise: a piece that is received isn't empty, and on the driver's own queue it is outside the sender's
-/// blocks.
-#[tactic(auto, using(crate::proofs::Runs::alone_may_run, crate::proofs::Runs::sent_is_prefix_where_alone))]
-pub fn sent_in_order_where_left_alone()
-    ensures runs { AloneMayRun }
-    ensures prefix { SentIsPrefixWhereAlone }
 {}
 
 /// The frames that a history sends on a queue, counted since the queue's transmit side last went on, are all that it
 /// sends where the side never goes on, and else all that it sends since the last time: an end of all, of one frame an
 /// entry at most.
-#[tactic(auto, using(crate::proofs::Counting::sent_is_counted))]
+#[tactic(auto, using(crate::proofs::InOrder::sent_is_counted))]
 pub fn sent_is_counted_since_the_side_went_on()
     ensures { SentIsCounted }
 {}
 
 /// The frames that a legal history of a sound device sends on a queue are as many, and as long, as its replies tell.
-#[tactic(auto, using(crate::proofs::Counting::sent_is_told))]
+#[tactic(auto, using(crate::proofs::InOrder::sent_is_told))]
 pub fn sent_frames_are_told()
     ensures { SentIsTold }
 {}

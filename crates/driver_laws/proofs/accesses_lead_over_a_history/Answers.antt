@@ -1,5 +1,2 @@
-use Rattle.driver_laws.proofs.Points.{accesses_lead}
-use Rattle.driver_laws.proofs.accesses_lead_over_a_history.Goals as goal
-
-pub returns : goal.returns
-returns c = accesses_lead
+pub returns : Rattle.driver_laws.proofs.accesses_lead_over_a_history.Goals.returns
+returns c = Rattle.driver_laws.proofs.Points.accesses_lead

@@ -1,5 +1,4 @@
-use Rattle.driver_laws.proofs.Switching.{fresh_receive_agrees, fresh_transmit_agrees}
-use Rattle.driver_laws.proofs.fresh_sides_agree.Goals as goal
+use Rattle.driver_laws.proofs.On.{fresh_receive_agrees, fresh_transmit_agrees}
 
-pub returns : goal.returns
+pub returns : Rattle.driver_laws.proofs.fresh_sides_agree.Goals.returns
 returns c = record { receive = fresh_receive_agrees; transmit = fresh_transmit_agrees }

@@ -1,5 +1,2 @@
-use Rattle.driver_laws.proofs.Healthy.{no_fault}
-use Rattle.driver_laws.proofs.no_call_finds_the_device_at_fault.Goals as goal
-
-pub returns : goal.returns
-returns c = no_fault
+pub returns : Rattle.driver_laws.proofs.no_call_finds_the_device_at_fault.Goals.returns
+returns c = Rattle.driver_laws.proofs.Healthy.no_fault

@@ -1,5 +1,2 @@
-use Rattle.driver_laws.proofs.Points.{standing_sides_are_left as law}
-use Rattle.driver_laws.proofs.standing_sides_are_left.Goals as goal
-
-pub returns : goal.returns
-returns c = law
+pub returns : Rattle.driver_laws.proofs.standing_sides_are_left.Goals.returns
+returns c = Rattle.driver_laws.proofs.Points.standing_sides_are_left

@@ -1,5 +1,4 @@
 use Rattle.driver_laws.proofs.On.{switched_sides_agree as agree, switched_sides_begin_none, switched_sides_go_on}
-use Rattle.driver_laws.proofs.switched_sides_agree.Goals as goal
 
-pub returns : goal.returns
+pub returns : Rattle.driver_laws.proofs.switched_sides_agree.Goals.returns
 returns c = record { agree = agree; on = switched_sides_go_on; begun = switched_sides_begin_none }

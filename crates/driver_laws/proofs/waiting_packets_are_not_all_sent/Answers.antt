@@ -1,5 +1,2 @@
-use Rattle.driver_laws.proofs.InOrder.{waiting_is_not_all}
-use Rattle.driver_laws.proofs.waiting_packets_are_not_all_sent.Goals as goal
-
-pub returns : goal.returns
-returns c = waiting_is_not_all
+pub returns : Rattle.driver_laws.proofs.waiting_packets_are_not_all_sent.Goals.returns
+returns c = Rattle.driver_laws.proofs.InOrder.waiting_is_not_all

@@ -1,5 +1,4 @@
 use Rattle.pmd_laws.proofs.Lent.{each_in_one_place, lent_is_out, out_is_lent}
-use Rattle.pmd_laws.proofs.blocks_out_are_lent_at_the_device.Goals as goal
 
-pub returns : goal.returns
+pub returns : Rattle.pmd_laws.proofs.blocks_out_are_lent_at_the_device.Goals.returns
 returns c = record { lent = out_is_lent; known = lent_is_out; once = each_in_one_place }

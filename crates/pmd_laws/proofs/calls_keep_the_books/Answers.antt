@@ -1,9 +1,8 @@
 -- What a driver has of an arena's blocks, over its calls.
 use Rattle.pmd.{proofs.Whole.keeps_beside, proofs.Whole.keeps_counted, proofs.Whole.keeps_then, specs.Halted.all_out}
-use Rattle.pmd_laws.proofs.Prelude.{[], ◌++◌, append_assoc, arith, halted_of, times-append}
-use Rattle.pmd_laws.proofs.calls_keep_the_books.Goals as goal
+use Rattle.pmd_laws.proofs.Prelude.{[], append_assoc, arith, halted_of, times-append, ◌++◌}
 
-pub returns : goal.returns
+pub returns : Rattle.pmd_laws.proofs.calls_keep_the_books.Goals.returns
 returns c = record {
   call = λ a old new given back rest keeps has.
       let h = halted_of old in
@@ -12,6 +11,5 @@ returns c = record {
       (rw (← append_assoc (all_out h) given rest, ← append_assoc (all_out k) back rest)
       (keeps_beside h.arena k.arena (all_out h ++ given) (all_out k ++ back) rest keeps));
   order = λ a h hand other same has.
-      keeps_counted a h.arena [] (all_out h ++ hand) (all_out h ++ other)
-      (λ n. omega (arith, same n, times-append (all_out h) hand n, times-append (all_out h) other n)) has;
+      keeps_counted a h.arena [] (all_out h ++ hand) _ (λ n. omega (arith, same n, times-append)) has;
 }

@@ -1,18 +1,17 @@
-use Rattle.pmd_laws.{proofs.Faultless.burst_amid, proofs.Faultless.call_amid, proofs.Told.goes, proofs.Told.up_next}
 use Rattle.pmd_laws.proofs.Beside.{alone, none_beside, rings_up, same_rings, told, told_of}
-use Rattle.pmd_laws.proofs.Lent.{each_in_one_place, lent_is_out, out_is_lent}
-use Rattle.pmd_laws.proofs.Prelude.{◌≡◌, Beside, State, ap, memory_after, now, same_leads}
-use Rattle.pmd_laws.proofs.driver_beside_any_calls_keeps_its_blocks.Goals as goal
+use Rattle.pmd_laws.proofs.Prelude.{Beside, State, [], ap, append-nil, memory_after, now, same_leads, sym, ◌≡◌}
+use Rattle.pmd_laws.proofs.Told.{goes, up_next}
+use Rattle.pmd_laws.proofs.{Faultless.burst_amid, Lent.each_in_one_place, Lent.lent_is_out, Lent.out_is_lent}
 
 same_memory : (x : Beside) → memory_after x.origin x.h ≡ memory_after x.origin x.g
 same_memory x = ap (λ (s : State). s.memory) (same_leads x.origin x.h x.g x.retold.was.same)
 
-pub returns : goal.returns
+pub returns : Rattle.pmd_laws.proofs.driver_beside_any_calls_keeps_its_blocks.Goals.returns
 returns c = record {
   finds = λ x n finds y.
       let r = (goes (told x)).rings in
       let (s, up, f) = up_next _ (now x).driver.rings n.driver.rings r (rings_up x) finds in
-      none_beside x n y (call_amid r (now x).made n.made f);
+      none_beside x n y (n.made, [], sym (append-nil n.made), f);
   meets = λ x n meets y.
       let r = (goes (told x)).rings in
       let (s, up, sends) = up_next _ (now x).driver.rings n.driver.rings r (rings_up x) meets in

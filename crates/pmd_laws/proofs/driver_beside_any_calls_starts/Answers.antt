@@ -1,10 +1,12 @@
-use Rattle.pmd_laws.proofs.{Beside.never_beside, Prelude.faults_are_early_or_filling, Prelude.inr, Shifted.up_shift}
-use Rattle.pmd_laws.proofs.driver_beside_any_calls_starts.Goals as goal
+use Rattle.pmd_laws.proofs.Prelude.{Rxdctl, Sees, arith, false, faults_are_early_or_filling, inr}
+use Rattle.pmd_laws.proofs.{Beside.never_beside, Prelude.common_steps, Prelude.◌++◌, Shifted.access, Shifted.up_behind}
 
-pub returns : goal.returns
+pub returns : Rattle.pmd_laws.proofs.driver_beside_any_calls_starts.Goals.returns
 returns c = record {
   adds = λ q size frame old a new r up.
-      let (first, is, shifts) = up_shift q size frame a r old new up in (shifts.since, first, shifts.made, is);
+      let first = access q (Sees Rxdctl false) old _ up.receive.quiet.1 in
+      let behind = up_behind q size frame a r old new up in
+      (first.since ++ behind.since, first.since, grind (arith, common_steps), first.made);
   filling = λ x filling. never_beside x (inr filling);
   amid = λ x e stops is.
       never_beside x (faults_are_early_or_filling x.q x.size x.frame x.old x.a x.new e stops is);

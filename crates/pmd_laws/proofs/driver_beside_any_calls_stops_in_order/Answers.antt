@@ -1,26 +1,24 @@
-use Rattle.pmd_laws.{proofs.Beside.own_life, proofs.Beside.rings_up, specs.BesideStop.IsStoppedBeside}
-use Rattle.pmd_laws.proofs.{Shifted.shifted, Stopped.handed_over_stop, Stopped.sent_over_stop, Stopped.silent_off}
-use Rattle.pmd_laws.proofs.Prelude.{◌++◌, ◌∙◌, ◌≡◌, Beside, Call, IsEnding, IsStopping, List, ap, append_cancel_left}
-use Rattle.pmd_laws.proofs.Prelude.{arith, common_steps, now, refl, same_delivers, same_sends, sym}
+use Rattle.pmd_laws.proofs.Prelude.{IsEnding, IsStopping, append_cancel_left, common_steps, same_delivers, same_sends}
+use Rattle.pmd_laws.proofs.Prelude.{◌++◌, ◌∙◌, ◌≡◌, Beside, Call, List, ap, arith, now, refl, sym}
 use Rattle.pmd_laws.proofs.StopCalls.{first_takes, made_first, once_off_shift, takes_shift}
-use Rattle.pmd_laws.proofs.driver_beside_any_calls_stops_in_order.Goals as goal
+use Rattle.pmd_laws.proofs.{Shifted.shifted, Stopped.over_stop, Stopped.sent_over, Stopped.silent_off}
+use Rattle.pmd_laws.{proofs.Beside.own_life, proofs.Beside.rings_up, specs.BesideStop.IsStoppedBeside}
 
 -- the calls of its stop are told of what they add
 stopping : (x : Beside) (new : List Call) (y : IsStoppedBeside x new) → IsStopping (own_life x) (x.own ++ y.since)
-stopping x new y = record {
-  ends = (y.since, refl, made_first (IsEnding x.q) (now x).made new y.since y.rest y.ends y.made);
-  calls = y.calls;
-}
+stopping x new y =
+    let ends = made_first (IsEnding x.q) (now x).made new y.since y.rest y.ends y.made in
+    record { ends = (y.since, refl, ends); calls = y.calls }
 
-pub returns : goal.returns
+pub returns : Rattle.pmd_laws.proofs.driver_beside_any_calls_stops_in_order.Goals.returns
 returns c = record {
   handed = λ x new y.
       rw (rings_up x, same_delivers x.w.queue x.origin x.h x.g x.retold.was.same)
-      (handed_over_stop (own_life x) (x.own ++ y.since) (stopping x new y));
+      (over_stop (own_life x) (x.own ++ y.since) (stopping x new y)).ahead;
   sent = λ x new y takes.
       let made = (now x).made in
       rw (rings_up x, same_sends x.w.queue x.origin x.h x.g x.retold.was.same)
-      (sent_over_stop (own_life x) (x.own ++ y.since) (stopping x new y)
+      (sent_over (own_life x) (x.own ++ y.since) (stopping x new y)
       (shifted
       (takes_shift x.q made (made ++ y.since)
       (first_takes x.q made (made ++ y.since) new y.since y.rest refl y.made takes)) y.since x.own refl));
@@ -30,10 +28,9 @@ returns c = record {
       let places : off ≡ at = append_cancel_left _ off at (sym there ∙ was) in
       let quiet = silent_off (own_life x) (x.own ++ y.since) (stopping x new y) now.0 done rest all
       (is ∙ ap (λ (l : List Call). x.own ++ l) places ∙ sym now.1) in
-      let whole = x.retold.was.same in
+      let all = x.retold.was.same in
       record {
         delivered = grind (arith, common_steps, same_delivers);
-        sent =
-            rw (same_sends x.w.queue x.origin x.h x.g whole, same_sends x.w.queue x.origin early done same) quiet.sent;
+        sent = rw (same_sends x.w.queue x.origin x.h x.g all, same_sends x.w.queue x.origin early done same) quiet.sent;
       };
 }

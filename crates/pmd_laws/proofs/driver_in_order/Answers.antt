@@ -1,9 +1,8 @@
-use Rattle.pmd_laws.{proofs.Order.handed, proofs.Order.idle, proofs.Order.ran, proofs.Order.sent_first, specs.Told.now}
 use Rattle.pmd_laws.proofs.Prelude.{◌∙◌, HasNoneOut, Rings, accepted_of, ap, bytes_of, handed_of, subst}
-use Rattle.pmd_laws.proofs.Told.{goes, life, none_before, none_first, up_next}
-use Rattle.pmd_laws.proofs.driver_in_order.Goals as goal
+use Rattle.pmd_laws.proofs.{Told.goes, Told.life, Told.none_before, Told.none_first, Told.up_next}
+use Rattle.pmd_laws.{proofs.Order.handed, proofs.Order.idle, proofs.Order.ran, proofs.Order.sent_first, specs.Told.now}
 
-pub returns : goal.returns
+pub returns : Rattle.pmd_laws.proofs.driver_in_order.Goals.returns
 returns c = record {
   handed = λ x lived. rw (goes x).up (handed (ran (life x)) lived);
   none = λ x n y.

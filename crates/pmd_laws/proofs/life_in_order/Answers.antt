@@ -1,7 +1,6 @@
 use Rattle.pmd_laws.proofs.Order.{handed, idle, none, ran, sent_first, taken}
-use Rattle.pmd_laws.proofs.life_in_order.Goals as goal
 
-pub returns : goal.returns
+pub returns : Rattle.pmd_laws.proofs.life_in_order.Goals.returns
 returns c = record {
   handed = λ x. handed (ran x);
   taken = λ x. taken (ran x);

@@ -1,7 +1,6 @@
-use Rattle.pmd_laws.{proofs.Faultless.never_at_fault, proofs.Prelude.faults_are_early_or_filling, proofs.Prelude.inr}
-use Rattle.pmd_laws.proofs.no_start_finds_the_device_at_fault.Goals as goal
+use Rattle.pmd_laws.proofs.{Faultless.never_at_fault, Prelude.faults_are_early_or_filling, Prelude.inr}
 
-pub returns : goal.returns
+pub returns : Rattle.pmd_laws.proofs.no_start_finds_the_device_at_fault.Goals.returns
 returns c = record {
   filling = λ x f. never_at_fault x (inr f);
   amid = λ x e stops is.

@@ -1,10 +1,7 @@
-use Rattle.pmd_laws.proofs.StopCalls.{failed_stop_takes_once_off, no_call_takes, stop_takes_once_off, takes_ends}
-use Rattle.pmd_laws.proofs.stop_calls_ask_for_no_side.Goals as goal
+use Rattle.pmd_laws.proofs.StopCalls.{failed_takes, stop_takes, takes_ends}
 
-pub returns : goal.returns
+pub returns : Rattle.pmd_laws.proofs.stop_calls_ask_for_no_side.Goals.returns
 returns c = record {
-  stops = λ q old h new home x.
-      takes_ends q old new (stop_takes_once_off q old old h new home x (no_call_takes q old));
-  fails = λ f q old h new left x.
-      takes_ends q old new (failed_stop_takes_once_off f q old old h new left x (no_call_takes q old));
+  stops = λ q old h new home x. takes_ends q old new (stop_takes q old h new home x);
+  fails = λ f q old h new left x. takes_ends q old new (failed_takes q old h new f left x);
 }

@@ -1,5 +1,4 @@
-use Rattle.pmd_laws.proofs.Stopped.{handed_over_stop, sent_over_stop}
-use Rattle.pmd_laws.proofs.stopped_life_in_order.Goals as goal
+use Rattle.pmd_laws.proofs.Stopped.{over_stop, sent_over}
 
-pub returns : goal.returns
-returns c = record { handed = handed_over_stop; sent = sent_over_stop }
+pub returns : Rattle.pmd_laws.proofs.stopped_life_in_order.Goals.returns
+returns c = record { handed = λ x new y. (over_stop x new y).ahead; sent = sent_over }

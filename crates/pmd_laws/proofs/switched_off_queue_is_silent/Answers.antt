@@ -1,5 +1,36 @@
-use Rattle.pmd_laws.proofs.Stopped.{silent_off, silent_over_stop}
-use Rattle.pmd_laws.proofs.switched_off_queue_is_silent.Goals as goal
+-- What a driver's stop says of where it had switched its queue off, and so the silence there.
+use Rattle.pmd_laws.proofs.Prelude.{AtPort, Call, Halted, IsAsking, IsSwitched, common_steps, halted_of, inr, ◌++◌, ◌≡◌}
+use Rattle.pmd_laws.proofs.Prelude.{Ends, List, PmdFault, Rest, Up, calls_of, closed, false, none_made, refl, subst}
+use Rattle.pmd_laws.proofs.{Order.ends, Prelude.Option, Prelude.arith, Prelude.left, StopCalls.amid_ends, Stopped.here}
+use Rattle.pmd_laws.proofs.{Prelude.IsStopped, Prelude.after, Prelude.calls_joined, Stopped.is_stopping, Stopped.life}
+use Rattle.pmd_laws.proofs.{Prelude.Some, Prelude.sym, StopCalls.first_made, StopCalls.once_of, Stopped.silent_off}
+use Rattle.pmd_laws.{proofs.Prelude.IsEnding, proofs.Prelude.None, proofs.StopCalls.home_ends, specs.Silent.SwitchesOff}
+use Rattle.pmd.specs.declared.start.Rest.TheVariants as rest
 
-pub returns : goal.returns
-returns c = record { once = λ x new done rest y z. silent_off x new y z done rest; over = silent_over_stop }
+-- what a driver's stop says
+
+module _ (q : AtPort) (old : List Call) (h : Halted) (new : List Call) where
+  abbrev GoesOff : List Call → Type 0
+  GoesOff off = IsSwitched q old off false 1000 × Ends q off new
+
+  switches_off : (left : Rest) (late : Option PmdFault) (x : IsStopped q old h new left late) (off : List Call)
+      → SwitchesOff q old h new left late x off → GoesOff off
+  switches_off (rest.Home home) None (mid, switched, comes) off is =
+      subst GoesOff (sym is) (switched, home_ends q mid (closed h) new home comes)
+  switches_off (rest.Running p) (Some f) (after, same, inr (inr (mid, switched, amid))) off is =
+      subst GoesOff (sym is) (switched, amid_ends q mid (closed h) new f after amid)
+  switches_off left late x off is = absurd is
+
+pub returns : Rattle.pmd_laws.proofs.switched_off_queue_is_silent.Goals.returns
+returns c = record {
+  once = λ x new done rest y z. silent_off x new y z done rest;
+  over = λ x off done rest y stop all calls.
+      let made = x.lived.made in
+      let (switched, ends) = switches_off x.q made (halted_of (Up x.lived.last)) x.new x.left x.late x.lived.stopped off
+      stop in
+      let later = calls_of x.w.pass rest in
+      let on : here x y ≡ off ++ later = grind (arith, common_steps, calls_joined) in
+      let z = once_of x.q made (here x y) made off (none_made (IsAsking x.q) made made refl) switched
+      (first_made (IsEnding x.q) off (here x y) x.new later y.rest ends on y.all) in
+      silent_off (life x) (here x y) (is_stopping x y) z done rest all calls;
+}

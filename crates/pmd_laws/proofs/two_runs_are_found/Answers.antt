@@ -1,25 +1,15 @@
 -- A start finds two runs of free blocks exactly where there are two.
-use Rattle.nic_device.proofs.{DmaArena.Owned.is_own-of_free, DmaArena.Owned.own_within, DmaArena.Runs.found_behind}
+use Rattle.nic_device.proofs.DmaArena.{Owned.is_own-of_free, Owned.own_within, RunLaws.one_taken, Runs.found_behind}
 use Rattle.nic_device.specs.DmaArena.Run.{IsFreeRun, are_free, run_behind, run_from, run_in}
 use Rattle.pmd.specs.Runs.{behind_run, second_run}
-use Rattle.pmd_laws.{proofs.Prelude.suc, proofs.Prelude.true, proofs.Prelude.zero, specs.Room.HasTwoRuns}
-use Rattle.pmd_laws.proofs.Prelude.{⊎_elim, ◌+◌, ◌-◌, ◌<◌, ◌≡◌, ◌≢◌, ◌≤◌, None, Numbers, Option, Some, ℕ, and_from}
-use Rattle.pmd_laws.proofs.Prelude.{arith, both_ways, cases_Bool, count_of, false, is_free, is_some, left, refl, subst}
-use Rattle.pmd_laws.proofs.two_runs_are_found.Goals as goal
-
-first_free : (a : Numbers) (first count : ℕ) → 0 < count → IsFreeRun a first count → is_free a first ≡ true
-first_free a first count some free =
-    let at : first + 0 ≡ first = omega arith in
-    subst (λ (n : ℕ). is_free a n ≡ true) at (free 0 some)
+use Rattle.pmd_laws.proofs.Prelude.{None, Some, count_of, inl, is_free, refl, true, zero, ℕ, ⊎_elim, ◌+◌, ◌-◌, ◌≤◌, ◌⊎◌}
+use Rattle.pmd_laws.proofs.Prelude.{Numbers, Option, arith, both_ways, cases_Bool, false, inr, left, suc, ◌<◌, ◌≡◌, ◌≢◌}
+use Rattle.pmd_laws.{proofs.Prelude.is_some, proofs.Prelude.true_from_ne_false, specs.Room.HasTwoRuns}
 
 all_free : (a : Numbers) (first count : ℕ) → IsFreeRun a first count → are_free a first count ≡ true
-unfolding are_free
-all_free a first zero free = refl
-all_free a first (suc n) free =
-    and_from _ _ (first_free a first (suc n) (omega arith) free)
-    (all_free a (first + 1) n (λ k below.
-    let at : first + suc k ≡ first + 1 + k = omega arith in
-    subst (λ (m : ℕ). is_free a m ≡ true) at (free (suc k) (omega (arith, below)))))
+all_free a first count free =
+    true_from_ne_false (are_free a first count) (λ taken.
+    let (k, below, is) = one_taken a first count (is_free a first) refl taken in both_ways _ is (free k below))
 
 -- a search that comes by a run finds one, and none behind it
 by_run : (a : Numbers) (count number left n : ℕ) → number ≤ n → n < number + left → are_free a n count ≡ true
@@ -29,23 +19,16 @@ by_run a count number zero n low high free = absurd (omega (arith, low, high))
 by_run a count number (suc left) n low high free =
     ⊎_elim (λ (here : are_free a number count ≡ true). (number, rw here refl, low))
     (λ (taken : are_free a number count ≡ false).
-    let ne : n ≢ number = λ same. both_ways _ taken (subst (λ (m : ℕ). are_free a m count ≡ true) same free) in
+    let ne : n ≢ number = λ same. both_ways _ taken (rw same at free) in
     let (m, is, early) = by_run a count (number + 1) left n (omega (arith, low, ne)) (omega (arith, high)) free in
     (m, simp taken is, early)) (cases_Bool (are_free a number count))
 
-run_finds : (a : Numbers) (count from n : ℕ) → 0 < count → from ≤ n → IsFreeRun a n count
+run_finds : (a : Numbers) (count from n : ℕ) → 0 < count → from ≤ n ⊎ (from ≡ a.first) → IsFreeRun a n count
     → (m : ℕ) × (run_behind a count from ≡ Some m) × (m ≤ n)
 run_finds a count from n some low free =
-    let within = own_within a n (is_own-of_free a n (first_free a n count some free)) in
-    by_run a count from (a.first + count_of a - from) n low (omega (arith, low, within.1)) (all_free a n count free)
-
-there_are : (a : Numbers) (count : ℕ) → 0 < count → HasTwoRuns a count → is_some (second_run a count) ≡ true
-there_are a count some x =
-    let within = own_within a x.first (is_own-of_free a x.first (first_free a x.first count some x.one)) in
-    let (one, is, early) = run_finds a count a.first x.first some within.0 x.one in
-    let apart = x.apart in
-    let (two, then, late) = run_finds a count (one + count) x.second some (omega (arith, early, apart)) x.two in
-    rw is (rw then refl)
+    let within = own_within a (n + 0) (is_own-of_free a (n + 0) (free 0 some)) in
+    by_run a count from (a.first + count_of a - from) n (omega (arith, low, within.0)) (omega (arith, low, within.1))
+    (all_free a n count free)
 
 -- what is found is two runs
 
@@ -59,8 +42,7 @@ among_low a count number (suc left) n is =
 
 found_runs : (a : Numbers) (count : ℕ) (one two : Option ℕ) → run_in a count ≡ one → behind_run a count one ≡ two
     → is_some two ≡ true → HasTwoRuns a count
-found_runs a count None None first second some = cc
-found_runs a count None (Some other) first second some = cc
+found_runs a count None two first second some = cc
 found_runs a count (Some ring) None first second some = cc
 found_runs a count (Some ring) (Some other) first second some = record {
   first = ring;
@@ -70,6 +52,12 @@ found_runs a count (Some ring) (Some other) first second some = record {
   apart = among_low a count (ring + count) (a.first + count_of a - (ring + count)) other second;
 }
 
-pub returns : goal.returns
-returns c a count some =
-    (λ is. found_runs a count (run_in a count) (second_run a count) refl refl is, λ x. there_are a count some x)
+pub returns : Rattle.pmd_laws.proofs.two_runs_are_found.Goals.returns
+returns c a count some = (
+  λ is. found_runs a count (run_in a count) (second_run a count) refl refl is,
+  λ x.
+      let (one, is, early) = run_finds a count a.first x.first some (inr refl) x.one in
+      let apart = x.apart in
+      let (two, then, late) = run_finds a count (one + count) x.second some (inl (omega (arith, early, apart))) x.two in
+      rw is (rw then refl),
+)

@@ -1,8 +1,7 @@
+use Rattle.pmd_laws.proofs.Prelude.{Rings, accepted_of, ap, bytes_of, sym, ◌∙◌}
 use Rattle.pmd_laws.{proofs.Told.goes, proofs.Told.life, proofs.Told.up_next, proofs.Told.waiting_first, specs.Told.now}
-use Rattle.pmd_laws.proofs.Prelude.{◌∙◌, Rings, accepted_of, ap, bytes_of, sym}
-use Rattle.pmd_laws.proofs.waiting_look_leaves_some_unsent.Goals as goal
 
-pub returns : goal.returns
+pub returns : Rattle.pmd_laws.proofs.waiting_look_leaves_some_unsent.Goals.returns
 returns c = record {
   before = λ x new v y. waiting_first x y.look (λ since is. is) y.looks;
   told = λ x n y before more all is same.

@@ -1,5 +1,57 @@
-use Rattle.pmd_laws.proofs.WorkerTold.{others_lend_none_is_alone}
-use Rattle.pmd_laws.proofs.worker.worker_has_its_blocks_alone.Goals as goal
+-- What the entries of a history tell of the blocks that are lent is so of the device.
+use Rattle.pmd_laws.proofs.DriverLaws.HistoryLaws.Lent.{AllFollow, follows_known, not_so}
+use Rattle.pmd_laws.proofs.Prelude.{AreEvents, Block, Blocks, Entry, Event, IsEvent, IsLegal, List, NoneLent, OnlyLent}
+use Rattle.pmd_laws.proofs.Prelude.{OnlyPassLends, Reply, State, [], after, ap, arith, both_ways, common_steps}
+use Rattle.pmd_laws.proofs.Prelude.{events_before, false, has_block, is_own, is_some, leads_to, legal_before, lends}
+use Rattle.pmd_laws.proofs.Prelude.{nat_cmp, nat_lt, new_state, refl, reply_to, subst, sym, ℕ, ◌&&◌, ◌||◌, ◌∷◌}
+use Rattle.pmd_laws.proofs.WorkerTold.{holds_at_first}
+use Rattle.std.{proofs.lemmas.Bool.Decides.nat_tests, proofs.lemmas.Bool.or_left, specs.Prelude.not}
+use Rattle.workers.specs.Lending.{takes}
+use Rattle.workers.specs.{Before.known_through, Lending.lent_behind, Lending.lent_through, Lending.no_block}
+use Rattle.std.specs.FinMap as map
+use Rattle.workers.specs.Lending as told
 
-pub returns : goal.returns
-returns c = others_lend_none_is_alone
+-- which of some blocks are lent
+
+-- what is told behind an event and its reply
+abbrev LentBehind : Blocks → Event Block → Reply Block → Blocks
+LentBehind known e r n = (nat_lt n 65536 && lends e r n) || (known n && not (takes e r n))
+
+told_follows : (known : Blocks) (e : Event Block) → IsEvent e → AllFollow known (LentBehind known e) e
+told_follows known e made r n = grind (arith, common_steps, nat_tests)
+
+lent_here : (own known : Blocks) (s : State) → OnlyLent own known s.memory → (e : Event Block) → IsEvent e
+    → OnlyLent own (LentBehind known e (reply_to s e)) (after s e).memory
+lent_here own known s only e made n is has =
+    let follows = follows_known own no_block s known (λ k mine there. or_left (known k) false (only k mine there)) e
+    (LentBehind known e) (told_follows known e made) n in
+    grind (arith, common_steps, follows)
+
+lent_along : (own known : Blocks) (s : State) (h : List Entry) → IsLegal s h → AreEvents h
+    → OnlyLent own known s.memory → OnlyLent own (known_through lent_behind known h) (leads_to s h).memory
+lent_along own known s [] legal events only = only
+lent_along own known s (e ∷ es) legal events only =
+    lent_along own (lent_behind known e) (after s e.event) es legal.1 events.1
+    (rw legal.0 (lent_here own known s only e.event events.0))
+
+-- where the entries say that others lend none of a driver's blocks, they do so for those laws
+
+only_lends : (pass : ℕ) (own : Blocks) (h : List Entry) → told.OnlyPassLends pass own h → OnlyPassLends pass own h
+only_lends pass own [] none = tt
+only_lends pass own (e ∷ es) none = (λ other. grind (arith, common_steps), only_lends pass own es none.1)
+
+pub returns : Rattle.pmd_laws.proofs.worker.worker_has_its_blocks_alone.Goals.returns
+returns c w fifo old a h legal events others = (
+  only_lends w.pass (is_own a) h others.others,
+  holds_at_first w fifo old h (NoneLent (is_own a)) (λ x number own.
+      let new : State = new_state w.vfs fifo in
+      let rest = x.first ∷ x.behind in
+      let known =
+      lent_along (is_own a) no_block new x.before
+      (legal_before new x.before rest (subst (IsLegal new) (sym x.all) legal))
+      (events_before x.before rest (subst AreEvents (sym x.all) events))
+      (λ n is has. absurd (both_ways (has_block map.empty n) (ap is_some (map.get-empty nat_cmp n)) has)) number own
+      in
+      not_so (has_block (leads_to (new_state w.vfs fifo) x.before).memory number) (lent_through x.before number) known
+      (others.none old refl x number own)),
+)

@@ -1,5 +1,2 @@
-use Rattle.ring_laws.proofs.Playing.{own_replies_are_healthy}
-use Rattle.ring_laws.proofs.transmit.own_replies_are_healthy.Goals as goal
-
-pub returns : goal.returns
-returns c = own_replies_are_healthy
+pub returns : Rattle.ring_laws.proofs.transmit.own_replies_are_healthy.Goals.returns
+returns c = Rattle.ring_laws.proofs.Playing.own_replies_are_healthy

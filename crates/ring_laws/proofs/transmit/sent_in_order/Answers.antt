@@ -1,11 +1,4 @@
-use Rattle.ring_laws.proofs.Runs.{idle_is_all_sent, sent_is_prefix, sent_is_prefix_of_taken}
-use Rattle.ring_laws.proofs.Runs.{waiting_is_not_all_sent}
-use Rattle.ring_laws.proofs.transmit.sent_in_order.Goals as goal
+use Rattle.ring_laws.proofs.InOrder.{first_sent, idle-all, waiting-left}
 
-pub returns : goal.returns
-returns c = record {
-  prefix = sent_is_prefix;
-  idle = idle_is_all_sent;
-  waiting = waiting_is_not_all_sent;
-  taken = sent_is_prefix_of_taken;
-}
+pub returns : Rattle.ring_laws.proofs.transmit.sent_in_order.Goals.returns
+returns c = record { prefix = first_sent; idle = idle-all; waiting = waiting-left }

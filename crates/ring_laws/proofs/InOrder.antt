@@ -1,0 +1,285 @@
+-- What the agreement says of packets that were handed out and of frames that were sent, and how both are counted over
+-- a history; and the definitions on small examples.
+pub use Rattle.history_laws.proofs.Limits.{lent_behind}
+use Rattle.device_lock.specs.History.{call_in}
+use Rattle.history_laws.proofs.DeviceLaws.{RepliesOut.frames_out, StandingQueues.receiving_blocks}
+use Rattle.history_laws.proofs.Leaving.{left-setting, left-side, left_transmit, step_is}
+use Rattle.history_laws.proofs.{Blocks.clear_avoids, Blocks.left-block, Deeds.received-none, Deeds.silent_else}
+use Rattle.history_laws.specs.Prelude.{Block, Blocks, Entry, Event, LeavesBlock, Pf, Reply, Rx, State, Tx, Watched}
+use Rattle.history_laws.specs.Prelude.{WritesOutside, Wrote, after, calls_of, leads_to, reply_to, staged_by}
+use Rattle.history_laws.specs.{DeviceLaws.Leaving.ReceivesOutside, DeviceLaws.Replies.out_after, Left.is_step_of}
+use Rattle.nic_device.proofs.{Answering.step_suits, Steps.keeps_sound, Steps.step_leads}
+use Rattle.nic_device.specs.Answering.{may_answer}
+use Rattle.pmd_tx.specs.Sending.{advanced, asked, at_start}
+use Rattle.ring_laws.proofs.{Kept.none_of, Leaving.look_tells, Playing.end-last, Playing.look-fetched}
+use Rattle.ring_laws.proofs.{Playing.look-tells, Sparing.added-one, TransmitLent.frame_of_end}
+use Rattle.ring_laws.specs.Agreeing.{AgreesAt, SendsInOrder, bytes_of, frames_from}
+use Rattle.ring_laws.specs.Counting.{IsEndOf, NeverGoesOn, SentIsCounted, SentIsTold, lengths_told}
+use Rattle.ring_laws.specs.TransmitPrelude.{Accepts, Advances, IsOwn, Kept, Outgoing, Segment, Sender, accepted_by}
+use Rattle.ring_laws.specs.TransmitPrelude.{first_end, has_lent, is_sent, no_segment}
+use Rattle.ring_laws.specs.{Delivered.IsPrefixOf, Delivered.pieces_in, Delivered.pieces_since, Finding.HandedIsPrefix}
+use Rattle.ring_laws.specs.{Finding.NoneIsAll, Finding.NoneIsAllTaken, Joint.AreOpen, Joint.AreSeen, Laws.IdleIsAllSent}
+use Rattle.ring_laws.specs.{Laws.LeftAloneIsSpared, Laws.SentIsPrefix, Laws.WaitingIsNotAllSent, Pieces.Piece}
+use Rattle.ring_laws.specs.{Pieces.packet_told, Pieces.packets_behind, Pieces.packets_of, ReceivePrelude.Kept}
+use Rattle.ring_laws.specs.{ReceivePrelude.Told, Sent.counted_by, Sent.frames_added, Sent.goes_on, Sent.sent_by}
+use Rattle.ring_laws.specs.{Sent.sent_in, Sent.sent_since, Sparing.IsLeft, Sparing.ReceiveOwes, Sparing.is_transmit_of}
+use Rattle.std.proofs.Common.{IsTrue, List, Option, [], ap, append-nil, append_assoc, arith, drop, false, if◌then◌else◌}
+use Rattle.std.proofs.Common.{inl, inr, length, length-append, map, refl, replicate, slice_index_or, sym, true, ℕ, ◌++◌}
+use Rattle.std.proofs.Common.{◌+◌, ◌-◌, ◌<◌, ◌==◌, ◌∙◌, ◌∷◌, ◌≡◌, ◌≢◌, ◌≤◌}
+use Rattle.std.proofs.lemmas.List.{append-nil, append_assoc, drop_all, get_or-drop, length-drop, nil_from_length}
+use Rattle.std.proofs.lemmas.{Bool.both_ways, Bool.cases_Bool, Bool.cases_eq, Bool.cases_lt, Grind.common_steps}
+use Rattle.std.specs.Prelude.{[], ◌∷◌, ◌≤◌}
+use Rattle.nic_device.specs.declared.event.Event.TheVariants as event
+
+-- What the agreement says of the packets that were handed out.
+
+-- what was handed out is a beginning of what was delivered
+pub handed_first : HandedIsPrefix
+handed_first queue s out v h1 = grind (arith, common_steps)
+
+-- pieces of which none ends its packet make none
+none_whole : (front : List ℕ) (seen : List Told) (here : List Piece) → AreOpen seen → AreSeen seen here
+    → length here ≤ length seen → packets_behind front here ≡ []
+none_whole front seen [] opens are all = refl
+none_whole front [] (p ∷ here) opens are all = absurd (omega (arith, all))
+none_whole front (t ∷ ts) (p ∷ here) opens are all =
+    grind (arith, none_whole (front ++ p.bytes) ts here opens.1 are.1 (omega (arith, all)))
+
+-- where a look at the slot behind those that were seen finds it not done, all that was delivered was taken
+pub all_taken : NoneIsAllTaken
+all_taken queue s out v (gone, here, h) f =
+    let k = length v.seen in
+    let t = look_tells queue s out v gone here k h f.posted f.bytes f.reply in
+    let all : length here ≤ k = (grind (arith, common_steps)) in
+    (grind (arith, common_steps, none_of, none_whole))
+
+-- and where no packet is whole, all of it was handed out
+pub drained : NoneIsAll
+drained queue s out v j f = all_taken queue s out v j f.shows ∙ rw f.none_whole (append-nil v.handed)
+
+-- Over a whole history.
+
+pub calls_own : (pass : ℕ) (e : Entry) (h : List Entry) → (e.pass == pass) ≡ true
+    → calls_of pass (e ∷ h) ≡ call_in e ∷ calls_of pass h
+calls_own pass e h is = rw is refl
+
+pub calls_other : (pass : ℕ) (e : Entry) (h : List Entry) → (e.pass == pass) ≡ false
+    → calls_of pass (e ∷ h) ≡ calls_of pass h
+calls_other pass e h is = rw is refl
+
+pub since-append : (queue : ℕ) (s : State) (so_far : Option (List Piece)) (g h : List Entry)
+    → pieces_since queue s so_far (g ++ h) ≡ pieces_since queue (leads_to s g) (pieces_since queue s so_far g) h
+since-append queue s so_far [] h = refl
+since-append queue s so_far (e ∷ g) h = since-append queue (after s e.event) _ g h
+
+pub image_stays : (s : State) (h : List Entry) → (leads_to s h).image ≡ s.image
+image_stays s [] = refl
+image_stays s (e ∷ h) = image_stays (after s e.event) h ∙ (step_leads s e.event).stays.image
+
+pub vfs_stays : (s : State) (h : List Entry) → (leads_to s h).vfs ≡ s.vfs
+vfs_stays s [] = refl
+vfs_stays s (e ∷ h) = vfs_stays (after s e.event) h ∙ (step_leads s e.event).stays.vfs
+
+-- what is delivered stays so
+
+pub grows : (front : List ℕ) (xs ys : List Piece)
+    → IsPrefixOf (packets_behind front xs) (packets_behind front (xs ++ ys))
+grows front [] ys = (packets_behind front ys, refl)
+grows front (p ∷ xs) ys = elim (cases_Bool p.end) [
+  | inl ends ↦
+      let rest = grows [] xs ys in
+      rw ends (rest.0, ap (λ (ks : List Kept). packet_told (front ++ p.bytes) p.first ∷ ks) rest.1)
+  | inr on ↦ rw on (grows (front ++ p.bytes) xs ys)
+]
+
+pub pieces-append : (queue : ℕ) (s : State) (g h : List Entry)
+    → pieces_in queue s (g ++ h) ≡ pieces_in queue s g ++ pieces_in queue (leads_to s g) h
+pieces-append queue s [] h = refl
+pieces-append queue s (e ∷ g) h = grind (arith, pieces-append queue (after s e.event) g h)
+
+no_rest : (hs : List Kept) (xs ys : List Kept) → (hs ++ xs) ++ ys ≡ hs → xs ≡ []
+no_rest hs xs ys is =
+    let long = ap (λ (ks : List Kept). length ks) is in
+    nil_from_length xs (omega (arith, long, length-append (hs ++ xs) ys, length-append hs xs))
+
+pub between : (hs ds ks : List Kept) → IsPrefixOf hs ds → IsPrefixOf ds ks → ks ≡ hs → hs ≡ ds
+between hs ds ks h1 h2 h3 = grind (arith, common_steps, no_rest)
+
+-- An event that leaves blocks alone leaves those of a driver that sends.
+
+-- what is received, as the reply tells
+received_outside : (queue : ℕ) (mine : Blocks) (v : Sender) (r : Reply Block) (b : ℕ) → IsTrue (has_lent v b)
+    → IsTrue (mine b) → WritesOutside queue mine r → ReceiveOwes queue v r → ReceivesOutside r b
+received_outside queue mine v (Wrote on slot end desc at len) b lent is outside owes = elim (cases_eq on queue) [
+  | inl own ↦ owes.1 own b lent
+  | inr ne ↦
+      (clear_avoids mine desc 16 b (outside ne).1 is (omega arith), clear_avoids mine at len b (outside ne).0 is owes.0)
+]
+received_outside queue mine v other b lent is outside owes = tt
+
+module _ (w : Watched) (mine : Blocks) (v : Sender) (s : State) (b : ℕ) (lent : IsTrue (has_lent v b)) where
+  spared_block : (e : Event Block) → IsLeft w mine v s e → is_transmit_of w.queue e ≡ false
+      → LeavesBlock b s (after s e)
+  spared_block e x other = elim (cases_Bool (is_step_of Rx w.queue e)) as (λ _. LeavesBlock b s (after s e)) [
+    | inl own ↦ let is = step_is Rx w.queue e own in rw is (grind (arith, receiving_blocks, received_outside))
+    | inr none ↦
+        left-block w.queue mine s x.sound b (x.lent b lent) e x.made x.blocks x.steps
+        (received-none w.queue s e none) (silent_else Tx w.queue s e other)
+  ]
+
+pub left_alone_is_spared : LeftAloneIsSpared
+left_alone_is_spared w mine v s e h = search (arith, left-setting, left_transmit, left-side, spared_block)
+
+-- what was sent are the first frames of those accepted
+pub first_sent : SentIsPrefix
+first_sent s queue sent v (f, h) = elim h.sends [
+  | inl x ↦ (frames_from (staged_by s queue) (drop f v.outstanding), x.in_order)
+  | inr x ↦ (x.frame ∷ x.rest, x.in_order)
+]
+
+-- by what is left to be sent
+module _ (s : State) (queue : ℕ) (sent : List (List ℕ)) (limit : ℕ) (left : List Segment) (ks : List Kept)
+    (sends : SendsInOrder s queue sent limit left ks) where
+  -- all that was accepted is sent, where nothing is left
+  all_sent : left ≡ [] → bytes_of ks ≡ sent
+  all_sent none = grind (arith, common_steps, append-nil)
+
+  -- and not all, where the end of a packet is left
+  some_unsent : (k : ℕ) → k < length left → (slice_index_or left k no_segment).part.last ≡ true
+      → length sent < length (bytes_of ks)
+  some_unsent k below end = grind (arith, common_steps, length-append, frame_of_end)
+
+pub idle-all : IdleIsAllSent
+idle-all s queue sent v (f, h) none =
+    all_sent s queue sent _ _ v.accepted h.sends (rw none (drop_all f [] (omega arith)))
+
+module _ {s : State} {queue : ℕ} {sent : List (List ℕ)} {v : Sender} {f : ℕ} (h : AgreesAt s queue sent v f) where
+  -- with the end of the oldest packet left it isn't, nor was it when fewer were sent
+  left-over : (xs more : List (List ℕ)) → sent ≡ xs ++ more → first_end v.outstanding < v.posted
+      → f ≤ first_end v.outstanding → bytes_of v.accepted ≢ xs
+  left-over xs more split posted rest same =
+      let end = first_end v.outstanding in
+      let known : end < length v.outstanding = omega arith in
+      let at : f + (end - f) ≡ end = omega (arith, rest) in
+      let longer = some_unsent s queue sent v.layout.limit (drop f v.outstanding) v.accepted h.sends (end - f)
+      (omega (arith, length-drop f v.outstanding, known, rest))
+      (rw (get_or-drop f v.outstanding (end - f) no_segment, at) (end-last v.outstanding known)) in
+      omega (arith, longer, ap length same, ap length split, length-append xs more)
+
+pub sent_in-append : (queue : ℕ) (s : State) (g h : List Entry)
+    → sent_in queue s (g ++ h) ≡ sent_in queue s g ++ sent_in queue (leads_to s g) h
+sent_in-append queue s [] h = refl
+sent_in-append queue s (e ∷ g) h = grind (arith, common_steps, sent_in-append queue (after s e.event) g h)
+
+-- where a look finds the end of the oldest packet not done it isn't fetched, so all that was accepted is more than was
+-- sent, or fewer
+pub waiting-left : WaitingIsNotAllSent
+waiting-left s queue sent v (f, h) finds xs more split same =
+    let end = first_end v.outstanding in
+    elim (cases_lt end f) [
+      | inl some ↦
+          both_ways (is_sent finds.bytes) finds.waits
+          (rw (look-tells h finds.posted finds.bytes finds.told) (look-fetched h finds.posted some))
+      | inr none ↦ left-over h xs more split finds.posted none same
+    ]
+
+-- What is counted of the frames that a queue sends, over whole histories.
+
+-- one history after the other
+joined : (queue : ℕ) (s : State) (sent : List (List ℕ)) (g h : List Entry)
+    → sent_since queue s sent (g ++ h) ≡ sent_since queue (leads_to s g) (sent_since queue s sent g) h
+joined queue s sent [] h = refl
+joined queue s sent (e ∷ g) h = joined queue (after s e.event) (counted_by queue s e.event sent) g h
+
+-- the side never goes on
+never : (queue : ℕ) (s : State) (sent : List (List ℕ)) (h : List Entry) → NeverGoesOn queue s h
+    → sent_since queue s sent h ≡ sent ++ sent_in queue s h
+never queue s sent [] off = sym (append-nil sent)
+never queue s sent (e ∷ es) off =
+    rw off.0 (never queue (after s e.event) (sent ++ sent_by queue s e.event) es off.1 ∙ append_assoc sent _ _)
+
+-- it goes on for the last time
+last : (queue : ℕ) (s : State) (sent : List (List ℕ)) (g : List Entry) (e : Entry) (h : List Entry)
+    → goes_on queue (leads_to s g) e.event ≡ true → NeverGoesOn queue (after (leads_to s g) e.event) h
+    → sent_since queue s sent (g ++ e ∷ h) ≡ sent_in queue (after (leads_to s g) e.event) h
+last queue s sent g e h goes off = grind (arith, joined, never)
+
+-- what is counted is an end of all
+
+end : (queue : ℕ) (s : State) (sent : List (List ℕ)) (h : List Entry)
+    → IsEndOf (sent_since queue s sent h) (sent ++ sent_in queue s h)
+end queue s sent [] = ([], append-nil sent)
+end queue s sent (e ∷ es) =
+    let more = end queue (after s e.event) (counted_by queue s e.event sent) es in (
+      (if goes_on queue s e.event then sent ++ sent_by queue s e.event else []) ++ more.0,
+      grind (arith, append_assoc),
+    )
+
+-- an entry sends one frame at most
+
+few_by : (queue : ℕ) (s : State) (e : Event Block) → length (sent_by queue s e) ≤ 1
+few_by queue s e = let out = frames_out s e in (grind (arith, common_steps, added-one))
+
+few : (queue : ℕ) (s : State) (sent : List (List ℕ)) (h : List Entry)
+    → length (sent_since queue s sent h) ≤ length sent + length h
+few queue s sent [] = omega arith
+few queue s sent (e ∷ es) =
+    grind (arith, length-append, few_by, few queue (after s e.event) (counted_by queue s e.event sent) es)
+
+pub sent_is_counted : SentIsCounted
+sent_is_counted = record { never = never; last = last; joined = joined; end = end; few = few }
+
+-- The frames that a history sends are those that its replies tell.
+
+event_told : (queue : ℕ) (s : State) (e : Event Block) (r : Reply Block) → may_answer e r ≡ true
+    → out_after e r s (after s e) → map length (sent_by queue s e) ≡ lengths_told queue r
+event_told queue s e r fits out = grind (arith, common_steps)
+
+-- a history
+
+pub sent_is_told : SentIsTold
+sent_is_told queue s [] sound events legal = refl
+sent_is_told queue s (e ∷ es) sound events legal =
+    let told = event_told queue s e.event (reply_to s e.event) (step_suits s e.event sound events.0).fits
+    (frames_out s e.event) in
+    let rest = sent_is_told queue (after s e.event) es (keeps_sound s sound e.event events.0) events.1 legal.1 in
+    (grind (arith, common_steps))
+
+-- a piece of these bytes
+abbrev ending : List ℕ → ℕ → Piece
+ending bytes first = record { bytes = bytes; first = first; end = true }
+
+abbrev going_on : List ℕ → Piece
+going_on bytes = record { bytes = bytes; first = 0; end = false }
+
+-- two pieces of one frame are a packet, with the RSS type and hash of the last; the third is left out, since its frame
+-- has no end yet
+two_pieces_are_a_packet :
+    packets_of (going_on (1 ∷ 2 ∷ []) ∷ ending (3 ∷ []) 0x700000002 ∷ going_on (4 ∷ []) ∷ [])
+    ≡ record { bytes = 1 ∷ 2 ∷ 3 ∷ []; rss = 2; hash = 7 } ∷ []
+two_pieces_are_a_packet = refl
+
+-- of two frames out, of queues 3 and 5, the second was added
+one_added : frames_added ((3, 1 ∷ []) ∷ []) ((3, 1 ∷ []) ∷ (5, 7 ∷ 8 ∷ []) ∷ []) ≡ (7 ∷ 8 ∷ []) ∷ []
+one_added = refl
+
+-- two packets of 60 bytes go out behind one write of the tail: with the first in its slot and the tail before it, the
+-- second may be accepted, and then the tail moves on behind both
+
+abbrev packet : ℕ → Outgoing
+packet block = record { blocks = block ∷ []; kept = record { bytes = replicate 60 0; rss = 0; hash = 0 } }
+
+abbrev one_in : Sender
+one_in = asked (accepted_by (at_start Pf 0xE018 16 8 1514) (packet 3))
+
+abbrev both_in : Sender
+both_in = asked (accepted_by one_in (packet 4))
+
+second_may : IsOwn one_in (Accepts (packet 4)) (event.Lend (record { number = 4; bytes = replicate 2048 0 }))
+second_may = grind arith
+
+one_tail : IsOwn both_in Advances (event.Write Pf 0xE018 2)
+one_tail = (refl, omega arith, refl, refl, refl)
+
+both_out : (advanced both_in).posted ≡ 2
+both_out = refl

@@ -1,0 +1,10 @@
+-- Which events may come as a move of a driver that sends.
+use Rattle.std.specs.Prelude.{ℕ}
+use Rattle.history_laws.specs.Prelude.{Block, Event, IsEvent, State}
+use Rattle.ring_laws.specs.{Sparing.Spares, TransmitPrelude.Elsewhere, TransmitPrelude.IsOwn}
+use Rattle.ring_laws.specs.TransmitPrelude.{Move, Sender}
+
+-- an event may come: it is the driver's next move, or it spares the driver
+abbrev pub MayMove : ℕ → Sender → State → Event Block → Move → Type 0
+MayMove queue v s e Elsewhere = Spares queue v s e
+MayMove queue v s e m = IsOwn v m e × IsEvent e

@@ -1,6 +1,6 @@
 /* The same register table in C: addresses are looked up by binary search, accesses go by the kind of the row, and the
    hash is taken bit by bit, and by windows of the key made beforehand. Its table is written by benchmarks/run from
-   tools/register_table.py. Prints a line for each measure: its name, how many things, and the nanoseconds. */
+   dev/register_table.py. Prints a line for each measure: its name, how many things, and the nanoseconds. */
 #include <string.h>
 
 #include "measure.h"

@@ -11,7 +11,7 @@ from pathlib import Path
 
 import nic82599
 from nic82599 import Advanced, Done, Dropped, Event, Fault, Message, Nic, Sent, Wrote, address_of
-from nic82599_regs import OFFSETS, REGISTERS
+from nic82599.registers import OFFSETS, REGISTERS
 
 ROOT = Path(__file__).resolve().parent.parent.parent
 QUEUES, BLOCKS, USED, FIFO, MOST_LINES, MOST_DATA = 3, 256, 6, 6, 3_000, 900

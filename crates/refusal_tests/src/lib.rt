@@ -2,7 +2,7 @@
 //!
 //! A test makes one call, in front of which it prints `call` and behind it `end`. Where the call was refused it sees
 //! that nothing changed and that what was moved in is back, and makes it again: then all ends as it does where nothing
-//! was refused. By itself no growth is refused here; `tools/refusals` runs each test once for each growth of its call,
+//! was refused. By itself no growth is refused here; `dev/refusals` runs each test once for each growth of its call,
 //! which is refused then.
 #![tactic(auto)]
 

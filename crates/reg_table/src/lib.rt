@@ -4,7 +4,7 @@
 //! place. `resolve` is the map from addresses to places, with the bits of the word that show there, that the device
 //! core reads and writes by: one dispatch on ranges of addresses, with no search. The other calls tell what the table
 //! says of an address, of a place and of a row. The table itself stands in `specs/Rows.antt` and `specs/Runs.antt`,
-//! and again as the code's own in `rows.rt`, `dispatch.rt` and `first_addresses.rt`; `tools/register_table.py` writes
+//! and again as the code's own in `rows.rt`, `dispatch.rt` and `first_addresses.rt`; `dev/register_table.py` writes
 //! all of them from one list. No call takes memory. The device core, the script assembler and the driver stand on
 //! this crate.
 //!

@@ -1,5 +1,5 @@
-//! What the device and a driver agree on of the receive ring, whatever others do meanwhile: so what the driver hands out
-//! is a prefix of the packets that were written.
+//! What the device and a driver agree on of the receive ring, whatever others do meanwhile: so what the driver hands
+//! out is a prefix of the packets that were written.
 //!
 //! The device and the driver agree, between two events, on the slots of the receive ring: which are filled with pieces
 //! of frames, which are posted, which name a block behind the tail, and which pieces were consumed. Each law is the

@@ -10,7 +10,8 @@ ghost use Rattle.ring_laws.specs.TransmitHealthy.{OwnRepliesAreHealthy};
 ghost use Rattle.ring_laws.specs.TransmitLent.{OwnLendsAreKnown};
 ghost use Rattle.ring_laws.specs.Off.{OffStays, GuardIsOff};
 ghost use Rattle.ring_laws.specs.TransmitUp.{UpStays};
-ghost use Rattle.ring_laws.specs.Laws.{StepsOfQueueKeep, SparingEventsKeep, LeftAloneIsSpared, MovesKeep, SentIsPrefix, IdleIsAllSent, WaitingIsNotAllSent};
+ghost use Rattle.ring_laws.specs.Laws.{StepsOfQueueKeep, SparingEventsKeep, LeftAloneIsSpared, MovesKeep};
+ghost use Rattle.ring_laws.specs.Laws.{SentIsPrefix, IdleIsAllSent, WaitingIsNotAllSent};
 
 /// A step of transmitting of the driver's own queue keeps what device and driver agree on, with the frame that it
 /// sends: the next packet that was accepted and not sent, or none.

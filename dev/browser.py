@@ -1,0 +1,124 @@
+"""A headless Chromium that a check drives: it loads a page, presses keys, asks for values and takes pictures.
+
+It is spoken to over two pipes, in JSON messages that end in a zero byte (`--remote-debugging-pipe`).
+"""
+
+from __future__ import annotations
+
+import base64
+import json
+import os
+import shutil
+import subprocess
+import tempfile
+from pathlib import Path
+from typing import Any
+
+KEYS = {"ArrowRight": 39, "ArrowLeft": 37, "End": 35, "Home": 36, "PageDown": 34, "PageUp": 33}
+
+
+def browser_program() -> str | None:
+    """Where Chromium lies, if it is installed."""
+    return shutil.which("chromium") or shutil.which("chromium-browser") or shutil.which("google-chrome")
+
+
+class Browser:
+    """One tab. `errors` has what its console said of errors and warnings."""
+
+    def __init__(self) -> None:
+        found = browser_program()
+        assert found is not None
+        self.folder = tempfile.mkdtemp()
+        read_in, self.write = os.pipe()
+        self.read, write_out = os.pipe()
+        flags = [
+            "--headless=new",
+            "--no-sandbox",
+            "--disable-gpu",
+            "--remote-debugging-pipe",
+            f"--user-data-dir={self.folder}",
+            "about:blank",
+        ]
+        # Chromium reads from 3 and writes to 4; high numbers first, so that neither is written over.
+        starter = f"exec 3<&{read_in} 4>&{write_out}; exec {found} " + " ".join(flags)
+        self.process = subprocess.Popen(
+            ["bash", "-c", starter], pass_fds=(read_in, write_out), stdout=subprocess.DEVNULL, stderr=subprocess.DEVNULL
+        )
+        os.close(read_in)
+        os.close(write_out)
+        self.rest, self.count, self.loaded = b"", 0, False
+        self.errors: list[str] = []
+        target = self.ask("Target.createTarget", {"url": "about:blank"}, "")["targetId"]
+        self.session = self.ask("Target.attachToTarget", {"targetId": target, "flatten": True}, "")["sessionId"]
+        for domain in ("Page", "Runtime", "Log"):
+            self.ask(f"{domain}.enable")
+
+    def ask(self, method: str, words: dict[str, Any] | None = None, session: str | None = None) -> dict[str, Any]:
+        """Sends a message and waits for its answer."""
+        self.count += 1
+        message: dict[str, Any] = {"id": self.count, "method": method, "params": words or {}}
+        if (named := self.session if session is None else session) != "":
+            message["sessionId"] = named
+        os.write(self.write, json.dumps(message).encode() + b"\0")
+        while True:
+            answer = self._message()
+            if answer.get("id") == self.count:
+                assert "error" not in answer, answer
+                return answer["result"]
+
+    def _message(self) -> dict[str, Any]:
+        while b"\0" not in self.rest:
+            more = os.read(self.read, 1 << 20)
+            assert more, "Chromium ended"
+            self.rest += more
+        text, _, self.rest = self.rest.partition(b"\0")
+        message = json.loads(text)
+        method = message.get("method")
+        if method == "Page.loadEventFired":
+            self.loaded = True
+        elif method == "Runtime.exceptionThrown":
+            self.errors.append(
+                message["params"]["exceptionDetails"].get("exception", {}).get("description", "an exception")
+            )
+        elif method == "Log.entryAdded" and message["params"]["entry"]["level"] in ("error", "warning"):
+            self.errors.append(message["params"]["entry"]["text"])
+        return message
+
+    def size(self, width: int, height: int, dark: bool) -> None:
+        """The window, and whether the reader wants dark pages."""
+        self.ask(
+            "Emulation.setDeviceMetricsOverride",
+            {"width": width, "height": height, "deviceScaleFactor": 1, "mobile": False},
+        )
+        scheme = {"name": "prefers-color-scheme", "value": "dark" if dark else "light"}
+        self.ask("Emulation.setEmulatedMedia", {"features": [scheme]})
+
+    def load(self, path: Path, place: str = "") -> None:
+        """Loads a page anew and waits until it is there."""
+        for url in ("about:blank", path.resolve().as_uri() + place):
+            self.loaded = False
+            self.ask("Page.navigate", {"url": url})
+            while not self.loaded:
+                self._message()
+
+    def press(self, key: str) -> None:
+        code = KEYS.get(key, ord(key[0].upper()))
+        words = {"key": key, "windowsVirtualKeyCode": code} | ({"text": key} if len(key) == 1 else {})
+        self.ask("Input.dispatchKeyEvent", {"type": "keyDown", **words})
+        self.ask("Input.dispatchKeyEvent", {"type": "keyUp", "key": key, "windowsVirtualKeyCode": code})
+
+    def value(self, expression: str) -> Any:
+        """The value of an expression in the page."""
+        answer = self.ask("Runtime.evaluate", {"expression": expression, "returnByValue": True})
+        assert "exceptionDetails" not in answer, answer
+        return answer["result"].get("value")
+
+    def picture(self, path: Path, whole: bool = False) -> None:
+        """Takes a picture of the window, or of the whole page."""
+        answer = self.ask("Page.captureScreenshot", {"format": "png", "captureBeyondViewport": whole})
+        path.write_bytes(base64.b64decode(answer["data"]))
+
+    def close(self) -> None:
+        self.ask("Browser.close", session="")
+        self.process.wait()
+        shutil.rmtree(self.folder, ignore_errors=True)

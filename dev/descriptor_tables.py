@@ -1,0 +1,166 @@
+#!/usr/bin/env python3
+"""Writes the tables of docs/DESCRIPTORS.md that stand in the sources, each between its two marks.
+
+    dev/descriptor_tables.py            rewrites the page
+    dev/descriptor_tables.py --check    says whether the page is stale, and ends with status 1 if it is
+
+The bits of descriptors are the constants of crates/dma_ring/src, the types of hashes and the bits of MRQC those of
+crates/rss_hash/specs, and the offsets of virtual functions those of dev/vf_map_table.py. The text around them is the
+page's own.
+"""
+
+import re
+import sys
+
+sys.dont_write_bytecode = True
+from register_table import ROOT  # noqa: E402
+from vf_map_table import rows_of_offsets  # noqa: E402
+
+PAGE = ROOT / "docs/DESCRIPTORS.md"
+END = "<!-- end of the generated table -->\n"
+
+
+def text_of(path):
+    return (ROOT / path).read_text()
+
+
+def bits_in(path):
+    """The numbers of bits that a source names, by their names."""
+    return {name: int(bit) for name, bit in re.findall(r"^const (\w+): u32 = (\d+);", text_of(path), re.M)}
+
+
+def arms(name, path):
+    """The right sides of a definition by cases, by the cases' names."""
+    return dict(re.findall(rf"^{name} (?:mrqc )?(\w+)(?: input| flow)? = (.+)$", text_of(path), re.M))
+
+
+def table(heads, rows):
+    rule = "|---" * len(heads) + "|\n"
+    lines = ["| " + " | ".join(cells) + " |\n" for cells in [heads, *rows]]
+    return lines[0] + rule + "".join(lines[1:])
+
+
+def span(low, width):
+    """The numbers of a field's bits, the highest first."""
+    return str(low) if width == 1 else f"{low + width - 1}:{low}"
+
+
+def receive_table():
+    """What the device writes back to a receive descriptor."""
+    bit = bits_in("crates/dma_ring/src/receive.rt")
+    first = [
+        (0, 4, "RSS type", "the code of what was hashed, by the table of types below"),
+        (bit["IPV4"], 1, "packet type: IPv4", "the frame is IPv4"),
+        (bit["IPV6"], 1, "packet type: IPv6", "the frame is IPv6"),
+        (bit["TCP"], 1, "packet type: TCP", "it has TCP ports"),
+        (bit["UDP"], 1, "packet type: UDP", "it has UDP ports"),
+        (bit["HASH"], 32, "RSS hash", "the hash; 0 unless RXCSUM bit 13 was 1 when the frame arrived"),
+    ]
+    second = [
+        (bit["DD"], 1, "DD", "1: the device is done with this descriptor"),
+        (bit["EOP"], 1, "EOP", "1: the frame ends in this buffer"),
+        (bit["PKT_LEN"], 16, "PKT_LEN", "how many bytes of the frame are in this buffer"),
+    ]
+    rows = [["first", span(low, width), name, told] for low, width, name, told in first]
+    rows += [["second", span(low, width), name, told] for low, width, name, told in second]
+    return table(["Half", "Bits", "Field", "Holds"], rows)
+
+
+def transmit_table():
+    """What a driver writes to the second half of a transmit descriptor."""
+    bit, own = bits_in("crates/dma_ring/src/transmit.rt"), bits_in("crates/dma_ring/src/driver.rt")
+    assert own["SENT"] == bit["DD"]
+    fields = [
+        (0, 16, "DTALEN", "how many bytes the buffer has"),
+        (bit["DTYP"], 4, "DTYP", "3: data; 2: context; any other is the fault `unknown type`"),
+        (bit["EOP"], 1, "EOP", "1: the frame ends with this buffer"),
+        (bit["RS"], 1, "RS", "1: the device reports when it is done (data alone)"),
+        (bit["DEXT"], 1, "DEXT", "1: an advanced descriptor; 0 is the fault `legacy`"),
+        (bit["VLE"], 1, "VLE", "VLAN insertion: 1 is the fault `offload`"),
+        (bit["TSE"], 1, "TSE", "segmentation: 1 is the fault `offload`"),
+        (bit["DD"], 1, "DD", "set by the device where it reports here"),
+        (bit["POPTS"], 6, "POPTS", "checksums to insert: other than 0 is the fault `offload`"),
+        (own["PAYLEN"], 18, "PAYLEN", "the length of the frame: no effect"),
+    ]
+    return table(["Bits", "Field", "Meaning"], [[span(low, width), name, told] for low, width, name, told in fields])
+
+
+# What frames a type of hash is for, and what its part of the input is called.
+FRAMES = {
+    "NoHash": "none of the below",
+    "TcpIpv4": "TCP over IPv4",
+    "Ipv4": "IPv4",
+    "TcpIpv6": "TCP over IPv6",
+    "Ipv6": "IPv6",
+    "UdpIpv4": "UDP over IPv4",
+    "UdpIpv6": "UDP over IPv6",
+}
+PARTS = {
+    "[]": "nothing: the hash is 0",
+    "input": "source and destination address, source and destination port",
+    "take 8 input": "source and destination address",
+    "take 32 input": "source and destination address",
+}
+
+
+def type_table():
+    """The types of hashes: code, frames, bit of MRQC, what is hashed."""
+    choice = "crates/rss_hash/specs/Choice.antt"
+    codes, parts, enabled = arms("code_of", choice), arms("hashed_part", choice), arms("is_enabled", choice)
+    assert codes.keys() == parts.keys() == enabled.keys() == FRAMES.keys()
+    rows = []
+    for name, code in codes.items():
+        bit = re.fullmatch(r"enables mrqc (\d+)", enabled[name])
+        rows.append([code, FRAMES[name], bit.group(1) if bit else "", PARTS[parts[name]]])
+    return table(["RSS type", "Frame", "MRQC bit", "Hashed, in network order"], rows)
+
+
+def name_in_a_function(name):
+    """What drivers of virtual functions call a register: VF in front, or VT of the function's interrupts."""
+    own = ("PVFCTRL", "VFCTRL"), ("PVFMAILBOX", "VFMAILBOX"), ("PFMB", "VFMB"), ("PVTE", "VTE"), ("PVTIVAR", "VTIVAR")
+    for old, new in own:
+        if name.startswith(old):
+            return new + name[len(old) :]
+    return name if name.startswith("VF") else "VF" + name
+
+
+def offset_table():
+    """A function's registers: offset, the name in its drivers, the register of the device."""
+    rows = []
+    for offset, register in rows_of_offsets():
+        name = name_in_a_function(register.split("[")[0])
+        rows.append([offset, name + ("(x)" if "x" in offset[2:] else ""), register])
+    return table(["Offset", "Name", "Register"], rows)
+
+
+TABLES = {
+    "receive descriptors": receive_table,
+    "transmit descriptors": transmit_table,
+    "types of hashes": type_table,
+    "offsets of a function": offset_table,
+}
+
+
+def page(text):
+    """The page, with each of its generated tables replaced."""
+    for name, make in TABLES.items():
+        start = f"<!-- {name}: generated by dev/descriptor_tables.py -->\n"
+        before, rest = text.split(start)
+        text = before + start + make() + END + rest.split(END, 1)[1]
+    return text
+
+
+def main():
+    only_check = "--check" in sys.argv
+    old = PAGE.read_text()
+    new = page(old)
+    if new == old:
+        return
+    print("stale:" if only_check else "written:", PAGE.relative_to(ROOT))
+    if only_check:
+        sys.exit(1)
+    PAGE.write_text(new)
+
+
+if __name__ == "__main__":
+    main()

@@ -1,0 +1,154 @@
+/* A library that dev/refusals puts in front of the C library's: it refuses one growth, one thread, or one read or
+   write of the program that it is loaded into, by its number, and tells at the end what it saw.
+
+   REFUSE_GROWTH, REFUSE_THREAD, FAIL_IO and SHORT_IO are numbers, counted from 1. Where REFUSE_WITHIN is set, growths
+   count only behind a line `call` and before the line that follows it, on standard output. At the end a line goes to
+   the file descriptor REFUSE_TELL: how many growths, threads, reads and writes there were, whether one was refused, and
+   how many blocks of memory weren't given back. */
+#define _GNU_SOURCE
+#include <dlfcn.h>
+#include <errno.h>
+#include <pthread.h>
+#include <stdatomic.h>
+#include <stdio.h>
+#include <stdlib.h>
+#include <string.h>
+#include <sys/syscall.h>
+#include <unistd.h>
+
+extern void *__libc_malloc(size_t), *__libc_calloc(size_t, size_t), *__libc_realloc(void *, size_t);
+extern void __libc_free(void *);
+
+static atomic_long growths, threads, transfers, refused, held;
+static long refuse_growth, refuse_thread, fail_io, short_io;
+static int within, tell = -1, ready;
+static atomic_int counting;
+
+static long number(const char *name) {
+    const char *text = getenv(name);
+    return text ? atol(text) : 0;
+}
+
+__attribute__((constructor)) static void begin(void) {
+    refuse_growth = number("REFUSE_GROWTH");
+    refuse_thread = number("REFUSE_THREAD");
+    fail_io = number("FAIL_IO");
+    short_io = number("SHORT_IO");
+    within = getenv("REFUSE_WITHIN") != NULL;
+    tell = getenv("REFUSE_TELL") ? (int)number("REFUSE_TELL") : -1;
+    counting = !within;
+    ready = 1;
+}
+
+__attribute__((destructor)) static void finish(void) {
+    char line[200];
+    int length = snprintf(line, sizeof line, "growths %ld threads %ld transfers %ld refused %ld held %ld\n", growths,
+                          threads, transfers, refused, held);
+    counting = 0;
+    if (tell >= 0)
+        syscall(SYS_write, tell, line, length);
+    tell = -1;
+}
+
+/* A program with threads ends by this, and nothing that is registered for its end is called. */
+__attribute__((noreturn)) void _exit(int status) {
+    finish();
+    syscall(SYS_exit_group, status);
+    __builtin_unreachable();
+}
+
+/* Whether this growth is the one that is refused. */
+static int is_refused(void) {
+    if (!ready || !counting || ++growths != refuse_growth)
+        return 0;
+    refused++;
+    errno = ENOMEM;
+    return 1;
+}
+
+void *malloc(size_t size) {
+    if (is_refused())
+        return NULL;
+    void *block = __libc_malloc(size);
+    held += block != NULL;
+    return block;
+}
+
+void *calloc(size_t count, size_t size) {
+    void *block = __libc_calloc(count, size);
+    held += block != NULL;
+    return block;
+}
+
+void *realloc(void *former, size_t size) {
+    if (is_refused())
+        return NULL;
+    void *block = __libc_realloc(former, size);
+    held += former == NULL && block != NULL;
+    return block;
+}
+
+void free(void *block) {
+    held -= block != NULL;
+    __libc_free(block);
+}
+
+int pthread_create(pthread_t *thread, const pthread_attr_t *how, void *(*start)(void *), void *of) {
+    static int (*real)(pthread_t *, const pthread_attr_t *, void *(*)(void *), void *);
+    if (!real)
+        *(void **)&real = dlsym(RTLD_NEXT, "pthread_create");
+    if (++threads == refuse_thread) {
+        refused++;
+        return EAGAIN;
+    }
+    return real(thread, how, start, of);
+}
+
+/* What becomes of a transfer of so many bytes: -1 where it fails, else how many of them are asked for. */
+static ssize_t asked(size_t count) {
+    long this = ++transfers;
+    if (this == fail_io) {
+        refused++;
+        errno = EIO;
+        return -1;
+    }
+    if (this == short_io && count > 1) {
+        refused++;
+        return 1;
+    }
+    return (ssize_t)count;
+}
+
+ssize_t read(int file, void *bytes, size_t count) {
+    static ssize_t (*real)(int, void *, size_t);
+    if (!real)
+        *(void **)&real = dlsym(RTLD_NEXT, "read");
+    ssize_t some = asked(count);
+    return some < 0 ? some : real(file, bytes, (size_t)some);
+}
+
+/* Growths count behind a line `call` and before the next line. */
+static void look(const char *bytes, size_t count) {
+    static char line[8];
+    static size_t length;
+    for (size_t at = 0; at < count; at++) {
+        if (bytes[at] != '\n') {
+            if (length < sizeof line)
+                line[length++] = bytes[at];
+            counting = 0;
+            continue;
+        }
+        counting = length == 4 && memcmp(line, "call", 4) == 0;
+        length = 0;
+    }
+}
+
+ssize_t write(int file, const void *bytes, size_t count) {
+    static ssize_t (*real)(int, const void *, size_t);
+    if (!real)
+        *(void **)&real = dlsym(RTLD_NEXT, "write");
+    if (within && file == 1)
+        look(bytes, count);
+    ssize_t some = asked(count);
+    return some < 0 ? some : real(file, bytes, (size_t)some);
+}

@@ -1,0 +1,98 @@
+# shellcheck shell=bash
+# Sources of Debian packages, for the runs of drivers; read by drivers/dpdk/run and drivers/ixgbe/run.
+#
+# Lists, cache and source lines are in a folder of these runs' own, so the system's apt stays as it is and root isn't
+# needed. NAME is what messages begin with, WORK the folder.
+
+WORK=${DRIVERS_WORK:-${XDG_CACHE_HOME:-$HOME/.cache}/zinggapul-drivers}
+
+say() { echo "$NAME: $*" >&2; }
+die() { say "$@"; exit 2; }
+
+# Whether what is needed is installed: words are COMMAND:PACKAGE.
+need() {
+    for pair in "$@"; do
+        command -v "${pair%%:*}" >/dev/null || die "${pair%%:*} isn't there: apt-get install ${pair##*:}"
+    done
+}
+
+# The system's lines for Debian's archives, with source lines beside them.
+write_sources() {
+    local at=$WORK/apt file
+    rm -rf "$at/parts"
+    mkdir -p "$at/parts" "$at/lists/partial" "$at/cache/archives/partial"
+    for file in /etc/apt/sources.list /etc/apt/sources.list.d/*.list; do
+        [ -f "$file" ] || continue
+        sed -nE '/debian/{s/^deb(-src)?([ \t])/deb\2/p;s/^deb([ \t])/deb-src\1/p}' "$file" | sort -u \
+            >"$at/parts/$(basename "$file" .list).list"
+    done
+    for file in /etc/apt/sources.list.d/*.sources; do
+        { [ -f "$file" ] && grep -q debian "$file"; } || continue
+        sed -E 's/^Types:.*/Types: deb deb-src/' "$file" >"$at/parts/$(basename "$file")"
+    done
+    cat >"$at/apt.conf" <<CONF
+Dir::Etc::sourcelist "/dev/null";
+Dir::Etc::sourceparts "$at/parts";
+Dir::State::lists "$at/lists";
+Dir::Cache "$at/cache";
+APT::Sandbox::User "";
+CONF
+    export APT_CONFIG=$at/apt.conf
+}
+
+# Debian's lists, once a day.
+update() {
+    write_sources
+    [ -n "$(find "$WORK/apt/updated" -mmin -1440 2>/dev/null)" ] && return
+    say "reading Debian's lists"
+    apt-get -qq update || die "Debian's lists can't be read"
+    touch "$WORK/apt/updated"
+}
+
+# get_source PACKAGE VERSION: the package's source, unpacked, in $WORK/PACKAGE-VERSION, whose name it prints.
+get_source() {
+    local to=$WORK/$1-$2
+    if [ ! -e "$to/unpacked" ]; then
+        update
+        rm -rf "$to"
+        mkdir -p "$to"
+        say "getting the source of $1 $2"
+        (cd "$to" && apt-get -qq source "$1=$2" >"$to/log" 2>&1) || die "no source of $1 $2: see $to/log"
+        mv "$to"/*/ "$to/source" || die "the source of $1 isn't one folder: see $to"
+        touch "$to/unpacked"
+    fi
+    echo "$to/source"
+}
+
+# get_package PACKAGE: the newest package, not installed but unpacked in $WORK/PACKAGE, whose name it prints.
+get_package() {
+    local to=$WORK/$1
+    if [ ! -e "$to/unpacked" ]; then
+        update
+        rm -rf "$to"
+        mkdir -p "$to"
+        say "getting the package $1"
+        (cd "$to" && apt-get -qq download "$1" >"$to/log" 2>&1 && dpkg-deb -x ./*.deb . && rm ./*.deb) \
+            || die "no package $1: see $to/log"
+        touch "$to/unpacked"
+    fi
+    echo "$to"
+}
+
+# Installs a package where it isn't: by root alone.
+install_package() {
+    dpkg -s "$1" >/dev/null 2>&1 && return
+    [ "$(id -u)" = 0 ] || die "$1 isn't there: apt-get install $1, as root"
+    update
+    say "installing $1"
+    DEBIAN_FRONTEND=noninteractive apt-get -qq -y --no-install-recommends install "$1" >"$WORK/install.log" 2>&1 \
+        || die "$1 can't be installed: see $WORK/install.log"
+}
+
+# The C library: its header's folder and the archive.
+find_library() {
+    INCLUDE=${NIC82599_INCLUDE:-$ROOT/c/include}
+    LIBRARY=${NIC82599_ARCHIVE:-$ROOT/c/out/libnic82599.a}
+    [ -f "$LIBRARY" ] || die "$LIBRARY isn't there: make -C c makes it (README.md)"
+    [ -f "$INCLUDE/nic82599.h" ] || die "$INCLUDE/nic82599.h isn't there"
+}

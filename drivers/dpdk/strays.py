@@ -1,0 +1,172 @@
+#!/usr/bin/env python3
+"""Tells the registers outside the bench's table that a driver touched, by families.
+
+    drivers/dpdk/strays.py FILE
+
+FILE has a line for each address: the address, how often it was read and written, the last word written, and in which
+phases of the run. Printed are the families that hold them, by the datasheet's names; the status is 1 where an address
+is in none.
+"""
+
+from __future__ import annotations
+
+import sys
+from pathlib import Path
+from typing import NamedTuple
+
+# name, first address and step in hex, count
+FAMILIES = """
+EIMC_EX[1]          00AB4
+DCA_RXCTRL[0..15]   02200 4 16
+DCA_RXCTRL[16..63]  0140C 40 48
+DCA_RXCTRL[64..127] 0D00C 40 64
+QBRC_L              01034 40 16
+QBRC_H              01038 40 16
+FCOERPDC            0241C
+FCLAST              02424
+FCOEPRC             02428
+FCOEDWRC            0242C
+FCTTV               03200 4 4
+FCRTL               03220 4 8
+PXON2OFFCNT         03240 4 8
+FCRTH               03260 4 8
+FCRTV               032A0
+RXPBSIZE            03C00 4 8
+FCCFG               03D00
+PXONTXC             03F00 4 8
+PXOFFTXC            03F20 4 8
+LXONTXC             03F60
+LXOFFTXC            03F68
+MPC[1..7]           03FA4 4 7
+CRCERRS             04000
+ILLERRC             04004
+ERRBC               04008
+MSPDC               04010
+MLFC                04034
+MRFC                04038
+RLEC                04040
+PRC64 to PRC1522    0405C 4 6
+BPRC                04078
+MPRC                0407C
+GORCL, GORCH        04088 4 2
+GOTCL, GOTCH        04090 4 2
+RFC                 040A8
+RJC                 040B0
+MNGPRC              040B4
+MNGPDC              040B8
+TORL, TORH          040C0 4 2
+TPR                 040D0
+TPT                 040D4
+PTC64 to PTC1522    040D8 4 6
+MPTC                040F0
+BPTC                040F4
+XEC                 04120
+PXONRXCNT           04140 4 8
+PXOFFRXCNT          04160 4 8
+LXONRXCNT           041A4
+LXOFFRXCNT          041A8
+PCS1GLCTL           04208
+PCS1GANA            04218
+MSCA                0425C
+MSRWD               04260
+MFLCN               04294
+AUTOC2              042A8
+ANLP1               042B0
+MMNGC               042D0
+RTTDCS              04900
+RTTDQSEL            04904
+RTTBCNRC            04984
+RFCTL               05008
+VLNCTRL             05088
+FCCRC               05118
+DCA_TXCTRL          0600C 40 128
+PFDTXGSWC           08220
+QBTC_L, QBTC_H      08700 4 32
+FCOEPTC             08784
+FCOEDWTC            08788
+LSECTX..            08A3C 4 5
+SECRXCTRL           08D00
+SECRXSTAT           08D04
+LSECRX..            08F40 4 17
+VFTA                0A000 4 128
+MNGPTC              0CF90
+FDIRUSTAT           0EE50
+FDIRFSTAT           0EE54
+FDIRMATCH           0EE58
+FDIRMISS            0EE5C
+VLVF                0F100 4 64
+VLVFB               0F200 4 128
+UTA                 0F400 4 128
+SWSM                10140
+FWSM                10148
+FACTPS              10150
+SW_FW_SYNC          10160
+"""
+
+
+class Family(NamedTuple):
+    """Registers of one name, count of them, at equal steps."""
+
+    name: str
+    first: int
+    step: int
+    count: int
+
+    def addresses(self) -> range:
+        return range(self.first, self.first + self.step * self.count, self.step)
+
+    def where(self) -> str:
+        return f"0x{self.first:05X}" + (f" + 0x{self.step:02X}*i, i below {self.count}" if self.count > 1 else "")
+
+
+class Touched(NamedTuple):
+    """What became of one address."""
+
+    reads: int
+    writes: int
+    phases: tuple[str, ...]
+
+
+def families() -> list[Family]:
+    found = []
+    for line in FAMILIES.strip().splitlines():
+        name, numbers = line[:20].strip(), line[20:].split()
+        step, count = (int(numbers[1], 16), int(numbers[2])) if len(numbers) > 1 else (4, 1)
+        found.append(Family(name, int(numbers[0], 16), step, count))
+    return found
+
+
+def touched(path: Path) -> dict[int, Touched]:
+    lines = (line.split() for line in path.read_text(encoding="ascii").splitlines())
+    return {int(it[0], 16): Touched(int(it[1]), int(it[2]), tuple(it[4:])) for it in lines}
+
+
+def span(numbers: list[int]) -> str:
+    low, high = min(numbers), max(numbers)
+    return str(low) if low == high else f"{low} to {high}"
+
+
+def main(words: list[str]) -> int:
+    if len(words) != 1:
+        print("drivers/dpdk/strays.py FILE", file=sys.stderr)
+        return 3
+    left = touched(Path(words[0]))
+    total, rows = len(left), 0
+    print("of each address how often it was read and written, and in which phases")
+    print(f"{'register':20} {'addresses':34} {'many':>4}  {'reads':7} {'writes':7} in")
+    for family in families():
+        found = [left.pop(address) for address in family.addresses() if address in left]
+        if not found:
+            continue
+        rows += 1
+        phases = [phase for phase in dict.fromkeys(phase for it in found for phase in it.phases)]
+        print(f"{family.name:20} {family.where():34} {len(found):4}  {span([it.reads for it in found]):7} "
+              f"{span([it.writes for it in found]):7} {' '.join(phases)}")
+    for address, it in left.items():
+        print(f"in no family: 0x{address:05X}, {it.reads} reads, {it.writes} writes, in {' '.join(it.phases)}")
+    print(f"{total} addresses in {rows} families, {len(left)} in none")
+    return 1 if left else 0
+
+
+if __name__ == "__main__":
+    sys.exit(main(sys.argv[1:]))

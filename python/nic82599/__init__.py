@@ -1,0 +1,764 @@
+"""The proved model of the Intel 82599 10 GbE controller in Python: the C library c/include/nic82599.h by ctypes.
+
+    >>> from nic82599 import Nic
+    >>> with Nic() as nic:
+    ...     nic["RXCTRL"] = 1
+    ...     nic["RDT[3]"], hex(nic["SRRCTL[3]"]), nic.peek("GPRC")
+    (0, '0x402', 0)
+
+A `Nic` is a controller after a power-up. Registers go by the names of docs/REGISTERS.md or by address, packet memory by
+bus address (`nic.memory[0x800:0x83c]`), frames come in by `arrive` and out by `collect`, and the device acts in steps:
+`settle` makes all that have something to do. What a call refuses is an exception that is named for it, and leaves the
+device as it was; what the device tells is a small dataclass.
+
+The library is looked for in this order: where the variable NIC82599_LIBRARY says; beside this file; in c/out of the
+repository, where `make -C c` puts it. Calls hold the interpreter's lock, so the calls of several threads come one after
+the other.
+"""
+
+from __future__ import annotations
+
+import ctypes
+import operator
+import os
+import re
+from collections.abc import Iterable
+from dataclasses import dataclass
+from difflib import get_close_matches
+from functools import cache
+from pathlib import Path
+from typing import NamedTuple
+
+from .pcap import NoCapture, read_pcap, write_pcap
+from .registers import FIELDS, OFFSETS, REGISTERS
+
+__all__ = [
+    "Advanced", "BadBlocks", "BadFifo", "Closed", "Done", "Dropped", "Event", "Fault", "Frame", "Function",
+    "ImageRefused", "LibraryMissing", "Memory", "Message", "Nic", "NicError", "NoBlock", "NoCapture", "NoGroup",
+    "NoQueue", "NoSuchRegister", "NotLent", "OutOfMemory", "Sent", "Snapshot", "Stray", "TextRefused", "TooLong",
+    "TooManyVfs", "Word", "Wrote", "address_of", "fields_of", "offset_of", "read_pcap", "rss_hash", "write_pcap",
+]  # fmt: skip
+
+BLOCK_BYTES = 2048
+QUEUES = 128
+_LONGEST = 16_384
+
+
+# --- refusals ---
+
+
+class NicError(Exception):
+    """A call was refused, and nothing is changed."""
+
+
+class LibraryMissing(NicError):
+    """The C library isn't there, or isn't one."""
+
+
+class Closed(NicError):
+    """The controller was closed, or the snapshot dropped."""
+
+
+class OutOfMemory(NicError, MemoryError):
+    """There was no memory."""
+
+
+class TooManyVfs(NicError, ValueError):
+    """A controller has 63 virtual functions at most."""
+
+
+class BadFifo(NicError, ValueError):
+    """From 1 to 4,096 frames may wait."""
+
+
+class BadBlocks(NicError, ValueError):
+    """Packet memory has 1 to 65,536 blocks."""
+
+
+class NoBlock(NicError, IndexError):
+    """No block of this number is in hand: it is lent, or there is none."""
+
+
+class NotLent(NicError, IndexError):
+    """A block of this number, or of one of these bus addresses, isn't lent."""
+
+
+class NoQueue(NicError, IndexError):
+    """There are 128 queues."""
+
+
+class NoGroup(NicError, IndexError):
+    """There is no such virtual function, or the mode has no pool for it."""
+
+
+class TooLong(NicError, ValueError):
+    """The input of a hash has 36 bytes at most."""
+
+
+class NoSuchRegister(NicError, KeyError):
+    """No register has this name, or this index of it."""
+
+    def __str__(self) -> str:
+        return str(self.args[0])
+
+
+class Stray(NicError, LookupError):
+    """An access that meets no register. `word` is what a driver reads there, None where nothing was read."""
+
+    def __init__(self, at: int, word: int | None = None) -> None:
+        super().__init__(f"0x{at:05x} names no register" + ("" if word is None else f", and reads as 0x{word:08x}"))
+        self.word = word
+
+
+class ImageRefused(NicError, ValueError):
+    """The bytes are no EEPROM image: the argument says why."""
+
+
+class TextRefused(NicError, ValueError):
+    """The text means no EEPROM image: the argument says why, and `at` the line or the index where it tells one."""
+
+    def __init__(self, why: str, at: int) -> None:
+        super().__init__(f"{why} at {at}" if at else why)
+        self.why, self.at = why, at
+
+
+# --- what the device tells ---
+
+
+class Word(NamedTuple):
+    """What a read gives: the word, and whether the access met no register."""
+
+    word: int
+    stray: bool
+
+
+@dataclass(frozen=True)
+class Done:
+    """A side of a queue went on or off, or the EEPROM gave a word. `step` is `qstep rx`, `qstep tx` or `eestep`."""
+
+    step: str
+    queue: int
+
+
+@dataclass(frozen=True)
+class Dropped:
+    """A frame was dropped, in the words of docs/GUIDE.md: `link down`, `filter`, `no slot` and so on."""
+
+    why: str
+
+
+@dataclass(frozen=True)
+class Wrote:
+    """A piece of a frame was written: `length` bytes at bus address `at`, told in the descriptor at `descriptor`."""
+
+    queue: int
+    slot: int
+    end: bool
+    descriptor: int
+    at: int
+    length: int
+
+
+@dataclass(frozen=True)
+class Advanced:
+    """A transmit slot was fetched, and no frame went out. `back` is where something was written back, if it was."""
+
+    queue: int
+    slot: int
+    back: int | None
+
+
+@dataclass(frozen=True)
+class Sent:
+    """A frame of `length` bytes went out. `back` is where something was written back, if it was."""
+
+    queue: int
+    length: int
+    back: int | None
+
+
+@dataclass(frozen=True)
+class Fault:
+    """A slot can't be processed, and its side of the queue, `rx` or `tx`, went off. `bus` is the address that isn't
+    lent, if that is why."""
+
+    side: str
+    queue: int
+    why: str
+    bus: int | None
+
+
+@dataclass(frozen=True)
+class Message:
+    """An interrupt message, of the physical function (`function` is None) or of a virtual one."""
+
+    function: int | None
+    vector: int
+
+
+@dataclass(frozen=True)
+class Frame:
+    """A frame that went out, and its queue."""
+
+    queue: int
+    data: bytes
+
+
+Event = Done | Dropped | Wrote | Advanced | Sent | Fault | Message
+
+
+# --- the C side ---
+
+
+class _Handle(ctypes.Structure):
+    _fields_ = [("device", ctypes.c_void_p)]
+
+
+class _Kept(ctypes.Structure):
+    _fields_ = [("kept", ctypes.c_void_p)]
+
+
+class _Told(ctypes.Structure):
+    _fields_ = [
+        ("desc", ctypes.c_uint64),
+        ("at", ctypes.c_uint64),
+        ("len", ctypes.c_uint64),
+        ("bus", ctypes.c_uint64),
+        ("queue", ctypes.c_uint16),
+        ("slot", ctypes.c_uint16),
+        ("group", ctypes.c_uint16),
+        ("of", ctypes.c_uint16),
+        ("status", ctypes.c_uint8),
+        ("step", ctypes.c_uint8),
+        ("end", ctypes.c_uint8),
+        ("back", ctypes.c_uint8),
+        ("why", ctypes.c_uint8),
+        ("vector", ctypes.c_uint8),
+    ]
+
+
+_DONE, _STRAY, _IDLE, _DROPPED, _WROTE, _ADVANCED, _SENT, _FAULT, _MESSAGE, _FRAME = range(10)
+_MORE = 38
+_REFUSALS: dict[int, type[NicError]] = {
+    16: NotLent, 18: NoQueue, 19: NoGroup, 32: OutOfMemory, 33: TooLong, 34: TooManyVfs, 35: BadFifo, 36: BadBlocks,
+    37: NoBlock,
+}  # fmt: skip
+_IMAGE = {65: "OddLength", 66: "BadSize", 67: "SectionOutside", 68: "BadChecksum", 69: "NotTriples"}
+_TEXT = {97: "Syntax", 98: "TwoValues", 99: "Reserved", 100: "DoesNotFit", 101: "PointerOutside", 102: "Input"}
+_WHYS = ("", "link down", "off", "short", "long", "filter", "no pool", "pool off", "full", "queue off", "no slot")
+_FAULTS = ("", "outside", "not lent", "type", "no buffer size", "offload", "legacy", "too long", "unknown type")
+_STEPS = ("qstep rx", "qstep tx", "eestep", "tx", "rx", "int")
+
+_U8, _U16, _U32, _U64, _SIZE = ctypes.c_uint8, ctypes.c_uint16, ctypes.c_uint32, ctypes.c_uint64, ctypes.c_size_t
+_BYTES, _AT, _BOOL = ctypes.c_void_p, ctypes.c_void_p, ctypes.c_bool
+_NIC, _KEPT = ctypes.POINTER(_Handle), ctypes.POINTER(_Kept)
+_CALLS: dict[str, list[object]] = {
+    "nic_new": [_U8, _U16, _U32, _AT],
+    "nic_snapshot": [_NIC, _KEPT],
+    "nic_restore": [_NIC, _KEPT],
+    "nic_read32": [_NIC, _U32, _AT],
+    "nic_write32": [_NIC, _U32, _U32],
+    "nic_vf_read32": [_NIC, _U8, _U32, _AT],
+    "nic_vf_write32": [_NIC, _U8, _U32, _U32],
+    "nic_peek32": [_NIC, _U32, _AT],
+    "nic_vf_peek32": [_NIC, _U8, _U32, _AT],
+    "nic_lend": [_NIC, _U32],
+    "nic_take": [_NIC, _U32],
+    "nic_lend_all": [_NIC],
+    "nic_dma_read": [_NIC, _U64, _BYTES, _SIZE],
+    "nic_dma_write": [_NIC, _U64, _BYTES, _SIZE],
+    "nic_arrive": [_NIC, _BYTES, _SIZE, _AT],
+    "nic_collect": [_NIC, _BYTES, _SIZE, _AT],
+    "nic_link": [_NIC, _BOOL],
+    "nic_rx_step": [_NIC, _AT],
+    "nic_tx_step": [_NIC, _U16, _AT],
+    "nic_queue_step": [_NIC, _BOOL, _U16, _AT],
+    "nic_eeprom_step": [_NIC, _AT],
+    "nic_int_step": [_NIC, _U8, _AT],
+    "nic_settle": [_NIC, _U16, _AT, _SIZE, _AT],
+    "nic_install_image": [_NIC, _BYTES, _SIZE],
+    "nic_install_text": [_NIC, _BYTES, _SIZE, _AT],
+    "nic_hash": [_BYTES, _BYTES, _SIZE, _AT],
+}
+
+
+def _library_path() -> Path:
+    """Where the library is; LibraryMissing where it isn't."""
+    told = os.environ.get("NIC82599_LIBRARY")
+    here = Path(__file__).resolve().parent
+    places = [Path(told)] if told else [here / "libnic82599.so", here.parents[1] / "c/out/libnic82599.so"]
+    for place in places:
+        if place.exists():
+            return place
+    looked = " and ".join(str(place) for place in places)
+    raise LibraryMissing(
+        f"no C library at {looked}: dev/prove nic82599_c and then make -C c build it; NIC82599_LIBRARY names another"
+    )
+
+
+_loaded: dict[Path, ctypes.PyDLL] = {}
+
+
+def _library(path: str | os.PathLike[str] | None = None) -> ctypes.PyDLL:
+    """The library, which is loaded once."""
+    place = Path(path) if path is not None else _library_path()
+    if place not in _loaded:
+        try:
+            library = ctypes.PyDLL(str(place))
+            for name, takes in _CALLS.items():
+                call = getattr(library, name)
+                call.argtypes, call.restype = takes, ctypes.c_uint8
+            library.nic_next_out.argtypes, library.nic_next_out.restype = [_NIC], ctypes.c_size_t
+            library.nic_free.argtypes, library.nic_free.restype = [_Handle], None
+            library.nic_free_snapshot.argtypes, library.nic_free_snapshot.restype = [_Kept], None
+        except (OSError, AttributeError) as fault:
+            raise LibraryMissing(f"{place} is no library of the controller: {fault}") from fault
+        _loaded[place] = library
+    return _loaded[place]
+
+
+def _refused(status: int, text: str) -> NicError:
+    kind = _REFUSALS.get(status)
+    return kind(f"{kind.__doc__} ({text})") if kind else NicError(f"status {status} of {text}")
+
+
+def _whole(value: int, bits: int, what: str) -> int:
+    """A number that fits so many bits: ctypes would cut it off."""
+    number = operator.index(value)
+    if not 0 <= number < 1 << bits:
+        raise ValueError(f"{what} {number} is no number of {bits} bits")
+    return number
+
+
+# --- names ---
+
+_NAME = re.compile(r"(\w+?)(?:\[(\d+)\])?")
+
+
+def _no_name(name: str, names: Iterable[str]) -> NoSuchRegister:
+    near = get_close_matches(name.split("[")[0].upper(), list(names), 3, 0.6)
+    return NoSuchRegister(f"no register {name}" + (f"; there are {', '.join(near)}" if near else ""))
+
+
+@cache
+def address_of(name: str) -> int:
+    """The address of a register by its name, as `RDT[3]`; a name without an index is index 0. NoSuchRegister."""
+    found = _NAME.fullmatch(name.strip())
+    if not found or found[1] not in REGISTERS:
+        raise _no_name(name, REGISTERS)
+    index = int(found[2] or 0)
+    for first_index, first, stride, count in REGISTERS[found[1]]:
+        if first_index <= index < first_index + count:
+            return first + stride * (index - first_index)
+    count = sum(run[3] for run in REGISTERS[found[1]])
+    raise NoSuchRegister(f"no register {name}: {found[1]} has {count}")
+
+
+@cache
+def offset_of(name: str) -> int:
+    """The offset of a virtual function's register by its name, as `VFRDT[1]` or `VTEIMS`. NoSuchRegister."""
+    found = _NAME.fullmatch(name.strip())
+    if not found or found[1] not in OFFSETS:
+        raise _no_name(name, OFFSETS)
+    offset, stride = OFFSETS[found[1]]
+    index, last = int(found[2] or 0), 15 if found[1] == "VFMBMEM" else 7
+    if index and not stride or index > last:
+        raise NoSuchRegister(
+            f"no register {name}: a function has at most eight queues, 16 words of memory, and some registers once"
+        )
+    return offset + stride * index
+
+
+def fields_of(name: str, word: int) -> dict[str, int]:
+    """The fields of a register's word by the datasheet's names; a name of a register without fields gives none."""
+    fields = FIELDS.get(name.split("[")[0], {})
+    return {field: word >> low & (1 << high - low + 1) - 1 for field, (high, low) in fields.items()}
+
+
+def rss_hash(key: bytes, data: bytes) -> int:
+    """The hash of receive side scaling of at most 36 bytes by a key of 40. TooLong, ValueError."""
+    if len(key) != 40:
+        raise ValueError(f"a key of {len(key)} bytes, and not of 40")
+    word = ctypes.c_uint32()
+    status = _library().nic_hash(bytes(key), bytes(data), len(data), ctypes.byref(word))
+    if status != _DONE:
+        raise _refused(status, f"{len(data)} bytes")
+    return word.value
+
+
+class _Registers:
+    """Registers by name or number; what reads and writes them is given by the kind of function."""
+
+    # Else a loop over them would read them one by one.
+    __iter__ = None
+    __contains__ = None
+
+    def _at(self, name: str | int) -> int:
+        raise NotImplementedError
+
+    def read32(self, at: int) -> Word:
+        """Reads by number, with all effects of a read. It raises nothing where the access is stray."""
+        raise NotImplementedError
+
+    def write32(self, at: int, word: int) -> bool:
+        """Writes by number, and answers whether the access met a register."""
+        raise NotImplementedError
+
+    def peek32(self, at: int) -> int | None:
+        """What a read would give, without its effects; None where the number names no register."""
+        raise NotImplementedError
+
+    def __getitem__(self, name: str | int) -> int:
+        """Reads a register by name or number; Stray, NoSuchRegister."""
+        at = self._at(name)
+        word, stray = self.read32(at)
+        if stray:
+            raise Stray(at, word)
+        return word
+
+    def __setitem__(self, name: str | int, word: int) -> None:
+        """Writes a register by name or number; Stray, NoSuchRegister."""
+        at = self._at(name)
+        if not self.write32(at, word):
+            raise Stray(at)
+
+    def peek(self, name: str | int) -> int:
+        """What reading a register would give, without the effects of a read; Stray, NoSuchRegister."""
+        at = self._at(name)
+        word = self.peek32(at)
+        if word is None:
+            raise Stray(at)
+        return word
+
+
+class Function(_Registers):
+    """A virtual function of a controller, with its own registers by the names of docs/DESCRIPTORS.md."""
+
+    def __init__(self, nic: Nic, number: int) -> None:
+        self.nic, self.number = nic, number
+
+    def _at(self, name: str | int) -> int:
+        return offset_of(name) if isinstance(name, str) else _whole(name, 32, "offset")
+
+    def _read(self, call: str, at: int) -> Word:
+        word = ctypes.c_uint32()
+        status = self.nic._call(call, self.number, _whole(at, 32, "offset"), ctypes.byref(word))
+        return Word(word.value, status == _STRAY)
+
+    def read32(self, at: int) -> Word:
+        return self._read("nic_vf_read32", at)
+
+    def write32(self, at: int, word: int) -> bool:
+        given = _whole(word, 32, "word")
+        return self.nic._call("nic_vf_write32", self.number, _whole(at, 32, "offset"), given) == _DONE
+
+    def peek32(self, at: int) -> int | None:
+        word, stray = self._read("nic_vf_peek32", at)
+        return None if stray else word
+
+    def __repr__(self) -> str:
+        return f"<virtual function {self.number} of {self.nic!r}>"
+
+
+class Memory:
+    """Lent packet memory by bus address: `memory[a]` is a byte, `memory[a:b]` those from a up to b, which may be
+    written by as many bytes. NotLent where one of them isn't lent; then nothing is read or written."""
+
+    def __init__(self, nic: Nic) -> None:
+        self._nic = nic
+
+    def read(self, bus: int, length: int) -> bytes:
+        """So many bytes from a bus address on."""
+        room = ctypes.create_string_buffer(max(_whole(length, 32, "length"), 1))
+        self._nic._ask("nic_dma_read", _whole(bus, 64, "bus address"), room, length)
+        return room.raw[:length]
+
+    def write(self, bus: int, data: bytes) -> None:
+        """Writes bytes from a bus address on."""
+        given = bytes(data)
+        self._nic._ask("nic_dma_write", _whole(bus, 64, "bus address"), given, len(given))
+
+    def _range(self, part: slice) -> tuple[int, int]:
+        if part.start is None or part.stop is None or part.step is not None:
+            raise ValueError("a range of memory has two ends and no step: memory[0x800:0x83c]")
+        start, stop = operator.index(part.start), operator.index(part.stop)
+        if stop < start:
+            raise ValueError(f"a range of memory that ends before it begins: 0x{start:x} to 0x{stop:x}")
+        return start, stop - start
+
+    def __getitem__(self, at: int | slice) -> int | bytes:
+        if isinstance(at, slice):
+            return self.read(*self._range(at))
+        return self.read(at, 1)[0]
+
+    def __setitem__(self, at: int | slice, data: int | bytes) -> None:
+        if not isinstance(at, slice):
+            self.write(at, bytes([data]))
+            return
+        start, length = self._range(at)
+        if len(data) != length:
+            raise ValueError(f"{len(data)} bytes for a range of {length}")
+        self.write(start, data)
+
+
+class Snapshot:
+    """What `Nic.snapshot` keeps of a controller: all that it has. It ends by `drop`, or at the end of a `with`."""
+
+    def __init__(self, nic: Nic) -> None:
+        self._kept: _Kept | None = None
+        self._library = nic._library
+        self.vfs, self.fifo, self.blocks = nic.vfs, nic.fifo, nic.blocks
+        kept = _Kept()
+        nic._ask("nic_snapshot", ctypes.byref(kept))
+        self._kept = kept
+
+    def drop(self) -> None:
+        """Ends the snapshot with its memory; a second time it does nothing."""
+        kept, self._kept = self._kept, None
+        if kept is not None:
+            self._library.nic_free_snapshot(kept)
+
+    def __enter__(self) -> Snapshot:
+        return self
+
+    def __exit__(self, *_fault: object) -> None:
+        self.drop()
+
+    def __del__(self) -> None:
+        if getattr(self, "_kept", None) is not None:
+            self.drop()
+
+    def __repr__(self) -> str:
+        ended = "" if self._kept else ", dropped"
+        return f"<Snapshot of {self.vfs} virtual functions and {self.blocks} blocks{ended}>"
+
+
+class Nic(_Registers):
+    """A controller after a power-up, with so many virtual functions (63 at most), room for so many frames that arrived
+    and weren't written yet (1 to 4,096), and so many blocks of packet memory (1 to 65,536), none of them lent.
+    TooManyVfs, BadFifo, BadBlocks, OutOfMemory, LibraryMissing. It ends by `close`, or at the end of a `with`."""
+
+    def __init__(
+        self, vfs: int = 0, fifo: int = 64, blocks: int = 256, *, library: str | os.PathLike[str] | None = None
+    ) -> None:
+        self._handle: _Handle | None = None
+        self._library = _library(library)
+        self.vfs, self.fifo, self.blocks = vfs, fifo, blocks
+        sizes = (
+            (vfs, 8, TooManyVfs, "virtual functions"), (fifo, 16, BadFifo, "frames"), (blocks, 32, BadBlocks, "blocks")
+        )  # fmt: skip
+        for given, bits, refusal, what in sizes:
+            if not 0 <= operator.index(given) < 1 << bits:
+                raise refusal(f"{refusal.__doc__} ({given} {what})")
+        handle = _Handle()
+        status = self._library.nic_new(vfs, fifo, blocks, ctypes.byref(handle))
+        if status != _DONE:
+            raise _refused(status, f"{vfs} virtual functions, {fifo} frames, {blocks} blocks")
+        self._handle = handle
+        self._told = _Told()
+        self._room = ctypes.create_string_buffer(_LONGEST)
+        self.memory = Memory(self)
+
+    def close(self) -> None:
+        """Ends the controller with its memory and its frames; a second time it does nothing."""
+        handle, self._handle = self._handle, None
+        if handle is not None:
+            self._library.nic_free(handle)
+
+    def __enter__(self) -> Nic:
+        return self
+
+    def __exit__(self, *_fault: object) -> None:
+        self.close()
+
+    def __del__(self) -> None:
+        if getattr(self, "_handle", None) is not None:
+            self.close()
+
+    def __repr__(self) -> str:
+        ended = "" if self._handle else ", closed"
+        return f"<Nic of {self.vfs} virtual functions and {self.blocks} blocks{ended}>"
+
+    def _call(self, name: str, *words: object) -> int:
+        """The status of a call."""
+        if self._handle is None:
+            raise Closed("the controller was closed")
+        return getattr(self._library, name)(self._handle, *words)
+
+    def _ask(self, name: str, *words: object) -> None:
+        """A call that is done or refused."""
+        status = self._call(name, *words)
+        if status != _DONE:
+            shown = ", ".join(str(word) for word in words if isinstance(word, int))
+            raise _refused(status, f"{name.removeprefix('nic_')} {shown}".strip())
+
+    # --- snapshots ---
+
+    def snapshot(self) -> Snapshot:
+        """Keeps the controller as it is: registers, lent blocks with their bytes, frames that wait, are staged or went
+        out, the link and the EEPROM's image. It stays as it is. OutOfMemory."""
+        return Snapshot(self)
+
+    def restore(self, kept: Snapshot) -> None:
+        """Makes the controller what was kept of it or of another one, as often as it is wanted. OutOfMemory, and
+        Closed where the snapshot was dropped; then the controller is as it was."""
+        if kept._kept is None:
+            raise Closed("the snapshot was dropped")
+        if kept._library is not self._library:
+            raise ValueError("a snapshot of another library's controller")
+        self._ask("nic_restore", ctypes.byref(kept._kept))
+        self.vfs, self.fifo, self.blocks = kept.vfs, kept.fifo, kept.blocks
+
+    # --- registers ---
+
+    def _at(self, name: str | int) -> int:
+        return address_of(name) if isinstance(name, str) else _whole(name, 32, "address")
+
+    def _read(self, call: str, at: int) -> Word:
+        word = ctypes.c_uint32()
+        status = self._call(call, _whole(at, 32, "address"), ctypes.byref(word))
+        return Word(word.value, status == _STRAY)
+
+    def read32(self, at: int) -> Word:
+        return self._read("nic_read32", at)
+
+    def write32(self, at: int, word: int) -> bool:
+        return self._call("nic_write32", _whole(at, 32, "address"), _whole(word, 32, "word")) == _DONE
+
+    def peek32(self, at: int) -> int | None:
+        word, stray = self._read("nic_peek32", at)
+        return None if stray else word
+
+    def vf(self, number: int) -> Function:
+        """A virtual function: `nic.vf(2)["VTEIMS"]`. Its registers read as 0xFFFFFFFF, stray, where there is none."""
+        return Function(self, _whole(number, 8, "virtual function"))
+
+    # --- packet memory ---
+
+    def lend(self, *blocks: int) -> None:
+        """Lends these blocks, all zero; without any all that aren't lent yet. NoBlock at the first that can't be."""
+        for block in blocks:
+            self._ask("nic_lend", _whole(block, 32, "block"))
+        if not blocks:
+            self._ask("nic_lend_all")
+
+    def take(self, *blocks: int) -> None:
+        """Takes these blocks back, and what they held is gone. NotLent at the first that isn't lent."""
+        for block in blocks:
+            self._ask("nic_take", _whole(block, 32, "block"))
+
+    # --- the link ---
+
+    def arrive(self, frame: bytes) -> Dropped | None:
+        """A frame arrives, without its check sequence: it waits for receive steps, or was dropped."""
+        given = bytes(frame)
+        event = self._event("nic_arrive", given, len(given))
+        return event if isinstance(event, Dropped) else None
+
+    def next_out(self) -> int:
+        """How many bytes the frame has that `collect` would give; 0 without one."""
+        return self._call("nic_next_out")
+
+    def collect(self) -> Frame | None:
+        """Takes the oldest frame that went out, or None."""
+        length = self.next_out()
+        if length > len(self._room):
+            self._room = ctypes.create_string_buffer(length)
+        told = self._told
+        status = self._call("nic_collect", self._room, len(self._room), ctypes.byref(told))
+        if status == _IDLE:
+            return None
+        if status != _FRAME:
+            raise _refused(status, "collect")
+        return Frame(told.queue, self._room.raw[: told.len])
+
+    def link(self, up: bool) -> bool:
+        """The link goes up or down; False where it was so already."""
+        return self._call("nic_link", bool(up)) == _DONE
+
+    # --- steps ---
+
+    def _event(self, call: str, *words: object) -> Event | None:
+        """What an event tells; None where it was idle."""
+        told = self._told
+        status = self._call(call, *words, ctypes.byref(told))
+        if status == _IDLE:
+            return None
+        if status not in _TELLERS:
+            shown = ", ".join(str(word) for word in words if isinstance(word, int))
+            raise _refused(status, f"{call.removeprefix('nic_')} {shown}".strip())
+        # (a call of its own doesn't tell its step)
+        told.step = _STEPS.index("rx" if call == "nic_rx_step" else "tx")
+        return _TELLERS[status](told)
+
+    def rx_step(self) -> Wrote | Dropped | Fault | None:
+        """Writes one descriptor's worth of the frame that waits longest."""
+        return self._event("nic_rx_step")
+
+    def tx_step(self, queue: int) -> Advanced | Sent | Fault | None:
+        """Fetches one descriptor of a transmit queue. NoQueue, OutOfMemory."""
+        return self._event("nic_tx_step", _whole(queue, 16, "queue"))
+
+    def queue_step(self, side: str, queue: int) -> bool:
+        """Makes a side of a queue, `rx` or `tx`, what RXDCTL or TXDCTL bit 25 was written. NoQueue."""
+        if side not in ("rx", "tx"):
+            raise ValueError(f"a queue has the sides rx and tx, and not {side!r}")
+        return self._event("nic_queue_step", side == "tx", _whole(queue, 16, "queue")) is not None
+
+    def eeprom_step(self) -> bool:
+        """The EEPROM gives the word that EERD asks for; False where it asks for none."""
+        return self._event("nic_eeprom_step") is not None
+
+    def int_step(self, function: int | None = None) -> Message | None:
+        """Sends the next message of the physical function, or of a virtual one. NoGroup."""
+        group = 0 if function is None else _whole(function, 8, "virtual function") + 1
+        if group > 255:
+            raise NoGroup(f"{NoGroup.__doc__} ({function})")
+        return self._event("nic_int_step", group)
+
+    def settle(self, queues: int = QUEUES) -> list[Event]:
+        """Makes all steps that do something, for the queues below this number, until none does: for each queue its
+        enables, the EEPROM, a transmit step of each queue, a receive step, and the messages of each group, round by
+        round; after each 256 events it begins a round anew. Answers what happened, in order. NoQueue above 128,
+        OutOfMemory."""
+        events: list[Event] = []
+        told, count = (_Told * 256)(), ctypes.c_size_t()
+        given = _whole(queues, 16, "number of queues")
+        while True:
+            status = self._call("nic_settle", given, ctypes.byref(told), len(told), ctypes.byref(count))
+            events += [_TELLERS[it.status](it) for it in told[: count.value]]
+            if status == _DONE:
+                return events
+            if status != _MORE:
+                raise _refused(status, f"settle {given}")
+
+    # --- the EEPROM ---
+
+    def install_image(self, image: bytes) -> None:
+        """Puts an EEPROM image in, as `nicbench eeprom` makes it. ImageRefused, OutOfMemory."""
+        given = bytes(image)
+        status = self._call("nic_install_image", given, len(given))
+        if status in _IMAGE:
+            raise ImageRefused(_IMAGE[status])
+        if status != _DONE:
+            raise _refused(status, "install_image")
+
+    def install_text(self, text: str) -> None:
+        """Puts in the EEPROM image that a text means. TextRefused, OutOfMemory."""
+        given, line = text.encode(), ctypes.c_uint64()
+        status = self._call("nic_install_text", given, len(given), ctypes.byref(line))
+        if status in _TEXT:
+            raise TextRefused(_TEXT[status], line.value)
+        if status != _DONE:
+            raise _refused(status, "install_text")
+
+
+_TELLERS = {
+    _DONE: lambda told: Done(_STEPS[told.step], told.of),
+    _DROPPED: lambda told: Dropped(_WHYS[told.why]),
+    _WROTE: lambda told: Wrote(told.queue, told.slot, bool(told.end), told.desc, told.at, told.len),
+    _ADVANCED: lambda told: Advanced(told.queue, told.slot, told.at if told.back else None),
+    _SENT: lambda told: Sent(told.queue, told.len, told.at if told.back else None),
+    _FAULT: lambda told: Fault(_STEPS[told.step], told.queue, _FAULTS[told.why], told.bus if told.why == 2 else None),
+    _MESSAGE: lambda told: Message(told.group - 1 if told.group else None, told.vector),
+}

@@ -1,0 +1,265 @@
+"""What a driver's author may have forgotten in a script that the bench takes: warnings with the reason on the card.
+
+They come from the instructions of the object, looked at in the order of the lines, and the register table.
+"""
+
+from __future__ import annotations
+
+import re
+import sys
+from collections.abc import Iterator
+from dataclasses import dataclass
+
+from . import regs
+from .regs import ENABLE, Register
+from .script import ROOT, Instruction, Op, Script
+
+
+@dataclass(frozen=True, order=True)
+class Warning:
+    """A warning and the line that it is about."""
+
+    line: int
+    text: str
+
+
+@dataclass(frozen=True)
+class Access:
+    """A write of a register: at an instruction, which register, by which address or offset, and the word."""
+
+    pc: int
+    register: Register
+    word: int
+    function: int | None
+
+
+def absent_registers() -> dict[int, tuple[str, str]]:
+    """Registers of the card that the bench hasn't, by address: names and what to do, from docs/CARD.md. A row of its
+    table has names and addresses of a family; where these aren't as many, an address has all the names."""
+    found: dict[int, tuple[str, str]] = {}
+    for line in (ROOT / "docs/CARD.md").read_text().splitlines():
+        cells = [cell.strip() for cell in line.strip().strip("|").split("|")]
+        if len(cells) != 4 or not re.match(r"0x[0-9A-F]{5}", cells[1]):
+            continue
+        names = [re.sub(r" \(.*?\)", "", name.replace("*", "")) for name in cells[0].split(", ")]
+        names = ["a counter"] if names[0].startswith("counters") else [name for name in names if name[0].isupper()]
+        addresses = [int(match[0], 16) for part in cells[1].split(", ") if (match := re.match(r"0x[0-9A-Fa-f]+", part))]
+        for n, address in enumerate(addresses):
+            found[address] = (names[n] if len(names) == len(addresses) else ", ".join(names), cells[3].split(". ")[0])
+    return found
+
+
+class Advice:
+    """The warnings for a script."""
+
+    def __init__(self, script: Script):
+        self.script = script
+        self.writes: list[Access] = []
+        self.strays: list[int] = []
+        self._read_accesses()
+
+    def _read_accesses(self) -> None:
+        """Finds the writes. How pools part the queues is taken from the last write of GCR_EXT before."""
+        k = 0
+        for pc, one in enumerate(self.script.instructions):
+            if one.op in (Op.WRITE, Op.READ):
+                register, function = regs.register_at(one.a), None
+            elif one.op in (Op.VF_WRITE, Op.VF_READ):
+                register, function = regs.function_register(k or 2, one.x, one.a), one.x
+            else:
+                continue
+            if register is None:
+                self.strays.append(pc)
+            elif one.op in (Op.WRITE, Op.VF_WRITE):
+                self.writes.append(Access(pc, register, one.b, function))
+                if register.row.name == "GCR_EXT":
+                    k = regs.queues_of_pool(one.b)
+
+    def all(self) -> list[Warning]:
+        found = [
+            *self._strays(),
+            *self._words(),
+            *self._queues("Receive"),
+            *self._queues("Transmit"),
+            *self._messages(),
+            *self._causes(),
+        ]
+        return sorted(set(found))
+
+    def _at(self, pc: int, text: str) -> Warning:
+        return Warning(self.script.line_of[pc], text)
+
+    def _of(self, name: str) -> list[Access]:
+        return [access for access in self.writes if access.register.row.name == name]
+
+    def _instructions(self, op: Op) -> list[tuple[int, Instruction]]:
+        return [(pc, one) for pc, one in enumerate(self.script.instructions) if one.op == op]
+
+    def _strays(self) -> Iterator[Warning]:
+        """Accesses that name nothing."""
+        absent = absent_registers()
+        for pc in self.strays:
+            one = self.script.instructions[pc]
+            if one.op in (Op.VF_READ, Op.VF_WRITE):
+                yield self._at(
+                    pc, f"offset 0x{one.a:04x} of a virtual function names no register: the access is `stray`"
+                )
+            elif one.a in absent:
+                name, what = absent[one.a]
+                yield self._at(pc, f"0x{one.a:05x} is {name}, which the bench hasn't: {what}")
+            else:
+                yield self._at(pc, f"0x{one.a:05x} names no register: the access is `stray`")
+
+    def _words(self) -> Iterator[Warning]:
+        """Words with bits that are reserved, that aren't kept, or that go to a register which takes none."""
+        for access in self.writes:
+            row, word, name = access.register.row, access.word, access.register.name
+            if row.kind in ("Ro", "Rc", "Calc"):
+                yield self._at(access.pc, f"{name} isn't written by drivers: the write changes nothing")
+                continue
+            rest = regs.reserved(row, word)
+            if rest:
+                yield self._at(
+                    access.pc,
+                    f"{name}: bits 0x{rest:08x} of the word are reserved; write 0 there, later cards may use them",
+                )
+            lost = word & ~row.mask & ~rest & 0xFFFF_FFFF
+            if row.kind in ("Rw", "Held") and lost:
+                why = {
+                    "DLEN": "; a ring's length is a multiple of 128 bytes",
+                    "DBAL": "; a ring begins at a multiple of 128",
+                }.get(row.name[1:], "")
+                yield self._at(access.pc, f"{name} doesn't keep bits 0x{lost:08x}{why}")
+
+    def _queues(self, bank: str) -> Iterator[Warning]:
+        """What a side of a queue needs, and in which order."""
+        letter, side = ("R", "rx") if bank == "Receive" else ("T", "tx")
+        enables = {one.register.index: one for one in reversed(self._of(letter + "XDCTL")) if one.word & ENABLE}
+        tails = self._of(letter + "DT")
+        switched = [(pc, one.x) for pc, one in self._instructions(Op.QSTEP) if bool(one.sub) == (side == "tx")]
+        sends = [one.pc for one in self._of("DMATXCTL") if one.word & 1]
+        for queue, enable in enables.items():
+            name = f"{letter}XDCTL[{queue}]"
+            mine = [one for one in tails if one.register.index == queue]
+            if side == "tx" and not [pc for pc in sends if pc < enable.pc]:
+                yield self._at(
+                    enable.pc,
+                    f"{name}.ENABLE is written before DMATXCTL.TE is 1: TE comes first, or the queue may not start",
+                )
+            on = next((pc for pc, x in switched if x == queue and pc > enable.pc), None)
+            if on is None:
+                yield self._at(
+                    enable.pc,
+                    f"no `qstep {side} {queue}` follows: the queue stays off until the device makes that step",
+                )
+            if not mine:
+                yield self._at(
+                    enable.pc, f"{letter}DT[{queue}] is never written: no slot of the ring becomes the device's"
+                )
+            for one in mine:
+                if one.word and one.pc < (on if on is not None else enable.pc):
+                    what = (
+                        "the device may lose it"
+                        if side == "rx"
+                        else "the device may fetch from a ring that isn't set up"
+                    )
+                    yield self._at(
+                        one.pc,
+                        f"{one.register.name} is written before {name}.ENABLE reads 1: write it behind that, or {what}",
+                    )
+            yield from self._held(bank, queue, on)
+            if side == "rx":
+                yield from self._buffers(queue, enable)
+
+    def _held(self, bank: str, queue: int, on: int | None) -> Iterator[Warning]:
+        """Writes of a ring's place while its queue is on."""
+        off = [
+            one.pc
+            for one in self._of(("R" if bank == "Receive" else "T") + "XDCTL")
+            if one.register.index == queue and not one.word & ENABLE
+        ]
+        for access in self.writes:
+            row = access.register.row
+            if (
+                row.kind == "Held"
+                and row.bank == bank
+                and access.register.index == queue
+                and on is not None
+                and access.pc > on
+            ):
+                if not [pc for pc in off if on < pc < access.pc]:
+                    yield self._at(
+                        access.pc,
+                        f"{access.register.name} is held while the queue is on: the write changes nothing",
+                    )
+
+    def _buffers(self, queue: int, enable: Access) -> Iterator[Warning]:
+        """The form of a receive queue's descriptors."""
+        control = [one for one in self._of("SRRCTL") if one.register.index == queue]
+        if not control:
+            yield self._at(
+                enable.pc,
+                f"SRRCTL[{queue}] is never written: after a reset it says legacy descriptors, which are a fault here",
+            )
+        for one in control:
+            kind, size = one.word >> 25 & 7, one.word & 31
+            if kind != 1:
+                yield self._at(
+                    one.pc,
+                    f"SRRCTL[{queue}].DESCTYPE {kind}: a receive step is a fault; the bench has 1, one buffer, alone",
+                )
+            elif not size:
+                yield self._at(
+                    one.pc, f"SRRCTL[{queue}].BSIZEPACKET 0: a buffer has no room; a receive step is a fault"
+                )
+
+    def _messages(self) -> Iterator[Warning]:
+        """Messages that the card wouldn't send so."""
+        steps = [pc for pc, one in self._instructions(Op.INT) if not one.sub]
+        if steps and not [one for one in self._of("GPIE") if one.word & 0x10]:
+            yield self._at(
+                steps[0],
+                "GPIE.Multiple_MSIX isn't set: without MSI-X mode the card has one message for all causes",
+            )
+
+    def _causes(self) -> Iterator[Warning]:
+        """Causes without a vector, without a mask, or that nothing raises."""
+        masks = self._of("EIMS")
+        masked = 0
+        for one in masks:
+            masked |= one.word
+        misc = [one.word for one in self._of("IVAR_MISC")]
+        others, timer = any(word & 0x8000 for word in misc), any(word & 0x80 for word in misc)
+        for one in masks:
+            lost = one.word & (0 if others else 0x3FFF_0000) | one.word & (0 if timer else 1 << 30)
+            if lost:
+                names = ", ".join(regs.bits("EIMS", lost))
+                yield self._at(one.pc, f"{names}: IVAR_MISC gives no vector to these causes, so no message tells them")
+        raised = 0
+        for one in self._of("IVAR"):
+            for byte in range(4):
+                entry = one.word >> 8 * byte & 0xFF
+                queue, side = 2 * one.register.index + byte // 2, "tx" if byte & 1 else "rx"
+                if entry and not entry & 0x80:
+                    yield self._at(
+                        one.pc,
+                        f"{one.register.name} INT_Alloc[{byte}] ({side} {queue}) doesn't count: its bit 7 is 0",
+                    )
+                elif entry and entry & 63 > 15:
+                    yield self._at(
+                        one.pc,
+                        f"{one.register.name} INT_Alloc[{byte}] ({side} {queue}): {entry & 63} is no cause of 0 to 15",
+                    )
+                elif entry and not masked >> (entry & 63) & 1:
+                    yield self._at(
+                        one.pc,
+                        f"{side} {queue} raises cause {entry & 63}, which EIMS never has: no message tells it",
+                    )
+                raised |= 1 << (entry & 63) if entry & 0x80 else 0
+        for one in self._of("EICS"):
+            raised |= one.word
+        for one in masks:
+            silent = one.word & 0xFFFF & ~raised
+            if silent:
+                names = ", ".join(regs.bits("EIMS", silent))
+                yield self._at(one.pc, f"{names}: no entry of IVAR names these causes, so nothing raises them")

@@ -1,0 +1,264 @@
+"""Why the bench refuses a line of a script: the word, what was expected there, and what comes near.
+
+That a script is refused, by which fault and at which line, the bench says; here the line is looked at again to say it
+in more words. The forms are those of docs/GUIDE.md.
+"""
+
+from __future__ import annotations
+
+import re
+import sys
+from collections.abc import Callable
+from dataclasses import dataclass
+
+from .regs import ROWS, near
+from .script import Refused
+
+FORMS = {
+    "w": "TARGET VALUE",
+    "r": "TARGET",
+    "vw": "FUNCTION OFFSET VALUE",
+    "vr": "FUNCTION OFFSET",
+    "lend": "BLOCK",
+    "unlend": "BLOCK",
+    "poke": "ADDRESS DATA",
+    "peek": "ADDRESS WORD",
+    "arrive": "DATA",
+    "rx": "",
+    "tx": "QUEUE",
+    "int": "pf|FUNCTION",
+    "qstep": "rx|tx QUEUE",
+    "eestep": "",
+    "link": "up|down",
+    "collect": "",
+    "expect": "VALUE [MASK]",
+    "and": "VALUE",
+    "jeq": "VALUE LABEL",
+    "jne": "VALUE LABEL",
+    "jmp": "LABEL",
+    "halt": "",
+    "data": "NAME HEX",
+}
+# The largest number of each kind of word.
+MOST = {
+    "TARGET": 2**32 - 1,
+    "VALUE": 2**32 - 1,
+    "MASK": 2**32 - 1,
+    "OFFSET": 2**32 - 1,
+    "ADDRESS": 2**32 - 1,
+    "FUNCTION": 62,
+    "BLOCK": 65_535,
+    "QUEUE": 65_535,
+    "WORD": 3,
+}
+NUMBER = re.compile(r"0x[0-9a-fA-F]+|[0-9]+")
+NAME = re.compile(r"[A-Za-z_][A-Za-z0-9_]*")
+TARGET = re.compile(r"([A-Za-z_][A-Za-z0-9_]*)(?:\[([^\]]*)\])?")
+
+
+@dataclass(frozen=True)
+class Place:
+    """What is wrong with a line, and from which of its bytes on: its number is 0 where no line is meant."""
+
+    line: int
+    column: int
+    length: int
+    text: str
+    near: list[str]
+
+
+def number_of(word: str) -> int | None:
+    """A number as scripts write it."""
+    return int(word, 0 if word.startswith("0x") else 10) if NUMBER.fullmatch(word) else None
+
+
+def words_of(line: str) -> list[tuple[int, str]]:
+    """The words of a line with their columns."""
+    return [(found.start(), found.group()) for found in re.finditer(r"[^ \t\r]+", line.split("#")[0])]
+
+
+class Looker:
+    """Looks at the line that was refused."""
+
+    def __init__(self, text: str, refused: Refused):
+        self.lines, self.refused = text.split("\n"), refused
+        at = refused.line - 1
+        self.line = self.lines[at] if 0 <= at < len(self.lines) else ""
+        self.words = words_of(self.line)
+
+    def place(self) -> Place:
+        """The word that is wrong, and why."""
+        name = self.refused.name
+        if name == "TooLong":
+            return self._too_long()
+        if name == "Input":
+            return Place(0, 0, 0, "the input is no text in UTF-8", [])
+        finders: dict[str, Callable[[], Place | None]] = {
+            "Syntax": self._syntax,
+            "UnknownName": self._unknown_name,
+            "UnknownLabel": self._unknown_label,
+        }
+        finders |= {"TwoLabels": self._twice, "Range": self._range}
+        found = finders[name]() if self.words and name in finders else None
+        return found or self._at(0, f"the bench refuses this line: {name}")
+
+    def _at(self, word: int, text: str, close: list[str] | None = None) -> Place:
+        column, shown = self.words[word] if word < len(self.words) else (len(self.line.split("#")[0].rstrip()), " ")
+        return Place(self.refused.line, column, len(shown), text, close or [])
+
+    def _kinds(self) -> list[str]:
+        """The kinds of the words behind the operation."""
+        return [kind.strip("[]") for kind in FORMS.get(self.words[0][1], "").split()]
+
+    def _syntax(self) -> Place:
+        first, rest = self.words[0][1], self.words[1:]
+        if first not in FORMS:
+            if first.endswith(":"):
+                what = (
+                    "a label stands alone on its line"
+                    if NAME.fullmatch(first[:-1])
+                    else "a label is a name and a colon: letters, digits and _"
+                )
+                return self._at(1 if rest and NAME.fullmatch(first[:-1]) else 0, what)
+            return self._at(0, f"no operation {first}", near_words(first))
+        form, kinds = f"{first} {FORMS[first]}".strip(), self._kinds()
+        fewest = len([kind for kind in FORMS[first].split() if not kind.startswith("[")])
+        needs = f"{first} needs {FORMS[first]}" if FORMS[first] else f"{first} stands alone"
+        if len(rest) < fewest:
+            return self._at(len(rest) + 1, f"{needs}; {kinds[len(rest)]} is missing")
+        if len(rest) > len(kinds):
+            return self._at(len(kinds) + 1, f"{needs}; this word is one too many")
+        for n, (kind, (_, word)) in enumerate(zip(kinds, rest), 1):
+            if (wrong := self._wrong(kind, word)) is not None:
+                return self._at(n, f"{wrong}; the form is {form}")
+        return self._at(0, needs)
+
+    def _wrong(self, kind: str, word: str) -> str | None:
+        """What is wrong with the form of a word of a kind."""
+        choices = kind.split("|")
+        if len(choices) > 1:
+            is_number = choices[-1] in MOST and number_of(word) is not None
+            return None if word in choices or is_number else f"expected {' or '.join(choices)}, not {word}"
+        if kind == "TARGET":
+            found = TARGET.fullmatch(word)
+            if number_of(word) is not None or found and (found[2] is None or number_of(found[2]) is not None):
+                return None
+            return f"expected a register as RDT[3], or an address, not {word}"
+        if kind in ("DATA", "LABEL", "NAME"):
+            return None if NAME.fullmatch(word) else f"expected a name, not {word}"
+        if kind == "HEX":
+            if not re.fullmatch(r"[0-9a-fA-F]*", word):
+                odd = next(letter for letter in word if letter not in "0123456789abcdefABCDEF")
+                return f"expected hex digits without 0x, not {odd}"
+            return f"expected two digits a byte, and not {len(word)} in all" if len(word) % 2 else None
+        return None if number_of(word) is not None else f"expected a number, decimal or 0x and hex digits, not {word}"
+
+    def _unknown_name(self) -> Place:
+        found = TARGET.fullmatch(self.words[1][1]) if len(self.words) > 1 else None
+        if found is None:
+            return self._at(0, "no such register")
+        close = near(found[1], list(ROWS))
+        data, labels = self._names()
+        more = " (it is a name of data)" if found[1] in data else " (it is a label)" if found[1] in labels else ""
+        return self._at(1, f"no register {found[1]}{more}", close)
+
+    def _names(self) -> tuple[dict[str, int], dict[str, int]]:
+        """The names of data and the labels, with the lines that give them."""
+        data: dict[str, int] = {}
+        labels: dict[str, int] = {}
+        for number, line in enumerate(self.lines, 1):
+            words = [word for _, word in words_of(line)]
+            if len(words) == 3 and words[0] == "data":
+                data.setdefault(words[1], number)
+            elif len(words) == 1 and words[0].endswith(":"):
+                labels.setdefault(words[0][:-1], number)
+        return data, labels
+
+    def _unknown_label(self) -> Place:
+        data, labels = self._names()
+        for n, kind in enumerate(self._kinds(), 1):
+            if kind in ("DATA", "LABEL"):
+                names, what = (data, "data") if kind == "DATA" else (labels, "label")
+                word = self.words[n][1]
+                other = (
+                    " (there is a label of this name)"
+                    if word in labels
+                    else " (there is data of this name)"
+                    if word in data
+                    else ""
+                )
+                return self._at(n, f"no {what} {word}{other}", near(word, list(names)) or list(names)[:6])
+        return self._at(0, "no such label")
+
+    def _twice(self) -> Place:
+        data, labels = self._names()
+        is_data = self.words[0][1] == "data"
+        name = self.words[1][1] if is_data else self.words[0][1].rstrip(":")
+        before = (data if is_data else labels).get(name, 0)
+        return self._at(1 if is_data else 0, f"{name} stands at line {before} already")
+
+    def _range(self) -> Place | None:
+        if self.words[0][1] == "poke":
+            for number, line in enumerate(self.lines, 1):
+                words = [word for _, word in words_of(line)]
+                if words[:2] == ["data", self.words[2][1]] and len(words) == 3 and len(words[2]) != 32:
+                    return self._at(
+                        2, f"poke writes 16 bytes, and {words[1]} at line {number} has {len(words[2]) // 2}"
+                    )
+        if self.words[0][1] == "data":
+            return self._at(2, "data has from 1 to 16384 bytes")
+        for n, (kind, (_, word)) in enumerate(zip(self._kinds(), self.words[1:]), 1):
+            kind = kind.split("|")[-1]
+            found = TARGET.fullmatch(word)
+            if kind == "TARGET" and found and found[1] in ROWS and found[2] is not None:
+                count = ROWS[found[1]].count
+                if (number_of(found[2]) or 0) >= count:
+                    return self._at(
+                        n, f"{found[1]} has {count} register{'s' if count > 1 else ''}, from [0] to [{count - 1}]"
+                    )
+            value = number_of(word)
+            if value is not None and value > MOST.get(kind, value):
+                return self._at(n, f"{kind} is at most {MOST[kind]}, and this is {value}")
+        return None
+
+    def _too_long(self) -> Place:
+        data, _ = self._names()
+        count = 0
+        for number, line in enumerate(self.lines, 1):
+            words = [word for _, word in words_of(line)]
+            is_label = len(words) == 1 and words[0].endswith(":")
+            name = words[0][:-1] if is_label else words[1] if words[:1] == ["data"] and len(words) > 1 else ""
+            if len(name) > 32:
+                return Place(number, 0, len(line), f"the name {name[:12]}.. has {len(name)} letters, of 32 at most", [])
+            if words[:1] == ["data"] and len(words) == 3 and len(words[2]) > 2 * 16_384:
+                return Place(number, 0, 4, f"data {name} has {len(words[2]) // 2} bytes, of 16384 at most", [])
+            count += bool(words) and not is_label and words[0] != "data"
+            if count > 4_096:
+                return Place(
+                    number, 0, len(line), "this is instruction 4097 of 4096 at most: cut the script, or make a loop", []
+                )
+        return Place(0, 0, 0, f"the script has {len(data)} data strings, of 1024 at most", [])
+
+
+def near_words(word: str) -> list[str]:
+    """Operations like a word."""
+    from difflib import get_close_matches
+
+    others = {
+        "write": "w",
+        "read": "r",
+        "jump": "jmp",
+        "recv": "rx",
+        "send": "tx",
+        "receive": "rx",
+        "transmit": "tx",
+        "irq": "int",
+    }
+    return ([others[word.lower()]] if word.lower() in others else []) + get_close_matches(
+        word.lower(), list(FORMS), 4, 0.5
+    )
+
+
+def explained(text: str, refused: Refused) -> Place:
+    """What is wrong with a script that the bench refuses."""
+    return Looker(text, refused).place()

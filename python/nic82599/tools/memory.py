@@ -1,0 +1,463 @@
+"""What lent memory holds after each step, which frames wait, for which queue, and which went out.
+
+The debugger has no command for memory, so a script is run again with `peek` lines between its own: a peek changes
+nothing of the device. Its instructions stand there in the order in which they were made, jumps and tests left out.
+Where that doesn't fit into one script, several are run, each from the start up to where its peeks stand.
+"""
+
+from __future__ import annotations
+
+import sys
+from dataclasses import dataclass, field
+
+from .frames import descriptor
+from .regs import ENABLE, REGISTERS, first
+from .script import Instruction, Op
+from .trace import Step, Trace, number_after, word_of
+
+SCRIPT_LIMIT = 4_096
+RUNS = 16
+WHOLE_RING = 64
+UNTOUCHED = ("idle", "no queue", "no group", "not lent", "misaligned", "no block")
+
+
+@dataclass(frozen=True)
+class Ring:
+    """A ring as its registers say it: `side` is `rx` or `tx`."""
+
+    side: str
+    queue: int
+    base: int
+    slots: int
+    head: int
+    tail: int
+    on: bool
+    back: int | None  # where its head is written back
+
+    @property
+    def name(self) -> str:
+        return f"{self.side} {self.queue}"
+
+    def is_outside(self) -> bool:
+        """Whether the head or the tail is no slot of it."""
+        return self.head >= self.slots or self.tail >= self.slots
+
+    def owner(self, slot: int) -> str:
+        """Whose a slot is: the device's from the head up to the tail, the tail left out, else the driver's."""
+        if self.is_outside():
+            return "nobody"
+        behind = (slot - self.head) % self.slots
+        return "device" if behind < (self.tail - self.head) % self.slots else "driver"
+
+
+def ring_of(words: dict[int, int], side: str, queue: int) -> Ring:
+    """The ring of a side of a queue by the registers."""
+    letter = "R" if side == "rx" else "T"
+    base = word_of(words, f"{letter}DBAH", queue) << 32 | word_of(words, f"{letter}DBAL", queue)
+    slots = word_of(words, f"{letter}DLEN", queue) // 16
+    head, tail = word_of(words, f"{letter}DH", queue), word_of(words, f"{letter}DT", queue)
+    on = bool(word_of(words, f"{letter}XDCTL", queue) & ENABLE)
+    return Ring(side, queue, base, slots, head, tail, on, head_word(words, queue) if side == "tx" else None)
+
+
+def head_word(words: dict[int, int], queue: int) -> int | None:
+    """Where a transmit queue's head is written back, if it is."""
+    low = word_of(words, "TDWBAL", queue)
+    return word_of(words, "TDWBAH", queue) << 32 | low & ~3 if low & 1 else None
+
+
+def sides_in_use(trace: Trace) -> list[tuple[str, int]]:
+    """The sides of queues that the run speaks of, receive first."""
+    found: set[tuple[str, int]] = set()
+    for step in trace.steps:
+        one = trace.instruction(step)
+        for address, _, _ in step.changes:
+            register = REGISTERS[address]
+            if register.row.bank in ("Receive", "Transmit"):
+                found.add((register.row.bank, register.index))
+        if one.op == Op.TX and one.x < 128:
+            found.add(("Transmit", one.x))
+        elif one.op == Op.QSTEP and one.x < 128:
+            found.add(("Transmit" if one.sub else "Receive", one.x))
+        elif one.op == Op.RX and (queue := number_after(step.reply, "queue")) is not None:
+            found.add(("Receive", queue))
+    return [("rx" if bank == "Receive" else "tx", queue) for bank, queue in sorted(found)]
+
+
+@dataclass
+class Frame:
+    """A frame that was let in, or one that went out: the step, and its queue and bytes as far as they are known."""
+
+    step: int
+    data: bytes | None
+    queue: int | None = None
+    rss: str = ""
+    slots: list[str] = field(default_factory=list)
+
+
+@dataclass
+class Seen:
+    """What a run shows beside its registers."""
+
+    sides: list[tuple[str, int]]
+    arrived: list[Frame]
+    sent: list[Frame]
+
+
+def is_event(one: Instruction) -> bool:
+    return not one.is_local
+
+
+def _leaves_memory(one: Instruction, step: Step) -> bool:
+    """Whether a step can be left out of a run that only asks for memory and for frames that wait."""
+    if one.op in (Op.READ, Op.VF_READ, Op.PEEK, Op.INT, Op.COLLECT, Op.EESTEP):
+        return True
+    return step.reply in UNTOUCHED or step.reply.startswith("stray") or one.op == Op.ARRIVE and step.reply != "done"
+
+
+class Replay:
+    """Runs of the steps of a trace in their order, with further lines between and behind them."""
+
+    def __init__(self, trace: Trace):
+        self.trace = trace
+        self.steps = [step for step in trace.steps if is_event(trace.instruction(step))]
+        self.short = [step for step in self.steps if not _leaves_memory(trace.instruction(step), step)]
+        self.asked = 0
+        data = enumerate(trace.script.data)
+        self.data = "".join(f"data d{n} {one.hex()}\n" for n, one in data)
+
+    def run(
+        self, steps: list[Step], between: dict[int, list[str]], behind: list[str], limit: int = 0
+    ) -> list[list[str]]:
+        """The replies to the lines that stand behind each step by its number, in the order of the steps; last those to
+        the lines behind all."""
+        lines, marks = [], []
+        for step in steps:
+            lines.append(self.trace.instruction(step).line())
+            marks.append(-1)
+            for more in between.get(step.number, ()):
+                lines.append(more)
+                marks.append(step.number)
+        count = len(lines)
+        printed = self.trace.bench.run(self.data + "\n".join(lines + behind) + "\n", limit or len(lines) + len(behind))
+        answers = [line.partition(" ")[2] for line in printed[:-1]]
+        replies, own = iter(steps), []
+        asked: dict[int, list[str]] = {}
+        for mark, answer in zip(marks, answers):
+            if mark < 0:
+                own.append((next(replies), answer))
+            else:
+                asked.setdefault(mark, []).append(answer)
+        odd = [step for step, answer in own if answer != step.reply]
+        if odd:
+            self.trace.notes.append(
+                f"the run that looks at memory answers step {odd[0].number} otherwise; what it says is left out"
+            )
+            return []
+        return [*asked.values(), answers[count:]]
+
+    def behind(self, count: int, lines: list[str], more: int) -> list[str]:
+        """The replies to lines behind so many steps, of which so many instructions more are made."""
+        steps = self.up_to(count, len(lines))
+        return [] if steps is None else (self.run(steps, {}, lines, len(steps) + more) or [[]])[-1]
+
+    def collects(self, steps: list[Step], sent: list[Frame]) -> list[str]:
+        """As many lines `collect` as frames are out behind some steps; none where all bytes are known."""
+        if all(frame.data is not None for frame in sent):
+            return []
+        return ["collect"] * (len(sent) - sum(step.reply.startswith("frame") for step in steps))
+
+    def up_to(self, count: int, room: int) -> list[Step] | None:
+        """The steps below a number, without those that leave memory alone where there would be no room; None where
+        there is none even so."""
+        for steps in (self.steps, self.short):
+            some = [step for step in steps if step.number < count]
+            if len(some) + room <= SCRIPT_LIMIT:
+                return some
+        return None
+
+
+class Watch:
+    """Which 16 bytes of lent memory to ask for after each step: those of the rings in use that may have changed."""
+
+    def __init__(self, trace: Trace, sides: list[tuple[str, int]]):
+        self.trace, self.sides = trace, sides
+        self.words = dict(trace.start)
+        self.lent: set[int] = set()
+        self.interest: set[int] = set()
+        self.long: list[Ring] = []
+        self.touched: set[int] = set()
+        self.known: set[int] = set()
+        self.poked: dict[int, bytes] = {}
+
+    def steps(self) -> list[tuple[int, list[int]]]:
+        """For each step with something to ask, its number and the addresses."""
+        plan = []
+        for step in self.trace.steps:
+            before = dict(self.words) if step.reply.startswith(("wrote", "sent", "advanced")) else {}
+            for address, _, new in step.changes:
+                self.words[address] = new
+            changed = self._changed(step, before)
+            self.touched |= changed
+            self.known -= changed
+            if self._is_new_ring(step):
+                self.interest = self._rings()
+            else:
+                self.interest |= {unit for unit in changed if self._is_of_long(unit)}
+            asked = sorted(self.interest - self.known)
+            if asked:
+                plan.append((step.number, asked))
+                self.known.update(asked)
+        return plan
+
+    def _is_new_ring(self, step: Step) -> bool:
+        """Whether a ring may lie elsewhere now, or other blocks are lent."""
+        names = {REGISTERS[address].row.name[1:] for address, _, _ in step.changes}
+        return bool(names & {"DBAL", "DBAH", "DLEN", "DWBAL", "DWBAH"}) or self.trace.instruction(step).op in (
+            Op.LEND,
+            Op.UNLEND,
+        )
+
+    def _rings(self) -> set[int]:
+        """The units of the rings in use: of a long one those alone that were written."""
+        units: set[int] = set()
+        rings = [ring_of(self.words, side, queue) for side, queue in self.sides]
+        self.long = [ring for ring in rings if ring.slots > WHOLE_RING]
+        units.update(unit for unit in self.touched if self._is_of_long(unit))
+        for side, queue in self.sides:
+            ring = ring_of(self.words, side, queue)
+            if ring.slots <= WHOLE_RING:
+                units.update(ring.base + 16 * slot for slot in range(ring.slots))
+            if ring.back is not None:
+                units.add(ring.back & ~15)
+        return {unit for unit in units if unit >> 11 in self.lent}
+
+    def _is_of_long(self, unit: int) -> bool:
+        """Whether a unit is a slot of a long ring, and lent."""
+        return unit >> 11 in self.lent and any(0 <= unit - ring.base < 16 * ring.slots for ring in self.long)
+
+    def _changed(self, step: Step, before: dict[int, int]) -> set[int]:
+        """The units that a step may have written, or lost."""
+        one = self.trace.instruction(step)
+        if one.op == Op.LEND and step.reply == "done":
+            self.lent.add(one.x)
+        elif one.op == Op.UNLEND and step.reply.startswith("taken"):
+            self.lent.discard(one.x)
+            return {unit for unit in self.known if unit >> 11 == one.x}
+        elif one.op == Op.POKE and step.reply == "done":
+            self.poked[one.a] = self.trace.script.data[one.x]
+            return {one.a}
+        elif step.reply.startswith("wrote"):
+            return self._received(step, before)
+        elif one.op == Op.TX and step.reply.startswith(("sent", "advanced")):
+            ring = ring_of(before, "tx", one.x)
+            return {ring.base + 16 * ring.head} | ({ring.back & ~15} if ring.back is not None else set())
+        return set()
+
+    def _received(self, step: Step, before: dict[int, int]) -> set[int]:
+        """The descriptor that was written back, and the units of its buffer that lie in a ring."""
+        queue, slot = number_after(step.reply, "queue") or 0, number_after(step.reply, "slot") or 0
+        unit = ring_of(before, "rx", queue).base + 16 * slot
+        buffer = int.from_bytes(self.poked.get(unit, b"")[:8], "little") & ~1
+        size = (word_of(before, "SRRCTL", queue) & 31) * 1_024
+        written = {one for one in self.interest if buffer - 16 < one < buffer + size} if unit in self.poked else set()
+        return written | {unit}
+
+
+def look(trace: Trace) -> Seen:
+    """Gives each step what it changed of memory, of the frames that wait and of those that went out."""
+    sides = sides_in_use(trace)
+    replay = Replay(trace)
+    arrived, sent = _account(trace, replay)
+    asked = Watch(trace, sides).steps()
+    _ask_memory(trace, replay, asked, sent)
+    _lost(trace)
+    _give_hashes(trace, arrived)
+    _collect(replay, sent)
+    _find_queues(trace, replay, arrived)
+    return Seen(sides, arrived, sent)
+
+
+def _ask_memory(trace: Trace, replay: Replay, asked: list[tuple[int, list[int]]], sent: list[Frame]) -> None:
+    """Runs the steps with peeks between them, as few times as they fit; the last time it collects what went out."""
+    runs, at = 0, 0
+    while at < len(asked):
+        end, room = at, 0
+        while end < len(asked) and replay.up_to(asked[end][0] + 1, room + len(asked[end][1])) is not None:
+            room += len(asked[end][1])
+            end += 1
+        if end == at or runs == RUNS:
+            trace.notes.append(
+                f"from step {asked[at][0]} on lent memory isn't shown: there is no room for peeks behind so many steps"
+            )
+            for number, units in asked[at:]:
+                trace.steps[number].memory = [(unit, None) for unit in units]
+            return
+        steps, behind = replay.up_to(asked[end - 1][0] + 1, room) or [], []
+        if end == len(asked) and (every := replay.up_to(1 << 62, room + len(sent))) is not None:
+            steps, behind = every, replay.collects(every, sent)
+        numbers = {step.number for step in steps}
+        between: dict[int, list[str]] = {}
+        for number, units in asked[at:end]:
+            between.setdefault(_last(numbers, number), []).extend(f"peek 0x{unit:x} 0" for unit in units)
+        *peeked, collected = replay.run(steps, between, behind) or [[]]
+        answers = iter(one for some in peeked for one in some)
+        for number, units in asked[at:end]:
+            trace.steps[number].memory = [(unit, _bytes(next(answers, ""))) for unit in units]
+        _give_bytes(sent, collected)
+        at, runs = end, runs + 1
+
+
+def _last(numbers: set[int], number: int) -> int:
+    """The last step up to a number that is in a run."""
+    while number not in numbers:
+        number -= 1
+    return number
+
+
+def _bytes(answer: str) -> bytes | None:
+    return bytes.fromhex(answer.removeprefix("bytes ")) if answer.startswith("bytes ") else None
+
+
+def _lost(trace: Trace) -> None:
+    """Forgets the units of a block that was taken back, and answers that say the same as before."""
+    held: dict[int, bytes | None] = {}
+    for step in trace.steps:
+        one = trace.instruction(step)
+        if one.op == Op.UNLEND and step.reply.startswith("taken"):
+            step.memory += [(unit, None) for unit in held if unit >> 11 == one.x]
+        step.memory = [(unit, content) for unit, content in step.memory if held.get(unit, b"") != content]
+        held.update(step.memory)
+
+
+def _give_hashes(trace: Trace, arrived: list[Frame]) -> None:
+    """Gives each frame that was written the RSS type and hash that its descriptor tells."""
+    waiting: list[int] = []
+    for step in trace.steps:
+        written = [descriptor("rx", content) for _, content in step.memory] if step.reply.startswith("wrote") else []
+        for one in written:
+            if one.done and waiting:
+                said = dict(one.fields)
+                arrived[waiting[0]].rss = f"type {said['RSS type']}, hash {said['RSS hash']}"
+        for sign, frames in step.waiting:
+            waiting = waiting + frames if sign == "+" else [one for one in waiting if one not in frames]
+
+
+def _account(trace: Trace, replay: Replay) -> tuple[list[Frame], list[Frame]]:
+    """The frames that were let in and those that went out, by the replies, and at which step they came and left."""
+    arrived: list[Frame] = []
+    sent: list[Frame] = []
+    waiting: list[int] = []
+    out: list[int] = []
+    for step in trace.steps:
+        one, reply = trace.instruction(step), step.reply
+        if one.op == Op.ARRIVE and reply == "done":
+            waiting.append(len(arrived))
+            step.waiting.append(("+", [len(arrived)]))
+            arrived.append(Frame(step.number, trace.script.data[one.x]))
+        elif one.op == Op.RX and waiting and not reply.startswith(("idle", "no ")):
+            frame = arrived[waiting[0]]
+            queue = number_after(reply, "queue")
+            frame.queue = queue if queue is not None else frame.queue
+            if reply.startswith("wrote"):
+                frame.slots.append(f"queue {queue} slot {number_after(reply, 'slot')}")
+            if not reply.endswith(" more"):
+                step.waiting.append(("-", [waiting.pop(0)]))
+        elif one.op == Op.TX and reply.startswith("sent"):
+            out.append(len(sent))
+            step.out.append(("+", [len(sent)]))
+            sent.append(Frame(step.number, None, one.x))
+        elif one.op == Op.COLLECT and reply.startswith("frame") and out:
+            sent[out[0]].data = bytes.fromhex(reply.split()[-1])
+            step.out.append(("-", [out.pop(0)]))
+        elif waiting and (gone := _forgotten(trace, replay, step, waiting, arrived)):
+            step.waiting.append(("-", gone))
+            waiting = [one for one in waiting if one not in gone]
+    return arrived, sent
+
+
+def _forgotten(trace: Trace, replay: Replay, step: Step, waiting: list[int], arrived: list[Frame]) -> list[int]:
+    """The frames that wait no more, though no receive step took them: a reset, or a queue off in the middle of one."""
+    one = trace.instruction(step)
+    if one.op == Op.WRITE and one.a in (0, 4) and one.b & (1 << 3 | 1 << 26):
+        return list(waiting)
+    front = arrived[waiting[0]]
+    if one.op == Op.QSTEP and not one.sub and step.reply == "done" and front.slots and front.queue == one.x:
+        return [waiting[0]]
+    if step.reply != "done" or not _is_pool_reset(one):
+        return []
+    before, after = (_waiting_queues(trace, replay, count, len(waiting)) for count in (step.number, step.number + 1))
+    kept: list[int] = []
+    for frame, queue in zip(waiting, before):
+        if len(kept) < len(after) and after[len(kept)] == queue:
+            kept.append(frame)
+    return [frame for frame in waiting[: len(before)] if frame not in kept]
+
+
+def _is_pool_reset(one: Instruction) -> bool:
+    """Whether an instruction may reset a pool."""
+    is_control = one.op == Op.WRITE and first("PVFCTRL") <= one.a < first("PVFCTRL", 63) + 4
+    return (is_control or one.op == Op.VF_WRITE and one.a == 0) and bool(one.b & 1 << 26)
+
+
+def _give_bytes(sent: list[Frame], answers: list[str]) -> None:
+    """Gives the frames that went out last the bytes that were collected at the end."""
+    collected = [answer for answer in answers if answer.startswith("frame")]
+    for frame, answer in zip(reversed(sent), reversed(collected)):
+        frame.data = bytes.fromhex(answer.split()[-1])
+
+
+def _collect(replay: Replay, sent: list[Frame]) -> None:
+    """The bytes of frames that went out and whose bytes nothing told yet."""
+    if any(frame.data is None for frame in sent) and (steps := replay.up_to(1 << 62, len(sent))) is not None:
+        _give_bytes(sent, (replay.run(steps, {}, replay.collects(steps, sent)) or [[]])[-1])
+
+
+def _find_queues(trace: Trace, replay: Replay, arrived: list[Frame]) -> None:
+    """The queues of frames whose queue no reply told."""
+    waiting: list[int] = []
+    states: list[tuple[int, list[int]]] = []
+    for step in trace.steps:
+        for sign, frames in step.waiting:
+            if sign == "-" and any(arrived[one].queue is None for one in frames):
+                states.append((step.number, list(waiting)))
+            waiting = waiting + frames if sign == "+" else [one for one in waiting if one not in frames]
+    states.append((len(trace.steps), waiting))
+    for count, frames in states:
+        if any(arrived[one].queue is None for one in frames):
+            for frame, queue in zip(frames, _waiting_queues(trace, replay, count, len(frames))):
+                arrived[frame].queue = queue
+
+
+def _waiting_queues(trace: Trace, replay: Replay, count: int, frames: int) -> list[int]:
+    """The queues of the frames that wait after so many steps, in order; of fewer frames, or of none, where there is no
+    room to ask. Behind those steps all queues are switched on with a tail that is no slot of theirs: so a receive step
+    takes the frame in front, its reply names the queue, and this goes off. Where that hides a further frame of it, the
+    queues that were named are switched on anew for each frame."""
+    if replay.asked == 2 * RUNS:
+        trace.notes.append(f"which frames wait, and for which queue, isn't asked for at step {count} and further ones")
+    replay.asked += 1
+    if replay.asked > 2 * RUNS:
+        return []
+    lines = [f"w 0x{first('CTRL'):x} 0", *_armed(list(range(128))), "again:", "rx", "jmp again"]
+    answers = replay.behind(count, lines, 128 * 3 + 1 + 2 * frames)
+    named = _named(answers)
+    if "dropped queue off" in answers:
+        lines = [f"w 0x{first('CTRL'):x} 0", "again:", *_armed(named), "rx", "jmp again"]
+        answers = replay.behind(count, lines, 1 + (3 * len(named) + 2) * frames)
+        named = _named(answers)
+    return named
+
+
+def _named(answers: list[str]) -> list[int]:
+    """The queues that faults name."""
+    return [int(answer.split()[2]) for answer in answers if answer.startswith("fault queue")]
+
+
+def _armed(queues: list[int]) -> list[str]:
+    """Lines that switch queues on, with a tail that is no slot."""
+    lines = []
+    for queue in queues:
+        control, tail = first("RXDCTL", queue), first("RDT", queue)
+        lines += [f"w 0x{control:x} 0x{ENABLE:x}", f"qstep rx {queue}", f"w 0x{tail:x} 0xffff"]
+    return lines

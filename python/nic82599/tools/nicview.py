@@ -1,0 +1,73 @@
+"""Shows a run of a script on the bench: as one page for a browser, as lines of text, or one step of it as a picture.
+
+    tools/nicview SCRIPT -o run.html            a page, which needs no network
+    tools/nicview SCRIPT --text                 the same as lines, with the rings drawn in characters
+    tools/nicview SCRIPT --svg STEP -o it.svg   a picture of the machine after a step
+
+SCRIPT is a register script, a session of the debugger (what stands in front of its line `%`), or - for standard input.
+Everything shown is an answer of ./nicbench. Exit status: 0 it is shown; 1 the script failed, or runs on after --limit
+steps, and is shown; 2 the script is refused or can't be read; 3 the words are wrong; 4 ./nicbench gave no answer.
+"""
+
+from __future__ import annotations
+
+import argparse
+import sys
+from pathlib import Path
+
+from . import draw
+from . import page
+from .memory import look
+from .reasons import Reasons
+from .tool import Parser, ended, number, sizes
+from .script import Bench, Fault
+from .trace import trace
+
+
+def words() -> argparse.Namespace:
+    parser = Parser(description=__doc__, formatter_class=argparse.RawDescriptionHelpFormatter)
+    parser.add_argument("script", metavar="SCRIPT")
+    sizes(parser)
+    limit = "how many steps are shown at most (4096)"
+    parser.add_argument("--limit", metavar="N", type=number(1, 100_000), default=4_096, help=limit)
+    parser.add_argument("-o", metavar="FILE", help="where to write; without it, to standard output")
+    form = parser.add_mutually_exclusive_group()
+    form.add_argument("--text", action="store_true", help="lines of text in place of a page")
+    form.add_argument("--svg", type=number(0, 99_999), metavar="STEP", help="a picture of the machine after this step")
+    return parser.parse_args()
+
+
+def write(path: str | None, text: str) -> None:
+    """Writes a file, or standard output."""
+    if path is None:
+        sys.stdout.write(text)
+        return
+    try:
+        Path(path).write_text(text)
+    except OSError as error:
+        raise Fault(f"{path} can't be written ({error.strerror}): give another file with -o") from None
+    print(f"{path}: {len(text.encode()):,} bytes", file=sys.stderr)
+
+
+def main() -> int:
+    asked = words()
+    if asked.o is None and asked.svg is None and not asked.text and sys.stdout.isatty():
+        raise Fault("a page isn't for the terminal: give a file with -o run.html, or --text")
+    bench = Bench(asked.vfs, asked.fifo)
+    run = trace(bench, asked.script, asked.limit)
+    seen = look(run)
+    reasons = Reasons(run, seen).all()
+    if asked.text:
+        write(asked.o, "".join(line + "\n" for line in draw.text(run, seen, reasons)))
+    elif asked.svg is not None:
+        if asked.svg >= len(run.steps):
+            raise Fault(f"there is no step {asked.svg}: the run has {len(run.steps)} steps, counted from 0")
+        write(asked.o, draw.picture(run, seen, reasons, asked.svg))
+    else:
+        write(asked.o, page.page(page.Data(run, seen, reasons).whole()))
+    return 0 if run.last.startswith("ok") else 1
+
+
+def command() -> int:
+    """The command `nicview`."""
+    return ended(main, "nicview")

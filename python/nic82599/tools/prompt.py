@@ -1,0 +1,411 @@
+"""The commands of tools/nicdebug: a session of `nicbench debug` that is asked one command at a time.
+
+The debugger reads all its commands at once. So a session keeps those that were taken so far, and each further command
+runs them anew with itself behind them; the debugger comes to the same place each time.
+"""
+
+from __future__ import annotations
+
+import re
+import sys
+from collections.abc import Callable
+
+from . import regs
+from .draw import State, ring_lines
+from .forms import number_of
+from .memory import Replay, Seen, look
+from .reasons import Reason, Reasons
+from .script import Bench, Fault, Refused, Script
+from .trace import Trace, made, trace_of
+
+HELP = """\
+step [N], s        N steps on (1)                       back [N], b        N steps back (1)
+continue [N], c    on to the next breakpoint, or until a watched register changes, or the end; N steps at most
+break WHERE        a breakpoint at a label, a line as `line 14`, or an instruction's number; clear WHERE takes it away
+breaks             the breakpoints                      list [LINE], l     the script round here, or round a line
+show TARGET, r     a register: RDT[3], GPRC, 0x01018    watch TARGET       told when it changes; unwatch TARGET
+showvf N OFFSET    an offset of virtual function N      offsets N          what its offsets name now
+peek ADDRESS [N]   16 bytes of lent memory, N times     rings              the rings in use
+why                why the last step was idle, dropped a frame or met a fault
+restart            to the start; breakpoints stay       where, w           this place
+help, h            these lines                          quit, q            ends the session (also ^D)
+An empty line does the last `step`, `back` or `continue` again."""
+SHORT = {
+    "s": "step",
+    "b": "back",
+    "c": "continue",
+    "r": "show",
+    "p": "show",
+    "print": "show",
+    "l": "list",
+    "w": "where",
+}
+SHORT |= {"h": "help", "?": "help", "q": "quit", "exit": "quit", "n": "step", "next": "step", "x": "peek"}
+MEANINGS = {"NoSuchPc": ": no such instruction, or no breakpoint there", "TooManyBreaks": ": 32 are set already"}
+SHOWN = 12
+
+
+class Wrong(Exception):
+    """A command that can't be done: one line that says why."""
+
+
+class Session:
+    """The commands taken so far, and the place to which they lead."""
+
+    def __init__(self, bench: Bench, script: Script, text: str, limit: int):
+        self.bench, self.script, self.text, self.limit = bench, script, text, limit
+        self.steps, self.last = made(bench, script, bench.run(text, limit), limit)
+        self.numbers = script.text()
+        self.commands: list[str] = []
+        self.breaks: set[int] = set()
+        self.watched: dict[int, int] = {}
+        self.at, self.view = 0, f"at 0 pc 0 acc 0x00000000 {'running' if script.instructions else 'ended'}"
+        self.whole: tuple[Trace, Seen, list[list[Reason]]] | None = None
+
+    def ask(self, more: list[str], count: int = 1) -> list[str]:
+        """The last lines that the debugger prints for the commands so far and these behind them."""
+        return self.bench.debug(self.numbers, self.commands + more)[-count:]
+
+    def take(self, command: str) -> str:
+        """Makes a command of the debugger and keeps it, unless it is refused."""
+        answer = self.ask([command])[0]
+        if answer.startswith("refused"):
+            raise Wrong(answer + MEANINGS.get(answer.split()[-1], ""))
+        self.commands.append(command)
+        if answer.startswith("at "):
+            self.view, self.at = answer, int(answer.split()[1])
+        return answer
+
+    @property
+    def pc(self) -> int:
+        return int(self.view.split()[3])
+
+    def trace(self) -> tuple[Trace, Seen, list[list[Reason]]]:
+        """The whole run with its rings and reasons, looked at once."""
+        if self.whole is None:
+            run = trace_of(self.bench, self.script, self.text, self.limit)
+            seen = look(run)
+            self.whole = (run, seen, Reasons(run, seen).all())
+        return self.whole
+
+
+def line_at(session: Session, pc: int) -> str:
+    """An instruction as a line of the listing."""
+    if pc >= len(session.script.line_of):
+        return "the end of the script"
+    number = session.script.line_of[pc]
+    return f"{number:5}  {session.script.lines[number - 1].strip()[:100]}"
+
+
+def told_view(session: Session) -> str:
+    """Where the machine is, and what comes next."""
+    status = session.view.split()[-1]
+    return (
+        f"{session.view}\n{line_at(session, session.pc)}" if status == "running" else f"{session.view}: {session.last}"
+    )
+
+
+def place(session: Session, words: list[str]) -> int:
+    """The instruction that the words name: a label, `line N`, or a number."""
+    script = session.script
+    if len(words) == 2 and words[0] == "line" and (number := number_of(words[1])) is not None:
+        found = [pc for pc, line in enumerate(script.line_of) if line >= number]
+        if not found or number < 1:
+            raise Wrong(f"no instruction stands at line {number} or behind it")
+        return found[0]
+    if len(words) != 1:
+        raise Wrong("break needs a label, `line 14`, or an instruction's number")
+    if words[0] in script.labels:
+        return script.labels[words[0]]
+    if (pc := number_of(words[0])) is not None:
+        return pc
+    raise Wrong(f"no label {words[0]}; labels: {', '.join(script.labels) or 'none'}; a line is named as `line 14`")
+
+
+def target(word: str) -> int:
+    """The address of a register by its name, or an address."""
+    if (address := number_of(word)) is not None:
+        return address
+    found = re.fullmatch(r"(\w+)(?:\[(\w+)\])?", word)
+    name, index = (found[1].upper(), number_of(found[2] or "0")) if found else ("", None)
+    row = regs.ROWS.get(name)
+    if row is None:
+        close = ", ".join(regs.near(name, list(regs.ROWS)))
+        raise Wrong(f"no register {word}" + (f"; near: {close}" if close else ""))
+    if index is None or index >= row.count:
+        raise Wrong(f"{name} has {row.count} register{'s' if row.count > 1 else ''}, from [0] to [{row.count - 1}]")
+    return regs.first(name, index)
+
+
+def count_of(words: list[str], default: int) -> int:
+    """A number of steps, or the default where there is none."""
+    value = number_of(words[0]) if words else default
+    if value is None or len(words) > 1:
+        raise Wrong("a number of steps is expected")
+    return value
+
+
+def told_word(address: int, answer: str) -> str:
+    """A show of the debugger, with the register's name and fields."""
+    register, word = regs.register_at(address), answer.split()[1]
+    if register is None or word == "stray":
+        return answer
+    fields = regs.told(register.row, int(word, 16))
+    return f"{register.name}  {answer}" + (f"  {fields}" if fields else "")
+
+
+def moved(session: Session, before: int) -> list[str]:
+    """What the steps between two places did."""
+    lines = []
+    if session.at > before:
+        steps = session.steps[before : session.at]
+        lines += [f"({len(steps) - SHOWN} steps more)"] if len(steps) > SHOWN else []
+        for step in steps[-SHOWN:]:
+            lines.append(f"{line_at(session, step.pc)}    -> {step.reply or 'no event'}")
+    lines += watched(session)
+    return lines + [told_view(session)]
+
+
+def watched(session: Session) -> list[str]:
+    """The watched registers that changed."""
+    lines = []
+    words = _words(session, [], list(session.watched))
+    for (address, old), new in zip(list(session.watched.items()), words):
+        if old != new:
+            told = regs.told(regs.REGISTERS[address].row, new)
+            lines.append(f"watch {regs.name_at(address)}: 0x{old:08x} -> 0x{new:08x}  {told}".rstrip())
+            session.watched[address] = new
+    return lines
+
+
+def _words(session: Session, more: list[str], addresses: list[int]) -> list[int]:
+    """Registers behind further commands."""
+    shown = session.ask(more + [f"show 0x{address:x}" for address in addresses], len(addresses)) if addresses else []
+    return [int(line.split()[1], 16) for line in shown]
+
+
+def do_step(session: Session, words: list[str]) -> list[str]:
+    before = session.at
+    session.take(f"step {count_of(words, 1)}")
+    return moved(session, before)
+
+
+def do_back(session: Session, words: list[str]) -> list[str]:
+    try:
+        session.take(f"back {count_of(words, 1)}")
+    except Wrong as wrong:
+        raise Wrong(f"{wrong}: only {session.at} steps were made") from None
+    return watched(session) + [told_view(session)]
+
+
+def do_continue(session: Session, words: list[str]) -> list[str]:
+    """On to a breakpoint. Where registers are watched, every step up to it is looked at first."""
+    before, count = session.at, count_of(words, session.limit)
+    end = int(session.ask([f"continue {count}"])[0].split()[1])
+    addresses = list(session.watched)
+    if addresses and end > before:
+        each = ["step 1"] + [f"show 0x{address:x}" for address in addresses]
+        lines = session.ask(each * (end - before), (end - before) * len(each))
+        for k in range(end - before):
+            shown = [int(line.split()[1], 16) for line in lines[k * len(each) + 1 : (k + 1) * len(each)]]
+            if shown != list(session.watched.values()):
+                session.take(f"step {k + 1}")
+                return moved(session, before)
+    session.take(f"continue {count}")
+    return moved(session, before)
+
+
+def do_break(session: Session, words: list[str]) -> list[str]:
+    pc = place(session, words)
+    session.take(f"break {pc}")
+    session.breaks.add(pc)
+    return [f"breakpoint at instruction {pc}", line_at(session, pc)]
+
+
+def do_clear(session: Session, words: list[str]) -> list[str]:
+    pc = place(session, words)
+    session.take(f"clear {pc}")
+    session.breaks.discard(pc)
+    return [f"no breakpoint at instruction {pc} any more"]
+
+
+def do_breaks(session: Session, words: list[str]) -> list[str]:
+    return [f"{pc:5}: {line_at(session, pc).strip()}" for pc in sorted(session.breaks)] or ["no breakpoint is set"]
+
+
+def do_list(session: Session, words: list[str]) -> list[str]:
+    script = session.script
+    here = script.line_of[session.pc] if session.pc < len(script.line_of) else len(script.lines)
+    middle = count_of(words, here)
+    begin = max(0, min(middle - 6, len(script.lines) - 11))
+    lines = enumerate(script.lines[begin : begin + 11], begin + 1)
+    return [f"{'>' if number == here else ' '}{number:4}  {line[:110]}" for number, line in lines]
+
+
+def do_show(session: Session, words: list[str]) -> list[str]:
+    if not words:
+        raise Wrong("show needs a register or an address")
+    addresses = [target(word) for word in words]
+    shown = session.ask([f"show 0x{address:x}" for address in addresses], len(addresses))
+    return [told_word(address, answer) for address, answer in zip(addresses, shown)]
+
+
+def do_showvf(session: Session, words: list[str]) -> list[str]:
+    numbers = [number_of(word) for word in words]
+    if len(numbers) != 2 or None in numbers:
+        raise Wrong("showvf needs a function's number and an offset")
+    function, offset = int(numbers[0] or 0), int(numbers[1] or 0)
+    register = regs.function_register(_queues(session), function, offset)
+    answer = session.ask([f"showvf {function} {offset}"])[0]
+    name = f"{register.name}  " if register and not answer.endswith("stray") else ""
+    return [name + answer]
+
+
+def _queues(session: Session) -> int:
+    """How many queues a pool has now."""
+    return regs.queues_of_pool(_words(session, [], [regs.first("GCR_EXT")])[0])
+
+
+def do_offsets(session: Session, words: list[str]) -> list[str]:
+    function, k = count_of(words, 0), _queues(session)
+    if function >= session.bench.vfs or not k:
+        raise Wrong(
+            f"there is no function {function}: the device has {session.bench.vfs} (--vfs), "
+            f"and GCR_EXT.VT_Mode gives {128 // k if k else 'no'} pools"
+        )
+    named = regs.function_offsets(k, function)
+    shown = session.ask([f"showvf {function} {offset}" for offset, _ in named], len(named))
+    return [
+        f"0x{offset:04x}  {register.name:12} {answer.split()[1]}" for (offset, register), answer in zip(named, shown)
+    ]
+
+
+def do_watch(session: Session, words: list[str]) -> list[str]:
+    if not words:
+        return [regs.name_at(address) for address in session.watched] or ["no register is watched"]
+    for word in words:
+        register = regs.register_at(target(word))
+        if register is None:
+            raise Wrong(f"{word} names no register")
+        session.watched[register.address] = _words(session, [], [register.address])[0]
+    return do_show(session, words)
+
+
+def do_unwatch(session: Session, words: list[str]) -> list[str]:
+    for word in words:
+        if session.watched.pop(target(word), None) is None:
+            raise Wrong(f"{word} isn't watched")
+    return []
+
+
+def do_peek(session: Session, words: list[str]) -> list[str]:
+    numbers = [number_of(word) for word in words]
+    if not 1 <= len(numbers) <= 2 or None in numbers:
+        raise Wrong("peek needs an address, and may have a count")
+    begin, count = int(numbers[0] or 0) & ~15, min(int(numbers[1] or 1) if len(numbers) == 2 else 1, 128)
+    addresses = [begin + 16 * k for k in range(count)]
+    replay = Replay(Trace(session.bench, session.script, session.steps, {}, session.last))
+    steps = replay.up_to(session.at, count)
+    if steps is None:
+        raise Wrong("there is no room for a peek behind so many steps: a script has 4096 instructions at most")
+    answers = (replay.run(steps, {}, [f"peek 0x{address:x} 0" for address in addresses]) or [[]])[-1]
+    return [f"0x{address:05x}  {answer.removeprefix('bytes ')}" for address, answer in zip(addresses, answers)]
+
+
+def do_rings(session: Session, words: list[str]) -> list[str]:
+    run, seen, _ = session.trace()
+    state = State(run, seen)
+    for step in run.steps[: session.at]:
+        state.make(step)
+    return [line for ring in state.rings() for line in ring_lines(ring, state.memory)] or ["no ring has a length"]
+
+
+def do_why(session: Session, words: list[str]) -> list[str]:
+    if not session.at:
+        raise Wrong("no step was made yet")
+    if session.at > len(session.steps):
+        raise Wrong(f"only the first {len(session.steps)} steps can be told of; --limit takes more")
+    step, reasons = session.steps[session.at - 1], session.trace()[2][session.at - 1]
+    head = f"{line_at(session, step.pc)}    -> {step.reply or 'no event'}"
+    return (
+        [head] + [f"  {'*' if one.held else ' '} {one.text}" for one in reasons]
+        if reasons
+        else [head + ": it did what was asked"]
+    )
+
+
+def do_restart(session: Session, words: list[str]) -> list[str]:
+    session.commands = [f"break {pc}" for pc in sorted(session.breaks)]
+    session.at, session.view = 0, session.ask(["back 0"])[0]
+    return watched(session) + [told_view(session)]
+
+
+def do_where(session: Session, words: list[str]) -> list[str]:
+    return [told_view(session)]
+
+
+def do_help(session: Session, words: list[str]) -> list[str]:
+    return HELP.splitlines()
+
+
+COMMANDS: dict[str, Callable[[Session, list[str]], list[str]]] = {
+    name.removeprefix("do_"): act for name, act in list(globals().items()) if name.startswith("do_")
+}
+
+
+def answer(session: Session, line: str) -> list[str]:
+    """The lines that a command prints; a wrong one says why and changes nothing."""
+    words = line.split()
+    name = SHORT.get(words[0].lower(), words[0].lower())
+    begun = [one for one in COMMANDS if one.startswith(name)]
+    name = name if name in COMMANDS or len(begun) != 1 else begun[0]
+    if name not in COMMANDS:
+        close = ", ".join(regs.near(name, [one.upper() for one in COMMANDS])).lower()
+        return [f"no command {words[0]}" + (f"; near: {close}" if close else "") + "; help lists them"]
+    try:
+        return COMMANDS[name](session, words[1:])
+    except Wrong as wrong:
+        return [str(wrong)]
+    except Refused as refused:
+        return [f"{refused.name}: the debugger doesn't take this; help lists the commands"]
+    except Fault as fault:
+        return [str(fault)]
+
+
+def completer(names: list[str]) -> Callable[[str, int], str | None]:
+    """Completes the last word to one of these names."""
+
+    def complete(text: str, number: int) -> str | None:
+        begun = [name for name in names if name.lower().startswith(text.lower())]
+        return begun[number] if number < len(begun) else None
+
+    return complete
+
+
+def prompt(session: Session) -> None:
+    """Reads commands until the session is ended."""
+    import readline
+
+    readline.set_completer(completer([*COMMANDS, "quit", *regs.ROWS, *session.script.labels]))
+    readline.set_completer_delims(" ")
+    readline.parse_and_bind("tab: complete")
+    is_terminal = sys.stdin.isatty()
+    print(f"{session.script.path}: {len(session.script.instructions)} instructions; help lists the commands")
+    print(told_view(session))
+    again = ""
+    while True:
+        try:
+            line = input("(nic) " if is_terminal else "").split("#")[0].strip() or again
+        except EOFError:
+            print() if is_terminal else None
+            return
+        except KeyboardInterrupt:
+            print()
+            continue
+        if not line:
+            continue
+        if SHORT.get(line.split()[0].lower(), line.lower()) == "quit":
+            return
+        name = SHORT.get(line.split()[0].lower(), line.split()[0].lower())
+        again = line if name in ("step", "back", "continue") else ""
+        print("\n".join(answer(session, line)), flush=True)

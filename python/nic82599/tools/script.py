@@ -1,0 +1,300 @@
+"""The program `nicbench` and a script with its object: what the tools ask, and the lines that they ask about."""
+
+from __future__ import annotations
+
+import os
+import re
+import subprocess
+import sys
+from concurrent.futures import ThreadPoolExecutor
+from dataclasses import dataclass
+from enum import IntEnum
+from pathlib import Path
+from threading import Lock
+
+ROOT = Path(__file__).resolve().parents[3]
+PROGRAM = Path(os.environ.get("NICBENCH") or ROOT / "nicbench")
+LIMIT = 8_388_608
+
+
+class Fault(Exception):
+    """Something that the user can mend: one line that says what to do. Of the program where it gave no answer."""
+
+    def __init__(self, line: str, is_of_program: bool = False):
+        super().__init__(line)
+        self.is_of_program = is_of_program
+
+
+class Refused(Exception):
+    """The bench refuses the input: by this name, at this line, or 0."""
+
+    def __init__(self, name: str, line: int):
+        super().__init__(f"refused {name}" + (f" {line}" if line else ""))
+        self.name, self.line = name, line
+
+
+class Op(IntEnum):
+    """The operations, by their numbers in an object."""
+
+    WRITE = 1
+    READ = 2
+    VF_WRITE = 3
+    VF_READ = 4
+    LEND = 5
+    UNLEND = 6
+    POKE = 7
+    PEEK = 8
+    ARRIVE = 9
+    RX = 10
+    TX = 11
+    INT = 12
+    QSTEP = 13
+    EESTEP = 14
+    LINK = 15
+    COLLECT = 16
+    EXPECT = 17
+    AND = 18
+    JEQ = 19
+    JNE = 20
+    JMP = 21
+    HALT = 22
+
+
+_NUMBERS = {int(one) for one in Op}
+JUMPS = (Op.JEQ, Op.JNE, Op.JMP)
+
+
+@dataclass(frozen=True)
+class Instruction:
+    """An instruction as docs/OBJECTS.md lays it out."""
+
+    op: Op
+    sub: int
+    x: int
+    a: int
+    b: int
+
+    def line(self) -> str:
+        """A line of a script that means it; data is called d0, d1 .., and jumps go to L0, L1 .."""
+        x, a, b = self.x, f"0x{self.a:x}", f"0x{self.b:x}"
+        side = "tx" if self.sub else "rx"
+        return {
+            Op.WRITE: f"w {a} {b}",
+            Op.READ: f"r {a}",
+            Op.VF_WRITE: f"vw {x} {a} {b}",
+            Op.VF_READ: f"vr {x} {a}",
+            Op.LEND: f"lend {x}",
+            Op.UNLEND: f"unlend {x}",
+            Op.POKE: f"poke {a} d{x}",
+            Op.PEEK: f"peek {a} {self.sub}",
+            Op.ARRIVE: f"arrive d{x}",
+            Op.RX: "rx",
+            Op.TX: f"tx {x}",
+            Op.INT: f"int {x}" if self.sub else "int pf",
+            Op.QSTEP: f"qstep {side} {x}",
+            Op.EESTEP: "eestep",
+            Op.LINK: "link up" if self.sub else "link down",
+            Op.COLLECT: "collect",
+            Op.EXPECT: f"expect {a} {b}",
+            Op.AND: f"and {a}",
+            Op.JEQ: f"jeq {a} L{x}",
+            Op.JNE: f"jne {a} L{x}",
+            Op.JMP: f"jmp L{x}",
+            Op.HALT: "halt",
+        }[self.op]
+
+    @property
+    def is_local(self) -> bool:
+        """Whether it asks nothing of the device, so that `run` prints no line for it."""
+        return self.op >= Op.EXPECT
+
+
+# The starter compiles the program where there is none: that is done once, before any calls side by side.
+_STARTED = Lock()
+
+
+class Bench:
+    """The program `nicbench`, with the sizes of its device."""
+
+    is_made = False
+
+    def __init__(self, vfs: int | None = None, fifo: int | None = None):
+        self.vfs, self.fifo = vfs or 0, 64 if fifo is None else fifo
+        self.options: list[str] = []
+        for name, value in (("--vfs", vfs), ("--fifo", fifo)):
+            self.options += [name, str(value)] if value is not None else []
+
+    def call(self, words: list[str], text: bytes) -> tuple[int, bytes]:
+        """Its status and output; Refused where it refuses the input, Fault where it gives no answer."""
+        with _STARTED:
+            if not Bench.is_made:
+                self._call(["--version"], b"")
+                Bench.is_made = True
+        return self._call(words, text)
+
+    def _call(self, words: list[str], text: bytes) -> tuple[int, bytes]:
+        if len(text) > LIMIT:
+            raise Fault(
+                f"the input is too long: the bench reads {LIMIT:,} bytes, and this has {len(text):,}; cut the script"
+            )
+        try:
+            ran = subprocess.Popen(
+                [str(PROGRAM), *words], stdin=subprocess.PIPE, stdout=subprocess.PIPE, stderr=subprocess.PIPE
+            )
+        except OSError as error:
+            raise Fault(
+                f"{PROGRAM} can't be started ({error.strerror}): set NICBENCH, or use a whole clone", True
+            ) from None
+        with ThreadPoolExecutor(1) as pool:
+            said = pool.submit(_hear, ran.stderr)
+            out, _ = _talk(ran, text)
+        if ran.returncode == 2 and (found := re.fullmatch(rb"refused (\w+)(?: (\d+))?\n", out)):
+            raise Refused(found[1].decode(), int(found[2] or 0))
+        if ran.returncode not in ((0, 1) if words[0] == "run" else (0,)) or not out:
+            reason = (out.decode(errors="replace") + said.result()).strip().splitlines()
+            last = reason[-1] if reason else "it printed nothing"
+            raise Fault(f"{PROGRAM} {' '.join(words)} ended with status {ran.returncode}: {last}", True)
+        return ran.returncode, out
+
+    def debug(self, script: str, commands: list[str]) -> list[str]:
+        """The lines that the debugger prints for these commands, without the first of a session."""
+        text = script + ("" if script.endswith("\n") else "\n") + "%\n" + "\n".join(commands) + "\n"
+        return self.call(["debug", *self.options], text.encode())[1].decode().splitlines()
+
+    def run(self, script: str, limit: int) -> list[str]:
+        """The lines that a run prints."""
+        return self.call(["run", *self.options, "--limit", str(limit)], script.encode())[1].decode().splitlines()
+
+
+def _talk(ran: subprocess.Popen[bytes], text: bytes) -> tuple[bytes, bytes]:
+    """Writes the input while the output is read, by a thread: neither side waits for the other."""
+    assert ran.stdin and ran.stdout
+    with ThreadPoolExecutor(1) as pool:
+        out = pool.submit(ran.stdout.read)
+        try:
+            ran.stdin.write(text)
+            ran.stdin.close()
+        except BrokenPipeError:
+            pass
+        result = out.result()
+    ran.wait()
+    return result, b""
+
+
+def _hear(stream: object) -> str:
+    """What the starter says on standard error. That it compiles, which takes a while, is passed on at once."""
+    said = []
+    for line in stream:  # type: ignore[attr-defined]
+        text = line.decode(errors="replace")
+        if "compiles" in text:
+            print(text, end="", file=sys.stderr, flush=True)
+        if "so this is the unproved program" not in text:
+            said.append(text)
+    return "".join(said)
+
+
+@dataclass
+class Script:
+    """A script with its object: `lines` as they stand, and for each instruction the number of its line, from 1 on."""
+
+    path: str
+    lines: list[str]
+    instructions: list[Instruction]
+    data: list[bytes]
+    line_of: list[int]
+    labels: dict[str, int]
+    data_names: list[str]
+
+    @property
+    def has_jumps(self) -> bool:
+        return any(one.op in JUMPS for one in self.instructions)
+
+    def text(self) -> str:
+        """The same program, in numbers alone, which the bench reads faster than names."""
+        targets = {one.x for one in self.instructions if one.op in JUMPS}
+        lines = [f"data d{n} {data.hex()}" for n, data in enumerate(self.data)]
+        for pc, one in enumerate(self.instructions):
+            lines += [f"L{pc}:"] if pc in targets else []
+            lines.append(one.line())
+        lines += [f"L{len(self.instructions)}:"] if len(self.instructions) in targets else []
+        return "\n".join(lines) + "\n"
+
+    def shown(self, pc: int) -> str:
+        """An instruction as the script has it, without its comment."""
+        return " ".join(self.lines[self.line_of[pc] - 1].split("#")[0].split())
+
+    def comment(self, pc: int) -> str:
+        """The comment behind an instruction."""
+        return self.lines[self.line_of[pc] - 1].partition("#")[2].strip()
+
+
+def script_part(text: str) -> str:
+    """A script, or what stands in front of the line `%` of a session."""
+    lines = text.splitlines(keepends=True)
+    for n, line in enumerate(lines):
+        if line.split("#")[0].split() == ["%"]:
+            return "".join(lines[:n])
+    return text
+
+
+def read_text(path: str) -> str:
+    """The script in a file, or from standard input where its name is `-`."""
+    try:
+        raw = sys.stdin.buffer.read() if path == "-" else Path(path).read_bytes()
+    except OSError as error:
+        raise Fault(f"{path} can't be read ({error.strerror}): give the file of a script") from None
+    if len(raw) > LIMIT:
+        raise Fault(f"{path} is too long: the bench reads {LIMIT:,} bytes, and this has {len(raw):,}; cut the script")
+    try:
+        return script_part(raw.decode())
+    except UnicodeDecodeError as error:
+        raise Fault(f"{path} isn't UTF-8 from byte {error.start} on: a script is text, not an object") from None
+
+
+def instructions_of(script: bytes) -> tuple[list[Instruction], list[bytes]]:
+    """The instructions and the data strings of an object."""
+    count, strings = int.from_bytes(script[6:8], "little"), int.from_bytes(script[8:10], "little")
+    instructions, at = [], 16
+    for _ in range(count):
+        op, sub, x, a, b = (
+            int.from_bytes(script[at + n : at + m], "little") for n, m in ((0, 1), (1, 2), (2, 4), (4, 8), (8, 12))
+        )
+        if op not in _NUMBERS:
+            raise Fault(f"the bench has an operation {op} that these tools don't know: take both from one clone", True)
+        instructions.append(Instruction(Op(op), sub, x, a, b))
+        at += 12
+    data = []
+    for _ in range(strings):
+        length = int.from_bytes(script[at : at + 2], "little")
+        data.append(script[at + 2 : at + 2 + length])
+        at += 2 + length
+    return instructions, data
+
+
+def load(bench: Bench, path: str) -> Script:
+    """A script from a file; Refused where the bench refuses it."""
+    return of_text(bench, path, read_text(path))
+
+
+def of_text(bench: Bench, path: str, text: str) -> Script:
+    """A script from its text. What its lines mean, `nicbench asm` says; which lines they are is counted here."""
+    instructions, data = instructions_of(bench.call(["asm"], text.encode())[1])
+    line_of: list[int] = []
+    labels: dict[str, int] = {}
+    lines, names = text.split("\n"), []
+    lines = [line.removesuffix("\r") for line in (lines if lines[-1] else lines[:-1])]
+    for number, line in enumerate(lines, 1):
+        words = line.split("#")[0].split()
+        if not words:
+            continue
+        if words[0] == "data":
+            names.append(words[1])
+        elif len(words) == 1 and words[0].endswith(":"):
+            labels[words[0][:-1]] = len(line_of)
+        else:
+            line_of.append(number)
+    if len(line_of) != len(instructions) or len(names) != len(data):
+        raise Fault(
+            f"{path} has {len(instructions)} instructions, but {len(line_of)} lines of them: tell the bench's makers"
+        )
+    return Script(path, lines, instructions, data, line_of, labels, names)

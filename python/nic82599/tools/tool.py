@@ -1,0 +1,56 @@
+"""What the tools have in common: their words, and how they end."""
+
+from __future__ import annotations
+
+import argparse
+import os
+import sys
+from collections.abc import Callable
+from typing import NoReturn
+
+from .script import Fault, Refused
+
+
+class Parser(argparse.ArgumentParser):
+    """Tells wrong words in one line, with status 3."""
+
+    def error(self, message: str) -> NoReturn:
+        print(f"{self.prog}: {message}; {self.prog} --help lists the words", file=sys.stderr)
+        sys.exit(3)
+
+
+def number(low: int, high: int) -> Callable[[str], int]:
+    """A number between two others."""
+
+    def read(word: str) -> int:
+        value = int(word) if word.isdigit() else -1
+        if not low <= value <= high:
+            raise argparse.ArgumentTypeError(f"{word} is no number from {low} to {high}")
+        return value
+
+    return read
+
+
+def sizes(parser: argparse.ArgumentParser) -> None:
+    """The options that size the device."""
+    parser.add_argument("--vfs", type=number(0, 63), metavar="N", help="how many virtual functions the device has (0)")
+    parser.add_argument(
+        "--fifo", type=number(1, 4_096), metavar="N", help="how many frames may wait to be received (64)"
+    )
+
+
+def ended(main: Callable[[], int], name: str) -> int:
+    """The status of a tool: a fault is one line on standard error."""
+    try:
+        return main()
+    except Refused as refused:
+        print(f"{name}: {refused}: tools/niclint SCRIPT says what was expected there", file=sys.stderr)
+        return 2
+    except Fault as fault:
+        print(f"{name}: {fault}", file=sys.stderr)
+        return 4 if fault.is_of_program else 2
+    except BrokenPipeError:
+        os.dup2(os.open(os.devnull, os.O_WRONLY), sys.stdout.fileno())
+        return 0
+    except KeyboardInterrupt:
+        return 130

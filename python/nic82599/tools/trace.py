@@ -1,0 +1,293 @@
+"""A run of a script on the bench, step by step: what `nicbench` answers, and the registers after each step.
+
+Everything comes from the program: `asm` gives the instructions, `run` the replies, `debug` the registers. Since a show
+of every register after every step would be millions of them, only those are asked for that the step's instruction and
+reply can change, by docs/REGISTERS.md; at the end all registers are asked for, and one that was missed is asked for at
+every step in a second run.
+"""
+
+from __future__ import annotations
+
+import re
+import sys
+from concurrent.futures import ThreadPoolExecutor
+from dataclasses import dataclass, field
+
+from . import regs
+from .regs import REGISTERS, Register, first
+from .script import Bench, Instruction, Op, Script, of_text, read_text
+
+CHUNK = 9_000
+RESET_BITS = 1 << 3 | 1 << 26
+
+
+@dataclass
+class Step:
+    """One step: the instruction at `pc`, the reply to it, and what it changed. `changes` are (address, old, new) of
+    registers, `memory` (bus address, 16 bytes or None where they are unknown). `acc` and `status` are those of a step
+    that asks nothing of the device; of another one the reply tells them."""
+
+    number: int
+    pc: int
+    reply: str = ""
+    acc: int = 0
+    status: str = "running"
+    changes: list[tuple[int, int, int]] = field(default_factory=list)
+    memory: list[tuple[int, bytes | None]] = field(default_factory=list)
+    waiting: list[tuple[str, list[int]]] = field(default_factory=list)
+    out: list[tuple[str, list[int]]] = field(default_factory=list)
+
+
+@dataclass
+class Trace:
+    """A whole run. `start` has the registers before the first step, as far as any step could change them."""
+
+    bench: Bench
+    script: Script
+    steps: list[Step]
+    start: dict[int, int]
+    last: str
+    notes: list[str] = field(default_factory=list)
+
+    def instruction(self, step: Step) -> Instruction:
+        return self.script.instructions[step.pc]
+
+    def registers(self, count: int) -> dict[int, int]:
+        """The registers after so many steps."""
+        words = dict(self.start)
+        for step in self.steps[:count]:
+            for address, _, new in step.changes:
+                words[address] = new
+        return words
+
+
+def word_of(words: dict[int, int], name: str, index: int = 0) -> int:
+    """A register's word, the reset value where no step of the run can change it."""
+    address = first(name, index)
+    return words.get(address, REGISTERS[address].row.reset)
+
+
+def number_after(reply: str, word: str) -> int | None:
+    """The number behind a word of a reply, as in `wrote queue 3 slot 0 end`."""
+    found = re.search(rf"\b{word} (\d+)", reply)
+    return int(found[1]) if found else None
+
+
+class Plan:
+    """Which registers to ask for after a step."""
+
+    def __init__(self, bench: Bench, script: Script):
+        self.vfs = bench.vfs
+        self.seen: set[int] = {first("STATUS"), first("LINKS"), first("EEC")}
+        self.counters = {"RQSMR": {0}, "TQSM": {0}}
+        for one in script.instructions:
+            register = regs.register_at(one.a) if one.op == Op.WRITE else None
+            if register and register.row.name in self.counters:
+                self.counters[register.row.name] |= {one.b >> shift & 15 for shift in (0, 8, 16, 24)}
+
+    def access(self, register: Register | None, written: int | None) -> list[int]:
+        """What an access of a register can change; `written` is the word, or None for a read."""
+        if register is None:
+            return []
+        kind, bank, i = register.row.kind, register.row.bank, register.index
+        if kind in ("Cause", "Set", "Ones", "Clear"):
+            pf = bank == "Interrupts"
+            return [first("EICR"), first("EIMS")] if pf else [first("PVTEICR", i), first("PVTEIMS", i)]
+        if kind == "Ctrl" and written is not None:
+            return (
+                sorted(self.seen | {register.address}) if written & RESET_BITS else [register.address, first("STATUS")]
+            )
+        if kind == "Vreset":
+            return sorted(self.seen) if (written or 0) & 1 << 26 else []
+        if kind in ("Vfmail", "Pfmail", "Ctrlext"):
+            return self._mail(register, written)
+        return [register.address] if written is not None or kind == "Rc" else []
+
+    def _mail(self, register: Register, written: int | None) -> list[int]:
+        """What an access of a mailbox, or of CTRL_EXT, can change."""
+        kind, i = register.row.kind, register.index
+        if kind == "Ctrlext":
+            boxes = [first("PVFMAILBOX", v) for v in range(64)] if (written or 0) & 1 << 14 else []
+            return [register.address] + boxes if written is not None else []
+        both = [first("PVFMAILBOX", i), first("PFMAILBOX", i)]
+        if kind == "Pfmail":
+            return both + [first("PVTEICR", i)] if written is not None else []
+        return both + [first("PFMBICR", i // 16), first("EICR")] if written is not None else both
+
+    def causes(self, queue: int) -> list[int]:
+        """The causes that a queue may raise: of the physical function, or of the function whose pool has it."""
+        return [first("EICR")] + [first("PVTEICR", v) for v in self.functions(queue)]
+
+    def functions(self, queue: int) -> list[int]:
+        """The functions whose pool may have a queue."""
+        return sorted({v for v in (queue // k for k in regs.POOL_SIZES) if v < self.vfs})
+
+    def moved(self, reply: str, queue: int, rx: bool) -> list[int]:
+        """What a receive or transmit step can change, by its reply."""
+        if reply.startswith("fault"):
+            return [first("RXDCTL" if rx else "TXDCTL", queue), first("EICR")]
+        if reply == "dropped no slot":
+            return [first("QPRDC", n) for n in sorted(self.counters["RQSMR"])]
+        asked = [first("RDH" if rx else "TDH", queue)] + self.causes(queue)
+        if reply.endswith(" end") or reply.startswith("sent"):
+            row, total, each = ("RQSMR", "QPRC", "VFGPRC") if rx else ("TQSM", "QPTC", "VFGPTC")
+            asked += [first(total, n) for n in sorted(self.counters[row])]
+            asked += [first(each, v) for v in self.functions(queue)] + ([] if rx else [first("GPTC")])
+        return asked
+
+    def after(self, one: Instruction, reply: str) -> list[int]:
+        """The registers to ask for after an instruction with this reply."""
+        asked: list[int] = []
+        if one.op in (Op.WRITE, Op.READ):
+            asked = self.access(regs.register_at(one.a), one.b if one.op == Op.WRITE else None)
+        elif one.op in (Op.VF_WRITE, Op.VF_READ):
+            for k in regs.POOL_SIZES:
+                asked += self.access(
+                    regs.function_register(k, one.x, one.a), one.b if one.op == Op.VF_WRITE else None
+                )
+        elif one.op == Op.ARRIVE:
+            counted = {
+                "done": ["GPRC"],
+                "dropped short": ["RUC"],
+                "dropped long": ["ROC"],
+                "dropped full": ["MPC", "EICR"],
+            }
+            asked = [first(name) for name in counted.get(reply, [])]
+        elif one.op in (Op.RX, Op.TX) and reply not in ("idle", "dropped queue off", "no queue"):
+            queue = number_after(reply, "queue")
+            asked = self.moved(reply, (queue or 0) if one.op == Op.RX else one.x, one.op == Op.RX)
+        elif one.op == Op.INT and reply.startswith("message"):
+            asked = [first("PVTEICR", one.x), first("PVTEIMS", one.x)] if one.sub else [first("EICR"), first("EIMS")]
+        elif one.op == Op.QSTEP and reply == "done":
+            asked = [first("TXDCTL" if one.sub else "RXDCTL", one.x)]
+        elif one.op == Op.EESTEP:
+            asked = [first("EERD")]
+        elif one.op == Op.LINK:
+            asked = [first("LINKS"), first("EICR")]
+        asked = list(dict.fromkeys(asked))
+        self.seen.update(asked)
+        return asked
+
+
+def trace(bench: Bench, path: str, limit: int = 4_096) -> Trace:
+    """A run of the script in a file, of at most so many steps."""
+    text = read_text(path)
+    with ThreadPoolExecutor(1) as pool:
+        run = pool.submit(bench.run, text, limit)
+        return _trace(bench, of_text(bench, path, text), run.result(), limit)
+
+
+def trace_of(bench: Bench, script: Script, text: str, limit: int = 4_096) -> Trace:
+    """The same of a script that is loaded already."""
+    return _trace(bench, script, bench.run(text, limit), limit)
+
+
+def _trace(bench: Bench, script: Script, printed: list[str], limit: int) -> Trace:
+    """The trace of a script that printed these lines."""
+    steps, last = made(bench, script, printed, limit)
+    with ThreadPoolExecutor(4) as pool:
+        always: set[int] = set()
+        while True:
+            start, every = _registers(pool, bench, script, steps, always)
+            result = Trace(bench, script, steps, start, last)
+            missed = _missed(result.registers(len(steps)), every)
+            if not missed or missed <= always:
+                break
+            always |= missed
+    if always:
+        result.notes.append(f"asked for at every step: {', '.join(regs.name_at(a) for a in sorted(always))}")
+    if last.startswith("limit"):
+        result.notes.append(f"the script goes on after the {len(steps)} steps that are shown; --limit shows more")
+    return result
+
+
+def made(bench: Bench, script: Script, printed: list[str], limit: int) -> tuple[list[Step], str]:
+    """The steps of a run that printed these lines, with the replies; and its last line."""
+    *replies, last = printed
+    steps, lines = _steps(bench, script, last, limit), iter(replies)
+    for step in steps:
+        if not script.instructions[step.pc].is_local:
+            pc, _, step.reply = next(lines).partition(" ")
+            assert int(pc) == step.pc, (step, pc)
+    return steps, last
+
+
+def _steps(bench: Bench, script: Script, last: str, limit: int) -> list[Step]:
+    """The steps of a run with their instructions. Without jumps these stand in a row."""
+    if not script.has_jumps:
+        word, number = last.split()[:2]
+        count = {"ok": int(number), "failed": int(number) + 1}.get(word, limit)
+        return [Step(k, k) for k in range(count)]
+    text = script.text()
+    count = int(bench.debug(text, [f"continue {limit}"])[-1].split()[1])
+    steps = [Step(k, 0) for k in range(count)]
+    for step, view in zip(steps[1:], bench.debug(text, ["step 1"] * count)):
+        step.pc = int(view.split()[3])
+    return steps
+
+
+def _missed(tracked: dict[int, int], shown: dict[int, int]) -> set[int]:
+    """Registers that aren't as the steps left them."""
+    return {a for a, word in shown.items() if word != tracked.get(a, REGISTERS[a].row.reset)}
+
+
+def _registers(
+    pool: ThreadPoolExecutor, bench: Bench, script: Script, steps: list[Step], always: set[int]
+) -> tuple[dict[int, int], dict[int, int]]:
+    """Asks for the registers that each step can change, and notes the changes. Answers the registers at the start,
+    those that any step can change, and all registers at the end."""
+    plan = Plan(bench, script)
+    asked = [sorted(set(plan.after(script.instructions[step.pc], step.reply)) | always) for step in steps]
+    seen, parts, begin, lines = sorted(plan.seen | always), [], 0, 0
+    for k, addresses in enumerate(asked):
+        lines += 1 + len(addresses)
+        if lines > CHUNK or k + 1 == len(asked):
+            parts.append((begin, k + 1))
+            begin, lines = k + 1, 0
+    parts = parts or [(0, 0)]
+    jobs = []
+    for begin, end in parts:
+        before, behind = seen if begin == 0 else [], list(REGISTERS) if end == len(steps) else []
+        jobs.append(pool.submit(_part, bench, script, steps[begin:end], asked[begin:end], before, behind))
+    start: dict[int, int] = {}
+    every: dict[int, int] = {}
+    for job in jobs:
+        start.update(job.result()[0])
+        every.update(job.result()[2])
+    words = dict(start)
+    for (begin, end), job in zip(parts, jobs):
+        for step, shown in zip(steps[begin:end], job.result()[1]):
+            step.changes = [(a, words[a], word) for a, word in shown if words[a] != word]
+            words.update(shown)
+    return start, every
+
+
+Shown = list[tuple[int, int]]
+
+
+def _part(
+    bench: Bench, script: Script, steps: list[Step], asked: list[list[int]], before: list[int], behind: list[int]
+) -> tuple[Shown, list[Shown], Shown]:
+    """The registers after each of some steps in a row, with some before and some behind all. A step is made together
+    with the next one where nothing is asked of it and its view tells nothing."""
+    show = lambda addresses: [f"show 0x{address:x}" for address in addresses]  # noqa: E731
+    commands, views, together = ([f"step {steps[0].number}"] if steps and steps[0].number else []) + show(before), [], 0
+    skipped = len(commands) - len(before)
+    for step, addresses in zip(steps, asked):
+        together += 1
+        if addresses or script.instructions[step.pc].is_local or step is steps[-1]:
+            commands += [f"step {together}", *show(addresses)]
+            views.append(step.number)
+            together = 0
+    lines = iter(bench.debug(script.text(), commands + show(behind))[skipped:] if commands or behind else [])
+
+    def answers(addresses: list[int]) -> Shown:
+        return [(address, int(next(lines).split()[1], 16)) for address in addresses]
+
+    first_shown, shown, made = answers(before), [], set(views)
+    for step, addresses in zip(steps, asked):
+        if step.number in made:
+            view = next(lines).split()
+            step.acc, step.status = int(view[5], 16), view[6]
+        shown.append(answers(addresses))
+    return first_shown, shown, answers(behind)

@@ -23,6 +23,7 @@
 #include <stdint.h>
 
 #include "nic82599_regs.h"
+#include "nic82599_version.h"
 
 #ifdef __cplusplus
 extern "C" {

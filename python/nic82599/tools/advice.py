@@ -5,14 +5,13 @@ They come from the instructions of the object, looked at in the order of the lin
 
 from __future__ import annotations
 
-import re
-import sys
 from collections.abc import Iterator
 from dataclasses import dataclass
 
 from . import regs
 from .regs import ENABLE, Register
-from .script import ROOT, Instruction, Op, Script
+from .script import Instruction, Op, Script
+from .tables import ABSENT
 
 
 @dataclass(frozen=True, order=True)
@@ -31,22 +30,6 @@ class Access:
     register: Register
     word: int
     function: int | None
-
-
-def absent_registers() -> dict[int, tuple[str, str]]:
-    """Registers of the card that the bench hasn't, by address: names and what to do, from docs/CARD.md. A row of its
-    table has names and addresses of a family; where these aren't as many, an address has all the names."""
-    found: dict[int, tuple[str, str]] = {}
-    for line in (ROOT / "docs/CARD.md").read_text().splitlines():
-        cells = [cell.strip() for cell in line.strip().strip("|").split("|")]
-        if len(cells) != 4 or not re.match(r"0x[0-9A-F]{5}", cells[1]):
-            continue
-        names = [re.sub(r" \(.*?\)", "", name.replace("*", "")) for name in cells[0].split(", ")]
-        names = ["a counter"] if names[0].startswith("counters") else [name for name in names if name[0].isupper()]
-        addresses = [int(match[0], 16) for part in cells[1].split(", ") if (match := re.match(r"0x[0-9A-Fa-f]+", part))]
-        for n, address in enumerate(addresses):
-            found[address] = (names[n] if len(names) == len(addresses) else ", ".join(names), cells[3].split(". ")[0])
-    return found
 
 
 class Advice:
@@ -97,15 +80,14 @@ class Advice:
 
     def _strays(self) -> Iterator[Warning]:
         """Accesses that name nothing."""
-        absent = absent_registers()
         for pc in self.strays:
             one = self.script.instructions[pc]
             if one.op in (Op.VF_READ, Op.VF_WRITE):
                 yield self._at(
                     pc, f"offset 0x{one.a:04x} of a virtual function names no register: the access is `stray`"
                 )
-            elif one.a in absent:
-                name, what = absent[one.a]
+            elif one.a in ABSENT:
+                name, what = ABSENT[one.a]
                 yield self._at(pc, f"0x{one.a:05x} is {name}, which the bench hasn't: {what}")
             else:
                 yield self._at(pc, f"0x{one.a:05x} names no register: the access is `stray`")

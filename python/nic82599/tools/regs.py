@@ -1,20 +1,14 @@
 """Registers by name and address, and the fields of their words.
 
-Names, addresses and kinds are those of dev/register_table.py, and the map of a virtual function that of
-dev/vf_map_table.py; the fields are listed here, by the names of the datasheet.
+Names, addresses and kinds, and the map of a virtual function, are those of the generated tables.py; the fields are
+listed here, by the names of the datasheet.
 """
 
 from __future__ import annotations
 
-import sys
 from dataclasses import dataclass
 
-from .script import ROOT
-
-sys.path.append(str(ROOT / "dev"))
-
-from register_table import TABLE, Row  # noqa: E402
-from vf_map_table import own_rows, side_rows  # noqa: E402
+from .tables import OWN, SIDES, TABLE, Row
 
 ENABLE = 1 << 25
 
@@ -261,15 +255,15 @@ def _function_map() -> dict[int, dict[int, tuple[str, int, int]]]:
     maps: dict[int, dict[int, tuple[str, int, int]]] = {}
     for k in POOL_SIZES:
         offsets: dict[int, tuple[str, int, int]] = {}
-        for offset, name in own_rows():
-            offsets[int(offset, 16)] = (name.removesuffix("[v]"), 1 if name.endswith("[v]") else 0, 0)
+        for offset, name, is_by_function in OWN:
+            offsets[offset] = (name, int(is_by_function), 0)
         for x in range(k // 2):
             offsets[0x120 + 4 * x] = ("PVTIVAR", k // 2, x)
         for x in range(16):
             offsets[0x200 + 4 * x] = ("PFMBMEM", 16, x)
-        for offset, name in side_rows("Receive", 0x1000) + side_rows("Transmit", 0x2000):
+        for offset, name in SIDES:
             for x in range(k):
-                offsets[int(offset.split()[0], 16) + 0x40 * x] = (name.split("[")[0], k, x)
+                offsets[offset + 0x40 * x] = (name, k, x)
         maps[k] = offsets
     return maps
 

@@ -12,8 +12,8 @@ bus address (`nic.memory[0x800:0x83c]`), frames come in by `arrive` and out by `
 device as it was; what the device tells is a small dataclass.
 
 The library is looked for in this order: where the variable NIC82599_LIBRARY says; beside this file; in c/out of the
-repository, where `make -C c` puts it. Calls hold the interpreter's lock, so the calls of several threads come one after
-the other.
+clone, where `make -C c` puts it; in the system. Calls hold the interpreter's lock, so the calls of several threads come
+one after the other.
 """
 
 from __future__ import annotations
@@ -26,11 +26,12 @@ from collections.abc import Iterable
 from dataclasses import dataclass
 from difflib import get_close_matches
 from functools import cache
-from pathlib import Path
 from typing import NamedTuple
 
+from . import places
 from .pcap import NoCapture, read_pcap, write_pcap
 from .registers import FIELDS, OFFSETS, REGISTERS
+from .version import VERSION as __version__
 
 __all__ = [
     "Advanced", "BadBlocks", "BadFifo", "Closed", "Done", "Dropped", "Event", "Fault", "Frame", "Function",
@@ -282,29 +283,23 @@ _CALLS: dict[str, list[object]] = {
 }
 
 
-def _library_path() -> Path:
+def _library_path() -> str:
     """Where the library is; LibraryMissing where it isn't."""
-    told = os.environ.get("NIC82599_LIBRARY")
-    here = Path(__file__).resolve().parent
-    places = [Path(told)] if told else [here / "libnic82599.so", here.parents[1] / "c/out/libnic82599.so"]
-    for place in places:
-        if place.exists():
-            return place
-    looked = " and ".join(str(place) for place in places)
-    raise LibraryMissing(
-        f"no C library at {looked}: dev/prove nic82599_c and then make -C c build it; NIC82599_LIBRARY names another"
-    )
+    try:
+        return places.library()
+    except places.Missing as missing:
+        raise LibraryMissing(str(missing)) from None
 
 
-_loaded: dict[Path, ctypes.PyDLL] = {}
+_loaded: dict[str, ctypes.PyDLL] = {}
 
 
 def _library(path: str | os.PathLike[str] | None = None) -> ctypes.PyDLL:
     """The library, which is loaded once."""
-    place = Path(path) if path is not None else _library_path()
+    place = os.fspath(path) if path is not None else _library_path()
     if place not in _loaded:
         try:
-            library = ctypes.PyDLL(str(place))
+            library = ctypes.PyDLL(place)
             for name, takes in _CALLS.items():
                 call = getattr(library, name)
                 call.argtypes, call.restype = takes, ctypes.c_uint8

@@ -13,6 +13,7 @@ import sys
 import tempfile
 import unittest
 from pathlib import Path
+from types import ModuleType
 
 sys.dont_write_bytecode = True
 HERE = Path(__file__).resolve().parent
@@ -20,6 +21,7 @@ sys.path[:0] = [str(HERE.parent), str(HERE)]
 import calls  # noqa: E402
 import chance  # noqa: E402
 import nic82599  # noqa: E402
+import packing  # noqa: E402
 
 
 def texts() -> int:
@@ -31,9 +33,9 @@ def texts() -> int:
     return module.attempted + prompt.attempted
 
 
-def units() -> int:
-    """How many tests of calls there are, all of which pass."""
-    suite = unittest.defaultTestLoader.loadTestsFromModule(calls)
+def units(module: ModuleType) -> int:
+    """How many tests a module has, all of which pass."""
+    suite = unittest.defaultTestLoader.loadTestsFromModule(module)
     told = unittest.TextTestRunner(stream=sys.stderr, verbosity=0).run(suite)
     if not told.wasSuccessful():
         sys.exit(1)
@@ -46,7 +48,8 @@ def main() -> None:
     parser.add_argument("--batches", type=int, default=4)
     given = parser.parse_args()
     print(f"{texts()} examples of texts")
-    print(f"{units()} tests of calls")
+    print(f"{units(calls)} tests of calls")
+    print(f"{units(packing)} tests of the package")
     made = answers = 0
     with tempfile.TemporaryDirectory() as folder:
         for batch in range(given.batches):

@@ -13,6 +13,7 @@ import re
 import sys
 
 from ..pcap import HEADER, record_of
+from .tool import called
 
 FRAME = re.compile(r"(\d+) frame queue (\d+) ((?:[0-9a-f]{2})*)")
 
@@ -33,8 +34,8 @@ def frames_in(lines):
 
 
 def command():
-    how = {"description": __doc__, "formatter_class": argparse.RawDescriptionHelpFormatter}
-    parser = argparse.ArgumentParser(prog="tools/nic2pcap", **how)
+    how = {"description": called(__doc__ or ""), "formatter_class": argparse.RawDescriptionHelpFormatter}
+    parser = argparse.ArgumentParser(prog=called("tools/nic2pcap"), **how)
     parser.add_argument("out", metavar="OUT.pcap")
     parser.add_argument("--queue", type=int, metavar="Q")
     given = parser.parse_args()

@@ -14,11 +14,11 @@ import sys
 
 from .prompt import Session, prompt
 from .script import Bench, Fault, of_text, read_text
-from .tool import Parser, ended, number, sizes
+from .tool import Parser, called, ended, number, sizes
 
 
 def words() -> argparse.Namespace:
-    parser = Parser(description=__doc__, formatter_class=argparse.RawDescriptionHelpFormatter)
+    parser = Parser(description=called(__doc__ or ""), formatter_class=argparse.RawDescriptionHelpFormatter)
     parser.add_argument("script", metavar="SCRIPT")
     sizes(parser)
     limit = "how many steps can be made at most (10000)"

@@ -19,7 +19,7 @@ from .forms import explained
 from .memory import look
 from .reasons import Reasons
 from .script import Bench, Refused, of_text, read_text
-from .tool import Parser, ended, number, sizes
+from .tool import Parser, called, ended, number, sizes
 from .trace import trace_of
 
 # So many lines are told of one warning.
@@ -27,7 +27,7 @@ SHOWN = 3
 
 
 def words() -> argparse.Namespace:
-    parser = Parser(description=__doc__, formatter_class=argparse.RawDescriptionHelpFormatter)
+    parser = Parser(description=called(__doc__ or ""), formatter_class=argparse.RawDescriptionHelpFormatter)
     parser.add_argument("script", metavar="SCRIPT")
     parser.add_argument("--trace", action="store_true", help="run the script, and say why steps did nothing")
     sizes(parser)

@@ -19,13 +19,13 @@ from . import draw
 from . import page
 from .memory import look
 from .reasons import Reasons
-from .tool import Parser, ended, number, sizes
+from .tool import Parser, called, ended, number, sizes
 from .script import Bench, Fault
 from .trace import trace
 
 
 def words() -> argparse.Namespace:
-    parser = Parser(description=__doc__, formatter_class=argparse.RawDescriptionHelpFormatter)
+    parser = Parser(description=called(__doc__ or ""), formatter_class=argparse.RawDescriptionHelpFormatter)
     parser.add_argument("script", metavar="SCRIPT")
     sizes(parser)
     limit = "how many steps are shown at most (4096)"

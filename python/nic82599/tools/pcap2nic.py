@@ -18,6 +18,7 @@ import argparse
 import sys
 
 from ..pcap import NoCapture, frames_of
+from .tool import called
 
 LONGEST, MOST = 16384, 1024
 
@@ -34,8 +35,8 @@ def chosen(frames, first, count):
 
 
 def arguments():
-    how = {"description": __doc__, "formatter_class": argparse.RawDescriptionHelpFormatter}
-    parser = argparse.ArgumentParser(prog="tools/pcap2nic", **how)
+    how = {"description": called(__doc__ or ""), "formatter_class": argparse.RawDescriptionHelpFormatter}
+    parser = argparse.ArgumentParser(prog=called("tools/pcap2nic"), **how)
     parser.add_argument("file", metavar="FILE")
     parser.add_argument("--first", type=int, default=1, metavar="N")
     parser.add_argument("--count", type=int, metavar="N")

@@ -2,7 +2,6 @@
 
 from __future__ import annotations
 
-import os
 import re
 import subprocess
 import sys
@@ -12,8 +11,8 @@ from enum import IntEnum
 from pathlib import Path
 from threading import Lock
 
-ROOT = Path(__file__).resolve().parents[3]
-PROGRAM = Path(os.environ.get("NICBENCH") or ROOT / "nicbench")
+from .. import places
+
 LIMIT = 8_388_608
 
 
@@ -137,14 +136,16 @@ class Bench:
             raise Fault(
                 f"the input is too long: the bench reads {LIMIT:,} bytes, and this has {len(text):,}; cut the script"
             )
+        program = "nicbench"
         try:
+            program = places.program()
             ran = subprocess.Popen(
-                [str(PROGRAM), *words], stdin=subprocess.PIPE, stdout=subprocess.PIPE, stderr=subprocess.PIPE
+                [program, *words], stdin=subprocess.PIPE, stdout=subprocess.PIPE, stderr=subprocess.PIPE
             )
+        except places.Missing as missing:
+            raise Fault(str(missing), True) from None
         except OSError as error:
-            raise Fault(
-                f"{PROGRAM} can't be started ({error.strerror}): set NICBENCH, or use a whole clone", True
-            ) from None
+            raise Fault(f"{program} can't be started ({error.strerror}): NICBENCH names another", True) from None
         with ThreadPoolExecutor(1) as pool:
             said = pool.submit(_hear, ran.stderr)
             out, _ = _talk(ran, text)
@@ -153,7 +154,7 @@ class Bench:
         if ran.returncode not in ((0, 1) if words[0] == "run" else (0,)) or not out:
             reason = (out.decode(errors="replace") + said.result()).strip().splitlines()
             last = reason[-1] if reason else "it printed nothing"
-            raise Fault(f"{PROGRAM} {' '.join(words)} ended with status {ran.returncode}: {last}", True)
+            raise Fault(f"{program} {' '.join(words)} ended with status {ran.returncode}: {last}", True)
         return ran.returncode, out
 
     def debug(self, script: str, commands: list[str]) -> list[str]:

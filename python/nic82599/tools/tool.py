@@ -4,11 +4,18 @@ from __future__ import annotations
 
 import argparse
 import os
+import re
 import sys
 from collections.abc import Callable
 from typing import NoReturn
 
+from .. import places
 from .script import Fault, Refused
+
+
+def called(text: str) -> str:
+    """A text with commands as they are called here: in a clone `tools/nicview`, and where it is installed `nicview`."""
+    return text if places.clone() else re.sub(r"(?<![\w/.])(?:tools/|\./)(?=nic|pcap2nic)", "", text)
 
 
 class Parser(argparse.ArgumentParser):
@@ -44,7 +51,7 @@ def ended(main: Callable[[], int], name: str) -> int:
     try:
         return main()
     except Refused as refused:
-        print(f"{name}: {refused}: tools/niclint SCRIPT says what was expected there", file=sys.stderr)
+        print(called(f"{name}: {refused}: tools/niclint SCRIPT says what was expected there"), file=sys.stderr)
         return 2
     except Fault as fault:
         print(f"{name}: {fault}", file=sys.stderr)

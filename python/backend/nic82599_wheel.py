@@ -1,0 +1,128 @@
+"""Makes the wheel of this package: pip's build backend (PEP 517 and 660), and what dev/release calls.
+
+It needs the standard library alone, so pip needs no network. The wheel has the modules, the shared library and, where
+it is built, the program `nicbench`. Its bytes are decided by what goes in and by SOURCE_DATE_EPOCH.
+"""
+
+from __future__ import annotations
+
+import base64
+import hashlib
+import os
+import re
+import subprocess
+import sys
+import time
+import tomllib
+import zipfile
+from pathlib import Path
+
+HERE = Path(__file__).resolve().parents[1]
+ROOT = HERE.parent
+SUFFIXES = (".py", ".html", ".js", ".css", ".typed")
+SONAME = "libnic82599.so.0"
+EARLIEST = 315_532_800
+
+
+class UnsupportedOperation(Exception):
+    """What pip is told where this backend makes no such thing."""
+
+
+def project() -> dict:
+    """What pyproject.toml says of the package."""
+    return tomllib.loads((HERE / "pyproject.toml").read_text())["project"]
+
+
+def modules() -> dict[str, bytes]:
+    """The files of the package by their names in a wheel."""
+    files = sorted((HERE / "nic82599").rglob("*"))
+    return {str(it.relative_to(HERE)): it.read_bytes() for it in files if it.suffix in SUFFIXES and it.is_file()}
+
+
+def metadata(version: str) -> str:
+    """The file METADATA."""
+    told = project()
+    lines = ["Metadata-Version: 2.1", f"Name: {told['name']}", f"Version: {version}", f"Summary: {told['description']}"]
+    lines += [f"Keywords: {','.join(told['keywords'])}"] + [f"Classifier: {it}" for it in told["classifiers"]]
+    lines += [f"Requires-Python: {told['requires-python']}", "Description-Content-Type: text/markdown"]
+    return "\n".join(lines) + "\n\n" + (HERE / told["readme"]).read_text()
+
+
+def entry_points() -> str:
+    """The file of the commands."""
+    return "[console_scripts]\n" + "".join(f"{name} = {what}\n" for name, what in project()["scripts"].items())
+
+
+def record(files: dict[str, bytes], own: str) -> str:
+    """The file RECORD: each file with its sum and its length."""
+    lines = ""
+    for name, data in files.items():
+        sum_of = base64.urlsafe_b64encode(hashlib.sha256(data).digest()).rstrip(b"=").decode()
+        lines += f"{name},sha256={sum_of},{len(data)}\n"
+    return f"{lines}{own},,\n"
+
+
+def zipped(path: Path, files: dict[str, bytes], programs: set[str]) -> None:
+    """Writes a zip whose bytes are decided by its files and SOURCE_DATE_EPOCH."""
+    moment = time.gmtime(max(EARLIEST, int(os.environ.get("SOURCE_DATE_EPOCH", EARLIEST))))[:6]
+    with zipfile.ZipFile(path, "w", zipfile.ZIP_DEFLATED, compresslevel=9) as archive:
+        for name, data in files.items():
+            info = zipfile.ZipInfo(name, moment)
+            info.compress_type, info.create_system = zipfile.ZIP_DEFLATED, 3
+            info.external_attr = (0o100755 if name in programs else 0o100644) << 16
+            archive.writestr(info, data)
+
+
+def write_wheel(folder: Path, version: str, files: dict[str, bytes], binaries: dict[str, bytes]) -> str:
+    """Writes the wheel of these files into a folder, and tells its name. Binaries make it one for this machine."""
+    tag = f"py3-none-linux_{os.uname().machine}" if binaries else "py3-none-any"
+    info = f"nic82599-{version}.dist-info"
+    told = f"Wheel-Version: 1.0\nGenerator: nic82599_wheel\nRoot-Is-Purelib: {str(not binaries).lower()}\nTag: {tag}\n"
+    texts = {"METADATA": metadata(version), "WHEEL": told, "entry_points.txt": entry_points()}
+    every = files | binaries | {f"{info}/{name}": text.encode() for name, text in texts.items()}
+    every = dict(sorted(every.items(), key=lambda it: (".dist-info/" in it[0], it[0])))
+    every[f"{info}/RECORD"] = record(every, f"{info}/RECORD").encode()
+    name = f"nic82599-{version}-{tag}.whl"
+    zipped(folder / name, every, set(binaries))
+    return name
+
+
+def version() -> str:
+    """The version in the clone's file."""
+    found = re.fullmatch(r"\d+\.\d+\.\d+\n?", (ROOT / "VERSION").read_text())
+    if not found:
+        sys.exit("nic82599_wheel: VERSION holds no line of three numbers")
+    return found[0].strip()
+
+
+def make_library() -> None:
+    """Makes the shared library, as far as it isn't made; pip shows what is said where that fails."""
+    if subprocess.run(["make", "-C", ROOT / "c"], stdout=sys.stderr, check=False).returncode:
+        sys.exit("nic82599_wheel: the library can't be made, see above: `make -C c` is to work first")
+
+
+def built_program() -> Path | None:
+    """The program that ./nicbench would start, where one is made: the proved one, or else the newest unproved one."""
+    out = ROOT / "crates/nicbench/out"
+    kept = sorted((out / "unproved").glob("*"), key=lambda it: it.stat().st_mtime, reverse=True)
+    return next((it for it in [out / "nicbench", *kept] if it.is_file() and os.access(it, os.X_OK)), None)
+
+
+# --- what pip calls ---
+
+
+def build_wheel(wheel_directory, config_settings=None, metadata_directory=None):
+    make_library()
+    binaries = {f"nic82599/{SONAME}": (ROOT / "c/out/libnic82599.so").read_bytes()}
+    program = built_program()
+    if program:
+        binaries["nic82599/nicbench"] = program.read_bytes()
+    return write_wheel(Path(wheel_directory), version(), modules(), binaries)
+
+
+def build_editable(wheel_directory, config_settings=None, metadata_directory=None):
+    return write_wheel(Path(wheel_directory), version(), {"nic82599.pth": f"{HERE}\n".encode()}, {})
+
+
+def build_sdist(sdist_directory, config_settings=None):
+    raise UnsupportedOperation("the package is made of a clone, whose C library it holds: there is no sdist")

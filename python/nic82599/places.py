@@ -1,0 +1,74 @@
+"""Where the C library and the program `nicbench` are.
+
+Both are looked for where a variable says (NIC82599_LIBRARY, NICBENCH), then beside this package, as a wheel brings
+them, then in the clone that the package lies in, and last in the system: the library by its soname, the program on the
+PATH. A variable that is set decides alone.
+"""
+
+from __future__ import annotations
+
+import ctypes
+import os
+import shutil
+import sys
+from pathlib import Path
+
+HERE = Path(__file__).resolve().parent
+SONAME = "libnic82599.so.0"
+BUILDS_LIBRARY = "`make -C c` in a clone builds it, a release package has it"
+BUILDS_PROGRAM = "use a clone or a release package"
+
+
+class Missing(Exception):
+    """It is at none of its places: one line that tells them, and what helps."""
+
+
+def clone() -> Path | None:
+    """The clone that this package lies in, or None where it is installed."""
+    root = HERE.parents[1]
+    return root if (root / "crates.txt").is_file() and (root / "c/include/nic82599.h").is_file() else None
+
+
+def _is_loaded_by_name(name: str) -> bool:
+    """Whether the system's loader finds a library of this name."""
+    try:
+        ctypes.CDLL(name)
+    except OSError:
+        return False
+    return True
+
+
+def library() -> str:
+    """The file of the C library, or its soname where the system has it; Missing."""
+    told, root = os.environ.get("NIC82599_LIBRARY"), clone()
+    places = [Path(told)] if told else [HERE / SONAME] + ([root / "c/out/libnic82599.so"] if root else [])
+    for place in places:
+        if place.exists():
+            return str(place)
+    if not told and _is_loaded_by_name(SONAME):
+        return SONAME
+    looked = " and ".join(str(place) for place in places) + ("" if told else f" and no {SONAME} in the system")
+    raise Missing(f"no C library at {looked}: {BUILDS_LIBRARY}; NIC82599_LIBRARY names another")
+
+
+def program() -> str:
+    """The file of the program `nicbench`; Missing. Of a clone it is the launcher."""
+    told, root = os.environ.get("NICBENCH"), clone()
+    if told:
+        return told
+    for place in [HERE / "nicbench"] + ([root / "nicbench"] if root else []):
+        if os.access(place, os.X_OK):
+            return str(place)
+    found = shutil.which("nicbench")
+    if found is None:
+        raise Missing(f"no program nicbench in {HERE} or on the PATH: {BUILDS_PROGRAM}, or name it by NICBENCH")
+    return found
+
+
+def nicbench() -> int:
+    """The command `nicbench` of an installed wheel: the program that the package brings takes this one's place."""
+    place = HERE / "nicbench"
+    if not os.access(place, os.X_OK):
+        print(f"nicbench: this wheel was made without the program: {BUILDS_PROGRAM}", file=sys.stderr)
+        return 127
+    os.execv(place, ["nicbench", *sys.argv[1:]])

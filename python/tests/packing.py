@@ -1,0 +1,151 @@
+"""Tests of the package as it is installed: the wheel's bytes, what it finds of the library and the program, and its
+commands. The binaries in it are those that NIC82599_LIBRARY and NICBENCH name."""
+
+from __future__ import annotations
+
+import base64
+import csv
+import hashlib
+import io
+import os
+import subprocess
+import sys
+import tempfile
+import tomllib
+import unittest
+import zipfile
+from pathlib import Path
+
+ROOT = Path(__file__).resolve().parents[2]
+sys.path += [str(ROOT / "python"), str(ROOT / "python/backend")]
+import nic82599_wheel as backend  # noqa: E402
+from nic82599 import places  # noqa: E402
+
+SCRIPT = ROOT / "examples/queue.nic"
+
+
+def plain_environment(**more: str) -> dict[str, str]:
+    """The environment without the variables that name a library or a program."""
+    kept = {name: value for name, value in os.environ.items() if name not in ("NIC82599_LIBRARY", "NICBENCH")}
+    return {**kept, "PYTHONDONTWRITEBYTECODE": "1", **more}
+
+
+def program_itself() -> Path:
+    """The program, where NICBENCH names none or the clone's launcher: what that would start."""
+    program = Path(places.program())
+    if program != ROOT / "nicbench":
+        return program
+    subprocess.run([program, "--version"], capture_output=True, check=True)
+    made = backend.built_program()
+    assert made, "the launcher keeps no program"
+    return made
+
+
+class Wheel(unittest.TestCase):
+    """A wheel with the library and the program, unpacked into a folder without a clone around it."""
+
+    @classmethod
+    def setUpClass(cls) -> None:
+        cls.kept = tempfile.TemporaryDirectory()
+        cls.folder = Path(cls.kept.name)
+        library, program = Path(places.library()), program_itself()
+        cls.binaries = {f"nic82599/{places.SONAME}": library.read_bytes(), "nic82599/nicbench": program.read_bytes()}
+        cls.wheel = cls.folder / cls.written("first")
+        cls.installed = cls.folder / "installed"
+        with zipfile.ZipFile(cls.wheel) as archive:
+            archive.extractall(cls.installed)
+        (cls.installed / "nic82599/nicbench").chmod(0o755)
+
+    @classmethod
+    def tearDownClass(cls) -> None:
+        cls.kept.cleanup()
+
+    @classmethod
+    def written(cls, folder: str) -> str:
+        (cls.folder / folder).mkdir()
+        name = backend.write_wheel(cls.folder / folder, backend.version(), backend.modules(), cls.binaries)
+        return f"{folder}/{name}"
+
+    def told(self, code: str, *words: str) -> subprocess.CompletedProcess[str]:
+        """What a program prints that has the unpacked package alone."""
+        environment = plain_environment(PYTHONPATH=str(self.installed))
+        call = [sys.executable, "-c", code, *words]
+        return subprocess.run(call, env=environment, capture_output=True, text=True, cwd=self.folder)
+
+    def test_same_bytes(self) -> None:
+        again = self.folder / self.written("second")
+        self.assertEqual(again.read_bytes(), self.wheel.read_bytes())
+
+    def test_record(self) -> None:
+        with zipfile.ZipFile(self.wheel) as archive:
+            names = archive.namelist()
+            record = next(name for name in names if name.endswith("/RECORD"))
+            rows = list(csv.reader(io.StringIO(archive.read(record).decode())))
+            self.assertEqual([row[0] for row in rows], names)
+            for name, told, length in rows[:-1]:
+                data = archive.read(name)
+                sum_of = base64.urlsafe_b64encode(hashlib.sha256(data).digest()).rstrip(b"=").decode()
+                self.assertEqual((told, int(length)), (f"sha256={sum_of}", len(data)), name)
+            self.assertEqual(archive.getinfo("nic82599/nicbench").external_attr >> 16, 0o100755)
+
+    def test_all_that_git_has(self) -> None:
+        """Each file of the package that is kept is packed."""
+        kept = subprocess.run(["git", "-C", ROOT / "python", "ls-files", "nic82599"], capture_output=True, text=True)
+        if kept.returncode == 0:
+            self.assertLessEqual(set(kept.stdout.split()), set(zipfile.ZipFile(self.wheel).namelist()))
+
+    def test_library_beside(self) -> None:
+        made = self.told("import nic82599 as n; nic = n.Nic(); print(hex(nic['SRRCTL[3]']), n.places.library())")
+        self.assertEqual(made.stdout, f"0x402 {self.installed}/nic82599/{places.SONAME}\n", made.stderr)
+
+    def test_commands(self) -> None:
+        """Each command of the package is there and tells its help, without a word of a clone."""
+        for name, place in tomllib.loads((ROOT / "python/pyproject.toml").read_text())["project"]["scripts"].items():
+            module, function = place.split(":")
+            code = f"import sys; sys.argv[0] = '{name}'; from {module} import {function} as it; sys.exit(it())"
+            made = self.told(code, "--help")
+            self.assertEqual(made.returncode, 0, made.stderr)
+            self.assertNotRegex(made.stdout, r"tools/|\./nicbench", name)
+
+    def test_view_is_that_of_the_clone(self) -> None:
+        code = "import sys; from nic82599.tools.nicview import command; sys.exit(command())"
+        made = self.told(code, str(SCRIPT), "--text")
+        clone = subprocess.run([ROOT / "tools/nicview", SCRIPT, "--text"], capture_output=True, text=True)
+        self.assertEqual((made.returncode, made.stdout), (0, clone.stdout), made.stderr)
+
+    def test_pointer_to_what_is_missing(self) -> None:
+        (self.installed / "nic82599/nicbench").rename(self.installed / "kept")
+        try:
+            code = f"import sys; sys.argv[1:] = ['{SCRIPT}', '--text']; import os; os.environ['PATH'] = ''\n"
+            made = self.told(code + "from nic82599.tools.nicview import command; sys.exit(command())")
+            self.assertEqual(made.returncode, 4)
+            self.assertRegex(made.stderr, r"^nicview: no program nicbench in .* or on the PATH: [^\n]*\n$")
+            made = self.told("import sys; from nic82599.places import nicbench; sys.exit(nicbench())")
+            self.assertEqual((made.returncode, made.stderr.count("\n")), (127, 1))
+        finally:
+            (self.installed / "kept").rename(self.installed / "nic82599/nicbench")
+
+
+class Places(unittest.TestCase):
+    def test_variables_decide(self) -> None:
+        told = {name: os.environ.get(name) for name in ("NIC82599_LIBRARY", "NICBENCH")}
+        os.environ |= {"NIC82599_LIBRARY": "/nowhere/it.so", "NICBENCH": "/nowhere/nicbench"}
+        try:
+            self.assertEqual(places.program(), "/nowhere/nicbench")
+            with self.assertRaisesRegex(places.Missing, "no C library at /nowhere/it.so: "):
+                places.library()
+        finally:
+            for name, value in told.items():
+                os.environ.pop(name) if value is None else os.environ.update({name: value})
+
+    def test_clone(self) -> None:
+        self.assertEqual(places.clone(), ROOT)
+
+    def test_sonames_agree(self) -> None:
+        """The packer and the package call the library alike, by the first number of the version."""
+        self.assertEqual(places.SONAME, backend.SONAME)
+        self.assertEqual(places.SONAME, f"libnic82599.so.{backend.version().split('.')[0]}")
+
+
+if __name__ == "__main__":
+    unittest.main()

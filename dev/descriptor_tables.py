@@ -45,8 +45,8 @@ def span(low, width):
     return str(low) if width == 1 else f"{low + width - 1}:{low}"
 
 
-def receive_table():
-    """What the device writes back to a receive descriptor."""
+def receive_fields():
+    """What the device writes back to a receive descriptor: of each half its fields, with lowest bit and width."""
     bit = bits_in("crates/dma_ring/src/receive.rt")
     first = [
         (0, 4, "RSS type", "the code of what was hashed, by the table of types below"),
@@ -61,16 +61,21 @@ def receive_table():
         (bit["EOP"], 1, "EOP", "1: the frame ends in this buffer"),
         (bit["PKT_LEN"], 16, "PKT_LEN", "how many bytes of the frame are in this buffer"),
     ]
-    rows = [["first", span(low, width), name, told] for low, width, name, told in first]
-    rows += [["second", span(low, width), name, told] for low, width, name, told in second]
+    return first, second
+
+
+def receive_table():
+    """What the device writes back to a receive descriptor."""
+    halves = zip(("first", "second"), receive_fields())
+    rows = [[half, span(low, width), name, told] for half, fields in halves for low, width, name, told in fields]
     return table(["Half", "Bits", "Field", "Holds"], rows)
 
 
-def transmit_table():
-    """What a driver writes to the second half of a transmit descriptor."""
+def transmit_fields():
+    """What a driver writes to the second half of a transmit descriptor, and DD, with lowest bit and width."""
     bit, own = bits_in("crates/dma_ring/src/transmit.rt"), bits_in("crates/dma_ring/src/driver.rt")
     assert own["SENT"] == bit["DD"]
-    fields = [
+    return [
         (0, 16, "DTALEN", "how many bytes the buffer has"),
         (bit["DTYP"], 4, "DTYP", "3: data; 2: context; any other is the fault `unknown type`"),
         (bit["EOP"], 1, "EOP", "1: the frame ends with this buffer"),
@@ -82,7 +87,12 @@ def transmit_table():
         (bit["POPTS"], 6, "POPTS", "checksums to insert: other than 0 is the fault `offload`"),
         (own["PAYLEN"], 18, "PAYLEN", "the length of the frame: no effect"),
     ]
-    return table(["Bits", "Field", "Meaning"], [[span(low, width), name, told] for low, width, name, told in fields])
+
+
+def transmit_table():
+    """What a driver writes to the second half of a transmit descriptor."""
+    rows = [[span(low, width), name, told] for low, width, name, told in transmit_fields()]
+    return table(["Bits", "Field", "Meaning"], rows)
 
 
 # What frames a type of hash is for, and what its part of the input is called.
@@ -103,10 +113,17 @@ PARTS = {
 }
 
 
+CHOICE = "crates/rss_hash/specs/Choice.antt"
+
+
+def rss_types():
+    """The codes of the types of hashes, by the names of the definition."""
+    return {name: int(code) for name, code in arms("code_of", CHOICE).items()}
+
+
 def type_table():
     """The types of hashes: code, frames, bit of MRQC, what is hashed."""
-    choice = "crates/rss_hash/specs/Choice.antt"
-    codes, parts, enabled = arms("code_of", choice), arms("hashed_part", choice), arms("is_enabled", choice)
+    codes, parts, enabled = arms("code_of", CHOICE), arms("hashed_part", CHOICE), arms("is_enabled", CHOICE)
     assert codes.keys() == parts.keys() == enabled.keys() == FRAMES.keys()
     rows = []
     for name, code in codes.items():

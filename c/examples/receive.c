@@ -13,7 +13,7 @@ int main(void)
     nic n;
     nic_told told[16];
     size_t count;
-    uint64_t written = 0;
+    nic_desc written;
     if (nic_open(&n, 0, 64, 2) != NIC_DONE) /* no virtual functions, 64 frames may wait, 2 blocks of memory */
         return 1;
     nic_lend_all(&n);
@@ -26,15 +26,15 @@ int main(void)
     nic_write32(&n, NIC_RXDCTL(3), NIC_RXDCTL_ENABLE);
     nic_write32(&n, NIC_IVAR(1), NIC_IVAR_INT_ALLOC_2_IS(5) | NIC_IVAR_INT_ALLOC_VAL_2); /* its cause: bit 5 */
     nic_write32(&n, NIC_EIMS, 1u << 5);
-    nic_settle(&n, 4, told, 16, &count); /* the queue goes on */
-    nic_put64(&n, 0, 0x800);             /* the first descriptor: its buffer is block 1 */
-    nic_write32(&n, NIC_RDT(3), 1);      /* and it is the device's */
+    nic_settle(&n, 4, told, 16, &count);        /* the queue goes on */
+    nic_put_desc(&n, 0, 0, nic_rx_desc(0x800)); /* the first descriptor: its buffer is block 1 */
+    nic_write32(&n, NIC_RDT(3), 1);             /* and it is the device's */
     printf("arrives: %s\n", nic_status_name(nic_arrive(&n, frame, sizeof frame, told)));
     nic_settle(&n, 4, told, 16, &count);
     for (size_t k = 0; k < count; k++)
         printf("%s %u: %s\n", nic_step_name(told[k].step), told[k].of, nic_status_name(told[k].status));
-    nic_get64(&n, 8, &written);
-    printf("done %u, %u bytes, head %u\n", (unsigned)(written & 1), (unsigned)(written >> 32 & 0xFFFF),
+    nic_get_desc(&n, 0, 0, &written);
+    printf("done %d, %d bytes, head %u\n", nic_rx_is_done(written), nic_rx_length(written),
            (unsigned)nic_get(&n, NIC_RDH(3)));
     nic_close(&n);
     return 0;

@@ -22,6 +22,7 @@
 #include <stddef.h>
 #include <stdint.h>
 
+#include "nic82599_desc.h"
 #include "nic82599_regs.h"
 #include "nic82599_version.h"
 
@@ -293,6 +294,22 @@ static inline uint8_t nic_get64(nic *n, uint64_t bus, uint64_t *value)
     *value = 0;
     for (int k = 0; k < 8; k++)
         *value |= (uint64_t)bytes[k] << 8 * k;
+    return status;
+}
+
+/* A slot's descriptor in a ring that begins at a bus address; nic82599_desc.h packs and reads it. DONE, NOT_LENT. */
+static inline uint8_t nic_put_desc(nic *n, uint64_t ring, uint32_t slot, nic_desc d)
+{
+    uint8_t bytes[NIC_DESC_BYTES];
+    nic_desc_to_bytes(d, bytes);
+    return nic_dma_write(n, ring + (uint64_t)NIC_DESC_BYTES * slot, bytes, sizeof bytes);
+}
+
+static inline uint8_t nic_get_desc(nic *n, uint64_t ring, uint32_t slot, nic_desc *d)
+{
+    uint8_t bytes[NIC_DESC_BYTES] = {0};
+    uint8_t status = nic_dma_read(n, ring + (uint64_t)NIC_DESC_BYTES * slot, bytes, sizeof bytes);
+    *d = nic_desc_of_bytes(bytes);
     return status;
 }
 

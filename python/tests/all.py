@@ -20,17 +20,19 @@ HERE = Path(__file__).resolve().parent
 sys.path[:0] = [str(HERE.parent), str(HERE)]
 import calls  # noqa: E402
 import chance  # noqa: E402
+import descriptors_of_device  # noqa: E402
 import nic82599  # noqa: E402
+import nic82599.descriptors  # noqa: E402
 import packing  # noqa: E402
 
 
 def texts() -> int:
     """How many examples the texts show, each of which gives what stands there."""
-    module = doctest.testmod(nic82599)
+    module, packed = doctest.testmod(nic82599), doctest.testmod(nic82599.descriptors)
     prompt = doctest.testfile(str(HERE.parent / "examples/prompt.txt"), module_relative=False)
-    if module.failed or prompt.failed:
+    if module.failed or packed.failed or prompt.failed:
         sys.exit(1)
-    return module.attempted + prompt.attempted
+    return module.attempted + packed.attempted + prompt.attempted
 
 
 def units(module: ModuleType) -> int:
@@ -49,6 +51,7 @@ def main() -> None:
     given = parser.parse_args()
     print(f"{texts()} examples of texts")
     print(f"{units(calls)} tests of calls")
+    print(f"{units(descriptors_of_device)} tests of descriptors")
     print(f"{units(packing)} tests of the package")
     made = answers = 0
     with tempfile.TemporaryDirectory() as folder:

@@ -137,6 +137,15 @@ typedef struct nic_told {
     uint8_t vector;  /* MESSAGE: below 16 */
 } nic_told;
 
+/* --- which library this is --- */
+
+/* The version of the library, three numbers, as NIC82599_VERSION is that of the header: "0.9.0". */
+const char *nic_version(void);
+
+/* Whether the device in this library was proved: true where the prover accepted every function of it, false where it was
+   compiled from the same sources without that. */
+bool nic_is_proved(void);
+
 /* --- life --- */
 
 /* Makes a controller after a power-up: `vfs` virtual functions (at most 63), room for `fifo` frames that arrived and

@@ -2,7 +2,7 @@
    were written, and writes a capture of what went out. */
 #include <string.h>
 
-#include "../pcap.h"
+#include "nic82599_pcap.h"
 #include "check.h"
 
 enum { BUFFER = 0x800, TX_RING = 0x1800 };

@@ -37,7 +37,8 @@ __all__ = [
     "Advanced", "BadBlocks", "BadFifo", "Closed", "Done", "Dropped", "Event", "Fault", "Frame", "Function",
     "ImageRefused", "LibraryMissing", "Memory", "Message", "Nic", "NicError", "NoBlock", "NoCapture", "NoGroup",
     "NoQueue", "NoSuchRegister", "NotLent", "OutOfMemory", "Sent", "Snapshot", "Stray", "TextRefused", "TooLong",
-    "TooManyVfs", "Word", "Wrote", "address_of", "fields_of", "offset_of", "read_pcap", "rss_hash", "write_pcap",
+    "TooManyVfs", "Word", "Wrote", "address_of", "fields_of", "library_version", "offset_of", "proved", "read_pcap",
+    "rss_hash", "write_pcap",
 ]  # fmt: skip
 
 BLOCK_BYTES = 2048
@@ -306,10 +307,30 @@ def _library(path: str | os.PathLike[str] | None = None) -> ctypes.PyDLL:
             library.nic_next_out.argtypes, library.nic_next_out.restype = [_NIC], ctypes.c_size_t
             library.nic_free.argtypes, library.nic_free.restype = [_Handle], None
             library.nic_free_snapshot.argtypes, library.nic_free_snapshot.restype = [_Kept], None
+            library.nic_version.argtypes, library.nic_version.restype = [], ctypes.c_char_p
+            library.nic_is_proved.argtypes, library.nic_is_proved.restype = [], ctypes.c_bool
         except (OSError, AttributeError) as fault:
             raise LibraryMissing(f"{place} is no library of the controller: {fault}") from fault
         _loaded[place] = library
     return _loaded[place]
+
+
+def proved() -> bool:
+    """Whether the device in the library was proved: else it was compiled from the same sources without that.
+
+    >>> proved() in (True, False)
+    True
+    """
+    return bool(_library().nic_is_proved())
+
+
+def library_version() -> str:
+    """The version of the library; `__version__` is that of this package.
+
+    >>> library_version() == __version__
+    True
+    """
+    return str(_library().nic_version().decode())
 
 
 def _refused(status: int, text: str) -> NicError:

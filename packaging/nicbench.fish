@@ -1,0 +1,20 @@
+# Completion of nicbench for fish.
+set -l commands run debug asm dis eeprom hash threads help
+complete -c nicbench -n "not __fish_seen_subcommand_from $commands" -f
+complete -c nicbench -n "not __fish_seen_subcommand_from $commands" -a run -d "run a register script"
+complete -c nicbench -n "not __fish_seen_subcommand_from $commands" -a debug -d "debug a register script"
+complete -c nicbench -n "not __fish_seen_subcommand_from $commands" -a asm -d "make a script an object"
+complete -c nicbench -n "not __fish_seen_subcommand_from $commands" -a dis -d "print the script of an object"
+complete -c nicbench -n "not __fish_seen_subcommand_from $commands" -a eeprom -d "make an EEPROM text an image"
+complete -c nicbench -n "not __fish_seen_subcommand_from $commands" -a hash -d "print RSS hashes"
+complete -c nicbench -n "not __fish_seen_subcommand_from $commands" -a threads -d "drive queues on threads"
+complete -c nicbench -n "not __fish_seen_subcommand_from $commands" -a help -d "print the help"
+complete -c nicbench -n "not __fish_seen_subcommand_from $commands" -s V -l version -d "print the version"
+complete -c nicbench -s h -l help -d "print the help"
+complete -c nicbench -n "__fish_seen_subcommand_from run debug" -l vfs -x -d "how many virtual functions, 0 to 63"
+complete -c nicbench -n "__fish_seen_subcommand_from run debug" -l fifo -x -d "how many frames may wait, 1 to 4096"
+complete -c nicbench -n "__fish_seen_subcommand_from run" -l limit -x -d "how many instructions are run at most"
+complete -c nicbench -n "__fish_seen_subcommand_from eeprom" -l load -d "read an image"
+complete -c nicbench -n "__fish_seen_subcommand_from threads" -l workers -x -d "how many workers, 1 to 8"
+complete -c nicbench -n "__fish_seen_subcommand_from threads" -l frames -x -d "how many frames, 0 to 60"
+complete -c nicbench -n "__fish_seen_subcommand_from help" -f -a "$commands"

@@ -102,10 +102,13 @@ def make_library() -> None:
 
 
 def built_program() -> Path | None:
-    """The program that ./nicbench would start, where one is made: the proved one, or else the newest unproved one."""
+    """The program that ./nicbench would start, where one was made: the proved one, or else the unproved one."""
     out = ROOT / "crates/nicbench/out"
-    kept = sorted((out / "unproved").glob("*"), key=lambda it: it.stat().st_mtime, reverse=True)
-    return next((it for it in [out / "nicbench", *kept] if it.is_file() and os.access(it, os.X_OK)), None)
+    if not (out / "nicbench").exists() and not (out / "unproved/current").exists():
+        return None
+    words = [ROOT / "dev/unproved", "--or-proved", "program"]
+    made = subprocess.run(words, stdout=subprocess.PIPE, text=True, check=False)
+    return Path(made.stdout.strip()) if made.returncode == 0 else None
 
 
 # --- what pip calls ---

@@ -1,8 +1,8 @@
 """Where the C library and the program `nicbench` are.
 
 Both are looked for where a variable says (NIC82599_LIBRARY, NICBENCH), then beside this package, as a wheel brings
-them, then in the clone that the package lies in, and last in the system: the library by its soname, the program on the
-PATH. A variable that is set decides alone.
+them, then in the clone or under the prefix that the package lies in, and last in the system: the library by its soname,
+the program on the PATH. A variable that is set decides alone.
 """
 
 from __future__ import annotations
@@ -25,8 +25,20 @@ class Missing(Exception):
 
 def clone() -> Path | None:
     """The clone that this package lies in, or None where it is installed."""
-    root = HERE.parents[1]
+    root = (HERE / "../..").resolve()
     return root if (root / "crates.txt").is_file() and (root / "c/include/nic82599.h").is_file() else None
+
+
+def prefix() -> Path | None:
+    """The prefix with the C library that this package lies in, as the archive and the Debian package have it."""
+    root = (HERE / "../../../..").resolve()
+    return root if (root / "include/nic82599.h").is_file() else None
+
+
+def _places(beside: str, in_clone: str, in_prefix: str) -> list[Path]:
+    """Where something is looked for: beside the package, and in what that lies in."""
+    around = [(clone(), in_clone), (prefix(), in_prefix)]
+    return [HERE / beside, *(root / name for root, name in around if root)]
 
 
 def _is_loaded_by_name(name: str) -> bool:
@@ -40,8 +52,8 @@ def _is_loaded_by_name(name: str) -> bool:
 
 def library() -> str:
     """The file of the C library, or its soname where the system has it; Missing."""
-    told, root = os.environ.get("NIC82599_LIBRARY"), clone()
-    places = [Path(told)] if told else [HERE / SONAME] + ([root / "c/out/libnic82599.so"] if root else [])
+    told = os.environ.get("NIC82599_LIBRARY")
+    places = [Path(told)] if told else _places(SONAME, "c/out/libnic82599.so", f"lib/{SONAME}")
     for place in places:
         if place.exists():
             return str(place)
@@ -53,10 +65,10 @@ def library() -> str:
 
 def program() -> str:
     """The file of the program `nicbench`; Missing. Of a clone it is the launcher."""
-    told, root = os.environ.get("NICBENCH"), clone()
+    told = os.environ.get("NICBENCH")
     if told:
         return told
-    for place in [HERE / "nicbench"] + ([root / "nicbench"] if root else []):
+    for place in _places("nicbench", "nicbench", "bin/nicbench"):
         if os.access(place, os.X_OK):
             return str(place)
     found = shutil.which("nicbench")

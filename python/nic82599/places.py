@@ -16,7 +16,7 @@ from pathlib import Path
 HERE = Path(__file__).resolve().parent
 SONAME = "libnic82599.so.0"
 BUILDS_LIBRARY = "`make -C c` in a clone builds it, a release package has it"
-BUILDS_PROGRAM = "use a clone or a release package"
+BUILDS_PROGRAM = "a release package has it; `./nicbench --version` in a clone makes it, and then `pip install` packs it"
 
 
 class Missing(Exception):
@@ -73,7 +73,7 @@ def program() -> str:
             return str(place)
     found = shutil.which("nicbench")
     if found is None:
-        raise Missing(f"no program nicbench in {HERE} or on the PATH: {BUILDS_PROGRAM}, or name it by NICBENCH")
+        raise Missing(f"no program nicbench in {HERE} or on the PATH: {BUILDS_PROGRAM}; NICBENCH names another")
     return found
 
 
@@ -81,6 +81,6 @@ def nicbench() -> int:
     """The command `nicbench` of an installed wheel: the program that the package brings takes this one's place."""
     place = HERE / "nicbench"
     if not os.access(place, os.X_OK):
-        print(f"nicbench: this wheel was made without the program: {BUILDS_PROGRAM}", file=sys.stderr)
+        print(f"nicbench: this package was installed without the program: {BUILDS_PROGRAM}", file=sys.stderr)
         return 127
     os.execv(place, ["nicbench", *sys.argv[1:]])

@@ -1,0 +1,83 @@
+#!/usr/bin/env python3
+"""Writes the pieces of program that the pages show, from the sources that the gate runs.
+
+    dev/page_excerpts.py            rewrites the pages
+    dev/page_excerpts.py --check    names the pages that are stale, and ends with status 1 if any is
+
+The pages are README.md, c/README.md and those of docs/. A piece is the indented block after a line
+'<!-- FILE: ITEM ITEM .. -->', where FILE is a file of the repository and ITEM one of these:
+
+    NAME       a function or a constant, without the comment above it
+    head       what stands above the first function
+    *          the whole file
+    TEXT+N     N lines, from the first line that has TEXT
+"""
+
+from __future__ import annotations
+
+import re
+import sys
+from pathlib import Path
+
+ROOT = Path(__file__).resolve().parent.parent
+PAGES = [ROOT / "README.md", ROOT / "c/README.md", *sorted((ROOT / "docs").glob("*.md"))]
+PIECE = re.compile(r"<!-- ([\w./]+): (\S.*) -->\n\n((?:    .*\n|\n(?=    ))*)")
+
+
+def first(lines: list[str], what: str, is_it: re.Pattern[str]) -> int:
+    """The number of the one line that a pattern finds."""
+    found = [at for at, line in enumerate(lines) if is_it.search(line)]
+    if len(found) != 1:
+        sys.exit(f"dev/page_excerpts.py: {len(found)} lines are {what}")
+    return found[0]
+
+
+def item_of(text: str, item: str) -> list[str]:
+    """The lines of one item of a file."""
+    lines = text.rstrip("\n").split("\n")
+    if item == "*":
+        return lines
+    if item == "head":
+        begin = next(at for at, line in enumerate(lines) if line.startswith("#!["))
+        return lines[begin : next(at for at, line in enumerate(lines) if line.startswith("///")) - 1]
+    if counted := re.fullmatch(r"(.+)\+(\d+)", item):
+        begin = next((at for at, line in enumerate(lines) if counted[1] in line), None)
+        if begin is None:
+            sys.exit(f"dev/page_excerpts.py: no line has {counted[1]}")
+        return lines[begin : begin + int(counted[2])]
+    begin = first(lines, item, re.compile(rf"^(?:pub(?:\(crate\))? )?(?:fn|const) {item}\b"))
+    end = next(at for at, line in enumerate(lines) if at >= begin and re.match(r"\S*[};]$|\S.*;$", line))
+    return lines[begin : end + 1]
+
+
+def shown(piece: re.Match[str]) -> str:
+    """A piece as the page is to show it; parts of a file by lines stand without their common indent."""
+    file, items, _ = piece.groups()
+    text = (ROOT / file).read_text()
+    parts = []
+    for item in items.split():
+        lines = item_of(text, item)
+        spare = min(len(line) - len(line.lstrip()) for line in lines if line) if "+" in item else 0
+        parts.append("".join(f"    {line[spare:]}".rstrip() + "\n" for line in lines))
+    between = "" if "+" in items else "\n"
+    return f"<!-- {file}: {items} -->\n\n{between.join(parts)}"
+
+
+def main() -> None:
+    only_check = "--check" in sys.argv
+    stale = False
+    for page in PAGES:
+        old = page.read_text()
+        new = PIECE.sub(shown, old)
+        if new == old:
+            continue
+        stale = True
+        print("stale:" if only_check else "written:", page.relative_to(ROOT))
+        if not only_check:
+            page.write_text(new)
+    if only_check and stale:
+        sys.exit(1)
+
+
+if __name__ == "__main__":
+    main()

@@ -245,7 +245,7 @@ uint8_t nic_settle(nic *n, uint16_t queues, nic_told *told, size_t length, size_
 
 /* --- the EEPROM --- */
 
-/* Puts an image in, of an image's bytes or of a text in the language of docs/GUIDE.md ("An image for the EEPROM"):
+/* Puts an image in, of an image's bytes or of a text in the language of docs/script.md ("An EEPROM image"):
    DONE, a NIC_IMAGE_.. or a NIC_TEXT_.., OUT_OF_MEMORY. *line is the line or index that a NIC_TEXT_.. tells, else 0. */
 uint8_t nic_install_image(nic *n, const uint8_t *bytes, size_t length);
 uint8_t nic_install_text(nic *n, const uint8_t *text, size_t length, uint64_t *line);

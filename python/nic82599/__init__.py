@@ -144,7 +144,7 @@ class Done:
 
 @dataclass(frozen=True)
 class Dropped:
-    """A frame was dropped, in the words of docs/GUIDE.md: `link down`, `filter`, `no slot` and so on."""
+    """A frame was dropped, in the words of docs/script.md: `link down`, `filter`, `no slot` and so on."""
 
     why: str
 

@@ -1,7 +1,7 @@
 """Why the bench refuses a line of a script: the word, what was expected there, and what comes near.
 
 That a script is refused, by which fault and at which line, the bench says; here the line is looked at again to say it
-in more words. The forms are those of docs/GUIDE.md.
+in more words. The forms are those of docs/script.md.
 """
 
 from __future__ import annotations

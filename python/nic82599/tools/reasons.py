@@ -1,7 +1,8 @@
 """Why a step was idle, dropped a frame or met a fault: the documented conditions, with the registers that decide them.
 
-Each condition of docs/REGISTERS.md and docs/GUIDE.md for the step's kind is told in the order in which the device tests
-it, with the words of the registers before the step, and whether it held. The reply itself is always the program's.
+Each condition of docs/REGISTERS.md and docs/script.md for the step's kind is told in the order in which the device
+tests it, with the words of the registers before the step, and whether it held. The reply itself is always the
+program's.
 """
 
 from __future__ import annotations

@@ -107,6 +107,12 @@ class Browser:
         self.ask("Input.dispatchKeyEvent", {"type": "keyDown", **words})
         self.ask("Input.dispatchKeyEvent", {"type": "keyUp", "key": key, "windowsVirtualKeyCode": code})
 
+    def click(self, x: float, y: float) -> None:
+        """A click of the mouse at a place of the window."""
+        for kind in ("mousePressed", "mouseReleased"):
+            place = {"type": kind, "x": x, "y": y, "button": "left", "clickCount": 1}
+            self.ask("Input.dispatchMouseEvent", place)
+
     def value(self, expression: str) -> Any:
         """The value of an expression in the page."""
         answer = self.ask("Runtime.evaluate", {"expression": expression, "returnByValue": True})

@@ -6,53 +6,109 @@ import sys
 from collections.abc import Iterator
 from html import escape
 from math import cos, pi, sin
-from pathlib import Path
 
 from . import regs
-from .frames import descriptor, summary
-from .memory import Ring, Seen, ring_of
-from .reasons import Reason
+from .frames import Descriptor, descriptor, summary
+from .memory import Frame, Ring, ring_of
 from .regs import REGISTERS
-from .trace import Step, Trace
+from .run import Run
+from .trace import Step
 
-Memory = dict[int, bytes | None]
 MARKS = {"device": "D", "done": "+", "driver": ".", "nobody": "?"}
 LONG = 64
+UNKNOWN = ("not read", "not lent")
 
 
-def look(ring: Ring, memory: Memory, slot: int) -> str:
-    """How a slot is shown: the device's, done, or the driver's."""
-    owner = ring.owner(slot)
-    is_done = descriptor(ring.side, memory.get(ring.base + 16 * slot)).done
-    return "done" if owner == "driver" and is_done else owner
+class State:
+    """The machine while a run is told step by step."""
+
+    def __init__(self, run: Run):
+        self.run = run
+        self.words = dict(run.start)
+        self.memory: dict[int, bytes | None] = {}
+        self.lent: set[int] = set()
+        self.waiting: list[int] = []
+        self.out: list[int] = []
+
+    def make(self, step: Step) -> None:
+        for address, _, new in step.changes:
+            self.words[address] = new
+        self.memory.update(step.memory)
+        for sign, block in step.lent:
+            self.lent = self.lent | {block} if sign == "+" else self.lent - {block}
+        for sign, frames in step.waiting:
+            self.waiting = self.waiting + frames if sign == "+" else [one for one in self.waiting if one not in frames]
+        for sign, frames in step.out:
+            self.out = self.out + frames if sign == "+" else [one for one in self.out if one not in frames]
+
+    def rings(self) -> list[Ring]:
+        """The rings that have slots or are on."""
+        rings = [ring_of(self.words, side, queue) for side, queue in self.run.seen.sides]
+        return [ring for ring in rings if ring.slots or ring.on]
+
+    def said(self, ring: Ring, slot: int) -> Descriptor:
+        """What a slot's descriptor says."""
+        address = ring.base + 16 * slot
+        return descriptor(ring.side, self.memory.get(address), address >> 11 in self.lent)
+
+    def look(self, ring: Ring, slot: int) -> str:
+        """How a slot is shown: the device's, done, or the driver's."""
+        owner = ring.owner(slot)
+        return "done" if owner == "driver" and self.said(ring, slot).done else owner
+
+    def told(self, ring: Ring, slot: int) -> str:
+        """A slot in words; nothing where it says nothing."""
+        said = self.said(ring, slot)
+        is_silent = said.form == "empty" or not said.fields and ring.owner(slot) != "device"
+        fields = ", ".join(f"{name} {value}" for name, value in said.fields)
+        return "" if is_silent else f"{said.form}: {fields}" if fields else said.form
+
+    def written_head(self, ring: Ring) -> str:
+        """The head that stands in memory, where it is written back."""
+        content, at = self.memory.get((ring.back or 0) & ~15), (ring.back or 0) & 15
+        if content is None:
+            return "not read" if (ring.back or 0) >> 11 in self.lent else "not lent"
+        return str(int.from_bytes(content[at : at + 4], "little"))
 
 
-def ring_lines(ring: Ring, memory: Memory) -> list[str]:
-    """A ring as a strip: `H` over the head, `T` over the tail, `B` where they are the same."""
+def ring_lines(ring: Ring, state: State) -> list[str]:
+    """A ring as a strip: `H` over the head, `T` over the tail, `B` where they are the same. What is no slot of the ring
+    stands behind it, with its number."""
     facts = f"{ring.name} {'on' if ring.on else 'off'}  base 0x{ring.base:x}  {ring.slots} slots"
     facts += f"  head {ring.head}  tail {ring.tail}"
     if ring.back is not None:
-        facts += f"  head written back to 0x{ring.back:x}: {written_head(ring, memory)}"
-    if ring.slots == 0 or ring.is_outside():
-        return [facts + ("  (outside: no slot of the ring)" if ring.slots else "")]
+        facts += f"  head written back to 0x{ring.back:x}: {state.written_head(ring)}"
+    if ring.slots == 0:
+        return [facts]
     lines = [facts]
     for begin in range(0, ring.slots if ring.slots <= 8 * LONG else 0, LONG):
         slots = range(begin, min(begin + LONG, ring.slots))
         over = "".join(_pointer(ring, slot) for slot in slots)
-        strip = "".join(MARKS[look(ring, memory, slot)] for slot in slots)
+        strip = "".join(MARKS[state.look(ring, slot)] for slot in slots)
         lines += [f"  {over}".rstrip()] if over.strip() else []
-        lines.append(f"  {strip}")
-    for slot in range(ring.slots):
-        told = _slot(ring, memory, slot)
-        lines += [f"  {slot:4} {told}"] if told else []
+        lines.append(f"  {strip}" + (_outside(ring) if slots.stop == ring.slots else ""))
+    lines += [f" {_outside(ring)}"] if ring.slots > 8 * LONG and ring.is_outside() else []
+    told = ((slot, state.told(ring, slot)) for slot in range(ring.slots))
+    return lines + _runs([(slot, words) for slot, words in told if words])
+
+
+def _runs(told: list[tuple[int, str]]) -> list[str]:
+    """A line for each slot, or for several in a row of which nothing is read."""
+    lines, at = [], 0
+    while at < len(told):
+        end = at + 1
+        while end < len(told) and told[at][1] in UNKNOWN and told[end] == (told[end - 1][0] + 1, told[at][1]):
+            end += 1
+        first, last = told[at][0], told[end - 1][0]
+        lines.append(f"  {first:4}{f' to {last}' if last > first else ''} {told[at][1]}")
+        at = end
     return lines
 
 
-def written_head(ring: Ring, memory: Memory) -> str:
-    """The head that stands in memory, where it is written back."""
-    content = memory.get((ring.back or 0) & ~15)
-    at = (ring.back or 0) & 15
-    return "not lent" if content is None else str(int.from_bytes(content[at : at + 4], "little"))
+def _outside(ring: Ring) -> str:
+    """The head and the tail, as far as they are no slots."""
+    marks = [(name, at) for name, at in (("H", ring.head), ("T", ring.tail)) if at >= ring.slots]
+    return "".join(f"  {name} {at}" for name, at in marks) + (" (no slot of the ring)" if marks else "")
 
 
 def _pointer(ring: Ring, slot: int) -> str:
@@ -61,50 +117,16 @@ def _pointer(ring: Ring, slot: int) -> str:
     return "T" if slot == ring.tail else " "
 
 
-def _slot(ring: Ring, memory: Memory, slot: int) -> str:
-    """What a slot's descriptor says; nothing where it says nothing."""
-    content = memory.get(ring.base + 16 * slot)
-    said = descriptor(ring.side, content)
-    if content is None or said.form == "empty":
-        return ""
-    return f"{said.form}: " + ", ".join(f"{name} {value}" for name, value in said.fields)
-
-
-class State:
-    """The machine while a run is told step by step."""
-
-    def __init__(self, trace: Trace, seen: Seen):
-        self.trace, self.seen = trace, seen
-        self.words = dict(trace.start)
-        self.memory: Memory = {}
-        self.waiting: list[int] = []
-        self.out: list[int] = []
-
-    def make(self, step: Step) -> None:
-        for address, _, new in step.changes:
-            self.words[address] = new
-        self.memory.update(step.memory)
-        for sign, frames in step.waiting:
-            self.waiting = self.waiting + frames if sign == "+" else [one for one in self.waiting if one not in frames]
-        for sign, frames in step.out:
-            self.out = self.out + frames if sign == "+" else [one for one in self.out if one not in frames]
-
-    def rings(self) -> list[Ring]:
-        """The rings that have slots or are on."""
-        rings = [ring_of(self.words, side, queue) for side, queue in self.seen.sides]
-        return [ring for ring in rings if ring.slots or ring.on]
-
-
-def text(trace: Trace, seen: Seen, reasons: list[list[Reason]]) -> Iterator[str]:
+def text(run: Run) -> Iterator[str]:
     """The lines of a run."""
-    state, script = State(trace, seen), trace.script
+    state = State(run)
     drawn: dict[str, list[str]] = {}
     yield "D the device's slot, + done, . the driver's; H head, T tail, B both"
-    for step, why in zip(trace.steps, reasons):
+    for step, why in zip(run.steps, run.reasons):
         state.make(step)
-        comment = script.comment(step.pc)
+        comment = run.comment(step.pc)
         yield ""
-        yield f"{step.number:4}  line {script.line_of[step.pc]}: {script.shown(step.pc)}" + (
+        yield f"{step.number:4}  line {run.line_of[step.pc]}: {run.shown(step.pc)}" + (
             f"    # {comment}" if comment else ""
         )
         yield f"      {step.reply}" if step.reply else f"      acc 0x{step.acc:08x}, {step.status}"
@@ -113,26 +135,31 @@ def text(trace: Trace, seen: Seen, reasons: list[list[Reason]]) -> Iterator[str]
         for address, old, new in step.changes:
             told = regs.told(REGISTERS[address].row, new)
             yield f"      {regs.name_at(address)}  0x{old:08x} -> 0x{new:08x}  {told}".rstrip()
-        for sign, frames in step.waiting:
-            for frame in frames:
-                one = seen.arrived[frame]
-                queue = f", queue {one.queue}" if one.queue is not None else ""
-                rss = f", RSS {one.rss}" if one.rss and sign == "-" else ""
-                yield f"      {'waits' if sign == '+' else 'waits no more'}: {summary(one.data or b'')}{queue}{rss}"
-        for sign, frames in step.out:
-            for frame in frames:
-                shown = seen.sent[frame]
-                yield f"      {'out' if sign == '+' else 'collected'}: " + (
-                    summary(shown.data) if shown.data else f"a frame of queue {shown.queue}"
-                )
+        yield from _frame_lines(run, step)
         for ring in state.rings():
-            lines = ring_lines(ring, state.memory)
+            lines = ring_lines(ring, state)
             if drawn.get(ring.name) != lines:
                 drawn[ring.name] = lines
                 yield from (f"      {line}" for line in lines)
     yield ""
-    yield trace.last
-    yield from (f"note: {note}" for note in trace.notes)
+    yield run.last
+    yield from (f"note: {note}" for note in run.notes)
+
+
+def _frame_lines(run: Run, step: Step) -> Iterator[str]:
+    """The frames that came and went at a step."""
+    for sign, frames in step.waiting:
+        for frame in frames:
+            one = run.seen.arrived[frame]
+            queue = f", queue {one.queue}" if one.queue is not None else ""
+            rss = f", RSS {one.rss}" if one.rss and sign == "-" else ""
+            yield f"      {'waits' if sign == '+' else 'waits no more'}: {summary(one.data or b'')}{queue}{rss}"
+    for sign, frames in step.out:
+        for frame in frames:
+            shown = run.seen.sent[frame]
+            yield f"      {'out' if sign == '+' else 'collected'}: " + (
+                summary(shown.data) if shown.data else f"a frame of queue {shown.queue}"
+            )
 
 
 STYLE = """text { font: 13px system-ui, "DejaVu Sans", sans-serif; fill: #1c232d; }
@@ -168,11 +195,11 @@ def _svg_text(x: float, y: float, words: str, kind: str = "", anchor: str = "sta
     return f'<text x="{x:.1f}" y="{y:.1f}"{shown} text-anchor="{anchor}">{escape(words)}</text>'
 
 
-def _svg_ring(ring: Ring, memory: Memory) -> list[str]:
+def _svg_ring(ring: Ring, state: State) -> list[str]:
     """A ring of slots round its name, with its head and tail."""
     parts, count = [], max(ring.slots, 1)
     for slot in range(ring.slots):
-        start, end, shown = slot / count, (slot + 1) / count, look(ring, memory, slot)
+        start, end, shown = slot / count, (slot + 1) / count, state.look(ring, slot)
         outer, inner = (
             f"M{_turn(start, 86)} A86 86 0 0 1 {_turn(end, 86)}",
             f"L{_turn(end, 52)} A52 52 0 0 0 {_turn(start, 52)} Z",
@@ -181,17 +208,11 @@ def _svg_ring(ring: Ring, memory: Memory) -> list[str]:
         x, y = _point((start + end) / 2, 69)
         if count <= 32:
             parts.append(_svg_text(x, y + 4, str(slot), f"on-{shown}", "middle"))
-    marks = {"head": "head, tail" if ring.head == ring.tail else "head"} | (
-        {} if ring.head == ring.tail else {"tail": "tail"}
-    )
+    is_both = ring.head == ring.tail
+    marks = {"head": "head, tail" if is_both else "head"} | ({} if is_both else {"tail": "tail"})
     for which, name in marks.items():
-        place = ring.head if which == "head" else ring.tail
-        if place < ring.slots:
-            angle = (place + 0.5) / count
-            points = ", ".join(_turn(a, r) for a, r in ((angle, 88), (angle - 0.01, 99), (angle + 0.01, 99)))
-            x, y = _point(angle, 104)
-            parts.append(f'<polygon class="{which}" points="{points}"/>')
-            parts.append(_svg_text(x, y + 4, name, which, "start" if x > 125 else "end" if x < 107 else "middle"))
+        if ring.slots:
+            parts += _svg_mark(ring, which, name)
     for y, words, kind in (
         (108, ring.name, "title"),
         (125, "on" if ring.on else "off", ""),
@@ -201,6 +222,24 @@ def _svg_ring(ring: Ring, memory: Memory) -> list[str]:
     return parts
 
 
+def _svg_mark(ring: Ring, which: str, name: str) -> list[str]:
+    """The arrow of a head or a tail. One that is no slot points away from the ring, where it closes, and stands on the
+    other side than the other's."""
+    place, other = (ring.head, ring.tail) if which == "head" else (ring.tail, ring.head)
+    if place < ring.slots:
+        angle = (place + 0.5) / ring.slots
+        points = ", ".join(_turn(a, r) for a, r in ((angle, 88), (angle - 0.01, 99), (angle + 0.01, 99)))
+        x, y = _point(angle, 104)
+        anchor = "start" if x > 125 else "end" if x < 107 else "middle"
+        return [f'<polygon class="{which}" points="{points}"/>', _svg_text(x, y + 4, name, which, anchor)]
+    is_left = which == "head" if other >= ring.slots else other < ring.slots / 2
+    angle = -0.012 if is_left else 0.012
+    points = ", ".join(_turn(a, r) for a, r in ((angle, 101), (angle - 0.01, 90), (angle + 0.01, 90)))
+    x = _point(angle, 104)[0] + (-6 if is_left else 6)
+    words = _svg_text(x, 20, f"{name} {place}: no slot", which, "end" if is_left else "start")
+    return [f'<polygon class="{which}" points="{points}"/>', words]
+
+
 def _wrapped(words: str, width: int) -> list[str]:
     """Words in lines of so many characters at most."""
     from textwrap import wrap
@@ -208,22 +247,21 @@ def _wrapped(words: str, width: int) -> list[str]:
     return wrap(words, width) or [""]
 
 
-def picture(trace: Trace, seen: Seen, reasons: list[list[Reason]], number: int) -> str:
+def picture(run: Run, number: int) -> str:
     """The machine after a step, as SVG: its rings, what their slots say, frames that wait, and why a step was idle."""
-    state = State(trace, seen)
-    for one in trace.steps[: number + 1]:
+    state = State(run)
+    for one in run.steps[: number + 1]:
         state.make(one)
-    step, parts, y = trace.steps[number], [], 28.0
-    name = Path(trace.script.path).name
-    title = f"{name}, step {number}: {trace.script.shown(step.pc)} → {step.reply}"
+    step, parts, y = run.steps[number], [], 28.0
+    title = f"{run.name}, step {number}: {run.shown(step.pc)} → {step.answer}"
     parts.append(_svg_text(18, y, title, "title mono"))
     y += 14
     for ring in [one for one in state.rings() if one.slots <= LONG]:
-        drawn = "".join(_svg_ring(ring, state.memory))
+        drawn = "".join(_svg_ring(ring, state))
         parts.append(f'<g transform="translate(48 {y:.0f})">{drawn}</g>')
         parts += _beside(ring, state, y + 30)
         y += SIZE
-    held = [line for reason in reasons[number] if reason.held for line in _wrapped(reason.text, 100)]
+    held = [line for reason in run.reasons[number] if reason.held for line in _wrapped(reason.text, 100)]
     for line in held:
         y += 20
         parts.append(_svg_text(18, y, line, "held"))
@@ -232,44 +270,39 @@ def picture(trace: Trace, seen: Seen, reasons: list[list[Reason]], number: int) 
     ground = f'<rect class="ground" x="0.5" y="0.5" width="{WIDTH - 1}" height="{height - 1:.0f}" rx="10"/>'
     return (
         f'<svg xmlns="http://www.w3.org/2000/svg" {size} role="img">\n'
-        f"<title>{escape(name)}, after step {number}</title>\n<style>{STYLE}</style>\n"
+        f"<title>{escape(run.name)}, after step {number}</title>\n<style>{STYLE}</style>\n"
         f"{ground}\n{body}\n</svg>\n"
     )
+
+
+WHOSE = {"device": "the device's", "done": "done", "driver": "the driver's", "nobody": "nobody's"}
 
 
 def _beside(ring: Ring, state: State, top: float) -> list[str]:
     """The words beside a ring: its registers, its slots' descriptors, and the frames that wait for it."""
     parts, y, left = [], top, 350
-    lines: list[tuple[str, str]] = [
-        (f"base 0x{ring.base:x}, {ring.slots} slots, head {ring.head}, tail {ring.tail}", "mono"),
-    ]
+    lines = [(f"base 0x{ring.base:x}, {ring.slots} slots, head {ring.head}, tail {ring.tail}", "mono")]
     for slot in range(ring.slots):
-        told = _slot(ring, state.memory, slot)
+        told = state.told(ring, slot)
         if told and len(lines) < 8:
-            whose = {"device": "the device's", "done": "done", "driver": "the driver's"}.get(
-                look(ring, state.memory, slot), ""
-            )
+            whose = WHOSE[state.look(ring, slot)]
             for n, line in enumerate(_wrapped(f"slot {slot} ({whose}), {told}", 54)):
                 lines.append((line if n == 0 else "    " + line, ""))
-    waiting = [state.seen.arrived[one] for one in state.waiting]
-    mine = [one for one in waiting if one.queue == ring.queue and one.data is not None] if ring.side == "rx" else []
-    for frame in mine[:2]:
-        lines += [(line, "held") for line in _wrapped(f"waits: {summary(frame.data or b'')}", 54)]
-    sent = (
-        [state.seen.sent[one] for one in state.out if state.seen.sent[one].queue == ring.queue]
-        if ring.side == "tx"
-        else []
-    )
-    for frame in sent[:2]:
-        lines += [(line, "faint") for line in _wrapped(f"out: {summary(frame.data or b'')}", 54)]
+    for frame, word, kind in _frames_of(ring, state):
+        lines += [(line, kind) for line in _wrapped(f"{word}: {summary(frame.data or b'')}", 54)]
     for line, kind in lines:
         parts.append(_svg_text(left, y, line, kind))
         y += 20
-    for x, kind, name in (
-        (left, "device", "the device's"),
-        (left + 116, "done", "done"),
-        (left + 184, "driver", "the driver's"),
-    ):
+    for x, kind in ((left, "device"), (left + 116, "done"), (left + 184, "driver")):
         parts.append(f'<rect class="{kind}" x="{x}" y="{top + 160:.0f}" width="11" height="11" rx="2"/>')
-        parts.append(_svg_text(x + 16, top + 170, name, "faint"))
+        parts.append(_svg_text(x + 16, top + 170, WHOSE[kind], "faint"))
     return parts
+
+
+def _frames_of(ring: Ring, state: State) -> list[tuple[Frame, str, str]]:
+    """Two frames that wait for a receive ring, or two that went out of a transmit ring."""
+    seen = state.run.seen
+    if ring.side == "rx":
+        waiting = [seen.arrived[one] for one in state.waiting if seen.arrived[one].data is not None]
+        return [(one, "waits", "held") for one in waiting if one.queue == ring.queue][:2]
+    return [(one, "out", "faint") for one in map(seen.sent.__getitem__, state.out) if one.queue == ring.queue][:2]

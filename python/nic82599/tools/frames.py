@@ -127,10 +127,11 @@ class Descriptor:
     fields: Fields
 
 
-def descriptor(side: str, content: bytes | None) -> Descriptor:
-    """The descriptor in a slot of a ring. A receive slot is in the form of write-back where its bit DD is 1."""
+def descriptor(side: str, content: bytes | None, is_lent: bool = True) -> Descriptor:
+    """The descriptor in a slot of a ring. A receive slot is in the form of write-back where its bit DD is 1. Where the
+    content isn't known, the slot is not lent, or lent and not read."""
     if content is None:
-        return Descriptor("not lent, or not asked for", False, [])
+        return Descriptor("not read" if is_lent else "not lent", False, [])
     low, high = int.from_bytes(content[:8], "little"), int.from_bytes(content[8:], "little")
     return _transmit(low, high) if side == "tx" else _receive(low, high)
 

@@ -17,7 +17,9 @@ from .trace import Step, Trace, number_after, word_of
 
 SCRIPT_LIMIT = 4_096
 RUNS = 16
+# Of a ring with more slots than these, only some are read: round its head, and those that were written.
 WHOLE_RING = 64
+BEHIND, AHEAD = 8, 32
 UNTOUCHED = ("idle", "no queue", "no group", "not lent", "misaligned", "no block")
 
 
@@ -191,19 +193,19 @@ class Watch:
         self.poked: dict[int, bytes] = {}
 
     def steps(self) -> list[tuple[int, list[int]]]:
-        """For each step with something to ask, its number and the addresses."""
+        """For each step with something to ask, its number and the addresses. Notes at each step what it wrote."""
         plan = []
         for step in self.trace.steps:
             before = dict(self.words) if step.reply.startswith(("wrote", "sent", "advanced")) else {}
             for address, _, new in step.changes:
                 self.words[address] = new
-            changed = self._changed(step, before)
-            self.touched |= changed
-            self.known -= changed
+            step.written = self._changed(step, before)
+            self.touched |= step.written
+            self.known -= step.written
             if self._is_new_ring(step):
                 self.interest = self._rings()
             else:
-                self.interest |= {unit for unit in changed if self._is_of_long(unit)}
+                self.interest |= {unit for unit in step.written if self._is_of_long(unit)}
             asked = sorted(self.interest - self.known)
             if asked:
                 plan.append((step.number, asked))
@@ -211,23 +213,18 @@ class Watch:
         return plan
 
     def _is_new_ring(self, step: Step) -> bool:
-        """Whether a ring may lie elsewhere now, or other blocks are lent."""
+        """Whether a ring may lie elsewhere now, the head of a long one moved, or other blocks are lent."""
         names = {REGISTERS[address].row.name[1:] for address, _, _ in step.changes}
-        return bool(names & {"DBAL", "DBAH", "DLEN", "DWBAL", "DWBAH"}) or self.trace.instruction(step).op in (
-            Op.LEND,
-            Op.UNLEND,
-        )
+        placed = {"DBAL", "DBAH", "DLEN", "DWBAL", "DWBAH"} | ({"DH"} if self.long else set())
+        return bool(names & placed or step.lent)
 
     def _rings(self) -> set[int]:
-        """The units of the rings in use: of a long one those alone that were written."""
-        units: set[int] = set()
+        """The lent units of the rings in use."""
         rings = [ring_of(self.words, side, queue) for side, queue in self.sides]
         self.long = [ring for ring in rings if ring.slots > WHOLE_RING]
-        units.update(unit for unit in self.touched if self._is_of_long(unit))
-        for side, queue in self.sides:
-            ring = ring_of(self.words, side, queue)
-            if ring.slots <= WHOLE_RING:
-                units.update(ring.base + 16 * slot for slot in range(ring.slots))
+        units = {unit for unit in self.touched if self._is_of_long(unit)}
+        for ring in rings:
+            units.update(ring.base + 16 * slot for slot in _slots_read(ring))
             if ring.back is not None:
                 units.add(ring.back & ~15)
         return {unit for unit in units if unit >> 11 in self.lent}
@@ -241,9 +238,11 @@ class Watch:
         one = self.trace.instruction(step)
         if one.op == Op.LEND and step.reply == "done":
             self.lent.add(one.x)
+            step.lent.append(("+", one.x))
         elif one.op == Op.UNLEND and step.reply.startswith("taken"):
             self.lent.discard(one.x)
-            return {unit for unit in self.known if unit >> 11 == one.x}
+            step.lent.append(("-", one.x))
+            self.known = {unit for unit in self.known if unit >> 11 != one.x}
         elif one.op == Op.POKE and step.reply == "done":
             self.poked[one.a] = self.trace.script.data[one.x]
             return {one.a}
@@ -262,6 +261,13 @@ class Watch:
         size = (word_of(before, "SRRCTL", queue) & 31) * 1_024
         written = {one for one in self.interest if buffer - 16 < one < buffer + size} if unit in self.poked else set()
         return written | {unit}
+
+
+def _slots_read(ring: Ring) -> list[int]:
+    """The slots of a ring that are read when it is set up and when its head moves."""
+    if ring.slots <= WHOLE_RING:
+        return list(range(ring.slots))
+    return [(ring.head + k) % ring.slots for k in range(-BEHIND, AHEAD)]
 
 
 def look(trace: Trace) -> Seen:
@@ -323,10 +329,10 @@ def _lost(trace: Trace) -> None:
     """Forgets the units of a block that was taken back, and answers that say the same as before."""
     held: dict[int, bytes | None] = {}
     for step in trace.steps:
-        one = trace.instruction(step)
-        if one.op == Op.UNLEND and step.reply.startswith("taken"):
-            step.memory += [(unit, None) for unit in held if unit >> 11 == one.x]
+        for block in [block for sign, block in step.lent if sign == "-"]:
+            step.memory += [(unit, None) for unit in held if unit >> 11 == block]
         step.memory = [(unit, content) for unit, content in step.memory if held.get(unit, b"") != content]
+        step.written &= {unit for unit, _ in step.memory}
         held.update(step.memory)
 
 

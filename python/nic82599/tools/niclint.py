@@ -1,7 +1,7 @@
 """Says what is wrong with a script: why the bench refuses it, or what its author may have forgotten.
 
     tools/niclint SCRIPT            the refusal with its word and what comes near, or warnings
-    tools/niclint SCRIPT --trace    also runs it, and says why each step was idle, dropped a frame or met a fault
+    tools/niclint SCRIPT --trace    also runs it, and says why steps were idle, dropped frames, met faults or failed
 
 SCRIPT is a register script, a session of the debugger (what stands in front of its line `%`), or - for standard input.
 Exit status: 0 nothing is wrong; 1 there are warnings; 2 the script is refused or can't be read; 3 the words are wrong;
@@ -16,8 +16,7 @@ from collections import Counter
 
 from .advice import Advice
 from .forms import explained
-from .memory import look
-from .reasons import Reasons
+from .run import of_trace
 from .script import Bench, Refused, of_text, read_text
 from .tool import Parser, called, ended, number, sizes
 from .trace import trace_of
@@ -29,7 +28,7 @@ SHOWN = 3
 def words() -> argparse.Namespace:
     parser = Parser(description=called(__doc__ or ""), formatter_class=argparse.RawDescriptionHelpFormatter)
     parser.add_argument("script", metavar="SCRIPT")
-    parser.add_argument("--trace", action="store_true", help="run the script, and say why steps did nothing")
+    parser.add_argument("--trace", action="store_true", help="run the script, and say why steps did nothing or failed")
     sizes(parser)
     limit = "how many steps are run at most (4096)"
     parser.add_argument("--limit", metavar="N", type=number(1, 100_000), default=4_096, help=limit)
@@ -67,12 +66,12 @@ def main() -> int:
         if count > SHOWN:
             print(f"{asked.script}: warning: at {count - SHOWN} lines more: {warning}")
     if asked.trace:
-        run = trace_of(bench, script, text, asked.limit)
-        for step, reasons in zip(run.steps, Reasons(run, look(run)).all()):
+        run = of_trace(trace_of(bench, script, text, asked.limit))
+        for step, reasons in zip(run.steps, run.reasons):
             held = [reason.text for reason in reasons if reason.held]
             if held:
-                where = f"{asked.script}:{script.line_of[step.pc]}: step {step.number}"
-                print(f"{where}: {script.shown(step.pc)} -> {step.reply}: {'; '.join(held)}")
+                where = f"{asked.script}:{run.line_of[step.pc]}: step {step.number}"
+                print(f"{where}: {run.shown(step.pc)} -> {step.answer}: {'; '.join(held)}")
         print(f"{asked.script}: {run.last}")
     if not warnings and not asked.trace:
         print(f"{asked.script}: {len(script.instructions)} instructions, nothing to say")

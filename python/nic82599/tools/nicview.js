@@ -1,10 +1,12 @@
 "use strict";
-// The page of a run. Position n is the machine after n steps; what is shown of it stands in the data.
+// The page of a run. Position n is the machine after n steps, so step n - 1 is the one that is told of; steps count
+// from 0 here as they do in nicview --svg, --text and niclint. What is shown stands in the data, which page.py writes.
 const run = JSON.parse(document.getElementById("data").textContent);
 const count = run.steps.length;
 const start = new Map(run.start);
 const registers = new Map(Object.entries(run.registers).map(([address, names]) => [Number(address), names]));
-let position = 0, playing = null, picked = null;
+const TROUBLE = ["failed", "fault", "dropped", "refused"];
+let position = 0, playing = null;
 
 // Elements and words.
 
@@ -15,242 +17,168 @@ function make(tag, properties = {}, ...children) {
   made.append(...children.filter((child) => child !== null));
   return made;
 }
-function drawn(tag, attributes, text) {
-  const made = document.createElementNS("http://www.w3.org/2000/svg", tag);
-  for (const [name, value] of Object.entries(attributes)) made.setAttribute(name, value);
-  if (text !== undefined) made.textContent = text;
-  return made;
-}
+const span = (className, ...children) => make("span", { className }, ...children);
 const cell = (text, className = "") => make("td", { className }, text);
 const row = (cells, tag = "td") => make("tr", {}, ...cells.map((text) => make(tag, {}, text)));
 const faint = (text) => make("p", { className: "faint" }, text);
 const hex = (word) => "0x" + (word >>> 0).toString(16).padStart(8, "0");
-const fields = (name, word) => run.told[`${name}:${word >>> 0}`] || "";
-const replyOf = (step) => run.texts[step[1]];
-function kindOf(reply) {
-  if (reply.startsWith("fault")) return "fault";
-  if (reply.startsWith("message")) return "message";
-  return /^(idle|dropped|stray|no |not lent|misaligned)/.test(reply) ? "idle" : "";
+const fields = (name, word) => run.told[`${name}:${word >>> 0}`] || [];
+const kindOf = (step) => step[4].k ?? "";
+const groupOf = (kind) => (TROUBLE.includes(kind) ? "fault" : kind);
+const replyOf = (step) => (kindOf(step) === "failed" ? run.last : run.texts[step[1]]);
+const cut = (text, most) => (text.length > most ? text.slice(0, most - 2) + ".." : text);
+// The first parts of a list; the rest opens.
+function some(parts, most, what) {
+  if (parts.length <= most + 1) return parts;
+  const rest = make("details", {}, make("summary", {}, `and ${parts.length - most} more ${what}`));
+  rest.append(...parts.slice(most));
+  return [...parts.slice(0, most), rest];
 }
 
 // The machine after n steps.
 function machine(n) {
-  const state = { words: new Map(start), memory: new Map(), waiting: [], out: [], routes: [], vectors: [null, null] };
+  const state = {
+    words: new Map(start), memory: new Map(), lent: new Set(), waiting: [], out: [], routes: [], vectors: [null, null],
+  };
   const moved = (list, [sign, frames]) =>
     sign === "+" ? list.concat(frames) : list.filter((one) => !frames.includes(one));
   for (let k = 0; k < n; k++) {
     const [, , , changes, more] = run.steps[k];
     for (const [address, word] of changes) state.words.set(address, word);
     for (const [unit, content] of more.m || []) state.memory.set(unit, content);
+    for (const [sign, block] of more.l || []) sign === "+" ? state.lent.add(block) : state.lent.delete(block);
     for (const one of more.w || []) state.waiting = moved(state.waiting, one);
     for (const one of more.o || []) state.out = moved(state.out, one);
     if (more.r) [state.routes, state.vectors] = [more.r[0].map((text) => run.texts[text]), more.r[1]];
   }
   return state;
 }
-// A register's word after n steps, which is found from there backwards.
-function wordBefore(address, n) {
+// A register's word after n steps, and the content of 16 bytes of memory, which are found from there backwards.
+function wordAfter(address, n) {
   for (let k = n - 1; k >= 0; k--) for (const [at, word] of run.steps[k][3]) if (at === address) return word;
   return start.get(address) ?? 0;
 }
+function contentAfter(unit, n) {
+  for (let k = n - 1; k >= 0; k--) for (const [at, content] of run.steps[k][4].m || []) if (at === unit) return content;
+  return null;
+}
+const blockOf = (address) => Math.floor(address / 2048);
+const unknown = (state, address) => (state.lent.has(blockOf(address)) ? "not read" : "not lent");
 
-// Rings.
+// What changed: the digits, fields and bits that differ are lit, and those that are gone are struck out.
 
-function ringOf(state, side) {
-  const word = (key) => state.words.get(side[key]) ?? 0;
-  const slots = Math.floor(word("length") / 16), head = word("head"), tail = word("tail");
-  const back = side.back && word("back") & 1 ? word("back_high") * 2 ** 32 + word("back") - (word("back") & 3) : null;
-  return {
-    side: side.side, queue: side.queue, name: `${side.side} ${side.queue}`, slots, head, tail, back,
-    base: word("high") * 2 ** 32 + word("low"),
-    on: Boolean(word("control") & (1 << 25)),
-    outside: head >= slots || tail >= slots,
-  };
+function litDigits(old, word) {
+  const [before, after] = [hex(old), hex(word)], shown = make("code", {});
+  for (let k = 0; k < after.length; k++)
+    shown.append(after[k] === before[k] ? after[k] : make("b", { className: "lit" }, after[k]));
+  return shown;
 }
-// A slot: what it says, whose it is, and how it is shown.
-function slotOf(state, ring, slot) {
-  const content = state.memory.get(ring.base + 16 * slot);
-  const said = typeof content === "string" ? run.descriptors[ring.side + content] : null;
-  const behind = (from) => (from - ring.head + ring.slots) % ring.slots;
-  const owner = ring.outside ? "nobody" : behind(slot) < behind(ring.tail) ? "device" : "driver";
-  return { slot, said, owner, look: owner === "driver" && said && said[1] ? "done" : owner };
-}
-function turn(angle, radius) {
-  const at = (angle - 0.25) * 2 * Math.PI;
-  return [116 + radius * Math.cos(at), 116 + radius * Math.sin(at)].map((one) => Number(one.toFixed(2)));
-}
-function circle(state, ring) {
-  const svg = drawn("svg", { viewBox: "-34 10 300 212", role: "img", "aria-label": `ring ${ring.name}` });
-  const middle = { "text-anchor": "middle" };
-  for (let slot = 0; slot < ring.slots; slot++) {
-    const { look } = slotOf(state, ring, slot), from = slot / ring.slots, to = (slot + 1) / ring.slots;
-    const [a, b, c, d] = [turn(from, 86), turn(to, 86), turn(to, 52), turn(from, 52)];
-    const path = drawn("path", {
-      class: `slot ${look}${isPicked(ring, slot) ? " picked" : ""}`,
-      d: `M${a} A86 86 0 0 1 ${b} L${c} A52 52 0 0 0 ${d} Z`,
-    });
-    path.addEventListener("click", () => pick(ring, slot));
-    const [x, y] = turn((from + to) / 2, 69);
-    svg.append(path);
-    if (ring.slots <= 32) svg.append(drawn("text", { x, y: y + 4, class: `on-${look}`, ...middle }, slot));
+const isList = (value) => /^\d+( \d+)+$/.test(value ?? "");
+function litFields(before, after) {
+  const old = new Map(before), parts = [];
+  for (const [name, value] of after) {
+    const was = old.get(name);
+    old.delete(name);
+    if (was === value) parts.push([`${name} ${value}`]);
+    else if (was !== undefined && (isList(was) || isList(value))) parts.push([name, ...litList(was, value)]);
+    else parts.push([span("lit", `${name} ${value}`)]);
   }
-  mark(svg, ring, "head", ring.head === ring.tail ? "head, tail" : "head");
-  if (ring.head !== ring.tail) mark(svg, ring, "tail", "tail");
-  const size = ring.outside ? "outside" : `${ring.slots} slots`;
-  svg.append(drawn("text", { x: 116, y: 106, class: "title", ...middle }, ring.name));
-  svg.append(drawn("text", { x: 116, y: 122, ...middle }, ring.on ? "on" : "off"));
-  svg.append(drawn("text", { x: 116, y: 136, class: ring.outside ? "bad" : "small", ...middle }, size));
-  return svg;
+  for (const [name, value] of old) parts.push([make("s", {}, `${name} ${value}`)]);
+  return parts.flatMap((part, k) => (k ? [", ", ...part] : part));
 }
-function mark(svg, ring, which, text) {
-  if (ring[which] >= ring.slots) return;
-  const angle = (ring[which] + 0.5) / ring.slots, [x, y] = turn(angle, 104);
-  const points = [turn(angle, 88), turn(angle - 0.01, 99), turn(angle + 0.01, 99)].join(" ");
-  const anchor = x > 125 ? "start" : x < 107 ? "end" : "middle";
-  svg.append(drawn("polygon", { points, class: which }));
-  svg.append(drawn("text", { x, y: y + 4, "text-anchor": anchor, class: which }, text));
+function litList(before, after) {
+  const [old, now] = [before.split(" "), after.split(" ")];
+  const shown = now.map((bit) => (old.includes(bit) ? bit : span("lit", bit)));
+  const gone = old.filter((bit) => !now.includes(bit)).map((bit) => make("s", {}, bit));
+  return [...shown, ...gone].flatMap((one) => [" ", one]);
 }
-// A long ring as a strip, its slots in proportion.
-function strip(state, ring) {
-  const place = (slot) => `${(100 * slot) / ring.slots}%`, bar = make("div", { className: "strip" });
-  const part = (from, to, look) =>
-    bar.append(make("i", { className: look, style: `left:${place(from)};width:max(2px,${place(to - from)})` }));
-  const label = (which) => {
-    const slot = ring[which];
-    const side = slot > ring.slots / 2 ? `right:calc(100% - ${place(slot)})` : `left:${place(slot)}`;
-    return make("div", { className: "label" }, make("span", { className: which, style: side }, `${which} ${slot}`));
-  };
-  for (const slot of held(state, ring)) if (slotOf(state, ring, slot).look === "done") part(slot, slot + 1, "done");
-  if (ring.outside) return make("div", { className: "long" }, bar);
-  if (ring.head < ring.tail) part(ring.head, ring.tail, "device");
-  if (ring.head > ring.tail) for (const [a, b] of [[ring.head, ring.slots], [0, ring.tail]]) part(a, b, "device");
-  return make("div", { className: "long" }, label("head"), bar, label("tail"));
+const change = (...parts) => make("div", { className: "change" }, ...parts);
+function registerChange(n, [address, word]) {
+  const [name, kind] = registers.get(address), old = wordAfter(address, n - 1);
+  const words = span("words", make("code", { className: "old" }, hex(old)), " → ", litDigits(old, word));
+  const told = span("fields", ...litFields(fields(kind, old), fields(kind, word)));
+  return change(make("b", { className: "mono", title: run.meanings[kind] || "" }, name), words, told);
 }
-const isPicked = (ring, slot) => picked === `${ring.name}/${slot}`;
-function pick(ring, slot) {
-  picked = isPicked(ring, slot) ? null : `${ring.name}/${slot}`;
-  show(position);
+function memoryChange(n, state, [unit, content]) {
+  const ring = ringAt(state, unit, run.steps[n - 1][4].g), old = contentAfter(unit, n - 1);
+  const where = `0x${unit.toString(16)}`;
+  if (!ring) return change(make("b", { className: "mono" }, `memory ${where}`), make("code", {}, content));
+  const [before, after] = [old, content].map((one) => (one ? run.descriptors[ring.side + one] : null));
+  const slot = `${ring.name} slot ${(unit - ring.base) / 16}`;
+  const title = make("b", { className: "mono", title: `16 bytes at ${where}` }, slot);
+  const form = span("words", before && before[0] !== after[0] ? `${before[0]} → ` : "", span("strong", after[0]));
+  return change(title, form, span("fields", ...litFields(before ? before[2] : [], after[2])));
 }
-// The slots of which memory is known.
-function held(state, ring) {
-  const slots = [...state.memory.keys()].map((unit) => (unit - ring.base) / 16);
-  return slots.filter((slot) => slot >= 0 && slot < ring.slots && Number.isInteger(slot));
-}
-// The slots that say something: the device's, and those that hold a descriptor; the nearest to the head, if many do.
-function slots(state, ring) {
-  const most = 32, behind = (slot) => (slot - ring.head + ring.slots) % ring.slots;
-  const numbers = new Set(held(state, ring));
-  for (let k = 0; !ring.outside && k < Math.min(behind(ring.tail), most); k++)
-    numbers.add((ring.head + k) % ring.slots);
-  const says = (one) => one.owner === "device" || (one.said && one.said[0] !== "empty") || isPicked(ring, one.slot);
-  const all = [...numbers].map((slot) => slotOf(state, ring, slot)).filter(says);
-  all.sort((a, b) => ((behind(a.slot) + 8) % ring.slots) - ((behind(b.slot) + 8) % ring.slots));
-  const some = all.slice(0, most).sort((a, b) => a.slot - b.slot);
-  if (!some.length) return faint("No slot is the device's, and none holds a descriptor.");
-  const whose = { device: "the device's", done: "done", driver: "the driver's", nobody: "–" };
-  const rows = some.map((one) => {
-    const form = make("b", {}, one.said ? one.said[0] : "not lent, or not asked for");
-    const told = one.said ? one.said[2].map(([name, value]) => `${name} ${value}`).join(", ") : "";
-    const said = make("td", {}, form, told && ": " + told);
-    const cells = [cell(`${one.slot}`, "mono"), cell(whose[one.look], "whose"), said];
-    return make("tr", { className: isPicked(ring, one.slot) ? "picked" : "" }, ...cells);
-  });
-  const table = make("table", {}, row(["Slot", "Whose", "Descriptor"], "th"), ...rows);
-  const left = all.length - some.length;
-  return make("div", { className: "scroll" }, table, left ? faint(`and ${left} more that hold a descriptor`) : null);
-}
-function writtenHead(state, address) {
-  const content = state.memory.get(address - (address % 16)), at = 2 * (address % 16);
-  if (!content) return "not lent";
-  return [3, 2, 1, 0].reduce((word, k) => word * 256 + parseInt(content.slice(at + 2 * k, at + 2 * k + 2), 16), 0);
-}
-function showRings(state) {
-  const rings = run.sides.map((side) => ringOf(state, side)).filter((ring) => ring.slots || ring.on);
-  element("rings-part").hidden = !run.sides.length;
-  const shown = rings.map((ring) => {
-    const { name, base, head, tail } = ring;
-    const where = `${name}: base 0x${base.toString(16)}, ${ring.slots} slots, head ${head}, tail ${tail}`;
-    const facts = make("p", { className: "mono" }, `${where}, ${ring.on ? "on" : "off"}`);
-    if (ring.outside) facts.append(make("span", { className: "bad" }, " (head or tail is no slot)"));
-    if (ring.back !== null)
-      facts.append(`; head written back to 0x${ring.back.toString(16)}: ${writtenHead(state, ring.back)}`);
-    const picture = ring.slots > 64 ? strip(state, ring) : ring.slots > 1 ? circle(state, ring) : null;
-    const told = make("div", { className: "slots" }, facts, ring.slots ? slots(state, ring) : null);
-    return make("div", { className: "ring" }, picture, told);
-  });
-  element("rings").replaceChildren(...(shown.length ? shown : [faint("No ring has a length.")]));
+function showChanges(n, state, changes, more) {
+  const rows = changes.map((one) => registerChange(n, one));
+  for (const one of more.m || []) if (one[2] && one[1] !== null) rows.push(memoryChange(n, state, one));
+  for (const [sign, block] of more.l || []) {
+    const way = sign === "+" ? "is lent to the device" : "came back from the device";
+    rows.push(change(make("b", { className: "mono" }, `block ${block}`), span("", way)));
+  }
+  const none = faint("No register changed, nor a slot.");
+  element("changes").replaceChildren(...(rows.length ? some(rows, 5, "changes") : [none]));
 }
 
 // The step, interrupts, frames.
 
-function showNow(n) {
+function showNow(n, state) {
   const now = element("now");
   element("now-title").textContent = n ? `Step ${n - 1}, line ${run.line_of[run.steps[n - 1][0]]}` : "At the start";
   if (!n) {
-    const told = make("p", { className: "now" }, `${count} steps; the last line is `, make("code", {}, run.last));
-    now.replaceChildren(told);
-    element("changes").replaceChildren();
+    element("answer").replaceChildren(`${count} steps; the last line is `, make("code", {}, run.last));
+    for (const id of ["now", "changes", "moved"]) element(id).replaceChildren();
     return;
   }
   const [pc, , acc, changes, more] = run.steps[n - 1], reply = replyOf(run.steps[n - 1]);
-  const tone = { fault: "bad", message: "good" }[kindOf(reply)] ?? "";
-  const short = reply.length > 80 ? reply.slice(0, 76) + ".." : reply;
-  const answer = make("code", { className: tone, title: reply }, short || `acc ${hex(acc)}`);
-  now.replaceChildren(make("div", { className: "now" }, make("code", {}, run.shown[pc]), " → ", answer));
-  const end = more.s === "failed" ? "bad" : "faint";
-  if (more.s) now.append(make("p", { className: end }, `Here it ${more.s}: ${run.last}`));
-  const words = { "w+": "It waits", "w-": "It waits no more", "o+": "It is out", "o-": "It is collected" };
+  const tone = { fault: "bad", message: "good", idle: "odd" }[groupOf(more.k)] ?? "";
+  const answer = make("code", { className: tone, title: reply }, cut(reply, 80) || `acc ${hex(acc)}`);
+  element("answer").replaceChildren(make("code", {}, run.shown[pc]), " → ", answer);
+  const reasons = (more.y || []).map(([held, text]) => make("li", { className: held ? "held" : "" }, run.texts[text]));
+  now.replaceChildren(...(reasons.length ? [make("ul", { className: "why" }, ...reasons)] : []));
+  if (more.s === "ended") now.append(faint(`Here the run ended: ${run.last}`));
+  const words = { "w+": "Waits", "w-": "Waits no more", "o+": "Out", "o-": "Collected" }, moved = [];
   for (const [key, all, way] of [["w", run.arrived, "came"], ["o", run.sent, "sent"]])
     for (const [sign, frames] of more[key] || [])
-      for (const frame of frames.slice(0, 8))
-        now.append(make("div", { className: "faint lone" }, words[key + sign] + ":"), told(all[frame], way));
-  const reasons = (more.y || []).map(([held, text]) => make("li", { className: held ? "held" : "" }, run.texts[text]));
-  if (reasons.length) now.append(make("ul", { className: "why" }, ...reasons));
-  showChanges(n, changes, more.m || []);
+      moved.push(...frames.map((frame) => told(all[frame], way, words[key + sign] + ": ")));
+  element("moved").replaceChildren(...some(moved, 3, "frames"));
+  showChanges(n, state, changes, more);
 }
-function showChanges(n, changes, memory) {
-  const rows = changes.map(([address, word]) => {
-    const [name, kind] = registers.get(address), title = make("b", { title: run.meanings[kind] || "" }, name);
-    const old = make("span", { className: "old" }, hex(wordBefore(address, n - 1)));
-    const words = make("td", { className: "mono" }, old, " ", hex(word));
-    return make("tr", {}, cell(title, "mono"), words, cell(fields(kind, word)));
-  });
-  for (const [unit, content] of memory.slice(0, 40)) {
-    const shown = make("td", { className: "mono bytes", colSpan: 2 }, content ?? "not lent, or not asked for");
-    rows.push(make("tr", {}, cell(make("b", {}, `memory 0x${unit.toString(16)}`), "mono"), shown));
-  }
-  const table = make("div", { className: "scroll" }, make("table", { className: "lone" }, ...rows));
-  element("changes").replaceChildren(rows.length ? table : faint("No register changed."));
-}
-function showInterrupts(state) {
-  const parts = [];
+function showInterrupts(state, before) {
+  const parts = [], keys = ["cause", "mask", "clear", "auto"];
   for (const group of run.groups) {
-    const kept = ["cause", "mask", "clear", "auto"].map((key) => state.words.get(group[key]) ?? 0), rows = [];
+    const [kept, old] = [state, before].map(({ words }) => keys.map((key) => words.get(group[key]) ?? 0)), rows = [];
     const any = kept.reduce((all, word) => all | word, 0);
+    const dot = (word, bit, k) => {
+      const [is, was] = [(word >>> bit) & 1, (old[k] >>> bit) & 1];
+      return is === was ? (is ? "●" : "") : span("lit", is ? "●" : "○");
+    };
     for (let bit = 0; bit < 32; bit++) {
-      if (!((any >>> bit) & 1)) continue;
+      if (!(((any | old.reduce((all, word) => all | word, 0)) >>> bit) & 1)) continue;
       const vector = group.name !== "pf" || bit < 16 ? bit : state.vectors[bit === 30 ? 1 : 0];
-      const told = vector === null ? make("span", { className: "bad" }, "none") : `${vector}`;
-      rows.push(row([group.bits[bit], ...kept.map((word) => ((word >>> bit) & 1 ? "●" : "")), told]));
+      const told = vector === null ? span("bad", "none") : `${vector}`;
+      rows.push(row([group.bits[bit], ...kept.map((word, k) => dot(word, bit, k)), told]));
     }
     const titles = row([group.name, "cause", "mask", "auto-clear", "auto-mask", "vector"], "th");
     if (rows.length) parts.push(make("div", { className: "scroll" }, make("table", {}, titles, ...rows)));
   }
-  if (state.routes.length) parts.push(faint(state.routes.join("; ")));
+  const routes = faint(state.routes.join("; ")), title = make("summary", {}, "Which cause each queue raises");
+  if (state.routes.length) parts.push(state.routes.length > 3 ? make("details", {}, title, routes) : routes);
   element("interrupts-part").hidden = !run.groups.length;
   element("interrupts").replaceChildren(...(parts.length ? parts : [faint("No cause, mask or vector is set.")]));
 }
 // A frame in one line, which opens to its headers.
-function told([step, queue, slots, packet, rss], way) {
+function told([step, queue, slots, packet, rss], way, title = "") {
   const whose = queue !== null ? `queue ${queue}` : "queue not known";
   const where = `${whose}, ${way} at step ${step}` + (slots.length ? `, in ${slots.join(", ")}` : "");
-  if (packet === null) return make("details", {}, make("summary", {}, `a frame (${where})`));
+  const named = title && make("b", {}, title);
+  if (packet === null) return make("details", {}, make("summary", {}, named, `a frame (${where})`));
   const [summary, layers, octets, length] = run.packets[packet];
   const list = (title, pairs) => make("dl", {}, make("dt", {}, make("b", {}, title)), make("dd", {}), ...pairs);
   const pair = ([key, value]) => [make("dt", {}, key), make("dd", {}, value)];
   const bytes = make("dd", { className: "mono" }, octets + (length > octets.length / 2 ? ".." : ""));
   const hashed = rss ? make("dl", {}, make("dt", {}, "RSS, as its descriptor tells"), make("dd", {}, rss)) : "";
-  return make("details", {}, make("summary", {}, `${summary} (${where})`),
+  return make("details", {}, make("summary", {}, named, `${summary} (${where})`),
     ...layers.map(([name, pairs]) => list(name, pairs.flatMap(pair))), hashed,
     make("dl", {}, make("dt", {}, "bytes"), bytes));
 }
@@ -258,8 +186,7 @@ function showFrames(state) {
   const counted = (n, one, more) => (n === 0 ? `No frame ${one}` : n === 1 ? `1 frame ${one}` : `${n} frames ${more}`);
   const list = (title, frames, all, way) => [
     make("p", { className: frames.length ? "strong" : "" }, title),
-    ...frames.slice(0, 20).map((one) => told(all[one], way)),
-    frames.length > 20 ? faint(`and ${frames.length - 20} more`) : "",
+    ...some(frames.map((one) => told(all[one], way)), 20, "frames"),
   ];
   const waiting = counted(state.waiting.length, "waits to be received", "wait to be received");
   const most = state.waiting.length ? `, of at most ${run.fifo}` : "";
@@ -284,14 +211,16 @@ function buildLines() {
   run.steps.forEach((step, k) => firstStep.has(step[0]) || firstStep.set(step[0], k));
   const lines = run.lines.map((text, n) => {
     const [code, ...comment] = text.split("#"), pc = pcAt.get(n + 1);
-    const shown = code.length > 400 ? code.slice(0, 390) + ".." : code;
-    const rest = comment.length ? make("span", { className: "comment" }, "#" + comment.join("#")) : "";
-    const title = text.length > 48 ? text.slice(0, 400) : "";
-    const number = make("span", { className: "number" }, `${n + 1}`);
-    const line = make("li", { title }, number, make("span", { className: "code" }, shown, rest));
-    if (pc === undefined) return line;
+    const rest = comment.length ? span("comment", "#" + comment.join("#")) : "";
+    const isData = code.trimStart().startsWith("data ");
+    const said = span("said", span(isData ? "code data" : "code", cut(code.trimEnd(), 400)), rest);
+    const line = make("li", { title: isData ? cut(text, 400) : "" }, span("number", `${n + 1}`), said);
+    if (pc === undefined) {
+      if (!code.trim() && comment.length) line.classList.add("remark");
+      return line;
+    }
     rowOf.set(pc, line);
-    line.append(make("span", { className: "reply" }));
+    line.append(span("reply"));
     if (firstStep.has(pc)) {
       line.classList.add("step");
       const isIt = (step) => step[0] === pc;
@@ -302,14 +231,15 @@ function buildLines() {
   element("lines").append(...lines);
 }
 function showLines(n) {
-  const replies = new Map();
-  for (let k = 0; k < n; k++) replies.set(run.steps[k][0], replyOf(run.steps[k]));
+  const made = new Map();
+  for (let k = 0; k < n; k++) made.set(run.steps[k][0], run.steps[k]);
   for (const [pc, line] of rowOf) {
-    const reply = replies.get(pc) ?? "", shown = reply.length > 40 ? reply.slice(0, 36) + ".." : reply;
+    const step = made.get(pc), kind = step ? groupOf(kindOf(step)) : "";
+    const shown = step ? (kindOf(step) === "failed" ? "failed" : cut(replyOf(step), 40)) : "";
     if (latest.get(pc) === shown) continue;
     latest.set(pc, shown);
     line.lastChild.textContent = shown;
-    line.lastChild.className = `reply ${{ fault: "fault", idle: "odd" }[kindOf(reply)] ?? ""}`;
+    line.lastChild.className = `reply ${{ fault: "fault", idle: "odd" }[kind] ?? ""}`;
   }
   lastLine?.classList.remove("here");
   lastLine = n ? rowOf.get(run.steps[n - 1][0]) : null;
@@ -326,7 +256,7 @@ function showHits() {
     hits.replaceChildren(faint(wanted ? "No step of this run can change a register of this name." : ""));
     return;
   }
-  const [name, kind] = registers.get(address), now = wordBefore(address, position), found = [];
+  const [name, kind] = registers.get(address), now = wordAfter(address, position), found = [];
   let old = start.get(address);
   run.steps.forEach((step, k) => step[3].forEach(([at, word]) => {
     if (at !== address) return;
@@ -335,7 +265,8 @@ function showHits() {
     found.push(button);
     old = word;
   }));
-  const place = `${name} at 0x${address.toString(16).padStart(5, "0")}, now ${hex(now)}  ${fields(kind, now)}`;
+  const told = fields(kind, now).map((field) => field.join(" ")).join(", ");
+  const place = `${name} at 0x${address.toString(16).padStart(5, "0")}, now ${hex(now)}  ${told}`;
   const more = found.length > 200 ? `and ${found.length - 200} more` : found.length ? "" : "No step changed it.";
   hits.replaceChildren(make("p", { className: "mono" }, place), ...found.slice(0, 200), faint(more));
 }
@@ -344,18 +275,24 @@ function showHits() {
 
 function show(n) {
   position = Math.max(0, Math.min(count, n));
-  const state = machine(position);
+  const state = machine(position), at = position ? `${position - 1}` : "start";
   element("slider").value = position;
-  element("at").textContent = `${position} / ${count}`;
+  element("slider").setAttribute("aria-valuetext", position ? `step ${at}` : at);
+  element("at").textContent = `${at} / ${Math.max(0, count - 1)}`;
   element("back").disabled = !position;
   element("on").disabled = position === count;
-  showNow(position);
-  showRings(state);
-  showInterrupts(state);
+  showNow(position, state);
+  showRings(position, state);
+  showInterrupts(state, machine(Math.max(0, position - 1)));
   showFrames(state);
   showLines(position);
   showHits();
-  history.replaceState(null, "", `#${position}`);
+  history.replaceState(null, "", `#${at}`);
+}
+// The position that the URL names: `#15` is step 15. Without one it is the first step that went wrong, or the last.
+function placeOf(hash) {
+  if (hash === "#start") return 0;
+  return /^#\d+$/.test(hash) ? Number(hash.slice(1)) + 1 : run.opening === null ? 0 : run.opening + 1;
 }
 function play(wanted = playing === null) {
   clearInterval(playing);
@@ -364,7 +301,7 @@ function play(wanted = playing === null) {
   element("play").textContent = wanted ? "Pause" : "Play";
 }
 function jump(kind, backwards) {
-  const test = (step) => kindOf(replyOf(step)) === kind;
+  const test = (step) => groupOf(kindOf(step)) === kind;
   const found = backwards ? previous(position, test) : next(position, test);
   if (found !== undefined) show(found);
 }
@@ -372,6 +309,10 @@ function theme() {
   const root = document.documentElement, wanted = root.dataset.theme;
   const dark = wanted ? wanted === "dark" : matchMedia("(prefers-color-scheme: dark)").matches;
   root.dataset.theme = dark ? "light" : "dark";
+}
+function comments() {
+  const hidden = element("script").classList.toggle("bare");
+  element("comments").textContent = hidden ? "Show comments" : "Hide comments";
 }
 const help = (open) => element("keys").classList.toggle("open", open);
 function keys(event) {
@@ -389,9 +330,30 @@ function keys(event) {
   else if (event.key === " " && event.target.tagName !== "BUTTON") play();
   else if (event.key === "/") element("search").focus();
   else if (event.key === "d") theme();
+  else if (event.key === "c") comments();
   else if (event.key === "?") help();
   else return;
   event.preventDefault();
+}
+// The marks below the slider, each wide enough to hit. Where several steps would share a mark, it is that of the first
+// of the worst kind.
+function drawMarks() {
+  const marks = element("marks"), width = marks.clientWidth, wide = 14, ranks = [...TROUBLE, "message", "idle"];
+  const isApart = width / Math.max(1, count) >= wide, bins = new Map();
+  run.steps.forEach((step, k) => {
+    if (!kindOf(step)) return;
+    const at = ((k + 1) / count) * width, bin = isApart ? k : Math.floor(at / wide);
+    const mark = bins.get(bin) ?? { rank: ranks.length, more: -1, left: isApart ? at : (bin + 0.5) * wide };
+    const rank = ranks.indexOf(kindOf(step));
+    bins.set(bin, { ...mark, more: mark.more + 1, ...(rank < mark.rank ? { rank, k } : {}) });
+  });
+  marks.replaceChildren(...[...bins.values()].map(({ rank, k, more, left }) => {
+    const title = `step ${k}: ${cut(replyOf(run.steps[k]), 60)}` + (more ? `, and ${more} more` : "");
+    const style = `left:${((100 * left) / width).toFixed(3)}%`;
+    const mark = make("button", { className: groupOf(ranks[rank]), title, tabIndex: -1, style });
+    mark.addEventListener("click", () => show(k + 1));
+    return mark;
+  }));
 }
 
 function begin() {
@@ -399,13 +361,9 @@ function begin() {
   element("options").textContent = run.options.join(" ");
   element("slider").max = count;
   element("names").append(...[...registers.values()].map(([name]) => make("option", { value: name })));
-  run.steps.forEach((step, k) => {
-    const kind = kindOf(replyOf(step)), left = `left:${((100 * (k + 1)) / count).toFixed(2)}%`;
-    if (kind) element("marks").append(make("i", { className: kind, style: left }));
-  });
   for (const button of document.querySelectorAll("[data-next]")) {
     const kind = button.dataset.next;
-    button.disabled = !run.steps.some((step) => kindOf(replyOf(step)) === kind);
+    button.disabled = !run.steps.some((step) => groupOf(kindOf(step)) === kind);
     button.addEventListener("click", (event) => jump(kind, event.shiftKey));
   }
   element("notes-part").hidden = !run.notes.length;
@@ -413,10 +371,12 @@ function begin() {
   element("slider").addEventListener("input", () => show(Number(element("slider").value)));
   element("search").addEventListener("input", showHits);
   const steps = { back: () => show(position - 1), on: () => show(position + 1), play: () => play() };
-  const acts = { ...steps, theme, help: () => help(), keys: () => help(false) };
+  const acts = { ...steps, theme, comments, help: () => help(), keys: () => help(false) };
   for (const [id, act] of Object.entries(acts)) element(id).addEventListener("click", act);
   document.addEventListener("keydown", keys, true);
+  new ResizeObserver(drawMarks).observe(element("marks"));
+  addEventListener("hashchange", () => show(placeOf(location.hash)));
   buildLines();
-  show(Number(location.hash.slice(1)) || 0);
+  show(placeOf(location.hash));
 }
 begin();

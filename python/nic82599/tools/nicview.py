@@ -17,11 +17,9 @@ from pathlib import Path
 
 from . import draw
 from . import page
-from .memory import look
-from .reasons import Reasons
-from .tool import Parser, called, ended, number, sizes
+from .run import of_script
 from .script import Bench, Fault
-from .trace import trace
+from .tool import Parser, called, ended, number, sizes
 
 
 def words() -> argparse.Namespace:
@@ -53,18 +51,15 @@ def main() -> int:
     asked = words()
     if asked.o is None and asked.svg is None and not asked.text and sys.stdout.isatty():
         raise Fault("a page isn't for the terminal: give a file with -o run.html, or --text")
-    bench = Bench(asked.vfs, asked.fifo)
-    run = trace(bench, asked.script, asked.limit)
-    seen = look(run)
-    reasons = Reasons(run, seen).all()
+    run = of_script(Bench(asked.vfs, asked.fifo), asked.script, asked.limit)
     if asked.text:
-        write(asked.o, "".join(line + "\n" for line in draw.text(run, seen, reasons)))
+        write(asked.o, "".join(line + "\n" for line in draw.text(run)))
     elif asked.svg is not None:
         if asked.svg >= len(run.steps):
             raise Fault(f"there is no step {asked.svg}: the run has {len(run.steps)} steps, counted from 0")
-        write(asked.o, draw.picture(run, seen, reasons, asked.svg))
+        write(asked.o, draw.picture(run, asked.svg))
     else:
-        write(asked.o, page.page(page.Data(run, seen, reasons).whole()))
+        write(asked.o, page.page(page.Data(run).whole()))
     return 0 if run.last.startswith("ok") else 1
 
 

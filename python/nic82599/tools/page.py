@@ -12,7 +12,8 @@ from .frames import descriptor, headers, summary
 from .memory import Frame, Seen
 from .reasons import Reason
 from .regs import REGISTERS, first, queues_of_pool
-from .trace import Step, Trace, word_of
+from .run import Run
+from .trace import Step, word_of
 
 HERE = Path(__file__).resolve().parent
 ROUTES = {"IVAR", "IVAR_MISC", "PVTIVAR", "GCR_EXT"}
@@ -33,13 +34,13 @@ class Table:
         return self.numbers[key]
 
 
-def routes(trace: Trace, words: dict[int, int], sides: list[tuple[str, int]]) -> list[str]:
+def routes(run: Run, words: dict[int, int], sides: list[tuple[str, int]]) -> list[str]:
     """Which cause each side in use raises."""
     told = []
     k = queues_of_pool(word_of(words, "GCR_EXT"))
     for side, queue in sides:
         v = queue // k if k else 128
-        if v < trace.bench.vfs:
+        if v < run.vfs:
             index, byte = v * k // 2 + queue % k // 2, 2 * (queue % k % 2) + (side == "tx")
             row, group, most = "PVTIVAR", f"vf {v}", 2
         else:
@@ -74,15 +75,15 @@ def sides_of(seen: Seen) -> list[dict[str, Any]]:
     return shown
 
 
-def groups_of(trace: Trace) -> list[dict[str, Any]]:
+def groups_of(run: Run) -> list[dict[str, Any]]:
     """The groups of interrupts, with the addresses of their registers and the names of their bits."""
     groups: list[dict[str, Any]] = [
         {"name": "pf", **{key: first(name) for key, name in _GROUP.items()}, "bits": _bit_names("EICR")}
     ]
-    for v in range(trace.bench.vfs):
+    for v in range(run.vfs):
         addresses = {key: first("PVT" + name, v) for key, name in _GROUP.items()}
         groups.append({"name": f"vf {v}", **addresses, "bits": _bit_names("PVTEICR")})
-    changed = {address for step in trace.steps for address, _, _ in step.changes}
+    changed = {address for step in run.steps for address, _, _ in step.changes}
     return [group for group in groups if changed & {group[key] for key in _GROUP}]
 
 
@@ -105,11 +106,11 @@ def _frames(frames: list[Frame], packets: Table) -> list[list[Any]]:
     return shown
 
 
-def _descriptors(trace: Trace, seen: Seen) -> dict[str, list[Any]]:
+def _descriptors(run: Run) -> dict[str, list[Any]]:
     """What each content of a slot says, by side and bytes."""
-    kinds = {side for side, _ in seen.sides}
+    kinds = {side for side, _ in run.seen.sides}
     found: dict[str, list[Any]] = {}
-    for step in trace.steps:
+    for step in run.steps:
         for _, content in step.memory:
             if content is None:
                 continue
@@ -123,65 +124,68 @@ def _descriptors(trace: Trace, seen: Seen) -> dict[str, list[Any]]:
 class Data:
     """The data of a page, step by step."""
 
-    def __init__(self, trace: Trace, seen: Seen, reasons: list[list[Reason]]):
-        self.trace, self.seen, self.reasons = trace, seen, reasons
+    def __init__(self, run: Run):
+        self.run = run
         self.texts, self.packets = Table(), Table()
-        self.told: dict[str, str] = {}
-        self.words = dict(trace.start)
+        self.told: dict[str, list[tuple[str, str]]] = {}
+        self.words = dict(run.start)
 
     def _tell(self, address: int, word: int) -> None:
         """Notes what the fields of a word are, once."""
         row = REGISTERS[address].row
-        self.told.setdefault(f"{row.name}:{word}", regs.told(row, word))
+        self.told.setdefault(f"{row.name}:{word}", regs.told_fields(row, word))
 
     def _step(self, step: Step, reasons: list[Reason]) -> list[Any]:
+        """A step as pc, the number of its reply, acc, its changes, and what few steps have: `k` kind, `m` memory (where
+        a third is 1, the step wrote it), `l` lent blocks, `w` frames that wait, `o` frames out, `g` the number of its
+        ring, `y` reasons, `r` routes of causes, `s` how the run ended."""
+        run = self.run
         for address, _, new in step.changes:
             self._tell(address, new)
             self.words[address] = new
         more: dict[str, Any] = {}
-        if step.memory:
-            more["m"] = [[unit, content.hex() if content is not None else None] for unit, content in step.memory]
-        if step.waiting:
-            more["w"] = step.waiting
-        if step.out:
-            more["o"] = step.out
-        if reasons:
-            more["y"] = [[int(reason.held), self.texts.number(reason.text)] for reason in reasons]
+        memory = [[unit, None if content is None else content.hex()] for unit, content in step.memory]
+        more["k"], more["l"], more["w"], more["o"] = step.kind, step.lent, step.waiting, step.out
+        more["m"] = [one + [1] * (one[0] in step.written) for one in memory]
+        more["y"] = [[int(reason.held), self.texts.number(reason.text)] for reason in reasons]
+        if step.ring is not None:
+            more["g"] = run.seen.sides.index(step.ring)
         if ROUTES & {REGISTERS[address].row.name for address, _, _ in step.changes}:
-            told = routes(self.trace, self.words, self.seen.sides)
+            told = routes(run, self.words, run.seen.sides)
             more["r"] = [[self.texts.number(text) for text in told], vectors(self.words)]
         if step.status != "running":
             more["s"] = step.status
+        more = {key: value for key, value in more.items() if value not in ("", [])}
         return [step.pc, self.texts.number(step.reply), step.acc, [[a, new] for a, _, new in step.changes], more]
 
     def whole(self) -> dict[str, Any]:
         """All that the page is made of."""
-        trace, script = self.trace, self.trace.script
-        for address, word in trace.start.items():
+        run = self.run
+        for address, word in run.start.items():
             self._tell(address, word)
-        steps = [self._step(step, reasons) for step, reasons in zip(trace.steps, self.reasons)]
-        arrived, sent = _frames(self.seen.arrived, self.packets), _frames(self.seen.sent, self.packets)
+        steps = [self._step(step, reasons) for step, reasons in zip(run.steps, run.reasons)]
         return {
-            "name": Path(script.path).name if script.path != "-" else "standard input",
-            "options": trace.bench.options,
-            "lines": script.lines,
-            "line_of": script.line_of,
-            "shown": [script.shown(pc) for pc in range(len(script.instructions))],
+            "name": run.name,
+            "options": run.options,
+            "lines": run.lines,
+            "line_of": run.line_of,
+            "shown": [run.shown(pc) for pc in range(len(run.line_of))],
             "steps": steps,
-            "start": list(trace.start.items()),
-            "registers": {address: [regs.name_at(address), REGISTERS[address].row.name] for address in trace.start},
-            "meanings": {REGISTERS[address].row.name: REGISTERS[address].row.meaning for address in trace.start},
+            "opening": run.opening,
+            "start": list(run.start.items()),
+            "registers": {address: [regs.name_at(address), REGISTERS[address].row.name] for address in run.start},
+            "meanings": {REGISTERS[address].row.name: REGISTERS[address].row.meaning for address in run.start},
             "told": self.told,
             "texts": self.texts.values,
-            "sides": sides_of(self.seen),
-            "groups": groups_of(trace),
+            "sides": sides_of(run.seen),
+            "groups": groups_of(run),
+            "arrived": _frames(run.seen.arrived, self.packets),
+            "sent": _frames(run.seen.sent, self.packets),
             "packets": self.packets.values,
-            "arrived": arrived,
-            "sent": sent,
-            "descriptors": _descriptors(trace, self.seen),
-            "fifo": trace.bench.fifo,
-            "last": trace.last,
-            "notes": trace.notes,
+            "descriptors": _descriptors(run),
+            "fifo": run.fifo,
+            "last": run.last,
+            "notes": run.notes,
         }
 
 
@@ -189,5 +193,6 @@ def page(data: dict[str, Any]) -> str:
     """The page with these data."""
     text = json.dumps(data, separators=(",", ":")).replace("<", "\\u003c")
     title = data["name"].replace("&", "&amp;").replace("<", "&lt;")
-    template, code = (HERE / "nicview.html").read_text(), (HERE / "nicview.js").read_text()
+    template = (HERE / "nicview.html").read_text()
+    code = "".join((HERE / name).read_text() for name in ("nicview_rings.js", "nicview.js"))
     return template.replace("{{TITLE}}", title).replace("{{CODE}}", code).replace("{{DATA}}", text)

@@ -13,8 +13,8 @@ from collections.abc import Callable
 from . import regs
 from .draw import State, ring_lines
 from .forms import number_of
-from .memory import Replay, Seen, look
-from .reasons import Reason, Reasons
+from .memory import Replay
+from .run import Run, of_trace
 from .script import Bench, Fault, Refused, Script
 from .trace import Trace, made, trace_of
 
@@ -60,7 +60,7 @@ class Session:
         self.breaks: set[int] = set()
         self.watched: dict[int, int] = {}
         self.at, self.view = 0, f"at 0 pc 0 acc 0x00000000 {'running' if script.instructions else 'ended'}"
-        self.whole: tuple[Trace, Seen, list[list[Reason]]] | None = None
+        self.whole: Run | None = None
 
     def ask(self, more: list[str], count: int = 1) -> list[str]:
         """The last lines that the debugger prints for the commands so far and these behind them."""
@@ -80,12 +80,10 @@ class Session:
     def pc(self) -> int:
         return int(self.view.split()[3])
 
-    def trace(self) -> tuple[Trace, Seen, list[list[Reason]]]:
+    def run(self) -> Run:
         """The whole run with its rings and reasons, looked at once."""
         if self.whole is None:
-            run = trace_of(self.bench, self.script, self.text, self.limit)
-            seen = look(run)
-            self.whole = (run, seen, Reasons(run, seen).all())
+            self.whole = of_trace(trace_of(self.bench, self.script, self.text, self.limit))
         return self.whole
 
 
@@ -161,7 +159,7 @@ def moved(session: Session, before: int) -> list[str]:
         steps = session.steps[before : session.at]
         lines += [f"({len(steps) - SHOWN} steps more)"] if len(steps) > SHOWN else []
         for step in steps[-SHOWN:]:
-            lines.append(f"{line_at(session, step.pc)}    -> {step.reply or 'no event'}")
+            lines.append(f"{line_at(session, step.pc)}    -> {step.answer or 'no event'}")
     lines += watched(session)
     return lines + [told_view(session)]
 
@@ -313,11 +311,11 @@ def do_peek(session: Session, words: list[str]) -> list[str]:
 
 
 def do_rings(session: Session, words: list[str]) -> list[str]:
-    run, seen, _ = session.trace()
-    state = State(run, seen)
+    run = session.run()
+    state = State(run)
     for step in run.steps[: session.at]:
         state.make(step)
-    return [line for ring in state.rings() for line in ring_lines(ring, state.memory)] or ["no ring has a length"]
+    return [line for ring in state.rings() for line in ring_lines(ring, state)] or ["no ring has a length"]
 
 
 def do_why(session: Session, words: list[str]) -> list[str]:
@@ -325,8 +323,8 @@ def do_why(session: Session, words: list[str]) -> list[str]:
         raise Wrong("no step was made yet")
     if session.at > len(session.steps):
         raise Wrong(f"only the first {len(session.steps)} steps can be told of; --limit takes more")
-    step, reasons = session.steps[session.at - 1], session.trace()[2][session.at - 1]
-    head = f"{line_at(session, step.pc)}    -> {step.reply or 'no event'}"
+    step, reasons = session.steps[session.at - 1], session.run().reasons[session.at - 1]
+    head = f"{line_at(session, step.pc)}    -> {step.answer or 'no event'}"
     return (
         [head] + [f"  {'*' if one.held else ' '} {one.text}" for one in reasons]
         if reasons

@@ -1,4 +1,4 @@
-"""Why a step was idle, dropped a frame or met a fault: the documented conditions, with the registers that decide them.
+"""Why a step was idle, dropped a frame, met a fault or failed: the documented conditions, with the words that decide.
 
 Each condition of docs/REGISTERS.md and docs/script.md for the step's kind is told in the order in which the device
 tests it, with the words of the registers before the step, and whether it held. The reply itself is always the
@@ -18,6 +18,8 @@ from .script import Op
 from .trace import Step, Trace, number_after, word_of
 
 Words = dict[int, int]
+# The instructions that may set the word that an expect looks at.
+ACC = (Op.READ, Op.VF_READ, Op.PEEK, Op.AND)
 
 
 @dataclass(frozen=True)
@@ -70,6 +72,8 @@ class Reasons:
 
     def _of(self, step: Step) -> list[Reason]:
         one, reply = self.trace.instruction(step), step.reply
+        if step.kind == "failed":
+            return [Reason(True, self._expected(step))]
         if reply.startswith("fault"):
             return self._fault(step, "rx" if one.op == Op.RX else "tx")
         if one.op == Op.ARRIVE and reply.startswith("dropped"):
@@ -99,6 +103,17 @@ class Reasons:
         if one.op == Op.LINK:
             return [Reason(True, f"{_flag(self.words, 'LINKS', 'Link_Up')[1]} already")]
         return [Reason(True, "no frame that went out is left")]
+
+    def _expected(self, step: Step) -> str:
+        """Of an expect that failed: the word that it found, and where that comes from."""
+        one = self.trace.instruction(step)
+        sources = [k for k in self.trace.steps[: step.number] if self.trace.instruction(k).op in ACC]
+        found = f"acc is 0x{step.acc:08x}"
+        if sources:
+            last = sources[-1]
+            found += f" since step {last.number}, `{self.trace.script.shown(last.pc)}`"
+        masked = "" if one.b == 0xFFFF_FFFF else f", of which the mask 0x{one.b:08x} leaves 0x{step.acc & one.b:08x}"
+        return f"{found}{masked}; 0x{one.a:08x} is expected"
 
     def _front(self) -> Frame | None:
         return self.seen.arrived[self.waiting[0]] if self.waiting else None

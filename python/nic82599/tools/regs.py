@@ -222,12 +222,17 @@ def reserved(row: Row, word: int) -> int:
     return word & ~known & 0xFFFF_FFFF
 
 
-def told(row: Row, word: int, everything: bool = False) -> str:
-    """The fields of a word, those that are 0 left out unless everything is asked for."""
+def told_fields(row: Row, word: int, everything: bool = False) -> list[tuple[str, str]]:
+    """The fields of a word with their values, those that are 0 left out unless everything is asked for."""
     fields = FIELDS.get(row.name, [])
-    shown = [f"{field.name} {field.told(word)}" for field in fields if everything or field.of(word)]
+    shown = [(field.name, field.told(word)) for field in fields if everything or field.of(word)]
     rest = reserved(row, word)
-    return ", ".join(shown + ([f"reserved 0x{rest:08x}"] if rest else []))
+    return shown + ([("reserved", f"0x{rest:08x}")] if rest else [])
+
+
+def told(row: Row, word: int, everything: bool = False) -> str:
+    """The same in one line."""
+    return ", ".join(f"{name} {value}" for name, value in told_fields(row, word, everything))
 
 
 def bits(row: str, word: int) -> list[str]:

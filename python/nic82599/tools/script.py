@@ -222,11 +222,17 @@ class Script:
 
     def shown(self, pc: int) -> str:
         """An instruction as the script has it, without its comment."""
-        return " ".join(self.lines[self.line_of[pc] - 1].split("#")[0].split())
+        return instruction_of(self.lines[self.line_of[pc] - 1])
 
-    def comment(self, pc: int) -> str:
-        """The comment behind an instruction."""
-        return self.lines[self.line_of[pc] - 1].partition("#")[2].strip()
+
+def instruction_of(line: str) -> str:
+    """What stands in a line in front of its comment."""
+    return " ".join(line.split("#")[0].split())
+
+
+def comment_of(line: str) -> str:
+    """The comment of a line."""
+    return line.partition("#")[2].strip()
 
 
 def script_part(text: str) -> str:

@@ -21,11 +21,17 @@ CHUNK = 9_000
 RESET_BITS = 1 << 3 | 1 << 26
 
 
+REFUSALS = ("stray", "no ", "not lent", "misaligned")
+TROUBLE = ("failed", "fault", "dropped", "refused")
+
+
 @dataclass
 class Step:
     """One step: the instruction at `pc`, the reply to it, and what it changed. `changes` are (address, old, new) of
-    registers, `memory` (bus address, 16 bytes or None where they are unknown). `acc` and `status` are those of a step
-    that asks nothing of the device; of another one the reply tells them."""
+    registers, `memory` (bus address, 16 bytes or None where they aren't read any more) what is known of lent memory
+    from here on, and `written` the addresses among these that the step itself wrote. `lent` has (+ or -, block),
+    `waiting` and `out` (+ or -, frames), and `ring` is the ring that the step is about, if it is about one. `acc` and
+    `status` are those of a step that asks nothing of the device; of another one the reply tells them."""
 
     number: int
     pc: int
@@ -34,8 +40,32 @@ class Step:
     status: str = "running"
     changes: list[tuple[int, int, int]] = field(default_factory=list)
     memory: list[tuple[int, bytes | None]] = field(default_factory=list)
+    written: set[int] = field(default_factory=set)
+    lent: list[tuple[str, int]] = field(default_factory=list)
     waiting: list[tuple[str, list[int]]] = field(default_factory=list)
     out: list[tuple[str, list[int]]] = field(default_factory=list)
+    ring: tuple[str, int] | None = None
+
+    @property
+    def kind(self) -> str:
+        """What a reader looks for: `failed` (an expect), `fault`, `dropped` (a frame), `refused` (an access or a call
+        that meets nothing), `idle`, `message`, or nothing."""
+        if self.status == "failed":
+            return "failed"
+        if self.reply.startswith(REFUSALS):
+            return "refused"
+        first_word = self.reply.partition(" ")[0]
+        return first_word if first_word in ("fault", "dropped", "idle", "message") else ""
+
+    @property
+    def is_trouble(self) -> bool:
+        """Whether it is a failed expect, a fault, a drop or a refusal."""
+        return self.kind in TROUBLE
+
+    @property
+    def answer(self) -> str:
+        """The reply, or that the script failed here."""
+        return "failed" if self.status == "failed" else self.reply
 
 
 @dataclass
@@ -209,6 +239,8 @@ def made(bench: Bench, script: Script, printed: list[str], limit: int) -> tuple[
         if not script.instructions[step.pc].is_local:
             pc, _, step.reply = next(lines).partition(" ")
             assert int(pc) == step.pc, (step, pc)
+    if last.startswith("failed") and steps:
+        steps[-1].status = "failed"
     return steps, last
 
 

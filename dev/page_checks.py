@@ -1,0 +1,174 @@
+"""What dev/check_views asks of a page in Chromium: that it loads, tells what the bench answers, and can be used."""
+
+from __future__ import annotations
+
+import re
+from collections.abc import Callable
+from pathlib import Path
+from typing import Any
+
+from browser import Browser
+
+Expect = Callable[[bool, str], None]
+TROUBLE = ("failed", "fault", "dropped", "refused")
+
+
+def words(selector: str) -> str:
+    """An expression: the texts of the elements that a selector finds."""
+    return f"[...document.querySelectorAll({selector!r})].map((one) => one.textContent)"
+
+
+class Look:
+    """A page in the browser, with its data and what is told of a fault."""
+
+    def __init__(self, browser: Browser, file: Path, name: str, data: dict[str, Any], expect: Expect):
+        self.browser, self.file, self.name, self.data, self.told = browser, file, name, data, expect
+        self.count = len(data["steps"])
+
+    def expect(self, holds: bool, text: str) -> None:
+        self.told(holds, f"{self.name}: {text}")
+
+    def text(self, name: str) -> str:
+        return str(self.browser.value(f"document.getElementById({name!r}).textContent"))
+
+    def kind(self, number: int) -> str:
+        return str(self.data["steps"][number][4].get("k", ""))
+
+    def is_at(self, number: int | None, way: str) -> None:
+        """That the page stands at a step, by its header, its title and its URL; None is the start."""
+        place = "start" if number is None else str(number)
+        shown = (self.text("at"), self.browser.value("location.hash"), self.text("now-title").split(",")[0])
+        title = "At the start" if number is None else f"Step {number}"
+        self.expect(shown == (f"{place} / {self.count - 1}", f"#{place}", title), f"{way} leads to {shown}")
+
+
+def check_walk(look: Look, rings: list[str], pictures: Path | None) -> None:
+    """Steps by key from the start to the end in both widths and themes: the rings are then those of the bench, and the
+    page is as wide as the window."""
+    browser = look.browser
+    for width, dark in ((1_280, False), (400, True)):
+        browser.size(width, 900, dark)
+        browser.load(look.file, "#start")
+        look.is_at(None, "#start")
+        for _ in range(look.count):
+            browser.press("ArrowRight")
+        look.is_at(look.count - 1, "the arrow")
+        told = browser.value("[...document.querySelectorAll('#grid .line')].map((one) => one.title)")
+        look.expect(sorted(told) == sorted(rings), f"the page's rings are {told}")
+        wide = browser.value("document.documentElement.scrollWidth - document.documentElement.clientWidth")
+        look.expect(wide <= 0, f"{wide} pixels wider than a window of {width}")
+        if pictures:
+            browser.picture(pictures / f"{look.file.stem}-{width}-{'dark' if dark else 'light'}.png", True)
+    browser.press("Home")
+    look.is_at(None, "Home")
+    look.expect(not browser.errors, f"the console says {browser.errors}")
+    browser.errors.clear()
+
+
+def check_opening(look: Look) -> None:
+    """That it opens at the first step that went wrong, else at the last, and that the URL's number is the header's."""
+    numbers = [number for number in range(look.count) if look.kind(number) in TROUBLE]
+    look.browser.size(1_280, 800, False)
+    look.browser.load(look.file)
+    look.is_at(numbers[0] if numbers else look.count - 1, "opening it")
+    look.browser.load(look.file, f"#{look.count // 2}")
+    look.is_at(look.count // 2, f"#{look.count // 2}")
+
+
+def check_next(look: Look) -> None:
+    """That `f` stops at each step that went wrong and at no other, and that each has a mark that a click hits."""
+    browser, numbers = look.browser, [number for number in range(look.count) if look.kind(number) in TROUBLE]
+    browser.load(look.file, "#start")
+    for number in numbers:
+        browser.press("f")
+        look.is_at(number, "next fault")
+    if numbers:
+        browser.press("f")
+        look.is_at(numbers[-1], "next fault behind the last")
+    boxes = browser.value(
+        "[...document.querySelectorAll('#marks button')].map((one) => { const box = one.getBoundingClientRect();"
+        " return [box.x, box.y, box.width, box.height, one.className, one.title]; })"
+    )
+    look.expect(all(box[2] >= 12 and box[3] >= 12 for box in boxes), "a mark is too narrow to hit")
+    places = sorted(box[0] for box in boxes)
+    look.expect(all(b - a >= 11.9 for a, b in zip(places, places[1:])), "marks lie over each other")
+    named = {int(found[1]): box for box in boxes if (found := re.match(r"step (\d+): ", box[5]))}
+    look.expect(bool(numbers) <= any(box[4] == "fault" for box in boxes), "no mark of a fault")
+    for number, (x, y, wide, high, *_) in list(named.items())[:8]:
+        browser.click(x + wide / 2, y + high / 2)
+        look.is_at(number, "a click on its mark")
+
+
+def check_words(look: Look) -> None:
+    """That buttons, the key and the help say what they are, and that comments wrap and can be hidden."""
+    browser = look.browser
+    look.expect([one.strip() for one in browser.value(words("[data-next]"))]
+                == ["Next fault", "Next message", "Next idle"], "the buttons' words")  # fmt: skip
+    look.expect("Key:" in browser.value(words(".legend b")), "the key has no title")
+    look.expect({"Keys", "Rings"} <= set(browser.value(words("#keys h2"))), "the help has no titles")
+    wide = "[...document.querySelectorAll('#lines .said')].filter((one) => one.scrollWidth > one.clientWidth).length"
+    look.expect(browser.value(wide) == 0, "a line of the script is cut off")
+    shown = "[...document.querySelectorAll('#lines .comment')].filter((one) => one.offsetHeight).length"
+    comments = sum("#" in line for line in look.data["lines"])
+    look.expect(browser.value(shown) == comments, "comments aren't shown")
+    browser.press("c")
+    look.expect(browser.value(shown) == 0, "comments aren't hidden")
+    browser.press("c")
+
+
+def check_lit(look: Look) -> None:
+    """That at each step the digits are lit that changed, and no more; that rows stand for what the step itself changed;
+    and that the ring in front is the one that the step is about."""
+    browser, data = look.browser, look.data
+    known = {int(address): word for address, word in data["start"]}
+    browser.load(look.file, "#start")
+    for number, (_, _, _, changes, more) in enumerate(data["steps"]):
+        browser.press("ArrowRight")
+        both = [f"{known[address]:08x}{word:08x}" for address, word in changes]
+        known.update({address: word for address, word in changes})
+        digits = [sum(a != b for a, b in zip(one[:8], one[8:])) for one in both]
+        lit = browser.value(
+            "[...document.querySelectorAll('#changes .change')].filter((one) => one.querySelector('code.old'))"
+            ".map((one) => one.querySelectorAll('code .lit').length)"
+        )
+        look.expect(lit == digits, f"step {number}: {lit} digits are lit of {digits} that changed")
+        rows = browser.value("document.querySelectorAll('#changes .change').length")
+        expected = len(changes) + sum(len(one) > 2 for one in more.get("m", [])) + len(more.get("l", []))
+        look.expect(rows == expected, f"step {number}: {rows} changes are shown of {expected}")
+        side = data["sides"][more["g"]] if "g" in more else None
+        if side and (known.get(side["length"], 0) >= 16 or known.get(side["control"], 0) >> 25 & 1):
+            front = browser.value(words("#front .slots > p"))
+            is_it = front and front[0].startswith(f"{side['side']} {side['queue']}: ")
+            look.expect(bool(is_it), f"step {number}: in front is {front}")
+
+
+def check_outside(look: Look, number: int) -> None:
+    """That at this step a tail that is no slot is drawn, in front and in its card."""
+    look.browser.load(look.file, f"#{number}")
+    for selector in ("#front polygon.tail.outside", "#grid .pointer.tail.outside"):
+        found = look.browser.value(f"document.querySelectorAll({selector!r}).length")
+        look.expect(found == 1, f"step {number}: {found} of {selector}")
+    told = look.browser.value(words("#front svg text.bad"))
+    look.expect(told == ["tail 16: no slot"], f"step {number}: the tail is told as {told}")
+
+
+def check_slots(look: Look, number: int, told: list[str]) -> None:
+    """That at this step the slots in front are in these forms."""
+    look.browser.load(look.file, f"#{number}")
+    forms = sorted(set(look.browser.value(words(".descriptors td b"))))
+    look.expect(forms == told, f"step {number}: slots are told as {forms}, not as {told}")
+
+
+def check_fits(look: Look) -> None:
+    """That step and rings of each step from the first ring on stand on a screen of 1,280 by 800."""
+    browser = look.browser
+    browser.size(1_280, 800, False)
+    browser.load(look.file, "#start")
+    most, where, cards = 0, 0, 0
+    for number in range(look.count):
+        browser.press("ArrowRight")
+        end = browser.value("document.getElementById('rings-part').getBoundingClientRect().bottom + scrollY")
+        most, where = max((most, where), (end, number))
+        cards = max(cards, browser.value("document.querySelectorAll('#grid .line').length"))
+    look.expect(cards == 32, f"{cards} rings are shown, not those of sixteen queues")
+    look.expect(most <= 800, f"the rings end at {most} of 800 pixels at step {where}")

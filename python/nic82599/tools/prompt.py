@@ -21,6 +21,7 @@ from .trace import Trace, made, trace_of
 HELP = """\
 step [N], s        N steps on (1)                       back [N], b        N steps back (1)
 continue [N], c    on to the next breakpoint, or until a watched register changes, or the end; N steps at most
+continue fault     the same, and it stops behind the next fault, dropped frame or failed expect; then ask `why`
 break WHERE        a breakpoint at a label, a line as `line 14`, or an instruction's number; clear WHERE takes it away
 breaks             the breakpoints                      list [LINE], l     the script round here, or round a line
 show TARGET, r     a register: RDT[3], GPRC, 0x01018    watch TARGET       told when it changes; unwatch TARGET
@@ -43,6 +44,8 @@ SHORT = {
 SHORT |= {"h": "help", "?": "help", "q": "quit", "exit": "quit", "n": "step", "next": "step", "x": "peek"}
 MEANINGS = {"NoSuchPc": ": no such instruction, or no breakpoint there", "TooManyBreaks": ": 32 are set already"}
 SHOWN = 12
+# The kinds of steps at which `continue fault` stops.
+FAULTS = ("fault", "dropped", "failed")
 
 
 class Wrong(Exception):
@@ -197,8 +200,19 @@ def do_back(session: Session, words: list[str]) -> list[str]:
 
 
 def do_continue(session: Session, words: list[str]) -> list[str]:
+    """On to a breakpoint, or to a fault where none comes before."""
+    if words != ["fault"]:
+        return _continued(session, count_of(words, session.limit))
+    faults = [step.number for step in session.steps[session.at :] if step.kind in FAULTS]
+    if faults:
+        return _continued(session, faults[0] + 1 - session.at)
+    within = f" within {len(session.steps)} steps; --limit takes more" if session.last.startswith("limit") else ""
+    return [f"no fault, dropped frame or failed expect follows{within}"] + _continued(session, session.limit)
+
+
+def _continued(session: Session, count: int) -> list[str]:
     """On to a breakpoint. Where registers are watched, every step up to it is looked at first."""
-    before, count = session.at, count_of(words, session.limit)
+    before = session.at
     end = int(session.ask([f"continue {count}"])[0].split()[1])
     addresses = list(session.watched)
     if addresses and end > before:
@@ -384,7 +398,7 @@ def prompt(session: Session) -> None:
     """Reads commands until the session is ended."""
     import readline
 
-    readline.set_completer(completer([*COMMANDS, "quit", *regs.ROWS, *session.script.labels]))
+    readline.set_completer(completer([*COMMANDS, "quit", "fault", *regs.ROWS, *session.script.labels]))
     readline.set_completer_delims(" ")
     readline.parse_and_bind("tab: complete")
     is_terminal = sys.stdin.isatty()

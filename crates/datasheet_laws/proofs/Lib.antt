@@ -1,2 +1,5 @@
-pub mod Table
+pub mod Accesses
+pub mod Mail
+pub mod Mailbox
 pub mod Offsets
+pub mod Table

@@ -1,2 +1,4 @@
-pub mod Table
+pub mod Accesses
+pub mod Mailbox
 pub mod Offsets
+pub mod Table

@@ -1,0 +1,45 @@
+-- Registers by their addresses: the word that one holds, what a read gives, and what accesses leave.
+use Rattle.std.specs.Prelude.{ℕ, Bool, Option, None, Some, bit_and}
+use Rattle.reg_table.specs.Access.{access_at}
+use Rattle.reg_table.specs.Rows.{row_of}
+use Rattle.reg_table.specs.declared.access.Access.{Access}
+use Rattle.register_file.specs.Access.{read_word, after_read, written}
+use Rattle.register_file.specs.Bits.{has_bit}
+use Rattle.register_file.specs.Registers.{Registers}
+use Rattle.register_file.specs.Words.{word_at}
+use Rattle.register_file.specs.declared.surroundings.Surroundings.{Surroundings}
+
+-- by the access that an address meets
+abbrev pub held : Registers → Option Access → ℕ
+held r None = 0
+held r (Some a) = word_at r.words a.place
+
+abbrev pub given : Surroundings → Registers → Option Access → ℕ
+given around r None = 0
+given around r (Some a) = bit_and (read_word (row_of a.place.row).kind r around a.place) a.view
+
+abbrev pub left : Registers → Option Access → Registers
+left r None = r
+left r (Some a) = after_read (row_of a.place.row).kind r a.place
+
+abbrev pub wrote : Registers → Option Access → ℕ → Registers
+wrote r None word = r
+wrote r (Some a) word = written (row_of a.place.row).kind r a.place a.view word
+
+-- the word of the register at an address, and a bit of it
+abbrev pub word : Registers → (address : ℕ) → ℕ
+word r address = held r (access_at address)
+
+abbrev pub holds : Registers → (address bit : ℕ) → Bool
+holds r address bit = has_bit bit (word r address)
+
+-- a bit of the word that a read of an address gives
+abbrev pub reads : Surroundings → Registers → (address bit : ℕ) → Bool
+reads around r address bit = has_bit bit (given around r (access_at address))
+
+-- the registers after a read of an address, and after a write of a word to it
+abbrev pub read_at : Registers → (address : ℕ) → Registers
+read_at r address = left r (access_at address)
+
+abbrev pub write_at : Registers → (address word : ℕ) → Registers
+write_at r address word = wrote r (access_at address) word

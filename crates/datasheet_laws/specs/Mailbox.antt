@@ -1,0 +1,91 @@
+-- The hand-shake of the mailboxes, in the addresses and bits that drivers of both sides use.
+use Rattle.std.specs.Prelude.{ℕ, ◌≡◌, ◌<◌, ◌+◌, ◌*◌, ◌/◌, ◌%◌, ◌==◌, ◌⊎◌, Bool, not, true, false, ◌&&◌, ◌||◌, nat_le}
+use Rattle.register_file.specs.Bits.{has_bit}
+use Rattle.register_file.specs.Registers.{Registers}
+use Rattle.register_file.specs.declared.surroundings.Surroundings.{Surroundings}
+use Rattle.register_laws.specs.Sound.{HasShape}
+use Rattle.datasheet_laws.specs.Accesses.{word, reads, read_at, write_at}
+
+-- PVFMAILBOX[v], which is function v's, and PFMAILBOX[v], which is the physical function's
+abbrev pub own : ℕ → ℕ
+own v = 0x04C00 + 4 * v
+
+abbrev pub other : ℕ → ℕ
+other v = 0x04B00 + 4 * v
+
+-- the function writes: with bit 2 it takes the mailbox where bit 3 reads 0, and where that reads 1 it waits; without
+-- bit 2 it gives the mailbox up; what bit 3 reads stays
+pub record FunctionShakes (around : Surroundings) (r : Registers) (v w : ℕ) : Type 0 where
+  pub takes : has_bit 2 w ≡ true → reads around r (own v) 3 ≡ false →
+      reads around (write_at r (own v) w) (own v) 2 ≡ true
+  pub waits : has_bit 2 w ≡ true → reads around r (own v) 3 ≡ true →
+      reads around (write_at r (own v) w) (own v) 2 ≡ reads around r (own v) 2
+  pub gives_up : has_bit 2 w ≡ false → reads around (write_at r (own v) w) (own v) 2 ≡ false
+  pub leaves : reads around (write_at r (own v) w) (own v) 3 ≡ reads around r (own v) 3
+
+-- the physical function writes: with bit 4 it takes the mailbox from the function, and without it leaves what bit 2
+-- reads; with bit 3 it takes the mailbox where the function doesn't hold it, or no longer, and else waits; without bit
+-- 3 it gives it up
+pub record PhysicalShakes (around : Surroundings) (r : Registers) (v w : ℕ) : Type 0 where
+  pub frees : has_bit 4 w ≡ true → reads around (write_at r (other v) w) (own v) 2 ≡ false
+  pub leaves : has_bit 4 w ≡ false →
+      reads around (write_at r (other v) w) (own v) 2 ≡ reads around r (own v) 2
+  pub takes : has_bit 3 w ≡ true → (has_bit 4 w ≡ true) ⊎ (reads around r (own v) 2 ≡ false) →
+      reads around (write_at r (other v) w) (own v) 3 ≡ true
+  pub waits : has_bit 3 w ≡ true → has_bit 4 w ≡ false → reads around r (own v) 2 ≡ true →
+      reads around (write_at r (other v) w) (own v) 3 ≡ reads around r (own v) 3
+  pub gives_up : has_bit 3 w ≡ false → reads around (write_at r (other v) w) (own v) 3 ≡ false
+
+-- both sides read alike who holds the mailbox
+pub record ReadAlike (around : Surroundings) (r : Registers) (v : ℕ) : Type 0 where
+  pub function : reads around r (other v) 2 ≡ reads around r (own v) 2
+  pub physical : reads around r (other v) 3 ≡ reads around r (own v) 3
+
+-- the physical function's bit 0, a status, is read as bit 4 by the function, and bit 1, an acknowledgement, as bit 5:
+-- until one read, which also tells once that a reset is done, bit 7, and leaves all other bits
+pub record IsToldOnce (around : Surroundings) (r : Registers) (v w : ℕ) : Type 0 where
+  pub status : reads around (write_at r (other v) w) (own v) 4 ≡ (has_bit 0 w || reads around r (own v) 4)
+  pub acknowledged : reads around (write_at r (other v) w) (own v) 5 ≡ (has_bit 1 w || reads around r (own v) 5)
+  pub read : (bit : ℕ) → bit < 32 →
+      reads around (read_at r (own v)) (own v) bit
+      ≡ (reads around r (own v) bit && not (bit == 4 || bit == 5 || bit == 7))
+
+pub record Shakes (around : Surroundings) (r : Registers) (v w : ℕ) : Type 0 where
+  pub function : FunctionShakes around r v w
+  pub physical : PhysicalShakes around r v w
+  pub alike : ReadAlike around r v
+  pub once : IsToldOnce around r v w
+
+abbrev pub MailboxesShake : Type 0
+MailboxesShake =
+    (around : Surroundings) (r : Registers) → HasShape r → (v w : ℕ) → v < 64 → Shakes around r v w
+
+-- a bit that is written as 1 to PFMBICR[k] is cleared there, and no other is, nor one of another such register
+abbrev pub OnesAreCleared : Type 0
+OnesAreCleared =
+    (around : Surroundings) (r : Registers) → HasShape r → (k j w bit : ℕ) → k < 4 → j < 4 → bit < 32 →
+    reads around (write_at r (0x00710 + 4 * k) w) (0x00710 + 4 * j) bit
+    ≡ (reads around r (0x00710 + 4 * j) bit && not (j == k && has_bit bit w))
+
+-- whether a written word sends
+abbrev pub sends : ℕ → Bool
+sends w = has_bit 0 w || has_bit 1 w
+
+-- a function that sends raises bit 19 of EICR, where bit v mod 32 of PFMBIMR[v / 32] is 1, and no other cause there
+abbrev pub FunctionsRaise : Type 0
+FunctionsRaise =
+    (around : Surroundings) (r : Registers) → HasShape r → (v w bit : ℕ) → v < 64 → bit < 32 →
+    reads around (write_at r (own v) w) 0x00800 bit
+    ≡ (reads around r 0x00800 bit
+    || (sends w && reads around r (0x00720 + 4 * (v / 32)) (v % 32) && bit == 19))
+
+-- the bit of PVTEICR[v] that PVTIVAR_MISC[v] names in bits 5 to 0, 2 at most, where its bit 7 is 1
+abbrev pub names : (vector bit : ℕ) → Bool
+names vector bit = has_bit 7 vector && bit == vector % 64 && nat_le bit 2
+
+-- the physical function, where it sends, raises in PVTEICR[v] the cause that PVTIVAR_MISC[v] names, and no other there
+abbrev pub PhysicalRaises : Type 0
+PhysicalRaises =
+    (around : Surroundings) (r : Registers) → HasShape r → (v w bit : ℕ) → v < 64 → bit < 32 →
+    reads around (write_at r (other v) w) (0x00B00 + 4 * v) bit
+    ≡ (reads around r (0x00B00 + 4 * v) bit || (sends w && names (word r (0x04E00 + 4 * v)) bit))

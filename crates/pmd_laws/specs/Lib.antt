@@ -1,4 +1,6 @@
 pub use Rattle.driver_laws.specs as DriverLaws
+pub mod Asked
+pub mod Begun
 pub mod Beside
 pub mod BesideApart
 pub mod BesideRoom

@@ -268,3 +268,38 @@ fn fill_a_history(rt: &impl Hand) {
 fn a_full_history_takes_no_call(rt: HostRuntime) {
     fill_a_history(&rt);
 }
+
+/// A shared device doesn't close with these passes, since the calls of the one of this tag aren't in its history. Both
+/// come back.
+fn differs(rt: &impl Hand, bench: Bench, passes: Vec<Pass>, tag: u8) -> (Bench, Vec<Pass>) {
+    let CloseRefused {
+        fault,
+        shared,
+        passes,
+    } = refused(rt, bench.close(passes));
+    sees(rt, fault == CloseFault::Mismatch(tag));
+    (shared, passes)
+}
+
+/// Two shared devices have one number. Each takes the other's pass 1 for its own, the one with too many calls and the
+/// other with too few, and closes with its own.
+fn swap_passes_of_namesakes(rt: &impl Hand) {
+    let (bench, mut passes) = shared(rt, 1, 2, 100);
+    let (namesake, mut others) = shared(rt, 1, 2, 100);
+    let mut own = some(rt, passes.pop());
+    three_steps(rt, &bench, &mut own);
+    push(rt, &mut passes, some(rt, others.pop()));
+    push(rt, &mut others, own);
+    let (bench, mut passes) = differs(rt, bench, passes, 1);
+    let (namesake, mut others) = differs(rt, namesake, others, 1);
+    let foreign = some(rt, passes.pop());
+    push(rt, &mut passes, some(rt, others.pop()));
+    push(rt, &mut others, foreign);
+    same(rt, closed(rt, bench, passes), 3);
+    same(rt, closed(rt, namesake, others), 0);
+}
+
+#[test]
+fn passes_of_a_namesake_differ(rt: HostRuntime) {
+    swap_passes_of_namesakes(&rt);
+}

@@ -1,7 +1,7 @@
 //! Two workers, of the queues 0 and 1, at a device that they share, and who is beside them on another thread: they are
 //! run, brought home and taken apart.
 
-use crate::bench::{count_calls, segment, taken_apart};
+use crate::bench::{TCP_FRAME, TCP6_FRAME, count_calls, taken_apart};
 use crate::hostile::stopped_again;
 use crate::outcome::{Hand, done, emptied, empty, none, push, put, same, sees, some};
 use crate::schedule::{all_home, take_all};
@@ -29,7 +29,7 @@ pub struct Order {
     pub limit: u32,
     /// The looks.
     pub rounds: u32,
-    /// The frames, TCP segments over IPv4, each from another port.
+    /// The frames, TCP segments over IPv4 and over IPv6 in turn.
     pub frames: u8,
 }
 
@@ -46,6 +46,39 @@ pub fn parting(mode: Mode, mrqc: u32) -> Setup {
         reta,
         promiscuous: true,
         frame: 1518,
+    }
+}
+
+/// The key of the published vectors of the RSS hash.
+const KEY: [u8; 40] = [
+    0x6D, 0x5A, 0x56, 0xDA, 0x25, 0x5B, 0x0E, 0xC2, 0x41, 0x67, 0x25, 0x3D, 0x43, 0xA3, 0x8F, 0xB0,
+    0xD0, 0xCA, 0x2B, 0xCB, 0xAE, 0x7B, 0x30, 0xB4, 0x77, 0xCB, 0x2D, 0xA3, 0x80, 0x30, 0xF2, 0x0C,
+    0x6A, 0x42, 0xB7, 0x3B, 0xBE, 0xAC, 0x01, 0xFA,
+];
+
+/// The set-up of `nicbench threads` for two workers: of the frames that arrive those over IPv4 go to queue 0, and those
+/// over IPv6 to queue 1.
+fn setup_of_threads() -> Setup {
+    let mut reta = [0; 128];
+    for entry in 0..64usize {
+        reta[2 * entry + 1] = 1;
+    }
+    Setup {
+        mode: Mode::Off,
+        mrqc: 0x0021_0001,
+        key: KEY,
+        reta,
+        promiscuous: true,
+        frame: 1518,
+    }
+}
+
+/// The frame of this number, as `nicbench threads` has it arrive.
+fn frame_of_threads(rt: &impl Hand, number: u8) -> Vec<u8> {
+    if number % 2 == 0 {
+        done(rt, Vec::from_array(rt.alloc(), TCP_FRAME))
+    } else {
+        done(rt, Vec::from_array(rt.alloc(), TCP6_FRAME))
     }
 }
 
@@ -96,7 +129,7 @@ fn work<G: Gate + Sync>(
 ) -> Ran {
     let mut frames = empty(rt);
     for number in 0..count {
-        push(rt, &mut frames, segment(rt, number));
+        push(rt, &mut frames, frame_of_threads(rt, number));
     }
     let ran = run_workers(rt, rt.alloc(), gate, bench, jobs, host, frames);
     ended.store(1, Ordering::SeqCst);
@@ -114,8 +147,7 @@ fn run_beside<G: Gate + Sync>(
     beside: &mut Beside,
 ) -> (Ran, Pass, Pass) {
     let mut other = some(rt, passes.pop());
-    let setup = parting(Mode::Off, 0x0001_0001);
-    let mut host = set_up(rt, bench, some(rt, passes.pop()), &setup);
+    let mut host = set_up(rt, bench, some(rt, passes.pop()), &setup_of_threads());
     let mut jobs = Some(jobs(rt, passes, order.rounds));
     let mut ran = None;
     let ended = AtomicU64::new(0);

@@ -46,22 +46,26 @@ impl Read for Flood {
     }
 }
 
-/// Gives a newline at each read, and fails at the read of this number.
+/// Gives bytes, one at each read, and fails at the read of a number, counted from 0.
 #[derive(Drop)]
-pub struct FailingReader(pub u32);
+pub struct FailingReader<'a> {
+    pub bytes: &'a [u8],
+    pub reads: usize,
+}
 
-impl Read for FailingReader {
+impl<'a> Read for FailingReader<'a> {
     fn read(&mut self, buf: &mut [u8]) -> Result<usize> {
-        if self.0 == 0 {
+        if self.reads == 0 {
             return Err(Error::from(ErrorKind::Other));
         }
-        self.0 -= 1;
-        match buf.first_mut() {
-            Some(byte) => {
-                *byte = b'\n';
+        self.reads -= 1;
+        match (self.bytes.split_first(), buf.first_mut()) {
+            (Some((byte, rest)), Some(at)) => {
+                *at = *byte;
+                self.bytes = rest;
                 Ok(1)
             }
-            None => Ok(0),
+            _ => Ok(0),
         }
     }
 }

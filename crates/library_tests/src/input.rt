@@ -10,7 +10,15 @@ use std::process::Abort;
 
 const RUN: [&str; 2] = ["nicbench", "run"];
 
+const DEBUG: [&str; 2] = ["nicbench", "debug"];
+
 const HASH: [&str; 2] = ["nicbench", "hash"];
+
+const ASM: [&str; 2] = ["nicbench", "asm"];
+
+const DIS: [&str; 2] = ["nicbench", "dis"];
+
+const EEPROM: [&str; 2] = ["nicbench", "eeprom"];
 
 const RUN_REQUEST: Request = Request::Text(TextRequest::Run(RunOptions {
     vfs: 0,
@@ -29,6 +37,10 @@ const HASHED: &[u8] =
 420995bba18e6450
 420995bba18e64500aea06e6
 ";
+
+const SESSION: &[u8] = b"w GPIE 1\nr GPIE\n%\nstep 2\nback 1\nshow GPIE\n";
+
+const IMAGE_TEXT: &[u8] = b"size 128\nword 0 5\ncsr 0x05080 0x400\n";
 
 const LOAD: [&str; 3] = ["nicbench", "eeprom", "--load"];
 
@@ -73,16 +85,18 @@ fn no_text(rt: HostRuntime) {
     answers(&rt, rt.alloc(), &LOAD, &mut Flood, "refused TooLong\n", 2);
 }
 
-/// A reader that fails, at whatever read, or that comes to no end.
+/// A reader that comes to no end.
 #[test]
-fn failing_readers(rt: HostRuntime) {
-    for reads in [0, 1, 2, 100, 65_536] {
-        let mut reader = FailingReader(reads);
-        answers(&rt, rt.alloc(), &RUN, &mut reader, "refused Input\n", 2);
-    }
-    let mut reader = FailingReader(100);
-    answers(&rt, rt.alloc(), &HASH, &mut reader, "refused Input\n", 2);
+fn endless_readers(rt: HostRuntime) {
     answers(&rt, rt.alloc(), &RUN, &mut Drip, "refused Input\n", 2);
+}
+
+/// A reader of a script that fails at the read of this number.
+fn failing(reads: usize) -> FailingReader<'static> {
+    FailingReader {
+        bytes: SCRIPT,
+        reads,
+    }
 }
 
 /// What is read of a reader, and whether a read failed.
@@ -110,7 +124,7 @@ fn has_fault<R: Read + Drop>(
 fn input_faults(rt: HostRuntime) {
     let alloc = rt.alloc();
     has_fault(&rt, alloc, Flood, InputFault::TooLong, false);
-    has_fault(&rt, alloc, FailingReader(3), InputFault::Unread, true);
+    has_fault(&rt, alloc, failing(3), InputFault::Unread, true);
     has_fault(&rt, alloc, Drip, InputFault::Unread, false);
     let (input, _has_failed) = read(alloc, SCRIPT);
     holds(
@@ -119,6 +133,9 @@ fn input_faults(rt: HostRuntime) {
         done(&rt, input).as_slice() == SCRIPT,
     );
 }
+
+/// How many writes an answer takes at most.
+const MOST_WRITES: u32 = 1_000;
 
 /// A writer that takes so many writes and fails at the next, with an error of this kind.
 fn writer(taken: u32, kind: ErrorKind) -> FailingWriter {
@@ -152,22 +169,57 @@ fn fails_at(
     writer.has_failed
 }
 
-/// A writer that fails, at whatever write: the status is 2, or 4 where its error is want of memory.
-fn fails_at_each(rt: &impl Abort, alloc: Global, case: Case<'_>) {
-    let pipe = (ErrorKind::BrokenPipe, 2);
-    let memory = (ErrorKind::OutOfMemory, 4);
-    for taken in 0..4 {
-        holds(rt, "it fails", fails_at(rt, alloc, case, taken, pipe));
-        holds(rt, "it fails", fails_at(rt, alloc, case, taken, memory));
+/// A reader that gives a byte at each read, and fails, at whatever read of all, also at that of the end: nothing is
+/// answered but that.
+fn is_unread_at_each(rt: &impl Abort, alloc: Global, (words, input, _own): Case<'_>) {
+    for reads in 0..=input.len() {
+        let mut reader = FailingReader {
+            bytes: input,
+            reads,
+        };
+        answers(rt, alloc, words, &mut reader, "refused Input\n", 2);
     }
-    holds(rt, "none fails", !fails_at(rt, alloc, case, 1_000, pipe));
 }
 
+/// A writer that fails, at whatever write of all: the status is 2, or 4 where its error is want of memory.
+fn is_unwritten_at_each(rt: &impl Abort, alloc: Global, case: Case<'_>) {
+    let pipe = (ErrorKind::BrokenPipe, 2);
+    let memory = (ErrorKind::OutOfMemory, 4);
+    let mut taken = 0;
+    while taken < MOST_WRITES && fails_at(rt, alloc, case, taken, pipe) {
+        holds(rt, "it fails", fails_at(rt, alloc, case, taken, memory));
+        taken += 1;
+    }
+    holds(rt, "there are writes", taken > 0 && taken < MOST_WRITES);
+}
+
+/// A read or a write of a command fails, by its number.
+fn fails_at_each(rt: &impl Abort, alloc: Global, case: Case<'_>) {
+    is_unread_at_each(rt, alloc, case);
+    is_unwritten_at_each(rt, alloc, case);
+}
+
+/// What the program writes for words and bytes.
+fn made(alloc: Global, words: &[&str], bytes: &[u8]) -> Vec<u8> {
+    let mut reader = bytes;
+    let (written, _outcome) = ran(alloc, words, &mut reader);
+    written
+}
+
+/// Each command that reads. The object of `dis` and the image of `--load` are made by others.
 #[test]
-fn failing_writers(rt: HostRuntime) {
-    fails_at_each(&rt, rt.alloc(), (&RUN, SCRIPT, 0));
-    fails_at_each(&rt, rt.alloc(), (&RUN, FAILED_SCRIPT, 1));
-    fails_at_each(&rt, rt.alloc(), (&HASH, HASHED, 0));
+fn reads_and_writes_of_each_command_fail(rt: HostRuntime) {
+    let (rt, alloc) = (&rt, rt.alloc());
+    fails_at_each(rt, alloc, (&RUN, SCRIPT, 0));
+    fails_at_each(rt, alloc, (&RUN, FAILED_SCRIPT, 1));
+    fails_at_each(rt, alloc, (&DEBUG, SESSION, 0));
+    fails_at_each(rt, alloc, (&HASH, HASHED, 0));
+    fails_at_each(rt, alloc, (&ASM, SCRIPT, 0));
+    let object = made(alloc, &ASM, SCRIPT);
+    fails_at_each(rt, alloc, (&DIS, &object, 0));
+    fails_at_each(rt, alloc, (&EEPROM, IMAGE_TEXT, 0));
+    let image = made(alloc, &EEPROM, IMAGE_TEXT);
+    fails_at_each(rt, alloc, (&LOAD, &image, 0));
 }
 
 /// A writer that can't write what it keeps back, with an error of this kind: the status is this, and it isn't asked
@@ -201,7 +253,7 @@ fn answered<R: Read + Drop, W: Write + Drop>(
 /// What is below the program tells which of reading and writing failed.
 fn tells_failures(rt: &impl Abort, alloc: Global, request: Request, input: &[u8]) {
     let mut written = Vec::new(alloc);
-    let (read, _) = answered(alloc, FailingReader(1), &mut written, request);
+    let (read, _) = answered(alloc, failing(1), &mut written, request);
     holds(rt, "a read", refused(rt, read) == Failure::Read);
     holds(rt, "nothing is written", written.is_empty());
     let pipe = writer(0, ErrorKind::BrokenPipe);

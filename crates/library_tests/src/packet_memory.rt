@@ -1,10 +1,12 @@
 //! Packet memory where there is ample room. Each call is made by a function of its own, which says nothing of blocks:
 //! what a test knows of all blocks would cost each of its steps.
 
+use crate::device::{device, end, make, stepped};
 use crate::outcome::{Hand, done, holds, none, refused, same, some};
 use dma_arena::{
     Arena, ArenaFault, Buf, LendRefused, LentMemory, Octets, Run, SplitFault, SplitRefused,
 };
+use nic_device::{Device, Event, Reply};
 
 /// What is asked of a value that goes to another thread.
 fn can_be_sent<T: Send>() {}
@@ -215,6 +217,39 @@ fn blocks_of_another_arena_are_told(rt: HostRuntime) {
     give(rt, &mut arena, back(rt, &mut memory, 4));
     finish(rt, memory);
     give(rt, &mut other, foreign);
+    close(rt, arena);
+    close(rt, other);
+}
+
+/// The block comes back from a device to which its number is lent.
+fn lent_twice(rt: &impl Hand, device: &mut Device, buf: Buf) -> Buf {
+    match stepped(rt, device, Event::Lend(buf)) {
+        Reply::Twice(buf) => buf,
+        _other => panic!(rt; "not twice"),
+    }
+}
+
+/// The block of this number that is lent to a device.
+fn taken_back(rt: &impl Hand, device: &mut Device, block: u32) -> Buf {
+    match stepped(rt, device, Event::Take(block)) {
+        Reply::Buf(buf) => buf,
+        _other => panic!(rt; "no block"),
+    }
+}
+
+/// A device is lent a number but once at a time: the event answers with the other block, and what is lent stays.
+#[test]
+fn a_device_is_lent_a_number_once(rt: HostRuntime) {
+    let rt = &rt;
+    let (mut other, mut arena) = (arena(rt, 4, 2), arena(rt, 4, 2));
+    let mut device = device(rt);
+    make(rt, &mut device, Event::Lend(taken(rt, &mut arena, 4)));
+    let foreign = lent_twice(rt, &mut device, taken(rt, &mut other, 4));
+    same(rt, u64::from(foreign.block()), 4);
+    give(rt, &mut arena, taken_back(rt, &mut device, 4));
+    make(rt, &mut device, Event::Lend(foreign));
+    give(rt, &mut other, taken_back(rt, &mut device, 4));
+    let _image = end(rt, device);
     close(rt, arena);
     close(rt, other);
 }

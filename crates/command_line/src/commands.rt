@@ -201,14 +201,25 @@ fn threads<'a>(alloc: Global) -> Result<Command<'a>, Error>
     with_option(threads, frames(alloc))
 }
 
+/// What the help ends with.
+const ENDS: &str = "Exit status:
+  0  the program ended
+  1  it still ran after the limit's steps, or an expect failed
+  2  the input was refused, or a read or a write failed
+  3  the command line was refused
+  4  there was no memory
+
+Documentation: `man nicbench` of an installed package; README.md and docs/ of the repository.";
+
 /// `nicbench`, without its commands.
 fn bare<'a>(alloc: Global) -> Command<'a>
     ensures app { app_of result ≡ bare_app }
     ensures local { (fields_of result).has_globals ≡ false }
 {
     Command::new(alloc, "nicbench")
-        .version("0.1.0")
+        .version("0.9.0")
         .about("A bench for the registers of the Intel 82599 Ethernet controller")
+        .after_help(ENDS)
         .subcommand_required(true)
         .arg_required_else_help(true)
 }

@@ -14,6 +14,7 @@ import tempfile
 import tomllib
 import unittest
 import zipfile
+from importlib.util import find_spec
 from pathlib import Path
 
 ROOT = Path(__file__).resolve().parents[2]
@@ -124,6 +125,21 @@ class Wheel(unittest.TestCase):
             self.assertEqual((made.returncode, made.stderr.count("\n")), (127, 1))
         finally:
             (self.installed / "kept").rename(self.installed / "nic82599/nicbench")
+
+
+class Clone(unittest.TestCase):
+    def test_pip_installs_it(self) -> None:
+        """pip, without an index to ask, installs the folder of the clone, with the library that make -C c makes."""
+        if not find_spec("pip"):
+            self.skipTest("this Python has no pip")
+        with tempfile.TemporaryDirectory() as folder:
+            call = [sys.executable, "-m", "pip", "install", "--no-index", "--target", folder, str(ROOT / "python")]
+            made = subprocess.run(call, env=plain_environment(), capture_output=True, text=True)
+            self.assertEqual(made.returncode, 0, made.stdout + made.stderr)
+            code = "import nic82599; print(nic82599.places.library(), hex(nic82599.Nic()['SRRCTL[3]']))"
+            environment = plain_environment(PYTHONPATH=folder)
+            said = subprocess.run([sys.executable, "-c", code], env=environment, capture_output=True, text=True)
+            self.assertEqual(said.stdout, f"{folder}/nic82599/{places.SONAME} 0x402\n", said.stderr)
 
 
 class Places(unittest.TestCase):

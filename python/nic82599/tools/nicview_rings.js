@@ -191,6 +191,7 @@ function line(state, ring, n, inFront) {
   const kinds = `line${isIt ? " front" : ""}${ring.on ? "" : " off"}${ring.name === pinned ? " pinned" : ""}`;
   const made = make("button", { className: kinds, title, ariaPressed: ring.name === pinned }, name, words,
     ring.slots ? strip(state, ring, writtenSlots(ring, n)) : span("faint", "no slots"));
+  made.dataset.ring = ring.name;
   made.addEventListener("click", () => {
     pinned = ring.name === pinned ? null : ring.name;
     show(position);
@@ -209,9 +210,11 @@ function showRings(n, state) {
   for (const ring of rings) queues.set(ring.queue, [...(queues.get(ring.queue) ?? []), ring]);
   const cards = [...queues].sort(([a], [b]) => a - b).map(([, some]) =>
     make("div", { className: "card" }, ...some.map((ring) => line(state, ring, n, inFront))));
+  const focused = document.activeElement?.dataset.ring;
   element("front").replaceChildren(front(state, inFront, n));
   element("grid").replaceChildren(...cards);
   element("grid").hidden = rings.length < 2;
+  if (focused) element("grid").querySelector(`[data-ring="${focused}"]`)?.focus();
   const box = element("front").querySelector(".descriptors"), lit = box?.querySelector("tr.written");
   if (lit) box.scrollTop = Math.max(0, lit.offsetTop - box.clientHeight / 2);
 }

@@ -7,7 +7,6 @@ in more words. The forms are those of docs/script.md.
 from __future__ import annotations
 
 import re
-import sys
 from collections.abc import Callable
 from dataclasses import dataclass
 

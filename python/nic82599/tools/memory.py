@@ -7,7 +7,6 @@ Where that doesn't fit into one script, several are run, each from the start up 
 
 from __future__ import annotations
 
-import sys
 from dataclasses import dataclass, field
 
 from .frames import descriptor

@@ -10,7 +10,6 @@ the words are wrong; 4 ./nicbench gave no answer.
 from __future__ import annotations
 
 import argparse
-import sys
 
 from .prompt import Session, prompt
 from .script import Bench, Fault, of_text, read_text

@@ -11,7 +11,6 @@ Exit status: 0 nothing is wrong; 1 there are warnings; 2 the script is refused o
 from __future__ import annotations
 
 import argparse
-import sys
 from collections import Counter
 
 from .advice import Advice

@@ -7,7 +7,6 @@ program's.
 
 from __future__ import annotations
 
-import sys
 from dataclasses import dataclass
 
 from . import regs

@@ -1,0 +1,76 @@
+"""What dev/check_views asks of the tools: words that they refuse or take, and scripts that are made."""
+
+from __future__ import annotations
+
+FRAME = "0200000000010200000000020800450000280000000040060000420995bba18e64500aea06e6" + "00" * 22
+# A ring of 256 slots of which block 0 is lent, and so half: the device has 200 slots, and nothing is written to them.
+LONG_RING = "lend 0\nw RDLEN[0] 4096\nw RXDCTL[0] 0x02000000\nqstep rx 0\nw RDT[0] 200\n"
+# Words, standard input, and what is expected: status, and a part of what is printed.
+USES = [
+    (["nicview", "examples/fault.nic"], "", 2, "refused UnknownName 2"),
+    (["nicview", "nowhere.nic"], "", 2, "can't be read"),
+    (["nicview", "-", "--text"], "w RXCTRL 1\n", 0, "RXEN 1"),
+    (["nicview", "examples/first.nic", "--svg", "9"], "", 2, "there is no step 9"),
+    (["nicview", "examples/first.nic", "--vfs", "64"], "", 3, "from 0 to 63"),
+    (["nicview", "-", "--text"], "expect 1\n", 1, "failed 0"),
+    (["nicview", "-"], "#" * 8_388_609, 2, "too long"),
+    (["nicview", "-", "--text"], LONG_RING, 0, "  32 to 127 not read\n"),
+    (["nicview", "-", "--text"], LONG_RING, 0, " 128 to 199 not lent\n"),
+    (["nicview", "-", "--text"], "w RDLEN[0] 128\nw RDT[0] 8\n", 0, "????????  T 8 (no slot of the ring)\n"),
+    (["nicview", "-", "--text"], "w RDLEN[0] 128\nw RDH[0] 9\n", 0, "????????  H 9 (no slot of the ring)\n"),
+    (["nicview", "-", "--svg", "1"], "w RDLEN[0] 128\nw RDT[0] 8\n", 0, "tail 8: no slot"),
+    (["nicview", "dev/views/loop.nic", "--text"], "", 1, "* acc is 0x00000003 since step 35, `r GPRC`; 0x00000004 is"),
+    (["niclint", "examples/fault.nic"], "", 2, "no register NOSUCH"),
+    (["niclint", "-"], "w RDTX[1] 1\n", 2, "near: RDT"),
+    (["niclint", "-"], "w GPIE\n", 2, "w needs TARGET VALUE; VALUE is missing"),
+    (["niclint", "-"], "arrive nope\ndata nap 00\n", 2, "no data nope"),
+    (["niclint", "-"], "w RETA[32] 1\n", 2, "from [0] to [31]"),
+    (["niclint", "-"], "jmp on\nonn:\n", 2, "no label on; near: onn"),
+    (["niclint", "-"], "w 0x10140 1\n", 1, "0x10140 is SWSM, which the bench hasn't"),
+    (["niclint", "-"], "w RDT[1] 1\nw RXDCTL[1] 0x02000000\n", 1, "RDT[1] is written before RXDCTL[1].ENABLE reads 1"),
+    (["niclint", "-"], "w EIMS 0x100000\n", 1, "IVAR_MISC gives no vector"),
+    (["niclint", "-"], "w GPIE 0x10000\n", 1, "bits 0x00010000 of the word are reserved"),
+    (["niclint", "examples/first.nic"], "", 0, "nothing to say"),
+    (["niclint", "examples/send.nic"], "", 1, "before DMATXCTL.TE is 1"),
+    (["niclint", "examples/tail.debug", "--trace"], "", 1, "the ring is empty"),
+    (["niclint", "dev/views/loop.nic", "--trace"], "", 0, "step 36: expect 4 -> failed: acc is 0x00000003"),
+    (["nicdebug", "examples/tail.debug"], "break 10\nc\ns\nwhy\nfoo\nshow GPRC\nquit\n", 0, "GPRC  0x04074 0x00000001"),
+    (["nicdebug", "examples/receive.nic"], "c\npeek 0\npeek 0x800\n", 0, "1001000000000000030000003c000000"),
+    (["nicdebug", "dev/views/eight.nic"], "continue fault\n", 0, "-> dropped no slot\nat 146 pc 146 acc 0x00000001"),
+    (["nicdebug", "dev/views/eight.nic"], "c fault\nc fault\n", 0, "-> fault queue 5 outside\nat 153 pc 153 acc"),
+    (["nicdebug", "dev/views/eight.nic"], "c fault\n\n\nwhy\n", 0, "* acc is 0x00000006 since step 156, `r QPRC[0]`"),
+    (["nicdebug", "dev/views/eight.nic"], "break line 165\nc fault\nc fault\n", 0, "at 147 pc 147 acc 0x00000001"),
+    (["nicdebug", "examples/queue.nic"], "c fault\n", 0, "no fault, dropped frame or failed expect follows\n"),
+    (["nicdebug", "examples/queue.nic"], "help\n", 0, "continue fault     the same, and it stops behind the next"),
+]
+
+
+def sixteen_script() -> str:
+    """Sixteen queues, each with a receive and a transmit ring; one gets a frame, one sends, all is reset."""
+    lines = [f"data frame {FRAME}", f"data rx 0080{'00' * 14}", "data tx 00800000000000003c00302b00000f00"]
+    lines += [f"lend {block}" for block in range(17)]
+    lines += ["w RXCTRL 1", "w FCTRL 0x200", "w DMATXCTL 0x81000001", "w IVAR[0] 0x8180", "w EIMS 3"]
+    for q in range(16):
+        slots = (8, 16, 32, 64)[q % 4]
+        for side, base in (("R", 0x400 * q), ("T", 0x4000 + 0x400 * q)):
+            lines += [f"w {side}DBAL[{q}] 0x{base:x}", f"w {side}DLEN[{q}] {16 * slots}"]
+            lines += [f"w {side}XDCTL[{q}] 0x02000000", f"qstep {side.lower()}x {q}"]
+            lines += [f"poke 0x{base + 16 * k:x} {side.lower()}x" for k in range(3)]
+            lines.append(f"w {side}DT[{q}] {2 + q % 2}")
+        lines.append(f"w SRRCTL[{q}] 0x02000002")
+    lines += ["arrive frame", "rx", "int pf", "tx 0", "int pf", "tx 3", "rx", "collect", "w RDT[0] 99", "arrive frame"]
+    return "\n".join(lines + ["rx", "tx 20", "w CTRL 0x04000000"]) + "\n"
+
+
+def long_script() -> str:
+    """A script of 4,096 instructions: rounds of a frame that comes and one that goes, with their interrupts."""
+    lines = [f"data frame {FRAME}", "data tx 00100000000000003c00302b00000f00"]
+    lines += [f"data rx{n} {(0x1000 + 0x800 * n).to_bytes(8, 'little').hex()}{'00' * 8}" for n in range(8)]
+    body = [f"lend {block}" for block in range(12)] + ["w RXCTRL 1", "w FCTRL 0x200", "w DMATXCTL 0x81000001"]
+    body += ["w RDLEN[0] 128", "w SRRCTL[0] 0x02000002", "w RXDCTL[0] 0x02000000", "qstep rx 0", "w TDBAL[0] 0x80"]
+    body += ["w TDLEN[0] 128", "w TXDCTL[0] 0x02000000", "qstep tx 0", "w IVAR[0] 0x8685", "w EIMS 0x60", "w EIAC 0x60"]
+    for k in range(4_096):
+        slot, behind = k % 8, (k + 1) % 8
+        body += [f"poke {16 * slot} rx{slot}", f"w RDT[0] {behind}", "arrive frame", "rx", "int pf"]
+        body += [f"poke {128 + 16 * slot} tx", f"w TDT[0] {behind}", "tx 0", "int pf", "collect", "r GPRC"]
+    return "\n".join(lines + body[:4_096]) + "\n"

@@ -1,6 +1,6 @@
-/* A race of a poll loop, shown by an order of calls. A driver that found its ring empty lets the interrupt come again.
-   One that also clears EICR there loses the frame that came in between: it lies in the ring, and nothing tells of it.
-   Here the frame comes at that moment, since its arrival and its receive step are calls like any other. */
+/* A race of a poll loop, shown by an order of calls. A driver that found its ring empty unmasks the interrupt again. If
+   it also clears EICR there, it loses the frame that came in between: the frame is in the ring, and no interrupt
+   reports it. Here the frame comes at that moment, since its arrival and its receive step are calls like any other. */
 #include <stdio.h>
 
 #include "nic82599.h"

@@ -1,4 +1,4 @@
-/* A frame of TCP arrives, is sorted to queue 3 by its hash, is written to its ring, and is told by an interrupt. */
+/* A TCP frame arrives. Its hash picks queue 3, the device writes it to the ring, and an interrupt reports it. */
 #include <stdio.h>
 
 #include "nic82599.h"
@@ -18,7 +18,7 @@ int main(void)
         return 1;
     nic_lend_all(&n);
     nic_write32(&n, NIC_RXCTRL, NIC_RXCTRL_RXEN);
-    nic_write32(&n, NIC_FCTRL, NIC_FCTRL_UPE); /* all unicast frames are let in */
+    nic_write32(&n, NIC_FCTRL, NIC_FCTRL_UPE); /* accept all unicast frames */
     nic_write32(&n, NIC_MRQC, NIC_MRQC_MRQE_IS(1) | NIC_MRQC_TCPIPV4);
     nic_write32(&n, NIC_RETA(0), NIC_RETA_ENTRY_0_IS(3)); /* under a key of zeros the hash is 0 */
     nic_write32(&n, NIC_RDLEN(3), 128);                   /* eight descriptors from bus address 0 on */
@@ -26,9 +26,9 @@ int main(void)
     nic_write32(&n, NIC_RXDCTL(3), NIC_RXDCTL_ENABLE);
     nic_write32(&n, NIC_IVAR(1), NIC_IVAR_INT_ALLOC_2_IS(5) | NIC_IVAR_INT_ALLOC_VAL_2); /* its cause: bit 5 */
     nic_write32(&n, NIC_EIMS, 1u << 5);
-    nic_settle(&n, 4, told, 16, &count);        /* the queue goes on */
-    nic_put_desc(&n, 0, 0, nic_rx_desc(0x800)); /* the first descriptor: its buffer is block 1 */
-    nic_write32(&n, NIC_RDT(3), 1);             /* and it is the device's */
+    nic_settle(&n, 4, told, 16, &count);        /* the device enables the queue */
+    nic_put_desc(&n, 0, 0, nic_rx_desc(0x800)); /* slot 0 gets a descriptor: its buffer is block 1 */
+    nic_write32(&n, NIC_RDT(3), 1);             /* slot 0 is the device's */
     printf("arrives: %s\n", nic_status_name(nic_arrive(&n, frame, sizeof frame, told)));
     nic_settle(&n, 4, told, 16, &count);
     for (size_t k = 0; k < count; k++)

@@ -1,20 +1,19 @@
 /* A model of the Intel 82599 10 GbE controller to run driver code on: the card's registers, rings and interrupts in the
-   process of the driver, without a card, a guest or a kernel. What each call answers is proved in Rattle by one written
-   definition of the device; docs/CARD.md says where that differs from the card, whose public source is the Intel 82599
+   driver's process, without a card, a guest or a kernel. What each call answers is proved in Rattle by one written
+   definition of the device. docs/CARD.md says where that differs from the card, whose public source is the Intel 82599
    10 GbE Controller Datasheet (331520).
 
-   How it is used: nic_open makes a controller; registers are read and written by address (NIC_RXDCTL(3), or a number);
-   blocks of packet memory are lent to the device, which touches no other memory; frames arrive from the link and are
-   collected from it. Nothing happens by itself: the device acts in steps, each of them a call, so that a race is an
-   order of calls. nic_settle makes every step that has something to do.
+   How to use it: nic_open makes a controller. Read and write registers by address (NIC_RXDCTL(3), or a number). Lend
+   blocks of packet memory to the device; it touches no other memory. Frames arrive from the link and are collected from
+   it. Nothing happens by itself: the device acts in steps, each of them a call, so a race is an order of calls.
+   nic_settle makes every step that has something to do.
 
-   Threads: a handle is given to one call at a time: one thread has it, or a lock of the caller's is held around each
-   call. Two handles have nothing in common, so each may have a thread of its own. No call waits, none calls back, and
-   none may be made in a signal handler.
+   Threads: handles aren't thread-safe: one thread each, or your own lock around each call. Two handles share nothing,
+   so each may have its own thread. No call waits, none calls back, and none may be made in a signal handler.
 
-   Pointers: none may be null, also not that of a buffer whose length is 0. Each points to what its type says, a buffer
-   to as many bytes or items as the length behind it says, and none of them overlap. Every other argument may have any
-   value: a call tests it, and answers a status. */
+   Pointers: none may be null, also not for a buffer whose length is 0. Each points to what its type says, a buffer to
+   as many bytes or items as the length after it says, and they don't overlap. Every other argument may have any value:
+   the call checks it, and returns a status. */
 #ifndef NIC82599_H
 #define NIC82599_H
 
@@ -30,53 +29,53 @@
 extern "C" {
 #endif
 
-/* A controller. `device` is null before nic_open and after nic_close, and never looked into. A copy of the struct is
-   the same controller, so only one of them is closed. */
+/* A controller. `device` is null before nic_open and after nic_close, and opaque otherwise. A copy of the struct is the
+   same controller, so close only one of them. */
 typedef struct nic {
     void *device;
 } nic;
 
-/* A snapshot of a controller. `kept` is null before nic_snapshot and after nic_drop_snapshot, and never looked into. A
-   copy of the struct is the same snapshot, so only one of them is dropped. */
+/* A snapshot of a controller. `kept` is null before nic_snapshot and after nic_drop_snapshot, and opaque otherwise. A
+   copy of the struct is the same snapshot, so drop only one of them. */
 typedef struct nic_kept {
     void *kept;
 } nic_kept;
 
-/* What a call answers, as uint8_t. */
+/* What a call returns, as uint8_t. */
 enum nic_status {
-    /* the device's replies; NOT_LENT, NO_QUEUE and NO_GROUP refuse, and nothing is changed */
-    NIC_DONE = 0,     /* it is made; a read: the register's word */
-    NIC_STRAY = 1,    /* the access meets no register; a read gives what a driver would see, a write changed nothing */
+    /* the device's replies; NOT_LENT, NO_QUEUE and NO_GROUP refuse the call, and nothing changed */
+    NIC_DONE = 0,     /* it is done; a read: the register's word */
+    NIC_STRAY = 1,    /* no register is there; a read gives what a driver would see, a write changed nothing */
     NIC_IDLE = 2,     /* there was nothing to do */
     NIC_DROPPED = 3,  /* a frame was dropped: why */
-    NIC_WROTE = 4,    /* a piece of a frame was written: queue, slot, end, desc, at, len */
+    NIC_WROTE = 4,    /* one buffer's worth of a frame was written: queue, slot, end, desc, at, len */
     NIC_ADVANCED = 5, /* a transmit slot was fetched, and no frame went out: queue, slot, back, at */
     NIC_SENT = 6,     /* a frame went out: queue, len, back, at */
-    NIC_FAULT = 7,    /* a slot can't be processed, and its side of the queue went off: queue, why, bus */
+    NIC_FAULT = 7,    /* a slot can't be processed, and its side of the queue is off now: queue, why, bus */
     NIC_MESSAGE = 8,  /* an interrupt message was sent: group, vector */
     NIC_FRAME = 9,    /* a frame that went out was collected: queue, len */
     NIC_NOT_LENT = 16, /* a block of this number, or of one of these bus addresses, isn't lent */
     NIC_NO_QUEUE = 18, /* there are 128 queues */
     NIC_NO_GROUP = 19, /* there is no such virtual function, or the mode has no pool for it */
-    /* what a call refuses: nothing is changed, also not what its pointers lead to, but *count and *line are 0 */
+    /* refusals: nothing changed, not even what the pointers point to, except that *count and *line are 0 */
     NIC_OUT_OF_MEMORY = 32,
     NIC_NO_ROOM = 33,      /* nic_collect: the buffer is too small, and the frame stays; nic_hash: a long input */
     NIC_TOO_MANY_VFS = 34, /* nic_new: above 63 */
     NIC_BAD_FIFO = 35,     /* nic_new: not 1 to 4,096 */
     NIC_BAD_BLOCKS = 36,   /* nic_new: not 1 to 65,536 */
-    NIC_NO_BLOCK = 37,     /* nic_lend: no block of this number is in hand */
+    NIC_NO_BLOCK = 37,     /* nic_lend: the block is lent already, or doesn't exist */
     NIC_MORE = 38,         /* nic_settle: the array is full, and there may be more to do */
-    /* an EEPROM image or text that is none, by the first of these that holds; the former image stays */
-    NIC_IMAGE = 64, /* what the following are counted from */
+    /* an EEPROM image or text is invalid, by the first of these that holds; the former image stays */
+    NIC_IMAGE = 64, /* base of the following */
     NIC_IMAGE_ODD_LENGTH = 65,
-    NIC_IMAGE_BAD_SIZE = 66,        /* not 64 words, or that doubled up to eight times */
+    NIC_IMAGE_BAD_SIZE = 66,        /* not 64, 128, .. 16,384 words */
     NIC_IMAGE_SECTION_OUTSIDE = 67, /* a pointer's section isn't inside the image */
     NIC_IMAGE_BAD_CHECKSUM = 68,
-    NIC_IMAGE_NOT_TRIPLES = 69,     /* the CSR section isn't of whole triples */
-    NIC_TEXT = 96, /* what the following are counted from */
+    NIC_IMAGE_NOT_TRIPLES = 69,     /* the CSR section isn't a multiple of three words */
+    NIC_TEXT = 96, /* base of the following */
     NIC_TEXT_SYNTAX = 97,           /* at this line, counted from 1 */
     NIC_TEXT_TWO_VALUES = 98,       /* two lines give the word with this index */
-    NIC_TEXT_RESERVED = 99,         /* the word with this index isn't the text's to give */
+    NIC_TEXT_RESERVED = 99,         /* the text can't give the word with this index */
     NIC_TEXT_DOES_NOT_FIT = 100,    /* an index or the CSR section is beyond the size */
     NIC_TEXT_POINTER_OUTSIDE = 101, /* a pointer is below 0x40, or its section isn't inside */
     NIC_TEXT_NOT_UTF8 = 102
@@ -88,10 +87,10 @@ enum nic_why {
     NIC_WHY_OFF = 2,        /* RXCTRL bit 0 is 0 */
     NIC_WHY_SHORT = 3,      /* fewer than 60 bytes */
     NIC_WHY_LONG = 4,       /* more than the frame limit */
-    NIC_WHY_FILTER = 5,     /* the filter lets in no such destination */
+    NIC_WHY_FILTER = 5,     /* no filter accepts the destination */
     NIC_WHY_NO_POOL = 6,
     NIC_WHY_POOL_OFF = 7,   /* VFRE has the frame's pool off */
-    NIC_WHY_FULL = 8,       /* as many frames wait as `fifo` says */
+    NIC_WHY_FULL = 8,       /* as many frames wait as `fifo` allows */
     NIC_WHY_QUEUE_OFF = 9,  /* a receive step: the queue is off */
     NIC_WHY_NO_SLOT = 10    /* a receive step: no slot is the device's, and SRRCTL has DROP_EN */
 };
@@ -108,7 +107,7 @@ enum nic_fault {
     NIC_FAULT_UNKNOWN_TYPE = 8    /* neither a data nor a context descriptor */
 };
 
-/* The steps of the device, as nic_settle tells them. */
+/* The steps of the device, as nic_settle reports them. */
 enum nic_step {
     NIC_RX_ENABLE = 0, /* nic_queue_step, receive side, of queue `of` */
     NIC_TX_ENABLE = 1, /* nic_queue_step, transmit side, of queue `of` */
@@ -118,21 +117,21 @@ enum nic_step {
     NIC_INTERRUPT = 5  /* nic_int_step of group `of` */
 };
 
-/* What an event tells; what it doesn't tell is 0. */
+/* What an event reports; all other fields are 0. */
 typedef struct nic_told {
     uint64_t desc;   /* WROTE: the bus address of the descriptor that was written back */
-    uint64_t at;     /* WROTE: the bus address of the first byte written; ADVANCED, SENT: where `back` is 1, that of
+    uint64_t at;     /* WROTE: the bus address of the first byte written; ADVANCED, SENT: if `back` is 1, that of
                         what was written back, a descriptor or the head */
     uint64_t len;    /* WROTE, SENT, FRAME: bytes, padding included */
     uint64_t bus;    /* FAULT of memory that isn't lent: its bus address */
     uint16_t queue;  /* WROTE, ADVANCED, SENT, FAULT, FRAME: below 128 */
     uint16_t slot;   /* WROTE, ADVANCED: the slot of the ring */
     uint16_t group;  /* MESSAGE: 0 the physical function, v + 1 virtual function v */
-    uint16_t of;     /* in nic_settle's array: the queue or the group that was stepped, else 0 */
-    uint8_t status;  /* enum nic_status, as the call answers it */
+    uint16_t of;     /* in nic_settle's array: the queue or the group of the step, else 0 */
+    uint8_t status;  /* enum nic_status, as the call returns it */
     uint8_t step;    /* in nic_settle's array: enum nic_step */
-    uint8_t end;     /* WROTE: 1 where the frame ends with this piece */
-    uint8_t back;    /* ADVANCED, SENT: 1 where something was written back */
+    uint8_t end;     /* WROTE: 1 if the frame ends in this buffer */
+    uint8_t back;    /* ADVANCED, SENT: 1 if something was written back */
     uint8_t why;     /* DROPPED: enum nic_why; FAULT: enum nic_fault */
     uint8_t vector;  /* MESSAGE: below 16 */
 } nic_told;
@@ -142,16 +141,16 @@ typedef struct nic_told {
 /* The version of the library, three numbers, as NIC82599_VERSION is that of the header: "0.9.0". */
 const char *nic_version(void);
 
-/* Whether the device in this library was proved: true where the prover accepted every function of it, false where it was
-   compiled from the same sources without that. */
+/* Whether the device in this library was proved: true if the prover accepted every function of it, false if it was
+   compiled from the same sources without proofs. */
 bool nic_is_proved(void);
 
 /* --- life --- */
 
-/* Makes a controller after a power-up: `vfs` virtual functions (at most 63), room for `fifo` frames that arrived and
-   weren't written yet (1 to 4,096), and `blocks` blocks of packet memory (1 to 65,536), numbered from 0 and none of
-   them lent. DONE, and *device is the new one, which nic_free ends; BAD_BLOCKS, TOO_MANY_VFS, BAD_FIFO (the first of
-   these that holds) or OUT_OF_MEMORY. nic_open, below, is the same with a struct. */
+/* Makes a controller as after power-up: `vfs` virtual functions (at most 63), room for `fifo` frames that wait to be
+   received (1 to 4,096), and `blocks` blocks of packet memory (1 to 65,536), numbered from 0 and none of them lent.
+   DONE, and *device is the new one, which nic_free ends; BAD_BLOCKS, TOO_MANY_VFS, BAD_FIFO (the first of these that
+   holds) or OUT_OF_MEMORY. nic_open, below, is the same with a struct. */
 uint8_t nic_new(uint8_t vfs, uint16_t fifo, uint32_t blocks, void **device);
 
 /* Ends a controller, with its memory and its frames. It must be one that nic_new made and nic_free didn't end. */
@@ -159,33 +158,33 @@ void nic_free(nic n);
 
 /* --- snapshots --- */
 
-/* Keeps the controller as it is: registers, lent blocks with their bytes, frames that wait to be received, bytes that
-   are staged to be sent, frames that went out and weren't collected, the link, the EEPROM's image, and which blocks are
-   in hand. That is all that a controller has: one that is restored answers every call as this one would from here on.
-   The controller stays as it is. DONE, and *kept is the snapshot, which nic_drop_snapshot ends; OUT_OF_MEMORY, and
-   *kept is as it was. A snapshot takes 2,048 bytes for each lent block, and none for the others. */
+/* Saves the controller: registers, lent blocks with their bytes, frames that wait to be received, bytes that are staged
+   to be sent, frames that went out and weren't collected, the link, the EEPROM's image, and which blocks aren't lent.
+   That is its whole state: a restored controller answers every call as this one would from here on. The controller
+   itself doesn't change. DONE, and *kept is the snapshot, which nic_drop_snapshot ends; OUT_OF_MEMORY, and *kept is
+   unchanged. A snapshot takes 2,048 bytes for each lent block, and none for the others. */
 uint8_t nic_snapshot(nic *n, nic_kept *kept);
 
-/* Makes a controller what was kept: the same one, later, or any other, whose blocks and virtual functions become those
-   of the snapshot. DONE, and what the controller was is gone; OUT_OF_MEMORY, and it is as it was. Either way the
-   snapshot stays, and is restored as often as it is wanted. For its time the call has both controllers' memory. As a
-   handle, a snapshot is given to one call at a time. */
+/* Restores a snapshot, into its own controller or any other, whose blocks and virtual functions become those of the
+   snapshot. DONE, and the controller's former state is gone; OUT_OF_MEMORY, and it is unchanged. Either way the
+   snapshot stays, and can be restored again. During the call there is memory for both states. Like a handle, a snapshot
+   isn't thread-safe. */
 uint8_t nic_restore(nic *n, const nic_kept *kept);
 
-/* Ends a snapshot, which must be one that nic_snapshot made and that wasn't ended. No controller minds.
+/* Ends a snapshot, which must be one that nic_snapshot made and that wasn't ended. No controller is affected.
    nic_drop_snapshot, below, is the same with a pointer, and may be called again. */
 void nic_free_snapshot(nic_kept kept);
 
 /* --- registers --- */
 
-/* Reads and writes a register of the physical function by its address, with all effects of a read. DONE with the word,
-   or STRAY where the address names no register (also where it is no multiple of 4): then the word is what a driver
-   would see, and nothing is changed. */
+/* Reads and writes a register of the physical function by its address, with all effects of the access. DONE with the
+   word, or STRAY if no register is there (also if the address is no multiple of 4): then the word is what a driver
+   would see, and nothing changes. */
 uint8_t nic_read32(nic *n, uint32_t address, uint32_t *word);
 uint8_t nic_write32(nic *n, uint32_t address, uint32_t word);
 
-/* The same of virtual function `vf`, by the offset among its own registers. It is STRAY, and reads as 0xFFFFFFFF, where
-   the device has no such function or the mode (GCR_EXT) no pool for it. */
+/* The same for virtual function `vf`, by the offset of its own registers. It is STRAY also if the device has no
+   such function or the mode (GCR_EXT) no pool for it; then it reads as 0xFFFFFFFF. */
 uint8_t nic_vf_read32(nic *n, uint8_t vf, uint32_t offset, uint32_t *word);
 uint8_t nic_vf_write32(nic *n, uint8_t vf, uint32_t offset, uint32_t word);
 
@@ -196,57 +195,57 @@ uint8_t nic_vf_peek32(nic *n, uint8_t vf, uint32_t offset, uint32_t *word);
 /* --- packet memory --- */
 
 /* What the device reads and writes by bus address: bus address a is byte a % 2048 of block a / 2048, so b blocks have
-   the addresses below 2048 * b. The device touches lent blocks only; where it needs another, that is a fault. */
+   the addresses below 2048 * b. The device touches lent blocks only; needing another is a fault. */
 #define NIC_BLOCK_BYTES 2048u
 
-/* Lends a block: DONE, NO_BLOCK (it is lent, or there is none of this number), OUT_OF_MEMORY. Its bytes are 0. */
+/* Lends a block: DONE, NO_BLOCK (it is lent already, or doesn't exist), OUT_OF_MEMORY. Its bytes are 0. */
 uint8_t nic_lend(nic *n, uint32_t block);
 /* Takes a block back, and its bytes are gone: DONE, NOT_LENT. */
 uint8_t nic_take(nic *n, uint32_t block);
-/* Lends all blocks that aren't lent: DONE, OUT_OF_MEMORY (then those below the one that found none are lent). */
+/* Lends all blocks that aren't lent: DONE, OUT_OF_MEMORY (then the blocks below the one that failed are lent). */
 uint8_t nic_lend_all(nic *n);
 
-/* Reads and writes lent memory as the driver does, `length` bytes from any bus address on, over the borders of blocks.
-   DONE, or NOT_LENT where one of the bytes isn't lent: then nothing is read or written. */
+/* Reads and writes lent memory as the driver does, `length` bytes from any bus address on, across blocks. DONE, or
+   NOT_LENT if one of the bytes isn't lent: then nothing is read or written. */
 uint8_t nic_dma_read(nic *n, uint64_t bus, uint8_t *bytes, size_t length);
 uint8_t nic_dma_write(nic *n, uint64_t bus, const uint8_t *bytes, size_t length);
 
-/* --- the link; frames are without their frame check sequence --- */
+/* --- the link; frames have no frame check sequence --- */
 
 /* A frame arrives: DONE, and it waits for receive steps; DROPPED (`why`); OUT_OF_MEMORY. */
 uint8_t nic_arrive(nic *n, const uint8_t *frame, size_t length, nic_told *told);
-/* How many bytes the oldest frame has that went out and wasn't collected; 0 where there is none. */
+/* The length of the oldest frame that went out and wasn't collected; 0 if there is none. */
 size_t nic_next_out(nic *n);
-/* Takes that frame into a buffer: FRAME (`queue`, `len`), IDLE where there is none, NO_ROOM where it is longer than
-   `length` (it stays). */
+/* Takes that frame into a buffer: FRAME (`queue`, `len`), IDLE if there is none, NO_ROOM if it is longer than `length`
+   (it stays). */
 uint8_t nic_collect(nic *n, uint8_t *room, size_t length, nic_told *told);
-/* The link goes up or down: DONE, or IDLE where it is so already. It is up at first. */
+/* The link goes up or down: DONE, or IDLE if it is so already. It is up at first. */
 uint8_t nic_link(nic *n, bool up);
 
-/* --- the steps of the device; each is IDLE where it has nothing to do, all are while CTRL bit 2 is 1 --- */
+/* --- the steps of the device; a step is IDLE if it has nothing to do, and while CTRL bit 2 is 1 --- */
 
-/* Writes one descriptor's worth of the frame that waits longest: WROTE, DROPPED, FAULT, IDLE. */
+/* Writes one buffer's worth of the frame that waits longest: WROTE, DROPPED, FAULT, IDLE. */
 uint8_t nic_rx_step(nic *n, nic_told *told);
 /* Fetches one descriptor of a transmit queue: ADVANCED, SENT, FAULT, IDLE, NO_QUEUE, OUT_OF_MEMORY. */
 uint8_t nic_tx_step(nic *n, uint16_t queue, nic_told *told);
-/* Makes a side of a queue what RXDCTL or TXDCTL bit 25 was written: DONE, IDLE, NO_QUEUE. */
+/* Enables or disables a side of a queue, as RXDCTL or TXDCTL bit 25 asks: DONE, IDLE, NO_QUEUE. */
 uint8_t nic_queue_step(nic *n, bool transmit, uint16_t queue, nic_told *told);
-/* The EEPROM gives the word that EERD asks for: DONE, IDLE. */
+/* The EEPROM answers EERD: DONE, IDLE. */
 uint8_t nic_eeprom_step(nic *n, nic_told *told);
 /* Sends the next message of a group, 0 the physical function, v + 1 function v: MESSAGE, IDLE, NO_GROUP. */
 uint8_t nic_int_step(nic *n, uint8_t group, nic_told *told);
 
 /* Makes steps until none has anything to do, round by round, in this order: for each queue below `queues` its receive
    enable, then its transmit enable; the EEPROM; one transmit step of each such queue; one receive step; one message of
-   each group. What happened stands in told[0 .. *count), each with its `status`, `step` and `of`. DONE where a round
-   did nothing; MORE where the array was full before that, at once where `length` is 0: another call begins a round
-   anew; OUT_OF_MEMORY at a transmit step that found none; NO_QUEUE where `queues` is above 128. */
+   each group. What happened is in told[0 .. *count), each with its `status`, `step` and `of`. DONE when a round did
+   nothing; MORE if the array was full before that, at once if `length` is 0: another call begins a new round;
+   OUT_OF_MEMORY at a transmit step that found none; NO_QUEUE if `queues` is above 128. */
 uint8_t nic_settle(nic *n, uint16_t queues, nic_told *told, size_t length, size_t *count);
 
 /* --- the EEPROM --- */
 
-/* Puts an image in, of an image's bytes or of a text in the language of docs/script.md ("An EEPROM image"):
-   DONE, a NIC_IMAGE_.. or a NIC_TEXT_.., OUT_OF_MEMORY. *line is the line or index that a NIC_TEXT_.. tells, else 0. */
+/* Installs an image, from an image's bytes or from a text as docs/script.md describes it ("An EEPROM image"): DONE, a
+   NIC_IMAGE_.. or a NIC_TEXT_.., OUT_OF_MEMORY. *line is the line or index that a NIC_TEXT_.. reports, else 0. */
 uint8_t nic_install_image(nic *n, const uint8_t *bytes, size_t length);
 uint8_t nic_install_text(nic *n, const uint8_t *text, size_t length, uint64_t *line);
 
@@ -257,7 +256,7 @@ uint8_t nic_hash(const uint8_t key[40], const uint8_t *input, size_t length, uin
 
 /* --- conveniences --- */
 
-/* nic_new and nic_free with a struct; a refused nic_open leaves a null device, of which nic_close does nothing. */
+/* nic_new and nic_free with a struct; a refused nic_open leaves a null device, with which nic_close does nothing. */
 static inline uint8_t nic_open(nic *n, uint8_t vfs, uint16_t fifo, uint32_t blocks)
 {
     n->device = NULL;
@@ -271,7 +270,7 @@ static inline void nic_close(nic *n)
     n->device = NULL;
 }
 
-/* nic_free_snapshot with a pointer; of a snapshot that is null it does nothing. */
+/* nic_free_snapshot with a pointer; with a null snapshot it does nothing. */
 static inline void nic_drop_snapshot(nic_kept *kept)
 {
     if (kept->kept)
@@ -328,7 +327,7 @@ static inline uint32_t nic_field(uint32_t word, uint32_t field)
     return field ? (word & field) / (field & ~(field - 1u)) : 0;
 }
 
-/* What a status is called, in the words that `nicbench run` prints. */
+/* The name of a status, as `nicbench run` prints it. */
 static inline const char *nic_status_name(uint8_t status)
 {
     switch (status) {
@@ -367,7 +366,7 @@ static inline const char *nic_status_name(uint8_t status)
     }
 }
 
-/* Why a frame is dropped, and what a fault is, in the same words. */
+/* Why a frame is dropped, and what a fault is, as `nicbench run` prints it. */
 static inline const char *nic_why_name(uint8_t why)
 {
     static const char *const names[] = {"", "link down", "off", "short", "long", "filter", "no pool", "pool off",
@@ -382,7 +381,7 @@ static inline const char *nic_fault_name(uint8_t fault)
     return fault < sizeof names / sizeof *names ? names[fault] : "unknown";
 }
 
-/* What a step is called, in the words of a script. */
+/* The name of a step, as in a script. */
 static inline const char *nic_step_name(uint8_t step)
 {
     static const char *const names[] = {"qstep rx", "qstep tx", "eestep", "tx", "rx", "int"};

@@ -6,10 +6,10 @@
     ...     nic["RDT[3]"], hex(nic["SRRCTL[3]"]), nic.peek("GPRC")
     (0, '0x402', 0)
 
-A `Nic` is a controller after a power-up. Registers go by the names of docs/REGISTERS.md or by address, packet memory by
-bus address (`nic.memory[0x800:0x83c]`), frames come in by `arrive` and out by `collect`, and the device acts in steps:
-`settle` makes all that have something to do. What a call refuses is an exception that is named for it, and leaves the
-device as it was; what the device tells is a small dataclass.
+A `Nic` is a controller as after power-up. Registers go by the names of docs/REGISTERS.md or by address, packet memory
+by bus address (`nic.memory[0x800:0x83c]`). Frames come in by `arrive` and out by `collect`. The device acts in steps:
+`settle` makes all that have something to do. A refused call raises an exception with the refusal's name, and leaves the
+device unchanged. What the device reports is a small dataclass.
 
 The library is looked for in this order: where the variable NIC82599_LIBRARY says; beside this file; in c/out of the
 clone, where `make -C c` puts it; in the system. Calls hold the interpreter's lock, so the calls of several threads come
@@ -50,7 +50,7 @@ _LONGEST = 16_384
 
 
 class NicError(Exception):
-    """A call was refused, and nothing is changed."""
+    """A call was refused, and nothing changed."""
 
 
 class LibraryMissing(NicError):
@@ -105,7 +105,7 @@ class NoSuchRegister(NicError, KeyError):
 
 
 class Stray(NicError, LookupError):
-    """An access that meets no register. `word` is what a driver reads there, None where nothing was read."""
+    """No register is there. `word` is what a driver reads there, None if nothing was read."""
 
     def __init__(self, at: int, word: int | None = None) -> None:
         super().__init__(f"0x{at:05x} names no register" + ("" if word is None else f", and reads as 0x{word:08x}"))
@@ -113,11 +113,11 @@ class Stray(NicError, LookupError):
 
 
 class ImageRefused(NicError, ValueError):
-    """The bytes are no EEPROM image: the argument says why."""
+    """The bytes are no valid EEPROM image: the argument says why."""
 
 
 class TextRefused(NicError, ValueError):
-    """The text means no EEPROM image: the argument says why, and `at` the line or the index where it tells one."""
+    """The text is no valid EEPROM image: `why` says why, and `at` has the line or the index, if there is one."""
 
     def __init__(self, why: str, at: int) -> None:
         super().__init__(f"{why} at {at}" if at else why)
@@ -128,7 +128,7 @@ class TextRefused(NicError, ValueError):
 
 
 class Word(NamedTuple):
-    """What a read gives: the word, and whether the access met no register."""
+    """What a read gives: the word, and whether no register was there."""
 
     word: int
     stray: bool
@@ -136,7 +136,7 @@ class Word(NamedTuple):
 
 @dataclass(frozen=True)
 class Done:
-    """A side of a queue went on or off, or the EEPROM gave a word. `step` is `qstep rx`, `qstep tx` or `eestep`."""
+    """A side of a queue is on or off now, or the EEPROM answered. `step` is `qstep rx`, `qstep tx` or `eestep`."""
 
     step: str
     queue: int
@@ -151,7 +151,8 @@ class Dropped:
 
 @dataclass(frozen=True)
 class Wrote:
-    """A piece of a frame was written: `length` bytes at bus address `at`, told in the descriptor at `descriptor`."""
+    """One buffer's worth of a frame was written: `length` bytes at bus address `at`, and the descriptor at
+    `descriptor`. `end` says whether the frame ends with it."""
 
     queue: int
     slot: int
@@ -181,7 +182,7 @@ class Sent:
 
 @dataclass(frozen=True)
 class Fault:
-    """A slot can't be processed, and its side of the queue, `rx` or `tx`, went off. `bus` is the address that isn't
+    """A slot can't be processed, and its side of the queue, `rx` or `tx`, is off now. `bus` is the address that isn't
     lent, if that is why."""
 
     side: str
@@ -413,15 +414,15 @@ class _Registers:
         raise NotImplementedError
 
     def read32(self, at: int) -> Word:
-        """Reads by number, with all effects of a read. It raises nothing where the access is stray."""
+        """Reads by number, with all effects of a read. It doesn't raise if no register is there."""
         raise NotImplementedError
 
     def write32(self, at: int, word: int) -> bool:
-        """Writes by number, and answers whether the access met a register."""
+        """Writes by number, and returns whether a register was there."""
         raise NotImplementedError
 
     def peek32(self, at: int) -> int | None:
-        """What a read would give, without its effects; None where the number names no register."""
+        """What a read would give, without its effects; None if no register is there."""
         raise NotImplementedError
 
     def __getitem__(self, name: str | int) -> int:
@@ -478,13 +479,13 @@ class Function(_Registers):
 
 class Memory:
     """Lent packet memory by bus address: `memory[a]` is a byte, `memory[a:b]` those from a up to b, which may be
-    written by as many bytes. NotLent where one of them isn't lent; then nothing is read or written."""
+    written by as many bytes. NotLent if one of them isn't lent; then nothing is read or written."""
 
     def __init__(self, nic: Nic) -> None:
         self._nic = nic
 
     def read(self, bus: int, length: int) -> bytes:
-        """So many bytes from a bus address on."""
+        """`length` bytes from a bus address on."""
         room = ctypes.create_string_buffer(max(_whole(length, 32, "length"), 1))
         self._nic._ask("nic_dma_read", _whole(bus, 64, "bus address"), room, length)
         return room.raw[:length]
@@ -518,7 +519,7 @@ class Memory:
 
 
 class Snapshot:
-    """What `Nic.snapshot` keeps of a controller: all that it has. It ends by `drop`, or at the end of a `with`."""
+    """The state of a controller, from `Nic.snapshot`. It ends by `drop`, or at the end of a `with`."""
 
     def __init__(self, nic: Nic) -> None:
         self._kept: _Kept | None = None
@@ -550,9 +551,9 @@ class Snapshot:
 
 
 class Nic(_Registers):
-    """A controller after a power-up, with so many virtual functions (63 at most), room for so many frames that arrived
-    and weren't written yet (1 to 4,096), and so many blocks of packet memory (1 to 65,536), none of them lent.
-    TooManyVfs, BadFifo, BadBlocks, OutOfMemory, LibraryMissing. It ends by `close`, or at the end of a `with`."""
+    """A controller as after power-up, with `vfs` virtual functions (63 at most), room for `fifo` frames that wait to be
+    received (1 to 4,096), and `blocks` blocks of packet memory (1 to 65,536), none of them lent. It ends by `close`, or
+    at the end of a `with`. TooManyVfs, BadFifo, BadBlocks, OutOfMemory, LibraryMissing."""
 
     def __init__(
         self, vfs: int = 0, fifo: int = 64, blocks: int = 256, *, library: str | os.PathLike[str] | None = None
@@ -611,13 +612,13 @@ class Nic(_Registers):
     # --- snapshots ---
 
     def snapshot(self) -> Snapshot:
-        """Keeps the controller as it is: registers, lent blocks with their bytes, frames that wait, are staged or went
-        out, the link and the EEPROM's image. It stays as it is. OutOfMemory."""
+        """Saves the controller: registers, lent blocks with their bytes, frames that wait, are staged or went out, the
+        link and the EEPROM's image. The controller doesn't change. OutOfMemory."""
         return Snapshot(self)
 
     def restore(self, kept: Snapshot) -> None:
-        """Makes the controller what was kept of it or of another one, as often as it is wanted. OutOfMemory, and
-        Closed where the snapshot was dropped; then the controller is as it was."""
+        """Restores a snapshot of this controller or of another one, as often as you like. OutOfMemory, and Closed if
+        the snapshot was dropped; then the controller is unchanged."""
         if kept._kept is None:
             raise Closed("the snapshot was dropped")
         if kept._library is not self._library:
@@ -646,13 +647,13 @@ class Nic(_Registers):
         return None if stray else word
 
     def vf(self, number: int) -> Function:
-        """A virtual function: `nic.vf(2)["VTEIMS"]`. Its registers read as 0xFFFFFFFF, stray, where there is none."""
+        """A virtual function: `nic.vf(2)["VTEIMS"]`. If there is none its registers are stray: 0xFFFFFFFF."""
         return Function(self, _whole(number, 8, "virtual function"))
 
     # --- packet memory ---
 
     def lend(self, *blocks: int) -> None:
-        """Lends these blocks, all zero; without any all that aren't lent yet. NoBlock at the first that can't be."""
+        """Lends these blocks, all zero; without arguments all that aren't lent yet. NoBlock at the first that can't."""
         for block in blocks:
             self._ask("nic_lend", _whole(block, 32, "block"))
         if not blocks:
@@ -672,7 +673,7 @@ class Nic(_Registers):
         return event if isinstance(event, Dropped) else None
 
     def next_out(self) -> int:
-        """How many bytes the frame has that `collect` would give; 0 without one."""
+        """The length of the frame that `collect` would give; 0 if there is none."""
         return self._call("nic_next_out")
 
     def collect(self) -> Frame | None:
@@ -689,13 +690,13 @@ class Nic(_Registers):
         return Frame(told.queue, self._room.raw[: told.len])
 
     def link(self, up: bool) -> bool:
-        """The link goes up or down; False where it was so already."""
+        """The link goes up or down; False if it was so already."""
         return self._call("nic_link", bool(up)) == _DONE
 
     # --- steps ---
 
     def _event(self, call: str, *words: object) -> Event | None:
-        """What an event tells; None where it was idle."""
+        """What an event reports; None if it was idle."""
         told = self._told
         status = self._call(call, *words, ctypes.byref(told))
         if status == _IDLE:
@@ -708,7 +709,7 @@ class Nic(_Registers):
         return _TELLERS[status](told)
 
     def rx_step(self) -> Wrote | Dropped | Fault | None:
-        """Writes one descriptor's worth of the frame that waits longest."""
+        """Writes one buffer's worth of the frame that waits longest."""
         return self._event("nic_rx_step")
 
     def tx_step(self, queue: int) -> Advanced | Sent | Fault | None:
@@ -716,13 +717,13 @@ class Nic(_Registers):
         return self._event("nic_tx_step", _whole(queue, 16, "queue"))
 
     def queue_step(self, side: str, queue: int) -> bool:
-        """Makes a side of a queue, `rx` or `tx`, what RXDCTL or TXDCTL bit 25 was written. NoQueue."""
+        """Enables or disables a side of a queue, `rx` or `tx`, as RXDCTL or TXDCTL bit 25 asks. NoQueue."""
         if side not in ("rx", "tx"):
             raise ValueError(f"a queue has the sides rx and tx, and not {side!r}")
         return self._event("nic_queue_step", side == "tx", _whole(queue, 16, "queue")) is not None
 
     def eeprom_step(self) -> bool:
-        """The EEPROM gives the word that EERD asks for; False where it asks for none."""
+        """The EEPROM answers EERD; False if no read was started."""
         return self._event("nic_eeprom_step") is not None
 
     def int_step(self, function: int | None = None) -> Message | None:
@@ -751,7 +752,7 @@ class Nic(_Registers):
     # --- the EEPROM ---
 
     def install_image(self, image: bytes) -> None:
-        """Puts an EEPROM image in, as `nicbench eeprom` makes it. ImageRefused, OutOfMemory."""
+        """Installs an EEPROM image, as `nicbench eeprom` makes it. ImageRefused, OutOfMemory."""
         given = bytes(image)
         status = self._call("nic_install_image", given, len(given))
         if status in _IMAGE:
@@ -760,7 +761,7 @@ class Nic(_Registers):
             raise _refused(status, "install_image")
 
     def install_text(self, text: str) -> None:
-        """Puts in the EEPROM image that a text means. TextRefused, OutOfMemory."""
+        """Installs the EEPROM image of a text. TextRefused, OutOfMemory."""
         given, line = text.encode(), ctypes.c_uint64()
         status = self._call("nic_install_text", given, len(given), ctypes.byref(line))
         if status in _TEXT:

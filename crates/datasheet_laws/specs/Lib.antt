@@ -1,4 +1,6 @@
 pub mod Accesses
+pub mod Choice
+pub mod Filter
 pub mod Mailbox
 pub mod Offsets
 pub mod Table

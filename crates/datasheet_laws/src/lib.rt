@@ -5,6 +5,8 @@
 //! still be proved where it stands; it breaks a law here.
 #![tactic(auto)]
 
+ghost use Rattle.datasheet_laws.specs.Choice.{TypesAreChosen, QueuesAreChosen, ResetsAreAsked};
+ghost use Rattle.datasheet_laws.specs.Filter.{FramesAreLetIn, PoolsAreChosen};
 ghost use Rattle.datasheet_laws.specs.Mailbox.{MailboxesShake, OnesAreCleared, FunctionsRaise, PhysicalRaises};
 ghost use Rattle.datasheet_laws.specs.Offsets.{OffsetsAreListed};
 ghost use Rattle.datasheet_laws.specs.Table.{RegistersAreListed, HasAliases, HasLowViews};
@@ -42,4 +44,40 @@ pub fn ones_are_cleared()
 pub fn mailboxes_raise_causes()
     ensures physical { FunctionsRaise }
     ensures function { PhysicalRaises }
+{}
+
+/// A frame to one station is let in exactly where bit 9 of FCTRL, at 0x05080, is 1 or one of the 128 addresses is its
+/// destination, byte by byte: the first in bits 7 to 0 of 0x0A200 + 8i, the fifth in bits 7 to 0 of 0x0A204 + 8i, whose
+/// bit 31 says that it is valid. One to several is by bit 8, an address, or MTA, from 0x05200 on, where bit 2 of
+/// MCSTCTRL, at 0x05090, is 1; one to all by bit 10 or bit 8.
+pub fn frames_are_let_in()
+    ensures { FramesAreLetIn }
+{}
+
+/// VT_CTL, at 0x051B0, parts frames among pools by bit 0. A frame's pool is the lowest of the first address that is its
+/// destination: of address i pools 0 to 31 are the bits of 0x0A600 + 8i, pools 32 to 63 those of the next word. A frame
+/// without an address is for the pool in bits 12 to 7 of VT_CTL, or for none with bit 29. A pool takes frames by its bit
+/// of 0x051E0 or of the next word.
+pub fn pools_are_chosen()
+    ensures { PoolsAreChosen }
+{}
+
+/// Codes 1, 0xA and 0xB of MRQC bits 3 to 0 hash, and no other does: by bit 16 TCP over IPv4, type 1; by 22 UDP over
+/// IPv4, type 7; by 17 IPv4 by its addresses, type 2; by 21 TCP over IPv6, type 3; by 23 UDP over IPv6, type 8; by 20
+/// IPv6 by its addresses, type 5; else type 0.
+pub fn types_are_chosen()
+    ensures { TypesAreChosen }
+{}
+
+/// The queue of a frame, by MRQC bits 3 to 0, at 0x05818, and GCR_EXT bits 1 to 0, at 0x11050; the entry of RETA, from
+/// 0x05C00 on, four in each word and the first in bits 3 to 0; and the hash, which RXCSUM bit 13, at 0x05000, has
+/// descriptors tell where it is 1.
+pub fn queues_are_chosen()
+    ensures { QueuesAreChosen }
+{}
+
+/// A write of CTRL asks for a reset of the device with bit 3 or bit 26, one of PVFCTRL for a reset of its pool with bit
+/// 26, and no other write asks for one.
+pub fn resets_are_asked()
+    ensures { ResetsAreAsked }
 {}

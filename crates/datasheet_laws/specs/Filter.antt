@@ -1,0 +1,74 @@
+-- Which frames are let in, and for which pool, by the addresses and bits that a driver writes.
+use Rattle.std.specs.Prelude.{ℕ, ◌≡◌, ◌≢◌, ◌<◌, ◌+◌, ◌*◌, ◌/◌, ◌%◌, ◌⊎◌, ◌↔◌, true, false, List, slice_index, Some, None, Err}
+use Rattle.register_file.specs.Bits.{has_bit}
+use Rattle.register_file.specs.Registers.{Registers}
+use Rattle.rx_filter.specs.Laws.{vector_of}
+use Rattle.rx_filter.specs.Pools.{uses_pools, takes_frames, pool_of}
+use Rattle.rx_filter.specs.Sorting.{sorted}
+use Rattle.rx_filter.specs.declared.unwanted.Unwanted.TheVariants.{Filter}
+use Rattle.datasheet_laws.specs.Accesses.{word, holds}
+
+-- the words of an address: the first byte of the destination in bits 7 to 0 of the low word, the fourth in bits 31 to
+-- 24, the fifth in bits 7 to 0 of the high word, the sixth in bits 15 to 8, and bit 31 of that says that it is valid
+pub record IsAddress (low high : ℕ) (frame : List ℕ) : Type 0 where
+  pub valid : has_bit 31 high ≡ true
+  pub first : low % 256 ≡ slice_index frame 0
+  pub second : low / 256 % 256 ≡ slice_index frame 1
+  pub third : low / 65536 % 256 ≡ slice_index frame 2
+  pub fourth : low / 16777216 ≡ slice_index frame 3
+  pub fifth : high % 256 ≡ slice_index frame 4
+  pub sixth : high / 256 % 256 ≡ slice_index frame 5
+
+-- RAL[i] and RAH[i] are a frame's destination; one of the 128 is
+abbrev pub IsAddressedBy : Registers → List ℕ → ℕ → Type 0
+IsAddressedBy r frame i = IsAddress (word r (0x0A200 + 8 * i)) (word r (0x0A204 + 8 * i)) frame
+
+abbrev pub IsAddressed : Registers → List ℕ → Type 0
+IsAddressed r frame = (i : ℕ) × (i < 128 × IsAddressedBy r frame i)
+
+-- MCSTCTRL has bit 2, and MTA the bit of the destination
+pub record IsListed (r : Registers) (frame : List ℕ) (vector : ℕ) : Type 0 where
+  pub counts : holds r 0x05090 2 ≡ true
+  pub bit : holds r (0x05200 + 4 * (vector / 32)) (vector % 32) ≡ true
+
+abbrev pub IsLetIn : Registers → List ℕ → Type 0
+IsLetIn r frame = sorted r frame ≢ Err Filter
+
+-- a frame to one station, to several, and to all: by FCTRL bits 9, 8 and 10, an address, or MTA
+pub record LetsIn (r : Registers) (frame : List ℕ) : Type 0 where
+  pub one : slice_index frame 0 % 2 ≡ 0 →
+      IsLetIn r frame ↔ ((holds r 0x05080 9 ≡ true) ⊎ IsAddressed r frame)
+  pub several : slice_index frame 0 % 2 ≡ 1 → ¬ ((k : ℕ) → k < 6 → slice_index frame k ≡ 0xFF) →
+      IsLetIn r frame
+      ↔ ((holds r 0x05080 8 ≡ true)
+      ⊎ (IsAddressed r frame ⊎ IsListed r frame (vector_of (word r 0x05090 % 4) frame)))
+  pub all : ((k : ℕ) → k < 6 → slice_index frame k ≡ 0xFF) →
+      IsLetIn r frame ↔ ((holds r 0x05080 10 ≡ true) ⊎ (holds r 0x05080 8 ≡ true))
+
+abbrev pub FramesAreLetIn : Type 0
+FramesAreLetIn = (r : Registers) (frame : List ℕ) → ((k : ℕ) → slice_index frame k < 256) → LetsIn r frame
+
+-- of the addresses that are a frame's destination the first, and of those of its pools the lowest: MPSAR[2i] has pools 0
+-- to 31, MPSAR[2i + 1] pools 32 to 63
+abbrev pub has_pool : Registers → (i pool : ℕ) → Type 0
+has_pool r i pool = holds r (0x0A600 + 4 * (2 * i + pool / 32)) (pool % 32) ≡ true
+
+pub record IsChosen (r : Registers) (frame : List ℕ) (i pool : ℕ) : Type 0 where
+  pub within : i < 128
+  pub addressed : IsAddressedBy r frame i
+  pub first : (lower : ℕ) → lower < i → ¬ IsAddressedBy r frame lower
+  pub pools : pool < 64
+  pub selected : has_pool r i pool
+  pub lowest : (lower : ℕ) → lower < pool → ¬ has_pool r i lower
+
+-- VT_CTL bit 0 parts frames among pools; a frame without a pool of its own is for that of bits 12 to 7, or with bit 29
+-- for none; VFRE says which pools take frames
+pub record ChoosesPools (r : Registers) (frame : List ℕ) : Type 0 where
+  pub parts : uses_pools r ≡ holds r 0x051B0 0
+  pub matched : (i pool : ℕ) → IsChosen r frame i pool → pool_of r frame ≡ Some pool
+  pub default : ¬ IsAddressed r frame → holds r 0x051B0 29 ≡ false → pool_of r frame ≡ Some (word r 0x051B0 / 128 % 64)
+  pub none : ¬ IsAddressed r frame → holds r 0x051B0 29 ≡ true → pool_of r frame ≡ None
+  pub takes : (pool : ℕ) → pool < 64 → takes_frames r pool ≡ holds r (0x051E0 + 4 * (pool / 32)) (pool % 32)
+
+abbrev pub PoolsAreChosen : Type 0
+PoolsAreChosen = (r : Registers) (frame : List ℕ) → ((k : ℕ) → slice_index frame k < 256) → ChoosesPools r frame

@@ -3,8 +3,9 @@
 
    REFUSE_GROWTH, REFUSE_THREAD, FAIL_IO and SHORT_IO are numbers, counted from 1. Where REFUSE_WITHIN is set, growths
    count only behind a line `call` and before the line that follows it, on standard output. At the end a line goes to
-   the file descriptor REFUSE_TELL: how many growths, threads, reads and writes there were, whether one was refused, and
-   how many blocks of memory weren't given back. */
+   the file descriptor REFUSE_TELL: how many growths, threads, reads and writes there were, whether one was refused, how
+   many blocks of memory weren't given back, and which growth was the last before the first thread, which is the
+   thread's own. */
 #define _GNU_SOURCE
 #include <dlfcn.h>
 #include <errno.h>
@@ -20,6 +21,7 @@ extern void *__libc_malloc(size_t), *__libc_calloc(size_t, size_t), *__libc_real
 extern void __libc_free(void *);
 
 static atomic_long growths, threads, transfers, refused, held;
+static long of_thread;
 static long refuse_growth, refuse_thread, fail_io, short_io;
 static int within, tell = -1, ready;
 static atomic_int counting;
@@ -42,8 +44,9 @@ __attribute__((constructor)) static void begin(void) {
 
 __attribute__((destructor)) static void finish(void) {
     char line[200];
-    int length = snprintf(line, sizeof line, "growths %ld threads %ld transfers %ld refused %ld held %ld\n", growths,
-                          threads, transfers, refused, held);
+    int length = snprintf(line, sizeof line,
+                          "growths %ld threads %ld transfers %ld refused %ld held %ld of_thread %ld\n", growths,
+                          threads, transfers, refused, held, of_thread);
     counting = 0;
     if (tell >= 0)
         syscall(SYS_write, tell, line, length);
@@ -97,6 +100,8 @@ int pthread_create(pthread_t *thread, const pthread_attr_t *how, void *(*start)(
     static int (*real)(pthread_t *, const pthread_attr_t *, void *(*)(void *), void *);
     if (!real)
         *(void **)&real = dlsym(RTLD_NEXT, "pthread_create");
+    if (!threads)
+        of_thread = growths;
     if (++threads == refuse_thread) {
         refused++;
         return EAGAIN;

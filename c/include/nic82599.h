@@ -12,8 +12,9 @@
    so each may have its own thread. No call waits, none calls back, and none may be made in a signal handler.
 
    Pointers: none may be null, also not for a buffer whose length is 0. Each points to what its type says, a buffer to
-   as many bytes or items as the length after it says, and they don't overlap. Every other argument may have any value:
-   the call checks it, and returns a status. */
+   as many bytes or items as the length after it says, and they don't overlap. The controller that a call is given must
+   be open, and the snapshot kept: only nic_close and nic_drop_snapshot take one whose own pointer is null. Every other
+   argument may have any value: the call checks it, and returns a status. */
 #ifndef NIC82599_H
 #define NIC82599_H
 
@@ -57,7 +58,8 @@ enum nic_status {
     NIC_NOT_LENT = 16, /* a block of this number, or of one of these bus addresses, isn't lent */
     NIC_NO_QUEUE = 18, /* there are 128 queues */
     NIC_NO_GROUP = 19, /* there is no such virtual function, or the mode has no pool for it */
-    /* refusals: nothing changed, not even what the pointers point to, except that *count and *line are 0 */
+    /* refusals: nothing changed, not even what the pointers point to, except that *count and *line are 0. Two calls stop
+       in the middle and keep what they did: nic_settle with MORE and OUT_OF_MEMORY, and nic_lend_all with OUT_OF_MEMORY */
     NIC_OUT_OF_MEMORY = 32,
     NIC_NO_ROOM = 33,      /* nic_collect: the buffer is too small, and the frame stays; nic_hash: a long input */
     NIC_TOO_MANY_VFS = 34, /* nic_new: above 63 */
@@ -239,7 +241,8 @@ uint8_t nic_int_step(nic *n, uint8_t group, nic_told *told);
    enable, then its transmit enable; the EEPROM; one transmit step of each such queue; one receive step; one message of
    each group. What happened is in told[0 .. *count), each with its `status`, `step` and `of`. DONE when a round did
    nothing; MORE if the array was full before that, at once if `length` is 0: another call begins a new round;
-   OUT_OF_MEMORY at a transmit step that found none; NO_QUEUE if `queues` is above 128. */
+   OUT_OF_MEMORY before a transmit step that found none: what happened before it is reported; NO_QUEUE if `queues` is
+   above 128. */
 uint8_t nic_settle(nic *n, uint16_t queues, nic_told *told, size_t length, size_t *count);
 
 /* --- the EEPROM --- */

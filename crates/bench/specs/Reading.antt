@@ -1,12 +1,13 @@
 -- What is read.
-use Rattle.std.specs.Prelude.{◌≡◌, ◌⊎◌, ℕ, List, Result, Ok, Err, codes, length, nat_lt, true, if◌then◌else◌}
+use Rattle.std.specs.Prelude.{◌≡◌, ◌≤◌, ◌⊎◌, ℕ, List, Option, IfSome, Result, Ok, Err, codes, length, nat_lt, true, if◌then◌else◌}
 use Rattle.std.specs.Str.{is_utf8}
 use Rattle.bench.specs.Answer.{Answer, refused_as}
 use Rattle.bench.specs.declared.input.Input.{Input}
 
--- a read failed, or a million reads came to no end
-abbrev pub CouldNotBeRead : {R : Type 0} → Input R → Type 0
-CouldNotBeRead input = (input.has_failed ≡ true) ⊎ (input.reads ≡ 1000000)
+-- a read failed; or a million reads came to no end, each of which gave a byte, so the reader had as many
+abbrev pub CouldNotBeRead : {R : Type 0} → Option (List ℕ) → Input R → Type 0
+CouldNotBeRead remaining input =
+    (input.has_failed ≡ true) ⊎ ((input.reads ≡ 1000000) × IfSome remaining (λ bytes. 1000000 ≤ length bytes))
 
 -- the bytes of an input, where there are 8,388,608 at most
 abbrev pub bytes_in : List ℕ → Result (List ℕ) Answer

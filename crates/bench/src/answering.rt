@@ -88,7 +88,7 @@ pub fn answer<R: Read, W: Write>(
     ensures answer { AnswersRequest request (R.remaining input.old.reader)
         (W.contents output.old.writer) (W.contents output.new.writer) result }
     ensures unread { result ≡ Err Failure.Read
-        → CouldNotBeRead input.new × (output.new ≡ output.old) }
+        → CouldNotBeRead (R.remaining input.old.reader) input.new × (output.new ≡ output.old) }
     ensures unwritten { result ≡ Err Failure.Write → output.new.has_failed ≡ true }
 {
     match read_input(alloc, input) {

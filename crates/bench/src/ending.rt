@@ -70,7 +70,7 @@ fn end_request<R: Read, W: Write>(
     request: Request,
 ) -> Outcome
     requires { output.old.has_failed ≡ false }
-    ensures { EndsAs request (R.remaining input.old.reader) (CouldNotBeRead input.new)
+    ensures { EndsAs request (R.remaining input.old.reader) (CouldNotBeRead (R.remaining input.old.reader) input.new)
         (W.contents output.old.writer) (W.contents output.new.writer) (IsUnwritten output.new) result }
 {
     match answer(alloc, input, output, request) {
@@ -119,7 +119,7 @@ pub fn bench<'a, R: Read, W: Write, S: AsStr>(
 ) -> Outcome
     requires { output.old.has_failed ≡ false }
     ensures asked { (request : Request) → Asks (map S.text words.entry.now) (Asked.Input request)
-        → EndsAs request (R.remaining input.old.reader) (CouldNotBeRead input.new)
+        → EndsAs request (R.remaining input.old.reader) (CouldNotBeRead (R.remaining input.old.reader) input.new)
         (W.contents output.old.writer) (W.contents output.new.writer) (IsUnwritten output.new)
         result }
     ensures threads { (options : ThreadsOptions) → Asks (map S.text words.entry.now) (Asked.Threads options)

@@ -47,7 +47,8 @@ pub fn read_input<R: Read>(alloc: Global, input: &mut Input<R>) -> Result<Vec<u8
     ensures fits { IfOk result (λ v. vec_len v ≤ BYTES) }
     ensures too_long { result ≡ Err InputFault.TooLong
         → IfSome (R.remaining input.old.reader) (λ bytes. BYTES < length bytes) }
-    ensures unread { result ≡ Err InputFault.Unread → CouldNotBeRead input.new }
+    ensures unread { result ≡ Err InputFault.Unread
+        → CouldNotBeRead (R.remaining input.old.reader) input.new }
 {
     let mut buffer = buffer(alloc)?;
     let mut bytes = Vec::new(alloc);

@@ -1,0 +1,259 @@
+/* Who may act, and the steps of the device. */
+#include <stdio.h>
+
+#include "engine.h"
+
+static void add(uint8_t kind, uint16_t of, int on)
+{
+    struct actor *actor = &nicxi.actors[nicxi.count++];
+    actor->kind = kind;
+    actor->idle = nicxi.is_idle && kind >= BY_RX && kind <= BY_EEPROM;
+    actor->of = of;
+    actor->on = on;
+}
+
+static void add_starts(uint16_t handler)
+{
+    int where = nicxi.threads[handler].where;
+    if (where == NICX_ANYWHERE)
+        for (uint16_t task = 0; task < nicxi.tasks; task++)
+            add(BY_START, handler, task);
+    add(BY_START, handler, where >= 0 ? where : -1);
+}
+
+void nicxi_list_actors(void)
+{
+    const nicx_scenario *scenario = nicxi.scenario;
+    nicxi.count = 0;
+    for (uint16_t task = 0; task < nicxi.tasks; task++)
+        add(BY_THREAD, task, -1);
+    for (uint16_t handler = 0; handler < nicxi.handlers; handler++)
+        add(BY_THREAD, (uint16_t)(NICX_TASKS + handler), -1);
+    for (uint16_t handler = 0; handler < nicxi.handlers; handler++)
+        add_starts((uint16_t)(NICX_TASKS + handler));
+    add(BY_WIRE, 0, -1);
+    add(BY_LINK, 0, -1);
+    add(BY_RX, 0, -1);
+    for (uint16_t queue = 0; queue < scenario->queues; queue++)
+        add(BY_TX, queue, -1);
+    for (uint16_t group = 0; group <= scenario->vfs; group++)
+        add(BY_INT, group, -1);
+    for (uint16_t queue = 0; queue < scenario->queues; queue++) {
+        add(BY_RX_ENABLE, queue, -1);
+        add(BY_TX_ENABLE, queue, -1);
+    }
+    add(BY_EEPROM, 0, -1);
+}
+
+static bool can_go_on(const struct thread *thread)
+{
+    if (thread->interrupted_by >= 0)
+        return false;
+    switch (thread->state) {
+    case READY: return true;
+    case WAITING: return nicxi_others_acted(thread);
+    case PAUSED: return nicxi_others_acted(thread);
+    case UNTIL: return thread->condition(thread->condition_argument);
+    case LOCKED: return nicxi_lock_is_free(thread->lock);
+    default: return false;
+    }
+}
+
+/* A task that has ended has nothing to interrupt: its handlers run all the same. */
+static bool can_start(const struct thread *handler, int on)
+{
+    if (!handler->pending || handler->state != OFF)
+        return false;
+    if (on < 0)
+        return true;
+    const struct thread *task = &nicxi.threads[on];
+    if (task->state == OFF)
+        return handler->where >= 0;
+    return task->interrupted_by < 0 && !task->masked;
+}
+
+bool nicxi_can_act(const struct actor *actor)
+{
+    switch (actor->kind) {
+    case BY_THREAD: return can_go_on(&nicxi.threads[actor->of]);
+    case BY_START: return can_start(&nicxi.threads[actor->of], actor->on);
+    case BY_WIRE: return nicxi.next_frame < nicxi.frame_count;
+    case BY_LINK: return nicxi.next_link < nicxi.link_count;
+    default: return !actor->idle;
+    }
+}
+
+/* --- what a step makes possible: more is harmless, and less is seen when a schedule comes to rest --- */
+
+enum {
+    WAKES_RX = 1 << BY_RX,
+    WAKES_TX = 1 << BY_TX,
+    WAKES_INT = 1 << BY_INT,
+    WAKES_EEPROM = 1 << BY_EEPROM,
+    WAKES_RECEIVE = WAKES_RX | 1 << BY_RX_ENABLE,
+    WAKES_TRANSMIT = WAKES_TX | 1 << BY_TX_ENABLE,
+    WAKES_ALL = WAKES_RECEIVE | WAKES_TRANSMIT | WAKES_INT | WAKES_EEPROM
+};
+
+/* The registers of causes, masks and vectors; of receive and transmit queues; EERD. */
+static unsigned woken_by_write(uint32_t address)
+{
+    if (address >= 0x00800 && address < 0x01000)
+        return WAKES_INT;
+    if ((address >= 0x01000 && address < 0x02000) || (address >= 0x0D000 && address < 0x0E000))
+        return WAKES_RECEIVE;
+    if (address >= 0x06000 && address < 0x08000)
+        return WAKES_TRANSMIT;
+    return address == NIC_EERD ? WAKES_EEPROM : WAKES_ALL;
+}
+
+static unsigned woken_by_vf_write(uint32_t offset)
+{
+    if (offset >= 0x100 && offset < 0x300)
+        return WAKES_INT;
+    if (offset >= 0x1000 && offset < 0x2000)
+        return WAKES_RECEIVE;
+    return offset >= 0x2000 && offset < 0x3000 ? WAKES_TRANSMIT : WAKES_ALL;
+}
+
+static unsigned woken_by(const struct step *step)
+{
+    switch (step->kind) {
+    case STEP_WRITE: return woken_by_write(step->address);
+    case STEP_VF_WRITE: return woken_by_vf_write(step->address);
+    case STEP_ARRIVE: return WAKES_RX | WAKES_INT;
+    case STEP_READ:
+    case STEP_VF_READ:
+    case STEP_LINK:
+    case STEP_TX:
+    case STEP_RX: return WAKES_INT;
+    case STEP_RX_ENABLE: return WAKES_RX;
+    case STEP_TX_ENABLE: return WAKES_TX;
+    default: return 0;
+    }
+}
+
+void nicxi_wake(const struct step *step)
+{
+    unsigned woken = woken_by(step);
+    nicxi.is_changed = true;
+    for (uint16_t k = 0; woken && k < nicxi.count; k++)
+        if (woken >> nicxi.actors[k].kind & 1)
+            nicxi.actors[k].idle = false;
+}
+
+/* --- the steps --- */
+
+static void arrive(struct step *step)
+{
+    const struct frame *frame = &nicxi.frames[nicxi.next_frame];
+    step->kind = STEP_ARRIVE;
+    step->of = nicxi.next_frame++;
+    step->status = nic_arrive(&nicxi.device, frame->bytes, frame->length, &step->told);
+}
+
+static void change_link(struct step *step)
+{
+    step->kind = STEP_LINK;
+    step->of = nicxi.next_link;
+    step->word = nicxi.links[nicxi.next_link++];
+    step->status = nic_link(&nicxi.device, step->word != 0);
+}
+
+static void message(const struct actor *actor, struct step *step)
+{
+    step->kind = STEP_INT;
+    step->status = nic_int_step(&nicxi.device, (uint8_t)actor->of, &step->told);
+    if (step->status != NIC_MESSAGE)
+        return;
+    for (uint16_t k = NICX_TASKS; k < NICX_TASKS + nicxi.handlers; k++) {
+        struct thread *handler = &nicxi.threads[k];
+        if (handler->group == actor->of && handler->vector == step->told.vector)
+            handler->pending = true;
+    }
+}
+
+static void judge(const struct step *step)
+{
+    if (step->status == NIC_OUT_OF_MEMORY)
+        nicxi_failed(NICX_MISUSE, "the controller found no memory");
+    if (step->status != NIC_FAULT || (nicxi.scenario->allowed & NICX_FAULTS))
+        return;
+    if (step->told.why == NIC_FAULT_NOT_LENT)
+        nicxi_failed(NICX_FAULT, "fault of queue %u: 0x%llx isn't lent", step->told.queue,
+                     (unsigned long long)step->told.bus);
+    else
+        nicxi_failed(NICX_FAULT, "fault of queue %u: %s", step->told.queue, nic_fault_name(step->told.why));
+}
+
+bool nicxi_device_step(struct actor *actor, struct step *step)
+{
+    nic *device = &nicxi.device;
+    step->of = actor->of;
+    switch (actor->kind) {
+    case BY_RX:
+        step->kind = STEP_RX;
+        step->status = nic_rx_step(device, &step->told);
+        break;
+    case BY_TX:
+        step->kind = STEP_TX;
+        step->status = nic_tx_step(device, actor->of, &step->told);
+        break;
+    case BY_RX_ENABLE:
+        step->kind = STEP_RX_ENABLE;
+        step->status = nic_queue_step(device, false, actor->of, &step->told);
+        break;
+    case BY_TX_ENABLE:
+        step->kind = STEP_TX_ENABLE;
+        step->status = nic_queue_step(device, true, actor->of, &step->told);
+        break;
+    case BY_INT: message(actor, step); break;
+    case BY_EEPROM:
+        step->kind = STEP_EEPROM;
+        step->status = nic_eeprom_step(device, &step->told);
+        break;
+    case BY_WIRE: arrive(step); return true;
+    default: change_link(step); return true;
+    }
+    judge(step);
+    return step->status != NIC_IDLE && step->status != NIC_NO_GROUP;
+}
+
+/* --- what they are called --- */
+
+static const char *start_name(const struct actor *actor, char *room, size_t size)
+{
+    const char *handler = nicxi.threads[actor->of].name;
+    if (actor->on < 0)
+        snprintf(room, size, "start %s beside", handler);
+    else
+        snprintf(room, size, "start %s on %s", handler, nicxi.threads[actor->on].name);
+    return room;
+}
+
+static const char *numbered(const char *word, unsigned number, char *room, size_t size)
+{
+    snprintf(room, size, "%s %u", word, number);
+    return room;
+}
+
+const char *nicx_actor_name(uint16_t number, char room[96])
+{
+    if (number >= nicxi.count)
+        return "nobody";
+    const struct actor *actor = &nicxi.actors[number];
+    switch (actor->kind) {
+    case BY_THREAD:
+        snprintf(room, 96, "%s %s", actor->of < NICX_TASKS ? "task" : "handler", nicxi.threads[actor->of].name);
+        return room;
+    case BY_START: return start_name(actor, room, 96);
+    case BY_RX: return "rx";
+    case BY_TX: return numbered("tx", actor->of, room, 96);
+    case BY_RX_ENABLE: return numbered("qstep rx", actor->of, room, 96);
+    case BY_TX_ENABLE: return numbered("qstep tx", actor->of, room, 96);
+    case BY_INT: return actor->of ? numbered("int", actor->of - 1u, room, 96) : "int pf";
+    case BY_EEPROM: return "eestep";
+    case BY_WIRE: return "arrive";
+    default: return "link";
+    }
+}

@@ -1,0 +1,202 @@
+/* What the engine's files share: the one scenario of the process, and the schedule that is being made. */
+#ifndef NICX_ENGINE_H
+#define NICX_ENGINE_H
+
+#include "fiber.h"
+#include "nic82599_explore.h"
+
+enum {
+    MOST_THREADS = NICX_TASKS + NICX_HANDLERS,
+    /* threads, starts of handlers, receive, transmit and enables of queues, messages, EEPROM, arrivals, the link */
+    MOST_ACTORS = MOST_THREADS + NICX_HANDLERS * (NICX_TASKS + 1) + 1 + 3 * 128 + 64 + 3,
+    MOST_POINTS = 1000000,
+    USUAL_POINTS = 2000,
+    USUAL_STACK = 65536,
+    MOST_FRAME = 16384,
+    NOBODY = 0xFFFF
+};
+
+/* What somebody did at a point. */
+enum step_kind {
+    STEP_NONE,
+    STEP_LOCAL, /* of the driver's own memory alone: a task begins, goes on after a wait, a lock, nicx_point */
+    STEP_READ,
+    STEP_WRITE,
+    STEP_VF_READ,
+    STEP_VF_WRITE,
+    STEP_PEEK,
+    STEP_POKE,
+    STEP_LEND,
+    STEP_TAKE,
+    STEP_START, /* a handler starts */
+    STEP_RX,
+    STEP_TX,
+    STEP_RX_ENABLE,
+    STEP_TX_ENABLE,
+    STEP_INT,
+    STEP_EEPROM,
+    STEP_ARRIVE,
+    STEP_LINK
+};
+
+struct step {
+    uint8_t kind;
+    uint8_t vf;
+    uint8_t status;
+    bool waits;       /* before or behind it the thread waits until another acts */
+    uint16_t of;      /* a queue, a group, a frame, a change of the link */
+    uint32_t address; /* of a register, among a function's own its offset; a block that is lent or taken */
+    uint32_t word;    /* read or written; of a wait, a lock, a start: enum local */
+    uint32_t length;  /* of a memory access */
+    uint64_t bus;
+    nic_told told;
+};
+
+/* Which step of the driver's own a STEP_LOCAL is. */
+enum local { LOCAL_BEGIN, LOCAL_POINT, LOCAL_WAIT, LOCAL_UNTIL, LOCAL_PAUSE, LOCAL_LOCK, LOCAL_UNLOCK };
+
+enum thread_state {
+    OFF,     /* a handler that doesn't run, a task that has ended */
+    READY,   /* it stands before its next access */
+    WAITING, /* until another acts */
+    PAUSED,  /* until another acts, or nobody can */
+    UNTIL,   /* until its condition holds */
+    LOCKED   /* until its lock is free */
+};
+
+/* Where a thread's stack is. */
+enum stack_state { NO_STACK, PARKED, BUSY };
+
+struct thread {
+    struct fiber fiber;
+    const char *name;
+    void (*function)(void *);
+    void *argument;
+    uint8_t state;
+    uint8_t stack;
+    bool is_service;
+    bool is_void;         /* since it waited it has changed nothing that can be seen */
+    uint64_t voided;      /* the changes there were as it last acted without one */
+    bool pending;         /* a handler that is to start */
+    int interrupted_by;   /* of a task: the handler thread that sits on it, or -1 */
+    int on;               /* of a handler: the task that it sits on, or -1 */
+    unsigned masked;
+    uint64_t own, seen;   /* acts of its own; acts of others as it last went on */
+    bool (*condition)(void *);
+    void *condition_argument;
+    nicx_mutex *lock;
+    struct step next;     /* before what it stands */
+    uint32_t polled[2];   /* the read that it made last, and what it gave */
+    uint32_t polls;       /* how often in a row */
+    uint16_t group;       /* of a handler */
+    uint8_t vector;
+    int where;
+};
+
+enum actor_kind {
+    BY_THREAD,
+    BY_START,
+    BY_RX,
+    BY_TX,
+    BY_RX_ENABLE,
+    BY_TX_ENABLE,
+    BY_INT,
+    BY_EEPROM,
+    BY_WIRE,
+    BY_LINK
+};
+
+struct actor {
+    uint8_t kind;
+    bool idle;   /* a step of the device that had nothing to do, and nothing came up since */
+    uint16_t of; /* a thread, a queue, a group */
+    int on;      /* of a start: the task, or -1 */
+};
+
+struct frame {
+    uint8_t *bytes;
+    size_t length, room;
+};
+
+enum phase { CLOSED, BRINGING_UP, BEGINNING, RUNNING, ENDING };
+
+/* Who hears of each event: for scripts and for what a replay prints. */
+typedef void nicxi_listener(void *argument, uint16_t actor, const struct step *step);
+
+struct engine {
+    const nicx_scenario *scenario;
+    nic device;
+    nic_kept kept;
+    bool is_copied; /* the device goes back by a copy of its memory, and not by nic_restore */
+    bool is_changed; /* since it was brought back */
+    bool is_idle;    /* as it was kept it has no step to make */
+    uint8_t phase;
+    uint32_t most_points;
+
+    struct fiber main;
+    struct thread *self; /* who runs; null for the engine itself */
+    struct thread threads[MOST_THREADS];
+    uint16_t tasks, handlers;
+    struct actor actors[MOST_ACTORS];
+    uint16_t count;
+    struct frame frames[NICX_FRAMES];
+    uint16_t frame_count, next_frame;
+    bool links[NICX_FRAMES];
+    uint16_t link_count, next_link;
+
+    uint64_t epoch; /* the schedule's number, for locks */
+    uint64_t acts, changes;
+    const nicx_chooser *chooser;
+    uint16_t *schedule; /* who acted, point by point */
+    struct step *steps; /* what they did; null where nobody asks for it */
+    volatile uint32_t *points;
+    uint32_t own_points;
+    uint32_t switches;
+    bool is_cut;        /* the chooser ended the schedule */
+    uint32_t late;      /* steps that were thought to be idle and weren't: none, or the rules of waking are wrong */
+    uint16_t can[MOST_ACTORS];
+    nicx_result result;
+    nicxi_listener *listener;
+    void *listener_argument;
+};
+
+extern struct engine nicxi;
+
+/* The words of a failure; the first one stays. */
+void nicxi_failed(uint8_t outcome, const char *form, ...);
+
+/* Somebody else may act, until the thread that runs is chosen. */
+void nicxi_next(struct thread *self);
+
+/* A thread was chosen, and goes on. */
+void nicxi_went_on(struct thread *self);
+/* A step was made: kept, and told to whoever listens. */
+void nicxi_told(const struct step *step);
+
+/* Lists the actors of a schedule, once its tasks and handlers are named. */
+void nicxi_list_actors(void);
+/* Whether an actor may act, as far as is known without trying. */
+bool nicxi_can_act(const struct actor *actor);
+/* Makes a step of the device or the link: false where there was nothing to do. */
+bool nicxi_device_step(struct actor *actor, struct step *step);
+/* After this step, these steps of the device may have something to do, and threads that wait look again. */
+void nicxi_wake(const struct step *step);
+
+/* Threads. */
+void nicxi_thread_resume(struct thread *from, struct thread *to);
+bool nicxi_thread_prepare(struct thread *thread);
+void nicxi_threads_close(void);
+bool nicxi_lock_is_free(const nicx_mutex *lock);
+/* Whether somebody else acted since the thread last went on. */
+bool nicxi_others_acted(const struct thread *thread);
+
+/* The device, kept and brought back. */
+const char *nicxi_keep(void);
+void nicxi_back(void);
+
+static inline bool nicxi_is_device_step(uint8_t kind)
+{
+    return kind >= STEP_RX;
+}
+
+#endif

@@ -1,0 +1,304 @@
+#include "exhaustive.h"
+
+#include <stdlib.h>
+#include <string.h>
+
+#include "independent.h"
+#include "options.h"
+
+/* A step that was made at a point, and all that follows it there was searched. */
+struct asleep {
+    uint16_t actor;
+    bool goes_on; /* its actor could go on behind it */
+    uint32_t left; /* preemptions that were left behind it */
+    struct step step;
+};
+
+/* A point of the schedule that is searched. `can` and `asleep` begin at places in lists of all points. */
+struct node {
+    uint32_t can, count;
+    uint32_t at;      /* which is tried; `count` where none is left */
+    uint32_t left;    /* preemptions that are left before it */
+    uint32_t asleep, inherited, asleep_count;
+    bool is_current;  /* the first of those that can act is the one that acted last */
+};
+
+struct exhaustive {
+    uint32_t preemptions;
+    bool sleeps, is_first, is_strange;
+    struct parts *parts;
+    uint64_t mine, seen, part;
+    struct node *nodes;
+    uint32_t depth;     /* how many nodes there are */
+    uint32_t root;      /* of them, how many have the first schedule's choice */
+    uint32_t asked;     /* the point that was asked for last */
+    uint16_t *can;
+    uint32_t can_count, can_room;
+    struct asleep *asleep;
+    uint32_t asleep_count, asleep_room;
+};
+
+struct exhaustive *nicxi_exhaustive(uint32_t preemptions, bool sleeps, struct parts *parts)
+{
+    struct exhaustive *it = calloc(1, sizeof *it);
+    if (!it)
+        return NULL;
+    it->preemptions = preemptions;
+    it->sleeps = sleeps;
+    it->parts = parts;
+    it->is_first = true;
+    it->nodes = calloc((size_t)nicxi.most_points + 1, sizeof *it->nodes);
+    if (!nicxi.steps)
+        nicxi.steps = calloc((size_t)nicxi.most_points + 1, sizeof *nicxi.steps);
+    if (it->nodes && nicxi.steps)
+        return it;
+    nicxi_free_exhaustive(it);
+    return NULL;
+}
+
+void nicxi_free_exhaustive(struct exhaustive *it)
+{
+    if (!it)
+        return;
+    free(it->nodes);
+    free(it->can);
+    free(it->asleep);
+    free(it);
+}
+
+bool nicxi_exhaustive_is_strange(const struct exhaustive *it)
+{
+    return it->is_strange;
+}
+
+uint64_t nicxi_exhaustive_part(const struct exhaustive *it)
+{
+    return it->part;
+}
+
+/* --- lists that grow; without memory the search ends, as one of a driver that isn't the same each time --- */
+
+static bool add_can(struct exhaustive *it, const uint16_t *can, uint32_t count)
+{
+    if (it->can_count + count > it->can_room) {
+        uint32_t room = 2 * (it->can_count + count);
+        uint16_t *list = realloc(it->can, room * sizeof *list);
+        if (!list)
+            return false;
+        it->can = list;
+        it->can_room = room;
+    }
+    memcpy(it->can + it->can_count, can, count * sizeof *can);
+    it->can_count += count;
+    return true;
+}
+
+static bool add_asleep(struct exhaustive *it, const struct asleep *asleep)
+{
+    if (it->asleep_count == it->asleep_room) {
+        uint32_t room = 2 * it->asleep_room + 16;
+        struct asleep *list = realloc(it->asleep, room * sizeof *list);
+        if (!list)
+            return false;
+        it->asleep = list;
+        it->asleep_room = room;
+    }
+    it->asleep[it->asleep_count++] = *asleep;
+    return true;
+}
+
+/* --- a node --- */
+
+static uint32_t cost(const struct node *node, uint32_t k)
+{
+    return node->is_current && k != 0;
+}
+
+static uint32_t left_behind(const struct exhaustive *it, const struct node *node, uint32_t k)
+{
+    return it->preemptions == UNBOUNDED ? UNBOUNDED : node->left - cost(node, k);
+}
+
+/* What was searched from a point in the order z, t is all that the order t, z leads to: where z took no more
+   preemptions, and t behind it, than t does here. Else the bound may have cut it there. */
+static bool had_as_many(const struct exhaustive *it, const struct asleep *z, uint32_t left)
+{
+    return it->preemptions == UNBOUNDED || z->left >= left + z->goes_on;
+}
+
+static bool is_asleep(const struct exhaustive *it, const struct node *node, uint16_t actor)
+{
+    for (uint32_t k = 0; k < node->inherited; k++)
+        if (it->asleep[node->asleep + k].actor == actor)
+            return true;
+    return false;
+}
+
+static bool is_to_try(const struct exhaustive *it, const struct node *node, uint32_t k)
+{
+    if (it->preemptions != UNBOUNDED && cost(node, k) > node->left)
+        return false;
+    return !is_asleep(it, node, it->can[node->can + k]);
+}
+
+static void go_to(struct exhaustive *it, struct node *node, uint32_t k)
+{
+    while (k < node->count && !is_to_try(it, node, k))
+        k++;
+    node->at = k;
+}
+
+/* The steps that sleep behind a node's choice: those that slept before it and those that were tried there, where the
+   choice leaves them as they were. */
+static bool inherit(struct exhaustive *it, const struct node *above, struct node *node)
+{
+    const struct step *made = &nicxi.steps[above - it->nodes];
+    uint32_t left = left_behind(it, above, above->at);
+    for (uint32_t k = 0; it->sleeps && k < above->asleep_count; k++) {
+        struct asleep z = it->asleep[above->asleep + k];
+        bool is_new = k >= above->inherited;
+        if (z.actor == it->can[above->can + above->at] || (is_new && !had_as_many(it, &z, left)))
+            continue;
+        if (nicxi_are_independent(&z.step, made) && !add_asleep(it, &z))
+            return false;
+    }
+    node->inherited = node->asleep_count = it->asleep_count - node->asleep;
+    return true;
+}
+
+static struct node *add_node(struct exhaustive *it, const uint16_t *can, uint32_t count)
+{
+    struct node *node = &it->nodes[it->depth], *above = it->depth ? node - 1 : NULL;
+    memset(node, 0, sizeof *node);
+    node->can = it->can_count;
+    node->count = count;
+    node->left = above ? left_behind(it, above, above->at) : it->preemptions;
+    node->is_current = above && can[0] == it->can[above->can + above->at];
+    node->asleep = it->asleep_count;
+    if (!add_can(it, can, count) || (above && !inherit(it, above, node)))
+        return NULL;
+    it->depth++;
+    go_to(it, node, 0);
+    node[1].is_current = false;
+    return node;
+}
+
+static void drop_node(struct exhaustive *it)
+{
+    struct node *node = &it->nodes[--it->depth];
+    it->can_count = node->can;
+    it->asleep_count = node->asleep;
+    if (it->root > it->depth)
+        it->root = it->depth;
+}
+
+/* --- making a schedule --- */
+
+static uint32_t place_of(const uint16_t *can, uint32_t count, uint16_t actor)
+{
+    uint32_t k = 0;
+    while (k < count && can[k] != actor)
+        k++;
+    return k;
+}
+
+/* Whether this process searches the part that begins here. */
+static bool is_mine(struct exhaustive *it)
+{
+    if (it->seen++ != it->mine)
+        return false;
+    it->part = it->mine + 1;
+    it->mine = __sync_fetch_and_add(&it->parts->next, 1);
+    return true;
+}
+
+/* The next choice at the last node. At a point of the first schedule each choice is a part. */
+static bool advance(struct exhaustive *it, struct node *node)
+{
+    bool is_root = it->depth <= it->root;
+    do
+        go_to(it, node, node->at + 1);
+    while (node->at < node->count && is_root && !is_mine(it));
+    node[1].is_current = false;
+    return node->at < node->count;
+}
+
+/* A step of the device had nothing to do: another one is tried at the same point. */
+static void try_another(struct exhaustive *it, struct node *node)
+{
+    if (node->at == 0)
+        node->is_current = false;
+    advance(it, node);
+}
+
+static uint32_t choose(void *argument, const uint16_t *can, uint32_t count)
+{
+    struct exhaustive *it = argument;
+    uint32_t point = *nicxi.points;
+    struct node *node = &it->nodes[point];
+    bool again = it->asked == point + 1;
+    it->asked = point + 1;
+    if (point > it->depth || (again && point + 1 != it->depth)) {
+        it->is_strange = true;
+        return count;
+    }
+    if (point == it->depth)
+        node = add_node(it, can, count);
+    else if (again)
+        try_another(it, node);
+    if (!node || node->at == node->count)
+        return count;
+    uint32_t k = place_of(can, count, it->can[node->can + node->at]);
+    if (k == count)
+        it->is_strange = true;
+    return k;
+}
+
+nicx_chooser nicxi_exhaustive_chooser(struct exhaustive *it)
+{
+    nicx_chooser chooser = {choose, it};
+    it->asked = 0;
+    return chooser;
+}
+
+/* --- going to the next --- */
+
+void nicxi_exhaustive_made(struct exhaustive *it)
+{
+    if (it->is_first)
+        it->root = it->depth;
+    it->is_first = false;
+}
+
+/* The choice that was searched sleeps behind the others of its node. One that another process searched doesn't, since
+   what it did isn't known here. */
+static bool put_to_sleep(struct exhaustive *it, struct node *node)
+{
+    uint32_t depth = (uint32_t)(node - it->nodes);
+    struct asleep z;
+    z.actor = it->can[node->can + node->at];
+    z.left = left_behind(it, node, node->at);
+    z.goes_on = node[1].is_current;
+    z.step = nicxi.steps[depth];
+    it->asleep_count = node->asleep + node->asleep_count;
+    node->asleep_count++;
+    return add_asleep(it, &z);
+}
+
+bool nicxi_exhaustive_next(struct exhaustive *it)
+{
+    if (it->is_first) {
+        it->mine = __sync_fetch_and_add(&it->parts->next, 1);
+        return true;
+    }
+    while (it->depth && !it->is_strange) {
+        struct node *node = &it->nodes[it->depth - 1];
+        bool was_made = node->at < node->count;
+        if (was_made && it->sleeps && !put_to_sleep(it, node))
+            it->is_strange = true;
+        if (was_made && advance(it, node))
+            return true;
+        drop_node(it);
+    }
+    return false;
+}

@@ -1,0 +1,44 @@
+/* The files of a failure: its schedule, and the script of the device's side of it. */
+#ifndef NICX_FILES_H
+#define NICX_FILES_H
+
+#include <stdio.h>
+
+#include "engine.h"
+
+/* --- the schedule: a line a point --- */
+
+/* Where a failure comes from, for the comments on top. */
+struct origin {
+    const char *strategy;
+    uint64_t seed, run;
+    const nicx_result *result;
+};
+
+void nicxi_write_head(FILE *file, const struct origin *origin);
+/* A line, as it is told to a listener. */
+void nicxi_write_point(FILE *file, uint16_t actor, const struct step *step);
+
+struct schedule_file {
+    uint16_t *list;
+    uint32_t *lines; /* of each point, from 1 on */
+    uint32_t length;
+    uint32_t last; /* the last line */
+};
+
+/* Reads one: null, or "PATH:LINE: why", kept until the next call. The actors must be listed. */
+const char *nicxi_read_schedule(const char *path, struct schedule_file *file);
+void nicxi_free_schedule(struct schedule_file *file);
+
+/* --- the script --- */
+
+struct script {
+    FILE *file;
+    uint32_t instructions, strings;
+    const char *unfit; /* why there can be none, or null */
+};
+
+void nicxi_script_begin(struct script *script, FILE *file, const struct origin *origin);
+void nicxi_script_step(struct script *script, uint16_t actor, const struct step *step);
+
+#endif

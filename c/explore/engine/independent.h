@@ -1,0 +1,17 @@
+/* Which steps may change places. */
+#ifndef NICX_INDEPENDENT_H
+#define NICX_INDEPENDENT_H
+
+#include "engine.h"
+
+/* Two steps that can both be made, as each went from the same state: in both orders they answer the same and lead to
+   the same state. One of them at least is the device's or the link's. */
+bool nicxi_are_independent(const struct step *a, const struct step *b);
+
+/* The row of the table that says so, from 0 on, or -1; how many there are, and what a row's law is called. */
+int nicxi_row_of(const struct step *a, const struct step *b);
+int nicxi_rows(void);
+const char *nicxi_law(int row);
+const char *nicxi_row_name(int row);
+
+#endif

@@ -1,0 +1,228 @@
+/* A whole program: the search, and what is told of it. */
+#define _DEFAULT_SOURCE
+#include <inttypes.h>
+#include <stdlib.h>
+#include <string.h>
+#include <unistd.h>
+
+#include "files.h"
+#include "junit.h"
+#include "search.h"
+#include "words.h"
+
+enum { NOTHING = 0, FAILURE = 1, REFUSED = 2, MOST_PATH = 1024 };
+
+static int refuse(const nicx_scenario *scenario, const char *why)
+{
+    fprintf(stderr, "%s: %s\n", scenario->name ? scenario->name : "nicx", why);
+    return REFUSED;
+}
+
+/* --- one schedule, to the letter --- */
+
+static void print_point(void *argument, uint16_t actor, const struct step *step)
+{
+    uint32_t point = *nicxi.points;
+    if (nicxi.phase != RUNNING)
+        return;
+    fprintf(argument, "%4" PRIu32 "  ", point - 1);
+    nicxi_write_point(argument, actor, step);
+    fflush(argument);
+}
+
+/* Where the file doesn't fit: at a point of its own, at its end, or because all was over before. */
+static int unfit(const char *path, const struct schedule_file *file, const struct by_list *state, uint32_t points)
+{
+    char name[96];
+    if (state->is_unfit && state->unfit < file->length) {
+        fprintf(stderr, "%s:%u: \"%s\" can't act here\n", path, (unsigned)file->lines[state->unfit],
+                nicx_actor_name(file->list[state->unfit], name));
+        return REFUSED;
+    }
+    if (state->is_unfit) {
+        fprintf(stderr, "%s:%u: the schedule ends, and somebody can act\n", path, (unsigned)file->last);
+        return REFUSED;
+    }
+    if (points < file->length) {
+        fprintf(stderr, "%s:%u: all is over before this point\n", path, (unsigned)file->lines[points]);
+        return REFUSED;
+    }
+    return NOTHING;
+}
+
+static int replay(const char *path)
+{
+    struct schedule_file file;
+    struct by_list state;
+    nicx_result result;
+    const char *fault = nicxi_read_schedule(path, &file);
+    if (fault) {
+        fprintf(stderr, "%s\n", fault);
+        nicxi_free_schedule(&file);
+        return REFUSED;
+    }
+    nicx_chooser chooser = nicxi_by_list(&state, file.list, file.length, true);
+    nicxi.listener = print_point;
+    nicxi.listener_argument = stdout;
+    nicx_run(&chooser, &result);
+    nicxi.listener = NULL;
+    int status = unfit(path, &file, &state, result.points);
+    nicxi_free_schedule(&file);
+    if (status != NOTHING)
+        return status;
+    if (result.outcome == NICX_FINE)
+        printf("%s: fine\n", nicxi.scenario->name);
+    else
+        printf("%s: FAILED %s: %s\n", nicxi.scenario->name, nicxi_outcome_name(result.outcome), result.words);
+    return result.outcome == NICX_FINE ? NOTHING : FAILURE;
+}
+
+/* --- the files of a failure: made by its schedule once more, line by line, as the driver may crash --- */
+
+struct writing {
+    FILE *schedule;
+    struct script script;
+    const struct failure *failure;
+};
+
+static void write_step(void *argument, uint16_t actor, const struct step *step)
+{
+    struct writing *it = argument;
+    nicxi_script_step(&it->script, actor, step);
+    fflush(it->script.file);
+    if (nicxi.phase != RUNNING)
+        return;
+    nicxi_write_point(it->schedule, actor, step);
+    fflush(it->schedule);
+}
+
+/* The bring-up is told once more too: by another controller, from its beginning. */
+static void write_files(struct post *post, void *argument)
+{
+    struct writing *it = argument;
+    struct by_list state;
+    const nicx_scenario *scenario = nicxi.scenario;
+    nicx_close();
+    nicxi.listener = write_step;
+    nicxi.listener_argument = it;
+    if (nicx_open(scenario))
+        return;
+    free(nicxi.schedule);
+    nicxi_note_in(post);
+    nicx_chooser chooser = nicxi_by_list(&state, it->failure->schedule, it->failure->result.points, false);
+    nicx_run(&chooser, &post->result);
+    post->is_found = post->result.outcome != NICX_FINE;
+    if (it->script.unfit)
+        fprintf(stderr, "%s: no script: %s\n", scenario->name, it->script.unfit);
+}
+
+static FILE *open_file(const struct options *options, const char *ending, char path[MOST_PATH])
+{
+    snprintf(path, MOST_PATH, "%s/%s.%s", options->out, nicxi.scenario->name, ending);
+    FILE *file = fopen(path, "w");
+    if (!file)
+        fprintf(stderr, "%s: it can't be written\n", path);
+    return file;
+}
+
+static void keep(const struct options *options, const struct failure *failure, char schedule_path[MOST_PATH],
+                 char script_path[MOST_PATH])
+{
+    struct writing it = {NULL, {NULL, 0, 0, NULL}, failure};
+    struct origin origin = {nicxi_strategy_name(failure->strategy), options->seed, failure->run, &failure->result};
+    it.schedule = open_file(options, "schedule", schedule_path);
+    FILE *script = open_file(options, "nic", script_path);
+    struct post *post = nicxi_posts(1);
+    if (it.schedule && script && post) {
+        nicxi_write_head(it.schedule, &origin);
+        nicxi_script_begin(&it.script, script, &origin);
+        nicxi_do(post, options->hang, write_files, &it);
+    }
+    if (it.schedule)
+        fclose(it.schedule);
+    if (script)
+        fclose(script);
+    if (post)
+        nicxi_free_posts(post, 1);
+}
+
+/* --- what is told --- */
+
+static void tell_totals(const struct options *options, const struct totals *totals)
+{
+    double seconds = totals->seconds > 0 ? totals->seconds : 1e-9;
+    printf("%s: %" PRIu64 " schedules, %" PRIu64 " points, %.1f s (%.0f schedules a second), %s, seed %" PRIu64 "\n",
+           nicxi.scenario->name, totals->runs, totals->points, totals->seconds, (double)totals->runs / seconds,
+           nicxi_strategy_name(options->strategy), options->seed);
+    if (options->strategy != EXHAUSTIVE || !totals->is_whole)
+        return;
+    if (options->preemptions == UNBOUNDED)
+        printf("%s: these are all schedules\n", nicxi.scenario->name);
+    else
+        printf("%s: these are all schedules with at most %" PRIu32 " preemptions\n", nicxi.scenario->name,
+               options->preemptions);
+}
+
+static void tell_failure(const struct failure *failure, const nicx_result *found, uint32_t tries, const char *schedule,
+                         const char *script, const char *program)
+{
+    const char *name = nicxi.scenario->name;
+    printf("%s: FAILED %s: %s\n", name, nicxi_outcome_name(failure->result.outcome), failure->result.words);
+    printf("%s: found by %s in run %" PRIu64 ", %" PRIu32 " points and %" PRIu32 " switches", name,
+           nicxi_strategy_name(failure->strategy), failure->run, found->points, found->switches);
+    if (tries)
+        printf("; shrunk by %" PRIu32 " tries to %" PRIu32 " and %" PRIu32, tries, failure->result.points,
+               failure->result.switches);
+    printf("\n%s: the schedule is %s, the device's side of it %s\n", name, schedule, script);
+    printf("%s: again: %s --replay %s\n", name, program, schedule);
+}
+
+static int search(const struct options *options, const char *program)
+{
+    struct totals totals;
+    struct failure failure;
+    char schedule[MOST_PATH] = "", script[MOST_PATH] = "";
+    const char *fault = nicxi_search(options, &totals, &failure);
+    if (fault)
+        return refuse(nicxi.scenario, fault);
+    tell_totals(options, &totals);
+    if (failure.is_there) {
+        nicx_result found = failure.result;
+        uint32_t tries = options->no_shrink ? 0 : nicxi_shrink(options, &failure);
+        keep(options, &failure, schedule, script);
+        tell_failure(&failure, &found, tries, schedule, script, program);
+    } else {
+        printf("%s: nothing was found\n", nicxi.scenario->name);
+    }
+    int status = failure.is_there ? FAILURE : NOTHING;
+    if (options->junit && !nicxi_write_junit(options, &totals, &failure, schedule)) {
+        fprintf(stderr, "%s: it can't be written\n", options->junit);
+        status = REFUSED;
+    }
+    free(failure.schedule);
+    return status;
+}
+
+int nicx_main(int argc, char **argv, const nicx_scenario *scenario)
+{
+    struct options options;
+    const char *name = scenario->name ? scenario->name : "nicx";
+    const char *fault = nicxi_options(argc, argv, &options);
+    if (fault) {
+        fprintf(stderr, "%s: %s\n", name, fault);
+        fprintf(stderr, nicxi_usage, argv[0], name);
+        return REFUSED;
+    }
+    if (options.wants_help) {
+        printf(nicxi_usage, argv[0], name);
+        return NOTHING;
+    }
+    if (!options.replay && access(options.out, W_OK) != 0)
+        return refuse(scenario, "--out: there is no such folder that can be written to");
+    fault = nicx_open(scenario);
+    if (fault)
+        return refuse(scenario, fault);
+    int status = options.replay ? replay(options.replay) : search(&options, argv[0]);
+    nicx_close();
+    return status;
+}

@@ -1,0 +1,178 @@
+#define _DEFAULT_SOURCE
+#include "options.h"
+
+#include <errno.h>
+#include <stdio.h>
+#include <stdlib.h>
+#include <string.h>
+#include <unistd.h>
+
+#include "strategy.h"
+
+const char nicxi_usage[] =
+    "usage: %s [options]\n"
+    "Searches for a schedule of scenario %s that fails. Status 0: none was found; 1: one was; 2: the words,\n"
+    "the scenario or a schedule's file can't be taken.\n"
+    "  --strategy NAME    random, priorities, exhaustive, or mixed: random and priorities in turn (mixed)\n"
+    "  --runs N           at most N schedules (10,000; of the exhaustive search, all)\n"
+    "  --seconds S        at most S seconds\n"
+    "  --seed N           what chance begins with (1)\n"
+    "  --first N          the first run of the seed (0), so that one run can be made again\n"
+    "  --depth D          of priorities: changes at D - 1 points, D from 1 to 16 (3)\n"
+    "  --preemptions N    of the exhaustive search: at most N, or any (2)\n"
+    "  --no-sleep         of the exhaustive search: orders of independent steps too\n"
+    "  --jobs N           so many processes, 1 to 256 (one for each core)\n"
+    "  --hang S           a task that makes no point for S seconds hangs (10)\n"
+    "  --out FOLDER       where the files of a failure go (.)\n"
+    "  --junit FILE       writes the result as JUnit XML\n"
+    "  --no-shrink        keeps a failing schedule as it was found\n"
+    "  --replay FILE      makes one schedule, to the letter, in this process, and prints each point\n"
+    "  --quiet            no progress\n"
+    "  --help             this\n";
+
+const char *nicxi_strategy_name(enum strategy strategy)
+{
+    static const char *const names[] = {"mixed", "random", "priorities", "exhaustive"};
+    return names[strategy];
+}
+
+static char why[200];
+
+static const char *refused(const char *word, const char *what)
+{
+    snprintf(why, sizeof why, "%.60s: %s", word, what);
+    return why;
+}
+
+/* --- one option --- */
+
+static const char *take_number(const char *word, const char *text, uint64_t least, uint64_t most, uint64_t *number)
+{
+    char *end, range[80];
+    errno = 0;
+    unsigned long long value = strtoull(text, &end, 10);
+    if (*text >= '0' && *text <= '9' && !*end && !errno && value >= least && value <= most) {
+        *number = value;
+        return NULL;
+    }
+    snprintf(range, sizeof range, "\"%.20s\" is no number of %llu to %llu", text, (unsigned long long)least,
+             (unsigned long long)most);
+    return refused(word, range);
+}
+
+static const char *take_small(const char *word, const char *text, uint32_t least, uint32_t most, uint32_t *number)
+{
+    uint64_t value;
+    const char *fault = take_number(word, text, least, most, &value);
+    if (!fault)
+        *number = (uint32_t)value;
+    return fault;
+}
+
+static const char *take_seconds(const char *word, const char *text, double *seconds)
+{
+    char *end;
+    double value = strtod(text, &end);
+    if (*text >= '0' && *text <= '9' && !*end && value > 0 && value <= 1e9) {
+        *seconds = value;
+        return NULL;
+    }
+    return refused(word, "it wants seconds above 0");
+}
+
+static const char *take_strategy(const char *text, struct options *options)
+{
+    for (int k = MIXED; k <= EXHAUSTIVE; k++)
+        if (!strcmp(text, nicxi_strategy_name((enum strategy)k))) {
+            options->strategy = (enum strategy)k;
+            return NULL;
+        }
+    return refused("--strategy", "it is random, priorities, exhaustive or mixed");
+}
+
+static const char *take_preemptions(const char *word, const char *text, struct options *options)
+{
+    if (!strcmp(text, "any")) {
+        options->preemptions = UNBOUNDED;
+        return NULL;
+    }
+    return take_small(word, text, 0, 1000, &options->preemptions);
+}
+
+static const char *take_value(const char *word, char *text, struct options *options)
+{
+    if (!strcmp(word, "--strategy"))
+        return take_strategy(text, options);
+    if (!strcmp(word, "--runs"))
+        return take_number(word, text, 1, (uint64_t)1 << 62, &options->runs);
+    if (!strcmp(word, "--first"))
+        return take_number(word, text, 0, (uint64_t)1 << 62, &options->first);
+    if (!strcmp(word, "--seed"))
+        return take_number(word, text, 0, UINT64_MAX, &options->seed);
+    if (!strcmp(word, "--seconds"))
+        return take_seconds(word, text, &options->seconds);
+    if (!strcmp(word, "--depth"))
+        return take_small(word, text, 1, MOST_DEPTH, &options->depth);
+    if (!strcmp(word, "--preemptions"))
+        return take_preemptions(word, text, options);
+    if (!strcmp(word, "--jobs"))
+        return take_small(word, text, 1, 256, &options->jobs);
+    if (!strcmp(word, "--hang"))
+        return take_small(word, text, 1, 86400, &options->hang);
+    if (!strcmp(word, "--out"))
+        options->out = text;
+    else if (!strcmp(word, "--junit"))
+        options->junit = text;
+    else if (!strcmp(word, "--replay"))
+        options->replay = text;
+    else
+        return refused(word, "there is no such option");
+    return NULL;
+}
+
+static bool take_flag(const char *word, struct options *options)
+{
+    if (!strcmp(word, "--quiet"))
+        options->is_quiet = true;
+    else if (!strcmp(word, "--no-sleep"))
+        options->no_sleep = true;
+    else if (!strcmp(word, "--no-shrink"))
+        options->no_shrink = true;
+    else if (!strcmp(word, "--help"))
+        options->wants_help = true;
+    else
+        return false;
+    return true;
+}
+
+static void set_usual(struct options *options)
+{
+    long cores = sysconf(_SC_NPROCESSORS_ONLN);
+    memset(options, 0, sizeof *options);
+    options->seed = 1;
+    options->depth = 3;
+    options->preemptions = 2;
+    options->hang = 10;
+    options->out = ".";
+    options->jobs = cores < 1 ? 1 : cores > 256 ? 256 : (uint32_t)cores;
+}
+
+const char *nicxi_options(int argc, char **argv, struct options *options)
+{
+    set_usual(options);
+    for (int k = 1; k < argc; k++) {
+        if (take_flag(argv[k], options))
+            continue;
+        if (strncmp(argv[k], "--", 2) != 0)
+            return refused(argv[k], "there is no such option");
+        char empty[] = "";
+        const char *fault = take_value(argv[k], k + 1 < argc ? argv[k + 1] : empty, options);
+        if (fault)
+            return fault;
+        if (++k == argc)
+            return refused(argv[k - 1], "it wants a word behind it");
+    }
+    if (!options->runs && !options->seconds && options->strategy != EXHAUSTIVE)
+        options->runs = 10000;
+    return NULL;
+}

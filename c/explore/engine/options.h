@@ -1,0 +1,35 @@
+/* The words of nicx_main. */
+#ifndef NICX_OPTIONS_H
+#define NICX_OPTIONS_H
+
+#include <stdbool.h>
+#include <stdint.h>
+
+enum strategy { MIXED, RANDOM, PRIORITIES, EXHAUSTIVE };
+
+enum { UNBOUNDED = 1000000 };
+
+struct options {
+    enum strategy strategy;
+    uint64_t runs;        /* at most so many schedules; 0: as many as there are, or as time allows */
+    uint64_t first;       /* the first run of the seed */
+    uint64_t seed;
+    double seconds;       /* at most so long; 0: no bound */
+    uint32_t depth;       /* of priorities: 1 to 16 */
+    uint32_t preemptions; /* of the exhaustive search; UNBOUNDED: any number */
+    uint32_t jobs;        /* 1 to 256 processes */
+    uint32_t hang;        /* seconds without a point after which a task hangs */
+    const char *replay;   /* a schedule's file, or null */
+    const char *out;      /* a folder that is there */
+    const char *junit;    /* a file to write, or null */
+    bool is_quiet, no_sleep, no_shrink, wants_help;
+};
+
+/* Null, or what is wrong with the words. */
+const char *nicxi_options(int argc, char **argv, struct options *options);
+
+extern const char nicxi_usage[];
+
+const char *nicxi_strategy_name(enum strategy strategy);
+
+#endif

@@ -1,0 +1,41 @@
+/* Schedules in processes of their own, which may end by a signal. What such a process tells lies in memory that it
+   shares with the one that started it: so the schedule that it was at is known whatever happened. */
+#ifndef NICX_PROCESS_H
+#define NICX_PROCESS_H
+
+#include <sys/types.h>
+
+#include "engine.h"
+
+struct post {
+    volatile uint64_t runs, points; /* that are done */
+    volatile uint64_t run;          /* the one that it is at */
+    volatile uint32_t at;           /* of that, how many points were made */
+    volatile bool is_running;       /* amid a schedule */
+    volatile bool is_found;         /* `result` tells of a failure of `run` */
+    bool is_over;                   /* an exhaustive search that has come to its end */
+    uint8_t strategy;
+    nicx_result result;
+    pid_t process;
+    uint16_t *schedule;
+};
+
+/* Posts that are shared, or null. */
+struct post *nicxi_posts(uint32_t count);
+void nicxi_free_posts(struct post *posts, uint32_t count);
+
+/* Has the engine note its schedule in a post. */
+void nicxi_note_in(struct post *post);
+
+/* Starts a process that does this work and ends, with its points counted in the post; one that makes none for `hang`
+   seconds is ended. False where there can be none. */
+bool nicxi_start(struct post *post, uint32_t hang, void (*work)(struct post *, void *), void *argument);
+
+/* Once the process has ended, with this status of waitpid: where it didn't end by itself, that is the post's result.
+   Answers whether a failure is told. */
+bool nicxi_ended(struct post *post, int status);
+
+/* Starts one and waits for it. */
+bool nicxi_do(struct post *post, uint32_t hang, void (*work)(struct post *, void *), void *argument);
+
+#endif

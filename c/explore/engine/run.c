@@ -1,0 +1,305 @@
+/* One schedule: who acts is chosen point by point, until all is at rest or something is wrong. The choice is made on
+   the stack of the thread that stands at the point, so that no stack is left where it goes on itself, or where the
+   device acts. */
+#include <stdarg.h>
+#include <stdio.h>
+#include <stdlib.h>
+#include <string.h>
+
+#include "engine.h"
+#include "heap.h"
+
+struct engine nicxi;
+
+void nicxi_failed(uint8_t outcome, const char *form, ...)
+{
+    va_list list;
+    if (nicxi.result.outcome)
+        return;
+    nicxi.result.outcome = outcome;
+    va_start(list, form);
+    vsnprintf(nicxi.result.words, sizeof nicxi.result.words, form, list);
+    va_end(list);
+}
+
+/* --- after a step --- */
+
+void nicxi_told(const struct step *step)
+{
+    uint32_t point = *nicxi.points - 1;
+    if (nicxi.phase == RUNNING && nicxi.steps)
+        nicxi.steps[point] = *step;
+    if (nicxi.listener && nicxi.phase != ENDING)
+        nicxi.listener(nicxi.listener_argument, nicxi.phase == RUNNING ? nicxi.schedule[point] : NOBODY, step);
+}
+
+void nicxi_went_on(struct thread *self)
+{
+    self->next.waits = self->state == WAITING || self->state == PAUSED;
+    if (self->next.waits) {
+        self->is_void = true;
+        self->seen = nicxi.acts - self->own;
+    }
+    self->state = READY;
+}
+
+/* A thread came to its next point. One that waits again and has changed nothing that can be seen may have changed the
+   driver's own memory, so it counts as an act, but once for each change: else two that look at each other never rest. */
+static void note_act(struct thread *self)
+{
+    if (nicxi.steps && *nicxi.points)
+        nicxi.steps[*nicxi.points - 1].waits |= self->state == WAITING || self->state == PAUSED;
+    if (self->is_void) {
+        if ((self->state != WAITING && self->state != PAUSED) || self->voided == nicxi.changes)
+            return;
+        self->voided = nicxi.changes;
+    } else {
+        nicxi.changes++;
+    }
+    nicxi.acts++;
+    self->own++;
+}
+
+static void look(void)
+{
+    const char *words;
+    if (!nicxi.scenario->always || nicxi.result.outcome)
+        return;
+    words = nicxi.scenario->always();
+    if (words)
+        nicxi_failed(NICX_ALWAYS, "%s", words);
+}
+
+/* --- choosing --- */
+
+/* Who acted last stands first, where it may go on. */
+static uint32_t list_able(bool paused)
+{
+    uint32_t count = 0;
+    uint16_t last = *nicxi.points ? nicxi.schedule[*nicxi.points - 1] : (uint16_t)NOBODY;
+    for (uint16_t k = 0; k < nicxi.count; k++) {
+        const struct actor *actor = &nicxi.actors[k];
+        bool can = paused ? actor->kind == BY_THREAD && nicxi.threads[actor->of].state == PAUSED &&
+                                nicxi.threads[actor->of].interrupted_by < 0
+                          : nicxi_can_act(actor);
+        if (!can)
+            continue;
+        if (k == last && count) {
+            nicxi.can[count++] = nicxi.can[0];
+            nicxi.can[0] = k;
+        } else {
+            nicxi.can[count++] = k;
+        }
+    }
+    return count;
+}
+
+static void note(uint16_t number)
+{
+    uint32_t points = *nicxi.points;
+    if (points && nicxi.schedule[points - 1] != number)
+        nicxi.switches++;
+    nicxi.schedule[points] = number;
+    *nicxi.points = points + 1;
+}
+
+/* A step of the device: false where there was nothing to do, and nothing is noted. */
+static bool device_acts(uint16_t number)
+{
+    struct step step = {0};
+    struct actor *actor = &nicxi.actors[number];
+    note(number);
+    if (!nicxi_device_step(actor, &step)) {
+        uint32_t points = --*nicxi.points;
+        if (points && nicxi.schedule[points - 1] != number)
+            nicxi.switches--;
+        actor->idle = true;
+        return false;
+    }
+    nicxi.acts++;
+    nicxi.changes++;
+    nicxi_wake(&step);
+    nicxi_told(&step);
+    look();
+    return true;
+}
+
+/* At rest each step of the device is tried once more: none of them should have something to do. */
+static bool is_at_rest(void)
+{
+    for (uint16_t k = 0; k < nicxi.count; k++)
+        if (nicxi.actors[k].kind >= BY_RX && nicxi.actors[k].kind <= BY_EEPROM && device_acts(k)) {
+            nicxi.late++;
+            return false;
+        }
+    return true;
+}
+
+static bool is_endless(void)
+{
+    if (*nicxi.points < nicxi.most_points)
+        return false;
+    char room[96];
+    nicxi_failed(NICX_ENDLESS, "no end after %u points; last came %s", (unsigned)nicxi.most_points,
+                 nicx_actor_name(nicxi.schedule[*nicxi.points - 1], room));
+    return true;
+}
+
+/* Whoever acts next and isn't the device, or NOBODY where the schedule is over. */
+static uint16_t choose(void)
+{
+    while (!nicxi.result.outcome && !is_endless()) {
+        uint32_t count = list_able(false);
+        if (!count && !is_at_rest())
+            continue;
+        if (!count)
+            count = list_able(true);
+        if (!count)
+            return NOBODY;
+        uint32_t k = nicxi.chooser->choose(nicxi.chooser->argument, nicxi.can, count);
+        if (k >= count) {
+            nicxi.is_cut = true;
+            return NOBODY;
+        }
+        uint16_t number = nicxi.can[k];
+        if (nicxi.actors[number].kind >= BY_RX) {
+            device_acts(number);
+            continue;
+        }
+        note(number);
+        return number;
+    }
+    return NOBODY;
+}
+
+static void start_handler(const struct actor *actor)
+{
+    struct thread *handler = &nicxi.threads[actor->of];
+    handler->pending = false;
+    handler->is_void = false;
+    handler->state = READY;
+    handler->next.kind = STEP_START;
+    handler->on = actor->on;
+    if (actor->on >= 0 && nicxi.threads[actor->on].state != OFF)
+        nicxi.threads[actor->on].interrupted_by = actor->of;
+    else
+        handler->on = -1;
+    if (!nicxi_thread_prepare(handler))
+        nicxi_failed(NICX_MISUSE, "there is no memory for a stack");
+    nicxi_told(&handler->next);
+}
+
+void nicxi_next(struct thread *self)
+{
+    if (self) {
+        note_act(self);
+        look();
+    }
+    uint16_t number = choose();
+    if (number != NOBODY) {
+        const struct actor *actor = &nicxi.actors[number];
+        struct thread *thread = &nicxi.threads[actor->of];
+        if (actor->kind == BY_START)
+            start_handler(actor);
+        else if (thread->stack == PARKED)
+            nicxi_told(&thread->next);
+        if (!nicxi.result.outcome) {
+            nicxi_thread_resume(self, thread);
+            return;
+        }
+    }
+    nicxi.self = NULL;
+    if (self)
+        nicxi_fiber_switch(&self->fiber, &nicxi.main);
+}
+
+/* --- a schedule --- */
+
+static void begin_threads(void)
+{
+    for (int k = 0; k < MOST_THREADS; k++) {
+        struct thread *thread = &nicxi.threads[k];
+        bool is_task = k < NICX_TASKS;
+        if (is_task ? k >= nicxi.tasks : k - NICX_TASKS >= nicxi.handlers)
+            continue;
+        thread->state = is_task ? READY : OFF;
+        thread->interrupted_by = thread->on = -1;
+        thread->masked = 0;
+        thread->own = thread->seen = 0;
+        thread->voided = 0;
+        thread->polls = 0;
+        thread->pending = thread->is_void = false;
+        thread->next.kind = STEP_LOCAL;
+        thread->next.word = LOCAL_BEGIN;
+        if (is_task && !nicxi_thread_prepare(thread))
+            nicxi_failed(NICX_MISUSE, "there is no memory for a stack");
+    }
+}
+
+static void reset(void)
+{
+    nicxi.epoch++;
+    nicxi.acts = nicxi.changes = 0;
+    *nicxi.points = 0;
+    nicxi.switches = 0;
+    nicxi.is_cut = false;
+    nicxi.self = NULL;
+    nicxi.result.outcome = NICX_FINE;
+    nicxi.result.words[0] = 0;
+    nicxi.tasks = nicxi.handlers = 0;
+    nicxi.frame_count = nicxi.next_frame = 0;
+    nicxi.link_count = nicxi.next_link = 0;
+}
+
+/* The first that waits for a lock, or for ever where it shouldn't. */
+static void judge_waiting(bool locks)
+{
+    for (int k = 0; k < MOST_THREADS; k++) {
+        const struct thread *thread = &nicxi.threads[k];
+        if ((k < NICX_TASKS ? k >= nicxi.tasks : k - NICX_TASKS >= nicxi.handlers) || thread->state == OFF)
+            continue;
+        if (locks && thread->state == LOCKED)
+            nicxi_failed(NICX_DEADLOCK, "deadlock: %s waits for %s, which %s holds", thread->name,
+                         thread->lock->name ? thread->lock->name : "a lock",
+                         nicxi.threads[(thread->lock->kept & 0xFF) - 1].name);
+        if (!locks && !thread->is_service)
+            nicxi_failed(NICX_DEADLOCK, "deadlock: %s waits, and nobody can act", thread->name);
+    }
+}
+
+static void judge_end(void)
+{
+    const char *words;
+    if (nicxi.result.outcome || nicxi.is_cut)
+        return;
+    judge_waiting(true);
+    nicxi.phase = ENDING;
+    nicxi.is_changed = true;
+    words = !nicxi.result.outcome && nicxi.scenario->end ? nicxi.scenario->end() : NULL;
+    if (words)
+        nicxi_failed(NICX_END, "%s", words);
+    judge_waiting(false);
+}
+
+void nicx_run(const nicx_chooser *chooser, nicx_result *result)
+{
+    reset();
+    nicxi_back();
+    nicxi.phase = BEGINNING;
+    nicxi.scenario->begin();
+    nicxi_list_actors();
+    begin_threads();
+    nicxi.chooser = chooser;
+    nicxi.phase = RUNNING;
+    nicxi_next(NULL);
+    judge_end();
+    nicxi.result.points = *nicxi.points;
+    nicxi.result.switches = nicxi.switches;
+    *result = nicxi.result;
+}
+
+const uint16_t *nicx_schedule(uint32_t *points)
+{
+    *points = *nicxi.points;
+    return nicxi.schedule;
+}

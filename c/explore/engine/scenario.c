@@ -1,0 +1,186 @@
+/* A scenario: what it names, and its device brought up. */
+#include <stdio.h>
+#include <stdlib.h>
+#include <string.h>
+
+#include "engine.h"
+#include "heap.h"
+
+static bool is_name(const char *name)
+{
+    size_t length = name ? strlen(name) : 0;
+    if (!length || length > 63)
+        return false;
+    for (size_t k = 0; k < length; k++)
+        if (!strchr("abcdefghijklmnopqrstuvwxyzABCDEFGHIJKLMNOPQRSTUVWXYZ0123456789_-", name[k]))
+            return false;
+    return true;
+}
+
+/* --- what `begin` names --- */
+
+static struct thread *name_thread(int number, const char *name, void (*function)(void *), void *argument)
+{
+    struct thread *thread = &nicxi.threads[number];
+    if (!is_name(name) || !function) {
+        nicxi_failed(NICX_MISUSE, "a task's or a handler's name has 1 to 63 letters, digits, '-' and '_'");
+        name = "unnamed";
+    }
+    thread->name = name;
+    thread->function = function;
+    thread->argument = argument;
+    return thread;
+}
+
+static int add_task(const char *name, void (*function)(void *), void *argument, bool is_service)
+{
+    if (nicxi.phase != BEGINNING || nicxi.tasks == NICX_TASKS) {
+        nicxi_failed(NICX_MISUSE, "tasks are named in begin, at most %d", NICX_TASKS);
+        return 0;
+    }
+    name_thread(nicxi.tasks, name, function, argument)->is_service = is_service;
+    return nicxi.tasks++;
+}
+
+int nicx_task(const char *name, void (*function)(void *), void *argument)
+{
+    return add_task(name, function, argument, false);
+}
+
+int nicx_service(const char *name, void (*function)(void *), void *argument)
+{
+    return add_task(name, function, argument, true);
+}
+
+void nicx_handler(const char *name, uint16_t group, uint8_t vector, void (*function)(void *), void *argument, int where)
+{
+    if (nicxi.phase != BEGINNING || nicxi.handlers == NICX_HANDLERS || where < NICX_BESIDE || where >= NICX_TASKS) {
+        nicxi_failed(NICX_MISUSE, "handlers are named in begin, at most %d, behind the tasks", NICX_HANDLERS);
+        return;
+    }
+    struct thread *handler = name_thread(NICX_TASKS + nicxi.handlers++, name, function, argument);
+    handler->is_service = false;
+    handler->group = group;
+    handler->vector = vector;
+    handler->where = where;
+}
+
+void nicx_frame(const uint8_t *bytes, size_t length)
+{
+    if (nicxi.phase != BEGINNING || nicxi.frame_count == NICX_FRAMES || length > MOST_FRAME) {
+        nicxi_failed(NICX_MISUSE, "frames are named in begin, at most %d of %d bytes", NICX_FRAMES, MOST_FRAME);
+        return;
+    }
+    struct frame *frame = &nicxi.frames[nicxi.frame_count++];
+    if (frame->room < length) {
+        free(frame->bytes);
+        frame->bytes = malloc(length);
+        frame->room = frame->bytes ? length : 0;
+    }
+    frame->length = frame->bytes || !length ? length : 0;
+    if (frame->length)
+        memcpy(frame->bytes, bytes, length);
+}
+
+void nicx_link_change(bool up)
+{
+    if (nicxi.phase != BEGINNING || nicxi.link_count == NICX_FRAMES)
+        nicxi_failed(NICX_MISUSE, "changes of the link are named in begin, at most %d", NICX_FRAMES);
+    else
+        nicxi.links[nicxi.link_count++] = up;
+}
+
+/* --- the whole --- */
+
+static const char *fault_of(const nicx_scenario *scenario)
+{
+    if (!is_name(scenario->name))
+        return "its name isn't of 1 to 63 letters, digits, '-' and '_'";
+    if (!scenario->bring_up || !scenario->begin || !scenario->end)
+        return "it has no bring_up, begin or end";
+    if (!scenario->queues || scenario->queues > 128)
+        return "its queues aren't 1 to 128";
+    if (scenario->points > MOST_POINTS)
+        return "its points are above 1,000,000";
+    return NULL;
+}
+
+static const char *bring_up(void)
+{
+    const nicx_scenario *scenario = nicxi.scenario;
+    static char why[300];
+    uint8_t status = nic_open(&nicxi.device, scenario->vfs, scenario->fifo, scenario->blocks);
+    if (status != NIC_DONE) {
+        snprintf(why, sizeof why, "there is no such device: %s", nic_status_name(status));
+        return why;
+    }
+    nicxi.phase = BRINGING_UP;
+    const char *words = scenario->bring_up();
+    if (words || nicxi.result.outcome) {
+        snprintf(why, sizeof why, "bring_up: %s", words ? words : nicxi.result.words);
+        return why;
+    }
+    return nicxi_keep();
+}
+
+/* Whether the device has no step to make. */
+static bool is_idle(void)
+{
+    for (uint16_t k = 0; k < nicxi.count; k++) {
+        struct step step = {0};
+        if (nicxi.actors[k].kind >= BY_RX && nicxi.actors[k].kind <= BY_EEPROM &&
+            nicxi_device_step(&nicxi.actors[k], &step))
+            return false;
+    }
+    return true;
+}
+
+/* The tasks are looked at once: a scenario without any is none. */
+static const char *try_begin(void)
+{
+    nicxi.phase = BEGINNING;
+    nicxi.tasks = nicxi.handlers = 0;
+    nicxi.scenario->begin();
+    if (nicxi.result.outcome)
+        return nicxi.result.words;
+    for (int k = NICX_TASKS; k < NICX_TASKS + nicxi.handlers; k++)
+        if (nicxi.threads[k].where >= nicxi.tasks)
+            return "a handler is on a task that there isn't";
+    nicxi.is_idle = false;
+    nicxi_list_actors();
+    nicxi.is_idle = is_idle();
+    nicxi.is_changed = true;
+    return nicxi.tasks ? NULL : "begin names no task";
+}
+
+const char *nicx_open(const nicx_scenario *scenario)
+{
+    if (nicxi.phase != CLOSED)
+        return "a scenario is open already";
+    const char *fault = fault_of(scenario);
+    if (fault)
+        return fault;
+    nicxi.scenario = scenario;
+    nicxi.points = &nicxi.own_points;
+    nicxi.most_points = scenario->points ? scenario->points : USUAL_POINTS;
+    nicxi.schedule = calloc(nicxi.most_points + 1u, sizeof *nicxi.schedule);
+    if (!nicxi.schedule)
+        return "there is no memory";
+    nicxi_heap_open();
+    fault = bring_up();
+    return fault ? fault : try_begin();
+}
+
+void nicx_close(void)
+{
+    nicxi_threads_close();
+    nic_drop_snapshot(&nicxi.kept);
+    nic_close(&nicxi.device);
+    nicxi_heap_close();
+    for (int k = 0; k < NICX_FRAMES; k++)
+        free(nicxi.frames[k].bytes);
+    if (nicxi.points == &nicxi.own_points)
+        free(nicxi.schedule);
+    free(nicxi.steps);
+    memset(&nicxi, 0, sizeof nicxi);
+}

@@ -1,0 +1,175 @@
+/* Scripts of what the device was asked: register accesses, memory, frames and steps, each with what came of it as an
+   `expect` where the script language can tell it, and who did it as a comment. */
+#include <inttypes.h>
+#include <string.h>
+
+#include "files.h"
+#include "words.h"
+
+enum { MOST_INSTRUCTIONS = 4096, MOST_STRINGS = 1024, MOST_BLOCKS = 256, CHECKED = 64 };
+
+void nicxi_script_begin(struct script *script, FILE *file, const struct origin *origin)
+{
+    const nicx_scenario *scenario = nicxi.scenario;
+    memset(script, 0, sizeof *script);
+    script->file = file;
+    if (scenario->blocks > MOST_BLOCKS)
+        script->unfit = "a script has 256 blocks, and the scenario more";
+    fprintf(file, "# %s: %s\n", nicxi_outcome_name(origin->result->outcome), origin->result->words);
+    fprintf(file, "# The device's side of a schedule of scenario %s, by: nicbench run --vfs %u --fifo %u\n",
+            scenario->name, scenario->vfs, scenario->fifo);
+}
+
+/* A line of the script with who did it; false where there is no more room. */
+static bool line(struct script *script, uint16_t actor, const char *text)
+{
+    char name[96];
+    if (!script->unfit && script->instructions == MOST_INSTRUCTIONS)
+        script->unfit = "a script has 4,096 instructions, and the run more";
+    if (script->unfit)
+        return false;
+    script->instructions++;
+    fprintf(script->file, "%-28s # %s\n", text, actor == NOBODY ? "bring-up" : nicx_actor_name(actor, name));
+    return true;
+}
+
+static void with_reply(struct script *script, uint16_t actor, const char *text, const struct step *step)
+{
+    char reply[MOST_WORDS], name[96];
+    if (script->unfit || script->instructions == MOST_INSTRUCTIONS) {
+        line(script, actor, text);
+        return;
+    }
+    script->instructions++;
+    fprintf(script->file, "%-28s # %s%s%s\n", text, actor == NOBODY ? "bring-up: " : "",
+            actor == NOBODY || !strcmp(nicx_actor_name(actor, name), text) ? "" : name, nicxi_reply(step, reply));
+}
+
+static void expect(struct script *script, uint32_t word, uint32_t mask)
+{
+    if (script->unfit)
+        return;
+    if (script->instructions == MOST_INSTRUCTIONS) {
+        script->unfit = "a script has 4,096 instructions, and the run more";
+        return;
+    }
+    script->instructions++;
+    fprintf(script->file, "expect 0x%08" PRIx32 " 0x%08" PRIx32 "\n", word & mask, mask);
+}
+
+/* Bytes with a name, which is the answer's number; they stand in front of the line that uses them. */
+static uint32_t data(struct script *script, const uint8_t *bytes, size_t length)
+{
+    if (!script->unfit && script->strings == MOST_STRINGS)
+        script->unfit = "a script has 1,024 data strings, and the run more";
+    if (script->unfit)
+        return 0;
+    fprintf(script->file, "data d%" PRIu32 " ", script->strings);
+    for (size_t k = 0; k < length; k++)
+        fprintf(script->file, "%02x", bytes[k]);
+    fputc('\n', script->file);
+    return script->strings++;
+}
+
+/* --- memory, in pieces of 16 bytes --- */
+
+static void peek(struct script *script, uint16_t actor, const struct step *step)
+{
+    char text[64];
+    uint32_t length = step->length < CHECKED ? step->length : CHECKED;
+    for (uint64_t at = step->bus & ~(uint64_t)3; at < step->bus + length; at += 4) {
+        uint8_t bytes[4];
+        uint32_t word = 0, mask = 0;
+        if (nic_dma_read(&nicxi.device, at, bytes, 4) != NIC_DONE)
+            return;
+        for (int k = 0; k < 4; k++) {
+            word |= (uint32_t)bytes[k] << 8 * k;
+            if (at + (unsigned)k >= step->bus && at + (unsigned)k < step->bus + length)
+                mask |= 0xFFu << 8 * k;
+        }
+        snprintf(text, sizeof text, "peek 0x%" PRIx64 " %u", at & ~(uint64_t)15, (unsigned)(at / 4 % 4));
+        line(script, actor, text);
+        expect(script, word, mask);
+    }
+}
+
+static void poke(struct script *script, uint16_t actor, const struct step *step)
+{
+    char text[64];
+    for (uint64_t at = step->bus & ~(uint64_t)15; at < step->bus + step->length; at += 16) {
+        uint8_t bytes[16];
+        if (nic_dma_read(&nicxi.device, at, bytes, 16) != NIC_DONE)
+            return;
+        uint32_t number = data(script, bytes, 16);
+        snprintf(text, sizeof text, "poke 0x%" PRIx64 " d%" PRIu32, at, number);
+        line(script, actor, text);
+    }
+}
+
+/* --- each step --- */
+
+static void access_registers(struct script *script, uint16_t actor, const struct step *step)
+{
+    char text[64];
+    unsigned vf = step->vf, address = step->address, word = step->word;
+    switch (step->kind) {
+    case STEP_READ: snprintf(text, sizeof text, "r 0x%05x", address); break;
+    case STEP_VF_READ: snprintf(text, sizeof text, "vr %u 0x%x", vf, address); break;
+    case STEP_WRITE: snprintf(text, sizeof text, "w 0x%05x 0x%08x", address, word); break;
+    default: snprintf(text, sizeof text, "vw %u 0x%x 0x%08x", vf, address, word); break;
+    }
+    line(script, actor, text);
+    if (step->kind == STEP_READ || step->kind == STEP_VF_READ)
+        expect(script, step->word, 0xFFFFFFFFu);
+}
+
+static void device_step(struct script *script, uint16_t actor, const struct step *step)
+{
+    char text[64];
+    const struct frame *frame = &nicxi.frames[step->of];
+    switch (step->kind) {
+    case STEP_RX: snprintf(text, sizeof text, "rx"); break;
+    case STEP_TX: snprintf(text, sizeof text, "tx %u", step->of); break;
+    case STEP_RX_ENABLE: snprintf(text, sizeof text, "qstep rx %u", step->of); break;
+    case STEP_TX_ENABLE: snprintf(text, sizeof text, "qstep tx %u", step->of); break;
+    case STEP_INT:
+        if (step->of)
+            snprintf(text, sizeof text, "int %u", step->of - 1u);
+        else
+            snprintf(text, sizeof text, "int pf");
+        break;
+    case STEP_EEPROM: snprintf(text, sizeof text, "eestep"); break;
+    case STEP_LINK: snprintf(text, sizeof text, "link %s", step->word ? "up" : "down"); break;
+    default: snprintf(text, sizeof text, "arrive d%" PRIu32, data(script, frame->bytes, frame->length)); break;
+    }
+    with_reply(script, actor, text, step);
+}
+
+/* A driver's own step asks nothing of the device, and stands as a comment. */
+static void own_step(struct script *script, uint16_t actor, const struct step *step)
+{
+    char name[96], words[MOST_WORDS];
+    if (!script->unfit)
+        fprintf(script->file, "%-28s # %s: %s\n", "", nicx_actor_name(actor, name), nicxi_words(step, words));
+}
+
+void nicxi_script_step(struct script *script, uint16_t actor, const struct step *step)
+{
+    char text[32];
+    switch (step->kind) {
+    case STEP_LOCAL:
+    case STEP_START: own_step(script, actor, step); break;
+    case STEP_READ:
+    case STEP_WRITE:
+    case STEP_VF_READ:
+    case STEP_VF_WRITE: access_registers(script, actor, step); break;
+    case STEP_PEEK: peek(script, actor, step); break;
+    case STEP_POKE: poke(script, actor, step); break;
+    case STEP_LEND:
+    case STEP_TAKE:
+        snprintf(text, sizeof text, "%s %" PRIu32, step->kind == STEP_LEND ? "lend" : "unlend", step->address);
+        line(script, actor, text);
+        break;
+    default: device_step(script, actor, step); break;
+    }
+}

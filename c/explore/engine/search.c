@@ -1,0 +1,270 @@
+#define _DEFAULT_SOURCE
+#include "search.h"
+
+#include <errno.h>
+#include <inttypes.h>
+#include <stdio.h>
+#include <stdlib.h>
+#include <string.h>
+#include <sys/mman.h>
+#include <sys/wait.h>
+#include <time.h>
+#include <unistd.h>
+
+#include "exhaustive.h"
+
+enum { TRIED = 16, PAUSE = 10000000 };
+
+/* What all processes of a search share. */
+struct common {
+    volatile uint64_t lowest; /* the lowest run that failed */
+    volatile bool stop;
+    struct parts parts;
+};
+
+struct job {
+    const struct options *options;
+    struct common *common;
+    uint32_t number;
+};
+
+static double now(void)
+{
+    struct timespec time;
+    clock_gettime(CLOCK_MONOTONIC, &time);
+    return (double)time.tv_sec + (double)time.tv_nsec * 1e-9;
+}
+
+/* --- in one of the processes --- */
+
+static bool make(struct post *post, const nicx_chooser *chooser)
+{
+    nicx_result result;
+    post->is_running = true;
+    nicx_run(chooser, &result);
+    post->is_running = false;
+    post->runs++;
+    post->points += result.points;
+    if (result.outcome == NICX_FINE)
+        return false;
+    post->result = result;
+    post->is_found = true;
+    return true;
+}
+
+/* How long the schedules are: of the first ones by chance the most points. Priorities change at points below that. */
+static uint32_t usual_length(const struct options *options)
+{
+    struct by_chance state;
+    nicx_result result;
+    uint32_t most = 1;
+    for (uint64_t k = 0; k < TRIED; k++) {
+        nicx_chooser chooser = nicxi_by_chance(&state, ~options->seed, k);
+        nicx_run(&chooser, &result);
+        if (result.points > most)
+            most = result.points;
+    }
+    return most;
+}
+
+static bool is_by_priority(const struct options *options, uint64_t run)
+{
+    return options->strategy == PRIORITIES || (options->strategy == MIXED && run % 2);
+}
+
+static void search_by_chance(struct post *post, const struct job *job)
+{
+    static struct by_priority priorities;
+    struct by_chance chance;
+    const struct options *options = job->options;
+    uint64_t end = options->runs ? options->first + options->runs : UINT64_MAX;
+    post->run = options->first;
+    post->strategy = RANDOM;
+    uint32_t length = options->strategy == RANDOM ? 0 : usual_length(options);
+    for (uint64_t run = options->first + job->number; run < end; run += options->jobs) {
+        if (job->common->stop || run > job->common->lowest)
+            return;
+        bool by_priority = is_by_priority(options, run);
+        post->run = run;
+        post->strategy = by_priority ? PRIORITIES : RANDOM;
+        nicx_chooser chooser = by_priority
+                                   ? nicxi_by_priority(&priorities, options->seed, run, options->depth, length)
+                                   : nicxi_by_chance(&chance, options->seed, run);
+        if (make(post, &chooser))
+            return;
+    }
+}
+
+static void search_all(struct post *post, const struct job *job)
+{
+    struct exhaustive *state = nicxi_exhaustive(job->options->preemptions, !job->options->no_sleep,
+                                                &job->common->parts);
+    post->strategy = EXHAUSTIVE;
+    while (state && nicxi_exhaustive_next(state)) {
+        uint64_t run = nicxi_exhaustive_part(state);
+        if (job->common->stop || run > job->common->lowest ||
+            (job->options->runs && post->runs * job->options->jobs >= job->options->runs)) {
+            nicxi_free_exhaustive(state);
+            return;
+        }
+        post->run = run;
+        nicx_chooser chooser = nicxi_exhaustive_chooser(state);
+        if (make(post, &chooser))
+            break;
+        nicxi_exhaustive_made(state);
+    }
+    if (state && nicxi_exhaustive_is_strange(state)) {
+        static const nicx_result strange = {
+            NICX_MISUSE, 0, 0, "a schedule went another way than before: begin doesn't make the driver's state anew"};
+        post->result = strange;
+        post->is_found = true;
+    }
+    post->is_over = state && !post->is_found;
+    nicxi_free_exhaustive(state);
+}
+
+static void work(struct post *post, void *argument)
+{
+    const struct job *job = argument;
+    if (job->options->strategy == EXHAUSTIVE)
+        search_all(post, job);
+    else
+        search_by_chance(post, job);
+    if (post->is_found && post->run < job->common->lowest)
+        job->common->lowest = post->run;
+}
+
+/* --- in the one that started them --- */
+
+struct search {
+    const struct options *options;
+    struct totals *totals;
+    struct common *common;
+    struct post *posts;
+    uint32_t living;
+    double began, told;
+};
+
+static void sum(struct search *search)
+{
+    search->totals->runs = search->totals->points = 0;
+    for (uint32_t k = 0; k < search->options->jobs; k++) {
+        search->totals->runs += search->posts[k].runs;
+        search->totals->points += search->posts[k].points;
+    }
+    search->totals->seconds = now() - search->began;
+}
+
+static void tell(struct search *search)
+{
+    double seconds = now() - search->began;
+    if (search->options->is_quiet || seconds < search->told + 2)
+        return;
+    search->told = seconds;
+    sum(search);
+    fprintf(stderr, "%s: %" PRIu64 " schedules, %.0f s\n", nicxi.scenario->name, search->totals->runs, seconds);
+}
+
+static void bury(struct search *search, pid_t process, int status)
+{
+    for (uint32_t k = 0; k < search->options->jobs; k++) {
+        struct post *post = &search->posts[k];
+        if (post->process != process)
+            continue;
+        post->process = 0;
+        search->living--;
+        if (nicxi_ended(post, status) && post->run < search->common->lowest)
+            search->common->lowest = post->run;
+    }
+}
+
+/* Only the search's own processes are waited for: the program may have others. */
+static void bury_all(struct search *search)
+{
+    for (uint32_t k = 0; k < search->options->jobs; k++) {
+        int status;
+        pid_t process = search->posts[k].process;
+        if (process > 0 && waitpid(process, &status, WNOHANG) == process)
+            bury(search, process, status);
+    }
+}
+
+static void wait_for_all(struct search *search)
+{
+    struct timespec pause = {0, PAUSE / 10};
+    while (search->living) {
+        bury_all(search);
+        if (!search->living)
+            break;
+        if (search->options->seconds && now() - search->began >= search->options->seconds)
+            search->common->stop = true;
+        tell(search);
+        nanosleep(&pause, NULL);
+        pause.tv_nsec = pause.tv_nsec < PAUSE ? pause.tv_nsec * 2 : PAUSE;
+    }
+}
+
+static bool keep_failure(const struct search *search, struct failure *failure)
+{
+    const struct post *best = NULL;
+    for (uint32_t k = 0; k < search->options->jobs; k++) {
+        const struct post *post = &search->posts[k];
+        if (post->is_found && (!best || post->run < best->run))
+            best = post;
+    }
+    if (!best)
+        return true;
+    failure->is_there = true;
+    failure->strategy = (enum strategy)best->strategy;
+    failure->run = best->run;
+    failure->result = best->result;
+    failure->result.points = best->at;
+    failure->schedule = malloc((best->at + 1) * sizeof *failure->schedule);
+    if (failure->schedule)
+        memcpy(failure->schedule, best->schedule, best->at * sizeof *failure->schedule);
+    return failure->schedule != NULL;
+}
+
+static bool is_whole(const struct search *search)
+{
+    for (uint32_t k = 0; k < search->options->jobs; k++)
+        if (!search->posts[k].is_over)
+            return false;
+    return true;
+}
+
+static void start_all(struct search *search)
+{
+    static struct job jobs[256];
+    for (uint32_t k = 0; k < search->options->jobs; k++) {
+        jobs[k].options = search->options;
+        jobs[k].common = search->common;
+        jobs[k].number = k;
+        if (nicxi_start(&search->posts[k], search->options->hang, work, &jobs[k]))
+            search->living++;
+    }
+}
+
+const char *nicxi_search(const struct options *options, struct totals *totals, struct failure *failure)
+{
+    struct search search = {options, totals, NULL, NULL, 0, now(), 0};
+    void *memory = mmap(NULL, sizeof *search.common, PROT_READ | PROT_WRITE, MAP_SHARED | MAP_ANONYMOUS, -1, 0);
+    search.posts = nicxi_posts(options->jobs);
+    memset(failure, 0, sizeof *failure);
+    if (memory == MAP_FAILED || !search.posts)
+        return "there is no memory for the search";
+    search.common = memory;
+    search.common->lowest = UINT64_MAX;
+    start_all(&search);
+    const char *fault = search.living == options->jobs ? NULL : "a process can't be started";
+    if (fault)
+        search.common->stop = true;
+    wait_for_all(&search);
+    sum(&search);
+    totals->is_whole = is_whole(&search);
+    if (!keep_failure(&search, failure))
+        fault = "there is no memory for the schedule that failed";
+    munmap(memory, sizeof *search.common);
+    nicxi_free_posts(search.posts, options->jobs);
+    return fault;
+}

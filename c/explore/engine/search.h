@@ -1,0 +1,31 @@
+/* Searches for a schedule that fails, on several processes. */
+#ifndef NICX_SEARCH_H
+#define NICX_SEARCH_H
+
+#include "options.h"
+#include "process.h"
+#include "strategy.h"
+
+struct totals {
+    uint64_t runs, points;
+    double seconds;
+    bool is_whole; /* an exhaustive search that has come to its end */
+};
+
+/* A failure: of several the one of the lowest run. The schedule is the caller's to free. */
+struct failure {
+    bool is_there;
+    enum strategy strategy;
+    uint64_t run;
+    nicx_result result;
+    uint16_t *schedule;
+};
+
+/* Null, or why there can be no search. */
+const char *nicxi_search(const struct options *options, struct totals *totals, struct failure *failure);
+
+/* The failure with the fewest switches that is found near one: its schedule and its result are put in the place of the
+   failure's. Answers how many schedules were tried. */
+uint32_t nicxi_shrink(const struct options *options, struct failure *failure);
+
+#endif

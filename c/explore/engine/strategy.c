@@ -1,0 +1,99 @@
+#include "strategy.h"
+
+static uint32_t choose_by_chance(void *argument, const uint16_t *can, uint32_t count)
+{
+    struct by_chance *state = argument;
+    (void)can;
+    return count == 1 ? 0 : chance_below(&state->chance, count);
+}
+
+nicx_chooser nicxi_by_chance(struct by_chance *state, uint64_t seed, uint64_t run)
+{
+    nicx_chooser chooser = {choose_by_chance, state};
+    state->chance = chance_of(seed, run);
+    return chooser;
+}
+
+/* --- by priorities --- */
+
+static uint32_t highest(const struct by_priority *state, const uint16_t *can, uint32_t count)
+{
+    uint32_t best = 0;
+    for (uint32_t k = 1; k < count; k++)
+        if (state->priority[can[k]] > state->priority[can[best]])
+            best = k;
+    return best;
+}
+
+static uint32_t choose_by_priority(void *argument, const uint16_t *can, uint32_t count)
+{
+    struct by_priority *state = argument;
+    uint32_t best = highest(state, can, count);
+    for (uint32_t k = 0; k + 1 < state->depth; k++)
+        if (state->at[k] == *nicxi.points && !(state->changed >> k & 1)) {
+            state->changed |= 1u << k;
+            state->priority[can[best]] = state->depth - k - 1;
+            best = highest(state, can, count);
+        }
+    return best;
+}
+
+/* The priorities from `depth` on are those that a schedule begins with, the ones below it come at the changes. */
+nicx_chooser nicxi_by_priority(struct by_priority *state, uint64_t seed, uint64_t run, uint32_t depth, uint32_t length)
+{
+    nicx_chooser chooser = {choose_by_priority, state};
+    struct chance chance = chance_of(seed, run);
+    state->depth = depth;
+    state->changed = 0;
+    for (uint32_t k = 0; k < MOST_ACTORS && k < nicxi.count; k++)
+        state->priority[k] = depth + k;
+    for (uint32_t k = nicxi.count; k > 1; k--) {
+        uint32_t other = chance_below(&chance, k), kept = state->priority[other];
+        state->priority[other] = state->priority[k - 1];
+        state->priority[k - 1] = kept;
+    }
+    for (uint32_t k = 0; k + 1 < depth; k++)
+        state->at[k] = chance_below(&chance, length ? length : 1);
+    return chooser;
+}
+
+/* --- by a list --- */
+
+static uint32_t place_of(uint16_t actor, const uint16_t *can, uint32_t count)
+{
+    for (uint32_t k = 0; k < count; k++)
+        if (can[k] == actor)
+            return k;
+    return count;
+}
+
+/* The choice of a point is asked for again where it was a step of the device with nothing to do. */
+static uint32_t choose_by_list(void *argument, const uint16_t *can, uint32_t count)
+{
+    struct by_list *state = argument;
+    if (state->is_strict) {
+        uint32_t point = *nicxi.points;
+        uint32_t k = point < state->length && state->at <= point ? place_of(state->list[point], can, count) : count;
+        state->at = point + 1;
+        state->unfit = point;
+        state->is_unfit = k == count;
+        return k;
+    }
+    while (state->at < state->length) {
+        uint32_t k = place_of(state->list[state->at++], can, count);
+        if (k < count)
+            return k;
+    }
+    return 0;
+}
+
+nicx_chooser nicxi_by_list(struct by_list *state, const uint16_t *list, uint32_t length, bool is_strict)
+{
+    nicx_chooser chooser = {choose_by_list, state};
+    state->list = list;
+    state->length = length;
+    state->at = 0;
+    state->is_strict = is_strict;
+    state->is_unfit = false;
+    return chooser;
+}

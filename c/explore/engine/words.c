@@ -1,0 +1,70 @@
+#include "words.h"
+
+#include <stdio.h>
+
+static const char *told_words(const struct step *step, char *room)
+{
+    const nic_told *told = &step->told;
+    switch (step->status) {
+    case NIC_DROPPED: snprintf(room, MOST_WORDS, "dropped %s", nic_why_name(told->why)); break;
+    case NIC_WROTE:
+        snprintf(room, MOST_WORDS, "wrote queue %u slot %u %s", told->queue, told->slot, told->end ? "end" : "more");
+        break;
+    case NIC_ADVANCED: snprintf(room, MOST_WORDS, "advanced queue %u slot %u", told->queue, told->slot); break;
+    case NIC_SENT:
+        snprintf(room, MOST_WORDS, "sent queue %u len %u", told->queue, (unsigned)told->len);
+        break;
+    case NIC_FAULT: snprintf(room, MOST_WORDS, "fault queue %u %s", told->queue, nic_fault_name(told->why)); break;
+    case NIC_MESSAGE:
+        if (told->group)
+            snprintf(room, MOST_WORDS, "message vf %u vector %u", told->group - 1u, told->vector);
+        else
+            snprintf(room, MOST_WORDS, "message pf vector %u", told->vector);
+        break;
+    default: snprintf(room, MOST_WORDS, "%s", nic_status_name(step->status));
+    }
+    return room;
+}
+
+const char *nicxi_reply(const struct step *step, char room[MOST_WORDS])
+{
+    return told_words(step, room);
+}
+
+static const char *local_words(uint32_t local)
+{
+    static const char *const words[] = {"begins", "a point", "waited", "waited until", "paused", "locks", "unlocks"};
+    return local < sizeof words / sizeof *words ? words[local] : "";
+}
+
+const char *nicxi_words(const struct step *step, char room[MOST_WORDS])
+{
+    const char *stray = step->status == NIC_STRAY ? " (stray)" : step->status == NIC_NOT_LENT ? " (not lent)" : "";
+    unsigned address = step->address, word = step->word;
+    unsigned long long bus = step->bus;
+    switch (step->kind) {
+    case STEP_LOCAL: return local_words(step->word);
+    case STEP_START: return "starts";
+    case STEP_READ: snprintf(room, MOST_WORDS, "r 0x%05x = 0x%08x%s", address, word, stray); return room;
+    case STEP_WRITE: snprintf(room, MOST_WORDS, "w 0x%05x 0x%08x%s", address, word, stray); return room;
+    case STEP_VF_READ:
+        snprintf(room, MOST_WORDS, "vr %u 0x%04x = 0x%08x%s", step->vf, address, word, stray);
+        return room;
+    case STEP_VF_WRITE:
+        snprintf(room, MOST_WORDS, "vw %u 0x%04x 0x%08x%s", step->vf, address, word, stray);
+        return room;
+    case STEP_PEEK: snprintf(room, MOST_WORDS, "peek 0x%05llx, %u bytes%s", bus, step->length, stray); return room;
+    case STEP_POKE: snprintf(room, MOST_WORDS, "poke 0x%05llx, %u bytes%s", bus, step->length, stray); return room;
+    case STEP_LEND: snprintf(room, MOST_WORDS, "lend %u%s", address, stray); return room;
+    case STEP_TAKE: snprintf(room, MOST_WORDS, "unlend %u%s", address, stray); return room;
+    case STEP_LINK: return step->word ? "link up" : "link down";
+    default: return told_words(step, room);
+    }
+}
+
+const char *nicxi_outcome_name(uint8_t outcome)
+{
+    static const char *const names[] = {"fine",   "end",   "always", "deadlock", "endless", "fault",
+                                        "memory", "check", "misuse", "crash",    "hang",    "unfit"};
+    return outcome < sizeof names / sizeof *names ? names[outcome] : "unknown";
+}

@@ -1,0 +1,17 @@
+/* Steps in words: of the script language where it has them. */
+#ifndef NICX_WORDS_H
+#define NICX_WORDS_H
+
+#include "engine.h"
+
+enum { MOST_WORDS = 160 };
+
+/* What an actor did and what came of it, as "r 0x00800, word 0x00000020". */
+const char *nicxi_words(const struct step *step, char room[MOST_WORDS]);
+
+/* What a step of the device answered, as a run of a script prints it. */
+const char *nicxi_reply(const struct step *step, char room[MOST_WORDS]);
+
+const char *nicxi_outcome_name(uint8_t outcome);
+
+#endif

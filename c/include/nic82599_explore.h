@@ -1,0 +1,191 @@
+/* Searches for the order of steps that breaks a driver. A scenario is a driver's code as tasks and interrupt handlers
+   over one controller of nic82599.h. Each access of a task is a point at which anybody may act: another task, a handler,
+   a step of the device, the next frame, the link. A schedule says who acts at each point, so a run can be repeated, and
+   a failing one is kept in a file, shrunk, and told as a script of the device's side. docs/explore.md begins with an
+   example.
+
+   This part is tested, not proved. Schedules of one process are made one after the other on one thread; tasks run on
+   stacks of their own. The calls below are made in the scenario's functions, in tasks and in handlers, and nowhere
+   else. A task that a schedule leaves behind isn't ended: what it took from malloc is lost, so a driver's state is
+   better static, and made anew in `begin`. */
+#ifndef NIC82599_EXPLORE_H
+#define NIC82599_EXPLORE_H
+
+#include "nic82599.h"
+
+#ifdef __cplusplus
+extern "C" {
+#endif
+
+/* --- a scenario --- */
+
+/* What a scenario takes as no failure. */
+enum nicx_allowed {
+    NICX_FAULTS = 1,  /* a step of the device that answers NIC_FAULT */
+    NICX_NOT_LENT = 2 /* a read or write of the driver in memory that isn't lent */
+};
+
+typedef struct nicx_scenario {
+    const char *name; /* letters, digits, '-' and '_', at most 63: of the files that are written */
+
+    /* The device: as nic_new takes them. `blocks` is at most 65,536; of a scenario with more than 256 no script is
+       written, since a script has 256. */
+    uint8_t vfs;
+    uint16_t fifo;
+    uint32_t blocks;
+    /* Queues 0 .. queues - 1 have their enables and transmit steps made (1 to 128). The receive step, the EEPROM's, and
+       the messages of the physical function and of each virtual one are always among what may be made. */
+    uint16_t queues;
+
+    /* Once in each process: makes the device ready by the nicx_ calls, which are no points here. Null, or why it can't
+       be done. The device is kept as it is then, and every schedule begins with it. */
+    const char *(*bring_up)(void);
+    /* For each schedule: makes the driver's own state anew, and names its tasks, its handlers, and what comes from the
+       link. */
+    void (*begin)(void);
+    /* After each step: null, or what is wrong. It may be null itself. It may look at the device by nicx_device() and
+       calls without effects (nic_peek32, nic_dma_read). */
+    const char *(*always)(void);
+    /* When all is at rest, so that no task, handler or step of the device can go on: null, or what is wrong. */
+    const char *(*end)(void);
+
+    uint32_t points;  /* a schedule with more points than this is a failure: it never ends. 0 stands for 2,000 */
+    uint32_t stack;   /* bytes of a task's stack; 0 stands for 65,536 */
+    uint32_t allowed; /* of enum nicx_allowed */
+} nicx_scenario;
+
+/* --- in `begin` --- */
+
+enum {
+    NICX_TASKS = 16,    /* at most so many tasks, */
+    NICX_HANDLERS = 32, /* handlers, */
+    NICX_FRAMES = 256,  /* and frames and changes of the link */
+    NICX_ANYWHERE = -1, /* a handler interrupts any task, or runs beside all of them */
+    NICX_BESIDE = -2    /* it runs beside all of them: a thread of its own */
+};
+
+/* A task: a thread of the driver, or a processor. Answers its number, from 0 on. */
+int nicx_task(const char *name, void (*function)(void *), void *argument);
+/* A task that may wait for ever, as a loop that serves interrupts does: that it waits at the end is no deadlock. */
+int nicx_service(const char *name, void (*function)(void *), void *argument);
+
+/* What a message of this group (0 the physical function, v + 1 function v) and vector starts. `where` is the number of
+   a task, which doesn't go on before the handler has returned, NICX_ANYWHERE or NICX_BESIDE. A message that comes while
+   its handler is still to start starts it once; one that comes while it runs starts it again afterwards. A message
+   without a handler starts nothing. */
+void nicx_handler(const char *name, uint16_t group, uint8_t vector, void (*function)(void *), void *argument, int where);
+
+/* A frame that will come, after those that were named before; its bytes are copied. At most 16,384 bytes. */
+void nicx_frame(const uint8_t *frame, size_t length);
+/* The link will go down or up, beside the frames and in the order in which this was called. */
+void nicx_link_change(bool up);
+
+/* --- in tasks and handlers: each of these is a point --- */
+
+/* The calls of nic82599.h of the same names, and what they answer. */
+uint32_t nicx_read32(uint32_t address); /* the word that a driver sees, also of a stray access */
+uint8_t nicx_write32(uint32_t address, uint32_t word);
+uint32_t nicx_vf_read32(uint8_t vf, uint32_t offset);
+uint8_t nicx_vf_write32(uint8_t vf, uint32_t offset, uint32_t word);
+uint64_t nicx_get64(uint64_t bus); /* 0 where it isn't lent, which is a failure unless NICX_NOT_LENT allows it */
+uint8_t nicx_put64(uint64_t bus, uint64_t value);
+uint8_t nicx_dma_read(uint64_t bus, uint8_t *bytes, size_t length);
+uint8_t nicx_dma_write(uint64_t bus, const uint8_t *bytes, size_t length);
+uint8_t nicx_lend(uint32_t block);
+uint8_t nicx_take(uint32_t block);
+
+/* A point and nothing else: between two accesses of the driver's own memory. */
+void nicx_point(void);
+
+/* Waits until somebody else has acted: while (!ready) nicx_wait(); */
+void nicx_wait(void);
+/* Waits until a condition on the driver's own memory holds; the condition makes none of these calls. This is one point,
+   where a loop of nicx_wait is one for each act of somebody else. */
+void nicx_wait_until(bool (*condition)(void *), void *argument);
+/* Lets others act before this task goes on; where nobody can, it goes on. For loops that poll a bounded number of
+   times. */
+void nicx_pause(void);
+
+/* A lock of the driver's own: {0} is a lock, which every schedule begins with free. Taking one that its holder takes
+   again never ends. */
+typedef struct nicx_mutex {
+    const char *name; /* for reports; may be null */
+    uint64_t kept;    /* not the driver's */
+} nicx_mutex;
+
+void nicx_lock(nicx_mutex *lock);
+void nicx_unlock(nicx_mutex *lock);
+
+/* While they are off no handler starts on this task. Counted, so pairs may be nested. No points. */
+void nicx_interrupts_off(void);
+void nicx_interrupts_on(void);
+
+/* The schedule fails here, with these words; it doesn't return. The words are kept by pointer. */
+void nicx_fail(const char *words);
+static inline void nicx_check(bool holds, const char *words)
+{
+    if (!holds)
+        nicx_fail(words);
+}
+
+/* --- in `bring_up` and `end` --- */
+
+/* The controller, for calls that the explorer needn't know of: without effects, or in `end`. */
+nic *nicx_device(void);
+
+uint8_t nicx_lend_all(void);
+/* Makes steps of the device's own until none has anything to do. Only in `bring_up`. */
+void nicx_settle(void);
+
+/* --- a whole program --- */
+
+/* Searches as the words say (docs/explore.md, or --help): 0 nothing was found, 1 a failure was found, 2 words, a
+   schedule or a scenario that can't be taken. */
+int nicx_main(int argc, char **argv, const nicx_scenario *scenario);
+
+/* --- what nicx_main stands on, for other drivers of the search (a fuzzer, another language) --- */
+
+enum nicx_outcome {
+    NICX_FINE = 0,
+    NICX_END = 1,       /* `end` said what is wrong */
+    NICX_ALWAYS = 2,    /* `always` did */
+    NICX_DEADLOCK = 3,  /* tasks wait, and nobody can act */
+    NICX_ENDLESS = 4,   /* more points than a schedule may have */
+    NICX_FAULT = 5,     /* a queue's fault */
+    NICX_MEMORY = 6,    /* the driver's access of memory that isn't lent */
+    NICX_CHECK = 7,     /* nicx_fail */
+    NICX_MISUSE = 8,    /* a call that can't be made there, as the unlocking of a lock that another holds */
+    NICX_CRASH = 9,     /* a signal ended the process */
+    NICX_HANG = 10,     /* a task made no point for ten seconds */
+    NICX_UNFIT = 11     /* a schedule that was to be followed to the letter doesn't fit the scenario */
+};
+
+typedef struct nicx_result {
+    uint8_t outcome;   /* enum nicx_outcome */
+    uint32_t points;   /* how many choices were made */
+    uint32_t switches; /* how often another one acted than at the point before */
+    char words[256];   /* what is wrong; "" where nothing is */
+} nicx_result;
+
+/* Who acts is chosen by the caller: `can` has the numbers of `count` actors that may act, the one that acted last first
+   where it may go on. Answers the index of one of them. It is called again at the same point where the answer was a
+   step of the device that had nothing to do; that one isn't offered any more then. */
+typedef struct nicx_chooser {
+    uint32_t (*choose)(void *argument, const uint16_t *can, uint32_t count);
+    void *argument;
+} nicx_chooser;
+
+/* Brings a scenario's device up: null, or why it can't be. One scenario a process. */
+const char *nicx_open(const nicx_scenario *scenario);
+/* Makes one schedule. In a driver that crashes it doesn't return. */
+void nicx_run(const nicx_chooser *chooser, nicx_result *result);
+/* The actors of the last schedule, point by point, and what actor a number is, as the files call it. */
+const uint16_t *nicx_schedule(uint32_t *points);
+const char *nicx_actor_name(uint16_t actor, char room[96]);
+void nicx_close(void);
+
+#ifdef __cplusplus
+}
+#endif
+
+#endif

@@ -109,8 +109,9 @@ enum actor_kind {
 struct actor {
     uint8_t kind;
     bool idle;   /* a step of the device that had nothing to do, and nothing came up since */
-    uint16_t of; /* a thread, a queue, a group */
-    int on;      /* of a start: the task, or -1 */
+    uint16_t of;   /* a thread, a queue, a group */
+    int on;        /* of a start: the task, or -1 */
+    uint32_t last; /* one more than the point at which it acted last; 0 where it didn't */
 };
 
 struct frame {
@@ -177,6 +178,8 @@ void nicxi_told(const struct step *step);
 void nicxi_list_actors(void);
 /* Whether an actor may act, as far as is known without trying. */
 bool nicxi_can_act(const struct actor *actor);
+/* Whether the first of those that can act is the one that acted last. */
+bool nicxi_goes_on(const uint16_t *can);
 /* Makes a step of the device or the link: false where there was nothing to do. */
 bool nicxi_device_step(struct actor *actor, struct step *step);
 /* After this step, these steps of the device may have something to do, and threads that wait look again. */

@@ -6,6 +6,8 @@
 #include "independent.h"
 #include "options.h"
 
+enum { PATIENCE = 64 };
+
 /* A step that was made at a point, and all that follows it there was searched. */
 struct asleep {
     uint16_t actor;
@@ -166,6 +168,24 @@ static bool inherit(struct exhaustive *it, const struct node *above, struct node
     return true;
 }
 
+/* Who acted longest ago is tried first: so a schedule that makes no further choice is fair. */
+static void sort(uint16_t *can, uint32_t count, bool is_current)
+{
+    for (uint32_t k = is_current + 1u; k < count; k++) {
+        uint16_t actor = can[k];
+        uint32_t to = k;
+        for (; to > is_current && nicxi.actors[can[to - 1]].last > nicxi.actors[actor].last; to--)
+            can[to] = can[to - 1];
+        can[to] = actor;
+    }
+}
+
+/* One that could act and didn't for so long does: else there is no end where two wake each other. */
+static bool is_starved(uint16_t actor)
+{
+    return *nicxi.points > nicxi.actors[actor].last + PATIENCE;
+}
+
 static struct node *add_node(struct exhaustive *it, const uint16_t *can, uint32_t count)
 {
     struct node *node = &it->nodes[it->depth], *above = it->depth ? node - 1 : NULL;
@@ -177,6 +197,9 @@ static struct node *add_node(struct exhaustive *it, const uint16_t *can, uint32_
     node->asleep = it->asleep_count;
     if (!add_can(it, can, count) || (above && !inherit(it, above, node)))
         return NULL;
+    sort(it->can + node->can, count, node->is_current);
+    if (!node->is_current && is_starved(it->can[node->can]))
+        node->count = 1;
     it->depth++;
     go_to(it, node, 0);
     node[1].is_current = false;

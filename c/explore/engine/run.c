@@ -94,6 +94,11 @@ static uint32_t list_able(bool paused)
     return count;
 }
 
+bool nicxi_goes_on(const uint16_t *can)
+{
+    return *nicxi.points && nicxi.schedule[*nicxi.points - 1] == can[0];
+}
+
 static void note(uint16_t number)
 {
     uint32_t points = *nicxi.points;
@@ -116,6 +121,7 @@ static bool device_acts(uint16_t number)
         actor->idle = true;
         return false;
     }
+    actor->last = *nicxi.points;
     nicxi.acts++;
     nicxi.changes++;
     nicxi_wake(&step);
@@ -167,6 +173,7 @@ static uint16_t choose(void)
             continue;
         }
         note(number);
+        nicxi.actors[number].last = *nicxi.points;
         return number;
     }
     return NOBODY;

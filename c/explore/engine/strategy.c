@@ -25,9 +25,13 @@ static uint32_t highest(const struct by_priority *state, const uint16_t *can, ui
     return best;
 }
 
+/* A schedule that comes to half of its points is made fair from there on: who has the highest priority may keep another
+   from what it waits for without waiting itself. */
 static uint32_t choose_by_priority(void *argument, const uint16_t *can, uint32_t count)
 {
     struct by_priority *state = argument;
+    if (*nicxi.points >= nicxi.most_points / 2)
+        return chance_below(&state->chance, count);
     uint32_t best = highest(state, can, count);
     for (uint32_t k = 0; k + 1 < state->depth; k++)
         if (state->at[k] == *nicxi.points && !(state->changed >> k & 1)) {
@@ -43,6 +47,7 @@ nicx_chooser nicxi_by_priority(struct by_priority *state, uint64_t seed, uint64_
 {
     nicx_chooser chooser = {choose_by_priority, state};
     struct chance chance = chance_of(seed, run);
+    state->chance = chance_of(~seed, run);
     state->depth = depth;
     state->changed = 0;
     for (uint32_t k = 0; k < MOST_ACTORS && k < nicxi.count; k++)
@@ -67,6 +72,15 @@ static uint32_t place_of(uint16_t actor, const uint16_t *can, uint32_t count)
     return count;
 }
 
+static uint32_t longest_ago(const uint16_t *can, uint32_t count)
+{
+    uint32_t best = 0;
+    for (uint32_t k = 1; k < count; k++)
+        if (nicxi.actors[can[k]].last < nicxi.actors[can[best]].last)
+            best = k;
+    return best;
+}
+
 /* The choice of a point is asked for again where it was a step of the device with nothing to do. */
 static uint32_t choose_by_list(void *argument, const uint16_t *can, uint32_t count)
 {
@@ -84,7 +98,7 @@ static uint32_t choose_by_list(void *argument, const uint16_t *can, uint32_t cou
         if (k < count)
             return k;
     }
-    return 0;
+    return nicxi_goes_on(can) ? 0 : longest_ago(can, count);
 }
 
 nicx_chooser nicxi_by_list(struct by_list *state, const uint16_t *list, uint32_t length, bool is_strict)

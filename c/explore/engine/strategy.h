@@ -19,6 +19,7 @@ nicx_chooser nicxi_by_chance(struct by_chance *state, uint64_t seed, uint64_t ru
 enum { MOST_DEPTH = 16 };
 
 struct by_priority {
+    struct chance chance;
     uint32_t priority[MOST_ACTORS];
     uint32_t at[MOST_DEPTH];
     uint32_t depth, changed;
@@ -37,7 +38,7 @@ struct by_list {
 };
 
 /* Where an actor of the list can't act, the schedule ends (strict) or the next one is taken; after the list's end the
-   one goes on that acted last, or the first that can. */
+   one goes on that acted last, or the one that acted longest ago. */
 nicx_chooser nicxi_by_list(struct by_list *state, const uint16_t *list, uint32_t length, bool is_strict);
 
 #endif

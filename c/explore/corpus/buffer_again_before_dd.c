@@ -1,0 +1,45 @@
+/* A driver with one buffer fills it again for the next frame before the device has said that the first one went out. */
+#include "card.h"
+
+enum { FRAMES = 2 };
+
+static const char *bring_up(void)
+{
+    lend_blocks(1);
+    bring_up_transmit();
+    return NULL;
+}
+
+static void send(void *unused)
+{
+    (void)unused;
+    for (unsigned k = 0; k < FRAMES; k++) {
+#ifndef WRONG
+        while (k && !is_done(TX_RING, k - 1, TX_DONE))
+            nicx_wait();
+#endif
+        fill_buffer(0, k);
+        put_transmit(k, 0, EOP_RS);
+        nicx_write32(NIC_TDT(0), k + 1);
+    }
+}
+
+static void begin(void)
+{
+    nicx_task("send", send, NULL);
+}
+
+static const char *end(void)
+{
+    return went_out(FRAMES);
+}
+
+static const nicx_scenario scenario = {
+    .name = "buffer_again_before_dd", .fifo = 64, .blocks = 16, .queues = 1,
+    .bring_up = bring_up, .begin = begin, .end = end,
+};
+
+int main(int argc, char **argv)
+{
+    return nicx_main(argc, argv, &scenario);
+}

@@ -1,0 +1,123 @@
+/* What the drivers of the corpus have in common: where things lie in packet memory, and how a queue is brought up.
+   Each driver is one file with its bug under `#ifdef WRONG`; without it the file is the right twin. */
+#ifndef CORPUS_CARD_H
+#define CORPUS_CARD_H
+
+#include <string.h>
+
+#include "nic82599_explore.h"
+
+enum {
+    SLOTS = 8,          /* of a ring */
+    RX_RING = 0x0800,   /* block 1; block 0 isn't lent, so address 0 is a fault */
+    TX_RING = 0x0880,
+    NEW_RING = 0x0900,
+    WRITTEN_HEAD = 0x0980,
+    BUFFERS = 0x1000,   /* from block 2 on, one a buffer */
+    FRAME = 60,
+    CAUSE = 1 << 5,
+    DD = 1,
+    EOP_RS = 0x2B,      /* EOP, IFCS, RS and DEXT, from bit 24 of a transmit descriptor's second half on */
+    EOP = 0x23,         /* the same without RS */
+    DATA = 3,           /* from bit 20 on */
+    ENABLE = 1 << 25 /* RXDCTL and TXDCTL: wanted on; read: on */
+};
+
+static inline uint64_t buffer(unsigned number)
+{
+    return BUFFERS + NIC_BLOCK_BYTES * (uint64_t)number;
+}
+
+static inline void lend_blocks(unsigned buffers)
+{
+    for (unsigned block = 1; block < 2 + buffers; block++)
+        nicx_lend(block);
+}
+
+/* Receive queue 0 with its ring at RX_RING, on, with all frames let in; `posted` slots have a buffer each. */
+static inline void bring_up_receive(unsigned posted)
+{
+    nicx_write32(NIC_RXCTRL, NIC_RXCTRL_RXEN);
+    nicx_write32(NIC_FCTRL, NIC_FCTRL_UPE);
+    nicx_write32(NIC_RDBAL(0), RX_RING);
+    nicx_write32(NIC_RDLEN(0), 16 * SLOTS);
+    nicx_write32(NIC_SRRCTL(0), NIC_SRRCTL_DESCTYPE_IS(1) | NIC_SRRCTL_BSIZEPACKET_IS(2));
+    nicx_write32(NIC_RXDCTL(0), ENABLE);
+    nicx_settle();
+    for (unsigned slot = 0; slot < posted; slot++)
+        nicx_put64(RX_RING + 16 * slot, buffer(slot));
+    nicx_write32(NIC_RDT(0), posted);
+}
+
+/* Its interrupt: cause 5, told once for each time that it is raised. */
+static inline void bring_up_interrupt(void)
+{
+    nicx_write32(NIC_IVAR(0), NIC_IVAR_INT_ALLOC_0_IS(5) | NIC_IVAR_INT_ALLOC_VAL_0);
+    nicx_write32(NIC_EIAC, 0);
+    nicx_write32(NIC_EIMS, CAUSE);
+}
+
+/* Transmit queue 0 with its ring at TX_RING, on. */
+static inline void bring_up_transmit(void)
+{
+    nicx_write32(NIC_TDBAL(0), TX_RING);
+    nicx_write32(NIC_TDLEN(0), 16 * SLOTS);
+    nicx_write32(NIC_TXDCTL(0), ENABLE);
+    nicx_settle();
+    nicx_write32(NIC_DMATXCTL, NIC_DMATXCTL_TE);
+}
+
+/* Frames whose last byte tells which they are. */
+static inline void make_frame(uint8_t frame[FRAME], unsigned number)
+{
+    static const uint8_t head[14] = {2, 0, 0, 0, 0, 1, 2, 0, 0, 0, 0, 2, 0x88, 0xB5};
+    memset(frame, 0, FRAME);
+    memcpy(frame, head, sizeof head);
+    frame[FRAME - 1] = (uint8_t)number;
+}
+
+static inline void frames_come(unsigned count)
+{
+    uint8_t frame[FRAME];
+    for (unsigned k = 0; k < count; k++) {
+        make_frame(frame, k);
+        nicx_frame(frame, FRAME);
+    }
+}
+
+/* A descriptor of a slot of the transmit ring: a frame in a buffer, with these bits from bit 24 on. */
+static inline void put_transmit(unsigned slot, unsigned number, uint64_t bits)
+{
+    nicx_put64(TX_RING + 16 * slot, buffer(number));
+    nicx_put64(TX_RING + 16 * slot + 8, (uint64_t)FRAME << 46 | bits << 24 | (uint64_t)DATA << 20 | FRAME);
+}
+
+static inline void fill_buffer(unsigned number, unsigned frame_number)
+{
+    uint8_t frame[FRAME];
+    make_frame(frame, frame_number);
+    nicx_dma_write(buffer(number), frame, FRAME);
+}
+
+static inline bool is_done(uint64_t ring, unsigned slot, unsigned bit)
+{
+    return nicx_get64(ring + 16 * slot + 8) >> bit & 1;
+}
+
+enum { RX_DONE = 0, TX_DONE = 32 };
+
+/* In `end`: null where frames 0 .. count - 1 went out, each once and in this order. */
+static inline const char *went_out(unsigned count)
+{
+    uint8_t frame[FRAME];
+    nic_told told;
+    for (unsigned k = 0; k < count; k++) {
+        if (nic_collect(nicx_device(), frame, sizeof frame, &told) != NIC_FRAME)
+            return "a frame didn't go out";
+        if (frame[FRAME - 1] != k)
+            return "a frame went out with the bytes of another";
+    }
+    return nic_next_out(nicx_device()) ? "a frame went out twice" : NULL;
+}
+
+#endif

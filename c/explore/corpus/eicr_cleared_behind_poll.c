@@ -1,0 +1,72 @@
+/* A poll that found its ring empty clears EICR, and then unmasks. A frame that came since the last look raised its
+   cause before that: nothing tells of it any more. */
+#include "card.h"
+
+enum { FRAMES = 2 };
+
+static struct {
+    bool scheduled;
+    unsigned next, got;
+} driver;
+
+static const char *bring_up(void)
+{
+    lend_blocks(7);
+    bring_up_receive(7);
+    bring_up_interrupt();
+    return NULL;
+}
+
+static void isr(void *unused)
+{
+    (void)unused;
+    nicx_write32(NIC_EIMC, CAUSE);
+    driver.scheduled = true;
+}
+
+static bool is_scheduled(void *unused)
+{
+    (void)unused;
+    return driver.scheduled;
+}
+
+static void poll(void *unused)
+{
+    (void)unused;
+    while (driver.got < FRAMES) {
+        nicx_wait_until(is_scheduled, NULL);
+        driver.scheduled = false;
+        nicx_read32(NIC_EICR);
+        while (driver.next < 7 && is_done(RX_RING, driver.next, RX_DONE)) {
+            driver.next++;
+            driver.got++;
+        }
+#ifdef WRONG
+        nicx_read32(NIC_EICR);
+#endif
+        nicx_write32(NIC_EIMS, CAUSE);
+    }
+}
+
+static void begin(void)
+{
+    memset(&driver, 0, sizeof driver);
+    nicx_service("poll", poll, NULL);
+    nicx_handler("isr", 0, 5, isr, NULL, NICX_ANYWHERE);
+    frames_come(FRAMES);
+}
+
+static const char *end(void)
+{
+    return driver.got == FRAMES ? NULL : "a frame lies in the ring, and nobody comes for it";
+}
+
+static const nicx_scenario scenario = {
+    .name = "eicr_cleared_behind_poll", .fifo = 64, .blocks = 16, .queues = 1,
+    .bring_up = bring_up, .begin = begin, .end = end,
+};
+
+int main(int argc, char **argv)
+{
+    return nicx_main(argc, argv, &scenario);
+}

@@ -1,0 +1,50 @@
+/* A queue that is asked to go off is on for a while yet, and holds its ring meanwhile: who doesn't wait for the bit
+   moves the ring in vain. */
+#include "card.h"
+
+static const char *bring_up(void)
+{
+    lend_blocks(7);
+    bring_up_receive(7);
+    return NULL;
+}
+
+static void wait_for_enable(uint32_t wanted)
+{
+    while ((nicx_read32(NIC_RXDCTL(0)) & ENABLE) != wanted)
+        nicx_wait();
+}
+
+static void move_ring(void *unused)
+{
+    (void)unused;
+    nicx_write32(NIC_RXDCTL(0), 0);
+#ifndef WRONG
+    wait_for_enable(0);
+#endif
+    nicx_write32(NIC_RDBAL(0), NEW_RING);
+    nicx_write32(NIC_RXDCTL(0), ENABLE);
+    wait_for_enable(ENABLE);
+}
+
+static void begin(void)
+{
+    nicx_task("move_ring", move_ring, NULL);
+}
+
+static const char *end(void)
+{
+    uint32_t base = 0;
+    nic_peek32(nicx_device(), NIC_RDBAL(0), &base);
+    return base == NEW_RING ? NULL : "the ring is still the old one";
+}
+
+static const nicx_scenario scenario = {
+    .name = "enable_not_polled", .fifo = 64, .blocks = 16, .queues = 1,
+    .bring_up = bring_up, .begin = begin, .end = end,
+};
+
+int main(int argc, char **argv)
+{
+    return nicx_main(argc, argv, &scenario);
+}

@@ -1,0 +1,66 @@
+/* A tail that is moved before the descriptor behind it is written: the device may take the slot as it was. */
+#include "card.h"
+
+enum { FRAMES = 3, POSTED = 2 };
+
+static struct {
+    unsigned next, tail, got;
+} driver;
+
+static const char *bring_up(void)
+{
+    lend_blocks(SLOTS);
+    bring_up_receive(POSTED);
+    return NULL;
+}
+
+static void repost(unsigned slot)
+{
+#ifdef WRONG
+    nicx_write32(NIC_RDT(0), (slot + 1) % SLOTS);
+    nicx_put64(RX_RING + 16 * slot, buffer(slot));
+    nicx_put64(RX_RING + 16 * slot + 8, 0);
+#else
+    nicx_put64(RX_RING + 16 * slot, buffer(slot));
+    nicx_put64(RX_RING + 16 * slot + 8, 0);
+    nicx_write32(NIC_RDT(0), (slot + 1) % SLOTS);
+#endif
+}
+
+static void poll(void *unused)
+{
+    (void)unused;
+    while (driver.got < FRAMES) {
+        if (!is_done(RX_RING, driver.next, RX_DONE)) {
+            nicx_wait();
+            continue;
+        }
+        driver.next = (driver.next + 1) % SLOTS;
+        driver.got++;
+        repost(driver.tail);
+        driver.tail = (driver.tail + 1) % SLOTS;
+    }
+}
+
+static void begin(void)
+{
+    memset(&driver, 0, sizeof driver);
+    driver.tail = POSTED;
+    nicx_task("poll", poll, NULL);
+    frames_come(FRAMES);
+}
+
+static const char *end(void)
+{
+    return driver.got == FRAMES ? NULL : "a frame is lost";
+}
+
+static const nicx_scenario scenario = {
+    .name = "tail_before_descriptor", .fifo = 64, .blocks = 16, .queues = 1,
+    .bring_up = bring_up, .begin = begin, .end = end,
+};
+
+int main(int argc, char **argv)
+{
+    return nicx_main(argc, argv, &scenario);
+}

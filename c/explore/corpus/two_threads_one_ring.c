@@ -1,0 +1,62 @@
+/* Two threads send on one ring, and nothing keeps them apart: both may fill the same slot. */
+#include "card.h"
+
+enum { FRAMES = 2 };
+
+static struct {
+    nicx_mutex lock;
+    unsigned tail;
+} driver;
+
+static const unsigned numbers[FRAMES] = {0, 1};
+
+static const char *bring_up(void)
+{
+    lend_blocks(FRAMES);
+    bring_up_transmit();
+    return NULL;
+}
+
+static void send(void *argument)
+{
+    unsigned number = *(const unsigned *)argument;
+    fill_buffer(number, number);
+#ifndef WRONG
+    nicx_lock(&driver.lock);
+#endif
+    unsigned slot = driver.tail;
+    put_transmit(slot, number, EOP_RS);
+    driver.tail = slot + 1;
+    nicx_write32(NIC_TDT(0), driver.tail);
+#ifndef WRONG
+    nicx_unlock(&driver.lock);
+#endif
+}
+
+static void begin(void)
+{
+    memset(&driver, 0, sizeof driver);
+    driver.lock.name = "ring";
+    nicx_task("send0", send, (void *)(uintptr_t)&numbers[0]);
+    nicx_task("send1", send, (void *)(uintptr_t)&numbers[1]);
+}
+
+static const char *end(void)
+{
+    unsigned out = 0;
+    uint8_t frame[FRAME];
+    nic_told told;
+    while (nic_collect(nicx_device(), frame, sizeof frame, &told) == NIC_FRAME)
+        out |= 1u << frame[FRAME - 1];
+    return out == (1u << FRAMES) - 1 ? NULL : "a frame didn't go out";
+}
+
+static const nicx_scenario scenario = {
+    .name = "two_threads_one_ring", .fifo = 64, .blocks = 16, .queues = 1,
+    .bring_up = bring_up, .begin = begin, .end = end,
+};
+
+int main(int argc, char **argv)
+{
+    return nicx_main(argc, argv, &scenario);
+}

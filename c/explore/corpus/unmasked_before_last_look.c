@@ -1,0 +1,80 @@
+/* A poll unmasks and then looks at its ring a last time: the next interrupt starts a poll on another processor beside
+   it, and both take the same slot. */
+#include "card.h"
+
+enum { FRAMES = 2 };
+
+static struct {
+    bool scheduled;
+    unsigned next, got, polls;
+} driver;
+
+static const char *bring_up(void)
+{
+    lend_blocks(7);
+    bring_up_receive(7);
+    bring_up_interrupt();
+    return NULL;
+}
+
+static void isr(void *unused)
+{
+    (void)unused;
+    nicx_write32(NIC_EIMC, CAUSE);
+    nicx_read32(NIC_EICR);
+    driver.scheduled = true;
+}
+
+static bool is_scheduled(void *unused)
+{
+    (void)unused;
+    return driver.scheduled;
+}
+
+static void take_all(void)
+{
+    while (driver.next < 7 && is_done(RX_RING, driver.next, RX_DONE)) {
+        driver.got++;
+        driver.next++;
+    }
+}
+
+static void poll(void *unused)
+{
+    (void)unused;
+    for (;;) {
+        nicx_wait_until(is_scheduled, NULL);
+        driver.scheduled = false;
+#ifdef WRONG
+        nicx_write32(NIC_EIMS, CAUSE);
+        take_all();
+#else
+        take_all();
+        nicx_write32(NIC_EIMS, CAUSE);
+#endif
+    }
+}
+
+static void begin(void)
+{
+    memset(&driver, 0, sizeof driver);
+    nicx_service("poll0", poll, NULL);
+    nicx_service("poll1", poll, NULL);
+    nicx_handler("isr", 0, 5, isr, NULL, NICX_BESIDE);
+    frames_come(FRAMES);
+}
+
+static const char *end(void)
+{
+    return driver.got == FRAMES ? NULL : driver.got > FRAMES ? "a frame was taken twice" : "a frame is lost";
+}
+
+static const nicx_scenario scenario = {
+    .name = "unmasked_before_last_look", .fifo = 64, .blocks = 16, .queues = 1,
+    .bring_up = bring_up, .begin = begin, .end = end,
+};
+
+int main(int argc, char **argv)
+{
+    return nicx_main(argc, argv, &scenario);
+}

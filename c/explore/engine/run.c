@@ -235,6 +235,8 @@ static void begin_threads(void)
         thread->own = thread->seen = 0;
         thread->voided = 0;
         thread->polls = 0;
+        thread->polled[0] = thread->polled[1] = UINT32_MAX;
+        thread->next.waits = false;
         thread->pending = thread->is_void = false;
         thread->next.kind = STEP_LOCAL;
         thread->next.word = LOCAL_BEGIN;
@@ -266,11 +268,11 @@ static void judge_waiting(bool locks)
         if ((k < NICX_TASKS ? k >= nicxi.tasks : k - NICX_TASKS >= nicxi.handlers) || thread->state == OFF)
             continue;
         if (locks && thread->state == LOCKED)
-            nicxi_failed(NICX_DEADLOCK, "deadlock: %s waits for %s, which %s holds", thread->name,
+            nicxi_failed(NICX_DEADLOCK, "%s waits for %s, which %s holds", thread->name,
                          thread->lock->name ? thread->lock->name : "a lock",
                          nicxi.threads[(thread->lock->kept & 0xFF) - 1].name);
         if (!locks && !thread->is_service)
-            nicxi_failed(NICX_DEADLOCK, "deadlock: %s waits, and nobody can act", thread->name);
+            nicxi_failed(NICX_DEADLOCK, "%s waits, and nobody can act", thread->name);
     }
 }
 

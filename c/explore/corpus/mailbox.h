@@ -1,0 +1,35 @@
+/* A host and its function 0: the mailbox between them. */
+#ifndef CORPUS_MAILBOX_H
+#define CORPUS_MAILBOX_H
+
+#include "card.h"
+
+enum {
+    REQ = 1, ACK = 2, VFU = 4, PFU = 8, PFSTS = 16, PFACK = 32, RSTD = 128, /* of the function's VFMAILBOX */
+    STS = 1,                                                                /* of the host's PFMAILBOX, with ACK, PFU */
+    VFMAILBOX = 0x2FC,
+    VFMBMEM = 0x200,
+    DEVICE_READY = 0x4000 /* CTRL_EXT: the functions may start */
+};
+
+/* The host reads what came from function 0, and takes the request away. */
+static inline bool is_asked(void)
+{
+    if (!(nicx_read32(NIC_PFMBICR(0)) & 1))
+        return false;
+    nicx_write32(NIC_PFMBICR(0), 1);
+    return true;
+}
+
+/* The function takes the mailbox. */
+static inline void take_mailbox(void)
+{
+    for (;;) {
+        nicx_vf_write32(0, VFMAILBOX, VFU);
+        if (nicx_vf_read32(0, VFMAILBOX) & VFU)
+            return;
+        nicx_wait();
+    }
+}
+
+#endif

@@ -1,0 +1,77 @@
+/* Function and host write the same mailbox. A function that doesn't take it first (VFU) has its message mixed with the
+   host's. */
+#include "mailbox.h"
+
+static struct {
+    bool mixed, read;
+} driver;
+
+static const char *bring_up(void)
+{
+    nicx_write32(NIC_GCR_EXT, 3);
+    nicx_write32(NIC_CTRL_EXT, DEVICE_READY);
+    nicx_vf_read32(0, VFMAILBOX);
+    return NULL;
+}
+
+/* The function sends two words that belong together. */
+static void function(void *unused)
+{
+    (void)unused;
+#ifdef WRONG
+    nicx_vf_write32(0, VFMBMEM, 0x11);
+    nicx_vf_write32(0, VFMBMEM + 4, 0x12);
+    nicx_vf_write32(0, VFMAILBOX, REQ);
+#else
+    take_mailbox();
+    nicx_vf_write32(0, VFMBMEM, 0x11);
+    nicx_vf_write32(0, VFMBMEM + 4, 0x12);
+    nicx_vf_write32(0, VFMAILBOX, VFU | REQ);
+#endif
+}
+
+/* The host tells the function of its link, whenever. */
+static void tell_link(void *unused)
+{
+    (void)unused;
+    nicx_write32(NIC_PFMAILBOX(0), PFU);
+    if (!(nicx_read32(NIC_PFMAILBOX(0)) & PFU))
+        return;
+    nicx_write32(NIC_PFMBMEM(0), 0x21);
+    nicx_write32(NIC_PFMBMEM(1), 0x22);
+    nicx_write32(NIC_PFMAILBOX(0), STS);
+}
+
+static void serve(void *unused)
+{
+    (void)unused;
+    while (!is_asked())
+        nicx_wait();
+    uint32_t first = nicx_read32(NIC_PFMBMEM(0)), second = nicx_read32(NIC_PFMBMEM(1));
+    driver.read = true;
+    driver.mixed = first != 0x11 || second != 0x12;
+    nicx_write32(NIC_PFMAILBOX(0), ACK);
+}
+
+static void begin(void)
+{
+    memset(&driver, 0, sizeof driver);
+    nicx_task("function", function, NULL);
+    nicx_task("tell_link", tell_link, NULL);
+    nicx_task("serve", serve, NULL);
+}
+
+static const char *end(void)
+{
+    return !driver.read ? "the host read no message" : driver.mixed ? "the host read another message than was sent" : NULL;
+}
+
+static const nicx_scenario scenario = {
+    .name = "mailbox_not_taken", .vfs = 1, .fifo = 64, .blocks = 16, .queues = 1,
+    .bring_up = bring_up, .begin = begin, .end = end,
+};
+
+int main(int argc, char **argv)
+{
+    return nicx_main(argc, argv, &scenario);
+}

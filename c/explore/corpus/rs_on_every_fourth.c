@@ -1,0 +1,58 @@
+/* Every fourth descriptor asks for a report. Who looks at the report of another four takes their buffers for free. */
+#include "card.h"
+
+enum { FRAMES = 12, FOUR = 4 };
+
+static const char *bring_up(void)
+{
+    lend_blocks(FOUR);
+    bring_up_transmit();
+    return NULL;
+}
+
+/* Four buffers: those of the four before must have gone out. */
+static void wait_for_the_four_before(unsigned first)
+{
+    if (!first)
+        return;
+#ifdef WRONG
+    unsigned slot = FOUR - 1;
+#else
+    unsigned slot = (first - 1) % SLOTS;
+#endif
+    while (!is_done(TX_RING, slot, TX_DONE))
+        nicx_wait();
+}
+
+static void send(void *unused)
+{
+    (void)unused;
+    for (unsigned first = 0; first < FRAMES; first += FOUR) {
+        wait_for_the_four_before(first);
+        for (unsigned k = first; k < first + FOUR; k++) {
+            fill_buffer(k % FOUR, k);
+            put_transmit(k % SLOTS, k % FOUR, k % FOUR == FOUR - 1 ? EOP_RS : EOP);
+        }
+        nicx_write32(NIC_TDT(0), (first + FOUR) % SLOTS);
+    }
+}
+
+static void begin(void)
+{
+    nicx_task("send", send, NULL);
+}
+
+static const char *end(void)
+{
+    return went_out(FRAMES);
+}
+
+static const nicx_scenario scenario = {
+    .name = "rs_on_every_fourth", .fifo = 64, .blocks = 16, .queues = 1,
+    .bring_up = bring_up, .begin = begin, .end = end,
+};
+
+int main(int argc, char **argv)
+{
+    return nicx_main(argc, argv, &scenario);
+}

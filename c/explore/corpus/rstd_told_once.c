@@ -1,0 +1,71 @@
+/* RSTD is told by one read of VFMAILBOX and gone then. A function of which two threads read it loses it, where the one
+   that doesn't wait for it drops what it read. */
+#include "mailbox.h"
+
+static struct {
+    uint32_t seen;
+} driver;
+
+static const char *bring_up(void)
+{
+    nicx_write32(NIC_GCR_EXT, 3);
+    return NULL;
+}
+
+static void host(void *unused)
+{
+    (void)unused;
+    nicx_write32(NIC_CTRL_EXT, DEVICE_READY);
+}
+
+/* What is told once is kept for whoever waits for it. */
+static uint32_t read_mailbox(void)
+{
+    uint32_t word = nicx_vf_read32(0, VFMAILBOX);
+#ifdef WRONG
+    return word;
+#else
+    driver.seen |= word & (PFSTS | PFACK | RSTD);
+    return word | driver.seen;
+#endif
+}
+
+static void watch(void *unused)
+{
+    (void)unused;
+    for (int k = 0; k < 2; k++) {
+        if (read_mailbox() & PFSTS)
+            return;
+        nicx_point();
+    }
+}
+
+static void start(void *unused)
+{
+    (void)unused;
+    while (!(read_mailbox() & RSTD))
+        nicx_wait();
+}
+
+static void begin(void)
+{
+    memset(&driver, 0, sizeof driver);
+    nicx_task("host", host, NULL);
+    nicx_task("watch", watch, NULL);
+    nicx_task("start", start, NULL);
+}
+
+static const char *end(void)
+{
+    return NULL;
+}
+
+static const nicx_scenario scenario = {
+    .name = "rstd_told_once", .vfs = 1, .fifo = 64, .blocks = 16, .queues = 1,
+    .bring_up = bring_up, .begin = begin, .end = end,
+};
+
+int main(int argc, char **argv)
+{
+    return nicx_main(argc, argv, &scenario);
+}

@@ -1,0 +1,45 @@
+/* A queue that is asked to go off still receives until it is off. A driver that takes its buffers back before that has
+   the device write to memory that is another's. */
+#include "card.h"
+
+enum { FRAMES = 2, POSTED = 2 };
+
+static const char *bring_up(void)
+{
+    lend_blocks(POSTED);
+    bring_up_receive(POSTED);
+    return NULL;
+}
+
+static void stop(void *unused)
+{
+    (void)unused;
+    nicx_write32(NIC_RXDCTL(0), 0);
+#ifndef WRONG
+    while (nicx_read32(NIC_RXDCTL(0)) & ENABLE)
+        nicx_wait();
+#endif
+    for (unsigned k = 0; k < POSTED; k++)
+        nicx_take((uint32_t)(buffer(k) / NIC_BLOCK_BYTES));
+}
+
+static void begin(void)
+{
+    nicx_task("stop", stop, NULL);
+    frames_come(FRAMES);
+}
+
+static const char *end(void)
+{
+    return NULL;
+}
+
+static const nicx_scenario scenario = {
+    .name = "stop_that_does_not_wait", .fifo = 64, .blocks = 16, .queues = 1,
+    .bring_up = bring_up, .begin = begin, .end = end,
+};
+
+int main(int argc, char **argv)
+{
+    return nicx_main(argc, argv, &scenario);
+}

@@ -1,0 +1,54 @@
+/* The device writes its head to memory. What an earlier life of the queue left there is taken for what has gone out,
+   unless the driver clears it before it sends. */
+#include "card.h"
+
+enum { FRAMES = 2, EARLIER = 5 };
+
+static const char *bring_up(void)
+{
+    lend_blocks(1);
+    nicx_write32(NIC_TDWBAL(0), WRITTEN_HEAD | 1);
+    bring_up_transmit();
+    nicx_put64(WRITTEN_HEAD, EARLIER);
+    return NULL;
+}
+
+static unsigned written_head(void)
+{
+    return (unsigned)nicx_get64(WRITTEN_HEAD) & 0xFFFF;
+}
+
+static void send(void *unused)
+{
+    (void)unused;
+#ifndef WRONG
+    nicx_put64(WRITTEN_HEAD, 0);
+#endif
+    for (unsigned k = 0; k < FRAMES; k++) {
+        while (written_head() < k)
+            nicx_wait();
+        fill_buffer(0, k);
+        put_transmit(k, 0, EOP_RS);
+        nicx_write32(NIC_TDT(0), k + 1);
+    }
+}
+
+static void begin(void)
+{
+    nicx_task("send", send, NULL);
+}
+
+static const char *end(void)
+{
+    return went_out(FRAMES);
+}
+
+static const nicx_scenario scenario = {
+    .name = "written_head_stale", .fifo = 64, .blocks = 16, .queues = 1,
+    .bring_up = bring_up, .begin = begin, .end = end,
+};
+
+int main(int argc, char **argv)
+{
+    return nicx_main(argc, argv, &scenario);
+}

@@ -12,6 +12,14 @@ enum {
     DEVICE_READY = 0x4000 /* CTRL_EXT: the functions may start */
 };
 
+/* A request of a function is a message of vector 5 to the host. */
+static inline void bring_up_mailbox_interrupt(void)
+{
+    nicx_write32(NIC_GPIE, 0x10);
+    nicx_write32(NIC_IVAR_MISC, 0x8500);
+    nicx_write32(NIC_EIMS, 1 << 19);
+}
+
 /* The host reads what came from function 0, and takes the request away. */
 static inline bool is_asked(void)
 {

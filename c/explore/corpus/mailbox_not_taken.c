@@ -3,7 +3,7 @@
 #include "mailbox.h"
 
 static struct {
-    bool mixed, read;
+    bool asked, mixed, read;
 } driver;
 
 static const char *bring_up(void)
@@ -11,6 +11,7 @@ static const char *bring_up(void)
     nicx_write32(NIC_GCR_EXT, 3);
     nicx_write32(NIC_CTRL_EXT, DEVICE_READY);
     nicx_vf_read32(0, VFMAILBOX);
+    bring_up_mailbox_interrupt();
     return NULL;
 }
 
@@ -42,11 +43,22 @@ static void tell_link(void *unused)
     nicx_write32(NIC_PFMAILBOX(0), STS);
 }
 
+static void isr(void *unused)
+{
+    (void)unused;
+    driver.asked = is_asked();
+}
+
+static bool has_asked(void *unused)
+{
+    (void)unused;
+    return driver.asked;
+}
+
 static void serve(void *unused)
 {
     (void)unused;
-    while (!is_asked())
-        nicx_wait();
+    nicx_wait_until(has_asked, NULL);
     uint32_t first = nicx_read32(NIC_PFMBMEM(0)), second = nicx_read32(NIC_PFMBMEM(1));
     driver.read = true;
     driver.mixed = first != 0x11 || second != 0x12;
@@ -59,6 +71,7 @@ static void begin(void)
     nicx_task("function", function, NULL);
     nicx_task("tell_link", tell_link, NULL);
     nicx_task("serve", serve, NULL);
+    nicx_handler("isr", 0, 5, isr, NULL, NICX_BESIDE);
 }
 
 static const char *end(void)

@@ -180,6 +180,10 @@ void nicxi_list_actors(void);
 bool nicxi_can_act(const struct actor *actor);
 /* Whether the first of those that can act is the one that acted last. */
 bool nicxi_goes_on(const uint16_t *can);
+/* Whether all of these are steps of the device that may turn out to have nothing to do. */
+bool nicxi_may_be_idle(const uint16_t *can, uint32_t count);
+/* Whether an actor may be offered at this point yet, since it is a thread that paused, and all others may be idle. */
+bool nicxi_may_come(uint16_t actor, const uint16_t *can, uint32_t count);
 /* Makes a step of the device or the link: false where there was nothing to do. */
 bool nicxi_device_step(struct actor *actor, struct step *step);
 /* After this step, these steps of the device may have something to do, and threads that wait look again. */

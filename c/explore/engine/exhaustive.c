@@ -6,7 +6,7 @@
 #include "independent.h"
 #include "options.h"
 
-enum { PATIENCE = 64 };
+enum { PATIENCE = 32 };
 
 /* A step that was made at a point, and all that follows it there was searched. */
 struct asleep {
@@ -23,6 +23,7 @@ struct node {
     uint32_t left;    /* preemptions that are left before it */
     uint32_t asleep, inherited, asleep_count;
     bool is_current;  /* the first of those that can act is the one that acted last */
+    bool is_alone;    /* its choice has waited for so long that no other one is made here */
 };
 
 struct exhaustive {
@@ -107,6 +108,14 @@ static bool add_asleep(struct exhaustive *it, const struct asleep *asleep)
     }
     it->asleep[it->asleep_count++] = *asleep;
     return true;
+}
+
+static uint32_t place_of(const uint16_t *can, uint32_t count, uint16_t actor)
+{
+    uint32_t k = 0;
+    while (k < count && can[k] != actor)
+        k++;
+    return k;
 }
 
 /* --- a node --- */
@@ -198,8 +207,6 @@ static struct node *add_node(struct exhaustive *it, const uint16_t *can, uint32_
     if (!add_can(it, can, count) || (above && !inherit(it, above, node)))
         return NULL;
     sort(it->can + node->can, count, node->is_current);
-    if (!node->is_current && is_starved(it->can[node->can]))
-        node->count = 1;
     it->depth++;
     go_to(it, node, 0);
     node[1].is_current = false;
@@ -216,14 +223,6 @@ static void drop_node(struct exhaustive *it)
 }
 
 /* --- making a schedule --- */
-
-static uint32_t place_of(const uint16_t *can, uint32_t count, uint16_t actor)
-{
-    uint32_t k = 0;
-    while (k < count && can[k] != actor)
-        k++;
-    return k;
-}
 
 /* Whether this process searches the part that begins here. */
 static bool is_mine(struct exhaustive *it)
@@ -246,12 +245,43 @@ static bool advance(struct exhaustive *it, struct node *node)
     return node->at < node->count;
 }
 
+/* Those that weren't offered at a point before: threads that paused, once nobody else has anything to do. */
+static bool add_more(struct exhaustive *it, struct node *node, const uint16_t *can, uint32_t count)
+{
+    for (uint32_t k = 0; k < count; k++) {
+        if (place_of(it->can + node->can, node->count, can[k]) < node->count)
+            continue;
+        if (!add_can(it, &can[k], 1))
+            return false;
+        node->count++;
+    }
+    return true;
+}
+
 /* A step of the device had nothing to do: another one is tried at the same point. */
-static void try_another(struct exhaustive *it, struct node *node)
+static bool try_another(struct exhaustive *it, struct node *node, const uint16_t *can, uint32_t count)
 {
     if (node->at == 0)
         node->is_current = false;
+    if (!add_more(it, node, can, count))
+        return false;
     advance(it, node);
+    return true;
+}
+
+/* The choice of a point that was come to before; the last point's may be another one by now. */
+static uint32_t choose_again(struct exhaustive *it, const struct node *node, const uint16_t *can, uint32_t count)
+{
+    if (node->at == node->count)
+        return count;
+    uint16_t wanted = it->can[node->can + node->at];
+    uint32_t k = place_of(can, count, wanted);
+    if (k == count && nicxi_may_come(wanted, can, count)) {
+        it->asked = 0;
+        return 0;
+    }
+    it->is_strange |= k == count;
+    return k;
 }
 
 static uint32_t choose(void *argument, const uint16_t *can, uint32_t count)
@@ -259,22 +289,22 @@ static uint32_t choose(void *argument, const uint16_t *can, uint32_t count)
     struct exhaustive *it = argument;
     uint32_t point = *nicxi.points;
     struct node *node = &it->nodes[point];
-    bool again = it->asked == point + 1;
+    bool again = it->asked == point + 1, is_last = point + 1 == it->depth;
     it->asked = point + 1;
-    if (point > it->depth || (again && point + 1 != it->depth)) {
+    if (point > it->depth || (again && !is_last)) {
         it->is_strange = true;
         return count;
     }
-    if (point == it->depth)
+    if (point == it->depth) {
         node = add_node(it, can, count);
-    else if (again)
-        try_another(it, node);
-    if (!node || node->at == node->count)
-        return count;
-    uint32_t k = place_of(can, count, it->can[node->can + node->at]);
-    if (k == count)
-        it->is_strange = true;
-    return k;
+        is_last = true;
+    } else if (again && !try_another(it, node, can, count)) {
+        node = NULL;
+    }
+    it->is_strange |= !node;
+    if (node && is_last && node->at < node->count)
+        node->is_alone = !node->is_current && is_starved(it->can[node->can + node->at]);
+    return node ? choose_again(it, node, can, count) : count;
 }
 
 nicx_chooser nicxi_exhaustive_chooser(struct exhaustive *it)
@@ -319,7 +349,7 @@ bool nicxi_exhaustive_next(struct exhaustive *it)
         bool was_made = node->at < node->count;
         if (was_made && it->sleeps && !put_to_sleep(it, node))
             it->is_strange = true;
-        if (was_made && advance(it, node))
+        if (was_made && !node->is_alone && advance(it, node))
             return true;
         drop_node(it);
     }

@@ -39,7 +39,7 @@ static int unfit(const char *path, const struct schedule_file *file, const struc
                 nicx_actor_name(file->list[state->unfit], name));
         return REFUSED;
     }
-    if (state->is_unfit) {
+    if (state->is_unfit || points > file->length) {
         fprintf(stderr, "%s:%u: the schedule ends, and somebody can act\n", path, (unsigned)file->last);
         return REFUSED;
     }

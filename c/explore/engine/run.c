@@ -99,6 +99,25 @@ bool nicxi_goes_on(const uint16_t *can)
     return *nicxi.points && nicxi.schedule[*nicxi.points - 1] == can[0];
 }
 
+static bool is_of_device(uint16_t number)
+{
+    return nicxi.actors[number].kind >= BY_RX && nicxi.actors[number].kind <= BY_EEPROM;
+}
+
+bool nicxi_may_be_idle(const uint16_t *can, uint32_t count)
+{
+    for (uint32_t k = 0; k < count; k++)
+        if (!is_of_device(can[k]))
+            return false;
+    return true;
+}
+
+bool nicxi_may_come(uint16_t actor, const uint16_t *can, uint32_t count)
+{
+    return nicxi.actors[actor].kind == BY_THREAD && nicxi.threads[nicxi.actors[actor].of].state == PAUSED &&
+           nicxi_may_be_idle(can, count);
+}
+
 static void note(uint16_t number)
 {
     uint32_t points = *nicxi.points;
@@ -134,7 +153,7 @@ static bool device_acts(uint16_t number)
 static bool is_at_rest(void)
 {
     for (uint16_t k = 0; k < nicxi.count; k++)
-        if (nicxi.actors[k].kind >= BY_RX && nicxi.actors[k].kind <= BY_EEPROM && device_acts(k)) {
+        if (is_of_device(k) && device_acts(k)) {
             nicxi.late++;
             return false;
         }

@@ -81,20 +81,38 @@ static uint32_t longest_ago(const uint16_t *can, uint32_t count)
     return best;
 }
 
-/* The choice of a point is asked for again where it was a step of the device with nothing to do. */
+/* The choice of a point is asked for again where it was a step of the device with nothing to do. Such a step is tried
+   for an actor that comes only then, and behind the list's end. */
+static uint32_t choose_to_the_letter(void *argument, const uint16_t *can, uint32_t count)
+{
+    struct by_list *state = argument;
+    uint32_t point = *nicxi.points;
+    bool is_first = state->at <= point;
+    state->is_unfit = state->is_trying && point > state->unfit;
+    if (state->is_unfit)
+        return count;
+    state->unfit = point;
+    state->is_trying = false;
+    uint32_t k = point < state->length ? place_of(state->list[point], can, count) : count;
+    if (k == count && (point < state->length ? nicxi_may_come(state->list[point], can, count)
+                                             : nicxi_may_be_idle(can, count))) {
+        state->is_trying = true;
+        return 0;
+    }
+    state->at = point + 1;
+    state->is_unfit = k == count || !is_first;
+    return is_first ? k : count;
+}
+
 static uint32_t choose_by_list(void *argument, const uint16_t *can, uint32_t count)
 {
     struct by_list *state = argument;
-    if (state->is_strict) {
-        uint32_t point = *nicxi.points;
-        uint32_t k = point < state->length && state->at <= point ? place_of(state->list[point], can, count) : count;
-        state->at = point + 1;
-        state->unfit = point;
-        state->is_unfit = k == count;
-        return k;
-    }
     while (state->at < state->length) {
-        uint32_t k = place_of(state->list[state->at++], can, count);
+        uint16_t wanted = state->list[state->at];
+        uint32_t k = place_of(wanted, can, count);
+        if (k == count && nicxi_may_come(wanted, can, count))
+            return 0;
+        state->at++;
         if (k < count)
             return k;
     }
@@ -103,11 +121,10 @@ static uint32_t choose_by_list(void *argument, const uint16_t *can, uint32_t cou
 
 nicx_chooser nicxi_by_list(struct by_list *state, const uint16_t *list, uint32_t length, bool is_strict)
 {
-    nicx_chooser chooser = {choose_by_list, state};
+    nicx_chooser chooser = {is_strict ? choose_to_the_letter : choose_by_list, state};
     state->list = list;
     state->length = length;
     state->at = 0;
-    state->is_strict = is_strict;
-    state->is_unfit = false;
+    state->is_trying = state->is_unfit = false;
     return chooser;
 }

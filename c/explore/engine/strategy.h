@@ -32,9 +32,8 @@ nicx_chooser nicxi_by_priority(struct by_priority *state, uint64_t seed, uint64_
 struct by_list {
     const uint16_t *list;
     uint32_t length, at;
-    bool is_strict;
-    uint32_t unfit; /* the place in the list that didn't fit, where one didn't: else its length */
-    bool is_unfit;
+    uint32_t unfit;           /* where is_unfit: the point whose actor can't act, or at which the list is at its end */
+    bool is_unfit, is_trying; /* the point before was tried in vain */
 };
 
 /* Where an actor of the list can't act, the schedule ends (strict) or the next one is taken; after the list's end the

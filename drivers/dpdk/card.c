@@ -2,25 +2,89 @@
 
 #include <bus_pci_driver.h>
 #include <errno.h>
+#include <rte_ethdev.h>
 #include <rte_interrupts.h>
 #include <stdio.h>
+#include <string.h>
 #include <sys/eventfd.h>
+#include <unistd.h>
 
 #include "bus.h"
+#include "seam.h"
+#include "window.h"
 
 #define INTEL 0x8086
 #define DRIVERS 8
-#define REGISTERS 0x20000    /* bytes of the register space */
+
+struct card {
+    struct rte_pci_device device;
+    void (*handler)(void *);
+    void *argument;
+    uint64_t interrupts;
+};
 
 static struct rte_pci_driver *drivers[DRIVERS];
 static unsigned int registered;
-static struct rte_pci_device card;
+static struct card cards[BUS_FUNCTIONS];
 
-void card_register(struct rte_pci_driver *driver)
+/* ---- what the driver calls ---- */
+
+uint32_t seam_read(const volatile void *address)
+{
+    unsigned int function;
+    uint32_t offset;
+    window_find(address, &function, &offset);
+    return bus_read(function, offset);
+}
+
+void seam_write(uint32_t word, volatile void *address)
+{
+    unsigned int function;
+    uint32_t offset;
+    window_find(address, &function, &offset);
+    bus_write(function, offset, word);
+}
+
+void seam_wait(unsigned int microseconds)
+{
+    bus_wait(microseconds);
+}
+
+void seam_register(struct rte_pci_driver *driver)
 {
     if (registered < DRIVERS)
         drivers[registered++] = driver;
 }
+
+static struct card *card_of(const struct rte_intr_handle *handle)
+{
+    for (unsigned int function = 0; function < BUS_FUNCTIONS; function++)
+        if (cards[function].device.intr_handle == handle)
+            return &cards[function];
+    return NULL;
+}
+
+int seam_handle(const struct rte_intr_handle *handle, void (*handler)(void *), void *argument)
+{
+    struct card *card = card_of(handle);
+    if (!card)
+        return -ENOENT;
+    card->handler = handler;
+    card->argument = argument;
+    return 0;
+}
+
+int seam_handle_no_more(const struct rte_intr_handle *handle, void (*handler)(void *), void *argument)
+{
+    struct card *card = card_of(handle);
+    (void)argument;
+    if (!card || card->handler != handler)
+        return -ENOENT;
+    card->handler = NULL;
+    return 1;
+}
+
+/* ---- the PCI bus ---- */
 
 static struct rte_pci_driver *driver_of(uint16_t device_id)
 {
@@ -31,42 +95,85 @@ static struct rte_pci_driver *driver_of(uint16_t device_id)
     return NULL;
 }
 
-/* An interrupt handle of a kind that needs no kernel. Nothing is ever written to it: the run polls. */
-static struct rte_intr_handle *silent_interrupt(void)
+/* An interrupt handle of a kind that needs no kernel. Nothing is ever written to it: handlers are called by the run. */
+static struct rte_intr_handle *silent_interrupt(unsigned int vectors)
 {
     struct rte_intr_handle *handle = rte_intr_instance_alloc(RTE_INTR_INSTANCE_F_PRIVATE);
-    if (handle) {
-        rte_intr_type_set(handle, RTE_INTR_HANDLE_VDEV);
-        rte_intr_fd_set(handle, eventfd(0, EFD_NONBLOCK));
+    if (!handle)
+        return NULL;
+    rte_intr_type_set(handle, RTE_INTR_HANDLE_VDEV);
+    rte_intr_fd_set(handle, eventfd(0, EFD_NONBLOCK));
+    if (vectors) {
+        rte_intr_nb_efd_set(handle, (int)vectors);
+        rte_intr_max_intr_set(handle, (int)vectors + 1);
     }
     return handle;
 }
 
-int card_probe(uint16_t device_id, void *registers_at)
+static void put_away(struct rte_pci_device *device)
 {
-    struct rte_pci_driver *driver = driver_of(device_id);
-    if (!driver)
-        return -ENODEV;
-    snprintf(card.name, sizeof card.name, "0000:00:00.0");
-    card.device.name = card.name;
-    card.device.driver = &driver->driver;
-    card.device.numa_node = 0;
-    card.driver = driver;
-    card.id = (struct rte_pci_id){RTE_CLASS_ANY_ID, INTEL, device_id, INTEL, 0};
-    card.mem_resource[0] = (struct rte_mem_resource){0, REGISTERS, registers_at};
-    card.intr_handle = silent_interrupt();
-    return card.intr_handle ? driver->probe(driver, &card) : -ENOMEM;
+    close(rte_intr_fd_get(device->intr_handle));
+    rte_intr_instance_free(device->intr_handle);
+    device->intr_handle = NULL;
 }
 
-int card_remove(void)
+int card_probe(unsigned int function, uint16_t device_id, uint16_t max_vfs, unsigned int vectors)
 {
-    int status = card.driver->remove(&card);
-    rte_intr_instance_free(card.intr_handle);
-    card.intr_handle = NULL;
+    struct rte_pci_driver *driver = driver_of(device_id);
+    struct rte_pci_device *device = &cards[function].device;
+    if (!driver)
+        return -ENODEV;
+    memset(device, 0, sizeof *device);
+    if (function == BUS_PHYSICAL)
+        snprintf(device->name, sizeof device->name, "0000:00:00.0");
+    else
+        snprintf(device->name, sizeof device->name, "0000:01:%02x.%u", (function - 1) / 8 & 7, (function - 1) % 8);
+    device->device.name = device->name;
+    device->device.driver = &driver->driver;
+    device->device.numa_node = 0;
+    device->driver = driver;
+    device->id = (struct rte_pci_id){RTE_CLASS_ANY_ID, INTEL, device_id, INTEL, 0};
+    device->mem_resource[0] = (struct rte_mem_resource){
+        0, function == BUS_PHYSICAL ? BUS_SPACE : BUS_FUNCTION_SPACE, window_of(function)};
+    device->max_vfs = max_vfs;
+    device->intr_handle = silent_interrupt(vectors);
+    int status = device->intr_handle ? driver->probe(driver, device) : -ENOMEM;
+    if (status != 0 && device->intr_handle)
+        put_away(device);
     return status;
 }
 
-const char *card_driver(void)
+int card_remove(unsigned int function)
 {
-    return card.driver ? card.driver->driver.name : NULL;
+    struct rte_pci_device *device = &cards[function].device;
+    int status = device->driver->remove(device);
+    put_away(device);
+    return status;
+}
+
+const char *card_driver(unsigned int function)
+{
+    const struct rte_pci_driver *driver = cards[function].device.driver;
+    return driver ? driver->driver.name : NULL;
+}
+
+uint16_t card_port(unsigned int function)
+{
+    uint16_t port;
+    return rte_eth_dev_get_port_by_name(cards[function].device.name, &port) == 0 ? port : RTE_MAX_ETHPORTS;
+}
+
+bool card_interrupt(unsigned int function)
+{
+    struct card *card = &cards[function];
+    if (!card->handler)
+        return false;
+    card->interrupts++;
+    card->handler(card->argument);
+    return true;
+}
+
+uint64_t card_interrupts(unsigned int function)
+{
+    return cards[function].interrupts;
 }

@@ -5,6 +5,7 @@
 
 #include "bus.h"
 #include "frames.h"
+#include "verdict.h"
 
 /* Whether a frame to this address comes in to the driver, as it was sent. A driver by vectors gives nothing to who asks
    for one packet alone. */
@@ -13,15 +14,14 @@ static bool comes_in(uint16_t port, const struct rte_ether_addr *to)
     struct frame frame;
     struct rte_mbuf *packets[BURST];
     bool alike = false;
-    make_frame(&frame, 0, to->addr_bytes, peer_mac);
+    frame_make(&frame, 0, FRAME_MAX, to->addr_bytes, peer_mac);
     if (!bus_arrive(frame.bytes, frame.length))
         return false;
     bus_receive();
     for (uint16_t queue = 0; queue < QUEUES; queue++) {
         uint16_t count = rte_eth_rx_burst(port, queue, packets, BURST);
         if (count == 1)
-            alike = rte_pktmbuf_pkt_len(packets[0]) == frame.length
-                    && memcmp(rte_pktmbuf_mtod(packets[0], const void *), frame.bytes, frame.length) == 0;
+            alike = frame_is(&frame, rte_pktmbuf_mtod(packets[0], const void *), rte_pktmbuf_pkt_len(packets[0]));
         rte_pktmbuf_free_bulk(packets, count);
     }
     return alike;

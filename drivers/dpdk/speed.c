@@ -7,13 +7,14 @@
 
 #include "bus.h"
 #include "frames.h"
+#include "verdict.h"
 
 #define ROUNDS 5
 #define SECONDS 1.0
 #define TURNS 64             /* bursts between looks at the clock */
-#define KINDS 64             /* frames that differ in their addresses, so that all queues get some */
+#define ALL_KINDS 64             /* frames that differ in their addresses, so that all queues get some */
 
-static uint8_t frames[KINDS][FRAME_MIN];
+static uint8_t frames[ALL_KINDS][FRAME_MIN];
 static uint64_t gone;
 
 static void count_sent(uint16_t queue, const uint8_t *frame, size_t length)
@@ -25,8 +26,8 @@ static void count_sent(uint16_t queue, const uint8_t *frame, size_t length)
 static void make_frames(void)
 {
     static struct frame frame;
-    for (unsigned int kind = 0; kind < KINDS; kind++) {
-        make_frame(&frame, 7 * 1455 * kind, card_mac, peer_mac);   /* TCP over IPv4, 60 bytes */
+    for (unsigned int kind = 0; kind < ALL_KINDS; kind++) {
+        frame_make(&frame, 7 * 1455 * kind, FRAME_MAX, card_mac, peer_mac);   /* TCP over IPv4, 60 bytes */
         memcpy(frames[kind], frame.bytes, FRAME_MIN);
     }
 }
@@ -35,7 +36,7 @@ static void arrive_burst(void)
 {
     static unsigned int next;
     for (unsigned int i = 0; i < BURST; i++)
-        bus_arrive(frames[next++ % KINDS], FRAME_MIN);
+        bus_arrive(frames[next++ % ALL_KINDS], FRAME_MIN);
     bus_receive();
 }
 
@@ -95,7 +96,7 @@ int measure(uint16_t card, uint16_t null)
 {
     const char *what;
     struct rte_eth_conf plain = {0};
-    if (port_configure(null, &plain, &what) != 0 || rte_eth_dev_start(null) != 0) {
+    if (port_configure(null, &plain, QUEUES, SLOTS, &what) != 0 || rte_eth_dev_start(null) != 0) {
         problem("the null driver doesn't start");
         return -1;
     }

@@ -2,88 +2,74 @@
 #include "exchange.h"
 
 #include <inttypes.h>
-#include <stdlib.h>
 #include <string.h>
 
-#include "bus.h"
 #include "frames.h"
+#include "hashes.h"
+#include "verdict.h"
 
-#define ENTRIES 128          /* of the redirection table */
 #define SEGMENTS 3
-#define RDH 0x01010          /* of queue 0 */
-#define RDT 0x01018
 
-/* the numbers of the frames that a queue is to give, in order */
-struct expected {
-    unsigned int *numbers, put, taken;
-};
-
-static uint8_t redirection[ENTRIES];
-static struct expected in[QUEUES], out[QUEUES];
+static struct rss rss = {.mrqc = RSS_ALL};
+static struct line_up in[QUEUES], out[QUEUES];   /* the frames that a queue is to give */
 static uint64_t received[QUEUES], sent[QUEUES];
 static unsigned int alike, hashes, unhashed;
 
 /* None is expected; room is for a pass, and for what fills a ring. */
-static void clear(struct expected *lists)
-{
-    for (unsigned int queue = 0; queue < QUEUES; queue++) {
-        free(lists[queue].numbers);
-        lists[queue] = (struct expected){calloc(frames_of_pass + SLOTS, sizeof(unsigned int)), 0, 0};
-        if (!lists[queue].numbers)
-            rte_exit(1, "memory is short\n");
-    }
-}
-
-static void expect(struct expected *list, unsigned int number)
-{
-    list->numbers[list->put++] = number;
-}
-
-static void make_next(struct expected *list, struct frame *frame, const uint8_t *to, const uint8_t *from)
-{
-    if (list->taken == list->put) {
-        problem("a frame that isn't expected");
-        frame->length = 0;
-        return;
-    }
-    make_frame(frame, list->numbers[list->taken++], to, from);
-}
-
-static void expect_none_left(const struct expected *lists, const char *what)
+static void clear(struct line_up *lists)
 {
     for (unsigned int queue = 0; queue < QUEUES; queue++)
-        if (lists[queue].taken != lists[queue].put)
-            problem("queue %u: %u frames %s are missing", queue, lists[queue].put - lists[queue].taken, what);
+        if (!line_up_begin(&lists[queue], frames_of_pass + SLOTS))
+            rte_exit(1, "memory is short\n");
+}
+
+static void make_next(struct line_up *list, struct frame *frame, const uint8_t *to, const uint8_t *from)
+{
+    uint32_t number;
+    if (line_up_take(list, &number)) {
+        frame_make(frame, number, FRAME_MAX, to, from);
+        return;
+    }
+    problem("a frame that isn't expected");
+    frame->length = 0;
+    frame->kind = FRAME_OTHER;
+}
+
+static void expect_none_left(const struct line_up *lists, const char *what)
+{
+    for (unsigned int queue = 0; queue < QUEUES; queue++)
+        if (line_up_left(&lists[queue]))
+            problem("queue %u: %u frames %s are missing", queue, line_up_left(&lists[queue]), what);
 }
 
 /* ---- from the wire to the driver ---- */
 
 static uint16_t queue_of(const struct frame *frame)
 {
-    return frame->is_hashed ? redirection[frame->bench_hash % ENTRIES] : 0;
+    return rss_queue(&rss, frame, QUEUES);
 }
 
 static void arrive(unsigned int number)
 {
     struct frame frame;
-    make_frame(&frame, number, card_mac, peer_mac);
-    expect(&in[queue_of(&frame)], number);
+    frame_make(&frame, number, FRAME_MAX, card_mac, peer_mac);
+    line_up_put(&in[queue_of(&frame)], number);
     if (!bus_arrive(frame.bytes, frame.length))
         problem("frame %u isn't let in", number);
 }
 
 static void compare_hash(const struct rte_mbuf *packet, const struct frame *frame, uint16_t queue)
 {
-    bool told = packet->ol_flags & RTE_MBUF_F_RX_RSS_HASH;
-    if (told != frame->is_hashed)
-        problem("queue %u: a frame of %u bytes has %s hash", queue, frame->length, told ? "a" : "no");
-    else if (!told)
-        unhashed++;
-    else if (packet->hash.rss != frame->soft_hash || packet->hash.rss != frame->bench_hash)
-        problem("queue %u: the driver tells the hash %08x, rte_softrss %08x, nic_hash %08x", queue, packet->hash.rss,
-                frame->soft_hash, frame->bench_hash);
-    else
+    switch (hash_compare(packet, frame, &rss)) {
+    case HASH_RIGHT:
         hashes++;
+        break;
+    case HASH_NONE:
+        unhashed++;
+        break;
+    default:
+        problem("queue %u: the hash of a frame of %u bytes", queue, frame->length);
+    }
 }
 
 static bool is_alike(const struct rte_mbuf *packet, const struct frame *frame)
@@ -93,7 +79,7 @@ static bool is_alike(const struct rte_mbuf *packet, const struct frame *frame)
     if (packet->nb_segs != buffers || rte_pktmbuf_pkt_len(packet) != frame->length)
         return false;
     const void *bytes = rte_pktmbuf_read(packet, 0, frame->length, room);
-    return bytes && memcmp(bytes, frame->bytes, frame->length) == 0;
+    return bytes && frame_is(frame, bytes, frame->length);
 }
 
 static void compare(const struct rte_mbuf *packet, uint16_t queue)
@@ -142,10 +128,10 @@ static void compare_sent(uint16_t queue, const uint8_t *bytes, size_t length)
 {
     struct frame frame;
     make_next(&out[queue], &frame, peer_mac, card_mac);
-    if (length != frame.length || memcmp(bytes, frame.bytes, length) != 0)
-        problem("queue %u: a frame of %u bytes goes out as %zu others", queue, frame.length, length);
-    else
+    if (frame_is(&frame, bytes, length))
         alike++;
+    else
+        problem("queue %u: a frame of %u bytes goes out as %zu others", queue, frame.length, length);
     sent[queue]++;
 }
 
@@ -157,7 +143,7 @@ static struct rte_mbuf *packet_of(unsigned int number)
     unsigned int count = in_segments ? SEGMENTS : 1, done = 0;
     if (rte_pktmbuf_alloc_bulk(pool, parts, count) != 0)
         return NULL;
-    make_frame(&frame, number, peer_mac, card_mac);
+    frame_make(&frame, number, FRAME_MAX, peer_mac, card_mac);
     for (unsigned int i = 0; i < count; i++) {
         uint16_t length = (uint16_t)((frame.length - done) / (count - i));
         memcpy(rte_pktmbuf_append(parts[i], length), frame.bytes + done, length);
@@ -176,7 +162,7 @@ static unsigned int packets_of(struct rte_mbuf **packets, uint16_t queue, unsign
             problem("no packet is free");
             return i;
         }
-        expect(&out[queue], number + i);
+        line_up_put(&out[queue], number + i);
     }
     return burst;
 }
@@ -229,12 +215,6 @@ void traffic(uint16_t port)
 
 /* ---- counters ---- */
 
-static void same(const char *what, uint64_t told, uint64_t counted)
-{
-    if (told != counted)
-        problem("%s: the driver tells %" PRIu64 ", the run counts %" PRIu64, what, told, counted);
-}
-
 void counters(uint16_t port)
 {
     struct rte_eth_stats stats;
@@ -263,13 +243,14 @@ void counters(uint16_t port)
 /* Each queue counts in the counter of its number, and the redirection table is one of the run's own. */
 uint16_t choose_queues(uint16_t port)
 {
-    struct rte_eth_rss_reta_entry64 entries[ENTRIES / RTE_ETH_RETA_GROUP_SIZE];
-    for (unsigned int entry = 0; entry < ENTRIES; entry++) {
-        redirection[entry] = (uint8_t)((entry * 5 + entry / 16) % QUEUES);
+    memcpy(rss.key, rss_key, sizeof rss.key);
+    struct rte_eth_rss_reta_entry64 entries[RSS_ENTRIES / RTE_ETH_RETA_GROUP_SIZE];
+    for (unsigned int entry = 0; entry < RSS_ENTRIES; entry++) {
+        rss.table[entry] = (uint8_t)((entry * 5 + entry / 16) % QUEUES);
         entries[entry / RTE_ETH_RETA_GROUP_SIZE].mask = UINT64_MAX;
-        entries[entry / RTE_ETH_RETA_GROUP_SIZE].reta[entry % RTE_ETH_RETA_GROUP_SIZE] = redirection[entry];
+        entries[entry / RTE_ETH_RETA_GROUP_SIZE].reta[entry % RTE_ETH_RETA_GROUP_SIZE] = rss.table[entry];
     }
-    if (rte_eth_dev_rss_reta_update(port, entries, ENTRIES) != 0)
+    if (rte_eth_dev_rss_reta_update(port, entries, RSS_ENTRIES) != 0)
         return 1;
     return 0;
 }
@@ -289,7 +270,7 @@ static unsigned int arrive_at(uint16_t queue, unsigned int *number)
 {
     struct frame frame;
     do
-        make_frame(&frame, (*number)++, card_mac, peer_mac);
+        frame_make(&frame, (*number)++, FRAME_MAX, card_mac, peer_mac);
     while (queue_of(&frame) != queue);
     arrive(*number - 1);
     return bus_receive();
@@ -300,7 +281,7 @@ static void restart_receive(uint16_t port)
     unsigned int number = 0, frames = 0, written, behind;
     if (rte_eth_dev_rx_queue_stop(port, 0) != 0 || rte_eth_dev_rx_queue_start(port, 0) != 0)
         problem("the receive queue 0 isn't started again");
-    unsigned int head = bus_peek(RDH), tail = bus_peek(RDT);
+    unsigned int head = bus_peek(NIC_RDH(0)), tail = bus_peek(NIC_RDT(0));
     while ((written = arrive_at(0, &number)) > 0)
         frames++;
     behind = arrive_at(1, &number);

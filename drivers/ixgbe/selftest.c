@@ -1,12 +1,19 @@
 /* The register self-test of Linux's ixgbe driver, on the bench: the driver's table and patterns (table.py), the steps
    written anew. The driver ends its test with the first register that fails; this one goes on, and tells of each row of
    the table how many of its registers pass, and what is unlike in the others. After each write the device makes all
-   steps that it can, as a card does by itself. */
+   steps that it can, as a card does by itself.
+
+     selftest [--turn]        --turn: one bit of one word that is read is turned, to try what is told of it
+
+   Status 0 where those registers fail of which that is known (docs/CARD.md), and no others; else 1; 2: no device; 3: it
+   doesn't know a word. */
 #include <inttypes.h>
 #include <stdbool.h>
 #include <stdio.h>
+#include <string.h>
 
 #include "nic82599.h"
+#include "verdict.h"
 
 struct test {
     uint16_t reg;
@@ -27,8 +34,12 @@ struct result {
     bool without;                          /* no address of it names anything */
 };
 
+/* the rows that fail: flow control, which isn't modelled, and RAH, whose reserved bits are kept; by their addresses */
+static const uint32_t known_to_fail[] = {0x03220, 0x03260, 0x03008, 0x03200, 0x05404};
+
 static nic device;
 static uint32_t first_failed;
+static bool turns;
 
 static void settle(void)
 {
@@ -63,6 +74,8 @@ static bool reads_back(uint32_t address, uint32_t write, uint32_t mask, uint32_t
     uint32_t before = get(address);
     put(address, write);
     uint32_t got = get(address) & mask;
+    if (turns && address == NIC_RDT(0))
+        got ^= 1;
     put(address, before);
     if (got == wanted)
         return true;
@@ -130,6 +143,23 @@ static struct result run(const struct test *test)
     return result;
 }
 
+static bool is_known(uint32_t address)
+{
+    for (size_t i = 0; i < COUNT(known_to_fail); i++)
+        if (known_to_fail[i] == address)
+            return true;
+    return false;
+}
+
+static void compare_with_known(const struct test *test, const char *name, const struct result *result)
+{
+    uint32_t address = address_of(test, 0);
+    if (result->failed && !is_known(address))
+        problem("%s at 0x%05" PRIX32 ": %u registers fail of which that isn't known", name, address, result->failed);
+    if (result->passed && is_known(address))
+        problem("%s at 0x%05" PRIX32 ": %u registers pass that were known to fail", name, address, result->passed);
+}
+
 static const char *kind_of(const struct test *test)
 {
     switch (test->test_type) {
@@ -166,7 +196,7 @@ static void tell(const struct test *test, const char *name, const struct result 
     printf("\n");
 }
 
-static bool status_passes(void)
+static void try_status(void)
 {
     uint32_t address = IXGBE_STATUS, before = get(address);
     put(address, STATUS_BITS);
@@ -174,21 +204,20 @@ static bool status_passes(void)
     put(address, before);
     printf("STATUS, 0x%08" PRIX32 ", is as it was after 0x%08" PRIX32 " is written: %s\n\n", before, STATUS_BITS,
            same ? "passes" : "fails");
-    return same;
+    if (!same)
+        problem("STATUS can be written");
 }
 
-int main(void)
+static void try_table(void)
 {
     unsigned int rows = 0, passed = 0, registers = 0, registers_passed = 0;
-    if (nic_new(0, 64, 1, &device.device) != NIC_DONE)
-        return 2;
-    status_passes();
     printf("register         address  many  test     writes     expects    passed failed\n");
     for (const struct test *test = tests; test->reg; test++) {
         struct result result = run(test);
         tell(test, names[test - tests], &result);
         if (test->test_type == WRITE_NO_TEST)
             continue;
+        compare_with_known(test, names[test - tests], &result);
         rows++;
         passed += result.failed == 0;
         registers += test->array_len;
@@ -198,6 +227,21 @@ int main(void)
            registers);
     if (first_failed)
         printf("the driver's own test ends at its first failure, 0x%05" PRIX32 "\n", first_failed);
-    nic_free(device);
-    return 0;
+}
+
+int main(int count, char **words)
+{
+    turns = count == 2 && strcmp(words[1], "--turn") == 0;
+    if (count > 1 && !turns) {
+        fprintf(stderr, "selftest [--turn]\n");
+        return 3;
+    }
+    if (nic_open(&device, 0, 64, 1) != NIC_DONE) {
+        fprintf(stderr, "selftest: no device: memory is short\n");
+        return 2;
+    }
+    try_status();
+    try_table();
+    nic_close(&device);
+    return problems() ? 1 : 0;
 }

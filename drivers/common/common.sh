@@ -1,13 +1,54 @@
 # shellcheck shell=bash
-# Sources of Debian packages, for the runs of drivers; read by drivers/dpdk/run and drivers/ixgbe/run.
+# What the scripts drivers/*/run share: Debian's packages and sources, the C library, what a machine allows, sums.
 #
-# Lists, cache and source lines are in a folder of these runs' own, so the system's apt stays as it is and root isn't
-# needed. NAME is what messages begin with, WORK the folder.
+# Debian's lists, cache and source lines are in a folder of these runs' own, so the system's apt stays as it is and root
+# isn't needed. NAME is what messages begin with, ROOT the repository, WORK the folder.
 
 WORK=${DRIVERS_WORK:-${XDG_CACHE_HOME:-$HOME/.cache}/zinggapul-drivers}
 
 say() { echo "$NAME: $*" >&2; }
+# What a run needs isn't there.
 die() { say "$@"; exit 2; }
+
+# Something isn't as it should be.
+fail() { say "$@"; exit 1; }
+
+# Words that a run doesn't know: its own head tells them.
+usage() {
+    [ -z "${1-}" ] || say "$1"
+    sed -n '2,/^$/s/^# \{0,1\}//p' "$0" >&2
+    exit 3
+}
+
+# is_number WORD: from 1 to 99,999,999, in digits.
+is_number() { [[ ${1-} =~ ^[1-9][0-9]{0,7}$ ]]; }
+
+# A run that takes no words beside its first ones is given others.
+no_more() { [ $# = 0 ] || usage "what is $1?"; }
+
+# allowed WHAT..: ends with one line where the machine or the container refuses one of ptrace, personality,
+# executable-memory (which is shared), low-memory=MEBIBYTES (from address 0x400000 on).
+allowed() {
+    local refused
+    need gcc:gcc
+    mkdir -p "$WORK"
+    gcc -std=c11 -O1 -o "$WORK/allowed" "$ROOT/drivers/common/allowed.c" || die "compiling failed"
+    refused=$("$WORK/allowed" "$@") || die "this needs $refused"
+}
+
+# compare_sums FILE "PACKAGE VERSION" FOLDER: how the C files in FOLDER compare with the sums in FILE, whose first line
+# names the package and version that they are of.
+compare_sums() {
+    local changed
+    if [ "$(head -n 1 "$1")" != "# $2" ]; then
+        echo "not compared: ${1#"$ROOT/"} has the sums of $(head -n 1 "$1" | cut -c 3-)"
+        return
+    fi
+    changed=$(diff <(sed 1d "$1" | LC_ALL=C sort) \
+        <(cd "$3" && find . -name '*.[ch]' -exec sha256sum {} + | LC_ALL=C sort) \
+        | sed -n 's|^[<>] [0-9a-f]*  \./||p' | LC_ALL=C sort -u | tr '\n' ' ')
+    echo "${changed:+changed: }${changed:-none changed}" | sed 's/ $//'
+}
 
 # Whether what is needed is installed: words are COMMAND:PACKAGE.
 need() {
@@ -88,6 +129,9 @@ install_package() {
     DEBIAN_FRONTEND=noninteractive apt-get -qq -y --no-install-recommends install "$1" >"$WORK/install.log" 2>&1 \
         || die "$1 can't be installed: see $WORK/install.log"
 }
+
+# out_folder NAME: where this checkout of the repository compiles to; another one has another.
+out_folder() { echo "$WORK/$1-$(printf %s "$ROOT" | sha256sum | cut -c 1-8)"; }
 
 # The C library: its header's folder and the archive.
 find_library() {

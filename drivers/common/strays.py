@@ -1,11 +1,13 @@
 #!/usr/bin/env python3
 """Tells the registers outside the bench's table that a driver touched, by families.
 
-    drivers/dpdk/strays.py FILE
+    drivers/common/strays.py FILE
 
-FILE has a line for each address: the address, how often it was read and written, the last word written, and in which
-phases of the run. Printed are the families that hold them, by the datasheet's names; the status is 1 where an address
-is in none.
+FILE has a line for each address, as drivers/common/strays.c writes it: whose register it is (pf, or vf and a number),
+the address, how often it was read and written, the last word written, and in which phases of the run. Printed are the
+families that hold them, by the datasheet's names, first those of the physical function, then those of virtual ones,
+whose addresses are offsets. The status is 1 where an address is in no family, 3 where the words or the file aren't as
+they should be.
 """
 
 from __future__ import annotations
@@ -16,7 +18,12 @@ from typing import NamedTuple
 
 # name, first address and step in hex, count
 FAMILIES = """
+VFLRE               00600 4 2
+EITRSEL             00894
+EICS_EX[1]          00A94
+EIMS_EX[1]          00AA4
 EIMC_EX[1]          00AB4
+EIAM_EX[1]          00AD4
 DCA_RXCTRL[0..15]   02200 4 16
 DCA_RXCTRL[16..63]  0140C 40 48
 DCA_RXCTRL[64..127] 0D00C 40 64
@@ -26,6 +33,8 @@ FCOERPDC            0241C
 FCLAST              02424
 FCOEPRC             02428
 FCOEDWRC            0242C
+QDE                 02F04
+RSCDBU              03028
 FCTTV               03200 4 4
 FCRTL               03220 4 8
 PXON2OFFCNT         03240 4 8
@@ -75,25 +84,34 @@ ANLP1               042B0
 MMNGC               042D0
 RTTDCS              04900
 RTTDQSEL            04904
+TXPBTHRESH          04950 4 8
 RTTBCNRC            04984
 RFCTL               05008
 VLNCTRL             05088
 FCCRC               05118
+WUS                 05810
 DCA_TXCTRL          0600C 40 128
+VMVIR               08000 4 64
+PFVFSPOOF           08200 4 8
 PFDTXGSWC           08220
 QBTC_L, QBTC_H      08700 4 32
+VMECM               08790 4 2
 FCOEPTC             08784
 FCOEDWTC            08788
+TXDGPC              087A0
 LSECTX..            08A3C 4 5
 SECRXCTRL           08D00
 SECRXSTAT           08D04
 LSECRX..            08F40 4 17
 VFTA                0A000 4 128
+MPSAR, one past     0AA00
+TXPBSIZE            0CC00 4 8
 MNGPTC              0CF90
 FDIRUSTAT           0EE50
 FDIRFSTAT           0EE54
 FDIRMATCH           0EE58
 FDIRMISS            0EE5C
+VMOLR               0F000 4 64
 VLVF                0F100 4 64
 VLVFB               0F200 4 128
 UTA                 0F400 4 128
@@ -101,6 +119,19 @@ SWSM                10140
 FWSM                10148
 FACTPS              10150
 SW_FW_SYNC          10160
+"""
+
+
+# those of a virtual function, by offset
+VIRTUAL_FAMILIES = """
+VTEITR              00820 4 2
+DCA_RXCTRL          0100C 40 8
+VFGORC              01020
+VFGORC, high        01024
+VFMPRC              01034
+DCA_TXCTRL          0200C 40 8
+VFGOTC              02020
+VFGOTC, high        02024
 """
 
 
@@ -120,25 +151,35 @@ class Family(NamedTuple):
 
 
 class Touched(NamedTuple):
-    """What became of one address."""
+    """What became of one address, or of the same offset of several functions together."""
 
     reads: int
     writes: int
     phases: tuple[str, ...]
 
+    def plus(self, other: Touched) -> Touched:
+        phases = dict.fromkeys(self.phases + other.phases)
+        return Touched(self.reads + other.reads, self.writes + other.writes, tuple(phases))
 
-def families() -> list[Family]:
+
+def families(text: str) -> list[Family]:
+    """The families of a table, in its order."""
     found = []
-    for line in FAMILIES.strip().splitlines():
+    for line in text.strip().splitlines():
         name, numbers = line[:20].strip(), line[20:].split()
         step, count = (int(numbers[1], 16), int(numbers[2])) if len(numbers) > 1 else (4, 1)
         found.append(Family(name, int(numbers[0], 16), step, count))
     return found
 
 
-def touched(path: Path) -> dict[int, Touched]:
-    lines = (line.split() for line in path.read_text(encoding="ascii").splitlines())
-    return {int(it[0], 16): Touched(int(it[1]), int(it[2]), tuple(it[4:])) for it in lines}
+def touched(path: Path) -> tuple[dict[int, Touched], dict[int, Touched]]:
+    """What was touched of the physical function, and of virtual ones."""
+    sides: tuple[dict[int, Touched], dict[int, Touched]] = ({}, {})
+    for line in path.read_text(encoding="ascii").splitlines():
+        whose, at, reads, writes, _, *phases = line.split()
+        side, address = sides[whose != "pf"], int(at, 16)
+        side[address] = side.get(address, Touched(0, 0, ())).plus(Touched(int(reads), int(writes), tuple(phases)))
+    return sides
 
 
 def span(numbers: list[int]) -> str:
@@ -146,15 +187,11 @@ def span(numbers: list[int]) -> str:
     return str(low) if low == high else f"{low} to {high}"
 
 
-def main(words: list[str]) -> int:
-    if len(words) != 1:
-        print("drivers/dpdk/strays.py FILE", file=sys.stderr)
-        return 3
-    left = touched(Path(words[0]))
+def tell(left: dict[int, Touched], table: str) -> int:
+    """Prints the families that hold what was touched, and what is in none; how much that is."""
     total, rows = len(left), 0
-    print("of each address how often it was read and written, and in which phases")
     print(f"{'register':20} {'addresses':34} {'many':>4}  {'reads':7} {'writes':7} in")
-    for family in families():
+    for family in families(table):
         found = [left.pop(address) for address in family.addresses() if address in left]
         if not found:
             continue
@@ -165,7 +202,25 @@ def main(words: list[str]) -> int:
     for address, it in left.items():
         print(f"in no family: 0x{address:05X}, {it.reads} reads, {it.writes} writes, in {' '.join(it.phases)}")
     print(f"{total} addresses in {rows} families, {len(left)} in none")
-    return 1 if left else 0
+    return len(left)
+
+
+def main(words: list[str]) -> int:
+    """The command; its status."""
+    if len(words) != 1:
+        print("drivers/common/strays.py FILE", file=sys.stderr)
+        return 3
+    try:
+        physical, virtual = touched(Path(words[0]))
+    except (OSError, ValueError) as error:
+        print(f"drivers/common/strays.py: {words[0]}: {error}", file=sys.stderr)
+        return 3
+    print("of each address how often it was read and written, and in which phases")
+    unknown = tell(physical, FAMILIES)
+    if virtual:
+        print("and of virtual functions, all together")
+        unknown += tell(virtual, VIRTUAL_FAMILIES)
+    return 1 if unknown else 0
 
 
 if __name__ == "__main__":

@@ -1,0 +1,126 @@
+/* What the bus answers in the device's place, and why. */
+#include <string.h>
+
+#include "inside.h"
+
+#define SWSM 0x10140u
+#define SWSM_SMBI 0x1u /* the drivers' semaphore: a read gives it and sets it */
+#define ANLP1 0x042B0u
+#define ANLP1_STATE 0x10000u /* bits 19:16, the state of the negotiation: not 0, so one is going on */
+
+static const struct {
+    const char *name;
+    unsigned int bit;
+    const char *what, *why;
+} answers[] = {
+    {"SWSM", BUS_SWSM, "SWSM (0x10140) by itself: what was written, bit 0 set by each read",
+     "the table lacks it, and drivers wait for it"},
+    {"ANLP1", BUS_ANLP1, "ANLP1 (0x042B0) by itself: bits 19:16 read 1",
+     "the table lacks it, and drivers take 0 for an error"},
+    {"EICS", BUS_EICS, "reads of EICS (0x00808): the causes of EICR, none of them cleared",
+     "the bench reads 0, where Linux looks for the causes of its other vector"},
+    {"EERD", BUS_EERD, "EERD (0x10014) under master disable: CTRL bit 2 is lifted for the EEPROM's step",
+     "the bench is idle then, and drivers read their EEPROM meanwhile"},
+    {"ABSENT", BUS_ABSENT, "functions that the mode has no pool for: STATUS, LINKS, mailbox and causes",
+     "the bench reads all ones, which Linux takes for a card that is gone"},
+};
+
+static uint32_t semaphore;
+
+static bool given(enum bus_answer answer)
+{
+    if (!(bus_inside.options.answers & answer))
+        return false;
+    for (unsigned int i = 0; i < sizeof answers / sizeof *answers; i++)
+        bus_inside.counts.answered[i] += answers[i].bit == answer;
+    return true;
+}
+
+unsigned int bus_answer_named(const char *name)
+{
+    for (size_t i = 0; i < sizeof answers / sizeof *answers; i++)
+        if (strcmp(answers[i].name, name) == 0)
+            return answers[i].bit;
+    return 0;
+}
+
+void bus_tell_answers(unsigned int which)
+{
+    for (size_t i = 0; i < sizeof answers / sizeof *answers; i++)
+        if (which & answers[i].bit)
+            printf("the shim answers %s\n", answers[i].what);
+}
+
+uint32_t answer_stray(uint32_t address, uint32_t word)
+{
+    if (address == SWSM && given(BUS_SWSM)) {
+        word = semaphore;
+        semaphore |= SWSM_SMBI;
+    }
+    if (address == ANLP1 && given(BUS_ANLP1))
+        word = ANLP1_STATE;
+    return word;
+}
+
+void answer_stray_write(uint32_t address, uint32_t word)
+{
+    if (address == SWSM)
+        semaphore = word;
+}
+
+uint32_t answer_read(uint32_t address, uint32_t word)
+{
+    return address == NIC_EICS && given(BUS_EICS) ? bus_peek(NIC_EICR) : word;
+}
+
+void answer_eeprom(void)
+{
+    nic_told told;
+    uint32_t control = bus_peek(NIC_CTRL);
+    bool lifts = control & NIC_CTRL_MASTER_DISABLE && bus_peek(NIC_EERD) & NIC_EERD_START && given(BUS_EERD);
+    if (lifts)
+        nic_write32(bus_device(), NIC_CTRL, control & ~NIC_CTRL_MASTER_DISABLE);
+    bus_inside.counts.eeprom_words += nic_eeprom_step(bus_device(), &told) == NIC_DONE;
+    if (lifts)
+        nic_write32(bus_device(), NIC_CTRL, control);
+}
+
+/* ---- functions without a pool ---- */
+
+/* Where the physical function reaches what a function has at this offset, beside its queues; BUS_SPACE: nowhere. */
+static uint32_t own_address(unsigned int function, uint32_t offset)
+{
+    unsigned int vf = function - 1;
+    switch (offset) {
+    case NIC_VFCTRL: return NIC_PVFCTRL(vf);
+    case NIC_VFSTATUS: return NIC_STATUS;
+    case NIC_VFLINKS: return NIC_LINKS;
+    case NIC_VTEICR: return NIC_PVTEICR(vf);
+    case NIC_VTEICS: return NIC_PVTEICS(vf);
+    case NIC_VTEIMS: return NIC_PVTEIMS(vf);
+    case NIC_VTEIMC: return NIC_PVTEIMC(vf);
+    case NIC_VTEIAC: return NIC_PVTEIAC(vf);
+    case NIC_VTEIAM: return NIC_PVTEIAM(vf);
+    case NIC_VTIVAR_MISC: return NIC_PVTIVAR_MISC(vf);
+    case NIC_VFMAILBOX: return NIC_PVFMAILBOX(vf);
+    default:
+        return offset >= NIC_VFMBMEM(0) && offset < NIC_VFMBMEM(16) ? NIC_PFMBMEM(16 * vf) + offset - NIC_VFMBMEM(0)
+                                                                    : BUS_SPACE;
+    }
+}
+
+bool answer_absent_read(unsigned int function, uint32_t offset, uint32_t *word)
+{
+    if (!given(BUS_ABSENT))
+        return false;
+    uint32_t address = own_address(function, offset);
+    *word = 0;
+    return address != BUS_SPACE && nic_read32(bus_device(), address, word) == NIC_DONE;
+}
+
+void answer_absent_write(unsigned int function, uint32_t offset, uint32_t word)
+{
+    uint32_t address = own_address(function, offset);
+    if (address != BUS_SPACE && given(BUS_ABSENT))
+        nic_write32(bus_device(), address, word);
+}

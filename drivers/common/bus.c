@@ -1,0 +1,443 @@
+#include "bus.h"
+
+#include <inttypes.h>
+#include <string.h>
+
+#include "inside.h"
+#include "memory.h"
+#include "verdict.h"
+
+#define BLOCKS 65536u
+#define FRAME_ROOM 16384
+#define WORDS (BUS_SPACE / 4)
+#define QUEUE_STEP 0x40u
+#define VECTORS 16
+#define OTHER_CAUSES 0x3FFF0000u /* of EICR: those that are no queue's */
+#define CTRL_RESETS (NIC_CTRL_RST | NIC_CTRL_LRST)
+
+enum kind {
+    OTHER,
+    RECEIVE_HEAD,
+    RECEIVE_TAIL,
+    RECEIVE_CONTROL,
+    TRANSMIT_HEAD,
+    TRANSMIT_TAIL,
+    TRANSMIT_CONTROL,
+    EEPROM
+};
+
+/* What an access is to the bus. */
+struct place {
+    uint8_t kind, queue;
+};
+
+struct bus_inside bus_inside;
+static struct place places[WORDS];
+
+#define counts bus_inside.counts
+#define hooks bus_inside.options.hooks
+
+/* ---- device steps ---- */
+
+static void fault(const char *where, const nic_told *told)
+{
+    counts.faults++;
+    fprintf(stderr, "bus: a fault in %s, queue %u slot %u: %s, bus address 0x%" PRIx64 "\n", where, told->queue,
+            told->slot, nic_fault_name(told->why), told->bus);
+}
+
+static void collect(uint16_t queue)
+{
+    static uint8_t room[FRAME_ROOM];
+    nic_told told;
+    if (nic_collect(bus_device(), room, sizeof room, &told) != NIC_FRAME)
+        return;
+    if (++counts.frames_out == bus_inside.options.turn_out)
+        room[told.len - 1] ^= 1;
+    if (bus_inside.sink)
+        bus_inside.sink(queue, room, told.len);
+}
+
+static void transmit(uint16_t queue)
+{
+    for (;;) {
+        nic_told told;
+        uint8_t status = nic_tx_step(bus_device(), queue, &told);
+        if (status == NIC_FAULT)
+            fault("sending", &told);
+        if (status != NIC_ADVANCED && status != NIC_SENT)
+            return;
+        counts.transmit_steps++;
+        if (told.back)
+            memory_written_back(queue, told.at);
+        if (status == NIC_SENT)
+            collect(queue);
+    }
+}
+
+static void wrote(const nic_told *told)
+{
+    memory_to_driver(told->at, told->len);
+    memory_to_driver(told->desc, BUS_SLOT);
+    counts.receive_steps++;
+    if (told->end && ++counts.frames_in == bus_inside.options.turn_in) {
+        uint8_t *last = memory_at(told->at + told->len - 1, 1);
+        if (last)
+            *last ^= 1;
+    }
+    if (hooks.filled)
+        hooks.filled(told->queue, told->end);
+}
+
+unsigned int bus_receive(void)
+{
+    for (unsigned int written = 0;;) {
+        nic_told told;
+        switch (nic_rx_step(bus_device(), &told)) {
+        case NIC_WROTE:
+            wrote(&told);
+            written++;
+            break;
+        case NIC_DROPPED:
+            counts.drops++;
+            counts.drop_whys[told.why % 16]++;
+            break;
+        case NIC_FAULT: fault("receiving", &told); break;
+        default: return written;
+        }
+    }
+}
+
+/* What the driver polls happens now: the enable of a queue, a word of the EEPROM. */
+static void act(struct place place)
+{
+    nic_told told;
+    if (place.kind == RECEIVE_CONTROL || place.kind == TRANSMIT_CONTROL)
+        counts.enables += nic_queue_step(bus_device(), place.kind == TRANSMIT_CONTROL, place.queue, &told) == NIC_DONE;
+    else if (place.kind == EEPROM)
+        answer_eeprom();
+}
+
+bool bus_is_settled(uint16_t queues)
+{
+    nic_told told[16];
+    size_t count = 0;
+    uint8_t status = nic_settle(bus_device(), queues, told, sizeof told / sizeof *told, &count);
+    for (size_t i = 0; i < count; i++)
+        fprintf(stderr, "bus: left to do: %s of %u: %s\n", nic_step_name(told[i].step), told[i].of,
+                nic_status_name(told[i].status));
+    return status == NIC_DONE && count == 0;
+}
+
+/* ---- registers ---- */
+
+unsigned int bus_pool_queues(void)
+{
+    static const unsigned int of_mode[] = {0, 8, 4, 2};
+    return of_mode[bus_peek(NIC_GCR_EXT) & NIC_GCR_EXT_VT_MODE];
+}
+
+/* The physical function's address of a register of a virtual function's own queue; BUS_SPACE for any other. */
+static uint32_t queue_address(unsigned int function, uint32_t offset)
+{
+    uint32_t own = (offset & 0xFFF) / QUEUE_STEP, each = bus_pool_queues(), queue = (function - 1) * each + own;
+    if (own >= each)
+        return BUS_SPACE;
+    if (offset >= NIC_VFRDBAL(0) && offset < NIC_VFTDBAL(0))
+        return NIC_RDBAL(queue) + offset % QUEUE_STEP;
+    if (offset >= NIC_VFTDBAL(0) && offset < NIC_VFTDBAL(BUS_QUEUES / 2))
+        return NIC_TDBAL(queue) + offset % QUEUE_STEP;
+    return BUS_SPACE;
+}
+
+static struct place place_of(unsigned int function, uint32_t offset)
+{
+    uint32_t address = function == BUS_PHYSICAL ? offset : queue_address(function, offset);
+    return address < BUS_SPACE ? places[address / 4] : (struct place){OTHER, 0};
+}
+
+static void trace(unsigned int function, char way, uint32_t offset, uint32_t word)
+{
+    char whose[8] = "pf";
+    uint64_t number = 0;
+    if (!bus_inside.options.trace)
+        return;
+    for (unsigned int i = 0; i < BUS_FUNCTIONS; i++)
+        number += counts.accesses[i];
+    if (function != BUS_PHYSICAL)
+        snprintf(whose, sizeof whose, "vf%u", (function - 1) % BUS_FUNCTIONS);
+    fprintf(bus_inside.options.trace, "%" PRIu64 " %s %c %05" PRIx32 " %08" PRIx32 "\n", number, whose, way, offset,
+            word);
+}
+
+static uint32_t read_virtual(unsigned int function, uint32_t offset)
+{
+    uint32_t word = 0;
+    if (nic_vf_read32(bus_device(), (uint8_t)(function - 1), offset, &word) != NIC_STRAY)
+        return word;
+    stray_read(function, offset);
+    counts.absent += word == UINT32_MAX;
+    if (word == UINT32_MAX)
+        answer_absent_read(function, offset, &word);
+    return word;
+}
+
+static uint32_t read_physical(uint32_t address)
+{
+    uint32_t word = 0;
+    if (nic_read32(bus_device(), address, &word) != NIC_STRAY)
+        return answer_read(address, word);
+    stray_read(BUS_PHYSICAL, address);
+    return answer_stray(address, word);
+}
+
+uint32_t bus_read(unsigned int function, uint32_t offset)
+{
+    if (hooks.reading)
+        hooks.reading(function, offset);
+    counts.in[bus_inside.phase].reads++;
+    counts.accesses[function]++;
+    act(place_of(function, offset));
+    uint32_t word = function == BUS_PHYSICAL ? read_physical(offset) : read_virtual(function, offset);
+    trace(function, 'r', offset, word);
+    return word;
+}
+
+static void write_virtual(unsigned int function, uint32_t offset, uint32_t word)
+{
+    if (nic_vf_write32(bus_device(), (uint8_t)(function - 1), offset, word) != NIC_STRAY)
+        return;
+    stray_write(function, offset, word);
+    if (!bus_pool_queues()) {
+        counts.absent++;
+        answer_absent_write(function, offset, word);
+    }
+}
+
+static void write_physical(uint32_t address, uint32_t word)
+{
+    if (nic_write32(bus_device(), address, word) != NIC_STRAY)
+        return;
+    stray_write(BUS_PHYSICAL, address, word);
+    answer_stray_write(address, word);
+}
+
+/* A reset moves heads and tails of its queues to 0. */
+static void forget(unsigned int first, unsigned int count)
+{
+    for (unsigned int queue = first; queue < first + count && queue < BUS_QUEUES; queue++) {
+        memory_head(false, (uint16_t)queue, 0);
+        memory_head(true, (uint16_t)queue, 0);
+    }
+}
+
+static void forget_reset(unsigned int function, uint32_t offset, uint32_t word)
+{
+    unsigned int each = bus_pool_queues();
+    if (function != BUS_PHYSICAL && offset == NIC_VFCTRL && word & NIC_PVFCTRL_RST)
+        forget((function - 1) * each, each);
+    if (function != BUS_PHYSICAL)
+        return;
+    if (offset == NIC_CTRL && word & CTRL_RESETS)
+        forget(0, BUS_QUEUES);
+    if (offset >= NIC_PVFCTRL(0) && offset < NIC_PVFCTRL(NIC_PVFCTRL_COUNT) && word & NIC_PVFCTRL_RST)
+        forget((offset - NIC_PVFCTRL(0)) / 4 * each, each);
+}
+
+/* What a write gives to the device, before the device sees it. */
+static void give(struct place place, uint32_t word)
+{
+    switch (place.kind) {
+    case RECEIVE_TAIL:
+    case TRANSMIT_TAIL: memory_tail(place.kind == TRANSMIT_TAIL, place.queue, word); break;
+    case RECEIVE_HEAD:
+    case TRANSMIT_HEAD: memory_head(place.kind == TRANSMIT_HEAD, place.queue, word); break;
+    default: break;
+    }
+}
+
+void bus_write(unsigned int function, uint32_t offset, uint32_t word)
+{
+    struct place place = place_of(function, offset);
+    counts.in[bus_inside.phase].writes++;
+    counts.accesses[function]++;
+    trace(function, 'w', offset, word);
+    give(place, word);
+    forget_reset(function, offset, word);
+    if (function == BUS_PHYSICAL)
+        write_physical(offset, word);
+    else
+        write_virtual(function, offset, word);
+    mailbox_written(function, offset, word);
+    if (bus_inside.options.acts_at_writes)
+        act(place);
+    if (place.kind == TRANSMIT_TAIL)
+        transmit(place.queue);
+    if (hooks.tail && (place.kind == TRANSMIT_TAIL || place.kind == RECEIVE_TAIL))
+        hooks.tail(place.kind == TRANSMIT_TAIL, place.queue);
+    if (hooks.written)
+        hooks.written(function, offset);
+}
+
+void bus_wait(unsigned int microseconds)
+{
+    counts.in[bus_inside.phase].waited += microseconds;
+}
+
+uint32_t bus_peek(uint32_t address)
+{
+    uint32_t word = 0;
+    nic_peek32(bus_device(), address, &word);
+    return word;
+}
+
+/* ---- frames ---- */
+
+void bus_send_to(bus_sink *to)
+{
+    bus_inside.sink = to;
+}
+
+bool bus_arrive(const uint8_t *frame, size_t length)
+{
+    nic_told told;
+    if (nic_arrive(bus_device(), frame, length, &told) == NIC_DONE)
+        return true;
+    counts.not_let_in++;
+    counts.arrive_whys[told.why % 16]++;
+    return false;
+}
+
+unsigned int bus_room(uint16_t queue)
+{
+    uint32_t slots = bus_peek(NIC_RDLEN(queue)) / BUS_SLOT;
+    if (!(bus_peek(NIC_RXDCTL(queue)) & NIC_RXDCTL_ENABLE) || slots == 0)
+        return 0;
+    return (bus_peek(NIC_RDT(queue)) + slots - bus_peek(NIC_RDH(queue))) % slots;
+}
+
+unsigned int bus_least_room(void)
+{
+    unsigned int least = UINT32_MAX;
+    for (uint16_t queue = 0; queue < BUS_QUEUES; queue++)
+        if (bus_peek(NIC_RXDCTL(queue)) & NIC_RXDCTL_ENABLE && bus_room(queue) < least)
+            least = bus_room(queue);
+    return least == UINT32_MAX ? 0 : least;
+}
+
+/* ---- interrupts ---- */
+
+unsigned int bus_messages(void (*message)(unsigned int function, unsigned int vector))
+{
+    unsigned int all = 0;
+    for (unsigned int function = 0; function <= bus_inside.options.functions; function++) {
+        nic_told told;
+        while (nic_int_step(bus_device(), (uint8_t)function, &told) == NIC_MESSAGE) {
+            counts.messages[function]++;
+            counts.vectors[function] |= 1u << told.vector % VECTORS;
+            message(function, told.vector);
+            all++;
+        }
+    }
+    return all;
+}
+
+bool bus_line(void)
+{
+    return (bus_peek(NIC_EICR) & bus_peek(NIC_EIMS) & OTHER_CAUSES) != 0;
+}
+
+/* ---- the whole ---- */
+
+static void mark(uint32_t address, enum kind kind, unsigned int queue)
+{
+    places[address / 4] = (struct place){(uint8_t)kind, (uint8_t)queue};
+}
+
+static void mark_places(void)
+{
+    for (unsigned int queue = 0; queue < BUS_QUEUES; queue++) {
+        mark(NIC_RDH(queue), RECEIVE_HEAD, queue);
+        mark(NIC_RDT(queue), RECEIVE_TAIL, queue);
+        mark(NIC_RXDCTL(queue), RECEIVE_CONTROL, queue);
+        mark(NIC_TDH(queue), TRANSMIT_HEAD, queue);
+        mark(NIC_TDT(queue), TRANSMIT_TAIL, queue);
+        mark(NIC_TXDCTL(queue), TRANSMIT_CONTROL, queue);
+    }
+    mark(NIC_EERD, EEPROM, 0);
+}
+
+/* An EEPROM whose reset sets the first receive address, where drivers look for the card's own. */
+static bool install_eeprom(const uint8_t mac[6])
+{
+    char text[128];
+    uint32_t low = mac[0] | mac[1] << 8 | mac[2] << 16 | (uint32_t)mac[3] << 24;
+    uint32_t high = NIC_RAH_AV | mac[4] | mac[5] << 8;
+    int length = snprintf(text, sizeof text,
+                          "size 128\ncsr 0x%05" PRIX32 " 0x%08" PRIX32 "\ncsr 0x%05" PRIX32 " 0x%08" PRIX32 "\n",
+                          NIC_RAL(0), low, NIC_RAH(0), high);
+    uint64_t line = 0;
+    return nic_install_text(bus_device(), (const uint8_t *)text, (size_t)length, &line) == NIC_DONE;
+}
+
+bool bus_open(const struct bus_options *options)
+{
+    bus_inside = (struct bus_inside){.options = *options};
+    mark_places();
+    memory_begin();
+    mailbox_begin();
+    if (nic_open(bus_device(), options->functions, options->fifo, BLOCKS) != NIC_DONE)
+        return false;
+    nic_link(bus_device(), true);
+    return strays_begin() && install_eeprom(options->mac);
+}
+
+void bus_close(void)
+{
+    nic_close(bus_device());
+    strays_end();
+}
+
+nic *bus_device(void)
+{
+    return &bus_inside.device;
+}
+
+const struct bus_counts *bus_counts(void)
+{
+    return &counts;
+}
+
+void bus_enter(unsigned int phase)
+{
+    bus_inside.phase = phase;
+}
+
+unsigned int bus_phase(void)
+{
+    return bus_inside.phase;
+}
+
+const char *bus_phase_name(unsigned int phase)
+{
+    return bus_inside.options.phases[phase];
+}
+
+void bus_tell_counts(void)
+{
+    printf("in all         reads    writes   ms of waits, left out\n");
+    for (unsigned int phase = 0; bus_phase_name(phase); phase++)
+        printf("  %-8s  %8" PRIu64 "  %8" PRIu64 "  %8" PRIu64 "\n", bus_phase_name(phase), counts.in[phase].reads,
+               counts.in[phase].writes, counts.in[phase].waited / 1000);
+    printf("the device filled %" PRIu64 " descriptors, fetched %" PRIu64 ", switched %" PRIu64 " sides of queues,\n"
+           "  gave %" PRIu64 " words of its EEPROM; %" PRIu64 " bytes were copied to it, %" PRIu64 " from it\n",
+           counts.receive_steps, counts.transmit_steps, counts.enables, counts.eeprom_words, counts.to_device,
+           counts.to_driver);
+}
+
+void bus_check_counts(uint64_t drops_expected)
+{
+    if (counts.faults || counts.refusals || counts.drops != drops_expected)
+        problem("%" PRIu64 " faults, %" PRIu64 " frames dropped, %" PRIu64 " copies refused", counts.faults,
+                counts.drops, counts.refusals);
+}

@@ -1,0 +1,34 @@
+/* Memory that driver and device both see. It has two copies, the driver's in this process and the bench's, which are
+   made equal where that is needed: descriptors that a tail write gives away and the bytes that transmit descriptors
+   point at go to the device, and what a step of the device tells that it wrote goes to the driver. */
+#ifndef DRIVERS_MEMORY_H
+#define DRIVERS_MEMORY_H
+
+#include <stdbool.h>
+#include <stddef.h>
+#include <stdint.h>
+
+/* Lends `length` bytes to the device: bus address `bus` is the byte at `host`, and so on. Both are multiples of 2,048,
+   and the bus addresses end at 128 MiB. False where they don't, where they are lent already, or where memory is short.
+ */
+bool memory_lend(uint64_t bus, void *host, size_t length);
+
+/* Where these bytes are in this process; null where they weren't lent in one piece. */
+void *memory_at(uint64_t bus, size_t length);
+
+/* Copies; what isn't lent is refused, counted, and told on standard error. */
+void memory_to_device(uint64_t bus, size_t length);
+void memory_to_driver(uint64_t bus, size_t length);
+
+/* A tail is written: what lies between the last one and this is given to the device. */
+void memory_tail(bool is_transmit, uint16_t queue, uint32_t tail);
+/* A head is written, or (0) a queue reset: what the next tail gives begins there. */
+void memory_head(bool is_transmit, uint16_t queue, uint32_t head);
+
+/* A step of the device wrote back at this bus address: a descriptor of the transmit queue, or its head. */
+void memory_written_back(uint16_t queue, uint64_t bus);
+
+/* How many of the `slots` descriptors at bus address `ring` differ between the copies. */
+unsigned int memory_unlike(uint64_t ring, unsigned int slots);
+
+#endif

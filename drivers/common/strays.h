@@ -1,0 +1,15 @@
+/* Accesses outside the bench's table of registers: which addresses, how often, and in which phases of the run. */
+#ifndef DRIVERS_STRAYS_H
+#define DRIVERS_STRAYS_H
+
+#include <stdbool.h>
+#include <stdio.h>
+
+/* Writes them, a line for each address: pf, or vf and the function's number; address, reads, writes, last word written,
+   phases. drivers/common/strays.py tells them by families. */
+void strays_write(FILE *file);
+
+/* The same into a file of this name; false, and a problem, where it can't be written. */
+bool strays_save(const char *name);
+
+#endif

@@ -1,0 +1,71 @@
+#ifndef _POSIX_C_SOURCE
+#define _POSIX_C_SOURCE 200809L /* clock_gettime */
+#endif
+#include "verdict.h"
+
+#include <ctype.h>
+#include <errno.h>
+#include <inttypes.h>
+#include <stdarg.h>
+#include <stdio.h>
+#include <stdlib.h>
+#include <time.h>
+
+#define TOLD_MOST 20
+
+static unsigned int problem_count;
+
+void problem(const char *format, ...)
+{
+    if (++problem_count > TOLD_MOST)
+        return;
+    va_list rest;
+    va_start(rest, format);
+    fprintf(stderr, "wrong: ");
+    vfprintf(stderr, format, rest);
+    fprintf(stderr, "\n");
+    va_end(rest);
+}
+
+unsigned int problems(void)
+{
+    return problem_count;
+}
+
+bool same(const char *what, uint64_t told, uint64_t counted)
+{
+    if (told != counted)
+        problem("%s: told are %" PRIu64 ", counted %" PRIu64, what, told, counted);
+    return told == counted;
+}
+
+int verdict(void)
+{
+    printf(problem_count ? "%u things are wrong\n" : "nothing is wrong\n", problem_count);
+    fflush(stdout);
+    return problem_count ? 1 : 0;
+}
+
+bool read_number(const char *word, unsigned long least, unsigned long most, unsigned int *number)
+{
+    char *end;
+    if (!isdigit((unsigned char)*word))
+        return false;
+    errno = 0;
+    unsigned long value = strtoul(word, &end, 10);
+    if (errno != 0 || *end || value < least || value > most)
+        return false;
+    *number = (unsigned int)value;
+    return true;
+}
+
+double seconds(void)
+{
+    static double first = -1;
+    struct timespec now;
+    clock_gettime(CLOCK_MONOTONIC, &now);
+    double at = (double)now.tv_sec + (double)now.tv_nsec / 1e9;
+    if (first < 0)
+        first = at;
+    return at - first;
+}

@@ -1,0 +1,54 @@
+#ifndef _GNU_SOURCE
+#define _GNU_SOURCE /* MAP_ANONYMOUS */
+#endif
+#include "window.h"
+
+#include <stddef.h>
+#include <sys/mman.h>
+
+#include "bus.h"
+#include "verdict.h"
+
+/* The physical function's window, then the others', each with as many addresses behind it that belong to none. */
+#define PHYSICAL_STEP (2 * (size_t)BUS_SPACE)
+#define VIRTUAL_STEP (2 * (size_t)BUS_FUNCTION_SPACE)
+
+static unsigned char *windows;
+static size_t length;
+
+bool window_open(unsigned int virtual_functions)
+{
+    length = PHYSICAL_STEP + virtual_functions * VIRTUAL_STEP;
+    void *at = mmap(NULL, length, PROT_NONE, MAP_PRIVATE | MAP_ANONYMOUS, -1, 0);
+    if (at == MAP_FAILED)
+        return false;
+    windows = at;
+    return true;
+}
+
+void window_close(void)
+{
+    munmap(windows, length);
+    windows = NULL;
+}
+
+void *window_of(unsigned int function)
+{
+    return windows + (function == BUS_PHYSICAL ? 0 : PHYSICAL_STEP + (function - 1) * VIRTUAL_STEP);
+}
+
+void window_find(const volatile void *address, unsigned int *function, uint32_t *offset)
+{
+    uintptr_t at = (uintptr_t)address - (uintptr_t)windows;
+    *function = BUS_PHYSICAL;
+    *offset = (uint32_t)at;
+    if (at < BUS_SPACE)
+        return;
+    if (at >= PHYSICAL_STEP && at < length && (at - PHYSICAL_STEP) % VIRTUAL_STEP < BUS_FUNCTION_SPACE) {
+        *function = 1 + (unsigned int)((at - PHYSICAL_STEP) / VIRTUAL_STEP);
+        *offset = (uint32_t)((at - PHYSICAL_STEP) % VIRTUAL_STEP);
+        return;
+    }
+    problem("an access of %p, which is in no window of registers", (const void *)(uintptr_t)address);
+    *offset = BUS_SPACE;
+}

@@ -1,0 +1,38 @@
+#include "hashes.h"
+
+#include <rte_byteorder.h>
+#include <rte_thash.h>
+#include <stdio.h>
+#include <string.h>
+
+#include "nic82599.h"
+
+/* DPDK hashes words in the machine's order, the wire has them with their high byte first. */
+static uint32_t soft_hash(const uint8_t *input, size_t length, const uint8_t *key)
+{
+    uint32_t words[HASH_INPUT_MAX / 4];
+    for (size_t i = 0; i < length / 4; i++) {
+        memcpy(&words[i], input + 4 * i, 4);
+        words[i] = rte_be_to_cpu_32(words[i]);
+    }
+    return rte_softrss(words, (uint32_t)(length / 4), key);
+}
+
+enum hash hash_compare(const struct rte_mbuf *packet, const struct frame *frame, const struct rss *rss)
+{
+    bool told = packet->ol_flags & RTE_MBUF_F_RX_RSS_HASH;
+    size_t at = 0, length = frame_hashed(frame, &at);
+    uint32_t expected = 0, bench = 0;
+    if (!rss_hash(rss, frame, &expected)) {
+        if (told)
+            fprintf(stderr, "a frame of %u bytes has a hash\n", frame->length);
+        return told ? HASH_WRONG : HASH_NONE;
+    }
+    uint32_t soft = soft_hash(frame->bytes + at, length, rss->key);
+    nic_hash(rss->key, frame->bytes + at, length, &bench);
+    if (told && packet->hash.rss == soft && packet->hash.rss == bench && packet->hash.rss == expected)
+        return HASH_RIGHT;
+    fprintf(stderr, "the driver tells %s hash, %08x; rte_softrss %08x, nic_hash %08x, drivers/common %08x\n",
+            told ? "a" : "no", told ? packet->hash.rss : 0, soft, bench, expected);
+    return HASH_WRONG;
+}

@@ -1,0 +1,18 @@
+/* What DPDK's driver is made to call in place of its own accesses (reroute.h), and nothing else: this file stands before
+   each of its sources. */
+#ifndef SEAM_H
+#define SEAM_H
+
+#include <stdint.h>
+
+struct rte_pci_driver;
+struct rte_intr_handle;
+
+uint32_t seam_read(const volatile void *address);
+void seam_write(uint32_t word, volatile void *address);
+void seam_wait(unsigned int microseconds);
+void seam_register(struct rte_pci_driver *driver);
+int seam_handle(const struct rte_intr_handle *handle, void (*handler)(void *), void *argument);
+int seam_handle_no_more(const struct rte_intr_handle *handle, void (*handler)(void *), void *argument);
+
+#endif

@@ -175,10 +175,12 @@ static uint32_t read_virtual(unsigned int function, uint32_t offset)
     uint32_t word = 0;
     if (nic_vf_read32(bus_device(), (uint8_t)(function - 1), offset, &word) != NIC_STRAY)
         return word;
-    stray_read(function, offset);
-    counts.absent += word == UINT32_MAX;
-    if (word == UINT32_MAX)
+    if (word == UINT32_MAX) {
+        counts.absent_reads++;
         answer_absent_read(function, offset, &word);
+    } else {
+        stray_read(function, offset);
+    }
     return word;
 }
 
@@ -207,9 +209,10 @@ static void write_virtual(unsigned int function, uint32_t offset, uint32_t word)
 {
     if (nic_vf_write32(bus_device(), (uint8_t)(function - 1), offset, word) != NIC_STRAY)
         return;
-    stray_write(function, offset, word);
-    if (!bus_pool_queues()) {
-        counts.absent++;
+    if (bus_pool_queues()) {
+        stray_write(function, offset, word);
+    } else {
+        counts.absent_writes++;
         answer_absent_write(function, offset, word);
     }
 }

@@ -1,4 +1,5 @@
-/* Accesses outside the bench's table of registers: which addresses, how often, and in which phases of the run. */
+/* Accesses outside the bench's table of registers: which addresses, how often, and in which phases of the run. Those of
+   a function while the mode has no pool for it are counted apart, in bus_counts. */
 #ifndef DRIVERS_STRAYS_H
 #define DRIVERS_STRAYS_H
 

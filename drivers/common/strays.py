@@ -104,7 +104,7 @@ SECRXCTRL           08D00
 SECRXSTAT           08D04
 LSECRX..            08F40 4 17
 VFTA                0A000 4 128
-MPSAR, one past     0AA00
+MPSAR, one past     0AA00 4 2
 TXPBSIZE            0CC00 4 8
 MNGPTC              0CF90
 FDIRUSTAT           0EE50
@@ -130,6 +130,15 @@ VFGORC              01020
 VFGORC, high        01024
 VFMPRC              01034
 DCA_TXCTRL          0200C 40 8
+RDH, not its own    01010 40 8
+SRRCTL, not its own 01014 40 8
+RDT, not its own    01018 40 8
+RXDCTL, not its own 01028 40 8
+TDH, not its own    02010 40 8
+TDT, not its own    02018 40 8
+TXDCTL, not its own 02028 40 8
+TDWBAL, not its own 02038 40 8
+TDWBAH, not its own 0203C 40 8
 VFGOTC              02020
 VFGOTC, high        02024
 """

@@ -96,22 +96,32 @@ static struct rte_pci_driver *driver_of(uint16_t device_id)
 }
 
 /* An interrupt handle of a kind that needs no kernel. Nothing is ever written to it: handlers are called by the run. */
-static struct rte_intr_handle *silent_interrupt(unsigned int vectors)
+static struct rte_intr_handle *silent_interrupt(void)
 {
     struct rte_intr_handle *handle = rte_intr_instance_alloc(RTE_INTR_INSTANCE_F_PRIVATE);
     if (!handle)
         return NULL;
     rte_intr_type_set(handle, RTE_INTR_HANDLE_VDEV);
     rte_intr_fd_set(handle, eventfd(0, EFD_NONBLOCK));
-    if (vectors) {
-        rte_intr_nb_efd_set(handle, (int)vectors);
-        rte_intr_max_intr_set(handle, (int)vectors + 1);
-    }
     return handle;
+}
+
+/* The driver closes what stands for its vectors when it stops. */
+void card_give_vectors(unsigned int function, unsigned int vectors)
+{
+    struct rte_intr_handle *handle = cards[function].device.intr_handle;
+    if (!vectors || rte_intr_nb_efd_get(handle) > 0)
+        return;
+    for (unsigned int vector = 0; vector < vectors; vector++)
+        rte_intr_efds_index_set(handle, (int)vector, eventfd(0, EFD_NONBLOCK));
+    rte_intr_nb_efd_set(handle, (int)vectors);
+    rte_intr_max_intr_set(handle, (int)vectors + 1);
 }
 
 static void put_away(struct rte_pci_device *device)
 {
+    for (int vector = 0; vector < rte_intr_nb_efd_get(device->intr_handle); vector++)
+        close(rte_intr_efds_index_get(device->intr_handle, vector));
     close(rte_intr_fd_get(device->intr_handle));
     rte_intr_instance_free(device->intr_handle);
     device->intr_handle = NULL;
@@ -133,12 +143,15 @@ int card_probe(unsigned int function, uint16_t device_id, uint16_t max_vfs, unsi
     device->device.numa_node = 0;
     device->driver = driver;
     device->id = (struct rte_pci_id){RTE_CLASS_ANY_ID, INTEL, device_id, INTEL, 0};
-    device->mem_resource[0] = (struct rte_mem_resource){
-        0, function == BUS_PHYSICAL ? BUS_SPACE : BUS_FUNCTION_SPACE, window_of(function)};
+    device->mem_resource[0] =
+        (struct rte_mem_resource){0, function == BUS_PHYSICAL ? BUS_SPACE : BUS_FUNCTION_SPACE, window_of(function)};
     device->max_vfs = max_vfs;
-    device->intr_handle = silent_interrupt(vectors);
-    int status = device->intr_handle ? driver->probe(driver, device) : -ENOMEM;
-    if (status != 0 && device->intr_handle)
+    device->intr_handle = silent_interrupt();
+    if (!device->intr_handle)
+        return -ENOMEM;
+    card_give_vectors(function, vectors);
+    int status = driver->probe(driver, device);
+    if (status != 0)
         put_away(device);
     return status;
 }

@@ -36,8 +36,16 @@ static int start_layer(const struct dpdk_options *options)
     snprintf(cores, sizeof cores, "--lcores=0@(0-%ld)", sysconf(_SC_NPROCESSORS_ONLN) - 1);
     snprintf(mebibytes, sizeof mebibytes, "%u", options->mebibytes);
     char *arguments[ARGUMENTS] = {
-        (char *)(uintptr_t)options->name, "--no-huge", "--iova-mode=va", "--base-virtaddr=0x400000", "-m", mebibytes,
-        "--no-pci", "--no-shconf", "--no-telemetry", cores,
+        (char *)(uintptr_t)options->name,
+        "--no-huge",
+        "--iova-mode=va",
+        "--base-virtaddr=0x400000",
+        "-m",
+        mebibytes,
+        "--no-pci",
+        "--no-shconf",
+        "--no-telemetry",
+        cores,
         options->loud ? "--log-level=*:debug" : "--log-level=*:error",
     };
     int count = 11;
@@ -160,6 +168,7 @@ const char *receives_by(uint16_t port)
 const char *sends_by(uint16_t port)
 {
     eth_tx_burst_t it = rte_eth_fp_ops[port].tx_pkt_burst;
-    return it == ixgbe_xmit_pkts ? "ixgbe_xmit_pkts"
-         : it == ixgbe_xmit_pkts_simple ? "ixgbe_xmit_pkts_simple" : "its vector function";
+    return it == ixgbe_xmit_pkts          ? "ixgbe_xmit_pkts"
+           : it == ixgbe_xmit_pkts_simple ? "ixgbe_xmit_pkts_simple"
+                                          : "its vector function";
 }

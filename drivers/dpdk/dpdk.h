@@ -10,7 +10,7 @@
 #include "bus.h"
 #include "rss.h"
 
-#define SLOTS 128   /* descriptors of each ring, where a run doesn't say another number */
+#define SLOTS 128 /* descriptors of each ring, where a run doesn't say another number */
 #define BURST 32
 
 struct dpdk_options {

@@ -86,7 +86,7 @@ static bool configure(uint16_t port)
 static bool start(uint16_t port)
 {
     begin(IN_START, "start");
-    if (failed("rte_eth_dev_start", rte_eth_dev_start(port)) || failed("the redirection table", choose_queues(port)))
+    if (failed("rte_eth_dev_start", rte_eth_dev_start(port)) || failed("the redirection table", choose(port)))
         return false;
     struct rte_eth_link link;
     rte_eth_link_get_nowait(port, &link);

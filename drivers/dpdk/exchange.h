@@ -18,7 +18,8 @@ void traffic(uint16_t port);
 void counters(uint16_t port);
 void filters(uint16_t port);
 void restart_queues(uint16_t port);
-uint16_t choose_queues(uint16_t port);
+/* The redirection table of the run's own: 0, or 1 where the driver refuses it. */
+uint16_t choose(uint16_t port);
 
 /* Frames a second over the bench and over DPDK's null driver, in turns. */
 int measure(uint16_t card, uint16_t null);

@@ -1,11 +1,12 @@
 #include "hashes.h"
 
 #include <rte_byteorder.h>
+#include <rte_ethdev.h>
 #include <rte_thash.h>
 #include <stdio.h>
 #include <string.h>
 
-#include "nic82599.h"
+#include "dpdk.h"
 
 /* DPDK hashes words in the machine's order, the wire has them with their high byte first. */
 static uint32_t soft_hash(const uint8_t *input, size_t length, const uint8_t *key)
@@ -35,4 +36,17 @@ enum hash hash_compare(const struct rte_mbuf *packet, const struct frame *frame,
     fprintf(stderr, "the driver tells %s hash, %08x; rte_softrss %08x, nic_hash %08x, drivers/common %08x\n",
             told ? "a" : "no", told ? packet->hash.rss : 0, soft, bench, expected);
     return HASH_WRONG;
+}
+
+uint16_t choose_queues(uint16_t port, unsigned int queues, struct rss *rss)
+{
+    struct rte_eth_rss_reta_entry64 entries[RSS_ENTRIES / RTE_ETH_RETA_GROUP_SIZE];
+    rss->mrqc = RSS_ALL;
+    memcpy(rss->key, rss_key, sizeof rss->key);
+    for (unsigned int entry = 0; entry < RSS_ENTRIES; entry++) {
+        rss->table[entry] = (uint8_t)((entry * 5 + entry / 16) % queues);
+        entries[entry / RTE_ETH_RETA_GROUP_SIZE].mask = UINT64_MAX;
+        entries[entry / RTE_ETH_RETA_GROUP_SIZE].reta[entry % RTE_ETH_RETA_GROUP_SIZE] = rss->table[entry];
+    }
+    return rte_eth_dev_rss_reta_update(port, entries, RSS_ENTRIES) != 0;
 }

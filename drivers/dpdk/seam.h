@@ -1,5 +1,5 @@
-/* What DPDK's driver is made to call in place of its own accesses (reroute.h), and nothing else: this file stands before
-   each of its sources. */
+/* What DPDK's driver is made to call in place of its own accesses (reroute.h), and nothing else: this file stands
+   before each of its sources. */
 #ifndef SEAM_H
 #define SEAM_H
 

@@ -10,7 +10,7 @@
 
 #define SEGMENTS 3
 
-static struct rss rss = {.mrqc = RSS_ALL};
+static struct rss rss;
 static struct line_up in[QUEUES], out[QUEUES];   /* the frames that a queue is to give */
 static uint64_t received[QUEUES], sent[QUEUES];
 static unsigned int alike, hashes, unhashed;
@@ -240,21 +240,6 @@ void counters(uint16_t port)
 
 /* ---- queues ---- */
 
-/* Each queue counts in the counter of its number, and the redirection table is one of the run's own. */
-uint16_t choose_queues(uint16_t port)
-{
-    memcpy(rss.key, rss_key, sizeof rss.key);
-    struct rte_eth_rss_reta_entry64 entries[RSS_ENTRIES / RTE_ETH_RETA_GROUP_SIZE];
-    for (unsigned int entry = 0; entry < RSS_ENTRIES; entry++) {
-        rss.table[entry] = (uint8_t)((entry * 5 + entry / 16) % QUEUES);
-        entries[entry / RTE_ETH_RETA_GROUP_SIZE].mask = UINT64_MAX;
-        entries[entry / RTE_ETH_RETA_GROUP_SIZE].reta[entry % RTE_ETH_RETA_GROUP_SIZE] = rss.table[entry];
-    }
-    if (rte_eth_dev_rss_reta_update(port, entries, RSS_ENTRIES) != 0)
-        return 1;
-    return 0;
-}
-
 static void restart_transmit(uint16_t port)
 {
     uint64_t before = sent[0];
@@ -288,6 +273,11 @@ static void restart_receive(uint16_t port)
     printf("  receive queue 0: RDH is %u, RDT %u; the device writes %u frames for it, of which the driver sees %u,\n"
            "    the next one waits, and of a frame for queue 1 behind it the device writes %u descriptors\n",
            head, tail, frames, take(port, 0), behind);
+}
+
+uint16_t choose(uint16_t port)
+{
+    return choose_queues(port, QUEUES, &rss);
 }
 
 /* The transmit queue 0 and the receive queue 0 are stopped and started again, each alone. What the driver then doesn't

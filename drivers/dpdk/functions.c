@@ -1,0 +1,382 @@
+/* Runs DPDK's ixgbe driver as host over the bench, and its driver of virtual functions on functions of the same device,
+   all in one process. drivers/dpdk/run --vf compiles and calls it.
+
+     functions [--max-vfs N] [--functions N] [--queues N] [--vf-queues N] [--no-rss] [--slots N] [--frames N]
+               [--handlers messages | line | late=N] [--course whole | traffic | no-rss | fewer-queues]
+               [--scalar] [--turn in | out] [--strays FILE] [--trace FILE] [--loud]
+
+   Courses: `whole` (of a host with two functions), `traffic` (frames alone), and two differences from the card that
+   docs/CARD.md tells, which must come out as told there. Status 0 where all was as it should be, else 1; 3 for words
+   that it doesn't know. */
+#include <errno.h>
+#include <inttypes.h>
+#include <stdio.h>
+#include <stdlib.h>
+#include <string.h>
+
+#include "card.h"
+#include "handlers.h"
+#include "passes.h"
+#include "ports.h"
+#include "requests.h"
+#include "strays.h"
+#include "verdict.h"
+#include "window.h"
+
+#define FIFO 64
+#define MEBIBYTES 48
+#define MEBIBYTES_MANY 110 /* for more functions than a few */
+#define FEW 8
+#define PACKETS 8191
+#define PACKETS_MANY 16383
+#define BUFFER 2048
+#define TURNED 10
+#define POLLS_MOST 1999 /* of the driver's own 2,000 */
+#define FRAMES_MOST 1000000
+#define DIFFERENT 1000 /* frames, where the bench and the card differ */
+
+struct words {
+    const char *course, *strays, *trace;
+    struct handlers_way way;
+    uint64_t turn_in, turn_out;
+    bool scalar, loud;
+};
+
+static uint64_t known_drops;
+static unsigned int mailbox_events;
+
+/* ---- parts of courses ---- */
+
+static int on_mailbox(uint16_t port, enum rte_eth_event_type type, void *argument, void *result)
+{
+    (void)port, (void)argument, (void)result;
+    mailbox_events += type == RTE_ETH_EVENT_VF_MBOX;
+    return 0;
+}
+
+static bool begin_host(void)
+{
+    if (!port_probe(HOST))
+        return false;
+    if (memcmp(ports[HOST].mac.addr_bytes, card_mac, sizeof card_mac) != 0)
+        problem("the host's address isn't the EEPROM's");
+    return !failed("rte_eth_dev_callback_register",
+                   rte_eth_dev_callback_register(ports[HOST].number, RTE_ETH_EVENT_VF_MBOX, on_mailbox, NULL));
+}
+
+static bool begin_functions(void)
+{
+    for (unsigned int which = 1; which <= setting.functions; which++)
+        if (!port_probe(which) || !port_start(which))
+            return false;
+    return true;
+}
+
+static void passes(void)
+{
+    for (unsigned int which = 0; which <= setting.functions; which++)
+        pass(which, which);
+    pass(0, setting.functions);
+}
+
+static bool end_all(void)
+{
+    bool ok = true;
+    for (unsigned int which = setting.functions; which > 0; which--)
+        ok &= port_stop(which) && port_remove(which);
+    ok &= port_stop(HOST) && port_remove(HOST);
+    unsigned int lost = rte_mempool_in_use_count(pool);
+    if (lost)
+        problem("%u packets aren't back in their pool", lost);
+    else
+        printf("  all packets are back in their pool\n");
+    return ok;
+}
+
+/* ---- courses ---- */
+
+static bool restart_function(void)
+{
+    struct rte_ether_addr mac = ports[1].mac;
+    if (!port_stop(1))
+        return false;
+    if (who_gets(mac.addr_bytes, 0) >= 0)
+        problem("a function that is stopped gets a frame");
+    if (!port_start(1))
+        return false;
+    pass(0, setting.functions);
+    return true;
+}
+
+/* The host stops and starts under its functions, which are live all the while, and are restarted then. */
+static bool restart_host_alone(void)
+{
+    printf("-- the host is restarted under its functions\n");
+    if (!port_stop(HOST) || !port_start(HOST))
+        return false;
+    for (unsigned int which = 1; which <= setting.functions; which++)
+        if (!port_stop(which) || !port_start(which))
+            return false;
+    pass(0, setting.functions);
+    return true;
+}
+
+/* The functions stop first; the last one is removed, and probed anew once the host is there again. */
+static bool restart_host_after_functions(void)
+{
+    printf("-- the host is restarted, and a function is probed after it\n");
+    for (unsigned int which = 1; which <= setting.functions; which++)
+        if (!port_stop(which))
+            return false;
+    if (!port_remove(setting.functions) || !port_stop(HOST) || !port_start(HOST))
+        return false;
+    for (unsigned int which = 1; which < setting.functions; which++)
+        if (!port_start(which))
+            return false;
+    if (!port_probe(setting.functions) || !port_start(setting.functions))
+        return false;
+    pass(0, setting.functions);
+    return true;
+}
+
+static bool whole(void)
+{
+    if (!begin_host())
+        return false;
+    port_probe_early(1);
+    if (!port_start(HOST))
+        return false;
+    pass(0, 0);
+    if (!begin_functions())
+        return false;
+    passes();
+    pass_counters();
+    requests();
+    known_drops += limits();
+    printf("-- a function is restarted\n");
+    return restart_function() && restart_host_alone() && restart_host_after_functions() && end_all();
+}
+
+static bool only_traffic(void)
+{
+    if (!begin_host() || !port_start(HOST) || !begin_functions())
+        return false;
+    passes();
+    pass_counters();
+    return end_all();
+}
+
+/* Frames to the host and to VF0 in turns; compares who gets how many with what `expect` says of both. */
+static bool differs(void (*expect)(unsigned int gets[2]))
+{
+    unsigned int got[2] = {0, 0}, gets[2];
+    if (!begin_host() || !port_start(HOST) || !begin_functions())
+        return false;
+    bus_enter(IN_TRAFFIC);
+    frames_of_two(DIFFERENT, got);
+    known_drops = bus_counts()->drops;
+    printf("of %u frames to the host's address and %u to VF0's the host gets %u, VF0 %u, %" PRIu64 " are dropped\n",
+           DIFFERENT, DIFFERENT, got[0], got[1], known_drops);
+    expect(gets);
+    same("frames that the host gets", got[0], gets[0]);
+    same("frames that VF0 gets", got[1], gets[1]);
+    same("frames in all", got[0] + got[1] + known_drops, 2 * DIFFERENT);
+    return end_all();
+}
+
+/* Without RSS and with up to 31 functions DPDK's host chooses MRQC 0xC or 0xD, for which the bench has one queue: the
+   first, which is VF0's. */
+static void all_to_one(unsigned int gets[2])
+{
+    gets[0] = 0;
+    gets[1] = 2 * DIFFERENT;
+}
+
+static bool without_rss(void)
+{
+    return differs(all_to_one);
+}
+
+/* RSS parts the frames of a pool over its queues, of which a function with one has no second. */
+static void first_queue_alone(unsigned int gets[2])
+{
+    gets[0] = DIFFERENT;
+    gets[1] = 0;
+    for (unsigned int number = 0; number < DIFFERENT; number++) {
+        struct frame frame;
+        frame_make(&frame, number, FRAME_MAX, peer_mac, peer_mac);
+        gets[1] += rss_queue(&rss, &frame, bus_pool_queues()) == 0;
+    }
+}
+
+static bool fewer_queues(void)
+{
+    return differs(first_queue_alone);
+}
+
+static const struct {
+    const char *name;
+    bool (*run)(void);
+} courses[] = {{"whole", whole}, {"traffic", only_traffic}, {"no-rss", without_rss}, {"fewer-queues", fewer_queues}};
+
+static bool run_course(const char *name)
+{
+    for (size_t i = 0; i < RTE_DIM(courses); i++)
+        if (strcmp(courses[i].name, name) == 0)
+            return courses[i].run();
+    return false;
+}
+
+/* ---- words ---- */
+
+static bool read_handlers(const char *word, struct handlers_way *way)
+{
+    *way = (struct handlers_way){.by_line = strcmp(word, "messages") != 0};
+    setting.has_vectors = !way->by_line;
+    if (strncmp(word, "late=", 5) == 0)
+        return read_number(word + 5, 1, POLLS_MOST, &way->late);
+    return strcmp(word, "messages") == 0 || strcmp(word, "line") == 0;
+}
+
+static bool read_course(const char *word, const char **course)
+{
+    for (size_t i = 0; i < RTE_DIM(courses); i++)
+        if (strcmp(courses[i].name, word) == 0)
+            *course = courses[i].name;
+    return *course && strcmp(*course, word) == 0;
+}
+
+static bool read_turn(const char *word, struct words *it)
+{
+    it->turn_in = strcmp(word, "in") == 0 ? TURNED : it->turn_in;
+    it->turn_out = strcmp(word, "out") == 0 ? TURNED : it->turn_out;
+    return strcmp(word, "in") == 0 || strcmp(word, "out") == 0;
+}
+
+static bool read_pair(const char *word, const char *next, struct words *it)
+{
+    const struct {
+        const char *name;
+        unsigned long least, most;
+        unsigned int *number;
+    } numbers[] = {
+        {"--max-vfs", 1, BUS_FUNCTIONS - 1, &setting.max_vfs},
+        {"--functions", 1, BUS_FUNCTIONS - 1, &setting.functions},
+        {"--queues", 1, PORT_QUEUES, &setting.queues},
+        {"--vf-queues", 1, PORT_QUEUES, &setting.vf_queues},
+        {"--slots", 64, 1024, &setting.slots},
+        {"--frames", 1, FRAMES_MOST, &setting.frames},
+    };
+    for (size_t i = 0; i < RTE_DIM(numbers); i++)
+        if (strcmp(word, numbers[i].name) == 0)
+            return read_number(next, numbers[i].least, numbers[i].most, numbers[i].number);
+    if (strcmp(word, "--handlers") == 0)
+        return read_handlers(next, &it->way);
+    if (strcmp(word, "--course") == 0)
+        return read_course(next, &it->course);
+    if (strcmp(word, "--turn") == 0)
+        return read_turn(next, it);
+    if (strcmp(word, "--strays") == 0)
+        return *(it->strays = next) != 0;
+    return strcmp(word, "--trace") == 0 && *(it->trace = next) != 0;
+}
+
+static bool read_words(int count, char **words, struct words *it)
+{
+    *it = (struct words){.course = "whole", .way = {.by_line = true}};
+    setting = (struct setting){
+        .max_vfs = 2, .functions = 2, .queues = 2, .vf_queues = 2, .slots = SLOTS, .frames = 1000, .has_rss = true};
+    for (int i = 1; i < count; i++) {
+        if (strcmp(words[i], "--no-rss") == 0)
+            setting.has_rss = false;
+        else if (strcmp(words[i], "--scalar") == 0)
+            it->scalar = true;
+        else if (strcmp(words[i], "--loud") == 0)
+            it->loud = true;
+        else if (i + 1 < count && read_pair(words[i], words[i + 1], it))
+            i++;
+        else
+            return false;
+    }
+    return setting.functions <= setting.max_vfs && (setting.functions == 2 || strcmp(it->course, "whole") != 0);
+}
+
+/* ---- the whole ---- */
+
+static struct dpdk_options options_of(const struct words *words, FILE *trace)
+{
+    bool many = setting.functions > FEW;
+    struct dpdk_options options = {
+        .bus = {.functions = (uint8_t)setting.max_vfs,
+                .fifo = FIFO,
+                .answers = BUS_SWSM | BUS_ANLP1,
+                .phases = phase_names,
+                .hooks = {.reading = handlers_reading, .written = handlers_written},
+                .trace = trace,
+                .turn_in = words->turn_in,
+                .turn_out = words->turn_out},
+        .name = "functions",
+        .mebibytes = many ? MEBIBYTES_MANY : MEBIBYTES,
+        .packets = many ? PACKETS_MANY : PACKETS,
+        .buffer = BUFFER,
+        .scalar = words->scalar,
+        .loud = words->loud,
+    };
+    memcpy(options.bus.mac, card_mac, sizeof card_mac);
+    return options;
+}
+
+static void tell_handlers(const struct handlers_way *way)
+{
+    uint64_t functions = 0;
+    for (unsigned int which = 1; which <= setting.functions; which++)
+        functions += card_interrupts(which);
+    printf("handlers: the host's was called %" PRIu64 " times, %" PRIu64
+           " of them by the line, those of functions %" PRIu64 "; messages of the host %" PRIu64
+           "\n  requests that the host's driver told its application: %u\n",
+           card_interrupts(HOST), handlers_by_line(), functions, bus_counts()->messages[BUS_PHYSICAL], mailbox_events);
+    if (!way->by_line)
+        same("calls of the host's handler by the line", handlers_by_line(), 0);
+    if (card_interrupts(HOST) == 0)
+        problem("the host's handler was never called");
+}
+
+static void run(const struct words *words)
+{
+    bus_tell_answers(BUS_SWSM | BUS_ANLP1);
+    handlers_begin(words->way);
+    if (!run_course(words->course)) {
+        problem("the run ends before its end");
+        return;
+    }
+    pass_totals();
+    requests_tell();
+    tell_handlers(&words->way);
+    bus_tell_counts();
+    bus_check_counts(known_drops);
+}
+
+int main(int count, char **arguments)
+{
+    struct words words;
+    if (!read_words(count, arguments, &words)) {
+        fprintf(stderr, "functions: words that it doesn't know; its source tells those that it does\n");
+        return 3;
+    }
+    FILE *trace = words.trace ? fopen(words.trace, "w") : NULL;
+    if (words.trace && !trace) {
+        fprintf(stderr, "functions: %s: %s\n", words.trace, strerror(errno));
+        return 2;
+    }
+    struct dpdk_options options = options_of(&words, trace);
+    if (dpdk_start(&options)) {
+        run(&words);
+        if (words.strays)
+            strays_save(words.strays);
+        bus_close();
+        window_close();
+    }
+    if (trace)
+        fclose(trace);
+    return dpdk_end();
+}

@@ -1,0 +1,64 @@
+#include "handlers.h"
+
+#include "bus.h"
+#include "card.h"
+#include "verdict.h"
+
+#define CALLS_MOST 1000 /* in a row: more, and the handler doesn't take its cause away */
+
+static struct handlers_way way;
+static bool is_running;
+static unsigned int polls, calls;
+static uint64_t by_line;
+
+void handlers_begin(struct handlers_way chosen)
+{
+    way = chosen;
+    is_running = false;
+    polls = 0;
+    by_line = 0;
+}
+
+static void message(unsigned int function, unsigned int vector)
+{
+    if (vector == 0)
+        card_interrupt(function);
+}
+
+void handlers_run(void)
+{
+    if (is_running)
+        return;
+    is_running = true;
+    for (bool any = true; any;) {
+        any = bus_messages(message) > 0;
+        if (way.by_line && bus_line() && card_interrupt(BUS_PHYSICAL)) {
+            by_line++;
+            any = true;
+        }
+        if (any && ++calls > CALLS_MOST) {
+            problem("a handler is called %u times, and its cause stays", CALLS_MOST);
+            break;
+        }
+    }
+    calls = 0;
+    is_running = false;
+}
+
+void handlers_reading(unsigned int function, uint32_t offset)
+{
+    if (way.late && !is_running && function != BUS_PHYSICAL && offset == NIC_VFMAILBOX && ++polls % way.late == 0)
+        handlers_run();
+}
+
+void handlers_written(unsigned int function, uint32_t offset)
+{
+    (void)function, (void)offset;
+    if (!way.late)
+        handlers_run();
+}
+
+uint64_t handlers_by_line(void)
+{
+    return by_line;
+}

@@ -1,0 +1,164 @@
+#include "ports.h"
+
+#include <errno.h>
+#include <inttypes.h>
+#include <stdio.h>
+#include <string.h>
+
+#include "card.h"
+#include "hashes.h"
+#include "verdict.h"
+
+#define HOST_DEVICE 0x10F7     /* 82599EB, KX4 */
+#define FUNCTION_DEVICE 0x10ED /* a virtual function of it */
+#define NAME_ROOM 8
+
+const char *const phase_names[] = {
+    "probe", "start",    "traffic",  "counters", "requests", "host", "stop",
+    "close", "vf-probe", "vf-start", "vf-stop",  "vf-close", NULL,
+};
+struct setting setting;
+struct port ports[BUS_FUNCTIONS];
+struct rss rss;
+
+const char *port_name(unsigned int which)
+{
+    static char names[BUS_FUNCTIONS][NAME_ROOM];
+    if (which == HOST)
+        return "host";
+    snprintf(names[which], NAME_ROOM, "VF%u", (which - 1) % BUS_FUNCTIONS);
+    return names[which];
+}
+
+unsigned int port_queues(unsigned int which)
+{
+    return which == HOST ? setting.queues : setting.vf_queues;
+}
+
+/* The host has the pool behind those of its functions, VT_CTL's default. */
+uint16_t device_queue(unsigned int which, uint16_t queue)
+{
+    unsigned int pool_number = which == HOST ? setting.max_vfs : which - 1;
+    return (uint16_t)(pool_number * bus_pool_queues() + queue);
+}
+
+/* ---- probe ---- */
+
+static unsigned int vectors_of(unsigned int which)
+{
+    return !setting.has_vectors ? 0 : which == HOST ? setting.queues : 1;
+}
+
+static int probe(unsigned int which)
+{
+    bus_enter(which == HOST ? IN_PROBE : IN_VF_PROBE);
+    if (which == HOST)
+        return card_probe(which, HOST_DEVICE, (uint16_t)setting.max_vfs, vectors_of(which));
+    return card_probe(which, FUNCTION_DEVICE, 0, vectors_of(which));
+}
+
+bool port_probe(unsigned int which)
+{
+    struct port *port = &ports[which];
+    printf("%s is probed\n", port_name(which));
+    if (failed("the driver's probe", probe(which)))
+        return false;
+    port->number = card_port(which);
+    struct rte_eth_dev_info info;
+    if (port->number == RTE_MAX_ETHPORTS || failed("rte_eth_macaddr_get", rte_eth_macaddr_get(port->number, &port->mac))
+        || failed("rte_eth_dev_info_get", rte_eth_dev_info_get(port->number, &info)))
+        return false;
+    port->is_there = true;
+    printf("  %s, address " RTE_ETHER_ADDR_PRT_FMT ", at most %u queues\n", card_driver(which),
+           RTE_ETHER_ADDR_BYTES(&port->mac), info.max_rx_queues);
+    return true;
+}
+
+void port_probe_early(unsigned int which)
+{
+    uint64_t before = bus_counts()->absent_reads;
+    printf("%s is probed before the host is started\n", port_name(which));
+    int status = probe(which);
+    printf("  the driver gives up: %d, after %" PRIu64 " reads of a function that has no pool yet\n", status,
+           bus_counts()->absent_reads - before);
+    if (status != -EAGAIN || bus_counts()->absent_reads == before)
+        problem("an early probe answers %d", status);
+}
+
+/* ---- start ---- */
+
+static bool configure(unsigned int which)
+{
+    const char *what;
+    struct rte_eth_conf configuration = {0};
+    if (which == HOST && setting.has_rss)
+        ask_for_rss(&configuration);
+    if (which != HOST)
+        configuration.rxmode.offloads |= RTE_ETH_RX_OFFLOAD_VLAN_FILTER;
+    configuration.intr_conf.rxq = setting.has_vectors;
+    int status = port_configure(ports[which].number, &configuration, port_queues(which), setting.slots, &what);
+    return !failed(what, status);
+}
+
+static void tell_mode(void)
+{
+    printf("  GCR_EXT %08" PRIX32 ", MRQC %08" PRIX32 ", VT_CTL %08" PRIX32 ", IVAR_MISC %08" PRIX32 ": %u pools\n",
+           bus_peek(NIC_GCR_EXT), bus_peek(NIC_MRQC), bus_peek(NIC_VT_CTL), bus_peek(NIC_IVAR_MISC),
+           bus_pool_queues() ? BUS_QUEUES / bus_pool_queues() : 0);
+}
+
+bool port_start(unsigned int which)
+{
+    struct port *port = &ports[which];
+    struct rte_eth_link link;
+    bus_enter(which == HOST ? IN_START : IN_VF_START);
+    printf("%s is started\n", port_name(which));
+    if (!port->is_configured && !configure(which))
+        return false;
+    port->is_configured = true;
+    card_give_vectors(which, vectors_of(which));
+    if (failed("rte_eth_dev_start", rte_eth_dev_start(port->number)))
+        return false;
+    port->is_started = true;
+    if (which == HOST && setting.has_rss
+        && failed("the redirection table", choose_queues(port->number, setting.queues, &rss)))
+        return false;
+    rte_eth_link_get_nowait(port->number, &link);
+    if (!link.link_status)
+        problem("%s: the link is down", port_name(which));
+    if (which == HOST)
+        tell_mode();
+    return true;
+}
+
+/* ---- stop ---- */
+
+bool port_stop(unsigned int which)
+{
+    bus_enter(which == HOST ? IN_STOP : IN_VF_STOP);
+    printf("%s is stopped\n", port_name(which));
+    ports[which].is_started = false;
+    return !failed("rte_eth_dev_stop", rte_eth_dev_stop(ports[which].number));
+}
+
+bool port_remove(unsigned int which)
+{
+    bus_enter(which == HOST ? IN_CLOSE : IN_VF_CLOSE);
+    printf("%s is removed\n", port_name(which));
+    ports[which] = (struct port){0};
+    return !failed("the driver's remove", card_remove(which));
+}
+
+unsigned int port_drain(unsigned int which)
+{
+    struct rte_mbuf *packets[BURST];
+    unsigned int all = 0;
+    for (uint16_t queue = 0; ports[which].is_started && queue < port_queues(which); queue++) {
+        uint16_t count;
+        while ((count = rte_eth_rx_burst(ports[which].number, queue, packets, BURST)) > 0) {
+            rte_pktmbuf_free_bulk(packets, count);
+            all += count;
+        }
+    }
+    return all;
+}

@@ -1,0 +1,303 @@
+#include "requests.h"
+
+#include <errno.h>
+#include <inttypes.h>
+#include <stdio.h>
+#include <string.h>
+
+#include "frames.h"
+#include "mailbox.h"
+#include "passes.h"
+#include "ports.h"
+#include "rte_pmd_ixgbe.h"
+#include "verdict.h"
+
+#define REQUESTS 16
+#define F0 1u /* the ports of functions 0 and 1 */
+#define F1 2u
+#define VLAN 100
+#define OTHER_VLAN 200
+#define COLUMNS 9
+#define FLOOD 140 /* frames: more than a ring and the receive list of the tests hold */
+#define BEHIND 10 /* frames to the host, behind them */
+
+static struct rte_ether_addr further = {{0x02, 0, 0, 0, 0, 0x77}}, another = {{0x02, 0, 0, 0, 0, 0x78}},
+                             group = {{0x01, 0, 0x5e, 0x01, 0x02, 0x03}},
+                             everyone = {{0xff, 0xff, 0xff, 0xff, 0xff, 0xff}};
+static struct rte_ether_addr former; /* of VF0, at the start */
+static unsigned int known_refusals;
+
+/* ---- what is asked ---- */
+
+static int nothing(void)
+{
+    return 0;
+}
+
+static int add(void)
+{
+    return rte_eth_dev_mac_addr_add(ports[F0].number, &further, 0);
+}
+
+static int take_away(void)
+{
+    return rte_eth_dev_mac_addr_remove(ports[F0].number, &further);
+}
+
+static int change(void)
+{
+    return rte_eth_dev_default_mac_addr_set(ports[F0].number, &another);
+}
+
+static int change_back(void)
+{
+    return rte_eth_dev_default_mac_addr_set(ports[F0].number, &former);
+}
+
+static int list(void)
+{
+    return rte_eth_dev_set_mc_addr_list(ports[F0].number, &group, 1);
+}
+
+static int all_multicast(void)
+{
+    return rte_eth_allmulticast_enable(ports[F0].number);
+}
+
+static int promiscuous(void)
+{
+    return rte_eth_promiscuous_enable(ports[F0].number);
+}
+
+static int vlan(void)
+{
+    return rte_eth_dev_vlan_filter(ports[F0].number, VLAN, 1);
+}
+
+static int vlan_off(void)
+{
+    return rte_eth_dev_vlan_filter(ports[F0].number, VLAN, 0);
+}
+
+static int shorter(void)
+{
+    return rte_eth_dev_set_mtu(ports[F0].number, 1400);
+}
+
+static int longer(void)
+{
+    return rte_eth_dev_set_mtu(ports[F0].number, 1500);
+}
+
+static int host_gives(void)
+{
+    return rte_pmd_ixgbe_set_vf_mac_addr(ports[HOST].number, 0, &another);
+}
+
+static int host_gives_back(void)
+{
+    return rte_pmd_ixgbe_set_vf_mac_addr(ports[HOST].number, 0, &former);
+}
+
+static int host_broadcast(void)
+{
+    return rte_pmd_ixgbe_set_vf_rxmode(ports[HOST].number, 0, RTE_ETH_VMDQ_ACCEPT_BROADCAST, 1);
+}
+
+static int host_all_multicast(void)
+{
+    return rte_eth_allmulticast_enable(ports[HOST].number);
+}
+
+static int host_no_multicast(void)
+{
+    return rte_eth_allmulticast_disable(ports[HOST].number);
+}
+
+static int host_promiscuous(void)
+{
+    return rte_eth_promiscuous_enable(ports[HOST].number);
+}
+
+static int host_no_longer(void)
+{
+    return rte_eth_promiscuous_disable(ports[HOST].number);
+}
+
+static int host_stops_receive(void)
+{
+    return rte_pmd_ixgbe_set_vf_rx(ports[HOST].number, 0, 0);
+}
+
+static int host_starts_receive(void)
+{
+    return rte_pmd_ixgbe_set_vf_rx(ports[HOST].number, 0, 1);
+}
+
+static int host_pings(void)
+{
+    return rte_pmd_ixgbe_ping_vf(ports[HOST].number, 0);
+}
+
+/* What is asked, what the driver answers, and who then gets a frame to each address: the host (H), a function by its
+   number, nobody (-). The addresses are the columns of tell_head. */
+static const struct {
+    const char *what;
+    int (*ask)(void);
+    int answer;
+    char who[COLUMNS + 1];
+} rows[] = {
+    {"as they start", nothing, 0, "H01---H00"},
+    {"VF0: a further address", add, 0, "H010--H00"},
+    {"VF0: no longer", take_away, 0, "H01---H00"},
+    {"VF0: another address", change, 0, "H-1-0-H--"},
+    {"VF0: its former one", change_back, 0, "H01---H00"},
+    {"VF0: a multicast address", list, 0, "H01---H00"},
+    {"VF0: all multicast", all_multicast, 0, "H01---H00"},
+    {"VF0: promiscuous", promiscuous, -ENOTSUP, "H01---H00"},
+    {"VF0: VLAN 100", vlan, 0, "H01---H00"},
+    {"VF0: no longer", vlan_off, 0, "H01---H00"},
+    {"VF0: MTU 1,400", shorter, 0, "H01---H00"},
+    {"VF0: MTU 1,500", longer, 0, "H01---H00"},
+    {"host: gives VF0 another address", host_gives, 0, "H-1-0-H--"},
+    {"host: the former one", host_gives_back, 0, "H01---H00"},
+    {"host: VF0 takes broadcasts", host_broadcast, 0, "H01---H00"},
+    {"host: all multicast", host_all_multicast, 0, "H01--HH00"},
+    {"host: no longer", host_no_multicast, 0, "H01---H00"},
+    {"host: promiscuous", host_promiscuous, 0, "H01HHHH00"},
+    {"host: no longer", host_no_longer, 0, "H01---H00"},
+    {"host: VF0 doesn't receive", host_stops_receive, 0, "H-1---H--"},
+    {"host: VF0 receives", host_starts_receive, 0, "H01---H00"},
+    {"host: pings VF0", host_pings, 0, "H01---H00"},
+};
+
+static const char *const heads[COLUMNS] = {"host", "VF0", "VF1", ":77", ":78", "group", "all", "V100", "V200"};
+
+static void tell_head(void)
+{
+    printf("  %-32s", "who gets a frame to");
+    for (unsigned int i = 0; i < COLUMNS; i++)
+        printf(" %-5s", heads[i]);
+    printf("\n");
+}
+
+static char letter(int who)
+{
+    return who < 0 ? '-' : who == HOST ? 'H' : (char)('0' + who - 1);
+}
+
+static void try_row(size_t row)
+{
+    const struct rte_ether_addr *to[COLUMNS] = {&ports[HOST].mac, &former,   &ports[F1].mac, &further, &another,
+                                                &group,           &everyone, &former,        &former};
+    char who[COLUMNS + 1] = {0};
+    int answer = rows[row].ask();
+    for (unsigned int i = 0; i < COLUMNS; i++)
+        who[i] = letter(who_gets(to[i]->addr_bytes, i == COLUMNS - 2 ? VLAN : i == COLUMNS - 1 ? OTHER_VLAN : 0));
+    printf("  %-32s", rows[row].what);
+    for (unsigned int i = 0; i < COLUMNS; i++)
+        printf(who[i] == 'H' ? " host " : who[i] == '-' ? " -    " : " VF%c  ", who[i]);
+    printf("%s\n", answer ? " refused by the driver" : "");
+    known_refusals += rows[row].answer != 0;
+    if (answer != rows[row].answer)
+        problem("%s: the driver answers %d", rows[row].what, answer);
+    if (strcmp(who, rows[row].who) != 0)
+        problem("%s: %s get the frames, where %s is known", rows[row].what, who, rows[row].who);
+}
+
+void requests(void)
+{
+    bus_enter(IN_REQUESTS);
+    printf("what functions ask for, and what the host does\n");
+    former = ports[F0].mac;
+    tell_head();
+    for (size_t row = 0; row < RTE_DIM(rows); row++)
+        try_row(row);
+    printf(
+        "  (:77 and :78 are addresses of nobody's, V100 and V200 VF0's with a VLAN tag, group a multicast address)\n");
+}
+
+/* ---- limits ---- */
+
+/* Frames to VF0, which doesn't poll, then some to the host: how many of these come in, at once and once VF0 polls. */
+static void block(const char *what, unsigned int at_once)
+{
+    uint64_t drops = bus_counts()->drops;
+    port_drain(HOST);
+    port_drain(F0);
+    flood(F0, FRAME_OTHER, FRAME_KINDS, FLOOD); /* no IP: none has a hash, so all are one queue's */
+    flood(HOST, FRAME_OTHER, FRAME_KINDS, BEHIND);
+    unsigned int came = port_drain(HOST), waited = port_drain(F0);
+    bus_receive();
+    unsigned int later = port_drain(HOST);
+    waited += port_drain(F0);
+    printf("  %-36s the host gets %u of %u at once, %u once VF0 polls; VF0 gets %u of %u\n", what, came, BEHIND, later,
+           waited, FLOOD);
+    same("frames to the host behind a full ring", came, at_once);
+    same("frames to the host, and later", came + later, BEHIND);
+    same("frames to a function that doesn't poll", waited + (bus_counts()->drops - drops), FLOOD);
+}
+
+static void blocks(void)
+{
+    uint16_t host = ports[HOST].number;
+    printf("  %u frames to VF0, which doesn't poll, then %u to the host:\n", FLOOD, BEHIND);
+    block("as they start", 0);
+    failed("rte_pmd_ixgbe_set_all_queues_drop_en", rte_pmd_ixgbe_set_all_queues_drop_en(host, 1));
+    block("with QDE, which isn't there", 0);
+    failed("rte_pmd_ixgbe_set_vf_split_drop_en", rte_pmd_ixgbe_set_vf_split_drop_en(host, 0, 1));
+    block("with DROP_EN in VF0's SRRCTL", BEHIND);
+    failed("rte_pmd_ixgbe_set_vf_split_drop_en", rte_pmd_ixgbe_set_vf_split_drop_en(host, 0, 0));
+}
+
+static void between(unsigned int from, unsigned int to)
+{
+    unsigned int sent = send_one(from, ports[to].mac.addr_bytes);
+    bus_receive();
+    unsigned int got = port_drain(to);
+    printf("  %s sends to %s's address: %u on the wire, %s gets %u\n", port_name(from), port_name(to), sent,
+           port_name(to), got);
+    same("frames between pools, on the wire", sent, 1);
+    same("frames between pools, inside", got, 0);
+}
+
+static void stop_sending(void)
+{
+    uint16_t host = ports[HOST].number;
+    failed("rte_pmd_ixgbe_set_vf_tx", rte_pmd_ixgbe_set_vf_tx(host, 0, 0));
+    unsigned int off = send_one(F0, peer_mac);
+    failed("rte_pmd_ixgbe_set_vf_tx", rte_pmd_ixgbe_set_vf_tx(host, 0, 1));
+    unsigned int on = send_one(F0, peer_mac);
+    printf("  the host has VF0 not send, and then send: %u frames go out, then %u of 2\n", off, on);
+    same("frames of a function that may not send", off, 0);
+    same("frames of a function that may send again", on, 2);
+}
+
+uint64_t limits(void)
+{
+    uint64_t drops = bus_counts()->drops;
+    bus_enter(IN_HOST);
+    printf("limits\n");
+    blocks();
+    between(F0, HOST);
+    between(HOST, F0);
+    stop_sending();
+    return bus_counts()->drops - drops;
+}
+
+/* ---- the mailbox ---- */
+
+void requests_tell(void)
+{
+    uint64_t refused = 0;
+    printf("what functions asked by their mailboxes, and what the host answered\n");
+    mailbox_tell();
+    for (unsigned int request = 1; request <= REQUESTS; request++) {
+        struct mailbox_counts it = mailbox_counts(request);
+        refused += it.refused;
+        if (it.acknowledged + it.refused != it.asked)
+            problem("request %u: %" PRIu64 " of %" PRIu64 " are answered", request, it.acknowledged + it.refused,
+                    it.asked);
+    }
+    same("requests that the host refuses", refused, known_refusals);
+}

@@ -51,6 +51,11 @@ void bus_tell_answers(unsigned int which)
             printf("the shim answers %s\n", answers[i].what);
 }
 
+void answers_begin(void)
+{
+    semaphore = 0;
+}
+
 uint32_t answer_stray(uint32_t address, uint32_t word)
 {
     if (address == SWSM && given(BUS_SWSM)) {

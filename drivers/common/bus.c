@@ -389,6 +389,7 @@ bool bus_open(const struct bus_options *options)
     mark_places();
     memory_begin();
     mailbox_begin();
+    answers_begin();
     if (nic_open(bus_device(), options->functions, options->fifo, BLOCKS) != NIC_DONE)
         return false;
     nic_link(bus_device(), true);

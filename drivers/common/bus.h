@@ -64,11 +64,11 @@ struct bus_counts {
     uint64_t messages[BUS_FUNCTIONS]; /* and by which vectors, a bit each */
     uint32_t vectors[BUS_FUNCTIONS];
     uint64_t receive_steps, transmit_steps, frames_in, frames_out, enables, eeprom_words;
-    uint64_t to_device, to_driver; /* bytes copied */
+    uint64_t to_device, to_driver;        /* bytes copied */
     uint64_t absent_reads, absent_writes; /* of functions that the mode has no pool for */
-    uint64_t answered[5];          /* how often each answer was given, by enum bus_answer's bit */
-    uint64_t faults, refusals;     /* what never happens in a good run; told on standard error */
-    uint64_t drops, not_let_in;    /* frames, by receive steps and at arrival; by enum nic_why: */
+    uint64_t answered[5];                 /* how often each answer was given, by enum bus_answer's bit */
+    uint64_t faults, refusals;            /* what never happens in a good run; told on standard error */
+    uint64_t drops, not_let_in;           /* frames, by receive steps and at arrival; by enum nic_why: */
     uint64_t drop_whys[16], arrive_whys[16];
 };
 

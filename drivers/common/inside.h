@@ -18,6 +18,7 @@ extern struct bus_inside bus_inside;
 void memory_begin(void);
 
 /* answers.c: what is read where the device has no register, or answers another word than the bus does */
+void answers_begin(void);
 uint32_t answer_stray(uint32_t address, uint32_t word);
 void answer_stray_write(uint32_t address, uint32_t word);
 uint32_t answer_read(uint32_t address, uint32_t word);

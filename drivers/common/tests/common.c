@@ -1,0 +1,425 @@
+/* Tests of what runs of real drivers share: frames, hashes and queues, windows, memory, answers, strays, mailboxes. The
+   driver here is the test itself. */
+#include <string.h>
+
+#include "bus.h"
+#include "check.h"
+#include "frames.h"
+#include "mailbox.h"
+#include "memory.h"
+#include "rss.h"
+#include "strays.h"
+#include "verdict.h"
+#include "window.h"
+
+enum { RING = 0x1000, BUFFER = 0x2000, SLOTS = 8, FIRST_BUS = 0x8000, BYTES = 0x4000, QUEUE = 4, FUNCTION = 3 };
+
+static const uint8_t card[6] = {2, 0, 0, 0, 0x82, 0x99}, peer[6] = {2, 0, 0, 0, 0, 1};
+static const char *const phases[] = {"first", "second", NULL};
+static uint8_t host_memory[BYTES];
+static struct frame sent;
+static unsigned int frames_sent, filled, tails, messages, last_vector;
+
+/* ---- frames ---- */
+
+static uint16_t sum_of(const uint8_t *bytes, unsigned int length)
+{
+    uint32_t sum = 0;
+    for (unsigned int at = 0; at < length; at += 2)
+        sum += (uint32_t)bytes[at] << 8 | bytes[at + 1];
+    while (sum >> 16)
+        sum = (sum & 0xFFFF) + (sum >> 16);
+    return (uint16_t)sum;
+}
+
+static void frames_follow_from_their_numbers(void)
+{
+    static bool has_length[FRAME_MAX + 1];
+    static struct frame frame, again;
+    for (uint32_t number = 0; number < FRAME_MAX - FRAME_MIN + 1; number++) {
+        frame_make(&frame, number, FRAME_MAX, card, peer);
+        frame_make(&again, number, FRAME_MAX, card, peer);
+        CHECK(frame.length >= FRAME_MIN && frame.length <= FRAME_MAX && !has_length[frame.length]);
+        has_length[frame.length] = true;
+        CHECK(frame_is(&frame, again.bytes, again.length));
+        CHECK(memcmp(frame.bytes, card, 6) == 0 && memcmp(frame.bytes + 6, peer, 6) == 0);
+        if (frame.bytes[12] == 8 && frame.bytes[13] == 0)
+            CHECK(sum_of(frame.bytes + 14, 20) == 0xFFFF);
+        again.bytes[again.length - 1] ^= 1;
+        CHECK(!frame_is(&frame, again.bytes, again.length) && !frame_is(&frame, frame.bytes, frame.length - 1u));
+    }
+    frame_make(&frame, 12345, FRAME_JUMBO, card, peer);
+    frame_make(&again, 12346, FRAME_JUMBO, card, peer);
+    CHECK(frame.length > FRAME_MAX && memcmp(frame.bytes + 2048, again.bytes + 2048, 256) != 0);
+}
+
+static void line_ups_keep_their_order(void)
+{
+    struct line_up line_up = {0};
+    uint32_t number = 7;
+    CHECK(line_up_begin(&line_up, 2) && !line_up_take(&line_up, &number) && number == 7);
+    line_up_put(&line_up, 5);
+    line_up_put(&line_up, 3);
+    line_up_put(&line_up, 1); /* there is no room for it */
+    CHECK(line_up_left(&line_up) == 2 && line_up_take(&line_up, &number) && number == 5);
+    CHECK(line_up_take(&line_up, &number) && number == 3 && !line_up_take(&line_up, &number));
+    CHECK(line_up_begin(&line_up, 0) && line_up_left(&line_up) == 0);
+    free(line_up.numbers);
+}
+
+static void numbers_are_read_whole(void)
+{
+    unsigned int number = 9;
+    CHECK(read_number("12", 1, 12, &number) && number == 12);
+    CHECK(!read_number("13", 1, 12, &number) && !read_number("0", 1, 12, &number) && !read_number("", 0, 12, &number));
+    CHECK(!read_number("1x", 0, 12, &number) && !read_number("-1", 0, 12, &number)
+          && !read_number(" 1", 0, 12, &number));
+    CHECK(!read_number("99999999999999999999999", 0, ~0ul, &number) && number == 12);
+}
+
+/* ---- hashes ---- */
+
+/* The published verification suite of receive side scaling: its key, an IPv4 packet with ports and one without. */
+static void hashes_are_those_published(void)
+{
+    static const uint8_t key[RSS_KEY_BYTES] = {0x6d, 0x5a, 0x56, 0xda, 0x25, 0x5b, 0x0e, 0xc2, 0x41, 0x67,
+                                               0x25, 0x3d, 0x43, 0xa3, 0x8f, 0xb0, 0xd0, 0xca, 0x2b, 0xcb,
+                                               0xae, 0x7b, 0x30, 0xb4, 0x77, 0xcb, 0x2d, 0xa3, 0x80, 0x30,
+                                               0xf2, 0x0c, 0x6a, 0x42, 0xb7, 0x3b, 0xbe, 0xac, 0x01, 0xfa};
+    static const uint8_t input[12] = {66, 9, 149, 187, 161, 142, 100, 80, 2794 >> 8, 2794 & 255, 1766 >> 8, 1766 & 255};
+    struct rss rss = {.mrqc = RSS_ALL};
+    static struct frame frame;
+    uint32_t hash;
+    memcpy(rss.key, key, sizeof key);
+    frame_make(&frame, FRAME_TCP4, FRAME_MAX, card, peer);
+    memcpy(frame.bytes + 26, input, sizeof input);
+    CHECK(rss_hash(&rss, &frame, &hash) && hash == 0x51ccc178);
+    rss.mrqc = NIC_MRQC_IPV4;
+    CHECK(rss_hash(&rss, &frame, &hash) && hash == 0x323e8fc2);
+    rss.mrqc = NIC_MRQC_IPV6 | NIC_MRQC_TCPIPV6 | NIC_MRQC_UDPIPV4;
+    CHECK(!rss_hash(&rss, &frame, &hash));
+}
+
+/* The library's hash is another program's. */
+static void hashes_are_the_librarys(void)
+{
+    struct rss rss = {.mrqc = RSS_ALL};
+    static struct frame frame;
+    for (unsigned int i = 0; i < RSS_KEY_BYTES; i++)
+        rss.key[i] = (uint8_t)chance();
+    for (uint32_t number = 0; number < 500; number++) {
+        size_t at = 0;
+        uint32_t hash = 0, theirs = 0;
+        frame_make(&frame, number, FRAME_MAX, card, peer);
+        size_t length = frame_hashed(&frame, &at);
+        CHECK(rss_hash(&rss, &frame, &hash) == (length > 0));
+        ANSWERS(NIC_DONE, nic_hash(rss.key, frame.bytes + at, length, &theirs));
+        CHECK(length == 0 || hash == theirs);
+    }
+}
+
+/* ---- the bus ---- */
+
+static void on_sent(uint16_t queue, const uint8_t *frame, size_t length)
+{
+    CHECK(queue == QUEUE);
+    memcpy(sent.bytes, frame, length);
+    sent.length = (uint16_t)length;
+    frames_sent++;
+}
+
+static void on_filled(uint16_t queue, bool ends)
+{
+    CHECK(queue == QUEUE && ends);
+    filled++;
+}
+
+static void on_tail(bool is_transmit, uint16_t queue)
+{
+    (void)is_transmit;
+    CHECK(queue == QUEUE);
+    tails++;
+}
+
+static void on_message(unsigned int function, unsigned int vector)
+{
+    CHECK(function == BUS_PHYSICAL);
+    messages++;
+    last_vector = vector;
+}
+
+static void open_bus(struct bus_options options)
+{
+    options.fifo = 16;
+    options.phases = phases;
+    memcpy(options.mac, card, sizeof card);
+    CHECK(bus_open(&options));
+    memset(host_memory, 0, sizeof host_memory);
+    filled = tails = frames_sent = messages = 0;
+}
+
+static uint64_t bus_of(uint32_t offset)
+{
+    return FIRST_BUS + offset;
+}
+
+static void put64(uint32_t offset, uint64_t value)
+{
+    memcpy(host_memory + offset, &value, sizeof value);
+}
+
+static uint64_t get64(uint32_t offset)
+{
+    uint64_t value;
+    memcpy(&value, host_memory + offset, sizeof value);
+    return value;
+}
+
+/* A ring of eight slots for this side of a queue, by a function's own registers or the physical ones. */
+static void start_ring(unsigned int function, uint32_t first, uint32_t control)
+{
+    bus_write(function, first, (uint32_t)bus_of(RING));
+    bus_write(function, first + 4, 0);
+    bus_write(function, first + 8, SLOTS * BUS_SLOT);
+    bus_write(function, control, NIC_RXDCTL_ENABLE);
+    CHECK(bus_read(function, control) & NIC_RXDCTL_ENABLE); /* the read makes the step */
+}
+
+static void start_receive(unsigned int function, uint32_t first)
+{
+    bus_write(function, first + 0x14, NIC_SRRCTL_DESCTYPE_IS(1) | NIC_SRRCTL_BSIZEPACKET_IS(2));
+    start_ring(function, first, first + 0x28);
+    for (uint32_t slot = 0; slot < SLOTS; slot++)
+        put64(RING + BUS_SLOT * slot, bus_of(BUFFER));
+    bus_write(function, first + 0x18, SLOTS - 1);
+}
+
+static void memory_is_lent_in_pieces(void)
+{
+    open_bus((struct bus_options){0});
+    CHECK(!memory_lend(bus_of(1), host_memory, BYTES) && !memory_lend(bus_of(0), host_memory, BYTES - 1));
+    CHECK(memory_lend(bus_of(0), host_memory, BYTES / 2));
+    CHECK(!memory_lend(bus_of(0), host_memory, BYTES / 2)); /* it is lent */
+    CHECK(memory_lend(bus_of(BYTES / 2), host_memory + BYTES / 2, BYTES / 2));
+    CHECK(memory_at(bus_of(5), BYTES - 5) == host_memory + 5); /* both pieces are one */
+    CHECK(!memory_at(bus_of(5), BYTES) && !memory_at(bus_of(0) - 1, 1) && !memory_at(~UINT64_C(0), 2));
+    CHECK(!memory_at(0, SIZE_MAX));
+    host_memory[9] = 77;
+    memory_to_device(bus_of(8), 4);
+    host_memory[9] = 0;
+    memory_to_driver(bus_of(8), 4);
+    CHECK(host_memory[9] == 77 && bus_counts()->refusals == 0);
+    memory_to_device(bus_of(BYTES - 1), 2);
+    CHECK(bus_counts()->refusals == 1);
+    bus_close();
+}
+
+static void frames_come_in(uint64_t turned)
+{
+    static struct frame frame;
+    open_bus((struct bus_options){.hooks = {.filled = on_filled, .tail = on_tail}, .turn_in = turned});
+    CHECK(memory_lend(bus_of(0), host_memory, BYTES));
+    bus_write(BUS_PHYSICAL, NIC_RXCTRL, NIC_RXCTRL_RXEN);
+    bus_write(BUS_PHYSICAL, NIC_FCTRL, NIC_FCTRL_UPE);
+    struct rss rss;
+    uint32_t hash;
+    bus_write(BUS_PHYSICAL, NIC_MRQC, NIC_MRQC_MRQE_IS(1) | NIC_MRQC_IPV4);
+    bus_write(BUS_PHYSICAL, NIC_RSSRK(0), 0x04030201);
+    for (uint32_t word = 0; word < NIC_RETA_COUNT; word++)
+        bus_write(BUS_PHYSICAL, NIC_RETA(word), QUEUE * 0x01010101u);
+    start_receive(BUS_PHYSICAL, NIC_RDBAL(QUEUE));
+    CHECK(bus_room(QUEUE) == SLOTS - 1 && bus_least_room() == SLOTS - 1 && bus_room(QUEUE + 1) == 0);
+    frame_make(&frame, FRAME_TCP4, FRAME_MAX, card, peer);
+    rss_of_registers(&rss);
+    CHECK(rss.key[0] == 1 && rss.key[3] == 4 && rss_hash(&rss, &frame, &hash));
+    CHECK(rss_queue(&rss, &frame, 16) == QUEUE && rss_queue(&rss, &frame, 4) == 0);
+    CHECK(bus_arrive(frame.bytes, frame.length) && bus_receive() == 1 && filled == 1 && tails == 1);
+    CHECK(frame_is(&frame, host_memory + BUFFER, frame.length) == (turned == 0));
+    CHECK((get64(RING + 8) & 3) == 3 && (get64(RING + 8) >> 32 & 0xFFFF) == frame.length);
+    CHECK(memory_unlike(bus_of(RING), SLOTS - 1) == 0 && bus_is_settled(BUS_QUEUES));
+    CHECK(!bus_arrive(frame.bytes, 59) && bus_counts()->arrive_whys[NIC_WHY_SHORT] == 1
+          && bus_counts()->not_let_in == 1);
+    bus_close();
+}
+
+static void frames_go_out(uint64_t turned)
+{
+    static struct frame frame;
+    open_bus((struct bus_options){.turn_out = turned});
+    CHECK(memory_lend(bus_of(0), host_memory, BYTES));
+    bus_send_to(on_sent);
+    bus_write(BUS_PHYSICAL, NIC_DMATXCTL, 1);
+    start_ring(BUS_PHYSICAL, NIC_TDBAL(QUEUE), NIC_TXDCTL(QUEUE));
+    frame_make(&frame, 3, FRAME_MAX, peer, card);
+    memcpy(host_memory + BUFFER, frame.bytes, frame.length);
+    for (uint32_t slot = 0; slot < SLOTS; slot++) {
+        uint64_t half = (uint64_t)frame.length << 46 | 0x2B300000u | frame.length; /* advanced data, EOP, IFCS, RS */
+        put64(RING + BUS_SLOT * slot, bus_of(BUFFER));
+        put64(RING + BUS_SLOT * slot + 8, half);
+    }
+    bus_write(BUS_PHYSICAL, NIC_TDT(QUEUE), 6);
+    CHECK(frames_sent == 6 && get64(RING + 8) >> 32 & 1 && frame_is(&frame, sent.bytes, sent.length));
+    bus_write(BUS_PHYSICAL, NIC_TDT(QUEUE), 2); /* past the ring's end */
+    CHECK(frames_sent == 10 && bus_counts()->faults == 0);
+    CHECK(frame_is(&frame, sent.bytes, sent.length) == (turned == 0));
+    bus_write(BUS_PHYSICAL, NIC_TDT(QUEUE), SLOTS);
+    CHECK(bus_counts()->refusals == 1);
+    bus_close();
+}
+
+/* A reset moves heads and tails to 0 without a write of either. */
+static void a_reset_begins_rings_anew(void)
+{
+    open_bus((struct bus_options){0});
+    CHECK(memory_lend(bus_of(0), host_memory, BYTES));
+    for (unsigned int time = 0; time < 2; time++) {
+        start_receive(BUS_PHYSICAL, NIC_RDBAL(QUEUE));
+        CHECK(memory_unlike(bus_of(RING), SLOTS - 1) == 0);
+        bus_write(BUS_PHYSICAL, NIC_CTRL, NIC_CTRL_RST);
+        memset(host_memory, 0xEE, BUFFER);
+    }
+    bus_close();
+}
+
+static void messages_and_the_line(void)
+{
+    open_bus((struct bus_options){0});
+    CHECK(bus_messages(on_message) == 0 && !bus_line());
+    bus_write(BUS_PHYSICAL, NIC_EIMS, NIC_EIMS_LSC);
+    bus_write(BUS_PHYSICAL, NIC_EICS, NIC_EICS_LSC);
+    CHECK(bus_line() && bus_messages(on_message) == 0); /* no vector is named for other causes */
+    bus_write(BUS_PHYSICAL, NIC_IVAR_MISC, 0x8200);
+    CHECK(bus_messages(on_message) == 1 && messages == 1 && last_vector == 2);
+    CHECK(bus_counts()->messages[BUS_PHYSICAL] == 1 && bus_counts()->vectors[BUS_PHYSICAL] == 4);
+    bus_close();
+}
+
+/* ---- answers ---- */
+
+static void answers_are_given_where_they_are_asked_for(bool given)
+{
+    open_bus((struct bus_options){.functions = 3, .answers = given ? 31 : 0});
+    uint32_t first = bus_read(BUS_PHYSICAL, 0x10140);
+    CHECK(first == 0 && bus_read(BUS_PHYSICAL, 0x10140) == given);
+    bus_write(BUS_PHYSICAL, 0x10140, 2);
+    CHECK(bus_read(BUS_PHYSICAL, 0x10140) == (given ? 2 : 0));
+    CHECK(bus_read(BUS_PHYSICAL, 0x042B0) == (given ? 0x10000 : 0));
+    bus_write(BUS_PHYSICAL, NIC_EICS, NIC_EICS_LSC);
+    CHECK(bus_read(BUS_PHYSICAL, NIC_EICS) == (given ? NIC_EICR_LSC : 0) && bus_peek(NIC_EICR) == NIC_EICR_LSC);
+    bus_write(BUS_PHYSICAL, NIC_CTRL, NIC_CTRL_MASTER_DISABLE);
+    bus_write(BUS_PHYSICAL, NIC_EERD, NIC_EERD_START);
+    CHECK(((bus_read(BUS_PHYSICAL, NIC_EERD) & NIC_EERD_DONE) != 0) == given);
+    CHECK(bus_peek(NIC_CTRL) & NIC_CTRL_MASTER_DISABLE);
+    bus_write(BUS_PHYSICAL, NIC_CTRL, 0);
+    CHECK(bus_read(FUNCTION, NIC_VFSTATUS) == (given ? bus_peek(NIC_STATUS) : UINT32_MAX));
+    CHECK(bus_read(FUNCTION, NIC_VFRDBAL(0)) == (given ? 0 : UINT32_MAX) && bus_counts()->absent_reads == 2);
+    bus_write(FUNCTION, NIC_VFMBMEM(1), 5);
+    CHECK(bus_peek(NIC_PFMBMEM(16 * (FUNCTION - 1) + 1)) == (given ? 5 : 0) && bus_counts()->absent_writes == 1);
+    CHECK(bus_counts()->answered[0] == (given ? 3 : 0) && bus_counts()->answered[4] == (given ? 3 : 0));
+    bus_close();
+}
+
+/* ---- functions ---- */
+
+static void functions_have_queues_of_their_own(void)
+{
+    static struct frame frame;
+    open_bus((struct bus_options){.functions = 3, .hooks = {.filled = on_filled}});
+    CHECK(bus_pool_queues() == 0 && memory_lend(bus_of(0), host_memory, BYTES));
+    bus_write(BUS_PHYSICAL, NIC_GCR_EXT, 3);
+    CHECK(bus_pool_queues() == 2);
+    bus_write(BUS_PHYSICAL, NIC_VT_CTL, NIC_VT_CTL_VT_ENA | NIC_VT_CTL_DEF_PL_IS(FUNCTION - 1));
+    bus_write(BUS_PHYSICAL, NIC_MRQC, 8);
+    bus_write(BUS_PHYSICAL, NIC_VFRE(0), UINT32_MAX);
+    bus_write(BUS_PHYSICAL, NIC_RXCTRL, NIC_RXCTRL_RXEN);
+    bus_write(BUS_PHYSICAL, NIC_FCTRL, NIC_FCTRL_UPE);
+    start_receive(FUNCTION, NIC_VFRDBAL(0)); /* function 2's first queue: the device's 4 */
+    frame_make(&frame, 1, FRAME_MAX, card, peer);
+    CHECK(bus_arrive(frame.bytes, frame.length) && bus_receive() == 1 && filled == 1);
+    CHECK(frame_is(&frame, host_memory + BUFFER, frame.length));
+    bus_close();
+}
+
+static void mailboxes_are_watched(void)
+{
+    open_bus((struct bus_options){.functions = 3});
+    bus_write(BUS_PHYSICAL, NIC_GCR_EXT, 3);
+    bus_write(FUNCTION, NIC_VFMBMEM(0), 0x00010006);
+    bus_write(FUNCTION, NIC_VFMAILBOX, 1);
+    CHECK(mailbox_counts(6).asked == 1 && mailbox_counts(6).acknowledged == 0);
+    bus_write(BUS_PHYSICAL, NIC_PFMBMEM(16 * (FUNCTION - 1)), 0x40010006);
+    bus_write(BUS_PHYSICAL, NIC_PFMAILBOX(FUNCTION - 1), NIC_PFMAILBOX_STS);
+    CHECK(mailbox_counts(6).refused == 1 && mailbox_counts(6).acknowledged == 0 && mailbox_own_messages() == 0);
+    bus_write(BUS_PHYSICAL, NIC_PFMAILBOX(FUNCTION - 1), NIC_PFMAILBOX_STS);
+    CHECK(mailbox_own_messages() == 1);
+    bus_write(FUNCTION, NIC_VFMBMEM(0), 0x77);
+    bus_write(FUNCTION, NIC_VFMAILBOX, 1);
+    CHECK(mailbox_counts(0x77).asked == 1);
+    bus_close();
+}
+
+/* ---- windows and strays ---- */
+
+static void windows_are_apart(void)
+{
+    unsigned int function, wrong = problems();
+    uint32_t offset;
+    CHECK(window_open(FUNCTION));
+    for (unsigned int which = 0; which <= FUNCTION; which++) {
+        uint32_t last = which == 0 ? BUS_SPACE - 4 : BUS_FUNCTION_SPACE - 4;
+        window_find((char *)window_of(which) + last, &function, &offset);
+        CHECK(function == which && offset == last);
+    }
+    CHECK(problems() == wrong);
+    window_find((char *)window_of(0) + BUS_SPACE, &function, &offset);
+    CHECK(problems() == wrong + 1 && function == BUS_PHYSICAL && offset == BUS_SPACE);
+    window_find((char *)window_of(1) + BUS_FUNCTION_SPACE, &function, &offset);
+    window_find((char *)window_of(0) - 4, &function, &offset);
+    CHECK(problems() == wrong + 3);
+    window_close();
+}
+
+static void strays_are_kept(void)
+{
+    char text[256] = "";
+    FILE *file = tmpfile();
+    open_bus((struct bus_options){.functions = 3});
+    bus_read(BUS_PHYSICAL, 0x03220);
+    bus_read(FUNCTION, 0x0820); /* the mode has no pool for it: no stray */
+    bus_enter(1);
+    bus_write(BUS_PHYSICAL, 0x03220, 0xABC);
+    bus_write(BUS_PHYSICAL, NIC_GCR_EXT, 3);
+    bus_write(FUNCTION, 0x0820, 1);
+    bus_read(BUS_PHYSICAL, BUS_SPACE);
+    strays_write(file);
+    rewind(file);
+    CHECK(fread(text, 1, sizeof text - 1, file) > 0);
+    CHECK(strcmp(text, "pf 03220 1 1 00000abc first second\nvf2 00820 0 1 00000001 second\n") == 0);
+    CHECK(bus_counts()->in[0].reads == 2 && bus_counts()->in[1].writes == 3 && bus_counts()->accesses[FUNCTION] == 2);
+    fclose(file);
+    bus_close();
+}
+
+int main(void)
+{
+    frames_follow_from_their_numbers();
+    line_ups_keep_their_order();
+    numbers_are_read_whole();
+    hashes_are_those_published();
+    hashes_are_the_librarys();
+    memory_is_lent_in_pieces();
+    frames_come_in(0);
+    frames_come_in(1);
+    frames_go_out(0);
+    frames_go_out(10);
+    a_reset_begins_rings_anew();
+    messages_and_the_line();
+    answers_are_given_where_they_are_asked_for(false);
+    answers_are_given_where_they_are_asked_for(true);
+    functions_have_queues_of_their_own();
+    mailboxes_are_watched();
+    windows_are_apart();
+    strays_are_kept();
+    printf("common: passed\n");
+    return 0;
+}

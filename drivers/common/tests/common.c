@@ -51,6 +51,7 @@ static void frames_follow_from_their_numbers(void)
     frame_make(&frame, 12345, FRAME_JUMBO, card, peer);
     frame_make(&again, 12346, FRAME_JUMBO, card, peer);
     CHECK(frame.length > FRAME_MAX && memcmp(frame.bytes + 2048, again.bytes + 2048, 256) != 0);
+    CHECK(memcmp(frame.bytes + 2048 + 64, frame.bytes + 64, 256) != 0);
 }
 
 static void line_ups_keep_their_order(void)
@@ -204,12 +205,15 @@ static void memory_is_lent_in_pieces(void)
     CHECK(memory_at(bus_of(5), BYTES - 5) == host_memory + 5); /* both pieces are one */
     CHECK(!memory_at(bus_of(5), BYTES) && !memory_at(bus_of(0) - 1, 1) && !memory_at(~UINT64_C(0), 2));
     CHECK(!memory_at(0, SIZE_MAX));
+    CHECK(memory_lend(bus_of(BYTES), host_memory + NIC_BLOCK_BYTES,
+                      NIC_BLOCK_BYTES)); /* the next bus address, but not the next byte */
+    CHECK(!memory_at(bus_of(BYTES - 1), 2) && memory_at(bus_of(BYTES), 1) == host_memory + NIC_BLOCK_BYTES);
     host_memory[9] = 77;
     memory_to_device(bus_of(8), 4);
     host_memory[9] = 0;
     memory_to_driver(bus_of(8), 4);
     CHECK(host_memory[9] == 77 && bus_counts()->refusals == 0);
-    memory_to_device(bus_of(BYTES - 1), 2);
+    memory_to_device(bus_of(BYTES + NIC_BLOCK_BYTES - 1), 2);
     CHECK(bus_counts()->refusals == 1);
     bus_close();
 }
@@ -242,26 +246,35 @@ static void frames_come_in(uint64_t turned)
     bus_close();
 }
 
+/* Descriptors of a frame, from one slot up to another one. */
+static void put_slots(const struct frame *frame, uint32_t from, uint32_t to)
+{
+    uint64_t half = (uint64_t)frame->length << 46 | 0x2B300000u | frame->length; /* advanced data, EOP, IFCS, RS */
+    for (uint32_t slot = from; slot < to; slot++) {
+        put64(RING + BUS_SLOT * slot, bus_of(BUFFER));
+        put64(RING + BUS_SLOT * slot + 8, half);
+    }
+    memcpy(host_memory + BUFFER, frame->bytes, frame->length);
+}
+
 static void frames_go_out(uint64_t turned)
 {
-    static struct frame frame;
+    static struct frame frame, next;
     open_bus((struct bus_options){.turn_out = turned});
     CHECK(memory_lend(bus_of(0), host_memory, BYTES));
     bus_send_to(on_sent);
     bus_write(BUS_PHYSICAL, NIC_DMATXCTL, 1);
     start_ring(BUS_PHYSICAL, NIC_TDBAL(QUEUE), NIC_TXDCTL(QUEUE));
     frame_make(&frame, 3, FRAME_MAX, peer, card);
-    memcpy(host_memory + BUFFER, frame.bytes, frame.length);
-    for (uint32_t slot = 0; slot < SLOTS; slot++) {
-        uint64_t half = (uint64_t)frame.length << 46 | 0x2B300000u | frame.length; /* advanced data, EOP, IFCS, RS */
-        put64(RING + BUS_SLOT * slot, bus_of(BUFFER));
-        put64(RING + BUS_SLOT * slot + 8, half);
-    }
+    frame_make(&next, 4, FRAME_MAX, peer, card);
+    put_slots(&frame, 0, SLOTS);
     bus_write(BUS_PHYSICAL, NIC_TDT(QUEUE), 6);
     CHECK(frames_sent == 6 && get64(RING + 8) >> 32 & 1 && frame_is(&frame, sent.bytes, sent.length));
-    bus_write(BUS_PHYSICAL, NIC_TDT(QUEUE), 2); /* past the ring's end */
-    CHECK(frames_sent == 10 && bus_counts()->faults == 0);
-    CHECK(frame_is(&frame, sent.bytes, sent.length) == (turned == 0));
+    put_slots(&next, 6, SLOTS);
+    put_slots(&next, 0, 1);
+    bus_write(BUS_PHYSICAL, NIC_TDT(QUEUE), 1); /* past the ring's end */
+    CHECK(frames_sent == 9 && bus_counts()->faults == 0);
+    CHECK(frame_is(&next, sent.bytes, sent.length) == (turned == 0));
     bus_write(BUS_PHYSICAL, NIC_TDT(QUEUE), SLOTS);
     CHECK(bus_counts()->refusals == 1);
     bus_close();
@@ -411,7 +424,7 @@ int main(void)
     frames_come_in(0);
     frames_come_in(1);
     frames_go_out(0);
-    frames_go_out(10);
+    frames_go_out(9);
     a_reset_begins_rings_anew();
     messages_and_the_line();
     answers_are_given_where_they_are_asked_for(false);

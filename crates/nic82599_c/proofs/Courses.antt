@@ -1,10 +1,11 @@
 -- The loops of a settling: over the steps of a round, and over rounds.
-use Rattle.std.proofs.Common.{◌≡◌, refl, sym, ◌∙◌, ap, ℕ, suc, ◌≤◌, Bool, true, false, if◌then◌else◌, List, [], ◌∷◌, length, arith}
+use Rattle.std.proofs.Common.{◌≡◌, refl, sym, subst, inl, inr, ◌∙◌, ap, ℕ, suc, ◌≤◌, Bool, true, false, if◌then◌else◌, List, [], ◌∷◌, ◌++◌, length, arith}
 use Rattle.std.specs.Prelude.{◌==◌}
 use Rattle.std.proofs.lemmas.Bool.{eqb-true}
-use Rattle.std.proofs.lemmas.List.{length-take-le}
+use Rattle.std.proofs.lemmas.List.{append_assoc, length-take-le}
+use Rattle.nic_device.specs.Step.{TakesMemory}
 use Rattle.card.specs.Card.{Holdings}
-use Rattle.nic82599_c.specs.Settling.{Course, course, is_last, is_over, rounds, stepped, walked}
+use Rattle.nic82599_c.specs.Settling.{Course, Stops, StopsIn, course, event_of, is_last, is_over, rounds, stepped, walked}
 use Rattle.nic82599_c.specs.declared.settling.Step.{Step}
 use Rattle.nic82599_c.specs.declared.told.Told.{Told}
 
@@ -66,3 +67,57 @@ over false n m e = cc
 -- after a round that isn't the last there is no end
 pub over-done : (ended n m : ℕ) → is_over ended n m ≡ false → ended ≡ 0
 over-done ended n m e = eqb-true ended 0 (over (ended == 0) n m e)
+
+-- where there is no memory
+
+-- the steps that are left, behind some that were made and lead here
+pub record SoFar (room : ℕ) (steps left : List Step) (before now : Course) : Type 0 where
+  pub done : List Step
+  pub whole : steps ≡ done ++ left
+  pub leads : now ≡ walked room before done
+
+-- steps behind others
+walked-append : (room : ℕ) (c : Course) (first more : List Step)
+    → walked room c (first ++ more) ≡ walked room (walked room c first) more
+unfolding walked
+walked-append room c [] more = refl
+walked-append room c (s ∷ rest) more = walked-append room (stepped room c s) rest more
+
+-- none is made at first
+pub so-far-none : (room : ℕ) (steps : List Step) (c : Course) → SoFar room steps steps c c
+unfolding walked
+so-far-none room steps c = record { done = []; whole = refl; leads = refl }
+
+pub so-far-next : (room : ℕ) (steps left rest : List Step) (s : Step) (before now after : Course)
+    → SoFar room steps left before now → left ≡ s ∷ rest → after ≡ stepped room now s → SoFar room steps rest before after
+unfolding walked
+so-far-next room steps left rest s before now after far first is = record {
+  done = far.done ++ s ∷ [];
+  whole = far.whole ∙ ap (λ (l : List Step). far.done ++ l) first ∙ sym (append_assoc far.done (s ∷ []) rest);
+  leads = is ∙ ap (λ (c : Course). stepped room c s) far.leads ∙ sym (walked-append room before far.done (s ∷ []));
+}
+
+-- the next one finds no memory
+pub stops-there : (room : ℕ) (steps left rest : List Step) (s : Step) (before now after : Course)
+    → SoFar room steps left before now → left ≡ s ∷ rest → after ≡ now → TakesMemory after.card.device (event_of s)
+    → Stops room steps before after
+stops-there room steps left rest s before now after far first is wants = record {
+  done = far.done;
+  step = s;
+  rest = rest;
+  whole = far.whole ∙ ap (λ (l : List Step). far.done ++ l) first;
+  leads = is ∙ far.leads;
+  wants = wants;
+}
+
+-- in this round, or in a later one
+pub stops-here : (more room : ℕ) (steps : List Step) (before after : Course) → Stops room steps before after
+    → StopsIn (suc more) room steps before after
+unfolding StopsIn
+stops-here more room steps before after stops = inl stops
+
+pub stops-later : (more room : ℕ) (steps : List Step) (before mid after : Course) → mid ≡ walked room before steps
+    → is_last before mid ≡ false → StopsIn more room steps mid after → StopsIn (suc more) room steps before after
+unfolding StopsIn
+stops-later more room steps before mid after is on stops =
+    inr (ap (is_last before) (sym is) ∙ on, subst (λ (c : Course). StopsIn more room steps c after) is stops)

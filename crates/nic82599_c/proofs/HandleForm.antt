@@ -36,7 +36,7 @@ pub record Form : Type 2 where
   pub beta : (v : Box of.Denot Global) → box (handle v) ≡ v
   pub codes : Values parts → Coded (Also of.Denot (λ x. Done))
 
-abbrev heap_al : Al
+abbrev pub heap_al : Al
 heap_al =
     record { row = Heap.the_row; laws = heap.the_row_laws; g = ghosts; d = dict; drops = impl [] tnil dnil }
 

@@ -2,6 +2,9 @@ mod Courses
 mod Frames
 mod HandleForm
 mod Handles
+mod IntoOut
 mod IntoParts
 mod Lending
+mod OutForm
+mod Outs
 mod Texts

@@ -1,8 +1,8 @@
 -- The device's steps, made round by round until there is nothing to do.
-use Rattle.std.specs.Prelude.{ℕ, zero, suc, ◌==◌, ◌||◌, Bool, true, nat_lt, List, [], ◌∷◌, ◌++◌, length, take, if◌then◌else◌}
+use Rattle.std.specs.Prelude.{◌≡◌, ◌⊎◌, ℕ, zero, suc, ◌==◌, ◌||◌, Bool, true, false, nat_lt, List, [], ◌∷◌, ◌++◌, length, take, if◌then◌else◌}
 use Rattle.nic_device.specs.DmaArena.Block.{Block}
 use Rattle.nic_device.specs.DmaRing.declared.dir.Dir.TheVariants as dir
-use Rattle.nic_device.specs.Step.{reply_to}
+use Rattle.nic_device.specs.Step.{reply_to, TakesMemory}
 use Rattle.nic_device.specs.declared.event.Event.{Event}
 use Rattle.nic_device.specs.declared.event.Event.TheVariants as event
 use Rattle.card.specs.Card.{Holdings, made}
@@ -108,3 +108,20 @@ settled queues room card = rounds room room (round_of queues) (record { card = c
 -- a course, of which the first entries of an array tell
 abbrev pub course : Holdings → List Told → ℕ → ℕ → Course
 course card told count ended = record { card = card; told = take count told; ended = ended }
+
+-- a walk stops where there is no memory: the steps before one that takes memory are made, that one isn't, and no other
+-- is
+pub record Stops (room : ℕ) (steps : List Step) (before after : Course) : Type 0 where
+  pub done : List Step
+  pub step : Step
+  pub rest : List Step
+  pub whole : steps ≡ done ++ step ∷ rest
+  pub leads : after ≡ walked room before done
+  pub wants : TakesMemory after.card.device (event_of step)
+
+-- of so many rounds at most, one stops so, behind some that went on
+unfoldable pub StopsIn : ℕ → ℕ → List Step → Course → Course → Type 0
+StopsIn zero room steps before after = ⊥
+StopsIn (suc more) room steps before after =
+    Stops room steps before after
+    ⊎ ((is_last before (walked room before steps) ≡ false) × StopsIn more room steps (walked room before steps) after)

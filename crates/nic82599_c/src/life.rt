@@ -1,9 +1,12 @@
 //! A card is made, and ends.
 
-ghost use Rattle.std.specs.Prelude.{◌≡◌, ◌≢◌};
+ghost use Rattle.std.specs.Prelude.{◌≡◌, ◌≢◌, Some};
+ghost use Rattle.card.specs.Card.{new_card};
 ghost use Rattle.nic82599_c.specs.Life.{new_status};
 
-use crate::handle::{Handle, Opaque};
+use crate::handed::HandleOut;
+use crate::handle::Handle;
+use crate::parts::Parts;
 use crate::status::{BAD_BLOCKS, BAD_FIFO, DONE, OUT_OF_MEMORY, TOO_MANY_VFS};
 use card::Card;
 use nic_device::{BLOCK_NUMBERS, Config, MAX_FIFO, MAX_VFS};
@@ -35,10 +38,11 @@ pub extern "C" fn nic_new(
     vfs: u8,
     fifo: u16,
     blocks: u32,
-    device: &mut *mut Opaque,
+    device: &mut HandleOut,
 ) -> u8
     ensures status { result ≢ OUT_OF_MEMORY → result ≡ new_status vfs fifo blocks }
     ensures memory { result ≡ OUT_OF_MEMORY → new_status vfs fifo blocks ≡ DONE }
+    ensures made { result ≡ DONE → device.new.card ≡ Some (new_card vfs fifo blocks) }
     ensures kept { result ≢ DONE → device.new ≡ device.old }
 {
     let refused = new_status(vfs, fifo, blocks);
@@ -50,7 +54,7 @@ pub extern "C" fn nic_new(
     };
     match Box::new(alloc, card) {
         Ok(boxed) => {
-            *device = Box::into_raw(boxed) as *mut Opaque;
+            *device = HandleOut::of(Parts::of(boxed));
             DONE
         }
         Err(_) => OUT_OF_MEMORY,

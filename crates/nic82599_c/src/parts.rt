@@ -18,6 +18,16 @@ impl<T, A: Allocator> Model for Parts<T, A> {
 }
 
 impl<T, A: Allocator> Parts<T, A> {
+    /// The parts of a box.
+    pub fn of(boxed: Box<T, A>) -> Parts<T, A>
+    where
+        T: Drop,
+        ensures { result.value ≡ boxed.value }
+    {
+        let (ptr, alloc) = Box::into_raw_with_allocator(boxed);
+        Parts { ptr, alloc }
+    }
+
     /// The box of them.
     pub fn into_box(self) -> Box<T, A>
         ensures { result.value ≡ self.value }

@@ -1,27 +1,33 @@
 //! The device's steps, made round by round until there is nothing to do.
 
-ghost use Rattle.std.specs.Prelude.{◌≡◌, ◌≢◌, ◌<◌, ◌≤◌, IfOk, length};
+ghost use Rattle.std.specs.Prelude.{◌≡◌, ◌≢◌, ◌<◌, ◌≤◌, length};
+ghost use Rattle.nic_device.specs.Step.{TakesMemory};
 ghost use Rattle.nic82599_c.specs.Settling.{event_of, named, is_quiet, round_of};
 ghost use Rattle.nic82599_c.specs.Settling.{course, is_over, stepped, walked, rounds, settled};
+ghost use Rattle.nic82599_c.specs.Settling.{Stops, StopsIn};
 
 use crate::handle::Handle;
 use crate::status::{DONE, IDLE, MORE, NO_GROUP, NO_QUEUE, OUT_OF_MEMORY};
 use crate::told::{Told, group_of, status_of, told_of};
+use arrayvec::ArrayVec;
 use card::Card;
 use nic_device::{Dir, Event, MAX_VFS, QUEUES};
-use std::alloc::{AllocError, Global};
 
 /// How many groups of interrupts there are: that of the physical function, and those of the virtual functions.
 const GROUPS: u8 = MAX_VFS + 1;
 
+/// How many steps a round has at most: three of each queue, that of the EEPROM, one of receiving, and one of each group.
+const STEPS: usize = 450;
+
 /// A step of the device.
-#[derive(Clone, Copy, Debug, PartialEq, Eq)]
+#[derive(Clone, Copy, Debug, PartialEq, Eq, Default)]
 enum Step {
     /// A queue's receive side becomes what it is wanted to be.
     RxEnable(u16),
     /// A queue's transmit side becomes what it is wanted to be.
     TxEnable(u16),
     /// The EEPROM gives a word.
+    #[default]
     Eeprom,
     /// One descriptor of a transmit queue.
     Transmit(u16),
@@ -69,23 +75,24 @@ fn is_quiet(status: u8) -> bool
 
 /// The steps of a round.
 #[tactic(auto, unfolding(crate::specs::Settling::enables, crate::specs::Settling::of_each))]
-fn round_of(alloc: Global, queues: u16) -> Result<Vec<Step>, AllocError>
-    ensures { IfOk result (λ steps. steps.items ≡ round_of queues) }
+fn round_of(queues: u16) -> ArrayVec<Step, STEPS>
+    requires { queues ≤ 128 }
+    ensures { result.items ≡ round_of queues }
 {
-    let mut steps = Vec::new(alloc);
+    let mut steps = ArrayVec::new();
     for queue in 0..queues {
-        steps.push(Step::RxEnable(queue))?;
-        steps.push(Step::TxEnable(queue))?;
+        steps.push(Step::RxEnable(queue));
+        steps.push(Step::TxEnable(queue));
     }
-    steps.push(Step::Eeprom)?;
+    steps.push(Step::Eeprom);
     for queue in 0..queues {
-        steps.push(Step::Transmit(queue))?;
+        steps.push(Step::Transmit(queue));
     }
-    steps.push(Step::Receive)?;
+    steps.push(Step::Receive);
     for group in 0..GROUPS {
-        steps.push(Step::Interrupt(group))?;
+        steps.push(Step::Interrupt(group));
     }
-    Ok(steps)
+    steps
 }
 
 /// Makes a step, and tells of it where it did something. MORE where the array is full, before the step; OUT_OF_MEMORY
@@ -96,6 +103,9 @@ fn make(card: &mut Card, step: Step, told: &mut [Told], count: &mut usize) -> u8
     ensures count { count.new ≤ length told.new }
     ensures course { result ≢ OUT_OF_MEMORY → course card.new told.new count.new result
         ≡ stepped (length told.old) (course card.old told.old count.old 0) step }
+    ensures unchanged { result ≡ OUT_OF_MEMORY
+        → (card.new ≡ card.old) × (told.new ≡ told.old) × (count.new ≡ count.old) }
+    ensures memory { result ≡ OUT_OF_MEMORY → TakesMemory card.old.device (event_of step) }
 {
     if *count >= told.len() {
         return MORE;
@@ -112,13 +122,15 @@ fn make(card: &mut Card, step: Step, told: &mut [Told], count: &mut usize) -> u8
     }
 }
 
-/// Makes steps in order, as far as there is room for them.
+/// Makes steps in order, as far as there is room for them. OUT_OF_MEMORY before the first that found none.
 fn walk(card: &mut Card, steps: &[Step], told: &mut [Told], count: &mut usize) -> u8
     requires { count.old ≤ length told.old }
     ensures room { length told.new ≡ length told.old }
     ensures count { count.new ≤ length told.new }
     ensures course { result ≢ OUT_OF_MEMORY → course card.new told.new count.new result
         ≡ walked (length told.old) (course card.old told.old count.old 0) steps.now }
+    ensures stopped { result ≡ OUT_OF_MEMORY → Stops (length told.old) steps.now
+        (course card.old told.old count.old 0) (course card.new told.new count.new 0) }
 {
     let mut left = steps;
     'each: while let Some((step, rest)) = left.split_first() {
@@ -145,6 +157,8 @@ fn rounds(card: &mut Card, steps: &[Step], told: &mut [Told], count: &mut usize)
     ensures count { count.new ≤ length told.new }
     ensures course { result ≢ OUT_OF_MEMORY → course card.new told.new count.new result
         ≡ rounds (length told.old) (length told.old) steps.now (course card.old told.old count.old 0) }
+    ensures stopped { result ≡ OUT_OF_MEMORY → StopsIn (length told.old) (length told.old) steps.now
+        (course card.old told.old count.old 0) (course card.new told.new count.new 0) }
 {
     for _round in 0..told.len() {
         let before = *count;
@@ -160,12 +174,11 @@ fn rounds(card: &mut Card, steps: &[Step], told: &mut [Told], count: &mut usize)
 /// and its transmit enable; the EEPROM; for each such queue one transmit step; one receive step; the interrupts of each
 /// group. What happened stands in the first `count` entries of `told`.
 ///
-/// DONE after a round that did nothing; MORE where the array is full; OUT_OF_MEMORY where there is no memory for the
-/// list of the steps or a transmit step found none, which wasn't made. NO_QUEUE, and nothing is done, where `queues` is
-/// above 128.
+/// DONE after a round that did nothing; MORE where the array is full; OUT_OF_MEMORY where a transmit step found none:
+/// the steps before it are made and told, and it isn't made. NO_QUEUE, and nothing is done, where `queues` is above
+/// 128.
 #[unsafe(no_mangle)]
 pub extern "C" fn nic_settle(
-    alloc: Global,
     nic: &mut Handle,
     queues: u16,
     told: &mut [Told],
@@ -175,6 +188,8 @@ pub extern "C" fn nic_settle(
     ensures count { count.new ≤ length told.new }
     ensures settled { queues ≤ 128 → result ≢ OUT_OF_MEMORY → course nic.new.card told.new count.new result
         ≡ settled queues (length told.old) nic.old.card }
+    ensures stopped { queues ≤ 128 → result ≡ OUT_OF_MEMORY → StopsIn (length told.old) (length told.old)
+        (round_of queues) (course nic.old.card told.old 0 0) (course nic.new.card told.new count.new 0) }
     ensures no_queue { 128 < queues → result ≡ NO_QUEUE }
     ensures unchanged { 128 < queues → (nic.new.card ≡ nic.old.card) × (told.new ≡ told.old) × (count.new ≡ 0) }
 {
@@ -182,8 +197,6 @@ pub extern "C" fn nic_settle(
     if queues > QUEUES {
         return NO_QUEUE;
     }
-    match round_of(alloc, queues) {
-        Ok(steps) => rounds(nic.lend(), &steps, told, count),
-        Err(_) => OUT_OF_MEMORY,
-    }
+    let steps = round_of(queues);
+    rounds(nic.lend(), &steps, told, count)
 }

@@ -1,8 +1,10 @@
 //! A card is kept, and a card becomes as it was kept.
 
-ghost use Rattle.std.specs.Prelude.{◌≡◌, ◌≢◌};
+ghost use Rattle.std.specs.Prelude.{◌≡◌, ◌≢◌, Some};
 
-use crate::handle::{Handle, KeptHandle, Opaque};
+use crate::handed::KeptHandleOut;
+use crate::handle::{Handle, KeptHandle};
+use crate::parts::Parts;
 use crate::status::{DONE, OUT_OF_MEMORY};
 use std::alloc::Global;
 use std::mem;
@@ -13,8 +15,9 @@ use std::mem;
 ///
 /// DONE, or OUT_OF_MEMORY, where `kept` stays as it is.
 #[unsafe(no_mangle)]
-pub extern "C" fn nic_snapshot(alloc: Global, nic: &mut Handle, kept: &mut *mut Opaque) -> u8
+pub extern "C" fn nic_snapshot(alloc: Global, nic: &mut Handle, kept: &mut KeptHandleOut) -> u8
     ensures status { result ≢ OUT_OF_MEMORY → result ≡ DONE }
+    ensures kept { result ≢ OUT_OF_MEMORY → kept.new.kept ≡ Some nic.old.card }
     ensures unchanged { nic.new.card ≡ nic.old.card }
     ensures refused { result ≡ OUT_OF_MEMORY → kept.new ≡ kept.old }
 {
@@ -23,7 +26,7 @@ pub extern "C" fn nic_snapshot(alloc: Global, nic: &mut Handle, kept: &mut *mut 
     };
     match Box::new(alloc, card) {
         Ok(boxed) => {
-            *kept = Box::into_raw(boxed) as *mut Opaque;
+            *kept = KeptHandleOut::of(Parts::of(boxed));
             DONE
         }
         Err(_) => OUT_OF_MEMORY,

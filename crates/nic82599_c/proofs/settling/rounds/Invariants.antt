@@ -1,5 +1,5 @@
 use Rattle.std.proofs.Common.{◌≡◌, ◌≤◌, ◌-◌, length}
-use Rattle.nic82599_c.specs.Settling.{course, rounds}
+use Rattle.nic82599_c.specs.Settling.{Course, StopsIn, course, rounds}
 use Rattle.nic82599_c.proofs.settling.rounds.Given as goal
 
 -- the rounds that are left lead where all of them do
@@ -7,6 +7,9 @@ abbrev pub invariant-loop-round : goal.invariant-loop-round
 invariant-loop-round l = record {
   room : length l.told ≡ length l.fn.told;
   count : l.count ≤ length l.told;
+  stops : (after : Course) → StopsIn (length l.fn.told - l._round) (length l.fn.told) l.steps
+      (course l.card l.told l.count 0) after → StopsIn (length l.fn.told) (length l.fn.told) l.steps
+      (course l.fn.card l.fn.told l.fn.count 0) after;
   course : rounds (length l.fn.told - l._round) (length l.fn.told) l.steps (course l.card l.told l.count 0)
       ≡ rounds (length l.fn.told) (length l.fn.told) l.steps (course l.fn.card l.fn.told l.fn.count 0);
 }

@@ -1,0 +1,36 @@
+-- C's places for the two handles, as forms.
+use mathlib.Core.Path.{refl}
+use Rattle.std_heap.specs.contracts.Global as Heap
+use Rattle.card.specs.contracts.card.Card as Card
+use Rattle.card.specs.contracts.kept.Kept as Kept
+use Rattle.card.proofs.card.Card.TheLaws as card
+use Rattle.card.proofs.kept.Kept.TheLaws as kept
+use Rattle.nic82599_c.specs.contracts.handed.HandleOut as HandleOut
+use Rattle.nic82599_c.specs.contracts.handed.KeptHandleOut as KeptHandleOut
+use Rattle.nic82599_c.proofs.OutForm.{Form}
+
+abbrev pub of_card : Form
+of_card = record {
+  of = Card.the_row;
+  laws = card.the_row_laws;
+  name = HandleOut.struct.name;
+  D = HandleOut.struct.D;
+  box = λ d. record { ptr = d.ptr; alloc = d.alloc; value = d.card };
+  out = λ v. record { ptr = v.ptr; alloc = v.alloc; card = v.value };
+  eta = λ d. refl;
+  beta = λ v. refl;
+  codes = HandleOut.the_codes Heap.the_row.coded;
+}
+
+abbrev pub of_kept : Form
+of_kept = record {
+  of = Kept.the_row;
+  laws = kept.the_row_laws;
+  name = KeptHandleOut.struct.name;
+  D = KeptHandleOut.struct.D;
+  box = λ d. record { ptr = d.ptr; alloc = d.alloc; value = d.kept };
+  out = λ v. record { ptr = v.ptr; alloc = v.alloc; kept = v.value };
+  eta = λ d. refl;
+  beta = λ v. refl;
+  codes = KeptHandleOut.the_codes Heap.the_row.coded;
+}

@@ -1,0 +1,71 @@
+//! Where C gets the pointers to a card that was made and to one that was kept.
+//!
+//! A struct with type parameters can't be passed to C, so each has a struct of its own. Each owns nothing, or what a box
+//! of its value does, and one proof holds of both, as of any such struct (`proofs/OutForm.antt`).
+
+ghost use Rattle.std.specs.Coded.{coded_option};
+ghost use Rattle.std.specs.Prelude.{◌≡◌, Option, Some};
+ghost use Rattle.card.specs.contracts.card.Card.{the_row as card_row};
+ghost use Rattle.card.specs.contracts.kept.Kept.{the_row as kept_row};
+ghost use Rattle.card.specs.declared.card.Card.{Card};
+ghost use Rattle.card.specs.declared.kept.Kept.{Kept};
+ghost use Rattle.nic82599_c.specs.Handle.{owns_some};
+
+use crate::handle::Opaque;
+use crate::parts::Parts;
+use card::{Card, Kept};
+use std::alloc::Global;
+use std::marker::Model;
+
+/// Where C has the pointer of a handle, or none yet. In C it is a struct with one pointer, or that pointer. A handle that
+/// it has is lost where another one is put there.
+#[repr(C)]
+#[derive(Drop)]
+pub struct HandleOut {
+    ptr: *mut Opaque,
+    alloc: Global,
+    pub ghost card: { Option Card } by { coded_option card_row.coded },
+}
+
+/// The same of a handle of a card that is kept.
+#[repr(C)]
+#[derive(Drop)]
+pub struct KeptHandleOut {
+    ptr: *mut Opaque,
+    alloc: Global,
+    pub ghost kept: { Option Kept } by { coded_option kept_row.coded },
+}
+
+impl Model for HandleOut {
+    ghost also_owns = { λ out. owns_some card_row out.alloc out.ptr out.card };
+}
+
+impl Model for KeptHandleOut {
+    ghost also_owns = { λ out. owns_some kept_row out.alloc out.ptr out.kept };
+}
+
+impl HandleOut {
+    /// With the handle of the card in a box of these parts.
+    pub fn of(parts: Parts<Card, Global>) -> HandleOut
+        ensures { result.card ≡ Some parts.value }
+    {
+        let Parts { ptr, alloc } = parts;
+        HandleOut {
+            ptr: ptr as *mut Opaque,
+            alloc,
+        }
+    }
+}
+
+impl KeptHandleOut {
+    /// With the handle of the kept card in a box of these parts.
+    pub fn of(parts: Parts<Kept, Global>) -> KeptHandleOut
+        ensures { result.kept ≡ Some parts.value }
+    {
+        let Parts { ptr, alloc } = parts;
+        KeptHandleOut {
+            ptr: ptr as *mut Opaque,
+            alloc,
+        }
+    }
+}

@@ -10,7 +10,7 @@ static void add(uint8_t kind, uint16_t of, int on)
     actor->idle = nicxi.is_idle && kind >= BY_RX && kind <= BY_EEPROM;
     actor->of = of;
     actor->on = on;
-    actor->last = 0;
+    actor->last = actor->offered = actor->since = 0;
 }
 
 static void add_starts(uint16_t handler)

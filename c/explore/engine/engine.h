@@ -112,6 +112,7 @@ struct actor {
     uint16_t of;   /* a thread, a queue, a group */
     int on;        /* of a start: the task, or -1 */
     uint32_t last; /* one more than the point at which it acted last; 0 where it didn't */
+    uint32_t offered, since; /* the last point at which it could act, and from which on it could without doing so */
 };
 
 struct frame {

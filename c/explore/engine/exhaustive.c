@@ -6,7 +6,8 @@
 #include "independent.h"
 #include "options.h"
 
-enum { PATIENCE = 32 };
+/* IDLE stands in a list with an actor that had nothing to do at that point. */
+enum { PATIENCE = 32, IDLE = 0x8000 };
 
 /* A step that was made at a point, and all that follows it there was searched. */
 struct asleep {
@@ -113,9 +114,14 @@ static bool add_asleep(struct exhaustive *it, const struct asleep *asleep)
 static uint32_t place_of(const uint16_t *can, uint32_t count, uint16_t actor)
 {
     uint32_t k = 0;
-    while (k < count && can[k] != actor)
+    while (k < count && (can[k] & ~IDLE) != actor)
         k++;
     return k;
+}
+
+static uint16_t actor_at(const struct exhaustive *it, const struct node *node, uint32_t k)
+{
+    return it->can[node->can + k] & (uint16_t)~IDLE;
 }
 
 /* --- a node --- */
@@ -149,7 +155,7 @@ static bool is_to_try(const struct exhaustive *it, const struct node *node, uint
 {
     if (it->preemptions != UNBOUNDED && cost(node, k) > node->left)
         return false;
-    return !is_asleep(it, node, it->can[node->can + k]);
+    return !is_asleep(it, node, actor_at(it, node, k));
 }
 
 static void go_to(struct exhaustive *it, struct node *node, uint32_t k)
@@ -168,7 +174,7 @@ static bool inherit(struct exhaustive *it, const struct node *above, struct node
     for (uint32_t k = 0; it->sleeps && k < above->asleep_count; k++) {
         struct asleep z = it->asleep[above->asleep + k];
         bool is_new = k >= above->inherited;
-        if (z.actor == it->can[above->can + above->at] || (is_new && !had_as_many(it, &z, left)))
+        if (z.actor == actor_at(it, above, above->at) || (is_new && !had_as_many(it, &z, left)))
             continue;
         if (nicxi_are_independent(&z.step, made) && !add_asleep(it, &z))
             return false;
@@ -192,7 +198,18 @@ static void sort(uint16_t *can, uint32_t count, bool is_current)
 /* One that could act and didn't for so long does: else there is no end where two wake each other. */
 static bool is_starved(uint16_t actor)
 {
-    return *nicxi.points > nicxi.actors[actor].last + PATIENCE;
+    return *nicxi.points > nicxi.actors[actor].since + PATIENCE;
+}
+
+static void note_offers(const uint16_t *can, uint32_t count)
+{
+    uint32_t point = *nicxi.points;
+    for (uint32_t k = 0; k < count; k++) {
+        struct actor *actor = &nicxi.actors[can[k]];
+        if (actor->offered + 1 < point || actor->last == point)
+            actor->since = point;
+        actor->offered = point;
+    }
 }
 
 static struct node *add_node(struct exhaustive *it, const uint16_t *can, uint32_t count)
@@ -202,7 +219,7 @@ static struct node *add_node(struct exhaustive *it, const uint16_t *can, uint32_
     node->can = it->can_count;
     node->count = count;
     node->left = above ? left_behind(it, above, above->at) : it->preemptions;
-    node->is_current = above && can[0] == it->can[above->can + above->at];
+    node->is_current = above && can[0] == actor_at(it, above, above->at);
     node->asleep = it->asleep_count;
     if (!add_can(it, can, count) || (above && !inherit(it, above, node)))
         return NULL;
@@ -261,6 +278,7 @@ static bool add_more(struct exhaustive *it, struct node *node, const uint16_t *c
 /* A step of the device had nothing to do: another one is tried at the same point. */
 static bool try_another(struct exhaustive *it, struct node *node, const uint16_t *can, uint32_t count)
 {
+    it->can[node->can + node->at] |= IDLE;
     if (node->at == 0)
         node->is_current = false;
     if (!add_more(it, node, can, count))
@@ -269,12 +287,20 @@ static bool try_another(struct exhaustive *it, struct node *node, const uint16_t
     return true;
 }
 
+/* What was found to have nothing to do at a point isn't tried there again, nor behind it. */
+static void remember_idle(const struct exhaustive *it, const struct node *node)
+{
+    for (uint32_t k = 0; k < node->count; k++)
+        if (it->can[node->can + k] & IDLE)
+            nicxi.actors[actor_at(it, node, k)].idle = true;
+}
+
 /* The choice of a point that was come to before; the last point's may be another one by now. */
 static uint32_t choose_again(struct exhaustive *it, const struct node *node, const uint16_t *can, uint32_t count)
 {
     if (node->at == node->count)
         return count;
-    uint16_t wanted = it->can[node->can + node->at];
+    uint16_t wanted = actor_at(it, node, node->at);
     uint32_t k = place_of(can, count, wanted);
     if (k == count && nicxi_may_come(wanted, can, count)) {
         it->asked = 0;
@@ -291,6 +317,7 @@ static uint32_t choose(void *argument, const uint16_t *can, uint32_t count)
     struct node *node = &it->nodes[point];
     bool again = it->asked == point + 1, is_last = point + 1 == it->depth;
     it->asked = point + 1;
+    note_offers(can, count);
     if (point > it->depth || (again && !is_last)) {
         it->is_strange = true;
         return count;
@@ -300,10 +327,12 @@ static uint32_t choose(void *argument, const uint16_t *can, uint32_t count)
         is_last = true;
     } else if (again && !try_another(it, node, can, count)) {
         node = NULL;
+    } else if (!again) {
+        remember_idle(it, node);
     }
     it->is_strange |= !node;
     if (node && is_last && node->at < node->count)
-        node->is_alone = !node->is_current && is_starved(it->can[node->can + node->at]);
+        node->is_alone = !node->is_current && is_starved(actor_at(it, node, node->at));
     return node ? choose_again(it, node, can, count) : count;
 }
 
@@ -329,7 +358,7 @@ static bool put_to_sleep(struct exhaustive *it, struct node *node)
 {
     uint32_t depth = (uint32_t)(node - it->nodes);
     struct asleep z;
-    z.actor = it->can[node->can + node->at];
+    z.actor = actor_at(it, node, node->at);
     z.left = left_behind(it, node, node->at);
     z.goes_on = node[1].is_current;
     z.step = nicxi.steps[depth];

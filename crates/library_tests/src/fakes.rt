@@ -59,13 +59,16 @@ impl<'a> Read for FailingReader<'a> {
             return Err(Error::from(ErrorKind::Other));
         }
         self.reads -= 1;
-        match (self.bytes.split_first(), buf.first_mut()) {
-            (Some((byte, rest)), Some(at)) => {
-                *at = *byte;
-                self.bytes = rest;
-                Ok(1)
-            }
-            _ => Ok(0),
+        match self.bytes.split_first() {
+            Some((byte, rest)) => match buf.first_mut() {
+                Some(at) => {
+                    *at = *byte;
+                    self.bytes = rest;
+                    Ok(1)
+                }
+                None => Ok(0),
+            },
+            None => Ok(0),
         }
     }
 }

@@ -185,12 +185,14 @@ fn is_unread_at_each(rt: &impl Abort, alloc: Global, (words, input, _own): Case<
 fn is_unwritten_at_each(rt: &impl Abort, alloc: Global, case: Case<'_>) {
     let pipe = (ErrorKind::BrokenPipe, 2);
     let memory = (ErrorKind::OutOfMemory, 4);
-    let mut taken = 0;
-    while taken < MOST_WRITES && fails_at(rt, alloc, case, taken, pipe) {
+    for taken in 0..MOST_WRITES {
+        if !fails_at(rt, alloc, case, taken, pipe) {
+            holds(rt, "there are writes", taken > 0);
+            return;
+        }
         holds(rt, "it fails", fails_at(rt, alloc, case, taken, memory));
-        taken += 1;
     }
-    holds(rt, "there are writes", taken > 0 && taken < MOST_WRITES);
+    holds(rt, "the writes come to an end", false);
 }
 
 /// A read or a write of a command fails, by its number.

@@ -4,7 +4,7 @@
    one of the two leaves alone. What a step looks at is told by its definition, and by the laws on what it does; that is
    no law of its own, so c/explore/tests/orders.c makes both orders of each row's steps from states by chance.
 
-   What has no row isn't independent: two steps of the driver, since both may touch the driver's own memory; steps that
+   Steps are meant that do something, each with what it answered. What has no row isn't independent: two steps of the driver, since both may touch the driver's own memory; steps that
    count or raise causes, as two of receiving and transmitting do; and accesses of virtual functions. */
 #include "independent.h"
 
@@ -40,11 +40,11 @@ static int side_of_register(uint32_t address)
     return 2 * (((int)address - base) / 0x40) + (base == 0x06000);
 }
 
-/* The side that a step of the device is of. */
+/* The side that a step of the device is of; where a frame was dropped, its queue isn't told. */
 static int side_of_step(const struct step *step)
 {
     switch (step->kind) {
-    case STEP_RX: return 2 * step->told.queue;
+    case STEP_RX: return step->status == NIC_WROTE || step->status == NIC_FAULT ? 2 * step->told.queue : NO_SIDE;
     case STEP_TX: return 2 * step->of + 1;
     case STEP_RX_ENABLE: return 2 * step->of;
     case STEP_TX_ENABLE: return 2 * step->of + 1;
@@ -184,8 +184,16 @@ static int row_in_order(const struct step *a, const struct step *b)
     return -1;
 }
 
+/* A step that had nothing to do may have something behind another one: it is none. */
+static bool is_none(const struct step *step)
+{
+    return nicxi_is_device_step(step->kind) && (step->status == NIC_IDLE || step->status == NIC_NO_GROUP);
+}
+
 int nicxi_row_of(const struct step *a, const struct step *b)
 {
+    if (is_none(a) || is_none(b))
+        return -1;
     int row = row_in_order(a, b);
     return row >= 0 ? row : row_in_order(b, a);
 }

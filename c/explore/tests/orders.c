@@ -1,0 +1,390 @@
+/* `orders STATES SEED`: from so many states by chance, pairs of steps of each row of the table of independent steps are
+   made in both orders. Both must answer the same and lead to the same state: all registers, lent memory, frames. A state
+   is first compared by its bytes; where these differ, by all that the calls show. */
+#include <stdio.h>
+#include <stdlib.h>
+#include <string.h>
+
+#include "../engine/chance.h"
+#include "../engine/heap.h"
+#include "../engine/independent.h"
+
+enum { QUEUES = 4, BLOCKS = 12, VFS = 2, FIFO = 6, RING = 128, MOST_ROWS = 128, MOST_OUT = 4096 };
+
+static const uint32_t addresses[] = {
+#define ADDRESS(address) address,
+#include "addresses.inc"
+#undef ADDRESS
+};
+
+enum { ADDRESSES = sizeof addresses / sizeof *addresses };
+
+static nic n;
+static struct chance chance;
+static uint64_t tried[MOST_ROWS];
+
+static uint32_t below(uint32_t bound)
+{
+    return chance_below(&chance, bound);
+}
+
+static void fail(int row, const char *what)
+{
+    printf("row \"%s\" (%s): %s\n", nicxi_row_name(row), nicxi_law(row), what);
+    exit(1);
+}
+
+/* --- a state by chance: queues that are mostly ready, and anything --- */
+
+static uint64_t some_bus(void)
+{
+    return (uint64_t)below(BLOCKS + 1) * NIC_BLOCK_BYTES + 16 * below(128);
+}
+
+static uint64_t ring_of(unsigned queue, unsigned side)
+{
+    return RING * (2 * queue + side);
+}
+
+static void bring_up_queue(unsigned queue)
+{
+    nic_told told;
+    nic_write32(&n, NIC_RDBAL(queue), (uint32_t)ring_of(queue, 0));
+    nic_write32(&n, NIC_RDLEN(queue), RING);
+    nic_write32(&n, NIC_SRRCTL(queue), 0x02000002 | (below(4) ? 0 : 1u << 28));
+    nic_write32(&n, NIC_TDBAL(queue), (uint32_t)ring_of(queue, 1));
+    nic_write32(&n, NIC_TDLEN(queue), RING);
+    if (!below(3))
+        nic_write32(&n, NIC_TDWBAL(queue), (uint32_t)some_bus() | 1);
+    nic_write32(&n, NIC_RXDCTL(queue), below(5) ? 1u << 25 : 0);
+    nic_write32(&n, NIC_TXDCTL(queue), below(5) ? 1u << 25 : 0);
+    if (below(5))
+        nic_queue_step(&n, false, (uint16_t)queue, &told);
+    if (below(5))
+        nic_queue_step(&n, true, (uint16_t)queue, &told);
+}
+
+static void fill_rings(unsigned queue)
+{
+    for (unsigned slot = 0; slot < 8; slot++) {
+        nic_put64(&n, ring_of(queue, 0) + 16 * slot, some_bus());
+        nic_put64(&n, ring_of(queue, 1) + 16 * slot, some_bus());
+        nic_put64(&n, ring_of(queue, 1) + 16 * slot + 8,
+                  below(6) ? 0x2000000000300000u | (0x20u | below(12)) << 24 | (20 + below(200)) : chance_next(&chance));
+    }
+    nic_write32(&n, NIC_RDT(queue), below(9));
+    nic_write32(&n, NIC_TDT(queue), below(9));
+}
+
+static void bring_up_interrupts(void)
+{
+    for (unsigned k = 0; k < 2; k++)
+        nic_write32(&n, NIC_IVAR(k), (uint32_t)chance_next(&chance) | 0x80808080u);
+    for (unsigned k = 0; k < 2; k++)
+        nic_write32(&n, NIC_PVTIVAR(k), 0x81828081u + below(4));
+    nic_write32(&n, NIC_IVAR_MISC, 0x8580u + below(16) + (below(16) << 8));
+    nic_write32(&n, NIC_EIAC, (uint32_t)chance_next(&chance));
+    nic_write32(&n, NIC_EIAM, (uint32_t)chance_next(&chance));
+    nic_write32(&n, NIC_GPIE, (uint32_t)chance_next(&chance));
+    nic_write32(&n, NIC_EIMS, (uint32_t)chance_next(&chance) | 0x00FFFFFFu);
+    nic_write32(&n, NIC_EICS, below(2) ? (uint32_t)chance_next(&chance) : 0);
+    for (unsigned v = 0; v < VFS; v++) {
+        nic_write32(&n, NIC_PVTEIMS(v), 7);
+        nic_write32(&n, NIC_PVTEICS(v), below(8));
+        nic_write32(&n, NIC_PVTEIAC(v), below(8));
+        nic_write32(&n, NIC_PVTEIAM(v), below(8));
+    }
+}
+
+static void some_frame(uint8_t frame[400], size_t *length)
+{
+    *length = below(12) ? 60 + below(340) : below(60);
+    for (size_t k = 0; k < *length; k++)
+        frame[k] = (uint8_t)below(256);
+    frame[0] &= 0xFE;
+    if (*length > 14 && below(2)) {
+        frame[12] = 8;
+        frame[13] = 0;
+        frame[14] = 0x45;
+    }
+}
+
+static void settings(void)
+{
+    static const uint32_t modes[] = {1, 8, 10, 11, 0};
+    nic_write32(&n, NIC_RXCTRL, below(8) != 0);
+    nic_write32(&n, NIC_DMATXCTL, below(8) != 0);
+    nic_write32(&n, NIC_FCTRL, 0x300 | below(2) << 10);
+    nic_write32(&n, NIC_GCR_EXT, below(3) ? 0 : below(4));
+    nic_write32(&n, NIC_MRQC, modes[below(5)] | 0x00030000);
+    for (unsigned k = 0; k < 32; k++)
+        nic_write32(&n, NIC_RETA(k), 0x03020100u);
+    for (unsigned k = 0; k < 10; k++)
+        nic_write32(&n, NIC_RSSRK(k), (uint32_t)chance_next(&chance));
+    nic_write32(&n, NIC_VFRE(0), (uint32_t)chance_next(&chance) | 3);
+    nic_write32(&n, NIC_VFTE(0), (uint32_t)chance_next(&chance) | 3);
+    nic_write32(&n, NIC_VT_CTL, below(3) ? 0 : below(2) | below(4) << 7);
+    nic_write32(&n, NIC_RXCSUM, below(2) << 13);
+    nic_write32(&n, NIC_RQSMR(0), (uint32_t)chance_next(&chance));
+    nic_write32(&n, NIC_TQSM(0), (uint32_t)chance_next(&chance));
+    nic_write32(&n, NIC_MAXFRS, (below(6) ? 1518u : 100u) << 16);
+}
+
+static void some_steps(void)
+{
+    uint8_t frame[400];
+    size_t length;
+    nic_told told;
+    for (unsigned k = below(24); k > 0; k--)
+        switch (below(8)) {
+        case 0: nic_rx_step(&n, &told); break;
+        case 1: nic_tx_step(&n, (uint16_t)below(QUEUES), &told); break;
+        case 2: nic_int_step(&n, (uint8_t)below(VFS + 1), &told); break;
+        case 3: nic_write32(&n, addresses[below(ADDRESSES - 1) + 1], (uint32_t)chance_next(&chance) & ~(1u << 26)); break;
+        default:
+            some_frame(frame, &length);
+            nic_arrive(&n, frame, length, &told);
+        }
+}
+
+static void some_state(void)
+{
+    for (unsigned block = 0; block < BLOCKS; block++)
+        if (block < 2 || below(8))
+            nic_lend(&n, block);
+    settings();
+    for (unsigned queue = 0; queue < QUEUES; queue++) {
+        fill_rings(queue);
+        bring_up_queue(queue);
+        nic_write32(&n, NIC_RDT(queue), below(9));
+        nic_write32(&n, NIC_TDT(queue), below(9));
+    }
+    bring_up_interrupts();
+    some_steps();
+    for (unsigned queue = 0; queue < QUEUES; queue++) {
+        if (!below(3))
+            nic_write32(&n, NIC_RXDCTL(queue), below(2) << 25);
+        if (!below(3))
+            nic_write32(&n, NIC_TXDCTL(queue), below(2) << 25);
+    }
+    nic_write32(&n, NIC_EERD, below(3) ? 1 | below(80) << 2 : 0);
+    nic_link(&n, below(4) != 0);
+    if (!below(20))
+        nic_write32(&n, NIC_CTRL, 4);
+}
+
+/* --- steps by chance --- */
+
+struct pick {
+    struct step step;
+    uint8_t bytes[400];
+    size_t length;
+};
+
+static void pick(struct pick *it, uint8_t kind)
+{
+    struct step *step = &it->step;
+    unsigned queue = below(QUEUES);
+    memset(it, 0, sizeof *it);
+    step->kind = kind;
+    some_frame(it->bytes, &it->length);
+    static const uint32_t offsets[] = {0, 4, 8, 0x10, 0x14, 0x18, 0x28, 0x38, 0x3C};
+    switch (kind) {
+    case STEP_READ:
+    case STEP_WRITE:
+        step->address = (below(2) ? NIC_RDBAL(queue) : NIC_TDBAL(queue)) + offsets[below(9)];
+        step->word = below(2) ? below(9) : (uint32_t)chance_next(&chance);
+        break;
+    case STEP_PEEK:
+    case STEP_POKE:
+        step->bus = below(3) ? some_bus() : ring_of(queue, below(2)) + 8 * below(16);
+        step->length = 1 + below(64);
+        break;
+    case STEP_INT: step->of = (uint16_t)below(VFS + 1); break;
+    case STEP_LINK: step->word = below(2); break;
+    default: step->of = (uint16_t)queue;
+    }
+}
+
+/* Makes a step; what it answers stands in it, and of a read of memory in `bytes`. */
+static void make(struct pick *it)
+{
+    struct step *step = &it->step;
+    memset(&step->told, 0, sizeof step->told);
+    switch (step->kind) {
+    case STEP_READ: step->status = nic_read32(&n, step->address, &step->word); break;
+    case STEP_WRITE: step->status = nic_write32(&n, step->address, step->word); break;
+    case STEP_PEEK: step->status = nic_dma_read(&n, step->bus, it->bytes, step->length); break;
+    case STEP_POKE: step->status = nic_dma_write(&n, step->bus, it->bytes, step->length); break;
+    case STEP_RX: step->status = nic_rx_step(&n, &step->told); break;
+    case STEP_TX: step->status = nic_tx_step(&n, step->of, &step->told); break;
+    case STEP_RX_ENABLE: step->status = nic_queue_step(&n, false, step->of, &step->told); break;
+    case STEP_TX_ENABLE: step->status = nic_queue_step(&n, true, step->of, &step->told); break;
+    case STEP_INT: step->status = nic_int_step(&n, (uint8_t)step->of, &step->told); break;
+    case STEP_EEPROM: step->status = nic_eeprom_step(&n, &step->told); break;
+    case STEP_ARRIVE: step->status = nic_arrive(&n, it->bytes, it->length, &step->told); break;
+    case STEP_LINK: step->status = nic_link(&n, step->word != 0); break;
+    default: break;
+    }
+}
+
+/* --- what a state shows --- */
+
+static uint64_t mixed(uint64_t sum, uint64_t value)
+{
+    sum = (sum ^ value) * 0x9E3779B97F4A7C15u;
+    return sum ^ sum >> 29;
+}
+
+static uint64_t sum_of_bytes(uint64_t sum, const uint8_t *bytes, size_t length)
+{
+    for (size_t k = 0; k < length; k++)
+        sum = mixed(sum, bytes[k]);
+    return sum;
+}
+
+static uint64_t sum_of_frames_out(uint64_t sum)
+{
+    static uint8_t frame[20000];
+    nic_told told;
+    while (nic_collect(&n, frame, sizeof frame, &told) == NIC_FRAME)
+        sum = sum_of_bytes(mixed(sum, told.queue), frame, (size_t)told.len);
+    return sum;
+}
+
+/* The frames that wait show as they are received; what of a state no register shows, as told bits, shows as the device
+   goes on: all its steps are made and told. */
+static uint64_t sum_of_going_on(uint64_t sum)
+{
+    static nic_told told[MOST_OUT];
+    size_t count = 0;
+    nic_settle(&n, QUEUES, told, MOST_OUT, &count);
+    for (size_t k = 0; k < count; k++) {
+        sum = mixed(sum, (uint64_t)told[k].status << 40 | (uint64_t)told[k].step << 32 | told[k].queue << 16 | told[k].slot);
+        sum = mixed(sum, told[k].at ^ told[k].desc << 20 ^ told[k].len << 40 ^ told[k].why ^ told[k].vector << 8);
+    }
+    return sum;
+}
+
+static uint64_t sum_of_registers(uint64_t sum)
+{
+    uint32_t word = 0;
+    for (size_t k = 0; k < ADDRESSES; k++) {
+        nic_peek32(&n, addresses[k], &word);
+        sum = mixed(sum, word);
+    }
+    return sum;
+}
+
+static uint64_t sum_of_memory(uint64_t sum)
+{
+    uint8_t bytes[NIC_BLOCK_BYTES];
+    for (uint64_t block = 0; block < BLOCKS; block++)
+        if (nic_dma_read(&n, block * NIC_BLOCK_BYTES, bytes, sizeof bytes) == NIC_DONE)
+            sum = sum_of_bytes(mixed(sum, block), bytes, sizeof bytes);
+    return sum;
+}
+
+/* The device is another one after it. */
+static uint64_t sum_of_all(void)
+{
+    uint64_t sum = sum_of_frames_out(sum_of_memory(sum_of_registers(1)));
+    return sum_of_frames_out(sum_of_memory(sum_of_registers(sum_of_going_on(sum))));
+}
+
+/* --- both orders --- */
+
+static bool are_same(const struct pick *a, const struct pick *b)
+{
+    return a->step.status == b->step.status && a->step.word == b->step.word &&
+           !memcmp(&a->step.told, &b->step.told, sizeof a->step.told) && !memcmp(a->bytes, b->bytes, sizeof a->bytes);
+}
+
+static void in_order(struct pick *first, struct pick *second)
+{
+    nicxi_heap_back();
+    make(first);
+    make(second);
+}
+
+static void try_pair(const struct pick *left, const struct pick *right, void *room)
+{
+    struct pick a = *left, b = *right, c = *left, d = *right, e = *left, f = *right;
+    nicxi_heap_back();
+    make(&a);
+    nicxi_heap_back();
+    make(&b);
+    int row = nicxi_row_of(&a.step, &b.step);
+    if (row < 0)
+        return;
+    tried[row]++;
+    in_order(&c, &d);
+    size_t size = nicxi_heap_size();
+    nicxi_heap_copy(room);
+    in_order(&f, &e);
+    if (!are_same(&a, &c) || !are_same(&a, &e) || !are_same(&b, &d) || !are_same(&b, &f))
+        fail(row, "a step answers otherwise behind the other");
+    if (nicxi_heap_is(room, size))
+        return;
+    uint64_t sum = sum_of_all();
+    in_order(&c, &d);
+    if (sum != sum_of_all())
+        fail(row, "the two orders lead to two states");
+}
+
+/* Each kind of a driver's step beside each of the device's, and each two of the device's. */
+static void try_all(void *room)
+{
+    static const uint8_t kinds[] = {STEP_LOCAL, STEP_READ, STEP_WRITE, STEP_PEEK, STEP_POKE};
+    struct pick a, b;
+    for (uint8_t right = STEP_RX; right <= STEP_LINK; right++) {
+        for (size_t k = 0; k < sizeof kinds; k++) {
+            pick(&a, kinds[k]);
+            pick(&b, right);
+            try_pair(&a, &b, room);
+        }
+        for (uint8_t left = STEP_RX; left <= right; left++) {
+            pick(&a, left);
+            pick(&b, right);
+            try_pair(&a, &b, room);
+        }
+    }
+}
+
+/* Each row in some of the states at least. */
+static void tell(unsigned states, bool all)
+{
+    uint64_t pairs = 0;
+    unsigned few = 0, least = states / 100;
+    for (int row = 0; row < nicxi_rows(); row++) {
+        pairs += tried[row];
+        few += tried[row] < least;
+        if (all || tried[row] < least)
+            printf("%8llu pairs: %s\n", (unsigned long long)tried[row], nicxi_row_name(row));
+    }
+    printf("%d rows, %llu pairs in both orders\n", nicxi_rows(), (unsigned long long)pairs);
+    if (few) {
+        printf("%u rows were hardly tried\n", few);
+        exit(1);
+    }
+}
+
+int main(int argc, char **argv)
+{
+    unsigned states = argc > 1 ? (unsigned)strtoul(argv[1], NULL, 10) : 10000;
+    uint64_t seed = argc > 2 ? strtoull(argv[2], NULL, 10) : 1;
+    for (unsigned k = 0; k < states; k++) {
+        chance = chance_of(seed, k);
+        if (!nicxi_heap_open() || nic_open(&n, VFS, FIFO, BLOCKS) != NIC_DONE)
+            return 2;
+        some_state();
+        void *room = malloc(4 * nicxi_heap_size());
+        if (!room || !nicxi_heap_keep())
+            return 2;
+        try_all(room);
+        free(room);
+        nicxi_heap_close();
+    }
+    tell(states, argc > 3);
+    return 0;
+}

@@ -1,0 +1,224 @@
+"""Checks the explorer: its corpus, its table of independent steps, how it tells each fault, what it refuses.
+
+`c/test` calls these; `c/explore/table` takes the corpus from here too.
+"""
+
+from __future__ import annotations
+
+import os
+import re
+import subprocess
+import sys
+import xml.etree.ElementTree
+from dataclasses import dataclass
+from pathlib import Path
+
+HERE = Path(__file__).resolve().parent
+C = HERE.parent
+STRICT = ["-std=c99", "-Wall", "-Wextra", "-pedantic", "-Werror"]
+STRATEGIES = ("random", "priorities", "exhaustive")
+
+
+class Wrong(Exception):
+    """Something isn't as it should be."""
+
+
+def ran(words: list[object], wanted: int | None = 0, **how: object) -> str:
+    """What a program prints on both streams; Wrong where it ends with another status."""
+    made = subprocess.run(
+        [str(word) for word in words], stdout=subprocess.PIPE, stderr=subprocess.STDOUT, text=True, check=False, **how
+    )
+    if wanted is not None and made.returncode != wanted:
+        shown = " ".join(str(word) for word in words)
+        raise Wrong(f"status {made.returncode} and not {wanted} of: {shown}\n{made.stdout}".rstrip())
+    return made.stdout
+
+
+@dataclass
+class Kit:
+    """Where programs go, and how they are made."""
+
+    folder: Path
+    compiler: str
+    flags: list[str]
+    explorer: Path
+    nicbench: str
+
+    def build(self, source: Path, *defines: str) -> Path:
+        """A program of one source, with the explorer in it."""
+        program = self.folder / "-".join([source.stem, *defines]).lower()
+        includes = [f"-I{C}/include", f"-I{HERE}/corpus", f"-I{self.folder}"]
+        words = [self.compiler, *STRICT, *self.flags, *includes, *(f"-D{one}" for one in defines), source]
+        ran([*words, self.explorer, C / "out/libnic82599.a", "-o", program])
+        return program
+
+
+def corpus() -> list[Path]:
+    return sorted((HERE / "corpus").glob("*.c"))
+
+
+def vfs_of(source: Path) -> int:
+    found = re.search(r"\.vfs = (\d+)", source.read_text())
+    return int(found[1]) if found else 0
+
+
+# --- the corpus ---
+
+
+def check_files(kit: Kit, source: Path, program: Path, out: Path) -> None:
+    """The schedule of a failure fails again, and the expects of its script hold."""
+    name = source.stem
+    told = ran([program, "--replay", out / f"{name}.schedule"], 1)
+    if "FAILED" not in told:
+        raise Wrong(f"{name}: its schedule doesn't fail again")
+    with open(out / f"{name}.nic", encoding="ascii") as script:
+        last = ran([kit.nicbench, "run", "--vfs", vfs_of(source)], stdin=script).splitlines()[-1]
+    if not last.startswith("ok "):
+        raise Wrong(f"{name}: its script ends with {last}")
+
+
+def check_corpus(kit: Kit, runs: int, preemptions: int) -> str:
+    """Each bug is found by a strategy, and its twin passes so many schedules by chance and the exhaustive search."""
+    out = kit.folder / "found"
+    out.mkdir(exist_ok=True)
+    for source in corpus():
+        wrong, right = kit.build(source, "WRONG"), kit.build(source)
+        ran([wrong, "--quiet", "--jobs", 2, "--out", out], 1)
+        check_files(kit, source, wrong, out)
+        ran([right, "--quiet", "--jobs", 2, "--runs", runs, "--out", out])
+        ran([right, "--quiet", "--jobs", 2, "--strategy", "exhaustive", "--preemptions", preemptions, "--out", out])
+    return f"{len(corpus())} bugs found, and their twins pass"
+
+
+# --- how faults are told ---
+
+FAULTS = {
+    "end": "end: it ended <here> & \"now\"",
+    "always": "always: the head moved",
+    "locks": "deadlock: (up|down) waits for (first|second), which (up|down) holds",
+    "waits": "deadlock: faulty waits, and nobody can act",
+    "endless": "endless: no end after 200 points; last came task faulty",
+    "memory": "memory: faulty reads 0x0, which isn't lent",
+    "unlock": "misuse: faulty unlocks first, which it doesn't hold",
+    "interrupts": "misuse: faulty ends with its interrupts off",
+    "check": "check: the head moved",
+    "crash": r"crash: the process (was ended by signal 11 .*|ended with status 1)",
+    "exit": "crash: the process ended with status 5",
+    "hang": "hang: a task runs and makes no point",
+}
+
+REFUSALS = {
+    "refused": "bring_up: there is no cable",
+    "no_tasks": "begin names no task",
+    "name": "a task's or a handler's name has 1 to 63 letters",
+    "fifo": "there is no such device: bad fifo",
+    "queues": "its queues aren't 1 to 128",
+}
+
+WORDS = {
+    "--runs": "--runs: it wants|is no number",
+    "--runs 0": '"0" is no number of 1 to',
+    "--runs 12x": '"12x" is no number of 1 to',
+    "--seconds -1": "--seconds: it wants seconds above 0",
+    "--strategy best": "--strategy: it is random, priorities, exhaustive or mixed",
+    "--depth 17": '"17" is no number of 1 to 16',
+    "--jobs 257": '"257" is no number of 1 to 256',
+    "--nonsense 1": "--nonsense: there is no such option",
+    "words": "words: there is no such option",
+    "--out /nowhere": "there is no such folder",
+    "--replay /nowhere": "/nowhere: it can't be read",
+}
+
+
+def told(text: str, wanted: str, what: str) -> None:
+    if not re.search(wanted, text):
+        raise Wrong(f"{what}: it isn't told that \"{wanted}\":\n{text}")
+
+
+def check_faults(kit: Kit) -> str:
+    """Each fault is told by itself, with a schedule and as JUnit."""
+    program, out = kit.build(HERE / "tests/faulty.c"), kit.folder / "faults"
+    out.mkdir(exist_ok=True)
+    for mode, wanted in FAULTS.items():
+        junit = out / "result.xml"
+        words = [program, mode, "--quiet", "--jobs", 2, "--hang", 1, "--out", out, "--junit", junit]
+        if mode in ("hang", "endless"):
+            words.append("--no-shrink")
+        told(ran(words, 1), f"FAILED {wanted}", mode)
+        failure = xml.etree.ElementTree.parse(junit).find("testcase/failure")
+        if failure is None or not (failure.text or "").strip().startswith("# "):
+            raise Wrong(f"{mode}: the JUnit file has no failure with its schedule")
+        if mode not in ("crash", "exit", "hang"):
+            told(ran([program, mode, "--replay", out / "faulty.schedule"], 1), "FAILED", mode)
+    told(ran([program, "strange", "--quiet", "--jobs", 1, "--strategy", "exhaustive", "--out", out], 1), "went another", "")
+    ran([program, "fine", "--quiet", "--runs", 500, "--out", out, "--junit", out / "result.xml"])
+    if xml.etree.ElementTree.parse(out / "result.xml").find("testcase/failure") is not None:
+        raise Wrong("a search without a failure has one in its JUnit file")
+    return f"{len(FAULTS) + 1} faults told"
+
+
+def check_refusals(kit: Kit) -> str:
+    """What can't be taken is refused with status 2 and why; a schedule's file with its line."""
+    program, out = kit.build(HERE / "tests/faulty.c"), kit.folder / "faults"
+    for mode, wanted in REFUSALS.items():
+        told(ran([program, mode, "--quiet"], 2), wanted, mode)
+    for words, wanted in WORDS.items():
+        told(ran([program, "fine", *words.split()], 2), wanted, words)
+    schedule = out / "bad.schedule"
+    fine = "scenario faulty\ntask faulty\n"
+    for text, wanted in {
+        "": r"bad.schedule:0: it has no line",
+        "task faulty\n": r':1: the first line is "scenario NAME"',
+        "scenario other\n": r":1: it is a schedule of scenario other",
+        f"{fine}\n# words\ntask nobody\n": r':5: the scenario has no "task nobody"',
+        f"{fine}rx\n": r':3: "rx" can\'t act here',
+        f"{fine}handler isr\n": r':3: "handler isr" can\'t act here',
+        fine: r":2: the schedule ends, and somebody can act",
+        "scenario faulty\n" + "x" * 600: r":2: the line is longer",
+    }.items():
+        schedule.write_text(text)
+        told(ran([program, "fine", "--replay", schedule], 2), wanted, repr(text))
+    ran([program, "check", "--quiet", "--out", out], 1)
+    schedule.write_text((out / "faulty.schedule").read_text() + "task other\n")
+    told(ran([program, "check", "--replay", schedule], 2), "all is over before this point", "a longer schedule")
+    return f"{len(REFUSALS) + len(WORDS) + 9} refusals"
+
+
+# --- the table of independent steps ---
+
+
+def check_orders(kit: Kit, states: int) -> str:
+    """Both orders of each row's steps, from states by chance."""
+    return ran([kit.build(HERE / "tests/orders.c"), states, 1], timeout=900).strip().splitlines()[-1]
+
+
+def sanitized_explorer(folder: Path, compiler: str, flags: list[str]) -> Path:
+    """The engine itself with the sanitizers' checks in it."""
+    made = folder / "explorer"
+    ran(["make", "-s", "-C", C, f"OUT={made}", f"CC={compiler}", f"EXPLORE_FLAGS={' '.join(flags)}", made / "libnic82599_explore.a"])
+    return made / "libnic82599_explore.a"
+
+
+def main() -> int:
+    folder = C / "out/explore-check"
+    folder.mkdir(parents=True, exist_ok=True)
+    sys.path[:0] = [str(C.parent / "dev"), str(C.parent / "python")]
+    from register_table import TABLE
+
+    addresses = [run.first + run.stride * k for row in TABLE for run in row.runs for k in range(run.count)]
+    (folder / "addresses.inc").write_text("".join(f"ADDRESS({one})\n" for one in addresses))
+    flags = sys.argv[1:] or ["-O2"]
+    nicbench = os.environ.get("NICBENCH") or str(C.parent / "nicbench")
+    kit = Kit(folder, os.environ.get("CC", "gcc"), flags, C / "out/libnic82599_explore.a", nicbench)
+    if "-fsanitize=address" in " ".join(flags):
+        kit.explorer = sanitized_explorer(folder, kit.compiler, flags)
+    for part in (lambda: check_faults(kit), lambda: check_refusals(kit), lambda: check_orders(kit, 500), lambda: check_corpus(kit, 3000, 1)):
+        print(part(), flush=True)
+    return 0
+
+
+if __name__ == "__main__":
+    try:
+        sys.exit(main())
+    except Wrong as fault:
+        sys.exit(f"FAILED: {fault}")

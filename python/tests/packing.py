@@ -108,6 +108,10 @@ class Wheel(unittest.TestCase):
             self.assertEqual(made.returncode, 0, made.stderr)
             self.assertNotRegex(made.stdout, r"tools/|\./nicbench", name)
 
+    def test_every_tool_is_a_command(self) -> None:
+        scripts = tomllib.loads((ROOT / "python/pyproject.toml").read_text())["project"]["scripts"]
+        self.assertEqual({it.name for it in (ROOT / "tools").iterdir()}, {*scripts} - {"nicbench"})
+
     def test_view_is_that_of_the_clone(self) -> None:
         code = "import sys; from nic82599.tools.nicview import command; sys.exit(command())"
         made = self.told(code, str(SCRIPT), "--text")

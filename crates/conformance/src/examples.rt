@@ -1,8 +1,8 @@
 //! Runs each example of `examples/` through the program, and says whether it wrote what stands beside the example.
 //!
 //! `examples/NAME.nic` is a script, and `examples/NAME.out` what `nicbench run` prints for it. `examples/NAME.debug` is
-//! a script with a debugger's commands, and `NAME.out` what `nicbench debug` prints for them. `examples/NAME.eeprom` is
-//! an EEPROM text, `NAME.hex` the bytes of the image that `nicbench eeprom` makes of it, in hex, and `NAME.out` what
+//! a script with a debugger's commands, and `NAME.out` what `nicbench debug` prints for them. `examples/NAME.txt` is a key
+//! with lines of hex, and `NAME.out` what `nicbench hash` prints for them. `examples/NAME.eeprom` is an EEPROM text, `NAME.hex` the bytes of the image that `nicbench eeprom` makes of it, in hex, and `NAME.out` what
 //! `nicbench eeprom --load` prints for those bytes. `examples/NAME.object` is the object of `NAME.nic`, in hex, and
 //! `NAME.dis` what `nicbench dis` prints for it.
 
@@ -12,7 +12,7 @@ use std::{fs, io};
 
 /// The runs that print what stands in `NAME.out`: the name, the words, the kind of the file that is read, and the
 /// status that the run ends with.
-const RUNS: [(&str, &str, &str, u8); 12] = [
+const RUNS: [(&str, &str, &str, u8); 15] = [
     ("first", "nicbench run", "nic", 0),
     ("masks", "nicbench run", "nic", 0),
     ("aliases", "nicbench run", "nic", 0),
@@ -21,10 +21,13 @@ const RUNS: [(&str, &str, &str, u8); 12] = [
     ("queue", "nicbench run", "nic", 0),
     ("send", "nicbench run", "nic", 0),
     ("interrupts", "nicbench run", "nic", 0),
+    ("chained", "nicbench run", "nic", 0),
+    ("udp6", "nicbench run", "nic", 0),
     ("fault", "nicbench run", "nic", 2),
     ("virtual", "nicbench run --vfs 2", "nic", 0),
     ("mailbox", "nicbench run --vfs 2", "nic", 0),
     ("tail", "nicbench debug", "debug", 0),
+    ("hash", "nicbench hash", "txt", 0),
 ];
 
 /// The words that make bytes of a text, and those that print the bytes, with the kinds of the three files.

@@ -1,10 +1,11 @@
 //! Runs each example of `examples/` through the program, and says whether it wrote what stands beside the example.
 //!
 //! `examples/NAME.nic` is a script, and `examples/NAME.out` what `nicbench run` prints for it. `examples/NAME.debug` is
-//! a script with a debugger's commands, and `NAME.out` what `nicbench debug` prints for them. `examples/NAME.txt` is a key
-//! with lines of hex, and `NAME.out` what `nicbench hash` prints for them. `examples/NAME.eeprom` is an EEPROM text, `NAME.hex` the bytes of the image that `nicbench eeprom` makes of it, in hex, and `NAME.out` what
-//! `nicbench eeprom --load` prints for those bytes. `examples/NAME.object` is the object of `NAME.nic`, in hex, and
-//! `NAME.dis` what `nicbench dis` prints for it.
+//! a script with a debugger's commands, and `NAME.out` what `nicbench debug` prints for them. `examples/NAME.txt` is a
+//! key with lines of hex, and `NAME.out` what `nicbench hash` prints for them. `examples/NAME.eeprom` is an EEPROM
+//! text, `NAME.hex` the bytes of the image that `nicbench eeprom` makes of it, in hex, and `NAME.out` what `nicbench
+//! eeprom --load` prints for those bytes. `examples/NAME.object` is the object of `NAME.nic`, in hex, and `NAME.dis`
+//! what `nicbench dis` prints for it.
 
 use crate::scripts::answer;
 use crate::texts::hex_in;

@@ -2,6 +2,10 @@
 
 Whoever has steps to show fills a `Run`; `of_script` does so from a script on the bench. The page (page.py) and the
 drawings (draw.py) know nothing else: neither the program nor the instructions of a script.
+
+A source numbers its steps from 0, gives each the reply that `nicbench run` would print, what it changed, wrote, lent,
+let in and sent (`trace.Step`), and the ring that it is about. `start` needs each register that a step changes, and
+those of the rings. A step's `pc` is an index of `line_of`; several steps may have one.
 """
 
 from __future__ import annotations

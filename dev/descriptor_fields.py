@@ -18,6 +18,7 @@ from typing import NamedTuple
 
 sys.dont_write_bytecode = True
 from descriptor_tables import FRAMES, receive_fields, rss_types, transmit_fields  # noqa: E402
+from generated import keep  # noqa: E402
 from register_table import ROOT  # noqa: E402
 
 HEADER, MODULE = ROOT / "c/include/nic82599_desc.h", ROOT / "python/nic82599/descriptor_fields.py"
@@ -146,16 +147,5 @@ def module() -> str:
     return f'{text}\nclass RssType(IntEnum):\n    """{told}"""\n\n{rows}'
 
 
-def main() -> None:
-    written, only_check = {HEADER: header(), MODULE: module()}, "--check" in sys.argv
-    stale = [path for path, text in written.items() if not path.exists() or path.read_text() != text]
-    for path in stale:
-        print("stale:" if only_check else "written:", path.relative_to(ROOT))
-        if not only_check:
-            path.write_text(written[path])
-    if only_check and stale:
-        sys.exit(1)
-
-
 if __name__ == "__main__":
-    main()
+    keep(__doc__, lambda: {HEADER: header(), MODULE: module()})

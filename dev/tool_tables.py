@@ -15,9 +15,9 @@ import json
 import re
 import sys
 from collections.abc import Iterator
-from pathlib import Path
 
 sys.dont_write_bytecode = True
+from generated import keep  # noqa: E402
 from register_table import ROOT, TABLE, Row, Run  # noqa: E402
 from vf_map_table import own_rows, side_rows  # noqa: E402
 
@@ -127,15 +127,5 @@ def tables() -> str:
     )
 
 
-def main() -> None:
-    text, only_check = tables(), "--check" in sys.argv
-    if WRITTEN.exists() and WRITTEN.read_text() == text:
-        return
-    print("stale:" if only_check else "written:", WRITTEN.relative_to(ROOT))
-    if only_check:
-        sys.exit(1)
-    Path(WRITTEN).write_text(text)
-
-
 if __name__ == "__main__":
-    main()
+    keep(__doc__, lambda: {WRITTEN: tables()})

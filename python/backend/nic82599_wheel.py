@@ -73,12 +73,16 @@ def zipped(path: Path, files: dict[str, bytes], programs: set[str]) -> None:
             archive.writestr(info, data)
 
 
-def write_wheel(folder: Path, version: str, files: dict[str, bytes], binaries: dict[str, bytes]) -> str:
+def write_wheel(
+    folder: Path, version: str, files: dict[str, bytes], binaries: dict[str, bytes], provenance: str | None = None
+) -> str:
     """Writes the wheel of these files into a folder, and tells its name. Binaries make it one for this machine."""
     tag = f"py3-none-linux_{os.uname().machine}" if binaries else "py3-none-any"
     info = f"nic82599-{version}.dist-info"
     told = f"Wheel-Version: 1.0\nGenerator: nic82599_wheel\nRoot-Is-Purelib: {str(not binaries).lower()}\nTag: {tag}\n"
     texts = {"METADATA": metadata(version), "WHEEL": told, "entry_points.txt": entry_points()}
+    if provenance is not None:
+        texts["PROVENANCE"] = provenance
     every = files | binaries | {f"{info}/{name}": text.encode() for name, text in texts.items()}
     every = dict(sorted(every.items(), key=lambda it: (".dist-info/" in it[0], it[0])))
     every[f"{info}/RECORD"] = record(every, f"{info}/RECORD").encode()

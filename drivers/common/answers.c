@@ -36,6 +36,11 @@ static bool given(enum bus_answer answer)
     return true;
 }
 
+unsigned int bus_answers(void)
+{
+    return bus_inside.options.answers;
+}
+
 unsigned int bus_answer_named(const char *name)
 {
     for (size_t i = 0; i < sizeof answers / sizeof *answers; i++)

@@ -128,7 +128,8 @@ bool bus_line(void);
 
 /* ---- what is told ---- */
 
-/* The answer with this name, as after --without: its bit, 0 where there is none. */
+/* The answers that the bus gives; the one with this name, as after --without: its bit, 0 where there is none. */
+unsigned int bus_answers(void);
 unsigned int bus_answer_named(const char *name);
 /* Which answers the bus gives, a line each. */
 void bus_tell_answers(unsigned int answers);

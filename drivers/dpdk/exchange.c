@@ -1,8 +1,8 @@
 /* Runs DPDK's ixgbe driver over the bench: probe, start, frames each way over four queues with RSS, counters, filters,
    restart of a queue, stop, start, frames, close. drivers/dpdk/run compiles and calls it.
 
-     exchange [--scalar | --segments] [--frames N] [--device ID] [--without SWSM | ANLP1] [--strays FILE] [--loud]
-              [--turn in | out]
+     exchange [--scalar | --segments] [--frames N] [--device ID] [--without SWSM | ANLP1] [--with EICS | EERD]
+              [--strays FILE] [--loud] [--turn in | out]
          the run, of N frames each way in each pass (1,000 unless told); --turn: the shim turns a byte of one frame
      exchange --speed
          the measurement
@@ -20,12 +20,12 @@
 #include "verdict.h"
 #include "window.h"
 
-#define DEVICE 0x10F7        /* 82599EB, KX4 */
+#define DEVICE 0x10F7 /* 82599EB, KX4 */
 #define MEBIBYTES 48
 #define PACKETS 4095
 #define PLAIN_BUFFER 2048
 #define FIFO 64
-#define TURNED 10            /* the frame of which --turn has a byte turned */
+#define TURNED 10 /* the frame of which --turn has a byte turned */
 #define FRAMES_MOST 10000000
 
 enum phase { IN_PROBE, IN_START, IN_TRAFFIC, IN_COUNTERS, IN_FILTERS, IN_RESTART, IN_STOP, IN_CLOSE };
@@ -186,6 +186,8 @@ static bool read_pair(const char *word, const char *next, struct words *it)
         return read_turn(next, it);
     if (strcmp(word, "--strays") == 0)
         return *(it->strays = next) != 0;
+    if (strcmp(word, "--with") == 0)
+        return (it->answers |= bus_answer_named(next)) && bus_answer_named(next);
     if (strcmp(word, "--without") != 0 || !(bus_answer_named(next) & it->answers))
         return false;
     it->answers &= ~bus_answer_named(next);
@@ -215,7 +217,10 @@ static bool read_words(int count, char **words, struct words *it)
 static struct dpdk_options options_of(const struct words *words)
 {
     struct dpdk_options options = {
-        .bus = {.fifo = FIFO, .answers = words->answers, .phases = phases, .turn_in = words->turn_in,
+        .bus = {.fifo = FIFO,
+                .answers = words->answers,
+                .phases = phases,
+                .turn_in = words->turn_in,
                 .turn_out = words->turn_out},
         .name = "exchange",
         .mebibytes = MEBIBYTES,
@@ -234,7 +239,7 @@ int main(int count, char **arguments)
     struct words words;
     if (!read_words(count, arguments, &words)) {
         fprintf(stderr, "exchange [--scalar | --segments] [--frames N] [--device ID] [--without SWSM | ANLP1] "
-                        "[--strays FILE] [--loud] [--turn in | out]\nexchange --speed\n");
+                        "[--with EICS | EERD] [--strays FILE] [--loud] [--turn in | out]\nexchange --speed\n");
         return 3;
     }
     struct dpdk_options options = options_of(&words);

@@ -57,6 +57,14 @@ static int probe(unsigned int which)
     return card_probe(which, FUNCTION_DEVICE, 0, vectors_of(which));
 }
 
+int port_try_probe(unsigned int which)
+{
+    int status = probe(which);
+    if (status == 0)
+        ports[which] = (struct port){.number = card_port(which), .is_there = true};
+    return status;
+}
+
 bool port_probe(unsigned int which)
 {
     struct port *port = &ports[which];

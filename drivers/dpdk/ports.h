@@ -61,6 +61,9 @@ bool port_start(unsigned int which); /* configured before, where it isn't yet */
 bool port_stop(unsigned int which);
 bool port_remove(unsigned int which);
 
+/* The same of a probe, and its status, whatever it is. */
+int port_try_probe(unsigned int which);
+
 /* A function is probed while the host isn't started: its driver must give up. */
 void port_probe_early(unsigned int which);
 

@@ -177,13 +177,20 @@ static void tell_head(void)
 {
     printf("  %-32s", "who gets a frame to");
     for (unsigned int i = 0; i < COLUMNS; i++)
-        printf(" %-5s", heads[i]);
+        printf(i + 1 < COLUMNS ? " %-5s" : " %s", heads[i]);
     printf("\n");
 }
 
 static char letter(int who)
 {
     return who < 0 ? '-' : who == HOST ? 'H' : (char)('0' + who - 1);
+}
+
+static void tell_who(char who, bool is_last)
+{
+    char name[] = "VF0";
+    name[2] = who;
+    printf(is_last ? " %s" : " %-5s", who == 'H' ? "host" : who == '-' ? "-" : name);
 }
 
 static void try_row(size_t row)
@@ -196,7 +203,7 @@ static void try_row(size_t row)
         who[i] = letter(who_gets(to[i]->addr_bytes, i == COLUMNS - 2 ? VLAN : i == COLUMNS - 1 ? OTHER_VLAN : 0));
     printf("  %-32s", rows[row].what);
     for (unsigned int i = 0; i < COLUMNS; i++)
-        printf(who[i] == 'H' ? " host " : who[i] == '-' ? " -    " : " VF%c  ", who[i]);
+        tell_who(who[i], i + 1 == COLUMNS);
     printf("%s\n", answer ? " refused by the driver" : "");
     known_refusals += rows[row].answer != 0;
     if (answer != rows[row].answer)

@@ -71,7 +71,7 @@ returns c = record {
   interleaved = λ s queue before i small was began alone.
       history s queue before _ _ i.device small was began (own_are i.calls i.own) alone;
   closed = λ vfs fifo queue h ps t small x among alone. (
-      calls_stand x.bench x.count h ps t.pass x.closes among,
-      closed_before vfs fifo t.pass.tag queue h ps t.pass.calls small x alone,
+    calls_stand x.bench x.count h ps t.pass x.closes among,
+    closed_before vfs fifo t.pass.tag queue h ps t.pass.calls small x alone,
   );
 }

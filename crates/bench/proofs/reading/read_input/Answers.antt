@@ -17,6 +17,8 @@ returns-then-n-len-clause-too_long g c = λ _.
 pub returns-clause-unread : goal.returns-clause-unread
 returns-clause-unread g c = λ _.
     let all : c.loop.counter ≡ 1000000 = omega (arith, c.loop.auto.counter-end, c.loop-test.false) in
-    inr (c.loop.invariant.counted ∙ all,
-    at-least (g.R.Read.remaining c.args.input.now.reader) (g.R.Read.remaining c.loop.input.reader) c.loop.bytes.items
-    1000000 (omega (arith, c.loop.invariant.some, all)) c.loop.invariant.told)
+    inr (
+      c.loop.invariant.counted ∙ all,
+      at-least (g.R.Read.remaining c.args.input.now.reader) (g.R.Read.remaining c.loop.input.reader) c.loop.bytes.items
+          1000000 (omega (arith, c.loop.invariant.some, all)) c.loop.invariant.told,
+    )

@@ -1,6 +1,4 @@
 pub use Rattle.driver_laws.specs as DriverLaws
-pub mod Asked
-pub mod Begun
 pub mod Beside
 pub mod BesideApart
 pub mod BesideRoom

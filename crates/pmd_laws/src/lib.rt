@@ -24,7 +24,7 @@ ghost use Rattle.pmd_laws.specs.BesideStop as stop;
 ghost use Rattle.pmd_laws.specs.Ends.{HandedOverStop, LeftIsPrefix, SentOverStop};
 ghost use Rattle.pmd_laws.specs.Faultless.{NoBurstMeetsFault, NoCallFindsFault, NoFillingFindsFault, NoStartFindsFault};
 ghost use Rattle.pmd_laws.specs.FullRing.{FullHasNoRoom, NoneHasNoRoom};
-ghost use Rattle.pmd_laws.specs.InHand.{ClosedIsHistory, DirectIsHistory, InterleavedIsHistory};
+ghost use Rattle.pmd_laws.specs.InHand.{DirectIsHistory, InterleavedIsHistory};
 ghost use Rattle.pmd_laws.specs.Lends.{LifeLendsApart};
 ghost use Rattle.pmd_laws.specs.Looks.{CallsEnd, NoneIsAllAtFirst, NoneIsAllBefore};
 ghost use Rattle.pmd_laws.specs.Order.{HandedIsPrefix, NoneIsAll, NoneIsAllTaken, SentIsPrefix, IdleIsAllSent};
@@ -43,15 +43,9 @@ ghost use Rattle.pmd_laws.specs.Waits.{WaitingIsNotAllBefore, WaitingIsNotAllAsT
 /// that led as the way was made, as `began` tells of a new one, and each call of a driver keeps; and that the history
 /// leaves the queue alone. Of a `Direct` what `device_lock::left_alone` answers suffices, whatever the state; of an
 /// `Interleaved` where no image is installed and the queues weren't parted there.
-///
-/// The calls that were made through a `pmd_seam::ThroughLock` are one of a device that was new, as the passes that
-/// closed its history made it: up to the last of them, of whichever tag the pass is, where `left_alone` of what `close`
-/// gives answers so of that tag and the queue. What the laws ask of where a driver starts there is told by
-/// `workers::begins_well`, as `worker::worker_begins_well` says.
 pub fn calls_in_hand_are_a_history()
     ensures direct { DirectIsHistory }
     ensures interleaved { InterleavedIsHistory }
-    ensures closed { ClosedIsHistory }
 {}
 
 /// Over a legal history of any sound device that leaves the driver's queue alone, whose pass made the calls of a start

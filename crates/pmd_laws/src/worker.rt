@@ -2,11 +2,9 @@
 //!
 //! Each law is the contract of a function that does nothing. `specs/Order` says the first by what
 //! `workers::run_workers`, the closing of a shared device and `left_alone` tell, and `workers::begins_well` beside it;
-//! `specs/Begun` says the second by what `workers::begins_well` tells, `specs/Quiet` the third by what
-//! `workers::never_asked_on` tells, `specs/Lending` the fourth by what `workers::others_lend_none` tells, and
-//! `specs/Fitting` the fifth by what `workers::frames_fit` tells.
+//! `specs/Quiet` says the second by what `workers::never_asked_on` tells, `specs/Lending` the third by what
+//! `workers::others_lend_none` tells, and `specs/Fitting` the fourth by what `workers::frames_fit` tells.
 
-ghost use Rattle.pmd_laws.specs.Begun.{BegunHasGround};
 ghost use Rattle.pmd_laws.specs.Fitting.{FramesFitIsShort};
 ghost use Rattle.pmd_laws.specs.Lending.{OthersLendNoneIsAlone};
 ghost use Rattle.pmd_laws.specs.WorkerOrder.{CallsStand, HandedIsPrefix, NoneIsLeft, SentIsPrefix};
@@ -26,13 +24,6 @@ pub fn worker_in_order()
     ensures none { NoneIsLeft }
     ensures handed { HandedIsPrefix }
     ensures sent { SentIsPrefix }
-{}
-
-/// Over the history of a device that was new: where `begins_well` says so of a driver, its port and queue name the
-/// watched queue just before the first event of the driver's own, and the device's frame limit is that of its frames,
-/// as `worker_in_order` asks, and the laws of `pmd_laws` on a driver's life ask behind the same calls of its pass.
-pub fn worker_begins_well()
-    ensures { BegunHasGround }
 {}
 
 /// Over the history of a device that was new: where `begins_well` says so of a driver, and `never_asked_on` of its

@@ -5,4 +5,3 @@ pub mod Faults
 pub mod Transmitting
 pub mod Switching
 pub mod Memory
-pub mod Queues

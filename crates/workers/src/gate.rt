@@ -1,14 +1,13 @@
-ghost use Rattle.std.specs.Prelude.{◌≡◌, ℕ, false, ⊤};
+ghost use Rattle.std.specs.Prelude.{◌≡◌, ℕ, Bool};
 
 /// A place where workers, known by their numbers, meet at points that are numbered in their order.
 pub trait Gate {
-    /// What is so where a point is shut to the worker of a number: of any gate nothing, as of one that waits for a
-    /// while only, or opens some of its points.
-    ghost shuts: { Self → ℕ → ℕ → Type 0 } = { λ _ _ _. ⊤ };
+    /// Whether it lets the worker of a number on.
+    ghost lets_on: { Self → ℕ → Bool };
 
-    /// Comes to a point, and waits until the gate lets the worker on. False where it doesn't let the worker on.
+    /// Comes to a point, and waits until the gate lets the worker on. False exactly where it doesn't let the worker on.
     fn pass(&self, worker: usize, point: u8) -> bool
-        ensures shut { result ≡ false → shuts self.now worker point };
+        ensures { result ≡ lets_on self.now worker };
 
     /// Leaves: nobody waits for this worker any more.
     fn leave(&self, worker: usize);

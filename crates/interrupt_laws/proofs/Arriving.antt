@@ -1,7 +1,7 @@
 -- Frames are let into pools whose bit of VFRE is 1.
 use Rattle.std.proofs.Common.{◌≡◌, ℕ, zero, suc, ◌≢◌, ◌⊎◌, ◌+◌, ◌*◌, ◌/◌, ◌%◌, ◌<◌, ◌==◌, true, if◌then◌else◌, List, [], ◌∷◌, ◌++◌, Option, Some, None, Ok, Err, refl, ap, sym, ◌∙◌, subst, inl, inr, arith, lit<}
 use Rattle.std.specs.Prelude.{⊤, Result, IfSome}
-use Rattle.std.proofs.lemmas.Bool.{cond_both, cond-true}
+use Rattle.std.proofs.lemmas.Bool.{cond_both, cond-true, cond-false, ne_eqb}
 use Rattle.nic_device.specs.RegTable.declared.rows.RowId.TheVariants.{GcrExt, Mrqc, Vfre, VtCtl}
 use Rattle.nic_device.proofs.RegTable.FirstAddresses.{first_address}
 use Rattle.nic_device.specs.RssHash.Mrqc.{queue_mode_of}
@@ -13,10 +13,11 @@ use Rattle.nic_device.specs.RegisterFile.Columns.{place}
 use Rattle.nic_device.specs.RegisterFile.Registers.{Registers, word_of}
 use Rattle.nic_device.specs.RxFilter.Address.{passes}
 use Rattle.nic_device.specs.RxFilter.Pools.{uses_pools, pool_of, parting_in, has_queues, takes_frames, checked_pool, chosen_pool}
-use Rattle.nic_device.specs.RxFilter.Sorting.{rss_entry, pool_target, sorted}
+use Rattle.nic_device.specs.RxFilter.Sorting.{queue_of, rss_entry, target_of, pool_target, sorted}
 use Rattle.nic_device.specs.RxFilter.Laws.{GoesToPool}
 use Rattle.nic_device.proofs.RxFilter.Queues.{queues_by_mode}
 use Rattle.nic_device.proofs.RxFilter.Small.{pool_of-small}
+use Rattle.nic_device.proofs.RxFilter.Sorted.{sorted-let_in}
 use Rattle.nic_device.specs.RxFilter.declared.target.Target.{Target}
 use Rattle.nic_device.specs.RxFilter.declared.unwanted.Unwanted.{Unwanted}
 use Rattle.nic_device.specs.RxFilter.declared.unwanted.Unwanted.TheVariants.{Filter, NoPool, PoolOff}
@@ -105,6 +106,30 @@ eighth : (r : Registers) (frame : List ℕ) (pool : ℕ) (t : Target) → t.queu
     → t.queue / 8 ≡ pool
 eighth r frame pool t e = omega arith
 
+single_by : (n : ℕ) → n ≢ 1 → n ≢ 8 → n ≢ 10 → n ≢ 11 → mode_by n ≡ Single
+unfolding mode_by
+single_by n rss one four two =
+    cond-false (n == 1) Rss _ (ne_eqb n 1 rss) ∙ cond-false (n == 8) Pools64 _ (ne_eqb n 8 one)
+    ∙ cond-false (n == 10) Pools32Rss _ (ne_eqb n 10 four) ∙ cond-false (n == 11) Pools64Rss Single (ne_eqb n 11 two)
+
+-- with a single queue it is queue 0, whichever the pool
+
+single_target : (r : Registers) (frame : List ℕ) (t : Target) (pool : Result ℕ Unwanted)
+    → queue_mode_of (word_of r Mrqc 0) ≡ Single → pool_target r frame pool ≡ Ok t → t.queue ≡ 0
+unfolding target_of
+single_target r frame t (Err why) is e = cc
+single_target r frame t (Ok pool) is e =
+    let same : target_of r frame pool ≡ t = cc in
+    ap (λ (u : Target). u.queue) (sym same)
+    ∙ ap (λ code. queue_of code (mode_in r) pool (rss_entry r frame)) is
+
+single_queue : (r : Registers) (frame : List ℕ) (t : Target) → queue_mode_of (word_of r Mrqc 0) ≡ Single
+    → sorted r frame ≡ Ok t → t.queue ≡ 0
+unfolding sorted
+single_queue r frame t is goes =
+    single_target r frame t (chosen_pool r frame) is
+    (sorted-let_in (passes r frame) (pool_target r frame (chosen_pool r frame)) t goes)
+
 module _ (s : State) (h : IsSound s) where
   mrqc : queue_mode s ≡ word_of s.registers Mrqc 0 % 16
   mrqc =
@@ -143,14 +168,23 @@ module _ (s : State) (h : IsSound s) where
         single_16 = λ is e. queues_by_mode.pools_16 r frame pool t g (sixteen is) (code 8 e);
         eight = λ is e. eighth r frame pool t
             (queues_by_mode.pools_16_hashing r frame pool t g (sixteen is) (by_either e (code 10) (code 11)));
+        none = λ rss one four two. single_queue r frame t
+            (code (queue_mode s) refl ∙ single_by (queue_mode s) rss one four two) goes;
       }
 
 joined : (s : State) → IsSound s → uses_pools s.registers ≡ true → (frame : List ℕ) → (t : Target)
     → sorted s.registers frame ≡ Ok t → (new : State) → new.waiting ≡ s.waiting ++ let_in frame t ∷ []
-    → JoinsOpenPool s new
+    → JoinsOpenPool s frame new
 joined s h uses frame t is new waits =
     let o = subst (Sorted s.registers frame) is (all_sorted s.registers frame uses) in
-    record { frame = let_in frame t; pool = o.0; joins = waits; is_of = is_of s h frame t o uses is }
+    record {
+      frame = let_in frame t;
+      bytes = refl;
+      pool = o.0;
+      meant = o.1.meant;
+      joins = waits;
+      is_of = is_of s h frame t o uses is;
+    }
 
 pub lets_in : VfreLetsIntoPools
 unfolding step_of
@@ -158,7 +192,7 @@ lets_in s h bit frame =
     let vt = whole-read s 0x051B0 0 (place VtCtl 0)
     (address_of (place VtCtl 0) 0x051B0 (first_address (place VtCtl 0) (lit< tt))) (omega arith) in
     let uses = sym vt ∙ bit in
-    arrived_cases (λ (o : Outcome). o.reply ≡ Done → JoinsOpenPool s o.state) s frame (record {
+    arrived_cases (λ (o : Outcome). o.reply ≡ Done → JoinsOpenPool s frame o.state) s frame (record {
       dropped = λ why e. absurd (cc);
       short = λ e. absurd (cc);
       long = λ e. absurd (cc);

@@ -7,6 +7,7 @@ pub mod Bytes
 pub mod Causes
 pub mod Changes
 pub mod Counters
+pub mod Extended
 pub mod Groups
 pub mod Holding
 pub mod Lasting

@@ -64,7 +64,7 @@ same_formula : (r : RowId) (old new : Registers) (around : Surroundings)
 same_formula row.Status old new around control = ap (λ w. if has_bit 2 w then 0 else 0x00080000) control
 same_formula other old new around control = refl
 
-same_read : (k : Kind) (old new : Registers) (around : Surroundings) (q : Place)
+pub same_read : (k : Kind) (old new : Registers) (around : Surroundings) (q : Place)
     → word_at new.words q ≡ word_at old.words q → word_of new row.Ctrl 0 ≡ word_of old row.Ctrl 0
     → word_of new row.Pvfmailbox q.index ≡ word_of old row.Pvfmailbox q.index
     → read_word k new around q ≡ read_word k old around q

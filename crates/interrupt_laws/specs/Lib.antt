@@ -1,5 +1,6 @@
 pub mod Accesses
 pub mod Arriving
+pub mod Extended
 pub mod Holding
 pub mod Lasting
 pub mod Mailbox

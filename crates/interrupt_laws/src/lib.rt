@@ -8,6 +8,7 @@
 
 ghost use Rattle.interrupt_laws.specs.Names.{HasLowViews, RegistersHaveAddresses};
 ghost use Rattle.interrupt_laws.specs.Arriving.{VfreLetsIntoPools};
+ghost use Rattle.interrupt_laws.specs.Extended.{ExtendedBeginsAtZero, ExtendedKeepsWhatIsWritten};
 ghost use Rattle.interrupt_laws.specs.Lasting.{MasksLast};
 ghost use Rattle.interrupt_laws.specs.Plain.{PlainWriteIsAlone, ArePlain, TimersHaveNoEffect};
 ghost use Rattle.interrupt_laws.specs.Queues.{IvarNamesCauses, PvtivarNamesCauses, MappingsNameCounters, VfteMutesPools};
@@ -143,9 +144,18 @@ pub fn plain_writes_are_alone()
     ensures timers { TimersHaveNoEffect }
 {}
 
-/// While VT_CTL bit 0 is 1, a frame that is let in waits, last of all, for a queue of a pool p whose bit p mod 32 of
+/// CTRL_EXT reads 0 in a new device, keeps all bits that are written, and a read of it changes nothing. A write of it
+/// changes what no other register reads but PVFMAILBOX and PFMAILBOX; without bit 14 these too read as before, and
+/// nothing else of the device changes.
+pub fn ctrl_ext_keeps_what_is_written()
+    ensures begins { ExtendedBeginsAtZero }
+    ensures keeps { ExtendedKeepsWhatIsWritten }
+{}
+
+/// While VT_CTL bit 0 is 1, a frame that is let in waits, last of all, for a queue by its pool p, whose bit p mod 32 of
 /// VFRE[p/32] is 1: queue 2p with MRQC bits 3 to 0 at 8, one of the four from 4p on with 10, one of the two from 2p on
-/// with 11.
+/// with 11; but where GCR_EXT has 16 pools, 8p with 8, and one of the eight from 8p on with 10 and 11. With any code but
+/// these and 1 the queue is 0, whichever the pool.
 pub fn vfre_lets_into_pools()
     ensures { VfreLetsIntoPools }
 {}

@@ -1,6 +1,7 @@
 pub mod Bits
 pub mod Limits
 pub mod Pools
+pub mod Queues
 pub mod Arriving
 pub mod Joining
 pub mod Slots

@@ -30,16 +30,16 @@ abbrev code_by : ℕ → QueueMode
 code_by n =
     cond (n == 0x1) Rss (cond (n == 0x8) Pools64 (cond (n == 0xA) Pools32Rss (cond (n == 0xB) Pools64Rss Single)))
 
-code-is : (w n : ℕ) → field 3 0 w ≡ n → queue_mode_of w ≡ code_by n
+pub code-is : (w n : ℕ) → field 3 0 w ≡ n → queue_mode_of w ≡ code_by n
 unfolding queue_mode_of
 code-is w n e = let low : w % 16 ≡ n = omega arith in ap code_by low
 
-is-16 : (w : ℕ) → field 1 0 w ≡ 1 → mode_of w ≡ Pools16
+pub is-16 : (w : ℕ) → field 1 0 w ≡ 1 → mode_of w ≡ Pools16
 is-16 w e =
     let low : w % 4 ≡ 1 = omega arith in
     ap (λ n. cond (n == 0) Off (cond (n == 1) Pools16 (cond (n == 2) Pools32 pools.Pools64))) low
 
-16-is : (w : ℕ) → mode_of w ≡ Pools16 → field 1 0 w ≡ 1
+pub 16-is : (w : ℕ) → mode_of w ≡ Pools16 → field 1 0 w ≡ 1
 16-is w =
     let Is : Mode → Type 0 = λ m. m ≡ Pools16 → field 1 0 w ≡ 1 in
     cond_both (w % 4 == 0) Off _ Is (λ is e. cc) (λ no.
@@ -159,7 +159,7 @@ chosen-on r frame parts h =
 
 -- and what is known of a frame by its checked pool
 
-has_pool : (r : Registers) (frame : List ℕ) (pool : ℕ) → pool_of r frame ≡ Some pool
+pub has_pool : (r : Registers) (frame : List ℕ) (pool : ℕ) → pool_of r frame ≡ Some pool
     → has_queues (parting_in r) pool ≡ true → HasPool r frame pool
 has_pool r frame pool e has = record { meant = e; exists = has-exists r pool has }
 

@@ -5,3 +5,4 @@ pub mod Faults
 pub mod Transmitting
 pub mod Switching
 pub mod Memory
+pub mod Queues

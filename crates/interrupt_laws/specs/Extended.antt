@@ -1,0 +1,40 @@
+-- CTRL_EXT keeps what is written, as a plain read/write register does; with bit 14 a write also tells functions of a
+-- reset's end, in their mailboxes.
+use Rattle.std.specs.Prelude.{ℕ, ◌≡◌, ◌≢◌, ◌<◌, IsFalse}
+use Rattle.nic_device.specs.RegTable.Place.{Names}
+use Rattle.nic_device.specs.RegTable.declared.place.Place.{Place}
+use Rattle.nic_device.specs.RegTable.declared.rows.RowId.TheVariants.{CtrlExt, Pfmailbox, Pvfmailbox}
+use Rattle.nic_device.specs.RegisterFile.Bits.{has_bit}
+use Rattle.nic_device.specs.RegisterFile.Columns.{place}
+use Rattle.nic_device.specs.Sound.{IsSound}
+use Rattle.nic_device.specs.State.{State, new_state}
+use Rattle.nic_device.specs.Step.{after}
+use Rattle.nic_device.specs.declared.event.Event.TheVariants as event
+use Rattle.nic_device.specs.declared.event.Port.TheVariants.{Pf}
+use Rattle.nic_device.specs.declared.event.Reply.TheVariants.{Word}
+use Rattle.device_laws.specs.Laws.{reply_to_read, after_write}
+use Rattle.interrupt_laws.specs.Plain.{ChangesOneRegister}
+use Rattle.interrupt_laws.specs.Shown.{reads_one}
+
+abbrev pub extended_address : ℕ
+extended_address = 0x00018
+
+-- it reads 0 in a new device
+abbrev pub ExtendedBeginsAtZero : Type 0
+ExtendedBeginsAtZero = (vfs fifo : ℕ) → reply_to_read (new_state vfs fifo) extended_address ≡ Word 0
+
+pub record KeepsExtended (s : State) (word : ℕ) : Type 0 where
+  -- all bits that are written are read, and a read changes nothing
+  pub kept :
+      (bit : ℕ) → bit < 32
+      → reads_one (after_write s extended_address word) extended_address bit ≡ has_bit bit word
+  pub read : after s (event.Read Pf extended_address) ≡ s
+  -- every other register reads as it did but those of mailboxes, and without bit 14 these do too, and of the device
+  -- nothing has changed but words of registers
+  pub others :
+      (address : ℕ) (q : Place) → Names address q → q ≢ place CtrlExt 0 → q.row ≢ Pvfmailbox → q.row ≢ Pfmailbox
+      → reply_to_read (after_write s extended_address word) address ≡ reply_to_read s address
+  pub alone : IsFalse (has_bit 14 word) → ChangesOneRegister (place CtrlExt 0) s (after_write s extended_address word)
+
+abbrev pub ExtendedKeepsWhatIsWritten : Type 0
+ExtendedKeepsWhatIsWritten = (s : State) → IsSound s → (word : ℕ) → KeepsExtended s word

@@ -7,6 +7,7 @@ pub use Rattle.ring_laws.proofs as RingLaws
 pub use Rattle.ring_laws.proofs.HistoryLaws
 pub use Rattle.driver_laws.proofs.Healthy as Fitting
 pub use Rattle.driver_laws.proofs.Reached as Made
+pub mod Asked
 pub mod Ground
 pub mod Healthy
 pub mod InOrder

@@ -5,7 +5,7 @@ use Rattle.driver_laws.proofs.Ground.{plain_keeps, reads_driven, side_driven, wo
 use Rattle.driver_laws.proofs.Prelude.{AllAre, AreMadeOf, BeforeNext, HasGround, IsAlong, IsEnable, IsEnding}
 use Rattle.driver_laws.proofs.Prelude.{IsOtherwise, IsPlain, IsQuiet, IsStrayRead, Never, PollsEnd, StopsBy}
 use Rattle.driver_laws.proofs.Reached.{OfCall, added_never, all_before, all_both, all_missed, all_polled, before_made}
-use Rattle.driver_laws.proofs.Reached.{made_by, made_next, next_never}
+use Rattle.driver_laws.proofs.{Asked.asked_last, Reached.made_by, Reached.made_next, Reached.next_never}
 use Rattle.driver_laws.proofs.StopCalls.{MayAsk, accesses_are, accesses_plain, enable_driven, may_asks, prepared_plain}
 use Rattle.driver_laws.proofs.StopCalls.{quiet_plain, ready_plain, step_ends, then_made}
 use Rattle.driver_laws.proofs.{On.agrees_at, On.are_on, On.goes_on_at, SwitchedOff.ending_quiet, SwitchedOff.quiet_kept}
@@ -15,7 +15,7 @@ use Rattle.driver_laws.specs.Polls.{AreEnables, Enables, PollsAreTold, asked_aft
 use Rattle.driver_laws.specs.Prelude.{Access, AreMade, AreSteps, AtPort, Block, Call, DeviceFault, Dir, Entry, Event}
 use Rattle.driver_laws.specs.Prelude.{IsNumberOf, Numbers, PmdFault, Port, PreparingFails, Reply, RowId, Rx, Rxdctl}
 use Rattle.driver_laws.specs.Prelude.{Sees, Sets, StartRefused, StartTimeout, State, StopsStarting, SwitchFails, Tx}
-use Rattle.driver_laws.specs.Prelude.{Txdctl, Watched, both_asked, both_quiet, enable_row, has_block, is_driven}
+use Rattle.driver_laws.specs.Prelude.{Txdctl, Watched, both_asked, both_quiet, call_of, enable_row, has_block, is_driven}
 use Rattle.driver_laws.specs.Prelude.{is_step, lent_by, missed, receive_polled, ring_words, start_gate, zero_block}
 use Rattle.driver_laws.specs.TimedOut.{Asked, IsOfEnable, TimeoutsPoll, TimesOut, asked_by, is_miss, misses, none_asked}
 use Rattle.pmd.{proofs.PmdSeam.QueueSequences.both_made as made_after, specs.Started.IsShut}
@@ -222,7 +222,10 @@ module _ {w : Watched} {origin : State} {h : List Entry} (q : AtPort) (frame : â
   preparing_never_fails side size old a new b out (ring, free, inr (mid, made, stops)) at none =
       added_never along (Î» s. IsFalse (has_block s.memory stops.next)) stops.mid new
       (event.Lend (zero_block stops.next)) (reply.Twice stops.fails.0) (grind (arith, common_steps, anew_is_done))
-      stops.fails.1 (none stops.next stops.free)
+      stops.fails.1 (none stops.next stops.free
+      (rw stops.fails.1.1
+      (asked_last stops.mid stops.fails.1.0 (call_of (event.Lend (zero_block stops.next)) (reply.Twice stops.fails.0))
+      stops.next (eq-eqb stops.next stops.next refl))))
 
   -- both sides are asked on and polled
 

@@ -1,8 +1,10 @@
 -- Entries ahead of the place where the device agrees with both halves, as those of a driver's start.
-use Rattle.std.specs.Prelude.{[], ⊤, ◌*◌, ◌∷◌, ◌≢◌, ◌≤◌, All, List, ℕ}
+use Rattle.std.specs.Prelude.{[], ⊤, ◌*◌, ◌==◌, ◌||◌, ◌∷◌, ◌≢◌, ◌≤◌, All, List, false, ℕ}
 use Rattle.nic_device.specs.RegisterFile.Settings.{frame_limit}
-use Rattle.driver_laws.specs.Prelude.{AreEvents, Blocks, Entry, FitsBlocks, IsLegal, LendsNone, OnlyLent, State}
+use Rattle.driver_laws.specs.Prelude.{AreEvents, Block, Blocks, Call, Entry, Event, FitsBlocks, IsLegal, LendsNone}
+use Rattle.driver_laws.specs.Prelude.{OnlyLent, State}
 use Rattle.driver_laws.specs.Prelude.{WritesNoSetting, after, either, leads_to, lent_by}
+use Rattle.nic_device.specs.declared.event.Event.TheVariants as event
 
 -- the frames that wait for a queue fit so many blocks, and longer ones aren't let in
 pub record AreShort (queue most : ℕ) (s : State) : Type 0 where
@@ -18,6 +20,16 @@ NoneSets s (e ∷ es) = WritesNoSetting s e.event × NoneSets (after s e.event) 
 abbrev pub OnlyPassLends : ℕ → Blocks → List Entry → Type 0
 OnlyPassLends pass own [] = ⊤
 OnlyPassLends pass own (e ∷ es) = (e.pass ≢ pass → LendsNone own e.event) × OnlyPassLends pass own es
+
+-- whether an event asks to lend the block of this number, and whether one of these calls did, whatever the reply
+
+abbrev pub asks_for : Event Block → Blocks
+asks_for (event.Lend block) number = block.number == number
+asks_for other number = false
+
+abbrev pub is_asked : List Call → Blocks
+is_asked [] number = false
+is_asked (c ∷ calls) number = asks_for c.event number || is_asked calls number
 
 -- over such entries the frames that wait for a queue stay as short as so many blocks
 abbrev pub FramesStayShortAlong : Type 0

@@ -4,7 +4,7 @@ use Rattle.nic_device.specs.DmaArena.Numbers.{is_free}
 use Rattle.driver_laws.specs.Prelude.{AreSteps, AtPort, Call, DeviceFault, Entry, IsReceiveReady, IsTransmitReady}
 use Rattle.driver_laws.specs.Prelude.{Numbers, PreparingFails, Receive, ReceiveFails, Sender, State, SwitchFails, Tx}
 use Rattle.driver_laws.specs.Prelude.{Watched, has_block, is_step}
-use Rattle.driver_laws.specs.{Along.AtCalls, Along.BeforeLast, Along.IsAlong, Quieting.IsQuiet}
+use Rattle.driver_laws.specs.{Along.AtCalls, Along.BeforeLast, Along.IsAlong, Before.is_asked, Quieting.IsQuiet}
 
 -- the history has no point where the pass has made just these calls
 abbrev pub Never : Watched → State → List Entry → List Call → Type 0
@@ -16,10 +16,11 @@ BeforeNext w origin h old P =
     (before : List Call) (c : Call) → AreSteps before → IsFalse (is_step c.event) →
     BeforeLast w origin h (old ++ (before ++ c ∷ [])) P
 
--- just before the last of these calls none of the arena's free blocks is lent
+-- just before the last of these calls none of the arena's free blocks is lent that they ask to lend
 abbrev pub NoneIsLent : Watched → State → List Entry → List Call → Numbers → Type 0
 NoneIsLent w origin h calls a =
-    (number : ℕ) → is_free a number ≡ true → BeforeLast w origin h calls (λ s. IsFalse (has_block s.memory number))
+    (number : ℕ) → is_free a number ≡ true → is_asked calls number ≡ true →
+    BeforeLast w origin h calls (λ s. IsFalse (has_block s.memory number))
 
 -- a start whose queue is off just before its first call: no side is seen on, each word of the receive ring is taken,
 -- and so is each of its blocks

@@ -11,6 +11,7 @@ use Rattle.pmd_laws.proofs.Prelude.{◌++◌, ◌∙◌, ◌∷◌, Call, Life, 
 use Rattle.pmd_laws.proofs.Shifted.{access, early_shift, on_shift, rings, shifted, up_behind}
 use Rattle.pmd_laws.proofs.{Order.life_of, Prelude.ap, Prelude.ℕ, Prelude.◌≡◌, Prelude.◌⊎◌, Told.goes, Told.life}
 use Rattle.pmd_laws.specs.Beside.{AllFollowBy, FollowsBy, IsCalledBeside, IsRetold, IsToldAnew, IsToldBeside, by_own}
+use Rattle.pmd_laws.specs.Asked.{asked_of}
 use Rattle.pmd_laws.specs.{Beside.anew, BesideApart.IsAloneBeside, BesideApart.IsCalledApart, BesideStart.BeginsBeside}
 use Rattle.pmd_laws.specs.Told as own
 
@@ -159,11 +160,12 @@ module _ (x : Beside) where
   -- no other lends its blocks
 
   pub alone : IsAloneBeside x → IsToldAlone told
-  alone y = record { told = told_of y.told; fresh = at_access (NoneLent (is_own x.a)) y.fresh; others = y.others }
+  alone y = record { told = told_of y.told; fresh = at_access (NoneLent (asked_of x.w x.a x.g)) y.fresh; others = y.others }
 
   pub none_beside : (n : Moment) → IsCalledApart x n → FindsAmid (goes told).rings (now x).made n.made → ⊥
   none_beside n y amid =
-      none_amid told (at_access (IsFresh x.w.queue x.frame (is_own x.a)) y.fresh) y.others (now x).made n.made y.more
+      none_amid told (at_access (IsFresh x.w.queue x.frame (asked_of x.w x.a x.g)) y.fresh) y.others (now x).made n.made
+      y.more
       amid
       (λ since all.
       y.all

@@ -3,7 +3,8 @@
 -- other calls: what it added comes behind the driver's. And so it is of a start.
 use Rattle.driver_laws.proofs.{Filling.no_fault_is_early, Healthy.no_fault, Made.before_made}
 use Rattle.driver_laws.specs.Prelude.{Elsewhere, FindsFault, doers_other, is_neither}
-use Rattle.driver_laws.specs.{Faultless.NoneIsLent, Faults.doers_of}
+use Rattle.driver_laws.proofs.{Asked.asked_ahead, Asked.asked_behind, Asked.asked_last, Parts.begun as begun_by}
+use Rattle.driver_laws.specs.{Before.is_asked, Faultless.NoneIsLent, Faults.doers_of}
 use Rattle.driver_laws.{proofs.Beside.harmless_both, proofs.Beside.others_harmless, specs.Filling.LendsFresh}
 use Rattle.pmd.proofs.{Followed.both_own, PmdRx.Earlier.free_before, PmdSeam.Steps.steps_both, PmdSeam.Steps.steps_last}
 use Rattle.pmd.proofs.{Followed.others_own, Followed.others_played, Followed.own_length, Starting.preparing_drawn}
@@ -11,17 +12,20 @@ use Rattle.pmd.specs.{Apart.FindsBy, Halves.OthersStep}
 use Rattle.pmd.{proofs.Finding.wrong_by, specs.Bursts.FailedAmid, specs.Bursts.SendsWith}
 use Rattle.pmd_laws.proofs.Laying.{LaysTo, among, behind_first, preparing_lays, ready_behind, then_some}
 use Rattle.pmd_laws.proofs.Order.{begun, drawn_both, drawn_gone, driven_by, first, last_before, may, on_before, on_of}
-use Rattle.pmd_laws.proofs.Prelude.{AllLendApart, OnlyPassLends, ReceiveFails, append_assoc, calls_joined, common_steps}
+use Rattle.pmd_laws.proofs.Prelude.{AllLendApart, ReceiveFails, append_assoc, calls_joined, common_steps}
 use Rattle.pmd_laws.proofs.Prelude.{AllOwn, Blocks, Course, Halves, IsMade, Option, Packet, Receive, Running, call_of}
 use Rattle.pmd_laws.proofs.Prelude.{AreOn, BeginsApart, DeviceFault, DrivesApart, DrivesRings, FaultsEarly, ring_blocks}
 use Rattle.pmd_laws.proofs.Prelude.{BeforeLast, LeadsApart, and_parts, append-nil, both_ways, halves_of, times_among, ℕ}
 use Rattle.pmd_laws.proofs.Prelude.{Call, List, None, Rxdctl, Sends, State, arith, false, is_own, parts, rules, subst}
 use Rattle.pmd_laws.proofs.Prelude.{Entry, IsDrawn, IsFresh, Numbers, PmdFault, apart_on, calls_of, played_by}
 use Rattle.pmd_laws.proofs.Prelude.{FaultsFilling, OthersHarmless, harmless_apart, inl, is_own-of_free, receiving_apart}
-use Rattle.pmd_laws.proofs.Prelude.{[], ◌++◌, ◌∙◌, ◌∷◌, ◌≡◌, ◌⊎◌, Rx, Sees, Some, Told, Tx, ap, inr, left, refl, sym}
+use Rattle.pmd_laws.proofs.Prelude.{[], ◌++◌, ◌∙◌, ◌∷◌, ◌≡◌, ◌⊎◌, Rx, Sees, Some, Told, Tx, ap, inr, left, refl, sym, true}
 use Rattle.pmd_laws.proofs.Told.{added, added_is, goes, led, life}
-use Rattle.pmd_laws.proofs.{Lent.known_at, Lent.others_parts, Lent.short_at, Lent.short_by, Lent.unlent_before}
-use Rattle.pmd_laws.specs.{Faultless.IsQuietAndFresh, Faultless.SendsAtFault, Faultless.met_by, Told.now}
+use Rattle.pmd_laws.proofs.Asked.{Both, all_asked, both_true, leads_asked, lends_asked}
+use Rattle.pmd_laws.proofs.{Lent.known_at, Lent.others_before, Lent.others_behind, Lent.short_at, Lent.short_by}
+use Rattle.pmd_laws.proofs.{Lent.unlent_before, Order.some_on}
+use Rattle.pmd_laws.specs.{Asked.OthersLendNone, Asked.asked_of, Faultless.IsQuietAndFresh, Faultless.SendsAtFault}
+use Rattle.pmd_laws.specs.{Faultless.met_by, Told.now}
 use Rattle.pmd_laws.{proofs.Order.On, specs.Prelude.Laid, specs.Prelude.Off}
 use Rattle.std.proofs.{Common.IfErr, Common.IfSome, Common.Result, lemmas.List.Folds.list_any-append}
 
@@ -50,10 +54,35 @@ pub found_on : {own : Blocks} {old mid new : List Call} {h j : Halves} → Drive
     → FindsFault own mid j new → FindsFault own old h new
 found_on drives f = search (rules, apart_on)
 
+-- of blocks that it asks to lend, it is so
+abbrev pub found_asked : (own asks : Blocks) {on : List Call} {h : Halves} {new : List Call} (f : FindsFault own on h new)
+    → ((n : ℕ) → is_asked (made f) n ≡ true → asks n ≡ true) → FindsFault (Both own asks) on h new
+found_asked own asks {h = h} f within =
+    record {
+      mid = f.mid;
+      there = f.there;
+      doer = f.doer;
+      event = f.event;
+      reply = f.reply;
+      drives =
+          record {
+            drives = f.drives.drives;
+            apart =
+                all_asked own asks h f.drives.drives.0 f.drives.drives.1 f.drives.apart
+                (λ n is. within n (asked_ahead f.drives.drives.1 _ n is));
+          };
+      mine = f.mine;
+      apart =
+          lends_asked own asks f.there f.doer f.event f.apart
+          (λ n is. within n (asked_behind f.drives.drives.1 _ n (asked_last [] f.adds.0 (call_of f.event f.reply) n is)));
+      adds = f.adds;
+      sick = f.sick;
+    }
+
 -- from the place on where both sides are on, where nobody else lends any of these blocks
 module _ {c : Course} (x : On c) (own : Blocks)
     (fresh : BeforeLast c.w c.origin c.h x.up.receive.quiet.0 (IsFresh c.w.queue c.frame own))
-    (others : OnlyPassLends c.w.pass own c.h) where
+    (others : OthersLendNone c.w.pass own c.h) where
   open c use {w, origin, h, q, frame}
 
   -- the sides went on, the halves were led on, and then came that call: the driver takes as many blocks for a packet as
@@ -64,7 +93,7 @@ module _ {c : Course} (x : On c) (own : Blocks)
       let so = parts w.pass h (mid ++ made f) more is in
       let y = on_before x so.front so.back so.both in
       let none = last_before w origin so.front so.back so.both x.up.receive.quiet.0 (IsFresh w.queue frame own) fresh in
-      let (spared, later) = others_parts w.pass own _ _ (subst (OnlyPassLends w.pass own) (sym so.both) others) in
+      let spared = others_before w.pass own so.front so.back (subst (OthersLendNone w.pass own) (sym so.both) others) in
       let (doers, since, all, did, played, harmless) = led.leads in
       let p = parts w.pass so.front x.mid (since ++ made f)
       (so.fronts ∙ ap (λ (l : List Call). l ++ made f) all ∙ append_assoc x.mid since (made f)) in
@@ -92,7 +121,9 @@ module _ {c : Course} (x : On c) (own : Blocks)
         known =
             known_at y own (λ before behind e split mine is. (none before behind e split mine is).none) spared p.front
             back both p.fronts;
-        others = (others_parts w.pass own p.front back (subst (OnlyPassLends w.pass own) (sym both) spared)).1;
+        others =
+            others_behind w.pass own p.front back (subst (OthersLendNone w.pass own) (sym both) spared)
+            (begun_by w.pass p.front (λ none. some_on y (sym p.fronts ∙ none)));
       })
 
 -- a burst: up to some of its events both halves were driven on to a call whose reply no healthy queue gives. So it is
@@ -118,8 +149,8 @@ burst_finds (Some f) given left result old mid new r there s drives finds x is =
 -- behind a driver's life no call added so
 module _ (x : Told)
     (fresh :
-    BeforeLast x.w x.origin x.h x.told.started.2.receive.quiet.0 (IsFresh x.w.queue x.frame (is_own x.a)))
-    (others : OnlyPassLends x.w.pass (is_own x.a) x.h) where
+    BeforeLast x.w x.origin x.h x.told.started.2.receive.quiet.0 (IsFresh x.w.queue x.frame (asked_of x.w x.a x.h)))
+    (others : OthersLendNone x.w.pass (asked_of x.w x.a x.h) x.h) where
   open x use {w, h, a}
 
   pub none_amid : (old new more : List Call) → FindsAmid (goes x).rings old new
@@ -128,9 +159,22 @@ module _ (x : Told)
       let f =
       subst (λ (own : Blocks). FindsFault own old (halves_of (goes x).rings) mid) (λ i k. (goes x).owns k i) found
       in
-      no_fault_led_on (begun (life x)) (is_own a) fresh others (led x.told) f (later ++ more)
-      (is (made f ++ later) (both ∙ ap (λ (l : List Call). l ++ later) (made_is f) ∙ append_assoc old (made f) later)
-      ∙ simp append_assoc)
+      let asks : Blocks = is_asked (calls_of w.pass h) in
+      let all : calls_of w.pass h ≡ ((now x).made ++ made f) ++ (later ++ more) =
+      is (made f ++ later) (both ∙ ap (λ (l : List Call). l ++ later) (made_is f) ∙ append_assoc old (made f) later)
+      ∙ simp append_assoc in
+      let told : (n : ℕ) → is_asked (((now x).made ++ made f) ++ (later ++ more)) n ≡ true → asks n ≡ true = λ n is.
+      subst (λ (l : List Call). is_asked l n ≡ true) (sym all) is in
+      let leads = (led x.told).leads in
+      no_fault_led_on (begun (life x)) (Both (is_own a) asks) fresh others
+      (leads_asked (is_own a) asks (led x.told) (λ n is.
+      told n (asked_ahead ((now x).made ++ made f) (later ++ more) n (asked_ahead (now x).made (made f) n
+      (subst (λ (l : List Call). is_asked l n ≡ true) (sym leads.2)
+      (asked_behind x.told.started.2.on.mid leads.1 n is))))))
+      (found_asked (is_own a) asks f
+      (λ n is.
+      told n (asked_ahead ((now x).made ++ made f) (later ++ more) n (asked_behind (now x).made (made f) n is))))
+      (later ++ more) all
 
 pub burst_amid : (r s : Running) (old new : List Call) → SendsAtFault old r new s → FindsAmid r old new
 burst_amid r s old new (vacant, given, left, result, x, is) =
@@ -142,17 +186,26 @@ burst_amid r s old new (vacant, given, left, result, x, is) =
 module _ (x : BeginsApart) where
   open x use {w, origin, h, q, size, frame, old, a, new}
 
+  abbrev own : Blocks
+  own = asked_of w a h
+
   abbrev AtFirst : State → Type 0
-  AtFirst = IsQuietAndFresh w.queue q frame (is_own a)
+  AtFirst = IsQuietAndFresh w.queue q frame own
+
+  -- what the calls of the start ask to lend, the pass asks to lend
+  new_asked : (n : ℕ) → is_asked new n ≡ true → is_asked (calls_of w.pass h) n ≡ true
+  new_asked n is = subst (λ (l : List Call). is_asked l n ≡ true) (sym x.made) (asked_ahead new x.more n is)
 
   -- behind the first access
   undrawn : (b : Numbers) (ns : List ℕ) (first : List Call) → IsMade q old first (Sees Rxdctl false) → IsDrawn a ns b
       → (last : Laid) × LaysTo q size (among ns) Off first new last → NoneIsLent w origin h new b
-  undrawn b ns first begins drawn (last, lays) number free =
-      unlent_before w origin h q size old first x.along (is_own a) (among ns) begins
+  undrawn b ns first begins drawn (last, lays) number free asked =
+      unlent_before w origin h q size old first x.along own (among ns) begins
       (λ done rest e both own is.
       (before_made q w origin h AtFirst (Sees Rxdctl false) old first begins x.begins done rest e both own is).1.none)
-      x.others Off last new lays number (is_own-of_free a number (free_before a ns b drawn number free))
+      x.others Off last new lays number
+      (both_true (is_own a number) (is_asked (calls_of w.pass h) number)
+      (is_own-of_free a number (free_before a ns b drawn number free)) (new_asked number asked))
       (λ is. both_ways (among ns number) (times_among ns number (drawn_gone a ns b number drawn free)) is)
 
   -- before both sides are on, whichever arena such a start had
@@ -169,7 +222,7 @@ module _ (x : BeginsApart) where
   receive_never b out (inl (stops, same, empty)) =
       let none : Numbers = record a { free = [] } in
       early_never none (inl (record { arena = none; out = []; fails = inl (stops, refl, refl) }))
-      (λ number free. absurd (both_ways false refl (and_parts _ _ free).1))
+      (λ number free asked. absurd (both_ways false refl (and_parts _ _ free).1))
   receive_never b out (inr (mid, made, fails)) =
       early_never a (inl (record { arena = b; out = out; fails = inr (mid, made, fails) }))
       (undrawn b out made.0 made.1 (preparing_drawn DeviceFault q Rx size mid a new b out fails)
@@ -199,9 +252,12 @@ module _ (x : BeginsApart) where
         let at = before_made q w origin h AtFirst (Sees Rxdctl false) old quiet.0 quiet.1 x.begins in
         let there : On x.course = on_of on x.along (λ done more e both own is. (at done more e both own is).0.ground)
         in
-        no_fault_led_on there (is_own a) (λ done more e both own is. (at done more e both own is).1) x.others
-        (harmless_apart (is_own a) mid mid both_first ([], sym (append-nil mid), tt)) found x.more
-        (x.made ∙ ap (λ (l : List Call). l ++ x.more) is)
+        let asks : Blocks = is_asked (calls_of w.pass h) in
+        no_fault_led_on there own (λ done more e both mine is. (at done more e both mine is).1) x.others
+        (harmless_apart own mid mid both_first ([], sym (append-nil mid), tt))
+        (found_asked (is_own a) asks found (λ n some.
+        new_asked n (subst (λ (l : List Call). is_asked l n ≡ true) (sym is) (asked_behind mid (made found) n some))))
+        x.more (x.made ∙ ap (λ (l : List Call). l ++ x.more) is)
 
   pub never_at_fault : FaultsEarly q size frame old a new ⊎ FaultsFilling q size frame old a new → ⊥
   never_at_fault (inl (inl y)) = receive_never y.arena y.out y.fails

@@ -1,5 +1,7 @@
 pub use Rattle.driver_laws.proofs as DriverLaws
+pub mod Asked
 pub mod Beside
+pub mod Closed
 pub mod Faultless
 pub mod Laying
 pub mod Lent

@@ -1,8 +1,8 @@
 -- A start of a driver behind and beside whatever calls of its author's, which finds no device at fault.
 use Rattle.std.specs.Prelude.{◌++◌, ◌≡◌, ◌≢◌, List, ℕ}
-use Rattle.driver_laws.specs.Before.{OnlyPassLends}
 use Rattle.driver_laws.specs.Prelude.{AreUp, AtPort, Call, DeviceFault, Entry, Numbers, Running, StartRefused}
-use Rattle.driver_laws.specs.Prelude.{StopsStarting, calls_of, is_own}
+use Rattle.driver_laws.specs.Prelude.{StopsStarting, calls_of}
+use Rattle.pmd_laws.specs.Asked.{OthersLendNone, asked_of}
 use Rattle.pmd_laws.specs.{Beside.IsRetold, Course.Course, Faultless.IsQuietAndFresh}
 use Rattle.pmd_laws.specs.Prelude.{BeforeNext, FaultsFilling}
 
@@ -14,8 +14,9 @@ StartAdds =
     (start : List Call) × (first : List Call) × (new ≡ old ++ start) × (up.receive.quiet.0 ≡ old ++ first)
 
 -- a legal history that leaves the queue alone as it is told anew, in which a start made these calls, behind others of
--- its pass or none, and maybe more came behind them. Just before its first access both sides were off, frames were
--- short and none of its arena's blocks was lent; and nobody else lends any of them, another pass or the author
+-- its pass or none, and maybe more came behind them. Just before its first access both sides were off and frames were
+-- short; and of its arena's blocks, those that it asks to lend weren't lent there, and nobody else lends any of them,
+-- another pass or the author
 pub record BeginsBeside : Type 0 where
   pub course : Course
   pub open course use *
@@ -23,8 +24,8 @@ pub record BeginsBeside : Type 0 where
   pub new : List Call
   pub ahead : List Call
   pub retold : IsRetold w origin h g
-  pub begins : BeforeNext w origin g ahead (IsQuietAndFresh w.queue q frame (is_own a))
-  pub others : OnlyPassLends w.pass (is_own a) g
+  pub begins : BeforeNext w origin g ahead (IsQuietAndFresh w.queue q frame (asked_of w a g))
+  pub others : OthersLendNone w.pass (asked_of w a g) g
   pub since : List Call
   pub made : new ≡ old ++ since
   pub more : List Call

@@ -1,11 +1,12 @@
--- A driver whose blocks nobody else lends: no call of its finds the device at fault, and nor does its start.
+-- A driver of whose arena others lend no block that it asks to lend: no call of its finds the device at fault, and nor
+-- does its start.
 use Rattle.std.specs.Prelude.{ℕ, IsTrue, IsFalse, List, ◌≡◌, ◌≢◌, ◌++◌, All, Option, Some, None, Result}
 use Rattle.driver_laws.specs.Prelude.{has_block, is_own, State, Blocks, calls_of, Call, WhereUp, halves_of, Running, StartRefused, most_blocks, PmdFault, DeviceFault, Packet, AtPort, FitsBlocks, StopsStarting}
+use Rattle.pmd_laws.specs.Asked.{OthersLendNone, asked_of}
 use Rattle.pmd_laws.specs.Course.{Course}
 use Rattle.pmd_laws.specs.Prelude.{BeforeLast, IsAlong, IsQuiet, BeforeNext, FaultsFilling}
 use Rattle.pmd.specs.Apart.{FindsBy}
 use Rattle.pmd.specs.Bursts.{IsSendBurst, SendsWith}
-use Rattle.driver_laws.specs.Before.{OnlyPassLends}
 use Rattle.pmd_laws.specs.Told.{Moment, Told, now}
 
 -- none of these blocks is lent
@@ -26,11 +27,13 @@ FindsFault m n =
     (λ r s. FindsBy DeviceFault (is_own r.arena) m.made (halves_of r) n.made)
 
 -- in its history the pass made the calls up to this last moment, and maybe more behind them. Just before the driver's
--- first access frames were short and none of its arena's blocks was lent; and no other pass lends any of them
+-- first access frames were short; and of its arena's blocks, those that its pass asks to lend weren't lent there, and no
+-- other pass lends any of them
 pub record IsToldApart (x : Told) (n : Moment) : Type 0 where
   pub fresh :
-      BeforeLast x.w x.origin x.h x.told.started.2.receive.quiet.0 (IsFresh x.w.queue x.frame (is_own x.a))
-  pub others : OnlyPassLends x.w.pass (is_own x.a) x.h
+      BeforeLast x.w x.origin x.h x.told.started.2.receive.quiet.0
+      (IsFresh x.w.queue x.frame (asked_of x.w x.a x.h))
+  pub others : OthersLendNone x.w.pass (asked_of x.w x.a x.h) x.h
   pub more : List Call
   pub made : calls_of x.w.pass x.h ≡ n.made ++ more
 
@@ -64,15 +67,15 @@ abbrev pub IsQuietAndFresh : ℕ → AtPort → ℕ → Blocks → State → Typ
 IsQuietAndFresh queue q frame own s = IsQuiet queue q frame s × IsFresh queue frame own s
 
 -- a legal history of a sound device that leaves the queue alone, in which a start made these calls, and maybe more came
--- behind them. Just before its first access both sides were off, frames were short and none of its arena's blocks was
--- lent; and no other pass lends any of them
+-- behind them. Just before its first access both sides were off and frames were short; and of its arena's blocks, those
+-- that its pass asks to lend weren't lent there, and no other pass lends any of them
 pub record BeginsApart : Type 0 where
   pub course : Course
   pub open course use *
   pub new : List Call
   pub along : IsAlong w origin h
-  pub begins : BeforeNext w origin h old (IsQuietAndFresh w.queue q frame (is_own a))
-  pub others : OnlyPassLends w.pass (is_own a) h
+  pub begins : BeforeNext w origin h old (IsQuietAndFresh w.queue q frame (asked_of w a h))
+  pub others : OthersLendNone w.pass (asked_of w a h) h
   pub more : List Call
   pub made : calls_of w.pass h ≡ new ++ more
 

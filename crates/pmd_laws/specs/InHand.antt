@@ -1,11 +1,16 @@
--- What was made of a device in hand, over which the laws of a driver's life are said: a history of it.
-use Rattle.std.specs.Prelude.{ℕ, ◌≡◌, ◌<◌, List, [], ◌++◌}
-use Rattle.driver_laws.specs.Prelude.{IsSound, State, AreEvents, IsLegal, calls_of, leads_to, Watched, Call, Entry, LeavesAloneFrom, entries_in, marked_entries}
+-- What was made of a device in hand, or of one that passes shared, over which the laws of a driver's life are said: a
+-- history of it.
+use Rattle.std.specs.Prelude.{ℕ, ◌≡◌, ◌<◌, ◌≤◌, List, [], ◌++◌}
+use Rattle.driver_laws.specs.Prelude.{IsSound, State, AreEvents, IsLegal, calls_of, leads_to, Watched, Call, Entry, LeavesAloneFrom, entries_in, marked_entries, new_state}
 use Rattle.pmd_laws.specs.Prelude.{IsAlong}
+use Rattle.pmd_laws.specs.Closed.{UpTo}
 use Rattle.device_lock.specs.Alone.{LeavesAlone}
+use Rattle.device_lock.specs.Closing.{Closes}
+use Rattle.device_lock.specs.Pass.{PassValue}
 use Rattle.pmd.specs.PmdSeam.Begun.{From, began_handled, began_in_hand}
 use Rattle.pmd.specs.PmdSeam.Made.{InHand}
 use Rattle.pmd.specs.PmdSeam.Scheduled.{Handled, made_of}
+use Rattle.pmd.specs.PmdSeam.Stepped.{AtLock}
 
 -- what is known to have been made of a device from this state on, before it came into hand, and it may be nothing: a
 -- legal history, in which no entry is of pass 0. The state is any that a device can be in, new or used, with an EEPROM
@@ -42,3 +47,32 @@ InterleavedIsHistory =
     began_handled i (From (leads_to s before)) →
     LeavesAloneFrom (in_hand s queue) s (before ++ marked_entries i.calls i.own) →
     IsHistoryOf s queue (before ++ marked_entries i.calls i.own) (made_of i) i.device
+
+-- a device that was new, of so many virtual functions and with room for so many frames, was shared; and these passes
+-- closed this history of it, as `close` tells, and `history` of what it gives
+pub record IsClosed (vfs fifo : ℕ) (h : List Entry) (ps : List PassValue) : Type 0 where
+  -- as `Shared::new` asks
+  pub device : (vfs ≤ 63) × (0 < fifo) × (fifo ≤ 4096)
+  pub bench : ℕ
+  pub count : ℕ
+  pub closes : Closes bench count h ps
+  pub legal : IsLegal (new_state vfs fifo) h
+  pub events : AreEvents h
+
+-- the driver of a shared device makes the calls of its pass
+abbrev pub at_lock : (vfs tag queue : ℕ) → Watched
+at_lock vfs tag queue = record { vfs = vfs; pass = tag; queue = queue }
+
+-- a history is along from the device that was new, and the pass made these calls in it
+pub record IsHistoryAtLock (vfs fifo tag queue : ℕ) (h : List Entry) (calls : List Call) : Type 0 where
+  pub along : IsAlong (at_lock vfs tag queue) (new_state vfs fifo) h
+  pub made : calls_of tag h ≡ calls
+
+-- the calls through a `ThroughLock`, as the way had them at any time, are one up to each place where its pass had made
+-- just these, where `left_alone` says so of its tag and the queue. There is such a place, with the last of them at its
+-- end, where the pass is among those that closed the history, with these calls and maybe more behind them (`CallsStand`)
+abbrev pub ClosedIsHistory : Type 0
+ClosedIsHistory =
+    (vfs fifo queue : ℕ) (h : List Entry) (ps : List PassValue) (t : AtLock) → queue < 128 → IsClosed vfs fifo h ps →
+    LeavesAlone (at_lock vfs t.pass.tag queue) h → (u : UpTo t.pass.tag h t.pass.calls) →
+    IsHistoryAtLock vfs fifo t.pass.tag queue u.done t.pass.calls

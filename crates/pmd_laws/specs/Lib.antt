@@ -1,9 +1,12 @@
 pub use Rattle.driver_laws.specs as DriverLaws
+pub mod Asked
+pub mod Begun
 pub mod Beside
 pub mod BesideApart
 pub mod BesideRoom
 pub mod BesideStart
 pub mod BesideStop
+pub mod Closed
 pub mod Course
 pub mod Ends
 pub mod Faultless

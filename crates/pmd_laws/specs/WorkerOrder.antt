@@ -1,10 +1,10 @@
 -- What the end of a worker says of the history in which its pass was closed.
-use Rattle.std.specs.Prelude.{[], ◌++◌, ◌<◌, ◌∷◌, ◌≡◌, ◌≤◌, ◌⊎◌, Contains, List, None, ℕ, length}
-use Rattle.pmd_laws.specs.{Points.JustBefore, Prelude.IsQuiet}
-use Rattle.pmd_laws.specs.DriverLaws.Prelude.{AreEvents, AtPort, Call, Entry, IsLegal, bytes_of, calls_of, delivered}
+use Rattle.std.specs.Prelude.{[], ◌<◌, ◌∷◌, ◌≡◌, ◌≤◌, ◌⊎◌, List, None, ℕ, length}
+use Rattle.pmd_laws.specs.{Closed.UpTo, Points.JustBefore, Prelude.IsQuiet}
+use Rattle.pmd_laws.specs.DriverLaws.Prelude.{AreEvents, AtPort, Entry, IsLegal, bytes_of, delivered}
 use Rattle.pmd_laws.specs.DriverLaws.Prelude.{leads_to, left_accepted, left_handed, new_state, sent_since}
-use Rattle.workers.specs.{Beginning.BeginsWell, DeviceLock.Alone.LeavesAlone, DeviceLock.Closing.Closes}
-use Rattle.workers.specs.{DeviceLock.Pass.PassValue, Ends.AreEnds, Starts.Starts, declared.beginning.Given.Given}
+use Rattle.workers.specs.{Beginning.BeginsWell, DeviceLock.Alone.LeavesAlone, Ends.AreEnds, Starts.Starts}
+use Rattle.workers.specs.declared.beginning.Given.{Given}
 use Rattle.workers.specs.{declared.ends.WorkerEnd.WorkerEnd, declared.job.Job.Job}
 use Rattle.pmd_laws.specs.DriverLaws.RingLaws.Delivered as receive
 use Rattle.pmd_laws.specs.DriverLaws.RingLaws.Laws as transmit
@@ -22,31 +22,6 @@ abbrev pub IsEndAmong : List Job → List WorkerEnd → Job → WorkerEnd → Ty
 IsEndAmong [] ends j e = ⊥
 IsEndAmong (k ∷ jobs) [] j e = ⊥
 IsEndAmong (k ∷ jobs) (f ∷ ends) j e = ((j ≡ k) × (e ≡ f)) ⊎ IsEndAmong jobs ends j e
-
--- a pass is among some, with the calls that it had, and maybe more behind them
-pub record IsAmong (ps : List PassValue) (pass : PassValue) : Type 0 where
-  pub later : PassValue
-  pub among : Contains ps later
-  pub tag : later.tag ≡ pass.tag
-  pub more : List Call
-  pub calls : later.calls ≡ pass.calls ++ more
-
--- the entries of a history up to where a pass had made just these calls
-pub record UpTo (tag : ℕ) (h : List Entry) (calls : List Call) : Type 0 where
-  pub done : List Entry
-  pub rest : List Entry
-  pub all : done ++ rest ≡ h
-  pub made : calls_of tag done ≡ calls
-
--- where there are some, the last of them is the pass's own
-abbrev pub EndOwn : ℕ → List Entry → Type 0
-EndOwn tag done = (before : List Entry) (e : Entry) → before ++ e ∷ [] ≡ done → e.pass ≡ tag
-
--- where passes close a history, the calls that one of them had stand in it, up to the last of them
-abbrev pub CallsStand : Type 0
-CallsStand =
-    (bench count : ℕ) (h : List Entry) (ps : List PassValue) (pass : PassValue) → Closes bench count h ps →
-    IsAmong ps pass → (u : UpTo pass.tag h pass.calls) × EndOwn pass.tag u.done
 
 -- a job's end, and the history of a device of so many virtual functions that takes so many frames
 pub record IsEndIn (vfs fifo : ℕ) (h : List Entry) (j : Job) (e : WorkerEnd) : Type 0 where

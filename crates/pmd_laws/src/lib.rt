@@ -21,10 +21,11 @@ ghost use Rattle.pmd_laws.specs.BesideApart as apart;
 ghost use Rattle.pmd_laws.specs.BesideRoom as room;
 ghost use Rattle.pmd_laws.specs.BesideStart as start;
 ghost use Rattle.pmd_laws.specs.BesideStop as stop;
+ghost use Rattle.pmd_laws.specs.Closed.{CallsStand};
 ghost use Rattle.pmd_laws.specs.Ends.{HandedOverStop, LeftIsPrefix, SentOverStop};
 ghost use Rattle.pmd_laws.specs.Faultless.{NoBurstMeetsFault, NoCallFindsFault, NoFillingFindsFault, NoStartFindsFault};
 ghost use Rattle.pmd_laws.specs.FullRing.{FullHasNoRoom, NoneHasNoRoom};
-ghost use Rattle.pmd_laws.specs.InHand.{DirectIsHistory, InterleavedIsHistory};
+ghost use Rattle.pmd_laws.specs.InHand.{ClosedIsHistory, DirectIsHistory, InterleavedIsHistory};
 ghost use Rattle.pmd_laws.specs.Lends.{LifeLendsApart};
 ghost use Rattle.pmd_laws.specs.Looks.{CallsEnd, NoneIsAllAtFirst, NoneIsAllBefore};
 ghost use Rattle.pmd_laws.specs.Order.{HandedIsPrefix, NoneIsAll, NoneIsAllTaken, SentIsPrefix, IdleIsAllSent};
@@ -43,9 +44,16 @@ ghost use Rattle.pmd_laws.specs.Waits.{WaitingIsNotAllBefore, WaitingIsNotAllAsT
 /// that led as the way was made, as `began` tells of a new one, and each call of a driver keeps; and that the history
 /// leaves the queue alone. Of a `Direct` what `device_lock::left_alone` answers suffices, whatever the state; of an
 /// `Interleaved` where no image is installed and the queues weren't parted there.
+///
+/// The calls that were made through a `pmd_seam::ThroughLock` are one of a device that was new, as the passes that
+/// closed its history made it: up to the last of them, of whichever tag the pass is, where `left_alone` of what `close`
+/// gives answers so of that tag and the queue. They stand in it, up to an entry of that pass. What the laws ask of where
+/// a driver starts there is told by `workers::begins_well`, as `worker::worker_begins_well` says.
 pub fn calls_in_hand_are_a_history()
     ensures direct { DirectIsHistory }
     ensures interleaved { InterleavedIsHistory }
+    ensures stands { CallsStand }
+    ensures closed { ClosedIsHistory }
 {}
 
 /// Over a legal history of any sound device that leaves the driver's queue alone, whose pass made the calls of a start
@@ -68,8 +76,8 @@ pub fn lives_lend_apart()
     ensures { LifeLendsApart }
 {}
 
-/// Where the frames that wait for the queue fit a packet of the driver just before its first access, none of its
-/// arena's blocks is lent there, and no other pass lends any of them: no call of `rx`, `tx`, `reap`, `rx_burst` or
+/// Where the frames that wait for the queue fit a packet of the driver just before its first access, and of its arena's
+/// blocks those that its pass asks to lend aren't lent there, and no other pass lends any of them: no call of `rx`, `tx`, `reap`, `rx_burst` or
 /// `tx_burst` that comes after its start ends with the device at fault, over a legal history that leaves the queue
 /// alone, whatever harmless calls its author makes between through the same pass. Nor does a `tx_burst` meet it at
 /// fault that answers how many packets were accepted.
@@ -86,9 +94,10 @@ pub fn no_start_finds_the_device_at_fault()
 {}
 
 /// Over a legal history of any sound device that leaves the queue alone, where a `start` answered a driver and its
-/// calls came since: each block that the driver has out with a half is lent at the device. Where no block of its arena
-/// was lent just before its first access, and no other pass lends any, each of them that is lent there is out with a
-/// half. So each that was free in the arena as it came is in one place: free there, in hand, or lent to the device.
+/// calls came since: each block that the driver has out with a half is lent at the device. Where of its arena's blocks
+/// those that its pass asks to lend weren't lent just before its first access, and no other pass lends any of them, each
+/// of them that is lent there is out with a half. So each that was free in the arena as it came is in one place: free
+/// there, in hand, or lent to the device; those that the driver gave out of hand others may have lent.
 pub fn blocks_out_are_lent_at_the_device()
     ensures lent { OutIsLent }
     ensures known { LentIsOut }
@@ -168,8 +177,8 @@ pub fn driver_beside_any_calls_in_order()
     ensures interleaved { beside.InterleavedIsRetold }
 {}
 
-/// Where nobody else lends a block of its arena, neither another pass nor its author beside it, and just before its
-/// first access none of these is lent and the frames that wait for its queue fit its packets: no call of such a driver
+/// Where nobody else lends a block of its arena that it asks to lend, neither another pass nor its author beside it, and
+/// just before its first access none of these is lent and the frames that wait for its queue fit its packets: no call of such a driver
 /// finds the device at fault. The blocks that it has out are those of its arena that are lent at the device, and each
 /// is in one place.
 pub fn driver_beside_any_calls_keeps_its_blocks()

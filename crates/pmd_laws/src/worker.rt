@@ -2,12 +2,15 @@
 //!
 //! Each law is the contract of a function that does nothing. `specs/Order` says the first by what
 //! `workers::run_workers`, the closing of a shared device and `left_alone` tell, and `workers::begins_well` beside it;
-//! `specs/Quiet` says the second by what `workers::never_asked_on` tells, `specs/Lending` the third by what
-//! `workers::others_lend_none` tells, and `specs/Fitting` the fourth by what `workers::frames_fit` tells.
+//! `specs/Begun` says the second by what `workers::begins_well` tells, `specs/Quiet` the third by what
+//! `workers::never_asked_on` tells, `specs/Lending` the fourth by what `workers::others_lend_none` tells, and
+//! `specs/Fitting` the fifth by what `workers::frames_fit` tells.
 
+ghost use Rattle.pmd_laws.specs.Begun.{BegunHasGround};
 ghost use Rattle.pmd_laws.specs.Fitting.{FramesFitIsShort};
 ghost use Rattle.pmd_laws.specs.Lending.{OthersLendNoneIsAlone};
-ghost use Rattle.pmd_laws.specs.WorkerOrder.{CallsStand, HandedIsPrefix, NoneIsLeft, SentIsPrefix};
+ghost use Rattle.pmd_laws.specs.Closed.{CallsStand};
+ghost use Rattle.pmd_laws.specs.WorkerOrder.{HandedIsPrefix, NoneIsLeft, SentIsPrefix};
 ghost use Rattle.pmd_laws.specs.Quiet.{NeverAskedIsQuiet};
 
 /// Over the history of a shared device that was closed, which leaves the queue of a job alone: the packets that the
@@ -26,6 +29,13 @@ pub fn worker_in_order()
     ensures sent { SentIsPrefix }
 {}
 
+/// Over the history of a device that was new: where `begins_well` says so of a driver, its port and queue name the
+/// watched queue just before the first event of the driver's own, and the device's frame limit is that of its frames,
+/// as `worker_in_order` asks, and the laws of `pmd_laws` on a driver's life ask behind the same calls of its pass.
+pub fn worker_begins_well()
+    ensures { BegunHasGround }
+{}
+
 /// Over the history of a device that was new: where `begins_well` says so of a driver, and `never_asked_on` of its
 /// queue, both sides of the queue are off and not wanted on just before the first event of the driver's own, as
 /// `worker_in_order` asks where a worker's end has a fault.
@@ -34,8 +44,8 @@ pub fn worker_starts_quiet()
 {}
 
 /// Over a legal history of a device that was new: where `others_lend_none` says so of a driver and of its arena's
-/// blocks, no other pass lends any of these in the whole history, and none of them is lent just before the first event
-/// of the driver's own. That is what is asked of blocks by `pmd_laws::no_call_finds_the_device_at_fault`,
+/// blocks, no other pass lends any of those that the driver's pass asks to lend, and none of them is lent just before the
+/// first event of the driver's own. That is what is asked of blocks by `pmd_laws::no_call_finds_the_device_at_fault`,
 /// `no_start_finds_the_device_at_fault` and `blocks_out_are_lent_at_the_device`.
 pub fn worker_has_its_blocks_alone()
     ensures { OthersLendNoneIsAlone }

@@ -3,8 +3,12 @@ use Rattle.driver_laws.specs.Prelude.{entries_in}
 use Rattle.pmd_laws.proofs.Prelude.{LeadsTo, LeavesAloneFrom, List, State, [], after, ap, arith, calls_joined, calls_of}
 use Rattle.pmd_laws.proofs.Prelude.{calls_other, common_steps, events-append, false, has_begun, leads-append, leads_to}
 use Rattle.pmd_laws.proofs.Prelude.{led, legal-append, refl, ℕ, ◌++◌, ◌<◌, ◌==◌, ◌∷◌, ◌≡◌}
-use Rattle.pmd_laws.proofs.{Beside.own_are, Faultless.made, Prelude.Call, Prelude.Entry, Prelude.IsTrue}
-use Rattle.pmd_laws.specs.InHand.{IsHistoryOf, WasMade, in_hand}
+use Rattle.pmd_laws.proofs.{Beside.own_are, Closed.calls_stand, Faultless.made, Order.along_before, Prelude.Call}
+use Rattle.pmd_laws.proofs.{Prelude.Entry, Prelude.IsTrue, Prelude.new_sound, Prelude.new_state}
+use Rattle.pmd_laws.proofs.{DriverLaws.HistoryLaws.Alone.new_is_left_alone}
+use Rattle.pmd_laws.specs.InHand.{IsClosed, IsHistoryAtLock, IsHistoryOf, WasMade, at_lock, in_hand}
+use Rattle.pmd_laws.specs.Closed.{UpTo}
+use Rattle.device_lock.specs.{Alone.LeavesAlone, Pass.PassValue}
 
 history : (s : State) (queue : ℕ) (before h : List Entry) (calls : List Call) (device : State) → queue < 128
     → WasMade s before → LeadsTo (leads_to s before) h device → calls_of 0 h ≡ calls
@@ -39,6 +43,26 @@ own_behind (x ∷ before) calls [] e after none is begun = cc
 own_behind (x ∷ before) calls (y ∷ b) e after none is begun =
     grind (arith, common_steps, not_first, calls_other, own_behind before calls b e after)
 
+-- the calls of a pass to a shared device, up to a place in the history that closed
+
+closed_before : (vfs fifo tag queue : ℕ) (h : List Entry) (ps : List PassValue) (calls : List Call) → queue < 128
+    → IsClosed vfs fifo h ps → LeavesAlone (at_lock vfs tag queue) h → (u : UpTo tag h calls)
+    → IsHistoryAtLock vfs fifo tag queue u.done calls
+closed_before vfs fifo tag queue h ps calls small x alone u =
+    let w = at_lock vfs tag queue in
+    let new = new_sound vfs fifo x.device.0 x.device.1 x.device.2 in
+    record {
+      along = along_before w (new_state vfs fifo) u.done u.rest u.all (record {
+        small = small;
+        sound = new;
+        vfs = refl;
+        events = x.events;
+        legal = x.legal;
+        alone = new_is_left_alone w fifo h new x.events alone;
+      });
+      made = u.made;
+    }
+
 pub returns : Rattle.pmd_laws.proofs.calls_in_hand_are_a_history.Goals.returns
 returns c = record {
   direct = λ s queue before d small was began alone.
@@ -46,4 +70,6 @@ returns c = record {
       (grind (arith, common_steps, own_behind));
   interleaved = λ s queue before i small was began alone.
       history s queue before _ _ i.device small was began (own_are i.calls i.own) alone;
+  stands = calls_stand;
+  closed = λ vfs fifo queue h ps t small x alone. closed_before vfs fifo t.pass.tag queue h ps t.pass.calls small x alone;
 }

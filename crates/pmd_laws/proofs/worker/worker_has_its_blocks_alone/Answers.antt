@@ -1,12 +1,18 @@
 -- What the entries of a history tell of the blocks that are lent is so of the device.
 use Rattle.pmd_laws.proofs.DriverLaws.HistoryLaws.Lent.{AllFollow, follows_known, not_so}
 use Rattle.pmd_laws.proofs.Prelude.{AreEvents, Block, Blocks, Entry, Event, IsEvent, IsLegal, List, NoneLent, OnlyLent}
-use Rattle.pmd_laws.proofs.Prelude.{OnlyPassLends, Reply, State, [], after, ap, arith, both_ways, common_steps}
+use Rattle.driver_laws.specs.Before.{is_asked}
+use Rattle.pmd_laws.proofs.Asked.{Both}
+use Rattle.pmd_laws.proofs.Prelude.{IsTrue, Reply, State, [], after, and_parts, ap, arith, both_ways, calls_of, common_steps}
+use Rattle.pmd_laws.proofs.Prelude.{◌++◌, ◌≡◌, ◌≢◌}
+use Rattle.pmd_laws.specs.Asked.{OthersLendNone, asked_of}
+use Rattle.driver_laws.specs.Prelude.{LendsNone}
+use Rattle.nic_device.specs.declared.event.Event.TheVariants as event
 use Rattle.pmd_laws.proofs.Prelude.{events_before, false, has_block, is_own, is_some, leads_to, legal_before, lends}
 use Rattle.pmd_laws.proofs.Prelude.{nat_cmp, nat_lt, new_state, refl, reply_to, subst, sym, ℕ, ◌&&◌, ◌||◌, ◌∷◌}
 use Rattle.pmd_laws.proofs.WorkerTold.{holds_at_first}
 use Rattle.std.{proofs.lemmas.Bool.Decides.nat_tests, proofs.lemmas.Bool.or_left, specs.Prelude.not}
-use Rattle.workers.specs.Lending.{takes}
+use Rattle.workers.specs.Lending.{lends_none, takes}
 use Rattle.workers.specs.{Before.known_through, Lending.lent_behind, Lending.lent_through, Lending.no_block}
 use Rattle.std.specs.FinMap as map
 use Rattle.workers.specs.Lending as told
@@ -36,14 +42,31 @@ lent_along own known s (e ∷ es) legal events only =
 
 -- where the entries say that others lend none of a driver's blocks, they do so for those laws
 
-only_lends : (pass : ℕ) (own : Blocks) (h : List Entry) → told.OnlyPassLends pass own h → OnlyPassLends pass own h
-only_lends pass own [] none = tt
-only_lends pass own (e ∷ es) none = (λ other. grind (arith, common_steps), only_lends pass own es none.1)
+-- an event that lends none of some blocks lends none of them that are asked for
+lends_fewer : (own asks : Blocks) (e : Event Block) → IsTrue (lends_none own e) → LendsNone (Both own asks) e
+lends_fewer own asks (event.Lend block) none = grind (arith, common_steps)
+lends_fewer own asks other none = tt
+
+spared : (pass : ℕ) (own asks : Blocks) (h : List Entry) → told.OnlyPassLends pass own h → (before : List Entry)
+    (e : Entry) (behind : List Entry) → h ≡ before ++ e ∷ behind → e.pass ≢ pass → LendsNone (Both own asks) e.event
+spared pass own asks [] none [] e behind is other = cc
+spared pass own asks [] none (c ∷ before) e behind is other = cc
+spared pass own asks (d ∷ h) none [] e behind is other =
+    let same : d ≡ e = cc in
+    lends_fewer own asks e.event
+    (subst (λ (x : Entry). x.pass ≢ pass → IsTrue (lends_none own x.event)) same none.0 other)
+spared pass own asks (d ∷ h) none (c ∷ before) e behind is other =
+    spared pass own asks h none.1 before e behind (cc) other
+
+told_none : (pass : ℕ) (own asks : Blocks) (h : List Entry) → told.OnlyPassLends pass own h
+    → OthersLendNone pass (Both own asks) h
+told_none pass own asks h none before e behind is begun other = spared pass own asks h none before e behind is other
 
 pub returns : Rattle.pmd_laws.proofs.worker.worker_has_its_blocks_alone.Goals.returns
 returns c w fifo old a h legal events others = (
-  only_lends w.pass (is_own a) h others.others,
-  holds_at_first w fifo old h (NoneLent (is_own a)) (λ x number own.
+  told_none w.pass (is_own a) (is_asked (calls_of w.pass h)) h others.others,
+  holds_at_first w fifo old h (NoneLent (asked_of w a h)) (λ x number both.
+      let own = (and_parts (is_own a number) (is_asked (calls_of w.pass h) number) both).0 in
       let new : State = new_state w.vfs fifo in
       let rest = x.first ∷ x.behind in
       let known =

@@ -7,14 +7,15 @@ use Rattle.pmd_laws.proofs.Prelude.{arith, around, bytes_of, call_in, call_of, c
 use Rattle.pmd_laws.proofs.Prelude.{common_steps, delivered, drives_lead, eq-eqb, false, halted_of, halves_of, inl, inr}
 use Rattle.pmd_laws.proofs.Prelude.{is_step, leads_to, left_accepted, left_handed, new_sound, new_state, none_behind}
 use Rattle.pmd_laws.proofs.Prelude.{refl, rules, same_from_push, sent_since, subst, sym, ℕ, ⊎_elim, ◌++◌, ◌∙◌, ◌∷◌, ◌≡◌}
+use Rattle.pmd_laws.proofs.Closed.{calls_stand, isnt_none}
 use Rattle.pmd_laws.proofs.WorkerTold.{ground_there, named_below, starts_more}
 use Rattle.pmd_laws.proofs.{DriverLaws.HistoryLaws.Alone.new_is_left_alone, Lent.last_or_none, Order.along_before}
 use Rattle.pmd_laws.proofs.{Order.along_behind, Order.life_of, Prelude.AreSteps, Prelude.AreUp, Prelude.AtPort}
 use Rattle.pmd_laws.proofs.{Prelude.◌≢◌, Prelude.◌⊎◌, Refused.left_in_order, Shifted.Behind, Shifted.Shifts}
 use Rattle.pmd_laws.proofs.{Shifted.rings, Shifted.up_behind, StopCalls.stopped_takes, StopCalls.takes_ends}
 use Rattle.pmd_laws.proofs.{StopCalls.takes_shift, Stopped.over_stop, Stopped.sent_over, WorkerTold.calls_from}
-use Rattle.pmd_laws.specs.WorkerOrder.{UpTo, given_of, queue_of}
-use Rattle.pmd_laws.specs.{Points.JustBefore, WorkerOrder.EndOwn, WorkerOrder.IsEndAmong, WorkerOrder.IsEndIn}
+use Rattle.pmd_laws.specs.{Closed.UpTo, Points.JustBefore, WorkerOrder.IsEndAmong, WorkerOrder.IsEndIn}
+use Rattle.pmd_laws.specs.WorkerOrder.{given_of, queue_of}
 use Rattle.workers.specs.declared.{ends.WorkerEnd.WorkerEnd, fault.WorkerFault.TheVariants.NoThread, job.Job.Job}
 use Rattle.workers.specs.{DeviceLock.Closing.StandsIn, Ends.AreEnds, Ends.IsEnd, Lived.HasRun, Starts.Starts}
 use Rattle.nic_device.specs.declared.event.Event.TheVariants as event
@@ -24,10 +25,6 @@ use Rattle.pmd_laws.specs.DriverLaws.RingLaws.Laws as transmit
 
 -- A driver that lived: what it left, counted from its first event on. From there on its history is one by itself, in
 -- which the driver lived, behind no calls of its pass.
-
-isnt_none : {A : Type 0} (xs : List A) (x : A) (more : List A) → xs ++ x ∷ more ≢ []
-isnt_none [] x more is = cc
-isnt_none (y ∷ xs) x more is = cc
 
 -- the first of some calls that is no step of the device
 one_first : (xs ys : List Call) (c d : Call) (cs ds : List Call) → AreSteps xs → AreSteps ys → IsFalse (is_step c.event)
@@ -120,28 +117,6 @@ module _ (w : Watched) (origin : State) (h : List Entry) {q : AtPort} {size fram
 
 -- What a worker's end tells.
 
--- the calls that a pass had stand in the history that it closes
-
-up_to : (tag : ℕ) (h : List Entry) (calls more : List Call) → calls_of tag h ≡ calls ++ more
-    → (u : UpTo tag h calls) × EndOwn tag u.done
-up_to tag h calls more is =
-    ⊎_elim
-    (λ none.
-    (record { done = []; rest = h; all = refl; made = sym none }, λ before e both. absurd (isnt_none before e [] both)))
-    (λ (l : (before : List Call) × (c : Call) × (calls ≡ before ++ c ∷ [])).
-    let (front, c, ends) = l in
-    let x = around tag h front c more
-    (is ∙ ap (λ (l : List Call). l ++ more) ends ∙ append_assoc front (c ∷ []) more) in (
-      record {
-        done = x.before ++ x.entry ∷ [];
-        rest = x.behind;
-        all = append_assoc x.before (x.entry ∷ []) x.behind ∙ x.all;
-        made = grind (arith, common_steps, calls_joined, calls_own);
-      },
-      λ before e both. ap (λ (f : Entry). f.pass) (same_from_push before x.before e x.entry both).1 ∙ x.own,
-    ))
-    (last_or_none calls)
-
 -- the end of a job among some
 end_of : (jobs : List Job) (ran : List WorkerEnd) (j : Job) (e : WorkerEnd) → AreEnds jobs ran
     → IsEndAmong jobs ran j e → IsEnd j e
@@ -213,10 +188,7 @@ module _ (vfs fifo : ℕ) (h : List Entry) (j : Job) (e : WorkerEnd) (x : IsEndI
 
 pub returns : Rattle.pmd_laws.proofs.worker.worker_in_order.Goals.returns
 returns c = record {
-  stands = λ bench count h ps pass closes x.
-      let (k, low, is) = x.among in
-      let stands : calls_of x.later.tag h ≡ x.later.calls = subst (StandsIn h) is (closes.stand k x.later low) in
-      up_to pass.tag h pass.calls x.more (ap (λ (tag : ℕ). calls_of tag h) (sym x.tag) ∙ stands ∙ x.calls);
+  stands = calls_stand;
   none = starts_or_none;
   handed = λ vfs fifo h j e x u s. (in_order vfs fifo h j e x u s).0;
   sent = λ vfs fifo h j e x u s. (in_order vfs fifo h j e x u s).1;

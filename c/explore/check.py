@@ -5,10 +5,8 @@
 
 from __future__ import annotations
 
-import os
 import re
 import subprocess
-import sys
 import xml.etree.ElementTree
 from dataclasses import dataclass
 from pathlib import Path
@@ -90,6 +88,32 @@ def check_corpus(kit: Kit, runs: int, preemptions: int) -> str:
     return f"{len(corpus())} bugs found, and their twins pass"
 
 
+# --- the examples ---
+
+WRONG_PMDS = {
+    1: "check: a packet was handed out that isn't one",
+    2: "end: a frame went out with the bytes of another",
+    3: "end: a frame didn't go out",
+    4: "end: idle is told, and a packet is outstanding",
+}
+
+
+def check_examples(kit: Kit, runs: int) -> str:
+    """The guide's example fails and its mended form passes; `pmd` retold passes, and each wrong one is found."""
+    out = kit.folder / "examples"
+    out.mkdir(exist_ok=True)
+    words = ["--quiet", "--jobs", 2, "--out", out]
+    race, pmd = HERE / "examples/race.c", HERE / "examples/pmd.c"
+    told(ran([kit.build(race), *words], 1), "FAILED end: a frame lies in the ring", "race")
+    told(ran([kit.build(race, "FIXED"), *words, "--strategy", "exhaustive"]), "these are all schedules", "race, fixed")
+    for wrong, wanted in WRONG_PMDS.items():
+        told(ran([kit.build(pmd, f"WRONG={wrong}"), *words], 1), f"FAILED {wanted}", f"pmd {wrong}")
+    right = kit.build(pmd)
+    ran([right, *words, "--runs", runs])
+    ran([right, *words, "--strategy", "exhaustive", "--preemptions", 1])
+    return f"race, pmd and {len(WRONG_PMDS)} wrong ones"
+
+
 # --- how faults are told ---
 
 FAULTS = {
@@ -141,16 +165,17 @@ def check_faults(kit: Kit) -> str:
     out.mkdir(exist_ok=True)
     for mode, wanted in FAULTS.items():
         junit = out / "result.xml"
-        words = [program, mode, "--quiet", "--jobs", 2, "--hang", 1, "--out", out, "--junit", junit]
+        words = [program, mode, "--quiet", "--jobs", 2, "--out", out, "--junit", junit]
         if mode in ("hang", "endless"):
-            words.append("--no-shrink")
+            words += ["--no-shrink", "--hang", 2]
         told(ran(words, 1), f"FAILED {wanted}", mode)
         failure = xml.etree.ElementTree.parse(junit).find("testcase/failure")
         if failure is None or not (failure.text or "").strip().startswith("# "):
             raise Wrong(f"{mode}: the JUnit file has no failure with its schedule")
         if mode not in ("crash", "exit", "hang"):
             told(ran([program, mode, "--replay", out / "faulty.schedule"], 1), "FAILED", mode)
-    told(ran([program, "strange", "--quiet", "--jobs", 1, "--strategy", "exhaustive", "--out", out], 1), "went another", "")
+    words = [program, "strange", "--quiet", "--jobs", 1, "--strategy", "exhaustive", "--out", out]
+    told(ran(words, 1), "misuse: a schedule went another way", "strange")
     ran([program, "fine", "--quiet", "--runs", 500, "--out", out, "--junit", out / "result.xml"])
     if xml.etree.ElementTree.parse(out / "result.xml").find("testcase/failure") is not None:
         raise Wrong("a search without a failure has one in its JUnit file")
@@ -195,30 +220,17 @@ def check_orders(kit: Kit, states: int) -> str:
 def sanitized_explorer(folder: Path, compiler: str, flags: list[str]) -> Path:
     """The engine itself with the sanitizers' checks in it."""
     made = folder / "explorer"
-    ran(["make", "-s", "-C", C, f"OUT={made}", f"CC={compiler}", f"EXPLORE_FLAGS={' '.join(flags)}", made / "libnic82599_explore.a"])
-    return made / "libnic82599_explore.a"
+    archive = made / "libnic82599_explore.a"
+    ran(["make", "-s", "-C", C, f"OUT={made}", f"CC={compiler}", f"EXPLORE_FLAGS={' '.join(flags)}", archive])
+    return archive
 
 
-def main() -> int:
-    folder = C / "out/explore-check"
-    folder.mkdir(parents=True, exist_ok=True)
-    sys.path[:0] = [str(C.parent / "dev"), str(C.parent / "python")]
-    from register_table import TABLE
-
-    addresses = [run.first + run.stride * k for row in TABLE for run in row.runs for k in range(run.count)]
-    (folder / "addresses.inc").write_text("".join(f"ADDRESS({one})\n" for one in addresses))
-    flags = sys.argv[1:] or ["-O2"]
-    nicbench = os.environ.get("NICBENCH") or str(C.parent / "nicbench")
-    kit = Kit(folder, os.environ.get("CC", "gcc"), flags, C / "out/libnic82599_explore.a", nicbench)
-    if "-fsanitize=address" in " ".join(flags):
-        kit.explorer = sanitized_explorer(folder, kit.compiler, flags)
-    for part in (lambda: check_faults(kit), lambda: check_refusals(kit), lambda: check_orders(kit, 500), lambda: check_corpus(kit, 3000, 1)):
-        print(part(), flush=True)
-    return 0
-
-
-if __name__ == "__main__":
-    try:
-        sys.exit(main())
-    except Wrong as fault:
-        sys.exit(f"FAILED: {fault}")
+def check_quickly(kit: Kit, few: bool) -> list[str]:
+    """All that is here, in some seconds; with `few` also under the sanitizers."""
+    return [
+        check_faults(kit),
+        check_refusals(kit),
+        check_orders(kit, 100 if few else 1000),
+        check_corpus(kit, 500 if few else 3000, 1),
+        check_examples(kit, 500 if few else 3000),
+    ]

@@ -1,8 +1,8 @@
 /* Searches for the order of steps that breaks a driver. A scenario is a driver's code as tasks and interrupt handlers
-   over one controller of nic82599.h. Each access of a task is a point at which anybody may act: another task, a handler,
-   a step of the device, the next frame, the link. A schedule says who acts at each point, so a run can be repeated, and
-   a failing one is kept in a file, shrunk, and told as a script of the device's side. docs/explore.md begins with an
-   example.
+   over one controller of nic82599.h. Each access of a task is a point at which anybody may act: another task, a
+   handler, a step of the device, the next frame, the link. A schedule says who acts at each point, so a run can be
+   repeated, and a failing one is kept in a file, shrunk, and told as a script of the device's side. docs/explore.md
+   begins with an example.
 
    This part is tested, not proved. Schedules of one process are made one after the other on one thread; tasks run on
    stacks of their own. The calls below are made in the scenario's functions, in tasks and in handlers, and nowhere
@@ -73,7 +73,8 @@ int nicx_service(const char *name, void (*function)(void *), void *argument);
    a task, which doesn't go on before the handler has returned, NICX_ANYWHERE or NICX_BESIDE. A message that comes while
    its handler is still to start starts it once; one that comes while it runs starts it again afterwards. A message
    without a handler starts nothing. */
-void nicx_handler(const char *name, uint16_t group, uint8_t vector, void (*function)(void *), void *argument, int where);
+void nicx_handler(const char *name, uint16_t group, uint8_t vector, void (*function)(void *), void *argument,
+                  int where);
 
 /* A frame that will come, after those that were named before; its bytes are copied. At most 16,384 bytes. */
 void nicx_frame(const uint8_t *frame, size_t length);
@@ -147,17 +148,17 @@ int nicx_main(int argc, char **argv, const nicx_scenario *scenario);
 
 enum nicx_outcome {
     NICX_FINE = 0,
-    NICX_END = 1,       /* `end` said what is wrong */
-    NICX_ALWAYS = 2,    /* `always` did */
-    NICX_DEADLOCK = 3,  /* tasks wait, and nobody can act */
-    NICX_ENDLESS = 4,   /* more points than a schedule may have */
-    NICX_FAULT = 5,     /* a queue's fault */
-    NICX_MEMORY = 6,    /* the driver's access of memory that isn't lent */
-    NICX_CHECK = 7,     /* nicx_fail */
-    NICX_MISUSE = 8,    /* a call that can't be made there, as the unlocking of a lock that another holds */
-    NICX_CRASH = 9,     /* a signal ended the process */
-    NICX_HANG = 10,     /* a task made no point for ten seconds */
-    NICX_UNFIT = 11     /* a schedule that was to be followed to the letter doesn't fit the scenario */
+    NICX_END = 1,      /* `end` said what is wrong */
+    NICX_ALWAYS = 2,   /* `always` did */
+    NICX_DEADLOCK = 3, /* tasks wait, and nobody can act */
+    NICX_ENDLESS = 4,  /* more points than a schedule may have */
+    NICX_FAULT = 5,    /* a queue's fault */
+    NICX_MEMORY = 6,   /* the driver's access of memory that isn't lent */
+    NICX_CHECK = 7,    /* nicx_fail */
+    NICX_MISUSE = 8,   /* a call that can't be made there, as the unlocking of a lock that another holds */
+    NICX_CRASH = 9,    /* a signal ended the process */
+    NICX_HANG = 10,    /* a task made no point for ten seconds */
+    NICX_UNFIT = 11    /* a schedule that was to be followed to the letter doesn't fit the scenario */
 };
 
 typedef struct nicx_result {

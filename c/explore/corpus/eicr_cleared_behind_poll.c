@@ -62,8 +62,13 @@ static const char *end(void)
 }
 
 static const nicx_scenario scenario = {
-    .name = "eicr_cleared_behind_poll", .fifo = 64, .blocks = 16, .queues = 1,
-    .bring_up = bring_up, .begin = begin, .end = end,
+    .name = "eicr_cleared_behind_poll",
+    .fifo = 64,
+    .blocks = 16,
+    .queues = 1,
+    .bring_up = bring_up,
+    .begin = begin,
+    .end = end,
 };
 
 int main(int argc, char **argv)

@@ -59,8 +59,13 @@ static const char *end(void)
 }
 
 static const nicx_scenario scenario = {
-    .name = "lock_in_handler_and_poll", .fifo = 64, .blocks = 16, .queues = 1,
-    .bring_up = bring_up, .begin = begin, .end = end,
+    .name = "lock_in_handler_and_poll",
+    .fifo = 64,
+    .blocks = 16,
+    .queues = 1,
+    .bring_up = bring_up,
+    .begin = begin,
+    .end = end,
 };
 
 int main(int argc, char **argv)

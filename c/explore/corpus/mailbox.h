@@ -5,8 +5,14 @@
 #include "card.h"
 
 enum {
-    REQ = 1, ACK = 2, VFU = 4, PFU = 8, PFSTS = 16, PFACK = 32, RSTD = 128, /* of the function's VFMAILBOX */
-    STS = 1,                                                                /* of the host's PFMAILBOX, with ACK, PFU */
+    REQ = 1,
+    ACK = 2,
+    VFU = 4,
+    PFU = 8,
+    PFSTS = 16,
+    PFACK = 32,
+    RSTD = 128, /* of the function's VFMAILBOX */
+    STS = 1,    /* of the host's PFMAILBOX, with ACK, PFU */
     VFMAILBOX = 0x2FC,
     VFMBMEM = 0x200,
     DEVICE_READY = 0x4000 /* CTRL_EXT: the functions may start */

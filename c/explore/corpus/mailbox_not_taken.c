@@ -76,12 +76,20 @@ static void begin(void)
 
 static const char *end(void)
 {
-    return !driver.read ? "the host read no message" : driver.mixed ? "the host read another message than was sent" : NULL;
+    return !driver.read   ? "the host read no message"
+           : driver.mixed ? "the host read another message than was sent"
+                          : NULL;
 }
 
 static const nicx_scenario scenario = {
-    .name = "mailbox_not_taken", .vfs = 1, .fifo = 64, .blocks = 16, .queues = 1,
-    .bring_up = bring_up, .begin = begin, .end = end,
+    .name = "mailbox_not_taken",
+    .vfs = 1,
+    .fifo = 64,
+    .blocks = 16,
+    .queues = 1,
+    .bring_up = bring_up,
+    .begin = begin,
+    .end = end,
 };
 
 int main(int argc, char **argv)

@@ -64,8 +64,14 @@ static const char *end(void)
 }
 
 static const nicx_scenario scenario = {
-    .name = "message_before_ack", .vfs = 1, .fifo = 64, .blocks = 16, .queues = 1,
-    .bring_up = bring_up, .begin = begin, .end = end,
+    .name = "message_before_ack",
+    .vfs = 1,
+    .fifo = 64,
+    .blocks = 16,
+    .queues = 1,
+    .bring_up = bring_up,
+    .begin = begin,
+    .end = end,
 };
 
 int main(int argc, char **argv)

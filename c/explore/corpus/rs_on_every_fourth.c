@@ -48,8 +48,13 @@ static const char *end(void)
 }
 
 static const nicx_scenario scenario = {
-    .name = "rs_on_every_fourth", .fifo = 64, .blocks = 16, .queues = 1,
-    .bring_up = bring_up, .begin = begin, .end = end,
+    .name = "rs_on_every_fourth",
+    .fifo = 64,
+    .blocks = 16,
+    .queues = 1,
+    .bring_up = bring_up,
+    .begin = begin,
+    .end = end,
 };
 
 int main(int argc, char **argv)

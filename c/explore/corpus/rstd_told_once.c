@@ -61,8 +61,14 @@ static const char *end(void)
 }
 
 static const nicx_scenario scenario = {
-    .name = "rstd_told_once", .vfs = 1, .fifo = 64, .blocks = 16, .queues = 1,
-    .bring_up = bring_up, .begin = begin, .end = end,
+    .name = "rstd_told_once",
+    .vfs = 1,
+    .fifo = 64,
+    .blocks = 16,
+    .queues = 1,
+    .bring_up = bring_up,
+    .begin = begin,
+    .end = end,
 };
 
 int main(int argc, char **argv)

@@ -35,8 +35,13 @@ static const char *end(void)
 }
 
 static const nicx_scenario scenario = {
-    .name = "stop_that_does_not_wait", .fifo = 64, .blocks = 16, .queues = 1,
-    .bring_up = bring_up, .begin = begin, .end = end,
+    .name = "stop_that_does_not_wait",
+    .fifo = 64,
+    .blocks = 16,
+    .queues = 1,
+    .bring_up = bring_up,
+    .begin = begin,
+    .end = end,
 };
 
 int main(int argc, char **argv)

@@ -58,8 +58,13 @@ static const char *end(void)
 }
 
 static const nicx_scenario scenario = {
-    .name = "tail_meets_head", .fifo = 64, .blocks = 16, .queues = 1,
-    .bring_up = bring_up, .begin = begin, .end = end,
+    .name = "tail_meets_head",
+    .fifo = 64,
+    .blocks = 16,
+    .queues = 1,
+    .bring_up = bring_up,
+    .begin = begin,
+    .end = end,
 };
 
 int main(int argc, char **argv)

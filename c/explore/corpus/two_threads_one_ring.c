@@ -52,8 +52,13 @@ static const char *end(void)
 }
 
 static const nicx_scenario scenario = {
-    .name = "two_threads_one_ring", .fifo = 64, .blocks = 16, .queues = 1,
-    .bring_up = bring_up, .begin = begin, .end = end,
+    .name = "two_threads_one_ring",
+    .fifo = 64,
+    .blocks = 16,
+    .queues = 1,
+    .bring_up = bring_up,
+    .begin = begin,
+    .end = end,
 };
 
 int main(int argc, char **argv)

@@ -70,8 +70,13 @@ static const char *end(void)
 }
 
 static const nicx_scenario scenario = {
-    .name = "unmasked_before_last_look", .fifo = 64, .blocks = 16, .queues = 1,
-    .bring_up = bring_up, .begin = begin, .end = end,
+    .name = "unmasked_before_last_look",
+    .fifo = 64,
+    .blocks = 16,
+    .queues = 1,
+    .bring_up = bring_up,
+    .begin = begin,
+    .end = end,
 };
 
 int main(int argc, char **argv)

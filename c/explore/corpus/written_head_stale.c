@@ -44,8 +44,13 @@ static const char *end(void)
 }
 
 static const nicx_scenario scenario = {
-    .name = "written_head_stale", .fifo = 64, .blocks = 16, .queues = 1,
-    .bring_up = bring_up, .begin = begin, .end = end,
+    .name = "written_head_stale",
+    .fifo = 64,
+    .blocks = 16,
+    .queues = 1,
+    .bring_up = bring_up,
+    .begin = begin,
+    .end = end,
 };
 
 int main(int argc, char **argv)

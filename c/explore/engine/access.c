@@ -71,7 +71,9 @@ static void judge(const struct step *step)
     if (step->status != NIC_NOT_LENT || !nicxi.self || (nicxi.scenario->allowed & NICX_NOT_LENT))
         return;
     nicxi_failed(NICX_MEMORY, "%s %s 0x%llx, which isn't lent", nicxi.self->name,
-                 step->kind == STEP_PEEK ? "reads" : step->kind == STEP_POKE ? "writes" : "takes back",
+                 step->kind == STEP_PEEK   ? "reads"
+                 : step->kind == STEP_POKE ? "writes"
+                                           : "takes back",
                  (unsigned long long)step->bus);
     nicxi_next(nicxi.self);
 }

@@ -181,8 +181,7 @@ static void judge(const struct step *step)
     if (step->status != NIC_FAULT || (nicxi.scenario->allowed & NICX_FAULTS))
         return;
     if (step->told.why == NIC_FAULT_NOT_LENT)
-        nicxi_failed(NICX_FAULT, "queue %u: 0x%llx isn't lent", step->told.queue,
-                     (unsigned long long)step->told.bus);
+        nicxi_failed(NICX_FAULT, "queue %u: 0x%llx isn't lent", step->told.queue, (unsigned long long)step->told.bus);
     else
         nicxi_failed(NICX_FAULT, "queue %u: %s", step->told.queue, nic_fault_name(step->told.why));
 }

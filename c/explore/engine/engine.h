@@ -75,43 +75,32 @@ struct thread {
     uint8_t state;
     uint8_t stack;
     bool is_service;
-    bool is_void;         /* since it waited it has changed nothing that can be seen */
-    uint64_t voided;      /* the changes there were as it last acted without one */
-    bool pending;         /* a handler that is to start */
-    int interrupted_by;   /* of a task: the handler thread that sits on it, or -1 */
-    int on;               /* of a handler: the task that it sits on, or -1 */
+    bool is_void;       /* since it waited it has changed nothing that can be seen */
+    uint64_t voided;    /* the changes there were as it last acted without one */
+    bool pending;       /* a handler that is to start */
+    int interrupted_by; /* of a task: the handler thread that sits on it, or -1 */
+    int on;             /* of a handler: the task that it sits on, or -1 */
     unsigned masked;
-    uint64_t own, seen;   /* acts of its own; acts of others as it last went on */
+    uint64_t own, seen; /* acts of its own; acts of others as it last went on */
     bool (*condition)(void *);
     void *condition_argument;
     nicx_mutex *lock;
-    struct step next;     /* before what it stands */
-    uint32_t polled[2];   /* the read that it made last, and what it gave */
-    uint32_t polls;       /* how often in a row */
-    uint16_t group;       /* of a handler */
+    struct step next;   /* before what it stands */
+    uint32_t polled[2]; /* the read that it made last, and what it gave */
+    uint32_t polls;     /* how often in a row */
+    uint16_t group;     /* of a handler */
     uint8_t vector;
     int where;
 };
 
-enum actor_kind {
-    BY_THREAD,
-    BY_START,
-    BY_RX,
-    BY_TX,
-    BY_RX_ENABLE,
-    BY_TX_ENABLE,
-    BY_INT,
-    BY_EEPROM,
-    BY_WIRE,
-    BY_LINK
-};
+enum actor_kind { BY_THREAD, BY_START, BY_RX, BY_TX, BY_RX_ENABLE, BY_TX_ENABLE, BY_INT, BY_EEPROM, BY_WIRE, BY_LINK };
 
 struct actor {
     uint8_t kind;
-    bool idle;   /* a step of the device that had nothing to do, and nothing came up since */
-    uint16_t of;   /* a thread, a queue, a group */
-    int on;        /* of a start: the task, or -1 */
-    uint32_t last; /* one more than the point at which it acted last; 0 where it didn't */
+    bool idle;               /* a step of the device that had nothing to do, and nothing came up since */
+    uint16_t of;             /* a thread, a queue, a group */
+    int on;                  /* of a start: the task, or -1 */
+    uint32_t last;           /* one more than the point at which it acted last; 0 where it didn't */
     uint32_t offered, since; /* the last point at which it could act, and from which on it could without doing so */
 };
 
@@ -129,7 +118,7 @@ struct engine {
     const nicx_scenario *scenario;
     nic device;
     nic_kept kept;
-    bool is_copied; /* the device goes back by a copy of its memory, and not by nic_restore */
+    bool is_copied;  /* the device goes back by a copy of its memory, and not by nic_restore */
     bool is_changed; /* since it was brought back */
     bool is_idle;    /* as it was kept it has no step to make */
     uint8_t phase;
@@ -154,8 +143,8 @@ struct engine {
     volatile uint32_t *points;
     uint32_t own_points;
     uint32_t switches;
-    bool is_cut;        /* the chooser ended the schedule */
-    uint32_t late;      /* steps that were thought to be idle and weren't: none, or the rules of waking are wrong */
+    bool is_cut;   /* the chooser ended the schedule */
+    uint32_t late; /* steps that were thought to be idle and weren't: none, or the rules of waking are wrong */
     uint16_t can[MOST_ACTORS];
     nicx_result result;
     nicxi_listener *listener;

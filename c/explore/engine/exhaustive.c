@@ -12,7 +12,7 @@ enum { PATIENCE = 32, IDLE = 0x8000 };
 /* A step that was made at a point, and all that follows it there was searched. */
 struct asleep {
     uint16_t actor;
-    bool goes_on; /* its actor could go on behind it */
+    bool goes_on;  /* its actor could go on behind it */
     uint32_t left; /* preemptions that were left behind it */
     struct step step;
 };
@@ -20,11 +20,11 @@ struct asleep {
 /* A point of the schedule that is searched. `can` and `asleep` begin at places in lists of all points. */
 struct node {
     uint32_t can, count;
-    uint32_t at;      /* which is tried; `count` where none is left */
-    uint32_t left;    /* preemptions that are left before it */
+    uint32_t at;   /* which is tried; `count` where none is left */
+    uint32_t left; /* preemptions that are left before it */
     uint32_t asleep, inherited, asleep_count;
-    bool is_current;  /* the first of those that can act is the one that acted last */
-    bool is_alone;    /* its choice has waited for so long that no other one is made here */
+    bool is_current; /* the first of those that can act is the one that acted last */
+    bool is_alone;   /* its choice has waited for so long that no other one is made here */
 };
 
 struct exhaustive {
@@ -33,9 +33,9 @@ struct exhaustive {
     struct parts *parts;
     uint64_t mine, seen, part;
     struct node *nodes;
-    uint32_t depth;     /* how many nodes there are */
-    uint32_t root;      /* of them, how many have the first schedule's choice */
-    uint32_t asked;     /* the point that was asked for last */
+    uint32_t depth; /* how many nodes there are */
+    uint32_t root;  /* of them, how many have the first schedule's choice */
+    uint32_t asked; /* the point that was asked for last */
     uint16_t *can;
     uint32_t can_count, can_room;
     struct asleep *asleep;

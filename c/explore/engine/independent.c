@@ -4,8 +4,9 @@
    one of the two leaves alone. What a step looks at is told by its definition, and by the laws on what it does; that is
    no law of its own, so c/explore/tests/orders.c makes both orders of each row's steps from states by chance.
 
-   Steps are meant that do something, each with what it answered. What has no row isn't independent: two steps of the driver, since both may touch the driver's own memory; steps that
-   count or raise causes, as two of receiving and transmitting do; and accesses of virtual functions. */
+   Steps are meant that do something, each with what it answered. What has no row isn't independent: two steps of the
+   driver, since both may touch the driver's own memory; steps that count or raise causes, as two of receiving and
+   transmitting do; and accesses of virtual functions. */
 #include "independent.h"
 
 /* --- of which side of a queue a register is --- */
@@ -93,7 +94,8 @@ static bool writes_other_blocks(const struct step *a, const struct step *b)
 {
     const nic_told *told = &b->told;
     if (b->status == NIC_WROTE)
-        return !share_a_block(a->bus, a->length, told->desc, 16) && !share_a_block(a->bus, a->length, told->at, told->len);
+        return !share_a_block(a->bus, a->length, told->desc, 16) &&
+               !share_a_block(a->bus, a->length, told->at, told->len);
     return !told->back || !share_a_block(a->bus, a->length, told->at, 16);
 }
 

@@ -11,8 +11,8 @@ enum { UNBOUNDED = 1000000 };
 
 struct options {
     enum strategy strategy;
-    uint64_t runs;        /* at most so many schedules; 0: as many as there are, or as time allows */
-    uint64_t first;       /* the first run of the seed */
+    uint64_t runs;  /* at most so many schedules; 0: as many as there are, or as time allows */
+    uint64_t first; /* the first run of the seed */
     uint64_t seed;
     double seconds;       /* at most so long; 0: no bound */
     uint32_t depth;       /* of priorities: 1 to 16 */

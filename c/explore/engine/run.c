@@ -44,7 +44,8 @@ void nicxi_went_on(struct thread *self)
 }
 
 /* A thread came to its next point. One that waits again and has changed nothing that can be seen may have changed the
-   driver's own memory, so it counts as an act, but once for each change: else two that look at each other never rest. */
+   driver's own memory, so it counts as an act, but once for each change: else two that look at each other never rest.
+ */
 static void note_act(struct thread *self)
 {
     if (nicxi.steps && *nicxi.points)

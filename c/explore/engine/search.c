@@ -87,9 +87,8 @@ static void search_by_chance(struct post *post, const struct job *job)
         bool by_priority = is_by_priority(options, run);
         post->run = run;
         post->strategy = by_priority ? PRIORITIES : RANDOM;
-        nicx_chooser chooser = by_priority
-                                   ? nicxi_by_priority(&priorities, options->seed, run, options->depth, length)
-                                   : nicxi_by_chance(&chance, options->seed, run);
+        nicx_chooser chooser = by_priority ? nicxi_by_priority(&priorities, options->seed, run, options->depth, length)
+                                           : nicxi_by_chance(&chance, options->seed, run);
         if (make(post, &chooser))
             return;
     }
@@ -97,8 +96,8 @@ static void search_by_chance(struct post *post, const struct job *job)
 
 static void search_all(struct post *post, const struct job *job)
 {
-    struct exhaustive *state = nicxi_exhaustive(job->options->preemptions, !job->options->no_sleep,
-                                                &job->common->parts);
+    struct exhaustive *state =
+        nicxi_exhaustive(job->options->preemptions, !job->options->no_sleep, &job->common->parts);
     post->strategy = EXHAUSTIVE;
     while (state && nicxi_exhaustive_next(state)) {
         uint64_t run = nicxi_exhaustive_part(state);

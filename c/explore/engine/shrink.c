@@ -1,9 +1,11 @@
 /* A schedule that fails is cut and merged for as long as one with fewer switches, or as few and fewer points, fails the
    same way. Each try is made in a process of its own, so a driver that crashes is shrunk as any other. */
 #define _DEFAULT_SOURCE
+#include <fcntl.h>
 #include <stdlib.h>
 #include <string.h>
 #include <time.h>
+#include <unistd.h>
 
 #include "search.h"
 
@@ -27,10 +29,22 @@ static double now(void)
     return (double)time.tv_sec + (double)time.tv_nsec * 1e-9;
 }
 
+/* What the driver prints, and what a sanitizer says of a crash, was seen once. */
+static void be_quiet(void)
+{
+    int nowhere = open("/dev/null", O_WRONLY);
+    if (nowhere < 0)
+        return;
+    dup2(nowhere, STDOUT_FILENO);
+    dup2(nowhere, STDERR_FILENO);
+    close(nowhere);
+}
+
 static void follow(struct post *post, void *argument)
 {
     const struct shrinking *it = argument;
     struct by_list state;
+    be_quiet();
     nicx_chooser chooser = nicxi_by_list(&state, it->list, it->length, false);
     nicx_run(&chooser, &post->result);
     post->is_found = post->result.outcome != NICX_FINE;
@@ -56,7 +70,7 @@ static bool is_better(const struct shrinking *it)
     const nicx_result *new = &it->post->result, *old = &it->best->result;
     if (new->outcome != old->outcome || !are_alike(new->words, old->words))
         return false;
-    return new->switches < old->switches || (new->switches == old->switches && new->points < old->points);
+    return new->switches < old->switches || (new->switches == old->switches &&new->points < old->points);
 }
 
 static bool is_over(const struct shrinking *it)

@@ -94,8 +94,8 @@ static uint32_t choose_to_the_letter(void *argument, const uint16_t *can, uint32
     state->unfit = point;
     state->is_trying = false;
     uint32_t k = point < state->length ? place_of(state->list[point], can, count) : count;
-    if (k == count && (point < state->length ? nicxi_may_come(state->list[point], can, count)
-                                             : nicxi_may_be_idle(can, count))) {
+    if (k == count &&
+        (point < state->length ? nicxi_may_come(state->list[point], can, count) : nicxi_may_be_idle(can, count))) {
         state->is_trying = true;
         return 0;
     }

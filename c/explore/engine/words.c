@@ -11,9 +11,7 @@ static const char *told_words(const struct step *step, char *room)
         snprintf(room, MOST_WORDS, "wrote queue %u slot %u %s", told->queue, told->slot, told->end ? "end" : "more");
         break;
     case NIC_ADVANCED: snprintf(room, MOST_WORDS, "advanced queue %u slot %u", told->queue, told->slot); break;
-    case NIC_SENT:
-        snprintf(room, MOST_WORDS, "sent queue %u len %u", told->queue, (unsigned)told->len);
-        break;
+    case NIC_SENT: snprintf(room, MOST_WORDS, "sent queue %u len %u", told->queue, (unsigned)told->len); break;
     case NIC_FAULT: snprintf(room, MOST_WORDS, "fault queue %u %s", told->queue, nic_fault_name(told->why)); break;
     case NIC_MESSAGE:
         if (told->group)

@@ -66,7 +66,7 @@ static void fault(void *unused)
     if (is("interrupts"))
         nicx_interrupts_off();
     if (is("waits"))
-        nicx_wait_until((bool (*)(void *))(uintptr_t)is, (void *)(uintptr_t)"never");
+        nicx_wait_until((bool (*)(void *))(uintptr_t)is, (void *)(uintptr_t) "never");
 }
 
 static void begin(void)
@@ -103,8 +103,15 @@ int main(int argc, char **argv)
 {
     mode = argc > 1 ? argv[1] : "fine";
     nicx_scenario scenario = {
-        .name = "faulty", .fifo = 64, .blocks = 16, .queues = 1, .points = 200,
-        .bring_up = bring_up, .begin = begin, .always = always, .end = end,
+        .name = "faulty",
+        .fifo = 64,
+        .blocks = 16,
+        .queues = 1,
+        .points = 200,
+        .bring_up = bring_up,
+        .begin = begin,
+        .always = always,
+        .end = end,
     };
     if (is("fifo"))
         scenario.fifo = 0;

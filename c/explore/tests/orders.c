@@ -1,6 +1,6 @@
 /* `orders STATES SEED`: from so many states by chance, pairs of steps of each row of the table of independent steps are
-   made in both orders. Both must answer the same and lead to the same state: all registers, lent memory, frames. A state
-   is first compared by its bytes; where these differ, by all that the calls show. */
+   made in both orders. Both must answer the same and lead to the same state: all registers, lent memory, frames. A
+   state is first compared by its bytes; where these differ, by all that the calls show. */
 #include <stdio.h>
 #include <stdlib.h>
 #include <string.h>
@@ -70,7 +70,8 @@ static void fill_rings(unsigned queue)
         nic_put64(&n, ring_of(queue, 0) + 16 * slot, some_bus());
         nic_put64(&n, ring_of(queue, 1) + 16 * slot, some_bus());
         nic_put64(&n, ring_of(queue, 1) + 16 * slot + 8,
-                  below(6) ? 0x2000000000300000u | (0x20u | below(12)) << 24 | (20 + below(200)) : chance_next(&chance));
+                  below(6) ? 0x2000000000300000u | (0x20u | below(12)) << 24 | (20 + below(200))
+                           : chance_next(&chance));
     }
     nic_write32(&n, NIC_RDT(queue), below(9));
     nic_write32(&n, NIC_TDT(queue), below(9));
@@ -140,10 +141,10 @@ static void some_steps(void)
         case 0: nic_rx_step(&n, &told); break;
         case 1: nic_tx_step(&n, (uint16_t)below(QUEUES), &told); break;
         case 2: nic_int_step(&n, (uint8_t)below(VFS + 1), &told); break;
-        case 3: nic_write32(&n, addresses[below(ADDRESSES - 1) + 1], (uint32_t)chance_next(&chance) & ~(1u << 26)); break;
-        default:
-            some_frame(frame, &length);
-            nic_arrive(&n, frame, length, &told);
+        case 3:
+            nic_write32(&n, addresses[below(ADDRESSES - 1) + 1], (uint32_t)chance_next(&chance) & ~(1u << 26));
+            break;
+        default: some_frame(frame, &length); nic_arrive(&n, frame, length, &told);
         }
 }
 
@@ -260,7 +261,8 @@ static uint64_t sum_of_going_on(uint64_t sum)
     size_t count = 0;
     nic_settle(&n, QUEUES, told, MOST_OUT, &count);
     for (size_t k = 0; k < count; k++) {
-        sum = mixed(sum, (uint64_t)told[k].status << 40 | (uint64_t)told[k].step << 32 | told[k].queue << 16 | told[k].slot);
+        sum = mixed(sum,
+                    (uint64_t)told[k].status << 40 | (uint64_t)told[k].step << 32 | told[k].queue << 16 | told[k].slot);
         sum = mixed(sum, told[k].at ^ told[k].desc << 20 ^ told[k].len << 40 ^ told[k].why ^ told[k].vector << 8);
     }
     return sum;

@@ -1,0 +1,145 @@
+/* The poll-mode driver of this repository (crates/pmd) retold in C, without its moving of blocks: packets are copied.
+   A worker receives, sends back what came, and reaps until all is idle. With -DWRONG=1 to 4 it is one of the wrong
+   drivers that its proof rules out: a slot is taken without DD; a slot is taken twice; a packet is accepted and
+   dropped; idle is told early. */
+#include "card.h"
+
+#ifndef WRONG
+#define WRONG 0
+#endif
+
+enum { FRAMES = 3, POSTED = 4, MOST_OUT = 2, TX_BUFFERS = POSTED };
+
+struct packet {
+    uint8_t bytes[FRAME];
+    unsigned len;
+};
+
+static struct {
+    unsigned next, tail; /* of the receive ring: the slot that is looked at, the first that isn't posted */
+    unsigned oldest, free,
+        outstanding; /* of the transmit ring: the one to reap, the first free one, how many are out */
+    unsigned handed, accepted;
+    bool idle_early;
+} pmd;
+
+/* --- the driver --- */
+
+static void post(unsigned slot)
+{
+    nicx_put64(RX_RING + 16 * slot, buffer(slot % POSTED));
+    nicx_put64(RX_RING + 16 * slot + 8, 0);
+}
+
+static bool rx(struct packet *packet)
+{
+    uint64_t second = nicx_get64(RX_RING + 16 * pmd.next + 8);
+    if (WRONG != 1 && !(second & DD))
+        return false;
+    packet->len = second >> 32 & 0xFFFF;
+    nicx_dma_read(buffer(pmd.next % POSTED), packet->bytes, FRAME);
+    pmd.handed++;
+    if (WRONG == 2 && pmd.handed == 1)
+        return true;
+    post(pmd.tail);
+    pmd.next = (pmd.next + 1) % SLOTS;
+    pmd.tail = (pmd.tail + 1) % SLOTS;
+    nicx_write32(NIC_RDT(0), pmd.tail);
+    return true;
+}
+
+/* False where the ring is full. */
+static bool tx(const struct packet *packet)
+{
+    if (pmd.outstanding == MOST_OUT) {
+        pmd.accepted += WRONG == 3;
+        return WRONG == 3;
+    }
+    unsigned number = TX_BUFFERS + pmd.free % MOST_OUT;
+    nicx_dma_write(buffer(number), packet->bytes, FRAME);
+    put_transmit(pmd.free, number, EOP_RS);
+    pmd.free = (pmd.free + 1) % SLOTS;
+    nicx_write32(NIC_TDT(0), pmd.free);
+    pmd.outstanding++;
+    pmd.accepted++;
+    return true;
+}
+
+/* Whether no packet is outstanding. */
+static bool reap(void)
+{
+    while (pmd.outstanding && is_done(TX_RING, pmd.oldest, TX_DONE)) {
+        pmd.oldest = (pmd.oldest + 1) % SLOTS;
+        pmd.outstanding--;
+        if (WRONG == 4)
+            return true;
+    }
+    return !pmd.outstanding;
+}
+
+/* --- what is asked of it --- */
+
+static void see_whether_idle(void)
+{
+    uint32_t head = 0, tail = 0;
+    nic_peek32(nicx_device(), NIC_TDH(0), &head);
+    nic_peek32(nicx_device(), NIC_TDT(0), &tail);
+    pmd.idle_early |= head != tail;
+}
+
+static void work(void *unused)
+{
+    (void)unused;
+    while (pmd.handed < FRAMES) {
+        struct packet packet;
+        if (!rx(&packet)) {
+            nicx_wait();
+            continue;
+        }
+        nicx_check(packet.len == FRAME, "a packet was handed out that isn't one");
+        while (!tx(&packet)) {
+            reap();
+            if (pmd.outstanding == MOST_OUT)
+                nicx_wait();
+        }
+    }
+    while (!reap())
+        nicx_wait();
+    see_whether_idle();
+}
+
+static const char *bring_up(void)
+{
+    lend_blocks(POSTED + MOST_OUT);
+    bring_up_receive(POSTED);
+    bring_up_transmit();
+    return NULL;
+}
+
+static void begin(void)
+{
+    memset(&pmd, 0, sizeof pmd);
+    pmd.tail = POSTED;
+    nicx_task("work", work, NULL);
+    frames_come(FRAMES);
+}
+
+static const char *end(void)
+{
+    return pmd.idle_early ? "idle is told, and a packet is outstanding" : went_out(FRAMES);
+}
+
+static const nicx_scenario scenario = {
+    .name = "pmd",
+    .fifo = 64,
+    .blocks = 16,
+    .queues = 1,
+    .bring_up = bring_up,
+    .begin = begin,
+    .end = end,
+};
+
+int main(int argc, char **argv)
+{
+    return nicx_main(argc, argv, &scenario);
+}

@@ -8,11 +8,8 @@
 #include "verdict.h"
 
 #define BLOCKS 65536u
-#define FRAME_ROOM 16384
 #define WORDS (BUS_SPACE / 4)
 #define QUEUE_STEP 0x40u
-#define VECTORS 16
-#define OTHER_CAUSES 0x3FFF0000u /* of EICR: those that are no queue's */
 #define CTRL_RESETS (NIC_CTRL_RST | NIC_CTRL_LRST)
 
 enum kind {
@@ -37,76 +34,7 @@ static struct place places[WORDS];
 #define counts bus_inside.counts
 #define hooks bus_inside.options.hooks
 
-/* ---- device steps ---- */
-
-static void fault(const char *where, const nic_told *told)
-{
-    counts.faults++;
-    fprintf(stderr, "bus: a fault in %s, queue %u slot %u: %s, bus address 0x%" PRIx64 "\n", where, told->queue,
-            told->slot, nic_fault_name(told->why), told->bus);
-}
-
-static void collect(uint16_t queue)
-{
-    static uint8_t room[FRAME_ROOM];
-    nic_told told;
-    if (nic_collect(bus_device(), room, sizeof room, &told) != NIC_FRAME)
-        return;
-    if (++counts.frames_out == bus_inside.options.turn_out)
-        room[told.len - 1] ^= 1;
-    if (bus_inside.sink)
-        bus_inside.sink(queue, room, told.len);
-}
-
-static void transmit(uint16_t queue)
-{
-    for (;;) {
-        nic_told told;
-        uint8_t status = nic_tx_step(bus_device(), queue, &told);
-        if (status == NIC_FAULT)
-            fault("sending", &told);
-        if (status != NIC_ADVANCED && status != NIC_SENT)
-            return;
-        counts.transmit_steps++;
-        if (told.back)
-            memory_written_back(queue, told.at);
-        if (status == NIC_SENT)
-            collect(queue);
-    }
-}
-
-static void wrote(const nic_told *told)
-{
-    memory_to_driver(told->at, told->len);
-    memory_to_driver(told->desc, BUS_SLOT);
-    counts.receive_steps++;
-    if (told->end && ++counts.frames_in == bus_inside.options.turn_in) {
-        uint8_t *last = memory_at(told->at + told->len - 1, 1);
-        if (last)
-            *last ^= 1;
-    }
-    if (hooks.filled)
-        hooks.filled(told->queue, told->end);
-}
-
-unsigned int bus_receive(void)
-{
-    for (unsigned int written = 0;;) {
-        nic_told told;
-        switch (nic_rx_step(bus_device(), &told)) {
-        case NIC_WROTE:
-            wrote(&told);
-            written++;
-            break;
-        case NIC_DROPPED:
-            counts.drops++;
-            counts.drop_whys[told.why % 16]++;
-            break;
-        case NIC_FAULT: fault("receiving", &told); break;
-        default: return written;
-        }
-    }
-}
+/* ---- registers ---- */
 
 /* What the driver polls happens now: the enable of a queue, a word of the EEPROM. */
 static void act(struct place place)
@@ -117,19 +45,6 @@ static void act(struct place place)
     else if (place.kind == EEPROM)
         answer_eeprom();
 }
-
-bool bus_is_settled(uint16_t queues)
-{
-    nic_told told[16];
-    size_t count = 0;
-    uint8_t status = nic_settle(bus_device(), queues, told, sizeof told / sizeof *told, &count);
-    for (size_t i = 0; i < count; i++)
-        fprintf(stderr, "bus: left to do: %s of %u: %s\n", nic_step_name(told[i].step), told[i].of,
-                nic_status_name(told[i].status));
-    return status == NIC_DONE && count == 0;
-}
-
-/* ---- registers ---- */
 
 unsigned int bus_pool_queues(void)
 {
@@ -275,7 +190,7 @@ void bus_write(unsigned int function, uint32_t offset, uint32_t word)
     if (bus_inside.options.acts_at_writes)
         act(place);
     if (place.kind == TRANSMIT_TAIL)
-        transmit(place.queue);
+        steps_transmit(place.queue);
     if (hooks.tail && (place.kind == TRANSMIT_TAIL || place.kind == RECEIVE_TAIL))
         hooks.tail(place.kind == TRANSMIT_TAIL, place.queue);
     if (hooks.written)
@@ -292,62 +207,6 @@ uint32_t bus_peek(uint32_t address)
     uint32_t word = 0;
     nic_peek32(bus_device(), address, &word);
     return word;
-}
-
-/* ---- frames ---- */
-
-void bus_send_to(bus_sink *to)
-{
-    bus_inside.sink = to;
-}
-
-bool bus_arrive(const uint8_t *frame, size_t length)
-{
-    nic_told told;
-    if (nic_arrive(bus_device(), frame, length, &told) == NIC_DONE)
-        return true;
-    counts.not_let_in++;
-    counts.arrive_whys[told.why % 16]++;
-    return false;
-}
-
-unsigned int bus_room(uint16_t queue)
-{
-    uint32_t slots = bus_peek(NIC_RDLEN(queue)) / BUS_SLOT;
-    if (!(bus_peek(NIC_RXDCTL(queue)) & NIC_RXDCTL_ENABLE) || slots == 0)
-        return 0;
-    return (bus_peek(NIC_RDT(queue)) + slots - bus_peek(NIC_RDH(queue))) % slots;
-}
-
-unsigned int bus_least_room(void)
-{
-    unsigned int least = UINT32_MAX;
-    for (uint16_t queue = 0; queue < BUS_QUEUES; queue++)
-        if (bus_peek(NIC_RXDCTL(queue)) & NIC_RXDCTL_ENABLE && bus_room(queue) < least)
-            least = bus_room(queue);
-    return least == UINT32_MAX ? 0 : least;
-}
-
-/* ---- interrupts ---- */
-
-unsigned int bus_messages(void (*message)(unsigned int function, unsigned int vector))
-{
-    unsigned int all = 0;
-    for (unsigned int function = 0; function <= bus_inside.options.functions; function++) {
-        nic_told told;
-        while (nic_int_step(bus_device(), (uint8_t)function, &told) == NIC_MESSAGE) {
-            counts.messages[function]++;
-            counts.vectors[function] |= 1u << told.vector % VECTORS;
-            message(function, told.vector);
-            all++;
-        }
-    }
-    return all;
-}
-
-bool bus_line(void)
-{
-    return (bus_peek(NIC_EICR) & bus_peek(NIC_EIMS) & OTHER_CAUSES) != 0;
 }
 
 /* ---- the whole ---- */

@@ -14,6 +14,9 @@ struct bus_inside {
 
 extern struct bus_inside bus_inside;
 
+/* steps.c: sends all that a queue has */
+void steps_transmit(uint16_t queue);
+
 /* memory.c */
 void memory_begin(void);
 

@@ -8,25 +8,58 @@ use std::sync::atomic::{AtomicU64, Ordering};
 use std::sync::{Mutex, Wait};
 use workers::{Gate, Lockstep};
 
-/// A gate that lets everybody on. At its first point each of the two workers looks for a while whether the other stands
-/// there too, and it is remembered where one doesn't come: so workers that are run one after the other don't hang.
+/// A gate whose first point opens to a worker only while both stand at it: each of the two looks there for a while
+/// whether the other has come. Its other points are open, and so is the first to anybody else.
 #[derive(Drop)]
 struct Meeting<'a, R> {
     rt: &'a R,
     come: Mutex<u64>,
-    alone: AtomicU64,
 }
 
 impl<'a, R: Wait> Gate for Meeting<'a, R> {
-    ghost use Rattle.std.specs.Prelude.{true};
-
-    ghost lets_on = { λ _ _. true };
-
     fn pass(&self, worker: usize, point: u8) -> bool {
-        if worker < 2 && point == 0 && !meets(self.rt, &self.come) {
-            self.alone.store(1, Ordering::SeqCst);
+        worker >= 2 || point != 0 || meets(self.rt, &self.come)
+    }
+
+    fn leave(&self, _worker: usize) {}
+}
+
+/// Such a gate, to which the second worker comes only once the first has left it: so they run one after the other.
+#[derive(Drop)]
+struct InTurn<'a, R> {
+    meeting: Meeting<'a, R>,
+    left: AtomicU64,
+}
+
+impl<'a, R: Wait> Gate for InTurn<'a, R> {
+    fn pass(&self, worker: usize, point: u8) -> bool {
+        if worker == 1 && point == 0 {
+            for _look in self.meeting.rt.forever() {
+                if self.left.load(Ordering::SeqCst) == 1 {
+                    break;
+                }
+            }
         }
-        true
+        self.meeting.pass(worker, point)
+    }
+
+    fn leave(&self, worker: usize) {
+        if worker == 0 {
+            self.left.store(1, Ordering::SeqCst);
+        }
+    }
+}
+
+/// A gate with one point that is shut to one worker.
+#[derive(Drop)]
+struct ShutAt {
+    worker: usize,
+    point: u8,
+}
+
+impl Gate for ShutAt {
+    fn pass(&self, worker: usize, point: u8) -> bool {
+        worker != self.worker || point != self.point
     }
 
     fn leave(&self, _worker: usize) {}
@@ -37,10 +70,6 @@ impl<'a, R: Wait> Gate for Meeting<'a, R> {
 struct Shut;
 
 impl Gate for Shut {
-    ghost use Rattle.std.specs.Prelude.{false};
-
-    ghost lets_on = { λ _ _. false };
-
     fn pass(&self, _worker: usize, _point: u8) -> bool {
         false
     }
@@ -75,11 +104,32 @@ fn two_workers_stand_at_one_point(rt: HostRuntime) {
     let gate = Meeting {
         rt: &rt,
         come: Mutex::new(0),
-        alone: AtomicU64::new(0),
     };
     let came = alone(&rt, &gate, ONE_FRAME);
     is_counted(&rt, &came, (1, 0, 0));
-    sees(&rt, gate.alone.load(Ordering::SeqCst) == 0);
+}
+
+/// Where one worker runs after the other, the first finds nobody at that point, and is shut out; both have all at home.
+#[test]
+fn workers_one_after_the_other_do_not_meet(rt: HostRuntime) {
+    let gate = InTurn {
+        meeting: Meeting {
+            rt: &rt,
+            come: Mutex::new(0),
+        },
+        left: AtomicU64::new(0),
+    };
+    let came = alone(&rt, &gate, ONE_FRAME);
+    is_counted(&rt, &came, (1, 1, 0));
+}
+
+/// A gate may shut one point, to one worker: the other one, and the frames, go on.
+#[test]
+fn a_point_is_shut_to_one_worker(rt: HostRuntime) {
+    for point in 0..3u8 {
+        let came = alone(&rt, &ShutAt { worker: 1, point }, ONE_FRAME);
+        is_counted(&rt, &came, (1, 1, 0));
+    }
 }
 
 /// Workers that a gate doesn't let on say so and have all at home, and no frame arrives.

@@ -44,7 +44,7 @@ pub struct Order {
 /// Comes to a point of the gate.
 fn meet<G: Gate>(gate: &G, worker: usize, point: u8) -> Result<(), WorkerFault>
     ensures fault { IfErr result (λ fault. is_threadless fault ≡ false) }
-    ensures shut { OnErr result (G.lets_on gate.now worker ≡ false) }
+    ensures shut { OnErr result (G.shuts gate.now worker) }
 {
     if gate.pass(worker, point) {
         Ok(())
@@ -72,7 +72,7 @@ fn work<G: Gate, N: Nic>(
     ensures fault { IfErr result (λ fault. is_threadless fault ≡ false) }
     ensures drives { RunsOn (N.made nic.old) pmd.old.rings (N.made nic.new) pmd.new.rings }
     ensures queue { pmd.new.queue ≡ pmd.old.queue }
-    ensures shut { IfErr result (λ fault. is_shut_out fault ≡ true → G.lets_on gate.now order.worker ≡ false) }
+    ensures shut { IfErr result (λ fault. is_shut_out fault ≡ true → G.shuts gate.now order.worker) }
     ensures began { BeganAs N.began nic.old nic.new }
 {
     meet(gate, order.worker, 0)?;
@@ -148,7 +148,7 @@ fn drive<G: Gate, N: Nic>(
     ensures ring { SameProducer producer.old producer.new }
     ensures home { IfNone result.1 (is_home result.0 ≡ true) }
     ensures fault { IfSome result.1 (λ fault. is_threadless fault ≡ false) }
-    ensures shut { IfSome result.1 (λ fault. is_shut_out fault ≡ true → G.lets_on gate.now order.worker ≡ false) }
+    ensures shut { IfSome result.1 (λ fault. is_shut_out fault ≡ true → G.shuts gate.now order.worker) }
     ensures whole { (a : Numbers) → HasAll a (halted_of pmd.rings) [] → IsWhole a result.0 }
     ensures began { BeganAs N.began nic.old nic.new }
 {
@@ -184,7 +184,7 @@ pub fn run_worker<G: Gate, N: Nic>(
     ensures ring { SameProducer producer.old producer.new }
     ensures home { IfNone result.1 (is_home result.0 ≡ true) }
     ensures fault { IfSome result.1 (λ fault. is_threadless fault ≡ false) }
-    ensures shut { IfSome result.1 (λ fault. is_shut_out fault ≡ true → G.lets_on gate.now order.worker ≡ false) }
+    ensures shut { IfSome result.1 (λ fault. is_shut_out fault ≡ true → G.shuts gate.now order.worker) }
     ensures whole { IsWhole arena result.0 }
     ensures began { BeganAs N.began nic.old nic.new }
 {

@@ -1,13 +1,14 @@
-ghost use Rattle.std.specs.Prelude.{◌≡◌, ℕ, Bool};
+ghost use Rattle.std.specs.Prelude.{◌≡◌, ℕ, false, ⊤};
 
 /// A place where workers, known by their numbers, meet at points that are numbered in their order.
 pub trait Gate {
-    /// Whether it lets the worker of a number on.
-    ghost lets_on: { Self → ℕ → Bool };
+    /// What is so where a point is shut to the worker of a number: nothing, unless a gate says more. So one may wait for
+    /// a while only, or open some of its points.
+    ghost shuts: { Self → ℕ → Type 0 } = { λ _ _. ⊤ };
 
-    /// Comes to a point, and waits until the gate lets the worker on. False exactly where it doesn't let the worker on.
+    /// Comes to a point, and waits until the gate lets the worker on. False where it doesn't let the worker on.
     fn pass(&self, worker: usize, point: u8) -> bool
-        ensures { result ≡ lets_on self.now worker };
+        ensures shut { result ≡ false → shuts self.now worker };
 
     /// Leaves: nobody waits for this worker any more.
     fn leave(&self, worker: usize);

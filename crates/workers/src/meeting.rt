@@ -1,4 +1,4 @@
-ghost use Rattle.std.specs.Prelude.{◌≡◌, ◌<◌, ◌≤◌, nat_lt};
+ghost use Rattle.std.specs.Prelude.{◌≡◌, ◌<◌, ◌≤◌, false, nat_lt};
 ghost use Rattle.std.specs.Sync.Mutex.{mutex_guard_value};
 ghost use Rattle.workers.specs.Standing.{HaveAllCome};
 
@@ -68,10 +68,13 @@ impl<'a, R: Wait> Lockstep<'a, R> {
 }
 
 impl<'a, R: Wait> Gate for Lockstep<'a, R> {
-    ghost lets_on = { λ members worker. nat_lt worker members };
+    ghost shuts = { λ members worker. members ≤ worker };
 
     /// False exactly for a worker that is no member; nobody then waits for it, nor it for anybody.
-    fn pass(&self, worker: usize, point: u8) -> bool {
+    fn pass(&self, worker: usize, point: u8) -> bool
+        ensures shut { result ≡ false → self.now ≤ worker }
+        ensures lets_on { result ≡ nat_lt worker self.now }
+    {
         if worker >= self.members {
             return false;
         }

@@ -12,4 +12,3 @@ pub mod Shifted
 pub mod StopCalls
 pub mod Stopped
 pub mod Told
-pub mod WorkerTold

@@ -1,6 +1,5 @@
 pub use Rattle.driver_laws.specs as DriverLaws
 pub mod Asked
-pub mod Begun
 pub mod Beside
 pub mod BesideApart
 pub mod BesideRoom
@@ -10,22 +9,17 @@ pub mod Closed
 pub mod Course
 pub mod Ends
 pub mod Faultless
-pub mod Fitting
 pub mod FullRing
 pub mod InHand
-pub mod Lending
 pub mod Lends
 pub mod Life
 pub mod Looks
 pub mod Order
 pub mod Places
-pub mod Points
 pub mod Prelude
-pub mod Quiet
 pub mod Refused
 pub mod Room
 pub mod Silent
 pub mod Stopped
 pub mod Told
 pub mod Waits
-pub mod WorkerOrder

@@ -11,10 +11,8 @@
 //! these have switched its queue off; `specs/Refused` what holds where its start was refused, and `specs/Room` where an
 //! arena has room for its rings. `specs/Beside` says what holds of a driver beside whatever calls of its author's, and
 //! so do `specs/BesideApart` of its blocks, `specs/BesideRoom` of its full ring, `specs/BesideStart` of its start and
-//! `specs/BesideStop` over its stop. `worker` is about what the ends of workers say of the history of their device.
+//! `specs/BesideStop` over its stop.
 #![tactic(auto)]
-
-pub mod worker;
 
 ghost use Rattle.pmd_laws.specs.Beside as beside;
 ghost use Rattle.pmd_laws.specs.BesideApart as apart;
@@ -48,7 +46,7 @@ ghost use Rattle.pmd_laws.specs.Waits.{WaitingIsNotAllBefore, WaitingIsNotAllAsT
 /// The calls that were made through a `pmd_seam::ThroughLock` are one of a device that was new, as the passes that
 /// closed its history made it: up to the last of them, of whichever tag the pass is, where `left_alone` of what `close`
 /// gives answers so of that tag and the queue. They stand in it, up to an entry of that pass. What the laws ask of where
-/// a driver starts there is told by `workers::begins_well`, as `worker::worker_begins_well` says.
+/// a driver starts there is told by `workers::begins_well`, as `workers::laws::worker_begins_well` says.
 pub fn calls_in_hand_are_a_history()
     ensures direct { DirectIsHistory }
     ensures interleaved { InterleavedIsHistory }

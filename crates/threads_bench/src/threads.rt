@@ -179,7 +179,7 @@ fn run<R: Threads + Wait + Sync>(
 /// `left_alone` tells, and its driver begins well there, as `begins_well` does. The status is 0 then.
 ///
 /// So what each worker received is a prefix of what was delivered on its queue, and what was sent there one of what its
-/// driver accepted, as `pmd_laws::worker::worker_in_order` says of such a history.
+/// driver accepted, as `workers::run_workers` says of every such history by its clause `order`.
 ///
 /// It waits for locks and for the threads. Nothing is written where something is refused, a worker ends with a fault,
 /// its queue isn't left alone, its driver doesn't begin well, or fewer frames arrive: the status is 4 where one of

@@ -6,6 +6,7 @@ pub mod Ending
 pub mod FirstOwn
 pub mod FramesFit
 pub mod Gathering
+pub mod InOrder
 pub mod Keeping
 pub mod OthersLend
 pub mod Returning
@@ -15,3 +16,4 @@ pub mod Telling
 pub mod Walks
 pub mod Ways
 pub mod WellBegun
+pub mod WorkerTold

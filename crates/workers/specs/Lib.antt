@@ -1,5 +1,6 @@
 pub use Rattle.device_lock.specs as DeviceLock
 pub use Rattle.pmd.specs.PmdSeam
+pub mod AtFirst
 pub mod Before
 pub mod Beginning
 pub mod Coming
@@ -10,7 +11,9 @@ pub mod Fitting
 pub mod Kept
 pub mod Lending
 pub mod Lived
+pub mod Order
 pub mod Overlap
+pub mod Points
 pub mod Queues
 pub mod Quiet
 pub mod Refusing

@@ -31,6 +31,7 @@ mod gate;
 mod host;
 mod hosted;
 mod job;
+pub mod laws;
 mod lending;
 mod meeting;
 mod quiet;

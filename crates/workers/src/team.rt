@@ -5,6 +5,7 @@ ghost use Rattle.workers.specs.Seats.{waits, EachEnded};
 ghost use Rattle.workers.specs.Feeding.{AreFed, done_in, gained};
 ghost use Rattle.workers.specs.Coming.{AreDrained, AreWays};
 ghost use Rattle.workers.specs.Ends.{AreEnds, IsBack};
+ghost use Rattle.workers.specs.Order.{AreInOrder};
 ghost use Rattle.workers.specs.Refusing.{IsTeam, IsWhy, is_certain, is_team_size};
 
 use crate::assignment::Back;
@@ -139,6 +140,12 @@ fn run_in<R: Threads + Wait + Sync, G: Gate + Sync, const VFS: u8, const FIFO: u
 /// gate doesn't let it on, passes point 1 and leaves; then it takes what the workers told, and joins them. A worker
 /// that ends early leaves the gate, and so does the calling thread for one whose thread doesn't begin.
 ///
+/// What each end tells is in order over every history of the device that leaves the queue of its job alone, up to the
+/// last call of the end's pass: the packets that its driver handed out are a prefix of those delivered on the queue, and
+/// the frames sent there a prefix of those that it accepted, since the sides went on behind the first event of the
+/// driver's own. So it is over the history that the passes close, where `left_alone` and `begins_well` answer so of the
+/// end's pass and the job, and the end has no fault, or `never_asked_on` answers so too.
+///
 /// `NoJobs` where there are none or more than 16, `Overlap` where two arenas share a number, and `OutOfMemory`, in this
 /// order: each hands jobs and frames back, and nothing is done.
 pub fn run_workers<R: Threads + Wait + Sync, G: Gate + Sync, const VFS: u8, const FIFO: u16>(
@@ -152,6 +159,7 @@ pub fn run_workers<R: Threads + Wait + Sync, G: Gate + Sync, const VFS: u8, cons
 ) -> Result<Ran, RunRefused>
     ensures team { OnOk result (IsTeam jobs.items) }
     ensures ends { IfOk result (λ ran. AreEnds jobs.items ran.ends.items) }
+    ensures order { IfOk result (λ ran. AreInOrder jobs.items ran.ends.items) }
     ensures fed { OnOk result (AreFed (map (λ frame. frame.items) frames.items) pass.old pass.new) }
     ensures count { IfOk result (λ ran. ran.fed ≡ done_in (gained pass.old pass.new)) }
     ensures refused { IfErr result (λ refused. IsWhy jobs.items refused.fault) }

@@ -16,9 +16,10 @@ use Rattle.pmd_laws.proofs.Prelude.{State, Tx, Watched, [], after, ap, append-ni
 use Rattle.pmd_laws.proofs.Prelude.{cases_Bool, cleared, common_steps, enable_row, events_before, false, has_bit}
 use Rattle.pmd_laws.proofs.Prelude.{has_queue, image_stays, is_on, leads_to, left-side, mode_in, named, new_sound}
 use Rattle.pmd_laws.proofs.Prelude.{new_state, place, refl, row_of, rules, subst, sym, true, vfs_stays, ℕ, ⊎_elim, ◌++◌}
-use Rattle.pmd_laws.proofs.{Prelude.◌<◌, Prelude.◌∙◌, Prelude.◌∷◌, Prelude.◌≡◌, WorkerTold.ground_there}
+use Rattle.pmd_laws.proofs.{Prelude.◌<◌, Prelude.◌∙◌, Prelude.◌∷◌, Prelude.◌≡◌}
+use Rattle.workers.proofs.WorkerTold.{ground_there, named_below}
 use Rattle.pmd_laws.specs.DriverLaws.HistoryLaws.Sides.{side_of}
-use Rattle.pmd_laws.{proofs.WorkerTold.named_below, specs.DriverLaws.HistoryLaws.Sides.IsOff}
+use Rattle.pmd_laws.specs.DriverLaws.HistoryLaws.Sides.{IsOff}
 use Rattle.std.proofs.lemmas.Bool.{cond_both}
 use Rattle.workers.specs.Quiet.{NoneAsksOn, asks_on}
 use Rattle.nic_device.specs.declared.event.Event.TheVariants as event
@@ -138,7 +139,7 @@ module _ (w : Watched) (fifo : ℕ) (sound : IsSound (new_state w.vfs fifo)) (sm
       (sym (vfs_stays new done)) dir e.event (cc (told, none done e rest both)) off in
       along (done ++ e ∷ []) rest (append_assoc done (e ∷ []) rest ∙ both) (rw leads-append next)
 
-pub returns : Rattle.pmd_laws.proofs.worker.worker_starts_quiet.Goals.returns
+pub returns : Rattle.workers.proofs.laws.worker_starts_quiet.Goals.returns
 returns c w fifo old given h device events well never x =
     let sound = new_sound w.vfs fifo device.0 device.1 device.2 in
     let ground = ground_there w fifo old given h sound events well x in

@@ -2,8 +2,10 @@
 use Rattle.nic_device.{proofs.Cases.arrived_cases, specs.Outcome.Outcome, specs.Step.step_of}
 use Rattle.pmd_laws.proofs.Prelude.{All, Block, Event, FitsBlocks, Waiting, after, most_blocks, new_state, ◌≤◌}
 use Rattle.pmd_laws.proofs.Prelude.{State, [], arith, common_steps, leads_to, legal_before, max, refl, sym, ℕ, ◌∷◌}
-use Rattle.pmd_laws.proofs.{Prelude.IsLegal, Prelude.List, Prelude.length, Prelude.subst, WorkerTold.holds_at_first}
-use Rattle.pmd_laws.{proofs.DriverLaws.RingLaws.Fitting.all_wait, proofs.Prelude.Entry, specs.Fitting.AllFitBlocks}
+use Rattle.pmd_laws.proofs.{Prelude.Entry, Prelude.IsLegal, Prelude.List, Prelude.length, Prelude.subst}
+use Rattle.pmd_laws.proofs.{DriverLaws.RingLaws.Fitting.all_wait}
+use Rattle.workers.proofs.WorkerTold.{holds_at_first}
+use Rattle.workers.specs.AtFirst.{AllFitBlocks}
 use Rattle.std.proofs.lemmas.List.Elements.{All-nil, All-push, All-weaker}
 use Rattle.workers.specs.{Before.known_through, Fitting.let_in_by, Fitting.longest_behind, Fitting.longest_let_in}
 use Rattle.nic_device.specs.declared.event.Event.TheVariants as event
@@ -34,7 +36,7 @@ longest_along longest s [] legal all = all
 longest_along longest s (e ∷ es) legal all =
     longest_along (longest_behind longest e) (after s e.event) es legal.1 (rw legal.0 (behind longest s all e.event))
 
-pub returns : Rattle.pmd_laws.proofs.worker.frames_of_a_worker_fit.Goals.returns
+pub returns : Rattle.workers.proofs.laws.frames_of_a_worker_fit.Goals.returns
 returns c w fifo old frame h legal fit =
     let new : State = new_state w.vfs fifo in
     let most = most_blocks frame in

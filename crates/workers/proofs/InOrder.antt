@@ -1,4 +1,4 @@
--- What a worker's end tells is in order, over the history that its pass closes.
+-- What a worker's end tells is in order, over every history that its pass may close.
 use Rattle.pmd.specs.PmdSeam.QueueMade.{IsSeen}
 use Rattle.pmd_laws.proofs.Prelude.{Call, DrivesRings, Entry, HasGround, HasLived, IsAlong, IsFalse, IsQuiet}
 use Rattle.pmd_laws.proofs.Prelude.{IsStopping, Life, List, None, Numbers, Option, PmdFault, Rest, Rxdctl, Some, State}
@@ -7,17 +7,18 @@ use Rattle.pmd_laws.proofs.Prelude.{arith, around, bytes_of, call_in, call_of, c
 use Rattle.pmd_laws.proofs.Prelude.{common_steps, delivered, drives_lead, eq-eqb, false, halted_of, halves_of, inl, inr}
 use Rattle.pmd_laws.proofs.Prelude.{is_step, leads_to, left_accepted, left_handed, new_sound, new_state, none_behind}
 use Rattle.pmd_laws.proofs.Prelude.{refl, rules, same_from_push, sent_since, subst, sym, ℕ, ⊎_elim, ◌++◌, ◌∙◌, ◌∷◌, ◌≡◌}
-use Rattle.pmd_laws.proofs.Closed.{calls_stand, isnt_none}
-use Rattle.pmd_laws.proofs.WorkerTold.{ground_there, named_below, starts_more}
-use Rattle.pmd_laws.proofs.{DriverLaws.HistoryLaws.Alone.new_is_left_alone, Lent.last_or_none, Order.along_before}
+use Rattle.pmd_laws.proofs.Closed.{isnt_none}
+use Rattle.workers.proofs.WorkerTold.{calls_from, ground_there, named_below, starts_more}
+use Rattle.pmd_laws.proofs.{DriverLaws.HistoryLaws.Alone.new_is_left_alone, Order.along_before}
 use Rattle.pmd_laws.proofs.{Order.along_behind, Order.life_of, Prelude.AreSteps, Prelude.AreUp, Prelude.AtPort}
 use Rattle.pmd_laws.proofs.{Prelude.◌≢◌, Prelude.◌⊎◌, Refused.left_in_order, Shifted.Behind, Shifted.Shifts}
 use Rattle.pmd_laws.proofs.{Shifted.rings, Shifted.up_behind, StopCalls.stopped_takes, StopCalls.takes_ends}
-use Rattle.pmd_laws.proofs.{StopCalls.takes_shift, Stopped.over_stop, Stopped.sent_over, WorkerTold.calls_from}
-use Rattle.pmd_laws.specs.{Closed.UpTo, Points.JustBefore, WorkerOrder.IsEndAmong, WorkerOrder.IsEndIn}
-use Rattle.pmd_laws.specs.WorkerOrder.{given_of, queue_of}
+use Rattle.pmd_laws.proofs.{StopCalls.takes_shift, Stopped.over_stop, Stopped.sent_over}
+use Rattle.pmd_laws.specs.Closed.{UpTo}
+use Rattle.workers.specs.Order.{EndsAreInOrder, IsEndAmong, LeavesJob, given_of, queue_of}
+use Rattle.workers.specs.Points.{JustBefore}
 use Rattle.workers.specs.declared.{ends.WorkerEnd.WorkerEnd, fault.WorkerFault.TheVariants.NoThread, job.Job.Job}
-use Rattle.workers.specs.{DeviceLock.Closing.StandsIn, Ends.AreEnds, Ends.IsEnd, Lived.HasRun, Starts.Starts}
+use Rattle.workers.specs.{Ends.AreEnds, Ends.IsEnd, Lived.HasRun, Starts.Starts}
 use Rattle.nic_device.specs.declared.event.Event.TheVariants as event
 use Rattle.nic_device.specs.declared.event.Reply.TheVariants as reply
 use Rattle.pmd_laws.specs.DriverLaws.RingLaws.Delivered as receive
@@ -123,16 +124,13 @@ end_of : (jobs : List Job) (ran : List WorkerEnd) (j : Job) (e : WorkerEnd) → 
 end_of (k ∷ jobs) (f ∷ ran) j e are among = grind (arith, end_of jobs ran j e are.1)
 end_of jobs ran j e are among = absurd among
 
-module _ (vfs fifo : ℕ) (h : List Entry) (j : Job) (e : WorkerEnd) (x : IsEndIn vfs fifo h j e)
+module _ (vfs fifo : ℕ) (h : List Entry) (j : Job) (e : WorkerEnd) (ends : IsEnd j e) (x : LeavesJob vfs fifo h j e)
     (u : UpTo e.pass.tag h e.pass.calls) where
   abbrev w : Watched
   w = record { vfs = vfs; pass = e.pass.tag; queue = j.pf_queue }
 
   abbrev origin : State
   origin = new_state vfs fifo
-
-  ends : IsEnd j e
-  ends = end_of x.jobs x.ran j e x.ends x.among
 
   -- the device is sound as it begins, and so port and queue name the job's queue there
 
@@ -186,10 +184,11 @@ module _ (vfs fifo : ℕ) (h : List Entry) (j : Job) (e : WorkerEnd) (x : IsEndI
         grind (arith, common_steps, isnt_none, none_behind, calls_from, ends) in
         run_in_order (ends.lived none) (⊎_elim (λ none. inl none) (λ at. inr (at there)) x.quiet)
 
-pub returns : Rattle.pmd_laws.proofs.worker.worker_in_order.Goals.returns
-returns c = record {
-  stands = calls_stand;
-  none = starts_or_none;
-  handed = λ vfs fifo h j e x u s. (in_order vfs fifo h j e x u s).0;
-  sent = λ vfs fifo h j e x u s. (in_order vfs fifo h j e x u s).1;
-}
+pub ends_in_order : EndsAreInOrder
+ends_in_order jobs ran are j e among vfs fifo h x u =
+    let ends = end_of jobs ran j e are among in
+    record {
+      none = starts_or_none vfs fifo h j e ends x u;
+      handed = λ s. (in_order vfs fifo h j e ends x u s).0;
+      sent = λ s. (in_order vfs fifo h j e ends x u s).1;
+    }

@@ -1,16 +1,16 @@
 -- What the entries of a history tell of the blocks that are lent is so of the device.
 use Rattle.pmd_laws.proofs.DriverLaws.HistoryLaws.Lent.{AllFollow, follows_known, not_so}
 use Rattle.pmd_laws.proofs.Prelude.{AreEvents, Block, Blocks, Entry, Event, IsEvent, IsLegal, List, NoneLent, OnlyLent}
-use Rattle.driver_laws.specs.Before.{is_asked}
+use Rattle.pmd_laws.specs.DriverLaws.Before.{is_asked}
 use Rattle.pmd_laws.proofs.Asked.{Both}
 use Rattle.pmd_laws.proofs.Prelude.{IsTrue, Reply, State, [], after, and_parts, ap, arith, both_ways, calls_of, common_steps}
 use Rattle.pmd_laws.proofs.Prelude.{◌++◌, ◌≡◌, ◌≢◌}
 use Rattle.pmd_laws.specs.Asked.{OthersLendNone, asked_of}
-use Rattle.driver_laws.specs.Prelude.{LendsNone}
+use Rattle.pmd_laws.specs.DriverLaws.RingLaws.HistoryLaws.Lent.{LendsNone}
 use Rattle.nic_device.specs.declared.event.Event.TheVariants as event
 use Rattle.pmd_laws.proofs.Prelude.{events_before, false, has_block, is_own, is_some, leads_to, legal_before, lends}
 use Rattle.pmd_laws.proofs.Prelude.{nat_cmp, nat_lt, new_state, refl, reply_to, subst, sym, ℕ, ◌&&◌, ◌||◌, ◌∷◌}
-use Rattle.pmd_laws.proofs.WorkerTold.{holds_at_first}
+use Rattle.workers.proofs.WorkerTold.{holds_at_first}
 use Rattle.std.{proofs.lemmas.Bool.Decides.nat_tests, proofs.lemmas.Bool.or_left, specs.Prelude.not}
 use Rattle.workers.specs.Lending.{lends_none, takes}
 use Rattle.workers.specs.{Before.known_through, Lending.lent_behind, Lending.lent_through, Lending.no_block}
@@ -62,7 +62,7 @@ told_none : (pass : ℕ) (own asks : Blocks) (h : List Entry) → told.OnlyPassL
     → OthersLendNone pass (Both own asks) h
 told_none pass own asks h none before e behind is begun other = spared pass own asks h none before e behind is other
 
-pub returns : Rattle.pmd_laws.proofs.worker.worker_has_its_blocks_alone.Goals.returns
+pub returns : Rattle.workers.proofs.laws.worker_has_its_blocks_alone.Goals.returns
 returns c w fifo old a h legal events others = (
   told_none w.pass (is_own a) (is_asked (calls_of w.pass h)) h others.others,
   holds_at_first w fifo old h (NoneLent (asked_of w a h)) (λ x number both.

@@ -7,8 +7,8 @@ use Rattle.pmd_laws.proofs.Prelude.{[], ap, append_assoc, arith, call_in, calls_
 use Rattle.pmd_laws.proofs.Prelude.{common_steps, events_before, false, leads_to, length, new_state, refl}
 use Rattle.pmd_laws.proofs.Prelude.{same_from_push, subst, sym, vfs_stays, ℕ, ◌++◌, ◌<◌, ◌∙◌, ◌∷◌, ◌≡◌}
 use Rattle.pmd_laws.proofs.{DriverLaws.Made.before_made, Prelude.AreEvents, Prelude.Call, Prelude.Entry}
-use Rattle.pmd_laws.specs.{DriverLaws.Numbers.queue_at, DriverLaws.Numbers.queue_in, Points.HoldsAtFirst}
-use Rattle.pmd_laws.specs.{Points.JustBefore, Prelude.BeforeNext}
+use Rattle.pmd_laws.specs.{DriverLaws.Numbers.queue_at, DriverLaws.Numbers.queue_in, Prelude.BeforeNext}
+use Rattle.workers.specs.Points.{HoldsAtFirst, JustBefore}
 use Rattle.workers.specs.{Beginning.BeginsWell, DeviceLock.Told.first_settings, DeviceLock.Told.settings_through}
 use Rattle.workers.specs.{DeviceLock.declared.told.Settings.Settings, Starts.Starts, declared.beginning.Given.Given}
 use Rattle.workers.specs.Queues as told

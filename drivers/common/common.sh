@@ -32,8 +32,10 @@ allowed() {
     local refused
     need gcc:gcc
     mkdir -p "$WORK"
-    gcc -std=c11 -O1 -o "$WORK/allowed" "$ROOT/drivers/common/allowed.c" || die "compiling failed"
-    refused=$("$WORK/allowed" "$@") || die "this needs $refused"
+    gcc -std=c11 -O1 -o "$WORK/allowed.$$" "$ROOT/drivers/common/allowed.c" || die "compiling failed"
+    refused=$("$WORK/allowed.$$" "$@") || refused=${refused:-what it asks for}
+    rm -f "$WORK/allowed.$$"
+    [ -z "$refused" ] || die "this needs $refused"
 }
 
 # compare_sums FILE "PACKAGE VERSION" FOLDER: how the C files in FOLDER compare with the sums in FILE, whose first line

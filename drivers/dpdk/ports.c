@@ -57,22 +57,12 @@ static int probe(unsigned int which)
     return card_probe(which, FUNCTION_DEVICE, 0, vectors_of(which));
 }
 
-int port_try_probe(unsigned int which)
-{
-    int status = probe(which);
-    if (status == 0)
-        ports[which] = (struct port){.number = card_port(which), .is_there = true};
-    return status;
-}
-
-bool port_probe(unsigned int which)
+/* A port that is there now: its number, its address; told. */
+static bool greet(unsigned int which)
 {
     struct port *port = &ports[which];
-    printf("%s is probed\n", port_name(which));
-    if (failed("the driver's probe", probe(which)))
-        return false;
-    port->number = card_port(which);
     struct rte_eth_dev_info info;
+    *port = (struct port){.number = card_port(which)};
     if (port->number == RTE_MAX_ETHPORTS || failed("rte_eth_macaddr_get", rte_eth_macaddr_get(port->number, &port->mac))
         || failed("rte_eth_dev_info_get", rte_eth_dev_info_get(port->number, &info)))
         return false;
@@ -82,15 +72,34 @@ bool port_probe(unsigned int which)
     return true;
 }
 
+int port_try_probe(unsigned int which)
+{
+    int status = probe(which);
+    if (status == 0)
+        greet(which);
+    return status;
+}
+
+bool port_probe(unsigned int which)
+{
+    if (ports[which].is_there)
+        return true;
+    printf("%s is probed\n", port_name(which));
+    return !failed("the driver's probe", probe(which)) && greet(which);
+}
+
+/* Where the shim answers a function at all times, as the card does, and the host's handler is called by the line, the
+   mailbox works before the host is started. By messages it doesn't: no vector is named for it yet. */
 void port_probe_early(unsigned int which)
 {
     uint64_t before = bus_counts()->absent_reads;
+    int expected = bus_answers() & BUS_ABSENT && !setting.has_vectors ? 0 : -EAGAIN;
     printf("%s is probed before the host is started\n", port_name(which));
-    int status = probe(which);
-    printf("  the driver gives up: %d, after %" PRIu64 " reads of a function that has no pool yet\n", status,
-           bus_counts()->absent_reads - before);
-    if (status != -EAGAIN || bus_counts()->absent_reads == before)
-        problem("an early probe answers %d", status);
+    int status = port_try_probe(which);
+    printf("  the driver %s: %d, after %" PRIu64 " reads of a function that has no pool yet\n",
+           status ? "gives up" : "takes it", status, bus_counts()->absent_reads - before);
+    if (status != expected || bus_counts()->absent_reads == before)
+        problem("an early probe answers %d, where %d is known", status, expected);
 }
 
 /* ---- start ---- */

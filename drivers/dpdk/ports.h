@@ -55,7 +55,7 @@ unsigned int port_queues(unsigned int which);
 /* The queue of the device that a port's queue is. */
 uint16_t device_queue(unsigned int which, uint16_t queue);
 
-/* Each says what it does; false, and a problem, where it fails. */
+/* Each says what it does; false, and a problem, where it fails. A port that is there isn't probed again. */
 bool port_probe(unsigned int which);
 bool port_start(unsigned int which); /* configured before, where it isn't yet */
 bool port_stop(unsigned int which);
@@ -64,7 +64,7 @@ bool port_remove(unsigned int which);
 /* The same of a probe, and its status, whatever it is. */
 int port_try_probe(unsigned int which);
 
-/* A function is probed while the host isn't started: its driver must give up. */
+/* A function is probed while the host isn't started: its driver gives up, unless the shim answers it. */
 void port_probe_early(unsigned int which);
 
 /* Frees what waits in a port's queues: how many frames they were. */

@@ -1,6 +1,6 @@
 //! A driver of one queue: a frame arrives, the driver receives it, and sends it back.
 //!
-//! This is a program of one's own, as the last chapter of `docs/GUIDE.md` goes through it. `failure.rt` has why it
+//! This is a program of one's own, as `docs/driver.md` goes through it. `failure.rt` has why it
 //! fails, and `ending.rt` how what can't be dropped is ended.
 #![tactic(auto)]
 

@@ -75,17 +75,18 @@ def check_files(kit: Kit, source: Path, program: Path, out: Path) -> None:
         raise Wrong(f"{name}: its script ends with {last}")
 
 
-def check_corpus(kit: Kit, runs: int, preemptions: int) -> str:
-    """Each bug is found by a strategy, and its twin passes so many schedules by chance and the exhaustive search."""
+def check_corpus(kit: Kit, runs: int, preemptions: int, each: int = 1) -> str:
+    """Each bug is found by a strategy, and its twin passes so many schedules by chance and the exhaustive search. Of the
+    drivers each n-th is tried."""
     out = kit.folder / "found"
     out.mkdir(exist_ok=True)
-    for source in corpus():
+    for source in corpus()[::each]:
         wrong, right = kit.build(source, "WRONG"), kit.build(source)
         ran([wrong, "--quiet", "--jobs", 2, "--out", out], 1)
         check_files(kit, source, wrong, out)
         ran([right, "--quiet", "--jobs", 2, "--runs", runs, "--out", out])
         ran([right, "--quiet", "--jobs", 2, "--strategy", "exhaustive", "--preemptions", preemptions, "--out", out])
-    return f"{len(corpus())} bugs found, and their twins pass"
+    return f"{len(corpus()[::each])} bugs found, and their twins pass"
 
 
 # --- the examples ---
@@ -217,6 +218,11 @@ def check_orders(kit: Kit, states: int) -> str:
     return ran([kit.build(HERE / "tests/orders.c"), states, 1], timeout=900).strip().splitlines()[-1]
 
 
+def check_sleeping(kit: Kit, scenarios: int) -> str:
+    """With sleep sets the exhaustive search comes to the same ends as without."""
+    return ran([kit.build(HERE / "tests/sleeping.c"), scenarios, 1], timeout=900).strip()
+
+
 def sanitized_explorer(folder: Path, compiler: str, flags: list[str]) -> Path:
     """The engine itself with the sanitizers' checks in it."""
     made = folder / "explorer"
@@ -226,11 +232,12 @@ def sanitized_explorer(folder: Path, compiler: str, flags: list[str]) -> Path:
 
 
 def check_quickly(kit: Kit, few: bool) -> list[str]:
-    """All that is here, in some seconds; with `few` also under the sanitizers."""
+    """All that is here, in some seconds; under the sanitizers less of it."""
     return [
         check_faults(kit),
         check_refusals(kit),
         check_orders(kit, 100 if few else 1000),
-        check_corpus(kit, 500 if few else 3000, 1),
+        check_sleeping(kit, 4 if few else 12),
+        check_corpus(kit, 500 if few else 3000, 1, 4 if few else 1),
         check_examples(kit, 500 if few else 3000),
     ]

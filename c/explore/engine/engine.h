@@ -141,6 +141,7 @@ struct engine {
     uint16_t *schedule; /* who acted, point by point */
     struct step *steps; /* what they did; null where nobody asks for it */
     volatile uint32_t *points;
+    uint16_t *own_schedule;
     uint32_t own_points;
     uint32_t switches;
     bool is_cut;   /* the chooser ended the schedule */

@@ -107,7 +107,6 @@ static void write_files(struct post *post, void *argument)
     nicxi.listener_argument = it;
     if (nicx_open(scenario))
         return;
-    free(nicxi.schedule);
     nicxi_note_in(post);
     nicx_chooser chooser = nicxi_by_list(&state, it->failure->schedule, it->failure->result.points, false);
     nicx_run(&chooser, &post->result);

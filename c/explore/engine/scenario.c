@@ -163,7 +163,7 @@ const char *nicx_open(const nicx_scenario *scenario)
     nicxi.scenario = scenario;
     nicxi.points = &nicxi.own_points;
     nicxi.most_points = scenario->points ? scenario->points : USUAL_POINTS;
-    nicxi.schedule = calloc(nicxi.most_points + 1u, sizeof *nicxi.schedule);
+    nicxi.schedule = nicxi.own_schedule = calloc(nicxi.most_points + 1u, sizeof *nicxi.schedule);
     if (!nicxi.schedule)
         return "there is no memory";
     nicxi_heap_open();
@@ -179,8 +179,7 @@ void nicx_close(void)
     nicxi_heap_close();
     for (int k = 0; k < NICX_FRAMES; k++)
         free(nicxi.frames[k].bytes);
-    if (nicxi.points == &nicxi.own_points)
-        free(nicxi.schedule);
+    free(nicxi.own_schedule);
     free(nicxi.steps);
     memset(&nicxi, 0, sizeof nicxi);
 }

@@ -20,41 +20,36 @@ void nicxi_script_begin(struct script *script, FILE *file, const struct origin *
             scenario->name, scenario->vfs, scenario->fifo);
 }
 
-/* A line of the script with who did it; false where there is no more room. */
-static bool line(struct script *script, uint16_t actor, const char *text)
+/* Whether the script has room for an instruction, which is counted. */
+static bool has_room(struct script *script)
 {
-    char name[96];
     if (!script->unfit && script->instructions == MOST_INSTRUCTIONS)
         script->unfit = "a script has 4,096 instructions, and the run more";
-    if (script->unfit)
-        return false;
-    script->instructions++;
-    fprintf(script->file, "%-28s # %s\n", text, actor == NOBODY ? "bring-up" : nicx_actor_name(actor, name));
-    return true;
+    script->instructions += !script->unfit;
+    return !script->unfit;
 }
 
+/* A line of the script with who did it. */
+static void line(struct script *script, uint16_t actor, const char *text)
+{
+    char name[96];
+    if (has_room(script))
+        fprintf(script->file, "%-28s # %s\n", text, actor == NOBODY ? "bring-up" : nicx_actor_name(actor, name));
+}
+
+/* A step of the device or the link, with what it answered. */
 static void with_reply(struct script *script, uint16_t actor, const char *text, const struct step *step)
 {
-    char reply[MOST_WORDS], name[96];
-    if (script->unfit || script->instructions == MOST_INSTRUCTIONS) {
-        line(script, actor, text);
+    char reply[MOST_WORDS];
+    if (!has_room(script))
         return;
-    }
-    script->instructions++;
-    fprintf(script->file, "%-28s # %s%s%s\n", text, actor == NOBODY ? "bring-up: " : "",
-            actor == NOBODY || !strcmp(nicx_actor_name(actor, name), text) ? "" : name, nicxi_reply(step, reply));
+    fprintf(script->file, "%-28s # %s%s\n", text, actor == NOBODY ? "bring-up: " : "", nicxi_reply(step, reply));
 }
 
 static void expect(struct script *script, uint32_t word, uint32_t mask)
 {
-    if (script->unfit)
-        return;
-    if (script->instructions == MOST_INSTRUCTIONS) {
-        script->unfit = "a script has 4,096 instructions, and the run more";
-        return;
-    }
-    script->instructions++;
-    fprintf(script->file, "expect 0x%08" PRIx32 " 0x%08" PRIx32 "\n", word & mask, mask);
+    if (has_room(script))
+        fprintf(script->file, "expect 0x%08" PRIx32 " 0x%08" PRIx32 "\n", word & mask, mask);
 }
 
 /* Bytes with a name, which is the answer's number; they stand in front of the line that uses them. */

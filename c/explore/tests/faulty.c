@@ -1,8 +1,10 @@
 /* `faulty MODE words..`: a scenario with one fault, for c/explore/check.py: how each is told. */
+#define _DEFAULT_SOURCE
 #include <signal.h>
 #include <stdio.h>
 #include <stdlib.h>
 #include <string.h>
+#include <unistd.h>
 
 #include "card.h"
 
@@ -50,7 +52,7 @@ static void fault(void *unused)
     if (is("crash") && head)
         raise(SIGSEGV);
     if (is("exit") && head)
-        exit(5);
+        _exit(5);
     while (is("hang") && head)
         turns++;
     while (is("endless"))

@@ -1,0 +1,188 @@
+/* Whether the exhaustive search with sleep sets comes to the same ends as the one without: of scenarios that are mixed
+   by chance, what the driver saw and what the device is at the end of each schedule. `sleeping SCENARIOS SEED`. */
+#include <stdio.h>
+#include <stdlib.h>
+
+#include "../engine/chance.h"
+#include "../engine/exhaustive.h"
+#include "../engine/options.h"
+#include "card.h"
+
+enum { MOST_ENDS = 1 << 16, LENGTH = 3, TWO = 2, MOST_RUNS = 12000 };
+
+static struct chance chance;
+static uint8_t doings[TWO][LENGTH];
+static bool has_handler;
+static uint64_t seen[TWO + 1];
+static uint64_t ends[MOST_ENDS];
+static uint32_t end_count;
+
+static uint64_t mixed(uint64_t sum, uint64_t value)
+{
+    sum = (sum ^ value) * 0x9E3779B97F4A7C15u;
+    return sum ^ sum >> 29;
+}
+
+/* --- a driver by chance; what each of its threads saw, in its order, is its sum --- */
+
+static void act(unsigned who, uint8_t doing)
+{
+    uint64_t *sum = &seen[who];
+    switch (doing) {
+    case 0: *sum = mixed(*sum, nicx_read32(NIC_RDH(0))); break;
+    case 1: *sum = mixed(*sum, nicx_read32(NIC_TDH(0))); break;
+    case 2: *sum = mixed(*sum, nicx_read32(NIC_EICR)); break;
+    case 3: *sum = mixed(*sum, nicx_get64(RX_RING + 8)); break;
+    case 4: nicx_write32(NIC_RDT(0), 2); break;
+    case 5: nicx_write32(NIC_TDT(0), who + 1); break;
+    case 6: nicx_put64(RX_RING + 16, buffer(1)); break;
+    case 7: nicx_write32(NIC_EIMS, CAUSE); break;
+    case 8: nicx_write32(NIC_EERD, 1); break;
+    case 9: *sum = mixed(*sum, nicx_read32(NIC_EERD)); break;
+    case 10: nicx_write32(NIC_RXDCTL(0), who ? ENABLE : 0); break;
+    case 11: nicx_wait(); break;
+    case 12:
+        *sum = mixed(*sum, seen[who ^ 1]);
+        nicx_point();
+        break;
+    default: *sum = mixed(*sum, nicx_get64(buffer(0) + 8 * who));
+    }
+}
+
+static const unsigned numbers[TWO] = {0, 1};
+
+static void task(void *argument)
+{
+    unsigned who = *(const unsigned *)argument;
+    for (unsigned k = 0; k < LENGTH; k++)
+        act(who, doings[who][k]);
+}
+
+static void handler(void *unused)
+{
+    (void)unused;
+    seen[TWO] = mixed(seen[TWO], nicx_read32(NIC_EICR));
+}
+
+static const char *bring_up(void)
+{
+    lend_blocks(2);
+    bring_up_receive(1);
+    bring_up_interrupt();
+    bring_up_transmit();
+    put_transmit(0, 0, EOP_RS);
+    put_transmit(1, 1, EOP_RS);
+    return NULL;
+}
+
+static void begin(void)
+{
+    memset(seen, 0, sizeof seen);
+    nicx_service("one", task, (void *)(uintptr_t)&numbers[0]);
+    nicx_service("two", task, (void *)(uintptr_t)&numbers[1]);
+    if (has_handler)
+        nicx_handler("isr", 0, 5, handler, NULL, NICX_ANYWHERE);
+    frames_come(1);
+}
+
+static const char *end(void)
+{
+    const uint32_t looked[] = {NIC_RDH(0), NIC_TDH(0), NIC_EIMS, NIC_EERD, NIC_RXDCTL(0), NIC_RDT(0), NIC_TDT(0)};
+    uint64_t sum = 1, half = 0;
+    uint32_t word;
+    for (unsigned k = 0; k <= TWO; k++)
+        sum = mixed(sum, seen[k]);
+    for (size_t k = 0; k < sizeof looked / sizeof *looked; k++) {
+        nic_peek32(nicx_device(), looked[k], &word);
+        sum = mixed(sum, word);
+    }
+    nic_peek32(nicx_device(), NIC_EICR, &word);
+    nic_get64(nicx_device(), RX_RING + 8, &half);
+    sum = mixed(mixed(sum, word), half);
+    if (end_count < MOST_ENDS)
+        ends[end_count++] = sum;
+    return NULL;
+}
+
+/* --- both searches --- */
+
+static int order(const void *a, const void *b)
+{
+    uint64_t x = *(const uint64_t *)a, y = *(const uint64_t *)b;
+    return x < y ? -1 : x > y;
+}
+
+static uint64_t sum_of_ends(void)
+{
+    uint64_t sum = 1;
+    qsort(ends, end_count, sizeof *ends, order);
+    for (uint32_t k = 0; k < end_count; k++)
+        if (!k || ends[k] != ends[k - 1])
+            sum = mixed(sum, ends[k]);
+    return sum;
+}
+
+/* How many schedules; none where there are too many to look at. */
+static uint32_t search(uint32_t preemptions, bool sleeps, uint64_t *sum)
+{
+    struct parts parts = {0};
+    struct exhaustive *it = nicxi_exhaustive(preemptions, sleeps, &parts);
+    nicx_result result;
+    uint32_t runs = 0;
+    end_count = 0;
+    while (nicxi_exhaustive_next(it) && runs < MOST_RUNS) {
+        nicx_chooser chooser = nicxi_exhaustive_chooser(it);
+        nicx_run(&chooser, &result);
+        nicxi_exhaustive_made(it);
+        runs++;
+        if (result.outcome != NICX_FINE || nicxi_exhaustive_is_strange(it)) {
+            printf("a schedule ended with %s\n", result.words);
+            exit(1);
+        }
+    }
+    nicxi_free_exhaustive(it);
+    *sum = sum_of_ends();
+    return runs == MOST_RUNS ? 0 : runs;
+}
+
+int main(int argc, char **argv)
+{
+    static const nicx_scenario scenario = {
+        .name = "sleeping",
+        .fifo = 64,
+        .blocks = 16,
+        .queues = 1,
+        .allowed = NICX_FAULTS,
+        .bring_up = bring_up,
+        .begin = begin,
+        .end = end,
+    };
+    unsigned scenarios = argc > 1 ? (unsigned)strtoul(argv[1], NULL, 10) : 100, compared = 0;
+    uint64_t all = 0, fewer = 0;
+    if (nicx_open(&scenario))
+        return 2;
+    for (unsigned k = 0; k < scenarios; k++) {
+        static const uint32_t bounds[] = {0, 1, 2, UNBOUNDED};
+        chance = chance_of(argc > 2 ? strtoull(argv[2], NULL, 10) : 1, k);
+        has_handler = chance_below(&chance, 2);
+        for (unsigned who = 0; who < TWO; who++)
+            for (unsigned j = 0; j < LENGTH; j++)
+                doings[who][j] = (uint8_t)chance_below(&chance, 14);
+        uint64_t with, without;
+        uint32_t bound = bounds[k % 4];
+        uint32_t many = search(bound, false, &without), few = search(bound, true, &with);
+        if (!many || !few)
+            continue;
+        compared++;
+        all += many;
+        fewer += few;
+        if (with != without) {
+            printf("scenario %u, bound %u: other ends with sleep sets than without\n", k, (unsigned)bound);
+            return 1;
+        }
+    }
+    nicx_close();
+    printf("%u scenarios, %llu schedules, %llu with sleep sets\n", compared, (unsigned long long)all,
+           (unsigned long long)fewer);
+    return compared ? 0 : 1;
+}

@@ -147,6 +147,17 @@ const char *nic_version(void);
    compiled from the same sources without proofs. */
 bool nic_is_proved(void);
 
+/* --- recordings --- */
+
+/* Records each controller that is made from now on: what a program asks of it is written to a file as lines of the
+   script language, an event a line with its reply as a comment, when the call returns. A crash loses nothing of it. The
+   first controller has the file of this name, the next ones NAME.2, NAME.3 and so on; %p in the name is the number of
+   the process. `tools/nicview FILE` draws one (docs/views.md). Null: nothing is recorded from now on. False if the file
+   can't be written: one line on standard error says so, and nothing is recorded. Without a call of it the variable
+   NIC82599_RECORD has the name. Recorded calls of all controllers come one after the other. A child of fork records the
+   controllers that it makes itself, if the name has %p. */
+bool nic_record(const char *path);
+
 /* --- life --- */
 
 /* Makes a controller as after power-up: `vfs` virtual functions (at most 63), room for `fifo` frames that wait to be

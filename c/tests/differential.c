@@ -178,7 +178,7 @@ static void read_range(uint32_t bus, size_t length)
     memset(got, 0xA5, sizeof got);
     for (uint32_t at = first; at < bus + length; at += 16)
         lent = peek(at, whole + (at - first)) && lent;
-    ANSWERS(lent ? NIC_DONE : NIC_NOT_LENT, nic_dma_read(&n, bus, got, length));
+    ANSWERS(lent || !length ? NIC_DONE : NIC_NOT_LENT, nic_dma_read(&n, bus, got, length));
     for (size_t k = 0; k < length; k++)
         CHECK(got[k] == (lent ? whole[bus - first + k] : 0xA5));
 }
@@ -192,7 +192,7 @@ static void write_range(uint32_t bus, const uint8_t *bytes, size_t length)
     CHECK(length <= MOST_BYTES);
     for (uint32_t at = first; at < bus + length; at += 16)
         lent = nic_dma_read(&n, at, whole + (at - first), 16) == NIC_DONE && lent;
-    ANSWERS(lent ? NIC_DONE : NIC_NOT_LENT, nic_dma_write(&n, bus, bytes, length));
+    ANSWERS(lent || !length ? NIC_DONE : NIC_NOT_LENT, nic_dma_write(&n, bus, bytes, length));
     if (lent && length)
         memcpy(whole + (bus - first), bytes, length);
     for (uint32_t at = first; at < bus + length; at += 16) {

@@ -1,0 +1,556 @@
+/* The calls of the library that change a controller or read what it has. Each is the call of the proved archive, which
+   c/recorder/calls.syms gives another name, and while a controller is recorded also a line of the recording. */
+#include <inttypes.h>
+#include <stdio.h>
+#include <string.h>
+
+#include "recording.h"
+
+enum { MOST_VFS = 63, MOST_BLOCKS = 65536, UNIT = 16, SHOWN = 4 };
+
+#define IS_OFF __builtin_expect(!__atomic_load_n(&nicd_is_recording, __ATOMIC_RELAXED), 1)
+#define COLD static __attribute__((noinline, cold))
+
+uint8_t nicd_new(uint8_t vfs, uint16_t fifo, uint32_t blocks, void **device);
+void nicd_free(nic n);
+uint8_t nicd_snapshot(nic *n, nic_kept *kept);
+uint8_t nicd_restore(nic *n, const nic_kept *kept);
+void nicd_free_snapshot(nic_kept kept);
+uint8_t nicd_read32(nic *n, uint32_t address, uint32_t *word);
+uint8_t nicd_write32(nic *n, uint32_t address, uint32_t word);
+uint8_t nicd_vf_read32(nic *n, uint8_t vf, uint32_t offset, uint32_t *word);
+uint8_t nicd_vf_write32(nic *n, uint8_t vf, uint32_t offset, uint32_t word);
+uint8_t nicd_lend(nic *n, uint32_t block);
+uint8_t nicd_take(nic *n, uint32_t block);
+uint8_t nicd_lend_all(nic *n);
+uint8_t nicd_dma_read(nic *n, uint64_t bus, uint8_t *bytes, size_t length);
+uint8_t nicd_dma_write(nic *n, uint64_t bus, const uint8_t *bytes, size_t length);
+uint8_t nicd_arrive(nic *n, const uint8_t *frame, size_t length, nic_told *told);
+uint8_t nicd_collect(nic *n, uint8_t *room, size_t length, nic_told *told);
+uint8_t nicd_link(nic *n, bool up);
+uint8_t nicd_rx_step(nic *n, nic_told *told);
+uint8_t nicd_tx_step(nic *n, uint16_t queue, nic_told *told);
+uint8_t nicd_queue_step(nic *n, bool transmit, uint16_t queue, nic_told *told);
+uint8_t nicd_eeprom_step(nic *n, nic_told *told);
+uint8_t nicd_int_step(nic *n, uint8_t group, nic_told *told);
+uint8_t nicd_settle(nic *n, uint16_t queues, nic_told *told, size_t length, size_t *count);
+uint8_t nicd_install_image(nic *n, const uint8_t *bytes, size_t length);
+uint8_t nicd_install_text(nic *n, const uint8_t *text, size_t length, uint64_t *line);
+
+/* --- replies, as `nicbench run` prints them --- */
+
+static void reply(struct recording *it, const char *text)
+{
+    nicd_add_reply(it);
+    nicd_add(it, "%s\n", text);
+}
+
+static void reply_word(struct recording *it, uint8_t status, uint32_t word)
+{
+    nicd_add_reply(it);
+    nicd_add(it, "%s 0x%08" PRIx32 "\n", status == NIC_DONE ? "word" : "stray", word);
+}
+
+static void reply_write(struct recording *it, uint8_t status)
+{
+    reply(it, status == NIC_DONE ? "done" : "stray 0x00000000");
+}
+
+static void reply_told(struct recording *it, uint8_t status, const nic_told *told)
+{
+    nicd_add_reply(it);
+    nicd_add(it, "%s", nic_status_name(status));
+    switch (status) {
+    case NIC_DROPPED: nicd_add(it, " %s", nic_why_name(told->why)); break;
+    case NIC_WROTE: nicd_add(it, " queue %u slot %u %s", told->queue, told->slot, told->end ? "end" : "more"); break;
+    case NIC_ADVANCED: nicd_add(it, " queue %u slot %u", told->queue, told->slot); break;
+    case NIC_SENT: nicd_add(it, " queue %u len %" PRIu64, told->queue, told->len); break;
+    case NIC_FAULT:
+        nicd_add(it, " queue %u %s", told->queue, nic_fault_name(told->why));
+        if (told->why == NIC_FAULT_NOT_LENT)
+            nicd_add(it, " 0x%05" PRIx64, told->bus);
+        break;
+    case NIC_MESSAGE:
+        if (told->group)
+            nicd_add(it, " vf %u vector %u", told->group - 1u, told->vector);
+        else
+            nicd_add(it, " pf vector %u", told->vector);
+        break;
+    default: break;
+    }
+    nicd_add(it, "\n");
+}
+
+/* A call that a script can't make, and that changed nothing. */
+static void refused(struct recording *it, const char *call, uint8_t status)
+{
+    nicd_add(it, "# %s: %s\n", call, nic_status_name(status));
+}
+
+/* --- life --- */
+
+uint8_t nic_new(uint8_t vfs, uint16_t fifo, uint32_t blocks, void **device)
+{
+    uint8_t status = nicd_new(vfs, fifo, blocks, device);
+    if (status == NIC_DONE) {
+        nic n = {*device};
+        nicd_begin(&n, vfs, fifo, blocks);
+    }
+    return status;
+}
+
+void nic_free(nic n)
+{
+    if (!IS_OFF) {
+        nicd_end(nicd_enter(&n));
+        nicd_leave(NULL);
+    }
+    nicd_free(n);
+}
+
+/* --- snapshots: lines that a script takes for comments --- */
+
+uint8_t nic_snapshot(nic *n, nic_kept *kept)
+{
+    uint8_t status = nicd_snapshot(n, kept);
+    if (IS_OFF)
+        return status;
+    struct recording *it = nicd_enter(n);
+    if (it && status == NIC_DONE)
+        nicd_add(it, "#: snapshot %" PRIu32 "\n", nicd_keep(it, kept));
+    nicd_leave(it);
+    return status;
+}
+
+uint8_t nic_restore(nic *n, const nic_kept *kept)
+{
+    uint8_t status = nicd_restore(n, kept);
+    if (IS_OFF)
+        return status;
+    struct recording *it = nicd_enter(n);
+    if (it && status == NIC_DONE) /* 0 is a snapshot of another recording, or of none */
+        nicd_add(it, "#: restore %" PRIu32 "\n", nicd_kept(it, kept));
+    nicd_leave(it);
+    return status;
+}
+
+void nic_free_snapshot(nic_kept kept)
+{
+    if (!IS_OFF) {
+        uint32_t number = 0;
+        struct recording *it = nicd_enter_dropped(kept, &number);
+        if (it)
+            nicd_add(it, "#: drop %" PRIu32 "\n", number);
+        nicd_leave(it);
+    }
+    nicd_free_snapshot(kept);
+}
+
+/* --- registers --- */
+
+COLD uint8_t read_register(nic *n, uint32_t address, uint32_t *word)
+{
+    struct recording *it = nicd_enter(n);
+    uint8_t status = nicd_read32(n, address, word);
+    if (it) {
+        nicd_add(it, "r 0x%05" PRIx32, address);
+        reply_word(it, status, *word);
+    }
+    nicd_leave(it);
+    return status;
+}
+
+uint8_t nic_read32(nic *n, uint32_t address, uint32_t *word)
+{
+    return IS_OFF ? nicd_read32(n, address, word) : read_register(n, address, word);
+}
+
+COLD uint8_t write_register(nic *n, uint32_t address, uint32_t word)
+{
+    struct recording *it = nicd_enter(n);
+    uint8_t status = nicd_write32(n, address, word);
+    if (it) {
+        nicd_add(it, "w 0x%05" PRIx32 " 0x%08" PRIx32, address, word);
+        reply_write(it, status);
+    }
+    nicd_leave(it);
+    return status;
+}
+
+uint8_t nic_write32(nic *n, uint32_t address, uint32_t word)
+{
+    return IS_OFF ? nicd_write32(n, address, word) : write_register(n, address, word);
+}
+
+COLD uint8_t read_vf(nic *n, uint8_t vf, uint32_t offset, uint32_t *word)
+{
+    struct recording *it = nicd_enter(n);
+    uint8_t status = nicd_vf_read32(n, vf, offset, word);
+    if (it && vf < MOST_VFS) {
+        nicd_add(it, "vr %u 0x%04" PRIx32, vf, offset);
+        reply_word(it, status, *word);
+    } else if (it) {
+        refused(it, "a read of a function above 62", status);
+    }
+    nicd_leave(it);
+    return status;
+}
+
+uint8_t nic_vf_read32(nic *n, uint8_t vf, uint32_t offset, uint32_t *word)
+{
+    return IS_OFF ? nicd_vf_read32(n, vf, offset, word) : read_vf(n, vf, offset, word);
+}
+
+COLD uint8_t write_vf(nic *n, uint8_t vf, uint32_t offset, uint32_t word)
+{
+    struct recording *it = nicd_enter(n);
+    uint8_t status = nicd_vf_write32(n, vf, offset, word);
+    if (it && vf < MOST_VFS) {
+        nicd_add(it, "vw %u 0x%04" PRIx32 " 0x%08" PRIx32, vf, offset, word);
+        reply_write(it, status);
+    } else if (it) {
+        refused(it, "a write of a function above 62", status);
+    }
+    nicd_leave(it);
+    return status;
+}
+
+uint8_t nic_vf_write32(nic *n, uint8_t vf, uint32_t offset, uint32_t word)
+{
+    return IS_OFF ? nicd_vf_write32(n, vf, offset, word) : write_vf(n, vf, offset, word);
+}
+
+/* --- packet memory --- */
+
+static void moved(struct recording *it, const char *call, uint32_t block, uint8_t status)
+{
+    if (block >= MOST_BLOCKS || status == NIC_OUT_OF_MEMORY) {
+        refused(it, call, status);
+        return;
+    }
+    nicd_add(it, "%s %" PRIu32, call, block);
+    if (*call == 'u' && status == NIC_DONE) {
+        nicd_add_reply(it);
+        nicd_add(it, "taken %" PRIu32 "\n", block);
+    } else {
+        reply(it, nic_status_name(status));
+    }
+}
+
+uint8_t nic_lend(nic *n, uint32_t block)
+{
+    if (IS_OFF)
+        return nicd_lend(n, block);
+    struct recording *it = nicd_enter(n);
+    uint8_t status = nicd_lend(n, block);
+    if (it)
+        moved(it, "lend", block, status);
+    nicd_leave(it);
+    return status;
+}
+
+uint8_t nic_take(nic *n, uint32_t block)
+{
+    if (IS_OFF)
+        return nicd_take(n, block);
+    struct recording *it = nicd_enter(n);
+    uint8_t status = nicd_take(n, block);
+    if (it)
+        moved(it, "unlend", block, status);
+    nicd_leave(it);
+    return status;
+}
+
+/* Block by block, as the call itself does: so each block that it lends has its line. */
+COLD uint8_t lend_all(nic *n)
+{
+    struct recording *it = nicd_enter(n);
+    uint8_t status = NIC_DONE;
+    for (uint32_t block = 0; it && block < MOST_BLOCKS && status != NIC_OUT_OF_MEMORY; block++) {
+        status = nicd_lend(n, block);
+        if (status == NIC_DONE)
+            moved(it, "lend", block, status);
+    }
+    if (status != NIC_OUT_OF_MEMORY)
+        status = nicd_lend_all(n);
+    nicd_leave(it);
+    return status;
+}
+
+uint8_t nic_lend_all(nic *n)
+{
+    return IS_OFF ? nicd_lend_all(n) : lend_all(n);
+}
+
+/* The first sixteen of a range that isn't lent, or where the range begins. */
+static uint64_t not_lent(nic *n, uint64_t bus, size_t length)
+{
+    uint8_t unit[UNIT];
+    uint64_t first = bus & ~(uint64_t)(UNIT - 1);
+    for (uint64_t at = first; at < first + length + UNIT; at += UNIT)
+        if (nicd_dma_read(n, at, unit, UNIT) != NIC_DONE)
+            return at;
+    return first;
+}
+
+/* A read looks at each sixteen that it touches; the first four are told. */
+COLD uint8_t read_memory(nic *n, uint64_t bus, uint8_t *bytes, size_t length)
+{
+    uint8_t unit[UNIT];
+    struct recording *it = nicd_enter(n);
+    uint8_t status = nicd_dma_read(n, bus, bytes, length);
+    uint64_t first = bus & ~(uint64_t)(UNIT - 1);
+    if (it && status != NIC_DONE && (bus > UINT32_MAX || length > UINT32_MAX)) {
+        refused(it, "a read of memory", status);
+    } else if (it && status != NIC_DONE) {
+        nicd_add(it, "peek 0x%05" PRIx64 " 0", not_lent(n, bus, length));
+        reply(it, nic_status_name(status));
+    } else if (it && length) {
+        for (uint64_t at = first; at < bus + length && at < first + SHOWN * UNIT; at += UNIT) {
+            nicd_dma_read(n, at, unit, UNIT);
+            nicd_add(it, "peek 0x%05" PRIx64 " %u", at, at < bus ? (unsigned)(bus / 4 % 4) : 0u);
+            nicd_add_reply(it);
+            nicd_add(it, "bytes ");
+            nicd_add_hex(it, unit, UNIT);
+            nicd_add(it, "\n");
+        }
+    }
+    nicd_leave(it);
+    return status;
+}
+
+uint8_t nic_dma_read(nic *n, uint64_t bus, uint8_t *bytes, size_t length)
+{
+    return IS_OFF ? nicd_dma_read(n, bus, bytes, length) : read_memory(n, bus, bytes, length);
+}
+
+static void poke(struct recording *it, uint64_t at, const uint8_t unit[UNIT], uint8_t status)
+{
+    uint32_t name = nicd_add_data(it, unit, UNIT);
+    nicd_add(it, "poke 0x%05" PRIx64 " d%" PRIu32, at, name);
+    reply(it, nic_status_name(status));
+}
+
+/* A write is a poke of each sixteen that it touches, as they are behind it. */
+COLD uint8_t write_memory(nic *n, uint64_t bus, const uint8_t *bytes, size_t length)
+{
+    uint8_t unit[UNIT] = {0};
+    struct recording *it = nicd_enter(n);
+    uint8_t status = nicd_dma_write(n, bus, bytes, length);
+    if (it && status != NIC_DONE && (bus > UINT32_MAX || length > UINT32_MAX)) {
+        refused(it, "a write of memory", status);
+    } else if (it && status != NIC_DONE) {
+        poke(it, not_lent(n, bus, length), unit, status);
+    } else if (it && length) {
+        for (uint64_t at = bus & ~(uint64_t)(UNIT - 1); at < bus + length; at += UNIT) {
+            nicd_dma_read(n, at, unit, UNIT);
+            poke(it, at, unit, status);
+        }
+    }
+    nicd_leave(it);
+    return status;
+}
+
+uint8_t nic_dma_write(nic *n, uint64_t bus, const uint8_t *bytes, size_t length)
+{
+    return IS_OFF ? nicd_dma_write(n, bus, bytes, length) : write_memory(n, bus, bytes, length);
+}
+
+/* --- the link --- */
+
+COLD uint8_t arrive(nic *n, const uint8_t *frame, size_t length, nic_told *told)
+{
+    struct recording *it = nicd_enter(n);
+    uint8_t status = nicd_arrive(n, frame, length, told);
+    if (it && status == NIC_OUT_OF_MEMORY) {
+        refused(it, "arrive", status);
+    } else if (it) {
+        nicd_add(it, "arrive d%" PRIu32, nicd_add_data(it, frame, length));
+        reply_told(it, status, told);
+    }
+    nicd_leave(it);
+    return status;
+}
+
+uint8_t nic_arrive(nic *n, const uint8_t *frame, size_t length, nic_told *told)
+{
+    return IS_OFF ? nicd_arrive(n, frame, length, told) : arrive(n, frame, length, told);
+}
+
+COLD uint8_t collect(nic *n, uint8_t *room, size_t length, nic_told *told)
+{
+    struct recording *it = nicd_enter(n);
+    uint8_t status = nicd_collect(n, room, length, told);
+    if (it && status == NIC_FRAME) {
+        nicd_add(it, "collect");
+        nicd_add_reply(it);
+        nicd_add(it, "frame queue %u ", told->queue);
+        nicd_add_hex(it, room, (size_t)told->len);
+        nicd_add(it, "\n");
+    } else if (it && status == NIC_IDLE) {
+        nicd_add(it, "collect");
+        reply(it, "idle");
+    } else if (it) {
+        refused(it, "collect", status);
+    }
+    nicd_leave(it);
+    return status;
+}
+
+uint8_t nic_collect(nic *n, uint8_t *room, size_t length, nic_told *told)
+{
+    return IS_OFF ? nicd_collect(n, room, length, told) : collect(n, room, length, told);
+}
+
+uint8_t nic_link(nic *n, bool up)
+{
+    if (IS_OFF)
+        return nicd_link(n, up);
+    struct recording *it = nicd_enter(n);
+    uint8_t status = nicd_link(n, up);
+    if (it) {
+        nicd_add(it, "link %s", up ? "up" : "down");
+        reply(it, nic_status_name(status));
+    }
+    nicd_leave(it);
+    return status;
+}
+
+/* --- steps --- */
+
+/* What a step did; one without memory did nothing. */
+static uint8_t stepped(struct recording *it, uint8_t status, const nic_told *told, const char *line)
+{
+    if (it && status == NIC_OUT_OF_MEMORY) {
+        refused(it, line, status);
+    } else if (it) {
+        nicd_add(it, "%s", line);
+        reply_told(it, status, told);
+    }
+    nicd_leave(it);
+    return status;
+}
+
+uint8_t nic_rx_step(nic *n, nic_told *told)
+{
+    if (IS_OFF)
+        return nicd_rx_step(n, told);
+    struct recording *it = nicd_enter(n);
+    return stepped(it, nicd_rx_step(n, told), told, "rx");
+}
+
+uint8_t nic_tx_step(nic *n, uint16_t queue, nic_told *told)
+{
+    if (IS_OFF)
+        return nicd_tx_step(n, queue, told);
+    char line[16];
+    struct recording *it = nicd_enter(n);
+    snprintf(line, sizeof line, "tx %u", queue);
+    return stepped(it, nicd_tx_step(n, queue, told), told, line);
+}
+
+uint8_t nic_queue_step(nic *n, bool transmit, uint16_t queue, nic_told *told)
+{
+    if (IS_OFF)
+        return nicd_queue_step(n, transmit, queue, told);
+    char line[24];
+    struct recording *it = nicd_enter(n);
+    snprintf(line, sizeof line, "qstep %s %u", transmit ? "tx" : "rx", queue);
+    return stepped(it, nicd_queue_step(n, transmit, queue, told), told, line);
+}
+
+uint8_t nic_eeprom_step(nic *n, nic_told *told)
+{
+    if (IS_OFF)
+        return nicd_eeprom_step(n, told);
+    struct recording *it = nicd_enter(n);
+    return stepped(it, nicd_eeprom_step(n, told), told, "eestep");
+}
+
+static void group_line(uint16_t group, char line[24])
+{
+    if (group)
+        snprintf(line, 24, "int %u", group - 1u);
+    else
+        snprintf(line, 24, "int pf");
+}
+
+uint8_t nic_int_step(nic *n, uint8_t group, nic_told *told)
+{
+    if (IS_OFF)
+        return nicd_int_step(n, group, told);
+    char line[24];
+    struct recording *it = nicd_enter(n);
+    uint8_t status = nicd_int_step(n, group, told);
+    group_line(group, line);
+    if (it && group > MOST_VFS) {
+        refused(it, "int of a function above 62", status);
+        nicd_leave(it);
+        return status;
+    }
+    return stepped(it, status, told, line);
+}
+
+/* A step that settle made. */
+static void settled(struct recording *it, const nic_told *told)
+{
+    char line[24];
+    switch (told->step) {
+    case NIC_RX_ENABLE:
+    case NIC_TX_ENABLE:
+    case NIC_TRANSMIT: snprintf(line, sizeof line, "%s %u", nic_step_name(told->step), told->of); break;
+    case NIC_INTERRUPT: group_line(told->of, line); break;
+    default: snprintf(line, sizeof line, "%s", nic_step_name(told->step)); break;
+    }
+    nicd_add(it, "%s", line);
+    reply_told(it, told->status, told);
+}
+
+COLD uint8_t settle(nic *n, uint16_t queues, nic_told *told, size_t length, size_t *count)
+{
+    struct recording *it = nicd_enter(n);
+    uint8_t status = nicd_settle(n, queues, told, length, count);
+    for (size_t k = 0; it && k < *count; k++)
+        settled(it, &told[k]);
+    nicd_leave(it);
+    return status;
+}
+
+uint8_t nic_settle(nic *n, uint16_t queues, nic_told *told, size_t length, size_t *count)
+{
+    return IS_OFF ? nicd_settle(n, queues, told, length, count) : settle(n, queues, told, length, count);
+}
+
+/* --- the EEPROM: a script can't install an image, so these too are comments to it --- */
+
+static void installed(struct recording *it, const char *form, const uint8_t *bytes, size_t length, uint8_t status)
+{
+    if (it && status == NIC_DONE) {
+        nicd_add(it, "#: %s ", form);
+        nicd_add_hex(it, bytes, length);
+        nicd_add(it, "\n");
+    } else if (it) {
+        refused(it, "an EEPROM image", status);
+    }
+    nicd_leave(it);
+}
+
+uint8_t nic_install_image(nic *n, const uint8_t *bytes, size_t length)
+{
+    if (IS_OFF)
+        return nicd_install_image(n, bytes, length);
+    struct recording *it = nicd_enter(n);
+    uint8_t status = nicd_install_image(n, bytes, length);
+    installed(it, "image", bytes, length, status);
+    return status;
+}
+
+uint8_t nic_install_text(nic *n, const uint8_t *text, size_t length, uint64_t *line)
+{
+    if (IS_OFF)
+        return nicd_install_text(n, text, length, line);
+    struct recording *it = nicd_enter(n);
+    uint8_t status = nicd_install_text(n, text, length, line);
+    installed(it, "text", text, length, status);
+    return status;
+}

@@ -1,0 +1,332 @@
+#define _POSIX_C_SOURCE 200809L
+#include "recording.h"
+
+#include <errno.h>
+#include <fcntl.h>
+#include <pthread.h>
+#include <stdarg.h>
+#include <stdbool.h>
+#include <stdio.h>
+#include <stdlib.h>
+#include <string.h>
+#include <unistd.h>
+
+enum { REPLIES = 28, FIRST_ROOM = 4096 };
+
+struct kept {
+    struct kept *next;
+    void *of; /* the snapshot */
+    uint32_t number;
+};
+
+struct recording {
+    struct recording *next;
+    void *device;
+    int file;
+    bool is_whole; /* no line of it was lost */
+    uint32_t strings, snapshots;
+    struct kept *kept;
+    char *text;
+    size_t used, room, line; /* bytes of `text`, and where its last line begins */
+};
+
+int nicd_is_recording;
+
+/* All that follows is held by `all`. */
+static pthread_mutex_t all = PTHREAD_MUTEX_INITIALIZER;
+static struct recording *recordings;
+static char *path;      /* what the caller gave, or null: nothing is recorded */
+static int opened = -1; /* the first file, where nic_record opened it */
+static unsigned files;  /* how many controllers had one */
+static bool is_told;    /* nic_record was called, or the environment was looked at */
+
+static void hold(void)
+{
+    pthread_mutex_lock(&all);
+}
+
+static void let_go(void)
+{
+    pthread_mutex_unlock(&all);
+}
+
+static void note(void)
+{
+    __atomic_store_n(&nicd_is_recording, recordings != NULL, __ATOMIC_RELAXED);
+}
+
+static void say(const char *name, const char *why)
+{
+    fprintf(stderr, "nic82599: %s can't be written (%s), so this run isn't recorded there\n", name, why);
+}
+
+/* --- files --- */
+
+/* The name of the file of a controller, counted from 0: %p is the process, and from the second on a number follows. */
+static void name_of(unsigned number, char *name, size_t room)
+{
+    size_t at = 0;
+    for (const char *c = path; *c && at + 24 < room; c++) {
+        if (c[0] == '%' && c[1] == 'p') {
+            at += (size_t)snprintf(name + at, room - at, "%ld", (long)getpid());
+            c++;
+        } else {
+            name[at++] = *c;
+        }
+    }
+    name[at] = 0;
+    if (number)
+        snprintf(name + at, room - at, ".%u", number + 1);
+}
+
+static int open_file(unsigned number)
+{
+    char name[4096];
+    name_of(number, name, sizeof name);
+    int file = open(name, O_WRONLY | O_CREAT | O_TRUNC | O_CLOEXEC, 0666);
+    if (file < 0)
+        say(name, strerror(errno));
+    return file;
+}
+
+static void put_out(struct recording *it)
+{
+    const char *text = it->text;
+    size_t left = it->is_whole ? it->used : 0;
+    while (left) {
+        ssize_t written = write(it->file, text, left);
+        if (written < 0 && errno == EINTR)
+            continue;
+        if (written < 0) {
+            fprintf(stderr, "nic82599: a recording ends here: %s\n", strerror(errno));
+            it->is_whole = false;
+            break;
+        }
+        text += written;
+        left -= (size_t)written;
+    }
+    it->used = it->line = 0;
+}
+
+static void finish(struct recording *it)
+{
+    while (it->kept) {
+        struct kept *next = it->kept->next;
+        free(it->kept);
+        it->kept = next;
+    }
+    close(it->file);
+    free(it->text);
+    free(it);
+}
+
+static void finish_all(void)
+{
+    while (recordings) {
+        struct recording *next = recordings->next;
+        finish(recordings);
+        recordings = next;
+    }
+    if (opened >= 0)
+        close(opened);
+    opened = -1;
+    note();
+}
+
+/* A child has controllers that its parent records: in the child they aren't. Its own are, if the file is its own. */
+static void in_child(void)
+{
+    finish_all();
+    files = 0;
+    if (path && !strstr(path, "%p")) {
+        free(path);
+        path = NULL;
+    }
+    let_go();
+}
+
+/* --- which controllers --- */
+
+static void take_path(const char *given)
+{
+    static bool is_prepared;
+    if (!is_prepared)
+        pthread_atfork(hold, let_go, in_child);
+    is_prepared = is_told = true;
+    free(path);
+    path = given && *given ? malloc(strlen(given) + 1) : NULL;
+    if (path)
+        strcpy(path, given);
+    files = 0;
+}
+
+bool nic_record(const char *given)
+{
+    hold();
+    if (!given)
+        finish_all();
+    if (opened >= 0)
+        close(opened);
+    take_path(given);
+    opened = path ? open_file(0) : -1;
+    bool is_there = !given || opened >= 0;
+    if (!is_there)
+        take_path(NULL);
+    let_go();
+    return is_there;
+}
+
+void nicd_begin(const nic *n, uint8_t vfs, uint16_t fifo, uint32_t blocks)
+{
+    hold();
+    if (!is_told)
+        take_path(getenv("NIC82599_RECORD"));
+    struct recording *it = path ? calloc(1, sizeof *it) : NULL;
+    if (it) {
+        it->file = opened >= 0 ? opened : open_file(files);
+        opened = -1;
+        files++;
+    }
+    if (it && it->file >= 0) {
+        it->device = n->device;
+        it->is_whole = true;
+        it->next = recordings;
+        recordings = it;
+        nicd_add(it, "#: nic vfs %u fifo %u blocks %lu\n", vfs, fifo, (unsigned long)blocks);
+        nicd_add(it, "# recorded by the library %s; nicbench run --vfs %u --fifo %u\n", nic_version(), vfs, fifo);
+        put_out(it);
+    } else {
+        free(it);
+    }
+    note();
+    let_go();
+}
+
+void nicd_end(struct recording *it)
+{
+    struct recording **at = &recordings;
+    if (!it)
+        return;
+    while (*at != it)
+        at = &(*at)->next;
+    *at = it->next;
+    finish(it);
+    note();
+}
+
+struct recording *nicd_enter(const nic *n)
+{
+    hold();
+    struct recording *it = recordings;
+    while (it && it->device != n->device)
+        it = it->next;
+    return it;
+}
+
+void nicd_leave(struct recording *it)
+{
+    if (it)
+        put_out(it);
+    let_go();
+}
+
+/* --- snapshots --- */
+
+uint32_t nicd_keep(struct recording *it, const nic_kept *kept)
+{
+    struct kept *one = malloc(sizeof *one);
+    it->snapshots++;
+    if (!one)
+        return it->snapshots;
+    one->of = kept->kept;
+    one->number = it->snapshots;
+    one->next = it->kept;
+    it->kept = one;
+    return it->snapshots;
+}
+
+uint32_t nicd_kept(const struct recording *it, const nic_kept *kept)
+{
+    for (const struct kept *one = it->kept; one; one = one->next)
+        if (one->of == kept->kept)
+            return one->number;
+    return 0;
+}
+
+struct recording *nicd_enter_dropped(nic_kept kept, uint32_t *number)
+{
+    hold();
+    for (struct recording *it = recordings; it; it = it->next)
+        for (struct kept **at = &it->kept; *at; at = &(*at)->next)
+            if ((*at)->of == kept.kept) {
+                struct kept *one = *at;
+                *at = one->next;
+                *number = one->number;
+                free(one);
+                return it;
+            }
+    return NULL;
+}
+
+/* --- text --- */
+
+/* Room for so many bytes more; without memory the recording is over. */
+static bool has_room(struct recording *it, size_t more)
+{
+    if (it->room - it->used >= more)
+        return true;
+    size_t room = it->room ? it->room : FIRST_ROOM;
+    while (room - it->used < more)
+        room *= 2;
+    char *text = realloc(it->text, room);
+    if (!text) {
+        it->is_whole = false;
+        return false;
+    }
+    it->text = text;
+    it->room = room;
+    return true;
+}
+
+static void note_line(struct recording *it)
+{
+    if (it->used && it->text[it->used - 1] == '\n')
+        it->line = it->used;
+}
+
+void nicd_add(struct recording *it, const char *format, ...)
+{
+    va_list list;
+    if (!has_room(it, 512))
+        return;
+    va_start(list, format);
+    int length = vsnprintf(it->text + it->used, 512, format, list);
+    va_end(list);
+    it->used += length < 0 ? 0 : length < 512 ? (size_t)length : 511;
+    note_line(it);
+}
+
+void nicd_add_hex(struct recording *it, const uint8_t *bytes, size_t length)
+{
+    static const char digits[] = "0123456789abcdef";
+    if (!has_room(it, 2 * length))
+        return;
+    for (size_t k = 0; k < length; k++) {
+        it->text[it->used++] = digits[bytes[k] >> 4];
+        it->text[it->used++] = digits[bytes[k] & 15];
+    }
+}
+
+uint32_t nicd_add_data(struct recording *it, const uint8_t *bytes, size_t length)
+{
+    nicd_add(it, "data d%lu ", (unsigned long)it->strings);
+    nicd_add_hex(it, bytes, length);
+    nicd_add(it, "\n");
+    return it->strings++;
+}
+
+void nicd_add_reply(struct recording *it)
+{
+    size_t wide = it->used - it->line;
+    nicd_add(it, "%*s # ", wide < REPLIES ? (int)(REPLIES - wide) : 0, "");
+}

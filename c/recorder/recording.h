@@ -1,0 +1,40 @@
+/* Recordings: the files that what a program asks of its controllers is written to. c/recorder/calls.c has the calls. */
+#ifndef NICD_RECORDING_H
+#define NICD_RECORDING_H
+
+#include <stddef.h>
+#include <stdint.h>
+
+#include "nic82599.h"
+
+/* A recording of one controller, whose text is written when an event is complete. */
+struct recording;
+
+/* Whether any controller is recorded: what each call looks at. */
+extern int nicd_is_recording;
+
+/* The recording of a controller, or null. All recordings are held until nicd_leave, also where there is none. */
+struct recording *nicd_enter(const nic *n);
+/* Writes what was added since nicd_enter, and lets the others go on. Takes null. */
+void nicd_leave(struct recording *it);
+
+/* A controller that was made, where controllers are to be recorded; and one that ended. */
+void nicd_begin(const nic *n, uint8_t vfs, uint16_t fifo, uint32_t blocks);
+void nicd_end(struct recording *it);
+
+/* The number of a snapshot that was made now, and of one that is restored: 0 if it isn't of this recording. */
+uint32_t nicd_keep(struct recording *it, const nic_kept *kept);
+uint32_t nicd_kept(const struct recording *it, const nic_kept *kept);
+/* Forgets a snapshot that ends, and enters the recording that it is of, or none. */
+struct recording *nicd_enter_dropped(nic_kept kept, uint32_t *number);
+
+/* --- text --- */
+
+void nicd_add(struct recording *it, const char *format, ...) __attribute__((format(printf, 2, 3)));
+void nicd_add_hex(struct recording *it, const uint8_t *bytes, size_t length);
+/* A line that names bytes, in front of the one that uses them: the number of the name. */
+uint32_t nicd_add_data(struct recording *it, const uint8_t *bytes, size_t length);
+/* Blanks up to the column of replies, counted from the last line's beginning, and what begins one. */
+void nicd_add_reply(struct recording *it);
+
+#endif

@@ -1,0 +1,142 @@
+/* Recordings: `recorder FOLDER`. What is called here is compared with its lines by c/test. */
+#define _POSIX_C_SOURCE 200809L
+#include <string.h>
+#include <sys/wait.h>
+#include <unistd.h>
+
+#include "check.h"
+
+static char *folder;
+
+static const char *path_of(const char *name)
+{
+    static char path[4096];
+    snprintf(path, sizeof path, "%s/%s", folder, name);
+    return path;
+}
+
+/* Whether a file has just this text; a file that isn't there has none. */
+static bool holds(const char *name, const char *want)
+{
+    char text[4096];
+    FILE *file = fopen(path_of(name), "r");
+    if (!file)
+        return false;
+    size_t length = fread(text, 1, sizeof text - 1, file);
+    fclose(file);
+    text[length] = 0;
+    if (strcmp(text, want) != 0)
+        fprintf(stderr, "%s has:\n%s\nand not:\n%s\n", name, text, want);
+    return strcmp(text, want) == 0;
+}
+
+static bool is_there(const char *name)
+{
+    return access(path_of(name), F_OK) == 0;
+}
+
+#define HEAD "#: nic vfs 0 fifo 4 blocks 2\n# recorded by the library " NIC82599_VERSION "; nicbench run --vfs 0 --fifo 4\n"
+
+/* Two controllers at once have a file each, one that is open already has none, and null ends all. */
+static void files(void)
+{
+    nic early, first, second, late;
+    ANSWERS(NIC_DONE, nic_open(&early, 0, 4, 2));
+    CHECK(nic_record(path_of("pair")));
+    ANSWERS(NIC_DONE, nic_open(&first, 0, 4, 2));
+    ANSWERS(NIC_DONE, nic_open(&second, 0, 4, 2));
+    ANSWERS(NIC_DONE, nic_write32(&early, NIC_RXCTRL, 1));
+    ANSWERS(NIC_DONE, nic_lend(&first, 1));
+    ANSWERS(NIC_DONE, nic_lend(&second, 0));
+    nic_close(&second);
+    CHECK(nic_record(NULL));
+    ANSWERS(NIC_DONE, nic_take(&first, 1));
+    ANSWERS(NIC_DONE, nic_open(&late, 0, 4, 2));
+    CHECK(holds("pair", HEAD "lend 1                       # done\n"));
+    CHECK(holds("pair.2", HEAD "lend 0                       # done\n"));
+    CHECK(!is_there("pair.3"));
+    nic_close(&early);
+    nic_close(&first);
+    nic_close(&late);
+}
+
+/* What no script can tell: snapshots, an image, and calls that are refused. */
+static void beyond_scripts(void)
+{
+    nic n;
+    nic_kept kept, unknown;
+    uint64_t line = 0;
+    const uint8_t odd[1] = {0}, text[] = "size 64\n";
+    ANSWERS(NIC_DONE, nic_open(&n, 0, 4, 2));
+    ANSWERS(NIC_DONE, nic_snapshot(&n, &unknown));
+    nic_close(&n);
+    CHECK(nic_record(path_of("beyond")));
+    ANSWERS(NIC_DONE, nic_open(&n, 0, 4, 2));
+    ANSWERS(NIC_DONE, nic_lend_all(&n));
+    ANSWERS(NIC_DONE, nic_snapshot(&n, &kept));
+    ANSWERS(NIC_DONE, nic_restore(&n, &kept));
+    nic_drop_snapshot(&kept);
+    ANSWERS(NIC_IMAGE_ODD_LENGTH, nic_install_image(&n, odd, 1));
+    ANSWERS(NIC_DONE, nic_install_text(&n, text, sizeof text - 1, &line));
+    ANSWERS(NIC_NO_BLOCK, nic_lend(&n, 70000));
+    ANSWERS(NIC_DONE, nic_restore(&n, &unknown));
+    nic_drop_snapshot(&unknown);
+    nic_close(&n);
+    CHECK(nic_record(NULL));
+    CHECK(holds("beyond", HEAD "lend 0                       # done\n"
+                               "lend 1                       # done\n"
+                               "#: snapshot 1\n"
+                               "#: restore 1\n"
+                               "#: drop 1\n"
+                               "# an EEPROM image: image: odd length\n"
+                               "#: text 73697a652036340a\n"
+                               "# lend: no block\n"
+                               "#: restore 0\n"));
+}
+
+/* A process that is killed has lost no line; its parent's recording hasn't got its events; %p is its number. */
+static void children(void)
+{
+    nic n;
+    int status = 0;
+    char name[64];
+    CHECK(nic_record(path_of("child.%p")));
+    ANSWERS(NIC_DONE, nic_open(&n, 0, 4, 2));
+    pid_t child = fork();
+    if (child == 0) {
+        nic mine;
+        nic_lend(&n, 0);
+        if (nic_open(&mine, 0, 4, 2) != NIC_DONE)
+            _exit(1);
+        nic_lend(&mine, 1);
+        abort();
+    }
+    CHECK(child > 0 && waitpid(child, &status, 0) == child && WIFSIGNALED(status));
+    snprintf(name, sizeof name, "child.%ld", (long)child);
+    CHECK(holds(name, HEAD "lend 1                       # done\n"));
+    snprintf(name, sizeof name, "child.%ld", (long)getpid());
+    CHECK(holds(name, HEAD));
+    nic_close(&n);
+    CHECK(nic_record(NULL));
+}
+
+/* A place that can't be written is told, and all goes on. */
+static void bad_path(void)
+{
+    nic n;
+    CHECK(!nic_record(path_of("nowhere/file")));
+    ANSWERS(NIC_DONE, nic_open(&n, 0, 4, 2));
+    ANSWERS(NIC_DONE, nic_lend(&n, 0));
+    nic_close(&n);
+}
+
+int main(int words, char **word)
+{
+    CHECK(words == 2);
+    folder = word[1];
+    files();
+    beyond_scripts();
+    children();
+    bad_path();
+    return 0;
+}

@@ -158,7 +158,6 @@ enum nicx_outcome {
     NICX_MISUSE = 8,   /* a call that can't be made there, as the unlocking of a lock that another holds */
     NICX_CRASH = 9,    /* a signal ended the process */
     NICX_HANG = 10,    /* a task made no point for ten seconds */
-    NICX_UNFIT = 11    /* a schedule that was to be followed to the letter doesn't fit the scenario */
 };
 
 typedef struct nicx_result {

@@ -63,6 +63,6 @@ const char *nicxi_words(const struct step *step, char room[MOST_WORDS])
 const char *nicxi_outcome_name(uint8_t outcome)
 {
     static const char *const names[] = {"fine",   "end",   "always", "deadlock", "endless", "fault",
-                                        "memory", "check", "misuse", "crash",    "hang",    "unfit"};
+                                        "memory", "check", "misuse", "crash",    "hang"};
     return outcome < sizeof names / sizeof *names ? names[outcome] : "unknown";
 }

@@ -38,7 +38,7 @@ __all__ = [
     "ImageRefused", "LibraryMissing", "Memory", "Message", "Nic", "NicError", "NoBlock", "NoCapture", "NoGroup",
     "NoQueue", "NoSuchRegister", "NotLent", "OutOfMemory", "Sent", "Snapshot", "Stray", "TextRefused", "TooLong",
     "TooManyVfs", "Word", "Wrote", "address_of", "fields_of", "library_version", "offset_of", "proved", "read_pcap",
-    "rss_hash", "write_pcap",
+    "record", "rss_hash", "write_pcap",
 ]  # fmt: skip
 
 BLOCK_BYTES = 2048
@@ -308,6 +308,7 @@ def _library(path: str | os.PathLike[str] | None = None) -> ctypes.PyDLL:
             library.nic_next_out.argtypes, library.nic_next_out.restype = [_NIC], ctypes.c_size_t
             library.nic_free.argtypes, library.nic_free.restype = [_Handle], None
             library.nic_free_snapshot.argtypes, library.nic_free_snapshot.restype = [_Kept], None
+            library.nic_record.argtypes, library.nic_record.restype = [ctypes.c_char_p], ctypes.c_bool
             library.nic_version.argtypes, library.nic_version.restype = [], ctypes.c_char_p
             library.nic_is_proved.argtypes, library.nic_is_proved.restype = [], ctypes.c_bool
         except (OSError, AttributeError) as fault:
@@ -332,6 +333,17 @@ def library_version() -> str:
     True
     """
     return str(_library().nic_version().decode())
+
+
+def record(path: str | os.PathLike[str] | None) -> bool:
+    """Records each controller that is made from now on in a file, the next ones in PATH.2, PATH.3 and so on; %p in the
+    path is the number of the process. None: no more. False if the file can't be written, which standard error says too.
+    Without a call of it the variable NIC82599_RECORD has the path. `tools/nicview PATH` draws a recording.
+
+    >>> record(None)
+    True
+    """
+    return bool(_library().nic_record(None if path is None else os.fsencode(path)))
 
 
 def _refused(status: int, text: str) -> NicError:

@@ -14,7 +14,6 @@ from .regs import ENABLE, REGISTERS, first
 from .script import Instruction, Op
 from .trace import Step, Trace, number_after, word_of
 
-SCRIPT_LIMIT = 4_096
 RUNS = 16
 # Of a ring with more slots than these, only some are read: round its head, and those that were written.
 WHOLE_RING = 64
@@ -166,14 +165,15 @@ class Replay:
         """As many lines `collect` as frames are out behind some steps; none where all bytes are known."""
         if all(frame.data is not None for frame in sent):
             return []
-        return ["collect"] * (len(sent) - sum(step.reply.startswith("frame") for step in steps))
+        out = self.trace.out + len(sent)
+        return ["collect"] * (out - sum(step.reply.startswith("frame") for step in steps))
 
     def up_to(self, count: int, room: int) -> list[Step] | None:
         """The steps below a number, without those that leave memory alone where there would be no room; None where
         there is none even so."""
         for steps in (self.steps, self.short):
             some = [step for step in steps if step.number < count]
-            if len(some) + room <= SCRIPT_LIMIT:
+            if len(some) + room <= self.trace.bench.most:
                 return some
         return None
 
@@ -184,7 +184,7 @@ class Watch:
     def __init__(self, trace: Trace, sides: list[tuple[str, int]]):
         self.trace, self.sides = trace, sides
         self.words = dict(trace.start)
-        self.lent: set[int] = set()
+        self.lent = set(trace.lent)
         self.interest: set[int] = set()
         self.long: list[Ring] = []
         self.touched: set[int] = set()
@@ -354,9 +354,14 @@ def _account(trace: Trace, replay: Replay) -> tuple[list[Frame], list[Frame]]:
     sent: list[Frame] = []
     waiting: list[int] = []
     out: list[int] = []
+    earlier, earlier_out = trace.waiting, trace.out
     for step in trace.steps:
         one, reply = trace.instruction(step), step.reply
-        if one.op == Op.ARRIVE and reply == "done":
+        if earlier and one.op == Op.RX:
+            earlier -= not reply.startswith(("idle", "no ")) and not reply.endswith(" more")
+        elif earlier_out and one.op == Op.COLLECT:
+            earlier_out -= 1
+        elif one.op == Op.ARRIVE and reply == "done":
             waiting.append(len(arrived))
             step.waiting.append(("+", [len(arrived)]))
             arrived.append(Frame(step.number, trace.script.data[one.x]))

@@ -5,6 +5,8 @@
     tools/nicview SCRIPT --svg STEP -o it.svg   a picture of the machine after a step
 
 SCRIPT is a register script, a session of the debugger (what stands in front of its line `%`), or - for standard input.
+Or it is a recording of the C library (NIC82599_RECORD): then its last --limit events are shown, made again over the
+library.
 A page opens at the first step that failed, met a fault, dropped a frame or was refused, else at the last one; with #152
 behind its name, at step 152. Steps count from 0. Everything shown is an answer of ./nicbench. Exit status: 0 it is
 shown; 1 the script failed, or runs on after --limit steps, and is shown; 2 the script is refused or can't be read; 3
@@ -19,7 +21,8 @@ from pathlib import Path
 
 from . import draw
 from . import page
-from .run import of_script
+from .recording import is_recording, of_recording
+from .run import Run, of_script
 from .script import Bench, Fault
 from .tool import Parser, called, ended, number, sizes
 
@@ -49,11 +52,20 @@ def write(path: str | None, text: str) -> None:
     print(f"{path}: {len(text.encode()):,} bytes", file=sys.stderr)
 
 
+def shown(asked: argparse.Namespace) -> Run:
+    """The run of what was named."""
+    if not is_recording(asked.script):
+        return of_script(Bench(asked.vfs, asked.fifo), asked.script, asked.limit)
+    if asked.vfs is not None or asked.fifo is not None:
+        raise Fault(f"{asked.script} is a recording, which has its sizes in its first line: leave --vfs and --fifo out")
+    return of_recording(asked.script, asked.limit)
+
+
 def main() -> int:
     asked = words()
     if asked.o is None and asked.svg is None and not asked.text and sys.stdout.isatty():
         raise Fault("a page isn't for the terminal: give a file with -o run.html, or --text")
-    run = of_script(Bench(asked.vfs, asked.fifo), asked.script, asked.limit)
+    run = shown(asked)
     if asked.text:
         write(asked.o, "".join(line + "\n" for line in draw.text(run)))
     elif asked.svg is not None:

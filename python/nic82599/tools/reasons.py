@@ -49,7 +49,7 @@ class Reasons:
         self.trace, self.seen = trace, seen
         self.words: Words = dict(trace.start)
         self.waiting: list[int] = []
-        self.lent: set[int] = set()
+        self.lent = set(trace.lent)
 
     def all(self) -> list[list[Reason]]:
         """For each step its reasons, none where it did what was asked."""

@@ -113,9 +113,10 @@ _STARTED = Lock()
 
 
 class Bench:
-    """The program `nicbench`, with the sizes of its device."""
+    """The program `nicbench`, with the sizes of its device, and how many instructions a script has at most."""
 
     is_made = False
+    most = 4_096
 
     def __init__(self, vfs: int | None = None, fifo: int | None = None):
         self.vfs, self.fifo = vfs or 0, 64 if fifo is None else fifo

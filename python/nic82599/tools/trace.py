@@ -69,7 +69,8 @@ class Step:
 
 @dataclass
 class Trace:
-    """A whole run. `start` has the registers before the first step, as far as any step could change them."""
+    """A whole run. `start` has the registers before the first step, as far as any step could change them; `lent` the
+    blocks that are lent then, `waiting` and `out` how many frames wait and went out: none where it begins anew."""
 
     bench: Bench
     script: Script
@@ -77,6 +78,9 @@ class Trace:
     start: dict[int, int]
     last: str
     notes: list[str] = field(default_factory=list)
+    lent: set[int] = field(default_factory=set)
+    waiting: int = 0
+    out: int = 0
 
     def instruction(self, step: Step) -> Instruction:
         return self.script.instructions[step.pc]

@@ -49,8 +49,13 @@ def metadata(version: str) -> str:
 
 
 def entry_points() -> str:
-    """The file of the commands."""
-    return "[console_scripts]\n" + "".join(f"{name} = {what}\n" for name, what in project()["scripts"].items())
+    """The file of the commands, and of the plugin of pytest."""
+    told = project()
+    groups = {"console_scripts": told["scripts"], **told["entry-points"]}
+    return "\n".join(
+        f"[{group}]\n" + "".join(f"{name} = {what}\n" for name, what in points.items())
+        for group, points in groups.items()
+    )
 
 
 def record(files: dict[str, bytes], own: str) -> str:

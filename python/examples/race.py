@@ -1,0 +1,99 @@
+"""The poll loop of c/examples/race.c, as a driver has it: with no hint where the race is. The search finds it.
+
+    python3 python/examples/race.py            searches, and prints the schedule that fails
+    python3 python/examples/race.py --fixed    without the line that loses a frame
+    PYTHONPATH=python python3 -m pytest -p nic82599.pytest_plugin python/examples/race.py
+                                               the same as tests (where the package is installed without -p)
+"""
+
+from __future__ import annotations
+
+import sys
+from pathlib import Path
+
+if __name__ == "__main__":
+    sys.path.insert(0, str(Path(__file__).resolve().parents[1]))
+from nic82599.explore import Failure, Scenario, search
+
+CAUSE = 1 << 5
+FRAMES = 2
+
+
+class Race(Scenario):
+    """One queue, a handler that masks and schedules, and a poll that takes what is done."""
+
+    name = "race"
+    blocks = 2
+    is_fixed = False
+
+    def isr(self) -> None:
+        self.write32("EIMC", CAUSE)
+        self.scheduled = True
+
+    def poll(self) -> None:
+        while True:
+            self.wait_until(lambda: self.scheduled)
+            self.scheduled = False
+            self.read32("EICR")
+            while self.get64(16 * self.next + 8) & 1:
+                self.next += 1
+                self.got += 1
+            if not self.is_fixed:
+                self.read32("EICR")  # nothing old shall interrupt
+            self.write32("EIMS", CAUSE)
+
+    def bring_up(self) -> None:
+        for block in range(self.blocks):
+            self.lend(block)
+        for name, word in {"RXCTRL": 1, "FCTRL": 0x200, "RDLEN": 128, "SRRCTL": 0x02000002, "RXDCTL": 1 << 25}.items():
+            self.write32(name, word)
+        self.settle()
+        for slot in range(7):
+            self.put64(16 * slot, 2048)
+        for name, word in {"RDT": 7, "IVAR": 0x85, "EIAC": 0, "EIMS": CAUSE}.items():
+            self.write32(name, word)
+
+    def begin(self) -> None:
+        self.scheduled, self.next, self.got = False, 0, 0
+        self.service("poll", self.poll)
+        self.handler("isr", self.isr, vector=5)
+        for _ in range(FRAMES):
+            self.frame(bytes.fromhex("02000000000102000000000288b5") + bytes(46))
+
+    def end(self) -> str | None:
+        return None if self.got == FRAMES else "a frame lies in the ring, and nobody comes for it"
+
+
+class Fixed(Race):
+    name = "race_fixed"
+    is_fixed = True
+
+
+try:
+    import pytest
+except ImportError:  # (the search needs no pytest)
+    pass
+else:
+
+    @pytest.mark.xfail(strict=True, raises=Failure)
+    @pytest.mark.nic_schedules(500)
+    def test_race() -> Scenario:
+        return Race()
+
+    @pytest.mark.nic_schedules(strategy="exhaustive", preemptions=1)
+    def test_fixed() -> Scenario:
+        return Fixed()
+
+
+def main() -> int:
+    try:
+        search(Fixed() if "--fixed" in sys.argv else Race(), 2_000)
+    except Failure as failure:
+        print(failure)
+        return 1
+    print("nothing was found")
+    return 0
+
+
+if __name__ == "__main__":
+    sys.exit(main())

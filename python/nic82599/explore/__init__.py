@@ -1,0 +1,458 @@
+"""Searches for the order of steps that breaks a driver in Python, as docs/explore.md tells it of C.
+
+A `Scenario` is a driver's code as tasks and interrupt handlers over one controller. Each access of a task is a point at
+which anybody may act: another task, a handler, a step of the device, the next frame, the link. `search` makes schedules
+until one fails; `replay` makes one of a file. Files of schedules are those of the explorer in C, so one that it found
+for the same scenario in C can be replayed here, and the other way round. Tested, not proved.
+
+Tasks are functions on threads of which one runs at a time; each hands over to the next. So a schedule needs no lock of
+the driver's memory, and code between two points isn't interrupted.
+"""
+
+from __future__ import annotations
+
+from collections.abc import Callable, Iterator
+from contextlib import contextmanager
+from pathlib import Path
+
+from .. import Nic, NotLent, address_of, offset_of
+from .engine import POLLS, Choose, Result, Run, Thread
+from .strategy import Exhaustive, by_chance, by_list, by_priority
+
+__all__ = ["BESIDE", "BadSchedule", "Failure", "Mutex", "Result", "Scenario", "Search", "replay", "search"]
+
+BESIDE = ""
+STRATEGIES = ("random", "priorities", "mixed", "exhaustive")
+
+
+class BadSchedule(ValueError):
+    """A schedule's file can't be taken: where, and why."""
+
+
+class Mutex:
+    """A lock of the driver's own, which every schedule finds free: `with self.holding(mutex):`."""
+
+    def __init__(self, name: str = "a lock") -> None:
+        self.name = name
+        self.holder: Thread | None = None
+        self.run: Run | None = None
+
+
+class Scenario:
+    """A driver's code over a controller. Write a class of it with `bring_up`, `begin` and `end`.
+
+    The sizes are those of `Nic`; queues below `queues` have their enables and transmit steps made. A schedule with more
+    than `points` points is a failure. `allowed` may have "faults" (of queues) and "not lent" (the driver's accesses).
+    """
+
+    name = "scenario"
+    vfs, fifo, blocks, queues, points = 0, 64, 256, 1, 2_000
+    allowed: frozenset[str] = frozenset()
+    _nic: Nic
+    _run: Run | None = None
+
+    # --- what a scenario has ---
+
+    def bring_up(self) -> None:
+        """Makes the device ready, once; each schedule begins there."""
+
+    def begin(self) -> None:
+        """Makes the driver's own state anew, and names tasks, handlers, frames and changes of the link."""
+        raise NotImplementedError
+
+    def always(self) -> str | None:
+        """After each step: None, or what is wrong."""
+        return None
+
+    def end(self) -> str | None:
+        """Once nobody can act: None, or what is wrong."""
+        return None
+
+    # --- in `begin` ---
+
+    def _named(self, name: str) -> Run:
+        assert self._run, "tasks, handlers and frames are named in begin"
+        if any(one.name == name for one in self._run.threads):
+            raise ValueError(f"two tasks or handlers have the name {name}")
+        return self._run
+
+    def task(self, name: str, function: Callable[[], object]) -> None:
+        """A thread of the driver, or a processor."""
+        self._named(name).threads.append(Thread(name, function))
+
+    def service(self, name: str, function: Callable[[], object]) -> None:
+        """A task that may wait for ever: that it waits at the end is no deadlock."""
+        self._named(name).threads.append(Thread(name, function, is_service=True))
+
+    def handler(
+        self, name: str, function: Callable[[], object], *, vector: int, vf: int | None = None, where: str | None = None
+    ) -> None:
+        """What a message starts, of the physical function or of a virtual one. `where` is the task that it interrupts,
+        None for any task or none, or BESIDE."""
+        group = 0 if vf is None else vf + 1
+        made = Thread(name, function, True, True, group, vector, where)
+        self._named(name).threads.append(made)
+
+    def frame(self, data: bytes) -> None:
+        """A frame that will come, after those that were named before."""
+        assert self._run, "frames are named in begin"
+        self._run.frames.append(bytes(data))
+
+    def link_change(self, up: bool) -> None:
+        """The link will go up or down, beside the frames."""
+        assert self._run, "changes of the link are named in begin"
+        self._run.links.append(up)
+
+    # --- the controller, for what the explorer needn't know of ---
+
+    @property
+    def nic(self) -> Nic:
+        return self._nic
+
+    def settle(self) -> None:
+        """Makes steps of the device until none has anything to do; in `bring_up`."""
+        self._nic.settle(self.queues)
+
+    # --- points ---
+
+    def _point(self, state: str = "ready") -> Run | None:
+        """The run, once the thread goes on; None outside of tasks and handlers."""
+        run = self._run
+        if run is None or run.self is None:
+            return None
+        thread = run.self
+        run.stand("paused" if state == "ready" and thread.polls >= POLLS else state)
+        return run
+
+    def _did(self, run: Run | None, words: str, is_change: bool = True) -> None:
+        if run is None:
+            return
+        if is_change:
+            run.self.is_void = False
+            run.self.polls = 0
+        run.changed()
+        run.tell(words)
+
+    def read32(self, at: int | str) -> int:
+        """The word that a driver sees, by address or name."""
+        address = address_of(at) if isinstance(at, str) else at
+        run = self._point()
+        word, stray = self._nic.read32(address)
+        is_change = not stray and self._nic.peek32(address) != word
+        self._did(run, f"r 0x{address:05x} = 0x{word:08x}{' (stray)' * stray}", is_change)
+        if run:
+            run.polled(f"r {address}", str(word))
+        return word
+
+    def write32(self, at: int | str, word: int) -> bool:
+        """Whether a register was there."""
+        address = address_of(at) if isinstance(at, str) else at
+        run = self._point()
+        is_there = self._nic.write32(address, word)
+        self._did(run, f"w 0x{address:05x} 0x{word:08x}{'' if is_there else ' (stray)'}")
+        return is_there
+
+    def vf_read32(self, vf: int, at: int | str) -> int:
+        offset = offset_of(at) if isinstance(at, str) else at
+        run = self._point()
+        function = self._nic.vf(vf)
+        word, stray = function.read32(offset)
+        is_change = not stray and function.peek32(offset) != word
+        self._did(run, f"vr {vf} 0x{offset:04x} = 0x{word:08x}{' (stray)' * stray}", is_change)
+        if run:
+            run.polled(f"vr {vf} {offset}", str(word))
+        return word
+
+    def vf_write32(self, vf: int, at: int | str, word: int) -> bool:
+        offset = offset_of(at) if isinstance(at, str) else at
+        run = self._point()
+        is_there = self._nic.vf(vf).write32(offset, word)
+        self._did(run, f"vw {vf} 0x{offset:04x} 0x{word:08x}{'' if is_there else ' (stray)'}")
+        return is_there
+
+    def _refused(self, run: Run | None, what: str, bus: int) -> None:
+        """Memory that isn't lent: a failure, unless the scenario allows it; outside of a schedule it raises."""
+        if run is None:
+            raise NotLent(f"0x{bus:x} isn't lent")
+        if "not lent" not in self.allowed:
+            run.failed("memory", f"{run.self.name} {what} 0x{bus:x}, which isn't lent")
+            run.stand()
+
+    def dma_read(self, bus: int, length: int) -> bytes:
+        """Bytes of lent memory; zeros where one of them isn't lent, which is a failure unless that is allowed."""
+        run, data, note = self._point(), None, ""
+        try:
+            data = self._nic.memory.read(bus, length)
+        except NotLent:
+            note = " (not lent)"
+        self._did(run, f"peek 0x{bus:05x}, {length} bytes{note}", False)
+        if run:
+            run.polled(f"peek {bus}", (data or b"").hex())
+        if data is None:
+            self._refused(run, "reads", bus)
+        return data if data is not None else bytes(length)
+
+    def dma_write(self, bus: int, data: bytes) -> bool:
+        """Whether all of it is lent, and so written."""
+        run, is_lent = self._point(), True
+        try:
+            self._nic.memory.write(bus, data)
+        except NotLent:
+            is_lent = False
+        self._did(run, f"poke 0x{bus:05x}, {len(data)} bytes{'' if is_lent else ' (not lent)'}")
+        if not is_lent:
+            self._refused(run, "writes", bus)
+        return is_lent
+
+    def get64(self, bus: int) -> int:
+        return int.from_bytes(self.dma_read(bus, 8), "little")
+
+    def put64(self, bus: int, value: int) -> bool:
+        return self.dma_write(bus, value.to_bytes(8, "little"))
+
+    def lend(self, block: int) -> None:
+        run = self._point()
+        self._nic.lend(block)
+        self._did(run, f"lend {block}")
+
+    def take(self, block: int) -> None:
+        run = self._point()
+        try:
+            self._nic.take(block)
+        except NotLent:
+            self._refused(run, "takes back", 2048 * block)
+        self._did(run, f"unlend {block}")
+
+    def point(self) -> None:
+        """A point and nothing else: between two accesses of the driver's own memory."""
+        self._did(self._point(), "a point")
+
+    def wait(self) -> None:
+        """Waits until somebody else has acted since this task last went on: `while not ready(): self.wait()`."""
+        run = self._point("waiting")
+        if run:
+            run.tell("waited")
+
+    def pause(self) -> None:
+        """Lets others act; where nobody can, it goes on. For loops that poll a bounded number of times."""
+        run = self._point("paused")
+        if run:
+            run.tell("paused")
+
+    def wait_until(self, condition: Callable[[], object]) -> None:
+        """Waits until a condition on the driver's own memory holds, which makes none of these calls."""
+        run = self._run
+        if run and run.self:
+            run.self.condition = condition
+            run.stand("until")
+            run.tell("waited until")
+
+    def lock(self, mutex: Mutex) -> None:
+        run = self._run
+        if run is None or run.self is None:
+            return
+        if mutex.run is not run:
+            mutex.run, mutex.holder = run, None
+        thread = run.self
+        thread.lock = mutex
+        run.stand("locked")
+        mutex.holder, thread.is_void = thread, False
+        run.tell("locks")
+
+    def unlock(self, mutex: Mutex) -> None:
+        run = self._run
+        if run is None or run.self is None:
+            return
+        thread = run.self
+        run.stand()
+        run.tell("unlocks")
+        if mutex.run is not run or mutex.holder is not thread:
+            run.failed("misuse", f"{thread.name} unlocks {mutex.name}, which it doesn't hold")
+            run.stand()
+        mutex.holder, thread.is_void = None, False
+
+    @contextmanager
+    def holding(self, mutex: Mutex) -> Iterator[None]:
+        self.lock(mutex)
+        try:
+            yield
+        finally:
+            if not (self._run and self._run.is_over):
+                self.unlock(mutex)
+
+    @contextmanager
+    def interrupts_off(self) -> Iterator[None]:
+        """No handler starts on this task meanwhile."""
+        thread = self._run.self if self._run else None
+        if thread:
+            thread.masked += 1
+        yield
+        if thread:
+            thread.masked -= 1
+
+    def fail(self, words: str) -> None:
+        """The schedule fails here."""
+        assert self._run, "fail is for tasks and handlers"
+        self._run.failed("check", words)
+        self._run.stand()
+
+    def check(self, holds: object, words: str) -> None:
+        if not holds:
+            self.fail(words)
+
+
+class Failure(AssertionError):
+    """A schedule that fails, and where its file is, if it has one."""
+
+    def __init__(self, result: Result, told: str, path: Path | None):
+        shown = "".join(f"    {name:<24} # {words}\n" for name, words in result.points)
+        where = f"the schedule, also in {path}" if path else "the schedule"
+        super().__init__(f"{result.outcome}: {result.words}\n{told}; {where}:\n{shown}")
+        self.result, self.path = result, path
+
+
+# --- files ---
+
+
+def write_schedule(path: Path, scenario: Scenario, result: Result, told: str) -> None:
+    lines = [f"# {result.outcome}: {result.words}", f"# {told}; who acts at each point:", f"scenario {scenario.name}"]
+    lines += [f"{name:<24} # {words}" for name, words in result.points]
+    path.write_text("\n".join(lines) + "\n")
+
+
+def read_schedule(path: str | Path, scenario: Scenario) -> tuple[list[str], list[int]]:
+    """The actors of a schedule's file, and the line of each. BadSchedule."""
+    names, numbers, has_scenario = [], [], False
+    try:
+        text = Path(path).read_text()
+    except (OSError, UnicodeDecodeError) as fault:
+        raise BadSchedule(f"{path}: it can't be read ({fault})") from None
+    for number, line in enumerate(text.splitlines(), 1):
+        words = " ".join(line.partition("#")[0].split())
+        if not words:
+            continue
+        if not has_scenario and not words.startswith("scenario "):
+            raise BadSchedule(f'{path}:{number}: the first line is "scenario NAME"')
+        if not has_scenario and words != f"scenario {scenario.name}":
+            raise BadSchedule(f"{path}:{number}: it is a schedule of {words}, and this is {scenario.name}")
+        if has_scenario:
+            names.append(words)
+            numbers.append(number)
+        has_scenario = True
+    if not has_scenario:
+        raise BadSchedule(f'{path}: it has no line "scenario NAME"')
+    return names, numbers
+
+
+# --- searching ---
+
+
+class Search:
+    """A scenario whose device is up, to make schedules with. It ends by `close`, or at the end of a `with`."""
+
+    def __init__(self, scenario: Scenario, hang: float = 10):
+        self.scenario, self.hang = scenario, hang
+        scenario._run = None
+        scenario._nic = Nic(scenario.vfs, scenario.fifo, scenario.blocks)
+        scenario.bring_up()
+        self.kept = scenario._nic.snapshot()
+
+    def close(self) -> None:
+        self.kept.drop()
+        self.scenario._nic.close()
+
+    def __enter__(self) -> Search:
+        return self
+
+    def __exit__(self, *_fault: object) -> None:
+        self.close()
+
+    def run(self, choose: Choose) -> Result:
+        """Makes one schedule."""
+        scenario = self.scenario
+        scenario._nic.restore(self.kept)
+        scenario._run = Run(scenario, scenario._nic, choose, self.hang)
+        try:
+            return scenario._run.make()
+        finally:
+            scenario._run = None
+
+    def shrink(self, result: Result, tries: int = 200) -> Result:
+        """A schedule that fails alike, with fewer switches where one is found: turns of an actor are left out."""
+        best = result
+        at = 0
+        while at < len(best.points) and tries:
+            end = at
+            while end < len(best.points) and best.actors[end] == best.actors[at]:
+                end += 1
+            tries -= 1
+            made = self.run(by_list(best.actors[:at] + best.actors[end:], False))
+            fewer = (made.switches, len(made.points)) < (best.switches, len(best.points))
+            if made.outcome == best.outcome and fewer:
+                best, at = made, 0
+            else:
+                at = end
+        return best
+
+
+def _by_runs(searching: Search, strategy: str, runs: int, seed: int, depth: int) -> tuple[Result, str] | None:
+    length = 1
+    for number in range(runs):
+        by = strategy if strategy != "mixed" else ("random", "priorities")[number >= 16 and number % 2]
+        choose = by_chance(seed, number) if by == "random" else by_priority(seed, number, depth, length)
+        result = searching.run(choose)
+        length = max(length, len(result.points)) if number < 16 else length
+        if result.outcome != "fine":
+            return result, f"found by {by} in run {number} of seed {seed}"
+    return None
+
+
+def _exhaustive(searching: Search, runs: int | None, preemptions: int) -> tuple[Result, str] | None:
+    way, number = Exhaustive(preemptions), 0
+    while runs is None or number < runs:
+        way.begin()
+        result = searching.run(way.choose)
+        if result.outcome != "fine":
+            return result, f"found by exhaustive in run {number}"
+        number += 1
+        if not way.next():
+            return None
+    return None
+
+
+def search(
+    scenario: Scenario, runs: int | None = 1_000, *, seed: int = 1, strategy: str = "mixed", depth: int = 3,
+    preemptions: int = 2, hang: float = 10, out: str | Path | None = None, shrink: bool = True,
+) -> None:  # fmt: skip
+    """Makes so many schedules; Failure at the first that fails, shrunk, and in the folder `out` as NAME.schedule. The
+    exhaustive search makes all schedules with at most so many preemptions where `runs` is None."""
+    if strategy not in STRATEGIES:
+        raise ValueError(f"{strategy!r}: a strategy is one of {', '.join(STRATEGIES)}")
+    if strategy != "exhaustive" and (runs is None or runs < 1):
+        raise ValueError("runs: at least 1")
+    with Search(scenario, hang) as searching:
+        if strategy == "exhaustive":
+            found = _exhaustive(searching, runs, preemptions)
+        else:
+            found = _by_runs(searching, strategy, runs, seed, depth)
+        if found is None:
+            return
+        result, told = found
+        if shrink and result.outcome not in ("hang", "endless"):
+            result = searching.shrink(result)
+    path = Path(out) / f"{scenario.name}.schedule" if out is not None else None
+    if path:
+        write_schedule(path, scenario, result, told)
+    raise Failure(result, told, path)
+
+
+def replay(scenario: Scenario, path: str | Path, hang: float = 10) -> Result:
+    """Makes the schedule of a file, to the letter. BadSchedule where it doesn't fit the scenario."""
+    names, numbers = read_schedule(path, scenario)
+    with Search(scenario, hang) as searching:
+        result = searching.run(by_list(names, True))
+    at = len(result.points)
+    if result.actors != names[:at] or at < len(names):
+        where = numbers[min(at, len(numbers) - 1)] if numbers else 1
+        raise BadSchedule(f"{path}:{where}: \"{names[at] if at < len(names) else 'the end'}\" can't act here")
+    return result

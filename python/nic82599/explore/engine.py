@@ -1,0 +1,425 @@
+"""One schedule: who acts is chosen point by point, until all is at rest or something is wrong.
+
+Tasks and handlers are threads of which one runs at a time. The one that stands at a point chooses who acts next, makes
+the device's steps itself, and hands over where another thread goes on.
+"""
+
+from __future__ import annotations
+
+import threading
+from collections.abc import Callable
+from dataclasses import dataclass, field
+from typing import TYPE_CHECKING, Any
+
+from .. import Advanced, Dropped, Event, Fault, Message, Nic, NicError, NoGroup, OutOfMemory, Sent, Wrote
+
+if TYPE_CHECKING:
+    from . import Scenario
+
+POLLS = 8
+Choose = Callable[["Run", list["Actor"]], "Actor | None"]
+
+
+class Over(BaseException):
+    """A schedule is over, and ends a thread that it leaves behind."""
+
+
+@dataclass
+class Result:
+    """What came of a schedule: its outcome by the words of docs/explore.md, `fine` where nothing is wrong, what is
+    wrong, and who acted at each point, with what that was."""
+
+    outcome: str = "fine"
+    words: str = ""
+    points: list[tuple[str, str]] = field(default_factory=list)
+
+    @property
+    def actors(self) -> list[str]:
+        return [name for name, _ in self.points]
+
+    @property
+    def switches(self) -> int:
+        """How often another one acted than at the point before."""
+        names = self.actors
+        return sum(one != other for one, other in zip(names, names[1:]))
+
+
+@dataclass(eq=False)
+class Thread:
+    """A task or a handler. `where` is the task that a handler interrupts, None for any or none, or BESIDE."""
+
+    name: str
+    function: Callable[[], object]
+    is_service: bool = False
+    is_handler: bool = False
+    group: int = 0
+    vector: int = 0
+    where: str | None = None
+    state: str = "off"
+    condition: Callable[[], object] = bool
+    lock: Any = None
+    next: str = "begins"
+    seen: int = 0
+    own: int = 0
+    masked: int = 0
+    pending: bool = False
+    is_void: bool = False
+    voided: int = -1
+    interrupted_by: Thread | None = None
+    on: Thread | None = None
+    polled: tuple[str, str] = ("", "")
+    polls: int = 0
+    baton: threading.Lock = field(default_factory=threading.Lock)
+    runs: threading.Thread | None = None
+
+
+@dataclass(eq=False)
+class Actor:
+    """Who may act: `thread` goes on, or begins `on` another; else a step of the device, or what comes from the link."""
+
+    name: str
+    kind: str
+    thread: Thread | None = None
+    on: Thread | None = None
+    of: int = 0
+    is_idle: bool = False
+    last: int = 0
+
+
+def reply(event: Event | None) -> str:
+    """What a step of the device did, as `nicbench run` prints it."""
+    match event:
+        case Dropped(why):
+            return f"dropped {why}"
+        case Wrote(queue, slot, end):
+            return f"wrote queue {queue} slot {slot} {'end' if end else 'more'}"
+        case Advanced(queue, slot):
+            return f"advanced queue {queue} slot {slot}"
+        case Sent(queue, length):
+            return f"sent queue {queue} len {length}"
+        case Fault(_, queue, why):
+            return f"fault queue {queue} {why}"
+        case Message(function, vector):
+            return f"message {'pf' if function is None else f'vf {function}'} vector {vector}"
+    return "done"
+
+
+class Run:
+    """A schedule of a scenario, whose controller is as its bring-up left it."""
+
+    def __init__(self, scenario: Scenario, nic: Nic, choose: Choose, hang: float):
+        self.scenario, self.nic, self.choose, self.hang = scenario, nic, choose, hang
+        self.result = Result()
+        self.threads: list[Thread] = []
+        self.frames: list[bytes] = []
+        self.links: list[bool] = []
+        self.next_frame = self.next_link = self.acts = self.changes = 0
+        self.actors: list[Actor] = []
+        self.self: Thread | None = None
+        self.is_over = self.is_cut = False
+        self.main = threading.Lock()
+
+    def failed(self, outcome: str, words: str) -> None:
+        """Notes what is wrong, if nothing was before."""
+        if self.result.outcome == "fine":
+            self.result.outcome, self.result.words = outcome, words
+
+    # --- who may act ---
+
+    def list_actors(self) -> None:
+        tasks = [one for one in self.threads if not one.is_handler]
+        handlers = [one for one in self.threads if one.is_handler]
+        made = [Actor(f"task {one.name}", "thread", one) for one in tasks]
+        made += [Actor(f"handler {one.name}", "thread", one) for one in handlers]
+        for one in handlers:
+            made += [Actor(f"start {one.name} on {on.name}", "start", one, on) for on in tasks
+                     if one.where in (None, on.name)]  # fmt: skip
+            if one.where is None or one.where == "":
+                made.append(Actor(f"start {one.name} beside", "start", one))
+        queues = range(self.scenario.queues)
+        made += [Actor("arrive", "arrive"), Actor("link", "link"), Actor("rx", "device")]
+        made += [Actor(f"tx {queue}", "device", of=queue) for queue in queues]
+        made += [Actor(f"int {group - 1}" if group else "int pf", "device", of=group)
+                 for group in range(self.scenario.vfs + 1)]  # fmt: skip
+        for queue in queues:
+            made += [Actor(f"qstep {side} {queue}", "device", of=queue) for side in ("rx", "tx")]
+        self.actors = [*made, Actor("eestep", "device")]
+
+    def _can_go_on(self, thread: Thread) -> bool:
+        if thread.interrupted_by is not None or thread.state == "off":
+            return False
+        if thread.state in ("waiting", "paused"):
+            return self.acts - thread.own != thread.seen
+        if thread.state == "until":
+            return bool(thread.condition())
+        return thread.lock.holder is None if thread.state == "locked" else True
+
+    def can_act(self, actor: Actor) -> bool:
+        if actor.kind == "thread":
+            return self._can_go_on(actor.thread)
+        if actor.kind == "start":
+            if not actor.thread.pending or actor.thread.state != "off":
+                return False
+            if actor.on is None:
+                return True
+            if actor.on.state == "off":
+                return actor.thread.where is not None
+            return actor.on.interrupted_by is None and not actor.on.masked
+        if actor.kind == "arrive":
+            return self.next_frame < len(self.frames)
+        return self.next_link < len(self.links) if actor.kind == "link" else not actor.is_idle
+
+    @property
+    def last(self) -> str:
+        return self.result.points[-1][0] if self.result.points else ""
+
+    def able(self) -> list[Actor]:
+        """Who can act, the one that acted last in front."""
+        found = [one for one in self.actors if self.can_act(one)]
+        found.sort(key=lambda one: one.name != self.last)
+        return found
+
+    # --- steps ---
+
+    def note(self, actor: Actor, words: str) -> None:
+        self.result.points.append((actor.name, words))
+        actor.last = len(self.result.points)
+
+    def changed(self) -> None:
+        """The device isn't as it was: each of its steps may have something to do."""
+        for actor in self.actors:
+            actor.is_idle = False
+
+    def _device_event(self, actor: Actor) -> Event | bool | None:
+        kind = actor.name.split()
+        if kind[0] == "rx":
+            return self.nic.rx_step()
+        if kind[0] == "tx":
+            return self.nic.tx_step(actor.of)
+        if kind[0] == "qstep":
+            return self.nic.queue_step(kind[1], actor.of) or None
+        if kind[0] == "eestep":
+            return self.nic.eeprom_step() or None
+        try:
+            return self.nic.int_step(actor.of - 1 if actor.of else None)
+        except NoGroup:
+            return None
+
+    def _from_link(self, actor: Actor) -> str:
+        if actor.kind == "link":
+            up = self.links[self.next_link]
+            self.next_link += 1
+            self.nic.link(up)
+            return "link up" if up else "link down"
+        frame = self.frames[self.next_frame]
+        self.next_frame += 1
+        return reply(self.nic.arrive(frame))
+
+    def device_acts(self, actor: Actor) -> bool:
+        """A step of the device or from the link; False where there was nothing to do, and nothing is noted."""
+        if actor.kind in ("arrive", "link"):
+            words = self._from_link(actor)
+        else:
+            event = self._device_event(actor)
+            if event is None:
+                actor.is_idle = True
+                return False
+            words = reply(event)
+            self._judge(event)
+        self.note(actor, words)
+        self.acts += 1
+        self.changes += 1
+        self.changed()
+        self.look()
+        return True
+
+    def _judge(self, event: Event | bool) -> None:
+        if isinstance(event, Message):
+            group = 0 if event.function is None else event.function + 1
+            for one in self.threads:
+                one.pending |= one.is_handler and (one.group, one.vector) == (group, event.vector)
+        if isinstance(event, Fault) and "faults" not in self.scenario.allowed:
+            where = "" if event.bus is None else f" 0x{event.bus:x}"
+            self.failed("fault", f"queue {event.queue}: {event.why}{where}")
+
+    def look(self) -> None:
+        words = self.scenario.always() if self.result.outcome == "fine" else None
+        if words:
+            self.failed("always", words)
+
+    # --- choosing ---
+
+    def _is_at_rest(self) -> bool:
+        """At rest each step of the device is tried once more: none of them should have something to do."""
+        return not any(self.device_acts(one) for one in self.actors if one.kind == "device")
+
+    def next_actor(self) -> Actor | None:
+        """Whoever acts next and isn't the device, or None where the schedule is over."""
+        while self.result.outcome == "fine":
+            if len(self.result.points) >= self.scenario.points:
+                self.failed("endless", f"no end after {self.scenario.points} points; last came {self.last}")
+                break
+            can = self.able()
+            if not can:
+                if not self._is_at_rest():
+                    continue
+                paused = (one for one in self.actors if one.kind == "thread" and one.thread.state == "paused")
+                can = [one for one in paused if one.thread.interrupted_by is None]
+            actor = self.choose(self, can) if can else None
+            if actor is None:
+                self.is_cut = bool(can)
+                break
+            if actor.kind in ("thread", "start"):
+                return actor
+            self.device_acts(actor)
+        return None
+
+    # --- threads ---
+
+    def _live(self, thread: Thread) -> None:
+        thread.baton.acquire()
+        try:
+            if not self.is_over:
+                thread.function()
+                if thread.masked:
+                    self.failed("misuse", f"{thread.name} ends with its interrupts off")
+        except Over:
+            pass
+        except AssertionError as wrong:
+            self.failed("check", str(wrong) or f"{thread.name}: an assertion doesn't hold")
+        except Exception as fault:  # noqa: BLE001
+            self.failed("crash", f"{thread.name}: {type(fault).__name__}: {fault}")
+        if thread.on is not None:
+            thread.on.interrupted_by = thread.on = None
+        thread.state = "off"
+        if not self.is_over:
+            self._note_act(thread)
+            thread.is_void = False
+            self.look()
+            self._hand_over(thread)
+
+    def _prepare(self, thread: Thread) -> None:
+        thread.state, thread.next = "ready", "begins"
+        thread.baton = threading.Lock()
+        thread.baton.acquire()
+        thread.runs = threading.Thread(target=self._live, args=(thread,), name=thread.name, daemon=True)
+        thread.runs.start()
+
+    def _start_handler(self, actor: Actor) -> None:
+        handler = actor.thread
+        self._prepare(handler)
+        handler.pending, handler.next, handler.on = False, "starts", None
+        if actor.on is not None and actor.on.state != "off":
+            handler.on, actor.on.interrupted_by = actor.on, handler
+
+    def _hand_over(self, thread: Thread | None) -> bool:
+        """Lets others act; True where this thread itself goes on at once. Behind a thread that ended nothing waits."""
+        actor = self.next_actor()
+        if actor is None:
+            self.self = None
+            self.main.release()
+            return False
+        if actor.kind == "start":
+            self._start_handler(actor)
+            self.note(actor, "starts")
+        else:
+            self.note(actor, "begins" if actor.thread.next == "begins" else "")
+        if actor.kind == "thread" and actor.thread is thread:
+            return True
+        self.self = actor.thread
+        actor.thread.baton.release()
+        return False
+
+    def _note_act(self, thread: Thread) -> None:
+        """A thread came to its next point. One that waits again and changed nothing that can be seen may have changed
+        the driver's own memory, so it counts as an act, but once for each change: else two that look at each other
+        never rest."""
+        if thread.is_void:
+            if thread.state not in ("waiting", "paused") or thread.voided == self.changes:
+                return
+            thread.voided = self.changes
+        else:
+            self.changes += 1
+        self.acts += 1
+        thread.own += 1
+
+    def stand(self, state: str = "ready") -> None:
+        """A point of the thread that runs: others may act before it goes on."""
+        thread = self.self
+        thread.next, thread.state = state, state
+        self._note_act(thread)
+        self.look()
+        if not self._hand_over(thread):
+            thread.baton.acquire()
+        if self.is_over:
+            raise Over
+        if state in ("waiting", "paused"):
+            thread.is_void, thread.seen = True, self.acts - thread.own
+        self.self, thread.state = thread, "ready"
+
+    def tell(self, words: str) -> None:
+        """What the thread that runs did at the point at which it stood."""
+        if self.self is not None and self.result.points:
+            self.result.points[-1] = (self.result.points[-1][0], words)
+
+    def polled(self, what: str, got: str) -> None:
+        """A loop that reads the same over and over is taken to wait."""
+        thread = self.self
+        if thread is not None:
+            thread.polls = thread.polls + 1 if thread.polled == (what, got) else 0
+            thread.polled = (what, got)
+
+    # --- a schedule ---
+
+    def _wait(self) -> None:
+        """Waits until the schedule is over, or no point was made for so long."""
+        points = -1
+        while not self.main.acquire(timeout=self.hang):
+            if points == len(self.result.points):
+                name = self.self.name if self.self else "a task"
+                self.failed("hang", f"{name} runs and makes no point")
+                return
+            points = len(self.result.points)
+
+    def _end_threads(self) -> None:
+        self.is_over = True
+        for thread in self.threads:
+            if thread.runs is not None and thread.runs.is_alive() and thread.baton.locked():
+                thread.baton.release()
+        for thread in self.threads:
+            if thread.runs is not None:
+                thread.runs.join(timeout=self.hang)
+
+    def _judge_end(self) -> None:
+        left = [one for one in self.threads if one.state != "off"]
+        for one in left:
+            if one.state == "locked":
+                holder = one.lock.holder.name if one.lock.holder else "nobody"
+                self.failed("deadlock", f"{one.name} waits for {one.lock.name}, which {holder} holds")
+        words = self.scenario.end() if self.result.outcome == "fine" else None
+        if words:
+            self.failed("end", words)
+        for one in left:
+            if not one.is_service:
+                self.failed("deadlock", f"{one.name} waits, and nobody can act")
+
+    def make(self) -> Result:
+        """Makes the schedule."""
+        self.main.acquire()
+        self.scenario.begin()
+        self.list_actors()
+        for thread in self.threads:
+            if not thread.is_handler:
+                self._prepare(thread)
+        try:
+            self._hand_over(None)
+            self._wait()
+            if self.result.outcome == "fine" and not self.is_cut:
+                self._judge_end()
+        except OutOfMemory:
+            self.failed("misuse", "the controller found no memory")
+        except NicError as fault:
+            self.failed("misuse", str(fault))
+        finally:
+            self._end_threads()
+        return self.result

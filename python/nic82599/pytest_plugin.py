@@ -1,0 +1,86 @@
+"""The plugin of pytest: a test that gives a scenario is searched.
+
+    @pytest.mark.nic_schedules(1000)
+    def test_poll():
+        return Poll()                  # a nic82599.explore.Scenario
+
+The words of the marker are those of `nic82599.explore.search`: runs, seed, strategy, depth, preemptions, hang. A
+failure is told with its schedule. With --nic-out FOLDER the schedule goes into a file there, NAME.schedule, which
+--nic-replay FILE makes once in place of the search; tests of other scenarios are skipped then.
+"""
+
+from __future__ import annotations
+
+import pytest
+
+from .explore import BadSchedule, Failure, Scenario, replay, search
+
+WORDS = ("runs", "seed", "strategy", "depth", "preemptions", "hang", "shrink")
+
+
+def pytest_addoption(parser: pytest.Parser) -> None:
+    group = parser.getgroup("nic82599")
+    group.addoption("--nic-out", metavar="FOLDER", help="where the schedules of failures go")
+    group.addoption("--nic-replay", metavar="FILE", help="makes the schedule of this file in place of a search")
+
+
+def pytest_configure(config: pytest.Config) -> None:
+    config.addinivalue_line(
+        "markers", "nic_schedules(runs, ...): searches the scenario that the test gives, as nic82599.explore.search"
+    )
+
+
+def words_of(marker: pytest.Mark) -> dict[str, object]:
+    """The words of a marker, for `search`."""
+    words = dict(marker.kwargs)
+    if len(marker.args) > 1 or marker.args and "runs" in words:
+        pytest.fail("nic_schedules: only the number of schedules has no name", pytrace=False)
+    if marker.args:
+        words["runs"] = marker.args[0]
+    for name in words:
+        if name not in WORDS:
+            pytest.fail(f"nic_schedules: {name} is none of {', '.join(WORDS)}", pytrace=False)
+    if words.get("strategy") == "exhaustive":
+        words.setdefault("runs", None)
+    return words
+
+
+def replayed(scenario: Scenario, path: str) -> None:
+    """Makes the schedule of a file; Failure where it fails."""
+    try:
+        result = replay(scenario, path)
+    except BadSchedule as fault:
+        if f"and this is {scenario.name}" in str(fault):
+            pytest.skip(str(fault))
+        raise
+    if result.outcome != "fine":
+        raise Failure(result, "replayed", None)
+
+
+@pytest.hookimpl(tryfirst=True)
+def pytest_pyfunc_call(pyfuncitem: pytest.Function) -> bool | None:
+    marker = pyfuncitem.get_closest_marker("nic_schedules")
+    if marker is None:
+        return None
+    names = pyfuncitem._fixtureinfo.argnames
+    given = pyfuncitem.obj(**{name: pyfuncitem.funcargs[name] for name in names})
+    scenario = given() if isinstance(given, type) else given
+    if not isinstance(scenario, Scenario):
+        pytest.fail(f"{pyfuncitem.name} gives no Scenario, and is marked nic_schedules", pytrace=False)
+    config = pyfuncitem.config
+    path = config.getoption("--nic-replay")
+    if path:
+        replayed(scenario, path)
+    else:
+        search(scenario, **words_of(marker), out=config.getoption("--nic-out"))
+    return True
+
+
+@pytest.hookimpl(hookwrapper=True)
+def pytest_runtest_makereport(item: pytest.Item, call: pytest.CallInfo[None]):
+    """A failure of a schedule is told by itself: where the search raised it says nothing."""
+    outcome = yield
+    if call.excinfo is not None and isinstance(call.excinfo.value, (Failure, BadSchedule)):
+        report = outcome.get_result()
+        if report.failed:
+            report.longrepr = str(call.excinfo.value)

@@ -122,6 +122,11 @@ get_package() {
     echo "$to"
 }
 
+# The package of the newest Linux's source: its name bears the kernel's version, and linux-source depends on it.
+linux_package() {
+    apt-cache depends --important linux-source | sed -n 's/^ *Depends: \(linux-source-[0-9.]*\)$/\1/p' | head -n 1
+}
+
 # Installs a package where it isn't: by root alone.
 install_package() {
     dpkg -s "$1" >/dev/null 2>&1 && return

@@ -1,0 +1,149 @@
+/* The card of a User-Mode Linux, in a process of its own: the bench's device behind PCI over virtio, and the other end
+   of the wire. drivers/linux/run compiles it and starts the guest beside it.
+
+     card --socket PATH [--functions N] [--device ID] [--without ANSWER]..
+   [--strays FILE] [--trace FILE]
+          [--turn in | out]
+
+   It waits for the guest at PATH, and at PATH.v for virtual function v, and ends with it. The answers of the shim are
+   SWSM, ANLP1, EICS, EERD and ABSENT. --turn: one byte of one frame is turned. Status 0 where all was as it should be,
+   here and in the guest, else 1; 2 where a file can't be written; 3 for words that it doesn't know. */
+#include <errno.h>
+#include <stdio.h>
+#include <stdlib.h>
+#include <string.h>
+
+#include "bus.h"
+#include "pci.h"
+#include "peer.h"
+#include "strays.h"
+#include "verdict.h"
+
+#define DEVICE 0x10F7 /* 82599EB, KX4 */
+#define FIFO 64
+#define TURNED 10 /* the frame of which --turn has a byte turned */
+
+static const char *const phases[] = {PHASE_NAMES, NULL};
+
+struct words {
+    const char *socket, *strays, *trace;
+    unsigned int functions, without;
+    uint16_t device;
+    uint64_t turn_in, turn_out;
+};
+
+/* ---- the words ---- */
+
+static bool read_device(const char *word, uint16_t *device)
+{
+    char *end;
+    unsigned long id = strtoul(word, &end, 16);
+    *device = (uint16_t)id;
+    return *word && !*end && id > 0 && id <= UINT16_MAX;
+}
+
+static bool read_turn(const char *word, struct words *it)
+{
+    it->turn_in = strcmp(word, "in") == 0 ? TURNED : it->turn_in;
+    it->turn_out = strcmp(word, "out") == 0 ? TURNED : it->turn_out;
+    return strcmp(word, "in") == 0 || strcmp(word, "out") == 0;
+}
+
+static bool read_text(const char *word, const char **text)
+{
+    *text = word;
+    return *word != 0;
+}
+
+/* A word and the one behind it: false where either isn't known. */
+static bool read_pair(const char *word, const char *next, struct words *it)
+{
+    if (strcmp(word, "--socket") == 0)
+        return read_text(next, &it->socket);
+    if (strcmp(word, "--functions") == 0)
+        return read_number(next, 0, FUNCTIONS_MOST, &it->functions);
+    if (strcmp(word, "--device") == 0)
+        return read_device(next, &it->device);
+    if (strcmp(word, "--without") == 0)
+        return (it->without |= bus_answer_named(next)) && bus_answer_named(next);
+    if (strcmp(word, "--strays") == 0)
+        return read_text(next, &it->strays);
+    if (strcmp(word, "--trace") == 0)
+        return read_text(next, &it->trace);
+    return strcmp(word, "--turn") == 0 && read_turn(next, it);
+}
+
+static bool read_words(int count, char **words, struct words *it)
+{
+    *it = (struct words){.device = DEVICE};
+    for (int i = 1; i + 1 < count; i += 2)
+        if (!read_pair(words[i], words[i + 1], it))
+            return false;
+    return count % 2 == 1 && it->socket;
+}
+
+/* ---- the run ---- */
+
+static bool open_trace(const char *name, FILE **file)
+{
+    *file = name ? fopen(name, "w") : NULL;
+    if (name && !*file)
+        fprintf(stderr, "%s can't be written: %s\n", name, strerror(errno));
+    if (*file)
+        setvbuf(*file, NULL, _IOLBF, 0); /* a debugger's user looks at its last line */
+    return !name || *file;
+}
+
+static bool open_all(const struct words *words, FILE *trace)
+{
+    struct bus_options options = {
+        .mac = CARD_MAC,
+        .functions = (uint8_t)words->functions,
+        .fifo = FIFO,
+        .answers = (BUS_SWSM | BUS_ANLP1 | BUS_EICS | BUS_EERD | BUS_ABSENT) & ~words->without,
+        .phases = phases,
+        .hooks = {.filled = peer_filled, .tail = peer_goes_on},
+        .trace = trace,
+        .turn_in = words->turn_in,
+        .turn_out = words->turn_out,
+    };
+    if (!bus_open(&options)) {
+        problem("no bench: memory is short, or its EEPROM text was refused");
+        return false;
+    }
+    bus_send_to(peer_takes);
+    pci_order_to(peer_orders);
+    bus_tell_answers(options.answers);
+    fflush(stdout);
+    return pci_open(words->socket, words->device, words->functions);
+}
+
+int main(int count, char **arguments)
+{
+    struct words words;
+    FILE *trace;
+    if (!read_words(count, arguments, &words)) {
+        fprintf(stderr,
+                "card --socket PATH [--functions 0..%d] [--device ID] [--without "
+                "SWSM | ANLP1 | EICS | EERD | "
+                "ABSENT].. [--strays FILE] [--trace FILE] [--turn in | out]\n",
+                FUNCTIONS_MOST);
+        return 3;
+    }
+    if (!open_trace(words.trace, &trace))
+        return 2;
+    if (open_all(&words, trace)) {
+        pci_serve();
+        pci_close();
+        bus_tell_counts();
+        pci_tell();
+        peer_tell();
+        bus_check_counts(0);
+        if (words.strays)
+            strays_save(words.strays);
+        bus_close();
+    }
+    if (trace && fclose(trace) != 0)
+        problem("%s can't be written: %s", words.trace, strerror(errno));
+    return verdict();
+}

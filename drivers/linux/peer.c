@@ -1,0 +1,262 @@
+#include "peer.h"
+
+#include <inttypes.h>
+#include <stdio.h>
+#include <string.h>
+
+#include "bus.h"
+#include "frames.h"
+#include "rss.h"
+#include "verdict.h"
+
+#define ROOM_KEPT 8 /* descriptors that the fullest queue keeps: more than a frame needs */
+#define ANY_QUEUE UINT16_MAX
+#define MRQC_MODE 0xFu
+#define MODE_ONE 0u
+#define MODE_RSS 1u
+#define MODE_POOLS 8u
+#define MODE_POOLS_RSS_32 0xAu
+#define MODE_POOLS_RSS_64 0xBu
+#define QUEUES_RSS 16
+#define DEFAULT_POOL_AT 7 /* bits 12:7 of VT_CTL */
+#define UDP 17
+#define ECHO_PORT 7
+#define UDP_HEADERS 42 /* Ethernet, IPv4, UDP */
+
+static const uint8_t peer_mac[6] = PEER_MAC;
+
+static struct {
+    uint32_t next, left; /* frames that are still to be sent */
+    uint16_t most, function;
+    uint8_t to[6];
+    uint32_t expected, first, came, alike; /* frames that are to come */
+    uint16_t expected_most;
+    uint8_t from[6];
+} now;
+
+static struct {
+    uint64_t sent, written, expected, echoes, others, by_queue_in[BUS_QUEUES], by_queue_out[BUS_QUEUES];
+    uint64_t compared_queues;
+    uint32_t guest_wrong, guest_compared;
+    bool has_verdict;
+} all;
+
+static uint16_t wanted_queue = ANY_QUEUE;
+
+/* ---- in ---- */
+
+/* The queue that the registers name for a frame to a function. The physical function's pool is the default one. */
+static uint16_t queue_of(const struct frame *frame, unsigned int function)
+{
+    struct rss rss;
+    unsigned int each = bus_pool_queues();
+    unsigned int pool =
+        function == BUS_PHYSICAL ? (bus_peek(NIC_VT_CTL) & NIC_VT_CTL_DEF_PL) >> DEFAULT_POOL_AT : function - 1;
+    rss_of_registers(&rss);
+    switch (rss.mrqc & MRQC_MODE) {
+    case MODE_ONE: return each ? ANY_QUEUE : 0;
+    case MODE_RSS: return rss_queue(&rss, frame, QUEUES_RSS);
+    case MODE_POOLS: return (uint16_t)(pool * each);
+    case MODE_POOLS_RSS_32:
+    case MODE_POOLS_RSS_64: return (uint16_t)(pool * each + rss_queue(&rss, frame, each));
+    default: return ANY_QUEUE;
+    }
+}
+
+void peer_filled(uint16_t queue, bool ends)
+{
+    if (!ends)
+        return;
+    all.written++;
+    all.by_queue_in[queue]++;
+    if (wanted_queue == ANY_QUEUE)
+        return;
+    all.compared_queues++;
+    if (wanted_queue != queue)
+        problem("a frame goes to queue %u, where its hash names queue %u", queue, wanted_queue);
+    wanted_queue = ANY_QUEUE;
+}
+
+/* Sends one frame, which the device receives at once: false where it isn't let in. */
+static bool send_one(uint32_t number)
+{
+    struct frame frame;
+    frame_make(&frame, number, now.most, now.to, peer_mac);
+    wanted_queue = queue_of(&frame, now.function);
+    if (!bus_arrive(frame.bytes, frame.length))
+        return false;
+    all.sent++;
+    bus_receive();
+    return true;
+}
+
+/* Sends on, as long as there is room for it: where there is none, the guest's next tail makes it go on. */
+void peer_goes_on(bool is_transmit, uint16_t queue)
+{
+    (void)is_transmit, (void)queue;
+    while (now.left && bus_least_room() > ROOM_KEPT) {
+        uint32_t number = now.next++;
+        now.left--;
+        if (!send_one(number))
+            problem("frame %" PRIu32 " isn't let in", number);
+    }
+}
+
+/* ---- out ---- */
+
+static void compare(uint16_t queue, const uint8_t *bytes, size_t length)
+{
+    struct frame frame;
+    uint32_t number = now.first + now.came++;
+    frame_make(&frame, number, now.expected_most, peer_mac, now.from);
+    all.expected++;
+    all.by_queue_out[queue]++;
+    if (frame_is(&frame, bytes, length))
+        now.alike++;
+    else
+        problem("out: what comes as frame %" PRIu32 ", %zu bytes, isn't as it was made", number, length);
+}
+
+static void swap(uint8_t *one, uint8_t *other, size_t length)
+{
+    for (size_t i = 0; i < length; i++) {
+        uint8_t byte = one[i];
+        one[i] = other[i];
+        other[i] = byte;
+    }
+}
+
+static bool is_echo(const uint8_t *frame, size_t length)
+{
+    return length >= UDP_HEADERS && frame[12] == 0x08 && frame[13] == 0x00 && frame[23] == UDP && frame[36] == 0
+           && frame[37] == ECHO_PORT;
+}
+
+/* Both ends change places in each header, which leaves the checksums as they are. */
+static void echo(const uint8_t *frame, size_t length)
+{
+    static uint8_t back[FRAME_JUMBO];
+    if (length > sizeof back)
+        return;
+    memcpy(back, frame, length);
+    swap(back, back + 6, 6);
+    swap(back + 26, back + 30, 4);
+    swap(back + 34, back + 36, 2);
+    all.echoes++;
+    if (!bus_arrive(back, length))
+        return;
+    all.sent++;
+    bus_receive();
+}
+
+void peer_takes(uint16_t queue, const uint8_t *frame, size_t length)
+{
+    if (now.came < now.expected) {
+        compare(queue, frame, length);
+    } else if (is_echo(frame, length)) {
+        echo(frame, length);
+    } else {
+        all.others++;
+        problem("a frame of %zu bytes on queue %u that nobody was to send", length, queue);
+    }
+}
+
+/* ---- orders ---- */
+
+static void expect(const struct order_words *words)
+{
+    now.first = words->first;
+    now.expected = words->count;
+    now.expected_most = (uint16_t)words->most;
+    now.came = now.alike = 0;
+    memcpy(now.from, words->mac, sizeof now.from);
+}
+
+static void begin_sending(const struct order_words *words, uint32_t count)
+{
+    now.next = words->first;
+    now.left = count;
+    now.most = (uint16_t)words->most;
+    now.function = words->function;
+    memcpy(now.to, words->mac, sizeof now.to);
+}
+
+static void send_anyhow(struct order_words *words)
+{
+    uint64_t before = all.written;
+    begin_sending(words, 0);
+    send_one(words->first);
+    wanted_queue = ANY_QUEUE;
+    words->result = all.written > before;
+}
+
+static void end(const struct order_words *words)
+{
+    all.has_verdict = true;
+    all.guest_wrong = words->count;
+    all.guest_compared = words->first;
+    if (words->count)
+        problem("the guest tells that %" PRIu32 " things are wrong", words->count);
+}
+
+void peer_orders(uint32_t what, struct order_words *words)
+{
+    bool needs_most = what == ORDER_EXPECT || what == ORDER_SEND || what == ORDER_ONE;
+    if (needs_most && (words->most < FRAME_MIN || words->most > FRAME_JUMBO)) {
+        problem("an order for frames of %" PRIu32 " bytes", words->most);
+        return;
+    }
+    switch (what) {
+    case ORDER_PHASE: bus_enter(words->count < PHASE_END ? words->count : PHASE_END); break;
+    case ORDER_LINK: nic_link(bus_device(), words->count != 0); break;
+    case ORDER_EXPECT: expect(words); break;
+    case ORDER_SENT:
+        words->result = now.alike;
+        words->result_2 = now.came;
+        now.expected = now.came = 0;
+        break;
+    case ORDER_SEND:
+        begin_sending(words, words->count);
+        peer_goes_on(false, 0);
+        break;
+    case ORDER_ONE: send_anyhow(words); break;
+    case ORDER_MESSAGES: words->result = (uint32_t)pci_messages(words->function); break;
+    case ORDER_ECHOES: words->result = (uint32_t)all.echoes; break;
+    case ORDER_VERDICT: end(words); break;
+    default: problem("order %" PRIu32 " isn't known", what);
+    }
+}
+
+bool peer_has_verdict(void)
+{
+    return all.has_verdict;
+}
+
+/* ---- the end ---- */
+
+static void tell_queues(const uint64_t by_queue[BUS_QUEUES])
+{
+    for (unsigned int queue = 0; queue < BUS_QUEUES; queue++)
+        if (by_queue[queue])
+            printf(" %u:%" PRIu64, queue, by_queue[queue]);
+    printf("\n");
+}
+
+void peer_tell(void)
+{
+    printf("the peer sent %" PRIu64 " frames; by queue", all.sent);
+    tell_queues(all.by_queue_in);
+    printf("  the queue of %" PRIu64 " was compared with the one that RSS names\n", all.compared_queues);
+    printf("the peer got %" PRIu64 " frames that it compared; by queue", all.expected);
+    tell_queues(all.by_queue_out);
+    if (all.echoes)
+        printf("  and %" PRIu64 " datagrams, which it sent back\n", all.echoes);
+    same("frames that the peer sent, and that were written", all.sent, all.written);
+    same("frames that the device sent, and that came", bus_counts()->frames_out,
+         all.expected + all.echoes + all.others);
+    if (all.has_verdict)
+        printf("the guest compared %" PRIu32 " things, of which %" PRIu32 " were wrong\n", all.guest_compared,
+               all.guest_wrong);
+    else
+        problem("the guest told no verdict");
+}

@@ -1,0 +1,26 @@
+/* The other end of the wire: sends the frames that the guest's program orders, compares those that it gets, and sends
+   datagrams to UDP port 7 back. */
+#ifndef LINUX_PEER_H
+#define LINUX_PEER_H
+
+#include <stdbool.h>
+#include <stddef.h>
+#include <stdint.h>
+
+#include "pci.h"
+
+/* The bus' hooks and sink. */
+void peer_takes(uint16_t queue, const uint8_t *frame, size_t length);
+void peer_filled(uint16_t queue, bool ends);
+void peer_goes_on(bool is_transmit, uint16_t queue);
+
+void peer_orders(uint32_t what, struct order_words *words);
+
+/* Whether the guest told its verdict. */
+bool peer_has_verdict(void);
+
+/* Prints what went over the wire, and compares it with the counts of the bus.
+ */
+void peer_tell(void);
+
+#endif

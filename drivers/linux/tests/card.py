@@ -1,0 +1,212 @@
+#!/usr/bin/env python3
+"""Tests the program `card` without a kernel: this is a guest's side of vhost-user and of its PCI bus.
+
+    drivers/linux/tests/card.py CARD
+
+CARD is the program. Printed is what was tried; the status is 0 where all came out as it should, else 1.
+"""
+
+from __future__ import annotations
+
+import array
+import mmap
+import os
+import socket
+import struct
+import subprocess
+import sys
+import tempfile
+import time
+from pathlib import Path
+
+MEMORY = 1 << 20
+SLOTS = 16
+GUEST_STEP = 0x10000  # from one function's places in memory to the next one's
+DESCRIPTORS, AVAILABLE, USED, MESSAGES = 0x1000, 0x2000, 0x3000, 0x8000
+RING_STEP = 0x800  # from ring 0's places to ring 1's
+VERSION, REPLY, NEEDS_REPLY = 1, 4, 8
+NEXT, WRITTEN = 1, 2
+CONFIG_READ, CONFIG_WRITE, MEMORY_READ, MEMORY_WRITE = 1, 2, 3, 4
+COUNT, FIRST, WHAT, VERDICT = 0xE0, 0xE4, 0xF4, 9
+CTRL, STATUS, EICR, SWSM, VTEIMS = 0x0, 0x8, 0x800, 0x10140, 0x108
+
+
+class Guest:
+    """One function's connection. All have the same memory, and each its places in it, from `base` on."""
+
+    def __init__(self, path: str, file: int, base: int) -> None:
+        self.socket = socket.socket(socket.AF_UNIX, socket.SOCK_STREAM)
+        self.socket.settimeout(10)
+        self.socket.connect(path)
+        self.calls, far = socket.socketpair()
+        self.memory = mmap.mmap(file, MEMORY)
+        self.base = base
+        self.put = 0
+        self.ask(1, b"", is_get=True)
+        self.ask(15, b"", is_get=True)
+        self.ask(21, b"", [far.fileno()])
+        self.ask(5, struct.pack("<IIQQQQ", 1, 0, 0, MEMORY, 0, 0), [file])
+        for ring in range(2):
+            at = base + ring * RING_STEP
+            self.ask(8, struct.pack("<II", ring, SLOTS))
+            self.ask(10, struct.pack("<II", ring, 0))
+            self.ask(9, struct.pack("<IIQQQQ", ring, 0, DESCRIPTORS + at, USED + at, AVAILABLE + at, 0))
+            self.ask(18, struct.pack("<II", ring, 1))
+
+    def ask(self, request: int, body: bytes, files: list[int] | None = None, is_get: bool = False) -> int:
+        """One request and its reply's number."""
+        head = struct.pack("<III", request, VERSION | (0 if is_get else NEEDS_REPLY), len(body))
+        rights = [(socket.SOL_SOCKET, socket.SCM_RIGHTS, array.array("i", files))] if files else []
+        self.socket.sendmsg([head], rights)
+        self.socket.sendall(body)
+        reply = b""
+        while len(reply) < 20:
+            part = self.socket.recv(20 - len(reply))
+            if not part:
+                raise EOFError
+            reply += part
+        got, flags, _size, number = struct.unpack("<IIIQ", reply)
+        assert got == request and flags & REPLY, (request, got, flags)
+        return number
+
+    def put_bytes(self, at: int, value: bytes) -> None:
+        """Writes into this function's places in memory."""
+        self.memory[self.base + at:self.base + at + len(value)] = value
+
+    def message(self, message: bytes, answer: int, at: int = MESSAGES) -> bytes:
+        """Puts one message into ring 0, kicks, and gives the answer's bytes."""
+        to = MESSAGES + 0x2000
+        if at == MESSAGES:
+            self.put_bytes(at, message)
+        self.put_bytes(DESCRIPTORS, struct.pack("<QIHH", self.base + at, len(message), NEXT if answer else 0, 1))
+        self.put_bytes(DESCRIPTORS + 16, struct.pack("<QIHH", self.base + to, answer, WRITTEN, 0))
+        self.put_bytes(AVAILABLE + 4 + 2 * (self.put % SLOTS), struct.pack("<H", 0))
+        self.put += 1
+        self.put_bytes(AVAILABLE + 2, struct.pack("<H", self.put & 0xFFFF))
+        self.ask(35, struct.pack("<II", 0, 0))
+        return self.memory[self.base + to:self.base + to + answer]
+
+    def used(self) -> int:
+        """How many messages were given back."""
+        return int(struct.unpack_from("<H", self.memory, self.base + USED + 2)[0])
+
+    def read(self, operation: int, address: int, size: int = 4, bar: int = 0) -> int:
+        """A read of configuration space or of a register."""
+        return int.from_bytes(self.message(struct.pack("<BBHIQ", operation, bar, 0, size, address), size), "little")
+
+    def write(self, operation: int, address: int, value: int, size: int = 4, bar: int = 0) -> None:
+        """A write of configuration space or of a register."""
+        self.message(struct.pack("<BBHIQ", operation, bar, 0, size, address) + value.to_bytes(size, "little"), 0)
+
+    def verdict(self, wrong: int, compared: int) -> None:
+        """The guest's verdict, as its program gives it."""
+        self.write(CONFIG_WRITE, COUNT, wrong)
+        self.write(CONFIG_WRITE, FIRST, compared)
+        self.write(CONFIG_WRITE, WHAT, VERDICT)
+
+
+class Card:
+    """The program, and its guests' connections."""
+
+    def __init__(self, program: str, functions: int = 0, *words: str) -> None:
+        self.folder = tempfile.TemporaryDirectory()
+        path = str(Path(self.folder.name) / "pf")
+        command = [program, "--socket", path, "--functions", str(functions), *words]
+        self.process = subprocess.Popen(command, stdout=subprocess.PIPE, stderr=subprocess.STDOUT, text=True)
+        names = [path] + [f"{path}.{vf}" for vf in range(functions)]
+        until = time.monotonic() + 10
+        while not all(Path(name).exists() for name in names):
+            assert time.monotonic() < until and self.process.poll() is None, "the card doesn't listen"
+            time.sleep(0.01)
+        file = os.memfd_create("guest")
+        os.ftruncate(file, MEMORY)
+        self.guests = [Guest(name, file, i * GUEST_STEP) for i, name in enumerate(names)]
+        os.close(file)
+
+    def end(self) -> tuple[int, str]:
+        """Ends the connections: the program's status and output."""
+        for guest in self.guests:
+            guest.socket.close()
+        said, _ = self.process.communicate(timeout=20)
+        self.folder.cleanup()
+        return self.process.returncode, said
+
+
+def expect(what: str, is_so: bool, told: object = "") -> None:
+    """Ends the test where it isn't so."""
+    if not is_so:
+        print(f"drivers/linux/tests/card.py: {what} {told}", file=sys.stderr)
+        sys.exit(1)
+    print(f"  {what}")
+
+
+def try_access(program: str) -> None:
+    """Configuration space, registers, posted writes, the shim's answers."""
+    card = Card(program, 1)
+    host, function = card.guests
+    expect("vendor and device", host.read(CONFIG_READ, 0) == 0x10F78086)
+    expect("a function's vendor is nobody", function.read(CONFIG_READ, 0, 2) == 0xFFFF)
+    host.write(CONFIG_WRITE, 0x10, 0xFFFFFFFF)
+    expect("the window of registers has 128 KB", host.read(CONFIG_READ, 0x10) == 0xFFFE0000)
+    host.write(CONFIG_WRITE, 0x0, 0x12345678)
+    expect("vendor and device stay", host.read(CONFIG_READ, 0) == 0x10F78086)
+    expect("one function by SR-IOV", host.read(CONFIG_READ, 0x16E, 2) == 1)
+    host.write(MEMORY_WRITE, 0x5C80, 0xCAFE1234)
+    expect("a register keeps what is written", host.read(MEMORY_READ, 0x5C80) == 0xCAFE1234)
+    expect("SWSM is answered: free, then taken", [host.read(MEMORY_READ, SWSM) & 1 for _ in range(2)] == [0, 1])
+    expect("a function is there without a pool", function.read(MEMORY_READ, STATUS) != 0xFFFFFFFF)
+    for _ in range(200):
+        host.write(MEMORY_WRITE, 0x5C80, 1)
+    expect("every message is given back", host.used() == host.put & 0xFFFF)
+    expect("the guest is called after many writes", len(host.calls.recv(4096)) >= 20)
+    host.verdict(0, 7)
+    status, said = card.end()
+    expect("a good run has status 0", status == 0, said)
+    expect("and the guest's counts", "the guest compared 7 things, of which 0 were wrong" in said, said)
+
+
+def try_ends(program: str) -> None:
+    """What ends with status 1: no verdict, a bad one, messages that aren't as they should be."""
+    for what, wrong in (("no verdict", None), ("a bad verdict", 3)):
+        card = Card(program)
+        if wrong is not None:
+            card.guests[0].verdict(wrong, 3)
+        status, said = card.end()
+        expect(f"{what} has status 1", status == 1 and "guest" in said, said)
+    bad = {
+        "a message outside the guest's memory": lambda it: it.message(b"\0" * 16, 4, at=MEMORY),
+        "a short message": lambda it: it.message(b"\0" * 5, 4),
+        "an unknown operation": lambda it: it.read(77, 0),
+        "too few bytes": lambda it: it.message(struct.pack("<BBHIQ", MEMORY_WRITE, 0, 0, 4096, 0), 0),
+        "an access beyond the window": lambda it: it.read(MEMORY_READ, 0x20000),
+        "an access that isn't aligned": lambda it: it.read(MEMORY_READ, 0x2),
+        "an unknown order": lambda it: it.write(CONFIG_WRITE, WHAT, 99),
+    }
+    for what, act in bad.items():
+        card = Card(program)
+        act(card.guests[0])
+        card.guests[0].verdict(0, 1)
+        status, said = card.end()
+        expect(f"{what} is told", status == 1 and said.count("wrong: ") == 1, said)
+
+
+def try_words(program: str) -> None:
+    """Words that the program doesn't know."""
+    for words in (["--what"], ["--functions", "8", "--socket", "x"], ["--socket"], ["--without", "X", "--socket", "x"]):
+        ended = subprocess.run([program, *words], capture_output=True, check=False)
+        expect(f"status 3: {' '.join(words)}", ended.returncode == 3, ended.stderr)
+
+
+def main() -> int:
+    """The tests, one after another."""
+    if len(sys.argv) != 2:
+        print(__doc__, file=sys.stderr)
+        return 3
+    try_access(sys.argv[1])
+    try_ends(sys.argv[1])
+    try_words(sys.argv[1])
+    return 0
+
+
+if __name__ == "__main__":
+    sys.exit(main())

@@ -199,6 +199,8 @@ static void start_function(unsigned int vf)
     mac[4] = 0x83;
     mac[5] = (uint8_t)(vf + 1);
     interface_set_mac(&it, mac);
+    if (!(wanted & OFFLOADS))
+        interface_turn_offloads_off(&it);
     interface_set_up(&it, true);
     interface_wait_link(&it, true);
 }

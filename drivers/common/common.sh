@@ -144,6 +144,9 @@ out_folder() { echo "$WORK/$1-$(printf %s "$ROOT" | sha256sum | cut -c 1-8)"; }
 find_library() {
     INCLUDE=${NIC82599_INCLUDE:-$ROOT/c/include}
     LIBRARY=${NIC82599_ARCHIVE:-$ROOT/c/out/libnic82599.a}
-    [ -f "$LIBRARY" ] || die "$LIBRARY isn't there: make -C c makes it (README.md)"
+    if [ -z "${NIC82599_ARCHIVE-}" ]; then
+        make -s -C "$ROOT/c" >&2 || die "make -C c doesn't make the library"
+    fi
+    [ -f "$LIBRARY" ] || die "$LIBRARY isn't there"
     [ -f "$INCLUDE/nic82599.h" ] || die "$INCLUDE/nic82599.h isn't there"
 }

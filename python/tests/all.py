@@ -21,6 +21,7 @@ sys.path[:0] = [str(HERE.parent), str(HERE)]
 import calls  # noqa: E402
 import chance  # noqa: E402
 import descriptors_of_device  # noqa: E402
+import explorer  # noqa: E402
 import nic82599  # noqa: E402
 import nic82599.descriptors  # noqa: E402
 import packing  # noqa: E402
@@ -52,6 +53,7 @@ def main() -> None:
     print(f"{texts()} examples of texts")
     print(f"{units(calls)} tests of calls")
     print(f"{units(descriptors_of_device)} tests of descriptors")
+    print(f"{units(explorer)} tests of the explorer")
     print(f"{units(packing)} tests of the package")
     made = answers = 0
     with tempfile.TemporaryDirectory() as folder:

@@ -351,7 +351,7 @@ class Search:
     """A scenario whose device is up, to make schedules with. It ends by `close`, or at the end of a `with`."""
 
     def __init__(self, scenario: Scenario, hang: float = 10):
-        self.scenario, self.hang = scenario, hang
+        self.scenario, self.hang, self.is_cut = scenario, hang, False
         scenario._run = None
         scenario._nic = Nic(scenario.vfs, scenario.fifo, scenario.blocks)
         scenario.bring_up()
@@ -375,6 +375,7 @@ class Search:
         try:
             return scenario._run.make()
         finally:
+            self.is_cut = scenario._run.is_cut
             scenario._run = None
 
     def shrink(self, result: Result, tries: int = 200) -> Result:
@@ -450,9 +451,9 @@ def replay(scenario: Scenario, path: str | Path, hang: float = 10) -> Result:
     """Makes the schedule of a file, to the letter. BadSchedule where it doesn't fit the scenario."""
     names, numbers = read_schedule(path, scenario)
     with Search(scenario, hang) as searching:
-        result = searching.run(by_list(names, True))
+        result, is_cut = searching.run(by_list(names, True)), searching.is_cut
     at = len(result.points)
-    if result.actors != names[:at] or at < len(names):
+    if is_cut or result.actors != names:
         where = numbers[min(at, len(numbers) - 1)] if numbers else 1
         raise BadSchedule(f"{path}:{where}: \"{names[at] if at < len(names) else 'the end'}\" can't act here")
     return result

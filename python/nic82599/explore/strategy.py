@@ -76,8 +76,9 @@ class Exhaustive:
         point = len(run.result.points)
         if self.at > point:  # (it was a step of the device with nothing to do, so it was no choice)
             self.at = point
-            names, k, _ = self.stack[point]
+            names, k, goes_on = self.stack[point]
             del names[k]
+            self.stack[point] = (names, k, goes_on and k > 0)
         if self.at == len(self.stack):
             self.stack.append(([one.name for one in can], 0, can[0].name == run.last))
         names, k, _ = self.stack[self.at]

@@ -1,0 +1,277 @@
+"""Tests of nic82599.explore: what it finds, how each fault is told, files of schedules, and the plugin of pytest, where
+a Python with pytest is."""
+
+from __future__ import annotations
+
+import os
+import subprocess
+import sys
+import tempfile
+import unittest
+from pathlib import Path
+
+HERE = Path(__file__).resolve().parent
+sys.path[:0] = [str(HERE.parent), str(HERE.parent / "examples")]
+from nic82599.explore import BESIDE, BadSchedule, Failure, Mutex, Scenario, replay, search  # noqa: E402
+from race import Fixed, Race  # noqa: E402
+
+
+class Faulty(Scenario):
+    """A scenario of two tasks, each a list of steps."""
+
+    name, points = "faulty", 200
+
+    def __init__(self, *tasks: str) -> None:
+        self.tasks = tasks
+        self.one, self.other = Mutex("first"), Mutex("second")
+
+    def begin(self) -> None:
+        self.count = 0
+        for number, steps in enumerate(self.tasks):
+            self.task(f"t{number}", lambda steps=steps: [getattr(self, f"do_{step}")() for step in steps.split()])
+
+    def do_up(self) -> None:
+        with self.holding(self.one), self.holding(self.other):
+            self.count += 1
+
+    def do_down(self) -> None:
+        with self.holding(self.other), self.holding(self.one):
+            self.count += 1
+
+    def do_loop(self) -> None:
+        while True:
+            self.point()
+
+    def do_wait(self) -> None:
+        self.wait_until(lambda: False)
+
+    def do_pause(self) -> None:
+        self.pause()
+
+    def do_await(self) -> None:
+        while not self.count:
+            self.wait()
+
+    def do_poll(self) -> None:
+        while not self.count:
+            self.read32("STATUS")
+
+    def do_count(self) -> None:
+        self.point()
+        self.count += 1
+
+    def do_check(self) -> None:
+        self.check(self.count, "it wasn't counted")
+
+    def do_assert(self) -> None:
+        assert self.count, "an assertion"
+
+    def do_raise(self) -> None:
+        raise KeyError("here")
+
+    def do_read(self) -> None:
+        self.get64(0x800)
+
+    def do_unlock(self) -> None:
+        self.unlock(self.one)
+
+    def do_hang(self) -> None:
+        self.point()
+        while not self._run.is_over:
+            pass
+
+    def do_add(self) -> None:
+        seen = self.count
+        self.point()
+        self.count = seen + 1
+
+
+class Looking(Faulty):
+    def always(self) -> str | None:
+        return "it was counted" if self.count else None
+
+
+class Twice(Faulty):
+    def end(self) -> str | None:
+        return None if self.count == 2 else f"{self.count} and not 2"
+
+
+class Interrupted(Scenario):
+    """A handler that may start anywhere, unless interrupts are off."""
+
+    name, blocks, is_masked, where = "interrupted", 2, False, "main"
+
+    def bring_up(self) -> None:
+        Race.bring_up(self)
+
+    def begin(self) -> None:
+        self.inside = self.seen = False
+        self.task("main", self.main)
+        self.handler("isr", self.isr, vector=5, where=self.where)
+        self.frame(bytes.fromhex("02000000000102000000000288b5") + bytes(46))
+
+    def isr(self) -> None:
+        self.seen |= self.inside
+        self.write32("EIMC", 1 << 5)
+
+    def section(self) -> None:
+        self.inside = True
+        self.point()
+        self.inside = False
+
+    def main(self) -> None:
+        if not self.is_masked:
+            self.section()
+            return
+        with self.interrupts_off():
+            self.section()
+
+    def end(self) -> str | None:
+        return "it came inside" if self.seen else None
+
+
+class Found(unittest.TestCase):
+    def failure(self, scenario: Scenario, *words: object, **more: object) -> str:
+        with self.assertRaises(Failure) as caught:
+            search(scenario, *words, **more)
+        return str(caught.exception)
+
+    def test_race(self) -> None:
+        for strategy in ("random", "priorities", "mixed", "exhaustive"):
+            told = self.failure(Race(), 1_000, strategy=strategy)
+            self.assertIn("end: a frame lies in the ring", told, strategy)
+        search(Fixed(), 300)
+        search(Fixed(), None, strategy="exhaustive", preemptions=0)
+
+    def test_same_again(self) -> None:
+        self.assertEqual(self.failure(Race(), seed=7), self.failure(Race(), seed=7))
+        self.assertEqual(self.failure(Race(), seed=7, shrink=False), self.failure(Race(), seed=7, shrink=False))
+
+    def test_faults(self) -> None:
+        for steps, wanted in {
+            ("up", "down"): "deadlock: t",
+            ("wait",): "deadlock: t0 waits, and nobody can act",
+            ("loop",): "endless: no end after 200 points; last came task t0",
+            ("check", "count"): "check: it wasn't counted",
+            ("assert",): "check: an assertion",
+            ("raise",): "crash: t0: KeyError: 'here'",
+            ("read",): "memory: t0 reads 0x800, which isn't lent",
+            ("unlock",): "misuse: t0 unlocks first, which it doesn't hold",
+        }.items():
+            self.assertIn(wanted, self.failure(Faulty(*steps), 200), steps)
+        self.assertIn("always: it was counted", self.failure(Looking("count", "pause")))
+        self.assertIn("hang: t0 runs and makes no point", self.failure(Faulty("hang"), hang=0.2))
+        for strategy in ("random", "priorities", "exhaustive"):
+            self.assertIn("end: 1 and not 2", self.failure(Twice("add", "add"), 500, strategy=strategy), strategy)
+
+    def test_fine(self) -> None:
+        search(Faulty("up", "up"), None, strategy="exhaustive", preemptions=2)
+        search(Faulty("await", "count"), 200)
+        search(Faulty("await", "await", "count"), 200)
+        search(Faulty("poll", "count"), 200)
+        search(Faulty("pause", "pause"), 50)
+
+    def test_interrupts(self) -> None:
+        self.assertIn("end: it came inside", self.failure(Interrupted(), 500))
+        masked = Interrupted()
+        masked.is_masked = True
+        search(masked, 300)
+        masked.where = BESIDE
+        self.assertIn("start isr beside", self.failure(masked, 500))
+
+    def test_words(self) -> None:
+        for words in ({"strategy": "best"}, {"runs": 0}, {"runs": None}):
+            self.assertRaises(ValueError, search, Race(), **words)
+
+
+class Files(unittest.TestCase):
+    def test_of_c(self) -> None:
+        """The explorer in C found this schedule of the same scenario: each point does what it did there."""
+        result = replay(Race(), HERE / "race.schedule")
+        lines = [line.split("#") for line in (HERE / "race.schedule").read_text().splitlines()]
+        wanted = [(line[0].strip(), line[1].strip()) for line in lines if len(line) == 2 and line[0]]
+        self.assertEqual(result.points, wanted)
+        self.assertEqual(f"# {result.outcome}: {result.words}", "#".join(lines[0]))
+
+    def test_written(self) -> None:
+        with tempfile.TemporaryDirectory() as folder:
+            with self.assertRaises(Failure) as caught:
+                search(Race(), out=folder)
+            self.assertEqual(caught.exception.path, Path(folder) / "race.schedule")
+            again = replay(Race(), caught.exception.path)
+        self.assertEqual(again, caught.exception.result)
+
+    def test_refused(self) -> None:
+        with tempfile.TemporaryDirectory() as folder:
+            file = Path(folder) / "bad"
+            for text, wanted in {
+                "": "has no line",
+                "task poll\n": ":1: the first line is",
+                "scenario other\n": ":1: it is a schedule of scenario other, and this is race",
+                "scenario race\n\ntask nobody\n": ':3: "task nobody" can\'t act here',
+                "scenario race\nrx\n": ':2: "rx" can\'t act here',
+                "scenario race\narrive\n": ':2: "the end" can\'t act here',
+            }.items():
+                file.write_text(text)
+                with self.assertRaises(BadSchedule) as caught:
+                    replay(Race(), file)
+                self.assertIn(wanted, str(caught.exception), text)
+        self.assertRaises(BadSchedule, replay, Race(), "/nowhere")
+
+
+TESTS = """
+import pytest
+from race import Fixed, Race
+
+@pytest.mark.nic_schedules(500)
+def test_race(tmp_path):
+    return Race()
+
+@pytest.mark.nic_schedules(50)
+def test_fixed():
+    return Fixed
+
+@pytest.mark.nic_schedules(5)
+def test_nothing():
+    pass
+
+@pytest.mark.nic_schedules(walks=5)
+def test_words():
+    return Race()
+
+def test_unmarked():
+    pass
+"""
+
+
+def with_pytest() -> str | None:
+    """A Python that has pytest."""
+    for program in (sys.executable, "/usr/bin/python3"):
+        words = [program, "-c", "import sys, pytest; sys.exit(sys.version_info < (3, 11))"]
+        if Path(program).exists() and not subprocess.run(words, capture_output=True, check=False).returncode:
+            return program
+    return None
+
+
+@unittest.skipUnless(with_pytest(), "pytest isn't installed")
+class Plugin(unittest.TestCase):
+    def pytest(self, folder: str, *words: str) -> str:
+        how = {**os.environ, "PYTHONPATH": f"{HERE.parent}:{HERE.parent / 'examples'}", "PYTHONDONTWRITEBYTECODE": "1"}
+        line = [with_pytest(), "-m", "pytest", "-p", "nic82599.pytest_plugin", "-p", "no:cacheprovider", "-W", "error"]
+        return subprocess.run([*line, *words], cwd=folder, env=how, capture_output=True, text=True, check=False).stdout
+
+    def test_all(self) -> None:
+        with tempfile.TemporaryDirectory() as folder:
+            (Path(folder) / "test_it.py").write_text(TESTS)
+            told = self.pytest(folder, "--nic-out", folder, "--strict-markers")
+            self.assertIn("3 failed, 2 passed", told)
+            self.assertIn("end: a frame lies in the ring", told)
+            self.assertIn("test_nothing gives no Scenario", told)
+            self.assertIn("nic_schedules: walks is none of runs, seed", told)
+            told = self.pytest(folder, "--nic-replay", "race.schedule", "-k", "race or fixed")
+            self.assertIn("1 failed, 1 skipped", told)
+            self.assertIn("replayed", told)
+
+    def test_example(self) -> None:
+        example = HERE.parent / "examples/race.py"
+        self.assertIn("1 passed, 1 xfailed", self.pytest(str(HERE), str(example)))

@@ -1,0 +1,61 @@
+"""Checks the harness for fuzzers: a schedule by an input is replayed by the scenario's own program, and libFuzzer, where
+clang has it, finds the example's race. `c/test` calls it."""
+
+from __future__ import annotations
+
+import re
+import shutil
+from pathlib import Path
+
+from explore.check import C, HERE, STRICT, Kit, Wrong, ran, told
+
+RACE = HERE / "examples/race.c"
+HARNESS = HERE / "fuzz/fuzz.c"
+FAILS = "a frame lies in the ring, and nobody comes for it"
+
+
+def built(kit: Kit, name: str, compiler: str, *words: str) -> Path:
+    """A program of the example with the harness."""
+    program = kit.folder / name
+    libraries = [kit.explorer, C / "out/libnic82599.a"]
+    ran([compiler, *STRICT, *words, f"-I{C}/include", RACE, HARNESS, *libraries, "-o", program])
+    return program
+
+
+def check_inputs(kit: Kit) -> int:
+    """Schedules by inputs that are no chance: as the harness told them, the example's program replays them."""
+    show, race, failing = built(kit, "race-show", kit.compiler, *kit.flags), kit.build(RACE), 0
+    for number in range(100):
+        given = bytes(number * (k + 3) * (k + 7) // 5 % 251 for k in range(number % 40))
+        (kit.folder / "input").write_bytes(given)
+        said = ran([show, "input"], None, cwd=kit.folder)
+        is_failing = f"race: FAILED: {FAILS}" in said
+        if not is_failing and "race: fine;" not in said:
+            raise Wrong(f"input {given.hex()}: {said}")
+        again = ran([race, "--replay", kit.folder / "race.schedule"], int(is_failing))
+        told(again, f"FAILED end: {FAILS}" if is_failing else "race: fine", f"input {given.hex()}")
+        failing += is_failing
+    told(ran([show, "/nowhere"], 2), "/nowhere: it can't be read", "an input that isn't there")
+    told(ran([show], 2), "it wants the file of an input", "no input")
+    return failing
+
+
+def check_fuzz(kit: Kit) -> str:
+    """The harness by inputs, and by libFuzzer."""
+    failing = check_inputs(kit)
+    if not failing:
+        raise Wrong("no input of a hundred finds the race")
+    said = f"{failing} of 100 inputs fail, and are replayed"
+    if not shutil.which("clang"):
+        return f"{said}; not by libFuzzer, since clang isn't installed"
+    words = ["-O1", "-fsanitize=fuzzer", "-DNICX_LIBFUZZER", "-Dmain=nicx_scenario_main"]
+    try:
+        program = built(kit, "race-libfuzzer", "clang", *words)
+    except Wrong:
+        return f"{said}; not by libFuzzer, which clang has not here"
+    out = ran([program, "-max_len=64", "-seed=1", "-runs=300000", f"-artifact_prefix={kit.folder}/"], None)
+    found = re.search(r"Test unit written to (\S+)", out)
+    if not found or FAILS not in out:
+        raise Wrong(f"libFuzzer finds no race:\n{out[-1000:]}")
+    told(ran([kit.folder / "race-show", found[1]], 1, cwd=kit.folder), FAILS, "libFuzzer's input")
+    return f"{said}; libFuzzer finds the race"

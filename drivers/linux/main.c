@@ -101,6 +101,7 @@ static bool open_all(const struct words *words, FILE *trace)
         .functions = (uint8_t)words->functions,
         .fifo = FIFO,
         .answers = (BUS_SWSM | BUS_ANLP1 | BUS_EICS | BUS_EERD | BUS_ABSENT) & ~words->without,
+        .acts_at_writes = true, /* ixgbevf disables its transmit queues without polling */
         .phases = phases,
         .hooks = {.filled = peer_filled, .tail = peer_goes_on},
         .trace = trace,

@@ -23,12 +23,14 @@ MEMORY = 1 << 20
 SLOTS = 16
 GUEST_STEP = 0x10000  # from one function's places in memory to the next one's
 DESCRIPTORS, AVAILABLE, USED, MESSAGES = 0x1000, 0x2000, 0x3000, 0x8000
+INTERRUPT = 0xC000
 RING_STEP = 0x800  # from ring 0's places to ring 1's
 VERSION, REPLY, NEEDS_REPLY = 1, 4, 8
 NEXT, WRITTEN = 1, 2
 CONFIG_READ, CONFIG_WRITE, MEMORY_READ, MEMORY_WRITE = 1, 2, 3, 4
 COUNT, FIRST, WHAT, VERDICT = 0xE0, 0xE4, 0xF4, 9
-CTRL, STATUS, EICR, SWSM, VTEIMS = 0x0, 0x8, 0x800, 0x10140, 0x108
+STATUS, EICS, EIMS, RSSRK, SWSM = 0x8, 0x808, 0x880, 0x5C80, 0x10140
+MSIX_CONTROL, MSIX_ENABLED, TABLE_BAR = 0x72, 0x8000, 3
 
 
 class Guest:
@@ -86,9 +88,16 @@ class Guest:
         self.ask(35, struct.pack("<II", 0, 0))
         return self.memory[self.base + to:self.base + to + answer]
 
-    def used(self) -> int:
+    def used(self, ring: int = 0) -> int:
         """How many messages were given back."""
-        return int(struct.unpack_from("<H", self.memory, self.base + USED + 2)[0])
+        return int(struct.unpack_from("<H", self.memory, self.base + ring * RING_STEP + USED + 2)[0])
+
+    def offer(self) -> None:
+        """Puts one buffer for an interrupt into ring 1, and kicks."""
+        at = RING_STEP
+        self.put_bytes(DESCRIPTORS + at, struct.pack("<QIHH", self.base + INTERRUPT, 64, WRITTEN, 0))
+        self.put_bytes(AVAILABLE + at, struct.pack("<HHH", 0, 1, 0))
+        self.ask(35, struct.pack("<II", 1, 0))
 
     def read(self, operation: int, address: int, size: int = 4, bar: int = 0) -> int:
         """A read of configuration space or of a register."""
@@ -151,18 +160,40 @@ def try_access(program: str) -> None:
     host.write(CONFIG_WRITE, 0x0, 0x12345678)
     expect("vendor and device stay", host.read(CONFIG_READ, 0) == 0x10F78086)
     expect("one function by SR-IOV", host.read(CONFIG_READ, 0x16E, 2) == 1)
-    host.write(MEMORY_WRITE, 0x5C80, 0xCAFE1234)
-    expect("a register keeps what is written", host.read(MEMORY_READ, 0x5C80) == 0xCAFE1234)
+    host.write(MEMORY_WRITE, RSSRK, 0xCAFE1234)
+    expect("a register keeps what is written", host.read(MEMORY_READ, RSSRK) == 0xCAFE1234)
     expect("SWSM is answered: free, then taken", [host.read(MEMORY_READ, SWSM) & 1 for _ in range(2)] == [0, 1])
     expect("a function is there without a pool", function.read(MEMORY_READ, STATUS) != 0xFFFFFFFF)
     for _ in range(200):
-        host.write(MEMORY_WRITE, 0x5C80, 1)
+        host.write(MEMORY_WRITE, RSSRK, 1)
     expect("every message is given back", host.used() == host.put & 0xFFFF)
     expect("the guest is called after many writes", len(host.calls.recv(4096)) >= 20)
     host.verdict(0, 7)
     status, said = card.end()
     expect("a good run has status 0", status == 0, said)
     expect("and the guest's counts", "the guest compared 7 things, of which 0 were wrong" in said, said)
+
+
+def try_interrupts(program: str) -> None:
+    """A message waits for a buffer, for MSI-X and for its mask."""
+    card = Card(program)
+    host = card.guests[0]
+    for at, word in enumerate((0xFEE00000, 0, 77, 1)):
+        host.write(MEMORY_WRITE, 16 * 3 + 4 * at, word, bar=TABLE_BAR)
+    host.write(MEMORY_WRITE, EIMS, 8)
+    host.write(MEMORY_WRITE, EICS, 8)
+    host.offer()
+    expect("no message without MSI-X", host.used(1) == 0)
+    host.write(CONFIG_WRITE, MSIX_CONTROL, MSIX_ENABLED, 2)
+    expect("no message of a masked vector", host.used(1) == 0)
+    host.write(MEMORY_WRITE, 16 * 3 + 12, 0, bar=TABLE_BAR)
+    expect("the message, once it may", host.used(1) == 1)
+    told = struct.unpack_from("<BBHIQI", host.memory, INTERRUPT)
+    expect("with the table's address and data", told == (7, 0, 0, 4, 0xFEE00000, 77), told)
+    expect("and the guest is called", struct.unpack("<IIIII", host.calls.recv(20))[3] == 1)
+    host.verdict(0, 1)
+    status, said = card.end()
+    expect("one message of vector 3 is counted", status == 0 and "messages 3:1" in said, said)
 
 
 def try_ends(program: str) -> None:
@@ -203,6 +234,7 @@ def main() -> int:
         print(__doc__, file=sys.stderr)
         return 3
     try_access(sys.argv[1])
+    try_interrupts(sys.argv[1])
     try_ends(sys.argv[1])
     try_words(sys.argv[1])
     return 0

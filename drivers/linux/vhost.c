@@ -109,19 +109,20 @@ uint64_t vhost_memory_bytes(void)
 
 /* ---- the connection ---- */
 
+/* The socket has its name once it listens, so who waits for the name can connect. */
 bool vhost_listen(struct vhost *vhost, const char *path)
 {
     struct sockaddr_un name = {.sun_family = AF_UNIX};
+    int length = snprintf(name.sun_path, sizeof name.sun_path, "%s~", path);
     vhost->socket = vhost->calls = -1;
     vhost->listener = socket(AF_UNIX, SOCK_STREAM | SOCK_CLOEXEC, 0);
-    if (strlen(path) >= sizeof name.sun_path) {
+    if (length < 0 || (size_t)length >= sizeof name.sun_path) {
         problem("%s is too long for a socket's name", path);
         return false;
     }
-    strcpy(name.sun_path, path);
-    unlink(path);
+    unlink(name.sun_path);
     if (vhost->listener < 0 || bind(vhost->listener, (struct sockaddr *)&name, sizeof name) != 0
-        || listen(vhost->listener, 1) != 0) {
+        || listen(vhost->listener, 1) != 0 || rename(name.sun_path, path) != 0) {
         problem("no socket %s: %s", path, strerror(errno));
         return false;
     }

@@ -148,14 +148,14 @@ fn writer(taken: u32, kind: ErrorKind) -> FailingWriter {
 }
 
 /// Words, an input, and the status that it ends with.
-type Case<'a> = (&'a [&'a str], &'a [u8], u8);
+type Case<'w, 's, 'b> = (&'w [&'s str], &'b [u8], u8);
 
 /// The program ends with this status and no later write where a writer fails with an error of this kind, and else with
 /// the input's own. Gives whether it came to fail.
 fn fails_at(
     rt: &impl Abort,
     alloc: Global,
-    (words, input, own): Case<'_>,
+    (words, input, own): Case<'_, '_, '_>,
     taken: u32,
     (kind, failed): (ErrorKind, u8),
 ) -> bool {
@@ -171,7 +171,7 @@ fn fails_at(
 
 /// A reader that gives a byte at each read, and fails, at whatever read of all, also at that of the end: nothing is
 /// answered but that.
-fn is_unread_at_each(rt: &impl Abort, alloc: Global, (words, input, _own): Case<'_>) {
+fn is_unread_at_each(rt: &impl Abort, alloc: Global, (words, input, _own): Case<'_, '_, '_>) {
     for reads in 0..=input.len() {
         let mut reader = FailingReader {
             bytes: input,
@@ -182,7 +182,7 @@ fn is_unread_at_each(rt: &impl Abort, alloc: Global, (words, input, _own): Case<
 }
 
 /// A writer that fails, at whatever write of all: the status is 2, or 4 where its error is want of memory.
-fn is_unwritten_at_each(rt: &impl Abort, alloc: Global, case: Case<'_>) {
+fn is_unwritten_at_each(rt: &impl Abort, alloc: Global, case: Case<'_, '_, '_>) {
     let pipe = (ErrorKind::BrokenPipe, 2);
     let memory = (ErrorKind::OutOfMemory, 4);
     for taken in 0..MOST_WRITES {
@@ -196,7 +196,7 @@ fn is_unwritten_at_each(rt: &impl Abort, alloc: Global, case: Case<'_>) {
 }
 
 /// A read or a write of a command fails, by its number.
-fn fails_at_each(rt: &impl Abort, alloc: Global, case: Case<'_>) {
+fn fails_at_each(rt: &impl Abort, alloc: Global, case: Case<'_, '_, '_>) {
     is_unread_at_each(rt, alloc, case);
     is_unwritten_at_each(rt, alloc, case);
 }

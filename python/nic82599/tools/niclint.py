@@ -4,7 +4,8 @@
     tools/niclint SCRIPT --trace    also runs it, and says why steps were idle, dropped frames, met faults or failed
 
 SCRIPT is a register script, a session of the debugger (what stands in front of its line `%`), or - for standard input.
-Exit status: 0 nothing is wrong; 1 there are warnings; 2 the script is refused or can't be read; 3 the words are wrong;
+Exit status: 0 nothing is wrong; 1 there are warnings, or with --trace a failed expect, a fault, a dropped frame or a
+refused access; 2 the script is refused or can't be read; 3 the words are wrong;
 4 ./nicbench gave no answer.
 """
 
@@ -64,6 +65,7 @@ def main() -> int:
     for warning, count in told.items():
         if count > SHOWN:
             print(f"{asked.script}: warning: at {count - SHOWN} lines more: {warning}")
+    is_trouble = False
     if asked.trace:
         run = of_trace(trace_of(bench, script, text, asked.limit))
         for step, reasons in zip(run.steps, run.reasons):
@@ -71,10 +73,11 @@ def main() -> int:
             if held:
                 where = f"{asked.script}:{run.line_of[step.pc]}: step {step.number}"
                 print(f"{where}: {run.shown(step.pc)} -> {step.answer}: {'; '.join(held)}")
+        is_trouble = any(step.is_trouble for step in run.steps)
         print(f"{asked.script}: {run.last}")
     if not warnings and not asked.trace:
         print(f"{asked.script}: {len(script.instructions)} instructions, nothing to say")
-    return 1 if warnings else 0
+    return 1 if warnings or is_trouble else 0
 
 
 def command() -> int:

@@ -137,7 +137,7 @@ class Reasons:
             return reasons
         ring = ring_of(words, "rx", queue)
         empty = ring.head == ring.tail
-        why = ": the ring is empty, no slot is the device's until the tail is written" if empty else ""
+        why = ": head and tail meet, no slot is the device's until the driver moves the tail" if empty else ""
         reasons.append(Reason(empty, f"RDH[{queue}] {ring.head}, RDT[{queue}] {ring.tail}{why}"))
         drop, told = _flag(words, "SRRCTL", "Drop_En", queue)
         if step.reply == "dropped no slot":

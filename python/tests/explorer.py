@@ -151,6 +151,7 @@ class Found(unittest.TestCase):
         for steps, wanted in {
             ("up", "down"): "deadlock: t",
             ("wait",): "deadlock: t0 waits, and nobody can act",
+            ("await",): "deadlock: t0 waits, and nobody can act",
             ("loop",): "endless: no end after 200 points; last came task t0",
             ("check", "count"): "check: it wasn't counted",
             ("assert",): "check: an assertion",

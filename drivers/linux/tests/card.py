@@ -28,9 +28,29 @@ RING_STEP = 0x800  # from ring 0's places to ring 1's
 VERSION, REPLY, NEEDS_REPLY = 1, 4, 8
 NEXT, WRITTEN = 1, 2
 CONFIG_READ, CONFIG_WRITE, MEMORY_READ, MEMORY_WRITE = 1, 2, 3, 4
-COUNT, FIRST, WHAT, VERDICT = 0xE0, 0xE4, 0xF4, 9
+COUNT, FIRST, MOST, MAC, WHAT, RESULT, RESULT_2 = 0xE0, 0xE4, 0xE8, 0xEC, 0xF4, 0xF8, 0xFC
+EXPECT, SENT, SEND, ONE, VERDICT = 3, 4, 5, 6, 9
 STATUS, EICS, EIMS, RSSRK, SWSM = 0x8, 0x808, 0x880, 0x5C80, 0x10140
+RXCTRL, FCTRL, UNICAST_ALL, DMATXCTL, ENABLE = 0x3000, 0x5080, 0x200, 0x4A80, 1 << 25
+RDBAL, RDLEN, SRRCTL, RDT, RXDCTL, TDBAL, TDLEN, TDT, TXDCTL = (
+    0x1000, 0x1008, 0x1014, 0x1018, 0x1028, 0x6000, 0x6008, 0x6018, 0x6028)
+RECEIVE_RING, SEND_RING, BUFFERS, FRAMES, RING_SLOTS = 0x20000, 0x21000, 0x40000, 0x60000, 32
+CARD_MAC, PEER_MAC, FRAME_MOST = bytes.fromhex("020000008299"), bytes.fromhex("020000000001"), 1514
 MSIX_CONTROL, MSIX_ENABLED, TABLE_BAR = 0x72, 0x8000, 3
+
+
+def mixed(seed: int) -> int:
+    """The noise of drivers/common/frames.c."""
+    for _ in range(2):
+        seed = (seed ^ seed >> 16) * 0x45D9F3B & 0xFFFFFFFF
+    return seed ^ seed >> 16
+
+
+def frame(number: int, to: bytes, sender: bytes) -> bytes:
+    """A frame as drivers/common/frames.c makes it, of the kind that is no IP: numbers that leave 6 by 7."""
+    assert number % 7 == 6
+    length = 60 + number * 433 % (FRAME_MOST - 59)
+    return to + sender + b"\x88\xb5" + bytes(mixed(number * 2048 + at) & 0xFF for at in range(14, length))
 
 
 class Guest:
@@ -106,6 +126,39 @@ class Guest:
     def write(self, operation: int, address: int, value: int, size: int = 4, bar: int = 0) -> None:
         """A write of configuration space or of a register."""
         self.message(struct.pack("<BBHIQ", operation, bar, 0, size, address) + value.to_bytes(size, "little"), 0)
+
+    def order(self, what: int, count: int, first: int) -> tuple[int, int]:
+        """An order about frames of the card's address, and its results."""
+        mac = CARD_MAC + bytes(2)
+        words = ((COUNT, count), (FIRST, first), (MOST, FRAME_MOST), (MAC, int.from_bytes(mac[:4], "little")),
+                 (MAC + 4, int.from_bytes(mac[4:], "little")), (WHAT, what))
+        for at, word in words:
+            self.write(CONFIG_WRITE, at, word)
+        return self.read(CONFIG_READ, RESULT), self.read(CONFIG_READ, RESULT_2)
+
+    def drive(self) -> None:
+        """One queue each way, as a driver sets it up."""
+        slots = b"".join(struct.pack("<QQ", BUFFERS + 2048 * slot, 0) for slot in range(RING_SLOTS))
+        self.memory[RECEIVE_RING:RECEIVE_RING + len(slots)] = slots
+        for at, word in ((FCTRL, UNICAST_ALL), (RDBAL, RECEIVE_RING), (RDLEN, 16 * RING_SLOTS), (SRRCTL, 2 | 1 << 25),
+                         (RXDCTL, ENABLE), (RXCTRL, 1), (RDT, RING_SLOTS - 1), (TDBAL, SEND_RING),
+                         (TDLEN, 16 * RING_SLOTS), (DMATXCTL, 1), (TXDCTL, ENABLE)):
+            self.write(MEMORY_WRITE, at, word)
+
+    def send(self, slot: int, content: bytes) -> None:
+        """Sends one frame from this slot of the ring."""
+        at = FRAMES + 2048 * slot
+        self.memory[at:at + len(content)] = content
+        asked = len(content) | 3 << 20 | 1 << 24 | 1 << 25 | 1 << 27 | 1 << 29
+        entry = struct.pack("<QII", at, asked, len(content) << 14)
+        self.memory[SEND_RING + 16 * slot:SEND_RING + 16 * slot + 16] = entry
+        self.write(MEMORY_WRITE, TDT, slot + 1)
+
+    def received(self, slot: int) -> bytes:
+        """What lies in this slot's buffer, by the descriptor that the device wrote back."""
+        _hash, status, length, _tag = struct.unpack_from("<QIHH", self.memory, RECEIVE_RING + 16 * slot)
+        at = BUFFERS + 2048 * slot
+        return self.memory[at:at + length] if status & 3 == 3 else b""
 
     def verdict(self, wrong: int, compared: int) -> None:
         """The guest's verdict, as its program gives it."""
@@ -196,6 +249,54 @@ def try_interrupts(program: str) -> None:
     expect("one message of vector 3 is counted", status == 0 and "messages 3:1" in said, said)
 
 
+def try_frames(program: str) -> None:
+    """Frames each way: alike, unlike, one that nobody was to send, one that isn't let in."""
+    card = Card(program)
+    host = card.guests[0]
+    host.drive()
+    host.order(EXPECT, 2, 6)
+    host.send(0, frame(6, PEER_MAC, CARD_MAC))
+    expect("one of two frames has come out, alike", host.order(SENT, 0, 0) == (1, 1))
+    host.order(SEND, 1, 6)
+    host.order(SEND, 1, 13)
+    expect("two frames come in, alike", [host.received(slot) for slot in range(2)]
+           == [frame(number, CARD_MAC, PEER_MAC) for number in (6, 13)])
+    expect("one by itself", host.order(ONE, 1, 20)[0] == 1 and host.received(2) == frame(20, CARD_MAC, PEER_MAC))
+    host.write(MEMORY_WRITE, FCTRL, 0)
+    host.write(MEMORY_WRITE, RXCTRL, 0)
+    expect("none while receiving is off", host.order(ONE, 1, 20)[0] == 0)
+    host.verdict(0, 1)
+    status, said = card.end()
+    expect("all of it has status 0", status == 0 and "the peer sent 3 frames; by queue 0:3" in said, said)
+    for what, number in (("an unlike frame", 13), ("a frame that nobody was to send", None)):
+        card = Card(program)
+        host = card.guests[0]
+        host.drive()
+        host.order(EXPECT, 1 if number else 0, 6)
+        host.send(0, frame(number or 6, PEER_MAC, CARD_MAC))
+        host.verdict(0, 1)
+        status, said = card.end()
+        expect(f"{what} is told", status == 1 and said.count("wrong: ") == 1, said)
+
+
+def try_turns(program: str) -> None:
+    """The tenth frame has a byte turned, each way."""
+    for way in ("in", "out"):
+        card = Card(program, 0, "--turn", way)
+        host = card.guests[0]
+        host.drive()
+        alike = 0
+        for slot in range(12):
+            number = 6 + 7 * slot
+            host.order(EXPECT, 1, number)
+            host.send(slot, frame(number, PEER_MAC, CARD_MAC))
+            host.order(SEND, 1, number)
+            alike += host.received(slot) == frame(number, CARD_MAC, PEER_MAC)
+        host.verdict(0, 12)
+        status, said = card.end()
+        expect(f"--turn {way} turns one frame", (alike, status) == ((11, 0) if way == "in" else (12, 1)), said)
+
+
 def try_ends(program: str) -> None:
     """What ends with status 1: no verdict, a bad one, messages that aren't as they should be."""
     for what, wrong in (("no verdict", None), ("a bad verdict", 3)):
@@ -235,6 +336,8 @@ def main() -> int:
         return 3
     try_access(sys.argv[1])
     try_interrupts(sys.argv[1])
+    try_frames(sys.argv[1])
+    try_turns(sys.argv[1])
     try_ends(sys.argv[1])
     try_words(sys.argv[1])
     return 0

@@ -195,8 +195,9 @@ void nicd_begin(const nic *n, uint8_t vfs, uint16_t fifo, uint32_t blocks)
         nicd_add(it, "#: nic vfs %u fifo %u blocks %lu\n", vfs, fifo, (unsigned long)blocks);
         nicd_add(it, "# recorded by the library %s; nicbench run --vfs %u --fifo %u\n", nic_version(), vfs, fifo);
         put_out(it);
-    } else {
+    } else if (it) { /* it is told once, and not of each controller */
         free(it);
+        take_path(NULL);
     }
     note();
     let_go();

@@ -35,7 +35,8 @@ static bool is_there(const char *name)
     return access(path_of(name), F_OK) == 0;
 }
 
-#define HEAD "#: nic vfs 0 fifo 4 blocks 2\n# recorded by the library " NIC82599_VERSION "; nicbench run --vfs 0 --fifo 4\n"
+#define HEAD                                                                                                           \
+    "#: nic vfs 0 fifo 4 blocks 2\n# recorded by the library " NIC82599_VERSION "; nicbench run --vfs 0 --fifo 4\n"
 
 /* Two controllers at once have a file each, one that is open already has none, and null ends all. */
 static void files(void)

@@ -9,6 +9,7 @@ CARD is the program. Printed is what was tried; the status is 0 where all came o
 from __future__ import annotations
 
 import array
+import atexit
 import mmap
 import os
 import socket
@@ -175,6 +176,7 @@ class Card:
         path = str(Path(self.folder.name) / "pf")
         command = [program, "--socket", path, "--functions", str(functions), *words]
         self.process = subprocess.Popen(command, stdout=subprocess.PIPE, stderr=subprocess.STDOUT, text=True)
+        atexit.register(self.process.kill)
         names = [path] + [f"{path}.{vf}" for vf in range(functions)]
         until = time.monotonic() + 10
         while not all(Path(name).exists() for name in names):

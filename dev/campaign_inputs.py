@@ -1,6 +1,10 @@
 """The inputs of dev/campaign: for each command words and bytes, right ones, nearly right ones and noise."""
 
+from __future__ import annotations
+
+import random
 import re
+from collections.abc import Callable
 from pathlib import Path
 
 KEY = "6d5a56da255b0ec24167253d43a38fb0d0ca2bcbae7b30b477cb2da38030f20c6a42b73bbeac01fa"
@@ -50,10 +54,14 @@ w RAH[0] 0x80000100
 w MPSAR[0] 1"""
 
 
+# words, and the bytes that the program reads
+Input = tuple[list[str], bytes]
+
+
 class Inputs:
     """Inputs from one source of chance. `made` is what the program writes for words and bytes."""
 
-    def __init__(self, dice, root, made):
+    def __init__(self, dice: random.Random, root: Path, made: Callable[[list[str], bytes], bytes]) -> None:
         self.dice, self.made = dice, made
         table = (root / "docs/REGISTERS.md").read_text()
         rows = re.findall(r"^\| ([A-Z][A-Z0-9_]*) \| (.*?) \| (\d+) \| \w+ \|", table, re.M)
@@ -61,7 +69,7 @@ class Inputs:
         self.addresses = [int(it, 16) for _, addresses, _ in rows for it in re.findall(r"0x[0-9A-F]{5}", addresses)]
         self.examples = [it.read_bytes() for it in sorted(Path(root / "examples").glob("*.nic"))]
 
-    def of(self, command):
+    def of(self, command: str) -> Input:
         """Words and bytes for a command."""
         words, data = getattr(self, command)()
         if self.dice.random() < 0.3 and command != "words":
@@ -70,16 +78,16 @@ class Inputs:
 
     # scripts
 
-    def number(self):
+    def number(self) -> str:
         """A number as it may be written."""
         it = self.dice
         value = it.choice((it.choice(EDGES), it.choice(WORDS), it.getrandbits(32), it.getrandbits(it.randint(1, 34))))
         return it.choice((str(value), hex(value), f"0x{value:08X}"))
 
-    def queue(self):
+    def queue(self) -> int:
         return self.dice.choice((0, 0, 1, 3, 63, 64, 127, self.dice.randrange(128)))
 
-    def target(self):
+    def target(self) -> str:
         it = self.dice
         if it.random() < 0.2:
             near = it.choice(self.addresses)
@@ -87,10 +95,10 @@ class Inputs:
         name, count = it.choice(self.rows)
         return name if count == 1 and it.random() < 0.9 else f"{name}[{it.choice((0, it.randrange(count), count - 1))}]"
 
-    def label(self):
+    def label(self) -> str:
         return self.dice.choice(("again", "done", "L1", "_x"))
 
-    def line(self):
+    def line(self) -> str:
         """One line of a script, mostly a right one."""
         it = self.dice
         function = it.choice((0, 1, 31, 62, it.randrange(63)))
@@ -109,7 +117,7 @@ class Inputs:
             "halt" if it.random() < 0.1 else "rx", f"# {it.getrandbits(20)}", "",
         ))  # fmt: skip
 
-    def data_lines(self):
+    def data_lines(self) -> list[str]:
         it = self.dice
         address = it.choice((0x800, 0x1000, 0x7E0, 0, it.getrandbits(64))).to_bytes(8, "little").hex()
         second = it.choice(("3c00302b00000f00", "3c00300b00000f00", "eb05302b00000f00", it.randbytes(8).hex()))
@@ -117,7 +125,7 @@ class Inputs:
         lines = [f"data f{number} {text}" for number, text in enumerate((*FRAMES, frame))]
         return [*lines, f"data descriptor {address}{'00' * 8}", f"data outgoing {address}{second}"]
 
-    def script(self, longest=120):
+    def script(self, longest: int = 120) -> str:
         it = self.dice
         if it.random() < 0.03:
             return it.choice(self.examples).decode()
@@ -138,7 +146,7 @@ class Inputs:
                 body.insert(it.randrange(len(body) + 1), f"{name}:")
         return it.choice(("\n", "\n", "\r\n")).join([*lines, *body, ""])
 
-    def device(self):
+    def device(self) -> list[str]:
         it = self.dice
         words = []
         if it.random() < 0.6:
@@ -147,16 +155,16 @@ class Inputs:
             words += ["--fifo", str(it.choice((0, 1, 2, 64, 4096, 4097, 65535)))]
         return words
 
-    def run(self):
+    def run(self) -> Input:
         it = self.dice
         limit = ["--limit", str(it.choice((0, 1, 100, 3000, 100000)))] if it.random() < 0.8 else []
         longest = 4100 if it.random() < 0.02 else it.choice((60, 200))
         return ["run", *self.device(), *limit], self.script(longest).encode()
 
-    def asm(self):
+    def asm(self) -> Input:
         return ["asm"], self.script().encode()
 
-    def dis(self):
+    def dis(self) -> Input:
         it = self.dice
         data = bytearray(self.made(["asm"], self.script(40).encode()))
         for _ in range(it.randrange(4)):
@@ -166,7 +174,7 @@ class Inputs:
                 data[at] = it.choice((0, 255, data[at] ^ 1, more, less, it.getrandbits(8)))
         return ["dis"], bytes(data[: it.randrange(len(data) + 1)] if it.random() < 0.1 else data)
 
-    def debug(self):
+    def debug(self) -> Input:
         it = self.dice
         commands = []
         for _ in range(it.randrange(20)):
@@ -181,7 +189,7 @@ class Inputs:
 
     # the EEPROM and hashes
 
-    def eeprom_text(self):
+    def eeprom_text(self) -> str:
         it = self.dice
         size = it.choice((64, 128, 128, 256, 1024, 16384, 100, 32768))
         lines = [f"size {size}"]
@@ -193,10 +201,10 @@ class Inputs:
             lines.append(it.choice((word, csr)))
         return "\n".join([*lines, ""])
 
-    def eeprom(self):
+    def eeprom(self) -> Input:
         return ["eeprom"], self.eeprom_text().encode()
 
-    def load(self):
+    def load(self) -> Input:
         it = self.dice
         text = f"size 128\ncsr 0x05080 {it.getrandbits(11)}\nword 0 {it.getrandbits(16)}\n"
         data = bytearray(self.made(["eeprom"], text.encode()))
@@ -211,7 +219,7 @@ class Inputs:
             self.mend(data)
         return ["eeprom", "--load"], bytes(data[: it.randrange(len(data) + 1)] if it.random() < 0.1 else data)
 
-    def mend(self, data):
+    def mend(self, data: bytearray) -> None:
         """Mostly makes the checksum of words 0x00 to 0x3F right again, so that the later tests are met too."""
         if self.dice.random() < 0.7 and len(data) >= 128:
             words = [int.from_bytes(data[2 * it : 2 * it + 2], "little") for it in range(0x3F)]
@@ -224,7 +232,7 @@ class Inputs:
                     words += [int.from_bytes(data[it : it + 2], "little") for it in inside]
             data[0x7E:0x80] = ((0xBABA - sum(words)) % 65536).to_bytes(2, "little")
 
-    def hash(self):
+    def hash(self) -> Input:
         it = self.dice
         key = it.choice((KEY, KEY, it.randbytes(40).hex(), it.randbytes(it.choice((39, 41))).hex()))
         lengths = [it.choice((1, 8, 12, 32, 36, it.randrange(1, 40))) for _ in range(it.randrange(30))]
@@ -233,18 +241,18 @@ class Inputs:
 
     # words and noise
 
-    def words(self):
+    def words(self) -> Input:
         it = self.dice
         # (threads alone writes nothing where its words are right, so it stands here with wrong ones)
         known = "run debug asm dis eeprom hash --load --vfs --fifo --limit --vfs=4 -h --help -V --version help".split()
         known += ["--", "-", "", "threads", "--workers", "0", "9", "--frames", "61"]
         return [it.choice(known) if it.random() < 0.8 else self.noise() for _ in range(it.randrange(5))], b""
 
-    def noise(self):
+    def noise(self) -> str:
         it = self.dice
         return "".join(chr(it.choice((it.randrange(32, 127), it.randrange(1, 0x2FF)))) for _ in range(it.randrange(12)))
 
-    def spoiled(self, data):
+    def spoiled(self, data: bytes) -> bytes:
         """The same bytes with a few wrong ones."""
         it, data = self.dice, bytearray(data)
         for _ in range(it.choice((1, 1, 2, 5))):

@@ -24,6 +24,7 @@ int main(void)
     nic_write32(&n, NIC_RDLEN(3), 128);                   /* eight descriptors from bus address 0 on */
     nic_write32(&n, NIC_SRRCTL(3), NIC_SRRCTL_DESCTYPE_IS(1) | NIC_SRRCTL_BSIZEPACKET_IS(2));
     nic_write32(&n, NIC_RXDCTL(3), NIC_RXDCTL_ENABLE);
+    nic_write32(&n, NIC_GPIE, NIC_GPIE_MULTIPLE_MSIX);                                   /* MSI-X mode */
     nic_write32(&n, NIC_IVAR(1), NIC_IVAR_INT_ALLOC_2_IS(5) | NIC_IVAR_INT_ALLOC_VAL_2); /* its cause: bit 5 */
     nic_write32(&n, NIC_EIMS, 1u << 5);
     nic_settle(&n, 4, told, 16, &count);        /* the device enables the queue */

@@ -43,6 +43,8 @@ __all__ = [
 
 BLOCK_BYTES = 2048
 QUEUES = 128
+# How many pools there are, and how many queues each has, by GCR_EXT bits 1:0.
+_POOLS = ((0, 0), (16, 8), (32, 4), (64, 2))
 _LONGEST = 16_384
 
 
@@ -78,7 +80,7 @@ class BadBlocks(NicError, ValueError):
 
 
 class NoBlock(NicError, IndexError):
-    """No block of this number is in hand: it is lent, or there is none."""
+    """No block of this number can be lent: it is lent already, or there is none."""
 
 
 class NotLent(NicError, IndexError):
@@ -105,10 +107,10 @@ class NoSuchRegister(NicError, KeyError):
 
 
 class Stray(NicError, LookupError):
-    """No register is there. `word` is what a driver reads there, None if nothing was read."""
+    """No register is there: the text says why. `word` is what a driver reads there, None if nothing was read."""
 
-    def __init__(self, at: int, word: int | None = None) -> None:
-        super().__init__(f"0x{at:05x} names no register" + ("" if word is None else f", and reads as 0x{word:08x}"))
+    def __init__(self, why: str, word: int | None = None) -> None:
+        super().__init__(why + ("" if word is None else f" (it reads as 0x{word:08x})"))
         self.word = word
 
 
@@ -437,26 +439,30 @@ class _Registers:
         """What a read would give, without its effects; None if no register is there."""
         raise NotImplementedError
 
+    def _why_stray(self, name: str | int, at: int) -> str:
+        """Why no register is at a number, which was asked by name or number."""
+        raise NotImplementedError
+
     def __getitem__(self, name: str | int) -> int:
         """Reads a register by name or number; Stray, NoSuchRegister."""
         at = self._at(name)
         word, stray = self.read32(at)
         if stray:
-            raise Stray(at, word)
+            raise Stray(self._why_stray(name, at), word)
         return word
 
     def __setitem__(self, name: str | int, word: int) -> None:
         """Writes a register by name or number; Stray, NoSuchRegister."""
         at = self._at(name)
         if not self.write32(at, word):
-            raise Stray(at)
+            raise Stray(self._why_stray(name, at))
 
     def peek(self, name: str | int) -> int:
         """What reading a register would give, without the effects of a read; Stray, NoSuchRegister."""
         at = self._at(name)
         word = self.peek32(at)
         if word is None:
-            raise Stray(at)
+            raise Stray(self._why_stray(name, at))
         return word
 
 
@@ -468,6 +474,17 @@ class Function(_Registers):
 
     def _at(self, name: str | int) -> int:
         return offset_of(name) if isinstance(name, str) else _whole(name, 32, "offset")
+
+    def _why_stray(self, name: str | int, at: int) -> str:
+        function, vfs = f"virtual function {self.number}", self.nic.vfs
+        if self.number >= vfs:
+            return f"there is no {function}: the controller has {f'{vfs}, numbered from 0' if vfs else 'none'}"
+        pools, queues = _POOLS[self.nic.peek("GCR_EXT") & 3]
+        if self.number >= pools:
+            return f"{function} has no pool: GCR_EXT bits 1:0 give {pools or 'no'} pools"
+        if isinstance(name, str):
+            return f"{function} has no {name} (0x{at:05x}): its pool has {queues} queues"
+        return f"0x{at:05x} names no register of {function}"
 
     def _read(self, call: str, at: int) -> Word:
         word = ctypes.c_uint32()
@@ -642,6 +659,9 @@ class Nic(_Registers):
 
     def _at(self, name: str | int) -> int:
         return address_of(name) if isinstance(name, str) else _whole(name, 32, "address")
+
+    def _why_stray(self, name: str | int, at: int) -> str:
+        return f"0x{at:05x} names no register"
 
     def _read(self, call: str, at: int) -> Word:
         word = ctypes.c_uint32()

@@ -4,6 +4,7 @@ from __future__ import annotations
 
 import gc
 import os
+import re
 import tempfile
 import unittest
 from pathlib import Path
@@ -162,6 +163,41 @@ class Registers(unittest.TestCase):
                 nic[bad]
             with self.assertRaises(ValueError):
                 nic["RXCTRL"] = bad
+
+    def test_why_stray(self) -> None:
+        """Which it is: no register, no such function, no pool for it, or no such queue of its pool."""
+        nic, none, one = Nic(vfs=40), Nic(), Nic(vfs=1)
+        self.addCleanup(lambda: [it.close() for it in (nic, none, one)])
+        told = {0: "no pools", 1: "16 pools", 2: "32 pools", 3: "64 pools"}
+        for mode, pools in told.items():
+            nic["GCR_EXT"] = mode
+            for number in range(64):
+                function, count = nic.vf(number), (0, 16, 32, 64)[mode]
+                if number >= 40:
+                    why = f"there is no virtual function {number}: the controller has 40, numbered from 0"
+                elif number >= count:
+                    why = f"virtual function {number} has no pool: GCR_EXT bits 1:0 give {pools}"
+                else:
+                    self.assertEqual(function["VFMBMEM[15]"], 0)
+                    why = f"0x00004 names no register of virtual function {number}"
+                word = 0 if number < min(count, 40) else 0xFFFF_FFFF
+                with self.assertRaisesRegex(nic82599.Stray, f"{re.escape(why)} .it reads as 0x{word:08x}.$") as caught:
+                    function[4]
+                self.assertEqual(caught.exception.word, word)
+        for call, why in (
+            (lambda: none.vf(0)["VFCTRL"], "there is no virtual function 0: the controller has none"),
+            (lambda: one.vf(1)["VFCTRL"], "there is no virtual function 1: the controller has 1, numbered from 0"),
+            (lambda: nic.vf(3)["VFRDT[2]"], r"virtual function 3 has no VFRDT\[2\] \(0x01098\): its pool has 2 queues"),
+            (lambda: nic.vf(3).peek("VTIVAR[1]"), r"virtual function 3 has no VTIVAR\[1\] \(0x00124\): its pool has 2"),
+            (lambda: nic.vf(3).__setitem__(4, 1), "^0x00004 names no register of virtual function 3$"),
+            (lambda: nic.peek(0xC), "^0x0000c names no register$"),
+        ):
+            with self.subTest(why), self.assertRaisesRegex(nic82599.Stray, why):
+                call()
+
+    def test_taken_block(self) -> None:
+        with self.assertRaisesRegex(nic82599.NoBlock, "can be lent: it is lent already, or there is none. .lend 0.$"):
+            self.nic.lend(0, 0)
 
     def test_peek_has_no_effect(self) -> None:
         nic = self.nic

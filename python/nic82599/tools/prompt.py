@@ -407,9 +407,12 @@ def prompt(session: Session) -> None:
     again = ""
     while True:
         try:
-            line = input("(nic) " if is_terminal else "").split("#")[0].strip() or again
+            given = input("(nic) ")
+            # A terminal shows what is typed; a pipe's commands are shown here, so that the output can be read.
+            print(given) if not is_terminal else None
+            line = given.split("#")[0].strip() or again
         except EOFError:
-            print() if is_terminal else None
+            print()
             return
         except KeyboardInterrupt:
             print()

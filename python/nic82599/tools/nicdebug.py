@@ -3,8 +3,9 @@
     tools/nicdebug SCRIPT [--vfs N] [--fifo N]
 
 SCRIPT is a register script, or a session of the debugger (what stands in front of its line `%`). `help` lists the
-commands; a wrong one ends nothing. Exit status: 0 the session was ended; 2 the script is refused or can't be read; 3
-the words are wrong; 4 ./nicbench gave no answer.
+commands; a wrong one ends nothing. Where standard input isn't a terminal each command is printed behind its prompt.
+Exit status: 0 the session was ended; 2 the script is refused or can't be read; 3 the words are wrong; 4 ./nicbench gave
+no answer.
 """
 
 from __future__ import annotations

@@ -142,6 +142,28 @@ def check_lit(look: Look) -> None:
             look.expect(bool(is_it), f"step {number}: in front is {front}")
 
 
+def check_when(look: Look) -> None:
+    """That at each step its conditions are said to hold before it, all else after it, and that both tell of as many
+    waiting frames."""
+    browser, waiting = look.browser, 0
+    browser.load(look.file, "#start")
+    for number, (*_, more) in enumerate(look.data["steps"]):
+        browser.press("ArrowRight")
+        before = waiting
+        waiting += sum((1 if sign == "+" else -1) * len(frames) for sign, frames in more.get("w", []))
+        when = set(browser.value(words(".when")))
+        look.expect(when == {f"after step {number}"}, f"step {number}: its panels say {when}")
+        why, conditions = browser.value(words("#now > p:first-child")), browser.value(words("#now li"))
+        look.expect(not conditions or why == ["Before this step:"], f"step {number}: its conditions stand under {why}")
+        told = [found[1] for one in conditions if (found := re.match(r"(\w+) frames? waits?\b", one))]
+        look.expect(told in ([], [str(before or "no")]), f"step {number}: {told} frames wait before it, not {before}")
+        panel = f"{(browser.value(words('#frames > p')) or [''])[0]};"
+        parts = re.match(r"(\w+) frames? waits? to be received[^;]*;(?: before this step (\w+))?", panel)
+        shown = (parts[1], parts[2]) if parts else ("No", None)
+        wanted = (str(waiting or "No"), None if waiting == before else str(before or "none"))
+        look.expect(shown == wanted, f"step {number}: frames are told as {panel}, and not {wanted}")
+
+
 def check_outside(look: Look, number: int) -> None:
     """That at this step a tail that is no slot is drawn, in front and in its card."""
     look.browser.load(look.file, f"#{number}")

@@ -36,7 +36,7 @@ USES = [
     (["niclint", "dev/views/loop.nic", "--trace"], "", 1, "step 36: expect 4 -> failed: acc is 0x00000003"),
     (["nicdebug", "examples/tail.debug"], "break 10\nc\ns\nwhy\nfoo\nshow GPRC\nquit\n", 0, "GPRC  0x04074 0x00000001"),
     (["nicdebug", "examples/tail.debug"], "s # one\n\nquit\n", 0, "(nic) s # one\n    4  lend 0    -> done\nat 1 pc 1"),
-    (["nicdebug", "examples/tail.debug"], "back\nq\n", 0, "(nic) back\nrefused AtStart: only 0 steps were made\n(nic) q\n"),
+    (["nicdebug", "examples/tail.debug"], "back\nq\n", 0, "(nic) back\nrefused AtStart: only 0 steps were made\n(nic)"),
     (["nicdebug", "examples/receive.nic"], "c\npeek 0\npeek 0x800\n", 0, "1001000000000000030000003c000000"),
     (["nicdebug", "dev/views/eight.nic"], "continue fault\n", 0, "-> dropped no slot\nat 146 pc 146 acc 0x00000001"),
     (["nicdebug", "dev/views/eight.nic"], "c fault\nc fault\n", 0, "-> fault queue 5 outside\nat 153 pc 153 acc"),

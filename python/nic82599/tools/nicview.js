@@ -135,7 +135,9 @@ function showNow(n, state) {
   const answer = make("code", { className: tone, title: reply }, cut(reply, 80) || `acc ${hex(acc)}`);
   element("answer").replaceChildren(make("code", {}, run.shown[pc]), " → ", answer);
   const reasons = (more.y || []).map(([held, text]) => make("li", { className: held ? "held" : "" }, run.texts[text]));
-  now.replaceChildren(...(reasons.length ? [make("ul", { className: "why" }, ...reasons)] : []));
+  // What decided is the machine before the step; all else on the page is the machine after it.
+  const decided = () => [faint("Before this step:"), make("ul", { className: "why" }, ...reasons)];
+  now.replaceChildren(...(reasons.length ? decided() : []));
   if (more.s === "ended") now.append(faint(`Here the run ended: ${run.last}`));
   const words = { "w+": "Waits", "w-": "Waits no more", "o+": "Out", "o-": "Collected" }, moved = [];
   for (const [key, all, way] of [["w", run.arrived, "came"], ["o", run.sent, "sent"]])
@@ -182,14 +184,15 @@ function told([step, queue, slots, packet, rss], way, title = "") {
     ...layers.map(([name, pairs]) => list(name, pairs.flatMap(pair))), hashed,
     make("dl", {}, make("dt", {}, "bytes"), bytes));
 }
-function showFrames(state) {
+function showFrames(state, before) {
   const counted = (n, one, more) => (n === 0 ? `No frame ${one}` : n === 1 ? `1 frame ${one}` : `${n} frames ${more}`);
   const list = (title, frames, all, way) => [
     make("p", { className: frames.length ? "strong" : "" }, title),
     ...some(frames.map((one) => told(all[one], way)), 20, "frames"),
   ];
+  const old = before.waiting.length, waited = old === state.waiting.length ? "" : `; before this step ${old || "none"}`;
   const waiting = counted(state.waiting.length, "waits to be received", "wait to be received");
-  const most = state.waiting.length ? `, of at most ${run.fifo}` : "";
+  const most = (state.waiting.length ? `, of at most ${run.fifo}` : "") + waited;
   const out = counted(state.out.length, "is out", "are out") + (state.out.length ? ", not collected" : "");
   element("frames-part").hidden = !run.arrived.length && !run.sent.length;
   element("frames").replaceChildren(...list(waiting + most, state.waiting, run.arrived, "came"),
@@ -283,8 +286,11 @@ function show(n) {
   element("on").disabled = position === count;
   showNow(position, state);
   showRings(position, state);
-  showInterrupts(state, machine(Math.max(0, position - 1)));
-  showFrames(state);
+  const before = machine(Math.max(0, position - 1));
+  const when = position ? `after step ${at}` : "at the start";
+  for (const one of document.querySelectorAll(".when")) one.textContent = when;
+  showInterrupts(state, before);
+  showFrames(state, before);
   showLines(position);
   showHits();
   history.replaceState(null, "", `#${at}`);

@@ -1,5 +1,7 @@
 /* Calls by chance, and the script of the same events: `differential SEED VFS SCRIPT ANSWERS` writes the script, and
-   what `nicbench run` must print of it. What a script doesn't tell is checked here: the further fields of nic_told,
+   what `nicbench run` must print of it. By the same seed the Rust crate's tests make the same calls
+   (rust/nic82599/tests/common/differential.rs), so no expression takes two numbers by chance in an order that C leaves
+   open. What a script doesn't tell is checked here: the further fields of nic_told,
    ranges of memory that begin and end anywhere, and looks without effects. */
 #include <string.h>
 
@@ -120,7 +122,11 @@ static void access_of_a_function(void)
                                   0x23C, 0x2FC, 0x300, 0x101C, 0x201C, 0x1000, 0x1008, 0x1010, 0x1014, 0x1018, 0x1028,
                                   0x2008, 0x2018, 0x2028};
     uint8_t vf = (uint8_t)below(below(4) ? 4 : 63);
-    uint32_t offset = below(6) ? at[below(sizeof at / sizeof *at)] + 0x40 * below(5) : (uint32_t)chance() % 0x3000;
+    uint32_t offset = (uint32_t)chance() % 0x3000;
+    if (below(6)) {
+        offset = at[below(sizeof at / sizeof *at)];
+        offset += 0x40 * below(5);
+    }
     if (below(3) && (offset || !below(8)))
         write_vf(vf, offset, some_word());
     else
@@ -427,7 +433,10 @@ static void set_up(void)
     write_register(NIC_FCTRL, filters[below(5)]);
     write_register(NIC_DMATXCTL, below(16) ? 1 : 0);
     write_register(NIC_MRQC, modes[below(7)]);
-    write_register(NIC_RETA(below(32)), below(QUEUES) | below(QUEUES) << 8 | below(QUEUES) << 16);
+    uint32_t entries = 0, four = below(32);
+    for (int k = 0; k < 3; k++)
+        entries |= below(QUEUES) << 8 * k;
+    write_register(NIC_RETA(four), entries);
     write_register(NIC_RXCSUM, below(2) << 13);
     write_register(NIC_GCR_EXT, vfs ? below(4) : 0);
     write_register(NIC_VT_CTL, vfs ? below(2) : 0);
@@ -474,6 +483,12 @@ static void refill(bool transmit, uint32_t queue)
     write_register(transmit ? NIC_TDT(queue) : NIC_RDT(queue), below(40) ? (tail + count) % slots : below(70000));
 }
 
+static void refill_by_chance(void)
+{
+    bool transmit = below(2);
+    refill(transmit, below(QUEUES));
+}
+
 static void set_up_queue(bool transmit, uint32_t queue)
 {
     uint32_t block = 2 * queue + transmit;
@@ -482,10 +497,14 @@ static void set_up_queue(bool transmit, uint32_t queue)
     write_register(transmit ? NIC_TDLEN(queue) : NIC_RDLEN(queue), 128 + 128 * below(2));
     write_register(transmit ? NIC_TDH(queue) : NIC_RDH(queue), below(2));
     write_register(transmit ? NIC_TDT(queue) : NIC_RDT(queue), 1);
-    if (!transmit)
-        write_register(NIC_SRRCTL(queue), (below(30) ? 0x02000000 : 0) | (below(30) ? 1 : 0) | below(2) << 28);
-    else
+    if (transmit) {
         write_register(NIC_TDWBAL(queue), below(4) ? 0 : block * 2048 + 0x401);
+    } else {
+        uint32_t word = below(30) ? 0x02000000 : 0;
+        word |= below(30) ? 1 : 0;
+        word |= below(2) << 28;
+        write_register(NIC_SRRCTL(queue), word);
+    }
     write_register(transmit ? NIC_TXDCTL(queue) : NIC_RXDCTL(queue), below(20) ? NIC_TXDCTL_ENABLE : 0);
     queue_step(transmit, (uint16_t)queue);
     refill(transmit, queue);
@@ -518,7 +537,7 @@ static void call_by_chance(void)
     case 1: repair(); break;
     case 2:
     case 3:
-    case 4: refill(below(2), below(QUEUES)); break;
+    case 4: refill_by_chance(); break;
     case 5:
     case 6:
     case 7:

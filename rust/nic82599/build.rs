@@ -1,0 +1,102 @@
+//! Finds the library of `make -C c` or of an installation, and links it: where NIC82599_DIR says (a folder with the
+//! archive, or a prefix of which `lib` has it); in `c/out` of the clone that this crate lies in, or `lib` of the
+//! prefix; where pkg-config says. The archive is taken where there is one, so that a program needs no other file.
+
+use std::env;
+use std::fs;
+use std::path::{Path, PathBuf};
+use std::process::Command;
+
+const HELP: &str = "`make -C c` in a clone makes it, and a release has it; the variable NIC82599_DIR names its folder";
+
+fn main() {
+    println!("cargo:rerun-if-env-changed=NIC82599_DIR");
+    println!("cargo:rerun-if-env-changed=PKG_CONFIG_PATH");
+    match library() {
+        Ok((folder, version)) => {
+            check_version(&folder, version);
+            link(&folder);
+        }
+        Err(why) => stop(&why),
+    }
+}
+
+/// Ends the build with one line that says why.
+fn stop(why: &str) -> ! {
+    eprintln!("nic82599: {why}");
+    std::process::exit(1)
+}
+
+/// The folder of the library, and the version of its headers where it is known.
+fn library() -> Result<(PathBuf, Option<String>), String> {
+    if let Some(given) = env::var_os("NIC82599_DIR") {
+        let given = PathBuf::from(given);
+        return match [given.clone(), given.join("lib"), given.join("c/out")].into_iter().find(|it| has_library(it)) {
+            Some(folder) => Ok((folder.clone(), version_beside(&folder))),
+            None => Err(format!("no library in {}, which NIC82599_DIR names: {HELP}", given.display())),
+        };
+    }
+    let here = PathBuf::from(env::var_os("CARGO_MANIFEST_DIR").unwrap_or_default());
+    let around = here.ancestors().skip(1).take(5).flat_map(|it| [it.join("c/out"), it.join("lib")]);
+    if let Some(folder) = around.into_iter().find(|it| has_library(it) && version_beside(it).is_some()) {
+        return Ok((folder.clone(), version_beside(&folder)));
+    }
+    by_pkg_config().ok_or_else(|| format!("no library of the controller: {HELP}"))
+}
+
+fn has_library(folder: &Path) -> bool {
+    folder.join("libnic82599.a").exists() || folder.join("libnic82599.so").exists()
+}
+
+/// The version that the headers of a library tell: beside `out` in a clone, and beside `lib` in a prefix.
+fn version_beside(folder: &Path) -> Option<String> {
+    let header = folder.parent()?.join("include/nic82599_version.h");
+    let text = fs::read_to_string(&header).ok()?;
+    println!("cargo:rerun-if-changed={}", header.display());
+    Some(text.split('"').nth(1)?.to_owned())
+}
+
+fn asked(word: &str) -> Option<String> {
+    // (else it leaves out the folders of the system)
+    let told =
+        Command::new("pkg-config").env("PKG_CONFIG_ALLOW_SYSTEM_LIBS", "1").args([word, "nic82599"]).output().ok()?;
+    let text = String::from_utf8(told.stdout).ok()?;
+    if told.status.success() {
+        Some(text.trim().to_owned())
+    } else {
+        None
+    }
+}
+
+fn by_pkg_config() -> Option<(PathBuf, Option<String>)> {
+    let words = asked("--libs-only-L")?;
+    let folder = words.split_whitespace().find_map(|it| it.strip_prefix("-L"))?;
+    Some((PathBuf::from(folder), asked("--modversion")))
+}
+
+/// A library of another version may have other calls and structs.
+fn check_version(folder: &Path, found: Option<String>) {
+    let own = env::var("CARGO_PKG_VERSION").unwrap_or_default();
+    if let Some(other) = found.filter(|it| *it != own) {
+        stop(&format!("the library in {} has the version {other}, and this crate {own}", folder.display()));
+    }
+}
+
+fn link(folder: &Path) {
+    println!("cargo:rustc-link-search=native={}", folder.display());
+    let archive = folder.join("libnic82599.a");
+    if env::var_os("CARGO_FEATURE_EXPLORE").is_some() {
+        let explorer = folder.join("libnic82599_explore.a");
+        if !explorer.exists() || !archive.exists() {
+            stop(&format!("no libnic82599_explore.a in {}, which the feature explore needs: {HELP}", folder.display()));
+        }
+        println!("cargo:rerun-if-changed={}", explorer.display());
+        println!("cargo:rustc-link-lib=static=nic82599_explore");
+    }
+    if archive.exists() {
+        println!("cargo:rerun-if-changed={}", archive.display());
+        println!("cargo:rustc-link-lib=static=nic82599");
+    } else {
+        println!("cargo:rustc-link-lib=dylib=nic82599");
+    }
+}

@@ -1,0 +1,168 @@
+//! What a refused call answers.
+
+use std::fmt;
+
+use crate::ffi;
+
+/// Why a call was refused. Nothing changed by it, except where a call's page says so.
+#[derive(Clone, Copy, Debug, PartialEq, Eq, Hash)]
+#[non_exhaustive]
+pub enum Error {
+    /// A block of this number, or of one of these bus addresses, isn't lent.
+    NotLent,
+    /// The block is lent already, or doesn't exist.
+    NoBlock,
+    /// There are 128 queues.
+    NoQueue,
+    /// There is no such virtual function, or the mode (GCR_EXT) has no pool for it.
+    NoGroup,
+    /// No register is there.
+    Stray {
+        /// The address, or the offset in a virtual function.
+        at: u32,
+        /// What a driver sees there; `None` of a write and of a peek.
+        word: Option<u32>,
+    },
+    /// A range of memory ends before it begins.
+    BadRange,
+    /// A controller has 63 virtual functions at most.
+    TooManyVfs,
+    /// From 1 to 4,096 frames may wait.
+    BadFifo,
+    /// Packet memory has 1 to 65,536 blocks.
+    BadBlocks,
+    /// The input of a hash has 36 bytes at most.
+    TooLong,
+    /// The bytes are no valid EEPROM image; the former image stays.
+    Image(ImageFault),
+    /// The text is no valid EEPROM image; the former image stays.
+    Text(TextFault),
+    /// A recording can't be written there.
+    NoRecording,
+    /// There was no memory.
+    OutOfMemory,
+}
+
+/// Why bytes are no valid EEPROM image: the first of these that holds.
+#[derive(Clone, Copy, Debug, PartialEq, Eq, Hash)]
+pub enum ImageFault {
+    /// An odd number of bytes.
+    OddLength,
+    /// Not 64, 128, .. 16,384 words.
+    BadSize,
+    /// A pointer's section isn't inside the image.
+    SectionOutside,
+    /// The checksum is wrong.
+    BadChecksum,
+    /// The CSR section isn't a multiple of three words.
+    NotTriples,
+}
+
+/// Why a text is no valid EEPROM image.
+#[derive(Clone, Copy, Debug, PartialEq, Eq, Hash)]
+pub enum TextFault {
+    /// This line, counted from 1, isn't one of the language.
+    Syntax(u64),
+    /// Two lines give the word with this index.
+    TwoValues(u64),
+    /// The text can't give the word with this index.
+    Reserved(u64),
+    /// An index or the CSR section is beyond the size.
+    DoesNotFit,
+    /// A pointer is below 0x40, or its section isn't inside.
+    PointerOutside,
+}
+
+impl Error {
+    /// The refusal of a status that isn't one of the device's replies.
+    pub(crate) fn of(status: u8) -> Error {
+        match status {
+            16 => Error::NotLent,
+            18 => Error::NoQueue,
+            19 => Error::NoGroup,
+            32 => Error::OutOfMemory,
+            33 => Error::TooLong,
+            34 => Error::TooManyVfs,
+            35 => Error::BadFifo,
+            36 => Error::BadBlocks,
+            37 => Error::NoBlock,
+            65 => Error::Image(ImageFault::OddLength),
+            66 => Error::Image(ImageFault::BadSize),
+            67 => Error::Image(ImageFault::SectionOutside),
+            68 => Error::Image(ImageFault::BadChecksum),
+            69 => Error::Image(ImageFault::NotTriples),
+            other => unreachable!("the library answers the status {other}, which its header doesn't have"),
+        }
+    }
+
+    /// The same of an EEPROM image's text, with the line or the index that the call tells.
+    pub(crate) fn of_text(status: u8, at: u64) -> Error {
+        Error::Text(match status {
+            97 => TextFault::Syntax(at),
+            98 => TextFault::TwoValues(at),
+            99 => TextFault::Reserved(at),
+            100 => TextFault::DoesNotFit,
+            101 => TextFault::PointerOutside,
+            _ => return Error::of(status),
+        })
+    }
+
+    /// Whether a call did what it was asked.
+    pub(crate) fn unless_done(status: u8) -> Result<(), Error> {
+        match status {
+            ffi::DONE => Ok(()),
+            refused => Err(Error::of(refused)),
+        }
+    }
+}
+
+impl fmt::Display for Error {
+    fn fmt(&self, f: &mut fmt::Formatter<'_>) -> fmt::Result {
+        let text = match self {
+            Error::NotLent => "a block of this number, or of one of these bus addresses, isn't lent",
+            Error::NoBlock => "the block is lent already, or doesn't exist",
+            Error::NoQueue => "there are 128 queues",
+            Error::NoGroup => "there is no such virtual function, or the mode has no pool for it",
+            Error::Stray { at, word: None } => return write!(f, "no register is at 0x{at:05x}"),
+            Error::Stray { at, word: Some(word) } => {
+                return write!(f, "no register is at 0x{at:05x}, which reads as 0x{word:08x}");
+            }
+            Error::BadRange => "a range of memory ends before it begins",
+            Error::TooManyVfs => "a controller has 63 virtual functions at most",
+            Error::BadFifo => "from 1 to 4,096 frames may wait",
+            Error::BadBlocks => "packet memory has 1 to 65,536 blocks",
+            Error::TooLong => "the input of a hash has 36 bytes at most",
+            Error::Image(fault) => return write!(f, "no EEPROM image: {fault}"),
+            Error::Text(fault) => return write!(f, "no text of an EEPROM image: {fault}"),
+            Error::NoRecording => "the recording can't be written",
+            Error::OutOfMemory => "there was no memory",
+        };
+        f.write_str(text)
+    }
+}
+
+impl std::error::Error for Error {}
+
+impl fmt::Display for ImageFault {
+    fn fmt(&self, f: &mut fmt::Formatter<'_>) -> fmt::Result {
+        f.write_str(match self {
+            ImageFault::OddLength => "an odd number of bytes",
+            ImageFault::BadSize => "not 64, 128, .. 16,384 words",
+            ImageFault::SectionOutside => "a pointer's section isn't inside the image",
+            ImageFault::BadChecksum => "the checksum is wrong",
+            ImageFault::NotTriples => "the CSR section isn't a multiple of three words",
+        })
+    }
+}
+
+impl fmt::Display for TextFault {
+    fn fmt(&self, f: &mut fmt::Formatter<'_>) -> fmt::Result {
+        match self {
+            TextFault::Syntax(line) => write!(f, "line {line} isn't one of the language"),
+            TextFault::TwoValues(index) => write!(f, "two lines give the word {index}"),
+            TextFault::Reserved(index) => write!(f, "the text can't give the word {index}"),
+            TextFault::DoesNotFit => f.write_str("an index or the CSR section is beyond the size"),
+            TextFault::PointerOutside => f.write_str("a pointer is below 0x40, or its section isn't inside"),
+        }
+    }
+}

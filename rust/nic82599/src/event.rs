@@ -1,0 +1,298 @@
+//! What the device reports.
+
+use std::fmt;
+
+use crate::ffi::{self, Told};
+
+/// A side of a queue.
+#[derive(Clone, Copy, Debug, PartialEq, Eq, Hash)]
+pub enum Side {
+    /// The receive side.
+    Rx,
+    /// The transmit side.
+    Tx,
+}
+
+/// A step of the device. It is shown as the line of a script that makes it.
+#[derive(Clone, Copy, Debug, PartialEq, Eq, Hash)]
+pub enum Step {
+    /// [`Nic::queue_step`](crate::Nic::queue_step).
+    Queue(Side, u16),
+    /// [`Nic::eeprom_step`](crate::Nic::eeprom_step).
+    Eeprom,
+    /// [`Nic::tx_step`](crate::Nic::tx_step) of a queue.
+    Tx(u16),
+    /// [`Nic::rx_step`](crate::Nic::rx_step).
+    Rx,
+    /// [`Nic::int_step`](crate::Nic::int_step), or that of a virtual function.
+    Int(Option<u8>),
+}
+
+/// What a step of the device did. It is shown as the answer that `nicbench run` prints:
+///
+/// ```
+/// use nic82599::Event;
+///
+/// let event = Event::Message { function: None, vector: 5 };
+/// assert_eq!(event.to_string(), "message pf vector 5");
+/// assert_eq!(event.step().to_string(), "int pf");
+/// ```
+#[derive(Clone, Copy, Debug, PartialEq, Eq, Hash)]
+pub enum Event {
+    /// A side of a queue is on or off now, as its RXDCTL or TXDCTL asked.
+    Switched {
+        /// Which side.
+        side: Side,
+        /// The queue.
+        queue: u16,
+    },
+    /// The EEPROM answered EERD.
+    EepromAnswered,
+    /// One buffer's worth of a frame was written.
+    Wrote {
+        /// The queue.
+        queue: u16,
+        /// The slot of its ring.
+        slot: u16,
+        /// Whether the frame ends in this buffer.
+        end: bool,
+        /// The bus address of the descriptor that was written back.
+        descriptor: u64,
+        /// The bus address of the first byte written.
+        at: u64,
+        /// How many bytes were written.
+        length: u64,
+    },
+    /// The frame that waited longest was dropped by a receive step.
+    Dropped(Why),
+    /// A transmit slot was fetched, and no frame went out.
+    Advanced {
+        /// The queue.
+        queue: u16,
+        /// The slot of its ring.
+        slot: u16,
+        /// Where a descriptor or the head was written back, if one was.
+        back: Option<u64>,
+    },
+    /// A frame went out.
+    Sent {
+        /// The queue.
+        queue: u16,
+        /// How many bytes it has, padding included.
+        length: u64,
+        /// Where a descriptor or the head was written back, if one was.
+        back: Option<u64>,
+    },
+    /// A slot can't be processed, and its side of the queue is off now.
+    Fault {
+        /// Which side.
+        side: Side,
+        /// The queue.
+        queue: u16,
+        /// Why.
+        why: Fault,
+    },
+    /// An interrupt message was sent.
+    Message {
+        /// The virtual function whose it is, or `None` of the physical function.
+        function: Option<u8>,
+        /// The vector, below 16.
+        vector: u8,
+    },
+}
+
+/// Why a frame is dropped.
+#[derive(Clone, Copy, Debug, PartialEq, Eq, Hash)]
+pub enum Why {
+    /// The link is down.
+    LinkDown,
+    /// RXCTRL bit 0 is 0.
+    Off,
+    /// It has fewer than 60 bytes.
+    Short,
+    /// It has more than the frame limit.
+    Long,
+    /// No filter accepts the destination.
+    Filter,
+    /// There is no pool for it.
+    NoPool,
+    /// VFRE has its pool off.
+    PoolOff,
+    /// As many frames wait as [`Sizes::fifo`](crate::Sizes::fifo) allows.
+    Full,
+    /// A receive step: the queue is off.
+    QueueOff,
+    /// A receive step: no slot is the device's, and SRRCTL has DROP_EN.
+    NoSlot,
+}
+
+/// Why a slot can't be processed.
+#[derive(Clone, Copy, Debug, PartialEq, Eq, Hash)]
+pub enum Fault {
+    /// The head or the tail is no slot of the ring.
+    Outside,
+    /// The memory at this bus address isn't lent.
+    NotLent(u64),
+    /// SRRCTL's descriptor type isn't the advanced one with one buffer.
+    Type,
+    /// SRRCTL's buffer size is 0.
+    NoBufferSize,
+    /// A transmit descriptor asks for segmentation, VLAN insertion or a checksum.
+    Offload,
+    /// A legacy transmit descriptor.
+    Legacy,
+    /// The frame is above the frame limit.
+    TooLong,
+    /// Neither a data nor a context descriptor.
+    UnknownType,
+}
+
+impl Event {
+    /// The step that did it.
+    pub const fn step(&self) -> Step {
+        match *self {
+            Event::Switched { side, queue } => Step::Queue(side, queue),
+            Event::EepromAnswered => Step::Eeprom,
+            Event::Wrote { .. } | Event::Dropped(_) | Event::Fault { side: Side::Rx, .. } => Step::Rx,
+            Event::Advanced { queue, .. } | Event::Sent { queue, .. } => Step::Tx(queue),
+            Event::Fault { side: Side::Tx, queue, .. } => Step::Tx(queue),
+            Event::Message { function, .. } => Step::Int(function),
+        }
+    }
+
+    /// What an event of `nic_settle` tells.
+    pub(crate) fn of_settle(told: &Told) -> Event {
+        match told.step {
+            0 if told.status == ffi::DONE => Event::Switched { side: Side::Rx, queue: told.of },
+            1 if told.status == ffi::DONE => Event::Switched { side: Side::Tx, queue: told.of },
+            2 => Event::EepromAnswered,
+            4 => Event::of_step(Side::Rx, told),
+            _ => Event::of_step(Side::Tx, told),
+        }
+    }
+
+    /// What a step tells that wasn't idle or refused; a fault is of this side.
+    pub(crate) fn of_step(side: Side, told: &Told) -> Event {
+        let (queue, slot) = (told.queue, told.slot);
+        let back = if told.back == 1 { Some(told.at) } else { None };
+        match told.status {
+            ffi::DROPPED => Event::Dropped(Why::of(told.why)),
+            ffi::WROTE => {
+                let (descriptor, at, length) = (told.desc, told.at, told.len);
+                Event::Wrote { queue, slot, end: told.end == 1, descriptor, at, length }
+            }
+            ffi::ADVANCED => Event::Advanced { queue, slot, back },
+            ffi::SENT => Event::Sent { queue, length: told.len, back },
+            ffi::FAULT => Event::Fault { side, queue, why: Fault::of(told) },
+            ffi::MESSAGE => {
+                Event::Message { function: told.group.checked_sub(1).map(|v| v as u8), vector: told.vector }
+            }
+            other => unreachable!("the library tells the status {other} of a step"),
+        }
+    }
+}
+
+impl Why {
+    pub(crate) fn of(code: u8) -> Why {
+        match code {
+            1 => Why::LinkDown,
+            2 => Why::Off,
+            3 => Why::Short,
+            4 => Why::Long,
+            5 => Why::Filter,
+            6 => Why::NoPool,
+            7 => Why::PoolOff,
+            8 => Why::Full,
+            9 => Why::QueueOff,
+            10 => Why::NoSlot,
+            other => unreachable!("the library tells {other} of why a frame is dropped"),
+        }
+    }
+}
+
+impl Fault {
+    fn of(told: &Told) -> Fault {
+        match told.why {
+            1 => Fault::Outside,
+            2 => Fault::NotLent(told.bus),
+            3 => Fault::Type,
+            4 => Fault::NoBufferSize,
+            5 => Fault::Offload,
+            6 => Fault::Legacy,
+            7 => Fault::TooLong,
+            8 => Fault::UnknownType,
+            other => unreachable!("the library tells {other} of what a fault is"),
+        }
+    }
+}
+
+impl fmt::Display for Step {
+    fn fmt(&self, f: &mut fmt::Formatter<'_>) -> fmt::Result {
+        match self {
+            Step::Queue(side, queue) => write!(f, "qstep {side} {queue}"),
+            Step::Eeprom => f.write_str("eestep"),
+            Step::Tx(queue) => write!(f, "tx {queue}"),
+            Step::Rx => f.write_str("rx"),
+            Step::Int(None) => f.write_str("int pf"),
+            Step::Int(Some(function)) => write!(f, "int {function}"),
+        }
+    }
+}
+
+impl fmt::Display for Event {
+    fn fmt(&self, f: &mut fmt::Formatter<'_>) -> fmt::Result {
+        match self {
+            Event::Switched { .. } | Event::EepromAnswered => f.write_str("done"),
+            Event::Wrote { queue, slot, end, .. } => {
+                write!(f, "wrote queue {queue} slot {slot} {}", if *end { "end" } else { "more" })
+            }
+            Event::Dropped(why) => write!(f, "dropped {why}"),
+            Event::Advanced { queue, slot, .. } => write!(f, "advanced queue {queue} slot {slot}"),
+            Event::Sent { queue, length, .. } => write!(f, "sent queue {queue} len {length}"),
+            Event::Fault { queue, why, .. } => write!(f, "fault queue {queue} {why}"),
+            Event::Message { function: None, vector } => write!(f, "message pf vector {vector}"),
+            Event::Message { function: Some(function), vector } => write!(f, "message vf {function} vector {vector}"),
+        }
+    }
+}
+
+impl fmt::Display for Why {
+    fn fmt(&self, f: &mut fmt::Formatter<'_>) -> fmt::Result {
+        f.write_str(match self {
+            Why::LinkDown => "link down",
+            Why::Off => "off",
+            Why::Short => "short",
+            Why::Long => "long",
+            Why::Filter => "filter",
+            Why::NoPool => "no pool",
+            Why::PoolOff => "pool off",
+            Why::Full => "full",
+            Why::QueueOff => "queue off",
+            Why::NoSlot => "no slot",
+        })
+    }
+}
+
+impl fmt::Display for Fault {
+    fn fmt(&self, f: &mut fmt::Formatter<'_>) -> fmt::Result {
+        f.write_str(match self {
+            Fault::Outside => "outside",
+            Fault::NotLent(bus) => return write!(f, "not lent 0x{bus:05x}"),
+            Fault::Type => "type",
+            Fault::NoBufferSize => "no buffer size",
+            Fault::Offload => "offload",
+            Fault::Legacy => "legacy",
+            Fault::TooLong => "too long",
+            Fault::UnknownType => "unknown type",
+        })
+    }
+}
+
+impl fmt::Display for Side {
+    fn fmt(&self, f: &mut fmt::Formatter<'_>) -> fmt::Result {
+        f.write_str(match self {
+            Side::Rx => "rx",
+            Side::Tx => "tx",
+        })
+    }
+}

@@ -1,0 +1,321 @@
+//! The calls of `nic82599.h`, and all `unsafe` code of the crate but that of the explorer: a controller and a snapshot
+//! as owned handles, whose methods take slices and references and give what a call answers.
+//!
+//! What the header asks of a caller is kept here once. A handle has a device from `open` to its drop, so the controller
+//! that a call is given is open. Pointers come from references and slices: they aren't null, point to as many bytes as
+//! the length says, and don't overlap, since none of them is of the handle. Every number may have any value. No call
+//! calls back, so nothing else is at work on a handle while a call is; and a handle isn't `Sync`, so no other thread
+//! is.
+#![allow(unsafe_code)]
+
+use std::cell::UnsafeCell;
+use std::ffi::CStr;
+use std::os::raw::{c_char, c_void};
+use std::ptr;
+
+pub(crate) const DONE: u8 = 0;
+pub(crate) const IDLE: u8 = 2;
+pub(crate) const DROPPED: u8 = 3;
+pub(crate) const WROTE: u8 = 4;
+pub(crate) const ADVANCED: u8 = 5;
+pub(crate) const SENT: u8 = 6;
+pub(crate) const FAULT: u8 = 7;
+pub(crate) const MESSAGE: u8 = 8;
+pub(crate) const FRAME: u8 = 9;
+pub(crate) const MORE: u8 = 38;
+
+/// `struct nic`.
+#[repr(C)]
+struct RawNic {
+    device: *mut c_void,
+}
+
+/// `struct nic_kept`.
+#[repr(C)]
+struct RawKept {
+    kept: *mut c_void,
+}
+
+/// `struct nic_told`.
+#[repr(C)]
+#[derive(Clone, Copy, Default)]
+pub(crate) struct Told {
+    pub(crate) desc: u64,
+    pub(crate) at: u64,
+    pub(crate) len: u64,
+    pub(crate) bus: u64,
+    pub(crate) queue: u16,
+    pub(crate) slot: u16,
+    pub(crate) group: u16,
+    pub(crate) of: u16,
+    pub(crate) status: u8,
+    pub(crate) step: u8,
+    pub(crate) end: u8,
+    pub(crate) back: u8,
+    pub(crate) why: u8,
+    pub(crate) vector: u8,
+}
+
+extern "C" {
+    fn nic_version() -> *const c_char;
+    fn nic_is_proved() -> bool;
+    fn nic_record(path: *const c_char) -> bool;
+    fn nic_new(vfs: u8, fifo: u16, blocks: u32, device: *mut *mut c_void) -> u8;
+    fn nic_free(n: RawNic);
+    fn nic_snapshot(n: *mut RawNic, kept: *mut RawKept) -> u8;
+    fn nic_restore(n: *mut RawNic, kept: *const RawKept) -> u8;
+    fn nic_free_snapshot(kept: RawKept);
+    fn nic_read32(n: *mut RawNic, address: u32, word: *mut u32) -> u8;
+    fn nic_write32(n: *mut RawNic, address: u32, word: u32) -> u8;
+    fn nic_vf_read32(n: *mut RawNic, vf: u8, offset: u32, word: *mut u32) -> u8;
+    fn nic_vf_write32(n: *mut RawNic, vf: u8, offset: u32, word: u32) -> u8;
+    fn nic_peek32(n: *mut RawNic, address: u32, word: *mut u32) -> u8;
+    fn nic_vf_peek32(n: *mut RawNic, vf: u8, offset: u32, word: *mut u32) -> u8;
+    fn nic_lend(n: *mut RawNic, block: u32) -> u8;
+    fn nic_take(n: *mut RawNic, block: u32) -> u8;
+    fn nic_lend_all(n: *mut RawNic) -> u8;
+    fn nic_dma_read(n: *mut RawNic, bus: u64, bytes: *mut u8, length: usize) -> u8;
+    fn nic_dma_write(n: *mut RawNic, bus: u64, bytes: *const u8, length: usize) -> u8;
+    fn nic_arrive(n: *mut RawNic, frame: *const u8, length: usize, told: *mut Told) -> u8;
+    fn nic_next_out(n: *mut RawNic) -> usize;
+    fn nic_collect(n: *mut RawNic, room: *mut u8, length: usize, told: *mut Told) -> u8;
+    fn nic_link(n: *mut RawNic, up: bool) -> u8;
+    fn nic_rx_step(n: *mut RawNic, told: *mut Told) -> u8;
+    fn nic_tx_step(n: *mut RawNic, queue: u16, told: *mut Told) -> u8;
+    fn nic_queue_step(n: *mut RawNic, transmit: bool, queue: u16, told: *mut Told) -> u8;
+    fn nic_eeprom_step(n: *mut RawNic, told: *mut Told) -> u8;
+    fn nic_int_step(n: *mut RawNic, group: u8, told: *mut Told) -> u8;
+    fn nic_settle(n: *mut RawNic, queues: u16, told: *mut Told, length: usize, count: *mut usize) -> u8;
+    fn nic_install_image(n: *mut RawNic, bytes: *const u8, length: usize) -> u8;
+    fn nic_install_text(n: *mut RawNic, text: *const u8, length: usize, line: *mut u64) -> u8;
+    fn nic_hash(key: *const u8, input: *const u8, length: usize, hash: *mut u32) -> u8;
+}
+
+/// The version of the library.
+pub(crate) fn version() -> &'static str {
+    // SAFETY: it takes nothing, and gives a string of the library's own that never changes and ends with a zero.
+    let text = unsafe { CStr::from_ptr(nic_version()) };
+    text.to_str().unwrap_or("")
+}
+
+/// Whether the library was proved.
+pub(crate) fn is_proved() -> bool {
+    // SAFETY: it takes nothing.
+    unsafe { nic_is_proved() }
+}
+
+/// Records the controllers that are made from now on, or none.
+pub(crate) fn record(path: Option<&CStr>) -> bool {
+    // SAFETY: the pointer is null, which the call takes, or that of a string that ends with a zero and is copied.
+    unsafe { nic_record(path.map_or(ptr::null(), CStr::as_ptr)) }
+}
+
+/// The hash of an input by a key.
+pub(crate) fn hash(key: &[u8; 40], input: &[u8]) -> (u8, u32) {
+    let mut word = 0;
+    // SAFETY: the key has the 40 bytes that the call reads, and the input as many as its length.
+    let status = unsafe { nic_hash(key.as_ptr(), input.as_ptr(), input.len(), &mut word) };
+    (status, word)
+}
+
+/// A snapshot.
+#[derive(Debug)]
+pub(crate) struct Kept {
+    raw: RawKept,
+}
+
+impl std::fmt::Debug for RawKept {
+    fn fmt(&self, f: &mut std::fmt::Formatter<'_>) -> std::fmt::Result {
+        write!(f, "{:p}", self.kept)
+    }
+}
+
+// SAFETY: a snapshot shares nothing with any other one or with a controller, and no call on it depends on the thread,
+// so it may be handed to another thread. (It isn't Sync, since it has a pointer.)
+unsafe impl Send for Kept {}
+
+impl Drop for Kept {
+    fn drop(&mut self) {
+        // SAFETY: nic_snapshot made it, and it is ended here alone, once.
+        unsafe { nic_free_snapshot(RawKept { kept: self.raw.kept }) }
+    }
+}
+
+/// A controller. The struct of the header may be written by a call, so it lies in a cell.
+pub(crate) struct Handle {
+    raw: UnsafeCell<RawNic>,
+}
+
+// SAFETY: a controller shares nothing with any other one, and no call on it depends on the thread (what all share, the
+// recorder, has a lock), so it may be handed to another thread. (It isn't Sync, since it has a cell.)
+unsafe impl Send for Handle {}
+
+impl Drop for Handle {
+    fn drop(&mut self) {
+        // SAFETY: nic_new made it, and it is ended here alone, once.
+        unsafe { nic_free(RawNic { device: self.raw.get_mut().device }) }
+    }
+}
+
+impl Handle {
+    /// A controller as after power-up, or the status of the refusal.
+    pub(crate) fn open(vfs: u8, fifo: u16, blocks: u32) -> Result<Handle, u8> {
+        let mut device = ptr::null_mut();
+        // SAFETY: the pointer is that of a place for one.
+        match unsafe { nic_new(vfs, fifo, blocks, &mut device) } {
+            DONE => Ok(Handle { raw: UnsafeCell::new(RawNic { device }) }),
+            status => Err(status),
+        }
+    }
+
+    /// The pointer that the calls take.
+    fn n(&self) -> *mut RawNic {
+        self.raw.get()
+    }
+
+    /// A snapshot, or the status of the refusal.
+    pub(crate) fn snapshot(&self) -> Result<Kept, u8> {
+        let mut raw = RawKept { kept: ptr::null_mut() };
+        // SAFETY: the controller is open; `raw` is a place for a snapshot.
+        match unsafe { nic_snapshot(self.n(), &mut raw) } {
+            DONE => Ok(Kept { raw }),
+            status => Err(status),
+        }
+    }
+
+    pub(crate) fn restore(&self, kept: &Kept) -> u8 {
+        // SAFETY: the controller is open, and the snapshot wasn't ended.
+        unsafe { nic_restore(self.n(), &kept.raw) }
+    }
+
+    pub(crate) fn read32(&self, address: u32) -> (u8, u32) {
+        let mut word = 0;
+        // SAFETY: the controller is open; `word` is a place for a word.
+        (unsafe { nic_read32(self.n(), address, &mut word) }, word)
+    }
+
+    pub(crate) fn write32(&self, address: u32, word: u32) -> u8 {
+        // SAFETY: the controller is open.
+        unsafe { nic_write32(self.n(), address, word) }
+    }
+
+    pub(crate) fn peek32(&self, address: u32) -> (u8, u32) {
+        let mut word = 0;
+        // SAFETY: the controller is open; `word` is a place for a word.
+        (unsafe { nic_peek32(self.n(), address, &mut word) }, word)
+    }
+
+    pub(crate) fn vf_read32(&self, vf: u8, offset: u32) -> (u8, u32) {
+        let mut word = 0;
+        // SAFETY: the controller is open; `word` is a place for a word.
+        (unsafe { nic_vf_read32(self.n(), vf, offset, &mut word) }, word)
+    }
+
+    pub(crate) fn vf_write32(&self, vf: u8, offset: u32, word: u32) -> u8 {
+        // SAFETY: the controller is open.
+        unsafe { nic_vf_write32(self.n(), vf, offset, word) }
+    }
+
+    pub(crate) fn vf_peek32(&self, vf: u8, offset: u32) -> (u8, u32) {
+        let mut word = 0;
+        // SAFETY: the controller is open; `word` is a place for a word.
+        (unsafe { nic_vf_peek32(self.n(), vf, offset, &mut word) }, word)
+    }
+
+    pub(crate) fn lend(&self, block: u32) -> u8 {
+        // SAFETY: the controller is open.
+        unsafe { nic_lend(self.n(), block) }
+    }
+
+    pub(crate) fn take(&self, block: u32) -> u8 {
+        // SAFETY: the controller is open.
+        unsafe { nic_take(self.n(), block) }
+    }
+
+    pub(crate) fn lend_all(&self) -> u8 {
+        // SAFETY: the controller is open.
+        unsafe { nic_lend_all(self.n()) }
+    }
+
+    pub(crate) fn dma_read(&self, bus: u64, bytes: &mut [u8]) -> u8 {
+        // SAFETY: the controller is open; the buffer has as many bytes as its length.
+        unsafe { nic_dma_read(self.n(), bus, bytes.as_mut_ptr(), bytes.len()) }
+    }
+
+    pub(crate) fn dma_write(&self, bus: u64, bytes: &[u8]) -> u8 {
+        // SAFETY: the controller is open; the buffer has as many bytes as its length.
+        unsafe { nic_dma_write(self.n(), bus, bytes.as_ptr(), bytes.len()) }
+    }
+
+    pub(crate) fn arrive(&self, frame: &[u8]) -> (u8, Told) {
+        let mut told = Told::default();
+        // SAFETY: the controller is open; the frame has as many bytes as its length; `told` is a place for an event.
+        (unsafe { nic_arrive(self.n(), frame.as_ptr(), frame.len(), &mut told) }, told)
+    }
+
+    pub(crate) fn next_out(&self) -> usize {
+        // SAFETY: the controller is open.
+        unsafe { nic_next_out(self.n()) }
+    }
+
+    pub(crate) fn collect(&self, room: &mut [u8]) -> (u8, Told) {
+        let mut told = Told::default();
+        // SAFETY: the controller is open; the room has as many bytes as its length; `told` is a place for an event.
+        (unsafe { nic_collect(self.n(), room.as_mut_ptr(), room.len(), &mut told) }, told)
+    }
+
+    pub(crate) fn link(&self, up: bool) -> u8 {
+        // SAFETY: the controller is open.
+        unsafe { nic_link(self.n(), up) }
+    }
+
+    pub(crate) fn rx_step(&self) -> (u8, Told) {
+        let mut told = Told::default();
+        // SAFETY: the controller is open; `told` is a place for an event.
+        (unsafe { nic_rx_step(self.n(), &mut told) }, told)
+    }
+
+    pub(crate) fn tx_step(&self, queue: u16) -> (u8, Told) {
+        let mut told = Told::default();
+        // SAFETY: the controller is open; `told` is a place for an event.
+        (unsafe { nic_tx_step(self.n(), queue, &mut told) }, told)
+    }
+
+    pub(crate) fn queue_step(&self, transmit: bool, queue: u16) -> u8 {
+        let mut told = Told::default();
+        // SAFETY: the controller is open; `told` is a place for an event.
+        unsafe { nic_queue_step(self.n(), transmit, queue, &mut told) }
+    }
+
+    pub(crate) fn eeprom_step(&self) -> u8 {
+        let mut told = Told::default();
+        // SAFETY: the controller is open; `told` is a place for an event.
+        unsafe { nic_eeprom_step(self.n(), &mut told) }
+    }
+
+    pub(crate) fn int_step(&self, group: u8) -> (u8, Told) {
+        let mut told = Told::default();
+        // SAFETY: the controller is open; `told` is a place for an event.
+        (unsafe { nic_int_step(self.n(), group, &mut told) }, told)
+    }
+
+    /// Steps until none has anything to do, or the room is full: the status, and how many events are in the room.
+    pub(crate) fn settle(&self, queues: u16, room: &mut [Told]) -> (u8, usize) {
+        let mut count = 0;
+        // SAFETY: the controller is open; the room has as many events as its length; `count` is a place for a number.
+        let status = unsafe { nic_settle(self.n(), queues, room.as_mut_ptr(), room.len(), &mut count) };
+        (status, count)
+    }
+
+    pub(crate) fn install_image(&self, bytes: &[u8]) -> u8 {
+        // SAFETY: the controller is open; the image has as many bytes as its length.
+        unsafe { nic_install_image(self.n(), bytes.as_ptr(), bytes.len()) }
+    }
+
+    /// The status, and the line or index that a refusal tells.
+    pub(crate) fn install_text(&self, text: &[u8]) -> (u8, u64) {
+        let mut line = 0;
+        // SAFETY: the controller is open; the text has as many bytes as its length; `line` is a place for a number.
+        (unsafe { nic_install_text(self.n(), text.as_ptr(), text.len(), &mut line) }, line)
+    }
+}

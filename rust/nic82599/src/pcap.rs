@@ -1,0 +1,129 @@
+//! Captures of Ethernet frames: reads pcap files (microseconds or nanoseconds, either byte order) and writes them with
+//! microseconds. `tools/pcap2nic` and the Python module also read pcapng.
+//!
+//! ```
+//! use nic82599::pcap::{Reader, Writer};
+//!
+//! let mut file = Vec::new();
+//! let mut capture = Writer::new(&mut file)?;
+//! capture.put(1_000_000, &[7; 60])?;
+//! for frame in Reader::new(&file[..])? {
+//!     assert_eq!(frame?, [7; 60]);
+//! }
+//! # Ok::<(), std::io::Error>(())
+//! ```
+
+use std::io::{self, ErrorKind, Read, Write};
+
+/// The longest frame that is read: what other programs take for a limit too.
+const LONGEST: u32 = 262_144;
+const HEAD: [u8; 24] = [0xD4, 0xC3, 0xB2, 0xA1, 2, 0, 4, 0, 0, 0, 0, 0, 0, 0, 0, 0, 0xFF, 0xFF, 0, 0, 1, 0, 0, 0];
+
+fn broken(why: &str) -> io::Error {
+    io::Error::new(ErrorKind::InvalidData, why)
+}
+
+/// Reads a capture, frame by frame. After an error it gives no more.
+#[derive(Debug)]
+pub struct Reader<R> {
+    file: R,
+    is_big: bool,
+    is_over: bool,
+}
+
+impl<R: Read> Reader<R> {
+    /// Reads the head of a capture.
+    ///
+    /// # Errors
+    ///
+    /// Those of the file, and [`ErrorKind::InvalidData`] where it is no capture of Ethernet frames.
+    pub fn new(mut file: R) -> io::Result<Reader<R>> {
+        let mut head = [0; 24];
+        file.read_exact(&mut head)?;
+        let is_big = match [head[0], head[1], head[2], head[3]] {
+            [0xA1, 0xB2, 0xC3, 0xD4] | [0xA1, 0xB2, 0x3C, 0x4D] => true,
+            [0xD4, 0xC3, 0xB2, 0xA1] | [0x4D, 0x3C, 0xB2, 0xA1] => false,
+            _ => return Err(broken("no capture (pcap)")),
+        };
+        if word(is_big, &head[20..]) & 0xFFFF != 1 {
+            return Err(broken("a capture of another link than Ethernet"));
+        }
+        Ok(Reader { file, is_big, is_over: false })
+    }
+
+    fn frame(&mut self) -> io::Result<Option<Vec<u8>>> {
+        let mut head = [0; 16];
+        if self.file.read(&mut head[..1])? == 0 {
+            return Ok(None);
+        }
+        self.file.read_exact(&mut head[1..])?;
+        let (kept, length) = (word(self.is_big, &head[8..12]), word(self.is_big, &head[12..]));
+        if kept != length || length > LONGEST {
+            return Err(broken("a frame that was captured in part, or is too long"));
+        }
+        let mut frame = vec![0; length as usize];
+        self.file.read_exact(&mut frame)?;
+        Ok(Some(frame))
+    }
+}
+
+fn word(is_big: bool, bytes: &[u8]) -> u32 {
+    let bytes = [bytes[0], bytes[1], bytes[2], bytes[3]];
+    if is_big {
+        u32::from_be_bytes(bytes)
+    } else {
+        u32::from_le_bytes(bytes)
+    }
+}
+
+impl<R: Read> Iterator for Reader<R> {
+    type Item = io::Result<Vec<u8>>;
+
+    fn next(&mut self) -> Option<io::Result<Vec<u8>>> {
+        if self.is_over {
+            return None;
+        }
+        let frame = self.frame().transpose();
+        self.is_over = !matches!(frame, Some(Ok(_)));
+        frame
+    }
+}
+
+/// Writes a capture, frame by frame.
+#[derive(Debug)]
+pub struct Writer<W> {
+    file: W,
+}
+
+impl<W: Write> Writer<W> {
+    /// Writes the head of a capture.
+    ///
+    /// # Errors
+    ///
+    /// Those of the file.
+    pub fn new(mut file: W) -> io::Result<Writer<W>> {
+        file.write_all(&HEAD)?;
+        Ok(Writer { file })
+    }
+
+    /// Writes a frame with its time in microseconds.
+    ///
+    /// # Errors
+    ///
+    /// Those of the file, and [`ErrorKind::InvalidInput`] for a frame of more than 262,144 bytes.
+    pub fn put(&mut self, time: u64, frame: &[u8]) -> io::Result<()> {
+        let length = match u32::try_from(frame.len()) {
+            Ok(length) if length <= LONGEST => length,
+            _ => return Err(io::Error::new(ErrorKind::InvalidInput, "a frame that is too long")),
+        };
+        for word in [(time / 1_000_000) as u32, (time % 1_000_000) as u32, length, length] {
+            self.file.write_all(&word.to_le_bytes())?;
+        }
+        self.file.write_all(frame)
+    }
+
+    /// The file.
+    pub fn into_inner(self) -> W {
+        self.file
+    }
+}

@@ -1,0 +1,157 @@
+//! Steps of the device until none has anything to do.
+
+use std::iter::FusedIterator;
+use std::vec::IntoIter;
+
+use crate::error::Error;
+use crate::event::{Event, Side};
+use crate::ffi::{self, Told};
+use crate::nic::Nic;
+
+/// How many queues there are.
+const QUEUES: u16 = 128;
+/// How many events one call of the library has room for.
+const ROOM: usize = 256;
+
+/// What happened in [`Nic::settle`], in order.
+#[derive(Clone, Debug)]
+pub struct Settled {
+    events: IntoIter<Event>,
+}
+
+impl Settled {
+    pub(crate) fn of(nic: &Nic, queues: u16) -> Result<Settled, Error> {
+        let mut events = Vec::new();
+        let mut room = [Told::default(); ROOM];
+        loop {
+            let (status, count) = nic.handle().settle(queues, &mut room);
+            events.extend(room[..count].iter().map(Event::of_settle));
+            match status {
+                ffi::DONE => return Ok(Settled { events: events.into_iter() }),
+                ffi::MORE => {}
+                refused => return Err(Error::of(refused)),
+            }
+        }
+    }
+
+    /// The events that the iterator didn't give yet.
+    pub fn as_slice(&self) -> &[Event] {
+        self.events.as_slice()
+    }
+}
+
+impl Iterator for Settled {
+    type Item = Event;
+
+    fn next(&mut self) -> Option<Event> {
+        self.events.next()
+    }
+
+    fn size_hint(&self) -> (usize, Option<usize>) {
+        self.events.size_hint()
+    }
+}
+
+impl DoubleEndedIterator for Settled {
+    fn next_back(&mut self) -> Option<Event> {
+        self.events.next_back()
+    }
+}
+
+impl ExactSizeIterator for Settled {}
+
+impl FusedIterator for Settled {}
+
+/// The steps of [`Nic::steps`]: each is made when it is asked for.
+///
+/// ```
+/// use nic82599::{regs, Event, Nic, Sizes};
+///
+/// let nic = Nic::open(Sizes::default())?;
+/// nic.write(regs::IVAR_MISC, regs::ivar_misc::INT_ALLOC_1.is(3) | regs::ivar_misc::INT_ALLOC_VAL_1);
+/// nic.write(regs::EIMS, 1 << 20);
+/// nic.write(regs::EICS, 1 << 20);
+/// for event in nic.steps(1)? {
+///     if let Event::Message { vector, .. } = event? {
+///         nic.write(regs::EIMC, 1 << 20); // the handler masks its cause before the device goes on
+///         nic.write(regs::EICR, 1 << 20);
+///         assert_eq!(vector, 3);
+///     }
+/// }
+/// # Ok::<(), nic82599::Error>(())
+/// ```
+#[derive(Debug)]
+#[must_use = "no step is made that isn't asked for"]
+pub struct Steps<'a> {
+    nic: &'a Nic,
+    queues: u16,
+    /// The place in the round of what comes next, and whether the round did anything up to there.
+    at: u16,
+    did_something: bool,
+    is_over: bool,
+}
+
+impl<'a> Steps<'a> {
+    pub(crate) fn of(nic: &'a Nic, queues: u16) -> Result<Steps<'a>, Error> {
+        if queues > QUEUES {
+            return Err(Error::NoQueue);
+        }
+        Ok(Steps { nic, queues, at: 0, did_something: false, is_over: false })
+    }
+
+    /// How many places a round has: two enables and a transmit step of each queue, the EEPROM, the receive step, and
+    /// the groups.
+    fn places(&self) -> u16 {
+        3 * self.queues + 3 + u16::from(self.nic.sizes().vfs)
+    }
+
+    /// Makes the step at a place of the round.
+    fn make(&self, place: u16) -> Result<Option<Event>, Error> {
+        let (enables, queues) = (2 * self.queues, self.queues);
+        if place < enables {
+            let (side, queue) = (if place % 2 == 0 { Side::Rx } else { Side::Tx }, place / 2);
+            let is_done = self.nic.queue_step(side, queue)?;
+            return Ok(if is_done { Some(Event::Switched { side, queue }) } else { None });
+        }
+        match place - enables {
+            0 => Ok(if self.nic.eeprom_step() { Some(Event::EepromAnswered) } else { None }),
+            it if it <= queues => self.nic.tx_step(it - 1),
+            it if it == queues + 1 => Ok(self.nic.rx_step()),
+            it => match self.nic.message((it - queues - 2) as u8) {
+                Err(Error::NoGroup) => Ok(None),
+                told => told,
+            },
+        }
+    }
+}
+
+impl Iterator for Steps<'_> {
+    type Item = Result<Event, Error>;
+
+    fn next(&mut self) -> Option<Result<Event, Error>> {
+        while !self.is_over {
+            if self.at >= self.places() {
+                self.is_over = !self.did_something;
+                self.at = 0;
+                self.did_something = false;
+                continue;
+            }
+            let told = self.make(self.at);
+            self.at += 1;
+            match told {
+                Ok(None) => {}
+                Ok(Some(event)) => {
+                    self.did_something = true;
+                    return Some(Ok(event));
+                }
+                Err(error) => {
+                    self.is_over = true;
+                    return Some(Err(error));
+                }
+            }
+        }
+        None
+    }
+}
+
+impl FusedIterator for Steps<'_> {}

@@ -1,0 +1,196 @@
+//! Names and fields: those of the C header, and registers that the device has.
+
+mod common;
+
+use std::collections::BTreeMap;
+use std::fs;
+use std::path::Path;
+
+use nic82599::regs::{self, vf, *};
+use nic82599::{Error, Nic, Sizes};
+
+const MODULE: &str = include_str!("../src/regs.rs");
+const DESCRIPTORS: &str = include_str!("../src/desc/fields.rs");
+
+/// The C header of this name, of the clone or of the prefix that the crate lies in; `None` where there is none.
+fn header(name: &str) -> Option<String> {
+    let here = Path::new(env!("CARGO_MANIFEST_DIR")).ancestors();
+    let mut places = here.flat_map(|it| [it.join("c/include").join(name), it.join("include").join(name)]);
+    places.find_map(|it| fs::read_to_string(it).ok())
+}
+
+/// What the macros of a header stand for.
+fn macros(name: &str) -> Option<BTreeMap<String, String>> {
+    let text = header(name)?;
+    let lines = text.lines().filter_map(|line| line.strip_prefix("#define ")?.split_once(' '));
+    Some(lines.map(|(name, body)| (name.to_owned(), body.to_owned())).collect())
+}
+
+/// The number in `UINT32_C(0x..)` or `UINT64_C(0x..)`.
+fn number(text: &str) -> u64 {
+    let digits = text.split("_C(0x").nth(1).unwrap_or_else(|| panic!("{text}"));
+    u64::from_str_radix(digits.split(')').next().unwrap(), 16).unwrap()
+}
+
+/// The numbers of a call's arguments.
+fn numbers(text: &str) -> Vec<u64> {
+    let inside = text.rsplit_once('(').unwrap().1.split(')').next().unwrap();
+    let parse = |it: &str| match it.trim().strip_prefix("0x") {
+        Some(digits) => u64::from_str_radix(digits, 16).unwrap(),
+        None => it.trim().parse().unwrap(),
+    };
+    inside.split(',').map(parse).collect()
+}
+
+#[test]
+fn addresses_are_those_of_the_header() {
+    let macros = match macros("nic82599_regs.h") {
+        Some(macros) => macros,
+        None => return,
+    };
+    for (name, registers) in regs::ALL {
+        let last = registers.count() - 1;
+        let got: Vec<u64> = [0, last].map(|it| u64::from(registers.at(it).address())).to_vec();
+        if last == 0 {
+            assert_eq!(number(&macros[&format!("NIC_{name}")]), got[0], "{name}");
+            continue;
+        }
+        assert_eq!(macros[&format!("NIC_{name}_COUNT")], (last + 1).to_string(), "{name}");
+        let body = &macros[&format!("NIC_{name}(i)")];
+        let (first, end) = match body.strip_prefix("nic_in_runs") {
+            None => {
+                let stride = number(body.rsplit_once('+').unwrap().1);
+                (number(body), number(body) + stride * u64::from(last))
+            }
+            Some(_) => {
+                let it = numbers(&body.replace(", (i))", ")"));
+                (it[0], it[3] + it[1] * (u64::from(last) - it[2]))
+            }
+        };
+        assert_eq!(got, [first, end], "{name}");
+    }
+}
+
+/// The fields of a generated module: the names of module and field, the mask, and the lowest bit of one with several.
+fn fields(text: &str) -> Vec<(String, String, u64, Option<u64>)> {
+    let (mut module, mut found) = (String::new(), Vec::new());
+    for line in text.lines() {
+        if let Some(name) = line.strip_prefix("pub mod ") {
+            module = name.trim_end_matches(" {").to_uppercase();
+        }
+        if let Some((name, rest)) = line.strip_prefix("    pub const ").and_then(|it| it.split_once(": ")) {
+            if rest.contains("Field::new") {
+                let numbers = numbers(rest);
+                found.push((module.clone(), name.to_owned(), numbers[0], Some(numbers[1])));
+            } else if let Some(bits) = rest.split("= 0x").nth(1) {
+                let bits = u64::from_str_radix(bits.trim_end_matches(';'), 16).unwrap();
+                found.push((module.clone(), name.to_owned(), bits, None));
+            }
+        }
+    }
+    found
+}
+
+#[test]
+fn fields_are_those_of_the_header() {
+    for (file, text, at_least) in [("nic82599_regs.h", MODULE, 250), ("nic82599_desc.h", DESCRIPTORS, 20)] {
+        let macros = match macros(file) {
+            Some(macros) => macros,
+            None => return,
+        };
+        let fields = fields(text);
+        assert!(fields.len() > at_least, "{file}: {}", fields.len());
+        for (module, name, mask, low) in &fields {
+            let macro_name = format!("NIC_{module}_{name}");
+            assert_eq!(number(&macros[&macro_name]), *mask, "{macro_name}");
+            let told = macros.get(&format!("{macro_name}_IS(v)"));
+            assert_eq!(told.is_some(), low.is_some(), "{macro_name}");
+            if let (Some(told), Some(low)) = (told, low) {
+                assert!(told.contains(&format!("<< {low} & ")), "{macro_name}");
+            }
+        }
+        let told = macros.keys().filter(|it| it.ends_with("_IS(v)")).count();
+        assert_eq!(fields.iter().filter(|it| it.3.is_some()).count(), told, "{file}");
+    }
+}
+
+#[test]
+fn offsets_are_those_of_the_header() {
+    let macros = match macros("nic82599_regs.h") {
+        Some(macros) => macros,
+        None => return,
+    };
+    let module = MODULE.split("pub mod vf {").nth(1).unwrap();
+    let items = module.lines().filter_map(|line| line.trim().strip_prefix("pub const ")?.split_once(": Vf"));
+    let mut count = 0;
+    for (name, rest) in items {
+        let got = numbers(rest);
+        let plain = [format!("NIC_{name}"), format!("NIC_{name}_OFFSET")];
+        match macros.get(&format!("NIC_{name}(x)")) {
+            Some(body) => assert_eq!(got[..2], [number(body), number(body.rsplit_once('+').unwrap().1)], "{name}"),
+            None => assert_eq!(got, [number(macros.get(&plain[1]).unwrap_or_else(|| &macros[&plain[0]]))], "{name}"),
+        }
+        count += 1;
+    }
+    let text = header("nic82599_regs.h").unwrap();
+    let offsets = text.split("offsets of a virtual function").last().unwrap();
+    assert_eq!(count, offsets.matches("#define").count());
+    assert_eq!((vf::VFRDT.at(1).offset(), vf::VFRDT.count(), vf::VTIVAR.count()), (0x1058, 8, 4));
+}
+
+#[test]
+fn the_device_has_each() {
+    let nic = Nic::open(Sizes { vfs: 63, ..Sizes::default() }).unwrap();
+    let mut count = 0;
+    for (name, registers) in regs::ALL {
+        for register in (0..registers.count()).filter_map(|it| registers.get(it)) {
+            assert_eq!(nic.peek32(register.address()), Ok(nic.peek(register)), "{name}");
+            count += 1;
+        }
+    }
+    assert!(count > 3000 && count < common::addresses().len());
+    for address in common::addresses() {
+        assert!(nic.peek32(address).is_ok(), "0x{address:05x}");
+    }
+    let stray: Vec<u32> = (0..0x14000).step_by(4).filter(|&it| nic.peek32(it).is_err()).collect();
+    assert_eq!(stray.len() + common::addresses().len(), 0x5000);
+}
+
+#[test]
+fn a_function_has_as_many_as_its_mode_gives() {
+    let nic = Nic::open(Sizes { vfs: 2, ..Sizes::default() }).unwrap();
+    for (mode, queues) in [(1, 8), (2, 4), (3, 2)] {
+        nic.write(GCR_EXT, mode);
+        for queue in 0..vf::VFRDT.count() {
+            let told = nic.vf(1).peek(vf::VFRDT.at(queue));
+            assert_eq!(told.is_ok(), queue < queues, "mode {mode}, queue {queue}");
+        }
+        for vector in 0..vf::VTIVAR.count() {
+            assert_eq!(nic.vf(1).peek(vf::VTIVAR.at(vector)).is_ok(), vector < queues / 2, "mode {mode}");
+        }
+        assert!((0..vf::VFMBMEM.count()).all(|it| nic.vf(1).peek(vf::VFMBMEM.at(it)).is_ok()));
+    }
+    nic.write(GCR_EXT, 0);
+    assert_eq!(nic.vf(1).peek(vf::VTEIMS), Err(Error::Stray { at: 0x108, word: None }));
+}
+
+#[test]
+fn indices_are_tested() {
+    for (name, registers) in regs::ALL {
+        assert!(registers.get(registers.count()).is_none() && registers.get(u16::MAX).is_none(), "{name}");
+    }
+    assert!(vf::VFRDT.get(8).is_none() && vf::VFMBMEM.get(15).is_some());
+    assert_eq!((EITR.at(23).address(), EITR.at(24).address()), (0x0087C, 0x12300));
+}
+
+#[test]
+#[should_panic(expected = "no register has this index")]
+fn an_index_that_is_too_large_ends_the_program() {
+    RDT.at(128);
+}
+
+#[test]
+#[should_panic(expected = "no function has a register with this index")]
+fn an_index_that_no_function_has_ends_it_too() {
+    vf::VFRDT.at(8);
+}

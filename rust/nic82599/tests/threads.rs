@@ -1,0 +1,91 @@
+//! What may be moved to another thread, and what may not be shared.
+
+use std::thread;
+
+use nic82599::{regs::RETA, Error, Event, Field, Function, Memory, Nic, Register, Settled, Sizes, Snapshot, Steps};
+
+fn is_send<T: Send>() {}
+fn is_sync<T: Sync>() {}
+
+/// Compiles only where a type isn't `Sync`: of one that is, there would be two answers.
+macro_rules! isnt_sync {
+    ($($kind:ty),+) => {$(
+        const _: fn() = || {
+            trait Ambiguous<Which> {
+                fn answer() {}
+            }
+            struct OfSync;
+            impl<T: ?Sized> Ambiguous<()> for T {}
+            impl<T: ?Sized + Sync> Ambiguous<OfSync> for T {}
+            <$kind as Ambiguous<_>>::answer()
+        };
+    )+};
+}
+
+/// The same for `Send`.
+macro_rules! isnt_send {
+    ($($kind:ty),+) => {$(
+        const _: fn() = || {
+            trait Ambiguous<Which> {
+                fn answer() {}
+            }
+            struct OfSend;
+            impl<T: ?Sized> Ambiguous<()> for T {}
+            impl<T: ?Sized + Send> Ambiguous<OfSend> for T {}
+            <$kind as Ambiguous<_>>::answer()
+        };
+    )+};
+}
+
+isnt_sync!(Nic, Snapshot, Function<'_>, Memory<'_>, Steps<'_>);
+isnt_send!(&Nic, Function<'_>, Memory<'_>, Steps<'_>);
+
+#[test]
+fn kinds() {
+    is_send::<Nic>();
+    is_send::<Snapshot>();
+    is_send::<Settled>();
+    is_send::<Event>();
+    is_sync::<Event>();
+    is_send::<Error>();
+    is_sync::<Error>();
+    is_sync::<Register>();
+    is_sync::<Field>();
+}
+
+#[test]
+fn each_thread_has_its_own() {
+    let made: Vec<_> = (0..4)
+        .map(|number| {
+            thread::spawn(move || {
+                let nic = Nic::open(Sizes { vfs: number, ..Sizes::default() }).unwrap();
+                nic.lend_all().unwrap();
+                for word in 0..20_000 {
+                    nic.write(RETA.at(u16::from(number)), word);
+                    assert_eq!(nic.read(RETA.at(u16::from(number))), word);
+                }
+                nic
+            })
+        })
+        .collect();
+    for (number, thread) in made.into_iter().enumerate() {
+        let nic = thread.join().unwrap(); // it was made there, and goes on here
+        assert_eq!(nic.peek(RETA.at(number as u16)), 19_999);
+        assert_eq!(nic.sizes().vfs, number as u8);
+    }
+}
+
+#[test]
+fn a_snapshot_goes_to_another_thread() {
+    let nic = Nic::open(Sizes { blocks: 2, ..Sizes::default() }).unwrap();
+    nic.write(RETA.at(0), 5);
+    let kept = nic.snapshot().unwrap();
+    let other = thread::spawn(move || {
+        let other = Nic::open(Sizes::default()).unwrap();
+        other.restore(&kept).unwrap();
+        (other.read(RETA.at(0)), other.sizes().blocks)
+    });
+    nic.write(RETA.at(0), 6);
+    assert_eq!(other.join().unwrap(), (5, 2));
+    assert_eq!(nic.read(RETA.at(0)), 6);
+}

@@ -114,8 +114,10 @@ fn registers() {
     );
     nic.write(MAXFRS, u32::MAX);
     assert_eq!(nic.read(MAXFRS), 0xFFFF_0000);
-    nic.modify(MAXFRS, |word| maxfrs::MFS.put(word, 0x1234));
-    assert_eq!(maxfrs::MFS.of(nic.read(MAXFRS)), 0x1234);
+    nic.write(SRRCTL.at(3), srrctl::DESCTYPE.is(1) | srrctl::BSIZEPACKET.is(2));
+    let kind = srrctl::DESCTYPE.of(nic.read(SRRCTL.at(3)));
+    nic.modify(MAXFRS, |word| maxfrs::MFS.put(word, 9000));
+    assert_eq!((kind, maxfrs::MFS.of(nic.read(MAXFRS)), nic.read(MAXFRS) & 0xFFFF), (1, 9000, 0));
     nic.write(EICS, 5);
     assert_eq!([nic.peek(EICR), nic.peek(EICR), nic.read(EICR), nic.read(EICR)], [5, 5, 5, 0]);
 }

@@ -26,7 +26,7 @@ pub(crate) const MORE: u8 = 38;
 
 /// `struct nic`.
 #[repr(C)]
-struct RawNic {
+pub(crate) struct RawNic {
     device: *mut c_void,
 }
 
@@ -166,6 +166,18 @@ impl Handle {
             DONE => Ok(Handle { raw: UnsafeCell::new(RawNic { device }) }),
             status => Err(status),
         }
+    }
+
+    /// Another handle of the same controller.
+    ///
+    /// # Safety
+    ///
+    /// The pointer is that of an open controller, which stays open as long as this one is used; only one of the two is
+    /// dropped, and none of them restored.
+    #[cfg(feature = "explore")]
+    pub(crate) unsafe fn another(n: *mut RawNic) -> Handle {
+        // SAFETY: it is that of a controller's struct.
+        Handle { raw: UnsafeCell::new(RawNic { device: unsafe { (*n).device } }) }
     }
 
     /// The pointer that the calls take.

@@ -51,6 +51,8 @@
 pub mod desc;
 mod error;
 mod event;
+#[cfg(feature = "explore")]
+pub mod explore;
 mod ffi;
 mod memory;
 mod nic;

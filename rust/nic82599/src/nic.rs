@@ -96,6 +96,11 @@ impl Nic {
         }
     }
 
+    #[cfg(feature = "explore")]
+    pub(crate) fn of(handle: Handle, sizes: Sizes) -> Nic {
+        Nic { handle, sizes: Cell::new(sizes) }
+    }
+
     /// Its sizes, which [`Nic::restore`] may change.
     pub fn sizes(&self) -> Sizes {
         self.sizes.get()

@@ -1,0 +1,409 @@
+//! The calls of `nic82599_explore.h`, and the functions that the explorer calls: all `unsafe` code of the search.
+//!
+//! The explorer is one for the whole process, and runs on the thread that called `nicx_main`: [`run`] lets one caller
+//! in at a time, and `Bus` and `Look` are made here alone, for functions that the explorer calls. Tasks have stacks of
+//! their own. One that a schedule leaves behind is never gone on with, so what it borrowed may end; what lies on its
+//! stack is forgotten, as by `mem::forget`. No panic leaves a function that C calls: each is caught where it came in.
+#![allow(unsafe_code)]
+
+use std::any::Any;
+use std::cell::{Cell, RefCell, UnsafeCell};
+use std::collections::BTreeMap;
+use std::ffi::CString;
+use std::mem::{self, ManuallyDrop};
+use std::os::raw::{c_char, c_int, c_void};
+use std::panic::{self, AssertUnwindSafe};
+use std::ptr;
+use std::rc::Rc;
+use std::sync::{Mutex, PoisonError};
+
+use crate::ffi::{Handle, RawNic};
+use crate::nic::{Nic, Sizes};
+
+pub(super) const ANYWHERE: c_int = -1;
+pub(super) const BESIDE: c_int = -2;
+
+type Function = extern "C" fn(*mut c_void);
+
+/// `struct nicx_scenario`.
+#[repr(C)]
+struct RawScenario {
+    name: *const c_char,
+    vfs: u8,
+    fifo: u16,
+    blocks: u32,
+    queues: u16,
+    bring_up: Option<extern "C" fn() -> *const c_char>,
+    begin: Option<extern "C" fn()>,
+    always: Option<extern "C" fn() -> *const c_char>,
+    end: Option<extern "C" fn() -> *const c_char>,
+    points: u32,
+    stack: u32,
+    allowed: u32,
+}
+
+/// `struct nicx_mutex`.
+#[repr(C)]
+struct RawLock {
+    name: *const c_char,
+    kept: u64,
+}
+
+extern "C" {
+    fn nicx_main(argc: c_int, argv: *mut *mut c_char, scenario: *const RawScenario) -> c_int;
+    fn nicx_task(name: *const c_char, function: Function, argument: *mut c_void) -> c_int;
+    fn nicx_service(name: *const c_char, function: Function, argument: *mut c_void) -> c_int;
+    fn nicx_handler(name: *const c_char, group: u16, vector: u8, function: Function, argument: *mut c_void, at: c_int);
+    fn nicx_frame(frame: *const u8, length: usize);
+    fn nicx_link_change(up: bool);
+    fn nicx_read32(address: u32) -> u32;
+    fn nicx_write32(address: u32, word: u32) -> u8;
+    fn nicx_vf_read32(vf: u8, offset: u32) -> u32;
+    fn nicx_vf_write32(vf: u8, offset: u32, word: u32) -> u8;
+    fn nicx_dma_read(bus: u64, bytes: *mut u8, length: usize) -> u8;
+    fn nicx_dma_write(bus: u64, bytes: *const u8, length: usize) -> u8;
+    fn nicx_lend(block: u32) -> u8;
+    fn nicx_take(block: u32) -> u8;
+    fn nicx_point();
+    fn nicx_wait();
+    fn nicx_wait_until(condition: extern "C" fn(*mut c_void) -> bool, argument: *mut c_void);
+    fn nicx_pause();
+    fn nicx_lock(lock: *mut RawLock);
+    fn nicx_unlock(lock: *mut RawLock);
+    fn nicx_interrupts_off();
+    fn nicx_interrupts_on();
+    fn nicx_fail(words: *const c_char);
+    fn nicx_device() -> *mut RawNic;
+    fn nicx_lend_all() -> u8;
+    fn nicx_settle();
+    fn nicx_close();
+}
+
+/// What a scenario does when the explorer asks: why something is wrong, or `None`.
+pub(super) trait Driven {
+    fn sizes(&self) -> Sizes;
+    fn bring_up(&self) -> Option<String>;
+    fn begin(&self);
+    fn always(&self, device: &Nic) -> Option<String>;
+    fn end(&self, device: &Nic) -> Option<String>;
+}
+
+/// How a scenario is run.
+pub(super) struct Settings<'a> {
+    pub(super) name: &'a str,
+    pub(super) vfs: u8,
+    pub(super) fifo: u16,
+    pub(super) blocks: u32,
+    pub(super) queues: u16,
+    pub(super) points: u32,
+    pub(super) stack: u32,
+    pub(super) allowed: u32,
+}
+
+/// A task or a handler, as the explorer has it by its address.
+struct Thread {
+    function: Box<dyn Fn()>,
+}
+
+/// What runs on this thread.
+struct Running {
+    is_quiet: bool,
+    driven: *const dyn Driven,
+    /// The tasks and handlers of the schedule.
+    threads: RefCell<Vec<Rc<Thread>>>,
+    /// Names, which the explorer keeps by their address.
+    names: RefCell<BTreeMap<String, CString>>,
+    /// The words that were told last.
+    words: RefCell<CString>,
+}
+
+thread_local! {
+    static RUNNING: Cell<*const Running> = const { Cell::new(ptr::null()) };
+}
+
+static ONE: Mutex<()> = Mutex::new(());
+
+/// A text as C has it; what can't be told stands as a question mark.
+fn text(words: &str) -> CString {
+    CString::new(words.replace('\0', "?")).unwrap_or_default()
+}
+
+impl Running {
+    fn name(&self, name: &str) -> *const c_char {
+        let mut names = self.names.borrow_mut();
+        names.entry(name.to_owned()).or_insert_with(|| text(name)).as_ptr()
+    }
+
+    /// Words that stay until the next ones are told, in one line, as the files of a failure have them.
+    fn tell(&self, words: &str) -> *const c_char {
+        *self.words.borrow_mut() = text(&words.split_whitespace().collect::<Vec<_>>().join(" "));
+        self.words.borrow().as_ptr()
+    }
+
+    fn thread(&self, function: Box<dyn Fn()>) -> *mut c_void {
+        let thread = Rc::new(Thread { function });
+        let address = Rc::as_ptr(&thread);
+        self.threads.borrow_mut().push(thread);
+        address as *mut c_void
+    }
+}
+
+/// Whether a search is running on this thread.
+pub(super) fn is_running() -> bool {
+    RUNNING.with(|it| !it.get().is_null())
+}
+
+/// Whether panics are failures here that the search tells, and aren't printed.
+pub(super) fn is_quiet() -> bool {
+    is_running() && running(|it| it.is_quiet)
+}
+
+/// What runs here, for a function that the explorer called. Outside of a search it panics.
+fn running<T>(action: impl FnOnce(&Running) -> T) -> T {
+    let it = RUNNING.with(Cell::get);
+    assert!(!it.is_null(), "a call of the search outside of it");
+    // SAFETY: it isn't null, so `run` is below on this thread and keeps it until it has put null here.
+    action(unsafe { &*it })
+}
+
+/// What the scenario does; a panic of it is told as what is wrong.
+fn driven(action: impl FnOnce(&dyn Driven) -> Option<String>) -> *const c_char {
+    // SAFETY: `run` has it by reference as long as the search runs.
+    let told = running(|it| caught(|| action(unsafe { &*it.driven })));
+    match told {
+        Ok(None) => ptr::null(),
+        Ok(Some(words)) | Err(words) => running(|it| it.tell(&words)),
+    }
+}
+
+/// The result of an action, or the words of its panic.
+fn caught<T>(action: impl FnOnce() -> T) -> Result<T, String> {
+    panic::catch_unwind(AssertUnwindSafe(action)).map_err(|panic| words_of(&*panic))
+}
+
+fn words_of(panic: &(dyn Any + Send)) -> String {
+    let words = panic.downcast_ref::<&str>().map(|it| (*it).to_owned());
+    words.or_else(|| panic.downcast_ref::<String>().cloned()).unwrap_or_else(|| "a panic".to_owned())
+}
+
+extern "C" fn bring_up() -> *const c_char {
+    driven(|it| it.bring_up())
+}
+
+extern "C" fn begin() {
+    // What the last schedule left behind isn't gone on with.
+    running(|it| it.threads.borrow_mut().clear());
+    let wrong = driven(|it| {
+        it.begin();
+        None
+    });
+    if !wrong.is_null() {
+        // SAFETY: the words are a string that stays until the next ones.
+        unsafe { nicx_fail(wrong) }
+    }
+}
+
+extern "C" fn always() -> *const c_char {
+    with_device(|it, device| it.always(device))
+}
+
+extern "C" fn end() -> *const c_char {
+    with_device(|it, device| it.end(device))
+}
+
+fn with_device(action: impl FnOnce(&dyn Driven, &Nic) -> Option<String>) -> *const c_char {
+    // SAFETY: the explorer's controller is open while it calls these. A copy of the struct is the same controller, and
+    // this one isn't dropped; a `Look` only looks at it, so the struct itself isn't changed.
+    let device = ManuallyDrop::new(unsafe { Handle::another(nicx_device()) });
+    driven(|it| {
+        let nic = ManuallyDrop::new(Nic::of(ManuallyDrop::into_inner(device), it.sizes()));
+        action(it, &nic)
+    })
+}
+
+extern "C" fn go(argument: *mut c_void) {
+    // SAFETY: it is the address of a thread of this schedule, which is kept until the next one begins.
+    let thread = unsafe { &*argument.cast::<Thread>() };
+    if let Err(words) = caught(|| (thread.function)()) {
+        let words = running(|it| it.tell(&words));
+        // SAFETY: the words are a string that stays until the next ones. It doesn't return, and nothing here has to be
+        // dropped.
+        unsafe { nicx_fail(words) }
+    }
+}
+
+extern "C" fn holds<F: Fn() -> bool>(argument: *mut c_void) -> bool {
+    // SAFETY: it is the address of the condition in `wait_until`, which stands on the stack of the task that waits.
+    let condition = unsafe { &*argument.cast::<F>() };
+    // A condition that panics ends the process, which the search takes for a crash.
+    caught(condition).unwrap_or_else(|_| std::process::abort())
+}
+
+/// Searches as the words say: the explorer's exit status.
+pub(super) fn run(driven: &dyn Driven, settings: &Settings<'_>, words: &[String], is_quiet: bool) -> c_int {
+    let _one = ONE.lock().unwrap_or_else(PoisonError::into_inner);
+    let name = text(settings.name);
+    let words: Vec<CString> = words.iter().map(|it| text(it)).collect();
+    let mut argv: Vec<*mut c_char> =
+        words.iter().map(|it| it.as_ptr() as *mut c_char).chain([ptr::null_mut()]).collect();
+    let scenario = RawScenario {
+        name: name.as_ptr(),
+        vfs: settings.vfs,
+        fifo: settings.fifo,
+        blocks: settings.blocks,
+        queues: settings.queues,
+        bring_up: Some(bring_up),
+        begin: Some(begin),
+        always: Some(always),
+        end: Some(end),
+        points: settings.points,
+        stack: settings.stack,
+        allowed: settings.allowed,
+    };
+    // SAFETY: only the lifetime is changed, which `RUNNING` ends before this function returns.
+    let driven: &'static dyn Driven = unsafe { mem::transmute::<&dyn Driven, _>(driven) };
+    let (threads, names, words_told) = (RefCell::default(), RefCell::default(), RefCell::default());
+    let running = Running { is_quiet, driven, threads, names, words: words_told };
+    RUNNING.with(|it| it.set(&running));
+    // SAFETY: the words are strings and end with a null; the scenario and all that it points to stay until the call is
+    // over; no other search is at work in the process, since `ONE` is held.
+    let status = unsafe { nicx_main(words.len() as c_int, argv.as_mut_ptr(), &scenario) };
+    // SAFETY: no schedule is at work. (A scenario that was refused is open still, and closing twice does nothing.)
+    unsafe { nicx_close() };
+    RUNNING.with(|it| it.set(ptr::null()));
+    status
+}
+
+// --- in `begin` ---
+
+pub(super) fn task(name: &str, is_service: bool, function: Box<dyn Fn()>) -> c_int {
+    let (name, argument) = running(|it| (it.name(name), it.thread(function)));
+    // SAFETY: name and argument stay until the next schedule begins.
+    unsafe {
+        match is_service {
+            true => nicx_service(name, go, argument),
+            false => nicx_task(name, go, argument),
+        }
+    }
+}
+
+pub(super) fn handler(name: &str, group: u16, vector: u8, at: c_int, function: Box<dyn Fn()>) {
+    let (name, argument) = running(|it| (it.name(name), it.thread(function)));
+    // SAFETY: name and argument stay until the next schedule begins.
+    unsafe { nicx_handler(name, group, vector, go, argument, at) }
+}
+
+pub(super) fn frame(frame: &[u8]) {
+    // SAFETY: the frame has as many bytes as its length, and they are copied.
+    unsafe { nicx_frame(frame.as_ptr(), frame.len()) }
+}
+
+pub(super) fn link_change(up: bool) {
+    // SAFETY: it takes no pointer.
+    unsafe { nicx_link_change(up) }
+}
+
+// --- in tasks and handlers; a `Bus` is only in their hands, and in those of `bring_up` ---
+
+pub(super) fn read32(address: u32) -> u32 {
+    // SAFETY: it takes no pointer.
+    unsafe { nicx_read32(address) }
+}
+
+pub(super) fn write32(address: u32, word: u32) -> u8 {
+    // SAFETY: it takes no pointer.
+    unsafe { nicx_write32(address, word) }
+}
+
+pub(super) fn vf_read32(vf: u8, offset: u32) -> u32 {
+    // SAFETY: it takes no pointer.
+    unsafe { nicx_vf_read32(vf, offset) }
+}
+
+pub(super) fn vf_write32(vf: u8, offset: u32, word: u32) -> u8 {
+    // SAFETY: it takes no pointer.
+    unsafe { nicx_vf_write32(vf, offset, word) }
+}
+
+pub(super) fn dma_read(bus: u64, bytes: &mut [u8]) -> u8 {
+    // SAFETY: the buffer has as many bytes as its length.
+    unsafe { nicx_dma_read(bus, bytes.as_mut_ptr(), bytes.len()) }
+}
+
+pub(super) fn dma_write(bus: u64, bytes: &[u8]) -> u8 {
+    // SAFETY: the buffer has as many bytes as its length.
+    unsafe { nicx_dma_write(bus, bytes.as_ptr(), bytes.len()) }
+}
+
+pub(super) fn lend(block: u32) -> u8 {
+    // SAFETY: it takes no pointer.
+    unsafe { nicx_lend(block) }
+}
+
+pub(super) fn take(block: u32) -> u8 {
+    // SAFETY: it takes no pointer.
+    unsafe { nicx_take(block) }
+}
+
+pub(super) fn point() {
+    // SAFETY: it takes no pointer.
+    unsafe { nicx_point() }
+}
+
+pub(super) fn wait() {
+    // SAFETY: it takes no pointer.
+    unsafe { nicx_wait() }
+}
+
+pub(super) fn wait_until<F: Fn() -> bool>(condition: &F) {
+    // SAFETY: the condition stays on this stack while the task waits, and `holds` takes it for what it is.
+    unsafe { nicx_wait_until(holds::<F>, condition as *const F as *mut c_void) }
+}
+
+pub(super) fn pause() {
+    // SAFETY: it takes no pointer.
+    unsafe { nicx_pause() }
+}
+
+pub(super) fn interrupts(on: bool) {
+    // SAFETY: they take no pointer.
+    unsafe {
+        match on {
+            true => nicx_interrupts_on(),
+            false => nicx_interrupts_off(),
+        }
+    }
+}
+
+pub(super) fn lend_all() -> u8 {
+    // SAFETY: it takes no pointer.
+    unsafe { nicx_lend_all() }
+}
+
+pub(super) fn settle() {
+    // SAFETY: it takes no pointer.
+    unsafe { nicx_settle() }
+}
+
+/// A lock, with its name for reports. It isn't `Sync`, since it has a cell.
+pub(super) struct Lock {
+    raw: UnsafeCell<RawLock>,
+    _name: CString,
+}
+
+impl Lock {
+    pub(super) fn new(name: &str) -> Lock {
+        let name = text(name);
+        Lock { raw: UnsafeCell::new(RawLock { name: name.as_ptr(), kept: 0 }), _name: name }
+    }
+
+    pub(super) fn lock(&self) {
+        // SAFETY: the lock and its name stay as long as this one, which is borrowed; the explorer alone changes it.
+        unsafe { nicx_lock(self.raw.get()) }
+    }
+
+    pub(super) fn unlock(&self) {
+        // SAFETY: as above.
+        unsafe { nicx_unlock(self.raw.get()) }
+    }
+}

@@ -1,0 +1,168 @@
+/* Each access of the driver to a ring of descriptors is a point of the explorer. Its files that touch rings are compiled
+   with -fsanitize=thread: the compiler then calls the functions below before each access of memory. The sanitizer's own
+   library isn't linked, so these are all there is. What lies in no ring is none of ours.
+
+   A ring has two copies: the process's, which the driver accesses, and the bench's. Before a load the bytes come from
+   the bench. A store is seen by the bench at the next access, of whatever: nobody else acts between. */
+#include <string.h>
+
+#include "explore.h"
+
+enum { MOST_RINGS = 4 };
+
+static struct ring {
+    volatile uint8_t *at;
+    uint64_t bus;
+    size_t length;
+} rings[MOST_RINGS];
+static unsigned int count;
+
+static struct {
+    uint64_t bus;
+    volatile uint8_t *at;
+    size_t length;
+} stored;
+
+void points_begin(void)
+{
+    count = 0;
+    stored.length = 0;
+}
+
+void points_ring(volatile void *at, uint64_t bus, size_t length)
+{
+    if (count < MOST_RINGS)
+        rings[count++] = (struct ring){at, bus, length};
+}
+
+void points_flush(void)
+{
+    uint8_t bytes[16];
+    size_t length = stored.length;
+    if (!length)
+        return;
+    stored.length = 0;
+    memcpy(bytes, (const uint8_t *)(uintptr_t)stored.at, length);
+    nicx_dma_write(stored.bus, bytes, length);
+}
+
+static const struct ring *ring_of(const volatile uint8_t *at)
+{
+    for (unsigned int k = 0; k < count; k++)
+        if (at >= rings[k].at && at < rings[k].at + rings[k].length)
+            return &rings[k];
+    return NULL;
+}
+
+static void load(volatile uint8_t *at, size_t length)
+{
+    const struct ring *ring = ring_of(at);
+    if (!ring)
+        return;
+    points_flush();
+    nicx_dma_read(ring->bus + (uint64_t)(at - ring->at), (uint8_t *)(uintptr_t)at, length);
+}
+
+static void store(volatile uint8_t *at, size_t length)
+{
+    const struct ring *ring = ring_of(at);
+    if (!ring)
+        return;
+    points_flush();
+    stored.bus = ring->bus + (uint64_t)(at - ring->at);
+    stored.at = at;
+    stored.length = length;
+}
+
+/* ---- what the compiler calls ---- */
+
+#define ACCESS(name, what, size)                                                                                        \
+    void name(void *at);                                                                                               \
+    void name(void *at)                                                                                                \
+    {                                                                                                                  \
+        what(at, size);                                                                                                \
+    }
+
+#define ACCESSES(size)                                                                                                  \
+    ACCESS(__tsan_read##size, load, size)                                                                              \
+    ACCESS(__tsan_write##size, store, size)                                                                            \
+    ACCESS(__tsan_volatile_read##size, load, size)                                                                     \
+    ACCESS(__tsan_volatile_write##size, store, size)
+
+#define UNALIGNED(size)                                                                                                 \
+    ACCESS(__tsan_unaligned_read##size, load, size)                                                                    \
+    ACCESS(__tsan_unaligned_write##size, store, size)                                                                  \
+    ACCESS(__tsan_unaligned_volatile_read##size, load, size)                                                           \
+    ACCESS(__tsan_unaligned_volatile_write##size, store, size)
+
+ACCESSES(1)
+ACCESSES(2)
+ACCESSES(4)
+ACCESSES(8)
+ACCESSES(16)
+UNALIGNED(2)
+UNALIGNED(4)
+UNALIGNED(8)
+UNALIGNED(16)
+
+/* Longer ones, descriptor by descriptor. */
+static void each(void (*what)(volatile uint8_t *, size_t), volatile uint8_t *at, size_t length)
+{
+    for (size_t done = 0; done < length; done += 16)
+        what(at + done, length - done < 16 ? length - done : 16);
+}
+
+void __tsan_read_range(void *at, size_t length);
+void __tsan_read_range(void *at, size_t length)
+{
+    each(load, at, length);
+}
+
+void __tsan_write_range(void *at, size_t length);
+void __tsan_write_range(void *at, size_t length)
+{
+    each(store, at, length);
+}
+
+void __tsan_init(void);
+void __tsan_init(void)
+{
+}
+
+/* Atomic operations, of counters of references alone: they are made as they are. */
+#define ATOMIC(bits, type)                                                                                              \
+    type __tsan_atomic##bits##_load(const volatile type *at, int order);                                               \
+    type __tsan_atomic##bits##_load(const volatile type *at, int order)                                                \
+    {                                                                                                                  \
+        (void)order;                                                                                                   \
+        return __atomic_load_n(at, __ATOMIC_SEQ_CST);                                                                  \
+    }                                                                                                                  \
+    void __tsan_atomic##bits##_store(volatile type *at, type value, int order);                                        \
+    void __tsan_atomic##bits##_store(volatile type *at, type value, int order)                                         \
+    {                                                                                                                  \
+        (void)order;                                                                                                   \
+        __atomic_store_n(at, value, __ATOMIC_SEQ_CST);                                                                 \
+    }                                                                                                                  \
+    type __tsan_atomic##bits##_fetch_add(volatile type *at, type value, int order);                                    \
+    type __tsan_atomic##bits##_fetch_add(volatile type *at, type value, int order)                                     \
+    {                                                                                                                  \
+        (void)order;                                                                                                   \
+        return __atomic_fetch_add(at, value, __ATOMIC_SEQ_CST);                                                        \
+    }                                                                                                                  \
+    type __tsan_atomic##bits##_fetch_sub(volatile type *at, type value, int order);                                    \
+    type __tsan_atomic##bits##_fetch_sub(volatile type *at, type value, int order)                                     \
+    {                                                                                                                  \
+        (void)order;                                                                                                   \
+        return __atomic_fetch_sub(at, value, __ATOMIC_SEQ_CST);                                                        \
+    }
+
+ATOMIC(16, uint16_t)
+ATOMIC(32, uint32_t)
+ATOMIC(64, uint64_t)
+
+void __tsan_atomic_thread_fence(int order);
+void __tsan_atomic_thread_fence(int order)
+{
+    (void)order;
+    __atomic_thread_fence(__ATOMIC_SEQ_CST);
+}

@@ -75,6 +75,21 @@ def check_opening(look: Look) -> None:
     look.is_at(look.count // 2, f"#{look.count // 2}")
 
 
+def check_finding(look: Look) -> None:
+    """That an explorer's script opens at the step of its finding, whose words stand on top, and that it says who acts."""
+    found = look.data["finding"]
+    look.browser.size(1_280, 800, False)
+    look.browser.load(look.file)
+    look.is_at(found["step"], "opening a finding")
+    shown = look.browser.value("document.getElementById('finding').innerText")
+    look.expect(found["words"] in shown and found["outcome"] in shown, f"its finding isn't on top: {shown}")
+    title = look.browser.value("document.getElementById('now-title').innerText")
+    look.expect("task poll" in title, f"who acts isn't told: {title}")
+    look.browser.load(look.file, "#start")
+    look.browser.value("document.querySelector('#finding button').click()")
+    look.is_at(found["step"], "the finding's button")
+
+
 def check_next(look: Look) -> None:
     """That `f` stops at each step that went wrong and at no other, and that each has a mark that a click hits."""
     browser, numbers = look.browser, [number for number in range(look.count) if look.kind(number) in TROUBLE]

@@ -73,6 +73,27 @@ def check_files(kit: Kit, source: Path, program: Path, out: Path) -> None:
         last = ran([kit.nicbench, "run", "--vfs", vfs_of(source)], stdin=script).splitlines()[-1]
     if not last.startswith("ok "):
         raise Wrong(f"{name}: its script ends with {last}")
+    check_script(kit, out / f"{name}.nic")
+
+
+ACCESS = re.compile(r"[rw] (\S+)")
+
+
+def check_script(kit: Kit, path: Path) -> None:
+    """A script of a failure has registers by names that the bench reads, and what failed as its last line."""
+    lines = path.read_text().splitlines()
+    accesses = [found[1] for line in lines if (found := ACCESS.match(line))]
+    if not accesses or any(one.startswith("0x") for one in accesses):
+        raise Wrong(f"{path}: registers without names: {[one for one in accesses if one.startswith('0x')]}")
+    if not re.fullmatch(r"# FAILED \w+: .+", lines[-1]) or lines[-1][len("# FAILED ") :] != lines[0][2:]:
+        raise Wrong(f"{path} ends with {lines[-1]}, and begins with {lines[0]}")
+    if any(line and not line.startswith(("#", "data ", "expect ")) and "#" not in line for line in lines):
+        raise Wrong(f"{path} has a step of which it isn't told who made it")
+
+
+def check_names(kit: Kit) -> str:
+    """Each address of the register table, and each offset of a function, has its name; others have none."""
+    return ran([kit.build(HERE / "tests/names.c")]).strip()
 
 
 def check_corpus(kit: Kit, runs: int, preemptions: int, each: int = 1) -> str:
@@ -234,6 +255,7 @@ def sanitized_explorer(folder: Path, compiler: str, flags: list[str]) -> Path:
 def check_quickly(kit: Kit, few: bool) -> list[str]:
     """All that is here, in some seconds; under the sanitizers less of it."""
     return [
+        check_names(kit),
         check_faults(kit),
         check_refusals(kit),
         check_orders(kit, 100 if few else 1000),

@@ -40,5 +40,7 @@ struct script {
 
 void nicxi_script_begin(struct script *script, FILE *file, const struct origin *origin);
 void nicxi_script_step(struct script *script, uint16_t actor, const struct step *step);
+/* The last line, behind the step at which the run failed: nicview shows its words on top of its page. */
+void nicxi_script_end(FILE *file, const nicx_result *result);
 
 #endif

@@ -136,6 +136,7 @@ static void keep(const struct options *options, const struct failure *failure, c
         nicxi_write_head(it.schedule, &origin);
         nicxi_script_begin(&it.script, script, &origin);
         nicxi_do(post, options->hang, write_files, &it);
+        nicxi_script_end(script, &failure->result);
     }
     if (it.schedule)
         fclose(it.schedule);

@@ -10,7 +10,9 @@ enum { MOST_LINE = 512 };
 
 void nicxi_write_head(FILE *file, const struct origin *origin)
 {
-    fprintf(file, "# %s: %s\n", nicxi_outcome_name(origin->result->outcome), origin->result->words);
+    char words[sizeof origin->result->words];
+    nicxi_plain(origin->result->words, words, sizeof words);
+    fprintf(file, "# %s: %s\n", nicxi_outcome_name(origin->result->outcome), words);
     fprintf(file, "# found by %s in run %" PRIu64 " of seed %" PRIu64 "; who acts at each point:\n", origin->strategy,
             origin->run, origin->seed);
     fprintf(file, "scenario %s\n", nicxi.scenario->name);

@@ -4,27 +4,44 @@
 #include <string.h>
 
 #include "files.h"
+#include "names.h"
 #include "words.h"
 
 enum { MOST_INSTRUCTIONS = 4096, MOST_STRINGS = 1024, MOST_BLOCKS = 256, CHECKED = 64 };
 
+/* The script ends here, before the run does. */
+static void refuse(struct script *script, const char *why)
+{
+    script->unfit = why;
+    fprintf(script->file, "# CUT: %s\n", why);
+}
+
 void nicxi_script_begin(struct script *script, FILE *file, const struct origin *origin)
 {
+    char words[sizeof origin->result->words];
     const nicx_scenario *scenario = nicxi.scenario;
     memset(script, 0, sizeof *script);
     script->file = file;
-    if (scenario->blocks > MOST_BLOCKS)
-        script->unfit = "a script has 256 blocks, and the scenario more";
-    fprintf(file, "# %s: %s\n", nicxi_outcome_name(origin->result->outcome), origin->result->words);
+    nicxi_plain(origin->result->words, words, sizeof words);
+    fprintf(file, "# %s: %s\n", nicxi_outcome_name(origin->result->outcome), words);
     fprintf(file, "# The device's side of a schedule of scenario %s, by: nicbench run --vfs %u --fifo %u\n",
             scenario->name, scenario->vfs, scenario->fifo);
+    if (scenario->blocks > MOST_BLOCKS)
+        refuse(script, "a script has 256 blocks, and the scenario more");
+}
+
+void nicxi_script_end(FILE *file, const nicx_result *result)
+{
+    char words[sizeof result->words];
+    nicxi_plain(result->words, words, sizeof words);
+    fprintf(file, "# FAILED %s: %s\n", nicxi_outcome_name(result->outcome), words);
 }
 
 /* Whether the script has room for an instruction, which is counted. */
 static bool has_room(struct script *script)
 {
     if (!script->unfit && script->instructions == MOST_INSTRUCTIONS)
-        script->unfit = "a script has 4,096 instructions, and the run more";
+        refuse(script, "a script has 4,096 instructions, and the run more");
     script->instructions += !script->unfit;
     return !script->unfit;
 }
@@ -43,7 +60,8 @@ static void with_reply(struct script *script, uint16_t actor, const char *text, 
     char reply[MOST_WORDS];
     if (!has_room(script))
         return;
-    fprintf(script->file, "%-28s # %s%s\n", text, actor == NOBODY ? "bring-up: " : "", nicxi_reply(step, reply));
+    const char *who = actor == NOBODY ? "bring-up" : step->kind >= STEP_ARRIVE ? "link" : "device";
+    fprintf(script->file, "%-28s # %s: %s\n", text, who, nicxi_reply(step, reply));
 }
 
 static void expect(struct script *script, uint32_t word, uint32_t mask)
@@ -56,7 +74,7 @@ static void expect(struct script *script, uint32_t word, uint32_t mask)
 static uint32_t data(struct script *script, const uint8_t *bytes, size_t length)
 {
     if (!script->unfit && script->strings == MOST_STRINGS)
-        script->unfit = "a script has 1,024 data strings, and the run more";
+        refuse(script, "a script has 1,024 data strings, and the run more");
     if (script->unfit)
         return 0;
     fprintf(script->file, "data d%" PRIu32 " ", script->strings);
@@ -103,17 +121,30 @@ static void poke(struct script *script, uint16_t actor, const struct step *step)
 
 /* --- each step --- */
 
+/* The script language has no names for the offsets of a function: its register's stands behind who accessed it. */
+static void of_function(struct script *script, uint16_t actor, const char *text, const char *name)
+{
+    char room[96];
+    const char *who = actor == NOBODY ? "bring-up" : nicx_actor_name(actor, room);
+    if (has_room(script))
+        fprintf(script->file, "%-28s # %s: %s\n", text, who, name);
+}
+
 static void access_registers(struct script *script, uint16_t actor, const struct step *step)
 {
-    char text[64];
-    unsigned vf = step->vf, address = step->address, word = step->word;
+    char text[64], name[MOST_NAME], number[MOST_NAME];
+    unsigned vf = step->vf, address = step->address;
+    snprintf(number, sizeof number, step->word < 10 ? "%" PRIu32 : "0x%" PRIx32, step->word);
     switch (step->kind) {
-    case STEP_READ: snprintf(text, sizeof text, "r 0x%05x", address); break;
+    case STEP_READ: snprintf(text, sizeof text, "r %s", nicxi_register(address, name)); break;
     case STEP_VF_READ: snprintf(text, sizeof text, "vr %u 0x%x", vf, address); break;
-    case STEP_WRITE: snprintf(text, sizeof text, "w 0x%05x 0x%08x", address, word); break;
-    default: snprintf(text, sizeof text, "vw %u 0x%x 0x%08x", vf, address, word); break;
+    case STEP_WRITE: snprintf(text, sizeof text, "w %s %s", nicxi_register(address, name), number); break;
+    default: snprintf(text, sizeof text, "vw %u 0x%x %s", vf, address, number); break;
     }
-    line(script, actor, text);
+    if (step->kind == STEP_VF_READ || step->kind == STEP_VF_WRITE)
+        of_function(script, actor, text, nicxi_offset(address, name));
+    else
+        line(script, actor, text);
     if (step->kind == STEP_READ || step->kind == STEP_VF_READ)
         expect(script, step->word, 0xFFFFFFFFu);
 }

@@ -2,6 +2,8 @@
 
 #include <stdio.h>
 
+#include "names.h"
+
 static const char *told_words(const struct step *step, char *room)
 {
     const nic_told *told = &step->told;
@@ -35,29 +37,54 @@ static const char *local_words(uint32_t local)
     return local < sizeof words / sizeof *words ? words[local] : "";
 }
 
+/* An access of a register, by its name. */
+static const char *access_words(const struct step *step, const char *stray, char *room)
+{
+    char name[MOST_NAME];
+    unsigned vf = step->vf, word = step->word;
+    switch (step->kind) {
+    case STEP_READ:
+        snprintf(room, MOST_WORDS, "r %s = 0x%08x%s", nicxi_register(step->address, name), word, stray);
+        break;
+    case STEP_WRITE:
+        snprintf(room, MOST_WORDS, "w %s 0x%08x%s", nicxi_register(step->address, name), word, stray);
+        break;
+    case STEP_VF_READ:
+        snprintf(room, MOST_WORDS, "vr %u %s = 0x%08x%s", vf, nicxi_offset(step->address, name), word, stray);
+        break;
+    default:
+        snprintf(room, MOST_WORDS, "vw %u %s 0x%08x%s", vf, nicxi_offset(step->address, name), word, stray);
+        break;
+    }
+    return room;
+}
+
 const char *nicxi_words(const struct step *step, char room[MOST_WORDS])
 {
     const char *stray = step->status == NIC_STRAY ? " (stray)" : step->status == NIC_NOT_LENT ? " (not lent)" : "";
-    unsigned address = step->address, word = step->word;
     unsigned long long bus = step->bus;
     switch (step->kind) {
     case STEP_LOCAL: return local_words(step->word);
     case STEP_START: return "starts";
-    case STEP_READ: snprintf(room, MOST_WORDS, "r 0x%05x = 0x%08x%s", address, word, stray); return room;
-    case STEP_WRITE: snprintf(room, MOST_WORDS, "w 0x%05x 0x%08x%s", address, word, stray); return room;
+    case STEP_READ:
+    case STEP_WRITE:
     case STEP_VF_READ:
-        snprintf(room, MOST_WORDS, "vr %u 0x%04x = 0x%08x%s", step->vf, address, word, stray);
-        return room;
-    case STEP_VF_WRITE:
-        snprintf(room, MOST_WORDS, "vw %u 0x%04x 0x%08x%s", step->vf, address, word, stray);
-        return room;
+    case STEP_VF_WRITE: return access_words(step, stray, room);
     case STEP_PEEK: snprintf(room, MOST_WORDS, "peek 0x%05llx, %u bytes%s", bus, step->length, stray); return room;
     case STEP_POKE: snprintf(room, MOST_WORDS, "poke 0x%05llx, %u bytes%s", bus, step->length, stray); return room;
-    case STEP_LEND: snprintf(room, MOST_WORDS, "lend %u%s", address, stray); return room;
-    case STEP_TAKE: snprintf(room, MOST_WORDS, "unlend %u%s", address, stray); return room;
+    case STEP_LEND: snprintf(room, MOST_WORDS, "lend %u%s", step->address, stray); return room;
+    case STEP_TAKE: snprintf(room, MOST_WORDS, "unlend %u%s", step->address, stray); return room;
     case STEP_LINK: return step->word ? "link up" : "link down";
     default: return told_words(step, room);
     }
+}
+
+void nicxi_plain(const char *words, char *room, unsigned size)
+{
+    unsigned at = 0;
+    for (; words[at] && at + 1 < size; at++)
+        room[at] = words[at] < ' ' || words[at] > '~' ? '?' : words[at];
+    room[at] = 0;
 }
 
 const char *nicxi_outcome_name(uint8_t outcome)

@@ -6,12 +6,15 @@
 
 enum { MOST_WORDS = 160 };
 
-/* What an actor did and what came of it, as "r 0x00800, word 0x00000020". */
+/* What an actor did and what came of it, as "r EICR = 0x00000020". */
 const char *nicxi_words(const struct step *step, char room[MOST_WORDS]);
 
 /* What a step of the device answered, as a run of a script prints it. */
 const char *nicxi_reply(const struct step *step, char room[MOST_WORDS]);
 
 const char *nicxi_outcome_name(uint8_t outcome);
+
+/* Words of the driver's for a line of a file: what is no printable ASCII is a question mark. */
+void nicxi_plain(const char *words, char *room, unsigned size);
 
 #endif

@@ -120,6 +120,7 @@ def text(run: Run) -> Iterator[str]:
     """The lines of a run."""
     state = State(run)
     drawn: dict[str, list[str]] = {}
+    yield from finding_lines(run)
     yield "D the device's slot, + done, . the driver's; H head, T tail, B both"
     for step, why in zip(run.steps, run.reasons):
         state.make(step)
@@ -143,6 +144,17 @@ def text(run: Run) -> Iterator[str]:
     yield ""
     yield run.last
     yield from (f"note: {note}" for note in run.notes)
+
+
+def finding_lines(run: Run) -> Iterator[str]:
+    """What an explorer's script says of itself."""
+    found = run.finding
+    if found is None:
+        return
+    where = "" if found.step is None else f", after step {found.step}"
+    yield f"FAILED {found.outcome}{where}: {found.words}"
+    if found.cut:
+        yield f"  the script ends before that: {found.cut}"
 
 
 def _frame_lines(run: Run, step: Step) -> Iterator[str]:

@@ -124,7 +124,9 @@ function showChanges(n, state, changes, more) {
 
 function showNow(n, state) {
   const now = element("now");
-  element("now-title").textContent = n ? `Step ${n - 1}, line ${run.line_of[run.steps[n - 1][0]]}` : "At the start";
+  const pcOf = n ? run.steps[n - 1][0] : -1, said = n ? run.comments[pcOf] : "";
+  const title = n ? `Step ${n - 1}, line ${run.line_of[pcOf]}` : "At the start";
+  element("now-title").replaceChildren(title, ...(said ? [" \u00b7 ", span("who", said)] : []));
   if (!n) {
     element("answer").replaceChildren(`${count} steps; the last line is `, make("code", {}, run.last));
     for (const id of ["now", "changes", "moved"]) element(id).replaceChildren();
@@ -274,6 +276,19 @@ function showHits() {
   hits.replaceChildren(make("p", { className: "mono" }, place), ...found.slice(0, 200), faint(more));
 }
 
+// What an explorer's script says of itself: how its run failed, and at which step.
+function showFinding() {
+  const found = run.finding, line = element("finding");
+  line.hidden = !found;
+  if (!found) return;
+  const button = make("button", { title: "goes to the step at which it failed" }, `step ${found.step}`);
+  button.addEventListener("click", () => show(found.step + 1));
+  const cut = found.cut ? [faintly(`The script ends before that: ${found.cut}.`)] : [];
+  line.replaceChildren(make("strong", {}, `FAILED ${found.outcome}`), make("span", {}, found.words),
+    ...(found.step === null ? [] : [button]), ...cut);
+}
+const faintly = (text) => span("faint", text);
+
 // Moving.
 
 function show(n) {
@@ -365,6 +380,7 @@ function drawMarks() {
 function begin() {
   element("name").textContent = run.name;
   element("options").textContent = run.options.join(" ");
+  showFinding();
   element("slider").max = count;
   element("names").append(...[...registers.values()].map(([name]) => make("option", { value: name })));
   for (const button of document.querySelectorAll("[data-next]")) {

@@ -184,6 +184,8 @@ class Data:
             "descriptors": _descriptors(run),
             "fifo": run.fifo,
             "last": run.last,
+            "finding": vars(run.finding) if run.finding else None,
+            "comments": [run.comment(pc) for pc in range(len(run.line_of))],
             "notes": run.notes,
         }
 

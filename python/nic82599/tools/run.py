@@ -10,14 +10,26 @@ those of the rings. A step's `pc` is an index of `line_of`; several steps may ha
 
 from __future__ import annotations
 
+import re
 from dataclasses import dataclass
 from pathlib import Path
 
 from .about import give_rings
 from .memory import Seen, look
 from .reasons import Reason, Reasons
-from .script import Bench, comment_of, instruction_of
+from .script import Bench, comment_of, instruction_of, read_text
 from .trace import Step, Trace, trace
+
+
+@dataclass
+class Finding:
+    """What an explorer's script says of itself: how the run failed, in words, at which step; and why the script ends
+    before that, if it does."""
+
+    outcome: str
+    words: str
+    step: int | None
+    cut: str = ""
 
 
 @dataclass
@@ -38,6 +50,7 @@ class Run:
     vfs: int
     fifo: int
     options: list[str]
+    finding: Finding | None = None
 
     def shown(self, pc: int) -> str:
         """What a step does, without its comment."""
@@ -49,9 +62,44 @@ class Run:
 
     @property
     def opening(self) -> int | None:
-        """The first step that failed, met a fault, dropped a frame or was refused; else the last, if there is one."""
+        """The step of the finding; else the first step that failed, met a fault, dropped a frame or was refused; else
+        the last, if there is one."""
+        if self.finding and self.finding.step is not None and not self.last.startswith("failed"):
+            return self.finding.step
         numbers = [step.number for step in self.steps if step.is_trouble]
         return numbers[0] if numbers else self.steps[-1].number if self.steps else None
+
+
+FAILED = re.compile(r"\s*# FAILED (\w+): (.*)")
+CUT = re.compile(r"\s*# CUT: (.*)")
+SIZES = re.compile(r"\s*# .*, by: nicbench run --vfs (\d+) --fifo (\d+)\s*")
+
+
+def finding_of(run: Trace) -> Finding | None:
+    """The finding of an explorer's script (docs/explore.md): a comment behind the step at which its run failed. An
+    `expect` is no step of that run."""
+    found, cut = None, ""
+    for number, line in enumerate(run.script.lines, 1):
+        if told := CUT.fullmatch(line):
+            cut = told[1]
+        if told := FAILED.fullmatch(line):
+            found = number, told
+    if found is None:
+        return None
+    number, told = found
+    script = run.script
+    before = [
+        step.number
+        for step in run.steps
+        if script.line_of[step.pc] < number and not script.instructions[step.pc].is_local
+    ]
+    return Finding(told[1], told[2].strip(), before[-1] if before else None, cut)
+
+
+def sizes_of(lines: list[str]) -> tuple[int, int] | None:
+    """The sizes of the device that an explorer's script is for, as its second line says them."""
+    told = SIZES.fullmatch(lines[1]) if len(lines) > 1 and lines[0].startswith("#") else None
+    return (int(told[1]), int(told[2])) if told else None
 
 
 def of_trace(run: Trace) -> Run:
@@ -63,10 +111,12 @@ def of_trace(run: Trace) -> Run:
     name = Path(script.path).name if script.path != "-" else "standard input"
     return Run(
         name, script.lines, script.line_of, run.steps, run.start, seen, reasons, run.last, run.notes,
-        bench.vfs, bench.fifo, bench.options,
+        bench.vfs, bench.fifo, bench.options, finding_of(run),
     )  # fmt: skip
 
 
 def of_script(bench: Bench, path: str, limit: int = 4_096) -> Run:
-    """The run of the script in a file, of at most so many steps."""
-    return of_trace(trace(bench, path, limit))
+    """The run of the script in a file, of at most so many steps. An explorer's script brings the sizes of its device."""
+    text = read_text(path)
+    sizes = None if bench.options else sizes_of(text.split("\n", 2))
+    return of_trace(trace(Bench(*sizes) if sizes else bench, path, text, limit))

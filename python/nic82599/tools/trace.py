@@ -14,7 +14,7 @@ from dataclasses import dataclass, field
 
 from . import regs
 from .regs import REGISTERS, Register, first
-from .script import Bench, Instruction, Op, Script, of_text, read_text
+from .script import Bench, Instruction, Op, Script, of_text
 
 CHUNK = 9_000
 RESET_BITS = 1 << 3 | 1 << 26
@@ -202,9 +202,8 @@ class Plan:
         return asked
 
 
-def trace(bench: Bench, path: str, limit: int = 4_096) -> Trace:
-    """A run of the script in a file, of at most so many steps."""
-    text = read_text(path)
+def trace(bench: Bench, path: str, text: str, limit: int = 4_096) -> Trace:
+    """A run of the script of this text, of at most so many steps."""
     with ThreadPoolExecutor(1) as pool:
         run = pool.submit(bench.run, text, limit)
         return _trace(bench, of_text(bench, path, text), run.result(), limit)

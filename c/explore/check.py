@@ -241,7 +241,9 @@ def check_orders(kit: Kit, states: int) -> str:
 
 def check_sleeping(kit: Kit, scenarios: int) -> str:
     """With sleep sets the exhaustive search comes to the same ends as without."""
-    return ran([kit.build(HERE / "tests/sleeping.c"), scenarios, 1], timeout=900).strip()
+    program = kit.build(HERE / "tests/sleeping.c")
+    host = ran([program, scenarios, 1], timeout=900).strip()
+    return f"{host}; of a function: {ran([program, scenarios, 1, 'vf'], timeout=900).strip()}"
 
 
 def sanitized_explorer(folder: Path, compiler: str, flags: list[str]) -> Path:

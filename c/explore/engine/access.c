@@ -2,6 +2,7 @@
 #include <string.h>
 
 #include "engine.h"
+#include "independent.h"
 
 enum { POLLS = 8 };
 
@@ -41,6 +42,14 @@ static void note_change(void)
 {
     if (nicxi.self)
         nicxi.self->polls = 0;
+}
+
+/* Where a function's access goes, before it is made. */
+static void note_physical(struct step *step)
+{
+    uint32_t mode = 0;
+    nic_peek32(&nicxi.device, NIC_GCR_EXT, &mode);
+    step->physical = nicxi_physical(mode, step->vf, step->address);
 }
 
 /* Whether a step can be seen by others: a read of most registers can't. */
@@ -109,6 +118,7 @@ uint32_t nicx_vf_read32(uint8_t vf, uint32_t offset)
     step->vf = vf;
     step->address = offset;
     let_others(nicxi.self);
+    note_physical(step);
     step->status = nic_vf_read32(&nicxi.device, vf, offset, &step->word);
     note_poll(step);
     after(step);
@@ -123,6 +133,7 @@ uint8_t nicx_vf_write32(uint8_t vf, uint32_t offset, uint32_t word)
     step->word = word;
     note_change();
     let_others(nicxi.self);
+    note_physical(step);
     step->status = nic_vf_write32(&nicxi.device, vf, offset, word);
     after(step);
     return step->status;

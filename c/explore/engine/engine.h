@@ -16,6 +16,8 @@ enum {
     NOBODY = 0xFFFF
 };
 
+#define NO_ADDRESS UINT32_MAX
+
 /* What somebody did at a point. */
 enum step_kind {
     STEP_NONE,
@@ -46,6 +48,7 @@ struct step {
     bool waits;       /* before or behind it the thread waits until another acts */
     uint16_t of;      /* a queue, a group, a frame, a change of the link */
     uint32_t address; /* of a register, among a function's own its offset; a block that is lent or taken */
+    uint32_t physical; /* of a function's access: the physical function's address, or NO_ADDRESS */
     uint32_t word;    /* read or written; of a wait, a lock, a start: enum local */
     uint32_t length;  /* of a memory access */
     uint64_t bus;

@@ -5,8 +5,10 @@
    no law of its own, so c/explore/tests/orders.c makes both orders of each row's steps from states by chance.
 
    Steps are meant that do something, each with what it answered. What has no row isn't independent: two steps of the
-   driver, since both may touch the driver's own memory; steps that count or raise causes, as two of receiving and
-   transmitting do; and accesses of virtual functions. */
+   driver, since both may touch the driver's own memory; and steps that count or raise causes, as two of receiving and
+   transmitting do. An access of a virtual function is the physical function's at the address that its offset stands for
+   (`dev: vf_access_is_the_physical_functions`), by the mode in GCR_EXT, which no step of the device and no frame
+   changes (`dev: other_events_keep_settings`). */
 #include "independent.h"
 
 /* --- of which side of a queue a register is --- */
@@ -41,6 +43,58 @@ static int side_of_register(uint32_t address)
     return 2 * (((int)address - base) / 0x40) + (base == 0x06000);
 }
 
+/* --- where a function's access goes --- */
+
+enum { MAILBOX_MEMORY = 0x13000, MAILBOX = 0x04C00, FUNCTIONS = 63, WORDS = 16 };
+
+static const struct owned {
+    uint32_t offset, first;
+} of_group[] = {
+    {0x100, 0x00B00}, /* VTEICR, VTEICS, VTEIMS, VTEIMC, VTEIAC, VTEIAM, VTIVAR_MISC */
+    {0x104, 0x00C00},
+    {0x108, 0x00D00},
+    {0x10C, 0x00E00},
+    {0x110, 0x00F00},
+    {0x114, 0x04D00},
+    {0x140, 0x04E00},
+};
+
+enum { OF_GROUP = sizeof of_group / sizeof *of_group };
+
+static uint32_t physical_of_queue(uint32_t queues, uint8_t vf, uint32_t offset)
+{
+    uint32_t own = (offset & 0xFFF) / 0x40, queue = vf * queues + own, at = offset % 0x40;
+    if (own >= queues)
+        return NO_ADDRESS;
+    if (offset >= 0x2000)
+        return 0x06000 + 0x40 * queue + at;
+    return (queue < 64 ? 0x01000 + 0x40 * queue : 0x0D000 + 0x40 * (queue - 64)) + at;
+}
+
+uint32_t nicxi_physical(uint32_t gcr_ext, uint8_t vf, uint32_t offset)
+{
+    static const uint32_t queues_of_mode[] = {0, 8, 4, 2};
+    uint32_t queues = queues_of_mode[gcr_ext & 3];
+    if (!queues || vf >= FUNCTIONS || offset % 4)
+        return NO_ADDRESS;
+    if (offset >= 0x1000 && offset < 0x3000)
+        return physical_of_queue(queues, vf, offset);
+    if (offset >= 0x200 && offset < 0x200 + 4 * WORDS)
+        return MAILBOX_MEMORY + 4 * WORDS * vf + offset - 0x200;
+    if (offset == 0x2FC)
+        return MAILBOX + 4u * vf;
+    for (int k = 0; k < OF_GROUP; k++)
+        if (of_group[k].offset == offset)
+            return of_group[k].first + 4u * vf;
+    return NO_ADDRESS;
+}
+
+/* The address of an access, by whichever port. */
+static uint32_t address_of(const struct step *step)
+{
+    return step->kind == STEP_VF_READ || step->kind == STEP_VF_WRITE ? step->physical : step->address;
+}
+
 /* The side that a step of the device is of; where a frame was dropped, its queue isn't told. */
 static int side_of_step(const struct step *step)
 {
@@ -49,7 +103,7 @@ static int side_of_step(const struct step *step)
     case STEP_TX: return 2 * step->of + 1;
     case STEP_RX_ENABLE: return 2 * step->of;
     case STEP_TX_ENABLE: return 2 * step->of + 1;
-    default: return side_of_register(step->address);
+    default: return side_of_register(address_of(step));
     }
 }
 
@@ -67,6 +121,38 @@ static bool is_of_some_side(const struct step *a, const struct step *b)
 {
     (void)b;
     return side_of_step(a) != NO_SIDE;
+}
+
+static bool is_mailbox_memory(const struct step *a, const struct step *b)
+{
+    (void)b;
+    return address_of(a) >= MAILBOX_MEMORY && address_of(a) < MAILBOX_MEMORY + 4 * WORDS * FUNCTIONS;
+}
+
+static bool is_mailbox(const struct step *a, const struct step *b)
+{
+    (void)b;
+    return address_of(a) >= MAILBOX && address_of(a) < MAILBOX + 4 * FUNCTIONS;
+}
+
+/* The function whose interrupts a register is of, or -1. */
+static int group_of(const struct step *step)
+{
+    for (int k = 0; k < OF_GROUP; k++)
+        if (address_of(step) >= of_group[k].first && address_of(step) < of_group[k].first + 4 * FUNCTIONS)
+            return ((int)address_of(step) - (int)of_group[k].first) / 4;
+    return -1;
+}
+
+static bool is_of_functions_group(const struct step *a, const struct step *b)
+{
+    (void)b;
+    return group_of(a) >= 0;
+}
+
+static bool is_of_other_group(const struct step *a, const struct step *b)
+{
+    return group_of(a) >= 0 && group_of(a) + 1 != b->of;
 }
 
 static bool are_other_groups(const struct step *a, const struct step *b)
@@ -152,6 +238,65 @@ static const struct row rows[] = {
     {STEP_WRITE, STEP_EEPROM, is_of_some_side, "write of a side, eestep", "dev: access_leaves_the_rest (write), eeprom_step_gives_the_word (rest)"},
     {STEP_WRITE, STEP_ARRIVE, is_of_some_side, "write of a side, arrive", "dev: access_leaves_the_rest (write), arrival_leaves_the_rest (queues)"},
     {STEP_WRITE, STEP_LINK, is_of_some_side, "write of a side, link", "dev: access_leaves_the_rest (write), link_leaves_the_rest (link, queues)"},
+    /* accesses of a virtual function, of its queues' registers: as the physical function's */
+    {STEP_VF_READ, STEP_RX, are_other_sides, "function's read of a side, rx of another", "dev: vf_access_is_the_physical_functions, read_changes_nothing, receiving_leaves_the_rest (rest)"},
+    {STEP_VF_READ, STEP_TX, are_other_sides, "function's read of a side, tx of another", "dev: vf_access_is_the_physical_functions, read_changes_nothing, transmitting_leaves_the_rest (rest)"},
+    {STEP_VF_READ, STEP_RX_ENABLE, are_other_sides, "function's read of a side, qstep rx of another", "dev: vf_access_is_the_physical_functions, read_changes_nothing, switching_leaves_the_rest (sides)"},
+    {STEP_VF_READ, STEP_TX_ENABLE, are_other_sides, "function's read of a side, qstep tx of another", "dev: vf_access_is_the_physical_functions, read_changes_nothing, switching_leaves_the_rest (sides)"},
+    {STEP_VF_READ, STEP_INT, is_of_some_side, "function's read of a side, int", "dev: vf_access_is_the_physical_functions, read_changes_nothing, message_leaves_the_rest (queues)"},
+    {STEP_VF_READ, STEP_EEPROM, is_of_some_side, "function's read of a side, eestep", "dev: vf_access_is_the_physical_functions, read_changes_nothing, eeprom_step_gives_the_word (rest)"},
+    {STEP_VF_READ, STEP_ARRIVE, is_of_some_side, "function's read of a side, arrive", "dev: vf_access_is_the_physical_functions, read_changes_nothing, arrival_leaves_the_rest (queues)"},
+    {STEP_VF_READ, STEP_LINK, is_of_some_side, "function's read of a side, link", "dev: vf_access_is_the_physical_functions, read_changes_nothing, link_leaves_the_rest (link, queues)"},
+    {STEP_VF_WRITE, STEP_RX, are_other_sides, "function's write of a side, rx of another", "dev: vf_access_is_the_physical_functions, access_leaves_the_rest (write), receiving_leaves_the_rest (rest)"},
+    {STEP_VF_WRITE, STEP_TX, are_other_sides, "function's write of a side, tx of another", "dev: vf_access_is_the_physical_functions, access_leaves_the_rest (write), transmitting_leaves_the_rest (rest)"},
+    {STEP_VF_WRITE, STEP_RX_ENABLE, are_other_sides, "function's write of a side, qstep rx of another", "dev: vf_access_is_the_physical_functions, access_leaves_the_rest (write), switching_leaves_the_rest (sides)"},
+    {STEP_VF_WRITE, STEP_TX_ENABLE, are_other_sides, "function's write of a side, qstep tx of another", "dev: vf_access_is_the_physical_functions, access_leaves_the_rest (write), switching_leaves_the_rest (sides)"},
+    {STEP_VF_WRITE, STEP_INT, is_of_some_side, "function's write of a side, int", "dev: vf_access_is_the_physical_functions, access_leaves_the_rest (write), message_leaves_the_rest (queues)"},
+    {STEP_VF_WRITE, STEP_EEPROM, is_of_some_side, "function's write of a side, eestep", "dev: vf_access_is_the_physical_functions, access_leaves_the_rest (write), eeprom_step_gives_the_word (rest)"},
+    {STEP_VF_WRITE, STEP_ARRIVE, is_of_some_side, "function's write of a side, arrive", "dev: vf_access_is_the_physical_functions, access_leaves_the_rest (write), arrival_leaves_the_rest (queues)"},
+    {STEP_VF_WRITE, STEP_LINK, is_of_some_side, "function's write of a side, link", "dev: vf_access_is_the_physical_functions, access_leaves_the_rest (write), link_leaves_the_rest (link, queues)"},
+    /* of its mailbox's memory, which no step of the device looks at */
+    {STEP_VF_READ, STEP_RX, is_mailbox_memory, "function's read of VFMBMEM, rx", "dev: vf_stays_in_its_pool (changes), event_stays_within_its_reach; reg: accesses_stay_with_their_owner"},
+    {STEP_VF_READ, STEP_TX, is_mailbox_memory, "function's read of VFMBMEM, tx", "dev: vf_stays_in_its_pool (changes), event_stays_within_its_reach; reg: accesses_stay_with_their_owner"},
+    {STEP_VF_READ, STEP_RX_ENABLE, is_mailbox_memory, "function's read of VFMBMEM, qstep rx", "dev: vf_stays_in_its_pool (changes), event_stays_within_its_reach; reg: accesses_stay_with_their_owner"},
+    {STEP_VF_READ, STEP_TX_ENABLE, is_mailbox_memory, "function's read of VFMBMEM, qstep tx", "dev: vf_stays_in_its_pool (changes), event_stays_within_its_reach; reg: accesses_stay_with_their_owner"},
+    {STEP_VF_READ, STEP_INT, is_mailbox_memory, "function's read of VFMBMEM, int", "dev: vf_stays_in_its_pool (changes), event_stays_within_its_reach; reg: accesses_stay_with_their_owner"},
+    {STEP_VF_READ, STEP_EEPROM, is_mailbox_memory, "function's read of VFMBMEM, eestep", "dev: vf_stays_in_its_pool (changes), eeprom_step_gives_the_word (rest); reg: accesses_stay_with_their_owner"},
+    {STEP_VF_READ, STEP_ARRIVE, is_mailbox_memory, "function's read of VFMBMEM, arrive", "dev: vf_stays_in_its_pool (changes), event_stays_within_its_reach; reg: accesses_stay_with_their_owner"},
+    {STEP_VF_READ, STEP_LINK, is_mailbox_memory, "function's read of VFMBMEM, link", "dev: vf_stays_in_its_pool (changes), event_stays_within_its_reach; reg: accesses_stay_with_their_owner"},
+    {STEP_VF_WRITE, STEP_RX, is_mailbox_memory, "function's write of VFMBMEM, rx", "dev: vf_stays_in_its_pool (changes), event_stays_within_its_reach; reg: accesses_stay_with_their_owner"},
+    {STEP_VF_WRITE, STEP_TX, is_mailbox_memory, "function's write of VFMBMEM, tx", "dev: vf_stays_in_its_pool (changes), event_stays_within_its_reach; reg: accesses_stay_with_their_owner"},
+    {STEP_VF_WRITE, STEP_RX_ENABLE, is_mailbox_memory, "function's write of VFMBMEM, qstep rx", "dev: vf_stays_in_its_pool (changes), event_stays_within_its_reach; reg: accesses_stay_with_their_owner"},
+    {STEP_VF_WRITE, STEP_TX_ENABLE, is_mailbox_memory, "function's write of VFMBMEM, qstep tx", "dev: vf_stays_in_its_pool (changes), event_stays_within_its_reach; reg: accesses_stay_with_their_owner"},
+    {STEP_VF_WRITE, STEP_INT, is_mailbox_memory, "function's write of VFMBMEM, int", "dev: vf_stays_in_its_pool (changes), event_stays_within_its_reach; reg: accesses_stay_with_their_owner"},
+    {STEP_VF_WRITE, STEP_EEPROM, is_mailbox_memory, "function's write of VFMBMEM, eestep", "dev: vf_stays_in_its_pool (changes), eeprom_step_gives_the_word (rest); reg: accesses_stay_with_their_owner"},
+    {STEP_VF_WRITE, STEP_ARRIVE, is_mailbox_memory, "function's write of VFMBMEM, arrive", "dev: vf_stays_in_its_pool (changes), event_stays_within_its_reach; reg: accesses_stay_with_their_owner"},
+    {STEP_VF_WRITE, STEP_LINK, is_mailbox_memory, "function's write of VFMBMEM, link", "dev: vf_stays_in_its_pool (changes), event_stays_within_its_reach; reg: accesses_stay_with_their_owner"},
+    /* of its mailbox: a write may raise a cause of the physical function */
+    {STEP_VF_READ, STEP_RX, is_mailbox, "function's read of VFMAILBOX, rx", "dev: vf_stays_in_its_pool (changes), event_stays_within_its_reach"},
+    {STEP_VF_READ, STEP_TX, is_mailbox, "function's read of VFMAILBOX, tx", "dev: vf_stays_in_its_pool (changes), event_stays_within_its_reach"},
+    {STEP_VF_READ, STEP_RX_ENABLE, is_mailbox, "function's read of VFMAILBOX, qstep rx", "dev: vf_stays_in_its_pool (changes), event_stays_within_its_reach"},
+    {STEP_VF_READ, STEP_TX_ENABLE, is_mailbox, "function's read of VFMAILBOX, qstep tx", "dev: vf_stays_in_its_pool (changes), event_stays_within_its_reach"},
+    {STEP_VF_READ, STEP_INT, is_mailbox, "function's read of VFMAILBOX, int", "dev: vf_stays_in_its_pool (changes), event_stays_within_its_reach"},
+    {STEP_VF_READ, STEP_EEPROM, is_mailbox, "function's read of VFMAILBOX, eestep", "dev: vf_stays_in_its_pool (changes), eeprom_step_gives_the_word (rest)"},
+    {STEP_VF_READ, STEP_ARRIVE, is_mailbox, "function's read of VFMAILBOX, arrive", "dev: vf_stays_in_its_pool (changes), event_stays_within_its_reach"},
+    {STEP_VF_READ, STEP_LINK, is_mailbox, "function's read of VFMAILBOX, link", "dev: vf_stays_in_its_pool (changes), event_stays_within_its_reach"},
+    {STEP_VF_WRITE, STEP_RX_ENABLE, is_mailbox, "function's write of VFMAILBOX, qstep rx", "dev: vf_stays_in_its_pool (changes), switching_leaves_the_rest (groups)"},
+    {STEP_VF_WRITE, STEP_TX_ENABLE, is_mailbox, "function's write of VFMAILBOX, qstep tx", "dev: vf_stays_in_its_pool (changes), switching_leaves_the_rest (groups)"},
+    {STEP_VF_WRITE, STEP_EEPROM, is_mailbox, "function's write of VFMAILBOX, eestep", "dev: vf_stays_in_its_pool (changes), eeprom_step_gives_the_word (rest)"},
+    /* of its interrupts, which frames that are received or sent may raise */
+    {STEP_VF_READ, STEP_RX_ENABLE, is_of_functions_group, "function's read of its interrupts, qstep rx", "dev: vf_stays_in_its_pool (changes), switching_leaves_the_rest (groups)"},
+    {STEP_VF_READ, STEP_TX_ENABLE, is_of_functions_group, "function's read of its interrupts, qstep tx", "dev: vf_stays_in_its_pool (changes), switching_leaves_the_rest (groups)"},
+    {STEP_VF_READ, STEP_INT, is_of_other_group, "function's read of its interrupts, int of another group", "dev: vf_stays_in_its_pool (changes), message_leaves_the_rest (groups)"},
+    {STEP_VF_READ, STEP_EEPROM, is_of_functions_group, "function's read of its interrupts, eestep", "dev: vf_stays_in_its_pool (changes), eeprom_step_gives_the_word (rest)"},
+    {STEP_VF_READ, STEP_ARRIVE, is_of_functions_group, "function's read of its interrupts, arrive", "dev: vf_stays_in_its_pool (changes), arrival_leaves_the_rest (groups)"},
+    {STEP_VF_READ, STEP_LINK, is_of_functions_group, "function's read of its interrupts, link", "dev: vf_stays_in_its_pool (changes), link_leaves_the_rest (link, groups)"},
+    {STEP_VF_WRITE, STEP_RX_ENABLE, is_of_functions_group, "function's write of its interrupts, qstep rx", "dev: vf_stays_in_its_pool (changes), switching_leaves_the_rest (groups)"},
+    {STEP_VF_WRITE, STEP_TX_ENABLE, is_of_functions_group, "function's write of its interrupts, qstep tx", "dev: vf_stays_in_its_pool (changes), switching_leaves_the_rest (groups)"},
+    {STEP_VF_WRITE, STEP_INT, is_of_other_group, "function's write of its interrupts, int of another group", "dev: vf_stays_in_its_pool (changes), message_leaves_the_rest (groups)"},
+    {STEP_VF_WRITE, STEP_EEPROM, is_of_functions_group, "function's write of its interrupts, eestep", "dev: vf_stays_in_its_pool (changes), eeprom_step_gives_the_word (rest)"},
+    {STEP_VF_WRITE, STEP_ARRIVE, is_of_functions_group, "function's write of its interrupts, arrive", "dev: vf_stays_in_its_pool (changes), arrival_leaves_the_rest (groups)"},
+    {STEP_VF_WRITE, STEP_LINK, is_of_functions_group, "function's write of its interrupts, link", "dev: vf_stays_in_its_pool (changes), link_leaves_the_rest (link, groups)"},
     /* steps of the device */
     {STEP_INT, STEP_INT, are_other_groups, "int of two groups", "dev: message_leaves_the_rest (groups), due_bit_is_told"},
     {STEP_INT, STEP_RX_ENABLE, NULL, "int, qstep rx", "dev: message_leaves_the_rest (queues), switching_leaves_the_rest (groups)"},
@@ -181,8 +326,8 @@ enum { ROWS = sizeof rows / sizeof *rows };
 static int row_in_order(const struct step *a, const struct step *b)
 {
     for (int k = 0; k < ROWS; k++)
-        if (rows[k].a == a->kind && rows[k].b == b->kind)
-            return !rows[k].holds || rows[k].holds(a, b) ? k : -1;
+        if (rows[k].a == a->kind && rows[k].b == b->kind && (!rows[k].holds || rows[k].holds(a, b)))
+            return k;
     return -1;
 }
 

@@ -14,4 +14,8 @@ int nicxi_rows(void);
 const char *nicxi_law(int row);
 const char *nicxi_row_name(int row);
 
+/* The physical function's address that an offset of a function stands for, with this word in GCR_EXT, as far as the
+   table asks for it; else NO_ADDRESS. */
+uint32_t nicxi_physical(uint32_t gcr_ext, uint8_t vf, uint32_t offset);
+
 #endif

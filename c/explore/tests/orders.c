@@ -9,7 +9,7 @@
 #include "../engine/heap.h"
 #include "../engine/independent.h"
 
-enum { QUEUES = 4, BLOCKS = 12, VFS = 2, FIFO = 6, RING = 128, MOST_ROWS = 128, MOST_OUT = 4096 };
+enum { QUEUES = 4, BLOCKS = 12, VFS = 2, FIFO = 6, RING = 128, MOST_ROWS = 256, MOST_OUT = 4096 };
 
 static const uint32_t addresses[] = {
 #define ADDRESS(address) address,
@@ -116,7 +116,7 @@ static void settings(void)
     nic_write32(&n, NIC_RXCTRL, below(8) != 0);
     nic_write32(&n, NIC_DMATXCTL, below(8) != 0);
     nic_write32(&n, NIC_FCTRL, 0x300 | below(2) << 10);
-    nic_write32(&n, NIC_GCR_EXT, below(3) ? 0 : below(4));
+    nic_write32(&n, NIC_GCR_EXT, below(4));
     nic_write32(&n, NIC_MRQC, modes[below(5)] | 0x00030000);
     for (unsigned k = 0; k < 32; k++)
         nic_write32(&n, NIC_RETA(k), 0x03020100u);
@@ -182,6 +182,21 @@ struct pick {
     size_t length;
 };
 
+/* Of a virtual function: of a queue's side, its mailbox, its interrupts. */
+static uint32_t some_offset(void)
+{
+    static const uint32_t of_side[] = {0, 4, 8, 0x10, 0x14, 0x18, 0x28, 0x38, 0x3C};
+    static const uint32_t of_group[] = {0x100, 0x104, 0x108, 0x10C, 0x110, 0x114, 0x140};
+    switch (below(6)) {
+    case 0:
+    case 1:
+    case 2: return (below(2) ? 0x1000u : 0x2000u) + 0x40 * below(QUEUES) + of_side[below(9)];
+    case 3: return 0x200 + 4 * below(16);
+    case 4: return 0x2FC;
+    default: return of_group[below(7)];
+    }
+}
+
 static void pick(struct pick *it, uint8_t kind)
 {
     struct step *step = &it->step;
@@ -191,6 +206,12 @@ static void pick(struct pick *it, uint8_t kind)
     some_frame(it->bytes, &it->length);
     static const uint32_t offsets[] = {0, 4, 8, 0x10, 0x14, 0x18, 0x28, 0x38, 0x3C};
     switch (kind) {
+    case STEP_VF_READ:
+    case STEP_VF_WRITE:
+        step->vf = (uint8_t)below(VFS);
+        step->address = some_offset();
+        step->word = below(2) ? below(9) : (uint32_t)chance_next(&chance);
+        break;
     case STEP_READ:
     case STEP_WRITE:
         step->address = (below(2) ? NIC_RDBAL(queue) : NIC_TDBAL(queue)) + offsets[below(9)];
@@ -207,6 +228,21 @@ static void pick(struct pick *it, uint8_t kind)
     }
 }
 
+/* Where a function's access goes: what it shows there is what the physical function sees. */
+static uint32_t physical_now(const struct step *step)
+{
+    uint32_t mode = 0, own = 0, word = 0;
+    nic_peek32(&n, NIC_GCR_EXT, &mode);
+    uint32_t address = nicxi_physical(mode, step->vf, step->address);
+    if (address == NO_ADDRESS || nic_vf_peek32(&n, step->vf, step->address, &own) != NIC_DONE)
+        return address;
+    if (nic_peek32(&n, address, &word) != NIC_DONE || own != word) {
+        printf("offset 0x%04x of function %u isn't at 0x%05x\n", step->address, step->vf, address);
+        exit(1);
+    }
+    return address;
+}
+
 /* Makes a step; what it answers stands in it, and of a read of memory in `bytes`. */
 static void make(struct pick *it)
 {
@@ -215,6 +251,14 @@ static void make(struct pick *it)
     switch (step->kind) {
     case STEP_READ: step->status = nic_read32(&n, step->address, &step->word); break;
     case STEP_WRITE: step->status = nic_write32(&n, step->address, step->word); break;
+    case STEP_VF_READ:
+        step->physical = physical_now(step);
+        step->status = nic_vf_read32(&n, step->vf, step->address, &step->word);
+        break;
+    case STEP_VF_WRITE:
+        step->physical = physical_now(step);
+        step->status = nic_vf_write32(&n, step->vf, step->address, step->word);
+        break;
     case STEP_PEEK: step->status = nic_dma_read(&n, step->bus, it->bytes, step->length); break;
     case STEP_POKE: step->status = nic_dma_write(&n, step->bus, it->bytes, step->length); break;
     case STEP_RX: step->status = nic_rx_step(&n, &step->told); break;
@@ -337,7 +381,7 @@ static void try_pair(const struct pick *left, const struct pick *right, void *ro
 /* Each kind of a driver's step beside each of the device's, and each two of the device's. */
 static void try_all(void *room)
 {
-    static const uint8_t kinds[] = {STEP_LOCAL, STEP_READ, STEP_WRITE, STEP_PEEK, STEP_POKE};
+    static const uint8_t kinds[] = {STEP_LOCAL, STEP_READ, STEP_WRITE, STEP_VF_READ, STEP_VF_WRITE, STEP_PEEK, STEP_POKE};
     struct pick a, b;
     for (uint8_t right = STEP_RX; right <= STEP_LINK; right++) {
         for (size_t k = 0; k < sizeof kinds; k++) {

@@ -1,7 +1,9 @@
 /* Whether the exhaustive search with sleep sets comes to the same ends as the one without: of scenarios that are mixed
-   by chance, what the driver saw and what the device is at the end of each schedule. `sleeping SCENARIOS SEED`. */
+   by chance, what the driver saw and what the device is at the end of each schedule. `sleeping SCENARIOS SEED [vf]`:
+   with `vf` the queue is a virtual function's, and the driver is its too. */
 #include <stdio.h>
 #include <stdlib.h>
+#include <string.h>
 
 #include "../engine/chance.h"
 #include "../engine/exhaustive.h"
@@ -12,7 +14,7 @@ enum { MOST_ENDS = 1 << 16, LENGTH = 3, TWO = 2, MOST_RUNS = 12000 };
 
 static struct chance chance;
 static uint8_t doings[TWO][LENGTH];
-static bool has_handler;
+static bool has_handler, has_function;
 static uint64_t seen[TWO + 1];
 static uint64_t ends[MOST_ENDS];
 static uint32_t end_count;
@@ -45,9 +47,19 @@ static void act(unsigned who, uint8_t doing)
         *sum = mixed(*sum, seen[who ^ 1]);
         nicx_point();
         break;
-    default: *sum = mixed(*sum, nicx_get64(buffer(0) + 8 * who));
+    case 13: *sum = mixed(*sum, nicx_get64(buffer(0) + 8 * who)); break;
+    case 14: *sum = mixed(*sum, nicx_vf_read32(0, NIC_VFRDH(0))); break;
+    case 15: *sum = mixed(*sum, nicx_vf_read32(0, NIC_VTEICR)); break;
+    case 16: *sum = mixed(*sum, nicx_vf_read32(0, NIC_VFMAILBOX)); break;
+    case 17: nicx_vf_write32(0, NIC_VFMBMEM(0), who + 1); break;
+    case 18: nicx_vf_write32(0, NIC_VFMAILBOX, 1); break;
+    case 19: nicx_vf_write32(0, NIC_VFRDT(0), 2); break;
+    case 20: nicx_vf_write32(0, NIC_VFTDT(0), who + 1); break;
+    default: nicx_vf_write32(0, NIC_VTEIMS, 1); break;
     }
 }
+
+enum { OF_HOST = 14, OF_ALL = 22 };
 
 static const unsigned numbers[TWO] = {0, 1};
 
@@ -61,12 +73,17 @@ static void task(void *argument)
 static void handler(void *unused)
 {
     (void)unused;
-    seen[TWO] = mixed(seen[TWO], nicx_read32(NIC_EICR));
+    seen[TWO] = mixed(seen[TWO], has_function ? nicx_vf_read32(0, NIC_VTEICR) : nicx_read32(NIC_EICR));
 }
 
 static const char *bring_up(void)
 {
     lend_blocks(2);
+    if (has_function) {
+        nicx_write32(NIC_GCR_EXT, 3);
+        nicx_write32(NIC_PVTIVAR(0), 0x80);
+        nicx_write32(NIC_PVTEIMS(0), 1);
+    }
     bring_up_receive(1);
     bring_up_interrupt();
     bring_up_transmit();
@@ -81,13 +98,15 @@ static void begin(void)
     nicx_service("one", task, (void *)(uintptr_t)&numbers[0]);
     nicx_service("two", task, (void *)(uintptr_t)&numbers[1]);
     if (has_handler)
-        nicx_handler("isr", 0, 5, handler, NULL, NICX_ANYWHERE);
+        nicx_handler("isr", has_function, has_function ? 0 : 5, handler, NULL, NICX_ANYWHERE);
     frames_come(1);
 }
 
 static const char *end(void)
 {
-    const uint32_t looked[] = {NIC_RDH(0), NIC_TDH(0), NIC_EIMS, NIC_EERD, NIC_RXDCTL(0), NIC_RDT(0), NIC_TDT(0)};
+    const uint32_t looked[] = {NIC_RDH(0),    NIC_TDH(0), NIC_EIMS,   NIC_EERD,
+                               NIC_RXDCTL(0), NIC_RDT(0), NIC_TDT(0), NIC_PVTEICR(0),
+                               NIC_PVTEIMS(0), NIC_PVFMAILBOX(0), NIC_PFMBMEM(0)};
     uint64_t sum = 1, half = 0;
     uint32_t word;
     for (unsigned k = 0; k <= TWO; k++)
@@ -147,7 +166,7 @@ static uint32_t search(uint32_t preemptions, bool sleeps, uint64_t *sum)
 
 int main(int argc, char **argv)
 {
-    static const nicx_scenario scenario = {
+    static nicx_scenario scenario = {
         .name = "sleeping",
         .fifo = 64,
         .blocks = 16,
@@ -159,6 +178,8 @@ int main(int argc, char **argv)
     };
     unsigned scenarios = argc > 1 ? (unsigned)strtoul(argv[1], NULL, 10) : 100, compared = 0;
     uint64_t all = 0, fewer = 0;
+    has_function = argc > 3 && !strcmp(argv[3], "vf");
+    scenario.vfs = has_function;
     if (nicx_open(&scenario))
         return 2;
     for (unsigned k = 0; k < scenarios; k++) {
@@ -167,7 +188,7 @@ int main(int argc, char **argv)
         has_handler = chance_below(&chance, 2);
         for (unsigned who = 0; who < TWO; who++)
             for (unsigned j = 0; j < LENGTH; j++)
-                doings[who][j] = (uint8_t)chance_below(&chance, 14);
+                doings[who][j] = (uint8_t)chance_below(&chance, has_function ? OF_ALL : OF_HOST);
         uint64_t with, without;
         uint32_t bound = bounds[k % 4];
         uint32_t many = search(bound, false, &without), few = search(bound, true, &with);

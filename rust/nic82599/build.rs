@@ -82,6 +82,8 @@ fn check_version(folder: &Path, found: Option<String>) {
     }
 }
 
+/// Of an archive what is asked for is linked: the explorer's has the calls of memory of the library's once more. (Rust
+/// 1.63 would take the whole of it for tests.)
 fn link(folder: &Path) {
     println!("cargo:rustc-link-search=native={}", folder.display());
     let archive = folder.join("libnic82599.a");
@@ -91,11 +93,11 @@ fn link(folder: &Path) {
             stop(&format!("no libnic82599_explore.a in {}, which the feature explore needs: {HELP}", folder.display()));
         }
         println!("cargo:rerun-if-changed={}", explorer.display());
-        println!("cargo:rustc-link-lib=static=nic82599_explore");
+        println!("cargo:rustc-link-lib=static:-whole-archive=nic82599_explore");
     }
     if archive.exists() {
         println!("cargo:rerun-if-changed={}", archive.display());
-        println!("cargo:rustc-link-lib=static=nic82599");
+        println!("cargo:rustc-link-lib=static:-whole-archive=nic82599");
     } else {
         println!("cargo:rustc-link-lib=dylib=nic82599");
     }

@@ -152,7 +152,7 @@ fn each_kind_of_failure() {
     fails(Simple { name: "always", act: counts, always, ..SIMPLE }, "always", "three");
     fails(Simple { name: "check", act: |bus, _| bus.fail("it can't be"), ..SIMPLE }, "check", "it can't be");
     let panics = |_: &Bus, state: &State| assert_eq!(state.count.get(), 1, "as by assert");
-    fails(Simple { name: "panics", act: panics, ..SIMPLE }, "check", "as by assert left: 0 right: 1");
+    fails(Simple { name: "panics", act: panics, ..SIMPLE }, "check", "as by assert");
     let waits = |bus: &Bus, state: &State| bus.wait_until(|| state.count.get() == 9);
     fails(Simple { name: "waits", act: waits, ..SIMPLE }, "deadlock", "waits, and nobody can act");
     let goes_on = |bus: &Bus, _: &State| (0..1_000).for_each(|it| bus.write(RETA.at(0), it));

@@ -367,6 +367,42 @@ fn drops_and_faults() {
     assert_eq!(dropped(&frame()), Some(Why::Off));
 }
 
+/// Each kind of step has something to do, of two queues and of two functions.
+#[test]
+fn steps_are_those_of_settle() {
+    let nic = Nic::open(Sizes { vfs: 1, blocks: 4, ..Sizes::default() }).unwrap();
+    nic.lend_all().unwrap();
+    for queue in 0..2 {
+        for (register, word) in [(RDBAL, 0x100), (RDLEN, 128), (SRRCTL, TYPE), (RXDCTL, ENABLE), (TXDCTL, ENABLE)] {
+            nic.write(register.at(queue), word);
+        }
+        nic.write(TDBAL.at(queue), 0x1000);
+        nic.write(TDLEN.at(queue), 128);
+        nic.write(TDT.at(queue), 2);
+    }
+    let sent = Descriptor::transmit(0x1800, 60, 60, txd::EOP | txd::RS);
+    nic.memory().write(0x1000, &sent.to_bytes().repeat(2)).unwrap();
+    nic.memory().put_descriptor(0x100, 0, Descriptor::receive(0x800)).unwrap();
+    for (register, word) in [(RXCTRL, 1), (DMATXCTL, 1), (FCTRL, 0x200), (IVAR_MISC, 0x8100), (RDT.at(0), 1)] {
+        nic.write(register, word);
+    }
+    for (register, word) in [(EIMS, u32::MAX), (EICS, 1 << 1), (EERD, eerd::START), (GCR_EXT, 3)] {
+        nic.write(register, word);
+    }
+    nic.vf(0).write(vf::VTEIMS, 1).unwrap();
+    nic.vf(0).write(vf::VTEICS, 1).unwrap();
+    assert_eq!(nic.arrive(&frame()), Ok(Arrival::Waits));
+    let kept = nic.snapshot().unwrap();
+    let settled: Vec<Event> = nic.settle(2).unwrap().collect();
+    nic.restore(&kept).unwrap();
+    let steps: Result<Vec<Event>, Error> = nic.steps(2).unwrap().collect();
+    assert_eq!(steps, Ok(settled.clone()));
+    let first: Vec<String> = settled.iter().take(10).map(|it| it.step().to_string()).collect();
+    let enables = ["qstep rx 0", "qstep tx 0", "qstep rx 1", "qstep tx 1"];
+    assert_eq!(first, [&enables[..], &["eestep", "tx 0", "tx 1", "rx", "int pf", "int 0"]].concat());
+    assert!(settled.len() > 10);
+}
+
 /// A driver that acts on events while the device goes on: the ring's 255 descriptors are sent, and more than one call
 /// of the library has room for.
 #[test]

@@ -54,9 +54,11 @@ compare_sums() {
 
 # Whether what is needed is installed: words are COMMAND:PACKAGE.
 need() {
+    local pair missing=()
     for pair in "$@"; do
-        command -v "${pair%%:*}" >/dev/null || die "${pair%%:*} isn't there: apt-get install ${pair##*:}"
+        command -v "${pair%%:*}" >/dev/null || missing+=("$pair")
     done
+    [ ${#missing[@]} = 0 ] || die "not installed: ${missing[*]%%:*}; apt-get install ${missing[*]##*:}"
 }
 
 # The system's lines for Debian's archives, with source lines beside them.

@@ -40,6 +40,8 @@
 //! # Ok::<(), nic82599::Error>(())
 //! ```
 //!
+//! The feature `explore` adds the search for the order of steps that breaks a driver.
+//!
 //! What the device does is proved; this crate is tested. A refused call gives an [`Error`] and changes nothing. No
 //! argument ends the program but an index of [`Registers::at`] and of [`VfRegisters::at`], which say so.
 //! docs/CARD.md of the project says where the model differs from the card.

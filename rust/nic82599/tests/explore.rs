@@ -2,6 +2,7 @@
 
 use std::cell::Cell;
 use std::path::PathBuf;
+use std::sync::atomic::{AtomicU32, Ordering};
 use std::{env, fs, process};
 
 use nic82599::explore::{search, Begin, Bus, Look, Outcome, Scenario, Where};
@@ -246,15 +247,39 @@ fn what_is_refused() {
     assert_eq!(searched(Simple { name: "nested", act: nested, ..SIMPLE }, &["--runs", "5"]).0, Outcome::Nothing);
 }
 
-/// What a schedule leaves behind doesn't grow without end: a service that never ends, with a state of a megabyte.
+static LIVE: AtomicU32 = AtomicU32::new(0);
+
+/// What a task's closure has taken, while it isn't dropped.
+struct Counted;
+
+impl Counted {
+    fn new() -> Counted {
+        LIVE.fetch_add(1, Ordering::Relaxed);
+        Counted
+    }
+}
+
+impl Drop for Counted {
+    fn drop(&mut self) {
+        LIVE.fetch_sub(1, Ordering::Relaxed);
+    }
+}
+
+/// What a schedule leaves behind doesn't grow without end: the closure of a service that never ends is dropped when the
+/// next schedule begins.
 #[test]
 fn what_is_left_behind_is_given_back() {
     let begin = |begin: &Begin<State>| {
-        let kept = vec![1_u8; 1 << 20];
+        let kept = Counted::new();
         begin.service("service", move |bus, state| loop {
-            bus.wait_until(|| state.count.get() == usize::from(kept[0]) as u32 + 9);
+            let _kept = &kept;
+            bus.wait_until(|| state.count.get() == 9);
         });
     };
-    let right = Simple { name: "left", tasks: 1, begin, ..SIMPLE };
-    assert_eq!(searched(right, &["--runs", "20000"]).0, Outcome::Nothing);
+    let end = |_: &State, _: &Look<'_>| match LIVE.load(Ordering::Relaxed) {
+        1 => Ok(()),
+        other => Err(format!("{other} are left behind")),
+    };
+    let right = Simple { name: "left", tasks: 1, begin, end, ..SIMPLE };
+    assert_eq!(searched(right, &["--runs", "100"]).0, Outcome::Nothing);
 }

@@ -5,10 +5,10 @@
 //! that will come. Tasks are closures. Each call of their [`Bus`] is a point at which anybody may act: another task, a
 //! handler, a step of the device, the next frame. The search chooses who does.
 //!
-//! ```no_run
+//! ```
 //! use std::cell::Cell;
 //!
-//! use nic82599::explore::{main, Begin, Bus, Look, Scenario};
+//! use nic82599::explore::{search, Begin, Bus, Look, Outcome, Scenario};
 //! use nic82599::regs::*;
 //!
 //! struct Sender;
@@ -37,10 +37,10 @@
 //!     }
 //! }
 //!
-//! fn run() -> std::process::ExitCode {
-//!     main(Sender)
-//! }
+//! assert_eq!(search(Sender, &["--runs", "100", "--quiet", "--out", "/tmp"]), Outcome::Nothing);
 //! ```
+//!
+//! A program's `main` is [`main`], which takes the words of the command line.
 //!
 //! Searches fork processes, and a schedule leaves tasks behind that aren't ended: what lies on their stacks is lost,
 //! and isn't dropped. So a task holds nothing over a call of its `Bus` whose drop somebody counts on: no guard of a
@@ -82,12 +82,12 @@ pub trait Scenario: 'static {
         1
     }
 
-    /// A schedule with more points than this never ends, which is a failure.
+    /// A schedule with more points than this never ends, which is a failure: 2,000 unless this says so.
     fn points(&self) -> u32 {
         2_000
     }
 
-    /// Bytes of a task's stack.
+    /// Bytes of a task's stack: 262,144 unless this says so.
     fn stack(&self) -> u32 {
         262_144
     }
@@ -154,7 +154,8 @@ pub fn main(scenario: impl Scenario) -> ExitCode {
 }
 
 /// Searches as the words say, for a test: `search(Race, &["--runs", "500", "--out", "target"])`. One search of the
-/// process runs at a time.
+/// process runs at a time; one that a task begins is refused. A panic of a task isn't printed but by `--replay`: the
+/// first search puts a hook in front of the one that the process has.
 pub fn search(scenario: impl Scenario, words: &[&str]) -> Outcome {
     let program = env::args().next().unwrap_or_default();
     run(scenario, std::iter::once(program).chain(words.iter().map(|&it| it.to_owned())).collect())

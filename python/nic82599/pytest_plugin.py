@@ -4,9 +4,10 @@
     def test_poll():
         return Poll()                  # a nic82599.explore.Scenario
 
-The words of the marker are those of `nic82599.explore.search`: runs, seed, strategy, depth, preemptions, hang. A
-failure is told with its schedule. With --nic-out FOLDER the schedule goes into a file there, NAME.schedule, which
---nic-replay FILE makes once in place of the search; tests of other scenarios are skipped then.
+The words of the marker are those of `nic82599.explore.search`: runs, seed, strategy, depth, preemptions, hang, shrink,
+jobs. A failure is told with its schedule. With --nic-out FOLDER the schedule goes into a file there, NAME.schedule,
+which --nic-replay FILE makes once in place of the search; tests of other scenarios are skipped then. Beside it is
+NAME.nic, the device's side of it, which nicview draws. --nic-jobs N has N processes search each scenario.
 """
 
 from __future__ import annotations
@@ -15,12 +16,13 @@ import pytest
 
 from .explore import BadSchedule, Failure, Scenario, replay, search
 
-WORDS = ("runs", "seed", "strategy", "depth", "preemptions", "hang", "shrink")
+WORDS = ("runs", "seed", "strategy", "depth", "preemptions", "hang", "shrink", "jobs")
 
 
 def pytest_addoption(parser: pytest.Parser) -> None:
     group = parser.getgroup("nic82599")
     group.addoption("--nic-out", metavar="FOLDER", help="where the schedules of failures go")
+    group.addoption("--nic-jobs", metavar="N", type=int, help="so many processes for each search")
     group.addoption("--nic-replay", metavar="FILE", help="makes the schedule of this file in place of a search")
 
 
@@ -72,7 +74,10 @@ def pytest_pyfunc_call(pyfuncitem: pytest.Function) -> bool | None:
     if path:
         replayed(scenario, path)
     else:
-        search(scenario, **words_of(marker), out=config.getoption("--nic-out"))
+        words = words_of(marker)
+        if config.getoption("--nic-jobs"):
+            words["jobs"] = config.getoption("--nic-jobs")
+        search(scenario, **words, out=config.getoption("--nic-out"))
     return True
 
 

@@ -4,6 +4,8 @@ a Python with pytest is."""
 from __future__ import annotations
 
 import os
+import re
+import signal
 import subprocess
 import sys
 import tempfile
@@ -12,7 +14,21 @@ from pathlib import Path
 
 HERE = Path(__file__).resolve().parent
 sys.path[:0] = [str(HERE.parent), str(HERE.parent / "examples")]
-from nic82599.explore import BESIDE, BadSchedule, Failure, Mutex, Scenario, replay, search  # noqa: E402
+from nic82599 import places  # noqa: E402
+from nic82599.explore import (  # noqa: E402
+    BESIDE,
+    BadSchedule,
+    Failure,
+    Mutex,
+    Scenario,
+    Search,
+    replay,
+    search,
+    write_files,
+)
+from nic82599.explore.engine import Result  # noqa: E402
+from nic82599.explore.script import Script  # noqa: E402
+from nic82599.explore.strategy import Exhaustive  # noqa: E402
 from race import Fixed, Race  # noqa: E402
 
 
@@ -29,6 +45,11 @@ class Faulty(Scenario):
         self.count = 0
         for number, steps in enumerate(self.tasks):
             self.task(f"t{number}", lambda steps=steps: [getattr(self, f"do_{step}")() for step in steps.split()])
+
+    def do_die(self) -> None:
+        self.point()
+        if self.count == 0:
+            os.kill(os.getpid(), signal.SIGSEGV)
 
     def do_up(self) -> None:
         with self.holding(self.one), self.holding(self.other):
@@ -55,6 +76,9 @@ class Faulty(Scenario):
     def do_poll(self) -> None:
         while not self.count:
             self.read32("STATUS")
+
+    def do_point(self) -> None:
+        self.point()
 
     def do_count(self) -> None:
         self.point()
@@ -180,9 +204,74 @@ class Found(unittest.TestCase):
         masked.where = BESIDE
         self.assertIn("start isr beside", self.failure(masked, 500))
 
+    def test_jobs(self) -> None:
+        """Several processes find the failure that one finds; of a process that dies its run is told."""
+        for scenario, strategy in ((Race(), "mixed"), (Race(), "exhaustive"), (Twice("add", "add", "point"), "exhaustive")):
+            told = {self.failure(scenario, 500, strategy=strategy, jobs=jobs).replace(" in run 0", "") for jobs in (2, 3)}
+            one = self.failure(scenario, 500, strategy=strategy)
+            told.add(re.sub(r"(by exhaustive) in run \d+", r"\1", one).replace(" in run 0", ""))
+            self.assertEqual(len(told), 1, told)
+        search(Fixed(), 60, jobs=3)
+        search(Faulty("up", "up"), None, strategy="exhaustive", preemptions=2, jobs=3)
+        told = self.failure(Faulty("die", "point"), 200, jobs=2)
+        self.assertIn("crash: the process was ended by signal 11", told)
+        self.assertRegex(told, r"in seed 1, run \d+")
+
+    def test_shares(self) -> None:
+        """The exhaustive searches of several processes make each schedule that one makes, and none twice."""
+        def made(mine: int, jobs: int) -> list[tuple[str, ...]]:
+            with Search(Twice("count", "add", "point")) as searching:
+                way, found = Exhaustive(2, mine, jobs), []
+                while True:
+                    way.begin()
+                    result = searching.run(way.choose)
+                    found += [] if searching.is_cut else [tuple(result.actors)]
+                    if not way.next():
+                        return found
+
+        one = made(0, 1)
+        shares = [made(mine, 3) for mine in range(3)]
+        self.assertEqual(len(one), len(set(one)))
+        first = one[0]
+        parts = [schedule for share in shares for schedule in share if schedule != first]
+        self.assertEqual(sorted(parts), sorted(one[1:]))
+        self.assertTrue(all(len(share) > 2 for share in shares), [len(share) for share in shares])
+
     def test_words(self) -> None:
-        for words in ({"strategy": "best"}, {"runs": 0}, {"runs": None}):
+        for words in ({"strategy": "best"}, {"runs": 0}, {"runs": None}, {"jobs": 0}, {"jobs": 257}):
             self.assertRaises(ValueError, search, Race(), **words)
+
+
+class All(Scenario):
+    """A step of each kind, and a failure at the end."""
+
+    name, vfs, blocks = "all", 1, 3
+
+    def bring_up(self) -> None:
+        self.write32("GCR_EXT", 3)
+        for block in range(3):
+            self.lend(block)
+
+    def begin(self) -> None:
+        self.task("all", self.all)
+        self.link_change(False)
+
+    def all(self) -> None:
+        self.vf_write32(0, "VFMAILBOX", 4)
+        self.check(self.vf_read32(0, "VFMAILBOX") & 4, "the mailbox isn't taken")
+        self.dma_write(0x804, b"abcdefg")
+        self.check(self.dma_read(0x805, 3) == b"bcd", "other bytes")
+        self.point()
+        self.take(2)
+
+    def end(self) -> str | None:
+        return "it ends"
+
+
+def ran(script: str, *words: str) -> str:
+    """What the bench prints of a script."""
+    made = subprocess.run([places.program(), "run", *words], input=script, capture_output=True, text=True, check=False)
+    return made.stdout
 
 
 class Files(unittest.TestCase):
@@ -193,6 +282,10 @@ class Files(unittest.TestCase):
         wanted = [(line[0].strip(), line[1].strip()) for line in lines if len(line) == 2 and line[0]]
         self.assertEqual(result.points, wanted)
         self.assertEqual(f"# {result.outcome}: {result.words}", "#".join(lines[0]))
+        with tempfile.TemporaryDirectory() as folder:
+            write_files(Race(), result, "found by random in run 36 of seed 1", Path(folder), 10)
+            for name in ("race.schedule", "race.nic"):  # (what the explorer in C wrote of it, to the letter)
+                self.assertEqual((Path(folder) / name).read_text(), (HERE / name).read_text())
 
     def test_written(self) -> None:
         with tempfile.TemporaryDirectory() as folder:
@@ -200,7 +293,28 @@ class Files(unittest.TestCase):
                 search(Race(), out=folder)
             self.assertEqual(caught.exception.path, Path(folder) / "race.schedule")
             again = replay(Race(), caught.exception.path)
+            script = (Path(folder) / "race.nic").read_text()
         self.assertEqual(again, caught.exception.result)
+        self.assertIn("w RDT[0] 7                   # bring-up\n", script)
+        self.assertIn("r EICR                       # task poll\nexpect 0x00000020 0xffffffff\n", script)
+        self.assertEqual(script.splitlines()[-1], "# FAILED end: a frame lies in the ring, and nobody comes for it")
+        self.assertEqual(ran(script, "--vfs", "0", "--fifo", "64").splitlines()[-1].split()[0], "ok")
+
+    def test_script(self) -> None:
+        """A script has functions' accesses, writes of memory and the link; and where it is cut, it says so."""
+        with tempfile.TemporaryDirectory() as folder:
+            with self.assertRaises(Failure):
+                search(All(), 50, out=folder, seed=3)
+            script = (Path(folder) / "all.nic").read_text()
+        for part in ("vw 0 0x2fc 4", "# task all: VFMAILBOX", "poke 0x800 d", "link down                    # link: ",
+                     "unlend 2                     # task all", "# task all: a point"):  # fmt: skip
+            self.assertIn(part, script)
+        self.assertEqual(ran(script, "--vfs", "1", "--fifo", "64").splitlines()[-1].split()[0], "ok")
+        made = Script(All(), Result("end", "a\nb\u00e9"))
+        for _ in range(5_000):
+            made.read("r CTRL", "task all", 0)
+        self.assertEqual(made.lines.count("# CUT: a script has 4,096 instructions, and the run more"), 1)
+        self.assertEqual(made.text().splitlines()[-1], "# FAILED end: a?b?")
 
     def test_refused(self) -> None:
         with tempfile.TemporaryDirectory() as folder:
@@ -264,7 +378,8 @@ class Plugin(unittest.TestCase):
     def test_all(self) -> None:
         with tempfile.TemporaryDirectory() as folder:
             (Path(folder) / "test_it.py").write_text(TESTS)
-            told = self.pytest(folder, "--nic-out", folder, "--strict-markers")
+            told = self.pytest(folder, "--nic-out", folder, "--strict-markers", "--nic-jobs", "2")
+            self.assertTrue((Path(folder) / "race.nic").exists())
             self.assertIn("3 failed, 2 passed", told)
             self.assertIn("end: a frame lies in the ring", told)
             self.assertIn("test_nothing gives no Scenario", told)

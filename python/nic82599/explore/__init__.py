@@ -13,10 +13,13 @@ from __future__ import annotations
 
 from collections.abc import Callable, Iterator
 from contextlib import contextmanager
+from dataclasses import dataclass
 from pathlib import Path
 
 from .. import Nic, NotLent, address_of, offset_of
 from .engine import POLLS, Choose, Result, Run, Thread
+from .jobs import Found, Over, searched
+from .script import Script, name_of, number, offset_name_of
 from .strategy import Exhaustive, by_chance, by_list, by_priority
 
 __all__ = ["BESIDE", "BadSchedule", "Failure", "Mutex", "Result", "Scenario", "Search", "replay", "search"]
@@ -50,6 +53,7 @@ class Scenario:
     allowed: frozenset[str] = frozenset()
     _nic: Nic
     _run: Run | None = None
+    _script: Script | None = None
 
     # --- what a scenario has ---
 
@@ -111,7 +115,16 @@ class Scenario:
 
     def settle(self) -> None:
         """Makes steps of the device until none has anything to do; in `bring_up`."""
-        self._nic.settle(self.queues)
+        run = Run(self, self._nic, lambda _run, _can: None, 1)
+        run.list_actors()
+        while any([run.device_event(one) for one in run.actors if one.kind == "device"]):
+            continue
+
+    def _who(self, run: Run | None) -> str:
+        """Who accesses, as scripts say it."""
+        if run is None or run.self is None:
+            return "bring-up"
+        return f"{'handler' if run.self.is_handler else 'task'} {run.self.name}"
 
     # --- points ---
 
@@ -139,7 +152,9 @@ class Scenario:
         run = self._point()
         word, stray = self._nic.read32(address)
         is_change = not stray and self._nic.peek32(address) != word
-        self._did(run, f"r 0x{address:05x} = 0x{word:08x}{' (stray)' * stray}", is_change)
+        self._did(run, f"r {name_of(address)} = 0x{word:08x}{' (stray)' * stray}", is_change)
+        if self._script:
+            self._script.read(f"r {name_of(address)}", self._who(run), word)
         if run:
             run.polled(f"r {address}", str(word))
         return word
@@ -149,7 +164,9 @@ class Scenario:
         address = address_of(at) if isinstance(at, str) else at
         run = self._point()
         is_there = self._nic.write32(address, word)
-        self._did(run, f"w 0x{address:05x} 0x{word:08x}{'' if is_there else ' (stray)'}")
+        self._did(run, f"w {name_of(address)} 0x{word:08x}{'' if is_there else ' (stray)'}")
+        if self._script:
+            self._script.line(f"w {name_of(address)} {number(word)}", self._who(run))
         return is_there
 
     def vf_read32(self, vf: int, at: int | str) -> int:
@@ -158,7 +175,9 @@ class Scenario:
         function = self._nic.vf(vf)
         word, stray = function.read32(offset)
         is_change = not stray and function.peek32(offset) != word
-        self._did(run, f"vr {vf} 0x{offset:04x} = 0x{word:08x}{' (stray)' * stray}", is_change)
+        self._did(run, f"vr {vf} {offset_name_of(offset)} = 0x{word:08x}{' (stray)' * stray}", is_change)
+        if self._script:
+            self._script.read(f"vr {vf} 0x{offset:x}", f"{self._who(run)}: {offset_name_of(offset)}", word)
         if run:
             run.polled(f"vr {vf} {offset}", str(word))
         return word
@@ -167,7 +186,10 @@ class Scenario:
         offset = offset_of(at) if isinstance(at, str) else at
         run = self._point()
         is_there = self._nic.vf(vf).write32(offset, word)
-        self._did(run, f"vw {vf} 0x{offset:04x} 0x{word:08x}{'' if is_there else ' (stray)'}")
+        self._did(run, f"vw {vf} {offset_name_of(offset)} 0x{word:08x}{'' if is_there else ' (stray)'}")
+        if self._script:
+            said = f"{self._who(run)}: {offset_name_of(offset)}"
+            self._script.line(f"vw {vf} 0x{offset:x} {number(word)}", said)
         return is_there
 
     def _refused(self, run: Run | None, what: str, bus: int) -> None:
@@ -186,6 +208,8 @@ class Scenario:
         except NotLent:
             note = " (not lent)"
         self._did(run, f"peek 0x{bus:05x}, {length} bytes{note}", False)
+        if self._script:
+            self._script.peek(self._who(run), self._nic, bus, length)
         if run:
             run.polled(f"peek {bus}", (data or b"").hex())
         if data is None:
@@ -200,6 +224,8 @@ class Scenario:
         except NotLent:
             is_lent = False
         self._did(run, f"poke 0x{bus:05x}, {len(data)} bytes{'' if is_lent else ' (not lent)'}")
+        if self._script:
+            self._script.poke(self._who(run), self._nic, bus, len(data))
         if not is_lent:
             self._refused(run, "writes", bus)
         return is_lent
@@ -214,6 +240,8 @@ class Scenario:
         run = self._point()
         self._nic.lend(block)
         self._did(run, f"lend {block}")
+        if self._script:
+            self._script.line(f"lend {block}", self._who(run))
 
     def take(self, block: int) -> None:
         run = self._point()
@@ -222,6 +250,8 @@ class Scenario:
         except NotLent:
             self._refused(run, "takes back", 2048 * block)
         self._did(run, f"unlend {block}")
+        if self._script:
+            self._script.line(f"unlend {block}", self._who(run))
 
     def point(self) -> None:
         """A point and nothing else: between two accesses of the driver's own memory."""
@@ -350,9 +380,9 @@ def read_schedule(path: str | Path, scenario: Scenario) -> tuple[list[str], list
 class Search:
     """A scenario whose device is up, to make schedules with. It ends by `close`, or at the end of a `with`."""
 
-    def __init__(self, scenario: Scenario, hang: float = 10):
+    def __init__(self, scenario: Scenario, hang: float = 10, script: Script | None = None):
         self.scenario, self.hang, self.is_cut = scenario, hang, False
-        scenario._run = None
+        scenario._run, scenario._script = None, script
         scenario._nic = Nic(scenario.vfs, scenario.fifo, scenario.blocks)
         scenario.bring_up()
         self.kept = scenario._nic.snapshot()
@@ -396,55 +426,99 @@ class Search:
         return best
 
 
-def _by_runs(searching: Search, strategy: str, runs: int, seed: int, depth: int) -> tuple[Result, str] | None:
-    length = 1
-    for number in range(runs):
-        by = strategy if strategy != "mixed" else ("random", "priorities")[number >= 16 and number % 2]
-        choose = by_chance(seed, number) if by == "random" else by_priority(seed, number, depth, length)
-        result = searching.run(choose)
-        length = max(length, len(result.points)) if number < 16 else length
-        if result.outcome != "fine":
-            return result, f"found by {by} in run {number} of seed {seed}"
-    return None
+@dataclass
+class _Plan:
+    """What is searched, and how."""
+
+    runs: int | None
+    seed: int
+    strategy: str
+    depth: int
+    preemptions: int
+    jobs: int
+
+    def by_runs(self, searching: Search, mine: int, is_over: Over) -> Found | None:
+        """The first runs, by which the usual length is known, are made by each process."""
+        length = 1
+        for number in range(self.runs or 0):
+            if number >= FIRST and (number - FIRST) % self.jobs != mine:
+                continue
+            if is_over(number):
+                return None
+            way = self.strategy if self.strategy != "mixed" else ("random", "priorities")[number >= FIRST and number % 2]
+            chance = by_chance(self.seed, number)
+            result = searching.run(
+                chance if way == "random" else by_priority(self.seed, number, self.depth, length)
+            )
+            length = max(length, len(result.points)) if number < FIRST else length
+            if result.outcome != "fine":
+                return Found(number, result, f"found by {way} in run {number} of seed {self.seed}")
+        return None
+
+    def exhaustive(self, searching: Search, mine: int, is_over: Over) -> Found | None:
+        way, number = Exhaustive(self.preemptions, mine, self.jobs), 0
+        while (self.runs is None or number * self.jobs < self.runs) and not is_over(way.rank):
+            way.begin()
+            result = searching.run(way.choose)
+            if result.outcome != "fine":
+                where = f" in run {number}" if self.jobs == 1 else ""
+                return Found(way.rank, result, f"found by exhaustive{where}")
+            number += 1
+            if not way.next():
+                return None
+        return None
+
+    def search(self, searching: Search) -> Found | None:
+        share = self.exhaustive if self.strategy == "exhaustive" else self.by_runs
+        if self.jobs == 1:
+            return share(searching, 0, lambda _rank: False)
+        what = "in a part of the exhaustive search:" if self.strategy == "exhaustive" else f"in seed {self.seed}, run"
+        return searched(self.jobs, lambda mine, is_over: share(searching, mine, is_over), what)
 
 
-def _exhaustive(searching: Search, runs: int | None, preemptions: int) -> tuple[Result, str] | None:
-    way, number = Exhaustive(preemptions), 0
-    while runs is None or number < runs:
-        way.begin()
-        result = searching.run(way.choose)
-        if result.outcome != "fine":
-            return result, f"found by exhaustive in run {number}"
-        number += 1
-        if not way.next():
-            return None
-    return None
+FIRST = 16
+
+
+def _checked(plan: _Plan) -> _Plan:
+    if plan.strategy not in STRATEGIES:
+        raise ValueError(f"{plan.strategy!r}: a strategy is one of {', '.join(STRATEGIES)}")
+    if plan.strategy != "exhaustive" and plan.runs is None or plan.runs is not None and plan.runs < 1:
+        raise ValueError("runs: at least 1")
+    if not 1 <= plan.jobs <= 256:
+        raise ValueError("jobs: 1 to 256")
+    return plan
+
+
+def write_files(scenario: Scenario, result: Result, told: str, out: Path, hang: float) -> Path:
+    """The schedule of a failure, and the device's side of it as a script, from the bring-up on."""
+    path = out / f"{scenario.name}.schedule"
+    write_schedule(path, scenario, result, told)
+    script = Script(scenario, result)
+    with Search(scenario, hang, script) as searching:
+        if result.points:
+            searching.run(by_list(result.actors, False))
+    scenario._script = None
+    (out / f"{scenario.name}.nic").write_text(script.text())
+    return path
 
 
 def search(
     scenario: Scenario, runs: int | None = 1_000, *, seed: int = 1, strategy: str = "mixed", depth: int = 3,
-    preemptions: int = 2, hang: float = 10, out: str | Path | None = None, shrink: bool = True,
+    preemptions: int = 2, hang: float = 10, out: str | Path | None = None, shrink: bool = True, jobs: int = 1,
 ) -> None:  # fmt: skip
-    """Makes so many schedules; Failure at the first that fails, shrunk, and in the folder `out` as NAME.schedule. The
-    exhaustive search makes all schedules with at most so many preemptions where `runs` is None."""
-    if strategy not in STRATEGIES:
-        raise ValueError(f"{strategy!r}: a strategy is one of {', '.join(STRATEGIES)}")
-    if strategy != "exhaustive" and (runs is None or runs < 1):
-        raise ValueError("runs: at least 1")
+    """Makes so many schedules; Failure at the first that fails, shrunk, and in the folder `out` as NAME.schedule, with
+    the device's side of it as NAME.nic. The exhaustive search makes all schedules with at most so many preemptions where
+    `runs` is None. So many processes share the work, and the failure is the same however many they are."""
+    plan = _checked(_Plan(runs, seed, strategy, depth, preemptions, jobs))
     with Search(scenario, hang) as searching:
-        if strategy == "exhaustive":
-            found = _exhaustive(searching, runs, preemptions)
-        else:
-            found = _by_runs(searching, strategy, runs, seed, depth)
+        found = plan.search(searching)
         if found is None:
             return
-        result, told = found
-        if shrink and result.outcome not in ("hang", "endless"):
+        result = found.result
+        if shrink and result.points and result.outcome not in ("hang", "endless"):
             result = searching.shrink(result)
-    path = Path(out) / f"{scenario.name}.schedule" if out is not None else None
-    if path:
-        write_schedule(path, scenario, result, told)
-    raise Failure(result, told, path)
+    path = write_files(scenario, result, found.told, Path(out), hang) if out is not None else None
+    raise Failure(result, found.told, path)
 
 
 def replay(scenario: Scenario, path: str | Path, hang: float = 10) -> Result:

@@ -17,6 +17,7 @@ if TYPE_CHECKING:
     from . import Scenario
 
 POLLS = 8
+OWN = ("a point", "waited", "waited until", "paused", "locks", "unlocks")
 Choose = Callable[["Run", list["Actor"]], "Actor | None"]
 
 
@@ -116,7 +117,7 @@ class Run:
         self.next_frame = self.next_link = self.acts = self.changes = 0
         self.actors: list[Actor] = []
         self.self: Thread | None = None
-        self.is_over = self.is_cut = False
+        self.is_over = self.is_cut = self.is_running = False
         self.main = threading.Lock()
 
     def failed(self, outcome: str, words: str) -> None:
@@ -190,6 +191,14 @@ class Run:
         for actor in self.actors:
             actor.is_idle = False
 
+    def device_event(self, actor: Actor) -> Event | bool | None:
+        """A step of the device: what came of it, None where there was nothing to do."""
+        event = self._device_event(actor)
+        if event is not None and self.scenario._script:
+            who = "device" if self.is_running else "bring-up"
+            self.scenario._script.line(actor.name, f"{who}: {reply(event)}")
+        return event
+
     def _device_event(self, actor: Actor) -> Event | bool | None:
         kind = actor.name.split()
         if kind[0] == "rx":
@@ -206,21 +215,27 @@ class Run:
             return None
 
     def _from_link(self, actor: Actor) -> str:
+        script = self.scenario._script
         if actor.kind == "link":
             up = self.links[self.next_link]
             self.next_link += 1
-            self.nic.link(up)
+            told = "done" if self.nic.link(up) else "idle"
+            if script:
+                script.line("link up" if up else "link down", f"link: {told}")
             return "link up" if up else "link down"
         frame = self.frames[self.next_frame]
         self.next_frame += 1
-        return reply(self.nic.arrive(frame))
+        told = reply(self.nic.arrive(frame))
+        if script:
+            script.line(f"arrive {script.data(frame)}", f"link: {told}")
+        return told
 
     def device_acts(self, actor: Actor) -> bool:
         """A step of the device or from the link; False where there was nothing to do, and nothing is noted."""
         if actor.kind in ("arrive", "link"):
             words = self._from_link(actor)
         else:
-            event = self._device_event(actor)
+            event = self.device_event(actor)
             if event is None:
                 actor.is_idle = True
                 return False
@@ -319,11 +334,12 @@ class Run:
             self.self = None
             self.main.release()
             return False
+        words = "starts" if actor.kind == "start" else "begins" if actor.thread.next == "begins" else ""
         if actor.kind == "start":
             self._start_handler(actor)
-            self.note(actor, "starts")
-        else:
-            self.note(actor, "begins" if actor.thread.next == "begins" else "")
+        self.note(actor, words)
+        if words and self.scenario._script:
+            self.scenario._script.own(actor.name, words)
         if actor.kind == "thread" and actor.thread is thread:
             return True
         self.self = actor.thread
@@ -359,6 +375,8 @@ class Run:
 
     def tell(self, words: str) -> None:
         """What the thread that runs did at the point at which it stood."""
+        if words in OWN and self.self is not None and self.scenario._script:
+            self.scenario._script.own(self.last, words)
         if self.self is not None and self.result.points:
             self.result.points[-1] = (self.result.points[-1][0], words)
 
@@ -406,6 +424,7 @@ class Run:
     def make(self) -> Result:
         """Makes the schedule."""
         self.main.acquire()
+        self.is_running = True
         self.scenario.begin()
         self.list_actors()
         for thread in self.threads:

@@ -3,6 +3,7 @@
 from __future__ import annotations
 
 from collections.abc import Sequence
+from dataclasses import dataclass
 from random import Random
 
 from .engine import Actor, Choose, Run
@@ -60,39 +61,71 @@ def by_list(names: Sequence[str], is_strict: bool) -> Choose:
     return choose
 
 
-class Exhaustive:
-    """All schedules with at most so many preemptions: that another acts while the one that acted last could go on."""
+@dataclass
+class _Node:
+    """A point: who can act, as it was first and without steps that had nothing to do, and which is made."""
 
-    def __init__(self, preemptions: int):
-        self.preemptions = preemptions
-        self.stack: list[tuple[list[str], int, bool]] = []
-        self.at = 0
+    all: list[str]
+    names: list[str]
+    at: int
+    goes_on: bool
+
+
+class Exhaustive:
+    """All schedules with at most so many preemptions: that another acts while the one that acted last could go on. Of
+    several searches each takes its share: at a point of the first schedule each choice is of one of them."""
+
+    def __init__(self, preemptions: int, mine: int = 0, jobs: int = 1):
+        self.preemptions, self.mine, self.jobs = preemptions, mine, jobs
+        self.stack: list[_Node] = []
+        self.at = self.rank = 0
+        self.root: int | None = None
 
     def begin(self) -> None:
         self.at = 0
+
+    def _skip(self, depth: int, node: _Node) -> None:
+        """Goes on to a choice of this search."""
+        if self.root is None or depth > self.root:
+            return
+        while node.at < len(node.names):
+            index = node.all.index(node.names[node.at])
+            if (depth + index) % self.jobs == self.mine:
+                self.rank = ((1 << 20) - depth << 12) + index
+                return
+            node.at += 1
 
     def choose(self, run: Run, can: list[Actor]) -> Actor | None:
         """The next choice of the schedule; None where all of this point were made."""
         point = len(run.result.points)
         if self.at > point:  # (it was a step of the device with nothing to do, so it was no choice)
             self.at = point
-            names, k, goes_on = self.stack[point]
-            del names[k]
-            self.stack[point] = (names, k, goes_on and k > 0)
+            node = self.stack[point]
+            del node.names[node.at]
+            node.goes_on = node.goes_on and node.at > 0
+            if point + 1 == len(self.stack):
+                self._skip(point, node)
         if self.at == len(self.stack):
-            self.stack.append(([one.name for one in can], 0, can[0].name == run.last))
-        names, k, _ = self.stack[self.at]
+            names = [one.name for one in can]
+            self.stack.append(_Node(names, names.copy(), 0, can[0].name == run.last))
+        node = self.stack[self.at]
         self.at += 1
-        return next((one for one in can if one.name == names[k]), None) if k < len(names) else None
+        return next((one for one in can if one.name == node.names[node.at]), None) if node.at < len(node.names) else None
 
     def _used(self) -> int:
-        return sum(goes_on and k > 0 for _, k, goes_on in self.stack)
+        return sum(node.goes_on and node.at > 0 for node in self.stack)
 
     def next(self) -> bool:
         """Goes to the next schedule; False behind the last."""
+        if self.root is None:
+            self.root = len(self.stack)
         while self.stack:
-            names, k, goes_on = self.stack.pop()
-            if k + 1 < len(names) and self._used() + goes_on <= self.preemptions:
-                self.stack.append((names, k + 1, goes_on))
+            node = self.stack.pop()
+            depth = len(self.stack)
+            node.at += 1
+            self._skip(depth, node)
+            if node.at < len(node.names) and self._used() + node.goes_on <= self.preemptions:
+                self.stack.append(node)
+                self.root = min(self.root, depth)
                 return True
         return False

@@ -254,14 +254,24 @@ def sanitized_explorer(folder: Path, compiler: str, flags: list[str]) -> Path:
     return archive
 
 
-def check_quickly(kit: Kit, few: bool) -> list[str]:
-    """All that is here, in some seconds; under the sanitizers less of it."""
+# How many states of the table's test, scenarios of that of sleep sets, and schedules of each twin by chance; to how
+# many preemptions twins are searched; and of the corpus' drivers each how-manieth is tried.
+AMOUNTS = {
+    "few": (300, 4, 500, 1, 4),  # under the sanitizers
+    "plain": (1_000, 12, 3_000, 1, 1),
+    "full": (10_000, 100, 100_000, 2, 1),
+}
+
+
+def check_all(kit: Kit, amount: str) -> list[str]:
+    """All that is here, in so large an amount."""
+    states, scenarios, runs, preemptions, each = AMOUNTS[amount]
     return [
         check_names(kit),
         check_faults(kit),
         check_refusals(kit),
-        check_orders(kit, 100 if few else 1000),
-        check_sleeping(kit, 4 if few else 12),
-        check_corpus(kit, 500 if few else 3000, 1, 4 if few else 1),
-        check_examples(kit, 500 if few else 3000),
+        check_orders(kit, states),
+        check_sleeping(kit, scenarios),
+        check_corpus(kit, runs, preemptions, each),
+        check_examples(kit, runs),
     ]

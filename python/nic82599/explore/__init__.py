@@ -445,11 +445,10 @@ class _Plan:
                 continue
             if is_over(number):
                 return None
-            way = self.strategy if self.strategy != "mixed" else ("random", "priorities")[number >= FIRST and number % 2]
-            chance = by_chance(self.seed, number)
-            result = searching.run(
-                chance if way == "random" else by_priority(self.seed, number, self.depth, length)
-            )
+            mixed = "priorities" if number >= FIRST and number % 2 else "random"
+            way = mixed if self.strategy == "mixed" else self.strategy
+            is_random, seed = way == "random", self.seed
+            result = searching.run(by_chance(seed, number) if is_random else by_priority(seed, number, self.depth, length))
             length = max(length, len(result.points)) if number < FIRST else length
             if result.outcome != "fine":
                 return Found(number, result, f"found by {way} in run {number} of seed {self.seed}")
@@ -507,8 +506,8 @@ def search(
     preemptions: int = 2, hang: float = 10, out: str | Path | None = None, shrink: bool = True, jobs: int = 1,
 ) -> None:  # fmt: skip
     """Makes so many schedules; Failure at the first that fails, shrunk, and in the folder `out` as NAME.schedule, with
-    the device's side of it as NAME.nic. The exhaustive search makes all schedules with at most so many preemptions where
-    `runs` is None. So many processes share the work, and the failure is the same however many they are."""
+    the device's side of it as NAME.nic. The exhaustive search makes all schedules with at most so many preemptions
+    where `runs` is None. So many processes share the work, and the failure is the same however many they are."""
     plan = _checked(_Plan(runs, seed, strategy, depth, preemptions, jobs))
     with Search(scenario, hang) as searching:
         found = plan.search(searching)

@@ -1,4 +1,5 @@
-"""The device's side of a schedule as a script, as the explorer in C writes it: `nicbench run` runs it, `nicview` draws it.
+"""The device's side of a schedule as a script, as the explorer in C writes it: `nicbench run` runs it, `nicview` draws
+it.
 
 Registers stand by their names, each word that the driver read is an `expect`, and who acted is a comment. The last line
 says what failed.

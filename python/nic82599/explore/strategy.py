@@ -110,7 +110,9 @@ class Exhaustive:
             self.stack.append(_Node(names, names.copy(), 0, can[0].name == run.last))
         node = self.stack[self.at]
         self.at += 1
-        return next((one for one in can if one.name == node.names[node.at]), None) if node.at < len(node.names) else None
+        if node.at >= len(node.names):
+            return None
+        return next((one for one in can if one.name == node.names[node.at]), None)
 
     def _used(self) -> int:
         return sum(node.goes_on and node.at > 0 for node in self.stack)

@@ -159,6 +159,14 @@ REFUSALS = {
     "name": "a task's or a handler's name has 1 to 63 letters",
     "fifo": "there is no such device: bad fifo",
     "queues": "its queues aren't 1 to 128",
+    "twice": "two tasks or handlers have the name faulty",
+    "group": "a handler is of a virtual function that there isn't",
+    "nowhere": "a handler is on a task that there isn't",
+    "stack": "its stack is below 16,384 bytes",
+    "vfs": "there is no such device: ",
+    "points": "its points are above 1,000,000",
+    "no_end": "it has no bring_up, begin or end",
+    "scenario": "its name isn't of 1 to 63 letters",
 }
 
 WORDS = {
@@ -171,7 +179,12 @@ WORDS = {
     "--jobs 257": '"257" is no number of 1 to 256',
     "--nonsense 1": "--nonsense: there is no such option",
     "words": "words: there is no such option",
+    "--seed 18446744073709551616": "is no number of 0 to",
+    "--preemptions 1001": '"1001" is no number of 0 to 1000',
+    "--hang 0": '"0" is no number of 1 to 86400',
     "--out /nowhere": "there is no such folder",
+    "--out /dev/null": "there is no such folder",
+    "--replay /tmp": "/tmp: it can't be read",
     "--replay /nowhere": "/nowhere: it can't be read",
 }
 
@@ -210,7 +223,10 @@ def check_refusals(kit: Kit) -> str:
     for mode, wanted in REFUSALS.items():
         told(ran([program, mode, "--quiet"], 2), wanted, mode)
     for words, wanted in WORDS.items():
-        told(ran([program, "fine", *words.split()], 2), wanted, words)
+        said = ran([program, "fine", *words.split()], 2)
+        told(said, wanted, words)
+        if not words.startswith(("--out", "--replay")):
+            told(said, "usage: .*options", words)
     schedule = out / "bad.schedule"
     fine = "scenario faulty\ntask faulty\n"
     for text, wanted in {
@@ -222,13 +238,20 @@ def check_refusals(kit: Kit) -> str:
         f"{fine}handler isr\n": r':3: "handler isr" can\'t act here',
         fine: r":2: the schedule ends, and somebody can act",
         "scenario faulty\n" + "x" * 600: r":2: the line is longer",
+        f"{fine}rx\0\n": r":3: it is no text",
+        "\0" * 600: r":1: it is no text",
     }.items():
         schedule.write_text(text)
         told(ran([program, "fine", "--replay", schedule], 2), wanted, repr(text))
     ran([program, "check", "--quiet", "--out", out], 1)
     schedule.write_text((out / "faulty.schedule").read_text() + "task other\n")
     told(ran([program, "check", "--replay", schedule], 2), "all is over before this point", "a longer schedule")
-    return f"{len(REFUSALS) + len(WORDS) + 9} refusals"
+    lost = out / "lost"
+    (lost / "faulty.schedule").mkdir(parents=True, exist_ok=True)
+    said = ran([program, "check", "--quiet", "--out", lost], 1)
+    told(said, "faulty.schedule: it can't be written", "a schedule without a file")
+    told(said, "scenario faulty\n(?:.*\n)*task faulty +# r RDH", "a schedule without a file")
+    return f"{len(REFUSALS) + len(WORDS) + 12} refusals"
 
 
 # --- the table of independent steps ---

@@ -50,7 +50,7 @@ typedef struct nicx_scenario {
     const char *(*end)(void);
 
     uint32_t points;  /* a schedule with more points than this is a failure: it never ends. 0 stands for 2,000 */
-    uint32_t stack;   /* bytes of a task's stack; 0 stands for 65,536 */
+    uint32_t stack;   /* bytes of a task's stack, at least 16,384; 0 stands for 65,536 */
     uint32_t allowed; /* of enum nicx_allowed */
 } nicx_scenario;
 
@@ -64,7 +64,7 @@ enum {
     NICX_BESIDE = -2    /* it runs beside all of them: a thread of its own */
 };
 
-/* A task: a thread of the driver, or a processor. Answers its number, from 0 on. */
+/* A task: a thread of the driver, or a processor. Answers its number, from 0 on. Each has a name of its own. */
 int nicx_task(const char *name, void (*function)(void *), void *argument);
 /* A task that may wait for ever, as a loop that serves interrupts does: that it waits at the end is no deadlock. */
 int nicx_service(const char *name, void (*function)(void *), void *argument);

@@ -3,6 +3,7 @@
 #include <inttypes.h>
 #include <stdlib.h>
 #include <string.h>
+#include <sys/stat.h>
 #include <unistd.h>
 
 #include "files.h"
@@ -124,22 +125,25 @@ static FILE *open_file(const struct options *options, const char *ending, char p
     return file;
 }
 
+/* A schedule that has no file goes to standard error: it isn't lost. */
 static void keep(const struct options *options, const struct failure *failure, char schedule_path[MOST_PATH],
                  char script_path[MOST_PATH])
 {
     struct writing it = {NULL, {NULL, 0, 0, NULL}, failure};
     struct origin origin = {nicxi_strategy_name(failure->strategy), options->seed, failure->run, &failure->result};
-    it.schedule = open_file(options, "schedule", schedule_path);
-    FILE *script = open_file(options, "nic", script_path);
+    FILE *schedule = open_file(options, "schedule", schedule_path), *script = open_file(options, "nic", script_path);
     struct post *post = nicxi_posts(1);
-    if (it.schedule && script && post) {
+    it.schedule = schedule ? schedule : stderr;
+    if (!script)
+        script = fopen("/dev/null", "w");
+    if (script && post) {
         nicxi_write_head(it.schedule, &origin);
         nicxi_script_begin(&it.script, script, &origin);
         nicxi_do(post, options->hang, write_files, &it);
         nicxi_script_end(script, &failure->result);
     }
-    if (it.schedule)
-        fclose(it.schedule);
+    if (schedule)
+        fclose(schedule);
     if (script)
         fclose(script);
     if (post)
@@ -203,6 +207,12 @@ static int search(const struct options *options, const char *program)
     return status;
 }
 
+static bool is_folder(const char *path)
+{
+    struct stat about;
+    return stat(path, &about) == 0 && S_ISDIR(about.st_mode) && access(path, W_OK) == 0;
+}
+
 int nicx_main(int argc, char **argv, const nicx_scenario *scenario)
 {
     struct options options;
@@ -217,7 +227,7 @@ int nicx_main(int argc, char **argv, const nicx_scenario *scenario)
         printf(nicxi_usage, argv[0], name);
         return NOTHING;
     }
-    if (!options.replay && access(options.out, W_OK) != 0)
+    if (!options.replay && !is_folder(options.out))
         return refuse(scenario, "--out: there is no such folder that can be written to");
     fault = nicx_open(scenario);
     if (fault)

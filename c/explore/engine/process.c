@@ -7,6 +7,9 @@
 #include <stdlib.h>
 #include <string.h>
 #include <sys/mman.h>
+#ifdef __linux__
+#include <sys/prctl.h>
+#endif
 #include <sys/time.h>
 #include <sys/wait.h>
 #include <unistd.h>
@@ -89,6 +92,9 @@ bool nicxi_start(struct post *post, uint32_t hang, void (*work)(struct post *, v
         post->process = process;
         return process > 0;
     }
+#ifdef __linux__
+    prctl(PR_SET_PDEATHSIG, SIGKILL); /* it ends with the one that started it */
+#endif
     nicxi_note_in(post);
     watch(post, hang);
     work(post, argument);

@@ -19,10 +19,21 @@ static bool is_name(const char *name)
 
 /* --- what `begin` names --- */
 
+/* Whether a task or a handler has the name: files call them by it. */
+static bool is_taken(const char *name, int number)
+{
+    for (int k = 0; name && k < number; k++)
+        if ((k < nicxi.tasks || k >= NICX_TASKS) && !strcmp(nicxi.threads[k].name, name))
+            return true;
+    return false;
+}
+
 static struct thread *name_thread(int number, const char *name, void (*function)(void *), void *argument)
 {
     struct thread *thread = &nicxi.threads[number];
-    if (!is_name(name) || !function) {
+    if (is_taken(name, number)) {
+        nicxi_failed(NICX_MISUSE, "two tasks or handlers have the name %s", name);
+    } else if (!is_name(name) || !function) {
         nicxi_failed(NICX_MISUSE, "a task's or a handler's name has 1 to 63 letters, digits, '-' and '_'");
         name = "unnamed";
     }
@@ -102,6 +113,8 @@ static const char *fault_of(const nicx_scenario *scenario)
         return "its queues aren't 1 to 128";
     if (scenario->points > MOST_POINTS)
         return "its points are above 1,000,000";
+    if (scenario->stack && scenario->stack < LEAST_STACK)
+        return "its stack is below 16,384 bytes";
     return NULL;
 }
 
@@ -143,9 +156,12 @@ static const char *try_begin(void)
     nicxi.scenario->begin();
     if (nicxi.result.outcome)
         return nicxi.result.words;
-    for (int k = NICX_TASKS; k < NICX_TASKS + nicxi.handlers; k++)
+    for (int k = NICX_TASKS; k < NICX_TASKS + nicxi.handlers; k++) {
         if (nicxi.threads[k].where >= nicxi.tasks)
             return "a handler is on a task that there isn't";
+        if (nicxi.threads[k].group > nicxi.scenario->vfs)
+            return "a handler is of a virtual function that there isn't";
+    }
     nicxi.is_idle = false;
     nicxi_list_actors();
     nicxi.is_idle = is_idle();

@@ -92,6 +92,15 @@ static const char *take(struct schedule_file *file, const char *words, uint32_t 
     return add(file, actor, line) ? NULL : "there is no memory";
 }
 
+/* A line that stops at a zero byte, or has other bytes that no text has, isn't one. */
+static bool is_text(const char *line, size_t length, bool is_last)
+{
+    for (size_t k = 0; k < length; k++)
+        if ((unsigned char)line[k] < ' ' && !strchr("\t\r\n", line[k]))
+            return false;
+    return length && (line[length - 1] == '\n' || is_last || length == MOST_LINE - 1);
+}
+
 const char *nicxi_read_schedule(const char *path, struct schedule_file *file)
 {
     static char why[2 * MOST_LINE + 256];
@@ -105,15 +114,23 @@ const char *nicxi_read_schedule(const char *path, struct schedule_file *file)
         return why;
     }
     while (!fault && fgets(line, sizeof line, from)) {
+        size_t length = strlen(line);
         file->last++;
-        if (!strchr(line, '\n') && !feof(from)) {
+        if (!is_text(line, length, feof(from) != 0)) {
+            fault = "it is no text";
+        } else if (line[length - 1] != '\n' && !feof(from)) {
             fault = "the line is longer than 510 bytes";
         } else {
             trim(line);
             fault = take(file, line, file->last, &has_scenario);
         }
     }
+    bool is_unread = ferror(from) != 0;
     fclose(from);
+    if (is_unread) {
+        snprintf(why, sizeof why, "%.500s: it can't be read", path);
+        return why;
+    }
     if (!fault && !has_scenario)
         fault = "it has no line \"scenario NAME\"";
     if (!fault)

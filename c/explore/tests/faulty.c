@@ -84,8 +84,8 @@ static void begin(void)
         return;
     }
     nicx_task(is("name") ? "a name" : "faulty", fault, NULL);
-    nicx_task("other", quiet, NULL);
-    nicx_handler("isr", 0, 5, quiet, NULL, NICX_ANYWHERE);
+    nicx_task(is("twice") ? "faulty" : "other", quiet, NULL);
+    nicx_handler("isr", is("group"), 5, quiet, NULL, is("nowhere") ? 2 : NICX_ANYWHERE);
     frames_come(1);
 }
 
@@ -119,6 +119,16 @@ int main(int argc, char **argv)
         scenario.fifo = 0;
     if (is("queues"))
         scenario.queues = 0;
+    if (is("stack"))
+        scenario.stack = 4096;
+    if (is("vfs"))
+        scenario.vfs = 64;
+    if (is("points"))
+        scenario.points = 1000001;
+    if (is("no_end"))
+        scenario.end = NULL;
+    if (is("scenario"))
+        scenario.name = "a scenario";
     argv[argc > 1] = argv[0];
     return nicx_main(argc - (argc > 1), argv + (argc > 1), &scenario);
 }

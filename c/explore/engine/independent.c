@@ -80,7 +80,7 @@ uint32_t nicxi_physical(uint32_t gcr_ext, uint8_t vf, uint32_t offset)
     if (offset >= 0x1000 && offset < 0x3000)
         return physical_of_queue(queues, vf, offset);
     if (offset >= 0x200 && offset < 0x200 + 4 * WORDS)
-        return MAILBOX_MEMORY + 4 * WORDS * vf + offset - 0x200;
+        return MAILBOX_MEMORY + 4u * WORDS * vf + offset - 0x200;
     if (offset == 0x2FC)
         return MAILBOX + 4u * vf;
     for (int k = 0; k < OF_GROUP; k++)

@@ -7,10 +7,11 @@
 SCRIPT is a register script, a session of the debugger (what stands in front of its line `%`), or - for standard input.
 Or it is a recording of the C library (NIC82599_RECORD): then its last --limit events are shown, made again over the
 library.
-A page opens at the first step that failed, met a fault, dropped a frame or was refused, else at the last one; with #152
-behind its name, at step 152. Steps count from 0. Everything shown is an answer of ./nicbench. Exit status: 0 it is
-shown; 1 the script failed, or runs on after --limit steps, and is shown; 2 the script is refused or can't be read; 3
-the words are wrong; 4 ./nicbench gave no answer.
+A page opens at the first step that failed, met a fault, dropped a frame or was refused, else at the last one; that of
+a script which the explorer wrote of a failure, at the step where it failed; with #152 behind its name, at step 152.
+Steps count from 0. Everything shown is an answer of ./nicbench. Exit status: 0 it is shown; 1 the script failed, or
+runs on after --limit steps, and is shown; 2 the script is refused or can't be read; 3 the words are wrong; 4 ./nicbench
+gave no answer.
 """
 
 from __future__ import annotations

@@ -240,6 +240,15 @@ class Found(unittest.TestCase):
     def test_words(self) -> None:
         for words in ({"strategy": "best"}, {"runs": 0}, {"runs": None}, {"jobs": 0}, {"jobs": 257}):
             self.assertRaises(ValueError, search, Race(), **words)
+        wrong = Interrupted()
+        wrong.where = "nobody"
+        for scenario, told in ((Faulty(), "begin names no task"), (wrong, "handler isr is on a task that there isn't")):
+            with self.assertRaisesRegex(ValueError, told):
+                search(scenario, 5)
+        for name in ("", "a name", "a/b", "x" * 64):
+            wrong = Faulty("point")
+            wrong.name = name
+            self.assertRaises(ValueError, search, wrong, 5)
 
 
 class All(Scenario):

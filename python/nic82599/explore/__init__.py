@@ -11,6 +11,7 @@ the driver's memory, and code between two points isn't interrupted.
 
 from __future__ import annotations
 
+import re
 from collections.abc import Callable, Iterator
 from contextlib import contextmanager
 from dataclasses import dataclass
@@ -25,6 +26,7 @@ from .strategy import Exhaustive, by_chance, by_list, by_priority
 __all__ = ["BESIDE", "BadSchedule", "Failure", "Mutex", "Result", "Scenario", "Search", "replay", "search"]
 
 BESIDE = ""
+NAME = re.compile(r"[A-Za-z0-9_-]{1,63}")
 STRATEGIES = ("random", "priorities", "mixed", "exhaustive")
 
 
@@ -76,6 +78,8 @@ class Scenario:
 
     def _named(self, name: str) -> Run:
         assert self._run, "tasks, handlers and frames are named in begin"
+        if not NAME.fullmatch(name):
+            raise ValueError(f"{name!r}: a task's or a handler's name has 1 to 63 letters, digits, '-' and '_'")
         if any(one.name == name for one in self._run.threads):
             raise ValueError(f"two tasks or handlers have the name {name}")
         return self._run
@@ -93,6 +97,8 @@ class Scenario:
     ) -> None:
         """What a message starts, of the physical function or of a virtual one. `where` is the task that it interrupts,
         None for any task or none, or BESIDE."""
+        if vf is not None and not 0 <= vf < self.vfs:
+            raise ValueError(f"handler {name} is of a virtual function that there isn't")
         group = 0 if vf is None else vf + 1
         made = Thread(name, function, True, True, group, vector, where)
         self._named(name).threads.append(made)
@@ -383,6 +389,10 @@ class Search:
     def __init__(self, scenario: Scenario, hang: float = 10, script: Script | None = None):
         self.scenario, self.hang, self.is_cut = scenario, hang, False
         scenario._run, scenario._script = None, script
+        if not NAME.fullmatch(scenario.name):
+            raise ValueError(f"{scenario.name!r}: a scenario's name has 1 to 63 letters, digits, '-' and '_'")
+        if not 1 <= scenario.queues <= 128:
+            raise ValueError("a scenario's queues are 1 to 128")
         scenario._nic = Nic(scenario.vfs, scenario.fifo, scenario.blocks)
         scenario.bring_up()
         self.kept = scenario._nic.snapshot()

@@ -127,6 +127,15 @@ class Run:
 
     # --- who may act ---
 
+    def _check_begun(self) -> None:
+        """ValueError where `begin` names no task, or a handler on one that there isn't."""
+        tasks = [one.name for one in self.threads if not one.is_handler]
+        if not tasks:
+            raise ValueError("begin names no task")
+        for one in self.threads:
+            if one.is_handler and one.where and one.where not in tasks:
+                raise ValueError(f"handler {one.name} is on a task that there isn't: {one.where}")
+
     def list_actors(self) -> None:
         tasks = [one for one in self.threads if not one.is_handler]
         handlers = [one for one in self.threads if one.is_handler]
@@ -426,6 +435,7 @@ class Run:
         self.main.acquire()
         self.is_running = True
         self.scenario.begin()
+        self._check_begun()
         self.list_actors()
         for thread in self.threads:
             if not thread.is_handler:

@@ -298,9 +298,9 @@ void bus_tell_counts(void)
            counts.to_driver);
 }
 
-void bus_check_counts(uint64_t drops_expected)
+void bus_check_counts(uint64_t drops_expected, uint64_t faults_expected)
 {
-    if (counts.faults || counts.refusals || counts.drops != drops_expected)
+    if (counts.faults != faults_expected || counts.refusals || counts.drops != drops_expected)
         problem("%" PRIu64 " faults, %" PRIu64 " frames dropped, %" PRIu64 " copies refused", counts.faults,
                 counts.drops, counts.refusals);
 }

@@ -68,6 +68,7 @@ struct bus_counts {
     uint64_t absent_reads, absent_writes; /* of functions that the mode has no pool for */
     uint64_t answered[5];                 /* how often each answer was given, by enum bus_answer's bit */
     uint64_t faults, refusals;            /* what never happens in a good run; told on standard error */
+    uint64_t fault_whys[16];              /* faults by enum nic_fault */
     uint64_t drops, not_let_in;           /* frames, by receive steps and at arrival; by enum nic_why: */
     uint64_t drop_whys[16], arrive_whys[16];
 };
@@ -135,7 +136,7 @@ unsigned int bus_answer_named(const char *name);
 void bus_tell_answers(unsigned int answers);
 /* Accesses by phases, steps, bytes. */
 void bus_tell_counts(void);
-/* Faults and refusals are problems, and frames dropped by another number than was expected. */
-void bus_check_counts(uint64_t drops_expected);
+/* Refusals are problems, and frames dropped or faults by another number than was expected. */
+void bus_check_counts(uint64_t drops_expected, uint64_t faults_expected);
 
 #endif

@@ -15,6 +15,7 @@
 static void fault(const char *where, const nic_told *told)
 {
     counts.faults++;
+    counts.fault_whys[told->why % WHYS]++;
     fprintf(stderr, "bus: a fault in %s, queue %u slot %u: %s, bus address 0x%" PRIx64 "\n", where, told->queue,
             told->slot, nic_fault_name(told->why), told->bus);
 }

@@ -27,6 +27,7 @@ EIAM_EX[1]          00AD4
 DCA_RXCTRL[0..15]   02200 4 16
 DCA_RXCTRL[16..63]  0140C 40 48
 DCA_RXCTRL[64..127] 0D00C 40 64
+PVFGORC             01020 40 64
 QBRC_L              01034 40 16
 QBRC_H              01038 40 16
 FCOERPDC            0241C
@@ -89,17 +90,27 @@ RTTBCNRC            04984
 RFCTL               05008
 VLNCTRL             05088
 FCCRC               05118
+RXMTRL              05120
+ETQF                05128 4 8
+TSYNCRXCTL          05188
+RXSTMPH             051A4
 WUS                 05810
 DCA_TXCTRL          0600C 40 128
 VMVIR               08000 4 64
 PFVFSPOOF           08200 4 8
 PFDTXGSWC           08220
+PVFGOTC             08400 4 128
 QBTC_L, QBTC_H      08700 4 32
+SSVPC               08780
 VMECM               08790 4 2
 FCOEPTC             08784
 FCOEDWTC            08788
 TXDGPC              087A0
 LSECTX..            08A3C 4 5
+TSYNCTXCTL          08C00
+TXSTMPH             08C08
+SYSTIML, SYSTIMH    08C0C 4 2
+TIMINCA             08C14
 SECRXCTRL           08D00
 SECRXSTAT           08D04
 LSECRX..            08F40 4 17
@@ -107,10 +118,15 @@ VFTA                0A000 4 128
 MPSAR, one past     0AA00 4 2
 TXPBSIZE            0CC00 4 8
 MNGPTC              0CF90
+PVFMPRC             0D01C 40 64
+PVFGORC, high       0D020 40 64
+FDIRCTRL            0EE00
+FDIRHASH, FDIRCMD   0EE28 4 2
 FDIRUSTAT           0EE50
 FDIRFSTAT           0EE54
 FDIRMATCH           0EE58
 FDIRMISS            0EE5C
+FDIRHKEY, FDIRSKEY  0EE68 4 2
 VMOLR               0F000 4 64
 VLVF                0F100 4 64
 VLVFB               0F200 4 128
@@ -119,6 +135,8 @@ SWSM                10140
 FWSM                10148
 FACTPS              10150
 SW_FW_SYNC          10160
+HICR                15F00
+FWSTS               15F0C
 """
 
 

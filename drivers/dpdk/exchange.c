@@ -247,7 +247,7 @@ int main(int count, char **arguments)
         bus_tell_answers(words.answers);
         if (words.speed ? measured(words.device) : run(words.device)) {
             bus_tell_counts();
-            bus_check_counts(0);
+            bus_check_counts(0, 0);
         }
         if (words.strays)
             strays_save(words.strays);

@@ -386,7 +386,7 @@ static void run(const struct words *words)
     requests_tell();
     tell_handlers(&words->way);
     bus_tell_counts();
-    bus_check_counts(known_drops);
+    bus_check_counts(known_drops, 0);
 }
 
 int main(int count, char **arguments)

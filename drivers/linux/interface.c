@@ -297,10 +297,10 @@ int interface_socket(const struct interface *it)
     int bytes = SOCKET_BYTES, yes = 1, file = socket(AF_PACKET, SOCK_RAW, htons(ETH_P_ALL));
     struct sockaddr_ll at = {
         .sll_family = AF_PACKET, .sll_protocol = htons(ETH_P_ALL), .sll_ifindex = (int)if_nametoindex(it->name)};
-    if (file < 0 || bind(file, (struct sockaddr *)&at, sizeof at) != 0
-        || setsockopt(file, SOL_SOCKET, SO_RCVBUFFORCE, &bytes, sizeof bytes) != 0
-        || setsockopt(file, SOL_SOCKET, SO_SNDBUFFORCE, &bytes, sizeof bytes) != 0
-        || setsockopt(file, SOL_PACKET, PACKET_IGNORE_OUTGOING, &yes, sizeof yes) != 0) {
+    if (file < 0 || bind(file, (struct sockaddr *)&at, sizeof at) != 0 ||
+        setsockopt(file, SOL_SOCKET, SO_RCVBUFFORCE, &bytes, sizeof bytes) != 0 ||
+        setsockopt(file, SOL_SOCKET, SO_SNDBUFFORCE, &bytes, sizeof bytes) != 0 ||
+        setsockopt(file, SOL_PACKET, PACKET_IGNORE_OUTGOING, &yes, sizeof yes) != 0) {
         problem("%s: no socket for frames: %s", it->name, strerror(errno));
         return -1;
     }

@@ -139,7 +139,8 @@ int main(int count, char **arguments)
         bus_tell_counts();
         pci_tell();
         peer_tell();
-        bus_check_counts(0);
+        bus_check_counts(0, peer_faults());
+        same("faults for offloads that the guest expects", peer_faults(), bus_counts()->fault_whys[NIC_FAULT_OFFLOAD]);
         if (words.strays)
             strays_save(words.strays);
         bus_close();

@@ -23,6 +23,7 @@ enum order {
     ORDER_ONE,       /* send the frame with number `first` to MAC, let in or not: result 1 if it was */
     ORDER_MESSAGES,  /* how many messages (MSI-X) `function` has sent */
     ORDER_ECHOES,    /* how many datagrams were sent back */
+    ORDER_FAULTS,    /* how many faults there were; `count` of them, each for an offload, are to be there at the end */
     ORDER_VERDICT    /* the guest's end: `count` things are wrong, of `first` that were compared */
 };
 
@@ -30,6 +31,7 @@ enum order {
 enum phase {
     PHASE_PROBE,
     PHASE_UP,
+    PHASE_OFFLOADS,
     PHASE_TRAFFIC,
     PHASE_LINK,
     PHASE_MTU,
@@ -41,7 +43,8 @@ enum phase {
     PHASE_UNDER,
     PHASE_END
 };
-#define PHASE_NAMES "probe", "up", "traffic", "link", "mtu", "test", "filters", "stack", "again", "vfs", "under", "end"
+#define PHASE_NAMES                                                                                                    \
+    "probe", "up", "offloads", "traffic", "link", "mtu", "test", "filters", "stack", "again", "vfs", "under", "end"
 
 /* Who is on the wire. The card's address is its EEPROM's; a function's ends with its number, from 1 on. */
 #define CARD_MAC                                                                                                       \

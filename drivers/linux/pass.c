@@ -24,6 +24,7 @@
 #define ADDRESS "10.0.0.1"
 #define PEER_ADDRESS "10.0.0.2"
 #define FILTER_WAIT 200
+#define RESET_SECONDS 20 /* until the driver has found its queue hung and reset its card; of the guest's clock */
 
 static int config;
 static const uint8_t peer_mac[6] = PEER_MAC;
@@ -237,12 +238,29 @@ void pass(const struct interface *it, unsigned int count, unsigned int most, uns
           after.messages - before.messages);
     check_socket(file);
     close(file);
-    printf("guest: %s: out %u of %u frames alike, byte by byte; in %u of %u, %u "
-           "in order; %u interrupts\n",
-           it->name, sent, count, got, count, ordered, (unsigned int)(after.interrupts - before.interrupts));
+    printf("guest: %s: out %u of %u frames alike, byte by byte; in %u of %u%s; %u interrupts\n", it->name, sent, count,
+           got, count, queues == 1 && ordered == count ? ", in order" : "",
+           (unsigned int)(after.interrupts - before.interrupts));
 }
 
 /* ---- the kernel's stack ---- */
+
+static int open_datagrams(const struct interface *it)
+{
+    struct sockaddr_in peer = {.sin_family = AF_INET, .sin_port = htons(ECHO_PORT)};
+    int file = socket(AF_INET, SOCK_DGRAM, 0);
+    inet_aton(PEER_ADDRESS, &peer.sin_addr);
+    interface_set_address(it, ADDRESS, PEER_ADDRESS, peer_mac);
+    if (connect(file, (struct sockaddr *)&peer, sizeof peer) != 0)
+        problem("%s: no way to the peer: %s", it->name, strerror(errno));
+    return file;
+}
+
+static void close_datagrams(const struct interface *it, int file)
+{
+    close(file);
+    interface_set_address(it, NULL, NULL, NULL);
+}
 
 static bool goes_and_comes(int socket, unsigned int number)
 {
@@ -260,21 +278,30 @@ void pass_datagrams(const struct interface *it, unsigned int count)
 {
     unsigned int alike = 0;
     uint32_t before = order(ORDER_ECHOES, 0);
-    struct sockaddr_in peer = {.sin_family = AF_INET, .sin_port = htons(ECHO_PORT)};
-    int file = socket(AF_INET, SOCK_DGRAM, 0);
-    inet_aton(PEER_ADDRESS, &peer.sin_addr);
-    interface_set_address(it, ADDRESS, PEER_ADDRESS, peer_mac);
-    if (connect(file, (struct sockaddr *)&peer, sizeof peer) != 0)
-        problem("%s: no way to the peer: %s", it->name, strerror(errno));
+    int file = open_datagrams(it);
     for (unsigned int i = 0; i < count; i++)
         alike += goes_and_comes(file, i);
-    close(file);
-    interface_set_address(it, NULL, NULL, NULL);
+    close_datagrams(it, file);
     equal("datagrams that came back alike, and sent", alike, count);
     equal("datagrams that the peer sent back, and got", order(ORDER_ECHOES, 0) - before, count);
     printf("guest: %s: %u of %u UDP datagrams by the kernel's stack came back "
            "alike\n",
            it->name, alike, count);
+}
+
+void pass_offloaded(const struct interface *it, unsigned int count)
+{
+    uint32_t echoes = order(ORDER_ECHOES, 0), faults = order(ORDER_FAULTS, count);
+    int file = open_datagrams(it);
+    for (unsigned int i = 0; i < count; i++) {
+        equal("a datagram with an offload that came back, and none", goes_and_comes(file, i), false);
+        sleep(RESET_SECONDS);
+    }
+    close_datagrams(it, file);
+    equal("datagrams that went out, and none", order(ORDER_ECHOES, 0) - echoes, 0);
+    equal("faults, and datagrams", order(ORDER_FAULTS, count) - faults, count);
+    printf("guest: %s: %u UDP datagrams by the kernel's stack with the driver's offloads: each is a fault\n", it->name,
+           count);
 }
 
 /* ---- filters ---- */
@@ -317,8 +344,15 @@ static bool comes_in(int socket, const uint8_t to[6], uint32_t number)
 
 void pass_filters(const struct interface *it)
 {
+    static const struct {
+        const char *name;
+        int width;
+    } columns[DESTINATIONS] = {{"own", 4}, {"other", 6}, {"multicast", 10}, {"other", 6}, {"broadcast", 0}};
     const uint8_t *const to[DESTINATIONS] = {it->mac, other_mac, group_mac, other_group_mac, everybody_mac};
-    printf("guest: %s: frames to     own  other multicast  multicast  broadcast\n", it->name);
+    printf("guest:   %-20s", "frames to");
+    for (unsigned int k = 0; k < DESTINATIONS; k++)
+        printf(" %-*s", columns[k].width, columns[k].name);
+    printf("\n");
     for (unsigned int i = 0; i < sizeof filters / sizeof *filters; i++) {
         int file = interface_socket(it);
         struct packet_mreq request = {.mr_ifindex = (int)if_nametoindex(it->name), .mr_alen = 6};
@@ -332,7 +366,7 @@ void pass_filters(const struct interface *it)
         for (unsigned int k = 0; k < DESTINATIONS; k++) {
             bool comes = comes_in(file, to[k], 7 * k);
             equal(filters[i].what, comes, filters[i].comes[k]);
-            printf(" %-9s", comes ? "in" : "-");
+            printf(" %-*s", columns[k].width, comes ? "in" : "-");
         }
         printf("\n");
         close(file);

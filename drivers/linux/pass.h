@@ -26,6 +26,10 @@ void pass(const struct interface *it, unsigned int count, unsigned int most, uns
 /* `count` datagrams by the kernel's stack, which the peer sends back. */
 void pass_datagrams(const struct interface *it, unsigned int count);
 
+/* The same, where each asks the card for its checksum: none goes out, each is a fault. Waits after each until the
+   driver has reset its card. */
+void pass_offloaded(const struct interface *it, unsigned int count);
+
 /* Which destinations come in, as the interface asks for more or less. */
 void pass_filters(const struct interface *it);
 

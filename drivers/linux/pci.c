@@ -262,8 +262,8 @@ static void access_table(struct function *it, const struct operation_header *hea
 static void access_memory(struct function *it, const struct operation_header *header, const uint8_t *data, uint8_t *to)
 {
     uint32_t space = it->number == BUS_PHYSICAL ? BUS_SPACE : BUS_FUNCTION_SPACE;
-    if (header->bar == REGISTER_BAR && header->size % 4 == 0 && header->address % 4 == 0
-        && header->address + header->size <= space)
+    if (header->bar == REGISTER_BAR && header->size % 4 == 0 && header->address % 4 == 0 &&
+        header->address + header->size <= space)
         access_registers(it, header, data, to);
     else if (header->bar == TABLE_BAR && header->address + header->size <= TABLE_BYTES)
         access_table(it, header, data, to);
@@ -287,11 +287,20 @@ static bool answer(struct function *it, const struct vhost_chain *chain)
         return chain->in != NULL;
     }
     switch (header.operation) {
-    case CONFIG_READ: read_config(it, header.address, chain->in, header.size); break;
-    case CONFIG_WRITE: write_config(it, header.address, data, header.size); break;
-    case MEMORY_READ: access_memory(it, &header, data, chain->in); break;
-    case MEMORY_WRITE: access_memory(it, &header, data, NULL); break;
-    default: problem("operation %u of the guest's bus isn't known", header.operation);
+    case CONFIG_READ:
+        read_config(it, header.address, chain->in, header.size);
+        break;
+    case CONFIG_WRITE:
+        write_config(it, header.address, data, header.size);
+        break;
+    case MEMORY_READ:
+        access_memory(it, &header, data, chain->in);
+        break;
+    case MEMORY_WRITE:
+        access_memory(it, &header, data, NULL);
+        break;
+    default:
+        problem("operation %u of the guest's bus isn't known", header.operation);
     }
     return is_read;
 }

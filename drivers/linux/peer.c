@@ -37,7 +37,7 @@ static struct {
 static struct {
     uint64_t sent, written, expected, echoes, others, by_queue_in[BUS_QUEUES], by_queue_out[BUS_QUEUES];
     uint64_t compared_queues;
-    uint32_t guest_wrong, guest_compared;
+    uint32_t guest_wrong, guest_compared, faults;
     bool has_verdict;
 } all;
 
@@ -54,12 +54,17 @@ static uint16_t queue_of(const struct frame *frame, unsigned int function)
         function == BUS_PHYSICAL ? (bus_peek(NIC_VT_CTL) & NIC_VT_CTL_DEF_PL) >> DEFAULT_POOL_AT : function - 1;
     rss_of_registers(&rss);
     switch (rss.mrqc & MRQC_MODE) {
-    case MODE_ONE: return each ? ANY_QUEUE : 0;
-    case MODE_RSS: return rss_queue(&rss, frame, QUEUES_RSS);
-    case MODE_POOLS: return (uint16_t)(pool * each);
+    case MODE_ONE:
+        return each ? ANY_QUEUE : 0;
+    case MODE_RSS:
+        return rss_queue(&rss, frame, QUEUES_RSS);
+    case MODE_POOLS:
+        return (uint16_t)(pool * each);
     case MODE_POOLS_RSS_32:
-    case MODE_POOLS_RSS_64: return (uint16_t)(pool * each + rss_queue(&rss, frame, each));
-    default: return ANY_QUEUE;
+    case MODE_POOLS_RSS_64:
+        return (uint16_t)(pool * each + rss_queue(&rss, frame, each));
+    default:
+        return ANY_QUEUE;
     }
 }
 
@@ -128,8 +133,8 @@ static void swap(uint8_t *one, uint8_t *other, size_t length)
 
 static bool is_echo(const uint8_t *frame, size_t length)
 {
-    return length >= UDP_HEADERS && frame[12] == 0x08 && frame[13] == 0x00 && frame[23] == UDP && frame[36] == 0
-           && frame[37] == ECHO_PORT;
+    return length >= UDP_HEADERS && frame[12] == 0x08 && frame[13] == 0x00 && frame[23] == UDP && frame[36] == 0 &&
+           frame[37] == ECHO_PORT;
 }
 
 /* Both ends change places in each header, which leaves the checksums as they are. */
@@ -207,9 +212,15 @@ void peer_orders(uint32_t what, struct order_words *words)
         return;
     }
     switch (what) {
-    case ORDER_PHASE: bus_enter(words->count < PHASE_END ? words->count : PHASE_END); break;
-    case ORDER_LINK: nic_link(bus_device(), words->count != 0); break;
-    case ORDER_EXPECT: expect(words); break;
+    case ORDER_PHASE:
+        bus_enter(words->count < PHASE_END ? words->count : PHASE_END);
+        break;
+    case ORDER_LINK:
+        nic_link(bus_device(), words->count != 0);
+        break;
+    case ORDER_EXPECT:
+        expect(words);
+        break;
     case ORDER_SENT:
         words->result = now.alike;
         words->result_2 = now.came;
@@ -219,17 +230,30 @@ void peer_orders(uint32_t what, struct order_words *words)
         begin_sending(words, words->count);
         peer_goes_on(false, 0);
         break;
-    case ORDER_ONE: send_anyhow(words); break;
-    case ORDER_MESSAGES: words->result = (uint32_t)pci_messages(words->function); break;
-    case ORDER_ECHOES: words->result = (uint32_t)all.echoes; break;
-    case ORDER_VERDICT: end(words); break;
-    default: problem("order %" PRIu32 " isn't known", what);
+    case ORDER_ONE:
+        send_anyhow(words);
+        break;
+    case ORDER_MESSAGES:
+        words->result = (uint32_t)pci_messages(words->function);
+        break;
+    case ORDER_ECHOES:
+        words->result = (uint32_t)all.echoes;
+        break;
+    case ORDER_FAULTS:
+        all.faults = words->count;
+        words->result = (uint32_t)bus_counts()->faults;
+        break;
+    case ORDER_VERDICT:
+        end(words);
+        break;
+    default:
+        problem("order %" PRIu32 " isn't known", what);
     }
 }
 
-bool peer_has_verdict(void)
+uint32_t peer_faults(void)
 {
-    return all.has_verdict;
+    return all.faults;
 }
 
 /* ---- the end ---- */
@@ -251,6 +275,8 @@ void peer_tell(void)
     tell_queues(all.by_queue_out);
     if (all.echoes)
         printf("  and %" PRIu64 " datagrams, which it sent back\n", all.echoes);
+    if (all.faults)
+        printf("the device told %" PRIu64 " faults for offloads, as the guest expects\n", bus_counts()->faults);
     same("frames that the peer sent, and that were written", all.sent, all.written);
     same("frames that the device sent, and that came", bus_counts()->frames_out,
          all.expected + all.echoes + all.others);

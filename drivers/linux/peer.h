@@ -16,11 +16,10 @@ void peer_goes_on(bool is_transmit, uint16_t queue);
 
 void peer_orders(uint32_t what, struct order_words *words);
 
-/* Whether the guest told its verdict. */
-bool peer_has_verdict(void);
-
-/* Prints what went over the wire, and compares it with the counts of the bus.
- */
+/* Prints what went over the wire, and compares it with the counts of the bus. */
 void peer_tell(void);
+
+/* How many faults for offloads the guest expects. */
+uint32_t peer_faults(void);
 
 #endif

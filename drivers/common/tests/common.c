@@ -16,6 +16,8 @@ enum { RING = 0x1000, BUFFER = 0x2000, SLOTS = 8, FIRST_BUS = 0x8000, BYTES = 0x
 
 static const uint8_t card[6] = {2, 0, 0, 0, 0x82, 0x99}, peer[6] = {2, 0, 0, 0, 0, 1};
 static const char *const phases[] = {"first", "second", NULL};
+#define CHECKSUM (UINT64_C(1) << 41) /* of a transmit descriptor: asks for TCP's or UDP's */
+
 static uint8_t host_memory[BYTES];
 static struct frame sent;
 static unsigned int frames_sent, filled, tails, messages, last_vector;
@@ -275,6 +277,10 @@ static void frames_go_out(uint64_t turned)
     bus_write(BUS_PHYSICAL, NIC_TDT(QUEUE), 1); /* past the ring's end */
     CHECK(frames_sent == 9 && bus_counts()->faults == 0);
     CHECK(frame_is(&next, sent.bytes, sent.length) == (turned == 0));
+    put_slots(&next, 1, 2);
+    put64(RING + BUS_SLOT + 8, get64(RING + BUS_SLOT + 8) | CHECKSUM);
+    bus_write(BUS_PHYSICAL, NIC_TDT(QUEUE), 2);
+    CHECK(frames_sent == 9 && bus_counts()->faults == 1 && bus_counts()->fault_whys[NIC_FAULT_OFFLOAD] == 1);
     bus_write(BUS_PHYSICAL, NIC_TDT(QUEUE), SLOTS);
     CHECK(bus_counts()->refusals == 1);
     bus_close();

@@ -30,7 +30,7 @@ VERSION, REPLY, NEEDS_REPLY = 1, 4, 8
 NEXT, WRITTEN = 1, 2
 CONFIG_READ, CONFIG_WRITE, MEMORY_READ, MEMORY_WRITE = 1, 2, 3, 4
 COUNT, FIRST, MOST, MAC, WHAT, RESULT, RESULT_2 = 0xE0, 0xE4, 0xE8, 0xEC, 0xF4, 0xF8, 0xFC
-EXPECT, SENT, SEND, ONE, VERDICT = 3, 4, 5, 6, 9
+EXPECT, SENT, SEND, ONE, FAULTS, VERDICT = 3, 4, 5, 6, 9, 10
 STATUS, EICS, EIMS, RSSRK, SWSM = 0x8, 0x808, 0x880, 0x5C80, 0x10140
 RXCTRL, FCTRL, UNICAST_ALL, DMATXCTL, ENABLE = 0x3000, 0x5080, 0x200, 0x4A80, 1 << 25
 RDBAL, RDLEN, SRRCTL, RDT, RXDCTL, TDBAL, TDLEN, TDT, TXDCTL = (
@@ -38,6 +38,7 @@ RDBAL, RDLEN, SRRCTL, RDT, RXDCTL, TDBAL, TDLEN, TDT, TXDCTL = (
 RECEIVE_RING, SEND_RING, BUFFERS, FRAMES, RING_SLOTS = 0x20000, 0x21000, 0x40000, 0x60000, 32
 CARD_MAC, PEER_MAC, FRAME_MOST = bytes.fromhex("020000008299"), bytes.fromhex("020000000001"), 1514
 MSIX_CONTROL, MSIX_ENABLED, TABLE_BAR = 0x72, 0x8000, 3
+CHECKSUM = 0x200  # of a transmit descriptor's last word: asks for TCP's or UDP's
 
 
 def mixed(seed: int) -> int:
@@ -146,12 +147,12 @@ class Guest:
                          (TDLEN, 16 * RING_SLOTS), (DMATXCTL, 1), (TXDCTL, ENABLE)):
             self.write(MEMORY_WRITE, at, word)
 
-    def send(self, slot: int, content: bytes) -> None:
-        """Sends one frame from this slot of the ring."""
+    def send(self, slot: int, content: bytes, offload: int = 0) -> None:
+        """Sends one frame from this slot of the ring, with these bits that ask for an offload."""
         at = FRAMES + 2048 * slot
         self.memory[at:at + len(content)] = content
         asked = len(content) | 3 << 20 | 1 << 24 | 1 << 25 | 1 << 27 | 1 << 29
-        entry = struct.pack("<QII", at, asked, len(content) << 14)
+        entry = struct.pack("<QII", at, asked, len(content) << 14 | offload)
         self.memory[SEND_RING + 16 * slot:SEND_RING + 16 * slot + 16] = entry
         self.write(MEMORY_WRITE, TDT, slot + 1)
 
@@ -281,6 +282,20 @@ def try_frames(program: str) -> None:
         expect(f"{what} is told", status == 1 and said.count("wrong: ") == 1, said)
 
 
+def try_faults(program: str) -> None:
+    """Faults for offloads are as many as the guest expects."""
+    for expected, wanted in ((1, 0), (0, 1), (2, 1)):
+        card = Card(program)
+        host = card.guests[0]
+        host.drive()
+        host.order(FAULTS, expected, 0)
+        host.send(0, frame(6, PEER_MAC, CARD_MAC), CHECKSUM)
+        expect("a frame that asks for a checksum is a fault", host.order(FAULTS, expected, 0)[0] == 1)
+        host.verdict(0, 1)
+        status, said = card.end()
+        expect(f"one fault has status {wanted}, where {expected} are expected", status == wanted, said)
+
+
 def try_turns(program: str) -> None:
     """The tenth frame has a byte turned, each way."""
     for way in ("in", "out"):
@@ -339,6 +354,7 @@ def main() -> int:
     try_access(sys.argv[1])
     try_interrupts(sys.argv[1])
     try_frames(sys.argv[1])
+    try_faults(sys.argv[1])
     try_turns(sys.argv[1])
     try_ends(sys.argv[1])
     try_words(sys.argv[1])

@@ -143,17 +143,39 @@ FAULTS = {
     "always": "always: the head moved",
     "locks": "deadlock: (up|down) waits for (first|second), which (up|down) holds",
     "waits": "deadlock: faulty waits, and nobody can act",
-    "endless": "endless: no end after 200 points; last came task faulty",
+    "endless": r"endless: no end after 200 points; last came task faulty: does its loop need nicx_wait\?",
     "memory": "memory: faulty reads 0x0, which isn't lent",
     "unlock": "misuse: faulty unlocks first, which it doesn't hold",
     "interrupts": "misuse: faulty ends with its interrupts off",
     "check": "check: the head moved",
     "crash": r"crash: the process (was ended by signal 11 .*|ended with status 1)",
     "exit": "crash: the process ended with status 5",
-    "hang": "hang: a task runs and makes no point",
+    "hang": r"hang: task faulty made no further point: does its loop need nicx_wait\?",
+    "look": "misuse: always makes a call that acts: it may only look",
+    "look_fails": "check: always asks",
+    "condition": "misuse: a condition of nicx_wait_until makes a call that acts: it may only look",
+    "settle": "misuse: faulty calls nicx_settle, which is for bring_up",
+    "settle_at_end": "misuse: nicx_settle is for bring_up",
+    "lend_all": "misuse: faulty calls nicx_lend_all, which is for bring_up",
+    "held": "misuse: faulty ends and holds second",
+    "left": "misuse: begin doesn't make all of the driver's state anew: .* check: the twentieth schedule",
+    "beyond": "deadlock: faulty waits, and nobody can act",
 }
 
+# What is told beside, with the status of the search.
+NOTES = {
+    "stray": (0, r"note: \d+ accesses of no register, the first by faulty: r 0x1f000 = 0x00000000 \(stray\)"),
+    "beyond": (1, r"note: queue 5 isn't below \.queues, so it never goes on"),
+    "left": (1, "it doesn't fail alone: the same options find it again"),
+}
+
+# Loops that end.
+FINE = ("fine", "polls", "spins", "two", "descriptor")
+
 REFUSALS = {
+    "stuck": "bring_up waits for ever, .*its last access: r RXDCTL.1. = 0x00000000; queue 1 isn't below .queues",
+    "stuck_spinning": "bring_up waits for ever, .*its last access: r RXDCTL.1. = 0x00000000; queue 1",
+    "begin_waits": "begin waits for ever, .*its last access: r RDH.0. = 0x00000000",
     "refused": "bring_up: there is no cable",
     "no_tasks": "begin names no task",
     "name": "a task's or a handler's name has 1 to 63 letters",
@@ -207,10 +229,15 @@ def check_faults(kit: Kit) -> str:
         failure = xml.etree.ElementTree.parse(junit).find("testcase/failure")
         if failure is None or not (failure.text or "").strip().startswith("# "):
             raise Wrong(f"{mode}: the JUnit file has no failure with its schedule")
-        if mode not in ("crash", "exit", "hang"):
+        if mode not in ("crash", "exit", "hang", "left"):
             told(ran([program, mode, "--replay", out / "faulty.schedule"], 1), "FAILED", mode)
     words = [program, "strange", "--quiet", "--jobs", 1, "--strategy", "exhaustive", "--out", out]
     told(ran(words, 1), "misuse: a schedule went another way", "strange")
+    for mode, (status, wanted) in NOTES.items():
+        told(ran([program, mode, "--quiet", "--jobs", 2, "--runs", 100, "--out", out], status), wanted, mode)
+    for mode in FINE:
+        ran([program, mode, "--quiet", "--jobs", 2, "--runs", 500, "--out", out])
+        ran([program, mode, "--quiet", "--jobs", 2, "--strategy", "exhaustive", "--preemptions", 1, "--out", out])
     ran([program, "fine", "--quiet", "--runs", 500, "--out", out, "--junit", out / "result.xml"])
     if xml.etree.ElementTree.parse(out / "result.xml").find("testcase/failure") is not None:
         raise Wrong("a search without a failure has one in its JUnit file")

@@ -1,47 +1,79 @@
 /* The calls of a driver: each is a point, and then the access. Outside of tasks they are made at once. */
+#define _DEFAULT_SOURCE
+#include <stdio.h>
+#include <stdlib.h>
 #include <string.h>
 
 #include "engine.h"
 #include "independent.h"
+#include "words.h"
 
-enum { POLLS = 8 };
+enum { POLLS = 8, ENABLE = 1 << 25, MOST_WAITS = 100000 };
+
+/* Of no thread: the access that is made, or was made last. */
+static struct step outside;
 
 /* Before an access: others may act. */
 static struct step *before(uint8_t kind)
 {
-    static struct step outside;
     struct thread *self = nicxi.self;
     struct step *step = self ? &self->next : &outside;
     step->kind = kind;
     return step;
 }
 
-/* A loop that reads one register over and over is taken to wait: others go first, where somebody can act. */
+/* --- loops that read the same over and over are taken to wait --- */
+
+void nicxi_forget_polls(struct polls *polls)
+{
+    memset(polls->seen, 0xFF, sizeof polls->seen);
+    polls->next = polls->times = 0;
+}
+
+static struct polls *polls_of(struct thread *self)
+{
+    return self ? &self->polls : &nicxi.outside;
+}
+
+/* Others go first, where somebody can act. */
 static void let_others(struct thread *self)
 {
+    if (polls_of(self)->times >= POLLS) {
+        if (self)
+            self->state = PAUSED;
+        else
+            nicxi_wait_outside();
+    }
     if (!self)
         return;
-    if (self->polls >= POLLS)
-        self->state = PAUSED;
     nicxi_next(self);
     nicxi_went_on(self);
 }
 
+/* What one of the last reads told already is nothing new. */
 static void note_poll(const struct step *step)
 {
-    struct thread *self = nicxi.self;
-    if (!self)
+    enum { KEPT = sizeof nicxi.outside.seen / sizeof *nicxi.outside.seen };
+    struct polls *polls = polls_of(nicxi.self);
+    uint32_t k = 0, place = (uint32_t)step->kind << 28 ^ (uint32_t)step->vf << 20 ^ step->address;
+    while (k < KEPT && polls->seen[k][0] != place)
+        k++;
+    if (k < KEPT && polls->seen[k][1] == step->word) {
+        polls->times++;
         return;
-    bool same = self->polled[0] == step->address && self->polled[1] == step->word;
-    self->polls = same ? self->polls + 1 : 0;
-    self->polled[0] = step->address;
-    self->polled[1] = step->word;
+    }
+    polls->times = 0;
+    if (k == KEPT) {
+        k = polls->next;
+        polls->next = (k + 1) % KEPT;
+    }
+    polls->seen[k][0] = place;
+    polls->seen[k][1] = step->word;
 }
 
 static void note_change(void)
 {
-    if (nicxi.self)
-        nicxi.self->polls = 0;
+    polls_of(nicxi.self)->times = 0;
 }
 
 /* Where a function's access goes, before it is made. */
@@ -65,10 +97,43 @@ static bool is_change(const struct step *step)
     }
 }
 
+/* --- what is no failure, and is told behind the search --- */
+
+static const char *outside_name(void)
+{
+    return nicxi.phase == BRINGING_UP ? "the bring-up" : "begin or end";
+}
+
+static void note_stray(const struct step *step)
+{
+    char words[MOST_WORDS];
+    struct notes *notes = nicxi.notes;
+    if (step->status == NIC_STRAY && !notes->strays++)
+        snprintf(notes->stray, sizeof notes->stray, "%s: %s", nicxi.self ? nicxi.self->name : outside_name(),
+                 nicxi_words(step, words));
+}
+
+/* A queue at or above `queues` that is asked to go on never does. */
+static void note_beyond(const struct step *step)
+{
+    uint32_t address = step->kind == STEP_WRITE ? step->address : step->physical;
+    if ((step->kind != STEP_WRITE && step->kind != STEP_VF_WRITE) || !(step->word & ENABLE) || nicxi.notes->beyond)
+        return;
+    for (uint32_t queue = nicxi.scenario->queues; queue < NIC_RXDCTL_COUNT; queue++)
+        if (address == NIC_RXDCTL(queue) || address == NIC_TXDCTL(queue))
+            nicxi.notes->beyond = queue + 1;
+}
+
 /* After it: what it makes possible, and who hears of it. */
 static void after(const struct step *step)
 {
     nicxi_wake(step);
+    note_stray(step);
+    note_beyond(step);
+    if (!nicxi.self && is_change(step)) {
+        nicxi.waits = 0;
+        nicxi.is_settled = false;
+    }
     if (nicxi.self && nicxi.self->is_void && is_change(step))
         nicxi.self->is_void = false;
     nicxi_told(step);
@@ -84,13 +149,15 @@ static void judge(const struct step *step)
                  : step->kind == STEP_POKE ? "writes"
                                            : "takes back",
                  (unsigned long long)step->bus);
-    nicxi_next(nicxi.self);
+    nicxi_leave();
 }
 
 /* --- registers --- */
 
 uint32_t nicx_read32(uint32_t address)
 {
+    if (!nicxi_may_act())
+        return 0;
     struct step *step = before(STEP_READ);
     step->address = address;
     let_others(nicxi.self);
@@ -102,6 +169,8 @@ uint32_t nicx_read32(uint32_t address)
 
 uint8_t nicx_write32(uint32_t address, uint32_t word)
 {
+    if (!nicxi_may_act())
+        return NIC_STRAY;
     struct step *step = before(STEP_WRITE);
     step->address = address;
     step->word = word;
@@ -114,6 +183,8 @@ uint8_t nicx_write32(uint32_t address, uint32_t word)
 
 uint32_t nicx_vf_read32(uint8_t vf, uint32_t offset)
 {
+    if (!nicxi_may_act())
+        return 0;
     struct step *step = before(STEP_VF_READ);
     step->vf = vf;
     step->address = offset;
@@ -127,6 +198,8 @@ uint32_t nicx_vf_read32(uint8_t vf, uint32_t offset)
 
 uint8_t nicx_vf_write32(uint8_t vf, uint32_t offset, uint32_t word)
 {
+    if (!nicxi_may_act())
+        return NIC_STRAY;
     struct step *step = before(STEP_VF_WRITE);
     step->vf = vf;
     step->address = offset;
@@ -143,6 +216,8 @@ uint8_t nicx_vf_write32(uint8_t vf, uint32_t offset, uint32_t word)
 
 uint8_t nicx_dma_read(uint64_t bus, uint8_t *bytes, size_t length)
 {
+    if (!nicxi_may_act())
+        return NIC_NOT_LENT;
     struct step *step = before(STEP_PEEK);
     step->bus = bus;
     step->length = (uint32_t)length;
@@ -158,6 +233,8 @@ uint8_t nicx_dma_read(uint64_t bus, uint8_t *bytes, size_t length)
 
 uint8_t nicx_dma_write(uint64_t bus, const uint8_t *bytes, size_t length)
 {
+    if (!nicxi_may_act())
+        return NIC_NOT_LENT;
     struct step *step = before(STEP_POKE);
     step->bus = bus;
     step->length = (uint32_t)length;
@@ -189,6 +266,8 @@ uint8_t nicx_put64(uint64_t bus, uint64_t value)
 
 static uint8_t move_block(uint8_t kind, uint32_t block)
 {
+    if (!nicxi_may_act())
+        return NIC_NOT_LENT;
     struct step *step = before(kind);
     step->address = block;
     step->bus = (uint64_t)block * NIC_BLOCK_BYTES;
@@ -218,18 +297,30 @@ nic *nicx_device(void)
     return &nicxi.device;
 }
 
+/* Whether no thread calls, and nothing that may only look. */
+static bool is_outside(const char *call)
+{
+    if (!nicxi_may_act())
+        return false;
+    if (!nicxi.self)
+        return true;
+    nicxi_failed(NICX_MISUSE, "%s calls %s, which is for bring_up", nicxi.self->name, call);
+    nicxi_leave();
+    return false;
+}
+
 uint8_t nicx_lend_all(void)
 {
     uint8_t status = NIC_DONE;
+    if (!is_outside("nicx_lend_all"))
+        return NIC_NOT_LENT;
     for (uint32_t block = 0; block < nicxi.scenario->blocks && status != NIC_OUT_OF_MEMORY; block++)
         status = nicx_lend(block);
     return status == NIC_OUT_OF_MEMORY ? status : (uint8_t)NIC_DONE;
 }
 
-void nicx_settle(void)
+static void settle(void)
 {
-    if (nicxi.phase != BRINGING_UP)
-        return;
     nicxi_list_actors();
     for (bool acted = true; acted;) {
         acted = false;
@@ -243,4 +334,39 @@ void nicx_settle(void)
             after(&step);
         }
     }
+    nicxi.is_settled = true;
+}
+
+void nicx_settle(void)
+{
+    if (!is_outside("nicx_settle"))
+        return;
+    if (nicxi.phase == BRINGING_UP)
+        settle();
+    else
+        nicxi_failed(NICX_MISUSE, "nicx_settle is for bring_up");
+}
+
+/* Nobody else would end it: the searches, which look after what hangs, begin later. */
+static void give_up(void)
+{
+    char words[MOST_WORDS];
+    fprintf(stderr, "%s: %s waits for ever, and the device has no step to make", nicxi.scenario->name,
+            nicxi.phase == BRINGING_UP ? "bring_up" : "begin");
+    if (outside.kind != STEP_NONE)
+        fprintf(stderr, "; its last access: %s", nicxi_words(&outside, words));
+    if (nicxi.notes->beyond)
+        fprintf(stderr, "; queue %u isn't below .queues", (unsigned)nicxi.notes->beyond - 1);
+    fprintf(stderr, "\n");
+    exit(2);
+}
+
+void nicxi_wait_outside(void)
+{
+    if (nicxi.phase != BRINGING_UP && nicxi.phase != BEGINNING)
+        return;
+    if (nicxi.phase == BRINGING_UP && !nicxi.is_settled)
+        settle();
+    if (++nicxi.waits > MOST_WAITS)
+        give_up();
 }

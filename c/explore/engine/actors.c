@@ -46,6 +46,14 @@ void nicxi_list_actors(void)
     add(BY_EEPROM, 0, -1);
 }
 
+static bool holds(const struct thread *thread)
+{
+    nicxi.asker = "a condition of nicx_wait_until";
+    bool it_holds = thread->condition(thread->condition_argument);
+    nicxi.asker = NULL;
+    return it_holds;
+}
+
 static bool can_go_on(const struct thread *thread)
 {
     if (thread->interrupted_by >= 0)
@@ -54,7 +62,7 @@ static bool can_go_on(const struct thread *thread)
     case READY: return true;
     case WAITING: return nicxi_others_acted(thread);
     case PAUSED: return nicxi_others_acted(thread);
-    case UNTIL: return thread->condition(thread->condition_argument);
+    case UNTIL: return holds(thread);
     case LOCKED: return nicxi_lock_is_free(thread->lock);
     default: return false;
     }

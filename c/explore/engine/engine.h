@@ -68,6 +68,12 @@ enum thread_state {
     LOCKED   /* until its lock is free */
 };
 
+/* The reads of a loop: the last ones that told something new, and how many since told nothing new. */
+struct polls {
+    uint32_t seen[4][2]; /* what was read, and what it gave */
+    uint32_t next, times;
+};
+
 /* Where a thread's stack is. */
 enum stack_state { NO_STACK, PARKED, BUSY };
 
@@ -89,10 +95,11 @@ struct thread {
     bool (*condition)(void *);
     void *condition_argument;
     nicx_mutex *lock;
-    struct step next;   /* before what it stands */
-    uint32_t polled[2]; /* the read that it made last, and what it gave */
-    uint32_t polls;     /* how often in a row */
-    uint16_t group;     /* of a handler */
+    struct step next; /* before what it stands */
+    struct polls polls;
+    nicx_mutex *held[8]; /* the locks that it holds; of more than eight not all */
+    uint32_t locks;      /* how many it holds */
+    uint16_t group;      /* of a handler */
     uint8_t vector;
     int where;
 };
@@ -114,6 +121,13 @@ struct frame {
 };
 
 enum phase { CLOSED, BRINGING_UP, BEGINNING, RUNNING, ENDING };
+
+/* What is told behind a search, since it is no failure and may be its reason. */
+struct notes {
+    uint32_t strays; /* accesses of no register */
+    char stray[160]; /* the first of them, and whose it was */
+    uint32_t beyond; /* one more than a queue at or above `queues` that was asked to go on */
+};
 
 /* Who hears of each event: for scripts and for what a replay prints. */
 typedef void nicxi_listener(void *argument, uint16_t actor, const struct step *step);
@@ -139,6 +153,12 @@ struct engine {
     bool links[NICX_FRAMES];
     uint16_t link_count, next_link;
 
+    const char *asker;    /* the function of the scenario that may only look, while it runs */
+    struct polls outside; /* of no thread */
+    uint32_t waits;       /* of no thread, in a row, without a step that changed anything */
+    bool is_settled;      /* in the bring-up, no step of the device is left */
+    struct notes *notes, own_notes;
+
     uint64_t epoch; /* the schedule's number, for locks */
     uint64_t acts, changes;
     const nicx_chooser *chooser;
@@ -160,6 +180,15 @@ extern struct engine nicxi;
 
 /* The words of a failure; the first one stays. */
 void nicxi_failed(uint8_t outcome, const char *form, ...);
+
+/* The schedule has failed: a thread that runs is left where it is, and doesn't go on. */
+void nicxi_leave(void);
+/* Whether a call that acts may be made: not by what may only look, which fails. */
+bool nicxi_may_act(void);
+/* A wait of no thread: in the bring-up the device makes its steps. One that never ends is told, and ends the process.
+ */
+void nicxi_wait_outside(void);
+void nicxi_forget_polls(struct polls *polls);
 
 /* Somebody else may act, until the thread that runs is chosen. */
 void nicxi_next(struct thread *self);

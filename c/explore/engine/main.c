@@ -51,6 +51,16 @@ static int unfit(const char *path, const struct schedule_file *file, const struc
     return NOTHING;
 }
 
+/* What is no failure, and may be why. */
+static void tell_notes(const struct notes *notes)
+{
+    const char *name = nicxi.scenario->name;
+    if (notes->strays)
+        printf("%s: note: %" PRIu32 " accesses of no register, the first by %s\n", name, notes->strays, notes->stray);
+    if (notes->beyond)
+        printf("%s: note: queue %" PRIu32 " isn't below .queues, so it never goes on\n", name, notes->beyond - 1);
+}
+
 static int replay(const char *path)
 {
     struct schedule_file file;
@@ -71,6 +81,7 @@ static int replay(const char *path)
     nicxi_free_schedule(&file);
     if (status != NOTHING)
         return status;
+    tell_notes(nicxi.notes);
     if (result.outcome == NICX_FINE)
         printf("%s: fine\n", nicxi.scenario->name);
     else
@@ -178,7 +189,10 @@ static void tell_failure(const struct failure *failure, const nicx_result *found
         printf("; shrunk by %" PRIu32 " tries to %" PRIu32 " and %" PRIu32, tries, failure->result.points,
                failure->result.switches);
     printf("\n%s: the schedule is %s, the device's side of it %s\n", name, schedule, script);
-    printf("%s: again: %s --replay %s\n", name, program, schedule);
+    if (failure->is_stale)
+        printf("%s: it doesn't fail alone: the same options find it again\n", name);
+    else
+        printf("%s: again: %s --replay %s\n", name, program, schedule);
 }
 
 static int search(const struct options *options, const char *program)
@@ -190,9 +204,11 @@ static int search(const struct options *options, const char *program)
     if (fault)
         return refuse(nicxi.scenario, fault);
     tell_totals(options, &totals);
+    tell_notes(&totals.notes);
     if (failure.is_there) {
         nicx_result found = failure.result;
-        uint32_t tries = options->no_shrink ? 0 : nicxi_shrink(options, &failure);
+        nicxi_confirm(options, &failure);
+        uint32_t tries = options->no_shrink || failure.is_stale ? 0 : nicxi_shrink(options, &failure);
         keep(options, &failure, schedule, script);
         tell_failure(&failure, &found, tries, schedule, script, program);
     } else {

@@ -47,6 +47,7 @@ void nicxi_note_in(struct post *post)
 {
     nicxi.schedule = post->schedule;
     nicxi.points = &post->at;
+    nicxi.notes = &post->notes;
 }
 
 /* --- a task that hangs --- */
@@ -102,6 +103,17 @@ bool nicxi_start(struct post *post, uint32_t hang, void (*work)(struct post *, v
     _exit(0);
 }
 
+/* Whoever acted last runs yet, or a function of the scenario behind it. */
+static void tell_hang(const struct post *post, nicx_result *result)
+{
+    char name[96];
+    if (post->at)
+        snprintf(result->words, sizeof result->words, "%s made no further point: does its loop need nicx_wait?",
+                 nicx_actor_name(post->schedule[post->at - 1], name));
+    else
+        snprintf(result->words, sizeof result->words, "begin makes no end");
+}
+
 bool nicxi_ended(struct post *post, int status)
 {
     nicx_result *result = &post->result;
@@ -112,7 +124,7 @@ bool nicxi_ended(struct post *post, int status)
     result->outcome = NICX_CRASH;
     if (WIFEXITED(status) && WEXITSTATUS(status) == HUNG) {
         result->outcome = NICX_HANG;
-        snprintf(result->words, sizeof result->words, "a task runs and makes no point");
+        tell_hang(post, result);
     } else if (WIFSIGNALED(status)) {
         snprintf(result->words, sizeof result->words, "the process was ended by signal %d (%s)", WTERMSIG(status),
                  strsignal(WTERMSIG(status)));

@@ -13,9 +13,11 @@ struct post {
     volatile uint32_t at;           /* of that, how many points were made */
     volatile bool is_running;       /* amid a schedule */
     volatile bool is_found;         /* `result` tells of a failure of `run` */
+    bool is_stale;                  /* the failure is that schedules aren't the same each time */
     bool is_over;                   /* an exhaustive search that has come to its end */
     uint8_t strategy;
     nicx_result result;
+    struct notes notes;
     pid_t process;
     uint16_t *schedule;
 };

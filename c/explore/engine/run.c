@@ -22,6 +22,25 @@ void nicxi_failed(uint8_t outcome, const char *form, ...)
     va_end(list);
 }
 
+void nicxi_leave(void)
+{
+    struct thread *self = nicxi.self;
+    nicxi.asker = NULL;
+    if (!self)
+        return;
+    self->stack = BUSY;
+    nicxi_next(self);
+}
+
+bool nicxi_may_act(void)
+{
+    if (!nicxi.asker)
+        return true;
+    nicxi_failed(NICX_MISUSE, "%s makes a call that acts: it may only look", nicxi.asker);
+    nicxi_leave();
+    return false;
+}
+
 /* --- after a step --- */
 
 void nicxi_told(const struct step *step)
@@ -66,7 +85,9 @@ static void look(void)
     const char *words;
     if (!nicxi.scenario->always || nicxi.result.outcome)
         return;
+    nicxi.asker = "always";
     words = nicxi.scenario->always();
+    nicxi.asker = NULL;
     if (words)
         nicxi_failed(NICX_ALWAYS, "%s", words);
 }
@@ -166,8 +187,10 @@ static bool is_endless(void)
     if (*nicxi.points < nicxi.most_points)
         return false;
     char room[96];
-    nicxi_failed(NICX_ENDLESS, "no end after %u points; last came %s", (unsigned)nicxi.most_points,
-                 nicx_actor_name(nicxi.schedule[*nicxi.points - 1], room));
+    uint16_t last = nicxi.schedule[*nicxi.points - 1];
+    nicxi_failed(NICX_ENDLESS, "no end after %u points; last came %s%s", (unsigned)nicxi.most_points,
+                 nicx_actor_name(last, room),
+                 nicxi.actors[last].kind == BY_THREAD ? ": does its loop need nicx_wait?" : "");
     return true;
 }
 
@@ -176,6 +199,8 @@ static uint16_t choose(void)
 {
     while (!nicxi.result.outcome && !is_endless()) {
         uint32_t count = list_able(false);
+        if (nicxi.result.outcome)
+            break;
         if (!count && !is_at_rest())
             continue;
         if (!count)
@@ -254,8 +279,8 @@ static void begin_threads(void)
         thread->masked = 0;
         thread->own = thread->seen = 0;
         thread->voided = 0;
-        thread->polls = 0;
-        thread->polled[0] = thread->polled[1] = UINT32_MAX;
+        nicxi_forget_polls(&thread->polls);
+        thread->locks = 0;
         thread->next.waits = false;
         thread->pending = thread->is_void = false;
         thread->next.kind = STEP_LOCAL;
@@ -273,6 +298,7 @@ static void reset(void)
     nicxi.switches = 0;
     nicxi.is_cut = false;
     nicxi.self = NULL;
+    nicxi.asker = NULL;
     nicxi.result.outcome = NICX_FINE;
     nicxi.result.words[0] = 0;
     nicxi.tasks = nicxi.handlers = 0;

@@ -178,6 +178,8 @@ const char *nicx_open(const nicx_scenario *scenario)
         return fault;
     nicxi.scenario = scenario;
     nicxi.points = &nicxi.own_points;
+    nicxi.notes = &nicxi.own_notes;
+    nicxi_forget_polls(&nicxi.outside);
     nicxi.most_points = scenario->points ? scenario->points : USUAL_POINTS;
     nicxi.schedule = nicxi.own_schedule = calloc(nicxi.most_points + 1u, sizeof *nicxi.schedule);
     if (!nicxi.schedule)

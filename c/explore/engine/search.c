@@ -116,7 +116,7 @@ static void search_all(struct post *post, const struct job *job)
         static const nicx_result strange = {
             NICX_MISUSE, 0, 0, "a schedule went another way than before: begin doesn't make the driver's state anew"};
         post->result = strange;
-        post->is_found = true;
+        post->is_found = post->is_stale = true;
     }
     post->is_over = state && !post->is_found;
     nicxi_free_exhaustive(state);
@@ -152,6 +152,21 @@ static void sum(struct search *search)
         search->totals->points += search->posts[k].points;
     }
     search->totals->seconds = now() - search->began;
+}
+
+/* What was noted in the bring-up, and by each process. */
+static void sum_notes(struct search *search)
+{
+    struct notes *all = &search->totals->notes;
+    *all = *nicxi.notes;
+    for (uint32_t k = 0; k < search->options->jobs; k++) {
+        const struct notes *one = &search->posts[k].notes;
+        if (!all->strays && one->strays)
+            memcpy(all->stray, one->stray, sizeof all->stray);
+        all->strays += one->strays;
+        if (!all->beyond)
+            all->beyond = one->beyond;
+    }
 }
 
 static void tell(struct search *search)
@@ -214,6 +229,7 @@ static bool keep_failure(const struct search *search, struct failure *failure)
     if (!best)
         return true;
     failure->is_there = true;
+    failure->is_stale = best->is_stale;
     failure->strategy = (enum strategy)best->strategy;
     failure->run = best->run;
     failure->result = best->result;
@@ -260,6 +276,7 @@ const char *nicxi_search(const struct options *options, struct totals *totals, s
         search.common->stop = true;
     wait_for_all(&search);
     sum(&search);
+    sum_notes(&search);
     totals->is_whole = is_whole(&search);
     if (!keep_failure(&search, failure))
         fault = "there is no memory for the schedule that failed";

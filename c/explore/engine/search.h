@@ -10,11 +10,13 @@ struct totals {
     uint64_t runs, points;
     double seconds;
     bool is_whole; /* an exhaustive search that has come to its end */
+    struct notes notes;
 };
 
 /* A failure: of several the one of the lowest run. The schedule is the caller's to free. */
 struct failure {
     bool is_there;
+    bool is_stale; /* its schedule alone doesn't fail: what the schedules before it left in the driver does */
     enum strategy strategy;
     uint64_t run;
     nicx_result result;
@@ -23,6 +25,10 @@ struct failure {
 
 /* Null, or why there can be no search. */
 const char *nicxi_search(const struct options *options, struct totals *totals, struct failure *failure);
+
+/* Makes a failure's schedule in a process of its own. Where it doesn't fail there as it did, the failure is stale, and
+   becomes one of `begin`. */
+void nicxi_confirm(const struct options *options, struct failure *failure);
 
 /* The failure with the fewest switches that is found near one: its schedule and its result are put in the place of the
    failure's. Answers how many schedules were tried. */

@@ -2,12 +2,14 @@
    same way. Each try is made in a process of its own, so a driver that crashes is shrunk as any other. */
 #define _DEFAULT_SOURCE
 #include <fcntl.h>
+#include <stdio.h>
 #include <stdlib.h>
 #include <string.h>
 #include <time.h>
 #include <unistd.h>
 
 #include "search.h"
+#include "words.h"
 
 enum { MOST_TRIES = 4000 };
 #define MOST_SECONDS 15.0
@@ -65,10 +67,15 @@ static bool are_alike(const char *a, const char *b)
     }
 }
 
+static bool is_the_same(const nicx_result *a, const nicx_result *b)
+{
+    return a->outcome == b->outcome && are_alike(a->words, b->words);
+}
+
 static bool is_better(const struct shrinking *it)
 {
     const nicx_result *new = &it->post->result, *old = &it->best->result;
-    if (new->outcome != old->outcome || !are_alike(new->words, old->words))
+    if (!is_the_same(new, old))
         return false;
     return new->switches < old->switches || (new->switches == old->switches &&new->points < old->points);
 }
@@ -166,6 +173,33 @@ static bool try_stretches(struct shrinking *it)
             at = end_of(it->best, at);
     }
     return any;
+}
+
+static void follow_to_the_letter(struct post *post, void *argument)
+{
+    const struct failure *failure = argument;
+    struct by_list state;
+    be_quiet();
+    nicx_chooser chooser = nicxi_by_list(&state, failure->schedule, failure->result.points, true);
+    nicx_run(&chooser, &post->result);
+    post->is_found = post->result.outcome != NICX_FINE;
+}
+
+void nicxi_confirm(const struct options *options, struct failure *failure)
+{
+    struct post *post = failure->is_stale ? NULL : nicxi_posts(1);
+    if (!post)
+        return;
+    bool fails = nicxi_do(post, options->hang, follow_to_the_letter, failure);
+    failure->is_stale = !fails || !is_the_same(&post->result, &failure->result);
+    if (failure->is_stale) {
+        nicx_result found = failure->result;
+        failure->result.outcome = NICX_MISUSE;
+        snprintf(failure->result.words, sizeof failure->result.words,
+                 "begin doesn't make all of the driver's state anew: only behind other schedules comes %s: %.120s",
+                 nicxi_outcome_name(found.outcome), found.words);
+    }
+    nicxi_free_posts(post, 1);
 }
 
 uint32_t nicxi_shrink(const struct options *options, struct failure *failure)

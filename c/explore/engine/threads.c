@@ -3,6 +3,20 @@
 
 #include "engine.h"
 
+static const char *name_of(const nicx_mutex *lock)
+{
+    return lock->name ? lock->name : "a lock";
+}
+
+/* A lock that is held is never free again, and so is what waits for it. */
+static void judge_locks(const struct thread *self)
+{
+    enum { MOST_HELD = sizeof self->held / sizeof *self->held };
+    if (self->locks)
+        nicxi_failed(NICX_MISUSE, "%s ends and holds %s", self->name,
+                     self->locks > MOST_HELD ? "a lock" : name_of(self->held[self->locks - 1]));
+}
+
 /* A thread ends where it began: a handler that is started again, and a task of the next schedule, go on from here. */
 static void live(void *argument)
 {
@@ -13,6 +27,7 @@ static void live(void *argument)
             nicxi.threads[self->on].interrupted_by = -1;
         if (self->masked)
             nicxi_failed(NICX_MISUSE, "%s ends with its interrupts off", self->name);
+        judge_locks(self);
         self->state = OFF;
         self->is_void = false;
         self->on = -1;
@@ -58,9 +73,14 @@ bool nicxi_others_acted(const struct thread *thread)
 
 static void stand(enum thread_state state, enum local local)
 {
-    struct thread *self = nicxi.self;
-    if (!self)
+    if (!nicxi_may_act())
         return;
+    struct thread *self = nicxi.self;
+    if (!self) {
+        if (state == WAITING || state == PAUSED || state == UNTIL)
+            nicxi_wait_outside();
+        return;
+    }
     self->next.kind = STEP_LOCAL;
     self->next.word = (uint32_t)local;
     self->state = (uint8_t)state;
@@ -89,8 +109,13 @@ void nicx_pause(void)
 void nicx_wait_until(bool (*condition)(void *), void *argument)
 {
     struct thread *self = nicxi.self;
-    if (!self)
+    if (!nicxi_may_act())
         return;
+    if (!self) {
+        while (!condition(argument) && (nicxi.phase == BRINGING_UP || nicxi.phase == BEGINNING))
+            nicxi_wait_outside();
+        return;
+    }
     self->condition = condition;
     self->condition_argument = argument;
     stand(UNTIL, LOCAL_UNTIL);
@@ -108,48 +133,64 @@ bool nicxi_lock_is_free(const nicx_mutex *lock)
     return lock->kept >> 8 != nicxi.epoch || !(lock->kept & 0xFF);
 }
 
-static const char *name_of(const nicx_mutex *lock)
+static void note_lock(struct thread *self, nicx_mutex *lock)
 {
-    return lock->name ? lock->name : "a lock";
+    if (self->locks < sizeof self->held / sizeof *self->held)
+        self->held[self->locks] = lock;
+    self->locks++;
+}
+
+/* Locks are given back in any order. */
+static void note_unlock(struct thread *self, const nicx_mutex *lock)
+{
+    enum { MOST_HELD = sizeof self->held / sizeof *self->held };
+    uint32_t kept = self->locks < MOST_HELD ? self->locks : MOST_HELD, k = 0;
+    while (k < kept && self->held[k] != lock)
+        k++;
+    for (; k + 1 < kept; k++)
+        self->held[k] = self->held[k + 1];
+    self->locks--;
 }
 
 void nicx_lock(nicx_mutex *lock)
 {
     struct thread *self = nicxi.self;
-    if (!self)
+    if (!nicxi_may_act() || !self)
         return;
     self->lock = lock;
     stand(LOCKED, LOCAL_LOCK);
     lock->kept = nicxi.epoch << 8 | (number_of(self) + 1);
+    note_lock(self, lock);
 }
 
 void nicx_unlock(nicx_mutex *lock)
 {
     struct thread *self = nicxi.self;
-    if (!self)
+    if (!nicxi_may_act() || !self)
         return;
     stand(READY, LOCAL_UNLOCK);
     if (lock->kept != (nicxi.epoch << 8 | (number_of(self) + 1))) {
         nicxi_failed(NICX_MISUSE, "%s unlocks %s, which it doesn't hold", self->name, name_of(lock));
-        nicxi_next(self);
+        nicxi_leave();
     }
     lock->kept = 0;
+    note_unlock(self, lock);
 }
 
 void nicx_interrupts_off(void)
 {
-    if (nicxi.self)
+    if (nicxi_may_act() && nicxi.self)
         nicxi.self->masked++;
 }
 
 void nicx_interrupts_on(void)
 {
     struct thread *self = nicxi.self;
-    if (!self)
+    if (!nicxi_may_act() || !self)
         return;
     if (!self->masked) {
         nicxi_failed(NICX_MISUSE, "%s turns interrupts on that aren't off", self->name);
-        nicxi_next(self);
+        nicxi_leave();
     }
     self->masked--;
 }
@@ -157,6 +198,5 @@ void nicx_interrupts_on(void)
 void nicx_fail(const char *words)
 {
     nicxi_failed(NICX_CHECK, "%s", words);
-    if (nicxi.self)
-        nicxi_next(nicxi.self);
+    nicxi_leave();
 }

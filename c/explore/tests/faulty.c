@@ -11,10 +11,20 @@
 static const char *mode;
 static nicx_mutex locks[2];
 static volatile unsigned turns;
+static unsigned left; /* begin doesn't make it anew */
 
 static bool is(const char *name)
 {
     return !strcmp(mode, name);
+}
+
+/* As a driver brings a queue up itself. */
+static void start_queue(unsigned queue, bool waits)
+{
+    nicx_write32(NIC_RXDCTL(queue), ENABLE);
+    while (!(nicx_read32(NIC_RXDCTL(queue)) & ENABLE))
+        if (waits)
+            nicx_wait();
 }
 
 static const char *bring_up(void)
@@ -24,6 +34,15 @@ static const char *bring_up(void)
     lend_blocks(1);
     bring_up_receive(1);
     bring_up_interrupt();
+    nicx_write32(NIC_TXDCTL(0), ENABLE);
+    if (is("polls"))
+        while (!(nicx_read32(NIC_TXDCTL(0)) & ENABLE))
+            nicx_pause();
+    if (is("spins"))
+        while (!(nicx_read32(NIC_TXDCTL(0)) & ENABLE))
+            continue;
+    if (is("stuck") || is("stuck_spinning"))
+        start_queue(1, is("stuck"));
     return NULL;
 }
 
@@ -44,9 +63,48 @@ static void locker(void *argument)
     nicx_unlock(first);
 }
 
+static bool reads(void *unused)
+{
+    (void)unused;
+    return nicx_read32(NIC_RDH(0)) < SLOTS;
+}
+
+/* Calls that can't be made there, and what is told beside. */
+static void misuse(void)
+{
+    if (is("condition"))
+        nicx_wait_until(reads, NULL);
+    if (is("settle"))
+        nicx_settle();
+    if (is("lend_all"))
+        nicx_lend_all();
+    if (is("held")) {
+        nicx_lock(&locks[0]);
+        nicx_lock(&locks[1]);
+        nicx_unlock(&locks[0]);
+    }
+    if (is("stray"))
+        nicx_check(!nicx_read32(0x1F000) || left, "a register that there isn't");
+    if (is("beyond"))
+        start_queue(5, true);
+    if (is("left"))
+        nicx_check(++left < 20, "the twentieth schedule");
+}
+
+/* Loops that look at the device and don't wait: at two registers in turn, and at a descriptor. */
+static void spin(void)
+{
+    while (is("two") && nicx_read32(NIC_RDH(0)) != 1 && nicx_read32(NIC_RDT(0)) < SLOTS)
+        continue;
+    while (is("descriptor") && !(nicx_get64(RX_RING + 8) & DD))
+        continue;
+}
+
 static void fault(void *unused)
 {
     (void)unused;
+    misuse();
+    spin();
     nicx_read32(NIC_RDH(0));
     uint32_t head = nicx_read32(NIC_RDH(0));
     if (is("crash") && head)
@@ -86,18 +144,26 @@ static void begin(void)
     nicx_task(is("name") ? "a name" : "faulty", fault, NULL);
     nicx_task(is("twice") ? "faulty" : "other", quiet, NULL);
     nicx_handler("isr", is("group"), 5, quiet, NULL, is("nowhere") ? 2 : NICX_ANYWHERE);
+    while (is("begin_waits") && !nicx_read32(NIC_RDH(0)))
+        nicx_wait();
     frames_come(1);
 }
 
 static const char *always(void)
 {
     uint32_t head = 0;
+    if (is("look"))
+        nicx_read32(NIC_RDH(0));
+    if (is("look_fails"))
+        nicx_fail("always asks");
     nic_peek32(nicx_device(), NIC_RDH(0), &head);
     return is("always") && head ? "the head moved" : NULL;
 }
 
 static const char *end(void)
 {
+    if (is("settle_at_end"))
+        nicx_settle();
     return is("end") ? "it ended <here> & \"now\"" : NULL;
 }
 

@@ -1,0 +1,212 @@
+/* A transmit queue. A thread sends, a cleaner takes back the buffers of what went out, and a watchdog resets the
+   queue if its head doesn't move for a while: it stops the queue, and gives it anew what is outstanding.
+
+   With WRONG it takes back what went out before the queue is off, and what goes out meanwhile goes out twice. */
+#include <string.h>
+
+#include "nic82599_explore.h"
+
+enum { SLOTS = 8, BUFFERS = 3, FRAME = 60, FRAMES = 4, TICKS = 2, RING = 0 };
+
+static struct {
+    nicx_mutex lock;
+    bool scheduled;
+    unsigned clean, tail; /* the slots from clean to before tail are outstanding */
+    uint8_t buffer_in[SLOTS];
+    uint8_t unused[BUFFERS];
+    unsigned free; /* how many buffers are in `unused` */
+} driver;
+
+static uint64_t buffer(unsigned number)
+{
+    return NIC_BLOCK_BYTES * (uint64_t)(1 + number);
+}
+
+static void make_frame(uint8_t frame[FRAME], unsigned number)
+{
+    static const uint8_t head[14] = {2, 0, 0, 0, 0, 1, 2, 0, 0, 0, 0, 2, 0x88, 0xB5};
+    memset(frame, (int)number, FRAME);
+    memcpy(frame, head, sizeof head);
+}
+
+/* --- the driver --- */
+
+static void post(uint8_t number)
+{
+    nic_desc d = nic_tx_desc(buffer(number), FRAME, FRAME, NIC_TXD_EOP | NIC_TXD_RS);
+    nicx_put64(RING + NIC_DESC_BYTES * driver.tail, d.first);
+    nicx_put64(RING + NIC_DESC_BYTES * driver.tail + 8, d.second);
+    driver.buffer_in[driver.tail] = number;
+    driver.tail = (driver.tail + 1) % SLOTS;
+    nicx_write32(NIC_TDT(0), driver.tail);
+}
+
+static void reclaim(void)
+{
+    while (driver.clean != driver.tail && nicx_get64(RING + NIC_DESC_BYTES * driver.clean + 8) & NIC_TXWB_DD) {
+        driver.unused[driver.free++] = driver.buffer_in[driver.clean];
+        driver.clean = (driver.clean + 1) % SLOTS;
+    }
+}
+
+static bool has_buffer(void *unused)
+{
+    (void)unused;
+    return driver.free > 0;
+}
+
+static void transmit(void *unused)
+{
+    uint8_t frame[FRAME];
+    (void)unused;
+    for (unsigned k = 0; k < FRAMES; k++) {
+        nicx_wait_until(has_buffer, NULL);
+        nicx_lock(&driver.lock);
+        uint8_t number = driver.unused[--driver.free];
+        make_frame(frame, k);
+        nicx_dma_write(buffer(number), frame, FRAME);
+        post(number);
+        nicx_unlock(&driver.lock);
+    }
+}
+
+static void isr(void *unused)
+{
+    (void)unused;
+    driver.scheduled = true;
+}
+
+static bool is_set(void *flag)
+{
+    return *(const bool *)flag;
+}
+
+static void cleaner(void *unused)
+{
+    (void)unused;
+    for (;;) {
+        nicx_wait_until(is_set, &driver.scheduled);
+        driver.scheduled = false;
+        nicx_lock(&driver.lock);
+        reclaim();
+        nicx_unlock(&driver.lock);
+    }
+}
+
+static void set_enable(uint32_t wanted)
+{
+    nicx_write32(NIC_TXDCTL(0), wanted);
+    while ((nicx_read32(NIC_TXDCTL(0)) & NIC_TXDCTL_ENABLE) != wanted)
+        nicx_wait();
+}
+
+static void reset_queue(void)
+{
+    uint8_t again[SLOTS];
+    unsigned count = 0;
+#ifndef WRONG
+    set_enable(0);
+    reclaim();
+#else
+    reclaim();
+    set_enable(0);
+#endif
+    for (; driver.clean != driver.tail; driver.clean = (driver.clean + 1) % SLOTS)
+        again[count++] = driver.buffer_in[driver.clean];
+    driver.clean = driver.tail = 0;
+    nicx_write32(NIC_TDT(0), 0);
+    nicx_write32(NIC_TDH(0), 0);
+    set_enable(NIC_TXDCTL_ENABLE);
+    for (unsigned k = 0; k < count; k++)
+        post(again[k]);
+}
+
+static bool is_outstanding(void *unused)
+{
+    (void)unused;
+    return driver.clean != driver.tail;
+}
+
+static void watchdog(void *unused)
+{
+    (void)unused;
+    for (unsigned tick = 0; tick < TICKS; tick++) {
+        nicx_wait_until(is_outstanding, NULL);
+        unsigned first = driver.clean;
+        uint32_t head = nicx_read32(NIC_TDH(0));
+        nicx_pause();
+        nicx_pause();
+        nicx_lock(&driver.lock);
+        if (driver.clean == first && driver.clean != driver.tail && nicx_read32(NIC_TDH(0)) == head)
+            reset_queue();
+        nicx_unlock(&driver.lock);
+    }
+}
+
+/* --- the scenario --- */
+
+static const char *bring_up(void)
+{
+    nicx_lend_all();
+    nicx_write32(NIC_TDBAL(0), RING);
+    nicx_write32(NIC_TDLEN(0), NIC_DESC_BYTES * SLOTS);
+    nicx_write32(NIC_DMATXCTL, nicx_read32(NIC_DMATXCTL) | NIC_DMATXCTL_TE);
+    nicx_write32(NIC_TXDCTL(0), NIC_TXDCTL_ENABLE);
+    nicx_settle();
+    nicx_write32(NIC_GPIE, NIC_GPIE_MULTIPLE_MSIX);
+    nicx_write32(NIC_IVAR(0), NIC_IVAR_INT_ALLOC_1_IS(0) | NIC_IVAR_INT_ALLOC_VAL_1);
+    nicx_write32(NIC_EIAC, 1);
+    nicx_write32(NIC_EIMS, 1);
+    return NULL;
+}
+
+static void begin(void)
+{
+    memset(&driver, 0, sizeof driver);
+    for (uint8_t k = 0; k < BUFFERS; k++)
+        driver.unused[driver.free++] = k;
+    nicx_task("transmit", transmit, NULL);
+    nicx_service("cleaner", cleaner, NULL);
+    nicx_service("watchdog", watchdog, NULL);
+    nicx_handler("isr", 0, 0, isr, NULL, NICX_BESIDE);
+}
+
+static const char *always(void)
+{
+    return driver.free + (driver.tail + SLOTS - driver.clean) % SLOTS <= BUFFERS ? NULL : "a buffer is in two places";
+}
+
+static const char *end(void)
+{
+    uint8_t frame[FRAME], whole[FRAME];
+    uint32_t head = 0;
+    nic_told told;
+    for (unsigned k = 0; k < FRAMES; k++) {
+        make_frame(whole, k);
+        if (nic_collect(nicx_device(), frame, FRAME, &told) != NIC_FRAME)
+            return "a frame didn't go out";
+        if (told.len != FRAME || memcmp(frame, whole, FRAME))
+            return "the frames that went out aren't those that were sent, one by one";
+    }
+    if (nic_next_out(nicx_device()))
+        return "more frames went out than were sent";
+    if (driver.free != BUFFERS || driver.clean != driver.tail)
+        return "a buffer didn't come back";
+    nic_peek32(nicx_device(), NIC_TDH(0), &head);
+    return head == driver.tail ? NULL : "the ring isn't at rest";
+}
+
+int main(int argc, char **argv)
+{
+    static const nicx_scenario scenario = {
+        .name = "transmit_watchdog",
+        .fifo = 64,
+        .blocks = 1 + BUFFERS,
+        .queues = 1,
+        .bring_up = bring_up,
+        .begin = begin,
+        .always = always,
+        .end = end,
+    };
+    return nicx_main(argc, argv, &scenario);
+}

@@ -196,14 +196,15 @@ NOTES = {
     "left": (1, "it doesn't fail alone: the same options find it again"),
 }
 
-# Loops that end.
-FINE = ("fine", "polls", "spins", "two", "descriptor")
+# Loops that end, and two handlers of a vector.
+FINE = ("fine", "polls", "spins", "two", "descriptor", "handlers")
 
 REFUSALS = {
     "stuck": "bring_up waits for ever, .*its last access: r RXDCTL.1. = 0x00000000; queue 1 isn't below .queues",
     "stuck_spinning": "bring_up waits for ever, .*its last access: r RXDCTL.1. = 0x00000000; queue 1",
     "begin_waits": "begin waits for ever, .*its last access: r RDH.0. = 0x00000000",
     "refused": "bring_up: there is no cable",
+    "checked": "bring_up: a check of the bring-up",
     "no_tasks": "begin names no task",
     "name": "a task's or a handler's name has 1 to 63 letters",
     "fifo": "there is no such device: bad fifo",

@@ -38,13 +38,14 @@ typedef struct nicx_scenario {
     uint16_t queues;
 
     /* Once in each process: makes the device ready by the nicx_ calls, which are no points here. Null, or why it can't
-       be done. The device is kept as it is then, and every schedule begins with it. */
+       be done. The device is kept as it is then, and every schedule begins with it. A wait or a pause here has the
+       device make its steps, and so has a loop that reads the same over and over. */
     const char *(*bring_up)(void);
     /* For each schedule: makes the driver's own state anew, and names its tasks, its handlers, and what comes from the
        link. */
     void (*begin)(void);
     /* After each step: null, or what is wrong. It may be null itself. It may look at the device by nicx_device() and
-       calls without effects (nic_peek32, nic_dma_read). */
+       calls without effects (nic_peek32, nic_dma_read); a call that acts fails as misuse. */
     const char *(*always)(void);
     /* When all is at rest, so that no task, handler or step of the device can go on: null, or what is wrong. */
     const char *(*end)(void);
@@ -103,12 +104,17 @@ void nicx_wait(void);
 /* Waits until a condition on the driver's own memory holds; the condition makes none of these calls. This is one point,
    where a loop of nicx_wait is one for each act of somebody else. */
 void nicx_wait_until(bool (*condition)(void *), void *argument);
+/* A condition: that a flag, a bool, is set. */
+static inline bool nicx_is_set(void *flag)
+{
+    return *(const bool *)flag;
+}
 /* Lets others act before this task goes on; where nobody can, it goes on. For loops that poll a bounded number of
    times. */
 void nicx_pause(void);
 
 /* A lock of the driver's own: {0} is a lock, which every schedule begins with free. Taking one that its holder takes
-   again never ends. */
+   again never ends. A task or a handler that ends while it holds one has failed. */
 typedef struct nicx_mutex {
     const char *name; /* for reports; may be null */
     uint64_t kept;    /* not the driver's */
@@ -134,8 +140,8 @@ static inline void nicx_check(bool holds, const char *words)
 /* The controller, for calls that the explorer needn't know of: without effects, or in `end`. */
 nic *nicx_device(void);
 
-uint8_t nicx_lend_all(void);
-/* Makes steps of the device's own until none has anything to do. Only in `bring_up`. */
+uint8_t nicx_lend_all(void); /* never in a task or a handler */
+/* Makes steps of the device's own until none has anything to do. Only in `bring_up`: elsewhere it is misuse. */
 void nicx_settle(void);
 
 /* --- a whole program --- */

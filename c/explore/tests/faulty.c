@@ -11,6 +11,7 @@
 static const char *mode;
 static nicx_mutex locks[2];
 static volatile unsigned turns;
+static bool head_moved, first_ran, second_ran, service_ran;
 static unsigned left; /* begin doesn't make it anew */
 
 static bool is(const char *name)
@@ -31,6 +32,7 @@ static const char *bring_up(void)
 {
     if (is("refused"))
         return "there is no cable";
+    nicx_check(!is("checked"), "a check of the bring-up");
     lend_blocks(1);
     bring_up_receive(1);
     bring_up_interrupt();
@@ -51,6 +53,37 @@ static void quiet(void *unused)
     (void)unused;
     nicx_write32(NIC_EIMC, CAUSE);
     nicx_read32(NIC_EICR);
+}
+
+/* Two handlers of one vector: the first of them waits. */
+static void first_handler(void *unused)
+{
+    (void)unused;
+    nicx_wait_until(nicx_is_set, &head_moved);
+    first_ran = true;
+}
+
+static void second_handler(void *unused)
+{
+    (void)unused;
+    second_ran = true;
+}
+
+static void returning_service(void *unused)
+{
+    (void)unused;
+    while (nicx_read32(NIC_RDH(0)) != 1)
+        nicx_wait();
+    head_moved = service_ran = true;
+}
+
+static void begin_handlers(void)
+{
+    head_moved = first_ran = second_ran = service_ran = false;
+    nicx_service("service", returning_service, NULL);
+    nicx_handler("first", 0, 5, first_handler, NULL, NICX_BESIDE);
+    nicx_handler("second", 0, 5, second_handler, NULL, NICX_BESIDE);
+    frames_come(1);
 }
 
 /* Two locks in two orders. */
@@ -136,6 +169,10 @@ static void begin(void)
     locks[1].name = "second";
     if (is("no_tasks"))
         return;
+    if (is("handlers")) {
+        begin_handlers();
+        return;
+    }
     if (is("locks")) {
         nicx_task("up", locker, &locks[0]);
         nicx_task("down", locker, &locks[1]);
@@ -164,6 +201,8 @@ static const char *end(void)
 {
     if (is("settle_at_end"))
         nicx_settle();
+    if (is("handlers") && !(first_ran && second_ran && service_ran && nicx_read32(NIC_RDH(0)) == 1))
+        return "a handler or the service didn't come to its end";
     return is("end") ? "it ended <here> & \"now\"" : NULL;
 }
 

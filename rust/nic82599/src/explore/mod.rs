@@ -448,7 +448,7 @@ impl Bus {
         Error::unless_done(raw::lend_all())
     }
 
-    /// Makes steps of the device until none has anything to do, in [`Scenario::bring_up`]; elsewhere it does nothing.
+    /// Makes steps of the device until none has anything to do, in [`Scenario::bring_up`]; elsewhere it fails.
     pub fn settle(&self) {
         raw::settle();
     }

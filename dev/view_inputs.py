@@ -5,6 +5,34 @@ from __future__ import annotations
 FRAME = "0200000000010200000000020800450000280000000040060000420995bba18e64500aea06e6" + "00" * 22
 # A ring of 256 slots of which block 0 is lent, and so half: the device has 200 slots, and nothing is written to them.
 LONG_RING = "lend 0\nw RDLEN[0] 4096\nw RXDCTL[0] 0x02000000\nqstep rx 0\nw RDT[0] 200\n"
+# A queue that receives: its ring at 0, its first slot poked with a buffer's address.
+RECEIVES = """data frame {frame}
+data slot {buffer:02x}{rest}
+lend 0
+lend 1
+w RXCTRL 1
+w FCTRL 0x200
+w RDLEN[0] 128
+w SRRCTL[0] 0x02000002
+w RXDCTL[0] 0x02000000
+qstep rx 0
+poke 0 slot
+w RDT[0] 2
+arrive frame
+rx
+"""
+SLOT, OVER = ({"frame": FRAME, "buffer": low, "rest": rest + "00" * 13} for low, rest in ((0, "0800"), (32, "0000")))
+# Scripts whose last events, recorded, depend on what came before: how many virtual functions each needs, and its text.
+ENDS = {
+    # A slot is written whose ring was set up before.
+    "slot.nic": (0, RECEIVES.format(**SLOT) + "poke 16 slot\nr RDH[0]\n"),
+    # A frame lies over the ring, since the slot that was poked before says so.
+    "over.nic": (0, RECEIVES.format(**OVER) + "r RDH[0]\n"),
+    # A counter that was assigned before counts, and is cleared by a read.
+    "counted.nic": (0, "w RQSMR[0] 3\n" + RECEIVES.format(**SLOT) + "r QPRC[3]\nr QPRC[3]\n"),
+    # A function resets what it wrote before, and writes it anew.
+    "reset.nic": (1, "w GCR_EXT 3\nvw 0 0x108 7\nvw 0 0x120 0x8281\nvw 0 0 0x04000000\nvw 0 0x108 1\nvw 0 0x104 2\n"),
+}
 # Words, standard input, and what is expected: status, and a part of what is printed.
 USES = [
     (["nicview", "examples/fault.nic"], "", 2, "refused UnknownName 2"),

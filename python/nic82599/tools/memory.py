@@ -12,7 +12,7 @@ from dataclasses import dataclass, field
 from .frames import descriptor
 from .regs import ENABLE, REGISTERS, first
 from .script import Instruction, Op
-from .trace import Step, Trace, number_after, word_of
+from .trace import Step, Trace, not_as_reset, number_after, word_of
 
 RUNS = 16
 # Of a ring with more slots than these, only some are read: round its head, and those that were written.
@@ -67,14 +67,12 @@ def head_word(words: dict[int, int], queue: int) -> int | None:
 
 
 def sides_in_use(trace: Trace) -> list[tuple[str, int]]:
-    """The sides of queues that the run speaks of, receive first."""
-    found: set[tuple[str, int]] = set()
+    """The sides of queues that the run speaks of, or that were set up before it, receive first."""
+    changed = not_as_reset(trace.start) | {address for step in trace.steps for address, _, _ in step.changes}
+    rows = [REGISTERS[address] for address in changed]
+    found = {(one.row.bank, one.index) for one in rows if one.row.bank in ("Receive", "Transmit")}
     for step in trace.steps:
         one = trace.instruction(step)
-        for address, _, _ in step.changes:
-            register = REGISTERS[address]
-            if register.row.bank in ("Receive", "Transmit"):
-                found.add((register.row.bank, register.index))
         if one.op == Op.TX and one.x < 128:
             found.add(("Transmit", one.x))
         elif one.op == Op.QSTEP and one.x < 128:
@@ -190,6 +188,7 @@ class Watch:
         self.touched: set[int] = set()
         self.known: set[int] = set()
         self.poked: dict[int, bytes] = {}
+        self.before = dict(trace.lent)
 
     def steps(self) -> list[tuple[int, list[int]]]:
         """For each step with something to ask, its number and the addresses. Notes at each step what it wrote."""
@@ -240,6 +239,7 @@ class Watch:
             step.lent.append(("+", one.x))
         elif one.op == Op.UNLEND and step.reply.startswith("taken"):
             self.lent.discard(one.x)
+            self.before.pop(one.x, None)
             step.lent.append(("-", one.x))
             self.known = {unit for unit in self.known if unit >> 11 != one.x}
         elif one.op == Op.POKE and step.reply == "done":
@@ -256,10 +256,12 @@ class Watch:
         """The descriptor that was written back, and the units of its buffer that lie in a ring."""
         queue, slot = number_after(step.reply, "queue") or 0, number_after(step.reply, "slot") or 0
         unit = ring_of(before, "rx", queue).base + 16 * slot
-        buffer = int.from_bytes(self.poked.get(unit, b"")[:8], "little") & ~1
+        poked = self.poked.get(unit) or self.before.get(unit >> 11, b"")[unit % 2_048 :][:16]
+        if not poked:
+            return {unit}
+        buffer = int.from_bytes(poked[:8], "little") & ~1
         size = (word_of(before, "SRRCTL", queue) & 31) * 1_024
-        written = {one for one in self.interest if buffer - 16 < one < buffer + size} if unit in self.poked else set()
-        return written | {unit}
+        return {one for one in self.interest if buffer - 16 < one < buffer + size} | {unit}
 
 
 def _slots_read(ring: Ring) -> list[int]:

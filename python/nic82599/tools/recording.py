@@ -102,6 +102,8 @@ def _access(nic: Nic, one: Instruction) -> str:
 
 
 def _of_memory(nic: Nic, one: Instruction, data: list[bytes]) -> str:
+    if one.op in (Op.PEEK, Op.POKE) and one.a % 16:
+        return "misaligned"  # (the library takes every address)
     if one.op == Op.LEND:
         nic.lend(one.x)
     elif one.op == Op.UNLEND:
@@ -326,12 +328,12 @@ def _waiting(nic: Nic) -> int:
         count += taken
 
 
-def _lent(nic: Nic) -> set[int]:
-    found = set()
+def _lent(nic: Nic) -> dict[int, bytes]:
+    """The bytes of each block that is lent."""
+    found = {}
     for block in range(nic.blocks):
         try:
-            nic.memory.read(block * nic82599.BLOCK_BYTES, 1)
-            found.add(block)
+            found[block] = nic.memory.read(block * nic82599.BLOCK_BYTES, nic82599.BLOCK_BYTES)
         except nic82599.NotLent:
             pass
     return found
@@ -339,7 +341,7 @@ def _lent(nic: Nic) -> set[int]:
 
 def _steps(nic: Nic, script: Script, bench: Library, start: dict[int, int], always: set[int]) -> list[Step]:
     """The steps with the registers that each of them changed, as far as its kind can, and of these further ones."""
-    plan, words, steps = Plan(bench, script), dict(start), []
+    plan, words, steps = Plan(bench, script, start), dict(start), []
     nic.restore(bench.kept)
     for number, one in enumerate(script.instructions):
         step = Step(number, number, played(nic, one, script.data))

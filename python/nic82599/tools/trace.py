@@ -69,8 +69,9 @@ class Step:
 
 @dataclass
 class Trace:
-    """A whole run. `start` has the registers before the first step, as far as any step could change them; `lent` the
-    blocks that are lent then, `waiting` and `out` how many frames wait and went out: none where it begins anew."""
+    """A whole run. `start` has the registers before the first step, as far as any step could change them, and those
+    that aren't as at a reset; `lent` the bytes of the blocks that are lent then, `waiting` and `out` how many frames
+    wait and went out: none where it begins anew."""
 
     bench: Bench
     script: Script
@@ -78,7 +79,7 @@ class Trace:
     start: dict[int, int]
     last: str
     notes: list[str] = field(default_factory=list)
-    lent: set[int] = field(default_factory=set)
+    lent: dict[int, bytes] = field(default_factory=dict)
     waiting: int = 0
     out: int = 0
 
@@ -106,13 +107,22 @@ def number_after(reply: str, word: str) -> int | None:
     return int(found[1]) if found else None
 
 
-class Plan:
-    """Which registers to ask for after a step."""
+def not_as_reset(start: dict[int, int]) -> set[int]:
+    """Those of some registers that something changed before the first step."""
+    return {address for address, word in start.items() if word != REGISTERS[address].row.reset}
 
-    def __init__(self, bench: Bench, script: Script):
+
+class Plan:
+    """Which registers to ask for after a step. `start` has the registers before the first one, if they are known."""
+
+    def __init__(self, bench: Bench, script: Script, start: dict[int, int]):
         self.vfs = bench.vfs
-        self.seen: set[int] = {first("STATUS"), first("LINKS"), first("EEC")}
+        changed = not_as_reset(start)
+        self.seen: set[int] = {first("STATUS"), first("LINKS"), first("EEC")} | changed
         self.counters = {"RQSMR": {0}, "TQSM": {0}}
+        for address in changed:
+            if (name := REGISTERS[address].row.name) in self.counters:
+                self.counters[name] |= {start[address] >> shift & 15 for shift in (0, 8, 16, 24)}
         for one in script.instructions:
             register = regs.register_at(one.a) if one.op == Op.WRITE else None
             if register and register.row.name in self.counters:
@@ -270,7 +280,7 @@ def _registers(
 ) -> tuple[dict[int, int], dict[int, int]]:
     """Asks for the registers that each step can change, and notes the changes. Answers the registers at the start,
     those that any step can change, and all registers at the end."""
-    plan = Plan(bench, script)
+    plan = Plan(bench, script, {})
     asked = [sorted(set(plan.after(script.instructions[step.pc], step.reply)) | always) for step in steps]
     seen, parts, begin, lines = sorted(plan.seen | always), [], 0, 0
     for k, addresses in enumerate(asked):

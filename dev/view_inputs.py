@@ -22,6 +22,34 @@ arrive frame
 rx
 """
 SLOT, OVER = ({"frame": FRAME, "buffer": low, "rest": rest + "00" * 13} for low, rest in ((0, "0800"), (32, "0000")))
+WAITS = """data zero {frame}
+data two {other}
+w GCR_EXT 3
+w VT_CTL 1
+w VFRE[0] 3
+w MRQC 8
+w RAL[0] 2
+w RAH[0] 0x80000100
+w MPSAR[0] 1
+w RAL[1] 2
+w RAH[1] 0x80000300
+w MPSAR[2] 2
+w RXCTRL 1
+arrive zero
+arrive two
+arrive zero
+arrive zero
+arrive two
+arrive zero
+vw 1 0 0x04000000
+rx
+w CTRL 0x04000000
+w RXCTRL 1
+w FCTRL 0x200
+arrive zero
+rx
+rx
+"""
 # Scripts whose last events, recorded, depend on what came before: how many virtual functions each needs, and its text.
 ENDS = {
     # A slot is written whose ring was set up before.
@@ -30,6 +58,8 @@ ENDS = {
     "over.nic": (0, RECEIVES.format(**OVER) + "r RDH[0]\n"),
     # A counter that was assigned before counts, and is cleared by a read.
     "counted.nic": (0, "w RQSMR[0] 3\n" + RECEIVES.format(**SLOT) + "r QPRC[3]\nr QPRC[3]\n"),
+    # Frames that came before wait too: one is for a function that resets itself, and one is in front.
+    "waits.nic": (2, WAITS.format(frame=FRAME, other=FRAME[:11] + "3" + FRAME[12:])),
     # A function resets what it wrote before, and writes it anew.
     "reset.nic": (1, "w GCR_EXT 3\nvw 0 0x108 7\nvw 0 0x120 0x8281\nvw 0 0 0x04000000\nvw 0 0x108 1\nvw 0 0x104 2\n"),
 }

@@ -103,6 +103,7 @@ def compare_end(name: str, recording: Path, whole: Run, limit: int, expect: Expe
     for left, right in zip(whole.steps[-limit:], part.steps[1:], strict=True):
         want, got = kept(whole, left), kept(part, right)
         expect(got == want, f"{where}: step {right.number}: {got} and not {want}")
+    compare_waiting(where, whole, part, expect)
     (words, memory), (part_words, part_memory) = last(whole), last(part)
     for address, word in part_words.items():
         expect(words.get(address, REGISTERS[address].row.reset) == word, f"{where}: 0x{address:x} is 0x{word:x}")
@@ -112,6 +113,20 @@ def compare_end(name: str, recording: Path, whole: Run, limit: int, expect: Expe
     expect(sent == [frame.data for frame in whole.seen.sent[len(whole.seen.sent) - len(sent) :]], f"{where}: sent")
 
 
+def compare_waiting(where: str, whole: Run, part: Run, expect: Expect) -> None:
+    """The frames that come in the end of a recording wait as in the whole of it."""
+    came, count = len(whole.seen.arrived) - len(part.seen.arrived), len(part.steps) - 1
+    want, got = whole.seen.arrived[came:], part.seen.arrived
+    queues = [[frame.queue for frame in frames] for frames in (want, got)]
+    expect(queues[0] == queues[1], f"{where}: frames for queues {queues[1]} and not {queues[0]}")
+    for left, right in zip(whole.steps[-count:], part.steps[1:], strict=True):
+        here = [(sign, [one - came for one in frames if one >= came]) for sign, frames in left.waiting]
+        here = [(sign, frames) for sign, frames in here if frames]
+        expect(here == right.waiting, f"{where}: step {right.number}: {right.waiting} and not {here}")
+        told = ["no frame waits" in str(run.reasons[step.number]) for run, step in ((whole, left), (part, right))]
+        expect(told[0] == told[1], f"{where}: step {right.number}: {part.reasons[right.number]}")
+
+
 def check_ends(folder: Path, expect: Expect) -> None:
     """The ends of recordings whose last events depend on what came before."""
     for name, (vfs, text) in ENDS.items():
@@ -119,7 +134,7 @@ def check_ends(folder: Path, expect: Expect) -> None:
         script.write_text(text)
         record(script, vfs, recording)
         whole = of_recording(str(recording))
-        for limit in range(1, 5):
+        for limit in range(1, 12 if name == "waits.nic" else 5):
             compare_end(name, recording, whole, limit, expect)
 
 

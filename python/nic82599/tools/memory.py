@@ -95,11 +95,13 @@ class Frame:
 
 @dataclass
 class Seen:
-    """What a run shows beside its registers."""
+    """What a run shows beside its registers. `earlier` has for each step how many frames wait before it that came
+    before the run; none where it begins anew."""
 
     sides: list[tuple[str, int]]
     arrived: list[Frame]
     sent: list[Frame]
+    earlier: list[int] = field(default_factory=list)
 
 
 def is_event(one: Instruction) -> bool:
@@ -121,6 +123,7 @@ class Replay:
         self.steps = [step for step in trace.steps if is_event(trace.instruction(step))]
         self.short = [step for step in self.steps if not _leaves_memory(trace.instruction(step), step)]
         self.asked = 0
+        self.earlier: list[int] = []
         data = enumerate(trace.script.data)
         self.data = "".join(f"data d{n} {one.hex()}\n" for n, one in data)
 
@@ -282,7 +285,7 @@ def look(trace: Trace) -> Seen:
     _give_hashes(trace, arrived)
     _collect(replay, sent)
     _find_queues(trace, replay, arrived)
-    return Seen(sides, arrived, sent)
+    return Seen(sides, arrived, sent, replay.earlier)
 
 
 def _ask_memory(trace: Trace, replay: Replay, asked: list[tuple[int, list[int]]], sent: list[Frame]) -> None:
@@ -359,6 +362,7 @@ def _account(trace: Trace, replay: Replay) -> tuple[list[Frame], list[Frame]]:
     earlier, earlier_out = trace.waiting, trace.out
     for step in trace.steps:
         one, reply = trace.instruction(step), step.reply
+        replay.earlier.append(earlier)
         if earlier and one.op == Op.RX:
             earlier -= not reply.startswith(("idle", "no ")) and not reply.endswith(" more")
         elif earlier_out and one.op == Op.COLLECT:
@@ -382,28 +386,34 @@ def _account(trace: Trace, replay: Replay) -> tuple[list[Frame], list[Frame]]:
         elif one.op == Op.COLLECT and reply.startswith("frame") and out:
             sent[out[0]].data = bytes.fromhex(reply.split()[-1])
             step.out.append(("-", [out.pop(0)]))
-        elif waiting and (gone := _forgotten(trace, replay, step, waiting, arrived)):
-            step.waiting.append(("-", gone))
+        elif earlier + len(waiting):
+            front = arrived[waiting[0]] if waiting and not earlier else None
+            places = _forgotten(trace, replay, step, earlier + len(waiting), front)
+            if gone := [waiting[place - earlier] for place in places if place >= earlier]:
+                step.waiting.append(("-", gone))
             waiting = [one for one in waiting if one not in gone]
+            earlier -= sum(place < earlier for place in places)
+    replay.earlier.append(earlier)
     return arrived, sent
 
 
-def _forgotten(trace: Trace, replay: Replay, step: Step, waiting: list[int], arrived: list[Frame]) -> list[int]:
-    """The frames that wait no more, though no receive step took them: a reset, or a queue off in the middle of one."""
+def _forgotten(trace: Trace, replay: Replay, step: Step, waiting: int, front: Frame | None) -> list[int]:
+    """The places of frames among so many that wait, which wait no more, though no receive step took them: a reset, or
+    a queue off in the middle of one."""
     one = trace.instruction(step)
     if one.op == Op.WRITE and one.a in (0, 4) and one.b & (1 << 3 | 1 << 26):
-        return list(waiting)
-    front = arrived[waiting[0]]
-    if one.op == Op.QSTEP and not one.sub and step.reply == "done" and front.slots and front.queue == one.x:
-        return [waiting[0]]
+        return list(range(waiting))
+    is_off = one.op == Op.QSTEP and not one.sub and step.reply == "done"
+    if is_off and front and front.slots and front.queue == one.x:
+        return [0]
     if step.reply != "done" or not _is_pool_reset(one):
         return []
-    before, after = (_waiting_queues(trace, replay, count, len(waiting)) for count in (step.number, step.number + 1))
+    before, after = (_waiting_queues(trace, replay, count, waiting) for count in (step.number, step.number + 1))
     kept: list[int] = []
-    for frame, queue in zip(waiting, before):
+    for place, queue in enumerate(before):
         if len(kept) < len(after) and after[len(kept)] == queue:
-            kept.append(frame)
-    return [frame for frame in waiting[: len(before)] if frame not in kept]
+            kept.append(place)
+    return [place for place in range(len(before)) if place not in kept]
 
 
 def _is_pool_reset(one: Instruction) -> bool:
@@ -437,7 +447,9 @@ def _find_queues(trace: Trace, replay: Replay, arrived: list[Frame]) -> None:
     states.append((len(trace.steps), waiting))
     for count, frames in states:
         if any(arrived[one].queue is None for one in frames):
-            for frame, queue in zip(frames, _waiting_queues(trace, replay, count, len(frames))):
+            earlier = replay.earlier[count]
+            queues = _waiting_queues(trace, replay, count, earlier + len(frames))
+            for frame, queue in zip(frames, queues[earlier:]):
                 arrived[frame].queue = queue
 
 

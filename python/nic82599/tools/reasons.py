@@ -42,6 +42,10 @@ def _disabled(words: Words) -> Reason:
     return Reason(bool(value), f"{told}: the device makes no step" if value else told)
 
 
+def _wait(count: int) -> str:
+    return f"{count} frame{'s' if count > 1 else ''} wait{'' if count > 1 else 's'}"
+
+
 class Reasons:
     """The reasons of the steps of a run, made in their order."""
 
@@ -120,6 +124,9 @@ class Reasons:
     def _receive(self, step: Step) -> list[Reason]:
         """Of a receive step that wrote nothing."""
         frame, words = self._front(), self.words
+        earlier = self.seen.earlier[step.number] if self.seen.earlier else 0
+        if earlier:
+            return self._of_earlier(earlier + len(self.waiting))
         reasons = [
             _disabled(words),
             Reason(frame is None, "no frame waits" if frame is None else self._told_waiting(frame)),
@@ -148,10 +155,14 @@ class Reasons:
             reasons.append(Reason(empty, f"{told}, but a part of the frame is written: it waits"))
         return reasons
 
+    def _of_earlier(self, count: int) -> list[Reason]:
+        """Where so many frames wait, and the one in front came before the run, so that its queue isn't asked for."""
+        disabled = _disabled(self.words)
+        return [disabled, Reason(not disabled.held, f"{_wait(count)}, the one in front since before the first step")]
+
     def _told_waiting(self, frame: Frame) -> str:
-        count = len(self.waiting)
         where = f" for queue {frame.queue}" if frame.queue is not None else ""
-        return f"{count} frame{'s' if count > 1 else ''} wait{'' if count > 1 else 's'}, the one in front{where}"
+        return f"{_wait(len(self.waiting))}, the one in front{where}"
 
     def _asked(self, step: Step, row: str, queue: int) -> str:
         """What was done about a queue's enable, by the steps before."""

@@ -34,6 +34,8 @@ w MPSAR[0] 1
 w RAL[1] 2
 w RAH[1] 0x80000300
 w MPSAR[2] 2
+w RDLEN[0] 128
+w RDLEN[2] 128
 w RXCTRL 1
 arrive zero
 arrive two
@@ -41,6 +43,7 @@ arrive zero
 arrive zero
 arrive two
 arrive zero
+rx
 vw 1 0 0x04000000
 rx
 w CTRL 0x04000000
@@ -56,6 +59,8 @@ ENDS = {
     "slot.nic": (0, RECEIVES.format(**SLOT) + "poke 16 slot\nr RDH[0]\n"),
     # A frame lies over the ring, since the slot that was poked before says so.
     "over.nic": (0, RECEIVES.format(**OVER) + "r RDH[0]\n"),
+    # A frame is received that came before, and a further one waits.
+    "second.nic": (0, RECEIVES.format(**SLOT).replace("rx\n", "arrive frame\nrx\n")),
     # A counter that was assigned before counts, and is cleared by a read.
     "counted.nic": (0, "w RQSMR[0] 3\n" + RECEIVES.format(**SLOT) + "r QPRC[3]\nr QPRC[3]\n"),
     # Frames that came before wait too: one is for a function that resets itself, and one is in front.

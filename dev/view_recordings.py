@@ -88,11 +88,12 @@ def last(run: Run) -> tuple[dict[int, int], dict[int, bytes | None]]:
     return words, memory
 
 
-def kept(run: Run, step: Step) -> list[object]:
-    """What the end of a recording shows of a step as the whole does. The ring is left out where it is that of a frame,
-    which may be one that came before."""
-    is_of_frame = run.shown(step.pc).split()[0] in ("arrive", "rx", "collect")
-    return [step.reply, step.changes, sorted(step.written), None if is_of_frame else step.ring]
+def kept(run: Run, step: Step, sides: list[tuple[str, int]]) -> list[object]:
+    """What the end of a recording shows of a step as the whole does, with the ring if it is one of those in use. It is
+    left out where it is that of the frame in front, which may have come before."""
+    is_of_front = run.shown(step.pc) == "rx" and not step.reply.startswith(("wrote", "fault"))
+    ring = None if is_of_front or step.ring not in sides else step.ring
+    return [step.reply, step.changes, sorted(step.written), ring]
 
 
 def compare_end(name: str, recording: Path, whole: Run, limit: int, expect: Expect) -> None:
@@ -101,7 +102,7 @@ def compare_end(name: str, recording: Path, whole: Run, limit: int, expect: Expe
     where = f"{name}, the last {limit} events"
     expect(len(part.steps) == limit + 1, f"{where}: {len(part.steps)} steps")
     for left, right in zip(whole.steps[-limit:], part.steps[1:], strict=True):
-        want, got = kept(whole, left), kept(part, right)
+        want, got = (kept(run, step, part.seen.sides) for run, step in ((whole, left), (part, right)))
         expect(got == want, f"{where}: step {right.number}: {got} and not {want}")
     compare_waiting(where, whole, part, expect)
     (words, memory), (part_words, part_memory) = last(whole), last(part)
@@ -117,14 +118,15 @@ def compare_waiting(where: str, whole: Run, part: Run, expect: Expect) -> None:
     """The frames that come in the end of a recording wait as in the whole of it."""
     came, count = len(whole.seen.arrived) - len(part.seen.arrived), len(part.steps) - 1
     want, got = whole.seen.arrived[came:], part.seen.arrived
-    queues = [[frame.queue for frame in frames] for frames in (want, got)]
-    expect(queues[0] == queues[1], f"{where}: frames for queues {queues[1]} and not {queues[0]}")
+    told = [[(frame.queue, frame.rss, frame.slots) for frame in frames] for frames in (want, got)]
+    expect(told[0] == told[1], f"{where}: frames {told[1]} and not {told[0]}")
     for left, right in zip(whole.steps[-count:], part.steps[1:], strict=True):
         here = [(sign, [one - came for one in frames if one >= came]) for sign, frames in left.waiting]
         here = [(sign, frames) for sign, frames in here if frames]
         expect(here == right.waiting, f"{where}: step {right.number}: {right.waiting} and not {here}")
-        told = ["no frame waits" in str(run.reasons[step.number]) for run, step in ((whole, left), (part, right))]
-        expect(told[0] == told[1], f"{where}: step {right.number}: {part.reasons[right.number]}")
+        none = ["no frame waits" in str(run.reasons[step.number]) for run, step in ((whole, left), (part, right))]
+        expect(none[0] == none[1], f"{where}: step {right.number}: {part.reasons[right.number]}")
+        expect(right.ring in (None, left.ring), f"{where}: step {right.number}: {right.ring} and not {left.ring}")
 
 
 def check_ends(folder: Path, expect: Expect) -> None:
@@ -134,7 +136,7 @@ def check_ends(folder: Path, expect: Expect) -> None:
         script.write_text(text)
         record(script, vfs, recording)
         whole = of_recording(str(recording))
-        for limit in range(1, 12 if name == "waits.nic" else 5):
+        for limit in range(1, 13 if name == "waits.nic" else 5):
             compare_end(name, recording, whole, limit, expect)
 
 

@@ -41,7 +41,8 @@ def _about(one: Instruction, step: Step, words: dict[int, int], seen: Seen, wait
         return None
     queue = number_after(step.reply, "queue")
     came = [frame for sign, frames in step.waiting if sign == "+" for frame in frames]
-    front = came if one.op == Op.ARRIVE else waiting
+    is_earlier = seen.earlier and seen.earlier[step.number]
+    front = came if one.op == Op.ARRIVE else [] if is_earlier else waiting
     queue = seen.arrived[front[0]].queue if queue is None and front else queue
     return None if queue is None else ("rx", queue)
 

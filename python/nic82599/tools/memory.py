@@ -282,7 +282,7 @@ def look(trace: Trace) -> Seen:
     asked = Watch(trace, sides).steps()
     _ask_memory(trace, replay, asked, sent)
     _lost(trace)
-    _give_hashes(trace, arrived)
+    _give_hashes(trace, replay, arrived)
     _collect(replay, sent)
     _find_queues(trace, replay, arrived)
     return Seen(sides, arrived, sent, replay.earlier)
@@ -340,12 +340,12 @@ def _lost(trace: Trace) -> None:
         held.update(step.memory)
 
 
-def _give_hashes(trace: Trace, arrived: list[Frame]) -> None:
+def _give_hashes(trace: Trace, replay: Replay, arrived: list[Frame]) -> None:
     """Gives each frame that was written the RSS type and hash that its descriptor tells."""
     waiting: list[int] = []
     for step in trace.steps:
-        written = [descriptor("rx", content) for _, content in step.memory] if step.reply.startswith("wrote") else []
-        for one in written:
+        is_shown = step.reply.startswith("wrote") and not replay.earlier[step.number]
+        for one in [descriptor("rx", content) for _, content in step.memory] if is_shown else []:
             if one.done and waiting:
                 said = dict(one.fields)
                 arrived[waiting[0]].rss = f"type {said['RSS type']}, hash {said['RSS hash']}"

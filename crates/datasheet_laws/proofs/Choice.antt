@@ -79,13 +79,15 @@ module _ (mrqc : ℕ) (flow : Flow) where
       → (flow.udp && has_bit 22 mrqc) ≡ b → has_bit 17 mrqc ≡ c
       → rss_type_of mrqc flow ≡ cond a TcpIpv4 (cond b UdpIpv4 (cond c Ipv4 NoHash))
   four on is a b c tcp udp any =
-      on_type on ∙ ipv4_types mrqc flow is ∙ (λ k. cond (tcp k) TcpIpv4 (cond (udp k) UdpIpv4 (cond (any k) Ipv4 NoHash)))
+      on_type on ∙ ipv4_types mrqc flow is
+      ∙ (λ k. cond (tcp k) TcpIpv4 (cond (udp k) UdpIpv4 (cond (any k) Ipv4 NoHash)))
 
   six : IsHashing mrqc → flow.version ≡ 6 → (a b c : Bool) → (flow.tcp && has_bit 21 mrqc) ≡ a
       → (flow.udp && has_bit 23 mrqc) ≡ b → has_bit 20 mrqc ≡ c
       → rss_type_of mrqc flow ≡ cond a TcpIpv6 (cond b UdpIpv6 (cond c Ipv6 NoHash))
   six on is a b c tcp udp any =
-      on_type on ∙ ipv6_types mrqc flow is ∙ (λ k. cond (tcp k) TcpIpv6 (cond (udp k) UdpIpv6 (cond (any k) Ipv6 NoHash)))
+      on_type on ∙ ipv6_types mrqc flow is
+      ∙ (λ k. cond (tcp k) TcpIpv6 (cond (udp k) UdpIpv6 (cond (any k) Ipv6 NoHash)))
 
   typed : (t : RssType) → rss_type_of mrqc flow ≡ t → (code : ℕ) (part : List ℕ) → IsType t code flow.input part
       → Has mrqc flow code part

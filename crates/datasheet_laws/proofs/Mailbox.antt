@@ -174,7 +174,8 @@ cleared : (old w bit : ℕ) → bit < 32
 cleared old w bit low =
     let m = bit_and w whole in
     let few : m < 2 ^ 32 = omega (arith, and_le_r w whole) in
-    ap (λ n. n == 1) (bit_at_and old (0xFFFFFFFF - m) bit ∙ ap (λ n. min (bit_at old bit) n) (bit_at_not w32 m bit few low))
+    ap (λ n. n == 1)
+    (bit_at_and old (0xFFFFFFFF - m) bit ∙ ap (λ n. min (bit_at old bit) n) (bit_at_not w32 m bit few low))
     ∙ cleared_digit (bit_at old bit) (bit_at m bit) (bit_at-lt old bit) (bit_at-lt m bit)
     ∙ ap (λ b. has_bit bit old && not b) (has_bit-shown w bit low)
 
@@ -188,7 +189,8 @@ ones around r h k j w bit k_there j_there low =
     let before = reads-at r row.Pfmbicr j j_there around bit low in
     ap (λ s. reads around s (0x00710 + 4 * j) bit) (wrote-at r row.Pfmbicr k k_there w)
     ∙ reads-at (ones_cleared r (at row.Pfmbicr k) (bit_and w whole)) row.Pfmbicr j j_there around bit low
-    ∙ elim (cases_eq j k) as (λ _. has_bit bit (word_of (ones_cleared r (at row.Pfmbicr k) (bit_and w whole)) row.Pfmbicr j)
+    ∙ elim (cases_eq j k) as (λ _.
+    has_bit bit (word_of (ones_cleared r (at row.Pfmbicr k) (bit_and w whole)) row.Pfmbicr j)
     ≡ (reads around r (0x00710 + 4 * j) bit && not (j == k && has_bit bit w))) [
       | inl same ↦
           ap (λ i. has_bit bit (word_of (ones_cleared r (at row.Pfmbicr k) (bit_and w whole)) row.Pfmbicr i)) same

@@ -48,8 +48,8 @@ pub record LetsIn (r : Registers) (frame : List ℕ) : Type 0 where
 abbrev pub FramesAreLetIn : Type 0
 FramesAreLetIn = (r : Registers) (frame : List ℕ) → ((k : ℕ) → slice_index frame k < 256) → LetsIn r frame
 
--- of the addresses that are a frame's destination the first, and of those of its pools the lowest: MPSAR[2i] has pools 0
--- to 31, MPSAR[2i + 1] pools 32 to 63
+-- of the addresses that are a frame's destination the first, and of those of its pools the lowest: MPSAR[2i] has pools
+-- 0 to 31, MPSAR[2i + 1] pools 32 to 63
 abbrev pub has_pool : Registers → (i pool : ℕ) → Type 0
 has_pool r i pool = holds r (0x0A600 + 4 * (2 * i + pool / 32)) (pool % 32) ≡ true
 

@@ -1,5 +1,5 @@
--- The registers as a driver's author finds them listed, a second time and by hand: no generator writes this file, and no
--- line of it is taken from the table that the code searches.
+-- The registers as a driver's author finds them listed, a second time and by hand: no generator writes this file, and
+-- no line of it is taken from the table that the code searches.
 use Rattle.std.specs.Prelude.{ℕ, ◌≡◌, ◌<◌, ◌+◌, ◌-◌, ◌*◌, List, codes, nat_lt, Some, if◌then◌else◌}
 use Rattle.reg_table.specs.Access.{access, access_at}
 use Rattle.reg_table.specs.Place.{address_among}

@@ -25,10 +25,10 @@ pub fn offsets_are_listed()
     ensures { OffsetsAreListed }
 {}
 
-/// A write of 0x04C00 + 4v, PVFMAILBOX[v], with bit 2 takes the mailbox for the function where bit 3 reads 0, and without
-/// gives it up; one of 0x04B00 + 4v, PFMAILBOX[v], frees it with bit 4, takes it for the physical function with bit 3
-/// where bit 2 reads 0, or no longer 1, and without gives it up. Both sides read who holds it. Bits 0 and 1 of the
-/// latter are read as bits 4 and 5 of the former, until one read.
+/// A write of 0x04C00 + 4v, PVFMAILBOX[v], with bit 2 takes the mailbox for the function where bit 3 reads 0, and
+/// without gives it up; one of 0x04B00 + 4v, PFMAILBOX[v], frees it with bit 4, takes it for the physical function with
+/// bit 3 where bit 2 reads 0, or no longer 1, and without gives it up. Both sides read who holds it. Bits 0 and 1 of
+/// the latter are read as bits 4 and 5 of the former, until one read.
 pub fn mailboxes_shake()
     ensures { MailboxesShake }
 {}
@@ -38,9 +38,10 @@ pub fn ones_are_cleared()
     ensures { OnesAreCleared }
 {}
 
-/// A write of PVFMAILBOX[v] with bit 0 or 1 raises bit 19 of EICR, at 0x00800, where bit v mod 32 of PFMBIMR[v / 32], at
-/// 0x00720 + 4(v / 32), is 1. One of PFMAILBOX[v] raises in PVTEICR[v], at 0x00B00 + 4v, the cause that PVTIVAR_MISC[v],
-/// at 0x04E00 + 4v, names in bits 5 to 0, 2 at most, where its bit 7 is 1. No other cause is raised there.
+/// A write of PVFMAILBOX[v] with bit 0 or 1 raises bit 19 of EICR, at 0x00800, where bit v mod 32 of PFMBIMR[v / 32],
+/// at 0x00720 + 4(v / 32), is 1. One of PFMAILBOX[v] raises in PVTEICR[v], at 0x00B00 + 4v, the cause that
+/// PVTIVAR_MISC[v], at 0x04E00 + 4v, names in bits 5 to 0, 2 at most, where its bit 7 is 1. No other cause is raised
+/// there.
 pub fn mailboxes_raise_causes()
     ensures physical { FunctionsRaise }
     ensures function { PhysicalRaises }
@@ -56,8 +57,8 @@ pub fn frames_are_let_in()
 
 /// VT_CTL, at 0x051B0, parts frames among pools by bit 0. A frame's pool is the lowest of the first address that is its
 /// destination: of address i pools 0 to 31 are the bits of 0x0A600 + 8i, pools 32 to 63 those of the next word. A frame
-/// without an address is for the pool in bits 12 to 7 of VT_CTL, or for none with bit 29. A pool takes frames by its bit
-/// of 0x051E0 or of the next word.
+/// without an address is for the pool in bits 12 to 7 of VT_CTL, or for none with bit 29. A pool takes frames by its
+/// bit of 0x051E0 or of the next word.
 pub fn pools_are_chosen()
     ensures { PoolsAreChosen }
 {}

@@ -31,8 +31,8 @@ pub record IsOfOpenPool (s : State) (queue pool : ℕ) : Type 0 where
   pub eight : pool_mode s ≡ 1 → (queue_mode s ≡ 10) ⊎ (queue_mode s ≡ 11) → queue / 8 ≡ pool
   pub none : queue_mode s ≢ 1 → queue_mode s ≢ 8 → queue_mode s ≢ 10 → queue_mode s ≢ 11 → queue ≡ 0
 
--- the frame joined those that wait, last, and waits for a queue by its pool, which is such: the lowest pool of the first
--- address that is its destination, or the default
+-- the frame joined those that wait, last, and waits for a queue by its pool, which is such: the lowest pool of the
+-- first address that is its destination, or the default
 pub record JoinsOpenPool (s : State) (arrived : List ℕ) (new : State) : Type 0 where
   pub frame : Waiting
   pub bytes : frame.frame ≡ arrived

@@ -154,8 +154,8 @@ pub fn ctrl_ext_keeps_what_is_written()
 
 /// While VT_CTL bit 0 is 1, a frame that is let in waits, last of all, for a queue by its pool p, whose bit p mod 32 of
 /// VFRE[p/32] is 1: queue 2p with MRQC bits 3 to 0 at 8, one of the four from 4p on with 10, one of the two from 2p on
-/// with 11; but where GCR_EXT has 16 pools, 8p with 8, and one of the eight from 8p on with 10 and 11. With any code but
-/// these and 1 the queue is 0, whichever the pool.
+/// with 11; but where GCR_EXT has 16 pools, 8p with 8, and one of the eight from 8p on with 10 and 11. With any code
+/// but these and 1 the queue is 0, whichever the pool.
 pub fn vfre_lets_into_pools()
     ensures { VfreLetsIntoPools }
 {}

@@ -89,7 +89,8 @@ unfolding walked
 so-far-none room steps c = record { done = []; whole = refl; leads = refl }
 
 pub so-far-next : (room : ℕ) (steps left rest : List Step) (s : Step) (before now after : Course)
-    → SoFar room steps left before now → left ≡ s ∷ rest → after ≡ stepped room now s → SoFar room steps rest before after
+    → SoFar room steps left before now → left ≡ s ∷ rest → after ≡ stepped room now s
+    → SoFar room steps rest before after
 unfolding walked
 so-far-next room steps left rest s before now after far first is = record {
   done = far.done ++ s ∷ [];

@@ -1,7 +1,7 @@
 //! Where C gets the pointers to a card that was made and to one that was kept.
 //!
-//! A struct with type parameters can't be passed to C, so each has a struct of its own. Each owns nothing, or what a box
-//! of its value does, and one proof holds of both, as of any such struct (`proofs/OutForm.antt`).
+//! A struct with type parameters can't be passed to C, so each has a struct of its own. Each owns nothing, or what a
+//! box of its value does, and one proof holds of both, as of any such struct (`proofs/OutForm.antt`).
 
 ghost use Rattle.std.specs.Coded.{coded_option};
 ghost use Rattle.std.specs.Prelude.{◌≡◌, Option, Some};
@@ -17,8 +17,8 @@ use card::{Card, Kept};
 use std::alloc::Global;
 use std::marker::Model;
 
-/// Where C has the pointer of a handle, or none yet. In C it is a struct with one pointer, or that pointer. A handle that
-/// it has is lost where another one is put there.
+/// Where C has the pointer of a handle, or none yet. In C it is a struct with one pointer, or that pointer. A handle
+/// that it has is lost where another one is put there.
 #[repr(C)]
 #[derive(Drop)]
 pub struct HandleOut {

@@ -16,7 +16,8 @@ use nic_device::{Dir, Event, MAX_VFS, QUEUES};
 /// How many groups of interrupts there are: that of the physical function, and those of the virtual functions.
 const GROUPS: u8 = MAX_VFS + 1;
 
-/// How many steps a round has at most: three of each queue, that of the EEPROM, one of receiving, and one of each group.
+/// How many steps a round has at most: three of each queue, that of the EEPROM, one of receiving, and one of each
+/// group.
 const STEPS: usize = 450;
 
 /// A step of the device.

@@ -160,7 +160,8 @@ module _ (x : Beside) where
   -- no other lends its blocks
 
   pub alone : IsAloneBeside x → IsToldAlone told
-  alone y = record { told = told_of y.told; fresh = at_access (NoneLent (asked_of x.w x.a x.g)) y.fresh; others = y.others }
+  alone y = record
+      { told = told_of y.told; fresh = at_access (NoneLent (asked_of x.w x.a x.g)) y.fresh; others = y.others }
 
   pub none_beside : (n : Moment) → IsCalledApart x n → FindsAmid (goes told).rings (now x).made n.made → ⊥
   none_beside n y amid =

@@ -55,7 +55,8 @@ pub found_on : {own : Blocks} {old mid new : List Call} {h j : Halves} → Drive
 found_on drives f = search (rules, apart_on)
 
 -- of blocks that it asks to lend, it is so
-abbrev pub found_asked : (own asks : Blocks) {on : List Call} {h : Halves} {new : List Call} (f : FindsFault own on h new)
+abbrev pub found_asked : (own asks : Blocks) {on : List Call} {h : Halves} {new : List Call}
+    (f : FindsFault own on h new)
     → ((n : ℕ) → is_asked (made f) n ≡ true → asks n ≡ true) → FindsFault (Both own asks) on h new
 found_asked own asks {h = h} f within =
     record {
@@ -74,7 +75,8 @@ found_asked own asks {h = h} f within =
       mine = f.mine;
       apart =
           lends_asked own asks f.there f.doer f.event f.apart
-          (λ n is. within n (asked_behind f.drives.drives.1 _ n (asked_last [] f.adds.0 (call_of f.event f.reply) n is)));
+          (λ n is.
+          within n (asked_behind f.drives.drives.1 _ n (asked_last [] f.adds.0 (call_of f.event f.reply) n is)));
       adds = f.adds;
       sick = f.sick;
     }

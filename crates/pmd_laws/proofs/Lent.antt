@@ -59,7 +59,8 @@ module _ (q : AtPort) (size : ℕ) (lent : Blocks) where
 
 module _ (pass : ℕ) (own : Blocks) where
   -- in what begins it
-  pub others_before : (front back : List Entry) → OthersLendNone pass own (front ++ back) → OthersLendNone pass own front
+  pub others_before : (front back : List Entry) → OthersLendNone pass own (front ++ back)
+      → OthersLendNone pass own front
   others_before front back none before e behind is =
       none before e (behind ++ back)
       (ap (λ (l : List Entry). l ++ back) is ∙ append_assoc before (e ∷ behind) back)

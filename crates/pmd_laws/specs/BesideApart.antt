@@ -1,5 +1,5 @@
--- A driver beside whatever calls its author makes, of whose arena nobody else lends a block that it asks to lend: no call
--- of its finds the device at fault, and each block is in one place.
+-- A driver beside whatever calls its author makes, of whose arena nobody else lends a block that it asks to lend: no
+-- call of its finds the device at fault, and each block is in one place.
 use Rattle.std.specs.Prelude.{if◌then◌else◌, ◌++◌, ◌≡◌, IsTrue, List, ℕ}
 use Rattle.driver_laws.specs.{Prelude.Call, Prelude.HasAll, Prelude.arena_of, Prelude.calls_of}
 use Rattle.driver_laws.specs.{Prelude.halted_of, Prelude.has_block, Prelude.is_free, Prelude.is_own, Prelude.places_of}

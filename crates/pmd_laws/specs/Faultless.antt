@@ -27,8 +27,8 @@ FindsFault m n =
     (λ r s. FindsBy DeviceFault (is_own r.arena) m.made (halves_of r) n.made)
 
 -- in its history the pass made the calls up to this last moment, and maybe more behind them. Just before the driver's
--- first access frames were short; and of its arena's blocks, those that its pass asks to lend weren't lent there, and no
--- other pass lends any of them
+-- first access frames were short; and of its arena's blocks, those that its pass asks to lend weren't lent there, and
+-- no other pass lends any of them
 pub record IsToldApart (x : Told) (n : Moment) : Type 0 where
   pub fresh :
       BeforeLast x.w x.origin x.h x.told.started.2.receive.quiet.0

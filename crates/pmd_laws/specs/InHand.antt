@@ -70,7 +70,8 @@ pub record IsHistoryAtLock (vfs fifo tag queue : ℕ) (h : List Entry) (calls : 
 
 -- the calls through a `ThroughLock`, as the way had them at any time, are one up to each place where its pass had made
 -- just these, where `left_alone` says so of its tag and the queue. There is such a place, with the last of them at its
--- end, where the pass is among those that closed the history, with these calls and maybe more behind them (`CallsStand`)
+-- end, where the pass is among those that closed the history, with these calls and maybe more behind them
+-- (`CallsStand`)
 abbrev pub ClosedIsHistory : Type 0
 ClosedIsHistory =
     (vfs fifo queue : ℕ) (h : List Entry) (ps : List PassValue) (t : AtLock) → queue < 128 → IsClosed vfs fifo h ps →

@@ -55,8 +55,8 @@ lent_elsewhere calls m number = if has_block m number && not (is_asked calls num
 
 -- so each block that was free in the arena that came to the driver is in one place: free there, in hand, or lent to the
 -- device; and no other block of the arena is in any of them. The blocks of packets that the driver holds are in hand
--- too, whole or not, and those of parts that wait to be lent. Of those that the driver gave out of hand some may be lent
--- elsewhere
+-- too, whole or not, and those of parts that wait to be lent. Of those that the driver gave out of hand some may be
+-- lent elsewhere
 abbrev pub EachInOnePlace : Type 0
 EachInOnePlace =
     (x : Told) → IsToldAlone x → (hand elsewhere : List ℕ) →

@@ -45,8 +45,8 @@ ghost use Rattle.pmd_laws.specs.Waits.{WaitingIsNotAllBefore, WaitingIsNotAllAsT
 ///
 /// The calls that were made through a `pmd_seam::ThroughLock` are one of a device that was new, as the passes that
 /// closed its history made it: up to the last of them, of whichever tag the pass is, where `left_alone` of what `close`
-/// gives answers so of that tag and the queue. They stand in it, up to an entry of that pass. What the laws ask of where
-/// a driver starts there is told by `workers::begins_well`, as `workers::laws::worker_begins_well` says.
+/// gives answers so of that tag and the queue. They stand in it, up to an entry of that pass. What the laws ask of
+/// where a driver starts there is told by `workers::begins_well`, as `workers::laws::worker_begins_well` says.
 pub fn calls_in_hand_are_a_history()
     ensures direct { DirectIsHistory }
     ensures interleaved { InterleavedIsHistory }
@@ -75,10 +75,10 @@ pub fn lives_lend_apart()
 {}
 
 /// Where the frames that wait for the queue fit a packet of the driver just before its first access, and of its arena's
-/// blocks those that its pass asks to lend aren't lent there, and no other pass lends any of them: no call of `rx`, `tx`, `reap`, `rx_burst` or
-/// `tx_burst` that comes after its start ends with the device at fault, over a legal history that leaves the queue
-/// alone, whatever harmless calls its author makes between through the same pass. Nor does a `tx_burst` meet it at
-/// fault that answers how many packets were accepted.
+/// blocks those that its pass asks to lend aren't lent there, and no other pass lends any of them: no call of `rx`,
+/// `tx`, `reap`, `rx_burst` or `tx_burst` that comes after its start ends with the device at fault, over a legal
+/// history that leaves the queue alone, whatever harmless calls its author makes between through the same pass. Nor
+/// does a `tx_burst` meet it at fault that answers how many packets were accepted.
 pub fn no_call_finds_the_device_at_fault()
     ensures finds { NoCallFindsFault }
     ensures meets { NoBurstMeetsFault }
@@ -93,9 +93,9 @@ pub fn no_start_finds_the_device_at_fault()
 
 /// Over a legal history of any sound device that leaves the queue alone, where a `start` answered a driver and its
 /// calls came since: each block that the driver has out with a half is lent at the device. Where of its arena's blocks
-/// those that its pass asks to lend weren't lent just before its first access, and no other pass lends any of them, each
-/// of them that is lent there is out with a half. So each that was free in the arena as it came is in one place: free
-/// there, in hand, or lent to the device; those that the driver gave out of hand others may have lent.
+/// those that its pass asks to lend weren't lent just before its first access, and no other pass lends any of them,
+/// each of them that is lent there is out with a half. So each that was free in the arena as it came is in one place:
+/// free there, in hand, or lent to the device; those that the driver gave out of hand others may have lent.
 pub fn blocks_out_are_lent_at_the_device()
     ensures lent { OutIsLent }
     ensures known { LentIsOut }
@@ -175,10 +175,10 @@ pub fn driver_beside_any_calls_in_order()
     ensures interleaved { beside.InterleavedIsRetold }
 {}
 
-/// Where nobody else lends a block of its arena that it asks to lend, neither another pass nor its author beside it, and
-/// just before its first access none of these is lent and the frames that wait for its queue fit its packets: no call of such a driver
-/// finds the device at fault. The blocks that it has out are those of its arena that are lent at the device, and each
-/// is in one place.
+/// Where nobody else lends a block of its arena that it asks to lend, neither another pass nor its author beside it,
+/// and just before its first access none of these is lent and the frames that wait for its queue fit its packets: no
+/// call of such a driver finds the device at fault. The blocks that it has out are those of its arena that are lent at
+/// the device, and each is in one place.
 pub fn driver_beside_any_calls_keeps_its_blocks()
     ensures finds { apart.NoCallFindsFault }
     ensures meets { apart.NoBurstMeetsFault }

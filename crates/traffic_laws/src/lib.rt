@@ -28,10 +28,10 @@ pub fn frames_join_last()
 {}
 
 /// A frame that is let in goes to the queue that MRQC bits 3 to 0 say: with 1 to that of its entry in the redirection
-/// table; with 8, 0xA and 0xB to one of its pool's, which are two from 2p on, or four from 4p on with 0xA, or eight from
-/// 8p on where GCR_EXT bits 1 to 0 are 1: the first with 8, else the one that the entry names; and with any other code
-/// to queue 0, with type 0 and hash 0. Its pool is pool 0 while VT_CTL bit 0 is 0, whatever VFRE is; while it is 1, it is
-/// the frame's own, has queues, and its bit of VFRE is 1, whatever the code.
+/// table; with 8, 0xA and 0xB to one of its pool's, which are two from 2p on, or four from 4p on with 0xA, or eight
+/// from 8p on where GCR_EXT bits 1 to 0 are 1: the first with 8, else the one that the entry names; and with any other
+/// code to queue 0, with type 0 and hash 0. Its pool is pool 0 while VT_CTL bit 0 is 0, whatever VFRE is; while it is
+/// 1, it is the frame's own, has queues, and its bit of VFRE is 1, whatever the code.
 pub fn queues_go_by_mrqc()
     ensures { QueuesGoByMrqc }
 {}

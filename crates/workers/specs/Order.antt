@@ -24,8 +24,8 @@ IsEndAmong [] ends j e = ⊥
 IsEndAmong (k ∷ jobs) [] j e = ⊥
 IsEndAmong (k ∷ jobs) (f ∷ ends) j e = ((j ≡ k) × (e ≡ f)) ⊎ IsEndAmong jobs ends j e
 
--- a history of a device that was new, of so many virtual functions and with room for so many frames, leaves the queue of
--- a job alone, and the job's driver begins well there
+-- a history of a device that was new, of so many virtual functions and with room for so many frames, leaves the queue
+-- of a job alone, and the job's driver begins well there
 pub record LeavesJob (vfs fifo : ℕ) (h : List Entry) (j : Job) (e : WorkerEnd) : Type 0 where
   -- as `Shared::new` asks
   pub device : (vfs ≤ 63) × (0 < fifo) × (fifo ≤ 4096)

@@ -71,5 +71,6 @@ returns c = record {
   interleaved = λ s queue before i small was began alone.
       history s queue before _ _ i.device small was began (own_are i.calls i.own) alone;
   stands = calls_stand;
-  closed = λ vfs fifo queue h ps t small x alone. closed_before vfs fifo t.pass.tag queue h ps t.pass.calls small x alone;
+  closed = λ vfs fifo queue h ps t small x alone.
+      closed_before vfs fifo t.pass.tag queue h ps t.pass.calls small x alone;
 }

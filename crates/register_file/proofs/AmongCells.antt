@@ -1,10 +1,11 @@
 -- The words of the rows that lie among the cells, and of those that hold none.
-use Rattle.std.proofs.Common.{◌≡◌, ◌≢◌, ℕ, true, List, replicate, refl, ◌⊎◌, inl, inr}
+use Rattle.std.proofs.Common.{◌≡◌, ◌≢◌, ℕ, suc, zero, ◌<◌, true, replicate, refl, ◌⊎◌, inl, inr, arith}
 use Rattle.reg_table.specs.Rows.{row_of}
 use Rattle.reg_table.specs.declared.rows.RowId.{RowId}
-use Rattle.reg_table.specs.declared.rows.RowId.TheVariants.{Status, Pvfctrl, Pfmbimr, Eicr, Eics, Eiac, Eims, Eimc, Eiam, Pvteicr, Pvteics, Pvteims, Pvteimc, Pvteiac, Pfmailbox, Pvfmailbox, Pvteiam, Rdbal, Rdbah, Rdlen, Rdh, Srrctl, Rdt, Rxdctl, Vfgprc, Rdrxctl, Hlreg0, Maxfrs, Links, Dmatxctl, Reta, Rssrk, Tdbal, Tdbah, Tdlen, Tdh, Tdt, Txdctl, Tdwbal, Tdwbah, Vfgptc, Psrtype, Eec}
-use Rattle.register_file.specs.Cells.{is_cell, cells_of}
-use Rattle.register_file.specs.Layout.{rows_of}
+use Rattle.reg_table.specs.declared.rows.RowId.TheVariants.{Status, Pvfctrl, Pfmbicr, Pfmbimr, Eicr, Eics, Eiac, Eitr, Eims, Eimc, Eiam, Ivar, Pvteicr, Pvteics, Pvteims, Pvteimc, Pvteiac, Pfmailbox, Pvfmailbox, Pvteiam, PvtivarMisc, Rdbal, Rdbah, Rdlen, Rdh, Srrctl, Rdt, Rxdctl, Vfgprc, Qprc, Qprdc, Rqsmr, Rdrxctl, Hlreg0, Maxfrs, Links, Dmatxctl, Vfre, Vfte, Mta, Ral, Rah, Reta, Rssrk, Tdbal, Tdbah, Tdlen, Tdh, Tdt, Txdctl, Tdwbal, Tdwbah, Qptc, Vfgptc, Tqsm, Mpsar, Psrtype, Eec, Pvtivar, Pfmbmem}
+use Rattle.register_file.specs.Cells.{is_cell, cells_of, with_cell}
+use Rattle.register_file.specs.Layout.{rows_of, registers_of}
+use Rattle.register_file.specs.Registers.{with_word}
 use Rattle.register_file.specs.Words.{row_words}
 use Rattle.register_file.specs.declared.register_file.RegisterFile.TheInside.{Inside}
 
@@ -64,7 +65,7 @@ cell_of Psrtype _ _ _ _ _ _ _ _ _ _ _ _ _ _ _ _ _ _ _ _ _ _ _ _ _ _ _ _ _ _ _ _ 
 cell_of Eec _ _ _ _ _ _ _ _ _ _ _ _ _ _ _ _ _ _ _ _ _ _ _ _ _ _ _ _ _ _ _ _ _ _ _ _ _ _ _ _ _ _ n = absurd (n refl)
 cell_of other _ _ _ _ _ _ _ _ _ _ _ _ _ _ _ _ _ _ _ _ _ _ _ _ _ _ _ _ _ _ _ _ _ _ _ _ _ _ _ _ _ _ _ = refl
 
--- its words are the cells from its start on
+-- its words are those of its field
 pub cell_row : (a : Inside) (row : RowId) → is_cell row ≡ true → row_words (rows_of a) row ≡ cells_of a.cells row
 cell_row a Status h = absurd cc
 cell_row a Pvfctrl h = absurd cc
@@ -126,51 +127,68 @@ zero_row a row (inr (inr (inr (inr (inr (inr (inl e))))))) = rw e refl
 zero_row a row (inr (inr (inr (inr (inr (inr (inr (inl e)))))))) = rw e refl
 zero_row a row (inr (inr (inr (inr (inr (inr (inr (inr e)))))))) = rw e refl
 
--- a row's words stay where its cells do
-pub row_stays : (a : Inside) (new : List ℕ) (row : RowId)
-    → (is_cell row ≡ true → cells_of new row ≡ cells_of a.cells row)
-    → row_words (rows_of (record a { cells = new })) row ≡ row_words (rows_of a) row
-row_stays a new Status h = refl
-row_stays a new Pvfctrl h = refl
-row_stays a new Pfmbimr h = refl
-row_stays a new Eicr h = refl
-row_stays a new Eics h = refl
-row_stays a new Eiac h = refl
-row_stays a new Eims h = refl
-row_stays a new Eimc h = refl
-row_stays a new Eiam h = refl
-row_stays a new Pvteicr h = refl
-row_stays a new Pvteics h = refl
-row_stays a new Pvteims h = refl
-row_stays a new Pvteimc h = refl
-row_stays a new Pvteiac h = refl
-row_stays a new Pfmailbox h = refl
-row_stays a new Pvfmailbox h = refl
-row_stays a new Pvteiam h = refl
-row_stays a new Rdbal h = refl
-row_stays a new Rdbah h = refl
-row_stays a new Rdlen h = refl
-row_stays a new Rdh h = refl
-row_stays a new Srrctl h = refl
-row_stays a new Rdt h = refl
-row_stays a new Rxdctl h = refl
-row_stays a new Vfgprc h = refl
-row_stays a new Rdrxctl h = refl
-row_stays a new Hlreg0 h = refl
-row_stays a new Maxfrs h = refl
-row_stays a new Links h = refl
-row_stays a new Dmatxctl h = refl
-row_stays a new Reta h = refl
-row_stays a new Rssrk h = refl
-row_stays a new Tdbal h = refl
-row_stays a new Tdbah h = refl
-row_stays a new Tdlen h = refl
-row_stays a new Tdh h = refl
-row_stays a new Tdt h = refl
-row_stays a new Txdctl h = refl
-row_stays a new Tdwbal h = refl
-row_stays a new Tdwbah h = refl
-row_stays a new Vfgptc h = refl
-row_stays a new Psrtype h = refl
-row_stays a new Eec h = refl
-row_stays a new other h = h refl
+-- a word that is stored in a cell of a row is a word of the row that is stored
+pub word_stored : (a : Inside) (row : RowId) (index word : ℕ) → is_cell row ≡ true → index < (row_of row).count
+    → registers_of (record a { cells = with_cell a.cells row index word }) ≡ with_word (registers_of a) row index word
+word_stored a Status index word h b = absurd cc
+word_stored a Pvfctrl index word h b = absurd cc
+word_stored a Pfmbimr index word h b = absurd cc
+word_stored a Eicr index word h b = absurd cc
+word_stored a Eics index word h b = absurd cc
+word_stored a Eiac index word h b = absurd cc
+word_stored a Eims index word h b = absurd cc
+word_stored a Eimc index word h b = absurd cc
+word_stored a Eiam index word h b = absurd cc
+word_stored a Pvteicr index word h b = absurd cc
+word_stored a Pvteics index word h b = absurd cc
+word_stored a Pvteims index word h b = absurd cc
+word_stored a Pvteimc index word h b = absurd cc
+word_stored a Pvteiac index word h b = absurd cc
+word_stored a Pfmailbox index word h b = absurd cc
+word_stored a Pvfmailbox index word h b = absurd cc
+word_stored a Pvteiam index word h b = absurd cc
+word_stored a Rdbal index word h b = absurd cc
+word_stored a Rdbah index word h b = absurd cc
+word_stored a Rdlen index word h b = absurd cc
+word_stored a Rdh index word h b = absurd cc
+word_stored a Srrctl index word h b = absurd cc
+word_stored a Rdt index word h b = absurd cc
+word_stored a Rxdctl index word h b = absurd cc
+word_stored a Vfgprc index word h b = absurd cc
+word_stored a Rdrxctl index word h b = absurd cc
+word_stored a Hlreg0 index word h b = absurd cc
+word_stored a Maxfrs index word h b = absurd cc
+word_stored a Links index word h b = absurd cc
+word_stored a Dmatxctl index word h b = absurd cc
+word_stored a Reta index word h b = absurd cc
+word_stored a Rssrk index word h b = absurd cc
+word_stored a Tdbal index word h b = absurd cc
+word_stored a Tdbah index word h b = absurd cc
+word_stored a Tdlen index word h b = absurd cc
+word_stored a Tdh index word h b = absurd cc
+word_stored a Tdt index word h b = absurd cc
+word_stored a Txdctl index word h b = absurd cc
+word_stored a Tdwbal index word h b = absurd cc
+word_stored a Tdwbah index word h b = absurd cc
+word_stored a Vfgptc index word h b = absurd cc
+word_stored a Psrtype index word h b = absurd cc
+word_stored a Eec index word h b = absurd cc
+word_stored a other zero word h b = refl
+word_stored a Pfmbicr (suc index) word h b = refl
+word_stored a Eitr (suc index) word h b = refl
+word_stored a Ivar (suc index) word h b = refl
+word_stored a PvtivarMisc (suc index) word h b = refl
+word_stored a Qprc (suc index) word h b = refl
+word_stored a Qprdc (suc index) word h b = refl
+word_stored a Rqsmr (suc index) word h b = refl
+word_stored a Vfre (suc index) word h b = refl
+word_stored a Vfte (suc index) word h b = refl
+word_stored a Mta (suc index) word h b = refl
+word_stored a Ral (suc index) word h b = refl
+word_stored a Rah (suc index) word h b = refl
+word_stored a Qptc (suc index) word h b = refl
+word_stored a Tqsm (suc index) word h b = refl
+word_stored a Mpsar (suc index) word h b = refl
+word_stored a Pvtivar (suc index) word h b = refl
+word_stored a Pfmbmem (suc index) word h b = refl
+word_stored a other (suc index) word h b = absurd (omega (arith, b))

@@ -3,7 +3,6 @@ pub use Rattle.vf_map.proofs as VfMap
 pub use Rattle.rss_hash.proofs as RssHash
 pub use Rattle.intr_unit.proofs as IntrUnit
 pub mod AmongCells
-pub mod CellOrder
 pub mod Columns
 pub mod InPlace
 pub mod Own

@@ -1,33 +1,29 @@
 -- How the registers are laid out: which field holds which row.
-use Rattle.std.specs.Prelude.{ℕ, List, [], ◌∷◌, map, replicate}
-use Rattle.reg_table.specs.declared.rows.RowId.{RowId}
-use Rattle.reg_table.specs.declared.rows.RowId.TheVariants.{Ctrl, CtrlExt, Ledctl, Pfmbicr, Eitr, Gpie, Ivar, IvarMisc, PvtivarMisc, Qprc, Qprdc, Rqsmr, Rxctrl, Mpc, Gprc, Gptc, Ruc, Roc, Autoc, Rxcsum, Fctrl, Mcstctrl, VtCtl, Vfre, Vfte, Mta, Ral, Rah, Mrqc, Qptc, Mtqc, Tqsm, Mpsar, Eerd, GcrExt, Pvtivar, Pfmbmem}
-use Rattle.register_file.specs.Cells.{cells_of}
+use Rattle.std.specs.Prelude.{[], ◌∷◌, map, replicate}
 use Rattle.register_file.specs.Words.{Words}
 use Rattle.register_file.specs.Registers.{Registers}
 use Rattle.register_file.specs.declared.register_file.RegisterFile.TheInside.{Inside}
 
--- the words of each row, in the table's order, by those of the rows that lie among the cells. Rows that only act, or
--- are calculated, hold the word 0.
-abbrev pub rows_with : Inside → (RowId → List ℕ) → Words
-rows_with a cells =
-    cells Ctrl ∷
+-- the words of each row, in the table's order. Rows that only act, or are calculated, hold the word 0.
+abbrev pub rows_of : Inside → Words
+rows_of a =
+    (a.cells.ctrl ∷ []) ∷
     (0 ∷ []) ∷
-    cells CtrlExt ∷
-    cells Ledctl ∷
+    (a.cells.ctrl_ext ∷ []) ∷
+    (a.cells.ledctl ∷ []) ∷
     replicate 64 0 ∷
-    cells Pfmbicr ∷
+    a.cells.pfmbicr ∷
     a.mailboxes.pfmbimr ∷
     (a.groups.pf.causes ∷ []) ∷
     (0 ∷ []) ∷
     (a.groups.pf.auto_clear ∷ []) ∷
-    cells Eitr ∷
+    a.cells.eitr ∷
     (a.groups.pf.enabled ∷ []) ∷
     (0 ∷ []) ∷
     (a.groups.pf.auto_mask ∷ []) ∷
-    cells Gpie ∷
-    cells Ivar ∷
-    cells IvarMisc ∷
+    (a.cells.gpie ∷ []) ∷
+    a.cells.ivar ∷
+    (a.cells.ivar_misc ∷ []) ∷
     map (λ g. g.causes) a.groups.vf ∷
     replicate 64 0 ∷
     map (λ g. g.enabled) a.groups.vf ∷
@@ -36,7 +32,7 @@ rows_with a cells =
     replicate 64 0 ∷
     a.mailboxes.pvfmailbox ∷
     map (λ g. g.auto_mask) a.groups.vf ∷
-    cells PvtivarMisc ∷
+    a.cells.pvtivar_misc ∷
     map (λ q. q.base_low) a.receive ∷
     map (λ q. q.base_high) a.receive ∷
     map (λ q. q.length) a.receive ∷
@@ -45,31 +41,31 @@ rows_with a cells =
     map (λ q. q.tail) a.receive ∷
     map (λ q. q.enable) a.receive ∷
     a.counters.vfgprc ∷
-    cells Qprc ∷
-    cells Qprdc ∷
-    cells Rqsmr ∷
+    a.cells.qprc ∷
+    a.cells.qprdc ∷
+    a.cells.rqsmr ∷
     (a.settings.rdrxctl ∷ []) ∷
-    cells Rxctrl ∷
-    cells Mpc ∷
-    cells Gprc ∷
-    cells Gptc ∷
-    cells Ruc ∷
-    cells Roc ∷
+    (a.cells.rxctrl ∷ []) ∷
+    (a.cells.mpc ∷ []) ∷
+    (a.cells.gprc ∷ []) ∷
+    (a.cells.gptc ∷ []) ∷
+    (a.cells.ruc ∷ []) ∷
+    (a.cells.roc ∷ []) ∷
     (a.settings.hlreg0 ∷ []) ∷
     (a.settings.maxfrs ∷ []) ∷
-    cells Autoc ∷
+    (a.cells.autoc ∷ []) ∷
     (0 ∷ []) ∷
     (a.settings.dmatxctl ∷ []) ∷
-    cells Rxcsum ∷
-    cells Fctrl ∷
-    cells Mcstctrl ∷
-    cells VtCtl ∷
-    cells Vfre ∷
-    cells Vfte ∷
-    cells Mta ∷
-    cells Ral ∷
-    cells Rah ∷
-    cells Mrqc ∷
+    (a.cells.rxcsum ∷ []) ∷
+    (a.cells.fctrl ∷ []) ∷
+    (a.cells.mcstctrl ∷ []) ∷
+    (a.cells.vt_ctl ∷ []) ∷
+    a.cells.vfre ∷
+    a.cells.vfte ∷
+    a.cells.mta ∷
+    a.cells.ral ∷
+    a.cells.rah ∷
+    (a.cells.mrqc ∷ []) ∷
     a.tables.reta ∷
     a.key ∷
     map (λ q. q.base_low) a.transmit ∷
@@ -80,21 +76,18 @@ rows_with a cells =
     map (λ q. q.enable) a.transmit ∷
     map (λ q. q.writeback_low) a.transmit ∷
     map (λ q. q.writeback_high) a.transmit ∷
-    cells Qptc ∷
-    cells Mtqc ∷
+    a.cells.qptc ∷
+    (a.cells.mtqc ∷ []) ∷
     a.counters.vfgptc ∷
-    cells Tqsm ∷
-    cells Mpsar ∷
+    a.cells.tqsm ∷
+    a.cells.mpsar ∷
     a.tables.psrtype ∷
     (0 ∷ []) ∷
-    cells Eerd ∷
-    cells GcrExt ∷
-    cells Pvtivar ∷
-    cells Pfmbmem ∷
+    (a.cells.eerd ∷ []) ∷
+    (a.cells.gcr_ext ∷ []) ∷
+    a.cells.pvtivar ∷
+    a.cells.pfmbmem ∷
     []
-
-abbrev pub rows_of : Inside → Words
-rows_of a = rows_with a (cells_of a.cells)
 
 -- the registers that the fields hold
 abbrev pub registers_of : Inside → Registers

@@ -8,11 +8,11 @@
 //! effect, and `word` the word as it was stored. The other calls are what the device core asks of a queue (its
 //! ring, whether it is on, its counter), of a pool (its queues, whether it is on) and of single bits, and how it
 //! moves a head, switches a queue, counts, answers what was asked of the EEPROM, and resets a pool. What calculated
-//! registers tell of the link and the EEPROM is passed in as `Surroundings`. The definitions stand in `specs/`. Most
-//! rows lie among the cells, one array of words in which each row has its start. The sides of the queues, the groups of
-//! interrupts, which change in place, the hash key, and what a reset of a pool or of all registers sets in its own way
-//! lie in plain fields; `cell` and `set_word` say which row lies where. Nothing here takes memory. What the registers
-//! promise as a whole is in `register_laws`.
+//! registers tell of the link and the EEPROM is passed in as `Surroundings`. The definitions stand in `specs/`. What
+//! a reset clears is kept in `Cells`, a single register in a field and a row in an array of its own. The sides of the
+//! queues, the groups of interrupts, which change in place, the hash key, and what a reset of a pool or of all registers
+//! sets in its own way have structs of their own; `cell` and `set_word` say which row lies where. Nothing here takes
+//! memory. What the registers promise as a whole is in `register_laws`.
 //!
 //! Source: Intel 82599 datasheet, sections on the device registers.
 #![tactic(auto)]

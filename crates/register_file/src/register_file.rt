@@ -5,7 +5,7 @@ ghost use Rattle.reg_table.specs.Rows.{row_of};
 ghost use Rattle.register_file.specs.Registers.{reset_registers, word_of, is_wanted, with_wanted};
 
 use crate::banks::{Counters, Settings, Tables};
-use crate::cells::CELLS;
+use crate::cells::Cells;
 use crate::groups::Groups;
 use crate::mailbox::Mailboxes;
 use crate::side::{ReceiveSide, TransmitSide};
@@ -17,7 +17,7 @@ use std::marker::Model;
 /// The words of all registers, which sides of queues are wanted on, and which interrupt causes messages told.
 #[derive(Drop)]
 pub struct RegisterFile {
-    pub(crate) cells: [u32; CELLS],
+    pub(crate) cells: Cells,
     pub(crate) settings: Settings,
     pub(crate) groups: Groups,
     pub(crate) receive: [ReceiveSide; 128],
@@ -46,7 +46,7 @@ impl RegisterFile {
         ensures { result ≡ reset_registers }
     {
         RegisterFile {
-            cells: [0; CELLS],
+            cells: Cells::AT_RESET,
             settings: Settings::AT_RESET,
             groups: Groups::new(),
             receive: [ReceiveSide::AT_RESET; 128],
@@ -62,7 +62,7 @@ impl RegisterFile {
     pub fn reset(&mut self)
         ensures { self.new ≡ reset_registers }
     {
-        self.cells = [0; CELLS];
+        self.cells = Cells::AT_RESET;
         self.settings = Settings::AT_RESET;
         self.groups = Groups::new();
         self.receive = [ReceiveSide::AT_RESET; 128];

@@ -1,5 +1,6 @@
-use Rattle.register_file.proofs.AmongCells.{cell_of}
-use Rattle.register_file.proofs.CellOrder.{word_stored}
+use Rattle.std.proofs.Common.{◌∙◌, ap}
+use Rattle.register_file.specs.Layout.{registers_of}
+use Rattle.register_file.proofs.AmongCells.{cell_of, word_stored}
 use Rattle.register_file.proofs.Columns.{receive_columns, transmit_columns}
 use Rattle.register_file.proofs.register_file.RegisterFile.set_word.Goals as goal
 
@@ -59,5 +60,5 @@ returns-in_default c =
     d.not-Tdbah d.not-Tdlen d.not-Tdh d.not-Tdt d.not-Txdctl d.not-Tdwbal d.not-Tdwbah d.not-Vfgptc d.not-Psrtype
     d.not-Eec in
     rw (← c.self-in_default.view_is)
-    (word_stored c.self-in_default.inside _ c.args.row c.args.index c.args.word cell c.requires.index
-    c.set_cell.ensures)
+    (ap (λ cells. registers_of (record c.self-in_default.inside { cells = cells })) c.set_cell.ensures
+    ∙ word_stored c.self-in_default.inside c.args.row c.args.index c.args.word cell c.requires.index)

@@ -3,14 +3,14 @@
 ghost use Rattle.std.specs.Prelude.{◌≡◌};
 ghost use Rattle.dma_ring.specs.Descriptor.{first_half, second_half, of_halves};
 
+use byteorder::{ByteOrder, LittleEndian};
+
 /// The word at a descriptor's bytes 0 to 7.
 #[tactic(auto, unfolding(crate::specs::Descriptor::first_half))]
 pub fn first_half(descriptor: &[u8; 16]) -> u64
     ensures { result ≡ first_half descriptor.now }
 {
-    let mut half = [0; 8];
-    half.copy_from_slice(&descriptor[..8]);
-    u64::from_le_bytes(half)
+    LittleEndian::read_u64(&descriptor[..8])
 }
 
 /// The word at a descriptor's bytes 8 to 15.
@@ -18,9 +18,7 @@ pub fn first_half(descriptor: &[u8; 16]) -> u64
 pub fn second_half(descriptor: &[u8; 16]) -> u64
     ensures { result ≡ second_half descriptor.now }
 {
-    let mut half = [0; 8];
-    half.copy_from_slice(&descriptor[8..]);
-    u64::from_le_bytes(half)
+    LittleEndian::read_u64(&descriptor[8..])
 }
 
 /// The descriptor of two words.
@@ -29,7 +27,7 @@ pub fn of_halves(first: u64, second: u64) -> [u8; 16]
     ensures { result ≡ of_halves first second }
 {
     let mut descriptor = [0; 16];
-    descriptor[..8].copy_from_slice(&first.to_le_bytes());
-    descriptor[8..].copy_from_slice(&second.to_le_bytes());
+    LittleEndian::write_u64(&mut descriptor[..8], first);
+    LittleEndian::write_u64(&mut descriptor[8..], second);
     descriptor
 }

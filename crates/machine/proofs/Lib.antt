@@ -3,3 +3,4 @@ pub mod Places
 pub mod Running
 pub mod Runs
 pub mod Jumps
+pub mod Words

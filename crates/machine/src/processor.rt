@@ -9,6 +9,7 @@ ghost use Rattle.program.specs.Listing.{IsSound};
 
 use crate::action::{Action, Kept, LocalAction, action_of};
 use crate::machine::{OutOfMemory, Status, StepAnswer};
+use byteorder::{ByteOrder, LittleEndian};
 use card::Card;
 use nic_device::{Event, Reply, ReplyNote};
 use program::{BLOCK_BYTES, Instruction, Octets, Program};
@@ -39,11 +40,7 @@ fn word_in(bytes: &[u8; 16], word: u8) -> u32
     requires { word < 4 }
     ensures { result ≡ word_in bytes.now word }
 {
-    let first = 4 * usize::from(word);
-    u32::from(bytes[first])
-        + 256 * u32::from(bytes[first + 1])
-        + 65536 * u32::from(bytes[first + 2])
-        + 16777216 * u32::from(bytes[first + 3])
+    LittleEndian::read_u32(&bytes[4 * usize::from(word)..])
 }
 
 /// The word that a peek leaves in `acc`.

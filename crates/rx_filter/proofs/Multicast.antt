@@ -9,7 +9,8 @@ use Rattle.register_file.specs.Registers.{Registers, word_of}
 use Rattle.rx_filter.specs.Address.{destination_high, first_match, is_broadcast, is_multicast, multicast_shift}
 use Rattle.rx_filter.specs.Address.{multicast_number, is_in_table, lets_multicast, passes}
 use Rattle.rx_filter.specs.Laws.{IsAddressed, vector_of, IsListed, MulticastIsLetIn}
-use Rattle.rx_filter.specs.declared.fields.TheConstants.{MFE, MO}
+use Rattle.rx_filter.specs.Fields.{MFE}
+use Rattle.rx_filter.specs.declared.fields.TheConstants.{MO}
 use Rattle.rx_filter.proofs.Finding.{first_match-is_some, first_match-addressed}
 use Rattle.rx_filter.proofs.Tests.{or_either, or_from, both_true, both_right, both_hold}
 

@@ -25,7 +25,7 @@ use Rattle.rx_filter.specs.Pools.{checked_pool, pool_of, chosen_pool}
 use Rattle.rx_filter.specs.Sorting.{queue_of, rss_type, rss_hash, rss_entry, target_of, pool_target, sorted}
 use Rattle.rx_filter.specs.Laws.{HasNoPool, PoolOfAFrame, GoesToPool, QueuesByMode, has_pools, IsBeyond}
 use Rattle.rx_filter.specs.Laws.{PoolsBeyondGetNone, FunctionsGetTheirs}
-use Rattle.rx_filter.specs.declared.fields.TheConstants.{DIS_DEF_POOL}
+use Rattle.rx_filter.specs.Fields.{DIS_DEF_POOL}
 use Rattle.rx_filter.specs.declared.target.Target.{Target}
 use Rattle.rx_filter.specs.declared.unwanted.Unwanted.{Unwanted}
 use Rattle.rx_filter.specs.declared.unwanted.Unwanted.TheVariants.{Filter, NoPool, PoolOff}

@@ -10,7 +10,7 @@ use Rattle.register_file.proofs.ResetWords.{word_at-reset}
 use Rattle.rx_filter.specs.Address.{destination_low, destination_high, matches, first_match, is_broadcast, is_multicast}
 use Rattle.rx_filter.specs.Address.{multicast_number, is_in_table, passes}
 use Rattle.rx_filter.specs.Sorting.{sorted}
-use Rattle.rx_filter.specs.declared.fields.TheConstants.{AV, BAM, MPE, UPE, MFE}
+use Rattle.rx_filter.specs.Fields.{AV, BAM, MPE, UPE, MFE}
 use Rattle.rx_filter.specs.declared.unwanted.Unwanted.TheVariants.{Filter}
 use Rattle.rx_filter.proofs.Finding.{first_match-none}
 use Rattle.rx_filter.proofs.Filtered.{sorted-refused}

@@ -8,7 +8,7 @@ use Rattle.register_file.specs.Bits.{has_bit}
 use Rattle.register_file.specs.Registers.{Registers, word_of}
 use Rattle.rx_filter.specs.Address.{first_match}
 use Rattle.rx_filter.specs.Pools.{selects, lowest_pool, matched_pool, or_default, pool_of}
-use Rattle.rx_filter.specs.declared.fields.TheConstants.{DIS_DEF_POOL}
+use Rattle.rx_filter.specs.Fields.{DIS_DEF_POOL}
 
 abbrev IsSmall : Option ℕ → Type 0
 IsSmall o = IfSome o (λ pool. pool < 64)

@@ -24,7 +24,7 @@ use Rattle.rx_filter.specs.Address.{passes}
 use Rattle.rx_filter.specs.Pools.{uses_pools, takes_frames, parting_in, has_queues, checked_pool, pool_of, chosen_pool}
 use Rattle.rx_filter.specs.Sorting.{queue_of, rss_type, rss_entry, target_of, pool_target, sorted}
 use Rattle.rx_filter.specs.Laws.{has_pools, pool_of_queue}
-use Rattle.rx_filter.specs.declared.fields.TheConstants.{PCSD}
+use Rattle.rx_filter.specs.Fields.{PCSD}
 use Rattle.rx_filter.specs.declared.target.Target.{Target}
 use Rattle.rx_filter.specs.declared.unwanted.Unwanted.{Unwanted}
 use Rattle.rx_filter.specs.declared.unwanted.Unwanted.TheVariants.{Filter, NoPool, PoolOff}

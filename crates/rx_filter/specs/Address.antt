@@ -5,7 +5,8 @@ use Rattle.std.specs.List.{range_with_len}
 use Rattle.register_file.specs.RegTable.declared.rows.RowId.TheVariants.{Fctrl, Mcstctrl, Mta, Ral, Rah}
 use Rattle.register_file.specs.Bits.{has_bit}
 use Rattle.register_file.specs.Registers.{Registers, word_of}
-use Rattle.rx_filter.specs.declared.fields.TheConstants.{MPE, UPE, BAM, MO, MFE, AV}
+use Rattle.rx_filter.specs.Fields.{MPE, UPE, BAM, MFE, AV}
+use Rattle.rx_filter.specs.declared.fields.TheConstants.{MO}
 
 -- the destination as RAL and RAH have it: its first four bytes, and its last two, the first in the lowest bits
 abbrev pub destination_low : List ℕ → ℕ

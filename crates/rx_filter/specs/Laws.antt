@@ -17,7 +17,8 @@ use Rattle.register_file.specs.Words.{row_words}
 use Rattle.rx_filter.specs.Address.{matches, is_broadcast, is_multicast, passes}
 use Rattle.rx_filter.specs.Pools.{uses_pools, takes_frames, selects, pool_of}
 use Rattle.rx_filter.specs.Sorting.{rss_type, rss_hash, rss_entry, sorted}
-use Rattle.rx_filter.specs.declared.fields.TheConstants.{MPE, UPE, BAM, MO, MFE, AV, VT_ENA, DEF_PL, DIS_DEF_POOL, PCSD}
+use Rattle.rx_filter.specs.Fields.{MPE, UPE, BAM, MFE, AV, VT_ENA, DIS_DEF_POOL, PCSD}
+use Rattle.rx_filter.specs.declared.fields.TheConstants.{MO, DEF_PL}
 use Rattle.rx_filter.specs.declared.target.Target.{Target}
 use Rattle.rx_filter.specs.declared.unwanted.Unwanted.TheVariants.{Filter, NoPool}
 

@@ -1,3 +1,4 @@
+pub mod Fields
 pub mod Address
 pub mod Laws
 pub mod Pools

@@ -14,7 +14,8 @@ use Rattle.register_file.specs.Pools.{mode_in, pool_bit}
 pub use Rattle.register_file.specs.Pools.{takes_frames}
 use Rattle.register_file.specs.Registers.{Registers, word_of}
 use Rattle.rx_filter.specs.Address.{first_match}
-use Rattle.rx_filter.specs.declared.fields.TheConstants.{VT_ENA, DEF_PL, DIS_DEF_POOL}
+use Rattle.rx_filter.specs.Fields.{VT_ENA, DIS_DEF_POOL}
+use Rattle.rx_filter.specs.declared.fields.TheConstants.{DEF_PL}
 use Rattle.rx_filter.specs.declared.unwanted.Unwanted.{Unwanted}
 use Rattle.rx_filter.specs.declared.unwanted.Unwanted.TheVariants.{NoPool, PoolOff}
 

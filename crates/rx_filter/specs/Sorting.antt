@@ -19,7 +19,7 @@ use Rattle.rx_filter.specs.Address.{passes}
 use Rattle.rx_filter.specs.Pools.{parting, chosen_pool}
 use Rattle.rx_filter.specs.declared.unwanted.Unwanted.{Unwanted}
 use Rattle.rx_filter.specs.declared.unwanted.Unwanted.TheVariants.{Filter}
-use Rattle.rx_filter.specs.declared.fields.TheConstants.{PCSD}
+use Rattle.rx_filter.specs.Fields.{PCSD}
 use Rattle.rx_filter.specs.declared.target.Target.{Target}
 
 -- the queue of a pool and an entry of the redirection table, by the code in MRQC and the mode in GCR_EXT; the codes for

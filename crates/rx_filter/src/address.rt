@@ -3,7 +3,8 @@
 ghost use Rattle.std.specs.Prelude.{◌≡◌, ◌<◌, slice_index, IfSome};
 ghost use Rattle.rx_filter.specs.Address.{destination_low, destination_high, matches, first_match, is_broadcast, is_multicast, multicast_shift, multicast_number, is_in_table, lets_multicast, lets_unicast, lets_broadcast, passes};
 
-use crate::fields::{AV, BAM, MFE, MO, MPE, UPE, has_bit};
+use crate::fields::{MO, has_bit};
+use register_bits::{Fctrl, Mcstctrl, Rah, has_flag};
 use register_file::{RegisterFile, RowId};
 
 /// How many addresses there are.
@@ -44,7 +45,7 @@ fn matches(registers: &RegisterFile, frame: &[u8], index: u16) -> bool
     ensures { result ≡ matches registers.now frame.now index }
 {
     let high = registers.word(RowId::Rah, index);
-    has_bit(AV, high)
+    has_flag(high, Rah::AV)
         && registers.word(RowId::Ral, index) == destination_low(frame)
         && high % 0x1_0000 == destination_high(frame)
 }
@@ -92,7 +93,7 @@ fn is_multicast(frame: &[u8]) -> bool
 fn is_in_table(registers: &RegisterFile, frame: &[u8]) -> bool
     ensures { result ≡ is_in_table registers.now frame.now }
 {
-    if !has_bit(MFE, registers.word(RowId::Mcstctrl, 0)) {
+    if !has_flag(registers.word(RowId::Mcstctrl, 0), Mcstctrl::MFE) {
         return false;
     }
     let number = multicast_number(registers, frame);
@@ -120,19 +121,19 @@ fn multicast_number(registers: &RegisterFile, frame: &[u8]) -> u16
 fn lets_multicast(registers: &RegisterFile) -> bool
     ensures { result ≡ lets_multicast registers.now }
 {
-    has_bit(MPE, registers.word(RowId::Fctrl, 0))
+    has_flag(registers.word(RowId::Fctrl, 0), Fctrl::MPE)
 }
 
 /// Whether all unicast frames are let in.
 fn lets_unicast(registers: &RegisterFile) -> bool
     ensures { result ≡ lets_unicast registers.now }
 {
-    has_bit(UPE, registers.word(RowId::Fctrl, 0))
+    has_flag(registers.word(RowId::Fctrl, 0), Fctrl::UPE)
 }
 
 /// Whether broadcast frames are let in.
 fn lets_broadcast(registers: &RegisterFile) -> bool
     ensures { result ≡ lets_broadcast registers.now }
 {
-    has_bit(BAM, registers.word(RowId::Fctrl, 0))
+    has_flag(registers.word(RowId::Fctrl, 0), Fctrl::BAM)
 }

@@ -4,8 +4,9 @@ ghost use Rattle.std.specs.Prelude.{◌≡◌, ◌<◌, IfSome, IfOk, IsTrue};
 ghost use Rattle.rx_filter.specs.Pools.{uses_pools, selects, lowest_pool, default_pool, pool_of, parting, parting_in, has_queues, checked_pool, chosen_pool};
 
 use crate::address::first_match;
-use crate::fields::{DEF_PL, DIS_DEF_POOL, VT_ENA, has_bit};
+use crate::fields::{DEF_PL, has_bit};
 use crate::unwanted::Unwanted;
+use register_bits::{VtCtl, has_flag};
 use register_file::{Dir, Mode, QueueMode, RegisterFile, RowId, queues_of};
 
 /// How many pools there are at most.
@@ -29,7 +30,7 @@ pub(crate) fn chosen_pool(registers: &RegisterFile, frame: &[u8]) -> Result<u16,
 pub fn uses_pools(registers: &RegisterFile) -> bool
     ensures { result ≡ uses_pools registers.now }
 {
-    has_bit(VT_ENA, registers.word(RowId::VtCtl, 0))
+    has_flag(registers.word(RowId::VtCtl, 0), VtCtl::VT_ENA)
 }
 
 /// The lowest pool of the address that a frame matches first, or else the default.
@@ -79,7 +80,7 @@ fn default_pool(registers: &RegisterFile) -> Option<u16>
     ensures range { IfSome result (λ pool. pool < 64) }
 {
     let word = registers.word(RowId::VtCtl, 0);
-    if has_bit(DIS_DEF_POOL, word) {
+    if has_flag(word, VtCtl::DIS_DEF_POOL) {
         None
     } else {
         Some(((word >> DEF_PL) % 64) as u16)

@@ -6,14 +6,15 @@ ghost use Rattle.register_file.specs.Bits.{has_bit};
 ghost use Rattle.register_file.specs.Registers.{word_of};
 ghost use Rattle.register_file.specs.Words.{row_words};
 ghost use Rattle.register_file.specs.RssHash.Registers.{entry_of};
+ghost use Rattle.rx_filter.specs.Fields.{PCSD};
 ghost use Rattle.rx_filter.specs.Pools.{parting, parting_in, has_queues};
 ghost use Rattle.rx_filter.specs.Sorting.{queue_of, target_of, sorted};
 
 use crate::address::passes;
-use crate::fields::{PCSD, has_bit};
 use crate::pools::{chosen_pool, parting};
 use crate::target::Target;
 use crate::unwanted::Unwanted;
+use register_bits::has_flag;
 use register_file::{
     Mode, QueueMode, RegisterFile, RowId, choose_bytes, classify, entry, queue_in,
 };
@@ -70,7 +71,10 @@ fn entry_at(registers: &RegisterFile, rss: u8, hash: u32) -> u8
 fn told(registers: &RegisterFile, hash: u32) -> u32
     ensures { result ≡ (if has_bit PCSD (word_of registers.now Rxcsum 0) then hash else 0) }
 {
-    if has_bit(PCSD, registers.word(RowId::Rxcsum, 0)) {
+    if has_flag(
+        registers.word(RowId::Rxcsum, 0),
+        register_bits::Rxcsum::PCSD,
+    ) {
         hash
     } else {
         0

@@ -1,0 +1,31 @@
+-- The named bits of the receive registers under the datasheet's names, each by its number.
+use Rattle.std.specs.Prelude.{ℕ}
+
+-- FCTRL: all multicast frames are let in, all unicast frames, and broadcast frames
+abbrev pub MPE : ℕ
+MPE = 8
+
+abbrev pub UPE : ℕ
+UPE = 9
+
+abbrev pub BAM : ℕ
+BAM = 10
+
+-- MCSTCTRL: MTA counts
+abbrev pub MFE : ℕ
+MFE = 2
+
+-- RAH: the address is valid
+abbrev pub AV : ℕ
+AV = 31
+
+-- VT_CTL: frames are parted among pools, and there is no default pool
+abbrev pub VT_ENA : ℕ
+VT_ENA = 0
+
+abbrev pub DIS_DEF_POOL : ℕ
+DIS_DEF_POOL = 29
+
+-- RXCSUM: descriptors tell hashes
+abbrev pub PCSD : ℕ
+PCSD = 13

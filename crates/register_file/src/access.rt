@@ -8,28 +8,15 @@ ghost use Rattle.register_file.specs.Owner.{owner_of, IsThere};
 ghost use Rattle.register_file.specs.Storing.{is_stored};
 ghost use Rattle.register_file.specs.Access.{read_word, after_read, written, stored, ones_cleared, calculated, group_in, is_running, asked, asks_reset, asks_pool_reset};
 
-use crate::bits::has_bit;
 use crate::owner::{Owner, owner_of};
-use crate::queue::ENABLE;
 use crate::register_file::RegisterFile;
 use crate::surroundings::Surroundings;
 use intr_unit::Group;
 use reg_table::{Kind, Place, RowId, kind_of, mask_of};
-
-/// CTRL: a reset of the link is asked for.
-const LINK_RESET: u32 = 0x0000_0008;
-
-/// CTRL: a reset of the device is asked for.
-const DEVICE_RESET: u32 = 0x0400_0000;
-
-/// PVFCTRL: a reset of the pool is asked for.
-const POOL_RESET: u32 = 0x0400_0000;
+use register_bits::{Ctrl, CtrlExt, Pvfctrl, Rxdctl, has_flag};
 
 /// EERD: the bits that a write takes. The others become 0.
 const EERD_TAKES: u32 = 0x0000_FFFD;
-
-/// CTRL_EXT: the number of the bit that tells that a reset is done.
-const RESET_DONE: u32 = 14;
 
 /// What STATUS reads while the device makes steps.
 const STATUS_MASTER: u32 = 0x0008_0000;
@@ -49,7 +36,7 @@ pub fn asks_reset(place: Place, word: u32) -> bool
     ensures { result ≡ asks_reset (row_of place.row).kind word }
 {
     match kind_of(place.row) {
-        Kind::Ctrl => word / LINK_RESET % 2 == 1 || word / DEVICE_RESET % 2 == 1,
+        Kind::Ctrl => has_flag(word, Ctrl::LRST) || has_flag(word, Ctrl::RST),
         Kind::Rw
         | Kind::Ro
         | Kind::Calc
@@ -75,7 +62,7 @@ pub fn asks_pool_reset(place: Place, word: u32) -> bool
     ensures { result ≡ asks_pool_reset (row_of place.row).kind word }
 {
     match kind_of(place.row) {
-        Kind::Vreset => word / POOL_RESET % 2 == 1,
+        Kind::Vreset => has_flag(word, Pvfctrl::RST),
         Kind::Rw
         | Kind::Ro
         | Kind::Calc
@@ -232,14 +219,14 @@ impl RegisterFile {
         }
     }
 
-    /// Writes an enable word: it asks the side to be on, or not.
+    /// Writes an enable word: it asks the side to be on, or not, by one bit for receive and transmit.
     fn write_enable(&mut self, place: Place, view: u32, word: u32)
         requires index { place.index < (row_of place.row).count }
         requires kind { (row_of place.row).kind ≡ Enable }
         ensures { self.new ≡ written Enable self.old place view word }
     {
         self.store(place, view, word);
-        self.ask(owner_of(place), word / ENABLE % 2 == 1);
+        self.ask(owner_of(place), has_flag(word, Rxdctl::ENABLE));
     }
 
     /// Writes the extended device control word: with bit 14 it tells all functions that a reset is done.
@@ -249,7 +236,7 @@ impl RegisterFile {
         ensures { self.new ≡ written Ctrlext self.old place view word }
     {
         self.store(place, view, word);
-        if has_bit(word, RESET_DONE) {
+        if has_flag(word, CtrlExt::PFRSTD) {
             self.tell_resets();
         }
     }

@@ -1,7 +1,7 @@
 //! Single bits of words.
 
 ghost use Rattle.std.specs.Prelude.{◌≡◌, ◌<◌};
-ghost use Rattle.register_file.specs.Bits.{has_bit, bit_set, bit_cleared};
+ghost use Rattle.register_file.specs.Bits.{has_bit, bit_set};
 ghost use Rattle.register_file.specs.PoolReset.{mixed};
 
 /// Whether a bit of a word, below 32, is 1.
@@ -20,19 +20,6 @@ pub(crate) fn bit_set(word: u32, bit: u32) -> u32
     ensures { result ≡ bit_set bit word }
 {
     word | (1 << bit)
-}
-
-/// The word with a bit below 32 cleared.
-#[inline(always)]
-pub(crate) fn bit_cleared(word: u32, bit: u32) -> u32
-    requires { bit < 32 }
-    ensures { result ≡ bit_cleared bit word }
-{
-    if has_bit(word, bit) {
-        word - (1 << bit)
-    } else {
-        word
-    }
 }
 
 /// The old word, with the bits of a mask taken from the new one.

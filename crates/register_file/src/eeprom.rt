@@ -5,12 +5,7 @@ ghost use Rattle.register_file.specs.Eeprom.{eeprom_asked, eeprom_answered};
 
 use crate::register_file::RegisterFile;
 use reg_table::RowId;
-
-/// EERD: a word is asked for.
-const START: u32 = 0x0000_0001;
-
-/// EERD: the word that was asked for is there.
-const DONE: u32 = 0x0000_0002;
+use register_bits::{Eerd, has_flag};
 
 /// EERD: where the index of the word that is asked for begins, and how many indices there are.
 const INDEX: u32 = 0x0000_0004;
@@ -28,7 +23,7 @@ impl RegisterFile {
         ensures range { IfSome result (λ index. index < 16384) }
     {
         let word = self.word(RowId::Eerd, 0);
-        if word / START % 2 == 1 {
+        if has_flag(word, Eerd::START) {
             Some((word / INDEX % INDICES) as u16)
         } else {
             None
@@ -43,7 +38,7 @@ impl RegisterFile {
         self.set_word(
             RowId::Eerd,
             0,
-            index * INDEX + DONE + u32::from(word) * DATA,
+            index * INDEX + Eerd::DONE.0 + u32::from(word) * DATA,
         );
     }
 }

@@ -11,12 +11,7 @@ use crate::register_file::RegisterFile;
 use dma_ring::Dir;
 use intr_unit::Group;
 use reg_table::RowId;
-
-/// GPIE: a read of EICR clears the other causes alone.
-const OCD: u32 = 0x0000_0020;
-
-/// GPIE: the auto-mask is for messages, and not for accesses of the PF's registers.
-const EIAME: u32 = 0x4000_0000;
+use register_bits::{Gpie, has_flag};
 
 /// IVAR and PVTIVAR: how many bits of a word say the cause of one side of a queue.
 const ENTRY_BITS: u32 = 8;
@@ -131,14 +126,14 @@ impl RegisterFile {
     fn clears_others(&self) -> bool
         ensures { result ≡ clears_others self.now }
     {
-        self.word(RowId::Gpie, 0) / OCD % 2 == 1
+        has_flag(self.word(RowId::Gpie, 0), Gpie::OCD)
     }
 
     /// Whether the auto-mask is for messages: GPIE bit 30 is 1.
     fn masks_by_message(&self) -> bool
         ensures { result ≡ masks_by_message self.now }
     {
-        self.word(RowId::Gpie, 0) / EIAME % 2 == 1
+        has_flag(self.word(RowId::Gpie, 0), Gpie::EIAME)
     }
 
     /// Whether the auto-mask of a group acts on accesses.

@@ -7,10 +7,11 @@ ghost use Rattle.intr_unit.specs.Group.{group_bits};
 ghost use Rattle.register_file.specs.Groups.{index_of};
 ghost use Rattle.register_file.specs.Mailbox.{set_if, function_wrote, released, taken, physical_wrote, told_once, reset_told, cause_set, sends, requests, with_requests, physical_told, function_told, mail_read, function_writes, physical_writes, holders, done_told, resets_told};
 
-use crate::bits::{bit_cleared, bit_set, has_bit};
+use crate::bits::{bit_set, has_bit};
 use crate::register_file::RegisterFile;
 use intr_unit::Group;
 use reg_table::RowId;
+use register_bits::{Pfmailbox, Pvfmailbox, has_flag, with_flag, without_flag};
 
 /// The words of the mailboxes that a reset doesn't clear.
 #[derive(Clone, Copy)]
@@ -23,39 +24,12 @@ impl Mailboxes {
     /// The words after a reset: each function is to be told that a reset began, and each may ask the physical function.
     pub(crate) const AT_RESET: Mailboxes = Mailboxes {
         pfmbimr: [0xFFFF_FFFF; 2],
-        pvfmailbox: [0x0000_0040; 64],
+        pvfmailbox: [Pvfmailbox::RSTI.0; 64],
     };
 }
 
-/// Bits of a written word, by their numbers: a request of the function, or a status of the physical function, and an
-/// acknowledgement of either.
-const REQUEST: u32 = 0;
-
-const ACKNOWLEDGEMENT: u32 = 1;
-
-/// The function holds the mailbox. Written by the function, it takes it.
-const VFU: u32 = 2;
-
-/// The physical function holds the mailbox. Written by the physical function, it takes it.
-const PFU: u32 = 3;
-
-/// Written by the physical function: the mailbox is taken from the function.
-const RVFU: u32 = 4;
-
-/// The physical function sent a status.
-const PFSTS: u32 = 4;
-
-/// The physical function sent an acknowledgement.
-const PFACK: u32 = 5;
-
-/// A reset began.
-const RSTI: u32 = 6;
-
-/// A reset is done.
-const RSTD: u32 = 7;
-
 /// Who holds a mailbox: VFU and PFU.
-const HOLDERS: u32 = 0x0000_000C;
+const HOLDERS: u32 = Pvfmailbox::VFU.0 | Pvfmailbox::PFU.0;
 
 /// EICR: the cause of the mailboxes.
 const MAILBOX_CAUSE: u32 = 0x0008_0000;
@@ -179,12 +153,12 @@ impl RegisterFile {
 fn function_wrote(mail: u32, word: u32) -> u32
     ensures { result ≡ function_wrote mail word }
 {
-    if !has_bit(word, VFU) {
-        bit_cleared(mail, VFU)
-    } else if has_bit(mail, PFU) {
+    if !has_flag(word, Pvfmailbox::VFU) {
+        without_flag(mail, Pvfmailbox::VFU)
+    } else if has_flag(mail, Pvfmailbox::PFU) {
         mail
     } else {
-        bit_set(mail, VFU)
+        with_flag(mail, Pvfmailbox::VFU)
     }
 }
 
@@ -193,15 +167,37 @@ fn physical_wrote(mail: u32, word: u32) -> u32
     ensures { result ≡ physical_wrote mail word }
 {
     let held = taken(released(mail, word), word);
-    let acknowledged = set_if(has_bit(word, ACKNOWLEDGEMENT), PFACK, held);
-    set_if(has_bit(word, REQUEST), PFSTS, acknowledged)
+    let acknowledged = with_acknowledgement(has_flag(word, Pfmailbox::ACK), held);
+    with_status(has_flag(word, Pfmailbox::STS), acknowledged)
+}
+
+/// With an acknowledgement of the physical function, where it sends one.
+fn with_acknowledgement(is_sent: bool, mail: u32) -> u32
+    ensures { result ≡ set_if is_sent 5 mail }
+{
+    if is_sent {
+        with_flag(mail, Pvfmailbox::PFACK)
+    } else {
+        mail
+    }
+}
+
+/// With a status of the physical function, where it sends one.
+fn with_status(is_sent: bool, mail: u32) -> u32
+    ensures { result ≡ set_if is_sent 4 mail }
+{
+    if is_sent {
+        with_flag(mail, Pvfmailbox::PFSTS)
+    } else {
+        mail
+    }
 }
 
 fn released(mail: u32, word: u32) -> u32
     ensures { result ≡ released mail word }
 {
-    if has_bit(word, RVFU) {
-        bit_cleared(mail, VFU)
+    if has_flag(word, Pfmailbox::RVFU) {
+        without_flag(mail, Pvfmailbox::VFU)
     } else {
         mail
     }
@@ -210,12 +206,12 @@ fn released(mail: u32, word: u32) -> u32
 fn taken(mail: u32, word: u32) -> u32
     ensures { result ≡ taken mail word }
 {
-    if !has_bit(word, PFU) {
-        bit_cleared(mail, PFU)
-    } else if has_bit(mail, VFU) {
+    if !has_flag(word, Pfmailbox::PFU) {
+        without_flag(mail, Pvfmailbox::PFU)
+    } else if has_flag(mail, Pvfmailbox::VFU) {
         mail
     } else {
-        bit_set(mail, PFU)
+        with_flag(mail, Pvfmailbox::PFU)
     }
 }
 
@@ -223,25 +219,29 @@ fn taken(mail: u32, word: u32) -> u32
 fn told_once(mail: u32) -> u32
     ensures { result ≡ told_once mail }
 {
-    bit_cleared(bit_cleared(bit_cleared(mail, RSTD), PFACK), PFSTS)
+    let without_end = without_flag(mail, Pvfmailbox::RSTD);
+    without_flag(
+        without_flag(without_end, Pvfmailbox::PFACK),
+        Pvfmailbox::PFSTS,
+    )
 }
 
 /// Once a reset is done.
 fn reset_told(mail: u32) -> u32
     ensures { result ≡ reset_told mail }
 {
-    if has_bit(mail, RSTI) {
-        bit_set(bit_cleared(mail, RSTI), RSTD)
+    if has_flag(mail, Pvfmailbox::RSTI) {
+        with_flag(without_flag(mail, Pvfmailbox::RSTI), Pvfmailbox::RSTD)
     } else {
         mail
     }
 }
 
-/// Whether a written word sends something to the other side.
+/// Whether a written word sends something to the other side. The physical function's STS and ACK are the same bits.
 fn sends(word: u32) -> bool
     ensures { result ≡ sends word }
 {
-    has_bit(word, REQUEST) || has_bit(word, ACKNOWLEDGEMENT)
+    has_flag(word, Pvfmailbox::REQ) || has_flag(word, Pvfmailbox::ACK)
 }
 
 /// The bits of PFMBICR that a write of function v sets.
@@ -250,11 +250,11 @@ fn requests(v: u16, word: u32) -> u32
 {
     let own = u32::from(v % FUNCTIONS_ASKING);
     let acknowledged = set_if(
-        has_bit(word, ACKNOWLEDGEMENT),
+        has_flag(word, Pvfmailbox::ACK),
         u32::from(FUNCTIONS_ASKING) + own,
         0,
     );
-    set_if(has_bit(word, REQUEST), own, acknowledged)
+    set_if(has_flag(word, Pvfmailbox::REQ), own, acknowledged)
 }
 
 /// The word with a bit below 32 set, where a condition holds.

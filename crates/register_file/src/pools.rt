@@ -13,16 +13,17 @@ use crate::register_file::RegisterFile;
 use crate::side::{ReceiveSide, TransmitSide};
 use dma_ring::Dir;
 use reg_table::RowId;
+use register_bits::Pvfmailbox;
 use vf_map::{Mode, mode_of, queues_of};
 
 /// VFRE and VFTE: how many pools a word has a bit of.
 const POOLS_IN_A_WORD: u16 = 32;
 
 /// PVFMAILBOX: what a reset of the pool takes: that the function holds the mailbox, and what was sent to it.
-const MAIL_RENEWED: u32 = 0x0000_0034;
+const MAIL_RENEWED: u32 = Pvfmailbox::VFU.0 | Pvfmailbox::PFSTS.0 | Pvfmailbox::PFACK.0;
 
 /// PVFMAILBOX after a reset.
-const MAIL_AT_RESET: u32 = 0x0000_0040;
+const MAIL_AT_RESET: u32 = Pvfmailbox::RSTI.0;
 
 impl RegisterFile {
     /// How GCR_EXT parts the queues among pools.

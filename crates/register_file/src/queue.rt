@@ -2,15 +2,14 @@
 
 ghost use Rattle.std.specs.Prelude.{◌≡◌, ◌+◌, ◌*◌, ◌%◌, ◌^◌, ◌≤◌, ◌<◌};
 ghost use Rattle.dma_ring.specs.Ring.{slots_of};
+ghost use Rattle.register_file.specs.Bits.{has_bit, bit_set, bit_cleared};
 ghost use Rattle.register_file.specs.Registers.{with_word};
 ghost use Rattle.register_file.specs.Queue.{enable_row, ring_of, is_on, with_head, switched, switched_on, switched_off, shut};
 
 use crate::register_file::RegisterFile;
 use dma_ring::{Dir, Ring};
 use reg_table::RowId;
-
-/// RXDCTL and TXDCTL: the queue's side is on.
-pub(crate) const ENABLE: u32 = 0x0200_0000;
+use register_bits::{Rxdctl, Txdctl, has_flag, with_flag, without_flag};
 
 impl RegisterFile {
     /// The ring of a side of a queue below `QUEUES`. It has fewer than 65,536 slots.
@@ -44,7 +43,7 @@ impl RegisterFile {
         requires { queue < 128 }
         ensures { result ≡ is_on self.now dir queue }
     {
-        self.word(enable_row(dir), queue) / ENABLE % 2 == 1
+        is_enabled(dir, self.word(enable_row(dir), queue))
     }
 
     /// Moves the head of a side of a queue below `QUEUES`.
@@ -85,9 +84,7 @@ impl RegisterFile {
         ensures { self.new ≡ switched_on self.old dir queue }
     {
         let word = self.word(enable_row(dir), queue);
-        if word / ENABLE % 2 == 0 {
-            self.set_enable(dir, queue, word + ENABLE);
-        }
+        self.set_enable(dir, queue, enabled(dir, word));
     }
 
     fn switch_off(&mut self, dir: Dir, queue: u16)
@@ -95,9 +92,7 @@ impl RegisterFile {
         ensures { self.new ≡ switched_off self.old dir queue }
     {
         let word = self.word(enable_row(dir), queue);
-        if word / ENABLE % 2 == 1 {
-            self.set_enable(dir, queue, word - ENABLE);
-        }
+        self.set_enable(dir, queue, disabled(dir, word));
     }
 
     fn set_enable(&mut self, dir: Dir, queue: u16, word: u32)
@@ -124,6 +119,37 @@ fn ring_by(base_low: u32, base_high: u32, length: u32, head: u32, tail: u32) -> 
         length: length % 0x10_0000,
         head: (head % 0x1_0000) as u16,
         tail: (tail % 0x1_0000) as u16,
+    }
+}
+
+/// Whether a side's enable word says that the side is on.
+#[inline(always)]
+fn is_enabled(dir: Dir, word: u32) -> bool
+    ensures { result ≡ has_bit 25 word }
+{
+    match dir {
+        Dir::Rx => has_flag(word, Rxdctl::ENABLE),
+        Dir::Tx => has_flag(word, Txdctl::ENABLE),
+    }
+}
+
+/// A side's enable word with the side on.
+fn enabled(dir: Dir, word: u32) -> u32
+    ensures { result ≡ bit_set 25 word }
+{
+    match dir {
+        Dir::Rx => with_flag(word, Rxdctl::ENABLE),
+        Dir::Tx => with_flag(word, Txdctl::ENABLE),
+    }
+}
+
+/// A side's enable word with the side off.
+fn disabled(dir: Dir, word: u32) -> u32
+    ensures { result ≡ bit_cleared 25 word }
+{
+    match dir {
+        Dir::Rx => without_flag(word, Rxdctl::ENABLE),
+        Dir::Tx => without_flag(word, Txdctl::ENABLE),
     }
 }
 

@@ -7,24 +7,7 @@ ghost use Rattle.register_file.specs.Settings.{is_stopped, can_receive, can_tran
 
 use crate::register_file::RegisterFile;
 use reg_table::RowId;
-
-/// CTRL: the device makes no step.
-const MASTER_DISABLE: u32 = 0x0000_0004;
-
-/// RXCTRL: frames are taken.
-const RXEN: u32 = 0x0000_0001;
-
-/// DMATXCTL: frames are sent.
-const TE: u32 = 0x0000_0001;
-
-/// HLREG0: frames may be as long as MAXFRS says.
-const JUMBOEN: u32 = 0x0000_0004;
-
-/// HLREG0: short frames are padded.
-const TXPADEN: u32 = 0x0000_0400;
-
-/// SRRCTL: a frame that finds no slot is dropped.
-const DROP_EN: u32 = 0x1000_0000;
+use register_bits::{Ctrl, Dmatxctl, Hlreg0, Rxctrl, Tdwbal, has_flag};
 
 /// How many bytes a frame has at most where HLREG0 doesn't leave it to MAXFRS.
 const USUAL_LIMIT: u16 = 1514;
@@ -38,7 +21,7 @@ impl RegisterFile {
     pub fn is_stopped(&self) -> bool
         ensures { result ≡ is_stopped self.now }
     {
-        self.word(RowId::Ctrl, 0) / MASTER_DISABLE % 2 == 1
+        has_flag(self.word(RowId::Ctrl, 0), Ctrl::MASTER_DISABLE)
     }
 
     /// Whether frames are taken: RXCTRL bit 0 is 1.
@@ -46,7 +29,7 @@ impl RegisterFile {
     pub fn can_receive(&self) -> bool
         ensures { result ≡ can_receive self.now }
     {
-        self.word(RowId::Rxctrl, 0) / RXEN % 2 == 1
+        has_flag(self.word(RowId::Rxctrl, 0), Rxctrl::RXEN)
     }
 
     /// Whether frames are sent: DMATXCTL bit 0 is 1.
@@ -54,7 +37,7 @@ impl RegisterFile {
     pub fn can_transmit(&self) -> bool
         ensures { result ≡ can_transmit self.now }
     {
-        self.word(RowId::Dmatxctl, 0) / TE % 2 == 1
+        has_flag(self.word(RowId::Dmatxctl, 0), Dmatxctl::TE)
     }
 
     /// How many bytes a frame has at most: 1,514, or with HLREG0 bit 2 the number in MAXFRS bits 31 to 16 less 4, 0 at
@@ -63,7 +46,7 @@ impl RegisterFile {
     pub fn frame_limit(&self) -> u16
         ensures { result ≡ frame_limit self.now }
     {
-        if self.word(RowId::Hlreg0, 0) / JUMBOEN % 2 == 1 {
+        if has_flag(self.word(RowId::Hlreg0, 0), Hlreg0::JUMBOEN) {
             return (self.word(RowId::Maxfrs, 0) / 0x1_0000).saturating_sub(FRAME_CHECK) as u16;
         }
         USUAL_LIMIT
@@ -74,7 +57,7 @@ impl RegisterFile {
     pub fn pads(&self) -> bool
         ensures { result ≡ pads self.now }
     {
-        self.word(RowId::Hlreg0, 0) / TXPADEN % 2 == 1
+        has_flag(self.word(RowId::Hlreg0, 0), Hlreg0::TXPADEN)
     }
 
     /// The control word, SRRCTL, of a receive queue below `QUEUES`.
@@ -92,7 +75,10 @@ impl RegisterFile {
         requires { queue < 128 }
         ensures { result ≡ drops self.now queue }
     {
-        self.word(RowId::Srrctl, queue) / DROP_EN % 2 == 1
+        has_flag(
+            self.word(RowId::Srrctl, queue),
+            register_bits::Srrctl::DROP_EN,
+        )
     }
 
     /// Where a transmit queue below `QUEUES` writes its head, if it does: the address of TDWBAH and TDWBAL bits 31 to
@@ -103,7 +89,7 @@ impl RegisterFile {
         ensures { result ≡ writeback_of self.now queue }
     {
         let low = self.word(RowId::Tdwbal, queue);
-        if low % 2 == 0 {
+        if !has_flag(low, Tdwbal::HEAD_WB_EN) {
             return None;
         }
         let high = self.word(RowId::Tdwbah, queue);
